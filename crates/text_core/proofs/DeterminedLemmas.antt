@@ -1,6 +1,6 @@
 -- Steps that are determined, one after another.
-use Rattle.std.proofs.Common.{◌≡◌, ◌⊎◌, ◌∙◌, ap, sym, refl, inl, inr, subst, Result, Ok, Err}
-use Rattle.text_core.specs.Outcome.{Outcome, ◌>>=◌, Exactly, Within, Returns, Determined}
+use Rattle.std.proofs.Common.{◌≡◌, ◌∙◌, ap, sym, inl, inr, subst, Result, Ok, Err}
+use Rattle.text_core.specs.Outcome.{Outcome, ◌>>=◌, Returns, Determined}
 
 pub determined_returns : {F A : Type 0} (answer : Result A F) → Determined (Returns answer)
 determined_returns answer = λ x y h k. h ∙ sym k

@@ -1,5 +1,5 @@
 -- The value of digits, read from the left.
-use Rattle.std.proofs.Common.{◌≡◌, ◌∙◌, ap, sym, ℕ, suc, ◌<◌, ◌≤◌, ◌+◌, ◌*◌, ◌^◌, List, length, drop, get_or, arith, add-one, drop-cons, lit<}
+use Rattle.std.proofs.Common.{◌≡◌, ◌∙◌, ap, ℕ, suc, ◌<◌, ◌≤◌, ◌+◌, ◌*◌, ◌^◌, List, length, drop, get_or, arith, add-one, drop-cons}
 use Rattle.std.proofs.Math.Nat.{pow-succ', le-mul_of_pos_right, one-le-pow, mul_assoc, add-mul, mul-one, add-zero, pow-zero}
 use Rattle.std.proofs.Math.ListN.{drop_of_length-le}
 use Rattle.text_core.specs.Numbers.{value_of, digit_value}

@@ -44,13 +44,13 @@ fn numbers_by_value(rt: HostRuntime) {
 fn lines_and_tokens(rt: HostRuntime) -> Result<(), Fail> {
     let alloc = rt.alloc();
     let (first, rest) = next_line(b"a\tb  c #d\r\ne\r");
-    assert_eq!(rt; first, b"a\tb  c #d");
-    assert_eq!(rt; rest, b"e\r");
-    assert_eq!(rt; next_line(rest).0, b"e\r");
-    assert_eq!(rt; before_comment(first), b"a\tb  c ");
+    assert_eq!(rt; first, b"a\tb  c #d".as_slice());
+    assert_eq!(rt; rest, b"e\r".as_slice());
+    assert_eq!(rt; next_line(rest).0, b"e\r".as_slice());
+    assert_eq!(rt; before_comment(first), b"a\tb  c ".as_slice());
     let found = tokens(alloc, before_comment(first))?;
     assert_eq!(rt; found.len(), 3);
-    assert_eq!(rt; found[2], b"c");
+    assert_eq!(rt; found[2], b"c".as_slice());
     Ok(())
 }
 

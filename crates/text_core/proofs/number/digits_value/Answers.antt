@@ -1,4 +1,4 @@
-use Rattle.std.proofs.Common.{◌≡◌, ◌∙◌, sym, arith, ◌≤◌, ◌+◌, ◌*◌, length, drop, below_more, get_or}
+use Rattle.std.proofs.Common.{◌∙◌, sym, arith, ◌+◌, ◌*◌, length, drop, below_more, get_or}
 use Rattle.text_core.specs.Numbers.{value_of, digit_value}
 use Rattle.text_core.proofs.DigitLemmas.{value-step, value-front, value-end}
 use Rattle.text_core.proofs.number.digits_value.Goals as goal
