@@ -7,6 +7,8 @@ mod command;
 mod fault;
 mod polynomial;
 mod print;
+#[cfg(test)]
+mod rows;
 mod stop;
 #[cfg(test)]
 mod tests;
