@@ -1,5 +1,5 @@
 -- One step of an answer after another.
-use Rattle.std.proofs.Common.{◌≡◌, ◌⊎◌, inl, inr, ◌<◌, ◌≤◌, ◌-◌, ◌^◌, ℕ, Result, Ok, Err, arith}
+use Rattle.std.proofs.Common.{inl, inr, ◌≤◌, ℕ, Result, Ok, Err, arith}
 use Rattle.text_core.specs.Outcome.{Outcome, ◌>>=◌}
 use Rattle.job_io.specs.Counts.{Rose}
 use Rattle.std.specs.Prelude.{List, Vec, Option}

@@ -1,5 +1,5 @@
 -- The shapes of the words of the command line.
-use Rattle.std.specs.Prelude.{◌≡◌, ◌≢◌, ℕ, ◌≤◌, List, [], ◌∷◌, All, codes, true, false, nat_eq}
+use Rattle.std.specs.Prelude.{◌≡◌, ◌≢◌, ℕ, ◌≤◌, List, [], ◌∷◌, All, codes, false, nat_eq}
 use Rattle.std.specs.List.{starts_with, ends_with}
 use Rattle.gf_abs.specs.declared.command.Command.{Command}
 

@@ -17,4 +17,4 @@ mod top;
 pub use command::Command;
 pub use fault::Fault;
 pub use stop::Stop;
-pub use top::run;
+pub use top::{run, run_surely};

@@ -1,7 +1,7 @@
 //! The program over files in memory.
 use crate::rows::ROWS;
-use crate::run;
-use job_io::{MemShelf, MemSink};
+use crate::{run, run_surely};
+use job_io::{MemShelf, MemSink, SureShelf, SureSink};
 use std::alloc::Global;
 use std::test::Fail;
 
@@ -113,5 +113,17 @@ fn words_and_places(rt: HostRuntime) -> Result<(), Fail> {
         assert_eq!(rt; bytes.as_slice(), text.as_bytes(), "at {words:?}");
         assert_eq!(rt; found, status, "at {words:?}");
     }
+    Ok(())
+}
+
+// Over a shelf and a sink that never fail.
+#[test]
+fn surely(rt: HostRuntime) -> Result<(), Fail> {
+    let alloc = rt.alloc();
+    let mut words = Vec::new(alloc);
+    words.push(String::from_str(alloc, "bits")?)?;
+    let mut shelf = SureShelf::new(Vec::new(alloc));
+    let mut sink = SureSink::new();
+    assert_eq!(rt; run_surely(alloc, &words, &mut shelf, &mut sink), 2);
     Ok(())
 }

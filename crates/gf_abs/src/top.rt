@@ -2,6 +2,7 @@
 ghost use Rattle.std.specs.Prelude.{◌≡◌, ◌≢◌, ◌⊎◌, ◌≤◌, Some, Option, None, map, string_bytes, IfOk, IsErrOf};
 ghost use Rattle.std.specs.Io.KnownBytes.{Keeps};
 ghost use Rattle.job_io.specs.Counts.{Rose};
+ghost use Rattle.job_io.specs.SureShelf.{sure_files, sure_misses};
 ghost use Rattle.gf_abs.specs.Answer.{Read, NetAnswer, JobAnswer, Answer};
 ghost use Rattle.gf_abs.specs.Command.{Bits};
 ghost use Rattle.gf_abs.specs.Stop.{GivesBy, GivesBytes, IsText, Writes, WritesPart};
@@ -10,7 +11,7 @@ use crate::bits;
 use crate::command::{Command, read_words};
 use crate::fault::{Fault, status_of, write_fault};
 use crate::stop::Stop;
-use job_io::{Shelf, ShelfFault, Sink, put_all};
+use job_io::{Shelf, ShelfFault, Sink, SureShelf, SureSink, put_all};
 use net_core::Name;
 use net_words::Signature;
 use std::alloc::Global;
@@ -52,8 +53,8 @@ fn bits_answer<S: Shelf>(
         (Rose (S.misses shelf.old) (S.misses shelf.new)) (Rose (S.faults shelf.old) (S.faults shelf.new)) }
 {
     let signature_text = read_file(alloc, shelf, signature)?;
-    let signature = bits::signature_of(alloc, &signature_text)?;
-    net_answer(alloc, &signature, net, shelf)
+    let taken = bits::signature_of(alloc, &signature_text)?;
+    net_answer(alloc, &taken, net, shelf)
 }
 
 // The output over a netlist, after the signature was taken.
@@ -132,4 +133,12 @@ pub fn run<S: Shelf, K: Sink>(alloc: Global, words: &[String], shelf: &mut S, si
         Err(Stop::Outside) => 4,
         Err(_) => 5,
     }
+}
+
+/// The same over a shelf and a sink that never fail: the status is that of the answer, or want of memory.
+pub fn run_surely(alloc: Global, words: &[String], shelf: &mut SureShelf, sink: &mut SureSink) -> u8
+    ensures answers { (result ≡ 5) ⊎ ((text : _) × IsText (Answer (map string_bytes words.now) (Some (sure_files shelf.old)))
+        (Rose (sure_misses shelf.old) (sure_misses shelf.new)) result text) }
+{
+    run(alloc, words, shelf, sink)
 }

@@ -1,4 +1,4 @@
-use Rattle.std.proofs.Common.{arith, ◌≤◌, length}
+use Rattle.std.proofs.Common.{arith}
 use Rattle.gf_abs.proofs.bits.can_be_bound.Goals as goal
 
 pub returns : goal.returns
