@@ -2,7 +2,7 @@
 use Rattle.std.specs.Prelude.{◌≡◌, ℕ, ◌≤◌, List, length, All}
 use Rattle.net_core.specs.NetList.{NetList}
 use Rattle.net_words.specs.declared.bound.BoundWord.{BoundWord}
-use Rattle.net_words.specs.declared.signature.WordText.{WordText}
+use Rattle.net_words.specs.declared.word.WordText.{WordText}
 
 -- the bits of each word, and the words in signature order with their nets, place 0 first
 pub record Binding : Type 0 where

@@ -4,7 +4,7 @@ ghost use Rattle.net_words.specs.Binding.{AreWords, IsBinding};
 ghost use Rattle.net_words.specs.declared.binding.BindFault.TheVariants.{OutOfMemory};
 
 use crate::bound::{Bound, BoundWord};
-use crate::signature::{Role, WordText};
+use crate::word::{Role, WordText};
 use net_core::{Name, Net};
 use std::alloc::{AllocError, AllocFailed, Global};
 use thiserror::Error;

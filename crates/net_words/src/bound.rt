@@ -2,7 +2,7 @@
 ghost use Rattle.std.specs.Prelude.{◌≡◌, ◌<◌, ◌≤◌, length, slice_index, slice_get, All, Some};
 ghost use Rattle.net_words.specs.Binding.{IsBinding};
 
-use crate::signature::Role;
+use crate::word::Role;
 use net_core::Name;
 use std::marker::Model;
 

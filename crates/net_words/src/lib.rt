@@ -2,17 +2,25 @@
 //! `read_signature` reads the text, `bind` finds the nets, and `Combinational` is a net without latches with its words.
 #![tactic(auto)]
 
+mod basis;
 mod binding;
 mod bound;
 mod combinational;
+mod element;
+mod fault;
+mod lines;
 mod reader;
 mod signature;
-mod statement;
 #[cfg(test)]
 mod tests;
+mod word;
+mod word_line;
+mod words;
 
 pub use binding::{BindFault, bind};
 pub use bound::Bound;
 pub use combinational::Combinational;
-pub use reader::{SigFault, read_signature};
-pub use signature::{BasisText, Role, Signature, WordText};
+pub use fault::SigFault;
+pub use reader::read_signature;
+pub use signature::Signature;
+pub use word::{BasisText, Role, WordText};

@@ -1,164 +1,198 @@
 //! The reader of signatures.
-ghost use Rattle.std.specs.Prelude.{◌≡◌, ◌<◌, ◌^◌, ◌≤◌, length, IfOk};
-ghost use Rattle.net_words.specs.declared.reader.SigFault.TheVariants.{OutOfMemory};
+ghost use Rattle.std.specs.Prelude.{◌≡◌, ◌≤◌, ◌↔◌, ℕ, [], ◌∷◌, map, length, IfOk, IfErr, IfSome, IfNone, IsTrue};
+ghost use Rattle.text_core.specs.Outcome.{Returns};
+ghost use Rattle.net_words.specs.Statement.{SaysVersion, SaysField, SaysTower};
+ghost use Rattle.net_words.specs.Signature.{OrSyntax, Says, Next, TowerOf, WordsOf, SignatureOf, Sig, with_word, has_output, is_output, tower_comes as comes_tower, begins_tower as begins_a_tower};
+ghost use Rattle.net_words.specs.Reading.{Fits, left, end_of, line_of};
+ghost use Rattle.net_words.specs.declared.fault.SigFault.TheVariants.{OutOfMemory};
 
-use crate::signature::{BasisText, Role, Signature, WordText};
-use crate::statement::{Statement, Statements};
-use net_core::{Name, Names, Numbers};
-use std::alloc::{AllocError, AllocFailed, Global};
-use text_core::{is_name, read_hex};
-use thiserror::Error;
+use crate::element::read_elements;
+use crate::fault::SigFault;
+use crate::lines::{Lines, Statement};
+use crate::signature::Signature;
+use crate::word::WordText;
+use crate::word_line::read_word;
+use crate::words::{add_word, check_output};
+use net_core::Numbers;
+use std::alloc::Global;
+use text_core::read_hex;
 
-const MAX_WORDS: usize = 8;
-
-/// Why a text is no signature.
-#[derive(Debug, Drop, Error)]
-pub enum SigFault {
-    /// The line, from 1, is no line of its place.
-    #[error("syntax at line {line}")]
-    Syntax { line: u32 },
-    /// The line has a word whose name an earlier word has.
-    #[error("name twice at line {line}")]
-    NameTwice { line: u32 },
-    /// The line has a second output word.
-    #[error("second output word at line {line}")]
-    TwoOutputs { line: u32 },
-    /// The line has the ninth input or state word.
-    #[error("ninth word at line {line}")]
-    TooManyWords { line: u32 },
-    /// There is no output word.
-    #[error("no output word")]
-    NoOutput { block: Option<Name> },
-    /// Want of memory.
-    #[error("out of memory")]
-    OutOfMemory,
-}
-
-impl From<AllocError> for SigFault {
-    ghost from_gives = { λ _ e. e ≡ OutOfMemory };
-
-    fn from(_error: AllocError) -> SigFault {
-        SigFault::OutOfMemory
-    }
-}
-
-impl<T: Drop> From<AllocFailed<T>> for SigFault {
-    ghost from_gives = { λ _ e. e ≡ OutOfMemory };
-
-    fn from(_error: AllocFailed<T>) -> SigFault {
-        SigFault::OutOfMemory
-    }
-}
-
-/// The signature of a text of at most 67,108,864 bytes, or its first fault.
+/// The signature of a text of at most 67,108,864 bytes, or its first fault:
+/// line by line Syntax, NameTwice, TwoOutputs and TooManyWords, and after the last line NoOutput.
 pub fn read_signature(alloc: Global, bytes: &[u8]) -> Result<Signature, SigFault>
     requires { length bytes.now ≤ 67108864 }
+    ensures { Fits (λ signature. signature) result (Sig bytes.now) }
 {
-    let mut statements = Statements::new(alloc, bytes);
-    read_version(&mut statements)?;
-    let modulus = read_field(&mut statements)?;
-    let words = read_words(alloc, &mut statements)?;
-    if !words.iter().any(|word| word.role == Role::Output) {
-        return Err(SigFault::NoOutput { block: None });
+    let mut lines = Lines::new(alloc, bytes);
+    read_lines(alloc, &mut lines)
+}
+
+// The signature of the lines that are left.
+fn read_lines(alloc: Global, lines: &mut Lines) -> Result<Signature, SigFault>
+    ensures { Fits (λ signature. signature) result (SignatureOf (end_of lines.old) (left lines.old)) }
+{
+    match read_version(lines) {
+        Ok(()) => {}
+        Err(fault) => return Err(fault),
     }
-    Ok(Signature::of_parts(modulus, Numbers::new(Vec::new(alloc)), words))
+    let modulus = match read_field(lines) {
+        Ok(modulus) => modulus,
+        Err(fault) => return Err(fault),
+    };
+    let tower = match read_tower(alloc, lines) {
+        Ok(tower) => tower,
+        Err(fault) => return Err(fault),
+    };
+    let words = match read_words(alloc, lines) {
+        Ok(words) => words,
+        Err(fault) => return Err(fault),
+    };
+    match check_output(&words) {
+        Ok(()) => Ok(Signature::of_parts(modulus, Numbers::new(tower), words)),
+        Err(fault) => Err(fault),
+    }
 }
 
 // The first line.
-fn read_version(statements: &mut Statements) -> Result<(), SigFault> {
-    let statement = statements.required()?;
-    match statement.tokens.as_slice() {
-        ["gfsig", "1"] => Ok(()),
-        _ => Err(SigFault::Syntax {
-            line: statement.line,
-        }),
+fn read_version(lines: &mut Lines) -> Result<(), SigFault>
+    ensures says { Fits (λ u. (tt, left lines.new)) result (Next (end_of lines.old) SaysVersion (left lines.old)) }
+    ensures end { end_of lines.new ≡ end_of lines.old }
+{
+    match lines.required() {
+        Ok(line) => version_of(&line),
+        Err(fault) => Err(fault),
+    }
+}
+
+// Whether a line is `gfsig 1`.
+fn version_of(line: &Statement) -> Result<(), SigFault>
+    ensures { Fits (λ u. tt) result (Says (line_of line.now) SaysVersion) }
+{
+    match line.tokens.as_slice() {
+        [b"gfsig", b"1"] => Ok(()),
+        _ => Err(SigFault::Syntax { line: line.number }),
     }
 }
 
 // The line of the field.
-fn read_field(statements: &mut Statements) -> Result<u128, SigFault> {
-    let statement = statements.required()?;
-    let line = statement.line;
-    match statement.tokens.as_slice() {
-        ["field", modulus] => {
-            read_hex(modulus.as_bytes(), u128::MAX).ok_or(SigFault::Syntax { line })
-        }
-        _ => Err(SigFault::Syntax { line }),
+fn read_field(lines: &mut Lines) -> Result<u128, SigFault>
+    ensures says { Fits (λ modulus. (modulus, left lines.new)) result (Next (end_of lines.old) SaysField (left lines.old)) }
+    ensures end { end_of lines.new ≡ end_of lines.old }
+{
+    match lines.required() {
+        Ok(line) => field_of(&line),
+        Err(fault) => Err(fault),
     }
+}
+
+// The modulus that a line says.
+fn field_of(line: &Statement) -> Result<u128, SigFault>
+    ensures { Fits (λ modulus. modulus) result (Says (line_of line.now) SaysField) }
+{
+    match line.tokens.as_slice() {
+        [keyword, modulus] => field_from(line.number, keyword, modulus),
+        _ => Err(SigFault::Syntax { line: line.number }),
+    }
+}
+
+// The modulus that two tokens of a line say.
+fn field_from(number: u32, keyword: &[u8], modulus: &[u8]) -> Result<u128, SigFault>
+    ensures { Fits (λ modulus. modulus) result (OrSyntax number (SaysField (keyword.now ∷ modulus.now ∷ []))) }
+{
+    if !is_token(keyword, b"field") {
+        return Err(SigFault::Syntax { line: number });
+    }
+    match read_hex(modulus, u128::MAX) {
+        Some(modulus) => Ok(modulus),
+        None => Err(SigFault::Syntax { line: number }),
+    }
+}
+
+// Whether a token is this text.
+fn is_token(token: &[u8], text: &[u8]) -> bool
+    ensures { IsTrue result ↔ (token.now ≡ text.now) }
+{
+    token == text
+}
+
+// The coefficients of a tower, if its line comes next.
+fn read_tower(alloc: Global, lines: &mut Lines) -> Result<Vec<u64>, SigFault>
+    ensures says { Fits (λ v. (v.items, left lines.new)) result (TowerOf (end_of lines.old) (left lines.old)) }
+    ensures end { end_of lines.new ≡ end_of lines.old }
+{
+    if tower_comes(lines)? {
+        read_tower_line(alloc, lines)
+    } else {
+        Ok(Vec::new(alloc))
+    }
+}
+
+// Whether the line of a tower comes next.
+fn tower_comes(lines: &Lines) -> Result<bool, SigFault>
+    ensures comes { IfOk result (λ comes. comes ≡ comes_tower (left lines.now)) }
+    ensures only { IfErr result (λ e. e ≡ OutOfMemory) }
+{
+    let mut ahead = lines.from_here();
+    match ahead.next()? {
+        Some(line) => Ok(begins_tower(&line)),
+        None => Ok(false),
+    }
+}
+
+// Whether a line begins with `tower`.
+fn begins_tower(line: &Statement) -> bool
+    ensures { result ≡ begins_a_tower (line_of line.now).tokens }
+{
+    match line.tokens.as_slice() {
+        [first, ..] => *first == b"tower".as_slice(),
+        [] => false,
+    }
+}
+
+// The line of a tower.
+fn read_tower_line(alloc: Global, lines: &mut Lines) -> Result<Vec<u64>, SigFault>
+    ensures says { Fits (λ v. (v.items, left lines.new)) result (Next (end_of lines.old) SaysTower (left lines.old)) }
+    ensures end { end_of lines.new ≡ end_of lines.old }
+{
+    match lines.required() {
+        Ok(line) => tower_of(alloc, &line),
+        Err(fault) => Err(fault),
+    }
+}
+
+// The coefficients that a line says.
+fn tower_of(alloc: Global, line: &Statement) -> Result<Vec<u64>, SigFault>
+    ensures { Fits (λ v. v.items) result (Says (line_of line.now) SaysTower) }
+{
+    match line.tokens.as_slice() {
+        [keyword, numbers @ ..] => tower_from(alloc, line.number, keyword, numbers),
+        [] => Err(SigFault::Syntax { line: line.number }),
+    }
+}
+
+// The coefficients that tokens of a line say.
+fn tower_from(
+    alloc: Global,
+    number: u32,
+    keyword: &[u8],
+    numbers: &[&[u8]],
+) -> Result<Vec<u64>, SigFault>
+    ensures { Fits (λ v. v.items) result (OrSyntax number (SaysTower (keyword.now ∷ map (λ t. t.now) numbers.now))) }
+{
+    if !is_token(keyword, b"tower") || numbers.len() < 1 {
+        return Err(SigFault::Syntax { line: number });
+    }
+    read_elements(alloc, number, numbers)
 }
 
 // The lines of words, up to the end.
-fn read_words(alloc: Global, statements: &mut Statements) -> Result<Vec<WordText>, SigFault> {
+fn read_words(alloc: Global, lines: &mut Lines) -> Result<Vec<WordText>, SigFault>
+    ensures { Fits (λ v. v.items) result (WordsOf [] (left lines.old)) }
+{
     let mut words = Vec::new(alloc);
-    while let Some(statement) = statements.next()? {
-        let word = read_word(alloc, &statement)?;
+    while let Some(line) = lines.next()? {
+        let word = read_word(alloc, &line)?;
         add_word(&mut words, word)?;
     }
     Ok(words)
-}
-
-// The word of a line.
-fn read_word(alloc: Global, statement: &Statement) -> Result<WordText, SigFault> {
-    let line = statement.line;
-    match statement.tokens.as_slice() {
-        ["word", name, role, "poly", nets @ ..] if !nets.is_empty() => {
-            let Some(role) = role_of(role) else {
-                return Err(SigFault::Syntax { line });
-            };
-            if !is_name(name.as_bytes()) {
-                return Err(SigFault::Syntax { line });
-            }
-            Ok(WordText {
-                line,
-                name: Name::new(alloc, name)?,
-                role,
-                basis: BasisText::Poly,
-                nets: net_names(alloc, line, nets)?,
-            })
-        }
-        _ => Err(SigFault::Syntax { line }),
-    }
-}
-
-// The role that a token names.
-fn role_of(token: &str) -> Option<Role> {
-    match token {
-        "input" => Some(Role::Input),
-        "output" => Some(Role::Output),
-        _ => None,
-    }
-}
-
-// The names of nets at a line, each of at most 255 bytes.
-fn net_names(alloc: Global, line: u32, tokens: &[&str]) -> Result<Names, SigFault> {
-    let mut names = Vec::new(alloc);
-    for token in tokens {
-        if token.len() > 255 {
-            return Err(SigFault::Syntax { line });
-        }
-        names.push(Name::new(alloc, token)?)?;
-    }
-    Ok(Names::new(names))
-}
-
-// The words with one more.
-fn add_word(words: &mut Vec<WordText>, word: WordText) -> Result<(), SigFault> {
-    let line = word.line;
-    let name = word.name.as_str();
-    if words.iter().any(|other| other.name.as_str() == name) {
-        return Err(SigFault::NameTwice { line });
-    }
-    let outputs = word.role == Role::Output;
-    let count = words
-        .iter()
-        .filter(|other| (other.role == Role::Output) == outputs)
-        .count();
-    if outputs && count >= 1 {
-        return Err(SigFault::TwoOutputs { line });
-    }
-    if !outputs && count >= MAX_WORDS {
-        return Err(SigFault::TooManyWords { line });
-    }
-    words.push(word)?;
-    Ok(())
 }

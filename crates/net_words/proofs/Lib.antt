@@ -1,0 +1,6 @@
+pub mod LineLemmas
+pub mod ZipLemmas
+pub mod BasisLemmas
+pub mod WordLemmas
+pub mod ReaderLemmas
+pub mod SignatureLemmas
