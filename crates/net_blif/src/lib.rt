@@ -1,0 +1,4 @@
+//! Nets written in BLIF: what a text says, and the net of a model.
+#![tactic(auto)]
+
+mod lines;
