@@ -1,1 +1,3 @@
+pub mod DesignLemmas
 pub mod LineLemmas
+pub mod WordLemmas

@@ -1,4 +1,14 @@
 //! Nets written in BLIF: what a text says, and the net of a model.
 #![tactic(auto)]
 
+mod cover;
+mod design;
+mod fault;
+mod item;
 mod lines;
+mod open_model;
+mod reader;
+mod statement;
+
+pub use design::Design;
+pub use fault::BlifFault;
