@@ -1,3 +1,5 @@
 pub mod DesignLemmas
 pub mod LineLemmas
 pub mod WordLemmas
+pub mod StatementLemmas
+pub mod ReadLemmas

@@ -1,7 +1,7 @@
 //! What was read of a text, line by line.
 ghost use Rattle.std.specs.Prelude.{◌≡◌, ◌⊎◌, ◌≤◌, ◌∷◌, [], None, Ok, Err, IfOk, IfErr, IsTrue, length};
 ghost use Rattle.text_core.specs.Lines.{tokens_of};
-ghost use Rattle.net_blif.specs.Models.{in_model, with_cover_row, with_items, models_of, may_stand as may_stand_here, next as next_reading, start, ReadsLine, Says};
+ghost use Rattle.net_blif.specs.Models.{in_model, with_cover_row, with_items, models_of, may_stand as may_stand_here, next as next_reading, start, ReadsLine};
 
 use crate::BlifFault;
 use crate::cover::Cover;
@@ -153,6 +153,27 @@ impl Reader {
             }
             Statement::Other { word, .. } => Err(BlifFault::LeftOut { line, word }),
         }
+    }
+
+    /// With what one more line says.
+    pub fn read_line(self, alloc: Global, line: u32, bytes: &[u8]) -> Result<Reader, BlifFault>
+        ensures read { IfOk result (λ reader. ReadsLine self line (tokens_of bytes.now) (Ok reader)) }
+        ensures fault { IfErr result (λ e. (e ≡ BlifFault.OutOfMemory) ⊎ ReadsLine self line (tokens_of bytes.now) (Err e)) }
+    {
+        let Some(words) = words(alloc, bytes)? else {
+            return Err(BlifFault::Syntax { line });
+        };
+        if words.is_empty() {
+            return Ok(self);
+        }
+        let Some(statement) = read_statement(alloc, words)? else {
+            return Err(BlifFault::Syntax { line });
+        };
+        if !self.may_stand(&statement) {
+            return Err(BlifFault::Syntax { line });
+        }
+        let reader = self.next(alloc, line, statement)?;
+        Ok(reader)
     }
 }
 
