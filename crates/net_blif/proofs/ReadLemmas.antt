@@ -46,3 +46,8 @@ pub refused : (reading : Reading) (n : ℕ) (tokens : List Token) (s : Statement
 refused reading n [] s fault all is may next = absurd (cc)
 refused reading n (word ∷ words) s fault all is may next =
     let h = read_spells (word ∷ words) s all is in inr (s, (all, h.0, h.1, may), sym next)
+
+pub refused_or : (reading : Reading) (n : ℕ) (tokens line : List Token) (s : Statement) (fault wanting : BlifFault) → tokens ≡ line → All IsToken tokens → statement_of tokens ≡ Some s → may_stand reading s ≡ true → (fault ≡ wanting) ⊎ (next reading n s ≡ Err fault) → (fault ≡ wanting) ⊎ ReadsLine reading n line (Err fault)
+refused_or reading n tokens line s fault wanting is all said stands why =
+    let P : List Token → Type 0 = λ t. ReadsLine reading n t (Err fault) in
+    elim why [ inl w ↦ inl w | inr w ↦ inr (subst P is (refused reading n tokens s fault all said stands w)) ]

@@ -7,8 +7,10 @@ mod fault;
 mod item;
 mod lines;
 mod open_model;
+mod read;
 mod reader;
 mod statement;
 
 pub use design::Design;
 pub use fault::BlifFault;
+pub use read::read_blif;
