@@ -1,5 +1,7 @@
 pub mod DesignLemmas
+pub mod ItemLemmas
 pub mod LineLemmas
 pub mod WordLemmas
 pub mod StatementLemmas
 pub mod ReadLemmas
+pub mod WalkLemmas

@@ -1,5 +1,7 @@
 //! Covers and their tables.
-ghost use Rattle.std.specs.Prelude.{◌≡◌, ◌<◌, ◌≤◌, ◌+◌, ◌*◌, ◌^◌, ◌++◌, ◌∷◌, [], ℕ, Some, length, IfOk, IsTrue, if◌then◌else◌};
+ghost use Rattle.std.specs.Prelude.{◌≡◌, ◌<◌, ◌≤◌, ◌+◌, ◌*◌, ◌^◌, ◌++◌, ◌∷◌, [], ℕ, Some, length, All, IfOk, IsTrue, if◌then◌else◌};
+ghost use Rattle.net_core.specs.Inside.{IsNetName};
+ghost use Rattle.net_blif.specs.Item.{IsSoundItem};
 ghost use Rattle.net_blif.specs.Cover.{fits as row_fits, cell_fits as fits_cell, fits_some as some_fits, gate_bit as bit_of_gate, agrees as may_agree, number_of_bits, begun, gate_of, takes_row, with_row};
 
 use crate::item::Item;
@@ -18,20 +20,23 @@ pub struct Cover {
 }
 
 impl Model for Cover {
-    ghost use Rattle.std.specs.Prelude.{length, ◌≤◌};
+    ghost use Rattle.std.specs.Prelude.{length, ◌≤◌, All};
+    ghost use Rattle.net_core.specs.Inside.{IsNetName};
     ghost use Rattle.net_blif.specs.Cover.{CoverValue};
 
     ghost Value = { CoverValue };
 
     ghost view = { λ c. record { line = c.line; inputs = c.inputs; out = c.out; output = c.output; rows = c.rows.items } };
 
-    ghost invariant = { λ c. length c.inputs ≤ 6 };
+    ghost invariant = { λ c. (length c.inputs ≤ 6) × All IsNetName c.inputs × IsNetName c.out };
 }
 
 impl Cover {
     /// A cover that has begun at this line. It takes no memory.
     pub fn new(alloc: Global, line: u32, inputs: Names, out: Name) -> Cover
-        requires { length inputs ≤ 6 }
+        requires few { length inputs ≤ 6 }
+        requires inputs { All IsNetName inputs }
+        requires out { IsNetName out }
         ensures { result ≡ begun line inputs out }
     {
         Cover {
@@ -62,7 +67,8 @@ impl Cover {
 
     /// The gate that it describes.
     pub fn gate(self) -> Item
-        ensures { result ≡ gate_of self }
+        ensures gate { result ≡ gate_of self }
+        ensures sound { IsSoundItem result }
     {
         let count = self.inputs.as_slice().len() as u32;
         let table = table(count, self.output, &self.rows);
@@ -155,7 +161,8 @@ fn size(inputs: u32) -> u32
 // The table of a cover with this output and these rows.
 fn table(inputs: u32, output: Option<bool>, rows: &[Name]) -> u64
     requires { inputs ≤ 6 }
-    ensures { result ≡ number_of_bits (λ index. bit_of_gate output (some_fits rows.now index)) (2 ^ inputs) }
+    ensures small { result < 2 ^ (2 ^ inputs) }
+    ensures bits { result ≡ number_of_bits (λ index. bit_of_gate output (some_fits rows.now index)) (2 ^ inputs) }
 {
     let mut table = 0;
     for index in 0..size(inputs) {

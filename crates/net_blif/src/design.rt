@@ -1,8 +1,9 @@
 //! Designs: the models of a text.
-ghost use Rattle.std.specs.Prelude.{◌≡◌, ℕ, List, is_some, if◌then◌else◌, ◌<◌, ◌++◌, ◌∷◌, [], Some, length, slice_get, IfOk, IfSome, IfNone, IsSome, None};
+ghost use Rattle.std.specs.Prelude.{◌≡◌, ℕ, List, is_some, if◌then◌else◌, ◌<◌, ◌++◌, ◌∷◌, [], Some, length, slice_get, All, IfOk, IfSome, IfNone, IsSome, None};
 ghost use Rattle.std.specs.Str.{bytes_eq};
 ghost use Rattle.indexmap.specs.IndexMap.{get_by_text};
-ghost use Rattle.net_blif.specs.Design.{ModelValue, model_from, model_named};
+ghost use Rattle.net_blif.specs.Item.{IsSoundItem};
+ghost use Rattle.net_blif.specs.Design.{ModelValue, items_of, model_from, model_named};
 
 use crate::item::Item;
 use indexmap::IndexMap;
@@ -18,16 +19,21 @@ pub struct ModelText {
 }
 
 impl Model for ModelText {
+    ghost use Rattle.std.specs.Prelude.{All};
+    ghost use Rattle.net_blif.specs.Item.{IsSoundItem};
     ghost use Rattle.net_blif.specs.Design.{ModelValue};
 
     ghost Value = { ModelValue };
 
     ghost view = { λ m. record { name = m.name; items = m.items.items } };
+
+    ghost invariant = { λ m. All IsSoundItem m.items.items };
 }
 
 impl ModelText {
     /// A model of this name that places these.
     pub fn new(name: Name, items: Vec<Item>) -> ModelText
+        requires { All IsSoundItem items.items }
         ensures { result ≡ record { name = name; items = items.items } }
     {
         ModelText { name, items }
@@ -42,7 +48,8 @@ impl ModelText {
 
     /// What its lines place, in order.
     pub fn items(&self) -> &[Item]
-        ensures { result.now ≡ self.now.items }
+        ensures items { result.now ≡ self.now.items }
+        ensures sound { All IsSoundItem result.now }
     {
         self.items.as_slice()
     }
@@ -117,10 +124,13 @@ impl Design {
 
     // What the lines of a model place, in order.
     pub(crate) fn items(&self, model: u32) -> &[Item]
-        requires { model < length self.now }
-        ensures { (m : ModelValue) → slice_get self.now model ≡ Some m → result.now ≡ m.items }
+        ensures items { result.now ≡ items_of self.now model }
+        ensures sound { All IsSoundItem result.now }
     {
-        self.models[model as usize].items()
+        match self.models.get(model as usize) {
+            Some(found) => found.items(),
+            None => &[],
+        }
     }
 }
 

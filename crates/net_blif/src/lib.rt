@@ -4,6 +4,8 @@
 mod cover;
 mod design;
 mod fault;
+mod flat;
+mod flat_fault;
 mod item;
 mod lines;
 mod open_model;
@@ -13,4 +15,6 @@ mod statement;
 
 pub use design::Design;
 pub use fault::BlifFault;
+pub use flat::flatten;
+pub use flat_fault::FlatFault;
 pub use read::read_blif;

@@ -1,6 +1,7 @@
 //! A model whose lines are being read.
 ghost use Rattle.std.specs.Prelude.{◌≡◌, ◌≤◌, ◌∷◌, [], None, Some, false, length, IfOk};
 ghost use Rattle.std.specs.Option.{option_map_or};
+ghost use Rattle.net_blif.specs.Item.{IsSoundItem};
 ghost use Rattle.net_blif.specs.Cover.{begun, takes_row};
 ghost use Rattle.net_blif.specs.Models.{placed, with_cover_row, with_items};
 
@@ -20,11 +21,15 @@ pub struct OpenModel {
 }
 
 impl Model for OpenModel {
+    ghost use Rattle.std.specs.Prelude.{All};
+    ghost use Rattle.net_blif.specs.Item.{IsSoundItem};
     ghost use Rattle.net_blif.specs.Models.{OpenValue};
 
     ghost Value = { OpenValue };
 
     ghost view = { λ m. record { name = m.name; items = m.items.items; cover = m.cover } };
+
+    ghost invariant = { λ m. All IsSoundItem m.items.items };
 }
 
 impl OpenModel {
@@ -67,6 +72,7 @@ impl OpenModel {
 
     /// With what one more line places.
     pub fn with_item(self, item: Item) -> Result<OpenModel, AllocError>
+        requires { IsSoundItem item }
         ensures { IfOk result (λ model. model ≡ with_items (item ∷ []) None self) }
     {
         let mut model = self.with_cover(None)?;

@@ -1,6 +1,8 @@
 //! What was read of a text, line by line.
-ghost use Rattle.std.specs.Prelude.{◌≡◌, ◌⊎◌, ◌≤◌, ◌∷◌, [], None, Ok, Err, IfOk, IfErr, IsTrue, length};
+ghost use Rattle.std.specs.Prelude.{◌≡◌, ◌⊎◌, ◌≤◌, ◌∷◌, [], None, Ok, Err, IfOk, IfErr, IsTrue, length, All};
 ghost use Rattle.text_core.specs.Lines.{tokens_of};
+ghost use Rattle.net_core.specs.Inside.{IsNetName};
+ghost use Rattle.net_blif.specs.Item.{HasNetNames, IsSoundItem};
 ghost use Rattle.net_blif.specs.Models.{in_model, with_cover_row, with_items, models_of, may_stand as may_stand_here, next as next_reading, start, ReadsLine};
 
 use crate::BlifFault;
@@ -85,6 +87,7 @@ impl Reader {
 
     // With what one more line of the model places.
     fn place(self, item: Item) -> Result<Reader, AllocError>
+        requires { IsSoundItem item }
         ensures { IfOk result (λ reader. reader ≡ in_model (with_items (item ∷ []) None) self) }
     {
         let Reader { design, model } = self;
@@ -121,6 +124,8 @@ impl Reader {
 
     // With a cover of these nets that begins.
     fn cover(self, alloc: Global, line: u32, inputs: Names, out: Name) -> Result<Reader, BlifFault>
+        requires inputs { All IsNetName inputs }
+        requires out { IsNetName out }
         ensures read { IfOk result (λ reader. next_reading self line (Statement.Cover inputs out) ≡ Ok reader) }
         ensures fault { IfErr result (λ e. (e ≡ BlifFault.OutOfMemory) ⊎ (next_reading self line (Statement.Cover inputs out) ≡ Err e)) }
     {
@@ -134,6 +139,7 @@ impl Reader {
 
     // With what one more statement says.
     fn next(self, alloc: Global, line: u32, statement: Statement) -> Result<Reader, BlifFault>
+        requires { HasNetNames statement }
         ensures read { IfOk result (λ reader. next_reading self line statement ≡ Ok reader) }
         ensures fault { IfErr result (λ e. (e ≡ BlifFault.OutOfMemory) ⊎ (next_reading self line statement ≡ Err e)) }
     {

@@ -6,8 +6,15 @@ use Rattle.net_blif.specs.Spelling.{statement_of}
 use Rattle.net_blif.specs.Models.{ReadsLine, next, may_stand}
 use Rattle.net_blif.specs.declared.fault.BlifFault.{BlifFault}
 use Rattle.net_blif.specs.declared.fault.BlifFault.TheVariants.{Syntax, OutOfMemory}
+use Rattle.net_blif.proofs.ItemLemmas.{read_names}
 use Rattle.net_blif.proofs.ReadLemmas.{no_statement, misplaced, added, refused_or}
 use Rattle.net_blif.proofs.reader.Reader.read_line.Goals as goal
+
+pub next-requires : goal.next-requires
+next-requires c =
+    let words : (c.in-Some.words.items ≡ tokens_of c.args.bytes.now) × All IsToken c.in-Some.words.items = search rules in
+    let said : statement_of c.in-Some.words.items ≡ Some c.in-Some-2.statement = search rules in
+    read_names c.in-Some.words.items c.in-Some-2.statement words.1 said
 
 pub returns-in_default-2-clause-fault : goal.returns-in_default-2-clause-fault
 returns-in_default-2-clause-fault c =
