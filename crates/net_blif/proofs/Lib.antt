@@ -5,3 +5,4 @@ pub mod WordLemmas
 pub mod StatementLemmas
 pub mod ReadLemmas
 pub mod WalkLemmas
+pub mod FlatLemmas

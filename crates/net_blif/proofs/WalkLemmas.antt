@@ -13,7 +13,7 @@ use Rattle.net_core.specs.declared.fault.NetFault.TheVariants as faults
 use Rattle.net_core.proofs.NameLemmas.{number_kept}
 use Rattle.net_blif.specs.Statement.{Token}
 use Rattle.net_blif.specs.Flat.{Path, Top, Step, Mention, Input, Output, Gate, on_value}
-use Rattle.net_blif.specs.NamedWalk.{after_named, mentions, name_of, named_gate, named_walk, number_in, HasEach, IsFaultOf}
+use Rattle.net_blif.specs.NamedWalk.{after_named, gate_steps, mentions, name_of, named_gate, named_walk, number_in, HasEach, IsFaultOf}
 use Rattle.net_blif.specs.declared.flat_fault.FlatFault.{FlatFault}
 use Rattle.net_blif.specs.declared.flat_fault.FlatFault.TheVariants.{Net, OutOfMemory}
 
@@ -146,3 +146,30 @@ gate_made net new inputs out numbers number table are is made room = by (nat_le 
 
 pub gate_refused : (net : NetList) (inputs : List Token) (out : Token) (table : ℕ) → HasNoMoreGates net → after_named net (Gate (map Top inputs) (Top out) table) ≡ Err faults.TooManyGates
 gate_refused net inputs out table full = let b : nat_le (2 ^ 20) (length net.gates + length net.latches) ≡ true = le-leb (2 ^ 20) (length net.gates + length net.latches) full in rw b refl
+
+module _ (old mid more : NetList) (inputs : List Token) (out : Token) (table : ℕ) (first : named_walk old (mentions inputs) ≡ Ok mid) where
+  after_inputs : named_walk old (gate_steps inputs out table) ≡ named_walk mid (Mention (Top out) ∷ Gate (map Top inputs) (Top out) table ∷ [])
+  after_inputs = walked_front old mid (mentions inputs) (Mention (Top out) ∷ Gate (map Top inputs) (Top out) table ∷ []) first
+
+  pub refused_out : (fault : FlatFault) → IsFaultOf (after_named mid (Mention (Top out))) fault → IsFaultOf (named_walk old (gate_steps inputs out table)) fault
+  refused_out fault refused = refused_same _ _ fault after_inputs (refused_step mid fault (Mention (Top out)) (Gate (map Top inputs) (Top out) table ∷ []) refused)
+
+  after_out : after_named mid (Mention (Top out)) ≡ Ok more → named_walk old (gate_steps inputs out table) ≡ named_walk more (Gate (map Top inputs) (Top out) table ∷ [])
+  after_out second = after_inputs ∙ made_step mid more (Mention (Top out)) (Gate (map Top inputs) (Top out) table ∷ []) second
+
+  pub gate_walked : (new : NetList) → after_named mid (Mention (Top out)) ≡ Ok more → after_named more (Gate (map Top inputs) (Top out) table) ≡ Ok new → named_walk old (gate_steps inputs out table) ≡ Ok new
+  gate_walked new second third = after_out second ∙ made_step more new (Gate (map Top inputs) (Top out) table) [] third
+
+  -- what the maker refuses of a gate
+  pub gate_fault : (refusal : NetFault) (fault : FlatFault) → after_named mid (Mention (Top out)) ≡ Ok more → ((refusal ≡ faults.OutOfMemory) × (fault ≡ OutOfMemory)) ⊎ (¬ (refusal ≡ faults.OutOfMemory) × (fault ≡ Net refusal)) → (refusal ≡ faults.TooManyGates) ⊎ (refusal ≡ faults.OutOfMemory) → (refusal ≡ faults.TooManyGates → HasNoMoreGates more) → IsFaultOf (named_walk old (gate_steps inputs out table)) fault
+  gate_fault refusal fault second (inl (wanting, is)) only full = inl is
+  gate_fault refusal fault second (inr (other, is)) (inr wanting) full = absurd (other wanting)
+  gate_fault refusal fault second (inr (other, is)) (inl gates) full =
+      refused_same _ _ fault (after_out second) (refused_step more fault (Gate (map Top inputs) (Top out) table) [] (inr (refusal, gate_refused more inputs out table (full gates) ∙ ap Err (sym gates), is)))
+
+pub gate_numbers : (mid more : NetList) (inputs : List Token) (out : Token) (numbers : List ℕ) → after_named mid (Mention (Top out)) ≡ Ok more → HasEach mid inputs → numbers ≡ map (number_in mid) inputs → (numbers ≡ map (number_in more) inputs) × All (λ n. n < nets more) numbers
+gate_numbers mid more inputs out numbers second each are =
+    let keeps = kept mid more out second in
+    let same : numbers ≡ map (number_in more) inputs = are ∙ numbers_kept mid more inputs keeps each in
+    let P : List ℕ → Type 0 = All (λ n. n < nets more) in
+    (same, subst P (sym same) (numbers_inside more inputs (each_kept mid more inputs keeps each)))
