@@ -12,6 +12,8 @@ mod open_model;
 mod read;
 mod reader;
 mod statement;
+#[cfg(test)]
+mod tests;
 
 pub use design::Design;
 pub use fault::BlifFault;
