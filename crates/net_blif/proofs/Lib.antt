@@ -6,3 +6,5 @@ pub mod StatementLemmas
 pub mod ReadLemmas
 pub mod WalkLemmas
 pub mod FlatLemmas
+pub mod TableLemmas
+pub mod OutcomeLemmas

@@ -40,6 +40,11 @@ abbrev pub number_of_bits : (ℕ → Bool) → ℕ → ℕ
 number_of_bits bit zero = 0
 number_of_bits bit (suc n) = number_of_bits bit n + (if bit n then 2 ^ n else 0)
 
+-- a bit as a number
+abbrev pub bit_value : Bool → ℕ
+bit_value true = 1
+bit_value false = 0
+
 -- a bit for each index of the inputs' values
 abbrev pub table_of : CoverValue → ℕ
 table_of cover = number_of_bits (is_one cover) (2 ^ length cover.inputs)
