@@ -1,17 +1,16 @@
 -- The walk over paths and the walk over names make the same net list.
-use Rattle.std.proofs.Common.{◌≡◌, ◌⊎◌, ◌∙◌, inl, inr, ap, sym, refl, subst, ℕ, ◌+◌, ◌^◌, Bool, true, false, cond, ◌&&◌, List, [], ◌∷◌, ◌++◌, map, length, Option, Some, Result, Ok, Err}
+use Rattle.std.proofs.Common.{◌≡◌, ◌⊎◌, ◌∙◌, inl, inr, ap, sym, refl, subst, ℕ, ◌+◌, ◌^◌, Bool, true, false, cond, List, [], ◌∷◌, ◌++◌, map, length, Option, Some, Result, Ok, Err}
 use Rattle.std.specs.Prelude.{is_some, unwrap_or, nat_le}
 use Rattle.std.specs.Str.{bytes_eq}
 use Rattle.std.proofs.lemmas.List.{length-map, map_push}
-use Rattle.net_core.specs.NetList.{NetList, LabelValue, empty, number_from, number_of, nets, with_label, with_gate}
-use Rattle.net_core.specs.GateValue.{GateValue}
+use Rattle.net_core.specs.NetList.{NetList, empty, number_from, with_gate}
 use Rattle.net_core.specs.Finish.{Finishes}
 use Rattle.net_core.specs.declared.fault.NetFault.{NetFault}
 use Rattle.net_core.specs.declared.fault.NetFault.TheVariants as faults
 use Rattle.net_blif.specs.Statement.{Token}
 use Rattle.net_blif.specs.Design.{ModelValue}
 use Rattle.net_blif.specs.Flat.{Path, Top, Step, Mention, Input, Output, Gate, Flat, nothing, label_of, place_from, number, gate_on, after_step, on_value, walked, walk_of, net_list, Settles, Flattens}
-use Rattle.net_blif.specs.NamedWalk.{after_named, name_of, named_gate, named_walk, number_in, IsFaultOf}
+use Rattle.net_blif.specs.NamedWalk.{after_named, name_of, named_walk, number_in, IsFaultOf}
 use Rattle.net_blif.specs.declared.flat_fault.FlatFault.{FlatFault}
 use Rattle.net_blif.specs.declared.flat_fault.FlatFault.TheVariants.{Net, OutOfMemory}
 

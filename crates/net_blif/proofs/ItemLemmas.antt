@@ -1,15 +1,14 @@
 -- Which names and tables statements and items have.
-use Rattle.std.proofs.Common.{◌≡◌, ◌∙◌, ap, sym, refl, subst, ℕ, zero, suc, ◌<◌, ◌≤◌, ◌+◌, ◌^◌, List, [], ◌∷◌, ◌++◌, length, get_or, Option, None, Some, arith}
-use Rattle.std.specs.Prelude.{All, codes, IsTrue}
+use Rattle.std.proofs.Common.{◌≡◌, subst, ℕ, zero, suc, ◌<◌, List, [], ◌∷◌, ◌++◌, length, Some, arith}
+use Rattle.std.specs.Prelude.{All}
 use Rattle.std.proofs.lemmas.List.{get_or_append_left}
 use Rattle.net_core.specs.Inside.{IsNetName}
 use Rattle.net_blif.specs.Statement.{Token, IsToken, spelled}
 use Rattle.net_blif.specs.Spelling.{statement_of}
-use Rattle.net_blif.specs.Item.{HasNetNames, IsSoundItem}
-use Rattle.net_blif.specs.declared.item.Item.{Item}
+use Rattle.net_blif.specs.Item.{HasNetNames}
 use Rattle.net_blif.specs.declared.statement.Statement.{Statement}
 use Rattle.net_blif.specs.declared.statement.Statement.TheVariants.{Model, Inputs, Outputs, Clock, Cover, Row, End, Other}
-use Rattle.net_blif.proofs.StatementLemmas.{Spells, read_spells}
+use Rattle.net_blif.proofs.StatementLemmas.{read_spells}
 
 names_rest : (word : Token) (nets : List Token) → All IsToken (word ∷ nets) → All IsNetName nets
 names_rest word nets all = λ k d less. let h = all (suc k) d (omega arith) in (h.0, h.1)

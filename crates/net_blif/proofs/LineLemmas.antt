@@ -1,7 +1,6 @@
 -- Trimmed and joined lines.
-use Rattle.std.proofs.Common.{◌≡◌, ◌∙◌, ap, sym, refl, ℕ, zero, suc, ◌<◌, ◌≤◌, ◌+◌, Bool, true, false, cond, List, [], ◌∷◌, ◌++◌, length, take, get_or, arith, ◌-◌}
-use Rattle.std.specs.Prelude.{if◌then◌else◌}
-use Rattle.net_blif.specs.Lines.{Numbered, is_trailing, before_trimmed, trim_end, join_first, join_line, goes_on, without_last, joined, clean}
+use Rattle.std.proofs.Common.{◌≡◌, ◌∙◌, ap, sym, refl, ℕ, zero, suc, ◌≤◌, ◌+◌, Bool, true, false, cond, List, [], ◌∷◌, ◌++◌, length, take, get_or, arith, ◌-◌}
+use Rattle.net_blif.specs.Lines.{Numbered, is_trailing, before_trimmed, trim_end, join_first, goes_on, without_last, joined, clean}
 
 -- a further byte that trails
 trim_more : (line : List ℕ) (b : ℕ) → is_trailing b ≡ true → trim_end (line ++ b ∷ []) ≡ trim_end line

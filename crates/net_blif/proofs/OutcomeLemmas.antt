@@ -1,13 +1,11 @@
 -- A text has at most one outcome.
-use Rattle.std.proofs.Common.{◌≡◌, ◌∙◌, ap, sym, refl, ℕ, List, [], ◌∷◌, Result, Ok, Err}
-use Rattle.text_core.specs.Outcome.{Outcome, ◌>>=◌, Exactly, Returns, Determined}
+use Rattle.std.proofs.Common.{◌∙◌, ap, sym, refl, ℕ, List, [], ◌∷◌, Ok, Err}
+use Rattle.text_core.specs.Outcome.{◌>>=◌, Exactly, Returns, Determined}
 use Rattle.text_core.proofs.DeterminedLemmas.{determined_bind, determined_returns}
 use Rattle.text_core.specs.Lines.{tokens_of}
 use Rattle.net_blif.specs.Lines.{Numbered, lines_of}
 use Rattle.net_blif.specs.Statement.{Token}
 use Rattle.net_blif.specs.Models.{Reading, start, models_of, Says, next, ReadsLine, Reads, HasModel, BlifDesign}
-use Rattle.net_blif.specs.declared.statement.Statement.{Statement}
-use Rattle.net_blif.specs.declared.fault.BlifFault.{BlifFault}
 use Rattle.net_blif.specs.declared.fault.BlifFault.TheVariants.{NoModel, Syntax, LeftOut, TooWide, ModelTwice, OutOfMemory}
 use Rattle.net_blif.proofs.StatementLemmas.{spelled_same}
 

@@ -1,13 +1,13 @@
 -- What comes of a line.
-use Rattle.std.proofs.Common.{◌≡◌, ◌⊎◌, ◌∙◌, inl, inr, ap, sym, refl, subst, ℕ, zero, suc, ◌<◌, ◌≤◌, Bool, true, false, List, [], ◌∷◌, length, Option, None, Some, Result, Ok, Err, arith}
+use Rattle.std.proofs.Common.{◌≡◌, ◌⊎◌, ◌∙◌, inl, inr, ap, sym, refl, subst, ℕ, true, false, List, [], ◌∷◌, length, Option, None, Some, Ok, Err, arith}
 use Rattle.std.specs.Prelude.{All, IsTrue}
-use Rattle.net_blif.specs.Statement.{Token, IsToken, spelled, is_well}
+use Rattle.net_blif.specs.Statement.{Token, IsToken}
 use Rattle.net_blif.specs.Spelling.{statement_of}
 use Rattle.net_blif.specs.Models.{Reading, may_stand, next, ReadsLine}
 use Rattle.net_blif.specs.declared.statement.Statement.{Statement}
 use Rattle.net_blif.specs.declared.fault.BlifFault.{BlifFault}
 use Rattle.net_blif.specs.declared.fault.BlifFault.TheVariants.{Syntax}
-use Rattle.net_blif.proofs.StatementLemmas.{Spells, read_spells, spelled_read, spelled_same}
+use Rattle.net_blif.proofs.StatementLemmas.{read_spells, spelled_read, spelled_same}
 
 -- a line on which not all are tokens
 pub bad_token : (reading : Reading) (n : ℕ) (tokens : List Token) → (All IsToken tokens → ⊥) → ReadsLine reading n tokens (Err (Syntax n))

@@ -1,18 +1,18 @@
 -- Walks over net lists whose nets are found by their names.
-use Rattle.std.proofs.Common.{◌≡◌, ◌≢◌, ◌⊎◌, ◌∙◌, inl, inr, ap, sym, refl, subst, ℕ, zero, suc, ◌<◌, ◌≤◌, ◌+◌, ◌-◌, ◌^◌, Bool, true, false, cond, List, [], ◌∷◌, ◌++◌, map, length, take, drop, get_or, Option, None, Some, Result, Ok, Err, arith, drop-cons, add-one}
-use Rattle.std.specs.Prelude.{All, is_some, flat_map, unwrap_or, nat_le, slice_get}
+use Rattle.std.proofs.Common.{◌≡◌, ◌⊎◌, ◌∙◌, inl, inr, ap, sym, refl, subst, ℕ, zero, suc, ◌<◌, ◌+◌, ◌^◌, Bool, true, false, cond, List, [], ◌∷◌, ◌++◌, map, length, take, drop, get_or, Option, None, Some, Result, Ok, Err, arith, drop-cons, add-one}
+use Rattle.std.specs.Prelude.{All, is_some, flat_map, unwrap_or, nat_le}
 use Rattle.std.proofs.lemmas.Bool.{leb-true, le-leb}
-use Rattle.std.proofs.lemmas.List.{length_push, map_push}
+use Rattle.std.proofs.lemmas.List.{map_push}
 use Rattle.std.proofs.lemmas.List.Elements.{All-append, All-map}
 use Rattle.std.proofs.Math.Seq.{take-suc}
 use Rattle.net_core.specs.NetList.{NetList, LabelValue, nets, number_from, number_of, is_named, with_gate, with_label, with_name}
 use Rattle.net_core.specs.GateValue.{GateValue}
-use Rattle.net_core.specs.Inside.{HasNoMoreGates, IsFull, IsNetName}
+use Rattle.net_core.specs.Inside.{HasNoMoreGates, IsFull}
 use Rattle.net_core.specs.declared.fault.NetFault.{NetFault}
 use Rattle.net_core.specs.declared.fault.NetFault.TheVariants as faults
 use Rattle.net_core.proofs.NameLemmas.{number_kept}
 use Rattle.net_blif.specs.Statement.{Token}
-use Rattle.net_blif.specs.Flat.{Path, Top, Step, Mention, Input, Output, Gate, on_value}
+use Rattle.net_blif.specs.Flat.{Top, Step, Mention, Gate, on_value}
 use Rattle.net_blif.specs.NamedWalk.{after_named, gate_steps, mentions, name_of, named_gate, named_walk, number_in, HasEach, IsFaultOf}
 use Rattle.net_blif.specs.declared.flat_fault.FlatFault.{FlatFault}
 use Rattle.net_blif.specs.declared.flat_fault.FlatFault.TheVariants.{Net, OutOfMemory}

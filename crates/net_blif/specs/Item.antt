@@ -1,5 +1,5 @@
 -- What the lines of a model place, and which names and tables these have. Source: the Berkeley Logic Interchange Format (BLIF), University of California, Berkeley.
-use Rattle.std.specs.Prelude.{ℕ, ◌<◌, ◌≤◌, ◌^◌, List, length, All, ⊤}
+use Rattle.std.specs.Prelude.{◌<◌, ◌≤◌, ◌^◌, length, All, ⊤}
 use Rattle.net_core.specs.Inside.{IsNetName}
 use Rattle.net_blif.specs.declared.item.Item.{Item}
 use Rattle.net_blif.specs.declared.item.Item.TheVariants.{Inputs, Outputs, Gate}

@@ -1,4 +1,4 @@
-use Rattle.std.proofs.Common.{rules, ◌≡◌, ◌∙◌, ap, sym, false, Some}
+use Rattle.std.proofs.Common.{rules, ◌≡◌, false, Some}
 use Rattle.std.specs.Prelude.{is_some, string_bytes}
 use Rattle.std.specs.HashMap.{get_by_text}
 use Rattle.std.proofs.lemmas.Map.Text.{hash_map_updates_text}

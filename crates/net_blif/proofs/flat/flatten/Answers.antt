@@ -1,7 +1,7 @@
-use Rattle.std.proofs.Common.{rules, ◌≡◌, ◌⊎◌, ◌∙◌, ap, sym, subst, List, Ok, Err}
+use Rattle.std.proofs.Common.{rules, ◌≡◌, ◌⊎◌, subst, List, Ok, Err}
 use Rattle.std.specs.Prelude.{flat_map}
 use Rattle.net_core.specs.NetList.{empty}
-use Rattle.net_blif.specs.Flat.{Flattens, steps_of, walk_of}
+use Rattle.net_blif.specs.Flat.{Flattens, steps_of}
 use Rattle.net_blif.specs.NamedWalk.{IsFaultOf, named_walk}
 use Rattle.net_blif.specs.declared.item.Item.{Item}
 use Rattle.net_blif.specs.declared.flat_fault.FlatFault.TheVariants.{OutOfMemory}

@@ -1,9 +1,9 @@
-use Rattle.std.proofs.Common.{rules, ◌≡◌, ◌∙◌, ap, sym, subst, arith, ◌≤◌, ◌+◌, ℕ, List, [], ◌∷◌, take, drop, length, Ok, Some}
-use Rattle.std.specs.Prelude.{All, flat_map}
+use Rattle.std.proofs.Common.{rules, ◌≡◌, ◌∙◌, ap, sym, subst, ◌+◌, List, [], ◌∷◌, take, drop, length, Ok, Some}
+use Rattle.std.specs.Prelude.{flat_map}
 use Rattle.std.proofs.Math.Seq.{take-length}
 use Rattle.net_core.specs.NetList.{NetList, number_of}
 use Rattle.net_blif.specs.Statement.{Token}
-use Rattle.net_blif.specs.Flat.{Step, Top, Mention}
+use Rattle.net_blif.specs.Flat.{Top, Mention}
 use Rattle.net_blif.specs.NamedWalk.{HasEach, after_named, mentions, named_walk}
 use Rattle.net_blif.proofs.WalkLemmas.{each_more, made_element, made_step, mentions_flat, numbers_more}
 use Rattle.net_blif.proofs.flat.mention_all.Goals as goal

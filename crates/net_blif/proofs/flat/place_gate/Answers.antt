@@ -1,8 +1,6 @@
-use Rattle.std.proofs.Common.{rules, ◌≡◌, ◌∙◌, ap, sym, subst, ℕ, ◌<◌, List, ◌∷◌, [], map, Err}
-use Rattle.std.specs.Prelude.{All}
-use Rattle.net_core.specs.NetList.{nets}
+use Rattle.std.proofs.Common.{rules, ◌∙◌, ap, ◌∷◌, [], map, Err}
 use Rattle.net_blif.specs.Flat.{Top, Mention, Gate}
-use Rattle.net_blif.specs.NamedWalk.{IsFaultOf, gate_steps, mentions, named_walk, number_in}
+use Rattle.net_blif.specs.NamedWalk.{IsFaultOf, gate_steps, mentions, named_walk}
 use Rattle.net_blif.proofs.WalkLemmas.{gate_fault, gate_made, gate_numbers, gate_walked, number_inside, refused_front, refused_out}
 use Rattle.net_blif.proofs.flat.place_gate.Goals as goal
 

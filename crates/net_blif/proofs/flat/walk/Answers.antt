@@ -1,4 +1,4 @@
-use Rattle.std.proofs.Common.{rules, ◌≡◌, ◌∙◌, ap, sym}
+use Rattle.std.proofs.Common.{rules}
 use Rattle.std.specs.Prelude.{flat_map}
 use Rattle.net_core.specs.NetList.{empty}
 use Rattle.net_blif.specs.Flat.{steps_of}

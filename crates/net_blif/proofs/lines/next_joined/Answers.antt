@@ -1,6 +1,6 @@
-use Rattle.std.proofs.Common.{◌≡◌, ◌∙◌, ◌+◌, ◌∷◌, ◌++◌, [], ℕ, ap, refl, arith, cond, List, length}
+use Rattle.std.proofs.Common.{◌≡◌, ◌∙◌, ◌+◌, ◌∷◌, ◌++◌, [], ℕ, ap, refl, arith, List}
 use Rattle.std.specs.Str.Lines.{lines}
-use Rattle.net_blif.specs.Lines.{Numbered, join_first, joined}
+use Rattle.net_blif.specs.Lines.{join_first, joined}
 use Rattle.net_blif.proofs.LineLemmas.{join_more}
 use Rattle.net_blif.proofs.lines.next_joined.Goals as goal
 

@@ -1,4 +1,4 @@
-use Rattle.std.proofs.Common.{◌≡◌, ◌∙◌, sym, refl, arith, length}
+use Rattle.std.proofs.Common.{◌∙◌, sym, refl}
 use Rattle.net_blif.proofs.LineLemmas.{trim_at, trim_stays}
 use Rattle.net_blif.proofs.lines.trim_end.Goals as goal
 

@@ -1,4 +1,4 @@
-use Rattle.std.proofs.Common.{◌≡◌, ◌≤◌, ◌+◌, Result, length}
+use Rattle.std.proofs.Common.{◌≤◌, ◌+◌, Result, length}
 use Rattle.std.specs.Str.Lines.{lines}
 use Rattle.net_blif.specs.Lines.{joined, lines_of}
 use Rattle.net_blif.specs.Models.{Reading, Reads, start}

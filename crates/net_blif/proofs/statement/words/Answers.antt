@@ -1,4 +1,4 @@
-use Rattle.std.proofs.Common.{rules, ◌≡◌, ◌∙◌, sym, arith, ◌<◌, length}
+use Rattle.std.proofs.Common.{rules, ◌∙◌}
 use Rattle.net_blif.proofs.WordLemmas.{token_at, words_push, tokens_push}
 use Rattle.net_blif.proofs.statement.words.Goals as goal
 

@@ -1,9 +1,7 @@
-use Rattle.std.proofs.Common.{rules, ◌≡◌, ◌<◌, ◌+◌, ◌-◌, ◌++◌, ◌∷◌, [], ℕ, List, ap, ◌∙◌, sym, subst, arith, length, cond, Some}
+use Rattle.std.proofs.Common.{rules, ◌≡◌, ◌-◌, ℕ, List, length, cond, Some}
 use Rattle.std.specs.Prelude.{is_some}
 use Rattle.std.specs.Str.{bytes_eq}
 use Rattle.std.specs.HashMap.{get_by_text}
-use Rattle.net_blif.specs.Design.{ModelValue}
-use Rattle.net_blif.specs.Statement.{Token}
 use Rattle.net_blif.proofs.DesignLemmas.{numbered}
 use Rattle.net_blif.proofs.design.Design.with.Goals as goal
 

@@ -1,10 +1,9 @@
-use Rattle.std.proofs.Common.{rules, ◌≡◌, ◌⊎◌, ◌∙◌, inl, inr, sym, subst, ℕ, true, false, List, length, None, Some, Ok, Err, arith}
-use Rattle.std.specs.Prelude.{All, IsTrue}
+use Rattle.std.proofs.Common.{rules, ◌≡◌, ◌⊎◌, inr, subst, true, false, List, length, None, Some, Ok, Err}
+use Rattle.std.specs.Prelude.{All}
 use Rattle.text_core.specs.Lines.{tokens_of}
 use Rattle.net_blif.specs.Statement.{Token, IsToken}
 use Rattle.net_blif.specs.Spelling.{statement_of}
-use Rattle.net_blif.specs.Models.{ReadsLine, next, may_stand}
-use Rattle.net_blif.specs.declared.fault.BlifFault.{BlifFault}
+use Rattle.net_blif.specs.Models.{ReadsLine, may_stand}
 use Rattle.net_blif.specs.declared.fault.BlifFault.TheVariants.{Syntax, OutOfMemory}
 use Rattle.net_blif.proofs.ItemLemmas.{read_names}
 use Rattle.net_blif.proofs.ReadLemmas.{no_statement, misplaced, added, refused_or}
