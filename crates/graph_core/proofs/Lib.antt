@@ -1,0 +1,5 @@
+pub mod GraphLemmas
+pub mod GroundLemmas
+pub mod ListLemmas
+pub mod RingLemmas
+pub mod WalkLemmas

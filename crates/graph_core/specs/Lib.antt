@@ -1,0 +1,5 @@
+pub mod Graph
+pub mod Ring
+pub mod Arranged
+pub mod Fault
+pub mod Walking
