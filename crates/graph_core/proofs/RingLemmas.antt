@@ -3,7 +3,8 @@ use Rattle.std.proofs.Common.{◌≡◌, ◌∙◌, ap, sym, refl, inl, inr, sub
 use Rattle.std.proofs.lemmas.Option.{slice_get_within}
 use Rattle.std.specs.Prelude.{slice_get}
 use Rattle.graph_core.specs.Graph.{Graph, edges, IsPath}
-use Rattle.graph_core.specs.Ring.{IsGrounded, grounded, IsEndless, IsFirstEndless, IsWalk, IsRingOf}
+use Rattle.graph_core.specs.Walk.{IsWalkBy}
+use Rattle.graph_core.specs.Ring.{IsGrounded, grounded, IsEndless, IsFirstEndless, IsRingOf}
 use Rattle.graph_core.specs.Arranged.{IsArranged}
 use Rattle.graph_core.specs.Walking.{IsWalking, IsMet, StartsAt, EarlierAreGrounded}
 use Rattle.graph_core.specs.declared.walk.Mark.{Mark}
@@ -80,7 +81,7 @@ module _ (graph : Graph) (marks : List Mark) (front : List Frame) (f : Frame) (o
       (h.next, next, endless, λ j c less at. let low = (walk.frames k h got).1 j c less at in done_grounded graph marks (front ++ f ∷ []) order low.0 c walk low.1)
 
   -- the walk from the root to the edge that closes the ring
-  closing_walk : (root i : ℕ) (roots : List ℕ) → StartsAt root (front ++ f ∷ []) → EarlierAreGrounded graph roots root i → IsWalk graph roots (map (λ (h : Frame). h.point) (front ++ f ∷ []))
+  closing_walk : (root i : ℕ) (roots : List ℕ) → StartsAt root (front ++ f ∷ []) → EarlierAreGrounded graph roots root i → IsWalkBy (IsFirstEndless graph roots) (λ a b. IsFirstEndless graph (edges graph a) b) (map (λ (h : Frame). h.point) (front ++ f ∷ []))
   closing_walk root i roots starts earlier =
       record {
         begins = λ a got. let at = from_map (λ (h : Frame). h.point) (front ++ f ∷ []) 0 a got in
@@ -122,7 +123,7 @@ module _ (graph : Graph) (marks : List Mark) (front : List Frame) (f : Frame) (o
             let goal : b ≡ to = sym h.2 ∙ sym (ap (λ (x : Frame). x.point) top) ∙ found.2 in
             let own : a ≡ f.point = sym g.2 ∙ sym (ap (λ (x : Frame). x.point) same) in
             rw (own, goal) (first_endless (length front) f to here edge to_endless);
-        ring_is = ring_is ∙ drop_map_push (λ (h : Frame). h.point) p front f within;
+        loop_is = ring_is ∙ drop_map_push (λ (h : Frame). h.point) p front f within;
       }
     where
       length_more : (xs : List Frame) (x : Frame) → length (xs ++ x ∷ []) ≡ length xs + 1

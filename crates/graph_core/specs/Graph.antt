@@ -1,5 +1,6 @@
 -- Graphs: for each point, by its number, the list of the points to which its edges lead, in order.
-use Rattle.std.specs.Prelude.{◌≡◌, ℕ, ◌<◌, List, [], ◌∷◌, length, Some, slice_get, unwrap_or}
+use Rattle.std.specs.Prelude.{◌≡◌, ℕ, ◌<◌, List, [], length, Some, slice_get, unwrap_or}
+use Rattle.graph_core.specs.Walk.{IsChain, IsRingBy}
 
 abbrev pub Graph : Type 0
 Graph = List (List ℕ)
@@ -22,13 +23,11 @@ IsInside graph = (a b : ℕ) → HasEdge graph a b → b < length graph
 
 -- one or more edges lead from a over these points to b
 abbrev pub IsPath : Graph → ℕ → List ℕ → ℕ → Type 0
-IsPath graph a [] b = HasEdge graph a b
-IsPath graph a (c ∷ cs) b = HasEdge graph a c × IsPath graph c cs b
+IsPath graph = IsChain (HasEdge graph)
 
 -- one or more points, of which each leads to the next and the last to the first
 abbrev pub IsRing : Graph → List ℕ → Type 0
-IsRing graph [] = ⊥
-IsRing graph (a ∷ rest) = IsPath graph a rest a
+IsRing graph = IsRingBy (HasEdge graph)
 
 abbrev pub HasRing : Graph → Type 0
 HasRing graph = (ring : List ℕ) × IsRing graph ring

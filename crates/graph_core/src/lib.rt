@@ -4,8 +4,13 @@
 
 mod fault;
 mod graph;
+mod laws;
 mod walk;
 
 pub use fault::RingFault;
 pub use graph::Graph;
+pub use laws::{
+    grounded_leads_to_no_ring, order_has_no_ring, ring_of_roots_is_a_ring,
+    ring_of_roots_is_the_only_one,
+};
 pub use walk::arrange;
