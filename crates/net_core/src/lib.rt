@@ -3,13 +3,13 @@
 #![tactic(auto)]
 
 mod drivers;
+mod driving;
 mod fault;
 mod gate;
 mod label;
 mod latch;
 mod level_order;
 mod levels;
-mod loops;
 mod maker;
 mod name;
 mod net;

@@ -2,9 +2,9 @@ use Rattle.std.proofs.Common.{◌≡◌, ◌∙◌, arith, length-set, Some, ◌
 use Rattle.std.specs.Prelude.{slice_get}
 use Rattle.std.proofs.lemmas.Option.{slice_get_within}
 use Rattle.net_core.specs.GateValue.{GateValue}
-use Rattle.net_core.proofs.ListLemmas.{got_read}
-use Rattle.net_core.proofs.LoopLemmas.{positions_step}
-use Rattle.net_core.proofs.loops.positions.Goals as goal
+use Rattle.graph_core.proofs.ListLemmas.{got_read}
+use Rattle.net_core.proofs.LevelLemmas.{positions_step}
+use Rattle.net_core.proofs.levels.positions_by_net.Goals as goal
 
 pub loop-position-preserved : goal.loop-position-preserved
 loop-position-preserved c =
@@ -16,7 +16,7 @@ loop-position-preserved c =
       each = positions_step c.args.net.now c.loop-position.positions.items c.loop-position.position c.out.result g c.gates-gate-items.ensures.inside c.requires here c.out.ensures c.loop-position.invariant.long c.loop-position.invariant.each;
     }
 
-pub returns : goal.returns
-returns c = λ p g got.
+pub returns-clause-positions : goal.returns-clause-positions
+returns-clause-positions c = λ p g got.
     let past : length c.args.net.now.gates ≤ c.loop-position.position = rw c.gates-gate-items.ensures.gates at c.loop-position-test.false in
     c.loop-position.invariant.each p (omega (arith, slice_get_within c.args.net.now.gates p g got, past)) g got
