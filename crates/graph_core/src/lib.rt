@@ -14,3 +14,6 @@ pub use laws::{
     ring_of_roots_is_the_only_one,
 };
 pub use walk::arrange;
+
+#[cfg(test)]
+mod tests;
