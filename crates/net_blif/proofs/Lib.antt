@@ -1,1 +1,10 @@
-pub mod MentionLemmas
+pub mod DesignLemmas
+pub mod ItemLemmas
+pub mod LineLemmas
+pub mod WordLemmas
+pub mod StatementLemmas
+pub mod ReadLemmas
+pub mod WalkLemmas
+pub mod FlatLemmas
+pub mod TableLemmas
+pub mod OutcomeLemmas

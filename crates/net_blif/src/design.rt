@@ -1,68 +1,155 @@
-//! The models of a text.
-ghost use Rattle.std.specs.Prelude.{◌≡◌, ◌≤◌, ◌<◌, ◌^◌, length};
+//! Designs: the models of a text.
+ghost use Rattle.std.specs.Prelude.{◌≡◌, ℕ, List, is_some, if◌then◌else◌, ◌<◌, ◌++◌, ◌∷◌, [], Some, length, slice_get, All, IfOk, IfSome, IfNone, IsSome, None};
+ghost use Rattle.std.specs.Str.{bytes_eq};
+ghost use Rattle.indexmap.specs.IndexMap.{get_by_text};
+ghost use Rattle.net_blif.specs.Item.{IsSoundItem};
+ghost use Rattle.net_blif.specs.Design.{ModelValue, items_of, model_from, model_named};
 
-use net_core::{Name, Names};
+use crate::item::Item;
+use indexmap::IndexMap;
+use net_core::Name;
+use std::alloc::{AllocError, Global};
+use std::marker::Model;
 
-/// A cover, by what it says: the nets of its inputs, the net of its output, and its table.
-#[derive(Debug, Drop)]
-pub struct Cover {
-    pub inputs: Names,
-    pub out: Name,
-    pub table: u64,
-    ghost few: { length inputs ≤ 6 },
-    ghost within: { table < 2 ^ (2 ^ length inputs) },
+/// A model: its name, and what its lines place.
+#[derive(Drop)]
+pub struct ModelText {
+    name: Name,
+    items: Vec<Item>,
 }
 
-/// What a statement of a model says.
-#[derive(Debug, Drop)]
-pub enum Statement {
-    /// Primary inputs.
-    Inputs(Names),
-    /// Outputs.
-    Outputs(Names),
-    /// A gate.
-    Gate(Cover),
+impl Model for ModelText {
+    ghost use Rattle.std.specs.Prelude.{All};
+    ghost use Rattle.net_blif.specs.Item.{IsSoundItem};
+    ghost use Rattle.net_blif.specs.Design.{ModelValue};
+
+    ghost Value = { ModelValue };
+
+    ghost view = { λ m. record { name = m.name; items = m.items.items } };
+
+    ghost invariant = { λ m. All IsSoundItem m.items.items };
 }
 
-/// A model: its name, and its statements in order.
-#[derive(Debug, Drop)]
-pub struct Model {
-    pub name: Name,
-    pub statements: Vec<Statement>,
+impl ModelText {
+    /// A model of this name that places these.
+    pub fn new(name: Name, items: Vec<Item>) -> ModelText
+        requires { All IsSoundItem items.items }
+        ensures { result ≡ record { name = name; items = items.items } }
+    {
+        ModelText { name, items }
+    }
+
+    /// Its name, which may be empty.
+    pub fn name(&self) -> &str
+        ensures { result.now ≡ self.now.name }
+    {
+        self.name.as_str()
+    }
+
+    /// What its lines place, in order.
+    pub fn items(&self) -> &[Item]
+        ensures items { result.now ≡ self.now.items }
+        ensures sound { All IsSoundItem result.now }
+    {
+        self.items.as_slice()
+    }
 }
 
-/// The models of a text, of which the first is the top.
-#[derive(Debug, Drop)]
+/// The models of a text in BLIF, in order. Contracts see the list of models; model 0 is the top.
+#[derive(Drop)]
 pub struct Design {
-    model: Model,
+    models: Vec<ModelText>,
+    numbers: IndexMap<String, u32>,
+}
+
+impl Model for Design {
+    ghost use Rattle.std.specs.Prelude.{◌≡◌, ◌<◌, ◌^◌, List, ℕ, length};
+    ghost use Rattle.indexmap.specs.IndexMap.{get_by_text};
+    ghost use Rattle.net_blif.specs.Design.{ModelValue, model_from};
+
+    ghost Value = { List ModelValue };
+
+    ghost view = { λ d. d.models.items };
+
+    ghost invariant = { λ d. ((name : List ℕ) → get_by_text d.numbers name ≡ model_from 0 d.models.items name)
+        × (length d.models.items < 2 ^ 32) };
 }
 
 impl Design {
-    pub(crate) fn of_model(model: Model) -> Design {
-        Design { model }
-    }
-
-    /// How many models there are.
-    pub fn models(&self) -> u32 {
-        1
-    }
-
-    /// The model of this name.
-    pub fn model(&self, name: &str) -> Option<u32> {
-        if self.model.name.as_str() == name {
-            Some(0)
-        } else {
-            None
+    // A design without models. It takes no memory.
+    pub(crate) fn new(alloc: Global) -> Design
+        ensures { result ≡ [] }
+    {
+        Design {
+            models: Vec::new(alloc),
+            numbers: IndexMap::new(alloc),
         }
     }
 
-    /// The name of a model.
-    pub fn name(&self, _model: u32) -> &str {
-        self.model.name.as_str()
+    // The design with one more model.
+    pub(crate) fn with(self, alloc: Global, model: ModelText) -> Result<Design, AllocError>
+        ensures { IfOk result (λ design. design ≡ self ++ model ∷ []) }
+    {
+        let Design { models, numbers } = self;
+        let mut models = models;
+        let Ok(number) = u32::try_from(models.len() + 1) else {
+            return Err(AllocError);
+        };
+        let numbers = with_number(alloc, numbers, model.name(), number - 1)?;
+        models.push(model)?;
+        Ok(Design { models, numbers })
     }
 
-    // The statements of a model.
-    pub(crate) fn statements(&self, _model: u32) -> &[Statement] {
-        &self.model.statements
+    /// How many models there are.
+    pub fn models(&self) -> u32
+        ensures { result ≡ length self.now }
+    {
+        self.models.len() as u32
     }
+
+    /// The model of this name; none where no model has it.
+    pub fn model(&self, name: &str) -> Option<u32>
+        ensures { result ≡ model_named self.now name.now }
+    {
+        self.numbers.get(name).copied()
+    }
+
+    /// The name of a model, which may be empty.
+    pub fn name(&self, model: u32) -> &str
+        requires { model < length self.now }
+        ensures { (m : ModelValue) → slice_get self.now model ≡ Some m → result.now ≡ m.name }
+    {
+        self.models[model as usize].name()
+    }
+
+    // What the lines of a model place, in order.
+    pub(crate) fn items(&self, model: u32) -> &[Item]
+        ensures items { result.now ≡ items_of self.now model }
+        ensures sound { All IsSoundItem result.now }
+    {
+        match self.models.get(model as usize) {
+            Some(found) => found.items(),
+            None => &[],
+        }
+    }
+}
+
+// With this number for the name, unless it has one.
+fn with_number(
+    alloc: Global,
+    numbers: IndexMap<String, u32>,
+    name: &str,
+    number: u32,
+) -> Result<IndexMap<String, u32>, AllocError>
+    ensures { IfOk result (λ after. (q : List ℕ) → get_by_text after q
+        ≡ (if is_some (get_by_text numbers name.now) then get_by_text numbers q
+        else (if bytes_eq name.now q then Some number else get_by_text numbers q))) }
+{
+    if numbers.get(name).is_some() {
+        return Ok(numbers);
+    }
+    let mut after = numbers;
+    let key = String::from_str(alloc, name)?;
+    after.insert(key, number)?;
+    Ok(after)
 }

@@ -1,19 +1,30 @@
-//! Why a text or a model is refused.
+//! Faults of texts.
 ghost use Rattle.std.specs.Prelude.{◌≡◌};
 ghost use Rattle.net_blif.specs.declared.fault.BlifFault.TheVariants.{OutOfMemory};
-ghost use Rattle.net_blif.specs.declared.fault.FlatFault.TheVariants.{OutOfMemory as FlatOutOfMemory};
 
-use net_core::NetFault;
+use net_core::Name;
 use std::alloc::{AllocError, AllocFailed};
 use thiserror::Error;
 
-/// Why a text is refused.
+/// Why a text in BLIF is refused. A line is that of the first physical line of the joined one, from 1.
 #[derive(Debug, Drop, Error)]
 pub enum BlifFault {
-    /// The text is outside the form that is read.
-    #[error("the text is not read")]
-    NotRead,
-    /// Want of memory.
+    /// There is no statement, or the first is not `.model`.
+    #[error("no model")]
+    NoModel,
+    /// The line has a wrong byte or form, or stands where it may not.
+    #[error("syntax at line {line}")]
+    Syntax { line: u32 },
+    /// The line begins with a word that begins with `.` and is not read.
+    #[error("a word is left out at line {line}")]
+    LeftOut { line: u32, word: Name },
+    /// A `.names` has more than 6 inputs.
+    #[error("{inputs} inputs at line {line}")]
+    TooWide { line: u32, inputs: u32 },
+    /// An earlier model has the name of the one that begins here.
+    #[error("model twice at line {line}")]
+    ModelTwice { line: u32 },
+    /// There was no memory for what was read.
     #[error("out of memory")]
     OutOfMemory,
 }
@@ -31,44 +42,5 @@ impl<T: Drop> From<AllocFailed<T>> for BlifFault {
 
     fn from(_error: AllocFailed<T>) -> BlifFault {
         BlifFault::OutOfMemory
-    }
-}
-
-/// Why a model is no net.
-#[derive(Debug, Drop, Error)]
-pub enum FlatFault {
-    /// A name of the model is empty or has more than 255 bytes.
-    #[error("the model is not read")]
-    NotRead,
-    /// The net is refused.
-    #[error("the net is refused")]
-    Net(NetFault),
-    /// Want of memory.
-    #[error("out of memory")]
-    OutOfMemory,
-}
-
-impl From<NetFault> for FlatFault {
-    fn from(fault: NetFault) -> FlatFault {
-        match fault {
-            NetFault::OutOfMemory => FlatFault::OutOfMemory,
-            fault => FlatFault::Net(fault),
-        }
-    }
-}
-
-impl From<AllocError> for FlatFault {
-    ghost from_gives = { λ _ e. e ≡ FlatOutOfMemory };
-
-    fn from(_error: AllocError) -> FlatFault {
-        FlatFault::OutOfMemory
-    }
-}
-
-impl<T: Drop> From<AllocFailed<T>> for FlatFault {
-    ghost from_gives = { λ _ e. e ≡ FlatOutOfMemory };
-
-    fn from(_error: AllocFailed<T>) -> FlatFault {
-        FlatFault::OutOfMemory
     }
 }

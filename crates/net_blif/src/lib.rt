@@ -1,16 +1,24 @@
-//! Netlists in BLIF: the text is read into a design, and a model of the design is flattened into a net.
-//! What is read today is one model of gates, without comments and joined lines.
+//! Nets written in BLIF: what a text says, and the net of a model.
 #![tactic(auto)]
 
+mod cover;
 mod design;
 mod fault;
 mod flat;
+mod flat_fault;
+mod item;
+mod law;
 mod lines;
+mod open_model;
+mod read;
 mod reader;
+mod statement;
 #[cfg(test)]
 mod tests;
 
 pub use design::Design;
-pub use fault::{BlifFault, FlatFault};
+pub use fault::BlifFault;
 pub use flat::flatten;
-pub use reader::read_blif;
+pub use flat_fault::FlatFault;
+pub use law::{one_outcome, table_by_bits};
+pub use read::read_blif;

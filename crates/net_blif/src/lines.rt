@@ -1,64 +1,64 @@
-//! The lines of a text that have tokens.
-ghost use Rattle.std.specs.Prelude.{◌≡◌, ◌<◌, ◌≤◌, length, IfOk, IsSome};
+//! Lines as a last `\` joins them.
+ghost use Rattle.std.specs.Prelude.{◌≡◌, ◌∷◌, ◌+◌, ◌<◌, ◌≤◌, ℕ, length, IfOk, if◌then◌else◌};
+ghost use Rattle.std.specs.Str.Lines.{lines};
+ghost use Rattle.net_blif.specs.Lines.{clean as cleaned, goes_on as line_goes_on, is_trailing as trails, joined, trim_end as trimmed, without_last};
 
-use crate::fault::BlifFault;
-use std::alloc::Global;
-use text_core::{next_line, printing_text, tokens};
+use std::alloc::AllocError;
+use text_core::{before_comment, next_line};
 
-/// What is left of a text.
-#[derive(Drop)]
-pub struct Lines<'a> {
-    alloc: Global,
-    rest: &'a [u8],
-}
-
-impl<'a> Lines<'a> {
-    pub fn new(alloc: Global, text: &'a [u8]) -> Lines<'a> {
-        Lines { alloc, rest: text }
-    }
-
-    /// The tokens of the next line that has some.
-    pub fn next(&mut self) -> Result<Option<Vec<&'a str>>, BlifFault>
-        ensures { IfOk result (λ next. IsSome next → length self.new.rest.now < length self.old.rest.now) }
-    {
-        while !self.rest.is_empty() {
-            let (line, rest) = next_line(self.rest);
-            self.rest = rest;
-            let found = tokens(self.alloc, without_returns(line))?;
-            if !found.is_empty() {
-                return Ok(Some(texts(self.alloc, &found)?));
-            }
-        }
-        Ok(None)
-    }
+fn is_trailing(byte: u8) -> bool
+    ensures { result ≡ trails byte }
+{
+    byte == b' ' || byte == b'\t' || byte == b'\r'
 }
 
 // A line without the spaces, tabs and CR at its end.
-fn without_returns(line: &[u8]) -> &[u8] {
-    let mut end = line.len();
-    for i in 0..line.len() {
-        if !matches!(line[i], b' ' | b'\t' | b'\r') {
-            end = i + 1;
+fn trim_end(mut line: &[u8]) -> &[u8]
+    ensures { result.now ≡ trimmed line.entry.now }
+{
+    while let [front @ .., last] = line {
+        if !is_trailing(*last) {
+            return line;
         }
+        line = front;
     }
-    if end <= line.len() {
-        &line[..end]
-    } else {
-        line
+    line
+}
+
+// What a physical line says, and whether the next line is joined to it.
+fn part(line: &[u8]) -> (&[u8], bool)
+    ensures goes_on { result.1 ≡ line_goes_on (cleaned line.now) }
+    ensures front { result.0.now ≡ (if result.1 then without_last (cleaned line.now) else cleaned line.now) }
+{
+    match trim_end(before_comment(line)) {
+        [front @ .., b'\\'] => (front, true),
+        whole => (whole, false),
     }
 }
 
-// The texts of tokens, each of at most 255 bytes that print.
-fn texts<'a>(alloc: Global, tokens: &[&'a [u8]]) -> Result<Vec<&'a str>, BlifFault> {
-    let mut texts = Vec::new(alloc);
-    for token in tokens {
-        let Some(text) = printing_text(token) else {
-            return Err(BlifFault::NotRead);
-        };
-        if text.len() > 255 || text.contains('#') {
-            return Err(BlifFault::NotRead);
-        }
-        texts.push(text)?;
+/// Puts the first joined line of a text into `line`, and gives the text after it and the count of physical lines.
+pub fn next_joined<'a>(text: &'a [u8], line: &mut Vec<u8>) -> Result<(&'a [u8], u32), AllocError>
+    requires some { 0 < length text.now }
+    requires few { length text.now ≤ 67108864 }
+    ensures line { IfOk result (λ r. (n : ℕ) → joined n (lines text.now) ≡ (n, line.new.items) ∷ joined (n + r.1) (lines r.0.now)) }
+    ensures count { IfOk result (λ r. length r.0.now + r.1 ≤ length text.now) }
+    ensures shorter { IfOk result (λ r. length r.0.now < length text.now) }
+{
+    let (physical, after) = next_line(text);
+    let (front, more) = part(physical);
+    line.clear();
+    line.extend_from_slice(front)?;
+    let mut goes_on = more;
+    let mut rest = after;
+    let mut count = 1;
+    while goes_on && !rest.is_empty() {
+        let (physical, after) = next_line(rest);
+        let (front, more) = part(physical);
+        line.push(b' ')?;
+        line.extend_from_slice(front)?;
+        goes_on = more;
+        rest = after;
+        count += 1;
     }
-    Ok(texts)
+    Ok((rest, count))
 }

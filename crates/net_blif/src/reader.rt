@@ -1,219 +1,194 @@
-//! The reader of texts.
-ghost use Rattle.std.specs.Prelude.{◌≡◌, ◌<◌, ◌≤◌, ◌^◌, length, IfOk, IfSome};
+//! What was read of a text, line by line.
+ghost use Rattle.std.specs.Prelude.{◌≡◌, ◌⊎◌, ◌≤◌, ◌∷◌, [], None, Ok, Err, IfOk, IfErr, IsTrue, length, All};
+ghost use Rattle.text_core.specs.Lines.{tokens_of};
+ghost use Rattle.net_core.specs.Inside.{IsNetName};
+ghost use Rattle.net_blif.specs.Item.{HasNetNames, IsSoundItem};
+ghost use Rattle.net_blif.specs.Models.{in_model, with_cover_row, with_items, models_of, may_stand as may_stand_here, next as next_reading, start, ReadsLine};
 
-use crate::design::{Cover, Design, Model, Statement};
-use crate::fault::BlifFault;
-use crate::lines::Lines;
+use crate::BlifFault;
+use crate::cover::Cover;
+use crate::design::Design;
+use crate::item::Item;
+use crate::open_model::OpenModel;
+use crate::statement::{Statement, read_statement, words};
 use net_core::{Name, Names};
-use std::alloc::Global;
+use std::alloc::{AllocError, Global};
+use std::marker::Model;
 
-/// The rows of a cover so far: where a row fits, and the output of all rows.
-#[derive(Debug, Drop)]
-struct Rows {
-    inputs: Names,
-    out: Name,
-    fits: u64,
-    output: Option<bool>,
-    ghost few: { length inputs ≤ 6 },
-}
-
-/// A model in the reading.
+/// The models that have ended, and the one whose lines are being read.
 #[derive(Drop)]
-struct Reading {
-    alloc: Global,
-    statements: Vec<Statement>,
-    rows: Option<Rows>,
-    ended: bool,
+pub struct Reader {
+    design: Design,
+    model: Option<OpenModel>,
 }
 
-/// The design of a text of at most 67,108,864 bytes.
-pub fn read_blif(alloc: Global, bytes: &[u8]) -> Result<Design, BlifFault>
-    requires { length bytes.now ≤ 67108864 }
-{
-    let mut lines = Lines::new(alloc, bytes);
-    let name = read_model(alloc, &mut lines)?;
-    let mut reading = Reading {
-        alloc,
-        statements: Vec::new(alloc),
-        rows: None,
-        ended: false,
-    };
-    while let Some(tokens) = lines.next()? {
-        reading.read_line(&tokens)?;
-    }
-    reading.end_cover()?;
-    Ok(Design::of_model(Model {
-        name,
-        statements: reading.statements,
-    }))
+impl Model for Reader {
+    ghost use Rattle.net_blif.specs.Models.{Reading};
+
+    ghost Value = { Reading };
+
+    ghost view = { λ r. record { models = r.design; model = r.model } };
 }
 
-// The first statement, which begins the model.
-fn read_model(alloc: Global, lines: &mut Lines) -> Result<Name, BlifFault> {
-    let Some(tokens) = lines.next()? else {
-        return Err(BlifFault::NotRead);
-    };
-    match tokens.as_slice() {
-        [".model"] => Ok(Name::new(alloc, "")?),
-        [".model", name] => Ok(Name::new(alloc, name)?),
-        _ => Err(BlifFault::NotRead),
-    }
-}
-
-impl Reading {
-    // Takes a line.
-    fn read_line(&mut self, tokens: &[&str]) -> Result<(), BlifFault> {
-        if self.ended {
-            return Err(BlifFault::NotRead);
+impl Reader {
+    /// Nothing was read. It takes no memory.
+    pub fn new(alloc: Global) -> Reader
+        ensures { result ≡ start }
+    {
+        Reader {
+            design: Design::new(alloc),
+            model: None,
         }
-        match tokens {
-            [".inputs", names @ ..] => {
-                self.end_cover()?;
-                let names = names_of(self.alloc, names)?;
-                self.statements.push(Statement::Inputs(names))?;
-                Ok(())
+    }
+
+    /// The design, of which all lines were read.
+    pub fn finish(self, alloc: Global) -> Result<Design, AllocError>
+        ensures { IfOk result (λ design. design ≡ models_of self) }
+    {
+        let Reader { design, model } = self;
+        match model {
+            None => Ok(design),
+            Some(model) => {
+                let last = model.finish()?;
+                let design = design.with(alloc, last)?;
+                Ok(design)
             }
-            [".outputs", names @ ..] => {
-                self.end_cover()?;
-                let names = names_of(self.alloc, names)?;
-                self.statements.push(Statement::Outputs(names))?;
-                Ok(())
-            }
-            [".names", inputs @ .., out] => self.begin_cover(inputs, out),
-            [".end"] => {
-                self.end_cover()?;
-                self.ended = true;
-                Ok(())
-            }
-            _ => self.read_row(tokens),
         }
     }
 
-    // Begins a cover.
-    fn begin_cover(&mut self, inputs: &[&str], out: &str) -> Result<(), BlifFault> {
-        self.end_cover()?;
-        if inputs.len() > 6 {
-            return Err(BlifFault::NotRead);
+    // Whether the statement may stand here.
+    fn may_stand(&self, statement: &Statement) -> bool
+        ensures { result ≡ may_stand_here self.now statement.now }
+    {
+        match statement {
+            Statement::Model(_) => true,
+            Statement::Row { pattern, output } => match &self.model {
+                None => false,
+                Some(model) => model.takes(pattern.as_str(), *output),
+            },
+            _ => self.model.is_some(),
         }
-        self.rows = Some(Rows {
-            inputs: names_of(self.alloc, inputs)?,
-            out: Name::new(self.alloc, out)?,
-            fits: 0,
-            output: None,
-        });
-        Ok(())
     }
 
-    // Ends the cover that was begun, if there is one.
-    fn end_cover(&mut self) -> Result<(), BlifFault> {
-        if let Some(rows) = self.rows.take() {
-            self.statements.push(Statement::Gate(cover_of(rows)))?;
+    // With the model that begins here.
+    fn begin(self, alloc: Global, line: u32, name: Name) -> Result<Reader, BlifFault>
+        ensures read { IfOk result (λ reader. next_reading self line (Statement.Model name) ≡ Ok reader) }
+        ensures fault { IfErr result (λ e. (e ≡ BlifFault.OutOfMemory) ⊎ (next_reading self line (Statement.Model name) ≡ Err e)) }
+    {
+        let design = self.finish(alloc)?;
+        if design.model(name.as_str()).is_some() {
+            return Err(BlifFault::ModelTwice { line });
         }
-        Ok(())
+        Ok(Reader {
+            design,
+            model: Some(OpenModel::new(alloc, name)),
+        })
     }
 
-    // Takes a row of the cover that was begun.
-    fn read_row(&mut self, tokens: &[&str]) -> Result<(), BlifFault> {
-        let Some(rows) = self.rows.take() else {
-            return Err(BlifFault::NotRead);
+    // With what one more line of the model places.
+    fn place(self, item: Item) -> Result<Reader, AllocError>
+        requires { IsSoundItem item }
+        ensures { IfOk result (λ reader. reader ≡ in_model (with_items (item ∷ []) None) self) }
+    {
+        let Reader { design, model } = self;
+        let model = match model {
+            None => None,
+            Some(model) => Some(model.with_item(item)?),
         };
-        self.rows = Some(with_row(rows, tokens)?);
-        Ok(())
+        Ok(Reader { design, model })
     }
-}
 
-// The rows with one more.
-fn with_row(mut rows: Rows, tokens: &[&str]) -> Result<Rows, BlifFault> {
-    let (cells, output) = match tokens {
-        [output] => ("", *output),
-        [cells, output] => (*cells, *output),
-        _ => return Err(BlifFault::NotRead),
-    };
-    let output = match output {
-        "0" => false,
-        "1" => true,
-        _ => return Err(BlifFault::NotRead),
-    };
-    let count = rows.inputs.as_slice().len();
-    if cells.len() != count || rows.output.is_some_and(|other| other != output) {
-        return Err(BlifFault::NotRead);
+    // With a cover that begins, or with none.
+    fn turn_to(self, cover: Option<Cover>) -> Result<Reader, AllocError>
+        ensures { IfOk result (λ reader. reader ≡ in_model (with_items [] cover) self) }
+    {
+        let Reader { design, model } = self;
+        let model = match model {
+            None => None,
+            Some(model) => Some(model.with_cover(cover)?),
+        };
+        Ok(Reader { design, model })
     }
-    let Some(fits) = fits_of(cells.as_bytes()) else {
-        return Err(BlifFault::NotRead);
-    };
-    rows.fits |= fits;
-    rows.output = Some(output);
-    Ok(rows)
-}
 
-// The indices that fit a row of at most six characters `0`, `1` and `-`, as bits.
-fn fits_of(cells: &[u8]) -> Option<u64>
-    requires { length cells.now ≤ 6 }
-{
-    let mut fits = 0;
-    for index in 0..64u64 {
-        if index >> cells.len() == 0 && fits_at(cells, index)? {
-            fits |= 1u64 << index;
+    // With one more row.
+    fn with_row(self, pattern: Name, output: bool) -> Result<Reader, AllocError>
+        ensures { IfOk result (λ reader. reader ≡ in_model (with_cover_row pattern output) self) }
+    {
+        let Reader { design, model } = self;
+        let model = match model {
+            None => None,
+            Some(model) => Some(model.with_row(pattern, output)?),
+        };
+        Ok(Reader { design, model })
+    }
+
+    // With a cover of these nets that begins.
+    fn cover(self, alloc: Global, line: u32, inputs: Names, out: Name) -> Result<Reader, BlifFault>
+        requires inputs { All IsNetName inputs }
+        requires out { IsNetName out }
+        ensures read { IfOk result (λ reader. next_reading self line (Statement.Cover inputs out) ≡ Ok reader) }
+        ensures fault { IfErr result (λ e. (e ≡ BlifFault.OutOfMemory) ⊎ (next_reading self line (Statement.Cover inputs out) ≡ Err e)) }
+    {
+        let count = inputs.as_slice().len();
+        if count > 6 {
+            return Err(too_wide(line, count));
+        }
+        let reader = self.turn_to(Some(Cover::new(alloc, line, inputs, out)))?;
+        Ok(reader)
+    }
+
+    // With what one more statement says.
+    fn next(self, alloc: Global, line: u32, statement: Statement) -> Result<Reader, BlifFault>
+        requires { HasNetNames statement }
+        ensures read { IfOk result (λ reader. next_reading self line statement ≡ Ok reader) }
+        ensures fault { IfErr result (λ e. (e ≡ BlifFault.OutOfMemory) ⊎ (next_reading self line statement ≡ Err e)) }
+    {
+        match statement {
+            Statement::Model(name) => self.begin(alloc, line, name),
+            Statement::Inputs(nets) => Ok(self.place(Item::Inputs(nets))?),
+            Statement::Outputs(nets) => Ok(self.place(Item::Outputs(nets))?),
+            Statement::Clock(_) => Ok(self.turn_to(None)?),
+            Statement::Cover { inputs, out } => self.cover(alloc, line, inputs, out),
+            Statement::Row { pattern, output } => Ok(self.with_row(pattern, output)?),
+            Statement::End => {
+                let design = self.finish(alloc)?;
+                Ok(Reader {
+                    design,
+                    model: None,
+                })
+            }
+            Statement::Other { word, .. } => Err(BlifFault::LeftOut { line, word }),
         }
     }
-    Some(fits)
-}
 
-// Whether an index fits a row of characters `0`, `1` and `-`.
-fn fits_at(cells: &[u8], index: u64) -> Option<bool>
-    requires { length cells.now ≤ 6 }
-{
-    let mut fit = true;
-    for (i, cell) in cells.iter().enumerate() {
-        let bit = (index >> i) & 1;
-        match cell {
-            b'0' => fit = fit && bit == 0,
-            b'1' => fit = fit && bit == 1,
-            b'-' => {}
-            _ => return None,
+    /// With what one more line says.
+    pub fn read_line(self, alloc: Global, line: u32, bytes: &[u8]) -> Result<Reader, BlifFault>
+        ensures read { IfOk result (λ reader. ReadsLine self line (tokens_of bytes.now) (Ok reader)) }
+        ensures fault { IfErr result (λ e. (e ≡ BlifFault.OutOfMemory) ⊎ ReadsLine self line (tokens_of bytes.now) (Err e)) }
+    {
+        let Some(words) = words(alloc, bytes)? else {
+            return Err(BlifFault::Syntax { line });
+        };
+        if words.is_empty() {
+            return Ok(self);
         }
-    }
-    Some(fit)
-}
-
-// The cover of rows: constant 0 where there is no row.
-fn cover_of(rows: Rows) -> Cover {
-    let mask = table_mask(rows.inputs.as_slice().len());
-    let table = match rows.output {
-        None => 0,
-        Some(true) => rows.fits,
-        Some(false) => !rows.fits,
-    };
-    Cover {
-        inputs: rows.inputs,
-        out: rows.out,
-        table: table & mask,
+        let Some(statement) = read_statement(alloc, words)? else {
+            return Err(BlifFault::Syntax { line });
+        };
+        if !self.may_stand(&statement) {
+            return Err(BlifFault::Syntax { line });
+        }
+        let reader = self.next(alloc, line, statement)?;
+        Ok(reader)
     }
 }
 
-// The bits of the table of a gate.
-fn table_mask(inputs: usize) -> u64
-    requires { inputs ≤ 6 }
-    ensures { result < 2 ^ (2 ^ inputs) }
+// A `.names` of so many inputs. The count of names in memory is below 2^32.
+fn too_wide(line: u32, count: usize) -> BlifFault
+    ensures { (result ≡ BlifFault.OutOfMemory) ⊎ (result ≡ BlifFault.TooWide line count) }
 {
-    match inputs {
-        0 => 0x1,
-        1 => 0x3,
-        2 => 0xf,
-        3 => 0xff,
-        4 => 0xffff,
-        5 => 0xffff_ffff,
-        _ => u64::MAX,
+    match u32::try_from(count) {
+        Ok(inputs) => BlifFault::TooWide { line, inputs },
+        Err(_) => BlifFault::OutOfMemory,
     }
-}
-
-// The names of tokens.
-fn names_of(alloc: Global, tokens: &[&str]) -> Result<Names, BlifFault>
-    ensures { IfOk result (λ names. length names ≡ length tokens.now) }
-{
-    let mut names = Vec::new(alloc);
-    for token in tokens {
-        names.push(Name::new(alloc, token)?)?;
-    }
-    Ok(Names::new(names))
 }

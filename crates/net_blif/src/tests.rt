@@ -1,1 +1,158 @@
-//! Texts that are read and refused.
+//! Texts with what comes of them: faults in their order, and the nets of covers.
+use crate::{flatten, read_blif};
+use net_core::Net;
+use std::alloc::Global;
+use std::test::Fail;
+
+// The inputs and outputs of a net, and each gate with its inputs and table, all by number.
+fn net_text(alloc: Global, net: &Net) -> Result<String, Fail> {
+    let mut text = format!(in alloc; "{:?} {:?}", net.inputs(), net.outputs())?;
+    for gate in net.gates() {
+        let (out, inputs, table) = (gate.out(), gate.inputs(), gate.table());
+        let part = format!(in alloc; " {out}{inputs:?}={table:x}")?;
+        text.push_str(&part)?;
+    }
+    Ok(text)
+}
+
+// What comes of a text: the net of its top, or the fault.
+fn outcome(alloc: Global, text: &[u8]) -> Result<String, Fail> {
+    if text.len() > 67_108_864 {
+        return Ok(String::from_str(alloc, "long")?);
+    }
+    let design = match read_blif(alloc, text) {
+        Ok(design) => design,
+        Err(fault) => return Ok(format!(in alloc; "{fault:?}")?),
+    };
+    match flatten(alloc, &design, 0) {
+        Ok(net) => net_text(alloc, &net),
+        Err(fault) => Ok(format!(in alloc; "{fault:?}")?),
+    }
+}
+
+#[test]
+fn statements_and_faults(rt: HostRuntime) -> Result<(), Fail> {
+    let alloc = rt.alloc();
+    for (text, wanted) in [
+        ("", "NoModel"),
+        ("# .model a\n\n", "NoModel"),
+        ("foo\n", "NoModel"),
+        (".gate\n.model a\n", "NoModel"),
+        (".end\n", "NoModel"),
+        (".model\u{7f}\n", "Syntax { line: 1 }"),
+        ("foo\n.model a\n", "Syntax { line: 1 }"),
+        (".model\n", "[] []"),
+        (".model a", "[] []"),
+        (".model a b\n", "Syntax { line: 1 }"),
+        (".model a\n.end\n", "[] []"),
+        (".model a\n.end b\n", "Syntax { line: 2 }"),
+        (".model a\n.end\n.inputs b\n", "Syntax { line: 3 }"),
+        (".model a\n.end\n1\n", "Syntax { line: 3 }"),
+        (".model a\n.end\n.gate\n", "Syntax { line: 3 }"),
+        (".model a\n.end\n.model b\n", "[] []"),
+        (".model a\n.end\n.model a\n", "ModelTwice { line: 3 }"),
+        (".model\n.model b\n.model\n", "ModelTwice { line: 3 }"),
+        (".model a\n.inputs\n.outputs\n.clock\n.clock c d\n", "[] []"),
+        (
+            ".model a\n.inputs x\n.inputs y z\n.outputs y\n",
+            "[0, 1, 2] [1]",
+        ),
+        (
+            ".model a\n.gate nand\n",
+            "LeftOut { line: 2, word: Name { text: \".gate\" } }",
+        ),
+        (
+            ".model a\n.latch b c\n.names\n",
+            "LeftOut { line: 2, word: Name { text: \".latch\" } }",
+        ),
+        (".model a\n.subckt \u{80}\n.names\n", "Syntax { line: 2 }"),
+        (".model a\n.names\n", "Syntax { line: 2 }"),
+        (
+            ".model a\n.names a b c d e f g h\n1 1\n",
+            "TooWide { line: 2, inputs: 7 }",
+        ),
+        (".model a\n.names a # \u{0}\u{80}\n", "[] [] 0[]=0"),
+        (".model a\n.names a\u{0}\n", "Syntax { line: 2 }"),
+        (
+            ".model a\n.inputs x \\\n\\\ny # c\n.names\n",
+            "Syntax { line: 5 }",
+        ),
+        (".model a \\ # b\n.inputs\n", "Syntax { line: 1 }"),
+        (".model a\\", "[] []"),
+        (".model a\r\n.inputs x \r", "[0] []"),
+        (".model a\n.inputs\rx\n", "Syntax { line: 2 }"),
+    ] {
+        let found = outcome(alloc, text.as_bytes())?;
+        assert_eq!(rt; found.as_str(), wanted, "at {text}");
+    }
+    Ok(())
+}
+
+#[test]
+fn covers(rt: HostRuntime) -> Result<(), Fail> {
+    let alloc = rt.alloc();
+    for (rows, wanted) in [
+        (".names z\n", "0[]=0"),
+        (".names z\n1\n", "0[]=1"),
+        (".names z\n0\n0\n", "0[]=0"),
+        (".names a z\n1 1\n", "1[0]=2"),
+        (".names a z\n1 0\n", "1[0]=1"),
+        (".names a b z\n10 1\n", "2[0, 1]=2"),
+        (".names a b z\n1- 1\n", "2[0, 1]=a"),
+        (".names a b z\n10 1\n01 1\n10 1\n", "2[0, 1]=6"),
+        (".names a b z\n11 0\n", "2[0, 1]=7"),
+        (".names a a z\n11 1\n", "1[0, 0]=8"),
+        (".names a b c z\n--1 1\n", "3[0, 1, 2]=f0"),
+        (".names a b c d z\n1111 1\n", "4[0, 1, 2, 3]=8000"),
+        (".names a b c d e z\n11111 1\n", "5[0, 1, 2, 3, 4]=80000000"),
+        (
+            ".names a b c d e f z\n000000 0\n",
+            "6[0, 1, 2, 3, 4, 5]=fffffffffffffffe",
+        ),
+        (
+            ".names a b z # c\n1\\\n0 \\ \n 1 # d\n",
+            "Syntax { line: 3 }",
+        ),
+        (".names a b z # c\n10 \\ \n 1 # d\n", "2[0, 1]=2"),
+        (".names a b z\n1 1\n", "Syntax { line: 3 }"),
+        (".names a b z\n1x 1\n", "Syntax { line: 3 }"),
+        (".names a b z\n11\n", "Syntax { line: 3 }"),
+        (".names a b z\n11 2\n", "Syntax { line: 3 }"),
+        (".names a z\n1 1\n0 0\n", "Syntax { line: 4 }"),
+        (".names a z\n.clock\n1 1\n", "Syntax { line: 4 }"),
+    ] {
+        let text = format!(in alloc; ".model m\n{rows}.inputs a b c d e f\n")?;
+        let found = outcome(alloc, text.as_bytes())?;
+        let inside = found.as_str().contains(wanted);
+        assert!(rt; inside, "at {rows}: {found}");
+    }
+    Ok(())
+}
+
+#[test]
+fn long_tokens(rt: HostRuntime) -> Result<(), Fail> {
+    let alloc = rt.alloc();
+    for (length, wanted) in [(255u32, "[] []"), (256, "Syntax { line: 1 }")] {
+        let mut text = String::from_str(alloc, ".model ")?;
+        for _ in 0..length {
+            text.push('a')?;
+        }
+        let found = outcome(alloc, text.as_bytes())?;
+        assert_eq!(rt; found.as_str(), wanted, "at {length}");
+    }
+    Ok(())
+}
+
+#[test]
+fn models(rt: HostRuntime) -> Result<(), Fail> {
+    let alloc = rt.alloc();
+    let design = read_blif(alloc, b".model top\n.model b\n.names z\n1\n.end\n")?;
+    assert_eq!(rt; design.models(), 2);
+    assert_eq!(rt; design.name(1), "b");
+    assert_eq!(rt; design.model("b"), Some(1));
+    assert_eq!(rt; design.model("c"), None);
+    let net = flatten(alloc, &design, 1)?;
+    assert_eq!(rt; net.find("z"), Some(0));
+    assert_eq!(rt; net.nets(), 1);
+    Ok(())
+}

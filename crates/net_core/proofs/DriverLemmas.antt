@@ -10,7 +10,7 @@ use Rattle.net_core.specs.Lists.{Has, times}
 use Rattle.net_core.specs.NetList.{NetList, nets}
 use Rattle.net_core.specs.Inside.{IsInside, GateIsInside}
 use Rattle.net_core.specs.Sound.{sources, driven, HasOneDriverEach}
-use Rattle.net_core.proofs.ListLemmas.{get_front}
+use Rattle.graph_core.proofs.ListLemmas.{get_front}
 
 pub times_append : (n : ℕ) (xs ys : List ℕ) → times n (xs ++ ys) ≡ times n xs + times n ys
 times_append n [] ys = omega arith

@@ -15,7 +15,7 @@ use Rattle.net_core.specs.Level.{Levels, level_at, level_from, level_over, AreLe
 use Rattle.net_core.specs.Levelled.{AllHaveLevels, AreRight}
 use Rattle.net_core.specs.Order.{rank_at, IsBefore, IsOrder}
 use Rattle.net_core.specs.Value.{bit_of, index_of, IsRight, IsConsistent, HasValues}
-use Rattle.net_core.proofs.ListLemmas.{got_at, get_below, get_set_same, get_set_other}
+use Rattle.graph_core.proofs.ListLemmas.{got_at, get_below, get_set_same, get_set_other}
 use Rattle.net_core.proofs.DriverLemmas.{driver_of, Has_cases, All_has, times_two, times_append, gate_inside, gates_apart, source_no_gate, Has_left}
 use Rattle.net_core.proofs.LevelLemmas.{nat_eq_or, level_within, level_from_above}
 use Rattle.net_core.proofs.OrderLemmas.{before_all}
@@ -127,7 +127,7 @@ input_step net values bits i n inside one long here is each k less m v input val
         let first : slice_get net.inputs k ≡ Some n = input ∙ ap Some e in
         omega (arith, one n within, times_two n net.inputs k i first got lower, times_append n net.inputs (map (λ l. l.out) net.latches), times_append n (sources net) (map (λ g. g.out) net.gates))
 
-over_agree : (a b : Levels) (m : ℕ) (ns : List ℕ) → ((k n : ℕ) → slice_get ns k ≡ Some n → level_at b n ≡ level_at a n) → level_from b m ns ≡ level_from a m ns
+pub over_agree : (a b : Levels) (m : ℕ) (ns : List ℕ) → ((k n : ℕ) → slice_get ns k ≡ Some n → level_at b n ≡ level_at a n) → level_from b m ns ≡ level_from a m ns
 over_agree a b m [] same = refl
 over_agree a b m (n ∷ ns) same =
     rw (same 0 n refl)
@@ -135,31 +135,6 @@ over_agree a b m (n ∷ ns) same =
       | None ↦ refl
       | Some l ↦ over_agree a b (max m (l + 1)) ns (λ k n' got. same (suc k) n' got)
     ])
-
--- levels are determined where each gate has one
-levels_agree : (net : NetList) (a b : Levels) → HasOneDriverEach net → AllHaveLevels net a → AreLevels net b → (fuel n l : ℕ) → l < fuel → level_at a n ≡ Some l → level_at b n ≡ Some l
-levels_agree net a b one all are zero n l less is = absurd (omega arith)
-levels_agree net a b one all are (suc fuel) n l less is =
-    let below : n < nets net = omega (arith, level_within a n l is, all.0.long) in
-    elim (driver_of net n one below) [
-      | inl source ↦ are.sources n source ∙ (sym (all.0.sources n source) ∙ is)
-      | inr found ↦
-          let g : GateValue = found.0 in
-          let over : level_over a g.inputs ≡ Some l = sym (all.0.gates g found.1) ∙ (ap (level_at a) found.2 ∙ is) in
-          let above = (level_from_above a l 1 g.inputs over).1 in
-          let same : level_over b g.inputs ≡ level_over a g.inputs = over_agree a b 1 g.inputs (λ k m got. let low = above k m got in levels_agree net a b one all are fuel m low.0 (omega (arith, low.2)) low.1 ∙ sym low.1) in
-          sym (ap (level_at b) found.2) ∙ (are.gates g found.1 ∙ (same ∙ over))
-    ]
-
-pub all_levels : (net : NetList) (a b : Levels) → HasOneDriverEach net → AllHaveLevels net a → AreLevels net b → AllHaveLevels net b
-all_levels net a b one all are = (
-  are,
-  λ g has none.
-      elim (level_at a g.out) as (λ o. level_at a g.out ≡ o → ⊥) [
-        | None ↦ λ e. all.1 g has e
-        | Some l ↦ λ e. let there = levels_agree net a b one all are (suc l) g.out l (omega arith) e in absurd (cc)
-      ] refl,
-)
 
 index_agree : (v w : List Bool) (ns : List ℕ) → ((k n : ℕ) → slice_get ns k ≡ Some n → bit_of v n ≡ bit_of w n) → index_of v ns ≡ index_of w ns
 index_agree v w [] same = refl

@@ -1,20 +1,24 @@
 -- Steps of levels.
-use Rattle.std.proofs.Common.{◌≡◌, ◌≢◌, ◌⊎◌, ◌∙◌, ap, sym, refl, inl, inr, ℕ, zero, suc, ◌<◌, ◌≤◌, ◌+◌, max, List, [], ◌∷◌, length, drop, get_or, Option, None, Some, arith, length-set, drop-cons}
+use Rattle.std.proofs.Common.{◌≡◌, ◌≢◌, ◌⊎◌, ◌∙◌, ap, sym, refl, inl, inr, subst, ℕ, zero, suc, ◌<◌, ◌≤◌, ◌+◌, max, List, [], ◌∷◌, length, drop, get_or, Option, None, Some, arith, length-set, drop-cons}
 use Rattle.std.specs.Prelude.{slice_get, unwrap_or, option_and_then, All, map}
 use Rattle.std.proofs.lemmas.List.Sums.{sum_by-cons}
 use Rattle.std.proofs.lemmas.List.Elements.{All-append, All-map, All-weaker}
 use Rattle.std.proofs.Math.ListN.{set}
 use Rattle.std.proofs.lemmas.Bool.Decides.{eqb_tells}
-use Rattle.std.proofs.lemmas.Option.{slice_get_within}
+use Rattle.std.proofs.lemmas.Option.{slice_get_within, get_or_from_slice_get}
+use Rattle.graph_core.specs.Graph.{Graph, edges}
+use Rattle.graph_core.specs.Arranged.{IsArranged}
 use Rattle.net_core.specs.GateValue.{GateValue}
 use Rattle.net_core.specs.Lists.{Has}
 use Rattle.net_core.specs.NetList.{NetList, nets}
 use Rattle.net_core.specs.Inside.{IsInside, GateIsInside, LatchIsInside}
 use Rattle.net_core.specs.Sound.{sources, driven, HasOneDriverEach}
 use Rattle.net_core.specs.Level.{Levels, level_at, level_from, level_over, AreLevels}
-use Rattle.net_core.specs.Partial.{ArePartial, lack, lacking}
-use Rattle.net_core.proofs.ListLemmas.{get_set_same, get_below, sum_by-set_at}
-use Rattle.net_core.proofs.DriverLemmas.{source_no_gate, gates_apart, gate_inside}
+use Rattle.net_core.specs.Levelled.{AllHaveLevels}
+use Rattle.net_core.specs.Driving.{IsGraphOf, roots_of}
+use Rattle.net_core.specs.Partial.{ArePartial, ArePositions, AreKnown, KeepsLevels, lack, lacking}
+use Rattle.graph_core.proofs.ListLemmas.{get_set_same, get_set_other, get_below, sum_by-set_at}
+use Rattle.net_core.proofs.DriverLemmas.{driver_of, Has_left, Has_map, source_no_gate, gates_apart, gate_inside}
 
 pub nat_eq_or : (a b : ℕ) → (a ≡ b) ⊎ (a ≢ b)
 nat_eq_or a b = elim (eqb_tells a b) [ inl w ↦ inl w.1 | inr w ↦ inr w.1 ]
@@ -144,3 +148,92 @@ sources_inside net inside = All-append (λ n. n < nets net) net.inputs (map (λ 
 
 pub driven_inside : (net : NetList) → IsInside net → All (λ n. n < nets net) (driven net)
 driven_inside net inside = All-append (λ n. n < nets net) (sources net) (map (λ g. g.out) net.gates) (sources_inside net inside) (All-map (λ n. n < nets net) (λ g. g.out) net.gates (All-weaker (GateIsInside (nets net)) (λ g. g.out < nets net) (λ g h. h.0) net.gates inside.gates))
+
+pub raised_set : (net : NetList) (levels : Levels) (p v : ℕ) (g : GateValue) (out : ℕ) → slice_get net.gates p ≡ Some g → level_over levels g.inputs ≡ Some v → out ≡ g.out → (h : GateValue) (l : ℕ) → slice_get net.gates p ≡ Some h → level_over levels h.inputs ≡ Some l → set levels out (Some v) ≡ set levels h.out (Some l)
+raised_set net levels p v g out gate over is h l gate' over' =
+    let whole : g ≡ h = cc in
+    let over'' : level_over levels h.inputs ≡ Some v = ap (λ (x : GateValue). level_over levels x.inputs) (sym whole) ∙ over in
+    let value : v ≡ l = cc in
+    let place : out ≡ h.out = is ∙ ap (λ (x : GateValue). x.out) whole in
+    rw (place, value) refl
+
+pub positions_step : (net : NetList) (positions : List ℕ) (p out : ℕ) (g : GateValue) → IsInside net → HasOneDriverEach net → slice_get net.gates p ≡ Some g → out ≡ g.out → length positions ≡ nets net → ((q : ℕ) → q < p → (h : GateValue) → slice_get net.gates q ≡ Some h → slice_get positions h.out ≡ Some q) → (q : ℕ) → q < p + 1 → (h : GateValue) → slice_get net.gates q ≡ Some h → slice_get (set positions out p) h.out ≡ Some q
+positions_step net positions p out g inside one here is long each q less h got =
+    elim (nat_eq_or q p) [
+      | inl same ↦ let got' : slice_get net.gates p ≡ Some h = rw same at got in
+          let whole : g ≡ h = cc in
+          let within : out < length positions = rw is (omega (arith, (gate_inside net g inside (p, here)).0)) in
+          let was = get_below positions out within in
+          let outs : h.out ≡ out = rw (← whole) (sym is) in
+          rw (outs, same) (get_set_same positions out was.0 p was.1)
+      | inr other ↦ get_set_other positions out p h.out q (λ e. other (gates_apart net q p h g inside one got here (e ∙ is))) (each q (omega arith) h got)
+    ]
+
+-- the position of the gate that drives a net which is no source
+pub position_of : (net : NetList) (levels : Levels) (positions : List ℕ) (done a : ℕ) → HasOneDriverEach net → ArePartial net levels done → ArePositions net positions → a < nets net → level_at levels a ≡ None → (p : ℕ) × (g : GateValue) × (slice_get net.gates p ≡ Some g) × (g.out ≡ a) × (slice_get positions a ≡ Some p)
+position_of net levels positions done a one partial at less none =
+    elim (driver_of net a one less) [
+      | inl source ↦ let zero' = partial.sources a source in absurd (cc)
+      | inr found ↦ let here = at found.1.0 found.0 found.1.1 in (found.1.0, found.0, found.1.1, found.2, ap (slice_get positions) (sym found.2) ∙ here)
+    ]
+
+-- the position that is kept for such a net
+pub position_is : (net : NetList) (levels : Levels) (positions : List ℕ) (done a : ℕ) → HasOneDriverEach net → ArePartial net levels done → ArePositions net positions → a < nets net → level_at levels a ≡ None → (a < length positions) × ((g : GateValue) × (slice_get net.gates (get_or positions a 0) ≡ Some g) × (g.out ≡ a))
+position_is net levels positions done a one partial at less none =
+    let found = position_of net levels positions done a one partial at less none in
+    let place : get_or positions a 0 ≡ found.0 = get_or_from_slice_get positions a found.0 0 found.4 in
+    (slice_get_within positions a found.0 found.4, (found.1, ap (slice_get net.gates) place ∙ found.2, found.3))
+
+pub known_over : (levels : Levels) (m : ℕ) (ns : List ℕ) → AreKnown levels ns → (v : ℕ) × (level_from levels m ns ≡ Some v)
+known_over levels m [] known = (m, refl)
+known_over levels m (n ∷ ns) known =
+    elim (level_at levels n) as (λ o. level_at levels n ≡ o → (v : ℕ) × (option_and_then (λ l. level_from levels (max m (l + 1)) ns) o ≡ Some v)) [
+      | None ↦ λ e. absurd (known 0 n refl e)
+      | Some l ↦ λ e. known_over levels (max m (l + 1)) ns (λ k x got. known (suc k) x got)
+    ] refl
+
+pub keeps_set : (levels : Levels) (i v : ℕ) → level_at levels i ≡ None → KeepsLevels levels (set levels i (Some v))
+keeps_set levels i v none n l is = elim (nat_eq_or n i) [
+  | inl same ↦ let is' : level_at levels i ≡ Some l = ap (level_at levels) (sym same) ∙ is in absurd (cc)
+  | inr other ↦ level_set_other levels i (Some v) n other ∙ is
+]
+
+pub known_kept : (old new : Levels) (n : ℕ) → KeepsLevels old new → (level_at old n ≡ None → ⊥) → level_at new n ≡ None → ⊥
+known_kept old new n keeps known none =
+    elim (level_at old n) as (λ o. level_at old n ≡ o → ⊥) [
+      | None ↦ λ e. known e
+      | Some l ↦ λ e. let there = keeps n l e in cc
+    ] refl
+
+-- the gate's level was set
+pub raised_known : (levels new : Levels) (g : GateValue) (a : ℕ) → g.out ≡ a → a < length levels → level_at levels a ≡ None → AreKnown levels g.inputs → ((l : ℕ) → level_over levels g.inputs ≡ Some l → new ≡ set levels g.out (Some l)) → KeepsLevels levels new × (level_at new a ≡ None → ⊥)
+raised_known levels new g a out less none known raised =
+    let over = known_over levels 1 g.inputs known in
+    let is : new ≡ set levels a (Some over.0) = raised over.0 over.1 ∙ ap (λ n. set levels n (Some over.0)) out in
+    let P : Levels → Type 0 = λ ls. KeepsLevels levels ls × (level_at ls a ≡ None → ⊥) in
+    subst P (sym is) (keeps_set levels a over.0 none, λ e. let there = level_set_same levels a (Some over.0) less in cc)
+
+-- the inputs of a gate stand before its net in an order
+pub inputs_known : (net : NetList) (graph : Graph) (levels : Levels) (roots order : List ℕ) (i point : ℕ) → IsGraphOf net graph → IsArranged graph roots order → slice_get order i ≡ Some point → ((j n : ℕ) → j < i → slice_get order j ≡ Some n → level_at levels n ≡ None → ⊥) → (g : GateValue) → Has net.gates g → g.out ≡ point → AreKnown levels g.inputs
+inputs_known net graph levels roots order i point is arranged at known g has out k n got =
+    let same : edges graph point ≡ g.inputs = ap (edges graph) (sym out) ∙ is.gates g has in
+    let low = arranged.after i point n at (k, ap (λ ns. slice_get ns k) same ∙ got) in
+    known low.0 n low.1 low.2
+
+-- where all nets of an order have levels, each gate has
+pub all_levels_found : (net : NetList) (graph : Graph) (levels : Levels) (order : List ℕ) (done i : ℕ) → IsArranged graph (roots_of net) order → ArePartial net levels done → ((j n : ℕ) → j < i → slice_get order j ≡ Some n → level_at levels n ≡ None → ⊥) → length order ≤ i → AllHaveLevels net levels
+all_levels_found net graph levels order done i arranged partial known past =
+    (all_found net levels done partial (λ p g got. right_level net levels done p g partial got (each g (p, got))), each)
+  where
+    each : (g : GateValue) → Has net.gates g → level_at levels g.out ≡ None → ⊥
+    each g has =
+        let root : Has (roots_of net) g.out = Has_left (map (λ (h : GateValue). h.out) net.gates) (sources net) g.out (Has_map (λ (h : GateValue). h.out) net.gates g has) in
+        let at = arranged.has_roots g.out root in
+        known at.0 g.out (omega (arith, slice_get_within order at.0 g.out at.1, past)) at.1
+
+pub known_step : (old new : Levels) (order : List ℕ) (i point : ℕ) → slice_get order i ≡ Some point → KeepsLevels old new → (level_at new point ≡ None → ⊥) → ((j n : ℕ) → j < i → slice_get order j ≡ Some n → level_at old n ≡ None → ⊥) → (j n : ℕ) → j < i + 1 → slice_get order j ≡ Some n → level_at new n ≡ None → ⊥
+known_step old new order i point at keeps here known j n less got =
+    elim (nat_eq_or j i) [
+      | inl same ↦ let got' : slice_get order i ≡ Some n = ap (slice_get order) (sym same) ∙ got in let e : point ≡ n = cc in subst (λ (m : ℕ). level_at new m ≡ None → ⊥) e here
+      | inr other ↦ known_kept old new n keeps (known j n (omega arith) got)
+    ]

@@ -1,7 +1,8 @@
 pub mod DriverLemmas
+pub mod DrivingLemmas
 pub mod EvalLemmas
+pub mod LawLemmas
 pub mod LevelLemmas
-pub mod ListLemmas
 pub mod LoopLemmas
 pub mod NameLemmas
 pub mod OrderLemmas

@@ -1,175 +1,153 @@
--- Steps of a walk over gates without levels.
-use Rattle.std.proofs.Common.{◌≡◌, ◌∙◌, ap, sym, refl, inl, inr, ℕ, zero, suc, ◌<◌, ◌+◌, max, Bool, true, false, cond, List, [], ◌∷◌, ◌++◌, length, take, drop, get_or, Option, None, Some, arith, length-set, length-drop, ◌-◌}
-use Rattle.std.specs.Prelude.{slice_get, option_and_then, find, is_none}
-use Rattle.std.proofs.Math.ListN.{set}
-use Rattle.std.proofs.Math.Seq.{take-length}
-use Rattle.std.proofs.lemmas.Option.{slice_get_within, get_or_from_slice_get}
+-- Levels, grounded nets and loops.
+use Rattle.std.proofs.Common.{◌≡◌, ◌⊎◌, ◌∙◌, ap, sym, refl, inl, inr, subst, ℕ, zero, suc, ◌<◌, List, [], ◌∷◌, ◌++◌, length, map, Option, None, Some, arith}
+use Rattle.std.specs.Prelude.{slice_get, All}
+use Rattle.std.proofs.lemmas.Option.{slice_get-map}
+use Rattle.std.proofs.lemmas.List.Elements.{All-append, All-map, All-weaker}
+use Rattle.graph_core.specs.Graph.{Graph, edges, HasEdge}
+use Rattle.graph_core.specs.Ring.{IsGrounded, grounded, IsFirstEndless, IsRingOf}
+use Rattle.graph_core.specs.Fault.{IsRingFault}
+use Rattle.graph_core.specs.declared.fault.RingFault.{RingFault}
+use Rattle.graph_core.specs.declared.fault.RingFault.TheVariants.{Ring, OutOfMemory}
 use Rattle.net_core.specs.GateValue.{GateValue}
 use Rattle.net_core.specs.Lists.{Has}
 use Rattle.net_core.specs.NetList.{NetList, nets}
-use Rattle.net_core.specs.Inside.{IsInside}
-use Rattle.net_core.specs.Sound.{HasOneDriverEach, Needs, IsPath, HasRing}
-use Rattle.net_core.specs.Level.{Levels, level_at, level_from, level_over, AreLevels}
-use Rattle.net_core.specs.Loop.{LeadsTo, IsBegin, IsLoop}
-use Rattle.net_core.specs.Walking.{ArePositions, IsWalking, unmet, count_unmet}
-use Rattle.net_core.proofs.ListLemmas.{got_read, got_push, get_here, got_set, get_set_other, get_set_same, get_below, sum_by-set_at, length-push}
-use Rattle.net_core.proofs.DriverLemmas.{driver_of, gates_apart, gate_inside, Has_left, Has_cases}
-use Rattle.net_core.proofs.LevelLemmas.{nat_eq_or, level_from_above}
+use Rattle.net_core.specs.Inside.{IsInside, GateIsInside}
+use Rattle.net_core.specs.Sound.{IsSound, HasOneDriverEach, Needs, IsPath, IsRing, HasRing, sources}
+use Rattle.net_core.specs.Level.{Levels, level_at, level_over, AreLevels}
+use Rattle.net_core.specs.Levelled.{AllHaveLevels}
+use Rattle.net_core.specs.Loop.{HasLevel, of_source, of_gate, IsFirstWithout, IsBegin, LeadsTo, IsLoop}
+use Rattle.net_core.specs.Driving.{IsGraphOf, IsLoopFault, roots_of}
+use Rattle.graph_core.proofs.ListLemmas.{get_front}
+use Rattle.graph_core.proofs.GraphLemmas.{edges_within}
+use Rattle.graph_core.proofs.LoopLemmas.{loop_ring, loop_weaker, loop_only, ring_weaker}
+use Rattle.graph_core.proofs.RingLemmas.{from_map}
+use Rattle.net_core.proofs.DriverLemmas.{driver_of, gates_apart, gate_inside, All_has}
+use Rattle.net_core.proofs.LevelLemmas.{nat_eq_or, level_from_above, sources_inside}
 
--- where a gate has no level, one of its inputs has none
-pub some_open : (levels : Levels) (m : ℕ) (ns : List ℕ) → level_from levels m ns ≡ None → (b : ℕ) × (find (λ n. is_none (level_at levels n)) ns ≡ Some b)
-some_open levels m [] none = absurd (cc)
-some_open levels m (n ∷ ns) none =
-    elim (level_at levels n) as (λ o. option_and_then (λ l. level_from levels (max m (l + 1)) ns) o ≡ None → (b : ℕ) × (cond (is_none o) (Some n) (find (λ n. is_none (level_at levels n)) ns) ≡ Some b)) [
-      | None ↦ λ e. (n, refl)
-      | Some l ↦ λ e. some_open levels (max m (l + 1)) ns e
-    ] none
-
-is_open : (o : Option ℕ) → is_none o ≡ true → o ≡ None
-is_open None e = refl
-is_open (Some l) e = absurd (cc)
-
--- what is found has no level, and stands in the list
-pub found_open : (levels : Levels) (ns : List ℕ) (b : ℕ) → find (λ n. is_none (level_at levels n)) ns ≡ Some b → (level_at levels b ≡ None) × Has ns b
-found_open levels [] b found = absurd (cc)
-found_open levels (n ∷ ns) b found =
-    elim (is_none (level_at levels n)) as (λ t. is_none (level_at levels n) ≡ t → cond t (Some n) (find (λ n. is_none (level_at levels n)) ns) ≡ Some b → (level_at levels b ≡ None) × Has (n ∷ ns) b) [
-      | true ↦ λ e h. let same : n ≡ b = cc in (rw (← same) (is_open (level_at levels n) e), (0, ap Some same))
-      | false ↦ λ e h. let rest = found_open levels ns b h in (rest.0, (suc rest.1.0, rest.1.1))
-    ] refl found
-
--- a net without a level is driven by a gate
-pub open_gate : (net : NetList) (levels : Levels) (a : ℕ) → HasOneDriverEach net → AreLevels net levels → a < nets net → level_at levels a ≡ None → (g : GateValue) × Has net.gates g × (g.out ≡ a)
-open_gate net levels a one are less none =
+-- a net that a path of gates cannot follow for ever has a level
+pub grounded_level : (net : NetList) (graph : Graph) → HasOneDriverEach net → IsInside net → IsGraphOf net graph → (a : ℕ) → a < nets net → IsGrounded graph a → HasLevel net a
+grounded_level net graph one inside is _ less (grounded a f) =
     elim (driver_of net a one less) [
-      | inl w ↦ let zero' = are.sources a w in absurd (cc)
-      | inr w ↦ w
+      | inl source ↦ of_source a source
+      | inr found ↦
+          let P : ℕ → Type 0 = HasLevel net in
+          subst P found.2 (of_gate found.0 found.1 (λ n input. grounded_level net graph one inside is n (input_inside net found.0 n inside found.1 input) (f n (rw (← found.2, is.gates found.0 found.1) input))))
     ]
-
--- the gate at the position that is kept for a net without a level
-pub gate_at : (net : NetList) (levels : Levels) (positions : List ℕ) (a : ℕ) → HasOneDriverEach net → AreLevels net levels → ArePositions net positions → a < nets net → level_at levels a ≡ None → (p : ℕ) × (g : GateValue) × (slice_get net.gates p ≡ Some g) × (g.out ≡ a) × (slice_get positions a ≡ Some p)
-gate_at net levels positions a one are at less none =
-    let found = open_gate net levels a one are less none in
-    let here = at found.1.0 found.0 found.1.1 in
-    (found.1.0, found.0, found.1.1, found.2, rw found.2 at here)
-
-pub position_within : (net : NetList) (levels : Levels) (positions : List ℕ) (a : ℕ) → HasOneDriverEach net → AreLevels net levels → ArePositions net positions → a < nets net → level_at levels a ≡ None → (a < length positions) × (get_or positions a 0 < length net.gates)
-position_within net levels positions a one are at less none =
-    let g = gate_at net levels positions a one are at less none in
-    (slice_get_within positions a g.0 g.4, rw (get_or_from_slice_get positions a g.0 0 g.4) (slice_get_within net.gates g.0 g.1 g.2))
-
-pub gate_read : (net : NetList) (levels : Levels) (positions : List ℕ) (a : ℕ) (g : GateValue) → HasOneDriverEach net → AreLevels net levels → ArePositions net positions → a < nets net → level_at levels a ≡ None → g ≡ get_or net.gates (get_or positions a 0) g → Has net.gates g × (g.out ≡ a)
-gate_read net levels positions a g one are at less none is =
-    let found = gate_at net levels positions a one are at less none in
-    let place : get_or positions a 0 ≡ found.0 = get_or_from_slice_get positions a found.0 0 found.4 in
-    let got : slice_get net.gates found.0 ≡ Some g = got_read net.gates found.0 g (slice_get_within net.gates found.0 found.1 found.2) (rw place at is) in
-    let first : slice_get net.gates found.0 ≡ Some found.1 = found.2 in
-    let same : found.1 ≡ g = cc in
-    ((found.0, got), rw same at found.3)
-
--- its level is missing since an input's is
-pub over_none : (net : NetList) (levels : Levels) (a : ℕ) (g : GateValue) → AreLevels net levels → Has net.gates g → g.out ≡ a → level_at levels a ≡ None → (b : ℕ) × (find (λ n. is_none (level_at levels n)) g.inputs ≡ Some b)
-over_none net levels a g are has out none =
-    some_open levels 1 g.inputs (sym (are.gates g has) ∙ rw out none)
-
-pub positions_step : (net : NetList) (positions : List ℕ) (p out : ℕ) (g : GateValue) → IsInside net → HasOneDriverEach net → slice_get net.gates p ≡ Some g → out ≡ g.out → length positions ≡ nets net → ((q : ℕ) → q < p → (h : GateValue) → slice_get net.gates q ≡ Some h → slice_get positions h.out ≡ Some q) → (q : ℕ) → q < p + 1 → (h : GateValue) → slice_get net.gates q ≡ Some h → slice_get (set positions out p) h.out ≡ Some q
-positions_step net positions p out g inside one here is long each q less h got =
-    elim (nat_eq_or q p) [
-      | inl same ↦ let got' : slice_get net.gates p ≡ Some h = rw same at got in
-          let whole : g ≡ h = cc in
-          let within : out < length positions = rw is (omega (arith, (gate_inside net g inside (p, here)).0)) in
-          let was = get_below positions out within in
-          let outs : h.out ≡ out = rw (← whole) (sym is) in
-          rw (outs, same) (get_set_same positions out was.0 p was.1)
-      | inr other ↦ get_set_other positions out p h.out q (λ e. other (gates_apart net q p h g inside one got here (e ∙ is))) (each q (omega arith) h got)
-    ]
-
-pub leads_to : (net : NetList) (levels : Levels) (g : GateValue) (a b : ℕ) → Has net.gates g → g.out ≡ a → level_at levels a ≡ None → find (λ n. is_none (level_at levels n)) g.inputs ≡ Some b → LeadsTo net levels a b
-leads_to net levels g a b has out none found = (g, has, out, none, found)
-
-pub push_walk : (net : NetList) (levels : Levels) (seen : List Bool) (walk : List ℕ) (at next : ℕ) → IsWalking net levels seen walk at → slice_get seen at ≡ Some false → LeadsTo net levels at next → level_at levels next ≡ None → next < nets net → IsWalking net levels (set seen at true) (walk ++ at ∷ []) next
-push_walk net levels seen walk at next w new leads level within =
-    let fresh : Has walk at → ⊥ = λ has. let t = w.seen_all at has in cc in
-    record {
-      is_walk = record {
-        begins = λ a got. elim (got_push walk at 0 a got) [
-          | inl v ↦ w.is_walk.begins a v.0
-          | inr v ↦ rw v.1 (w.begins (sym v.0))
-        ];
-        leads = λ k a b first second. elim (got_push walk at (k + 1) b second) [
-          | inl v ↦ elim (got_push walk at k a first) [
-            | inl u ↦ w.is_walk.leads k a b u.0 v.0
-            | inr u ↦ absurd (omega arith)
-          ]
-          | inr v ↦ elim (got_push walk at k a first) [
-            | inl u ↦ rw v.1 (w.to k a v.0 u.0)
-            | inr u ↦ absurd (omega arith)
-          ]
-        ];
-        apart = λ i j a first second. elim (got_push walk at i a first) [
-          | inl v ↦ elim (got_push walk at j a second) [
-            | inl u ↦ w.is_walk.apart i j a v.0 u.0
-            | inr u ↦ absurd (fresh (i, rw u.1 at v.0))
-          ]
-          | inr v ↦ elim (got_push walk at j a second) [
-            | inl u ↦ absurd (fresh (j, rw v.1 at u.0))
-            | inr u ↦ omega arith
-          ]
-        ];
-      };
-      long = length-set seen at true ∙ w.long;
-      within = within;
-      level = level;
-      met = λ n got. elim (got_set seen at true n true got) [
-        | inl v ↦ rw v.0 (length walk, get_here walk at [])
-        | inr v ↦ Has_left walk (at ∷ []) n (w.met n v.1)
-      ];
-      seen_all = λ n has. elim (nat_eq_or n at) [
-        | inl same ↦ rw same (get_set_same seen at false true new)
-        | inr other ↦ elim (Has_cases walk (at ∷ []) n has) [
-          | inl v ↦ get_set_other seen at true n true other (w.seen_all n v)
-          | inr v ↦ absurd (other (only at n v.0 v.1))
-        ]
-      ];
-      begins = λ none. absurd (omega (arith, length-push walk at));
-      to = λ k a last got. elim (got_push walk at k a got) [
-        | inl v ↦ absurd (omega (arith, length-push walk at))
-        | inr v ↦ rw v.1 leads
-      ];
-    }
   where
-    only : (x n k : ℕ) → slice_get (x ∷ []) k ≡ Some n → n ≡ x
-    only x n zero got = cc
-    only x n (suc k) got = absurd (cc)
+    input_inside : (net : NetList) (g : GateValue) (n : ℕ) → IsInside net → Has net.gates g → Has g.inputs n → n < nets net
+    input_inside net g n inside has input = All_has (λ n. n < nets net) g.inputs n (gate_inside net g inside has).1 input
 
-pub unmet_set : (seen : List Bool) (at : ℕ) → slice_get seen at ≡ Some false → count_unmet (set seen at true) + 1 ≡ count_unmet seen
-unmet_set seen at new = omega (arith, sum_by-set_at unmet seen at false true new)
+pub level_grounded : (net : NetList) (graph : Graph) → IsGraphOf net graph → (a : ℕ) → HasLevel net a → IsGrounded graph a
+level_grounded net graph is _ (of_source n source) = grounded n (λ b edge. absurd (none n b source edge))
+  where
+    none : (n b : ℕ) → Has (sources net) n → HasEdge graph n b → ⊥
+    none n b source edge =
+        let P : List ℕ → Type 0 = λ ns. Has ns b in
+        let nothing : P [] = subst P (is.sources n source) edge in
+        let got = nothing.1 in absurd (cc)
+level_grounded net graph is _ (of_gate g has f) =
+    grounded g.out (λ b edge. let P : List ℕ → Type 0 = λ ns. Has ns b in level_grounded net graph is b (f b (subst P (is.gates g has) edge)))
 
-pub start_walk : (net : NetList) (levels : Levels) (seen : List Bool) (start : ℕ) → IsInside net → IsBegin net levels start → length seen ≡ nets net → ((n : ℕ) → slice_get seen n ≡ Some true → ⊥) → IsWalking net levels seen [] start
-start_walk net levels seen start inside begin long none =
-    record {
-      is_walk = record { begins = λ a got. absurd (cc); leads = λ k a b first second. absurd (cc); apart = λ i j a first second. absurd (cc) };
-      long = long;
-      within = let g = gate_inside net begin.1 inside (begin.0, begin.2) in let less = g.0 in rw begin.3 at less;
-      level = begin.4;
-      met = λ n got. absurd (none n got);
-      seen_all = λ n has. let e = has.1 in absurd (cc);
-      begins = λ e. begin;
-      to = λ k a last got. absurd (cc);
-    }
+first_without : (net : NetList) (graph : Graph) (list : List ℕ) (b : ℕ) → HasOneDriverEach net → IsInside net → IsGraphOf net graph → ((n : ℕ) → Has list n → n < nets net) → IsFirstEndless graph list b → IsFirstWithout net list b
+first_without net graph list b one inside is within (i, at, endless, before) =
+    (i, at, (λ has. endless (level_grounded net graph is b has)), λ j n less got. grounded_level net graph one inside is n (within n (j, got)) (before j n less got))
 
-pub ended_loop : (net : NetList) (levels : Levels) (seen : List Bool) (walk : List ℕ) (at from : ℕ) (loop : List ℕ) → AreLevels net levels → IsWalking net levels seen walk at → slice_get walk from ≡ Some at → loop ≡ drop from walk → IsLoop net loop
-ended_loop net levels seen walk at from loop are w here is =
-    record {
-      levels = levels;
-      walk = walk;
-      from = from;
-      are_levels = are;
-      is_walk = w.is_walk;
-      within = slice_get_within walk from at here;
-      back = λ a b found k last got. let same : at ≡ b = cc in rw (← same) (w.to k a last got);
-      loop_is = is;
-    }
+-- a net that leads on is driven by a remaining gate
+leads_on : (net : NetList) (graph : Graph) → HasOneDriverEach net → IsInside net → IsGraphOf net graph → (a b : ℕ) → IsFirstEndless graph (edges graph a) b → LeadsTo net a b
+leads_on net graph one inside is a b first =
+    let less : a < nets net = omega (arith, edges_within graph a first.0 b first.1, is.long) in
+    elim (driver_of net a one less) [
+      | inl source ↦
+          let P : List ℕ → Type 0 = λ ns. slice_get ns first.0 ≡ Some b in
+          let nothing : P [] = subst P (is.sources a source) first.1 in absurd (cc)
+      | inr found ↦
+          let same : edges graph a ≡ found.0.inputs = ap (edges graph) (sym found.2) ∙ is.gates found.0 found.1 in
+          let P : List ℕ → Type 0 = λ ns. IsFirstEndless graph ns b in
+          let first' : P found.0.inputs = subst P same first in
+          (found.0, found.1, found.2, first_without net graph found.0.inputs b one inside is (λ n has. All_has (λ n. n < nets net) found.0.inputs n (gate_inside net found.0 inside found.1).1 has) first')
+    ]
+
+got_either : (xs ys : List ℕ) (k z : ℕ) → slice_get (xs ++ ys) k ≡ Some z → (slice_get xs k ≡ Some z) ⊎ Has ys z
+got_either [] ys k z got = inr (k, got)
+got_either (x ∷ xs) ys zero z got = inl got
+got_either (x ∷ xs) ys (suc k) z got = got_either xs ys k z got
+
+-- the walk begins at the remaining gate of least position
+begins_at : (net : NetList) (graph : Graph) → HasOneDriverEach net → IsInside net → IsGraphOf net graph → (a : ℕ) → IsFirstEndless graph (roots_of net) a → IsBegin net a
+begins_at net graph one inside is a (i, at, endless, before) =
+    let outs : List ℕ = map (λ (g : GateValue). g.out) net.gates in
+    elim (got_either outs (sources net) i a at) [
+      | inr source ↦ absurd (endless (level_grounded net graph is a (of_source a source)))
+      | inl here ↦
+          let g = from_map (λ (g : GateValue). g.out) net.gates i a here in (
+            i,
+            g.0,
+            g.1,
+            g.2,
+            (λ has. endless (level_grounded net graph is a has)),
+            λ q h less got.
+                let at' : slice_get outs q ≡ Some h.out = slice_get-map (λ (g : GateValue). g.out) net.gates q ∙ rw got refl in
+                grounded_level net graph one inside is h.out (gate_inside net h inside (q, got)).0 (before q h.out less (get_front outs (sources net) q h.out at')),
+          )
+    ]
+
+-- the ring of the graph is the loop of the net list
+pub loop_of_ring : (net : NetList) (graph : Graph) (ring : List ℕ) → HasOneDriverEach net → IsInside net → IsGraphOf net graph → IsRingOf graph (roots_of net) ring → IsLoop net ring
+loop_of_ring net graph ring one inside is found =
+    loop_weaker (IsFirstEndless graph (roots_of net)) (IsBegin net) (λ a b. IsFirstEndless graph (edges graph a) b) (LeadsTo net) ring (begins_at net graph one inside is) (leads_on net graph one inside is) found
+
+leads_needs : (net : NetList) (a b : ℕ) → LeadsTo net a b → Needs net a b
+leads_needs net a b (g, has, out, first) = (g, has, out, (first.0, first.1))
+
+pub loop_is_ring : (net : NetList) (loop : List ℕ) → IsLoop net loop → IsRing net loop
+loop_is_ring net loop is = ring_weaker (LeadsTo net) (Needs net) (leads_needs net) loop (loop_ring (IsBegin net) (LeadsTo net) loop is)
+
+-- a loop has a first net, which exists
+pub first_of_loop : (net : NetList) (loop : List ℕ) → IsInside net → IsLoop net loop → (n : ℕ) × (slice_get loop 0 ≡ Some n) × (n < nets net)
+first_of_loop net loop inside is = by loop (loop_is_ring net loop is)
+  where
+    needs_inside : (net : NetList) (a b : ℕ) → IsInside net → Needs net a b → a < nets net
+    needs_inside net a b inside needs = rw (← needs.2) ((gate_inside net needs.0 inside needs.1).0)
+
+    first_of_path : (a : ℕ) (rest : List ℕ) (b : ℕ) → IsPath net a rest b → a < nets net
+    first_of_path a [] b path = needs_inside net a b inside path
+    first_of_path a (c ∷ cs) b path = needs_inside net a c inside path.0
+
+    by : (ring : List ℕ) → IsRing net ring → (n : ℕ) × (slice_get ring 0 ≡ Some n) × (n < nets net)
+    by [] ring = absurd ring
+    by (a ∷ rest) ring = (a, refl, first_of_path a rest a ring)
+
+even : (m n : ℕ) → (m < n → ⊥) → (n < m → ⊥) → m ≡ n
+even m n f g = omega (arith, f, g)
+
+first_without_only : (net : NetList) (list : List ℕ) (b c : ℕ) → IsFirstWithout net list b → IsFirstWithout net list c → b ≡ c
+first_without_only net list b c (i, at, none, before) (j, at', none', before') =
+    elim (nat_eq_or i j) [
+      | inl same ↦ let at'' : slice_get list j ≡ Some b = rw (← same) at in cc
+      | inr other ↦ absurd (other (even i j (λ less. none (before' i b less at)) (λ less. none' (before j c less at'))))
+    ]
+
+begin_only : (net : NetList) (a b : ℕ) → IsBegin net a → IsBegin net b → a ≡ b
+begin_only net a b (p, g, at, out, none, before) (q, h, at', out', none', before') =
+    elim (nat_eq_or p q) [
+      | inl same ↦ let at'' : slice_get net.gates q ≡ Some g = rw (← same) at in let whole : g ≡ h = cc in sym out ∙ ap (λ (x : GateValue). x.out) whole ∙ out'
+      | inr other ↦ absurd (other (even p q
+          (λ less. none (subst (λ (n : ℕ). HasLevel net n) out (before' p g less at)))
+          (λ less. none' (subst (λ (n : ℕ). HasLevel net n) out' (before q h less at')))))
+    ]
+
+leads_only : (net : NetList) → IsInside net → HasOneDriverEach net → (a b c : ℕ) → LeadsTo net a b → LeadsTo net a c → b ≡ c
+leads_only net inside one a b c (g, has, out, first) (h, has', out', first') =
+    let place : has.0 ≡ has'.0 = gates_apart net has.0 has'.0 g h inside one has.1 has'.1 (out ∙ sym out') in
+    let at : slice_get net.gates has'.0 ≡ Some g = ap (slice_get net.gates) (sym place) ∙ has.1 in
+    let at' : slice_get net.gates has'.0 ≡ Some h = has'.1 in
+    let whole : g ≡ h = cc in
+    let P : GateValue → Type 0 = λ x. IsFirstWithout net x.inputs b in
+    first_without_only net h.inputs b c (subst P whole first) first'
+
+-- a net list has one loop at most
+pub loop_is_only : (net : NetList) (x y : List ℕ) → IsInside net → HasOneDriverEach net → IsLoop net x → IsLoop net y → x ≡ y
+loop_is_only net x y inside one first second = loop_only (IsBegin net) (LeadsTo net) (begin_only net) (leads_only net inside one) x y first second
 
 rank : Option ℕ → ℕ
 rank None = 0
@@ -193,14 +171,22 @@ path_falls : (net : NetList) (levels : Levels) → ((a b : ℕ) → Needs net a 
 path_falls net levels down a [] b path = down a b path
 path_falls net levels down a (c ∷ cs) b path = omega (arith, down a c path.0, path_falls net levels down c cs b path.1)
 
+no_ring_of : (net : NetList) (levels : Levels) → AreLevels net levels → ((g : GateValue) → Has net.gates g → level_at levels g.out ≡ None → ⊥) → (ring : List ℕ) → IsRing net ring → ⊥
+no_ring_of net levels are each [] ring = ring
+no_ring_of net levels are each (a ∷ rest) ring = omega (arith, path_falls net levels (falls net levels are each) a rest a ring)
+
+-- where each gate has a level, there is no ring
 pub no_ring : (net : NetList) (levels : Levels) → AreLevels net levels → ((g : GateValue) → Has net.gates g → level_at levels g.out ≡ None → ⊥) → HasRing net → ⊥
-no_ring net levels are each ring = omega (arith, path_falls net levels (falls net levels are each) ring.0 ring.1 ring.0 ring.2)
+no_ring net levels are each ring = no_ring_of net levels are each ring.0 ring.1
 
-pub drop_get : (xs : List ℕ) (k x : ℕ) → slice_get xs k ≡ Some x → slice_get (drop k xs) 0 ≡ Some x
-drop_get [] k x got = absurd (cc)
-drop_get (y ∷ ys) zero x got = got
-drop_get (y ∷ ys) (suc k) x got = drop_get ys k x got
+pub loop_fault_of : (net : NetList) (graph : Graph) (fault : RingFault) → HasOneDriverEach net → IsInside net → IsGraphOf net graph → IsRingFault graph (roots_of net) fault → IsLoopFault net fault
+loop_fault_of net graph (Ring points) one inside is ring = loop_of_ring net graph points.items one inside is ring
+loop_fault_of net graph OutOfMemory one inside is ring = tt
 
--- a slice up to the end
-pub rest_of : (xs : List ℕ) (k : ℕ) → take (length xs - k) (drop k xs) ≡ drop k xs
-rest_of xs k = ap (λ n. take n (drop k xs)) (sym (length-drop k xs)) ∙ take-length (drop k xs)
+pub roots_inside : (net : NetList) (graph : Graph) → IsInside net → IsGraphOf net graph → All (λ n. n < length graph) (roots_of net)
+roots_inside net graph inside is =
+    let outs : All (λ n. n < nets net) (map (λ (g : GateValue). g.out) net.gates) = All-map (λ n. n < nets net) (λ (g : GateValue). g.out) net.gates (All-weaker (GateIsInside (nets net)) (λ g. g.out < nets net) (λ g h. h.0) net.gates inside.gates) in
+    rw is.long (All-append (λ n. n < nets net) (map (λ (g : GateValue). g.out) net.gates) (sources net) outs (sources_inside net inside))
+
+pub sound_by_levels : (net : NetList) (levels : Levels) → IsInside net → HasOneDriverEach net → AllHaveLevels net levels → IsSound net
+sound_by_levels net levels inside one all = record { inside = inside; one = one; no_ring = no_ring net levels all.0 all.1 }

@@ -13,7 +13,7 @@ use Rattle.net_core.specs.Lists.{times}
 use Rattle.net_core.specs.NetList.{NetList}
 use Rattle.net_core.specs.Level.{Levels}
 use Rattle.net_core.specs.Order.{rank_at, IsBefore, IsOrder, AreKeys}
-use Rattle.net_core.proofs.ListLemmas.{get_below, got_at}
+use Rattle.graph_core.proofs.ListLemmas.{get_below, got_at}
 use Rattle.net_core.proofs.DriverLemmas.{times_two, times_some, one_here, none_here, from_map, Has_map, All_has}
 use Rattle.net_core.proofs.LevelLemmas.{nat_eq_or}
 

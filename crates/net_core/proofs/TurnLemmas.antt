@@ -11,10 +11,11 @@ use Rattle.net_core.specs.NetList.{NetList, nets}
 use Rattle.net_core.specs.Inside.{IsInside, GateIsInside}
 use Rattle.net_core.specs.Lists.{Has, times}
 use Rattle.net_core.specs.Level.{Levels, level_at, level_over, AreLevels}
-use Rattle.net_core.specs.Levelled.{IsLevelled}
-use Rattle.net_core.specs.Sound.{IsSound, IsPath, Needs, sources}
+use Rattle.net_core.specs.Levelled.{AllHaveLevels}
+use Rattle.net_core.specs.Sound.{IsSound, Needs, sources}
 use Rattle.net_core.specs.Turned.{turned_gate, turned_gates, turned}
-use Rattle.net_core.proofs.ListLemmas.{get_below}
+use Rattle.graph_core.proofs.ListLemmas.{get_below}
+use Rattle.graph_core.proofs.LoopLemmas.{ring_weaker}
 use Rattle.net_core.proofs.DriverLemmas.{All_has}
 
 pub bit_below : (n index : ℕ) → n ≤ 6 → index < 2 ^ n → index < 64
@@ -99,17 +100,13 @@ needs_before net p index a b (h, has, out, input) =
     let old = turned_has net.gates p index h has in
     (old.0, old.1, old.2 ∙ out, subst (λ (ns : List ℕ). Has ns b) (sym old.3) input)
 
-path_before : (net : NetList) (p index a : ℕ) (rest : List ℕ) (b : ℕ) → IsPath (turned net p index) a rest b → IsPath net a rest b
-path_before net p index a [] b path = needs_before net p index a b path
-path_before net p index a (c ∷ cs) b path = (needs_before net p index a c path.0, path_before net p index c cs b path.1)
-
 -- a table has no part in being sound
 pub turned_sound : (net : NetList) (p index : ℕ) (g : GateValue) → slice_get net.gates p ≡ Some g → index < 2 ^ length g.inputs → IsSound net → IsSound (turned net p index)
 turned_sound net p index g got less sound =
     record {
       inside = turned_inside net p index g got less sound.inside;
       one = λ n below. ap (λ (outs : List ℕ). times n (sources net ++ outs)) (turned_outs net.gates p index) ∙ sound.one n below;
-      no_ring = λ ring. sound.no_ring (ring.0, ring.1, path_before net p index ring.0 ring.1 ring.0 ring.2);
+      no_ring = λ ring. sound.no_ring (ring.0, ring_weaker (Needs (turned net p index)) (Needs net) (needs_before net p index) ring.0 ring.1);
     }
 
 pub turned_levels : (net : NetList) (p index : ℕ) (levels : Levels) → AreLevels net levels → AreLevels (turned net p index) levels
@@ -121,6 +118,6 @@ turned_levels net p index levels are =
           ap (level_at levels) (sym old.2) ∙ are.gates old.0 old.1 ∙ ap (level_over levels) old.3;
     }
 
-pub turned_levelled : (net : NetList) (p index : ℕ) → IsLevelled net → IsLevelled (turned net p index)
-turned_levelled net p index known =
-    (known.0, (turned_levels net p index known.0 known.1.0, λ h has none. let old = turned_has net.gates p index h has in known.1.1 old.0 old.1 (ap (level_at known.0) old.2 ∙ none)))
+pub turned_levelled : (net : NetList) (p index : ℕ) (levels : Levels) → AllHaveLevels net levels → AllHaveLevels (turned net p index) levels
+turned_levelled net p index levels known =
+    (turned_levels net p index levels known.0, λ h has none. let old = turned_has net.gates p index h has in known.1 old.0 old.1 (ap (level_at levels) old.2 ∙ none))

@@ -1,4 +1,4 @@
--- Nets in which each net has a level.
+-- Nets in which each net has a level, and gates that were evaluated.
 use Rattle.std.specs.Prelude.{◌≡◌, ℕ, ◌<◌, List, Bool, None, Some, slice_get, length}
 use Rattle.net_core.specs.GateValue.{GateValue}
 use Rattle.net_core.specs.NetList.{NetList, nets}
@@ -9,9 +9,6 @@ use Rattle.net_core.specs.Value.{IsRight}
 -- each gate has a level
 abbrev pub AllHaveLevels : NetList → Levels → Type 0
 AllHaveLevels net levels = AreLevels net levels × ((g : GateValue) → Has net.gates g → level_at levels g.out ≡ None → ⊥)
-
-abbrev pub IsLevelled : NetList → Type 0
-IsLevelled net = (levels : Levels) × AllHaveLevels net levels
 
 -- the first k gates of the order have their values
 pub record AreRight (net : NetList) (order : List ℕ) (k : ℕ) (bits : List Bool) : Type 0 where

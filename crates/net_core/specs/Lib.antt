@@ -12,4 +12,4 @@ pub mod Finish
 pub mod Turned
 pub mod Levelled
 pub mod Partial
-pub mod Walking
+pub mod Driving

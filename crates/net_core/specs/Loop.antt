@@ -1,32 +1,34 @@
--- The loop that is named where gates drive each other in a ring.
-use Rattle.std.specs.Prelude.{◌≡◌, ℕ, ◌<◌, ◌≤◌, ◌+◌, List, None, Some, slice_get, length, drop, find, is_none}
+-- The list of nets that is named where gates drive each other in a ring.
+use Rattle.std.specs.Prelude.{◌≡◌, ℕ, ◌<◌, List, Some, slice_get}
 use Rattle.net_core.specs.GateValue.{GateValue}
 use Rattle.net_core.specs.NetList.{NetList}
+use Rattle.net_core.specs.Sound.{sources}
 use Rattle.net_core.specs.Lists.{Has}
-use Rattle.net_core.specs.Level.{Levels, level_at, AreLevels}
+use Rattle.graph_core.specs.Walk.{IsLoopBy}
 
--- the gate of a has no level, and b is the first of its inputs that has none
-abbrev pub LeadsTo : NetList → Levels → ℕ → ℕ → Type 0
-LeadsTo net levels a b = (g : GateValue) × Has net.gates g × (g.out ≡ a) × (level_at levels a ≡ None) × (find (λ n. is_none (level_at levels n)) g.inputs ≡ Some b)
+-- A net has a level if it is a source, or if each input of its gate has one. So where gates all of whose inputs
+-- have a level are removed as often as possible, those remain whose outputs have none.
+pub data HasLevel (net : NetList) : ℕ → Type 0 where
+  of_source : (n : ℕ) → Has (sources net) n → HasLevel net n
+  of_gate : (g : GateValue) → Has net.gates g → ((n : ℕ) → Has g.inputs n → HasLevel net n) → HasLevel net g.out
 
--- a is driven by the first gate without a level
-abbrev pub IsBegin : NetList → Levels → ℕ → Type 0
-IsBegin net levels a = (p : ℕ) × (g : GateValue) × (slice_get net.gates p ≡ Some g) × (g.out ≡ a) × (level_at levels a ≡ None)
-    × ((q : ℕ) (h : GateValue) → slice_get net.gates q ≡ Some h → level_at levels h.out ≡ None → p ≤ q)
+abbrev pub HasNoLevel : NetList → ℕ → Type 0
+HasNoLevel net n = HasLevel net n → ⊥
 
--- A walk over different nets, from the begin, from each net to that to which it leads.
-pub record IsWalk (net : NetList) (levels : Levels) (walk : List ℕ) : Type 0 where
-  pub begins : (a : ℕ) → slice_get walk 0 ≡ Some a → IsBegin net levels a
-  pub leads : (k a b : ℕ) → slice_get walk k ≡ Some a → slice_get walk (k + 1) ≡ Some b → LeadsTo net levels a b
-  pub apart : (i j a : ℕ) → slice_get walk i ≡ Some a → slice_get walk j ≡ Some a → i ≡ j
+-- b is the first net of the list that has no level
+abbrev pub IsFirstWithout : NetList → List ℕ → ℕ → Type 0
+IsFirstWithout net list b = (i : ℕ) × (slice_get list i ≡ Some b) × HasNoLevel net b × ((j n : ℕ) → j < i → slice_get list j ≡ Some n → HasLevel net n)
 
--- The last net of the walk leads to one that the walk met before; the loop is the walk from there on.
-pub record IsLoop (net : NetList) (loop : List ℕ) : Type 0 where
-  pub levels : Levels
-  pub walk : List ℕ
-  pub from : ℕ
-  pub are_levels : AreLevels net levels
-  pub is_walk : IsWalk net levels walk
-  pub within : from < length walk
-  pub back : (a b : ℕ) → slice_get walk from ≡ Some b → (k : ℕ) → k + 1 ≡ length walk → slice_get walk k ≡ Some a → LeadsTo net levels a b
-  pub loop_is : loop ≡ drop from walk
+-- a is driven by the remaining gate of least position
+abbrev pub IsBegin : NetList → ℕ → Type 0
+IsBegin net a = (p : ℕ) × (g : GateValue) × (slice_get net.gates p ≡ Some g) × (g.out ≡ a) × HasNoLevel net a
+    × ((q : ℕ) (h : GateValue) → q < p → slice_get net.gates q ≡ Some h → HasLevel net h.out)
+
+-- a is driven by a remaining gate, and b is its first input that has no level
+abbrev pub LeadsTo : NetList → ℕ → ℕ → Type 0
+LeadsTo net a b = (g : GateValue) × Has net.gates g × (g.out ≡ a) × IsFirstWithout net g.inputs b
+
+-- The loop of a walk that begins at the remaining gate of least position, goes from each net to that to which it leads,
+-- and stops where it meets a net again: the walk from the first meeting on.
+abbrev pub IsLoop : NetList → List ℕ → Type 0
+IsLoop net = IsLoopBy (IsBegin net) (LeadsTo net)

@@ -1,5 +1,5 @@
 -- Levels that were found so far.
-use Rattle.std.specs.Prelude.{◌≡◌, ℕ, ◌≤◌, ◌+◌, Option, None, Some, slice_get, length, sum_by}
+use Rattle.std.specs.Prelude.{◌≡◌, ℕ, List, ◌≤◌, ◌+◌, Option, None, Some, slice_get, length, sum_by}
 use Rattle.net_core.specs.GateValue.{GateValue}
 use Rattle.net_core.specs.NetList.{NetList, nets}
 use Rattle.net_core.specs.Lists.{Has}
@@ -21,3 +21,15 @@ pub record ArePartial (net : NetList) (levels : Levels) (done : ℕ) : Type 0 wh
   pub gates : (p : ℕ) (g : GateValue) (l : ℕ) → slice_get net.gates p ≡ Some g → level_at levels g.out ≡ Some l → level_over levels g.inputs ≡ Some l
   pub small : (n l : ℕ) → level_at levels n ≡ Some l → l ≤ done
   pub few : done + lacking levels ≤ length levels
+
+-- at the net of each gate the list has the gate's position
+abbrev pub ArePositions : NetList → List ℕ → Type 0
+ArePositions net positions = (p : ℕ) (g : GateValue) → slice_get net.gates p ≡ Some g → slice_get positions g.out ≡ Some p
+
+-- each net of the list has a level
+abbrev pub AreKnown : Levels → List ℕ → Type 0
+AreKnown levels ns = (k n : ℕ) → slice_get ns k ≡ Some n → level_at levels n ≡ None → ⊥
+
+-- levels that are known stay
+abbrev pub KeepsLevels : Levels → Levels → Type 0
+KeepsLevels old new = (n l : ℕ) → level_at old n ≡ Some l → level_at new n ≡ Some l

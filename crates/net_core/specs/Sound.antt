@@ -1,9 +1,10 @@
--- Sound nets.
-use Rattle.std.specs.Prelude.{◌≡◌, ℕ, ◌<◌, List, [], ◌∷◌, ◌++◌, map}
+-- Sound nets. Source: the BLIF format of UC Berkeley, whose nets have one driver each.
+use Rattle.std.specs.Prelude.{◌≡◌, ℕ, ◌<◌, List, ◌++◌, map}
 use Rattle.net_core.specs.GateValue.{GateValue}
 use Rattle.net_core.specs.NetList.{NetList, nets}
 use Rattle.net_core.specs.Inside.{IsInside}
 use Rattle.net_core.specs.Lists.{Has, times}
+use Rattle.graph_core.specs.Walk.{IsChain, IsRingBy}
 
 -- the primary inputs and the outputs of latches
 abbrev pub sources : NetList → List ℕ
@@ -23,15 +24,19 @@ HasOneDriverEach net = (n : ℕ) → n < nets net → drivers net n ≡ 1
 abbrev pub Needs : NetList → ℕ → ℕ → Type 0
 Needs net a b = (g : GateValue) × Has net.gates g × (g.out ≡ a) × Has g.inputs b
 
--- from a over these nets to b
+-- from a over these nets to b, each driven by a gate that has the next among its inputs
 abbrev pub IsPath : NetList → ℕ → List ℕ → ℕ → Type 0
-IsPath net a [] b = Needs net a b
-IsPath net a (c ∷ cs) b = Needs net a c × IsPath net c cs b
+IsPath net = IsChain (Needs net)
 
--- gates that drive each other in a ring
+-- one or more nets, each driven by a gate that has the next among its inputs, and the last's gate has the first
+abbrev pub IsRing : NetList → List ℕ → Type 0
+IsRing net = IsRingBy (Needs net)
+
+-- gates drive each other in a ring
 abbrev pub HasRing : NetList → Type 0
-HasRing net = (a : ℕ) × (rest : List ℕ) × IsPath net a rest a
+HasRing net = (ring : List ℕ) × IsRing net ring
 
+-- Each net has exactly one driver, and no list of one or more gates drives itself in a ring.
 pub record IsSound (net : NetList) : Type 0 where
   pub inside : IsInside net
   pub one : HasOneDriverEach net

@@ -4,7 +4,7 @@ ghost use Rattle.net_core.specs.NetList.{nets};
 ghost use Rattle.net_core.specs.Level.{AreLevels};
 ghost use Rattle.net_core.specs.Order.{IsLevelOrder, IsOrder, AreKeys};
 
-use crate::levels::{known, levels};
+use crate::levels::known;
 use crate::{Net, NetMaker};
 use std::alloc::{AllocError, Global};
 
@@ -46,10 +46,11 @@ pub fn order_by(
 }
 
 /// The positions of the gates by rising level and then by rising position.
+/// The level of a primary input and of a latch's output is 0; that of a gate is 1 plus the greatest of its inputs,
+/// and 1 if it has none. It answers nothing but the order and want of memory.
 pub fn order(alloc: Global, net: &Net) -> Result<Vec<u32>, AllocError>
     ensures { IfOk result (λ v. IsLevelOrder net.now v.items) }
 {
-    let levels = levels(alloc, net.made())?;
-    let order = order_by(alloc, net.made(), &levels)?;
+    let order = order_by(alloc, net.made(), net.levels())?;
     Ok(order)
 }

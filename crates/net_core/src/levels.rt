@@ -1,11 +1,14 @@
 //! Levels of nets.
-ghost use Rattle.std.specs.Prelude.{◌≡◌, ◌<◌, ◌≤◌, ◌+◌, ◌^◌, ℕ, length, All, IfOk, None, Some, slice_get};
+ghost use Rattle.std.specs.Prelude.{◌≡◌, ◌<◌, ◌≤◌, ◌+◌, ◌^◌, ℕ, length, All, IfOk, None, Some, slice_get, slice_set};
 ghost use Rattle.net_core.specs.Lists.{Has};
 ghost use Rattle.net_core.specs.NetList.{nets};
 ghost use Rattle.net_core.specs.Inside.{IsInside};
 ghost use Rattle.net_core.specs.Sound.{HasOneDriverEach};
 ghost use Rattle.net_core.specs.Level.{level_at, level_over as level_of, AreLevels};
-ghost use Rattle.net_core.specs.Partial.{ArePartial, lacking};
+ghost use Rattle.net_core.specs.Levelled.{AllHaveLevels};
+ghost use Rattle.net_core.specs.Driving.{IsGraphOf, roots_of};
+ghost use Rattle.graph_core.specs.Arranged.{IsArranged};
+ghost use Rattle.net_core.specs.Partial.{ArePartial, ArePositions, AreKnown, KeepsLevels};
 
 use crate::NetMaker;
 use crate::drivers::sources;
@@ -36,43 +39,59 @@ fn level_over(levels: &[Option<u32>], inputs: &[u32]) -> Option<u32>
     Some(level)
 }
 
-// Gives a level to a gate that has none and whose inputs have them, and counts it.
+// Gives a level to a gate that has none, if its inputs have them, and counts it.
 fn raise(net: &NetMaker, position: usize, levels: &mut Vec<Option<u32>>, done: u32) -> u32
     requires one { HasOneDriverEach net.now }
     requires gate { position < length net.now.gates }
     requires partial { ArePartial net.now levels.old.items done }
+    requires none { (g : _) → slice_get net.now.gates position ≡ Some g → level_at levels.old.items g.out ≡ None }
     ensures partial { ArePartial net.now levels.new.items result }
-    ensures grows { result + lacking levels.new.items ≡ done + lacking levels.old.items }
-    ensures same { result ≡ done → levels.new.items ≡ levels.old.items }
-    ensures ended { result ≡ done → (g : _) → slice_get net.now.gates position ≡ Some g → level_at levels.new.items g.out ≡ level_of levels.new.items g.inputs }
-    ensures more { done ≤ result }
+    ensures raised { (g : _) (l : ℕ) → slice_get net.now.gates position ≡ Some g → level_of levels.old.items g.inputs ≡ Some l → levels.new.items ≡ slice_set levels.old.items g.out (Some l) }
 {
     let gate = &net.gates()[position];
-    match known(levels, gate.out()) {
-        Some(_) => done,
-        None => match level_over(levels, gate.inputs()) {
-            None => done,
-            Some(level) => {
-                levels[gate.out() as usize] = Some(level);
-                done + 1
-            }
-        },
+    match level_over(levels, gate.inputs()) {
+        None => done,
+        Some(level) => {
+            levels[gate.out() as usize] = Some(level);
+            done + 1
+        }
     }
 }
 
-// Gives levels to gates whose inputs have them, in one pass, and counts them.
-fn pass(net: &NetMaker, levels: &mut Vec<Option<u32>>, mut done: u32) -> u32
+// Gives a level to a net that has none and whose gate's inputs have them, and counts it.
+fn give_level(
+    net: &NetMaker,
+    positions: &[u32],
+    point: u32,
+    levels: &mut Vec<Option<u32>>,
+    done: u32,
+) -> u32
     requires one { HasOneDriverEach net.now }
+    requires positions { ArePositions net.now positions.now }
+    requires point { point < nets net.now }
     requires partial { ArePartial net.now levels.old.items done }
+    requires inputs { (g : _) → Has net.now.gates g → g.out ≡ point → AreKnown levels.old.items g.inputs }
     ensures partial { ArePartial net.now levels.new.items result }
-    ensures grows { result + lacking levels.new.items ≡ done + lacking levels.old.items }
-    ensures ended { result ≡ done → AreLevels net.now levels.new.items }
-    ensures more { done ≤ result }
+    ensures keeps { KeepsLevels levels.old.items levels.new.items }
+    ensures known { level_at levels.new.items point ≡ None → ⊥ }
 {
-    for position in 0..net.gates().len() {
-        done = raise(net, position, levels, done);
+    match known(levels, point) {
+        Some(_) => done,
+        None => raise(net, positions[point as usize] as usize, levels, done),
     }
-    done
+}
+
+// The positions of the gates, by their nets.
+fn positions_by_net(alloc: Global, net: &NetMaker) -> Result<Vec<u32>, AllocError>
+    requires { HasOneDriverEach net.now }
+    ensures positions { IfOk result (λ v. ArePositions net.now v.items) }
+    ensures inside { IsInside net.now }
+{
+    let mut positions = vec![in alloc; 0u32; net.nets()]?;
+    for (position, gate) in net.gates().iter().enumerate() {
+        positions[gate.out() as usize] = position as u32;
+    }
+    Ok(positions)
 }
 
 // Level 0 for the sources, and none for other nets.
@@ -99,18 +118,21 @@ fn first_levels(alloc: Global, net: &NetMaker) -> Result<Vec<Option<u32>>, Alloc
     Ok(levels)
 }
 
-/// The level of each net, where it has one.
-pub fn levels(alloc: Global, net: &NetMaker) -> Result<Vec<Option<u32>>, AllocError>
-    requires { HasOneDriverEach net.now }
-    ensures { IfOk result (λ v. AreLevels net.now v.items) }
+/// The level of each net, where the nets stand each after the inputs of its gate.
+pub fn levels_by(
+    alloc: Global,
+    net: &NetMaker,
+    order: &[u32],
+) -> Result<Vec<Option<u32>>, AllocError>
+    requires one { HasOneDriverEach net.now }
+    requires order { (graph : _) × IsGraphOf net.now graph × IsArranged graph (roots_of net.now) order.now }
+    ensures { IfOk result (λ v. AllHaveLevels net.now v.items) }
 {
+    let positions = positions_by_net(alloc, net)?;
     let mut levels = first_levels(alloc, net)?;
     let mut done = 0;
-    loop {
-        let more = pass(net, &mut levels, done);
-        if more == done {
-            return Ok(levels);
-        }
-        done = more;
+    for point in order {
+        done = give_level(net, &positions, *point, &mut levels, done);
     }
+    Ok(levels)
 }

@@ -3,13 +3,14 @@
 #![tactic(auto)]
 
 mod drivers;
+mod driving;
 mod fault;
 mod gate;
 mod label;
 mod latch;
+mod laws;
 mod level_order;
 mod levels;
-mod loops;
 mod maker;
 mod name;
 mod net;
@@ -18,6 +19,10 @@ mod valuation;
 pub use fault::NetFault;
 pub use gate::Gate;
 pub use latch::{Latch, Start};
+pub use laws::{
+    finish_accepts_the_sound_nets, levels_are_the_only_ones, levels_are_where_nets_have_them,
+    loop_is_a_ring, loop_is_the_only_one, order_is_the_only_one,
+};
 pub use level_order::order;
 pub use maker::NetMaker;
 pub use name::{Name, Names, Numbers};

@@ -1,15 +1,17 @@
 //! Sound nets.
 ghost use Rattle.std.specs.Prelude.{◌≡◌, ◌<◌, ◌≤◌, ◌^◌, ◌+◌, ℕ, length, min, slice_get, slice_index, IfOk, IfErr, OnOk, Err, Some};
-ghost use Rattle.net_core.specs.NetList.{nets, number_of, text_of};
-ghost use Rattle.net_core.specs.Sound.{IsSound, HasOneDriverEach, HasRing, drivers};
+ghost use Rattle.net_core.specs.NetList.{nets, nets as nets_of, number_of, text_of};
+ghost use Rattle.net_core.specs.Sound.{IsSound, HasOneDriverEach, drivers};
 ghost use Rattle.net_core.specs.Turned.{turned};
-ghost use Rattle.net_core.specs.Levelled.{IsLevelled};
+ghost use Rattle.net_core.specs.Levelled.{AllHaveLevels};
+ghost use Rattle.net_core.specs.Loop.{IsLoop};
 ghost use Rattle.net_core.specs.Finish.{Finishes};
 
 use crate::drivers::{counts, driven, least};
-use crate::levels::levels;
-use crate::loops::{begin, loop_from};
+use crate::driving::nets_in_order;
+use crate::levels::levels_by;
 use crate::{Gate, Latch, Name, NetFault, NetMaker, Numbers};
+use graph_core::RingFault;
 use std::alloc::{AllocError, Global};
 use std::marker::Model;
 
@@ -19,18 +21,19 @@ use std::marker::Model;
 #[derive(Drop)]
 pub struct Net {
     made: NetMaker,
+    levels: Vec<Option<u32>>,
 }
 
 impl Model for Net {
     ghost use Rattle.net_core.specs.NetList.{NetList};
     ghost use Rattle.net_core.specs.Sound.{IsSound};
-    ghost use Rattle.net_core.specs.Levelled.{IsLevelled};
+    ghost use Rattle.net_core.specs.Levelled.{AllHaveLevels};
 
     ghost Value = { NetList };
 
     ghost view = { λ net. net.made };
 
-    ghost invariant = { λ net. IsSound net.made × IsLevelled net.made };
+    ghost invariant = { λ net. IsSound net.made × AllHaveLevels net.made net.levels.items };
 }
 
 impl Net {
@@ -102,9 +105,15 @@ impl Net {
     pub(crate) fn made(&self) -> &NetMaker
         ensures made { result.now ≡ self.now }
         ensures sound { IsSound self.now }
-        ensures levelled { IsLevelled self.now }
     {
         &self.made
+    }
+
+    // The level of each net.
+    pub(crate) fn levels(&self) -> &[Option<u32>]
+        ensures { AllHaveLevels self.now result.now }
+    {
+        &self.levels
     }
 }
 
@@ -139,35 +148,61 @@ fn check_drivers(alloc: Global, net: &NetMaker) -> Result<(), NetFault>
     Ok(())
 }
 
-// Whether no gates drive each other in a ring.
-fn check_loops(alloc: Global, net: &NetMaker) -> Result<(), NetFault>
+// The level of each net, if no gates drive each other in a ring.
+fn find_levels(alloc: Global, net: &NetMaker) -> Result<Vec<Option<u32>>, NetFault>
     requires { HasOneDriverEach net.now }
-    ensures ok { OnOk result (HasRing net.now → ⊥) }
-    ensures levelled { OnOk result (IsLevelled net.now) }
+    ensures levels { IfOk result (λ v. AllHaveLevels net.now v.items) }
+    ensures sound { OnOk result (IsSound net.now) }
     ensures fault { IfErr result (λ e. Finishes net.now (Err e)) }
 {
-    let levels = levels(alloc, net)?;
-    match begin(net, &levels) {
-        None => Ok(()),
-        Some(start) => {
-            let (nets, first) = loop_from(alloc, net, &levels, start)?;
-            let label = Name::new(alloc, net.label(first))?;
-            Err(NetFault::Loop {
-                nets: Numbers::new(nets),
-                label,
-            })
+    match nets_in_order(alloc, net) {
+        Ok(order) => {
+            let levels = levels_by(alloc, net, &order)?;
+            Ok(levels)
         }
+        Err(RingFault::Ring { points }) => Err(loop_fault(alloc, net, points)),
+        Err(RingFault::OutOfMemory) => Err(NetFault::OutOfMemory),
+    }
+}
+
+// The first net of a loop.
+fn first_net(net: &NetMaker, nets: &[u32]) -> u32
+    requires { IsLoop net.now nets.now }
+    ensures first { slice_get nets.now 0 ≡ Some result }
+    ensures within { result < nets_of net.now }
+{
+    let _count = net.nets();
+    nets[0]
+}
+
+// The fault that names this loop, or want of memory.
+fn loop_fault(alloc: Global, net: &NetMaker, nets: Vec<u32>) -> NetFault
+    requires one { HasOneDriverEach net.now }
+    requires found { IsLoop net.now nets.items }
+    ensures { Finishes net.now (Err result) }
+{
+    let first = first_net(net, &nets);
+    match Name::new(alloc, net.label(first)) {
+        Ok(label) => NetFault::Loop {
+            nets: Numbers::new(nets),
+            label,
+        },
+        Err(AllocError) => NetFault::OutOfMemory,
     }
 }
 
 impl NetMaker {
-    /// The net, if it is sound.
+    /// The net, if it is sound. A driver of a net is an input, a gate or a latch.
+    /// `DrivenTwice` names the least net with two drivers; else `Undriven` the least with none;
+    /// else `Loop` a ring of gates: where gates all of whose inputs have a level are removed as often as possible,
+    /// a walk begins at the remaining gate of least position and goes on to the driver of its first input that a
+    /// remaining gate drives, until it meets a gate again; the list holds the outputs from this gate on.
     pub fn finish(self) -> Result<Net, NetFault>
         ensures { Finishes self result }
     {
         let alloc = self.alloc();
         check_drivers(alloc, &self)?;
-        check_loops(alloc, &self)?;
-        Ok(Net { made: self })
+        let levels = find_levels(alloc, &self)?;
+        Ok(Net { made: self, levels })
     }
 }

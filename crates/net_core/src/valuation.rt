@@ -5,12 +5,11 @@ ghost use Rattle.net_core.specs.NetList.{nets};
 ghost use Rattle.net_core.specs.Inside.{IsInside};
 ghost use Rattle.net_core.specs.Sound.{HasOneDriverEach, IsSound};
 ghost use Rattle.net_core.specs.Level.{AreLevels};
-ghost use Rattle.net_core.specs.Levelled.{AllHaveLevels, IsLevelled, AreRight};
+ghost use Rattle.net_core.specs.Levelled.{AllHaveLevels, AreRight};
 ghost use Rattle.net_core.specs.Order.{IsOrder};
 ghost use Rattle.net_core.specs.Value.{bit_of, index_of, IsConsistent, HasValues};
 
 use crate::level_order::order_by;
-use crate::levels::levels;
 use crate::{Gate, Net, NetMaker};
 use std::alloc::{AllocError, Global};
 
@@ -97,7 +96,9 @@ fn values_by(
     Ok(bits)
 }
 
-/// The one valuation of all nets at these values of the primary inputs.
+/// The one list of bits, one for each net, in which the primary inputs have these values, in the order of `inputs`,
+/// and each gate's output is its table's bit. The net has no latches.
+/// It answers nothing but the list and want of memory.
 pub fn eval(alloc: Global, net: &Net, values: &[bool]) -> Result<Vec<bool>, AllocError>
     requires latches { net.now.latches ≡ [] }
     requires values { length values.now ≡ length net.now.inputs }
@@ -106,8 +107,7 @@ pub fn eval(alloc: Global, net: &Net, values: &[bool]) -> Result<Vec<bool>, Allo
     ensures only { IfOk result (λ v. (w : _) → IsConsistent net.now w → HasValues net.now values.now w → v.items ≡ w) }
 {
     let made = net.made();
-    let levels = levels(alloc, made)?;
-    let order = order_by(alloc, made, &levels)?;
+    let order = order_by(alloc, made, net.levels())?;
     let bits = values_by(alloc, made, &order, values)?;
     Ok(bits)
 }

@@ -1,0 +1,77 @@
+-- Edges of a graph that was changed.
+use Rattle.std.proofs.Common.{◌≡◌, ◌≢◌, ◌⊎◌, ap, sym, refl, inl, inr, subst, ℕ, zero, suc, ◌<◌, ◌≤◌, ◌+◌, List, [], ◌∷◌, ◌++◌, length, length-set, ◌^◌, replicate, Option, None, Some, arith}
+use Rattle.std.specs.Prelude.{slice_get, All, IfSome}
+use Rattle.std.proofs.Math.ListN.{set}
+use Rattle.std.proofs.lemmas.Bool.Decides.{eqb_tells}
+use Rattle.std.proofs.lemmas.List.{length-replicate}
+use Rattle.std.proofs.lemmas.Option.{slice_get_within, get_or_from_slice_get}
+use Rattle.graph_core.specs.Graph.{Graph, Has, edges, IsInside}
+
+pub nat_eq_or : (a b : ℕ) → (a ≡ b) ⊎ (a ≢ b)
+nat_eq_or a b = elim (eqb_tells a b) [ inl w ↦ inl w.1 | inr w ↦ inr w.1 ]
+
+pub All_has : {X : Type 0} (P : X → Type 0) (xs : List X) (x : X) → All P xs → Has xs x → P x
+All_has P xs x all has = subst P (get_or_from_slice_get xs has.0 x x has.1) (all has.0 x (slice_get_within xs has.0 x has.1))
+
+pub edges_within : (graph : Graph) (a k b : ℕ) → slice_get (edges graph a) k ≡ Some b → a < length graph
+edges_within [] a k b got = absurd (cc)
+edges_within (row ∷ rows) zero k b got = omega arith
+edges_within (row ∷ rows) (suc a) k b got = omega (arith, edges_within rows a k b got)
+
+pub edges_set_same : (graph : Graph) (a : ℕ) (to : List ℕ) → a < length graph → edges (set graph a to) a ≡ to
+edges_set_same [] a to less = absurd (omega arith)
+edges_set_same (row ∷ rows) zero to less = refl
+edges_set_same (row ∷ rows) (suc a) to less = edges_set_same rows a to (omega arith)
+
+pub edges_set_other : (graph : Graph) (a : ℕ) (to : List ℕ) (b : ℕ) → b ≢ a → edges (set graph a to) b ≡ edges graph b
+edges_set_other [] a to b other = refl
+edges_set_other (row ∷ rows) zero to zero other = absurd (other refl)
+edges_set_other (row ∷ rows) zero to (suc b) other = refl
+edges_set_other (row ∷ rows) (suc a) to zero other = refl
+edges_set_other (row ∷ rows) (suc a) to (suc b) other = edges_set_other rows a to b (λ e. other (ap suc e))
+
+pub edges_none : (n a : ℕ) → edges (replicate n []) a ≡ []
+edges_none zero a = refl
+edges_none (suc n) zero = refl
+edges_none (suc n) (suc a) = edges_none n a
+
+pub inside_none : (n : ℕ) → IsInside (replicate n [])
+inside_none n a b (k, got) =
+    let P : List ℕ → Type 0 = λ ns. slice_get ns k ≡ Some b in
+    let got' : P [] = subst P (edges_none n a) got in absurd (cc)
+
+pub inside_set : (graph : Graph) (from : ℕ) (to : List ℕ) → from < length graph → All (λ a. a < length graph) to → IsInside graph → IsInside (set graph from to)
+inside_set graph from to less all inside a b (k, got) =
+    let P : List ℕ → Type 0 = λ ns. slice_get ns k ≡ Some b in
+    let less' : b < length graph = elim (nat_eq_or a from) [
+      | inl same ↦
+          let Q : ℕ → Type 0 = λ c. slice_get (edges (set graph from to) c) k ≡ Some b in
+          let got' : P to = subst P (edges_set_same graph from to less) (subst Q same got) in
+          All_has (λ c. c < length graph) to b all (k, got')
+      | inr other ↦ inside a b (k, subst P (edges_set_other graph from to a other) got)
+    ] in
+    omega (arith, length-set graph from to)
+
+replicate_more : {X : Type 0} (x : X) (n : ℕ) → replicate n x ++ x ∷ [] ≡ replicate (suc n) x
+replicate_more x zero = refl
+replicate_more x (suc n) = ap (λ (xs : List _). x ∷ xs) (replicate_more x n)
+
+-- one more point without edges
+pub none_more : (graph : Graph) (n : ℕ) (row : List ℕ) → graph ≡ replicate n [] → row ≡ [] → graph ++ row ∷ [] ≡ replicate (n + 1) []
+none_more graph n row is none =
+    let e : n + 1 ≡ suc n = omega arith in rw (is, none, e) (replicate_more [] n)
+
+pub none_fits : (graph : Graph) (n : ℕ) → graph ≡ replicate n [] → n ≤ 2 ^ 32 → IsInside graph × (length graph ≤ 2 ^ 32)
+none_fits graph n is few =
+    let P : Graph → Type 0 = λ g. IsInside g × (length g ≤ 2 ^ 32) in
+    subst P (sym is) (inside_none n, rw (length-replicate {A = List ℕ} n []) few)
+
+pub set_fits : (graph old : Graph) (from : ℕ) (to row : List ℕ) → graph ≡ old → row ≡ to → from < length old → All (λ a. a < length old) to → IsInside graph × (length graph ≤ 2 ^ 32) → IsInside (set graph from row) × (length (set graph from row) ≤ 2 ^ 32)
+set_fits graph old from to row same is less all fits =
+    let P : Graph → Type 0 = λ g. (from < length g) × All (λ a. a < length g) to in
+    let here : P graph = subst P (sym same) (less, all) in
+    rw is (inside_set graph from to here.0 here.1 fits.0, rw (length-set graph from to) fits.1)
+
+pub some_inside : (graph : Graph) (a k : ℕ) (r : Option ℕ) → IsInside graph → r ≡ slice_get (edges graph a) k → IfSome r (λ to. to < length graph)
+some_inside graph a k None inside is = tt
+some_inside graph a k (Some to) inside is = inside a to (k, sym is)

@@ -1,0 +1,33 @@
+-- Graphs: for each point, by its number, the list of the points to which its edges lead, in order.
+use Rattle.std.specs.Prelude.{◌≡◌, ℕ, ◌<◌, List, [], length, Some, slice_get, unwrap_or}
+use Rattle.graph_core.specs.Walk.{IsChain, IsRingBy}
+
+abbrev pub Graph : Type 0
+Graph = List (List ℕ)
+
+-- where the edges of a point lead
+abbrev pub edges : Graph → ℕ → List ℕ
+edges graph a = unwrap_or (slice_get graph a) []
+
+-- x stands in the list
+abbrev pub Has : {X : Type 0} → List X → X → Type 0
+Has xs x = (k : ℕ) × (slice_get xs k ≡ Some x)
+
+-- an edge leads from a to b
+abbrev pub HasEdge : Graph → ℕ → ℕ → Type 0
+HasEdge graph a b = Has (edges graph a) b
+
+-- edges lead to points of the graph
+abbrev pub IsInside : Graph → Type 0
+IsInside graph = (a b : ℕ) → HasEdge graph a b → b < length graph
+
+-- one or more edges lead from a over these points to b
+abbrev pub IsPath : Graph → ℕ → List ℕ → ℕ → Type 0
+IsPath graph = IsChain (HasEdge graph)
+
+-- one or more points, of which each leads to the next and the last to the first
+abbrev pub IsRing : Graph → List ℕ → Type 0
+IsRing graph = IsRingBy (HasEdge graph)
+
+abbrev pub HasRing : Graph → Type 0
+HasRing graph = (ring : List ℕ) × IsRing graph ring

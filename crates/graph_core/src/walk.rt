@@ -1,0 +1,220 @@
+//! A walk in depth, with a stack of its own, which puts points in an order or finds a ring.
+ghost use Rattle.std.specs.Prelude.{◌≡◌, ◌<◌, ◌≤◌, ◌+◌, ◌^◌, ◌++◌, ◌∷◌, [], ℕ, All, IfErr, IfOk, IfSome, List, OnOk, Some, drop, length, map, slice_get, slice_set, vec_len};
+ghost use Rattle.graph_core.specs.Arranged.{IsArranged};
+ghost use Rattle.graph_core.specs.Fault.{IsRingFault};
+ghost use Rattle.graph_core.specs.Graph.{edges, IsInside};
+ghost use Rattle.graph_core.specs.Walking.{AreUnseen, EarlierAreGrounded, IsMet, IsWalking, KeepsMet, StartsAt, work};
+ghost use Rattle.graph_core.specs.declared.walk.Mark.TheVariants.{Unseen, Open, Done};
+
+use crate::{Graph, RingFault};
+use std::alloc::{AllocError, Global};
+
+// What the walk knows of a point: its place on the stack, or its place in the order.
+#[derive(Clone, Copy)]
+enum Mark {
+    Unseen,
+    Open(usize),
+    Done(usize),
+}
+
+// A point of the walk, and the edge to follow next.
+#[derive(Clone, Copy)]
+struct Frame {
+    point: u32,
+    next: usize,
+}
+
+/// The roots and the points to which they lead, each once and each after those to which it leads.
+/// Where a root leads into a ring, it is the ring that a walk finds, which begins at the first such root
+/// and goes from each point to the first one that leads into a ring, until it meets a point again.
+pub fn arrange(alloc: Global, graph: &Graph, roots: &[u32]) -> Result<Vec<u32>, RingFault>
+    requires { All (λ a. a < length graph.now) roots.now }
+    ensures arranged { IfOk result (λ order. IsArranged graph.now roots.now order.items) }
+    ensures ring { IfErr result (λ fault. IsRingFault graph.now roots.now fault) }
+{
+    let mut marks = unseen_marks(alloc, graph.points())?;
+    let mut order = Vec::new(alloc);
+    for root in roots {
+        visit_root(alloc, graph, *root, &mut marks, &mut order)?;
+    }
+    Ok(order)
+}
+
+fn unseen_marks(alloc: Global, points: usize) -> Result<Vec<Mark>, AllocError>
+    ensures long { IfOk result (λ marks. vec_len marks ≡ points) }
+    ensures each { IfOk result (λ marks. AreUnseen marks.items) }
+{
+    let mut marks = Vec::new(alloc);
+    for _ in 0..points {
+        marks.push(Mark::Unseen)?;
+    }
+    Ok(marks)
+}
+
+// Puts the points to which the root leads, and the root, into the order, if it is not there.
+fn visit_root(
+    alloc: Global,
+    graph: &Graph,
+    root: u32,
+    marks: &mut Vec<Mark>,
+    order: &mut Vec<u32>,
+) -> Result<(), RingFault>
+    requires root { root < length graph.now }
+    requires walk { IsWalking graph.now marks.old.items [] order.old.items }
+    ensures walk { OnOk result (IsWalking graph.now marks.new.items [] order.new.items) }
+    ensures met { OnOk result (KeepsMet marks.old.items marks.new.items) }
+    ensures root { OnOk result (IsMet marks.new.items root) }
+    ensures ring { (roots : List ℕ) (i : ℕ) → EarlierAreGrounded graph.now roots root i → IfErr result (λ fault. IsRingFault graph.now roots fault) }
+{
+    match marks[root as usize] {
+        Mark::Open(_) | Mark::Done(_) => Ok(()),
+        Mark::Unseen => visit(alloc, graph, root, marks, order),
+    }
+}
+
+// Puts the points to which an unseen root leads, and the root, into the order.
+fn visit(
+    alloc: Global,
+    graph: &Graph,
+    root: u32,
+    marks: &mut Vec<Mark>,
+    order: &mut Vec<u32>,
+) -> Result<(), RingFault>
+    requires root { slice_get marks.old.items root ≡ Some Unseen }
+    requires walk { IsWalking graph.now marks.old.items [] order.old.items }
+    ensures walk { OnOk result (IsWalking graph.now marks.new.items [] order.new.items) }
+    ensures met { OnOk result (KeepsMet marks.old.items marks.new.items) }
+    ensures root { OnOk result (IsMet marks.new.items root) }
+    ensures ring { (roots : List ℕ) (i : ℕ) → EarlierAreGrounded graph.now roots root i → IfErr result (λ fault. IsRingFault graph.now roots fault) }
+{
+    let mut stack = begin(alloc, root, marks)?;
+    while let Some(frame) = stack.pop() {
+        step(alloc, graph, frame, marks, &mut stack, order)?;
+    }
+    Ok(())
+}
+
+// The stack with the root alone.
+fn begin(alloc: Global, root: u32, marks: &mut Vec<Mark>) -> Result<Vec<Frame>, AllocError>
+    requires root { slice_get marks.old.items root ≡ Some Unseen }
+    ensures stack { IfOk result (λ stack. stack.items ≡ record { point = root; next = 0 } ∷ []) }
+    ensures marks { OnOk result (marks.new.items ≡ slice_set marks.old.items root (Open 0)) }
+{
+    let mut stack = Vec::new(alloc);
+    stack.push(Frame {
+        point: root,
+        next: 0,
+    })?;
+    marks[root as usize] = Mark::Open(0);
+    Ok(stack)
+}
+
+// Leaves the point of the frame, or follows its next edge.
+fn step(
+    alloc: Global,
+    graph: &Graph,
+    frame: Frame,
+    marks: &mut Vec<Mark>,
+    stack: &mut Vec<Frame>,
+    order: &mut Vec<u32>,
+) -> Result<(), RingFault>
+    requires { IsWalking graph.now marks.old.items (stack.old.items ++ frame ∷ []) order.old.items }
+    ensures walk { OnOk result (IsWalking graph.now marks.new.items stack.new.items order.new.items) }
+    ensures first { OnOk result ((root : ℕ) → StartsAt root (stack.old.items ++ frame ∷ []) → StartsAt root stack.new.items) }
+    ensures met { OnOk result (KeepsMet marks.old.items marks.new.items) }
+    ensures work { OnOk result (work marks.new.items stack.new.items < work marks.old.items (stack.old.items ++ frame ∷ [])) }
+    ensures ring { (root : ℕ) (roots : List ℕ) (i : ℕ) → StartsAt root (stack.old.items ++ frame ∷ []) → EarlierAreGrounded graph.now roots root i → IfErr result (λ fault. IsRingFault graph.now roots fault) }
+{
+    match next_edge(graph, frame) {
+        None => {
+            leave(frame, marks, order)?;
+            Ok(())
+        }
+        Some(to) => match marks[to as usize] {
+            Mark::Open(from) => {
+                let points = ring_points(alloc, stack, frame, from)?;
+                Err(RingFault::Ring { points })
+            }
+            Mark::Done(_) => {
+                advance(frame, stack)?;
+                Ok(())
+            }
+            Mark::Unseen => {
+                descend(frame, to, marks, stack)?;
+                Ok(())
+            }
+        },
+    }
+}
+
+// Where the next edge of the frame leads.
+fn next_edge(graph: &Graph, frame: Frame) -> Option<u32>
+    requires { frame.point < length graph.now }
+    ensures value { result ≡ slice_get (edges graph.now frame.point) frame.next }
+    ensures inside { IfSome result (λ to. to < length graph.now) }
+    ensures small { IfSome result (λ _. frame.next < 2 ^ 63) }
+{
+    item(graph.edges(frame.point), frame.next)
+}
+
+fn item(row: &[u32], k: usize) -> Option<u32>
+    ensures value { result ≡ slice_get row.now k }
+    ensures small { IfSome result (λ _. k < 2 ^ 63) }
+{
+    row.get(k).copied()
+}
+
+// The point is done and the next one of the order.
+fn leave(frame: Frame, marks: &mut Vec<Mark>, order: &mut Vec<u32>) -> Result<(), AllocError>
+    requires { frame.point < length marks.old.items }
+    ensures marks { OnOk result (marks.new.items ≡ slice_set marks.old.items frame.point (Done (length order.old.items))) }
+    ensures order { OnOk result (order.new.items ≡ order.old.items ++ frame.point ∷ []) }
+{
+    marks[frame.point as usize] = Mark::Done(order.len());
+    order.push(frame.point)?;
+    Ok(())
+}
+
+// Passes by an edge to a point that is done.
+fn advance(frame: Frame, stack: &mut Vec<Frame>) -> Result<(), AllocError>
+    requires { frame.next < 2 ^ 63 }
+    ensures stack { OnOk result (stack.new.items ≡ stack.old.items ++ record { point = frame.point; next = frame.next + 1 } ∷ []) }
+{
+    stack.push(Frame {
+        point: frame.point,
+        next: frame.next + 1,
+    })?;
+    Ok(())
+}
+
+// Goes along an edge to a point that was not met.
+fn descend(
+    frame: Frame,
+    to: u32,
+    marks: &mut Vec<Mark>,
+    stack: &mut Vec<Frame>,
+) -> Result<(), AllocError>
+    requires { to < length marks.old.items }
+    ensures stack { OnOk result (stack.new.items ≡ (stack.old.items ++ frame ∷ []) ++ record { point = to; next = 0 } ∷ []) }
+    ensures marks { OnOk result (marks.new.items ≡ slice_set marks.old.items to (Open (length stack.old.items + 1))) }
+{
+    stack.push(frame)?;
+    marks[to as usize] = Mark::Open(stack.len());
+    stack.push(Frame { point: to, next: 0 })?;
+    Ok(())
+}
+
+// The points of the walk from this place on.
+fn ring_points(
+    alloc: Global,
+    stack: &[Frame],
+    frame: Frame,
+    from: usize,
+) -> Result<Vec<u32>, AllocError>
+    requires { from ≤ length stack.now }
+    ensures { IfOk result (λ points. points.items ≡ map (λ f. f.point) (drop from stack.now) ++ frame.point ∷ []) }
+{
+    let mut points: Vec<u32> = stack[from..].iter().map(|f| f.point).collect(alloc)?;
+    points.push(frame.point)?;
+    Ok(points)
+}

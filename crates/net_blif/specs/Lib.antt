@@ -1,0 +1,9 @@
+pub mod Lines
+pub mod Statement
+pub mod Cover
+pub mod Item
+pub mod Design
+pub mod Models
+pub mod Flat
+pub mod Spelling
+pub mod NamedWalk

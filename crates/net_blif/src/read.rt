@@ -1,0 +1,97 @@
+//! The reader of BLIF.
+ghost use Rattle.std.specs.Prelude.{◌≡◌, ◌⊎◌, ◌≤◌, ◌==◌, ◌&&◌, Ok, Err, IfOk, IfErr, length, take_while, nat_le};
+ghost use Rattle.text_core.specs.Lines.{tokens_of};
+ghost use Rattle.net_blif.specs.Lines.{lines_of};
+ghost use Rattle.net_blif.specs.Statement.{is_dotted as dotted};
+ghost use Rattle.net_blif.specs.Models.{begins, first_word as first_word_of, start, BlifDesign, Reads};
+
+use crate::lines::next_joined;
+use crate::reader::Reader;
+use crate::{BlifFault, Design};
+use std::alloc::{AllocError, Global};
+use text_core::tokens;
+
+// The bytes from `!` to `~` with which a token begins.
+fn printing_front(token: &[u8]) -> &[u8]
+    ensures { result.now ≡ take_while (λ b. nat_le 33 b && nat_le b 126) token.now }
+{
+    for (i, byte) in token.iter().enumerate() {
+        if *byte < b'!' || *byte > b'~' {
+            return &token[..i];
+        }
+    }
+    token
+}
+
+// The bytes from `!` to `~` with which a line begins.
+fn first_word<'a>(alloc: Global, line: &'a [u8]) -> Result<&'a [u8], AllocError>
+    ensures { IfOk result (λ word. word.now ≡ first_word_of (tokens_of line.now)) }
+{
+    let tokens = tokens(alloc, line)?;
+    match tokens.as_slice() {
+        [token, ..] => Ok(printing_front(*token)),
+        [] => Ok(&line[..0]),
+    }
+}
+
+fn begins_with_dot(word: &[u8]) -> bool
+    ensures { result ≡ dotted word.now }
+{
+    match word {
+        [first, ..] => *first == b'.',
+        [] => false,
+    }
+}
+
+// Whether the first statement of a text is `.model`.
+fn has_model(alloc: Global, text: &[u8]) -> Result<bool, AllocError>
+    requires { length text.now ≤ 67108864 }
+    ensures { IfOk result (λ has. has ≡ begins (lines_of text.now)) }
+{
+    let mut line = Vec::new(alloc);
+    let mut rest = text;
+    while !rest.is_empty() {
+        let (after, _) = next_joined(rest, &mut line)?;
+        let word = first_word(alloc, &line)?;
+        if begins_with_dot(word) {
+            return Ok(word == b".model".as_slice());
+        }
+        rest = after;
+    }
+    Ok(false)
+}
+
+// What the lines of a text say, one after another.
+fn read_lines(alloc: Global, text: &[u8]) -> Result<Reader, BlifFault>
+    requires { length text.now ≤ 67108864 }
+    ensures read { IfOk result (λ reader. Reads start (lines_of text.now) (Ok reader)) }
+    ensures fault { IfErr result (λ e. (e ≡ BlifFault.OutOfMemory) ⊎ Reads start (lines_of text.now) (Err e)) }
+{
+    let mut reader = Reader::new(alloc);
+    let mut line = Vec::new(alloc);
+    let mut rest = text;
+    let mut number = 1u32;
+    while !rest.is_empty() {
+        let (after, count) = next_joined(rest, &mut line)?;
+        reader = reader.read_line(alloc, number, &line)?;
+        rest = after;
+        number += count;
+    }
+    Ok(reader)
+}
+
+/// The models of a text in BLIF, of at most 67,108,864 bytes, or its first fault.
+/// A text without `.model` as its first statement is `NoModel`; else the first line with a fault decides,
+/// and at one line `Syntax` comes before the others. Want of memory may come at any place.
+pub fn read_blif(alloc: Global, bytes: &[u8]) -> Result<Design, BlifFault>
+    requires { length bytes.now ≤ 67108864 }
+    ensures read { IfOk result (λ design. BlifDesign bytes.now (Ok design)) }
+    ensures fault { IfErr result (λ e. (e ≡ BlifFault.OutOfMemory) ⊎ BlifDesign bytes.now (Err e)) }
+{
+    if !has_model(alloc, bytes)? {
+        return Err(BlifFault::NoModel);
+    }
+    let reader = read_lines(alloc, bytes)?;
+    let design = reader.finish(alloc)?;
+    Ok(design)
+}

@@ -1,0 +1,47 @@
+//! The graph of a net list, in which each net leads to the inputs of its gate.
+ghost use Rattle.std.specs.Prelude.{◌≡◌, IfOk, IfErr};
+ghost use Rattle.graph_core.specs.Arranged.{IsArranged};
+ghost use Rattle.net_core.specs.Inside.{IsInside};
+ghost use Rattle.net_core.specs.Sound.{HasOneDriverEach};
+ghost use Rattle.net_core.specs.Driving.{IsGraphOf, IsLoopFault, roots_of};
+
+use crate::NetMaker;
+use crate::drivers::sources;
+use graph_core::{Graph, RingFault, arrange};
+use std::alloc::{AllocError, Global};
+
+// The graph of the net list.
+fn graph_of(alloc: Global, net: &NetMaker) -> Result<Graph, AllocError>
+    requires { HasOneDriverEach net.now }
+    ensures graph { IfOk result (λ graph. IsGraphOf net.now graph) }
+    ensures inside { IsInside net.now }
+{
+    let mut graph = Graph::new(alloc, net.nets() as u32)?;
+    for gate in net.gates() {
+        graph.set_edges(gate.out(), gate.inputs())?;
+    }
+    Ok(graph)
+}
+
+// The outputs of the gates by position, and then the sources.
+fn roots(alloc: Global, net: &NetMaker) -> Result<Vec<u32>, AllocError>
+    ensures { IfOk result (λ v. v.items ≡ roots_of net.now) }
+{
+    let mut nets: Vec<u32> = net.gates().iter().map(|gate| gate.out()).collect(alloc)?;
+    let sources = sources(alloc, net)?;
+    nets.extend_from_slice(&sources)?;
+    Ok(nets)
+}
+
+// All nets, each after the inputs of its gate; or the ring that a walk from the first gate on finds.
+pub fn nets_in_order(alloc: Global, net: &NetMaker) -> Result<Vec<u32>, RingFault>
+    requires { HasOneDriverEach net.now }
+    ensures order { IfOk result (λ v. (graph : _) × IsGraphOf net.now graph × IsArranged graph (roots_of net.now) v.items) }
+    ensures ring { IfErr result (λ fault. IsLoopFault net.now fault) }
+    ensures inside { IsInside net.now }
+{
+    let graph = graph_of(alloc, net)?;
+    let roots = roots(alloc, net)?;
+    let order = arrange(alloc, &graph, &roots)?;
+    Ok(order)
+}

@@ -1,0 +1,46 @@
+//! Laws of net lists. These functions do nothing: their contracts are proved of the definitions alone.
+ghost use Rattle.std.specs.Prelude.{◌≡◌, ◌⊎◌, ◌<◌, Err, IsSome, List, ℕ};
+ghost use Rattle.net_core.specs.NetList.{NetList, nets};
+ghost use Rattle.net_core.specs.Inside.{IsInside};
+ghost use Rattle.net_core.specs.Sound.{IsSound, IsRing, HasOneDriverEach};
+ghost use Rattle.net_core.specs.Level.{Levels, level_at, AreLevels};
+ghost use Rattle.net_core.specs.Order.{IsLevelOrder};
+ghost use Rattle.net_core.specs.Loop.{HasLevel, IsLoop};
+ghost use Rattle.net_core.specs.Finish.{Finishes};
+ghost use Rattle.net_core.specs.declared.fault.NetFault.{NetFault};
+
+/// The list that `Loop` names is a ring: each net is driven by a gate that has the next among its inputs,
+/// and the last's gate has the first.
+pub fn loop_is_a_ring()
+    ensures { (net : NetList) (loop : List ℕ) → IsLoop net loop → IsRing net loop }
+{}
+
+/// A net list has one such list at most.
+pub fn loop_is_the_only_one()
+    ensures { (net : NetList) (loop other : List ℕ) → IsInside net → HasOneDriverEach net → IsLoop net loop → IsLoop net other → loop ≡ other }
+{}
+
+/// Of a sound net list `finish` gives no fault but want of memory, and of any other it gives one fault:
+/// two that fit are equal, or one is want of memory.
+pub fn finish_accepts_the_sound_nets()
+    ensures sound { (net : NetList) (fault : NetFault) → IsSound net → Finishes net (Err fault) → fault ≡ NetFault.OutOfMemory }
+    ensures one_fault { (net : NetList) (fault other : NetFault) → IsInside net → Finishes net (Err fault) → Finishes net (Err other) → (fault ≡ NetFault.OutOfMemory) ⊎ ((other ≡ NetFault.OutOfMemory) ⊎ (fault ≡ other)) }
+{}
+
+/// A net list whose nets have one driver each has one list of levels at most, also where gates drive each other
+/// in a ring.
+pub fn levels_are_the_only_ones()
+    ensures { (net : NetList) (levels other : Levels) → HasOneDriverEach net → AreLevels net levels → AreLevels net other → levels ≡ other }
+{}
+
+/// In a list of levels the nets that have one are those that stay where gates all of whose inputs have a level
+/// are removed as often as possible.
+pub fn levels_are_where_nets_have_them()
+    ensures known { (net : NetList) (levels : Levels) (n : ℕ) → HasOneDriverEach net → AreLevels net levels → HasLevel net n → IsSome (level_at levels n) }
+    ensures only { (net : NetList) (levels : Levels) (n : ℕ) → HasOneDriverEach net → AreLevels net levels → IsSome (level_at levels n) → HasLevel net n }
+{}
+
+/// A net list has one order of its gates by level and position at most.
+pub fn order_is_the_only_one()
+    ensures { (net : NetList) (order other : List ℕ) → HasOneDriverEach net → IsLevelOrder net order → IsLevelOrder net other → order ≡ other }
+{}
