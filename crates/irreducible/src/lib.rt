@@ -5,6 +5,8 @@
 mod bit_matrix;
 mod elimination;
 mod proved_rings;
+#[cfg(test)]
+mod tests;
 
 pub use bit_matrix::BitMatrix;
 pub use proved_rings::Proved;
