@@ -1,2 +1,3 @@
 pub mod Ring2kSteps
 pub mod Shifts
+pub mod Copies

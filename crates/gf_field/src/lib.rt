@@ -12,7 +12,7 @@ mod rings;
 mod tests;
 mod traces;
 
-pub use elements::is_element;
+pub use elements::{filled, first_outside, is_element};
 pub use fields::Field;
 pub use laws::{
     additive_squares, convolution_sum, few_roots, irreducible_modulus, only_product, own_power,
