@@ -2,6 +2,12 @@
 //! a modulus and one tower step.
 #![tactic(auto)]
 
+mod any_field;
+mod laws;
+#[cfg(test)]
+mod tests;
 mod towers;
 
+pub use any_field::{AnyField, FieldFault};
+pub use laws::irreducible_tower;
 pub use towers::{Tower, TowerFault};

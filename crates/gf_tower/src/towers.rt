@@ -65,10 +65,20 @@ impl<F: Field> Tower<F> {
             return Err((TowerFault::BadLength, base));
         }
         if let Some(place) = first_outside(&base, coefficients) {
-            return Err((TowerFault::BadCoefficient { place: place as u32 }, base));
+            return Err((
+                TowerFault::BadCoefficient {
+                    place: place as u32,
+                },
+                base,
+            ));
         }
         let low = packed(n, coefficients);
-        Ok(Tower { base, coefficients: filled(coefficients), length: coefficients.len() as u32, low })
+        Ok(Tower {
+            base,
+            coefficients: filled(coefficients),
+            length: coefficients.len() as u32,
+            low,
+        })
     }
 
     /// The field below.
