@@ -9,4 +9,5 @@ mod proved_rings;
 mod tests;
 
 pub use bit_matrix::BitMatrix;
+pub use elimination::combined;
 pub use proved_rings::Proved;

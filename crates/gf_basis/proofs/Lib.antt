@@ -1,0 +1,3 @@
+pub mod TraceWordLaws
+pub mod BasisLaws
+pub mod CodeLaws

@@ -1,0 +1,8 @@
+//! Bases of a field over the field of 0 and 1, by which bits of hardware stand for elements.
+//! Each has its dual basis, which gives the bits of an element, and each bit as a linear form of the element.
+#![tactic(auto)]
+
+mod bases;
+mod duals;
+
+pub use bases::{Basis, BasisFault};
