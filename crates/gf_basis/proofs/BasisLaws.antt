@@ -19,7 +19,7 @@ use Rattle.irreducible.specs.Span.{combination, IsIndependent}
 use Rattle.irreducible.specs.SpanLaws.{combination_zero}
 use Rattle.irreducible.specs.AdditiveLaws.{IsAdditive-self, additive-combination}
 use Rattle.irreducible.proofs.InverseMatrixLaws.{sums_reach, sums_apart}
-use Rattle.gf_basis.specs.Basis.{AreBits, HasOnlyBits, IsBasis}
+use Rattle.gf_basis.specs.Basis.{AreBits, HasOnlyBits, IsBasis, IsBasisList, AreIndependentLists}
 use Rattle.gf_basis.specs.Dual.{AreDual, linear_value}
 use Rattle.gf_basis.specs.TraceWord.{trace_word}
 use Rattle.gf_basis.proofs.TraceWordLaws.{IsAdditive-trace_word, trace_word_below, bit_at-trace_word, trace_word_unit, nondegenerate, IsSquare-elements}
@@ -44,6 +44,12 @@ IsIndependent-from_basis k bs basis = record { only_zero = λ c h e. at (basis.s
   where
     at : HasOnlyBits bs 0 → (c : ℕ) → c < 2 ^ length bs → combination bs c ≡ 0 → c ≡ 0
     at o c h e = o.only c (record { short = h; is = e }) ∙ sym (o.only 0 (record { short = pow_pos (length bs); is = combination_zero bs }))
+
+pub AreIndependentLists-all : (k : ℕ) → AreIndependentLists k
+AreIndependentLists-all k list = (
+  λ basis. record { size = basis.size; inside = basis.inside; free = IsIndependent-from_basis k list basis },
+  λ l. IsBasis-from_independent k list l.size l.inside l.free,
+)
 
 -- ---- dual bases
 module _ (k : ℕ) (mul : ℕ → ℕ → ℕ) (ring : IsRing k mul) (field : HasNoZeroDivisors k mul) where

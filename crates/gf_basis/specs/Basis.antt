@@ -1,7 +1,7 @@
 -- Bases of a field of 2 to the k elements over the field of 0 and 1 (Lidl and Niederreiter, Finite Fields, chapter 2).
-use Rattle.std.specs.Prelude.{◌≡◌, ℕ, zero, suc, ◌<◌, ◌^◌, List, [], ◌∷◌, length}
+use Rattle.std.specs.Prelude.{◌≡◌, ℕ, zero, suc, ◌<◌, ◌^◌, ◌↔◌, List, [], ◌∷◌, length}
 use Rattle.gf_field.specs.Element.{AreElements}
-use Rattle.irreducible.specs.Span.{combination}
+use Rattle.irreducible.specs.Span.{combination, IsIndependent}
 
 -- bit i of `bits` says whether element i is chosen, and x is the sum of the chosen elements
 pub record AreBits (elements : List ℕ) (x bits : ℕ) : Type 0 where
@@ -20,7 +20,17 @@ pub record IsBasis (k : ℕ) (elements : List ℕ) : Type 0 where
   pub inside : AreElements k elements
   pub sums : (x : ℕ) → x < 2 ^ k → HasOnlyBits elements x
 
+-- what a basis can be made of: k independent elements
+pub record IsBasisList (k : ℕ) (list : List ℕ) : Type 0 where
+  pub size : length list ≡ k
+  pub inside : AreElements k list
+  pub free : IsIndependent list
+
 -- the list f 0, f 1, .., of k values
 abbrev pub first_values : ℕ → (ℕ → ℕ) → List ℕ
 first_values zero f = []
 first_values (suc k) f = f 0 ∷ first_values k (λ i. f (suc i))
+
+-- the bases are the lists of k independent elements
+abbrev pub AreIndependentLists : ℕ → Type 0
+AreIndependentLists k = (list : List ℕ) → IsBasis k list ↔ IsBasisList k list

@@ -7,12 +7,6 @@ use Rattle.gf_basis.specs.Basis.{first_values}
 use Rattle.gf_basis.specs.declared.bases.BasisFault.{BasisFault}
 use Rattle.gf_basis.specs.declared.bases.BasisFault.TheVariants.{WrongCount, BadElement, Dependent}
 
--- what a basis can be made of: k independent elements
-pub record IsBasisList (k : ℕ) (list : List ℕ) : Type 0 where
-  pub size : length list ≡ k
-  pub inside : AreElements k list
-  pub free : IsIndependent list
-
 -- not k numbers, of which there are `count` (2 to the 32 less 1 stands for any larger number); the first that is no
 -- element; or dependent elements
 abbrev pub IsListFault : ℕ → List ℕ → BasisFault → Type 0

@@ -3,6 +3,7 @@ use Rattle.std.specs.Prelude.{◌≡◌, ◌≢◌, ℕ, ◌<◌, List, length, 
 use Rattle.gf_field.specs.Element.{AreElements}
 use Rattle.gf_field.specs.Polynomial.{sum_of_first}
 use Rattle.gf_field.specs.Trace.{frobenius, trace}
+use Rattle.gf_basis.specs.Basis.{IsBasis}
 
 -- the trace of dual i times element j is 1 where i is j, else 0
 pub record AreDual (k : ℕ) (mul : ℕ → ℕ → ℕ) (elements duals : List ℕ) : Type 0 where
@@ -14,3 +15,7 @@ pub record AreDual (k : ℕ) (mul : ℕ → ℕ → ℕ) (elements duals : List 
 -- the sum of coefficient j times x squared j times, for j below k
 abbrev pub linear_value : ℕ → (ℕ → ℕ → ℕ) → List ℕ → ℕ → ℕ
 linear_value k mul coefficients x = sum_of_first k (λ j. mul (slice_index coefficients j) (frobenius mul j x))
+
+-- a basis has one dual
+abbrev pub HasOnlyDuals : ℕ → (ℕ → ℕ → ℕ) → Type 0
+HasOnlyDuals k mul = (elements duals others : List ℕ) → IsBasis k elements → AreDual k mul elements duals → AreDual k mul elements others → duals ≡ others

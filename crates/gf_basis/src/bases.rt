@@ -5,7 +5,7 @@ ghost use Rattle.std.specs.Int.{bit_at};
 ghost use Rattle.gf_field.specs.Element.{AreElements};
 ghost use Rattle.gf_field.specs.Trace.{frobenius as frobenius_of};
 ghost use Rattle.irreducible.specs.Span.{combination, IsIndependent};
-ghost use Rattle.gf_basis.specs.Basis.{AreBits, IsBasis, first_values};
+ghost use Rattle.gf_basis.specs.Basis.{AreBits, IsBasisList, first_values};
 ghost use Rattle.gf_basis.specs.Dual.{linear_value};
 
 use super::duals::{conjugates, trace_matrix, traces};
@@ -39,7 +39,7 @@ pub enum BasisFault {
 
 impl Basis {
     ghost use Rattle.gf_basis.specs.BasisParts.{elements_of, duals_of, IsOver};
-    ghost use Rattle.gf_basis.specs.BasisFault.{IsBasisList, IsListFault, IsNormalFault, conjugates_of};
+    ghost use Rattle.gf_basis.specs.BasisFault.{IsListFault, IsNormalFault, conjugates_of};
 
     /// The polynomial basis: element i is the number `2^i`.
     pub fn poly<F: Field>(field: &F) -> Basis

@@ -4,5 +4,9 @@
 
 mod bases;
 mod duals;
+mod laws;
+#[cfg(test)]
+mod tests;
 
 pub use bases::{Basis, BasisFault};
+pub use laws::{independent_lists, only_duals};
