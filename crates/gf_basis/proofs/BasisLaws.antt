@@ -1,12 +1,11 @@
 -- k independent elements are a basis, and a basis is independent; the dual basis, its bits and its linear forms.
-use Rattle.std.proofs.Common.{◌≡◌, ◌≢◌, ℕ, zero, suc, refl, sym, ◌∙◌, ap, ap₂, ◌<◌, ◌≤◌, ◌^◌, ◌%◌, arith, pow_pos, subst, List, length, get_or, take, inl, inr}
+use Rattle.std.proofs.Common.{◌≡◌, ℕ, zero, suc, refl, sym, ◌∙◌, ap, ap₂, ◌<◌, ◌≤◌, ◌^◌, arith, pow_pos, subst, List, length, get_or, take}
 use Rattle.std.specs.Prelude.{bit_xor, slice_index}
 use Rattle.std.specs.Int.{bit_at}
 use Rattle.std.specs.Int.Bits.{xor_self, xor_lt}
 use Rattle.std.proofs.lemmas.List.{ext_get_or, get_or-take, length-take-le}
 use Rattle.std.proofs.lemmas.Nat.Bits.{bit_at-pow_same, bit_at-pow_other}
 use native.Mathlib.Nat.{mod-eq_of_lt}
-use mathlib.Core.Path.{fun_ext}
 use Rattle.gf_field.specs.XorLaws.{xor_same}
 use Rattle.gf_field.specs.Ring.{IsRing}
 use Rattle.gf_field.specs.Field.{HasNoZeroDivisors}
@@ -19,10 +18,10 @@ use Rattle.irreducible.specs.Span.{combination, IsIndependent}
 use Rattle.irreducible.specs.SpanLaws.{combination_zero}
 use Rattle.irreducible.specs.AdditiveLaws.{IsAdditive-self, additive-combination}
 use Rattle.irreducible.proofs.InverseMatrixLaws.{sums_reach, sums_apart}
-use Rattle.gf_basis.specs.Basis.{AreBits, HasOnlyBits, IsBasis, IsBasisList, AreIndependentLists}
+use Rattle.gf_basis.specs.Basis.{AreBits, HasOnlyBits, IsBasis, AreIndependentLists}
 use Rattle.gf_basis.specs.Dual.{AreDual, linear_value}
 use Rattle.gf_basis.specs.TraceWord.{trace_word}
-use Rattle.gf_basis.proofs.TraceWordLaws.{IsAdditive-trace_word, trace_word_below, bit_at-trace_word, trace_word_unit, nondegenerate, IsSquare-elements}
+use Rattle.gf_basis.proofs.TraceWordLaws.{IsAdditive-trace_word, bit_at-trace_word, trace_word_unit, nondegenerate}
 
 -- ---- independent lists of k elements are the bases
 only_bits : (bs : List ℕ) (x : ℕ) → IsIndependent bs → FoundAt (combination bs) (2 ^ length bs) x → HasOnlyBits bs x

@@ -1,8 +1,6 @@
 -- The steps of the code on bases.
-use Rattle.std.proofs.Common.{◌≡◌, ◌≢◌, ℕ, zero, suc, refl, sym, ◌∙◌, ap, ap₂, ◌<◌, ◌≤◌, ◌^◌, ◌+◌, ◌*◌, ◌%◌, arith, pow-suc, subst, List, [], ◌∷◌, length, get_or, set, take, drop, drop-cons, length-drop, get_or-set_same, get_or-set_other, bit_or, inl, inr}
-use Rattle.std.specs.Prelude.{slice_index}
+use Rattle.std.proofs.Common.{◌≡◌, ◌≢◌, ℕ, zero, suc, refl, sym, ◌∙◌, ap, ap₂, ◌<◌, ◌≤◌, ◌^◌, ◌+◌, ◌*◌, ◌%◌, arith, List, length, get_or, set, take, drop, drop-cons, length-drop, get_or-set_other, bit_or}
 use Rattle.std.specs.Int.Bits.{or_shifted}
-use Rattle.std.proofs.lemmas.Bool.{cases_eq}
 use Rattle.std.proofs.lemmas.Nat.{shl_whole, pow_below}
 use Rattle.std.proofs.lemmas.List.{ext_get_or, get_or-take, length-take-le}
 use native.Mathlib.Nat.{mod-eq_of_lt}
@@ -10,7 +8,7 @@ use Rattle.gf_field.specs.Ring.{IsRing}
 use Rattle.gf_field.specs.Field.{HasNoZeroDivisors}
 use Rattle.gf_field.specs.Element.{AreElements}
 use Rattle.gf_field.specs.Trace.{trace}
-use Rattle.irreducible.specs.Span.{combination, IsIndependent}
+use Rattle.irreducible.specs.Span.{IsIndependent}
 use Rattle.irreducible.specs.AdditiveLaws.{IsAdditive-self, combination-additive}
 use Rattle.gf_basis.specs.Basis.{first_values}
 use Rattle.gf_basis.specs.TraceWord.{trace_word}

@@ -1,6 +1,6 @@
 -- Traces as words, and that the matrix of traces is independent exactly where the elements are.
-use Rattle.std.proofs.Common.{◌≡◌, ◌≢◌, ℕ, zero, suc, refl, sym, ◌∙◌, ap, ap₂, ◌<◌, ◌≤◌, ◌^◌, ◌+◌, ◌*◌, ◌/◌, ◌%◌, inl, inr, arith, pow_pos, pow-suc, subst, List, [], ◌∷◌, length, get_or}
-use Rattle.std.specs.Prelude.{bit_xor, slice_index}
+use Rattle.std.proofs.Common.{◌≡◌, ◌≢◌, ℕ, zero, suc, refl, sym, ◌∙◌, ap, ap₂, ◌<◌, ◌≤◌, ◌^◌, ◌+◌, ◌*◌, ◌/◌, ◌%◌, inl, inr, arith, pow-suc, subst, List, [], ◌∷◌, length, get_or}
+use Rattle.std.specs.Prelude.{bit_xor}
 use Rattle.std.specs.Int.{bit_at}
 use Rattle.std.specs.Int.Bits.{xor_self, xor_block}
 use Rattle.std.proofs.lemmas.Bool.{cases_eq}
@@ -10,7 +10,7 @@ use native.Mathlib.Nat.{mod-eq_of_lt}
 use Rattle.gf_field.specs.Ring.{IsRing}
 use Rattle.gf_field.specs.Field.{HasNoZeroDivisors}
 use Rattle.gf_field.specs.Element.{AreElements}
-use Rattle.gf_field.specs.RingLaws.{distrib_left, mul_zero, mul_one}
+use Rattle.gf_field.specs.RingLaws.{distrib_left, mul_one}
 use Rattle.gf_field.specs.FieldLaws.{HasInverse, inverse_of, IsFieldBySquares-from}
 use Rattle.gf_field.specs.Trace.{trace, IsTrace}
 use Rattle.gf_field.specs.TraceLaws.{trace-xor, trace_at_most_one, IsTrace-from_field}
@@ -18,7 +18,7 @@ use Rattle.gf_field.specs.PigeonholeLaws.{FoundAt}
 use Rattle.irreducible.specs.Span.{combination, IsIndependent}
 use Rattle.irreducible.specs.Matrix.{IsSquare, AreInverse}
 use Rattle.irreducible.specs.SpanLaws.{combination_unit, combination_below}
-use Rattle.irreducible.specs.AdditiveLaws.{IsAdditive, IsAdditive-self, IsAdditive-combination, additive_zero, additive-combination}
+use Rattle.irreducible.specs.AdditiveLaws.{IsAdditive, IsAdditive-combination, additive_zero, additive-combination}
 use Rattle.irreducible.proofs.InverseMatrixLaws.{sums_reach}
 use Rattle.gf_basis.specs.TraceWord.{trace_word, IsTraceMatrix}
 

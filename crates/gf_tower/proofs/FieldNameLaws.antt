@@ -1,5 +1,5 @@
 -- A fault of a modulus and coefficients is one exactly where they name no field.
-use Rattle.std.proofs.Common.{◌≡◌, ◌≢◌, ℕ, suc, sym, ◌∙◌, ap, ap₂, ◌<◌, ◌≤◌, ◌^◌, ◌*◌, ◌↔◌, ◌⊎◌, inl, inr, arith, subst, List, [], ◌∷◌, length, not-suc-le-zero}
+use Rattle.std.proofs.Common.{◌≡◌, ℕ, sym, ◌<◌, ◌≤◌, ◌*◌, inl, inr, arith, subst, List, [], length, not-suc-le-zero}
 use Rattle.std.proofs.lemmas.Bool.{cases_eq, cases_lt}
 use Rattle.gf_field.specs.Bit.{bit_mul}
 use Rattle.gf_field.specs.Ring.{IsRing}

@@ -1,5 +1,5 @@
 -- The steps of a product in a tower, digit by digit.
-use Rattle.std.proofs.Common.{◌≡◌, ℕ, zero, suc, pred, refl, sym, ◌∙◌, ap, ap₂, ◌<◌, ◌≤◌, ◌^◌, ◌+◌, ◌*◌, ◌-◌, ◌/◌, ◌%◌, arith, pow_pos, mul-suc, mul-zero, shr-shr, add_comm, sub-eq-zero_of_le, add-zero, pow-add, pow_mono}
+use Rattle.std.proofs.Common.{◌≡◌, ℕ, zero, suc, refl, sym, ◌∙◌, ap, ap₂, ◌<◌, ◌≤◌, ◌^◌, ◌+◌, ◌*◌, ◌-◌, ◌/◌, ◌%◌, arith, pow_pos, mul-suc, mul-zero, shr-shr, add_comm, sub-eq-zero_of_le, add-zero, pow-add, pow_mono}
 use Rattle.std.specs.Prelude.{bit_xor}
 use Rattle.std.specs.Int.Bits.{xor_lt}
 use Rattle.std.proofs.lemmas.Nat.{shr_high, mod_low, pow_below, mod-pow-add, field_of, shr_below}

@@ -1,6 +1,5 @@
 -- A tower's polynomial is monic, and its quotient is a ring, and a field exactly where it is irreducible.
-use Rattle.std.proofs.Common.{◌≡◌, ℕ, zero, suc, sym, ◌∙◌, ap, ap₂, ◌<◌, ◌≤◌, ◌^◌, ◌+◌, ◌*◌, ◌↔◌, arith, pow_pos, mul-suc, mul-zero, pow-add, subst, List, [], ◌∷◌, ◌++◌, length, get_or}
-use Rattle.std.specs.Prelude.{slice_index}
+use Rattle.std.proofs.Common.{◌≡◌, ℕ, suc, sym, ◌∙◌, ap, ap₂, ◌<◌, ◌≤◌, ◌^◌, ◌+◌, ◌*◌, ◌↔◌, arith, pow_pos, mul-suc, mul-zero, pow-add, subst, List, [], ◌∷◌, length}
 use Rattle.std.proofs.Math.Arith.{digits_lt}
 use Rattle.gf_field.specs.Ring.{IsRing}
 use Rattle.gf_field.specs.Field.{HasNoZeroDivisors}

@@ -1,7 +1,7 @@
 //! Ranks, inverses and irreducible moduli whose values come from outside.
 
 use super::*;
-use gf_field::{Field, Ring, Ring2k, is_element};
+use gf_field::{Field, Ring, Ring2k, is_element, trace};
 use std::process::Abort;
 
 // the field of this modulus, if it is one
@@ -90,4 +90,22 @@ fn matrices(rt: HostRuntime) {
     assert_eq!(rt; inverse.apply(7), 5);
     assert_eq!(rt; BitMatrix::new(&[]).rank(), 0);
     assert_eq!(rt; BitMatrix::new(&[0]).rank(), 0);
+}
+
+#[test]
+fn traces(rt: HostRuntime) {
+    for (modulus, a, want) in [
+        (0x2, 1, 1),
+        (0x3, 1, 1),
+        (0x7, 1, 0),
+        (0x7, 2, 1),
+        (0xb, 1, 1),
+        (0xb, 2, 0),
+        (0x13, 1, 0),
+        (0x13, 8, 1),
+    ] {
+        let field = field(modulus).expect(&rt, "a field");
+        assert!(rt; is_element(&field, a));
+        assert_eq!(rt; trace(&field, a), want);
+    }
 }

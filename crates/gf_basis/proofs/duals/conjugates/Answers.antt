@@ -1,4 +1,4 @@
-use Rattle.std.proofs.Common.{◌≡◌, ℕ, ◌<◌, ◌^◌, ◌∙◌, refl, arith, pow_pos, length-set, get_or, replicate, length}
+use Rattle.std.proofs.Common.{◌≡◌, ℕ, ◌<◌, ◌^◌, ◌∙◌, refl, arith, length-set, length}
 use Rattle.std.proofs.Math.ListN.{length-replicate}
 use Rattle.gf_field.specs.Trace.{frobenius}
 use Rattle.gf_field.specs.TraceLaws.{frobenius_next}

@@ -1,4 +1,4 @@
-use Rattle.std.proofs.Common.{◌≡◌, suc, ◌-◌, ◌∙◌, ◌<◌, ◌^◌, sym, ap, arith, drop, length, length-drop}
+use Rattle.std.proofs.Common.{◌≡◌, suc, ◌-◌, ◌∙◌, sym, ap, arith, drop}
 use Rattle.gf_field.specs.Trace.{trace}
 use Rattle.gf_basis.specs.TraceWord.{trace_word}
 use Rattle.gf_basis.proofs.TraceWordLaws.{trace_word_below}

@@ -1,5 +1,4 @@
-use Rattle.std.proofs.Common.{◌≡◌, ℕ, ◌<◌, ◌≤◌, ◌^◌, ◌∙◌, refl, sym, ap, arith, length, length-set, take, subst, get_or}
-use Rattle.std.proofs.lemmas.List.{length-take-le, get_or-take}
+use Rattle.std.proofs.Common.{◌≡◌, ◌<◌, ◌^◌, ◌∙◌, refl, sym, ap, arith, length, length-set, take, subst}
 use Rattle.std.proofs.lemmas.Nat.{one_shl, pow_below}
 use Rattle.irreducible.specs.Span.{combination}
 use Rattle.irreducible.specs.SpanLaws.{combination_below}

@@ -1,4 +1,4 @@
-use Rattle.std.proofs.Common.{◌≡◌, ℕ, ◌<◌, ◌≤◌, ◌^◌, ◌∙◌, refl, sym, arith, length, take, get_or, subst}
+use Rattle.std.proofs.Common.{◌∙◌, refl, sym, arith, subst}
 use Rattle.gf_field.specs.Trace.{frobenius}
 use Rattle.irreducible.specs.Span.{IsIndependent}
 use Rattle.gf_basis.proofs.CodeLaws.{taken_same}

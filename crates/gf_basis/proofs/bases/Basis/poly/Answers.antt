@@ -1,4 +1,4 @@
-use Rattle.std.proofs.Common.{◌≡◌, ℕ, ◌<◌, ◌≤◌, ◌^◌, ◌∙◌, sym, arith, length, take, get_or, subst}
+use Rattle.std.proofs.Common.{◌^◌, ◌∙◌, sym, arith, subst}
 use Rattle.gf_field.specs.Element.{AreElements}
 use Rattle.irreducible.specs.Span.{IsIndependent}
 use Rattle.gf_basis.proofs.CodeLaws.{taken_same, AreElements-units, IsIndependent-powers}

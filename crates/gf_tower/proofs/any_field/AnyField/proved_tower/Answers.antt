@@ -1,10 +1,10 @@
-use Rattle.std.proofs.Common.{ap, ◌∙◌, subst, refl}
+use Rattle.std.proofs.Common.{ap, refl}
 use Rattle.gf_field.specs.Bit.{bit_mul}
 use Rattle.gf_field.specs.Quotient.{product}
 use Rattle.gf_field.specs.Ring2k.{modulus_of, degree_of}
 use Rattle.gf_field.specs.ModulusLaws.{IsRing-from_modulus}
 use Rattle.irreducible.specs.Proved.{ring_of}
-use Rattle.gf_tower.specs.TowerParts.{base_of, coefficients_of}
+use Rattle.gf_tower.specs.TowerParts.{coefficients_of}
 use Rattle.gf_tower.proofs.FieldNameLaws.{tower_field, tower_fault}
 use Rattle.gf_tower.proofs.any_field.AnyField.proved_tower.Goals as goal
 
