@@ -1,5 +1,5 @@
 -- The steps of the code on bases.
-use Rattle.std.proofs.Common.{◌≡◌, ◌≢◌, ℕ, zero, suc, refl, sym, ◌∙◌, ap, ap₂, ◌<◌, ◌≤◌, ◌^◌, ◌+◌, ◌*◌, ◌%◌, arith, List, length, get_or, set, take, drop, drop-cons, length-drop, get_or-set_other, bit_or}
+use Rattle.std.proofs.Common.{◌≡◌, ℕ, zero, suc, refl, sym, ◌∙◌, ap, ap₂, ◌<◌, ◌≤◌, ◌^◌, ◌+◌, ◌*◌, ◌%◌, arith, List, length, get_or, take, drop, drop-cons, length-drop, bit_or}
 use Rattle.std.specs.Int.Bits.{or_shifted}
 use Rattle.std.proofs.lemmas.Nat.{shl_whole, pow_below}
 use Rattle.std.proofs.lemmas.List.{ext_get_or, get_or-take, length-take-le}
@@ -36,10 +36,6 @@ first_values_same k f all room same = ext_get_or 0 (take k all) (first_values k 
 -- the powers of 2 are independent
 pub IsIndependent-units : (units : List ℕ) → ((i : ℕ) → i < length units → get_or units i 0 ≡ 2 ^ i) → IsIndependent units
 IsIndependent-units units at = record { only_zero = λ c h e. sym (mod-eq_of_lt h) ∙ sym (combination-additive units (λ x. x) IsAdditive-self at c) ∙ e }
-
--- ---- entries written one by one
-pub set_rest : (xs : List ℕ) (i v : ℕ) → ((j : ℕ) → i ≤ j → get_or xs j 0 ≡ 0) → (j : ℕ) → i + 1 ≤ j → get_or (set xs i v) j 0 ≡ 0
-set_rest xs i v none j h = let ne : j ≢ i = omega arith in rw get_or-set_other (none j (omega arith))
 
 -- ---- a word of traces
 module _ (k : ℕ) (mul : ℕ → ℕ → ℕ) (ring : IsRing k mul) (field : HasNoZeroDivisors k mul) where

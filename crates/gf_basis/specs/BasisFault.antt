@@ -23,3 +23,7 @@ abbrev pub IsNormalFault : ℕ → (ℕ → ℕ → ℕ) → ℕ → BasisFault 
 IsNormalFault k mul gamma (WrongCount count) = ⊥
 IsNormalFault k mul gamma (BadElement place) = (place ≡ 0) × (2 ^ k ≤ gamma)
 IsNormalFault k mul gamma Dependent = (gamma < 2 ^ k) × ¬ IsIndependent (conjugates_of k mul gamma)
+
+-- a list has at most one fault
+abbrev pub HasOneListFault : ℕ → Type 0
+HasOneListFault k = (list : List ℕ) (f h : BasisFault) → IsListFault k list f → IsListFault k list h → f ≡ h

@@ -1,6 +1,6 @@
 //! Which numbers are elements.
 
-ghost use Rattle.std.specs.Prelude.{◌≡◌, ℕ, ◌<◌, ◌≤◌, ◌^◌, ◌↔◌, IsTrue, IsNone, IfSome, length, take};
+ghost use Rattle.std.specs.Prelude.{◌≡◌, ℕ, ◌<◌, ◌≤◌, ◌^◌, ◌↔◌, IsTrue, IsNone, IfSome, length, slice_index, take};
 ghost use Rattle.gf_field.specs.Element.{AreElements, IsFirstOutside};
 
 use super::rings::Ring;
@@ -29,7 +29,8 @@ pub fn first_outside<R: Ring>(ring: &R, numbers: &[u64]) -> Option<usize>
 /// The numbers, of which there are at most 64, and then zeros.
 pub fn filled(numbers: &[u64]) -> [u64; 64]
     requires { length numbers.now ≤ 64 }
-    ensures { take (length numbers.now) result ≡ numbers.now }
+    ensures numbers { take (length numbers.now) result ≡ numbers.now }
+    ensures zeros { (i : ℕ) → length numbers.now ≤ i → slice_index result i ≡ 0 }
 {
     let mut all = [0; 64];
     for (i, number) in numbers.iter().enumerate() {

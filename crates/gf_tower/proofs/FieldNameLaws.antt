@@ -4,10 +4,11 @@ use Rattle.std.proofs.lemmas.Bool.{cases_eq, cases_lt}
 use Rattle.gf_field.specs.Bit.{bit_mul}
 use Rattle.gf_field.specs.Ring.{IsRing}
 use Rattle.gf_field.specs.Field.{HasNoZeroDivisors}
-use Rattle.gf_field.specs.Element.{AreElements, IsFirstOutside}
+use Rattle.gf_field.specs.Element.{AreElements}
 use Rattle.gf_field.specs.Modulus.{IsModulus, HasModulusDegree}
 use Rattle.gf_field.specs.Polynomial.{IsIrreducible}
 use Rattle.gf_field.specs.Quotient.{product}
+use Rattle.gf_field.proofs.FirstOutside.{first_clash}
 use Rattle.gf_field.specs.IrreducibleBitLaws.{field_by_modulus}
 use Rattle.gf_tower.specs.Tower.{IsLength, IsTowerList, tower_polynomial}
 use Rattle.gf_tower.specs.Digits.{IsPackedList}
@@ -63,9 +64,6 @@ degree_unique d e g p q = elim (cases_eq d e) [
 
 empty_short : (cs : List ℕ) → cs ≡ [] → 0 < length cs → ⊥
 empty_short cs e h = not-suc-le-zero (subst (λ (xs : List ℕ). 0 < length xs) e h)
-
-first_clash : (n : ℕ) (cs : List ℕ) (place : ℕ) → AreElements n cs → IsFirstOutside n cs place → ⊥
-first_clash n cs place all first = let low = all place first.within in let high = first.outside in absurd (omega arith)
 
 pub fault_clash : (g : ℕ) (cs : List ℕ) (fault : FieldFault) → IsFieldFault g cs fault → IsFieldName g cs → ⊥
 fault_clash g cs BadDegree f name = f (name.degree, name.base.modulus)

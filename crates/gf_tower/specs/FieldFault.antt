@@ -1,5 +1,5 @@
 -- Why a modulus and coefficients name no field, each fault after those before it.
-use Rattle.std.specs.Prelude.{ℕ, ◌<◌, List, length}
+use Rattle.std.specs.Prelude.{◌≡◌, ℕ, ◌<◌, List, length}
 use Rattle.gf_field.specs.Bit.{bit_mul}
 use Rattle.gf_field.specs.Element.{IsFirstOutside}
 use Rattle.gf_field.specs.Modulus.{HasModulusDegree}
@@ -17,3 +17,7 @@ IsFieldFault g cs NotIrreducible = HasModulusDegree g × ¬ IsIrreducible 1 bit_
 IsFieldFault g cs BadLength = (d : ℕ) × (IsFieldModulus d g × (0 < length cs) × ¬ IsLength d (length cs))
 IsFieldFault g cs (BadCoefficient place) = (d : ℕ) × (IsFieldModulus d g × IsLength d (length cs) × IsFirstOutside d cs place)
 IsFieldFault g cs TowerNotIrreducible = (d : ℕ) × (IsFieldModulus d g × IsTowerList d cs × ¬ IsIrreducibleOver d g cs)
+
+-- a modulus and coefficients have at most one fault
+abbrev pub HasOneFieldFault : Type 0
+HasOneFieldFault = (g : ℕ) (cs : List ℕ) (f h : FieldFault) → IsFieldFault g cs f → IsFieldFault g cs h → f ≡ h

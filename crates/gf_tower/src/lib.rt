@@ -9,5 +9,5 @@ mod tests;
 mod towers;
 
 pub use any_field::{AnyField, FieldFault};
-pub use laws::irreducible_tower;
+pub use laws::{irreducible_tower, one_field_fault, one_tower_fault};
 pub use towers::{Tower, TowerFault};

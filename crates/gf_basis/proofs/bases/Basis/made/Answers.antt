@@ -47,10 +47,10 @@ returns-clause-over g c =
     let law = g.met.F.Ring.laws c.args.field.now in
     let free = c.in-Some.ensures.found.0 refl in
     record {
-      elements = subst (IsBasis (g.F.Ring.degree c.args.field.now)) (sym c.filled.ensures)
+      elements = subst (IsBasis (g.F.Ring.degree c.args.field.now)) (sym c.filled.ensures.numbers)
           (IsBasis-from_independent _ c.args.elements.now c.requires.size c.requires.inside
           (IsIndependent-from_matrix _ _ law (g.met.F.Field.no_zero_divisors c.args.field.now) c.args.elements.now c.requires.size c.requires.inside (rows_of c.trace_matrix.result) c.trace_matrix.ensures free));
-      dual = subst (λ xs. AreDual (g.F.Ring.degree c.args.field.now) (g.F.Ring.product c.args.field.now) xs (take (length c.args.elements.now) c.loop-i.duals)) (sym c.filled.ensures)
+      dual = subst (λ xs. AreDual (g.F.Ring.degree c.args.field.now) (g.F.Ring.product c.args.field.now) xs (take (length c.args.elements.now) c.loop-i.duals)) (sym c.filled.ensures.numbers)
           (AreDual-from_array _ _ law (g.met.F.Field.no_zero_divisors c.args.field.now) c.args.elements.now c.loop-i.duals c.requires.size (omega (arith, law.small, c.requires.size, c.loop-i.invariant.whole))
           (λ j h. c.loop-i.invariant.words j (omega arith)) (λ j h. c.loop-i.invariant.inside j (omega arith)));
     }
