@@ -1,0 +1,15 @@
+pub mod FieldLaws
+pub mod Monomials
+pub mod Terms
+pub mod Sums
+pub mod Values
+pub mod Products
+pub mod Cofactors
+pub mod Simple
+pub mod Independent
+pub mod Roots
+pub mod Words
+pub mod Subsets
+pub mod Uniqueness
+pub mod InBits
+pub mod Orders
