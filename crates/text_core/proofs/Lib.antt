@@ -1,0 +1,3 @@
+pub mod DeterminedLemmas
+pub mod LineLemmas
+pub mod DigitLemmas

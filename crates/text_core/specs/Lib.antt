@@ -1,0 +1,4 @@
+pub mod Outcome
+pub mod Lines
+pub mod Numbers
+pub mod Names

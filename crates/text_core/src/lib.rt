@@ -1,0 +1,13 @@
+//! What the readers of texts share: lines, tokens, numbers by value and names.
+//! Its definitions give the order in which a reader's refusals stand (`Outcome`).
+#![tactic(auto)]
+
+mod lines;
+mod name;
+mod number;
+#[cfg(test)]
+mod tests;
+
+pub use lines::{before_comment, is_plain, is_printing, next_line, tokens};
+pub use name::is_name;
+pub use number::{read_decimal, read_hex};
