@@ -1,0 +1,25 @@
+//! Powers in a ring.
+
+ghost use Rattle.std.specs.Prelude.{◌≡◌, ℕ, ◌<◌, ◌^◌};
+ghost use Rattle.gf_field.specs.Power.{power as power_of};
+
+use super::rings::Ring;
+
+/// `a` multiplied by itself `e` times; one where `e` is 0, also for `a` = 0.
+pub fn power<R: Ring>(ring: &R, a: u64, e: u64) -> u64
+    requires { a < 2 ^ R.degree ring.now }
+    ensures product { result ≡ power_of (R.product ring.now) a e }
+    ensures element { result < 2 ^ R.degree ring.now }
+{
+    let mut product = ring.one();
+    let mut base = a;
+    let mut left = e;
+    while left > 0 {
+        if left % 2 == 1 {
+            product = ring.mul(product, base);
+        }
+        base = ring.square(base);
+        left /= 2;
+    }
+    product
+}
