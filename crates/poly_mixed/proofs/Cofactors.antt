@@ -12,7 +12,8 @@ use Rattle.poly_mixed.specs.Polynomial.{Terms, Point, IsPoint, IsTerm, IsReduced
 use Rattle.poly_mixed.specs.Monomial.{has_bit}
 use Rattle.poly_mixed.specs.Cofactor.{without_bit, lacking, cofactors, at_bit, HasCofactorValues, IsSubstituted}
 use Rattle.poly_mixed.specs.Sum.{plus}
-use Rattle.poly_mixed.proofs.Sums.{xor_swap, sorted-plus, all_plus}
+use Rattle.gf_field.specs.XorLaws.{xor_swap}
+use Rattle.poly_mixed.proofs.Sums.{sorted-plus, all_plus}
 use Rattle.std.specs.Map.{keys_of}
 use Rattle.poly_mixed.proofs.Products.{value_element}
 use Rattle.poly_mixed.proofs.Values.{value-plus}

@@ -1,5 +1,5 @@
 -- Polynomials in one word: different powers below 2^k, as functions on the field, do not add up to 0.
-use Rattle.std.proofs.Common.{◌≡◌, ℕ, ◌^◌, ◌≤◌, cond, ◌==◌, List, [], ◌∷◌, length, bit_xor}
+use Rattle.std.proofs.Common.{◌≡◌, ℕ, cond, ◌==◌, List, [], ◌∷◌}
 use Rattle.std.specs.List.{AllByRecursion}
 use Rattle.gf_field.specs.Power.{power}
 use Rattle.poly_mixed.specs.Polynomial.{IsElement}
@@ -15,12 +15,3 @@ power_value mul w t = mul t.1 (power mul w t.0)
 -- a polynomial in one word that is 0 everywhere has at each exponent coefficients of sum 0
 pub record IsIndependent (k : ℕ) (mul : ℕ → ℕ → ℕ) : Type 0 where
   pub apart : (ts : List (ℕ × ℕ)) → AllByRecursion (IsPower k) ts → ((w : ℕ) → IsElement k w → xor_sum (power_value mul w) ts ≡ 0) → (e : ℕ) → xor_sum (λ t. cond (t.0 == e) t.1 0) ts ≡ 0
-
--- the value at x, the coefficient of the power 0 first
-abbrev pub horner : (ℕ → ℕ → ℕ) → List ℕ → ℕ → ℕ
-horner mul [] x = 0
-horner mul (c ∷ cs) x = bit_xor c (mul x (horner mul cs x))
-
--- with at most 2^k coefficients, 0 at every element only where each coefficient is 0
-pub record HasFewRoots (k : ℕ) (mul : ℕ → ℕ → ℕ) : Type 0 where
-  pub zeros : (cs : List ℕ) → length cs ≤ 2 ^ k → AllByRecursion (IsElement k) cs → ((x : ℕ) → IsElement k x → horner mul cs x ≡ 0) → AllByRecursion (λ c. c ≡ 0) cs

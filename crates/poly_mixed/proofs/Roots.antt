@@ -7,12 +7,9 @@ use Rattle.poly_mixed.specs.Polynomial.{IsElement}
 use Rattle.poly_mixed.proofs.FieldLaws.{IsField}
 use Rattle.poly_mixed.proofs.Independent.{IsPower, power_value, IsIndependent}
 use Rattle.gf_field.specs.Power.{power}
-use Rattle.gf_field.specs.Ring.{IsRing}
-use Rattle.gf_field.specs.Field.{HasNoZeroDivisors}
-use Rattle.gf_field.specs.Roots.{AllZero, AllElements, Apart, AreRoots, all_zero, value}
-use Rattle.poly_mixed.proofs.Independent.{horner, HasFewRoots}
+use Rattle.gf_field.specs.Roots.{value, HasFewRoots}
 use Rattle.poly_mixed.specs.Sum.{xor_sum}
-use Rattle.poly_mixed.proofs.Sums.{xor_swap}
+use Rattle.gf_field.specs.XorLaws.{xor_swap}
 use Rattle.poly_mixed.proofs.Values.{zero_element, one_element, power_element, product_zero}
 
 -- c more at the power e
@@ -69,9 +66,9 @@ add_at_len (suc n) (suc e) c [] h l = let r = add_at_len n e c [] (omega arith) 
 add_at_len (suc n) (suc e) c (d ∷ cs) h l = let r = add_at_len n e c cs (omega arith) (omega arith) in omega arith
 
 module _ {degree : ℕ} {mul : ℕ → ℕ → ℕ} (f : IsField degree mul) where
-  horner_element : (cs : List ℕ) (x : ℕ) → IsElement degree x → AllByRecursion (IsElement degree) cs → IsElement degree (horner mul cs x)
+  horner_element : (cs : List ℕ) (x : ℕ) → IsElement degree x → AllByRecursion (IsElement degree) cs → IsElement degree (value mul cs x)
   horner_element [] x h all = zero_element f
-  horner_element (c ∷ cs) x h all = xor_lt degree c (mul x (horner mul cs x)) all.0 (f.closed x (horner mul cs x) h (horner_element cs x h all.1))
+  horner_element (c ∷ cs) x h all = xor_lt degree c (mul x (value mul cs x)) all.0 (f.closed x (value mul cs x) h (horner_element cs x h all.1))
 
   add_at_elements : (e c : ℕ) (cs : List ℕ) → IsElement degree c → AllByRecursion (IsElement degree) cs → AllByRecursion (IsElement degree) (add_at e c cs)
   add_at_elements zero c [] h all = (h, tt)
@@ -92,17 +89,17 @@ module _ {degree : ℕ} {mul : ℕ → ℕ → ℕ} (f : IsField degree mul) whe
       let hp = power_element f x e hx in
       sym (f.assoc x c (power mul x e) hx hc hp) ∙ ap (λ n. mul n (power mul x e)) (f.comm x c hx hc) ∙ f.assoc c x (power mul x e) hc hx hp
 
-  horner-add_at : (e c x : ℕ) (cs : List ℕ) → IsElement degree x → IsElement degree c → AllByRecursion (IsElement degree) cs → horner mul (add_at e c cs) x ≡ bit_xor (mul c (power mul x e)) (horner mul cs x)
+  horner-add_at : (e c x : ℕ) (cs : List ℕ) → IsElement degree x → IsElement degree c → AllByRecursion (IsElement degree) cs → value mul (add_at e c cs) x ≡ bit_xor (mul c (power mul x e)) (value mul cs x)
   unfolding power
   horner-add_at zero c x [] hx hc all = ap (bit_xor c) (times_zero x hx) ∙ ap (λ n. bit_xor n 0) (sym (f.comm c 1 hc (one_element f) ∙ f.neutral c hc))
-  horner-add_at zero c x (d ∷ cs) hx hc all = xor_assoc c d (mul x (horner mul cs x)) ∙ ap (λ n. bit_xor n (bit_xor d (mul x (horner mul cs x)))) (sym (f.comm c 1 hc (one_element f) ∙ f.neutral c hc))
+  horner-add_at zero c x (d ∷ cs) hx hc all = xor_assoc c d (mul x (value mul cs x)) ∙ ap (λ n. bit_xor n (bit_xor d (mul x (value mul cs x)))) (sym (f.comm c 1 hc (one_element f) ∙ f.neutral c hc))
   horner-add_at (suc e) c x [] hx hc all =
       xor_zero_l _ ∙ ap (mul x) (horner-add_at e c x [] hx hc tt ∙ xor_zero_r (mul c (power mul x e))) ∙ shift x c e hx hc ∙ sym (xor_zero_r (mul c (power mul x (suc e))))
   horner-add_at (suc e) c x (d ∷ cs) hx hc all =
       let hp = f.closed c (power mul x e) hc (power_element f x e hx) in
       let hh = horner_element cs x hx all.1 in
-      ap (bit_xor d) (ap (mul x) (horner-add_at e c x cs hx hc all.1) ∙ times_sum x (mul c (power mul x e)) (horner mul cs x) hx hp hh ∙ ap (λ n. bit_xor n (mul x (horner mul cs x))) (shift x c e hx hc))
-      ∙ xor_swap d (mul c (power mul x (suc e))) (mul x (horner mul cs x))
+      ap (bit_xor d) (ap (mul x) (horner-add_at e c x cs hx hc all.1) ∙ times_sum x (mul c (power mul x e)) (value mul cs x) hx hp hh ∙ ap (λ n. bit_xor n (mul x (value mul cs x))) (shift x c e hx hc))
+      ∙ xor_swap d (mul c (power mul x (suc e))) (mul x (value mul cs x))
 
   dense_elements : (ts : List (ℕ × ℕ)) → AllByRecursion (IsPower degree) ts → AllByRecursion (IsElement degree) (dense ts)
   dense_elements [] all = tt
@@ -112,7 +109,7 @@ module _ {degree : ℕ} {mul : ℕ → ℕ → ℕ} (f : IsField degree mul) whe
   dense_len [] all = omega arith
   dense_len (t ∷ ts) all = add_at_len (2 ^ degree) t.0 t.1 (dense ts) all.0.0 (dense_len ts all.1)
 
-  dense_value : (ts : List (ℕ × ℕ)) (x : ℕ) → IsElement degree x → AllByRecursion (IsPower degree) ts → horner mul (dense ts) x ≡ xor_sum (power_value mul x) ts
+  dense_value : (ts : List (ℕ × ℕ)) (x : ℕ) → IsElement degree x → AllByRecursion (IsPower degree) ts → value mul (dense ts) x ≡ xor_sum (power_value mul x) ts
   dense_value [] x h all = refl
   dense_value (t ∷ ts) x h all = horner-add_at t.0 t.1 x (dense ts) h all.0.1 (dense_elements ts all.1) ∙ ap (bit_xor (mul t.1 (power mul x t.0))) (dense_value ts x h all.1)
 
@@ -121,43 +118,3 @@ module _ {degree : ℕ} {mul : ℕ → ℕ → ℕ} (f : IsField degree mul) whe
     apart = λ ts all zeros e.
         sym (at_dense ts e) ∙ all_zero_at (dense ts) e (few.zeros (dense ts) (dense_len ts all) (dense_elements ts all) (λ x h. dense_value ts x h all ∙ zeros x h));
   }
-
--- ---- the elements as a list of roots
-
-below : ℕ → List ℕ
-below zero = []
-below (suc n) = n ∷ below n
-
-below_length : (n : ℕ) → length (below n) ≡ n
-unfolding below
-below_length zero = refl
-below_length (suc n) = ap suc (below_length n)
-
-apart_below : (m n : ℕ) → n ≤ m → Apart m (below n)
-unfolding below
-apart_below m zero h = tt
-apart_below m (suc n) h = ((λ e. absurd (omega arith)), apart_below m n (omega arith))
-
-same_horner : (mul : ℕ → ℕ → ℕ) (cs : List ℕ) (x : ℕ) → value mul cs x ≡ horner mul cs x
-same_horner mul [] x = refl
-same_horner mul (c ∷ cs) x = ap (λ n. bit_xor c (mul x n)) (same_horner mul cs x)
-
-are_roots : (k : ℕ) (mul : ℕ → ℕ → ℕ) (cs : List ℕ) (n : ℕ) → n ≤ 2 ^ k → ((x : ℕ) → IsElement k x → horner mul cs x ≡ 0) → AreRoots mul k cs (below n)
-unfolding below
-are_roots k mul cs zero h z = tt
-are_roots k mul cs (suc n) h z =
-    let l : n < 2 ^ k = omega arith in
-    (l, same_horner mul cs n ∙ z n l, apart_below n n (omega arith), are_roots k mul cs n (omega arith) z)
-
-elements : (k : ℕ) (cs : List ℕ) → AllByRecursion (IsElement k) cs → AllElements k cs
-elements k [] h = tt
-elements k (c ∷ cs) h = (h.0, elements k cs h.1)
-
-zeros : (cs : List ℕ) → AllZero cs → AllByRecursion (λ c. c ≡ 0) cs
-zeros [] h = tt
-zeros (c ∷ cs) h = (h.0, zeros cs h.1)
-
-pub few_roots : (k : ℕ) (mul : ℕ → ℕ → ℕ) → IsRing k mul → HasNoZeroDivisors k mul → HasFewRoots k mul
-few_roots k mul ring field = record {
-  zeros = λ cs l h z. zeros cs (all_zero k mul ring field (below (2 ^ k)) cs (omega (arith, below_length (2 ^ k))) (elements k cs h) (are_roots k mul cs (2 ^ k) (omega arith) z));
-}

@@ -17,7 +17,8 @@ use Rattle.poly_mixed.specs.Monomial.{Monomial, exponents_cmp, ranks_cmp, text_c
 use Rattle.poly_mixed.specs.Polynomial.{Terms, Point, IsPoint, IsTerm, IsReduced, coefficient, powers, value}
 use Rattle.gf_field.specs.Power.{power}
 use Rattle.poly_mixed.specs.Sum.{xor_sum, plus}
-use Rattle.poly_mixed.proofs.Sums.{xor_same, all_plus}
+use Rattle.gf_field.specs.XorLaws.{xor_same}
+use Rattle.poly_mixed.proofs.Sums.{all_plus}
 use Rattle.poly_mixed.proofs.Subsets.{is_in, subset, whole}
 use Rattle.poly_mixed.specs.Uniqueness.{IsZeros, InBits, UniqueInBits, Unique, OneSize}
 use Rattle.poly_mixed.proofs.Independent.{IsIndependent}

@@ -1,5 +1,6 @@
+use Rattle.gf_field.specs.RootsLaws.{HasFewRoots-from_field}
 use Rattle.poly_mixed.proofs.FieldLaws.{field_of}
-use Rattle.poly_mixed.proofs.Roots.{independent, few_roots}
+use Rattle.poly_mixed.proofs.Roots.{independent}
 use Rattle.poly_mixed.proofs.Uniqueness.{unique}
 use Rattle.poly_mixed.proofs.laws.unique.Goals as goal
 
@@ -8,4 +9,4 @@ returns g c =
     let ring = g.met.F.Ring.laws c.args._field.now in
     let field = g.met.F.Field.no_zero_divisors c.args._field.now in
     let f = field_of _ _ ring field in
-    unique f (independent f (few_roots _ _ ring field))
+    unique f (independent f (HasFewRoots-from_field _ _ ring field))
