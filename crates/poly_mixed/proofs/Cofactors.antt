@@ -8,10 +8,10 @@ use Rattle.std.specs.List.{AllByRecursion, list_all, list_any, filter}
 use Rattle.std.specs.List.Sorted.{IsStrictlySortedBy}
 use Rattle.poly_mixed.proofs.FieldLaws.{IsField}
 use Rattle.poly_mixed.specs.Monomial.{Monomial, text_cmp, text_cmp_total}
-use Rattle.poly_mixed.specs.Polynomial.{Terms, Point, IsPoint, IsTerm, IsReduced, powers, term_value, value}
+use Rattle.poly_mixed.specs.Polynomial.{Terms, Point, IsPoint, IsTerm, IsMap, IsReduced, powers, term_value, value}
 use Rattle.poly_mixed.specs.Monomial.{has_bit}
 use Rattle.poly_mixed.specs.Cofactor.{without_bit, lacking, cofactors, at_bit, HasCofactorValues, IsSubstituted}
-use Rattle.poly_mixed.specs.Sum.{plus}
+use Rattle.poly_mixed.proofs.OneBit.{order_stays}
 use Rattle.gf_field.specs.XorLaws.{xor_swap}
 use Rattle.poly_mixed.proofs.Sums.{sorted-plus, all_plus}
 use Rattle.std.specs.Map.{keys_of}
@@ -50,7 +50,7 @@ unfolding IsStrictlySortedBy
 rising-filter q [] s = tt
 rising-filter q (r ∷ rs) s = elim (q r) as (λ b. IsStrictlySortedBy nat_cmp (cond b (r ∷ filter q rs) (filter q rs))) [ true ↦ (above_filter q r rs s.0, rising-filter q rs s.1) | false ↦ rising-filter q rs s.1 ]
 
-module _ (degree : ℕ) (mul : ℕ → ℕ → ℕ) where
+module _ (mul : ℕ → ℕ → ℕ) where
   pub value-lacking : (p : Point) (bit : ℕ) (ts : Terms) → value mul p (lacking bit ts) ≡ value mul (at_bit p bit false) ts
   value-lacking p bit [] = refl
   value-lacking p bit (t ∷ ts) =
@@ -81,19 +81,19 @@ module _ (degree : ℕ) (mul : ℕ → ℕ → ℕ) where
             ∙ ap (λ n. bit_xor n (bit_xor one none)) (ap (λ n. bit_xor n (term_value mul (at_bit p bit false) t)) same ∙ xor_self (term_value mul (at_bit p bit false) t)) ∙ xor_zero_l (bit_xor one none))
       ] refl
 
-  cofactor_terms : (bit : ℕ) (ts : Terms) → AllByRecursion (IsTerm degree) ts → AllByRecursion (IsTerm degree) (cofactors bit ts)
-  cofactor_terms bit [] all = tt
-  cofactor_terms bit (t ∷ ts) all =
-      elim (has_bit bit t.0) as (λ v. AllByRecursion (IsTerm degree) (cond v ((without_bit bit t.0, t.1) ∷ cofactors bit ts) (cofactors bit ts))) [
-        | true ↦ (record { monomial = record { words = all.0.monomial.words; exponents = all.0.monomial.exponents; rising = rising-filter (λ r. not (nat_eq r bit)) t.0.bits all.0.monomial.rising }; element = all.0.element }, cofactor_terms bit ts all.1)
-        | false ↦ cofactor_terms bit ts all.1
-      ]
+cofactor_terms : (degree bit : ℕ) (ts : Terms) → AllByRecursion (IsTerm degree) ts → AllByRecursion (IsTerm degree) (cofactors bit ts)
+cofactor_terms degree bit [] all = tt
+cofactor_terms degree bit (t ∷ ts) all =
+    elim (has_bit bit t.0) as (λ v. AllByRecursion (IsTerm degree) (cond v ((without_bit bit t.0, t.1) ∷ cofactors bit ts) (cofactors bit ts))) [
+      | true ↦ (record { monomial = record { words = all.0.monomial.words; exponents = all.0.monomial.exponents; rising = rising-filter (λ r. not (nat_eq r bit)) t.0.bits all.0.monomial.rising }; element = all.0.element }, cofactor_terms degree bit ts all.1)
+      | false ↦ cofactor_terms degree bit ts all.1
+    ]
 
 pub cofactor_nonzero : (bit : ℕ) (ts : Terms) → AllByRecursion (λ t. t.1 ≢ 0) ts → AllByRecursion (λ t. t.1 ≢ 0) (cofactors bit ts)
 cofactor_nonzero bit [] all = tt
 cofactor_nonzero bit (t ∷ ts) all = elim (has_bit bit t.0) as (λ v. AllByRecursion (λ t. t.1 ≢ 0) (cond v ((without_bit bit t.0, t.1) ∷ cofactors bit ts) (cofactors bit ts))) [ true ↦ (all.0, cofactor_nonzero bit ts all.1) | false ↦ cofactor_nonzero bit ts all.1 ]
 
-lacking_all : (P : Monomial × ℕ → Type 0) (bit : ℕ) (ts : Terms) → AllByRecursion P ts → AllByRecursion P (lacking bit ts)
+pub lacking_all : (P : Monomial × ℕ → Type 0) (bit : ℕ) (ts : Terms) → AllByRecursion P ts → AllByRecursion P (lacking bit ts)
 lacking_all P bit [] all = tt
 lacking_all P bit (t ∷ ts) all = elim (has_bit bit t.0) as (λ v. AllByRecursion P (cond (not v) (t ∷ lacking bit ts) (lacking bit ts))) [ true ↦ lacking_all P bit ts all.1 | false ↦ (all.0, lacking_all P bit ts all.1) ]
 
@@ -106,35 +106,59 @@ unfolding IsStrictlySortedBy
 lacking_sorted bit [] s = tt
 lacking_sorted bit (t ∷ ts) s = elim (has_bit bit t.0) as (λ v. IsStrictlySortedBy text_cmp (keys_of (cond (not v) (t ∷ lacking bit ts) (lacking bit ts)))) [ true ↦ lacking_sorted bit ts s.1 | false ↦ (lacking_below bit t.0 ts s.0, lacking_sorted bit ts s.1) ]
 
-empty_sorted : IsStrictlySortedBy text_cmp (keys_of {K = Monomial} {X = ℕ} [])
+pub lacking_map : (bit : ℕ) (ts : Terms) → IsMap ts → IsMap (lacking bit ts)
+lacking_map bit ts m = record { sorted = lacking_sorted bit ts m.sorted; rising = lacking_all (λ t. IsStrictlySortedBy nat_cmp t.0.bits) bit ts m.rising; nonzero = lacking_all (λ t. t.1 ≢ 0) bit ts m.nonzero }
+
+-- ---- the terms with the bit are a map
+
+cofactors_below : (bit : ℕ) (t : Monomial × ℕ) (ts : Terms) → has_bit bit t.0 ≡ true → IsStrictlySortedBy nat_cmp t.0.bits → AllByRecursion (λ u. IsStrictlySortedBy nat_cmp u.0.bits) ts
+    → AllByRecursion (λ y. text_cmp t.0 y ≡ Less) (keys_of ts) → AllByRecursion (λ y. text_cmp (without_bit bit t.0) y ≡ Less) (keys_of (cofactors bit ts))
+cofactors_below bit t [] h s all up = tt
+cofactors_below bit t (u ∷ us) h s all up =
+    elim (has_bit bit u.0) as (λ v. has_bit bit u.0 ≡ v → AllByRecursion (λ y. text_cmp (without_bit bit t.0) y ≡ Less) (keys_of (cond v ((without_bit bit u.0, u.1) ∷ cofactors bit us) (cofactors bit us)))) [
+      | true ↦ λ e. (order_stays bit t.0 u.0 s all.0 h e up.0, cofactors_below bit t us h s all.1 up.1)
+      | false ↦ λ e. cofactors_below bit t us h s all.1 up.1
+    ] refl
+
+cofactors_sorted : (bit : ℕ) (ts : Terms) → AllByRecursion (λ u. IsStrictlySortedBy nat_cmp u.0.bits) ts → IsStrictlySortedBy text_cmp (keys_of ts) → IsStrictlySortedBy text_cmp (keys_of (cofactors bit ts))
 unfolding IsStrictlySortedBy
-empty_sorted = tt
+cofactors_sorted bit [] all s = tt
+cofactors_sorted bit (t ∷ ts) all s =
+    elim (has_bit bit t.0) as (λ v. has_bit bit t.0 ≡ v → IsStrictlySortedBy text_cmp (keys_of (cond v ((without_bit bit t.0, t.1) ∷ cofactors bit ts) (cofactors bit ts)))) [
+      | true ↦ λ e. (cofactors_below bit t ts e all.0 all.1 s.0, cofactors_sorted bit ts all.1 s.1)
+      | false ↦ λ e. cofactors_sorted bit ts all.1 s.1
+    ] refl
+
+cofactors_rising : (bit : ℕ) (ts : Terms) → AllByRecursion (λ u. IsStrictlySortedBy nat_cmp u.0.bits) ts → AllByRecursion (λ u. IsStrictlySortedBy nat_cmp u.0.bits) (cofactors bit ts)
+cofactors_rising bit [] all = tt
+cofactors_rising bit (t ∷ ts) all =
+    elim (has_bit bit t.0) as (λ v. AllByRecursion (λ u. IsStrictlySortedBy nat_cmp u.0.bits) (cond v ((without_bit bit t.0, t.1) ∷ cofactors bit ts) (cofactors bit ts))) [
+      | true ↦ (rising-filter (λ r. not (nat_eq r bit)) t.0.bits all.0, cofactors_rising bit ts all.1)
+      | false ↦ cofactors_rising bit ts all.1
+    ]
+
+pub cofactors_map : (bit : ℕ) (ts : Terms) → IsMap ts → IsMap (cofactors bit ts)
+cofactors_map bit ts m = record { sorted = cofactors_sorted bit ts m.rising m.sorted; rising = cofactors_rising bit ts m.rising; nonzero = cofactor_nonzero bit ts m.nonzero }
+
+pub reduced_lacking : (degree bit : ℕ) (ts : Terms) → IsReduced degree ts → IsReduced degree (lacking bit ts)
+reduced_lacking degree bit ts r = record {
+  is_map = lacking_map bit ts r.is_map;
+  terms = lacking_all (IsTerm degree) bit ts r.terms;
+}
+
+pub reduced_cofactors : (degree bit : ℕ) (ts : Terms) → IsReduced degree ts → IsReduced degree (cofactors bit ts)
+reduced_cofactors degree bit ts r = record {
+  is_map = cofactors_map bit ts r.is_map;
+  terms = cofactor_terms degree bit ts r.terms;
+}
 
 module _ {degree : ℕ} {mul : ℕ → ℕ → ℕ} (f : IsField degree mul) where
-  pub reduced_lacking : (bit : ℕ) (ts : Terms) → IsReduced degree ts → IsReduced degree (lacking bit ts)
-  reduced_lacking bit ts r = record {
-    is_map = record { sorted = lacking_sorted bit ts r.is_map.sorted; nonzero = lacking_all (λ t. t.1 ≢ 0) bit ts r.is_map.nonzero };
-    terms = lacking_all (IsTerm degree) bit ts r.terms;
-  }
-
-  pub reduced_cofactor : (bit : ℕ) (ts : Terms) → IsReduced degree ts → IsReduced degree (plus text_cmp [] (cofactors bit ts))
-  reduced_cofactor bit ts r = record {
-    is_map = record {
-      sorted = sorted-plus text_cmp text_cmp_total [] (cofactors bit ts) empty_sorted;
-      nonzero = all_plus text_cmp (λ t. t.1 ≢ 0) (λ t u h k n. n) [] (cofactors bit ts) tt (cofactor_nonzero bit ts r.is_map.nonzero);
-    };
-    terms = all_plus text_cmp (IsTerm degree) (λ t u h k n. record { monomial = h.monomial; element = xor_lt degree t.1 u.1 h.element k.element }) [] (cofactors bit ts) tt (cofactor_terms degree mul bit ts r.terms);
-  }
-
-  pub is_cofactor : (bit : ℕ) (ts : Terms) → IsReduced degree ts → HasCofactorValues degree mul bit ts (plus text_cmp [] (cofactors bit ts))
-  is_cofactor bit ts r p at = value-plus f p at [] (cofactors bit ts) tt (cofactor_terms degree mul bit ts r.terms) ∙ xor_zero_l (value mul p (cofactors bit ts)) ∙ value-cofactors degree mul p bit ts
-
   -- the whole substitution: part is the cofactor, product its product with by
   pub substituted : (bit : ℕ) (by old part product new : Terms) → IsReduced degree old → IsReduced degree by → IsReduced degree part
-      → part ≡ plus text_cmp [] (cofactors bit old) → ((p : Point) → IsPoint degree p → value mul p product ≡ mul (value mul p part) (value mul p by))
+      → part ≡ cofactors bit old → ((p : Point) → IsPoint degree p → value mul p product ≡ mul (value mul p part) (value mul p by))
       → ((p : Point) → IsPoint degree p → value mul p new ≡ bit_xor (value mul p (lacking bit old)) (value mul p product)) → IsSubstituted degree mul bit by old new
   substituted bit by old part product new ro rb rp hp times sum p at =
       let q = bit_xor (value mul (at_bit p bit true) old) (value mul (at_bit p bit false) old) in
-      let part_value : value mul p part ≡ q = ap (λ (ts : Terms). value mul p ts) hp ∙ is_cofactor bit old ro p at in
+      let part_value : value mul p part ≡ q = ap (λ (ts : Terms). value mul p ts) hp ∙ value-cofactors mul p bit old in
       sum p at
-      ∙ (λ i. bit_xor (value-lacking degree mul p bit old i) ((times p at ∙ f.comm (value mul p part) (value mul p by) (value_element f p at part rp.terms) (value_element f p at by rb.terms) ∙ ap (mul (value mul p by)) part_value) i))
+      ∙ (λ i. bit_xor (value-lacking mul p bit old i) ((times p at ∙ f.comm (value mul p part) (value mul p by) (value_element f p at part rp.terms) (value_element f p at by rb.terms) ∙ ap (mul (value mul p by)) part_value) i))

@@ -6,6 +6,7 @@ use Rattle.std.specs.declared.cmp.Ordering.TheVariants.{Less}
 use Rattle.std.specs.List.{AllByRecursion, list_all, filter}
 use Rattle.std.specs.List.Sorted.{IsStrictlySortedBy}
 use Rattle.std.specs.Map.{keys_of}
+use Rattle.std.specs.Ordering.{nat_cmp}
 use Rattle.poly_mixed.specs.Polynomial.{IsElement}
 use Rattle.poly_mixed.proofs.FieldLaws.{IsField}
 use Rattle.poly_mixed.specs.Monomial.{Monomial, text_cmp}
@@ -32,7 +33,7 @@ module _ (q : Monomial × ℕ → Bool) where
 
   pub filter_reduced : (degree : ℕ) (ts : Terms) → IsReduced degree ts → IsReduced degree (filter q ts)
   filter_reduced degree ts r = record {
-    is_map = record { sorted = filter_sorted ts r.is_map.sorted; nonzero = filter_all (λ t. t.1 ≢ 0) ts r.is_map.nonzero };
+    is_map = record { sorted = filter_sorted ts r.is_map.sorted; rising = filter_all (λ t. IsStrictlySortedBy nat_cmp t.0.bits) ts r.is_map.rising; nonzero = filter_all (λ t. t.1 ≢ 0) ts r.is_map.nonzero };
     terms = filter_all (IsTerm degree) ts r.terms;
   }
 

@@ -4,6 +4,7 @@ pub mod Terms
 pub mod Sums
 pub mod Values
 pub mod Products
+pub mod OneBit
 pub mod Cofactors
 pub mod Simple
 pub mod Independent

@@ -212,7 +212,7 @@ module _ {degree : ℕ} {mul : ℕ → ℕ → ℕ} (f : IsField degree mul) whe
 
   pub one_term : (m : Monomial) (c : ℕ) → IsTerm degree (m, c) → c ≢ 0 → IsReduced degree ((m, c) ∷ [])
   unfolding IsStrictlySortedBy
-  one_term m c h n = record { is_map = record { sorted = (tt, tt); nonzero = (n, tt) }; terms = (h, tt) }
+  one_term m c h n = record { is_map = record { sorted = (tt, tt); rising = (h.monomial.rising, tt); nonzero = (n, tt) }; terms = (h, tt) }
 
   -- one turn of the loop over the first factor
   pub outer_step : (p : Point) → IsPoint degree p → (us vs : Terms) (t : Monomial × ℕ) (s w : ℕ) → AllByRecursion (IsTerm degree) us → AllByRecursion (IsTerm degree) vs → IsTerm degree t

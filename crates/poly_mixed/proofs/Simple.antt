@@ -37,7 +37,7 @@ nothing_sorted = tt
 
 module _ {degree : ℕ} {mul : ℕ → ℕ → ℕ} (f : IsField degree mul) where
   pub reduced_nothing : IsReduced degree []
-  reduced_nothing = record { is_map = record { sorted = nothing_sorted; nonzero = tt }; terms = tt }
+  reduced_nothing = record { is_map = record { sorted = nothing_sorted; rising = tt; nonzero = tt }; terms = tt }
 
   in_bits_value : (c : ℕ) (m : Monomial) (p : Point) → IsElement degree c → IsZeros m.exponents → term_value mul p (m, c) ≡ cond (list_all p.is_one m.bits) c 0
   in_bits_value c m p e z =

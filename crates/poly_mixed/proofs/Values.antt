@@ -1,8 +1,10 @@
 -- The values of sums.
 use Rattle.std.proofs.Common.{◌≡◌, ℕ, zero, suc, ◌<◌, ◌≢◌, true, false, cond, List, [], ◌∷◌, bit_xor, refl, ◌∙◌, arith}
-use lib.Bits.{xor_self, xor_lt}
+use lib.Bits.{xor_self, xor_lt, xor_zero_l}
 use Rattle.std.proofs.lemmas.Nat.{pow_below, pow_pos}
 use Rattle.std.specs.List.{AllByRecursion, list_all}
+use Rattle.std.specs.List.Sorted.{IsStrictlySortedBy}
+use Rattle.std.specs.Ordering.{nat_cmp}
 use Rattle.poly_mixed.specs.Polynomial.{IsElement}
 use Rattle.poly_mixed.proofs.FieldLaws.{IsField}
 use Rattle.poly_mixed.specs.Monomial.{Monomial, text_cmp, text_cmp_total}
@@ -11,6 +13,13 @@ use Rattle.gf_field.specs.Power.{power}
 use Rattle.poly_mixed.specs.Sum.{plus}
 use Rattle.poly_mixed.proofs.Monomials.{text_cmp-same}
 use Rattle.poly_mixed.proofs.Sums.{IsAdditive, xor_sum-plus, sorted-plus, all_plus, found-plus, same_terms}
+
+pub map_plus : (ts us : Terms) → IsMap ts → IsMap us → IsMap (plus text_cmp ts us)
+map_plus ts us r s = record {
+  sorted = sorted-plus text_cmp text_cmp_total ts us r.sorted;
+  rising = all_plus text_cmp (λ t. IsStrictlySortedBy nat_cmp t.0.bits) (λ t u h k n. h) ts us r.rising s.rising;
+  nonzero = all_plus text_cmp (λ t. t.1 ≢ 0) (λ t u h k n. n) ts us r.nonzero s.nonzero;
+}
 
 module _ {degree : ℕ} {mul : ℕ → ℕ → ℕ} (f : IsField degree mul) where
   pub one_element : IsElement degree 1
@@ -56,10 +65,7 @@ module _ {degree : ℕ} {mul : ℕ → ℕ → ℕ} (f : IsField degree mul) whe
 
   pub reduced_plus : (ts us : Terms) → IsReduced degree ts → IsReduced degree us → IsReduced degree (plus text_cmp ts us)
   reduced_plus ts us r s = record {
-    is_map = record {
-      sorted = sorted-plus text_cmp text_cmp_total ts us r.is_map.sorted;
-      nonzero = all_plus text_cmp (λ t. t.1 ≢ 0) (λ t u h k n. n) ts us r.is_map.nonzero s.is_map.nonzero;
-    };
+    is_map = map_plus ts us r.is_map s.is_map;
     terms = all_plus text_cmp (IsTerm degree) (λ t u h k n. record { monomial = h.monomial; element = xor_lt degree t.1 u.1 h.element k.element }) ts us r.terms s.terms;
   }
 
@@ -68,3 +74,14 @@ coefficient-plus ts us m s v = found-plus text_cmp text_cmp_total text_cmp-same 
 
 pub same_map : (ts us : Terms) → IsMap ts → IsMap us → ((m : Monomial) → coefficient ts m ≡ coefficient us m) → ts ≡ us
 same_map ts us s v h = same_terms text_cmp text_cmp_total text_cmp-same ts us s.sorted v.sorted s.nonzero v.nonzero h
+
+nothing_map : IsMap []
+unfolding IsStrictlySortedBy
+nothing_map = record { sorted = tt; rising = tt; nonzero = tt }
+
+pub plus_nothing : (ts : Terms) → IsMap ts → plus text_cmp [] ts ≡ ts
+plus_nothing ts m = same_map (plus text_cmp [] ts) ts (map_plus [] ts nothing_map m) m (λ q. coefficient-plus [] ts q nothing_map m ∙ xor_zero_l (coefficient ts q))
+
+pub one_map : (m : Monomial) (c : ℕ) → IsStrictlySortedBy nat_cmp m.bits → c ≢ 0 → IsMap ((m, c) ∷ [])
+unfolding IsStrictlySortedBy
+one_map m c s n = record { sorted = (tt, tt); rising = (s, tt); nonzero = (n, tt) }

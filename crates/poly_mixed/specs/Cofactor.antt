@@ -37,11 +37,11 @@ cofactors bit (t ∷ ts) = cond (has_bit bit t.0) ((without_bit bit t.0, t.1) �
 abbrev pub at_bit : Point → ℕ → Bool → Point
 at_bit p bit b = record { words = p.words; is_one = λ r. cond (nat_eq r bit) b (p.is_one r) }
 
-module _ (k : ℕ) (mul : ℕ → ℕ → ℕ) where
-  -- at each point ts adds the values that us has with the bit at 1 and at 0
-  abbrev pub HasCofactorValues : ℕ → Terms → Terms → Type 0
-  HasCofactorValues bit us ts = (p : Point) → IsPoint k p → value mul p ts ≡ bit_xor (value mul (at_bit p bit true) us) (value mul (at_bit p bit false) us)
+-- at each point ts adds the values that us has with the bit at 1 and at 0
+abbrev pub HasCofactorValues : (ℕ → ℕ → ℕ) → ℕ → Terms → Terms → Type 0
+HasCofactorValues mul bit us ts = (p : Point) → value mul p ts ≡ bit_xor (value mul (at_bit p bit true) us) (value mul (at_bit p bit false) us)
 
+module _ (k : ℕ) (mul : ℕ → ℕ → ℕ) where
   -- new has at each point the value of old with the value of by in place of the bit
   abbrev pub IsSubstituted : ℕ → Terms → Terms → Terms → Type 0
   IsSubstituted bit by old new = (p : Point) → IsPoint k p → value mul p new

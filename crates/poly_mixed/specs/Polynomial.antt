@@ -31,9 +31,10 @@ polynomial ts = record { terms = ts }
 abbrev pub coefficient : Terms → Monomial → ℕ
 coefficient ts m = unwrap_or (lookup (eq_by_cmp text_cmp m) ts) 0
 
--- the terms stand strictly in the order of a text, and no coefficient is 0
+-- the terms stand strictly in the order of a text, ranks rise, and no coefficient is 0
 pub record IsMap (ts : Terms) : Type 0 where
   pub sorted : IsStrictlySortedBy text_cmp (keys_of ts)
+  pub rising : AllByRecursion (λ t. IsStrictlySortedBy nat_cmp t.0.bits) ts
   pub nonzero : AllByRecursion (λ t. t.1 ≢ 0) ts
 
 -- the exponents of eight words, each below 2^k, and rising ranks

@@ -8,7 +8,7 @@ mod mono;
 mod poly;
 mod table;
 
-pub use laws::{unique, unique_in_bits};
+pub use laws::{one_size, text_order, unique, unique_in_bits};
 pub use mono::Mono;
-pub use poly::Poly;
+pub use poly::{Poly, Term};
 pub use table::{constant, scaled_bit, table_poly};

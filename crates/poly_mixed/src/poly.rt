@@ -1,10 +1,10 @@
 //! Polynomials as finite maps from monomials to coefficients.
-ghost use Rattle.std.specs.Prelude.{◌≡◌, ℕ, ◌+◌, ◌<◌, ◌≤◌, ◌≢◌, length, IsOk, IfOk, OnOk, bit_xor, []};
+ghost use Rattle.std.specs.Prelude.{◌≡◌, ℕ, ◌+◌, ◌<◌, ◌≤◌, ◌≢◌, length, IsOk, IfOk, OnOk, OnErr, bit_xor, []};
 ghost use Rattle.std.specs.List.{AllByRecursion, list_any};
 ghost use Rattle.gf_field.specs.Ring.{IsRing};
 ghost use Rattle.gf_field.specs.Field.{HasNoZeroDivisors};
 ghost use Rattle.poly_mixed.specs.Monomial.{Monomial, has_bit, text_cmp};
-ghost use Rattle.poly_mixed.specs.Polynomial.{Polynomial, polynomial, Point, coefficient, IsElement, IsReduced, IsTerm, IsPoint, point, value, term_value as value_of_term};
+ghost use Rattle.poly_mixed.specs.Polynomial.{Polynomial, polynomial, Point, coefficient, IsElement, IsMap, IsReduced, IsTerm, IsPoint, point, value, term_value as value_of_term};
 ghost use Rattle.poly_mixed.specs.Cofactor.{cofactors, lacking, IsCofactor, HasCofactorValues, IsSubstituted};
 ghost use Rattle.poly_mixed.specs.Product.{IsProduct, AddsProduct};
 ghost use Rattle.poly_mixed.specs.Sum.{with_coefficient, plus_term, plus};
@@ -14,7 +14,40 @@ use crate::evaluate::term_value;
 use gf_field::Field;
 use std::alloc::{AllocError, Global};
 use std::collections::BTreeMap;
+use std::collections::btree_map::Entry;
 use std::marker::Model;
+
+/// A monomial with its coefficient.
+#[derive(Drop)]
+pub struct Term {
+    coefficient: u64,
+    mono: Mono,
+}
+
+impl Model for Term {
+    ghost use Rattle.std.specs.Prelude.{ℕ};
+    ghost use Rattle.poly_mixed.specs.Monomial.{Monomial};
+
+    ghost Value = { Monomial × ℕ };
+
+    ghost view = { λ t. (t.mono, t.coefficient) };
+}
+
+impl Term {
+    /// The coefficient, which is not 0.
+    pub fn coefficient(&self) -> u64
+        ensures { result ≡ self.now.1 }
+    {
+        self.coefficient
+    }
+
+    /// The monomial.
+    pub fn mono(&self) -> &Mono
+        ensures { result.now ≡ self.now.0 }
+    {
+        &self.mono
+    }
+}
 
 /// A polynomial over a field, always reduced: a finite map from monomials to elements that are not 0.
 #[derive(Drop)]
@@ -61,6 +94,7 @@ impl Poly {
         requires { IsTerm (F.degree _field.now) (mono, coefficient) }
         ensures { IfOk result (λ p. p ≡ polynomial (with_coefficient mono coefficient [])) }
     {
+        let _rising = mono.bits();
         let mut map = BTreeMap::new(alloc);
         if coefficient != 0 {
             map.insert(mono, coefficient)?;
@@ -83,21 +117,17 @@ impl Poly {
         ensures { OnOk result (self.new ≡ polynomial (plus text_cmp self.old.terms other.now.terms)) }
     {
         for (mono, coefficient) in &other.map {
-            self.add_term(mono, *coefficient)?;
+            self.add_term(mono.copied()?, *coefficient)?;
         }
         Ok(())
     }
 
-    fn add_term(&mut self, mono: &Mono, c: u64) -> Result<(), AllocError>
+    fn add_term(&mut self, mono: Mono, c: u64) -> Result<(), AllocError>
         requires { c ≢ 0 }
-        ensures { OnOk result (self.new ≡ polynomial (plus_term text_cmp self.old.terms (mono.now, c))) }
+        ensures { OnOk result (self.new ≡ polynomial (plus_term text_cmp self.old.terms (mono, c))) }
     {
-        let sum = self.map.get(mono).copied().unwrap_or(0) ^ c;
-        if sum == 0 {
-            self.map.remove(mono);
-        } else {
-            self.map.insert(mono.copied()?, sum)?;
-        }
+        let _rising = mono.bits();
+        add_to(&mut self.map, mono, c)?;
         Ok(())
     }
 
@@ -131,20 +161,29 @@ impl Poly {
     {
         let k = field.k();
         for (n, d) in &other.map {
-            let product = mono.times(n, k)?;
-            self.add_term(&product, field.mul(c, *d))?;
+            self.add_term(mono.times(n, k)?, field.mul(c, *d))?;
         }
         Ok(())
     }
 
     /// The terms with the bit, without it.
     pub fn cofactor(&self, alloc: Global, bit: u32) -> Result<Poly, AllocError>
-        ensures { IfOk result (λ q. q.terms ≡ plus text_cmp [] (cofactors bit self.now.terms)) }
+        ensures map { IfOk result (λ q. IsCofactor bit self.now.terms q.terms) }
+        ensures reduced { (k : ℕ) → IsReduced k self.now.terms → IfOk result (λ q. IsReduced k q.terms) }
+        ensures values { (mul : ℕ → ℕ → ℕ) → IfOk result (λ q. HasCofactorValues mul bit self.now.terms q.terms) }
+    {
+        self.with_bit(alloc, bit)
+    }
+
+    // The terms with the bit, without it, in their order.
+    fn with_bit(&self, alloc: Global, bit: u32) -> Result<Poly, AllocError>
+        ensures terms { IfOk result (λ q. q.terms ≡ cofactors bit self.now.terms) }
+        ensures map { IsMap self.now.terms }
     {
         let mut out = Poly::zero(alloc);
         for (mono, c) in &self.map {
             if mono.has(bit) {
-                out.add_term(&mono.without(bit)?, *c)?;
+                out.add_term(mono.without(bit)?, *c)?;
             }
         }
         Ok(out)
@@ -162,7 +201,7 @@ impl Poly {
         ensures reduced { OnOk result (IsReduced (F.degree field.now) self.new.terms) }
         ensures values { OnOk result (IsSubstituted (F.degree field.now) (F.product field.now) bit by.now.terms self.old.terms self.new.terms) }
     {
-        let part = self.cofactor(self.alloc, bit)?;
+        let part = self.with_bit(self.alloc, bit)?;
         let product = part.mul(self.alloc, field, by)?;
         self.drop_bit(bit);
         self.add_into(field, &product)
@@ -186,6 +225,21 @@ impl Poly {
         false
     }
 
+    /// The terms in the order of a text: falling lexicographic order of the exponents of all variables.
+    pub fn terms(&self, alloc: Global) -> Result<Vec<Term>, AllocError>
+        ensures { IfOk result (λ v. v.items ≡ self.now.terms) }
+    {
+        let mut terms = Vec::with_capacity(alloc, self.map.len())?;
+        for (mono, c) in &self.map {
+            let mono = mono.copied()?;
+            terms.push(Term {
+                coefficient: *c,
+                mono,
+            })?;
+        }
+        Ok(terms)
+    }
+
     /// The value at the words and the bits; a rank past the end of `bits` is 0.
     pub fn value<F: Field>(&self, field: &F, words: &[u64; 8], bits: &[bool]) -> u64
         requires over { IsReduced (F.degree field.now) self.now.terms }
@@ -198,4 +252,26 @@ impl Poly {
         }
         sum
     }
+}
+
+// Adds a term to a map; the sum of two coefficients that is 0 leaves no term.
+fn add_to(map: &mut BTreeMap<Mono, u64>, mono: Mono, c: u64) -> Result<(), AllocError>
+    requires { c ≢ 0 }
+    ensures added { OnOk result (map.new.entries ≡ plus_term text_cmp map.old.entries (mono, c)) }
+    ensures unchanged { OnErr result (map.new.entries ≡ map.old.entries) }
+{
+    match map.entry(mono)? {
+        Entry::Vacant(entry) => {
+            entry.insert(c);
+        }
+        Entry::Occupied(mut entry) => {
+            let sum = *entry.get() ^ c;
+            if sum == 0 {
+                entry.remove();
+            } else {
+                entry.insert(sum);
+            }
+        }
+    }
+    Ok(())
 }
