@@ -1,1 +1,2 @@
 pub mod Ring2kSteps
+pub mod Shifts

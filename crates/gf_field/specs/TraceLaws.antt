@@ -1,5 +1,5 @@
 -- The trace of a field is 0 or 1, and is not 0 everywhere.
-use Rattle.std.proofs.Common.{◌≡◌, ℕ, zero, suc, refl, sym, ◌∙◌, ap, ap₂, ◌<◌, ◌≤◌, ◌^◌, ◌+◌, ◌-◌, ◌⊎◌, inl, inr, arith, pow_pos, pow-suc, List, [], ◌∷◌, ◌++◌, length, replicate, length-append}
+use Rattle.std.proofs.Common.{◌≡◌, ℕ, zero, suc, refl, sym, ◌∙◌, ap, ap₂, ◌<◌, ◌≤◌, ◌^◌, ◌+◌, ◌-◌, add-one, ◌⊎◌, inl, inr, arith, pow_pos, pow-suc, List, [], ◌∷◌, ◌++◌, length, replicate, length-append}
 use Rattle.std.proofs.Math.ListN.{length-replicate}
 use Rattle.std.specs.Prelude.{bit_xor}
 use Rattle.std.specs.Int.Bits.{xor_self, xor_lt, xor_zero_l, xor_zero_r, xor_assoc, xor_comm}
@@ -36,6 +36,15 @@ AllElements-append k (x ∷ xs) ys a b = (a.0, AllElements-append k xs ys a.1 b)
 zeros_elements : (k n : ℕ) → AllElements k (replicate n 0)
 zeros_elements k zero = tt
 zeros_elements k (suc n) = (pow_pos k, zeros_elements k n)
+
+-- one more square, and one more term of the trace
+pub frobenius_next : (mul : ℕ → ℕ → ℕ) (a j s r : ℕ) → s ≡ frobenius mul j a → r ≡ mul s s → r ≡ frobenius mul (j + 1) a
+unfolding frobenius
+frobenius_next mul a j s r e is = rw add-one (is ∙ ap (λ x. mul x x) e)
+
+pub trace_next : (mul : ℕ → ℕ → ℕ) (a j s t r : ℕ) → s ≡ frobenius mul j a → t ≡ trace mul j a → r ≡ bit_xor t s → r ≡ trace mul (j + 1) a
+unfolding trace
+trace_next mul a j s t r e h is = rw add-one (is ∙ ap₂ bit_xor h e)
 
 module _ (k : ℕ) (mul : ℕ → ℕ → ℕ) (ring : IsRing k mul) where
   pub frobenius-xor : (j a b : ℕ) → frobenius mul j (bit_xor a b) ≡ bit_xor (frobenius mul j a) (frobenius mul j b)
@@ -138,3 +147,6 @@ module _ (k : ℕ) (mul : ℕ → ℕ → ℕ) (ring : IsRing k mul) where
       element = trace_one.below;
       not_zero = trace_one.is;
     }
+
+    pub trace_at_most_one : (a t : ℕ) → a < 2 ^ k → t ≡ trace mul k a → t ≤ 1
+    trace_at_most_one a t h is = elim (trace_bit a h) [ inl z ↦ rw (is, z) (omega arith) | inr o ↦ rw (is, o) (omega arith) ]

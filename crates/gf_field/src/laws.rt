@@ -1,8 +1,10 @@
 //! Laws of rings and fields, each on a function that does nothing.
 
+ghost use Rattle.std.specs.Prelude.{◌≡◌, ℕ, bit_xor};
 ghost use Rattle.gf_field.specs.Polynomial.{IsSumOverPairs};
 ghost use Rattle.gf_field.specs.Quotient.{HasOnlyProduct, HasQuotientRings};
 ghost use Rattle.gf_field.specs.Roots.{HasFewRoots, HasRootsUpToDegree, IsOwnPower};
+ghost use Rattle.gf_field.specs.Trace.{IsTrace};
 
 use super::fields::Field;
 use super::rings::Ring;
@@ -35,4 +37,14 @@ pub fn roots_up_to_degree<F: Field>(_field: &F)
 /// A polynomial in one word with at most `2^k` coefficients is 0 at every element only where each coefficient is 0.
 pub fn few_roots<F: Field>(_field: &F)
     ensures { HasFewRoots (F.degree _field.now) (F.product _field.now) }
+{}
+
+/// The square of a sum is the sum of the squares.
+pub fn additive_squares<R: Ring>(_ring: &R)
+    ensures { (a b : ℕ) → R.product _ring.now (bit_xor a b) (bit_xor a b) ≡ bit_xor (R.product _ring.now a a) (R.product _ring.now b b) }
+{}
+
+/// The trace is 0 or 1, is additive, and is not 0 everywhere.
+pub fn trace_onto_bits<F: Field>(_field: &F)
+    ensures { IsTrace (F.degree _field.now) (F.product _field.now) }
 {}

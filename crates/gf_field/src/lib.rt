@@ -2,16 +2,23 @@
 //! Polynomials over 0 and 1 modulo one of degree 1 to 64, powers, repeated squares, the trace, and the laws of all fields.
 #![tactic(auto)]
 
+mod elements;
 mod fields;
 mod laws;
 mod powers;
 mod ring_2k;
 mod rings;
+#[cfg(test)]
+mod tests;
+mod traces;
 
+pub use elements::is_element;
 pub use fields::Field;
 pub use laws::{
-    convolution_sum, few_roots, only_product, own_power, quotient_rings, roots_up_to_degree,
+    additive_squares, convolution_sum, few_roots, only_product, own_power, quotient_rings,
+    roots_up_to_degree,
 };
-pub use powers::power;
+pub use powers::{frobenius, power};
 pub use ring_2k::{BadDegree, Ring2k};
 pub use rings::Ring;
+pub use traces::trace;

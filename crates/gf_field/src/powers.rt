@@ -2,6 +2,7 @@
 
 ghost use Rattle.std.specs.Prelude.{◌≡◌, ℕ, ◌<◌, ◌^◌};
 ghost use Rattle.gf_field.specs.Power.{power as power_of};
+ghost use Rattle.gf_field.specs.Trace.{frobenius as frobenius_of};
 
 use super::rings::Ring;
 
@@ -22,4 +23,17 @@ pub fn power<R: Ring>(ring: &R, a: u64, e: u64) -> u64
         left /= 2;
     }
     product
+}
+
+/// `a` squared `j` times.
+pub fn frobenius<R: Ring>(ring: &R, a: u64, j: u32) -> u64
+    requires { a < 2 ^ R.degree ring.now }
+    ensures squares { result ≡ frobenius_of (R.product ring.now) j a }
+    ensures element { result < 2 ^ R.degree ring.now }
+{
+    let mut square = a;
+    for _ in 0..j {
+        square = ring.square(square);
+    }
+    square
 }

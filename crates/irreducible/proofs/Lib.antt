@@ -1,0 +1,5 @@
+pub mod PivotLaws
+pub mod SquareLaws
+pub mod InverseLaws
+pub mod MatrixLaws
+pub mod InverseMatrixLaws
