@@ -1,3 +1,4 @@
 pub mod DeterminedLemmas
 pub mod LineLemmas
 pub mod DigitLemmas
+pub mod AsciiLemmas

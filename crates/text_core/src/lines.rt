@@ -1,5 +1,5 @@
 //! Lines and tokens.
-ghost use Rattle.std.specs.Prelude.{◌≡◌, ◌≢◌, ◌<◌, ◌≤◌, ◌∷◌, ◌↔◌, ℕ, length, slice_index, map, IfOk, IsTrue, All};
+ghost use Rattle.std.specs.Prelude.{◌≡◌, ◌≢◌, ◌<◌, ◌≤◌, ◌∷◌, ◌↔◌, ℕ, length, slice_index, map, IfOk, IfSome, IfNone, IsTrue, All};
 ghost use Rattle.std.specs.Str.Lines.{lines, strip_carriage_return};
 ghost use Rattle.text_core.specs.Lines.{tokens_of, IsPrinting, IsPlain};
 ghost use Rattle.text_core.specs.Lines.{before_comment as text_before_comment};
@@ -65,16 +65,51 @@ pub fn tokens<'a>(alloc: Global, line: &'a [u8]) -> Result<Vec<&'a [u8]>, AllocE
         .collect(alloc)
 }
 
-/// Whether each byte of a token prints, from `!` to `~`.
-pub fn is_printing(token: &[u8]) -> bool
+// Whether each byte of a token prints, from `!` to `~`.
+fn is_printing(token: &[u8]) -> bool
     ensures { IsTrue result ↔ IsPrinting token.now }
 {
     token.iter().all(|&b| 0x21 <= b && b <= 0x7e)
 }
 
-/// Whether each byte of a token prints and is no `\`.
-pub fn is_plain(token: &[u8]) -> bool
+// The text of bytes in ASCII.
+fn ascii_text(bytes: &[u8]) -> Option<&str>
+    ensures found { IfSome result (λ text. text.now ≡ bytes.now) }
+    ensures none { IfNone result (All (λ b. b < 128) bytes.now → ⊥) }
+{
+    match str::from_utf8(bytes) {
+        Ok(text) => Some(text),
+        Err(_) => None,
+    }
+}
+
+/// The text of a token each of whose bytes prints.
+pub fn printing_text(token: &[u8]) -> Option<&str>
+    ensures found { IfSome result (λ text. (text.now ≡ token.now) × IsPrinting token.now) }
+    ensures none { IfNone result (IsPrinting token.now → ⊥) }
+{
+    if is_printing(token) {
+        ascii_text(token)
+    } else {
+        None
+    }
+}
+
+// Whether each byte of a token prints and is no `\`.
+fn is_plain(token: &[u8]) -> bool
     ensures { IsTrue result ↔ IsPlain token.now }
 {
     token.iter().all(|&b| 0x21 <= b && b <= 0x7e && b != b'\\')
+}
+
+/// The text of a token each of whose bytes prints and is no `\`.
+pub fn plain_text(token: &[u8]) -> Option<&str>
+    ensures found { IfSome result (λ text. (text.now ≡ token.now) × IsPlain token.now) }
+    ensures none { IfNone result (IsPlain token.now → ⊥) }
+{
+    if is_plain(token) {
+        ascii_text(token)
+    } else {
+        None
+    }
 }

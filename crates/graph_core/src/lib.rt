@@ -1,0 +1,2 @@
+//! Graphs as lists of edges: a rank for each point, or a ring.
+#![tactic(auto)]

@@ -1,0 +1,112 @@
+//! The shelf of the system's files, which is trusted to be what the system says.
+ghost use Rattle.std.specs.Prelude.{◌≡◌, ◌<◌, ◌≤◌, ◌^◌, None, IfOk, IfErr, IsErrOf, ℕ, vec_len};
+ghost use Rattle.job_io.specs.Shelf.{faults_after, misses_after};
+
+use crate::counts::next_count;
+use crate::{Shelf, ShelfFault};
+use std::alloc::Global;
+use std::io::{ErrorKind, Read};
+use std::rt::Files;
+use std::{fs, io};
+
+// Bytes of one read.
+const PIECE: usize = 8192;
+
+/// The files of the system. It tells nothing of what they hold.
+#[derive(Drop)]
+pub struct FileShelf<R: Files> {
+    files: R,
+    faults: u64,
+    misses: u64,
+    ghost counts: { (faults < 2 ^ 64) × (misses < 2 ^ 64) },
+}
+
+impl<R: Files> FileShelf<R> {
+    ghost use Rattle.job_io.specs.FileShelf.{file_faults, file_misses};
+
+    /// A shelf over what the runtime gives to `main`.
+    pub fn new(files: R) -> FileShelf<R>
+        ensures faults { file_faults result ≡ 0 }
+        ensures misses { file_misses result ≡ 0 }
+    {
+        FileShelf {
+            files,
+            faults: 0,
+            misses: 0,
+        }
+    }
+}
+
+// What an error of the system says.
+fn fault_of(kind: ErrorKind) -> ShelfFault
+    ensures { (n : ℕ) → result ≡ ShelfFault.TooLong n → ⊥ }
+{
+    match kind {
+        ErrorKind::NotFound => ShelfFault::Absent,
+        ErrorKind::OutOfMemory => ShelfFault::OutOfMemory,
+        _ => ShelfFault::Failed,
+    }
+}
+
+// All that the reader gives, unless it is more than the limit.
+fn read_up_to<F: Read>(alloc: Global, file: &mut F, limit: u32) -> Result<Vec<u8>, ShelfFault>
+    ensures within { IfOk result (λ bytes. vec_len bytes ≤ limit) }
+    ensures too_long { IfErr result (λ e. (n : ℕ) → e ≡ ShelfFault.TooLong n → n ≡ limit) }
+{
+    let limit_bytes = limit as usize;
+    let mut bytes = Vec::new(alloc);
+    let mut piece = [0u8; PIECE];
+    // Each turn takes at least one byte, or is the last.
+    for _ in 0..=u64::from(limit) {
+        let taken = match file.read(&mut piece) {
+            Ok(taken) => taken,
+            Err(error) => return Err(fault_of(error.kind())),
+        };
+        if taken == 0 {
+            return Ok(bytes);
+        }
+        if taken > limit_bytes - bytes.len() {
+            break;
+        }
+        bytes.extend_from_slice(&piece[..taken])?;
+    }
+    Err(ShelfFault::TooLong { limit })
+}
+
+impl<R: Files> Shelf for FileShelf<R> {
+    ghost use Rattle.job_io.specs.FileShelf.{file_faults, file_misses};
+
+    ghost held = { λ _. None };
+
+    ghost faults = { λ s. file_faults s };
+
+    ghost misses = { λ s. file_misses s };
+
+    /// A file that the system does not find is `Absent`, and any other error but want of memory is `Failed`.
+    fn read(&mut self, alloc: Global, name: &str, limit: u32) -> Result<Vec<u8>, ShelfFault>
+        ensures faults { file_faults self.new ≡ faults_after result (file_faults self.old) }
+        ensures misses { file_misses self.new ≡ misses_after result (file_misses self.old) }
+        ensures counts { (file_faults self.new < 2 ^ 64) × (file_misses self.new < 2 ^ 64) }
+        ensures within { IfOk result (λ bytes. vec_len bytes ≤ limit) }
+        ensures too_long { (n : ℕ) → IsErrOf result (ShelfFault.TooLong n) → n ≡ limit }
+    {
+        let fault = match fs::open(&self.files, name) {
+            Ok(file) => {
+                let mut file = file;
+                match read_up_to(alloc, &mut file, limit) {
+                    Ok(bytes) => return Ok(bytes),
+                    Err(fault) => fault,
+                }
+            }
+            Err(error) => fault_of(error.kind()),
+        };
+        match fault {
+            ShelfFault::Absent | ShelfFault::TooLong { .. } => {
+                self.misses = next_count(self.misses)
+            }
+            ShelfFault::Failed => self.faults = next_count(self.faults),
+            ShelfFault::OutOfMemory => {}
+        }
+        Err(fault)
+    }
+}

@@ -1,0 +1,146 @@
+-- Steps of levels.
+use Rattle.std.proofs.Common.{◌≡◌, ◌≢◌, ◌⊎◌, ◌∙◌, ap, sym, refl, inl, inr, ℕ, zero, suc, ◌<◌, ◌≤◌, ◌+◌, max, List, [], ◌∷◌, length, drop, get_or, Option, None, Some, arith, length-set, drop-cons}
+use Rattle.std.specs.Prelude.{slice_get, unwrap_or, option_and_then, All, map}
+use Rattle.std.proofs.lemmas.List.Sums.{sum_by-cons}
+use Rattle.std.proofs.lemmas.List.Elements.{All-append, All-map, All-weaker}
+use Rattle.std.proofs.Math.ListN.{set}
+use Rattle.std.proofs.lemmas.Bool.Decides.{eqb_tells}
+use Rattle.std.proofs.lemmas.Option.{slice_get_within}
+use Rattle.net_core.specs.GateValue.{GateValue}
+use Rattle.net_core.specs.Lists.{Has}
+use Rattle.net_core.specs.NetList.{NetList, nets}
+use Rattle.net_core.specs.Inside.{IsInside, GateIsInside, LatchIsInside}
+use Rattle.net_core.specs.Sound.{sources, driven, HasOneDriverEach}
+use Rattle.net_core.specs.Level.{Levels, level_at, level_from, level_over, AreLevels}
+use Rattle.net_core.specs.Partial.{ArePartial, lack, lacking}
+use Rattle.net_core.proofs.ListLemmas.{get_set_same, get_below, sum_by-set_at}
+use Rattle.net_core.proofs.DriverLemmas.{source_no_gate, gates_apart, gate_inside}
+
+pub nat_eq_or : (a b : ℕ) → (a ≡ b) ⊎ (a ≢ b)
+nat_eq_or a b = elim (eqb_tells a b) [ inl w ↦ inl w.1 | inr w ↦ inr w.1 ]
+
+pub level_known : (levels : Levels) (n l : ℕ) → level_at levels n ≡ Some l → slice_get levels n ≡ Some (Some l)
+level_known levels n l is =
+    elim (slice_get levels n) as (λ o. unwrap_or o None ≡ Some l → o ≡ Some (Some l)) [ None ↦ λ e. absurd (cc) | Some x ↦ λ e. ap Some e ] is
+
+pub known_at : (levels : Levels) (n : ℕ) (o : Option ℕ) → n < length levels → level_at levels n ≡ o → slice_get levels n ≡ Some o
+known_at levels n o less is = let got = get_below levels n less in got.1 ∙ ap Some (sym (ap (λ (x : Option (Option ℕ)). unwrap_or x None) got.1) ∙ is)
+
+pub level_within : (levels : Levels) (n l : ℕ) → level_at levels n ≡ Some l → n < length levels
+level_within levels n l is = slice_get_within levels n (Some l) (level_known levels n l is)
+
+pub level_set_same : (levels : Levels) (i : ℕ) (x : Option ℕ) → i < length levels → level_at (set levels i x) i ≡ x
+level_set_same levels i x less = let at = get_below levels i less in rw (get_set_same levels i at.0 x at.1) refl
+
+pub level_set_other : (levels : Levels) (i : ℕ) (x : Option ℕ) (n : ℕ) → n ≢ i → level_at (set levels i x) n ≡ level_at levels n
+level_set_other [] i x n other = refl
+level_set_other (y ∷ ys) zero x zero other = absurd (other refl)
+level_set_other (y ∷ ys) zero x (suc n) other = refl
+level_set_other (y ∷ ys) (suc i) x zero other = refl
+level_set_other (y ∷ ys) (suc i) x (suc n) other = level_set_other ys i x n (λ e. other (omega arith))
+
+-- a level over nets that have levels does not change where another net gets one
+pub level_from_set : (levels : Levels) (i v : ℕ) (x : Option ℕ) (m : ℕ) (ns : List ℕ) → level_at levels i ≡ None → level_from levels m ns ≡ Some v → level_from (set levels i x) m ns ≡ Some v
+level_from_set levels i v x m [] none is = is
+level_from_set levels i v x m (n ∷ ns) none is =
+    elim (level_at levels n) as (λ o. level_at levels n ≡ o → option_and_then (λ l. level_from levels (max m (l + 1)) ns) o ≡ Some v → option_and_then (λ l. level_from (set levels i x) (max m (l + 1)) ns) (level_at (set levels i x) n) ≡ Some v) [
+      | None ↦ λ e h. absurd (cc)
+      | Some l ↦ λ e h.
+          let other : n ≢ i = λ same. let e' : level_at levels i ≡ Some l = rw (← same) e in cc in
+          rw (level_set_other levels i x n other, e) (level_from_set levels i v x (max m (l + 1)) ns none h)
+    ] refl is
+
+pub level_from_bound : (levels : Levels) (d v m : ℕ) (ns : List ℕ) → ((n l : ℕ) → level_at levels n ≡ Some l → l ≤ d) → m ≤ d + 1 → level_from levels m ns ≡ Some v → v ≤ d + 1
+level_from_bound levels d v m [] small low is = let same : m ≡ v = cc in omega arith
+level_from_bound levels d v m (n ∷ ns) small low is =
+    elim (level_at levels n) as (λ o. level_at levels n ≡ o → option_and_then (λ l. level_from levels (max m (l + 1)) ns) o ≡ Some v → v ≤ d + 1) [
+      | None ↦ λ e h. absurd (cc)
+      | Some l ↦ λ e h. level_from_bound levels d v (max m (l + 1)) ns small (omega (arith, small n l e)) h
+    ] refl is
+
+-- the level of a gate is above those of its inputs, and each has one
+pub level_from_above : (levels : Levels) (v m : ℕ) (ns : List ℕ) → level_from levels m ns ≡ Some v → (m ≤ v) × ((k n : ℕ) → slice_get ns k ≡ Some n → (l : ℕ) × (level_at levels n ≡ Some l) × (l < v))
+level_from_above levels v m [] is = let same : m ≡ v = cc in (omega arith, λ k n got. absurd (cc))
+level_from_above levels v m (n ∷ ns) is =
+    elim (level_at levels n) as (λ o. level_at levels n ≡ o → option_and_then (λ l. level_from levels (max m (l + 1)) ns) o ≡ Some v → (m ≤ v) × ((k n' : ℕ) → slice_get (n ∷ ns) k ≡ Some n' → (l : ℕ) × (level_at levels n' ≡ Some l) × (l < v))) [
+      | None ↦ λ e h. absurd (cc)
+      | Some l ↦ λ e h. let rest = level_from_above levels v (max m (l + 1)) ns h in
+          (omega (arith, rest.0), first_or levels v n ns l e (omega (arith, rest.0)) rest.1)
+    ] refl is
+  where
+    first_or : (levels : Levels) (v n : ℕ) (ns : List ℕ) (l : ℕ) → level_at levels n ≡ Some l → l < v → ((k n : ℕ) → slice_get ns k ≡ Some n → (l : ℕ) × (level_at levels n ≡ Some l) × (l < v)) → (k n' : ℕ) → slice_get (n ∷ ns) k ≡ Some n' → (l : ℕ) × (level_at levels n' ≡ Some l) × (l < v)
+    first_or levels v n ns l is less rest zero n' got = let same : n ≡ n' = cc in (l, rw (← same) is, less)
+    first_or levels v n ns l is less rest (suc k) n' got = rest k n' got
+
+pub level_step_some : (levels : Levels) (m : ℕ) (ns : List ℕ) (i n l : ℕ) → i < length ns → n ≡ get_or ns i 0 → level_at levels n ≡ Some l → level_from levels m (drop i ns) ≡ level_from levels (max m (l + 1)) (drop (i + 1) ns)
+level_step_some levels m ns i n l less is level =
+    let e : i + 1 ≡ suc i = omega arith in
+    ap (level_from levels m) (drop-cons ns i 0 less) ∙ rw (← is, level) (ap (λ j. level_from levels (max m (l + 1)) (drop j ns)) (sym e))
+
+pub level_step_none : (levels : Levels) (m : ℕ) (ns : List ℕ) (i n : ℕ) → i < length ns → n ≡ get_or ns i 0 → level_at levels n ≡ None → level_from levels m (drop i ns) ≡ None
+level_step_none levels m ns i n less is level = rw (drop-cons ns i 0 less, ← is, level) refl
+
+-- a net that has no level gets one
+pub partial_set : (net : NetList) (levels : Levels) (done p v : ℕ) (g : GateValue) → IsInside net → HasOneDriverEach net → ArePartial net levels done → slice_get net.gates p ≡ Some g → level_at levels g.out ≡ None → level_over levels g.inputs ≡ Some v → ArePartial net (set levels g.out (Some v)) (done + 1)
+partial_set net levels done p v g inside one partial gate none over =
+    let within : g.out < length levels = omega (arith, (gate_inside net g inside (p, gate)).0, partial.long) in
+    let low : v ≤ done + 1 = level_from_bound levels done v 1 g.inputs partial.small (omega arith) over in
+    let at : slice_get levels g.out ≡ Some None = known_at levels g.out None within none in
+    record {
+      long = length-set levels g.out (Some v) ∙ partial.long;
+      sources = λ n has. level_set_other levels g.out (Some v) n (λ same. source_no_gate net n g inside one has (p, gate) (sym same)) ∙ partial.sources n has;
+      gates = λ q h l got is. elim (nat_eq_or h.out g.out) [
+        | inl same ↦ let place : q ≡ p = gates_apart net q p h g inside one got gate same in
+            let got' : slice_get net.gates p ≡ Some h = rw (← place) got in
+            let whole : g ≡ h = cc in
+            let is' : level_at (set levels g.out (Some v)) g.out ≡ Some l = rw same at is in
+            let value : Some v ≡ Some l = sym (level_set_same levels g.out (Some v) within) ∙ is' in
+            let over' : level_over levels h.inputs ≡ Some l = rw (← whole) (over ∙ value) in
+            level_from_set levels g.out l (Some v) 1 h.inputs none over'
+        | inr other ↦ level_from_set levels g.out l (Some v) 1 h.inputs none (partial.gates q h l got (sym (level_set_other levels g.out (Some v) h.out other) ∙ is))
+      ];
+      small = λ n l is. elim (nat_eq_or n g.out) [
+        | inl same ↦ let is' : level_at (set levels g.out (Some v)) g.out ≡ Some l = rw same at is in
+            let value : Some v ≡ Some l = sym (level_set_same levels g.out (Some v) within) ∙ is' in
+            let value' : v ≡ l = cc in omega arith
+        | inr other ↦ omega (arith, partial.small n l (sym (level_set_other levels g.out (Some v) n other) ∙ is))
+      ];
+      few = omega (arith, partial.few, sum_by-set_at lack levels g.out None (Some v) at, length-set levels g.out (Some v));
+    }
+
+pub lacking_set : (levels : Levels) (i v : ℕ) → slice_get levels i ≡ Some None → lacking (set levels i (Some v)) + 1 ≡ lacking levels
+lacking_set levels i v at = omega (arith, sum_by-set_at lack levels i None (Some v) at)
+
+-- where each gate has its level, or none because an input has none, all levels are found
+pub all_found : (net : NetList) (levels : Levels) (done : ℕ) → ArePartial net levels done → ((p : ℕ) (g : GateValue) → slice_get net.gates p ≡ Some g → level_at levels g.out ≡ level_over levels g.inputs) → AreLevels net levels
+all_found net levels done partial each = record { long = partial.long; sources = partial.sources; gates = λ g has. each has.0 g has.1 }
+
+-- a gate that has a level has the right one
+pub right_level : (net : NetList) (levels : Levels) (done p : ℕ) (g : GateValue) → ArePartial net levels done → slice_get net.gates p ≡ Some g → (level_at levels g.out ≡ None → ⊥) → level_at levels g.out ≡ level_over levels g.inputs
+right_level net levels done p g partial got some =
+    elim (level_at levels g.out) as (λ o. level_at levels g.out ≡ o → o ≡ level_over levels g.inputs) [
+      | None ↦ λ e. absurd (some e)
+      | Some l ↦ λ e. sym (partial.gates p g l got e)
+    ] refl
+
+-- levels of the sources alone
+pub first_partial : (net : NetList) (levels : Levels) → IsInside net → HasOneDriverEach net → length levels ≡ nets net → ((n : ℕ) → Has (sources net) n → level_at levels n ≡ Some 0) → ((n l : ℕ) → level_at levels n ≡ Some l → (l ≡ 0) × Has (sources net) n) → ArePartial net levels 0
+first_partial net levels inside one long each only =
+    record {
+      long = long;
+      sources = each;
+      gates = λ p g l got is. absurd (source_no_gate net g.out g inside one (only g.out l is).1 (p, got) refl);
+      small = λ n l is. omega (arith, (only n l is).0);
+      few = lacking_few levels;
+    }
+  where
+    lacking_few : (levels : Levels) → 0 + lacking levels ≤ length levels
+    lacking_few [] = omega arith
+    lacking_few (None ∷ ls) = omega (arith, lacking_few ls, sum_by-cons lack None ls)
+    lacking_few (Some l ∷ ls) = omega (arith, lacking_few ls, sum_by-cons lack (Some l) ls)
+
+pub sources_inside : (net : NetList) → IsInside net → All (λ n. n < nets net) (sources net)
+sources_inside net inside = All-append (λ n. n < nets net) net.inputs (map (λ l. l.out) net.latches) inside.inputs (All-map (λ n. n < nets net) (λ l. l.out) net.latches (All-weaker (LatchIsInside (nets net)) (λ l. l.out < nets net) (λ l h. h.1) net.latches inside.latches))
+
+pub driven_inside : (net : NetList) → IsInside net → All (λ n. n < nets net) (driven net)
+driven_inside net inside = All-append (λ n. n < nets net) (sources net) (map (λ g. g.out) net.gates) (sources_inside net inside) (All-map (λ n. n < nets net) (λ g. g.out) net.gates (All-weaker (GateIsInside (nets net)) (λ g. g.out < nets net) (λ g h. h.0) net.gates inside.gates))

@@ -1,0 +1,15 @@
+pub mod GateValue
+pub mod LatchValue
+pub mod NetList
+pub mod Inside
+pub mod Lists
+pub mod Sound
+pub mod Level
+pub mod Order
+pub mod Value
+pub mod Loop
+pub mod Finish
+pub mod Turned
+pub mod Levelled
+pub mod Partial
+pub mod Walking

@@ -1,0 +1,173 @@
+//! Sound nets.
+ghost use Rattle.std.specs.Prelude.{◌≡◌, ◌<◌, ◌≤◌, ◌^◌, ◌+◌, ℕ, length, min, slice_get, slice_index, IfOk, IfErr, OnOk, Err, Some};
+ghost use Rattle.net_core.specs.NetList.{nets, number_of, text_of};
+ghost use Rattle.net_core.specs.Sound.{IsSound, HasOneDriverEach, HasRing, drivers};
+ghost use Rattle.net_core.specs.Turned.{turned};
+ghost use Rattle.net_core.specs.Levelled.{IsLevelled};
+ghost use Rattle.net_core.specs.Finish.{Finishes};
+
+use crate::drivers::{counts, driven, least};
+use crate::levels::levels;
+use crate::loops::{begin, loop_from};
+use crate::{Gate, Latch, Name, NetFault, NetMaker, Numbers};
+use std::alloc::{AllocError, Global};
+use std::marker::Model;
+
+/// A sound net. Contracts see it as its net list.
+/// The type keeps that each net has exactly one driver, that no gates drive each other in a ring,
+/// and that nets, gates and latches are within their limits of 1,048,576.
+#[derive(Drop)]
+pub struct Net {
+    made: NetMaker,
+}
+
+impl Model for Net {
+    ghost use Rattle.net_core.specs.NetList.{NetList};
+    ghost use Rattle.net_core.specs.Sound.{IsSound};
+    ghost use Rattle.net_core.specs.Levelled.{IsLevelled};
+
+    ghost Value = { NetList };
+
+    ghost view = { λ net. net.made };
+
+    ghost invariant = { λ net. IsSound net.made × IsLevelled net.made };
+}
+
+impl Net {
+    /// How many nets there are.
+    pub fn nets(&self) -> u32
+        ensures count { result ≡ nets self.now }
+        ensures sound { IsSound self.now }
+    {
+        self.made.nets() as u32
+    }
+
+    /// What the net is called in messages.
+    pub fn label(&self, net: u32) -> &str
+        requires { net < nets self.now }
+        ensures { result.now ≡ text_of self.now net }
+    {
+        self.made.label(net)
+    }
+
+    /// The net of this name; none where no net is named so.
+    pub fn find(&self, name: &str) -> Option<u32>
+        ensures { result ≡ number_of self.now name.now }
+    {
+        self.made.find(name)
+    }
+
+    /// The primary inputs, in order.
+    pub fn inputs(&self) -> &[u32]
+        ensures inputs { result.now ≡ self.now.inputs }
+        ensures sound { IsSound self.now }
+    {
+        self.made.inputs()
+    }
+
+    /// The outputs, in order.
+    pub fn outputs(&self) -> &[u32]
+        ensures outputs { result.now ≡ self.now.outputs }
+        ensures sound { IsSound self.now }
+    {
+        self.made.outputs()
+    }
+
+    /// The gates by position.
+    pub fn gates(&self) -> &[Gate]
+        ensures gates { result.now ≡ self.now.gates }
+        ensures sound { IsSound self.now }
+    {
+        self.made.gates()
+    }
+
+    /// The latches, in order.
+    pub fn latches(&self) -> &[Latch]
+        ensures latches { result.now ≡ self.now.latches }
+        ensures sound { IsSound self.now }
+    {
+        self.made.latches()
+    }
+
+    /// Turns over bit `index` of the table of the gate at `position`, and changes nothing else.
+    /// The gate exists, and the bit is one of its table's. It takes no memory.
+    pub fn turn(&mut self, position: u32, index: u32)
+        requires { (g : _) × (slice_get self.old.gates position ≡ Some g) × (index < 2 ^ length g.inputs) }
+        ensures { self.new ≡ turned self.old position index }
+    {
+        self.made.turn(position, index);
+    }
+
+    // The net list.
+    pub(crate) fn made(&self) -> &NetMaker
+        ensures made { result.now ≡ self.now }
+        ensures sound { IsSound self.now }
+        ensures levelled { IsLevelled self.now }
+    {
+        &self.made
+    }
+}
+
+// How often each net is driven, where 2 stands for more too.
+fn driver_counts(alloc: Global, net: &NetMaker) -> Result<Vec<u8>, AllocError>
+    ensures long { IfOk result (λ v. length v.items ≡ nets net.now) }
+    ensures few { IfOk result (λ v. length v.items ≤ 2 ^ 20) }
+    ensures each { IfOk result (λ v. (n : ℕ) → n < nets net.now → slice_index v.items n ≡ min 2 (drivers net.now n)) }
+{
+    let driven = driven(alloc, net)?;
+    let counts = counts(alloc, net.nets(), &driven)?;
+    Ok(counts)
+}
+
+// Whether each net has one driver.
+fn check_drivers(alloc: Global, net: &NetMaker) -> Result<(), NetFault>
+    ensures one { OnOk result (HasOneDriverEach net.now) }
+    ensures fault { IfErr result (λ e. Finishes net.now (Err e)) }
+{
+    let counts = driver_counts(alloc, net)?;
+    if let Some(twice) = least(&counts, 2) {
+        let label = Name::new(alloc, net.label(twice))?;
+        return Err(NetFault::DrivenTwice { net: twice, label });
+    }
+    if let Some(undriven) = least(&counts, 0) {
+        let label = Name::new(alloc, net.label(undriven))?;
+        return Err(NetFault::Undriven {
+            net: undriven,
+            label,
+        });
+    }
+    Ok(())
+}
+
+// Whether no gates drive each other in a ring.
+fn check_loops(alloc: Global, net: &NetMaker) -> Result<(), NetFault>
+    requires { HasOneDriverEach net.now }
+    ensures ok { OnOk result (HasRing net.now → ⊥) }
+    ensures levelled { OnOk result (IsLevelled net.now) }
+    ensures fault { IfErr result (λ e. Finishes net.now (Err e)) }
+{
+    let levels = levels(alloc, net)?;
+    match begin(net, &levels) {
+        None => Ok(()),
+        Some(start) => {
+            let (nets, first) = loop_from(alloc, net, &levels, start)?;
+            let label = Name::new(alloc, net.label(first))?;
+            Err(NetFault::Loop {
+                nets: Numbers::new(nets),
+                label,
+            })
+        }
+    }
+}
+
+impl NetMaker {
+    /// The net, if it is sound.
+    pub fn finish(self) -> Result<Net, NetFault>
+        ensures { Finishes self result }
+    {
+        let alloc = self.alloc();
+        check_drivers(alloc, &self)?;
+        check_loops(alloc, &self)?;
+        Ok(Net { made: self })
+    }
+}
