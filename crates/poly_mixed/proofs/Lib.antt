@@ -12,5 +12,6 @@ pub mod Roots
 pub mod Words
 pub mod Subsets
 pub mod Uniqueness
+pub mod Powers
 pub mod InBits
 pub mod Orders

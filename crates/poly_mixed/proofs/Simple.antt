@@ -81,7 +81,7 @@ half_within s (suc n) l h =
 pub step_small : (s n : ℕ) → s * 2 ^ n ≤ 64 → s ≤ 64
 step_small s n h = omega (arith, le-mul_of_pos_right s (pow_pos n))
 
-abbrev zeros8 : List ℕ
+abbrev pub zeros8 : List ℕ
 zeros8 = 0 ∷ 0 ∷ 0 ∷ 0 ∷ 0 ∷ 0 ∷ 0 ∷ 0 ∷ []
 
 module _ {degree : ℕ} {mul : ℕ → ℕ → ℕ} (f : IsField degree mul) where

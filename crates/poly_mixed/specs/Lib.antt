@@ -6,3 +6,4 @@ pub mod Cofactor
 pub mod Table
 pub mod Uniqueness
 pub mod Order
+pub mod Steps

@@ -6,9 +6,17 @@ mod evaluate;
 mod laws;
 mod mono;
 mod poly;
+mod single;
+mod stage;
+mod steps;
 mod table;
+#[cfg(test)]
+mod tests;
 
 pub use laws::{one_size, text_order, unique, unique_in_bits};
 pub use mono::Mono;
 pub use poly::{Poly, Term};
-pub use table::{constant, scaled_bit, table_poly};
+pub use single::{constant, scaled_bit, scaled_power};
+pub use stage::{ReduceFault, Stage};
+pub use steps::{Generator, NoSteps, Steps};
+pub use table::table_poly;

@@ -1,34 +1,12 @@
 //! Polynomials of tables over bits.
 ghost use Rattle.std.specs.Prelude.{◌≡◌, ℕ, ◌+◌, ◌*◌, ◌^◌, ◌<◌, ◌≤◌, cond, length, IfOk};
-ghost use Rattle.poly_mixed.specs.Polynomial.{IsElement, IsPolynomialOf};
+ghost use Rattle.poly_mixed.specs.Polynomial.{IsPolynomialOf};
 ghost use Rattle.poly_mixed.specs.Table.{index, table_bit, table_value};
 
-use crate::{Mono, Poly};
+use crate::single::{constant, scaled_bit};
+use crate::Poly;
 use gf_field::Field;
 use std::alloc::{AllocError, Global};
-
-/// The polynomial of an element.
-pub fn constant<F: Field>(alloc: Global, field: &F, c: u64) -> Result<Poly, AllocError>
-    requires { IsElement (F.degree field.now) c }
-    ensures { IfOk result (λ q. IsPolynomialOf (F.degree field.now) (F.product field.now) (λ p. c) q.terms) }
-{
-    let mono = Mono::new(alloc, &[], &[0; 8])?;
-    Poly::term(alloc, field, c, mono)
-}
-
-/// The polynomial of a bit times an element.
-pub fn scaled_bit<F: Field>(
-    alloc: Global,
-    field: &F,
-    c: u64,
-    rank: u32,
-) -> Result<Poly, AllocError>
-    requires { IsElement (F.degree field.now) c }
-    ensures { IfOk result (λ q. IsPolynomialOf (F.degree field.now) (F.product field.now) (λ p. cond (p.is_one rank) c 0) q.terms) }
-{
-    let mono = Mono::new(alloc, &[rank], &[0; 8])?;
-    Poly::term(alloc, field, c, mono)
-}
 
 /// The polynomial in bits whose value is the bit of the table that the bits of the ranks choose, the first one lowest.
 /// The ranks, at most 6, stand in any order, and one may come more than once.
