@@ -15,3 +15,4 @@ pub mod Uniqueness
 pub mod Powers
 pub mod InBits
 pub mod Orders
+pub mod Texts

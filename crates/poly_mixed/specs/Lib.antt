@@ -7,3 +7,6 @@ pub mod Table
 pub mod Uniqueness
 pub mod Order
 pub mod Steps
+pub mod Labels
+pub mod Text
+pub mod Parts

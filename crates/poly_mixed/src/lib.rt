@@ -3,6 +3,7 @@
 #![tactic(auto)]
 
 mod evaluate;
+mod labels;
 mod laws;
 mod mono;
 mod poly;
@@ -10,9 +11,11 @@ mod single;
 mod stage;
 mod steps;
 mod table;
+mod write;
 #[cfg(test)]
 mod tests;
 
+pub use labels::Labels;
 pub use laws::{one_size, text_order, unique, unique_in_bits};
 pub use mono::Mono;
 pub use poly::{Poly, Term};
@@ -20,3 +23,4 @@ pub use single::{constant, scaled_bit, scaled_power};
 pub use stage::{ReduceFault, Stage};
 pub use steps::{Generator, NoSteps, Steps};
 pub use table::table_poly;
+pub use write::write_poly;

@@ -240,6 +240,13 @@ impl Poly {
         Ok(terms)
     }
 
+    // The terms as a map.
+    pub(crate) fn map(&self) -> &BTreeMap<Mono, u64>
+        ensures { result.now.entries ≡ self.now.terms }
+    {
+        &self.map
+    }
+
     /// The value at the words and the bits; a rank past the end of `bits` is 0.
     pub fn value<F: Field>(&self, field: &F, words: &[u64; 8], bits: &[bool]) -> u64
         requires over { IsReduced (F.degree field.now) self.now.terms }

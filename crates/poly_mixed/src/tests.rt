@@ -1,6 +1,6 @@
 //! Products, tables and substitutions whose terms come from outside.
 use crate::{
-    Generator, Mono, NoSteps, Poly, Steps, Term, constant, scaled_bit, scaled_power, table_poly,
+    Generator, NoSteps, Poly, Steps, Term, constant, scaled_bit, scaled_power, table_poly,
 };
 use gf_field::{Field, Ring, Ring2k, is_element};
 use irreducible::Proved;
@@ -159,7 +159,5 @@ fn a_sum_of_0_leaves_no_term(rt: HostRuntime) -> Result<(), Fail> {
     let field = field(&rt, 0x7);
     assert_eq!(rt; cancelled(&rt, alloc, &field)?, 0);
     assert_eq!(rt; Poly::zero(alloc).len(), 0);
-    let mono = Mono::new(alloc, &[], &[0; 8])?;
-    assert_eq!(rt; mono.bits().len(), 0);
     Ok(())
 }
