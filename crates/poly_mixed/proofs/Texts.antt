@@ -1,8 +1,8 @@
 -- Parts joined by a separator, and lists that grow by one.
-use Rattle.std.proofs.Common.{◌≡◌, ◌≢◌, ℕ, suc, Bool, true, false, cond, ◌&&◌, not, List, [], ◌∷◌, ◌++◌, length, ◌==◌, ◌<◌, ◌≤◌, ◌^◌, map, refl, subst, arith, length-append, sym, ◌∙◌, ap, codes, append_assoc, append-nil}
+use Rattle.std.proofs.Common.{◌≡◌, ◌≢◌, ℕ, suc, Bool, true, false, cond, ◌&&◌, not, List, [], ◌∷◌, ◌++◌, length, ◌==◌, ◌<◌, ◌≤◌, ◌^◌, ◌*◌, map, refl, subst, arith, length-append, sym, ◌∙◌, ap, codes, append_assoc, append-nil}
 use Rattle.std.specs.List.{AllByRecursion}
 use Rattle.text_core.specs.Names.{IsName}
-use Rattle.poly_mixed.specs.Labels.{Labelling, AreLabels, Differs, AreDifferent, IsWord}
+use Rattle.poly_mixed.specs.Labels.{Labelling, AreLabels, Differs, AreDifferent, IsWord, bit_count}
 use Rattle.poly_mixed.specs.Parts.{parts_after}
 use Rattle.poly_mixed.specs.Text.{joined, is_none, factor_texts, hex_text, term_text, text}
 use Rattle.poly_mixed.specs.Polynomial.{Terms}
@@ -76,3 +76,7 @@ labels_with_word l w ws are is d few e =
       numbers = are.numbers;
       nets = are.nets;
     })
+
+pub bits_small : (ws : List (List ℕ × ℕ)) → AllByRecursion IsWord ws → bit_count ws ≤ 64 * length ws
+bits_small [] all = omega arith
+bits_small (w ∷ ws) all = let rest = bits_small ws all.1 in let here = all.0.2 in omega arith

@@ -118,6 +118,17 @@ impl Labels {
         self.words[word as usize].bits
     }
 
+    /// How many ranks have a name: the bits of the words and the nets.
+    pub fn ranks(&self) -> u64
+        ensures { result ≡ bit_count self.now.words + length self.now.nets }
+    {
+        let mut count = self.nets.len() as u64;
+        for word in &self.words {
+            count += u64::from(word.bits);
+        }
+        count
+    }
+
     // How the bit or net of a rank is written.
     pub(crate) fn rank(&self, alloc: Global, rank: u32) -> Result<String, AllocError>
         requires { rank < bit_count self.now.words + length self.now.nets }

@@ -23,4 +23,4 @@ pub use single::{constant, scaled_bit, scaled_power};
 pub use stage::{ReduceFault, Stage};
 pub use steps::{Generator, NoSteps, Steps};
 pub use table::table_poly;
-pub use write::write_poly;
+pub use write::{is_named, write_poly};

@@ -1,9 +1,14 @@
 //! Products, tables and substitutions whose terms come from outside.
+ghost use Rattle.std.specs.Prelude.{IfOk};
+ghost use Rattle.poly_mixed.specs.Polynomial.{IsReduced};
+
 use crate::{
-    Generator, NoSteps, Poly, Steps, Term, constant, scaled_bit, scaled_power, table_poly,
+    Generator, Labels, NoSteps, Poly, Steps, Term, constant, scaled_bit, scaled_power, table_poly,
+    is_named, write_poly,
 };
 use gf_field::{Field, Ring, Ring2k, is_element};
 use irreducible::Proved;
+use text_core::is_name;
 use std::alloc::{AllocError, Global};
 use std::process::Abort;
 use std::test::Fail;
@@ -159,5 +164,78 @@ fn a_sum_of_0_leaves_no_term(rt: HostRuntime) -> Result<(), Fail> {
     let field = field(&rt, 0x7);
     assert_eq!(rt; cancelled(&rt, alloc, &field)?, 0);
     assert_eq!(rt; Poly::zero(alloc).len(), 0);
+    Ok(())
+}
+
+// words `a` and `b` of 2 bits, and the net 9
+fn labels(
+    rt: &impl Abort,
+    alloc: Global,
+    z: &str,
+    a: &str,
+    b: &str,
+) -> Result<Labels, AllocError> {
+    assert!(rt; is_name(z.as_bytes()));
+    assert!(rt; is_name(a.as_bytes()));
+    assert!(rt; is_name(b.as_bytes()));
+    assert!(rt; a.as_bytes() != b.as_bytes());
+    let mut labels = Labels::new(alloc, z)?;
+    labels.word(a, 2)?;
+    labels.word(b, 2)?;
+    labels.net(9)?;
+    Ok(labels)
+}
+
+// a term of two powers and of bits: `table` is 1, 0b10 or 0b1000 for none, one or two of them
+fn term<F: Field>(
+    rt: &impl Abort,
+    alloc: Global,
+    field: &F,
+    c: u64,
+    exponents: &[u64; 2],
+    ranks: &[u32],
+    table: u64,
+) -> Result<Poly, AllocError>
+    ensures { IfOk result (λ q. IsReduced (F.degree field.now) q.terms) }
+{
+    assert!(rt; is_element(field, c));
+    assert!(rt; is_element(field, 1));
+    assert!(rt; is_element(field, exponents[0]));
+    assert!(rt; is_element(field, exponents[1]));
+    assert!(rt; ranks.len() <= 2);
+    let first = scaled_power(alloc, field, c, 0, exponents[0])?;
+    let second = scaled_power(alloc, field, 1, 1, exponents[1])?;
+    let bits = table_poly(alloc, field, ranks, table)?;
+    let words = first.mul(alloc, field, &second)?;
+    let product = words.mul(alloc, field, &bits)?;
+    Ok(product)
+}
+
+// the text of a polynomial
+fn text(
+    rt: &impl Abort,
+    alloc: Global,
+    poly: &Poly,
+    labels: &Labels,
+) -> Result<Vec<u8>, AllocError> {
+    assert!(rt; is_named(poly, labels));
+    write_poly(alloc, poly, labels)
+}
+
+#[test]
+fn terms_are_written_in_order(rt: HostRuntime) -> Result<(), Fail> {
+    let alloc = rt.alloc();
+    let field = field(&rt, 0x7);
+    let labels = labels(&rt, alloc, "Z", "A", "B")?;
+    let mut sum = term(&rt, alloc, &field, 3, &[0, 0], &[], 1)?;
+    assert_eq!(rt; text(&rt, alloc, &sum, &labels)?, b"0x3");
+    let net = term(&rt, alloc, &field, 1, &[0, 0], &[4, 0], 0b1000)?;
+    sum.add_into(&field, &net)?;
+    let bit = term(&rt, alloc, &field, 2, &[0, 0], &[3], 0b10)?;
+    sum.add_into(&field, &bit)?;
+    let words = term(&rt, alloc, &field, 2, &[3, 1], &[], 1)?;
+    sum.add_into(&field, &words)?;
+    assert_eq!(rt; text(&rt, alloc, &sum, &labels)?, b"0x2*A^3*B + A[0]*@9 + 0x2*B[1] + 0x3");
+    assert_eq!(rt; text(&rt, alloc, &Poly::zero(alloc), &labels)?, b"0");
     Ok(())
 }
