@@ -228,14 +228,14 @@ fn terms_are_written_in_order(rt: HostRuntime) -> Result<(), Fail> {
     let field = field(&rt, 0x7);
     let labels = labels(&rt, alloc, "Z", "A", "B")?;
     let mut sum = term(&rt, alloc, &field, 3, &[0, 0], &[], 1)?;
-    assert_eq!(rt; text(&rt, alloc, &sum, &labels)?, b"0x3");
+    assert_eq!(rt; text(&rt, alloc, &sum, &labels)?.as_slice(), b"0x3".as_slice());
     let net = term(&rt, alloc, &field, 1, &[0, 0], &[4, 0], 0b1000)?;
     sum.add_into(&field, &net)?;
     let bit = term(&rt, alloc, &field, 2, &[0, 0], &[3], 0b10)?;
     sum.add_into(&field, &bit)?;
     let words = term(&rt, alloc, &field, 2, &[3, 1], &[], 1)?;
     sum.add_into(&field, &words)?;
-    assert_eq!(rt; text(&rt, alloc, &sum, &labels)?, b"0x2*A^3*B + A[0]*@9 + 0x2*B[1] + 0x3");
-    assert_eq!(rt; text(&rt, alloc, &Poly::zero(alloc), &labels)?, b"0");
+    assert_eq!(rt; text(&rt, alloc, &sum, &labels)?.as_slice(), b"0x2*A^3*B + A[0]*@9 + 0x2*B[1] + 0x3".as_slice());
+    assert_eq!(rt; text(&rt, alloc, &Poly::zero(alloc), &labels)?.as_slice(), b"0".as_slice());
     Ok(())
 }
