@@ -1,22 +1,20 @@
 -- The values of cofactors and of what is left.
 use Rattle.std.proofs.Common.{◌≡◌, ℕ, ◌≢◌, Bool, true, false, cond, not, ◌&&◌, ◌||◌, List, [], ◌∷◌, bit_xor, nat_eq, refl, sym, ◌∙◌, ap}
-use lib.Bits.{xor_zero_l, xor_zero_r, xor_self, xor_assoc, xor_lt}
+use lib.Bits.{xor_zero_l, xor_zero_r, xor_self, xor_assoc}
 use Rattle.std.proofs.lemmas.Bool.{or_parts}
 use Rattle.std.specs.declared.cmp.Ordering.TheVariants.{Less}
 use Rattle.std.specs.Ordering.{nat_cmp}
 use Rattle.std.specs.List.{AllByRecursion, list_all, list_any, filter}
 use Rattle.std.specs.List.Sorted.{IsStrictlySortedBy}
 use Rattle.poly_mixed.proofs.FieldLaws.{IsField}
-use Rattle.poly_mixed.specs.Monomial.{Monomial, text_cmp, text_cmp_total}
+use Rattle.poly_mixed.specs.Monomial.{Monomial, text_cmp}
 use Rattle.poly_mixed.specs.Polynomial.{Terms, Point, IsPoint, IsTerm, IsMap, IsReduced, powers, term_value, value}
 use Rattle.poly_mixed.specs.Monomial.{has_bit}
-use Rattle.poly_mixed.specs.Cofactor.{without_bit, lacking, cofactors, at_bit, HasCofactorValues, IsSubstituted}
+use Rattle.poly_mixed.specs.Cofactor.{without_bit, lacking, cofactors, at_bit, IsSubstituted}
 use Rattle.poly_mixed.proofs.OneBit.{order_stays}
 use Rattle.gf_field.specs.XorLaws.{xor_swap}
-use Rattle.poly_mixed.proofs.Sums.{sorted-plus, all_plus}
 use Rattle.std.specs.Map.{keys_of}
 use Rattle.poly_mixed.proofs.Products.{value_element}
-use Rattle.poly_mixed.proofs.Values.{value-plus}
 
 -- ranks other than the bit
 same_without : (p : Point) (bit : ℕ) (b : Bool) (rs : List ℕ) → list_any (λ r. nat_eq r bit) rs ≡ false → list_all (at_bit p bit b).is_one rs ≡ list_all p.is_one rs

@@ -1,5 +1,5 @@
 -- Polynomials in one word: different powers below 2^k, as functions on the field, do not add up to 0.
-use Rattle.std.proofs.Common.{◌≡◌, ℕ, cond, ◌==◌, List, [], ◌∷◌}
+use Rattle.std.proofs.Common.{◌≡◌, ℕ, cond, ◌==◌, List}
 use Rattle.std.specs.List.{AllByRecursion}
 use Rattle.gf_field.specs.Power.{power}
 use Rattle.poly_mixed.specs.Polynomial.{IsElement}

@@ -1,6 +1,6 @@
 -- Monomials with a bit and without it, and that taking a bit out keeps the order of terms.
-use Rattle.std.proofs.Common.{◌≡◌, ◌≢◌, ℕ, ◌<◌, ◌≤◌, Bool, true, false, cond, not, ◌||◌, List, [], ◌∷◌, nat_eq, nat_lt, ◌==◌, refl, sym, ◌∙◌, ap, subst, arith, inl, inr, Option, Some, None}
-use Rattle.std.proofs.lemmas.Bool.{eqb-true, eq-eqb, ne_eqb, cases_eq, cases_order, lt-ltb, ltb-true, ltb-false, le-ltb, or_parts, eqb-false}
+use Rattle.std.proofs.Common.{◌≡◌, ℕ, ◌<◌, Bool, true, false, cond, not, ◌||◌, List, [], ◌∷◌, nat_eq, nat_lt, ◌==◌, refl, sym, ◌∙◌, ap, subst, arith, inl, inr, Option, Some}
+use Rattle.std.proofs.lemmas.Bool.{eqb-true, eq-eqb, ne_eqb, cases_order, lt-ltb, le-ltb, or_parts, eqb-false}
 use Rattle.std.specs.declared.cmp.Ordering.{Ordering}
 use Rattle.std.specs.declared.cmp.Ordering.TheVariants.{Less, Equal, Greater}
 use Rattle.std.specs.Cmp.{nat_cmp_total, tied_itself, ranked}
@@ -8,7 +8,7 @@ use Rattle.std.specs.Ordering.{nat_cmp, ordering_then, ordering_reverse, eq_by_c
 use Rattle.std.specs.List.{AllByRecursion, list_any, filter}
 use Rattle.std.specs.List.Sorted.{IsStrictlySortedBy}
 use Rattle.std.specs.Option.{unwrap_or}
-use Rattle.std.specs.Map.{keys_of, lookup}
+use Rattle.std.specs.Map.{lookup}
 use Rattle.poly_mixed.specs.Monomial.{Monomial, has_bit, ranks_cmp, text_cmp, text_cmp_total, exponents_cmp}
 use Rattle.poly_mixed.specs.Polynomial.{Terms, coefficient, IsMap}
 use Rattle.poly_mixed.specs.Product.{with_rank}
@@ -221,8 +221,8 @@ found_with bit m (t ∷ ts) h all =
     elim (has_bit bit t.0) as (λ v. has_bit bit t.0 ≡ v → unwrap_or (lookup (eq_by_cmp text_cmp m) (cond v ((without_bit bit t.0, t.1) ∷ cofactors bit ts) (cofactors bit ts))) 0 ≡ unwrap_or (cond (eq_by_cmp text_cmp (with_bit bit m) t.0) (Some t.1) (lookup (eq_by_cmp text_cmp (with_bit bit m)) ts)) 0) [
       | true ↦ λ e.
           let same = same_test m (without_bit bit t.0) (with_bit bit m) t.0
-            (λ q. ap (with_bit bit) q ∙ back_with bit t.0 all.0 e)
-            (λ q. sym (back_without bit m h) ∙ ap (without_bit bit) q) in
+          (λ q. ap (with_bit bit) q ∙ back_with bit t.0 all.0 e)
+          (λ q. sym (back_without bit m h) ∙ ap (without_bit bit) q) in
           ap (λ b. unwrap_or (cond b (Some t.1) (lookup (eq_by_cmp text_cmp m) (cofactors bit ts))) 0) same
           ∙ either (eq_by_cmp text_cmp (with_bit bit m) t.0) t.1 (lookup (eq_by_cmp text_cmp m) (cofactors bit ts)) (lookup (eq_by_cmp text_cmp (with_bit bit m)) ts) (found_with bit m ts h all.1)
       | false ↦ λ e.

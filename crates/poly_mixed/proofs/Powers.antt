@@ -1,14 +1,12 @@
 -- A power of one word as a monomial.
-use Rattle.std.proofs.Common.{◌≡◌, ℕ, zero, suc, ◌<◌, List, [], ◌∷◌, length, true, false, ◌==◌, cond, sym, ◌∙◌, ap, ap₂, subst, arith, slice_index, refl}
+use Rattle.std.proofs.Common.{◌≡◌, ℕ, zero, suc, ◌<◌, List, [], ◌∷◌, length, true, false, ◌==◌, cond, sym, ◌∙◌, ap, subst, arith, slice_index, refl}
 use Rattle.std.proofs.Math.ListN.{set, length-set}
 use lib.Bits.{xor_zero_r}
 use Rattle.std.proofs.lemmas.Bool.{eqb-true, eqb-false}
-use Rattle.std.specs.List.{AllByRecursion, list_all}
-use Rattle.std.specs.List.Sorted.{IsStrictlySortedBy}
-use Rattle.std.specs.Ordering.{nat_cmp}
+use Rattle.std.specs.List.{AllByRecursion}
 use Rattle.gf_field.specs.Power.{power}
 use Rattle.poly_mixed.specs.Monomial.{Monomial}
-use Rattle.poly_mixed.specs.Polynomial.{Polynomial, polynomial, Point, IsPoint, IsElement, IsMonomial, IsReduced, IsPolynomialOf, powers, value, term_value}
+use Rattle.poly_mixed.specs.Polynomial.{Polynomial, polynomial, Point, IsPoint, IsElement, IsMonomial, IsPolynomialOf, powers, term_value}
 use Rattle.poly_mixed.specs.Sum.{with_coefficient}
 use Rattle.poly_mixed.specs.Uniqueness.{IsZeros}
 use Rattle.poly_mixed.proofs.FieldLaws.{IsField}

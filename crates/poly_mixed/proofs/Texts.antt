@@ -1,7 +1,6 @@
 -- Parts joined by a separator, and lists that grow by one.
 use Rattle.std.proofs.Common.{◌≡◌, ◌≢◌, ℕ, suc, Bool, true, false, cond, ◌&&◌, not, List, [], ◌∷◌, ◌++◌, length, ◌==◌, ◌<◌, ◌≤◌, ◌^◌, ◌*◌, map, refl, subst, arith, length-append, sym, ◌∙◌, ap, codes, append_assoc, append-nil}
 use Rattle.std.specs.List.{AllByRecursion}
-use Rattle.text_core.specs.Names.{IsName}
 use Rattle.poly_mixed.specs.Labels.{Labelling, AreLabels, Differs, AreDifferent, IsWord, bit_count}
 use Rattle.poly_mixed.specs.Parts.{parts_after}
 use Rattle.poly_mixed.specs.Text.{joined, is_none, factor_texts, hex_text, term_text, text}

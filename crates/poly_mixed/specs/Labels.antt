@@ -1,6 +1,6 @@
 -- The names of the variables of a text. Ranks are the bits of the words, by word and by place, and then other nets.
 -- Source: this project's own.
-use Rattle.std.specs.Prelude.{◌≡◌, ◌≢◌, ℕ, ◌+◌, ◌-◌, ◌<◌, ◌≤◌, ◌^◌, cond, List, [], ◌∷◌, ◌++◌, length, nat_lt, codes, decimal, slice_index, get_or, map}
+use Rattle.std.specs.Prelude.{◌≢◌, ℕ, ◌+◌, ◌-◌, ◌<◌, ◌≤◌, ◌^◌, cond, List, [], ◌∷◌, ◌++◌, length, nat_lt, codes, decimal, slice_index, get_or, map}
 use Rattle.std.specs.List.{AllByRecursion}
 use Rattle.text_core.specs.Names.{IsName}
 

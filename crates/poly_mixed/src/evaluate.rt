@@ -4,8 +4,7 @@ ghost use Rattle.std.specs.List.{AllByRecursion, list_all};
 ghost use Rattle.poly_mixed.specs.Polynomial.{IsElement, powers as powers_of, point, term_value as value_of_term};
 
 use crate::Mono;
-use gf_field::Field;
-use gf_field::power;
+use gf_field::{Field, power};
 
 // The coefficient times the powers of the words, where all bits of the monomial are 1.
 pub(crate) fn term_value<F: Field>(

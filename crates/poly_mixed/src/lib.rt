@@ -11,9 +11,9 @@ mod single;
 mod stage;
 mod steps;
 mod table;
-mod write;
 #[cfg(test)]
 mod tests;
+mod write;
 
 pub use labels::Labels;
 pub use laws::{one_size, text_order, unique, unique_in_bits};

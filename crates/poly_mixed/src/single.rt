@@ -17,12 +17,7 @@ pub fn constant<F: Field>(alloc: Global, field: &F, c: u64) -> Result<Poly, Allo
 }
 
 /// The polynomial of a bit times an element.
-pub fn scaled_bit<F: Field>(
-    alloc: Global,
-    field: &F,
-    c: u64,
-    rank: u32,
-) -> Result<Poly, AllocError>
+pub fn scaled_bit<F: Field>(alloc: Global, field: &F, c: u64, rank: u32) -> Result<Poly, AllocError>
     requires { IsElement (F.degree field.now) c }
     ensures { IfOk result (λ q. IsPolynomialOf (F.degree field.now) (F.product field.now) (λ p. cond (p.is_one rank) c 0) q.terms) }
 {

@@ -11,13 +11,25 @@ pub enum Stage {
     /// After the outputs of so many gates were eliminated.
     Cut(u32),
     /// A word's term with its first `bit` bits of the word replaced.
-    WordProduct { word: u32, term: u32, bit: u32 },
+    WordProduct {
+        word: u32,
+        term: u32,
+        bit: u32,
+    },
     /// The sum of a word's first `term` terms, replaced.
-    WordSum { word: u32, term: u32 },
+    WordSum {
+        word: u32,
+        term: u32,
+    },
     /// The first `factor` factors of a term of a specification.
-    SpecProduct { term: u32, factor: u32 },
+    SpecProduct {
+        term: u32,
+        factor: u32,
+    },
     /// The sum of the first `term` terms of a specification.
-    SpecSum { term: u32 },
+    SpecSum {
+        term: u32,
+    },
     /// The first `factor` factors of a term of an instance's block.
     InstanceProduct {
         instance: u32,
@@ -25,7 +37,10 @@ pub enum Stage {
         factor: u32,
     },
     /// The sum of the first `term` terms of an instance's block.
-    InstanceSum { instance: u32, term: u32 },
+    InstanceSum {
+        instance: u32,
+        term: u32,
+    },
 }
 
 /// Why an engine refuses.

@@ -3,8 +3,8 @@ ghost use Rattle.std.specs.Prelude.{◌≡◌, ℕ, ◌+◌, ◌*◌, ◌^◌, �
 ghost use Rattle.poly_mixed.specs.Polynomial.{IsPolynomialOf};
 ghost use Rattle.poly_mixed.specs.Table.{index, table_bit, table_value};
 
-use crate::single::{constant, scaled_bit};
 use crate::Poly;
+use crate::single::{constant, scaled_bit};
 use gf_field::Field;
 use std::alloc::{AllocError, Global};
 

@@ -3,15 +3,15 @@ ghost use Rattle.std.specs.Prelude.{IfOk};
 ghost use Rattle.poly_mixed.specs.Polynomial.{IsReduced};
 
 use crate::{
-    Generator, Labels, NoSteps, Poly, Steps, Term, constant, scaled_bit, scaled_power, table_poly,
-    is_named, write_poly,
+    Generator, Labels, NoSteps, Poly, Steps, Term, constant, is_named, scaled_bit, scaled_power,
+    table_poly, write_poly,
 };
 use gf_field::{Field, Ring, Ring2k, is_element};
 use irreducible::Proved;
-use text_core::is_name;
 use std::alloc::{AllocError, Global};
 use std::process::Abort;
 use std::test::Fail;
+use text_core::is_name;
 
 // a field that is known to exist
 fn field(rt: &impl Abort, modulus: u128) -> Proved<Ring2k> {
@@ -85,7 +85,10 @@ fn tables_of_ranks_in_any_order(rt: HostRuntime) -> Result<(), Fail> {
     assert_eq!(rt; back[0].mono().bits(), [2, 5].as_slice());
     assert_eq!(rt; back[1].mono().bits(), [5].as_slice());
     assert_eq!(rt; back[1].coefficient(), 1);
-    assert_eq!(rt; table_terms(&rt, alloc, &field, &[0, 1, 2, 3, 4, 5], 1)?.len(), 64);
+    assert_eq!(rt;
+        table_terms(&rt, alloc, &field, &[0, 1, 2, 3, 4, 5], 1)?.len(),
+        64
+    );
     assert_eq!(rt; table_terms(&rt, alloc, &field, &[], 1)?.len(), 1);
     Ok(())
 }
@@ -168,13 +171,7 @@ fn a_sum_of_0_leaves_no_term(rt: HostRuntime) -> Result<(), Fail> {
 }
 
 // words `a` and `b` of 2 bits, and the net 9
-fn labels(
-    rt: &impl Abort,
-    alloc: Global,
-    z: &str,
-    a: &str,
-    b: &str,
-) -> Result<Labels, AllocError> {
+fn labels(rt: &impl Abort, alloc: Global, z: &str, a: &str, b: &str) -> Result<Labels, AllocError> {
     assert!(rt; is_name(z.as_bytes()));
     assert!(rt; is_name(a.as_bytes()));
     assert!(rt; is_name(b.as_bytes()));
@@ -228,14 +225,23 @@ fn terms_are_written_in_order(rt: HostRuntime) -> Result<(), Fail> {
     let field = field(&rt, 0x7);
     let labels = labels(&rt, alloc, "Z", "A", "B")?;
     let mut sum = term(&rt, alloc, &field, 3, &[0, 0], &[], 1)?;
-    assert_eq!(rt; text(&rt, alloc, &sum, &labels)?.as_slice(), b"0x3".as_slice());
+    assert_eq!(rt;
+        text(&rt, alloc, &sum, &labels)?.as_slice(),
+        b"0x3".as_slice()
+    );
     let net = term(&rt, alloc, &field, 1, &[0, 0], &[4, 0], 0b1000)?;
     sum.add_into(&field, &net)?;
     let bit = term(&rt, alloc, &field, 2, &[0, 0], &[3], 0b10)?;
     sum.add_into(&field, &bit)?;
     let words = term(&rt, alloc, &field, 2, &[3, 1], &[], 1)?;
     sum.add_into(&field, &words)?;
-    assert_eq!(rt; text(&rt, alloc, &sum, &labels)?.as_slice(), b"0x2*A^3*B + A[0]*@9 + 0x2*B[1] + 0x3".as_slice());
-    assert_eq!(rt; text(&rt, alloc, &Poly::zero(alloc), &labels)?.as_slice(), b"0".as_slice());
+    assert_eq!(rt;
+        text(&rt, alloc, &sum, &labels)?.as_slice(),
+        b"0x2*A^3*B + A[0]*@9 + 0x2*B[1] + 0x3".as_slice()
+    );
+    assert_eq!(rt;
+        text(&rt, alloc, &Poly::zero(alloc), &labels)?.as_slice(),
+        b"0".as_slice()
+    );
     Ok(())
 }

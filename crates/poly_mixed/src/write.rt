@@ -88,7 +88,12 @@ fn variables(alloc: Global, mono: &Mono, labels: &Labels) -> Result<Vec<String>,
 {
     let mut texts = Vec::new(alloc);
     for word in 0..labels.words() {
-        add_power(alloc, &mut texts, labels.name(word), mono.exponents()[word as usize])?;
+        add_power(
+            alloc,
+            &mut texts,
+            labels.name(word),
+            mono.exponents()[word as usize],
+        )?;
     }
     for rank in mono.bits() {
         texts.push(labels.rank(alloc, *rank)?)?;
@@ -118,12 +123,7 @@ fn add_power(
 }
 
 // Appends a part, after a separator where it is not the first.
-fn add_part(
-    out: &mut Vec<u8>,
-    first: bool,
-    separator: &[u8],
-    part: &[u8],
-) -> Result<(), AllocError>
+fn add_part(out: &mut Vec<u8>, first: bool, separator: &[u8], part: &[u8]) -> Result<(), AllocError>
     ensures { OnOk result (out.new.items ≡ part_after separator.now first out.old.items part.now) }
 {
     if !first {

@@ -1,4 +1,3 @@
-use Rattle.std.proofs.Common.{[]}
 use Rattle.std.proofs.lemmas.Result.{IfOk-weaker}
 use Rattle.poly_mixed.proofs.FieldLaws.{field_of}
 use Rattle.poly_mixed.proofs.Powers.{power_monomial, power_polynomial}

@@ -1,6 +1,5 @@
-use Rattle.std.proofs.Common.{◌≡◌, ◌<◌, ◌≤◌, ◌++◌, map, drop, length, string_bytes}
-use Rattle.std.specs.List.{AllByRecursion}
-use Rattle.poly_mixed.specs.Labels.{rank_text, bit_count}
+use Rattle.std.proofs.Common.{◌≡◌, ◌++◌, map, drop, string_bytes}
+use Rattle.poly_mixed.specs.Labels.{rank_text}
 use Rattle.poly_mixed.specs.Text.{powers_texts, variable_texts}
 use Rattle.poly_mixed.proofs.write.variables.Given as goal
 

@@ -1,4 +1,4 @@
-use Rattle.std.proofs.Common.{◌≤◌, ◌<◌, List, ℕ, length, ap, ◌≡◌, sym, subst, arith}
+use Rattle.std.proofs.Common.{◌≤◌, List, ℕ, length, ap, ◌≡◌, sym, subst, arith}
 use Rattle.poly_mixed.specs.Labels.{Labelling}
 use Rattle.poly_mixed.proofs.labels.Labels.ranks.Goals as goal
 

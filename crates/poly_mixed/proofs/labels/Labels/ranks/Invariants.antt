@@ -1,4 +1,4 @@
-use Rattle.std.proofs.Common.{◌≡◌, ◌+◌, ◌*◌, ◌-◌, ◌≤◌, length, drop}
+use Rattle.std.proofs.Common.{◌≡◌, ◌+◌, ◌*◌, ◌≤◌, length, drop}
 use Rattle.poly_mixed.specs.Labels.{bit_count}
 use Rattle.poly_mixed.proofs.labels.Labels.ranks.Given as goal
 
