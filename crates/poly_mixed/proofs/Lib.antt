@@ -16,3 +16,6 @@ pub mod Powers
 pub mod InBits
 pub mod Orders
 pub mod Texts
+pub mod Scans
+pub mod Exponents
+pub mod Parts

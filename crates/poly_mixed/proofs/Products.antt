@@ -139,7 +139,7 @@ above_trans x y (z ∷ rs) l up = (nat_cmp_total.trans x y z l up.0, above_trans
 is_less : (x y : ℕ) → x < y → nat_cmp x y ≡ Less
 is_less x y h = rw (lt-ltb x y h)
 
-rising-with_rank : (xs : List ℕ) (r : ℕ) → IsStrictlySortedBy nat_cmp xs → IsStrictlySortedBy nat_cmp (with_rank xs r)
+pub rising-with_rank : (xs : List ℕ) (r : ℕ) → IsStrictlySortedBy nat_cmp xs → IsStrictlySortedBy nat_cmp (with_rank xs r)
 unfolding IsStrictlySortedBy
 rising-with_rank [] r s = (tt, tt)
 rising-with_rank (x ∷ xs) r s =

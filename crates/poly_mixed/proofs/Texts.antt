@@ -1,5 +1,5 @@
 -- Parts joined by a separator, and lists that grow by one.
-use Rattle.std.proofs.Common.{◌≡◌, ◌≢◌, ℕ, suc, Bool, true, false, cond, ◌&&◌, not, List, [], ◌∷◌, ◌++◌, length, ◌==◌, ◌<◌, ◌≤◌, ◌^◌, ◌*◌, map, refl, subst, arith, length-append, sym, ◌∙◌, ap, codes, append_assoc, append-nil}
+use Rattle.std.proofs.Common.{◌≡◌, ◌≢◌, ℕ, zero, suc, get_or, drop, ◌+◌, Bool, true, false, cond, ◌&&◌, not, List, [], ◌∷◌, ◌++◌, length, ◌==◌, ◌<◌, ◌≤◌, ◌^◌, ◌*◌, map, refl, subst, arith, length-append, sym, ◌∙◌, ap, codes, append_assoc, append-nil}
 use Rattle.std.specs.List.{AllByRecursion}
 use Rattle.poly_mixed.specs.Labels.{Labelling, AreLabels, Differs, AreDifferent, IsWord, bit_count}
 use Rattle.poly_mixed.specs.Parts.{parts_after}
@@ -79,3 +79,16 @@ labels_with_word l w ws are is d few e =
 pub bits_small : (ws : List (List ℕ × ℕ)) → AllByRecursion IsWord ws → bit_count ws ≤ 64 * length ws
 bits_small [] all = omega arith
 bits_small (w ∷ ws) all = let rest = bits_small ws all.1 in let here = all.0.2 in omega arith
+
+bits_at : (ws : List (List ℕ × ℕ)) (i : ℕ) (w : List ℕ × ℕ) → i < length ws → w ≡ get_or ws i w → w.1 ≤ bit_count (drop i ws)
+bits_at [] i w h e = absurd (omega arith)
+bits_at (v ∷ ws) zero w h e = let same : w.1 ≡ v.1 = ap (λ (x : List ℕ × ℕ). x.1) e in omega arith
+bits_at (v ∷ ws) (suc i) w h e = bits_at ws i w (omega arith) e
+
+-- the bits of the words before one, and its own, are at most 512
+pub few_bits : (ws vs : List (List ℕ × ℕ)) (i first b : ℕ) (n : List ℕ) (w : List ℕ × ℕ) → vs ≡ ws → AllByRecursion IsWord ws → length ws ≤ 8 → i < length vs → first + bit_count (drop i vs) ≡ bit_count vs → (n, b) ≡ w → w ≡ get_or vs i w → first + b ≤ 512
+few_bits ws vs i first b n w same all few h sum is e =
+    let all' = (let P : List (List ℕ × ℕ) → Type 0 = AllByRecursion IsWord in subst P (sym same) all) in
+    let l : length vs ≡ length ws = ap length same in
+    let here : b ≡ w.1 = ap (λ (x : List ℕ × ℕ). x.1) is in
+    omega (arith, bits_small vs all', bits_at vs i w h e)

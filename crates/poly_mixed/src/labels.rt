@@ -1,6 +1,10 @@
 //! The names of the variables of a text.
-ghost use Rattle.std.specs.Prelude.{◌≡◌, ℕ, ◌+◌, ◌<◌, ◌≤◌, List, [], ◌∷◌, ◌++◌, length, map, slice_index, string_bytes, IfOk, OnOk};
-ghost use Rattle.poly_mixed.specs.Labels.{Labelling, AreLabels, Differs, word_at, rank_text, bit_count, bit_text as text_of_bit, net_text as text_of_net};
+ghost use Rattle.std.specs.Prelude.{◌≡◌, ℕ, ◌+◌, ◌<◌, ◌≤◌, List, [], ◌∷◌, ◌++◌, length, map, slice_index, string_bytes, ◌^◌, cond, nat_lt, Option, Some, None, IfSome, IfOk, OnOk};
+ghost use Rattle.poly_mixed.specs.Labels.{Labelling, AreDifferent, AreLabels, Differs, word_at, rank_text, bit_count, bit_text as text_of_bit, net_text as text_of_net};
+ghost use Rattle.poly_mixed.specs.Reading.{net_rank as rank_of_net};
+ghost use Rattle.poly_mixed.specs.Scan.{IsValue, word_of, bit_of, net_of};
+ghost use Rattle.std.specs.List.{AllByRecursion};
+ghost use Rattle.std.specs.Option.{option_and_then};
 ghost use Rattle.text_core.specs.Names.{IsName};
 
 use std::alloc::{AllocError, Global};
@@ -129,6 +133,43 @@ impl Labels {
         count
     }
 
+    // The number of the word of a name.
+    pub(crate) fn word_number(&self, name: &[u8]) -> Option<usize>
+        ensures { result ≡ word_of self.now.words name.now }
+    {
+        for (i, word) in self.words.iter().enumerate() {
+            if word.name.as_bytes() == name {
+                return Some(i);
+            }
+        }
+        None
+    }
+
+    // The rank of the bit of a name at a place; no place is none that a word has.
+    pub(crate) fn bit_rank(&self, name: &[u8], place: Option<u64>) -> Option<u32>
+        ensures { (n : ℕ) → IsValue place n → result ≡ bit_of self.now.words name.now n }
+    {
+        let mut first: u32 = 0;
+        for word in &self.words {
+            if word.name.as_bytes() == name {
+                return bit_in(first, word.bits, place);
+            }
+            first += word.bits;
+        }
+        None
+    }
+
+    // The rank of the net of a number; no number is none that a net has.
+    pub(crate) fn net_rank(&self, number: Option<u64>) -> Option<u32>
+        ensures { (n : ℕ) → IsValue number n → result ≡ rank_of_net self.now n }
+    {
+        let mut bits: u32 = 0;
+        for word in &self.words {
+            bits += word.bits;
+        }
+        rank_from(bits, net_place(&self.nets, number))
+    }
+
     // How the bit or net of a rank is written.
     pub(crate) fn rank(&self, alloc: Global, rank: u32) -> Result<String, AllocError>
         requires { rank < bit_count self.now.words + length self.now.nets }
@@ -157,4 +198,79 @@ fn net_text(alloc: Global, number: u32) -> Result<String, AllocError>
     ensures { IfOk result (λ s. string_bytes s ≡ text_of_net number) }
 {
     format!(in alloc; "@{}", number)
+}
+
+// The rank of a place of a word whose first bit has the rank `first`.
+fn bit_in(first: u32, bits: u32, place: Option<u64>) -> Option<u32>
+    requires { first + bits < 2 ^ 32 }
+    ensures { (n : ℕ) → IsValue place n → result ≡ cond (nat_lt n bits) (Some (first + n)) None }
+{
+    match place {
+        Some(n) if n < u64::from(bits) => Some(first + n as u32),
+        _ => None,
+    }
+}
+
+// The rank of a place among the nets, where it is below 2^32.
+fn rank_from(bits: u32, place: Option<usize>) -> Option<u32>
+    ensures { result ≡ option_and_then (λ i. cond (nat_lt (bits + i) (2 ^ 32)) (Some (bits + i)) None) place }
+{
+    match place {
+        Some(i) => {
+            let rank = u128::from(bits) + i as u128;
+            if rank < 1 << 32 {
+                Some(rank as u32)
+            } else {
+                None
+            }
+        }
+        None => None,
+    }
+}
+
+// The place of a number among different nets. Where the numbers rise, a number that is there is found by halving.
+fn net_place(nets: &[u32], number: Option<u64>) -> Option<usize>
+    requires { AreDifferent nets.now × AllByRecursion (λ n. n < 2 ^ 32) nets.now }
+    ensures { (n : ℕ) → IsValue number n → result ≡ net_of nets.now n }
+{
+    let Some(number) = number else {
+        return None;
+    };
+    match halved(nets, number) {
+        Some(i) => Some(i),
+        None => first_place(nets, number),
+    }
+}
+
+// A place of a number, where halving finds one.
+fn halved(nets: &[u32], number: u64) -> Option<usize>
+    ensures { IfSome result (λ i. (i < length nets.now) × (slice_index nets.now i ≡ number)) }
+{
+    let mut low = 0;
+    let mut high = nets.len();
+    while low < high {
+        let middle = low + (high - low) / 2;
+        let found = u64::from(nets[middle]);
+        if found == number {
+            return Some(middle);
+        }
+        if found < number {
+            low = middle + 1;
+        } else {
+            high = middle;
+        }
+    }
+    None
+}
+
+// The first place of a number.
+fn first_place(nets: &[u32], number: u64) -> Option<usize>
+    ensures { result ≡ net_of nets.now number }
+{
+    for (i, net) in nets.iter().enumerate() {
+        if u64::from(*net) == number {
+            return Some(i);
+        }
+    }
+    None
 }

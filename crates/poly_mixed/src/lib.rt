@@ -3,22 +3,28 @@
 #![tactic(auto)]
 
 mod evaluate;
+mod fault;
 mod labels;
 mod laws;
 mod mono;
 mod poly;
+mod read;
+mod scan;
 mod single;
 mod stage;
 mod steps;
 mod table;
+mod variables;
 #[cfg(test)]
 mod tests;
 mod write;
 
+pub use fault::PolyFault;
 pub use labels::Labels;
 pub use laws::{one_size, text_order, unique, unique_in_bits};
 pub use mono::Mono;
 pub use poly::{Poly, Term};
+pub use read::read_poly;
 pub use single::{constant, scaled_bit, scaled_power};
 pub use stage::{ReduceFault, Stage};
 pub use steps::{Generator, NoSteps, Steps};

@@ -1,6 +1,6 @@
 //! Monomials, in the order of terms in a text.
 ghost use Rattle.std.specs.Prelude.{◌≡◌, ℕ, ◌+◌, ◌<◌, ◌≤◌, length, IsOk, IfOk, refl};
-ghost use Rattle.std.specs.Prelude.{◌^◌, ◌++◌, take, drop, slice_index, OnOk};
+ghost use Rattle.std.specs.Prelude.{◌^◌, ◌++◌, take, drop, slice_index, slice_set, OnOk, OnErr};
 ghost use Rattle.std.specs.List.{AllByRecursion};
 ghost use Rattle.poly_mixed.specs.Cofactor.{without_bit};
 ghost use Rattle.poly_mixed.specs.Product.{add_exponent, add_exponents, with_rank, times};
@@ -93,6 +93,22 @@ impl Mono {
         })
     }
 
+    // Gives a word an exponent.
+    pub(crate) fn set_exponent(&mut self, word: usize, exponent: u64)
+        requires { word < 8 }
+        ensures { self.new ≡ record { exponents = slice_set self.old.exponents word exponent; bits = self.old.bits } }
+    {
+        self.exponents[word] = exponent;
+    }
+
+    // Puts a bit into it. After want of memory it is not used again.
+    pub(crate) fn add_bit(&mut self, bit: u32) -> Result<(), AllocError>
+        ensures { OnOk result (self.new ≡ record { exponents = self.old.exponents; bits = with_rank self.old.bits bit }) }
+    {
+        add_rank(&mut self.bits, bit)?;
+        Ok(())
+    }
+
     pub(crate) fn copied(&self) -> Result<Mono, AllocError>
         ensures { IfOk result (λ m. m ≡ self.now) }
     {
@@ -164,7 +180,8 @@ impl PartialOrd for Mono {
 }
 
 fn add_rank(bits: &mut SmallVec<u32, 6>, r: u32) -> Result<(), AllocError>
-    ensures { OnOk result (bits.new.items ≡ with_rank bits.old.items r) }
+    ensures with { OnOk result (bits.new.items ≡ with_rank bits.old.items r) }
+    ensures unchanged { OnErr result (bits.new.items ≡ bits.old.items) }
 {
     let i = place_of(bits.as_slice(), r);
     if i < bits.len() && bits.as_slice()[i] == r {

@@ -122,7 +122,7 @@ impl Poly {
         Ok(())
     }
 
-    fn add_term(&mut self, mono: Mono, c: u64) -> Result<(), AllocError>
+    pub(crate) fn add_term(&mut self, mono: Mono, c: u64) -> Result<(), AllocError>
         requires { c ≢ 0 }
         ensures { OnOk result (self.new ≡ polynomial (plus_term text_cmp self.old.terms (mono, c))) }
     {

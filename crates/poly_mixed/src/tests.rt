@@ -3,7 +3,8 @@ ghost use Rattle.std.specs.Prelude.{IfOk};
 ghost use Rattle.poly_mixed.specs.Polynomial.{IsReduced};
 
 use crate::{
-    Generator, Labels, NoSteps, Poly, Steps, Term, constant, is_named, scaled_bit, scaled_power,
+    Generator, Labels, NoSteps, Poly, PolyFault, Steps, Term, constant, is_named, read_poly,
+    scaled_bit, scaled_power,
     table_poly, write_poly,
 };
 use gf_field::{Field, Ring, Ring2k, is_element};
@@ -243,5 +244,62 @@ fn terms_are_written_in_order(rt: HostRuntime) -> Result<(), Fail> {
         text(&rt, alloc, &Poly::zero(alloc), &labels)?.as_slice(),
         b"0".as_slice()
     );
+    Ok(())
+}
+
+// what a text says in GF(4), written again
+fn written_again(rt: &impl Abort, alloc: Global, bytes: &[u8]) -> Result<Vec<u8>, PolyFault> {
+    let labels = labels(rt, alloc, "Z", "A", "B")?;
+    let poly = read_poly(alloc, bytes, 2, &labels)?;
+    assert!(rt; is_named(&poly, &labels));
+    let text = write_poly(alloc, &poly, &labels)?;
+    Ok(text)
+}
+
+#[test]
+fn texts_are_read(rt: HostRuntime) -> Result<(), Fail> {
+    let alloc = rt.alloc();
+    for (bytes, want) in [
+        (
+            b"A[0]*B[0] + 0x2*A[0]*B[1] + 0x2*A[1]*B[0] + 0x3*A[1]*B[1]".as_slice(),
+            b"A[0]*B[0] + 0x2*A[0]*B[1] + 0x2*A[1]*B[0] + 0x3*A[1]*B[1]".as_slice(),
+        ),
+        (b"\t0x3 +A[00]*@09+ 0x2 * B*A ^ 003 + 0x0*A", b"0x2*A^3*B + A[0]*@9 + 0x3"),
+        (b"0x1*A^1 + A + 0", b"0"),
+        (b"0", b"0"),
+        (b"0 + 0x0", b"0"),
+        (b"A + 0x3*A", b"0x2*A"),
+    ] {
+        assert_eq!(rt; written_again(&rt, alloc, bytes)?.as_slice(), want);
+    }
+    Ok(())
+}
+
+#[test]
+fn the_first_wrong_token_decides(rt: HostRuntime) -> Result<(), Fail> {
+    let alloc = rt.alloc();
+    for (bytes, want) in [
+        (b"".as_slice(), PolyFault::Syntax),
+        (b"00", PolyFault::Syntax),
+        (b"0*A", PolyFault::Syntax),
+        (b"A +", PolyFault::Syntax),
+        (b"A B", PolyFault::Syntax),
+        (b"A*B*A", PolyFault::Syntax),
+        (b"A[0]*@9*A[0]", PolyFault::Syntax),
+        (b"A^0", PolyFault::Syntax),
+        (b"A^4", PolyFault::Syntax),
+        (b"0x4*A", PolyFault::Syntax),
+        (b"A*0x2", PolyFault::Syntax),
+        (b"Z", PolyFault::Syntax),
+        (b"C*@8", PolyFault::Syntax),
+        (b"A*@8", PolyFault::NoSuchNet),
+        (b"@8A", PolyFault::NoSuchNet),
+        (b"@18446744073709551625", PolyFault::NoSuchNet),
+        (b"A[2]", PolyFault::NoSuchBit),
+        (b"C[0]*?", PolyFault::NoSuchBit),
+        (b"@", PolyFault::Syntax),
+    ] {
+        assert!(rt; matches!(written_again(&rt, alloc, bytes), Err(fault) if fault == want));
+    }
     Ok(())
 }
