@@ -1,5 +1,5 @@
 -- Reading part by part.
-use Rattle.std.proofs.Common.{◌≡◌, ℕ, zero, suc, ◌+◌, ◌-◌, ◌<◌, ◌≤◌, get_or, take, drop, Bool, true, false, ◌&&◌, cond, List, [], ◌∷◌, length, ◌==◌, nat_lt, Result, Ok, Err, refl, sym, ◌∙◌, ap, subst, arith}
+use Rattle.std.proofs.Common.{◌≡◌, ℕ, zero, suc, ◌+◌, ◌-◌, ◌<◌, ◌≤◌, get_or, take, drop, Bool, false, ◌&&◌, cond, List, ◌∷◌, length, ◌==◌, nat_lt, Result, Ok, Err, refl, sym, ◌∙◌, ap, subst, arith}
 use Rattle.poly_mixed.specs.Labels.{Labelling}
 use Rattle.poly_mixed.specs.Monomial.{Monomial}
 use Rattle.poly_mixed.specs.Polynomial.{Terms}

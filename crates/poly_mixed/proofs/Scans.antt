@@ -1,10 +1,10 @@
 -- Places of names and numbers.
-use Rattle.std.proofs.Common.{◌≡◌, ◌≢◌, ℕ, zero, suc, ◌+◌, ◌<◌, ◌≤◌, ◌^◌, Bool, true, false, cond, List, [], ◌∷◌, length, ◌==◌, Option, Some, None, slice_index, refl, sym, ◌∙◌, ap, subst, arith, add-one}
+use Rattle.std.proofs.Common.{◌≡◌, ℕ, zero, suc, ◌+◌, ◌<◌, ◌≤◌, ◌^◌, false, cond, List, [], ◌∷◌, length, ◌==◌, Some, None, slice_index, refl, sym, ◌∙◌, ap, arith, add-one}
 use Rattle.std.proofs.lemmas.Bool.{ne_eqb, eq-eqb}
 use Rattle.std.specs.List.{AllByRecursion}
 use Rattle.std.specs.Option.{option_map}
 use Rattle.poly_mixed.specs.Labels.{Differs, AreDifferent}
-use Rattle.poly_mixed.specs.Scan.{IsValue, net_of}
+use Rattle.poly_mixed.specs.Scan.{net_of}
 
 pub none_of_large : (nets : List ℕ) (n : ℕ) → 2 ^ 32 ≤ n → AllByRecursion (λ m. m < 2 ^ 32) nets → net_of nets n ≡ None
 none_of_large [] n h all = refl

@@ -1,6 +1,6 @@
 -- Tokens of a polynomial's text, each as long as it can be: names, numbers, `W[i]` and `@n`, spaces and tabs between them.
 -- Source: this project's own.
-use Rattle.std.specs.Prelude.{◌≡◌, ℕ, ◌+◌, ◌^◌, ◌≤◌, ◌<◌, Bool, ◌&&◌, ◌||◌, not, cond, List, [], ◌∷◌, length, take, drop, take_while, nat_lt, ◌==◌, Option, Some, None, bytes_eq}
+use Rattle.std.specs.Prelude.{◌≡◌, ℕ, ◌+◌, ◌^◌, ◌≤◌, Bool, ◌&&◌, ◌||◌, not, cond, List, [], ◌∷◌, length, take, drop, take_while, nat_lt, ◌==◌, Option, Some, None, bytes_eq}
 use Rattle.std.specs.Option.{option_map}
 use Rattle.text_core.specs.Lines.{is_blank}
 use Rattle.poly_mixed.specs.declared.scan.Class.{Class}

@@ -14,9 +14,9 @@ mod single;
 mod stage;
 mod steps;
 mod table;
-mod variables;
 #[cfg(test)]
 mod tests;
+mod variables;
 mod write;
 
 pub use fault::PolyFault;

@@ -127,12 +127,7 @@ impl Reading {
     }
 
     // What stands after a `0` at the front of a term: the rest of a coefficient, or of the term `0`.
-    fn after_0<'a>(
-        &mut self,
-        alloc: Global,
-        k: u32,
-        bytes: &'a [u8],
-    ) -> Result<Next<'a>, PolyFault>
+    fn after_0<'a>(&mut self, alloc: Global, k: u32, bytes: &'a [u8]) -> Result<Next<'a>, PolyFault>
         requires k_in { (1 ≤ k) × (k ≤ 64) }
         requires coefficient { self.old.coefficient ≡ 1 }
         requires mono { self.old.mono ≡ one }
@@ -225,12 +220,7 @@ fn add_variable<'a>(
 }
 
 /// The polynomial that a text says, in the variables that labels name.
-pub fn read_poly(
-    alloc: Global,
-    bytes: &[u8],
-    k: u32,
-    labels: &Labels,
-) -> Result<Poly, PolyFault>
+pub fn read_poly(alloc: Global, bytes: &[u8], k: u32, labels: &Labels) -> Result<Poly, PolyFault>
     requires { (1 ≤ k) × (k ≤ 64) }
     ensures read { IfOk result (λ p. reading labels.now k bytes.now ≡ Ok p.terms) }
     ensures fault { IfErr result (IsSaid (reading labels.now k bytes.now)) }

@@ -66,7 +66,11 @@ pub(crate) fn name(bytes: &[u8]) -> &[u8]
     ensures within { length result.now ≤ length bytes.now }
 {
     let front = front(bytes, Class::NameByte);
-    if front.len() > 255 { &front[..255] } else { front }
+    if front.len() > 255 {
+        &front[..255]
+    } else {
+        front
+    }
 }
 
 // The value of digits of a base up to 16, where it is below 2^64.

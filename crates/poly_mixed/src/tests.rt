@@ -4,8 +4,7 @@ ghost use Rattle.poly_mixed.specs.Polynomial.{IsReduced};
 
 use crate::{
     Generator, Labels, NoSteps, Poly, PolyFault, Steps, Term, constant, is_named, read_poly,
-    scaled_bit, scaled_power,
-    table_poly, write_poly,
+    scaled_bit, scaled_power, table_poly, write_poly,
 };
 use gf_field::{Field, Ring, Ring2k, is_element};
 use irreducible::Proved;
@@ -264,7 +263,10 @@ fn texts_are_read(rt: HostRuntime) -> Result<(), Fail> {
             b"A[0]*B[0] + 0x2*A[0]*B[1] + 0x2*A[1]*B[0] + 0x3*A[1]*B[1]".as_slice(),
             b"A[0]*B[0] + 0x2*A[0]*B[1] + 0x2*A[1]*B[0] + 0x3*A[1]*B[1]".as_slice(),
         ),
-        (b"\t0x3 +A[00]*@09+ 0x2 * B*A ^ 003 + 0x0*A", b"0x2*A^3*B + A[0]*@9 + 0x3"),
+        (
+            b"\t0x3 +A[00]*@09+ 0x2 * B*A ^ 003 + 0x0*A",
+            b"0x2*A^3*B + A[0]*@9 + 0x3",
+        ),
         (b"0x1*A^1 + A + 0", b"0"),
         (b"0", b"0"),
         (b"0 + 0x0", b"0"),

@@ -1,4 +1,4 @@
-use Rattle.std.proofs.Common.{◌≡◌, ◌≤◌, ℕ, Option, Some, None, sym, ◌∙◌, subst, arith}
+use Rattle.std.proofs.Common.{ℕ, Option, sym, ◌∙◌, subst, arith}
 use Rattle.poly_mixed.specs.Scan.{IsValue}
 use Rattle.poly_mixed.proofs.Scans.{none_of_large, net_at_place}
 use Rattle.poly_mixed.proofs.labels.net_place.Goals as goal

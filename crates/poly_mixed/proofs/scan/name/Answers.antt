@@ -1,6 +1,5 @@
-use Rattle.std.proofs.Common.{◌≡◌, List, ℕ, length, take, sym, ◌∙◌, ap, arith}
+use Rattle.std.proofs.Common.{List, ℕ, take, sym, ◌∙◌, ap, arith}
 use Rattle.std.proofs.lemmas.List.{length-take-le, take_all}
-use Rattle.poly_mixed.specs.Scan.{is_name_byte}
 use Rattle.poly_mixed.proofs.scan.name.Goals as goal
 
 pub slice_bounds-result-end : goal.slice_bounds-result-end

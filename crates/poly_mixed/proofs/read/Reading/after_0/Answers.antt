@@ -1,4 +1,4 @@
-use Rattle.std.proofs.Common.{List, ℕ, Result, sym, ◌∙◌, subst}
+use Rattle.std.proofs.Common.{List, ℕ, sym, ◌∙◌, subst}
 use Rattle.poly_mixed.specs.Reading.{after_zero}
 use Rattle.poly_mixed.specs.ReadingState.{IsStep}
 use Rattle.poly_mixed.proofs.Parts.{zero_else_at}
