@@ -1,0 +1,18 @@
+//! All that the program does: words, files and a sink of bytes in, a status out.
+//! `run` carries the contract of the whole; each command is a step behind it.
+#![tactic(auto)]
+
+mod bits;
+mod command;
+mod fault;
+mod polynomial;
+mod print;
+mod stop;
+#[cfg(test)]
+mod tests;
+mod top;
+
+pub use command::Command;
+pub use fault::Fault;
+pub use stop::Stop;
+pub use top::run;

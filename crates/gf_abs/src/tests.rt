@@ -1,0 +1,1 @@
+//! The program on small files.

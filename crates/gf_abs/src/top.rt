@@ -1,0 +1,135 @@
+//! All that the program does.
+ghost use Rattle.std.specs.Prelude.{◌≡◌, ◌≢◌, ◌⊎◌, ◌≤◌, Some, Option, None, map, string_bytes, IfOk, IsErrOf};
+ghost use Rattle.std.specs.Io.KnownBytes.{Keeps};
+ghost use Rattle.job_io.specs.Counts.{Rose};
+ghost use Rattle.gf_abs.specs.Answer.{Read, NetAnswer, JobAnswer, Answer};
+ghost use Rattle.gf_abs.specs.Command.{Bits};
+ghost use Rattle.gf_abs.specs.Stop.{GivesBy, GivesBytes, IsText, Writes, WritesPart};
+
+use crate::bits;
+use crate::command::{Command, read_words};
+use crate::fault::{Fault, status_of, write_fault};
+use crate::stop::Stop;
+use job_io::{Shelf, ShelfFault, Sink, put_all};
+use net_core::Name;
+use net_words::Signature;
+use std::alloc::Global;
+
+const LIMIT: u32 = 67_108_864;
+
+// The bytes of a file.
+fn read_file<S: Shelf>(alloc: Global, shelf: &mut S, name: &str) -> Result<Vec<u8>, Stop>
+    ensures held { S.held shelf.new ≡ S.held shelf.old }
+    ensures never_fall { (S.faults shelf.old ≤ S.faults shelf.new) × (S.misses shelf.old ≤ S.misses shelf.new) }
+    ensures gives { GivesBytes result (Read (S.held shelf.old) name.now)
+        (Rose (S.misses shelf.old) (S.misses shelf.new)) (Rose (S.faults shelf.old) (S.faults shelf.new)) }
+{
+    match shelf.read(alloc, name, LIMIT) {
+        Ok(bytes) => Ok(bytes),
+        Err(ShelfFault::Absent) => {
+            let file = Name::new(alloc, name)?;
+            Err(Stop::Refused(Fault::Absent { file }))
+        }
+        Err(ShelfFault::TooLong { .. }) => {
+            let file = Name::new(alloc, name)?;
+            Err(Stop::Refused(Fault::TooLong { file }))
+        }
+        Err(ShelfFault::Failed) => Err(Stop::Outside),
+        Err(ShelfFault::OutOfMemory) => Err(Stop::OutOfMemory),
+    }
+}
+
+// The output of `bits`.
+fn bits_answer<S: Shelf>(
+    alloc: Global,
+    signature: &str,
+    net: &str,
+    shelf: &mut S,
+) -> Result<Vec<u8>, Stop>
+    ensures held { S.held shelf.new ≡ S.held shelf.old }
+    ensures never_fall { (S.faults shelf.old ≤ S.faults shelf.new) × (S.misses shelf.old ≤ S.misses shelf.new) }
+    ensures gives { GivesBy (λ bytes. record { status = 0; text = bytes.items }) result (JobAnswer (S.held shelf.old) (Bits signature.now net.now))
+        (Rose (S.misses shelf.old) (S.misses shelf.new)) (Rose (S.faults shelf.old) (S.faults shelf.new)) }
+{
+    let signature_text = read_file(alloc, shelf, signature)?;
+    let signature = bits::signature_of(alloc, &signature_text)?;
+    net_answer(alloc, &signature, net, shelf)
+}
+
+// The output over a netlist, after the signature was taken.
+fn net_answer<S: Shelf>(
+    alloc: Global,
+    signature: &Signature,
+    net: &str,
+    shelf: &mut S,
+) -> Result<Vec<u8>, Stop>
+    ensures held { S.held shelf.new ≡ S.held shelf.old }
+    ensures never_fall { (S.faults shelf.old ≤ S.faults shelf.new) × (S.misses shelf.old ≤ S.misses shelf.new) }
+    ensures gives { GivesBy (λ bytes. record { status = 0; text = bytes.items }) result (NetAnswer (S.held shelf.old) net.now)
+        (Rose (S.misses shelf.old) (S.misses shelf.new)) (Rose (S.faults shelf.old) (S.faults shelf.new)) }
+{
+    let text = read_file(alloc, shelf, net)?;
+    let output = bits::net_output(alloc, signature, &text)?;
+    Ok(output)
+}
+
+// The output of the words.
+fn answer<S: Shelf>(alloc: Global, words: &[String], shelf: &mut S) -> Result<Vec<u8>, Stop>
+    ensures held { S.held shelf.new ≡ S.held shelf.old }
+    ensures never_fall { (S.faults shelf.old ≤ S.faults shelf.new) × (S.misses shelf.old ≤ S.misses shelf.new) }
+    ensures gives { GivesBy (λ bytes. record { status = 0; text = bytes.items }) result (Answer (map string_bytes words.now) (S.held shelf.old))
+        (Rose (S.misses shelf.old) (S.misses shelf.new)) (Rose (S.faults shelf.old) (S.faults shelf.new)) }
+{
+    match read_words(words) {
+        None => Err(Stop::Refused(Fault::Words)),
+        Some(Command { signature, net }) => bits_answer(alloc, signature, net, shelf),
+    }
+}
+
+// The status and the text that is to be written.
+fn status_and_text<S: Shelf>(
+    alloc: Global,
+    words: &[String],
+    shelf: &mut S,
+) -> Result<(u8, Vec<u8>), Stop>
+    ensures held { S.held shelf.new ≡ S.held shelf.old }
+    ensures never_fall { (S.faults shelf.old ≤ S.faults shelf.new) × (S.misses shelf.old ≤ S.misses shelf.new) }
+    ensures text { IfOk result (λ r. IsText (Answer (map string_bytes words.now) (S.held shelf.old))
+        (Rose (S.misses shelf.old) (S.misses shelf.new)) r.0 r.1.items) }
+    ensures outside { IsErrOf result Stop.Outside → Rose (S.faults shelf.old) (S.faults shelf.new) }
+    ensures stops { (fault : _) → IsErrOf result (Stop.Refused fault) → ⊥ }
+{
+    match answer(alloc, words, shelf) {
+        Ok(text) => Ok((0, text)),
+        Err(Stop::Refused(fault)) => Ok((status_of(&fault), write_fault(alloc, &fault)?)),
+        Err(Stop::Outside) => Err(Stop::Outside),
+        Err(Stop::OutOfMemory) => Err(Stop::OutOfMemory),
+    }
+}
+
+/// All that the program does: the words after its name, the files that it may read, the output.
+/// The result is its status: 0 printed, 2 refused, 4 the outside failed, 5 want of memory.
+pub fn run<S: Shelf, K: Sink>(alloc: Global, words: &[String], shelf: &mut S, sink: &mut K) -> u8
+    // The whole of an answer is written, with its status, unless the outside or memory fails.
+    ensures answers { (result ≡ 4) ⊎ (result ≡ 5) ⊎ Writes (Answer (map string_bytes words.now) (S.held shelf.old))
+        (Rose (S.misses shelf.old) (S.misses shelf.new)) result (K.written sink.old) (K.written sink.new) }
+    // At 4 the shelf failed and nothing was written, or the sink failed and less than the whole was.
+    ensures failed { result ≡ 4 → (Rose (S.faults shelf.old) (S.faults shelf.new) × Keeps (K.written sink.old) (K.written sink.new))
+        ⊎ WritesPart (Answer (map string_bytes words.now) (S.held shelf.old)) (Rose (S.misses shelf.old) (S.misses shelf.new))
+        (Rose (K.faults sink.old) (K.faults sink.new)) (K.written sink.old) (K.written sink.new) }
+    ensures no_memory { result ≡ 5 → Keeps (K.written sink.old) (K.written sink.new) }
+
+    // What the shelf holds is not changed, and counts never fall.
+    ensures held { S.held shelf.new ≡ S.held shelf.old }
+    ensures shelf_counts { (S.faults shelf.old ≤ S.faults shelf.new) × (S.misses shelf.old ≤ S.misses shelf.new) }
+    ensures sink_counts { K.faults sink.old ≤ K.faults sink.new }
+{
+    match status_and_text(alloc, words, shelf) {
+        Ok((status, text)) => match put_all(sink, &text) {
+            Ok(()) => status,
+            Err(_) => 4,
+        },
+        Err(Stop::Outside) => 4,
+        Err(_) => 5,
+    }
+}

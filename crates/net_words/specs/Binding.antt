@@ -1,0 +1,30 @@
+-- Words that are bound to nets.
+use Rattle.std.specs.Prelude.{◌≡◌, ℕ, ◌≤◌, List, length, All}
+use Rattle.net_core.specs.NetList.{NetList}
+use Rattle.net_words.specs.declared.bound.BoundWord.{BoundWord}
+use Rattle.net_words.specs.declared.signature.WordText.{WordText}
+
+-- the bits of each word, and the words in signature order with their nets, place 0 first
+pub record Binding : Type 0 where
+  pub k : ℕ
+  pub words : List BoundWord
+
+-- each word has k nets, k is 1 to 64, and there are at most nine words
+pub record IsBinding (binding : Binding) : Type 0 where
+  pub some : 1 ≤ binding.k
+  pub most : binding.k ≤ 64
+  pub few : length binding.words ≤ 9
+  pub each : All (λ word. length word.nets.items ≡ binding.k) binding.words
+
+-- words that can be bound: each has k nets, k is 1 to 64, and there are at most nine words, of which there is one
+pub record AreWords (k : ℕ) (words : List WordText) : Type 0 where
+  pub some : 1 ≤ k
+  pub most : k ≤ 64
+  pub one : 1 ≤ length words
+  pub few : length words ≤ 9
+  pub each : All (λ word. length word.nets ≡ k) words
+
+-- a net list with words that are bound to it
+pub record BoundNet : Type 0 where
+  pub net : NetList
+  pub bound : Binding
