@@ -1,0 +1,12 @@
+use Rattle.gf_field.specs.RootsLaws.{HasFewRoots-from_field}
+use Rattle.poly_mixed.proofs.FieldLaws.{field_of}
+use Rattle.poly_mixed.proofs.Roots.{independent}
+use Rattle.poly_mixed.proofs.Uniqueness.{unique}
+use Rattle.poly_mixed.proofs.laws.unique.Goals as goal
+
+pub returns : goal.returns
+returns g c =
+    let ring = g.met.F.Ring.laws c.args._field.now in
+    let field = g.met.F.Field.no_zero_divisors c.args._field.now in
+    let f = field_of _ _ ring field in
+    unique f (independent f (HasFewRoots-from_field _ _ ring field))

@@ -1,0 +1,15 @@
+pub mod Monomial
+pub mod Polynomial
+pub mod Sum
+pub mod Product
+pub mod Cofactor
+pub mod Table
+pub mod Uniqueness
+pub mod Order
+pub mod Steps
+pub mod Labels
+pub mod Text
+pub mod Parts
+pub mod Scan
+pub mod Reading
+pub mod ReadingState

@@ -1,0 +1,25 @@
+//! Laws of polynomials: functions that do nothing, whose contracts are the laws.
+ghost use Rattle.poly_mixed.specs.Order.{IsTextOrder};
+ghost use Rattle.poly_mixed.specs.Uniqueness.{Unique, UniqueInBits, OneSize};
+
+use gf_field::Field;
+
+/// A function of bits has at most one polynomial in bits.
+pub fn unique_in_bits<F: Field>(_field: &F)
+    ensures { UniqueInBits (F.degree _field.now) (F.product _field.now) }
+{}
+
+/// A function of words and bits has at most one polynomial.
+pub fn unique<F: Field>(_field: &F)
+    ensures { Unique (F.degree _field.now) (F.product _field.now) }
+{}
+
+/// A function of words and bits has at most one size.
+pub fn one_size<F: Field>(_field: &F)
+    ensures { OneSize (F.degree _field.now) (F.product _field.now) }
+{}
+
+/// The order of terms in a text is falling lexicographic order of the exponents of all variables.
+pub fn text_order()
+    ensures { IsTextOrder }
+{}

@@ -1,0 +1,32 @@
+//! Reduced polynomials in words and bits over a field of 2^k elements, with their values and their text.
+//! A function of words and bits has exactly one of them.
+#![tactic(auto)]
+
+mod evaluate;
+mod fault;
+mod labels;
+mod laws;
+mod mono;
+mod poly;
+mod read;
+mod scan;
+mod single;
+mod stage;
+mod steps;
+mod table;
+#[cfg(test)]
+mod tests;
+mod variables;
+mod write;
+
+pub use fault::PolyFault;
+pub use labels::Labels;
+pub use laws::{one_size, text_order, unique, unique_in_bits};
+pub use mono::Mono;
+pub use poly::{Poly, Term};
+pub use read::read_poly;
+pub use single::{constant, scaled_bit, scaled_power};
+pub use stage::{ReduceFault, Stage};
+pub use steps::{Generator, NoSteps, Steps};
+pub use table::table_poly;
+pub use write::{is_named, write_poly};

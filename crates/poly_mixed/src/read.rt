@@ -1,0 +1,274 @@
+//! A polynomial from its text.
+ghost use Rattle.std.specs.Prelude.{◌≡◌, ◌==◌, ◌&&◌, ℕ, ◌≤◌, ◌^◌, length, nat_lt, OnOk, IfOk, IfErr, Ok};
+ghost use Rattle.poly_mixed.specs.Reading.{reading, number_at, exponent_at, with_variable, next_at, factor_at, after_zero, coefficient_at, zero_at, term_at, advanced, added, one, IsSaid, IsScanned};
+ghost use Rattle.poly_mixed.specs.Scan.{run, is_hex_digit};
+ghost use Rattle.poly_mixed.specs.ReadingState.{IsStep, IsAdded, IsFresh, IsFreshAfter, progress};
+ghost use Rattle.poly_mixed.specs.Polynomial.{Terms};
+ghost use Rattle.poly_mixed.specs.Monomial.{Monomial};
+
+use crate::scan::{Class, after, front, skip, value};
+use crate::variables::{Variable, read_variable};
+use crate::{Labels, Mono, Poly, PolyFault};
+use std::alloc::{AllocError, Global};
+use std::mem;
+
+// What comes after a part of a text: nothing, a term or a further factor.
+#[derive(Clone, Copy)]
+enum Next<'a> {
+    Done,
+    Term(&'a [u8]),
+    Factor(&'a [u8]),
+}
+
+// The sum of the terms that were read, and the term that is read.
+#[derive(Drop)]
+struct Reading {
+    sum: Poly,
+    coefficient: u64,
+    mono: Mono,
+}
+
+impl Reading {
+    // Adds the term to the sum.
+    fn close(&mut self, alloc: Global) -> Result<(), AllocError>
+        ensures sum { OnOk result (self.new.sum.terms ≡ added self.old.sum.terms self.old.coefficient self.old.mono) }
+        ensures coefficient { OnOk result (self.new.coefficient ≡ 1) }
+        ensures mono { OnOk result (self.new.mono ≡ one) }
+    {
+        let empty = Mono::new(alloc, &[], &[0; 8])?;
+        let mono = mem::replace(&mut self.mono, empty);
+        let coefficient = self.coefficient;
+        self.coefficient = 1;
+        if coefficient != 0 {
+            self.sum.add_term(mono, coefficient)?;
+        }
+        Ok(())
+    }
+
+    // What stands after a factor.
+    fn next<'a>(&mut self, alloc: Global, bytes: &'a [u8]) -> Result<Next<'a>, PolyFault>
+        ensures step { IsStep (next_at self.old.sum.terms self.old.coefficient self.old.mono bytes.now) self.new.sum.terms self.new.coefficient self.new.mono result }
+        ensures fresh { IsFreshAfter result self.new.coefficient self.new.mono }
+    {
+        match bytes {
+            [] => {
+                self.close(alloc)?;
+                Ok(Next::Done)
+            }
+            [b'*', rest @ ..] => Ok(Next::Factor(rest)),
+            [b'+', rest @ ..] => {
+                self.close(alloc)?;
+                Ok(Next::Term(rest))
+            }
+            _ => Err(PolyFault::Syntax),
+        }
+    }
+
+    // A factor, and what stands after it.
+    fn factor<'a>(
+        &mut self,
+        alloc: Global,
+        labels: &Labels,
+        k: u32,
+        bytes: &'a [u8],
+    ) -> Result<Next<'a>, PolyFault>
+        requires { (1 ≤ k) × (k ≤ 64) }
+        ensures step { IsStep (factor_at labels.now k self.old.sum.terms self.old.coefficient self.old.mono bytes.now) self.new.sum.terms self.new.coefficient self.new.mono result }
+        ensures fresh { IsFreshAfter result self.new.coefficient self.new.mono }
+    {
+        match read_variable(labels, bytes) {
+            Ok((variable, rest)) => match add_variable(&mut self.mono, k, variable, rest) {
+                Ok(rest) => self.next(alloc, skip(rest)),
+                Err(fault) => Err(fault),
+            },
+            Err(fault) => Err(fault),
+        }
+    }
+
+    // One part further.
+    fn advance<'a>(
+        &mut self,
+        alloc: Global,
+        labels: &Labels,
+        k: u32,
+        next: Next<'a>,
+    ) -> Result<Next<'a>, PolyFault>
+        requires k_in { (1 ≤ k) × (k ≤ 64) }
+        requires fresh { IsFresh next self.old.coefficient self.old.mono }
+        ensures step { IsStep (advanced labels.now k (Ok (progress next.entry self.old.sum.terms self.old.coefficient self.old.mono))) self.new.sum.terms self.new.coefficient self.new.mono result }
+        ensures fresh { IsFreshAfter result self.new.coefficient self.new.mono }
+    {
+        match next {
+            Next::Done => Ok(Next::Done),
+            Next::Term(rest) => self.term(alloc, labels, k, skip(rest)),
+            Next::Factor(rest) => self.factor(alloc, labels, k, skip(rest)),
+        }
+    }
+
+    // A term, at whose front no factor was read.
+    fn term<'a>(
+        &mut self,
+        alloc: Global,
+        labels: &Labels,
+        k: u32,
+        bytes: &'a [u8],
+    ) -> Result<Next<'a>, PolyFault>
+        requires k_in { (1 ≤ k) × (k ≤ 64) }
+        requires coefficient { self.old.coefficient ≡ 1 }
+        requires mono { self.old.mono ≡ one }
+        ensures step { IsStep (term_at labels.now k self.old.sum.terms bytes.now) self.new.sum.terms self.new.coefficient self.new.mono result }
+        ensures fresh { IsFreshAfter result self.new.coefficient self.new.mono }
+    {
+        match bytes {
+            [b'0', rest @ ..] => self.after_0(alloc, k, rest),
+            [] => Err(PolyFault::Syntax),
+            _ => self.factor(alloc, labels, k, bytes),
+        }
+    }
+
+    // What stands after a `0` at the front of a term: the rest of a coefficient, or of the term `0`.
+    fn after_0<'a>(&mut self, alloc: Global, k: u32, bytes: &'a [u8]) -> Result<Next<'a>, PolyFault>
+        requires k_in { (1 ≤ k) × (k ≤ 64) }
+        requires coefficient { self.old.coefficient ≡ 1 }
+        requires mono { self.old.mono ≡ one }
+        ensures step { IsStep (zero_at k self.old.sum.terms bytes.now) self.new.sum.terms self.new.coefficient self.new.mono result }
+        ensures fresh { IsFreshAfter result self.new.coefficient self.new.mono }
+    {
+        match bytes {
+            [] => Ok(Next::Done),
+            [first, digits @ ..] => {
+                if is_coefficient(*first, digits) {
+                    self.coefficient(alloc, k, digits)
+                } else {
+                    after_term_0(skip(bytes))
+                }
+            }
+        }
+    }
+
+    // The digits of a coefficient, and what stands after them.
+    fn coefficient<'a>(
+        &mut self,
+        alloc: Global,
+        k: u32,
+        bytes: &'a [u8],
+    ) -> Result<Next<'a>, PolyFault>
+        requires k_in { (1 ≤ k) × (k ≤ 64) }
+        requires mono { self.old.mono ≡ one }
+        ensures step { IsStep (coefficient_at k self.old.sum.terms bytes.now) self.new.sum.terms self.new.coefficient self.new.mono result }
+        ensures fresh { IsFreshAfter result self.new.coefficient self.new.mono }
+    {
+        match value(front(bytes, Class::HexDigit), 16) {
+            Some(c) if is_below(c, k) => {
+                self.coefficient = c;
+                self.next(alloc, skip(after(bytes, Class::HexDigit)))
+            }
+            _ => Err(PolyFault::Syntax),
+        }
+    }
+}
+
+// Whether a byte after a `0` and the bytes after it begin a coefficient.
+fn is_coefficient(first: u8, digits: &[u8]) -> bool
+    ensures { result ≡ ((first == 120) && nat_lt 0 (length (run is_hex_digit digits.now))) }
+{
+    first == b'x' && !front(digits, Class::HexDigit).is_empty()
+}
+
+// What stands after the term `0`.
+fn after_term_0(bytes: &[u8]) -> Result<Next<'_>, PolyFault>
+    ensures { (sum : Terms) (c : ℕ) (m : Monomial) → c ≡ 1 → m ≡ one → IsStep (after_zero sum bytes.now) sum c m result × IsFreshAfter result c m }
+{
+    match bytes {
+        [] => Ok(Next::Done),
+        [b'+', rest @ ..] => Ok(Next::Term(rest)),
+        _ => Err(PolyFault::Syntax),
+    }
+}
+
+// Puts a variable into a monomial that lacks it, with the exponent that stands after a word.
+fn add_variable<'a>(
+    mono: &mut Mono,
+    k: u32,
+    variable: Variable,
+    bytes: &'a [u8],
+) -> Result<&'a [u8], PolyFault>
+    requires { (1 ≤ k) × (k ≤ 64) }
+    ensures { IsAdded (with_variable k mono.old (Ok (variable, bytes.now))) mono.new result }
+{
+    match variable {
+        Variable::Word(word) => {
+            if word >= 8 || mono.exponents()[word] != 0 {
+                return Err(PolyFault::Syntax);
+            }
+            match exponent(k, bytes) {
+                Ok((exponent, rest)) => {
+                    mono.set_exponent(word, exponent);
+                    Ok(rest)
+                }
+                Err(fault) => Err(fault),
+            }
+        }
+        Variable::Rank(rank) => {
+            if mono.has(rank) {
+                return Err(PolyFault::Syntax);
+            }
+            mono.add_bit(rank)?;
+            Ok(bytes)
+        }
+    }
+}
+
+/// The polynomial that a text says, in the variables that labels name.
+pub fn read_poly(alloc: Global, bytes: &[u8], k: u32, labels: &Labels) -> Result<Poly, PolyFault>
+    requires { (1 ≤ k) × (k ≤ 64) }
+    ensures read { IfOk result (λ p. reading labels.now k bytes.now ≡ Ok p.terms) }
+    ensures fault { IfErr result (IsSaid (reading labels.now k bytes.now)) }
+{
+    let mut reading = Reading {
+        sum: Poly::zero(alloc),
+        coefficient: 1,
+        mono: Mono::new(alloc, &[], &[0; 8])?,
+    };
+    let mut next = Next::Term(bytes);
+    for _ in 0..=bytes.len() {
+        match reading.advance(alloc, labels, k, next) {
+            Ok(more) => next = more,
+            Err(fault) => return Err(fault),
+        }
+    }
+    match next {
+        Next::Done => Ok(reading.sum),
+        _ => Err(PolyFault::Syntax),
+    }
+}
+
+// An exponent from 1 to 2^k - 1 after `^`, or 1 where none stands.
+fn exponent(k: u32, bytes: &[u8]) -> Result<(u64, &[u8]), PolyFault>
+    requires { (1 ≤ k) × (k ≤ 64) }
+    ensures { IsScanned (exponent_at k bytes.now) result }
+{
+    match skip(bytes) {
+        [b'^', rest @ ..] => number(k, skip(rest)),
+        _ => Ok((1, bytes)),
+    }
+}
+
+// A decimal number from 1 to 2^k - 1.
+fn number(k: u32, bytes: &[u8]) -> Result<(u64, &[u8]), PolyFault>
+    requires { (1 ≤ k) × (k ≤ 64) }
+    ensures { IsScanned (number_at k bytes.now) result }
+{
+    match value(front(bytes, Class::Digit), 10) {
+        Some(n) if 0 < n && is_below(n, k) => Ok((n, after(bytes, Class::Digit))),
+        _ => Err(PolyFault::Syntax),
+    }
+}
+
+// Whether a number is below 2^k.
+fn is_below(n: u64, k: u32) -> bool
+    requires { (1 ≤ k) × (k ≤ 64) }
+    ensures { result ≡ nat_lt n (2 ^ k) }
+{
+    n <= u64::MAX >> (64 - k)
+}

@@ -1,0 +1,34 @@
+//! Recorders of the steps that an engine takes, each a generator and its multiplier.
+ghost use Rattle.std.specs.Prelude.{◌≡◌, List, [], ◌∷◌, Option, None, OnOk};
+ghost use Rattle.poly_mixed.specs.Steps.{Step, Tells};
+
+use crate::Poly;
+use std::alloc::AllocError;
+
+/// What is replaced: a net, by its number, or the bit at a place of an input or state word.
+#[derive(Clone, Copy, Debug, PartialEq, Eq)]
+pub enum Generator {
+    Net(u32),
+    Bit { word: u32, place: u32 },
+}
+
+/// A recorder of steps.
+pub trait Steps {
+    ghost steps: { Self → Option (List Step) };
+
+    /// Records a step. After want of memory the recorder is not used again.
+    fn step(&mut self, generator: Generator, multiplier: &Poly) -> Result<(), AllocError>
+        ensures { OnOk result (Tells (steps self.old) (steps self.new) ((generator, multiplier.now.terms) ∷ [])) };
+}
+
+/// Records nothing, tells nothing and takes no memory.
+#[derive(Clone, Copy, Debug)]
+pub struct NoSteps;
+
+impl Steps for NoSteps {
+    ghost steps = { λ _. None };
+
+    fn step(&mut self, _generator: Generator, _multiplier: &Poly) -> Result<(), AllocError> {
+        Ok(())
+    }
+}

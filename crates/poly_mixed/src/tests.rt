@@ -1,0 +1,307 @@
+//! Products, tables and substitutions whose terms come from outside.
+ghost use Rattle.std.specs.Prelude.{IfOk};
+ghost use Rattle.poly_mixed.specs.Polynomial.{IsReduced};
+
+use crate::{
+    Generator, Labels, NoSteps, Poly, PolyFault, Steps, Term, constant, is_named, read_poly,
+    scaled_bit, scaled_power, table_poly, write_poly,
+};
+use gf_field::{Field, Ring, Ring2k, is_element};
+use irreducible::Proved;
+use std::alloc::{AllocError, Global};
+use std::process::Abort;
+use std::test::Fail;
+use text_core::is_name;
+
+// a field that is known to exist
+fn field(rt: &impl Abort, modulus: u128) -> Proved<Ring2k> {
+    let ring = Ring2k::new(modulus).expect(rt, "a modulus");
+    Proved::new(ring).ok().expect(rt, "a field")
+}
+
+// an exponent of the product of two powers of word 0
+fn product_exponent<F: Field>(
+    rt: &impl Abort,
+    alloc: Global,
+    field: &F,
+    i: u64,
+    j: u64,
+) -> Result<u64, AllocError> {
+    assert!(rt; is_element(field, 1));
+    assert!(rt; is_element(field, i));
+    assert!(rt; is_element(field, j));
+    let left = scaled_power(alloc, field, 1, 0, i)?;
+    let right = scaled_power(alloc, field, 1, 0, j)?;
+    let product = left.mul(alloc, field, &right)?;
+    let terms = product.terms(alloc)?;
+    assert_eq!(rt; terms.len(), 1);
+    Ok(terms[0].mono().exponents()[0])
+}
+
+#[test]
+fn exponents_stay_below_the_size_of_the_field(rt: HostRuntime) -> Result<(), Fail> {
+    let alloc = rt.alloc();
+    let most = u64::MAX;
+    for (modulus, i, j, want) in [
+        (0x2, 1, 1, 1),
+        (0x2, 0, 0, 0),
+        (0x7, 1, 2, 3),
+        (0x7, 3, 1, 1),
+        (0x7, 3, 3, 3),
+        (0x7, 2, 2, 1),
+        (0x1000000000000001b, most, 0, most),
+        (0x1000000000000001b, most, 1, 1),
+        (0x1000000000000001b, most, most, most),
+        (0x1000000000000001b, 1 << 63, 1 << 63, 1),
+    ] {
+        let field = field(&rt, modulus);
+        assert_eq!(rt; product_exponent(&rt, alloc, &field, i, j)?, want);
+    }
+    Ok(())
+}
+
+// the ranks of the terms of the polynomial of a table
+fn table_terms<F: Field>(
+    rt: &impl Abort,
+    alloc: Global,
+    field: &F,
+    ranks: &[u32],
+    table: u64,
+) -> Result<Vec<Term>, AllocError> {
+    assert!(rt; ranks.len() <= 6);
+    table_poly(alloc, field, ranks, table)?.terms(alloc)
+}
+
+#[test]
+fn tables_of_ranks_in_any_order(rt: HostRuntime) -> Result<(), Fail> {
+    let alloc = rt.alloc();
+    let field = field(&rt, 0x7);
+    let twice = table_terms(&rt, alloc, &field, &[3, 3], 0b1000)?;
+    assert_eq!(rt; twice.len(), 1);
+    assert_eq!(rt; twice[0].mono().bits(), [3].as_slice());
+    assert_eq!(rt; table_terms(&rt, alloc, &field, &[3, 3], 0b0110)?.len(), 0);
+    let back = table_terms(&rt, alloc, &field, &[5, 2], 0b0010)?;
+    assert_eq!(rt; back.len(), 2);
+    assert_eq!(rt; back[0].mono().bits(), [2, 5].as_slice());
+    assert_eq!(rt; back[1].mono().bits(), [5].as_slice());
+    assert_eq!(rt; back[1].coefficient(), 1);
+    assert_eq!(rt;
+        table_terms(&rt, alloc, &field, &[0, 1, 2, 3, 4, 5], 1)?.len(),
+        64
+    );
+    assert_eq!(rt; table_terms(&rt, alloc, &field, &[], 1)?.len(), 1);
+    Ok(())
+}
+
+// bit 0 times bit 1, with the exclusive or of bits 2 and 3 in place of bit 1
+fn replaced<F: Field>(alloc: Global, field: &F) -> Result<Poly, AllocError> {
+    let mut poly = table_poly(alloc, field, &[0, 1], 0b1000)?;
+    let by = table_poly(alloc, field, &[2, 3], 0b0110)?;
+    poly.substitute_bit(field, 1, &by)?;
+    Ok(poly)
+}
+
+#[test]
+fn a_bit_is_replaced(rt: HostRuntime) -> Result<(), Fail> {
+    let alloc = rt.alloc();
+    let field = field(&rt, 0x7);
+    let poly = replaced(alloc, &field)?;
+    assert_eq!(rt; poly.len(), 2);
+    assert!(rt; !poly.has(1));
+    assert!(rt; poly.has(3));
+    let part = poly.cofactor(alloc, 3)?;
+    let terms = part.terms(alloc)?;
+    assert_eq!(rt; terms.len(), 1);
+    assert_eq!(rt; terms[0].mono().bits(), [0].as_slice());
+    NoSteps.step(Generator::Net(3), &part)?;
+    Ok(())
+}
+
+// the value of c times word 7 to the power 3 plus bit 1, at one point
+fn value_at<F: Field>(
+    rt: &impl Abort,
+    alloc: Global,
+    field: &F,
+    c: u64,
+    x: u64,
+    bit: bool,
+) -> Result<u64, AllocError> {
+    assert!(rt; is_element(field, 3));
+    assert!(rt; is_element(field, c));
+    assert!(rt; is_element(field, x));
+    assert!(rt; is_element(field, 0));
+    let mut sum = scaled_power(alloc, field, c, 7, 3)?;
+    let bits = scaled_bit(alloc, field, c, 1)?;
+    sum.add_into(field, &bits)?;
+    Ok(sum.value(field, &[0, 0, 0, 0, 0, 0, 0, x], &[false, bit]))
+}
+
+#[test]
+fn values(rt: HostRuntime) -> Result<(), Fail> {
+    let alloc = rt.alloc();
+    let field = field(&rt, 0x13);
+    for (c, x, bit, want) in [
+        (1, 2, false, 8),
+        (1, 2, true, 9),
+        (2, 2, false, 3),
+        (2, 0, true, 2),
+        (0, 5, true, 0),
+    ] {
+        assert_eq!(rt; value_at(&rt, alloc, &field, c, x, bit)?, want);
+    }
+    Ok(())
+}
+
+// a constant added to itself, and one term made of its monomial
+fn cancelled<F: Field>(rt: &impl Abort, alloc: Global, field: &F) -> Result<usize, AllocError> {
+    assert!(rt; is_element(field, 1));
+    let one = constant(alloc, field, 1)?;
+    let mut sum = constant(alloc, field, 1)?;
+    sum.add_into(field, &one)?;
+    Ok(sum.len())
+}
+
+#[test]
+fn a_sum_of_0_leaves_no_term(rt: HostRuntime) -> Result<(), Fail> {
+    let alloc = rt.alloc();
+    let field = field(&rt, 0x7);
+    assert_eq!(rt; cancelled(&rt, alloc, &field)?, 0);
+    assert_eq!(rt; Poly::zero(alloc).len(), 0);
+    Ok(())
+}
+
+// words `a` and `b` of 2 bits, and the net 9
+fn labels(rt: &impl Abort, alloc: Global, z: &str, a: &str, b: &str) -> Result<Labels, AllocError> {
+    assert!(rt; is_name(z.as_bytes()));
+    assert!(rt; is_name(a.as_bytes()));
+    assert!(rt; is_name(b.as_bytes()));
+    assert!(rt; a.as_bytes() != b.as_bytes());
+    let mut labels = Labels::new(alloc, z)?;
+    labels.word(a, 2)?;
+    labels.word(b, 2)?;
+    labels.net(9)?;
+    Ok(labels)
+}
+
+// a term of two powers and of bits: `table` is 1, 0b10 or 0b1000 for none, one or two of them
+fn term<F: Field>(
+    rt: &impl Abort,
+    alloc: Global,
+    field: &F,
+    c: u64,
+    exponents: &[u64; 2],
+    ranks: &[u32],
+    table: u64,
+) -> Result<Poly, AllocError>
+    ensures { IfOk result (λ q. IsReduced (F.degree field.now) q.terms) }
+{
+    assert!(rt; is_element(field, c));
+    assert!(rt; is_element(field, 1));
+    assert!(rt; is_element(field, exponents[0]));
+    assert!(rt; is_element(field, exponents[1]));
+    assert!(rt; ranks.len() <= 2);
+    let first = scaled_power(alloc, field, c, 0, exponents[0])?;
+    let second = scaled_power(alloc, field, 1, 1, exponents[1])?;
+    let bits = table_poly(alloc, field, ranks, table)?;
+    let words = first.mul(alloc, field, &second)?;
+    let product = words.mul(alloc, field, &bits)?;
+    Ok(product)
+}
+
+// the text of a polynomial
+fn text(
+    rt: &impl Abort,
+    alloc: Global,
+    poly: &Poly,
+    labels: &Labels,
+) -> Result<Vec<u8>, AllocError> {
+    assert!(rt; is_named(poly, labels));
+    write_poly(alloc, poly, labels)
+}
+
+#[test]
+fn terms_are_written_in_order(rt: HostRuntime) -> Result<(), Fail> {
+    let alloc = rt.alloc();
+    let field = field(&rt, 0x7);
+    let labels = labels(&rt, alloc, "Z", "A", "B")?;
+    let mut sum = term(&rt, alloc, &field, 3, &[0, 0], &[], 1)?;
+    assert_eq!(rt;
+        text(&rt, alloc, &sum, &labels)?.as_slice(),
+        b"0x3".as_slice()
+    );
+    let net = term(&rt, alloc, &field, 1, &[0, 0], &[4, 0], 0b1000)?;
+    sum.add_into(&field, &net)?;
+    let bit = term(&rt, alloc, &field, 2, &[0, 0], &[3], 0b10)?;
+    sum.add_into(&field, &bit)?;
+    let words = term(&rt, alloc, &field, 2, &[3, 1], &[], 1)?;
+    sum.add_into(&field, &words)?;
+    assert_eq!(rt;
+        text(&rt, alloc, &sum, &labels)?.as_slice(),
+        b"0x2*A^3*B + A[0]*@9 + 0x2*B[1] + 0x3".as_slice()
+    );
+    assert_eq!(rt;
+        text(&rt, alloc, &Poly::zero(alloc), &labels)?.as_slice(),
+        b"0".as_slice()
+    );
+    Ok(())
+}
+
+// what a text says in GF(4), written again
+fn written_again(rt: &impl Abort, alloc: Global, bytes: &[u8]) -> Result<Vec<u8>, PolyFault> {
+    let labels = labels(rt, alloc, "Z", "A", "B")?;
+    let poly = read_poly(alloc, bytes, 2, &labels)?;
+    assert!(rt; is_named(&poly, &labels));
+    let text = write_poly(alloc, &poly, &labels)?;
+    Ok(text)
+}
+
+#[test]
+fn texts_are_read(rt: HostRuntime) -> Result<(), Fail> {
+    let alloc = rt.alloc();
+    for (bytes, want) in [
+        (
+            b"A[0]*B[0] + 0x2*A[0]*B[1] + 0x2*A[1]*B[0] + 0x3*A[1]*B[1]".as_slice(),
+            b"A[0]*B[0] + 0x2*A[0]*B[1] + 0x2*A[1]*B[0] + 0x3*A[1]*B[1]".as_slice(),
+        ),
+        (
+            b"\t0x3 +A[00]*@09+ 0x2 * B*A ^ 003 + 0x0*A",
+            b"0x2*A^3*B + A[0]*@9 + 0x3",
+        ),
+        (b"0x1*A^1 + A + 0", b"0"),
+        (b"0", b"0"),
+        (b"0 + 0x0", b"0"),
+        (b"A + 0x3*A", b"0x2*A"),
+    ] {
+        assert_eq!(rt; written_again(&rt, alloc, bytes)?.as_slice(), want);
+    }
+    Ok(())
+}
+
+#[test]
+fn the_first_wrong_token_decides(rt: HostRuntime) -> Result<(), Fail> {
+    let alloc = rt.alloc();
+    for (bytes, want) in [
+        (b"".as_slice(), PolyFault::Syntax),
+        (b"00", PolyFault::Syntax),
+        (b"0*A", PolyFault::Syntax),
+        (b"A +", PolyFault::Syntax),
+        (b"A B", PolyFault::Syntax),
+        (b"A*B*A", PolyFault::Syntax),
+        (b"A[0]*@9*A[0]", PolyFault::Syntax),
+        (b"A^0", PolyFault::Syntax),
+        (b"A^4", PolyFault::Syntax),
+        (b"0x4*A", PolyFault::Syntax),
+        (b"A*0x2", PolyFault::Syntax),
+        (b"Z", PolyFault::Syntax),
+        (b"C*@8", PolyFault::Syntax),
+        (b"A*@8", PolyFault::NoSuchNet),
+        (b"@8A", PolyFault::NoSuchNet),
+        (b"@18446744073709551625", PolyFault::NoSuchNet),
+        (b"A[2]", PolyFault::NoSuchBit),
+        (b"C[0]*?", PolyFault::NoSuchBit),
+        (b"@", PolyFault::Syntax),
+    ] {
+        assert!(rt; matches!(written_again(&rt, alloc, bytes), Err(fault) if fault == want));
+    }
+    Ok(())
+}

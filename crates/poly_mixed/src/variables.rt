@@ -1,0 +1,74 @@
+//! Variables at the front of a text.
+ghost use Rattle.std.specs.Prelude.{◌≡◌, length, drop, option_map};
+ghost use Rattle.poly_mixed.specs.Reading.{variable_at, net_at, name_at, IsScanned};
+ghost use Rattle.poly_mixed.specs.Scan.{index_of, name_of};
+
+use crate::scan::{Class, after, front, name, value};
+use crate::{Labels, PolyFault};
+
+/// A word, or the bit or net of a rank.
+#[derive(Clone, Copy, Debug, PartialEq, Eq)]
+pub(crate) enum Variable {
+    Word(usize),
+    Rank(u32),
+}
+
+// The variable at the front of a text, and what stands after it.
+pub(crate) fn read_variable<'a>(
+    labels: &Labels,
+    bytes: &'a [u8],
+) -> Result<(Variable, &'a [u8]), PolyFault>
+    ensures { IsScanned (variable_at labels.now bytes.now) result }
+{
+    match bytes {
+        [b'@', rest @ ..] => read_net(labels, rest),
+        [first, ..] if first.is_ascii_alphabetic() => read_name(labels, bytes),
+        _ => Err(PolyFault::Syntax),
+    }
+}
+
+// The net whose number stands after `@`.
+fn read_net<'a>(labels: &Labels, bytes: &'a [u8]) -> Result<(Variable, &'a [u8]), PolyFault>
+    ensures { IsScanned (net_at labels.now bytes.now) result }
+{
+    let digits = front(bytes, Class::Digit);
+    if digits.is_empty() {
+        return Err(PolyFault::Syntax);
+    }
+    match labels.net_rank(value(digits, 10)) {
+        Some(rank) => Ok((Variable::Rank(rank), after(bytes, Class::Digit))),
+        None => Err(PolyFault::NoSuchNet),
+    }
+}
+
+// The word of a name, or the bit where an index stands after it.
+fn read_name<'a>(labels: &Labels, bytes: &'a [u8]) -> Result<(Variable, &'a [u8]), PolyFault>
+    ensures { IsScanned (name_at labels.now bytes.now (drop (length (name_of bytes.now)) bytes.now)) result }
+{
+    let name = name(bytes);
+    let rest = &bytes[name.len()..];
+    match index(rest) {
+        Some((digits, rest)) => match labels.bit_rank(name, value(digits, 10)) {
+            Some(rank) => Ok((Variable::Rank(rank), rest)),
+            None => Err(PolyFault::NoSuchBit),
+        },
+        None => match labels.word_number(name) {
+            Some(word) => Ok((Variable::Word(word), rest)),
+            None => Err(PolyFault::Syntax),
+        },
+    }
+}
+
+// The digits of an index `[i]` at the front, and what stands after it.
+fn index(bytes: &[u8]) -> Option<(&[u8], &[u8])>
+    ensures { option_map (λ r. (r.0.now, r.1.now)) result ≡ index_of bytes.now }
+{
+    let [b'[', rest @ ..] = bytes else {
+        return None;
+    };
+    let digits = front(rest, Class::Digit);
+    match after(rest, Class::Digit) {
+        [b']', rest @ ..] if !digits.is_empty() => Some((digits, rest)),
+        _ => None,
+    }
+}
