@@ -2,3 +2,4 @@ pub mod Command
 pub mod Fault
 pub mod Answer
 pub mod Stop
+pub mod Setting

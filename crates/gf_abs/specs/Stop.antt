@@ -13,8 +13,8 @@ use Rattle.gf_abs.specs.Answer.{Reply}
 -- a file was absent or too long
 abbrev pub IsMiss : Fault → Type 0
 IsMiss Words = ⊥
-IsMiss Signature = ⊥
-IsMiss Netlist = ⊥
+IsMiss (Signature fault) = ⊥
+IsMiss (Netlist file fault) = ⊥
 IsMiss (Absent file) = Unit {0}
 IsMiss (TooLong file) = Unit {0}
 

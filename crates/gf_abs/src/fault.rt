@@ -1,43 +1,95 @@
 //! Why an input is refused.
-ghost use Rattle.std.specs.Prelude.{◌≡◌, IfOk};
-ghost use Rattle.gf_abs.specs.Fault.{fault_line, fault_status};
+ghost use Rattle.std.specs.Prelude.{◌≡◌};
+ghost use Rattle.gf_abs.specs.Fault.{fault_status};
 
 use net_core::Name;
-use std::alloc::{AllocError, Global};
 
 /// Why an input is refused.
 #[derive(Debug, Drop)]
 pub enum Fault {
     /// The words fit no shape of a command.
     Words,
-    /// The signature is outside the form that is read.
-    Signature,
-    /// The netlist, or its binding to the signature, is outside the form that is read.
-    Netlist,
     /// A file that the shelf does not hold.
     Absent { file: Name },
     /// A file of more than 67,108,864 bytes.
     TooLong { file: Name },
+    /// The signature or its field is refused.
+    Signature(SignatureFault),
+    /// The netlist of this file, or its binding to the signature, is refused.
+    Netlist { file: Name, fault: NetlistFault },
 }
 
-/// The line of a fault, with its LF.
-pub fn write_fault(alloc: Global, fault: &Fault) -> Result<Vec<u8>, AllocError>
-    ensures { IfOk result (λ line. line.items ≡ fault_line fault.now) }
-{
-    let line = match fault {
-        Fault::Words => format!(in alloc; "fault 01: words\n")?,
-        Fault::Signature => format!(in alloc; "fault 02: signature\n")?,
-        Fault::Netlist => format!(in alloc; "fault 02: netlist\n")?,
-        Fault::Absent { file } => {
-            let file = file.as_str();
-            format!(in alloc; "fault 10: {file} is absent\n")?
-        }
-        Fault::TooLong { file } => {
-            let file = file.as_str();
-            format!(in alloc; "fault 11: {file} has more than 67108864 bytes\n")?
-        }
-    };
-    Ok(line.into_bytes())
+/// Why a signature is refused. Lines count from 1.
+#[derive(Debug, Drop)]
+pub enum SignatureFault {
+    /// The line is no line of its place.
+    Syntax { line: u32 },
+    /// The modulus has not degree 1 to 64.
+    Degree,
+    /// The modulus is not irreducible.
+    Modulus,
+    /// The polynomial of the tower is not irreducible.
+    TowerPolynomial,
+    /// The elements of a basis are dependent.
+    Dependent { line: u32 },
+    /// A basis has not k elements, or an element is none of the field.
+    Basis { line: u32 },
+    /// The tower's polynomial has not at least two coefficients of the field that fit into 64 bits.
+    Tower,
+    /// A word has not as many nets as the field's elements have bits.
+    Bits { line: u32 },
+    /// An earlier word has the name.
+    NameTwice { line: u32 },
+    /// There is no output word.
+    NoOutput,
+    /// A second output word.
+    TwoOutputs { line: u32 },
+    /// The ninth input or state word.
+    TooManyWords { line: u32 },
+}
+
+/// Why a netlist or its binding is refused. Lines count from 1.
+#[derive(Debug, Drop)]
+pub enum NetlistFault {
+    /// The line has a wrong byte or form, or stands where it may not.
+    Syntax { line: u32 },
+    /// The line begins with a word that is not read.
+    LeftOut { line: u32, word: Name },
+    /// There is no statement, or the first is not `.model`.
+    NoModel,
+    /// An earlier model has the name.
+    ModelTwice { line: u32 },
+    /// A net has two drivers.
+    DrivenTwice { label: Name },
+    /// A net has no driver.
+    Undriven { label: Name },
+    /// So many gates drive each other in a ring; the net is the first of them.
+    Loop { count: u64, label: Name },
+    /// A cover has more than 6 inputs.
+    TooWide { line: u32, inputs: u32 },
+    /// There would be 1,048,577 nets.
+    TooManyNets,
+    /// There would be 1,048,577 gates and latches.
+    TooManyGates,
+    /// The words can't be bound.
+    Binding(BindingFault),
+}
+
+/// Why the words of a signature can't be bound to a netlist. Places count from 0.
+#[derive(Debug, Drop)]
+pub enum BindingFault {
+    /// No net has the name of this place of a word.
+    NoSuchNet { word: Name, place: u32 },
+    /// The net of this place of an input word is no primary input.
+    NotInput { word: Name, place: u32 },
+    /// The net of this place of a state word is no output of a latch.
+    NotLatch { word: Name, place: u32 },
+    /// The net stands twice in input and state words.
+    NetTwice { label: Name },
+    /// A primary input is in no word, and something depends on it.
+    Uncovered { label: Name },
+    /// A latch with an unknown start is in no state word.
+    UnknownStart { label: Name },
 }
 
 /// The status that a fault ends with.
@@ -46,9 +98,9 @@ pub fn status_of(fault: &Fault) -> u8
 {
     match fault {
         Fault::Words
-        | Fault::Signature
-        | Fault::Netlist
         | Fault::Absent { .. }
-        | Fault::TooLong { .. } => 2,
+        | Fault::TooLong { .. }
+        | Fault::Signature(_)
+        | Fault::Netlist { .. } => 2,
     }
 }

@@ -5,16 +5,19 @@
 mod bits;
 mod command;
 mod fault;
+mod fault_line;
+mod netlist;
 mod polynomial;
 mod print;
 #[cfg(test)]
 mod rows;
+mod setting;
 mod stop;
 #[cfg(test)]
 mod tests;
 mod top;
 
 pub use command::Command;
-pub use fault::Fault;
+pub use fault::{BindingFault, Fault, NetlistFault, SignatureFault};
 pub use stop::Stop;
 pub use top::{run, run_surely};

@@ -9,11 +9,12 @@ ghost use Rattle.gf_abs.specs.Stop.{GivesBy, GivesBytes, IsText, Writes, WritesP
 
 use crate::bits;
 use crate::command::{Command, read_words};
-use crate::fault::{Fault, status_of, write_fault};
+use crate::fault::{Fault, status_of};
+use crate::fault_line::write_fault;
+use crate::setting::{Setting, setting_of};
 use crate::stop::Stop;
 use job_io::{Shelf, ShelfFault, Sink, SureShelf, SureSink, put_all};
 use net_core::Name;
-use net_words::Signature;
 use std::alloc::Global;
 
 const LIMIT: u32 = 67_108_864;
@@ -53,14 +54,14 @@ fn bits_answer<S: Shelf>(
         (Rose (S.misses shelf.old) (S.misses shelf.new)) (Rose (S.faults shelf.old) (S.faults shelf.new)) }
 {
     let signature_text = read_file(alloc, shelf, signature)?;
-    let taken = bits::signature_of(alloc, &signature_text)?;
-    net_answer(alloc, &taken, net, shelf)
+    let setting = setting_of(alloc, &signature_text)?;
+    net_answer(alloc, &setting, net, shelf)
 }
 
 // The output over a netlist, after the signature was taken.
 fn net_answer<S: Shelf>(
     alloc: Global,
-    signature: &Signature,
+    setting: &Setting,
     net: &str,
     shelf: &mut S,
 ) -> Result<Vec<u8>, Stop>
@@ -70,7 +71,7 @@ fn net_answer<S: Shelf>(
         (Rose (S.misses shelf.old) (S.misses shelf.new)) (Rose (S.faults shelf.old) (S.faults shelf.new)) }
 {
     let text = read_file(alloc, shelf, net)?;
-    let output = bits::net_output(alloc, signature, &text)?;
+    let output = bits::net_output(alloc, setting, net, &text)?;
     Ok(output)
 }
 

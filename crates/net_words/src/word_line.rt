@@ -1,5 +1,6 @@
 //! The line of a word.
 ghost use Rattle.std.specs.Prelude.{◌≡◌, ◌∷◌, ◌↔◌, ℕ, List, map, codes, All, IsTrue, IfSome, IfNone};
+ghost use Rattle.text_core.specs.Names.{IsName};
 ghost use Rattle.net_words.specs.Statement.{SaysRole, IsNetToken};
 ghost use Rattle.net_words.specs.Signature.{OrSyntax, IsWordLine};
 ghost use Rattle.net_words.specs.Reading.{Fits, line_of};
@@ -10,7 +11,7 @@ use crate::lines::Statement;
 use crate::word::{Role, WordText};
 use net_core::{Name, Names};
 use std::alloc::Global;
-use text_core::{name_text, plain_text};
+use text_core::{is_name, plain_text};
 
 /// The word of a line.
 pub fn read_word(alloc: Global, statement: &Statement) -> Result<WordText, SigFault>
@@ -38,7 +39,7 @@ fn word_of(
 ) -> Result<WordText, SigFault>
     ensures { Fits (λ word. word) result (IsWordLine (record { number = line; tokens = keyword.now ∷ name.now ∷ role.now ∷ basis.now ∷ map (λ t. t.now) nets.now })) }
 {
-    let (Some(name), Some(role)) = (name_text(name), role_of(role)) else {
+    let (Some(name), Some(role)) = (word_name(name), role_of(role)) else {
         return Err(SigFault::Syntax { line });
     };
     if !is_keyword(keyword) || nets.len() < 1 {
@@ -60,6 +61,18 @@ fn word_of(
         basis,
         nets,
     })
+}
+
+// The text of a token that is the name of a word.
+fn word_name(token: &[u8]) -> Option<&str>
+    ensures found { IfSome result (λ text. (text.now ≡ token.now) × IsName token.now) }
+    ensures none { IfNone result (IsName token.now → ⊥) }
+{
+    if is_name(token) {
+        plain_text(token)
+    } else {
+        None
+    }
 }
 
 // Whether the line is one of a word.
