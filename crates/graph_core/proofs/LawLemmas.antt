@@ -1,8 +1,8 @@
 -- Laws of orders and rings.
-use Rattle.std.proofs.Common.{◌≡◌, ◌⊎◌, ◌∙◌, ap, sym, refl, inl, inr, subst, ℕ, zero, suc, ◌<◌, ◌≤◌, List, [], ◌∷◌, length, Option, None, Some, arith}
+use Rattle.std.proofs.Common.{◌≡◌, inl, inr, ℕ, zero, suc, ◌<◌, List, ◌∷◌, Some, arith}
 use Rattle.std.specs.Prelude.{slice_get}
 use Rattle.graph_core.specs.Graph.{Graph, Has, edges, HasEdge, IsPath, IsRing}
-use Rattle.graph_core.specs.Ring.{IsGrounded, grounded, IsEndless, IsFirstEndless, IsRingOf}
+use Rattle.graph_core.specs.Ring.{IsGrounded, grounded, IsFirstEndless, IsRingOf}
 use Rattle.graph_core.specs.Arranged.{IsArranged}
 use Rattle.graph_core.proofs.GraphLemmas.{nat_eq_or}
 use Rattle.graph_core.proofs.GroundLemmas.{grounded_path, grounded_no_ring}

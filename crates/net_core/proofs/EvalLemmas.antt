@@ -11,7 +11,7 @@ use Rattle.net_core.specs.Lists.{Has}
 use Rattle.net_core.specs.NetList.{NetList, nets}
 use Rattle.net_core.specs.Inside.{IsInside}
 use Rattle.net_core.specs.Sound.{HasOneDriverEach, sources}
-use Rattle.net_core.specs.Level.{Levels, level_at, level_from, level_over, AreLevels}
+use Rattle.net_core.specs.Level.{Levels, level_at, level_from, level_over}
 use Rattle.net_core.specs.Levelled.{AllHaveLevels, AreRight}
 use Rattle.net_core.specs.Order.{rank_at, IsBefore, IsOrder}
 use Rattle.net_core.specs.Value.{bit_of, index_of, IsRight, IsConsistent, HasValues}
@@ -136,7 +136,7 @@ over_agree a b m (n ∷ ns) same =
       | Some l ↦ over_agree a b (max m (l + 1)) ns (λ k n' got. same (suc k) n' got)
     ])
 
-index_agree : (v w : List Bool) (ns : List ℕ) → ((k n : ℕ) → slice_get ns k ≡ Some n → bit_of v n ≡ bit_of w n) → index_of v ns ≡ index_of w ns
+pub index_agree : (v w : List Bool) (ns : List ℕ) → ((k n : ℕ) → slice_get ns k ≡ Some n → bit_of v n ≡ bit_of w n) → index_of v ns ≡ index_of w ns
 index_agree v w [] same = refl
 index_agree v w (n ∷ ns) same = rw (same 0 n refl, index_agree v w ns (λ k m got. same (suc k) m got)) refl
 
@@ -165,7 +165,7 @@ bits_agree net levels values v w one all none long cv cw hv hw (suc fuel) n l le
         let got' = rw none at got in
         absurd (cc)
 
-same_lists : (v w : List Bool) → length v ≡ length w → ((n : ℕ) → n < length v → bit_of v n ≡ bit_of w n) → v ≡ w
+pub same_lists : (v w : List Bool) → length v ≡ length w → ((n : ℕ) → n < length v → bit_of v n ≡ bit_of w n) → v ≡ w
 same_lists [] [] long same = refl
 same_lists [] (y ∷ ys) long same = absurd (omega arith)
 same_lists (x ∷ xs) [] long same = absurd (omega arith)
@@ -174,7 +174,7 @@ same_lists (x ∷ xs) (y ∷ ys) long same =
     let tail : xs ≡ ys = same_lists xs ys (omega arith) (λ n less. same (suc n) (omega arith)) in
     rw (head, tail) refl
 
-some_level : (net : NetList) (levels : Levels) → HasOneDriverEach net → AllHaveLevels net levels → (n : ℕ) → n < nets net → (l : ℕ) × (level_at levels n ≡ Some l)
+pub some_level : (net : NetList) (levels : Levels) → HasOneDriverEach net → AllHaveLevels net levels → (n : ℕ) → n < nets net → (l : ℕ) × (level_at levels n ≡ Some l)
 some_level net levels one all n below =
     elim (driver_of net n one below) [
       | inl source ↦ (0, all.0.sources n source)

@@ -1,21 +1,21 @@
 -- Laws of levels, orders, loops and finished nets.
-use Rattle.std.proofs.Common.{◌≡◌, ◌≢◌, ◌⊎◌, ◌∙◌, ap, sym, refl, inl, inr, subst, ℕ, zero, suc, ◌<◌, ◌≤◌, ◌+◌, max, List, [], ◌∷◌, length, Option, None, Some, Result, Ok, Err, arith, ◌-◌}
-use Rattle.std.specs.Prelude.{slice_get, unwrap_or, option_and_then, IsSome}
+use Rattle.std.proofs.Common.{◌≡◌, ◌≢◌, ◌⊎◌, ◌∙◌, ap, sym, refl, inl, inr, subst, ℕ, zero, suc, ◌<◌, ◌+◌, max, List, [], ◌∷◌, length, Option, None, Some, Err, arith, ◌-◌}
+use Rattle.std.specs.Prelude.{slice_get, IsSome}
 use Rattle.std.proofs.lemmas.Option.{slice_get_within}
 use Rattle.graph_core.proofs.ListLemmas.{get_below}
 use Rattle.net_core.specs.GateValue.{GateValue}
 use Rattle.net_core.specs.Lists.{Has}
 use Rattle.net_core.specs.NetList.{NetList, nets, text_of}
 use Rattle.net_core.specs.Inside.{IsInside}
-use Rattle.net_core.specs.Sound.{IsSound, HasOneDriverEach, HasRing, drivers, sources}
+use Rattle.net_core.specs.Sound.{IsSound, HasOneDriverEach}
 use Rattle.net_core.specs.Level.{Levels, level_at, level_from, level_over, AreLevels}
-use Rattle.net_core.specs.Loop.{HasLevel, of_source, of_gate, IsLoop}
+use Rattle.net_core.specs.Loop.{HasLevel, of_source, of_gate}
 use Rattle.net_core.specs.Order.{rank_at, IsBefore, IsOrder, IsLevelOrder}
 use Rattle.net_core.specs.Finish.{Finishes, IsLabelOfFirst}
 use Rattle.net_core.specs.declared.fault.NetFault.{NetFault}
 use Rattle.net_core.specs.declared.fault.NetFault.TheVariants.{TooManyNets, TooManyGates, DrivenTwice, Undriven, Loop, OutOfMemory}
 use Rattle.net_core.proofs.DriverLemmas.{driver_of}
-use Rattle.net_core.proofs.LevelLemmas.{nat_eq_or, level_within, level_known, level_from_above}
+use Rattle.net_core.proofs.LevelLemmas.{nat_eq_or, level_within, level_from_above}
 use Rattle.net_core.proofs.EvalLemmas.{over_agree}
 use Rattle.net_core.proofs.LoopLemmas.{loop_is_ring, loop_is_only}
 use Rattle.net_core.proofs.OrderLemmas.{before_all}

@@ -1,6 +1,7 @@
 pub mod DriverLemmas
 pub mod DrivingLemmas
 pub mod EvalLemmas
+pub mod ExistLemmas
 pub mod LawLemmas
 pub mod LevelLemmas
 pub mod LoopLemmas

@@ -1,6 +1,6 @@
 -- Numbers of names, after one more label.
 use Rattle.std.proofs.Common.{◌≡◌, ◌∙◌, inl, inr, ap, sym, refl, subst, ℕ, suc, ◌<◌, ◌+◌, ◌^◌, List, [], ◌∷◌, ◌++◌, length, Bool, true, false, cond, Option, None, Some, arith}
-use Rattle.std.specs.Prelude.{slice_get}
+use Rattle.std.specs.Prelude.{slice_get, IfSome}
 use Rattle.std.specs.Str.{bytes_eq}
 use Rattle.std.proofs.lemmas.List.{length_push}
 use Rattle.std.proofs.lemmas.List.Elements.{All-weaker}
@@ -95,3 +95,16 @@ inside_named net new text is room name none inside = rw is (inside_more net (rec
 
 pub inside_fresh : (net : NetList) (new : List LabelValue) (text : List ℕ) → new ≡ net.labels ++ record { text = text; named = false } ∷ [] → nets net < 2 ^ 20 → IsInside net → IsInside (record net { labels = new })
 inside_fresh net new text is room inside = rw is (inside_more net (record { text = text; named = false }) room (λ e. absurd (cc)) inside)
+
+number_below : (n : ℕ) (labels : List LabelValue) (name : List ℕ) (k : ℕ) → number_from n labels name ≡ Some k → k < n + length labels
+number_below n [] name k found = absurd (cc)
+number_below n (x ∷ xs) name k found =
+    elim (is_named name x) as (λ b. cond b (Some n) (number_from (n + 1) xs name) ≡ Some k → k < n + suc (length xs)) [
+      | true ↦ λ e. let same : n ≡ k = cc in omega arith
+      | false ↦ λ e. omega (arith, number_below (n + 1) xs name k e)
+    ] found
+
+-- a net that is found by its name exists
+pub some_below : (net : NetList) (name : List ℕ) (r : Option ℕ) → r ≡ number_from 0 net.labels name → IfSome r (λ n. n < nets net)
+some_below net name None is = tt
+some_below net name (Some k) is = omega (arith, number_below 0 net.labels name k (sym is))

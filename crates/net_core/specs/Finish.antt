@@ -1,4 +1,4 @@
--- What comes of a net in the making.
+-- What comes of a net in the making. Source: this project's own.
 use Rattle.std.specs.Prelude.{◌≡◌, ℕ, ◌<◌, ◌≤◌, List, Some, slice_get, Result, Ok, Err}
 use Rattle.net_core.specs.NetList.{NetList, nets, text_of}
 use Rattle.net_core.specs.Sound.{drivers, HasOneDriverEach, IsSound}
@@ -6,9 +6,11 @@ use Rattle.net_core.specs.Loop.{IsLoop}
 use Rattle.net_core.specs.declared.fault.NetFault.{NetFault}
 use Rattle.net_core.specs.declared.fault.NetFault.TheVariants.{TooManyNets, TooManyGates, DrivenTwice, Undriven, Loop, OutOfMemory}
 
+-- the label is that of the first net of the list
 abbrev pub IsLabelOfFirst : NetList → List ℕ → List ℕ → Type 0
 IsLabelOfFirst net label loop = (n : ℕ) × (slice_get loop 0 ≡ Some n) × (label ≡ text_of net n)
 
+-- what finish answers, fault by fault; before each stands which faults do not come
 abbrev pub Finishes : NetList → Result NetList NetFault → Type 0
 Finishes net (Ok made) = (made ≡ net) × IsSound net
 -- the least net with two drivers

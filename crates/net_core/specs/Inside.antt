@@ -1,4 +1,4 @@
--- Net lists whose numbers, tables and names fit, and which keep the limits.
+-- Net lists whose numbers, tables and names fit, and which keep the limits. Source: this project's own.
 use Rattle.std.specs.Prelude.{◌≡◌, ℕ, ◌<◌, ◌≤◌, ◌+◌, ◌^◌, true, List, Some, length, slice_get, All}
 use Rattle.net_core.specs.GateValue.{GateValue}
 use Rattle.net_core.specs.LatchValue.{LatchValue}

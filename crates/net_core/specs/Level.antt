@@ -1,13 +1,15 @@
--- Levels of nets.
+-- Levels of nets. Source: this project's own; in other words the lengths of the longest paths of gates from sources.
 use Rattle.std.specs.Prelude.{◌≡◌, ℕ, ◌+◌, max, List, [], ◌∷◌, Option, None, Some, slice_get, length, unwrap_or, option_and_then}
 use Rattle.net_core.specs.Lists.{Has}
 use Rattle.net_core.specs.Sound.{sources}
 use Rattle.net_core.specs.GateValue.{GateValue}
 use Rattle.net_core.specs.NetList.{NetList, nets}
 
+-- for each net its level, where it has one
 abbrev pub Levels : Type 0
 Levels = List (Option ℕ)
 
+-- the level of a net
 abbrev pub level_at : Levels → ℕ → Option ℕ
 level_at levels n = unwrap_or (slice_get levels n) None
 

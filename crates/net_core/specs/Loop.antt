@@ -1,4 +1,4 @@
--- The list of nets that is named where gates drive each other in a ring.
+-- The list of nets that is named where gates drive each other in a ring. Source: this project's own.
 use Rattle.std.specs.Prelude.{◌≡◌, ℕ, ◌<◌, List, Some, slice_get}
 use Rattle.net_core.specs.GateValue.{GateValue}
 use Rattle.net_core.specs.NetList.{NetList}
@@ -12,6 +12,7 @@ pub data HasLevel (net : NetList) : ℕ → Type 0 where
   of_source : (n : ℕ) → Has (sources net) n → HasLevel net n
   of_gate : (g : GateValue) → Has net.gates g → ((n : ℕ) → Has g.inputs n → HasLevel net n) → HasLevel net g.out
 
+-- no removal of gates gives the net a level
 abbrev pub HasNoLevel : NetList → ℕ → Type 0
 HasNoLevel net n = HasLevel net n → ⊥
 

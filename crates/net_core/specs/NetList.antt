@@ -18,6 +18,7 @@ pub record NetList : Type 0 where
   pub gates : List GateValue
   pub latches : List LatchValue
 
+-- no nets and nothing on them
 abbrev pub empty : NetList
 empty = record { labels = []; inputs = []; outputs = []; gates = []; latches = [] }
 
@@ -29,6 +30,7 @@ nets net = length net.labels
 abbrev pub text_of : NetList → ℕ → List ℕ
 text_of net n = option_map_or (λ (l : LabelValue). l.text) (slice_get net.labels n) []
 
+-- the label is this name
 abbrev pub is_named : List ℕ → LabelValue → Bool
 is_named name label = label.named && bytes_eq name label.text
 

@@ -14,9 +14,11 @@ sources net = net.inputs ++ map (λ l. l.out) net.latches
 abbrev pub driven : NetList → List ℕ
 driven net = sources net ++ map (λ g. g.out) net.gates
 
+-- how many drivers a net has
 abbrev pub drivers : NetList → ℕ → ℕ
 drivers net n = times n (driven net)
 
+-- each net is driven exactly once
 abbrev pub HasOneDriverEach : NetList → Type 0
 HasOneDriverEach net = (n : ℕ) → n < nets net → drivers net n ≡ 1
 

@@ -1,4 +1,4 @@
--- A net list with one bit of one table turned over.
+-- A net list with one bit of one table turned over. Source: this project's own.
 use Rattle.std.specs.Prelude.{ℕ, zero, suc, ◌^◌, List, [], ◌∷◌, bit_xor}
 use Rattle.net_core.specs.GateValue.{GateValue}
 use Rattle.net_core.specs.NetList.{NetList}

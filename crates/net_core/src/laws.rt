@@ -1,9 +1,11 @@
 //! Laws of net lists. These functions do nothing: their contracts are proved of the definitions alone.
-ghost use Rattle.std.specs.Prelude.{◌≡◌, ◌⊎◌, ◌<◌, Err, IsSome, List, ℕ};
+ghost use Rattle.std.specs.Prelude.{◌≡◌, ◌⊎◌, ◌<◌, Bool, Err, IsSome, List, length, ℕ};
 ghost use Rattle.net_core.specs.NetList.{NetList, nets};
 ghost use Rattle.net_core.specs.Inside.{IsInside};
 ghost use Rattle.net_core.specs.Sound.{IsSound, IsRing, HasOneDriverEach};
 ghost use Rattle.net_core.specs.Level.{Levels, level_at, AreLevels};
+ghost use Rattle.net_core.specs.Levelled.{AllHaveLevels};
+ghost use Rattle.net_core.specs.Value.{IsConsistent, HasSourceBits};
 ghost use Rattle.net_core.specs.Order.{IsLevelOrder};
 ghost use Rattle.net_core.specs.Loop.{HasLevel, IsLoop};
 ghost use Rattle.net_core.specs.Finish.{Finishes};
@@ -43,4 +45,16 @@ pub fn levels_are_where_nets_have_them()
 /// A net list has one order of its gates by level and position at most.
 pub fn order_is_the_only_one()
     ensures { (net : NetList) (order other : List ℕ) → HasOneDriverEach net → IsLevelOrder net order → IsLevelOrder net other → order ≡ other }
+{}
+
+/// For each choice of bits for its primary inputs and the outputs of its latches a sound net list has exactly one
+/// consistent list of bits.
+pub fn sound_net_has_one_valuation()
+    ensures some { (net : NetList) (start : List Bool) → IsSound net → length start ≡ nets net → (bits : List Bool) × IsConsistent net bits × HasSourceBits net start bits }
+    ensures only { (net : NetList) (start bits other : List Bool) → IsSound net → length start ≡ nets net → IsConsistent net bits → IsConsistent net other → HasSourceBits net start bits → HasSourceBits net start other → bits ≡ other }
+{}
+
+/// A sound net list has levels, and each net has one.
+pub fn sound_net_has_levels()
+    ensures { (net : NetList) → IsSound net → (levels : Levels) × AllHaveLevels net levels }
 {}

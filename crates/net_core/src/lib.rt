@@ -21,10 +21,14 @@ pub use gate::Gate;
 pub use latch::{Latch, Start};
 pub use laws::{
     finish_accepts_the_sound_nets, levels_are_the_only_ones, levels_are_where_nets_have_them,
-    loop_is_a_ring, loop_is_the_only_one, order_is_the_only_one,
+    loop_is_a_ring, loop_is_the_only_one, order_is_the_only_one, sound_net_has_levels,
+    sound_net_has_one_valuation,
 };
 pub use level_order::order;
 pub use maker::NetMaker;
 pub use name::{Name, Names, Numbers};
 pub use net::Net;
 pub use valuation::eval;
+
+#[cfg(test)]
+mod tests;

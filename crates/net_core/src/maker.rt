@@ -1,5 +1,5 @@
 //! Net lists in the making.
-ghost use Rattle.std.specs.Prelude.{◌≡◌, ◌⊎◌, ◌<◌, ◌≤◌, ◌+◌, ◌^◌, ◌++◌, ◌∷◌, [], ℕ, None, Some, IfOk, IfErr, OnOk, OnErr, IsErrOf, All, length, slice_get, true, false};
+ghost use Rattle.std.specs.Prelude.{◌≡◌, ◌⊎◌, ◌<◌, ◌≤◌, ◌+◌, ◌^◌, ◌++◌, ◌∷◌, [], ℕ, None, Some, IfOk, IfErr, IfSome, OnOk, OnErr, IsErrOf, All, length, slice_get, true, false};
 ghost use Rattle.net_core.specs.NetList.{empty, nets, number_of, text_of, with_name, with_label, with_gate, with_latch};
 ghost use Rattle.net_core.specs.Inside.{IsNetName, IsFull, HasNoMoreGates, IsInside};
 ghost use Rattle.net_core.specs.Turned.{turned};
@@ -62,6 +62,8 @@ impl NetMaker {
     pub fn net(&mut self, name: &str) -> Result<u32, NetFault>
         requires { IsNetName name.now }
         ensures number { IfOk result (λ n. number_of self.new name.now ≡ Some n) }
+        ensures within { IfOk result (λ n. n < nets self.new) }
+        ensures grows { nets self.old ≤ nets self.new }
         ensures made { OnOk result (self.new ≡ with_name self.old name.now) }
         ensures room { OnOk result (number_of self.old name.now ≡ None → IsFull self.old → ⊥) }
         ensures full { IsErrOf result NetFault.TooManyNets → (number_of self.old name.now ≡ None) × IsFull self.old }
@@ -79,6 +81,7 @@ impl NetMaker {
         requires name { IsNetName name.now }
         requires is_new { number_of self.old name.now ≡ None }
         ensures number { IfOk result (λ n. number_of self.new name.now ≡ Some n) }
+        ensures within { IfOk result (λ n. n < nets self.new) }
         ensures made { OnOk result (self.new ≡ with_label self.old name.now true) }
         ensures room { OnOk result (IsFull self.old → ⊥) }
         ensures full { IsErrOf result NetFault.TooManyNets → IsFull self.old }
@@ -168,11 +171,13 @@ impl NetMaker {
         ensures only { IfErr result (λ fault. (fault ≡ NetFault.TooManyGates) ⊎ (fault ≡ NetFault.OutOfMemory)) }
         ensures unchanged { OnErr result (self.new ≡ self.old) }
     {
-        if self.gates.len() + self.latches.len() >= MAX_GATES {
-            return Err(NetFault::TooManyGates);
+        let latch = Latch { next, out, start };
+        if self.gates.len() + self.latches.len() < MAX_GATES {
+            self.latches.push(latch)?;
+            Ok(())
+        } else {
+            Err(NetFault::TooManyGates)
         }
-        self.latches.push(Latch { next, out, start })?;
-        Ok(())
     }
 }
 
@@ -184,7 +189,8 @@ impl NetMaker {
 
     // The number of the net of this name.
     pub(crate) fn find(&self, name: &str) -> Option<u32>
-        ensures { result ≡ number_of self.now name.now }
+        ensures number { result ≡ number_of self.now name.now }
+        ensures within { IfSome result (λ n. n < nets self.now) }
     {
         self.numbers.get(name).copied()
     }

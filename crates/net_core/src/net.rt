@@ -1,5 +1,5 @@
 //! Sound nets.
-ghost use Rattle.std.specs.Prelude.{◌≡◌, ◌<◌, ◌≤◌, ◌^◌, ◌+◌, ℕ, length, min, slice_get, slice_index, IfOk, IfErr, OnOk, Err, Some};
+ghost use Rattle.std.specs.Prelude.{◌≡◌, ◌<◌, ◌≤◌, ◌^◌, ◌+◌, ℕ, length, min, slice_get, slice_index, IfOk, IfErr, IfSome, OnOk, Err, Some};
 ghost use Rattle.net_core.specs.NetList.{nets, nets as nets_of, number_of, text_of};
 ghost use Rattle.net_core.specs.Sound.{IsSound, HasOneDriverEach, drivers};
 ghost use Rattle.net_core.specs.Turned.{turned};
@@ -55,7 +55,8 @@ impl Net {
 
     /// The net of this name; none where no net is named so.
     pub fn find(&self, name: &str) -> Option<u32>
-        ensures { result ≡ number_of self.now name.now }
+        ensures number { result ≡ number_of self.now name.now }
+        ensures within { IfSome result (λ n. n < nets self.now) }
     {
         self.made.find(name)
     }
