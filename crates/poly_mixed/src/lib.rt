@@ -21,7 +21,7 @@ mod write;
 
 pub use fault::PolyFault;
 pub use labels::Labels;
-pub use laws::{one_size, text_order, unique, unique_in_bits};
+pub use laws::{one_size, one_text, text_order, text_reads_back, unique, unique_in_bits};
 pub use mono::Mono;
 pub use poly::{Poly, Term};
 pub use read::read_poly;
