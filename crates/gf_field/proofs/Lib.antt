@@ -1,2 +1,4 @@
 pub mod Ring2kSteps
 pub mod Shifts
+pub mod Copies
+pub mod FirstOutside

@@ -1,12 +1,12 @@
 -- 0 and 1 are a field, and a quotient over them is one exactly where its modulus is irreducible.
-use Rattle.std.proofs.Common.{◌≡◌, ◌≢◌, ℕ, zero, suc, sym, ◌∙◌, ap₂, ◌<◌, ◌↔◌, arith, one-mul, subst}
+use Rattle.std.proofs.Common.{◌≡◌, ◌≢◌, ℕ, sym, ◌∙◌, ap₂, ◌<◌, ◌↔◌, arith, one-mul, subst}
 use Rattle.gf_field.specs.Modulus.{IsModulus}
 use Rattle.gf_field.specs.Bit.{bit_mul}
 use Rattle.gf_field.specs.Field.{HasNoZeroDivisors}
 use Rattle.gf_field.specs.Quotient.{product}
 use Rattle.gf_field.specs.Polynomial.{IsIrreducible}
 use Rattle.gf_field.specs.BitLaws.{IsRing-bit_mul}
-use Rattle.gf_field.specs.IrreducibleLaws.{HasNoZeroDivisors-from_irreducible, IsIrreducible-from_field}
+use Rattle.gf_field.specs.IrreducibleLaws.{HasQuotientFields-from_field}
 use Rattle.gf_field.specs.ModulusLaws.{IsMonic-from_modulus}
 
 HasNoZeroDivisors-bit_mul : HasNoZeroDivisors 1 bit_mul
@@ -20,8 +20,6 @@ HasNoZeroDivisors-bit_mul = record { nonzero = λ a b ha hb na nb e. at a b (one
 
 -- the quotient has no zero divisors exactly where the modulus is irreducible
 pub field_by_modulus : (d g : ℕ) → IsModulus d g → HasNoZeroDivisors d (product 1 d bit_mul g) ↔ IsIrreducible 1 bit_mul g
-field_by_modulus zero g ok = absurd (omega (arith, ok.some))
-field_by_modulus (suc e) g ok = (
-  λ h. IsIrreducible-from_field 1 bit_mul IsRing-bit_mul HasNoZeroDivisors-bit_mul e g (IsMonic-from_modulus (suc e) g ok) (subst (λ (k : ℕ). HasNoZeroDivisors k (product 1 (suc e) bit_mul g)) (sym (one-mul (suc e))) h),
-  λ h. subst (λ (k : ℕ). HasNoZeroDivisors k (product 1 (suc e) bit_mul g)) (one-mul (suc e)) (HasNoZeroDivisors-from_irreducible 1 bit_mul IsRing-bit_mul HasNoZeroDivisors-bit_mul e g (IsMonic-from_modulus (suc e) g ok) h),
-)
+field_by_modulus d g ok =
+    subst (λ (k : ℕ). HasNoZeroDivisors k (product 1 d bit_mul g) ↔ IsIrreducible 1 bit_mul g) (one-mul d)
+    (HasQuotientFields-from_field 1 bit_mul IsRing-bit_mul HasNoZeroDivisors-bit_mul d g ok.some (IsMonic-from_modulus d g ok))

@@ -9,7 +9,7 @@ use Rattle.gf_field.specs.Ring.{IsRing}
 use Rattle.gf_field.specs.Field.{HasNoZeroDivisors}
 use Rattle.gf_field.specs.FieldLaws.{inverse_of, IsFieldBySquares-from}
 use Rattle.gf_field.specs.Polynomial.{coefficient, convolution, IsProduct, IsDegree, IsTimes, IsIrreducible, IsMonic}
-use Rattle.gf_field.specs.Quotient.{none, unit, plus, times, shift, rest, packed, product}
+use Rattle.gf_field.specs.Quotient.{none, unit, plus, times, shift, rest, packed, product, HasQuotientFields}
 use Rattle.gf_field.specs.ConvolutionLaws.{convolution_comm, convolution_xor_left, convolution_assoc}
 use Rattle.gf_field.specs.QuotientLaws.{EndsAt, AllBelow}
 use Rattle.gf_field.specs.RingLaws.{mul_zero, zero_mul}
@@ -203,3 +203,8 @@ module _ (n : ℕ) (mul : ℕ → ℕ → ℕ) (ring : IsRing n mul) (field : Ha
       prime_at a b zero j da db hi hj t = absurd (omega arith)
       prime_at a b (suc i) zero da db hi hj t = absurd (omega arith)
       prime_at a b (suc i) (suc j) da db hi hj t = at a b i j da db t
+
+pub HasQuotientFields-from_field : (n : ℕ) (mul : ℕ → ℕ → ℕ) → IsRing n mul → HasNoZeroDivisors n mul → HasQuotientFields n mul
+HasQuotientFields-from_field n mul ring field zero g some monic = absurd (omega arith)
+HasQuotientFields-from_field n mul ring field (suc e) g some monic =
+    (IsIrreducible-from_field n mul ring field e g monic, HasNoZeroDivisors-from_irreducible n mul ring field e g monic)

@@ -1,6 +1,7 @@
 pub mod Ring
 pub mod Field
 pub mod Bit
+pub mod Element
 pub mod Polynomial
 pub mod Modulus
 pub mod Quotient

@@ -2,7 +2,8 @@
 -- by functions that give the coefficients.
 use Rattle.std.specs.Prelude.{◌≡◌, ℕ, zero, suc, pred, ◌+◌, ◌*◌, ◌%◌, ◌^◌, ◌<◌, ◌≤◌, ◌↔◌, bit_xor}
 use Rattle.gf_field.specs.Ring.{IsRing}
-use Rattle.gf_field.specs.Polynomial.{coefficient, IsMonic, IsProduct}
+use Rattle.gf_field.specs.Field.{HasNoZeroDivisors}
+use Rattle.gf_field.specs.Polynomial.{coefficient, IsMonic, IsProduct, IsIrreducible}
 
 -- 0, as a polynomial
 abbrev pub none : ℕ → ℕ
@@ -59,3 +60,8 @@ HasOnlyProduct n mul =
 abbrev pub HasQuotientRings : ℕ → (ℕ → ℕ → ℕ) → Type 0
 HasQuotientRings n mul =
     (d g : ℕ) → 1 ≤ d → n * d ≤ 64 → IsMonic n d g → IsRing (n * d) (product n d mul g)
+
+-- the quotient by a monic polynomial is a field exactly where the polynomial is irreducible
+abbrev pub HasQuotientFields : ℕ → (ℕ → ℕ → ℕ) → Type 0
+HasQuotientFields n mul =
+    (d g : ℕ) → 1 ≤ d → IsMonic n d g → HasNoZeroDivisors (n * d) (product n d mul g) ↔ IsIrreducible n mul g

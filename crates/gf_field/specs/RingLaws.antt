@@ -20,6 +20,10 @@ module _ (n : ℕ) (mul : ℕ → ℕ → ℕ) (ring : IsRing n mul) where
   pub mul_left_comm : (x y a : ℕ) → mul x (mul y a) ≡ mul y (mul x a)
   mul_left_comm x y a = sym (ring.assoc x y a) ∙ ap (λ z. mul z a) (ring.comm x y) ∙ ring.assoc y x a
 
+  -- the square of a product
+  pub product_cross : (a b : ℕ) → mul (mul a b) (mul a b) ≡ mul (mul a a) (mul b b)
+  product_cross a b = ring.assoc a b (mul a b) ∙ ap (mul a) (mul_left_comm b a b) ∙ sym (ring.assoc a a (mul b b))
+
   -- squaring is additive
   pub square-xor : (a b : ℕ) → mul (bit_xor a b) (bit_xor a b) ≡ bit_xor (mul a a) (mul b b)
   square-xor a b =

@@ -34,6 +34,6 @@ HasRootsUpToDegree k mul =
 pub record HasFewRoots (k : ℕ) (mul : ℕ → ℕ → ℕ) : Type 0 where
   pub zeros : (cs : List ℕ) → length cs ≤ 2 ^ k → AllElements k cs → ((x : ℕ) → x < 2 ^ k → value mul cs x ≡ 0) → AllZero cs
 
--- each element is its own power by the number of elements (theorem 2.4)
+-- each element is its own power by the number of elements (chapter 2, lemma 2.3)
 abbrev pub IsOwnPower : ℕ → (ℕ → ℕ → ℕ) → Type 0
 IsOwnPower k mul = (a : ℕ) → a < 2 ^ k → power mul a (2 ^ k) ≡ a

@@ -4,13 +4,14 @@ use Rattle.std.proofs.Math.ListN.{length-replicate}
 use Rattle.std.specs.Prelude.{bit_xor}
 use Rattle.std.specs.Int.Bits.{xor_self, xor_lt, xor_zero_l, xor_zero_r, xor_assoc, xor_comm}
 use Rattle.gf_field.specs.XorLaws.{xor_cross}
+use Rattle.gf_field.specs.Polynomial.{sum_of_first}
 use Rattle.gf_field.specs.Ring.{IsRing}
 use Rattle.gf_field.specs.Field.{HasNoZeroDivisors}
 use Rattle.gf_field.specs.FieldLaws.{IsFieldBySquares-from}
 use Rattle.gf_field.specs.Power.{power}
 use Rattle.gf_field.specs.PowerLaws.{power-add, power_below, one_below, power-one}
 use Rattle.gf_field.specs.FermatLaws.{power_same}
-use Rattle.gf_field.specs.RingLaws.{mul_zero, square-xor}
+use Rattle.gf_field.specs.RingLaws.{mul_zero, square-xor, product_cross}
 use Rattle.gf_field.specs.PigeonholeLaws.{FoundAt, find}
 use Rattle.gf_field.specs.Roots.{value, AllZero, AllElements}
 use Rattle.gf_field.specs.RootsLaws.{all_zero, upto, upto_length, elements_are_roots, AllZero-last}
@@ -46,6 +47,11 @@ pub trace_next : (mul : ℕ → ℕ → ℕ) (a j s t r : ℕ) → s ≡ frobeni
 unfolding trace
 trace_next mul a j s t r e h is = rw add-one (is ∙ ap₂ bit_xor h e)
 
+pub trace_is_sum : (mul : ℕ → ℕ → ℕ) (k a : ℕ) → trace mul k a ≡ sum_of_first k (λ j. frobenius mul j a)
+unfolding trace
+trace_is_sum mul zero a = refl
+trace_is_sum mul (suc k) a = ap (λ x. bit_xor x (frobenius mul k a)) (trace_is_sum mul k a)
+
 module _ (k : ℕ) (mul : ℕ → ℕ → ℕ) (ring : IsRing k mul) where
   pub frobenius-xor : (j a b : ℕ) → frobenius mul j (bit_xor a b) ≡ bit_xor (frobenius mul j a) (frobenius mul j b)
   unfolding frobenius
@@ -56,6 +62,12 @@ module _ (k : ℕ) (mul : ℕ → ℕ → ℕ) (ring : IsRing k mul) where
   unfolding trace
   trace-xor zero a b = sym (xor_self 0)
   trace-xor (suc j) a b = ap₂ bit_xor (trace-xor j a b) (frobenius-xor j a b) ∙ xor_cross (trace mul j a) (trace mul j b) (frobenius mul j a) (frobenius mul j b)
+
+  -- squaring keeps products
+  pub frobenius-mul : (j a b : ℕ) → frobenius mul j (mul a b) ≡ mul (frobenius mul j a) (frobenius mul j b)
+  unfolding frobenius
+  frobenius-mul zero a b = refl
+  frobenius-mul (suc j) a b = ap (λ x. mul x x) (frobenius-mul j a b) ∙ product_cross k mul ring (frobenius mul j a) (frobenius mul j b)
 
   pub frobenius-power : (j a : ℕ) → a < 2 ^ k → frobenius mul j a ≡ power mul a (2 ^ j)
   unfolding frobenius

@@ -1,12 +1,16 @@
 //! Laws of rings and fields, each on a function that does nothing.
 
-ghost use Rattle.std.specs.Prelude.{◌≡◌, ℕ, bit_xor};
-ghost use Rattle.gf_field.specs.Polynomial.{IsSumOverPairs};
-ghost use Rattle.gf_field.specs.Quotient.{HasOnlyProduct, HasQuotientRings};
+ghost use Rattle.std.specs.Prelude.{◌≡◌, ◌↔◌, ℕ, bit_xor};
+ghost use Rattle.gf_field.specs.Bit.{bit_mul};
+ghost use Rattle.gf_field.specs.Field.{HasNoZeroDivisors};
+ghost use Rattle.gf_field.specs.Polynomial.{IsIrreducible, IsSumOverPairs};
+ghost use Rattle.gf_field.specs.Quotient.{HasOnlyProduct, HasQuotientFields, HasQuotientRings, product as quotient_product};
+ghost use Rattle.gf_field.specs.Ring2k.{degree_of, modulus_of};
 ghost use Rattle.gf_field.specs.Roots.{HasFewRoots, HasRootsUpToDegree, IsOwnPower};
 ghost use Rattle.gf_field.specs.Trace.{IsTrace};
 
 use super::fields::Field;
+use super::ring_2k::Ring2k;
 use super::rings::Ring;
 
 /// Coefficient i of a product of polynomials is the sum of `f_j * g_(i - j)` for j from 0 to i.
@@ -22,6 +26,16 @@ pub fn only_product<R: Ring>(_ring: &R)
 /// The quotient by a monic polynomial is a commutative ring.
 pub fn quotient_rings<R: Ring>(_ring: &R)
     ensures { HasQuotientRings (R.degree _ring.now) (R.product _ring.now) }
+{}
+
+/// The quotient by a monic polynomial over a field has no zero divisors exactly where the polynomial is irreducible.
+pub fn quotient_fields<F: Field>(_field: &F)
+    ensures { HasQuotientFields (F.degree _field.now) (F.product _field.now) }
+{}
+
+/// A `Ring2k` has no zero divisors exactly where its modulus is irreducible over 0 and 1.
+pub fn irreducible_modulus(_ring: &Ring2k)
+    ensures { HasNoZeroDivisors (degree_of _ring.now) (quotient_product 1 (degree_of _ring.now) bit_mul (modulus_of _ring.now)) ↔ IsIrreducible 1 bit_mul (modulus_of _ring.now) }
 {}
 
 /// In a field of `2^k` elements each element is its own power by `2^k`.

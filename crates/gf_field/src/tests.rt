@@ -101,3 +101,12 @@ fn squares(rt: HostRuntime) {
     assert_eq!(rt; frobenius(&ring, 0x53, 8), 0x53);
     assert!(rt; !is_element(&ring, 0x100));
 }
+
+#[test]
+fn elements(rt: HostRuntime) {
+    let ring = ring(&rt, 0x7);
+    assert_eq!(rt; first_outside(&ring, &[1, 3, 4, 5]), Some(2));
+    assert_eq!(rt; first_outside(&ring, &[1, 3]), None);
+    assert_eq!(rt; filled(&[1, 3])[1], 3);
+    assert_eq!(rt; filled(&[1, 3])[2], 0);
+}

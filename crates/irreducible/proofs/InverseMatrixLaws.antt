@@ -1,7 +1,6 @@
 -- The inverse that an elimination of independent rows gives.
-use Rattle.std.proofs.Common.{◌≡◌, ℕ, suc, refl, sym, ◌∙◌, ap, ap₂, ◌<◌, ◌≤◌, ◌^◌, ◌%◌, ◌*◌, inl, inr, arith, pow_pos, pow-suc, List, length, get_or, subst, take, lt_of_lt_of_le}
+use Rattle.std.proofs.Common.{◌≡◌, ℕ, sym, ◌∙◌, ap, ◌<◌, ◌^◌, ◌%◌, inl, inr, arith, pow_pos, pow-suc, List, length, get_or}
 use Rattle.std.specs.Prelude.{bit_xor, slice_index}
-use Rattle.std.specs.Int.{bit_at}
 use Rattle.std.specs.Int.Bits.{xor_self, xor_lt, xor_zero_r}
 use Rattle.std.proofs.lemmas.Bool.{cases_lt}
 use Rattle.std.proofs.lemmas.Nat.{pow_below}
@@ -9,7 +8,7 @@ use Rattle.std.proofs.lemmas.Nat.Bits.{same_from_bits, bit_at_above}
 use native.Mathlib.Nat.{mod-eq_of_lt}
 use Rattle.gf_field.specs.XorLaws.{xor_same, xor_cancel}
 use Rattle.gf_field.specs.PigeonholeLaws.{FoundAt}
-use Rattle.irreducible.specs.Span.{combination, InSpan, IsIndependent, IsRank}
+use Rattle.irreducible.specs.Span.{combination, InSpan, IsIndependent}
 use Rattle.irreducible.specs.SpanLaws.{span_all, combination-xor, combination_below, reaches, IsIndependent-from_rank, rank-from_independent}
 use Rattle.irreducible.specs.AdditiveLaws.{IsAdditive-self, IsAdditive-combination, additive-combination}
 use Rattle.irreducible.specs.Pivots.{IsTop, IsReduced, IsRankSoFar, AreChoices}

@@ -1,23 +1,18 @@
 -- The steps of the code on matrices, and the inverse.
-use Rattle.std.proofs.Common.{◌≡◌, ◌≢◌, ℕ, zero, suc, refl, sym, ◌∙◌, ap, ap₂, ◌<◌, ◌≤◌, ◌^◌, ◌+◌, ◌*◌, ◌/◌, ◌%◌, ◌⊎◌, inl, inr, arith, pow_pos, pow-suc, pow_mono, List, [], ◌∷◌, ◌++◌, length, get_or, set, take, drop, lt_of_lt_of_le, get_or-set_same, get_or-set_other, one-mul, zero-mul, add-one, mod-lt, shr-shr, drop-cons, subst}
+use Rattle.std.proofs.Common.{◌≡◌, ◌≢◌, ℕ, suc, refl, sym, ◌∙◌, ap, ap₂, ◌<◌, ◌≤◌, ◌^◌, ◌+◌, ◌*◌, ◌/◌, ◌%◌, inl, inr, arith, pow_pos, List, length, get_or, set, drop, get_or-set_same, get_or-set_other, one-mul, zero-mul, add-one, shr-shr, drop-cons, subst}
 use Rattle.std.specs.Prelude.{bit_xor, bit_and, slice_index}
 use Rattle.std.specs.Int.{bit_at}
-use Rattle.std.specs.Int.Bits.{xor_self, xor_lt, xor_zero_l, xor_zero_r, xor_assoc}
-use Rattle.std.proofs.Math.Seq.{drop-length, take-length}
-use Rattle.std.proofs.lemmas.List.{take_more, take_more_set, get_or-take, length-take-le}
-use Rattle.std.proofs.lemmas.Bool.{cases_eq, cases_lt}
+use Rattle.std.specs.Int.Bits.{xor_lt, xor_zero_l, xor_zero_r, xor_assoc}
+use Rattle.std.proofs.Math.Seq.{drop-length}
+use Rattle.std.proofs.lemmas.Bool.{cases_eq}
 use Rattle.std.proofs.lemmas.Nat.{pow_below}
-use Rattle.std.proofs.lemmas.Nat.Bits.{shr_and_one, same_from_bits, bit_at_above}
-use native.Mathlib.Nat.{mod-eq_of_lt}
+use Rattle.std.proofs.lemmas.Nat.Bits.{shr_and_one}
 use Rattle.gf_field.specs.BitLaws.{bit_cases}
-use Rattle.gf_field.specs.XorLaws.{xor_same, xor_cancel}
-use Rattle.gf_field.specs.PigeonholeLaws.{FoundAt}
-use Rattle.irreducible.specs.Span.{combination, InSpan, IsIndependent, IsRank}
-use Rattle.irreducible.specs.SpanLaws.{combination-xor, combination_zero, combination_unit, combination_below, combination-short, reaches, span_item, IsIndependent-from_rank}
-use Rattle.irreducible.specs.AdditiveLaws.{IsAdditive, IsAdditive-self, IsAdditive-combination, additive-combination}
-use Rattle.irreducible.specs.Pivots.{IsTop, ByTop, IsReduced, IsRankSoFar, AreChoices}
-use Rattle.irreducible.specs.Matrix.{IsSquare, AreInverse}
-use Rattle.irreducible.proofs.PivotLaws.{rank_end}
+use Rattle.gf_field.specs.XorLaws.{xor_cancel}
+use Rattle.irreducible.specs.Span.{combination}
+use Rattle.irreducible.specs.SpanLaws.{combination-xor, combination_zero, combination_unit, combination_below, combination-short}
+use Rattle.irreducible.specs.AdditiveLaws.{IsAdditive-combination, additive-combination}
+use Rattle.irreducible.specs.Pivots.{IsReduced, AreChoices}
 
 -- ---- the sum of chosen rows
 abbrev pub Rest : List ℕ → ℕ → ℕ → ℕ → Type 0
@@ -86,16 +81,6 @@ module _ (rows sums choices : List ℕ) (i left used t : ℕ) (a : AreChoices ro
     where
       other : (xs : List ℕ) (s : ℕ) → s ≢ t → (v : ℕ) → get_or (set xs t v) s 0 ≡ get_or xs s 0
       other xs s ne v = rw get_or-set_other refl
-
--- ---- copies
-pub copied_more : (all rows : List ℕ) (i : ℕ) → i < length all → i < length rows → take i all ≡ take i rows → take (i + 1) (set all i (get_or rows i 0)) ≡ take (i + 1) rows
-copied_more all rows i h l e = take_more_set all i (get_or rows i 0) h ∙ ap (λ xs. xs ++ get_or rows i 0 ∷ []) e ∙ sym (take_more rows i 0 l)
-
-pub copied_all : (all rows : List ℕ) (i : ℕ) → length rows ≤ i → i ≤ length rows → take i all ≡ take i rows → take (length rows) all ≡ rows
-copied_all all rows i low high e = ap (λ n. take n all) whole ∙ e ∙ ap (λ n. take n rows) (sym whole) ∙ take-length rows
-  where
-    whole : length rows ≡ i
-    whole = omega arith
 
 -- what holds of each entry below i, and of the one that is written at i
 pub set_more : (P : ℕ → ℕ → Type 0) (xs : List ℕ) (i v : ℕ) → i < length xs → ((j : ℕ) → j < i → P j (get_or xs j 0)) → P i v → (j : ℕ) → j < i + 1 → P j (get_or (set xs i v) j 0)

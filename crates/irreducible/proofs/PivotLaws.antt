@@ -1,5 +1,5 @@
 -- The steps of an elimination.
-use Rattle.std.proofs.Common.{◌≡◌, ◌≢◌, ℕ, zero, suc, refl, sym, ◌∙◌, ap, ap₂, ◌<◌, ◌≤◌, ◌^◌, ◌+◌, ◌*◌, ◌/◌, ◌%◌, ◌⊎◌, inl, inr, arith, pow_pos, pow-suc, pow_mono, List, [], ◌∷◌, length, get_or, set, lt_of_lt_of_le, get_or-set_same, get_or-set_other, not-suc-le-zero, one-mul, zero-mul, replicate}
+use Rattle.std.proofs.Common.{◌≡◌, ◌≢◌, ℕ, zero, suc, refl, sym, ◌∙◌, ap, ap₂, ◌<◌, ◌≤◌, ◌^◌, ◌+◌, ◌*◌, ◌/◌, ◌%◌, ◌⊎◌, inl, inr, arith, pow_pos, pow-suc, pow_mono, List, [], ◌∷◌, length, get_or, set, lt_of_lt_of_le, get_or-set_same, get_or-set_other, not-suc-le-zero, replicate}
 use Rattle.std.specs.Prelude.{bit_xor, slice_index}
 use Rattle.std.specs.Int.{bit_at}
 use Rattle.std.specs.Int.Bits.{xor_self, xor_lt, xor_shr, xor_zero_l, xor_zero_r, xor_assoc, xor_comm}
@@ -7,10 +7,11 @@ use Rattle.std.proofs.lemmas.Bool.{cases_eq, cases_lt}
 use Rattle.std.proofs.lemmas.Nat.{shr_split}
 use Rattle.std.proofs.lemmas.Nat.Bits.{bit_at_xor, bit_at_above}
 use native.Mathlib.Nat.{div-eq_of_lt-le, div-eq_of_lt}
+use Rattle.gf_field.proofs.Copies.{zeros}
 use Rattle.gf_field.specs.XorLaws.{xor_cancel}
-use Rattle.irreducible.specs.Span.{combination, InSpan, IsIndependent, IsRank}
+use Rattle.irreducible.specs.Span.{combination, InSpan, IsRank}
 use Rattle.irreducible.specs.SpanLaws.{combination_zero, combination-xor, combination_unit, span_zero, span_xor, span_first, span_rest, span_split, IsSplit, independent_more, independent_nil, span_item, span_all, span_trans}
-use Rattle.irreducible.specs.Pivots.{IsTop, ByTop, IsReduced, IsRankSoFar, AreChoices}
+use Rattle.irreducible.specs.Pivots.{IsTop, ByTop, IsReduced, IsRankSoFar}
 
 -- ---- highest bits
 top_bit : (t w : ℕ) → IsTop t w → bit_at w t ≡ 1
@@ -178,11 +179,6 @@ module _ (rows pivots : List ℕ) (i r left used t : ℕ) (k : IsRankSoFar rows 
 
 pub rank_end : (rows pivots : List ℕ) (i r : ℕ) → IsRankSoFar rows pivots i r → length rows ≤ i → IsRank rows r
 rank_end rows pivots i r k le = record { basis = k.basis; count = k.count; independent = k.independent; inside = k.inside; spans = span_all rows k.basis (λ j h. k.spans j (lt_of_lt_of_le h le)) }
-
-pub zeros : (n t : ℕ) → get_or (replicate {A = ℕ} n 0) t 0 ≡ 0
-zeros zero t = refl
-zeros (suc n) zero = refl
-zeros (suc n) (suc t) = zeros n t
 
 pub rank_none : (rows : List ℕ) → IsRankSoFar rows (replicate 64 0) 0 0
 rank_none rows = rank_start rows (replicate {A = ℕ} 64 0) (zeros 64)

@@ -1,9 +1,9 @@
 -- Squares as sums of rows.
-use Rattle.std.proofs.Common.{◌≡◌, ℕ, zero, suc, sym, ◌∙◌, ap, ap₂, ◌<◌, ◌≤◌, ◌^◌, ◌+◌, ◌*◌, ◌-◌, ◌/◌, ◌%◌, ◌⊎◌, inl, inr, arith, pow_pos, pow-suc, List, [], ◌∷◌, length, get_or, one-mul, zero-mul, add-one, add-zero, take, drop, length-take, length-drop, get_or-take, get_or-drop, one-add}
+use Rattle.std.proofs.Common.{◌≡◌, ℕ, zero, suc, sym, ◌∙◌, ap, ◌<◌, ◌≤◌, ◌^◌, ◌*◌, ◌-◌, ◌/◌, ◌%◌, ◌⊎◌, inl, inr, arith, pow-suc, List, length, get_or, take, drop, length-take, length-drop, get_or-take, get_or-drop, one-add}
 use Rattle.std.specs.Prelude.{bit_xor}
-use Rattle.std.specs.Int.Bits.{xor_self, xor_zero_l, xor_zero_r, xor_assoc, xor_comm, xor_block, xor_shifted}
-use Rattle.std.proofs.lemmas.Nat.{mod-pow-add, shr_split}
-use native.Mathlib.Nat.{mod-eq_of_lt, mod-one}
+use Rattle.std.specs.Int.Bits.{xor_self, xor_zero_r, xor_shifted}
+use Rattle.std.proofs.lemmas.Nat.{shr_split}
+use native.Mathlib.Nat.{mod-eq_of_lt}
 use Rattle.gf_field.specs.XorLaws.{xor_same, xor_cross}
 use Rattle.gf_field.specs.BitLaws.{bit_cases}
 use Rattle.gf_field.specs.Ring.{IsRing}

@@ -4,3 +4,4 @@ pub mod BitMatrix
 pub mod Pivots
 pub mod SpanLaws
 pub mod AdditiveLaws
+pub mod Proved

@@ -5,6 +5,7 @@ ghost use Rattle.irreducible.specs.Span.{combination, IsIndependent, IsRank};
 ghost use Rattle.irreducible.specs.Matrix.{IsSquare, AreInverse};
 
 use super::elimination::{combined, eliminated, rank_of, reduced};
+use gf_field::filled;
 
 /// A square matrix over 0 and 1 of at most 64 rows. Bit j of a row is its entry in column j.
 #[derive(Drop)]
@@ -24,12 +25,8 @@ impl BitMatrix {
         requires square { IsSquare rows.now }
         ensures { rows_of result ≡ rows.now }
     {
-        let mut all = [0; 64];
-        for (i, row) in rows.iter().enumerate() {
-            all[i] = *row;
-        }
         BitMatrix {
-            rows: all,
+            rows: filled(rows),
             count: rows.len() as u32,
         }
     }

@@ -5,6 +5,9 @@
 mod bit_matrix;
 mod elimination;
 mod proved_rings;
+#[cfg(test)]
+mod tests;
 
 pub use bit_matrix::BitMatrix;
+pub use elimination::combined;
 pub use proved_rings::Proved;

@@ -30,10 +30,12 @@ fn has_no_zero_divisors<R: Ring>(ring: &R) -> bool
 }
 
 impl<R: Ring> Proved<R> {
+    ghost use Rattle.irreducible.specs.Proved.{ring_of};
+
     /// The ring as a field; where it is none, the ring is handed back.
     pub fn new(ring: R) -> Result<Proved<R>, R>
         ensures accepted { IsOk result ↔ HasNoZeroDivisors (R.degree ring) (R.product ring) }
-        ensures kept { IfOk result (λ field. field.ring ≡ ring) }
+        ensures kept { IfOk result (λ field. ring_of field ≡ ring) }
         ensures back { IfErr result (λ same. same ≡ ring) }
     {
         if has_no_zero_divisors(&ring) {
@@ -45,18 +47,20 @@ impl<R: Ring> Proved<R> {
 
     /// The ring that the field was made of.
     pub fn ring(&self) -> &R
-        ensures { result.now ≡ self.now.ring }
+        ensures { result.now ≡ ring_of self.now }
     {
         &self.ring
     }
 }
 
 impl<R: Ring> Ring for Proved<R> {
-    ghost degree = { λ field. R.degree field.ring };
+    ghost use Rattle.irreducible.specs.Proved.{ring_of};
 
-    ghost product = { λ field. R.product field.ring };
+    ghost degree = { λ field. R.degree (ring_of field) };
 
-    ghost laws = { λ field. R.laws field.ring };
+    ghost product = { λ field. R.product (ring_of field) };
+
+    ghost laws = { λ field. R.laws (ring_of field) };
 
     fn k(&self) -> u32 {
         self.ring.k()

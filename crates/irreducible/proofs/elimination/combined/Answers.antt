@@ -1,5 +1,5 @@
 use Rattle.std.proofs.Common.{arith}
-use Rattle.irreducible.proofs.MatrixLaws.{rest_one, rest_zero, rest_end}
+use Rattle.irreducible.proofs.MatrixLaws.{rest_one, rest_zero}
 use Rattle.irreducible.proofs.elimination.combined.Goals as goal
 use Rattle.irreducible.proofs.elimination.combined.Goals.{then-choice-i-eq1, else-choice-i-eq1}
 

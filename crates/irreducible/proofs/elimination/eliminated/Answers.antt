@@ -1,9 +1,8 @@
 use Rattle.std.proofs.Common.{ℕ, ◌∙◌, arith, pow-suc, add-one, length-set, replicate}
-use Rattle.std.specs.Prelude.{bit_xor}
 use Rattle.std.proofs.Math.ListN.{length-replicate}
 use Rattle.std.proofs.lemmas.Nat.{one_shl}
-use Rattle.irreducible.specs.Span.{combination}
-use Rattle.irreducible.proofs.PivotLaws.{rank_none, rank_kept, rank_more, zeros}
+use Rattle.gf_field.proofs.Copies.{zeros}
+use Rattle.irreducible.proofs.PivotLaws.{rank_none, rank_kept, rank_more}
 use Rattle.irreducible.proofs.MatrixLaws.{choices_start, choices_more}
 use Rattle.irreducible.proofs.elimination.eliminated.Goals as goal
 use Rattle.irreducible.proofs.elimination.eliminated.Goals.{then-step-ne0, else-step-ne0}

@@ -1,5 +1,4 @@
 use Rattle.std.proofs.Common.{◌≡◌, suc, ◌-◌, ◌∙◌, sym, subst, arith}
-use Rattle.std.specs.Prelude.{bit_xor, slice_index}
 use Rattle.std.proofs.lemmas.Nat.{one_shl}
 use Rattle.std.proofs.lemmas.Nat.Bits.{shr_and_one}
 use Rattle.irreducible.specs.Pivots.{IsReduced}

@@ -1,4 +1,4 @@
-use Rattle.std.proofs.Common.{◌≡◌, ℕ, ◌<◌, ◌^◌, length, get_or, take}
+use Rattle.std.proofs.Common.{◌≡◌, ℕ, ◌<◌, ◌^◌, length, get_or}
 use Rattle.irreducible.specs.Span.{combination}
 use Rattle.irreducible.specs.BitMatrix.{rows_of}
 use Rattle.irreducible.proofs.bit_matrix.BitMatrix.inverse.Given as goal

@@ -1,0 +1,4 @@
+pub mod TraceWordLaws
+pub mod BasisLaws
+pub mod CodeLaws
+pub mod BasisFaultLaws

@@ -1,0 +1,18 @@
+use Rattle.std.proofs.Common.{◌≡◌, suc, ◌-◌, ◌∙◌, sym, ap, arith, drop}
+use Rattle.gf_field.specs.Trace.{trace}
+use Rattle.gf_basis.specs.TraceWord.{trace_word}
+use Rattle.gf_basis.proofs.TraceWordLaws.{trace_word_below}
+use Rattle.gf_basis.proofs.CodeLaws.{traces_step}
+use Rattle.gf_basis.proofs.duals.traces.Goals as goal
+
+pub loop-i-preserved : goal.loop-i-preserved
+loop-i-preserved g c =
+    let same : suc (c.loop-i.i - 1) ≡ c.loop-i.i = omega arith in
+    traces_step _ _ (g.met.F.Ring.laws c.args.field.now) (g.met.F.Field.no_zero_divisors c.args.field.now) c.args.elements.now c.args.x (c.loop-i.i - 1) c.loop-i.word c.trace.result c.requires.few (omega arith)
+    (c.loop-i.invariant ∙ ap (λ i. trace_word (g.F.Ring.product c.args.field.now) (g.F.Ring.degree c.args.field.now) (drop i c.args.elements.now) c.args.x) (sym same))
+    (c.trace.ensures.sum ∙ ap (trace (g.F.Ring.product c.args.field.now) (g.F.Ring.degree c.args.field.now)) c.mul.ensures.product) c.trace.ensures.bit
+
+pub returns-clause-short : goal.returns-clause-short
+returns-clause-short g c =
+    let done : c.loop-i.i ≡ 0 = omega arith in
+    rw (c.loop-i.invariant, done) (trace_word_below _ _ (g.met.F.Ring.laws c.args.field.now) (g.met.F.Field.no_zero_divisors c.args.field.now) c.args.elements.now c.args.x)

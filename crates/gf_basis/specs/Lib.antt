@@ -1,0 +1,5 @@
+pub mod Basis
+pub mod Dual
+pub mod BasisParts
+pub mod BasisFault
+pub mod TraceWord

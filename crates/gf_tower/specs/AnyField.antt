@@ -1,0 +1,12 @@
+-- What an `AnyField` is made of.
+use Rattle.std.specs.Prelude.{◌≡◌, ℕ, List, []}
+use Rattle.gf_field.specs.Ring2k.{modulus_of}
+use Rattle.irreducible.specs.Proved.{ring_of}
+use Rattle.gf_tower.specs.TowerParts.{base_of, coefficients_of}
+use Rattle.gf_tower.specs.declared.any_field.AnyField.{AnyField}
+use Rattle.gf_tower.specs.declared.any_field.AnyField.TheVariants.{Base, Tower}
+
+-- its modulus and the coefficients of its tower step, none where it has no step
+abbrev pub IsMadeOf : AnyField → ℕ → List ℕ → Type 0
+IsMadeOf (Base field) g cs = (modulus_of (ring_of field) ≡ g) × (cs ≡ [])
+IsMadeOf (Tower field) g cs = (modulus_of (ring_of (base_of (ring_of field))) ≡ g) × (coefficients_of (ring_of field) ≡ cs)

@@ -1,0 +1,9 @@
+pub mod Tower
+pub mod TowerFault
+pub mod TowerParts
+pub mod FieldName
+pub mod FieldFault
+pub mod AnyField
+pub mod Digits
+pub mod DigitsLaws
+pub mod TowerLaws

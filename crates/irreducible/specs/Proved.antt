@@ -1,0 +1,7 @@
+-- What a `Proved` ring is made of.
+use Rattle.gf_field.specs.declared.rings.Ring.{Ghosts}
+use Rattle.irreducible.specs.declared.proved_rings.Proved.{Proved}
+
+-- the ring
+abbrev pub ring_of : {R : Type 0} {G : Ghosts R} → Proved R G → R
+ring_of field = field.ring
