@@ -19,3 +19,9 @@ pub mod Texts
 pub mod Scans
 pub mod Exponents
 pub mod Parts
+pub mod Runs
+pub mod Spelled
+pub mod Scanned
+pub mod Chain
+pub mod ReadBack
+pub mod TextLaws

@@ -174,7 +174,7 @@ module _ {degree : ℕ} {mul : ℕ → ℕ → ℕ} (f : IsField degree mul) whe
 
 -- ---- in bits alone, where nothing is asked of the powers
 
-zeros_same : (xs ys : List ℕ) → IsZeros xs → IsZeros ys → length xs ≡ length ys → xs ≡ ys
+pub zeros_same : (xs ys : List ℕ) → IsZeros xs → IsZeros ys → length xs ≡ length ys → xs ≡ ys
 zeros_same [] [] p q e = refl
 zeros_same [] (y ∷ ys) p q e = absurd (omega arith)
 zeros_same (x ∷ xs) [] p q e = absurd (omega arith)

@@ -13,3 +13,4 @@ pub mod Parts
 pub mod Scan
 pub mod Reading
 pub mod ReadingState
+pub mod TextLaw

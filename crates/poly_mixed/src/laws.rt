@@ -1,5 +1,6 @@
 //! Laws of polynomials: functions that do nothing, whose contracts are the laws.
 ghost use Rattle.poly_mixed.specs.Order.{IsTextOrder};
+ghost use Rattle.poly_mixed.specs.TextLaw.{ReadsBack, OneText};
 ghost use Rattle.poly_mixed.specs.Uniqueness.{Unique, UniqueInBits, OneSize};
 
 use gf_field::Field;
@@ -22,4 +23,14 @@ pub fn one_size<F: Field>(_field: &F)
 /// The order of terms in a text is falling lexicographic order of the exponents of all variables.
 pub fn text_order()
     ensures { IsTextOrder }
+{}
+
+/// The text of a polynomial is read back as the polynomial.
+pub fn text_reads_back()
+    ensures { ReadsBack }
+{}
+
+/// Equal texts with the same labels are of equal polynomials.
+pub fn one_text()
+    ensures { OneText }
 {}

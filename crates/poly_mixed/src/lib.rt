@@ -16,12 +16,14 @@ mod steps;
 mod table;
 #[cfg(test)]
 mod tests;
+#[cfg(test)]
+mod text_tests;
 mod variables;
 mod write;
 
 pub use fault::PolyFault;
 pub use labels::Labels;
-pub use laws::{one_size, text_order, unique, unique_in_bits};
+pub use laws::{one_size, one_text, text_order, text_reads_back, unique, unique_in_bits};
 pub use mono::Mono;
 pub use poly::{Poly, Term};
 pub use read::read_poly;

@@ -1,5 +1,5 @@
 //! Recorders of the steps that an engine takes, each a generator and its multiplier.
-ghost use Rattle.std.specs.Prelude.{◌≡◌, List, [], ◌∷◌, Option, None, OnOk};
+ghost use Rattle.std.specs.Prelude.{◌≡◌, List, [], ◌∷◌, Option, None, IsOk, OnOk};
 ghost use Rattle.poly_mixed.specs.Steps.{Step, Tells};
 
 use crate::Poly;
@@ -28,7 +28,10 @@ pub struct NoSteps;
 impl Steps for NoSteps {
     ghost steps = { λ _. None };
 
-    fn step(&mut self, _generator: Generator, _multiplier: &Poly) -> Result<(), AllocError> {
+    fn step(&mut self, _generator: Generator, _multiplier: &Poly) -> Result<(), AllocError>
+        ensures recorded { OnOk result (Tells None None ((_generator, _multiplier.now.terms) ∷ [])) }
+        ensures ok { IsOk result }
+    {
         Ok(())
     }
 }

@@ -1,0 +1,25 @@
+-- That a text is of one polynomial: it is read back as the polynomial that was written.
+use Rattle.std.specs.Prelude.{◌≡◌, ℕ, ◌+◌, ◌^◌, ◌≤◌, length, drop, Ok}
+use Rattle.std.specs.List.{AllByRecursion}
+use Rattle.poly_mixed.specs.Labels.{Labelling, AreLabels, bit_count}
+use Rattle.poly_mixed.specs.Polynomial.{Terms, IsReduced}
+use Rattle.poly_mixed.specs.Reading.{reading}
+use Rattle.poly_mixed.specs.Text.{text, HasNames}
+
+-- a reduced polynomial in the words and ranks that labels name; a rank is below 2^32
+pub record IsWritten (l : Labelling) (k : ℕ) (ts : Terms) : Type 0 where
+  pub labels : AreLabels l
+  pub some : 1 ≤ k
+  pub small : k ≤ 64
+  pub few : bit_count l.words + length l.nets ≤ 2 ^ 32
+  pub reduced : IsReduced k ts
+  pub ranks : HasNames l ts
+  pub words : AllByRecursion (λ t. AllByRecursion (λ e. e ≡ 0) (drop (length l.words) t.0.exponents)) ts
+
+-- the text of a polynomial is read as the polynomial
+abbrev pub ReadsBack : Type 0
+ReadsBack = (l : Labelling) (k : ℕ) (ts : Terms) → IsWritten l k ts → reading l k (text l ts) ≡ Ok ts
+
+-- equal texts are of equal polynomials
+abbrev pub OneText : Type 0
+OneText = (l : Labelling) (k : ℕ) (ts us : Terms) → IsWritten l k ts → IsWritten l k us → text l ts ≡ text l us → ts ≡ us
