@@ -25,15 +25,15 @@ signature_text signature.NoOutput = codes "28: no output word"
 signature_text (signature.TwoOutputs line) = codes "28: second output word at line " ++ decimal line
 signature_text (signature.TooManyWords line) = codes "29: ninth word at line " ++ decimal line
 
--- bit i of word W is `W[i]`
-abbrev pub bit_text : List ℕ → ℕ → List ℕ
-bit_text word place = word ++ (codes "[" ++ (decimal place ++ codes "]"))
+-- `W[i]` for bit i of word W, and what stands behind it
+abbrev pub bit_text : List ℕ → ℕ → List ℕ → List ℕ
+bit_text word place rest = word ++ (codes "[" ++ (decimal place ++ (codes "]" ++ rest)))
 
 -- the number and the text of a fault of a binding
 abbrev pub binding_text : BindingFault → List ℕ
-binding_text (binding.NoSuchNet word place) = codes "39: no net for " ++ bit_text word place
-binding_text (binding.NotInput word place) = codes "39: " ++ (bit_text word place ++ codes " is no input")
-binding_text (binding.NotLatch word place) = codes "39: " ++ (bit_text word place ++ codes " is no latch")
+binding_text (binding.NoSuchNet word place) = codes "39: no net for " ++ bit_text word place (codes "")
+binding_text (binding.NotInput word place) = codes "39: " ++ bit_text word place (codes " is no input")
+binding_text (binding.NotLatch word place) = codes "39: " ++ bit_text word place (codes " is no latch")
 binding_text (binding.NetTwice label) = codes "39: net " ++ (label ++ codes " stands twice")
 binding_text (binding.Uncovered label) = codes "39: input " ++ (label ++ codes " is in no word")
 binding_text (binding.UnknownStart label) = codes "39: latch " ++ (label ++ codes " has no start")
@@ -46,7 +46,7 @@ netlist_text netlist.NoModel = codes "32: no model"
 netlist_text (netlist.ModelTwice line) = codes "32: model twice at line " ++ decimal line
 netlist_text (netlist.DrivenTwice label) = codes "34: net " ++ (label ++ codes " is driven twice")
 netlist_text (netlist.Undriven label) = codes "35: net " ++ (label ++ codes " is not driven")
-netlist_text (netlist.Loop count label) = codes "36: loop of " ++ (decimal count ++ (codes " nets through " ++ label))
+netlist_text (netlist.Loop count label) = (codes "36: loop of " ++ (decimal count ++ codes " nets through ")) ++ label
 netlist_text (netlist.TooWide line inputs) = codes "37: " ++ (decimal inputs ++ (codes " inputs at line " ++ decimal line))
 netlist_text netlist.TooManyNets = codes "38: too many nets"
 netlist_text netlist.TooManyGates = codes "38: too many gates"

@@ -1,5 +1,6 @@
 //! The lines of faults.
-ghost use Rattle.std.specs.Prelude.{◌≡◌, IfOk, string_bytes};
+ghost use Rattle.std.specs.Prelude.{◌≡◌, ◌++◌, IfOk, codes, string_bytes};
+ghost use Rattle.std.specs.Fmt.{decimal};
 ghost use Rattle.gf_abs.specs.Fault.{fault_line, signature_text, netlist_text, binding_text};
 
 use crate::fault::{BindingFault, Fault, NetlistFault, SignatureFault};
@@ -73,17 +74,12 @@ fn netlist_fault(alloc: Global, fault: &NetlistFault) -> Result<String, AllocErr
         NetlistFault::NoModel => format!(in alloc; "32: no model"),
         NetlistFault::ModelTwice { line } => format!(in alloc; "32: model twice at line {line}"),
         NetlistFault::DrivenTwice { label } => {
-            let label = label.as_str();
-            format!(in alloc; "34: net {label} is driven twice")
+            about(alloc, "34: net ", label.as_str(), " is driven twice")
         }
         NetlistFault::Undriven { label } => {
-            let label = label.as_str();
-            format!(in alloc; "35: net {label} is not driven")
+            about(alloc, "35: net ", label.as_str(), " is not driven")
         }
-        NetlistFault::Loop { count, label } => {
-            let label = label.as_str();
-            format!(in alloc; "36: loop of {count} nets through {label}")
-        }
+        NetlistFault::Loop { count, label } => loop_text(alloc, *count, label.as_str()),
         NetlistFault::TooWide { line, inputs } => {
             format!(in alloc; "37: {inputs} inputs at line {line}")
         }
@@ -111,16 +107,29 @@ fn binding_fault(alloc: Global, fault: &BindingFault) -> Result<String, AllocErr
             format!(in alloc; "39: {word}[{place}] is no latch")
         }
         BindingFault::NetTwice { label } => {
-            let label = label.as_str();
-            format!(in alloc; "39: net {label} stands twice")
+            about(alloc, "39: net ", label.as_str(), " stands twice")
         }
         BindingFault::Uncovered { label } => {
-            let label = label.as_str();
-            format!(in alloc; "39: input {label} is in no word")
+            about(alloc, "39: input ", label.as_str(), " is in no word")
         }
         BindingFault::UnknownStart { label } => {
-            let label = label.as_str();
-            format!(in alloc; "39: latch {label} has no start")
+            about(alloc, "39: latch ", label.as_str(), " has no start")
         }
     }
+}
+
+// A text about a net.
+fn about(alloc: Global, before: &str, label: &str, after: &str) -> Result<String, AllocError>
+    ensures { IfOk result (λ text. string_bytes text ≡ before.now ++ (label.now ++ after.now)) }
+{
+    format!(in alloc; "{before}{label}{after}")
+}
+
+// The text of a ring of so many gates.
+fn loop_text(alloc: Global, count: u64, label: &str) -> Result<String, AllocError>
+    ensures { IfOk result (λ text. string_bytes text ≡ (codes "36: loop of " ++ (decimal count ++ codes " nets through ")) ++ label.now) }
+{
+    let front = format!(in alloc; "36: loop of {count} nets through ")?;
+    let front = front.as_str();
+    format!(in alloc; "{front}{label}")
 }
