@@ -4,3 +4,4 @@ pub mod BasisLemmas
 pub mod WordLemmas
 pub mod ReaderLemmas
 pub mod SignatureLemmas
+pub mod BindLemmas

@@ -14,7 +14,7 @@ pub record IsBinding (binding : Binding) : Type 0 where
   pub some : 1 ≤ binding.k
   pub most : binding.k ≤ 64
   pub few : length binding.words ≤ 9
-  pub each : All (λ word. length word.nets.items ≡ binding.k) binding.words
+  pub each : All (λ word. length word.nets ≡ binding.k) binding.words
 
 -- words that can be bound: each has k nets, k is 1 to 64, and there are at most nine words, of which there is one
 pub record AreWords (k : ℕ) (words : List WordText) : Type 0 where

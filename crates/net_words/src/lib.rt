@@ -9,6 +9,7 @@ mod combinational;
 mod element;
 mod fault;
 mod lines;
+mod marks;
 mod reader;
 mod signature;
 #[cfg(test)]
