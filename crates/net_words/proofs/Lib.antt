@@ -5,3 +5,4 @@ pub mod WordLemmas
 pub mod ReaderLemmas
 pub mod SignatureLemmas
 pub mod BindLemmas
+pub mod BindDetermined
