@@ -6,3 +6,4 @@ pub mod ReaderLemmas
 pub mod SignatureLemmas
 pub mod BindLemmas
 pub mod BindDetermined
+pub mod SigDetermined
