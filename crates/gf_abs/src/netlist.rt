@@ -1,7 +1,8 @@
 //! The netlist of a job: its text, its net, and the binding of the signature's words.
-ghost use Rattle.std.specs.Prelude.{◌≡◌, ◌≤◌, ◌<◌, ℕ, length, All, IsTrue, ◌↔◌};
+ghost use Rattle.std.specs.Prelude.{◌≡◌, ◌≤◌, ◌<◌, ℕ, length, All, IsTrue, ◌↔◌, filter};
 ghost use Rattle.net_core.specs.NetList.{nets};
 ghost use Rattle.net_words.specs.Binding.{AreWords};
+ghost use Rattle.net_words.specs.Signature.{is_output as is_output_word, input_count as count_inputs};
 ghost use Rattle.gf_abs.specs.Stop.{GivesBy};
 ghost use Rattle.gf_abs.specs.Answer.{NetlistTaken};
 ghost use Rattle.gf_abs.specs.Setting.{RefusesNetlist};
@@ -10,7 +11,7 @@ use crate::fault::{BindingFault, Fault, NetlistFault};
 use crate::stop::Stop;
 use net_blif::{BlifFault, FlatFault, flatten, read_blif};
 use net_core::{Name, Net, NetFault};
-use net_words::{BindFault, Combinational, WordText, bind};
+use net_words::{BindFault, Combinational, Role, WordText, bind};
 use std::alloc::{AllocError, Global};
 
 /// The circuit of a netlist's text: its net, to which the words are bound.
@@ -169,11 +170,14 @@ fn label(alloc: Global, net: &Net, number: u32) -> Result<Name, AllocError> {
     }
 }
 
-// Whether words can be bound: one to nine, each with the same number of nets, 1 to 64.
+// Whether words can be bound: one output word and at most eight others, each with the same number of nets, 1 to 64.
 fn can_be_bound(words: &[WordText]) -> bool
     ensures { IsTrue result → (k : ℕ) × AreWords k words.now }
 {
     if words.len() < 1 || words.len() > 9 {
+        return false;
+    }
+    if output_count(words) != 1 || input_count(words) > 8 {
         return false;
     }
     let k = words[0].nets.as_slice().len();
@@ -181,6 +185,27 @@ fn can_be_bound(words: &[WordText]) -> bool
         return false;
     }
     have_nets(words, k)
+}
+
+// Whether a word is the output.
+fn is_output(word: &WordText) -> bool
+    ensures { result ≡ is_output_word word.now }
+{
+    word.role == Role::Output
+}
+
+// How many output words there are.
+fn output_count(words: &[WordText]) -> usize
+    ensures { result ≡ length (filter is_output_word words.now) }
+{
+    words.iter().filter(|word| is_output(word)).count()
+}
+
+// How many input and state words there are.
+fn input_count(words: &[WordText]) -> usize
+    ensures { result ≡ count_inputs words.now }
+{
+    words.iter().filter(|word| !is_output(word)).count()
 }
 
 // Whether each word has k nets.

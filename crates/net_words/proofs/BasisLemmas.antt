@@ -36,7 +36,7 @@ list-err number token parts (NoOutput block) are fits = fits
 list-err number token parts OutOfMemory are fits = tt
 
 -- fronts that differ in their first byte
-heads : (n m : ℕ) (xs ys : List ℕ) → n ∷ xs ≡ m ∷ ys → n ≡ m
+pub heads : (n m : ℕ) (xs ys : List ℕ) → n ∷ xs ≡ m ∷ ys → n ≡ m
 heads n m xs ys e = ap (λ t. get_or t 0 0) e
 
 pub poly_normal : (rest : Token) → codes "poly" ≡ codes "normal:" ++ rest → ⊥

@@ -4,3 +4,6 @@ pub mod BasisLemmas
 pub mod WordLemmas
 pub mod ReaderLemmas
 pub mod SignatureLemmas
+pub mod BindLemmas
+pub mod BindDetermined
+pub mod SigDetermined

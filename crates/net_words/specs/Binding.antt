@@ -1,6 +1,7 @@
 -- Words that are bound to nets.
-use Rattle.std.specs.Prelude.{◌≡◌, ℕ, ◌≤◌, List, length, All}
+use Rattle.std.specs.Prelude.{◌≡◌, ℕ, ◌≤◌, List, length, filter, All}
 use Rattle.net_core.specs.NetList.{NetList}
+use Rattle.net_words.specs.Signature.{is_output, input_count}
 use Rattle.net_words.specs.declared.bound.BoundWord.{BoundWord}
 use Rattle.net_words.specs.declared.word.WordText.{WordText}
 
@@ -14,14 +15,17 @@ pub record IsBinding (binding : Binding) : Type 0 where
   pub some : 1 ≤ binding.k
   pub most : binding.k ≤ 64
   pub few : length binding.words ≤ 9
-  pub each : All (λ word. length word.nets.items ≡ binding.k) binding.words
+  pub each : All (λ word. length word.nets ≡ binding.k) binding.words
 
--- words that can be bound: each has k nets, k is 1 to 64, and there are at most nine words, of which there is one
+-- words that can be bound: each has k nets, k is 1 to 64; one is the output word, and at most eight are input or state
+-- words, so there are one to nine
 pub record AreWords (k : ℕ) (words : List WordText) : Type 0 where
   pub some : 1 ≤ k
   pub most : k ≤ 64
   pub one : 1 ≤ length words
   pub few : length words ≤ 9
+  pub output : length (filter is_output words) ≡ 1
+  pub others : input_count words ≤ 8
   pub each : All (λ word. length word.nets ≡ k) words
 
 -- a net list with words that are bound to it

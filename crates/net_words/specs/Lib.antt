@@ -2,4 +2,6 @@ pub mod Lines
 pub mod Statement
 pub mod Signature
 pub mod Binding
+pub mod Bind
+pub mod BindReading
 pub mod Reading

@@ -1,11 +1,17 @@
 //! The binding of words to nets.
-ghost use Rattle.std.specs.Prelude.{◌≡◌, ◌<◌, ◌≤◌, ◌+◌, ◌^◌, ℕ, length, IfOk, OnOk, All};
-ghost use Rattle.net_words.specs.Binding.{AreWords, IsBinding};
+ghost use Rattle.std.specs.Prelude.{◌≡◌, ◌≤◌, ◌&&◌, ◌<◌, ℕ, [], length, IfOk, All};
+ghost use Rattle.std.specs.List.{list_any};
+ghost use Rattle.text_core.specs.Outcome.{Returns};
+ghost use Rattle.net_core.specs.NetList.{NetList, nets as nets_of, number_of};
+ghost use Rattle.net_words.specs.Binding.{AreWords};
+ghost use Rattle.net_words.specs.Bind.{stands_in, is_latch, is_used, is_uncovered as is_uncovered_net, with_role, place_net, taken_with, NetsOf, BoundOf, IsCovered, started, in_word as is_in_word, BindingOf, bits_of as bits_of_words, is_unknown as is_unknown_start, same_role as is_same_role};
+ghost use Rattle.net_words.specs.BindReading.{AreMarks, FitsBinding};
 ghost use Rattle.net_words.specs.declared.binding.BindFault.TheVariants.{OutOfMemory};
 
 use crate::bound::{Bound, BoundWord};
+use crate::marks::{input_marks, is_marked, latch_marks, same_role, used_marks};
 use crate::word::{Role, WordText};
-use net_core::{Name, Net};
+use net_core::{Latch, Name, Net, Numbers, Start};
 use std::alloc::{AllocError, AllocFailed, Global};
 use thiserror::Error;
 
@@ -51,39 +57,49 @@ impl<T: Drop> From<AllocFailed<T>> for BindFault {
     }
 }
 
-// What is known of the nets while words are bound.
-#[derive(Drop)]
-struct Seen {
-    // the primary inputs
-    inputs: Vec<bool>,
-    // the nets of the input words so far
-    bound: Vec<bool>,
-    // the nets of the input words so far, each with its place in the order of variables
-    ranks: Vec<(u32, u32)>,
-}
-
-/// Binds words to the nets of a netlist without latches.
+/// Binds words to the nets of a netlist, or gives the first fault: word by word and place by place `NoSuchNet`,
+/// `NotInput`, `NotLatch` and `NetTwice`; then `Uncovered`, the least such net; then `UnknownStart`, the first such latch.
 pub fn bind(alloc: Global, words: &[WordText], net: &Net) -> Result<Bound, BindFault>
     requires { (k : ℕ) × AreWords k words.now }
+    ensures { FitsBinding (λ bound. bound) result (BindingOf net.now words.now) }
 {
-    let mut seen = Seen {
-        inputs: marks(alloc, net, net.inputs())?,
-        bound: marks(alloc, net, &[])?,
-        ranks: Vec::new(alloc),
-    };
     let k = bits_of(words);
-    let bound = bind_words(alloc, k, words, net, &mut seen)?;
-    check_covered(alloc, net, &bound, &seen)?;
-    seen.ranks.sort_unstable();
-    Ok(Bound::of_parts(k, bound, seen.ranks))
+    let inputs = input_marks(alloc, net)?;
+    let latches = latch_marks(alloc, net)?;
+    let mut taken = Vec::new(alloc);
+    let bound = match bind_words(alloc, k, words, net, &inputs, &latches, &mut taken) {
+        Ok(bound) => bound,
+        Err(fault) => return Err(fault),
+    };
+    match check_covered(alloc, net, &bound, &inputs) {
+        Ok(()) => {}
+        Err(fault) => return Err(fault),
+    }
+    match check_started(&bound, net.latches()) {
+        Ok(()) => {}
+        Err(fault) => return Err(fault),
+    }
+    let ranks = ranks(alloc, &taken)?;
+    Ok(Bound::of_parts(k, bound, ranks))
 }
 
 // How many nets each word has.
 fn bits_of(words: &[WordText]) -> u32
     requires { (k : ℕ) × AreWords k words.now }
-    ensures { AreWords result words.now }
+    ensures words { AreWords result words.now }
+    ensures bits { result ≡ bits_of_words words.now }
 {
     words[0].nets.as_slice().len() as u32
+}
+
+// Nets in the order of variables, rising, each with its place in the order.
+fn ranks(alloc: Global, taken: &[u32]) -> Result<Vec<(u32, u32)>, AllocError> {
+    let mut ranks = Vec::new(alloc);
+    for (rank, &net) in taken.iter().enumerate() {
+        ranks.push((net, u32::try_from(rank).unwrap_or(u32::MAX)))?;
+    }
+    ranks.sort_unstable();
+    Ok(ranks)
 }
 
 // The words with their nets.
@@ -92,19 +108,24 @@ fn bind_words(
     k: u32,
     words: &[WordText],
     net: &Net,
-    seen: &mut Seen,
+    inputs: &[bool],
+    latches: &[bool],
+    taken: &mut Vec<u32>,
 ) -> Result<Vec<BoundWord>, BindFault>
-    requires { AreWords k words.now }
+    requires words { AreWords k words.now }
+    requires inputs { AreMarks (nets_of net.now) (stands_in net.now.inputs) inputs.now }
+    requires latches { AreMarks (nets_of net.now) (is_latch net.now) latches.now }
+    ensures fits { FitsBinding (λ bound. (bound.items, taken.new.items)) result (BoundOf net.now taken.old.items [] words.now) }
     ensures count { IfOk result (λ bound. length bound.items ≡ length words.now) }
-    ensures each { IfOk result (λ bound. All (λ word. length word.nets.items ≡ k) bound.items) }
+    ensures each { IfOk result (λ bound. All (λ word. length word.nets ≡ k) bound.items) }
 {
     let mut bound = Vec::new(alloc);
     for (i, word) in words.iter().enumerate() {
-        let nets = bind_word(alloc, i as u32, word, net, seen)?;
+        let nets = bind_word(alloc, i as u32, word, net, inputs, latches, taken)?;
         bound.push(BoundWord {
             name: Name::new(alloc, word.name.as_str())?,
             role: word.role,
-            nets,
+            nets: Numbers::new(nets),
         })?;
     }
     Ok(bound)
@@ -116,40 +137,85 @@ fn bind_word(
     number: u32,
     word: &WordText,
     net: &Net,
-    seen: &mut Seen,
+    inputs: &[bool],
+    latches: &[bool],
+    taken: &mut Vec<u32>,
 ) -> Result<Vec<u32>, BindFault>
-    requires { length word.now.nets ≤ 64 }
-    ensures { IfOk result (λ nets. length nets.items ≡ length word.now.nets) }
+    requires few { length word.now.nets ≤ 64 }
+    requires inputs { AreMarks (nets_of net.now) (stands_in net.now.inputs) inputs.now }
+    requires latches { AreMarks (nets_of net.now) (is_latch net.now) latches.now }
+    ensures fits { FitsBinding (λ nets. (nets.items, taken.new.items)) result (NetsOf net.now number word.now.role taken.old.items [] word.now.nets) }
+    ensures count { IfOk result (λ nets. length nets.items ≡ length word.now.nets) }
 {
     let mut nets = Vec::new(alloc);
     for (i, name) in word.nets.as_slice().iter().enumerate() {
-        let place = i as u32;
-        let Some(found) = net.find(name.as_str()) else {
-            return Err(BindFault::NoSuchNet {
-                word: number,
-                place,
-            });
-        };
-        if word.role != Role::Output {
-            cover(number, place, found, seen)?;
-        }
+        let text = name.as_str();
+        let found = bind_place(
+            number, i as u32, word.role, text, net, inputs, latches, taken,
+        )?;
         nets.push(found)?;
     }
     Ok(nets)
 }
 
-// Takes a net as a bit of an input word.
-fn cover(word: u32, place: u32, net: u32, seen: &mut Seen) -> Result<(), BindFault> {
-    if !is_marked(&seen.inputs, net) {
-        return Err(BindFault::NotInput { word, place });
+// The net of a place.
+fn bind_place(
+    word: u32,
+    place: u32,
+    role: Role,
+    name: &str,
+    net: &Net,
+    inputs: &[bool],
+    latches: &[bool],
+    taken: &mut Vec<u32>,
+) -> Result<u32, BindFault>
+    requires inputs { AreMarks (nets_of net.now) (stands_in net.now.inputs) inputs.now }
+    requires latches { AreMarks (nets_of net.now) (is_latch net.now) latches.now }
+    ensures fits { FitsBinding (λ n. n) result (Returns (place_net net.now word place taken.old.items role (number_of net.now name.now))) }
+    ensures taken { IfOk result (λ n. taken.new.items ≡ taken_with role n taken.old.items) }
+{
+    match net.find(name) {
+        Some(found) => {
+            let input = is_marked(inputs, found);
+            let latch = is_marked(latches, found);
+            take_net(word, place, role, found, input, latch, taken)
+        }
+        None => Err(BindFault::NoSuchNet { word, place }),
     }
-    if is_marked(&seen.bound, net) {
-        return Err(BindFault::NetTwice { net });
+}
+
+// Takes a net as a bit of a word, where it is a primary input or a latch's output or neither.
+fn take_net(
+    word: u32,
+    place: u32,
+    role: Role,
+    found: u32,
+    input: bool,
+    latch: bool,
+    taken: &mut Vec<u32>,
+) -> Result<u32, BindFault>
+    ensures fits { (net : NetList) → input ≡ stands_in net.inputs found → latch ≡ is_latch net found → FitsBinding (λ n. n) result (Returns (with_role net word place taken.old.items role found)) }
+    ensures net { IfOk result (λ n. n ≡ found) }
+    ensures taken { IfOk result (λ n. taken.new.items ≡ taken_with role n taken.old.items) }
+{
+    match role {
+        Role::Input => {
+            if !input {
+                return Err(BindFault::NotInput { word, place });
+            }
+        }
+        Role::State => {
+            if !latch {
+                return Err(BindFault::NotLatch { word, place });
+            }
+        }
+        Role::Output => return Ok(found),
     }
-    mark(&mut seen.bound, net);
-    let rank = u32::try_from(seen.ranks.len()).unwrap_or(u32::MAX);
-    seen.ranks.push((net, rank))?;
-    Ok(())
+    if taken.as_slice().contains(&found) {
+        return Err(BindFault::NetTwice { net: found });
+    }
+    taken.push(found)?;
+    Ok(found)
 }
 
 // Refuses the least primary input in no input word that something depends on.
@@ -157,58 +223,59 @@ fn check_covered(
     alloc: Global,
     net: &Net,
     words: &[BoundWord],
-    seen: &Seen,
-) -> Result<(), BindFault> {
-    let used = used(alloc, net, words)?;
+    inputs: &[bool],
+) -> Result<(), BindFault>
+    requires inputs { AreMarks (nets_of net.now) (stands_in net.now.inputs) inputs.now }
+    ensures { FitsBinding (λ u. tt) result (IsCovered net.now words.now) }
+{
+    let used = used_marks(alloc, net, words)?;
     for number in 0..net.nets() {
-        if is_marked(&seen.inputs, number)
-            && !is_marked(&seen.bound, number)
-            && is_marked(&used, number)
-        {
+        if is_uncovered(net, words, inputs, &used, number) {
             return Err(BindFault::Uncovered { net: number });
         }
     }
     Ok(())
 }
 
-// The nets that something depends on: inputs of gates, the next nets of latches, bits of the output word.
-fn used(alloc: Global, net: &Net, words: &[BoundWord]) -> Result<Vec<bool>, AllocError> {
-    let mut used = marks(alloc, net, &[])?;
-    for gate in net.gates() {
-        mark_all(&mut used, gate.inputs());
-    }
-    for latch in net.latches() {
-        mark(&mut used, latch.next);
-    }
-    for word in words {
-        if word.role == Role::Output {
-            mark_all(&mut used, &word.nets);
+// Whether a primary input is in no input word and something depends on it.
+fn is_uncovered(net: &Net, words: &[BoundWord], inputs: &[bool], used: &[bool], number: u32) -> bool
+    requires inputs { AreMarks (nets_of net.now) (stands_in net.now.inputs) inputs.now }
+    requires used { AreMarks (nets_of net.now) (is_used net.now words.now) used.now }
+    requires within { number < nets_of net.now }
+    ensures { result ≡ is_uncovered_net net.now words.now number }
+{
+    is_marked(inputs, number) && !in_word(Role::Input, words, number) && is_marked(used, number)
+}
+
+// Refuses the first latch with an unknown start that is in no state word.
+fn check_started(words: &[BoundWord], latches: &[Latch]) -> Result<(), BindFault>
+    ensures { FitsBinding (λ u. tt) result (Returns (started words.now latches.now)) }
+{
+    for latch in latches {
+        if is_unknown(latch.start) && !in_word(Role::State, words, latch.out) {
+            return Err(BindFault::UnknownStart { net: latch.out });
         }
     }
-    Ok(used)
+    Ok(())
 }
 
-// A mark for each net, set for those of the list.
-fn marks(alloc: Global, net: &Net, list: &[u32]) -> Result<Vec<bool>, AllocError> {
-    let mut marks = vec![in alloc; false; net.nets() as usize]?;
-    mark_all(&mut marks, list);
-    Ok(marks)
+// Whether a start is unknown.
+fn is_unknown(start: Start) -> bool
+    ensures { result ≡ is_unknown_start start }
+{
+    start == Start::Unknown
 }
 
-fn mark_all(marks: &mut [bool], nets: &[u32]) {
-    for &net in nets {
-        mark(marks, net);
-    }
+// Whether a net stands in a word with this role.
+fn in_word(role: Role, words: &[BoundWord], net: u32) -> bool
+    ensures { result ≡ is_in_word role words.now net }
+{
+    words.iter().any(|word| stands_in_word(role, word, net))
 }
 
-fn mark(marks: &mut [bool], net: u32) {
-    let place = net as usize;
-    if place < marks.len() {
-        marks[place] = true;
-    }
-}
-
-fn is_marked(marks: &[bool], net: u32) -> bool {
-    let place = net as usize;
-    place < marks.len() && marks[place]
+// Whether the word has this role and the net.
+fn stands_in_word(role: Role, word: &BoundWord, net: u32) -> bool
+    ensures { result ≡ (is_same_role word.now.role role && stands_in word.now.nets net) }
+{
+    same_role(word.role, role) && word.nets.as_slice().contains(&net)
 }

@@ -3,7 +3,7 @@ ghost use Rattle.std.specs.Prelude.{◌≡◌, ◌<◌, ◌≤◌, length, slice
 ghost use Rattle.net_words.specs.Binding.{IsBinding};
 
 use crate::word::Role;
-use net_core::Name;
+use net_core::{Name, Numbers};
 use std::marker::Model;
 
 /// A word with the numbers of its nets, place 0 first.
@@ -11,7 +11,7 @@ use std::marker::Model;
 pub struct BoundWord {
     pub name: Name,
     pub role: Role,
-    pub nets: Vec<u32>,
+    pub nets: Numbers<u32>,
 }
 
 /// Words that are bound to the nets of a netlist.
@@ -78,9 +78,9 @@ impl Bound {
     pub fn net(&self, w: u32, place: u32) -> u32
         requires word { w < length self.now.words }
         requires place { place < self.now.k }
-        ensures { (word : _) → slice_get self.now.words w ≡ Some word → result ≡ slice_index word.nets.items place }
+        ensures { (word : _) → slice_get self.now.words w ≡ Some word → result ≡ slice_index word.nets place }
     {
-        self.words[w as usize].nets[place as usize]
+        self.words[w as usize].nets.as_slice()[place as usize]
     }
 
     // The nets of input and state words, rising, each with its place in the order of variables.

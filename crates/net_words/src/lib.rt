@@ -4,11 +4,15 @@
 
 mod basis;
 mod binding;
+#[cfg(test)]
+mod binding_tests;
 mod bound;
 mod combinational;
 mod element;
 mod fault;
+mod laws;
 mod lines;
+mod marks;
 mod reader;
 mod signature;
 #[cfg(test)]
@@ -21,6 +25,7 @@ pub use binding::{BindFault, bind};
 pub use bound::Bound;
 pub use combinational::Combinational;
 pub use fault::SigFault;
+pub use laws::{one_binding_or_fault, one_signature_or_fault};
 pub use reader::read_signature;
 pub use signature::Signature;
 pub use word::{BasisText, Role, WordText};

@@ -1,0 +1,10 @@
+use Rattle.std.proofs.Common.{◌∙◌, refl, [], List, ℕ, rules}
+use Rattle.net_words.proofs.BindLemmas.{nets_step}
+use Rattle.net_words.proofs.binding.bind_word.Goals as goal
+
+pub loop-i-preserved : goal.loop-i-preserved
+loop-i-preserved c = (
+  search rules,
+  λ outcome rest. c.loop-i.invariant.1 outcome
+      (nets_step c.args.net.now c.args.number c.args.word.now.role c.loop-i.taken.items c.bind_place.new.taken.items c.loop-i.nets.items c.push.new.self.items c.args.word.now.nets c.loop-i.i c.name-item.result c.as_str-text.result.now c.in_ok-found.found outcome (rw c.as_slice-name-items.ensures at c.loop-i-test.true) c.loop-i.invariant.0 (c.as_str-text.ensures ∙ rw c.as_slice-name-items.ensures at c.name-item.is) c.in_ok-found.ensures.fits c.in_ok-found.ensures.taken c.in_ok-push.ensures.items rest),
+)

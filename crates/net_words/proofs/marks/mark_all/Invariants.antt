@@ -1,0 +1,7 @@
+use Rattle.std.proofs.Common.{◌≡◌, ℕ, ◌<◌, ◌||◌, length, take}
+use Rattle.net_words.specs.Bind.{stands_in}
+use Rattle.net_words.specs.BindReading.{mark_at}
+use Rattle.net_words.proofs.marks.mark_all.Given as goal
+
+abbrev pub invariant-loop-net : goal.invariant-loop-net
+invariant-loop-net l = (k : ℕ) → k < length l.marks → mark_at l.marks k ≡ (mark_at l.initial.marks k || stands_in (take l.net-index l.list) k)
