@@ -135,9 +135,9 @@ one_word line a b h k =
     let P : Token → Type 0 = λ t. SaysRole t a.role in
     let Q : Token → Type 0 = λ t. SaysBasis t a.basis in
     word_parts a.line b.line a.name b.name a.role b.role a.basis b.basis a.nets b.nets (h.1 ∙ sym k.1) (ap (token_at 1) same)
-      (one_role k.0.role a.role b.role (subst P (ap (token_at 2) same) h.0.is_role) k.0.is_role)
-      (one_basis k.0.basis a.basis b.basis (subst Q (ap (token_at 3) same) h.0.is_basis) k.0.is_basis)
-      (ap (λ ts. rest_of (rest_of (rest_of (rest_of ts)))) same)
+    (one_role k.0.role a.role b.role (subst P (ap (token_at 2) same) h.0.is_role) k.0.is_role)
+    (one_basis k.0.basis a.basis b.basis (subst Q (ap (token_at 3) same) h.0.is_basis) k.0.is_basis)
+    (ap (λ ts. rest_of (rest_of (rest_of (rest_of ts)))) same)
 
 next_determined : {A : Type 0} (end : ℕ) (says : List Token → A → Type 0) → ((tokens : List Token) → IsSingle (says tokens)) → (lines : List Line) → Determined (Next end says lines)
 next_determined end says one lines =

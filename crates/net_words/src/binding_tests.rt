@@ -111,7 +111,9 @@ fn outcome(alloc: Global, net: &Net, list: &[(Role, &[&str])]) -> Result<String,
 }
 
 const I: Role = Role::Input;
+
 const O: Role = Role::Output;
+
 const S: Role = Role::State;
 
 #[test]
@@ -119,30 +121,66 @@ fn bindings(rt: HostRuntime) -> Result<(), Fail> {
     let alloc = rt.alloc();
     let net = conjunction(alloc)?;
     for (list, text) in [
-        ([(I, ["a"].as_slice()), (I, &["b"]), (O, &["z"])].as_slice(), "3 words"),
+        (
+            [(I, ["a"].as_slice()), (I, &["b"]), (O, &["z"])].as_slice(),
+            "3 words",
+        ),
         (&[(O, &["z", "a"]), (I, &["b", "a"])], "2 words"),
-        (&[(I, &["a"]), (O, &["z"]), (I, &["x"])], "no net for place 0 of word 2"),
-        (&[(I, &["a", "z"]), (O, &["z", "x"])], "place 1 of word 0 is no input"),
+        (
+            &[(I, &["a"]), (O, &["z"]), (I, &["x"])],
+            "no net for place 0 of word 2",
+        ),
+        (
+            &[(I, &["a", "z"]), (O, &["z", "x"])],
+            "place 1 of word 0 is no input",
+        ),
         (&[(I, &["a", "a"]), (O, &["z", "x"])], "net 0 stands twice"),
-        (&[(I, &["a", "b"]), (O, &["z", "x"])], "no net for place 1 of word 1"),
-        (&[(I, &["a", "b"]), (I, &["b", "c"]), (O, &["z", "z"])], "net 1 stands twice"),
-        (&[(I, &["z", "x"]), (O, &["z", "z"])], "place 0 of word 0 is no input"),
-        (&[(S, &["a", "x"]), (O, &["z", "z"])], "place 0 of word 0 is no latch"),
+        (
+            &[(I, &["a", "b"]), (O, &["z", "x"])],
+            "no net for place 1 of word 1",
+        ),
+        (
+            &[(I, &["a", "b"]), (I, &["b", "c"]), (O, &["z", "z"])],
+            "net 1 stands twice",
+        ),
+        (
+            &[(I, &["z", "x"]), (O, &["z", "z"])],
+            "place 0 of word 0 is no input",
+        ),
+        (
+            &[(S, &["a", "x"]), (O, &["z", "z"])],
+            "place 0 of word 0 is no latch",
+        ),
         (&[(I, &["b"]), (O, &["z"])], "input 0 is in no word"),
         (&[(I, &["c"]), (O, &["z"])], "input 0 is in no word"),
-        (&[(I, &["a", "b"]), (O, &["z", "c"])], "input 2 is in no word"),
+        (
+            &[(I, &["a", "b"]), (O, &["z", "c"])],
+            "input 2 is in no word",
+        ),
         (&[(O, &["z"])], "input 0 is in no word"),
     ] {
         assert_eq!(rt; outcome(alloc, &net, list)?.as_str(), text, "at {text}");
     }
     let net = latches(alloc)?;
     for (list, text) in [
-        ([(I, ["a"].as_slice()), (S, &["q"]), (O, &["z"])].as_slice(), "3 words"),
-        (&[(I, &["a"]), (S, &["r"]), (O, &["z"])], "latch 1 has no start"),
+        (
+            [(I, ["a"].as_slice()), (S, &["q"]), (O, &["z"])].as_slice(),
+            "3 words",
+        ),
+        (
+            &[(I, &["a"]), (S, &["r"]), (O, &["z"])],
+            "latch 1 has no start",
+        ),
         (&[(I, &["a"]), (O, &["z"])], "latch 1 has no start"),
         (&[(S, &["q"]), (O, &["z"])], "input 0 is in no word"),
-        (&[(I, &["a", "q"]), (O, &["z", "z"])], "place 1 of word 0 is no input"),
-        (&[(S, &["q", "a"]), (O, &["z", "z"])], "place 1 of word 0 is no latch"),
+        (
+            &[(I, &["a", "q"]), (O, &["z", "z"])],
+            "place 1 of word 0 is no input",
+        ),
+        (
+            &[(S, &["q", "a"]), (O, &["z", "z"])],
+            "place 1 of word 0 is no latch",
+        ),
         (&[(S, &["q", "q"]), (O, &["z", "z"])], "net 1 stands twice"),
     ] {
         assert_eq!(rt; outcome(alloc, &net, list)?.as_str(), text, "at {text}");
