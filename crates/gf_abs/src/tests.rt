@@ -1,11 +1,5 @@
 //! The program over files in memory.
-ghost use Rattle.std.specs.Prelude.{◌≡◌};
-ghost use Rattle.gf_basis.specs.BasisParts.{IsOver};
-
 use crate::rows::ROWS;
-use gf_basis::Basis;
-use gf_field::Field;
-use gf_tower::AnyField;
 use crate::{run, run_surely};
 use job_io::{MemShelf, MemSink, SureShelf, SureSink};
 use std::alloc::Global;
@@ -132,39 +126,4 @@ fn surely(rt: HostRuntime) -> Result<(), Fail> {
     let mut sink = SureSink::new();
     assert_eq!(rt; run_surely(alloc, &words, &mut shelf, &mut sink), 2);
     Ok(())
-}
-
-// Whether the bits of each element of a field of 16 elements give it back.
-fn gives_back<F: Field>(field: &F, basis: &Basis) -> bool
-    requires over { IsOver (F.degree field.now) (F.product field.now) basis.now }
-    requires size { F.degree field.now ≡ 4 }
-{
-    for x in 0..16 {
-        if basis.element_of(basis.bits_of(field, x)) != x {
-            return false;
-        }
-    }
-    true
-}
-
-// The bases of a tower of two steps over GF(4).
-#[test]
-fn bases_of_a_tower(rt: HostRuntime) {
-    let Ok(AnyField::Tower(field)) = AnyField::new(0x7, &[2, 1]) else {
-        panic!(rt; "no tower");
-    };
-    if field.k() != 4 {
-        panic!(rt; "not 16 elements");
-    }
-    let poly = Basis::poly(&field);
-    assert!(rt; gives_back(&field, &poly));
-    let mut normal = 0;
-    for gamma in 0..16 {
-        if let Ok(basis) = Basis::normal(&field, gamma) {
-            normal += 1;
-            assert!(rt; gives_back(&field, &basis));
-        }
-    }
-    // the normal elements of GF(16) over GF(2)
-    assert_eq!(rt; normal, 8);
 }
