@@ -4,8 +4,6 @@
 
 mod basis;
 mod binding;
-#[cfg(test)]
-mod binding_tests;
 mod bound;
 mod combinational;
 mod element;
