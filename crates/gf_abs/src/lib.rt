@@ -11,6 +11,22 @@ mod polynomial;
 mod print;
 #[cfg(test)]
 mod rows;
+#[cfg(test)]
+mod rows_1;
+#[cfg(test)]
+mod rows_2;
+#[cfg(test)]
+mod rows_3;
+#[cfg(test)]
+mod rows_4;
+#[cfg(test)]
+mod rows_5;
+#[cfg(test)]
+mod rows_6;
+#[cfg(test)]
+mod rows_7;
+#[cfg(test)]
+mod rows_8;
 mod setting;
 mod stop;
 #[cfg(test)]
