@@ -1,7 +1,7 @@
 -- At most one outcome comes of binding words.
-use Rattle.std.proofs.Common.{◌≡◌, ◌∙◌, ap, sym, refl, inl, inr, ⊎_elim, ℕ, ◌<◌, ◌≤◌, List, [], ◌∷◌, ◌++◌, length, Bool, true, false, Result, Ok, Err, arith}
+use Rattle.std.proofs.Common.{◌≡◌, ◌∙◌, ap, sym, refl, ⊎_elim, ℕ, ◌<◌, List, [], ◌∷◌, ◌++◌, length, true, false, Ok, Err, arith}
 use Rattle.std.proofs.lemmas.Bool.{cases_lt, true≢false}
-use Rattle.text_core.specs.Outcome.{Outcome, ◌>>=◌, Exactly, Returns, Determined}
+use Rattle.text_core.specs.Outcome.{◌>>=◌, Exactly, Returns, Determined}
 use Rattle.text_core.proofs.DeterminedLemmas.{determined_returns, determined_bind}
 use Rattle.net_core.specs.NetList.{NetList, nets, number_of}
 use Rattle.net_words.specs.Binding.{Binding}
@@ -71,4 +71,4 @@ binding_determined net words =
     determined_bind (Returns (started bound.0 net.latches)) (λ known. Exactly (made bound.0)) (determined_returns (started bound.0 net.latches)) (λ known. determined_exactly (made bound.0))))
   where
     made : List BoundWord → Binding
-    made list = record { k = bits_of words; words = list }
+    made list = record { k = bits_of words; words = list; nets = nets net }

@@ -5,5 +5,6 @@ pub mod WordLemmas
 pub mod ReaderLemmas
 pub mod SignatureLemmas
 pub mod BindLemmas
+pub mod VariableLemmas
 pub mod BindDetermined
 pub mod SigDetermined

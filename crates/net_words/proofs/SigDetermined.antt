@@ -1,5 +1,5 @@
 -- At most one outcome comes of a signature's text.
-use Rattle.std.proofs.Common.{◌≡◌, ◌∙◌, ap, sym, refl, subst, inl, inr, ⊎_elim, ℕ, ◌==◌, List, [], ◌∷◌, ◌++◌, get_or, Bool, true, false, Result, Ok, Err, None, arith, codes}
+use Rattle.std.proofs.Common.{◌≡◌, ◌∙◌, ap, sym, refl, subst, inl, inr, ℕ, ◌==◌, List, [], ◌∷◌, ◌++◌, get_or, Bool, true, false, Ok, Err, arith, codes}
 use Rattle.std.specs.List.{slice_split, AllZip}
 use Rattle.text_core.specs.Outcome.{Outcome, ◌>>=◌, Exactly, Returns, Determined}
 use Rattle.text_core.specs.Numbers.{IsHex}

@@ -117,4 +117,4 @@ BindingOf net words = do
   bound ← BoundOf net [] [] words
   covered ← IsCovered net bound.0
   known ← Returns (started bound.0 net.latches)
-  Exactly (record { k = bits_of words; words = bound.0 })
+  Exactly (record { k = bits_of words; words = bound.0; nets = nets net })

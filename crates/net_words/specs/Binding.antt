@@ -5,10 +5,11 @@ use Rattle.net_words.specs.Signature.{is_output, input_count}
 use Rattle.net_words.specs.declared.bound.BoundWord.{BoundWord}
 use Rattle.net_words.specs.declared.word.WordText.{WordText}
 
--- the bits of each word, and the words in signature order with their nets, place 0 first
+-- the bits of each word, the words in signature order with their nets, place 0 first, and how many nets the net list has
 pub record Binding : Type 0 where
   pub k : ℕ
   pub words : List BoundWord
+  pub nets : ℕ
 
 -- each word has k nets, k is 1 to 64, and there are at most nine words
 pub record IsBinding (binding : Binding) : Type 0 where

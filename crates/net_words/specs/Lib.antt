@@ -4,4 +4,5 @@ pub mod Signature
 pub mod Binding
 pub mod Bind
 pub mod BindReading
+pub mod Variables
 pub mod Reading

@@ -3,13 +3,14 @@ ghost use Rattle.std.specs.Prelude.{◌≡◌, ◌≤◌, ◌&&◌, ◌<◌, ℕ
 ghost use Rattle.std.specs.List.{list_any};
 ghost use Rattle.text_core.specs.Outcome.{Returns};
 ghost use Rattle.net_core.specs.NetList.{NetList, nets as nets_of, number_of};
-ghost use Rattle.net_words.specs.Binding.{AreWords};
+ghost use Rattle.net_words.specs.Binding.{AreWords, IsBinding};
 ghost use Rattle.net_words.specs.Bind.{stands_in, is_latch, is_used, is_uncovered as is_uncovered_net, with_role, place_net, taken_with, NetsOf, BoundOf, IsCovered, started, in_word as is_in_word, BindingOf, bits_of as bits_of_words, is_unknown as is_unknown_start, same_role as is_same_role};
 ghost use Rattle.net_words.specs.BindReading.{AreMarks, FitsBinding};
 ghost use Rattle.net_words.specs.declared.binding.BindFault.TheVariants.{OutOfMemory};
 
 use crate::bound::{Bound, BoundWord};
 use crate::marks::{input_marks, is_marked, latch_marks, same_role, used_marks};
+use crate::variables::{ranks, variables};
 use crate::word::{Role, WordText};
 use net_core::{Latch, Name, Net, Numbers, Start};
 use std::alloc::{AllocError, AllocFailed, Global};
@@ -61,7 +62,8 @@ impl<T: Drop> From<AllocFailed<T>> for BindFault {
 /// `NotInput`, `NotLatch` and `NetTwice`; then `Uncovered`, the least such net; then `UnknownStart`, the first such latch.
 pub fn bind(alloc: Global, words: &[WordText], net: &Net) -> Result<Bound, BindFault>
     requires { (k : ℕ) × AreWords k words.now }
-    ensures { FitsBinding (λ bound. bound) result (BindingOf net.now words.now) }
+    ensures fits { FitsBinding (λ bound. bound) result (BindingOf net.now words.now) }
+    ensures nets { IfOk result (λ bound. bound.nets ≡ nets_of net.now) }
 {
     let k = bits_of(words);
     let inputs = input_marks(alloc, net)?;
@@ -79,8 +81,19 @@ pub fn bind(alloc: Global, words: &[WordText], net: &Net) -> Result<Bound, BindF
         Ok(()) => {}
         Err(fault) => return Err(fault),
     }
-    let ranks = ranks(alloc, &taken)?;
-    Ok(Bound::of_parts(k, bound, ranks))
+    let bound = ordered(alloc, k, bound, net)?;
+    Ok(bound)
+}
+
+// The words with their nets, and the nets in the order of variables.
+fn ordered(alloc: Global, k: u32, words: Vec<BoundWord>, net: &Net) -> Result<Bound, AllocError>
+    requires { IsBinding (record { k = k; words = words.items; nets = nets_of net.now }) }
+    ensures { IfOk result (λ bound. bound ≡ record { k = k; words = words.items; nets = nets_of net.now }) }
+{
+    let count = net.nets();
+    let order = variables(alloc, count, &words)?;
+    let ranks = ranks(alloc, count, &order)?;
+    Ok(Bound::of_parts(k, words, count, order, ranks))
 }
 
 // How many nets each word has.
@@ -90,16 +103,6 @@ fn bits_of(words: &[WordText]) -> u32
     ensures bits { result ≡ bits_of_words words.now }
 {
     words[0].nets.as_slice().len() as u32
-}
-
-// Nets in the order of variables, rising, each with its place in the order.
-fn ranks(alloc: Global, taken: &[u32]) -> Result<Vec<(u32, u32)>, AllocError> {
-    let mut ranks = Vec::new(alloc);
-    for (rank, &net) in taken.iter().enumerate() {
-        ranks.push((net, u32::try_from(rank).unwrap_or(u32::MAX)))?;
-    }
-    ranks.sort_unstable();
-    Ok(ranks)
 }
 
 // The words with their nets.

@@ -1,6 +1,7 @@
 //! Words that are bound to nets.
 ghost use Rattle.std.specs.Prelude.{◌≡◌, ◌<◌, ◌≤◌, length, slice_index, slice_get, All, Some};
 ghost use Rattle.net_words.specs.Binding.{IsBinding};
+ghost use Rattle.net_words.specs.Variables.{variables, IsRanked, IsOrdered};
 
 use crate::word::Role;
 use net_core::{Name, Numbers};
@@ -19,27 +20,45 @@ pub struct BoundWord {
 pub struct Bound {
     k: u32,
     words: Vec<BoundWord>,
-    // The nets of input and state words, rising, each with its place in the order of variables.
-    ranks: Vec<(u32, u32)>,
+    // How many nets the netlist has.
+    nets: u32,
+    // The nets in the order of variables.
+    order: Vec<u32>,
+    // The place of each net in this order.
+    ranks: Vec<u32>,
 }
 
 impl Model for Bound {
     ghost use Rattle.net_words.specs.Binding.{Binding, IsBinding};
+    ghost use Rattle.net_words.specs.Variables.{IsOrdered};
 
     ghost Value = { Binding };
 
-    ghost view = { λ bound. record { k = bound.k; words = bound.words.items } };
+    ghost view = { λ bound. record { k = bound.k; words = bound.words.items; nets = bound.nets } };
 
-    ghost invariant = { λ bound. IsBinding (record { k = bound.k; words = bound.words.items }) };
+    ghost invariant = { λ bound. IsBinding (record { k = bound.k; words = bound.words.items; nets = bound.nets }) × IsOrdered bound.nets bound.words.items bound.order.items bound.ranks.items };
 }
 
 impl Bound {
-    // A binding of these words, of which each has k nets.
-    pub(crate) fn of_parts(k: u32, words: Vec<BoundWord>, ranks: Vec<(u32, u32)>) -> Bound
-        requires { IsBinding (record { k = k; words = words.items }) }
-        ensures { result ≡ record { k = k; words = words.items } }
+    // A binding of these words, of which each has k nets, to so many nets, with their order.
+    pub(crate) fn of_parts(
+        k: u32,
+        words: Vec<BoundWord>,
+        nets: u32,
+        order: Vec<u32>,
+        ranks: Vec<u32>,
+    ) -> Bound
+        requires parts { IsBinding (record { k = k; words = words.items; nets = nets }) }
+        requires order { IsOrdered nets words.items order.items ranks.items }
+        ensures { result ≡ record { k = k; words = words.items; nets = nets } }
     {
-        Bound { k, words, ranks }
+        Bound {
+            k,
+            words,
+            nets,
+            order,
+            ranks,
+        }
     }
 
     /// How many words there are.
@@ -83,8 +102,27 @@ impl Bound {
         self.words[w as usize].nets.as_slice()[place as usize]
     }
 
-    // The nets of input and state words, rising, each with its place in the order of variables.
-    pub(crate) fn ranks(&self) -> &[(u32, u32)] {
-        &self.ranks
+    // The place of a net in the order of variables after the words.
+    pub(crate) fn rank_of(&self, net: u32) -> u32
+        ensures { net < self.now.nets → IsRanked (variables self.now.nets self.now.words) result net }
+    {
+        let place = net as usize;
+        if place < self.ranks.len() {
+            self.ranks[place]
+        } else {
+            net
+        }
+    }
+
+    // The net at a place in the order of variables after the words.
+    pub(crate) fn net_of(&self, rank: u32) -> u32
+        ensures { rank < length (variables self.now.nets self.now.words) → IsRanked (variables self.now.nets self.now.words) rank result }
+    {
+        let place = rank as usize;
+        if place < self.order.len() {
+            self.order[place]
+        } else {
+            rank
+        }
     }
 }

@@ -1,5 +1,7 @@
 //! Nets without latches, with their words.
-ghost use Rattle.std.specs.Prelude.{◌≡◌, ◌<◌, [], IfOk, IsOk, ◌↔◌, IfErr};
+ghost use Rattle.std.specs.Prelude.{◌≡◌, ◌<◌, [], length, IfOk, IsOk, ◌↔◌, IfErr};
+ghost use Rattle.net_core.specs.NetList.{nets};
+ghost use Rattle.net_words.specs.Variables.{variables, IsRanked};
 
 use crate::bound::Bound;
 use net_core::Net;
@@ -14,18 +16,20 @@ pub struct Combinational {
 
 impl Model for Combinational {
     ghost use Rattle.std.specs.Prelude.{◌≡◌, []};
+    ghost use Rattle.net_core.specs.NetList.{nets};
     ghost use Rattle.net_words.specs.Binding.{BoundNet};
 
     ghost Value = { BoundNet };
 
     ghost view = { λ circuit. record { net = circuit.net; bound = circuit.bound } };
 
-    ghost invariant = { λ circuit. circuit.net.latches ≡ [] };
+    ghost invariant = { λ circuit. (circuit.net.latches ≡ []) × (circuit.bound.nets ≡ nets circuit.net) };
 }
 
 impl Combinational {
     /// A net without latches with its words; both are handed back where it has latches.
     pub fn new(net: Net, bound: Bound) -> Result<Combinational, (Net, Bound)>
+        requires { bound.nets ≡ nets net }
         ensures made { IfOk result (λ circuit. circuit ≡ record { net = net; bound = bound }) }
         ensures latches { IsOk result ↔ (net.latches ≡ []) }
         ensures back { IfErr result (λ pair. (pair.0 ≡ net) × (pair.1 ≡ bound)) }
@@ -51,35 +55,18 @@ impl Combinational {
         &self.bound
     }
 
-    /// The place of a net in the order of variables after the words: the bits of the input words, and then the other nets by number.
-    pub fn rank_of(&self, net: u32) -> u32 {
-        let ranks = self.bound.ranks();
-        let below = before(ranks, net);
-        match ranks.get(below) {
-            Some(&(found, rank)) if found == net => rank,
-            _ => net
-                .saturating_sub(number(below))
-                .saturating_add(number(ranks.len())),
-        }
+    /// The place of a net in the order of variables after the words: the bits of the input and state words in signature
+    /// order and by place, and then the other nets by number.
+    pub fn rank_of(&self, net: u32) -> u32
+        ensures { net < nets self.now.net → IsRanked (variables (nets self.now.net) self.now.bound.words) result net }
+    {
+        self.bound.rank_of(net)
     }
-}
 
-// A length as a number of nets.
-fn number(length: usize) -> u32 {
-    u32::try_from(length).unwrap_or(u32::MAX)
-}
-
-// How many nets of a rising list are below a net.
-fn before(ranks: &[(u32, u32)], net: u32) -> usize {
-    let mut low = 0;
-    let mut high = ranks.len();
-    while low < high {
-        let middle = low + (high - low) / 2;
-        if ranks[middle].0 < net {
-            low = middle + 1;
-        } else {
-            high = middle;
-        }
+    /// The net at a place in the order of variables after the words.
+    pub fn net_of(&self, rank: u32) -> u32
+        ensures { rank < length (variables (nets self.now.net) self.now.bound.words) → IsRanked (variables (nets self.now.net) self.now.bound.words) rank result }
+    {
+        self.bound.net_of(rank)
     }
-    low
 }

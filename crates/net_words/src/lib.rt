@@ -4,6 +4,8 @@
 
 mod basis;
 mod binding;
+#[cfg(test)]
+mod binding_tests;
 mod bound;
 mod combinational;
 mod element;
@@ -15,6 +17,7 @@ mod reader;
 mod signature;
 #[cfg(test)]
 mod tests;
+mod variables;
 mod word;
 mod word_line;
 mod words;

@@ -60,6 +60,15 @@ pub fn same_role(a: Role, b: Role) -> bool
     }
 }
 
+/// The marks of the nets of a list, below a number.
+pub fn list_marks(alloc: Global, count: u32, list: &[u32]) -> Result<Vec<bool>, AllocError>
+    ensures { IfOk result (λ marks. AreMarks count (stands_in list.now) marks.items) }
+{
+    let mut marks = vec![in alloc; false; count as usize]?;
+    mark_all(&mut marks, list);
+    Ok(marks)
+}
+
 // A mark for each net, none of them set.
 fn no_marks(alloc: Global, net: &Net) -> Result<Vec<bool>, AllocError>
     ensures long { IfOk result (λ marks. length marks.items ≡ nets net.now) }

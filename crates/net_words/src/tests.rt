@@ -3,17 +3,22 @@ use crate::{BasisText, Role, SigFault, read_signature};
 use std::alloc::Global;
 use std::test::Fail;
 
+// A length as a number of 32 bits.
+fn number(length: usize) -> u32 {
+    u32::try_from(length).unwrap_or(u32::MAX)
+}
+
 // What comes of a text: the kind of its fault, with the line, or how many words it has.
-fn outcome(alloc: Global, text: &[u8]) -> (&'static str, usize) {
-    if text.len() > 67_108_864 {
+fn outcome(alloc: Global, text: &[u8]) -> (&'static str, u32) {
+    if text.len() > 67108864 {
         return ("too long", 0);
     }
     match read_signature(alloc, text) {
-        Ok(signature) => ("words", signature.words().len()),
-        Err(SigFault::Syntax { line }) => ("syntax", line as usize),
-        Err(SigFault::NameTwice { line }) => ("name twice", line as usize),
-        Err(SigFault::TwoOutputs { line }) => ("two outputs", line as usize),
-        Err(SigFault::TooManyWords { line }) => ("too many words", line as usize),
+        Ok(signature) => ("words", number(signature.words().len())),
+        Err(SigFault::Syntax { line }) => ("syntax", line),
+        Err(SigFault::NameTwice { line }) => ("name twice", line),
+        Err(SigFault::TwoOutputs { line }) => ("two outputs", line),
+        Err(SigFault::TooManyWords { line }) => ("too many words", line),
         Err(SigFault::NoOutput { block: _block }) => ("no output", 0),
         Err(SigFault::OutOfMemory) => ("memory", 0),
     }

@@ -1,8 +1,8 @@
 use Rattle.net_words.proofs.BindLemmas.{started_fails}
 use Rattle.net_words.proofs.binding.bind.Goals as goal
 
-pub returns-in-Err-check_started : goal.returns-in-Err-check_started
-returns-in-Err-check_started c =
+pub returns-in-Err-check_started-clause-fits : goal.returns-in-Err-check_started-clause-fits
+returns-in-Err-check_started-clause-fits c =
     started_fails c.args.net.now c.args.words.now c.in-Ok.bound.items c.bind_words.new.taken.items c.in-Err-check_started.fault
     (rw c.new-taken.ensures.items at c.in-Ok.ensures.fits)
     (rw c.deref-3.ensures.value at c.in-Ok-check_covered.ensures)

@@ -1,4 +1,4 @@
-use Rattle.std.proofs.Common.{◌∙◌, refl, [], List, ℕ, rules}
+use Rattle.std.proofs.Common.{◌∙◌, rules}
 use Rattle.net_words.proofs.BindLemmas.{nets_step}
 use Rattle.net_words.proofs.binding.bind_word.Goals as goal
 

@@ -1,4 +1,4 @@
-use Rattle.std.proofs.Common.{◌≡◌, ◌∙◌, ap, refl, [], List, ℕ, rules, length}
+use Rattle.std.proofs.Common.{◌≡◌, ◌∙◌, ap, refl, rules, length}
 use Rattle.net_words.specs.declared.bound.BoundWord.{BoundWord}
 use Rattle.net_words.specs.declared.word.WordText.{WordText}
 use Rattle.net_words.proofs.ZipLemmas.{all-grow}

@@ -1,0 +1,10 @@
+pub mod ChoiceLemmas
+pub mod GivenLemmas
+pub mod OneRunLemmas
+pub mod OpenRunLemmas
+pub mod OutLemmas
+pub mod PlainLemmas
+pub mod SliceLemmas
+pub mod SomeRunLemmas
+pub mod SourceLemmas
+pub mod WordLemmas

@@ -1,0 +1,108 @@
+-- Evaluation gives the output.
+use Rattle.std.proofs.Common.{◌≡◌, ◌∙◌, ap, sym, refl, subst, ℕ, zero, suc, ◌<◌, ◌≤◌, ◌+◌, ◌^◌, Bool, true, false, List, [], ◌∷◌, length, get_or, map, Option, None, Some, IfSome, arith}
+use Rattle.std.specs.Prelude.{slice_get, unwrap_or, eqb}
+use Rattle.std.specs.Option.{option_eq}
+use Rattle.std.proofs.lemmas.Bool.Decides.{nat_tests}
+use Rattle.std.proofs.lemmas.List.{length-map}
+use Rattle.std.proofs.lemmas.Option.{slice_get_within}
+use Rattle.net_core.specs.NetList.{NetList}
+use Rattle.net_core.specs.LatchValue.{LatchValue}
+use Rattle.net_core.specs.Lists.{Has}
+use Rattle.net_core.specs.Value.{IsConsistent, HasValues}
+use Rattle.net_core.proofs.DriverLemmas.{Has_left, Has_right, from_map}
+use Rattle.graph_core.proofs.ListLemmas.{get_below}
+use Rattle.circuit_model.specs.declared.circuit_word.CircuitWord.{CircuitWord}
+use Rattle.circuit_model.specs.Word.{Word, HasElement, word_nets}
+use Rattle.circuit_model.specs.Circuit.{Circuit}
+use Rattle.circuit_model.specs.Run.{HaveElements, IsInputWord, IsAnyWord, IsCycle, IsFirst, HasZeros}
+use Rattle.circuit_model.specs.Out.{IsOut}
+use Rattle.circuit_model.specs.Flat.{word_of, circuit_of, HaveAll, HaveZeros}
+use Rattle.circuit_model.proofs.SliceLemmas.{rest, rest_is, get_rest}
+
+pub first_at : (words : List CircuitWord) (w : CircuitWord) → 1 ≤ length words → w ≡ get_or words 0 w → slice_get words 0 ≡ Some w
+first_at [] w some is = absurd (omega arith)
+first_at (u ∷ us) w some is = ap Some (sym is)
+
+pub named_first : (words : List CircuitWord) (w : CircuitWord) (n : ℕ) → 1 ≤ length words → w ≡ get_or words 0 w → Has w.nets.items n → Has (word_nets (map word_of words)) n
+named_first [] w n some is has = absurd (omega arith)
+named_first (u ∷ us) w n some is has =
+    let P : CircuitWord → Type 0 = λ v. Has v.nets.items n in
+    Has_left u.nets.items (word_nets (map word_of us)) n (subst P is has)
+
+pub named_rest : (words : List CircuitWord) (n : ℕ) → Has (word_nets (map word_of (rest words))) n → Has (word_nets (map word_of words)) n
+named_rest [] n has = has
+named_rest (u ∷ us) n has =
+    let P : List CircuitWord → Type 0 = λ ws. Has (word_nets (map word_of ws)) n in
+    Has_right u.nets.items (word_nets (map word_of us)) n (subst P (rest_is u us) has)
+
+pub have_all : (words : List CircuitWord) (xs : List ℕ) (bits : List Bool) (first : CircuitWord) (e : ℕ) → slice_get words 0 ≡ Some first → slice_get xs 0 ≡ Some e → HasElement bits (word_of first) e → HaveAll (rest words) (rest xs) bits → HaveAll words xs bits
+have_all words xs bits first e is here has later zero w x got at =
+    let same : first ≡ w = cc in
+    let equal : e ≡ x = cc in
+    let P : CircuitWord → Type 0 = λ v. HasElement bits (word_of v) x in
+    let Q : ℕ → Type 0 = λ y. HasElement bits (word_of first) y in
+    subst P same (subst Q equal has)
+have_all words xs bits first e is here has later (suc i) w x got at = later i w x (get_rest words i w got) (get_rest xs i x at)
+
+pub found_is : (o : Option ℕ) (P : ℕ → Type 0) (e : ℕ) → IfSome o P → o ≡ Some e → P e
+found_is None P e some is = absurd (cc)
+found_is (Some x) P e some is = let same : x ≡ e = cc in subst P same some
+
+pub if_some : (o : Option ℕ) (P Q : ℕ → Type 0) → ((e : ℕ) → P e → Q e) → IfSome o P → IfSome o Q
+if_some None P Q f some = tt
+if_some (Some x) P Q f some = f x some
+
+module _ (k : ℕ) (product : ℕ → ℕ → ℕ) (net : NetList) (words : List CircuitWord) (output : CircuitWord) (xs : List ℕ) (bits values : List Bool) where
+  abbrev circuit : Circuit
+  circuit = circuit_of k product net words output
+
+  all_words : (P : Word → Type 0) → HaveAll words xs bits → HaveElements circuit P xs bits
+  all_words P have i w x got at p =
+      let found = from_map word_of words i w got in
+      let Q : Word → Type 0 = λ v. HasElement bits v x in
+      subst Q found.2 (have i found.0 x found.1 at)
+
+  no_latch : net.latches ≡ [] → (l : LatchValue) → Has net.latches l → ⊥
+  no_latch flat l has = let got : slice_get net.latches has.0 ≡ Some l = has.1 in let got' = rw flat at got in absurd (cc)
+
+  zeros : length values ≡ length net.inputs → HasValues net values bits → HaveZeros words net.inputs values → HasZeros circuit bits
+  zeros long has empty n input none =
+      let v = get_below values input.0 (omega (arith, slice_get_within net.inputs input.0 n input.1)) in
+      ap (λ o. unwrap_or o false) (has input.0 n v.0 input.1 v.1) ∙ empty input.0 n v.0 input.1 v.1 none
+
+  one_at : (P : List Bool → Type 0) → P bits → (t : ℕ) (b : List Bool) → slice_get (bits ∷ []) t ≡ Some b → P b
+  one_at P p zero b got = let same : bits ≡ b = cc in subst P same p
+  one_at P p (suc t) b got = absurd (cc)
+
+  no_next : (t : ℕ) (b : List Bool) → slice_get (bits ∷ []) (t + 1) ≡ Some b → ⊥
+  no_next t b got =
+      let e : t + 1 ≡ suc t = omega arith in
+      let P : ℕ → Type 0 = λ s. slice_get (bits ∷ []) s ≡ Some b in
+      let got' : slice_get (bits ∷ []) (suc t) ≡ Some b = subst P e got in
+      none t got'
+    where
+      none : (t : ℕ) → slice_get (bits ∷ []) (suc t) ≡ Some b → ⊥
+      none t got = cc
+
+  pub plain_out : net.latches ≡ [] → length xs ≡ length words → ((x : ℕ) → Has xs x → x < 2 ^ k) → length values ≡ length net.inputs → IsConsistent net bits → HasValues net values bits → HaveZeros words net.inputs values → HaveAll words xs bits → (e : ℕ) → HasElement bits (word_of output) e → IsOut circuit xs e
+  plain_out flat many elements long consistent has empty have e ends = record {
+    run = bits ∷ [];
+    is_run = record {
+      open_run = record {
+        input = record { long = many ∙ sym (length-map words word_of); elements = elements };
+        long = refl;
+        each = one_at (IsCycle circuit xs) (record { consistent = consistent; inputs = all_words (IsInputWord) have });
+        first = λ b got. one_at (IsFirst circuit xs) (record { words = all_words IsAnyWord have; latches = λ l in_net. absurd (no_latch flat l in_net) }) 0 b got;
+        next = λ t u b at_u at_b. absurd (no_next t b at_b);
+      };
+      zeros = one_at (HasZeros circuit) (zeros long has empty);
+    };
+    ends = record { last = bits; at = refl; element = ends };
+  }
+
+pub option_is : (o : Option ℕ) (r : Bool) (x : ℕ) → r ≡ option_eq eqb o (Some x) → r ≡ true → o ≡ Some x
+option_is None r x is r_true = absurd (cc)
+option_is (Some y) r x is r_true = ap Some (both y x (sym is ∙ r_true))
+  where
+    both : (a b : ℕ) → eqb a b ≡ true → a ≡ b
+    both a b same = grind (arith, nat_tests)

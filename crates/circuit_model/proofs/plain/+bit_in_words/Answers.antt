@@ -1,0 +1,20 @@
+use Rattle.std.proofs.Common.{rules, arith, ◌∙◌, subst, List, ℕ}
+use Rattle.net_core.specs.Lists.{Has}
+use Rattle.circuit_model.proofs.PlainLemmas.{first_at, named_first, named_rest}
+use Rattle.circuit_model.proofs.SliceLemmas.{rest_has, rest_long, first_get}
+use Rattle.circuit_model.proofs.plain.+bit_in_words.Goals as goal
+
+pub bit_in_words-other-requires : goal.bit_in_words-other-requires
+bit_in_words-other-requires g t c κs within = (search rules, (search rules, ((λ w has. c.requires.over w (rest_has c.args.words.now w has)), (rest_long c.args.xs.now c.args.words.now c.requires.long, λ x has. c.requires.elements x (rest_has c.args.xs.now x has)))))
+
+pub bits_of-requires-clause-element : goal.bits_of-requires-clause-element
+bits_of-requires-clause-element g t c = c.requires.elements _ (0, first_get c.args.xs.now (omega (arith, c.in-len1-up.len_at_least, c.requires.long)))
+
+pub bits_of-requires-clause-over : goal.bits_of-requires-clause-over
+bits_of-requires-clause-over g t c = c.requires.over c.first-item.result (0, first_at c.args.words.now c.first-item.result c.in-len1-up.len_at_least c.first-item.is)
+
+pub returns-in-len1-up : goal.returns-in-len1-up
+returns-in-len1-up g t c = λ none.
+    let P : List ℕ → Type 0 = λ ns. Has ns c.args.net in
+    c.bit_in_word.ensures (λ has. none (named_first c.args.words.now c.first-item.result c.args.net c.in-len1-up.len_at_least c.first-item.is (subst P c.deref.ensures.value has)))
+    ∙ c.bit_in_words-other.ensures (λ has. none (named_rest c.args.words.now c.args.net has))

@@ -1,0 +1,6 @@
+pub mod Word
+pub mod Circuit
+pub mod WellFormed
+pub mod Run
+pub mod Out
+pub mod Flat

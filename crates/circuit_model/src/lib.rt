@@ -1,0 +1,13 @@
+//! What a circuit computes: words in a basis, the runs of a net with words at an input, and its output there.
+//! `output` evaluates a circuit gate by gate; the other functions do nothing: their contracts are laws of the definitions.
+#![tactic(auto)]
+
+mod circuit_word;
+mod laws;
+mod plain;
+#[cfg(test)]
+mod tests;
+
+pub use circuit_word::CircuitWord;
+pub use laws::{one_output, one_run, output_of_open_runs};
+pub use plain::output;

@@ -1,0 +1,143 @@
+//! The output of a circuit without latches, gate by gate.
+ghost use Rattle.std.specs.Prelude.{◌≡◌, ◌≤◌, ◌<◌, ◌^◌, ℕ, [], length, IfOk, IfSome, IsTrue, slice_get, false, if◌then◌else◌};
+ghost use Rattle.net_core.specs.Lists.{Has};
+ghost use Rattle.net_core.specs.Value.{bit_of, index_of};
+ghost use Rattle.gf_field.specs.Element.{AreElements};
+ghost use Rattle.gf_basis.specs.BasisParts.{IsOver};
+ghost use Rattle.circuit_model.specs.Word.{HasElement};
+ghost use Rattle.circuit_model.specs.Circuit.{IsInput};
+ghost use Rattle.circuit_model.specs.Out.{IsOut};
+ghost use Rattle.circuit_model.specs.Flat.{AreOver, HaveAll, HaveZeros, IsUnnamed, circuit_of, word_of};
+
+use crate::circuit_word::CircuitWord;
+use gf_field::Field;
+use net_core::{Net, eval};
+use std::alloc::{AllocError, Global};
+
+// The bit of a net as a number.
+fn bit(bits: &[bool], net: u32) -> u64
+    ensures { result ≡ (if bit_of bits.now net then 1 else 0) }
+{
+    match bits.get(net as usize) {
+        Some(true) => 1,
+        _ => 0,
+    }
+}
+
+// The bits of nets as a number, place 0 lowest.
+fn word_bits(bits: &[bool], nets: &[u32]) -> u64
+    requires { length nets.now ≤ 64 }
+    ensures word { result ≡ index_of bits.now nets.now }
+    ensures small { result < 2 ^ length nets.now }
+{
+    match nets {
+        [] => 0,
+        [first, rest @ ..] => bit(bits, *first) + 2 * word_bits(bits, rest),
+    }
+}
+
+// The element of a word, if it has k nets.
+fn element<F: Field>(field: &F, bits: &[bool], word: &CircuitWord) -> Option<u64>
+    requires { IsOver (F.degree field.now) (F.product field.now) word.now.basis }
+    ensures { IfSome result (λ e. HasElement bits.now (word_of word.now) e) }
+{
+    if word.nets.len() == field.k() as usize {
+        Some(word.basis.element_of(word_bits(bits, &word.nets)))
+    } else {
+        None
+    }
+}
+
+// Whether each word has its element.
+fn have_elements<F: Field>(field: &F, bits: &[bool], words: &[CircuitWord], xs: &[u64]) -> bool
+    requires over { AreOver (F.degree field.now) (F.product field.now) words.now }
+    requires long { length xs.now ≡ length words.now }
+    ensures { IsTrue result → HaveAll words.now xs.now bits.now }
+{
+    match words {
+        [] => true,
+        [first, rest @ ..] => {
+            element(field, bits, first) == Some(xs[0]) && have_elements(field, bits, rest, &xs[1..])
+        }
+    }
+}
+
+// The bit of a net of a word whose bits these are, and another where it is no net of the word.
+fn bit_in_word(nets: &[u32], bits: u64, net: u32, other: bool) -> bool
+    ensures { (Has nets.now net → ⊥) → result ≡ other }
+{
+    match nets {
+        [] => other,
+        [first, rest @ ..] => {
+            if *first == net {
+                bits % 2 == 1
+            } else {
+                bit_in_word(rest, bits / 2, net, other)
+            }
+        }
+    }
+}
+
+// The bit of a net where the words have these elements, and 0 where no word has the net.
+fn bit_in_words<F: Field>(field: &F, words: &[CircuitWord], xs: &[u64], net: u32) -> bool
+    requires over { AreOver (F.degree field.now) (F.product field.now) words.now }
+    requires long { length xs.now ≡ length words.now }
+    requires elements { (x : ℕ) → Has xs.now x → x < 2 ^ F.degree field.now }
+    ensures { IsUnnamed words.now net → result ≡ false }
+{
+    match words {
+        [] => false,
+        [first, rest @ ..] => {
+            let other = bit_in_words(field, rest, &xs[1..], net);
+            bit_in_word(&first.nets, first.basis.bits_of(field, xs[0]), net, other)
+        }
+    }
+}
+
+// The values of the primary inputs where the words have these elements.
+fn input_values<F: Field>(
+    alloc: Global,
+    field: &F,
+    net: &Net,
+    words: &[CircuitWord],
+    xs: &[u64],
+) -> Result<Vec<bool>, AllocError>
+    requires over { AreOver (F.degree field.now) (F.product field.now) words.now }
+    requires long { length xs.now ≡ length words.now }
+    requires elements { (x : ℕ) → Has xs.now x → x < 2 ^ F.degree field.now }
+    ensures long { IfOk result (λ v. length v.items ≡ length net.now.inputs) }
+    ensures zeros { IfOk result (λ v. HaveZeros words.now net.now.inputs v.items) }
+{
+    let mut values = vec![in alloc; false; net.inputs().len()]?;
+    for (i, input) in net.inputs().iter().enumerate() {
+        values[i] = bit_in_words(field, words, xs, *input);
+    }
+    Ok(values)
+}
+
+/// The output of a circuit without latches at an input, by evaluation gate by gate: slow, and no more than the
+/// definition. It is none where a word has not k nets, or its nets can't have the bits of its element, as where
+/// one of them is no primary input.
+pub fn output<F: Field>(
+    alloc: Global,
+    field: &F,
+    net: &Net,
+    words: &[CircuitWord],
+    output: &CircuitWord,
+    xs: &[u64],
+) -> Result<Option<u64>, AllocError>
+    requires flat { net.now.latches ≡ [] }
+    requires over { AreOver (F.degree field.now) (F.product field.now) words.now }
+    requires over_output { IsOver (F.degree field.now) (F.product field.now) output.now.basis }
+    requires long { length xs.now ≡ length words.now }
+    requires elements { (x : ℕ) → Has xs.now x → x < 2 ^ F.degree field.now }
+    ensures output { IfOk result (λ found. IfSome found (λ e. IsOut (circuit_of (F.degree field.now) (F.product field.now) net.now words.now output.now) xs.now e)) }
+{
+    let values = input_values(alloc, field, net, words, xs)?;
+    let bits = eval(alloc, net, &values)?;
+    if have_elements(field, &bits, words, xs) {
+        Ok(element(field, &bits, output))
+    } else {
+        Ok(None)
+    }
+}

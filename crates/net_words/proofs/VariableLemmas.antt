@@ -1,0 +1,139 @@
+-- The order of variables, while it is made.
+use Rattle.std.proofs.Common.{◌≡◌, ◌∙◌, ap, sym, refl, subst, ℕ, zero, suc, ◌<◌, ◌≤◌, ◌+◌, ◌*◌, ◌^◌, ◌==◌, ◌||◌, List, [], ◌∷◌, ◌++◌, length, drop, get_or, filter, Bool, true, false, not, cond, arith, below_more, eq-eqb, All}
+use Rattle.std.proofs.lemmas.Bool.{eqb-true}
+use Rattle.std.proofs.lemmas.List.{drop_more}
+use Rattle.std.proofs.lemmas.List.Elements.{filter-append}
+use Rattle.std.proofs.lemmas.List.FromFn.{length-range_with_len, get_or-range_with_len}
+use Rattle.std.specs.List.{range_with_len}
+use Rattle.net_words.specs.Bind.{stands_in}
+use Rattle.net_words.specs.Variables.{bits, bits_with, others, variables, IsRanked}
+use Rattle.net_words.specs.declared.bound.BoundWord.{BoundWord}
+use Rattle.net_words.specs.declared.word.Role.{Role}
+use Rattle.net_words.specs.declared.word.Role.TheVariants.{Input, State, Output}
+
+join : {A : Type 0} (xs ys zs : List A) → (xs ++ ys) ++ zs ≡ xs ++ (ys ++ zs)
+join [] ys zs = refl
+join (x ∷ xs) ys zs = ap (λ rest. x ∷ rest) (join xs ys zs)
+
+-- the bits of one more word
+pub bits_step : (words : List BoundWord) (i : ℕ) (d : BoundWord) (list new whole : List ℕ) → i < length words → new ≡ list ++ bits_with (get_or words i d).role (get_or words i d).nets → list ++ bits (drop i words) ≡ whole → new ++ bits (drop (i + 1) words) ≡ whole
+bits_step words i d list new whole less is same =
+    let word : BoundWord = get_or words i d in
+    ap (λ xs. xs ++ bits (drop (i + 1) words)) is ∙ join list (bits_with word.role word.nets) (bits (drop (i + 1) words)) ∙ ap (λ ws. list ++ bits ws) (sym (drop_more words i d less)) ∙ same
+
+range_more : (a n : ℕ) → range_with_len a (suc n) ≡ range_with_len a n ++ (a + n) ∷ []
+range_more a zero = ap (λ m. m ∷ []) (omega arith)
+range_more a (suc n) = ap (λ xs. a ∷ xs) (range_more (a + 1) n ∙ ap (λ m. range_with_len (a + 1) n ++ m ∷ []) (omega arith))
+
+-- one more net that may be none of the bits
+pub others_step : (list order new : List ℕ) (n : ℕ) (b : Bool) → b ≡ stands_in list n → order ≡ list ++ others n list → new ≡ order ++ cond (not b) (n ∷ []) [] → new ≡ list ++ others (n + 1) list
+others_step list order new n b is old more =
+    let p : ℕ → Bool = λ m. not (stands_in list m) in
+    let next : n + 1 ≡ suc n = omega arith in
+    more ∙ ap (λ xs. xs ++ cond (not b) (n ∷ []) []) old ∙ join list (others n list) (cond (not b) (n ∷ []) []) ∙ ap (λ c. list ++ (others n list ++ cond (not c) (n ∷ []) [])) is ∙ ap (λ xs. list ++ xs) (sym (ap (filter p) (ap (range_with_len 0) next ∙ range_more 0 n ∙ ap (λ m. range_with_len 0 n ++ m ∷ []) (omega arith)) ∙ filter-append p (range_with_len 0 n) (n ∷ [])))
+
+-- the nets of the first places have ranks
+abbrev pub AreRanked : ℕ → List ℕ → List ℕ → ℕ → Type 0
+AreRanked count order ranks i = (j : ℕ) → j < i → get_or order j 0 < count → IsRanked order (get_or ranks (get_or order j 0) 0) (get_or order j 0)
+
+pub rank_step : (count : ℕ) (order ranks new : List ℕ) (i : ℕ) → i < length order → ((n : ℕ) → n < count → get_or new n 0 ≡ cond (n == get_or order i 0) i (get_or ranks n 0)) → AreRanked count order ranks i → AreRanked count order new (i + 1)
+rank_step count order ranks new i less set old =
+    below_more _ _ (λ j below small. by (get_or order j 0) small (old j below small)) (λ small. same (get_or order i 0) small refl)
+  where
+    same : (n : ℕ) → n < count → get_or order i 0 ≡ n → IsRanked order (get_or new n 0) n
+    same n small is =
+        let found : get_or new n 0 ≡ i = set n small ∙ ap (λ b. cond b i (get_or ranks n 0)) (eq-eqb n (get_or order i 0) (sym is)) in
+        let P : ℕ → Type 0 = λ r. IsRanked order r n in
+        subst P (sym found) (less, is)
+
+    by : (n : ℕ) → n < count → IsRanked order (get_or ranks n 0) n → IsRanked order (get_or new n 0) n
+    by n small was =
+        let P : ℕ → Type 0 = λ r. IsRanked order r n in
+        elim (n == get_or order i 0) as (λ b. (n == get_or order i 0) ≡ b → IsRanked order (get_or new n 0) n) [
+          | true ↦ λ e. same n small (sym (eqb-true n (get_or order i 0) e))
+          | false ↦ λ e. subst P (sym (set n small ∙ ap (λ b. cond b i (get_or ranks n 0)) e)) was
+        ] refl
+
+-- the number stands at some place
+abbrev At : List ℕ → ℕ → Type 0
+At xs n = (k : ℕ) × IsRanked xs k n
+
+at_later : (x : ℕ) (xs : List ℕ) (n : ℕ) → At xs n → At (x ∷ xs) n
+at_later x xs n at = (suc at.0, (omega (arith, at.1.0), at.1.1))
+
+at_left : (xs ys : List ℕ) (n k : ℕ) → IsRanked xs k n → At (xs ++ ys) n
+at_left [] ys n k at = absurd (omega (arith, at.0))
+at_left (x ∷ xs) ys n zero at = (0, (omega arith, at.1))
+at_left (x ∷ xs) ys n (suc k) at = at_later x (xs ++ ys) n (at_left xs ys n k (omega (arith, at.0), at.1))
+
+at_right : (xs ys : List ℕ) (n : ℕ) → At ys n → At (xs ++ ys) n
+at_right [] ys n at = at
+at_right (x ∷ xs) ys n at = at_later x (xs ++ ys) n (at_right xs ys n at)
+
+at_any : (xs : List ℕ) (n : ℕ) → stands_in xs n ≡ true → At xs n
+at_any [] n e = absurd (cc)
+at_any (x ∷ xs) n e =
+    elim (x == n) as (λ b. (x == n) ≡ b → At (x ∷ xs) n) [
+      | true ↦ λ is. (0, (omega arith, eqb-true x n is))
+      | false ↦ λ is. at_later x xs n (at_any xs n (sym (ap (λ b. b || stands_in xs n) is) ∙ e))
+    ] refl
+
+at_filter : (p : ℕ → Bool) (xs : List ℕ) (n k : ℕ) → p n ≡ true → IsRanked xs k n → At (filter p xs) n
+at_filter p [] n k hit at = absurd (omega (arith, at.0))
+at_filter p (x ∷ xs) n zero hit at =
+    let is : x ≡ n = at.1 in
+    let P : Bool → Type 0 = λ b. At (cond b (x ∷ filter p xs) (filter p xs)) n in
+    subst P (sym (ap p is ∙ hit)) (0, (omega arith, is))
+at_filter p (x ∷ xs) n (suc k) hit at =
+    let rest : At (filter p xs) n = at_filter p xs n k hit (omega (arith, at.0), at.1) in
+    elim (p x) as (λ b. At (cond b (x ∷ filter p xs) (filter p xs)) n) [
+      | true ↦ at_later x (filter p xs) n rest
+      | false ↦ rest
+    ]
+
+at_range : (c n : ℕ) → n < c → IsRanked (range_with_len 0 c) n n
+at_range c n less = (omega (arith, length-range_with_len 0 c, less), get_or-range_with_len 0 c n 0 less ∙ omega arith)
+
+-- each net is a variable
+all_variables : (count : ℕ) (words : List BoundWord) (n : ℕ) → n < count → At (variables count words) n
+all_variables count words n less =
+    elim (stands_in (bits words) n) as (λ b. stands_in (bits words) n ≡ b → At (variables count words) n) [
+      | true ↦ λ e. (let at : At (bits words) n = at_any (bits words) n e in at_left (bits words) (others count (bits words)) n at.0 at.1)
+      | false ↦ λ e. at_right (bits words) (others count (bits words)) n (at_filter (λ m. not (stands_in (bits words) m)) (range_with_len 0 count) n n (ap not e) (at_range count n less))
+    ] refl
+
+-- each net has its rank
+pub each_ranked : (count : ℕ) (words : List BoundWord) (order ranks : List ℕ) → order ≡ variables count words → AreRanked count order ranks (length order) → (n : ℕ) → n < count → IsRanked (variables count words) (get_or ranks n 0) n
+each_ranked count words order ranks is ranked n less =
+    let at : At (variables count words) n = all_variables count words n less in
+    let P : List ℕ → Type 0 = λ xs. AreRanked count xs ranks (length xs) in
+    let Q : ℕ → Type 0 = λ m. m < count → IsRanked (variables count words) (get_or ranks m 0) m in
+    subst Q at.1.1 (subst P is ranked at.0 at.1.0) less
+
+length-join : (xs ys : List ℕ) → length (xs ++ ys) ≡ length xs + length ys
+length-join [] ys = omega arith
+length-join (x ∷ xs) ys = omega (arith, length-join xs ys)
+
+few_bits : (role : Role) (list : List ℕ) → length (bits_with role list) ≤ length list
+few_bits Input list = omega arith
+few_bits State list = omega arith
+few_bits Output list = omega arith
+
+few_filtered : (p : ℕ → Bool) (xs : List ℕ) → length (filter p xs) ≤ length xs
+few_filtered p [] = omega arith
+few_filtered p (x ∷ xs) =
+    let rest : length (filter p xs) ≤ length xs = few_filtered p xs in
+    elim (p x) as (λ b. length (cond b (x ∷ filter p xs) (filter p xs)) ≤ suc (length xs)) [ true ↦ omega arith | false ↦ omega arith ]
+
+bits_short : (k : ℕ) (words : List BoundWord) → k ≤ 64 → All (λ word. length word.nets ≡ k) words → length (bits words) ≤ 64 * length words
+bits_short k [] small each = omega arith
+bits_short k (word ∷ words) small each =
+    let one : length word.nets ≡ k = each 0 word (omega arith) in
+    let rest : length (bits words) ≤ 64 * length words = bits_short k words small (λ j e below. each (suc j) e (omega arith)) in
+    omega (arith, length-join (bits_with word.role word.nets) (bits words), few_bits word.role word.nets, one, rest, small)
+
+-- there are few variables
+pub variables_short : (count k : ℕ) (words : List BoundWord) → count ≤ 2 ^ 20 → k ≤ 64 → length words ≤ 9 → All (λ word. length word.nets ≡ k) words → length (variables count words) < 2 ^ 32
+variables_short count k words few small nine each =
+    let p : ℕ → Bool = λ n. not (stands_in (bits words) n) in
+    omega (arith, length-join (bits words) (others count (bits words)), few_filtered p (range_with_len 0 count), length-range_with_len 0 count, bits_short k words small each, few, nine)

@@ -1,0 +1,29 @@
+-- Cuts: the output word as a function of all nets but the outputs of the gates that are eliminated first.
+-- Source: Lv, Kalla, Enescu, IEEE TCAD 2013, for elimination in reverse topological order; the exact order is this project's own.
+use Rattle.std.specs.Prelude.{◌≡◌, ◌≢◌, ℕ, ◌<◌, Bool, List, Some, length, slice_get}
+use Rattle.net_core.specs.NetList.{NetList, nets}
+use Rattle.net_core.specs.GateValue.{GateValue}
+use Rattle.net_core.specs.Order.{IsElimination}
+use Rattle.net_core.specs.Value.{bit_of, IsRight}
+use Rattle.poly_mixed.specs.Polynomial.{Point}
+use Rattle.circuit_model.specs.Word.{HasElement}
+use Rattle.circuit_model.specs.Circuit.{Circuit}
+use Rattle.stage_model.specs.Variables.{point_bit}
+
+-- the gate is among the first t of the order
+abbrev pub IsAmongFirst : NetList → List ℕ → ℕ → GateValue → Type 0
+IsAmongFirst net order t g = (i : ℕ) × (p : ℕ) × (i < t) × (slice_get order i ≡ Some p) × (slice_get net.gates p ≡ Some g)
+
+-- bits that agree with the point on all nets but the outputs of the first t gates, and with these gates' tables
+pub record IsSettled (circuit : Circuit) (order : List ℕ) (t : ℕ) (p : Point) (bits : List Bool) : Type 0 where
+  pub long : length bits ≡ nets circuit.net
+  pub free : (n : ℕ) → n < nets circuit.net → ((g : GateValue) → IsAmongFirst circuit.net order t g → g.out ≢ n) → bit_of bits n ≡ point_bit circuit p n
+  pub right : (g : GateValue) → IsAmongFirst circuit.net order t g → IsRight bits g
+
+-- cut t relates the point to e: the output word's element, the first t gates of the order of elimination being settled and all other nets free
+pub record IsCut (circuit : Circuit) (t : ℕ) (p : Point) (e : ℕ) : Type 0 where
+  pub order : List ℕ
+  pub elimination : IsElimination circuit.net order
+  pub bits : List Bool
+  pub settled : IsSettled circuit order t p bits
+  pub element : HasElement bits circuit.output e

@@ -1,0 +1,4 @@
+pub mod Variables
+pub mod Cut
+pub mod Mix
+pub mod Stage

@@ -1,0 +1,33 @@
+-- Stages as relations between points and elements: their polynomials, their sizes, and the first over a bound.
+-- Source: this project's own.
+use Rattle.std.specs.Prelude.{◌≡◌, ℕ, ◌<◌, ◌≤◌, length}
+use Rattle.poly_mixed.specs.Polynomial.{Terms, Point, IsPoint, IsReduced, value}
+
+module _ (k : ℕ) (mul : ℕ → ℕ → ℕ) where
+  -- a reduced polynomial to whose value the stage relates each point
+  pub record IsOfStage (stage : Point → ℕ → Type 0) (ts : Terms) : Type 0 where
+    pub reduced : IsReduced k ts
+    pub values : (p : Point) → IsPoint k p → stage p (value mul p ts)
+
+  -- the stage has a polynomial of n terms
+  pub record HasSize (stage : Point → ℕ → Type 0) (n : ℕ) : Type 0 where
+    pub terms : Terms
+    pub is : IsOfStage stage terms
+    pub size : length terms ≡ n
+
+  -- the stage has a size, which is not greater than the bound
+  pub record IsWithin (stage : Point → ℕ → Type 0) (bound : ℕ) : Type 0 where
+    pub size : ℕ
+    pub has : HasSize stage size
+    pub within : size ≤ bound
+
+  -- none of the first `count` stages is over the bound
+  abbrev pub IsNoneOver : (ℕ → Point → ℕ → Type 0) → ℕ → ℕ → Type 0
+  IsNoneOver stages count bound = (i : ℕ) → i < count → IsWithin (stages i) bound
+
+  -- stage i of `count` is the first over the bound, and has n terms
+  pub record IsFirstOver (stages : ℕ → Point → ℕ → Type 0) (count bound i n : ℕ) : Type 0 where
+    pub inside : i < count
+    pub size : HasSize (stages i) n
+    pub over : bound < n
+    pub before : IsNoneOver stages i bound
