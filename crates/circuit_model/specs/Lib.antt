@@ -4,3 +4,4 @@ pub mod WellFormed
 pub mod Run
 pub mod Out
 pub mod Flat
+pub mod OfBinding

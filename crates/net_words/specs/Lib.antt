@@ -5,4 +5,6 @@ pub mod Binding
 pub mod Bind
 pub mod BindReading
 pub mod Variables
+pub mod Reach
+pub mod BoundTo
 pub mod Reading

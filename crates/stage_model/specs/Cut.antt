@@ -5,25 +5,36 @@ use Rattle.net_core.specs.NetList.{NetList, nets}
 use Rattle.net_core.specs.GateValue.{GateValue}
 use Rattle.net_core.specs.Order.{IsElimination}
 use Rattle.net_core.specs.Value.{bit_of, IsRight}
+use Rattle.net_words.specs.Binding.{BoundNet}
+use Rattle.net_words.specs.Variables.{variables}
 use Rattle.poly_mixed.specs.Polynomial.{Point}
-use Rattle.circuit_model.specs.Word.{HasElement}
+use Rattle.circuit_model.specs.Word.{Word, HasElement}
 use Rattle.circuit_model.specs.Circuit.{Circuit}
-use Rattle.stage_model.specs.Variables.{point_bit}
+use Rattle.circuit_model.specs.OfBinding.{output_word}
+use Rattle.stage_model.specs.Variables.{point_bit, variables_of}
 
 -- the gate is among the first t of the order
 abbrev pub IsAmongFirst : NetList → List ℕ → ℕ → GateValue → Type 0
 IsAmongFirst net order t g = (i : ℕ) × (p : ℕ) × (i < t) × (slice_get order i ≡ Some p) × (slice_get net.gates p ≡ Some g)
 
 -- bits that agree with the point on all nets but the outputs of the first t gates, and with these gates' tables
-pub record IsSettled (circuit : Circuit) (order : List ℕ) (t : ℕ) (p : Point) (bits : List Bool) : Type 0 where
-  pub long : length bits ≡ nets circuit.net
-  pub free : (n : ℕ) → n < nets circuit.net → ((g : GateValue) → IsAmongFirst circuit.net order t g → g.out ≢ n) → bit_of bits n ≡ point_bit circuit p n
-  pub right : (g : GateValue) → IsAmongFirst circuit.net order t g → IsRight bits g
+pub record IsSettled (net : NetList) (variables : List ℕ) (order : List ℕ) (t : ℕ) (p : Point) (bits : List Bool) : Type 0 where
+  pub long : length bits ≡ nets net
+  pub free : (n : ℕ) → n < nets net → ((g : GateValue) → IsAmongFirst net order t g → g.out ≢ n) → bit_of bits n ≡ point_bit variables p n
+  pub right : (g : GateValue) → IsAmongFirst net order t g → IsRight bits g
 
 -- cut t relates the point to e: the output word's element, the first t gates of the order of elimination being settled and all other nets free
-pub record IsCut (circuit : Circuit) (t : ℕ) (p : Point) (e : ℕ) : Type 0 where
+pub record IsCut (net : NetList) (variables : List ℕ) (output : Word) (t : ℕ) (p : Point) (e : ℕ) : Type 0 where
   pub order : List ℕ
-  pub elimination : IsElimination circuit.net order
+  pub elimination : IsElimination net order
   pub bits : List Bool
-  pub settled : IsSettled circuit order t p bits
-  pub element : HasElement bits circuit.output e
+  pub settled : IsSettled net variables order t p bits
+  pub element : HasElement bits output e
+
+-- the cuts of a circuit
+abbrev pub CutOf : Circuit → ℕ → Point → ℕ → Type 0
+CutOf circuit = IsCut circuit.net (variables_of circuit) circuit.output
+
+-- the cuts of a net list with bound words, where the output word has this basis
+abbrev pub BoundCut : BoundNet → List ℕ → ℕ → Point → ℕ → Type 0
+BoundCut circuit basis = IsCut circuit.net (variables (nets circuit.net) circuit.bound.words) (output_word circuit.bound.words basis)

@@ -2,3 +2,4 @@ pub mod Variables
 pub mod Cut
 pub mod Mix
 pub mod Stage
+pub mod CutSteps

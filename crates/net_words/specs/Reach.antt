@@ -1,0 +1,15 @@
+-- What nets are drawn from. Source: the gates and latches of the BLIF format of UC Berkeley.
+use Rattle.std.specs.Prelude.{◌≡◌, ◌⊎◌, ℕ, List}
+use Rattle.graph_core.specs.Walk.{IsChain}
+use Rattle.net_core.specs.LatchValue.{LatchValue}
+use Rattle.net_core.specs.NetList.{NetList}
+use Rattle.net_core.specs.Lists.{Has}
+use Rattle.net_core.specs.Sound.{Needs}
+
+-- a gate that drives a has b among its inputs, or a latch that drives a takes its next bit from b
+abbrev pub Draws : NetList → ℕ → ℕ → Type 0
+Draws net a b = Needs net a b ⊎ ((l : LatchValue) × Has net.latches l × (l.out ≡ a) × (l.next ≡ b))
+
+-- the net is one of these, or one of these is drawn from it over a chain of nets
+abbrev pub Reaches : NetList → ℕ → List ℕ → Type 0
+Reaches net n ends = Has ends n ⊎ ((m : ℕ) × (over : List ℕ) × Has ends m × IsChain (Draws net) m over n)
