@@ -10,7 +10,7 @@ use Rattle.poly_mixed.proofs.FieldLaws.{IsField}
 use Rattle.poly_mixed.specs.Monomial.{Monomial, text_cmp}
 use Rattle.poly_mixed.specs.Polynomial.{Terms, Point, IsPoint, IsTerm, IsMap, IsReduced, powers, term_value, value}
 use Rattle.poly_mixed.specs.Monomial.{has_bit}
-use Rattle.poly_mixed.specs.Cofactor.{without_bit, lacking, cofactors, at_bit, IsSubstituted}
+use Rattle.poly_mixed.specs.Cofactor.{LacksBit, without_bit, lacking, cofactors, at_bit, IsSubstituted}
 use Rattle.poly_mixed.proofs.OneBit.{order_stays}
 use Rattle.gf_field.specs.XorLaws.{xor_swap}
 use Rattle.std.specs.Map.{keys_of}
@@ -160,3 +160,19 @@ module _ {degree : ℕ} {mul : ℕ → ℕ → ℕ} (f : IsField degree mul) whe
       let part_value : value mul p part ≡ q = ap (λ (ts : Terms). value mul p ts) hp ∙ value-cofactors mul p bit old in
       sum p at
       ∙ (λ i. bit_xor (value-lacking mul p bit old i) ((times p at ∙ f.comm (value mul p part) (value mul p by) (value_element f p at part rp.terms) (value_element f p at by rb.terms) ∙ ap (mul (value mul p by)) part_value) i))
+
+-- where no term has the bit, its cofactor has no term, and all terms lack it
+pub none_of_absent : (bit : ℕ) (ts : Terms) → LacksBit bit ts → cofactors bit ts ≡ []
+none_of_absent bit [] all = refl
+none_of_absent bit (t ∷ ts) all = ap (λ b. cond b ((without_bit bit t.0, t.1) ∷ cofactors bit ts) (cofactors bit ts)) all.0 ∙ none_of_absent bit ts all.1
+
+pub absent_of_none : (bit : ℕ) (ts : Terms) → cofactors bit ts ≡ [] → LacksBit bit ts
+absent_of_none bit [] none = tt
+absent_of_none bit (t ∷ ts) none = elim (has_bit bit t.0) as (λ b. has_bit bit t.0 ≡ b → LacksBit bit (t ∷ ts)) [
+    | true ↦ λ has. let more : (without_bit bit t.0, t.1) ∷ cofactors bit ts ≡ [] = sym (ap (λ b. cond b ((without_bit bit t.0, t.1) ∷ cofactors bit ts) (cofactors bit ts)) has) ∙ none in absurd (cc)
+    | false ↦ λ lacks. (lacks, absent_of_none bit ts (sym (ap (λ b. cond b ((without_bit bit t.0, t.1) ∷ cofactors bit ts) (cofactors bit ts)) lacks) ∙ none))
+  ] refl
+
+pub all_lacking : (bit : ℕ) (ts : Terms) → LacksBit bit ts → lacking bit ts ≡ ts
+all_lacking bit [] all = refl
+all_lacking bit (t ∷ ts) all = ap (λ b. cond (not b) (t ∷ lacking bit ts) (lacking bit ts)) all.0 ∙ ap (λ us. t ∷ us) (all_lacking bit ts all.1)

@@ -1,11 +1,11 @@
 //! Polynomials as finite maps from monomials to coefficients.
-ghost use Rattle.std.specs.Prelude.{◌≡◌, ℕ, ◌+◌, ◌<◌, ◌≤◌, ◌≢◌, length, IsOk, IfOk, OnOk, OnErr, bit_xor, []};
+ghost use Rattle.std.specs.Prelude.{◌≡◌, ℕ, ◌+◌, ◌<◌, ◌≤◌, ◌≢◌, length, IsOk, IfOk, OnOk, OnErr, ◌↔◌, bit_xor, []};
 ghost use Rattle.std.specs.List.{AllByRecursion, list_any};
 ghost use Rattle.gf_field.specs.Ring.{IsRing};
 ghost use Rattle.gf_field.specs.Field.{HasNoZeroDivisors};
 ghost use Rattle.poly_mixed.specs.Monomial.{Monomial, has_bit, text_cmp};
 ghost use Rattle.poly_mixed.specs.Polynomial.{Polynomial, polynomial, Point, coefficient, IsElement, IsMap, IsReduced, IsTerm, IsPoint, point, value, term_value as value_of_term};
-ghost use Rattle.poly_mixed.specs.Cofactor.{cofactors, lacking, IsCofactor, HasCofactorValues, IsSubstituted};
+ghost use Rattle.poly_mixed.specs.Cofactor.{cofactors, lacking, LacksBit, IsCofactor, HasCofactorValues, IsSubstituted};
 ghost use Rattle.poly_mixed.specs.Product.{IsProduct, AddsProduct};
 ghost use Rattle.poly_mixed.specs.Sum.{with_coefficient, plus_term, plus};
 
@@ -171,6 +171,7 @@ impl Poly {
         ensures map { IfOk result (λ q. IsCofactor bit self.now.terms q.terms) }
         ensures reduced { (k : ℕ) → IsReduced k self.now.terms → IfOk result (λ q. IsReduced k q.terms) }
         ensures values { (mul : ℕ → ℕ → ℕ) → IfOk result (λ q. HasCofactorValues mul bit self.now.terms q.terms) }
+        ensures stands { IfOk result (λ q. LacksBit bit self.now.terms ↔ (q.terms ≡ [])) }
     {
         self.with_bit(alloc, bit)
     }
@@ -187,6 +188,22 @@ impl Poly {
             }
         }
         Ok(out)
+    }
+
+    /// Takes out the terms with the bit, and gives them without it.
+    pub fn take_cofactor(&mut self, alloc: Global, bit: u32) -> Result<Poly, AllocError>
+        ensures map { IfOk result (λ q. IsCofactor bit self.old.terms q.terms) }
+        ensures reduced { (k : ℕ) → IsReduced k self.old.terms → IfOk result (λ q. IsReduced k q.terms) }
+        ensures values { (mul : ℕ → ℕ → ℕ) → IfOk result (λ q. HasCofactorValues mul bit self.old.terms q.terms) }
+        ensures stands { IfOk result (λ q. LacksBit bit self.old.terms ↔ (q.terms ≡ [])) }
+        ensures left { OnOk result (self.new ≡ polynomial (lacking bit self.old.terms)) }
+    {
+        let part = self.cofactor(alloc, bit)?;
+        if part.len() == 0 {
+            return Ok(part);
+        }
+        self.drop_bit(bit);
+        Ok(part)
     }
 
     /// Puts a polynomial in place of a bit.

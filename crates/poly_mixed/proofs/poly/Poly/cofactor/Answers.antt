@@ -2,7 +2,7 @@ use Rattle.std.proofs.Common.{sym, ◌∙◌, ap, subst}
 use Rattle.std.proofs.lemmas.Result.{IfOk-weaker}
 use Rattle.poly_mixed.specs.Cofactor.{IsCofactor}
 use Rattle.poly_mixed.specs.Polynomial.{Terms, IsReduced, value}
-use Rattle.poly_mixed.proofs.Cofactors.{reduced_cofactors, value-cofactors}
+use Rattle.poly_mixed.proofs.Cofactors.{reduced_cofactors, value-cofactors, none_of_absent, absent_of_none}
 use Rattle.poly_mixed.proofs.OneBit.{is_cofactor}
 use Rattle.poly_mixed.proofs.poly.Poly.cofactor.Goals as goal
 
@@ -19,3 +19,10 @@ returns-clause-reduced c k r =
 pub returns-clause-values : goal.returns-clause-values
 returns-clause-values c mul =
     IfOk-weaker c.with_bit.result _ _ (λ q e p. ap (λ (ts : Terms). value mul p ts) e ∙ value-cofactors mul p c.args.bit c.args.self.now.terms) c.with_bit.ensures.terms
+
+pub returns-clause-stands : goal.returns-clause-stands
+returns-clause-stands c =
+    IfOk-weaker c.with_bit.result _ _ (λ q e. (
+      (λ lacks. e ∙ none_of_absent c.args.bit c.args.self.now.terms lacks),
+      (λ none. absent_of_none c.args.bit c.args.self.now.terms (sym e ∙ none)),
+    )) c.with_bit.ensures.terms
