@@ -1,0 +1,6 @@
+mod Ranks
+mod Elimination
+mod PutIn
+mod FirstCut
+mod Bound
+mod Recorded

@@ -1,0 +1,9 @@
+//! The elimination of gates: from the output word to the polynomial of its element in the input bits, cut by cut,
+//! with the exact bound on the terms of each cut.
+#![tactic(auto)]
+
+mod eliminate;
+mod first_cut;
+mod reduce;
+
+pub use reduce::reduce_bits;

@@ -1,0 +1,76 @@
+//! The elimination of all gates.
+ghost use Rattle.std.specs.Prelude.{◌≡◌, ◌+◌, ◌<◌, ◌≤◌, ℕ, length, IfOk, IfErr, OnOk};
+ghost use Rattle.gf_basis.specs.BasisParts.{elements_of, IsOver};
+ghost use Rattle.net_core.specs.Order.{IsElimination};
+ghost use Rattle.stage_model.specs.Cut.{BoundCut};
+ghost use Rattle.stage_model.specs.Stage.{IsOfStage, IsNoneOver};
+ghost use Rattle.rato_reduce.specs.Refusal.{IsCutRefusal};
+ghost use Rattle.rato_reduce.specs.Recorded.{IsRecorded};
+
+use crate::eliminate::eliminate;
+use crate::first_cut::{first_cut, output_nets};
+use gf_basis::Basis;
+use gf_field::Field;
+use net_core::{Net, order};
+use net_words::Combinational;
+use poly_mixed::{Poly, ReduceFault, Stage, Steps};
+use std::alloc::{AllocError, Global};
+
+// The positions of the gates from the greatest level to the least, and within a level from the greatest position to the least.
+fn elimination(alloc: Global, net: &Net) -> Result<Vec<u32>, AllocError>
+    ensures { IfOk result (λ list. IsElimination net.now list.items) }
+{
+    let mut list = order(alloc, net)?;
+    list.as_mut_slice().reverse();
+    Ok(list)
+}
+
+// Refuses a cut of more terms than the bound.
+fn check_size(poly: &Poly, bound: u32, cut: u32) -> Result<(), ReduceFault>
+    ensures within { OnOk result (length poly.now.terms ≤ bound) }
+    ensures over { IfErr result (λ fault. (fault ≡ ReduceFault.TooManyTerms (Stage.Cut cut) (length poly.now.terms)) × (bound < length poly.now.terms)) }
+{
+    let terms = poly.len() as u64;
+    if terms > u64::from(bound) {
+        return Err(ReduceFault::TooManyTerms {
+            stage: Stage::Cut(cut),
+            terms,
+        });
+    }
+    Ok(())
+}
+
+/// The polynomial of the output word's element in the bits of the primary inputs: that of the last cut.
+///
+/// The gates are eliminated one by one, from the greatest level to the least and within a level from the greatest position
+/// to the least (Lv, Kalla, Enescu, IEEE TCAD 2013, in an order of this project's own). `output` is the basis of the
+/// output word, a basis of this field, and each word has k bits. For each gate whose output stands in the polynomial the
+/// recorder gets one pair: the net, and the terms with it, without it. `TooManyTerms` comes exactly at the first cut of
+/// more than `bound` terms, with that number.
+pub fn reduce_bits<F: Field, T: Steps>(
+    alloc: Global,
+    field: &F,
+    circuit: &Combinational,
+    output: &Basis,
+    bound: u32,
+    steps: &mut T,
+) -> Result<Poly, ReduceFault>
+    requires bits { circuit.now.bound.k ≡ F.degree field.now }
+    requires basis { IsOver (F.degree field.now) (F.product field.now) output.now }
+    ensures last { IfOk result (λ q. IsOfStage (F.degree field.now) (F.product field.now) (BoundCut circuit.now (elements_of output.now) (length circuit.now.net.gates)) q.terms) }
+    ensures within { OnOk result (IsNoneOver (F.degree field.now) (F.product field.now) (BoundCut circuit.now (elements_of output.now)) (length circuit.now.net.gates + 1) bound) }
+    ensures fault { IfErr result (IsCutRefusal (F.degree field.now) (F.product field.now) (BoundCut circuit.now (elements_of output.now)) (length circuit.now.net.gates + 1) bound) }
+    ensures steps { OnOk result (IsRecorded (F.degree field.now) (F.product field.now) circuit.now (elements_of output.now) (length circuit.now.net.gates) (T.steps steps.old) (T.steps steps.new)) }
+{
+    let net = circuit.net();
+    let order = elimination(alloc, net)?;
+    let list = output_nets(alloc, circuit.bound())?;
+    let mut poly = first_cut(alloc, field, circuit, output, &list)?;
+    check_size(&poly, bound, 0)?;
+    for t in 0..order.len() {
+        let gate = &net.gates()[order[t] as usize];
+        eliminate(alloc, field, circuit, gate, &mut poly, steps)?;
+        check_size(&poly, bound, t as u32 + 1)?;
+    }
+    Ok(poly)
+}
