@@ -1,6 +1,5 @@
 -- What comes of binding words is bound to the net list.
-use Rattle.std.proofs.Common.{◌≡◌, ◌≢◌, ◌∙◌, ap, sym, refl, inl, inr, ⊎_elim, subst, append_assoc, ℕ, zero, suc, ◌<◌, ◌≤◌, ◌+◌, ◌==◌, ◌&&◌, ◌||◌, not, List, [], ◌∷◌, ◌++◌, length, map, filter, Bool, true, false, cond, Option, Some, None, Result, Ok, Err, arith, All}
-use Rattle.std.specs.Prelude.{slice_get}
+use Rattle.std.proofs.Common.{◌≡◌, ◌∙◌, ap, sym, refl, ⊎_elim, subst, append_assoc, ℕ, zero, suc, ◌<◌, ◌≤◌, ◌==◌, ◌&&◌, ◌||◌, not, List, [], ◌∷◌, ◌++◌, length, map, filter, Bool, true, false, cond, Option, Some, None, Result, Ok, Err, arith, All}
 use Rattle.std.proofs.lemmas.Bool.{true≢false}
 use Rattle.std.proofs.lemmas.Bool.Decides.{eqb_tells}
 use Rattle.graph_core.specs.Walk.{IsChain}
@@ -9,13 +8,12 @@ use Rattle.net_core.specs.LatchValue.{LatchValue}
 use Rattle.net_core.specs.NetList.{NetList, nets, number_of}
 use Rattle.net_core.specs.Lists.{Has, times}
 use Rattle.net_core.specs.Inside.{IsInside}
-use Rattle.net_core.specs.Sound.{IsSound, Needs}
-use Rattle.net_core.specs.declared.latch.Start.{Start}
-use Rattle.net_core.specs.declared.latch.Start.TheVariants.{Zero, One, Unknown}
-use Rattle.net_core.proofs.DriverLemmas.{Has_map, Has_cases, times_append, All_has, none_here}
+use Rattle.net_core.specs.Sound.{IsSound}
+use Rattle.net_core.specs.declared.latch.Start.TheVariants.{Unknown}
+use Rattle.net_core.proofs.DriverLemmas.{Has_map, times_append, All_has, none_here}
 use Rattle.net_core.proofs.NameLemmas.{some_below}
-use Rattle.net_words.specs.Binding.{Binding, IsBinding, AreWords}
-use Rattle.net_words.specs.Bind.{stands_in, is_latch, with_role, place_net, taken_with, NetsOf, bound_word, BoundOf, same_role, in_word, feeds_gate, feeds_latch, is_used, is_uncovered, IsCovered, is_unknown, started, bits_of, BindingOf}
+use Rattle.net_words.specs.Binding.{Binding, AreWords}
+use Rattle.net_words.specs.Bind.{stands_in, is_latch, with_role, place_net, taken_with, NetsOf, bound_word, BoundOf, same_role, in_word, feeds_gate, feeds_latch, is_used, IsCovered, is_unknown, started, bits_of, BindingOf}
 use Rattle.net_words.specs.BoundTo.{output_bits, StandsOn, IsBoundTo}
 use Rattle.net_words.specs.Reach.{Draws, Reaches}
 use Rattle.net_words.specs.Signature.{is_output, input_count}

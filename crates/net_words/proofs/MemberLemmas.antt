@@ -1,11 +1,10 @@
 -- What stands in lists and in the bits of words.
-use Rattle.std.proofs.Common.{◌≡◌, ◌∙◌, ap, sym, refl, inl, inr, ⊎_elim, ℕ, zero, suc, ◌<◌, ◌≤◌, ◌+◌, ◌==◌, ◌&&◌, ◌||◌, List, [], ◌∷◌, ◌++◌, length, filter, Bool, true, false, cond, Some, arith}
-use Rattle.std.specs.Prelude.{slice_get}
+use Rattle.std.proofs.Common.{◌≡◌, ◌∙◌, ap, refl, ⊎_elim, ℕ, zero, suc, ◌+◌, ◌==◌, ◌&&◌, ◌||◌, List, [], ◌∷◌, Bool, true, false, cond, Some, arith}
 use Rattle.std.specs.List.{list_any}
 use Rattle.std.proofs.lemmas.Bool.{eqb-true}
 use Rattle.std.proofs.lemmas.Bool.Decides.{nat_tests}
 use Rattle.net_core.specs.Lists.{Has, times}
-use Rattle.net_core.proofs.DriverLemmas.{Has_left, Has_right, Has_cases, times_append, one_here, none_here}
+use Rattle.net_core.proofs.DriverLemmas.{Has_left, Has_right, Has_cases}
 use Rattle.net_words.specs.Bind.{stands_in, same_role, in_word}
 use Rattle.net_words.specs.BoundTo.{output_bits, output_bits_with}
 use Rattle.net_words.specs.Variables.{bits, bits_with}

@@ -1,15 +1,16 @@
 -- The order of variables has each net once.
-use Rattle.std.proofs.Common.{◌≡◌, ◌∙◌, ap, sym, refl, ⊎_elim, subst, ℕ, zero, suc, ◌<◌, ◌≤◌, ◌+◌, ◌==◌, not, List, [], ◌∷◌, ◌++◌, length, get_or, map, filter, Bool, true, false, cond, Some, arith}
+use Rattle.std.proofs.Common.{◌≡◌, ◌∙◌, ap, sym, refl, ⊎_elim, subst, ℕ, zero, suc, ◌<◌, ◌≤◌, ◌+◌, ◌==◌, not, List, [], ◌∷◌, ◌++◌, length, filter, Bool, true, false, cond, Some, arith}
 use Rattle.std.specs.Prelude.{slice_get}
 use Rattle.std.specs.List.{range_with_len}
-use Rattle.std.proofs.lemmas.Bool.{cases_lt, true≢false}
+use Rattle.std.proofs.lemmas.Bool.{true≢false}
 use Rattle.std.proofs.lemmas.Bool.Decides.{eqb_tells}
 use Rattle.std.proofs.lemmas.Option.{slice_get-get_or}
 use Rattle.net_core.specs.LatchValue.{LatchValue}
 use Rattle.net_core.specs.Inside.{IsInside}
+use Rattle.net_core.specs.Sound.{IsSound}
 use Rattle.net_core.specs.Lists.{Has, times}
 use Rattle.net_core.specs.NetList.{NetList, nets}
-use Rattle.net_core.proofs.DriverLemmas.{Has_cases, Has_left, Has_right, from_map, times_append, times_get, times_some, times_two, one_here, none_here, All_has}
+use Rattle.net_core.proofs.DriverLemmas.{Has_cases, from_map, times_append, times_get, times_two, one_here, none_here, All_has}
 use Rattle.net_words.specs.Bind.{stands_in}
 use Rattle.net_words.specs.Binding.{Binding}
 use Rattle.net_words.specs.BoundTo.{StandsOn, IsBoundTo}
@@ -159,3 +160,13 @@ pub ranked_within : (net : NetList) (binding : Binding) (rank n : ℕ) → IsIns
 ranked_within net binding rank n inside bound ranked =
     let list : List ℕ = variables (nets net) binding.words in
     (omega (arith, ranked.0, variables_long net binding inside bound), variables_within net binding n inside bound (rank, ranked_has list rank n ranked))
+
+pub rank_within : (net : NetList) (binding : Binding) (rank n : ℕ) → IsSound net → IsBoundTo net binding → (n < binding.nets → IsRanked (variables binding.nets binding.words) rank n) → n < nets net → rank < nets net
+rank_within net binding rank n sound bound ranked less =
+    let P : ℕ → Type 0 = λ count. n < count → IsRanked (variables count binding.words) rank n in
+    (ranked_within net binding rank n sound.inside bound (subst P bound.count ranked less)).0
+
+pub net_within : (net : NetList) (binding : Binding) (rank n : ℕ) → IsSound net → IsBoundTo net binding → (rank < length (variables binding.nets binding.words) → IsRanked (variables binding.nets binding.words) rank n) → rank < nets net → n < nets net
+net_within net binding rank n sound bound ranked less =
+    let P : ℕ → Type 0 = λ count. rank < length (variables count binding.words) → IsRanked (variables count binding.words) rank n in
+    (ranked_within net binding rank n sound.inside bound (subst P bound.count ranked (omega (arith, less, variables_long net binding sound.inside bound)))).1

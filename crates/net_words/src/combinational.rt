@@ -17,6 +17,7 @@ pub struct Combinational {
 
 impl Model for Combinational {
     ghost use Rattle.std.specs.Prelude.{◌≡◌, []};
+    ghost use Rattle.net_core.specs.Sound.{IsSound};
     ghost use Rattle.net_words.specs.Binding.{BoundNet};
     ghost use Rattle.net_words.specs.BoundTo.{IsBoundTo};
 
@@ -24,7 +25,7 @@ impl Model for Combinational {
 
     ghost view = { λ circuit. record { net = circuit.net; bound = circuit.bound } };
 
-    ghost invariant = { λ circuit. (circuit.net.latches ≡ []) × IsBoundTo circuit.net circuit.bound };
+    ghost invariant = { λ circuit. (circuit.net.latches ≡ []) × IsSound circuit.net × IsBoundTo circuit.net circuit.bound };
 }
 
 impl Combinational {
@@ -66,7 +67,6 @@ impl Combinational {
         ensures ranked { net < nets self.now.net → IsRanked (variables (nets self.now.net) self.now.bound.words) result net }
         ensures within { net < nets self.now.net → result < nets self.now.net }
     {
-        let _inputs = self.net.inputs();
         self.bound.rank_of(net)
     }
 
@@ -75,7 +75,6 @@ impl Combinational {
         ensures ranked { rank < length (variables (nets self.now.net) self.now.bound.words) → IsRanked (variables (nets self.now.net) self.now.bound.words) rank result }
         ensures within { rank < nets self.now.net → result < nets self.now.net }
     {
-        let _inputs = self.net.inputs();
         self.bound.net_of(rank)
     }
 }
