@@ -6,5 +6,8 @@ pub mod ReaderLemmas
 pub mod SignatureLemmas
 pub mod BindLemmas
 pub mod VariableLemmas
+pub mod MemberLemmas
+pub mod BoundLemmas
+pub mod RankLemmas
 pub mod BindDetermined
 pub mod SigDetermined

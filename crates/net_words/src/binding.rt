@@ -6,6 +6,7 @@ ghost use Rattle.net_core.specs.NetList.{NetList, nets as nets_of, number_of};
 ghost use Rattle.net_words.specs.Binding.{AreWords, IsBinding};
 ghost use Rattle.net_words.specs.Bind.{stands_in, is_latch, is_used, is_uncovered as is_uncovered_net, with_role, place_net, taken_with, NetsOf, BoundOf, IsCovered, started, in_word as is_in_word, BindingOf, bits_of as bits_of_words, is_unknown as is_unknown_start, same_role as is_same_role};
 ghost use Rattle.net_words.specs.BindReading.{AreMarks, FitsBinding};
+ghost use Rattle.net_words.specs.BoundTo.{IsBoundTo};
 ghost use Rattle.net_words.specs.declared.binding.BindFault.TheVariants.{OutOfMemory};
 
 use crate::bound::{Bound, BoundWord};
@@ -64,6 +65,7 @@ pub fn bind(alloc: Global, words: &[WordText], net: &Net) -> Result<Bound, BindF
     requires { (k : ℕ) × AreWords k words.now }
     ensures fits { FitsBinding (λ bound. bound) result (BindingOf net.now words.now) }
     ensures nets { IfOk result (λ bound. bound.nets ≡ nets_of net.now) }
+    ensures bound { IfOk result (λ bound. IsBoundTo net.now bound) }
 {
     let k = bits_of(words);
     let inputs = input_marks(alloc, net)?;

@@ -1,9 +1,14 @@
 //! Laws of signatures and bindings. These functions do nothing: their contracts are proved of the definitions alone.
-ghost use Rattle.std.specs.Prelude.{List, ℕ};
+ghost use Rattle.std.specs.Prelude.{◌≡◌, ◌<◌, List, length, ℕ};
 ghost use Rattle.text_core.specs.Outcome.{Determined};
-ghost use Rattle.net_core.specs.NetList.{NetList};
+ghost use Rattle.net_core.specs.Lists.{Has, times};
+ghost use Rattle.net_core.specs.NetList.{NetList, nets};
+ghost use Rattle.net_core.specs.Sound.{IsSound};
 ghost use Rattle.net_words.specs.Bind.{BindingOf};
+ghost use Rattle.net_words.specs.Binding.{Binding};
+ghost use Rattle.net_words.specs.BoundTo.{IsBoundTo};
 ghost use Rattle.net_words.specs.Signature.{Sig};
+ghost use Rattle.net_words.specs.Variables.{variables, IsRanked};
 ghost use Rattle.net_words.specs.declared.word.WordText.{WordText};
 
 /// At most one binding or fault comes of binding words to the nets of a net list.
@@ -14,4 +19,13 @@ pub fn one_binding_or_fault()
 /// At most one signature or fault comes of a text.
 pub fn one_signature_or_fault()
     ensures { (text : List ℕ) → Determined (Sig text) }
+{}
+
+/// Where words are bound to a sound net, the order of variables has each net once and nothing else.
+/// So there are as many variables as nets, and a net has one rank.
+pub fn each_net_has_one_rank()
+    ensures once { (net : NetList) (binding : Binding) (n : ℕ) → IsSound net → IsBoundTo net binding → n < nets net → times n (variables (nets net) binding.words) ≡ 1 }
+    ensures within { (net : NetList) (binding : Binding) (n : ℕ) → IsSound net → IsBoundTo net binding → Has (variables (nets net) binding.words) n → n < nets net }
+    ensures long { (net : NetList) (binding : Binding) → IsSound net → IsBoundTo net binding → length (variables (nets net) binding.words) ≡ nets net }
+    ensures one { (net : NetList) (binding : Binding) (p q n : ℕ) → IsSound net → IsBoundTo net binding → IsRanked (variables (nets net) binding.words) p n → IsRanked (variables (nets net) binding.words) q n → p ≡ q }
 {}

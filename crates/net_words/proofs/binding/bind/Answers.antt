@@ -1,4 +1,7 @@
+use Rattle.std.proofs.Common.{Ok, rules}
+use Rattle.net_words.specs.Bind.{BindingOf}
 use Rattle.net_words.proofs.BindLemmas.{started_fails}
+use Rattle.net_words.proofs.BoundLemmas.{bound_to}
 use Rattle.net_words.proofs.binding.bind.Goals as goal
 
 pub returns-in-Err-check_started-clause-fits : goal.returns-in-Err-check_started-clause-fits
@@ -7,3 +10,8 @@ returns-in-Err-check_started-clause-fits c =
     (rw c.new-taken.ensures.items at c.in-Ok.ensures.fits)
     (rw c.deref-3.ensures.value at c.in-Ok-check_covered.ensures)
     (rw (c.deref-5.ensures.value, c.latches.ensures.latches) at c.in-Err-check_started.ensures)
+
+pub returns-clause-bound : goal.returns-clause-bound
+returns-clause-bound c =
+    let is : BindingOf c.args.net.now c.args.words.now (Ok c.in_ok-bound.bound) = search rules in
+    bound_to c.args.net.now c.requires.0 c.args.words.now c.in_ok-bound.bound c.latches.ensures.sound c.requires.1 is
