@@ -2,5 +2,7 @@ mod Ranks
 mod Elimination
 mod PutIn
 mod FirstCut
+mod OutputNets
+mod Inside
 mod Bound
 mod Recorded

@@ -2,6 +2,7 @@
 ghost use Rattle.std.specs.Prelude.{◌≡◌, ◌<◌, ℕ, List, [], ◌∷◌, cond, length, map, IfOk, OnOk};
 ghost use Rattle.net_core.specs.NetList.{nets};
 ghost use Rattle.net_core.specs.Lists.{Has};
+ghost use Rattle.net_core.specs.Sound.{IsSound};
 ghost use Rattle.net_words.specs.Variables.{variables};
 ghost use Rattle.poly_mixed.specs.Polynomial.{Point, IsPoint, IsReduced};
 ghost use Rattle.poly_mixed.specs.Steps.{Step, Tells};
@@ -22,7 +23,8 @@ fn input_ranks(
     circuit: &Combinational,
     gate: &Gate,
 ) -> Result<Vec<u32>, AllocError>
-    requires { Has circuit.now.net.gates gate.now }
+    requires sound { IsSound circuit.now.net }
+    requires gate { Has circuit.now.net.gates gate.now }
     ensures { IfOk result (λ list. list.items ≡ map (rank_in (variables (nets circuit.now.net) circuit.now.bound.words)) gate.now.inputs) }
 {
     let mut list = Vec::with_capacity(alloc, gate.inputs().len())?;
@@ -41,6 +43,7 @@ fn add_table<F: Field>(
     cofactor: &Poly,
     poly: &mut Poly,
 ) -> Result<(), AllocError>
+    requires sound { IsSound circuit.now.net }
     requires gate { Has circuit.now.net.gates gate.now }
     requires cofactor { IsReduced (F.degree field.now) cofactor.now.terms }
     requires poly { IsReduced (F.degree field.now) poly.old.terms }
@@ -63,6 +66,7 @@ pub fn eliminate<F: Field, T: Steps>(
     poly: &mut Poly,
     steps: &mut T,
 ) -> Result<(), AllocError>
+    requires sound { IsSound circuit.now.net }
     requires gate { Has circuit.now.net.gates gate.now }
     requires poly { IsReduced (F.degree field.now) poly.old.terms }
     ensures reduced { OnOk result (IsReduced (F.degree field.now) poly.new.terms) }
