@@ -55,7 +55,7 @@ all_levels net levels sound are =
     let P : Levels → Type 0 = λ l. AllHaveLevels net l in
     subst P (levels_only net some.0 levels sound.one some.1.0 are) some.1
 
-reversed : (order : List ℕ) (i p : ℕ) → slice_get order i ≡ Some p → slice_get (reverse order) (length order - 1 - i) ≡ Some p
+pub reversed : (order : List ℕ) (i p : ℕ) → slice_get order i ≡ Some p → slice_get (reverse order) (length order - 1 - i) ≡ Some p
 reversed order i p at =
     let less : i < length order = slice_get_within order i p at in
     let long : length (reverse order) ≡ length order = length-reverse order in

@@ -46,17 +46,14 @@ take_whole (r ∷ rs) (suc n) e = ap (λ xs. r ∷ xs) (take_whole rs n (omega a
 
 module _ (net : NetList) (variables : List ℕ) (output : Word) (order : List ℕ) (k : ℕ) (mul : ℕ → ℕ → ℕ) where
   -- terms whose value is the sum of the basis elements at the point's bits of the word are of the first cut
-  pub is_first : (ts : Terms) (n : ℕ) → length output.basis ≡ n → length output.nets ≡ n → ((m : ℕ) → Has output.nets m → m < nets net) → IsReduced k ts
-      → ((p : Point) → IsPoint k p → value mul p ts ≡ combination (take n output.basis) (index (point_bit variables p) (take n output.nets)))
+  pub is_first : (ts : Terms) → length output.basis ≡ k → length output.nets ≡ k → ((m : ℕ) → Has output.nets m → m < nets net) → IsReduced k ts
+      → ((p : Point) → IsPoint k p → value mul p ts ≡ combination output.basis (index (point_bit variables p) output.nets))
       → IsOfStage k mul (Settled net variables output order 0) ts
-  is_first ts n long_basis long_nets inside reduced values = record {
+  is_first ts long_basis long_nets inside reduced values = record {
     reduced = reduced;
     values = λ p is_point.
         let bits = bits_by (nets net) (point_bit variables p) in
         let same : index_of bits output.nets ≡ index (point_bit variables p) output.nets = index_same bits (point_bit variables p) output.nets (λ m has. bits_at (nets net) (point_bit variables p) m (inside m has)) in
-        let all_basis : take n output.basis ≡ output.basis = take_whole output.basis n (omega arith) in
-        let all_nets : take n output.nets ≡ output.nets = take_whole output.nets n (omega arith) in
-        let whole : combination (take n output.basis) (index (point_bit variables p) (take n output.nets)) ≡ combination output.basis (index (point_bit variables p) output.nets) = (λ i. combination (all_basis i) (index (point_bit variables p) (all_nets i))) in
         let small : index_of bits output.nets < 2 ^ length output.nets = index_small bits output.nets in
         let long : length output.nets ≡ length output.basis = omega arith in
         let P : ℕ → Type 0 = λ d. index_of bits output.nets < 2 ^ d in
@@ -69,7 +66,7 @@ module _ (net : NetList) (variables : List ℕ) (output : Word) (order : List �
           };
           element = record {
             long = sym long;
-            sum = record { short = subst P long small; is = ap (combination output.basis) same ∙ sym (values p is_point ∙ whole) };
+            sum = record { short = subst P long small; is = ap (combination output.basis) same ∙ sym (values p is_point) };
           };
         };
   }

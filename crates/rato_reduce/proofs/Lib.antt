@@ -6,3 +6,4 @@ mod OutputNets
 mod Inside
 mod Bound
 mod Recorded
+mod Turn
