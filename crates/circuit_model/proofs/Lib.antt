@@ -1,4 +1,5 @@
 pub mod AgreeLemmas
+pub mod BitLemmas
 pub mod ChoiceLemmas
 pub mod GivenLemmas
 pub mod OneRunLemmas
