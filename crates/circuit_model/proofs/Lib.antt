@@ -1,5 +1,6 @@
 pub mod AgreeLemmas
 pub mod BitLemmas
+pub mod BoundLemmas
 pub mod ChoiceLemmas
 pub mod GivenLemmas
 pub mod OneRunLemmas
