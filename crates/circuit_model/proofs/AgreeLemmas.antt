@@ -95,7 +95,7 @@ module _ (c : Circuit) (well : IsWellFormed c) (xs : List ℕ) (input : IsInput 
               let over : level_over levels g.inputs ≡ Some l = sym (all.0.gates g found.1) ∙ (ap (level_at levels) found.2 ∙ is) in
               let above = (level_from_above levels l 1 g.inputs over).1 in
               let index : index_of v g.inputs ≡ index_of u g.inputs = index_agree v u g.inputs (λ k m got. let low = above k m got in
-                  level_same levels u v all cu cv same fuel m low.0 (omega (arith, low.2)) low.1 (drawn n m (inl (g, found.1, found.2, (k, got))) in_c)) in
+              level_same levels u v all cu cv same fuel m low.0 (omega (arith, low.2)) low.1 (drawn n m (inl (g, found.1, found.2, (k, got))) in_c)) in
               sym (ap (bit_of v) found.2) ∙ (cv.gates g found.1 ∙ (ap (λ i. bit_at g.table i == 1) index ∙ (sym (cu.gates g found.1) ∙ ap (bit_of u) found.2)))
         ]
 

@@ -52,8 +52,8 @@ module _ (c : Circuit) (xs : List ℕ) (well : IsWellFormed c) where
   same_end run other e r o ends =
       let last = get_below other c.cycles (omega (arith, o.long)) in
       let index : index_of last.0 c.output.nets ≡ index_of ends.last c.output.nets = index_agree last.0 ends.last c.output.nets (λ k n got.
-          agree c well xs r.input Cone drawn run other r o (λ t u v at_u at_v m has none in_cone. absurd (well.covered m has none in_cone))
-          c.cycles ends.last last.0 ends.at last.1 n (well.output_nets n (k, got)) (inl (k, got))) in
+      agree c well xs r.input Cone drawn run other r o (λ t u v at_u at_v m has none in_cone. absurd (well.covered m has none in_cone))
+      c.cycles ends.last last.0 ends.at last.1 n (well.output_nets n (k, got)) (inl (k, got))) in
       record { last = last.0; at = last.1; element = moved ends.last last.0 c.output e (sym index) ends.element }
 
 pub one_out : (c : Circuit) (xs : List ℕ) (e other : ℕ) → IsWellFormed c → IsOut c xs e → IsOut c xs other → e ≡ other
@@ -69,7 +69,7 @@ one_out c xs e other well a b =
 pub open_out : (c : Circuit) (xs : List ℕ) (run : List (List Bool)) (e : ℕ) → IsWellFormed c → IsOpenRun c xs run → Ends c run e ↔ IsOut c xs e
 open_out c xs run e well is = (
   (λ ends.
-  let found = some_run c xs well is.input in
-  record { run = found.0; is_run = found.1; ends = same_end c xs well run found.0 e is found.1.open_run ends }),
+      let found = some_run c xs well is.input in
+      record { run = found.0; is_run = found.1; ends = same_end c xs well run found.0 e is found.1.open_run ends }),
   λ out. same_end c xs well out.run run e out.is_run.open_run is out.ends,
 )

@@ -15,7 +15,7 @@ returns-then-eq g t c =
     let at = first_at c.args.words.now c.first-item.result c.in-len1-up.len_at_least c.first-item.is in
     let value = first_get c.args.xs.now (omega (arith, c.in-len1-up.len_at_least, c.requires.long)) in (
       (λ is_true. have_all c.args.words.now c.args.xs.now c.args.bits.now c.first-item.result (get_or c.args.xs.now 0 0) at value
-      (found_is c.element.result (HasElement c.args.bits.now (word_of c.first-item.result)) (get_or c.args.xs.now 0 0) c.element.ensures.element (option_is c.element.result c.eq.result _ c.eq.ensures c.if-eq.true)) (c.have_elements.ensures.0 is_true)),
+          (found_is c.element.result (HasElement c.args.bits.now (word_of c.first-item.result)) (get_or c.args.xs.now 0 0) c.element.ensures.element (option_is c.element.result c.eq.result _ c.eq.ensures c.if-eq.true)) (c.have_elements.ensures.0 is_true)),
       λ have. c.have_elements.ensures.1 (have_rest c.args.words.now c.args.xs.now c.args.bits.now have),
     )
 
@@ -23,9 +23,9 @@ pub returns-else-eq : goal.returns-else-eq
 returns-else-eq g t c = (
   (λ is_true. absurd (false≢true (sym c.if-eq.false ∙ is_true))),
   λ have.
-  let at = first_at c.args.words.now c.first-item.result c.in-len1-up.len_at_least c.first-item.is in
-  let value = first_get c.args.xs.now (omega (arith, c.in-len1-up.len_at_least, c.requires.long)) in
-  let is = have 0 c.first-item.result (get_or c.args.xs.now 0 0) at value in
-  absurd (must_be c.element.result (HasElement c.args.bits.now (word_of c.first-item.result)) c.eq.result (get_or c.args.xs.now 0 0) (c.element.ensures.some (sym is.long ∙ (c.requires.over c.first-item.result (0, at)).elements.size)) c.element.ensures.element
-  (λ e other. same_element c.args.bits.now (word_of c.first-item.result) e (get_or c.args.xs.now 0 0) other is) c.eq.ensures c.if-eq.false),
+      let at = first_at c.args.words.now c.first-item.result c.in-len1-up.len_at_least c.first-item.is in
+      let value = first_get c.args.xs.now (omega (arith, c.in-len1-up.len_at_least, c.requires.long)) in
+      let is = have 0 c.first-item.result (get_or c.args.xs.now 0 0) at value in
+      absurd (must_be c.element.result (HasElement c.args.bits.now (word_of c.first-item.result)) c.eq.result (get_or c.args.xs.now 0 0) (c.element.ensures.some (sym is.long ∙ (c.requires.over c.first-item.result (0, at)).elements.size)) c.element.ensures.element
+      (λ e other. same_element c.args.bits.now (word_of c.first-item.result) e (get_or c.args.xs.now 0 0) other is) c.eq.ensures c.if-eq.false),
 )
