@@ -1,5 +1,5 @@
 -- The bits that nets have in words.
-use Rattle.std.proofs.Common.{◌≡◌, ◌≢◌, ◌∙◌, ap, sym, refl, subst, inl, inr, ℕ, zero, suc, ◌<◌, ◌≤◌, ◌+◌, ◌*◌, ◌/◌, ◌%◌, ◌^◌, Bool, List, [], ◌∷◌, length, get_or, map, Some, cond, arith}
+use Rattle.std.proofs.Common.{◌≡◌, ◌∙◌, ap, sym, refl, subst, inl, inr, ℕ, zero, suc, ◌<◌, ◌≤◌, ◌+◌, ◌*◌, ◌/◌, ◌%◌, ◌^◌, Bool, List, [], ◌∷◌, length, get_or, map, Some, cond, arith}
 use Rattle.std.specs.Prelude.{slice_get, nat_eq, ◌==◌}
 use Rattle.std.specs.Int.{bit_at}
 use Rattle.std.proofs.Math.ListN.{set}
@@ -9,14 +9,15 @@ use Rattle.std.proofs.lemmas.Nat.Bits.{bit_at_lowest, bit_at-suc}
 use Rattle.std.proofs.lemmas.Option.{slice_get_within}
 use Rattle.net_core.specs.Lists.{Has, times}
 use Rattle.net_core.specs.Value.{bit_of, index_of}
-use Rattle.net_core.proofs.DriverLemmas.{one_here, none_here, times_get, times_append, times_some}
+use Rattle.net_core.proofs.DriverLemmas.{one_here, none_here, times_get, times_append}
 use Rattle.net_core.proofs.LevelLemmas.{nat_eq_or}
 use Rattle.graph_core.proofs.ListLemmas.{got_at, get_below, get_set_same, get_set_other}
 use Rattle.gf_basis.specs.Basis.{AreBits}
 use Rattle.gf_basis.specs.BasisParts.{elements_of}
 use Rattle.circuit_model.specs.declared.circuit_word.CircuitWord.{CircuitWord}
 use Rattle.circuit_model.specs.Word.{word_nets}
-use Rattle.circuit_model.specs.Flat.{word_of, IsOnce, IsBitAt, IsBitIn}
+use Rattle.circuit_model.specs.Flat.{word_of}
+use Rattle.circuit_model.specs.Found.{IsOnce, IsBitAt, IsBitIn}
 use Rattle.circuit_model.proofs.WordLemmas.{has_word}
 use Rattle.circuit_model.proofs.SliceLemmas.{rest, rest_is, get_rest}
 

@@ -1,8 +1,7 @@
 -- The circuit of words that are bound to a net list is well-formed.
-use Rattle.std.proofs.Common.{◌≡◌, ◌∙◌, ap, sym, refl, subst, inl, inr, ℕ, zero, suc, ◌<◌, ◌≤◌, List, [], ◌∷◌, ◌++◌, length, Some, cond, arith}
-use Rattle.std.specs.Prelude.{slice_get, filter, not}
+use Rattle.std.proofs.Common.{◌≡◌, ◌∙◌, ap, sym, refl, subst, inl, inr, ℕ, zero, suc, ◌<◌, ◌≤◌, List, [], ◌∷◌, ◌++◌, length, cond, arith}
+use Rattle.std.specs.Prelude.{filter, not}
 use Rattle.std.proofs.lemmas.List.{append-nil}
-use Rattle.net_core.specs.LatchValue.{LatchValue}
 use Rattle.net_core.specs.NetList.{NetList, nets}
 use Rattle.net_core.specs.Sound.{IsSound}
 use Rattle.net_core.specs.Lists.{Has, times}

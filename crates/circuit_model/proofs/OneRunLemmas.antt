@@ -1,5 +1,5 @@
 -- A circuit has one run at an input at most.
-use Rattle.std.proofs.Common.{◌≡◌, ◌∙◌, sym, refl, ℕ, zero, suc, Bool, List, [], ◌∷◌, length, Some, arith}
+use Rattle.std.proofs.Common.{◌≡◌, ◌∙◌, sym, refl, ℕ, suc, Bool, List, [], ◌∷◌, length, Some, arith}
 use Rattle.std.specs.Prelude.{slice_get}
 use Rattle.net_core.proofs.EvalLemmas.{same_lists}
 use Rattle.circuit_model.specs.Circuit.{Circuit}

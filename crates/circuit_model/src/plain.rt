@@ -9,7 +9,8 @@ ghost use Rattle.circuit_model.specs.Word.{HasElement};
 ghost use Rattle.circuit_model.specs.Circuit.{IsInput};
 ghost use Rattle.circuit_model.specs.WellFormed.{IsWellFormed};
 ghost use Rattle.circuit_model.specs.Out.{IsOut};
-ghost use Rattle.circuit_model.specs.Flat.{AreOver, HaveAll, HaveBits, HaveZeros, IsBitIn, IsOnce, IsUnnamed, circuit_of, word_of};
+ghost use Rattle.circuit_model.specs.Flat.{AreOver, circuit_of, word_of};
+ghost use Rattle.circuit_model.specs.Found.{HaveAll, HaveBits, HaveZeros, IsBitIn, IsOnce, IsUnnamed};
 
 use crate::circuit_word::CircuitWord;
 use gf_field::Field;

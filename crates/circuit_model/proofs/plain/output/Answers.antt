@@ -3,7 +3,8 @@ use Rattle.std.proofs.lemmas.Bool.{false≢true}
 use Rattle.net_core.specs.Value.{HasValues}
 use Rattle.circuit_model.specs.Word.{HasElement}
 use Rattle.circuit_model.specs.Out.{IsOut}
-use Rattle.circuit_model.specs.Flat.{HaveAll, circuit_of, word_of}
+use Rattle.circuit_model.specs.Flat.{circuit_of, word_of}
+use Rattle.circuit_model.specs.Found.{HaveAll}
 use Rattle.circuit_model.proofs.PlainLemmas.{plain_all, plain_out, if_some}
 use Rattle.circuit_model.proofs.plain.output.Goals as goal
 
