@@ -1,7 +1,9 @@
+pub mod AgreeLemmas
+pub mod BitLemmas
+pub mod BoundLemmas
 pub mod ChoiceLemmas
 pub mod GivenLemmas
 pub mod OneRunLemmas
-pub mod OpenRunLemmas
 pub mod OutLemmas
 pub mod PlainLemmas
 pub mod SliceLemmas

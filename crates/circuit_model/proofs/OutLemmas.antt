@@ -1,8 +1,10 @@
--- A circuit has one output at each input.
-use Rattle.std.proofs.Common.{◌≡◌, ◌∙◌, sym, refl, subst, ℕ, ◌<◌, ◌^◌, ◌↔◌, Bool, List, length, Some, map, arith}
+-- A circuit has one output at each input, whatever bits the inputs have that no word names.
+use Rattle.std.proofs.Common.{◌≡◌, ◌∙◌, sym, refl, subst, inl, inr, ℕ, ◌<◌, ◌^◌, ◌↔◌, Bool, List, [], ◌∷◌, ◌++◌, length, Some, arith}
 use Rattle.std.specs.Prelude.{slice_get}
-use Rattle.std.proofs.lemmas.Option.{slice_get-map}
 use Rattle.net_core.specs.Value.{index_of}
+use Rattle.net_core.proofs.EvalLemmas.{index_agree}
+use Rattle.net_words.specs.Reach.{Draws, Reaches}
+use Rattle.graph_core.specs.Walk.{IsChain}
 use Rattle.graph_core.proofs.ListLemmas.{get_below}
 use Rattle.irreducible.specs.Span.{combination}
 use Rattle.irreducible.specs.SpanLaws.{combination_below}
@@ -10,12 +12,11 @@ use Rattle.gf_field.specs.Element.{AreElements}
 use Rattle.circuit_model.specs.Word.{HasElement}
 use Rattle.circuit_model.specs.Circuit.{Circuit, IsInput}
 use Rattle.circuit_model.specs.WellFormed.{IsWellFormed}
-use Rattle.circuit_model.specs.Run.{IsOpenRun, IsRun}
+use Rattle.circuit_model.specs.Run.{IsOpenRun}
 use Rattle.circuit_model.specs.Out.{Ends, IsOut}
 use Rattle.circuit_model.proofs.WordLemmas.{same_element, moved, index_small}
-use Rattle.circuit_model.proofs.OneRunLemmas.{one_run}
+use Rattle.circuit_model.proofs.AgreeLemmas.{agree}
 use Rattle.circuit_model.proofs.SomeRunLemmas.{some_run}
-use Rattle.circuit_model.proofs.OpenRunLemmas.{close}
 
 inside : (basis : List ℕ) (k : ℕ) → AreElements k basis → (d : ℕ) → combination basis d < 2 ^ k
 inside basis k below d = combination_below basis k d (λ i less. below i less)
@@ -31,43 +32,44 @@ some_out c xs well input =
       inside c.output.basis c.k well.output.basis.inside (index_of last.0 c.output.nets),
     )
 
+chain_more : (R : ℕ → ℕ → Type 0) (a : ℕ) (over : List ℕ) (b d : ℕ) → IsChain R a over b → R b d → IsChain R a (over ++ b ∷ []) d
+chain_more R a [] b d chain next = (chain, next)
+chain_more R a (m ∷ over) b d chain next = (chain.0, chain_more R m over b d chain.1 next)
+
+module _ (c : Circuit) (xs : List ℕ) (well : IsWellFormed c) where
+  -- the nets that reach the output word
+  Cone : ℕ → Type 0
+  Cone n = Reaches c.net n c.output.nets
+
+  drawn : (a b : ℕ) → Draws c.net a b → Cone a → Cone b
+  unfolding Cone
+  drawn a b draws (inl ends) = inr (a, [], ends, draws)
+  drawn a b draws (inr found) = inr (found.0, found.1 ++ a ∷ [], found.2, chain_more (Draws c.net) found.0 found.1 a b found.3 draws)
+
+  -- two open runs end with one element
+  pub same_end : (run other : List (List Bool)) (e : ℕ) → IsOpenRun c xs run → IsOpenRun c xs other → Ends c run e → Ends c other e
+  unfolding Cone
+  same_end run other e r o ends =
+      let last = get_below other c.cycles (omega (arith, o.long)) in
+      let index : index_of last.0 c.output.nets ≡ index_of ends.last c.output.nets = index_agree last.0 ends.last c.output.nets (λ k n got.
+      agree c well xs r.input Cone drawn run other r o (λ t u v at_u at_v m has none in_cone. absurd (well.covered m has none in_cone))
+      c.cycles ends.last last.0 ends.at last.1 n (well.output_nets n (k, got)) (inl (k, got))) in
+      record { last = last.0; at = last.1; element = moved ends.last last.0 c.output e (sym index) ends.element }
+
 pub one_out : (c : Circuit) (xs : List ℕ) (e other : ℕ) → IsWellFormed c → IsOut c xs e → IsOut c xs other → e ≡ other
 one_out c xs e other well a b =
-    let same : b.run ≡ a.run = one_run c well xs b.is_run.open_run.input b.run a.run b.is_run a.is_run in
-    let P : List (List Bool) → Type 0 = λ r. slice_get r c.cycles ≡ Some b.ends.last in
-    let at : slice_get a.run c.cycles ≡ Some b.ends.last = subst P same b.ends.at in
-    let at' : slice_get a.run c.cycles ≡ Some a.ends.last = a.ends.at in
-    let last : b.ends.last ≡ a.ends.last = cc in
+    let there = same_end c xs well b.run a.run other b.is_run.open_run a.is_run.open_run b.ends in
+    let last : there.last ≡ a.ends.last = same a.run there.last a.ends.last there.at a.ends.at in
     let Q : List Bool → Type 0 = λ v. HasElement v c.output other in
-    same_element a.ends.last c.output e other a.ends.element (subst Q last b.ends.element)
-
-module _ (c : Circuit) (xs : List ℕ) (run : List (List Bool)) (e : ℕ) (well : IsWellFormed c) (is : IsOpenRun c xs run) where
-  IsClosing : (List Bool → List Bool) → Type 0
-  IsClosing f = IsRun c xs (map f run) × ((bits : List Bool) → index_of (f bits) c.output.nets ≡ index_of bits c.output.nets)
-
-  ahead : (f : List Bool → List Bool) → IsClosing f → Ends c run e → IsOut c xs e
-  unfolding IsClosing
-  ahead f closed ends = record {
-    run = map f run;
-    is_run = closed.0;
-    ends = record { last = f ends.last; at = slice_get-map f run c.cycles ∙ rw ends.at refl; element = moved ends.last (f ends.last) c.output e (sym (closed.1 ends.last)) ends.element };
-  }
-
-  back : (f : List Bool → List Bool) → IsClosing f → IsOut c xs e → Ends c run e
-  unfolding IsClosing
-  back f closed out =
-      let same : out.run ≡ map f run = one_run c well xs out.is_run.open_run.input out.run (map f run) out.is_run closed.0 in
-      let last = get_below run c.cycles (omega (arith, is.long)) in
-      let P : List (List Bool) → Type 0 = λ r. slice_get r c.cycles ≡ Some out.ends.last in
-      let at : slice_get (map f run) c.cycles ≡ Some out.ends.last = subst P same out.ends.at in
-      let at' : slice_get (map f run) c.cycles ≡ Some (f last.0) = slice_get-map f run c.cycles ∙ rw last.1 refl in
-      let is_last : out.ends.last ≡ f last.0 = cc in
-      let Q : List Bool → Type 0 = λ v. HasElement v c.output e in
-      record { last = last.0; at = last.1; element = moved (f last.0) last.0 c.output e (closed.1 last.0) (subst Q is_last out.ends.element) }
-
-  both : Ends c run e ↔ IsOut c xs e
-  unfolding IsClosing
-  both = let found = close c well xs run is in (ahead found.0 (found.1, found.2), back found.0 (found.1, found.2))
+    same_element a.ends.last c.output e other a.ends.element (subst Q last there.element)
+  where
+    same : (run : List (List Bool)) (u v : List Bool) → slice_get run c.cycles ≡ Some u → slice_get run c.cycles ≡ Some v → u ≡ v
+    same run u v at_u at_v = cc
 
 pub open_out : (c : Circuit) (xs : List ℕ) (run : List (List Bool)) (e : ℕ) → IsWellFormed c → IsOpenRun c xs run → Ends c run e ↔ IsOut c xs e
-open_out c xs run e well is = both c xs run e well is
+open_out c xs run e well is = (
+  (λ ends.
+      let found = some_run c xs well is.input in
+      record { run = found.0; is_run = found.1; ends = same_end c xs well run found.0 e is found.1.open_run ends }),
+  λ out. same_end c xs well out.run run e out.is_run.open_run is out.ends,
+)

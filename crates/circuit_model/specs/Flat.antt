@@ -1,10 +1,10 @@
 -- Circuits of one cycle that a program is given part by part. Source: this project's own.
-use Rattle.std.specs.Prelude.{◌≡◌, ℕ, Bool, false, List, Some, map, slice_get}
+use Rattle.std.specs.Prelude.{ℕ, List, map}
 use Rattle.net_core.specs.NetList.{NetList}
 use Rattle.net_core.specs.Lists.{Has}
 use Rattle.gf_basis.specs.BasisParts.{elements_of, IsOver}
 use Rattle.circuit_model.specs.declared.circuit_word.CircuitWord.{CircuitWord}
-use Rattle.circuit_model.specs.Word.{Word, HasElement, word_nets}
+use Rattle.circuit_model.specs.Word.{Word}
 use Rattle.circuit_model.specs.Circuit.{Circuit}
 
 -- the word that this value stands for
@@ -18,15 +18,3 @@ circuit_of k product net words output = record { k = k; product = product; net =
 -- each word's basis is one of the field
 abbrev pub AreOver : ℕ → (ℕ → ℕ → ℕ) → List CircuitWord → Type 0
 AreOver k product words = (w : CircuitWord) → Has words w → IsOver k product w.basis
-
--- word i has element i
-abbrev pub HaveAll : List CircuitWord → List ℕ → List Bool → Type 0
-HaveAll words xs bits = (i : ℕ) (w : CircuitWord) (x : ℕ) → slice_get words i ≡ Some w → slice_get xs i ≡ Some x → HasElement bits (word_of w) x
-
--- the nets that no word has
-abbrev pub IsUnnamed : List CircuitWord → ℕ → Type 0
-IsUnnamed words n = Has (word_nets (map word_of words)) n → ⊥
-
--- where no word has the input, its value is 0
-abbrev pub HaveZeros : List CircuitWord → List ℕ → List Bool → Type 0
-HaveZeros words inputs values = (i n : ℕ) (v : Bool) → slice_get inputs i ≡ Some n → slice_get values i ≡ Some v → IsUnnamed words n → v ≡ false

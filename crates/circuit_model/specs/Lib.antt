@@ -4,4 +4,5 @@ pub mod WellFormed
 pub mod Run
 pub mod Out
 pub mod Flat
+pub mod Found
 pub mod OfBinding

@@ -1,10 +1,12 @@
 -- The circuit of a net list without latches and of the words that are bound to it. Source: this project's own.
-use Rattle.std.specs.Prelude.{ℕ, List, [], ◌∷◌, ◌++◌}
+use Rattle.std.specs.Prelude.{◌≡◌, ℕ, List, [], ◌∷◌, ◌++◌, length}
+use Rattle.net_core.specs.Lists.{Has}
 use Rattle.net_words.specs.Binding.{BoundNet}
 use Rattle.net_words.specs.BoundTo.{output_bits}
 use Rattle.net_words.specs.declared.bound.BoundWord.{BoundWord}
 use Rattle.net_words.specs.declared.word.Role.{Role}
 use Rattle.net_words.specs.declared.word.Role.TheVariants.{Input, State, Output}
+use Rattle.gf_basis.specs.Basis.{IsBasis}
 use Rattle.circuit_model.specs.Word.{Word}
 use Rattle.circuit_model.specs.Circuit.{Circuit}
 
@@ -39,3 +41,8 @@ output_word words basis = record { role = Output; nets = output_bits words; basi
 -- the circuit over the field of 2 to the k elements with this product, with one basis for each word of the binding
 abbrev pub circuit_with : ℕ → (ℕ → ℕ → ℕ) → BoundNet → List (List ℕ) → Circuit
 circuit_with k product bound bases = record { k = k; product = product; net = bound.net; words = words_of bound.bound.words bases; output = output_word bound.bound.words (output_basis bound.bound.words bases); cycles = 0 }
+
+-- one basis of the field of 2 to the k elements for each word
+pub record HaveBases (k : ℕ) (words : List BoundWord) (bases : List (List ℕ)) : Type 0 where
+  pub long : length bases ≡ length words
+  pub each : (basis : List ℕ) → Has bases basis → IsBasis k basis

@@ -1,7 +1,18 @@
 //! Laws of circuits. These functions do nothing: their contracts are proved of the definitions alone.
-ghost use Rattle.std.specs.Prelude.{◌≡◌, ◌<◌, ◌^◌, ◌↔◌, Bool, List, ℕ};
+ghost use Rattle.std.specs.Prelude.{◌≡◌, ◌<◌, ◌^◌, ◌↔◌, not, Bool, List, ℕ, filter, length};
+ghost use Rattle.net_core.specs.Sound.{IsSound};
+ghost use Rattle.net_words.specs.Bind.{same_role};
+ghost use Rattle.net_words.specs.Binding.{BoundNet};
+ghost use Rattle.net_words.specs.BoundTo.{IsBoundTo};
+ghost use Rattle.net_words.specs.Variables.{bits};
+ghost use Rattle.net_words.specs.declared.bound.BoundWord.{BoundWord};
+ghost use Rattle.net_words.specs.declared.word.Role.TheVariants.{Output};
+ghost use Rattle.gf_field.specs.Field.{HasNoZeroDivisors};
+ghost use Rattle.gf_field.specs.Ring.{IsRing};
+ghost use Rattle.circuit_model.specs.Word.{word_nets};
 ghost use Rattle.circuit_model.specs.Circuit.{Circuit, IsInput};
 ghost use Rattle.circuit_model.specs.WellFormed.{IsWellFormed};
+ghost use Rattle.circuit_model.specs.OfBinding.{circuit_with, HaveBases, words_of};
 ghost use Rattle.circuit_model.specs.Run.{IsOpenRun, IsRun};
 ghost use Rattle.circuit_model.specs.Out.{Ends, IsOut};
 
@@ -21,4 +32,12 @@ pub fn one_output()
 /// output word ends with the output's element, and with no other.
 pub fn output_of_open_runs()
     ensures { (circuit : Circuit) (xs : List ℕ) (run : List (List Bool)) (e : ℕ) → IsWellFormed circuit → IsOpenRun circuit xs run → Ends circuit run e ↔ IsOut circuit xs e }
+{}
+
+/// The circuit of words that are bound to a sound net list, with one basis of the field for each, is well-formed; its
+/// input and state words are those of the binding, and so are their bits.
+pub fn bound_circuits_are_well_formed()
+    ensures well_formed { (k : ℕ) (product : ℕ → ℕ → ℕ) (bound : BoundNet) (bases : List (List ℕ)) → IsRing k product → HasNoZeroDivisors k product → IsSound bound.net → IsBoundTo bound.net bound.bound → bound.bound.k ≡ k → HaveBases k bound.bound.words bases → IsWellFormed (circuit_with k product bound bases) }
+    ensures bits { (words : List BoundWord) (bases : List (List ℕ)) → length bases ≡ length words → word_nets (words_of words bases) ≡ bits words }
+    ensures count { (words : List BoundWord) (bases : List (List ℕ)) → length bases ≡ length words → length (words_of words bases) ≡ length (filter (λ word. not (same_role word.role Output)) words) }
 {}

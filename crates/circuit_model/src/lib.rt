@@ -9,5 +9,5 @@ mod plain;
 mod tests;
 
 pub use circuit_word::CircuitWord;
-pub use laws::{one_output, one_run, output_of_open_runs};
+pub use laws::{bound_circuits_are_well_formed, one_output, one_run, output_of_open_runs};
 pub use plain::output;

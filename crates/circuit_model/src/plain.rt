@@ -1,13 +1,16 @@
 //! The output of a circuit without latches, gate by gate.
-ghost use Rattle.std.specs.Prelude.{◌≡◌, ◌≤◌, ◌<◌, ◌^◌, ℕ, [], length, IfOk, IfSome, IsTrue, slice_get, false, if◌then◌else◌};
-ghost use Rattle.net_core.specs.Lists.{Has};
+ghost use Rattle.std.specs.Prelude.{◌≡◌, ◌==◌, ◌≤◌, ◌<◌, ◌^◌, ◌↔◌, ℕ, [], Some, length, IfOk, IfSome, IsSome, IsTrue, slice_get, false, if◌then◌else◌};
+ghost use Rattle.std.specs.Int.{bit_at};
+ghost use Rattle.net_core.specs.Lists.{Has, times};
 ghost use Rattle.net_core.specs.Value.{bit_of, index_of};
 ghost use Rattle.gf_field.specs.Element.{AreElements};
 ghost use Rattle.gf_basis.specs.BasisParts.{IsOver};
 ghost use Rattle.circuit_model.specs.Word.{HasElement};
 ghost use Rattle.circuit_model.specs.Circuit.{IsInput};
+ghost use Rattle.circuit_model.specs.WellFormed.{IsWellFormed};
 ghost use Rattle.circuit_model.specs.Out.{IsOut};
-ghost use Rattle.circuit_model.specs.Flat.{AreOver, HaveAll, HaveZeros, IsUnnamed, circuit_of, word_of};
+ghost use Rattle.circuit_model.specs.Flat.{AreOver, circuit_of, word_of};
+ghost use Rattle.circuit_model.specs.Found.{HaveAll, HaveBits, HaveZeros, IsBitIn, IsOnce, IsUnnamed};
 
 use crate::circuit_word::CircuitWord;
 use gf_field::Field;
@@ -39,7 +42,8 @@ fn word_bits(bits: &[bool], nets: &[u32]) -> u64
 // The element of a word, if it has k nets.
 fn element<F: Field>(field: &F, bits: &[bool], word: &CircuitWord) -> Option<u64>
     requires { IsOver (F.degree field.now) (F.product field.now) word.now.basis }
-    ensures { IfSome result (λ e. HasElement bits.now (word_of word.now) e) }
+    ensures element { IfSome result (λ e. HasElement bits.now (word_of word.now) e) }
+    ensures some { length word.now.nets.items ≡ F.degree field.now → IsSome result }
 {
     if word.nets.len() == field.k() as usize {
         Some(word.basis.element_of(word_bits(bits, &word.nets)))
@@ -52,7 +56,7 @@ fn element<F: Field>(field: &F, bits: &[bool], word: &CircuitWord) -> Option<u64
 fn have_elements<F: Field>(field: &F, bits: &[bool], words: &[CircuitWord], xs: &[u64]) -> bool
     requires over { AreOver (F.degree field.now) (F.product field.now) words.now }
     requires long { length xs.now ≡ length words.now }
-    ensures { IsTrue result → HaveAll words.now xs.now bits.now }
+    ensures { IsTrue result ↔ HaveAll words.now xs.now bits.now }
 {
     match words {
         [] => true,
@@ -64,7 +68,8 @@ fn have_elements<F: Field>(field: &F, bits: &[bool], words: &[CircuitWord], xs: 
 
 // The bit of a net of a word whose bits these are, and another where it is no net of the word.
 fn bit_in_word(nets: &[u32], bits: u64, net: u32, other: bool) -> bool
-    ensures { (Has nets.now net → ⊥) → result ≡ other }
+    ensures other { (Has nets.now net → ⊥) → result ≡ other }
+    ensures bit { (place : ℕ) → slice_get nets.now place ≡ Some net → times net nets.now ≤ 1 → result ≡ (bit_at bits place == 1) }
 {
     match nets {
         [] => other,
@@ -83,7 +88,8 @@ fn bit_in_words<F: Field>(field: &F, words: &[CircuitWord], xs: &[u64], net: u32
     requires over { AreOver (F.degree field.now) (F.product field.now) words.now }
     requires long { length xs.now ≡ length words.now }
     requires elements { (x : ℕ) → Has xs.now x → x < 2 ^ F.degree field.now }
-    ensures { IsUnnamed words.now net → result ≡ false }
+    ensures zero { IsUnnamed words.now net → result ≡ false }
+    ensures bit { IsOnce words.now net → IsBitIn words.now xs.now net result }
 {
     match words {
         [] => false,
@@ -107,6 +113,7 @@ fn input_values<F: Field>(
     requires elements { (x : ℕ) → Has xs.now x → x < 2 ^ F.degree field.now }
     ensures long { IfOk result (λ v. length v.items ≡ length net.now.inputs) }
     ensures zeros { IfOk result (λ v. HaveZeros words.now net.now.inputs v.items) }
+    ensures bits { IfOk result (λ v. HaveBits words.now xs.now net.now.inputs v.items) }
 {
     let mut values = vec![in alloc; false; net.inputs().len()]?;
     for (i, input) in net.inputs().iter().enumerate() {
@@ -116,8 +123,8 @@ fn input_values<F: Field>(
 }
 
 /// The output of a circuit without latches at an input, by evaluation gate by gate: slow, and no more than the
-/// definition. It is none where a word has not k nets, or its nets can't have the bits of its element, as where
-/// one of them is no primary input.
+/// definition. Where the circuit is well-formed it is the output; elsewhere it may be none, as where a word has not
+/// k nets, or its nets can't have the bits of its element.
 pub fn output<F: Field>(
     alloc: Global,
     field: &F,
@@ -132,6 +139,7 @@ pub fn output<F: Field>(
     requires long { length xs.now ≡ length words.now }
     requires elements { (x : ℕ) → Has xs.now x → x < 2 ^ F.degree field.now }
     ensures output { IfOk result (λ found. IfSome found (λ e. IsOut (circuit_of (F.degree field.now) (F.product field.now) net.now words.now output.now) xs.now e)) }
+    ensures complete { IfOk result (λ found. IsWellFormed (circuit_of (F.degree field.now) (F.product field.now) net.now words.now output.now) → IsSome found) }
 {
     let values = input_values(alloc, field, net, words, xs)?;
     let bits = eval(alloc, net, &values)?;

@@ -6,4 +6,4 @@ pub returns-clause-some : goal.returns-clause-some
 returns-clause-some c = λ circuit xs well input. some_run circuit xs well input
 
 pub returns-clause-only : goal.returns-clause-only
-returns-clause-only c = λ circuit xs run other well r o. one_run circuit well xs r.open_run.input run other r o
+returns-clause-only c = one_run
