@@ -1,11 +1,11 @@
 -- What makes a circuit well-formed. Source: this project's own.
 use Rattle.std.specs.Prelude.{◌≡◌, ◌≢◌, ℕ, ◌≤◌, length, map}
 use Rattle.net_core.specs.NetList.{NetList}
-use Rattle.net_core.specs.GateValue.{GateValue}
 use Rattle.net_core.specs.LatchValue.{LatchValue}
 use Rattle.net_core.specs.Sound.{IsSound}
 use Rattle.net_core.specs.Lists.{Has, times}
 use Rattle.net_core.specs.declared.latch.Start.TheVariants.{Unknown}
+use Rattle.net_words.specs.Reach.{Reaches}
 use Rattle.net_words.specs.declared.word.Role.{Role}
 use Rattle.net_words.specs.declared.word.Role.TheVariants.{Input, State, Output}
 use Rattle.gf_field.specs.Ring.{IsRing}
@@ -25,15 +25,9 @@ StandsOn net Input n = Has net.inputs n
 StandsOn net State n = Has (map (λ l. l.out) net.latches) n
 StandsOn net Output n = ⊥
 
--- no gate reads the net, no latch takes its next bit from it, and it is no bit of the output word
-pub record ReachesNothing (circuit : Circuit) (n : ℕ) : Type 0 where
-  pub gates : (g : GateValue) → Has circuit.net.gates g → Has g.inputs n → ⊥
-  pub latches : (l : LatchValue) → Has circuit.net.latches l → l.next ≢ n
-  pub output : Has circuit.output.nets n → ⊥
-
 -- The field is one and the net list is sound; there are at most 8 input and state words; each word has k nets and a basis;
 -- no net stands twice in input and state words, which stand on primary inputs and on outputs of latches; the output word's
--- nets exist; each latch in no word has a start; and what no word names reaches nothing.
+-- nets exist; each latch in no word has a start; and a primary input in no word reaches no bit of the output word.
 pub record IsWellFormed (circuit : Circuit) : Type 0 where
   pub ring : IsRing circuit.k circuit.product
   pub no_zero_divisors : HasNoZeroDivisors circuit.k circuit.product
@@ -46,4 +40,4 @@ pub record IsWellFormed (circuit : Circuit) : Type 0 where
   pub output_role : circuit.output.role ≡ Output
   pub output_nets : (n : ℕ) → Has circuit.output.nets n → IsNet circuit n
   pub starts : (l : LatchValue) → Has circuit.net.latches l → IsInNoWord circuit l.out → l.start ≢ Unknown
-  pub covered : (n : ℕ) → Has circuit.net.inputs n → IsInNoWord circuit n → ReachesNothing circuit n
+  pub covered : (n : ℕ) → Has circuit.net.inputs n → IsInNoWord circuit n → Reaches circuit.net n circuit.output.nets → ⊥
