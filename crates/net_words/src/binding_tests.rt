@@ -69,7 +69,7 @@ fn names(alloc: Global, nets: &[Name]) -> Result<Names, AllocError> {
     Ok(Names::new(list))
 }
 
-fn can_be_bound(words: &[WordText]) -> bool
+pub(crate) fn can_be_bound(words: &[WordText]) -> bool
     ensures { IsTrue result → (k : ℕ) × AreWords k words.now }
 {
     if words.len() < 1 || words.len() > 9 {

@@ -13,6 +13,8 @@ mod fault;
 mod laws;
 mod lines;
 mod marks;
+#[cfg(test)]
+mod rank_tests;
 mod reader;
 mod signature;
 #[cfg(test)]
