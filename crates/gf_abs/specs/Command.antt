@@ -1,6 +1,7 @@
 -- The shapes of the words of the command line.
-use Rattle.std.specs.Prelude.{◌≡◌, ◌≢◌, ℕ, ◌≤◌, List, [], ◌∷◌, All, codes, false, nat_eq}
+use Rattle.std.specs.Prelude.{◌≡◌, ◌≢◌, ◌⊎◌, ℕ, ◌≤◌, List, [], ◌∷◌, All, codes, false, nat_eq, slice_index}
 use Rattle.std.specs.List.{starts_with, ends_with}
+use Rattle.text_core.specs.Numbers.{IsDecimal}
 use Rattle.gf_abs.specs.declared.command.Command.{Command}
 
 -- a word, as its bytes
@@ -9,11 +10,11 @@ Word = List ℕ
 
 -- a command with its operands
 pub data Job : Type 0 where
-  Bits : (signature net : Word) → Job
+  Bits : (signature net : Word) (terms : ℕ) → Job
 
 -- the command that the program's words gave
 abbrev pub job_of : Command → Job
-job_of command = Bits command.signature.now command.net.now
+job_of command = Bits command.signature.now command.net.now command.terms
 
 -- no control byte, which would break the line of a fault
 abbrev pub HasPlainBytes : Word → Type 0
@@ -36,6 +37,19 @@ pub record AreFiles (signature net : Word) : Type 0 where
   pub net_is : IsOperand net
   pub blif : IsBlifName net
 
--- the words of a command
+-- a decimal number without leading zeros, from 1 to 262,144
+pub record IsTermCount (number : Word) (terms : ℕ) : Type 0 where
+  pub decimal : IsDecimal number terms
+  pub no_zero : slice_index number 0 ≢ 48
+  pub some : 1 ≤ terms
+  pub most : terms ≤ 262144
+
+-- the bound on terms that the options set: `--terms` and a number, or nothing, which is 65,536
+abbrev pub AreOptions : List Word → ℕ → Type 0
+AreOptions options terms =
+    ((options ≡ []) × (terms ≡ 65536))
+    ⊎ ((number : Word) × (options ≡ codes "--terms" ∷ number ∷ []) × IsTermCount number terms)
+
+-- the words of a command, with its options at the end
 abbrev pub IsSpelled : List Word → Job → Type 0
-IsSpelled words (Bits signature net) = (words ≡ codes "bits" ∷ signature ∷ net ∷ []) × AreFiles signature net
+IsSpelled words (Bits signature net terms) = (options : List Word) × (words ≡ codes "bits" ∷ signature ∷ net ∷ options) × AreFiles signature net × AreOptions options terms

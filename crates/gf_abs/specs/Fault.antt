@@ -7,6 +7,8 @@ use Rattle.gf_abs.specs.declared.fault.SignatureFault.{SignatureFault}
 use Rattle.gf_abs.specs.declared.fault.SignatureFault.TheVariants as signature
 use Rattle.gf_abs.specs.declared.fault.NetlistFault.{NetlistFault}
 use Rattle.gf_abs.specs.declared.fault.NetlistFault.TheVariants as netlist
+use Rattle.gf_abs.specs.declared.fault.StageName.{StageName}
+use Rattle.gf_abs.specs.declared.fault.StageName.TheVariants as stage
 use Rattle.gf_abs.specs.declared.fault.BindingFault.{BindingFault}
 use Rattle.gf_abs.specs.declared.fault.BindingFault.TheVariants as binding
 
@@ -52,6 +54,12 @@ netlist_text netlist.TooManyNets = codes "38: too many nets"
 netlist_text netlist.TooManyGates = codes "38: too many gates"
 netlist_text (netlist.Binding fault) = binding_text fault
 
+-- what a stage is called
+abbrev pub stage_text : StageName → List ℕ
+stage_text (stage.Cut cut) = codes "cut " ++ decimal cut
+stage_text (stage.WordProduct word term bit) = codes "word " ++ (word ++ (codes " term " ++ (decimal term ++ (codes " bit " ++ decimal bit))))
+stage_text (stage.WordSum word term) = codes "word " ++ (word ++ (codes " sum " ++ decimal term))
+
 -- the line of a fault, with its LF
 abbrev pub fault_line : Fault → List ℕ
 fault_line faults.Words = codes "fault 01: words\n"
@@ -59,6 +67,7 @@ fault_line (faults.Absent file) = codes "fault 10: " ++ (file ++ codes " is abse
 fault_line (faults.TooLong file) = codes "fault 11: " ++ (file ++ codes " has more than 67108864 bytes\n")
 fault_line (faults.Signature fault) = codes "fault " ++ (signature_text fault ++ codes "\n")
 fault_line (faults.Netlist file fault) = codes "fault " ++ (netlist_text fault ++ (codes " in " ++ (file ++ codes "\n")))
+fault_line (faults.TooManyTerms stage terms bound) = codes "fault 03: " ++ (stage_text stage ++ (codes " has " ++ (decimal terms ++ (codes " terms, bound " ++ (decimal bound ++ codes "\n")))))
 
 -- the status that a fault ends with
 abbrev pub fault_status : Fault → ℕ
@@ -67,3 +76,4 @@ fault_status (faults.Absent file) = 2
 fault_status (faults.TooLong file) = 2
 fault_status (faults.Signature fault) = 2
 fault_status (faults.Netlist file fault) = 2
+fault_status (faults.TooManyTerms stage terms bound) = 3

@@ -1,12 +1,16 @@
 //! The words of the command line.
 ghost use Rattle.std.specs.Prelude.{◌≡◌, [], ◌∷◌, ◌↔◌, map, string_bytes, IsTrue, IfSome, IfNone, Contains};
-ghost use Rattle.gf_abs.specs.Command.{IsOperand, IsBlifName, IsSpelled, job_of};
+ghost use Rattle.gf_abs.specs.Command.{IsOperand, IsBlifName, IsTermCount, AreOptions, IsSpelled, job_of};
+
+use text_core::read_decimal;
 
 /// The command `bits`, which prints the output word's polynomial in the input bits, by the names of its files.
 #[derive(Clone, Copy, Debug)]
 pub struct Command<'a> {
     pub signature: &'a str,
     pub net: &'a str,
+    /// The most terms that a cut may have, 1 to 262,144.
+    pub terms: u32,
 }
 
 // Whether a word can stand for a file or a value.
@@ -31,23 +35,71 @@ pub fn read_words<'a>(words: &'a [String]) -> Option<Command<'a>>
     ensures none { IfNone result ((job : _) → IsSpelled (map string_bytes words.now) job → ⊥) }
 {
     match words {
-        [command, signature, net] => {
-            of_three(command.as_str(), signature.as_str(), net.as_str())
+        [command, signature, net, options @ ..] => {
+            let terms = read_options(options)?;
+            of_three(command.as_str(), signature.as_str(), net.as_str(), terms)
         }
         _ => None,
     }
 }
 
-// The command of three words.
-fn of_three<'a>(command: &str, signature: &'a str, net: &'a str) -> Option<Command<'a>>
-    ensures found { IfSome result (λ found. IsSpelled (command.now ∷ signature.now ∷ net.now ∷ []) (job_of found)) }
-    ensures none { IfNone result ((job : _) → IsSpelled (command.now ∷ signature.now ∷ net.now ∷ []) job → ⊥) }
+// The bound on terms that the options set.
+fn read_options(options: &[String]) -> Option<u32>
+    ensures found { IfSome result (λ terms. AreOptions (map string_bytes options.now) terms) }
+    ensures none { IfNone result ((terms : _) → AreOptions (map string_bytes options.now) terms → ⊥) }
+{
+    match options {
+        [] => Some(65_536),
+        [name, number] => of_option(name.as_str(), number.as_str()),
+        _ => None,
+    }
+}
+
+// The bound on terms of an option with its number.
+fn of_option(name: &str, number: &str) -> Option<u32>
+    ensures found { IfSome result (λ terms. AreOptions (name.now ∷ number.now ∷ []) terms) }
+    ensures none { IfNone result ((terms : _) → AreOptions (name.now ∷ number.now ∷ []) terms → ⊥) }
+{
+    match name {
+        "--terms" => term_count(number),
+        _ => None,
+    }
+}
+
+// A number of terms.
+fn term_count(number: &str) -> Option<u32>
+    ensures found { IfSome result (λ terms. IsTermCount number.now terms) }
+    ensures none { IfNone result ((terms : _) → IsTermCount number.now terms → ⊥) }
+{
+    let digits = number.as_bytes();
+    if digits.starts_with(b"0") {
+        return None;
+    }
+    match read_decimal(digits, 262_144) {
+        Some(terms) if terms > 0 => Some(terms as u32),
+        _ => None,
+    }
+}
+
+// The command of three words, with this bound on terms.
+fn of_three<'a>(
+    command: &str,
+    signature: &'a str,
+    net: &'a str,
+    terms: u32,
+) -> Option<Command<'a>>
+    ensures found { IfSome result (λ found. (options : _) → AreOptions options terms → IsSpelled (command.now ∷ signature.now ∷ net.now ∷ options) (job_of found)) }
+    ensures none { IfNone result ((options : _) (job : _) → IsSpelled (command.now ∷ signature.now ∷ net.now ∷ options) job → ⊥) }
 {
     if !is_operand(signature) || !is_operand(net) || !is_blif_name(net) {
         return None;
     }
     match command {
-        "bits" => Some(Command { signature, net }),
+        "bits" => Some(Command {
+            signature,
+            net,
+            terms,
+        }),
         _ => None,
     }
 }

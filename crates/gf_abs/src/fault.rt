@@ -17,6 +17,23 @@ pub enum Fault {
     Signature(SignatureFault),
     /// The netlist of this file, or its binding to the signature, is refused.
     Netlist { file: Name, fault: NetlistFault },
+    /// A stage has more terms than the bound.
+    TooManyTerms {
+        stage: StageName,
+        terms: u64,
+        bound: u32,
+    },
+}
+
+/// A stage, by what it is called. Terms and bits count from 1.
+#[derive(Debug, Drop)]
+pub enum StageName {
+    /// After the outputs of so many gates were eliminated.
+    Cut { cut: u32 },
+    /// A word's term with its first bits of the word replaced.
+    WordProduct { word: Name, term: u32, bit: u32 },
+    /// The sum of a word's first terms, replaced.
+    WordSum { word: Name, term: u32 },
 }
 
 /// Why a signature is refused. Lines count from 1.
@@ -102,5 +119,6 @@ pub fn status_of(fault: &Fault) -> u8
         | Fault::TooLong { .. }
         | Fault::Signature(_)
         | Fault::Netlist { .. } => 2,
+        Fault::TooManyTerms { .. } => 3,
     }
 }

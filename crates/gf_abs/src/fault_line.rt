@@ -1,9 +1,9 @@
 //! The lines of faults.
 ghost use Rattle.std.specs.Prelude.{◌≡◌, ◌++◌, IfOk, codes, string_bytes};
 ghost use Rattle.std.specs.Fmt.{decimal};
-ghost use Rattle.gf_abs.specs.Fault.{fault_line, signature_text, netlist_text, binding_text};
+ghost use Rattle.gf_abs.specs.Fault.{fault_line, signature_text, netlist_text, binding_text, stage_text as text_of_stage};
 
-use crate::fault::{BindingFault, Fault, NetlistFault, SignatureFault};
+use crate::fault::{BindingFault, Fault, NetlistFault, SignatureFault, StageName};
 use std::alloc::{AllocError, Global};
 
 /// The line of a fault, with its LF.
@@ -31,8 +31,34 @@ pub fn write_fault(alloc: Global, fault: &Fault) -> Result<Vec<u8>, AllocError>
             let file = file.as_str();
             format!(in alloc; "fault {text} in {file}\n")?
         }
+        Fault::TooManyTerms {
+            stage,
+            terms,
+            bound,
+        } => {
+            let text = stage_text(alloc, stage)?;
+            let text = text.as_str();
+            format!(in alloc; "fault 03: {text} has {terms} terms, bound {bound}\n")?
+        }
     };
     Ok(line.into_bytes())
+}
+
+// What a stage is called.
+fn stage_text(alloc: Global, stage: &StageName) -> Result<String, AllocError>
+    ensures { IfOk result (λ text. string_bytes text ≡ text_of_stage stage.now) }
+{
+    match stage {
+        StageName::Cut { cut } => format!(in alloc; "cut {cut}"),
+        StageName::WordProduct { word, term, bit } => {
+            let word = word.as_str();
+            format!(in alloc; "word {word} term {term} bit {bit}")
+        }
+        StageName::WordSum { word, term } => {
+            let word = word.as_str();
+            format!(in alloc; "word {word} sum {term}")
+        }
+    }
 }
 
 // The number and the text of a signature's fault.

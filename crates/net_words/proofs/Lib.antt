@@ -7,6 +7,7 @@ pub mod SignatureLemmas
 pub mod BindLemmas
 pub mod VariableLemmas
 pub mod MemberLemmas
+pub mod NamesLemmas
 pub mod BoundLemmas
 pub mod RankLemmas
 pub mod BindDetermined

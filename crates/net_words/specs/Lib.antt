@@ -7,4 +7,5 @@ pub mod BindReading
 pub mod Variables
 pub mod Reach
 pub mod BoundTo
+pub mod WordNames
 pub mod Reading

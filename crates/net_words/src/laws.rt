@@ -1,5 +1,5 @@
 //! Laws of signatures and bindings. These functions do nothing: their contracts are proved of the definitions alone.
-ghost use Rattle.std.specs.Prelude.{◌≡◌, ◌<◌, List, length, ℕ};
+ghost use Rattle.std.specs.Prelude.{◌≡◌, ◌<◌, List, Ok, length, ℕ};
 ghost use Rattle.text_core.specs.Outcome.{Determined};
 ghost use Rattle.net_core.specs.Lists.{Has, times};
 ghost use Rattle.net_core.specs.NetList.{NetList, nets};
@@ -7,8 +7,9 @@ ghost use Rattle.net_core.specs.Sound.{IsSound};
 ghost use Rattle.net_words.specs.Bind.{BindingOf};
 ghost use Rattle.net_words.specs.Binding.{Binding};
 ghost use Rattle.net_words.specs.BoundTo.{IsBoundTo};
-ghost use Rattle.net_words.specs.Signature.{Sig};
+ghost use Rattle.net_words.specs.Signature.{Sig, SignatureValue};
 ghost use Rattle.net_words.specs.Variables.{variables, IsRanked};
+ghost use Rattle.net_words.specs.WordNames.{HaveNames};
 ghost use Rattle.net_words.specs.declared.word.WordText.{WordText};
 
 /// At most one binding or fault comes of binding words to the nets of a net list.
@@ -28,4 +29,9 @@ pub fn each_net_has_one_rank()
     ensures within { (net : NetList) (binding : Binding) (n : ℕ) → IsSound net → IsBoundTo net binding → Has (variables (nets net) binding.words) n → n < nets net }
     ensures long { (net : NetList) (binding : Binding) → IsSound net → IsBoundTo net binding → length (variables (nets net) binding.words) ≡ nets net }
     ensures one { (net : NetList) (binding : Binding) (p q n : ℕ) → IsSound net → IsBoundTo net binding → IsRanked (variables (nets net) binding.words) p n → IsRanked (variables (nets net) binding.words) q n → p ≡ q }
+{}
+
+/// The words of a signature have names, and no two have the same.
+pub fn words_have_names()
+    ensures { (text : List ℕ) (signature : SignatureValue) → Sig text (Ok signature) → HaveNames signature.words }
 {}

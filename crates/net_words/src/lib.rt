@@ -28,7 +28,9 @@ pub use binding::{BindFault, bind};
 pub use bound::Bound;
 pub use combinational::Combinational;
 pub use fault::SigFault;
-pub use laws::{each_net_has_one_rank, one_binding_or_fault, one_signature_or_fault};
+pub use laws::{
+    each_net_has_one_rank, one_binding_or_fault, one_signature_or_fault, words_have_names,
+};
 pub use reader::read_signature;
 pub use signature::Signature;
 pub use word::{BasisText, Role, WordText};
