@@ -1,6 +1,13 @@
 pub mod Command
 pub mod Fault
+pub mod Reply
+pub mod FieldOf
+pub mod SettingValue
+pub mod SettingOf
+pub mod Setting
+pub mod NetlistOf
+pub mod Labelling
+pub mod BitsOf
 pub mod Answer
 pub mod Stop
-pub mod Setting
-pub mod SettingValue
+pub mod CutStop

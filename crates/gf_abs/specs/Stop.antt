@@ -4,17 +4,18 @@ use Rattle.std.specs.declared.alloc.Global.{Global}
 use Rattle.std.specs.Io.KnownBytes.{Appends}
 use Rattle.text_core.specs.Outcome.{Outcome}
 use Rattle.gf_abs.specs.declared.fault.Fault.{Fault}
-use Rattle.gf_abs.specs.declared.fault.Fault.TheVariants.{Words, Signature, Netlist, Absent, TooLong}
+use Rattle.gf_abs.specs.declared.fault.Fault.TheVariants.{Words, Signature, Netlist, Absent, TooLong, TooManyTerms}
 use Rattle.gf_abs.specs.declared.stop.Stop.{Stop}
 use Rattle.gf_abs.specs.declared.stop.Stop.TheVariants.{Refused, Outside, OutOfMemory}
 use Rattle.gf_abs.specs.Fault.{fault_line, fault_status}
-use Rattle.gf_abs.specs.Answer.{Reply}
+use Rattle.gf_abs.specs.Reply.{Reply}
 
 -- a file was absent or too long
 abbrev pub IsMiss : Fault → Type 0
 IsMiss Words = ⊥
 IsMiss (Signature fault) = ⊥
 IsMiss (Netlist file fault) = ⊥
+IsMiss (TooManyTerms stage terms bound) = ⊥
 IsMiss (Absent file) = Unit {0}
 IsMiss (TooLong file) = Unit {0}
 

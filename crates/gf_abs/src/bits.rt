@@ -1,116 +1,125 @@
-//! The polynomial of the output word in the input bits.
-ghost use Rattle.std.specs.Prelude.{◌≡◌, ◌≤◌, ◌<◌, length, IfSome};
+//! The output word's polynomial in the bits of the input words.
+ghost use Rattle.std.specs.Prelude.{◌≡◌, ◌++◌, length, map, codes, IfOk};
+ghost use Rattle.gf_basis.specs.BasisParts.{elements_of};
+ghost use Rattle.net_core.specs.Lists.{Has};
+ghost use Rattle.net_words.specs.Binding.{AreWords};
+ghost use Rattle.net_words.specs.BoundTo.{IsBoundTo};
+ghost use Rattle.net_words.specs.WordNames.{HaveNames};
+ghost use Rattle.poly_mixed.specs.Text.{text, HasNames};
+ghost use Rattle.circuit_model.specs.OfBinding.{output_basis as basis_of_output};
+ghost use Rattle.gf_abs.specs.BitsOf.{BitsOf, HaveRoles};
+ghost use Rattle.gf_abs.specs.CutStop.{IsOfCuts, cut_stop};
+ghost use Rattle.gf_abs.specs.Setting.{any_degree, any_product, setting_value, elements_of_each, AreBasesOver};
 ghost use Rattle.gf_abs.specs.Stop.{GivesBy};
-ghost use Rattle.gf_abs.specs.Answer.{TextAnswer};
 
-use crate::netlist::circuit_of;
-use crate::polynomial::Polynomial;
-use crate::print;
+use crate::fault::{Fault, StageName};
+use crate::labels::labels_for;
 use crate::setting::Setting;
 use crate::stop::Stop;
-use net_core::{Gate, order};
-use net_words::{Bound, Combinational, Role};
+use gf_basis::Basis;
+use gf_field::Field;
+use gf_tower::AnyField;
+use net_words::{Bound, Combinational, Role, Signature};
+use poly_mixed::{Labels, NoSteps, Poly, ReduceFault, Stage, write_poly};
+use rato_reduce::reduce_bits;
 use std::alloc::{AllocError, Global};
 
-/// The output over the text of the netlist of a file.
-pub fn net_output(
+/// The line of the output word's polynomial in the bits of the input words, or the first cut of more than `bound` terms.
+/// The circuit's words are those of the setting.
+pub fn bits_line(
     alloc: Global,
     setting: &Setting,
-    file: &str,
-    text: &[u8],
+    circuit: &Combinational,
+    bound: u32,
 ) -> Result<Vec<u8>, Stop>
-    requires { length text.now ≤ 67108864 }
-    ensures { GivesBy (λ bytes. record { status = 0; text = bytes.items }) result (TextAnswer file.now text.now) ⊥ ⊥ }
+    requires bits { circuit.now.bound.k ≡ any_degree setting.now.field }
+    requires words { AreWords (any_degree setting.now.field) setting.now.signature.words }
+    requires names { HaveNames setting.now.signature.words }
+    requires roles { HaveRoles setting.now.signature.words circuit.now.bound.words }
+    requires over { AreBasesOver (any_degree setting.now.field) (any_product setting.now.field) setting.now.bases.items }
+    requires long { length setting.now.bases.items ≡ length circuit.now.bound.words }
+    ensures { GivesBy (λ bytes. record { status = 0; text = bytes.items }) result (BitsOf (setting_value setting.now) circuit.now bound) ⊥ ⊥ }
 {
-    let circuit = circuit_of(alloc, setting.signature.words(), file, text)?;
-    let output = output_of(alloc, &circuit, &setting.bases)?;
-    Ok(output)
+    let signature = &setting.signature;
+    let bases = setting.bases.as_slice();
+    match &setting.field {
+        AnyField::Base(field) => line_over(alloc, field, signature, bases, circuit, bound),
+        AnyField::Tower(field) => line_over(alloc, field, signature, bases, circuit, bound),
+    }
 }
 
-// The output word.
-fn output_word(bound: &Bound) -> Option<u32>
-    ensures { IfSome result (λ w. w < length bound.now.words) }
+// The same over any field.
+fn line_over<F: Field>(
+    alloc: Global,
+    field: &F,
+    signature: &Signature,
+    bases: &[Basis],
+    circuit: &Combinational,
+    bound: u32,
+) -> Result<Vec<u8>, Stop>
+    requires bits { circuit.now.bound.k ≡ F.degree field.now }
+    requires words { AreWords (F.degree field.now) signature.now.words }
+    requires names { HaveNames signature.now.words }
+    requires roles { HaveRoles signature.now.words circuit.now.bound.words }
+    requires over { AreBasesOver (F.degree field.now) (F.product field.now) bases.now }
+    requires long { length bases.now ≡ length circuit.now.bound.words }
+    ensures { GivesBy (λ bytes. record { status = 0; text = bytes.items }) result (BitsOf (record { signature = signature.now; k = F.degree field.now; product = F.product field.now; bases = elements_of_each bases.now }) circuit.now bound) ⊥ ⊥ }
+{
+    let labels = labels_for(alloc, signature.words(), field.k())?;
+    let basis = output_basis(circuit.bound(), bases);
+    let poly = match reduce_bits(alloc, field, circuit, basis, bound, &mut NoSteps) {
+        Ok(poly) => poly,
+        Err(fault) => return Err(refusal(fault, bound)),
+    };
+    let _gates = circuit.net().gates();
+    let line = polynomial_line(alloc, &poly, &labels)?;
+    Ok(line)
+}
+
+// The basis of the output word.
+fn output_basis<'a>(bound: &Bound, bases: &'a [Basis]) -> &'a Basis
+    requires one { (net : _) × IsBoundTo net bound.now }
+    requires long { length bases.now ≡ length bound.now.words }
+    ensures basis { elements_of result.now ≡ basis_of_output bound.now.words (elements_of_each bases.now) }
+    ensures among { Has bases.now result.now }
 {
     for w in 0..bound.words() {
         if bound.role(w) == Role::Output {
-            return Some(w);
+            return &bases[w as usize];
         }
     }
-    None
+    unreachable!()
 }
 
-// The line of the output word's polynomial in the bits of the input words.
-fn output_of(
-    alloc: Global,
-    circuit: &Combinational,
-    bases: &[Vec<u64>],
-) -> Result<Vec<u8>, AllocError> {
-    let bound = circuit.bound();
-    let mut line = String::new(alloc);
-    let Some(word) = output_word(bound) else {
-        return Ok(line.into_bytes());
-    };
-    let Some(basis) = bases.get(word as usize) else {
-        return Ok(line.into_bytes());
-    };
-    let polynomial = eliminate(alloc, circuit, word, basis)?;
-    line.push_str(bound.name(word))?;
-    line.push_str(" = ")?;
-    print::push_polynomial(alloc, &mut line, &polynomial, bound)?;
-    line.push_str("\n")?;
-    Ok(line.into_bytes())
-}
-
-// The output word's polynomial after each gate's output is replaced by the gate's polynomial:
-// by falling level, and within a level by falling position.
-fn eliminate(
-    alloc: Global,
-    circuit: &Combinational,
-    word: u32,
-    basis: &[u64],
-) -> Result<Polynomial, AllocError>
-    requires { word < length circuit.now.bound.words }
+// Why no output comes where a cut is too large.
+fn refusal(fault: ReduceFault, bound: u32) -> Stop
+    requires { IsOfCuts fault }
+    ensures { result ≡ cut_stop fault bound }
 {
-    let mut polynomial = output_sum(alloc, circuit, word, basis)?;
-    let order = order(alloc, circuit.net())?;
-    let gates = circuit.net().gates();
-    for position in order.iter().rev() {
-        if let Some(gate) = gates.get(*position as usize) {
-            eliminate_gate(alloc, circuit, gate, &mut polynomial)?;
-        }
+    match fault {
+        ReduceFault::TooManyTerms {
+            stage: Stage::Cut(cut),
+            terms,
+        } => Stop::Refused(Fault::TooManyTerms {
+            stage: StageName::Cut { cut },
+            terms,
+            bound,
+        }),
+        ReduceFault::TooManyTerms { .. } => unreachable!(),
+        ReduceFault::OutOfMemory => Stop::OutOfMemory,
     }
-    Ok(polynomial)
 }
 
-// The sum of the basis elements of the output word times its bits.
-fn output_sum(
-    alloc: Global,
-    circuit: &Combinational,
-    word: u32,
-    basis: &[u64],
-) -> Result<Polynomial, AllocError>
-    requires { word < length circuit.now.bound.words }
+// The output word's name, ` = ` and the polynomial's text.
+fn polynomial_line(alloc: Global, poly: &Poly, labels: &Labels) -> Result<Vec<u8>, AllocError>
+    requires { HasNames labels.now poly.now.terms }
+    ensures { IfOk result (λ line. line.items ≡ labels.now.output ++ (codes " = " ++ (text labels.now poly.now.terms ++ codes "\n"))) }
 {
-    let bound = circuit.bound();
-    let mut polynomial = Polynomial::zero(alloc);
-    for place in 0..bound.k() {
-        let rank = circuit.rank_of(bound.net(word, place));
-        let element = basis.get(place as usize).copied().unwrap_or(0);
-        polynomial.add_term(&[rank], element)?;
-    }
-    Ok(polynomial)
-}
-
-// Replaces the output of a gate by the gate's polynomial.
-fn eliminate_gate(
-    alloc: Global,
-    circuit: &Combinational,
-    gate: &Gate,
-    polynomial: &mut Polynomial,
-) -> Result<(), AllocError> {
-    let mut inputs = Vec::new(alloc);
-    for input in gate.inputs() {
-        inputs.push(circuit.rank_of(*input))?;
-    }
-    polynomial.substitute(circuit.rank_of(gate.out()), &inputs, gate.table())
+    let polynomial = write_poly(alloc, poly, labels)?;
+    let mut line = Vec::new(alloc);
+    line.extend_from_slice(labels.output().as_bytes())?;
+    line.extend_from_slice(b" = ")?;
+    line.extend_from_slice(&polynomial)?;
+    line.extend_from_slice(b"\n")?;
+    Ok(line)
 }

@@ -6,34 +6,10 @@ mod bits;
 mod command;
 mod fault;
 mod fault_line;
-mod netlist;
-mod polynomial;
-mod print;
-#[cfg(test)]
-mod rows;
-#[cfg(test)]
-mod rows_1;
-#[cfg(test)]
-mod rows_2;
-#[cfg(test)]
-mod rows_3;
-#[cfg(test)]
-mod rows_4;
-#[cfg(test)]
-mod rows_5;
-#[cfg(test)]
-mod rows_6;
-#[cfg(test)]
-mod rows_7;
-#[cfg(test)]
-mod rows_8;
+mod labels;
 mod setting;
 mod stop;
-#[cfg(test)]
-mod tests;
-mod top;
 
 pub use command::Command;
 pub use fault::{BindingFault, Fault, NetlistFault, SignatureFault};
 pub use stop::Stop;
-pub use top::{run, run_surely};

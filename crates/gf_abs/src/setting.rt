@@ -1,9 +1,12 @@
 //! The setting of a job: a signature, its field, and the bases of its words.
-ghost use Rattle.std.specs.Prelude.{◌≡◌, ◌≤◌, ◌<◌, ℕ, [], length, IfOk};
+ghost use Rattle.std.specs.Prelude.{◌≡◌, ◌≤◌, length, Ok, Err, IfOk, IfErr};
+ghost use Rattle.net_words.specs.Binding.{AreWords};
+ghost use Rattle.gf_basis.specs.BasisParts.{IsOver, elements_of};
 ghost use Rattle.gf_abs.specs.Stop.{GivesBy};
-ghost use Rattle.gf_abs.specs.Answer.{SignatureTaken};
-ghost use Rattle.gf_abs.specs.Setting.{RefusesSignature};
-ghost use Rattle.gf_basis.specs.BasisParts.{IsOver};
+ghost use Rattle.gf_abs.specs.FieldOf.{field_fault as fault_of_field};
+ghost use Rattle.gf_abs.specs.SettingOf.{BasisOf, WordBasis, BasesOf, SettingOf, basis_fault as fault_of_basis};
+ghost use Rattle.gf_abs.specs.Setting.{any_degree, any_product, elements_of_each, setting_value, text_stop as stop_of_text, AreBasesOver};
+ghost use Rattle.gf_abs.specs.declared.stop.Stop.TheVariants.{Refused};
 
 use crate::fault::{Fault, SignatureFault};
 use crate::stop::Stop;
@@ -11,46 +14,46 @@ use gf_basis::{Basis, BasisFault};
 use gf_field::Field;
 use gf_tower::{AnyField, FieldFault};
 use net_words::{BasisText, SigFault, Signature, WordText, read_signature};
-use std::alloc::{AllocError, Global};
+use std::alloc::Global;
 
-/// A signature, and the elements of the bases of its words in their order.
+/// A signature, its field, and the bases of its words in their order.
 #[derive(Drop)]
 pub struct Setting {
     pub signature: Signature,
-    pub bases: Vec<Vec<u64>>,
+    pub field: AnyField,
+    pub bases: Vec<Basis>,
 }
 
-/// The setting of a signature's text.
+/// The setting of a signature's text of at most 67,108,864 bytes, or its first fault: that of a line, of the field,
+/// and then line by line of the number of a word's bits and of its basis.
 pub fn setting_of(alloc: Global, text: &[u8]) -> Result<Setting, Stop>
     requires { length text.now ≤ 67108864 }
-    ensures { GivesBy (λ setting. tt) result (SignatureTaken text.now) ⊥ ⊥ }
+    ensures gives { GivesBy setting_value result (SettingOf text.now) ⊥ ⊥ }
+    ensures bases { IfOk result (λ setting. AreBasesOver (any_degree setting.field) (any_product setting.field) setting.bases.items) }
+    ensures long { IfOk result (λ setting. length setting.bases.items ≡ length setting.signature.words) }
+    ensures words { IfOk result (λ setting. AreWords (any_degree setting.field) setting.signature.words) }
 {
     let signature = match read_signature(alloc, text) {
         Ok(signature) => signature,
-        Err(fault) => return Err(text_fault(fault)),
+        Err(fault) => return Err(text_stop(fault)),
     };
     let field = match AnyField::new(signature.modulus(), signature.tower()) {
         Ok(field) => field,
-        Err(fault) => return Err(field_fault(fault)),
+        Err(fault) => return Err(Stop::Refused(field_fault(fault))),
     };
-    let words = signature.words();
-    let bases = match &field {
-        AnyField::Base(field) => bases_of(alloc, field, words)?,
-        AnyField::Tower(field) => bases_of(alloc, field, words)?,
-    };
-    Ok(Setting { signature, bases })
+    match any_bases(alloc, &field, signature.words()) {
+        Ok(bases) => Ok(Setting {
+            signature,
+            field,
+            bases,
+        }),
+        Err(stop) => Err(stop),
+    }
 }
 
-// The refusal of a signature.
-fn refused(fault: SignatureFault) -> Stop
-    ensures { RefusesSignature result }
-{
-    Stop::Refused(Fault::Signature(fault))
-}
-
-// The refusal of a signature's text.
-fn text_fault(fault: SigFault) -> Stop
-    ensures { RefusesSignature result }
+// What a fault of a signature's text ends with.
+fn text_stop(fault: SigFault) -> Stop
+    ensures { result ≡ stop_of_text fault }
 {
     match fault {
         SigFault::Syntax { line } => refused(SignatureFault::Syntax { line }),
@@ -62,59 +65,88 @@ fn text_fault(fault: SigFault) -> Stop
     }
 }
 
-// The refusal of a signature's field.
-fn field_fault(fault: FieldFault) -> Stop
-    ensures { RefusesSignature result }
+// The refusal of a signature.
+fn refused(fault: SignatureFault) -> Stop
+    ensures { result ≡ Refused (Fault.Signature fault) }
+{
+    Stop::Refused(Fault::Signature(fault))
+}
+
+// The fault of a signature's field.
+fn field_fault(fault: FieldFault) -> Fault
+    ensures { result ≡ fault_of_field fault }
 {
     match fault {
-        FieldFault::BadDegree => refused(SignatureFault::Degree),
-        FieldFault::NotIrreducible => refused(SignatureFault::Modulus),
-        FieldFault::BadLength => refused(SignatureFault::Tower),
-        FieldFault::BadCoefficient { .. } => refused(SignatureFault::Tower),
-        FieldFault::TowerNotIrreducible => refused(SignatureFault::TowerPolynomial),
+        FieldFault::BadDegree => Fault::Signature(SignatureFault::Degree),
+        FieldFault::NotIrreducible => Fault::Signature(SignatureFault::Modulus),
+        FieldFault::BadLength => Fault::Signature(SignatureFault::Tower),
+        FieldFault::BadCoefficient { .. } => Fault::Signature(SignatureFault::Tower),
+        FieldFault::TowerNotIrreducible => Fault::Signature(SignatureFault::TowerPolynomial),
     }
 }
 
-// The bases of words: line by line, first their number of bits and then the basis.
-fn bases_of<F: Field>(alloc: Global, field: &F, words: &[WordText]) -> Result<Vec<Vec<u64>>, Stop>
-    ensures { GivesBy (λ bases. tt) result (SignatureTaken []) ⊥ ⊥ }
+// The bases of words over any field.
+fn any_bases(alloc: Global, field: &AnyField, words: &[WordText]) -> Result<Vec<Basis>, Stop>
+    ensures gives { GivesBy (λ bases. elements_of_each bases.items) result (BasesOf (any_degree field.now) (any_product field.now) words.now) ⊥ ⊥ }
+    ensures over { IfOk result (λ bases. AreBasesOver (any_degree field.now) (any_product field.now) bases.items) }
+{
+    match field {
+        AnyField::Base(field) => bases_of(alloc, field, words),
+        AnyField::Tower(field) => bases_of(alloc, field, words),
+    }
+}
+
+// The bases of words, line by line.
+fn bases_of<F: Field>(alloc: Global, field: &F, words: &[WordText]) -> Result<Vec<Basis>, Stop>
+    ensures gives { GivesBy (λ bases. elements_of_each bases.items) result (BasesOf (F.degree field.now) (F.product field.now) words.now) ⊥ ⊥ }
+    ensures over { IfOk result (λ bases. AreBasesOver (F.degree field.now) (F.product field.now) bases.items) }
 {
     let mut bases = Vec::new(alloc);
     for word in words {
-        let basis = basis_of(field, word)?;
-        bases.push(elements(alloc, field, &basis)?)?;
+        let basis = match word_basis(field, word) {
+            Ok(basis) => basis,
+            Err(stop) => return Err(stop),
+        };
+        bases.push(basis)?;
     }
     Ok(bases)
 }
 
-// The basis of a word.
-fn basis_of<F: Field>(field: &F, word: &WordText) -> Result<Basis, Stop>
-    ensures refused { GivesBy (λ basis. tt) result (SignatureTaken []) ⊥ ⊥ }
+// The basis of a word: first its number of bits counts.
+fn word_basis<F: Field>(field: &F, word: &WordText) -> Result<Basis, Stop>
+    ensures gives { GivesBy elements_of result (WordBasis (F.degree field.now) (F.product field.now) word.now) ⊥ ⊥ }
     ensures over { IfOk result (λ basis. IsOver (F.degree field.now) (F.product field.now) basis) }
 {
     let line = word.line;
     if word.nets.as_slice().len() != field.k() as usize {
         return Err(refused(SignatureFault::Bits { line }));
     }
-    let basis = match &word.basis {
-        BasisText::Poly => Ok(Basis::poly(field)),
-        BasisText::Normal { gamma } => Basis::normal(field, *gamma),
-        BasisText::Elements { list } => Basis::list(field, list.as_slice()),
-    };
-    match basis {
+    match basis_of(field, &word.basis) {
         Ok(basis) => Ok(basis),
-        Err(BasisFault::Dependent) => Err(refused(SignatureFault::Dependent { line })),
-        Err(_) => Err(refused(SignatureFault::Basis { line })),
+        Err(fault) => Err(Stop::Refused(basis_fault(line, fault))),
     }
 }
 
-// The elements of a basis.
-fn elements<F: Field>(alloc: Global, field: &F, basis: &Basis) -> Result<Vec<u64>, AllocError>
-    requires { IsOver (F.degree field.now) (F.product field.now) basis.now }
+// The basis that a text names.
+fn basis_of<F: Field>(field: &F, text: &BasisText) -> Result<Basis, BasisFault>
+    ensures ok { IfOk result (λ basis. BasisOf (F.degree field.now) (F.product field.now) text.now (Ok (elements_of basis))) }
+    ensures fault { IfErr result (λ fault. BasisOf (F.degree field.now) (F.product field.now) text.now (Err fault)) }
+    ensures over { IfOk result (λ basis. IsOver (F.degree field.now) (F.product field.now) basis) }
 {
-    let mut elements = Vec::new(alloc);
-    for i in 0..field.k() {
-        elements.push(basis.element(i))?;
+    match text {
+        BasisText::Poly => Ok(Basis::poly(field)),
+        BasisText::Normal { gamma } => Basis::normal(field, *gamma),
+        BasisText::Elements { list } => Basis::list(field, list.as_slice()),
     }
-    Ok(elements)
+}
+
+// The fault of a basis in the line of this number.
+fn basis_fault(line: u32, fault: BasisFault) -> Fault
+    ensures { result ≡ fault_of_basis line fault }
+{
+    match fault {
+        BasisFault::Dependent => Fault::Signature(SignatureFault::Dependent { line }),
+        BasisFault::WrongCount { .. } => Fault::Signature(SignatureFault::Basis { line }),
+        BasisFault::BadElement { .. } => Fault::Signature(SignatureFault::Basis { line }),
+    }
 }

@@ -3,3 +3,8 @@ pub mod Cut
 pub mod Mix
 pub mod Stage
 pub mod CutSteps
+pub mod Function
+pub mod WordStage
+pub mod StageList
+pub mod WordSteps
+pub mod Plain

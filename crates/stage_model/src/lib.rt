@@ -1,2 +1,30 @@
 //! Stages of a circuit: cuts, mixes of words and bits, polynomials of stages, sizes, and the first stage over a bound.
+//! Functions that do nothing have contracts that are laws of the definitions.
 #![tactic(auto)]
+
+mod cut_terms;
+mod cut_value;
+mod laws;
+mod mix_laws;
+mod ranks;
+mod settle;
+mod stage_laws;
+#[cfg(test)]
+mod tests;
+mod word_laws;
+
+pub use cut_terms::{cut_poly, cut_size};
+pub use cut_value::cut_at;
+pub use laws::{
+    cuts_in_bits, cuts_of_bound, first_cut, last_cut, last_cut_in_words, one_element_a_cut,
+    one_first_cut_over, one_polynomial_a_cut, one_size_a_cut,
+};
+pub use mix_laws::{mix_of_all_words, mix_of_no_words, one_element_a_mix};
+pub use stage_laws::{
+    one_element_a_stage, one_first_over, one_polynomial_a_stage, one_size_a_stage,
+    stages_are_ordered,
+};
+pub use word_laws::{
+    mix_in_later_bits, one_list_of_cut_steps, one_list_of_word_steps, rank_of_place,
+    sum_of_all_terms,
+};

@@ -1,0 +1,40 @@
+-- Why no output comes where a cut is too large.
+use Rattle.std.specs.Prelude.{ℕ}
+use Rattle.poly_mixed.specs.declared.stage.ReduceFault.{ReduceFault}
+use Rattle.poly_mixed.specs.declared.stage.ReduceFault.TheVariants as reduce
+use Rattle.poly_mixed.specs.declared.stage.Stage.{Stage}
+use Rattle.poly_mixed.specs.declared.stage.Stage.TheVariants.{Cut, WordProduct, WordSum, SpecProduct, SpecSum, InstanceProduct, InstanceSum}
+use Rattle.gf_abs.specs.declared.fault.Fault.TheVariants as faults
+use Rattle.gf_abs.specs.declared.fault.StageName.TheVariants as names
+use Rattle.gf_abs.specs.declared.stop.Stop.{Stop}
+use Rattle.gf_abs.specs.declared.stop.Stop.TheVariants as stops
+
+-- the stage is a cut
+abbrev pub IsCutName : Stage → Type 0
+IsCutName (Cut t) = Unit {0}
+IsCutName (WordProduct word term bit) = ⊥
+IsCutName (WordSum word term) = ⊥
+IsCutName (SpecProduct term factor) = ⊥
+IsCutName (SpecSum term) = ⊥
+IsCutName (InstanceProduct instance term factor) = ⊥
+IsCutName (InstanceSum instance term) = ⊥
+
+-- a cut is too large, or memory is wanted
+abbrev pub IsOfCuts : ReduceFault → Type 0
+IsOfCuts (reduce.TooManyTerms stage n) = IsCutName stage
+IsOfCuts reduce.OutOfMemory = Unit {0}
+
+-- the refusal of a cut of n terms; other stages are met nowhere here
+abbrev pub stage_stop : Stage → ℕ → ℕ → Stop
+stage_stop (Cut t) n bound = stops.Refused (faults.TooManyTerms (names.Cut t) n bound)
+stage_stop (WordProduct word term bit) n bound = stops.OutOfMemory
+stage_stop (WordSum word term) n bound = stops.OutOfMemory
+stage_stop (SpecProduct term factor) n bound = stops.OutOfMemory
+stage_stop (SpecSum term) n bound = stops.OutOfMemory
+stage_stop (InstanceProduct instance term factor) n bound = stops.OutOfMemory
+stage_stop (InstanceSum instance term) n bound = stops.OutOfMemory
+
+-- the refusal of a cut, or want of memory
+abbrev pub cut_stop : ReduceFault → ℕ → Stop
+cut_stop (reduce.TooManyTerms stage n) bound = stage_stop stage n bound
+cut_stop reduce.OutOfMemory bound = stops.OutOfMemory
