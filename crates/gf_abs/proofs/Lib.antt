@@ -1,1 +1,10 @@
-mod SettingLemmas
+pub mod SettingLemmas
+pub mod SettingFieldLemmas
+pub mod SettingSteps
+pub mod SettingWords
+pub mod SettingSoundLemmas
+pub mod SettingDetermined
+pub mod LabelLemmas
+pub mod BasisLemmas
+pub mod CommandLemmas
+pub mod NamedLemmas

@@ -5,6 +5,7 @@ pub mod FieldOf
 pub mod SettingValue
 pub mod SettingOf
 pub mod Setting
+pub mod SettingSound
 pub mod NetlistOf
 pub mod Labelling
 pub mod BitsOf

@@ -1,6 +1,6 @@
 -- The net of a netlist's text with the words of a signature bound to it, or the fault with which it is refused. Source: this
 -- project's own, docs/DEFINITIONS.md; nets are those of the BLIF format of UC Berkeley.
-use Rattle.std.specs.Prelude.{ℕ, List, length, slice_get}
+use Rattle.std.specs.Prelude.{ℕ, List, [], length, slice_get}
 use Rattle.std.specs.Option.{option_map_or}
 use Rattle.text_core.specs.Outcome.{Outcome, ◌>>=◌, Exactly, Within}
 use Rattle.net_core.specs.NetList.{NetList, text_of}

@@ -70,7 +70,7 @@ BasesOf k product (word ∷ words) = do
   Exactly (basis ∷ bases)
 
 -- the setting of a signature's text: first its lines, then its field, and then its words with their bases
-abbrev pub SettingOf : List ℕ → Outcome Fault SettingValue
+unfoldable pub SettingOf : List ℕ → Outcome Fault SettingValue
 SettingOf bytes = do
   said ← Within text_fault (Sig bytes)
   field ← FieldOf said.modulus said.tower

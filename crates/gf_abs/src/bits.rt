@@ -2,7 +2,9 @@
 ghost use Rattle.std.specs.Prelude.{◌≡◌, ◌++◌, length, map, codes, IfOk};
 ghost use Rattle.gf_basis.specs.BasisParts.{elements_of};
 ghost use Rattle.net_core.specs.Lists.{Has};
+ghost use Rattle.net_words.specs.Bind.{same_role};
 ghost use Rattle.net_words.specs.Binding.{AreWords};
+ghost use Rattle.net_words.specs.declared.word.Role.TheVariants.{Output};
 ghost use Rattle.net_words.specs.BoundTo.{IsBoundTo};
 ghost use Rattle.net_words.specs.WordNames.{HaveNames};
 ghost use Rattle.poly_mixed.specs.Text.{text, HasNames};
@@ -84,11 +86,21 @@ fn output_basis<'a>(bound: &Bound, bases: &'a [Basis]) -> &'a Basis
     ensures among { Has bases.now result.now }
 {
     for w in 0..bound.words() {
-        if bound.role(w) == Role::Output {
+        if is_output(bound.role(w)) {
             return &bases[w as usize];
         }
     }
     unreachable!()
+}
+
+// Whether a word is the output.
+fn is_output(role: Role) -> bool
+    ensures { result ≡ same_role role Output }
+{
+    match role {
+        Role::Output => true,
+        Role::Input | Role::State => false,
+    }
 }
 
 // Why no output comes where a cut is too large.

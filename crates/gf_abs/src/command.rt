@@ -36,10 +36,25 @@ pub fn read_words<'a>(words: &'a [String]) -> Option<Command<'a>>
 {
     match words {
         [command, signature, net, options @ ..] => {
-            let terms = read_options(options)?;
-            of_three(command.as_str(), signature.as_str(), net.as_str(), terms)
+            with_options(command.as_str(), signature.as_str(), net.as_str(), options)
         }
         _ => None,
+    }
+}
+
+// The command of three words and options.
+fn with_options<'a>(
+    command: &str,
+    signature: &'a str,
+    net: &'a str,
+    options: &[String],
+) -> Option<Command<'a>>
+    ensures found { IfSome result (λ found. IsSpelled (command.now ∷ signature.now ∷ net.now ∷ map string_bytes options.now) (job_of found)) }
+    ensures none { IfNone result ((job : _) → IsSpelled (command.now ∷ signature.now ∷ net.now ∷ map string_bytes options.now) job → ⊥) }
+{
+    match read_options(options) {
+        Some(terms) => of_three(command, signature, net, terms),
+        None => None,
     }
 }
 

@@ -37,11 +37,17 @@ pub fn write_fault(alloc: Global, fault: &Fault) -> Result<Vec<u8>, AllocError>
             bound,
         } => {
             let text = stage_text(alloc, stage)?;
-            let text = text.as_str();
-            format!(in alloc; "fault 03: {text} has {terms} terms, bound {bound}\n")?
+            bound_line(alloc, text.as_str(), *terms, *bound)?
         }
     };
     Ok(line.into_bytes())
+}
+
+// The line of a stage that has more terms than the bound.
+fn bound_line(alloc: Global, text: &str, terms: u64, bound: u32) -> Result<String, AllocError>
+    ensures { IfOk result (λ line. string_bytes line ≡ codes "fault 03: " ++ (text.now ++ (codes " has " ++ (decimal terms ++ (codes " terms, bound " ++ (decimal bound ++ codes "\n")))))) }
+{
+    format!(in alloc; "fault 03: {text} has {terms} terms, bound {bound}\n")
 }
 
 // What a stage is called.

@@ -8,6 +8,7 @@ mod fault;
 mod fault_line;
 mod labels;
 mod setting;
+mod setting_laws;
 mod stop;
 
 pub use command::Command;

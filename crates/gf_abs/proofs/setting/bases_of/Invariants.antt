@@ -1,4 +1,4 @@
-use Rattle.std.proofs.Common.{◌≡◌, ℕ, List, [], drop, Result}
+use Rattle.std.proofs.Common.{ℕ, List, drop, Result}
 use Rattle.gf_abs.specs.declared.fault.Fault.{Fault}
 use Rattle.gf_abs.specs.SettingOf.{BasesOf}
 use Rattle.gf_abs.specs.Setting.{elements_of_each, AreBasesOver}
