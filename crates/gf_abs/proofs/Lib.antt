@@ -4,7 +4,11 @@ pub mod SettingSteps
 pub mod SettingWords
 pub mod SettingSoundLemmas
 pub mod SettingDetermined
+pub mod NetlistLemmas
+pub mod NetlistDetermined
 pub mod LabelLemmas
 pub mod BasisLemmas
 pub mod CommandLemmas
 pub mod NamedLemmas
+pub mod RoleLemmas
+pub mod StepLemmas

@@ -7,8 +7,9 @@ pub mod SettingOf
 pub mod Setting
 pub mod SettingSound
 pub mod NetlistOf
+pub mod NetlistReading
 pub mod Labelling
 pub mod BitsOf
+pub mod CutStop
 pub mod Answer
 pub mod Stop
-pub mod CutStop

@@ -1,6 +1,8 @@
 -- What a `Setting` is made of, and the stops of its making.
-use Rattle.std.specs.Prelude.{ℕ, ◌*◌, List, map}
+use Rattle.std.specs.Prelude.{◌≡◌, ℕ, ◌*◌, List, length, map}
 use Rattle.net_core.specs.Lists.{Has}
+use Rattle.net_words.specs.Binding.{AreWords}
+use Rattle.net_words.specs.WordNames.{HaveNames}
 use Rattle.net_words.specs.declared.fault.SigFault.{SigFault}
 use Rattle.net_words.specs.declared.fault.SigFault.TheVariants.{Syntax, NameTwice, TwoOutputs, TooManyWords, NoOutput, OutOfMemory}
 use Rattle.gf_field.specs.Bit.{bit_mul}
@@ -51,3 +53,11 @@ text_stop (TwoOutputs line) = stops.Refused (text_fault (TwoOutputs line))
 text_stop (TooManyWords line) = stops.Refused (text_fault (TooManyWords line))
 text_stop (NoOutput block) = stops.Refused (text_fault (NoOutput block))
 text_stop OutOfMemory = stops.OutOfMemory
+
+-- what is known of each setting that a text gives: its bases are over its field, one for each word; its words have k nets each,
+-- one is the output, and at most eight are others; and they have names, no two the same
+pub record IsReady (setting : Setting) : Type 0 where
+  pub over : AreBasesOver (any_degree setting.field) (any_product setting.field) setting.bases.items
+  pub long : length setting.bases.items ≡ length setting.signature.words
+  pub words : AreWords (any_degree setting.field) setting.signature.words
+  pub names : HaveNames setting.signature.words

@@ -30,6 +30,10 @@ GivesBy view (Err OutOfMemory) outcome missed failed = Unit {0}
 abbrev pub GivesBytes : Result (Vec ℕ Global) Stop → Outcome Fault (List ℕ) → (missed failed : Type 0) → Type 0
 GivesBytes result outcome missed failed = GivesBy (λ bytes. bytes.items) result outcome missed failed
 
+-- an output with status 0
+abbrev pub printed : Vec ℕ Global → Reply
+printed bytes = record { status = 0; text = bytes.items }
+
 -- an output that may come, or the line of a fault that may come, with its status
 abbrev pub IsText : Outcome Fault Reply → (missed : Type 0) → ℕ → List ℕ → Type 0
 IsText answer missed status text =

@@ -11,8 +11,8 @@ ghost use Rattle.poly_mixed.specs.Text.{text, HasNames};
 ghost use Rattle.circuit_model.specs.OfBinding.{output_basis as basis_of_output};
 ghost use Rattle.gf_abs.specs.BitsOf.{BitsOf, HaveRoles};
 ghost use Rattle.gf_abs.specs.CutStop.{IsOfCuts, cut_stop};
-ghost use Rattle.gf_abs.specs.Setting.{any_degree, any_product, setting_value, elements_of_each, AreBasesOver};
-ghost use Rattle.gf_abs.specs.Stop.{GivesBy};
+ghost use Rattle.gf_abs.specs.Setting.{any_degree, setting_value, elements_of_each, AreBasesOver, IsReady};
+ghost use Rattle.gf_abs.specs.Stop.{printed, GivesBy};
 
 use crate::fault::{Fault, StageName};
 use crate::labels::labels_for;
@@ -34,13 +34,11 @@ pub fn bits_line(
     circuit: &Combinational,
     bound: u32,
 ) -> Result<Vec<u8>, Stop>
+    requires setting { IsReady setting.now }
     requires bits { circuit.now.bound.k ≡ any_degree setting.now.field }
-    requires words { AreWords (any_degree setting.now.field) setting.now.signature.words }
-    requires names { HaveNames setting.now.signature.words }
     requires roles { HaveRoles setting.now.signature.words circuit.now.bound.words }
-    requires over { AreBasesOver (any_degree setting.now.field) (any_product setting.now.field) setting.now.bases.items }
     requires long { length setting.now.bases.items ≡ length circuit.now.bound.words }
-    ensures { GivesBy (λ bytes. record { status = 0; text = bytes.items }) result (BitsOf (setting_value setting.now) circuit.now bound) ⊥ ⊥ }
+    ensures { GivesBy printed result (BitsOf (setting_value setting.now) circuit.now bound) ⊥ ⊥ }
 {
     let signature = &setting.signature;
     let bases = setting.bases.as_slice();
@@ -65,7 +63,7 @@ fn line_over<F: Field>(
     requires roles { HaveRoles signature.now.words circuit.now.bound.words }
     requires over { AreBasesOver (F.degree field.now) (F.product field.now) bases.now }
     requires long { length bases.now ≡ length circuit.now.bound.words }
-    ensures { GivesBy (λ bytes. record { status = 0; text = bytes.items }) result (BitsOf (record { signature = signature.now; k = F.degree field.now; product = F.product field.now; bases = elements_of_each bases.now }) circuit.now bound) ⊥ ⊥ }
+    ensures { GivesBy printed result (BitsOf (record { signature = signature.now; k = F.degree field.now; product = F.product field.now; bases = elements_of_each bases.now }) circuit.now bound) ⊥ ⊥ }
 {
     let labels = labels_for(alloc, signature.words(), field.k())?;
     let basis = output_basis(circuit.bound(), bases);

@@ -35,15 +35,25 @@ pub fn write_fault(alloc: Global, fault: &Fault) -> Result<Vec<u8>, AllocError>
             stage,
             terms,
             bound,
-        } => {
-            let text = stage_text(alloc, stage)?;
-            bound_line(alloc, text.as_str(), *terms, *bound)?
-        }
+        } => bound_fault(alloc, stage, *terms, *bound)?,
     };
     Ok(line.into_bytes())
 }
 
 // The line of a stage that has more terms than the bound.
+fn bound_fault(
+    alloc: Global,
+    stage: &StageName,
+    terms: u64,
+    bound: u32,
+) -> Result<String, AllocError>
+    ensures { IfOk result (λ line. string_bytes line ≡ fault_line (Fault.TooManyTerms stage.now terms bound)) }
+{
+    let text = stage_text(alloc, stage)?;
+    bound_line(alloc, text.as_str(), terms, bound)
+}
+
+// The same line, of the stage's text.
 fn bound_line(alloc: Global, text: &str, terms: u64, bound: u32) -> Result<String, AllocError>
     ensures { IfOk result (λ line. string_bytes line ≡ codes "fault 03: " ++ (text.now ++ (codes " has " ++ (decimal terms ++ (codes " terms, bound " ++ (decimal bound ++ codes "\n")))))) }
 {

@@ -2,15 +2,43 @@
 //! `run` carries the contract of the whole; each command is a step behind it.
 #![tactic(auto)]
 
+#[cfg(test)]
+mod basis_tests;
 mod bits;
 mod command;
 mod fault;
 mod fault_line;
 mod labels;
+mod netlist;
+mod netlist_laws;
+#[cfg(test)]
+mod rows;
+#[cfg(test)]
+mod rows_1;
+#[cfg(test)]
+mod rows_2;
+#[cfg(test)]
+mod rows_3;
+#[cfg(test)]
+mod rows_4;
+#[cfg(test)]
+mod rows_5;
+#[cfg(test)]
+mod rows_6;
+#[cfg(test)]
+mod rows_7;
+#[cfg(test)]
+mod rows_8;
 mod setting;
 mod setting_laws;
 mod stop;
+#[cfg(test)]
+mod tests;
+mod top;
 
 pub use command::Command;
-pub use fault::{BindingFault, Fault, NetlistFault, SignatureFault};
+pub use fault::{BindingFault, Fault, NetlistFault, SignatureFault, StageName};
+pub use netlist_laws::one_netlist_or_fault;
+pub use setting_laws::{each_setting_is_sound, one_setting_or_fault};
 pub use stop::Stop;
+pub use top::{run, run_surely};

@@ -8,3 +8,5 @@ pub mod WalkLemmas
 pub mod FlatLemmas
 pub mod TableLemmas
 pub mod OutcomeLemmas
+pub mod DriveLemmas
+pub mod FlatDetermined

@@ -20,5 +20,5 @@ pub use design::Design;
 pub use fault::BlifFault;
 pub use flat::flatten;
 pub use flat_fault::FlatFault;
-pub use law::{one_outcome, table_by_bits};
+pub use law::{flattens_determined, one_outcome, table_by_bits};
 pub use read::read_blif;
