@@ -3,3 +3,4 @@ pub mod Cut
 pub mod Mix
 pub mod Stage
 pub mod CutSteps
+pub mod Function
