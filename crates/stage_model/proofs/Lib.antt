@@ -4,3 +4,7 @@ pub mod SettleLemmas
 pub mod PointLemmas
 pub mod CutLemmas
 pub mod LastCutLemmas
+pub mod SizeLemmas
+pub mod MixLemmas
+pub mod BlindLemmas
+pub mod BoundLemmas

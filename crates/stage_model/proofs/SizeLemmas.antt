@@ -1,0 +1,75 @@
+-- The polynomials and sizes of stages that are functions.
+use Rattle.std.proofs.Common.{◌≡◌, ◌≢◌, ◌∙◌, ap, sym, refl, subst, inl, inr, ℕ, ◌<◌, ◌≤◌, true, false, not, cond, List, [], ◌∷◌, length, arith}
+use Rattle.std.specs.List.{AllByRecursion}
+use Rattle.std.proofs.lemmas.Bool.{cases_order}
+use Rattle.gf_field.specs.Ring.{IsRing}
+use Rattle.gf_field.specs.Field.{HasNoZeroDivisors}
+use Rattle.gf_field.specs.RootsLaws.{HasFewRoots-from_field}
+use Rattle.poly_mixed.specs.Monomial.{has_bit}
+use Rattle.poly_mixed.specs.Polynomial.{IsPoint, Terms, Point, value}
+use Rattle.poly_mixed.specs.Cofactor.{LacksBit, at_bit, lacking}
+use Rattle.poly_mixed.specs.Uniqueness.{InBits, Unique}
+use Rattle.poly_mixed.proofs.FieldLaws.{field_of}
+use Rattle.poly_mixed.proofs.Roots.{independent}
+use Rattle.poly_mixed.proofs.Uniqueness.{unique}
+use Rattle.poly_mixed.proofs.Values.{zero_element}
+use Rattle.poly_mixed.proofs.InBits.{wordless, no_words}
+use Rattle.poly_mixed.proofs.Cofactors.{value-lacking, reduced_lacking}
+use Rattle.stage_model.specs.Function.{IsFunction}
+use Rattle.stage_model.specs.Stage.{IsOfStage, HasSize, IsWithin, IsNoneOver, IsFirstOver}
+
+module _ (k : ℕ) (mul : ℕ → ℕ → ℕ) (ring : IsRing k mul) (field : HasNoZeroDivisors k mul) where
+  pub is_unique : Unique k mul
+  is_unique = let f = field_of k mul ring field in unique f (independent f (HasFewRoots-from_field k mul ring field))
+
+  module _ (stage : Point → ℕ → Type 0) (one : IsFunction k stage) where
+    pub same_terms : (ts us : Terms) → IsOfStage k mul stage ts → IsOfStage k mul stage us → ts ≡ us
+    same_terms ts us a b = is_unique ts us a.reduced b.reduced (λ p at. one p (value mul p ts) (value mul p us) at (a.values p at) (b.values p at))
+
+    pub same_size : (m n : ℕ) → HasSize k mul stage m → HasSize k mul stage n → m ≡ n
+    same_size m n a b = sym a.size ∙ (ap length (same_terms a.terms b.terms a.is b.is) ∙ b.size)
+
+    pub not_within : (bound n : ℕ) → HasSize k mul stage n → bound < n → IsWithin k mul stage bound → ⊥
+    not_within bound n has over within = let same = same_size n within.size has within.has in let small = within.within in omega arith
+
+    -- where the stage does not depend on a bit, its polynomial lacks it
+    pub lacks : (bit : ℕ) (ts : Terms) → IsOfStage k mul stage ts → ((p : Point) (x : ℕ) → IsPoint k p → stage p x → stage (at_bit p bit false) x) → LacksBit bit ts
+    lacks bit ts is blind =
+        let same : lacking bit ts ≡ ts =
+        is_unique (lacking bit ts) ts (reduced_lacking k bit ts is.reduced) is.reduced
+        (λ p at. value-lacking mul p bit ts ∙ one (at_bit p bit false) (value mul (at_bit p bit false) ts) (value mul p ts) (moved p at) (is.values (at_bit p bit false) (moved p at)) (blind p (value mul p ts) at (is.values p at))) in
+        let P : Terms → Type 0 = LacksBit bit in
+        subst P same (none ts)
+      where
+        moved : (p : Point) → IsPoint k p → IsPoint k (at_bit p bit false)
+        moved p at = record { words = at.words; elements = at.elements }
+
+        none : (ts : Terms) → LacksBit bit (lacking bit ts)
+        none [] = tt
+        none (t ∷ ts) = elim (has_bit bit t.0) as (λ b. has_bit bit t.0 ≡ b → LacksBit bit (cond (not b) (t ∷ lacking bit ts) (lacking bit ts))) [ true ↦ λ e. none ts | false ↦ λ e. (e, none ts) ] refl
+
+    -- where the stage does not depend on the words, no word stands in its polynomial
+    pub wordless_stage : (ts : Terms) → IsOfStage k mul stage ts → ((p : Point) (x : ℕ) → IsPoint k p → stage (wordless p) x → stage p x) → InBits ts
+    wordless_stage ts is blind =
+        let f = field_of k mul ring field in
+        let z = zero_element f in
+        no_words f is_unique ts is.reduced
+        (λ p at.
+        let at0 : IsPoint k (wordless p) = record { words = refl; elements = (z, (z, (z, (z, (z, (z, (z, (z, tt)))))))) } in
+        one p (value mul (wordless p) ts) (value mul p ts) at (blind p (value mul (wordless p) ts) at (is.values (wordless p) at0)) (is.values p at))
+
+  module _ (stages : ℕ → Point → ℕ → Type 0) (one : (i : ℕ) → IsFunction k (stages i)) where
+    pub first_only : (count bound i n j m : ℕ) → IsFirstOver k mul stages count bound i n → IsFirstOver k mul stages count bound j m → (i ≡ j) × (n ≡ m)
+    first_only count bound i n j m a b =
+        elim (cases_order i j) [
+          | inl same ↦
+              let P : ℕ → Type 0 = λ s. HasSize k mul (stages s) m in
+              (same, same_size (stages i) (one i) n m a.size (subst P (sym same) b.size))
+          | inr other ↦ elim other [
+            | inl low ↦ absurd (not_within (stages i) (one i) bound n a.size a.over (b.before i low))
+            | inr high ↦ absurd (not_within (stages j) (one j) bound m b.size b.over (a.before j high))
+          ]
+        ]
+
+    pub not_all : (count bound i n : ℕ) → IsFirstOver k mul stages count bound i n → IsNoneOver k mul stages count bound → ⊥
+    not_all count bound i n a none = not_within (stages i) (one i) bound n a.size a.over (none i a.inside)
