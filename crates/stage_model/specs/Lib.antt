@@ -4,3 +4,5 @@ pub mod Mix
 pub mod Stage
 pub mod CutSteps
 pub mod Function
+pub mod WordStage
+pub mod StageList

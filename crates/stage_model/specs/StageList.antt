@@ -1,0 +1,92 @@
+-- The stages of a circuit by name, their order, and the first over a bound. Source: this project's own.
+use Rattle.std.specs.Prelude.{◌≡◌, ℕ, ◌<◌, ◌≤◌, ◌⊎◌, length}
+use Rattle.poly_mixed.specs.Monomial.{Monomial}
+use Rattle.poly_mixed.specs.Polynomial.{Terms, Point}
+use Rattle.poly_mixed.specs.declared.stage.Stage.{Stage}
+use Rattle.poly_mixed.specs.declared.stage.Stage.TheVariants.{Cut, WordProduct, WordSum, SpecProduct, SpecSum, InstanceProduct, InstanceSum}
+use Rattle.circuit_model.specs.Circuit.{Circuit}
+use Rattle.stage_model.specs.Cut.{CutOf}
+use Rattle.stage_model.specs.Mix.{IsMix}
+use Rattle.stage_model.specs.Stage.{IsOfStage, HasSize, IsWithin}
+use Rattle.stage_model.specs.WordStage.{word_bits, IsTermOf, IsProduct, IsSum}
+
+-- nothing is related: what no stage of a circuit is
+abbrev pub Nothing : Point → ℕ → Type 0
+Nothing p e = ⊥
+
+-- the stage of a name
+abbrev pub StageOf : Circuit → Stage → Point → ℕ → Type 0
+StageOf circuit (Cut t) = CutOf circuit t
+StageOf circuit (WordProduct w s j) = IsProduct circuit w s j
+StageOf circuit (WordSum w s) = IsSum circuit w s
+StageOf circuit (SpecProduct s j) = Nothing
+StageOf circuit (SpecSum s) = Nothing
+StageOf circuit (InstanceProduct i s j) = Nothing
+StageOf circuit (InstanceSum i s) = Nothing
+
+-- word w exists, term s of the polynomial in which it is replaced exists, and the term has a j-th bit of the word
+pub record HasProduct (circuit : Circuit) (w s j : ℕ) : Type 0 where
+  pub word : w < length circuit.words
+  pub term : Monomial × ℕ
+  pub is_term : IsTermOf circuit w s term
+  pub some : 1 ≤ j
+  pub bits : j ≤ length (word_bits circuit.k w term)
+
+-- word w exists, and so does term s of the polynomial in which it is replaced
+pub record HasSum (circuit : Circuit) (w s : ℕ) : Type 0 where
+  pub word : w < length circuit.words
+  pub term : Monomial × ℕ
+  pub is_term : IsTermOf circuit w s term
+
+-- the name belongs to the list of the circuit's stages
+abbrev pub IsListed : Circuit → Stage → Type 0
+IsListed circuit (Cut t) = t ≤ length circuit.net.gates
+IsListed circuit (WordProduct w s j) = HasProduct circuit w s j
+IsListed circuit (WordSum w s) = HasSum circuit w s
+IsListed circuit (SpecProduct s j) = ⊥
+IsListed circuit (SpecSum s) = ⊥
+IsListed circuit (InstanceProduct i s j) = ⊥
+IsListed circuit (InstanceSum i s) = ⊥
+
+-- term r of word v is before term s of word w, or is that term and `same` holds
+abbrev pub IsEarlier : (v r w s : ℕ) → Type 0 → Type 0
+IsEarlier v r w s same = (v < w) ⊎ ((v ≡ w) × ((r < s) ⊎ ((r ≡ s) × same)))
+
+-- the order of stages: cuts by number, then word by word and term by term, the products of a term before its sum
+abbrev pub ComesBefore : Stage → Stage → Type 0
+ComesBefore (Cut m) (Cut n) = m < n
+ComesBefore (Cut m) (WordProduct w s j) = Unit {0}
+ComesBefore (Cut m) (WordSum w s) = Unit {0}
+ComesBefore (WordProduct v r i) (WordProduct w s j) = IsEarlier v r w s (i < j)
+ComesBefore (WordProduct v r i) (WordSum w s) = IsEarlier v r w s (Unit {0})
+ComesBefore (WordSum v r) (WordProduct w s j) = IsEarlier v r w s ⊥
+ComesBefore (WordSum v r) (WordSum w s) = IsEarlier v r w s ⊥
+ComesBefore a b = ⊥
+
+-- the name is that of a cut
+abbrev pub IsCutName : Stage → Type 0
+IsCutName (Cut t) = Unit {0}
+IsCutName other = ⊥
+
+-- the name is that of a stage of words
+abbrev pub IsWordName : Stage → Type 0
+IsWordName (WordProduct w s j) = Unit {0}
+IsWordName (WordSum w s) = Unit {0}
+IsWordName other = ⊥
+
+-- any name
+abbrev pub IsAnyName : Stage → Type 0
+IsAnyName name = Unit {0}
+
+module _ (circuit : Circuit) (among : Stage → Type 0) (bound : ℕ) where
+  -- of the listed stages among these, the first over the bound, with its size
+  pub record IsOver (name : Stage) (n : ℕ) : Type 0 where
+    pub listed : IsListed circuit name
+    pub is_among : among name
+    pub size : HasSize circuit.k circuit.product (StageOf circuit name) n
+    pub over : bound < n
+    pub before : (other : Stage) → IsListed circuit other → among other → ComesBefore other name → IsWithin circuit.k circuit.product (StageOf circuit other) bound
+
+  -- none of the listed stages among these is over the bound
+  abbrev pub AreAllWithin : Type 0
+  AreAllWithin = (other : Stage) → IsListed circuit other → among other → IsWithin circuit.k circuit.product (StageOf circuit other) bound
