@@ -8,3 +8,7 @@ pub mod SizeLemmas
 pub mod MixLemmas
 pub mod BlindLemmas
 pub mod BoundLemmas
+pub mod WordStageLemmas
+pub mod StageListLemmas
+pub mod PlaceLemmas
+pub mod NextMixLemmas

@@ -1,5 +1,5 @@
 -- The stages of a circuit by name, their order, and the first over a bound. Source: this project's own.
-use Rattle.std.specs.Prelude.{◌≡◌, ℕ, ◌<◌, ◌≤◌, ◌⊎◌, length}
+use Rattle.std.specs.Prelude.{◌≡◌, ℕ, ◌<◌, ◌≤◌, ◌⊎◌, Bool, true, false, length}
 use Rattle.poly_mixed.specs.Monomial.{Monomial}
 use Rattle.poly_mixed.specs.Polynomial.{Terms, Point}
 use Rattle.poly_mixed.specs.declared.stage.Stage.{Stage}
@@ -63,30 +63,30 @@ ComesBefore (WordSum v r) (WordProduct w s j) = IsEarlier v r w s ⊥
 ComesBefore (WordSum v r) (WordSum w s) = IsEarlier v r w s ⊥
 ComesBefore a b = ⊥
 
--- the name is that of a cut
-abbrev pub IsCutName : Stage → Type 0
-IsCutName (Cut t) = Unit {0}
-IsCutName other = ⊥
+-- whether the name is that of a cut
+abbrev pub is_cut : Stage → Bool
+is_cut (Cut t) = true
+is_cut other = false
 
--- the name is that of a stage of words
-abbrev pub IsWordName : Stage → Type 0
-IsWordName (WordProduct w s j) = Unit {0}
-IsWordName (WordSum w s) = Unit {0}
-IsWordName other = ⊥
+-- whether the name is that of a stage of words
+abbrev pub is_of_words : Stage → Bool
+is_of_words (WordProduct w s j) = true
+is_of_words (WordSum w s) = true
+is_of_words other = false
 
 -- any name
-abbrev pub IsAnyName : Stage → Type 0
-IsAnyName name = Unit {0}
+abbrev pub is_any : Stage → Bool
+is_any name = true
 
-module _ (circuit : Circuit) (among : Stage → Type 0) (bound : ℕ) where
+module _ (circuit : Circuit) (among : Stage → Bool) (bound : ℕ) where
   -- of the listed stages among these, the first over the bound, with its size
   pub record IsOver (name : Stage) (n : ℕ) : Type 0 where
     pub listed : IsListed circuit name
-    pub is_among : among name
+    pub is_among : among name ≡ true
     pub size : HasSize circuit.k circuit.product (StageOf circuit name) n
     pub over : bound < n
-    pub before : (other : Stage) → IsListed circuit other → among other → ComesBefore other name → IsWithin circuit.k circuit.product (StageOf circuit other) bound
+    pub before : (other : Stage) → IsListed circuit other → among other ≡ true → ComesBefore other name → IsWithin circuit.k circuit.product (StageOf circuit other) bound
 
   -- none of the listed stages among these is over the bound
   abbrev pub AreAllWithin : Type 0
-  AreAllWithin = (other : Stage) → IsListed circuit other → among other → IsWithin circuit.k circuit.product (StageOf circuit other) bound
+  AreAllWithin = (other : Stage) → IsListed circuit other → among other ≡ true → IsWithin circuit.k circuit.product (StageOf circuit other) bound

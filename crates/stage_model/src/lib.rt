@@ -1,12 +1,16 @@
 //! Stages of a circuit: cuts, mixes of words and bits, polynomials of stages, sizes, and the first stage over a bound.
-//! The functions of `laws` and `mix_laws` do nothing: their contracts are laws of the definitions.
+//! Functions that do nothing have contracts that are laws of the definitions.
 #![tactic(auto)]
 
 mod laws;
 mod mix_laws;
+mod stage_laws;
 
 pub use laws::{
     cuts_in_bits, cuts_of_bound, first_cut, last_cut, last_cut_in_words, one_element_a_cut,
     one_first_cut_over, one_polynomial_a_cut, one_size_a_cut,
 };
 pub use mix_laws::{mix_of_all_words, mix_of_no_words, one_element_a_mix};
+pub use stage_laws::{
+    one_element_a_stage, one_first_over, one_polynomial_a_stage, one_size_a_stage, stages_are_ordered,
+};
