@@ -1,21 +1,21 @@
 -- The last cut does not depend on nets that are in no word.
-use Rattle.std.proofs.Common.{◌≡◌, ◌≢◌, ◌∙◌, ap, sym, refl, subst, inl, inr, ℕ, zero, suc, ◌<◌, ◌≤◌, ◌+◌, Bool, true, false, cond, not, List, [], ◌∷◌, ◌++◌, length, Some, arith}
-use Rattle.std.specs.Prelude.{slice_get, ◌==◌, nat_eq}
-use Rattle.std.specs.List.{position_or_len, prefix_len}
+use Rattle.std.proofs.Common.{◌≡◌, ◌≢◌, ◌∙◌, ap, sym, subst, inl, inr, ℕ, zero, suc, ◌<◌, ◌≤◌, ◌+◌, Bool, false, cond, not, List, [], ◌∷◌, ◌++◌, length, arith}
+use Rattle.std.specs.Prelude.{◌==◌}
+use Rattle.std.specs.List.{prefix_len}
 use Rattle.std.proofs.lemmas.Bool.{eq-eqb, ne_eqb}
 use Rattle.net_core.specs.NetList.{nets}
 use Rattle.net_core.specs.Lists.{Has}
 use Rattle.net_core.specs.Value.{bit_of}
 use Rattle.net_core.proofs.LevelLemmas.{nat_eq_or}
 use Rattle.net_words.specs.Variables.{others}
-use Rattle.circuit_model.specs.Word.{Word, HasElement, word_nets}
+use Rattle.circuit_model.specs.Word.{word_nets}
 use Rattle.circuit_model.specs.WellFormed.{IsWellFormed}
 use Rattle.circuit_model.specs.Circuit.{Circuit}
 use Rattle.circuit_model.proofs.WordLemmas.{has_word}
 use Rattle.circuit_model.proofs.SourceLemmas.{source_inside, stands_source}
 use Rattle.poly_mixed.specs.Polynomial.{Terms, Point, IsPoint}
 use Rattle.poly_mixed.specs.Cofactor.{LacksBit, at_bit}
-use Rattle.stage_model.specs.Variables.{rank_in, point_bit, point_bits, variables_of}
+use Rattle.stage_model.specs.Variables.{rank_in, point_bits, variables_of}
 use Rattle.stage_model.specs.Function.{IsAtInput}
 use Rattle.stage_model.specs.Cut.{CutOf}
 use Rattle.stage_model.specs.Stage.{IsOfStage}

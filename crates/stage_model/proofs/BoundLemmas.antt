@@ -1,5 +1,5 @@
 -- The variables and cuts of bound words are those of their circuit.
-use Rattle.std.proofs.Common.{◌≡◌, ◌∙◌, ap, sym, refl, subst, ℕ, zero, suc, ◌↔◌, List, [], ◌∷◌, ◌++◌, length, arith}
+use Rattle.std.proofs.Common.{◌≡◌, ◌∙◌, ap, sym, refl, subst, ℕ, ◌↔◌, List, [], ◌∷◌, ◌++◌, length, arith}
 use Rattle.net_core.specs.NetList.{nets}
 use Rattle.net_words.specs.Binding.{BoundNet}
 use Rattle.net_words.specs.Variables.{bits, bits_with, others, variables}

@@ -1,18 +1,15 @@
 -- A cut relates each point to exactly one element.
-use Rattle.std.proofs.Common.{◌≡◌, ◌∙◌, ap, sym, refl, subst, ℕ, ◌<◌, ◌^◌, ◌↔◌, Bool, List, length, arith}
-use Rattle.net_core.specs.GateValue.{GateValue}
+use Rattle.std.proofs.Common.{◌≡◌, ◌∙◌, sym, subst, ℕ, ◌<◌, ◌^◌, ◌↔◌, Bool, List, arith}
 use Rattle.net_core.specs.NetList.{NetList, nets}
 use Rattle.net_core.specs.Sound.{IsSound}
-use Rattle.net_core.specs.Lists.{Has}
-use Rattle.net_core.specs.Value.{bit_of}
 use Rattle.circuit_model.specs.Word.{Word, HasElement}
 use Rattle.circuit_model.specs.Circuit.{Circuit}
 use Rattle.circuit_model.specs.WellFormed.{IsWellFormed}
 use Rattle.circuit_model.proofs.WordLemmas.{same_element}
 use Rattle.poly_mixed.specs.Polynomial.{Point}
 use Rattle.poly_mixed.proofs.InBits.{wordless}
-use Rattle.stage_model.specs.Variables.{point_bit, point_bits, variables_of}
-use Rattle.stage_model.specs.Cut.{IsAmongFirst, IsSettled, IsCut, CutOf}
+use Rattle.stage_model.specs.Variables.{point_bits, variables_of}
+use Rattle.stage_model.specs.Cut.{IsSettled, IsCut, CutOf}
 use Rattle.stage_model.proofs.EliminationLemmas.{some_elimination, one_elimination}
 use Rattle.stage_model.proofs.SettleLemmas.{IsFree, some_settled, one_settled}
 use Rattle.stage_model.proofs.PointLemmas.{point_bits_at, same_word, some_element}

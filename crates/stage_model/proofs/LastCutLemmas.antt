@@ -1,5 +1,5 @@
 -- The last cut is the output at the input whose bits the point has.
-use Rattle.std.proofs.Common.{◌≡◌, ◌≢◌, ◌∙◌, ap, sym, refl, subst, ℕ, zero, suc, ◌<◌, ◌≤◌, ◌+◌, ◌^◌, ◌↔◌, Bool, List, [], ◌∷◌, length, Some, map, reverse, arith}
+use Rattle.std.proofs.Common.{◌≡◌, ◌∙◌, sym, refl, subst, ℕ, zero, suc, ◌<◌, ◌+◌, ◌↔◌, Bool, List, [], length, Some, reverse, arith}
 use Rattle.std.specs.Prelude.{slice_get}
 use Rattle.std.proofs.Math.ListN.{replicate}
 use Rattle.std.proofs.lemmas.List.{reverse-reverse, length-replicate}
@@ -10,24 +10,24 @@ use Rattle.graph_core.proofs.ListLemmas.{got_at}
 use Rattle.net_core.specs.GateValue.{GateValue}
 use Rattle.net_core.specs.LatchValue.{LatchValue}
 use Rattle.net_core.specs.NetList.{NetList, nets}
-use Rattle.net_core.specs.Sound.{IsSound, sources}
+use Rattle.net_core.specs.Sound.{sources}
 use Rattle.net_core.specs.Lists.{Has}
 use Rattle.net_core.specs.Order.{IsElimination}
-use Rattle.net_core.specs.Value.{bit_of, IsConsistent, IsRight}
+use Rattle.net_core.specs.Value.{bit_of, IsConsistent}
 use Rattle.net_core.proofs.DriverLemmas.{source_no_gate}
 use Rattle.circuit_model.specs.Word.{Word, HasElement}
-use Rattle.circuit_model.specs.Circuit.{Circuit, IsInput, IsInNoWord}
+use Rattle.circuit_model.specs.Circuit.{Circuit, IsInput}
 use Rattle.circuit_model.specs.WellFormed.{IsWellFormed}
-use Rattle.circuit_model.specs.Run.{IsCycle, IsFirst, IsNext, IsOpenRun, IsStart}
+use Rattle.circuit_model.specs.Run.{IsCycle, IsFirst, IsOpenRun}
 use Rattle.circuit_model.specs.Out.{Ends, IsOut}
 use Rattle.circuit_model.proofs.OutLemmas.{open_out}
 use Rattle.circuit_model.proofs.SourceLemmas.{source_inside, stands_source}
 use Rattle.poly_mixed.specs.Polynomial.{Point}
-use Rattle.stage_model.specs.Variables.{point_bit, point_bits, variables_of}
+use Rattle.stage_model.specs.Variables.{point_bits, variables_of}
 use Rattle.stage_model.specs.Function.{IsAtInput}
 use Rattle.stage_model.specs.Cut.{IsAmongFirst, IsSettled, CutOf}
 use Rattle.stage_model.proofs.EliminationLemmas.{some_elimination, elimination_long}
-use Rattle.stage_model.proofs.SettleLemmas.{IsFree, some_settled}
+use Rattle.stage_model.proofs.SettleLemmas.{some_settled}
 use Rattle.stage_model.proofs.PointLemmas.{point_bits_at, same_word}
 
 has_reverse : (xs : List ℕ) (x : ℕ) → Has (reverse xs) x → Has xs x

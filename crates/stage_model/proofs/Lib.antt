@@ -12,3 +12,4 @@ pub mod WordStageLemmas
 pub mod StageListLemmas
 pub mod PlaceLemmas
 pub mod NextMixLemmas
+pub mod StepLemmas

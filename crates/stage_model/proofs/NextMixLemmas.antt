@@ -1,5 +1,5 @@
 -- Where a word's bits are read from its element, the mix of the words before it is the mix with this word.
-use Rattle.std.proofs.Common.{◌≡◌, ◌≢◌, ◌⊎◌, ◌∙◌, ap, sym, refl, subst, inl, inr, ℕ, zero, suc, ◌<◌, ◌≤◌, ◌+◌, ◌*◌, ◌-◌, ◌/◌, ◌%◌, ◌^◌, ◌↔◌, Bool, true, false, cond, List, [], ◌∷◌, length, take, Some, arith}
+use Rattle.std.proofs.Common.{◌≡◌, ◌≢◌, ◌∙◌, ap, sym, subst, inl, inr, ℕ, zero, suc, ◌<◌, ◌≤◌, ◌+◌, ◌*◌, ◌-◌, ◌/◌, ◌%◌, ◌^◌, ◌↔◌, Bool, false, cond, List, [], ◌∷◌, length, take, Some, arith}
 use Rattle.std.specs.Prelude.{slice_get, ◌==◌}
 use Rattle.std.specs.Int.{bit_at}
 use Rattle.std.proofs.lemmas.Nat.Bits.{bit_at-suc, bit_at_lowest}
@@ -8,9 +8,9 @@ use Rattle.std.proofs.lemmas.Bool.{cases_order, ne_eqb}
 use Rattle.std.proofs.lemmas.Option.{slice_get_within}
 use Rattle.net_core.specs.NetList.{nets}
 use Rattle.net_core.specs.Lists.{Has}
-use Rattle.net_core.specs.Value.{bit_of, index_of}
+use Rattle.net_core.specs.Value.{bit_of}
 use Rattle.gf_basis.specs.Basis.{AreBits}
-use Rattle.circuit_model.specs.Word.{Word, HasElement, word_nets}
+use Rattle.circuit_model.specs.Word.{Word, HasElement}
 use Rattle.circuit_model.specs.WellFormed.{IsWellFormed}
 use Rattle.circuit_model.specs.Circuit.{Circuit}
 use Rattle.circuit_model.proofs.WordLemmas.{word_pairs, word_index, same_element}
@@ -18,10 +18,10 @@ use Rattle.circuit_model.proofs.GivenLemmas.{Gives}
 use Rattle.circuit_model.proofs.SourceLemmas.{source_inside, stands_source}
 use Rattle.poly_mixed.specs.Polynomial.{Terms, Point, IsPoint, value}
 use Rattle.poly_mixed.specs.Cofactor.{LacksBit, at_bit}
-use Rattle.stage_model.specs.Variables.{rank_in, point_bit, point_bits, variables_of}
+use Rattle.stage_model.specs.Variables.{point_bits, variables_of}
 use Rattle.stage_model.specs.Mix.{IsMixedInput, IsMix}
 use Rattle.stage_model.specs.Stage.{IsOfStage}
-use Rattle.stage_model.specs.WordStage.{is_of_word, with_word, IsRead, IsSum}
+use Rattle.stage_model.specs.WordStage.{with_word, IsRead, IsSum}
 use Rattle.stage_model.proofs.PointLemmas.{point_bits_at, same_word}
 use Rattle.stage_model.proofs.MixLemmas.{one_mix}
 use Rattle.stage_model.proofs.SizeLemmas.{lacks}
@@ -69,14 +69,14 @@ module _ (c : Circuit) (well : IsWellFormed c) where
         let long : length word.basis ≡ length word.nets = is.basis.size ∙ sym is.nets in
         let short : d < 2 ^ length word.nets = rw (← long) read.bits.short in
         let gives : Gives (bit_of (point_bits (nets c.net) (variables_of c) (with_word c.k w d p))) (word_pairs word.nets d) = λ n b has.
-            let at = pairs_at word.nets d has.0 n b has.1 in
-            let less = net_inside w word read.at_word n (has.0, at.0) in
-            let low : has.0 < c.k = omega (arith, slice_get_within word.nets has.0 n at.0, is.nets) in
-            let rank = place_rank c well w has.0 n word read.at_word at.0 in
-            point_bits_at (nets c.net) (variables_of c) (with_word c.k w d p) n less
-            ∙ (ap (with_word c.k w d p).is_one rank
-            ∙ (ap (λ v. cond v (bit_at d (c.k * w + has.0 - c.k * w) == 1) (p.is_one (c.k * w + has.0))) (is_own c.k w has.0 low)
-            ∙ (ap (λ x. bit_at d x == 1) (left (c.k * w) has.0) ∙ at.1))) in
+        let at = pairs_at word.nets d has.0 n b has.1 in
+        let less = net_inside w word read.at_word n (has.0, at.0) in
+        let low : has.0 < c.k = omega (arith, slice_get_within word.nets has.0 n at.0, is.nets) in
+        let rank = place_rank c well w has.0 n word read.at_word at.0 in
+        point_bits_at (nets c.net) (variables_of c) (with_word c.k w d p) n less
+        ∙ (ap (with_word c.k w d p).is_one rank
+        ∙ (ap (λ v. cond v (bit_at d (c.k * w + has.0 - c.k * w) == 1) (p.is_one (c.k * w + has.0))) (is_own c.k w has.0 low)
+        ∙ (ap (λ x. bit_at d x == 1) (left (c.k * w) has.0) ∙ at.1))) in
         let P : ℕ → Type 0 = AreBits word.basis read.element in
         record { long = long; sum = subst P (sym (word_index (point_bits (nets c.net) (variables_of c) (with_word c.k w d p)) word.nets d short gives)) read.bits }
       where

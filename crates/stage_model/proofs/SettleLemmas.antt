@@ -1,5 +1,5 @@
 -- For the first gates of an order and a point there is exactly one settled list of bits.
-use Rattle.std.proofs.Common.{◌≡◌, ◌≢◌, ◌⊎◌, ◌∙◌, ap, sym, refl, subst, inl, inr, ℕ, zero, suc, ◌<◌, ◌≤◌, Bool, List, [], ◌∷◌, length, Option, None, Some, max, arith}
+use Rattle.std.proofs.Common.{◌≡◌, ◌≢◌, ◌⊎◌, ◌∙◌, ap, sym, refl, subst, inl, inr, ℕ, zero, suc, ◌<◌, Bool, List, [], ◌∷◌, length, None, Some, max, arith}
 use Rattle.std.specs.Prelude.{slice_get, ◌==◌}
 use Rattle.std.specs.Int.{bit_at}
 use Rattle.net_core.specs.GateValue.{GateValue}
@@ -9,7 +9,7 @@ use Rattle.net_core.specs.Sound.{IsSound}
 use Rattle.net_core.specs.Level.{Levels}
 use Rattle.net_core.specs.Levelled.{AllHaveLevels}
 use Rattle.net_core.specs.Order.{rank_at}
-use Rattle.net_core.specs.Value.{bit_of, index_of, IsRight}
+use Rattle.net_core.specs.Value.{bit_of, index_of}
 use Rattle.net_core.proofs.DriverLemmas.{gate_inside, gates_apart, All_has}
 use Rattle.net_core.proofs.LevelLemmas.{nat_eq_or}
 use Rattle.net_core.proofs.EvalLemmas.{inputs_below, index_agree, same_lists}

@@ -1,6 +1,5 @@
 -- The polynomials and sizes of stages that are functions.
-use Rattle.std.proofs.Common.{◌≡◌, ◌≢◌, ◌∙◌, ap, sym, refl, subst, inl, inr, ℕ, ◌<◌, ◌≤◌, true, false, not, cond, List, [], ◌∷◌, length, arith}
-use Rattle.std.specs.List.{AllByRecursion}
+use Rattle.std.proofs.Common.{◌≡◌, ◌∙◌, ap, sym, refl, subst, inl, inr, ℕ, ◌<◌, true, false, not, cond, [], ◌∷◌, length, arith}
 use Rattle.std.proofs.lemmas.Bool.{cases_order}
 use Rattle.gf_field.specs.Ring.{IsRing}
 use Rattle.gf_field.specs.Field.{HasNoZeroDivisors}

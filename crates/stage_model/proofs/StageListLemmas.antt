@@ -1,5 +1,5 @@
 -- Stages by name: one element, one polynomial, one size, and one first over a bound.
-use Rattle.std.proofs.Common.{◌≡◌, ◌⊎◌, ◌∙◌, ap, sym, refl, subst, inl, inr, ℕ, ◌<◌, ◌≤◌, ◌^◌, Bool, length, arith}
+use Rattle.std.proofs.Common.{◌≡◌, ◌⊎◌, ap, sym, subst, inl, inr, ℕ, ◌<◌, ◌^◌, Bool, arith}
 use Rattle.std.proofs.lemmas.Bool.{cases_order}
 use Rattle.circuit_model.specs.WellFormed.{IsWellFormed}
 use Rattle.circuit_model.specs.Circuit.{Circuit}

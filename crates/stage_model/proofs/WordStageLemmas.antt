@@ -1,10 +1,8 @@
 -- A stage of a word relates each point to one element.
-use Rattle.std.proofs.Common.{◌≡◌, ◌∙◌, ap, sym, refl, subst, ℕ, zero, suc, ◌<◌, ◌≤◌, ◌+◌, ◌^◌, List, [], ◌∷◌, length, take, Some, arith}
+use Rattle.std.proofs.Common.{◌≡◌, ◌∙◌, sym, refl, subst, ℕ, zero, suc, ◌<◌, ◌+◌, ◌^◌, [], ◌∷◌, length, take, Some, arith}
 use Rattle.std.specs.Prelude.{slice_get}
 use Rattle.std.specs.List.{AllByRecursion}
-use Rattle.std.proofs.lemmas.Option.{slice_get_within}
 use Rattle.graph_core.proofs.ListLemmas.{get_below}
-use Rattle.net_core.specs.Lists.{Has}
 use Rattle.gf_basis.specs.Basis.{AreBits}
 use Rattle.circuit_model.specs.Word.{Word}
 use Rattle.circuit_model.specs.WellFormed.{IsWellFormed}

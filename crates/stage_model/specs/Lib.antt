@@ -6,3 +6,4 @@ pub mod CutSteps
 pub mod Function
 pub mod WordStage
 pub mod StageList
+pub mod WordSteps

@@ -1,13 +1,12 @@
 -- The stages of a circuit by name, their order, and the first over a bound. Source: this project's own.
 use Rattle.std.specs.Prelude.{◌≡◌, ℕ, ◌<◌, ◌≤◌, ◌⊎◌, Bool, true, false, length}
 use Rattle.poly_mixed.specs.Monomial.{Monomial}
-use Rattle.poly_mixed.specs.Polynomial.{Terms, Point}
+use Rattle.poly_mixed.specs.Polynomial.{Point}
 use Rattle.poly_mixed.specs.declared.stage.Stage.{Stage}
 use Rattle.poly_mixed.specs.declared.stage.Stage.TheVariants.{Cut, WordProduct, WordSum, SpecProduct, SpecSum, InstanceProduct, InstanceSum}
 use Rattle.circuit_model.specs.Circuit.{Circuit}
 use Rattle.stage_model.specs.Cut.{CutOf}
-use Rattle.stage_model.specs.Mix.{IsMix}
-use Rattle.stage_model.specs.Stage.{IsOfStage, HasSize, IsWithin}
+use Rattle.stage_model.specs.Stage.{HasSize, IsWithin}
 use Rattle.stage_model.specs.WordStage.{word_bits, IsTermOf, IsProduct, IsSum}
 
 -- nothing is related: what no stage of a circuit is

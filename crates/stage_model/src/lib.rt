@@ -5,6 +5,7 @@
 mod laws;
 mod mix_laws;
 mod stage_laws;
+mod word_laws;
 
 pub use laws::{
     cuts_in_bits, cuts_of_bound, first_cut, last_cut, last_cut_in_words, one_element_a_cut,
@@ -12,5 +13,10 @@ pub use laws::{
 };
 pub use mix_laws::{mix_of_all_words, mix_of_no_words, one_element_a_mix};
 pub use stage_laws::{
-    one_element_a_stage, one_first_over, one_polynomial_a_stage, one_size_a_stage, stages_are_ordered,
+    one_element_a_stage, one_first_over, one_polynomial_a_stage, one_size_a_stage,
+    stages_are_ordered,
+};
+pub use word_laws::{
+    mix_in_later_bits, one_list_of_cut_steps, one_list_of_word_steps, rank_of_place,
+    sum_of_all_terms,
 };
