@@ -13,3 +13,6 @@ pub mod StageListLemmas
 pub mod PlaceLemmas
 pub mod NextMixLemmas
 pub mod StepLemmas
+pub mod VariableLemmas
+pub mod EvaluationLemmas
+pub mod CutPolyLemmas

@@ -83,7 +83,7 @@ same_numbers (x ∷ xs) (y ∷ ys) long same =
     let tail : xs ≡ ys = same_numbers xs ys (omega arith) (λ i a b first second. same (suc i) a b first second) in
     rw (head, tail) refl
 
-of_taken : (m : ℕ) (ys : List ℕ) (i x : ℕ) → slice_get (take m ys) i ≡ Some x → slice_get ys i ≡ Some x
+pub of_taken : (m : ℕ) (ys : List ℕ) (i x : ℕ) → slice_get (take m ys) i ≡ Some x → slice_get ys i ≡ Some x
 of_taken zero ys i x got = absurd (cc)
 of_taken (suc m) [] i x got = got
 of_taken (suc m) (y ∷ ys) zero x got = got

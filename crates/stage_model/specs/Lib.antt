@@ -7,3 +7,4 @@ pub mod Function
 pub mod WordStage
 pub mod StageList
 pub mod WordSteps
+pub mod Plain

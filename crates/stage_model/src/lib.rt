@@ -2,11 +2,17 @@
 //! Functions that do nothing have contracts that are laws of the definitions.
 #![tactic(auto)]
 
+mod cut_terms;
+mod cut_value;
 mod laws;
 mod mix_laws;
+mod ranks;
+mod settle;
 mod stage_laws;
 mod word_laws;
 
+pub use cut_terms::{cut_poly, cut_size};
+pub use cut_value::cut_at;
 pub use laws::{
     cuts_in_bits, cuts_of_bound, first_cut, last_cut, last_cut_in_words, one_element_a_cut,
     one_first_cut_over, one_polynomial_a_cut, one_size_a_cut,

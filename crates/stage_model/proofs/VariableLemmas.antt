@@ -1,0 +1,78 @@
+-- The order of variables, built net by net.
+use Rattle.std.proofs.Common.{◌≡◌, ◌≢◌, ◌∙◌, ap, sym, refl, subst, inl, inr, ℕ, zero, suc, ◌<◌, ◌≤◌, ◌+◌, Bool, true, false, cond, not, ◌==◌, ◌||◌, List, [], ◌∷◌, ◌++◌, length, Some, arith}
+use Rattle.std.specs.Prelude.{slice_get, filter}
+use Rattle.std.specs.List.{range_with_len, list_any}
+use Rattle.std.proofs.lemmas.Bool.{cases_eq, eqb-true}
+use Rattle.std.proofs.lemmas.List.{append-nil, append_assoc}
+use Rattle.std.proofs.lemmas.List.Elements.{filter-append}
+use Rattle.net_core.specs.Lists.{Has}
+use Rattle.net_core.specs.NetList.{NetList, nets}
+use Rattle.net_core.proofs.DriverLemmas.{Has_left, Has_right}
+use Rattle.net_words.specs.Bind.{stands_in}
+use Rattle.net_words.specs.Variables.{others}
+use Rattle.stage_model.specs.Variables.{rank_in}
+use Rattle.stage_model.specs.Plain.{HasEachNet}
+use Rattle.stage_model.proofs.BlindLemmas.{front_rank}
+
+range_more : (a n : ℕ) → range_with_len a (suc n) ≡ range_with_len a n ++ (a + n) ∷ []
+range_more a zero = ap (λ m. m ∷ []) (omega arith)
+range_more a (suc n) = ap (λ xs. a ∷ xs) (range_more (a + 1) n ∙ ap (λ m. range_with_len (a + 1) n ++ m ∷ []) (omega arith))
+
+one_other : (front : List ℕ) (n : ℕ) → others (n + 1) front ≡ others n front ++ cond (not (stands_in front n)) (n ∷ []) []
+one_other front n =
+    let p : ℕ → Bool = λ m. not (stands_in front m) in
+    let next : n + 1 ≡ suc n = omega arith in
+    ap (filter p) (ap (range_with_len 0) next ∙ (range_more 0 n ∙ ap (λ m. range_with_len 0 n ++ m ∷ []) (omega arith))) ∙ filter-append p (range_with_len 0 n) (n ∷ [])
+
+-- one more net that may be in no word
+pub others_step : (front start order new : List ℕ) (n : ℕ) → order ≡ start ++ others n front → new ≡ order ++ cond (not (stands_in front n)) (n ∷ []) [] → new ≡ start ++ others (n + 1) front
+others_step front start order new n old more =
+    more ∙ (ap (λ xs. xs ++ cond (not (stands_in front n)) (n ∷ []) []) old
+    ∙ (join start (others n front) (cond (not (stands_in front n)) (n ∷ []) []) ∙ ap (λ xs. start ++ xs) (sym (one_other front n))))
+  where
+    join : (xs ys zs : List ℕ) → (xs ++ ys) ++ zs ≡ xs ++ (ys ++ zs)
+    join xs ys zs = append_assoc xs ys zs
+
+has_stands : (ns : List ℕ) (n : ℕ) → stands_in ns n ≡ true → Has ns n
+has_stands [] n is = absurd (cc)
+has_stands (m ∷ ms) n is =
+    elim (m == n) as (λ b. (m == n) ≡ b → (b || list_any (λ m. m == n) ms) ≡ true → Has (m ∷ ms) n) [
+      | true ↦ λ e h. (0, ap Some (eqb-true m n e))
+      | false ↦ λ e h. let rest = has_stands ms n h in (suc rest.0, rest.1)
+    ] refl is
+
+has_range : (a count n : ℕ) → a ≤ n → n < a + count → Has (range_with_len a count) n
+has_range a zero n low less = absurd (omega arith)
+has_range a (suc count) n low less =
+    elim (cases_eq a n) [
+      | inl same ↦ (0, ap Some same)
+      | inr other ↦ let rest = has_range (a + 1) count n (omega arith) (omega arith) in (suc rest.0, rest.1)
+    ]
+
+has_filter : (q : ℕ → Bool) (xs : List ℕ) (x : ℕ) → Has xs x → q x ≡ true → Has (filter q xs) x
+has_filter q [] x has is = let got = has.1 in absurd (cc)
+has_filter q (y ∷ ys) x has is =
+    elim (q y) as (λ b. q y ≡ b → Has (cond b (y ∷ filter q ys) (filter q ys)) x) [
+      | true ↦ λ e. kept has (λ later. has_filter q ys x later is)
+      | false ↦ λ e. dropped e has (λ later. has_filter q ys x later is)
+    ] refl
+  where
+    kept : Has (y ∷ ys) x → (Has ys x → Has (filter q ys) x) → Has (y ∷ filter q ys) x
+    kept (zero, got) more = (0, got)
+    kept (suc k, got) more = let rest = more (k, got) in (suc rest.0, rest.1)
+
+    dropped : q y ≡ false → Has (y ∷ ys) x → (Has ys x → Has (filter q ys) x) → Has (filter q ys) x
+    dropped e (zero, got) more =
+        let same : y ≡ x = cc in
+        let bad : q x ≡ false = ap q (sym same) ∙ e in
+        absurd (cc)
+    dropped e (suc k, got) more = more (k, got)
+
+pub has_each : (net : NetList) (ns : List ℕ) → HasEachNet net (ns ++ others (nets net) ns)
+has_each net ns n less =
+    let has : Has (ns ++ others (nets net) ns) n = elim (stands_in ns n) as (λ b. stands_in ns n ≡ b → Has (ns ++ others (nets net) ns) n) [
+      | true ↦ λ e. Has_left ns (others (nets net) ns) n (has_stands ns n e)
+      | false ↦ λ e. Has_right ns (others (nets net) ns) n (has_filter (λ m. not (stands_in ns m)) (range_with_len 0 (nets net)) n (has_range 0 (nets net) n (omega arith) (omega arith)) (ap not e))
+    ] refl in
+    let Q : List ℕ → Type 0 = λ xs. rank_in xs n < length (ns ++ others (nets net) ns) in
+    subst Q (append-nil (ns ++ others (nets net) ns)) (front_rank (ns ++ others (nets net) ns) [] n has)
