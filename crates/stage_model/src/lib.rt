@@ -9,6 +9,8 @@ mod mix_laws;
 mod ranks;
 mod settle;
 mod stage_laws;
+#[cfg(test)]
+mod tests;
 mod word_laws;
 
 pub use cut_terms::{cut_poly, cut_size};
