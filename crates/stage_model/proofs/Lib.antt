@@ -16,3 +16,5 @@ pub mod StepLemmas
 pub mod VariableLemmas
 pub mod EvaluationLemmas
 pub mod CutPolyLemmas
+pub mod WordBitLemmas
+pub mod WordPolyLemmas

@@ -11,7 +11,9 @@ mod settle;
 mod stage_laws;
 #[cfg(test)]
 mod tests;
+mod word_bit;
 mod word_laws;
+mod word_poly;
 
 pub use cut_terms::{cut_poly, cut_size};
 pub use cut_value::cut_at;
