@@ -18,3 +18,4 @@ pub mod EvaluationLemmas
 pub mod CutPolyLemmas
 pub mod WordBitLemmas
 pub mod WordPolyLemmas
+pub mod PlainStageLemmas

@@ -14,6 +14,7 @@ mod tests;
 mod word_bit;
 mod word_laws;
 mod word_poly;
+mod word_stage;
 
 pub use cut_terms::{cut_poly, cut_size};
 pub use cut_value::cut_at;
@@ -30,3 +31,4 @@ pub use word_laws::{
     mix_in_later_bits, one_list_of_cut_steps, one_list_of_word_steps, rank_of_place,
     sum_of_all_terms,
 };
+pub use word_stage::{word_product, word_sum};
