@@ -1,22 +1,18 @@
 -- What the plain program makes of words are polynomials of their stages.
-use Rattle.std.proofs.Common.{◌≡◌, ◌∙◌, ap, sym, refl, subst, ℕ, ◌<◌, ◌≤◌, ◌+◌, ◌-◌, List, length, map, take, get_or, Option, None, Some, IfSome, arith}
+use Rattle.std.proofs.Common.{◌≡◌, ◌∙◌, sym, refl, subst, ℕ, ◌<◌, ◌≤◌, ◌+◌, ◌-◌, List, length, map, Option, None, Some, IfSome, arith}
 use Rattle.std.specs.Prelude.{slice_get, slice_index}
 use Rattle.std.proofs.lemmas.Option.{slice_get-map, slice_get_within, get_or_from_slice_get}
 use Rattle.std.proofs.lemmas.List.{length-map}
-use Rattle.graph_core.proofs.ListLemmas.{got_read}
 use Rattle.net_core.specs.NetList.{NetList}
 use Rattle.gf_basis.specs.Basis.{AreBits}
 use Rattle.gf_basis.specs.BasisParts.{elements_of}
 use Rattle.circuit_model.specs.declared.circuit_word.CircuitWord.{CircuitWord}
 use Rattle.circuit_model.specs.Word.{Word}
 use Rattle.circuit_model.specs.Flat.{word_of, circuit_of}
-use Rattle.circuit_model.specs.WellFormed.{IsWellFormed}
 use Rattle.poly_mixed.specs.Monomial.{Monomial}
-use Rattle.poly_mixed.specs.Polynomial.{Terms, Point, IsPoint, value}
-use Rattle.stage_model.specs.Mix.{IsMix}
-use Rattle.stage_model.specs.Stage.{IsOfStage}
-use Rattle.stage_model.specs.WordStage.{IsRead, IsProduct, IsSum}
-use Rattle.stage_model.specs.PlainWord.{IsReading, IsProductOf, IsSumOf, HasBitAt, IsProductStage, IsSumStage}
+use Rattle.poly_mixed.specs.Polynomial.{Terms, Point}
+use Rattle.stage_model.specs.WordStage.{IsRead}
+use Rattle.stage_model.specs.PlainWord.{IsProductOf, IsSumOf, HasBitAt, IsProductStage, IsSumStage}
 use Rattle.stage_model.proofs.WordStageLemmas.{some_read}
 
 module _ (k : ℕ) (mul : ℕ → ℕ → ℕ) (words : List CircuitWord) (w : ℕ) (word : CircuitWord) (at_word : slice_get words w ≡ Some word) where

@@ -1,10 +1,10 @@
 -- The stages of a word as products and sums of polynomials.
-use Rattle.std.proofs.Common.{◌≡◌, ◌≢◌, ◌∙◌, ap, sym, refl, subst, ℕ, zero, suc, ◌<◌, ◌≤◌, ◌+◌, ◌-◌, ◌*◌, ◌%◌, ◌/◌, ◌^◌, Bool, true, false, cond, not, ◌&&◌, ◌==◌, List, [], ◌∷◌, ◌++◌, length, take, drop, get_or, Some, bit_xor, arith}
-use Rattle.std.specs.Prelude.{slice_get, slice_index, nat_le, nat_lt}
+use Rattle.std.proofs.Common.{◌≡◌, ◌∙◌, ap, sym, refl, subst, ℕ, zero, suc, ◌<◌, ◌≤◌, ◌+◌, ◌-◌, ◌*◌, Bool, true, false, cond, not, ◌&&◌, ◌==◌, List, [], ◌∷◌, ◌++◌, length, take, get_or, Some, bit_xor, arith}
+use Rattle.std.specs.Prelude.{slice_get, nat_le, nat_lt}
 use Rattle.std.specs.Int.{bit_at}
-use Rattle.std.specs.List.{AllByRecursion, list_all, filter}
+use Rattle.std.specs.List.{list_all, filter}
 use Rattle.std.specs.List.Sorted.{IsStrictlySortedBy}
-use Rattle.std.proofs.lemmas.Bool.{eqb-true, eqb-false, and_parts}
+use Rattle.std.proofs.lemmas.Bool.{eqb-true, eqb-false}
 use Rattle.std.proofs.lemmas.Bool.Decides.{nat_tests}
 use Rattle.std.proofs.lemmas.List.{take_more, length-take, get_or-take}
 use Rattle.std.proofs.lemmas.List.Folds.{list_all-append}
@@ -12,17 +12,15 @@ use Rattle.std.proofs.lemmas.Nat.Bits.{bit_at-lt}
 use Rattle.std.proofs.lemmas.Option.{slice_get_within, get_or_from_slice_get}
 use lib.Bits.{xor_zero_r, xor_zero_l, xor_assoc}
 use Rattle.std.proofs.Math.Seq.{take-length}
-use Rattle.net_core.specs.Lists.{Has}
-use Rattle.gf_basis.specs.Basis.{AreBits}
 use Rattle.poly_mixed.specs.Monomial.{Monomial}
-use Rattle.poly_mixed.specs.Polynomial.{Terms, Point, IsPoint, IsElement, IsMonomial, IsTerm, IsReduced, powers, term_value, value}
+use Rattle.poly_mixed.specs.Polynomial.{Terms, Point, IsPoint, IsElement, IsTerm, IsReduced, powers, term_value, value}
 use Rattle.poly_mixed.specs.Product.{IsProduct}
 use Rattle.poly_mixed.specs.Sum.{with_coefficient}
 use Rattle.poly_mixed.proofs.FieldLaws.{IsField}
 use Rattle.poly_mixed.proofs.Values.{product_zero, powers_element, zero_element, one_element}
-use Rattle.poly_mixed.proofs.Products.{one_term, term_value_element}
+use Rattle.poly_mixed.proofs.Products.{one_term}
 use Rattle.poly_mixed.proofs.Cofactors.{rising-filter}
-use Rattle.stage_model.specs.WordStage.{is_of_word, word_bits, first_bits, with_word}
+use Rattle.stage_model.specs.WordStage.{is_of_word, word_bits, with_word}
 use Rattle.stage_model.specs.PlainWord.{IsReading, IsBitOf, IsProductOf, IsSumOf}
 use Rattle.graph_core.proofs.ListLemmas.{got_at}
 use Rattle.stage_model.proofs.MixLemmas.{of_taken}

@@ -15,6 +15,8 @@ mod word_bit;
 mod word_laws;
 mod word_poly;
 mod word_stage;
+#[cfg(test)]
+mod word_tests;
 
 pub use cut_terms::{cut_poly, cut_size};
 pub use cut_value::cut_at;

@@ -58,7 +58,14 @@ pub fn word_product<F: Field>(
     let terms = before.terms(alloc)?;
     if (word as usize) < words.len() && 1 <= term && term as usize <= terms.len() {
         let of = &words[word as usize];
-        let found = product_if(alloc, field, &of.basis, word, &terms[term as usize - 1], bit)?;
+        let found = product_if(
+            alloc,
+            field,
+            &of.basis,
+            word,
+            &terms[term as usize - 1],
+            bit,
+        )?;
         Ok(found)
     } else {
         Ok(None)

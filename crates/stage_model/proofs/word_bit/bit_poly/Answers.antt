@@ -1,6 +1,5 @@
 use Rattle.std.proofs.Common.{◌≡◌, ◌∙◌, ap, sym, subst, ℕ, ◌<◌, ◌^◌, arith}
 use Rattle.std.specs.Prelude.{slice_index}
-use Rattle.poly_mixed.specs.Polynomial.{Point, value}
 use Rattle.stage_model.proofs.WordBitLemmas.{part_value, frobenius_in, exponent_in, whole_value, element_in}
 use Rattle.stage_model.proofs.word_bit.bit_poly.Goals as goal
 

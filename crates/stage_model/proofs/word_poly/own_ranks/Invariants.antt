@@ -1,4 +1,4 @@
-use Rattle.std.proofs.Common.{◌≡◌, ◌++◌, drop, not}
+use Rattle.std.proofs.Common.{◌≡◌, ◌++◌, drop}
 use Rattle.std.specs.List.{filter}
 use Rattle.stage_model.specs.WordStage.{is_of_word}
 use Rattle.stage_model.proofs.word_poly.own_ranks.Given as goal

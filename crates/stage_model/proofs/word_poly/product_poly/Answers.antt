@@ -1,10 +1,8 @@
-use Rattle.std.proofs.Common.{◌≡◌, ◌∙◌, ap, sym, refl, subst, ℕ, ◌<◌, ◌≤◌, ◌-◌, ◌*◌, List, Some, get_or, take, arith}
-use Rattle.std.specs.Prelude.{slice_get}
-use Rattle.std.specs.List.{filter}
+use Rattle.std.proofs.Common.{◌∙◌, ap, sym, refl, subst, ℕ, ◌<◌, ◌≤◌, ◌-◌, ◌*◌, List, get_or, take, arith}
 use Rattle.gf_basis.specs.BasisParts.{elements_of}
 use Rattle.poly_mixed.specs.Monomial.{Monomial}
 use Rattle.poly_mixed.proofs.FieldLaws.{field_of}
-use Rattle.stage_model.specs.WordStage.{is_of_word, word_bits}
+use Rattle.stage_model.specs.WordStage.{is_of_word}
 use Rattle.stage_model.specs.PlainWord.{IsBitOf}
 use Rattle.stage_model.proofs.WordPolyLemmas.{filter_passes, own_range, own_is, turn_rank, product_next}
 use Rattle.stage_model.proofs.word_poly.product_poly.Goals as goal

@@ -1,9 +1,9 @@
-use Rattle.std.proofs.Common.{◌≡◌, ◌∙◌, ap, sym, subst, ℕ, ◌-◌, ◌<◌, ◌≤◌, List, Some, length, true, false, arith}
+use Rattle.std.proofs.Common.{◌≡◌, ap, subst, ℕ, ◌-◌, ◌<◌, Some, length, arith}
 use Rattle.std.specs.Prelude.{slice_get}
 use Rattle.gf_basis.specs.BasisParts.{elements_of}
-use Rattle.poly_mixed.specs.Polynomial.{Terms, Polynomial}
+use Rattle.poly_mixed.specs.Polynomial.{Terms}
 use Rattle.graph_core.proofs.ListLemmas.{got_read}
-use Rattle.stage_model.specs.PlainWord.{IsProductOf, HasBitAt, IsProductStage}
+use Rattle.stage_model.specs.PlainWord.{IsProductOf, IsProductStage}
 use Rattle.stage_model.proofs.PlainStageLemmas.{product_is, if_some, has_places, term_place}
 use Rattle.stage_model.proofs.word_stage.word_product.Goals as goal
 use Rattle.stage_model.proofs.word_stage.word_product.Goals.{else-word-words-via-then-word-words+then-term-ge1+else-term-len, else-word-words-via-then-word-words+else-term-ge1, else-word-words-via-else-word-words}

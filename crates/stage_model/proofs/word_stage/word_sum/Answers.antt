@@ -1,4 +1,4 @@
-use Rattle.std.proofs.Common.{◌≡◌, ◌∙◌, sym, subst, ℕ, List, length}
+use Rattle.std.proofs.Common.{◌∙◌, subst, ℕ}
 use Rattle.gf_basis.specs.BasisParts.{elements_of}
 use Rattle.poly_mixed.specs.Polynomial.{Terms}
 use Rattle.graph_core.proofs.ListLemmas.{got_read}
