@@ -1,5 +1,4 @@
 -- Refusals of signatures and netlists.
-use Rattle.std.specs.Prelude.{ℕ, List}
 use Rattle.gf_abs.specs.declared.stop.Stop.{Stop}
 use Rattle.gf_abs.specs.declared.stop.Stop.TheVariants.{Refused, Outside, OutOfMemory}
 use Rattle.gf_abs.specs.Answer.{IsOfSignature, IsOfNetlist}

@@ -2,6 +2,8 @@
 //! `run` carries the contract of the whole; each command is a step behind it.
 #![tactic(auto)]
 
+#[cfg(test)]
+mod basis_tests;
 mod bits;
 mod command;
 mod fault;
