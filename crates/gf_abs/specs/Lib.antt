@@ -3,3 +3,4 @@ pub mod Fault
 pub mod Answer
 pub mod Stop
 pub mod Setting
+pub mod Taken

@@ -1,11 +1,14 @@
 //! The netlist of a job: its text, its net, and the binding of the signature's words.
-ghost use Rattle.std.specs.Prelude.{◌≡◌, ◌≤◌, ◌<◌, ℕ, length, All, IsTrue, ◌↔◌, filter};
+ghost use Rattle.std.specs.Prelude.{◌≡◌, ◌≤◌, ◌<◌, ℕ, length, All, IsTrue, ◌↔◌, filter, IfOk, Ok};
 ghost use Rattle.net_core.specs.NetList.{nets};
+ghost use Rattle.net_words.specs.Bind.{BindingOf};
 ghost use Rattle.net_words.specs.Binding.{AreWords};
 ghost use Rattle.net_words.specs.Signature.{is_output as is_output_word, input_count as count_inputs};
 ghost use Rattle.gf_abs.specs.Stop.{GivesBy};
 ghost use Rattle.gf_abs.specs.Answer.{NetlistTaken};
 ghost use Rattle.gf_abs.specs.Setting.{RefusesNetlist};
+ghost use Rattle.gf_abs.specs.Taken.{IsNetOf};
+ghost use Rattle.gf_abs.specs.declared.netlist.Refusal.TheVariants.{OutOfMemory};
 
 use crate::fault::{BindingFault, Fault, NetlistFault};
 use crate::stop::Stop;
@@ -22,7 +25,9 @@ pub fn circuit_of(
     text: &[u8],
 ) -> Result<Combinational, Stop>
     requires { length text.now ≤ 67108864 }
-    ensures { GivesBy (λ circuit. tt) result (NetlistTaken file.now text.now) ⊥ ⊥ }
+    ensures taken { GivesBy (λ circuit. tt) result (NetlistTaken file.now text.now) ⊥ ⊥ }
+    ensures net { IfOk result (λ circuit. IsNetOf text.now circuit.net) }
+    ensures bound { IfOk result (λ circuit. BindingOf circuit.net words.now (Ok circuit.bound)) }
 {
     let name = Name::new(alloc, file)?;
     match bound_net(alloc, words, text) {
@@ -40,6 +45,8 @@ enum Refusal {
 }
 
 impl From<AllocError> for Refusal {
+    ghost from_gives = { λ _ e. e ≡ OutOfMemory };
+
     fn from(_error: AllocError) -> Refusal {
         Refusal::OutOfMemory
     }
@@ -48,6 +55,8 @@ impl From<AllocError> for Refusal {
 // The net of a text with the words that are bound to it.
 fn bound_net(alloc: Global, words: &[WordText], text: &[u8]) -> Result<Combinational, Refusal>
     requires { length text.now ≤ 67108864 }
+    ensures net { IfOk result (λ circuit. IsNetOf text.now circuit.net) }
+    ensures bound { IfOk result (λ circuit. BindingOf circuit.net words.now (Ok circuit.bound)) }
 {
     let net = net_of(alloc, text)?;
     if !can_be_bound(words) {
@@ -66,6 +75,7 @@ fn bound_net(alloc: Global, words: &[WordText], text: &[u8]) -> Result<Combinati
 // The net of a text.
 fn net_of(alloc: Global, text: &[u8]) -> Result<Net, Refusal>
     requires { length text.now ≤ 67108864 }
+    ensures { IfOk result (λ net. IsNetOf text.now net) }
 {
     let design = match read_blif(alloc, text) {
         Ok(design) => design,

@@ -3,6 +3,7 @@ ghost use Rattle.std.specs.Prelude.{◌≡◌, ◌≤◌, ◌<◌, ℕ, [], leng
 ghost use Rattle.gf_abs.specs.Stop.{GivesBy};
 ghost use Rattle.gf_abs.specs.Answer.{SignatureTaken};
 ghost use Rattle.gf_abs.specs.Setting.{RefusesSignature};
+ghost use Rattle.gf_abs.specs.Taken.{IsSignatureOf};
 ghost use Rattle.gf_basis.specs.BasisParts.{IsOver};
 
 use crate::fault::{Fault, SignatureFault};
@@ -23,7 +24,9 @@ pub struct Setting {
 /// The setting of a signature's text.
 pub fn setting_of(alloc: Global, text: &[u8]) -> Result<Setting, Stop>
     requires { length text.now ≤ 67108864 }
-    ensures { GivesBy (λ setting. tt) result (SignatureTaken text.now) ⊥ ⊥ }
+    ensures taken { GivesBy (λ setting. tt) result (SignatureTaken text.now) ⊥ ⊥ }
+    ensures signature { IfOk result (λ setting. IsSignatureOf text.now setting.signature) }
+    ensures bases { IfOk result (λ setting. length setting.bases.items ≡ length setting.signature.words) }
 {
     let signature = match read_signature(alloc, text) {
         Ok(signature) => signature,
@@ -77,7 +80,8 @@ fn field_fault(fault: FieldFault) -> Stop
 
 // The bases of words: line by line, first their number of bits and then the basis.
 fn bases_of<F: Field>(alloc: Global, field: &F, words: &[WordText]) -> Result<Vec<Vec<u64>>, Stop>
-    ensures { GivesBy (λ bases. tt) result (SignatureTaken []) ⊥ ⊥ }
+    ensures taken { GivesBy (λ bases. tt) result (SignatureTaken []) ⊥ ⊥ }
+    ensures count { IfOk result (λ bases. length bases.items ≡ length words.now) }
 {
     let mut bases = Vec::new(alloc);
     for word in words {
