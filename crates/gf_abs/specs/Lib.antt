@@ -4,3 +4,4 @@ pub mod Answer
 pub mod Stop
 pub mod Setting
 pub mod Taken
+pub mod Refused

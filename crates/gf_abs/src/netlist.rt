@@ -1,6 +1,6 @@
 //! The netlist of a job: its text, its net, and the binding of the signature's words.
-ghost use Rattle.std.specs.Prelude.{◌≡◌, ◌≤◌, ◌<◌, ℕ, length, All, IsTrue, ◌↔◌, filter, IfOk, Ok};
-ghost use Rattle.net_core.specs.NetList.{nets};
+ghost use Rattle.std.specs.Prelude.{◌≡◌, ◌≤◌, ◌<◌, ◌⊎◌, ℕ, length, All, IsTrue, ◌↔◌, filter, IfOk, IfErr, Ok};
+ghost use Rattle.net_core.specs.NetList.{nets, text_of};
 ghost use Rattle.net_words.specs.Bind.{BindingOf};
 ghost use Rattle.net_words.specs.Binding.{AreWords};
 ghost use Rattle.net_words.specs.Signature.{is_output as is_output_word, input_count as count_inputs};
@@ -8,6 +8,7 @@ ghost use Rattle.gf_abs.specs.Stop.{GivesBy};
 ghost use Rattle.gf_abs.specs.Answer.{NetlistTaken};
 ghost use Rattle.gf_abs.specs.Setting.{RefusesNetlist};
 ghost use Rattle.gf_abs.specs.Taken.{IsNetOf};
+ghost use Rattle.gf_abs.specs.Refused.{TellsText, TellsNet, TellsBinding, TellsBound, name_of, IsTextFault, IsNetFault, IsNetlistFault, Refuses, RefusesFile};
 ghost use Rattle.gf_abs.specs.declared.netlist.Refusal.TheVariants.{OutOfMemory};
 
 use crate::fault::{BindingFault, Fault, NetlistFault};
@@ -28,6 +29,7 @@ pub fn circuit_of(
     ensures taken { GivesBy (λ circuit. tt) result (NetlistTaken file.now text.now) ⊥ ⊥ }
     ensures net { IfOk result (λ circuit. IsNetOf text.now circuit.net) }
     ensures bound { IfOk result (λ circuit. BindingOf circuit.net words.now (Ok circuit.bound)) }
+    ensures fault { IfErr result (λ stop. RefusesFile file.now (IsNetlistFault words.now text.now) stop) }
 {
     let name = Name::new(alloc, file)?;
     match bound_net(alloc, words, text) {
@@ -57,8 +59,12 @@ fn bound_net(alloc: Global, words: &[WordText], text: &[u8]) -> Result<Combinati
     requires { length text.now ≤ 67108864 }
     ensures net { IfOk result (λ circuit. IsNetOf text.now circuit.net) }
     ensures bound { IfOk result (λ circuit. BindingOf circuit.net words.now (Ok circuit.bound)) }
+    ensures fault { IfErr result (λ refusal. Refuses (IsNetlistFault words.now text.now) refusal) }
 {
-    let net = net_of(alloc, text)?;
+    let net = match net_of(alloc, text) {
+        Ok(net) => net,
+        Err(refusal) => return Err(refusal),
+    };
     if !can_be_bound(words) {
         return Err(Refusal::OutOfMemory);
     }
@@ -75,7 +81,8 @@ fn bound_net(alloc: Global, words: &[WordText], text: &[u8]) -> Result<Combinati
 // The net of a text.
 fn net_of(alloc: Global, text: &[u8]) -> Result<Net, Refusal>
     requires { length text.now ≤ 67108864 }
-    ensures { IfOk result (λ net. IsNetOf text.now net) }
+    ensures net { IfOk result (λ net. IsNetOf text.now net) }
+    ensures fault { IfErr result (λ refusal. Refuses (λ told. IsTextFault text.now told ⊎ IsNetFault text.now told) refusal) }
 {
     let design = match read_blif(alloc, text) {
         Ok(design) => design,
@@ -89,7 +96,9 @@ fn net_of(alloc: Global, text: &[u8]) -> Result<Net, Refusal>
 }
 
 // The refusal of a netlist's text.
-fn text_fault(fault: BlifFault) -> Refusal {
+fn text_fault(fault: BlifFault) -> Refusal
+    ensures { Refuses (TellsText fault) result }
+{
     match fault {
         BlifFault::NoModel => Refusal::Fault(NetlistFault::NoModel),
         BlifFault::Syntax { line } => Refusal::Fault(NetlistFault::Syntax { line }),
@@ -103,7 +112,9 @@ fn text_fault(fault: BlifFault) -> Refusal {
 }
 
 // The refusal of a net.
-fn net_fault(fault: NetFault) -> Refusal {
+fn net_fault(fault: NetFault) -> Refusal
+    ensures { Refuses (TellsNet fault) result }
+{
     match fault {
         NetFault::TooManyNets => Refusal::Fault(NetlistFault::TooManyNets),
         NetFault::TooManyGates => Refusal::Fault(NetlistFault::TooManyGates),
@@ -120,7 +131,9 @@ fn net_fault(fault: NetFault) -> Refusal {
 }
 
 // The refusal of a binding.
-fn binding_fault(alloc: Global, words: &[WordText], net: &Net, fault: BindFault) -> Refusal {
+fn binding_fault(alloc: Global, words: &[WordText], net: &Net, fault: BindFault) -> Refusal
+    ensures { Refuses (TellsBound words.now net.now fault) result }
+{
     match named_fault(alloc, words, net, fault) {
         Ok(fault) => Refusal::Fault(NetlistFault::Binding(fault)),
         Err(_) => Refusal::OutOfMemory,
@@ -133,7 +146,9 @@ fn named_fault(
     words: &[WordText],
     net: &Net,
     fault: BindFault,
-) -> Result<BindingFault, AllocError> {
+) -> Result<BindingFault, AllocError>
+    ensures { IfOk result (λ told. TellsBinding words.now net.now fault told) }
+{
     match fault {
         BindFault::NoSuchNet { word, place } => {
             let word = word_name(alloc, words, word)?;
@@ -164,7 +179,9 @@ fn named_fault(
 }
 
 // The name of a word.
-fn word_name(alloc: Global, words: &[WordText], word: u32) -> Result<Name, AllocError> {
+fn word_name(alloc: Global, words: &[WordText], word: u32) -> Result<Name, AllocError>
+    ensures { IfOk result (λ name. name ≡ name_of words.now word) }
+{
     match words.get(word as usize) {
         Some(word) => Name::new(alloc, word.name.as_str()),
         None => Name::new(alloc, ""),
@@ -172,7 +189,9 @@ fn word_name(alloc: Global, words: &[WordText], word: u32) -> Result<Name, Alloc
 }
 
 // What a net is called.
-fn label(alloc: Global, net: &Net, number: u32) -> Result<Name, AllocError> {
+fn label(alloc: Global, net: &Net, number: u32) -> Result<Name, AllocError>
+    ensures { IfOk result (λ label. label ≡ text_of net.now number) }
+{
     if number < net.nets() {
         Name::new(alloc, net.label(number))
     } else {
