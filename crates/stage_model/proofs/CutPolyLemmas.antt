@@ -1,13 +1,11 @@
 -- The polynomial of a cut, bit by bit.
-use Rattle.std.proofs.Common.{◌≡◌, ◌≢◌, ◌∙◌, ap, sym, refl, subst, inl, inr, ℕ, zero, suc, ◌<◌, ◌≤◌, Bool, true, false, cond, List, [], ◌∷◌, ◌++◌, length, get_or, nat_lt, bit_xor, arith}
-use Rattle.std.specs.Prelude.{slice_index_or}
+use Rattle.std.proofs.Common.{◌≡◌, ◌∙◌, ap, sym, refl, subst, inl, inr, ℕ, zero, suc, ◌<◌, ◌≤◌, Bool, true, false, cond, List, [], ◌∷◌, ◌++◌, length, get_or, bit_xor, arith}
 use Rattle.std.proofs.lemmas.Bool.{cases_order, lt-ltb, le-ltb}
 use lib.Bits.{xor_self, xor_zero_r, xor_zero_l, xor_assoc, xor_comm, xor_lt}
 use Rattle.std.proofs.lemmas.List.{length-append}
 use Rattle.net_core.specs.NetList.{NetList, nets}
 use Rattle.circuit_model.specs.Word.{Word}
 use Rattle.poly_mixed.specs.Polynomial.{Terms, Point, IsPoint, IsReduced, IsPolynomialOf, IsElement, point, value}
-use Rattle.poly_mixed.specs.Product.{IsProduct}
 use Rattle.poly_mixed.proofs.FieldLaws.{IsField}
 use Rattle.poly_mixed.proofs.Values.{product_zero}
 use Rattle.poly_mixed.proofs.Products.{value_element}

@@ -1,18 +1,18 @@
 -- Gates at the end of an order get their values, one after another.
-use Rattle.std.proofs.Common.{◌≡◌, ◌≢◌, ◌∙◌, ap, sym, refl, subst, inl, inr, ℕ, zero, suc, ◌<◌, ◌≤◌, ◌+◌, ◌-◌, Bool, List, [], ◌∷◌, length, drop, reverse, Some, arith, length-set, get_or}
+use Rattle.std.proofs.Common.{◌≡◌, ◌≢◌, ◌∙◌, ap, sym, refl, subst, inl, inr, ℕ, zero, suc, ◌<◌, ◌≤◌, ◌+◌, ◌-◌, Bool, List, [], ◌∷◌, length, drop, reverse, Some, arith, length-set}
 use Rattle.std.specs.Prelude.{slice_get, ◌==◌}
 use Rattle.std.specs.Int.{bit_at}
 use Rattle.std.proofs.Math.ListN.{set}
 use Rattle.std.proofs.lemmas.List.{get_or-reverse, length-reverse, reverse-reverse}
 use Rattle.std.proofs.lemmas.Option.{slice_get_within, get_or_from_slice_get}
-use Rattle.graph_core.proofs.ListLemmas.{got_at, get_below}
+use Rattle.graph_core.proofs.ListLemmas.{got_at}
 use Rattle.net_core.specs.GateValue.{GateValue}
 use Rattle.net_core.specs.NetList.{NetList, nets}
 use Rattle.net_core.specs.Lists.{Has}
 use Rattle.net_core.specs.Sound.{IsSound}
 use Rattle.net_core.specs.Level.{Levels}
 use Rattle.net_core.specs.Levelled.{AllHaveLevels}
-use Rattle.net_core.specs.Order.{rank_at, IsBefore, IsOrder, IsLevelOrder, IsElimination}
+use Rattle.net_core.specs.Order.{rank_at, IsBefore, IsOrder, IsLevelOrder}
 use Rattle.net_core.specs.Value.{bit_of, index_of, IsRight}
 use Rattle.net_core.proofs.DriverLemmas.{gate_inside, gates_apart}
 use Rattle.net_core.proofs.LevelLemmas.{nat_eq_or}
@@ -21,7 +21,7 @@ use Rattle.net_core.proofs.OrderLemmas.{before_all}
 use Rattle.net_core.proofs.ExistLemmas.{sound_levels}
 use Rattle.net_core.proofs.EvalLemmas.{bit_set_same, bit_set_other, index_set, inputs_below}
 use Rattle.poly_mixed.specs.Polynomial.{Point}
-use Rattle.stage_model.specs.Variables.{point_bit, point_bits}
+use Rattle.stage_model.specs.Variables.{point_bits}
 use Rattle.stage_model.specs.Cut.{IsAmongFirst, IsSettled}
 use Rattle.stage_model.specs.Plain.{IsAt, AreSettledFrom}
 use Rattle.stage_model.proofs.PointLemmas.{point_bits_at}

@@ -16,3 +16,6 @@ pub mod StepLemmas
 pub mod VariableLemmas
 pub mod EvaluationLemmas
 pub mod CutPolyLemmas
+pub mod WordBitLemmas
+pub mod WordPolyLemmas
+pub mod PlainStageLemmas

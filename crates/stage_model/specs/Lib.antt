@@ -8,3 +8,4 @@ pub mod WordStage
 pub mod StageList
 pub mod WordSteps
 pub mod Plain
+pub mod PlainWord

@@ -11,7 +11,12 @@ mod settle;
 mod stage_laws;
 #[cfg(test)]
 mod tests;
+mod word_bit;
 mod word_laws;
+mod word_poly;
+mod word_stage;
+#[cfg(test)]
+mod word_tests;
 
 pub use cut_terms::{cut_poly, cut_size};
 pub use cut_value::cut_at;
@@ -28,3 +33,4 @@ pub use word_laws::{
     mix_in_later_bits, one_list_of_cut_steps, one_list_of_word_steps, rank_of_place,
     sum_of_all_terms,
 };
+pub use word_stage::{word_product, word_sum};

@@ -15,13 +15,13 @@ use std::process::Abort;
 use std::test::Fail;
 
 // The field of 4 elements, whose element 2 is a root of x^2 + x + 1.
-fn field(rt: &impl Abort) -> Proved<Ring2k> {
+pub fn field(rt: &impl Abort) -> Proved<Ring2k> {
     let ring = Ring2k::new(0x7).expect(rt, "a modulus");
     Proved::new(ring).ok().expect(rt, "a field")
 }
 
 // A maker with nets that have these labels, numbered from 0.
-fn with_labels(alloc: Global, labels: &[&str]) -> Result<NetMaker, NetFault>
+pub fn with_labels(alloc: Global, labels: &[&str]) -> Result<NetMaker, NetFault>
     ensures { IfOk result (λ maker. nets maker ≡ length labels.now) }
 {
     let mut maker = NetMaker::new(alloc);
@@ -52,7 +52,7 @@ fn multiplier(alloc: Global) -> Result<Net, NetFault> {
 }
 
 // A word with the polynomial basis.
-fn word<F: Field>(
+pub fn word<F: Field>(
     alloc: Global,
     field: &F,
     role: Role,

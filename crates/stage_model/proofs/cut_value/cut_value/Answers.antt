@@ -1,4 +1,4 @@
-use Rattle.std.proofs.Common.{rules, ◌≡◌, ◌∙◌, ap, sym, subst, ℕ, ◌<◌, ◌^◌, Bool, List, [], length}
+use Rattle.std.proofs.Common.{rules, ◌≡◌, ◌∙◌, ap, sym, ℕ, ◌<◌, ◌^◌, Bool, List, [], length}
 use Rattle.net_core.specs.NetList.{nets}
 use Rattle.net_core.specs.Value.{index_of}
 use Rattle.irreducible.specs.Span.{combination}

@@ -1,10 +1,10 @@
-use Rattle.std.proofs.Common.{◌≡◌, ◌∙◌, sym, refl, subst, get_or, take, drop, length, Some, ℕ, List, Bool, ◌+◌, ◌-◌, ◌≤◌, arith}
+use Rattle.std.proofs.Common.{◌≡◌, sym, refl, subst, get_or, take, drop, length, Some, ℕ, List, Bool, ◌+◌, ◌-◌, ◌≤◌, arith}
 use Rattle.std.specs.Prelude.{slice_get}
 use Rattle.std.proofs.lemmas.Option.{slice_get_within}
 use Rattle.graph_core.proofs.ListLemmas.{got_at}
 use Rattle.stage_model.specs.Plain.{AreSettledFrom}
 use Rattle.stage_model.proofs.MixLemmas.{of_taken}
-use Rattle.stage_model.proofs.EvaluationLemmas.{with_levels, settled_first, settled_step, got_drop}
+use Rattle.stage_model.proofs.EvaluationLemmas.{with_levels, settled_step, got_drop}
 use Rattle.stage_model.proofs.settle.settle.Goals as goal
 
 pub set_gate-requires-clause-inside : goal.set_gate-requires-clause-inside

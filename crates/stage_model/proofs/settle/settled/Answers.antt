@@ -1,4 +1,4 @@
-use Rattle.std.proofs.Common.{rules, ◌≡◌, sym, subst, length, reverse, ℕ, List, ◌+◌, ◌-◌, arith}
+use Rattle.std.proofs.Common.{rules, sym, subst, length, reverse, ℕ, List, ◌-◌, arith}
 use Rattle.std.proofs.lemmas.List.{reverse-reverse}
 use Rattle.net_core.specs.Order.{IsLevelOrder}
 use Rattle.stage_model.proofs.EvaluationLemmas.{settled_last}
