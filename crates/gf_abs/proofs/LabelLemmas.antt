@@ -101,10 +101,10 @@ new_label k words i word names few at = by word.role refl
   where
     apart : Differs word.name (map (λ w. w.0) (word_labels k (take i words)))
     apart = differs k word.name (take i words) (λ j u got same.
-      let before = taken words i j u got in
-      let place : i ≡ j = names.apart i j word u at before.1 same in
-      let less = before.0 in
-      absurd (omega arith))
+        let before = taken words i j u got in
+        let place : i ≡ j = names.apart i j word u at before.1 same in
+        let less = before.0 in
+        absurd (omega arith))
 
     room : (r : Role) → word.role ≡ r → 1 ≤ more_inputs r → length (word_labels k (take i words)) < 8
     room r is some =

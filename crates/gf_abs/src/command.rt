@@ -97,12 +97,7 @@ fn term_count(number: &str) -> Option<u32>
 }
 
 // The command of three words, with this bound on terms.
-fn of_three<'a>(
-    command: &str,
-    signature: &'a str,
-    net: &'a str,
-    terms: u32,
-) -> Option<Command<'a>>
+fn of_three<'a>(command: &str, signature: &'a str, net: &'a str, terms: u32) -> Option<Command<'a>>
     ensures found { IfSome result (λ found. (options : _) → AreOptions options terms → IsSpelled (command.now ∷ signature.now ∷ net.now ∷ options) (job_of found)) }
     ensures none { IfNone result ((options : _) (job : _) → IsSpelled (command.now ∷ signature.now ∷ net.now ∷ options) job → ⊥) }
 {

@@ -10,13 +10,20 @@ pub enum Fault {
     /// The words fit no shape of a command.
     Words,
     /// A file that the shelf does not hold.
-    Absent { file: Name },
+    Absent {
+        file: Name,
+    },
     /// A file of more than 67,108,864 bytes.
-    TooLong { file: Name },
+    TooLong {
+        file: Name,
+    },
     /// The signature or its field is refused.
     Signature(SignatureFault),
     /// The netlist of this file, or its binding to the signature, is refused.
-    Netlist { file: Name, fault: NetlistFault },
+    Netlist {
+        file: Name,
+        fault: NetlistFault,
+    },
     /// A stage has more terms than the bound.
     TooManyTerms {
         stage: StageName,

@@ -29,6 +29,8 @@ mod rows_6;
 mod rows_7;
 #[cfg(test)]
 mod rows_8;
+#[cfg(test)]
+mod rows_9;
 mod setting;
 mod setting_laws;
 mod stop;

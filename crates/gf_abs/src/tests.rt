@@ -134,6 +134,12 @@ fn failures_outside(rt: HostRuntime) -> Result<(), Fail> {
 }
 
 #[test]
+fn worked_rows_9(rt: HostRuntime) -> Result<(), Fail> {
+    assert_eq!(rt; other(rt.alloc(), &crate::rows_9::ROWS)?, None);
+    Ok(())
+}
+
+#[test]
 fn words_and_places(rt: HostRuntime) -> Result<(), Fail> {
     let alloc = rt.alloc();
     let refused = "fault 01: words\n";
@@ -149,6 +155,11 @@ fn words_and_places(rt: HostRuntime) -> Result<(), Fail> {
         (&["--help"], 2, refused),
         (&["--version"], 2, refused),
         (&["bits", "x.v", "mul"], 2, "fault 10: x.v is absent\n"),
+        (&["bits", "s4", "mul", "--terms"], 2, refused),
+        (&["bits", "s4", "mul", "--terms", "04"], 2, refused),
+        (&["bits", "s4", "mul", "--terms", "+4"], 2, refused),
+        (&["bits", "--terms", "4", "s4", "mul"], 2, refused),
+        (&["bits", "s4", "mul", "--cycles", "1"], 2, refused),
         (
             &["bits", "sum", "mul"],
             0,

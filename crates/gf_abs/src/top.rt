@@ -116,11 +116,13 @@ fn answer<S: Shelf>(alloc: Global, words: &[String], shelf: &mut S) -> Result<Ve
 {
     match read_words(words) {
         None => Err(Stop::Refused(Fault::Words)),
-        Some(Command {
-            signature,
-            net,
-            terms,
-        }) => bits_answer(alloc, signature, net, terms, shelf),
+        Some(
+            Command {
+                signature,
+                net,
+                terms,
+            },
+        ) => bits_answer(alloc, signature, net, terms, shelf),
     }
 }
 
