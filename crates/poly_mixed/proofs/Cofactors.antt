@@ -169,9 +169,9 @@ none_of_absent bit (t ∷ ts) all = ap (λ b. cond b ((without_bit bit t.0, t.1)
 pub absent_of_none : (bit : ℕ) (ts : Terms) → cofactors bit ts ≡ [] → LacksBit bit ts
 absent_of_none bit [] none = tt
 absent_of_none bit (t ∷ ts) none = elim (has_bit bit t.0) as (λ b. has_bit bit t.0 ≡ b → LacksBit bit (t ∷ ts)) [
-    | true ↦ λ has. let more : (without_bit bit t.0, t.1) ∷ cofactors bit ts ≡ [] = sym (ap (λ b. cond b ((without_bit bit t.0, t.1) ∷ cofactors bit ts) (cofactors bit ts)) has) ∙ none in absurd (cc)
-    | false ↦ λ lacks. (lacks, absent_of_none bit ts (sym (ap (λ b. cond b ((without_bit bit t.0, t.1) ∷ cofactors bit ts) (cofactors bit ts)) lacks) ∙ none))
-  ] refl
+  | true ↦ λ has. let more : (without_bit bit t.0, t.1) ∷ cofactors bit ts ≡ [] = sym (ap (λ b. cond b ((without_bit bit t.0, t.1) ∷ cofactors bit ts) (cofactors bit ts)) has) ∙ none in absurd (cc)
+  | false ↦ λ lacks. (lacks, absent_of_none bit ts (sym (ap (λ b. cond b ((without_bit bit t.0, t.1) ∷ cofactors bit ts) (cofactors bit ts)) lacks) ∙ none))
+] refl
 
 pub all_lacking : (bit : ℕ) (ts : Terms) → LacksBit bit ts → lacking bit ts ≡ ts
 all_lacking bit [] all = refl

@@ -77,10 +77,12 @@ module _ (net : NetList) (sound : IsSound net) (levels : Levels) (are : AreLevel
       let d : ℕ = t - i - 1 in
       let place : length order - 1 - t + suc d ≡ length order - 1 - i = omega arith in
       let last : slice_get (reverse order) (length order - 1 - t + suc d) ≡ Some q = ap (λ k. slice_get (reverse order) k) place ∙ reversed order i q at_i in
-      let before = before_all net levels (reverse order) is d (length order - 1 - t) p q g h (reversed order t p at) last gate gate_h in
-      (not_later (rank_at levels g.out) (rank_at levels h.out) p q before, λ same.
-      let p_q : p ≡ q = gates_apart net p q g h sound.inside sound.one gate gate_h same in
-      not_self (rank_at levels g.out) (rank_at levels h.out) p q (ap (rank_at levels) same) p_q before)
+      let before = before_all net levels (reverse order) is d (length order - 1 - t) p q g h (reversed order t p at) last gate gate_h in (
+        not_later (rank_at levels g.out) (rank_at levels h.out) p q before,
+        λ same.
+            let p_q : p ≡ q = gates_apart net p q g h sound.inside sound.one gate gate_h same in
+            not_self (rank_at levels g.out) (rank_at levels h.out) p q (ap (rank_at levels) same) p_q before,
+      )
 
 module _ (net : NetList) (sound : IsSound net) (variables : List ℕ) (stands : (n : ℕ) → n < nets net → Has variables n) where
   abbrev moved : Point → GateValue → Point

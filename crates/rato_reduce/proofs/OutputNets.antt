@@ -117,9 +117,9 @@ nil = []
 pub output_inside : (net : NetList) (words : List BoundWord) → ((word : BoundWord) (n : ℕ) → Has words word → Has word.nets n → StandsOn net word.role n) → (n : ℕ) → Has (output_bits words) n → n < nets net
 output_inside net [] places n has = let got = has.1 in absurd (cc)
 output_inside net (word ∷ words) places n has = elim (Has_cases (output_bits_with word.role word.nets) (output_bits words) n has) [
-    | inl own ↦ by word.role refl own
-    | inr rest ↦ output_inside net words (λ u m in_words in_u. places u m (suc in_words.0, in_words.1) in_u) n rest
-  ]
+  | inl own ↦ by word.role refl own
+  | inr rest ↦ output_inside net words (λ u m in_words in_u. places u m (suc in_words.0, in_words.1) in_u) n rest
+]
   where
     nothing : Has (nil) n → ⊥
     nothing got = let none = got.1 in absurd (cc)

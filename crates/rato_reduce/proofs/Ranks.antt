@@ -12,9 +12,9 @@ use Rattle.stage_model.specs.Variables.{rank_in}
 pub at_rank : (variables : List ℕ) (n : ℕ) → Has variables n → slice_get variables (rank_in variables n) ≡ Some n
 at_rank [] n has = let got = has.1 in absurd (cc)
 at_rank (m ∷ ms) n has = elim (nat_eq_or m n) [
-    | inl same ↦ ap (λ b. slice_get (m ∷ ms) (cond (not b) (1 + rank_in ms n) 0)) (eq-eqb m n same) ∙ ap Some same
-    | inr other ↦ ap (λ b. slice_get (m ∷ ms) (cond (not b) (1 + rank_in ms n) 0)) (ne_eqb m n other) ∙ (next (rank_in ms n) ∙ at_rank ms n (rest other has))
-  ]
+  | inl same ↦ ap (λ b. slice_get (m ∷ ms) (cond (not b) (1 + rank_in ms n) 0)) (eq-eqb m n same) ∙ ap Some same
+  | inr other ↦ ap (λ b. slice_get (m ∷ ms) (cond (not b) (1 + rank_in ms n) 0)) (ne_eqb m n other) ∙ (next (rank_in ms n) ∙ at_rank ms n (rest other has))
+]
   where
     rest : m ≢ n → Has (m ∷ ms) n → Has ms n
     rest other (zero, got) = absurd (other (cc))

@@ -18,11 +18,7 @@ use poly_mixed::{Generator, Poly, Steps, table_poly};
 use std::alloc::{AllocError, Global};
 
 // The ranks of a gate's inputs.
-fn input_ranks(
-    alloc: Global,
-    circuit: &Combinational,
-    gate: &Gate,
-) -> Result<Vec<u32>, AllocError>
+fn input_ranks(alloc: Global, circuit: &Combinational, gate: &Gate) -> Result<Vec<u32>, AllocError>
     requires sound { IsSound circuit.now.net }
     requires gate { Has circuit.now.net.gates gate.now }
     ensures { IfOk result (λ list. list.items ≡ map (rank_in (variables (nets circuit.now.net) circuit.now.bound.words)) gate.now.inputs) }
