@@ -12,3 +12,5 @@ pub mod CommandLemmas
 pub mod NamedLemmas
 pub mod RoleLemmas
 pub mod StepLemmas
+pub mod AnswerDetermined
+pub mod CompleteLemmas

@@ -48,3 +48,8 @@ Writes answer missed status old new = (text : List ℕ) × IsText answer missed 
 abbrev pub WritesPart : Outcome Fault Reply → (missed failed : Type 0) → Option (List ℕ) → Option (List ℕ) → Type 0
 WritesPart answer missed failed old new =
     failed × (status : ℕ) × (text : List ℕ) × (n : ℕ) × IsText answer missed status text × (n < length text) × Appends old new (take n text)
+
+-- the answer or the fault's line was written whole, and the status is its own
+abbrev pub IsWritten : Result Reply Fault → ℕ → Option (List ℕ) → Option (List ℕ) → Type 0
+IsWritten (Ok reply) status old new = (status ≡ reply.status) × Appends old new reply.text
+IsWritten (Err fault) status old new = (status ≡ fault_status fault) × Appends old new (fault_line fault)

@@ -2,6 +2,7 @@
 //! `run` carries the contract of the whole; each command is a step behind it.
 #![tactic(auto)]
 
+mod answer_laws;
 #[cfg(test)]
 mod basis_tests;
 mod bits;
@@ -38,6 +39,7 @@ mod stop;
 mod tests;
 mod top;
 
+pub use answer_laws::one_answer_or_fault;
 pub use command::Command;
 pub use fault::{BindingFault, Fault, NetlistFault, SignatureFault, StageName};
 pub use netlist_laws::one_netlist_or_fault;

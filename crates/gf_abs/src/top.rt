@@ -6,7 +6,7 @@ ghost use Rattle.job_io.specs.SureShelf.{sure_files, sure_misses};
 ghost use Rattle.gf_abs.specs.Answer.{Read, TextAnswer, NetAnswer, JobAnswer, Answer};
 ghost use Rattle.gf_abs.specs.Command.{Bits};
 ghost use Rattle.gf_abs.specs.Setting.{setting_value, IsReady};
-ghost use Rattle.gf_abs.specs.Stop.{printed, GivesBy, GivesBytes, IsText, Writes, WritesPart};
+ghost use Rattle.gf_abs.specs.Stop.{printed, GivesBy, GivesBytes, IsText, Writes, WritesPart, IsWritten};
 
 use crate::bits::bits_line;
 use crate::command::{Command, read_words};
@@ -158,6 +158,12 @@ pub fn run<S: Shelf, K: Sink>(alloc: Global, words: &[String], shelf: &mut S, si
         ⊎ WritesPart (Answer (map string_bytes words.now) (S.held shelf.old)) (Rose (S.misses shelf.old) (S.misses shelf.new))
         (Rose (K.faults sink.old) (K.faults sink.new)) (K.written sink.old) (K.written sink.new) }
     ensures no_memory { result ≡ 5 → Keeps (K.written sink.old) (K.written sink.new) }
+
+    // Where the shelf tells what it holds, the answer or fault that comes of the words, of which there is one at most, was
+    // written whole, unless the outside or memory fails.
+    ensures complete { (files : _) (outcome : _) → S.held shelf.old ≡ Some files → Answer (map string_bytes words.now) (Some files) outcome
+        → (Rose (S.faults shelf.old) (S.faults shelf.new) → ⊥) → (Rose (K.faults sink.old) (K.faults sink.new) → ⊥)
+        → (result ≡ 5) ⊎ IsWritten outcome result (K.written sink.old) (K.written sink.new) }
 
     // What the shelf holds is not changed, and counts never fall.
     ensures held { S.held shelf.new ≡ S.held shelf.old }

@@ -1,0 +1,34 @@
+-- The one answer that may come is the one that was written.
+use Rattle.std.proofs.Common.{◌≡◌, ◌⊎◌, ◌∙◌, ap, sym, refl, subst, inl, inr, ℕ, List, Option, None, Some, Result, Ok, Err}
+use Rattle.std.specs.Io.KnownBytes.{Appends, Keeps}
+use Rattle.text_core.specs.Outcome.{Determined}
+use Rattle.job_io.specs.Shelf.{Files}
+use Rattle.gf_abs.specs.Command.{Word}
+use Rattle.gf_abs.specs.Reply.{Reply}
+use Rattle.gf_abs.specs.Answer.{Answer}
+use Rattle.gf_abs.specs.Fault.{fault_line, fault_status}
+use Rattle.gf_abs.specs.Stop.{IsText, Writes, IsWritten}
+use Rattle.gf_abs.specs.declared.fault.Fault.{Fault}
+use Rattle.gf_abs.proofs.AnswerDetermined.{answer_determined}
+
+module _ (words : List Word) (files : Files) (old new : Option (List ℕ)) where
+  same : (a b : Result Reply Fault) (status : ℕ) → Answer words (Some files) a → Answer words (Some files) b → IsWritten a status old new → IsWritten b status old new
+  same a b status one other written =
+      let P : Result Reply Fault → Type 0 = λ o. IsWritten o status old new in
+      subst P (answer_determined files words a b one other) written
+
+  by_text : (missed : Type 0) (status : ℕ) (text : List ℕ) → IsText (Answer words (Some files)) missed status text → Appends old new text → (outcome : Result Reply Fault) → Answer words (Some files) outcome → IsWritten outcome status old new
+  by_text missed status text (inl reply) appends outcome may = same (Ok (record { status = status; text = text })) outcome status reply may (refl, appends)
+  by_text missed status text (inr refused) appends outcome may =
+      let P : List ℕ → Type 0 = λ t. Appends old new t in
+      same (Err refused.0) outcome status refused.1 may (refused.4, subst P refused.3 appends)
+
+  pub written : (held : Option Files) (missed : Type 0) (status : ℕ) → held ≡ Some files → Writes (Answer words held) missed status old new → (outcome : Result Reply Fault) → Answer words (Some files) outcome → IsWritten outcome status old new
+  written held missed status told writes outcome may =
+      let P : Option Files → Type 0 = λ h. Writes (Answer words h) missed status old new in
+      let w = subst P told writes in
+      by_text missed status w.0 w.1 w.2 outcome may
+
+pub keeps_same : (bytes : Option (List ℕ)) → Keeps bytes bytes
+keeps_same None = tt
+keeps_same (Some bytes) = refl
