@@ -14,3 +14,4 @@ pub mod RoleLemmas
 pub mod StepLemmas
 pub mod AnswerDetermined
 pub mod CompleteLemmas
+pub mod StageLemmas

@@ -73,7 +73,7 @@ all_below : (count : ℕ) (rs : List ℕ) → ((k r : ℕ) → slice_get rs k �
 all_below count [] each = tt
 all_below count (r ∷ rs) each = (each 0 r refl, all_below count rs (λ k q got. each (suc k) q got))
 
-named_terms : (count : ℕ) (ts : Terms) → ((rank : ℕ) → count ≤ rank → LacksBit rank ts) → AllByRecursion (λ t. AllByRecursion (λ r. r < count) t.0.bits) ts
+pub named_terms : (count : ℕ) (ts : Terms) → ((rank : ℕ) → count ≤ rank → LacksBit rank ts) → AllByRecursion (λ t. AllByRecursion (λ r. r < count) t.0.bits) ts
 named_terms count [] lacks = tt
 named_terms count (t ∷ ts) lacks = (all_below count t.0.bits below, named_terms count ts (λ rank high. (lacks rank high).1))
   where

@@ -3,6 +3,8 @@ use Rattle.std.specs.Prelude.{◌≡◌, ◌≢◌, ◌⊎◌, ℕ, ◌≤◌, L
 use Rattle.std.specs.List.{starts_with, ends_with}
 use Rattle.text_core.specs.Numbers.{IsDecimal}
 use Rattle.gf_abs.specs.declared.command.Command.{Command}
+use Rattle.gf_abs.specs.declared.command.Kind.{Kind}
+use Rattle.gf_abs.specs.declared.command.Kind.TheVariants as kinds
 
 -- a word, as its bytes
 abbrev pub Word : Type 0
@@ -11,10 +13,21 @@ Word = List ℕ
 -- a command with its operands
 pub data Job : Type 0 where
   Bits : (signature net : Word) (terms : ℕ) → Job
+  Abstract : (signature net : Word) (terms : ℕ) → Job
+
+-- the command of this kind
+abbrev pub job_with : Kind → Word → Word → ℕ → Job
+job_with kinds.Bits signature net terms = Bits signature net terms
+job_with kinds.Abstract signature net terms = Abstract signature net terms
+
+-- the word of a command of this kind
+abbrev pub name_of : Kind → Word
+name_of kinds.Bits = codes "bits"
+name_of kinds.Abstract = codes "abstract"
 
 -- the command that the program's words gave
 abbrev pub job_of : Command → Job
-job_of command = Bits command.signature.now command.net.now command.terms
+job_of command = job_with command.kind command.signature.now command.net.now command.terms
 
 -- no control byte, which would break the line of a fault
 abbrev pub HasPlainBytes : Word → Type 0
@@ -50,6 +63,14 @@ AreOptions options terms =
     ((options ≡ []) × (terms ≡ 65536))
     ⊎ ((number : Word) × (options ≡ codes "--terms" ∷ number ∷ []) × IsTermCount number terms)
 
--- the words of a command, with its options at the end
+-- the word of a command with a signature and a netlist, its operands, and its options at the end
+pub record IsDerived (words : List Word) (name signature net : Word) (terms : ℕ) : Type 0 where
+  pub options : List Word
+  pub words_are : words ≡ name ∷ signature ∷ net ∷ options
+  pub files : AreFiles signature net
+  pub set : AreOptions options terms
+
+-- the words of a command
 abbrev pub IsSpelled : List Word → Job → Type 0
-IsSpelled words (Bits signature net terms) = (options : List Word) × (words ≡ codes "bits" ∷ signature ∷ net ∷ options) × AreFiles signature net × AreOptions options terms
+IsSpelled words (Bits signature net terms) = IsDerived words (codes "bits") signature net terms
+IsSpelled words (Abstract signature net terms) = IsDerived words (codes "abstract") signature net terms

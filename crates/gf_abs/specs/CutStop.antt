@@ -1,11 +1,13 @@
 -- Why no output comes where a cut is too large.
-use Rattle.std.specs.Prelude.{ℕ}
+use Rattle.std.specs.Prelude.{◌≡◌, ℕ, ◌<◌, List}
 use Rattle.poly_mixed.specs.declared.stage.ReduceFault.{ReduceFault}
 use Rattle.poly_mixed.specs.declared.stage.ReduceFault.TheVariants as reduce
 use Rattle.poly_mixed.specs.declared.stage.Stage.{Stage}
 use Rattle.poly_mixed.specs.declared.stage.Stage.TheVariants.{Cut, WordProduct, WordSum, SpecProduct, SpecSum, InstanceProduct, InstanceSum}
+use Rattle.gf_abs.specs.declared.fault.Fault.{Fault}
 use Rattle.gf_abs.specs.declared.fault.Fault.TheVariants as faults
 use Rattle.gf_abs.specs.declared.fault.StageName.TheVariants as names
+use Rattle.gf_abs.specs.AbstractOf.{stage_name}
 use Rattle.gf_abs.specs.declared.stop.Stop.{Stop}
 use Rattle.gf_abs.specs.declared.stop.Stop.TheVariants as stops
 
@@ -38,3 +40,31 @@ stage_stop (InstanceSum instance term) n bound = stops.OutOfMemory
 abbrev pub cut_stop : ReduceFault → ℕ → Stop
 cut_stop (reduce.TooManyTerms stage n) bound = stage_stop stage n bound
 cut_stop reduce.OutOfMemory bound = stops.OutOfMemory
+
+-- a stage of one of so many words
+abbrev pub IsWordName : ℕ → Stage → Type 0
+IsWordName count (Cut t) = ⊥
+IsWordName count (WordProduct word term bit) = word < count
+IsWordName count (WordSum word term) = word < count
+IsWordName count (SpecProduct term factor) = ⊥
+IsWordName count (SpecSum term) = ⊥
+IsWordName count (InstanceProduct instance term factor) = ⊥
+IsWordName count (InstanceSum instance term) = ⊥
+
+-- a stage of words is too large, or memory is wanted
+abbrev pub IsOfWords : ℕ → ReduceFault → Type 0
+IsOfWords count (reduce.TooManyTerms stage n) = IsWordName count stage
+IsOfWords count reduce.OutOfMemory = Unit {0}
+
+-- the refusal of the stage, by its name, or want of memory, which may always come
+abbrev pub IsWordStop : List (List ℕ × ℕ) → ReduceFault → ℕ → Stop → Type 0
+IsWordStop words fault bound stops.OutOfMemory = Unit {0}
+IsWordStop words fault bound stops.Outside = ⊥
+IsWordStop words reduce.OutOfMemory bound (stops.Refused refused) = ⊥
+IsWordStop words (reduce.TooManyTerms stage n) bound (stops.Refused refused) = refused ≡ faults.TooManyTerms (stage_name words stage) n bound
+
+-- it is this refusal, or memory is wanted
+abbrev pub IsRefusal : Fault → Stop → Type 0
+IsRefusal fault (stops.Refused refused) = refused ≡ fault
+IsRefusal fault stops.Outside = ⊥
+IsRefusal fault stops.OutOfMemory = Unit {0}

@@ -10,6 +10,7 @@ pub mod NetlistOf
 pub mod NetlistReading
 pub mod Labelling
 pub mod BitsOf
+pub mod AbstractOf
 pub mod CutStop
 pub mod Answer
 pub mod Stop

@@ -76,8 +76,8 @@ fn line_over<F: Field>(
     Ok(line)
 }
 
-// The basis of the output word.
-fn output_basis<'a>(bound: &Bound, bases: &'a [Basis]) -> &'a Basis
+/// The basis of the output word.
+pub fn output_basis<'a>(bound: &Bound, bases: &'a [Basis]) -> &'a Basis
     requires one { (net : _) × IsBoundTo net bound.now }
     requires long { length bases.now ≡ length bound.now.words }
     ensures basis { elements_of result.now ≡ basis_of_output bound.now.words (elements_of_each bases.now) }
@@ -101,8 +101,8 @@ fn is_output(role: Role) -> bool
     }
 }
 
-// Why no output comes where a cut is too large.
-fn refusal(fault: ReduceFault, bound: u32) -> Stop
+/// Why no output comes where a cut is too large.
+pub fn refusal(fault: ReduceFault, bound: u32) -> Stop
     requires { IsOfCuts fault }
     ensures { result ≡ cut_stop fault bound }
 {
@@ -120,8 +120,8 @@ fn refusal(fault: ReduceFault, bound: u32) -> Stop
     }
 }
 
-// The output word's name, ` = ` and the polynomial's text.
-fn polynomial_line(alloc: Global, poly: &Poly, labels: &Labels) -> Result<Vec<u8>, AllocError>
+/// The output word's name, ` = ` and the polynomial's text.
+pub fn polynomial_line(alloc: Global, poly: &Poly, labels: &Labels) -> Result<Vec<u8>, AllocError>
     requires { HasNames labels.now poly.now.terms }
     ensures { IfOk result (λ line. line.items ≡ labels.now.output ++ (codes " = " ++ (text labels.now poly.now.terms ++ codes "\n"))) }
 {

@@ -1,15 +1,25 @@
 //! The words of the command line.
 ghost use Rattle.std.specs.Prelude.{◌≡◌, [], ◌∷◌, ◌↔◌, map, string_bytes, IsTrue, IfSome, IfNone, Contains};
-ghost use Rattle.gf_abs.specs.Command.{IsOperand, IsBlifName, IsTermCount, AreOptions, IsSpelled, job_of};
+ghost use Rattle.gf_abs.specs.Command.{IsOperand, IsBlifName, IsTermCount, AreOptions, IsSpelled, job_of, name_of};
 
 use text_core::read_decimal;
 
-/// The command `bits`, which prints the output word's polynomial in the input bits, by the names of its files.
+/// What a command prints of a netlist.
+#[derive(Clone, Copy, Debug)]
+pub enum Kind {
+    /// `bits`: the output word's polynomial in the input bits.
+    Bits,
+    /// `abstract`: the output word's polynomial in the input words.
+    Abstract,
+}
+
+/// A command with the names of its files.
 #[derive(Clone, Copy, Debug)]
 pub struct Command<'a> {
+    pub kind: Kind,
     pub signature: &'a str,
     pub net: &'a str,
-    /// The most terms that a cut may have, 1 to 262,144.
+    /// The most terms that a stage may have, 1 to 262,144.
     pub terms: u32,
 }
 
@@ -104,12 +114,23 @@ fn of_three<'a>(command: &str, signature: &'a str, net: &'a str, terms: u32) -> 
     if !is_operand(signature) || !is_operand(net) || !is_blif_name(net) {
         return None;
     }
+    let kind = kind_of(command)?;
+    Some(Command {
+        kind,
+        signature,
+        net,
+        terms,
+    })
+}
+
+// The kind of a command.
+fn kind_of(command: &str) -> Option<Kind>
+    ensures found { IfSome result (λ kind. command.now ≡ name_of kind) }
+    ensures none { IfNone result ((kind : _) → command.now ≡ name_of kind → ⊥) }
+{
     match command {
-        "bits" => Some(Command {
-            signature,
-            net,
-            terms,
-        }),
+        "bits" => Some(Kind::Bits),
+        "abstract" => Some(Kind::Abstract),
         _ => None,
     }
 }

@@ -38,9 +38,10 @@ mod stop;
 #[cfg(test)]
 mod tests;
 mod top;
+mod words;
 
 pub use answer_laws::one_answer_or_fault;
-pub use command::Command;
+pub use command::{Command, Kind};
 pub use fault::{BindingFault, Fault, NetlistFault, SignatureFault, StageName};
 pub use netlist_laws::one_netlist_or_fault;
 pub use setting_laws::{each_setting_is_sound, one_setting_or_fault};

@@ -3,17 +3,17 @@ ghost use Rattle.std.specs.Prelude.{◌≡◌, ◌≢◌, ◌⊎◌, ◌≤◌, 
 ghost use Rattle.std.specs.Io.KnownBytes.{Keeps};
 ghost use Rattle.job_io.specs.Counts.{Rose};
 ghost use Rattle.job_io.specs.SureShelf.{sure_files, sure_misses};
-ghost use Rattle.gf_abs.specs.Answer.{Read, TextAnswer, NetAnswer, JobAnswer, Answer};
-ghost use Rattle.gf_abs.specs.Command.{Bits};
+ghost use Rattle.gf_abs.specs.Answer.{Read, TextAnswer, NetAnswer, FilesAnswer, Answer};
 ghost use Rattle.gf_abs.specs.Setting.{setting_value, IsReady};
 ghost use Rattle.gf_abs.specs.Stop.{printed, GivesBy, GivesBytes, IsText, Writes, WritesPart, IsWritten};
 
 use crate::bits::bits_line;
-use crate::command::{Command, read_words};
+use crate::command::{Command, Kind, read_words};
 use crate::fault::{Fault, status_of};
 use crate::fault_line::write_fault;
 use crate::netlist::circuit_of;
 use crate::setting::{Setting, setting_of};
+use crate::words::abstract_line;
 use crate::stop::Stop;
 use job_io::{Shelf, ShelfFault, Sink, SureShelf, SureSink, put_all};
 use net_core::Name;
@@ -43,9 +43,10 @@ fn read_file<S: Shelf>(alloc: Global, shelf: &mut S, name: &str) -> Result<Vec<u
     }
 }
 
-// The output of `bits`.
-fn bits_answer<S: Shelf>(
+// The output of a command with a signature and a netlist.
+fn files_answer<S: Shelf>(
     alloc: Global,
+    kind: Kind,
     signature: &str,
     net: &str,
     terms: u32,
@@ -53,7 +54,7 @@ fn bits_answer<S: Shelf>(
 ) -> Result<Vec<u8>, Stop>
     ensures held { S.held shelf.new ≡ S.held shelf.old }
     ensures never_fall { (S.faults shelf.old ≤ S.faults shelf.new) × (S.misses shelf.old ≤ S.misses shelf.new) }
-    ensures gives { GivesBy printed result (JobAnswer (S.held shelf.old) (Bits signature.now net.now terms))
+    ensures gives { GivesBy printed result (FilesAnswer kind (S.held shelf.old) signature.now net.now terms)
         (Rose (S.misses shelf.old) (S.misses shelf.new)) (Rose (S.faults shelf.old) (S.faults shelf.new)) }
 {
     let text = match read_file(alloc, shelf, signature) {
@@ -64,12 +65,13 @@ fn bits_answer<S: Shelf>(
         Ok(setting) => setting,
         Err(stop) => return Err(stop),
     };
-    net_answer(alloc, &setting, net, terms, shelf)
+    net_answer(alloc, kind, &setting, net, terms, shelf)
 }
 
 // The output over a netlist, after the signature was taken.
 fn net_answer<S: Shelf>(
     alloc: Global,
+    kind: Kind,
     setting: &Setting,
     net: &str,
     terms: u32,
@@ -78,19 +80,20 @@ fn net_answer<S: Shelf>(
     requires { IsReady setting.now }
     ensures held { S.held shelf.new ≡ S.held shelf.old }
     ensures never_fall { (S.faults shelf.old ≤ S.faults shelf.new) × (S.misses shelf.old ≤ S.misses shelf.new) }
-    ensures gives { GivesBy printed result (NetAnswer (S.held shelf.old) (setting_value setting.now) net.now terms)
+    ensures gives { GivesBy printed result (NetAnswer kind (S.held shelf.old) (setting_value setting.now) net.now terms)
         (Rose (S.misses shelf.old) (S.misses shelf.new)) (Rose (S.faults shelf.old) (S.faults shelf.new)) }
 {
     let text = match read_file(alloc, shelf, net) {
         Ok(text) => text,
         Err(stop) => return Err(stop),
     };
-    text_answer(alloc, setting, net, terms, &text)
+    text_answer(alloc, kind, setting, net, terms, &text)
 }
 
 // The output over a netlist's text.
 fn text_answer(
     alloc: Global,
+    kind: Kind,
     setting: &Setting,
     file: &str,
     terms: u32,
@@ -98,13 +101,16 @@ fn text_answer(
 ) -> Result<Vec<u8>, Stop>
     requires setting { IsReady setting.now }
     requires short { length text.now ≤ 67108864 }
-    ensures { GivesBy printed result (TextAnswer (setting_value setting.now) file.now terms text.now) ⊥ ⊥ }
+    ensures { GivesBy printed result (TextAnswer kind (setting_value setting.now) file.now terms text.now) ⊥ ⊥ }
 {
     let circuit = match circuit_of(alloc, setting.signature.words(), file, text) {
         Ok(circuit) => circuit,
         Err(stop) => return Err(stop),
     };
-    bits_line(alloc, setting, &circuit, terms)
+    match kind {
+        Kind::Bits => bits_line(alloc, setting, &circuit, terms),
+        Kind::Abstract => abstract_line(alloc, setting, &circuit, terms),
+    }
 }
 
 // The output of the words.
