@@ -5,5 +5,7 @@
 mod eliminate;
 mod first_cut;
 mod reduce;
+#[cfg(test)]
+mod tests;
 
 pub use reduce::reduce_bits;
