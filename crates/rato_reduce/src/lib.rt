@@ -4,6 +4,8 @@
 
 mod eliminate;
 mod first_cut;
+#[cfg(test)]
+mod net_tests;
 mod reduce;
 #[cfg(test)]
 mod tests;

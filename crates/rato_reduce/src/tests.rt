@@ -1,20 +1,17 @@
-//! Circuits over the field of 4 elements, worked by hand: what the elimination records, where it stops, and values.
+//! A multiplier over the field of 4 elements, worked by hand: what the elimination records, where it stops, and values.
 ghost use Rattle.std.specs.Prelude.{◌≡◌, ◌≤◌, ℕ, Some, map, length, filter, All, IfOk, IsTrue, ◌↔◌};
-ghost use Rattle.gf_basis.specs.BasisParts.{IsOver};
 ghost use Rattle.net_core.specs.NetList.{nets};
 ghost use Rattle.net_words.specs.Binding.{AreWords};
 ghost use Rattle.net_words.specs.Signature.{is_output as is_output_word, input_count as count_inputs};
 ghost use Rattle.poly_mixed.specs.Polynomial.{IsReduced};
 
 use crate::reduce_bits;
-use circuit_model::CircuitWord;
 use gf_basis::Basis;
 use gf_field::{Field, Ring2k, is_element};
 use irreducible::Proved;
 use net_core::{Net, NetFault, NetMaker};
 use net_words::{Combinational, Role, WordText, bind, read_signature};
 use poly_mixed::{Generator, NoSteps, Poly, ReduceFault, Stage, Steps, Term};
-use stage_model::cut_size;
 use std::alloc::{AllocError, Global};
 use std::process::Abort;
 use std::test::Fail;
@@ -56,13 +53,17 @@ impl Steps for Recorder {
 }
 
 // The field of 4 elements, whose element 2 is a root of x^2 + x + 1.
-fn field(rt: &impl Abort) -> Proved<Ring2k> {
+pub(crate) fn field(rt: &impl Abort) -> Proved<Ring2k> {
     let ring = Ring2k::new(0x7).expect(rt, "a modulus");
     Proved::new(ring).ok().expect(rt, "a field")
 }
 
 // A maker with nets of these names, numbered from 0.
-fn with_names(rt: &impl Abort, alloc: Global, names: &[&str]) -> Result<NetMaker, NetFault>
+pub(crate) fn with_names(
+    rt: &impl Abort,
+    alloc: Global,
+    names: &[&str],
+) -> Result<NetMaker, NetFault>
     ensures { IfOk result (λ maker. length names.now ≤ nets maker) }
 {
     let mut maker = NetMaker::new(alloc);
@@ -136,7 +137,7 @@ fn have_nets(words: &[WordText], k: usize) -> bool
 }
 
 // The net with the words of a signature's text.
-fn circuit(rt: &impl Abort, alloc: Global, net: Net, text: &[u8]) -> Combinational {
+pub(crate) fn circuit(rt: &impl Abort, alloc: Global, net: Net, text: &[u8]) -> Combinational {
     assert!(rt; text.len() < 100);
     let signature = read_signature(alloc, text).ok().expect(rt, "a signature");
     assert!(rt; can_be_bound(signature.words()));
@@ -171,7 +172,7 @@ fn reduced<F: Field, T: Steps>(
 }
 
 // How many terms the last cut has, or the refusal.
-fn outcome<F: Field>(
+pub(crate) fn outcome<F: Field>(
     rt: &impl Abort,
     alloc: Global,
     field: &F,
@@ -183,7 +184,7 @@ fn outcome<F: Field>(
 }
 
 // The refusal of a cut.
-fn over(cut: u32, terms: u64) -> Result<usize, ReduceFault> {
+pub(crate) fn over(cut: u32, terms: u64) -> Result<usize, ReduceFault> {
     Err(ReduceFault::TooManyTerms {
         stage: Stage::Cut(cut),
         terms,
@@ -191,7 +192,7 @@ fn over(cut: u32, terms: u64) -> Result<usize, ReduceFault> {
 }
 
 // The output's element where the first four ranks have the bits of a number, lowest first.
-fn value_at<F: Field>(
+pub(crate) fn value_at<F: Field>(
     rt: &impl Abort,
     alloc: Global,
     field: &F,
