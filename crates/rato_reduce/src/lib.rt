@@ -4,6 +4,10 @@
 
 mod eliminate;
 mod first_cut;
+#[cfg(test)]
+mod net_tests;
 mod reduce;
+#[cfg(test)]
+mod tests;
 
 pub use reduce::reduce_bits;
