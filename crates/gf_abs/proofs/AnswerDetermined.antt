@@ -1,5 +1,5 @@
 -- At most one answer comes of the words, where the shelf tells what it holds.
-use Rattle.std.proofs.Common.{◌≡◌, ◌⊎◌, ◌∙◌, ap, sym, refl, subst, inl, inr, ℕ, ◌<◌, ◌≤◌, ◌+◌, List, [], ◌∷◌, length, Option, None, Some, Result, Ok, Err, arith, codes}
+use Rattle.std.proofs.Common.{◌≡◌, ◌⊎◌, ◌∙◌, ap, sym, refl, subst, inl, inr, ℕ, ◌<◌, ◌≤◌, ◌+◌, List, [], ◌∷◌, length, get_or, Option, None, Some, Result, Ok, Err, arith, codes}
 use Rattle.std.specs.FinMap.{get}
 use Rattle.text_core.specs.Outcome.{Outcome, ◌>>=◌, Determined}
 use Rattle.text_core.specs.Numbers.{value_of}
@@ -17,17 +17,20 @@ use Rattle.stage_model.specs.Stage.{IsFirstOver}
 use Rattle.gf_abs.specs.declared.fault.Fault.{Fault}
 use Rattle.gf_abs.specs.declared.fault.Fault.TheVariants.{Words, Signature, Netlist, Absent, TooLong, TooManyTerms}
 use Rattle.gf_abs.specs.declared.fault.StageName.TheVariants.{Cut, WordProduct, WordSum}
-use Rattle.gf_abs.specs.Command.{Word, Job, Bits, IsSpelled, AreOptions}
+use Rattle.gf_abs.specs.declared.command.Kind.{Kind}
+use Rattle.gf_abs.specs.declared.command.Kind.TheVariants as kinds
+use Rattle.gf_abs.specs.Command.{Word, Job, Bits, Abstract, IsDerived, IsSpelled, AreOptions}
 use Rattle.gf_abs.specs.Reply.{Reply}
 use Rattle.gf_abs.specs.SettingValue.{SettingValue}
 use Rattle.gf_abs.specs.SettingOf.{SettingOf}
 use Rattle.gf_abs.specs.SettingSound.{IsSoundSetting}
 use Rattle.gf_abs.specs.NetlistOf.{NetlistOf}
 use Rattle.gf_abs.specs.BitsOf.{BitsOf, IsLastCut, cuts_of, polynomial_line}
-use Rattle.gf_abs.specs.Answer.{Read, TextAnswer, NetAnswer, JobAnswer, Answer, Spelled}
+use Rattle.gf_abs.specs.Answer.{Read, DerivedOf, TextAnswer, NetAnswer, FilesAnswer, JobAnswer, Answer, Spelled}
 use Rattle.gf_abs.proofs.SettingDetermined.{setting_determined}
 use Rattle.gf_abs.proofs.SettingSoundLemmas.{setting_sound}
 use Rattle.gf_abs.proofs.NetlistDetermined.{netlist_determined}
+use Rattle.gf_abs.proofs.AbstractDetermined.{netlist_sound, abstract_determined}
 use Rattle.net_core.specs.NetList.{NetList, nets}
 use Rattle.stage_model.specs.Cut.{IsCut}
 use Rattle.stage_model.proofs.CutLemmas.{one_cut_of}
@@ -94,16 +97,36 @@ one_count options m n (inr a) (inr b) =
     let same : a.0 ≡ b.0 = ap second (sym a.1 ∙ b.1) in
     a.2.decimal.1 ∙ (ap (λ (w : Word). value_of 10 w) same ∙ sym b.2.decimal.1)
 
-one_job : (words : List Word) (job other : Job) → IsSpelled words job → IsSpelled words other → job ≡ other
+first : List Word → Word
+first (a ∷ rest) = a
+first [] = []
+
+-- the same operands and options
+record Same (s s' n n' : Word) (t t' : ℕ) : Type 0 where
+  one : s ≡ s'
+  two : n ≡ n'
+  three : t ≡ t'
+
+same_files : (words : List Word) (name s s' n n' : Word) (t t' : ℕ) → IsDerived words name s n t → IsDerived words name s' n' t' → Same s s' n n' t t'
 unfolding second third behind
-one_job words (Bits s n t) (Bits s' n' t') (options, is, files, are) (options', is', files', are') =
-    let both : codes "bits" ∷ s ∷ n ∷ options ≡ codes "bits" ∷ s' ∷ n' ∷ options' = sym is ∙ is' in
-    let one : s ≡ s' = ap second both in
-    let two : n ≡ n' = ap third both in
-    let rest : options ≡ options' = ap behind both in
+same_files words name s s' n n' t t' a b =
+    let both : name ∷ s ∷ n ∷ a.options ≡ name ∷ s' ∷ n' ∷ b.options = sym a.words_are ∙ b.words_are in
+    let rest : a.options ≡ b.options = ap behind both in
     let P : List Word → Type 0 = λ os. AreOptions os t in
-    let same : t ≡ t' = one_count options' t t' (subst P rest are) are' in
-    (λ i. Bits (one i) (two i) (same i))
+    record { one = ap second both; two = ap third both; three = one_count b.options t t' (subst P rest a.set) b.set }
+
+apart : (words : List Word) (s s' n n' : Word) (t t' : ℕ) (C : Type 0) → IsDerived words (codes "bits") s n t → IsDerived words (codes "abstract") s' n' t' → C
+unfolding first
+apart words s s' n n' t t' C a b =
+    let same : codes "bits" ≡ codes "abstract" = ap first (sym a.words_are ∙ b.words_are) in
+    let letter : ◌≡◌ {A = ℕ} 98 97 = ap (λ w. get_or w 0 0) same in
+    absurd (omega (arith, letter))
+
+one_job : (words : List Word) (job other : Job) → IsSpelled words job → IsSpelled words other → job ≡ other
+one_job words (Bits s n t) (Bits s' n' t') a b = let same = same_files words (codes "bits") s s' n n' t t' a b in (λ i. Bits (same.one i) (same.two i) (same.three i))
+one_job words (Abstract s n t) (Abstract s' n' t') a b = let same = same_files words (codes "abstract") s s' n n' t t' a b in (λ i. Abstract (same.one i) (same.two i) (same.three i))
+one_job words (Bits s n t) (Abstract s' n' t') a b = apart words s s' n n' t t' _ a b
+one_job words (Abstract s n t) (Bits s' n' t') a b = apart words s' s n' n t' t _ b a
 
 spelled_determined : (words : List Word) → Determined (Spelled words)
 spelled_determined words (Ok a) (Ok b) h k = ap Ok (one_job words a b h k)
@@ -157,26 +180,29 @@ module _ (setting : SettingValue) (circuit : BoundNet) (bound : ℕ) (ring : IsR
 
 -- ---- the whole
 
-netlist_sound : (file : Word) (words : List WordText) (text : List ℕ) (circuit : BoundNet) → NetlistOf file words text (Ok circuit) → IsSound circuit.net
-netlist_sound file words text circuit (net, (design, is_design, (flat, is_flat, made)), (bound, is, exactly)) =
-    let P : NetList → Type 0 = λ n. IsSound n in
-    let Q : BoundNet → Type 0 = λ c. IsSound c.net in
-    subst Q (sym exactly) (subst P (sym made.0) made.1)
+derived_determined : (kind : Kind) (setting : SettingValue) (circuit : BoundNet) (bound : ℕ) → IsSoundSetting setting → (file : Word) (text : List ℕ) → NetlistOf file setting.signature.words text (Ok circuit) → Determined (DerivedOf kind setting circuit bound)
+derived_determined kinds.Bits setting circuit bound sound file text is = bits_determined setting circuit bound sound.ring sound.field (netlist_sound file setting.signature.words text circuit is)
+derived_determined kinds.Abstract setting circuit bound sound file text is = abstract_determined setting circuit bound sound file text is
+
+module _ (files : Files) (kind : Kind) where
+  text_determined : (setting : SettingValue) (net : Word) (terms : ℕ) (text : List ℕ) → IsSoundSetting setting → Determined (TextAnswer kind setting net terms text)
+  text_determined setting net terms text sound =
+      determined_after (NetlistOf net setting.signature.words text) (λ circuit. DerivedOf kind setting circuit terms) (netlist_determined net setting.signature.words text)
+      (λ circuit is. derived_determined kind setting circuit terms sound net text is)
+
+  net_determined : (setting : SettingValue) (net : Word) (terms : ℕ) → IsSoundSetting setting → Determined (NetAnswer kind (Some files) setting net terms)
+  net_determined setting net terms sound =
+      determined_after (Read (Some files) net) (λ text. TextAnswer kind setting net terms text) (read_determined files net) (λ text is. text_determined setting net terms text sound)
+
+  pub files_determined : (signature net : Word) (terms : ℕ) → Determined (FilesAnswer kind (Some files) signature net terms)
+  files_determined signature net terms =
+      determined_after (Read (Some files) signature) (λ text. SettingOf text >>= (λ setting. NetAnswer kind (Some files) setting net terms)) (read_determined files signature)
+      (λ text read. determined_after (SettingOf text) (λ setting. NetAnswer kind (Some files) setting net terms) (setting_determined text) (λ setting is. net_determined setting net terms (setting_sound text setting is)))
 
 module _ (files : Files) where
-  text_determined : (setting : SettingValue) (net : Word) (terms : ℕ) (text : List ℕ) → IsSoundSetting setting → Determined (TextAnswer setting net terms text)
-  text_determined setting net terms text sound =
-      determined_after (NetlistOf net setting.signature.words text) (λ circuit. BitsOf setting circuit terms) (netlist_determined net setting.signature.words text)
-      (λ circuit is. bits_determined setting circuit terms sound.ring sound.field (netlist_sound net setting.signature.words text circuit is))
-
-  net_determined : (setting : SettingValue) (net : Word) (terms : ℕ) → IsSoundSetting setting → Determined (NetAnswer (Some files) setting net terms)
-  net_determined setting net terms sound =
-      determined_after (Read (Some files) net) (λ text. TextAnswer setting net terms text) (read_determined files net) (λ text is. text_determined setting net terms text sound)
-
   job_determined : (job : Job) → Determined (JobAnswer (Some files) job)
-  job_determined (Bits signature net terms) =
-      determined_after (Read (Some files) signature) (λ text. SettingOf text >>= (λ setting. NetAnswer (Some files) setting net terms)) (read_determined files signature)
-      (λ text read. determined_after (SettingOf text) (λ setting. NetAnswer (Some files) setting net terms) (setting_determined text) (λ setting is. net_determined setting net terms (setting_sound text setting is)))
+  job_determined (Bits signature net terms) = files_determined files kinds.Bits signature net terms
+  job_determined (Abstract signature net terms) = files_determined files kinds.Abstract signature net terms
 
   pub answer_determined : (words : List Word) → Determined (Answer words (Some files))
   answer_determined words = determined_after (Spelled words) (λ job. JobAnswer (Some files) job) (spelled_determined words) (λ job is. job_determined job)

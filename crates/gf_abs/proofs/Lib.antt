@@ -12,6 +12,8 @@ pub mod CommandLemmas
 pub mod NamedLemmas
 pub mod RoleLemmas
 pub mod StepLemmas
+pub mod AbstractDetermined
 pub mod AnswerDetermined
 pub mod CompleteLemmas
 pub mod StageLemmas
+pub mod WordsLemmas

@@ -19,10 +19,14 @@ use Rattle.poly_mixed.specs.Text.{HasNames}
 use Rattle.poly_mixed.specs.declared.stage.Stage.{Stage}
 use Rattle.poly_mixed.specs.declared.stage.Stage.TheVariants.{Cut, WordProduct, WordSum, SpecProduct, SpecSum, InstanceProduct, InstanceSum}
 use Rattle.circuit_model.specs.Circuit.{Circuit}
-use Rattle.circuit_model.specs.OfBinding.{output_basis, circuit_with, HaveBases}
+use Rattle.circuit_model.specs.OfBinding.{output_word, output_basis, circuit_with, HaveBases}
 use Rattle.circuit_model.specs.WellFormed.{IsWellFormed}
 use Rattle.circuit_model.proofs.BoundLemmas.{bound_well}
-use Rattle.stage_model.specs.Cut.{CutOf, BoundCut}
+use Rattle.net_core.specs.NetList.{nets}
+use Rattle.net_words.specs.Variables.{variables}
+use Rattle.stage_model.proofs.CutLemmas.{one_cut_of}
+use Rattle.stage_model.proofs.SizeLemmas.{same_terms}
+use Rattle.stage_model.specs.Cut.{IsCut, CutOf, BoundCut}
 use Rattle.stage_model.specs.Mix.{IsMix}
 use Rattle.stage_model.specs.Stage.{IsOfStage, HasSize, IsWithin, IsNoneOver, IsFirstOver}
 use Rattle.stage_model.specs.StageList.{StageOf, IsListed, ComesBefore, is_any, is_of_words, IsOver, AreAllWithin}
@@ -60,6 +64,16 @@ module _ (k : ℕ) (mul : ℕ → ℕ → ℕ) (b : BoundNet) (bases : List Basi
 
   cut_within : (t n : ℕ) → IsWithin k mul (cuts t) n → IsWithin k mul (CutOf whole t) n
   cut_within t n within = record { size = within.size; has = cut_size t within.size within.has; within = within.within }
+
+  -- the polynomial of the last cut is within the bound
+  pub few : (n : ℕ) (ts : Terms) → IsOfStage k mul (cuts (length b.net.gates)) ts → IsNoneOver k mul cuts (length b.net.gates + 1) n → length ts ≤ n
+  few n ts stage none =
+      let order = variables (nets b.net) b.bound.words in
+      let output = output_word b.bound.words (output_basis b.bound.words all) in
+      let last = none (length b.net.gates) (omega arith) in
+      let e : ts ≡ last.has.terms = same_terms k mul ring nozero (IsCut b.net order output (length b.net.gates)) (λ p x y at first other. one_cut_of b.net sound order output (length b.net.gates) p x y first other) ts last.has.terms stage last.has.is in
+      let size : length ts ≡ length last.has.terms = ap length e in
+      omega (arith, last.has.size, last.within)
 
   -- the last cut is the mix of no words
   pub no_words : (ts : Terms) → IsOfStage k mul (cuts (length b.net.gates)) ts → IsOfStage k mul (IsMix whole 0) ts

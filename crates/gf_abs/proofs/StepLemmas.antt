@@ -8,9 +8,11 @@ use Rattle.job_io.specs.Shelf.{Files}
 use Rattle.net_words.specs.WordNames.{HaveNames}
 use Rattle.net_words.proofs.NamesLemmas.{sig_names}
 use Rattle.gf_abs.specs.Stop.{GivesBy, printed}
-use Rattle.gf_abs.specs.Command.{Word, Job, Bits, IsSpelled}
+use Rattle.gf_abs.specs.declared.command.Kind.{Kind}
+use Rattle.gf_abs.specs.declared.command.Kind.TheVariants as kinds
+use Rattle.gf_abs.specs.Command.{Word, Job, IsSpelled, job_with}
 use Rattle.gf_abs.specs.Reply.{Reply}
-use Rattle.gf_abs.specs.Answer.{Read, NetAnswer, TextAnswer, JobAnswer, Answer, Spelled}
+use Rattle.gf_abs.specs.Answer.{Read, NetAnswer, FilesAnswer, JobAnswer, Answer, Spelled}
 use Rattle.gf_abs.specs.SettingValue.{SettingValue}
 use Rattle.gf_abs.specs.SettingOf.{SettingOf}
 use Rattle.gf_abs.specs.Setting.{setting_value}
@@ -37,25 +39,31 @@ stops view view' OutOfMemory first second missed failed gives = tt
 pub rose_earlier : (a b c : ℕ) → a ≤ b → Rose b c → Rose a c
 rose_earlier a b c less rose = elim rose [ inl more ↦ inl (omega arith) | inr most ↦ inr most ]
 
-module _ (held : Option Files) (signature net : Word) (terms : ℕ) where
+module _ (kind : Kind) (held : Option Files) (signature net : Word) (terms : ℕ) where
   -- the signature was read: what comes of its text comes of the command
   pub bits_after : (text : List ℕ) (result : Result (Vec ℕ Global) Stop) (m0 m1 m2 f0 f1 f2 : ℕ) → Read held signature (Ok text) → m0 ≤ m1 → f0 ≤ f1
-      → GivesBy printed result (SettingOf text >>= (λ setting. NetAnswer held setting net terms)) (Rose m1 m2) (Rose f1 f2) → GivesBy printed result (JobAnswer held (Bits signature net terms)) (Rose m0 m2) (Rose f0 f2)
+      → GivesBy printed result (SettingOf text >>= (λ setting. NetAnswer kind held setting net terms)) (Rose m1 m2) (Rose f1 f2) → GivesBy printed result (FilesAnswer kind held signature net terms) (Rose m0 m2) (Rose f0 f2)
   bits_after text result m0 m1 m2 f0 f1 f2 read misses faults gives =
-      after printed result (Read held signature) (λ t. SettingOf t >>= (λ setting. NetAnswer held setting net terms)) text (Rose m0 m2) (Rose f0 f2) (Rose m1 m2) (Rose f1 f2) read
+      after printed result (Read held signature) (λ t. SettingOf t >>= (λ setting. NetAnswer kind held setting net terms)) text (Rose m0 m2) (Rose f0 f2) (Rose m1 m2) (Rose f1 f2) read
       (rose_earlier m0 m1 m2 misses) (rose_earlier f0 f1 f2 faults) gives
 
   -- and was taken: what comes of the netlist comes of the command
   pub net_after : (text : List ℕ) (setting : Setting) (result : Result (Vec ℕ Global) Stop) (m0 m1 m2 f0 f1 f2 : ℕ) → Read held signature (Ok text) → m0 ≤ m1 → f0 ≤ f1 → SettingOf text (Ok (setting_value setting))
-      → GivesBy printed result (NetAnswer held (setting_value setting) net terms) (Rose m1 m2) (Rose f1 f2) → GivesBy printed result (JobAnswer held (Bits signature net terms)) (Rose m0 m2) (Rose f0 f2)
+      → GivesBy printed result (NetAnswer kind held (setting_value setting) net terms) (Rose m1 m2) (Rose f1 f2) → GivesBy printed result (FilesAnswer kind held signature net terms) (Rose m0 m2) (Rose f0 f2)
   net_after text setting result m0 m1 m2 f0 f1 f2 read misses faults taken gives =
-      bits_after text result m0 m1 m2 f0 f1 f2 read misses faults (setting_then printed result text (λ s. NetAnswer held s net terms) (Rose m1 m2) (Rose f1 f2) setting taken gives)
+      bits_after text result m0 m1 m2 f0 f1 f2 read misses faults (setting_then printed result text (λ s. NetAnswer kind held s net terms) (Rose m1 m2) (Rose f1 f2) setting taken gives)
 
   -- or was refused: that is the refusal of the command
-  pub setting_stops : (text : List ℕ) (stop : Stop) (m0 m1 f0 f1 : ℕ) → Read held signature (Ok text) → GivesBy setting_value (Err stop) (SettingOf text) ⊥ ⊥ → GivesBy printed (Err stop) (JobAnswer held (Bits signature net terms)) (Rose m0 m1) (Rose f0 f1)
+  pub setting_stops : (text : List ℕ) (stop : Stop) (m0 m1 f0 f1 : ℕ) → Read held signature (Ok text) → GivesBy setting_value (Err stop) (SettingOf text) ⊥ ⊥ → GivesBy printed (Err stop) (FilesAnswer kind held signature net terms) (Rose m0 m1) (Rose f0 f1)
   setting_stops text stop m0 m1 f0 f1 read gives =
-      after printed (Err stop) (Read held signature) (λ t. SettingOf t >>= (λ setting. NetAnswer held setting net terms)) text (Rose m0 m1) (Rose f0 f1) (Rose m0 m1) (Rose f0 f1) read (λ m. m) (λ f. f)
-      (setting_fails printed stop text (λ s. NetAnswer held s net terms) (Rose m0 m1) (Rose f0 f1) gives)
+      after printed (Err stop) (Read held signature) (λ t. SettingOf t >>= (λ setting. NetAnswer kind held setting net terms)) text (Rose m0 m1) (Rose f0 f1) (Rose m0 m1) (Rose f0 f1) read (λ m. m) (λ f. f)
+      (setting_fails printed stop text (λ s. NetAnswer kind held s net terms) (Rose m0 m1) (Rose f0 f1) gives)
+
+-- the command of this kind
+pub job_is : (kind : Kind) (held : Option Files) (signature net : Word) (terms : ℕ) (result : Result (Vec ℕ Global) Stop) (missed failed : Type 0) → GivesBy printed result (FilesAnswer kind held signature net terms) missed failed
+    → GivesBy printed result (JobAnswer held (job_with kind signature net terms)) missed failed
+job_is kinds.Bits held signature net terms result missed failed gives = gives
+job_is kinds.Abstract held signature net terms result missed failed gives = gives
 
 -- what comes of the command comes of the words that spell it
 pub words_after : (words : List Word) (held : Option Files) (job : Job) (result : Result (Vec ℕ Global) Stop) (missed failed : Type 0) → IsSpelled words job → GivesBy printed result (JobAnswer held job) missed failed → GivesBy printed result (Answer words held) missed failed

@@ -3,8 +3,9 @@ ghost use Rattle.std.specs.Prelude.{◌≡◌, ◌≢◌, ◌⊎◌, ◌≤◌, 
 ghost use Rattle.std.specs.Io.KnownBytes.{Keeps};
 ghost use Rattle.job_io.specs.Counts.{Rose};
 ghost use Rattle.job_io.specs.SureShelf.{sure_files, sure_misses};
-ghost use Rattle.gf_abs.specs.Answer.{Read, TextAnswer, NetAnswer, FilesAnswer, Answer};
-ghost use Rattle.gf_abs.specs.Setting.{setting_value, IsReady};
+ghost use Rattle.gf_abs.specs.Answer.{Read, DerivedOf, TextAnswer, NetAnswer, FilesAnswer, Answer};
+ghost use Rattle.gf_abs.specs.BitsOf.{HaveRoles};
+ghost use Rattle.gf_abs.specs.Setting.{any_degree, setting_value, IsReady};
 ghost use Rattle.gf_abs.specs.Stop.{printed, GivesBy, GivesBytes, IsText, Writes, WritesPart, IsWritten};
 
 use crate::bits::bits_line;
@@ -17,6 +18,7 @@ use crate::words::abstract_line;
 use crate::stop::Stop;
 use job_io::{Shelf, ShelfFault, Sink, SureShelf, SureSink, put_all};
 use net_core::Name;
+use net_words::Combinational;
 use std::alloc::Global;
 
 const LIMIT: u32 = 67_108_864;
@@ -107,9 +109,26 @@ fn text_answer(
         Ok(circuit) => circuit,
         Err(stop) => return Err(stop),
     };
+    derived_line(alloc, kind, setting, &circuit, terms)
+}
+
+// The output over a circuit, whose words are those of the setting.
+fn derived_line(
+    alloc: Global,
+    kind: Kind,
+    setting: &Setting,
+    circuit: &Combinational,
+    terms: u32,
+) -> Result<Vec<u8>, Stop>
+    requires setting { IsReady setting.now }
+    requires bits { circuit.now.bound.k ≡ any_degree setting.now.field }
+    requires roles { HaveRoles setting.now.signature.words circuit.now.bound.words }
+    requires long { length setting.now.bases.items ≡ length circuit.now.bound.words }
+    ensures { GivesBy printed result (DerivedOf kind (setting_value setting.now) circuit.now terms) ⊥ ⊥ }
+{
     match kind {
-        Kind::Bits => bits_line(alloc, setting, &circuit, terms),
-        Kind::Abstract => abstract_line(alloc, setting, &circuit, terms),
+        Kind::Bits => bits_line(alloc, setting, circuit, terms),
+        Kind::Abstract => abstract_line(alloc, setting, circuit, terms),
     }
 }
 
@@ -124,11 +143,12 @@ fn answer<S: Shelf>(alloc: Global, words: &[String], shelf: &mut S) -> Result<Ve
         None => Err(Stop::Refused(Fault::Words)),
         Some(
             Command {
+                kind,
                 signature,
                 net,
                 terms,
             },
-        ) => bits_answer(alloc, signature, net, terms, shelf),
+        ) => files_answer(alloc, kind, signature, net, terms, shelf),
     }
 }
 

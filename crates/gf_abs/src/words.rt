@@ -1,5 +1,5 @@
 //! The output word's polynomial in the input words.
-ghost use Rattle.std.specs.Prelude.{◌≡◌, ◌≤◌, length};
+ghost use Rattle.std.specs.Prelude.{◌≡◌, length};
 ghost use Rattle.net_words.specs.Binding.{AreWords};
 ghost use Rattle.net_words.specs.WordNames.{HaveNames};
 ghost use Rattle.gf_abs.specs.AbstractOf.{AbstractOf};
@@ -35,7 +35,6 @@ pub fn abstract_line(
     requires bits { circuit.now.bound.k ≡ any_degree setting.now.field }
     requires roles { HaveRoles setting.now.signature.words circuit.now.bound.words }
     requires long { length setting.now.bases.items ≡ length circuit.now.bound.words }
-    requires most { bound ≤ 262144 }
     ensures { GivesBy printed result (AbstractOf (setting_value setting.now) circuit.now bound) ⊥ ⊥ }
 {
     let signature = &setting.signature;
@@ -61,7 +60,6 @@ fn line_over<F: Field>(
     requires roles { HaveRoles signature.now.words circuit.now.bound.words }
     requires over { AreBasesOver (F.degree field.now) (F.product field.now) bases.now }
     requires long { length bases.now ≡ length circuit.now.bound.words }
-    requires most { bound ≤ 262144 }
     ensures { GivesBy printed result (AbstractOf (record { signature = signature.now; k = F.degree field.now; product = F.product field.now; bases = elements_of_each bases.now }) circuit.now bound) ⊥ ⊥ }
 {
     let labels = labels_for(alloc, signature.words(), field.k())?;

@@ -2,7 +2,7 @@ use Rattle.std.proofs.Common.{◌≡◌, ◌∙◌, List, ap, sym, subst, Ok, Er
 use Rattle.net_words.specs.Bind.{bits_of}
 use Rattle.net_words.specs.Binding.{BoundNet}
 use Rattle.net_words.specs.declared.word.WordText.{WordText}
-use Rattle.gf_abs.specs.BitsOf.{BitsOf}
+use Rattle.gf_abs.specs.Answer.{DerivedOf}
 use Rattle.gf_abs.specs.NetlistOf.{NetlistOf}
 use Rattle.gf_abs.specs.Setting.{any_degree, setting_value}
 use Rattle.gf_abs.specs.Stop.{GivesBy, printed}
@@ -18,18 +18,18 @@ returns-in-Err c =
     let words = c.args.setting.now.signature.words in
     let refused : Result BoundNet Stop = Err c.in-Err.stop in
     let P : List WordText → Type 0 = λ ws. GivesBy {X = BoundNet} (λ circuit. circuit) refused (NetlistOf file ws text) ⊥ ⊥ in
-    stops (λ (circuit : BoundNet). circuit) printed c.in-Err.stop (NetlistOf file words text) (λ circuit. BitsOf (setting_value c.args.setting.now) circuit c.args.terms) ⊥ ⊥ (subst P c.words.ensures c.in-Err.ensures.gives)
+    stops (λ (circuit : BoundNet). circuit) printed c.in-Err.stop (NetlistOf file words text) (λ circuit. DerivedOf c.args.kind (setting_value c.args.setting.now) circuit c.args.terms) ⊥ ⊥ (subst P c.words.ensures c.in-Err.ensures.gives)
 
-pub bits_line-requires-clause-bits : goal.bits_line-requires-clause-bits
-bits_line-requires-clause-bits c = c.in-Ok.ensures.bits ∙ (ap bits_of c.words.ensures ∙ bits_are (any_degree c.args.setting.now.field) c.args.setting.now.signature.words c.requires.setting.words)
+pub derived_line-requires-clause-bits : goal.derived_line-requires-clause-bits
+derived_line-requires-clause-bits c = c.in-Ok.ensures.bits ∙ (ap bits_of c.words.ensures ∙ bits_are (any_degree c.args.setting.now.field) c.args.setting.now.signature.words c.requires.setting.words)
 
-pub bits_line-requires-clause-roles : goal.bits_line-requires-clause-roles
-bits_line-requires-clause-roles c =
+pub derived_line-requires-clause-roles : goal.derived_line-requires-clause-roles
+derived_line-requires-clause-roles c =
     let P : List WordText → Type 0 = λ ws. NetlistOf c.args.file.now ws c.args.text.now (Ok c.in-Ok.circuit) in
     netlist_roles c.args.file.now c.args.setting.now.signature.words c.args.text.now c.in-Ok.circuit (subst P c.words.ensures c.in-Ok.ensures.gives)
 
-pub bits_line-requires-clause-long : goal.bits_line-requires-clause-long
-bits_line-requires-clause-long c =
+pub derived_line-requires-clause-long : goal.derived_line-requires-clause-long
+derived_line-requires-clause-long c =
     let words = c.args.setting.now.signature.words in
     let P : List WordText → Type 0 = λ ws. NetlistOf c.args.file.now ws c.args.text.now (Ok c.in-Ok.circuit) in
     let taken = subst P c.words.ensures c.in-Ok.ensures.gives in
@@ -40,4 +40,4 @@ returns c =
     let words = c.args.setting.now.signature.words in
     let P : List WordText → Type 0 = λ ws. NetlistOf c.args.file.now ws c.args.text.now (Ok c.in-Ok.circuit) in
     let taken = subst P c.words.ensures c.in-Ok.ensures.gives in
-    after printed c.bits_line.result (NetlistOf c.args.file.now words c.args.text.now) (λ circuit. BitsOf (setting_value c.args.setting.now) circuit c.args.terms) c.in-Ok.circuit ⊥ ⊥ ⊥ ⊥ taken (λ m. m) (λ f. f) c.bits_line.ensures
+    after printed c.derived_line.result (NetlistOf c.args.file.now words c.args.text.now) (λ circuit. DerivedOf c.args.kind (setting_value c.args.setting.now) circuit c.args.terms) c.in-Ok.circuit ⊥ ⊥ ⊥ ⊥ taken (λ m. m) (λ f. f) c.derived_line.ensures

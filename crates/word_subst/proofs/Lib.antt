@@ -1,0 +1,11 @@
+mod FormList
+mod Rising
+mod Around
+mod Multiplier
+mod Recorded
+mod OneTerm
+mod OneWord
+mod Lifted
+mod PlaceList
+mod AllWords
+mod Turn

@@ -1,0 +1,13 @@
+use Rattle.gf_basis.specs.BasisParts.{elements_of}
+use Rattle.stage_model.specs.PlainWord.{IsProductOf}
+use Rattle.word_subst.specs.Read.{AreProductsWithin}
+use Rattle.word_subst.specs.ReadSteps.{TellsFirst}
+use Rattle.word_subst.proofs.term.replaced.Given as goal
+
+abbrev pub invariant-loop-j : goal.invariant-loop-j
+invariant-loop-j g l =
+    record {
+      product : IsProductOf (g.F.Ring.degree l.field) (g.F.Ring.product l.field) (elements_of l.basis) l.word l.term l.j l.product.terms;
+      within : AreProductsWithin (g.F.Ring.degree l.field) (g.F.Ring.product l.field) (elements_of l.basis) l.word l.term l.j l.bound;
+      told : TellsFirst (g.F.Ring.degree l.field) (g.F.Ring.product l.field) (elements_of l.basis) l.word l.term l.j (g.T.Steps.steps l.fn.steps) (g.T.Steps.steps l.steps);
+    }
