@@ -114,13 +114,15 @@ fn of_three<'a>(command: &str, signature: &'a str, net: &'a str, terms: u32) -> 
     if !is_operand(signature) || !is_operand(net) || !is_blif_name(net) {
         return None;
     }
-    let kind = kind_of(command)?;
-    Some(Command {
-        kind,
-        signature,
-        net,
-        terms,
-    })
+    match kind_of(command) {
+        Some(kind) => Some(Command {
+            kind,
+            signature,
+            net,
+            terms,
+        }),
+        None => None,
+    }
 }
 
 // The kind of a command.

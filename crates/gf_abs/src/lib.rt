@@ -17,6 +17,12 @@ mod rows;
 #[cfg(test)]
 mod rows_1;
 #[cfg(test)]
+mod rows_10;
+#[cfg(test)]
+mod rows_11;
+#[cfg(test)]
+mod rows_12;
+#[cfg(test)]
 mod rows_2;
 #[cfg(test)]
 mod rows_3;

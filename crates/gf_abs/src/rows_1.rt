@@ -18,25 +18,18 @@ const F_ZERO: &str = ".model m\n.inputs a0 a1\n.outputs z0 z1\n.names z0\n.names
 
 const F_ONE: &str = ".model m\n.inputs a0 a1\n.outputs z0 z1\n.names z0\n1\n.names z1\n.end\n";
 
-const F_S4W: &str = "gfsig 1\nfield 0x7\nword A input poly a0 a1\nword Z output poly a0 a1\n";
-
-const F_WIRES: &str = ".model w\n.inputs a0 a1\n.outputs a0 a1\n.end\n";
-
-const F_NOR: &str =
-    ".model m\n.inputs a0 a1\n.outputs z0 z1\n.names a0 a1 z0\n00 1\n.names z1\n.end\n";
-
-const F_CONJ: &str =
-    ".model m\n.inputs a0 a1\n.outputs z0 z1\n.names a0 a1 z0\n11 1\n.names z1\n.end\n";
-
-const F_NAND: &str =
-    ".model m\n.inputs a0 a1\n.outputs z0 z1\n.names a0 a1 z0\n11 0\n.names z1\n.end\n";
-
 pub static ROWS: [Row; 9] = [
     Row {
         words: &["bits", "s4", "mul"],
         files: &[("s4", F_S4), ("mul", F_MUL)],
         status: 0,
         text: "Z = A[0]*B[0] + 0x2*A[0]*B[1] + 0x2*A[1]*B[0] + 0x3*A[1]*B[1]\n",
+    },
+    Row {
+        words: &["abstract", "s4", "mul"],
+        files: &[("s4", F_S4), ("mul", F_MUL)],
+        status: 0,
+        text: "Z = A*B\n",
     },
     Row {
         words: &["bits", "s4", "mul"],
@@ -51,7 +44,19 @@ pub static ROWS: [Row; 9] = [
         text: "Z = A[0]*B[0]\n",
     },
     Row {
+        words: &["abstract", "s1", "and1"],
+        files: &[("s1", F_S1), ("and1", F_AND1)],
+        status: 0,
+        text: "Z = A*B\n",
+    },
+    Row {
         words: &["bits", "s4a", "zero"],
+        files: &[("s4a", F_S4A), ("zero", F_ZERO)],
+        status: 0,
+        text: "Z = 0\n",
+    },
+    Row {
+        words: &["abstract", "s4a", "zero"],
         files: &[("s4a", F_S4A), ("zero", F_ZERO)],
         status: 0,
         text: "Z = 0\n",
@@ -63,27 +68,9 @@ pub static ROWS: [Row; 9] = [
         text: "Z = 0x1\n",
     },
     Row {
-        words: &["bits", "s4w", "wires"],
-        files: &[("s4w", F_S4W), ("wires", F_WIRES)],
+        words: &["abstract", "s4a", "one"],
+        files: &[("s4a", F_S4A), ("one", F_ONE)],
         status: 0,
-        text: "Z = A[0] + 0x2*A[1]\n",
-    },
-    Row {
-        words: &["bits", "s4a", "nor"],
-        files: &[("s4a", F_S4A), ("nor", F_NOR)],
-        status: 0,
-        text: "Z = A[0]*A[1] + A[0] + A[1] + 0x1\n",
-    },
-    Row {
-        words: &["bits", "s4a", "conj"],
-        files: &[("s4a", F_S4A), ("conj", F_CONJ)],
-        status: 0,
-        text: "Z = A[0]*A[1]\n",
-    },
-    Row {
-        words: &["bits", "s4a", "nand"],
-        files: &[("s4a", F_S4A), ("nand", F_NAND)],
-        status: 0,
-        text: "Z = A[0]*A[1] + 0x1\n",
+        text: "Z = 0x1\n",
     },
 ];

@@ -1,82 +1,80 @@
 //! Worked rows, part 2.
 use crate::rows::Row;
 
+const F_S4W: &str = "gfsig 1\nfield 0x7\nword A input poly a0 a1\nword Z output poly a0 a1\n";
+
+const F_WIRES: &str = ".model w\n.inputs a0 a1\n.outputs a0 a1\n.end\n";
+
+const F_S4A: &str = "gfsig 1\nfield 0x7\nword A input poly a0 a1\nword Z output poly z0 z1\n";
+
+const F_NOR: &str =
+    ".model m\n.inputs a0 a1\n.outputs z0 z1\n.names a0 a1 z0\n00 1\n.names z1\n.end\n";
+
+const F_CONJ: &str =
+    ".model m\n.inputs a0 a1\n.outputs z0 z1\n.names a0 a1 z0\n11 1\n.names z1\n.end\n";
+
+const F_NAND: &str =
+    ".model m\n.inputs a0 a1\n.outputs z0 z1\n.names a0 a1 z0\n11 0\n.names z1\n.end\n";
+
+const F_S4: &str =
+    "gfsig 1\nfield 0x15\nword A input poly a0 a1\nword B input poly b0 b1\nword Z output poly z0 z1\n";
+
 const F_MUL: &str =
     ".model mul\n.inputs a0 a1 b0 b1\n.outputs z0 z1\n.names a0 b0 p0\n11 1\n.names a0 b1 p1\n11 1\n.names a1 b0 p2\n11 1\n.names a1 b1 p3\n11 1\n.names p0 p3 z0\n10 1\n01 1\n.names p1 p2 t\n10 1\n01 1\n.names t p3 z1\n10 1\n01 1\n.end\n";
 
-const F_S4_2: &str =
-    "gfsig 1\nfield 0x15\nword A input poly a0 a1\nword B input poly b0 b1\nword Z output poly z0 z1\n";
-
-const F_S4_3: &str =
-    "gfsig 1\nfield 0x9\nword A input poly a0 a1\nword B input poly b0 b1\nword Z output poly z0 z1\n";
-
-const F_S4_4: &str =
-    "gfsig 1\nfield 0x5\nword A input poly a0 a1\nword B input poly b0 b1\nword Z output poly z0 z1\n";
-
-const F_T16: &str =
-    "gfsig 1\nfield 0x7\ntower 0x1 0x1\nword A input poly a0 a1 a2 a3\nword B input poly b0 b1 b2 b3\nword Z output poly z0 z1 z2 z3\n";
-
-const F_T16_2: &str =
-    "gfsig 1\nfield 0x7\ntower 0x2\nword A input poly a0 a1 a2 a3\nword B input poly b0 b1 b2 b3\nword Z output poly z0 z1 z2 z3\n";
-
-const F_S8R: &str =
-    "gfsig 1\nfield 0xb\nword A input normal:0x3 a0 a1 a2\nword Z output normal:0x3 a2 a0 a1\n";
-
-const F_ROT: &str = ".model w\n.inputs a0 a1 a2\n.outputs a0 a1 a2\n.end\n";
-
 pub static ROWS: [Row; 9] = [
     Row {
-        words: &["bits", "s4", "mul"],
-        files: &[("s4", F_S4_2), ("mul", F_MUL)],
-        status: 2,
-        text: "fault 22: the modulus is not irreducible\n",
-    },
-    Row {
-        words: &["bits", "s4", "mul"],
-        files: &[("s4", F_S4_2), ("mul", F_MUL)],
-        status: 2,
-        text: "fault 22: the modulus is not irreducible\n",
-    },
-    Row {
-        words: &["bits", "s4", "mul"],
-        files: &[("s4", F_S4_3), ("mul", F_MUL)],
-        status: 2,
-        text: "fault 22: the modulus is not irreducible\n",
-    },
-    Row {
-        words: &["bits", "s4", "mul"],
-        files: &[("s4", F_S4_3), ("mul", F_MUL)],
-        status: 2,
-        text: "fault 22: the modulus is not irreducible\n",
-    },
-    Row {
-        words: &["bits", "s4", "mul"],
-        files: &[("s4", F_S4_4), ("mul", F_MUL)],
-        status: 2,
-        text: "fault 22: the modulus is not irreducible\n",
-    },
-    Row {
-        words: &["bits", "s4", "mul"],
-        files: &[("s4", F_S4_4), ("mul", F_MUL)],
-        status: 2,
-        text: "fault 22: the modulus is not irreducible\n",
-    },
-    Row {
-        words: &["bits", "t16", "mul"],
-        files: &[("t16", F_T16), ("mul", F_MUL)],
-        status: 2,
-        text: "fault 22: the tower polynomial is not irreducible\n",
-    },
-    Row {
-        words: &["bits", "t16", "mul"],
-        files: &[("t16", F_T16_2), ("mul", F_MUL)],
-        status: 2,
-        text: "fault 25: tower\n",
-    },
-    Row {
-        words: &["bits", "s8r", "rot"],
-        files: &[("s8r", F_S8R), ("rot", F_ROT)],
+        words: &["bits", "s4w", "wires"],
+        files: &[("s4w", F_S4W), ("wires", F_WIRES)],
         status: 0,
-        text: "Z = 0x5*A[0] + 0x7*A[1] + 0x3*A[2]\n",
+        text: "Z = A[0] + 0x2*A[1]\n",
+    },
+    Row {
+        words: &["abstract", "s4w", "wires"],
+        files: &[("s4w", F_S4W), ("wires", F_WIRES)],
+        status: 0,
+        text: "Z = A\n",
+    },
+    Row {
+        words: &["bits", "s4a", "nor"],
+        files: &[("s4a", F_S4A), ("nor", F_NOR)],
+        status: 0,
+        text: "Z = A[0]*A[1] + A[0] + A[1] + 0x1\n",
+    },
+    Row {
+        words: &["abstract", "s4a", "nor"],
+        files: &[("s4a", F_S4A), ("nor", F_NOR)],
+        status: 0,
+        text: "Z = A^3 + 0x1\n",
+    },
+    Row {
+        words: &["bits", "s4a", "conj"],
+        files: &[("s4a", F_S4A), ("conj", F_CONJ)],
+        status: 0,
+        text: "Z = A[0]*A[1]\n",
+    },
+    Row {
+        words: &["abstract", "s4a", "conj"],
+        files: &[("s4a", F_S4A), ("conj", F_CONJ)],
+        status: 0,
+        text: "Z = A^3 + 0x3*A^2 + 0x2*A\n",
+    },
+    Row {
+        words: &["bits", "s4a", "nand"],
+        files: &[("s4a", F_S4A), ("nand", F_NAND)],
+        status: 0,
+        text: "Z = A[0]*A[1] + 0x1\n",
+    },
+    Row {
+        words: &["abstract", "s4a", "nand"],
+        files: &[("s4a", F_S4A), ("nand", F_NAND)],
+        status: 0,
+        text: "Z = A^3 + 0x3*A^2 + 0x2*A + 0x1\n",
+    },
+    Row {
+        words: &["bits", "s4", "mul"],
+        files: &[("s4", F_S4), ("mul", F_MUL)],
+        status: 2,
+        text: "fault 22: the modulus is not irreducible\n",
     },
 ];

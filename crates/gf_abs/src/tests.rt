@@ -113,6 +113,30 @@ fn worked_rows_8(rt: HostRuntime) -> Result<(), Fail> {
     Ok(())
 }
 
+#[test]
+fn worked_rows_9(rt: HostRuntime) -> Result<(), Fail> {
+    assert_eq!(rt; other(rt.alloc(), &crate::rows_9::ROWS)?, None);
+    Ok(())
+}
+
+#[test]
+fn worked_rows_10(rt: HostRuntime) -> Result<(), Fail> {
+    assert_eq!(rt; other(rt.alloc(), &crate::rows_10::ROWS)?, None);
+    Ok(())
+}
+
+#[test]
+fn worked_rows_11(rt: HostRuntime) -> Result<(), Fail> {
+    assert_eq!(rt; other(rt.alloc(), &crate::rows_11::ROWS)?, None);
+    Ok(())
+}
+
+#[test]
+fn worked_rows_12(rt: HostRuntime) -> Result<(), Fail> {
+    assert_eq!(rt; other(rt.alloc(), &crate::rows_12::ROWS)?, None);
+    Ok(())
+}
+
 // The second read fails, the first write fails, and sinks have little room.
 #[test]
 fn failures_outside(rt: HostRuntime) -> Result<(), Fail> {
@@ -130,12 +154,6 @@ fn failures_outside(rt: HostRuntime) -> Result<(), Fail> {
         assert_eq!(rt; bytes.as_slice(), text.as_bytes());
         assert_eq!(rt; status, 4);
     }
-    Ok(())
-}
-
-#[test]
-fn worked_rows_9(rt: HostRuntime) -> Result<(), Fail> {
-    assert_eq!(rt; other(rt.alloc(), &crate::rows_9::ROWS)?, None);
     Ok(())
 }
 

@@ -97,14 +97,7 @@ fn stage_refusal(alloc: Global, labels: &Labels, fault: ReduceFault, bound: u32)
 }
 
 // The refusal of a product stage of the word of this name.
-fn product_refusal(
-    alloc: Global,
-    name: &str,
-    term: u32,
-    bit: u32,
-    terms: u64,
-    bound: u32,
-) -> Stop
+fn product_refusal(alloc: Global, name: &str, term: u32, bit: u32, terms: u64, bound: u32) -> Stop
     ensures { IsRefusal (Fault.TooManyTerms (StageName.WordProduct name.now term bit) terms bound) result }
 {
     match Name::new(alloc, name) {

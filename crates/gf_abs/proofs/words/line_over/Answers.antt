@@ -158,6 +158,8 @@ returns g c =
     let N : List ℕ → Type 0 = λ e. IsNoneOver degree mul (BoundCut circuit e) (length circuit.net.gates + 1) c.args.bound in
     let none = subst N basis c.in-Ok.ensures.within in
     let ts = c.in-Ok-to_words.poly.terms in
-    let within = none_over degree mul circuit bases ring nozero sound bound flat c.requires.bits c.requires.over c.requires.long c.args.bound none c.in-Ok-to_words.ensures.within in
-    (ts, record { words = c.in-Ok-to_words.ensures.words; within = within },
-    ap (λ (t : List ℕ). record { status = 0; text = t }) (c.in_ok-line.ensures ∙ ap (λ (l : Labelling). l.output ++ (codes " = " ++ (text l ts ++ codes "\n"))) same))
+    let within = none_over degree mul circuit bases ring nozero sound bound flat c.requires.bits c.requires.over c.requires.long c.args.bound none c.in-Ok-to_words.ensures.within in (
+      ts,
+      record { words = c.in-Ok-to_words.ensures.words; within = within },
+      ap (λ (t : List ℕ). record { status = 0; text = t }) (c.in_ok-line.ensures ∙ ap (λ (l : Labelling). l.output ++ (codes " = " ++ (text l ts ++ codes "\n"))) same),
+    )
