@@ -9,3 +9,4 @@ mod Lifted
 mod PlaceList
 mod AllWords
 mod Turn
+mod Callers

@@ -3,11 +3,15 @@
 #![tactic(auto)]
 
 mod forms;
+mod laws;
 mod places;
 mod product;
 mod ranks;
 mod term;
+#[cfg(test)]
+mod tests;
 mod word;
 mod words;
 
+pub use laws::{all_words_are_the_output, bases_make_a_circuit, last_cut_is_taken};
 pub use words::to_words;
