@@ -14,3 +14,4 @@ pub mod AbstractOf
 pub mod CutStop
 pub mod Answer
 pub mod Stop
+pub mod Equal

@@ -46,7 +46,7 @@ mod tests;
 mod top;
 mod words;
 
-pub use answer_laws::one_answer_or_fault;
+pub use answer_laws::{abstract_prints_the_output, one_answer_or_fault};
 pub use command::{Command, Kind};
 pub use fault::{BindingFault, Fault, NetlistFault, SignatureFault, StageName};
 pub use netlist_laws::one_netlist_or_fault;

@@ -1,0 +1,134 @@
+-- What a printed polynomial says of its circuit.
+use Rattle.std.proofs.Common.{◌≡◌, ◌∙◌, ap, sym, refl, subst, ℕ, ◌<◌, ◌+◌, true, false, ◌||◌, ◌↔◌, List, [], ◌∷◌, ◌++◌, length, drop, codes, Ok, arith}
+use Rattle.std.specs.Prelude.{nat_eq}
+use Rattle.std.specs.List.{AllByRecursion, list_any}
+use Rattle.std.proofs.lemmas.Bool.{eq-eqb}
+use Rattle.std.proofs.lemmas.List.{append_cancel_left, append_cancel_right}
+use Rattle.net_words.specs.Binding.{BoundNet}
+use Rattle.poly_mixed.specs.Cofactor.{LacksBit}
+use Rattle.poly_mixed.specs.Labels.{AreLabels, bit_count}
+use Rattle.poly_mixed.specs.Polynomial.{Terms, IsReduced, value}
+use Rattle.poly_mixed.specs.Text.{text}
+use Rattle.poly_mixed.specs.TextLaw.{IsWritten}
+use Rattle.poly_mixed.proofs.FieldLaws.{field_of}
+use Rattle.poly_mixed.proofs.TextLaws.{one_text}
+use Rattle.circuit_model.specs.Circuit.{Circuit}
+use Rattle.circuit_model.specs.Out.{IsOut}
+use Rattle.circuit_model.specs.WellFormed.{IsWellFormed}
+use Rattle.circuit_model.proofs.OutLemmas.{one_out}
+use Rattle.stage_model.specs.Function.{input_of}
+use Rattle.stage_model.proofs.MixLemmas.{mix_all}
+use Rattle.stage_model.proofs.NextMixLemmas.{mix_lacks}
+use Rattle.stage_model.proofs.SizeLemmas.{is_unique}
+use Rattle.gf_abs.specs.AbstractOf.{AbstractOf, circuit_of}
+use Rattle.gf_abs.specs.BitsOf.{polynomial_line}
+use Rattle.gf_abs.specs.Equal.{IsTaken, IsInItsWords, HasOutput, IsPrinted}
+use Rattle.gf_abs.specs.Labelling.{word_labels, labels_of}
+use Rattle.gf_abs.specs.Reply.{Reply}
+use Rattle.gf_abs.specs.SettingSound.{IsSoundSetting}
+use Rattle.gf_abs.specs.SettingValue.{SettingValue}
+use Rattle.gf_abs.proofs.AbstractDetermined.{circuit_well}
+use Rattle.gf_abs.proofs.EqualLabels.{are_labels, few_bits}
+use Rattle.gf_abs.proofs.EqualWords.{first_point, first_taken, is_first_point, first_alone}
+use Rattle.gf_abs.proofs.RoleLemmas.{netlist_roles, roles_long}
+use Rattle.gf_abs.proofs.SettingSoundLemmas.{setting_sound}
+use Rattle.gf_abs.proofs.StepLemmas.{setting_names}
+use Rattle.gf_abs.proofs.WordsLemmas.{as_many}
+
+-- a polynomial in which no bit stands has no bits
+no_ranks : (rs : List ℕ) → ((rank : ℕ) → list_any (λ r. nat_eq r rank) rs ≡ false) → rs ≡ []
+no_ranks [] lacks = refl
+no_ranks (r ∷ rs) lacks = let found : true ≡ false = sym (ap (λ b. b || list_any (λ q. nat_eq q r) rs) (eq-eqb r r refl)) ∙ lacks r in absurd (cc)
+
+no_bits : (ts : Terms) → ((rank : ℕ) → LacksBit rank ts) → AllByRecursion (λ t. t.0.bits ≡ []) ts
+no_bits [] lacks = tt
+no_bits (t ∷ ts) lacks = (no_ranks t.0.bits (λ rank. (lacks rank).0), no_bits ts (λ rank. (lacks rank).1))
+
+-- so any labels name all of its bits
+all_named : (n : ℕ) (ts : Terms) → AllByRecursion (λ t. t.0.bits ≡ []) ts → AllByRecursion (λ t. AllByRecursion (λ r. r < n) t.0.bits) ts
+all_named n [] none = tt
+all_named n (t ∷ ts) none = let P : List ℕ → Type 0 = λ rs. AllByRecursion (λ r. r < n) rs in (subst P (sym none.0) tt, all_named n ts none.1)
+
+module _ (setting : SettingValue) (circuit : BoundNet) (taken : IsTaken setting circuit) where
+  abbrev pub whole : Circuit
+  whole = circuit_of setting circuit
+
+  pub sound : IsSoundSetting setting
+  sound = setting_sound taken.signature setting taken.is_setting
+
+  pub well : IsWellFormed whole
+  well = circuit_well setting circuit sound taken.file taken.netlist taken.is_circuit
+
+  -- there are as many labels as words
+  pub count : length whole.words ≡ length (word_labels setting.k setting.signature.words)
+  count =
+      let roles = netlist_roles taken.file setting.signature.words taken.netlist circuit taken.is_circuit in
+      as_many setting.k circuit.bound.words setting.signature.words setting.bases (sound.long ∙ sym (roles_long setting.signature.words circuit.bound.words roles)) roles
+
+  labels : AreLabels (labels_of setting.k setting.signature.words)
+  labels = are_labels setting.k setting.signature.words sound.words (setting_names taken.signature setting taken.is_setting)
+
+  -- a polynomial of the output stands in words alone
+  alone : (ts : Terms) → IsReduced setting.k ts → HasOutput setting circuit ts → AllByRecursion (λ t. AllByRecursion (λ e. e ≡ 0) (drop (length whole.words) t.0.exponents)) ts
+  alone ts reduced values =
+      let f = field_of setting.k setting.product sound.ring sound.field in
+      let n = length whole.words in
+      first_alone f (is_unique setting.k setting.product sound.ring sound.field) n ts reduced
+      (λ p at.
+      let P : List ℕ → Type 0 = λ xs. IsOut whole xs (value setting.product (first_point n p) ts) in
+      one_out whole (input_of whole p) (value setting.product (first_point n p) ts) (value setting.product p ts) well
+      (subst P (first_taken n p.words) (values (first_point n p) (is_first_point f n p at))) (values p at))
+
+  module _ (bound : ℕ) (reply : Reply) (answer : AbstractOf setting circuit bound (Ok reply)) where
+    pub printed : (ts : Terms) × IsPrinted setting circuit reply ts
+    printed =
+        let ts = answer.0 in
+        let is = answer.1.words in
+        let n = length whole.words in
+        let values : HasOutput setting circuit ts = λ p at. (mix_all whole well p (value setting.product p ts) at).0 (is.values p at) in
+        let lacks : (rank : ℕ) → LacksBit rank ts = λ rank. mix_lacks whole well n rank ts (λ i j low high less. absurd (omega arith)) is in (
+          ts,
+          record {
+            line = ap (λ (r : Reply). r.text) answer.2;
+            in_words = record { reduced = is.reduced; words = record { bits = no_bits ts lacks; words = alone ts is.reduced values } };
+            values = values;
+          },
+        )
+
+    pub status_none : reply.status ≡ 0
+    status_none = ap (λ (r : Reply). r.status) answer.2
+
+  -- it is written with the labels
+  written : (ts : Terms) → IsInItsWords setting circuit ts → IsWritten (labels_of setting.k setting.signature.words) setting.k ts
+  written ts is =
+      let P : ℕ → Type 0 = λ n. AllByRecursion (λ t. AllByRecursion (λ e. e ≡ 0) (drop n t.0.exponents)) ts in
+      record {
+        labels = labels;
+        some = sound.ring.some;
+        small = sound.ring.small;
+        few = few_bits setting.k setting.signature.words labels;
+        reduced = is.reduced;
+        ranks = all_named (bit_count (word_labels setting.k setting.signature.words) + 0) ts is.words.bits;
+        words = subst P count is.words.words;
+      }
+
+  -- equal lines are of equal polynomials
+  pub one_line : (ts us : Terms) → IsInItsWords setting circuit ts → IsInItsWords setting circuit us → polynomial_line setting ts ≡ polynomial_line setting us → ts ≡ us
+  one_line ts us a b same =
+      let l = labels_of setting.k setting.signature.words in
+      let behind = append_cancel_left (codes " = ") (text l ts ++ codes "\n") (text l us ++ codes "\n") (append_cancel_left l.output (codes " = " ++ (text l ts ++ codes "\n")) (codes " = " ++ (text l us ++ codes "\n")) same) in
+      one_text l setting.k ts us (written ts a) (written us b) (append_cancel_right (text l ts) (text l us) (codes "\n") behind)
+
+  -- the output has one polynomial
+  pub one_polynomial : (ts us : Terms) → IsReduced setting.k ts → IsReduced setting.k us → HasOutput setting circuit ts → HasOutput setting circuit us → ts ≡ us
+  one_polynomial ts us a b first other =
+      is_unique setting.k setting.product sound.ring sound.field ts us a b
+      (λ p at. one_out whole (input_of whole p) (value setting.product p ts) (value setting.product p us) well (first p at) (other p at))
+
+  pub only_text : (bound : ℕ) (reply : Reply) (ts : Terms) → AbstractOf setting circuit bound (Ok reply) → IsInItsWords setting circuit ts → reply.text ≡ polynomial_line setting ts ↔ HasOutput setting circuit ts
+  only_text bound reply ts answer is =
+      let found = printed bound reply answer in
+      let P : Terms → Type 0 = λ us. HasOutput setting circuit us in (
+        (λ same. subst P (one_line found.0 ts found.1.in_words is (sym found.1.line ∙ same)) found.1.values),
+        λ values. found.1.line ∙ ap (λ us. polynomial_line setting us) (one_polynomial found.0 ts found.1.in_words.reduced is.reduced found.1.values values),
+      )
