@@ -20,3 +20,4 @@ pub mod WordsLemmas
 pub mod EqualWords
 pub mod EqualLabels
 pub mod EqualLemmas
+pub mod EqualFunctions

@@ -46,7 +46,10 @@ mod tests;
 mod top;
 mod words;
 
-pub use answer_laws::{abstract_prints_the_output, one_answer_or_fault};
+pub use answer_laws::{
+    abstract_prints_the_output, bytes_are_the_only_text, equal_bytes_exactly_if_equal_functions,
+    one_answer_or_fault,
+};
 pub use command::{Command, Kind};
 pub use fault::{BindingFault, Fault, NetlistFault, SignatureFault, StageName};
 pub use netlist_laws::one_netlist_or_fault;
