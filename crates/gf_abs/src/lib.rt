@@ -10,6 +10,8 @@ mod command;
 mod fault;
 mod fault_line;
 mod labels;
+#[cfg(test)]
+mod long_tests;
 mod netlist;
 mod netlist_laws;
 #[cfg(test)]

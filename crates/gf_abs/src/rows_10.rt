@@ -2,13 +2,10 @@
 use crate::rows::Row;
 
 const F_T16A: &str =
-    "gfsig 1\nfield 0x7\ntower 0x2 0x1\nword A input poly a0 a1 a2 a3\nword Z output poly z0 z1 z2 z3\n";
+    "gfsig 1\nfield 0x7\ntower 0x2 0x4\nword A input poly a0 a1 a2 a3\nword Z output poly z0 z1 z2 z3\n";
 
 const F_MULY: &str =
     ".model y\n.inputs a0 a1 a2 a3\n.outputs z0 z1 z2 z3\n.names a3 z0\n1 1\n.names a2 a3 z1\n10 1\n01 1\n.names a0 a2 z2\n10 1\n01 1\n.names a1 a3 z3\n10 1\n01 1\n.end\n";
-
-const F_T16A_2: &str =
-    "gfsig 1\nfield 0x7\ntower 0x2 0x4\nword A input poly a0 a1 a2 a3\nword Z output poly z0 z1 z2 z3\n";
 
 const F_S4A: &str = "gfsig 1\nfield 0x7\nword A input poly a0 a1\nword Z output poly z0 z1\n";
 
@@ -26,22 +23,24 @@ const F_S4A_2: &str =
 const F_CONJ: &str =
     ".model m\n.inputs a0 a1\n.outputs z0 z1\n.names a0 a1 z0\n11 1\n.names z1\n.end\n";
 
+const F_S4: &str =
+    "gfsig 1\nfield 0x7\nword A input poly a0 a1\nword B input poly b0 b1\nword Z output poly z0 z1\n";
+
+const F_MUL: &str =
+    ".model mul\n.inputs a0 a1 b0 b1\n.outputs z0 z1\n.names a0 b0 p0\n11 1\n.names a0 b1 p1\n11 1\n.names a1 b0 p2\n11 1\n.names a1 b1 p3\n11 1\n.names p0 p3 z0\n10 1\n01 1\n.names p1 p2 t\n10 1\n01 1\n.names t p3 z1\n10 1\n01 1\n.end\n";
+
+const F_AB: &str = "Z = A*B\n";
+
 pub static ROWS: [Row; 9] = [
     Row {
-        words: &["abstract", "t16a", "mulY"],
-        files: &[("t16a", F_T16A), ("mulY", F_MULY)],
-        status: 0,
-        text: "Z = 0x4*A\n",
-    },
-    Row {
         words: &["bits", "t16a", "mulY"],
-        files: &[("t16a", F_T16A_2), ("mulY", F_MULY)],
+        files: &[("t16a", F_T16A), ("mulY", F_MULY)],
         status: 2,
         text: "fault 25: tower\n",
     },
     Row {
         words: &["abstract", "t16a", "mulY"],
-        files: &[("t16a", F_T16A_2), ("mulY", F_MULY)],
+        files: &[("t16a", F_T16A), ("mulY", F_MULY)],
         status: 2,
         text: "fault 25: tower\n",
     },
@@ -80,5 +79,11 @@ pub static ROWS: [Row; 9] = [
         files: &[("s4a", F_S4A_2), ("conj", F_CONJ)],
         status: 2,
         text: "fault 24: basis at line 3\n",
+    },
+    Row {
+        words: &["check", "s4", "mul", "ab"],
+        files: &[("s4", F_S4), ("mul", F_MUL), ("ab", F_AB)],
+        status: 2,
+        text: "fault 01: words\n",
     },
 ];

@@ -7,8 +7,6 @@ const F_S4: &str =
 const F_MUL: &str =
     ".model mul\n.inputs a0 a1 b0 b1\n.outputs z0 z1\n.names a0 b0 p0\n11 1\n.names a0 b1 p1\n11 1\n.names a1 b0 p2\n11 1\n.names a1 b1 p3\n11 1\n.names p0 p3 z0\n10 1\n01 1\n.names p1 p2 t\n10 1\n01 1\n.names t p3 z1\n10 1\n01 1\n.end\n";
 
-const F_AB: &str = "Z = A*B\n";
-
 const F_S4H: &str =
     "gfsig 1\nfield 0x7\nword A input poly a0 a1\nword B input poly b0 b1\nword Z output poly z0 z1\nblock mul\nword A input poly a0 a1\nword B input poly b0 b1\nword Z output poly z0 z1\n";
 
@@ -25,12 +23,6 @@ const F_T16: &str =
     "gfsig 1\nfield 0x7\ntower 0x2 0x1\nword A input poly a0 a1 a2 a3\nword B input poly b0 b1 b2 b3\nword Z output poly z0 z1 z2 z3\n";
 
 pub static ROWS: [Row; 9] = [
-    Row {
-        words: &["check", "s4", "mul", "ab"],
-        files: &[("s4", F_S4), ("mul", F_MUL), ("ab", F_AB)],
-        status: 2,
-        text: "fault 01: words\n",
-    },
     Row {
         words: &["make", "adder", "s4"],
         files: &[("s4", F_S4)],
@@ -76,6 +68,12 @@ pub static ROWS: [Row; 9] = [
     Row {
         words: &["iso", "s16", "t16"],
         files: &[("s16", F_S16), ("t16", F_T16)],
+        status: 2,
+        text: "fault 01: words\n",
+    },
+    Row {
+        words: &["table", "s4", "mul"],
+        files: &[("s4", F_S4), ("mul", F_MUL)],
         status: 2,
         text: "fault 01: words\n",
     },

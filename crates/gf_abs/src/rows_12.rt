@@ -4,9 +4,6 @@ use crate::rows::Row;
 const F_S4: &str =
     "gfsig 1\nfield 0x7\nword A input poly a0 a1\nword B input poly b0 b1\nword Z output poly z0 z1\n";
 
-const F_MUL: &str =
-    ".model mul\n.inputs a0 a1 b0 b1\n.outputs z0 z1\n.names a0 b0 p0\n11 1\n.names a0 b1 p1\n11 1\n.names a1 b0 p2\n11 1\n.names a1 b1 p3\n11 1\n.names p0 p3 z0\n10 1\n01 1\n.names p1 p2 t\n10 1\n01 1\n.names t p3 z1\n10 1\n01 1\n.end\n";
-
 const F_E: &str = "";
 
 const F_S8N: &str =
@@ -15,15 +12,12 @@ const F_S8N: &str =
 const F_S4D: &str =
     "gfsig 2\nfield 0x7\nword A fed poly\nword B input poly b0 b1\nword Z output poly z0 z1\nfeed d 0 A[1]\nfeed d 1 A[0]\n";
 
+const F_MUL: &str =
+    ".model mul\n.inputs a0 a1 b0 b1\n.outputs z0 z1\n.names a0 b0 p0\n11 1\n.names a0 b1 p1\n11 1\n.names a1 b0 p2\n11 1\n.names a1 b1 p3\n11 1\n.names p0 p3 z0\n10 1\n01 1\n.names p1 p2 t\n10 1\n01 1\n.names t p3 z1\n10 1\n01 1\n.end\n";
+
 const F_AB: &str = "Z = A*B\n";
 
-pub static ROWS: [Row; 9] = [
-    Row {
-        words: &["table", "s4", "mul"],
-        files: &[("s4", F_S4), ("mul", F_MUL)],
-        status: 2,
-        text: "fault 01: words\n",
-    },
+pub static ROWS: [Row; 8] = [
     Row {
         words: &["lift", "s4", "e"],
         files: &[("s4", F_S4), ("e", F_E)],

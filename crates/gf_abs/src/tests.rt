@@ -29,7 +29,7 @@ const FILES: &[(&str, &str)] = &[
 const PRODUCT: &str = "Z = A[0]*B[0] + 0x2*A[0]*B[1] + 0x2*A[1]*B[0] + 0x3*A[1]*B[1]\n";
 
 // The status of a run, and what it writes.
-fn answer(
+pub fn answer(
     alloc: Global,
     words: &[&str],
     files: &[(&str, &str)],
