@@ -1,0 +1,4 @@
+gfsig 1
+field 0x11b
+word A input poly a0 a1 a2 a3 a4 a5 a6 a7
+word Z output poly z0 z1 z2 z3 z4 z5 z6 z7
