@@ -16,7 +16,7 @@ pub use elements::{filled, first_outside, is_element};
 pub use fields::Field;
 pub use laws::{
     additive_squares, convolution_sum, few_roots, irreducible_modulus, only_product, own_power,
-    quotient_fields, quotient_rings, roots_up_to_degree,
+    quotient_fields, quotient_rings, roots_up_to_degree, trace_onto_bits,
 };
 pub use powers::{frobenius, power};
 pub use ring_2k::{BadDegree, Ring2k};

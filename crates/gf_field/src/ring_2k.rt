@@ -7,6 +7,7 @@ ghost use Rattle.gf_field.specs.Modulus.{IsModulus, HasModulusDegree};
 ghost use Rattle.gf_field.specs.Quotient.{product as quotient_product};
 
 use super::rings::Ring;
+use thiserror::Error;
 
 /// The polynomials over 0 and 1 modulo one of degree 1 to 64: bit i of an element is the coefficient of `x^i`.
 #[derive(Drop)]
@@ -17,7 +18,8 @@ pub struct Ring2k {
 }
 
 /// The modulus has not degree 1 to 64. The number 0 has no degree.
-#[derive(Debug, Drop)]
+#[derive(Debug, Drop, Error)]
+#[error("the degree of the modulus is not 1 to 64")]
 pub struct BadDegree;
 
 impl Ring2k {
