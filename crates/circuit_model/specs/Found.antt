@@ -1,4 +1,4 @@
--- The bits and elements that the plain program finds, for the clauses of private functions.
+-- The bits and elements that the plain program finds, for the clauses of private functions. Source: this project's own.
 use Rattle.std.specs.Prelude.{◌≡◌, ◌==◌, ◌≤◌, ℕ, Bool, false, List, Some, map, slice_get}
 use Rattle.std.specs.Int.{bit_at}
 use Rattle.net_core.specs.Lists.{Has, times}

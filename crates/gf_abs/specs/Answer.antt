@@ -1,4 +1,4 @@
--- What the program answers to its words, over the files that the shelf holds.
+-- What the program answers to its words, over the files that the shelf holds. Source: this project's own.
 use Rattle.std.specs.Prelude.{◌≡◌, ℕ, ◌≤◌, List, length, Option, Ok, Err}
 use Rattle.text_core.specs.Outcome.{Outcome, ◌>>=◌}
 use Rattle.job_io.specs.Shelf.{Files, Has, Lacks, HasMoreThan}

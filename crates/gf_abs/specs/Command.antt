@@ -1,4 +1,4 @@
--- The shapes of the words of the command line.
+-- The shapes of the words of the command line. Source: this project's own, docs/COMMANDS.md.
 use Rattle.std.specs.Prelude.{◌≡◌, ◌≢◌, ◌⊎◌, ℕ, ◌≤◌, List, [], ◌∷◌, All, codes, false, nat_eq, slice_index}
 use Rattle.std.specs.List.{starts_with, ends_with}
 use Rattle.text_core.specs.Numbers.{IsDecimal}

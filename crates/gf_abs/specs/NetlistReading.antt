@@ -1,4 +1,4 @@
--- What is known while a netlist is read: for the clauses of private functions.
+-- What is known while a netlist is read: for the clauses of private functions. Source: this project's own.
 use Rattle.std.specs.Prelude.{◌≡◌, ℕ, ◌<◌, Result, Ok, Err}
 use Rattle.text_core.specs.Outcome.{Outcome}
 use Rattle.net_core.specs.NetList.{NetList, nets}

@@ -1,4 +1,4 @@
--- What the program writes, and the status that it ends with.
+-- What the program writes, and the status that it ends with. Source: this project's own.
 use Rattle.std.specs.Prelude.{ℕ, List}
 
 -- a status and the bytes of an output

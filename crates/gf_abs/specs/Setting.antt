@@ -1,4 +1,4 @@
--- What a `Setting` is made of, and the stops of its making.
+-- What a `Setting` is made of, and the stops of its making. Source: this project's own.
 use Rattle.std.specs.Prelude.{◌≡◌, ℕ, ◌*◌, List, length, map}
 use Rattle.net_core.specs.Lists.{Has}
 use Rattle.net_words.specs.Binding.{AreWords}

@@ -1,4 +1,5 @@
 -- Why a list is no basis of the field of 2 to the k elements, each fault after those before it.
+-- Source: this project's own.
 use Rattle.std.specs.Prelude.{◌≡◌, ◌≢◌, ℕ, ◌<◌, ◌≤◌, ◌^◌, ◌-◌, min, List, length}
 use Rattle.gf_field.specs.Element.{AreElements, IsFirstOutside}
 use Rattle.gf_field.specs.Trace.{frobenius}

@@ -1,4 +1,4 @@
--- What a `Basis` is made of.
+-- What a `Basis` is made of. Source: this project's own.
 use Rattle.std.specs.Prelude.{ℕ, List, take}
 use Rattle.gf_basis.specs.Basis.{IsBasis}
 use Rattle.gf_basis.specs.Dual.{AreDual}

@@ -1,4 +1,5 @@
 -- Traces as bits of words, and the matrix of the traces of products of basis elements.
+-- Source: Lidl and Niederreiter, Finite Fields, chapter 2 (dual bases and traces).
 use Rattle.std.specs.Prelude.{◌≡◌, ℕ, ◌+◌, ◌*◌, ◌<◌, List, [], ◌∷◌, length, slice_index}
 use Rattle.gf_field.specs.Trace.{trace}
 

@@ -1,4 +1,4 @@
--- The field of two elements.
+-- The field of two elements. Source: Lidl and Niederreiter, Finite Fields, chapter 1.
 use Rattle.std.specs.Prelude.{ℕ, ◌*◌, ◌%◌}
 
 -- the product of two bits; of a larger number the last bit counts

@@ -1,4 +1,4 @@
--- Lists of numbers that are to be elements of a ring.
+-- Lists of numbers that are to be elements of a ring. Source: this project's own.
 use Rattle.std.specs.Prelude.{ℕ, ◌<◌, ◌≤◌, ◌^◌, List, length, slice_index, EachIndex}
 
 -- each number is below 2 to the k

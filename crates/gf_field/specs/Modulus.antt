@@ -1,4 +1,4 @@
--- Which polynomials over 0 and 1 are moduli of rings of machine words.
+-- Which polynomials over 0 and 1 are moduli of rings of machine words. Source: this project's own.
 use Rattle.std.specs.Prelude.{ℕ, ◌≤◌}
 use Rattle.gf_field.specs.Polynomial.{IsDegree}
 

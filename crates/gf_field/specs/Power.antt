@@ -1,4 +1,4 @@
--- Powers in a ring.
+-- Powers in a ring. Source: Lidl and Niederreiter, Finite Fields, chapter 1.
 use Rattle.std.specs.Prelude.{ℕ, zero, suc}
 
 -- 1, multiplied e times by a

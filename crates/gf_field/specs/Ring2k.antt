@@ -1,4 +1,4 @@
--- What a `Ring2k` is made of.
+-- What a `Ring2k` is made of. Source: this project's own.
 use Rattle.std.specs.Prelude.{ℕ}
 use Rattle.gf_field.specs.declared.ring_2k.Ring2k.{Ring2k}
 

@@ -1,4 +1,5 @@
 -- The parts of a product of polynomials over 0 and 1 that a multiplication by shift and add makes.
+-- Source: this project's own; multiplication in binary, from the highest bit.
 use Rattle.std.specs.Prelude.{ℕ, pred, ◌/◌, ◌-◌, ◌^◌}
 use Rattle.gf_field.specs.Bit.{bit_mul}
 use Rattle.gf_field.specs.Polynomial.{coefficient}

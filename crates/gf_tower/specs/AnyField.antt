@@ -1,4 +1,4 @@
--- What an `AnyField` is made of.
+-- What an `AnyField` is made of. Source: this project's own.
 use Rattle.std.specs.Prelude.{◌≡◌, ℕ, List, []}
 use Rattle.gf_field.specs.Ring2k.{modulus_of}
 use Rattle.irreducible.specs.Proved.{ring_of}

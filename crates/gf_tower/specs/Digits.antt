@@ -1,4 +1,4 @@
--- Numbers as digits of n bits, and the parts of a product in a tower that its steps make.
+-- Numbers as digits of n bits, and the parts of a product in a tower that its steps make. Source: this project's own.
 use Rattle.std.specs.Prelude.{◌≡◌, ℕ, pred, ◌+◌, ◌*◌, ◌-◌, ◌/◌, ◌<◌, ◌≤◌, ◌^◌, List, length}
 use Rattle.gf_field.specs.Element.{AreElements}
 use Rattle.gf_field.specs.Polynomial.{coefficient}

@@ -1,4 +1,4 @@
--- Why a modulus and coefficients name no field, each fault after those before it.
+-- Why a modulus and coefficients name no field, each fault after those before it. Source: this project's own.
 use Rattle.std.specs.Prelude.{◌≡◌, ℕ, ◌<◌, List, length}
 use Rattle.gf_field.specs.Bit.{bit_mul}
 use Rattle.gf_field.specs.Element.{IsFirstOutside}

@@ -1,4 +1,5 @@
 -- The fields that a modulus over 0 and 1 and one tower step name.
+-- Source: Lidl and Niederreiter, Finite Fields, chapter 1; the numbers that name a field are this project's own.
 use Rattle.std.specs.Prelude.{◌≡◌, ℕ, ◌⊎◌, List, []}
 use Rattle.gf_field.specs.Bit.{bit_mul}
 use Rattle.gf_field.specs.Modulus.{IsModulus}

@@ -1,4 +1,4 @@
--- Why a list of coefficients makes no tower over a base of n bits.
+-- Why a list of coefficients makes no tower over a base of n bits. Source: this project's own.
 use Rattle.std.specs.Prelude.{◌≡◌, ℕ, List, length}
 use Rattle.gf_field.specs.Element.{IsFirstOutside}
 use Rattle.gf_tower.specs.Tower.{IsLength}

@@ -1,4 +1,4 @@
--- What a `Tower` is made of.
+-- What a `Tower` is made of. Source: this project's own.
 use Rattle.std.specs.Prelude.{ℕ, List, take}
 use Rattle.gf_field.specs.declared.rings.Ring.{Ghosts}
 use Rattle.gf_tower.specs.declared.towers.Tower.{Tower}

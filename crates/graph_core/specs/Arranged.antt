@@ -1,4 +1,5 @@
 -- Points in an order in which each stands after those to which it leads.
+-- Source: a topological order, as in Knuth, The Art of Computer Programming, section 2.2.3, reversed.
 use Rattle.std.specs.Prelude.{◌≡◌, ℕ, ◌<◌, List, length, Some, slice_get}
 use Rattle.graph_core.specs.Graph.{Graph, Has, HasEdge}
 

@@ -1,4 +1,4 @@
--- What a walk may answer in place of an order.
+-- What a walk may answer in place of an order. Source: this project's own.
 use Rattle.std.specs.Prelude.{ℕ, List}
 use Rattle.graph_core.specs.Graph.{Graph}
 use Rattle.graph_core.specs.Ring.{IsRingOf}

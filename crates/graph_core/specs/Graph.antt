@@ -1,4 +1,5 @@
 -- Graphs: for each point, by its number, the list of the points to which its edges lead, in order.
+-- Source: a directed graph as adjacency lists, as in Tarjan, Depth-First Search and Linear Graph Algorithms, 1972.
 use Rattle.std.specs.Prelude.{◌≡◌, ℕ, ◌<◌, List, [], length, Some, slice_get, unwrap_or}
 use Rattle.graph_core.specs.Walk.{IsChain, IsRingBy}
 

@@ -1,4 +1,4 @@
--- The ring that a walk from given roots finds, and points from which no walk finds one.
+-- The ring that a walk from given roots finds, and points from which no walk finds one. Source: this project's own.
 use Rattle.std.specs.Prelude.{◌≡◌, ℕ, ◌<◌, List, Some, slice_get}
 use Rattle.graph_core.specs.Graph.{Graph, edges, HasEdge}
 use Rattle.graph_core.specs.Walk.{IsLoopBy}

@@ -1,4 +1,4 @@
--- Chains, rings, and walks that go on until they meet a point again.
+-- Chains, rings, and walks that go on until they meet a point again. Source: this project's own.
 use Rattle.std.specs.Prelude.{◌≡◌, ℕ, ◌<◌, ◌+◌, List, [], ◌∷◌, length, Some, slice_get, drop}
 
 -- from a over these points to b, each in the relation to the next

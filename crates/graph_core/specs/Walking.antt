@@ -1,4 +1,4 @@
--- A walk in depth on its way.
+-- A walk in depth on its way. Source: Tarjan, Depth-First Search and Linear Graph Algorithms, 1972.
 use Rattle.std.specs.Prelude.{◌≡◌, ℕ, ◌<◌, ◌+◌, ◌*◌, ◌-◌, ◌^◌, List, length, Some, slice_get, sum_by}
 use Rattle.graph_core.specs.Graph.{Graph, edges}
 use Rattle.graph_core.specs.Ring.{IsGrounded}

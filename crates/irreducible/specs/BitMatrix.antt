@@ -1,4 +1,4 @@
--- What a `BitMatrix` holds.
+-- What a `BitMatrix` holds. Source: this project's own.
 use Rattle.std.specs.Prelude.{ℕ, List, take}
 use Rattle.irreducible.specs.declared.bit_matrix.BitMatrix.{BitMatrix}
 

@@ -1,5 +1,6 @@
 -- Square matrices over 0 and 1: a matrix is the list of its n rows, each a number of n bits, and takes the word v to
 -- the sum of the rows i with bit i of v set.
+-- Source: matrices over the field of two elements, as in any book on linear algebra.
 use Rattle.std.specs.Prelude.{◌≡◌, ℕ, ◌<◌, ◌^◌, List, length, slice_index, EachIndex}
 use Rattle.irreducible.specs.Span.{combination}
 

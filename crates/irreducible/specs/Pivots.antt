@@ -1,4 +1,5 @@
 -- What an elimination keeps: for each place at most one number whose highest bit stands there.
+-- Source: Gaussian elimination over the field of two elements.
 use Rattle.std.specs.Int.{bit_at}
 use Rattle.std.specs.Prelude.{bit_xor, ◌≡◌, ℕ, suc, ◌≤◌, ◌<◌, ◌^◌, ◌⊎◌, List, length, slice_index}
 use Rattle.irreducible.specs.Span.{combination, InSpan, IsIndependent}

@@ -1,4 +1,4 @@
--- What a `Proved` ring is made of.
+-- What a `Proved` ring is made of. Source: this project's own.
 use Rattle.gf_field.specs.declared.rings.Ring.{Ghosts}
 use Rattle.irreducible.specs.declared.proved_rings.Proved.{Proved}
 

@@ -1,4 +1,5 @@
 -- Linear algebra over 0 and 1: sums of rows, span, independence and rank.
+-- Source: any book on linear algebra, over the field of two elements.
 use Rattle.std.specs.Prelude.{◌≡◌, ℕ, ◌*◌, ◌/◌, ◌%◌, ◌<◌, ◌^◌, List, [], ◌∷◌, length, bit_xor}
 
 -- the sum of the rows i with bit i of c set

@@ -1,4 +1,4 @@
--- Counts that never fall, and stop at the greatest number of 64 bits.
+-- Counts that never fall, and stop at the greatest number of 64 bits. Source: this project's own.
 use Rattle.std.specs.Prelude.{◌≡◌, ◌⊎◌, ℕ, ◌+◌, ◌<◌, ◌-◌, ◌^◌, min, Bool, ◌==◌, List}
 use Rattle.std.specs.List.{list_any}
 

@@ -1,4 +1,4 @@
--- What the shelf of the system's files has counted.
+-- What the shelf of the system's files has counted. Source: this project's own.
 use Rattle.std.specs.Prelude.{ℕ}
 use Rattle.std.specs.declared.io.traits.Read.{Ghosts as ReadGhosts}
 use Rattle.std.specs.declared.io.traits.Write.{Ghosts as WriteGhosts}

@@ -1,4 +1,4 @@
--- What a shelf in memory holds, which reads it fails, and what it has counted.
+-- What a shelf in memory holds, which reads it fails, and what it has counted. Source: this project's own.
 use Rattle.std.specs.Prelude.{ℕ, List}
 use Rattle.job_io.specs.Shelf.{Files, files_of}
 use Rattle.job_io.specs.declared.mem_shelf.MemShelf.{MemShelf}

@@ -1,4 +1,5 @@
 -- What a sink in memory was given, its room, which writes it fails, and what it has counted.
+-- Source: this project's own.
 use Rattle.std.specs.Prelude.{ℕ, ◌-◌, List, length}
 use Rattle.job_io.specs.declared.mem_sink.MemSink.{MemSink}
 

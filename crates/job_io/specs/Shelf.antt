@@ -1,4 +1,4 @@
--- What a shelf holds, and what a read counts.
+-- What a shelf holds, and what a read counts. Source: this project's own.
 use Rattle.std.specs.Prelude.{◌≡◌, ℕ, ◌<◌, List, map, length, Option, None, Some, IfSome, Vec, String, string_bytes, Result, Err}
 use Rattle.std.specs.declared.alloc.Global.{Global}
 use Rattle.std.specs.Ordering.{nat_cmp}

@@ -1,4 +1,4 @@
--- What a write counts.
+-- What a write counts. Source: this project's own.
 use Rattle.std.specs.Prelude.{ℕ, Result, Ok, Err}
 use Rattle.job_io.specs.Counts.{next_of}
 use Rattle.job_io.specs.declared.sink.SinkFailed.{SinkFailed}

@@ -1,4 +1,4 @@
--- What the sink of standard output has counted.
+-- What the sink of standard output has counted. Source: this project's own.
 use Rattle.std.specs.Prelude.{ℕ}
 use Rattle.job_io.specs.declared.std_sink.StdSink.{StdSink}
 

@@ -1,4 +1,4 @@
--- What a shelf in memory that never fails holds, and how often it missed.
+-- What a shelf in memory that never fails holds, and how often it missed. Source: this project's own.
 use Rattle.std.specs.Prelude.{ℕ}
 use Rattle.job_io.specs.Shelf.{Files, files_of}
 use Rattle.job_io.specs.declared.sure_shelf.SureShelf.{SureShelf}

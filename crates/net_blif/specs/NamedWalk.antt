@@ -1,4 +1,5 @@
 -- The walk over a net list whose nets are found by their names, and the fault of a walk: for proofs.
+-- Source: this project's own.
 use Rattle.std.specs.Prelude.{◌≡◌, ◌⊎◌, ℕ, ◌+◌, ◌^◌, nat_le, true, List, [], ◌∷◌, ◌++◌, map, flat_map, length, is_some, unwrap_or, All, Some, Result, Ok, Err, if◌then◌else◌}
 use Rattle.net_core.specs.NetList.{NetList, nets, number_of, with_gate, with_label}
 use Rattle.net_core.specs.GateValue.{GateValue}

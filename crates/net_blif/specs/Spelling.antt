@@ -1,4 +1,4 @@
--- The statement that tokens spell: the inverse of `spelled`, for proofs.
+-- The statement that tokens spell: the inverse of `spelled`, for proofs. Source: this project's own.
 use Rattle.std.specs.Prelude.{◌-◌, Bool, true, false, List, [], ◌∷◌, length, take, codes, nat_lt, Option, None, Some, slice_index_or, if◌then◌else◌}
 use Rattle.std.specs.List.{list_all}
 use Rattle.std.specs.Option.{option_map}

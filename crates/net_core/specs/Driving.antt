@@ -1,4 +1,4 @@
--- The graph of a net list.
+-- The graph of a net list. Source: this project's own.
 use Rattle.std.specs.Prelude.{◌≡◌, ℕ, List, [], ◌++◌, length, map}
 use Rattle.graph_core.specs.Graph.{Graph, edges}
 use Rattle.graph_core.specs.declared.fault.RingFault.{RingFault}

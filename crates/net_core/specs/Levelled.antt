@@ -1,4 +1,4 @@
--- Nets in which each net has a level, and gates that were evaluated.
+-- Nets in which each net has a level, and gates that were evaluated. Source: this project's own.
 use Rattle.std.specs.Prelude.{◌≡◌, ℕ, ◌<◌, List, Bool, None, Some, slice_get, length}
 use Rattle.net_core.specs.GateValue.{GateValue}
 use Rattle.net_core.specs.NetList.{NetList, nets}

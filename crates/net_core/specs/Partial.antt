@@ -1,4 +1,4 @@
--- Levels that were found so far, for the clauses of private functions.
+-- Levels that were found so far, for the clauses of private functions. Source: this project's own.
 use Rattle.std.specs.Prelude.{◌≡◌, ℕ, List, ◌≤◌, ◌+◌, Option, None, Some, slice_get, length, sum_by}
 use Rattle.net_core.specs.GateValue.{GateValue}
 use Rattle.net_core.specs.NetList.{NetList, nets}

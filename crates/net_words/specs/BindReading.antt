@@ -1,4 +1,4 @@
--- What is known while words are bound.
+-- What is known while words are bound. Source: this project's own.
 use Rattle.std.specs.Prelude.{◌≡◌, ℕ, ◌<◌, Bool, false, List, slice_index_or, Result, Ok, Err}
 use Rattle.text_core.specs.Outcome.{Outcome}
 use Rattle.net_words.specs.declared.binding.BindFault.{BindFault}

@@ -1,4 +1,4 @@
--- Words that are bound to nets.
+-- Words that are bound to nets. Source: this project's own.
 use Rattle.std.specs.Prelude.{◌≡◌, ℕ, ◌≤◌, List, length, filter, All}
 use Rattle.net_core.specs.NetList.{NetList}
 use Rattle.net_words.specs.Signature.{is_output, input_count}

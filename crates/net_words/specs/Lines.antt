@@ -1,4 +1,5 @@
 -- The lines of a signature that have tokens, by number from 1. A comment begins at `#`.
+-- Source: this project's own format, docs/FORMATS.md.
 use Rattle.std.specs.Prelude.{ℕ, ◌+◌, List, [], ◌∷◌, filter, length, nat_lt}
 use Rattle.std.specs.Str.Lines.{lines}
 use Rattle.text_core.specs.Lines.{before_comment, tokens_of}

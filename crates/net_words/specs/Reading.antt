@@ -1,4 +1,4 @@
--- What is left of a text that is being read.
+-- What is left of a text that is being read. Source: this project's own.
 use Rattle.std.specs.Prelude.{ℕ, List, map, Result, Ok, Err}
 use Rattle.text_core.specs.Outcome.{Outcome}
 use Rattle.net_words.specs.declared.fault.SigFault.{SigFault}

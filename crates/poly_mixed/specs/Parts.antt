@@ -1,4 +1,4 @@
--- Parts that are appended one by one, each after a separator but for a first one.
+-- Parts that are appended one by one, each after a separator but for a first one. Source: this project's own.
 use Rattle.std.specs.Prelude.{ℕ, Bool, false, cond, List, [], ◌∷◌, ◌++◌}
 
 abbrev pub part_after : List ℕ → Bool → List ℕ → List ℕ → List ℕ

@@ -1,4 +1,4 @@
--- What the reader of a text keeps, as progress.
+-- What the reader of a text keeps, as progress. Source: this project's own.
 use Rattle.std.specs.Prelude.{◌≡◌, ℕ, true, false, List, Result, Ok, Err}
 use denote.Ref.{Bor}
 use Rattle.poly_mixed.specs.Monomial.{Monomial}

@@ -1,4 +1,4 @@
--- The steps that a recorder tells.
+-- The steps that a recorder tells. Source: this project's own.
 use Rattle.std.specs.Prelude.{◌≡◌, List, ◌++◌, Option, None, Some}
 use Rattle.poly_mixed.specs.Polynomial.{Terms}
 use Rattle.poly_mixed.specs.declared.steps.Generator.{Generator}

@@ -1,4 +1,5 @@
 -- Finite maps from keys in an order to numbers, as sorted lists, and their sums; the sum of two numbers is the exclusive or.
+-- Source: this project's own.
 use Rattle.std.specs.Prelude.{ℕ, cond, List, [], ◌∷◌, bit_xor, ◌==◌}
 use Rattle.std.specs.declared.cmp.Ordering.{Ordering}
 use Rattle.std.specs.Ordering.{match_ordering}

@@ -1,4 +1,4 @@
--- Bits of the table of a gate.
+-- Bits of the table of a gate. Source: the covers of the BLIF format of UC Berkeley, written as a table of bits.
 use Rattle.std.specs.Prelude.{ℕ, ◌+◌, ◌*◌, Bool, cond, List, [], ◌∷◌, ◌==◌}
 use Rattle.std.specs.Int.{bit_at}
 

@@ -1,4 +1,4 @@
--- That a text is of one polynomial: it is read back as the polynomial that was written.
+-- That a text is of one polynomial: it is read back as the polynomial that was written. Source: this project's own.
 use Rattle.std.specs.Prelude.{◌≡◌, ℕ, ◌+◌, ◌^◌, ◌≤◌, length, drop, Ok}
 use Rattle.std.specs.List.{AllByRecursion}
 use Rattle.poly_mixed.specs.Labels.{Labelling, AreLabels, bit_count}

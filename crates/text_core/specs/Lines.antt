@@ -1,4 +1,5 @@
 -- The lines of a text and their tokens. A line ends with LF, and a CR before it is dropped; the last line may lack its LF.
+-- Source: this project's own, docs/FORMATS.md.
 use Rattle.std.specs.Prelude.{◌≢◌, ℕ, ◌≤◌, List, ◌==◌, Bool, ◌||◌, not, take_while, filter, length, nat_lt, All}
 use Rattle.std.specs.List.{slice_split}
 

@@ -1,4 +1,4 @@
--- Names of words.
+-- Names of words. Source: this project's own, docs/FORMATS.md.
 use Rattle.std.specs.Prelude.{◌≡◌, ◌⊎◌, ℕ, ◌<◌, ◌≤◌, List, length, slice_index, EachIndex}
 use Rattle.std.specs.Char.{IsAsciiAlphabetic, IsAsciiAlphanumeric}
 

@@ -1,4 +1,5 @@
 -- Numbers in positional notation, by value. Leading zeros are allowed.
+-- Source: Knuth, The Art of Computer Programming, section 4.1.
 use Rattle.std.specs.Prelude.{◌≡◌, ◌⊎◌, ℕ, ◌+◌, ◌-◌, ◌*◌, ◌^◌, ◌<◌, ◌≤◌, List, [], ◌∷◌, ◌++◌, length, codes, EachIndex, slice_index, nat_lt, if◌then◌else◌}
 
 -- what a digit stands for: 0 to 9, and a to f or A to F for 10 to 15

@@ -1,4 +1,5 @@
 -- What may come of a step that gives a value or refuses with a fault, and the order of refusals.
+-- Source: this project's own.
 use Rattle.std.specs.Prelude.{◌≡◌, ◌⊎◌, Result, Ok, Err}
 
 -- which values and which faults may come
