@@ -1,6 +1,6 @@
 -- The text of a polynomial: its terms in their order, each its coefficient and its variables.
 -- Source: this project's own.
-use Rattle.std.specs.Prelude.{ℕ, ◌+◌, ◌<◌, Bool, ◌&&◌, true, false, not, cond, List, [], ◌∷◌, ◌++◌, map, length, codes, decimal, ◌==◌}
+use Rattle.std.specs.Prelude.{◌≡◌, ℕ, ◌+◌, ◌<◌, Bool, ◌&&◌, true, false, not, cond, List, [], ◌∷◌, ◌++◌, map, length, drop, codes, decimal, ◌==◌}
 use Rattle.std.specs.Fmt.{digits}
 use Rattle.std.specs.List.{AllByRecursion}
 use Rattle.poly_mixed.specs.Monomial.{Monomial}
@@ -49,3 +49,7 @@ text l (t ∷ ts) = joined (codes " + ") (map (term_text l) (t ∷ ts))
 -- each rank has a name
 abbrev pub HasNames : Labelling → Terms → Type 0
 HasNames l ts = AllByRecursion (λ t. AllByRecursion (λ r. r < bit_count l.words + length l.nets) t.0.bits) ts
+
+-- a word that has no name has the exponent 0
+abbrev pub HasWordNames : Labelling → Terms → Type 0
+HasWordNames l ts = AllByRecursion (λ t. AllByRecursion (λ e. e ≡ 0) (drop (length l.words) t.0.exponents)) ts

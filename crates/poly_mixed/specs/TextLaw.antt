@@ -1,10 +1,9 @@
 -- That a text is of one polynomial: it is read back as the polynomial that was written. Source: this project's own.
-use Rattle.std.specs.Prelude.{◌≡◌, ℕ, ◌+◌, ◌^◌, ◌≤◌, length, drop, Ok}
-use Rattle.std.specs.List.{AllByRecursion}
+use Rattle.std.specs.Prelude.{◌≡◌, ℕ, ◌+◌, ◌^◌, ◌≤◌, length, Ok}
 use Rattle.poly_mixed.specs.Labels.{Labelling, AreLabels, bit_count}
 use Rattle.poly_mixed.specs.Polynomial.{Terms, IsReduced}
 use Rattle.poly_mixed.specs.Reading.{reading}
-use Rattle.poly_mixed.specs.Text.{text, HasNames}
+use Rattle.poly_mixed.specs.Text.{text, HasNames, HasWordNames}
 
 -- a reduced polynomial in the words and ranks that labels name; a rank is below 2^32
 pub record IsWritten (l : Labelling) (k : ℕ) (ts : Terms) : Type 0 where
@@ -14,7 +13,7 @@ pub record IsWritten (l : Labelling) (k : ℕ) (ts : Terms) : Type 0 where
   pub few : bit_count l.words + length l.nets ≤ 2 ^ 32
   pub reduced : IsReduced k ts
   pub ranks : HasNames l ts
-  pub words : AllByRecursion (λ t. AllByRecursion (λ e. e ≡ 0) (drop (length l.words) t.0.exponents)) ts
+  pub words : HasWordNames l ts
 
 -- the text of a polynomial is read as the polynomial
 abbrev pub ReadsBack : Type 0

@@ -1,5 +1,5 @@
 //! The text of a polynomial.
-ghost use Rattle.std.specs.Prelude.{◌≡◌, ◌↔◌, ℕ, ◌<◌, ◌+◌, ◌==◌, ◌&&◌, not, cond, length, map, ◌++◌, codes, [], IfOk, OnOk, IsTrue, string_bytes};
+ghost use Rattle.std.specs.Prelude.{◌≡◌, ℕ, ◌<◌, ◌+◌, ◌==◌, ◌&&◌, not, cond, length, map, ◌++◌, codes, [], IfOk, OnOk, string_bytes};
 ghost use Rattle.std.specs.List.{AllByRecursion};
 ghost use Rattle.poly_mixed.specs.Labels.{bit_count};
 ghost use Rattle.poly_mixed.specs.Parts.{part_after, parts_after};
@@ -8,7 +8,8 @@ ghost use Rattle.poly_mixed.specs.Text.{HasNames, text, hex_text, is_none, term_
 use crate::{Labels, Mono, Poly};
 use std::alloc::{AllocError, Global};
 
-/// The text of a polynomial: terms joined by ` + `, or `0`.
+/// The text of a polynomial: terms joined by ` + `, or `0`. A word that has no name in the labels is left out;
+/// `is_named` says that there is none.
 pub fn write_poly(alloc: Global, poly: &Poly, labels: &Labels) -> Result<Vec<u8>, AllocError>
     requires named { HasNames labels.now poly.now.terms }
     ensures { IfOk result (λ v. v.items ≡ text labels.now poly.now.terms) }
@@ -24,31 +25,6 @@ pub fn write_poly(alloc: Global, poly: &Poly, labels: &Labels) -> Result<Vec<u8>
         is_first = false;
     }
     Ok(out)
-}
-
-/// Whether labels name every variable of a polynomial.
-pub fn is_named(poly: &Poly, labels: &Labels) -> bool
-    ensures { IsTrue result ↔ HasNames labels.now poly.now.terms }
-{
-    let count = labels.ranks();
-    for (mono, _) in poly.map() {
-        if !are_below(mono.bits(), count) {
-            return false;
-        }
-    }
-    true
-}
-
-// Whether all ranks are below a count.
-fn are_below(ranks: &[u32], count: u64) -> bool
-    ensures { IsTrue result ↔ AllByRecursion (λ r. r < count) ranks.now }
-{
-    for rank in ranks {
-        if u64::from(*rank) >= count {
-            return false;
-        }
-    }
-    true
 }
 
 // The text of a term.

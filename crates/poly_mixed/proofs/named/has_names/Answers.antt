@@ -4,7 +4,7 @@ use Rattle.std.specs.Map.Iter.{deref_pair}
 use Rattle.std.specs.List.{AllByRecursion}
 use Rattle.poly_mixed.specs.Polynomial.{Terms}
 use Rattle.poly_mixed.specs.Text.{HasNames}
-use Rattle.poly_mixed.proofs.write.is_named.Goals as goal
+use Rattle.poly_mixed.proofs.named.has_names.Goals as goal
 
 pub loop-mono-preserved : goal.loop-mono-preserved
 loop-mono-preserved c =

@@ -1,6 +1,6 @@
 use Rattle.std.proofs.Common.{◌↔◌}
 use Rattle.poly_mixed.specs.Text.{HasNames}
-use Rattle.poly_mixed.proofs.write.is_named.Given as goal
+use Rattle.poly_mixed.proofs.named.has_names.Given as goal
 
 abbrev pub invariant-loop-mono : goal.invariant-loop-mono
 invariant-loop-mono l = HasNames l.labels l.mono-iterator ↔ HasNames l.labels l.poly.terms
