@@ -16,8 +16,11 @@ pub enum Kind {
 /// A command with the names of its files.
 #[derive(Clone, Copy, Debug)]
 pub struct Command<'a> {
+    /// What it prints.
     pub kind: Kind,
+    /// The name of the signature's file.
     pub signature: &'a str,
+    /// The name of the netlist's file, which is read as BLIF.
     pub net: &'a str,
     /// The most terms that a stage may have, 1 to 262,144.
     pub terms: u32,

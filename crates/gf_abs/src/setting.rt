@@ -19,8 +19,11 @@ use std::alloc::Global;
 /// A signature, its field, and the bases of its words in their order.
 #[derive(Drop)]
 pub struct Setting {
+    /// What the signature's text says.
     pub signature: Signature,
+    /// The field that it names.
     pub field: AnyField,
+    /// The basis of each word, the output word's among them.
     pub bases: Vec<Basis>,
 }
 

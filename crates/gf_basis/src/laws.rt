@@ -11,7 +11,7 @@ pub fn independent_lists<F: Field>(_field: &F)
     ensures { AreIndependentLists (F.degree _field.now) }
 {}
 
-/// A basis has exactly one dual basis; `Basis::dual` gives one.
+/// A basis has at most one dual basis; the one that a `Basis` keeps is it.
 pub fn only_duals<F: Field>(_field: &F)
     ensures { HasOnlyDuals (F.degree _field.now) (F.product _field.now) }
 {}

@@ -29,6 +29,3 @@ IsPath graph = IsChain (HasEdge graph)
 -- one or more points, of which each leads to the next and the last to the first
 abbrev pub IsRing : Graph → List ℕ → Type 0
 IsRing graph = IsRingBy (HasEdge graph)
-
-abbrev pub HasRing : Graph → Type 0
-HasRing graph = (ring : List ℕ) × IsRing graph ring

@@ -19,7 +19,7 @@ pub fn grounded_leads_to_no_ring()
     ensures { (graph : Graph) (a b : ℕ) (rest around : List ℕ) → IsGrounded graph a → IsPath graph a rest b → IsRing graph (b ∷ around) → ⊥ }
 {}
 
-/// The points of an order are grounded, so the roots have an order or a ring, and not both.
+/// The points of an order are grounded, so no roots have both an order and a ring.
 pub fn order_has_no_ring()
     ensures grounded { (graph : Graph) (roots order : List ℕ) (a : ℕ) → IsArranged graph roots order → Has order a → IsGrounded graph a }
     ensures not_both { (graph : Graph) (roots order ring : List ℕ) → IsArranged graph roots order → IsRingOf graph roots ring → ⊥ }

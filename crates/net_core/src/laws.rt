@@ -17,13 +17,13 @@ pub fn loop_is_a_ring()
     ensures { (net : NetList) (loop : List ℕ) → IsLoop net loop → IsRing net loop }
 {}
 
-/// A net list has one such list at most.
+/// A net list that stands on existing nets, with one driver for each net, has one such list at most.
 pub fn loop_is_the_only_one()
     ensures { (net : NetList) (loop other : List ℕ) → IsInside net → HasOneDriverEach net → IsLoop net loop → IsLoop net other → loop ≡ other }
 {}
 
-/// Of a sound net list `finish` gives no fault but want of memory, and of any other it gives one fault:
-/// two that fit are equal, or one is want of memory.
+/// Of a sound net list `finish` gives no fault but want of memory; of one that stands on existing nets it gives one
+/// fault at most: two that fit are equal, or one is want of memory.
 pub fn finish_accepts_the_sound_nets()
     ensures sound { (net : NetList) (fault : NetFault) → IsSound net → Finishes net (Err fault) → fault ≡ NetFault.OutOfMemory }
     ensures one_fault { (net : NetList) (fault other : NetFault) → IsInside net → Finishes net (Err fault) → Finishes net (Err other) → (fault ≡ NetFault.OutOfMemory) ⊎ ((other ≡ NetFault.OutOfMemory) ⊎ (fault ≡ other)) }
@@ -35,14 +35,14 @@ pub fn levels_are_the_only_ones()
     ensures { (net : NetList) (levels other : Levels) → HasOneDriverEach net → AreLevels net levels → AreLevels net other → levels ≡ other }
 {}
 
-/// In a list of levels the nets that have one are those that stay where gates all of whose inputs have a level
-/// are removed as often as possible.
+/// Where each net has one driver, the nets that have a level in a list of levels are those to which levels lead: the
+/// sources, and the outputs of gates all of whose inputs have one.
 pub fn levels_are_where_nets_have_them()
     ensures known { (net : NetList) (levels : Levels) (n : ℕ) → HasOneDriverEach net → AreLevels net levels → HasLevel net n → IsSome (level_at levels n) }
     ensures only { (net : NetList) (levels : Levels) (n : ℕ) → HasOneDriverEach net → AreLevels net levels → IsSome (level_at levels n) → HasLevel net n }
 {}
 
-/// A net list has one order of its gates by level and position at most.
+/// A net list whose nets have one driver each has one order of its gates by level and position at most.
 pub fn order_is_the_only_one()
     ensures { (net : NetList) (order other : List ℕ) → HasOneDriverEach net → IsLevelOrder net order → IsLevelOrder net other → order ≡ other }
 {}

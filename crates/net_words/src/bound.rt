@@ -7,11 +7,14 @@ use crate::word::Role;
 use net_core::{Name, Numbers};
 use std::marker::Model;
 
-/// A word with the numbers of its nets, place 0 first.
+/// A word that is bound to nets.
 #[derive(Debug, Drop)]
 pub struct BoundWord {
+    /// Its name, of 1 to 255 bytes.
     pub name: Name,
+    /// What it is to the net list.
     pub role: Role,
+    /// The numbers of its 1 to 64 nets, place 0 first.
     pub nets: Numbers<u32>,
 }
 

@@ -62,11 +62,6 @@ ComesBefore (WordSum v r) (WordProduct w s j) = IsEarlier v r w s ⊥
 ComesBefore (WordSum v r) (WordSum w s) = IsEarlier v r w s ⊥
 ComesBefore a b = ⊥
 
--- whether the name is that of a cut
-abbrev pub is_cut : Stage → Bool
-is_cut (Cut t) = true
-is_cut other = false
-
 -- whether the name is that of a stage of words
 abbrev pub is_of_words : Stage → Bool
 is_of_words (WordProduct w s j) = true
