@@ -113,7 +113,7 @@ impl Basis {
         self.duals[i as usize]
     }
 
-    /// The sum of the elements i with bit i of `bits` set.
+    /// The sum of the elements i with bit i of `bits` set; `bits` is below 2^k.
     pub fn element_of(&self, bits: u64) -> u64
         requires { bits < 2 ^ length (elements_of self.now) }
         ensures sum { result ≡ combination (elements_of self.now) bits }
@@ -122,7 +122,7 @@ impl Basis {
         combined(&self.elements[..self.count as usize], bits)
     }
 
-    /// The bits whose element this is, in the field that the basis was made over.
+    /// The bits, below 2^k, whose element this is, in the field that the basis was made over; `element` is below 2^k.
     pub fn bits_of<F: Field>(&self, field: &F, element: u64) -> u64
         requires element { element < 2 ^ F.degree field.now }
         requires over { IsOver (F.degree field.now) (F.product field.now) self.now }

@@ -25,7 +25,7 @@ pub fn power<R: Ring>(ring: &R, a: u64, e: u64) -> u64
     product
 }
 
-/// `a` squared `j` times.
+/// `a` squared `j` times; `a` is an element of the ring, `j` any number.
 pub fn frobenius<R: Ring>(ring: &R, a: u64, j: u32) -> u64
     requires { a < 2 ^ R.degree ring.now }
     ensures squares { result ≡ frobenius_of (R.product ring.now) j a }

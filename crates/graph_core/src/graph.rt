@@ -77,7 +77,7 @@ impl Graph {
         Ok(Graph { alloc, rows })
     }
 
-    /// Lets a point lead to these points, in this order, and to no others.
+    /// Lets a point lead to these points, in this order, and to no others; all are points of the graph.
     pub fn set_edges(&mut self, from: u32, to: &[u32]) -> Result<(), AllocError>
         requires from { from < length self.old }
         requires to { All (λ a. a < length self.old) to.now }
@@ -98,7 +98,7 @@ impl Graph {
         self.rows.len()
     }
 
-    /// The points to which a point leads, in order.
+    /// The points to which a point of the graph leads, in order.
     pub fn edges(&self, from: u32) -> &[u32]
         requires { from < length self.now }
         ensures edges { result.now ≡ edges self.now from }

@@ -24,7 +24,8 @@ struct Frame {
     next: usize,
 }
 
-/// The roots and the points to which they lead, each once and each after those to which it leads.
+/// The roots, which are points of the graph, and the points to which they lead, each once and each after those to which
+/// it leads.
 /// Where a root leads into a ring, it is the ring that a walk finds, which begins at the first such root
 /// and goes from each point to the first one that leads into a ring, until it meets a point again.
 pub fn arrange(alloc: Global, graph: &Graph, roots: &[u32]) -> Result<Vec<u32>, RingFault>

@@ -19,7 +19,7 @@ pub struct BitMatrix {
 impl BitMatrix {
     ghost use Rattle.irreducible.specs.BitMatrix.{rows_of};
 
-    /// The matrix with these rows.
+    /// The matrix with these n rows, at most 64, each below 2^n.
     pub fn new(rows: &[u64]) -> BitMatrix
         requires few { length rows.now ≤ 64 }
         requires square { IsSquare rows.now }
@@ -57,7 +57,7 @@ impl BitMatrix {
         })
     }
 
-    /// The exclusive or of the rows i with bit i of `v` set.
+    /// The exclusive or of the rows i with bit i of `v` set; `v` is below 2^n.
     pub fn apply(&self, v: u64) -> u64
         requires { v < 2 ^ length (rows_of self.now) }
         ensures sum { result ≡ combination (rows_of self.now) v }

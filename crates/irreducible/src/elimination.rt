@@ -19,7 +19,7 @@ pub struct Pivots {
     pub rank: u32,
 }
 
-/// The exclusive or of the rows i with bit i of `choice` set.
+/// The exclusive or of the rows i with bit i of `choice` set, of at most 64 rows.
 pub fn combined(rows: &[u64], choice: u64) -> u64
     requires { length rows.now ≤ 64 }
     ensures { result ≡ combination rows.now choice }

@@ -114,7 +114,7 @@ impl Design {
         self.numbers.get(name).copied()
     }
 
-    /// The name of a model, which may be empty.
+    /// The name of a model, which may be empty; models are numbered from 0.
     pub fn name(&self, model: u32) -> &str
         requires { model < length self.now }
         ensures { (m : ModelValue) → slice_get self.now model ≡ Some m → result.now ≡ m.name }

@@ -119,7 +119,7 @@ impl NetMaker {
         Ok(number)
     }
 
-    /// Makes the net a primary input, after those before.
+    /// Makes a net that there is a primary input, after those before.
     pub fn input(&mut self, net: u32) -> Result<(), AllocError>
         requires { net < nets self.old }
         ensures made { OnOk result (self.new ≡ record self.old { inputs = self.old.inputs ++ net ∷ [] }) }
@@ -129,7 +129,7 @@ impl NetMaker {
         Ok(())
     }
 
-    /// Makes the net an output, after those before.
+    /// Makes a net that there is an output, after those before.
     pub fn output(&mut self, net: u32) -> Result<(), AllocError>
         requires { net < nets self.old }
         ensures made { OnOk result (self.new ≡ record self.old { outputs = self.old.outputs ++ net ∷ [] }) }

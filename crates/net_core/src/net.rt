@@ -45,7 +45,7 @@ impl Net {
         self.made.nets() as u32
     }
 
-    /// What the net is called in messages.
+    /// What a net, below the number of nets, is called in messages.
     pub fn label(&self, net: u32) -> &str
         requires { net < nets self.now }
         ensures { result.now ≡ text_of self.now net }

@@ -61,6 +61,7 @@ impl<T: Drop> From<AllocFailed<T>> for BindFault {
 
 /// Binds words to the nets of a netlist, or gives the first fault: word by word and place by place `NoSuchNet`,
 /// `NotInput`, `NotLatch` and `NetTwice`; then `Uncovered`, the least such net; then `UnknownStart`, the first such latch.
+/// Each word has k nets for one k from 1 to 64, one is the output word, and at most 8 are input or state words.
 pub fn bind(alloc: Global, words: &[WordText], net: &Net) -> Result<Bound, BindFault>
     requires { (k : ℕ) × AreWords k words.now }
     ensures fits { FitsBinding (λ bound. bound) result (BindingOf net.now words.now) }

@@ -80,7 +80,7 @@ impl Bound {
         self.k
     }
 
-    /// What word w is to the netlist.
+    /// What word w, below the number of words, is to the netlist.
     pub fn role(&self, w: u32) -> Role
         requires { w < length self.now.words }
         ensures { (word : _) → slice_get self.now.words w ≡ Some word → result ≡ word.role }
@@ -88,7 +88,7 @@ impl Bound {
         self.words[w as usize].role
     }
 
-    /// The name of word w.
+    /// The name of word w, below the number of words.
     pub fn name(&self, w: u32) -> &str
         requires { w < length self.now.words }
         ensures { (word : _) → slice_get self.now.words w ≡ Some word → result.now ≡ word.name }
@@ -96,7 +96,7 @@ impl Bound {
         self.words[w as usize].name.as_str()
     }
 
-    /// The net of a place of word w.
+    /// The net of a place, below k, of word w, below the number of words.
     pub fn net(&self, w: u32, place: u32) -> u32
         requires word { w < length self.now.words }
         requires place { place < self.now.k }

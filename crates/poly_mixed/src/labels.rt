@@ -46,7 +46,8 @@ impl Model for Labels {
 }
 
 impl Labels {
-    /// Labels with the output word's name, no word and no further net.
+    /// Labels with the output word's name (a letter, then letters, digits and `_`, at most 255 bytes), no word and no
+    /// further net.
     pub fn new(alloc: Global, output: &str) -> Result<Labels, AllocError>
         requires name { IsName output.now }
         ensures { IfOk result (λ l. l ≡ record { output = output.now; words = []; nets = [] }) }
@@ -74,7 +75,7 @@ impl Labels {
         Ok(())
     }
 
-    /// The net of the next rank, by its number.
+    /// The net of the next rank, by its number, which no net before has.
     /// After want of memory the labels are not used again.
     pub fn net(&mut self, number: u32) -> Result<(), AllocError>
         requires new { Differs number self.old.nets }
@@ -106,7 +107,7 @@ impl Labels {
         self.words.len() as u32
     }
 
-    /// A word's name.
+    /// The name of a word, below the number of words.
     pub fn name(&self, word: u32) -> &str
         requires { word < length self.now.words }
         ensures { result.now ≡ (word_at self.now.words word).0 }
@@ -114,7 +115,7 @@ impl Labels {
         self.words[word as usize].name.as_str()
     }
 
-    /// A word's number of bits.
+    /// The number of bits, 1 to 64, of a word, below the number of words.
     pub fn bits(&self, word: u32) -> u32
         requires { word < length self.now.words }
         ensures { result ≡ (word_at self.now.words word).1 }

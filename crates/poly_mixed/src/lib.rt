@@ -15,6 +15,7 @@ mod single;
 mod stage;
 mod steps;
 mod table;
+mod term;
 #[cfg(test)]
 mod tests;
 #[cfg(test)]
@@ -27,10 +28,11 @@ pub use labels::Labels;
 pub use laws::{one_size, one_text, text_order, text_reads_back, unique, unique_in_bits};
 pub use mono::Mono;
 pub use named::is_named;
-pub use poly::{Poly, Term};
+pub use poly::Poly;
 pub use read::read_poly;
 pub use single::{constant, scaled_bit, scaled_power};
 pub use stage::{ReduceFault, Stage};
 pub use steps::{Generator, NoSteps, Steps};
 pub use table::table_poly;
+pub use term::Term;
 pub use write::write_poly;

@@ -9,45 +9,13 @@ ghost use Rattle.poly_mixed.specs.Cofactor.{cofactors, lacking, LacksBit, IsCofa
 ghost use Rattle.poly_mixed.specs.Product.{IsProduct, AddsProduct};
 ghost use Rattle.poly_mixed.specs.Sum.{with_coefficient, plus_term, plus};
 
-use crate::Mono;
 use crate::evaluate::term_value;
+use crate::{Mono, Term};
 use gf_field::Field;
 use std::alloc::{AllocError, Global};
 use std::collections::BTreeMap;
 use std::collections::btree_map::Entry;
 use std::marker::Model;
-
-/// A monomial with its coefficient.
-#[derive(Drop)]
-pub struct Term {
-    coefficient: u64,
-    mono: Mono,
-}
-
-impl Model for Term {
-    ghost use Rattle.std.specs.Prelude.{ℕ};
-    ghost use Rattle.poly_mixed.specs.Monomial.{Monomial};
-
-    ghost Value = { Monomial × ℕ };
-
-    ghost view = { λ t. (t.mono, t.coefficient) };
-}
-
-impl Term {
-    /// The coefficient, which is not 0.
-    pub fn coefficient(&self) -> u64
-        ensures { result ≡ self.now.1 }
-    {
-        self.coefficient
-    }
-
-    /// The monomial.
-    pub fn mono(&self) -> &Mono
-        ensures { result.now ≡ self.now.0 }
-    {
-        &self.mono
-    }
-}
 
 /// A polynomial over a field, always reduced: a finite map from monomials to elements that are not 0.
 #[derive(Drop)]
@@ -102,7 +70,7 @@ impl Poly {
         Ok(Poly { map, alloc })
     }
 
-    /// Adds another polynomial to it.
+    /// Adds another polynomial to it; both are over the field, with coefficients and exponents below 2^k.
     pub fn add_into<F: Field>(&mut self, _field: &F, other: &Poly) -> Result<(), AllocError>
         requires over { IsReduced (F.degree _field.now) self.old.terms }
         requires other_over { IsReduced (F.degree _field.now) other.now.terms }
@@ -131,7 +99,7 @@ impl Poly {
         Ok(())
     }
 
-    /// The reduced polynomial of the product's values.
+    /// The reduced polynomial of the product's values; both are over the field, with coefficients and exponents below 2^k.
     pub fn mul<F: Field>(&self, alloc: Global, field: &F, other: &Poly) -> Result<Poly, AllocError>
         requires over { IsReduced (F.degree field.now) self.now.terms }
         requires other_over { IsReduced (F.degree field.now) other.now.terms }
@@ -206,7 +174,7 @@ impl Poly {
         Ok(part)
     }
 
-    /// Puts a polynomial in place of a bit.
+    /// Puts a polynomial in place of a bit; both are over the field, with coefficients and exponents below 2^k.
     pub fn substitute_bit<F: Field>(
         &mut self,
         field: &F,
@@ -249,10 +217,7 @@ impl Poly {
         let mut terms = Vec::with_capacity(alloc, self.map.len())?;
         for (mono, c) in &self.map {
             let mono = mono.copied()?;
-            terms.push(Term {
-                coefficient: *c,
-                mono,
-            })?;
+            terms.push(Term::new(mono, *c))?;
         }
         Ok(terms)
     }

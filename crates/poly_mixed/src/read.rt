@@ -219,7 +219,7 @@ fn add_variable<'a>(
     }
 }
 
-/// The polynomial that a text says, in the variables that labels name.
+/// The polynomial that a text says, in the variables that labels name, over a field of 2^k elements with k from 1 to 64.
 pub fn read_poly(alloc: Global, bytes: &[u8], k: u32, labels: &Labels) -> Result<Poly, PolyFault>
     requires { (1 ≤ k) × (k ≤ 64) }
     ensures read { IfOk result (λ p. reading labels.now k bytes.now ≡ Ok p.terms) }

@@ -7,7 +7,7 @@ use crate::{Mono, Poly};
 use gf_field::Field;
 use std::alloc::{AllocError, Global};
 
-/// The polynomial of an element.
+/// The polynomial of an element, below 2^k.
 pub fn constant<F: Field>(alloc: Global, field: &F, c: u64) -> Result<Poly, AllocError>
     requires { IsElement (F.degree field.now) c }
     ensures { IfOk result (λ q. IsPolynomialOf (F.degree field.now) (F.product field.now) (λ p. c) q.terms) }
@@ -16,7 +16,7 @@ pub fn constant<F: Field>(alloc: Global, field: &F, c: u64) -> Result<Poly, Allo
     Poly::term(alloc, field, c, mono)
 }
 
-/// The polynomial of a bit times an element.
+/// The polynomial of a bit times an element, below 2^k.
 pub fn scaled_bit<F: Field>(alloc: Global, field: &F, c: u64, rank: u32) -> Result<Poly, AllocError>
     requires { IsElement (F.degree field.now) c }
     ensures { IfOk result (λ q. IsPolynomialOf (F.degree field.now) (F.product field.now) (λ p. cond (p.is_one rank) c 0) q.terms) }
@@ -25,7 +25,7 @@ pub fn scaled_bit<F: Field>(alloc: Global, field: &F, c: u64, rank: u32) -> Resu
     Poly::term(alloc, field, c, mono)
 }
 
-/// The polynomial of a power of a word times an element.
+/// The polynomial of a power of a word, 0 to 7, times an element, below 2^k; the exponent is below 2^k too.
 pub fn scaled_power<F: Field>(
     alloc: Global,
     field: &F,

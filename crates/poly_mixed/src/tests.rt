@@ -164,3 +164,22 @@ fn a_sum_of_0_leaves_no_term(rt: HostRuntime) -> Result<(), Fail> {
     assert_eq!(rt; Poly::zero(alloc).len(), 0);
     Ok(())
 }
+
+#[test]
+fn the_terms_with_a_bit_are_taken_out(rt: HostRuntime) -> Result<(), Fail> {
+    let alloc = rt.alloc();
+    let field = field(&rt, 0x7);
+    assert!(rt; is_element(&field, 2));
+    let mut poly = scaled_bit(alloc, &field, 2, 1)?;
+    let rest = constant(alloc, &field, 2)?;
+    poly.add_into(&field, &rest)?;
+    let part = poly.take_cofactor(alloc, 1)?;
+    assert_eq!(rt; part.terms(alloc)?.len(), 1);
+    assert!(rt; part.terms(alloc)?[0].mono().bits().is_empty());
+    assert_eq!(rt; poly.terms(alloc)?.len(), 1);
+    assert!(rt; !poly.has(1));
+    let none = poly.take_cofactor(alloc, 1)?;
+    assert!(rt; none.terms(alloc)?.is_empty());
+    assert_eq!(rt; poly.terms(alloc)?.len(), 1);
+    Ok(())
+}

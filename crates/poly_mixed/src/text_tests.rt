@@ -86,6 +86,24 @@ fn terms_are_written_in_order(rt: HostRuntime) -> Result<(), Fail> {
     Ok(())
 }
 
+#[test]
+fn a_word_without_a_name_is_noticed(rt: HostRuntime) -> Result<(), Fail> {
+    let alloc = rt.alloc();
+    let field = field(&rt, 0x7);
+    let both = labels(&rt, alloc, "Z", "A", "B")?;
+    assert!(rt; is_name(b"Z"));
+    let none = Labels::new(alloc, "Z")?;
+    let word = term(&rt, alloc, &field, 2, &[0, 1], &[], 1)?;
+    let bit = term(&rt, alloc, &field, 2, &[0, 0], &[3], 0b10)?;
+    let constant = term(&rt, alloc, &field, 2, &[0, 0], &[], 1)?;
+    assert!(rt; is_named(&word, &both));
+    assert!(rt; is_named(&bit, &both));
+    assert!(rt; !is_named(&word, &none));
+    assert!(rt; !is_named(&bit, &none));
+    assert!(rt; is_named(&constant, &none));
+    Ok(())
+}
+
 // what a text says in GF(4), written again
 fn written_again(rt: &impl Abort, alloc: Global, bytes: &[u8]) -> Result<Vec<u8>, PolyFault> {
     let labels = labels(rt, alloc, "Z", "A", "B")?;

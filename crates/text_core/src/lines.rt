@@ -6,7 +6,7 @@ ghost use Rattle.text_core.specs.Lines.{before_comment as text_before_comment};
 
 use std::alloc::{AllocError, Global};
 
-/// The first line of a text, without its LF and the CR before that, and the text after it.
+/// The first line of a text that is not empty, without its LF and the CR before that, and the text after it.
 pub fn next_line(text: &[u8]) -> (&[u8], &[u8])
     requires { 0 < length text.now }
     ensures lines { lines text.now ≡ result.0.now ∷ lines result.1.now }
