@@ -31,7 +31,7 @@ fn outcome(alloc: Global, text: &[u8]) -> Result<String, Fail> {
 }
 
 #[test]
-fn statements_and_faults(rt: HostRuntime) -> Result<(), Fail> {
+fn models_and_their_ends(rt: HostRuntime) -> Result<(), Fail> {
     let alloc = rt.alloc();
     for (text, wanted) in [
         ("", "NoModel"),
@@ -52,6 +52,17 @@ fn statements_and_faults(rt: HostRuntime) -> Result<(), Fail> {
         (".model a\n.end\n.model b\n", "[] []"),
         (".model a\n.end\n.model a\n", "ModelTwice { line: 3 }"),
         (".model\n.model b\n.model\n", "ModelTwice { line: 3 }"),
+    ] {
+        let found = outcome(alloc, text.as_bytes())?;
+        assert_eq!(rt; found.as_str(), wanted, "at {text}");
+    }
+    Ok(())
+}
+
+#[test]
+fn statements_and_faults(rt: HostRuntime) -> Result<(), Fail> {
+    let alloc = rt.alloc();
+    for (text, wanted) in [
         (".model a\n.inputs\n.outputs\n.clock\n.clock c d\n", "[] []"),
         (
             ".model a\n.inputs x\n.inputs y z\n.outputs y\n",

@@ -160,6 +160,21 @@ fn inputs(rt: HostRuntime) -> Result<(), Fail> {
             b"gfsig 1\nfield 0x7\nword I0 input poly a b\nword O1 output poly z x\n".as_slice(),
             "no net for place 1 of word 1",
         ),
+    ] {
+        assert_eq!(rt;
+            outcome(alloc, &net, text)?.as_str(),
+            outcome_is,
+            "at {text:?}"
+        );
+    }
+    Ok(())
+}
+
+#[test]
+fn inputs_that_stand_elsewhere(rt: HostRuntime) -> Result<(), Fail> {
+    let alloc = rt.alloc();
+    let net = conjunction(alloc)?;
+    for (text, outcome_is) in [
         (
             b"gfsig 1\nfield 0x7\nword I0 input poly a b\nword I1 input poly b c\nword O2 output poly z z\n".as_slice(),
             "net 1 stands twice",

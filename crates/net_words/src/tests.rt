@@ -31,7 +31,7 @@ const TEN: &[u8] =
     b"gfsig 1\nfield 0x3\nword Z output poly z\nword A input poly a\nword B input poly b\nword C input poly c\nword D input poly d\nword E input poly e\nword F input poly f\nword G input poly g\nword H input poly h\nword I input poly i\n";
 
 #[test]
-fn texts(rt: HostRuntime) -> Result<(), Fail> {
+fn the_first_lines(rt: HostRuntime) -> Result<(), Fail> {
     let alloc = rt.alloc();
     for (text, kind, number) in [
         (b"".as_slice(), "syntax", 1),
@@ -51,7 +51,17 @@ fn texts(rt: HostRuntime) -> Result<(), Fail> {
         (b"gfsig 1\nfield 0x7\nword Z state poly a b\n", "syntax", 3),
         (b"gfsig 1\nfield 0x7\nblock m\n", "syntax", 3),
         (b"gfsig 1\nfield 0x7\n\\\n", "syntax", 3),
-        (b"gfsig 1\nfield 0x7\ntower\n", "syntax", 3),
+    ] {
+        assert_eq!(rt; outcome(alloc, text), (kind, number), "at {text:?}");
+    }
+    Ok(())
+}
+
+#[test]
+fn towers_and_numbers(rt: HostRuntime) -> Result<(), Fail> {
+    let alloc = rt.alloc();
+    for (text, kind, number) in [
+        (b"gfsig 1\nfield 0x7\ntower\n".as_slice(), "syntax", 3),
         (
             b"gfsig 1\nfield 0x7\ntower 0x2 0x1\nword Z output poly a\n",
             "words",
@@ -92,8 +102,18 @@ fn texts(rt: HostRuntime) -> Result<(), Fail> {
             "syntax",
             2,
         ),
+    ] {
+        assert_eq!(rt; outcome(alloc, text), (kind, number), "at {text:?}");
+    }
+    Ok(())
+}
+
+#[test]
+fn names_and_counts(rt: HostRuntime) -> Result<(), Fail> {
+    let alloc = rt.alloc();
+    for (text, kind, number) in [
         (
-            b"gfsig 1\nfield 0x7\nword Z output poly a\nword Z output poly a\n",
+            b"gfsig 1\nfield 0x7\nword Z output poly a\nword Z output poly a\n".as_slice(),
             "name twice",
             4,
         ),

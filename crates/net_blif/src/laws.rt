@@ -8,12 +8,12 @@ ghost use Rattle.net_blif.specs.Flat.{Flattens};
 ghost use Rattle.net_blif.specs.Models.{BlifDesign};
 
 /// At most one outcome fits a text.
-pub fn one_outcome()
+pub fn one_design_or_fault()
     ensures { (text : List ℕ) → Determined (BlifDesign text) }
 {}
 
 /// At most one net or fault comes of a model of a design.
-pub fn flattens_determined()
+pub fn one_net_or_fault()
     ensures { (design : List ModelValue) (model : ℕ) → Determined (Flattens design model) }
 {}
 
