@@ -13,6 +13,7 @@ mod stage_laws;
 mod tests;
 mod word_bit;
 mod word_laws;
+mod word_part;
 mod word_poly;
 mod word_stage;
 #[cfg(test)]
@@ -29,8 +30,10 @@ pub use stage_laws::{
     one_element_a_stage, one_first_over, one_polynomial_a_stage, one_size_a_stage,
     stages_are_ordered,
 };
+pub use word_bit::bit_poly;
 pub use word_laws::{
     mix_in_later_bits, one_list_of_cut_steps, one_list_of_word_steps, rank_of_place,
     sum_of_all_terms,
 };
+pub use word_part::{other_part, own_ranks};
 pub use word_stage::{word_product, word_sum};

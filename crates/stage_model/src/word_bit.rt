@@ -8,7 +8,8 @@ use gf_field::Field;
 use poly_mixed::{Poly, scaled_power};
 use std::alloc::{AllocError, Global};
 
-// The polynomial of a word's bit: its linear form in the word.
+/// The polynomial of a bit of a word, 0 to 7: its linear form in the word. The place is below k, and the basis was made
+/// over the field.
 pub fn bit_poly<F: Field>(
     alloc: Global,
     field: &F,

@@ -6,7 +6,6 @@ mod forms;
 mod laws;
 mod places;
 mod product;
-mod ranks;
 mod term;
 #[cfg(test)]
 mod tests;

@@ -10,10 +10,10 @@ ghost use Rattle.word_subst.specs.ReadSteps.{TellsFirst};
 ghost use Rattle.word_subst.specs.ReadRefusal.{IsTermRefusal};
 
 use crate::product::multiplied;
-use crate::ranks::{other_part, own_ranks};
 use gf_basis::Basis;
 use gf_field::Field;
 use poly_mixed::{Generator, Poly, ReduceFault, Stage, Steps, Term};
+use stage_model::{other_part, own_ranks};
 use std::alloc::Global;
 
 /// Refuses a stage of more terms than the bound.

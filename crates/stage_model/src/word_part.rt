@@ -29,7 +29,7 @@ fn add_rank(rank: u32, keep: bool, list: &mut Vec<u32>) -> Result<(), AllocError
     Ok(())
 }
 
-/// The ranks that are a word's.
+/// The ranks that are a word's, in their order, for words of k bits, at most 64; the word is 0 to 7.
 pub fn own_ranks(alloc: Global, ranks: &[u32], k: u32, word: u32) -> Result<Vec<u32>, AllocError>
     requires k { k ≤ 64 }
     requires word { word < 8 }
@@ -55,7 +55,7 @@ fn other_ranks(alloc: Global, ranks: &[u32], k: u32, word: u32) -> Result<Vec<u3
     Ok(list)
 }
 
-/// The term without its bits of the word.
+/// The term without its bits of a word, 0 to 7; the field has k bits, and so has each word.
 pub fn other_part<F: Field>(
     alloc: Global,
     field: &F,

@@ -10,7 +10,7 @@ use Rattle.poly_mixed.proofs.FieldLaws.{field_of}
 use Rattle.poly_mixed.proofs.Cofactors.{rising-filter}
 use Rattle.stage_model.specs.WordStage.{is_of_word}
 use Rattle.stage_model.proofs.WordPolyLemmas.{rest_is, product_first}
-use Rattle.stage_model.proofs.word_poly.other_part.Goals as goal
+use Rattle.stage_model.proofs.word_part.other_part.Goals as goal
 
 pub new-requires : goal.new-requires
 new-requires g c =
