@@ -46,6 +46,8 @@ mod stop;
 #[cfg(test)]
 mod tests;
 mod top;
+#[cfg(test)]
+mod wide_tests;
 mod words;
 
 pub use answer_laws::{

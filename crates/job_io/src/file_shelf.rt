@@ -1,5 +1,5 @@
 //! The shelf of the system's files, which is trusted to be what the system says.
-ghost use Rattle.std.specs.Prelude.{◌≡◌, ◌<◌, ◌≤◌, ◌^◌, None, IfOk, IfErr, IsErrOf, ℕ, vec_len};
+ghost use Rattle.std.specs.Prelude.{◌≡◌, ◌↔◌, ◌<◌, ◌≤◌, ◌^◌, None, IfOk, IfErr, IfSome, IsErrOf, ℕ, length, vec_len};
 ghost use Rattle.job_io.specs.Shelf.{faults_after, misses_after};
 
 use crate::counts::next_count;
@@ -39,7 +39,9 @@ impl<R: Files> FileShelf<R> {
 
 // What an error of the system says.
 fn fault_of(kind: ErrorKind) -> ShelfFault
-    ensures { (n : ℕ) → result ≡ ShelfFault.TooLong n → ⊥ }
+    ensures not_long { (n : ℕ) → result ≡ ShelfFault.TooLong n → ⊥ }
+    ensures absent { (result ≡ ShelfFault.Absent) ↔ (kind ≡ ErrorKind.NotFound) }
+    ensures memory { (result ≡ ShelfFault.OutOfMemory) ↔ (kind ≡ ErrorKind.OutOfMemory) }
 {
     match kind {
         ErrorKind::NotFound => ShelfFault::Absent,
@@ -52,6 +54,9 @@ fn fault_of(kind: ErrorKind) -> ShelfFault
 fn read_up_to<F: Read>(alloc: Global, file: &mut F, limit: u32) -> Result<Vec<u8>, ShelfFault>
     ensures within { IfOk result (λ bytes. vec_len bytes ≤ limit) }
     ensures too_long { IfErr result (λ e. (n : ℕ) → e ≡ ShelfFault.TooLong n → n ≡ limit) }
+    // Where it is known what the reader gives, it is all of that, or that is more than the limit.
+    ensures all { IfOk result (λ bytes. IfSome (F.remaining file.old) (λ known. bytes.items ≡ known)) }
+    ensures more { IfErr result (λ e. (n : ℕ) → e ≡ ShelfFault.TooLong n → IfSome (F.remaining file.old) (λ known. limit < length known)) }
 {
     let limit_bytes = limit as usize;
     let mut bytes = Vec::new(alloc);

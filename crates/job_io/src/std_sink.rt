@@ -1,5 +1,6 @@
 //! The sink of standard output, which is trusted to be what the system says.
-ghost use Rattle.std.specs.Prelude.{◌≡◌, ◌<◌, ◌≤◌, ◌^◌, None, Ok, [], length, IfOk};
+ghost use Rattle.std.specs.Prelude.{◌≡◌, ◌<◌, ◌≤◌, ◌^◌, None, Ok, [], length, take, IfOk, OnErr};
+ghost use Rattle.std.specs.Io.KnownBytes.{Appends, Keeps};
 ghost use Rattle.job_io.specs.Sink.{sink_faults_after};
 
 use crate::counts::next_count;
@@ -26,6 +27,19 @@ impl<R: Print> StdSink<R> {
     }
 }
 
+// What a writer takes of a piece, where it takes something.
+fn write_some<W: Write>(writer: &mut W, piece: &[u8]) -> Result<usize, SinkFailed>
+    ensures within { IfOk result (λ n. n ≤ length piece.now) }
+    ensures some { IfOk result (λ n. 0 < n) }
+    ensures appends { IfOk result (λ n. Appends (W.contents writer.old) (W.contents writer.new) (take n piece.now)) }
+    ensures nothing { OnErr result (Keeps (W.contents writer.old) (W.contents writer.new)) }
+{
+    match writer.write(piece) {
+        Ok(taken) if taken > 0 => Ok(taken),
+        _ => Err(SinkFailed),
+    }
+}
+
 impl<R: Print> Sink for StdSink<R> {
     ghost use Rattle.job_io.specs.StdSink.{std_faults};
 
@@ -44,9 +58,9 @@ impl<R: Print> Sink for StdSink<R> {
         if piece.is_empty() {
             return Ok(0);
         }
-        match io::writer(&self.output).write(piece) {
-            Ok(taken) if taken > 0 => Ok(taken),
-            _ => {
+        match write_some(&mut io::writer(&self.output), piece) {
+            Ok(taken) => Ok(taken),
+            Err(SinkFailed) => {
                 self.faults = next_count(self.faults);
                 Err(SinkFailed)
             }
