@@ -16,6 +16,17 @@ fn wires(rt: &impl Abort, alloc: Global) -> Result<Net, NetFault> {
     maker.finish()
 }
 
+// Net 2 is net 0, net 3 its negation, and net 4 is 0.
+fn copies(rt: &impl Abort, alloc: Global) -> Result<Net, NetFault> {
+    let mut maker = with_names(rt, alloc, &["a0", "a1", "w", "z0", "z1"])?;
+    maker.input(0)?;
+    maker.input(1)?;
+    maker.gate(2, &[0], 2)?;
+    maker.gate(3, &[2], 1)?;
+    maker.gate(4, &[], 0)?;
+    maker.finish()
+}
+
 // Net 2 is net 0 and itself, net 3 is what two of its inputs are, and two of them are net 1.
 fn twice(rt: &impl Abort, alloc: Global) -> Result<Net, NetFault> {
     let mut maker = with_names(rt, alloc, &["a0", "a1", "z0", "z1"])?;
@@ -70,6 +81,25 @@ fn an_input_and_a_constant(rt: HostRuntime) -> Result<(), Fail> {
     let text = b"gfsig 1\nfield 0x7\nword A input poly a0 a1\nword Z output poly a0 one\n";
     let circuit = circuit(&rt, alloc, wires(&rt, alloc)?, text);
     compare_one(&rt, alloc, &field, &circuit, &[0, 2], &[2, 2], [2, 3, 2, 3])?;
+    Ok(())
+}
+
+// A wire, its negation, and a bit that is 0; an input that nothing reads.
+#[test]
+fn wires_and_zero(rt: HostRuntime) -> Result<(), Fail> {
+    let alloc = rt.alloc();
+    let field = field(&rt);
+    let text = b"gfsig 1\nfield 0x7\nword A input poly a0 a1\nword Z output poly z0 z1\n";
+    let circuit = circuit(&rt, alloc, copies(&rt, alloc)?, text);
+    compare_one(
+        &rt,
+        alloc,
+        &field,
+        &circuit,
+        &[3, 4],
+        &[2, 3, 2, 2],
+        [1, 0, 1, 0],
+    )?;
     Ok(())
 }
 
