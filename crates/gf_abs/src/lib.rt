@@ -15,6 +15,8 @@ mod long_tests;
 mod netlist;
 mod netlist_laws;
 #[cfg(test)]
+mod plain_tests;
+#[cfg(test)]
 mod rows;
 #[cfg(test)]
 mod rows_1;
@@ -42,6 +44,8 @@ mod rows_8;
 mod rows_9;
 mod setting;
 mod setting_laws;
+#[cfg(test)]
+mod stage_tests;
 mod stop;
 #[cfg(test)]
 mod tests;

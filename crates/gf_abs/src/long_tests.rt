@@ -1,5 +1,16 @@
 //! The conjunction of two bits of a word of 64 bits, whose polynomial has a text of 77,130 bytes.
+ghost use Rattle.gf_abs.specs.Setting.{AreBasesOver};
+
+use crate::netlist::circuit_of;
+use crate::plain_tests::{poly_in_words, value_at};
+use crate::setting::setting_of;
 use crate::tests::answer;
+use gf_basis::Basis;
+use gf_field::Field;
+use gf_tower::AnyField;
+use net_words::Combinational;
+use std::alloc::Global;
+use std::process::Abort;
 use std::test::Fail;
 
 const SIGNATURE: &str =
@@ -19,4 +30,39 @@ fn conjunction_in_64_bits(rt: HostRuntime) -> Result<(), Fail> {
     assert!(rt; text.starts_with(b"Z = 0x6aaaa6666aaa9550*A^13835058055282163712 + "));
     assert!(rt; text.ends_with(b"999999999996*A^2 + 0xa66666666aaaaaa4*A\n"));
     Ok(())
+}
+
+// Both bits are 1 at the element 3 alone.
+fn check_values<F: Field>(
+    rt: &impl Abort,
+    alloc: Global,
+    field: &F,
+    circuit: &Combinational,
+    bases: &[Basis],
+) -> Result<(), Fail>
+    requires { AreBasesOver (F.degree field.now) (F.product field.now) bases.now }
+{
+    let poly = poly_in_words(rt, alloc, field, circuit, bases, u32::MAX)?;
+    for (element, wanted) in [(0, 0), (1, 0), (2, 0), (3, 1)] {
+        let found = value_at(rt, field, &poly, element, 0);
+        assert_eq!(rt; found, wanted, "at {element}");
+    }
+    Ok(())
+}
+
+#[test]
+fn values_in_64_bits(rt: HostRuntime) -> Result<(), Fail> {
+    let alloc = rt.alloc();
+    let setting = setting_of(alloc, SIGNATURE.as_bytes())
+        .ok()
+        .expect(&rt, "a setting");
+    let words = setting.signature.words();
+    let circuit = circuit_of(alloc, words, "and64", NET.as_bytes())
+        .ok()
+        .expect(&rt, "a circuit");
+    let bases = setting.bases.as_slice();
+    match &setting.field {
+        AnyField::Base(field) => check_values(&rt, alloc, field, &circuit, bases),
+        AnyField::Tower(_field) => panic!(rt; "no tower"),
+    }
 }

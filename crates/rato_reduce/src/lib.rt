@@ -6,6 +6,8 @@ mod eliminate;
 mod first_cut;
 #[cfg(test)]
 mod net_tests;
+#[cfg(test)]
+mod plain_tests;
 mod reduce;
 #[cfg(test)]
 mod tests;

@@ -1,16 +1,9 @@
-//! Small nets over the field of 4 elements: the cuts' sizes by the plain program, and values worked by hand.
-ghost use Rattle.std.specs.Prelude.{◌≡◌, length, IfOk};
-ghost use Rattle.gf_basis.specs.BasisParts.{IsOver};
-
-use crate::tests::{circuit, field, outcome, over, value_at, with_names};
-use circuit_model::CircuitWord;
-use gf_basis::Basis;
-use gf_field::Field;
+//! Small nets over the field of 4 elements, with sizes of cuts and values worked by hand, beside the plain programs.
+use crate::plain_tests::{compare, compare_one, word};
+use crate::tests::{circuit, field, with_names};
 use net_core::{Net, NetFault};
-use net_words::{Combinational, Role};
-use poly_mixed::ReduceFault;
-use stage_model::cut_size;
-use std::alloc::{AllocError, Global};
+use net_words::Role;
+use std::alloc::Global;
 use std::process::Abort;
 use std::test::Fail;
 
@@ -20,6 +13,17 @@ fn wires(rt: &impl Abort, alloc: Global) -> Result<Net, NetFault> {
     maker.input(0)?;
     maker.input(1)?;
     maker.gate(2, &[], 1)?;
+    maker.finish()
+}
+
+// Net 2 is net 0, net 3 its negation, and net 4 is 0.
+fn copies(rt: &impl Abort, alloc: Global) -> Result<Net, NetFault> {
+    let mut maker = with_names(rt, alloc, &["a0", "a1", "w", "z0", "z1"])?;
+    maker.input(0)?;
+    maker.input(1)?;
+    maker.gate(2, &[0], 2)?;
+    maker.gate(3, &[2], 1)?;
+    maker.gate(4, &[], 0)?;
     maker.finish()
 }
 
@@ -43,81 +47,30 @@ fn disjunction(rt: &impl Abort, alloc: Global) -> Result<Net, NetFault> {
     maker.finish()
 }
 
-// A word with the polynomial basis.
-fn word<F: Field>(
-    rt: &impl Abort,
-    alloc: Global,
-    field: &F,
-    role: Role,
-    nets: &[u32],
-) -> Result<CircuitWord, AllocError>
-    ensures over { IfOk result (λ w. IsOver (F.degree field.now) (F.product field.now) w.basis) }
-    ensures nets { IfOk result (λ w. length w.nets.items ≡ F.degree field.now) }
-{
-    assert_eq!(rt; nets.len(), field.k() as usize);
-    Ok(CircuitWord {
-        role,
-        nets: nets.to_vec(alloc)?,
-        basis: Basis::poly(field),
-    })
+// Net 6 has six inputs, in an order of its own, and a table in which no input goes without effect; net 7 is the sum of
+// net 6 and an input.
+fn six(rt: &impl Abort, alloc: Global) -> Result<Net, NetFault> {
+    let names = ["a0", "a1", "b0", "b1", "c0", "c1", "z0", "z1"];
+    let mut maker = with_names(rt, alloc, &names)?;
+    maker.input(0)?;
+    maker.input(1)?;
+    maker.input(2)?;
+    maker.input(3)?;
+    maker.input(4)?;
+    maker.input(5)?;
+    maker.gate(6, &[3, 0, 5, 1, 4, 2], 0x8000_0000_0100_1000)?;
+    maker.gate(7, &[6, 1], 6)?;
+    maker.finish()
 }
 
-// The size of a cut by the plain program, where the word A has the nets 0 and 1.
-fn size<F: Field>(
-    rt: &impl Abort,
-    alloc: Global,
-    field: &F,
-    net: &Net,
-    output: &[u32],
-    cut: u32,
-) -> Result<usize, AllocError> {
-    let first = word(rt, alloc, field, Role::Input, &[0, 1])?;
-    let output = word(rt, alloc, field, Role::Output, output)?;
-    assert!(rt; cut as usize <= net.gates().len());
-    let size = cut_size(alloc, field, net, &[first], &output, cut)?;
-    Ok(size.expect(rt, "few variables"))
-}
-
-// What the elimination has to answer: the size of the last cut, or the first cut over the bound.
-fn plain_outcome<F: Field>(
-    rt: &impl Abort,
-    alloc: Global,
-    field: &F,
-    net: &Net,
-    output: &[u32],
-    bound: u32,
-) -> Result<Result<usize, ReduceFault>, AllocError> {
-    let gates = net.gates().len();
-    assert!(rt; gates < 10);
-    let mut last = 0;
-    for cut in 0..=gates as u32 {
-        last = size(rt, alloc, field, net, output, cut)?;
-        if last > bound as usize {
-            return Ok(over(cut, last as u64));
-        }
-    }
-    Ok(Ok(last))
-}
-
-// Compares the outcomes at the bounds 0 to 4 with those of the plain program, and the values with these.
-fn compare<F: Field>(
-    rt: &impl Abort,
-    alloc: Global,
-    field: &F,
-    circuit: &Combinational,
-    output: &[u32],
-    values: [u64; 4],
-) -> Result<(), ReduceFault> {
-    for bound in 0..5 {
-        let plain = plain_outcome(rt, alloc, field, circuit.net(), output, bound)?;
-        let found = outcome(rt, alloc, field, circuit, bound);
-        assert_eq!(rt; found, plain, "at bound {bound}");
-    }
-    for (number, element) in values.iter().enumerate() {
-        let found = value_at(rt, alloc, field, circuit, number)?;
-        assert_eq!(rt; found, *element, "at {number}");
-    }
-    Ok(())
+// Net 2 has six inputs, which are two nets in turn, and net 3 has one of them twice and net 2 four times.
+fn six_of_two(rt: &impl Abort, alloc: Global) -> Result<Net, NetFault> {
+    let mut maker = with_names(rt, alloc, &["a0", "a1", "z0", "z1"])?;
+    maker.input(0)?;
+    maker.input(1)?;
+    maker.gate(2, &[0, 1, 1, 0, 1, 0], 0x8000_0000_0000_0001)?;
+    maker.gate(3, &[2, 1, 2, 2, 1, 2], 0x7fff_ffff_ffff_fffe)?;
+    maker.finish()
 }
 
 // An output bit that is an input, and one that is 1.
@@ -127,7 +80,26 @@ fn an_input_and_a_constant(rt: HostRuntime) -> Result<(), Fail> {
     let field = field(&rt);
     let text = b"gfsig 1\nfield 0x7\nword A input poly a0 a1\nword Z output poly a0 one\n";
     let circuit = circuit(&rt, alloc, wires(&rt, alloc)?, text);
-    compare(&rt, alloc, &field, &circuit, &[0, 2], [2, 3, 2, 3])?;
+    compare_one(&rt, alloc, &field, &circuit, &[0, 2], &[2, 2], [2, 3, 2, 3])?;
+    Ok(())
+}
+
+// A wire, its negation, and a bit that is 0; an input that nothing reads.
+#[test]
+fn wires_and_zero(rt: HostRuntime) -> Result<(), Fail> {
+    let alloc = rt.alloc();
+    let field = field(&rt);
+    let text = b"gfsig 1\nfield 0x7\nword A input poly a0 a1\nword Z output poly z0 z1\n";
+    let circuit = circuit(&rt, alloc, copies(&rt, alloc)?, text);
+    compare_one(
+        &rt,
+        alloc,
+        &field,
+        &circuit,
+        &[3, 4],
+        &[2, 3, 2, 2],
+        [1, 0, 1, 0],
+    )?;
     Ok(())
 }
 
@@ -138,7 +110,15 @@ fn a_net_twice(rt: HostRuntime) -> Result<(), Fail> {
     let field = field(&rt);
     let text = b"gfsig 1\nfield 0x7\nword A input poly a0 a1\nword Z output poly z0 z1\n";
     let circuit = circuit(&rt, alloc, twice(&rt, alloc)?, text);
-    compare(&rt, alloc, &field, &circuit, &[2, 3], [0, 1, 2, 3])?;
+    compare_one(
+        &rt,
+        alloc,
+        &field,
+        &circuit,
+        &[2, 3],
+        &[2, 2, 2],
+        [0, 1, 2, 3],
+    )?;
     Ok(())
 }
 
@@ -149,7 +129,15 @@ fn one_net_for_both_bits(rt: HostRuntime) -> Result<(), Fail> {
     let field = field(&rt);
     let text = b"gfsig 1\nfield 0x7\nword A input poly a0 a1\nword Z output poly z z\n";
     let circuit = circuit(&rt, alloc, disjunction(&rt, alloc)?, text);
-    compare(&rt, alloc, &field, &circuit, &[2, 2], [0, 3, 3, 3])?;
+    compare_one(
+        &rt,
+        alloc,
+        &field,
+        &circuit,
+        &[2, 2],
+        &[1, 1, 3],
+        [0, 3, 3, 3],
+    )?;
     Ok(())
 }
 
@@ -160,6 +148,58 @@ fn a_gate_that_reaches_no_output(rt: HostRuntime) -> Result<(), Fail> {
     let field = field(&rt);
     let text = b"gfsig 1\nfield 0x7\nword A input poly a0 a1\nword Z output poly z a1\n";
     let circuit = circuit(&rt, alloc, disjunction(&rt, alloc)?, text);
-    compare(&rt, alloc, &field, &circuit, &[2, 1], [0, 1, 3, 3])?;
+    compare_one(
+        &rt,
+        alloc,
+        &field,
+        &circuit,
+        &[2, 1],
+        &[2, 2, 3],
+        [0, 1, 3, 3],
+    )?;
+    Ok(())
+}
+
+// Gates of six inputs that are two nets: one is 1 where both inputs are equal, the other where they are not.
+#[test]
+fn six_inputs_of_two_nets(rt: HostRuntime) -> Result<(), Fail> {
+    let alloc = rt.alloc();
+    let field = field(&rt);
+    let text = b"gfsig 1\nfield 0x7\nword A input poly a0 a1\nword Z output poly z0 z1\n";
+    let circuit = circuit(&rt, alloc, six_of_two(&rt, alloc)?, text);
+    compare_one(
+        &rt,
+        alloc,
+        &field,
+        &circuit,
+        &[2, 3],
+        &[2, 2, 3],
+        [3, 0, 2, 1],
+    )?;
+    Ok(())
+}
+
+// A gate of six inputs, whose table has 17 terms, and its sum with an input.
+#[test]
+fn six_inputs(rt: HostRuntime) -> Result<(), Fail> {
+    let alloc = rt.alloc();
+    let field = field(&rt);
+    let text =
+        b"gfsig 1\nfield 0x7\nword A input poly a0 a1\nword B input poly b0 b1\nword C input poly c0 c1\nword Z output poly z0 z1\n";
+    let circuit = circuit(&rt, alloc, six(&rt, alloc)?, text);
+    let first = word(&rt, alloc, &field, Role::Input, &[0, 1])?;
+    let second = word(&rt, alloc, &field, Role::Input, &[2, 3])?;
+    let third = word(&rt, alloc, &field, Role::Input, &[4, 5])?;
+    let words = [first, second, third];
+    compare(
+        &rt,
+        alloc,
+        &field,
+        &circuit,
+        &words,
+        &[6, 7],
+        &[2, 2, 18],
+        [0, 0, 2, 2],
+    )?;
     Ok(())
 }

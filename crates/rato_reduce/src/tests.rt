@@ -138,7 +138,7 @@ fn have_nets(words: &[WordText], k: usize) -> bool
 
 // The net with the words of a signature's text.
 pub(crate) fn circuit(rt: &impl Abort, alloc: Global, net: Net, text: &[u8]) -> Combinational {
-    assert!(rt; text.len() < 100);
+    assert!(rt; text.len() < 200);
     let signature = read_signature(alloc, text).ok().expect(rt, "a signature");
     assert!(rt; can_be_bound(signature.words()));
     let bound = bind(alloc, signature.words(), &net)
@@ -157,7 +157,7 @@ fn multiplier_circuit(rt: &impl Abort, alloc: Global) -> Result<Combinational, N
 }
 
 // What the elimination answers.
-fn reduced<F: Field, T: Steps>(
+pub(crate) fn reduced<F: Field, T: Steps>(
     rt: &impl Abort,
     alloc: Global,
     field: &F,

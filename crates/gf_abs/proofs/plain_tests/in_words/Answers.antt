@@ -1,0 +1,50 @@
+use Rattle.std.proofs.Common.{◌≡◌, ◌<◌, ◌≤◌, ◌∙◌, ◌+◌, List, ℕ, ap, subst, length, arith}
+use Rattle.net_core.specs.NetList.{NetList}
+use Rattle.net_core.specs.Sound.{IsSound}
+use Rattle.gf_basis.specs.BasisParts.{elements_of}
+use Rattle.circuit_model.specs.OfBinding.{output_basis}
+use Rattle.net_words.specs.Binding.{Binding}
+use Rattle.stage_model.specs.Cut.{BoundCut}
+use Rattle.stage_model.specs.Stage.{IsOfStage, IsNoneOver}
+use Rattle.gf_abs.specs.Setting.{elements_of_each}
+use Rattle.gf_abs.proofs.StageLemmas.{few, no_words}
+use Rattle.gf_abs.proofs.plain_tests.in_words.Goals as goal
+
+pub to_words-requires-clause-bits : goal.to_words-requires-clause-bits
+to_words-requires-clause-bits g c =
+    let degree = g.F.Ring.degree c.args.field.now in
+    let mul = g.F.Ring.product c.args.field.now in
+    let circuit = c.args.circuit.now in
+    let bases = c.args.bases.now in
+    let ring = g.met.F.Ring.laws c.args.field.now in
+    let nozero = g.met.F.Field.no_zero_divisors c.args.field.now in
+    let S : NetList → Type 0 = λ n. IsSound n in
+    let sound = subst S c.net.ensures.net c.gates-gates.ensures.sound in
+    let bound = c.net.ensures.is_bound in
+    let flat = c.net.ensures.flat in
+    let basis : elements_of c.output_basis-basis.result.now ≡ output_basis circuit.bound.words (elements_of_each bases) =
+    c.output_basis-basis.ensures.basis ∙ ap (λ (b : Binding). output_basis b.words (elements_of_each bases)) c.bound.ensures.bound in
+    let L : List ℕ → Type 0 = λ e. IsOfStage degree mul (BoundCut circuit e (length circuit.net.gates)) c.in-Ok.bits.terms in
+    let last = subst L basis c.in-Ok.ensures.last in
+    no_words degree mul circuit bases ring nozero sound bound flat c.requires.bits c.requires.over c.requires.long c.in-Ok.bits.terms last
+
+pub to_words-requires-clause-few : goal.to_words-requires-clause-few
+to_words-requires-clause-few g c =
+    let degree = g.F.Ring.degree c.args.field.now in
+    let mul = g.F.Ring.product c.args.field.now in
+    let circuit = c.args.circuit.now in
+    let bases = c.args.bases.now in
+    let ring = g.met.F.Ring.laws c.args.field.now in
+    let nozero = g.met.F.Field.no_zero_divisors c.args.field.now in
+    let S : NetList → Type 0 = λ n. IsSound n in
+    let sound = subst S c.net.ensures.net c.gates-gates.ensures.sound in
+    let bound = c.net.ensures.is_bound in
+    let flat = c.net.ensures.flat in
+    let basis : elements_of c.output_basis-basis.result.now ≡ output_basis circuit.bound.words (elements_of_each bases) =
+    c.output_basis-basis.ensures.basis ∙ ap (λ (b : Binding). output_basis b.words (elements_of_each bases)) c.bound.ensures.bound in
+    let L : List ℕ → Type 0 = λ e. IsOfStage degree mul (BoundCut circuit e (length circuit.net.gates)) c.in-Ok.bits.terms in
+    let last = subst L basis c.in-Ok.ensures.last in
+    let N : List ℕ → Type 0 = λ e. IsNoneOver degree mul (BoundCut circuit e) (length circuit.net.gates + 1) 4294967295 in
+    let none = subst N basis c.in-Ok.ensures.within in
+    let small : length c.in-Ok.bits.terms ≤ 4294967295 = few degree mul circuit bases ring nozero sound bound flat c.requires.bits c.requires.over c.requires.long 4294967295 c.in-Ok.bits.terms last none in
+    omega (arith, small)
