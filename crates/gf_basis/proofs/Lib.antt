@@ -2,3 +2,4 @@ pub mod TraceWordLaws
 pub mod BasisLaws
 pub mod CodeLaws
 pub mod BasisFaultLaws
+mod Examples

@@ -10,3 +10,4 @@ pub mod TableLemmas
 pub mod OutcomeLemmas
 pub mod DriveLemmas
 pub mod FlatDetermined
+mod Examples

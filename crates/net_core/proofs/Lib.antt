@@ -8,3 +8,4 @@ pub mod LoopLemmas
 pub mod NameLemmas
 pub mod OrderLemmas
 pub mod TurnLemmas
+mod Examples

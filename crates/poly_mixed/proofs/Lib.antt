@@ -25,3 +25,4 @@ pub mod Scanned
 pub mod Chain
 pub mod ReadBack
 pub mod TextLaws
+mod Examples

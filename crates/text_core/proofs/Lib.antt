@@ -2,3 +2,4 @@ pub mod DeterminedLemmas
 pub mod LineLemmas
 pub mod DigitLemmas
 pub mod AsciiLemmas
+mod Examples
