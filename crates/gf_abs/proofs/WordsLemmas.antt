@@ -30,7 +30,7 @@ use Rattle.gf_abs.specs.declared.stop.Stop.{Stop}
 use Rattle.gf_abs.specs.declared.stop.Stop.TheVariants.{Refused, Outside, OutOfMemory}
 use Rattle.gf_abs.specs.AbstractOf.{AbstractOf, IsStageOver, stage_name}
 use Rattle.gf_abs.specs.BitsOf.{HaveRoles}
-use Rattle.gf_abs.specs.CutStop.{cut_stop, IsOfWords, IsWordStop}
+use Rattle.gf_abs.specs.StageStop.{cut_stop, IsOfWords, IsWordStop}
 use Rattle.gf_abs.specs.Labelling.{word_label, word_labels}
 use Rattle.gf_abs.specs.Reply.{Reply}
 use Rattle.gf_abs.specs.Setting.{elements_of_each, AreBasesOver}

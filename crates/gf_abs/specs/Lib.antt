@@ -11,7 +11,7 @@ pub mod NetlistReading
 pub mod Labelling
 pub mod BitsOf
 pub mod AbstractOf
-pub mod CutStop
+pub mod StageStop
 pub mod Answer
 pub mod Stop
 pub mod Equal

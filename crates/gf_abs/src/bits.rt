@@ -10,7 +10,7 @@ ghost use Rattle.net_words.specs.WordNames.{HaveNames};
 ghost use Rattle.poly_mixed.specs.Text.{text, HasNames};
 ghost use Rattle.circuit_model.specs.OfBinding.{output_basis as basis_of_output};
 ghost use Rattle.gf_abs.specs.BitsOf.{BitsOf, HaveRoles};
-ghost use Rattle.gf_abs.specs.CutStop.{IsOfCuts, cut_stop};
+ghost use Rattle.gf_abs.specs.StageStop.{IsOfCuts, cut_stop};
 ghost use Rattle.gf_abs.specs.Setting.{any_degree, setting_value, elements_of_each, AreBasesOver, IsReady};
 ghost use Rattle.gf_abs.specs.Stop.{printed, GivesBy};
 

@@ -2,6 +2,7 @@
 //! `run` carries the contract of the whole; each command is a step behind it.
 #![tactic(auto)]
 
+mod abstraction;
 mod answer_laws;
 #[cfg(test)]
 mod basis_tests;
@@ -52,7 +53,6 @@ mod tests;
 mod top;
 #[cfg(test)]
 mod wide_tests;
-mod words;
 
 pub use answer_laws::{
     abstract_prints_the_output, bytes_are_the_only_text, equal_bytes_exactly_if_equal_functions,

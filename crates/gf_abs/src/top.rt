@@ -8,6 +8,7 @@ ghost use Rattle.gf_abs.specs.BitsOf.{HaveRoles};
 ghost use Rattle.gf_abs.specs.Setting.{any_degree, setting_value, IsReady};
 ghost use Rattle.gf_abs.specs.Stop.{printed, GivesBy, GivesBytes, IsText, Writes, WritesPart, IsWritten};
 
+use crate::abstraction::abstract_line;
 use crate::bits::bits_line;
 use crate::command::{Command, Kind, read_words};
 use crate::fault::{Fault, status_of};
@@ -15,7 +16,6 @@ use crate::fault_line::write_fault;
 use crate::netlist::circuit_of;
 use crate::setting::{Setting, setting_of};
 use crate::stop::Stop;
-use crate::words::abstract_line;
 use job_io::{Shelf, ShelfFault, Sink, SureShelf, SureSink, put_all};
 use net_core::Name;
 use net_words::Combinational;
@@ -210,6 +210,8 @@ pub fn run<S: Shelf, K: Sink>(alloc: Global, words: &[String], shelf: &mut S, si
 pub fn run_surely(alloc: Global, words: &[String], shelf: &mut SureShelf, sink: &mut SureSink) -> u8
     ensures answers { (result ≡ 5) ⊎ ((text : _) × IsText (Answer (map string_bytes words.now) (Some (sure_files shelf.old)))
         (Rose (sure_misses shelf.old) (sure_misses shelf.new)) result text) }
+    ensures held { sure_files shelf.new ≡ sure_files shelf.old }
+    ensures counts { sure_misses shelf.old ≤ sure_misses shelf.new }
 {
     run(alloc, words, shelf, sink)
 }

@@ -10,7 +10,7 @@ use Rattle.stage_model.specs.Cut.{BoundCut}
 use Rattle.stage_model.specs.Stage.{IsOfStage, IsNoneOver}
 use Rattle.rato_reduce.specs.Refusal.{IsCutRefusal}
 use Rattle.gf_abs.specs.AbstractOf.{AbstractOf}
-use Rattle.gf_abs.specs.CutStop.{IsOfWords, IsWordStop}
+use Rattle.gf_abs.specs.StageStop.{IsOfWords, IsWordStop}
 use Rattle.gf_abs.specs.Labelling.{labels_of}
 use Rattle.gf_abs.specs.Reply.{Reply}
 use Rattle.gf_abs.specs.Setting.{elements_of_each}
@@ -19,7 +19,7 @@ use Rattle.gf_abs.specs.Stop.{GivesBy, printed}
 use Rattle.gf_abs.specs.declared.stop.Stop.{Stop}
 use Rattle.gf_abs.proofs.StageLemmas.{few, no_words, none_over, words_named}
 use Rattle.gf_abs.proofs.WordsLemmas.{cut_refused, of_words, words_refused, stops_as}
-use Rattle.gf_abs.proofs.words.line_over.Goals as goal
+use Rattle.gf_abs.proofs.abstraction.line_over.Goals as goal
 
 pub returns-in-Err : goal.returns-in-Err
 returns-in-Err g c =

@@ -4,7 +4,7 @@ ghost use Rattle.net_words.specs.Binding.{AreWords};
 ghost use Rattle.net_words.specs.WordNames.{HaveNames};
 ghost use Rattle.gf_abs.specs.AbstractOf.{AbstractOf};
 ghost use Rattle.gf_abs.specs.BitsOf.{HaveRoles};
-ghost use Rattle.gf_abs.specs.CutStop.{IsOfWords, IsWordStop, IsRefusal};
+ghost use Rattle.gf_abs.specs.StageStop.{IsOfWords, IsWordStop, IsRefusal};
 ghost use Rattle.gf_abs.specs.Setting.{any_degree, setting_value, elements_of_each, AreBasesOver, IsReady};
 ghost use Rattle.gf_abs.specs.Stop.{printed, GivesBy};
 

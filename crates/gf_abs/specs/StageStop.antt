@@ -1,4 +1,4 @@
--- Why no output comes where a cut is too large. Source: this project's own.
+-- Why no output comes where a cut or a stage of words is too large. Source: this project's own.
 use Rattle.std.specs.Prelude.{◌≡◌, ℕ, ◌<◌, List}
 use Rattle.poly_mixed.specs.declared.stage.ReduceFault.{ReduceFault}
 use Rattle.poly_mixed.specs.declared.stage.ReduceFault.TheVariants as reduce
