@@ -10,3 +10,4 @@ pub mod SliceLemmas
 pub mod SomeRunLemmas
 pub mod SourceLemmas
 pub mod WordLemmas
+pub mod Examples

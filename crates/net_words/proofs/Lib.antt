@@ -12,3 +12,4 @@ pub mod BoundLemmas
 pub mod RankLemmas
 pub mod BindDetermined
 pub mod SigDetermined
+mod Examples

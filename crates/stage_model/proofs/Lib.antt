@@ -19,3 +19,4 @@ pub mod CutPolyLemmas
 pub mod WordBitLemmas
 pub mod WordPolyLemmas
 pub mod PlainStageLemmas
+mod Examples

@@ -1,0 +1,117 @@
+-- Small worked examples of the definitions of specs/, which the check computes: the net y = a AND b, whose nets are
+-- 0, 1 and 2, as a circuit over the field of 0 and 1 with words A and B of one bit and the output Z.
+use Rattle.std.proofs.Common.{◌≡◌, ◌≢◌, ℕ, zero, suc, ◌<◌, ◌+◌, [], ◌∷◌, List, true, false, Some, None, slice_get, inl, inr, refl, arith}
+use Rattle.net_core.specs.GateValue.{GateValue}
+use Rattle.net_core.specs.Lists.{Has}
+use Rattle.net_core.specs.Sound.{sources}
+use Rattle.net_core.specs.Value.{bit_of, IsRight}
+use Rattle.net_core.specs.Level.{Levels, level_at, level_over, AreLevels}
+use Rattle.net_core.specs.Order.{IsElimination, IsOrder, IsBefore, rank_at}
+use Rattle.net_words.specs.declared.word.Role.TheVariants.{Input, Output}
+use Rattle.poly_mixed.specs.Polynomial.{Point, point}
+use Rattle.poly_mixed.specs.declared.stage.Stage.TheVariants.{Cut, WordProduct, WordSum}
+use Rattle.circuit_model.specs.Circuit.{Circuit}
+use Rattle.circuit_model.proofs.Examples.{word, and_gate, and_net, and_circuit, ones, gates_are_right}
+use Rattle.stage_model.specs.Variables.{variables_of, rank_in, point_bit, point_bits}
+use Rattle.stage_model.specs.Cut.{CutOf, IsSettled, IsAmongFirst}
+use Rattle.stage_model.specs.StageList.{IsListed, ComesBefore}
+
+-- where B on net 1 stands before A on net 0, the variables are the nets 1, 0 and 2
+variables_of_words : variables_of (record and_circuit { words = word Input (1 ∷ []) (1 ∷ []) ∷ word Input (0 ∷ []) (1 ∷ []) ∷ [] }) ≡ 1 ∷ 0 ∷ 2 ∷ []
+variables_of_words = refl
+
+-- there net 0 has the rank 1
+rank_of_net : rank_in (1 ∷ 0 ∷ 2 ∷ []) 0 ≡ 1
+rank_of_net = refl
+
+-- and the point whose ranks are 1, 0, 1 gives the nets 0 to 2 the bits 0, 1, 1
+bits_of_point : point_bits 3 (1 ∷ 0 ∷ 2 ∷ []) (point [] (true ∷ false ∷ true ∷ [])) ≡ false ∷ true ∷ true ∷ []
+bits_of_point = refl
+
+-- ranks 0 and 1 are 1, and rank 2 is 0
+abbrev both : Point
+both = point [] (true ∷ true ∷ false ∷ [])
+
+abbrev levels : Levels
+levels = Some 0 ∷ Some 0 ∷ Some 1 ∷ []
+
+are_levels : AreLevels and_net levels
+are_levels = record { long = refl; sources = from_sources; gates = from_gates }
+  where
+    from_sources : (n : ℕ) → Has (sources and_net) n → level_at levels n ≡ Some 0
+    from_sources n (zero, got) = let same : 0 ≡ n = cc in rw (← same) refl
+    from_sources n (suc zero, got) = let same : 1 ≡ n = cc in rw (← same) refl
+    from_sources n (suc (suc k), got) = absurd (cc)
+
+    from_gates : (g : GateValue) → Has and_net.gates g → level_at levels g.out ≡ level_over levels g.inputs
+    from_gates g (zero, got) = let same : and_gate ≡ g = cc in rw (← same) refl
+    from_gates g (suc k, got) = absurd (cc)
+
+is_order : IsOrder and_net levels (0 ∷ [])
+is_order = record { long = refl; each = each; within = within; rises = rises }
+  where
+    each : (p : ℕ) (g : GateValue) → slice_get and_net.gates p ≡ Some g → Has (0 ∷ []) p
+    each zero g got = (0, refl)
+    each (suc p) g got = absurd (cc)
+
+    within : (p : ℕ) → Has (0 ∷ []) p → (g : GateValue) × (slice_get and_net.gates p ≡ Some g)
+    within p (zero, got) = let same : 0 ≡ p = cc in rw (← same) (and_gate, refl)
+    within p (suc k, got) = absurd (cc)
+
+    rises : (i p q : ℕ) → slice_get (0 ∷ []) i ≡ Some p → slice_get (0 ∷ []) (i + 1) ≡ Some q → (g : GateValue) × (h : GateValue) × (slice_get and_net.gates p ≡ Some g) × (slice_get and_net.gates q ≡ Some h) × IsBefore (rank_at levels g.out) p (rank_at levels h.out) q
+    rises zero p q got after = absurd (cc)
+    rises (suc i) p q got after = absurd (cc)
+
+-- the one gate, at position 0, is the order of elimination
+elimination : IsElimination and_net (0 ∷ [])
+elimination = (levels, are_levels, is_order)
+
+-- cut 0 leaves net 2 free: where it is 0, the element is 0, though both inputs are 1
+cut_before_gates : CutOf and_circuit 0 both 0
+cut_before_gates = record {
+  order = 0 ∷ [];
+  elimination = elimination;
+  bits = true ∷ true ∷ false ∷ [];
+  settled = record { long = refl; free = free; right = λ g among. absurd (none g among) };
+  element = record { long = refl; sum = record { short = omega arith; is = refl } };
+}
+  where
+    none : (g : GateValue) → IsAmongFirst and_net (0 ∷ []) 0 g → ⊥
+    none g (i, p, less, at, is) = absurd (omega arith)
+
+    free : (n : ℕ) → n < 3 → ((g : GateValue) → IsAmongFirst and_net (0 ∷ []) 0 g → g.out ≢ n) → bit_of (true ∷ true ∷ false ∷ []) n ≡ point_bit (0 ∷ 1 ∷ 2 ∷ []) both n
+    free zero h other = refl
+    free (suc zero) h other = refl
+    free (suc (suc zero)) h other = refl
+    free (suc (suc (suc n))) h other = absurd (omega arith)
+
+-- cut 1 settles it by the gate: the element is 1, where both inputs are 1
+cut_after_gate : CutOf and_circuit 1 both 1
+cut_after_gate = record {
+  order = 0 ∷ [];
+  elimination = elimination;
+  bits = ones;
+  settled = record { long = refl; free = free; right = right };
+  element = record { long = refl; sum = record { short = omega arith; is = refl } };
+}
+  where
+    right : (g : GateValue) → IsAmongFirst and_net (0 ∷ []) 1 g → IsRight ones g
+    right g (i, p, less, at, is) = gates_are_right g (p, is)
+
+    free : (n : ℕ) → n < 3 → ((g : GateValue) → IsAmongFirst and_net (0 ∷ []) 1 g → g.out ≢ n) → bit_of ones n ≡ point_bit (0 ∷ 1 ∷ 2 ∷ []) both n
+    free zero h other = refl
+    free (suc zero) h other = refl
+    free (suc (suc zero)) h other = absurd (other and_gate (0, 0, omega arith, refl, refl) refl)
+    free (suc (suc (suc n))) h other = absurd (omega arith)
+
+-- a net of one gate has the cuts 0 and 1
+cut_is_listed : IsListed and_circuit (Cut 1)
+cut_is_listed = omega arith
+
+-- each cut comes before the stages of words
+cut_comes_first : ComesBefore (Cut 3) (WordSum 0 1)
+cut_comes_first = tt
+
+-- and the products of term 1 of word 0 come before its sum
+product_before_sum : ComesBefore (WordProduct 0 1 2) (WordSum 0 1)
+product_before_sum = inr (refl, inr (refl, tt))
