@@ -131,6 +131,13 @@ def program_of(words, usage):
     return program if words else built
 
 
+def with_number(words, option, number):
+    """The words without an option and its number at their end, and that number, or this one where it is not there."""
+    if words[-2:-1] == [option] and words[-1].isdecimal():
+        return words[:-2], int(words[-1])
+    return words, number
+
+
 def bound_memory(gibibytes):
     """No program that is run from here on gets more; it ends with status 5 where it wants more."""
     _, hard = resource.getrlimit(resource.RLIMIT_AS)
