@@ -1,5 +1,6 @@
 //! The program: the words of the command line, the system's files and standard output, handed to the one call that does the work.
 #![tactic(auto)]
+ghost use Rattle.std.specs.Prelude.{◌≡◌};
 
 use gf_abs::run;
 use job_io::{FileShelf, StdSink};
@@ -25,7 +26,10 @@ fn main(rt: HostRuntime) -> ExitCode {
 }
 
 // The status where the system does not give the words.
-fn status_of(kind: ErrorKind) -> u8 {
+fn status_of(kind: ErrorKind) -> u8
+    ensures memory { kind ≡ ErrorKind.OutOfMemory → result ≡ 5 }
+    ensures outside { (kind ≡ ErrorKind.OutOfMemory → ⊥) → result ≡ 4 }
+{
     match kind {
         ErrorKind::OutOfMemory => 5,
         _ => 4,
