@@ -1,6 +1,6 @@
 -- Small worked examples of the definitions of specs/, which the check computes: the net y = a AND b as a circuit over the
 -- field of 0 and 1, with words A and B of one bit and the output Z; and words of two bits over the field of four elements.
-use Rattle.std.proofs.Common.{◌≡◌, ℕ, zero, suc, ◌<◌, ◌+◌, [], ◌∷◌, List, Bool, true, false, Some, codes, slice_get, refl, arith}
+use Rattle.std.proofs.Common.{◌≡◌, ℕ, zero, suc, ◌<◌, [], ◌∷◌, List, Bool, ◌&&◌, cond, true, false, Some, codes, slice_get, refl, arith}
 use Rattle.gf_field.specs.Bit.{bit_mul}
 use Rattle.net_core.specs.GateValue.{GateValue}
 use Rattle.net_core.specs.LatchValue.{LatchValue}
@@ -11,7 +11,7 @@ use Rattle.net_words.specs.declared.word.Role.{Role}
 use Rattle.net_words.specs.declared.word.Role.TheVariants.{Input, Output}
 use Rattle.circuit_model.specs.Word.{Word, HasElement, word_nets}
 use Rattle.circuit_model.specs.Circuit.{Circuit}
-use Rattle.circuit_model.specs.Run.{IsRun, IsCycle, IsNext, HasZeros}
+use Rattle.circuit_model.specs.Run.{IsRun, IsCycle, HasZeros}
 use Rattle.circuit_model.specs.Out.{IsOut}
 
 abbrev pub word : Role → List ℕ → List ℕ → Word
@@ -41,63 +41,82 @@ and_net = record { labels = named (codes "a") ∷ named (codes "b") ∷ named (c
 abbrev pub and_circuit : Circuit
 and_circuit = record { k = 1; product = bit_mul; net = and_net; words = word Input (0 ∷ []) (1 ∷ []) ∷ word Input (1 ∷ []) (1 ∷ []) ∷ []; output = word Output (2 ∷ []) (1 ∷ []); cycles = 0 }
 
-abbrev pub ones : List Bool
-ones = true ∷ true ∷ true ∷ []
+-- a bit as an element
+abbrev pub element : Bool → ℕ
+element b = cond b 1 0
 
-are_ones : (t : ℕ) (bits : List Bool) → slice_get (ones ∷ []) t ≡ Some bits → ones ≡ bits
-are_ones zero bits got = cc
-are_ones (suc t) bits got = absurd (cc)
+-- the bits of a, b and y
+abbrev pub bits_at : Bool → Bool → List Bool
+bits_at a b = a ∷ b ∷ (a && b) ∷ []
 
-pub gates_are_right : (g : GateValue) → Has and_net.gates g → IsRight ones g
-gates_are_right g (zero, got) = let same : and_gate ≡ g = cc in rw (← same) refl
-gates_are_right g (suc k, got) = absurd (cc)
+only_bits : (one : List Bool) (t : ℕ) (bits : List Bool) → slice_get (one ∷ []) t ≡ Some bits → one ≡ bits
+only_bits one zero bits got = cc
+only_bits one (suc t) bits got = absurd (cc)
 
-have_elements : (i : ℕ) (w : Word) (x : ℕ) → slice_get and_circuit.words i ≡ Some w → slice_get (1 ∷ 1 ∷ []) i ≡ Some x → HasElement ones w x
-have_elements zero w x got one =
-    let same : word Input (0 ∷ []) (1 ∷ []) ≡ w = cc in
-    let is : 1 ≡ x = cc in
-    rw (← same, ← is) (record { long = refl; sum = record { short = omega arith; is = refl } })
-have_elements (suc zero) w x got one =
-    let same : word Input (1 ∷ []) (1 ∷ []) ≡ w = cc in
-    let is : 1 ≡ x = cc in
-    rw (← same, ← is) (record { long = refl; sum = record { short = omega arith; is = refl } })
-have_elements (suc (suc i)) w x got one = absurd (cc)
+gate_is_right : (a b : Bool) → IsRight (bits_at a b) and_gate
+gate_is_right true true = refl
+gate_is_right true false = refl
+gate_is_right false true = refl
+gate_is_right false false = refl
+
+pub gates_are_right : (a b : Bool) (g : GateValue) → Has and_net.gates g → IsRight (bits_at a b) g
+gates_are_right a b g (zero, got) = let same : and_gate ≡ g = cc in rw (← same) (gate_is_right a b)
+gates_are_right a b g (suc k, got) = absurd (cc)
+
+first_element : (a b c : Bool) → HasElement (a ∷ b ∷ c ∷ []) (word Input (0 ∷ []) (1 ∷ [])) (element a)
+first_element true b c = record { long = refl; sum = record { short = omega arith; is = refl } }
+first_element false b c = record { long = refl; sum = record { short = omega arith; is = refl } }
+
+second_element : (a b c : Bool) → HasElement (a ∷ b ∷ c ∷ []) (word Input (1 ∷ []) (1 ∷ [])) (element b)
+second_element a true c = record { long = refl; sum = record { short = omega arith; is = refl } }
+second_element a false c = record { long = refl; sum = record { short = omega arith; is = refl } }
+
+output_element : (a b c : Bool) → HasElement (a ∷ b ∷ c ∷ []) and_circuit.output (element c)
+output_element a b true = record { long = refl; sum = record { short = omega arith; is = refl } }
+output_element a b false = record { long = refl; sum = record { short = omega arith; is = refl } }
 
 no_latch : (l : LatchValue) → Has and_net.latches l → ⊥
 no_latch l (k, got) = absurd (cc)
 
-run_of_ones : IsRun and_circuit (1 ∷ 1 ∷ []) (ones ∷ [])
-run_of_ones = record {
-  open_run = record {
-    input = record { long = refl; elements = elements };
-    long = refl;
-    each = each;
-    first = λ bits got. rw (← are_ones 0 bits got) (record { words = λ i w x at one any. have_elements i w x at one; latches = λ l has out. absurd (no_latch l has) });
-    next = next;
-  };
-  zeros = zeros;
-}
-  where
-    elements : (x : ℕ) → Has (1 ∷ 1 ∷ []) x → x < 2
-    elements x (zero, got) = let is : 1 ≡ x = cc in omega arith
-    elements x (suc zero, got) = let is : 1 ≡ x = cc in omega arith
-    elements x (suc (suc k), got) = absurd (cc)
+below_two : (a : Bool) → element a < 2
+below_two true = omega arith
+below_two false = omega arith
 
-    each : (t : ℕ) (bits : List Bool) → slice_get (ones ∷ []) t ≡ Some bits → IsCycle and_circuit (1 ∷ 1 ∷ []) bits
-    each t bits got = rw (← are_ones t bits got) (record { consistent = record { long = refl; gates = gates_are_right }; inputs = λ i w x at one role. have_elements i w x at one })
+module _ (a b : Bool) where
+  have_elements : (i : ℕ) (w : Word) (x : ℕ) → slice_get and_circuit.words i ≡ Some w → slice_get (element a ∷ element b ∷ []) i ≡ Some x → HasElement (bits_at a b) w x
+  have_elements zero w x got one = let same : word Input (0 ∷ []) (1 ∷ []) ≡ w = cc in let is : element a ≡ x = cc in rw (← same, ← is) (first_element a b (a && b))
+  have_elements (suc zero) w x got one = let same : word Input (1 ∷ []) (1 ∷ []) ≡ w = cc in let is : element b ≡ x = cc in rw (← same, ← is) (second_element a b (a && b))
+  have_elements (suc (suc i)) w x got one = absurd (cc)
 
-    next : (t : ℕ) (before bits : List Bool) → slice_get (ones ∷ []) t ≡ Some before → slice_get (ones ∷ []) (t + 1) ≡ Some bits → IsNext and_circuit before bits
-    next t before bits got after = λ l has. absurd (no_latch l has)
+  run_at : IsRun and_circuit (element a ∷ element b ∷ []) (bits_at a b ∷ [])
+  run_at = record {
+    open_run = record {
+      input = record { long = refl; elements = elements };
+      long = refl;
+      each = each;
+      first = λ bits got. rw (← only_bits (bits_at a b) 0 bits got) (record { words = λ i w x at one any. have_elements i w x at one; latches = λ l has out. absurd (no_latch l has) });
+      next = λ t before bits got after l has. absurd (no_latch l has);
+    };
+    zeros = zeros;
+  }
+    where
+      elements : (x : ℕ) → Has (element a ∷ element b ∷ []) x → x < 2
+      elements x (zero, got) = let is : element a ≡ x = cc in rw (← is) (below_two a)
+      elements x (suc zero, got) = let is : element b ≡ x = cc in rw (← is) (below_two b)
+      elements x (suc (suc k), got) = absurd (cc)
 
-    zeros : (t : ℕ) (bits : List Bool) → slice_get (ones ∷ []) t ≡ Some bits → HasZeros and_circuit bits
-    zeros t bits got n (zero, is) none = absurd (none (0, is))
-    zeros t bits got n (suc zero, is) none = absurd (none (1, is))
-    zeros t bits got n (suc (suc k), is) none = absurd (cc)
+      each : (t : ℕ) (bits : List Bool) → slice_get (bits_at a b ∷ []) t ≡ Some bits → IsCycle and_circuit (element a ∷ element b ∷ []) bits
+      each t bits got = rw (← only_bits (bits_at a b) t bits got) (record { consistent = record { long = refl; gates = gates_are_right a b }; inputs = λ i w x at one role. have_elements i w x at one })
 
--- where A is 1 and B is 1, the output is 1
-output_of_ones : IsOut and_circuit (1 ∷ 1 ∷ []) 1
-output_of_ones = record {
-  run = ones ∷ [];
-  is_run = run_of_ones;
-  ends = record { last = ones; at = refl; element = record { long = refl; sum = record { short = omega arith; is = refl } } };
+      zeros : (t : ℕ) (bits : List Bool) → slice_get (bits_at a b ∷ []) t ≡ Some bits → HasZeros and_circuit bits
+      zeros t bits got n (zero, is) none = absurd (none (0, is))
+      zeros t bits got n (suc zero, is) none = absurd (none (1, is))
+      zeros t bits got n (suc (suc k), is) none = absurd (cc)
+
+-- where A and B have the bits a and b, the output is a AND b, by the run of one cycle
+pub output_at : (a b : Bool) → IsOut and_circuit (element a ∷ element b ∷ []) (element (a && b))
+output_at a b = record {
+  run = bits_at a b ∷ [];
+  is_run = run_at a b;
+  ends = record { last = bits_at a b; at = refl; element = output_element a b (a && b) };
 }

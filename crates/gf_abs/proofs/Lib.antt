@@ -21,3 +21,4 @@ pub mod EqualWords
 pub mod EqualLabels
 pub mod EqualLemmas
 pub mod EqualFunctions
+mod Examples

@@ -5,3 +5,4 @@ pub mod ListLemmas
 pub mod LoopLemmas
 pub mod RingLemmas
 pub mod WalkLemmas
+mod Examples

@@ -3,3 +3,4 @@ pub mod SquareLaws
 pub mod InverseLaws
 pub mod MatrixLaws
 pub mod InverseMatrixLaws
+mod Examples
