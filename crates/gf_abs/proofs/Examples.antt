@@ -2,15 +2,19 @@
 -- line, and labels.
 use Rattle.std.proofs.Common.{◌≡◌, ◌≢◌, ℕ, zero, suc, ◌<◌, ◌≤◌, [], ◌∷◌, List, codes, get_or, slice_index, inl, inr, refl, arith}
 use Rattle.std.specs.Fmt.{digits}
+use Rattle.gf_field.specs.Bit.{bit_mul}
 use Rattle.text_core.specs.Numbers.{IsDigit}
 use Rattle.net_words.specs.declared.word.BasisText.TheVariants.{Poly}
+use Rattle.net_words.specs.declared.word.Role.{Role}
 use Rattle.net_words.specs.declared.word.Role.TheVariants.{Input, Output}
 use Rattle.net_words.specs.declared.word.WordText.{WordText}
 use Rattle.poly_mixed.specs.declared.stage.Stage.TheVariants as stages
 use Rattle.gf_abs.specs.AbstractOf.{stage_name}
+use Rattle.gf_abs.specs.BitsOf.{polynomial_line}
 use Rattle.gf_abs.specs.Command.{Bits, Abstract, IsOperand, IsBlifName, AreFiles, IsSpelled}
 use Rattle.gf_abs.specs.Fault.{fault_line, fault_status, stage_text}
 use Rattle.gf_abs.specs.Labelling.{labels_of}
+use Rattle.gf_abs.specs.SettingValue.{SettingValue}
 use Rattle.gf_abs.specs.declared.fault.Fault.{Fault}
 use Rattle.gf_abs.specs.declared.fault.Fault.TheVariants as faults
 use Rattle.gf_abs.specs.declared.fault.NetlistFault.TheVariants as netlist
@@ -86,3 +90,24 @@ signature_words = record { line = 3; name = codes "A"; role = Input; basis = Pol
 -- of an input word A and the output word Z over a field of two bits, A is a label with two bits, and Z the output's
 labels_of_two_words : labels_of 2 signature_words ≡ record { output = codes "Z"; words = (codes "A", 2) ∷ []; nets = [] }
 labels_of_two_words = refl
+
+abbrev word : List ℕ → Role → WordText
+word name role = record { line = 3; name = name; role = role; basis = Poly; nets = name ∷ [] }
+
+-- over the field of 0 and 1, with input words A and B and the output word Z
+abbrev setting : SettingValue
+setting = record {
+  signature = record { modulus = 3; tower = []; words = word (codes "A") Input ∷ word (codes "B") Input ∷ word (codes "Z") Output ∷ [] };
+  k = 1;
+  product = bit_mul;
+  bases = (1 ∷ []) ∷ (1 ∷ []) ∷ (1 ∷ []) ∷ [];
+}
+
+-- the polynomial A*B is printed as `Z = A*B`
+line_of_product : polynomial_line setting ((record { exponents = 1 ∷ 1 ∷ 0 ∷ 0 ∷ 0 ∷ 0 ∷ 0 ∷ 0 ∷ []; bits = [] }, 1) ∷ []) ≡ codes "Z = A*B\n"
+line_of_product = refl
+
+-- and A[0]*B[0], whose ranks are 0 and 1, as `Z = A[0]*B[0]`
+line_of_bits : polynomial_line setting ((record { exponents = 0 ∷ 0 ∷ 0 ∷ 0 ∷ 0 ∷ 0 ∷ 0 ∷ 0 ∷ []; bits = 0 ∷ 1 ∷ [] }, 1) ∷ []) ≡ codes "Z = A[0]*B[0]\n"
+unfolding digits
+line_of_bits = refl

@@ -57,7 +57,7 @@ cube_of_two : power four 2 3 ≡ 1
 unfolding product power
 cube_of_two = refl
 
--- 2 squared once is 3, and twice is 2 again
+-- 2 squared twice is 2 again, which is 3 squared
 squares_of_two : frobenius four 2 2 ≡ 2
 unfolding product frobenius
 squares_of_two = refl

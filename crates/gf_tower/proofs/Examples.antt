@@ -33,7 +33,7 @@ product_from_below : sixteen 2 9 ≡ 14
 unfolding product
 product_from_below = refl
 
--- Y^5 is 2, so Y^15 is 1
+-- Y^5 is 2
 fifth_power_of_Y : power sixteen 4 5 ≡ 2
 unfolding product power
 fifth_power_of_Y = refl

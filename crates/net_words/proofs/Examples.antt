@@ -30,7 +30,7 @@ order_of_variables = refl
 not_an_input : with_role and_net 0 1 [] Input 2 ≡ Err (NotInput 0 1)
 not_an_input = refl
 
--- net 1 stands in an input word already
+-- net 1 stands in an input word already, so it is refused in another
 in_two_words : with_role and_net 0 1 (1 ∷ []) Input 1 ≡ Err (NetTwice 1)
 in_two_words = refl
 

@@ -64,11 +64,11 @@ no_bit_two = refl
 cube_comes_first : text_cmp (power_of_A 3) (of_bits (0 ∷ 1 ∷ [])) ≡ Less
 cube_comes_first = refl
 
--- A[0]*A[1] stands before A[0], and A[0] before A[1]: of ranks 0 and 1 they have the exponents 11, 10 and 01
+-- A[0]*A[1] stands before A[0]: the exponents of the ranks 0 and 1 are 1, 1 and 1, 0
 both_before_first : text_cmp (of_bits (0 ∷ 1 ∷ [])) (of_bits (0 ∷ [])) ≡ Less
 both_before_first = refl
 
--- A[0] stands before A[1]
+-- A[0] stands before A[1]: they are 1, 0 and 0, 1
 first_before_second : text_cmp (of_bits (0 ∷ [])) (of_bits (1 ∷ [])) ≡ Less
 first_before_second = refl
 
