@@ -72,7 +72,8 @@ fn sizes<F: Field>(
 }
 
 // What the elimination has to answer: the size of the last cut, or the first cut over the bound.
-fn plain_outcome(sizes: &[usize], bound: u32) -> Result<usize, ReduceFault> {
+fn plain_outcome(rt: &impl Abort, sizes: &[usize], bound: u32) -> Result<usize, ReduceFault> {
+    assert!(rt; sizes.len() <= 10);
     let mut last = 0;
     for (cut, size) in sizes.iter().enumerate() {
         last = *size;
@@ -112,7 +113,7 @@ fn compare_sizes<F: Field>(
     let largest = sizes.iter().copied().max().expect(rt, "a first cut");
     assert!(rt; largest <= 64);
     for bound in 0..=largest as u32 {
-        let plain = plain_outcome(sizes, bound);
+        let plain = plain_outcome(rt, sizes, bound);
         let found = outcome(rt, alloc, field, circuit, bound);
         assert_eq!(rt; found, plain, "at bound {bound}");
     }
