@@ -1,9 +1,9 @@
 //! The conjunction of two bits of a word of 64 bits, whose polynomial has a text of 77,130 bytes.
-ghost use Rattle.gf_abs.specs.Setting.{AreBasesOver};
+ghost use Rattle.gf_abs.specs.Setting.{any_degree, any_product, AreBasesOver};
 
-use crate::netlist::circuit_of;
 use crate::plain_tests::{poly_in_words, value_at};
-use crate::setting::setting_of;
+use crate::setting::Setting;
+use crate::stage_tests::{circuit, setting};
 use crate::tests::answer;
 use gf_basis::Basis;
 use gf_field::Field;
@@ -50,19 +50,26 @@ fn check_values<F: Field>(
     Ok(())
 }
 
+// The same over the setting's field.
+fn check_values_over(
+    rt: &impl Abort,
+    alloc: Global,
+    setting: &Setting,
+    circuit: &Combinational,
+) -> Result<(), Fail>
+    requires { AreBasesOver (any_degree setting.now.field) (any_product setting.now.field) setting.now.bases.items }
+{
+    let bases = setting.bases.as_slice();
+    match &setting.field {
+        AnyField::Base(field) => check_values(rt, alloc, field, circuit, bases),
+        AnyField::Tower(_field) => panic!(rt; "no tower"),
+    }
+}
+
 #[test]
 fn values_in_64_bits(rt: HostRuntime) -> Result<(), Fail> {
     let alloc = rt.alloc();
-    let setting = setting_of(alloc, SIGNATURE.as_bytes())
-        .ok()
-        .expect(&rt, "a setting");
-    let words = setting.signature.words();
-    let circuit = circuit_of(alloc, words, "and64", NET.as_bytes())
-        .ok()
-        .expect(&rt, "a circuit");
-    let bases = setting.bases.as_slice();
-    match &setting.field {
-        AnyField::Base(field) => check_values(&rt, alloc, field, &circuit, bases),
-        AnyField::Tower(_field) => panic!(rt; "no tower"),
-    }
+    let setting = setting(&rt, alloc, SIGNATURE);
+    let circuit = circuit(&rt, alloc, &setting, NET);
+    check_values_over(&rt, alloc, &setting, &circuit)
 }

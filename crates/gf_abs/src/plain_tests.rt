@@ -155,6 +155,7 @@ fn add_products<F: Field>(
 
 // Adds the stages of a word; the result is the last sum, which is the polynomial in which the next word is replaced.
 fn add_stages<F: Field>(
+    rt: &impl Abort,
     alloc: Global,
     field: &F,
     words: &[CircuitWord],
@@ -166,6 +167,7 @@ fn add_stages<F: Field>(
     requires few { length words.now ≤ 8 }
     requires before { IsReduced (F.degree field.now) before.now.terms }
 {
+    assert!(rt; before.len() <= 10_000);
     let mut last = Poly::zero(alloc);
     for term in 1..=before.len() as u32 {
         add_products(alloc, field, words, before, word, term, stages)?;
@@ -190,10 +192,10 @@ pub fn plain_stages<F: Field>(
 {
     assert!(rt; words.len() == 1 || words.len() == 2);
     let mut stages = Vec::new(alloc);
-    let mix = add_stages(alloc, field, words, bits, 0, &mut stages)?;
+    let mix = add_stages(rt, alloc, field, words, bits, 0, &mut stages)?;
     if words.len() == 2 {
         let before = anew(rt, alloc, field, &mix)?;
-        add_stages(alloc, field, words, &before, 1, &mut stages)?;
+        add_stages(rt, alloc, field, words, &before, 1, &mut stages)?;
     }
     Ok(stages)
 }

@@ -3,13 +3,14 @@
 ghost use Rattle.std.specs.Prelude.{IfOk};
 ghost use Rattle.gf_basis.specs.BasisParts.{IsOver};
 ghost use Rattle.circuit_model.specs.Flat.{AreOver};
-ghost use Rattle.gf_abs.specs.Setting.{AreBasesOver};
+ghost use Rattle.gf_abs.specs.Setting.{any_degree, any_product, AreBasesOver};
+ghost use Rattle.net_words.specs.Binding.{AreWords};
 
 use crate::netlist::circuit_of;
 use crate::plain_tests::{
     in_bits, outcome, plain_outcome, plain_output, plain_stages, poly_in_words, value_at,
 };
-use crate::setting::setting_of;
+use crate::setting::{Setting, setting_of};
 use circuit_model::CircuitWord;
 use gf_basis::Basis;
 use gf_field::Field;
@@ -49,7 +50,8 @@ fn word<F: Field>(
     ensures { IfOk result (λ made. IsOver (F.degree field.now) (F.product field.now) made.basis) }
 {
     let bound = circuit.bound();
-    assert!(rt; w < bound.words() && (w as usize) < bases.len());
+    assert!(rt; w < bound.words());
+    assert!(rt; (w as usize) < bases.len());
     let mut nets = Vec::new(alloc);
     for place in 0..bound.k() {
         nets.push(bound.net(w, place))?;
@@ -138,6 +140,46 @@ fn compare<F: Field>(
     }
 }
 
+// The setting of a signature's text.
+pub fn setting(rt: &impl Abort, alloc: Global, text: &str) -> Setting
+    ensures over { AreBasesOver (any_degree result.field) (any_product result.field) result.bases.items }
+    ensures words { AreWords (any_degree result.field) result.signature.words }
+{
+    assert!(rt; text.len() < 10_000);
+    match setting_of(alloc, text.as_bytes()) {
+        Ok(setting) => setting,
+        Err(_) => panic!(rt; "no setting"),
+    }
+}
+
+// The circuit of a netlist's text.
+pub fn circuit(rt: &impl Abort, alloc: Global, setting: &Setting, text: &str) -> Combinational
+    requires { AreWords (any_degree setting.now.field) setting.now.signature.words }
+{
+    assert!(rt; text.len() < 10_000);
+    match circuit_of(alloc, setting.signature.words(), "net", text.as_bytes()) {
+        Ok(circuit) => circuit,
+        Err(_) => panic!(rt; "no circuit"),
+    }
+}
+
+// Compares over the setting's field.
+fn compare_over(
+    rt: &impl Abort,
+    alloc: Global,
+    setting: &Setting,
+    circuit: &Combinational,
+    largest: u32,
+) -> Result<(), Fail>
+    requires { AreBasesOver (any_degree setting.now.field) (any_product setting.now.field) setting.now.bases.items }
+{
+    let bases = setting.bases.as_slice();
+    match &setting.field {
+        AnyField::Base(field) => compare(rt, alloc, field, circuit, bases, largest),
+        AnyField::Tower(field) => compare(rt, alloc, field, circuit, bases, largest),
+    }
+}
+
 // The same of the texts of a signature and a netlist.
 fn check(
     rt: &impl Abort,
@@ -146,18 +188,9 @@ fn check(
     net: &str,
     largest: u32,
 ) -> Result<(), Fail> {
-    assert!(rt; signature.len() < 1000 && net.len() < 1000);
-    let setting = setting_of(alloc, signature.as_bytes())
-        .ok()
-        .expect(rt, "a setting");
-    let circuit = circuit_of(alloc, setting.signature.words(), "net", net.as_bytes())
-        .ok()
-        .expect(rt, "a circuit");
-    let bases = setting.bases.as_slice();
-    match &setting.field {
-        AnyField::Base(field) => compare(rt, alloc, field, &circuit, bases, largest),
-        AnyField::Tower(field) => compare(rt, alloc, field, &circuit, bases, largest),
-    }
+    let setting = setting(rt, alloc, signature);
+    let circuit = circuit(rt, alloc, &setting, net);
+    compare_over(rt, alloc, &setting, &circuit, largest)
 }
 
 // The field of 2 elements: a negation, and a disjunction.
