@@ -8,18 +8,22 @@ use crate::label::Label;
 use crate::{Gate, Latch, Name, NetFault, Start};
 use indexmap::IndexMap;
 use std::alloc::{AllocError, Global};
+use std::hash::{BuildHasherDefault, DefaultHasher};
 use std::marker::Model;
 
 const MAX_NETS: usize = 1 << 20;
 
 const MAX_GATES: usize = 1 << 20;
 
+// The number of each name. SipHash, since names that collide in the map's usual hash are easily made.
+type Numbers = IndexMap<String, u32, BuildHasherDefault<DefaultHasher>>;
+
 /// A net list in the making. Contracts see it as the net list that was made so far.
 /// A call that is refused leaves it as it was.
 #[derive(Drop)]
 pub struct NetMaker {
     alloc: Global,
-    numbers: IndexMap<String, u32>,
+    numbers: Numbers,
     labels: Vec<Label>,
     inputs: Vec<u32>,
     outputs: Vec<u32>,
@@ -48,7 +52,7 @@ impl NetMaker {
     {
         NetMaker {
             alloc,
-            numbers: IndexMap::new(alloc),
+            numbers: IndexMap::with_hasher(alloc, BuildHasherDefault::new()),
             labels: Vec::new(alloc),
             inputs: Vec::new(alloc),
             outputs: Vec::new(alloc),
