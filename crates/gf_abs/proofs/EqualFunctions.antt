@@ -8,7 +8,7 @@ use Rattle.poly_mixed.specs.Polynomial.{Terms, Point, IsPoint, IsElement, value}
 use Rattle.circuit_model.specs.Circuit.{IsInput}
 use Rattle.circuit_model.specs.Out.{IsOut}
 use Rattle.circuit_model.proofs.OutLemmas.{one_out}
-use Rattle.stage_model.specs.Function.{input_of}
+use Rattle.stage_model.specs.InputPoint.{input_of}
 use Rattle.gf_abs.specs.AbstractOf.{AbstractOf, circuit_of}
 use Rattle.gf_abs.specs.Equal.{IsTaken, IsInItsWords, StandsInWords, HasOutput, AreOneFunction}
 use Rattle.gf_abs.specs.Reply.{Reply}

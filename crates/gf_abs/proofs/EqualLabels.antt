@@ -12,7 +12,7 @@ use Rattle.net_words.specs.declared.word.Role.TheVariants.{Input, State, Output}
 use Rattle.net_words.specs.declared.word.WordText.{WordText}
 use Rattle.poly_mixed.specs.Labels.{AreLabels, AreDifferent, Differs, IsWord, bit_count}
 use Rattle.gf_abs.specs.Labelling.{word_label, word_labels, name_with, output_name, labels_of}
-use Rattle.gf_abs.proofs.LabelLemmas.{labels_long}
+use Rattle.gf_abs.proofs.LabelLemmas.{differs, labels_long}
 
 -- ---- the output word
 
@@ -39,15 +39,6 @@ word_with k some most Output name ls is rest = rest
 words_are : (k : ℕ) → 1 ≤ k → k ≤ 64 → (words : List WordText) → ((word : WordText) → Has words word → IsName word.name) → AllByRecursion IsWord (word_labels k words)
 words_are k some most [] names = tt
 words_are k some most (w ∷ ws) names = word_with k some most w.role w.name (word_labels k ws) (names w (0, refl)) (words_are k some most ws (λ word has. names word (suc has.0, has.1)))
-
-differs_with : (k : ℕ) (r : Role) (name other : List ℕ) (ls : List (List ℕ × ℕ)) → name ≢ other → Differs name (map (λ w. w.0) ls) → Differs name (map (λ w. w.0) (word_label r other k ++ ls))
-differs_with k Input name other ls new rest = (new, rest)
-differs_with k State name other ls new rest = (new, rest)
-differs_with k Output name other ls new rest = rest
-
-differs : (k : ℕ) (name : List ℕ) (us : List WordText) → ((j : ℕ) (u : WordText) → slice_get us j ≡ Some u → name ≢ u.name) → Differs name (map (λ w. w.0) (word_labels k us))
-differs k name [] apart = tt
-differs k name (u ∷ us) apart = differs_with k u.role name u.name (word_labels k us) (apart 0 u refl) (differs k name us (λ j v got. apart (suc j) v got))
 
 different_with : (k : ℕ) (r : Role) (name : List ℕ) (ls : List (List ℕ × ℕ)) → Differs name (map (λ w. w.0) ls) → AreDifferent (map (λ w. w.0) ls) → AreDifferent (map (λ w. w.0) (word_label r name k ++ ls))
 different_with k Input name ls new rest = (new, rest)

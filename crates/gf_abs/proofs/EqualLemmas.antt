@@ -16,7 +16,7 @@ use Rattle.circuit_model.specs.Circuit.{Circuit}
 use Rattle.circuit_model.specs.Out.{IsOut}
 use Rattle.circuit_model.specs.WellFormed.{IsWellFormed}
 use Rattle.circuit_model.proofs.OutLemmas.{one_out}
-use Rattle.stage_model.specs.Function.{input_of}
+use Rattle.stage_model.specs.InputPoint.{input_of}
 use Rattle.stage_model.proofs.MixLemmas.{mix_all}
 use Rattle.stage_model.proofs.NextMixLemmas.{mix_lacks}
 use Rattle.stage_model.proofs.SizeLemmas.{is_unique}
@@ -29,7 +29,7 @@ use Rattle.gf_abs.specs.SettingSound.{IsSoundSetting}
 use Rattle.gf_abs.specs.SettingValue.{SettingValue}
 use Rattle.gf_abs.proofs.AbstractDetermined.{circuit_well}
 use Rattle.gf_abs.proofs.EqualLabels.{are_labels, few_bits}
-use Rattle.gf_abs.proofs.EqualWords.{first_point, first_taken, is_first_point, first_alone}
+use Rattle.poly_mixed.proofs.FirstWords.{first_point, first_taken, is_first_point, first_alone}
 use Rattle.gf_abs.proofs.RoleLemmas.{netlist_roles, roles_long}
 use Rattle.gf_abs.proofs.SettingSoundLemmas.{setting_sound}
 use Rattle.gf_abs.proofs.StepLemmas.{setting_names}

@@ -43,7 +43,8 @@ map_append : (xs ys : List (List ℕ × ℕ)) → map (λ w. w.0) (xs ++ ys) ≡
 map_append [] ys = refl
 map_append (x ∷ xs) ys = ap (λ zs. x.0 ∷ zs) (map_append xs ys)
 
-differs : (k : ℕ) (name : List ℕ) (us : List WordText) → ((j : ℕ) (u : WordText) → slice_get us j ≡ Some u → name ≢ u.name) → Differs name (map (λ w. w.0) (word_labels k us))
+-- a name that no word has is no label of a word
+pub differs : (k : ℕ) (name : List ℕ) (us : List WordText) → ((j : ℕ) (u : WordText) → slice_get us j ≡ Some u → name ≢ u.name) → Differs name (map (λ w. w.0) (word_labels k us))
 differs k name [] apart = tt
 differs k name (u ∷ us) apart =
     let P : List (List ℕ) → Type 0 = λ xs. Differs name xs in

@@ -17,7 +17,6 @@ pub mod AnswerDetermined
 pub mod CompleteLemmas
 pub mod StageLemmas
 pub mod WordsLemmas
-pub mod EqualWords
 pub mod EqualLabels
 pub mod EqualLemmas
 pub mod EqualFunctions

@@ -1,11 +1,12 @@
 -- What a printed polynomial says of its circuit, and when two circuits are one function. Source: Pruss, Kalla, Enescu, Word-Level
 -- Abstraction from Bit-Level Circuits Using Gröbner Bases, DAC 2014.
-use Rattle.std.specs.Prelude.{◌≡◌, ℕ, ◌↔◌, List, [], length, drop, Ok}
+use Rattle.std.specs.Prelude.{◌≡◌, ℕ, ◌↔◌, List, [], length, Ok}
 use Rattle.std.specs.List.{AllByRecursion}
 use Rattle.net_words.specs.Binding.{BoundNet}
 use Rattle.poly_mixed.specs.Polynomial.{Terms, Point, IsPoint, IsReduced, value}
+use Rattle.poly_mixed.specs.Uniqueness.{InFirstWords}
 use Rattle.circuit_model.specs.Out.{IsOut}
-use Rattle.stage_model.specs.Function.{input_of}
+use Rattle.stage_model.specs.InputPoint.{input_of}
 use Rattle.gf_abs.specs.AbstractOf.{circuit_of}
 use Rattle.gf_abs.specs.BitsOf.{polynomial_line}
 use Rattle.gf_abs.specs.Command.{Word}
@@ -22,10 +23,10 @@ pub record IsTaken (setting : SettingValue) (circuit : BoundNet) : Type 0 where
   pub netlist : List ℕ
   pub is_circuit : NetlistOf file setting.signature.words netlist (Ok circuit)
 
--- no bit stands in the terms, and no word from the n-th on: its exponent is 0
+-- no bit stands in the terms, and no word from the n-th on
 pub record StandsInWords (n : ℕ) (ts : Terms) : Type 0 where
   pub bits : AllByRecursion (λ t. t.0.bits ≡ []) ts
-  pub words : AllByRecursion (λ t. AllByRecursion (λ e. e ≡ 0) (drop n t.0.exponents)) ts
+  pub words : InFirstWords n ts
 
 -- a reduced polynomial in the circuit's input and state words alone
 pub record IsInItsWords (setting : SettingValue) (circuit : BoundNet) (ts : Terms) : Type 0 where

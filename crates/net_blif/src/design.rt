@@ -9,7 +9,11 @@ use crate::item::Item;
 use indexmap::IndexMap;
 use net_core::Name;
 use std::alloc::{AllocError, Global};
+use std::hash::{BuildHasherDefault, DefaultHasher};
 use std::marker::Model;
+
+// The number of each name. SipHash, since names that collide in the map's usual hash are easily made.
+type Numbers = IndexMap<String, u32, BuildHasherDefault<DefaultHasher>>;
 
 /// A model: its name, and what its lines place.
 #[derive(Drop)]
@@ -59,7 +63,7 @@ impl ModelText {
 #[derive(Drop)]
 pub struct Design {
     models: Vec<ModelText>,
-    numbers: IndexMap<String, u32>,
+    numbers: Numbers,
 }
 
 impl Model for Design {
@@ -82,7 +86,7 @@ impl Design {
     {
         Design {
             models: Vec::new(alloc),
-            numbers: IndexMap::new(alloc),
+            numbers: IndexMap::with_hasher(alloc, BuildHasherDefault::new()),
         }
     }
 
@@ -137,10 +141,10 @@ impl Design {
 // With this number for the name, unless it has one.
 fn with_number(
     alloc: Global,
-    numbers: IndexMap<String, u32>,
+    numbers: Numbers,
     name: &str,
     number: u32,
-) -> Result<IndexMap<String, u32>, AllocError>
+) -> Result<Numbers, AllocError>
     ensures { IfOk result (λ after. (q : List ℕ) → get_by_text after q
         ≡ (if is_some (get_by_text numbers name.now) then get_by_text numbers q
         else (if bytes_eq name.now q then Some number else get_by_text numbers q))) }

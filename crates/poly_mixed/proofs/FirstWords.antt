@@ -6,9 +6,9 @@ use Rattle.std.specs.List.{AllByRecursion, list_all, filter}
 use Rattle.gf_field.specs.Power.{power}
 use Rattle.poly_mixed.specs.Monomial.{Monomial}
 use Rattle.poly_mixed.specs.Polynomial.{Terms, Point, IsPoint, IsTerm, IsReduced, IsElement, powers, term_value, value}
-use Rattle.poly_mixed.specs.Uniqueness.{IsZeros, Unique}
+use Rattle.poly_mixed.specs.Uniqueness.{IsZeros, InFirstWords, Unique}
 use Rattle.poly_mixed.proofs.FieldLaws.{IsField}
-use Rattle.poly_mixed.proofs.InBits.{filter_reduced}
+use Rattle.poly_mixed.proofs.Filtered.{filter_reduced}
 use Rattle.poly_mixed.proofs.Uniqueness.{zero_powers}
 use Rattle.poly_mixed.proofs.Values.{zero_element, product_zero, power_element, powers_element}
 
@@ -95,16 +95,15 @@ module _ {degree : ℕ} {mul : ℕ → ℕ → ℕ} (f : IsField degree mul) whe
             ap (λ x. bit_xor x (value mul (first_point n p) ts)) none ∙ xor_zero_l (value mul (first_point n p) ts) ∙ early_value n p ts at all.1
       ] refl
 
-  early_filter : (n : ℕ) (ts : Terms) → AllByRecursion (λ t. IsZeros (drop n t.0.exponents)) (filter (ends_early n) ts)
+  early_filter : (n : ℕ) (ts : Terms) → InFirstWords n (filter (ends_early n) ts)
   early_filter n [] = tt
   early_filter n (t ∷ ts) =
-      elim (ends_early n t) as (λ b. ends_early n t ≡ b → AllByRecursion (λ t. IsZeros (drop n t.0.exponents)) (cond b (t ∷ filter (ends_early n) ts) (filter (ends_early n) ts))) [
+      elim (ends_early n t) as (λ b. ends_early n t ≡ b → InFirstWords n (cond b (t ∷ filter (ends_early n) ts) (filter (ends_early n) ts))) [
         | true ↦ λ e. (zeros_of (drop n t.0.exponents) e, early_filter n ts)
         | false ↦ λ e. early_filter n ts
       ] refl
 
-  pub first_alone : Unique degree mul → (n : ℕ) (ts : Terms) → IsReduced degree ts → ((p : Point) → IsPoint degree p → value mul (first_point n p) ts ≡ value mul p ts) → AllByRecursion (λ t. IsZeros (drop n t.0.exponents)) ts
+  pub first_alone : Unique degree mul → (n : ℕ) (ts : Terms) → IsReduced degree ts → ((p : Point) → IsPoint degree p → value mul (first_point n p) ts ≡ value mul p ts) → InFirstWords n ts
   first_alone unique n ts r same =
       let e : filter (ends_early n) ts ≡ ts = unique (filter (ends_early n) ts) ts (filter_reduced (ends_early n) degree ts r) r (λ p at. sym (early_value n p ts at r.terms) ∙ same p at) in
-      let P : Terms → Type 0 = λ us. AllByRecursion (λ t. IsZeros (drop n t.0.exponents)) us in
-      subst P e (early_filter n ts)
+      subst (InFirstWords n) e (early_filter n ts)

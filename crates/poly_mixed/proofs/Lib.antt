@@ -13,7 +13,8 @@ pub mod Words
 pub mod Subsets
 pub mod Uniqueness
 pub mod Powers
-pub mod InBits
+pub mod Filtered
+pub mod FirstWords
 pub mod Orders
 pub mod Texts
 pub mod Scans

@@ -1,11 +1,12 @@
 -- The text of a polynomial: its terms in their order, each its coefficient and its variables.
 -- Source: this project's own.
-use Rattle.std.specs.Prelude.{◌≡◌, ℕ, ◌+◌, ◌<◌, Bool, ◌&&◌, true, false, not, cond, List, [], ◌∷◌, ◌++◌, map, length, drop, codes, decimal, ◌==◌}
+use Rattle.std.specs.Prelude.{◌≡◌, ℕ, ◌+◌, ◌<◌, Bool, ◌&&◌, true, false, not, cond, List, [], ◌∷◌, ◌++◌, map, length, codes, decimal, ◌==◌}
 use Rattle.std.specs.Fmt.{digits}
 use Rattle.std.specs.List.{AllByRecursion}
 use Rattle.poly_mixed.specs.Monomial.{Monomial}
 use Rattle.poly_mixed.specs.Polynomial.{Terms}
 use Rattle.poly_mixed.specs.Labels.{Labelling, rank_text, bit_count}
+use Rattle.poly_mixed.specs.Uniqueness.{InFirstWords}
 
 -- parts with a separator between them
 abbrev pub joined : List ℕ → List (List ℕ) → List ℕ
@@ -52,4 +53,4 @@ HasNames l ts = AllByRecursion (λ t. AllByRecursion (λ r. r < bit_count l.word
 
 -- a word that has no name has the exponent 0
 abbrev pub HasWordNames : Labelling → Terms → Type 0
-HasWordNames l ts = AllByRecursion (λ t. AllByRecursion (λ e. e ≡ 0) (drop (length l.words) t.0.exponents)) ts
+HasWordNames l ts = InFirstWords (length l.words) ts

@@ -1,15 +1,19 @@
 -- That a function has one polynomial, and so one size.
 -- Source: Lidl and Niederreiter, Finite Fields, chapter 7.
-use Rattle.std.specs.Prelude.{◌≡◌, ℕ, List, length}
+use Rattle.std.specs.Prelude.{◌≡◌, ℕ, List, length, drop}
 use Rattle.std.specs.List.{AllByRecursion}
 use Rattle.poly_mixed.specs.Polynomial.{Terms, Point, IsPoint, IsReduced, IsPolynomialOf, value}
 
 abbrev pub IsZeros : List ℕ → Type 0
 IsZeros es = AllByRecursion (λ e. e ≡ 0) es
 
+-- no word from the n-th on stands in the terms: its exponent is 0
+abbrev pub InFirstWords : ℕ → Terms → Type 0
+InFirstWords n ts = AllByRecursion (λ t. IsZeros (drop n t.0.exponents)) ts
+
 -- no word stands in the terms
 abbrev pub InBits : Terms → Type 0
-InBits ts = AllByRecursion (λ t. IsZeros t.0.exponents) ts
+InBits ts = InFirstWords 0 ts
 
 module _ (k : ℕ) (mul : ℕ → ℕ → ℕ) where
   abbrev pub HaveSameValues : Terms → Terms → Type 0

@@ -16,7 +16,7 @@ use Rattle.circuit_model.proofs.SourceLemmas.{source_inside, stands_source}
 use Rattle.poly_mixed.specs.Polynomial.{Terms, Point, IsPoint}
 use Rattle.poly_mixed.specs.Cofactor.{LacksBit, at_bit}
 use Rattle.stage_model.specs.Variables.{rank_in, point_bits, variables_of}
-use Rattle.stage_model.specs.Function.{IsAtInput}
+use Rattle.stage_model.specs.InputPoint.{IsAtInput}
 use Rattle.stage_model.specs.Cut.{CutOf}
 use Rattle.stage_model.specs.Stage.{IsOfStage}
 use Rattle.stage_model.proofs.PointLemmas.{point_bits_at, same_word}

@@ -7,7 +7,7 @@ use Rattle.circuit_model.specs.Circuit.{Circuit}
 use Rattle.circuit_model.specs.WellFormed.{IsWellFormed}
 use Rattle.circuit_model.proofs.WordLemmas.{same_element}
 use Rattle.poly_mixed.specs.Polynomial.{Point}
-use Rattle.poly_mixed.proofs.InBits.{wordless}
+use Rattle.poly_mixed.proofs.FirstWords.{first_point}
 use Rattle.stage_model.specs.Variables.{point_bits, variables_of}
 use Rattle.stage_model.specs.Cut.{IsSettled, IsCut, CutOf}
 use Rattle.stage_model.proofs.EliminationLemmas.{some_elimination, one_elimination}
@@ -57,7 +57,7 @@ module _ (c : Circuit) (well : IsWellFormed c) where
   )
 
 -- cuts do not depend on the words' elements
-pub wordless_cut : (net : NetList) (variables : List ℕ) (output : Word) (t : ℕ) (p : Point) (e : ℕ) → IsCut net variables output t (wordless p) e → IsCut net variables output t p e
+pub wordless_cut : (net : NetList) (variables : List ℕ) (output : Word) (t : ℕ) (p : Point) (e : ℕ) → IsCut net variables output t (first_point 0 p) e → IsCut net variables output t p e
 wordless_cut net variables output t p e cut = record {
   order = cut.order;
   elimination = cut.elimination;

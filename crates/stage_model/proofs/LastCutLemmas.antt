@@ -24,7 +24,7 @@ use Rattle.circuit_model.proofs.OutLemmas.{open_out}
 use Rattle.circuit_model.proofs.SourceLemmas.{source_inside, stands_source}
 use Rattle.poly_mixed.specs.Polynomial.{Point}
 use Rattle.stage_model.specs.Variables.{point_bits, variables_of}
-use Rattle.stage_model.specs.Function.{IsAtInput}
+use Rattle.stage_model.specs.InputPoint.{IsAtInput}
 use Rattle.stage_model.specs.Cut.{IsAmongFirst, IsSettled, CutOf}
 use Rattle.stage_model.proofs.EliminationLemmas.{some_elimination, elimination_long}
 use Rattle.stage_model.proofs.SettleLemmas.{some_settled}

@@ -17,7 +17,7 @@ use Rattle.circuit_model.proofs.OutLemmas.{some_out, one_out}
 use Rattle.poly_mixed.specs.Polynomial.{Point, IsPoint, IsElement}
 use Rattle.stage_model.specs.Variables.{point_bits, variables_of}
 use Rattle.stage_model.specs.Mix.{IsMixedInput, IsMix}
-use Rattle.stage_model.specs.Function.{input_of}
+use Rattle.stage_model.specs.InputPoint.{input_of}
 use Rattle.stage_model.specs.Cut.{CutOf}
 use Rattle.stage_model.proofs.SortLemmas.{all_in}
 use Rattle.stage_model.proofs.LastCutLemmas.{last_cut}

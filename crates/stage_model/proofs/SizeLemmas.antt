@@ -11,11 +11,13 @@ use Rattle.poly_mixed.specs.Uniqueness.{InBits, Unique}
 use Rattle.poly_mixed.proofs.FieldLaws.{field_of}
 use Rattle.poly_mixed.proofs.Roots.{independent}
 use Rattle.poly_mixed.proofs.Uniqueness.{unique}
-use Rattle.poly_mixed.proofs.Values.{zero_element}
-use Rattle.poly_mixed.proofs.InBits.{wordless, no_words}
+use Rattle.poly_mixed.proofs.FirstWords.{first_point, is_first_point, first_alone}
 use Rattle.poly_mixed.proofs.Cofactors.{value-lacking, reduced_lacking}
-use Rattle.stage_model.specs.Function.{IsFunction}
 use Rattle.stage_model.specs.Stage.{IsOfStage, HasSize, IsWithin, IsNoneOver, IsFirstOver}
+
+-- the stage relates no point to two elements
+abbrev pub IsFunction : ℕ → (Point → ℕ → Type 0) → Type 0
+IsFunction k stage = (p : Point) (x y : ℕ) → IsPoint k p → stage p x → stage p y → x ≡ y
 
 module _ (k : ℕ) (mul : ℕ → ℕ → ℕ) (ring : IsRing k mul) (field : HasNoZeroDivisors k mul) where
   pub is_unique : Unique k mul
@@ -48,14 +50,11 @@ module _ (k : ℕ) (mul : ℕ → ℕ → ℕ) (ring : IsRing k mul) (field : Ha
         none (t ∷ ts) = elim (has_bit bit t.0) as (λ b. has_bit bit t.0 ≡ b → LacksBit bit (cond (not b) (t ∷ lacking bit ts) (lacking bit ts))) [ true ↦ λ e. none ts | false ↦ λ e. (e, none ts) ] refl
 
     -- where the stage does not depend on the words, no word stands in its polynomial
-    pub wordless_stage : (ts : Terms) → IsOfStage k mul stage ts → ((p : Point) (x : ℕ) → IsPoint k p → stage (wordless p) x → stage p x) → InBits ts
+    pub wordless_stage : (ts : Terms) → IsOfStage k mul stage ts → ((p : Point) (x : ℕ) → IsPoint k p → stage (first_point 0 p) x → stage p x) → InBits ts
     wordless_stage ts is blind =
         let f = field_of k mul ring field in
-        let z = zero_element f in
-        no_words f is_unique ts is.reduced
-        (λ p at.
-        let at0 : IsPoint k (wordless p) = record { words = refl; elements = (z, (z, (z, (z, (z, (z, (z, (z, tt)))))))) } in
-        one p (value mul (wordless p) ts) (value mul p ts) at (blind p (value mul (wordless p) ts) at (is.values (wordless p) at0)) (is.values p at))
+        first_alone f is_unique 0 ts is.reduced
+        (λ p at. one p (value mul (first_point 0 p) ts) (value mul p ts) at (blind p (value mul (first_point 0 p) ts) at (is.values (first_point 0 p) (is_first_point f 0 p at))) (is.values p at))
 
   module _ (stages : ℕ → Point → ℕ → Type 0) (one : (i : ℕ) → IsFunction k (stages i)) where
     pub first_only : (count bound i n j m : ℕ) → IsFirstOver k mul stages count bound i n → IsFirstOver k mul stages count bound j m → (i ≡ j) × (n ≡ m)

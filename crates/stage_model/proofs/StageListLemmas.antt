@@ -6,11 +6,10 @@ use Rattle.circuit_model.specs.Circuit.{Circuit}
 use Rattle.poly_mixed.specs.Polynomial.{Terms, Point, IsPoint}
 use Rattle.poly_mixed.specs.declared.stage.Stage.{Stage}
 use Rattle.poly_mixed.specs.declared.stage.Stage.TheVariants.{Cut, WordProduct, WordSum, SpecProduct, SpecSum, InstanceProduct, InstanceSum}
-use Rattle.stage_model.specs.Function.{IsFunction}
 use Rattle.stage_model.specs.Stage.{IsOfStage, HasSize}
 use Rattle.stage_model.specs.StageList.{StageOf, IsListed, ComesBefore, IsEarlier, IsOver, AreAllWithin}
 use Rattle.stage_model.proofs.CutLemmas.{some_cut, one_cut}
-use Rattle.stage_model.proofs.SizeLemmas.{same_terms, same_size, not_within}
+use Rattle.stage_model.proofs.SizeLemmas.{IsFunction, same_terms, same_size, not_within}
 use Rattle.stage_model.proofs.WordStageLemmas.{some_product, one_product, some_sum, one_sum}
 
 not_mutual : (v r w s : ℕ) (S T : Type 0) → (S → T → ⊥) → IsEarlier v r w s S → IsEarlier w s v r T → ⊥

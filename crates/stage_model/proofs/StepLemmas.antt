@@ -16,7 +16,6 @@ use Rattle.circuit_model.specs.Word.{Word}
 use Rattle.circuit_model.specs.WellFormed.{IsWellFormed}
 use Rattle.circuit_model.specs.Circuit.{Circuit}
 use Rattle.stage_model.specs.Variables.{rank_in}
-use Rattle.stage_model.specs.Function.{IsFunction}
 use Rattle.stage_model.specs.Cut.{IsCut}
 use Rattle.stage_model.specs.Stage.{IsOfStage}
 use Rattle.stage_model.specs.WordStage.{word_bits}
@@ -24,7 +23,7 @@ use Rattle.stage_model.specs.CutSteps.{IsNetStep, AreStepsAt, AreStepsOf, AreSte
 use Rattle.stage_model.specs.WordSteps.{with_word_below, IsMultiplier, IsStepOf, AreStepsOfTerm, AreStepsOfTerms, AreStepsOfWord, AreWordStepsTo}
 use Rattle.stage_model.proofs.EliminationLemmas.{one_elimination}
 use Rattle.stage_model.proofs.CutLemmas.{one_cut_of}
-use Rattle.stage_model.proofs.SizeLemmas.{same_terms}
+use Rattle.stage_model.proofs.SizeLemmas.{IsFunction, same_terms}
 use Rattle.stage_model.proofs.WordStageLemmas.{one_terms, one_read}
 
 same_steps : (xs ys : List Step) → length xs ≡ length ys → ((i : ℕ) (x y : Step) → slice_get xs i ≡ Some x → slice_get ys i ≡ Some y → x ≡ y) → xs ≡ ys

@@ -1,14 +1,10 @@
--- Stages that are functions, and points that stand for inputs. Source: this project's own.
-use Rattle.std.specs.Prelude.{◌≡◌, ℕ, List, length, take}
+-- Points that stand for inputs. Source: this project's own.
+use Rattle.std.specs.Prelude.{ℕ, List, length, take}
 use Rattle.net_core.specs.NetList.{nets}
-use Rattle.poly_mixed.specs.Polynomial.{Point, IsPoint}
+use Rattle.poly_mixed.specs.Polynomial.{Point}
 use Rattle.circuit_model.specs.Circuit.{Circuit}
 use Rattle.circuit_model.specs.Run.{HaveElements, IsAnyWord}
 use Rattle.stage_model.specs.Variables.{point_bits, variables_of}
-
--- the stage relates no point to two elements
-abbrev pub IsFunction : ℕ → (Point → ℕ → Type 0) → Type 0
-IsFunction k stage = (p : Point) (x y : ℕ) → IsPoint k p → stage p x → stage p y → x ≡ y
 
 -- at the nets of each word the point has the bits of the word's element; its other bits are free
 abbrev pub IsAtInput : Circuit → List ℕ → Point → Type 0

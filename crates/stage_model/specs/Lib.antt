@@ -3,7 +3,7 @@ pub mod Cut
 pub mod Mix
 pub mod Stage
 pub mod CutSteps
-pub mod Function
+pub mod InputPoint
 pub mod WordStage
 pub mod StageList
 pub mod WordSteps

@@ -15,7 +15,7 @@ ghost use Rattle.circuit_model.specs.OfBinding.{circuit_with, output_basis};
 ghost use Rattle.net_words.specs.Binding.{BoundNet};
 ghost use Rattle.stage_model.specs.Variables.{point_bits, variables_of};
 ghost use Rattle.stage_model.specs.Cut.{IsCut, CutOf, BoundCut};
-ghost use Rattle.stage_model.specs.Function.{IsAtInput};
+ghost use Rattle.stage_model.specs.InputPoint.{IsAtInput};
 ghost use Rattle.stage_model.specs.Stage.{IsOfStage, HasSize, IsFirstOver, IsNoneOver};
 
 /// A cut relates each point to exactly one element, which is one of the field.

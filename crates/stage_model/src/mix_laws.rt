@@ -6,7 +6,7 @@ ghost use Rattle.circuit_model.specs.WellFormed.{IsWellFormed};
 ghost use Rattle.circuit_model.specs.Out.{IsOut};
 ghost use Rattle.stage_model.specs.Cut.{CutOf};
 ghost use Rattle.stage_model.specs.Mix.{IsMix};
-ghost use Rattle.stage_model.specs.Function.{input_of};
+ghost use Rattle.stage_model.specs.InputPoint.{input_of};
 
 /// A mix relates each point to exactly one element, which is one of the field.
 pub fn one_element_a_mix()

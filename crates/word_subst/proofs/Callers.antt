@@ -11,7 +11,7 @@ use Rattle.circuit_model.specs.WellFormed.{IsWellFormed}
 use Rattle.circuit_model.specs.OfBinding.{output_basis}
 use Rattle.circuit_model.specs.Out.{IsOut}
 use Rattle.stage_model.specs.Cut.{BoundCut}
-use Rattle.stage_model.specs.Function.{input_of}
+use Rattle.stage_model.specs.InputPoint.{input_of}
 use Rattle.stage_model.specs.Mix.{IsMix}
 use Rattle.stage_model.specs.Stage.{IsOfStage}
 use Rattle.stage_model.proofs.BoundLemmas.{bound_cut}

@@ -14,7 +14,7 @@ ghost use Rattle.circuit_model.specs.WellFormed.{IsWellFormed};
 ghost use Rattle.circuit_model.specs.OfBinding.{output_basis};
 ghost use Rattle.circuit_model.specs.Out.{IsOut};
 ghost use Rattle.stage_model.specs.Cut.{BoundCut};
-ghost use Rattle.stage_model.specs.Function.{input_of};
+ghost use Rattle.stage_model.specs.InputPoint.{input_of};
 ghost use Rattle.stage_model.specs.Mix.{IsMix};
 ghost use Rattle.stage_model.specs.Stage.{IsOfStage};
 ghost use Rattle.word_subst.specs.Bases.{AreBases, circuit_in};
