@@ -3,10 +3,8 @@ ghost use Rattle.std.specs.Prelude.{◌≡◌, ◌==◌, ◌≤◌, ◌<◌, ◌
 ghost use Rattle.std.specs.Int.{bit_at};
 ghost use Rattle.net_core.specs.Lists.{Has, times};
 ghost use Rattle.net_core.specs.Value.{bit_of, index_of};
-ghost use Rattle.gf_field.specs.Element.{AreElements};
 ghost use Rattle.gf_basis.specs.BasisParts.{IsOver};
 ghost use Rattle.circuit_model.specs.Word.{HasElement};
-ghost use Rattle.circuit_model.specs.Circuit.{IsInput};
 ghost use Rattle.circuit_model.specs.WellFormed.{IsWellFormed};
 ghost use Rattle.circuit_model.specs.Out.{IsOut};
 ghost use Rattle.circuit_model.specs.Flat.{AreOver, circuit_of, word_of};

@@ -1,5 +1,5 @@
 //! Circuits over the field of 4 elements, worked by hand.
-ghost use Rattle.std.specs.Prelude.{◌≡◌, ◌<◌, IfOk, OnOk, length};
+ghost use Rattle.std.specs.Prelude.{◌≡◌, ◌<◌, IfOk, length};
 ghost use Rattle.net_core.specs.NetList.{nets};
 ghost use Rattle.gf_basis.specs.BasisParts.{IsOver};
 

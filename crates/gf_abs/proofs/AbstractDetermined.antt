@@ -1,16 +1,14 @@
 -- At most one answer or fault comes of `abstract` for a setting and a circuit.
-use Rattle.std.proofs.Common.{◌≡◌, ◌∙◌, ap, sym, refl, subst, ℕ, List, length, Result, Ok, Err}
+use Rattle.std.proofs.Common.{◌≡◌, ◌∙◌, ap, sym, subst, ℕ, List, length, Ok, Err}
 use Rattle.text_core.specs.Outcome.{Determined}
 use Rattle.net_core.specs.NetList.{NetList}
 use Rattle.net_core.specs.Sound.{IsSound}
 use Rattle.net_words.specs.Bind.{BindingOf, bits_of}
 use Rattle.net_words.specs.Binding.{Binding, BoundNet}
-use Rattle.net_words.specs.BoundTo.{IsBoundTo}
 use Rattle.net_words.specs.declared.word.WordText.{WordText}
 use Rattle.net_words.proofs.BoundLemmas.{bound_to}
 use Rattle.poly_mixed.specs.Polynomial.{Terms}
 use Rattle.poly_mixed.specs.declared.stage.Stage.{Stage}
-use Rattle.circuit_model.specs.OfBinding.{circuit_with, HaveBases}
 use Rattle.circuit_model.specs.WellFormed.{IsWellFormed}
 use Rattle.circuit_model.proofs.BoundLemmas.{bound_well}
 use Rattle.stage_model.specs.Mix.{IsMix}
@@ -20,7 +18,7 @@ use Rattle.stage_model.proofs.SizeLemmas.{same_terms}
 use Rattle.stage_model.proofs.StageListLemmas.{one_over, over_not_all}
 use Rattle.gf_abs.specs.declared.fault.Fault.{Fault}
 use Rattle.gf_abs.specs.declared.fault.Fault.TheVariants.{Words, Signature, Netlist, Absent, TooLong, TooManyTerms}
-use Rattle.gf_abs.specs.AbstractOf.{AbstractOf, IsInWords, IsStageOver, circuit_of, stage_name}
+use Rattle.gf_abs.specs.AbstractOf.{AbstractOf, IsInWords, circuit_of, stage_name}
 use Rattle.gf_abs.specs.BitsOf.{polynomial_line}
 use Rattle.gf_abs.specs.Command.{Word}
 use Rattle.gf_abs.specs.Labelling.{word_labels}

@@ -1,13 +1,12 @@
 -- At most one answer comes of the words, where the shelf tells what it holds.
-use Rattle.std.proofs.Common.{◌≡◌, ◌⊎◌, ◌∙◌, ap, sym, refl, subst, inl, inr, ℕ, ◌<◌, ◌≤◌, ◌+◌, List, [], ◌∷◌, length, get_or, Option, None, Some, Result, Ok, Err, arith, codes}
+use Rattle.std.proofs.Common.{◌≡◌, ◌⊎◌, ◌∙◌, ap, sym, subst, inl, inr, ℕ, ◌<◌, ◌+◌, List, [], ◌∷◌, length, get_or, Option, None, Some, Ok, Err, arith, codes}
 use Rattle.std.specs.FinMap.{get}
-use Rattle.text_core.specs.Outcome.{Outcome, ◌>>=◌, Determined}
+use Rattle.text_core.specs.Outcome.{◌>>=◌, Determined}
 use Rattle.text_core.specs.Numbers.{value_of}
 use Rattle.job_io.specs.Shelf.{Files}
 use Rattle.net_core.specs.Sound.{IsSound}
 use Rattle.net_words.specs.Binding.{BoundNet}
 use Rattle.net_words.specs.Variables.{variables}
-use Rattle.net_words.specs.declared.word.WordText.{WordText}
 use Rattle.net_blif.proofs.FlatDetermined.{determined_after}
 use Rattle.gf_field.specs.Ring.{IsRing}
 use Rattle.gf_field.specs.Field.{HasNoZeroDivisors}
@@ -20,7 +19,6 @@ use Rattle.gf_abs.specs.declared.fault.StageName.TheVariants.{Cut, WordProduct, 
 use Rattle.gf_abs.specs.declared.command.Kind.{Kind}
 use Rattle.gf_abs.specs.declared.command.Kind.TheVariants as kinds
 use Rattle.gf_abs.specs.Command.{Word, Job, Bits, Abstract, IsDerived, IsSpelled, AreOptions}
-use Rattle.gf_abs.specs.Reply.{Reply}
 use Rattle.gf_abs.specs.SettingValue.{SettingValue}
 use Rattle.gf_abs.specs.SettingOf.{SettingOf}
 use Rattle.gf_abs.specs.SettingSound.{IsSoundSetting}
@@ -31,7 +29,7 @@ use Rattle.gf_abs.proofs.SettingDetermined.{setting_determined}
 use Rattle.gf_abs.proofs.SettingSoundLemmas.{setting_sound}
 use Rattle.gf_abs.proofs.NetlistDetermined.{netlist_determined}
 use Rattle.gf_abs.proofs.AbstractDetermined.{netlist_sound, abstract_determined}
-use Rattle.net_core.specs.NetList.{NetList, nets}
+use Rattle.net_core.specs.NetList.{nets}
 use Rattle.stage_model.specs.Cut.{IsCut}
 use Rattle.stage_model.proofs.CutLemmas.{one_cut_of}
 use Rattle.stage_model.proofs.SizeLemmas.{same_terms, first_only, not_all}

@@ -1,5 +1,5 @@
 -- The basis of the output word, out of those of all words.
-use Rattle.std.proofs.Common.{◌≡◌, ◌≢◌, ◌∙◌, ap, sym, refl, subst, ℕ, zero, suc, ◌<◌, ◌+◌, Bool, true, false, cond, List, [], ◌∷◌, length, map, drop, filter, Some, arith}
+use Rattle.std.proofs.Common.{◌≡◌, ◌≢◌, ◌∙◌, ap, sym, refl, subst, ℕ, zero, suc, ◌<◌, ◌+◌, true, false, cond, List, [], ◌∷◌, length, map, drop, filter, Some, arith}
 use Rattle.std.specs.Prelude.{slice_get}
 use Rattle.net_words.specs.Bind.{same_role}
 use Rattle.net_words.specs.declared.bound.BoundWord.{BoundWord}

@@ -1,12 +1,10 @@
 -- The one answer that may come is the one that was written.
-use Rattle.std.proofs.Common.{◌≡◌, ◌⊎◌, ◌∙◌, ap, sym, refl, subst, inl, inr, ℕ, List, Option, None, Some, Result, Ok, Err}
+use Rattle.std.proofs.Common.{◌≡◌, refl, subst, inl, inr, ℕ, List, Option, None, Some, Result, Ok, Err}
 use Rattle.std.specs.Io.KnownBytes.{Appends, Keeps}
-use Rattle.text_core.specs.Outcome.{Determined}
 use Rattle.job_io.specs.Shelf.{Files}
 use Rattle.gf_abs.specs.Command.{Word}
 use Rattle.gf_abs.specs.Reply.{Reply}
 use Rattle.gf_abs.specs.Answer.{Answer}
-use Rattle.gf_abs.specs.Fault.{fault_line, fault_status}
 use Rattle.gf_abs.specs.Stop.{IsText, Writes, IsWritten}
 use Rattle.gf_abs.specs.declared.fault.Fault.{Fault}
 use Rattle.gf_abs.proofs.AnswerDetermined.{answer_determined}

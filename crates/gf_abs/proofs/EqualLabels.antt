@@ -1,5 +1,5 @@
 -- The labels of a setting's words are labels, so that a text in them is of one polynomial.
-use Rattle.std.proofs.Common.{◌≡◌, ◌≢◌, refl, subst, ℕ, suc, ◌≤◌, ◌*◌, ◌+◌, ◌^◌, cond, List, [], ◌∷◌, ◌++◌, length, map, filter, Some, arith}
+use Rattle.std.proofs.Common.{◌≡◌, refl, subst, ℕ, suc, ◌≤◌, ◌*◌, ◌+◌, ◌^◌, cond, List, [], ◌∷◌, ◌++◌, length, map, filter, Some, arith}
 use Rattle.std.specs.Prelude.{slice_get}
 use Rattle.std.specs.List.{AllByRecursion}
 use Rattle.text_core.specs.Names.{IsName}

@@ -22,7 +22,7 @@ use Rattle.net_words.specs.declared.word.Role.{Role}
 use Rattle.net_words.specs.declared.word.Role.TheVariants as roles
 use Rattle.net_words.specs.declared.word.WordText.{WordText}
 use Rattle.gf_abs.specs.NetlistOf.{BoundNetOf, NetOf, WordsBound, of_binding, of_model, word_name}
-use Rattle.gf_abs.specs.NetlistReading.{FitsNetlist, IsNamed, IsRefusal}
+use Rattle.gf_abs.specs.NetlistReading.{FitsNetlist, IsNamed, IsNetlistRefusal}
 use Rattle.gf_abs.specs.declared.fault.NetlistFault.TheVariants as netlist
 use Rattle.gf_abs.specs.declared.netlist.Refusal.{Refusal}
 use Rattle.gf_abs.specs.declared.netlist.Refusal.TheVariants.{Fault, OutOfMemory}
@@ -140,7 +140,7 @@ fault_comes net words (binds.UnknownStart n) other fits = fits
 fault_comes net words binds.OutOfMemory other fits = absurd (other refl)
 
 -- what comes of a binding that is refused
-pub unbound : (net : NetList) (words : List WordText) (fault : BindFault) (refusal : Refusal) → FitsBinding {A = Binding} (λ bound. bound) (Err fault) (BindingOf net words) → IsRefusal (netlist.Binding (of_binding words net fault)) refusal → (fault ≡ binds.OutOfMemory → refusal ≡ OutOfMemory) → FitsNetlist (Err refusal) (WordsBound words net)
+pub unbound : (net : NetList) (words : List WordText) (fault : BindFault) (refusal : Refusal) → FitsBinding {A = Binding} (λ bound. bound) (Err fault) (BindingOf net words) → IsNetlistRefusal (netlist.Binding (of_binding words net fault)) refusal → (fault ≡ binds.OutOfMemory → refusal ≡ OutOfMemory) → FitsNetlist (Err refusal) (WordsBound words net)
 unbound net words fault OutOfMemory fits same memory = tt
 unbound net words fault (Fault other) fits same memory = inl (fault, fault_comes net words fault (λ wanting. never (memory wanting)) fits, same)
   where
@@ -154,7 +154,7 @@ text_bound text words net (Err (Fault fault)) first then = inr (net, first, then
 text_bound text words net (Err OutOfMemory) first then = tt
 
 -- what comes of a model whose net is refused
-pub model_refused : (text : List ℕ) (design : List ModelValue) (fault : FlatFault) (refusal : Refusal) → BlifDesign text (Ok design) → (fault ≡ flat_faults.OutOfMemory) ⊎ Flattens design 0 (Err fault) → IsRefusal (of_model fault) refusal → (fault ≡ flat_faults.OutOfMemory → refusal ≡ OutOfMemory) → FitsNetlist (Err refusal) (NetOf text)
+pub model_refused : (text : List ℕ) (design : List ModelValue) (fault : FlatFault) (refusal : Refusal) → BlifDesign text (Ok design) → (fault ≡ flat_faults.OutOfMemory) ⊎ Flattens design 0 (Err fault) → IsNetlistRefusal (of_model fault) refusal → (fault ≡ flat_faults.OutOfMemory → refusal ≡ OutOfMemory) → FitsNetlist (Err refusal) (NetOf text)
 model_refused text design fault OutOfMemory read why same memory = tt
 model_refused text design fault (Fault other) read (inl wanting) same memory = never (memory wanting)
   where

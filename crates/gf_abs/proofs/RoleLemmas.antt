@@ -1,9 +1,7 @@
 -- The bound words of a netlist have the roles of the signature's words.
-use Rattle.std.proofs.Common.{◌≡◌, ◌∙◌, ap, sym, refl, subst, ℕ, zero, suc, List, [], ◌∷◌, ◌++◌, length, map, Some, Ok, arith}
-use Rattle.std.specs.Prelude.{All, slice_get}
+use Rattle.std.proofs.Common.{◌≡◌, ◌∙◌, ap, sym, refl, subst, ℕ, List, [], ◌∷◌, ◌++◌, length, map, Ok, arith}
 use Rattle.std.proofs.lemmas.List.{append_assoc, length-map}
 use Rattle.net_core.specs.NetList.{NetList}
-use Rattle.net_core.specs.Lists.{Has}
 use Rattle.net_core.proofs.DriverLemmas.{All_has}
 use Rattle.net_words.specs.Bind.{BoundOf, BindingOf, bound_word, bits_of}
 use Rattle.net_words.specs.Binding.{Binding, BoundNet, AreWords}

@@ -1,12 +1,10 @@
 -- The stages of a job: cuts and then stages of words.
-use Rattle.std.proofs.Common.{◌≡◌, ◌∙◌, ap, sym, refl, subst, ℕ, ◌<◌, ◌≤◌, ◌+◌, Bool, true, List, [], length, Some, Result, Err, Ok, arith}
+use Rattle.std.proofs.Common.{◌≡◌, ◌∙◌, ap, refl, subst, ℕ, ◌≤◌, ◌+◌, List, [], length, arith}
 use Rattle.std.proofs.lemmas.List.{length-map}
-use Rattle.net_core.specs.Lists.{Has}
 use Rattle.net_core.specs.Sound.{IsSound}
-use Rattle.net_core.proofs.DriverLemmas.{All_has, from_map}
+use Rattle.net_core.proofs.DriverLemmas.{from_map}
 use Rattle.net_words.specs.Binding.{BoundNet}
 use Rattle.net_words.specs.BoundTo.{IsBoundTo}
-use Rattle.net_words.specs.declared.bound.BoundWord.{BoundWord}
 use Rattle.net_words.specs.declared.word.WordText.{WordText}
 use Rattle.gf_field.specs.Ring.{IsRing}
 use Rattle.gf_field.specs.Field.{HasNoZeroDivisors}

@@ -1,5 +1,5 @@
 -- One step of an answer after another.
-use Rattle.std.proofs.Common.{inl, inr, sym, subst, ◌≡◌, ◌≤◌, ℕ, Result, Ok, Err, arith}
+use Rattle.std.proofs.Common.{inl, inr, sym, subst, ◌≤◌, ℕ, Result, Ok, Err, arith}
 use Rattle.text_core.specs.Outcome.{Outcome, ◌>>=◌}
 use Rattle.job_io.specs.Counts.{Rose}
 use Rattle.std.specs.Prelude.{List, Vec, Option}
@@ -11,7 +11,6 @@ use Rattle.gf_abs.specs.Stop.{GivesBy, printed}
 use Rattle.gf_abs.specs.declared.command.Kind.{Kind}
 use Rattle.gf_abs.specs.declared.command.Kind.TheVariants as kinds
 use Rattle.gf_abs.specs.Command.{Word, Job, IsSpelled, job_with}
-use Rattle.gf_abs.specs.Reply.{Reply}
 use Rattle.gf_abs.specs.Answer.{Read, NetAnswer, FilesAnswer, JobAnswer, Answer, Spelled}
 use Rattle.gf_abs.specs.SettingValue.{SettingValue}
 use Rattle.gf_abs.specs.SettingOf.{SettingOf}

@@ -1,5 +1,5 @@
 -- What `abstract` answers, out of what the engines answer.
-use Rattle.std.proofs.Common.{◌≡◌, ◌∙◌, ap, sym, refl, subst, ℕ, zero, suc, ◌<◌, ◌≤◌, ◌+◌, Bool, true, List, [], ◌∷◌, ◌++◌, length, map, Result, Err, Ok, codes, arith}
+use Rattle.std.proofs.Common.{◌≡◌, ◌∙◌, ap, sym, refl, subst, ℕ, ◌<◌, ◌+◌, List, [], ◌∷◌, length, Result, Err, arith}
 use Rattle.std.proofs.lemmas.List.{length-append}
 use Rattle.net_core.specs.Sound.{IsSound}
 use Rattle.net_words.specs.Binding.{BoundNet}
@@ -17,7 +17,6 @@ use Rattle.poly_mixed.specs.declared.stage.ReduceFault.{ReduceFault}
 use Rattle.poly_mixed.specs.declared.stage.ReduceFault.TheVariants as reduce
 use Rattle.poly_mixed.specs.declared.stage.Stage.{Stage}
 use Rattle.poly_mixed.specs.declared.stage.Stage.TheVariants.{Cut, WordProduct, WordSum, SpecProduct, SpecSum, InstanceProduct, InstanceSum}
-use Rattle.circuit_model.specs.Word.{Word}
 use Rattle.circuit_model.specs.OfBinding.{word_with, words_of, output_basis}
 use Rattle.stage_model.specs.Cut.{BoundCut}
 use Rattle.stage_model.specs.Stage.{IsNoneOver}
@@ -28,14 +27,14 @@ use Rattle.gf_abs.specs.declared.fault.Fault.{Fault}
 use Rattle.gf_abs.specs.declared.fault.Fault.TheVariants.{TooManyTerms}
 use Rattle.gf_abs.specs.declared.stop.Stop.{Stop}
 use Rattle.gf_abs.specs.declared.stop.Stop.TheVariants.{Refused, Outside, OutOfMemory}
-use Rattle.gf_abs.specs.AbstractOf.{AbstractOf, IsStageOver, stage_name}
+use Rattle.gf_abs.specs.AbstractOf.{AbstractOf}
 use Rattle.gf_abs.specs.BitsOf.{HaveRoles}
 use Rattle.gf_abs.specs.StageStop.{cut_stop, IsOfWords, IsWordStop}
 use Rattle.gf_abs.specs.Labelling.{word_label, word_labels}
 use Rattle.gf_abs.specs.Reply.{Reply}
 use Rattle.gf_abs.specs.Setting.{elements_of_each, AreBasesOver}
 use Rattle.gf_abs.specs.SettingValue.{SettingValue}
-use Rattle.gf_abs.specs.Stop.{GivesBy, IsMiss, printed}
+use Rattle.gf_abs.specs.Stop.{GivesBy, IsMiss}
 use Rattle.gf_abs.proofs.StageLemmas.{whole, based, cut_over, words_over}
 
 -- a circuit has as many input and state words as labels

@@ -15,9 +15,9 @@ FitsNetlist (Err (Fault fault)) outcome = outcome (Err fault)
 FitsNetlist (Err OutOfMemory) outcome = Unit {0}
 
 -- it is this fault, or memory is wanted
-abbrev pub IsRefusal : NetlistFault → Refusal → Type 0
-IsRefusal fault (Fault other) = other ≡ fault
-IsRefusal fault OutOfMemory = Unit {0}
+abbrev pub IsNetlistRefusal : NetlistFault → Refusal → Type 0
+IsNetlistRefusal fault (Fault other) = other ≡ fault
+IsNetlistRefusal fault OutOfMemory = Unit {0}
 
 -- the word of a fault of a binding is one of so many words, and its net one of the net list
 abbrev pub IsNamed : ℕ → NetList → BindFault → Type 0

@@ -64,7 +64,7 @@ IsWordStop words reduce.OutOfMemory bound (stops.Refused refused) = ⊥
 IsWordStop words (reduce.TooManyTerms stage n) bound (stops.Refused refused) = refused ≡ faults.TooManyTerms (stage_name words stage) n bound
 
 -- it is this refusal, or memory is wanted
-abbrev pub IsRefusal : Fault → Stop → Type 0
-IsRefusal fault (stops.Refused refused) = refused ≡ fault
-IsRefusal fault stops.Outside = ⊥
-IsRefusal fault stops.OutOfMemory = Unit {0}
+abbrev pub IsStageRefusal : Fault → Stop → Type 0
+IsStageRefusal fault (stops.Refused refused) = refused ≡ fault
+IsStageRefusal fault stops.Outside = ⊥
+IsStageRefusal fault stops.OutOfMemory = Unit {0}

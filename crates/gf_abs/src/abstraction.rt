@@ -4,7 +4,7 @@ ghost use Rattle.net_words.specs.Binding.{AreWords};
 ghost use Rattle.net_words.specs.WordNames.{HaveNames};
 ghost use Rattle.gf_abs.specs.AbstractOf.{AbstractOf};
 ghost use Rattle.gf_abs.specs.BitsOf.{HaveRoles};
-ghost use Rattle.gf_abs.specs.StageStop.{IsOfWords, IsWordStop, IsRefusal};
+ghost use Rattle.gf_abs.specs.StageStop.{IsOfWords, IsWordStop, IsStageRefusal};
 ghost use Rattle.gf_abs.specs.Setting.{any_degree, setting_value, elements_of_each, AreBasesOver, IsReady};
 ghost use Rattle.gf_abs.specs.Stop.{printed, GivesBy};
 
@@ -98,7 +98,7 @@ fn stage_refusal(alloc: Global, labels: &Labels, fault: ReduceFault, bound: u32)
 
 // The refusal of a product stage of the word of this name.
 fn product_refusal(alloc: Global, name: &str, term: u32, bit: u32, terms: u64, bound: u32) -> Stop
-    ensures { IsRefusal (Fault.TooManyTerms (StageName.WordProduct name.now term bit) terms bound) result }
+    ensures { IsStageRefusal (Fault.TooManyTerms (StageName.WordProduct name.now term bit) terms bound) result }
 {
     match Name::new(alloc, name) {
         Ok(word) => Stop::Refused(Fault::TooManyTerms {
@@ -112,7 +112,7 @@ fn product_refusal(alloc: Global, name: &str, term: u32, bit: u32, terms: u64, b
 
 // The refusal of a sum stage of the word of this name.
 fn sum_refusal(alloc: Global, name: &str, term: u32, terms: u64, bound: u32) -> Stop
-    ensures { IsRefusal (Fault.TooManyTerms (StageName.WordSum name.now term) terms bound) result }
+    ensures { IsStageRefusal (Fault.TooManyTerms (StageName.WordSum name.now term) terms bound) result }
 {
     match Name::new(alloc, name) {
         Ok(word) => Stop::Refused(Fault::TooManyTerms {

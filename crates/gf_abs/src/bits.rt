@@ -1,5 +1,5 @@
 //! The output word's polynomial in the bits of the input words.
-ghost use Rattle.std.specs.Prelude.{◌≡◌, ◌++◌, length, map, codes, IfOk};
+ghost use Rattle.std.specs.Prelude.{◌≡◌, ◌++◌, length, codes, IfOk};
 ghost use Rattle.gf_basis.specs.BasisParts.{elements_of};
 ghost use Rattle.net_core.specs.Lists.{Has};
 ghost use Rattle.net_words.specs.Bind.{same_role};

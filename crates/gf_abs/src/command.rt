@@ -1,5 +1,5 @@
 //! The words of the command line.
-ghost use Rattle.std.specs.Prelude.{◌≡◌, [], ◌∷◌, ◌↔◌, map, string_bytes, IsTrue, IfSome, IfNone, Contains};
+ghost use Rattle.std.specs.Prelude.{◌≡◌, [], ◌∷◌, ◌↔◌, map, string_bytes, IsTrue, IfSome, IfNone};
 ghost use Rattle.gf_abs.specs.Command.{IsOperand, IsBlifName, IsTermCount, AreOptions, IsSpelled, job_of, name_of};
 
 use text_core::read_decimal;

@@ -5,7 +5,7 @@ ghost use Rattle.net_words.specs.Bind.{bits_of};
 ghost use Rattle.net_words.specs.Binding.{AreWords};
 ghost use Rattle.gf_abs.specs.Stop.{GivesBy};
 ghost use Rattle.gf_abs.specs.NetlistOf.{BoundNetOf, NetOf, NetlistOf, WordsBound, of_binding, of_model, of_net, of_text, word_name as name_of};
-ghost use Rattle.gf_abs.specs.NetlistReading.{FitsNetlist, IsNamed, IsRefusal};
+ghost use Rattle.gf_abs.specs.NetlistReading.{FitsNetlist, IsNamed, IsNetlistRefusal};
 
 use crate::fault::{BindingFault, Fault, NetlistFault};
 use crate::stop::Stop;
@@ -90,7 +90,7 @@ fn net_of(alloc: Global, text: &[u8]) -> Result<Net, Refusal>
 
 // The refusal of a netlist's text.
 fn text_fault(fault: BlifFault) -> Refusal
-    ensures same { IsRefusal (of_text fault) result }
+    ensures same { IsNetlistRefusal (of_text fault) result }
     ensures memory { fault ≡ BlifFault.OutOfMemory → result ≡ Refusal.OutOfMemory }
 {
     match fault {
@@ -107,7 +107,7 @@ fn text_fault(fault: BlifFault) -> Refusal
 
 // The refusal of a model's net.
 fn model_fault(fault: FlatFault) -> Refusal
-    ensures same { IsRefusal (of_model fault) result }
+    ensures same { IsNetlistRefusal (of_model fault) result }
     ensures memory { fault ≡ FlatFault.OutOfMemory → result ≡ Refusal.OutOfMemory }
 {
     match fault {
@@ -118,7 +118,7 @@ fn model_fault(fault: FlatFault) -> Refusal
 
 // The refusal of a net.
 fn net_fault(fault: NetFault) -> Refusal
-    ensures { IsRefusal (of_net fault) result }
+    ensures { IsNetlistRefusal (of_net fault) result }
 {
     match fault {
         NetFault::TooManyNets => Refusal::Fault(NetlistFault::TooManyNets),
@@ -138,7 +138,7 @@ fn net_fault(fault: NetFault) -> Refusal
 // The refusal of a binding.
 fn binding_fault(alloc: Global, words: &[WordText], net: &Net, fault: BindFault) -> Refusal
     requires { IsNamed (length words.now) net.now fault }
-    ensures same { IsRefusal (NetlistFault.Binding (of_binding words.now net.now fault)) result }
+    ensures same { IsNetlistRefusal (NetlistFault.Binding (of_binding words.now net.now fault)) result }
     ensures memory { fault ≡ BindFault.OutOfMemory → result ≡ Refusal.OutOfMemory }
 {
     match named_fault(alloc, words, net, fault) {

@@ -28,3 +28,7 @@ IsNormalFault k mul gamma Dependent = (gamma < 2 ^ k) × ¬ IsIndependent (conju
 -- a list has at most one fault
 abbrev pub HasOneListFault : ℕ → Type 0
 HasOneListFault k = (list : List ℕ) (f h : BasisFault) → IsListFault k list f → IsListFault k list h → f ≡ h
+
+-- of an element that has no normal basis there is at most one fault
+abbrev pub HasOneNormalFault : ℕ → (ℕ → ℕ → ℕ) → Type 0
+HasOneNormalFault k mul = (gamma : ℕ) (f h : BasisFault) → IsNormalFault k mul gamma f → IsNormalFault k mul gamma h → f ≡ h

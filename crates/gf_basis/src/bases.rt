@@ -1,6 +1,6 @@
 //! Bases of a field.
 
-ghost use Rattle.std.specs.Prelude.{◌≡◌, ℕ, ◌<◌, ◌≤◌, ◌^◌, ◌↔◌, ◌-◌, min, length, take, slice_index, IsOk, IfOk, IfErr, IsSome, IfSome};
+ghost use Rattle.std.specs.Prelude.{◌≡◌, ℕ, ◌<◌, ◌≤◌, ◌^◌, ◌↔◌, ◌-◌, length, take, slice_index, IsOk, IfOk, IfErr, IsSome, IfSome};
 ghost use Rattle.std.specs.Int.{bit_at};
 ghost use Rattle.gf_field.specs.Element.{AreElements};
 ghost use Rattle.gf_field.specs.Trace.{frobenius as frobenius_of};

@@ -1,7 +1,7 @@
 //! Laws of bases, each on a function that does nothing.
 
 ghost use Rattle.gf_basis.specs.Basis.{AreIndependentLists};
-ghost use Rattle.gf_basis.specs.BasisFault.{HasOneListFault};
+ghost use Rattle.gf_basis.specs.BasisFault.{HasOneListFault, HasOneNormalFault};
 ghost use Rattle.gf_basis.specs.Dual.{HasOnlyDuals};
 
 use gf_field::Field;
@@ -19,4 +19,9 @@ pub fn only_duals<F: Field>(_field: &F)
 /// A list has at most one `BasisFault`.
 pub fn one_list_fault<F: Field>(_field: &F)
     ensures { HasOneListFault (F.degree _field.now) }
+{}
+
+/// An element has at most one `BasisFault` as the first of a normal basis.
+pub fn one_normal_fault<F: Field>(_field: &F)
+    ensures { HasOneNormalFault (F.degree _field.now) (F.product _field.now) }
 {}

@@ -9,4 +9,4 @@ mod laws;
 mod tests;
 
 pub use bases::{Basis, BasisFault};
-pub use laws::{independent_lists, one_list_fault, only_duals};
+pub use laws::{independent_lists, one_list_fault, one_normal_fault, only_duals};

@@ -1,6 +1,6 @@
 //! Fields whose elements are the numbers below a power of 2.
 
-ghost use Rattle.std.specs.Prelude.{◌≡◌, ◌≢◌, ℕ, ◌<◌, ◌^◌};
+ghost use Rattle.std.specs.Prelude.{◌≡◌, ◌≢◌, ◌<◌, ◌^◌};
 ghost use Rattle.gf_field.specs.Field.{HasNoZeroDivisors};
 
 use super::rings::Ring;

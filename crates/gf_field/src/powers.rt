@@ -1,6 +1,6 @@
 //! Powers in a ring.
 
-ghost use Rattle.std.specs.Prelude.{◌≡◌, ℕ, ◌<◌, ◌^◌};
+ghost use Rattle.std.specs.Prelude.{◌≡◌, ◌<◌, ◌^◌};
 ghost use Rattle.gf_field.specs.Power.{power as power_of};
 ghost use Rattle.gf_field.specs.Trace.{frobenius as frobenius_of};
 

@@ -1,6 +1,6 @@
 //! The rings of polynomials over 0 and 1 modulo one of degree 1 to 64.
 
-ghost use Rattle.std.specs.Prelude.{◌≡◌, ℕ, ◌*◌, ◌<◌, ◌^◌, ◌↔◌, bit_xor, IsOk, IfOk};
+ghost use Rattle.std.specs.Prelude.{◌≡◌, ◌<◌, ◌^◌, ◌↔◌, IsOk, IfOk};
 ghost use Rattle.gf_field.specs.Bit.{bit_mul};
 ghost use Rattle.gf_field.specs.Polynomial.{IsProduct};
 ghost use Rattle.gf_field.specs.Modulus.{IsModulus, HasModulusDegree};

@@ -1,6 +1,6 @@
 //! Rings whose elements are the numbers below a power of 2.
 
-ghost use Rattle.std.specs.Prelude.{◌≡◌, ℕ, ◌<◌, ◌≤◌, ◌^◌, bit_xor};
+ghost use Rattle.std.specs.Prelude.{◌≡◌, ℕ, ◌<◌, ◌^◌, bit_xor};
 ghost use Rattle.gf_field.specs.Ring.{IsRing};
 
 /// A commutative ring whose elements are the numbers below `2^k` and whose sum is the exclusive or

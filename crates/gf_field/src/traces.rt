@@ -1,6 +1,6 @@
 //! The trace of a field.
 
-ghost use Rattle.std.specs.Prelude.{◌≡◌, ℕ, ◌<◌, ◌≤◌, ◌^◌};
+ghost use Rattle.std.specs.Prelude.{◌≡◌, ◌<◌, ◌≤◌, ◌^◌};
 ghost use Rattle.gf_field.specs.Trace.{trace as trace_of};
 
 use super::fields::Field;

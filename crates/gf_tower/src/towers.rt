@@ -1,6 +1,6 @@
 //! The polynomials over a field modulo a monic one.
 
-ghost use Rattle.std.specs.Prelude.{◌≡◌, ℕ, ◌<◌, ◌≤◌, ◌*◌, ◌/◌, ◌^◌, ◌↔◌, bit_xor, length, take, IsOk, IfOk, IfErr};
+ghost use Rattle.std.specs.Prelude.{◌≡◌, ◌<◌, ◌≤◌, ◌*◌, ◌/◌, ◌^◌, ◌↔◌, length, take, IsOk, IfOk, IfErr};
 ghost use Rattle.gf_field.specs.Element.{AreElements};
 ghost use Rattle.gf_field.specs.Polynomial.{IsProduct};
 ghost use Rattle.gf_field.specs.Quotient.{product as quotient_product};

@@ -1,5 +1,5 @@
 //! Graphs.
-ghost use Rattle.std.specs.Prelude.{◌≡◌, ◌<◌, ◌≤◌, ◌^◌, [], ℕ, All, IfOk, IfSome, OnOk, OnErr, length, replicate, slice_get, slice_set};
+ghost use Rattle.std.specs.Prelude.{◌≡◌, ◌<◌, ◌≤◌, ◌^◌, [], ℕ, All, IfOk, OnOk, OnErr, length, replicate, slice_set};
 ghost use Rattle.graph_core.specs.Graph.{edges, IsInside};
 
 use smallvec::SmallVec;

@@ -1,5 +1,5 @@
 //! Orders and rings of small graphs.
-ghost use Rattle.std.specs.Prelude.{◌≡◌, ◌<◌, All, IsTrue, length};
+ghost use Rattle.std.specs.Prelude.{◌<◌, All, IsTrue};
 
 use crate::{Graph, RingFault, arrange};
 use std::alloc::{AllocError, Global};

@@ -2,7 +2,7 @@
 ghost use Rattle.std.specs.Prelude.{◌≡◌, ◌<◌, ◌≤◌, ◌+◌, ◌^◌, ◌++◌, ◌∷◌, [], ℕ, All, IfErr, IfOk, IfSome, List, OnOk, Some, drop, length, map, slice_get, slice_set, vec_len};
 ghost use Rattle.graph_core.specs.Arranged.{IsArranged};
 ghost use Rattle.graph_core.specs.Fault.{IsRingFault};
-ghost use Rattle.graph_core.specs.Graph.{edges, IsInside};
+ghost use Rattle.graph_core.specs.Graph.{edges};
 ghost use Rattle.graph_core.specs.Walking.{AreUnseen, EarlierAreGrounded, IsMet, IsWalking, KeepsMet, StartsAt, work};
 ghost use Rattle.graph_core.specs.declared.walk.Mark.TheVariants.{Unseen, Open, Done};
 

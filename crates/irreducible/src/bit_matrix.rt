@@ -1,6 +1,6 @@
 //! Square matrices of bits.
 
-ghost use Rattle.std.specs.Prelude.{◌≡◌, ℕ, ◌<◌, ◌≤◌, ◌^◌, ◌↔◌, List, length, take, IsSome, IfSome};
+ghost use Rattle.std.specs.Prelude.{◌≡◌, ◌<◌, ◌≤◌, ◌^◌, ◌↔◌, length, take, IsSome, IfSome};
 ghost use Rattle.irreducible.specs.Span.{combination, IsIndependent, IsRank};
 ghost use Rattle.irreducible.specs.Matrix.{IsSquare, AreInverse};
 

@@ -1,6 +1,6 @@
 //! Elimination of rows of bits.
 
-ghost use Rattle.std.specs.Prelude.{◌≡◌, ℕ, ◌<◌, ◌≤◌, ◌^◌, length};
+ghost use Rattle.std.specs.Prelude.{◌≡◌, ◌<◌, ◌≤◌, ◌^◌, length};
 ghost use Rattle.irreducible.specs.Span.{combination, IsRank};
 ghost use Rattle.irreducible.specs.Pivots.{ByTop, IsReduced, IsRankSoFar, AreChoices};
 

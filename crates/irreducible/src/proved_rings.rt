@@ -1,6 +1,6 @@
 //! Rings that are fields.
 
-ghost use Rattle.std.specs.Prelude.{◌≡◌, ℕ, ◌<◌, ◌^◌, IfOk, IfErr, IsOk, IsTrue, ◌↔◌};
+ghost use Rattle.std.specs.Prelude.{◌≡◌, ◌<◌, ◌^◌, IfOk, IfErr, IsOk, IsTrue, ◌↔◌};
 ghost use Rattle.gf_field.specs.Field.{HasNoZeroDivisors};
 
 use super::elimination::rank_of;

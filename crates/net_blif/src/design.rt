@@ -1,5 +1,5 @@
 //! Designs: the models of a text.
-ghost use Rattle.std.specs.Prelude.{◌≡◌, ℕ, List, is_some, if◌then◌else◌, ◌<◌, ◌++◌, ◌∷◌, [], Some, length, slice_get, All, IfOk, IfSome, IfNone, IsSome, None};
+ghost use Rattle.std.specs.Prelude.{◌≡◌, ℕ, List, is_some, if◌then◌else◌, ◌<◌, ◌++◌, ◌∷◌, [], Some, length, slice_get, All, IfOk, None};
 ghost use Rattle.std.specs.Str.{bytes_eq};
 ghost use Rattle.indexmap.specs.IndexMap.{get_by_text};
 ghost use Rattle.net_blif.specs.Item.{IsSoundItem};

@@ -1,9 +1,9 @@
 //! The net of a model.
-ghost use Rattle.std.specs.Prelude.{◌≡◌, ◌⊎◌, ◌<◌, ◌≤◌, ◌^◌, ◌∷◌, [], ℕ, Ok, Err, Some, All, IfOk, IfErr, OnOk, flat_map, map, length};
+ghost use Rattle.std.specs.Prelude.{◌≡◌, ◌⊎◌, ◌<◌, ◌≤◌, ◌^◌, ◌∷◌, [], Ok, Err, Some, All, IfOk, IfErr, OnOk, flat_map, map, length};
 ghost use Rattle.net_core.specs.NetList.{empty, nets, number_of};
 ghost use Rattle.net_core.specs.Inside.{IsNetName};
 ghost use Rattle.net_blif.specs.Item.{IsSoundItem};
-ghost use Rattle.net_blif.specs.Flat.{Flattens, Gate, Input, Mention, Output, Top, steps_of};
+ghost use Rattle.net_blif.specs.Flat.{Flattens, Gate, Mention, Top, steps_of};
 ghost use Rattle.net_blif.specs.NamedWalk.{HasEach, IsFaultOf, after_named, gate_steps, input_steps, mentions, named_walk, number_in, output_steps};
 
 use crate::item::Item;

@@ -1,5 +1,5 @@
 //! A model whose lines are being read.
-ghost use Rattle.std.specs.Prelude.{◌≡◌, ◌≤◌, ◌∷◌, [], None, Some, false, length, IfOk};
+ghost use Rattle.std.specs.Prelude.{◌≡◌, ◌∷◌, [], None, Some, false, IfOk};
 ghost use Rattle.std.specs.Option.{option_map_or};
 ghost use Rattle.net_blif.specs.Item.{IsSoundItem};
 ghost use Rattle.net_blif.specs.Cover.{begun, takes_row};

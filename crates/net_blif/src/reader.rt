@@ -1,5 +1,5 @@
 //! What was read of a text, line by line.
-ghost use Rattle.std.specs.Prelude.{◌≡◌, ◌⊎◌, ◌≤◌, ◌∷◌, [], None, Ok, Err, IfOk, IfErr, IsTrue, length, All};
+ghost use Rattle.std.specs.Prelude.{◌≡◌, ◌⊎◌, ◌∷◌, [], None, Ok, Err, IfOk, IfErr, All};
 ghost use Rattle.text_core.specs.Lines.{tokens_of};
 ghost use Rattle.net_core.specs.Inside.{IsNetName};
 ghost use Rattle.net_blif.specs.Item.{HasNetNames, IsSoundItem};

@@ -1,8 +1,8 @@
 //! What a line says.
-ghost use Rattle.std.specs.Prelude.{◌≡◌, ◌<◌, ◌∷◌, [], ℕ, All, IfOk, IfSome, IfNone, length, vec_len, Some, None};
+ghost use Rattle.std.specs.Prelude.{◌≡◌, ◌<◌, ◌∷◌, [], All, IfOk, IfSome, IfNone, Some, None};
 ghost use Rattle.text_core.specs.Lines.{tokens_of};
 ghost use Rattle.net_blif.specs.Statement.{IsToken, is_cell as cell_is, is_dotted as dotted};
-ghost use Rattle.net_blif.specs.Spelling.{bit_of as bit_that, cover_of, dotted_of, end_of, model_of, row_of, statement_of};
+ghost use Rattle.net_blif.specs.Spelling.{bit_of as bit_that, cover_of, dotted_of, model_of, row_of, statement_of};
 ghost use Rattle.std.specs.List.{list_all};
 
 use net_core::{Name, Names};

@@ -1,5 +1,5 @@
 //! Laws of net lists. These functions do nothing: their contracts are proved of the definitions alone.
-ghost use Rattle.std.specs.Prelude.{◌≡◌, ◌⊎◌, ◌<◌, Bool, Err, IsSome, List, length, ℕ};
+ghost use Rattle.std.specs.Prelude.{◌≡◌, ◌⊎◌, Bool, Err, IsSome, List, length, ℕ};
 ghost use Rattle.net_core.specs.NetList.{NetList, nets};
 ghost use Rattle.net_core.specs.Inside.{IsInside};
 ghost use Rattle.net_core.specs.Sound.{IsSound, IsRing, HasOneDriverEach};

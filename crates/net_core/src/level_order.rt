@@ -1,7 +1,5 @@
 //! The order of gates by level and position.
-ghost use Rattle.std.specs.Prelude.{◌≡◌, ◌<◌, ◌^◌, ℕ, length, map, IfOk};
-ghost use Rattle.net_core.specs.NetList.{nets};
-ghost use Rattle.net_core.specs.Level.{AreLevels};
+ghost use Rattle.std.specs.Prelude.{◌≡◌, ◌<◌, map, IfOk};
 ghost use Rattle.net_core.specs.Order.{IsLevelOrder, IsOrder, AreKeys};
 
 use crate::levels::known;

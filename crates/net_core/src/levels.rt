@@ -1,10 +1,10 @@
 //! Levels of nets.
-ghost use Rattle.std.specs.Prelude.{◌≡◌, ◌<◌, ◌≤◌, ◌+◌, ◌^◌, ℕ, length, All, IfOk, None, Some, slice_get, slice_set};
+ghost use Rattle.std.specs.Prelude.{◌≡◌, ◌<◌, ◌+◌, ◌^◌, ℕ, length, All, IfOk, None, Some, slice_get, slice_set};
 ghost use Rattle.net_core.specs.Lists.{Has};
 ghost use Rattle.net_core.specs.NetList.{nets};
 ghost use Rattle.net_core.specs.Inside.{IsInside};
 ghost use Rattle.net_core.specs.Sound.{HasOneDriverEach};
-ghost use Rattle.net_core.specs.Level.{level_at, level_over as level_of, AreLevels};
+ghost use Rattle.net_core.specs.Level.{level_at, level_over as level_of};
 ghost use Rattle.net_core.specs.Levelled.{AllHaveLevels};
 ghost use Rattle.net_core.specs.Driving.{IsGraphOf, roots_of};
 ghost use Rattle.graph_core.specs.Arranged.{IsArranged};

@@ -1,5 +1,5 @@
 //! Sound nets.
-ghost use Rattle.std.specs.Prelude.{◌≡◌, ◌<◌, ◌≤◌, ◌^◌, ◌+◌, ℕ, length, min, slice_get, slice_index, IfOk, IfErr, IfSome, OnOk, Err, Some};
+ghost use Rattle.std.specs.Prelude.{◌≡◌, ◌<◌, ◌≤◌, ◌^◌, ℕ, length, min, slice_get, slice_index, IfOk, IfErr, IfSome, OnOk, Err, Some};
 ghost use Rattle.net_core.specs.NetList.{nets, nets as nets_of, number_of, text_of};
 ghost use Rattle.net_core.specs.Sound.{IsSound, HasOneDriverEach, drivers};
 ghost use Rattle.net_core.specs.Turned.{turned};

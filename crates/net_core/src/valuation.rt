@@ -1,11 +1,10 @@
 //! The values of nets.
-ghost use Rattle.std.specs.Prelude.{◌≡◌, ◌<◌, ◌≤◌, ◌+◌, ◌^◌, [], ℕ, Some, length, slice_get, slice_set, IfOk, ◌==◌, if◌then◌else◌};
+ghost use Rattle.std.specs.Prelude.{◌≡◌, ◌<◌, ◌≤◌, ◌+◌, ◌^◌, [], Some, length, slice_get, slice_set, IfOk, ◌==◌, if◌then◌else◌};
 ghost use Rattle.std.specs.Int.{bit_at};
 ghost use Rattle.net_core.specs.NetList.{nets};
 ghost use Rattle.net_core.specs.Inside.{IsInside};
-ghost use Rattle.net_core.specs.Sound.{HasOneDriverEach, IsSound};
-ghost use Rattle.net_core.specs.Level.{AreLevels};
-ghost use Rattle.net_core.specs.Levelled.{AllHaveLevels, AreRight};
+ghost use Rattle.net_core.specs.Sound.{HasOneDriverEach};
+ghost use Rattle.net_core.specs.Levelled.{AllHaveLevels};
 ghost use Rattle.net_core.specs.Order.{IsOrder};
 ghost use Rattle.net_core.specs.Value.{bit_of, index_of, IsConsistent, HasValues};
 

@@ -1,6 +1,5 @@
 //! The binding of words to nets.
 ghost use Rattle.std.specs.Prelude.{◌≡◌, ◌≤◌, ◌&&◌, ◌<◌, ℕ, [], length, IfOk, All};
-ghost use Rattle.std.specs.List.{list_any};
 ghost use Rattle.text_core.specs.Outcome.{Returns};
 ghost use Rattle.net_core.specs.NetList.{NetList, nets as nets_of, number_of};
 ghost use Rattle.net_words.specs.Binding.{AreWords, IsBinding};

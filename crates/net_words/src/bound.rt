@@ -1,5 +1,5 @@
 //! Words that are bound to nets.
-ghost use Rattle.std.specs.Prelude.{◌≡◌, ◌<◌, ◌≤◌, length, slice_index, slice_get, All, Some};
+ghost use Rattle.std.specs.Prelude.{◌≡◌, ◌<◌, length, slice_index, slice_get, Some};
 ghost use Rattle.net_words.specs.Binding.{IsBinding};
 ghost use Rattle.net_words.specs.Variables.{variables, IsRanked, IsOrdered};
 

@@ -1,5 +1,5 @@
 //! Elements of a field, as numbers of 64 bits.
-ghost use Rattle.std.specs.Prelude.{◌≡◌, ℕ, map, IfSome, IfNone};
+ghost use Rattle.std.specs.Prelude.{ℕ, map, IfSome, IfNone};
 ghost use Rattle.std.specs.List.{AllZip};
 ghost use Rattle.net_words.specs.Statement.{SaysElement};
 ghost use Rattle.net_words.specs.Signature.{OrSyntax};

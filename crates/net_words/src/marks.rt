@@ -1,8 +1,8 @@
 //! Marks of nets.
-ghost use Rattle.std.specs.Prelude.{◌≡◌, ℕ, ◌<◌, ◌==◌, ◌&&◌, ◌||◌, false, length, IfOk};
+ghost use Rattle.std.specs.Prelude.{◌≡◌, ◌<◌, ◌==◌, ◌&&◌, ◌||◌, false, length, IfOk};
 ghost use Rattle.std.specs.List.{list_any};
 ghost use Rattle.net_core.specs.NetList.{nets};
-ghost use Rattle.net_words.specs.Bind.{stands_in, is_latch, feeds_gate, feeds_latch, in_word, is_used, same_role as is_same_role};
+ghost use Rattle.net_words.specs.Bind.{stands_in, is_latch, in_word, is_used, same_role as is_same_role};
 ghost use Rattle.net_words.specs.BindReading.{mark_at, AreMarks};
 ghost use Rattle.net_words.specs.declared.word.Role.TheVariants.{Output};
 

@@ -1,8 +1,7 @@
 //! The reader of signatures.
-ghost use Rattle.std.specs.Prelude.{◌≡◌, ◌≤◌, ◌↔◌, ℕ, [], ◌∷◌, map, length, IfOk, IfErr, IfSome, IfNone, IsTrue};
-ghost use Rattle.text_core.specs.Outcome.{Returns};
+ghost use Rattle.std.specs.Prelude.{◌≡◌, ◌≤◌, ◌↔◌, [], ◌∷◌, map, length, IfOk, IfErr, IsTrue};
 ghost use Rattle.net_words.specs.Statement.{SaysVersion, SaysField, SaysTower};
-ghost use Rattle.net_words.specs.Signature.{OrSyntax, Says, Next, TowerOf, WordsOf, SignatureOf, Sig, with_word, has_output, is_output, tower_comes as comes_tower, begins_tower as begins_a_tower};
+ghost use Rattle.net_words.specs.Signature.{OrSyntax, Says, Next, TowerOf, WordsOf, SignatureOf, Sig, tower_comes as comes_tower, begins_tower as begins_a_tower};
 ghost use Rattle.net_words.specs.Reading.{Fits, left, end_of, line_of};
 ghost use Rattle.net_words.specs.declared.fault.SigFault.TheVariants.{OutOfMemory};
 

@@ -1,7 +1,7 @@
 //! The order of variables after the words.
-ghost use Rattle.std.specs.Prelude.{◌≡◌, ◌≤◌, ◌<◌, ◌+◌, ◌==◌, ◌^◌, ℕ, [], ◌∷◌, ◌++◌, length, filter, not, slice_index, All, IfOk, OnOk, if◌then◌else◌};
+ghost use Rattle.std.specs.Prelude.{◌≡◌, ◌<◌, ◌+◌, ◌==◌, ◌^◌, ℕ, [], ◌∷◌, ◌++◌, length, not, slice_index, IfOk, OnOk, if◌then◌else◌};
 ghost use Rattle.net_words.specs.Bind.{stands_in};
-ghost use Rattle.net_words.specs.BindReading.{AreMarks, mark_at};
+ghost use Rattle.net_words.specs.BindReading.{AreMarks};
 ghost use Rattle.net_words.specs.Variables.{bits as bits_of, bits_with, others, variables as variables_of, IsRanked};
 
 use crate::bound::BoundWord;

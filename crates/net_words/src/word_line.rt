@@ -1,5 +1,5 @@
 //! The line of a word.
-ghost use Rattle.std.specs.Prelude.{◌≡◌, ◌∷◌, ◌↔◌, ℕ, List, map, codes, All, IsTrue, IfSome, IfNone};
+ghost use Rattle.std.specs.Prelude.{◌≡◌, ◌∷◌, ◌↔◌, map, codes, All, IsTrue, IfSome, IfNone};
 ghost use Rattle.text_core.specs.Names.{IsName};
 ghost use Rattle.net_words.specs.Statement.{SaysRole, IsNetToken};
 ghost use Rattle.net_words.specs.Signature.{OrSyntax, IsWordLine};

@@ -1,5 +1,5 @@
 //! Words, one after another.
-ghost use Rattle.std.specs.Prelude.{◌≡◌, ℕ, length, filter, not, IsTrue};
+ghost use Rattle.std.specs.Prelude.{◌≡◌, filter};
 ghost use Rattle.std.specs.List.{list_any};
 ghost use Rattle.std.specs.Str.{bytes_eq};
 ghost use Rattle.text_core.specs.Outcome.{Returns};

@@ -1,6 +1,6 @@
 -- The text of a polynomial: its terms in their order, each its coefficient and its variables.
 -- Source: this project's own.
-use Rattle.std.specs.Prelude.{◌≡◌, ℕ, ◌+◌, ◌<◌, Bool, ◌&&◌, true, false, not, cond, List, [], ◌∷◌, ◌++◌, map, length, codes, decimal, ◌==◌}
+use Rattle.std.specs.Prelude.{ℕ, ◌+◌, ◌<◌, Bool, ◌&&◌, true, false, not, cond, List, [], ◌∷◌, ◌++◌, map, length, codes, decimal, ◌==◌}
 use Rattle.std.specs.Fmt.{digits}
 use Rattle.std.specs.List.{AllByRecursion}
 use Rattle.poly_mixed.specs.Monomial.{Monomial}

@@ -1,5 +1,5 @@
 //! Values of monomials.
-ghost use Rattle.std.specs.Prelude.{◌≡◌, ℕ, ◌^◌, ◌<◌, ◌≤◌, false, slice_index_or};
+ghost use Rattle.std.specs.Prelude.{◌≡◌, ◌<◌, false, slice_index_or};
 ghost use Rattle.std.specs.List.{AllByRecursion, list_all};
 ghost use Rattle.poly_mixed.specs.Polynomial.{IsElement, powers as powers_of, point, term_value as value_of_term};
 

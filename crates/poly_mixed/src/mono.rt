@@ -1,5 +1,5 @@
 //! Monomials, in the order of terms in a text.
-ghost use Rattle.std.specs.Prelude.{◌≡◌, ℕ, ◌+◌, ◌<◌, ◌≤◌, length, IsOk, IfOk, refl};
+ghost use Rattle.std.specs.Prelude.{◌≡◌, ◌+◌, ◌<◌, ◌≤◌, length, IfOk, refl};
 ghost use Rattle.std.specs.Prelude.{◌^◌, ◌++◌, take, drop, slice_index, slice_set, OnOk, OnErr};
 ghost use Rattle.std.specs.List.{AllByRecursion};
 ghost use Rattle.poly_mixed.specs.Cofactor.{without_bit};
@@ -22,7 +22,7 @@ pub struct Mono {
 }
 
 impl Model for Mono {
-    ghost use Rattle.std.specs.Prelude.{◌≡◌, ℕ, length};
+    ghost use Rattle.std.specs.Prelude.{◌≡◌, length};
     ghost use Rattle.std.specs.List.Sorted.{IsStrictlySortedBy};
     ghost use Rattle.std.specs.Ordering.{nat_cmp};
     ghost use Rattle.poly_mixed.specs.Monomial.{Monomial};

@@ -1,10 +1,8 @@
 //! Polynomials as finite maps from monomials to coefficients.
-ghost use Rattle.std.specs.Prelude.{◌≡◌, ℕ, ◌+◌, ◌<◌, ◌≤◌, ◌≢◌, length, IsOk, IfOk, OnOk, OnErr, ◌↔◌, bit_xor, []};
+ghost use Rattle.std.specs.Prelude.{◌≡◌, ℕ, ◌<◌, ◌≢◌, length, IfOk, OnOk, OnErr, ◌↔◌, bit_xor, []};
 ghost use Rattle.std.specs.List.{AllByRecursion, list_any};
-ghost use Rattle.gf_field.specs.Ring.{IsRing};
-ghost use Rattle.gf_field.specs.Field.{HasNoZeroDivisors};
 ghost use Rattle.poly_mixed.specs.Monomial.{Monomial, has_bit, text_cmp};
-ghost use Rattle.poly_mixed.specs.Polynomial.{Polynomial, polynomial, Point, coefficient, IsElement, IsMap, IsReduced, IsTerm, IsPoint, point, value, term_value as value_of_term};
+ghost use Rattle.poly_mixed.specs.Polynomial.{Polynomial, polynomial, Point, coefficient, IsElement, IsMap, IsReduced, IsTerm, IsPoint, point, value};
 ghost use Rattle.poly_mixed.specs.Cofactor.{cofactors, lacking, LacksBit, IsCofactor, HasCofactorValues, IsSubstituted};
 ghost use Rattle.poly_mixed.specs.Product.{IsProduct, AddsProduct};
 ghost use Rattle.poly_mixed.specs.Sum.{with_coefficient, plus_term, plus};

@@ -1,5 +1,5 @@
 //! Polynomials of one term.
-ghost use Rattle.std.specs.Prelude.{◌≡◌, ℕ, ◌<◌, cond, slice_index, IfOk};
+ghost use Rattle.std.specs.Prelude.{◌<◌, cond, slice_index, IfOk};
 ghost use Rattle.gf_field.specs.Power.{power};
 ghost use Rattle.poly_mixed.specs.Polynomial.{IsElement, IsPolynomialOf};
 

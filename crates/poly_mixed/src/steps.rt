@@ -1,5 +1,5 @@
 //! Recorders of the steps that an engine takes, each a generator and its multiplier.
-ghost use Rattle.std.specs.Prelude.{◌≡◌, List, [], ◌∷◌, Option, None, IsOk, OnOk};
+ghost use Rattle.std.specs.Prelude.{List, [], ◌∷◌, Option, None, IsOk, OnOk};
 ghost use Rattle.poly_mixed.specs.Steps.{Step, Tells};
 
 use crate::Poly;

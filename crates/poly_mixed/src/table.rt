@@ -1,5 +1,5 @@
 //! Polynomials of tables over bits.
-ghost use Rattle.std.specs.Prelude.{◌≡◌, ℕ, ◌+◌, ◌*◌, ◌^◌, ◌<◌, ◌≤◌, cond, length, IfOk};
+ghost use Rattle.std.specs.Prelude.{◌+◌, ◌*◌, ◌^◌, ◌<◌, ◌≤◌, cond, length, IfOk};
 ghost use Rattle.poly_mixed.specs.Polynomial.{IsPolynomialOf};
 ghost use Rattle.poly_mixed.specs.Table.{index, table_bit, table_value};
 

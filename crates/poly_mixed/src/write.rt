@@ -1,5 +1,5 @@
 //! The text of a polynomial.
-ghost use Rattle.std.specs.Prelude.{◌≡◌, ℕ, ◌<◌, ◌+◌, ◌==◌, ◌&&◌, not, cond, length, map, ◌++◌, codes, [], IfOk, OnOk, string_bytes};
+ghost use Rattle.std.specs.Prelude.{◌≡◌, ◌<◌, ◌+◌, ◌==◌, ◌&&◌, not, cond, length, map, ◌++◌, codes, [], IfOk, OnOk, string_bytes};
 ghost use Rattle.std.specs.List.{AllByRecursion};
 ghost use Rattle.poly_mixed.specs.Labels.{bit_count};
 ghost use Rattle.poly_mixed.specs.Parts.{part_after, parts_after};

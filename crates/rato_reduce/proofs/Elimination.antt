@@ -1,6 +1,6 @@
 -- From one cut to the next.
-use Rattle.std.proofs.Common.{◌≡◌, ◌≢◌, ◌⊎◌, ℕ, zero, suc, ◌<◌, ◌≤◌, ◌+◌, ◌-◌, ◌*◌, Bool, true, false, cond, List, [], ◌∷◌, Some, length, get_or, reverse, inl, inr, refl, sym, ap, subst, ◌∙◌, arith}
-use Rattle.std.specs.Prelude.{slice_get, ◌==◌, nat_eq}
+use Rattle.std.proofs.Common.{◌≡◌, ◌≢◌, ◌⊎◌, ℕ, suc, ◌<◌, ◌≤◌, ◌+◌, ◌-◌, ◌*◌, Bool, cond, List, [], ◌∷◌, Some, length, get_or, reverse, inl, inr, refl, sym, ap, subst, ◌∙◌, arith}
+use Rattle.std.specs.Prelude.{slice_get, ◌==◌}
 use Rattle.std.specs.Int.{bit_at}
 use Rattle.std.proofs.lemmas.Bool.{eq-eqb, ne_eqb}
 use Rattle.std.proofs.lemmas.List.{get_or-reverse, length-reverse}
@@ -19,8 +19,7 @@ use Rattle.net_core.proofs.ExistLemmas.{sound_levels}
 use Rattle.net_core.proofs.LawLemmas.{levels_only}
 use Rattle.net_core.proofs.LevelLemmas.{nat_eq_or}
 use Rattle.net_core.proofs.OrderLemmas.{before_all}
-use Rattle.poly_mixed.specs.Polynomial.{Terms, Point, IsPoint, IsReduced, value}
-use Rattle.poly_mixed.specs.Cofactor.{at_bit}
+use Rattle.poly_mixed.specs.Polynomial.{Terms, Point, IsReduced, value}
 use Rattle.poly_mixed.specs.Table.{index}
 use Rattle.circuit_model.specs.Word.{Word, HasElement}
 use Rattle.stage_model.specs.Variables.{rank_in, point_bit}

@@ -1,12 +1,10 @@
 -- The first cut: all nets are free.
 use Rattle.std.proofs.Common.{◌≡◌, ℕ, zero, suc, ◌<◌, ◌≤◌, ◌+◌, ◌*◌, ◌/◌, ◌%◌, ◌^◌, Bool, true, false, cond, List, [], ◌∷◌, length, get_or, take, bit_xor, refl, sym, ap, subst, ◌∙◌, arith}
-use Rattle.std.specs.Prelude.{slice_get}
 use lib.Bits.{xor_zero_l, xor_zero_r, xor_assoc}
 use Rattle.irreducible.specs.Span.{combination}
 use Rattle.net_core.specs.NetList.{NetList, nets}
 use Rattle.net_core.specs.Lists.{Has}
-use Rattle.net_core.specs.Order.{IsElimination}
-use Rattle.net_core.specs.Value.{bit_of, index_of}
+use Rattle.net_core.specs.Value.{index_of}
 use Rattle.poly_mixed.specs.Polynomial.{Terms, Point, IsPoint, IsReduced, value}
 use Rattle.poly_mixed.specs.Table.{index}
 use Rattle.circuit_model.specs.Word.{Word}

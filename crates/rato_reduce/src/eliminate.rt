@@ -1,10 +1,10 @@
 //! One gate put in place of its output.
-ghost use Rattle.std.specs.Prelude.{◌≡◌, ◌<◌, ℕ, List, [], ◌∷◌, cond, length, map, IfOk, OnOk};
+ghost use Rattle.std.specs.Prelude.{◌≡◌, ◌<◌, List, map, IfOk, OnOk};
 ghost use Rattle.net_core.specs.NetList.{nets};
 ghost use Rattle.net_core.specs.Lists.{Has};
 ghost use Rattle.net_core.specs.Sound.{IsSound};
 ghost use Rattle.net_words.specs.Variables.{variables};
-ghost use Rattle.poly_mixed.specs.Polynomial.{Point, IsPoint, IsReduced};
+ghost use Rattle.poly_mixed.specs.Polynomial.{IsReduced};
 ghost use Rattle.poly_mixed.specs.Steps.{Step, Tells};
 ghost use Rattle.stage_model.specs.Variables.{rank_in};
 ghost use Rattle.stage_model.specs.CutSteps.{AreStepsAt};

@@ -1,12 +1,12 @@
 //! The output word as a polynomial in the bits of its nets.
-ghost use Rattle.std.specs.Prelude.{◌≡◌, ◌<◌, ℕ, [], ◌++◌, length, take, slice_get, slice_index, IfOk, OnOk, Some};
+ghost use Rattle.std.specs.Prelude.{◌≡◌, ◌<◌, ℕ, ◌++◌, length, slice_get, IfOk, OnOk, Some};
 ghost use Rattle.irreducible.specs.Span.{combination};
 ghost use Rattle.gf_basis.specs.BasisParts.{elements_of, IsOver};
 ghost use Rattle.net_core.specs.NetList.{nets};
 ghost use Rattle.net_core.specs.Lists.{Has};
-ghost use Rattle.net_words.specs.BoundTo.{IsBoundTo, output_bits, output_bits_with};
+ghost use Rattle.net_words.specs.BoundTo.{output_bits, output_bits_with};
 ghost use Rattle.net_words.specs.Variables.{variables};
-ghost use Rattle.poly_mixed.specs.Polynomial.{Point, IsPoint, IsPolynomialOf};
+ghost use Rattle.poly_mixed.specs.Polynomial.{IsPolynomialOf};
 ghost use Rattle.poly_mixed.specs.Table.{index};
 ghost use Rattle.stage_model.specs.Variables.{rank_in, point_bit};
 

@@ -4,7 +4,7 @@ ghost use Rattle.net_core.specs.NetList.{nets};
 ghost use Rattle.gf_basis.specs.BasisParts.{IsOver};
 ghost use Rattle.circuit_model.specs.Flat.{circuit_of, word_of};
 ghost use Rattle.poly_mixed.specs.Polynomial.{point};
-ghost use Rattle.stage_model.specs.Variables.{rank_in, point_bits};
+ghost use Rattle.stage_model.specs.Variables.{point_bits};
 ghost use Rattle.stage_model.specs.Cut.{IsCut, CutOf};
 
 use crate::ranks::{rank_of, variables};

@@ -1,5 +1,5 @@
 //! The order of variables of a circuit, and the rank of a net.
-ghost use Rattle.std.specs.Prelude.{◌≡◌, ◌≤◌, ℕ, [], ◌∷◌, ◌++◌, length, map, not, IfOk, OnOk, if◌then◌else◌};
+ghost use Rattle.std.specs.Prelude.{◌≡◌, ◌≤◌, [], ◌∷◌, ◌++◌, length, map, not, IfOk, OnOk, if◌then◌else◌};
 ghost use Rattle.net_core.specs.NetList.{nets};
 ghost use Rattle.net_words.specs.Bind.{stands_in};
 ghost use Rattle.net_words.specs.Variables.{others};

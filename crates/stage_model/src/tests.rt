@@ -1,5 +1,5 @@
 //! A multiplier over the field of 4 elements and a conjunction, worked by hand.
-ghost use Rattle.std.specs.Prelude.{◌≡◌, ◌≤◌, IfOk, length};
+ghost use Rattle.std.specs.Prelude.{◌≡◌, IfOk, length};
 ghost use Rattle.net_core.specs.NetList.{nets};
 ghost use Rattle.gf_basis.specs.BasisParts.{IsOver};
 

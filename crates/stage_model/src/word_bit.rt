@@ -1,5 +1,5 @@
 //! The bits of a word as polynomials in the word.
-ghost use Rattle.std.specs.Prelude.{◌≡◌, ◌<◌, IfOk};
+ghost use Rattle.std.specs.Prelude.{◌<◌, IfOk};
 ghost use Rattle.gf_basis.specs.BasisParts.{IsOver, elements_of};
 ghost use Rattle.stage_model.specs.PlainWord.{IsBitOf};
 

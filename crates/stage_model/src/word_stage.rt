@@ -1,5 +1,5 @@
 //! The stages of words, out of the polynomial in which the word is replaced.
-ghost use Rattle.std.specs.Prelude.{◌≡◌, ◌≤◌, ◌<◌, ◌↔◌, length, IfOk, IfSome, IsSome};
+ghost use Rattle.std.specs.Prelude.{◌≤◌, ◌<◌, ◌↔◌, length, IfOk, IfSome, IsSome};
 ghost use Rattle.gf_basis.specs.BasisParts.{IsOver, elements_of};
 ghost use Rattle.poly_mixed.specs.Polynomial.{IsReduced, IsTerm};
 ghost use Rattle.circuit_model.specs.Flat.{AreOver};

@@ -1,5 +1,4 @@
 //! A conjunction over the field of 4 elements, whose word is replaced bit by bit.
-ghost use Rattle.std.specs.Prelude.{◌≡◌, ◌≤◌, IfOk, length};
 ghost use Rattle.net_core.specs.NetList.{nets};
 
 use crate::tests::{field, with_labels, word};

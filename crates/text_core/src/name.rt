@@ -1,5 +1,5 @@
 //! Names of words.
-ghost use Rattle.std.specs.Prelude.{◌≡◌, ◌↔◌, IsTrue, EachIndex, slice_index};
+ghost use Rattle.std.specs.Prelude.{◌↔◌, IsTrue, EachIndex, slice_index};
 ghost use Rattle.text_core.specs.Names.{IsName, IsNameByte};
 
 /// Whether a token is an ASCII letter and then letters, digits and `_`, at most 255 bytes.

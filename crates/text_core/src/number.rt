@@ -1,5 +1,5 @@
 //! Numbers in hexadecimal and in decimal, by value.
-ghost use Rattle.std.specs.Prelude.{◌≡◌, ◌<◌, ◌≤◌, ◌+◌, ◌*◌, ◌^◌, ℕ, IfSome, IfNone};
+ghost use Rattle.std.specs.Prelude.{◌≡◌, ◌<◌, ◌≤◌, ◌+◌, ◌*◌, ℕ, IfSome, IfNone};
 ghost use Rattle.text_core.specs.Numbers.{IsDigit, digit_value, IsHex, IsDecimal, value_of, AreDigits};
 
 /// The number of a token `0x..`, where it is at most `limit`.

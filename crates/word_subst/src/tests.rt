@@ -1,5 +1,5 @@
 //! Words in place of bits over the fields of 2, 4 and 2^64 elements, worked by hand.
-ghost use Rattle.std.specs.Prelude.{◌≡◌, Some, map, IfOk};
+ghost use Rattle.std.specs.Prelude.{Some, map, IfOk};
 ghost use Rattle.gf_basis.specs.BasisParts.{IsOver};
 ghost use Rattle.poly_mixed.specs.Polynomial.{IsReduced};
 

@@ -1,4 +1,4 @@
-use Rattle.std.proofs.Common.{◌≡◌, ◌<◌, ◌≤◌, ◌∙◌, ◌+◌, ◌++◌, [], List, ℕ, Result, Err, ap, sym, subst, refl, codes, length, arith}
+use Rattle.std.proofs.Common.{◌≡◌, ◌≤◌, ◌∙◌, ◌+◌, ◌++◌, [], List, ℕ, Err, ap, sym, subst, codes, length, arith}
 use Rattle.net_core.specs.NetList.{NetList}
 use Rattle.net_core.specs.Sound.{IsSound}
 use Rattle.gf_basis.specs.BasisParts.{elements_of}
@@ -12,7 +12,6 @@ use Rattle.rato_reduce.specs.Refusal.{IsCutRefusal}
 use Rattle.gf_abs.specs.AbstractOf.{AbstractOf}
 use Rattle.gf_abs.specs.StageStop.{IsOfWords, IsWordStop}
 use Rattle.gf_abs.specs.Labelling.{labels_of}
-use Rattle.gf_abs.specs.Reply.{Reply}
 use Rattle.gf_abs.specs.Setting.{elements_of_each}
 use Rattle.gf_abs.specs.SettingValue.{SettingValue}
 use Rattle.gf_abs.specs.Stop.{GivesBy, printed}

@@ -1,7 +1,4 @@
-use Rattle.std.proofs.Common.{◌≡◌, ◌≢◌, ◌<◌, ℕ, Some, sym, ◌∙◌, arith}
-use Rattle.std.specs.Prelude.{slice_get}
-use Rattle.net_words.specs.declared.bound.BoundWord.{BoundWord}
-use Rattle.net_words.specs.declared.word.Role.{Role}
+use Rattle.std.proofs.Common.{◌≡◌, ◌≢◌, sym, ◌∙◌, arith}
 use Rattle.net_words.specs.declared.word.Role.TheVariants.{Output}
 use Rattle.gf_abs.proofs.LabelLemmas.{read_at}
 use Rattle.gf_abs.proofs.BasisLemmas.{some_at, at_output, past_other, past_count, is_role, not_role}

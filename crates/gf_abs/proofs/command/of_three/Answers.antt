@@ -1,5 +1,5 @@
-use Rattle.std.proofs.Common.{◌≡◌, ◌∷◌, [], List, ap}
-use Rattle.gf_abs.specs.Command.{Word, Job, Bits, Abstract, IsSpelled}
+use Rattle.std.proofs.Common.{◌∷◌, [], List, ap}
+use Rattle.gf_abs.specs.Command.{Word, Bits, Abstract}
 use Rattle.gf_abs.specs.declared.command.Kind.TheVariants as kinds
 use Rattle.gf_abs.proofs.command.of_three.Goals as goal
 

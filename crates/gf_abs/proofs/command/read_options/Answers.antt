@@ -1,4 +1,4 @@
-use Rattle.std.proofs.Common.{◌≡◌, ◌∷◌, [], List, ℕ, map, subst, sym, ap, ◌∙◌, string_bytes, arith}
+use Rattle.std.proofs.Common.{◌≡◌, ◌∷◌, [], List, ℕ, map, subst, sym, ◌∙◌, string_bytes, arith}
 use Rattle.std.specs.Prelude.{IfNone}
 use Rattle.gf_abs.specs.Command.{AreOptions, Word}
 use Rattle.gf_abs.proofs.CommandLemmas.{two_whole}

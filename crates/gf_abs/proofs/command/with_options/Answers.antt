@@ -1,6 +1,6 @@
 use Rattle.std.proofs.Common.{◌≡◌, ◌∷◌, [], List, ℕ, map, subst, sym, refl, ap, ◌∙◌, codes, string_bytes}
 use Rattle.std.specs.Prelude.{IfSome, Option, None, Some}
-use Rattle.gf_abs.specs.Command.{Word, Job, Bits, Abstract, IsDerived, IsSpelled, AreOptions}
+use Rattle.gf_abs.specs.Command.{Word, Bits, Abstract, IsDerived, AreOptions}
 use Rattle.gf_abs.proofs.command.with_options.Goals as goal
 
 behind_three : List Word → List Word

@@ -1,5 +1,4 @@
-use Rattle.std.proofs.Common.{◌≡◌, ◌++◌, List, ℕ, Some, [], take, ap, subst, ◌∙◌, sym, arith}
-use Rattle.std.specs.Prelude.{slice_get}
+use Rattle.std.proofs.Common.{◌≡◌, ◌++◌, List, ℕ, [], take, ap, subst, ◌∙◌, sym}
 use Rattle.poly_mixed.specs.Labels.{Labelling}
 use Rattle.gf_abs.specs.Labelling.{output_name, word_label, word_labels, IsNewLabel}
 use Rattle.gf_abs.proofs.LabelLemmas.{read_at, label_more, new_label}

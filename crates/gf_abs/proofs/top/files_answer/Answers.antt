@@ -1,4 +1,4 @@
-use Rattle.std.proofs.Common.{◌≡◌, List, ℕ, Ok, subst}
+use Rattle.std.proofs.Common.{List, ℕ, Ok, subst}
 use Rattle.gf_abs.specs.Setting.{setting_value}
 use Rattle.gf_abs.specs.SettingOf.{SettingOf}
 use Rattle.gf_abs.proofs.StepLemmas.{net_after, setting_names}

@@ -1,4 +1,4 @@
-use Rattle.std.proofs.Common.{◌≡◌, List, ℕ, subst}
+use Rattle.std.proofs.Common.{List, ℕ, subst}
 use Rattle.job_io.specs.Counts.{Rose}
 use Rattle.gf_abs.specs.Answer.{Read, TextAnswer}
 use Rattle.gf_abs.specs.Setting.{setting_value}

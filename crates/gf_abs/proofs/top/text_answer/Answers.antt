@@ -1,4 +1,4 @@
-use Rattle.std.proofs.Common.{◌≡◌, ◌∙◌, List, ap, sym, subst, Ok, Err, Result, length}
+use Rattle.std.proofs.Common.{◌∙◌, List, ap, sym, subst, Ok, Err, Result}
 use Rattle.net_words.specs.Bind.{bits_of}
 use Rattle.net_words.specs.Binding.{BoundNet}
 use Rattle.net_words.specs.declared.word.WordText.{WordText}

@@ -1,11 +1,11 @@
-use Rattle.std.proofs.Common.{◌≡◌, ◌≤◌, ℕ, cond, bit_xor, map, length, ◌∙◌, ap, sym, subst, arith}
+use Rattle.std.proofs.Common.{◌≡◌, ◌≤◌, cond, bit_xor, map, length, ◌∙◌, ap, arith}
 use Rattle.std.proofs.lemmas.List.{length-map}
 use Rattle.std.proofs.lemmas.Result.{on_ok_weaker}
 use Rattle.net_core.specs.NetList.{nets}
 use Rattle.net_words.specs.Variables.{variables}
 use Rattle.poly_mixed.specs.Polynomial.{Point, IsPoint, value}
 use Rattle.poly_mixed.specs.Table.{index, table_bit}
-use Rattle.stage_model.specs.Variables.{rank_in, point_bit}
+use Rattle.stage_model.specs.Variables.{rank_in}
 use Rattle.rato_reduce.specs.GatePoint.{gate_bit}
 use Rattle.rato_reduce.proofs.Inside.{few_inputs}
 use Rattle.rato_reduce.proofs.PutIn.{index_map}

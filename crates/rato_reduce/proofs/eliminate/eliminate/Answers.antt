@@ -3,13 +3,13 @@ use Rattle.std.proofs.Common.{◌≡◌, ◌<◌, ℕ, List, [], ◌∷◌, leng
 use Rattle.std.proofs.lemmas.Result.{on_ok_weaker}
 use Rattle.net_core.specs.NetList.{nets}
 use Rattle.net_words.specs.Variables.{variables}
-use Rattle.poly_mixed.specs.Polynomial.{Polynomial, Terms, Point, IsPoint, IsReduced, value}
-use Rattle.poly_mixed.specs.Cofactor.{at_bit, lacking, LacksBit, IsCofactor, HasCofactorValues}
-use Rattle.poly_mixed.specs.Steps.{Step, Tells}
+use Rattle.poly_mixed.specs.Polynomial.{Polynomial, IsReduced, value}
+use Rattle.poly_mixed.specs.Cofactor.{at_bit, LacksBit, IsCofactor}
+use Rattle.poly_mixed.specs.Steps.{Tells}
 use Rattle.poly_mixed.specs.declared.steps.Generator.TheVariants.{Net}
 use Rattle.poly_mixed.proofs.Cofactors.{reduced_lacking}
 use Rattle.stage_model.specs.Variables.{rank_in}
-use Rattle.stage_model.specs.CutSteps.{AreStepsAt, IsNetStep}
+use Rattle.stage_model.specs.CutSteps.{AreStepsAt}
 use Rattle.rato_reduce.specs.GatePoint.{gate_bit}
 use Rattle.rato_reduce.proofs.Inside.{out_below}
 use Rattle.rato_reduce.proofs.PutIn.{put_in, put_nothing}

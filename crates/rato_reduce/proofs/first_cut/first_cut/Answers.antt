@@ -1,14 +1,12 @@
-use Rattle.std.proofs.Common.{◌≡◌, ◌<◌, ◌+◌, ℕ, suc, cond, Some, ap, sym, subst, ◌∙◌, get_or, take, length, bit_xor, arith}
-use Rattle.std.specs.Prelude.{slice_get}
+use Rattle.std.proofs.Common.{◌≡◌, ◌+◌, suc, cond, ap, sym, ◌∙◌, get_or, take, length, bit_xor, arith}
 use Rattle.std.proofs.lemmas.Option.{slice_get-get_or}
 use Rattle.irreducible.specs.Span.{combination}
 use Rattle.gf_basis.specs.BasisParts.{elements_of}
 use Rattle.net_core.specs.NetList.{nets}
 use Rattle.net_words.specs.Variables.{variables}
-use Rattle.poly_mixed.specs.Polynomial.{Point, IsPoint, value}
 use Rattle.poly_mixed.specs.Table.{index}
 use Rattle.stage_model.specs.Variables.{rank_in, point_bit}
-use Rattle.rato_reduce.proofs.FirstCut.{sum_more, take_whole}
+use Rattle.rato_reduce.proofs.FirstCut.{sum_more}
 use Rattle.rato_reduce.proofs.first_cut.first_cut.Goals as goal
 
 pub rank-rank-requires : goal.rank-rank-requires

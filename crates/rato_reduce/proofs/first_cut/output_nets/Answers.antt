@@ -1,6 +1,5 @@
-use Rattle.std.proofs.Common.{◌≡◌, ◌++◌, drop, Some, arith}
-use Rattle.std.specs.Prelude.{slice_get}
-use Rattle.rato_reduce.proofs.OutputNets.{some_at, one_word, no_word}
+use Rattle.std.proofs.Common.{arith}
+use Rattle.rato_reduce.proofs.OutputNets.{some_at, one_word}
 use Rattle.rato_reduce.proofs.first_cut.output_nets.Goals as goal
 
 pub loop-w-preserved : goal.loop-w-preserved

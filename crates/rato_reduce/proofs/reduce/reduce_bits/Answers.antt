@@ -1,4 +1,4 @@
-use Rattle.std.proofs.Common.{◌≡◌, ◌<◌, ◌≤◌, ◌+◌, ℕ, List, length, get_or, subst, sym, ap, ◌∙◌, arith, rules}
+use Rattle.std.proofs.Common.{◌≡◌, ◌<◌, ◌+◌, ℕ, List, length, subst, sym, ap, ◌∙◌, arith, rules}
 use Rattle.gf_basis.specs.BasisParts.{elements_of}
 use Rattle.net_words.specs.Variables.{variables}
 use Rattle.circuit_model.specs.OfBinding.{output_word}
