@@ -1,5 +1,5 @@
 -- The pairs of the eliminations so far, and what a recorder tells.
-use Rattle.std.proofs.Common.{◌≡◌, ℕ, suc, ◌+◌, List, [], ◌∷◌, ◌++◌, Option, None, Some, refl, sym, ap, subst, ◌∙◌}
+use Rattle.std.proofs.Common.{◌≡◌, ℕ, suc, ◌+◌, List, [], ◌++◌, Option, None, Some, refl, sym, ap, subst, ◌∙◌, append-nil}
 use Rattle.std.specs.Prelude.{slice_get}
 use Rattle.std.proofs.lemmas.List.{append_assoc}
 use Rattle.net_core.specs.GateValue.{GateValue}
@@ -12,13 +12,9 @@ use Rattle.stage_model.specs.Stage.{IsOfStage}
 use Rattle.stage_model.specs.Cut.{IsCut}
 use Rattle.stage_model.specs.CutSteps.{AreStepsAt, AreStepsTo}
 
-nothing_more : {A : Type 0} (xs : List A) → xs ++ [] ≡ xs
-nothing_more [] = refl
-nothing_more (x ∷ xs) = ap (λ ys. x ∷ ys) (nothing_more xs)
-
 pub tells_none : (old : Option (List Step)) → Tells old old []
 tells_none None = tt
-tells_none (Some xs) = ap Some (sym (nothing_more xs))
+tells_none (Some xs) = ap Some (sym (append-nil xs))
 
 pub tells_more : (old mid new : Option (List Step)) (s t : List Step) → Tells old mid s → Tells mid new t → Tells old new (s ++ t)
 tells_more None mid new s t p q = tt

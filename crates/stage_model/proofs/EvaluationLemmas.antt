@@ -29,10 +29,10 @@ use Rattle.stage_model.proofs.PointLemmas.{point_bits_at}
 abbrev value_of : List Bool → GateValue → Bool
 value_of bits g = bit_at g.table (index_of bits g.inputs) == 1
 
-not_later : (a b q p : ℕ) → IsBefore a q b p → a ≤ b
+pub not_later : (a b q p : ℕ) → IsBefore a q b p → a ≤ b
 not_later a b q p before = grind arith
 
-not_self : (a b q p : ℕ) → a ≡ b → q ≡ p → IsBefore a q b p → ⊥
+pub not_self : (a b q p : ℕ) → a ≡ b → q ≡ p → IsBefore a q b p → ⊥
 not_self a b q p same place before = grind arith
 
 -- in an order by levels each net has a level

@@ -1,5 +1,5 @@
 -- Rising ranks.
-use Rattle.std.proofs.Common.{◌≡◌, ◌∙◌, ap, sym, refl, ℕ, zero, suc, ◌<◌, ◌≤◌, ◌+◌, ◌-◌, Bool, true, false, cond, List, [], ◌∷◌, length, take, drop, arith}
+use Rattle.std.proofs.Common.{◌≡◌, ◌∙◌, sym, refl, ℕ, zero, suc, ◌<◌, ◌≤◌, ◌+◌, ◌-◌, Bool, true, false, cond, List, [], ◌∷◌, length, take, drop, arith, take_all}
 use Rattle.std.specs.declared.cmp.Ordering.TheVariants.{Less}
 use Rattle.std.specs.Cmp.{ranked}
 use Rattle.std.specs.Ordering.{nat_cmp}
@@ -22,14 +22,8 @@ drop_rises (suc n) (r ∷ rs) up = drop_rises n rs up.1
 
 -- the rest of a list, as a slice from a place on
 pub rest_is : (n : ℕ) (rs : List ℕ) → take (length rs - n) (drop n rs) ≡ drop n rs
-rest_is n rs = whole (drop n rs) (length rs - n) (long n rs)
+rest_is n rs = take_all (length rs - n) (drop n rs) (omega (arith, long n rs))
   where
-    whole : (xs : List ℕ) (m : ℕ) → m ≡ length xs → take m xs ≡ xs
-    whole [] zero e = refl
-    whole [] (suc m) e = refl
-    whole (x ∷ xs) zero e = absurd (omega arith)
-    whole (x ∷ xs) (suc m) e = ap (λ ys. x ∷ ys) (whole xs m (omega arith))
-
     long : (m : ℕ) (xs : List ℕ) → length xs - m ≡ length (drop m xs)
     long zero xs = omega arith
     long (suc m) [] = omega arith
