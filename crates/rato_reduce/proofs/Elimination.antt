@@ -27,7 +27,7 @@ use Rattle.stage_model.specs.Cut.{IsAmongFirst, IsSettled, IsCut}
 use Rattle.stage_model.specs.Stage.{IsOfStage}
 use Rattle.rato_reduce.specs.GatePoint.{gate_bit, with_gate, HasGatePutIn}
 use Rattle.rato_reduce.proofs.Ranks.{rank_apart}
-use Rattle.stage_model.proofs.EvaluationLemmas.{not_self, not_later}
+use Rattle.net_core.proofs.EvalLemmas.{not_self, not_later}
 
 -- the output word's element, where the first t gates of this order are settled
 pub record Settled (net : NetList) (variables : List ℕ) (output : Word) (order : List ℕ) (t : ℕ) (p : Point) (e : ℕ) : Type 0 where

@@ -17,7 +17,7 @@ use Rattle.stage_model.specs.PlainWord.{IsSumOf}
 use Rattle.word_subst.specs.Read.{HasWithin, sum_at, IsTermWithin, AreTermsWithin}
 use Rattle.word_subst.specs.ReadSteps.{AreFirstSteps, AreReadSteps, TellsFirst, TellsTerms}
 use Rattle.word_subst.specs.ReadRefusal.{IsTermRefusal, IsWordRefusal}
-use Rattle.word_subst.proofs.Recorded.{tells_none, tells_more}
+use Rattle.poly_mixed.proofs.Recorders.{tells_none, tells_more}
 
 -- the term at an index that the code reads
 pub term_read : (items terms : Terms) (s : ℕ) (t : Monomial × ℕ) → items ≡ terms → s < length items → t ≡ get_or items s t → slice_get terms s ≡ Some t
