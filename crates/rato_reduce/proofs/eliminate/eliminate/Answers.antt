@@ -13,7 +13,6 @@ use Rattle.stage_model.specs.CutSteps.{AreStepsAt}
 use Rattle.rato_reduce.specs.GatePoint.{gate_bit}
 use Rattle.rato_reduce.proofs.Inside.{out_below}
 use Rattle.rato_reduce.proofs.PutIn.{put_in, put_nothing}
-
 use Rattle.rato_reduce.proofs.eliminate.eliminate.Goals as goal
 use Rattle.poly_mixed.proofs.Recorders.{tells_none}
 
