@@ -1,10 +1,9 @@
 -- The bits that nets have in words.
-use Rattle.std.proofs.Common.{◌≡◌, ◌∙◌, ap, sym, refl, subst, inl, inr, ℕ, zero, suc, ◌<◌, ◌≤◌, ◌+◌, ◌*◌, ◌/◌, ◌%◌, ◌^◌, Bool, List, [], ◌∷◌, length, get_or, map, Some, cond, arith}
+use Rattle.std.proofs.Common.{◌≡◌, ◌∙◌, ap, sym, refl, subst, inl, inr, ℕ, zero, suc, ◌<◌, ◌≤◌, ◌+◌, ◌*◌, ◌/◌, ◌%◌, ◌^◌, Bool, List, [], ◌∷◌, length, get_or, map, Some, arith}
 use Rattle.std.specs.Prelude.{slice_get, nat_eq, ◌==◌}
 use Rattle.std.specs.Int.{bit_at}
 use Rattle.std.proofs.Math.ListN.{set}
 use Rattle.std.proofs.Math.Nat.{pow-succ'}
-use Rattle.std.proofs.lemmas.Bool.Decides.{nat_tests}
 use Rattle.std.proofs.lemmas.Nat.Bits.{bit_at_lowest, bit_at-suc}
 use Rattle.std.proofs.lemmas.Option.{slice_get_within}
 use Rattle.net_core.specs.Lists.{Has, times}
@@ -18,7 +17,7 @@ use Rattle.circuit_model.specs.declared.circuit_word.CircuitWord.{CircuitWord}
 use Rattle.circuit_model.specs.Word.{word_nets}
 use Rattle.circuit_model.specs.Flat.{word_of}
 use Rattle.circuit_model.specs.Found.{IsOnce, IsBitAt, IsBitIn}
-use Rattle.circuit_model.proofs.WordLemmas.{has_word}
+use Rattle.circuit_model.proofs.WordLemmas.{has_word, low_bit}
 use Rattle.circuit_model.proofs.SliceLemmas.{rest, rest_is, get_rest}
 
 pub bit_first : (ns : List ℕ) (n bits place : ℕ) → 1 ≤ length ns → get_or ns 0 0 ≡ n → slice_get ns place ≡ Some n → times n ns ≤ 1 → nat_eq (bits % 2) 1 ≡ (bit_at bits place == 1)
@@ -75,9 +74,6 @@ bit_in_all (u ∷ us) xs first n d b other is chosen none here later once = at
         let Q : Bool → Type 0 = λ v. IsBitAt w x place v in
         let once_later : IsOnce us n = omega (arith, apart) in
         subst Q (sym (none gone)) (later (subst P (sym (rest_is u us)) once_later) i place w x (get_rest (u ∷ us) i w got) (get_rest xs i x value) in_w)
-
-low_bit : (d : ℕ) → ◌≡◌ {A = ℕ} (cond (d % 2 == 1) 1 0 + 2 * (d / 2)) d
-low_bit d = grind (arith, nat_tests)
 
 -- where each net has its bit of the number, their bits are the number
 pub index_is : (bits : List Bool) (ns : List ℕ) (d : ℕ) → d < 2 ^ length ns → ((place n : ℕ) → slice_get ns place ≡ Some n → bit_of bits n ≡ (bit_at d place == 1)) → index_of bits ns ≡ d

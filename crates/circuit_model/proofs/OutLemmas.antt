@@ -4,7 +4,6 @@ use Rattle.std.specs.Prelude.{slice_get}
 use Rattle.net_core.specs.Value.{index_of}
 use Rattle.net_core.proofs.EvalLemmas.{index_agree}
 use Rattle.net_words.specs.Reach.{Draws, Reaches}
-use Rattle.graph_core.specs.Walk.{IsChain}
 use Rattle.graph_core.proofs.ListLemmas.{get_below}
 use Rattle.irreducible.specs.Span.{combination}
 use Rattle.irreducible.specs.SpanLaws.{combination_below}
@@ -17,6 +16,7 @@ use Rattle.circuit_model.specs.Out.{Ends, IsOut}
 use Rattle.circuit_model.proofs.WordLemmas.{same_element, moved, index_small}
 use Rattle.circuit_model.proofs.AgreeLemmas.{agree}
 use Rattle.circuit_model.proofs.SomeRunLemmas.{some_run}
+use Rattle.net_core.proofs.ExistLemmas.{chain_more}
 
 inside : (basis : List ℕ) (k : ℕ) → AreElements k basis → (d : ℕ) → combination basis d < 2 ^ k
 inside basis k below d = combination_below basis k d (λ i less. below i less)
@@ -31,10 +31,6 @@ some_out c xs well input =
       record { run = found.0; is_run = found.1; ends = record { last = last.0; at = last.1; element = record { long = long; sum = record { short = short; is = refl } } } },
       inside c.output.basis c.k well.output.basis.inside (index_of last.0 c.output.nets),
     )
-
-chain_more : (R : ℕ → ℕ → Type 0) (a : ℕ) (over : List ℕ) (b d : ℕ) → IsChain R a over b → R b d → IsChain R a (over ++ b ∷ []) d
-chain_more R a [] b d chain next = (chain, next)
-chain_more R a (m ∷ over) b d chain next = (chain.0, chain_more R m over b d chain.1 next)
 
 module _ (c : Circuit) (xs : List ℕ) (well : IsWellFormed c) where
   -- the nets that reach the output word

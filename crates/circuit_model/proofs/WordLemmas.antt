@@ -11,13 +11,14 @@ use Rattle.circuit_model.specs.Word.{Word, HasElement, word_nets}
 use Rattle.circuit_model.specs.WellFormed.{IsWord}
 use Rattle.circuit_model.proofs.GivenLemmas.{Pairs, keys, Gives}
 
+-- a number of its lowest bit and the others
+pub low_bit : (d : ℕ) → ◌≡◌ {A = ℕ} (cond (d % 2 == 1) 1 0 + 2 * (d / 2)) d
+low_bit d = grind (arith, nat_tests)
+
 -- each net with its bit of a number
 abbrev pub word_pairs : List ℕ → ℕ → Pairs
 word_pairs [] d = []
 word_pairs (n ∷ ns) d = (n, d % 2 == 1) ∷ word_pairs ns (d / 2)
-
-low_bit : (d : ℕ) → ◌≡◌ {A = ℕ} (cond (d % 2 == 1) 1 0 + 2 * (d / 2)) d
-low_bit d = grind (arith, nat_tests)
 
 pub word_index : (bits : List Bool) (ns : List ℕ) (d : ℕ) → d < 2 ^ length ns → Gives (bit_of bits) (word_pairs ns d) → index_of bits ns ≡ d
 word_index bits [] d less gives = omega arith

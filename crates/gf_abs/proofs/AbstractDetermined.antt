@@ -6,7 +6,7 @@ use Rattle.net_core.specs.Sound.{IsSound}
 use Rattle.net_words.specs.Bind.{BindingOf, bits_of}
 use Rattle.net_words.specs.Binding.{Binding, BoundNet}
 use Rattle.net_words.specs.declared.word.WordText.{WordText}
-use Rattle.net_words.proofs.BoundLemmas.{bound_to}
+use Rattle.net_words.proofs.BoundLemmas.{bound_to, first_long}
 use Rattle.poly_mixed.specs.Polynomial.{Terms}
 use Rattle.poly_mixed.specs.declared.stage.Stage.{Stage}
 use Rattle.circuit_model.specs.WellFormed.{IsWellFormed}
@@ -25,7 +25,7 @@ use Rattle.gf_abs.specs.Labelling.{word_labels}
 use Rattle.gf_abs.specs.NetlistOf.{NetlistOf}
 use Rattle.gf_abs.specs.SettingSound.{IsSoundSetting}
 use Rattle.gf_abs.specs.SettingValue.{SettingValue}
-use Rattle.gf_abs.proofs.RoleLemmas.{netlist_roles, roles_long, bits_are}
+use Rattle.gf_abs.proofs.RoleLemmas.{netlist_roles, roles_long}
 
 pub netlist_sound : (file : Word) (words : List WordText) (text : List ℕ) (circuit : BoundNet) → NetlistOf file words text (Ok circuit) → IsSound circuit.net
 netlist_sound file words text circuit (net, (design, is_design, (flat, is_flat, made)), (bound, is, exactly)) =
@@ -46,7 +46,7 @@ pub circuit_well : (setting : SettingValue) (circuit : BoundNet) → IsSoundSett
 circuit_well setting circuit sound file text is =
     let net = netlist_sound file setting.signature.words text circuit is in
     let binding = netlist_bound setting.k file setting.signature.words text circuit net is in
-    let bits : circuit.bound.k ≡ setting.k = binding_bits circuit.net setting.signature.words circuit.bound binding ∙ bits_are setting.k setting.signature.words sound.words in
+    let bits : circuit.bound.k ≡ setting.k = binding_bits circuit.net setting.signature.words circuit.bound binding ∙ first_long setting.k setting.signature.words sound.words in
     let long : length setting.bases ≡ length circuit.bound.words = sound.long ∙ sym (roles_long setting.signature.words circuit.bound.words (netlist_roles file setting.signature.words text circuit is)) in
     bound_well setting.k setting.product circuit setting.bases (bound_to circuit.net setting.k setting.signature.words circuit.bound net sound.words binding) bits (record { long = long; each = sound.each }) sound.ring sound.field net
 

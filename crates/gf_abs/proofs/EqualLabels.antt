@@ -1,5 +1,5 @@
 -- The labels of a setting's words are labels, so that a text in them is of one polynomial.
-use Rattle.std.proofs.Common.{◌≡◌, refl, subst, ℕ, suc, ◌≤◌, ◌*◌, ◌+◌, ◌^◌, cond, List, [], ◌∷◌, ◌++◌, length, map, filter, Some, arith}
+use Rattle.std.proofs.Common.{◌≡◌, refl, subst, ℕ, suc, ◌≤◌, ◌+◌, ◌^◌, cond, List, [], ◌∷◌, ◌++◌, length, map, filter, Some, arith}
 use Rattle.std.specs.Prelude.{slice_get}
 use Rattle.std.specs.List.{AllByRecursion}
 use Rattle.text_core.specs.Names.{IsName}
@@ -13,6 +13,7 @@ use Rattle.net_words.specs.declared.word.WordText.{WordText}
 use Rattle.poly_mixed.specs.Labels.{AreLabels, AreDifferent, Differs, IsWord, bit_count}
 use Rattle.gf_abs.specs.Labelling.{word_label, word_labels, name_with, output_name, labels_of}
 use Rattle.gf_abs.proofs.LabelLemmas.{differs, labels_long}
+use Rattle.poly_mixed.proofs.Texts.{bits_small}
 
 -- ---- the output word
 
@@ -64,9 +65,5 @@ are_labels k words are names = record {
 
 -- ---- their bits
 
-bits_most : (ls : List (List ℕ × ℕ)) → AllByRecursion IsWord ls → bit_count ls ≤ 64 * length ls
-bits_most [] all = omega arith
-bits_most (l ∷ ls) all = let rest = bits_most ls all.1 in let one = all.0.2 in omega arith
-
 pub few_bits : (k : ℕ) (words : List WordText) → AreLabels (labels_of k words) → bit_count (word_labels k words) + 0 ≤ 2 ^ 32
-few_bits k words are = let most = bits_most (word_labels k words) are.words in omega (arith, most, are.few)
+few_bits k words are = let most = bits_small (word_labels k words) are.words in omega (arith, most, are.few)

@@ -1,5 +1,5 @@
 -- The labels of words, word by word.
-use Rattle.std.proofs.Common.{◌≡◌, ◌≢◌, ◌∙◌, ap, sym, refl, subst, ℕ, zero, suc, ◌<◌, ◌≤◌, ◌+◌, not, cond, List, [], ◌∷◌, ◌++◌, length, map, take, filter, get_or, Some, arith}
+use Rattle.std.proofs.Common.{◌≡◌, ◌≢◌, ◌∙◌, ap, sym, refl, subst, ℕ, zero, suc, ◌<◌, ◌≤◌, ◌+◌, not, cond, List, [], ◌∷◌, ◌++◌, length, map, take, filter, get_or, Some, arith, append-nil}
 use Rattle.std.specs.Prelude.{slice_get}
 use Rattle.std.proofs.lemmas.Option.{slice_get_read}
 use Rattle.std.proofs.lemmas.List.{append_assoc, length-append}
@@ -15,16 +15,12 @@ use Rattle.gf_abs.specs.Labelling.{word_label, word_labels, IsNewLabel}
 pub read_at : {A : Type 0} (xs : List A) (i : ℕ) (x : A) → i < length xs → x ≡ get_or xs i x → slice_get xs i ≡ Some x
 read_at xs i x less is = slice_get_read xs (length xs) i x refl less is
 
-nothing_more : {A : Type 0} (xs : List A) → xs ++ [] ≡ xs
-nothing_more [] = refl
-nothing_more (x ∷ xs) = ap (λ ys. x ∷ ys) (nothing_more xs)
-
 pub label_more : (k : ℕ) (words : List WordText) (i : ℕ) (word : WordText) → slice_get words i ≡ Some word → word_labels k (take (i + 1) words) ≡ word_labels k (take i words) ++ word_label word.role word.name k
 label_more k words i word at = let up : i + 1 ≡ suc i = omega arith in ap (λ n. word_labels k (take n words)) up ∙ more words i at
   where
     more : (us : List WordText) (j : ℕ) → slice_get us j ≡ Some word → word_labels k (take (suc j) us) ≡ word_labels k (take j us) ++ word_label word.role word.name k
     more [] j got = absurd (cc)
-    more (u ∷ us) zero got = let same : u ≡ word = cc in nothing_more (word_label u.role u.name k) ∙ ap (λ (w : WordText). word_label w.role w.name k) same
+    more (u ∷ us) zero got = let same : u ≡ word = cc in append-nil (word_label u.role u.name k) ∙ ap (λ (w : WordText). word_label w.role w.name k) same
     more (u ∷ us) (suc j) got = ap (λ ls. word_label u.role u.name k ++ ls) (more us j got) ∙ sym (append_assoc (word_label u.role u.name k) (word_labels k (take j us)) (word_label word.role word.name k))
 
 taken : (words : List WordText) (n j : ℕ) (u : WordText) → slice_get (take n words) j ≡ Some u → (j < n) × (slice_get words j ≡ Some u)

@@ -1,10 +1,9 @@
 -- The bound words of a netlist have the roles of the signature's words.
-use Rattle.std.proofs.Common.{◌≡◌, ◌∙◌, ap, sym, refl, subst, ℕ, List, [], ◌∷◌, ◌++◌, length, map, Ok, arith}
+use Rattle.std.proofs.Common.{◌≡◌, ◌∙◌, ap, sym, refl, subst, ℕ, List, [], ◌∷◌, ◌++◌, length, map, Ok, append-nil}
 use Rattle.std.proofs.lemmas.List.{append_assoc, length-map}
 use Rattle.net_core.specs.NetList.{NetList}
-use Rattle.net_core.proofs.DriverLemmas.{All_has}
-use Rattle.net_words.specs.Bind.{BoundOf, BindingOf, bound_word, bits_of}
-use Rattle.net_words.specs.Binding.{Binding, BoundNet, AreWords}
+use Rattle.net_words.specs.Bind.{BoundOf, BindingOf, bound_word}
+use Rattle.net_words.specs.Binding.{Binding, BoundNet}
 use Rattle.net_words.specs.declared.bound.BoundWord.{BoundWord}
 use Rattle.net_words.specs.declared.word.Role.{Role}
 use Rattle.net_words.specs.declared.word.WordText.{WordText}
@@ -18,10 +17,6 @@ roles words = map (λ word. word.role) words
 text_roles : List WordText → List Role
 text_roles words = map (λ word. word.role) words
 
-nothing_more : {A : Type 0} (xs : List A) → xs ++ [] ≡ xs
-nothing_more [] = refl
-nothing_more (x ∷ xs) = ap (λ ys. x ∷ ys) (nothing_more xs)
-
 one_more : (before : List BoundWord) (word : BoundWord) → roles (before ++ word ∷ []) ≡ roles before ++ word.role ∷ []
 unfolding roles
 one_more [] word = refl
@@ -29,7 +24,7 @@ one_more (b ∷ bs) word = ap (λ rs. b.role ∷ rs) (one_more bs word)
 
 bound_roles : (net : NetList) (taken : List ℕ) (before : List BoundWord) (words : List WordText) (more : List BoundWord × List ℕ) → BoundOf net taken before words (Ok more) → roles more.0 ≡ roles before ++ text_roles words
 unfolding roles text_roles
-bound_roles net taken before [] more is = ap (λ (m : List BoundWord × List ℕ). roles m.0) is ∙ sym (nothing_more (roles before))
+bound_roles net taken before [] more is = ap (λ (m : List BoundWord × List ℕ). roles m.0) is ∙ sym (append-nil (roles before))
 bound_roles net taken before (word ∷ words) more (list, own, rest) =
     bound_roles net list.1 (before ++ bound_word word list.0 ∷ []) words more rest
     ∙ (ap (λ rs. rs ++ text_roles words) (one_more before (bound_word word list.0))
@@ -48,8 +43,3 @@ netlist_roles file words text circuit (net, is_net, (bound, is, exactly)) =
 -- so there are as many
 pub roles_long : (words : List WordText) (bound : List BoundWord) → HaveRoles words bound → length bound ≡ length words
 roles_long words bound same = sym (length-map bound (λ (b : BoundWord). b.role)) ∙ (ap length same ∙ length-map words (λ (w : WordText). w.role))
-
--- the number of nets of the first word is that of each
-pub bits_are : (k : ℕ) (words : List WordText) → AreWords k words → bits_of words ≡ k
-bits_are k [] are = let one = are.one in absurd (omega arith)
-bits_are k (word ∷ words) are = All_has (λ (w : WordText). length w.nets ≡ k) (word ∷ words) word are.each (0, refl)

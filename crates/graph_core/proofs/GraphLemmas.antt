@@ -10,6 +10,20 @@ use Rattle.graph_core.specs.Graph.{Graph, Has, edges, IsInside}
 pub nat_eq_or : (a b : ℕ) → (a ≡ b) ⊎ (a ≢ b)
 nat_eq_or a b = elim (eqb_tells a b) [ inl w ↦ inl w.1 | inr w ↦ inr w.1 ]
 
+-- neither is below the other
+pub even : (m n : ℕ) → (m < n → ⊥) → (n < m → ⊥) → m ≡ n
+even m n f g = omega (arith, f, g)
+
+-- lists that agree place by place
+pub same_lists : {X : Type 0} (v w : List X) → length v ≡ length w → ((k : ℕ) (a b : X) → slice_get v k ≡ Some a → slice_get w k ≡ Some b → a ≡ b) → v ≡ w
+same_lists [] [] long same = refl
+same_lists [] (y ∷ ys) long same = absurd (omega arith)
+same_lists (x ∷ xs) [] long same = absurd (omega arith)
+same_lists (x ∷ xs) (y ∷ ys) long same =
+    let head : x ≡ y = same 0 x y refl refl in
+    let tail : xs ≡ ys = same_lists xs ys (omega arith) (λ k a b first second. same (suc k) a b first second) in
+    rw (head, tail) refl
+
 pub All_has : {X : Type 0} (P : X → Type 0) (xs : List X) (x : X) → All P xs → Has xs x → P x
 All_has P xs x all has = subst P (get_or_from_slice_get xs has.0 x x has.1) (all has.0 x (slice_get_within xs has.0 x has.1))
 

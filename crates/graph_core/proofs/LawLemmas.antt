@@ -4,7 +4,7 @@ use Rattle.std.specs.Prelude.{slice_get}
 use Rattle.graph_core.specs.Graph.{Graph, Has, edges, HasEdge, IsPath, IsRing}
 use Rattle.graph_core.specs.Ring.{IsGrounded, grounded, IsFirstEndless, IsRingOf}
 use Rattle.graph_core.specs.Arranged.{IsArranged}
-use Rattle.graph_core.proofs.GraphLemmas.{nat_eq_or}
+use Rattle.graph_core.proofs.GraphLemmas.{nat_eq_or, even}
 use Rattle.graph_core.proofs.GroundLemmas.{grounded_path, grounded_no_ring}
 use Rattle.graph_core.proofs.ListLemmas.{get_below}
 use Rattle.graph_core.proofs.LoopLemmas.{loop_ring, ring_weaker, loop_only}
@@ -16,9 +16,6 @@ first_only graph list b c (i, at, endless, before) (j, at', endless', before') =
       | inl same ↦ let at'' : slice_get list j ≡ Some b = rw (← same) at in cc
       | inr other ↦ absurd (other (even i j (λ less. endless (before' i b less at)) (λ less. endless' (before j c less at'))))
     ]
-  where
-    even : (m n : ℕ) → (m < n → ⊥) → (n < m → ⊥) → m ≡ n
-    even m n f g = omega (arith, f, g)
 
 pub is_ring : (graph : Graph) (roots ring : List ℕ) → IsRingOf graph roots ring → IsRing graph ring
 is_ring graph roots ring is =

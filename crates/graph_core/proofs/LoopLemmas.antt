@@ -4,6 +4,7 @@ use Rattle.std.specs.Prelude.{slice_get}
 use Rattle.std.proofs.lemmas.Option.{slice_get_within}
 use Rattle.graph_core.specs.Walk.{IsChain, IsRingBy, IsWalkBy, IsLoopBy}
 use Rattle.graph_core.proofs.ListLemmas.{get_below}
+use Rattle.graph_core.proofs.GraphLemmas.{even, same_lists}
 
 chain_of : (R : ℕ → ℕ → Type 0) (a : ℕ) (rest : List ℕ) (b : ℕ) → ((k x y : ℕ) → slice_get (a ∷ rest) k ≡ Some x → slice_get (a ∷ rest) (suc k) ≡ Some y → R x y) → ((k x : ℕ) → suc k ≡ length (a ∷ rest) → slice_get (a ∷ rest) k ≡ Some x → R x b) → IsChain R a rest b
 chain_of R a [] b links last = last 0 a refl refl
@@ -103,15 +104,6 @@ module _ (B : ℕ → Type 0) (L : ℕ → ℕ → Type 0) (one_begin : (a b : �
           let place : one.from ≡ k + 1 = two.is_walk.apart one.from (k + 1) next'.0 (here'.1 ∙ ap Some (sym same_here ∙ met)) next'.1 in
           omega (arith, one.within)
 
-  same_lists : (v w : List ℕ) → length v ≡ length w → ((k a b : ℕ) → slice_get v k ≡ Some a → slice_get w k ≡ Some b → a ≡ b) → v ≡ w
-  same_lists [] [] long same = refl
-  same_lists [] (y ∷ ys) long same = absurd (omega arith)
-  same_lists (x ∷ xs) [] long same = absurd (omega arith)
-  same_lists (x ∷ xs) (y ∷ ys) long same =
-      let head : x ≡ y = same 0 x y refl refl in
-      let tail : xs ≡ ys = same_lists xs ys (omega arith) (λ k a b first second. same (suc k) a b first second) in
-      rw (head, tail) refl
-
   -- there is one loop
   pub loop_only : (x y : List ℕ) → IsLoopBy B L x → IsLoopBy B L y → x ≡ y
   loop_only x y one two =
@@ -121,9 +113,6 @@ module _ (B : ℕ → Type 0) (L : ℕ → ℕ → Type 0) (one_begin : (a b : �
       let same : one.walk ≡ two.walk = same_lists one.walk two.walk long (λ k a b first second. walks_agree one.walk two.walk one.is_walk two.is_walk k a b first second) in
       one.loop_is ∙ ap (λ n. drop n one.walk) (by (length one.walk) refl long same) ∙ ap (drop two.from) same ∙ sym two.loop_is
     where
-      even : (m n : ℕ) → (m < n → ⊥) → (n < m → ⊥) → m ≡ n
-      even m n f g = omega (arith, f, g)
-
       by : (n : ℕ) → length one.walk ≡ n → length one.walk ≡ length two.walk → one.walk ≡ two.walk → one.from ≡ two.from
       by zero none long same = absurd (omega (arith, one.within))
       by (suc k) n long same =

@@ -5,24 +5,22 @@ use Rattle.std.proofs.lemmas.Option.{slice_get-map}
 use Rattle.graph_core.proofs.LoopLemmas.{loop_only}
 use Rattle.text_core.specs.Outcome.{Outcome, ◌>>=◌, Returns, Within, Determined}
 use Rattle.text_core.proofs.DeterminedLemmas.{determined_returns}
-use Rattle.net_core.specs.NetList.{NetList, nets, text_of}
+use Rattle.net_core.specs.NetList.{NetList, nets}
 use Rattle.net_core.specs.GateValue.{GateValue}
 use Rattle.net_core.specs.Lists.{times}
 use Rattle.net_core.specs.Sound.{HasOneDriverEach, sources}
 use Rattle.net_core.specs.Loop.{HasLevel, IsFirstWithout, IsBegin, LeadsTo, IsLoop}
-use Rattle.net_core.specs.Finish.{Finishes, IsLabelOfFirst}
+use Rattle.net_core.specs.Finish.{Finishes}
 use Rattle.net_core.specs.declared.fault.NetFault.{NetFault}
 use Rattle.net_core.specs.declared.fault.NetFault.TheVariants.{TooManyNets, TooManyGates, DrivenTwice, Undriven, Loop, OutOfMemory}
 use Rattle.net_core.proofs.DriverLemmas.{All_has, times_append, times_two}
 use Rattle.net_core.proofs.LevelLemmas.{nat_eq_or}
-use Rattle.net_core.proofs.LawLemmas.{sound_no_fault}
+use Rattle.net_core.proofs.LawLemmas.{sound_no_fault, same_twice, same_undriven, same_loop}
 use Rattle.net_blif.specs.Design.{ModelValue}
 use Rattle.net_blif.specs.Flat.{nothing, walked, walk_of, net_list, Settles, Flattens}
 use Rattle.net_blif.specs.declared.flat_fault.FlatFault.TheVariants.{Net}
 use Rattle.net_blif.proofs.DriveLemmas.{DriveNets, walk_drives}
-
-even : (m n : ℕ) → (m < n → ⊥) → (n < m → ⊥) → m ≡ n
-even m n f g = omega (arith, f, g)
+use Rattle.graph_core.proofs.GraphLemmas.{even}
 
 module _ (net : NetList) (drive : DriveNets net) (one : HasOneDriverEach net) where
   -- two gates drive two nets
@@ -62,18 +60,6 @@ module _ (net : NetList) (drive : DriveNets net) (one : HasOneDriverEach net) wh
 
   loops_same : (x y : List ℕ) → IsLoop net x → IsLoop net y → x ≡ y
   loops_same x y first second = loop_only (IsBegin net) (LeadsTo net) begin_only leads_only x y first second
-
-same_twice : (net : NetList) (n m : ℕ) (x y : List ℕ) → n ≡ m → x ≡ text_of net n → y ≡ text_of net m → DrivenTwice n x ≡ DrivenTwice m y
-same_twice net n m x y same is is' = rw (is, is', same) refl
-
-same_undriven : (net : NetList) (n m : ℕ) (x y : List ℕ) → n ≡ m → x ≡ text_of net n → y ≡ text_of net m → Undriven n x ≡ Undriven m y
-same_undriven net n m x y same is is' = rw (is, is', same) refl
-
-same_loop : (net : NetList) (v w x y : List ℕ) → v ≡ w → IsLabelOfFirst net x v → IsLabelOfFirst net y w → Loop v x ≡ Loop w y
-same_loop net v w x y same (n, at, is) (m, at', is') =
-    let at'' : slice_get w 0 ≡ Some n = ap (λ ns. slice_get ns 0) (sym same) ∙ at in
-    let e : n ≡ m = cc in
-    rw (is, is', e, same) refl
 
 -- a net list whose gates drive nets has one fault at most
 one_fault : (net : NetList) → DriveNets net → (x y : NetFault) → Settles net (Err x) → Settles net (Err y) → x ≡ y

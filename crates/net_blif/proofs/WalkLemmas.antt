@@ -5,12 +5,12 @@ use Rattle.std.proofs.lemmas.Bool.{leb-true, le-leb}
 use Rattle.std.proofs.lemmas.List.{map_push}
 use Rattle.std.proofs.lemmas.List.Elements.{All-append, All-map}
 use Rattle.std.proofs.Math.Seq.{take-suc}
-use Rattle.net_core.specs.NetList.{NetList, LabelValue, nets, number_from, number_of, is_named, with_gate, with_label, with_name}
+use Rattle.net_core.specs.NetList.{NetList, nets, number_of, with_gate, with_label, with_name}
 use Rattle.net_core.specs.GateValue.{GateValue}
 use Rattle.net_core.specs.Inside.{HasNoMoreGates, IsFull}
 use Rattle.net_core.specs.declared.fault.NetFault.{NetFault}
 use Rattle.net_core.specs.declared.fault.NetFault.TheVariants as faults
-use Rattle.net_core.proofs.NameLemmas.{number_kept}
+use Rattle.net_core.proofs.NameLemmas.{number_kept, number_below}
 use Rattle.net_blif.specs.Statement.{Token}
 use Rattle.net_blif.specs.Flat.{Top, Step, Mention, Gate, on_value}
 use Rattle.net_blif.specs.NamedWalk.{after_named, gate_steps, mentions, name_of, named_gate, named_walk, number_in, HasEach, IsFaultOf}
@@ -45,15 +45,6 @@ made_step net more x ys is = ap (on_value (λ m. named_walk m ys)) is
 
 pub refused_same : (a b : Result NetList NetFault) (fault : FlatFault) → a ≡ b → IsFaultOf b fault → IsFaultOf a fault
 refused_same a b fault is h = let P : Result NetList NetFault → Type 0 = λ r. IsFaultOf r fault in subst P (sym is) h
-
--- a net's number is below their count
-number_below : (n : ℕ) (labels : List LabelValue) (name : List ℕ) (k : ℕ) → number_from n labels name ≡ Some k → k < n + length labels
-number_below n [] name k found = absurd (cc)
-number_below n (x ∷ xs) name k found =
-    elim (is_named name x) as (λ b. cond b (Some n) (number_from (n + 1) xs name) ≡ Some k → k < n + suc (length xs)) [
-      | true ↦ λ e. let same : n ≡ k = cc in omega arith
-      | false ↦ λ e. let less = number_below (n + 1) xs name k e in omega arith
-    ] found
 
 pub number_inside : (net : NetList) (name : List ℕ) (k : ℕ) → number_of net name ≡ Some k → k < nets net
 number_inside net name k found = let less = number_below 0 net.labels name k found in omega arith

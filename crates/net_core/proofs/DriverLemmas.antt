@@ -1,16 +1,19 @@
 -- How often nets are driven.
-use Rattle.std.proofs.Common.{◌≡◌, ◌≢◌, ◌⊎◌, ◌∙◌, ap, sym, refl, inl, inr, subst, ℕ, zero, suc, ◌<◌, ◌≤◌, ◌+◌, List, [], ◌∷◌, ◌++◌, length, take, get_or, min, get_or-set_other, get_or-set_same, cond, Some, map, arith}
+use Rattle.std.proofs.Common.{◌≡◌, ◌≢◌, ◌⊎◌, ◌∙◌, ap, sym, refl, inl, inr, ℕ, zero, suc, ◌<◌, ◌≤◌, ◌+◌, List, [], ◌∷◌, ◌++◌, length, take, get_or, min, get_or-set_other, get_or-set_same, cond, Some, map, arith}
 use Rattle.std.proofs.Math.ListN.{set}
-use Rattle.std.specs.Prelude.{slice_get, ◌==◌, All}
+use Rattle.std.specs.Prelude.{slice_get, ◌==◌}
 use Rattle.std.proofs.lemmas.Bool.Decides.{nat_tests, eqb_tells}
 use Rattle.std.proofs.lemmas.List.{get_or_default}
-use Rattle.std.proofs.lemmas.Option.{slice_get-map, slice_get_within, get_or_from_slice_get}
+use Rattle.std.proofs.lemmas.Option.{slice_get-map}
 use Rattle.net_core.specs.GateValue.{GateValue}
 use Rattle.net_core.specs.Lists.{Has, times}
 use Rattle.net_core.specs.NetList.{NetList, nets}
 use Rattle.net_core.specs.Inside.{IsInside, GateIsInside}
 use Rattle.net_core.specs.Sound.{sources, driven, HasOneDriverEach}
 use Rattle.graph_core.proofs.ListLemmas.{get_front}
+use Rattle.graph_core.proofs.GraphLemmas.{even}
+pub use Rattle.graph_core.proofs.GraphLemmas.{All_has}
+pub use Rattle.graph_core.proofs.RingLemmas.{from_map}
 
 pub times_append : (n : ℕ) (xs ys : List ℕ) → times n (xs ++ ys) ≡ times n xs + times n ys
 times_append n [] ys = omega arith
@@ -72,11 +75,6 @@ counts_read counts xs i net bound was read less is long within each n below =
 pub Has_map : {X Y : Type 0} (f : X → Y) (xs : List X) (x : X) → Has xs x → Has (map f xs) (f x)
 Has_map f xs x has = (has.0, slice_get-map f xs has.0 ∙ rw has.1 refl)
 
-pub from_map : {X Y : Type 0} (f : X → Y) (xs : List X) (k : ℕ) (y : Y) → slice_get (map f xs) k ≡ Some y → (x : X) × (slice_get xs k ≡ Some x) × (f x ≡ y)
-from_map f [] k y got = absurd (cc)
-from_map f (x ∷ xs) zero y got = (x, refl, cc)
-from_map f (x ∷ xs) (suc k) y got = from_map f xs k y got
-
 pub Has_cases : {X : Type 0} (xs ys : List X) (x : X) → Has (xs ++ ys) x → Has xs x ⊎ Has ys x
 Has_cases [] ys x has = inr has
 Has_cases (z ∷ zs) ys x (zero, got) = inl (0, got)
@@ -89,9 +87,6 @@ pub Has_right : {X : Type 0} (xs ys : List X) (x : X) → Has ys x → Has (xs +
 Has_right [] ys x has = has
 Has_right (z ∷ zs) ys x has = let rest = Has_right zs ys x has in (suc rest.0, rest.1)
 
-pub All_has : {X : Type 0} (P : X → Type 0) (xs : List X) (x : X) → All P xs → Has xs x → P x
-All_has P xs x all has = subst P (get_or_from_slice_get xs has.0 x x has.1) (all has.0 x (slice_get_within xs has.0 x has.1))
-
 pub gate_inside : (net : NetList) (g : GateValue) → IsInside net → Has net.gates g → GateIsInside (nets net) g
 gate_inside net g inside has = All_has (GateIsInside (nets net)) net.gates g inside.gates has
 
@@ -101,9 +96,6 @@ source_no_gate net n g inside one source gate out =
     let outs : Has (map (λ (h : GateValue). h.out) net.gates) n = rw (← out) (Has_map (λ (h : GateValue). h.out) net.gates g gate) in
     omega (arith, one n within, times_append n (sources net) (map (λ (h : GateValue). h.out) net.gates), times_get n (sources net) source.0 source.1, times_get n (map (λ (h : GateValue). h.out) net.gates) outs.0 outs.1)
 
-apart : (a b : ℕ) → (a < b → ⊥) → (b < a → ⊥) → a ≡ b
-apart a b f g = omega (arith, f, g)
-
 pub gates_apart : (net : NetList) (p q : ℕ) (g h : GateValue) → IsInside net → HasOneDriverEach net → slice_get net.gates p ≡ Some g → slice_get net.gates q ≡ Some h → g.out ≡ h.out → p ≡ q
 gates_apart net p q g h inside one first second same =
     let outs : List ℕ = map (λ (h : GateValue). h.out) net.gates in
@@ -111,7 +103,7 @@ gates_apart net p q g h inside one first second same =
     let at_p : slice_get outs p ≡ Some g.out = slice_get-map (λ (h : GateValue). h.out) net.gates p ∙ rw first refl in
     let at_q : slice_get outs q ≡ Some g.out = slice_get-map (λ (h : GateValue). h.out) net.gates q ∙ rw (second, same) refl in
     let few : times g.out outs ≤ 1 = omega (arith, one g.out within, times_append g.out (sources net) outs) in
-    apart p q (λ less. let two : 2 ≤ times g.out outs = times_two g.out outs p q at_p at_q less in omega arith) (λ less. let two : 2 ≤ times g.out outs = times_two g.out outs q p at_q at_p less in omega arith)
+    even p q (λ less. let two : 2 ≤ times g.out outs = times_two g.out outs p q at_p at_q less in omega arith) (λ less. let two : 2 ≤ times g.out outs = times_two g.out outs q p at_q at_p less in omega arith)
 
 pub driver_of : (net : NetList) (n : ℕ) → HasOneDriverEach net → n < nets net → Has (sources net) n ⊎ ((g : GateValue) × Has net.gates g × (g.out ≡ n))
 driver_of net n one less =

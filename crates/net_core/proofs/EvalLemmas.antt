@@ -49,13 +49,13 @@ inputs_below net levels all h has n input =
           omega (arith, above.2)
     ] refl
 
-abbrev value_of : List Bool → GateValue → Bool
+abbrev pub value_of : List Bool → GateValue → Bool
 value_of bits g = bit_at g.table (index_of bits g.inputs) == 1
 
-not_later : (a b q p : ℕ) → IsBefore a q b p → a ≤ b
+pub not_later : (a b q p : ℕ) → IsBefore a q b p → a ≤ b
 not_later a b q p before = grind arith
 
-not_self : (a b q p : ℕ) → a ≡ b → q ≡ p → IsBefore a q b p → ⊥
+pub not_self : (a b q p : ℕ) → a ≡ b → q ≡ p → IsBefore a q b p → ⊥
 not_self a b q p same place before = grind arith
 
 -- the next gate of the order gets its value, and the others keep theirs

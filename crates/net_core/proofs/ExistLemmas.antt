@@ -17,7 +17,7 @@ use Rattle.net_core.specs.Partial.{ArePartial, AreKnown, lacking}
 use Rattle.net_core.specs.Value.{bit_of, index_of, IsRight, IsConsistent, HasSourceBits}
 use Rattle.net_core.proofs.DriverLemmas.{driver_of, gates_apart, gate_inside, source_no_gate, All_has}
 use Rattle.net_core.proofs.LevelLemmas.{nat_eq_or, level_within, known_at, known_over, level_set_same, level_set_other, level_from_above, partial_set, lacking_set, all_found, right_level, first_partial, sources_inside}
-use Rattle.net_core.proofs.EvalLemmas.{bit_set_same, bit_set_other, index_set, index_agree, same_lists, some_level}
+use Rattle.net_core.proofs.EvalLemmas.{bit_set_same, bit_set_other, index_set, index_agree, same_lists, some_level, value_of}
 
 abbrev unmet : Bool → ℕ
 unmet false = 1
@@ -68,7 +68,7 @@ levelled_or levels (g ∷ gs) =
       ]
     ] refl
 
-chain_more : (R : ℕ → ℕ → Type 0) (a : ℕ) (rest : List ℕ) (b c : ℕ) → IsChain R a rest b → R b c → IsChain R a (rest ++ b ∷ []) c
+pub chain_more : (R : ℕ → ℕ → Type 0) (a : ℕ) (rest : List ℕ) (b c : ℕ) → IsChain R a rest b → R b c → IsChain R a (rest ++ b ∷ []) c
 chain_more R a [] b c chain step = (chain, step)
 chain_more R a (d ∷ ds) b c chain step = (chain.0, chain_more R d ds b c chain.1 step)
 
@@ -114,9 +114,6 @@ ready net levels done one inside partial no_ring (suc fuel) seen at few long les
                 ready net levels done one inside partial no_ring fuel (set seen at true) gap.0 (omega (arith, unmet_set seen at got)) (length-set seen at true ∙ long) below gap.2 (paths_more net seen at gap.0 (g.0, g.1, g.2, gap.1) paths)
           ]
     ] bit.1
-
-abbrev value_of : List Bool → GateValue → Bool
-value_of bits g = bit_at g.table (index_of bits g.inputs) == 1
 
 -- levels and bits that were found so far
 record AreBegun (net : NetList) (start : List Bool) (levels : Levels) (done : ℕ) (bits : List Bool) : Type 0 where

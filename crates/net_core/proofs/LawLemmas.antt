@@ -16,12 +16,10 @@ use Rattle.net_core.specs.declared.fault.NetFault.{NetFault}
 use Rattle.net_core.specs.declared.fault.NetFault.TheVariants.{TooManyNets, TooManyGates, DrivenTwice, Undriven, Loop, OutOfMemory}
 use Rattle.net_core.proofs.DriverLemmas.{driver_of}
 use Rattle.net_core.proofs.LevelLemmas.{nat_eq_or, level_within, level_from_above}
-use Rattle.net_core.proofs.EvalLemmas.{over_agree}
+use Rattle.net_core.proofs.EvalLemmas.{over_agree, not_self}
 use Rattle.net_core.proofs.LoopLemmas.{loop_is_ring, loop_is_only}
 use Rattle.net_core.proofs.OrderLemmas.{before_all}
-
-even : (m n : ℕ) → (m < n → ⊥) → (n < m → ⊥) → m ≡ n
-even m n f g = omega (arith, f, g)
+use Rattle.graph_core.proofs.GraphLemmas.{even, same_lists}
 
 -- a level in one list of levels is the level in another
 some_agrees : (net : NetList) (a b : Levels) → HasOneDriverEach net → AreLevels net a → AreLevels net b → (fuel n l : ℕ) → l < fuel → level_at a n ≡ Some l → level_at b n ≡ Some l
@@ -99,13 +97,13 @@ sound_no_fault net (Undriven n label) sound is = absurd (omega (arith, sound.one
 sound_no_fault net (Loop loop label) sound is = absurd (sound.no_ring (loop, loop_is_ring net loop is.1))
 sound_no_fault net OutOfMemory sound is = refl
 
-same_twice : (net : NetList) (n m : ℕ) (x y : List ℕ) → n ≡ m → x ≡ text_of net n → y ≡ text_of net m → DrivenTwice n x ≡ DrivenTwice m y
+pub same_twice : (net : NetList) (n m : ℕ) (x y : List ℕ) → n ≡ m → x ≡ text_of net n → y ≡ text_of net m → DrivenTwice n x ≡ DrivenTwice m y
 same_twice net n m x y same is is' = rw (is, is', same) refl
 
-same_undriven : (net : NetList) (n m : ℕ) (x y : List ℕ) → n ≡ m → x ≡ text_of net n → y ≡ text_of net m → Undriven n x ≡ Undriven m y
+pub same_undriven : (net : NetList) (n m : ℕ) (x y : List ℕ) → n ≡ m → x ≡ text_of net n → y ≡ text_of net m → Undriven n x ≡ Undriven m y
 same_undriven net n m x y same is is' = rw (is, is', same) refl
 
-same_loop : (net : NetList) (v w x y : List ℕ) → v ≡ w → IsLabelOfFirst net x v → IsLabelOfFirst net y w → Loop v x ≡ Loop w y
+pub same_loop : (net : NetList) (v w x y : List ℕ) → v ≡ w → IsLabelOfFirst net x v → IsLabelOfFirst net y w → Loop v x ≡ Loop w y
 same_loop net v w x y same (n, at, is) (m, at', is') =
     let at'' : slice_get w 0 ≡ Some n = ap (λ ns. slice_get ns 0) (sym same) ∙ at in
     let e : n ≡ m = cc in
@@ -141,9 +139,6 @@ one_fault net (Loop v a) OutOfMemory inside first second = inr (inl refl)
 not_before : (a b q p : ℕ) → IsBefore a q b p → IsBefore b p a q → ⊥
 not_before a b q p first second = grind arith
 
-not_itself : (a b p q : ℕ) → a ≡ b → p ≡ q → IsBefore a p b q → ⊥
-not_itself a b p q same place before = grind arith
-
 -- what stands after the k-th place in one order does not stand before it
 no_earlier : (net : NetList) (levels : Levels) (order : List ℕ) → IsOrder net levels order → (j k q p : ℕ) (h g : GateValue) → j < k → slice_get order j ≡ Some q → slice_get order k ≡ Some p → slice_get net.gates q ≡ Some h → slice_get net.gates p ≡ Some g → IsBefore (rank_at levels h.out) q (rank_at levels g.out) p
 no_earlier net levels order is j k q p h g less first second at_h at_g =
@@ -171,7 +166,7 @@ order_agrees net levels v w one two (suc bound) k p q less first second =
         let other = get_below b i (omega (arith, slice_get_within a i x got)) in
         let e : x ≡ other.0 = same i x other.0 below got other.1 in
         let early : slice_get b i ≡ Some x = other.1 ∙ ap Some (sym e) in
-        not_itself (rank_at levels f.out) (rank_at levels f.out) x x refl refl (no_earlier net levels b is i k x x f f below early here at_f at_f)
+        not_self (rank_at levels f.out) (rank_at levels f.out) x x refl refl (no_earlier net levels b is i k x x f f below early here at_f at_f)
 
     clash : (g : (f : GateValue) × (slice_get net.gates p ≡ Some f)) (h : (f : GateValue) × (slice_get net.gates q ≡ Some f)) → Has v q → Has w p → ((j x y : ℕ) → j < k → slice_get v j ≡ Some x → slice_get w j ≡ Some y → x ≡ y) → p ≢ q → ⊥
     clash g h (i, got) (j, got') same other =
@@ -184,21 +179,12 @@ order_agrees net levels v w one two (suc bound) k p q less first second =
         (no_earlier net levels v one k i p q g.0 h.0 (above k i apart not_low) first got g.1 h.1)
         (no_earlier net levels w two k j q p h.0 g.0 (above k j apart' not_low') second got' h.1 g.1)
 
-same_orders : (v w : List ℕ) → length v ≡ length w → ((k p q : ℕ) → slice_get v k ≡ Some p → slice_get w k ≡ Some q → p ≡ q) → v ≡ w
-same_orders [] [] long same = refl
-same_orders [] (y ∷ ys) long same = absurd (omega arith)
-same_orders (x ∷ xs) [] long same = absurd (omega arith)
-same_orders (x ∷ xs) (y ∷ ys) long same =
-    let head : x ≡ y = same 0 x y refl refl in
-    let tail : xs ≡ ys = same_orders xs ys (omega arith) (λ k p q first second. same (suc k) p q first second) in
-    rw (head, tail) refl
-
 -- a net has one order at most
 pub order_only : (net : NetList) (v w : List ℕ) → HasOneDriverEach net → IsLevelOrder net v → IsLevelOrder net w → v ≡ w
 order_only net v w one (a, are, first) (b, are', second) =
     let P : Levels → Type 0 = λ levels. IsOrder net levels w in
     let second' : IsOrder net a w = subst P (sym (levels_only net a b one are are')) second in
-    same_orders v w (first.long ∙ sym second.long) (λ k p q at at'. order_agrees net a v w first second' (suc k) k p q (omega arith) at at')
+    same_lists v w (first.long ∙ sym second.long) (λ k p q at at'. order_agrees net a v w first second' (suc k) k p q (omega arith) at at')
 
 some_is : (o : Option ℕ) (l : ℕ) → o ≡ Some l → IsSome o
 some_is o l is = rw is refl

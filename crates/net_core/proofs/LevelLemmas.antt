@@ -1,10 +1,9 @@
 -- Steps of levels.
-use Rattle.std.proofs.Common.{◌≡◌, ◌≢◌, ◌⊎◌, ◌∙◌, ap, sym, refl, inl, inr, subst, ℕ, zero, suc, ◌<◌, ◌≤◌, ◌+◌, max, List, [], ◌∷◌, length, drop, get_or, Option, None, Some, arith, length-set, drop-cons}
+use Rattle.std.proofs.Common.{◌≡◌, ◌≢◌, ◌∙◌, ap, sym, refl, inl, inr, subst, ℕ, zero, suc, ◌<◌, ◌≤◌, ◌+◌, max, List, [], ◌∷◌, length, drop, get_or, Option, None, Some, arith, length-set, drop-cons}
 use Rattle.std.specs.Prelude.{slice_get, unwrap_or, option_and_then, All, map}
 use Rattle.std.proofs.lemmas.List.Sums.{sum_by-cons}
 use Rattle.std.proofs.lemmas.List.Elements.{All-append, All-map, All-weaker}
 use Rattle.std.proofs.Math.ListN.{set}
-use Rattle.std.proofs.lemmas.Bool.Decides.{eqb_tells}
 use Rattle.std.proofs.lemmas.Option.{slice_get_within, get_or_from_slice_get}
 use Rattle.graph_core.specs.Graph.{Graph, edges}
 use Rattle.graph_core.specs.Arranged.{IsArranged}
@@ -19,9 +18,7 @@ use Rattle.net_core.specs.Driving.{IsGraphOf, roots_of}
 use Rattle.net_core.specs.Partial.{ArePartial, ArePositions, AreKnown, KeepsLevels, lack, lacking}
 use Rattle.graph_core.proofs.ListLemmas.{get_set_same, get_set_other, get_below, sum_by-set_at}
 use Rattle.net_core.proofs.DriverLemmas.{driver_of, Has_left, Has_map, source_no_gate, gates_apart, gate_inside}
-
-pub nat_eq_or : (a b : ℕ) → (a ≡ b) ⊎ (a ≢ b)
-nat_eq_or a b = elim (eqb_tells a b) [ inl w ↦ inl w.1 | inr w ↦ inr w.1 ]
+pub use Rattle.graph_core.proofs.GraphLemmas.{nat_eq_or}
 
 pub level_known : (levels : Levels) (n l : ℕ) → level_at levels n ≡ Some l → slice_get levels n ≡ Some (Some l)
 level_known levels n l is =

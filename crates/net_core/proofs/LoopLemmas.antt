@@ -18,7 +18,7 @@ use Rattle.net_core.specs.Levelled.{AllHaveLevels}
 use Rattle.net_core.specs.Loop.{HasLevel, of_source, of_gate, IsFirstWithout, IsBegin, LeadsTo, IsLoop}
 use Rattle.net_core.specs.Driving.{IsGraphOf, IsLoopFault, roots_of}
 use Rattle.graph_core.proofs.ListLemmas.{get_front}
-use Rattle.graph_core.proofs.GraphLemmas.{edges_within}
+use Rattle.graph_core.proofs.GraphLemmas.{edges_within, even}
 use Rattle.graph_core.proofs.LoopLemmas.{loop_ring, loop_weaker, loop_only, ring_weaker}
 use Rattle.graph_core.proofs.RingLemmas.{from_map}
 use Rattle.net_core.proofs.DriverLemmas.{driver_of, gates_apart, gate_inside, All_has}
@@ -116,9 +116,6 @@ first_of_loop net loop inside is = by loop (loop_is_ring net loop is)
     by : (ring : List ℕ) → IsRing net ring → (n : ℕ) × (slice_get ring 0 ≡ Some n) × (n < nets net)
     by [] ring = absurd ring
     by (a ∷ rest) ring = (a, refl, first_of_path a rest a ring)
-
-even : (m n : ℕ) → (m < n → ⊥) → (n < m → ⊥) → m ≡ n
-even m n f g = omega (arith, f, g)
 
 first_without_only : (net : NetList) (list : List ℕ) (b c : ℕ) → IsFirstWithout net list b → IsFirstWithout net list c → b ≡ c
 first_without_only net list b c (i, at, none, before) (j, at', none', before') =

@@ -96,7 +96,7 @@ inside_named net new text is room name none inside = rw is (inside_more net (rec
 pub inside_fresh : (net : NetList) (new : List LabelValue) (text : List ℕ) → new ≡ net.labels ++ record { text = text; named = false } ∷ [] → nets net < 2 ^ 20 → IsInside net → IsInside (record net { labels = new })
 inside_fresh net new text is room inside = rw is (inside_more net (record { text = text; named = false }) room (λ e. absurd (cc)) inside)
 
-number_below : (n : ℕ) (labels : List LabelValue) (name : List ℕ) (k : ℕ) → number_from n labels name ≡ Some k → k < n + length labels
+pub number_below : (n : ℕ) (labels : List LabelValue) (name : List ℕ) (k : ℕ) → number_from n labels name ≡ Some k → k < n + length labels
 number_below n [] name k found = absurd (cc)
 number_below n (x ∷ xs) name k found =
     elim (is_named name x) as (λ b. cond b (Some n) (number_from (n + 1) xs name) ≡ Some k → k < n + suc (length xs)) [

@@ -1,8 +1,7 @@
 -- One bit of a table is turned over.
-use Rattle.std.proofs.Common.{◌≡◌, ◌∙◌, ◌⊎◌, inl, inr, ap, sym, refl, subst, ℕ, zero, suc, ◌<◌, ◌≤◌, ◌*◌, ◌^◌, ◌%◌, List, [], ◌∷◌, ◌++◌, length, Some, arith, map}
+use Rattle.std.proofs.Common.{◌≡◌, ◌∙◌, ◌⊎◌, inl, inr, ap, sym, refl, subst, ℕ, zero, suc, ◌<◌, ◌*◌, ◌^◌, ◌%◌, List, [], ◌∷◌, ◌++◌, length, Some, map}
 use Rattle.std.specs.Prelude.{slice_get, bit_xor, All}
 use Rattle.std.proofs.Math.ListN.{set}
-use Rattle.std.proofs.Math.Pow.{pow_mono}
 use Rattle.std.proofs.lemmas.Nat.{one_shl, pow_below}
 use lib.Bits.{xor_lt}
 use Rattle.net_core.specs.GateValue.{GateValue}
@@ -17,9 +16,6 @@ use Rattle.net_core.specs.Turned.{turned_gate, turned_gates, turned}
 use Rattle.graph_core.proofs.ListLemmas.{get_below}
 use Rattle.graph_core.proofs.LoopLemmas.{ring_weaker}
 use Rattle.net_core.proofs.DriverLemmas.{All_has}
-
-pub bit_below : (n index : ℕ) → n ≤ 6 → index < 2 ^ n → index < 64
-bit_below n index few less = omega (arith, pow_mono {i = n} {j = 6} few)
 
 pub bit_is : (index : ℕ) → index < 64 → 1 * 2 ^ index % 2 ^ 64 ≡ 2 ^ index
 bit_is index less = one_shl index 64 less

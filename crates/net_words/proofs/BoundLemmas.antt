@@ -1,5 +1,5 @@
 -- What comes of binding words is bound to the net list.
-use Rattle.std.proofs.Common.{◌≡◌, ◌∙◌, ap, sym, refl, ⊎_elim, subst, append_assoc, ℕ, zero, suc, ◌<◌, ◌≤◌, ◌==◌, ◌&&◌, ◌||◌, not, List, [], ◌∷◌, ◌++◌, length, map, filter, Bool, true, false, cond, Option, Some, None, Result, Ok, Err, arith, All}
+use Rattle.std.proofs.Common.{◌≡◌, ◌∙◌, ap, sym, refl, ⊎_elim, subst, append_assoc, ℕ, zero, suc, ◌<◌, ◌≤◌, ◌==◌, ◌&&◌, ◌||◌, not, List, [], ◌∷◌, ◌++◌, length, map, filter, Bool, true, false, cond, Option, Some, None, Result, Ok, Err, arith, All, append-nil}
 use Rattle.std.proofs.lemmas.Bool.{true≢false}
 use Rattle.std.proofs.lemmas.Bool.Decides.{eqb_tells}
 use Rattle.graph_core.specs.Walk.{IsChain}
@@ -106,21 +106,17 @@ nets_added net word role taken before [] whole taken' is =
     let P : List ℕ → Type 0 = λ xs. AreApart xs in
     record {
       more = [];
-      whole_is = ap (λ p. p.0) is ∙ sym (append_nil before);
+      whole_is = ap (λ p. p.0) is ∙ sym (append-nil before);
       taken_is = taken_same ∙ sym (none_added role taken);
       long = refl;
       stand = λ n has. absurd (let got = has.1 in cc);
       apart = λ apart. subst P (sym taken_same) apart;
     }
   where
-    append_nil : (xs : List ℕ) → xs ++ [] ≡ xs
-    append_nil [] = refl
-    append_nil (x ∷ xs) = ap (λ rest. x ∷ rest) (append_nil xs)
-
     none_added : (r : Role) (xs : List ℕ) → xs ++ bits_with r [] ≡ xs
-    none_added Input xs = append_nil xs
-    none_added State xs = append_nil xs
-    none_added Output xs = append_nil xs
+    none_added Input xs = append-nil xs
+    none_added State xs = append-nil xs
+    none_added Output xs = append-nil xs
 nets_added net word role taken before (name ∷ names) whole taken' is =
     let n : ℕ = is.0 in
     let placed : IsPlaced net role taken n = place_placed net word (length before) taken role name (number_of net name) n refl is.1 in
@@ -173,8 +169,8 @@ words_added net taken before [] whole taken' is =
     let P : List ℕ → Type 0 = λ xs. AreApart xs in
     record {
       more = [];
-      whole_is = ap (λ p. p.0) is ∙ sym (append_nil before);
-      taken_is = taken_same ∙ sym (append_nil taken);
+      whole_is = ap (λ p. p.0) is ∙ sym (append-nil before);
+      taken_is = taken_same ∙ sym (append-nil taken);
       long = refl;
       each = λ k all i d below. absurd (omega arith);
       outputs = refl;
@@ -182,10 +178,6 @@ words_added net taken before [] whole taken' is =
       places = λ word n has. absurd (let got = has.1 in cc);
       apart = λ apart. subst P (sym taken_same) apart;
     }
-  where
-    append_nil : {X : Type 0} (xs : List X) → xs ++ [] ≡ xs
-    append_nil [] = refl
-    append_nil (x ∷ xs) = ap (λ rest. x ∷ rest) (append_nil xs)
 words_added net taken before (word ∷ words) whole taken' is =
     let list : List ℕ × List ℕ = is.0 in
     let bound : BoundWord = bound_word word list.0 in
@@ -257,7 +249,8 @@ covered_reach net words n inside covered has free reaches =
     uncovered true false c ea eb ec = ec
     uncovered false b c ea eb ec = absurd (cc)
 
-first_long : (k : ℕ) (words : List WordText) → AreWords k words → bits_of words ≡ k
+-- the first word has k nets, as each has
+pub first_long : (k : ℕ) (words : List WordText) → AreWords k words → bits_of words ≡ k
 first_long k [] are = absurd (omega (arith, are.one))
 first_long k (word ∷ words) are = are.each 0 word (omega arith)
 

@@ -21,7 +21,8 @@ bits_step words i d list new whole less is same =
     let word : BoundWord = get_or words i d in
     ap (λ xs. xs ++ bits (drop (i + 1) words)) is ∙ join list (bits_with word.role word.nets) (bits (drop (i + 1) words)) ∙ ap (λ ws. list ++ bits ws) (sym (drop_more words i d less)) ∙ same
 
-range_more : (a n : ℕ) → range_with_len a (suc n) ≡ range_with_len a n ++ (a + n) ∷ []
+-- a range with one more number
+pub range_more : (a n : ℕ) → range_with_len a (suc n) ≡ range_with_len a n ++ (a + n) ∷ []
 range_more a zero = ap (λ m. m ∷ []) (omega arith)
 range_more a (suc n) = ap (λ xs. a ∷ xs) (range_more (a + 1) n ∙ ap (λ m. range_with_len (a + 1) n ++ m ∷ []) (omega arith))
 

@@ -1,5 +1,5 @@
 -- Lists that go together place by place, while they grow.
-use Rattle.std.proofs.Common.{◌≡◌, ◌∙◌, ap, sym, refl, subst, ℕ, zero, suc, ◌<◌, ◌≤◌, ◌+◌, List, [], ◌∷◌, ◌++◌, length, map, take, get_or, arith, add-one, All}
+use Rattle.std.proofs.Common.{◌≡◌, ◌∙◌, ap, sym, refl, subst, ℕ, zero, suc, ◌<◌, ◌≤◌, ◌+◌, List, [], ◌∷◌, ◌++◌, length, map, take, get_or, arith, add-one, All, take_all}
 use Rattle.std.proofs.Math.Seq.{take-suc}
 use Rattle.std.specs.List.{AllZip}
 
@@ -36,13 +36,7 @@ pub map-front : {A B : Type 0} (f : A → B) (xs : List A) (i : ℕ) (d : A) →
 map-front f xs i d less = rw add-one (ap (map f) (take-suc xs i d less) ∙ map-push f (take i xs) (get_or xs i d))
 
 pub map-all : {A B : Type 0} (f : A → B) (xs : List A) (i : ℕ) → length xs ≤ i → map f (take i xs) ≡ map f xs
-map-all f xs i past = ap (map f) (take-past xs i past)
-  where
-    take-past : {A : Type 0} (xs : List A) (i : ℕ) → length xs ≤ i → take i xs ≡ xs
-    take-past [] zero past = refl
-    take-past [] (suc i) past = refl
-    take-past (x ∷ xs) zero past = absurd (omega arith)
-    take-past (x ∷ xs) (suc i) past = ap (λ ys. x ∷ ys) (take-past xs i (omega arith))
+map-all f xs i past = ap (map f) (take_all i xs past)
 
 pub map-get : {A B : Type 0} (f : A → B) (xs : List A) (i : ℕ) (d : A) (e : B) → i < length xs → get_or (map f xs) i e ≡ f (get_or xs i d)
 map-get f [] i d e less = absurd (omega arith)

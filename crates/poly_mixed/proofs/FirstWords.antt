@@ -10,7 +10,7 @@ use Rattle.poly_mixed.specs.Uniqueness.{IsZeros, InFirstWords, Unique}
 use Rattle.poly_mixed.proofs.FieldLaws.{IsField}
 use Rattle.poly_mixed.proofs.Filtered.{filter_reduced}
 use Rattle.poly_mixed.proofs.Uniqueness.{zero_powers}
-use Rattle.poly_mixed.proofs.Values.{zero_element, product_zero, power_element, powers_element}
+use Rattle.poly_mixed.proofs.Values.{zero_element, product_zero, power_element, powers_element, product_by_zero}
 
 -- the first n elements, and 0 for the others
 abbrev pub first_words : ℕ → List ℕ → List ℕ
@@ -46,9 +46,6 @@ abbrev ends_early : ℕ → Monomial × ℕ → Bool
 ends_early n t = all_zero (drop n t.0.exponents)
 
 module _ {degree : ℕ} {mul : ℕ → ℕ → ℕ} (f : IsField degree mul) where
-  product_by_zero : (x : ℕ) → IsElement degree x → mul x 0 ≡ 0
-  product_by_zero x h = f.comm x 0 h (zero_element f) ∙ product_zero f x h
-
   first_elements : (n : ℕ) (ws : List ℕ) → AllByRecursion (IsElement degree) ws → AllByRecursion (IsElement degree) (first_words n ws)
   first_elements zero [] all = tt
   first_elements zero (w ∷ ws) all = (zero_element f, first_elements zero ws all.1)
@@ -78,7 +75,7 @@ module _ {degree : ℕ} {mul : ℕ → ℕ → ℕ} (f : IsField degree mul) whe
   gone (suc n) [] ws l all h = cc
   gone (suc n) (e ∷ es) [] l all h = absurd (omega arith)
   gone (suc n) (e ∷ es) (w ∷ ws) l all h =
-      ap (mul (power mul w e)) (gone n es ws (omega arith) all.1 h) ∙ product_by_zero (power mul w e) (power_element f w e all.0)
+      ap (mul (power mul w e)) (gone n es ws (omega arith) all.1 h) ∙ product_by_zero f (power mul w e) (power_element f w e all.0)
 
   early_value : (n : ℕ) (p : Point) (ts : Terms) → IsPoint degree p → AllByRecursion (IsTerm degree) ts → value mul (first_point n p) ts ≡ value mul p (filter (ends_early n) ts)
   early_value n p [] at all = refl
@@ -90,7 +87,7 @@ module _ {degree : ℕ} {mul : ℕ → ℕ → ℕ} (f : IsField degree mul) whe
         | false ↦ λ e.
             let nothing = gone n t.0.exponents p.words (all.0.monomial.words ∙ sym at.words) at.elements e in
             let none : term_value mul (first_point n p) t ≡ 0 =
-            ap (λ x. cond (list_all p.is_one t.0.bits) x 0) (ap (mul t.1) nothing ∙ product_by_zero t.1 all.0.element)
+            ap (λ x. cond (list_all p.is_one t.0.bits) x 0) (ap (mul t.1) nothing ∙ product_by_zero f t.1 all.0.element)
             ∙ elim (list_all p.is_one t.0.bits) as (λ b. ◌≡◌ {A = ℕ} (cond b 0 0) 0) [ true ↦ refl | false ↦ refl ] in
             ap (λ x. bit_xor x (value mul (first_point n p) ts)) none ∙ xor_zero_l (value mul (first_point n p) ts) ∙ early_value n p ts at all.1
       ] refl

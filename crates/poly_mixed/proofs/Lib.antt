@@ -1,5 +1,6 @@
 pub mod FieldLaws
 pub mod Monomials
+pub mod Ranks
 pub mod Terms
 pub mod Sums
 pub mod Values
@@ -26,4 +27,5 @@ pub mod Scanned
 pub mod Chain
 pub mod ReadBack
 pub mod TextLaws
+pub mod Recorders
 mod Examples

@@ -3,7 +3,7 @@ use Rattle.std.proofs.Common.{◌≡◌, ℕ, ◌<◌, Bool, true, false, cond, 
 use Rattle.std.proofs.lemmas.Bool.{eqb-true, eq-eqb, ne_eqb, cases_order, lt-ltb, le-ltb, or_parts, eqb-false}
 use Rattle.std.specs.declared.cmp.Ordering.{Ordering}
 use Rattle.std.specs.declared.cmp.Ordering.TheVariants.{Less, Equal, Greater}
-use Rattle.std.specs.Cmp.{nat_cmp_total, tied_itself, ranked}
+use Rattle.std.specs.Cmp.{nat_cmp_total, tied_itself}
 use Rattle.std.specs.Ordering.{nat_cmp, ordering_then, ordering_reverse, eq_by_cmp, is_eq}
 use Rattle.std.specs.List.{AllByRecursion, list_any, filter}
 use Rattle.std.specs.List.Sorted.{IsStrictlySortedBy}
@@ -14,22 +14,10 @@ use Rattle.poly_mixed.specs.Polynomial.{Terms, coefficient, IsMap}
 use Rattle.poly_mixed.specs.Product.{with_rank}
 use Rattle.poly_mixed.specs.Cofactor.{with_bit, without_bit, cofactors, IsCofactor}
 use Rattle.poly_mixed.proofs.Monomials.{text_cmp-same}
-
-abbrev Above : ℕ → List ℕ → Type 0
-Above x rs = AllByRecursion (λ y. nat_cmp x y ≡ Less) rs
-
-less : (x y : ℕ) → nat_cmp x y ≡ Less → x < y
-less x y e = ranked x y Less (sym e)
-
-is_less : (x y : ℕ) → x < y → nat_cmp x y ≡ Less
-is_less x y h = rw (lt-ltb x y h)
+use Rattle.poly_mixed.proofs.Ranks.{Above, from_less, is_less, above_trans}
 
 is_greater : (x y : ℕ) → y < x → nat_cmp x y ≡ Greater
 is_greater x y h = nat_cmp_total.antisymm x y ∙ ap ordering_reverse (is_less y x h)
-
-above_trans : (x y : ℕ) (rs : List ℕ) → nat_cmp x y ≡ Less → Above y rs → Above x rs
-above_trans x y [] l up = tt
-above_trans x y (z ∷ rs) l up = (nat_cmp_total.trans x y z l up.0, above_trans x y rs l up.1)
 
 abbrev drops : ℕ → List ℕ → List ℕ
 drops bit rs = filter (λ r. not (nat_eq r bit)) rs
@@ -40,7 +28,7 @@ holds bit rs = list_any (λ r. nat_eq r bit) rs
 -- a list of ranks above the bit lacks it
 above_lacks : (bit : ℕ) (rs : List ℕ) → Above bit rs → holds bit rs ≡ false
 above_lacks bit [] up = refl
-above_lacks bit (r ∷ rs) up = (λ i. ne_eqb r bit (λ e. let l = less bit r up.0 in omega arith) i || holds bit rs) ∙ above_lacks bit rs up.1
+above_lacks bit (r ∷ rs) up = (λ i. ne_eqb r bit (λ e. let l = from_less bit r up.0 in omega arith) i || holds bit rs) ∙ above_lacks bit rs up.1
 
 -- a list without the bit stays
 lacks_stays : (bit : ℕ) (rs : List ℕ) → holds bit rs ≡ false → drops bit rs ≡ rs
@@ -88,7 +76,7 @@ drops_with_rank (x ∷ xs) bit h =
 
 with_rank_first : (bit : ℕ) (rs : List ℕ) → Above bit rs → with_rank rs bit ≡ bit ∷ rs
 with_rank_first bit [] up = refl
-with_rank_first bit (r ∷ rs) up = λ i. cond (lt-ltb bit r (less bit r up.0) i) (bit ∷ r ∷ rs) (cond (bit == r) (r ∷ rs) (r ∷ with_rank rs bit))
+with_rank_first bit (r ∷ rs) up = λ i. cond (lt-ltb bit r (from_less bit r up.0) i) (bit ∷ r ∷ rs) (cond (bit == r) (r ∷ rs) (r ∷ with_rank rs bit))
 
 with_rank_drops : (rs : List ℕ) (bit : ℕ) → IsStrictlySortedBy nat_cmp rs → holds bit rs ≡ true → with_rank (drops bit rs) bit ≡ rs
 unfolding IsStrictlySortedBy
@@ -100,7 +88,7 @@ with_rank_drops (x ∷ xs) bit s h =
           let up : Above bit xs = (let P : ℕ → Type 0 = λ n. Above n xs in subst P same s.0) in
           ap (λ ys. with_rank ys bit) (lacks_stays bit xs (above_lacks bit xs up)) ∙ with_rank_first bit xs up ∙ ap (λ n. n ∷ xs) (sym same)
       | false ↦ λ e k.
-          let l : x < bit = less x bit (member x bit xs s.0 k) in
+          let l : x < bit = from_less x bit (member x bit xs s.0 k) in
           (λ i. cond (le-ltb bit x (omega arith) i) (bit ∷ x ∷ drops bit xs) (cond (bit == x) (x ∷ drops bit xs) (x ∷ with_rank (drops bit xs) bit)))
           ∙ (λ i. cond (ne_eqb bit x (λ h. omega arith) i) (x ∷ drops bit xs) (x ∷ with_rank (drops bit xs) bit))
           ∙ ap (λ ys. x ∷ ys) (with_rank_drops xs bit s.1 k)

@@ -2,27 +2,19 @@
 use Rattle.std.proofs.Common.{◌≡◌, ℕ, zero, suc, ◌+◌, ◌<◌, ◌≤◌, Bool, true, false, cond, ◌||◌, List, [], ◌∷◌, ◌++◌, length, nat_eq, inl, inr, refl, sym, ◌∙◌, ap, subst, arith}
 use Rattle.std.specs.declared.cmp.Ordering.{Ordering}
 use Rattle.std.specs.declared.cmp.Ordering.TheVariants.{Less, Equal, Greater}
-use Rattle.std.specs.Cmp.{nat_cmp_total, tied_itself, ranked}
+use Rattle.std.specs.Cmp.{nat_cmp_total, tied_itself}
 use Rattle.std.specs.Ordering.{nat_cmp, ordering_then, ordering_reverse}
 use Rattle.std.specs.List.{AllByRecursion, list_any}
 use Rattle.std.specs.List.Sorted.{IsStrictlySortedBy}
-use Rattle.std.proofs.lemmas.Bool.{eq-eqb, ne_eqb, lt-ltb, cases_eq}
+use Rattle.std.proofs.lemmas.Bool.{eq-eqb, ne_eqb, cases_eq}
 use Rattle.poly_mixed.specs.Monomial.{Monomial, exponents_cmp, ranks_cmp, text_cmp}
 use Rattle.poly_mixed.specs.Order.{exponents_from, exponent_list, HasRanksBelow}
-
-less : (x y : ℕ) → nat_cmp x y ≡ Less → x < y
-less x y e = ranked x y Less (sym e)
-
-is_less : (x y : ℕ) → x < y → nat_cmp x y ≡ Less
-is_less x y h = rw (lt-ltb x y h)
-
-abbrev Above : ℕ → List ℕ → Type 0
-Above x rs = AllByRecursion (λ y. nat_cmp x y ≡ Less) rs
+use Rattle.poly_mixed.proofs.Ranks.{Above, from_less, is_less}
 
 not_in : (x i : ℕ) (rs : List ℕ) → i ≤ x → Above x rs → list_any (λ r. nat_eq r i) rs ≡ false
 not_in x i [] l up = refl
 not_in x i (r ∷ rs) l up =
-    let apart : nat_eq r i ≡ false = ne_eqb r i (λ e. let g = less x r up.0 in omega arith) in
+    let apart : nat_eq r i ≡ false = ne_eqb r i (λ e. let g = from_less x r up.0 in omega arith) in
     ap (λ b. b || list_any (λ r. nat_eq r i) rs) apart ∙ not_in x i rs l up.1
 
 -- what a rising list that starts at i or above has at i
@@ -49,7 +41,7 @@ moved i n (x ∷ xs) all = (let h = all.0 in omega arith, moved i n xs all.1)
 
 above_from : (x i : ℕ) (xs : List ℕ) → i ≤ x → Above x xs → AllByRecursion (λ y. i + 1 ≤ y) xs
 above_from x i [] l up = tt
-above_from x i (y ∷ ys) l up = (let h = less x y up.0 in omega arith, above_from x i ys l up.1)
+above_from x i (y ∷ ys) l up = (let h = from_less x y up.0 in omega arith, above_from x i ys l up.1)
 
 tail_within : (i n x : ℕ) (xs : List ℕ) → IsWithin i (suc n) (x ∷ xs) → IsWithin (i + 1) n xs
 unfolding IsStrictlySortedBy

@@ -1,8 +1,7 @@
 -- The values of products.
 use Rattle.std.proofs.Common.{◌≡◌, ℕ, zero, suc, ◌+◌, ◌-◌, ◌<◌, ◌≤◌, ◌^◌, Bool, true, false, cond, ◌&&◌, ◌==◌, List, [], ◌∷◌, length, nat_lt, ◌≢◌, bit_xor, refl, sym, ◌∙◌, ap, subst, arith, inl, inr}
-use Rattle.std.proofs.lemmas.Bool.{ltb-true, ltb-false, eqb-true, eqb-false, lt-ltb, cases_order}
+use Rattle.std.proofs.lemmas.Bool.{ltb-true, ltb-false, eqb-true, eqb-false, cases_order}
 use Rattle.std.specs.declared.cmp.Ordering.TheVariants.{Less}
-use Rattle.std.specs.Cmp.{nat_cmp_total}
 use Rattle.std.specs.Ordering.{nat_cmp}
 use Rattle.std.specs.List.Sorted.{IsStrictlySortedBy}
 use Rattle.std.proofs.lemmas.Nat.{pow_pos}
@@ -17,6 +16,7 @@ use Rattle.gf_field.specs.Power.{power}
 use Rattle.poly_mixed.specs.Sum.{plus_term}
 use Rattle.poly_mixed.specs.Product.{add_exponent, add_exponents, with_rank, union, times, AddsProduct}
 use Rattle.poly_mixed.proofs.Values.{power_element, powers_element, one_element, product_zero, zero_element, value-plus, reduced_plus}
+use Rattle.poly_mixed.proofs.Ranks.{Above, above_trans, is_less}
 
 -- ---- ranks
 
@@ -29,7 +29,7 @@ and_twice : (a b : Bool) → ((a && b) && a) ≡ (a && b)
 and_twice true b = elim b as (λ v. (v && true) ≡ v) [ true ↦ refl | false ↦ refl ]
 and_twice false b = refl
 
-and_assoc : (a b c : Bool) → ((a && b) && c) ≡ (a && (b && c))
+pub and_assoc : (a b c : Bool) → ((a && b) && c) ≡ (a && (b && c))
 and_assoc true b c = refl
 and_assoc false b c = refl
 
@@ -121,9 +121,6 @@ module _ {degree : ℕ} {mul : ℕ → ℕ → ℕ} (f : IsField degree mul) whe
 
 -- ---- ranks rise
 
-abbrev Above : ℕ → List ℕ → Type 0
-Above x rs = AllByRecursion (λ y. nat_cmp x y ≡ Less) rs
-
 above_by : (x : ℕ) (rs : List ℕ) (r : ℕ) → nat_cmp x r ≡ Less → Above x rs → Above x (with_rank rs r)
 above_by x [] r l up = (l, tt)
 above_by x (y ∷ ys) r l up =
@@ -131,13 +128,6 @@ above_by x (y ∷ ys) r l up =
       | true ↦ (l, up)
       | false ↦ elim (r == y) as (λ b. Above x (cond b (y ∷ ys) (y ∷ with_rank ys r))) [ true ↦ up | false ↦ (up.0, above_by x ys r l up.1) ]
     ]
-
-above_trans : (x y : ℕ) (rs : List ℕ) → nat_cmp x y ≡ Less → Above y rs → Above x rs
-above_trans x y [] l up = tt
-above_trans x y (z ∷ rs) l up = (nat_cmp_total.trans x y z l up.0, above_trans x y rs l up.1)
-
-is_less : (x y : ℕ) → x < y → nat_cmp x y ≡ Less
-is_less x y h = rw (lt-ltb x y h)
 
 pub rising-with_rank : (xs : List ℕ) (r : ℕ) → IsStrictlySortedBy nat_cmp xs → IsStrictlySortedBy nat_cmp (with_rank xs r)
 unfolding IsStrictlySortedBy

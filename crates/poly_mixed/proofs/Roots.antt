@@ -10,7 +10,7 @@ use Rattle.gf_field.specs.Power.{power}
 use Rattle.gf_field.specs.Roots.{value, HasFewRoots}
 use Rattle.poly_mixed.specs.Sum.{xor_sum}
 use Rattle.gf_field.specs.XorLaws.{xor_swap}
-use Rattle.poly_mixed.proofs.Values.{zero_element, one_element, power_element, product_zero}
+use Rattle.poly_mixed.proofs.Values.{zero_element, one_element, power_element, product_by_zero}
 
 -- c more at the power e
 abbrev add_at : ℕ → ℕ → List ℕ → List ℕ
@@ -76,9 +76,6 @@ module _ {degree : ℕ} {mul : ℕ → ℕ → ℕ} (f : IsField degree mul) whe
   add_at_elements (suc e) c [] h all = (zero_element f, add_at_elements e c [] h tt)
   add_at_elements (suc e) c (d ∷ cs) h all = (all.0, add_at_elements e c cs h all.1)
 
-  times_zero : (x : ℕ) → IsElement degree x → mul x 0 ≡ 0
-  times_zero x h = f.comm x 0 h (zero_element f) ∙ product_zero f x h
-
   times_sum : (x y z : ℕ) → IsElement degree x → IsElement degree y → IsElement degree z → mul x (bit_xor y z) ≡ bit_xor (mul x y) (mul x z)
   times_sum x y z hx hy hz = f.comm x (bit_xor y z) hx (xor_lt degree y z hy hz) ∙ f.distrib y z x hy hz hx ∙ (λ i. bit_xor (f.comm y x hy hx i) (f.comm z x hz hx i))
 
@@ -91,7 +88,7 @@ module _ {degree : ℕ} {mul : ℕ → ℕ → ℕ} (f : IsField degree mul) whe
 
   horner-add_at : (e c x : ℕ) (cs : List ℕ) → IsElement degree x → IsElement degree c → AllByRecursion (IsElement degree) cs → value mul (add_at e c cs) x ≡ bit_xor (mul c (power mul x e)) (value mul cs x)
   unfolding power
-  horner-add_at zero c x [] hx hc all = ap (bit_xor c) (times_zero x hx) ∙ ap (λ n. bit_xor n 0) (sym (f.comm c 1 hc (one_element f) ∙ f.neutral c hc))
+  horner-add_at zero c x [] hx hc all = ap (bit_xor c) (product_by_zero f x hx) ∙ ap (λ n. bit_xor n 0) (sym (f.comm c 1 hc (one_element f) ∙ f.neutral c hc))
   horner-add_at zero c x (d ∷ cs) hx hc all = xor_assoc c d (mul x (value mul cs x)) ∙ ap (λ n. bit_xor n (bit_xor d (mul x (value mul cs x)))) (sym (f.comm c 1 hc (one_element f) ∙ f.neutral c hc))
   horner-add_at (suc e) c x [] hx hc all =
       xor_zero_l _ ∙ ap (mul x) (horner-add_at e c x [] hx hc tt ∙ xor_zero_r (mul c (power mul x e))) ∙ shift x c e hx hc ∙ sym (xor_zero_r (mul c (power mul x (suc e))))

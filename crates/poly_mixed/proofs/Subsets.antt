@@ -1,11 +1,12 @@
 -- Rising lists of ranks as sets.
 use Rattle.std.proofs.Common.{◌≡◌, ℕ, ◌<◌, Bool, true, false, ◌||◌, List, [], ◌∷◌, length, ◌⊎◌, inl, inr, refl, sym, ◌∙◌, ap, subst, arith, nat_eq}
 use Rattle.std.specs.declared.cmp.Ordering.TheVariants.{Less}
-use Rattle.std.specs.Cmp.{ranked, nat_cmp_total}
+use Rattle.std.specs.Cmp.{nat_cmp_total}
 use Rattle.std.specs.Ordering.{nat_cmp}
 use Rattle.std.specs.List.{AllByRecursion, list_all, list_any}
 use Rattle.std.specs.List.Sorted.{IsStrictlySortedBy}
 use Rattle.std.proofs.lemmas.Bool.{eqb-true, eq-eqb, ne_eqb, and_parts, and_from, or_cases, or_left, or_right}
+use Rattle.poly_mixed.proofs.Ranks.{from_less}
 
 abbrev pub is_in : List ℕ → ℕ → Bool
 is_in s r = list_any (λ x. nat_eq x r) s
@@ -13,15 +14,12 @@ is_in s r = list_any (λ x. nat_eq x r) s
 abbrev IsRising : List ℕ → Type 0
 IsRising = IsStrictlySortedBy nat_cmp
 
-less : (x y : ℕ) → nat_cmp x y ≡ Less → x < y
-less x y e = ranked x y Less (sym e)
-
 -- ranks above r are in the set without_bit it
 above : (r : ℕ) (s xs : List ℕ) → AllByRecursion (λ y. nat_cmp r y ≡ Less) xs → list_all (is_in (r ∷ s)) xs ≡ true → list_all (is_in s) xs ≡ true
 above r s [] up h = refl
 above r s (x ∷ xs) up h =
     let parts = and_parts (is_in (r ∷ s) x) (list_all (is_in (r ∷ s)) xs) h in
-    let apart : nat_eq r x ≡ false = ne_eqb r x (λ e. let l = less r x up.0 in omega arith) in
+    let apart : nat_eq r x ≡ false = ne_eqb r x (λ e. let l = from_less r x up.0 in omega arith) in
     and_from (is_in s x) (list_all (is_in s) xs) (sym (ap (λ b. b || is_in s x) apart) ∙ parts.0) (above r s xs up.1 parts.1)
 
 all_above : (r x : ℕ) (xs : List ℕ) → nat_cmp r x ≡ Less → AllByRecursion (λ y. nat_cmp x y ≡ Less) xs → AllByRecursion (λ y. nat_cmp r y ≡ Less) xs

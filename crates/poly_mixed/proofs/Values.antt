@@ -41,6 +41,9 @@ module _ {degree : ℕ} {mul : ℕ → ℕ → ℕ} (f : IsField degree mul) whe
   pub product_zero : (x : ℕ) → IsElement degree x → mul 0 x ≡ 0
   product_zero x h = f.distrib 0 0 x zero_element zero_element h ∙ xor_self (mul 0 x)
 
+  pub product_by_zero : (x : ℕ) → IsElement degree x → mul x 0 ≡ 0
+  product_by_zero x h = f.comm x 0 h zero_element ∙ product_zero x h
+
   pub term_value-additive : (p : Point) → IsPoint degree p → IsAdditive (IsElement degree) (term_value mul p)
   term_value-additive p at = record {
     sums = λ m c d hc hd.

@@ -11,7 +11,7 @@ use Rattle.net_core.specs.Lists.{Has}
 use Rattle.net_core.specs.Sound.{IsSound}
 use Rattle.net_core.specs.Level.{Levels, AreLevels}
 use Rattle.net_core.specs.Levelled.{AllHaveLevels}
-use Rattle.net_core.specs.Order.{rank_at, IsBefore, IsOrder, IsElimination}
+use Rattle.net_core.specs.Order.{rank_at, IsOrder, IsElimination}
 use Rattle.net_core.specs.Value.{bit_of, index_of, IsRight}
 use Rattle.net_core.proofs.DriverLemmas.{gates_apart, gate_inside, All_has}
 use Rattle.net_core.proofs.EvalLemmas.{inputs_below}
@@ -27,6 +27,7 @@ use Rattle.stage_model.specs.Cut.{IsAmongFirst, IsSettled, IsCut}
 use Rattle.stage_model.specs.Stage.{IsOfStage}
 use Rattle.rato_reduce.specs.GatePoint.{gate_bit, with_gate, HasGatePutIn}
 use Rattle.rato_reduce.proofs.Ranks.{rank_apart}
+use Rattle.net_core.proofs.EvalLemmas.{not_self, not_later}
 
 -- the output word's element, where the first t gates of this order are settled
 pub record Settled (net : NetList) (variables : List ℕ) (output : Word) (order : List ℕ) (t : ℕ) (p : Point) (e : ℕ) : Type 0 where
@@ -61,12 +62,6 @@ reversed order i p at =
     let place : length order - 1 - (length order - 1 - i) ≡ i = omega arith in
     let there : slice_get (reverse order) (length order - 1 - i) ≡ Some (get_or (reverse order) (length order - 1 - i) 0) = slice_get-get_or (reverse order) (length order - 1 - i) 0 (omega arith) in
     there ∙ ap Some (get_or-reverse order (length order - 1 - i) 0 (omega arith) ∙ ap (λ k. get_or order k 0) place ∙ get_or_from_slice_get order i p 0 at)
-
-not_self : (a b q p : ℕ) → a ≡ b → q ≡ p → IsBefore a q b p → ⊥
-not_self a b q p same place before = grind arith
-
-not_later : (a b q p : ℕ) → IsBefore a q b p → a ≤ b
-not_later a b q p before = grind arith
 
 module _ (net : NetList) (sound : IsSound net) (levels : Levels) (are : AreLevels net levels) (order : List ℕ) (is : IsOrder net levels (reverse order)) where
   -- gates that are eliminated before a gate do not stand below it, and drive other nets

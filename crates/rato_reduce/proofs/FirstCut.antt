@@ -1,5 +1,5 @@
 -- The first cut: all nets are free.
-use Rattle.std.proofs.Common.{◌≡◌, ℕ, zero, suc, ◌<◌, ◌≤◌, ◌+◌, ◌*◌, ◌/◌, ◌%◌, ◌^◌, Bool, true, false, cond, List, [], ◌∷◌, length, get_or, take, bit_xor, refl, sym, ap, subst, ◌∙◌, arith}
+use Rattle.std.proofs.Common.{◌≡◌, ℕ, zero, suc, ◌<◌, ◌+◌, ◌*◌, ◌/◌, ◌%◌, ◌^◌, Bool, true, false, cond, List, [], ◌∷◌, length, get_or, take, bit_xor, sym, ap, subst, ◌∙◌, arith}
 use lib.Bits.{xor_zero_l, xor_zero_r, xor_assoc}
 use Rattle.irreducible.specs.Span.{combination}
 use Rattle.net_core.specs.NetList.{NetList, nets}
@@ -35,12 +35,6 @@ sum_more f (b ∷ bs) (n ∷ ns) (suc i) l m =
     ∙ (ap (bit_xor (cond (f n) b 0)) (sum_more f bs ns i (omega arith) (omega arith))
     ∙ (sym (xor_assoc (cond (f n) b 0) (combination (take i bs) less) (cond (f (get_or ns i 0)) (get_or bs i 0) 0))
     ∙ sym (λ j. bit_xor (bit_xor (low (f n) less b j) (combination (take i bs) (half (f n) less j))) (cond (f (get_or ns i 0)) (get_or bs i 0) 0))))
-
-pub take_whole : {A : Type 0} (xs : List A) (n : ℕ) → length xs ≤ n → take n xs ≡ xs
-take_whole [] zero e = refl
-take_whole [] (suc n) e = refl
-take_whole (r ∷ rs) zero e = absurd (omega arith)
-take_whole (r ∷ rs) (suc n) e = ap (λ xs. r ∷ xs) (take_whole rs n (omega arith))
 
 module _ (net : NetList) (variables : List ℕ) (output : Word) (order : List ℕ) (k : ℕ) (mul : ℕ → ℕ → ℕ) where
   -- terms whose value is the sum of the basis elements at the point's bits of the word are of the first cut

@@ -1,5 +1,5 @@
 -- The nets of the output word, word by word and place by place.
-use Rattle.std.proofs.Common.{◌≡◌, ℕ, zero, suc, ◌<◌, ◌+◌, ◌≤◌, cond, List, [], ◌∷◌, ◌++◌, length, get_or, take, drop, filter, Some, inl, inr, refl, sym, ap, subst, ◌∙◌, arith}
+use Rattle.std.proofs.Common.{◌≡◌, ℕ, zero, suc, ◌<◌, ◌+◌, ◌≤◌, cond, List, [], ◌∷◌, ◌++◌, length, get_or, take, drop, filter, Some, inl, inr, refl, sym, ap, subst, ◌∙◌, arith, append-nil, drop_of_length-le}
 use Rattle.std.specs.Prelude.{slice_get}
 use Rattle.std.proofs.lemmas.List.{append_assoc, length-append}
 use Rattle.net_core.specs.Lists.{Has}
@@ -42,17 +42,7 @@ one_word words w word before after at new so_far =
     ∙ (ap (λ ns. before ++ ns) (sym (from_word words w word at)) ∙ so_far))
 
 pub no_word : (words : List BoundWord) (w : ℕ) (before : List ℕ) → length words ≤ w → before ++ output_bits (drop w words) ≡ output_bits words → before ≡ output_bits words
-no_word words w before past so_far = sym (nothing before) ∙ (ap (λ us. before ++ output_bits us) (sym (past_end words w past)) ∙ so_far)
-  where
-    nothing : (ns : List ℕ) → ns ++ [] ≡ ns
-    nothing [] = refl
-    nothing (n ∷ ns) = ap (λ ms. n ∷ ms) (nothing ns)
-
-    past_end : (us : List BoundWord) (v : ℕ) → length us ≤ v → drop v us ≡ []
-    past_end [] zero l = refl
-    past_end [] (suc v) l = refl
-    past_end (u ∷ us) zero l = absurd (omega arith)
-    past_end (u ∷ us) (suc v) l = past_end us v (omega arith)
+no_word words w before past so_far = sym (append-nil before) ∙ (ap (λ us. before ++ output_bits us) (sym (drop_of_length-le words past)) ∙ so_far)
 
 abbrev pub outputs : List BoundWord → ℕ
 outputs words = length (filter (λ word. same_role word.role Output) words)

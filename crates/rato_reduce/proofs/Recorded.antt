@@ -1,7 +1,6 @@
--- The pairs of the eliminations so far, and what a recorder tells.
-use Rattle.std.proofs.Common.{◌≡◌, ℕ, suc, ◌+◌, List, [], ◌∷◌, ◌++◌, Option, None, Some, refl, sym, ap, subst, ◌∙◌}
+-- The pairs of the eliminations so far, and what a recorder has told of them.
+use Rattle.std.proofs.Common.{◌≡◌, ℕ, suc, ◌+◌, List, [], ◌++◌, Option, Some, refl}
 use Rattle.std.specs.Prelude.{slice_get}
-use Rattle.std.proofs.lemmas.List.{append_assoc}
 use Rattle.net_core.specs.GateValue.{GateValue}
 use Rattle.net_core.specs.NetList.{NetList}
 use Rattle.poly_mixed.specs.Polynomial.{Terms}
@@ -11,21 +10,7 @@ use Rattle.stage_model.specs.Variables.{rank_in}
 use Rattle.stage_model.specs.Stage.{IsOfStage}
 use Rattle.stage_model.specs.Cut.{IsCut}
 use Rattle.stage_model.specs.CutSteps.{AreStepsAt, AreStepsTo}
-
-nothing_more : {A : Type 0} (xs : List A) → xs ++ [] ≡ xs
-nothing_more [] = refl
-nothing_more (x ∷ xs) = ap (λ ys. x ∷ ys) (nothing_more xs)
-
-pub tells_none : (old : Option (List Step)) → Tells old old []
-tells_none None = tt
-tells_none (Some xs) = ap Some (sym (nothing_more xs))
-
-pub tells_more : (old mid new : Option (List Step)) (s t : List Step) → Tells old mid s → Tells mid new t → Tells old new (s ++ t)
-tells_more None mid new s t p q = tt
-tells_more (Some xs) mid new s t p q =
-    let P : Option (List Step) → Type 0 = λ o. Tells o new t in
-    let r : new ≡ Some ((xs ++ s) ++ t) = subst P p q in
-    r ∙ ap Some (append_assoc xs s t)
+use Rattle.poly_mixed.proofs.Recorders.{tells_none, tells_more}
 
 -- the same, in this order
 pub record IsRecordedBy (k : ℕ) (mul : ℕ → ℕ → ℕ) (net : NetList) (variables : List ℕ) (output : Word) (order : List ℕ) (t : ℕ) (old new : Option (List Step)) : Type 0 where

@@ -1,7 +1,6 @@
 -- One turn of the elimination, for a net list with bound words.
-use Rattle.std.proofs.Common.{◌≡◌, ℕ, suc, ◌<◌, ◌+◌, ◌-◌, List, Some, length, get_or, refl, subst, sym, ◌∙◌, arith}
+use Rattle.std.proofs.Common.{◌≡◌, ℕ, suc, ◌<◌, ◌+◌, ◌-◌, List, Some, length, get_or, refl, subst, ◌∙◌, arith}
 use Rattle.std.specs.Prelude.{slice_get}
-use Rattle.std.proofs.lemmas.List.{length-reverse}
 use Rattle.std.proofs.lemmas.Option.{slice_get_within, slice_get_read}
 use Rattle.net_core.specs.GateValue.{GateValue}
 use Rattle.net_core.specs.NetList.{NetList, nets}
@@ -43,9 +42,6 @@ position_inside net order t position is at =
 -- what the code reads at an index inside a list
 pub read_at : {A : Type 0} (xs : List A) (i : ℕ) (x : A) → i < length xs → x ≡ get_or xs i x → slice_get xs i ≡ Some x
 read_at xs i x less is = slice_get_read xs (length xs) i x refl less is
-
-pub order_long : (net : NetList) (order : List ℕ) → IsElimination net order → length order ≡ length net.gates
-order_long net order is = sym (length-reverse order) ∙ is.2.long
 
 module _ (k : ℕ) (mul : ℕ → ℕ → ℕ) (b : BoundNet) (basis order : List ℕ) (is : IsElimination b.net order) where
   abbrev pub Now : ℕ → Terms → Type 0

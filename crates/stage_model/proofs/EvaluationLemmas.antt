@@ -12,28 +12,19 @@ use Rattle.net_core.specs.Lists.{Has}
 use Rattle.net_core.specs.Sound.{IsSound}
 use Rattle.net_core.specs.Level.{Levels}
 use Rattle.net_core.specs.Levelled.{AllHaveLevels}
-use Rattle.net_core.specs.Order.{rank_at, IsBefore, IsOrder, IsLevelOrder}
-use Rattle.net_core.specs.Value.{bit_of, index_of, IsRight}
+use Rattle.net_core.specs.Order.{rank_at, IsOrder, IsLevelOrder}
+use Rattle.net_core.specs.Value.{bit_of, IsRight}
 use Rattle.net_core.proofs.DriverLemmas.{gate_inside, gates_apart}
 use Rattle.net_core.proofs.LevelLemmas.{nat_eq_or}
 use Rattle.net_core.proofs.LawLemmas.{levels_only}
 use Rattle.net_core.proofs.OrderLemmas.{before_all}
 use Rattle.net_core.proofs.ExistLemmas.{sound_levels}
-use Rattle.net_core.proofs.EvalLemmas.{bit_set_same, bit_set_other, index_set, inputs_below}
+use Rattle.net_core.proofs.EvalLemmas.{bit_set_same, bit_set_other, index_set, inputs_below, value_of, not_self, not_later}
 use Rattle.poly_mixed.specs.Polynomial.{Point}
 use Rattle.stage_model.specs.Variables.{point_bits}
 use Rattle.stage_model.specs.Cut.{IsAmongFirst, IsSettled}
 use Rattle.stage_model.specs.Plain.{IsAt, AreSettledFrom}
 use Rattle.stage_model.proofs.PointLemmas.{point_bits_at}
-
-abbrev value_of : List Bool → GateValue → Bool
-value_of bits g = bit_at g.table (index_of bits g.inputs) == 1
-
-not_later : (a b q p : ℕ) → IsBefore a q b p → a ≤ b
-not_later a b q p before = grind arith
-
-not_self : (a b q p : ℕ) → a ≡ b → q ≡ p → IsBefore a q b p → ⊥
-not_self a b q p same place before = grind arith
 
 -- in an order by levels each net has a level
 pub with_levels : (net : NetList) (order : List ℕ) → IsSound net → IsLevelOrder net order → (levels : Levels) × AllHaveLevels net levels × IsOrder net levels order

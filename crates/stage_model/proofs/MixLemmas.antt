@@ -22,6 +22,7 @@ use Rattle.stage_model.specs.Cut.{CutOf}
 use Rattle.stage_model.proofs.SortLemmas.{all_in}
 use Rattle.stage_model.proofs.LastCutLemmas.{last_cut}
 use Rattle.stage_model.proofs.PointLemmas.{some_element}
+use Rattle.graph_core.proofs.GraphLemmas.{same_lists}
 
 -- elements of words, the first w out of a list and the others by bits
 record IsMixed (k : ℕ) (bits : List Bool) (w : ℕ) (words : List Word) (ys xs : List ℕ) : Type 0 where
@@ -74,15 +75,6 @@ module _ (k : ℕ) (bits : List Bool) where
       let rest = some_mixed w words ys (λ v has. are v (suc has.0, has.1)) below.1 (omega arith) in
       (y ∷ rest.0, by_point w word words y ys rest.0 below.0 rest.1)
 
-same_numbers : (xs ys : List ℕ) → length xs ≡ length ys → ((i x y : ℕ) → slice_get xs i ≡ Some x → slice_get ys i ≡ Some y → x ≡ y) → xs ≡ ys
-same_numbers [] [] long same = refl
-same_numbers [] (y ∷ ys) long same = absurd (omega arith)
-same_numbers (x ∷ xs) [] long same = absurd (omega arith)
-same_numbers (x ∷ xs) (y ∷ ys) long same =
-    let head : x ≡ y = same 0 x y refl refl in
-    let tail : xs ≡ ys = same_numbers xs ys (omega arith) (λ i a b first second. same (suc i) a b first second) in
-    rw (head, tail) refl
-
 pub of_taken : (m : ℕ) (ys : List ℕ) (i x : ℕ) → slice_get (take m ys) i ≡ Some x → slice_get ys i ≡ Some x
 of_taken zero ys i x got = absurd (cc)
 of_taken (suc m) [] i x got = got
@@ -109,7 +101,7 @@ module _ (c : Circuit) (w : ℕ) (p : Point) (xs ys : List ℕ) (a : IsInput c x
       ]
 
   pub one_mixed_input : xs ≡ ys
-  one_mixed_input = same_numbers xs ys (a.long ∙ sym b.long) same_at
+  one_mixed_input = same_lists xs ys (a.long ∙ sym b.long) same_at
 
 module _ (c : Circuit) (well : IsWellFormed c) where
   pub some_mix : (w : ℕ) (p : Point) → IsPoint c.k p → (e : ℕ) × IsMix c w p e × (e < 2 ^ c.k)

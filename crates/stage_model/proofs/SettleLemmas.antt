@@ -12,15 +12,12 @@ use Rattle.net_core.specs.Order.{rank_at}
 use Rattle.net_core.specs.Value.{bit_of, index_of}
 use Rattle.net_core.proofs.DriverLemmas.{gate_inside, gates_apart, All_has}
 use Rattle.net_core.proofs.LevelLemmas.{nat_eq_or}
-use Rattle.net_core.proofs.EvalLemmas.{inputs_below, index_agree, same_lists}
+use Rattle.net_core.proofs.EvalLemmas.{inputs_below, index_agree, same_lists, value_of}
 use Rattle.net_core.proofs.ExistLemmas.{sound_levels}
 use Rattle.circuit_model.proofs.GivenLemmas.{bits_by, bits_long, bits_at}
 use Rattle.poly_mixed.specs.Polynomial.{Point}
 use Rattle.stage_model.specs.Variables.{point_bit}
 use Rattle.stage_model.specs.Cut.{IsAmongFirst, IsSettled}
-
-abbrev value_of : List Bool → GateValue → Bool
-value_of bits g = bit_at g.table (index_of bits g.inputs) == 1
 
 -- whether one of the first t gates drives the net
 abbrev IsDriven : NetList → List ℕ → ℕ → ℕ → Type 0

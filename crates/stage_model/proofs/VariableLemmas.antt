@@ -1,8 +1,8 @@
 -- The order of variables, built net by net.
-use Rattle.std.proofs.Common.{◌≡◌, ◌∙◌, ap, sym, refl, subst, inl, inr, ℕ, zero, suc, ◌<◌, ◌≤◌, ◌+◌, Bool, true, false, cond, not, ◌==◌, ◌||◌, List, [], ◌∷◌, ◌++◌, length, Some, arith}
+use Rattle.std.proofs.Common.{◌≡◌, ◌∙◌, ap, sym, refl, subst, inl, inr, ℕ, zero, suc, ◌<◌, ◌≤◌, ◌+◌, Bool, true, false, cond, not, List, [], ◌∷◌, ◌++◌, length, Some, arith}
 use Rattle.std.specs.Prelude.{filter}
-use Rattle.std.specs.List.{range_with_len, list_any}
-use Rattle.std.proofs.lemmas.Bool.{cases_eq, eqb-true}
+use Rattle.std.specs.List.{range_with_len}
+use Rattle.std.proofs.lemmas.Bool.{cases_eq}
 use Rattle.std.proofs.lemmas.List.{append-nil, append_assoc}
 use Rattle.std.proofs.lemmas.List.Elements.{filter-append}
 use Rattle.net_core.specs.Lists.{Has}
@@ -13,10 +13,8 @@ use Rattle.net_words.specs.Variables.{others}
 use Rattle.stage_model.specs.Variables.{rank_in}
 use Rattle.stage_model.specs.Plain.{HasEachNet}
 use Rattle.stage_model.proofs.BlindLemmas.{front_rank}
-
-range_more : (a n : ℕ) → range_with_len a (suc n) ≡ range_with_len a n ++ (a + n) ∷ []
-range_more a zero = ap (λ m. m ∷ []) (omega arith)
-range_more a (suc n) = ap (λ xs. a ∷ xs) (range_more (a + 1) n ∙ ap (λ m. range_with_len (a + 1) n ++ m ∷ []) (omega arith))
+use Rattle.net_words.proofs.VariableLemmas.{range_more}
+use Rattle.net_words.proofs.MemberLemmas.{stands_has}
 
 one_other : (front : List ℕ) (n : ℕ) → others (n + 1) front ≡ others n front ++ cond (not (stands_in front n)) (n ∷ []) []
 one_other front n =
@@ -32,14 +30,6 @@ others_step front start order new n old more =
   where
     join : (xs ys zs : List ℕ) → (xs ++ ys) ++ zs ≡ xs ++ (ys ++ zs)
     join xs ys zs = append_assoc xs ys zs
-
-has_stands : (ns : List ℕ) (n : ℕ) → stands_in ns n ≡ true → Has ns n
-has_stands [] n is = absurd (cc)
-has_stands (m ∷ ms) n is =
-    elim (m == n) as (λ b. (m == n) ≡ b → (b || list_any (λ m. m == n) ms) ≡ true → Has (m ∷ ms) n) [
-      | true ↦ λ e h. (0, ap Some (eqb-true m n e))
-      | false ↦ λ e h. let rest = has_stands ms n h in (suc rest.0, rest.1)
-    ] refl is
 
 has_range : (a count n : ℕ) → a ≤ n → n < a + count → Has (range_with_len a count) n
 has_range a zero n low less = absurd (omega arith)
@@ -71,7 +61,7 @@ has_filter q (y ∷ ys) x has is =
 pub has_each : (net : NetList) (ns : List ℕ) → HasEachNet net (ns ++ others (nets net) ns)
 has_each net ns n less =
     let has : Has (ns ++ others (nets net) ns) n = elim (stands_in ns n) as (λ b. stands_in ns n ≡ b → Has (ns ++ others (nets net) ns) n) [
-      | true ↦ λ e. Has_left ns (others (nets net) ns) n (has_stands ns n e)
+      | true ↦ λ e. Has_left ns (others (nets net) ns) n (stands_has ns n e)
       | false ↦ λ e. Has_right ns (others (nets net) ns) n (has_filter (λ m. not (stands_in ns m)) (range_with_len 0 (nets net)) n (has_range 0 (nets net) n (omega arith) (omega arith)) (ap not e))
     ] refl in
     let Q : List ℕ → Type 0 = λ xs. rank_in xs n < length (ns ++ others (nets net) ns) in

@@ -18,7 +18,7 @@ use Rattle.poly_mixed.specs.Product.{IsProduct}
 use Rattle.poly_mixed.specs.Sum.{with_coefficient}
 use Rattle.poly_mixed.proofs.FieldLaws.{IsField}
 use Rattle.poly_mixed.proofs.Values.{product_zero, powers_element, zero_element, one_element}
-use Rattle.poly_mixed.proofs.Products.{one_term}
+use Rattle.poly_mixed.proofs.Products.{one_term, and_assoc}
 use Rattle.poly_mixed.proofs.Cofactors.{rising-filter}
 use Rattle.stage_model.specs.WordStage.{is_of_word, word_bits, with_word}
 use Rattle.stage_model.specs.PlainWord.{IsReading, IsBitOf, IsProductOf, IsSumOf}
@@ -141,14 +141,10 @@ split_all : (q f : ℕ → Bool) (xs : List ℕ) → (list_all q (filter f xs) &
 split_all q f [] = refl
 split_all q f (x ∷ xs) =
     elim (f x) as (λ b. (list_all q (cond b (x ∷ filter f xs) (filter f xs)) && list_all q (cond (not b) (x ∷ filter (λ x. not (f x)) xs) (filter (λ x. not (f x)) xs))) ≡ (q x && list_all q xs)) [
-      | true ↦ first (q x) (list_all q (filter f xs)) (list_all q (filter (λ x. not (f x)) xs)) ∙ ap (λ b. q x && b) (split_all q f xs)
+      | true ↦ and_assoc (q x) (list_all q (filter f xs)) (list_all q (filter (λ x. not (f x)) xs)) ∙ ap (λ b. q x && b) (split_all q f xs)
       | false ↦ second (q x) (list_all q (filter f xs)) (list_all q (filter (λ x. not (f x)) xs)) ∙ ap (λ b. q x && b) (split_all q f xs)
     ]
   where
-    first : (a b c : Bool) → ((a && b) && c) ≡ (a && (b && c))
-    first true b c = refl
-    first false b c = refl
-
     second : (a b c : Bool) → (b && (a && c)) ≡ (a && (b && c))
     second true b c = refl
     second false true c = refl

@@ -18,7 +18,7 @@ use Rattle.stage_model.proofs.SortLemmas.{all_in}
 use Rattle.stage_model.proofs.MixLemmas.{one_mix}
 use Rattle.stage_model.proofs.SizeLemmas.{same_terms}
 
-term_in : (P : Monomial × ℕ → Type 0) (ts : Terms) (i : ℕ) (t : Monomial × ℕ) → AllByRecursion P ts → slice_get ts i ≡ Some t → P t
+pub term_in : (P : Monomial × ℕ → Type 0) (ts : Terms) (i : ℕ) (t : Monomial × ℕ) → AllByRecursion P ts → slice_get ts i ≡ Some t → P t
 term_in P [] i t all got = absurd (cc)
 term_in P (u ∷ ts) zero t all got = let same : u ≡ t = cc in subst P same all.0
 term_in P (u ∷ ts) (suc i) t all got = term_in P ts i t all.1 got

@@ -24,7 +24,7 @@ use Rattle.word_subst.specs.ReadSteps.{TellsTerms}
 use Rattle.word_subst.specs.ReadRefusal.{IsReached, IsProductOver, IsWordRefusal}
 use Rattle.word_subst.specs.Refusal.{IsRefusal}
 use Rattle.word_subst.specs.Recorded.{IsRecorded}
-use Rattle.word_subst.proofs.Recorded.{tells_none, tells_more}
+use Rattle.poly_mixed.proofs.Recorders.{tells_none, tells_more}
 use Rattle.word_subst.proofs.Lifted.{lift_product, lift_sum, word_steps, size_of, product_within, products_to, sums_to, number_within}
 
 -- the stages of the first w words are within the bound

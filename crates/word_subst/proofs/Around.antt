@@ -7,7 +7,8 @@ use Rattle.std.specs.List.{filter, list_all}
 use Rattle.std.specs.List.Sorted.{IsStrictlySortedBy}
 use Rattle.std.proofs.lemmas.Bool.{eq-eqb, ne_eqb}
 use Rattle.stage_model.proofs.SortLemmas.{all_in}
-use Rattle.word_subst.proofs.Rising.{Above, below, all_filter}
+use Rattle.word_subst.proofs.Rising.{all_filter}
+use Rattle.poly_mixed.proofs.Ranks.{Above, from_less}
 
 second : (a b c : Bool) → (a && (b && c)) ≡ (b && (a && c))
 second true b c = refl
@@ -41,7 +42,7 @@ module _ (f q low high : ℕ → Bool) (r : ℕ) (own : f r ≡ true) (own_low :
   all_after : (xs : List ℕ) → Above r xs → list_all q (without xs) ≡ (list_all low (others xs) && list_all high (filter f xs))
   all_after [] up = refl
   all_after (x ∷ xs) up =
-      let more : r < x = below r x up.0 in
+      let more : r < x = from_less r x up.0 in
       let rest = all_after xs up.1 in
       let a : Bool = list_all low (others xs) in
       let b : Bool = list_all high (filter f xs) in
@@ -79,7 +80,7 @@ module _ (f q low high : ℕ → Bool) (r : ℕ) (own : f r ≡ true) (own_low :
           let P : ℕ → Type 0 = λ y. Above y xs in
           ap (λ b. list_all q (cond (not b) (x ∷ without xs) (without xs))) (eq-eqb x r same) ∙ all_after xs (subst P same up.0)
       mine (suc i) e here more =
-          let less : x < r = below x r (all_in (λ y. nat_cmp x y ≡ Less) (filter f xs) r (all_filter (λ y. nat_cmp x y ≡ Less) f xs up.0) (i, here)) in
+          let less : x < r = from_less x r (all_in (λ y. nat_cmp x y ≡ Less) (filter f xs) r (all_filter (λ y. nat_cmp x y ≡ Less) f xs up.0) (i, here)) in
           apart_first x xs (λ same. absurd (omega (arith, less, same)))
           ∙ (ap (λ v. q x && v) (more i here)
           ∙ (ap (λ v. v && ((list_all low (take i (filter f xs)) && list_all low (others xs)) && list_all high (drop (suc i) (filter f xs)))) (own_low x e less)

@@ -2,7 +2,6 @@ mod FormList
 mod Rising
 mod Around
 mod Multiplier
-mod Recorded
 mod OneTerm
 mod OneWord
 mod Lifted

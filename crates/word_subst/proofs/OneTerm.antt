@@ -26,7 +26,7 @@ use Rattle.std.specs.List.Sorted.{IsStrictlySortedBy}
 use Rattle.std.specs.Ordering.{nat_cmp}
 use Rattle.word_subst.proofs.Rising.{few_between, rest_is, drop_rises}
 use Rattle.word_subst.proofs.Multiplier.{multiplier_is}
-use Rattle.word_subst.proofs.Recorded.{tells_none, tells_more}
+use Rattle.poly_mixed.proofs.Recorders.{tells_none, tells_more}
 
 module _ (k w : ℕ) (t : Monomial × ℕ) where
   -- a term has no more bits of a word than the word has

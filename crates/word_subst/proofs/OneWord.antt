@@ -1,7 +1,6 @@
 -- One word, term by term.
-use Rattle.std.proofs.Common.{◌≡◌, ◌∙◌, ap, sym, refl, subst, inl, inr, ℕ, zero, suc, ◌<◌, ◌≤◌, ◌+◌, List, [], ◌∷◌, ◌++◌, length, take, get_or, Option, Some, arith}
+use Rattle.std.proofs.Common.{◌≡◌, ◌∙◌, ap, sym, refl, subst, inl, inr, ℕ, ◌<◌, ◌≤◌, ◌+◌, List, [], ◌∷◌, ◌++◌, length, take, get_or, Option, Some, arith, append-nil}
 use Rattle.std.specs.Prelude.{slice_get}
-use Rattle.std.specs.List.{AllByRecursion}
 use Rattle.std.proofs.lemmas.Bool.{cases_eq}
 use Rattle.std.proofs.lemmas.List.{append_assoc, take_more}
 use Rattle.std.proofs.lemmas.Option.{slice_get_within, get_or_from_slice_get}
@@ -18,20 +17,11 @@ use Rattle.stage_model.specs.PlainWord.{IsSumOf}
 use Rattle.word_subst.specs.Read.{HasWithin, sum_at, IsTermWithin, AreTermsWithin}
 use Rattle.word_subst.specs.ReadSteps.{AreFirstSteps, AreReadSteps, TellsFirst, TellsTerms}
 use Rattle.word_subst.specs.ReadRefusal.{IsTermRefusal, IsWordRefusal}
-use Rattle.word_subst.proofs.Recorded.{tells_none, tells_more}
-
-nothing_more : {A : Type 0} (xs : List A) → xs ++ [] ≡ xs
-nothing_more [] = refl
-nothing_more (x ∷ xs) = ap (λ ys. x ∷ ys) (nothing_more xs)
+use Rattle.poly_mixed.proofs.Recorders.{tells_none, tells_more}
 
 -- the term at an index that the code reads
 pub term_read : (items terms : Terms) (s : ℕ) (t : Monomial × ℕ) → items ≡ terms → s < length items → t ≡ get_or items s t → slice_get terms s ≡ Some t
 term_read items terms s t same less read = let P : Terms → Type 0 = λ ts. slice_get ts s ≡ Some t in subst P same (got_read items s t less read)
-
-pub term_is : (P : Monomial × ℕ → Type 0) (ts : Terms) (i : ℕ) (t : Monomial × ℕ) → AllByRecursion P ts → slice_get ts i ≡ Some t → P t
-term_is P [] i t all got = absurd (cc)
-term_is P (u ∷ ts) zero t all got = let same : u ≡ t = cc in subst P same all.0
-term_is P (u ∷ ts) (suc i) t all got = term_is P ts i t all.1 got
 
 module _ (k : ℕ) (mul : ℕ → ℕ → ℕ) (elements : List ℕ) (w : ℕ) (terms : Terms) (bound : ℕ) where
   pub no_terms_within : AreTermsWithin k mul elements w terms 0 bound
@@ -74,7 +64,7 @@ module _ (k : ℕ) (mul : ℕ → ℕ → ℕ) (elements : List ℕ) (w : ℕ) (
       subst P (sym same) (refl, record { term = t; reached = record { place = n; number = refl; at = at; before = before }; products = term; over = record { terms = sum; is = is; size = refl; over = over } })
 
   steps_push : (ts : Terms) (t : Monomial × ℕ) (front last : List Step) → AreReadSteps k mul elements w ts front → AreFirstSteps k mul elements w t (length (word_bits k w t)) last → AreReadSteps k mul elements w (ts ++ t ∷ []) (front ++ last)
-  steps_push [] t front last none own = (last, [], own, refl, ap (λ xs. xs ++ last) none ∙ sym (nothing_more last))
+  steps_push [] t front last none own = (last, [], own, refl, ap (λ xs. xs ++ last) none ∙ sym (append-nil last))
   steps_push (u ∷ us) t front last are own =
       (are.0, are.1 ++ last, are.2, steps_push us t are.1 last are.3 own, ap (λ xs. xs ++ last) are.4 ∙ append_assoc are.0 are.1 last)
 

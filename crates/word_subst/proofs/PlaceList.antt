@@ -1,5 +1,5 @@
 -- The input and state words of a binding, and the words of its circuit.
-use Rattle.std.proofs.Common.{◌≡◌, ◌∙◌, ap, sym, refl, ℕ, zero, suc, ◌<◌, ◌≤◌, ◌+◌, List, [], ◌∷◌, ◌++◌, length, drop, Some, arith}
+use Rattle.std.proofs.Common.{◌≡◌, ◌∙◌, ap, sym, refl, ℕ, zero, suc, ◌<◌, ◌≤◌, ◌+◌, List, [], ◌∷◌, ◌++◌, length, drop, Some, arith, append-nil, drop_of_length-le}
 use Rattle.std.specs.Prelude.{slice_get}
 use Rattle.std.proofs.lemmas.List.{append_assoc}
 use Rattle.net_words.specs.declared.bound.BoundWord.{BoundWord}
@@ -26,17 +26,7 @@ next_word words v word before after at new so_far =
     ∙ (ap (λ ns. before ++ ns) (sym (from_word words v word at)) ∙ so_far))
 
 pub last_word : (words : List BoundWord) (v : ℕ) (before : List ℕ) → length words ≤ v → before ++ places_from v (drop v words) ≡ places_from 0 words → before ≡ places_from 0 words
-last_word words v before past so_far = sym (nothing before) ∙ (ap (λ us. before ++ places_from v us) (sym (past_end words v past)) ∙ so_far)
-  where
-    nothing : (ns : List ℕ) → ns ++ [] ≡ ns
-    nothing [] = refl
-    nothing (n ∷ ns) = ap (λ ms. n ∷ ms) (nothing ns)
-
-    past_end : (us : List BoundWord) (i : ℕ) → length us ≤ i → drop i us ≡ []
-    past_end [] zero l = refl
-    past_end [] (suc i) l = refl
-    past_end (u ∷ us) zero l = absurd (omega arith)
-    past_end (u ∷ us) (suc i) l = past_end us i (omega arith)
+last_word words v before past so_far = sym (append-nil before) ∙ (ap (λ us. before ++ places_from v us) (sym (drop_of_length-le words past)) ∙ so_far)
 
 -- there are as many as words of the circuit
 pub places_long : (m : ℕ) (words : List BoundWord) (bases : List (List ℕ)) → length bases ≡ length words → length (places_from m words) ≡ length (words_of words bases)

@@ -1,18 +1,12 @@
 -- Rising ranks.
-use Rattle.std.proofs.Common.{◌≡◌, ◌∙◌, ap, sym, refl, ℕ, zero, suc, ◌<◌, ◌≤◌, ◌+◌, ◌-◌, Bool, true, false, cond, List, [], ◌∷◌, length, take, drop, arith}
+use Rattle.std.proofs.Common.{◌≡◌, ◌∙◌, refl, ℕ, zero, suc, ◌<◌, ◌≤◌, ◌+◌, ◌-◌, Bool, true, false, cond, List, [], ◌∷◌, length, take, drop, arith, take_all}
 use Rattle.std.specs.declared.cmp.Ordering.TheVariants.{Less}
-use Rattle.std.specs.Cmp.{ranked}
 use Rattle.std.specs.Ordering.{nat_cmp}
 use Rattle.std.specs.List.{AllByRecursion, filter}
 use Rattle.std.specs.List.Sorted.{IsStrictlySortedBy}
 use Rattle.net_core.specs.Lists.{Has}
 use Rattle.stage_model.proofs.SortLemmas.{all_in}
-
-abbrev pub Above : ℕ → List ℕ → Type 0
-Above x rs = AllByRecursion (λ y. nat_cmp x y ≡ Less) rs
-
-pub below : (x y : ℕ) → nat_cmp x y ≡ Less → x < y
-below x y e = ranked x y Less (sym e)
+use Rattle.poly_mixed.proofs.Ranks.{from_less}
 
 pub drop_rises : (n : ℕ) (rs : List ℕ) → IsStrictlySortedBy nat_cmp rs → IsStrictlySortedBy nat_cmp (drop n rs)
 unfolding IsStrictlySortedBy
@@ -22,14 +16,8 @@ drop_rises (suc n) (r ∷ rs) up = drop_rises n rs up.1
 
 -- the rest of a list, as a slice from a place on
 pub rest_is : (n : ℕ) (rs : List ℕ) → take (length rs - n) (drop n rs) ≡ drop n rs
-rest_is n rs = whole (drop n rs) (length rs - n) (long n rs)
+rest_is n rs = take_all (length rs - n) (drop n rs) (omega (arith, long n rs))
   where
-    whole : (xs : List ℕ) (m : ℕ) → m ≡ length xs → take m xs ≡ xs
-    whole [] zero e = refl
-    whole [] (suc m) e = refl
-    whole (x ∷ xs) zero e = absurd (omega arith)
-    whole (x ∷ xs) (suc m) e = ap (λ ys. x ∷ ys) (whole xs m (omega arith))
-
     long : (m : ℕ) (xs : List ℕ) → length xs - m ≡ length (drop m xs)
     long zero xs = omega arith
     long (suc m) [] = omega arith
@@ -41,7 +29,7 @@ unfolding IsStrictlySortedBy
 few_between a b [] less up inside = omega arith
 few_between a b (r ∷ rs) less up inside =
     let first = inside r (0, refl) in
-    let rest : length rs + suc r ≤ b = few_between (suc r) b rs (omega (arith, first.1)) up.1 (λ x has. (below r x (all_in (λ y. nat_cmp r y ≡ Less) rs x up.0 has), (inside x (suc has.0, has.1)).1)) in
+    let rest : length rs + suc r ≤ b = few_between (suc r) b rs (omega (arith, first.1)) up.1 (λ x has. (from_less r x (all_in (λ y. nat_cmp r y ≡ Less) rs x up.0 has), (inside x (suc has.0, has.1)).1)) in
     omega (arith, rest, first.0)
 
 pub all_filter : (P : ℕ → Type 0) (f : ℕ → Bool) (xs : List ℕ) → AllByRecursion P xs → AllByRecursion P (filter f xs)

@@ -7,9 +7,10 @@ use Rattle.gf_abs.specs.NetlistOf.{NetlistOf}
 use Rattle.gf_abs.specs.Setting.{any_degree, setting_value}
 use Rattle.gf_abs.specs.Stop.{GivesBy, printed}
 use Rattle.gf_abs.specs.declared.stop.Stop.{Stop}
-use Rattle.gf_abs.proofs.RoleLemmas.{netlist_roles, roles_long, bits_are}
+use Rattle.gf_abs.proofs.RoleLemmas.{netlist_roles, roles_long}
 use Rattle.gf_abs.proofs.StepLemmas.{after, stops}
 use Rattle.gf_abs.proofs.top.text_answer.Goals as goal
+use Rattle.net_words.proofs.BoundLemmas.{first_long}
 
 pub returns-in-Err : goal.returns-in-Err
 returns-in-Err c =
@@ -21,7 +22,7 @@ returns-in-Err c =
     stops (λ (circuit : BoundNet). circuit) printed c.in-Err.stop (NetlistOf file words text) (λ circuit. DerivedOf c.args.kind (setting_value c.args.setting.now) circuit c.args.terms) ⊥ ⊥ (subst P c.words.ensures c.in-Err.ensures.gives)
 
 pub derived_line-requires-clause-bits : goal.derived_line-requires-clause-bits
-derived_line-requires-clause-bits c = c.in-Ok.ensures.bits ∙ (ap bits_of c.words.ensures ∙ bits_are (any_degree c.args.setting.now.field) c.args.setting.now.signature.words c.requires.setting.words)
+derived_line-requires-clause-bits c = c.in-Ok.ensures.bits ∙ (ap bits_of c.words.ensures ∙ first_long (any_degree c.args.setting.now.field) c.args.setting.now.signature.words c.requires.setting.words)
 
 pub derived_line-requires-clause-roles : goal.derived_line-requires-clause-roles
 derived_line-requires-clause-roles c =

@@ -13,8 +13,8 @@ use Rattle.stage_model.specs.CutSteps.{AreStepsAt}
 use Rattle.rato_reduce.specs.GatePoint.{gate_bit}
 use Rattle.rato_reduce.proofs.Inside.{out_below}
 use Rattle.rato_reduce.proofs.PutIn.{put_in, put_nothing}
-use Rattle.rato_reduce.proofs.Recorded.{tells_none}
 use Rattle.rato_reduce.proofs.eliminate.eliminate.Goals as goal
+use Rattle.poly_mixed.proofs.Recorders.{tells_none}
 
 none : {A : Type 0} (xs : List A) → length xs ≡ 0 → xs ≡ []
 none [] e = refl

@@ -1,10 +1,9 @@
-use Rattle.std.proofs.Common.{◌≡◌, ◌+◌, ℕ, List, [], ◌∷◌, ◌++◌, take, get_or, length, ap, sym, ◌∙◌, arith}
+use Rattle.std.proofs.Common.{◌≡◌, ◌+◌, ℕ, List, [], ◌∷◌, ◌++◌, take, get_or, length, ap, sym, ◌∙◌, arith, take_all}
 use Rattle.std.proofs.lemmas.List.{append_assoc}
 use Rattle.net_core.proofs.DriverLemmas.{All_has}
 use Rattle.net_words.specs.BoundTo.{output_bits_with}
 use Rattle.net_words.specs.declared.bound.BoundWord.{BoundWord}
 use Rattle.net_words.specs.declared.word.Role.{Role}
-use Rattle.rato_reduce.proofs.FirstCut.{take_whole}
 use Rattle.rato_reduce.proofs.OutputNets.{take_more}
 use Rattle.rato_reduce.proofs.first_cut.add_word.Goals as goal
 
@@ -26,5 +25,5 @@ returns-after-loop-place c word at =
     let before = c.args.list.now.items in
     let role : word.role ≡ Role.Output = sym (c.role.ensures word at) ∙ c.in-Output.is in
     c.loop-place.invariant word at
-    ∙ (ap (λ (xs : List ℕ). before ++ xs) (take_whole word.nets c.loop-place.place (omega arith))
+    ∙ (ap (λ (xs : List ℕ). before ++ xs) (take_all c.loop-place.place word.nets (omega arith))
     ∙ ap (λ (r : Role). before ++ output_bits_with r word.nets) (sym role))

@@ -6,7 +6,7 @@ use Rattle.stage_model.specs.Cut.{BoundCut}
 use Rattle.rato_reduce.specs.Refusal.{IsCutRefusal}
 use Rattle.rato_reduce.proofs.Bound.{none_before, one_more, just}
 use Rattle.rato_reduce.proofs.Recorded.{nothing_recorded}
-use Rattle.rato_reduce.proofs.Turn.{position_inside, read_at, order_long, first_now, turn, told_more, is_cut, is_recorded}
+use Rattle.rato_reduce.proofs.Turn.{position_inside, read_at, first_now, turn, told_more, is_cut, is_recorded}
 use Rattle.net_core.specs.Lists.{Has}
 use Rattle.std.specs.Prelude.{slice_get}
 use Rattle.std.proofs.Common.{Some}
@@ -19,6 +19,7 @@ use Rattle.net_words.specs.Binding.{Binding}
 use Rattle.net_words.specs.BoundTo.{output_bits}
 use Rattle.rato_reduce.proofs.OutputNets.{output_long, output_inside}
 use Rattle.rato_reduce.proofs.reduce.reduce_bits.Goals as goal
+use Rattle.stage_model.proofs.EliminationLemmas.{elimination_long}
 
 pub first_cut-requires-clause-long : goal.first_cut-requires-clause-long
 first_cut-requires-clause-long g c =
@@ -105,7 +106,7 @@ returns-in_err-check_size-2-clause-fault g c =
     let S : List GateValue → Type 0 = λ gs. slice_get gs c.index.result.now ≡ Some c.index-gates-index.result in
     let at_net = subst S gates (read_at c.gates.result.now c.index.result.now c.index-gates-index.result (subst L (sym gates) (position_inside circuit.net order c.loop-t.t c.index.result.now is at)) c.index-gates-index.is) in
     let next = turn degree mul circuit basis order is c.loop-t.t c.index.result.now c.index-gates-index.result c.loop-t.poly.terms c.eliminate.new.poly.terms sound c.net-net.ensures.is_bound at at_net c.loop-t.invariant.is c.in_ok-eliminate.ensures.reduced c.in_ok-eliminate.ensures.values in
-    let long : length order ≡ length circuit.net.gates = order_long circuit.net order is in
+    let long : length order ≡ length circuit.net.gates = elimination_long circuit.net order is in
     let fault : IsCutRefusal degree mul (BoundCut circuit basis) (length circuit.net.gates + 1) c.args.bound c.in_err-check_size-2.field-0.0 =
     just degree mul (BoundCut circuit basis) c.args.bound (length circuit.net.gates + 1) (c.loop-t.t + 1) c.eliminate.new.poly.terms c.in_err-check_size-2.field-0.0 (omega arith) c.loop-t.invariant.within
     (is_cut degree mul circuit basis order is (c.loop-t.t + 1) c.eliminate.new.poly.terms next) c.in_err-check_size-2.ensures.over.1 c.in_err-check_size-2.ensures.over.0 in
@@ -141,7 +142,7 @@ returns-clause-last g c =
     let order = c.in_ok-order.order.items in
     let E : NetList → Type 0 = λ n. IsElimination n order in
     let is = subst E c.net-net.ensures.net c.in_ok-order.ensures in
-    let long : length order ≡ length circuit.net.gates = order_long circuit.net order is in
+    let long : length order ≡ length circuit.net.gates = elimination_long circuit.net order is in
     let done : c.loop-t.t ≡ length circuit.net.gates = omega arith in
     let degree = g.F.Ring.degree c.args.field.now in
     let mul = g.F.Ring.product c.args.field.now in
@@ -155,7 +156,7 @@ returns-clause-within g c =
     let order = c.in_ok-order.order.items in
     let E : NetList → Type 0 = λ n. IsElimination n order in
     let is = subst E c.net-net.ensures.net c.in_ok-order.ensures in
-    let long : length order ≡ length circuit.net.gates = order_long circuit.net order is in
+    let long : length order ≡ length circuit.net.gates = elimination_long circuit.net order is in
     let done : c.loop-t.t ≡ length circuit.net.gates = omega arith in
     let P : ℕ → Type 0 = λ n. IsNoneOver (g.F.Ring.degree c.args.field.now) (g.F.Ring.product c.args.field.now) (BoundCut circuit (elements_of c.args.output.now)) (n + 1) c.args.bound in
     subst P done c.loop-t.invariant.within
@@ -166,6 +167,6 @@ returns-clause-steps g c =
     let order = c.in_ok-order.order.items in
     let E : NetList → Type 0 = λ n. IsElimination n order in
     let is = subst E c.net-net.ensures.net c.in_ok-order.ensures in
-    let long : length order ≡ length circuit.net.gates = order_long circuit.net order is in
+    let long : length order ≡ length circuit.net.gates = elimination_long circuit.net order is in
     let done : c.loop-t.t ≡ length circuit.net.gates = omega arith in
     is_recorded (g.F.Ring.degree c.args.field.now) (g.F.Ring.product c.args.field.now) circuit (elements_of c.args.output.now) order is c.loop-t.t (length circuit.net.gates) (g.T.Steps.steps c.args.steps.now) (g.T.Steps.steps c.loop-t.steps) done c.loop-t.invariant.recorded

@@ -1,15 +1,11 @@
 -- What a recorder tells.
-use Rattle.std.proofs.Common.{◌≡◌, List, [], ◌∷◌, ◌++◌, Option, None, Some, refl, sym, ap, subst, ◌∙◌}
+use Rattle.std.proofs.Common.{◌≡◌, List, [], ◌++◌, Option, None, Some, sym, ap, subst, ◌∙◌, append-nil}
 use Rattle.std.proofs.lemmas.List.{append_assoc}
 use Rattle.poly_mixed.specs.Steps.{Step, Tells}
 
-nothing_more : {A : Type 0} (xs : List A) → xs ++ [] ≡ xs
-nothing_more [] = refl
-nothing_more (x ∷ xs) = ap (λ ys. x ∷ ys) (nothing_more xs)
-
 pub tells_none : (old : Option (List Step)) → Tells old old []
 tells_none None = tt
-tells_none (Some xs) = ap Some (sym (nothing_more xs))
+tells_none (Some xs) = ap Some (sym (append-nil xs))
 
 pub tells_more : (old mid new : Option (List Step)) (s t : List Step) → Tells old mid s → Tells mid new t → Tells old new (s ++ t)
 tells_more None mid new s t p q = tt
