@@ -1,5 +1,5 @@
 //! Recorders of the steps that an engine takes, each a generator and its multiplier.
-ghost use Rattle.std.specs.Prelude.{List, [], ◌∷◌, Option, None, IsOk, OnOk};
+ghost use Rattle.std.specs.Prelude.{◌≡◌, List, [], ◌∷◌, Option, None, IsOk, IsFalse, OnOk};
 ghost use Rattle.poly_mixed.specs.Steps.{Step, Tells};
 
 use crate::Poly;
@@ -16,6 +16,10 @@ pub enum Generator {
 pub trait Steps {
     ghost steps: { Self → Option (List Step) };
 
+    /// Whether the recorder tells its steps. One that does not needs no multipliers: who would hand it a step may leave it out.
+    fn tells(&self) -> bool
+        ensures { IsFalse result → steps self.now ≡ None };
+
     /// Records a step. After want of memory the recorder is not used again.
     fn step(&mut self, generator: Generator, multiplier: &Poly) -> Result<(), AllocError>
         ensures { OnOk result (Tells (steps self.old) (steps self.new) ((generator, multiplier.now.terms) ∷ [])) };
@@ -27,6 +31,10 @@ pub struct NoSteps;
 
 impl Steps for NoSteps {
     ghost steps = { λ _. None };
+
+    fn tells(&self) -> bool {
+        false
+    }
 
     fn step(&mut self, _generator: Generator, _multiplier: &Poly) -> Result<(), AllocError>
         ensures recorded { OnOk result (Tells None None ((_generator, _multiplier.now.terms) ∷ [])) }

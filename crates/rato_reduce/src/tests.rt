@@ -45,6 +45,10 @@ struct Recorder {
 impl Steps for Recorder {
     ghost steps = { λ recorder. Some (map (λ step. (step.generator, step.terms.items)) recorder.steps.items) };
 
+    fn tells(&self) -> bool {
+        true
+    }
+
     fn step(&mut self, generator: Generator, multiplier: &Poly) -> Result<(), AllocError> {
         let terms = multiplier.terms(self.alloc)?;
         self.steps.push(Recorded { generator, terms })?;

@@ -9,3 +9,4 @@ pub mod StageList
 pub mod WordSteps
 pub mod Plain
 pub mod PlainWord
+pub mod Listing
