@@ -103,6 +103,27 @@ fn squares(rt: HostRuntime) {
 }
 
 #[test]
+fn tables(rt: HostRuntime) {
+    let four = ring(&rt, 0x7);
+    assert!(rt; is_element(&four, 0x2));
+    let table = four.times(0x2);
+    for (n, want) in [0, 2, 3, 1, 1, 3, 2, 0].iter().enumerate() {
+        assert_eq!(rt; table.multiples()[n], *want);
+    }
+    assert!(rt; is_element(&four, 0x3));
+    assert_eq!(rt; four.by(&table, 0x3), 1);
+    let two = ring(&rt, 0x3);
+    assert!(rt; is_element(&two, 1));
+    let table = two.times(1);
+    for n in 0..16u32 {
+        assert_eq!(rt;
+            table.multiples()[n as usize],
+            u64::from(n.count_ones() % 2)
+        );
+    }
+}
+
+#[test]
 fn elements(rt: HostRuntime) {
     let ring = ring(&rt, 0x7);
     assert_eq!(rt; first_outside(&ring, &[1, 3, 4, 5]), Some(2));
