@@ -6,7 +6,9 @@ mod drivers;
 mod driving;
 mod fault;
 mod gate;
+mod keyed_hash;
 mod label;
+mod labels;
 mod latch;
 mod laws;
 mod level_order;
@@ -18,6 +20,7 @@ mod valuation;
 
 pub use fault::NetFault;
 pub use gate::Gate;
+pub use keyed_hash::KeyedHash;
 pub use latch::{Latch, Start};
 pub use laws::{
     finish_accepts_the_sound_nets, levels_are_the_only_ones, levels_are_where_nets_have_them,
