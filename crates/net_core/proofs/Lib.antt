@@ -1,3 +1,5 @@
+mod Examples
+pub mod ChainLemmas
 pub mod DriverLemmas
 pub mod DrivingLemmas
 pub mod EvalLemmas
@@ -8,4 +10,3 @@ pub mod LoopLemmas
 pub mod NameLemmas
 pub mod OrderLemmas
 pub mod TurnLemmas
-mod Examples

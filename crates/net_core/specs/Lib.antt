@@ -2,6 +2,7 @@ pub mod GateValue
 pub mod LatchValue
 pub mod NetList
 pub mod Inside
+pub mod KeyedHash
 pub mod Lists
 pub mod Sound
 pub mod Level
@@ -13,3 +14,4 @@ pub mod Turned
 pub mod Levelled
 pub mod Partial
 pub mod Driving
+pub mod private

@@ -1,16 +1,16 @@
--- An edge to an open point closes a ring; what is done is grounded.
+-- An edge to an open point closes a cycle; what is done is grounded.
 use Rattle.std.proofs.Common.{◌≡◌, ◌∙◌, ap, sym, refl, inl, inr, subst, ℕ, zero, suc, ◌<◌, ◌≤◌, ◌+◌, ◌-◌, List, [], ◌∷◌, ◌++◌, length, drop, map, Some, arith, add-zero}
 use Rattle.std.proofs.lemmas.Option.{slice_get_within}
 use Rattle.std.specs.Prelude.{slice_get}
 use Rattle.graph_core.specs.Graph.{Graph, edges, IsPath}
 use Rattle.graph_core.specs.Walk.{IsWalkBy}
-use Rattle.graph_core.specs.Ring.{IsGrounded, grounded, IsEndless, IsFirstEndless, IsRingOf}
+use Rattle.graph_core.specs.Cycle.{IsGrounded, grounded, IsEndless, IsFirstEndless, IsCycleOf}
 use Rattle.graph_core.specs.Arranged.{IsArranged}
-use Rattle.graph_core.specs.Walking.{IsWalking, IsMet, StartsAt, EarlierAreGrounded}
+use Rattle.graph_core.specs.Walking.{IsWalking, IsMet, MetAreReached, StartsAt, EarlierAreGrounded}
 use Rattle.graph_core.specs.declared.walk.Mark.{Mark}
 use Rattle.graph_core.specs.declared.walk.Mark.TheVariants.{Unseen, Open, Done}
 use Rattle.graph_core.specs.declared.walk.Frame.{Frame}
-use Rattle.graph_core.proofs.GroundLemmas.{grounded_no_ring, endless_path}
+use Rattle.graph_core.proofs.GroundLemmas.{grounded_no_cycle, endless_path}
 use Rattle.graph_core.proofs.ListLemmas.{got_push, get_here, get_below}
 
 done_below : (graph : Graph) (marks : List Mark) (stack : List Frame) (order : List ℕ) → IsWalking graph marks stack order → (bound place point : ℕ) → place < bound → slice_get marks point ≡ Some (Done place) → IsGrounded graph point
@@ -70,7 +70,7 @@ module _ (graph : Graph) (marks : List Mark) (front : List Frame) (f : Frame) (o
       let path = up p found.0 found.1 in
       let P : ℕ → Type 0 = λ a. IsPath graph a path.0 to in
       let closed : IsPath graph to path.0 to = subst P found.2 path.1 in
-      grounded_no_ring graph to ground path.0 closed
+      grounded_no_cycle graph to ground path.0 closed
 
   frame_endless : (k : ℕ) (h : Frame) → slice_get (front ++ f ∷ []) k ≡ Some h → IsEndless graph h.point
   frame_endless k h got = let path = up k h got in endless_path graph h.point path.0 to path.1 to_endless
@@ -80,7 +80,7 @@ module _ (graph : Graph) (marks : List Mark) (front : List Frame) (f : Frame) (o
   first_endless k h b got next endless =
       (h.next, next, endless, λ j c less at. let low = (walk.frames k h got).1 j c less at in done_grounded graph marks (front ++ f ∷ []) order low.0 c walk low.1)
 
-  -- the walk from the root to the edge that closes the ring
+  -- the walk from the root to the edge that closes the cycle
   closing_walk : (root i : ℕ) (roots : List ℕ) → StartsAt root (front ++ f ∷ []) → EarlierAreGrounded graph roots root i → IsWalkBy (IsFirstEndless graph roots) (λ a b. IsFirstEndless graph (edges graph a) b) (map (λ (h : Frame). h.point) (front ++ f ∷ []))
   closing_walk root i roots starts earlier =
       record {
@@ -102,8 +102,8 @@ module _ (graph : Graph) (marks : List Mark) (front : List Frame) (f : Frame) (o
             cc;
       }
 
-  pub closing_ring : (root i : ℕ) (roots ring : List ℕ) → StartsAt root (front ++ f ∷ []) → EarlierAreGrounded graph roots root i → ring ≡ map (λ (h : Frame). h.point) (drop p front) ++ f.point ∷ [] → IsRingOf graph roots ring
-  closing_ring root i roots ring starts earlier ring_is =
+  pub closing_cycle : (root i : ℕ) (roots cycle : List ℕ) → StartsAt root (front ++ f ∷ []) → EarlierAreGrounded graph roots root i → cycle ≡ map (λ (h : Frame). h.point) (drop p front) ++ f.point ∷ [] → IsCycleOf graph roots cycle
+  closing_cycle root i roots cycle starts earlier cycle_is =
       let within : p ≤ length front = open_within graph marks front f order to p walk is in
       let long : length (map (λ (h : Frame). h.point) (front ++ f ∷ [])) ≡ length front + 1 = omega (arith, length_map (λ (h : Frame). h.point) (front ++ f ∷ []), length_more front f) in
       record {
@@ -123,7 +123,7 @@ module _ (graph : Graph) (marks : List Mark) (front : List Frame) (f : Frame) (o
             let goal : b ≡ to = sym h.2 ∙ sym (ap (λ (x : Frame). x.point) top) ∙ found.2 in
             let own : a ≡ f.point = sym g.2 ∙ sym (ap (λ (x : Frame). x.point) same) in
             rw (own, goal) (first_endless (length front) f to here edge to_endless);
-        loop_is = ring_is ∙ drop_map_push (λ (h : Frame). h.point) p front f within;
+        loop_is = cycle_is ∙ drop_map_push (λ (h : Frame). h.point) p front f within;
       }
     where
       length_more : (xs : List Frame) (x : Frame) → length (xs ++ x ∷ []) ≡ length xs + 1
@@ -139,10 +139,11 @@ by_mark graph marks order point walk (Done r) is not = (r, is)
 pub met_done : (graph : Graph) (marks : List Mark) (order : List ℕ) (point : ℕ) → IsWalking graph marks [] order → IsMet marks point → (r : ℕ) × (slice_get marks point ≡ Some (Done r))
 met_done graph marks order point walk met = by_mark graph marks order point walk met.0 met.1 met.2
 
-pub arranged : (graph : Graph) (marks : List Mark) (roots order : List ℕ) → IsWalking graph marks [] order → ((k a : ℕ) → slice_get roots k ≡ Some a → IsMet marks a) → IsArranged graph roots order
-arranged graph marks roots order walk met =
+pub arranged : (graph : Graph) (marks : List Mark) (roots order : List ℕ) → IsWalking graph marks [] order → ((k a : ℕ) → slice_get roots k ≡ Some a → IsMet marks a) → MetAreReached graph roots marks → IsArranged graph roots order
+arranged graph marks roots order walk met reached =
     record {
       has_roots = λ a has. let r = met_done graph marks order a walk (met has.0 a has.1) in (r.0, (walk.done a r.0 r.1).0);
+      only = λ a has. reached a (Done has.0, walk.ordered has.0 a has.1, λ e. cc);
       inside = λ a has. omega (arith, slice_get_within marks a (Done has.0) (walk.ordered has.0 a has.1), walk.long);
       once = λ i j a first second. let e = walk.ordered i a first in let e' = walk.ordered j a second in cc;
       after = λ i a b at edge.

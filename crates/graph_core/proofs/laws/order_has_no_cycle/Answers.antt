@@ -1,5 +1,5 @@
 use Rattle.graph_core.proofs.LawLemmas.{arranged_grounded, not_both}
-use Rattle.graph_core.proofs.laws.order_has_no_ring.Goals as goal
+use Rattle.graph_core.proofs.laws.order_has_no_cycle.Goals as goal
 
 pub returns-clause-grounded : goal.returns-clause-grounded
 returns-clause-grounded c = arranged_grounded
