@@ -24,4 +24,5 @@ pub mod WordBitLemmas
 pub mod WordPolyLemmas
 pub mod PlainStageLemmas
 pub mod SomePolynomialLemmas
+pub mod InterpolationLemmas
 mod Examples

@@ -4,6 +4,7 @@ pub mod Mix
 pub mod Stage
 pub mod CutSteps
 pub mod InputPoint
+pub mod First
 pub mod WordStage
 pub mod Listing
 pub mod WordListing
