@@ -70,7 +70,7 @@ is_word_point k p w a at less = record { words = length-set p.words w a ∙ at.w
 bit_here : (p : Point) (r : ℕ) (b : Bool) (s : ℕ) → s ≡ r → (at_bit p r b).is_one s ≡ b
 bit_here p r b s e = ap (λ c. cond c b (p.is_one s)) (eq-eqb s r e)
 
-bit_elsewhere : (p : Point) (r : ℕ) (b : Bool) (s : ℕ) → s ≢ r → (at_bit p r b).is_one s ≡ p.is_one s
+pub bit_elsewhere : (p : Point) (r : ℕ) (b : Bool) (s : ℕ) → s ≢ r → (at_bit p r b).is_one s ≡ p.is_one s
 bit_elsewhere p r b s n = ap (λ c. cond c b (p.is_one s)) (ne_eqb s r n)
 
 -- one more rank with one bit

@@ -25,4 +25,10 @@ pub mod WordPolyLemmas
 pub mod PlainStageLemmas
 pub mod SomePolynomialLemmas
 pub mod InterpolationLemmas
+pub mod FunctionLemmas
+pub mod SomeStageLemmas
+pub mod SearchLemmas
+pub mod SomeOverLemmas
+pub mod InputPointLemmas
+pub mod OutputInBitsLemmas
 mod Examples
