@@ -1,11 +1,10 @@
 -- The polynomial of the mix of all words is the output in words.
-use Rattle.std.proofs.Common.{◌≡◌, ◌↔◌, ap, refl, subst, ℕ, zero, suc, ◌<◌, List, [], ◌∷◌, length, take, arith}
+use Rattle.std.proofs.Common.{◌≡◌, ◌↔◌, refl, subst, ℕ, zero, suc, ◌<◌, List, [], ◌∷◌, length, take, arith}
 use Rattle.std.specs.Prelude.{slice_get}
 use Rattle.circuit_model.specs.Circuit.{Circuit}
 use Rattle.circuit_model.specs.WellFormed.{IsWellFormed}
 use Rattle.circuit_model.specs.Out.{IsOut}
-use Rattle.poly_mixed.specs.Polynomial.{Terms, Point, value}
-use Rattle.stage_model.specs.First.{AgreeAtFirst}
+use Rattle.poly_mixed.specs.Polynomial.{Terms, value}
 use Rattle.stage_model.specs.InputPoint.{input_of}
 use Rattle.stage_model.specs.Mix.{IsMix}
 use Rattle.stage_model.specs.OutputInWords.{IsOutputInWords}
