@@ -4,9 +4,14 @@ pub mod Mix
 pub mod Stage
 pub mod CutSteps
 pub mod InputPoint
+pub mod First
+pub mod OutputInBits
+pub mod OutputInWords
 pub mod WordStage
+pub mod Listing
+pub mod WordListing
+pub mod CircuitListing
 pub mod StageList
 pub mod WordSteps
-pub mod Plain
 pub mod PlainWord
-pub mod Listing
+pub mod private
