@@ -1,11 +1,10 @@
 //! Designs: the models of a text.
-ghost use Rattle.std.specs.Prelude.{◌≡◌, ℕ, List, is_some, if◌then◌else◌, ◌<◌, ◌++◌, ◌∷◌, [], Some, length, slice_get, All, IfOk, None};
+ghost use Rattle.std.specs.Prelude.{◌≡◌, ℕ, List, is_some, if◌then◌else◌, ◌<◌, ◌++◌, ◌∷◌, [], Some, length, slice_get, IfOk, IfSome, IfNone};
 ghost use Rattle.std.specs.Str.{bytes_eq};
 ghost use Rattle.indexmap.specs.IndexMap.{get_by_text};
-ghost use Rattle.net_blif.specs.Item.{IsSoundItem};
 ghost use Rattle.net_blif.specs.Design.{ModelValue, items_of, model_from, model_named};
 
-use crate::item::Item;
+use crate::item_list::ItemList;
 use indexmap::IndexMap;
 use net_core::Name;
 use std::alloc::{AllocError, Global};
@@ -19,26 +18,21 @@ type Numbers = IndexMap<String, u32, BuildHasherDefault<DefaultHasher>>;
 #[derive(Drop)]
 pub struct ModelText {
     name: Name,
-    items: Vec<Item>,
+    items: ItemList,
 }
 
 impl Model for ModelText {
-    ghost use Rattle.std.specs.Prelude.{All};
-    ghost use Rattle.net_blif.specs.Item.{IsSoundItem};
     ghost use Rattle.net_blif.specs.Design.{ModelValue};
 
     ghost Value = { ModelValue };
 
-    ghost view = { λ m. record { name = m.name; items = m.items.items } };
-
-    ghost invariant = { λ m. All IsSoundItem m.items.items };
+    ghost view = { λ m. record { name = m.name; items = m.items } };
 }
 
 impl ModelText {
     /// A model of this name that places these.
-    pub fn new(name: Name, items: Vec<Item>) -> ModelText
-        requires { All IsSoundItem items.items }
-        ensures { result ≡ record { name = name; items = items.items } }
+    pub fn new(name: Name, items: ItemList) -> ModelText
+        ensures { result ≡ record { name = name; items = items } }
     {
         ModelText { name, items }
     }
@@ -51,11 +45,10 @@ impl ModelText {
     }
 
     /// What its lines place, in order.
-    pub fn items(&self) -> &[Item]
-        ensures items { result.now ≡ self.now.items }
-        ensures sound { All IsSoundItem result.now }
+    pub fn items(&self) -> &ItemList
+        ensures { result.now ≡ self.now.items }
     {
-        self.items.as_slice()
+        &self.items
     }
 }
 
@@ -126,14 +119,14 @@ impl Design {
         self.models[model as usize].name()
     }
 
-    // What the lines of a model place, in order.
-    pub(crate) fn items(&self, model: u32) -> &[Item]
-        ensures items { result.now ≡ items_of self.now model }
-        ensures sound { All IsSoundItem result.now }
+    // What the lines of a model place, in order; none where there is no such model.
+    pub(crate) fn items(&self, model: u32) -> Option<&ItemList>
+        ensures found { IfSome result (λ items. items.now ≡ items_of self.now model) }
+        ensures none { IfNone result (items_of self.now model ≡ []) }
     {
         match self.models.get(model as usize) {
-            Some(found) => found.items(),
-            None => &[],
+            Some(found) => Some(found.items()),
+            None => None,
         }
     }
 }
