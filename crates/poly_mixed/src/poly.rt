@@ -35,7 +35,7 @@ impl Model for Poly {
 impl Poly {
     /// The polynomial without terms.
     pub fn zero(alloc: Global) -> Poly
-        ensures { result ≡ polynomial [] }
+        ensures { result.terms ≡ [] }
     {
         Poly {
             map: BTreeMap::new(alloc),
@@ -58,7 +58,7 @@ impl Poly {
         mono: Mono,
     ) -> Result<Poly, AllocError>
         requires { IsTerm (F.degree _field.now) (mono, coefficient) }
-        ensures { IfOk result (λ p. p ≡ polynomial (with_coefficient mono coefficient [])) }
+        ensures { IfOk result (λ p. p.terms ≡ with_coefficient mono coefficient []) }
     {
         let _rising = mono.bits();
         let mut map = BTreeMap::new(alloc);
@@ -69,6 +69,7 @@ impl Poly {
     }
 
     /// Adds another polynomial to it; both are over the field, with coefficients and exponents below 2^k.
+    /// After want of memory the polynomial is not used again.
     pub fn add_into<F: Field>(&mut self, _field: &F, other: &Poly) -> Result<(), AllocError>
         requires over { IsReduced (F.degree _field.now) self.old.terms }
         requires other_over { IsReduced (F.degree _field.now) other.now.terms }
@@ -80,7 +81,7 @@ impl Poly {
     }
 
     fn add_terms(&mut self, other: &Poly) -> Result<(), AllocError>
-        ensures { OnOk result (self.new ≡ polynomial (plus text_cmp self.old.terms other.now.terms)) }
+        ensures { OnOk result (self.new.terms ≡ plus text_cmp self.old.terms other.now.terms) }
     {
         for (mono, coefficient) in &other.map {
             self.add_term(mono.copied()?, *coefficient)?;
@@ -88,9 +89,10 @@ impl Poly {
         Ok(())
     }
 
-    pub(crate) fn add_term(&mut self, mono: Mono, c: u64) -> Result<(), AllocError>
+    /// Adds a term, whose coefficient is not 0. After want of memory the polynomial is not used again.
+    pub fn add_term(&mut self, mono: Mono, c: u64) -> Result<(), AllocError>
         requires { c ≢ 0 }
-        ensures { OnOk result (self.new ≡ polynomial (plus_term text_cmp self.old.terms (mono, c))) }
+        ensures { OnOk result (self.new.terms ≡ plus_term text_cmp self.old.terms (mono, c)) }
     {
         let _rising = mono.bits();
         add_to(&mut self.map, mono, c)?;
@@ -157,12 +159,13 @@ impl Poly {
     }
 
     /// Takes out the terms with the bit, and gives them without it.
+    /// After want of memory the polynomial is not used again.
     pub fn take_cofactor(&mut self, alloc: Global, bit: u32) -> Result<Poly, AllocError>
         ensures map { IfOk result (λ q. IsCofactor bit self.old.terms q.terms) }
         ensures reduced { (k : ℕ) → IsReduced k self.old.terms → IfOk result (λ q. IsReduced k q.terms) }
         ensures values { (mul : ℕ → ℕ → ℕ) → IfOk result (λ q. HasCofactorValues mul bit self.old.terms q.terms) }
         ensures stands { IfOk result (λ q. LacksBit bit self.old.terms ↔ (q.terms ≡ [])) }
-        ensures left { OnOk result (self.new ≡ polynomial (lacking bit self.old.terms)) }
+        ensures left { OnOk result (self.new.terms ≡ lacking bit self.old.terms) }
     {
         let part = self.cofactor(alloc, bit)?;
         if part.len() == 0 {
@@ -173,6 +176,7 @@ impl Poly {
     }
 
     /// Puts a polynomial in place of a bit; both are over the field, with coefficients and exponents below 2^k.
+    /// After want of memory the polynomial is not used again.
     pub fn substitute_bit<F: Field>(
         &mut self,
         field: &F,
@@ -191,7 +195,7 @@ impl Poly {
     }
 
     fn drop_bit(&mut self, bit: u32)
-        ensures { self.new ≡ polynomial (lacking bit self.old.terms) }
+        ensures { self.new.terms ≡ lacking bit self.old.terms }
     {
         self.map.retain(|mono, _| !mono.has(bit));
     }

@@ -2,7 +2,7 @@ use Rattle.std.proofs.Common.{◌≡◌, rules, not, sym, ◌∙◌, ap, subst}
 use Rattle.std.proofs.lemmas.Map.Made.{filter_same_pairs}
 use Rattle.poly_mixed.specs.Monomial.{has_bit}
 use Rattle.poly_mixed.specs.Cofactor.{lacking}
-use Rattle.poly_mixed.specs.Polynomial.{Polynomial, IsMap, polynomial}
+use Rattle.poly_mixed.specs.Polynomial.{Polynomial, IsMap}
 use Rattle.poly_mixed.proofs.Cofactors.{lacking_map}
 use Rattle.poly_mixed.proofs.poly.Poly.drop_bit.Goals as goal
 
@@ -13,4 +13,4 @@ pub invariant_of-self : goal.invariant_of-self
 invariant_of-self c = subst IsMap (sym (kept c)) (lacking_map c.args.bit c.self.inside.map.entries c.self.invariant)
 
 pub returns : goal.returns
-returns c = ap polynomial (kept c) ∙ ap (λ (p : Polynomial). polynomial (lacking c.args.bit p.terms)) c.self.view_is
+returns c = kept c ∙ ap (λ (p : Polynomial). lacking c.args.bit p.terms) c.self.view_is
