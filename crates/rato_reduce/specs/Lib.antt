@@ -1,3 +1,6 @@
 pub mod Refusal
 pub mod GatePoint
 pub mod Recorded
+pub mod CutKey
+pub mod CutTerms
+pub mod Monomials
