@@ -15,6 +15,8 @@ mod single;
 mod stage;
 mod steps;
 mod table;
+#[cfg(test)]
+mod table_tests;
 mod term;
 #[cfg(test)]
 mod tests;

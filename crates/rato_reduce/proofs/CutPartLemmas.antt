@@ -15,7 +15,7 @@ use Rattle.poly_mixed.specs.Monomial.{Monomial, has_bit, text_cmp, text_cmp_tota
 use Rattle.poly_mixed.specs.Polynomial.{Terms, IsMap, IsTerm, coefficient}
 use Rattle.poly_mixed.specs.Cofactor.{LacksBit, lacking, cofactors, with_bit, without_bit}
 use Rattle.poly_mixed.specs.Sum.{xor_sum, plus}
-use Rattle.poly_mixed.proofs.Cofactors.{rising-filter, lacking_map, cofactors_map, none_of_absent, absent_of_none, all_lacking}
+use Rattle.poly_mixed.proofs.Cofactors.{rising-filter, lacking_all, lacking_map, cofactors_map, none_of_absent, absent_of_none, all_lacking}
 use Rattle.poly_mixed.proofs.Monomials.{text_cmp-same}
 use Rattle.poly_mixed.proofs.OneBit.{is_cofactor}
 use Rattle.poly_mixed.proofs.Ranks.{from_less}
@@ -24,7 +24,7 @@ use Rattle.poly_mixed.proofs.Values.{same_map, one_map}
 use Rattle.rato_reduce.specs.CutKey.{CutKey, place_at, first_from, key_of, key_cmp}
 use Rattle.rato_reduce.specs.CutTerms.{of_bits, IsBitTerm, term_of, cut_polynomial, IsEntry, AreEntries, begins_up_to, products, all_products}
 use Rattle.rato_reduce.proofs.CutLemmas.{coefficient_sum, sum_map_is, nothing_map, entry_terms, cut_is_map, all_unit}
-use Rattle.rato_reduce.proofs.ProductLemmas.{plus_append}
+use Rattle.rato_reduce.proofs.ProductLemmas.{plus_append, sum_append}
 
 -- ---- the terms without the bit
 
@@ -59,10 +59,6 @@ one_term_map t is = one_map t.0 t.1 is.rising is.some
 cofactors_split : (bit : ℕ) (t : Monomial × ℕ) (ts : Terms) → cofactors bit (t ∷ ts) ≡ cofactors bit (t ∷ []) ++ cofactors bit ts
 cofactors_split bit t ts = elim (has_bit bit t.0) as (λ b. cond b ((without_bit bit t.0, t.1) ∷ cofactors bit ts) (cofactors bit ts) ≡ cond b ((without_bit bit t.0, t.1) ∷ []) [] ++ cofactors bit ts) [ true ↦ refl | false ↦ refl ]
 
-sum_append : (f : Monomial × ℕ → ℕ) (ts us : Terms) → xor_sum f (ts ++ us) ≡ bit_xor (xor_sum f ts) (xor_sum f us)
-sum_append f [] us = sym (xor_zero_l (xor_sum f us))
-sum_append f (t ∷ ts) us = ap (bit_xor (f t)) (sum_append f ts us) ∙ sym (xor_assoc (f t) (xor_sum f ts) (xor_sum f us))
-
 one_cofactor_sum : (bit : ℕ) (q : Monomial) (t : Monomial × ℕ) → IsBitTerm t → xor_sum (at text_cmp q) (cofactors bit (t ∷ [])) ≡ cond (has_bit bit q) 0 (at text_cmp (with_bit bit q) t)
 one_cofactor_sum bit q t is =
     let map = one_term_map t is in
@@ -88,10 +84,6 @@ cofactor_terms bit (t ∷ ts) all = elim (has_bit bit t.0) as (λ b. AllByRecurs
   | true ↦ (record { no_words = ap (without_bit bit) all.0.no_words; rising = rising-filter (λ r. not (nat_eq r bit)) t.0.bits all.0.rising; some = all.0.some }, cofactor_terms bit ts all.1)
   | false ↦ cofactor_terms bit ts all.1
 ]
-
-pub lacking_terms : (P : Monomial × ℕ → Type 0) (bit : ℕ) (ts : Terms) → AllByRecursion P ts → AllByRecursion P (lacking bit ts)
-lacking_terms P bit [] all = tt
-lacking_terms P bit (t ∷ ts) all = elim (has_bit bit t.0) as (λ b. AllByRecursion P (cond (not b) (t ∷ lacking bit ts) (lacking bit ts))) [ true ↦ lacking_terms P bit ts all.1 | false ↦ (all.0, lacking_terms P bit ts all.1) ]
 
 cofactors_over : (k bit : ℕ) (ts : Terms) → AllByRecursion (IsTerm k) ts → AllByRecursion (IsTerm k) (cofactors bit ts)
 cofactors_over k bit [] all = tt
@@ -213,7 +205,7 @@ module _ (bit : ℕ) (whole front rest : Terms) (are : whole ≡ front ++ rest) 
       let few = plus text_cmp [] rest in
       let rest_terms = all_end IsBitTerm front rest both in
       let few_map = sum_map_is [] rest nothing_map rest_terms in
-      let others = lacking_terms IsBitTerm bit front front_terms in
+      let others = lacking_all IsBitTerm bit front front_terms in
       let all_map = sum_map_is few (lacking bit front) few_map others in
       same_map (plus text_cmp few (lacking bit front)) (lacking bit (plus text_cmp [] whole)) all_map (lacking_map bit (plus text_cmp [] whole) (sum_map_is [] whole nothing_map each))
       (λ q.

@@ -61,7 +61,7 @@ reduced_more k old us reduced all over = record {
   terms = all_plus text_cmp (IsTerm k) (λ t u h m n. record { monomial = h.monomial; element = xor_lt k t.1 u.1 h.element m.element }) old us reduced.terms over;
 }
 
-sum_append : (f : Monomial × ℕ → ℕ) (ts us : Terms) → xor_sum f (ts ++ us) ≡ bit_xor (xor_sum f ts) (xor_sum f us)
+pub sum_append : (f : Monomial × ℕ → ℕ) (ts us : Terms) → xor_sum f (ts ++ us) ≡ bit_xor (xor_sum f ts) (xor_sum f us)
 sum_append f [] us = sym (xor_zero_l (xor_sum f us))
 sum_append f (t ∷ ts) us = ap (bit_xor (f t)) (sum_append f ts us) ∙ sym (xor_assoc (f t) (xor_sum f ts) (xor_sum f us))
 

@@ -1,4 +1,3 @@
-pub mod Refusal
 pub mod GatePoint
 pub mod Recorded
 pub mod CutKey

@@ -58,7 +58,9 @@ impl Ranks {
     pub fn union(&self, other: &Ranks) -> Result<Ranks, AllocError>
         ensures { IfOk result (λ r. r ≡ union self.now other.now) }
     {
-        let mut items = self.items.clone()?;
+        let most = self.items.len().saturating_add(other.items.len());
+        let mut items = SmallVec::with_capacity(*self.items.allocator(), most)?;
+        items.extend_from_slice(self.items.as_slice())?;
         for rank in other.items.as_slice() {
             add_rank(&mut items, *rank)?;
         }

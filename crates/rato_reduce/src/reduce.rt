@@ -3,8 +3,8 @@ ghost use Rattle.std.specs.Prelude.{◌≡◌, ◌+◌, ◌<◌, ◌≤◌, leng
 ghost use Rattle.gf_basis.specs.BasisParts.{elements_of, IsOver};
 ghost use Rattle.net_core.specs.Order.{IsElimination};
 ghost use Rattle.stage_model.specs.Cut.{BoundCut};
-ghost use Rattle.stage_model.specs.Stage.{IsOfStage, IsNoneOver};
-ghost use Rattle.rato_reduce.specs.Refusal.{IsCutRefusal};
+ghost use Rattle.stage_model.specs.Listing.{AreAllWithin, IsRefusal, cut_listing};
+ghost use Rattle.stage_model.specs.Stage.{IsOfStage};
 ghost use Rattle.rato_reduce.specs.Recorded.{IsRecorded};
 
 use crate::cut::Cut;
@@ -59,8 +59,8 @@ pub fn reduce_bits<F: Field, T: Steps>(
     requires bits { circuit.now.bound.k ≡ F.degree field.now }
     requires basis { IsOver (F.degree field.now) (F.product field.now) output.now }
     ensures last { IfOk result (λ q. IsOfStage (F.degree field.now) (F.product field.now) (BoundCut circuit.now (elements_of output.now) (length circuit.now.net.gates)) q.terms) }
-    ensures within { OnOk result (IsNoneOver (F.degree field.now) (F.product field.now) (BoundCut circuit.now (elements_of output.now)) (length circuit.now.net.gates + 1) bound) }
-    ensures fault { IfErr result (IsCutRefusal (F.degree field.now) (F.product field.now) (BoundCut circuit.now (elements_of output.now)) (length circuit.now.net.gates + 1) bound) }
+    ensures within { OnOk result (AreAllWithin (F.degree field.now) (F.product field.now) (cut_listing (length circuit.now.net.gates + 1) (BoundCut circuit.now (elements_of output.now))) bound) }
+    ensures fault { IfErr result (IsRefusal (F.degree field.now) (F.product field.now) (cut_listing (length circuit.now.net.gates + 1) (BoundCut circuit.now (elements_of output.now))) bound) }
     ensures steps { OnOk result (IsRecorded (F.degree field.now) (F.product field.now) circuit.now (elements_of output.now) (length circuit.now.net.gates) (T.steps steps.old) (T.steps steps.new)) }
 {
     let net = circuit.net();

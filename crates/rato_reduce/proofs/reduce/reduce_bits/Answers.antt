@@ -3,8 +3,8 @@ use Rattle.gf_basis.specs.BasisParts.{elements_of}
 use Rattle.net_words.specs.Variables.{variables}
 use Rattle.circuit_model.specs.OfBinding.{output_word}
 use Rattle.stage_model.specs.Cut.{BoundCut}
-use Rattle.rato_reduce.specs.Refusal.{IsCutRefusal}
-use Rattle.rato_reduce.proofs.Bound.{none_before, one_more, just}
+use Rattle.stage_model.specs.Listing.{IsRefusal, cut_listing}
+use Rattle.rato_reduce.proofs.Bound.{none_before, one_more, just, all_within}
 use Rattle.rato_reduce.proofs.Recorded.{nothing_recorded}
 use Rattle.rato_reduce.proofs.Turn.{position_inside, read_at, first_now, turn, told_more, is_cut, is_recorded}
 use Rattle.net_core.specs.Lists.{Has}
@@ -51,7 +51,7 @@ returns-in_err-check_size-clause-fault g c =
     let is = subst E c.net-net.ensures.net c.in_ok-order.ensures in
     let list : c.deref-2.result.now ≡ output_bits circuit.bound.words = c.deref-2.ensures.value ∙ (c.in_ok-list.ensures ∙ ap (λ (b : Binding). output_bits b.words) c.bound.ensures.bound) in
     let first = first_now degree mul circuit basis order is c.deref-2.result.now c.in_ok-cut.cut.terms c.bound.ensures.is_bound c.requires.bits c.requires.basis.elements.size list c.in_ok-cut.ensures in
-    let fault : IsCutRefusal degree mul (BoundCut circuit basis) (length circuit.net.gates + 1) c.args.bound c.in_err-check_size.field-0.0 =
+    let fault : IsRefusal degree mul (cut_listing (length circuit.net.gates + 1) (BoundCut circuit basis)) c.args.bound c.in_err-check_size.field-0.0 =
     just degree mul (BoundCut circuit basis) c.args.bound (length circuit.net.gates + 1) 0 c.in_ok-cut.cut.terms c.in_err-check_size.field-0.0 (omega arith) (none_before degree mul (BoundCut circuit basis) c.args.bound)
     (is_cut degree mul circuit basis order is 0 c.in_ok-cut.cut.terms first) c.in_err-check_size.ensures.over.1 c.in_err-check_size.ensures.over.0 in
     search rules
@@ -114,7 +114,7 @@ returns-in_err-check_size-2-clause-fault g c =
     let at_net = subst S gates (read_at c.gates.result.now c.index.result.now c.index-gates-index.result (subst L (sym gates) (position_inside circuit.net order c.loop-t.t c.index.result.now is at)) c.index-gates-index.is) in
     let next = turn degree mul circuit basis order is c.loop-t.t c.index.result.now c.index-gates-index.result c.loop-t.cut.terms c.eliminate.new.cut.terms sound c.net-net.ensures.is_bound at at_net c.loop-t.invariant.is c.in_ok-eliminate.ensures.reduced c.in_ok-eliminate.ensures.values in
     let long : length order ≡ length circuit.net.gates = elimination_long circuit.net order is in
-    let fault : IsCutRefusal degree mul (BoundCut circuit basis) (length circuit.net.gates + 1) c.args.bound c.in_err-check_size-2.field-0.0 =
+    let fault : IsRefusal degree mul (cut_listing (length circuit.net.gates + 1) (BoundCut circuit basis)) c.args.bound c.in_err-check_size-2.field-0.0 =
     just degree mul (BoundCut circuit basis) c.args.bound (length circuit.net.gates + 1) (c.loop-t.t + 1) c.eliminate.new.cut.terms c.in_err-check_size-2.field-0.0 (omega arith) c.loop-t.invariant.within
     (is_cut degree mul circuit basis order is (c.loop-t.t + 1) c.eliminate.new.cut.terms next) c.in_err-check_size-2.ensures.over.1 c.in_err-check_size-2.ensures.over.0 in
     search rules
@@ -167,7 +167,7 @@ returns-clause-within g c =
     let long : length order ≡ length circuit.net.gates = elimination_long circuit.net order is in
     let done : c.loop-t.t ≡ length circuit.net.gates = omega arith in
     let P : ℕ → Type 0 = λ n. IsNoneOver (g.F.Ring.degree c.args.field.now) (g.F.Ring.product c.args.field.now) (BoundCut circuit (elements_of c.args.output.now)) (n + 1) c.args.bound in
-    subst P done c.loop-t.invariant.within
+    all_within (g.F.Ring.degree c.args.field.now) (g.F.Ring.product c.args.field.now) (BoundCut circuit (elements_of c.args.output.now)) c.args.bound (length circuit.net.gates + 1) (subst P done c.loop-t.invariant.within)
 
 pub returns-clause-steps : goal.returns-clause-steps
 returns-clause-steps g c =
