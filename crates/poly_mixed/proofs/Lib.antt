@@ -29,3 +29,4 @@ pub mod ReadBack
 pub mod TextLaws
 pub mod Recorders
 mod Examples
+mod FormLemmas
