@@ -1,5 +1,3 @@
-mod Examples
-pub mod ChainLemmas
 pub mod DriverLemmas
 pub mod DrivingLemmas
 pub mod EvalLemmas
@@ -10,3 +8,4 @@ pub mod LoopLemmas
 pub mod NameLemmas
 pub mod OrderLemmas
 pub mod TurnLemmas
+mod Examples

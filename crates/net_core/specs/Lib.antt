@@ -14,4 +14,3 @@ pub mod Turned
 pub mod Levelled
 pub mod Partial
 pub mod Driving
-pub mod private

@@ -1,6 +1,5 @@
-//! What a net is called.
+//! What nets are called.
 ghost use Rattle.std.specs.Prelude.{◌≡◌};
-ghost use Rattle.net_core.specs.NetList.{is_named};
 
 use crate::Name;
 use std::marker::Model;
@@ -31,19 +30,5 @@ impl Label {
         ensures { result.now ≡ self.now.text }
     {
         self.text.as_str()
-    }
-
-    // Whether the net is named, and not just told from others in messages.
-    pub(crate) fn named(&self) -> bool
-        ensures { result ≡ self.now.named }
-    {
-        self.named
-    }
-
-    // Whether the net has this name.
-    pub(crate) fn has_name(&self, name: &str) -> bool
-        ensures { result ≡ is_named name.now self.now }
-    {
-        self.named && name == self.text.as_str()
     }
 }

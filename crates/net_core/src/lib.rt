@@ -8,7 +8,6 @@ mod fault;
 mod gate;
 mod keyed_hash;
 mod label;
-mod labels;
 mod latch;
 mod laws;
 mod level_order;

@@ -4,8 +4,9 @@ ghost use Rattle.net_core.specs.NetList.{empty, nets, number_of, text_of, with_n
 ghost use Rattle.net_core.specs.Inside.{IsNetName, IsFull, HasNoMoreGates, IsInside};
 ghost use Rattle.net_core.specs.Turned.{turned};
 
-use crate::labels::Labels;
-use crate::{Gate, KeyedHash, Latch, NetFault, Start};
+use crate::label::Label;
+use crate::{Gate, KeyedHash, Latch, Name, NetFault, Start};
+use indexmap::IndexMap;
 use std::alloc::{AllocError, Global};
 use std::marker::Model;
 
@@ -13,12 +14,16 @@ const MAX_NETS: usize = 1 << 20;
 
 const MAX_GATES: usize = 1 << 20;
 
+// The number of each name, looked up by a hash with a key, since names that collide in a hash without one can be made.
+type Numbers = IndexMap<String, u32, KeyedHash>;
+
 /// A net list in the making. Contracts see it as the net list that was made so far.
 /// A call that is refused leaves it as it was.
 #[derive(Drop)]
 pub struct NetMaker {
     alloc: Global,
-    labels: Labels,
+    numbers: Numbers,
+    labels: Vec<Label>,
     inputs: Vec<u32>,
     outputs: Vec<u32>,
     gates: Vec<Gate>,
@@ -26,14 +31,17 @@ pub struct NetMaker {
 }
 
 impl Model for NetMaker {
-    ghost use Rattle.net_core.specs.NetList.{NetList};
+    ghost use Rattle.std.specs.Prelude.{◌≡◌, List, ℕ};
+    ghost use Rattle.indexmap.specs.IndexMap.{get_by_text};
+    ghost use Rattle.net_core.specs.NetList.{NetList, number_from};
     ghost use Rattle.net_core.specs.Inside.{IsInside};
 
     ghost Value = { NetList };
 
-    ghost view = { λ m. record { labels = m.labels.labels; inputs = m.inputs.items; outputs = m.outputs.items; gates = m.gates.items; latches = m.latches.items } };
+    ghost view = { λ m. record { labels = m.labels.items; inputs = m.inputs.items; outputs = m.outputs.items; gates = m.gates.items; latches = m.latches.items } };
 
-    ghost invariant = { λ m. IsInside (record { labels = m.labels.labels; inputs = m.inputs.items; outputs = m.outputs.items; gates = m.gates.items; latches = m.latches.items }) };
+    ghost invariant = { λ m. ((name : List ℕ) → get_by_text m.numbers name ≡ number_from 0 m.labels.items name)
+        × IsInside (record { labels = m.labels.items; inputs = m.inputs.items; outputs = m.outputs.items; gates = m.gates.items; latches = m.latches.items }) };
 }
 
 impl NetMaker {
@@ -51,7 +59,8 @@ impl NetMaker {
     {
         NetMaker {
             alloc,
-            labels: Labels::new(alloc, KeyedHash::new(key)),
+            numbers: IndexMap::with_hasher(alloc, KeyedHash::new(key)),
+            labels: Vec::new(alloc),
             inputs: Vec::new(alloc),
             outputs: Vec::new(alloc),
             gates: Vec::new(alloc),
@@ -72,7 +81,34 @@ impl NetMaker {
         ensures only { IfErr result (λ fault. (fault ≡ NetFault.TooManyNets) ⊎ (fault ≡ NetFault.OutOfMemory)) }
         ensures unchanged { OnErr result (self.new ≡ self.old) }
     {
-        self.labels.number(name)
+        match self.find(name) {
+            Some(number) => Ok(number),
+            None => self.add(name),
+        }
+    }
+
+    // The number of a net of a new name.
+    fn add(&mut self, name: &str) -> Result<u32, NetFault>
+        requires name { IsNetName name.now }
+        requires is_new { number_of self.old name.now ≡ None }
+        ensures number { IfOk result (λ n. number_of self.new name.now ≡ Some n) }
+        ensures within { IfOk result (λ n. n < nets self.new) }
+        ensures made { OnOk result (self.new ≡ with_label self.old name.now true) }
+        ensures room { OnOk result (IsFull self.old → ⊥) }
+        ensures full { IsErrOf result NetFault.TooManyNets → IsFull self.old }
+        ensures only { IfErr result (λ fault. (fault ≡ NetFault.TooManyNets) ⊎ (fault ≡ NetFault.OutOfMemory)) }
+        ensures unchanged { OnErr result (self.new ≡ self.old) }
+    {
+        if self.labels.len() >= MAX_NETS {
+            return Err(NetFault::TooManyNets);
+        }
+        let number = self.labels.len() as u32;
+        self.labels.reserve(1)?;
+        let text = Name::new(self.alloc, name)?;
+        let key = String::from_str(self.alloc, name)?;
+        self.numbers.insert(key, number)?;
+        self.labels.push(Label::new(text, true)).unwrap();
+        Ok(number)
     }
 
     /// The number of a new net that no name finds; the label is for messages.
@@ -89,7 +125,8 @@ impl NetMaker {
             return Err(NetFault::TooManyNets);
         }
         let number = self.labels.len() as u32;
-        self.labels.label(label)?;
+        let text = Name::new(self.alloc, label)?;
+        self.labels.push(Label::new(text, false))?;
         Ok(number)
     }
 
@@ -166,7 +203,7 @@ impl NetMaker {
         ensures number { result ≡ number_of self.now name.now }
         ensures within { IfSome result (λ n. n < nets self.now) }
     {
-        self.labels.find(name)
+        self.numbers.get(name).copied()
     }
 
     // How many nets there are.
@@ -182,7 +219,7 @@ impl NetMaker {
         requires { net < nets self.now }
         ensures { result.now ≡ text_of self.now net }
     {
-        self.labels.text(net)
+        self.labels[net as usize].as_str()
     }
 
     pub(crate) fn inputs(&self) -> &[u32]
