@@ -5,8 +5,10 @@ pub mod Stage
 pub mod CutSteps
 pub mod InputPoint
 pub mod WordStage
+pub mod Listing
+pub mod WordListing
+pub mod CircuitListing
 pub mod StageList
 pub mod WordSteps
 pub mod Plain
 pub mod PlainWord
-pub mod Listing

@@ -1,6 +1,6 @@
 -- Listings of stages: names, which of them are listed, the stage of a name, and which name comes before which; and the first
 -- stage of a listing over a bound. Source: this project's own.
-use Rattle.std.specs.Prelude.{◌≡◌, ℕ, ◌<◌, ◌≤◌, ◌⊎◌, ◌+◌, length}
+use Rattle.std.specs.Prelude.{ℕ, ◌<◌}
 use Rattle.poly_mixed.specs.Polynomial.{Point}
 use Rattle.poly_mixed.specs.declared.stage.ReduceFault.{ReduceFault}
 use Rattle.poly_mixed.specs.declared.stage.ReduceFault.TheVariants.{TooManyTerms, OutOfMemory}

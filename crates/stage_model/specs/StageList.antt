@@ -1,17 +1,15 @@
--- The stages of a circuit by name, their order, and the first over a bound. Source: this project's own.
-use Rattle.std.specs.Prelude.{◌≡◌, ℕ, ◌<◌, ◌≤◌, ◌⊎◌, Bool, true, false, length}
-use Rattle.poly_mixed.specs.Monomial.{Monomial}
+-- OLD FORM, gone once no crate cites it: the stages of a circuit by name, among which some are told by a test. In its place stand
+-- WordListing, CircuitListing and Listing. Source: this project's own.
+use Rattle.std.specs.Prelude.{◌≡◌, ℕ, ◌<◌, ◌≤◌, Bool, true, false, length}
 use Rattle.poly_mixed.specs.Polynomial.{Point}
 use Rattle.poly_mixed.specs.declared.stage.Stage.{Stage}
 use Rattle.poly_mixed.specs.declared.stage.Stage.TheVariants.{Cut, WordProduct, WordSum, SpecProduct, SpecSum, InstanceProduct, InstanceSum}
 use Rattle.circuit_model.specs.Circuit.{Circuit}
 use Rattle.stage_model.specs.Cut.{CutOf}
 use Rattle.stage_model.specs.Stage.{HasSize, IsWithin}
-use Rattle.stage_model.specs.WordStage.{word_bits, IsTermOf, IsProduct, IsSum}
-
--- nothing is related: what no stage of a circuit is
-abbrev pub Nothing : Point → ℕ → Type 0
-Nothing p e = ⊥
+use Rattle.stage_model.specs.Listing.{Nothing}
+use Rattle.stage_model.specs.WordStage.{IsProduct, IsSum}
+pub use Rattle.stage_model.specs.WordListing.{HasProduct, HasSum, IsEarlier}
 
 -- the stage of a name
 abbrev pub StageOf : Circuit → Stage → Point → ℕ → Type 0
@@ -23,20 +21,6 @@ StageOf circuit (SpecSum s) = Nothing
 StageOf circuit (InstanceProduct i s j) = Nothing
 StageOf circuit (InstanceSum i s) = Nothing
 
--- word w exists, term s of the polynomial in which it is replaced exists, and the term has a j-th bit of the word
-pub record HasProduct (circuit : Circuit) (w s j : ℕ) : Type 0 where
-  pub word : w < length circuit.words
-  pub term : Monomial × ℕ
-  pub is_term : IsTermOf circuit w s term
-  pub some : 1 ≤ j
-  pub bits : j ≤ length (word_bits circuit.k w term)
-
--- word w exists, and so does term s of the polynomial in which it is replaced
-pub record HasSum (circuit : Circuit) (w s : ℕ) : Type 0 where
-  pub word : w < length circuit.words
-  pub term : Monomial × ℕ
-  pub is_term : IsTermOf circuit w s term
-
 -- the name belongs to the list of the circuit's stages
 abbrev pub IsListed : Circuit → Stage → Type 0
 IsListed circuit (Cut t) = t ≤ length circuit.net.gates
@@ -46,10 +30,6 @@ IsListed circuit (SpecProduct s j) = ⊥
 IsListed circuit (SpecSum s) = ⊥
 IsListed circuit (InstanceProduct i s j) = ⊥
 IsListed circuit (InstanceSum i s) = ⊥
-
--- term r of word v is before term s of word w, or is that term and `same` holds
-abbrev pub IsEarlier : (v r w s : ℕ) → Type 0 → Type 0
-IsEarlier v r w s same = (v < w) ⊎ ((v ≡ w) × ((r < s) ⊎ ((r ≡ s) × same)))
 
 -- the order of stages: cuts by number, then word by word and term by term, the products of a term before its sum
 abbrev pub ComesBefore : Stage → Stage → Type 0
