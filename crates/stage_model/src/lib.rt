@@ -6,6 +6,7 @@ mod cut_terms;
 mod cut_value;
 mod laws;
 mod mix_laws;
+mod over_laws;
 mod ranks;
 mod settle;
 mod stage_laws;
@@ -23,12 +24,15 @@ pub use cut_terms::{cut_poly, cut_size};
 pub use cut_value::cut_at;
 pub use laws::{
     cuts_in_bits, cuts_of_bound, first_cut, last_cut, last_cut_in_words, one_element_a_cut,
-    one_first_cut_over, one_polynomial_a_cut, one_size_a_cut,
+    one_polynomial_a_cut, one_size_a_cut,
 };
 pub use mix_laws::{mix_of_all_words, mix_of_no_words, one_element_a_mix};
+pub use over_laws::{
+    bound_cuts_over, first_of_cuts_and_words, one_first_cut_over, one_first_over,
+    one_first_word_stage_over,
+};
 pub use stage_laws::{
-    one_element_a_stage, one_first_over, one_polynomial_a_stage, one_size_a_stage,
-    stages_are_ordered,
+    one_element_a_stage, one_polynomial_a_stage, one_size_a_stage, stages_are_ordered,
 };
 pub use word_bit::bit_poly;
 pub use word_laws::{
