@@ -8,4 +8,5 @@ pub mod NetlistLemmas
 pub mod NetlistDetermined
 pub mod RoleLemmas
 pub mod LabelLemmas
+pub mod CircuitLemmas
 pub mod RoseLemmas

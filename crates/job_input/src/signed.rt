@@ -14,7 +14,7 @@ use crate::files::read_file;
 use gf_tower::{AnyField, FieldFault};
 use job_io::Shelf;
 use job_words::{Fault, SignatureFault, Stop};
-use net_words::{SigFault, Signature, read_signature};
+use net_words::{SigFault, read_signature};
 use std::alloc::Global;
 
 /// A signature, and the field that it names.
