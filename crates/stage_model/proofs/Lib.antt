@@ -24,4 +24,11 @@ pub mod WordBitLemmas
 pub mod WordPolyLemmas
 pub mod PlainStageLemmas
 pub mod SomePolynomialLemmas
+pub mod InterpolationLemmas
+pub mod FunctionLemmas
+pub mod SomeStageLemmas
+pub mod SearchLemmas
+pub mod SomeOverLemmas
+pub mod InputPointLemmas
+pub mod OutputInBitsLemmas
 mod Examples

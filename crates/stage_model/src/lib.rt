@@ -4,8 +4,10 @@
 
 mod cut_terms;
 mod cut_value;
+mod existence_laws;
 mod laws;
 mod mix_laws;
+mod output_laws;
 mod over_laws;
 mod ranks;
 mod settle;
@@ -22,11 +24,16 @@ mod word_tests;
 
 pub use cut_terms::{cut_poly, cut_size};
 pub use cut_value::cut_at;
+pub use existence_laws::{
+    each_function_has_a_polynomial, each_mix_has_a_polynomial, each_stage_has_a_polynomial,
+    some_first_over,
+};
 pub use laws::{
     cuts_in_bits, cuts_of_bound, first_cut, last_cut, last_cut_in_words, one_element_a_cut,
     one_polynomial_a_cut, one_size_a_cut,
 };
 pub use mix_laws::{mix_of_all_words, mix_of_no_words, one_element_a_mix};
+pub use output_laws::{each_input_has_a_point, last_cut_is_output};
 pub use over_laws::{
     bound_cuts_over, first_of_cuts_and_words, one_first_cut_over, one_first_over,
     one_first_word_stage_over,
