@@ -33,4 +33,3 @@ as_many k (b ∷ bs) (w ∷ ws) (e ∷ es) long same =
     ∙ ((λ i. length (word_with (ap first_role same i) b.nets e) + as_many k bs ws es (omega arith) (ap rest_roles same) i)
     ∙ (ap (λ n. n + length (word_labels k ws)) (label_with w.role w.name b.nets e k)
     ∙ sym (length-append (word_label w.role w.name k) (word_labels k ws))))
-

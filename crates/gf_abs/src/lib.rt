@@ -10,6 +10,6 @@ mod top;
 
 pub use headline::{
     abstract_prints_the_output, bits_print_the_output, bytes_are_the_only_text,
-    equal_bytes_exactly_if_equal_functions, one_answer_or_fault,
+    each_taken_circuit_is_well_formed, equal_bytes_exactly_if_equal_functions, one_answer_or_fault,
 };
 pub use top::{run, run_surely};

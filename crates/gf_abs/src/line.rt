@@ -40,7 +40,11 @@ fn is_output(role: Role) -> bool
 }
 
 /// The output word's name, ` = ` and the polynomial's text.
-pub(crate) fn polynomial_line(alloc: Global, poly: &Poly, labels: &Labels) -> Result<Vec<u8>, AllocError>
+pub(crate) fn polynomial_line(
+    alloc: Global,
+    poly: &Poly,
+    labels: &Labels,
+) -> Result<Vec<u8>, AllocError>
     requires { HasNames labels.now poly.now.terms }
     ensures { IfOk result (λ line. line.items ≡ labels.now.output ++ (codes " = " ++ (text labels.now poly.now.terms ++ codes "\n"))) }
 {

@@ -37,7 +37,14 @@ pub(crate) fn answer<F: Field, S: Shelf>(
         (Rose (S.misses shelf.old) (S.misses shelf.new)) (Rose (S.faults shelf.old) (S.faults shelf.new)) }
 {
     match read_circuit(alloc, shelf, setting, net) {
-        Ok(circuit) => reply(alloc, field, &setting.signature, setting.bases.as_slice(), &circuit, terms),
+        Ok(circuit) => reply(
+            alloc,
+            field,
+            &setting.signature,
+            setting.bases.as_slice(),
+            &circuit,
+            terms,
+        ),
         Err(stop) => Err(stop),
     }
 }
