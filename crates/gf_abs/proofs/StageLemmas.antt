@@ -86,5 +86,5 @@ module _ (k : ℕ) (mul : ℕ → ℕ → ℕ) (b : BoundNet) (bases : List Basi
       record { reduced = cut.reduced; values = λ p at. (mix_none whole well job.flat p _ at).1 (cut.values p at) }
 
   -- no bit stands in the polynomial in words, so labels name all of it
-  pub words_named : (words : List WordText) (ts : Terms) → IsOfStage k mul (IsMix whole (length whole.words)) ts → HasNames (labels_of k words) ts
-  words_named words ts stage = named_terms (bit_count (word_labels k words) + 0) ts (λ rank high. mix_lacks whole well (length whole.words) rank ts (λ i j high' less _. absurd (omega arith)) stage)
+  pub terms_named : (words : List WordText) (ts : Terms) → IsOfStage k mul (IsMix whole (length whole.words)) ts → HasNames (labels_of k words) ts
+  terms_named words ts stage = named_terms (bit_count (word_labels k words) + 0) ts (λ rank high. mix_lacks whole well (length whole.words) rank ts (λ i j high' less _. absurd (omega arith)) stage)

@@ -10,3 +10,4 @@ pub mod RoleLemmas
 pub mod LabelLemmas
 pub mod CircuitLemmas
 pub mod RoseLemmas
+pub mod OutputLemmas

@@ -7,11 +7,13 @@ mod files;
 mod labels;
 mod laws;
 mod netlist;
+mod output;
 mod setting;
 mod signed;
 
 pub use circuit::read_circuit;
 pub use labels::labels_for;
 pub use laws::{each_setting_is_sound, one_netlist_or_fault, one_setting_or_fault};
+pub use output::output_basis;
 pub use setting::{Setting, setting_over};
 pub use signed::{Signed, read_signed};

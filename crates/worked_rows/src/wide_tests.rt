@@ -1,5 +1,5 @@
 //! The sum of two words of 64 bits: no table over all values of the 128 bits is ever made.
-use crate::tests::answer;
+use crate::program::{answer, files_of};
 use std::test::Fail;
 
 const SIGNATURE: &str =
@@ -11,8 +11,9 @@ const NET: &str =
 #[test]
 fn sum_of_two_words_of_64_bits(rt: HostRuntime) -> Result<(), Fail> {
     let words = ["abstract", "s64", "sum64"].as_slice();
-    let files = [("s64", SIGNATURE), ("sum64", NET)].as_slice();
-    let (status, bytes) = answer(rt.alloc(), words, files, &[], &[], 100)?;
+    let alloc = rt.alloc();
+    let files = files_of(alloc, &[("s64", SIGNATURE), ("sum64", NET)])?;
+    let (status, bytes) = answer(alloc, words, files, &[], &[], 100)?;
     assert_eq!(rt; bytes.as_slice(), b"Z = A + B\n".as_slice());
     assert_eq!(rt; status, 0);
     Ok(())

@@ -8,11 +8,11 @@ ghost use Rattle.job_input.specs.Setting.{setting_value, elements_of_each, AreBa
 ghost use Rattle.gf_abs.specs.Reply.{printed};
 ghost use Rattle.gf_abs.specs.commands.Bits.{BitsReply, BitsAnswer};
 
-use crate::line::{output_basis, polynomial_line};
+use crate::line::polynomial_line;
 use crate::stages::stage_stop;
 use gf_basis::Basis;
 use gf_field::Field;
-use job_input::{Setting, labels_for, read_circuit};
+use job_input::{Setting, labels_for, output_basis, read_circuit};
 use job_io::Shelf;
 use job_words::Stop;
 use net_words::{Combinational, Signature};
