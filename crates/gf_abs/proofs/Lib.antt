@@ -12,3 +12,4 @@ pub mod EqualLabels
 pub mod EqualLemmas
 pub mod EqualFunctions
 pub mod HeadlineLemmas
+mod Examples

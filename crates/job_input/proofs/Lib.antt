@@ -11,3 +11,4 @@ pub mod LabelLemmas
 pub mod CircuitLemmas
 pub mod RoseLemmas
 pub mod OutputLemmas
+mod Examples

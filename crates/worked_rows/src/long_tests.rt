@@ -1,13 +1,13 @@
 //! The conjunction of two bits of a word of 64 bits, whose polynomial has a text of 77,130 bytes.
-ghost use Rattle.gf_abs.specs.Setting.{any_degree, any_product, AreBasesOver};
+ghost use Rattle.job_input.specs.Setting.{AreBasesOver};
 
 use crate::plain_tests::{poly_in_words, value_at};
-use crate::setting::Setting;
-use crate::stage_tests::{circuit, setting};
-use crate::tests::answer;
+use crate::program::{answer, files_of, job, signed};
 use gf_basis::Basis;
 use gf_field::Field;
 use gf_tower::AnyField;
+use job_input::Signed;
+use job_io::MemShelf;
 use net_words::Combinational;
 use std::alloc::Global;
 use std::process::Abort;
@@ -21,9 +21,10 @@ const NET: &str =
 
 #[test]
 fn conjunction_in_64_bits(rt: HostRuntime) -> Result<(), Fail> {
+    let alloc = rt.alloc();
     let words = ["abstract", "s64one", "and64"].as_slice();
-    let files = [("s64one", SIGNATURE), ("and64", NET)].as_slice();
-    let (status, bytes) = answer(rt.alloc(), words, files, &[], &[], 100_000)?;
+    let files = files_of(alloc, &[("s64one", SIGNATURE), ("and64", NET)])?;
+    let (status, bytes) = answer(alloc, words, files, &[], &[], 100_000)?;
     let text = bytes.as_slice();
     assert_eq!(rt; status, 0);
     assert_eq!(rt; text.len(), 77_130);
@@ -50,26 +51,19 @@ fn check_values<F: Field>(
     Ok(())
 }
 
-// The same over the setting's field.
-fn check_values_over(
-    rt: &impl Abort,
-    alloc: Global,
-    setting: &Setting,
-    circuit: &Combinational,
-) -> Result<(), Fail>
-    requires { AreBasesOver (any_degree setting.now.field) (any_product setting.now.field) setting.now.bases.items }
-{
-    let bases = setting.bases.as_slice();
-    match &setting.field {
-        AnyField::Base(field) => check_values(rt, alloc, field, circuit, bases),
-        AnyField::Tower(_field) => panic!(rt; "no tower"),
-    }
-}
-
 #[test]
 fn values_in_64_bits(rt: HostRuntime) -> Result<(), Fail> {
     let alloc = rt.alloc();
-    let setting = setting(&rt, alloc, SIGNATURE);
-    let circuit = circuit(&rt, alloc, &setting, NET);
-    check_values_over(&rt, alloc, &setting, &circuit)
+    let mut shelf = MemShelf::new(
+        files_of(alloc, &[("s", SIGNATURE), ("net", NET)])?,
+        Vec::new(alloc),
+    );
+    let Signed { signature, field } = signed(&rt, alloc, &mut shelf);
+    match field {
+        AnyField::Base(field) => {
+            let (setting, circuit) = job(&rt, alloc, &field, signature, &mut shelf);
+            check_values(&rt, alloc, &field, &circuit, setting.bases.as_slice())
+        }
+        AnyField::Tower(_field) => panic!(rt; "no base field"),
+    }
 }

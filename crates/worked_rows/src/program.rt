@@ -1,7 +1,13 @@
 //! The program over files in memory.
+ghost use Rattle.job_input.specs.Setting.{AreBasesOver, AreSaid};
+
 use gf_abs::run;
+use gf_field::Field;
+use job_input::{Setting, Signed, read_circuit, read_signed, setting_over};
 use job_io::{MemShelf, MemSink};
+use net_words::{Combinational, Signature};
 use std::alloc::{AllocError, Global};
+use std::process::Abort;
 use std::test::Fail;
 
 /// Files by name, of their texts.
@@ -36,4 +42,35 @@ pub fn answer(
     }
     let status = run(alloc, &texts, &mut shelf, &mut sink);
     Ok((status, sink.bytes().to_vec(alloc)?))
+}
+
+/// The signature in the file `s`, with its field.
+pub fn signed(rt: &impl Abort, alloc: Global, shelf: &mut MemShelf) -> Signed
+    ensures { AreSaid result.signature.words }
+{
+    match read_signed(alloc, shelf, "s") {
+        Ok(signed) => signed,
+        Err(_) => panic!(rt; "no signature"),
+    }
+}
+
+/// Its setting over the field, and the circuit in the file `net`.
+pub fn job<F: Field>(
+    rt: &impl Abort,
+    alloc: Global,
+    field: &F,
+    signature: Signature,
+    shelf: &mut MemShelf,
+) -> (Setting, Combinational)
+    requires { AreSaid signature.words }
+    ensures { AreBasesOver (F.degree field.now) (F.product field.now) result.0.bases.items }
+{
+    let setting = match setting_over(alloc, field, signature) {
+        Ok(setting) => setting,
+        Err(_) => panic!(rt; "no setting"),
+    };
+    match read_circuit(alloc, shelf, &setting, "net") {
+        Ok(circuit) => (setting, circuit),
+        Err(_) => panic!(rt; "no circuit"),
+    }
 }

@@ -3,19 +3,19 @@
 ghost use Rattle.std.specs.Prelude.{IfOk};
 ghost use Rattle.gf_basis.specs.BasisParts.{IsOver};
 ghost use Rattle.circuit_model.specs.Flat.{AreOver};
-ghost use Rattle.gf_abs.specs.Setting.{any_degree, any_product, AreBasesOver};
-ghost use Rattle.net_words.specs.Binding.{AreWords};
+ghost use Rattle.job_input.specs.Setting.{AreBasesOver, AreSaid};
 
-use crate::netlist::circuit_of;
 use crate::plain_tests::{
     in_bits, outcome, plain_outcome, plain_output, plain_stages, poly_in_words, value_at,
 };
-use crate::setting::{Setting, setting_of};
+use crate::program::{files_of, job, signed};
 use circuit_model::CircuitWord;
 use gf_basis::Basis;
 use gf_field::Field;
 use gf_tower::AnyField;
-use net_words::Combinational;
+use job_input::Signed;
+use job_io::MemShelf;
+use net_words::{Combinational, Signature};
 use std::alloc::{AllocError, Global};
 use std::process::Abort;
 use std::test::Fail;
@@ -140,44 +140,26 @@ fn compare<F: Field>(
     }
 }
 
-// The setting of a signature's text.
-pub fn setting(rt: &impl Abort, alloc: Global, text: &str) -> Setting
-    ensures over { AreBasesOver (any_degree result.field) (any_product result.field) result.bases.items }
-    ensures words { AreWords (any_degree result.field) result.signature.words }
-{
-    assert!(rt; text.len() < 10_000);
-    match setting_of(alloc, text.as_bytes()) {
-        Ok(setting) => setting,
-        Err(_) => panic!(rt; "no setting"),
-    }
-}
-
-// The circuit of a netlist's text.
-pub fn circuit(rt: &impl Abort, alloc: Global, setting: &Setting, text: &str) -> Combinational
-    requires { AreWords (any_degree setting.now.field) setting.now.signature.words }
-{
-    assert!(rt; text.len() < 10_000);
-    match circuit_of(alloc, setting.signature.words(), "net", text.as_bytes()) {
-        Ok(circuit) => circuit,
-        Err(_) => panic!(rt; "no circuit"),
-    }
-}
-
-// Compares over the setting's field.
-fn compare_over(
+// Compares over the signature's field.
+fn check_over<F: Field>(
     rt: &impl Abort,
     alloc: Global,
-    setting: &Setting,
-    circuit: &Combinational,
+    field: &F,
+    signature: Signature,
+    shelf: &mut MemShelf,
     largest: u32,
 ) -> Result<(), Fail>
-    requires { AreBasesOver (any_degree setting.now.field) (any_product setting.now.field) setting.now.bases.items }
+    requires { AreSaid signature.words }
 {
-    let bases = setting.bases.as_slice();
-    match &setting.field {
-        AnyField::Base(field) => compare(rt, alloc, field, circuit, bases, largest),
-        AnyField::Tower(field) => compare(rt, alloc, field, circuit, bases, largest),
-    }
+    let (setting, circuit) = job(rt, alloc, field, signature, shelf);
+    compare(
+        rt,
+        alloc,
+        field,
+        &circuit,
+        setting.bases.as_slice(),
+        largest,
+    )
 }
 
 // The same of the texts of a signature and a netlist.
@@ -188,9 +170,15 @@ fn check(
     net: &str,
     largest: u32,
 ) -> Result<(), Fail> {
-    let setting = setting(rt, alloc, signature);
-    let circuit = circuit(rt, alloc, &setting, net);
-    compare_over(rt, alloc, &setting, &circuit, largest)
+    let mut shelf = MemShelf::new(
+        files_of(alloc, &[("s", signature), ("net", net)])?,
+        Vec::new(alloc),
+    );
+    let Signed { signature, field } = signed(rt, alloc, &mut shelf);
+    match field {
+        AnyField::Base(field) => check_over(rt, alloc, &field, signature, &mut shelf, largest),
+        AnyField::Tower(field) => check_over(rt, alloc, &field, signature, &mut shelf, largest),
+    }
 }
 
 // The field of 2 elements: a negation, and a disjunction.

@@ -1,5 +1,5 @@
 use Rattle.poly_mixed.specs.Polynomial.{IsReduced}
-use Rattle.gf_abs.proofs.plain_tests.term_anew.Given as goal
+use Rattle.worked_rows.proofs.plain_tests.term_anew.Given as goal
 
 abbrev pub invariant-loop-rank : goal.invariant-loop-rank
 invariant-loop-rank g l = IsReduced (g.F.Ring.degree l.field) l.product.terms

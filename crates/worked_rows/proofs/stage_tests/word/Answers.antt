@@ -1,6 +1,6 @@
 use Rattle.std.proofs.Common.{length, refl, arith}
 use Rattle.std.proofs.lemmas.Option.{slice_get_read}
-use Rattle.gf_abs.proofs.stage_tests.word.Goals as goal
+use Rattle.worked_rows.proofs.stage_tests.word.Goals as goal
 
 pub anew-requires : goal.anew-requires
 anew-requires g c =
