@@ -83,8 +83,8 @@ to_words-requires-clause-few g c =
     let small : length c.in-Ok.bits.terms ≤ c.args.bound = few degree mul circuit bases job c.args.bound c.in-Ok.bits.terms (subst L basis c.in-Ok.ensures.last) within in
     omega (arith, small, c.ranges.bound.fits)
 
-pub stage_stop-in-Err-to_words-requires : goal.stage_stop-in-Err-to_words-requires
-stage_stop-in-Err-to_words-requires g c =
+pub stage_stop-requires-in-Err-to_words : goal.stage_stop-requires-in-Err-to_words
+stage_stop-requires-in-Err-to_words g c =
     let degree = g.F.Ring.degree c.args.field.now in
     let mul = g.F.Ring.product c.args.field.now in
     let circuit = c.args.circuit.now in
