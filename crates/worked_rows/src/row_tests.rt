@@ -1,6 +1,6 @@
 //! Each worked row, beside what the program answers.
 use crate::program::answer;
-use crate::row::{Row, bytes_of};
+use crate::row::{Row, changed};
 use crate::{
     abstract_rows, bits_rows, file_rows, netlist_rows, signature_rows, stage_rows, word_rows,
 };
@@ -12,8 +12,11 @@ use std::test::Fail;
 fn check(rt: &impl Abort, alloc: Global, rows: &[Row]) -> Result<(), Fail> {
     for row in rows {
         let mut files = Vec::new(alloc);
-        for file in row.files {
-            files.push((String::from_str(alloc, file.name)?, bytes_of(alloc, file)?))?;
+        for (name, text, place, to) in row.files {
+            files.push((
+                String::from_str(alloc, name)?,
+                changed(alloc, text, *place, to)?,
+            ))?;
         }
         let (status, bytes) = answer(alloc, row.words, files, &[], &[], 100_000)?;
         let name = row.name;

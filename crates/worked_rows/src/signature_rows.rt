@@ -1,5 +1,5 @@
 //! Signatures that are refused.
-use crate::row::{File, Row};
+use crate::row::Row;
 use crate::texts::{
     CONJUNCTION, EMPTY, MULTIPLIER, NINE_WORDS, ROTATED_WORD, ROTATION, TIMES_Y, TOWER_WORD,
     TOWER_WORDS, WORD_OF_4, WORDS_OF_4, WORDS_OF_4_2, WORDS_OF_4_3,
@@ -10,18 +10,8 @@ pub static ROWS_1: [Row; 9] = [
         name: "bits s4 mul, where line 2 of s4 is `field 0x15`",
         words: &["bits", "s4", "mul"],
         files: &[
-            File {
-                name: "s4",
-                text: WORDS_OF_4,
-                line: 2,
-                to: "field 0x15",
-            },
-            File {
-                name: "mul",
-                text: MULTIPLIER,
-                line: 0,
-                to: "",
-            },
+            ("s4", WORDS_OF_4, 2, "field 0x15"),
+            ("mul", MULTIPLIER, 0, ""),
         ],
         status: 2,
         text: "fault 22: the modulus is not irreducible\n",
@@ -30,18 +20,8 @@ pub static ROWS_1: [Row; 9] = [
         name: "abstract s4 mul, where line 2 of s4 is `field 0x15`",
         words: &["abstract", "s4", "mul"],
         files: &[
-            File {
-                name: "s4",
-                text: WORDS_OF_4,
-                line: 2,
-                to: "field 0x15",
-            },
-            File {
-                name: "mul",
-                text: MULTIPLIER,
-                line: 0,
-                to: "",
-            },
+            ("s4", WORDS_OF_4, 2, "field 0x15"),
+            ("mul", MULTIPLIER, 0, ""),
         ],
         status: 2,
         text: "fault 22: the modulus is not irreducible\n",
@@ -50,18 +30,8 @@ pub static ROWS_1: [Row; 9] = [
         name: "bits s4 mul, where line 2 of s4 is `field 0x9`",
         words: &["bits", "s4", "mul"],
         files: &[
-            File {
-                name: "s4",
-                text: WORDS_OF_4,
-                line: 2,
-                to: "field 0x9",
-            },
-            File {
-                name: "mul",
-                text: MULTIPLIER,
-                line: 0,
-                to: "",
-            },
+            ("s4", WORDS_OF_4, 2, "field 0x9"),
+            ("mul", MULTIPLIER, 0, ""),
         ],
         status: 2,
         text: "fault 22: the modulus is not irreducible\n",
@@ -70,18 +40,8 @@ pub static ROWS_1: [Row; 9] = [
         name: "abstract s4 mul, where line 2 of s4 is `field 0x9`",
         words: &["abstract", "s4", "mul"],
         files: &[
-            File {
-                name: "s4",
-                text: WORDS_OF_4,
-                line: 2,
-                to: "field 0x9",
-            },
-            File {
-                name: "mul",
-                text: MULTIPLIER,
-                line: 0,
-                to: "",
-            },
+            ("s4", WORDS_OF_4, 2, "field 0x9"),
+            ("mul", MULTIPLIER, 0, ""),
         ],
         status: 2,
         text: "fault 22: the modulus is not irreducible\n",
@@ -90,18 +50,8 @@ pub static ROWS_1: [Row; 9] = [
         name: "bits s4 mul, where line 2 of s4 is `field 0x5`",
         words: &["bits", "s4", "mul"],
         files: &[
-            File {
-                name: "s4",
-                text: WORDS_OF_4,
-                line: 2,
-                to: "field 0x5",
-            },
-            File {
-                name: "mul",
-                text: MULTIPLIER,
-                line: 0,
-                to: "",
-            },
+            ("s4", WORDS_OF_4, 2, "field 0x5"),
+            ("mul", MULTIPLIER, 0, ""),
         ],
         status: 2,
         text: "fault 22: the modulus is not irreducible\n",
@@ -110,18 +60,8 @@ pub static ROWS_1: [Row; 9] = [
         name: "abstract s4 mul, where line 2 of s4 is `field 0x5`",
         words: &["abstract", "s4", "mul"],
         files: &[
-            File {
-                name: "s4",
-                text: WORDS_OF_4,
-                line: 2,
-                to: "field 0x5",
-            },
-            File {
-                name: "mul",
-                text: MULTIPLIER,
-                line: 0,
-                to: "",
-            },
+            ("s4", WORDS_OF_4, 2, "field 0x5"),
+            ("mul", MULTIPLIER, 0, ""),
         ],
         status: 2,
         text: "fault 22: the modulus is not irreducible\n",
@@ -129,40 +69,14 @@ pub static ROWS_1: [Row; 9] = [
     Row {
         name: "bits t16 mul",
         words: &["bits", "t16", "mul"],
-        files: &[
-            File {
-                name: "t16",
-                text: TOWER_WORDS,
-                line: 0,
-                to: "",
-            },
-            File {
-                name: "mul",
-                text: MULTIPLIER,
-                line: 0,
-                to: "",
-            },
-        ],
+        files: &[("t16", TOWER_WORDS, 0, ""), ("mul", MULTIPLIER, 0, "")],
         status: 2,
         text: "fault 22: the tower polynomial is not irreducible\n",
     },
     Row {
         name: "abstract t16 mul",
         words: &["abstract", "t16", "mul"],
-        files: &[
-            File {
-                name: "t16",
-                text: TOWER_WORDS,
-                line: 0,
-                to: "",
-            },
-            File {
-                name: "mul",
-                text: MULTIPLIER,
-                line: 0,
-                to: "",
-            },
-        ],
+        files: &[("t16", TOWER_WORDS, 0, ""), ("mul", MULTIPLIER, 0, "")],
         status: 2,
         text: "fault 22: the tower polynomial is not irreducible\n",
     },
@@ -170,18 +84,8 @@ pub static ROWS_1: [Row; 9] = [
         name: "bits t16 mul, where line 3 of t16 is `tower 0x2`",
         words: &["bits", "t16", "mul"],
         files: &[
-            File {
-                name: "t16",
-                text: TOWER_WORDS,
-                line: 3,
-                to: "tower 0x2",
-            },
-            File {
-                name: "mul",
-                text: MULTIPLIER,
-                line: 0,
-                to: "",
-            },
+            ("t16", TOWER_WORDS, 3, "tower 0x2"),
+            ("mul", MULTIPLIER, 0, ""),
         ],
         status: 2,
         text: "fault 25: tower\n",
@@ -193,18 +97,8 @@ pub static ROWS_2: [Row; 9] = [
         name: "abstract t16 mul, where line 3 of t16 is `tower 0x2`",
         words: &["abstract", "t16", "mul"],
         files: &[
-            File {
-                name: "t16",
-                text: TOWER_WORDS,
-                line: 3,
-                to: "tower 0x2",
-            },
-            File {
-                name: "mul",
-                text: MULTIPLIER,
-                line: 0,
-                to: "",
-            },
+            ("t16", TOWER_WORDS, 3, "tower 0x2"),
+            ("mul", MULTIPLIER, 0, ""),
         ],
         status: 2,
         text: "fault 25: tower\n",
@@ -213,18 +107,8 @@ pub static ROWS_2: [Row; 9] = [
         name: "bits s8r rot, where line 3 of s8r is `word A input normal:0x2 a0 a1 a2`",
         words: &["bits", "s8r", "rot"],
         files: &[
-            File {
-                name: "s8r",
-                text: ROTATED_WORD,
-                line: 3,
-                to: "word A input normal:0x2 a0 a1 a2",
-            },
-            File {
-                name: "rot",
-                text: ROTATION,
-                line: 0,
-                to: "",
-            },
+            ("s8r", ROTATED_WORD, 3, "word A input normal:0x2 a0 a1 a2"),
+            ("rot", ROTATION, 0, ""),
         ],
         status: 2,
         text: "fault 23: dependent basis at line 3\n",
@@ -233,18 +117,8 @@ pub static ROWS_2: [Row; 9] = [
         name: "abstract s8r rot, where line 3 of s8r is `word A input normal:0x2 a0 a1 a2`",
         words: &["abstract", "s8r", "rot"],
         files: &[
-            File {
-                name: "s8r",
-                text: ROTATED_WORD,
-                line: 3,
-                to: "word A input normal:0x2 a0 a1 a2",
-            },
-            File {
-                name: "rot",
-                text: ROTATION,
-                line: 0,
-                to: "",
-            },
+            ("s8r", ROTATED_WORD, 3, "word A input normal:0x2 a0 a1 a2"),
+            ("rot", ROTATION, 0, ""),
         ],
         status: 2,
         text: "fault 23: dependent basis at line 3\n",
@@ -252,60 +126,21 @@ pub static ROWS_2: [Row; 9] = [
     Row {
         name: "bits empty mul",
         words: &["bits", "empty", "mul"],
-        files: &[
-            File {
-                name: "empty",
-                text: EMPTY,
-                line: 0,
-                to: "",
-            },
-            File {
-                name: "mul",
-                text: MULTIPLIER,
-                line: 0,
-                to: "",
-            },
-        ],
+        files: &[("empty", EMPTY, 0, ""), ("mul", MULTIPLIER, 0, "")],
         status: 2,
         text: "fault 20: signature line 1\n",
     },
     Row {
         name: "abstract empty mul",
         words: &["abstract", "empty", "mul"],
-        files: &[
-            File {
-                name: "empty",
-                text: EMPTY,
-                line: 0,
-                to: "",
-            },
-            File {
-                name: "mul",
-                text: MULTIPLIER,
-                line: 0,
-                to: "",
-            },
-        ],
+        files: &[("empty", EMPTY, 0, ""), ("mul", MULTIPLIER, 0, "")],
         status: 2,
         text: "fault 20: signature line 1\n",
     },
     Row {
         name: "bits s4 mul",
         words: &["bits", "s4", "mul"],
-        files: &[
-            File {
-                name: "s4",
-                text: WORDS_OF_4_2,
-                line: 0,
-                to: "",
-            },
-            File {
-                name: "mul",
-                text: MULTIPLIER,
-                line: 0,
-                to: "",
-            },
-        ],
+        files: &[("s4", WORDS_OF_4_2, 0, ""), ("mul", MULTIPLIER, 0, "")],
         status: 2,
         text: "fault 20: signature line 1\n",
     },
@@ -313,18 +148,8 @@ pub static ROWS_2: [Row; 9] = [
         name: "bits s4 mul, where line 2 of s4 is `field 0x1`",
         words: &["bits", "s4", "mul"],
         files: &[
-            File {
-                name: "s4",
-                text: WORDS_OF_4,
-                line: 2,
-                to: "field 0x1",
-            },
-            File {
-                name: "mul",
-                text: MULTIPLIER,
-                line: 0,
-                to: "",
-            },
+            ("s4", WORDS_OF_4, 2, "field 0x1"),
+            ("mul", MULTIPLIER, 0, ""),
         ],
         status: 2,
         text: "fault 21: modulus degree\n",
@@ -333,18 +158,8 @@ pub static ROWS_2: [Row; 9] = [
         name: "bits s4 mul, where line 2 of s4 is `field 0x20000000000000000`",
         words: &["bits", "s4", "mul"],
         files: &[
-            File {
-                name: "s4",
-                text: WORDS_OF_4,
-                line: 2,
-                to: "field 0x20000000000000000",
-            },
-            File {
-                name: "mul",
-                text: MULTIPLIER,
-                line: 0,
-                to: "",
-            },
+            ("s4", WORDS_OF_4, 2, "field 0x20000000000000000"),
+            ("mul", MULTIPLIER, 0, ""),
         ],
         status: 2,
         text: "fault 21: modulus degree\n",
@@ -353,18 +168,8 @@ pub static ROWS_2: [Row; 9] = [
         name: "bits s4 mul, where line 4 of s4 is `word A input poly b0 b1`",
         words: &["bits", "s4", "mul"],
         files: &[
-            File {
-                name: "s4",
-                text: WORDS_OF_4,
-                line: 4,
-                to: "word A input poly b0 b1",
-            },
-            File {
-                name: "mul",
-                text: MULTIPLIER,
-                line: 0,
-                to: "",
-            },
+            ("s4", WORDS_OF_4, 4, "word A input poly b0 b1"),
+            ("mul", MULTIPLIER, 0, ""),
         ],
         status: 2,
         text: "fault 27: name twice at line 4\n",
@@ -376,18 +181,8 @@ pub static ROWS_3: [Row; 8] = [
         name: "bits s4 mul, where line 4 of s4 is `word B input poly b0`",
         words: &["bits", "s4", "mul"],
         files: &[
-            File {
-                name: "s4",
-                text: WORDS_OF_4,
-                line: 4,
-                to: "word B input poly b0",
-            },
-            File {
-                name: "mul",
-                text: MULTIPLIER,
-                line: 0,
-                to: "",
-            },
+            ("s4", WORDS_OF_4, 4, "word B input poly b0"),
+            ("mul", MULTIPLIER, 0, ""),
         ],
         status: 2,
         text: "fault 26: bits at line 4\n",
@@ -395,20 +190,7 @@ pub static ROWS_3: [Row; 8] = [
     Row {
         name: "bits s4 mul",
         words: &["bits", "s4", "mul"],
-        files: &[
-            File {
-                name: "s4",
-                text: WORDS_OF_4_3,
-                line: 0,
-                to: "",
-            },
-            File {
-                name: "mul",
-                text: MULTIPLIER,
-                line: 0,
-                to: "",
-            },
-        ],
+        files: &[("s4", WORDS_OF_4_3, 0, ""), ("mul", MULTIPLIER, 0, "")],
         status: 2,
         text: "fault 28: no output word\n",
     },
@@ -416,18 +198,8 @@ pub static ROWS_3: [Row; 8] = [
         name: "bits t16a mulY, where line 3 of t16a is `tower 0x2 0x4`",
         words: &["bits", "t16a", "mulY"],
         files: &[
-            File {
-                name: "t16a",
-                text: TOWER_WORD,
-                line: 3,
-                to: "tower 0x2 0x4",
-            },
-            File {
-                name: "mulY",
-                text: TIMES_Y,
-                line: 0,
-                to: "",
-            },
+            ("t16a", TOWER_WORD, 3, "tower 0x2 0x4"),
+            ("mulY", TIMES_Y, 0, ""),
         ],
         status: 2,
         text: "fault 25: tower\n",
@@ -436,18 +208,8 @@ pub static ROWS_3: [Row; 8] = [
         name: "abstract t16a mulY, where line 3 of t16a is `tower 0x2 0x4`",
         words: &["abstract", "t16a", "mulY"],
         files: &[
-            File {
-                name: "t16a",
-                text: TOWER_WORD,
-                line: 3,
-                to: "tower 0x2 0x4",
-            },
-            File {
-                name: "mulY",
-                text: TIMES_Y,
-                line: 0,
-                to: "",
-            },
+            ("t16a", TOWER_WORD, 3, "tower 0x2 0x4"),
+            ("mulY", TIMES_Y, 0, ""),
         ],
         status: 2,
         text: "fault 25: tower\n",
@@ -456,18 +218,8 @@ pub static ROWS_3: [Row; 8] = [
         name: "bits s4a conj, where line 3 of s4a is `word A input list:0x1,0x4 a0 a1`",
         words: &["bits", "s4a", "conj"],
         files: &[
-            File {
-                name: "s4a",
-                text: WORD_OF_4,
-                line: 3,
-                to: "word A input list:0x1,0x4 a0 a1",
-            },
-            File {
-                name: "conj",
-                text: CONJUNCTION,
-                line: 0,
-                to: "",
-            },
+            ("s4a", WORD_OF_4, 3, "word A input list:0x1,0x4 a0 a1"),
+            ("conj", CONJUNCTION, 0, ""),
         ],
         status: 2,
         text: "fault 24: basis at line 3\n",
@@ -476,18 +228,8 @@ pub static ROWS_3: [Row; 8] = [
         name: "abstract s4a conj, where line 3 of s4a is `word A input list:0x1,0x4 a0 a1`",
         words: &["abstract", "s4a", "conj"],
         files: &[
-            File {
-                name: "s4a",
-                text: WORD_OF_4,
-                line: 3,
-                to: "word A input list:0x1,0x4 a0 a1",
-            },
-            File {
-                name: "conj",
-                text: CONJUNCTION,
-                line: 0,
-                to: "",
-            },
+            ("s4a", WORD_OF_4, 3, "word A input list:0x1,0x4 a0 a1"),
+            ("conj", CONJUNCTION, 0, ""),
         ],
         status: 2,
         text: "fault 24: basis at line 3\n",
@@ -496,18 +238,8 @@ pub static ROWS_3: [Row; 8] = [
         name: "bits with a second output word",
         words: &["bits", "s4", "mul"],
         files: &[
-            File {
-                name: "s4",
-                text: WORDS_OF_4,
-                line: 4,
-                to: "word B output poly b0 b1",
-            },
-            File {
-                name: "mul",
-                text: MULTIPLIER,
-                line: 0,
-                to: "",
-            },
+            ("s4", WORDS_OF_4, 4, "word B output poly b0 b1"),
+            ("mul", MULTIPLIER, 0, ""),
         ],
         status: 2,
         text: "fault 28: second output word at line 5\n",
@@ -515,20 +247,7 @@ pub static ROWS_3: [Row; 8] = [
     Row {
         name: "bits with a ninth input word",
         words: &["bits", "nine", "mul"],
-        files: &[
-            File {
-                name: "nine",
-                text: NINE_WORDS,
-                line: 0,
-                to: "",
-            },
-            File {
-                name: "mul",
-                text: MULTIPLIER,
-                line: 0,
-                to: "",
-            },
-        ],
+        files: &[("nine", NINE_WORDS, 0, ""), ("mul", MULTIPLIER, 0, "")],
         status: 2,
         text: "fault 29: ninth word at line 11\n",
     },
