@@ -1,6 +1,11 @@
 pub mod FieldLaws
 pub mod Monomials
 pub mod Ranks
+pub mod SlotListLemmas
+pub mod ListsAtLemmas
+pub mod IndexLemmas
+pub mod PlaceLemmas
+pub mod TakenLemmas
 pub mod Terms
 pub mod Sums
 pub mod Values
