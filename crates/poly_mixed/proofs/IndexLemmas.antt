@@ -28,19 +28,20 @@ either false p q = q refl
 pub is_in-with_rank : (xs : List ℕ) (k s : ℕ) → is_in s (with_rank xs k) ≡ (nat_eq k s || is_in s xs)
 is_in-with_rank [] k s = refl
 is_in-with_rank (x ∷ xs) k s =
-    elim (nat_lt k x) as (λ b. is_in s (cond b (k ∷ x ∷ xs) (cond (k == x) (x ∷ xs) (x ∷ with_rank xs k))) ≡ (nat_eq k s || nat_eq x s || is_in s xs)) [
+    elim (nat_lt k x) as (λ b. is_in s (cond b (k ∷ x ∷ xs) (cond (k == x) (x ∷ xs) (x ∷ with_rank xs k))) ≡ (nat_eq k s || (nat_eq x s || is_in s xs))) [
       | true ↦ refl
-      | false ↦ elim (k == x) as (λ b. (k == x) ≡ b → is_in s (cond b (x ∷ xs) (x ∷ with_rank xs k)) ≡ (nat_eq k s || nat_eq x s || is_in s xs)) [
-          | true ↦ λ e. let P : ℕ → Type 0 = λ n. (nat_eq x s || is_in s xs) ≡ (nat_eq n s || nat_eq x s || is_in s xs) in
-              subst P (sym (eqb-true k x e)) (twice (nat_eq x s) (is_in s xs))
-          | false ↦ λ e. ap (λ b. nat_eq x s || b) (is_in-with_rank xs k s) ∙ swapped (nat_eq x s) (nat_eq k s) (is_in s xs)
-        ] refl
+      | false ↦ elim (k == x) as (λ b. (k == x) ≡ b → is_in s (cond b (x ∷ xs) (x ∷ with_rank xs k)) ≡ (nat_eq k s || (nat_eq x s || is_in s xs))) [
+        | true ↦ λ e. let P : ℕ → Type 0 = λ n. (nat_eq x s || is_in s xs) ≡ (nat_eq n s || (nat_eq x s || is_in s xs)) in
+            subst P (sym (eqb-true k x e)) (twice (nat_eq x s) (is_in s xs))
+        | false ↦ λ e. ap (λ b. nat_eq x s || b) (is_in-with_rank xs k s) ∙ swapped (nat_eq x s) (nat_eq k s) (is_in s xs)
+      ] refl
     ]
   where
-    twice : (a b : Bool) → (a || b) ≡ (a || a || b)
+    twice : (a b : Bool) → (a || b) ≡ (a || (a || b))
     twice true b = refl
     twice false b = refl
-    swapped : (a b c : Bool) → (a || b || c) ≡ (b || a || c)
+
+    swapped : (a b c : Bool) → (a || (b || c)) ≡ (b || (a || c))
     swapped true true c = refl
     swapped true false c = refl
     swapped false true c = refl

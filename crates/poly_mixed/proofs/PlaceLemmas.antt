@@ -1,5 +1,5 @@
 -- Maps of monomials in slots: their terms, and what their slots hold after a change.
-use Rattle.std.proofs.Common.{◌≡◌, ℕ, zero, suc, ◌+◌, ◌<◌, ◌≢◌, Bool, true, false, cond, not, ◌||◌, List, [], ◌∷◌, length, map, Option, Some, None, slice_get, nat_eq, bit_xor, refl, sym, ◌∙◌, ap, subst, arith}
+use Rattle.std.proofs.Common.{◌≡◌, ℕ, zero, suc, ◌+◌, ◌-◌, ◌<◌, ◌≢◌, Bool, true, false, cond, not, ◌||◌, List, [], ◌∷◌, length, map, Option, Some, None, slice_get, nat_eq, bit_xor, refl, sym, ◌∙◌, ap, subst, arith}
 use Rattle.std.specs.declared.cmp.Ordering.{Ordering}
 use Rattle.std.specs.declared.cmp.Ordering.TheVariants.{Less, Equal, Greater}
 use Rattle.std.specs.Cmp.{IsTotalOrder, tied_itself}
@@ -9,7 +9,7 @@ use Rattle.std.specs.Map.{lookup, keys_of, remove_entry}
 use Rattle.std.specs.BTreeMap.{insert_entry}
 use Rattle.std.specs.Option.{option_map, unwrap_or}
 use Rattle.std.specs.Ordering.{match_ordering, eq_by_cmp, is_eq, ordering_reverse, nat_cmp}
-use Rattle.std.proofs.lemmas.Bool.{eqb-true, eqb-false, eq-eqb}
+use Rattle.std.proofs.lemmas.Bool.{eqb-true, eqb-false, eq-eqb, ne_eqb}
 use Rattle.std.proofs.lemmas.Map.Made.{lookup-map_values}
 use Rattle.poly_mixed.specs.Cofactor.{LacksBit}
 use Rattle.poly_mixed.specs.Monomial.{Monomial, has_bit, text_cmp, text_cmp_total}
@@ -190,6 +190,16 @@ indexed_same es new slots m old p is map_is had at found =
     (λ n. ap (λ b. option_map (λ p. p.slot) (cond b (Some p) (lookup (same q) es))) n) in
     record { is_map = map_is; there = λ q s h. is.there q s (sym (stays q) ∙ h); back = λ s q h. stays q ∙ is.back s q h }
 
+-- a found slot is listed
+pub listed_at : (xs : List ℕ) (i s : ℕ) → slice_get xs i ≡ Some s → is_in s xs ≡ true
+listed_at [] i s h = not_none s h
+listed_at (x ∷ xs) zero s h = ap (λ b. b || is_in s xs) (eq-eqb x s (one_of x s h))
+listed_at (x ∷ xs) (suc i) s h = ap (λ b. nat_eq x s || b) (listed_at xs i s h) ∙ or_true (nat_eq x s)
+  where
+    or_true : (b : Bool) → (b || true) ≡ true
+    or_true true = refl
+    or_true false = refl
+
 -- ---- what the lists say of the terms
 
 module _ (entries : Entries) (slots : Slots) (is : IsIndexed entries slots) where
@@ -236,7 +246,7 @@ module _ (entries : Entries) (slots : Slots) (is : IsIndexed entries slots) wher
   has_is bit (x ∷ xs) l =
       let h = some_held bit (slot_at slots x) (held_by bit x (x ∷ xs) l (first_itself x xs)) in
       let p = entry_at entries slots x h.0 is h.1.0 in
-      sym (any_found bit h.0 p.0 entries p.1.0 h.1.1)
+      ap not (ne_eqb (length (x ∷ xs)) 0 (λ e. omega (arith, e))) ∙ sym (any_found bit h.0 p.0 entries p.1.0 h.1.1)
 
   -- the coefficient of a monomial that has a place
   pub coefficient_at : (m : Monomial) (p : Place) → lookup (same m) entries ≡ Some p → coefficient (terms_in entries) m ≡ p.coefficient
@@ -249,7 +259,6 @@ module _ (entries : Entries) (slots : Slots) (is : IsIndexed entries slots) wher
         | true ↦ λ h. let P : ℕ → Type 0 = λ n. n ≢ 0 in subst P (one_of t.1 c h) all.0
         | false ↦ λ h. nonzero_at m c ts all.1 h
       ] h
-
 
   pub are_slots : AreSlotsOf (terms_in entries) slots
   are_slots = record {
@@ -265,12 +274,43 @@ module _ (entries : Entries) (slots : Slots) (is : IsIndexed entries slots) wher
       place_of m n None e = absurd (n (ap (λ o. unwrap_or o 0) (looked entries m ∙ ap (option_map (λ p. p.coefficient)) e)))
       place_of m n (Some p) e = (p.slot, is.there m p.slot (ap (option_map (λ p. p.slot)) e))
 
--- a found slot is listed
-pub listed_at : (xs : List ℕ) (i s : ℕ) → slice_get xs i ≡ Some s → is_in s xs ≡ true
-listed_at [] i s h = not_none s h
-listed_at (x ∷ xs) zero s h = ap (λ b. b || is_in s xs) (eq-eqb x s (one_of x s h))
-listed_at (x ∷ xs) (suc i) s h = ap (λ b. nat_eq x s || b) (listed_at xs i s h) ∙ or_true (nat_eq x s)
+  -- the term in a slot
+  pub term_is : (slot : ℕ) (m : Monomial) (p : Place) → Some m ≡ slot_at slots slot → Some p ≡ lookup (same m) entries → Some (p.coefficient, m) ≡ term_in (record { terms = terms_in entries; slots = slots }) slot
+  term_is slot m p held at =
+      ap (λ c. Some (c, m)) (sym (coefficient_at m p (sym at))) ∙ ap (option_map (λ m. (coefficient (terms_in entries) m, m))) held
+
+  -- a monomial in a slot has a place
+  pub has_place : {P : Type 0} (slot : ℕ) (m : Monomial) → Some m ≡ slot_at slots slot → None ≡ lookup (same m) entries → P
+  has_place slot m held none = let p = entry_at entries slots slot m is (sym held) in not_none p.0 (none ∙ p.1.0)
+
+  -- a slot that is listed last is not empty
+  pub last_has : (bit slot i : ℕ) (list : List ℕ) (m : Monomial) → IsListOf bit slots list → Some slot ≡ slice_get list i → Some m ≡ slot_at slots slot → has_bit bit m ≡ true
+  last_has bit slot i list m l last held = ap (stands bit) held ∙ held_by bit slot list l (listed_at list i slot (sym last))
+
+-- where a list has no last item it is empty
+pub none_last : (xs : List ℕ) → None ≡ slice_get xs (length xs - 1) → xs ≡ []
+none_last [] e = refl
+none_last (x ∷ xs) e = absurd (past (x ∷ xs) (length (x ∷ xs) - 1) (omega arith) (sym e))
   where
-    or_true : (b : Bool) → (b || true) ≡ true
-    or_true true = refl
-    or_true false = refl
+    past : (zs : List ℕ) (i : ℕ) → i < length zs → slice_get zs i ≡ None → ⊥
+    past [] i h e = absurd (omega (arith, h))
+    past (z ∷ zs) zero h e = not_none z (sym e)
+    past (z ∷ zs) (suc i) h e = past zs i (omega (arith, h)) e
+
+-- a term was taken out of its slot and of the map
+module _ (es new : Entries) (old next : Slots) (m : Monomial) (slot : ℕ) (p : Place) (is : IsIndexed es old) where
+  pub taken : Some p ≡ lookup (same m) es → new ≡ remove_entry (same m) es → IsTaken (terms_in es) (m, p.coefficient) (terms_in new)
+  taken at gone = record {
+    had = looked es m ∙ ap (option_map (λ p. p.coefficient)) (sym at);
+    left = ap terms_in gone ∙ numbers-remove text_cmp (λ (p : Place). p.coefficient) (same m) es;
+  }
+
+  pub taken_indexed : Some m ≡ slot_at old slot → Changes old next slot None → Some p ≡ lookup (same m) es → new ≡ remove_entry (same m) es
+      → ((q : Monomial) → lookup (same q) new ≡ cond (same m q) None (lookup (same q) es)) → IsIndexed new next
+  taken_indexed held change at gone found =
+      let e = entry_at es old slot m is (sym held) in
+      let same_slot : slot ≡ p.slot = sym e.1.1 ∙ ap (λ (p : Place). p.slot) (one_of e.0 p (sym e.1.0 ∙ sym at)) in
+      let P : Terms → Type 0 = IsMap in
+      let H : ℕ → Type 0 = λ s. slot_at old s ≡ Some m in
+      let C : ℕ → Type 0 = λ s. Changes old next s None in
+      indexed_take es new old next m p is (subst P (sym (taken at gone).left) (removed_map m (terms_in es) is.is_map)) (subst H same_slot (sym held)) (subst C same_slot change) found

@@ -104,12 +104,14 @@ impl Poly {
         ensures { OnOk result (self.new.terms ≡ plus_term text_cmp self.old.terms (mono, c)) }
     {
         let _rising = mono.bits();
-        let added = add_to(&mut self.map, &mut self.index, mono, c);
-        if added.is_err() {
-            self.map.clear();
-            self.index = Index::new(self.alloc);
+        match add_to(&mut self.map, &mut self.index, mono, c) {
+            Ok(()) => Ok(()),
+            Err(fault) => {
+                self.map.clear();
+                self.index = Index::new(self.alloc);
+                Err(fault)
+            }
         }
-        added
     }
 
     /// The reduced polynomial of the product's values; both are over the field, with coefficients and exponents below 2^k.
@@ -189,6 +191,7 @@ impl Poly {
         ensures left { OnOk result (self.new.terms ≡ lacking bit self.old.terms) }
         ensures map { IsMap self.old.terms }
     {
+        let _ = &self.map;
         let mut part = Poly::zero(alloc);
         while let Some((mut mono, c)) = self.take_last(bit) {
             mono.drop_bit(bit);

@@ -11,7 +11,6 @@ use Rattle.poly_mixed.proofs.lists.Lists.put_one.Goals as goal
 there : (c : goal.In-Some) → list_at (lists_of (λ v. v.items) c.self.inside.lists.entries) c.args.bit ≡ c.in-Some.list.now.items
 there c = at_is (λ v. v.items) c.self.inside.lists.entries c.args.bit ∙ ap (items_or (λ v. v.items)) (sym c.in-Some.ensures.value)
 
-
 pub put_slot-requires : goal.put_slot-requires
 put_slot-requires c =
     let P : List ℕ → Type 0 = IsStrictlySortedBy nat_cmp in
