@@ -1,6 +1,5 @@
 -- A term added to a map of monomials in slots.
 use Rattle.std.proofs.Common.{◌≡◌, ℕ, ◌≢◌, Bool, true, false, cond, List, [], ◌∷◌, Option, Some, None, bit_xor, refl, sym, ◌∙◌, ap, subst}
-use Rattle.std.specs.declared.cmp.Ordering.{Ordering}
 use Rattle.std.specs.declared.cmp.Ordering.TheVariants.{Less, Equal, Greater}
 use Rattle.std.specs.BTreeMap.{insert_entry}
 use Rattle.std.specs.Cmp.{eq_by_cmp_equiv}
@@ -13,7 +12,7 @@ use Rattle.poly_mixed.specs.Monomial.{Monomial, text_cmp, text_cmp_total}
 use Rattle.poly_mixed.specs.Polynomial.{Terms, Slots, IsMap}
 use Rattle.poly_mixed.specs.Slots.{slot_at}
 use Rattle.poly_mixed.specs.Sum.{plus_term}
-use Rattle.poly_mixed.specs.private.Indexed.{Entries, terms_in, slot_of, IsIndexed, Changes}
+use Rattle.poly_mixed.specs.private.Indexed.{Entries, terms_in, IsIndexed, Changes}
 use Rattle.poly_mixed.specs.declared.place.Place.{Place}
 use Rattle.poly_mixed.proofs.PlaceLemmas.{is_same, looked, numbers-insert, numbers-remove, keys-numbers, indexed_put, indexed_same, taken_indexed}
 use Rattle.poly_mixed.proofs.Terms.{plus_term-new, plus_term-old, plus_term-gone}

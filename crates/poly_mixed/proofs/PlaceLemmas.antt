@@ -1,5 +1,5 @@
 -- Maps of monomials in slots: their terms, and what their slots hold after a change.
-use Rattle.std.proofs.Common.{◌≡◌, ℕ, zero, suc, ◌+◌, ◌-◌, ◌<◌, ◌≢◌, Bool, true, false, cond, not, ◌||◌, List, [], ◌∷◌, length, map, Option, Some, None, slice_get, nat_eq, bit_xor, refl, sym, ◌∙◌, ap, subst, arith}
+use Rattle.std.proofs.Common.{◌≡◌, ℕ, zero, suc, ◌+◌, ◌-◌, ◌<◌, ◌≢◌, Bool, true, false, cond, not, ◌||◌, List, [], ◌∷◌, length, map, Option, Some, None, slice_get, nat_eq, refl, sym, ◌∙◌, ap, subst, arith}
 use Rattle.std.specs.declared.cmp.Ordering.{Ordering}
 use Rattle.std.specs.declared.cmp.Ordering.TheVariants.{Less, Equal, Greater}
 use Rattle.std.specs.Cmp.{IsTotalOrder, tied_itself}
@@ -13,7 +13,7 @@ use Rattle.std.proofs.lemmas.Bool.{eqb-true, eqb-false, eq-eqb, ne_eqb}
 use Rattle.std.proofs.lemmas.Map.Made.{lookup-map_values}
 use Rattle.poly_mixed.specs.Cofactor.{LacksBit}
 use Rattle.poly_mixed.specs.Monomial.{Monomial, has_bit, text_cmp, text_cmp_total}
-use Rattle.poly_mixed.specs.Polynomial.{Terms, Slots, IsMap, Polynomial, coefficient}
+use Rattle.poly_mixed.specs.Polynomial.{Terms, Slots, IsMap, coefficient}
 use Rattle.poly_mixed.specs.Slots.{slot_at, stands, term_in, IsListOf, AreSlotsOf}
 use Rattle.poly_mixed.specs.private.Indexed.{Entries, terms_in, slot_of, IsIndexed, IsTaken, Changes}
 use Rattle.poly_mixed.specs.declared.place.Place.{Place}

@@ -1,5 +1,5 @@
 -- A term taken out of a polynomial, for its cofactor.
-use Rattle.std.proofs.Common.{◌≡◌, ℕ, ◌+◌, ◌<◌, ◌≢◌, Bool, true, false, cond, not, List, [], ◌∷◌, length, Some, None, nat_eq, bit_xor, refl, sym, ◌∙◌, ap, subst, arith}
+use Rattle.std.proofs.Common.{◌≡◌, ℕ, ◌<◌, ◌≢◌, Bool, true, false, cond, not, [], ◌∷◌, length, Some, nat_eq, bit_xor, refl, sym, ◌∙◌, ap, subst, arith}
 use lib.Bits.{xor_zero_r, xor_assoc}
 use Rattle.std.specs.List.{AllByRecursion}
 use Rattle.std.specs.List.Sorted.{IsStrictlySortedBy}
@@ -12,7 +12,7 @@ use Rattle.poly_mixed.specs.Monomial.{Monomial, has_bit, text_cmp, text_cmp_tota
 use Rattle.poly_mixed.specs.Polynomial.{Terms, IsMap, coefficient}
 use Rattle.poly_mixed.specs.Sum.{xor_sum, plus_term}
 use Rattle.poly_mixed.specs.private.Indexed.{IsTaken}
-use Rattle.poly_mixed.proofs.Cofactors.{cofactors_map, none_of_absent, all_lacking, rising-filter}
+use Rattle.poly_mixed.proofs.Cofactors.{cofactors_map, none_of_absent, rising-filter}
 use Rattle.poly_mixed.proofs.PlaceLemmas.{is_same, removed_map, fewer}
 use Rattle.poly_mixed.proofs.Sums.{found_is_sum, at}
 use Rattle.poly_mixed.proofs.Values.{map_plus, one_map, coefficient-plus, same_map}

@@ -1,4 +1,4 @@
-use Rattle.std.proofs.Common.{◌≡◌, ℕ, List, Result, sym, ◌∙◌, subst}
+use Rattle.std.proofs.Common.{ℕ, List, Result, sym, ◌∙◌, subst}
 use Rattle.poly_mixed.specs.private.Listed.{IsFound}
 use Rattle.poly_mixed.proofs.SlotListLemmas.{without_slot-there, without_slot-gap}
 use Rattle.poly_mixed.proofs.lists.drop_slot.Goals as goal

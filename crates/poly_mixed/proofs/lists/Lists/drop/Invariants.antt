@@ -1,6 +1,5 @@
 use Rattle.std.proofs.Common.{◌≡◌, ℕ, drop}
 use Rattle.poly_mixed.specs.private.Listed.{list_at, all_changed, without_slot}
-use Rattle.poly_mixed.specs.Product.{with_rank}
 use Rattle.poly_mixed.proofs.lists.Lists.drop.Given as goal
 
 abbrev pub invariant-loop-bit : goal.invariant-loop-bit

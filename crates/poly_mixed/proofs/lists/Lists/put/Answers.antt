@@ -1,5 +1,5 @@
-use Rattle.std.proofs.Common.{◌≡◌, ℕ, sym, ◌∙◌}
-use Rattle.poly_mixed.specs.private.Listed.{list_at, all_changed, without_slot}
+use Rattle.std.proofs.Common.{sym, ◌∙◌}
+use Rattle.poly_mixed.specs.private.Listed.{list_at}
 use Rattle.poly_mixed.specs.Product.{with_rank}
 use Rattle.poly_mixed.proofs.ListsAtLemmas.{one_further, none_left}
 use Rattle.poly_mixed.proofs.lists.Lists.put.Goals as goal

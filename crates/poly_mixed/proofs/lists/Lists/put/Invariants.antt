@@ -1,5 +1,5 @@
 use Rattle.std.proofs.Common.{◌≡◌, ℕ, drop}
-use Rattle.poly_mixed.specs.private.Listed.{list_at, all_changed, without_slot}
+use Rattle.poly_mixed.specs.private.Listed.{list_at, all_changed}
 use Rattle.poly_mixed.specs.Product.{with_rank}
 use Rattle.poly_mixed.proofs.lists.Lists.put.Given as goal
 

@@ -1,9 +1,8 @@
-use Rattle.std.proofs.Common.{◌≡◌, ℕ, List, [], ◌∷◌, Some, None, Option, IsSome, Vec, Global, BTreeMap, refl, sym, ◌∙◌, ap, subst, OnOk}
+use Rattle.std.proofs.Common.{◌≡◌, ℕ, List, Option, IsSome, Vec, Global, BTreeMap, refl, sym, ◌∙◌, ap, subst}
 use Rattle.std.specs.List.Sorted.{IsStrictlySortedBy}
-use Rattle.std.specs.Option.{option_copied_mut}
-use Rattle.std.specs.Ordering.{nat_cmp, eq_by_cmp}
+use Rattle.std.specs.Ordering.{nat_cmp}
 use Rattle.std.proofs.lemmas.Result.{on_ok_weaker}
-use Rattle.poly_mixed.specs.private.Listed.{list_at, AreRising, changed}
+use Rattle.poly_mixed.specs.private.Listed.{list_at, changed}
 use Rattle.poly_mixed.specs.Product.{with_rank}
 use Rattle.poly_mixed.proofs.ListsAtLemmas.{at_is, items_or, lists_of, after_write, stays_rising}
 use Rattle.poly_mixed.proofs.lists.Lists.put_one.Goals as goal

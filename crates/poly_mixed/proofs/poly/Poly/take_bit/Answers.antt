@@ -1,4 +1,4 @@
-use Rattle.std.proofs.Common.{◌≡◌, refl, sym, ◌∙◌, ap, subst, bit_xor}
+use Rattle.std.proofs.Common.{refl, sym, ◌∙◌, ap, subst, bit_xor}
 use lib.Bits.{xor_zero_l}
 use Rattle.poly_mixed.specs.Cofactor.{lacking, cofactors}
 use Rattle.poly_mixed.specs.Polynomial.{Polynomial, Terms, IsMap, coefficient}

@@ -1,6 +1,5 @@
-use Rattle.std.proofs.Common.{◌≡◌, ◌-◌, length, true, Option, Some, None, refl, sym, ◌∙◌, ap, subst, IfNone}
+use Rattle.std.proofs.Common.{◌-◌, length, Option, Some, None, refl, subst, IfNone}
 use Rattle.poly_mixed.specs.Cofactor.{LacksBit}
-use Rattle.poly_mixed.specs.Monomial.{Monomial, has_bit}
 use Rattle.poly_mixed.specs.Polynomial.{Polynomial}
 use Rattle.poly_mixed.specs.private.Indexed.{IsTaken, terms_in}
 use Rattle.poly_mixed.proofs.PlaceLemmas.{lacks_bit, none_last, has_place, last_has, taken, taken_indexed}
