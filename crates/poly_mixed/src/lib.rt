@@ -4,10 +4,13 @@
 
 mod evaluate;
 mod fault;
+mod index;
 mod labels;
 mod laws;
+mod lists;
 mod mono;
 mod named;
+mod place;
 mod poly;
 mod read;
 mod scan;

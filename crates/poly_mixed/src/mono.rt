@@ -112,6 +112,15 @@ impl Mono {
         })
     }
 
+    // Takes the bit out.
+    pub(crate) fn drop_bit(&mut self, bit: u32)
+        ensures { self.new ≡ without_bit bit self.old }
+    {
+        if let Ok(i) = self.bits.as_slice().binary_search(&bit) {
+            self.bits.remove(i);
+        }
+    }
+
     // Gives a word an exponent.
     pub(crate) fn set_exponent(&mut self, word: usize, exponent: u64)
         requires { word < 8 }
