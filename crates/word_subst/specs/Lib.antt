@@ -1,5 +1,4 @@
 pub mod Bases
-pub mod Refusal
 pub mod Recorded
 pub mod Places
 pub mod Forms

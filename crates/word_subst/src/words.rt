@@ -4,9 +4,9 @@ ghost use Rattle.net_core.specs.Sound.{IsSound};
 ghost use Rattle.net_words.specs.BoundTo.{IsBoundTo};
 ghost use Rattle.stage_model.specs.Mix.{IsMix};
 ghost use Rattle.stage_model.specs.Stage.{IsOfStage};
-ghost use Rattle.stage_model.specs.StageList.{is_of_words, AreAllWithin};
+ghost use Rattle.stage_model.specs.Listing.{AreAllWithin, IsRefusal};
+ghost use Rattle.stage_model.specs.WordListing.{word_listing};
 ghost use Rattle.word_subst.specs.Bases.{AreBases, circuit_in};
-ghost use Rattle.word_subst.specs.Refusal.{IsRefusal};
 ghost use Rattle.word_subst.specs.Recorded.{IsRecorded};
 
 use crate::places::word_places;
@@ -47,8 +47,8 @@ pub fn to_words<F: Field, T: Steps>(
     requires bits { IsOfStage (F.degree field.now) (F.product field.now) (IsMix (circuit_in (F.degree field.now) (F.product field.now) circuit.now bases.now) 0) bits.terms }
     requires few { length bits.terms < 2 ^ 32 }
     ensures words { IfOk result (λ q. IsOfStage (F.degree field.now) (F.product field.now) (IsMix (circuit_in (F.degree field.now) (F.product field.now) circuit.now bases.now) (length (circuit_in (F.degree field.now) (F.product field.now) circuit.now bases.now).words)) q.terms) }
-    ensures within { OnOk result (AreAllWithin (circuit_in (F.degree field.now) (F.product field.now) circuit.now bases.now) is_of_words bound) }
-    ensures fault { IfErr result (IsRefusal (circuit_in (F.degree field.now) (F.product field.now) circuit.now bases.now) bound) }
+    ensures within { OnOk result (AreAllWithin (F.degree field.now) (F.product field.now) (word_listing (circuit_in (F.degree field.now) (F.product field.now) circuit.now bases.now)) bound) }
+    ensures fault { IfErr result (IsRefusal (F.degree field.now) (F.product field.now) (word_listing (circuit_in (F.degree field.now) (F.product field.now) circuit.now bases.now)) bound) }
     ensures steps { OnOk result (IsRecorded (circuit_in (F.degree field.now) (F.product field.now) circuit.now bases.now) (T.steps steps.old) (T.steps steps.new)) }
 {
     kept(circuit);

@@ -6,7 +6,8 @@ use Rattle.circuit_model.specs.Circuit.{Circuit}
 use Rattle.stage_model.specs.Mix.{IsMix}
 use Rattle.stage_model.specs.Stage.{IsOfStage}
 use Rattle.word_subst.specs.Bases.{circuit_in}
-use Rattle.word_subst.specs.Refusal.{IsRefusal}
+use Rattle.stage_model.specs.Listing.{IsRefusal}
+use Rattle.stage_model.specs.WordListing.{word_listing}
 use Rattle.word_subst.proofs.Turn.{is_well_formed, places_are, as_many, inside, own_word, is_over}
 use Rattle.word_subst.proofs.Lifted.{next_mix}
 use Rattle.word_subst.proofs.AllWords.{all_recorded, all_within, one_word_within, one_word_recorded, refused}
@@ -83,7 +84,7 @@ returns-in_err-poly-clause-fault g c =
     let basis : Basis = c.index-bases-index.result in
     let word = own_word k mul b bases c.requires.bases places places_is w v less c.index.ensures basis c.index-bases-index.is in
     let circuit : Circuit = circuit_in k mul b bases in
-    let fault : IsRefusal circuit c.args.bound c.in_err-poly.field-0.0 =
+    let fault : IsRefusal k mul (word_listing circuit) c.args.bound c.in_err-poly.field-0.0 =
     refused circuit well w word.0 word.1 (elements_of basis) word.2 c.loop-w.poly.terms c.loop-w.invariant.mix c.args.bound c.loop-w.invariant.within c.in_err-poly.field-0.0 c.in_err-poly.ensures.fault in
     search rules
 
