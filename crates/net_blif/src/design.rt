@@ -6,13 +6,12 @@ ghost use Rattle.net_blif.specs.Design.{ModelValue, items_of, model_from, model_
 
 use crate::item_list::ItemList;
 use indexmap::IndexMap;
-use net_core::Name;
+use net_core::{KeyedHash, Name};
 use std::alloc::{AllocError, Global};
-use std::hash::{BuildHasherDefault, DefaultHasher};
 use std::marker::Model;
 
-// The number of each name. SipHash, since names that collide in the map's usual hash are easily made.
-type Numbers = IndexMap<String, u32, BuildHasherDefault<DefaultHasher>>;
+// The number of each name, by a hash whose key is made of the text, so that names that collide cannot be looked for.
+type Numbers = IndexMap<String, u32, KeyedHash>;
 
 /// A model: its name, and what its lines place.
 #[derive(Drop)]
@@ -55,6 +54,7 @@ impl ModelText {
 /// The models of a text in BLIF, in order. Contracts see the list of models; model 0 is the top.
 #[derive(Drop)]
 pub struct Design {
+    key: u64,
     models: Vec<ModelText>,
     numbers: Numbers,
 }
@@ -73,13 +73,14 @@ impl Model for Design {
 }
 
 impl Design {
-    // A design without models. It takes no memory.
-    pub(crate) fn new(alloc: Global) -> Design
+    // A design without models, whose names are hashed with this key. It takes no memory.
+    pub(crate) fn new(alloc: Global, key: u64) -> Design
         ensures { result ≡ [] }
     {
         Design {
+            key,
             models: Vec::new(alloc),
-            numbers: IndexMap::with_hasher(alloc, BuildHasherDefault::new()),
+            numbers: IndexMap::with_hasher(alloc, KeyedHash::new(key)),
         }
     }
 
@@ -87,14 +88,22 @@ impl Design {
     pub(crate) fn with(self, alloc: Global, model: ModelText) -> Result<Design, AllocError>
         ensures { IfOk result (λ design. design ≡ self ++ model ∷ []) }
     {
-        let Design { models, numbers } = self;
+        let Design {
+            key,
+            models,
+            numbers,
+        } = self;
         let mut models = models;
         let Ok(number) = u32::try_from(models.len() + 1) else {
             return Err(AllocError);
         };
         let numbers = with_number(alloc, numbers, model.name(), number - 1)?;
         models.push(model)?;
-        Ok(Design { models, numbers })
+        Ok(Design {
+            key,
+            models,
+            numbers,
+        })
     }
 
     /// How many models there are.
@@ -117,6 +126,11 @@ impl Design {
         ensures { (m : ModelValue) → slice_get self.now model ≡ Some m → result.now ≡ m.name }
     {
         self.models[model as usize].name()
+    }
+
+    // The key of its names.
+    pub(crate) fn key(&self) -> u64 {
+        self.key
     }
 
     // What the lines of a model place, in order; none where there is no such model.

@@ -146,11 +146,11 @@ fn place(numbers: &mut Vec<u32>, maker: &mut NetMaker, item: &Item<'_>) -> Resul
 }
 
 // The net list of what the lines of a model place.
-fn walk(alloc: Global, items: &ItemList) -> Result<NetMaker, FlatFault>
+fn walk(alloc: Global, key: u64, items: &ItemList) -> Result<NetMaker, FlatFault>
     ensures made { IfOk result (λ maker. named_walk empty (flat_map steps_of items.now) ≡ Ok maker) }
     ensures fault { IfErr result (λ e. IsFaultOf (named_walk empty (flat_map steps_of items.now)) e) }
 {
-    let mut maker = NetMaker::new(alloc);
+    let mut maker = NetMaker::keyed(alloc, key);
     let mut numbers = Vec::new(alloc);
     for k in 0..items.len() {
         let item = items.get(k);
@@ -165,7 +165,7 @@ fn walk_model(alloc: Global, design: &Design, model: u32) -> Result<NetMaker, Fl
     ensures fault { IfErr result (λ e. IsFaultOf (named_walk empty (walk_of design.now model)) e) }
 {
     match design.items(model) {
-        Some(items) => walk(alloc, items),
+        Some(items) => walk(alloc, design.key(), items),
         None => Ok(NetMaker::new(alloc)),
     }
 }

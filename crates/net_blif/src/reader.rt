@@ -33,12 +33,12 @@ impl Model for Reader {
 }
 
 impl Reader {
-    /// Nothing was read. It takes no memory.
-    pub fn new(alloc: Global) -> Reader
+    /// Nothing was read of a text with this key. It takes no memory.
+    pub fn new(alloc: Global, key: u64) -> Reader
         ensures { result ≡ start }
     {
         Reader {
-            design: Design::new(alloc),
+            design: Design::new(alloc, key),
             model: None,
         }
     }
