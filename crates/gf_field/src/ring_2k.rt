@@ -32,7 +32,7 @@ pub struct BadDegree;
 impl Ring2k {
     ghost use Rattle.gf_field.specs.Ring2k.{modulus_of, degree_of};
 
-    /// The ring of this modulus, whose bit i is the coefficient of `x^i`.
+    /// The ring of this modulus, whose bit i is the coefficient of `x^i`. `BadDegree` where its degree is not 1 to 64.
     pub fn new(modulus: u128) -> Result<Ring2k, BadDegree>
         ensures accepted { IsOk result ↔ HasModulusDegree modulus }
         ensures degree { IfOk result (λ ring. IsModulus (degree_of ring) modulus) }

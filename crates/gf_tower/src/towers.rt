@@ -51,7 +51,9 @@ impl<F: Field> Tower<F> {
     ghost use Rattle.gf_tower.specs.TowerFault.{IsTowerFault};
     ghost use Rattle.gf_tower.specs.TowerParts.{base_of, coefficients_of, size_of};
 
-    /// The tower over this base; a refusal hands the base back.
+    /// The tower over this base. The faults, in this order: `BadLength` where there are fewer than 2 coefficients or the
+    /// tower would have more than 64 bits, and `BadCoefficient` at the first that is no element of the base. A refusal
+    /// hands the base back.
     pub fn new(base: F, coefficients: &[u64]) -> Result<Tower<F>, (TowerFault, F)>
         ensures accepted { IsOk result ↔ IsTowerList (F.degree base) coefficients.now }
         ensures fault { IfErr result (λ refused. IsTowerFault (F.degree base) coefficients.now refused.0) }
