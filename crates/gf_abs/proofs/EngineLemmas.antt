@@ -1,5 +1,5 @@
 -- What the engines say of their stages, as it is said of listings.
-use Rattle.std.proofs.Common.{refl, ℕ, ◌<◌, ◌≤◌, ◌+◌, List, length, arith}
+use Rattle.std.proofs.Common.{refl, ℕ, ◌+◌, List, length}
 use Rattle.net_words.specs.Binding.{BoundNet}
 use Rattle.poly_mixed.specs.Polynomial.{Point}
 use Rattle.poly_mixed.specs.declared.stage.ReduceFault.{ReduceFault}
@@ -9,7 +9,7 @@ use Rattle.poly_mixed.specs.declared.stage.Stage.TheVariants.{Cut, WordProduct, 
 use Rattle.circuit_model.specs.Circuit.{Circuit}
 use Rattle.stage_model.specs.CircuitListing.{bound_cuts}
 use Rattle.stage_model.specs.Cut.{BoundCut}
-use Rattle.stage_model.specs.Listing.{cut_listing, is_first_cut, is_earlier_cut, cut_of, AreAllWithin, IsOver, IsRefusal}
+use Rattle.stage_model.specs.Listing.{cut_listing, is_first_cut, is_earlier_cut, cut_of, AreAllWithin, IsRefusal}
 use Rattle.stage_model.specs.Stage.{IsNoneOver, IsFirstOver, IsWithin}
 use Rattle.stage_model.specs.StageList as old
 use Rattle.stage_model.specs.WordListing.{word_listing, is_word_stage, word_stage_of, is_earlier_word_stage}
