@@ -42,18 +42,16 @@ pub field_made : (field : AnyField) (g : ℕ) (cs : List ℕ) → IsFieldName g 
 field_made (Base field) g cs name made =
     let ring = ring_of field in
     let same = degree_unique (degree_of ring) name.degree g (subst (IsModulus (degree_of ring)) made.0 ring.fits) name.base.modulus in
-    (name, base_is (degree_of ring) (modulus_of ring) name.degree g cs same made.0 made.1.0)
+    (name, base_is (degree_of ring) (modulus_of ring) name.degree g cs same made.0 made.1)
 field_made (Tower field) g cs name made =
     let tower = ring_of field in
     let ring = ring_of (base_of tower) in
     let same = degree_unique (degree_of ring) name.degree g (subst (IsModulus (degree_of ring)) made.0 ring.fits) name.base.modulus in
-    (name, tower_is (degree_of ring) (size_of tower) (modulus_of ring) name.degree g (coefficients_of tower) cs same made.0 made.1.0 tower.fits.size tower.fits.two)
+    (name, tower_is (degree_of ring) (size_of tower) (modulus_of ring) name.degree g (coefficients_of tower) cs same made.0 made.1 tower.fits.size tower.fits.two)
 field_made (Upper field) g cs name made =
     let tower = ring_of field in
-    let none : length (coefficients_of tower) ≡ 0 = ap length made.1.1 in
-    let size = tower.fits.size in
-    let two = tower.fits.two in
-    absurd (omega arith)
+    let none : length (coefficients_of tower) ≡ 0 = ap length made.2 in
+    absurd (let two = tower.fits.two in let size = tower.fits.size in omega (arith, none, two, size))
 
 -- ---- how many bits its elements have
 

@@ -1,5 +1,5 @@
 -- The steps of a signature's reading, one after another, and of its setting's making.
-use Rattle.std.proofs.Common.{◌≡◌, inl, inr, refl, subst, sym, List, ℕ, Ok, Err}
+use Rattle.std.proofs.Common.{◌≡◌, inl, inr, refl, subst, sym, [], List, ℕ, Ok, Err}
 use Rattle.text_core.specs.Outcome.{Within}
 use Rattle.net_words.specs.Signature.{SignatureValue, Sig}
 use Rattle.net_words.specs.WordNames.{HaveNames}
@@ -23,7 +23,7 @@ unfolding SignedOf
 signed_is bytes said field text_ok field_ok = (said, text_ok, (field, field_ok, refl))
 
 -- a fault of its field is its own
-pub field_fails : (bytes : List ℕ) (said : SignatureValue) → Sig bytes (Ok said) → (fault : FieldFault) → IsFieldFault said.modulus said.tower fault → GivesBy signed_value (Err (Refused (Signature (field_fault fault)))) (Within Signature (SignedOf bytes)) ⊥ ⊥
+pub field_fails : (bytes : List ℕ) (said : SignatureValue) → Sig bytes (Ok said) → (fault : FieldFault) → IsFieldFault said.modulus said.tower [] fault → GivesBy signed_value (Err (Refused (Signature (field_fault fault)))) (Within Signature (SignedOf bytes)) ⊥ ⊥
 unfolding SignedOf
 field_fails bytes said text_ok fault fails = ((field_fault fault, inr (said, text_ok, inl (fault, fails, refl)), refl), λ miss. miss)
 

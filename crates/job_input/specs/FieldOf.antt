@@ -35,7 +35,7 @@ abbrev pub FieldOrFault : ℕ → List ℕ → Outcome FieldFault FieldValue
 FieldOrFault g cs (Ok field) = (name : IsFieldName g cs []) × (field ≡ field_of name.degree g cs)
 FieldOrFault g cs (Err fault) = IsFieldFault g cs [] fault
 
--- the fault of a signature that this reason is
+-- the fault of a signature that this reason is; no signature has a second tower step yet, so the last three are never met
 abbrev pub field_fault : FieldFault → SignatureFault
 field_fault BadDegree = Degree
 field_fault NotIrreducible = Modulus
