@@ -69,7 +69,7 @@ module _ {degree : ℕ} {mul : ℕ → ℕ → ℕ} (f : IsField degree mul) whe
     unfolding power
     power-wrap x n r h e = ap (power mul x) e ∙ power-add x (2 ^ degree) r h ∙ ap (λ y. mul y (power mul x r)) (f.fermat x h)
 
-    power-add_exponent : (x i j : ℕ) → IsElement degree x → power mul x (add_exponent degree i j) ≡ mul (power mul x i) (power mul x j)
+    pub power-add_exponent : (x i j : ℕ) → IsElement degree x → power mul x (add_exponent degree i j) ≡ mul (power mul x i) (power mul x j)
     power-add_exponent x i j h =
         elim (nat_lt (i + j) (2 ^ degree)) as (λ b. nat_lt (i + j) (2 ^ degree) ≡ b → power mul x (cond b (i + j) (i + j - (2 ^ degree - 1))) ≡ mul (power mul x i) (power mul x j)) [
           | true ↦ λ e. power-add x i j h
@@ -82,7 +82,7 @@ module _ {degree : ℕ} {mul : ℕ → ℕ → ℕ} (f : IsField degree mul) whe
               ap (power mul x) short ∙ sym (power-wrap x (i + j) r h whole) ∙ power-add x i j h
         ] refl
 
-    cross : (x y z w : ℕ) → IsElement degree x → IsElement degree y → IsElement degree z → IsElement degree w → mul (mul x y) (mul z w) ≡ mul (mul x z) (mul y w)
+    pub cross : (x y z w : ℕ) → IsElement degree x → IsElement degree y → IsElement degree z → IsElement degree w → mul (mul x y) (mul z w) ≡ mul (mul x z) (mul y w)
     cross x y z w hx hy hz hw =
         f.assoc x y (mul z w) hx hy (f.closed z w hz hw)
         ∙ ap (mul x) (sym (f.assoc y z w hy hz hw) ∙ ap (λ n. mul n w) (f.comm y z hy hz) ∙ f.assoc z y w hz hy hw)
@@ -196,7 +196,7 @@ module _ {degree : ℕ} {mul : ℕ → ℕ → ℕ} (f : IsField degree mul) whe
   value_element p at [] all = zero_element f
   value_element p at (t ∷ ts) all = xor_lt degree (term_value mul p t) (value mul p ts) (term_value_element p at t all.0.element) (value_element p at ts all.1)
 
-  distrib_right : (x y z : ℕ) → IsElement degree x → IsElement degree y → IsElement degree z → mul x (bit_xor y z) ≡ bit_xor (mul x y) (mul x z)
+  pub distrib_right : (x y z : ℕ) → IsElement degree x → IsElement degree y → IsElement degree z → mul x (bit_xor y z) ≡ bit_xor (mul x y) (mul x z)
   distrib_right x y z hx hy hz =
       f.comm x (bit_xor y z) hx (xor_lt degree y z hy hz) ∙ f.distrib y z x hy hz hx ∙ (λ i. bit_xor (f.comm y x hy hx i) (f.comm z x hz hx i))
 

@@ -88,7 +88,8 @@ impl Poly {
         Ok(())
     }
 
-    pub(crate) fn add_term(&mut self, mono: Mono, c: u64) -> Result<(), AllocError>
+    /// Adds a term, whose coefficient is not 0. After want of memory the polynomial is not used again.
+    pub fn add_term(&mut self, mono: Mono, c: u64) -> Result<(), AllocError>
         requires { c ≢ 0 }
         ensures { OnOk result (self.new ≡ polynomial (plus_term text_cmp self.old.terms (mono, c))) }
     {

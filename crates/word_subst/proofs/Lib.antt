@@ -1,5 +1,8 @@
-mod FormList
 mod Rising
+mod Univariates
+mod Multiples
+mod Prefixes
+mod FormList
 mod Around
 mod Multiplier
 mod OneTerm

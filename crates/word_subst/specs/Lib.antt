@@ -7,3 +7,7 @@ pub mod Multiplier
 pub mod Read
 pub mod ReadSteps
 pub mod ReadRefusal
+pub mod Univariate
+pub mod Merge
+pub mod Multiple
+pub mod Prefix

@@ -4,13 +4,10 @@
 
 mod forms;
 mod laws;
+mod multiple;
 mod places;
-mod product;
-mod term;
-#[cfg(test)]
-mod tests;
-mod word;
-mod words;
+mod products;
+mod size;
+mod univariate;
 
 pub use laws::{all_words_are_the_output, bases_make_a_circuit, last_cut_is_taken};
-pub use words::to_words;
