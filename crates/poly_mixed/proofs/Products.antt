@@ -50,7 +50,7 @@ all-with_rank p (x ∷ xs) r =
       ] refl
     ]
 
-all-union : (p : ℕ → Bool) (xs rs : List ℕ) → list_all p (union xs rs) ≡ (list_all p xs && list_all p rs)
+pub all-union : (p : ℕ → Bool) (xs rs : List ℕ) → list_all p (union xs rs) ≡ (list_all p xs && list_all p rs)
 all-union p xs [] = and_comm true (list_all p xs)
 all-union p xs (r ∷ rs) = all-union p (with_rank xs r) rs ∙ ap (λ b. b && list_all p rs) (all-with_rank p xs r) ∙ and_assoc (list_all p xs) (p r) (list_all p rs)
 

@@ -17,12 +17,12 @@ use Rattle.stage_model.specs.Mix.{IsMix}
 use Rattle.stage_model.specs.Stage.{IsOfStage, IsWithin}
 use Rattle.stage_model.specs.WordStage.{word_bits, IsTermOf, IsProduct, IsSum}
 use Rattle.stage_model.specs.WordSteps.{AreWordStepsTo}
-use Rattle.stage_model.specs.StageList.{HasProduct, HasSum, IsListed, ComesBefore, StageOf, IsEarlier, is_of_words, IsOver, AreAllWithin}
+use Rattle.stage_model.specs.Listing.{IsOver, AreAllWithin, IsRefusal}
+use Rattle.stage_model.specs.WordListing.{HasProduct, HasSum, is_word_stage, word_stage_of, is_earlier_word_stage, IsEarlier, word_listing}
 use Rattle.stage_model.proofs.WordStageLemmas.{one_term_of}
 use Rattle.word_subst.specs.Read.{product_at, sum_at, HasWithin, HasOver, IsTermWithin, AreTermsWithin}
 use Rattle.word_subst.specs.ReadSteps.{TellsTerms}
 use Rattle.word_subst.specs.ReadRefusal.{IsReached, IsProductOver, IsWordRefusal}
-use Rattle.word_subst.specs.Refusal.{IsRefusal}
 use Rattle.word_subst.specs.Recorded.{IsRecorded}
 use Rattle.poly_mixed.proofs.Recorders.{tells_none, tells_more}
 use Rattle.word_subst.proofs.Lifted.{lift_product, lift_sum, word_steps, size_of, product_within, products_to, sums_to, number_within}
@@ -56,14 +56,14 @@ module _ (c : Circuit) where
       let P : ℕ → Type 0 = λ n. AreWordStepsTo c n told.steps in
       record { steps = told.steps; are = subst P same told.are; told = told.told }
 
-  pub all_within : (w bound : ℕ) → w ≡ length c.words → AreWithinTo c w bound → AreAllWithin c is_of_words bound
-  all_within w bound same all (WordProduct v s j) listed among = all.products v s j (omega (arith, listed.word, same)) listed
-  all_within w bound same all (WordSum v s) listed among = all.sums v s (omega (arith, listed.word, same)) listed
-  all_within w bound same all (Cut t) listed among = absurd (cc)
-  all_within w bound same all (SpecProduct s j) listed among = absurd listed
-  all_within w bound same all (SpecSum s) listed among = absurd listed
-  all_within w bound same all (InstanceProduct i s j) listed among = absurd listed
-  all_within w bound same all (InstanceSum i s) listed among = absurd listed
+  pub all_within : (w bound : ℕ) → w ≡ length c.words → AreWithinTo c w bound → AreAllWithin c.k c.product (word_listing c) bound
+  all_within w bound same all (WordProduct v s j) listed = all.products v s j (omega (arith, listed.word, same)) listed
+  all_within w bound same all (WordSum v s) listed = all.sums v s (omega (arith, listed.word, same)) listed
+  all_within w bound same all (Cut t) listed = absurd listed
+  all_within w bound same all (SpecProduct s j) listed = absurd listed
+  all_within w bound same all (SpecSum s) listed = absurd listed
+  all_within w bound same all (InstanceProduct i s j) listed = absurd listed
+  all_within w bound same all (InstanceSum i s) listed = absurd listed
 
 module _ (c : Circuit) (well : IsWellFormed c) (w : ℕ) (word : Word) (at_word : slice_get c.words w ≡ Some word) (elements : List ℕ) (basis : word.basis ≡ elements) (terms : Terms) (before : IsOfStage c.k c.product (IsMix c w) terms) (bound : ℕ) where
   pub one_word_within : AreWithinTo c w bound → AreTermsWithin c.k c.product elements w terms (length terms) bound → AreWithinTo c (w + 1) bound
@@ -133,61 +133,59 @@ module _ (c : Circuit) (well : IsWellFormed c) (w : ℕ) (word : Word) (at_word 
           let R : Monomial × ℕ → Type 0 = λ u. i ≤ length (word_bits c.k w u) in
           subst R same here.bits
 
-      before_product : (j n : ℕ) → IsProductOver c.k c.product elements w t bound j n → (other : Stage) → IsListed c other → is_of_words other ≡ true → ComesBefore other (WordProduct w s j) → IsWithin c.k c.product (StageOf c other) bound
-      before_product j n over (WordProduct v r i) listed among comes = elim (earlier v r w s (i < j) comes) [
+      before_product : (j n : ℕ) → IsProductOver c.k c.product elements w t bound j n → (other : Stage) → is_word_stage c other → is_earlier_word_stage other (WordProduct w s j) → IsWithin c.k c.product (word_stage_of c other) bound
+      before_product j n over (WordProduct v r i) listed comes = elim (earlier v r w s (i < j) comes) [
         | inl less ↦ product_before v r i listed less
         | inr own ↦ own_product v r i (over.before i listed.some own.2) own.0 own.1
       ]
-      before_product j n over (WordSum v r) listed among comes = elim (earlier v r w s ⊥ comes) [
+      before_product j n over (WordSum v r) listed comes = elim (earlier v r w s ⊥ comes) [
         | inl less ↦ sum_before v r listed less
         | inr own ↦ absurd own.2
       ]
-      before_product j n over (Cut m) listed among comes = absurd (cc)
-      before_product j n over (SpecProduct r i) listed among comes = absurd listed
-      before_product j n over (SpecSum r) listed among comes = absurd listed
-      before_product j n over (InstanceProduct m r i) listed among comes = absurd listed
-      before_product j n over (InstanceSum m r) listed among comes = absurd listed
+      before_product j n over (Cut m) listed comes = absurd listed
+      before_product j n over (SpecProduct r i) listed comes = absurd listed
+      before_product j n over (SpecSum r) listed comes = absurd listed
+      before_product j n over (InstanceProduct m r i) listed comes = absurd listed
+      before_product j n over (InstanceSum m r) listed comes = absurd listed
 
-      before_sum : IsTermWithin c.k c.product elements w t bound → (other : Stage) → IsListed c other → is_of_words other ≡ true → ComesBefore other (WordSum w s) → IsWithin c.k c.product (StageOf c other) bound
-      before_sum term (WordProduct v r i) listed among comes = elim (earlier v r w s (Unit {0}) comes) [
+      before_sum : IsTermWithin c.k c.product elements w t bound → (other : Stage) → is_word_stage c other → is_earlier_word_stage other (WordSum w s) → IsWithin c.k c.product (word_stage_of c other) bound
+      before_sum term (WordProduct v r i) listed comes = elim (earlier v r w s (Unit {0}) comes) [
         | inl less ↦ product_before v r i listed less
         | inr own ↦ own_product v r i (term i listed.some (own_bits v r i listed own.0 own.1)) own.0 own.1
       ]
-      before_sum term (WordSum v r) listed among comes = elim (earlier v r w s ⊥ comes) [
+      before_sum term (WordSum v r) listed comes = elim (earlier v r w s ⊥ comes) [
         | inl less ↦ sum_before v r listed less
         | inr own ↦ absurd own.2
       ]
-      before_sum term (Cut m) listed among comes = absurd (cc)
-      before_sum term (SpecProduct r i) listed among comes = absurd listed
-      before_sum term (SpecSum r) listed among comes = absurd listed
-      before_sum term (InstanceProduct m r i) listed among comes = absurd listed
-      before_sum term (InstanceSum m r) listed among comes = absurd listed
+      before_sum term (Cut m) listed comes = absurd listed
+      before_sum term (SpecProduct r i) listed comes = absurd listed
+      before_sum term (SpecSum r) listed comes = absurd listed
+      before_sum term (InstanceProduct m r i) listed comes = absurd listed
+      before_sum term (InstanceSum m r) listed comes = absurd listed
 
-      product_over : (j n : ℕ) → IsProductOver c.k c.product elements w t bound j n → IsOver c is_of_words bound (WordProduct w s j) n
+      product_over : (j n : ℕ) → IsProductOver c.k c.product elements w t bound j n → IsOver c.k c.product (word_listing c) bound (WordProduct w s j) n
       product_over j n over = record {
         listed = record { word = slice_get_within c.words w word at_word; term = t; is_term = is_term; some = over.some; bits = over.bits };
-        is_among = refl;
         size = size_of c well w word at_word elements basis terms before (IsProduct c w s j) (product_at c.k c.product w t j) bound n (λ ts is. lift_product c well w word at_word elements basis terms before reached.place s j t ts reached.number reached.at is) over.over;
         over = over.over.over;
         before = before_product j n over;
       }
 
-      sum_over : (n : ℕ) → IsTermWithin c.k c.product elements w t bound → HasOver c.k c.product elements w (sum_at c.k c.product w terms s) bound n → IsOver c is_of_words bound (WordSum w s) n
+      sum_over : (n : ℕ) → IsTermWithin c.k c.product elements w t bound → HasOver c.k c.product elements w (sum_at c.k c.product w terms s) bound n → IsOver c.k c.product (word_listing c) bound (WordSum w s) n
       sum_over n term over = record {
         listed = record { word = slice_get_within c.words w word at_word; term = t; is_term = is_term };
-        is_among = refl;
         size = size_of c well w word at_word elements basis terms before (IsSum c w s) (sum_at c.k c.product w terms s) bound n (λ ts is. lift_sum c well w word at_word elements basis terms before s ts is) over;
         over = over.over;
         before = before_sum term;
       }
 
     -- what one word refuses, all words refuse
-    pub refused : (fault : ReduceFault) → IsWordRefusal c.k c.product elements w terms bound fault → IsRefusal c bound fault
+    pub refused : (fault : ReduceFault) → IsWordRefusal c.k c.product elements w terms bound fault → IsRefusal c.k c.product (word_listing c) bound fault
     refused (TooManyTerms (WordProduct v s j) n) is =
-        let P : ℕ → Type 0 = λ m. IsOver c is_of_words bound (WordProduct m s j) n in
+        let P : ℕ → Type 0 = λ m. IsOver c.k c.product (word_listing c) bound (WordProduct m s j) n in
         subst P (sym is.0) (product_over s is.1.term is.1.reached j n is.1.over)
     refused (TooManyTerms (WordSum v s) n) is =
-        let P : ℕ → Type 0 = λ m. IsOver c is_of_words bound (WordSum m s) n in
+        let P : ℕ → Type 0 = λ m. IsOver c.k c.product (word_listing c) bound (WordSum m s) n in
         subst P (sym is.0) (sum_over s is.1.term is.1.reached n is.1.products is.1.over)
     refused (TooManyTerms (Cut t) n) is = absurd is
     refused (TooManyTerms (SpecProduct s j) n) is = absurd is

@@ -2,6 +2,9 @@ mod Rising
 mod Univariates
 mod Multiples
 mod Prefixes
+mod Spreads
+mod Groups
+mod TermParts
 mod FormList
 mod Around
 mod Multiplier

@@ -13,7 +13,7 @@ use Rattle.stage_model.specs.Mix.{IsMix}
 use Rattle.stage_model.specs.Stage.{IsOfStage, HasSize, IsWithin}
 use Rattle.stage_model.specs.WordStage.{IsRead, IsTermOf, IsProduct, IsSum}
 use Rattle.stage_model.specs.WordSteps.{IsMultiplier, IsStepOf, AreStepsOfTerms, AreStepsOfWord}
-use Rattle.stage_model.specs.StageList.{HasProduct, HasSum}
+use Rattle.stage_model.specs.WordListing.{HasProduct, HasSum}
 use Rattle.stage_model.specs.PlainWord.{IsReading, IsSumOf}
 use Rattle.stage_model.proofs.WordStageLemmas.{some_read, one_terms}
 use Rattle.stage_model.proofs.NextMixLemmas.{all_terms}

@@ -10,7 +10,7 @@ use Rattle.std.proofs.lemmas.List.Folds.{list_all-append}
 use Rattle.std.proofs.lemmas.Nat.Bits.{bit_at-lt}
 use Rattle.std.proofs.lemmas.Option.{slice_get_within, get_or_from_slice_get}
 use Rattle.std.proofs.Math.Seq.{take-length}
-use Rattle.graph_core.proofs.ListLemmas.{got_push, length-push}
+use Rattle.graph_core.proofs.ListLemmas.{got_push, length-push, got_read}
 use Rattle.gf_field.specs.Power.{power}
 use Rattle.gf_basis.specs.Basis.{AreBits}
 use Rattle.poly_mixed.specs.Polynomial.{IsElement}
@@ -21,7 +21,9 @@ use Rattle.poly_mixed.specs.declared.stage.Stage.TheVariants.{WordProduct}
 use Rattle.poly_mixed.proofs.FieldLaws.{IsField}
 use Rattle.poly_mixed.proofs.Values.{power_element, product_by_zero, one_element, zero_element}
 use Rattle.word_subst.specs.Univariate.{Powers, IsPower, IsUnivariate, value_of, power_value, IsProductOfTwo}
-use Rattle.word_subst.specs.Forms.{IsForm}
+use Rattle.stage_model.specs.WordStage.{is_of_word}
+use Rattle.stage_model.proofs.WordPolyLemmas.{own_range}
+use Rattle.word_subst.specs.Forms.{IsForm, AreForms}
 use Rattle.word_subst.specs.Prefix.{Products, IsBitProduct, AreProducts, IsProductWithin, IsFirstOver, IsNextOver, IsNextRefusal, IsProductRefusal}
 use Rattle.word_subst.proofs.Univariates.{one_power}
 
@@ -174,3 +176,28 @@ kept k mul elements word bound n old new inside start_is ranks_is products_is ar
           subst S (sym (take_take j n old.ranks (omega (arith, at.1)))) (are.each j us at.0);
       within = λ j us some got. are.within j us some (got_taken (n + 1) j old.products us got).0;
     })))
+
+-- the product that the code reads
+pub last_at : (ps : Products) (items : List Powers) (ranks : List ℕ) (n : ℕ) (last : Powers) → items ≡ ps.products → ranks ≡ ps.ranks → n ≡ length ranks → length ps.products ≡ suc (length ps.ranks) → last ≡ get_or items n last
+    → slice_get ps.products (length ps.ranks) ≡ Some last
+last_at ps items ranks n last items_are ranks_are n_is long read =
+    let less : n < length items = omega (arith, n_is, ap length ranks_are, ap length items_are, long) in
+    let P : List Powers → Type 0 = λ us. slice_get us n ≡ Some last in
+    let Q : ℕ → Type 0 = λ m. slice_get ps.products m ≡ Some last in
+    subst Q (n_is ∙ ap length ranks_are) (subst P items_are (got_read items n last less read))
+
+pub at_index : (P : ℕ → Type 0) (xs : List ℕ) (j : ℕ) → AllByRecursion P xs → j < length xs → P (get_or xs j 0)
+at_index P [] j all less = absurd (omega arith)
+at_index P (x ∷ xs) zero all less = all.0
+at_index P (x ∷ xs) (suc j) all less = at_index P xs j all.1 (omega arith)
+
+-- the form that the code reads
+pub form_at : (k : ℕ) (mul : ℕ → ℕ → ℕ) (elements : List ℕ) (word m j : ℕ) (own : List ℕ) (forms : List Powers) (form : Powers) → AllByRecursion (λ r. is_of_word k word r ≡ true) own → j < length own → m ≡ k → AreForms k mul elements forms
+    → form ≡ get_or forms (get_or own j 0 - m * word) form → IsForm k mul elements (get_or own j 0 - k * word) form
+form_at k mul elements word m j own forms form all less same are read =
+    let range = own_range k word (get_or own j 0) (at_index (λ r. is_of_word k word r ≡ true) own j all less) in
+    let P : ℕ → Type 0 = λ n. form ≡ get_or forms (get_or own j 0 - n * word) form in
+    are.each (get_or own j 0 - k * word) form (got_read forms (get_or own j 0 - k * word) form (small (k * word) (get_or own j 0) range are.long) (subst P same read))
+  where
+    small : (b r : ℕ) → (b ≤ r) × (r < b + k) → length forms ≡ k → r - b < length forms
+    small b r range long = omega (arith, range.0, range.1, long)

@@ -1,5 +1,4 @@
 pub mod Bases
-pub mod Refusal
 pub mod Recorded
 pub mod Places
 pub mod Forms
@@ -11,3 +10,5 @@ pub mod Univariate
 pub mod Merge
 pub mod Multiple
 pub mod Prefix
+pub mod Spread
+pub mod Rest

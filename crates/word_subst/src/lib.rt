@@ -6,8 +6,18 @@ mod forms;
 mod laws;
 mod multiple;
 mod places;
+mod product;
 mod products;
+mod rest;
 mod size;
+mod sums;
+mod tell;
+mod term;
+#[cfg(test)]
+mod tests;
 mod univariate;
+mod word;
+mod words;
 
 pub use laws::{all_words_are_the_output, bases_make_a_circuit, last_cut_is_taken};
+pub use words::to_words;

@@ -56,7 +56,9 @@ impl BitProducts {
         bound: u32,
     ) -> Result<BitProducts, AllocError>
         requires start { IsElement (F.degree field.now) start }
-        ensures { IfOk result (λ p. ((elements : _) → AreProducts (F.degree field.now) (F.product field.now) elements word bound p) × (p.start ≡ start) × (p.ranks ≡ [])) }
+        ensures products { (elements : List ℕ) → IfOk result (AreProducts (F.degree field.now) (F.product field.now) elements word bound) }
+        ensures start { IfOk result (λ p. p.start ≡ start) }
+        ensures ranks { IfOk result (λ p. p.ranks ≡ []) }
     {
         let mut one = Univariate::zero(alloc);
         one.push(start, field.one())?;

@@ -1,5 +1,5 @@
 //! Polynomials in one word.
-ghost use Rattle.std.specs.Prelude.{◌≡◌, ◌<◌, ◌++◌, length, [], ◌∷◌, IfOk, OnOk};
+ghost use Rattle.std.specs.Prelude.{◌≡◌, ◌<◌, ◌^◌, ◌++◌, length, [], ◌∷◌, IfOk, OnOk};
 ghost use Rattle.word_subst.specs.Univariate.{IsUnivariate, IsSum};
 ghost use Rattle.word_subst.specs.Merge.{IsMerging, IsMergedTo};
 
@@ -34,7 +34,8 @@ impl Univariate {
 
     /// The size: how many powers it has.
     pub fn len(&self) -> usize
-        ensures { result ≡ length self.now }
+        ensures value { result ≡ length self.now }
+        ensures small { length self.now < 2 ^ 63 }
     {
         self.powers.len()
     }

@@ -1,0 +1,150 @@
+use Rattle.std.proofs.Common.{rules, ◌≡◌, ◌<◌, ◌≤◌, length, ℕ, suc, ◌+◌, List, subst, arith}
+use Rattle.net_words.specs.Binding.{BoundNet}
+use Rattle.gf_basis.specs.BasisParts.{elements_of}
+use Rattle.gf_basis.specs.declared.bases.Basis.{Basis}
+use Rattle.circuit_model.specs.Circuit.{Circuit}
+use Rattle.stage_model.specs.Mix.{IsMix}
+use Rattle.stage_model.specs.Stage.{IsOfStage}
+use Rattle.word_subst.specs.Bases.{circuit_in}
+use Rattle.stage_model.specs.Listing.{IsRefusal}
+use Rattle.stage_model.specs.WordListing.{word_listing}
+use Rattle.word_subst.proofs.Turn.{is_well_formed, places_are, as_many, inside, own_word, is_over}
+use Rattle.word_subst.proofs.Lifted.{next_mix}
+use Rattle.word_subst.proofs.AllWords.{all_recorded, all_within, one_word_within, one_word_recorded, refused}
+use Rattle.word_subst.proofs.words.to_words.Goals as goal
+
+pub bounds-bases-index : goal.bounds-bases-index
+bounds-bases-index g c =
+    let k : ℕ = g.F.Ring.degree c.args.field.now in
+    let mul : ℕ → ℕ → ℕ = g.F.Ring.product c.args.field.now in
+    let b : BoundNet = c.args.circuit.now in
+    let bases : List Basis = c.args.bases.now in
+    let places : List ℕ = c.in_ok-places.places.items in
+    let places_is = places_are k mul b bases c.requires.bases places c.bound.result.now c.in_ok-places.ensures c.bound.ensures.bound in
+    let w : ℕ = c.loop-w.w in
+    let v : ℕ = c.index.result.now in
+    let less : w < length places = omega (arith, c.loop-w-test.true, c.len-w-end.ensures) in
+    inside k mul b bases c.requires.bases places places_is w v less c.index.ensures
+
+pub overflow_cast-w : goal.overflow_cast-w
+overflow_cast-w g c =
+    let k : ℕ = g.F.Ring.degree c.args.field.now in
+    let mul : ℕ → ℕ → ℕ = g.F.Ring.product c.args.field.now in
+    let b : BoundNet = c.args.circuit.now in
+    let bases : List Basis = c.args.bases.now in
+    let places : List ℕ = c.in_ok-places.places.items in
+    let places_is = places_are k mul b bases c.requires.bases places c.bound.result.now c.in_ok-places.ensures c.bound.ensures.bound in
+    let well = is_well_formed k mul b bases c.requires.bases (g.met.F.Ring.laws c.args.field.now) (g.met.F.Field.no_zero_divisors c.args.field.now) c.kept.ensures.sound c.kept.ensures.bound c.requires.k in
+    let w : ℕ = c.loop-w.w in
+    let v : ℕ = c.index.result.now in
+    let less : w < length places = omega (arith, c.loop-w-test.true, c.len-w-end.ensures) in
+    let few : length places ≤ 8 = omega (arith, as_many k mul b bases c.requires.bases places places_is, well.few) in
+    omega (arith, few, less)
+
+pub one_word-requires-clause-over : goal.one_word-requires-clause-over
+one_word-requires-clause-over g c =
+    let k : ℕ = g.F.Ring.degree c.args.field.now in
+    let mul : ℕ → ℕ → ℕ = g.F.Ring.product c.args.field.now in
+    let b : BoundNet = c.args.circuit.now in
+    let bases : List Basis = c.args.bases.now in
+    let places : List ℕ = c.in_ok-places.places.items in
+    let places_is = places_are k mul b bases c.requires.bases places c.bound.result.now c.in_ok-places.ensures c.bound.ensures.bound in
+    let w : ℕ = c.loop-w.w in
+    let v : ℕ = c.index.result.now in
+    let less : w < length places = omega (arith, c.loop-w-test.true, c.len-w-end.ensures) in
+    is_over k mul b bases c.requires.bases places places_is w v less c.index.ensures c.index-bases-index.result c.index-bases-index.is
+
+pub one_word-requires-clause-word : goal.one_word-requires-clause-word
+one_word-requires-clause-word g c =
+    let k : ℕ = g.F.Ring.degree c.args.field.now in
+    let mul : ℕ → ℕ → ℕ = g.F.Ring.product c.args.field.now in
+    let b : BoundNet = c.args.circuit.now in
+    let bases : List Basis = c.args.bases.now in
+    let places : List ℕ = c.in_ok-places.places.items in
+    let places_is = places_are k mul b bases c.requires.bases places c.bound.result.now c.in_ok-places.ensures c.bound.ensures.bound in
+    let well = is_well_formed k mul b bases c.requires.bases (g.met.F.Ring.laws c.args.field.now) (g.met.F.Field.no_zero_divisors c.args.field.now) c.kept.ensures.sound c.kept.ensures.bound c.requires.k in
+    let w : ℕ = c.loop-w.w in
+    let v : ℕ = c.index.result.now in
+    let less : w < length places = omega (arith, c.loop-w-test.true, c.len-w-end.ensures) in
+    let few : length places ≤ 8 = omega (arith, as_many k mul b bases c.requires.bases places places_is, well.few) in
+    omega (arith, few, less)
+
+pub returns-in_err-poly-clause-fault : goal.returns-in_err-poly-clause-fault
+returns-in_err-poly-clause-fault g c =
+    let k : ℕ = g.F.Ring.degree c.args.field.now in
+    let mul : ℕ → ℕ → ℕ = g.F.Ring.product c.args.field.now in
+    let b : BoundNet = c.args.circuit.now in
+    let bases : List Basis = c.args.bases.now in
+    let places : List ℕ = c.in_ok-places.places.items in
+    let places_is = places_are k mul b bases c.requires.bases places c.bound.result.now c.in_ok-places.ensures c.bound.ensures.bound in
+    let well = is_well_formed k mul b bases c.requires.bases (g.met.F.Ring.laws c.args.field.now) (g.met.F.Field.no_zero_divisors c.args.field.now) c.kept.ensures.sound c.kept.ensures.bound c.requires.k in
+    let w : ℕ = c.loop-w.w in
+    let v : ℕ = c.index.result.now in
+    let less : w < length places = omega (arith, c.loop-w-test.true, c.len-w-end.ensures) in
+    let basis : Basis = c.index-bases-index.result in
+    let word = own_word k mul b bases c.requires.bases places places_is w v less c.index.ensures basis c.index-bases-index.is in
+    let circuit : Circuit = circuit_in k mul b bases in
+    let fault : IsRefusal k mul (word_listing circuit) c.args.bound c.in_err-poly.field-0.0 =
+    refused circuit well w word.0 word.1 (elements_of basis) word.2 c.loop-w.poly.terms c.loop-w.invariant.mix c.args.bound c.loop-w.invariant.within c.in_err-poly.field-0.0 c.in_err-poly.ensures.fault in
+    search rules
+
+pub loop-w-preserved : goal.loop-w-preserved
+loop-w-preserved g c =
+    let k : ℕ = g.F.Ring.degree c.args.field.now in
+    let mul : ℕ → ℕ → ℕ = g.F.Ring.product c.args.field.now in
+    let b : BoundNet = c.args.circuit.now in
+    let bases : List Basis = c.args.bases.now in
+    let places : List ℕ = c.in_ok-places.places.items in
+    let places_is = places_are k mul b bases c.requires.bases places c.bound.result.now c.in_ok-places.ensures c.bound.ensures.bound in
+    let well = is_well_formed k mul b bases c.requires.bases (g.met.F.Ring.laws c.args.field.now) (g.met.F.Field.no_zero_divisors c.args.field.now) c.kept.ensures.sound c.kept.ensures.bound c.requires.k in
+    let w : ℕ = c.loop-w.w in
+    let v : ℕ = c.index.result.now in
+    let less : w < length places = omega (arith, c.loop-w-test.true, c.len-w-end.ensures) in
+    let basis : Basis = c.index-bases-index.result in
+    let word = own_word k mul b bases c.requires.bases places places_is w v less c.index.ensures basis c.index-bases-index.is in
+    let circuit : Circuit = circuit_in k mul b bases in
+    let up : suc w ≡ w + 1 = omega arith in
+    let P : ℕ → Type 0 = λ n. IsOfStage k mul (IsMix circuit n) c.in_ok-poly.poly.terms in
+    record {
+      mix = subst P up (next_mix circuit well w word.0 word.1 (elements_of basis) word.2 c.loop-w.poly.terms c.loop-w.invariant.mix c.in_ok-poly.poly.terms c.in_ok-poly.ensures.sum);
+      few = omega (arith, c.in_ok-poly.ensures.small, c.ranges.bound.fits);
+      within = one_word_within circuit well w word.0 word.1 (elements_of basis) word.2 c.loop-w.poly.terms c.loop-w.invariant.mix c.args.bound c.loop-w.invariant.within c.in_ok-poly.ensures.within;
+      recorded = one_word_recorded circuit well w word.0 word.1 (elements_of basis) word.2 c.loop-w.poly.terms c.loop-w.invariant.mix c.args.bound (g.T.Steps.steps c.args.steps.now) (g.T.Steps.steps c.loop-w.steps) (g.T.Steps.steps c.one_word.new.steps) c.loop-w.invariant.recorded c.in_ok-poly.ensures.steps;
+    }
+
+pub returns-clause-words : goal.returns-clause-words
+returns-clause-words g c =
+    let k : ℕ = g.F.Ring.degree c.args.field.now in
+    let mul : ℕ → ℕ → ℕ = g.F.Ring.product c.args.field.now in
+    let b : BoundNet = c.args.circuit.now in
+    let bases : List Basis = c.args.bases.now in
+    let places : List ℕ = c.in_ok-places.places.items in
+    let places_is = places_are k mul b bases c.requires.bases places c.bound.result.now c.in_ok-places.ensures c.bound.ensures.bound in
+    let circuit : Circuit = circuit_in k mul b bases in
+    let last : c.loop-w.w ≡ length circuit.words = omega (arith, c.loop-w-test.false, c.loop-w.auto.w-end, c.len-w-end.ensures, as_many k mul b bases c.requires.bases places places_is) in
+    let P : ℕ → Type 0 = λ n. IsOfStage k mul (IsMix circuit n) c.loop-w.poly.terms in
+    subst P last c.loop-w.invariant.mix
+
+pub returns-clause-within : goal.returns-clause-within
+returns-clause-within g c =
+    let k : ℕ = g.F.Ring.degree c.args.field.now in
+    let mul : ℕ → ℕ → ℕ = g.F.Ring.product c.args.field.now in
+    let b : BoundNet = c.args.circuit.now in
+    let bases : List Basis = c.args.bases.now in
+    let places : List ℕ = c.in_ok-places.places.items in
+    let places_is = places_are k mul b bases c.requires.bases places c.bound.result.now c.in_ok-places.ensures c.bound.ensures.bound in
+    let circuit : Circuit = circuit_in k mul b bases in
+    let last : c.loop-w.w ≡ length circuit.words = omega (arith, c.loop-w-test.false, c.loop-w.auto.w-end, c.len-w-end.ensures, as_many k mul b bases c.requires.bases places places_is) in
+    all_within circuit c.loop-w.w c.args.bound last c.loop-w.invariant.within
+
+pub returns-clause-steps : goal.returns-clause-steps
+returns-clause-steps g c =
+    let k : ℕ = g.F.Ring.degree c.args.field.now in
+    let mul : ℕ → ℕ → ℕ = g.F.Ring.product c.args.field.now in
+    let b : BoundNet = c.args.circuit.now in
+    let bases : List Basis = c.args.bases.now in
+    let places : List ℕ = c.in_ok-places.places.items in
+    let places_is = places_are k mul b bases c.requires.bases places c.bound.result.now c.in_ok-places.ensures c.bound.ensures.bound in
+    let circuit : Circuit = circuit_in k mul b bases in
+    let last : c.loop-w.w ≡ length circuit.words = omega (arith, c.loop-w-test.false, c.loop-w.auto.w-end, c.len-w-end.ensures, as_many k mul b bases c.requires.bases places places_is) in
+    all_recorded circuit c.loop-w.w (g.T.Steps.steps c.args.steps.now) (g.T.Steps.steps c.loop-w.steps) last c.loop-w.invariant.recorded
