@@ -9,6 +9,7 @@ mod FormList
 mod Around
 mod Multiplier
 mod OneTerm
+mod Told
 mod OneWord
 mod Lifted
 mod PlaceList

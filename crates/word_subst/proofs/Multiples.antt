@@ -149,7 +149,7 @@ module _ {k : ℕ} {mul : ℕ → ℕ → ℕ} (f : IsField k mul) (by : ℕ × 
               ∙ ((λ i. bit_xor ((ap (value_of mul x) low_all ∙ value_multiplied x (take n all) at before.powers) i) ((ap (value_of mul x) high_all ∙ value_multiplied x (drop n all) at after.powers) i))
               ∙ (sym (distrib_right f v a b (power_value_element f x by at is_by) (value_of_element f x (take n all) at before.powers) (value_of_element f x (drop n all) at after.powers))
               ∙ ap (mul v) (sym (xor_sum-append (power_value mul x) (take n all) (drop n all)) ∙ ap (value_of mul x) (whole n all ∙ all_is))));
-        }
+        },
       )
 
 module _ {k : ℕ} {mul : ℕ → ℕ → ℕ} (f : IsField k mul) where

@@ -151,15 +151,19 @@ module _ {k : ℕ} {mul : ℕ → ℕ → ℕ} (f : IsField k mul) (elements : L
     first_over ps own j r s (TooManyTerms stage n) are ranks_are less read is =
         let P : Stage → Type 0 = λ g. IsProductRefusal k mul elements word ps.start own s bound (TooManyTerms g n) in
         let Q : List ℕ → Type 0 = λ rs. IsBitProduct k mul elements word ps.start rs is.1.powers in
-        subst P (sym is.0) (refl, refl, record {
-          some = omega arith;
-          bits = omega arith;
-          powers = is.1.powers;
-          is = subst Q (ap (λ rs. rs ++ r ∷ []) ranks_are ∙ one_rank_more own j r less read) is.1.is;
-          size = is.1.size;
-          over = is.1.over;
-          before = λ i some low. product_before ps own j i are ranks_are (omega arith) some (omega arith);
-        })
+        subst P (sym is.0) (
+          refl,
+          refl,
+          record {
+            some = omega arith;
+            bits = omega arith;
+            powers = is.1.powers;
+            is = subst Q (ap (λ rs. rs ++ r ∷ []) ranks_are ∙ one_rank_more own j r less read) is.1.is;
+            size = is.1.size;
+            over = is.1.over;
+            before = λ i some low. product_before ps own j i are ranks_are (omega arith) some (omega arith);
+          },
+        )
 
 -- what is kept of a list of products
 pub kept : (k : ℕ) (mul : ℕ → ℕ → ℕ) (elements : List ℕ) (word bound n : ℕ) (old new : Products) → n ≤ length old.ranks → new.start ≡ old.start → new.ranks ≡ take n old.ranks → new.products ≡ take (n + 1) old.products → AreProducts k mul elements word bound old → AreProducts k mul elements word bound new

@@ -126,12 +126,14 @@ module _ (w : ℕ) where
 
     differ : (m : Monomial) (gs : Groups) → AllByRecursion (λ y. text_cmp m y ≡ Less) (keys_of gs) → AllByRecursion (λ g. g.0 ≢ m) gs
     differ m [] all = tt
-    differ m (g ∷ gs) all =
-        ((λ same.
-            let P : Monomial → Type 0 = λ n. text_cmp m n ≡ Less in
-            let less : text_cmp m m ≡ Less = subst P same all.0 in
-            let equal : text_cmp m m ≡ Equal = tied_itself text_cmp_total m in
-            absurd (cc)), differ m gs all.1)
+    differ m (g ∷ gs) all = (
+      (λ same.
+          let P : Monomial → Type 0 = λ n. text_cmp m n ≡ Less in
+          let less : text_cmp m m ≡ Less = subst P same all.0 in
+          let equal : text_cmp m m ≡ Equal = tied_itself text_cmp_total m in
+          absurd (cc)),
+      differ m gs all.1,
+    )
 
     pub groups_apart : (gs : Groups) → AllByRecursion (IsGroup w k) gs → IsStrictlySortedBy text_cmp (keys_of gs) → AreApart (all_terms w gs)
     unfolding IsStrictlySortedBy
@@ -153,11 +155,13 @@ module _ (w : ℕ) where
 
     pub spread_terms : (m : Monomial) (us : Powers) → IsRest w k m → AllByRecursion (IsPower k) us → AllByRecursion (IsTerm k) (spread w m us)
     spread_terms m [] is all = tt
-    spread_terms m (u ∷ us) is all =
-        (record {
-          monomial = record { words = length-set m.exponents w u.0 ∙ is.monomial.words; exponents = set_all (IsElement k) m.exponents w u.0 is.monomial.exponents all.0.exponent; rising = is.monomial.rising };
-          element = all.0.element;
-        }, spread_terms m us is all.1)
+    spread_terms m (u ∷ us) is all = (
+      record {
+        monomial = record { words = length-set m.exponents w u.0 ∙ is.monomial.words; exponents = set_all (IsElement k) m.exponents w u.0 is.monomial.exponents all.0.exponent; rising = is.monomial.rising };
+        element = all.0.element;
+      },
+      spread_terms m us is all.1,
+    )
 
     pub spread_nonzero : (m : Monomial) (us : Powers) → AllByRecursion (IsPower k) us → AllByRecursion (λ t. t.1 ≢ 0) (spread w m us)
     spread_nonzero m [] all = tt
@@ -173,7 +177,7 @@ module _ (w : ℕ) where
 
 -- ---- values
 
-nothing_sorted : IsStrictlySortedBy text_cmp (keys_of {K = Monomial} {X = ℕ} [])
+pub nothing_sorted : IsStrictlySortedBy text_cmp (keys_of {K = Monomial} {X = ℕ} [])
 unfolding IsStrictlySortedBy
 nothing_sorted = tt
 

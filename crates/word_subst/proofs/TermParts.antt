@@ -129,8 +129,11 @@ module _ {k : ℕ} {mul : ℕ → ℕ → ℕ} (f : IsField k mul) (elements : L
     pub has_within : (bound j : ℕ) → IsProductWithin k mul elements w start own bound j → HasWithin k mul elements w (product_at k mul w t j) bound
     has_within bound j has =
         let more = whole_product has.powers has.is.univariate in
-        record { terms = plus text_cmp [] (spread w (rest_of k w t.0) (multiplied k mul (0, t.1) has.powers)); is = product_is j has.powers (multiplied k mul (0, t.1) has.powers) has.is more.0;
-          within = omega (arith, has.within, more.1, spread_length w k inside (rest_of k w t.0) (multiplied k mul (0, t.1) has.powers) is_rest more.0.univariate) }
+        record {
+          terms = plus text_cmp [] (spread w (rest_of k w t.0) (multiplied k mul (0, t.1) has.powers));
+          is = product_is j has.powers (multiplied k mul (0, t.1) has.powers) has.is more.0;
+          within = omega (arith, has.within, more.1, spread_length w k inside (rest_of k w t.0) (multiplied k mul (0, t.1) has.powers) is_rest more.0.univariate);
+        }
 
     pub term_within : (bound : ℕ) (ps : Products) → AreProducts k mul elements w bound ps → ps.ranks ≡ own → ps.start ≡ start → IsTermWithin k mul elements w t bound
     term_within bound ps are ranks_are start_is j some_bit most =
@@ -141,18 +144,21 @@ module _ {k : ℕ} {mul : ℕ → ℕ → ℕ} (f : IsField k mul) (elements : L
     term_refusal bound number OutOfMemory over = tt
     term_refusal bound number (TooManyTerms (WordProduct v r j) n) over =
         let first = over.2 in
-        let more = whole_product first.powers first.is.univariate in
-        (over.0, over.1, record {
-          some = first.some;
-          bits = first.bits;
-          over = record {
-            terms = plus text_cmp [] (spread w (rest_of k w t.0) (multiplied k mul (0, t.1) first.powers));
-            is = product_is j first.powers (multiplied k mul (0, t.1) first.powers) first.is more.0;
-            size = spread_length w k inside (rest_of k w t.0) (multiplied k mul (0, t.1) first.powers) is_rest more.0.univariate ∙ (more.1 ∙ first.size);
-            over = first.over;
-          };
-          before = λ i least less. has_within bound i (first.before i least less);
-        })
+        let more = whole_product first.powers first.is.univariate in (
+          over.0,
+          over.1,
+          record {
+            some = first.some;
+            bits = first.bits;
+            over = record {
+              terms = plus text_cmp [] (spread w (rest_of k w t.0) (multiplied k mul (0, t.1) first.powers));
+              is = product_is j first.powers (multiplied k mul (0, t.1) first.powers) first.is more.0;
+              size = spread_length w k inside (rest_of k w t.0) (multiplied k mul (0, t.1) first.powers) is_rest more.0.univariate ∙ (more.1 ∙ first.size);
+              over = first.over;
+            };
+            before = λ i least less. has_within bound i (first.before i least less);
+          },
+        )
     term_refusal bound number (TooManyTerms (Cut c) n) over = absurd over
     term_refusal bound number (TooManyTerms (WordSum v s) n) over = absurd over
     term_refusal bound number (TooManyTerms (SpecProduct s j) n) over = absurd over

@@ -65,9 +65,7 @@ fn next_term<F: Field, T: Steps>(
     tell(
         alloc, field, basis, word, term, bound, &own, products, steps,
     )?;
-    add_term(
-        alloc, field, basis, word, term, bound, &own, products, sums,
-    )?;
+    add_term(alloc, field, basis, word, term, bound, &own, products, sums)?;
     Ok(())
 }
 

@@ -16,7 +16,7 @@ returns-in_ok-push-in-Greater g c =
 
 pub returns-after-c-d : goal.returns-after-c-d
 returns-after-c-d g c = elim c.if-c-d.branch [
-  then-c-d+in_ok-push-in-Equal w ↦
+  | then-c-d+in_ok-push-in-Equal w ↦
       step_both (field_of _ _ (g.met.F.Ring.laws c.args._field.now) (g.met.F.Field.no_zero_divisors c.args._field.now)) c.args.left.now c.args.right.now c.args.sum.now.items c.if-c-d.sum.items c.args.i c.args.j c.requires.left c.requires.right
       c.requires.merging (sym c.in-Equal.ensures) w.if-c-d.true (ap (λ v. v.items) w.sum-is ∙ w.in_ok-push-in-Equal.ensures.items)
   | else-c-d w ↦

@@ -18,8 +18,12 @@ invariant_of-self-2 g c =
     let f = field_of _ _ (g.met.F.Ring.laws c.args.field.now) (g.met.F.Field.no_zero_divisors c.args.field.now) in
     let old : Groups = c.self.inside.map.entries in
     let all = subst (AllByRecursion (IsGroup c.args.word (g.F.Ring.degree c.args.field.now))) (sym c.self.view_is) c.requires.groups in
-    omega (arith, c.self.invariant, few_before f c.args.word c.requires.word c.args.rest c.args.part old c.add_to.new.map.entries c.in_ok-before.before c.in_ok-before.after c.requires.rest c.requires.part all c.len-was_ordered.ensures.ordered c.in_ok-before.ensures.added,
-    new_total f c.args.word c.requires.word c.args.rest c.args.part old c.add_to.new.map.entries c.in_ok-before.before c.in_ok-before.after c.requires.rest c.requires.part all c.len-was_ordered.ensures.ordered c.in_ok-before.ensures.added)
+    omega (
+      arith,
+      c.self.invariant,
+      few_before f c.args.word c.requires.word c.args.rest c.args.part old c.add_to.new.map.entries c.in_ok-before.before c.in_ok-before.after c.requires.rest c.requires.part all c.len-was_ordered.ensures.ordered c.in_ok-before.ensures.added,
+      new_total f c.args.word c.requires.word c.args.rest c.args.part old c.add_to.new.map.entries c.in_ok-before.before c.in_ok-before.after c.requires.rest c.requires.part all c.len-was_ordered.ensures.ordered c.in_ok-before.ensures.added,
+    )
 
 pub returns-clause-groups : goal.returns-clause-groups
 returns-clause-groups g c =
