@@ -1,6 +1,7 @@
 pub mod AgreeLemmas
 pub mod BitLemmas
 pub mod BoundLemmas
+pub mod TakenLemmas
 pub mod ChoiceLemmas
 pub mod GivenLemmas
 pub mod OneRunLemmas

@@ -22,7 +22,7 @@ use Rattle.circuit_model.specs.Circuit.{Circuit}
 use Rattle.circuit_model.specs.WellFormed.{IsWellFormed, IsWord, StandsOn}
 use Rattle.circuit_model.specs.Run.{HaveElements, IsInputWord, IsAnyWord, IsCycle, IsFirst, HasZeros}
 use Rattle.circuit_model.specs.Out.{IsOut}
-use Rattle.circuit_model.specs.Flat.{word_of, circuit_of}
+use Rattle.circuit_model.specs.Flat.{word_of, circuit_of_parts}
 use Rattle.circuit_model.specs.Found.{HaveAll, HaveZeros, HaveBits}
 use Rattle.circuit_model.proofs.BitLemmas.{mapped, index_is}
 use Rattle.circuit_model.proofs.SliceLemmas.{rest, rest_is, rest_get, get_rest}
@@ -68,7 +68,7 @@ same_bit b v d e place first then same = first ∙ (then ∙ ap (λ x. bit_at x 
 
 module _ (k : ℕ) (product : ℕ → ℕ → ℕ) (net : NetList) (words : List CircuitWord) (output : CircuitWord) (xs : List ℕ) (bits values : List Bool) where
   abbrev circuit : Circuit
-  circuit = circuit_of k product net words output
+  circuit = circuit_of_parts k product net words output
 
   all_words : (P : Word → Type 0) → HaveAll words xs bits → HaveElements circuit P xs bits
   all_words P have i w x got at p =

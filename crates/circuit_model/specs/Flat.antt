@@ -12,8 +12,8 @@ abbrev pub word_of : CircuitWord → Word
 word_of word = record { role = word.role; nets = word.nets.items; basis = elements_of word.basis }
 
 -- the circuit of these parts, which has no cycle but the first
-abbrev pub circuit_of : ℕ → (ℕ → ℕ → ℕ) → NetList → List CircuitWord → CircuitWord → Circuit
-circuit_of k product net words output = record { k = k; product = product; net = net; words = map word_of words; output = word_of output; cycles = 0 }
+abbrev pub circuit_of_parts : ℕ → (ℕ → ℕ → ℕ) → NetList → List CircuitWord → CircuitWord → Circuit
+circuit_of_parts k product net words output = record { k = k; product = product; net = net; words = map word_of words; output = word_of output; cycles = 0 }
 
 -- each word's basis is one of the field
 abbrev pub AreOver : ℕ → (ℕ → ℕ → ℕ) → List CircuitWord → Type 0

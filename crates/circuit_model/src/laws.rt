@@ -1,12 +1,16 @@
 //! Laws of circuits. These functions do nothing: their contracts are proved of the definitions alone.
-ghost use Rattle.std.specs.Prelude.{◌≡◌, ◌<◌, ◌^◌, ◌↔◌, not, Bool, List, ℕ, filter, length};
+ghost use Rattle.std.specs.Prelude.{◌≡◌, ◌<◌, ◌^◌, ◌↔◌, not, Bool, List, ℕ, Ok, filter, length};
+ghost use Rattle.net_core.specs.Lists.{Has};
+ghost use Rattle.net_core.specs.NetList.{NetList};
 ghost use Rattle.net_core.specs.Sound.{IsSound};
-ghost use Rattle.net_words.specs.Bind.{same_role};
-ghost use Rattle.net_words.specs.Binding.{BoundNet};
+ghost use Rattle.net_words.specs.Bind.{same_role, BindingOf};
+ghost use Rattle.net_words.specs.Binding.{Binding, BoundNet, AreWords};
 ghost use Rattle.net_words.specs.BoundTo.{IsBoundTo};
 ghost use Rattle.net_words.specs.Variables.{bits};
 ghost use Rattle.net_words.specs.declared.bound.BoundWord.{BoundWord};
 ghost use Rattle.net_words.specs.declared.word.Role.TheVariants.{Output};
+ghost use Rattle.net_words.specs.declared.word.WordText.{WordText};
+ghost use Rattle.gf_basis.specs.Basis.{IsBasis};
 ghost use Rattle.gf_field.specs.Field.{HasNoZeroDivisors};
 ghost use Rattle.gf_field.specs.Ring.{IsRing};
 ghost use Rattle.circuit_model.specs.Word.{word_nets};
@@ -40,4 +44,11 @@ pub fn bound_circuits_are_well_formed()
     ensures well_formed { (k : ℕ) (product : ℕ → ℕ → ℕ) (bound : BoundNet) (bases : List (List ℕ)) → IsRing k product → HasNoZeroDivisors k product → IsSound bound.net → IsBoundTo bound.net bound.bound → bound.bound.k ≡ k → HaveBases k bound.bound.words bases → IsWellFormed (circuit_with k product bound bases) }
     ensures bits { (words : List BoundWord) (bases : List (List ℕ)) → length bases ≡ length words → word_nets (words_of words bases) ≡ bits words }
     ensures count { (words : List BoundWord) (bases : List (List ℕ)) → length bases ≡ length words → length (words_of words bases) ≡ length (filter (λ word. not (same_role word.role Output)) words) }
+{}
+
+/// The circuit of a sound net list to which words are bound, by what comes of binding them, is well-formed where each of
+/// these words has a basis of the field; and as many words are bound.
+pub fn taken_circuits_are_well_formed()
+    ensures well_formed { (k : ℕ) (product : ℕ → ℕ → ℕ) (circuit : BoundNet) (words : List WordText) (bases : List (List ℕ)) → IsRing k product → HasNoZeroDivisors k product → IsSound circuit.net → AreWords k words → BindingOf circuit.net words (Ok circuit.bound) → length bases ≡ length words → ((basis : List ℕ) → Has bases basis → IsBasis k basis) → IsWellFormed (circuit_with k product circuit bases) }
+    ensures long { (net : NetList) (words : List WordText) (binding : Binding) → BindingOf net words (Ok binding) → length binding.words ≡ length words }
 {}

@@ -1,13 +1,19 @@
 //! What a circuit computes: words in a basis, the runs of a net with words at an input, and its output there.
-//! `output` evaluates a circuit gate by gate; the other functions do nothing: their contracts are laws of the definitions.
+//! `output` evaluates a circuit gate by gate, `number_of_bits` reads bits; the other functions do nothing: their contracts are
+//! laws of the definitions.
 #![tactic(auto)]
 
 mod circuit_word;
 mod laws;
+mod net_bits;
 mod plain;
 #[cfg(test)]
 mod tests;
 
 pub use circuit_word::CircuitWord;
-pub use laws::{bound_circuits_are_well_formed, one_output, one_run, output_of_open_runs};
+pub use laws::{
+    bound_circuits_are_well_formed, one_output, one_run, output_of_open_runs,
+    taken_circuits_are_well_formed,
+};
+pub use net_bits::number_of_bits;
 pub use plain::output;

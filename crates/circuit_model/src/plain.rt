@@ -1,41 +1,19 @@
 //! The output of a circuit without latches, gate by gate.
-ghost use Rattle.std.specs.Prelude.{◌≡◌, ◌==◌, ◌≤◌, ◌<◌, ◌^◌, ◌↔◌, ℕ, [], Some, length, IfOk, IfSome, IsSome, IsTrue, slice_get, false, if◌then◌else◌};
+ghost use Rattle.std.specs.Prelude.{◌≡◌, ◌==◌, ◌≤◌, ◌<◌, ◌^◌, ◌↔◌, ℕ, [], Some, length, IfOk, IfSome, IsSome, IsTrue, slice_get, false};
 ghost use Rattle.std.specs.Int.{bit_at};
 ghost use Rattle.net_core.specs.Lists.{Has, times};
-ghost use Rattle.net_core.specs.Value.{bit_of, index_of};
 ghost use Rattle.gf_basis.specs.BasisParts.{IsOver};
 ghost use Rattle.circuit_model.specs.Word.{HasElement};
 ghost use Rattle.circuit_model.specs.WellFormed.{IsWellFormed};
 ghost use Rattle.circuit_model.specs.Out.{IsOut};
-ghost use Rattle.circuit_model.specs.Flat.{AreOver, circuit_of, word_of};
+ghost use Rattle.circuit_model.specs.Flat.{AreOver, circuit_of_parts, word_of};
 ghost use Rattle.circuit_model.specs.Found.{HaveAll, HaveBits, HaveZeros, IsBitIn, IsOnce, IsUnnamed};
 
 use crate::circuit_word::CircuitWord;
+use crate::net_bits::number_of_bits;
 use gf_field::Field;
 use net_core::{Net, eval};
 use std::alloc::{AllocError, Global};
-
-// The bit of a net as a number.
-fn bit(bits: &[bool], net: u32) -> u64
-    ensures { result ≡ (if bit_of bits.now net then 1 else 0) }
-{
-    match bits.get(net as usize) {
-        Some(true) => 1,
-        _ => 0,
-    }
-}
-
-// The bits of nets as a number, place 0 lowest.
-fn word_bits(bits: &[bool], nets: &[u32]) -> u64
-    requires { length nets.now ≤ 64 }
-    ensures word { result ≡ index_of bits.now nets.now }
-    ensures small { result < 2 ^ length nets.now }
-{
-    match nets {
-        [] => 0,
-        [first, rest @ ..] => bit(bits, *first) + 2 * word_bits(bits, rest),
-    }
-}
 
 // The element of a word, if it has k nets.
 fn element<F: Field>(field: &F, bits: &[bool], word: &CircuitWord) -> Option<u64>
@@ -44,7 +22,7 @@ fn element<F: Field>(field: &F, bits: &[bool], word: &CircuitWord) -> Option<u64
     ensures some { length word.now.nets.items ≡ F.degree field.now → IsSome result }
 {
     if word.nets.len() == field.k() as usize {
-        Some(word.basis.element_of(word_bits(bits, &word.nets)))
+        Some(word.basis.element_of(number_of_bits(bits, &word.nets)))
     } else {
         None
     }
@@ -136,8 +114,8 @@ pub fn output<F: Field>(
     requires over_output { IsOver (F.degree field.now) (F.product field.now) output.now.basis }
     requires long { length xs.now ≡ length words.now }
     requires elements { (x : ℕ) → Has xs.now x → x < 2 ^ F.degree field.now }
-    ensures output { IfOk result (λ found. IfSome found (λ e. IsOut (circuit_of (F.degree field.now) (F.product field.now) net.now words.now output.now) xs.now e)) }
-    ensures complete { IfOk result (λ found. IsWellFormed (circuit_of (F.degree field.now) (F.product field.now) net.now words.now output.now) → IsSome found) }
+    ensures output { IfOk result (λ found. IfSome found (λ e. IsOut (circuit_of_parts (F.degree field.now) (F.product field.now) net.now words.now output.now) xs.now e)) }
+    ensures complete { IfOk result (λ found. IsWellFormed (circuit_of_parts (F.degree field.now) (F.product field.now) net.now words.now output.now) → IsSome found) }
 {
     let values = input_values(alloc, field, net, words, xs)?;
     let bits = eval(alloc, net, &values)?;

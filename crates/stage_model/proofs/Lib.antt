@@ -9,6 +9,10 @@ pub mod MixLemmas
 pub mod BlindLemmas
 pub mod BoundLemmas
 pub mod WordStageLemmas
+pub mod ListingLemmas
+pub mod CutListingLemmas
+pub mod WordListingLemmas
+pub mod CircuitListingLemmas
 pub mod StageListLemmas
 pub mod PlaceLemmas
 pub mod NextMixLemmas
@@ -19,4 +23,12 @@ pub mod CutPolyLemmas
 pub mod WordBitLemmas
 pub mod WordPolyLemmas
 pub mod PlainStageLemmas
+pub mod SomePolynomialLemmas
+pub mod InterpolationLemmas
+pub mod FunctionLemmas
+pub mod SomeStageLemmas
+pub mod SearchLemmas
+pub mod SomeOverLemmas
+pub mod InputPointLemmas
+pub mod OutputInBitsLemmas
 mod Examples

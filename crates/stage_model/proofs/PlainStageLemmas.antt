@@ -8,7 +8,7 @@ use Rattle.gf_basis.specs.Basis.{AreBits}
 use Rattle.gf_basis.specs.BasisParts.{elements_of}
 use Rattle.circuit_model.specs.declared.circuit_word.CircuitWord.{CircuitWord}
 use Rattle.circuit_model.specs.Word.{Word}
-use Rattle.circuit_model.specs.Flat.{word_of, circuit_of}
+use Rattle.circuit_model.specs.Flat.{word_of, circuit_of_parts}
 use Rattle.poly_mixed.specs.Monomial.{Monomial}
 use Rattle.poly_mixed.specs.Polynomial.{Terms, Point}
 use Rattle.stage_model.specs.WordStage.{IsRead}
@@ -17,7 +17,7 @@ use Rattle.stage_model.proofs.WordStageLemmas.{some_read}
 
 module _ (k : ℕ) (mul : ℕ → ℕ → ℕ) (words : List CircuitWord) (w : ℕ) (word : CircuitWord) (at_word : slice_get words w ≡ Some word) where
   -- the bits that the plain program reads are those of the definition
-  read_bits : (net : NetList) (output : CircuitWord) (p : Point) (d : ℕ) → IsRead (circuit_of k mul net words output) w p d → AreBits (elements_of word.basis) (slice_index p.words w) d
+  read_bits : (net : NetList) (output : CircuitWord) (p : Point) (d : ℕ) → IsRead (circuit_of_parts k mul net words output) w p d → AreBits (elements_of word.basis) (slice_index p.words w) d
   read_bits net output p d read =
       let here : slice_get (map word_of words) w ≡ Some (word_of word) = slice_get-map word_of words w ∙ rw at_word refl in
       let here' : slice_get (map word_of words) w ≡ Some read.word = read.at_word in
@@ -26,14 +26,14 @@ module _ (k : ℕ) (mul : ℕ → ℕ → ℕ) (words : List CircuitWord) (w : �
       let Q : ℕ → Type 0 = λ x. AreBits (elements_of word.basis) x d in
       subst Q (sym (get_or_from_slice_get p.words w read.element 0 read.at_point)) (subst P same read.bits)
 
-  inside : (net : NetList) (output : CircuitWord) → w < length (circuit_of k mul net words output).words
+  inside : (net : NetList) (output : CircuitWord) → w < length (circuit_of_parts k mul net words output).words
   inside net output = omega (arith, slice_get_within words w word at_word, length-map words word_of)
 
   pub product_is : (terms : Terms) (place s j : ℕ) (t : Monomial × ℕ) (ts : Terms) → place + 1 ≡ s → slice_get terms place ≡ Some t → IsProductOf k mul (elements_of word.basis) w t j ts → IsProductStage k mul words terms w s j ts
   product_is terms place s j t ts number at is net output well before = record {
     reduced = is.reduced;
     values = λ p at_p.
-        let read = some_read (circuit_of k mul net words output) well w p at_p (inside net output) in
+        let read = some_read (circuit_of_parts k mul net words output) well w p at_p (inside net output) in
         record {
           term = t;
           is_term = record { terms = terms; before = before; place = place; number = number; at = at };
@@ -47,7 +47,7 @@ module _ (k : ℕ) (mul : ℕ → ℕ → ℕ) (words : List CircuitWord) (w : �
   sum_is terms s ts is net output well before = record {
     reduced = is.reduced;
     values = λ p at_p.
-        let read = some_read (circuit_of k mul net words output) well w p at_p (inside net output) in
+        let read = some_read (circuit_of_parts k mul net words output) well w p at_p (inside net output) in
         record { terms = terms; before = before; d = read.0; read = read.1; element = sym (is.values p read.0 at_p (read_bits net output p read.0 read.1)) };
   }
 

@@ -1,4 +1,4 @@
--- Stages by name: one element, one polynomial, one size, and one first over a bound.
+-- OLD FORM, gone with specs/StageList: stages by name: one element, one polynomial, one size, and one first over a bound.
 use Rattle.std.proofs.Common.{◌≡◌, ◌⊎◌, ap, sym, subst, inl, inr, ℕ, ◌<◌, ◌^◌, Bool, arith}
 use Rattle.std.proofs.lemmas.Bool.{cases_order}
 use Rattle.circuit_model.specs.WellFormed.{IsWellFormed}
@@ -7,55 +7,14 @@ use Rattle.poly_mixed.specs.Polynomial.{Terms, Point, IsPoint}
 use Rattle.poly_mixed.specs.declared.stage.Stage.{Stage}
 use Rattle.poly_mixed.specs.declared.stage.Stage.TheVariants.{Cut, WordProduct, WordSum, SpecProduct, SpecSum, InstanceProduct, InstanceSum}
 use Rattle.stage_model.specs.Stage.{IsOfStage, HasSize}
-use Rattle.stage_model.specs.StageList.{StageOf, IsListed, ComesBefore, IsEarlier, IsOver, AreAllWithin}
+use Rattle.stage_model.specs.StageList.{StageOf, IsListed, ComesBefore, IsOver, AreAllWithin}
+use Rattle.stage_model.proofs.WordListingLemmas.{not_mutual, products, product_sum, sums}
 use Rattle.stage_model.proofs.CutLemmas.{some_cut, one_cut}
 use Rattle.stage_model.proofs.SizeLemmas.{IsFunction, same_terms, same_size, not_within}
 use Rattle.stage_model.proofs.WordStageLemmas.{some_product, one_product, some_sum, one_sum}
 
-not_mutual : (v r w s : ℕ) (S T : Type 0) → (S → T → ⊥) → IsEarlier v r w s S → IsEarlier w s v r T → ⊥
-not_mutual v r w s S T none (inl low) (inl high) = omega arith
-not_mutual v r w s S T none (inl low) (inr tie) = let e = tie.0 in omega arith
-not_mutual v r w s S T none (inr tie) (inl high) = let e = tie.0 in omega arith
-not_mutual v r w s S T none (inr (e, inl low)) (inr (f, inl high)) = omega arith
-not_mutual v r w s S T none (inr (e, inl low)) (inr (f, inr tie)) = let g = tie.0 in omega arith
-not_mutual v r w s S T none (inr (e, inr tie)) (inr (f, inl high)) = let g = tie.0 in omega arith
-not_mutual v r w s S T none (inr (e, inr tie)) (inr (f, inr other)) = none tie.1 other.1
-
 abbrev Ordered : Stage → Stage → Type 0
 Ordered a b = (a ≡ b) ⊎ (ComesBefore a b ⊎ ComesBefore b a)
-
-products : (v r i w s j : ℕ) → Ordered (WordProduct v r i) (WordProduct w s j)
-products v r i w s j =
-    elim (cases_order v w) [
-      | inl same ↦ elim (cases_order r s) [
-        | inl equal ↦ elim (cases_order i j) [
-          | inl tie ↦ inl ((λ t. WordProduct (same t) (equal t) (tie t)))
-          | inr other ↦ elim other [ inl low ↦ inr (inl (inr (same, inr (equal, low)))) | inr high ↦ inr (inr (inr (sym same, inr (sym equal, high)))) ]
-        ]
-        | inr other ↦ elim other [ inl low ↦ inr (inl (inr (same, inl low))) | inr high ↦ inr (inr (inr (sym same, inl high))) ]
-      ]
-      | inr other ↦ elim other [ inl low ↦ inr (inl (inl low)) | inr high ↦ inr (inr (inl high)) ]
-    ]
-
-product_sum : (v r i w s : ℕ) → ComesBefore (WordProduct v r i) (WordSum w s) ⊎ ComesBefore (WordSum w s) (WordProduct v r i)
-product_sum v r i w s =
-    elim (cases_order v w) [
-      | inl same ↦ elim (cases_order r s) [
-        | inl equal ↦ inl (inr (same, inr (equal, tt)))
-        | inr other ↦ elim other [ inl low ↦ inl (inr (same, inl low)) | inr high ↦ inr (inr (sym same, inl high)) ]
-      ]
-      | inr other ↦ elim other [ inl low ↦ inl (inl low) | inr high ↦ inr (inl high) ]
-    ]
-
-sums : (v r w s : ℕ) → Ordered (WordSum v r) (WordSum w s)
-sums v r w s =
-    elim (cases_order v w) [
-      | inl same ↦ elim (cases_order r s) [
-        | inl equal ↦ inl (λ t. WordSum (same t) (equal t))
-        | inr other ↦ elim other [ inl low ↦ inr (inl (inr (same, inl low))) | inr high ↦ inr (inr (inr (sym same, inl high))) ]
-      ]
-      | inr other ↦ elim other [ inl low ↦ inr (inl (inl low)) | inr high ↦ inr (inr (inl high)) ]
-    ]
 
 cuts : (m n : ℕ) → Ordered (Cut m) (Cut n)
 cuts m n = elim (cases_order m n) [ inl same ↦ inl (ap (λ t. Cut t) same) | inr other ↦ inr other ]

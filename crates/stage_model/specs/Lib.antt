@@ -4,6 +4,8 @@ pub mod Mix
 pub mod Stage
 pub mod CutSteps
 pub mod InputPoint
+pub mod First
+pub mod OutputInBits
 pub mod WordStage
 pub mod Listing
 pub mod WordListing

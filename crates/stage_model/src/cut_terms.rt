@@ -1,7 +1,7 @@
 //! The polynomial and the size of a cut out of its values at all bits.
 ghost use Rattle.std.specs.Prelude.{◌≡◌, ◌≤◌, ◌<◌, ◌↔◌, ◌∷◌, ◌++◌, [], length, IfOk, IfSome, IsSome};
 ghost use Rattle.gf_basis.specs.BasisParts.{IsOver};
-ghost use Rattle.circuit_model.specs.Flat.{circuit_of, word_of};
+ghost use Rattle.circuit_model.specs.Flat.{circuit_of_parts, word_of};
 ghost use Rattle.poly_mixed.specs.Polynomial.{IsReduced};
 ghost use Rattle.stage_model.specs.Variables.{variables_of};
 ghost use Rattle.stage_model.specs.Cut.{CutOf};
@@ -92,8 +92,8 @@ pub fn cut_poly<F: Field>(
     requires cut { cut ≤ length net.now.gates }
     requires over { IsOver (F.degree field.now) (F.product field.now) output.now.basis }
     requires nets { length output.now.nets.items ≡ F.degree field.now }
-    ensures tiny { IfOk result (λ found. IsSome found ↔ (length (variables_of (circuit_of (F.degree field.now) (F.product field.now) net.now words.now output.now)) ≤ 20)) }
-    ensures cut { IfOk result (λ found. IfSome found (λ q. IsOfStage (F.degree field.now) (F.product field.now) (CutOf (circuit_of (F.degree field.now) (F.product field.now) net.now words.now output.now) cut) q.terms)) }
+    ensures tiny { IfOk result (λ found. IsSome found ↔ (length (variables_of (circuit_of_parts (F.degree field.now) (F.product field.now) net.now words.now output.now)) ≤ 20)) }
+    ensures cut { IfOk result (λ found. IfSome found (λ q. IsOfStage (F.degree field.now) (F.product field.now) (CutOf (circuit_of_parts (F.degree field.now) (F.product field.now) net.now words.now output.now) cut) q.terms)) }
 {
     let variables = variables(alloc, net, words)?;
     if variables.len() <= 20 {
@@ -117,8 +117,8 @@ pub fn cut_size<F: Field>(
     requires cut { cut ≤ length net.now.gates }
     requires over { IsOver (F.degree field.now) (F.product field.now) output.now.basis }
     requires nets { length output.now.nets.items ≡ F.degree field.now }
-    ensures tiny { IfOk result (λ found. IsSome found ↔ (length (variables_of (circuit_of (F.degree field.now) (F.product field.now) net.now words.now output.now)) ≤ 20)) }
-    ensures size { IfOk result (λ found. IfSome found (λ n. HasSize (F.degree field.now) (F.product field.now) (CutOf (circuit_of (F.degree field.now) (F.product field.now) net.now words.now output.now) cut) n)) }
+    ensures tiny { IfOk result (λ found. IsSome found ↔ (length (variables_of (circuit_of_parts (F.degree field.now) (F.product field.now) net.now words.now output.now)) ≤ 20)) }
+    ensures size { IfOk result (λ found. IfSome found (λ n. HasSize (F.degree field.now) (F.product field.now) (CutOf (circuit_of_parts (F.degree field.now) (F.product field.now) net.now words.now output.now) cut) n)) }
 {
     match cut_poly(alloc, field, net, words, output, cut)? {
         Some(poly) => Ok(Some(poly.len())),

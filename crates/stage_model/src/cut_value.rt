@@ -2,14 +2,14 @@
 ghost use Rattle.std.specs.Prelude.{◌≡◌, ◌≤◌, ◌<◌, ◌^◌, ℕ, List, length, IfOk, false, slice_index_or};
 ghost use Rattle.net_core.specs.NetList.{nets};
 ghost use Rattle.gf_basis.specs.BasisParts.{IsOver};
-ghost use Rattle.circuit_model.specs.Flat.{circuit_of, word_of};
+ghost use Rattle.circuit_model.specs.Flat.{circuit_of_parts, word_of};
 ghost use Rattle.poly_mixed.specs.Polynomial.{point};
 ghost use Rattle.stage_model.specs.Variables.{point_bits};
 ghost use Rattle.stage_model.specs.Cut.{IsCut, CutOf};
 
 use crate::ranks::{rank_of, variables};
-use crate::settle::{index, settled};
-use circuit_model::CircuitWord;
+use crate::settle::settled;
+use circuit_model::{CircuitWord, number_of_bits};
 use gf_field::Field;
 use net_core::Net;
 use std::alloc::{AllocError, Global};
@@ -56,7 +56,7 @@ pub fn cut_value<F: Field>(
     let _k = field.k();
     let start = bits_by_net(alloc, net, variables, bits)?;
     let bits = settled(alloc, net, cut, start)?;
-    Ok(output.basis.element_of(index(&bits, &output.nets)))
+    Ok(output.basis.element_of(number_of_bits(&bits, &output.nets)))
 }
 
 /// The value of a cut of a circuit at a point, by evaluation gate by gate: slow, and no more than the definition. The
@@ -74,7 +74,7 @@ pub fn cut_at<F: Field>(
     requires cut { cut ≤ length net.now.gates }
     requires over { IsOver (F.degree field.now) (F.product field.now) output.now.basis }
     requires nets { length output.now.nets.items ≡ F.degree field.now }
-    ensures cut { IfOk result (λ e. (ws : List ℕ) → CutOf (circuit_of (F.degree field.now) (F.product field.now) net.now words.now output.now) cut (point ws bits.now) e) }
+    ensures cut { IfOk result (λ e. (ws : List ℕ) → CutOf (circuit_of_parts (F.degree field.now) (F.product field.now) net.now words.now output.now) cut (point ws bits.now) e) }
     ensures element { IfOk result (λ e. e < 2 ^ F.degree field.now) }
 {
     let variables = variables(alloc, net, words)?;

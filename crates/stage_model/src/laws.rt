@@ -16,7 +16,7 @@ ghost use Rattle.net_words.specs.Binding.{BoundNet};
 ghost use Rattle.stage_model.specs.Variables.{point_bits, variables_of};
 ghost use Rattle.stage_model.specs.Cut.{IsCut, CutOf, BoundCut};
 ghost use Rattle.stage_model.specs.InputPoint.{IsAtInput};
-ghost use Rattle.stage_model.specs.Stage.{IsOfStage, HasSize, IsFirstOver, IsNoneOver};
+ghost use Rattle.stage_model.specs.Stage.{IsOfStage, HasSize};
 
 /// A cut relates each point to exactly one element, which is one of the field.
 pub fn one_element_a_cut()
@@ -42,12 +42,6 @@ pub fn one_polynomial_a_cut()
 /// A cut of a sound net has one size at most.
 pub fn one_size_a_cut()
     ensures { (k : ℕ) (mul : ℕ → ℕ → ℕ) (net : NetList) (variables : List ℕ) (output : Word) (t m n : ℕ) → IsRing k mul → HasNoZeroDivisors k mul → IsSound net → HasSize k mul (IsCut net variables output t) m → HasSize k mul (IsCut net variables output t) n → m ≡ n }
-{}
-
-/// Of the first cuts of a sound net one at most is the first over a bound, with one size, and then not all are within it.
-pub fn one_first_cut_over()
-    ensures only { (k : ℕ) (mul : ℕ → ℕ → ℕ) (net : NetList) (variables : List ℕ) (output : Word) (count bound i j m n : ℕ) → IsRing k mul → HasNoZeroDivisors k mul → IsSound net → IsFirstOver k mul (IsCut net variables output) count bound i m → IsFirstOver k mul (IsCut net variables output) count bound j n → (i ≡ j) × (m ≡ n) }
-    ensures not_none { (k : ℕ) (mul : ℕ → ℕ → ℕ) (net : NetList) (variables : List ℕ) (output : Word) (count bound i n : ℕ) → IsRing k mul → HasNoZeroDivisors k mul → IsSound net → IsFirstOver k mul (IsCut net variables output) count bound i n → IsNoneOver k mul (IsCut net variables output) count bound → ⊥ }
 {}
 
 /// No word stands in the polynomial of a cut of a sound net.

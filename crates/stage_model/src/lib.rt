@@ -4,8 +4,11 @@
 
 mod cut_terms;
 mod cut_value;
+mod existence_laws;
 mod laws;
 mod mix_laws;
+mod output_laws;
+mod over_laws;
 mod ranks;
 mod settle;
 mod stage_laws;
@@ -21,14 +24,22 @@ mod word_tests;
 
 pub use cut_terms::{cut_poly, cut_size};
 pub use cut_value::cut_at;
+pub use existence_laws::{
+    each_function_has_a_polynomial, each_mix_has_a_polynomial, each_stage_has_a_polynomial,
+    some_first_over,
+};
 pub use laws::{
     cuts_in_bits, cuts_of_bound, first_cut, last_cut, last_cut_in_words, one_element_a_cut,
-    one_first_cut_over, one_polynomial_a_cut, one_size_a_cut,
+    one_polynomial_a_cut, one_size_a_cut,
 };
 pub use mix_laws::{mix_of_all_words, mix_of_no_words, one_element_a_mix};
+pub use output_laws::{each_input_has_a_point, last_cut_is_output};
+pub use over_laws::{
+    bound_cuts_over, first_of_cuts_and_words, one_first_cut_over, one_first_over,
+    one_first_word_stage_over,
+};
 pub use stage_laws::{
-    one_element_a_stage, one_first_over, one_polynomial_a_stage, one_size_a_stage,
-    stages_are_ordered,
+    one_element_a_stage, one_polynomial_a_stage, one_size_a_stage, stages_are_ordered,
 };
 pub use word_bit::bit_poly;
 pub use word_laws::{

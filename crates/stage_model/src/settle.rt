@@ -1,39 +1,18 @@
 //! The bits of nets where the gates at the end of an order are evaluated, and all other nets have given bits.
-ghost use Rattle.std.specs.Prelude.{◌≡◌, ◌≤◌, ◌<◌, ◌+◌, ◌^◌, ◌==◌, ℕ, Some, List, length, slice_get, slice_set, IfOk, if◌then◌else◌};
+ghost use Rattle.std.specs.Prelude.{◌≡◌, ◌≤◌, ◌<◌, ◌==◌, ℕ, Some, List, length, slice_get, slice_set, IfOk};
 ghost use Rattle.std.specs.Int.{bit_at};
 ghost use Rattle.net_core.specs.NetList.{nets};
 ghost use Rattle.net_core.specs.Sound.{IsSound};
 ghost use Rattle.net_core.specs.Order.{IsLevelOrder, IsElimination};
-ghost use Rattle.net_core.specs.Value.{bit_of, index_of};
+ghost use Rattle.net_core.specs.Value.{index_of};
 ghost use Rattle.poly_mixed.specs.Polynomial.{Point};
 ghost use Rattle.stage_model.specs.Variables.{point_bits};
 ghost use Rattle.stage_model.specs.Cut.{IsSettled};
 ghost use Rattle.stage_model.specs.Plain.{AreSettledFrom};
 
+use circuit_model::number_of_bits;
 use net_core::{Gate, Net, order};
 use std::alloc::{AllocError, Global};
-
-// The bit of a net as a number.
-fn bit(bits: &[bool], net: u32) -> u64
-    ensures { result ≡ (if bit_of bits.now net then 1 else 0) }
-{
-    match bits.get(net as usize) {
-        Some(true) => 1,
-        _ => 0,
-    }
-}
-
-// The bits of nets as a number, place 0 lowest.
-pub fn index(bits: &[bool], nets: &[u32]) -> u64
-    requires { length nets.now ≤ 64 }
-    ensures index { result ≡ index_of bits.now nets.now }
-    ensures small { result < 2 ^ length nets.now }
-{
-    match nets {
-        [] => 0,
-        [first, rest @ ..] => bit(bits, *first) + 2 * index(bits, rest),
-    }
-}
 
 // A bit of a table.
 fn table_bit(table: u64, index: u64) -> bool
@@ -47,7 +26,7 @@ fn table_bit(table: u64, index: u64) -> bool
 fn gate_value(bits: &[bool], gate: &Gate) -> bool
     ensures { result ≡ (bit_at gate.now.table (index_of bits.now gate.now.inputs) == 1) }
 {
-    table_bit(gate.table(), index(bits, gate.inputs()))
+    table_bit(gate.table(), number_of_bits(bits, gate.inputs()))
 }
 
 // Gives a gate its value.

@@ -21,7 +21,7 @@ returns-clause-cut g c = λ ws.
     let basis : List ℕ = elements_of c.args.output.now.basis in
     let long : length basis ≡ length ns = c.requires.over.elements.size ∙ sym c.requires.nets in
     let short : index_of bits ns < 2 ^ length basis = rw long (index_small bits ns) in
-    let index : c.index.result ≡ index_of bits ns = search rules in
+    let index : c.number_of_bits.result ≡ index_of bits ns = search rules in
     let sum : combination basis (index_of bits ns) ≡ c.element_of.result = ap (combination basis) (sym index) ∙ sym c.element_of.ensures.sum in
     let is : HasElement bits (word_of c.args.output.now) c.element_of.result = record { long = long; sum = record { short = short; is = sum } } in
     record { order = found.0; elimination = found.1; bits = bits; settled = found.2; element = is }

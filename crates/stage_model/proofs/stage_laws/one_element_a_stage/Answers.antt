@@ -1,4 +1,4 @@
-use Rattle.stage_model.proofs.StageListLemmas.{some_stage, one_stage}
+use Rattle.stage_model.proofs.CircuitListingLemmas.{some_stage, one_stage}
 use Rattle.stage_model.proofs.stage_laws.one_element_a_stage.Goals as goal
 
 pub returns-clause-some : goal.returns-clause-some
