@@ -16,7 +16,7 @@ use Rattle.gf_basis.specs.BasisParts.{elements_of}
 use Rattle.circuit_model.specs.declared.circuit_word.CircuitWord.{CircuitWord}
 use Rattle.circuit_model.specs.Word.{word_nets}
 use Rattle.circuit_model.specs.Flat.{word_of}
-use Rattle.circuit_model.specs.Found.{IsOnce, IsBitAt, IsBitIn}
+use Rattle.circuit_model.specs.private.Found.{IsOnce, IsBitAt, IsBitIn}
 use Rattle.circuit_model.proofs.WordLemmas.{has_word, low_bit}
 use Rattle.circuit_model.proofs.SliceLemmas.{rest, rest_is, get_rest}
 

@@ -23,7 +23,7 @@ use Rattle.circuit_model.specs.WellFormed.{IsWellFormed, IsWord, StandsOn}
 use Rattle.circuit_model.specs.Run.{HaveElements, IsInputWord, IsAnyWord, IsCycle, IsFirst, HasZeros}
 use Rattle.circuit_model.specs.Out.{IsOut}
 use Rattle.circuit_model.specs.Flat.{word_of, circuit_of_parts}
-use Rattle.circuit_model.specs.Found.{HaveAll, HaveZeros, HaveBits}
+use Rattle.circuit_model.specs.private.Found.{HaveAll, HaveZeros, HaveBits}
 use Rattle.circuit_model.proofs.BitLemmas.{mapped, index_is}
 use Rattle.circuit_model.proofs.SliceLemmas.{rest, rest_is, rest_get, get_rest}
 

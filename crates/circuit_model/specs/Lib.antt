@@ -4,5 +4,5 @@ pub mod WellFormed
 pub mod Run
 pub mod Out
 pub mod Flat
-pub mod Found
 pub mod OfBinding
+pub mod private

@@ -7,7 +7,7 @@ ghost use Rattle.circuit_model.specs.Word.{HasElement};
 ghost use Rattle.circuit_model.specs.WellFormed.{IsWellFormed};
 ghost use Rattle.circuit_model.specs.Out.{IsOut};
 ghost use Rattle.circuit_model.specs.Flat.{AreOver, circuit_of_parts, word_of};
-ghost use Rattle.circuit_model.specs.Found.{HaveAll, HaveBits, HaveZeros, IsBitIn, IsOnce, IsUnnamed};
+ghost use Rattle.circuit_model.specs.private.Found.{HaveAll, HaveBits, HaveZeros, IsBitIn, IsOnce, IsUnnamed};
 
 use crate::circuit_word::CircuitWord;
 use crate::net_bits::number_of_bits;

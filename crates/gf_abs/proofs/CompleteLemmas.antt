@@ -2,11 +2,11 @@
 use Rattle.std.proofs.Common.{◌≡◌, refl, subst, inl, inr, ℕ, List, Option, None, Some, Result, Ok, Err}
 use Rattle.std.specs.Io.KnownBytes.{Appends, Keeps}
 use Rattle.job_io.specs.Shelf.{Files}
-use Rattle.gf_abs.specs.Command.{Word}
+use Rattle.job_words.specs.Operands.{Word}
 use Rattle.gf_abs.specs.Reply.{Reply}
 use Rattle.gf_abs.specs.Answer.{Answer}
-use Rattle.gf_abs.specs.Stop.{IsText, Writes, IsWritten}
-use Rattle.gf_abs.specs.declared.fault.Fault.{Fault}
+use Rattle.gf_abs.specs.Written.{IsText, Writes, IsWritten}
+use Rattle.job_words.specs.declared.fault.Fault.{Fault}
 use Rattle.gf_abs.proofs.AnswerDetermined.{answer_determined}
 
 module _ (words : List Word) (files : Files) (old new : Option (List ℕ)) where

@@ -1,5 +1,5 @@
 -- Two printed polynomials are equal exactly if their circuits are one function.
-use Rattle.std.proofs.Common.{◌≡◌, ◌∙◌, ap, sym, refl, subst, ℕ, zero, suc, ◌<◌, ◌≤◌, ◌^◌, false, ◌↔◌, List, [], ◌∷◌, length, take, Ok, arith}
+use Rattle.std.proofs.Common.{◌≡◌, ◌∙◌, ap, sym, refl, subst, ℕ, zero, suc, ◌<◌, ◌≤◌, ◌^◌, false, ◌↔◌, List, [], ◌∷◌, length, take, arith}
 use Rattle.std.specs.List.{AllByRecursion}
 use Rattle.std.proofs.lemmas.Nat.{pow_pos}
 use Rattle.net_core.specs.Lists.{Has}
@@ -9,11 +9,11 @@ use Rattle.circuit_model.specs.Circuit.{IsInput}
 use Rattle.circuit_model.specs.Out.{IsOut}
 use Rattle.circuit_model.proofs.OutLemmas.{one_out}
 use Rattle.stage_model.specs.InputPoint.{input_of}
-use Rattle.gf_abs.specs.AbstractOf.{AbstractOf, circuit_of}
-use Rattle.gf_abs.specs.Equal.{IsTaken, IsInItsWords, StandsInWords, HasOutput, AreOneFunction}
+use Rattle.job_input.specs.SettingValue.{SettingValue}
+use Rattle.gf_abs.specs.Headline.{IsTaken, IsInItsWords, StandsInWords, HasOutput, IsPrinted, AreOneFunction}
 use Rattle.gf_abs.specs.Reply.{Reply}
-use Rattle.gf_abs.specs.SettingValue.{SettingValue}
-use Rattle.gf_abs.proofs.EqualLemmas.{well, count, printed, only_text}
+use Rattle.gf_abs.specs.commands.Abstract.{taken_circuit}
+use Rattle.gf_abs.proofs.EqualLemmas.{well, count, only_text}
 
 -- ---- the point of an input
 
@@ -46,10 +46,10 @@ input_point xs = record { words = padded 8 xs; is_one = λ r. false }
 
 module _ (setting : SettingValue) (circuit : BoundNet) (taken : IsTaken setting circuit) where
   -- a polynomial of the output has the output's element at each input
-  at_input : (ts : Terms) (xs : List ℕ) → HasOutput setting circuit ts → IsInput (circuit_of setting circuit) xs → IsOut (circuit_of setting circuit) xs (value setting.product (input_point xs) ts)
+  at_input : (ts : Terms) (xs : List ℕ) → HasOutput setting circuit ts → IsInput (taken_circuit setting circuit) xs → IsOut (taken_circuit setting circuit) xs (value setting.product (input_point xs) ts)
   unfolding input_point
   at_input ts xs values input =
-      let c = circuit_of setting circuit in
+      let c = taken_circuit setting circuit in
       let few = (well setting circuit taken).few in
       let is : IsPoint setting.k (input_point xs) = record { words = padded_long 8 xs; elements = padded_elements setting.k 8 xs input.elements } in
       let same : input_of c (input_point xs) ≡ xs = ap (λ n. take n (padded 8 xs)) (sym input.long) ∙ padded_first 8 xs (omega (arith, input.long, few)) in
@@ -57,16 +57,16 @@ module _ (setting : SettingValue) (circuit : BoundNet) (taken : IsTaken setting 
       subst P same (values (input_point xs) is)
 
 module _ (setting : SettingValue) (circuit other : BoundNet) (taken : IsTaken setting circuit) (taken' : IsTaken setting other) where
-  same_count : length (circuit_of setting circuit).words ≡ length (circuit_of setting other).words
+  same_count : length (taken_circuit setting circuit).words ≡ length (taken_circuit setting other).words
   same_count = count setting circuit taken ∙ sym (count setting other taken')
 
   -- one polynomial of both outputs makes them equal
-  follows : (ts : Terms) → HasOutput setting circuit ts → HasOutput setting other ts → (xs : List ℕ) (e : ℕ) → IsOut (circuit_of setting circuit) xs e → IsOut (circuit_of setting other) xs e
+  follows : (ts : Terms) → HasOutput setting circuit ts → HasOutput setting other ts → (xs : List ℕ) (e : ℕ) → IsOut (taken_circuit setting circuit) xs e → IsOut (taken_circuit setting other) xs e
   follows ts first second xs e out =
       let input = out.is_run.open_run.input in
-      let input' : IsInput (circuit_of setting other) xs = record { long = input.long ∙ same_count; elements = input.elements } in
-      let same = one_out (circuit_of setting circuit) xs (value setting.product (input_point xs) ts) e (well setting circuit taken) (at_input setting circuit taken ts xs first input) out in
-      let P : ℕ → Type 0 = λ d. IsOut (circuit_of setting other) xs d in
+      let input' : IsInput (taken_circuit setting other) xs = record { long = input.long ∙ same_count; elements = input.elements } in
+      let same = one_out (taken_circuit setting circuit) xs (value setting.product (input_point xs) ts) e (well setting circuit taken) (at_input setting circuit taken ts xs first input) out in
+      let P : ℕ → Type 0 = λ d. IsOut (taken_circuit setting other) xs d in
       subst P same (at_input setting other taken' ts xs second input')
 
   -- what stands in the words of one stands in those of the other
@@ -76,15 +76,13 @@ module _ (setting : SettingValue) (circuit other : BoundNet) (taken : IsTaken se
   -- a polynomial of one output is one of the other, where they are equal
   moved : (ts : Terms) → AreOneFunction setting circuit other → HasOutput setting circuit ts → HasOutput setting other ts
   moved ts equal values p at =
-      let P : ℕ → Type 0 = λ n. IsOut (circuit_of setting other) (take n p.words) (value setting.product p ts) in
-      subst P same_count ((equal (input_of (circuit_of setting circuit) p) (value setting.product p ts)).0 (values p at))
+      let P : ℕ → Type 0 = λ n. IsOut (taken_circuit setting other) (take n p.words) (value setting.product p ts) in
+      subst P same_count ((equal (input_of (taken_circuit setting circuit) p) (value setting.product p ts)).0 (values p at))
 
-pub equal_bytes : (setting : SettingValue) (circuit other : BoundNet) (bound bound' : ℕ) (reply reply' : Reply) → IsTaken setting circuit → IsTaken setting other → AbstractOf setting circuit bound (Ok reply) → AbstractOf setting other bound' (Ok reply') → reply.text ≡ reply'.text ↔ AreOneFunction setting circuit other
-equal_bytes setting circuit other bound bound' reply reply' taken taken' answer answer' =
-    let found = printed setting circuit taken bound reply answer in
-    let ts = found.0 in
-    let is = found.1 in
-    let text = only_text setting other taken' bound' reply' ts answer' (in_words setting circuit other taken taken' ts is.in_words) in (
+pub equal_bytes : (setting : SettingValue) (circuit other : BoundNet) (reply reply' : Reply) → IsTaken setting circuit → IsTaken setting other → IsPrinted setting circuit reply → IsPrinted setting other reply' → reply.text ≡ reply'.text ↔ AreOneFunction setting circuit other
+equal_bytes setting circuit other reply reply' taken taken' is is' =
+    let ts = is.polynomial in
+    let text = only_text setting other taken' reply' ts is' (in_words setting circuit other taken taken' ts is.in_words) in (
       (λ same.
           let both = text.0 (sym same ∙ is.line) in
           λ xs e. (follows setting circuit other taken taken' ts is.values both xs e, follows setting other circuit taken' taken ts both is.values xs e)),

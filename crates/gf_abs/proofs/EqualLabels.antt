@@ -11,8 +11,8 @@ use Rattle.net_words.specs.declared.word.Role.{Role}
 use Rattle.net_words.specs.declared.word.Role.TheVariants.{Input, State, Output}
 use Rattle.net_words.specs.declared.word.WordText.{WordText}
 use Rattle.poly_mixed.specs.Labels.{AreLabels, AreDifferent, Differs, IsWord, bit_count}
-use Rattle.gf_abs.specs.Labelling.{word_label, word_labels, name_with, output_name, labels_of}
-use Rattle.gf_abs.proofs.LabelLemmas.{differs, labels_long}
+use Rattle.job_input.specs.Labelling.{word_label, word_labels, name_with, output_name, labels_of}
+use Rattle.job_input.proofs.LabelLemmas.{differs, labels_long}
 use Rattle.poly_mixed.proofs.Texts.{bits_small}
 
 -- ---- the output word

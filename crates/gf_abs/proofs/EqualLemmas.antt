@@ -11,28 +11,30 @@ use Rattle.poly_mixed.specs.Polynomial.{Terms, IsReduced, value}
 use Rattle.poly_mixed.specs.Text.{text}
 use Rattle.poly_mixed.specs.TextLaw.{IsWritten}
 use Rattle.poly_mixed.proofs.FieldLaws.{field_of}
+use Rattle.poly_mixed.proofs.FirstWords.{first_point, first_taken, is_first_point, first_alone}
 use Rattle.poly_mixed.proofs.TextLaws.{one_text}
 use Rattle.circuit_model.specs.Circuit.{Circuit}
+use Rattle.circuit_model.specs.OfBinding.{output_basis}
 use Rattle.circuit_model.specs.Out.{IsOut}
 use Rattle.circuit_model.specs.WellFormed.{IsWellFormed}
 use Rattle.circuit_model.proofs.OutLemmas.{one_out}
 use Rattle.stage_model.specs.InputPoint.{input_of}
 use Rattle.stage_model.proofs.MixLemmas.{mix_all}
 use Rattle.stage_model.proofs.NextMixLemmas.{mix_lacks}
+use Rattle.stage_model.proofs.OutputInBitsLemmas.{last_is_output, same_stage}
 use Rattle.stage_model.proofs.SizeLemmas.{is_unique}
-use Rattle.gf_abs.specs.AbstractOf.{AbstractOf, circuit_of}
-use Rattle.gf_abs.specs.BitsOf.{polynomial_line}
-use Rattle.gf_abs.specs.Equal.{IsTaken, IsInItsWords, HasOutput, IsPrinted}
-use Rattle.gf_abs.specs.Labelling.{word_labels, labels_of}
-use Rattle.gf_abs.specs.Reply.{Reply}
-use Rattle.gf_abs.specs.SettingSound.{IsSoundSetting}
-use Rattle.gf_abs.specs.SettingValue.{SettingValue}
-use Rattle.gf_abs.proofs.AbstractDetermined.{circuit_well}
+use Rattle.job_input.specs.Labelling.{word_labels, labels_of}
+use Rattle.job_input.specs.SettingSound.{IsSoundSetting}
+use Rattle.job_input.specs.SettingValue.{SettingValue}
+use Rattle.job_input.proofs.RoleLemmas.{netlist_roles, roles_long}
+use Rattle.job_input.proofs.SettingSoundLemmas.{setting_sound}
+use Rattle.job_input.proofs.SignedLemmas.{setting_names}
+use Rattle.gf_abs.specs.Headline.{IsTaken, IsInItsWords, HasOutput, IsPrinted, IsPrintedInBits}
+use Rattle.gf_abs.specs.Reply.{Reply, polynomial_line}
+use Rattle.gf_abs.specs.commands.Abstract.{AbstractReply, taken_circuit}
+use Rattle.gf_abs.specs.commands.Bits.{BitsReply}
 use Rattle.gf_abs.proofs.EqualLabels.{are_labels, few_bits}
-use Rattle.poly_mixed.proofs.FirstWords.{first_point, first_taken, is_first_point, first_alone}
-use Rattle.gf_abs.proofs.RoleLemmas.{netlist_roles, roles_long}
-use Rattle.gf_abs.proofs.SettingSoundLemmas.{setting_sound}
-use Rattle.gf_abs.proofs.StepLemmas.{setting_names}
+use Rattle.gf_abs.proofs.TakenLemmas.{circuit_well, bases_long, netlist_flat}
 use Rattle.gf_abs.proofs.WordsLemmas.{as_many}
 
 -- a polynomial in which no bit stands has no bits
@@ -51,18 +53,18 @@ all_named n (t ∷ ts) none = let P : List ℕ → Type 0 = λ rs. AllByRecursio
 
 module _ (setting : SettingValue) (circuit : BoundNet) (taken : IsTaken setting circuit) where
   abbrev pub whole : Circuit
-  whole = circuit_of setting circuit
+  whole = taken_circuit setting circuit
 
   pub sound : IsSoundSetting setting
   sound = setting_sound taken.signature setting taken.is_setting
 
   pub well : IsWellFormed whole
-  well = circuit_well setting circuit sound taken.file taken.netlist taken.is_circuit
+  well = circuit_well setting circuit sound taken.netlist taken.is_circuit
 
   -- there are as many labels as words
   pub count : length whole.words ≡ length (word_labels setting.k setting.signature.words)
   count =
-      let roles = netlist_roles taken.file setting.signature.words taken.netlist circuit taken.is_circuit in
+      let roles = netlist_roles setting.signature.words taken.netlist circuit taken.is_circuit in
       as_many setting.k circuit.bound.words setting.signature.words setting.bases (sound.long ∙ sym (roles_long setting.signature.words circuit.bound.words roles)) roles
 
   labels : AreLabels (labels_of setting.k setting.signature.words)
@@ -79,24 +81,33 @@ module _ (setting : SettingValue) (circuit : BoundNet) (taken : IsTaken setting 
       one_out whole (input_of whole p) (value setting.product (first_point n p) ts) (value setting.product p ts) well
       (subst P (first_taken n p.words) (values (first_point n p) (is_first_point f n p at))) (values p at))
 
-  module _ (bound : ℕ) (reply : Reply) (answer : AbstractOf setting circuit bound (Ok reply)) where
-    pub printed : (ts : Terms) × IsPrinted setting circuit reply ts
-    printed =
-        let ts = answer.0 in
-        let is = answer.1.words in
-        let n = length whole.words in
-        let values : HasOutput setting circuit ts = λ p at. (mix_all whole well p (value setting.product p ts) at).0 (is.values p at) in
-        let lacks : (rank : ℕ) → LacksBit rank ts = λ rank. mix_lacks whole well n rank ts (λ i j low high less. absurd (omega arith)) is in (
-          ts,
-          record {
-            line = ap (λ (r : Reply). r.text) answer.2;
-            in_words = record { reduced = is.reduced; words = record { bits = no_bits ts lacks; words = alone ts is.reduced values } };
-            values = values;
-          },
-        )
+  -- what comes of `abstract` is the output's polynomial
+  pub printed : (bound : ℕ) (reply : Reply) → AbstractReply setting circuit bound (Ok reply) → IsPrinted setting circuit reply
+  printed bound reply (ts, found, exactly) =
+      let is = found.0 in
+      let n = length whole.words in
+      let values : HasOutput setting circuit ts = λ p at. (mix_all whole well p (value setting.product p ts) at).0 (is.values p at) in
+      let lacks : (rank : ℕ) → LacksBit rank ts = λ rank. mix_lacks whole well n rank ts (λ i j low high less. absurd (omega arith)) is in
+      record {
+        polynomial = ts;
+        status = ap (λ (r : Reply). r.status) exactly;
+        line = ap (λ (r : Reply). r.text) exactly;
+        in_words = record { reduced = is.reduced; words = record { bits = no_bits ts lacks; words = alone ts is.reduced values } };
+        values = values;
+      }
 
-    pub status_none : reply.status ≡ 0
-    status_none = ap (λ (r : Reply). r.status) answer.2
+  -- what comes of `bits` is the output's polynomial in bits
+  pub printed_in_bits : (bound : ℕ) (reply : Reply) → BitsReply setting circuit bound (Ok reply) → IsPrintedInBits setting circuit reply
+  printed_in_bits bound reply (ts, found, exactly) =
+      let flat = netlist_flat setting.signature.words taken.netlist circuit taken.is_circuit in
+      let long = bases_long setting circuit sound taken.netlist taken.is_circuit in
+      let stage = (same_stage setting.k setting.product circuit setting.bases (output_basis circuit.bound.words setting.bases) (length circuit.net.gates) ts long refl).0 found.0 in
+      record {
+        polynomial = ts;
+        status = ap (λ (r : Reply). r.status) exactly;
+        line = ap (λ (r : Reply). r.text) exactly;
+        output = (last_is_output whole well flat ts).0 stage;
+      }
 
   -- it is written with the labels
   written : (ts : Terms) → IsInItsWords setting circuit ts → IsWritten (labels_of setting.k setting.signature.words) setting.k ts
@@ -125,10 +136,9 @@ module _ (setting : SettingValue) (circuit : BoundNet) (taken : IsTaken setting 
       is_unique setting.k setting.product sound.ring sound.field ts us a b
       (λ p at. one_out whole (input_of whole p) (value setting.product p ts) (value setting.product p us) well (first p at) (other p at))
 
-  pub only_text : (bound : ℕ) (reply : Reply) (ts : Terms) → AbstractOf setting circuit bound (Ok reply) → IsInItsWords setting circuit ts → reply.text ≡ polynomial_line setting ts ↔ HasOutput setting circuit ts
-  only_text bound reply ts answer is =
-      let found = printed bound reply answer in
+  pub only_text : (reply : Reply) (ts : Terms) → IsPrinted setting circuit reply → IsInItsWords setting circuit ts → reply.text ≡ polynomial_line setting ts ↔ HasOutput setting circuit ts
+  only_text reply ts found is =
       let P : Terms → Type 0 = λ us. HasOutput setting circuit us in (
-        (λ same. subst P (one_line found.0 ts found.1.in_words is (sym found.1.line ∙ same)) found.1.values),
-        λ values. found.1.line ∙ ap (λ us. polynomial_line setting us) (one_polynomial found.0 ts found.1.in_words.reduced is.reduced found.1.values values),
+        (λ same. subst P (one_line found.polynomial ts found.in_words is (sym found.line ∙ same)) found.values),
+        λ values. found.line ∙ ap (λ us. polynomial_line setting us) (one_polynomial found.polynomial ts found.in_words.reduced is.reduced found.values values),
       )

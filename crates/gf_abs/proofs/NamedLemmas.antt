@@ -31,9 +31,9 @@ use Rattle.stage_model.specs.Cut.{CutOf, BoundCut}
 use Rattle.stage_model.specs.Stage.{IsOfStage}
 use Rattle.stage_model.proofs.BlindLemmas.{in_words}
 use Rattle.stage_model.proofs.BoundLemmas.{bound_cut}
-use Rattle.gf_abs.specs.BitsOf.{HaveRoles}
-use Rattle.gf_abs.specs.Labelling.{word_label, word_labels, labels_of}
-use Rattle.gf_abs.specs.Setting.{elements_of_each, AreBasesOver}
+use Rattle.job_input.specs.Setting.{HaveRoles}
+use Rattle.job_input.specs.Labelling.{word_label, word_labels, labels_of}
+use Rattle.job_input.specs.Setting.{elements_of_each, AreBasesOver}
 
 -- the bits of the words, counted by their nets and by their labels
 count_with : (r : Role) (name nets : List ℕ) (k : ℕ) → length nets ≡ k → (ls : List (List ℕ × ℕ)) → length (bits_with r nets) + bit_count ls ≡ bit_count (word_label r name k ++ ls)

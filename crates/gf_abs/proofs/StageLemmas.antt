@@ -27,15 +27,27 @@ use Rattle.stage_model.proofs.SizeLemmas.{same_terms}
 use Rattle.stage_model.specs.Cut.{IsCut, CutOf, BoundCut}
 use Rattle.stage_model.specs.Mix.{IsMix}
 use Rattle.stage_model.specs.Stage.{IsOfStage, HasSize, IsWithin, IsNoneOver, IsFirstOver}
-use Rattle.stage_model.specs.StageList.{StageOf, IsListed, ComesBefore, is_any, is_of_words, IsOver, AreAllWithin}
+use Rattle.stage_model.specs.CircuitListing.{bound_cuts}
+use Rattle.stage_model.specs.Listing.{AreAllWithin}
 use Rattle.stage_model.proofs.BoundLemmas.{bound_cut}
 use Rattle.stage_model.proofs.MixLemmas.{mix_none}
 use Rattle.stage_model.proofs.NextMixLemmas.{mix_lacks}
-use Rattle.gf_abs.specs.Labelling.{word_labels, labels_of}
-use Rattle.gf_abs.specs.Setting.{elements_of_each, AreBasesOver}
+use Rattle.job_input.specs.Labelling.{word_labels, labels_of}
+use Rattle.job_input.specs.Setting.{elements_of_each, AreBasesOver}
 use Rattle.gf_abs.proofs.NamedLemmas.{named_terms}
 
-module _ (k : ℕ) (mul : ℕ → ℕ → ℕ) (b : BoundNet) (bases : List Basis) (ring : IsRing k mul) (nozero : HasNoZeroDivisors k mul) (sound : IsSound b.net) (bound : IsBoundTo b.net b.bound) (flat : b.net.latches ≡ []) (same : b.bound.k ≡ k) (over : AreBasesOver k mul bases) (long : length bases ≡ length b.bound.words) where
+-- what is known of a circuit with its field and the bases of its words
+pub record IsJob (k : ℕ) (mul : ℕ → ℕ → ℕ) (b : BoundNet) (bases : List Basis) : Type 0 where
+  pub ring : IsRing k mul
+  pub nozero : HasNoZeroDivisors k mul
+  pub sound : IsSound b.net
+  pub bound : IsBoundTo b.net b.bound
+  pub flat : b.net.latches ≡ []
+  pub same : b.bound.k ≡ k
+  pub over : AreBasesOver k mul bases
+  pub long : length bases ≡ length b.bound.words
+
+module _ (k : ℕ) (mul : ℕ → ℕ → ℕ) (b : BoundNet) (bases : List Basis) (job : IsJob k mul b bases) where
   abbrev all : List (List ℕ)
   all = elements_of_each bases
 
@@ -46,30 +58,24 @@ module _ (k : ℕ) (mul : ℕ → ℕ → ℕ) (b : BoundNet) (bases : List Basi
   cuts = BoundCut b (output_basis b.bound.words all)
 
   long' : length all ≡ length b.bound.words
-  long' = length-map bases elements_of ∙ long
+  long' = length-map bases elements_of ∙ job.long
 
   pub based : HaveBases k b.bound.words all
-  based = record { long = long'; each = λ e has. let found = from_map elements_of bases has.0 e has.1 in let P : List ℕ → Type 0 = λ xs. IsBasis k xs in subst P found.2 (over found.0 (has.0, found.1)).elements }
+  based = record { long = long'; each = λ e has. let found = from_map elements_of bases has.0 e has.1 in let P : List ℕ → Type 0 = λ xs. IsBasis k xs in subst P found.2 (job.over found.0 (has.0, found.1)).elements }
 
   pub well : IsWellFormed whole
-  well = bound_well k mul b all bound same based ring nozero sound
+  well = bound_well k mul b all job.bound job.same based job.ring job.nozero job.sound
 
   cut_stage : (t : ℕ) (ts : Terms) → IsOfStage k mul (cuts t) ts → IsOfStage k mul (CutOf whole t) ts
   cut_stage t ts stage = record { reduced = stage.reduced; values = λ p at. (bound_cut k mul b all t p _ long').0 (stage.values p at) }
 
-  cut_size : (t n : ℕ) → HasSize k mul (cuts t) n → HasSize k mul (CutOf whole t) n
-  cut_size t n size = record { terms = size.terms; is = cut_stage t size.terms size.is; size = size.size }
-
-  cut_within : (t n : ℕ) → IsWithin k mul (cuts t) n → IsWithin k mul (CutOf whole t) n
-  cut_within t n within = record { size = within.size; has = cut_size t within.size within.has; within = within.within }
-
   -- the polynomial of the last cut is within the bound
-  pub few : (n : ℕ) (ts : Terms) → IsOfStage k mul (cuts (length b.net.gates)) ts → IsNoneOver k mul cuts (length b.net.gates + 1) n → length ts ≤ n
+  pub few : (n : ℕ) (ts : Terms) → IsOfStage k mul (cuts (length b.net.gates)) ts → AreAllWithin k mul (bound_cuts b (output_basis b.bound.words all)) n → length ts ≤ n
   few n ts stage none =
       let order = variables (nets b.net) b.bound.words in
       let output = output_word b.bound.words (output_basis b.bound.words all) in
-      let last = none (length b.net.gates) (omega arith) in
-      let e : ts ≡ last.has.terms = same_terms k mul ring nozero (IsCut b.net order output (length b.net.gates)) (λ p x y at first other. one_cut_of b.net sound order output (length b.net.gates) p x y first other) ts last.has.terms stage last.has.is in
+      let last = none (Cut (length b.net.gates)) (omega arith) in
+      let e : ts ≡ last.has.terms = same_terms k mul job.ring job.nozero (IsCut b.net order output (length b.net.gates)) (λ p x y at first other. one_cut_of b.net job.sound order output (length b.net.gates) p x y first other) ts last.has.terms stage last.has.is in
       let size : length ts ≡ length last.has.terms = ap length e in
       omega (arith, last.has.size, last.within)
 
@@ -77,59 +83,8 @@ module _ (k : ℕ) (mul : ℕ → ℕ → ℕ) (b : BoundNet) (bases : List Basi
   pub no_words : (ts : Terms) → IsOfStage k mul (cuts (length b.net.gates)) ts → IsOfStage k mul (IsMix whole 0) ts
   no_words ts stage =
       let cut = cut_stage (length b.net.gates) ts stage in
-      record { reduced = cut.reduced; values = λ p at. (mix_none whole well flat p _ at).1 (cut.values p at) }
-
-  -- the first cut over the bound is the first stage over it
-  pub cut_over : (n t m : ℕ) → IsFirstOver k mul cuts (length b.net.gates + 1) n t m → IsOver whole is_any n (Cut t) m
-  cut_over n t m first = record {
-    listed = let less = first.inside in omega arith;
-    is_among = refl;
-    size = cut_size t m first.size;
-    over = first.over;
-    before = λ other listed among earlier. by other listed earlier;
-  }
-    where
-      by : (other : Stage) → IsListed whole other → ComesBefore other (Cut t) → IsWithin k mul (StageOf whole other) n
-      by (Cut s) listed earlier = cut_within s n (first.before s earlier)
-      by (WordProduct w s j) listed earlier = absurd earlier
-      by (WordSum w s) listed earlier = absurd earlier
-      by (SpecProduct s j) listed earlier = absurd listed
-      by (SpecSum s) listed earlier = absurd listed
-      by (InstanceProduct i s j) listed earlier = absurd listed
-      by (InstanceSum i s) listed earlier = absurd listed
-
-  -- where no cut is over the bound, the first stage of words over it is the first of all
-  pub words_over : (n : ℕ) (stage : Stage) (m : ℕ) → IsNoneOver k mul cuts (length b.net.gates + 1) n → IsOver whole is_of_words n stage m → IsOver whole is_any n stage m
-  words_over n stage m none is = record {
-    listed = is.listed;
-    is_among = refl;
-    size = is.size;
-    over = is.over;
-    before = λ other listed among earlier. by other listed earlier;
-  }
-    where
-      by : (other : Stage) → IsListed whole other → ComesBefore other stage → IsWithin k mul (StageOf whole other) n
-      by (Cut s) listed earlier = cut_within s n (none s (omega arith))
-      by (WordProduct w s j) listed earlier = is.before (WordProduct w s j) listed refl earlier
-      by (WordSum w s) listed earlier = is.before (WordSum w s) listed refl earlier
-      by (SpecProduct s j) listed earlier = absurd listed
-      by (SpecSum s) listed earlier = absurd listed
-      by (InstanceProduct i s j) listed earlier = absurd listed
-      by (InstanceSum i s) listed earlier = absurd listed
-
-  -- where neither is over it, none is
-  pub none_over : (n : ℕ) → IsNoneOver k mul cuts (length b.net.gates + 1) n → AreAllWithin whole is_of_words n → AreAllWithin whole is_any n
-  none_over n none words other listed among = by other listed
-    where
-      by : (stage : Stage) → IsListed whole stage → IsWithin k mul (StageOf whole stage) n
-      by (Cut s) listed' = cut_within s n (none s (omega arith))
-      by (WordProduct w s j) listed' = words (WordProduct w s j) listed' refl
-      by (WordSum w s) listed' = words (WordSum w s) listed' refl
-      by (SpecProduct s j) listed' = absurd listed'
-      by (SpecSum s) listed' = absurd listed'
-      by (InstanceProduct i s j) listed' = absurd listed'
-      by (InstanceSum i s) listed' = absurd listed'
+      record { reduced = cut.reduced; values = λ p at. (mix_none whole well job.flat p _ at).1 (cut.values p at) }
 
   -- no bit stands in the polynomial in words, so labels name all of it
-  pub words_named : (words : List WordText) (ts : Terms) → IsOfStage k mul (IsMix whole (length whole.words)) ts → HasNames (labels_of k words) ts
-  words_named words ts stage = named_terms (bit_count (word_labels k words) + 0) ts (λ rank high. mix_lacks whole well (length whole.words) rank ts (λ i j high' less _. absurd (omega arith)) stage)
+  pub terms_named : (words : List WordText) (ts : Terms) → IsOfStage k mul (IsMix whole (length whole.words)) ts → HasNames (labels_of k words) ts
+  terms_named words ts stage = named_terms (bit_count (word_labels k words) + 0) ts (λ rank high. mix_lacks whole well (length whole.words) rank ts (λ i j high' less _. absurd (omega arith)) stage)

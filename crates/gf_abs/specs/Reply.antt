@@ -1,7 +1,24 @@
 -- What the program writes, and the status that it ends with. Source: this project's own.
-use Rattle.std.specs.Prelude.{ℕ, List}
+use Rattle.std.specs.Prelude.{ℕ, List, ◌++◌, codes, Vec}
+use Rattle.std.specs.declared.alloc.Global.{Global}
+use Rattle.poly_mixed.specs.Polynomial.{Terms}
+use Rattle.poly_mixed.specs.Text.{text}
+use Rattle.job_input.specs.Labelling.{labels_of}
+use Rattle.job_input.specs.SettingValue.{SettingValue}
 
 -- a status and the bytes of an output
 pub record Reply : Type 0 where
   pub status : ℕ
   pub text : List ℕ
+
+-- the output word's name, ` = ` and the polynomial's text
+abbrev pub polynomial_line : SettingValue → Terms → List ℕ
+polynomial_line setting ts = (labels_of setting.k setting.signature.words).output ++ (codes " = " ++ (text (labels_of setting.k setting.signature.words) ts ++ codes "\n"))
+
+-- the reply that prints a polynomial
+abbrev pub prints : SettingValue → Terms → Reply
+prints setting ts = record { status = 0; text = polynomial_line setting ts }
+
+-- an output with status 0
+abbrev pub printed : Vec ℕ Global → Reply
+printed bytes = record { status = 0; text = bytes.items }

@@ -1,136 +1,23 @@
 //! All that the program does.
-ghost use Rattle.std.specs.Prelude.{◌≡◌, ◌⊎◌, ◌≤◌, length, Some, None, map, string_bytes, IfOk, IsErrOf};
+ghost use Rattle.std.specs.Prelude.{◌≡◌, ◌⊎◌, ◌≤◌, Some, map, string_bytes, IfOk, IsErrOf};
 ghost use Rattle.std.specs.Io.KnownBytes.{Keeps};
 ghost use Rattle.job_io.specs.Counts.{Rose};
 ghost use Rattle.job_io.specs.SureShelf.{sure_files, sure_misses};
-ghost use Rattle.gf_abs.specs.Answer.{Read, DerivedOf, TextAnswer, NetAnswer, FilesAnswer, Answer};
-ghost use Rattle.gf_abs.specs.BitsOf.{HaveRoles};
-ghost use Rattle.gf_abs.specs.Setting.{any_degree, setting_value, IsReady};
-ghost use Rattle.gf_abs.specs.Stop.{printed, GivesBy, GivesBytes, IsText, Writes, WritesPart, IsWritten};
+ghost use Rattle.job_words.specs.Command.{action_of, job_of};
+ghost use Rattle.job_words.specs.Stop.{GivesBy};
+ghost use Rattle.job_input.specs.Setting.{setting_value, AreSaid, IsReady};
+ghost use Rattle.gf_abs.specs.Answer.{ActionAnswer, SignedAnswer, JobAnswer, Answer};
+ghost use Rattle.gf_abs.specs.Reply.{printed};
+ghost use Rattle.gf_abs.specs.Written.{IsText, Writes, WritesPart, IsWritten};
 
-use crate::abstraction::abstract_line;
-use crate::bits::bits_line;
-use crate::command::{Command, Kind, read_words};
-use crate::fault::{Fault, status_of};
-use crate::fault_line::write_fault;
-use crate::netlist::circuit_of;
-use crate::setting::{Setting, setting_of};
-use crate::stop::Stop;
-use job_io::{Shelf, ShelfFault, Sink, SureShelf, SureSink, put_all};
-use net_core::Name;
-use net_words::Combinational;
+use crate::commands;
+use gf_field::Field;
+use gf_tower::AnyField;
+use job_input::{Setting, Signed, read_signed, setting_over};
+use job_io::{Shelf, Sink, SureShelf, SureSink, put_all};
+use job_words::{Command, Fault, Stop, Task, read_words, status_of, write_fault};
+use net_words::Signature;
 use std::alloc::Global;
-
-const LIMIT: u32 = 67_108_864;
-
-// The bytes of a file.
-fn read_file<S: Shelf>(alloc: Global, shelf: &mut S, name: &str) -> Result<Vec<u8>, Stop>
-    ensures held { S.held shelf.new ≡ S.held shelf.old }
-    ensures never_fall { (S.faults shelf.old ≤ S.faults shelf.new) × (S.misses shelf.old ≤ S.misses shelf.new) }
-    ensures gives { GivesBytes result (Read (S.held shelf.old) name.now)
-        (Rose (S.misses shelf.old) (S.misses shelf.new)) (Rose (S.faults shelf.old) (S.faults shelf.new)) }
-{
-    match shelf.read(alloc, name, LIMIT) {
-        Ok(bytes) => Ok(bytes),
-        Err(ShelfFault::Absent) => {
-            let file = Name::new(alloc, name)?;
-            Err(Stop::Refused(Fault::Absent { file }))
-        }
-        Err(ShelfFault::TooLong { .. }) => {
-            let file = Name::new(alloc, name)?;
-            Err(Stop::Refused(Fault::TooLong { file }))
-        }
-        Err(ShelfFault::Failed) => Err(Stop::Outside),
-        Err(ShelfFault::OutOfMemory) => Err(Stop::OutOfMemory),
-    }
-}
-
-// The output of a command with a signature and a netlist.
-fn files_answer<S: Shelf>(
-    alloc: Global,
-    kind: Kind,
-    signature: &str,
-    net: &str,
-    terms: u32,
-    shelf: &mut S,
-) -> Result<Vec<u8>, Stop>
-    ensures held { S.held shelf.new ≡ S.held shelf.old }
-    ensures never_fall { (S.faults shelf.old ≤ S.faults shelf.new) × (S.misses shelf.old ≤ S.misses shelf.new) }
-    ensures gives { GivesBy printed result (FilesAnswer kind (S.held shelf.old) signature.now net.now terms)
-        (Rose (S.misses shelf.old) (S.misses shelf.new)) (Rose (S.faults shelf.old) (S.faults shelf.new)) }
-{
-    let text = match read_file(alloc, shelf, signature) {
-        Ok(text) => text,
-        Err(stop) => return Err(stop),
-    };
-    let setting = match setting_of(alloc, &text) {
-        Ok(setting) => setting,
-        Err(stop) => return Err(stop),
-    };
-    net_answer(alloc, kind, &setting, net, terms, shelf)
-}
-
-// The output over a netlist, after the signature was taken.
-fn net_answer<S: Shelf>(
-    alloc: Global,
-    kind: Kind,
-    setting: &Setting,
-    net: &str,
-    terms: u32,
-    shelf: &mut S,
-) -> Result<Vec<u8>, Stop>
-    requires { IsReady setting.now }
-    ensures held { S.held shelf.new ≡ S.held shelf.old }
-    ensures never_fall { (S.faults shelf.old ≤ S.faults shelf.new) × (S.misses shelf.old ≤ S.misses shelf.new) }
-    ensures gives { GivesBy printed result (NetAnswer kind (S.held shelf.old) (setting_value setting.now) net.now terms)
-        (Rose (S.misses shelf.old) (S.misses shelf.new)) (Rose (S.faults shelf.old) (S.faults shelf.new)) }
-{
-    let text = match read_file(alloc, shelf, net) {
-        Ok(text) => text,
-        Err(stop) => return Err(stop),
-    };
-    text_answer(alloc, kind, setting, net, terms, &text)
-}
-
-// The output over a netlist's text.
-fn text_answer(
-    alloc: Global,
-    kind: Kind,
-    setting: &Setting,
-    file: &str,
-    terms: u32,
-    text: &[u8],
-) -> Result<Vec<u8>, Stop>
-    requires setting { IsReady setting.now }
-    requires short { length text.now ≤ 67108864 }
-    ensures { GivesBy printed result (TextAnswer kind (setting_value setting.now) file.now terms text.now) ⊥ ⊥ }
-{
-    let circuit = match circuit_of(alloc, setting.signature.words(), file, text) {
-        Ok(circuit) => circuit,
-        Err(stop) => return Err(stop),
-    };
-    derived_line(alloc, kind, setting, &circuit, terms)
-}
-
-// The output over a circuit, whose words are those of the setting.
-fn derived_line(
-    alloc: Global,
-    kind: Kind,
-    setting: &Setting,
-    circuit: &Combinational,
-    terms: u32,
-) -> Result<Vec<u8>, Stop>
-    requires setting { IsReady setting.now }
-    requires bits { circuit.now.bound.k ≡ any_degree setting.now.field }
-    requires roles { HaveRoles setting.now.signature.words circuit.now.bound.words }
-    requires long { length setting.now.bases.items ≡ length circuit.now.bound.words }
-    ensures { GivesBy printed result (DerivedOf kind (setting_value setting.now) circuit.now terms) ⊥ ⊥ }
-{
-    match kind {
-        Kind::Bits => bits_line(alloc, setting, circuit, terms),
-        Kind::Abstract => abstract_line(alloc, setting, circuit, terms),
-    }
-}
 
 // The output of the words.
 fn answer<S: Shelf>(alloc: Global, words: &[String], shelf: &mut S) -> Result<Vec<u8>, Stop>
@@ -140,15 +27,69 @@ fn answer<S: Shelf>(alloc: Global, words: &[String], shelf: &mut S) -> Result<Ve
         (Rose (S.misses shelf.old) (S.misses shelf.new)) (Rose (S.faults shelf.old) (S.faults shelf.new)) }
 {
     match read_words(words) {
+        Some(command) => job_answer(alloc, &command, shelf),
         None => Err(Stop::Refused(Fault::Words)),
-        Some(
-            Command {
-                kind,
-                signature,
-                net,
-                terms,
-            },
-        ) => files_answer(alloc, kind, signature, net, terms, shelf),
+    }
+}
+
+// The output of a command, whose field is matched here and nowhere else.
+fn job_answer<S: Shelf>(alloc: Global, command: &Command, shelf: &mut S) -> Result<Vec<u8>, Stop>
+    ensures held { S.held shelf.new ≡ S.held shelf.old }
+    ensures never_fall { (S.faults shelf.old ≤ S.faults shelf.new) × (S.misses shelf.old ≤ S.misses shelf.new) }
+    ensures gives { GivesBy printed result (JobAnswer (S.held shelf.old) (job_of command.now))
+        (Rose (S.misses shelf.old) (S.misses shelf.new)) (Rose (S.faults shelf.old) (S.faults shelf.new)) }
+{
+    let Signed { signature, field } = match read_signed(alloc, shelf, command.signature) {
+        Ok(signed) => signed,
+        Err(stop) => return Err(stop),
+    };
+    match field {
+        AnyField::Base(field) => signed_answer(alloc, &field, signature, &command.task, shelf),
+        AnyField::Tower(field) => signed_answer(alloc, &field, signature, &command.task, shelf),
+    }
+}
+
+// The output of a command over its field.
+fn signed_answer<F: Field, S: Shelf>(
+    alloc: Global,
+    field: &F,
+    signature: Signature,
+    task: &Task,
+    shelf: &mut S,
+) -> Result<Vec<u8>, Stop>
+    requires { AreSaid signature.words }
+    ensures held { S.held shelf.new ≡ S.held shelf.old }
+    ensures never_fall { (S.faults shelf.old ≤ S.faults shelf.new) × (S.misses shelf.old ≤ S.misses shelf.new) }
+    ensures gives { GivesBy printed result (SignedAnswer (S.held shelf.old) (record { signature = signature; field = record { k = F.degree field.now; product = F.product field.now } }) (action_of task.now))
+        (Rose (S.misses shelf.old) (S.misses shelf.new)) (Rose (S.faults shelf.old) (S.faults shelf.new)) }
+{
+    match setting_over(alloc, field, signature) {
+        Ok(setting) => task_answer(alloc, field, &setting, task, shelf),
+        Err(stop) => Err(stop),
+    }
+}
+
+// The output of each command over a setting.
+fn task_answer<F: Field, S: Shelf>(
+    alloc: Global,
+    field: &F,
+    setting: &Setting,
+    task: &Task,
+    shelf: &mut S,
+) -> Result<Vec<u8>, Stop>
+    requires { IsReady (F.degree field.now) (F.product field.now) setting.now }
+    ensures held { S.held shelf.new ≡ S.held shelf.old }
+    ensures never_fall { (S.faults shelf.old ≤ S.faults shelf.new) × (S.misses shelf.old ≤ S.misses shelf.new) }
+    ensures gives { GivesBy printed result (ActionAnswer (S.held shelf.old) (setting_value (F.degree field.now) (F.product field.now) setting.now) (action_of task.now))
+        (Rose (S.misses shelf.old) (S.misses shelf.new)) (Rose (S.faults shelf.old) (S.faults shelf.new)) }
+{
+    match task {
+        Task::Bits(words) => {
+            commands::bits::answer(alloc, field, setting, words.net, words.terms, shelf)
+        }
+        Task::Abstract(words) => {
+            commands::abstraction::answer(alloc, field, setting, words.net, words.terms, shelf)
+        }
     }
 }
 

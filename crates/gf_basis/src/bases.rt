@@ -8,7 +8,7 @@ ghost use Rattle.irreducible.specs.Span.{combination, IsIndependent};
 ghost use Rattle.gf_basis.specs.Basis.{AreBits, IsBasisList, first_values};
 ghost use Rattle.gf_basis.specs.Dual.{linear_value};
 
-use super::duals::{conjugates, trace_matrix, traces};
+use super::duals::{conjugates, coordinates, trace_matrix, unit_traces};
 use gf_field::{Field, filled, first_outside, is_element};
 use irreducible::combined;
 use thiserror::Error;
@@ -18,6 +18,7 @@ use thiserror::Error;
 pub struct Basis {
     elements: [u64; 64],
     duals: [u64; 64],
+    coordinates: [u64; 64],
     count: u32,
     ghost few: { count ≤ 64 },
     ghost inside: { AreElements count (take count elements) },
@@ -54,7 +55,8 @@ impl Basis {
         Basis::made(field, &units[..k]).unwrap()
     }
 
-    /// The normal basis of `gamma`: element i is `gamma` squared i times.
+    /// The normal basis of `gamma`: element i is `gamma` squared i times. The faults are `BadElement` with place 0
+    /// where `gamma` is not below 2^k, and `Dependent`.
     pub fn normal<F: Field>(field: &F, gamma: u64) -> Result<Basis, BasisFault>
         ensures accepted { IsOk result ↔ (gamma < 2 ^ F.degree field.now) × IsIndependent (conjugates_of (F.degree field.now) (F.product field.now) gamma) }
         ensures fault { IfErr result (λ fault. IsNormalFault (F.degree field.now) (F.product field.now) gamma fault) }
@@ -71,7 +73,8 @@ impl Basis {
         }
     }
 
-    /// The basis of these elements.
+    /// The basis of these elements. The faults, in this order: `WrongCount` where there are not k, `BadElement` at the
+    /// first that is not below 2^k, and `Dependent`.
     pub fn list<F: Field>(field: &F, elements: &[u64]) -> Result<Basis, BasisFault>
         ensures accepted { IsOk result ↔ IsBasisList (F.degree field.now) elements.now }
         ensures fault { IfErr result (λ fault. IsListFault (F.degree field.now) elements.now fault) }
@@ -123,12 +126,12 @@ impl Basis {
     }
 
     /// The bits, below 2^k, whose element this is, in the field that the basis was made over; `element` is below 2^k.
-    pub fn bits_of<F: Field>(&self, field: &F, element: u64) -> u64
-        requires element { element < 2 ^ F.degree field.now }
-        requires over { IsOver (F.degree field.now) (F.product field.now) self.now }
+    pub fn bits_of<F: Field>(&self, _field: &F, element: u64) -> u64
+        requires element { element < 2 ^ F.degree _field.now }
+        requires over { IsOver (F.degree _field.now) (F.product _field.now) self.now }
         ensures { AreBits (elements_of self.now) element result }
     {
-        traces(field, &self.duals[..self.count as usize], element)
+        combined(&self.coordinates[..self.count as usize], element)
     }
 
     /// Bit i of a word as a linear form of its element, in the field that the basis was made over: entry j is the
@@ -151,7 +154,8 @@ impl Basis {
         ensures over { IfSome result (λ basis. IsOver (F.degree field.now) (F.product field.now) basis) }
         ensures elements { IfSome result (λ basis. elements_of basis ≡ elements.now) }
     {
-        let inverse = match trace_matrix(field, elements).inverse() {
+        let units = unit_traces(field);
+        let inverse = match trace_matrix(field, &units, elements).inverse() {
             Some(inverse) => inverse,
             None => return None,
         };
@@ -161,6 +165,7 @@ impl Basis {
         }
         Some(Basis {
             elements: filled(elements),
+            coordinates: coordinates(field, &units, &duals[..elements.len()]),
             duals,
             count: elements.len() as u32,
         })

@@ -1,4 +1,6 @@
-pub mod Ring2kSteps
+pub mod ShiftAndAddLaws
+pub mod PartLaws
+pub mod TableSteps
 pub mod Shifts
 pub mod Copies
 pub mod FirstOutside

@@ -9,7 +9,8 @@ pub mod Power
 pub mod Trace
 pub mod Roots
 pub mod Ring2k
-pub mod ShiftAndAdd
+pub mod Table16
+pub mod private
 pub mod XorLaws
 pub mod RingLaws
 pub mod ConvolutionLaws
@@ -19,7 +20,6 @@ pub mod QuotientRingLaws
 pub mod ProductLaws
 pub mod BitLaws
 pub mod ModulusLaws
-pub mod ShiftAndAddLaws
 pub mod PowerLaws
 pub mod PigeonholeLaws
 pub mod RootsLaws

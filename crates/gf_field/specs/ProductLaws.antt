@@ -8,9 +8,9 @@ use Rattle.gf_field.specs.XorLaws.{xor_same, xor_cross}
 use Rattle.gf_field.specs.Polynomial.{coefficient, convolution, IsProduct, IsMonic}
 use Rattle.gf_field.specs.Quotient.{none, plus, times, shift, rest, step, reduced, packed, product, HasOnlyProduct}
 use Rattle.gf_field.specs.ConvolutionLaws.{convolution_xor_left}
-use Rattle.gf_field.specs.QuotientLaws.{EndsAt, AllBelow, reduced_below, shift_plus}
+use Rattle.gf_field.specs.QuotientLaws.{EndsAt, AllBelow, reduced_below, reduced_ends, shift_plus}
 use Rattle.gf_field.specs.RingLaws.{zero_mul, mul_zero, mul_one}
-use Rattle.gf_field.specs.PackingLaws.{self_below, coefficient-packed, packed-coefficient, coefficient_below, coefficient_ends}
+use Rattle.gf_field.specs.PackingLaws.{self_below, packed_below, coefficient-packed, packed-coefficient, coefficient_below, coefficient_ends}
 use Rattle.gf_field.specs.QuotientRingLaws.{product_below, coefficient-product}
 
 -- the coefficients of the polynomial by which g is multiplied
@@ -88,6 +88,23 @@ module _ (n : ℕ) (mul : ℕ → ℕ → ℕ) (ring : IsRing n mul) where
           ∙ ap (λ f. f i) (remainder e (coefficient n g) (suc e) (coefficient n u) (coefficient n v) (coefficient_ends n (suc e) u hu))
           ∙ ap (λ f. convolution mul f (coefficient n g) i) (sym (fun_ext (coefficient-packed n (suc e) (taken mul e (coefficient n g) (suc e) (coefficient n u) (coefficient n v)) (taken_below e (coefficient n g) (suc e) (coefficient n u) (coefficient n v) (coefficient_below n v)) (taken_ends mul e (coefficient n g) (suc e) (coefficient n u) (coefficient n v)))));
     }
+
+    -- the first m coefficients of u make the product where u has no others
+    pub IsProduct-reduced : (m u v : ℕ) → EndsAt m (coefficient n u) → v < 2 ^ (n * suc e) → IsProduct n (suc e) mul g u v (packed n (suc e) (reduced mul e (coefficient n g) m (coefficient n u) (coefficient n v)))
+    IsProduct-reduced m u v hu hv = record {
+      short = packed_below n (suc e) (reduced mul e (coefficient n g) m (coefficient n u) (coefficient n v)) below;
+      quotient = packed n m (taken mul e (coefficient n g) m (coefficient n u) (coefficient n v));
+      multiple = λ i.
+          ap (λ f. bit_xor (convolution mul (coefficient n u) (coefficient n v) i) (f i)) (fun_ext (coefficient-packed n (suc e) (reduced mul e (coefficient n g) m (coefficient n u) (coefficient n v)) below ends))
+          ∙ ap (λ f. f i) (remainder e (coefficient n g) m (coefficient n u) (coefficient n v) hu)
+          ∙ ap (λ f. convolution mul f (coefficient n g) i) (sym (fun_ext (coefficient-packed n m (taken mul e (coefficient n g) m (coefficient n u) (coefficient n v)) (taken_below e (coefficient n g) m (coefficient n u) (coefficient n v) (coefficient_below n v)) (taken_ends mul e (coefficient n g) m (coefficient n u) (coefficient n v)))));
+    }
+      where
+        below : AllBelow n (reduced mul e (coefficient n g) m (coefficient n u) (coefficient n v))
+        below = reduced_below n mul ring e (coefficient n g) m (coefficient n u) (coefficient n v) (coefficient_below n v)
+
+        ends : EndsAt (suc e) (reduced mul e (coefficient n g) m (coefficient n u) (coefficient n v))
+        ends = reduced_ends n mul ring e (coefficient n g) monic.leading monic.last m (coefficient n u) (coefficient n v) (coefficient_below n v) (coefficient_ends n (suc e) v hv)
 
     quotient_ends_by : (a b : ℕ) → EndsAt (a + b) (coefficient n a)
     quotient_ends_by a b = coefficient_ends n (a + b) a (lt_of_lt_of_le (self_below a) (pow_mono (le_trans (omega arith) (mul-le-mul_right (a + b) ring.some))))

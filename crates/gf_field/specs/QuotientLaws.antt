@@ -52,7 +52,7 @@ module _ (n : ℕ) (mul : ℕ → ℕ → ℕ) (ring : IsRing n mul) where
       at a f (suc i) = refl
 
   module _ (e : ℕ) (g : ℕ → ℕ) where
-    step_plus : (f h : ℕ → ℕ) → step mul e g (plus f h) ≡ plus (step mul e g f) (step mul e g h)
+    pub step_plus : (f h : ℕ → ℕ) → step mul e g (plus f h) ≡ plus (step mul e g f) (step mul e g h)
     step_plus f h =
         ap₂ plus (shift_plus f h) (plus_times (f e) (h e) g)
         ∙ plus_cross (shift f) (shift h) (times mul (f e) g) (times mul (h e) g)

@@ -14,5 +14,6 @@ pub trait Field: Ring {
         ensures element { result < 2 ^ Self.degree self.now }
         ensures inverse { Self.product self.now a result ≡ 1 };
 
+    /// A product of two elements that are not 0 is not 0.
     ghost no_zero_divisors: { (field : Self) → HasNoZeroDivisors (Self.degree field) (Self.product field) };
 }

@@ -5,7 +5,7 @@ ghost use Rattle.gf_field.specs.Bit.{bit_mul};
 ghost use Rattle.gf_field.specs.Field.{HasNoZeroDivisors};
 ghost use Rattle.gf_field.specs.Polynomial.{IsIrreducible, IsSumOverPairs};
 ghost use Rattle.gf_field.specs.Quotient.{HasOnlyProduct, HasQuotientFields, HasQuotientRings, product as quotient_product};
-ghost use Rattle.gf_field.specs.Ring2k.{degree_of, modulus_of};
+ghost use Rattle.gf_field.specs.Ring2k.{IsOnlyRemainder, degree_of, modulus_of};
 ghost use Rattle.gf_field.specs.Roots.{HasFewRoots, HasRootsUpToDegree, IsOwnPower};
 ghost use Rattle.gf_field.specs.Trace.{IsTrace};
 
@@ -21,6 +21,11 @@ pub fn convolution_sum<R: Ring>(_ring: &R)
 /// Modulo a monic polynomial there is exactly one product, the one that `Ring2k` and towers compute.
 pub fn only_product<R: Ring>(_ring: &R)
     ensures { HasOnlyProduct (R.degree _ring.now) (R.product _ring.now) }
+{}
+
+/// The product of a `Ring2k` is the one remainder, by its modulus, of the product of polynomials.
+pub fn only_remainder(_ring: &Ring2k)
+    ensures { IsOnlyRemainder (degree_of _ring.now) (modulus_of _ring.now) }
 {}
 
 /// The quotient by a monic polynomial is a commutative ring.

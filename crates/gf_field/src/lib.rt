@@ -8,6 +8,7 @@ mod laws;
 mod powers;
 mod ring_2k;
 mod rings;
+mod table_16;
 #[cfg(test)]
 mod tests;
 mod traces;
@@ -15,10 +16,12 @@ mod traces;
 pub use elements::{filled, first_outside, is_element};
 pub use fields::Field;
 pub use laws::{
-    additive_squares, convolution_sum, few_roots, irreducible_modulus, only_product, own_power,
-    quotient_fields, quotient_rings, roots_up_to_degree, trace_onto_bits,
+    additive_squares, convolution_sum, few_roots, irreducible_modulus, only_product,
+    only_remainder, own_power, quotient_fields, quotient_rings, roots_up_to_degree,
+    trace_onto_bits,
 };
 pub use powers::{frobenius, power};
 pub use ring_2k::{BadDegree, Ring2k};
 pub use rings::Ring;
+pub use table_16::Table16;
 pub use traces::trace;

@@ -1,5 +1,8 @@
 //! Products, powers and traces whose values come from outside.
 
+ghost use Rattle.std.specs.Prelude.{◌<◌, ◌^◌};
+ghost use Rattle.gf_field.specs.Ring2k.{degree_of};
+
 use super::*;
 use std::process::Abort;
 
@@ -14,6 +17,14 @@ fn product(rt: &impl Abort, modulus: u128, a: u64, b: u64) -> u64 {
     assert!(rt; is_element(&ring, a));
     assert!(rt; is_element(&ring, b));
     ring.mul(a, b)
+}
+
+// a product by a table
+fn by_table(ring: &Ring2k, a: u64, b: u64) -> u64
+    requires first { a < 2 ^ degree_of ring.now }
+    requires second { b < 2 ^ degree_of ring.now }
+{
+    ring.by(&ring.times(a), b)
 }
 
 // a power in the ring of this modulus
@@ -100,6 +111,27 @@ fn squares(rt: HostRuntime) {
     assert_eq!(rt; frobenius(&ring, 0x53, 1), 0xb5);
     assert_eq!(rt; frobenius(&ring, 0x53, 8), 0x53);
     assert!(rt; !is_element(&ring, 0x100));
+}
+
+#[test]
+fn tables(rt: HostRuntime) {
+    let four = ring(&rt, 0x7);
+    assert!(rt; is_element(&four, 0x2));
+    assert!(rt; is_element(&four, 0x3));
+    let table = four.times(0x2);
+    assert_eq!(rt; by_table(&four, 0x2, 0x3), 1);
+    for (n, want) in [0, 2, 3, 1, 1, 3, 2, 0].iter().enumerate() {
+        assert_eq!(rt; table.multiples()[n], *want);
+    }
+    let two = ring(&rt, 0x3);
+    assert!(rt; is_element(&two, 1));
+    let table = two.times(1);
+    for n in 0..16u32 {
+        assert_eq!(rt;
+            table.multiples()[n as usize],
+            u64::from(n.count_ones() % 2)
+        );
+    }
 }
 
 #[test]

@@ -7,3 +7,4 @@ pub mod AnyField
 pub mod Digits
 pub mod DigitsLaws
 pub mod TowerLaws
+pub mod private

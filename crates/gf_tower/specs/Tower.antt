@@ -1,7 +1,10 @@
 -- Towers: polynomials in Y over a field of 2 to the n elements, modulo a monic one of degree m
 -- (Lidl and Niederreiter, Finite Fields, chapter 1, section 3).
-use Rattle.std.specs.Prelude.{ℕ, ◌+◌, ◌*◌, ◌≤◌, ◌^◌, List, [], ◌∷◌, ◌++◌, length}
+use Rattle.std.specs.Prelude.{ℕ, ◌+◌, ◌*◌, ◌≤◌, ◌^◌, ◌↔◌, List, [], ◌∷◌, ◌++◌, length}
 use Rattle.gf_field.specs.Element.{AreElements}
+use Rattle.gf_field.specs.Field.{HasNoZeroDivisors}
+use Rattle.gf_field.specs.Polynomial.{IsIrreducible}
+use Rattle.gf_field.specs.Quotient.{product}
 
 -- the polynomial with these coefficients, the lowest first, n bits each
 abbrev pub polynomial_of : ℕ → List ℕ → ℕ
@@ -21,3 +24,8 @@ pub record IsLength (n m : ℕ) : Type 0 where
 pub record IsTowerList (n : ℕ) (cs : List ℕ) : Type 0 where
   pub size : IsLength n (length cs)
   pub elements : AreElements n cs
+
+-- the quotient by the polynomial, of degree m, has no zero divisors exactly where the polynomial is irreducible
+abbrev pub IsFieldByPolynomial : (n : ℕ) → (ℕ → ℕ → ℕ) → (m : ℕ) → List ℕ → Type 0
+IsFieldByPolynomial n mul m cs =
+    HasNoZeroDivisors (n * m) (product n m mul (tower_polynomial n cs)) ↔ IsIrreducible n mul (tower_polynomial n cs)

@@ -1,5 +1,5 @@
 //! Towers, which are polynomials over a field modulo a monic one, and any field that can be named by
-//! a modulus and one tower step.
+//! a modulus and one or two tower steps.
 #![tactic(auto)]
 
 mod any_field;

@@ -51,7 +51,9 @@ impl<F: Field> Tower<F> {
     ghost use Rattle.gf_tower.specs.TowerFault.{IsTowerFault};
     ghost use Rattle.gf_tower.specs.TowerParts.{base_of, coefficients_of, size_of};
 
-    /// The tower over this base; a refusal hands the base back.
+    /// The tower over this base. The faults, in this order: `BadLength` where there are fewer than 2 coefficients or the
+    /// tower would have more than 64 bits, and `BadCoefficient` at the first that is no element of the base. A refusal
+    /// hands the base back.
     pub fn new(base: F, coefficients: &[u64]) -> Result<Tower<F>, (TowerFault, F)>
         ensures accepted { IsOk result ↔ IsTowerList (F.degree base) coefficients.now }
         ensures fault { IfErr result (λ refused. IsTowerFault (F.degree base) coefficients.now refused.0) }
@@ -104,10 +106,11 @@ impl<F: Field> Tower<F> {
     {
         let n = self.base.k();
         let mask = u64::MAX >> (64 - n);
+        let table = self.base.times(a);
         let mut result = 0;
         for i in (0..self.length).rev() {
             let digit = (v >> (n * i)) & mask;
-            result = (result << n) | self.base.mul(a, digit);
+            result = (result << n) | self.base.by(&table, digit);
         }
         result
     }
@@ -129,9 +132,13 @@ impl<F: Field> Ring for Tower<F> {
     ghost use Rattle.gf_tower.specs.TowerParts.{base_of, coefficients_of, size_of};
     ghost use Rattle.gf_tower.specs.TowerLaws.{IsRing-tower};
 
+    type Times = u64;
+
     ghost degree = { λ tower. F.degree (base_of tower) * size_of tower };
 
     ghost product = { λ tower. quotient_product (F.degree (base_of tower)) (size_of tower) (F.product (base_of tower)) (tower_polynomial (F.degree (base_of tower)) (coefficients_of tower)) };
+
+    ghost is_table = { λ tower table a. table ≡ a };
 
     ghost laws = { λ tower. IsRing-tower (F.degree (base_of tower)) (size_of tower) tower.low (coefficients_of tower) tower.fits (F.product (base_of tower)) (F.laws (base_of tower)) };
 
@@ -167,5 +174,14 @@ impl<F: Field> Ring for Tower<F> {
 
     fn square(&self, a: u64) -> u64 {
         self.mul(a, a)
+    }
+
+    /// The element itself: products by it make a table of the base for each of its coefficients.
+    fn times(&self, a: u64) -> u64 {
+        a
+    }
+
+    fn by(&self, table: &u64, b: u64) -> u64 {
+        self.mul(*table, b)
     }
 }

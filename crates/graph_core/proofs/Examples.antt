@@ -1,9 +1,9 @@
 -- Small worked examples of the definitions of specs/, which the check computes: a graph of five points, in which 0 leads
 -- to 1, 1 to 2 and 2 nowhere, and 3 and 4 lead to each other.
-use Rattle.std.proofs.Common.{◌≡◌, ℕ, zero, suc, ◌<◌, ◌+◌, [], ◌∷◌, Option, Some, slice_get, sym, subst, refl, arith}
-use Rattle.graph_core.specs.Graph.{Graph, Has, HasEdge, edges, IsPath, IsRing}
-use Rattle.graph_core.specs.Ring.{IsGrounded, grounded, IsEndless, IsFirstEndless, IsRingOf}
-use Rattle.graph_core.proofs.GroundLemmas.{grounded_no_ring}
+use Rattle.std.proofs.Common.{◌≡◌, ℕ, zero, suc, ◌<◌, ◌+◌, [], ◌∷◌, Option, Some, slice_get, sym, subst, refl, arith, inl, inr}
+use Rattle.graph_core.specs.Graph.{Graph, Has, HasEdge, edges, IsPath, IsReached, IsCycle}
+use Rattle.graph_core.specs.Cycle.{IsGrounded, grounded, IsEndless, IsFirstEndless, IsCycleOf}
+use Rattle.graph_core.proofs.GroundLemmas.{grounded_no_cycle}
 use Rattle.graph_core.specs.Arranged.{IsArranged}
 
 abbrev five : Graph
@@ -17,17 +17,23 @@ edges_of_zero = refl
 path_to_two : IsPath five 0 (1 ∷ []) 2
 path_to_two = ((0, refl), (0, refl))
 
--- 3 and 4 are a ring
-ring_of_two : IsRing five (3 ∷ 4 ∷ [])
-ring_of_two = ((0, refl), (0, refl))
+-- 3 and 4 are a cycle
+cycle_of_two : IsCycle five (3 ∷ 4 ∷ [])
+cycle_of_two = ((0, refl), (0, refl))
 
 -- from the root 0 the order is 2, 1, 0: each point after that to which it leads
 order_from_zero : IsArranged five (0 ∷ []) (2 ∷ 1 ∷ 0 ∷ [])
-order_from_zero = record { has_roots = has_roots; inside = inside; once = once; after = after }
+order_from_zero = record { has_roots = has_roots; only = only_reached; inside = inside; once = once; after = after }
   where
     has_roots : (a : ℕ) → Has (0 ∷ []) a → Has (2 ∷ 1 ∷ 0 ∷ []) a
     has_roots a (zero, got) = (2, got)
     has_roots a (suc k, got) = absurd (cc)
+
+    only_reached : (a : ℕ) → Has (2 ∷ 1 ∷ 0 ∷ []) a → IsReached five (0 ∷ []) a
+    only_reached a (zero, got) = let same : 2 ≡ a = cc in rw (← same) (inr (0, 1 ∷ [], (0, refl), path_to_two))
+    only_reached a (suc zero, got) = let same : 1 ≡ a = cc in rw (← same) (inr (0, [], (0, refl), (0, refl)))
+    only_reached a (suc (suc zero), got) = let same : 0 ≡ a = cc in rw (← same) (inl (0, refl))
+    only_reached a (suc (suc (suc k)), got) = absurd (cc)
 
     inside : (a : ℕ) → Has (2 ∷ 1 ∷ 0 ∷ []) a → a < 5
     inside a (zero, got) = let same : 2 ≡ a = cc in omega arith
@@ -84,17 +90,17 @@ zero_is_grounded = grounded 0 step
     step b (zero, got) = let same : 1 ≡ b = cc in rw (← same) one_is_grounded
     step b (suc k, got) = absurd (cc)
 
--- 3 leads into the ring of 3 and 4, so it is endless
+-- 3 leads into the cycle of 3 and 4, so it is endless
 three_is_endless : IsEndless five 3
-three_is_endless ground = grounded_no_ring five 3 ground (4 ∷ []) ((0, refl), (0, refl))
+three_is_endless ground = grounded_no_cycle five 3 ground (4 ∷ []) ((0, refl), (0, refl))
 
 -- and so is 4
 four_is_endless : IsEndless five 4
-four_is_endless ground = grounded_no_ring five 4 ground (3 ∷ []) ((0, refl), (0, refl))
+four_is_endless ground = grounded_no_cycle five 4 ground (3 ∷ []) ((0, refl), (0, refl))
 
--- of the roots 0 and 3 the walk begins at 3, and goes to 4 and back: it finds the ring of 3 and 4
-ring_of_roots : IsRingOf five (0 ∷ 3 ∷ []) (3 ∷ 4 ∷ [])
-ring_of_roots = record {
+-- of the roots 0 and 3 the walk begins at 3, and goes to 4 and back: it finds the cycle of 3 and 4
+cycle_of_roots : IsCycleOf five (0 ∷ 3 ∷ []) (3 ∷ 4 ∷ [])
+cycle_of_roots = record {
   walk = 3 ∷ 4 ∷ [];
   from = 0;
   is_walk = record { begins = begins; leads = leads; apart = apart };

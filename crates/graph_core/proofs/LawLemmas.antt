@@ -1,13 +1,13 @@
--- Laws of orders and rings.
+-- Laws of orders and cycles.
 use Rattle.std.proofs.Common.{◌≡◌, inl, inr, ℕ, zero, suc, ◌<◌, List, ◌∷◌, Some, arith}
 use Rattle.std.specs.Prelude.{slice_get}
-use Rattle.graph_core.specs.Graph.{Graph, Has, edges, HasEdge, IsPath, IsRing}
-use Rattle.graph_core.specs.Ring.{IsGrounded, grounded, IsFirstEndless, IsRingOf}
+use Rattle.graph_core.specs.Graph.{Graph, Has, edges, HasEdge, IsPath, IsCycle}
+use Rattle.graph_core.specs.Cycle.{IsGrounded, grounded, IsFirstEndless, IsCycleOf}
 use Rattle.graph_core.specs.Arranged.{IsArranged}
 use Rattle.graph_core.proofs.GraphLemmas.{nat_eq_or, even}
-use Rattle.graph_core.proofs.GroundLemmas.{grounded_path, grounded_no_ring}
+use Rattle.graph_core.proofs.GroundLemmas.{grounded_path, grounded_no_cycle}
 use Rattle.graph_core.proofs.ListLemmas.{get_below}
-use Rattle.graph_core.proofs.LoopLemmas.{loop_ring, ring_weaker, loop_only}
+use Rattle.graph_core.proofs.LoopLemmas.{loop_cycle, cycle_weaker, loop_only}
 
 -- the first endless point is the only first one
 pub first_only : (graph : Graph) (list : List ℕ) (b c : ℕ) → IsFirstEndless graph list b → IsFirstEndless graph list c → b ≡ c
@@ -17,12 +17,12 @@ first_only graph list b c (i, at, endless, before) (j, at', endless', before') =
       | inr other ↦ absurd (other (even i j (λ less. endless (before' i b less at)) (λ less. endless' (before j c less at'))))
     ]
 
-pub is_ring : (graph : Graph) (roots ring : List ℕ) → IsRingOf graph roots ring → IsRing graph ring
-is_ring graph roots ring is =
+pub is_cycle : (graph : Graph) (roots cycle : List ℕ) → IsCycleOf graph roots cycle → IsCycle graph cycle
+is_cycle graph roots cycle is =
     let L : ℕ → ℕ → Type 0 = λ a b. IsFirstEndless graph (edges graph a) b in
-    ring_weaker L (HasEdge graph) (λ a b first. (first.0, first.1)) ring (loop_ring (IsFirstEndless graph roots) L ring is)
+    cycle_weaker L (HasEdge graph) (λ a b first. (first.0, first.1)) cycle (loop_cycle (IsFirstEndless graph roots) L cycle is)
 
-pub is_only : (graph : Graph) (roots x y : List ℕ) → IsRingOf graph roots x → IsRingOf graph roots y → x ≡ y
+pub is_only : (graph : Graph) (roots x y : List ℕ) → IsCycleOf graph roots x → IsCycleOf graph roots y → x ≡ y
 is_only graph roots x y one two =
     let L : ℕ → ℕ → Type 0 = λ a b. IsFirstEndless graph (edges graph a) b in
     loop_only (IsFirstEndless graph roots) L (first_only graph roots) (λ a b c. first_only graph (edges graph a) b c) x y one two
@@ -36,11 +36,11 @@ below_grounded graph roots order is (suc bound) i a less at =
 pub arranged_grounded : (graph : Graph) (roots order : List ℕ) (a : ℕ) → IsArranged graph roots order → Has order a → IsGrounded graph a
 arranged_grounded graph roots order a is has = below_grounded graph roots order is (suc has.0) has.0 a (omega arith) has.1
 
-pub leads_to_no_ring : (graph : Graph) (a b : ℕ) (rest around : List ℕ) → IsGrounded graph a → IsPath graph a rest b → IsRing graph (b ∷ around) → ⊥
-leads_to_no_ring graph a b rest around ground path ring = grounded_no_ring graph b (grounded_path graph a rest b ground path) around ring
+pub leads_to_no_cycle : (graph : Graph) (a b : ℕ) (rest around : List ℕ) → IsGrounded graph a → IsPath graph a rest b → IsCycle graph (b ∷ around) → ⊥
+leads_to_no_cycle graph a b rest around ground path cycle = grounded_no_cycle graph b (grounded_path graph a rest b ground path) around cycle
 
-pub not_both : (graph : Graph) (roots order ring : List ℕ) → IsArranged graph roots order → IsRingOf graph roots ring → ⊥
-not_both graph roots order ring is loop =
+pub not_both : (graph : Graph) (roots order cycle : List ℕ) → IsArranged graph roots order → IsCycleOf graph roots cycle → ⊥
+not_both graph roots order cycle is loop =
     let first = get_below loop.walk 0 (omega (arith, loop.within)) in
     let begin = loop.is_walk.begins first.0 first.1 in
     begin.2 (arranged_grounded graph roots order first.0 is (is.has_roots first.0 (begin.0, begin.1)))

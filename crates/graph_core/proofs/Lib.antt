@@ -3,6 +3,6 @@ pub mod GroundLemmas
 pub mod LawLemmas
 pub mod ListLemmas
 pub mod LoopLemmas
-pub mod RingLemmas
+pub mod CycleLemmas
 pub mod WalkLemmas
 mod Examples

@@ -1,8 +1,8 @@
--- A walk finds one loop, which is a ring.
+-- A walk finds one loop, which is a cycle.
 use Rattle.std.proofs.Common.{◌≡◌, ◌∙◌, ap, sym, refl, subst, ℕ, zero, suc, ◌<◌, ◌+◌, List, [], ◌∷◌, length, drop, Some, arith}
 use Rattle.std.specs.Prelude.{slice_get}
 use Rattle.std.proofs.lemmas.Option.{slice_get_within}
-use Rattle.graph_core.specs.Walk.{IsChain, IsRingBy, IsWalkBy, IsLoopBy}
+use Rattle.graph_core.specs.Walk.{IsChain, IsCycleBy, IsWalkBy, IsLoopBy}
 use Rattle.graph_core.proofs.ListLemmas.{get_below}
 use Rattle.graph_core.proofs.GraphLemmas.{even, same_lists}
 
@@ -20,9 +20,9 @@ length_drop_plus n [] less = absurd (omega arith)
 length_drop_plus zero (x ∷ xs) less = omega arith
 length_drop_plus (suc n) (x ∷ xs) less = omega (arith, length_drop_plus n xs (omega arith))
 
--- the loop of a walk is a ring
-pub loop_ring : (B : ℕ → Type 0) (L : ℕ → ℕ → Type 0) (loop : List ℕ) → IsLoopBy B L loop → IsRingBy L loop
-loop_ring B L loop is = ring_of loop refl
+-- the loop of a walk is a cycle
+pub loop_cycle : (B : ℕ → Type 0) (L : ℕ → ℕ → Type 0) (loop : List ℕ) → IsLoopBy B L loop → IsCycleBy L loop
+loop_cycle B L loop is = cycle_of loop refl
   where
     step : (k x y : ℕ) → slice_get loop k ≡ Some x → slice_get loop (suc k) ≡ Some y → L x y
     step k x y first second =
@@ -38,9 +38,9 @@ loop_ring B L loop is = ring_of loop refl
         let e : is.from + 0 ≡ is.from = omega arith in
         is.back (is.from + k) x a (omega (arith, length_drop_plus is.from is.walk is.within, ap length is.loop_is)) (sym (get_drop is.from is.walk k) ∙ got') (ap (slice_get is.walk) (sym e) ∙ sym (get_drop is.from is.walk 0) ∙ first')
 
-    ring_of : (xs : List ℕ) → loop ≡ xs → IsRingBy L xs
-    ring_of [] same = omega (arith, length_drop_plus is.from is.walk is.within, ap length is.loop_is, ap length same, is.within)
-    ring_of (a ∷ rest) same =
+    cycle_of : (xs : List ℕ) → loop ≡ xs → IsCycleBy L xs
+    cycle_of [] same = omega (arith, length_drop_plus is.from is.walk is.within, ap length is.loop_is, ap length same, is.within)
+    cycle_of (a ∷ rest) same =
         let S : List ℕ → Type 0 = λ xs. (k x y : ℕ) → slice_get xs k ≡ Some x → slice_get xs (suc k) ≡ Some y → L x y in
         let T : List ℕ → Type 0 = λ xs. (k x a : ℕ) → suc k ≡ length xs → slice_get xs k ≡ Some x → slice_get xs 0 ≡ Some a → L x a in
         let steps : S (a ∷ rest) = subst S same step in
@@ -52,9 +52,9 @@ chain_weaker : (R S : ℕ → ℕ → Type 0) → ((a b : ℕ) → R a b → S a
 chain_weaker R S weaker a [] b chain = weaker a b chain
 chain_weaker R S weaker a (c ∷ cs) b chain = (weaker a c chain.0, chain_weaker R S weaker c cs b chain.1)
 
-pub ring_weaker : (R S : ℕ → ℕ → Type 0) → ((a b : ℕ) → R a b → S a b) → (ring : List ℕ) → IsRingBy R ring → IsRingBy S ring
-ring_weaker R S weaker [] ring = ring
-ring_weaker R S weaker (a ∷ rest) ring = chain_weaker R S weaker a rest a ring
+pub cycle_weaker : (R S : ℕ → ℕ → Type 0) → ((a b : ℕ) → R a b → S a b) → (cycle : List ℕ) → IsCycleBy R cycle → IsCycleBy S cycle
+cycle_weaker R S weaker [] cycle = cycle
+cycle_weaker R S weaker (a ∷ rest) cycle = chain_weaker R S weaker a rest a cycle
 
 pub loop_weaker : (B C : ℕ → Type 0) (L M : ℕ → ℕ → Type 0) (loop : List ℕ) → ((a : ℕ) → B a → C a) → ((a b : ℕ) → L a b → M a b) → IsLoopBy B L loop → IsLoopBy C M loop
 loop_weaker B C L M loop begin lead is =

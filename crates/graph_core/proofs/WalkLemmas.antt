@@ -3,12 +3,13 @@ use Rattle.std.proofs.Common.{◌≡◌, ◌∙◌, ap, sym, refl, inl, inr, ℕ
 use Rattle.std.proofs.lemmas.Option.{slice_get_within}
 use Rattle.std.specs.Prelude.{slice_get}
 use Rattle.std.proofs.Math.ListN.{set}
-use Rattle.graph_core.specs.Graph.{Graph, edges}
-use Rattle.graph_core.specs.Walking.{IsWalking, AreUnseen, IsMet, KeepsMet, StartsAt, LeadsBelow, weight, unseen, work}
+use Rattle.graph_core.specs.Graph.{Graph, edges, HasEdge, IsReached}
+use Rattle.graph_core.specs.Walking.{IsWalking, AreUnseen, IsMet, KeepsMet, MetAreReached, StartsAt, LeadsBelow, weight, unseen, work}
 use Rattle.graph_core.specs.declared.walk.Mark.{Mark}
 use Rattle.graph_core.specs.declared.walk.Mark.TheVariants.{Unseen, Open, Done}
 use Rattle.graph_core.specs.declared.walk.Frame.{Frame}
 use Rattle.graph_core.proofs.GraphLemmas.{nat_eq_or}
+use Rattle.graph_core.proofs.GroundLemmas.{path_more}
 use Rattle.graph_core.proofs.ListLemmas.{got_push, get_front, get_here, got_set, get_set_other, get_set_same, get_none, sum_by-set_at, sum_by-push, length-push}
 
 pub leads_kept : (graph : Graph) (marks marks' : List Mark) (point next rank rank' : ℕ) → ((t r : ℕ) → slice_get marks t ≡ Some (Done r) → slice_get marks' t ≡ Some (Done r)) → rank ≤ rank' → LeadsBelow graph marks point next rank → LeadsBelow graph marks' point next rank'
@@ -200,3 +201,26 @@ unseen_more marks each = λ point mark got. elim (got_push marks Unseen point ma
 
 pub starts_alone : (root : ℕ) → StartsAt root (record { point = root; next = 0 } ∷ [])
 starts_alone root f got = let f' : Frame = record { point = root; next = 0 } in let same : f' ≡ f = cc in sym (ap (λ (x : Frame). x.point) same)
+
+-- an edge leads from a point to which the roots lead
+pub reached_next : (graph : Graph) (roots : List ℕ) (a b : ℕ) → IsReached graph roots a → HasEdge graph a b → IsReached graph roots b
+reached_next graph roots a b reached edge = elim reached [
+  | inl w ↦ inr (a, [], w, edge)
+  | inr w ↦ inr (w.0, w.1 ++ a ∷ [], w.2, path_more graph w.0 w.1 a b w.3 edge)
+]
+
+-- a further point was met, to which the roots lead
+pub reached_set : (graph : Graph) (roots : List ℕ) (marks : List Mark) (i : ℕ) (mark : Mark) → IsReached graph roots i → MetAreReached graph roots marks → MetAreReached graph roots (set marks i mark)
+reached_set graph roots marks i mark here reached point met = elim (got_set marks i mark point met.0 met.1) [
+  | inl w ↦ rw w.0 here
+  | inr w ↦ reached point (met.0, w.1, met.2)
+]
+
+-- an open point was left, which was met before
+pub reached_left : (graph : Graph) (roots : List ℕ) (marks : List Mark) (i : ℕ) (was mark : Mark) → slice_get marks i ≡ Some was → (was ≡ Unseen → ⊥) → MetAreReached graph roots marks → MetAreReached graph roots (set marks i mark)
+reached_left graph roots marks i was mark here not reached = reached_set graph roots marks i mark (reached i (was, here, not)) reached
+
+-- an edge from an open point was followed
+pub reached_down : (graph : Graph) (roots : List ℕ) (marks : List Mark) (from : ℕ) (was : Mark) (k to : ℕ) (mark : Mark) → slice_get marks from ≡ Some was → (was ≡ Unseen → ⊥) → slice_get (edges graph from) k ≡ Some to → MetAreReached graph roots marks → MetAreReached graph roots (set marks to mark)
+reached_down graph roots marks from was k to mark here not edge reached =
+    reached_set graph roots marks to mark (reached_next graph roots from to (reached from (was, here, not)) (k, edge)) reached

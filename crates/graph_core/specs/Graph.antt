@@ -1,7 +1,7 @@
 -- Graphs: for each point, by its number, the list of the points to which its edges lead, in order.
 -- Source: a directed graph as adjacency lists, as in Tarjan, Depth-First Search and Linear Graph Algorithms, 1972.
-use Rattle.std.specs.Prelude.{◌≡◌, ℕ, ◌<◌, List, [], length, Some, slice_get, unwrap_or}
-use Rattle.graph_core.specs.Walk.{IsChain, IsRingBy}
+use Rattle.std.specs.Prelude.{◌≡◌, ◌⊎◌, ℕ, ◌<◌, List, [], length, Some, slice_get, unwrap_or}
+use Rattle.graph_core.specs.Walk.{IsChain, IsCycleBy}
 
 abbrev pub Graph : Type 0
 Graph = List (List ℕ)
@@ -27,5 +27,9 @@ abbrev pub IsPath : Graph → ℕ → List ℕ → ℕ → Type 0
 IsPath graph = IsChain (HasEdge graph)
 
 -- one or more points, of which each leads to the next and the last to the first
-abbrev pub IsRing : Graph → List ℕ → Type 0
-IsRing graph = IsRingBy (HasEdge graph)
+abbrev pub IsCycle : Graph → List ℕ → Type 0
+IsCycle graph = IsCycleBy (HasEdge graph)
+
+-- a root, or a point to which a path leads from one
+abbrev pub IsReached : Graph → List ℕ → ℕ → Type 0
+IsReached graph roots a = Has roots a ⊎ ((root : ℕ) × (between : List ℕ) × Has roots root × IsPath graph root between a)

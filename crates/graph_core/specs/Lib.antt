@@ -1,6 +1,6 @@
 pub mod Walk
 pub mod Graph
-pub mod Ring
+pub mod Cycle
 pub mod Arranged
 pub mod Fault
 pub mod Walking

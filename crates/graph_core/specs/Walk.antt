@@ -1,4 +1,4 @@
--- Chains, rings, and walks that go on until they meet a point again. Source: this project's own.
+-- Chains, cycles, and walks that go on until they meet a point again. Source: this project's own.
 use Rattle.std.specs.Prelude.{◌≡◌, ℕ, ◌<◌, ◌+◌, List, [], ◌∷◌, length, Some, slice_get, drop}
 
 -- from a over these points to b, each in the relation to the next
@@ -7,9 +7,9 @@ IsChain R a [] b = R a b
 IsChain R a (c ∷ cs) b = R a c × IsChain R c cs b
 
 -- one or more points, each in the relation to the next, and the last to the first
-abbrev pub IsRingBy : (ℕ → ℕ → Type 0) → List ℕ → Type 0
-IsRingBy R [] = ⊥
-IsRingBy R (a ∷ rest) = IsChain R a rest a
+abbrev pub IsCycleBy : (ℕ → ℕ → Type 0) → List ℕ → Type 0
+IsCycleBy R [] = ⊥
+IsCycleBy R (a ∷ rest) = IsChain R a rest a
 
 -- A walk over different points, from where walks begin, from each point to that to which it leads.
 pub record IsWalkBy (Begins : ℕ → Type 0) (Leads : ℕ → ℕ → Type 0) (walk : List ℕ) : Type 0 where

@@ -1,7 +1,7 @@
 -- A walk in depth on its way. Source: Tarjan, Depth-First Search and Linear Graph Algorithms, 1972.
 use Rattle.std.specs.Prelude.{◌≡◌, ℕ, ◌<◌, ◌+◌, ◌*◌, ◌-◌, ◌^◌, List, length, Some, slice_get, sum_by}
-use Rattle.graph_core.specs.Graph.{Graph, edges}
-use Rattle.graph_core.specs.Ring.{IsGrounded}
+use Rattle.graph_core.specs.Graph.{Graph, edges, IsReached}
+use Rattle.graph_core.specs.Cycle.{IsGrounded}
 use Rattle.graph_core.specs.declared.walk.Mark.{Mark}
 use Rattle.graph_core.specs.declared.walk.Mark.TheVariants.{Unseen, Open, Done}
 use Rattle.graph_core.specs.declared.walk.Frame.{Frame}
@@ -51,6 +51,10 @@ IsMet marks point = (mark : Mark) × (slice_get marks point ≡ Some mark) × (m
 
 abbrev pub KeepsMet : List Mark → List Mark → Type 0
 KeepsMet old new = (point : ℕ) → IsMet old point → IsMet new point
+
+-- the roots lead to each point that was met
+abbrev pub MetAreReached : Graph → List ℕ → List Mark → Type 0
+MetAreReached graph roots marks = (point : ℕ) → IsMet marks point → IsReached graph roots point
 
 abbrev pub AreUnseen : List Mark → Type 0
 AreUnseen marks = (point : ℕ) (mark : Mark) → slice_get marks point ≡ Some mark → mark ≡ Unseen

@@ -1,7 +1,7 @@
-//! Orders and rings of small graphs.
+//! Orders and cycles of small graphs.
 ghost use Rattle.std.specs.Prelude.{◌<◌, All, IsTrue};
 
-use crate::{Graph, RingFault, arrange};
+use crate::{CycleFault, Graph, arrange};
 use std::alloc::{AllocError, Global};
 use std::test::Fail;
 
@@ -29,8 +29,8 @@ fn graph_of(alloc: Global, points: u32, edges: &[(u32, &[u32])]) -> Result<Graph
     Ok(graph)
 }
 
-// The order or the ring, of roots that are points.
-fn answer(alloc: Global, graph: &Graph, roots: &[u32]) -> Result<Vec<u32>, RingFault> {
+// The order or the cycle, of roots that are points.
+fn answer(alloc: Global, graph: &Graph, roots: &[u32]) -> Result<Vec<u32>, CycleFault> {
     if are_below(roots, graph.points()) {
         arrange(alloc, graph, roots)
     } else {
@@ -38,12 +38,12 @@ fn answer(alloc: Global, graph: &Graph, roots: &[u32]) -> Result<Vec<u32>, RingF
     }
 }
 
-// The ring that a walk from these roots finds; no points where there is none.
-fn ring(alloc: Global, graph: &Graph, roots: &[u32]) -> Result<Vec<u32>, RingFault> {
+// The cycle that a walk from these roots finds; no points where there is none.
+fn cycle(alloc: Global, graph: &Graph, roots: &[u32]) -> Result<Vec<u32>, CycleFault> {
     match answer(alloc, graph, roots) {
         Ok(_) => Ok(Vec::new(alloc)),
-        Err(RingFault::Ring { points }) => Ok(points),
-        Err(RingFault::OutOfMemory) => Err(RingFault::OutOfMemory),
+        Err(CycleFault::Cycle { points }) => Ok(points),
+        Err(CycleFault::OutOfMemory) => Err(CycleFault::OutOfMemory),
     }
 }
 
@@ -72,17 +72,17 @@ fn orders(rt: HostRuntime) -> Result<(), Fail> {
 }
 
 #[test]
-fn rings(rt: HostRuntime) -> Result<(), Fail> {
+fn cycles(rt: HostRuntime) -> Result<(), Fail> {
     let alloc = rt.alloc();
-    // a ring of one point
+    // a cycle of one point
     let one = graph_of(alloc, 2, &[(0, &[1]), (1, &[1])])?;
-    assert_eq!(rt; ring(alloc, &one, &[0])?.as_slice(), [1].as_slice());
-    // of two, found from another point, which leads to a point in no ring first
+    assert_eq!(rt; cycle(alloc, &one, &[0])?.as_slice(), [1].as_slice());
+    // of two, found from another point, which leads to a point in no cycle first
     let two = graph_of(alloc, 4, &[(0, &[3, 1]), (1, &[2]), (2, &[3, 1])])?;
-    assert_eq!(rt; ring(alloc, &two, &[3, 0])?.as_slice(), [1, 2].as_slice());
-    assert_eq!(rt; ring(alloc, &two, &[2])?.as_slice(), [2, 1].as_slice());
-    assert_eq!(rt; ring(alloc, &two, &[3])?.as_slice(), [].as_slice());
-    // of five, where a second ring is not named
+    assert_eq!(rt; cycle(alloc, &two, &[3, 0])?.as_slice(), [1, 2].as_slice());
+    assert_eq!(rt; cycle(alloc, &two, &[2])?.as_slice(), [2, 1].as_slice());
+    assert_eq!(rt; cycle(alloc, &two, &[3])?.as_slice(), [].as_slice());
+    // of five, where a second cycle is not named
     let five = graph_of(
         alloc,
         7,
@@ -96,11 +96,11 @@ fn rings(rt: HostRuntime) -> Result<(), Fail> {
         ],
     )?;
     assert_eq!(rt;
-        ring(alloc, &five, &[5, 6])?.as_slice(),
+        cycle(alloc, &five, &[5, 6])?.as_slice(),
         [3, 4, 0, 1, 2].as_slice()
     );
     assert_eq!(rt;
-        ring(alloc, &five, &[1])?.as_slice(),
+        cycle(alloc, &five, &[1])?.as_slice(),
         [1, 2, 3, 4, 0].as_slice()
     );
     Ok(())

@@ -1,12 +1,12 @@
-//! A walk in depth, with a stack of its own, which puts points in an order or finds a ring.
+//! A walk in depth, with a stack of its own, which puts points in an order or finds a cycle.
 ghost use Rattle.std.specs.Prelude.{◌≡◌, ◌<◌, ◌≤◌, ◌+◌, ◌^◌, ◌++◌, ◌∷◌, [], ℕ, All, IfErr, IfOk, IfSome, List, OnOk, Some, drop, length, map, slice_get, slice_set, vec_len};
 ghost use Rattle.graph_core.specs.Arranged.{IsArranged};
-ghost use Rattle.graph_core.specs.Fault.{IsRingFault};
-ghost use Rattle.graph_core.specs.Graph.{edges};
-ghost use Rattle.graph_core.specs.Walking.{AreUnseen, EarlierAreGrounded, IsMet, IsWalking, KeepsMet, StartsAt, work};
+ghost use Rattle.graph_core.specs.Fault.{IsCycleFault};
+ghost use Rattle.graph_core.specs.Graph.{edges, Has};
+ghost use Rattle.graph_core.specs.Walking.{AreUnseen, EarlierAreGrounded, IsMet, IsWalking, KeepsMet, MetAreReached, StartsAt, work};
 ghost use Rattle.graph_core.specs.declared.walk.Mark.TheVariants.{Unseen, Open, Done};
 
-use crate::{Graph, RingFault};
+use crate::{CycleFault, Graph};
 use std::alloc::{AllocError, Global};
 
 // What the walk knows of a point: its place on the stack, or its place in the order.
@@ -24,19 +24,20 @@ struct Frame {
     next: usize,
 }
 
-/// The roots, which are points of the graph, and the points to which they lead, each once and each after those to which
-/// it leads.
-/// Where a root leads into a ring, it is the ring that a walk finds, which begins at the first such root
-/// and goes from each point to the first one that leads into a ring, until it meets a point again.
-pub fn arrange(alloc: Global, graph: &Graph, roots: &[u32]) -> Result<Vec<u32>, RingFault>
+/// The roots, which are points of the graph, and the points to which they lead and no others, each once and each after
+/// those to which it leads.
+/// Where a root leads into a cycle, it is the cycle that a walk finds, which begins at the first such root
+/// and goes from each point to the first one that leads into a cycle, until it meets a point again.
+pub fn arrange(alloc: Global, graph: &Graph, roots: &[u32]) -> Result<Vec<u32>, CycleFault>
     requires { All (λ a. a < length graph.now) roots.now }
     ensures arranged { IfOk result (λ order. IsArranged graph.now roots.now order.items) }
-    ensures ring { IfErr result (λ fault. IsRingFault graph.now roots.now fault) }
+    ensures cycle { IfErr result (λ fault. IsCycleFault graph.now roots.now fault) }
 {
     let mut marks = unseen_marks(alloc, graph.points())?;
+    let mut stack = Vec::new(alloc);
     let mut order = Vec::new(alloc);
     for root in roots {
-        visit_root(alloc, graph, *root, &mut marks, &mut order)?;
+        visit_root(alloc, graph, *root, &mut marks, &mut stack, &mut order)?;
     }
     Ok(order)
 }
@@ -45,7 +46,7 @@ fn unseen_marks(alloc: Global, points: usize) -> Result<Vec<Mark>, AllocError>
     ensures long { IfOk result (λ marks. vec_len marks ≡ points) }
     ensures each { IfOk result (λ marks. AreUnseen marks.items) }
 {
-    let mut marks = Vec::new(alloc);
+    let mut marks = Vec::with_capacity(alloc, points)?;
     for _ in 0..points {
         marks.push(Mark::Unseen)?;
     }
@@ -58,18 +59,22 @@ fn visit_root(
     graph: &Graph,
     root: u32,
     marks: &mut Vec<Mark>,
+    stack: &mut Vec<Frame>,
     order: &mut Vec<u32>,
-) -> Result<(), RingFault>
+) -> Result<(), CycleFault>
     requires root { root < length graph.now }
     requires walk { IsWalking graph.now marks.old.items [] order.old.items }
+    requires stack { stack.old.items ≡ [] }
     ensures walk { OnOk result (IsWalking graph.now marks.new.items [] order.new.items) }
+    ensures stack { OnOk result (stack.new.items ≡ []) }
     ensures met { OnOk result (KeepsMet marks.old.items marks.new.items) }
     ensures root { OnOk result (IsMet marks.new.items root) }
-    ensures ring { (roots : List ℕ) (i : ℕ) → EarlierAreGrounded graph.now roots root i → IfErr result (λ fault. IsRingFault graph.now roots fault) }
+    ensures only { OnOk result ((roots : List ℕ) → Has roots root → MetAreReached graph.now roots marks.old.items → MetAreReached graph.now roots marks.new.items) }
+    ensures cycle { (roots : List ℕ) (i : ℕ) → EarlierAreGrounded graph.now roots root i → IfErr result (λ fault. IsCycleFault graph.now roots fault) }
 {
     match marks[root as usize] {
         Mark::Open(_) | Mark::Done(_) => Ok(()),
-        Mark::Unseen => visit(alloc, graph, root, marks, order),
+        Mark::Unseen => visit(alloc, graph, root, marks, stack, order),
     }
 }
 
@@ -79,35 +84,39 @@ fn visit(
     graph: &Graph,
     root: u32,
     marks: &mut Vec<Mark>,
+    stack: &mut Vec<Frame>,
     order: &mut Vec<u32>,
-) -> Result<(), RingFault>
+) -> Result<(), CycleFault>
     requires root { slice_get marks.old.items root ≡ Some Unseen }
     requires walk { IsWalking graph.now marks.old.items [] order.old.items }
+    requires stack { stack.old.items ≡ [] }
     ensures walk { OnOk result (IsWalking graph.now marks.new.items [] order.new.items) }
+    ensures stack { OnOk result (stack.new.items ≡ []) }
     ensures met { OnOk result (KeepsMet marks.old.items marks.new.items) }
     ensures root { OnOk result (IsMet marks.new.items root) }
-    ensures ring { (roots : List ℕ) (i : ℕ) → EarlierAreGrounded graph.now roots root i → IfErr result (λ fault. IsRingFault graph.now roots fault) }
+    ensures only { OnOk result ((roots : List ℕ) → Has roots root → MetAreReached graph.now roots marks.old.items → MetAreReached graph.now roots marks.new.items) }
+    ensures cycle { (roots : List ℕ) (i : ℕ) → EarlierAreGrounded graph.now roots root i → IfErr result (λ fault. IsCycleFault graph.now roots fault) }
 {
-    let mut stack = begin(alloc, root, marks)?;
+    begin(root, marks, stack)?;
     while let Some(frame) = stack.pop() {
-        step(alloc, graph, frame, marks, &mut stack, order)?;
+        step(alloc, graph, frame, marks, stack, order)?;
     }
     Ok(())
 }
 
-// The stack with the root alone.
-fn begin(alloc: Global, root: u32, marks: &mut Vec<Mark>) -> Result<Vec<Frame>, AllocError>
+// Puts the root alone on the empty stack.
+fn begin(root: u32, marks: &mut Vec<Mark>, stack: &mut Vec<Frame>) -> Result<(), AllocError>
     requires root { slice_get marks.old.items root ≡ Some Unseen }
-    ensures stack { IfOk result (λ stack. stack.items ≡ record { point = root; next = 0 } ∷ []) }
+    requires stack { stack.old.items ≡ [] }
+    ensures stack { OnOk result (stack.new.items ≡ record { point = root; next = 0 } ∷ []) }
     ensures marks { OnOk result (marks.new.items ≡ slice_set marks.old.items root (Open 0)) }
 {
-    let mut stack = Vec::new(alloc);
     stack.push(Frame {
         point: root,
         next: 0,
     })?;
     marks[root as usize] = Mark::Open(0);
-    Ok(stack)
+    Ok(())
 }
 
 // Leaves the point of the frame, or follows its next edge.
@@ -118,13 +127,14 @@ fn step(
     marks: &mut Vec<Mark>,
     stack: &mut Vec<Frame>,
     order: &mut Vec<u32>,
-) -> Result<(), RingFault>
+) -> Result<(), CycleFault>
     requires { IsWalking graph.now marks.old.items (stack.old.items ++ frame ∷ []) order.old.items }
     ensures walk { OnOk result (IsWalking graph.now marks.new.items stack.new.items order.new.items) }
     ensures first { OnOk result ((root : ℕ) → StartsAt root (stack.old.items ++ frame ∷ []) → StartsAt root stack.new.items) }
     ensures met { OnOk result (KeepsMet marks.old.items marks.new.items) }
+    ensures only { OnOk result ((roots : List ℕ) → MetAreReached graph.now roots marks.old.items → MetAreReached graph.now roots marks.new.items) }
     ensures work { OnOk result (work marks.new.items stack.new.items < work marks.old.items (stack.old.items ++ frame ∷ [])) }
-    ensures ring { (root : ℕ) (roots : List ℕ) (i : ℕ) → StartsAt root (stack.old.items ++ frame ∷ []) → EarlierAreGrounded graph.now roots root i → IfErr result (λ fault. IsRingFault graph.now roots fault) }
+    ensures cycle { (root : ℕ) (roots : List ℕ) (i : ℕ) → StartsAt root (stack.old.items ++ frame ∷ []) → EarlierAreGrounded graph.now roots root i → IfErr result (λ fault. IsCycleFault graph.now roots fault) }
 {
     match next_edge(graph, frame) {
         None => {
@@ -133,8 +143,8 @@ fn step(
         }
         Some(to) => match marks[to as usize] {
             Mark::Open(from) => {
-                let points = ring_points(alloc, stack, frame, from)?;
-                Err(RingFault::Ring { points })
+                let points = cycle_points(alloc, stack, frame, from)?;
+                Err(CycleFault::Cycle { points })
             }
             Mark::Done(_) => {
                 advance(frame, stack)?;
@@ -206,7 +216,7 @@ fn descend(
 }
 
 // The points of the walk from this place on.
-fn ring_points(
+fn cycle_points(
     alloc: Global,
     stack: &[Frame],
     frame: Frame,

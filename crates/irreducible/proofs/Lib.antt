@@ -4,3 +4,4 @@ pub mod InverseLaws
 pub mod MatrixLaws
 pub mod InverseMatrixLaws
 mod Examples
+pub mod KernelLemmas

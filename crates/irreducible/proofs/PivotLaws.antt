@@ -14,14 +14,14 @@ use Rattle.irreducible.specs.SpanLaws.{combination_zero, combination-xor, combin
 use Rattle.irreducible.specs.Pivots.{IsTop, ByTop, IsReduced, IsRankSoFar}
 
 -- ---- highest bits
-top_bit : (t w : ℕ) → IsTop t w → bit_at w t ≡ 1
+pub top_bit : (t w : ℕ) → IsTop t w → bit_at w t ≡ 1
 top_bit t w h = ap (λ x. x % 2) (div-eq_of_lt-le {k = 1} (2 ^ t) (omega (arith, h.low)) (omega (arith, h.high, pow-suc 2 t)))
 
-top_above : (t w i : ℕ) → IsTop t w → t < i → bit_at w i ≡ 0
+pub top_above : (t w i : ℕ) → IsTop t w → t < i → bit_at w i ≡ 0
 top_above t w i h l = bit_at_above w (suc t) i h.high l
 
 -- a number with a lower highest bit leaves that bit
-top_xor : (t a b : ℕ) → a < 2 ^ t → IsTop t b → IsTop t (bit_xor a b)
+pub top_xor : (t a b : ℕ) → a < 2 ^ t → IsTop t b → IsTop t (bit_xor a b)
 top_xor t a b h k = record { low = whole (bit_xor a b / 2 ^ t) (bit_xor a b % 2 ^ t) (bit_xor a b) (2 ^ t) (shr_split (bit_xor a b) t) one; high = xor_lt (suc t) a b (omega (arith, pow-suc 2 t)) k.high }
   where
     one : bit_xor a b / 2 ^ t ≡ 1

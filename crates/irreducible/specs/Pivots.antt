@@ -33,3 +33,11 @@ pub record IsRankSoFar (rows pivots : List ℕ) (i r : ℕ) : Type 0 where
 pub record AreChoices (rows pivots choices : List ℕ) : Type 0 where
   pub makes : (t : ℕ) → combination rows (slice_index choices t) ≡ slice_index pivots t
   pub below : (t : ℕ) → slice_index choices t < 2 ^ length rows
+
+-- the vectors after the first i rows: at each place a choice of rows with the sum 0 whose highest bit stands there, or 0,
+-- and one wherever there is such a choice among these rows
+pub record IsKernelSoFar (rows vectors : List ℕ) (i : ℕ) : Type 0 where
+  pub zero_sum : (t : ℕ) → combination rows (slice_index vectors t) ≡ 0
+  pub tops : ByTop vectors
+  pub later : (t : ℕ) → i ≤ t → slice_index vectors t ≡ 0
+  pub complete : (v t : ℕ) → t < i → combination rows v ≡ 0 → IsTop t v → IsTop t (slice_index vectors t)

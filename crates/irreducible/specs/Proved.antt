@@ -3,5 +3,5 @@ use Rattle.gf_field.specs.declared.rings.Ring.{Ghosts}
 use Rattle.irreducible.specs.declared.proved_rings.Proved.{Proved}
 
 -- the ring
-abbrev pub ring_of : {R : Type 0} {G : Ghosts R} → Proved R G → R
+abbrev pub ring_of : {R T : Type 0} {G : Ghosts R T} → Proved R T G → R
 ring_of field = field.ring

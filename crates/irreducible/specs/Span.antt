@@ -23,3 +23,7 @@ pub record IsRank (rows : List ℕ) (r : ℕ) : Type 0 where
   pub independent : IsIndependent basis
   pub inside : (c : ℕ) → InSpan rows (combination basis c)
   pub spans : (c : ℕ) → InSpan basis (combination rows c)
+
+-- rows have at most one rank
+abbrev pub HasOnlyRank : Type 0
+HasOnlyRank = (rows : List ℕ) (r s : ℕ) → IsRank rows r → IsRank rows s → r ≡ s

@@ -1,8 +1,8 @@
 //! Square matrices of bits.
 
 ghost use Rattle.std.specs.Prelude.{◌≡◌, ◌<◌, ◌≤◌, ◌^◌, ◌↔◌, length, take, IsSome, IfSome};
-ghost use Rattle.irreducible.specs.Span.{combination, IsIndependent, IsRank};
-ghost use Rattle.irreducible.specs.Matrix.{IsSquare, AreInverse};
+ghost use Rattle.irreducible.specs.Span.{combination, InSpan, IsIndependent, IsRank};
+ghost use Rattle.irreducible.specs.Matrix.{IsSquare, IsKernel, IsLeastSolution, AreInverse};
 
 use super::elimination::{combined, eliminated, rank_of, reduced};
 use gf_field::filled;
@@ -55,6 +55,27 @@ impl BitMatrix {
             rows,
             count: self.count,
         })
+    }
+
+    /// Words whose entries that are not 0 are independent and span the `v` with `apply(v) = 0`.
+    pub fn kernel(&self) -> [u64; 64]
+        ensures { IsKernel (rows_of self.now) result }
+    {
+        eliminated(&self.rows[..self.count as usize]).vectors
+    }
+
+    /// The least `v` with `apply(v) = w`; none exactly where there is none.
+    pub fn solve(&self, w: u64) -> Option<u64>
+        ensures found { IsSome result ↔ InSpan (rows_of self.now) w }
+        ensures least { IfSome result (λ v. IsLeastSolution (rows_of self.now) w v) }
+    {
+        let pivots = eliminated(&self.rows[..self.count as usize]);
+        let step = reduced(&pivots.sums, w);
+        if step.left != 0 {
+            return None;
+        }
+        let found = combined(&pivots.choices, step.used);
+        Some(reduced(&pivots.vectors, found).left)
     }
 
     /// The exclusive or of the rows i with bit i of `v` set; `v` is below 2^n.

@@ -2,7 +2,7 @@
 
 ghost use Rattle.std.specs.Prelude.{◌≡◌, ◌<◌, ◌≤◌, ◌^◌, length};
 ghost use Rattle.irreducible.specs.Span.{combination, IsRank};
-ghost use Rattle.irreducible.specs.Pivots.{ByTop, IsReduced, IsRankSoFar, AreChoices};
+ghost use Rattle.irreducible.specs.Pivots.{ByTop, IsReduced, IsRankSoFar, IsKernelSoFar, AreChoices};
 
 /// What is left of a row, and which pivots were taken away, bit t for the pivot at place t.
 #[derive(Drop)]
@@ -11,11 +11,13 @@ pub struct Reduction {
     pub used: u64,
 }
 
-/// At each place a sum of rows whose highest bit stands there, or 0; which rows it is the sum of; and the rank.
+/// At each place a sum of rows whose highest bit stands there, or 0; which rows it is the sum of; at each place a choice
+/// of rows with the sum 0 whose highest bit stands there, or 0; and the rank.
 #[derive(Drop)]
 pub struct Pivots {
     pub sums: [u64; 64],
     pub choices: [u64; 64],
+    pub vectors: [u64; 64],
     pub rank: u32,
 }
 
@@ -54,9 +56,11 @@ pub fn eliminated(rows: &[u64]) -> Pivots
     requires { length rows.now ≤ 64 }
     ensures rank { IsRankSoFar rows.now result.sums (length rows.now) result.rank }
     ensures choices { AreChoices rows.now result.sums result.choices }
+    ensures kernel { IsKernelSoFar rows.now result.vectors (length rows.now) }
 {
     let mut sums = [0; 64];
     let mut choices = [0; 64];
+    let mut vectors = [0; 64];
     let mut rank = 0;
     for (i, row) in rows.iter().enumerate() {
         let step = reduced(&sums, *row);
@@ -65,11 +69,14 @@ pub fn eliminated(rows: &[u64]) -> Pivots
             choices[place] = (1 << i) ^ combined(&choices, step.used);
             sums[place] = step.left;
             rank += 1;
+        } else {
+            vectors[i] = (1 << i) ^ combined(&choices, step.used);
         }
     }
     Pivots {
         sums,
         choices,
+        vectors,
         rank,
     }
 }

@@ -4,10 +4,12 @@
 
 mod bit_matrix;
 mod elimination;
+mod laws;
 mod proved_rings;
 #[cfg(test)]
 mod tests;
 
 pub use bit_matrix::BitMatrix;
 pub use elimination::combined;
+pub use laws::only_rank;
 pub use proved_rings::Proved;

@@ -56,9 +56,13 @@ impl<R: Ring> Proved<R> {
 impl<R: Ring> Ring for Proved<R> {
     ghost use Rattle.irreducible.specs.Proved.{ring_of};
 
+    type Times = R::Times;
+
     ghost degree = { λ field. R.degree (ring_of field) };
 
     ghost product = { λ field. R.product (ring_of field) };
+
+    ghost is_table = { λ field table a. R.is_table (ring_of field) table a };
 
     ghost laws = { λ field. R.laws (ring_of field) };
 
@@ -80,6 +84,14 @@ impl<R: Ring> Ring for Proved<R> {
 
     fn square(&self, a: u64) -> u64 {
         self.ring.square(a)
+    }
+
+    fn times(&self, a: u64) -> R::Times {
+        self.ring.times(a)
+    }
+
+    fn by(&self, table: &R::Times, b: u64) -> u64 {
+        self.ring.by(table, b)
     }
 }
 

@@ -109,3 +109,18 @@ fn traces(rt: HostRuntime) {
         assert_eq!(rt; trace(&field, a), want);
     }
 }
+
+#[test]
+fn solutions(rt: HostRuntime) {
+    // rows 011, 110, 101 add up to 0
+    let dependent = BitMatrix::new(&[3, 6, 5]);
+    let kernel = dependent.kernel();
+    assert_eq!(rt; kernel[2], 7);
+    assert_eq!(rt; kernel[0], 0);
+    assert_eq!(rt; dependent.solve(5), Some(3));
+    assert_eq!(rt; dependent.solve(0), Some(0));
+    assert_eq!(rt; dependent.solve(1), None);
+    let matrix = BitMatrix::new(&[3, 6, 4]);
+    assert_eq!(rt; matrix.kernel()[2], 0);
+    assert_eq!(rt; matrix.solve(1), Some(7));
+}

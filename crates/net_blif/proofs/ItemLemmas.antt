@@ -2,39 +2,39 @@
 use Rattle.std.proofs.Common.{◌≡◌, subst, ℕ, zero, suc, ◌<◌, List, [], ◌∷◌, ◌++◌, length, Some, arith}
 use Rattle.std.specs.Prelude.{All}
 use Rattle.std.proofs.lemmas.List.{get_or_append_left}
-use Rattle.net_core.specs.Inside.{IsNetName}
 use Rattle.net_blif.specs.Statement.{Token, IsToken, spelled}
 use Rattle.net_blif.specs.Spelling.{statement_of}
-use Rattle.net_blif.specs.Item.{HasNetNames}
+use Rattle.net_blif.specs.Item.{HasPrintingNames}
 use Rattle.net_blif.specs.declared.statement.Statement.{Statement}
 use Rattle.net_blif.specs.declared.statement.Statement.TheVariants.{Model, Inputs, Outputs, Clock, Cover, Row, End, Other}
 use Rattle.net_blif.proofs.StatementLemmas.{read_spells}
 
-names_rest : (word : Token) (nets : List Token) → All IsToken (word ∷ nets) → All IsNetName nets
-names_rest word nets all = λ k d less. let h = all (suc k) d (omega arith) in (h.0, h.1)
+names_rest : (word : Token) (nets : List Token) → All IsToken (word ∷ nets) → All IsToken nets
+names_rest word nets all = λ k d less. all (suc k) d (omega arith)
 
-names_front : (xs : List Token) (y : Token) → All IsNetName (xs ++ y ∷ []) → All IsNetName xs
-names_front xs y all = λ k d less. let P : Token → Type 0 = IsNetName in subst P (get_or_append_left xs (y ∷ []) d k less) (all k d (below xs k less))
+names_front : (xs : List Token) (y : Token) → All IsToken (xs ++ y ∷ []) → All IsToken xs
+names_front xs y all = λ k d less. let P : Token → Type 0 = IsToken in subst P (get_or_append_left xs (y ∷ []) d k less) (all k d (below xs k less))
   where
     below : (xs : List Token) (k : ℕ) → k < length xs → k < length (xs ++ y ∷ [])
     below [] k less = absurd (omega arith)
     below (x ∷ xs) zero less = omega arith
     below (x ∷ xs) (suc k) less = let h = below xs k (omega arith) in omega (arith, h)
 
-name_last : (xs : List Token) (y : Token) → All IsNetName (xs ++ y ∷ []) → IsNetName y
+name_last : (xs : List Token) (y : Token) → All IsToken (xs ++ y ∷ []) → IsToken y
 name_last [] y all = all zero [] (omega arith)
 name_last (x ∷ xs) y all = name_last xs y (λ k d less. all (suc k) d (omega arith))
 
-spelled_names : (s : Statement) → All IsToken (spelled s) → HasNetNames s
-spelled_names (Model name) all = tt
+spelled_names : (s : Statement) → All IsToken (spelled s) → HasPrintingNames s
+spelled_names (Model []) all = λ k d less. absurd (omega (arith, less))
+spelled_names (Model (b ∷ bs)) all = (all 1 [] (omega arith)).2
 spelled_names (Inputs nets) all = names_rest _ nets all
 spelled_names (Outputs nets) all = names_rest _ nets all
 spelled_names (Clock nets) all = tt
 spelled_names (Cover inputs out) all = let nets = names_rest _ (inputs ++ out ∷ []) all in (names_front inputs out nets, name_last inputs out nets)
 spelled_names (Row pattern output) all = tt
 spelled_names End all = tt
-spelled_names (Other word rest) all = tt
+spelled_names (Other word rest) all = (all 0 [] (omega arith)).2
 
 -- the nets of a statement that is read have names
-pub read_names : (tokens : List Token) (s : Statement) → All IsToken tokens → statement_of tokens ≡ Some s → HasNetNames s
+pub read_names : (tokens : List Token) (s : Statement) → All IsToken tokens → statement_of tokens ≡ Some s → HasPrintingNames s
 read_names tokens s all is = let P : List Token → Type 0 = All IsToken in spelled_names s (subst P (read_spells tokens s all is).0 all)

@@ -1,6 +1,8 @@
 pub mod DesignLemmas
 pub mod ItemLemmas
 pub mod LineLemmas
+pub mod TokenLemmas
+pub mod PlaceLemmas
 pub mod WordLemmas
 pub mod StatementLemmas
 pub mod ReadLemmas

@@ -1,7 +1,9 @@
 pub mod Lines
 pub mod Statement
+pub mod Tokens
 pub mod Cover
 pub mod Item
+pub mod Places
 pub mod Design
 pub mod Models
 pub mod Flat

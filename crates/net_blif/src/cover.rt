@@ -1,11 +1,11 @@
 //! Covers and their tables.
-ghost use Rattle.std.specs.Prelude.{◌≡◌, ◌<◌, ◌≤◌, ◌+◌, ◌*◌, ◌^◌, [], Some, length, All, IfOk, if◌then◌else◌};
-ghost use Rattle.net_core.specs.Inside.{IsNetName};
-ghost use Rattle.net_blif.specs.Item.{IsSoundItem};
+ghost use Rattle.std.specs.Prelude.{◌≡◌, ◌<◌, ◌≤◌, ◌+◌, ◌*◌, ◌^◌, ◌++◌, ◌∷◌, [], Some, length, OnOk, OnErr, if◌then◌else◌};
+ghost use Rattle.net_blif.specs.Item.{IsSoundCover};
 ghost use Rattle.net_blif.specs.Cover.{fits as row_fits, cell_fits as fits_cell, fits_some as some_fits, gate_bit as bit_of_gate, agrees as may_agree, number_of_bits, begun, gate_of, takes_row, with_row};
 
-use crate::item::Item;
-use net_core::{Name, Names};
+use crate::item_list::ItemList;
+use crate::token::Token;
+use crate::token_list::{TokenList, TokenSlice};
 use std::alloc::{AllocError, Global};
 use std::marker::Model;
 
@@ -13,71 +13,71 @@ use std::marker::Model;
 #[derive(Drop)]
 pub struct Cover {
     line: u32,
-    inputs: Names,
-    out: Name,
+    inputs: TokenList,
+    out: Vec<u8>,
     output: Option<bool>,
-    rows: Vec<Name>,
+    rows: TokenList,
 }
 
 impl Model for Cover {
-    ghost use Rattle.std.specs.Prelude.{length, ◌≤◌, All};
-    ghost use Rattle.net_core.specs.Inside.{IsNetName};
     ghost use Rattle.net_blif.specs.Cover.{CoverValue};
 
     ghost Value = { CoverValue };
 
-    ghost view = { λ c. record { line = c.line; inputs = c.inputs; out = c.out; output = c.output; rows = c.rows.items } };
-
-    ghost invariant = { λ c. (length c.inputs ≤ 6) × All IsNetName c.inputs × IsNetName c.out };
+    ghost view = { λ c. record { line = c.line; inputs = c.inputs; out = c.out.items; output = c.output; rows = c.rows } };
 }
 
 impl Cover {
-    /// A cover that has begun at this line. It takes no memory.
-    pub fn new(alloc: Global, line: u32, inputs: Names, out: Name) -> Cover
-        requires few { length inputs ≤ 6 }
-        requires inputs { All IsNetName inputs }
-        requires out { IsNetName out }
-        ensures { result ≡ begun line inputs out }
-    {
+    /// A cover of no nets. It takes no memory.
+    pub fn new(alloc: Global) -> Cover {
         Cover {
-            line,
-            inputs,
-            out,
+            line: 0,
+            inputs: TokenList::new(alloc),
+            out: Vec::new(alloc),
             output: None,
-            rows: Vec::new(alloc),
+            rows: TokenList::new(alloc),
         }
+    }
+
+    /// Begins a cover at this line. An error leaves some cover.
+    pub fn begin(&mut self, line: u32, inputs: &[Token<'_>], out: &[u8]) -> Result<(), AllocError>
+        ensures { OnOk result (self.new ≡ begun line inputs.now out.now) }
+    {
+        self.line = line;
+        self.output = None;
+        self.rows.clear();
+        self.inputs.clear();
+        self.inputs.push_all(inputs)?;
+        self.out.clear();
+        self.out.extend_from_slice(out)?;
+        Ok(())
     }
 
     /// Whether this may be the next row.
-    pub fn takes(&self, pattern: &str, output: bool) -> bool
+    pub fn takes(&self, pattern: &[u8], output: bool) -> bool
         ensures { result ≡ takes_row pattern.now output self.now }
     {
-        pattern.len() == self.inputs.as_slice().len() && agrees(self.output, output)
+        pattern.len() == self.inputs.len() && agrees(self.output, output)
     }
 
-    /// With one more row.
-    pub fn with_row(self, pattern: Name, output: bool) -> Result<Cover, AllocError>
-        ensures { IfOk result (λ cover. cover ≡ with_row pattern output self) }
+    /// One more row.
+    pub fn add_row(&mut self, pattern: &[u8], output: bool) -> Result<(), AllocError>
+        ensures made { OnOk result (self.new ≡ with_row pattern.now output self.old) }
+        ensures unchanged { OnErr result (self.new ≡ self.old) }
     {
-        let mut cover = self;
-        cover.rows.push(pattern)?;
-        cover.output = Some(output);
-        Ok(cover)
+        self.rows.push(pattern)?;
+        self.output = Some(output);
+        Ok(())
     }
 
-    /// The gate that it describes.
-    pub fn gate(self) -> Item
-        ensures gate { result ≡ gate_of self }
-        ensures sound { IsSoundItem result }
+    /// Places the gate that it describes behind these items.
+    pub fn place(&self, items: &mut ItemList) -> Result<(), AllocError>
+        requires { IsSoundCover self.now }
+        ensures { OnOk result (items.new ≡ items.old ++ gate_of self.now ∷ []) }
     {
-        let count = self.inputs.as_slice().len() as u32;
-        let table = table(count, self.output, &self.rows);
-        Item::Gate {
-            line: self.line,
-            inputs: self.inputs,
-            out: self.out,
-            table,
-        }
+        let inputs = self.inputs.all();
+        let table = table(inputs.len() as u32, self.output, &self.rows.all());
+        items.push_gate(self.line, &inputs, &self.out, table)
     }
 }
 
@@ -114,10 +114,16 @@ fn fits(pattern: &[u8], index: u32) -> bool
     }
 }
 
-fn fits_some(rows: &[Name], index: u32) -> bool
+// Whether a row fits an index.
+fn fits_some(rows: &TokenSlice<'_>, index: u32) -> bool
     ensures { result ≡ some_fits rows.now index }
 {
-    rows.iter().any(|row| fits(row.as_str().as_bytes(), index))
+    for place in 0..rows.len() {
+        if fits(rows.get(place), index) {
+            return true;
+        }
+    }
+    false
 }
 
 // A bit of the table.
@@ -159,7 +165,7 @@ fn size(inputs: u32) -> u32
 }
 
 // The table of a cover with this output and these rows.
-fn table(inputs: u32, output: Option<bool>, rows: &[Name]) -> u64
+fn table(inputs: u32, output: Option<bool>, rows: &TokenSlice<'_>) -> u64
     requires { inputs ≤ 6 }
     ensures small { result < 2 ^ (2 ^ inputs) }
     ensures bits { result ≡ number_of_bits (λ index. bit_of_gate output (some_fits rows.now index)) (2 ^ inputs) }

@@ -1,44 +1,37 @@
 //! Designs: the models of a text.
-ghost use Rattle.std.specs.Prelude.{◌≡◌, ℕ, List, is_some, if◌then◌else◌, ◌<◌, ◌++◌, ◌∷◌, [], Some, length, slice_get, All, IfOk, None};
+ghost use Rattle.std.specs.Prelude.{◌≡◌, ℕ, List, is_some, if◌then◌else◌, ◌<◌, ◌++◌, ◌∷◌, [], Some, length, slice_get, IfOk, IfSome, IfNone};
 ghost use Rattle.std.specs.Str.{bytes_eq};
 ghost use Rattle.indexmap.specs.IndexMap.{get_by_text};
-ghost use Rattle.net_blif.specs.Item.{IsSoundItem};
 ghost use Rattle.net_blif.specs.Design.{ModelValue, items_of, model_from, model_named};
 
-use crate::item::Item;
+use crate::item_list::ItemList;
 use indexmap::IndexMap;
-use net_core::Name;
+use net_core::{KeyedHash, Name};
 use std::alloc::{AllocError, Global};
-use std::hash::{BuildHasherDefault, DefaultHasher};
 use std::marker::Model;
 
-// The number of each name. SipHash, since names that collide in the map's usual hash are easily made.
-type Numbers = IndexMap<String, u32, BuildHasherDefault<DefaultHasher>>;
+// The number of each name, by a hash whose key is made of the text, so that names that collide cannot be looked for.
+type Numbers = IndexMap<String, u32, KeyedHash>;
 
 /// A model: its name, and what its lines place.
 #[derive(Drop)]
 pub struct ModelText {
     name: Name,
-    items: Vec<Item>,
+    items: ItemList,
 }
 
 impl Model for ModelText {
-    ghost use Rattle.std.specs.Prelude.{All};
-    ghost use Rattle.net_blif.specs.Item.{IsSoundItem};
     ghost use Rattle.net_blif.specs.Design.{ModelValue};
 
     ghost Value = { ModelValue };
 
-    ghost view = { λ m. record { name = m.name; items = m.items.items } };
-
-    ghost invariant = { λ m. All IsSoundItem m.items.items };
+    ghost view = { λ m. record { name = m.name; items = m.items } };
 }
 
 impl ModelText {
     /// A model of this name that places these.
-    pub fn new(name: Name, items: Vec<Item>) -> ModelText
-        requires { All IsSoundItem items.items }
-        ensures { result ≡ record { name = name; items = items.items } }
+    pub fn new(name: Name, items: ItemList) -> ModelText
+        ensures { result ≡ record { name = name; items = items } }
     {
         ModelText { name, items }
     }
@@ -51,17 +44,17 @@ impl ModelText {
     }
 
     /// What its lines place, in order.
-    pub fn items(&self) -> &[Item]
-        ensures items { result.now ≡ self.now.items }
-        ensures sound { All IsSoundItem result.now }
+    pub fn items(&self) -> &ItemList
+        ensures { result.now ≡ self.now.items }
     {
-        self.items.as_slice()
+        &self.items
     }
 }
 
 /// The models of a text in BLIF, in order. Contracts see the list of models; model 0 is the top.
 #[derive(Drop)]
 pub struct Design {
+    key: u64,
     models: Vec<ModelText>,
     numbers: Numbers,
 }
@@ -80,13 +73,14 @@ impl Model for Design {
 }
 
 impl Design {
-    // A design without models. It takes no memory.
-    pub(crate) fn new(alloc: Global) -> Design
+    // A design without models, whose names are hashed with this key. It takes no memory.
+    pub(crate) fn new(alloc: Global, key: u64) -> Design
         ensures { result ≡ [] }
     {
         Design {
+            key,
             models: Vec::new(alloc),
-            numbers: IndexMap::with_hasher(alloc, BuildHasherDefault::new()),
+            numbers: IndexMap::with_hasher(alloc, KeyedHash::new(key)),
         }
     }
 
@@ -94,14 +88,22 @@ impl Design {
     pub(crate) fn with(self, alloc: Global, model: ModelText) -> Result<Design, AllocError>
         ensures { IfOk result (λ design. design ≡ self ++ model ∷ []) }
     {
-        let Design { models, numbers } = self;
+        let Design {
+            key,
+            models,
+            numbers,
+        } = self;
         let mut models = models;
         let Ok(number) = u32::try_from(models.len() + 1) else {
             return Err(AllocError);
         };
         let numbers = with_number(alloc, numbers, model.name(), number - 1)?;
         models.push(model)?;
-        Ok(Design { models, numbers })
+        Ok(Design {
+            key,
+            models,
+            numbers,
+        })
     }
 
     /// How many models there are.
@@ -126,14 +128,19 @@ impl Design {
         self.models[model as usize].name()
     }
 
-    // What the lines of a model place, in order.
-    pub(crate) fn items(&self, model: u32) -> &[Item]
-        ensures items { result.now ≡ items_of self.now model }
-        ensures sound { All IsSoundItem result.now }
+    // The key of its names.
+    pub(crate) fn key(&self) -> u64 {
+        self.key
+    }
+
+    // What the lines of a model place, in order; none where there is no such model.
+    pub(crate) fn items(&self, model: u32) -> Option<&ItemList>
+        ensures found { IfSome result (λ items. items.now ≡ items_of self.now model) }
+        ensures none { IfNone result (items_of self.now model ≡ []) }
     {
         match self.models.get(model as usize) {
-            Some(found) => found.items(),
-            None => &[],
+            Some(found) => Some(found.items()),
+            None => None,
         }
     }
 }

@@ -1,15 +1,16 @@
 //! What the lines of a model place.
-use net_core::{Name, Names};
+use crate::token::Token;
+use crate::token_list::TokenSlice;
 
 /// What a line of a model places: primary inputs, outputs, or a gate with its table.
-#[derive(Debug, Drop)]
-pub enum Item {
-    Inputs(Names),
-    Outputs(Names),
+#[derive(Drop)]
+pub enum Item<'a> {
+    Inputs(TokenSlice<'a>),
+    Outputs(TokenSlice<'a>),
     Gate {
         line: u32,
-        inputs: Names,
-        out: Name,
+        inputs: TokenSlice<'a>,
+        out: Token<'a>,
         table: u64,
     },
 }

@@ -7,6 +7,7 @@ mod fault;
 mod flat;
 mod flat_fault;
 mod item;
+mod item_list;
 mod laws;
 mod lines;
 mod open_model;
@@ -15,6 +16,8 @@ mod reader;
 mod statement;
 #[cfg(test)]
 mod tests;
+mod token;
+mod token_list;
 
 pub use design::Design;
 pub use fault::BlifFault;

@@ -1,35 +1,38 @@
 //! A model whose lines are being read.
-ghost use Rattle.std.specs.Prelude.{◌≡◌, ◌∷◌, [], None, Some, false, IfOk};
+ghost use Rattle.std.specs.Prelude.{◌≡◌, ◌≤◌, ◌∷◌, [], None, Some, false, length, All, IfOk, OnOk};
 ghost use Rattle.std.specs.Option.{option_map_or};
-ghost use Rattle.net_blif.specs.Item.{IsSoundItem};
+ghost use Rattle.net_blif.specs.Statement.{IsToken};
 ghost use Rattle.net_blif.specs.Cover.{begun, takes_row};
+ghost use Rattle.net_blif.specs.declared.item.Item.{Item};
 ghost use Rattle.net_blif.specs.Models.{placed, with_cover_row, with_items};
 
 use crate::cover::Cover;
 use crate::design::ModelText;
-use crate::item::Item;
-use net_core::{Name, Names};
+use crate::item_list::ItemList;
+use crate::token::Token;
+use net_core::Name;
 use std::alloc::{AllocError, Global};
 use std::marker::Model;
 
-/// A model whose lines are being read, and the cover just begun.
+/// A model whose lines are being read, and the cover just begun, where one is open.
 #[derive(Drop)]
 pub struct OpenModel {
     name: Name,
-    items: Vec<Item>,
-    cover: Option<Cover>,
+    items: ItemList,
+    cover: Cover,
+    is_open: bool,
 }
 
 impl Model for OpenModel {
-    ghost use Rattle.std.specs.Prelude.{All};
-    ghost use Rattle.net_blif.specs.Item.{IsSoundItem};
+    ghost use Rattle.std.specs.Prelude.{IsTrue, None, Some, if◌then◌else◌};
+    ghost use Rattle.net_blif.specs.Item.{IsSoundCover};
     ghost use Rattle.net_blif.specs.Models.{OpenValue};
 
     ghost Value = { OpenValue };
 
-    ghost view = { λ m. record { name = m.name; items = m.items.items; cover = m.cover } };
+    ghost view = { λ m. record { name = m.name; items = m.items; cover = if m.is_open then Some m.cover else None } };
 
-    ghost invariant = { λ m. All IsSoundItem m.items.items };
+    ghost invariant = { λ m. IsTrue m.is_open → IsSoundCover m.cover };
 }
 
 impl OpenModel {
@@ -39,64 +42,84 @@ impl OpenModel {
     {
         OpenModel {
             name,
-            items: Vec::new(alloc),
-            cover: None,
+            items: ItemList::new(alloc),
+            cover: Cover::new(alloc),
+            is_open: false,
         }
     }
 
     /// Whether this may be the next row.
-    pub fn takes(&self, pattern: &str, output: bool) -> bool
+    pub fn takes(&self, pattern: &[u8], output: bool) -> bool
         ensures { result ≡ option_map_or (takes_row pattern.now output) self.now.cover false }
     {
-        match &self.cover {
-            None => false,
-            Some(cover) => cover.takes(pattern, output),
+        self.is_open && self.cover.takes(pattern, output)
+    }
+
+    /// Ends the cover just begun, if one is open, which is then a gate.
+    pub fn close(&mut self) -> Result<(), AllocError>
+        ensures { OnOk result (self.new ≡ with_items [] None self.old) }
+    {
+        if self.is_open {
+            self.is_open = false;
+            self.cover.place(&mut self.items)?;
         }
+        Ok(())
     }
 
-    /// With a cover that begins, and the one before it as a gate.
-    pub fn with_cover(self, cover: Option<Cover>) -> Result<OpenModel, AllocError>
-        ensures { IfOk result (λ model. model ≡ with_items [] cover self) }
+    /// Begins a cover.
+    pub fn begin_cover(
+        &mut self,
+        line: u32,
+        inputs: &[Token<'_>],
+        out: &[u8],
+    ) -> Result<(), AllocError>
+        requires few { length inputs.now ≤ 6 }
+        requires inputs { All IsToken inputs.now }
+        requires out { IsToken out.now }
+        ensures { OnOk result (self.new ≡ with_items [] (Some (begun line inputs.now out.now)) self.old) }
     {
-        let OpenModel {
-            name,
-            items,
-            cover: before,
-        } = self;
-        let mut items = items;
-        if let Some(before) = before {
-            items.push(before.gate())?;
+        self.close()?;
+        self.cover.begin(line, inputs, out)?;
+        self.is_open = true;
+        Ok(())
+    }
+
+    /// Places primary inputs.
+    pub fn place_inputs(&mut self, nets: &[Token<'_>]) -> Result<(), AllocError>
+        requires { All IsToken nets.now }
+        ensures { OnOk result (self.new ≡ with_items (Item.Inputs nets.now ∷ []) None self.old) }
+    {
+        self.close()?;
+        self.items.push_inputs(nets)?;
+        Ok(())
+    }
+
+    /// Places outputs.
+    pub fn place_outputs(&mut self, nets: &[Token<'_>]) -> Result<(), AllocError>
+        requires { All IsToken nets.now }
+        ensures { OnOk result (self.new ≡ with_items (Item.Outputs nets.now ∷ []) None self.old) }
+    {
+        self.close()?;
+        self.items.push_outputs(nets)?;
+        Ok(())
+    }
+
+    /// One more row of the cover just begun.
+    pub fn add_row(&mut self, pattern: &[u8], output: bool) -> Result<(), AllocError>
+        ensures { OnOk result (self.new ≡ with_cover_row pattern.now output self.old) }
+    {
+        if self.is_open {
+            self.cover.add_row(pattern, output)?;
         }
-        Ok(OpenModel { name, items, cover })
-    }
-
-    /// With what one more line places.
-    pub fn with_item(self, item: Item) -> Result<OpenModel, AllocError>
-        requires { IsSoundItem item }
-        ensures { IfOk result (λ model. model ≡ with_items (item ∷ []) None self) }
-    {
-        let mut model = self.with_cover(None)?;
-        model.items.push(item)?;
-        Ok(model)
-    }
-
-    /// With one more row of the cover just begun.
-    pub fn with_row(self, pattern: Name, output: bool) -> Result<OpenModel, AllocError>
-        ensures { IfOk result (λ model. model ≡ with_cover_row pattern output self) }
-    {
-        let OpenModel { name, items, cover } = self;
-        let cover = match cover {
-            None => None,
-            Some(cover) => Some(cover.with_row(pattern, output)?),
-        };
-        Ok(OpenModel { name, items, cover })
+        Ok(())
     }
 
     /// The model, of which this was the last line.
     pub fn finish(self) -> Result<ModelText, AllocError>
         ensures { IfOk result (λ model. model ≡ record { name = self.name; items = placed self }) }
     {
-        let model = self.with_cover(None)?;
+        let mut model = self;
+        model.close()?;
         Ok(ModelText::new(model.name, model.items))
     }
 }

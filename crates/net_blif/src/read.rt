@@ -9,6 +9,7 @@ use crate::lines::next_joined;
 use crate::reader::Reader;
 use crate::{BlifFault, Design};
 use std::alloc::{AllocError, Global};
+use std::hash::{DefaultHasher, Hasher};
 use text_core::tokens;
 
 // The bytes from `!` to `~` with which a token begins.
@@ -61,13 +62,20 @@ fn has_model(alloc: Global, text: &[u8]) -> Result<bool, AllocError>
     Ok(false)
 }
 
+// The key of a text, which is not known before the text is.
+fn key_of(text: &[u8]) -> u64 {
+    let mut state = DefaultHasher::new();
+    state.write(text);
+    state.finish()
+}
+
 // What the lines of a text say, one after another.
 fn read_lines(alloc: Global, text: &[u8]) -> Result<Reader, BlifFault>
     requires { length text.now ≤ 67108864 }
     ensures read { IfOk result (λ reader. Reads start (lines_of text.now) (Ok reader)) }
     ensures fault { IfErr result (λ e. (e ≡ BlifFault.OutOfMemory) ⊎ Reads start (lines_of text.now) (Err e)) }
 {
-    let mut reader = Reader::new(alloc);
+    let mut reader = Reader::new(alloc, key_of(text));
     let mut line = Vec::new(alloc);
     let mut rest = text;
     let mut number = 1u32;

@@ -1,19 +1,21 @@
 //! What was read of a text, line by line.
-ghost use Rattle.std.specs.Prelude.{◌≡◌, ◌⊎◌, ◌∷◌, [], None, Ok, Err, IfOk, IfErr, All};
-ghost use Rattle.text_core.specs.Lines.{tokens_of};
-ghost use Rattle.net_core.specs.Inside.{IsNetName};
-ghost use Rattle.net_blif.specs.Item.{HasNetNames, IsSoundItem};
+ghost use Rattle.std.specs.Prelude.{◌≡◌, ◌⊎◌, ◌≤◌, ◌∷◌, [], None, Some, Ok, Err, length, IfOk, IfErr, All};
+ghost use Rattle.text_core.specs.Lines.{tokens_of, IsPrinting};
+ghost use Rattle.net_blif.specs.Statement.{IsToken};
+ghost use Rattle.net_blif.specs.Cover.{begun};
+ghost use Rattle.net_blif.specs.Item.{HasPrintingNames};
+ghost use Rattle.net_blif.specs.declared.item.Item.{Item};
 ghost use Rattle.net_blif.specs.Models.{in_model, with_cover_row, with_items, models_of, may_stand as may_stand_here, next as next_reading, start, ReadsLine};
 
 use crate::BlifFault;
-use crate::cover::Cover;
 use crate::design::Design;
-use crate::item::Item;
 use crate::open_model::OpenModel;
 use crate::statement::{Statement, read_statement, words};
-use net_core::{Name, Names};
+use crate::token::Token;
+use net_core::Name;
 use std::alloc::{AllocError, Global};
 use std::marker::Model;
+use text_core::printing_text;
 
 /// The models that have ended, and the one whose lines are being read.
 #[derive(Drop)]
@@ -31,12 +33,12 @@ impl Model for Reader {
 }
 
 impl Reader {
-    /// Nothing was read. It takes no memory.
-    pub fn new(alloc: Global) -> Reader
+    /// Nothing was read of a text with this key. It takes no memory.
+    pub fn new(alloc: Global, key: u64) -> Reader
         ensures { result ≡ start }
     {
         Reader {
-            design: Design::new(alloc),
+            design: Design::new(alloc, key),
             model: None,
         }
     }
@@ -64,17 +66,19 @@ impl Reader {
             Statement::Model(_) => true,
             Statement::Row { pattern, output } => match &self.model {
                 None => false,
-                Some(model) => model.takes(pattern.as_str(), *output),
+                Some(model) => model.takes(pattern.bytes(), *output),
             },
             _ => self.model.is_some(),
         }
     }
 
     // With the model that begins here.
-    fn begin(self, alloc: Global, line: u32, name: Name) -> Result<Reader, BlifFault>
-        ensures read { IfOk result (λ reader. next_reading self line (Statement.Model name) ≡ Ok reader) }
-        ensures fault { IfErr result (λ e. (e ≡ BlifFault.OutOfMemory) ⊎ (next_reading self line (Statement.Model name) ≡ Err e)) }
+    fn begin(self, alloc: Global, line: u32, name: &[u8]) -> Result<Reader, BlifFault>
+        requires { IsPrinting name.now }
+        ensures read { IfOk result (λ reader. next_reading self line (Statement.Model name.now) ≡ Ok reader) }
+        ensures fault { IfErr result (λ e. (e ≡ BlifFault.OutOfMemory) ⊎ (next_reading self line (Statement.Model name.now) ≡ Err e)) }
     {
+        let name = name_of(alloc, name)?;
         let design = self.finish(alloc)?;
         if design.model(name.as_str()).is_some() {
             return Err(BlifFault::ModelTwice { line });
@@ -85,71 +89,129 @@ impl Reader {
         })
     }
 
-    // With what one more line of the model places.
-    fn place(self, item: Item) -> Result<Reader, AllocError>
-        requires { IsSoundItem item }
-        ensures { IfOk result (λ reader. reader ≡ in_model (with_items (item ∷ []) None) self) }
+    // With primary inputs of the model.
+    fn place_inputs(self, nets: &[Token<'_>]) -> Result<Reader, AllocError>
+        requires { All IsToken nets.now }
+        ensures { IfOk result (λ reader. reader ≡ in_model (with_items (Item.Inputs nets.now ∷ []) None) self) }
     {
         let Reader { design, model } = self;
-        let model = match model {
-            None => None,
-            Some(model) => Some(model.with_item(item)?),
+        let Some(mut model) = model else {
+            return Ok(Reader {
+                design,
+                model: None,
+            });
         };
-        Ok(Reader { design, model })
+        model.place_inputs(nets)?;
+        Ok(Reader {
+            design,
+            model: Some(model),
+        })
     }
 
-    // With a cover that begins, or with none.
-    fn turn_to(self, cover: Option<Cover>) -> Result<Reader, AllocError>
-        ensures { IfOk result (λ reader. reader ≡ in_model (with_items [] cover) self) }
+    // With outputs of the model.
+    fn place_outputs(self, nets: &[Token<'_>]) -> Result<Reader, AllocError>
+        requires { All IsToken nets.now }
+        ensures { IfOk result (λ reader. reader ≡ in_model (with_items (Item.Outputs nets.now ∷ []) None) self) }
     {
         let Reader { design, model } = self;
-        let model = match model {
-            None => None,
-            Some(model) => Some(model.with_cover(cover)?),
+        let Some(mut model) = model else {
+            return Ok(Reader {
+                design,
+                model: None,
+            });
         };
-        Ok(Reader { design, model })
+        model.place_outputs(nets)?;
+        Ok(Reader {
+            design,
+            model: Some(model),
+        })
+    }
+
+    // With no open cover.
+    fn close(self) -> Result<Reader, AllocError>
+        ensures { IfOk result (λ reader. reader ≡ in_model (with_items [] None) self) }
+    {
+        let Reader { design, model } = self;
+        let Some(mut model) = model else {
+            return Ok(Reader {
+                design,
+                model: None,
+            });
+        };
+        model.close()?;
+        Ok(Reader {
+            design,
+            model: Some(model),
+        })
     }
 
     // With one more row.
-    fn with_row(self, pattern: Name, output: bool) -> Result<Reader, AllocError>
-        ensures { IfOk result (λ reader. reader ≡ in_model (with_cover_row pattern output) self) }
+    fn add_row(self, pattern: &[u8], output: bool) -> Result<Reader, AllocError>
+        ensures { IfOk result (λ reader. reader ≡ in_model (with_cover_row pattern.now output) self) }
     {
         let Reader { design, model } = self;
-        let model = match model {
-            None => None,
-            Some(model) => Some(model.with_row(pattern, output)?),
+        let Some(mut model) = model else {
+            return Ok(Reader {
+                design,
+                model: None,
+            });
         };
-        Ok(Reader { design, model })
+        model.add_row(pattern, output)?;
+        Ok(Reader {
+            design,
+            model: Some(model),
+        })
     }
 
     // With a cover of these nets that begins.
-    fn cover(self, alloc: Global, line: u32, inputs: Names, out: Name) -> Result<Reader, BlifFault>
-        requires inputs { All IsNetName inputs }
-        requires out { IsNetName out }
-        ensures read { IfOk result (λ reader. next_reading self line (Statement.Cover inputs out) ≡ Ok reader) }
-        ensures fault { IfErr result (λ e. (e ≡ BlifFault.OutOfMemory) ⊎ (next_reading self line (Statement.Cover inputs out) ≡ Err e)) }
+    fn begin_cover(self, line: u32, inputs: &[Token<'_>], out: &[u8]) -> Result<Reader, AllocError>
+        requires few { length inputs.now ≤ 6 }
+        requires inputs { All IsToken inputs.now }
+        requires out { IsToken out.now }
+        ensures { IfOk result (λ reader. reader ≡ in_model (with_items [] (Some (begun line inputs.now out.now))) self) }
     {
-        let count = inputs.as_slice().len();
+        let Reader { design, model } = self;
+        let Some(mut model) = model else {
+            return Ok(Reader {
+                design,
+                model: None,
+            });
+        };
+        model.begin_cover(line, inputs, out)?;
+        Ok(Reader {
+            design,
+            model: Some(model),
+        })
+    }
+
+    // With a cover of these nets that begins, if they are few.
+    fn cover(self, line: u32, inputs: &[Token<'_>], out: &[u8]) -> Result<Reader, BlifFault>
+        requires inputs { All IsToken inputs.now }
+        requires out { IsToken out.now }
+        ensures read { IfOk result (λ reader. next_reading self line (Statement.Cover inputs.now out.now) ≡ Ok reader) }
+        ensures fault { IfErr result (λ e. (e ≡ BlifFault.OutOfMemory) ⊎ (next_reading self line (Statement.Cover inputs.now out.now) ≡ Err e)) }
+    {
+        let count = inputs.len();
         if count > 6 {
             return Err(too_wide(line, count));
         }
-        let reader = self.turn_to(Some(Cover::new(alloc, line, inputs, out)))?;
+        let reader = self.begin_cover(line, inputs, out)?;
         Ok(reader)
     }
 
     // With what one more statement says.
-    fn next(self, alloc: Global, line: u32, statement: Statement) -> Result<Reader, BlifFault>
-        requires { HasNetNames statement }
-        ensures read { IfOk result (λ reader. next_reading self line statement ≡ Ok reader) }
-        ensures fault { IfErr result (λ e. (e ≡ BlifFault.OutOfMemory) ⊎ (next_reading self line statement ≡ Err e)) }
+    fn next(self, alloc: Global, line: u32, statement: Statement<'_>) -> Result<Reader, BlifFault>
+        requires { HasPrintingNames statement }
+        ensures read { IfOk result (λ reader. next_reading self line statement.entry ≡ Ok reader) }
+        ensures fault { IfErr result (λ e. (e ≡ BlifFault.OutOfMemory) ⊎ (next_reading self line statement.entry ≡ Err e)) }
     {
         match statement {
-            Statement::Model(name) => self.begin(alloc, line, name),
-            Statement::Inputs(nets) => Ok(self.place(Item::Inputs(nets))?),
-            Statement::Outputs(nets) => Ok(self.place(Item::Outputs(nets))?),
-            Statement::Clock(_) => Ok(self.turn_to(None)?),
-            Statement::Cover { inputs, out } => self.cover(alloc, line, inputs, out),
-            Statement::Row { pattern, output } => Ok(self.with_row(pattern, output)?),
+            Statement::Model(name) => self.begin(alloc, line, name.bytes()),
+            Statement::Inputs(nets) => Ok(self.place_inputs(nets.as_slice())?),
+            Statement::Outputs(nets) => Ok(self.place_outputs(nets.as_slice())?),
+            Statement::Clock(_) => Ok(self.close()?),
+            Statement::Cover { inputs, out } => self.cover(line, inputs.as_slice(), out.bytes()),
+            Statement::Row { pattern, output } => Ok(self.add_row(pattern.bytes(), output)?),
             Statement::End => {
                 let design = self.finish(alloc)?;
                 Ok(Reader {
@@ -157,7 +219,10 @@ impl Reader {
                     model: None,
                 })
             }
-            Statement::Other { word, .. } => Err(BlifFault::LeftOut { line, word }),
+            Statement::Other { word, .. } => {
+                let word = name_of(alloc, word.bytes())?;
+                Err(BlifFault::LeftOut { line, word })
+            }
         }
     }
 
@@ -172,7 +237,7 @@ impl Reader {
         if words.is_empty() {
             return Ok(self);
         }
-        let Some(statement) = read_statement(alloc, words)? else {
+        let Some(statement) = read_statement(&words) else {
             return Err(BlifFault::Syntax { line });
         };
         if !self.may_stand(&statement) {
@@ -180,6 +245,17 @@ impl Reader {
         }
         let reader = self.next(alloc, line, statement)?;
         Ok(reader)
+    }
+}
+
+// The name of bytes that print.
+fn name_of(alloc: Global, bytes: &[u8]) -> Result<Name, AllocError>
+    requires { IsPrinting bytes.now }
+    ensures { IfOk result (λ name. name ≡ bytes.now) }
+{
+    match printing_text(bytes) {
+        Some(text) => Name::new(alloc, text),
+        None => unreachable!(),
     }
 }
 

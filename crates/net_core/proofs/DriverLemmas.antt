@@ -13,7 +13,7 @@ use Rattle.net_core.specs.Sound.{sources, driven, HasOneDriverEach}
 use Rattle.graph_core.proofs.ListLemmas.{get_front}
 use Rattle.graph_core.proofs.GraphLemmas.{even}
 pub use Rattle.graph_core.proofs.GraphLemmas.{All_has}
-pub use Rattle.graph_core.proofs.RingLemmas.{from_map}
+pub use Rattle.graph_core.proofs.CycleLemmas.{from_map}
 
 pub times_append : (n : ℕ) (xs ys : List ℕ) → times n (xs ++ ys) ≡ times n xs + times n ys
 times_append n [] ys = omega arith

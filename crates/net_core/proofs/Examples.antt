@@ -5,7 +5,7 @@ use Rattle.net_core.specs.GateValue.{GateValue}
 use Rattle.net_core.specs.Lists.{Has}
 use Rattle.net_core.specs.NetList.{NetList, LabelValue, number_of}
 use Rattle.net_core.specs.Inside.{IsInside, GateIsInside, IsNetName}
-use Rattle.net_core.specs.Sound.{sources, drivers, Needs, IsRing, IsSound}
+use Rattle.net_core.specs.Sound.{sources, drivers, Needs, IsCycle, IsSound}
 use Rattle.net_core.specs.Value.{index_of, IsRight}
 use Rattle.net_core.specs.Level.{Levels, level_at, level_over, AreLevels}
 use Rattle.graph_core.specs.Walk.{IsChain}
@@ -117,11 +117,11 @@ starts : (a : ℕ) (over : List ℕ) (b : ℕ) → IsChain (Needs one_gate) a ov
 starts a [] b chain = (needs a b chain).0
 starts a (c ∷ cs) b chain = (needs a c chain.0).0
 
-no_ring : (ring : List ℕ) → IsRing one_gate ring → ⊥
-no_ring [] ring = ring
-no_ring (a ∷ []) ring = let both : (a ≡ 2) × (a < 2) = needs a a ring in omega (arith, both.0, both.1)
-no_ring (a ∷ c ∷ cs) ring = omega (arith, (needs a c ring.0).1, starts c cs a ring.1)
+no_cycle : (cycle : List ℕ) → IsCycle one_gate cycle → ⊥
+no_cycle [] cycle = cycle
+no_cycle (a ∷ []) cycle = let both : (a ≡ 2) × (a < 2) = needs a a cycle in omega (arith, both.0, both.1)
+no_cycle (a ∷ c ∷ cs) cycle = omega (arith, (needs a c cycle.0).1, starts c cs a cycle.1)
 
 -- the net y = a AND b is sound
 and_is_sound : IsSound one_gate
-and_is_sound = record { inside = inside; one = one_driver; no_ring = λ has. no_ring has.0 has.1 }
+and_is_sound = record { inside = inside; one = one_driver; no_cycle = λ has. no_cycle has.0 has.1 }

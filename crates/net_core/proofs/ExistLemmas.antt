@@ -10,7 +10,7 @@ use Rattle.net_core.specs.GateValue.{GateValue}
 use Rattle.net_core.specs.Lists.{Has}
 use Rattle.net_core.specs.NetList.{NetList, nets}
 use Rattle.net_core.specs.Inside.{IsInside}
-use Rattle.net_core.specs.Sound.{IsSound, HasOneDriverEach, HasRing, Needs, IsPath, sources}
+use Rattle.net_core.specs.Sound.{IsSound, HasOneDriverEach, HasCycle, Needs, IsPath, sources}
 use Rattle.net_core.specs.Level.{Levels, level_at, level_over}
 use Rattle.net_core.specs.Levelled.{AllHaveLevels}
 use Rattle.net_core.specs.Partial.{ArePartial, AreKnown, lacking}
@@ -93,25 +93,25 @@ gate_of net levels done a one partial less none =
 abbrev IsReady : NetList → Levels → Type 0
 IsReady net levels = (g : GateValue) × Has net.gates g × (level_at levels g.out ≡ None) × AreKnown levels g.inputs
 
--- where no gates drive each other in a ring, a walk over nets without levels comes to a gate whose inputs have them
-ready : (net : NetList) (levels : Levels) (done : ℕ) → HasOneDriverEach net → IsInside net → ArePartial net levels done → (HasRing net → ⊥) → (fuel : ℕ) (seen : List Bool) (at : ℕ) → count_unmet seen ≤ fuel → length seen ≡ nets net → at < nets net → level_at levels at ≡ None → Paths net seen at → IsReady net levels
-ready net levels done one inside partial no_ring zero seen at few long less none paths =
+-- where no gates drive each other in a cycle, a walk over nets without levels comes to a gate whose inputs have them
+ready : (net : NetList) (levels : Levels) (done : ℕ) → HasOneDriverEach net → IsInside net → ArePartial net levels done → (HasCycle net → ⊥) → (fuel : ℕ) (seen : List Bool) (at : ℕ) → count_unmet seen ≤ fuel → length seen ≡ nets net → at < nets net → level_at levels at ≡ None → Paths net seen at → IsReady net levels
+ready net levels done one inside partial no_cycle zero seen at few long less none paths =
     let bit = get_below seen at (omega arith) in
     elim bit.0 as (λ b. slice_get seen at ≡ Some b → IsReady net levels) [
-      | true ↦ λ got. let path = paths at got in absurd (no_ring (at ∷ path.0, path.1))
+      | true ↦ λ got. let path = paths at got in absurd (no_cycle (at ∷ path.0, path.1))
       | false ↦ λ got. absurd (omega (arith, unmet_set seen at got))
     ] bit.1
-ready net levels done one inside partial no_ring (suc fuel) seen at few long less none paths =
+ready net levels done one inside partial no_cycle (suc fuel) seen at few long less none paths =
     let bit = get_below seen at (omega arith) in
     elim bit.0 as (λ b. slice_get seen at ≡ Some b → IsReady net levels) [
-      | true ↦ λ got. let path = paths at got in absurd (no_ring (at ∷ path.0, path.1))
+      | true ↦ λ got. let path = paths at got in absurd (no_cycle (at ∷ path.0, path.1))
       | false ↦ λ got.
           let g = gate_of net levels done at one partial less none in
           elim (known_or levels g.0.inputs) [
             | inl known ↦ (g.0, g.1, ap (level_at levels) g.2 ∙ none, known)
             | inr gap ↦
                 let below : gap.0 < nets net = All_has (λ n. n < nets net) g.0.inputs gap.0 (gate_inside net g.0 inside g.1).1 gap.1 in
-                ready net levels done one inside partial no_ring fuel (set seen at true) gap.0 (omega (arith, unmet_set seen at got)) (length-set seen at true ∙ long) below gap.2 (paths_more net seen at gap.0 (g.0, g.1, g.2, gap.1) paths)
+                ready net levels done one inside partial no_cycle fuel (set seen at true) gap.0 (omega (arith, unmet_set seen at got)) (length-set seen at true ∙ long) below gap.2 (paths_more net seen at gap.0 (g.0, g.1, g.2, gap.1) paths)
           ]
     ] bit.1
 
@@ -192,7 +192,7 @@ grow net start sound (suc fuel) levels done bits few begun =
       | inl each ↦ whole net start levels done bits begun each
       | inr gap ↦
           let below : gap.0.out < nets net = (gate_inside net gap.0 sound.inside gap.1).0 in
-          let g = ready net levels done sound.one sound.inside begun.partial sound.no_ring (count_unmet (replicate (nets net) false)) (replicate (nets net) false) gap.0.out (omega arith) (length-replicate {A = Bool} (nets net) false) below gap.2 (λ n got. absurd (none_met (nets net) n got)) in
+          let g = ready net levels done sound.one sound.inside begun.partial sound.no_cycle (count_unmet (replicate (nets net) false)) (replicate (nets net) false) gap.0.out (omega arith) (length-replicate {A = Bool} (nets net) false) below gap.2 (λ n got. absurd (none_met (nets net) n got)) in
           let v = known_over levels 1 g.0.inputs g.3 in
           let within : g.0.out < length levels = omega (arith, (gate_inside net g.0 sound.inside g.1).0, begun.partial.long) in
           grow net start sound fuel (set levels g.0.out (Some v.0)) (done + 1) (set bits g.0.out (value_of bits g.0)) (omega (arith, lacking_set levels g.0.out v.0 (known_at levels g.0.out None within g.2))) (begun_more net start levels done bits g.0 v.0 sound.inside sound.one begun g.1 g.2 g.3 v.1)

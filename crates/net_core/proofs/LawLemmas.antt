@@ -17,7 +17,7 @@ use Rattle.net_core.specs.declared.fault.NetFault.TheVariants.{TooManyNets, TooM
 use Rattle.net_core.proofs.DriverLemmas.{driver_of}
 use Rattle.net_core.proofs.LevelLemmas.{nat_eq_or, level_within, level_from_above}
 use Rattle.net_core.proofs.EvalLemmas.{over_agree, not_self}
-use Rattle.net_core.proofs.LoopLemmas.{loop_is_ring, loop_is_only}
+use Rattle.net_core.proofs.LoopLemmas.{loop_is_cycle, loop_is_only}
 use Rattle.net_core.proofs.OrderLemmas.{before_all}
 use Rattle.graph_core.proofs.GraphLemmas.{even, same_lists}
 
@@ -55,7 +55,7 @@ same_levels (x ∷ xs) (y ∷ ys) long same =
     let tail : xs ≡ ys = same_levels xs ys (omega arith) (λ n. same (suc n)) in
     rw (head, tail) refl
 
--- there is one list of levels at most, also where gates drive each other in a ring
+-- there is one list of levels at most, also where gates drive each other in a cycle
 pub levels_only : (net : NetList) (a b : Levels) → HasOneDriverEach net → AreLevels net a → AreLevels net b → a ≡ b
 levels_only net a b one are are' = same_levels a b (are.long ∙ sym are'.long) (level_agrees net a b one are are')
 
@@ -94,7 +94,7 @@ sound_no_fault net TooManyNets sound is = absurd is
 sound_no_fault net TooManyGates sound is = absurd is
 sound_no_fault net (DrivenTwice n label) sound is = absurd (omega (arith, sound.one n is.0, is.1))
 sound_no_fault net (Undriven n label) sound is = absurd (omega (arith, sound.one n is.0, is.2))
-sound_no_fault net (Loop loop label) sound is = absurd (sound.no_ring (loop, loop_is_ring net loop is.1))
+sound_no_fault net (Loop loop label) sound is = absurd (sound.no_cycle (loop, loop_is_cycle net loop is.1))
 sound_no_fault net OutOfMemory sound is = refl
 
 pub same_twice : (net : NetList) (n m : ℕ) (x y : List ℕ) → n ≡ m → x ≡ text_of net n → y ≡ text_of net m → DrivenTwice n x ≡ DrivenTwice m y

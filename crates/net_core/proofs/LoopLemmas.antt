@@ -4,23 +4,23 @@ use Rattle.std.specs.Prelude.{slice_get, All}
 use Rattle.std.proofs.lemmas.Option.{slice_get-map}
 use Rattle.std.proofs.lemmas.List.Elements.{All-append, All-map, All-weaker}
 use Rattle.graph_core.specs.Graph.{Graph, edges, HasEdge}
-use Rattle.graph_core.specs.Ring.{IsGrounded, grounded, IsFirstEndless, IsRingOf}
-use Rattle.graph_core.specs.Fault.{IsRingFault}
-use Rattle.graph_core.specs.declared.fault.RingFault.{RingFault}
-use Rattle.graph_core.specs.declared.fault.RingFault.TheVariants.{Ring, OutOfMemory}
+use Rattle.graph_core.specs.Cycle.{IsGrounded, grounded, IsFirstEndless, IsCycleOf}
+use Rattle.graph_core.specs.Fault.{IsCycleFault}
+use Rattle.graph_core.specs.declared.fault.CycleFault.{CycleFault}
+use Rattle.graph_core.specs.declared.fault.CycleFault.TheVariants.{Cycle, OutOfMemory}
 use Rattle.net_core.specs.GateValue.{GateValue}
 use Rattle.net_core.specs.Lists.{Has}
 use Rattle.net_core.specs.NetList.{NetList, nets}
 use Rattle.net_core.specs.Inside.{IsInside, GateIsInside}
-use Rattle.net_core.specs.Sound.{IsSound, HasOneDriverEach, Needs, IsPath, IsRing, HasRing, sources}
+use Rattle.net_core.specs.Sound.{IsSound, HasOneDriverEach, Needs, IsPath, IsCycle, HasCycle, sources}
 use Rattle.net_core.specs.Level.{Levels, level_at, level_over, AreLevels}
 use Rattle.net_core.specs.Levelled.{AllHaveLevels}
 use Rattle.net_core.specs.Loop.{HasLevel, of_source, of_gate, IsFirstWithout, IsBegin, LeadsTo, IsLoop}
 use Rattle.net_core.specs.Driving.{IsGraphOf, IsLoopFault, roots_of}
 use Rattle.graph_core.proofs.ListLemmas.{get_front}
 use Rattle.graph_core.proofs.GraphLemmas.{edges_within, even}
-use Rattle.graph_core.proofs.LoopLemmas.{loop_ring, loop_weaker, loop_only, ring_weaker}
-use Rattle.graph_core.proofs.RingLemmas.{from_map}
+use Rattle.graph_core.proofs.LoopLemmas.{loop_cycle, loop_weaker, loop_only, cycle_weaker}
+use Rattle.graph_core.proofs.CycleLemmas.{from_map}
 use Rattle.net_core.proofs.DriverLemmas.{driver_of, gates_apart, gate_inside, All_has}
 use Rattle.net_core.proofs.LevelLemmas.{nat_eq_or, level_from_above, sources_inside}
 
@@ -91,20 +91,20 @@ begins_at net graph one inside is a (i, at, endless, before) =
           )
     ]
 
--- the ring of the graph is the loop of the net list
-pub loop_of_ring : (net : NetList) (graph : Graph) (ring : List ℕ) → HasOneDriverEach net → IsInside net → IsGraphOf net graph → IsRingOf graph (roots_of net) ring → IsLoop net ring
-loop_of_ring net graph ring one inside is found =
-    loop_weaker (IsFirstEndless graph (roots_of net)) (IsBegin net) (λ a b. IsFirstEndless graph (edges graph a) b) (LeadsTo net) ring (begins_at net graph one inside is) (leads_on net graph one inside is) found
+-- the cycle of the graph is the loop of the net list
+pub loop_of_cycle : (net : NetList) (graph : Graph) (cycle : List ℕ) → HasOneDriverEach net → IsInside net → IsGraphOf net graph → IsCycleOf graph (roots_of net) cycle → IsLoop net cycle
+loop_of_cycle net graph cycle one inside is found =
+    loop_weaker (IsFirstEndless graph (roots_of net)) (IsBegin net) (λ a b. IsFirstEndless graph (edges graph a) b) (LeadsTo net) cycle (begins_at net graph one inside is) (leads_on net graph one inside is) found
 
 leads_needs : (net : NetList) (a b : ℕ) → LeadsTo net a b → Needs net a b
 leads_needs net a b (g, has, out, first) = (g, has, out, (first.0, first.1))
 
-pub loop_is_ring : (net : NetList) (loop : List ℕ) → IsLoop net loop → IsRing net loop
-loop_is_ring net loop is = ring_weaker (LeadsTo net) (Needs net) (leads_needs net) loop (loop_ring (IsBegin net) (LeadsTo net) loop is)
+pub loop_is_cycle : (net : NetList) (loop : List ℕ) → IsLoop net loop → IsCycle net loop
+loop_is_cycle net loop is = cycle_weaker (LeadsTo net) (Needs net) (leads_needs net) loop (loop_cycle (IsBegin net) (LeadsTo net) loop is)
 
 -- a loop has a first net, which exists
 pub first_of_loop : (net : NetList) (loop : List ℕ) → IsInside net → IsLoop net loop → (n : ℕ) × (slice_get loop 0 ≡ Some n) × (n < nets net)
-first_of_loop net loop inside is = by loop (loop_is_ring net loop is)
+first_of_loop net loop inside is = by loop (loop_is_cycle net loop is)
   where
     needs_inside : (net : NetList) (a b : ℕ) → IsInside net → Needs net a b → a < nets net
     needs_inside net a b inside needs = rw (← needs.2) ((gate_inside net needs.0 inside needs.1).0)
@@ -113,9 +113,9 @@ first_of_loop net loop inside is = by loop (loop_is_ring net loop is)
     first_of_path a [] b path = needs_inside net a b inside path
     first_of_path a (c ∷ cs) b path = needs_inside net a c inside path.0
 
-    by : (ring : List ℕ) → IsRing net ring → (n : ℕ) × (slice_get ring 0 ≡ Some n) × (n < nets net)
-    by [] ring = absurd ring
-    by (a ∷ rest) ring = (a, refl, first_of_path a rest a ring)
+    by : (cycle : List ℕ) → IsCycle net cycle → (n : ℕ) × (slice_get cycle 0 ≡ Some n) × (n < nets net)
+    by [] cycle = absurd cycle
+    by (a ∷ rest) cycle = (a, refl, first_of_path a rest a cycle)
 
 first_without_only : (net : NetList) (list : List ℕ) (b c : ℕ) → IsFirstWithout net list b → IsFirstWithout net list c → b ≡ c
 first_without_only net list b c (i, at, none, before) (j, at', none', before') =
@@ -168,17 +168,17 @@ path_falls : (net : NetList) (levels : Levels) → ((a b : ℕ) → Needs net a 
 path_falls net levels down a [] b path = down a b path
 path_falls net levels down a (c ∷ cs) b path = omega (arith, down a c path.0, path_falls net levels down c cs b path.1)
 
-no_ring_of : (net : NetList) (levels : Levels) → AreLevels net levels → ((g : GateValue) → Has net.gates g → level_at levels g.out ≡ None → ⊥) → (ring : List ℕ) → IsRing net ring → ⊥
-no_ring_of net levels are each [] ring = ring
-no_ring_of net levels are each (a ∷ rest) ring = omega (arith, path_falls net levels (falls net levels are each) a rest a ring)
+no_cycle_of : (net : NetList) (levels : Levels) → AreLevels net levels → ((g : GateValue) → Has net.gates g → level_at levels g.out ≡ None → ⊥) → (cycle : List ℕ) → IsCycle net cycle → ⊥
+no_cycle_of net levels are each [] cycle = cycle
+no_cycle_of net levels are each (a ∷ rest) cycle = omega (arith, path_falls net levels (falls net levels are each) a rest a cycle)
 
--- where each gate has a level, there is no ring
-pub no_ring : (net : NetList) (levels : Levels) → AreLevels net levels → ((g : GateValue) → Has net.gates g → level_at levels g.out ≡ None → ⊥) → HasRing net → ⊥
-no_ring net levels are each ring = no_ring_of net levels are each ring.0 ring.1
+-- where each gate has a level, there is no cycle
+pub no_cycle : (net : NetList) (levels : Levels) → AreLevels net levels → ((g : GateValue) → Has net.gates g → level_at levels g.out ≡ None → ⊥) → HasCycle net → ⊥
+no_cycle net levels are each cycle = no_cycle_of net levels are each cycle.0 cycle.1
 
-pub loop_fault_of : (net : NetList) (graph : Graph) (fault : RingFault) → HasOneDriverEach net → IsInside net → IsGraphOf net graph → IsRingFault graph (roots_of net) fault → IsLoopFault net fault
-loop_fault_of net graph (Ring points) one inside is ring = loop_of_ring net graph points.items one inside is ring
-loop_fault_of net graph OutOfMemory one inside is ring = tt
+pub loop_fault_of : (net : NetList) (graph : Graph) (fault : CycleFault) → HasOneDriverEach net → IsInside net → IsGraphOf net graph → IsCycleFault graph (roots_of net) fault → IsLoopFault net fault
+loop_fault_of net graph (Cycle points) one inside is cycle = loop_of_cycle net graph points.items one inside is cycle
+loop_fault_of net graph OutOfMemory one inside is cycle = tt
 
 pub roots_inside : (net : NetList) (graph : Graph) → IsInside net → IsGraphOf net graph → All (λ n. n < length graph) (roots_of net)
 roots_inside net graph inside is =
@@ -186,4 +186,4 @@ roots_inside net graph inside is =
     rw is.long (All-append (λ n. n < nets net) (map (λ (g : GateValue). g.out) net.gates) (sources net) outs (sources_inside net inside))
 
 pub sound_by_levels : (net : NetList) (levels : Levels) → IsInside net → HasOneDriverEach net → AllHaveLevels net levels → IsSound net
-sound_by_levels net levels inside one all = record { inside = inside; one = one; no_ring = no_ring net levels all.0 all.1 }
+sound_by_levels net levels inside one all = record { inside = inside; one = one; no_cycle = no_cycle net levels all.0 all.1 }

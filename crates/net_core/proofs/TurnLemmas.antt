@@ -14,7 +14,7 @@ use Rattle.net_core.specs.Levelled.{AllHaveLevels}
 use Rattle.net_core.specs.Sound.{IsSound, Needs, sources}
 use Rattle.net_core.specs.Turned.{turned_gate, turned_gates, turned}
 use Rattle.graph_core.proofs.ListLemmas.{get_below}
-use Rattle.graph_core.proofs.LoopLemmas.{ring_weaker}
+use Rattle.graph_core.proofs.LoopLemmas.{cycle_weaker}
 use Rattle.net_core.proofs.DriverLemmas.{All_has}
 
 pub bit_is : (index : ℕ) → index < 64 → 1 * 2 ^ index % 2 ^ 64 ≡ 2 ^ index
@@ -102,7 +102,7 @@ turned_sound net p index g got less sound =
     record {
       inside = turned_inside net p index g got less sound.inside;
       one = λ n below. ap (λ (outs : List ℕ). times n (sources net ++ outs)) (turned_outs net.gates p index) ∙ sound.one n below;
-      no_ring = λ ring. sound.no_ring (ring.0, ring_weaker (Needs (turned net p index)) (Needs net) (needs_before net p index) ring.0 ring.1);
+      no_cycle = λ cycle. sound.no_cycle (cycle.0, cycle_weaker (Needs (turned net p index)) (Needs net) (needs_before net p index) cycle.0 cycle.1);
     }
 
 pub turned_levels : (net : NetList) (p index : ℕ) (levels : Levels) → AreLevels net levels → AreLevels (turned net p index) levels

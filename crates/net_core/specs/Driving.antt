@@ -1,8 +1,8 @@
 -- The graph of a net list. Source: this project's own.
 use Rattle.std.specs.Prelude.{◌≡◌, ℕ, List, [], ◌++◌, length, map}
 use Rattle.graph_core.specs.Graph.{Graph, edges}
-use Rattle.graph_core.specs.declared.fault.RingFault.{RingFault}
-use Rattle.graph_core.specs.declared.fault.RingFault.TheVariants.{Ring, OutOfMemory}
+use Rattle.graph_core.specs.declared.fault.CycleFault.{CycleFault}
+use Rattle.graph_core.specs.declared.fault.CycleFault.TheVariants.{Cycle, OutOfMemory}
 use Rattle.net_core.specs.GateValue.{GateValue}
 use Rattle.net_core.specs.NetList.{NetList, nets}
 use Rattle.net_core.specs.Sound.{sources}
@@ -20,6 +20,6 @@ abbrev pub roots_of : NetList → List ℕ
 roots_of net = map (λ (g : GateValue). g.out) net.gates ++ sources net
 
 -- the loop that a walk finds in place of an order, or want of memory
-abbrev pub IsLoopFault : NetList → RingFault → Type 0
-IsLoopFault net (Ring points) = IsLoop net points.items
+abbrev pub IsLoopFault : NetList → CycleFault → Type 0
+IsLoopFault net (Cycle points) = IsLoop net points.items
 IsLoopFault net OutOfMemory = Unit {0}

@@ -22,7 +22,7 @@ level_from levels m (n ∷ ns) = option_and_then (λ l. level_from levels (max m
 abbrev pub level_over : Levels → List ℕ → Option ℕ
 level_over levels ns = level_from levels 1 ns
 
--- The level of each net, where it has one. In a sound net each has one; a net that a ring drives has none.
+-- The level of each net, where it has one. In a sound net each has one; a net that a cycle drives has none.
 pub record AreLevels (net : NetList) (levels : Levels) : Type 0 where
   pub long : length levels ≡ nets net
   pub sources : (n : ℕ) → Has (sources net) n → level_at levels n ≡ Some 0

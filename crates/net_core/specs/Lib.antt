@@ -2,6 +2,7 @@ pub mod GateValue
 pub mod LatchValue
 pub mod NetList
 pub mod Inside
+pub mod KeyedHash
 pub mod Lists
 pub mod Sound
 pub mod Level

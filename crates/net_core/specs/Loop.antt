@@ -1,4 +1,4 @@
--- The list of nets that is named where gates drive each other in a ring. Source: this project's own.
+-- The list of nets that is named where gates drive each other in a cycle. Source: this project's own.
 use Rattle.std.specs.Prelude.{◌≡◌, ℕ, ◌<◌, List, Some, slice_get}
 use Rattle.net_core.specs.GateValue.{GateValue}
 use Rattle.net_core.specs.NetList.{NetList}

@@ -4,7 +4,7 @@ use Rattle.net_core.specs.GateValue.{GateValue}
 use Rattle.net_core.specs.NetList.{NetList, nets}
 use Rattle.net_core.specs.Inside.{IsInside}
 use Rattle.net_core.specs.Lists.{Has, times}
-use Rattle.graph_core.specs.Walk.{IsChain, IsRingBy}
+use Rattle.graph_core.specs.Walk.{IsChain, IsCycleBy}
 
 -- the primary inputs and the outputs of latches
 abbrev pub sources : NetList → List ℕ
@@ -31,15 +31,15 @@ abbrev pub IsPath : NetList → ℕ → List ℕ → ℕ → Type 0
 IsPath net = IsChain (Needs net)
 
 -- one or more nets, each driven by a gate that has the next among its inputs, and the last's gate has the first
-abbrev pub IsRing : NetList → List ℕ → Type 0
-IsRing net = IsRingBy (Needs net)
+abbrev pub IsCycle : NetList → List ℕ → Type 0
+IsCycle net = IsCycleBy (Needs net)
 
--- gates drive each other in a ring
-abbrev pub HasRing : NetList → Type 0
-HasRing net = (ring : List ℕ) × IsRing net ring
+-- gates drive each other in a cycle
+abbrev pub HasCycle : NetList → Type 0
+HasCycle net = (cycle : List ℕ) × IsCycle net cycle
 
--- Each net has exactly one driver, and no list of one or more gates drives itself in a ring.
+-- Each net has exactly one driver, and no list of one or more gates drives itself in a cycle.
 pub record IsSound (net : NetList) : Type 0 where
   pub inside : IsInside net
   pub one : HasOneDriverEach net
-  pub no_ring : HasRing net → ⊥
+  pub no_cycle : HasCycle net → ⊥

@@ -7,7 +7,7 @@ ghost use Rattle.net_core.specs.Driving.{IsGraphOf, IsLoopFault, roots_of};
 
 use crate::NetMaker;
 use crate::drivers::sources;
-use graph_core::{Graph, RingFault, arrange};
+use graph_core::{CycleFault, Graph, arrange};
 use std::alloc::{AllocError, Global};
 
 // The graph of the net list.
@@ -33,11 +33,11 @@ fn roots(alloc: Global, net: &NetMaker) -> Result<Vec<u32>, AllocError>
     Ok(nets)
 }
 
-// All nets, each after the inputs of its gate; or the ring that a walk from the first gate on finds.
-pub fn nets_in_order(alloc: Global, net: &NetMaker) -> Result<Vec<u32>, RingFault>
+// All nets, each after the inputs of its gate; or the cycle that a walk from the first gate on finds.
+pub fn nets_in_order(alloc: Global, net: &NetMaker) -> Result<Vec<u32>, CycleFault>
     requires { HasOneDriverEach net.now }
     ensures order { IfOk result (λ v. (graph : _) × IsGraphOf net.now graph × IsArranged graph (roots_of net.now) v.items) }
-    ensures ring { IfErr result (λ fault. IsLoopFault net.now fault) }
+    ensures cycle { IfErr result (λ fault. IsLoopFault net.now fault) }
     ensures inside { IsInside net.now }
 {
     let graph = graph_of(alloc, net)?;

@@ -2,7 +2,7 @@
 ghost use Rattle.std.specs.Prelude.{◌≡◌, ◌⊎◌, Bool, Err, IsSome, List, length, ℕ};
 ghost use Rattle.net_core.specs.NetList.{NetList, nets};
 ghost use Rattle.net_core.specs.Inside.{IsInside};
-ghost use Rattle.net_core.specs.Sound.{IsSound, IsRing, HasOneDriverEach};
+ghost use Rattle.net_core.specs.Sound.{IsSound, IsCycle, HasOneDriverEach};
 ghost use Rattle.net_core.specs.Level.{Levels, level_at, AreLevels};
 ghost use Rattle.net_core.specs.Levelled.{AllHaveLevels};
 ghost use Rattle.net_core.specs.Value.{IsConsistent, HasSourceBits};
@@ -11,10 +11,10 @@ ghost use Rattle.net_core.specs.Loop.{HasLevel, IsLoop};
 ghost use Rattle.net_core.specs.Finish.{Finishes};
 ghost use Rattle.net_core.specs.declared.fault.NetFault.{NetFault};
 
-/// The list that `Loop` names is a ring: each net is driven by a gate that has the next among its inputs,
+/// The list that `Loop` names is a cycle: each net is driven by a gate that has the next among its inputs,
 /// and the last's gate has the first.
-pub fn loop_is_a_ring()
-    ensures { (net : NetList) (loop : List ℕ) → IsLoop net loop → IsRing net loop }
+pub fn loop_is_a_cycle()
+    ensures { (net : NetList) (loop : List ℕ) → IsLoop net loop → IsCycle net loop }
 {}
 
 /// A net list that stands on existing nets, with one driver for each net, has one such list at most.
@@ -30,7 +30,7 @@ pub fn finish_accepts_the_sound_nets()
 {}
 
 /// A net list whose nets have one driver each has one list of levels at most, also where gates drive each other
-/// in a ring.
+/// in a cycle.
 pub fn levels_are_the_only_ones()
     ensures { (net : NetList) (levels other : Levels) → HasOneDriverEach net → AreLevels net levels → AreLevels net other → levels ≡ other }
 {}

@@ -6,6 +6,7 @@ mod drivers;
 mod driving;
 mod fault;
 mod gate;
+mod keyed_hash;
 mod label;
 mod latch;
 mod laws;
@@ -18,10 +19,11 @@ mod valuation;
 
 pub use fault::NetFault;
 pub use gate::Gate;
+pub use keyed_hash::KeyedHash;
 pub use latch::{Latch, Start};
 pub use laws::{
     finish_accepts_the_sound_nets, levels_are_the_only_ones, levels_are_where_nets_have_them,
-    loop_is_a_ring, loop_is_the_only_one, order_is_the_only_one, sound_net_has_levels,
+    loop_is_a_cycle, loop_is_the_only_one, order_is_the_only_one, sound_net_has_levels,
     sound_net_has_one_valuation,
 };
 pub use level_order::order;

@@ -5,18 +5,17 @@ ghost use Rattle.net_core.specs.Inside.{IsNetName, IsFull, HasNoMoreGates, IsIns
 ghost use Rattle.net_core.specs.Turned.{turned};
 
 use crate::label::Label;
-use crate::{Gate, Latch, Name, NetFault, Start};
+use crate::{Gate, KeyedHash, Latch, Name, NetFault, Start};
 use indexmap::IndexMap;
 use std::alloc::{AllocError, Global};
-use std::hash::{BuildHasherDefault, DefaultHasher};
 use std::marker::Model;
 
 const MAX_NETS: usize = 1 << 20;
 
 const MAX_GATES: usize = 1 << 20;
 
-// The number of each name. SipHash, since names that collide in the map's usual hash are easily made.
-type Numbers = IndexMap<String, u32, BuildHasherDefault<DefaultHasher>>;
+// The number of each name, looked up by a hash with a key, since names that collide in a hash without one can be made.
+type Numbers = IndexMap<String, u32, KeyedHash>;
 
 /// A net list in the making. Contracts see it as the net list that was made so far.
 /// A call that is refused leaves it as it was.
@@ -46,13 +45,21 @@ impl Model for NetMaker {
 }
 
 impl NetMaker {
-    /// A net list with nothing in it. It takes no memory.
+    /// A net list with nothing in it. It takes no memory. Names that strangers choose want `keyed`.
     pub fn new(alloc: Global) -> NetMaker
+        ensures { result ≡ empty }
+    {
+        NetMaker::keyed(alloc, 0)
+    }
+
+    /// A net list with nothing in it, which looks names up by a hash with this key. It takes no memory.
+    /// Where the key is not known before the names are, nobody can choose names whose look-up takes long.
+    pub fn keyed(alloc: Global, key: u64) -> NetMaker
         ensures { result ≡ empty }
     {
         NetMaker {
             alloc,
-            numbers: IndexMap::with_hasher(alloc, BuildHasherDefault::new()),
+            numbers: IndexMap::with_hasher(alloc, KeyedHash::new(key)),
             labels: Vec::new(alloc),
             inputs: Vec::new(alloc),
             outputs: Vec::new(alloc),

@@ -11,12 +11,12 @@ use crate::drivers::{counts, driven, least};
 use crate::driving::nets_in_order;
 use crate::levels::levels_by;
 use crate::{Gate, Latch, Name, NetFault, NetMaker, Numbers};
-use graph_core::RingFault;
+use graph_core::CycleFault;
 use std::alloc::{AllocError, Global};
 use std::marker::Model;
 
 /// A sound net. Contracts see it as its net list.
-/// The type keeps that each net has exactly one driver, that no gates drive each other in a ring,
+/// The type keeps that each net has exactly one driver, that no gates drive each other in a cycle,
 /// and that nets, gates and latches are within their limits of 1,048,576.
 #[derive(Drop)]
 pub struct Net {
@@ -149,7 +149,7 @@ fn check_drivers(alloc: Global, net: &NetMaker) -> Result<(), NetFault>
     Ok(())
 }
 
-// The level of each net, if no gates drive each other in a ring.
+// The level of each net, if no gates drive each other in a cycle.
 fn find_levels(alloc: Global, net: &NetMaker) -> Result<Vec<Option<u32>>, NetFault>
     requires { HasOneDriverEach net.now }
     ensures levels { IfOk result (λ v. AllHaveLevels net.now v.items) }
@@ -161,8 +161,8 @@ fn find_levels(alloc: Global, net: &NetMaker) -> Result<Vec<Option<u32>>, NetFau
             let levels = levels_by(alloc, net, &order)?;
             Ok(levels)
         }
-        Err(RingFault::Ring { points }) => Err(loop_fault(alloc, net, points)),
-        Err(RingFault::OutOfMemory) => Err(NetFault::OutOfMemory),
+        Err(CycleFault::Cycle { points }) => Err(loop_fault(alloc, net, points)),
+        Err(CycleFault::OutOfMemory) => Err(NetFault::OutOfMemory),
     }
 }
 
@@ -195,7 +195,7 @@ fn loop_fault(alloc: Global, net: &NetMaker, nets: Vec<u32>) -> NetFault
 impl NetMaker {
     /// The net, if it is sound. A driver of a net is an input, a gate or a latch.
     /// `DrivenTwice` names the least net with two drivers; else `Undriven` the least with none;
-    /// else `Loop` a ring of gates: where gates all of whose inputs have a level are removed as often as possible,
+    /// else `Loop` a cycle of gates: where gates all of whose inputs have a level are removed as often as possible,
     /// a walk begins at the remaining gate of least position and goes on to the driver of its first input that a
     /// remaining gate drives, until it meets a gate again; the list holds the outputs from this gate on.
     pub fn finish(self) -> Result<Net, NetFault>

@@ -51,7 +51,7 @@ fn values(alloc: Global, net: &Net, bits: &[bool]) -> Result<Vec<bool>, AllocErr
 }
 
 #[test]
-fn ring_of_one(rt: HostRuntime) -> Result<(), Fail> {
+fn cycle_of_one(rt: HostRuntime) -> Result<(), Fail> {
     let alloc = rt.alloc();
     let mut maker = with_labels(alloc, &["x", "a"])?;
     maker.input(1)?;
@@ -61,7 +61,7 @@ fn ring_of_one(rt: HostRuntime) -> Result<(), Fail> {
 }
 
 #[test]
-fn ring_of_two_found_from_a_gate_that_reads_it(rt: HostRuntime) -> Result<(), Fail> {
+fn cycle_of_two_found_from_a_gate_that_reads_it(rt: HostRuntime) -> Result<(), Fail> {
     let alloc = rt.alloc();
     let mut maker = with_labels(alloc, &["a", "x", "y", "z"])?;
     maker.input(0)?;
@@ -73,7 +73,7 @@ fn ring_of_two_found_from_a_gate_that_reads_it(rt: HostRuntime) -> Result<(), Fa
 }
 
 #[test]
-fn ring_of_two_found_from_its_second_net(rt: HostRuntime) -> Result<(), Fail> {
+fn cycle_of_two_found_from_its_second_net(rt: HostRuntime) -> Result<(), Fail> {
     let alloc = rt.alloc();
     let mut maker = with_labels(alloc, &["x", "y"])?;
     maker.gate(1, &[0], 2)?;
@@ -82,9 +82,9 @@ fn ring_of_two_found_from_its_second_net(rt: HostRuntime) -> Result<(), Fail> {
     Ok(())
 }
 
-// Nets 0 to 4 are a ring, 5 reads an input and 3, and 6 and 7 are a ring that is not met.
+// Nets 0 to 4 are a cycle, 5 reads an input and 3, and 6 and 7 are a cycle that is not met.
 #[test]
-fn ring_of_five(rt: HostRuntime) -> Result<(), Fail> {
+fn cycle_of_five(rt: HostRuntime) -> Result<(), Fail> {
     let alloc = rt.alloc();
     let mut maker = with_labels(alloc, &["v", "w", "x", "y", "z", "r", "s", "t", "a"])?;
     maker.input(8)?;

@@ -1,6 +1,6 @@
 -- The order of variables has each net once.
 use Rattle.std.proofs.Common.{◌≡◌, ◌∙◌, ap, sym, refl, ⊎_elim, subst, ℕ, zero, suc, ◌<◌, ◌≤◌, ◌+◌, ◌==◌, not, List, [], ◌∷◌, ◌++◌, length, filter, Bool, true, false, cond, Some, arith}
-use Rattle.std.specs.Prelude.{slice_get}
+use Rattle.std.specs.Prelude.{◌↔◌, slice_get, slice_index}
 use Rattle.std.specs.List.{range_with_len}
 use Rattle.std.proofs.lemmas.Bool.{true≢false}
 use Rattle.std.proofs.lemmas.Bool.Decides.{eqb_tells}
@@ -154,6 +154,12 @@ one_rank net binding p q n inside bound first second =
   where
     apart : (p < q → ⊥) → (q < p → ⊥) → p ≡ q
     apart f g = omega (arith, f, g)
+
+-- two variables have the same rank exactly where they are the same net
+pub one_to_one : (net : NetList) (binding : Binding) (p q n m : ℕ) → IsInside net → IsBoundTo net binding → IsRanked (variables (nets net) binding.words) p n → IsRanked (variables (nets net) binding.words) q m → (p ≡ q) ↔ (n ≡ m)
+one_to_one net binding p q n m inside bound first second =
+    let P : ℕ → Type 0 = IsRanked (variables (nets net) binding.words) q in
+    ((λ same. sym first.1 ∙ (ap (slice_index (variables (nets net) binding.words)) same ∙ second.1)), λ same. one_rank net binding p q n inside bound first (subst P (sym same) second))
 
 -- the net of a rank exists
 pub ranked_within : (net : NetList) (binding : Binding) (rank n : ℕ) → IsInside net → IsBoundTo net binding → IsRanked (variables (nets net) binding.words) rank n → (rank < nets net) × (n < nets net)

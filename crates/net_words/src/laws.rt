@@ -1,5 +1,5 @@
 //! Laws of signatures and bindings. These functions do nothing: their contracts are proved of the definitions alone.
-ghost use Rattle.std.specs.Prelude.{◌≡◌, ◌<◌, List, Ok, length, ℕ};
+ghost use Rattle.std.specs.Prelude.{◌≡◌, ◌<◌, ◌↔◌, List, Ok, length, ℕ};
 ghost use Rattle.text_core.specs.Outcome.{Determined};
 ghost use Rattle.net_core.specs.Lists.{Has, times};
 ghost use Rattle.net_core.specs.NetList.{NetList, nets};
@@ -29,6 +29,12 @@ pub fn each_net_has_one_rank()
     ensures within { (net : NetList) (binding : Binding) (n : ℕ) → IsSound net → IsBoundTo net binding → Has (variables (nets net) binding.words) n → n < nets net }
     ensures long { (net : NetList) (binding : Binding) → IsSound net → IsBoundTo net binding → length (variables (nets net) binding.words) ≡ nets net }
     ensures one { (net : NetList) (binding : Binding) (p q n : ℕ) → IsSound net → IsBoundTo net binding → IsRanked (variables (nets net) binding.words) p n → IsRanked (variables (nets net) binding.words) q n → p ≡ q }
+{}
+
+/// Where words are bound to a sound net, the ranks of two variables are the same exactly where their nets are.
+/// So `net_of` and `rank_of` are inverse of each other at arguments below the number of nets.
+pub fn ranks_and_nets_are_one_to_one()
+    ensures { (net : NetList) (binding : Binding) (p q n m : ℕ) → IsSound net → IsBoundTo net binding → IsRanked (variables (nets net) binding.words) p n → IsRanked (variables (nets net) binding.words) q m → (p ≡ q) ↔ (n ≡ m) }
 {}
 
 /// The words of a signature have names, and no two have the same.

@@ -29,7 +29,8 @@ pub use bound::Bound;
 pub use combinational::Combinational;
 pub use fault::SigFault;
 pub use laws::{
-    each_net_has_one_rank, one_binding_or_fault, one_signature_or_fault, words_have_names,
+    each_net_has_one_rank, one_binding_or_fault, one_signature_or_fault,
+    ranks_and_nets_are_one_to_one, words_have_names,
 };
 pub use reader::read_signature;
 pub use signature::Signature;

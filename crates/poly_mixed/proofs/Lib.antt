@@ -1,6 +1,13 @@
 pub mod FieldLaws
 pub mod Monomials
 pub mod Ranks
+pub mod SlotListLemmas
+pub mod ListsAtLemmas
+pub mod MonoLemmas
+pub mod IndexLemmas
+pub mod PlaceLemmas
+pub mod TakenLemmas
+pub mod AddedLemmas
 pub mod Terms
 pub mod Sums
 pub mod Values
@@ -29,3 +36,4 @@ pub mod ReadBack
 pub mod TextLaws
 pub mod Recorders
 mod Examples
+mod FormLemmas

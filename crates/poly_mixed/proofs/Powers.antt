@@ -6,7 +6,7 @@ use Rattle.std.proofs.lemmas.Bool.{eqb-true, eqb-false}
 use Rattle.std.specs.List.{AllByRecursion}
 use Rattle.gf_field.specs.Power.{power}
 use Rattle.poly_mixed.specs.Monomial.{Monomial}
-use Rattle.poly_mixed.specs.Polynomial.{Polynomial, polynomial, Point, IsPoint, IsElement, IsMonomial, IsPolynomialOf, powers, term_value}
+use Rattle.poly_mixed.specs.Polynomial.{Polynomial, Terms, Point, IsPoint, IsElement, IsMonomial, IsPolynomialOf, powers, term_value}
 use Rattle.poly_mixed.specs.Sum.{with_coefficient}
 use Rattle.poly_mixed.specs.Uniqueness.{IsZeros}
 use Rattle.poly_mixed.proofs.FieldLaws.{IsField}
@@ -50,10 +50,10 @@ module _ {degree : ℕ} {mul : ℕ → ℕ → ℕ} (f : IsField degree mul) whe
       } in
       subst P (sym is) it
 
-  pub power_polynomial : (w e c : ℕ) (m : Monomial) (q : Polynomial) → w < 8 → m ≡ record { exponents = set zeros8 w e; bits = [] } → IsElement degree e → IsElement degree c → q ≡ polynomial (with_coefficient m c [])
+  pub power_polynomial : (w e c : ℕ) (m : Monomial) (q : Polynomial) → w < 8 → m ≡ record { exponents = set zeros8 w e; bits = [] } → IsElement degree e → IsElement degree c → q.terms ≡ with_coefficient m c []
       → IsPolynomialOf degree mul (λ p. mul c (power mul (slice_index p.words w) e)) q.terms
   power_polynomial w e c m q l is he hc made =
-      let P : Polynomial → Type 0 = λ q. IsPolynomialOf degree mul (λ p. mul c (power mul (slice_index p.words w) e)) q.terms in
+      let P : Terms → Type 0 = IsPolynomialOf degree mul (λ p. mul c (power mul (slice_index p.words w) e)) in
       let M : Monomial → Type 0 = λ m. IsPolynomialOf degree mul (λ p. mul c (power mul (slice_index p.words w) e)) (with_coefficient m c []) in
       let m' : Monomial = record { exponents = set zeros8 w e; bits = [] } in
       subst P (sym made) (subst M (sym is) (elim (c == 0) as (λ b. (c == 0) ≡ b → IsPolynomialOf degree mul (λ p. mul c (power mul (slice_index p.words w) e)) (cond b [] ((m', c) ∷ []))) [

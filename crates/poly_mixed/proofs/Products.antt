@@ -11,7 +11,7 @@ use Rattle.poly_mixed.proofs.FieldLaws.{IsField}
 use Rattle.poly_mixed.specs.Monomial.{Monomial}
 use lib.Bits.{xor_lt, xor_zero_r, xor_assoc}
 use Rattle.poly_mixed.specs.Monomial.{text_cmp}
-use Rattle.poly_mixed.specs.Polynomial.{Polynomial, polynomial, Terms, Point, IsPoint, IsTerm, IsReduced, powers, term_value, value}
+use Rattle.poly_mixed.specs.Polynomial.{Polynomial, Terms, Point, IsPoint, IsTerm, IsReduced, powers, term_value, value}
 use Rattle.gf_field.specs.Power.{power}
 use Rattle.poly_mixed.specs.Sum.{plus_term}
 use Rattle.poly_mixed.specs.Product.{add_exponent, add_exponents, with_rank, union, times, AddsProduct}
@@ -233,7 +233,7 @@ module _ {degree : ℕ} {mul : ℕ → ℕ → ℕ} (f : IsField degree mul) whe
         ∙ ap (bit_xor (value mul p ts)) (sym (distrib_right x y v hx hy hv))
 
     pub turn : (ts rest next : Terms) (m n : Monomial) (c d : ℕ) → IsReduced degree ts → IsTerm degree (m, c) → c ≢ 0 → rest ≡ (n, d) ∷ next → AllByRecursion (IsTerm degree) rest → AllByRecursion (λ t. t.1 ≢ 0) rest
-        → (k e : ℕ) (w : Monomial) (new : Polynomial) → k ≡ degree → w ≡ times k m n → e ≡ mul c d → new ≡ polynomial (plus_term text_cmp ts (w, e))
+        → (k e : ℕ) (w : Monomial) (new : Polynomial) → k ≡ degree → w ≡ times k m n → e ≡ mul c d → new.terms ≡ plus_term text_cmp ts (w, e)
         → IsReduced degree new.terms × AllByRecursion (IsTerm degree) next × AllByRecursion (λ t. t.1 ≢ 0) next
         × ((p : Point) → IsPoint degree p → bit_xor (value mul p new.terms) (mul (term_value mul p (m, c)) (value mul p next)) ≡ bit_xor (value mul p ts) (mul (term_value mul p (m, c)) (value mul p rest)))
     turn ts rest next m n c d r hm nc is all nonzero k e w new hk hw he hnew =
@@ -242,7 +242,7 @@ module _ {degree : ℕ} {mul : ℕ → ℕ → ℕ} (f : IsField degree mul) whe
         let all' : AllByRecursion (IsTerm degree) ((n, d) ∷ next) = subst P is all in
         let nz : AllByRecursion (λ t. t.1 ≢ 0) ((n, d) ∷ next) = subst N is nonzero in
         let same : new.terms ≡ plus_term text_cmp ts (times degree m n, mul c d) =
-        ap (λ (q : Polynomial). q.terms) hnew ∙ (λ i. plus_term text_cmp ts ((hw ∙ ap (λ (j : ℕ). times j m n) hk) i, he i)) in
+        hnew ∙ (λ i. plus_term text_cmp ts ((hw ∙ ap (λ (j : ℕ). times j m n) hk) i, he i)) in
         let Q : Terms → Type 0 = IsReduced degree in
         let one = one_term (times degree m n) (mul c d) (term-times m n c d hm all'.0) (product_nonzero c d hm.element all'.0.element nc nz.0) in (
           subst Q (sym same) (reduced_plus f ts ((times degree m n, mul c d) ∷ []) r one),

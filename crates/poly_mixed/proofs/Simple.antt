@@ -14,7 +14,7 @@ use Rattle.std.specs.Map.{keys_of}
 use Rattle.poly_mixed.specs.Polynomial.{IsElement}
 use Rattle.poly_mixed.proofs.FieldLaws.{IsField}
 use Rattle.poly_mixed.specs.Monomial.{Monomial, text_cmp}
-use Rattle.poly_mixed.specs.Polynomial.{Polynomial, polynomial, Terms, Point, IsPoint, IsMonomial, IsReduced, term_value, value}
+use Rattle.poly_mixed.specs.Polynomial.{Polynomial, Terms, Point, IsPoint, IsMonomial, IsReduced, term_value, value}
 use Rattle.poly_mixed.specs.Sum.{with_coefficient}
 use Rattle.poly_mixed.specs.Table.{index, table_bit}
 use Rattle.poly_mixed.specs.Uniqueness.{IsZeros}
@@ -95,9 +95,9 @@ module _ {degree : ℕ} {mul : ℕ → ℕ → ℕ} (f : IsField degree mul) whe
       let is : IsMonomial degree (record { exponents = zeros8; bits = rs }) = record { words = refl; exponents = (z, (z, (z, (z, (z, (z, (z, (z, tt)))))))); rising = up } in
       subst P (sym e) is
 
-  pub bits_polynomial : (rs : List ℕ) (m : Monomial) (c : ℕ) (q : Polynomial) → m ≡ record { exponents = zeros8; bits = rs } → IsStrictlySortedBy nat_cmp rs → IsElement degree c → q ≡ polynomial (with_coefficient m c []) → IsPolynomialOf degree mul (λ p. cond (list_all p.is_one rs) c 0) q.terms
+  pub bits_polynomial : (rs : List ℕ) (m : Monomial) (c : ℕ) (q : Polynomial) → m ≡ record { exponents = zeros8; bits = rs } → IsStrictlySortedBy nat_cmp rs → IsElement degree c → q.terms ≡ with_coefficient m c [] → IsPolynomialOf degree mul (λ p. cond (list_all p.is_one rs) c 0) q.terms
   bits_polynomial rs m c q e up ec is =
-      let P : Polynomial → Type 0 = λ q. IsPolynomialOf degree mul (λ p. cond (list_all p.is_one rs) c 0) q.terms in
+      let P : Terms → Type 0 = IsPolynomialOf degree mul (λ p. cond (list_all p.is_one rs) c 0) in
       let Q : Monomial → Type 0 = λ m. IsPolynomialOf degree mul (λ p. cond (list_all p.is_one rs) c 0) (with_coefficient m c []) in
       let n : Monomial = record { exponents = zeros8; bits = rs } in
       subst P (sym is) (subst Q (sym e) (one_simple f c n ec (bits_monomial rs n refl up) (refl, (refl, (refl, (refl, (refl, (refl, (refl, (refl, tt))))))))))

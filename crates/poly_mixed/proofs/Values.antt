@@ -78,7 +78,7 @@ coefficient-plus ts us m s v = found-plus text_cmp text_cmp_total text_cmp-same 
 pub same_map : (ts us : Terms) → IsMap ts → IsMap us → ((m : Monomial) → coefficient ts m ≡ coefficient us m) → ts ≡ us
 same_map ts us s v h = same_terms text_cmp text_cmp_total text_cmp-same ts us s.sorted v.sorted s.nonzero v.nonzero h
 
-nothing_map : IsMap []
+pub nothing_map : IsMap []
 unfolding IsStrictlySortedBy
 nothing_map = record { sorted = tt; rising = tt; nonzero = tt }
 

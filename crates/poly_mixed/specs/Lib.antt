@@ -1,5 +1,6 @@
 pub mod Monomial
 pub mod Polynomial
+pub mod Slots
 pub mod Sum
 pub mod Product
 pub mod Cofactor
@@ -14,3 +15,4 @@ pub mod Scan
 pub mod Reading
 pub mod ReadingState
 pub mod TextLaw
+pub mod private

@@ -2,7 +2,7 @@
 -- A polynomial is a finite map from monomials to elements that are not 0. It is kept as the list of its terms in the
 -- order of a text, so that equal maps are equal lists.
 -- Source: Lidl and Niederreiter, Finite Fields, chapter 7.
-use Rattle.std.specs.Prelude.{◌≡◌, ◌≢◌, ℕ, ◌<◌, ◌^◌, Bool, cond, List, [], ◌∷◌, length, false, slice_index_or}
+use Rattle.std.specs.Prelude.{◌≡◌, ◌≢◌, ℕ, ◌<◌, ◌^◌, Bool, cond, List, [], ◌∷◌, length, false, slice_index_or, Option}
 use Rattle.std.specs.List.{AllByRecursion, list_all}
 use Rattle.std.specs.List.Sorted.{IsStrictlySortedBy}
 use Rattle.std.specs.Map.{keys_of, lookup}
@@ -20,12 +20,14 @@ IsElement k x = x < 2 ^ k
 abbrev pub Terms : Type 0
 Terms = List (Monomial × ℕ)
 
--- what a `Poly` is
+-- monomials by slot; a slot may be empty
+abbrev pub Slots : Type 0
+Slots = List (Option Monomial)
+
+-- what a `Poly` is: a map, kept as the list of its terms, and the slots in which its monomials stand
 pub record Polynomial : Type 0 where
   pub terms : Terms
-
-abbrev pub polynomial : Terms → Polynomial
-polynomial ts = record { terms = ts }
+  pub slots : Slots
 
 -- the coefficient of a monomial, 0 where the polynomial has no such term
 abbrev pub coefficient : Terms → Monomial → ℕ

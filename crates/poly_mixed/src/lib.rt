@@ -4,10 +4,13 @@
 
 mod evaluate;
 mod fault;
+mod index;
 mod labels;
 mod laws;
+mod lists;
 mod mono;
 mod named;
+mod place;
 mod poly;
 mod read;
 mod scan;
@@ -15,6 +18,8 @@ mod single;
 mod stage;
 mod steps;
 mod table;
+#[cfg(test)]
+mod table_tests;
 mod term;
 #[cfg(test)]
 mod tests;
@@ -33,6 +38,6 @@ pub use read::read_poly;
 pub use single::{constant, scaled_bit, scaled_power};
 pub use stage::{ReduceFault, Stage};
 pub use steps::{Generator, NoSteps, Steps};
-pub use table::table_poly;
+pub use table::{exclusive_form, table_poly};
 pub use term::Term;
 pub use write::write_poly;

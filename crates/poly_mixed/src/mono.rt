@@ -7,7 +7,7 @@ ghost use Rattle.poly_mixed.specs.Product.{add_exponent, add_exponents, with_ran
 ghost use Rattle.std.specs.List.Sorted.{IsStrictlySortedBy};
 ghost use Rattle.std.specs.Ordering.{nat_cmp, eq_by_cmp, as_partial_cmp};
 ghost use Rattle.std.specs.Cmp.{partial_order_from_total, partial_equiv_from_equiv, eq_by_cmp_equiv};
-ghost use Rattle.poly_mixed.specs.Monomial.{Monomial, has_bit, ranks_cmp, text_cmp, text_cmp_total};
+ghost use Rattle.poly_mixed.specs.Monomial.{Monomial, exponents_cmp, has_bit, ranks_cmp, text_cmp, text_cmp_total};
 
 use smallvec::SmallVec;
 use std::alloc::{AllocError, Global};
@@ -18,11 +18,13 @@ use std::marker::Model;
 #[derive(Drop)]
 pub struct Mono {
     exponents: [u64; 8],
+    // false only where each exponent is 0: most monomials are of bits alone, and their exponents are not read
+    has_words: bool,
     bits: SmallVec<u32, 6>,
 }
 
 impl Model for Mono {
-    ghost use Rattle.std.specs.Prelude.{◌≡◌, length};
+    ghost use Rattle.std.specs.Prelude.{◌≡◌, length, IsFalse, replicate};
     ghost use Rattle.std.specs.List.Sorted.{IsStrictlySortedBy};
     ghost use Rattle.std.specs.Ordering.{nat_cmp};
     ghost use Rattle.poly_mixed.specs.Monomial.{Monomial};
@@ -31,7 +33,7 @@ impl Model for Mono {
 
     ghost view = { λ m. record { exponents = m.exponents; bits = m.bits.items } };
 
-    ghost invariant = { λ m. IsStrictlySortedBy nat_cmp m.bits.items };
+    ghost invariant = { λ m. IsStrictlySortedBy nat_cmp m.bits.items × (IsFalse m.has_words → m.exponents ≡ replicate 8 0) };
 }
 
 impl Mono {
@@ -42,6 +44,7 @@ impl Mono {
     {
         Ok(Mono {
             exponents: *exponents,
+            has_words: *exponents != [0; 8],
             bits: SmallVec::from_slice(alloc, bits)?,
         })
     }
@@ -72,9 +75,24 @@ impl Mono {
             add_rank(&mut bits, *r)?;
         }
         Ok(Mono {
-            exponents: sum_exponents(&self.exponents, &other.exponents, k),
+            exponents: self.times_words(other, k),
+            has_words: self.has_words || other.has_words,
             bits,
         })
+    }
+
+    // The exponents of the product's words.
+    fn times_words(&self, other: &Mono, k: u32) -> [u64; 8]
+        requires k_in { (1 ≤ k) × (k ≤ 64) }
+        requires over { AllByRecursion (λ e. e < 2 ^ k) self.now.exponents }
+        requires other_over { AllByRecursion (λ e. e < 2 ^ k) other.now.exponents }
+        ensures { result ≡ add_exponents k self.now.exponents other.now.exponents }
+    {
+        if self.has_words || other.has_words {
+            sum_exponents(&self.exponents, &other.exponents, k)
+        } else {
+            [0; 8]
+        }
     }
 
     // The monomial without the bit.
@@ -89,8 +107,18 @@ impl Mono {
         }
         Ok(Mono {
             exponents: self.exponents,
+            has_words: self.has_words,
             bits,
         })
+    }
+
+    // Takes the bit out.
+    pub(crate) fn drop_bit(&mut self, bit: u32)
+        ensures { self.new ≡ without_bit bit self.old }
+    {
+        if let Ok(i) = self.bits.as_slice().binary_search(&bit) {
+            self.bits.remove(i);
+        }
     }
 
     // Gives a word an exponent.
@@ -99,6 +127,7 @@ impl Mono {
         ensures { self.new ≡ record { exponents = slice_set self.old.exponents word exponent; bits = self.old.bits } }
     {
         self.exponents[word] = exponent;
+        self.has_words = true;
     }
 
     // Puts a bit into it. After want of memory it is not used again.
@@ -109,11 +138,24 @@ impl Mono {
         Ok(())
     }
 
+    // The order of the exponents of the words.
+    fn compare_words(&self, other: &Mono) -> Ordering
+        ensures { result ≡ exponents_cmp self.now.exponents other.now.exponents }
+    {
+        if self.has_words || other.has_words {
+            other.exponents.as_slice().cmp(&self.exponents.as_slice())
+        } else {
+            Ordering::Equal
+        }
+    }
+
+    // Another monomial that is the same.
     pub(crate) fn copied(&self) -> Result<Mono, AllocError>
         ensures { IfOk result (λ m. m ≡ self.now) }
     {
         Ok(Mono {
             exponents: self.exponents,
+            has_words: self.has_words,
             bits: self.bits.clone()?,
         })
     }
@@ -164,8 +206,10 @@ impl Ord for Mono {
     ghost matches_eq = { λ x y. refl };
 
     fn cmp(&self, other: &Mono) -> Ordering {
-        let words = other.exponents.as_slice().cmp(&self.exponents.as_slice());
-        words.then(compare_ranks(self.bits.as_slice(), other.bits.as_slice()))
+        match self.compare_words(other) {
+            Ordering::Equal => compare_ranks(self.bits.as_slice(), other.bits.as_slice()),
+            words => words,
+        }
     }
 }
 

@@ -1,13 +1,20 @@
 //! Polynomials as finite maps from monomials to coefficients.
-ghost use Rattle.std.specs.Prelude.{◌≡◌, ℕ, ◌<◌, ◌≢◌, length, IfOk, OnOk, OnErr, ◌↔◌, bit_xor, []};
+ghost use Rattle.std.specs.Prelude.{◌≡◌, ℕ, ◌<◌, ◌≢◌, length, IfOk, IfSome, IfNone, OnOk, ◌↔◌, bit_xor, true, []};
 ghost use Rattle.std.specs.List.{AllByRecursion, list_any};
+ghost use Rattle.std.specs.Option.{option_map};
+ghost use Rattle.std.specs.List.Sorted.{IsStrictlySortedBy};
+ghost use Rattle.std.specs.Ordering.{nat_cmp};
 ghost use Rattle.poly_mixed.specs.Monomial.{Monomial, has_bit, text_cmp};
-ghost use Rattle.poly_mixed.specs.Polynomial.{Polynomial, polynomial, Point, coefficient, IsElement, IsMap, IsReduced, IsTerm, IsPoint, point, value};
+ghost use Rattle.poly_mixed.specs.private.Indexed.{terms_in, IsIndexed, IsTaken};
+ghost use Rattle.poly_mixed.specs.Slots.{AreSlotsOf, IsListOf, term_in};
+ghost use Rattle.poly_mixed.specs.Polynomial.{Point, coefficient, IsElement, IsMap, IsReduced, IsTerm, IsPoint, point, value};
 ghost use Rattle.poly_mixed.specs.Cofactor.{cofactors, lacking, LacksBit, IsCofactor, HasCofactorValues, IsSubstituted};
 ghost use Rattle.poly_mixed.specs.Product.{IsProduct, AddsProduct};
 ghost use Rattle.poly_mixed.specs.Sum.{with_coefficient, plus_term, plus};
 
 use crate::evaluate::term_value;
+use crate::index::Index;
+use crate::place::Place;
 use crate::{Mono, Term};
 use gf_field::Field;
 use std::alloc::{AllocError, Global};
@@ -18,27 +25,30 @@ use std::marker::Model;
 /// A polynomial over a field, always reduced: a finite map from monomials to elements that are not 0.
 #[derive(Drop)]
 pub struct Poly {
-    map: BTreeMap<Mono, u64>,
+    map: BTreeMap<Mono, Place>,
+    index: Index,
     alloc: Global,
 }
 
 impl Model for Poly {
-    ghost use Rattle.poly_mixed.specs.Polynomial.{Polynomial, polynomial, IsMap};
+    ghost use Rattle.poly_mixed.specs.Polynomial.{Polynomial};
+    ghost use Rattle.poly_mixed.specs.private.Indexed.{terms_in, IsIndexed};
 
     ghost Value = { Polynomial };
 
-    ghost view = { λ p. polynomial p.map.entries };
+    ghost view = { λ p. record { terms = terms_in p.map.entries; slots = p.index } };
 
-    ghost invariant = { λ p. IsMap p.map.entries };
+    ghost invariant = { λ p. IsIndexed p.map.entries p.index };
 }
 
 impl Poly {
     /// The polynomial without terms.
     pub fn zero(alloc: Global) -> Poly
-        ensures { result ≡ polynomial [] }
+        ensures { result.terms ≡ [] }
     {
         Poly {
             map: BTreeMap::new(alloc),
+            index: Index::new(alloc),
             alloc,
         }
     }
@@ -58,17 +68,17 @@ impl Poly {
         mono: Mono,
     ) -> Result<Poly, AllocError>
         requires { IsTerm (F.degree _field.now) (mono, coefficient) }
-        ensures { IfOk result (λ p. p ≡ polynomial (with_coefficient mono coefficient [])) }
+        ensures { IfOk result (λ p. p.terms ≡ with_coefficient mono coefficient []) }
     {
-        let _rising = mono.bits();
-        let mut map = BTreeMap::new(alloc);
+        let mut poly = Poly::zero(alloc);
         if coefficient != 0 {
-            map.insert(mono, coefficient)?;
+            poly.add_term(mono, coefficient)?;
         }
-        Ok(Poly { map, alloc })
+        Ok(poly)
     }
 
     /// Adds another polynomial to it; both are over the field, with coefficients and exponents below 2^k.
+    /// After want of memory the polynomial is not used again.
     pub fn add_into<F: Field>(&mut self, _field: &F, other: &Poly) -> Result<(), AllocError>
         requires over { IsReduced (F.degree _field.now) self.old.terms }
         requires other_over { IsReduced (F.degree _field.now) other.now.terms }
@@ -80,10 +90,10 @@ impl Poly {
     }
 
     fn add_terms(&mut self, other: &Poly) -> Result<(), AllocError>
-        ensures { OnOk result (self.new ≡ polynomial (plus text_cmp self.old.terms other.now.terms)) }
+        ensures { OnOk result (self.new.terms ≡ plus text_cmp self.old.terms other.now.terms) }
     {
-        for (mono, coefficient) in &other.map {
-            self.add_term(mono.copied()?, *coefficient)?;
+        for (mono, place) in &other.map {
+            self.add_term(mono.copied()?, place.coefficient)?;
         }
         Ok(())
     }
@@ -91,11 +101,17 @@ impl Poly {
     /// Adds a term, whose coefficient is not 0. After want of memory the polynomial is not used again.
     pub fn add_term(&mut self, mono: Mono, c: u64) -> Result<(), AllocError>
         requires { c ≢ 0 }
-        ensures { OnOk result (self.new ≡ polynomial (plus_term text_cmp self.old.terms (mono, c))) }
+        ensures { OnOk result (self.new.terms ≡ plus_term text_cmp self.old.terms (mono, c)) }
     {
         let _rising = mono.bits();
-        add_to(&mut self.map, mono, c)?;
-        Ok(())
+        match add_to(&mut self.map, &mut self.index, mono, c) {
+            Ok(()) => Ok(()),
+            Err(fault) => {
+                self.map.clear();
+                self.index = Index::new(self.alloc);
+                Err(fault)
+            }
+        }
     }
 
     /// The reduced polynomial of the product's values; both are over the field, with coefficients and exponents below 2^k.
@@ -106,8 +122,8 @@ impl Poly {
         ensures values { IfOk result (λ q. IsProduct (F.degree field.now) (F.product field.now) q.terms self.now.terms other.now.terms) }
     {
         let mut out = Poly::zero(alloc);
-        for (mono, c) in &self.map {
-            out.add_product(field, mono, *c, other)?;
+        for (mono, place) in &self.map {
+            out.add_product(field, mono, place.coefficient, other)?;
         }
         Ok(out)
     }
@@ -127,8 +143,8 @@ impl Poly {
         ensures values { OnOk result (AddsProduct (F.degree field.now) (F.product field.now) (mono.now, c) other.now.terms self.old.terms self.new.terms) }
     {
         let k = field.k();
-        for (n, d) in &other.map {
-            self.add_term(mono.times(n, k)?, field.mul(c, *d))?;
+        for (n, place) in &other.map {
+            self.add_term(mono.times(n, k)?, field.mul(c, place.coefficient))?;
         }
         Ok(())
     }
@@ -149,31 +165,55 @@ impl Poly {
         ensures map { IsMap self.now.terms }
     {
         let mut out = Poly::zero(alloc);
-        for (mono, c) in &self.map {
+        for (mono, place) in &self.map {
             if mono.has(bit) {
-                out.add_term(mono.without(bit)?, *c)?;
+                out.add_term(mono.without(bit)?, place.coefficient)?;
             }
         }
         Ok(out)
     }
 
     /// Takes out the terms with the bit, and gives them without it.
+    /// After want of memory the polynomial is not used again.
     pub fn take_cofactor(&mut self, alloc: Global, bit: u32) -> Result<Poly, AllocError>
         ensures map { IfOk result (λ q. IsCofactor bit self.old.terms q.terms) }
         ensures reduced { (k : ℕ) → IsReduced k self.old.terms → IfOk result (λ q. IsReduced k q.terms) }
         ensures values { (mul : ℕ → ℕ → ℕ) → IfOk result (λ q. HasCofactorValues mul bit self.old.terms q.terms) }
         ensures stands { IfOk result (λ q. LacksBit bit self.old.terms ↔ (q.terms ≡ [])) }
-        ensures left { OnOk result (self.new ≡ polynomial (lacking bit self.old.terms)) }
+        ensures left { OnOk result (self.new.terms ≡ lacking bit self.old.terms) }
     {
-        let part = self.cofactor(alloc, bit)?;
-        if part.len() == 0 {
-            return Ok(part);
+        self.take_bit(alloc, bit)
+    }
+
+    // The same, term by term.
+    fn take_bit(&mut self, alloc: Global, bit: u32) -> Result<Poly, AllocError>
+        ensures terms { IfOk result (λ q. q.terms ≡ cofactors bit self.old.terms) }
+        ensures left { OnOk result (self.new.terms ≡ lacking bit self.old.terms) }
+        ensures map { IsMap self.old.terms }
+    {
+        let _ = &self.map;
+        let mut part = Poly::zero(alloc);
+        while let Some((mut mono, c)) = self.take_last(bit) {
+            mono.drop_bit(bit);
+            part.add_term(mono, c)?;
         }
-        self.drop_bit(bit);
         Ok(part)
     }
 
+    // Takes out the term with the bit that has the greatest slot.
+    fn take_last(&mut self, bit: u32) -> Option<(Mono, u64)>
+        ensures taken { IfSome result (λ t. IsTaken self.old.terms t self.new.terms × (has_bit bit t.0 ≡ true)) }
+        ensures none { IfNone result (LacksBit bit self.old.terms × (self.new.terms ≡ self.old.terms)) }
+        ensures map { IsMap self.old.terms }
+    {
+        let slot = *self.index.of(bit).last()?;
+        let mono = self.index.take(slot)?;
+        let place = self.map.remove(&mono)?;
+        Some((mono, place.coefficient))
+    }
+
     /// Puts a polynomial in place of a bit; both are over the field, with coefficients and exponents below 2^k.
+    /// After want of memory the polynomial is not used again.
     pub fn substitute_bit<F: Field>(
         &mut self,
         field: &F,
@@ -185,28 +225,34 @@ impl Poly {
         ensures reduced { OnOk result (IsReduced (F.degree field.now) self.new.terms) }
         ensures values { OnOk result (IsSubstituted (F.degree field.now) (F.product field.now) bit by.now.terms self.old.terms self.new.terms) }
     {
-        let part = self.with_bit(self.alloc, bit)?;
+        let part = self.take_bit(self.alloc, bit)?;
         let product = part.mul(self.alloc, field, by)?;
-        self.drop_bit(bit);
         self.add_into(field, &product)
-    }
-
-    fn drop_bit(&mut self, bit: u32)
-        ensures { self.new ≡ polynomial (lacking bit self.old.terms) }
-    {
-        self.map.retain(|mono, _| !mono.has(bit));
     }
 
     /// Whether the bit stands in the polynomial.
     pub fn has(&self, bit: u32) -> bool
         ensures { result ≡ list_any (λ t. has_bit bit t.0) self.now.terms }
     {
-        for (mono, _) in &self.map {
-            if mono.has(bit) {
-                return true;
-            }
-        }
-        false
+        !self.index.of(bit).is_empty()
+    }
+
+    /// The slots of exactly the terms that have the bit, each once, by rising slot.
+    pub fn terms_of(&self, bit: u32) -> &[usize]
+        ensures list { IsListOf bit self.now.slots result.now }
+        ensures slots { AreSlotsOf self.now.terms self.now.slots }
+    {
+        self.index.of(bit)
+    }
+
+    /// The coefficient and the monomial in a slot, or none where the slot holds no term.
+    pub fn term_at(&self, slot: usize) -> Option<(u64, &Mono)>
+        ensures term { option_map (λ p. (p.0, p.1.now)) result ≡ term_in self.now slot }
+        ensures slots { AreSlotsOf self.now.terms self.now.slots }
+    {
+        let mono = self.index.at(slot)?;
+        let place = self.map.get(mono)?;
+        Some((place.coefficient, mono))
     }
 
     /// The terms in the order of a text: falling lexicographic order of the exponents of all variables.
@@ -214,16 +260,16 @@ impl Poly {
         ensures { IfOk result (λ v. v.items ≡ self.now.terms) }
     {
         let mut terms = Vec::with_capacity(alloc, self.map.len())?;
-        for (mono, c) in &self.map {
+        for (mono, place) in &self.map {
             let mono = mono.copied()?;
-            terms.push(Term::new(mono, *c))?;
+            terms.push(Term::new(mono, place.coefficient))?;
         }
         Ok(terms)
     }
 
     // The terms as a map.
-    pub(crate) fn map(&self) -> &BTreeMap<Mono, u64>
-        ensures { result.now.entries ≡ self.now.terms }
+    pub(crate) fn map(&self) -> &BTreeMap<Mono, Place>
+        ensures { terms_in result.now.entries ≡ self.now.terms }
     {
         &self.map
     }
@@ -235,29 +281,45 @@ impl Poly {
         ensures { result ≡ value (F.product field.now) (point words.now bits.now) self.now.terms }
     {
         let mut sum = 0;
-        for (mono, c) in &self.map {
-            sum ^= term_value(field, mono, *c, words, bits);
+        for (mono, place) in &self.map {
+            sum ^= term_value(field, mono, place.coefficient, words, bits);
         }
         sum
     }
 }
 
-// Adds a term to a map; the sum of two coefficients that is 0 leaves no term.
-fn add_to(map: &mut BTreeMap<Mono, u64>, mono: Mono, c: u64) -> Result<(), AllocError>
-    requires { c ≢ 0 }
-    ensures added { OnOk result (map.new.entries ≡ plus_term text_cmp map.old.entries (mono, c)) }
-    ensures unchanged { OnErr result (map.new.entries ≡ map.old.entries) }
+// Adds a term to a map of monomials in slots; the sum of two coefficients that is 0 leaves no term.
+fn add_to(
+    map: &mut BTreeMap<Mono, Place>,
+    index: &mut Index,
+    mono: Mono,
+    c: u64,
+) -> Result<(), AllocError>
+    requires nonzero { c ≢ 0 }
+    requires rising { IsStrictlySortedBy nat_cmp mono.bits }
+    requires indexed { IsIndexed map.old.entries index.old }
+    ensures added { OnOk result (terms_in map.new.entries ≡ plus_term text_cmp (terms_in map.old.entries) (mono, c)) }
+    ensures indexed { OnOk result (IsIndexed map.new.entries index.new) }
 {
     match map.entry(mono)? {
         Entry::Vacant(entry) => {
-            entry.insert(c);
+            let slot = index.put(entry.key().copied()?)?;
+            entry.insert(Place {
+                coefficient: c,
+                slot,
+            });
         }
         Entry::Occupied(mut entry) => {
-            let sum = *entry.get() ^ c;
+            let place = *entry.get();
+            let sum = place.coefficient ^ c;
             if sum == 0 {
                 entry.remove();
+                index.take(place.slot);
             } else {
-                entry.insert(sum);
+                entry.insert(Place {
+                    coefficient: sum,
+                    slot: place.slot,
+                });
             }
         }
     }

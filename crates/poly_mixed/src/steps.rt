@@ -14,6 +14,7 @@ pub enum Generator {
 
 /// A recorder of steps.
 pub trait Steps {
+    /// The steps that were recorded, in their order, where the recorder tells them.
     ghost steps: { Self → Option (List Step) };
 
     /// Whether the recorder tells its steps. One that does not needs no multipliers: who would hand it a step may leave it out.

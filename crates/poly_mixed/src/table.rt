@@ -1,7 +1,7 @@
-//! Polynomials of tables over bits.
-ghost use Rattle.std.specs.Prelude.{◌+◌, ◌*◌, ◌^◌, ◌<◌, ◌≤◌, cond, length, IfOk};
+//! Polynomials of tables over bits, and the exclusive-or form of a table.
+ghost use Rattle.std.specs.Prelude.{◌≡◌, ℕ, ◌+◌, ◌*◌, ◌%◌, ◌^◌, ◌<◌, ◌≤◌, Bool, List, cond, bit_and, bit_xor, length, IfOk};
 ghost use Rattle.poly_mixed.specs.Polynomial.{IsPolynomialOf};
-ghost use Rattle.poly_mixed.specs.Table.{index, table_bit, table_value};
+ghost use Rattle.poly_mixed.specs.Table.{index, subset_parity, table_bit, table_value};
 
 use crate::Poly;
 use crate::single::{constant, scaled_bit};
@@ -45,4 +45,25 @@ fn table_from<F: Field>(
     let mut out = bit.mul(alloc, field, &high)?;
     out.add_into(field, &low)?;
     Ok(out)
+}
+
+/// The exclusive-or form of a table: its bit at a place is the coefficient of the product of the inputs whose bits are 1 in
+/// the place. So the table's bit at an index is the exclusive or of the form's bits at all subsets of the index.
+pub fn exclusive_form(table: u64) -> u64
+    ensures { (bit : ℕ → Bool) (inputs : List ℕ) → length inputs ≤ 6 → table_bit table (index bit inputs) ≡ subset_parity (table_bit result) bit inputs 0 1 }
+{
+    let form = spread(table, 32, 0xffff_ffff_0000_0000);
+    let form = spread(form, 16, 0xffff_0000_ffff_0000);
+    let form = spread(form, 8, 0xff00_ff00_ff00_ff00);
+    let form = spread(form, 4, 0xf0f0_f0f0_f0f0_f0f0);
+    let form = spread(form, 2, 0xcccc_cccc_cccc_cccc);
+    spread(form, 1, 0xaaaa_aaaa_aaaa_aaaa)
+}
+
+// Adds to each bit of the mask's places the bit that stands so many places below it.
+fn spread(form: u64, places: u32, mask: u64) -> u64
+    requires { places < 64 }
+    ensures { result ≡ bit_xor form (bit_and (form * 2 ^ places % 2 ^ 64) mask) }
+{
+    form ^ ((form << places) & mask)
 }

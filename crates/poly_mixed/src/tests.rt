@@ -183,3 +183,53 @@ fn the_terms_with_a_bit_are_taken_out(rt: HostRuntime) -> Result<(), Fail> {
     assert_eq!(rt; poly.terms(alloc)?.len(), 1);
     Ok(())
 }
+
+// two linear forms of bits 0 and 1 and of bits 2 and 3, multiplied, and with 0 in place of bit 0
+fn product_of_words<F: Field>(
+    rt: &impl Abort,
+    alloc: Global,
+    field: &F,
+    replaced: bool,
+) -> Result<Poly, AllocError> {
+    assert!(rt; is_element(field, 0));
+    assert!(rt; is_element(field, 1));
+    assert!(rt; is_element(field, 2));
+    let mut left = scaled_bit(alloc, field, 1, 0)?;
+    left.add_into(field, &scaled_bit(alloc, field, 2, 1)?)?;
+    let mut right = scaled_bit(alloc, field, 1, 2)?;
+    right.add_into(field, &scaled_bit(alloc, field, 2, 3)?)?;
+    let mut product = left.mul(alloc, field, &right)?;
+    if replaced {
+        let none = constant(alloc, field, 0)?;
+        product.substitute_bit(field, 0, &none)?;
+    }
+    Ok(product)
+}
+
+#[test]
+fn terms_in_slots(rt: HostRuntime) -> Result<(), Fail> {
+    let alloc = rt.alloc();
+    let field = field(&rt, 0x7);
+    let poly = product_of_words(&rt, alloc, &field, false)?;
+    assert_eq!(rt; poly.terms_of(0).len(), 2);
+    assert_eq!(rt; poly.terms_of(4).len(), 0);
+    assert!(rt; poly.term_at(3).is_some());
+    assert!(rt; poly.term_at(4).is_none());
+    Ok(())
+}
+
+#[test]
+fn slots_after_a_bit_is_replaced(rt: HostRuntime) -> Result<(), Fail> {
+    let alloc = rt.alloc();
+    let field = field(&rt, 0x7);
+    let poly = product_of_words(&rt, alloc, &field, true)?;
+    assert_eq!(rt; poly.terms_of(0).len(), 0);
+    assert_eq!(rt; poly.terms_of(1).len(), 2);
+    let terms = poly.terms(alloc)?;
+    assert_eq!(rt; terms.len(), 2);
+    assert_eq!(rt; terms[0].coefficient(), 2);
+    assert_eq!(rt; terms[0].mono().bits(), [1, 2].as_slice());
+    assert_eq!(rt; terms[1].coefficient(), 3);
+    assert_eq!(rt; terms[1].mono().bits(), [1, 3].as_slice());
+    Ok(())
+}

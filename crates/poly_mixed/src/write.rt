@@ -19,8 +19,8 @@ pub fn write_poly(alloc: Global, poly: &Poly, labels: &Labels) -> Result<Vec<u8>
     }
     let mut out = Vec::new(alloc);
     let mut is_first = true;
-    for (mono, c) in poly.map() {
-        let term = term_text(alloc, mono, *c, labels)?;
+    for (mono, place) in poly.map() {
+        let term = term_text(alloc, mono, place.coefficient, labels)?;
         add_part(&mut out, is_first, b" + ", &term)?;
         is_first = false;
     }

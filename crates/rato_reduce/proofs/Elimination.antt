@@ -26,7 +26,7 @@ use Rattle.stage_model.specs.Variables.{rank_in, point_bit}
 use Rattle.stage_model.specs.Cut.{IsAmongFirst, IsSettled, IsCut}
 use Rattle.stage_model.specs.Stage.{IsOfStage}
 use Rattle.rato_reduce.specs.GatePoint.{gate_bit, with_gate, HasGatePutIn}
-use Rattle.rato_reduce.proofs.Ranks.{rank_apart}
+use Rattle.rato_reduce.proofs.RankLemmas.{rank_apart}
 use Rattle.net_core.proofs.EvalLemmas.{not_self, not_later}
 
 -- the output word's element, where the first t gates of this order are settled

@@ -1,4 +1,4 @@
-mod Ranks
+mod RankLemmas
 mod Elimination
 mod PutIn
 mod FirstCut
@@ -7,3 +7,7 @@ mod Inside
 mod Bound
 mod Recorded
 mod Turn
+mod CutLemmas
+mod CutSizeLemmas
+mod CutPartLemmas
+mod ProductLemmas

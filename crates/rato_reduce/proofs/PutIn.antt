@@ -11,7 +11,7 @@ use Rattle.poly_mixed.proofs.Values.{product_zero}
 
 module _ {k : ℕ} {mul : ℕ → ℕ → ℕ} (f : IsField k mul) where
   -- new has the values of old with the bit's place taken by h
-  pub put_in : (bit : ℕ) (old part new : Terms) (h : Point → Bool) → IsReduced k old → HasCofactorValues mul bit old part
+  pub put_in : (bit : ℕ) (old part new : Terms) (h : Point → Bool) → IsReduced k old → ((p : Point) → IsPoint k p → value mul p part ≡ bit_xor (value mul (at_bit p bit true) old) (value mul (at_bit p bit false) old))
       → ((p : Point) → IsPoint k p → value mul p new ≡ bit_xor (value mul p (lacking bit old)) (mul (cond (h p) 1 0) (value mul p part)))
       → (p : Point) → IsPoint k p → value mul p new ≡ value mul (at_bit p bit (h p)) old
   put_in bit old part new h reduced cofactor sum p is_point =
@@ -23,7 +23,7 @@ module _ {k : ℕ} {mul : ℕ → ℕ → ℕ} (f : IsField k mul) where
       let e0 : IsElement k none = value_element f (at_bit p bit false) at' old reduced.terms in
       let e : IsElement k (bit_xor one none) = xor_lt k one none e1 e0 in
       sum p is_point
-      ∙ (λ i. bit_xor (value-lacking mul p bit old i) (mul (cond (h p) 1 0) (cofactor p i)))
+      ∙ (λ i. bit_xor (value-lacking mul p bit old i) (mul (cond (h p) 1 0) (cofactor p is_point i)))
       ∙ elim (h p) as (λ v. bit_xor none (mul (cond v 1 0) (bit_xor one none)) ≡ value mul (at_bit p bit v) old) [
         | true ↦ ap (bit_xor none) (f.neutral (bit_xor one none) e ∙ xor_comm one none) ∙ sym (xor_assoc none none one) ∙ ap (λ n. bit_xor n one) (xor_self none) ∙ xor_zero_l one
         | false ↦ ap (bit_xor none) (product_zero f (bit_xor one none) e) ∙ xor_zero_r none

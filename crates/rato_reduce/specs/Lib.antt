@@ -1,3 +1,5 @@
-pub mod Refusal
 pub mod GatePoint
 pub mod Recorded
+pub mod CutKey
+pub mod CutTerms
+pub mod Monomials

@@ -1,20 +1,29 @@
 //! One gate put in place of its output.
-ghost use Rattle.std.specs.Prelude.{◌≡◌, ◌<◌, List, map, IfOk, OnOk};
+ghost use Rattle.std.specs.Prelude.{◌≡◌, ◌<◌, List, [], ◌∷◌, map, IfOk, OnOk};
+ghost use Rattle.std.specs.List.{AllByRecursion};
 ghost use Rattle.net_core.specs.NetList.{nets};
 ghost use Rattle.net_core.specs.Lists.{Has};
 ghost use Rattle.net_core.specs.Sound.{IsSound};
 ghost use Rattle.net_words.specs.Variables.{variables};
-ghost use Rattle.poly_mixed.specs.Polynomial.{IsReduced};
+ghost use Rattle.poly_mixed.specs.Monomial.{text_cmp};
+ghost use Rattle.poly_mixed.specs.Polynomial.{IsReduced, IsTerm};
 ghost use Rattle.poly_mixed.specs.Steps.{Step, Tells};
+ghost use Rattle.poly_mixed.specs.Sum.{plus};
+ghost use Rattle.poly_mixed.specs.declared.steps.Generator.TheVariants.{Net};
 ghost use Rattle.stage_model.specs.Variables.{rank_in};
 ghost use Rattle.stage_model.specs.CutSteps.{AreStepsAt};
+ghost use Rattle.rato_reduce.specs.CutTerms.{all_products, IsBitTerm};
 ghost use Rattle.rato_reduce.specs.GatePoint.{HasGatePutIn, AddsWhereGate};
 
+use crate::bit_term::{BitTerm, poly_of};
+use crate::cut::Cut;
 use crate::first_cut::rank;
+use crate::monomials::monomials;
+use crate::ranks::Ranks;
 use gf_field::Field;
 use net_core::Gate;
 use net_words::Combinational;
-use poly_mixed::{Generator, Poly, Steps, table_poly};
+use poly_mixed::{Generator, Steps, exclusive_form};
 use std::alloc::{AllocError, Global};
 
 // The ranks of a gate's inputs.
@@ -30,26 +39,53 @@ fn input_ranks(alloc: Global, circuit: &Combinational, gate: &Gate) -> Result<Ve
     Ok(list)
 }
 
-// Adds the product of the cofactor and the polynomial of the gate's table.
+// Adds the products of the terms and of the polynomial of the gate's table.
 fn add_table<F: Field>(
     alloc: Global,
-    field: &F,
+    _field: &F,
     circuit: &Combinational,
     gate: &Gate,
-    cofactor: &Poly,
-    poly: &mut Poly,
+    part: &[BitTerm],
+    cut: &mut Cut,
 ) -> Result<(), AllocError>
     requires sound { IsSound circuit.now.net }
     requires gate { Has circuit.now.net.gates gate.now }
-    requires cofactor { IsReduced (F.degree field.now) cofactor.now.terms }
-    requires poly { IsReduced (F.degree field.now) poly.old.terms }
-    ensures reduced { OnOk result (IsReduced (F.degree field.now) poly.new.terms) }
-    ensures values { OnOk result (AddsWhereGate (F.degree field.now) (F.product field.now) (variables (nets circuit.now.net) circuit.now.bound.words) gate.now cofactor.now.terms poly.old.terms poly.new.terms) }
+    requires part { AllByRecursion IsBitTerm part.now × AllByRecursion (IsTerm (F.degree _field.now)) part.now }
+    requires cut { IsReduced (F.degree _field.now) cut.old.terms }
+    ensures reduced { OnOk result (IsReduced (F.degree _field.now) cut.new.terms) }
+    ensures values { OnOk result (AddsWhereGate (F.degree _field.now) (F.product _field.now) (variables (nets circuit.now.net) circuit.now.bound.words) gate.now part.now cut.old.terms cut.new.terms) }
 {
     let ranks = input_ranks(alloc, circuit, gate)?;
-    let table = table_poly(alloc, field, &ranks, gate.table())?;
-    let product = table.mul(alloc, field, cofactor)?;
-    poly.add_into(field, &product)
+    let sets = monomials(alloc, exclusive_form(gate.table()), &ranks)?;
+    add_all_products(cut, part, &sets)
+}
+
+// Adds the products of each of the terms and of each of these sets of bits.
+fn add_all_products(cut: &mut Cut, part: &[BitTerm], sets: &[Ranks]) -> Result<(), AllocError>
+    requires { AllByRecursion IsBitTerm part.now }
+    ensures { OnOk result (cut.new.terms ≡ plus text_cmp cut.old.terms (all_products part.now sets.now)) }
+{
+    for term in part {
+        cut.add_products(term, sets)?;
+    }
+    Ok(())
+}
+
+// Hands the pair of the net and the polynomial of these terms to the recorder, if it tells its steps.
+fn tell<T: Steps>(
+    alloc: Global,
+    net: u32,
+    part: &[BitTerm],
+    steps: &mut T,
+) -> Result<(), AllocError>
+    requires { AllByRecursion IsBitTerm part.now }
+    ensures { OnOk result (Tells (T.steps steps.old) (T.steps steps.new) ((Net net, plus text_cmp [] part.now) ∷ [])) }
+{
+    if !steps.tells() {
+        return Ok(());
+    }
+    let cofactor = poly_of(alloc, part)?;
+    steps.step(Generator::Net(net), &cofactor)
 }
 
 /// Puts a gate's table in place of its output, and hands the pair of the net and its cofactor to the recorder where the
@@ -59,21 +95,21 @@ pub fn eliminate<F: Field, T: Steps>(
     field: &F,
     circuit: &Combinational,
     gate: &Gate,
-    poly: &mut Poly,
+    cut: &mut Cut,
     steps: &mut T,
 ) -> Result<(), AllocError>
     requires sound { IsSound circuit.now.net }
     requires gate { Has circuit.now.net.gates gate.now }
-    requires poly { IsReduced (F.degree field.now) poly.old.terms }
-    ensures reduced { OnOk result (IsReduced (F.degree field.now) poly.new.terms) }
-    ensures values { OnOk result (HasGatePutIn (F.degree field.now) (F.product field.now) (variables (nets circuit.now.net) circuit.now.bound.words) gate.now poly.old.terms poly.new.terms) }
-    ensures steps { OnOk result ((made : List Step) × AreStepsAt (F.degree field.now) (rank_in (variables (nets circuit.now.net) circuit.now.bound.words) gate.now.out) gate.now.out poly.old.terms made × Tells (T.steps steps.old) (T.steps steps.new) made) }
+    requires cut { IsReduced (F.degree field.now) cut.old.terms }
+    ensures reduced { OnOk result (IsReduced (F.degree field.now) cut.new.terms) }
+    ensures values { OnOk result (HasGatePutIn (F.degree field.now) (F.product field.now) (variables (nets circuit.now.net) circuit.now.bound.words) gate.now cut.old.terms cut.new.terms) }
+    ensures steps { OnOk result ((made : List Step) × AreStepsAt (F.degree field.now) (rank_in (variables (nets circuit.now.net) circuit.now.bound.words) gate.now.out) gate.now.out cut.old.terms made × Tells (T.steps steps.old) (T.steps steps.new) made) }
 {
     let rank = rank(circuit, gate.out());
-    let cofactor = poly.take_cofactor(alloc, rank)?;
-    if cofactor.len() == 0 {
+    let part = cut.take_with(rank)?;
+    if part.is_empty() {
         return Ok(());
     }
-    steps.step(Generator::Net(gate.out()), &cofactor)?;
-    add_table(alloc, field, circuit, gate, &cofactor, poly)
+    tell(alloc, gate.out(), &part, steps)?;
+    add_table(alloc, field, circuit, gate, &part, cut)
 }

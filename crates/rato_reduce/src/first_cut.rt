@@ -1,19 +1,21 @@
 //! The output word as a polynomial in the bits of its nets.
-ghost use Rattle.std.specs.Prelude.{◌≡◌, ◌<◌, ℕ, ◌++◌, length, slice_get, IfOk, OnOk, Some};
+ghost use Rattle.std.specs.Prelude.{◌≡◌, ◌<◌, ℕ, ◌++◌, cond, bit_xor, length, slice_get, IfOk, OnOk, Some};
 ghost use Rattle.irreducible.specs.Span.{combination};
 ghost use Rattle.gf_basis.specs.BasisParts.{elements_of, IsOver};
 ghost use Rattle.net_core.specs.NetList.{nets};
+ghost use Rattle.net_core.specs.Order.{IsElimination};
 ghost use Rattle.net_core.specs.Lists.{Has};
 ghost use Rattle.net_words.specs.BoundTo.{output_bits, output_bits_with};
 ghost use Rattle.net_words.specs.Variables.{variables};
-ghost use Rattle.poly_mixed.specs.Polynomial.{IsPolynomialOf};
+ghost use Rattle.poly_mixed.specs.Polynomial.{IsElement, IsPoint, IsPolynomialOf, IsReduced, Point, value};
 ghost use Rattle.poly_mixed.specs.Table.{index};
 ghost use Rattle.stage_model.specs.Variables.{rank_in, point_bit};
 
+use crate::cut::Cut;
+use crate::ranks::Ranks;
 use gf_basis::Basis;
 use gf_field::Field;
 use net_words::{Bound, Combinational, Role};
-use poly_mixed::{Poly, scaled_bit};
 use std::alloc::{AllocError, Global};
 
 /// The place of a net among the variables.
@@ -52,24 +54,61 @@ pub fn output_nets(alloc: Global, bound: &Bound) -> Result<Vec<u32>, AllocError>
     Ok(list)
 }
 
-/// The sum of the basis elements of the bits of these nets, all nets being free.
+/// The places of the outputs of gates in the order of elimination, by rank; what is no gate's output comes after them.
+pub fn places(alloc: Global, circuit: &Combinational, order: &[u32]) -> Result<Vec<u32>, AllocError>
+    requires { IsElimination circuit.now.net order.now }
+{
+    let net = circuit.net();
+    let gates = net.gates();
+    let mut places = vec![in alloc; u32::MAX; net.nets() as usize]?;
+    for t in 0..order.len() {
+        let rank = rank(circuit, gates[order[t] as usize].out());
+        if let Some(place) = places.get_mut(rank as usize) {
+            *place = t as u32;
+        }
+    }
+    Ok(places)
+}
+
+// Adds an element times a bit.
+fn add_bit<F: Field>(
+    alloc: Global,
+    _field: &F,
+    cut: &mut Cut,
+    element: u64,
+    rank: u32,
+) -> Result<(), AllocError>
+    requires element { IsElement (F.degree _field.now) element }
+    requires cut { IsReduced (F.degree _field.now) cut.old.terms }
+    ensures reduced { OnOk result (IsReduced (F.degree _field.now) cut.new.terms) }
+    ensures values { OnOk result ((p : Point) → IsPoint (F.degree _field.now) p → value (F.product _field.now) p cut.new.terms ≡ bit_xor (value (F.product _field.now) p cut.old.terms) (cond (p.is_one rank) element 0)) }
+{
+    if element == 0 {
+        return Ok(());
+    }
+    let bits = Ranks::none(alloc).with(rank)?;
+    cut.add(bits, element)
+}
+
+/// The sum of the basis elements of the bits of these nets, all nets being free. `places` has the place of each rank in
+/// the order of elimination.
 pub fn first_cut<F: Field>(
     alloc: Global,
     field: &F,
     circuit: &Combinational,
     basis: &Basis,
     list: &[u32],
-) -> Result<Poly, AllocError>
+    places: Vec<u32>,
+) -> Result<Cut, AllocError>
     requires basis { IsOver (F.degree field.now) (F.product field.now) basis.now }
     requires long { length list.now ≡ F.degree field.now }
     requires inside { (n : ℕ) → Has list.now n → n < nets circuit.now.net }
     ensures { IfOk result (λ q. IsPolynomialOf (F.degree field.now) (F.product field.now) (λ p. combination (elements_of basis.now) (index (point_bit (variables (nets circuit.now.net) circuit.now.bound.words) p) list.now)) q.terms) }
 {
-    let mut sum = Poly::zero(alloc);
+    let mut sum = Cut::zero(alloc, places);
     for place in 0..list.len() {
         let rank = rank(circuit, list[place]);
-        let part = scaled_bit(alloc, field, basis.element(place as u32), rank)?;
-        sum.add_into(field, &part)?;
+        add_bit(alloc, field, &mut sum, basis.element(place as u32), rank)?;
     }
     Ok(sum)
 }

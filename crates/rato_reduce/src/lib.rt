@@ -2,12 +2,17 @@
 //! with the exact bound on the terms of each cut.
 #![tactic(auto)]
 
+mod bit_term;
+mod cut;
 mod eliminate;
 mod first_cut;
+mod key;
+mod monomials;
 #[cfg(test)]
 mod net_tests;
 #[cfg(test)]
 mod plain_tests;
+mod ranks;
 mod reduce;
 #[cfg(test)]
 mod tests;

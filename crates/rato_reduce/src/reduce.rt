@@ -3,12 +3,13 @@ ghost use Rattle.std.specs.Prelude.{◌≡◌, ◌+◌, ◌<◌, ◌≤◌, leng
 ghost use Rattle.gf_basis.specs.BasisParts.{elements_of, IsOver};
 ghost use Rattle.net_core.specs.Order.{IsElimination};
 ghost use Rattle.stage_model.specs.Cut.{BoundCut};
-ghost use Rattle.stage_model.specs.Stage.{IsOfStage, IsNoneOver};
-ghost use Rattle.rato_reduce.specs.Refusal.{IsCutRefusal};
+ghost use Rattle.stage_model.specs.Listing.{AreAllWithin, IsRefusal, cut_listing};
+ghost use Rattle.stage_model.specs.Stage.{IsOfStage};
 ghost use Rattle.rato_reduce.specs.Recorded.{IsRecorded};
 
+use crate::cut::Cut;
 use crate::eliminate::eliminate;
-use crate::first_cut::{first_cut, output_nets};
+use crate::first_cut::{first_cut, output_nets, places};
 use gf_basis::Basis;
 use gf_field::Field;
 use net_core::{Net, order};
@@ -26,14 +27,14 @@ fn elimination(alloc: Global, net: &Net) -> Result<Vec<u32>, AllocError>
 }
 
 // Refuses a cut of more terms than the bound.
-fn check_size(poly: &Poly, bound: u32, cut: u32) -> Result<(), ReduceFault>
-    ensures within { OnOk result (length poly.now.terms ≤ bound) }
-    ensures over { IfErr result (λ fault. (fault ≡ ReduceFault.TooManyTerms (Stage.Cut cut) (length poly.now.terms)) × (bound < length poly.now.terms)) }
+fn check_size(cut: &Cut, bound: u32, number: u32) -> Result<(), ReduceFault>
+    ensures within { OnOk result (length cut.now.terms ≤ bound) }
+    ensures over { IfErr result (λ fault. (fault ≡ ReduceFault.TooManyTerms (Stage.Cut number) (length cut.now.terms)) × (bound < length cut.now.terms)) }
 {
-    let terms = poly.len() as u64;
+    let terms = cut.len() as u64;
     if terms > u64::from(bound) {
         return Err(ReduceFault::TooManyTerms {
-            stage: Stage::Cut(cut),
+            stage: Stage::Cut(number),
             terms,
         });
     }
@@ -58,19 +59,21 @@ pub fn reduce_bits<F: Field, T: Steps>(
     requires bits { circuit.now.bound.k ≡ F.degree field.now }
     requires basis { IsOver (F.degree field.now) (F.product field.now) output.now }
     ensures last { IfOk result (λ q. IsOfStage (F.degree field.now) (F.product field.now) (BoundCut circuit.now (elements_of output.now) (length circuit.now.net.gates)) q.terms) }
-    ensures within { OnOk result (IsNoneOver (F.degree field.now) (F.product field.now) (BoundCut circuit.now (elements_of output.now)) (length circuit.now.net.gates + 1) bound) }
-    ensures fault { IfErr result (IsCutRefusal (F.degree field.now) (F.product field.now) (BoundCut circuit.now (elements_of output.now)) (length circuit.now.net.gates + 1) bound) }
+    ensures within { OnOk result (AreAllWithin (F.degree field.now) (F.product field.now) (cut_listing (length circuit.now.net.gates + 1) (BoundCut circuit.now (elements_of output.now))) bound) }
+    ensures fault { IfErr result (IsRefusal (F.degree field.now) (F.product field.now) (cut_listing (length circuit.now.net.gates + 1) (BoundCut circuit.now (elements_of output.now))) bound) }
     ensures steps { OnOk result (IsRecorded (F.degree field.now) (F.product field.now) circuit.now (elements_of output.now) (length circuit.now.net.gates) (T.steps steps.old) (T.steps steps.new)) }
 {
     let net = circuit.net();
     let order = elimination(alloc, net)?;
     let list = output_nets(alloc, circuit.bound())?;
-    let mut poly = first_cut(alloc, field, circuit, output, &list)?;
-    check_size(&poly, bound, 0)?;
+    let places = places(alloc, circuit, &order)?;
+    let mut cut = first_cut(alloc, field, circuit, output, &list, places)?;
+    check_size(&cut, bound, 0)?;
     for t in 0..order.len() {
         let gate = &net.gates()[order[t] as usize];
-        eliminate(alloc, field, circuit, gate, &mut poly, steps)?;
-        check_size(&poly, bound, t as u32 + 1)?;
+        eliminate(alloc, field, circuit, gate, &mut cut, steps)?;
+        check_size(&cut, bound, t as u32 + 1)?;
     }
+    let poly = cut.to_poly()?;
     Ok(poly)
 }

@@ -12,7 +12,7 @@ use Rattle.poly_mixed.proofs.Products.{value_element}
 use Rattle.stage_model.specs.Variables.{rank_in, point_bit}
 use Rattle.stage_model.specs.Cut.{IsCut}
 use Rattle.stage_model.specs.Stage.{IsOfStage}
-use Rattle.stage_model.specs.Plain.{HasEachNet, with_first, IsChoice, IsCutAfter}
+use Rattle.stage_model.specs.private.Plain.{HasEachNet, with_first, IsChoice, IsCutAfter}
 
 module _ {k : ℕ} {mul : ℕ → ℕ → ℕ} (f : IsField k mul) where
   -- zero + bit * (zero + one)

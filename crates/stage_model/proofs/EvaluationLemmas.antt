@@ -23,7 +23,7 @@ use Rattle.net_core.proofs.EvalLemmas.{bit_set_same, bit_set_other, index_set, i
 use Rattle.poly_mixed.specs.Polynomial.{Point}
 use Rattle.stage_model.specs.Variables.{point_bits}
 use Rattle.stage_model.specs.Cut.{IsAmongFirst, IsSettled}
-use Rattle.stage_model.specs.Plain.{IsAt, AreSettledFrom}
+use Rattle.stage_model.specs.private.Plain.{IsAt, AreSettledFrom}
 use Rattle.stage_model.proofs.PointLemmas.{point_bits_at}
 
 -- in an order by levels each net has a level

@@ -28,7 +28,9 @@ use Rattle.stage_model.specs.Variables.{variables_of, rank_in, point_bit, point_
 use Rattle.stage_model.specs.Cut.{CutOf, IsAmongFirst}
 use Rattle.stage_model.specs.Mix.{IsMix}
 use Rattle.stage_model.specs.Stage.{IsOfStage}
-use Rattle.stage_model.specs.StageList.{IsListed, ComesBefore}
+use Rattle.stage_model.specs.Listing.{Earlier, Later}
+use Rattle.stage_model.specs.WordListing.{word_listing}
+use Rattle.stage_model.specs.CircuitListing.{circuit_cuts, circuit_stages}
 
 -- where B on net 1 stands before A on net 0, the variables are the nets 1, 0 and 2
 variables_of_words : variables_of (record and_circuit { words = word Input (1 ∷ []) (1 ∷ []) ∷ word Input (0 ∷ []) (1 ∷ []) ∷ [] }) ≡ 1 ∷ 0 ∷ 2 ∷ []
@@ -119,15 +121,15 @@ cut_after_gate = record {
     free (suc (suc (suc n))) h other = absurd (omega arith)
 
 -- a net of one gate has the cuts 0 and 1
-cut_is_listed : IsListed and_circuit (Cut 1)
+cut_is_listed : (circuit_cuts and_circuit).is_listed (Cut 1)
 cut_is_listed = omega arith
 
 -- each cut comes before the stages of words
-cut_comes_first : ComesBefore (Cut 3) (WordSum 0 1)
+cut_comes_first : (circuit_stages and_circuit).comes_before (Earlier (Cut 3)) (Later (WordSum 0 1))
 cut_comes_first = tt
 
 -- and the products of term 1 of word 0 come before its sum
-product_before_sum : ComesBefore (WordProduct 0 1 2) (WordSum 0 1)
+product_before_sum : (word_listing and_circuit).comes_before (WordProduct 0 1 2) (WordSum 0 1)
 product_before_sum = inr (refl, inr (refl, tt))
 
 field : IsField 1 bit_mul

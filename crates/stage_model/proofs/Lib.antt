@@ -31,4 +31,5 @@ pub mod SearchLemmas
 pub mod SomeOverLemmas
 pub mod InputPointLemmas
 pub mod OutputInBitsLemmas
+pub mod OutputInWordsLemmas
 mod Examples

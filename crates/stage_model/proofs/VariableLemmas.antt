@@ -11,7 +11,7 @@ use Rattle.net_core.proofs.DriverLemmas.{Has_left, Has_right}
 use Rattle.net_words.specs.Bind.{stands_in}
 use Rattle.net_words.specs.Variables.{others}
 use Rattle.stage_model.specs.Variables.{rank_in}
-use Rattle.stage_model.specs.Plain.{HasEachNet}
+use Rattle.stage_model.specs.private.Plain.{HasEachNet}
 use Rattle.stage_model.proofs.BlindLemmas.{front_rank}
 use Rattle.net_words.proofs.VariableLemmas.{range_more}
 use Rattle.net_words.proofs.MemberLemmas.{stands_has}

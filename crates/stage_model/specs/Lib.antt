@@ -6,11 +6,12 @@ pub mod CutSteps
 pub mod InputPoint
 pub mod First
 pub mod OutputInBits
+pub mod OutputInWords
 pub mod WordStage
 pub mod Listing
 pub mod WordListing
 pub mod CircuitListing
 pub mod StageList
 pub mod WordSteps
-pub mod Plain
 pub mod PlainWord
+pub mod private

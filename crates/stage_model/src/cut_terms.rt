@@ -6,7 +6,7 @@ ghost use Rattle.poly_mixed.specs.Polynomial.{IsReduced};
 ghost use Rattle.stage_model.specs.Variables.{variables_of};
 ghost use Rattle.stage_model.specs.Cut.{CutOf};
 ghost use Rattle.stage_model.specs.Stage.{IsOfStage, HasSize};
-ghost use Rattle.stage_model.specs.Plain.{HasEachNet, IsChoice, IsCutAfter};
+ghost use Rattle.stage_model.specs.private.Plain.{HasEachNet, IsChoice, IsCutAfter};
 
 use crate::cut_value::cut_value;
 use crate::ranks::variables;

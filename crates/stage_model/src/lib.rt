@@ -33,7 +33,7 @@ pub use laws::{
     one_polynomial_a_cut, one_size_a_cut,
 };
 pub use mix_laws::{mix_of_all_words, mix_of_no_words, one_element_a_mix};
-pub use output_laws::{each_input_has_a_point, last_cut_is_output};
+pub use output_laws::{each_input_has_a_point, last_cut_is_output, mix_of_all_words_is_output};
 pub use over_laws::{
     bound_cuts_over, first_of_cuts_and_words, one_first_cut_over, one_first_over,
     one_first_word_stage_over,

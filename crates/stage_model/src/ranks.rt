@@ -6,7 +6,7 @@ ghost use Rattle.net_words.specs.Variables.{others};
 ghost use Rattle.circuit_model.specs.Word.{word_nets};
 ghost use Rattle.circuit_model.specs.Flat.{word_of};
 ghost use Rattle.stage_model.specs.Variables.{rank_in};
-ghost use Rattle.stage_model.specs.Plain.{HasEachNet};
+ghost use Rattle.stage_model.specs.private.Plain.{HasEachNet};
 
 use circuit_model::CircuitWord;
 use net_core::Net;

@@ -8,7 +8,7 @@ ghost use Rattle.net_core.specs.Value.{index_of};
 ghost use Rattle.poly_mixed.specs.Polynomial.{Point};
 ghost use Rattle.stage_model.specs.Variables.{point_bits};
 ghost use Rattle.stage_model.specs.Cut.{IsSettled};
-ghost use Rattle.stage_model.specs.Plain.{AreSettledFrom};
+ghost use Rattle.stage_model.specs.private.Plain.{AreSettledFrom};
 
 use circuit_model::number_of_bits;
 use net_core::{Gate, Net, order};

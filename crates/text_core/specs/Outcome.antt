@@ -1,6 +1,6 @@
 -- What may come of a step that gives a value or refuses with a fault, and the order of refusals.
 -- Source: this project's own.
-use Rattle.std.specs.Prelude.{◌≡◌, ◌⊎◌, Result, Ok, Err}
+use Rattle.std.specs.Prelude.{◌≡◌, ◌⊎◌, Option, None, Some, Result, Ok, Err}
 
 -- which values and which faults may come
 abbrev pub Outcome : Type 0 → Type 0 → Type 1
@@ -29,3 +29,14 @@ Returns answer outcome = outcome ≡ answer
 -- at most one outcome may come
 abbrev pub Determined : {F A : Type 0} → Outcome F A → Type 0
 Determined {F} {A} may = (x y : Result A F) → may x → may y → x ≡ y
+
+-- a refusal, where there is one, is one that may come
+abbrev pub MayRefuse : {F A : Type 0} → Outcome F A → Option F → Type 0
+MayRefuse outcome None = Unit {0}
+MayRefuse outcome (Some fault) = outcome (Err fault)
+
+-- The value, as `view` shows it, or the refusal that `refusal` finds in the fault is one that may come; a fault without a
+-- refusal, as want of memory, may always come.
+abbrev pub Fits : {E F X A : Type 0} → (E → Option F) → (X → A) → Result X E → Outcome F A → Type 0
+Fits refusal view (Ok value) outcome = outcome (Ok (view value))
+Fits refusal view (Err fault) outcome = MayRefuse outcome (refusal fault)

@@ -8,6 +8,6 @@ mod number;
 #[cfg(test)]
 mod tests;
 
-pub use lines::{before_comment, next_line, plain_text, printing_text, tokens};
+pub use lines::{before_comment, is_printing, next_line, plain_text, printing_text, tokens};
 pub use name::is_name;
 pub use number::{read_decimal, read_hex};

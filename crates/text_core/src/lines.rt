@@ -65,8 +65,8 @@ pub fn tokens<'a>(alloc: Global, line: &'a [u8]) -> Result<Vec<&'a [u8]>, AllocE
         .collect(alloc)
 }
 
-// Whether each byte of a token prints, from `!` to `~`.
-fn is_printing(token: &[u8]) -> bool
+/// Whether each byte of a token prints, from `!` to `~`.
+pub fn is_printing(token: &[u8]) -> bool
     ensures { IsTrue result ↔ IsPrinting token.now }
 {
     token.iter().all(|&b| 0x21 <= b && b <= 0x7e)

@@ -1,6 +1,6 @@
 use Rattle.std.proofs.Common.{◌≡◌, ◌∙◌, ap, subst, ℕ, Bool, false, List, length, get_or, arith, length-set}
 use Rattle.std.proofs.lemmas.Option.{slice_get_within}
-use Rattle.circuit_model.specs.Found.{IsBitIn, IsOnce, IsUnnamed}
+use Rattle.circuit_model.specs.private.Found.{IsBitIn, IsOnce, IsUnnamed}
 use Rattle.circuit_model.proofs.BitLemmas.{values_set}
 use Rattle.circuit_model.proofs.plain.input_values.Goals as goal
 

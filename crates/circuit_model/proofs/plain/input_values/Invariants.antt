@@ -1,6 +1,6 @@
 use Rattle.std.proofs.Common.{◌≡◌, ℕ, ◌<◌, Bool, false, length, Some}
 use Rattle.std.specs.Prelude.{slice_get}
-use Rattle.circuit_model.specs.Found.{IsBitIn, IsOnce, IsUnnamed}
+use Rattle.circuit_model.specs.private.Found.{IsBitIn, IsOnce, IsUnnamed}
 use Rattle.circuit_model.proofs.plain.input_values.Given as goal
 
 abbrev pub invariant-loop-i : goal.invariant-loop-i

@@ -4,7 +4,7 @@ use Rattle.net_core.specs.Value.{HasValues}
 use Rattle.circuit_model.specs.Word.{HasElement}
 use Rattle.circuit_model.specs.Out.{IsOut}
 use Rattle.circuit_model.specs.Flat.{circuit_of_parts, word_of}
-use Rattle.circuit_model.specs.Found.{HaveAll}
+use Rattle.circuit_model.specs.private.Found.{HaveAll}
 use Rattle.circuit_model.proofs.PlainLemmas.{plain_all, plain_out, if_some}
 use Rattle.circuit_model.proofs.plain.output.Goals as goal
 

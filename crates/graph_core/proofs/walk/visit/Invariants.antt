@@ -1,4 +1,6 @@
-use Rattle.graph_core.specs.Walking.{IsWalking, IsMet, KeepsMet, StartsAt, work}
+use Rattle.std.proofs.Common.{ℕ, List}
+use Rattle.graph_core.specs.Graph.{Has}
+use Rattle.graph_core.specs.Walking.{IsWalking, IsMet, KeepsMet, MetAreReached, StartsAt, work}
 use Rattle.graph_core.proofs.walk.visit.Given as goal
 
 abbrev pub invariant-loop-frame : goal.invariant-loop-frame
@@ -8,6 +10,7 @@ invariant-loop-frame l =
       starts : StartsAt l.root l.stack.items;
       met : KeepsMet l.fn.marks.items l.marks.items;
       root : IsMet l.marks.items l.root;
+      only : (roots : List ℕ) → Has roots l.root → MetAreReached l.graph roots l.fn.marks.items → MetAreReached l.graph roots l.marks.items;
     }
 
 abbrev pub decreases-loop-frame : goal.decreases-loop-frame

@@ -1,25 +1,16 @@
-use Rattle.std.proofs.Common.{rules, ◌≡◌, ◌⊎◌, subst, List, Ok, Err}
-use Rattle.std.specs.Prelude.{flat_map}
-use Rattle.net_core.specs.NetList.{empty}
-use Rattle.net_blif.specs.Flat.{Flattens, steps_of}
-use Rattle.net_blif.specs.NamedWalk.{IsFaultOf, named_walk}
-use Rattle.net_blif.specs.declared.item.Item.{Item}
+use Rattle.std.proofs.Common.{rules, ◌≡◌, ◌⊎◌, Err}
+use Rattle.net_blif.specs.Flat.{Flattens}
 use Rattle.net_blif.specs.declared.flat_fault.FlatFault.TheVariants.{OutOfMemory}
 use Rattle.net_blif.proofs.FlatLemmas.{flattens, refused_walk, unsound}
 use Rattle.net_blif.proofs.flat.flatten.Goals as goal
 
 pub returns-in_err-maker-clause-fault : goal.returns-in_err-maker-clause-fault
 returns-in_err-maker-clause-fault c =
-    let P : List Item → Type 0 = λ items. IsFaultOf (named_walk empty (flat_map steps_of items)) c.in_err-maker.field-0.0 in
-    let fault : (c.in_err-maker.field-0.0 ≡ OutOfMemory) ⊎ Flattens c.args.design.now c.args.model (Err c.in_err-maker.field-0.0) = refused_walk c.args.design.now c.args.model c.in_err-maker.field-0.0 (subst P c.items.ensures.items c.in_err-maker.ensures.fault) in
+    let fault : (c.in_err-maker.field-0.0 ≡ OutOfMemory) ⊎ Flattens c.args.design.now c.args.model (Err c.in_err-maker.field-0.0) = refused_walk c.args.design.now c.args.model c.in_err-maker.field-0.0 c.in_err-maker.ensures.fault in
     search rules
 
 pub returns-in-Ok-clause-net : goal.returns-in-Ok-clause-net
-returns-in-Ok-clause-net c =
-    let P : List Item → Type 0 = λ items. named_walk empty (flat_map steps_of items) ≡ Ok c.in_ok-maker.maker in
-    flattens c.args.design.now c.args.model c.in_ok-maker.maker c.in-Ok.net (subst P c.items.ensures.items c.in_ok-maker.ensures.made) c.in-Ok.ensures
+returns-in-Ok-clause-net c = flattens c.args.design.now c.args.model c.in_ok-maker.maker c.in-Ok.net c.in_ok-maker.ensures.made c.in-Ok.ensures
 
 pub returns-in-Err-clause-fault : goal.returns-in-Err-clause-fault
-returns-in-Err-clause-fault c =
-    let P : List Item → Type 0 = λ items. named_walk empty (flat_map steps_of items) ≡ Ok c.in_ok-maker.maker in
-    unsound c.args.design.now c.args.model c.in_ok-maker.maker c.in-Err.fault c.fault_of.result (subst P c.items.ensures.items c.in_ok-maker.ensures.made) c.in-Err.ensures c.fault_of.ensures
+returns-in-Err-clause-fault c = unsound c.args.design.now c.args.model c.in_ok-maker.maker c.in-Err.fault c.fault_of.result c.in_ok-maker.ensures.made c.in-Err.ensures c.fault_of.ensures

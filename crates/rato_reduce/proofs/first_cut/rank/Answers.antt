@@ -4,7 +4,7 @@ use Rattle.net_core.specs.NetList.{nets}
 use Rattle.net_core.specs.Lists.{times}
 use Rattle.net_words.specs.Variables.{variables, IsRanked}
 use Rattle.net_words.proofs.RankLemmas.{variables_once}
-use Rattle.rato_reduce.proofs.Ranks.{only_rank}
+use Rattle.rato_reduce.proofs.RankLemmas.{only_rank}
 use Rattle.rato_reduce.proofs.first_cut.rank.Goals as goal
 
 pub returns : goal.returns

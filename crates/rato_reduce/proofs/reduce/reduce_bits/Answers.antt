@@ -3,12 +3,13 @@ use Rattle.gf_basis.specs.BasisParts.{elements_of}
 use Rattle.net_words.specs.Variables.{variables}
 use Rattle.circuit_model.specs.OfBinding.{output_word}
 use Rattle.stage_model.specs.Cut.{BoundCut}
-use Rattle.rato_reduce.specs.Refusal.{IsCutRefusal}
-use Rattle.rato_reduce.proofs.Bound.{none_before, one_more, just}
+use Rattle.stage_model.specs.Listing.{IsRefusal, cut_listing}
+use Rattle.rato_reduce.proofs.Bound.{none_before, one_more, just, all_within}
 use Rattle.rato_reduce.proofs.Recorded.{nothing_recorded}
 use Rattle.rato_reduce.proofs.Turn.{position_inside, read_at, first_now, turn, told_more, is_cut, is_recorded}
 use Rattle.net_core.specs.Lists.{Has}
 use Rattle.std.specs.Prelude.{slice_get}
+use Rattle.poly_mixed.specs.Polynomial.{Terms}
 use Rattle.std.proofs.Common.{Some}
 use Rattle.net_core.specs.GateValue.{GateValue}
 use Rattle.net_core.specs.NetList.{NetList, nets}
@@ -21,15 +22,21 @@ use Rattle.rato_reduce.proofs.OutputNets.{output_long, output_inside}
 use Rattle.rato_reduce.proofs.reduce.reduce_bits.Goals as goal
 use Rattle.stage_model.proofs.EliminationLemmas.{elimination_long}
 
+pub places-requires : goal.places-requires
+places-requires g c =
+    let P : List ℕ → Type 0 = IsElimination c.args.circuit.now.net in
+    let E : NetList → Type 0 = λ net. IsElimination net c.in_ok-order.order.items in
+    subst P (sym c.deref.ensures.value) (subst E c.net-net.ensures.net c.in_ok-order.ensures)
+
 pub first_cut-requires-clause-long : goal.first_cut-requires-clause-long
 first_cut-requires-clause-long g c =
     let bound = c.bound.ensures.is_bound in
-    ap length (c.deref.ensures.value ∙ c.in_ok-list.ensures) ∙ (ap (λ (b : Binding). length (output_bits b.words)) c.bound.ensures.bound ∙ output_long c.args.circuit.now.net c.args.circuit.now.bound bound ∙ c.requires.bits)
+    ap length (c.deref-2.ensures.value ∙ c.in_ok-list.ensures) ∙ (ap (λ (b : Binding). length (output_bits b.words)) c.bound.ensures.bound ∙ output_long c.args.circuit.now.net c.args.circuit.now.bound bound ∙ c.requires.bits)
 
 pub first_cut-requires-clause-inside : goal.first_cut-requires-clause-inside
 first_cut-requires-clause-inside g c n has =
     let bound = c.bound.ensures.is_bound in
-    let list : c.deref.result.now ≡ output_bits c.args.circuit.now.bound.words = c.deref.ensures.value ∙ (c.in_ok-list.ensures ∙ ap (λ (b : Binding). output_bits b.words) c.bound.ensures.bound) in
+    let list : c.deref-2.result.now ≡ output_bits c.args.circuit.now.bound.words = c.deref-2.ensures.value ∙ (c.in_ok-list.ensures ∙ ap (λ (b : Binding). output_bits b.words) c.bound.ensures.bound) in
     let P : List ℕ → Type 0 = λ xs. Has xs n in
     output_inside c.args.circuit.now.net c.args.circuit.now.bound.words bound.places n (subst P list has)
 
@@ -42,11 +49,11 @@ returns-in_err-check_size-clause-fault g c =
     let order = c.in_ok-order.order.items in
     let E : NetList → Type 0 = λ net. IsElimination net order in
     let is = subst E c.net-net.ensures.net c.in_ok-order.ensures in
-    let list : c.deref.result.now ≡ output_bits circuit.bound.words = c.deref.ensures.value ∙ (c.in_ok-list.ensures ∙ ap (λ (b : Binding). output_bits b.words) c.bound.ensures.bound) in
-    let first = first_now degree mul circuit basis order is c.deref.result.now c.in_ok-poly.poly.terms c.bound.ensures.is_bound c.requires.bits c.requires.basis.elements.size list c.in_ok-poly.ensures in
-    let fault : IsCutRefusal degree mul (BoundCut circuit basis) (length circuit.net.gates + 1) c.args.bound c.in_err-check_size.field-0.0 =
-    just degree mul (BoundCut circuit basis) c.args.bound (length circuit.net.gates + 1) 0 c.in_ok-poly.poly.terms c.in_err-check_size.field-0.0 (omega arith) (none_before degree mul (BoundCut circuit basis) c.args.bound)
-    (is_cut degree mul circuit basis order is 0 c.in_ok-poly.poly.terms first) c.in_err-check_size.ensures.over.1 c.in_err-check_size.ensures.over.0 in
+    let list : c.deref-2.result.now ≡ output_bits circuit.bound.words = c.deref-2.ensures.value ∙ (c.in_ok-list.ensures ∙ ap (λ (b : Binding). output_bits b.words) c.bound.ensures.bound) in
+    let first = first_now degree mul circuit basis order is c.deref-2.result.now c.in_ok-cut.cut.terms c.bound.ensures.is_bound c.requires.bits c.requires.basis.elements.size list c.in_ok-cut.ensures in
+    let fault : IsRefusal degree mul (cut_listing (length circuit.net.gates + 1) (BoundCut circuit basis)) c.args.bound c.in_err-check_size.field-0.0 =
+    just degree mul (BoundCut circuit basis) c.args.bound (length circuit.net.gates + 1) 0 c.in_ok-cut.cut.terms c.in_err-check_size.field-0.0 (omega arith) (none_before degree mul (BoundCut circuit basis) c.args.bound)
+    (is_cut degree mul circuit basis order is 0 c.in_ok-cut.cut.terms first) c.in_err-check_size.ensures.over.1 c.in_err-check_size.ensures.over.0 in
     search rules
 
 pub loop-t-init : goal.loop-t-init
@@ -58,11 +65,11 @@ loop-t-init g c =
     let order = c.in_ok-order.order.items in
     let E : NetList → Type 0 = λ net. IsElimination net order in
     let is = subst E c.net-net.ensures.net c.in_ok-order.ensures in
-    let list : c.deref.result.now ≡ output_bits circuit.bound.words = c.deref.ensures.value ∙ (c.in_ok-list.ensures ∙ ap (λ (b : Binding). output_bits b.words) c.bound.ensures.bound) in
-    let first = first_now degree mul circuit basis order is c.deref.result.now c.in_ok-poly.poly.terms c.bound.ensures.is_bound c.requires.bits c.requires.basis.elements.size list c.in_ok-poly.ensures in
+    let list : c.deref-2.result.now ≡ output_bits circuit.bound.words = c.deref-2.ensures.value ∙ (c.in_ok-list.ensures ∙ ap (λ (b : Binding). output_bits b.words) c.bound.ensures.bound) in
+    let first = first_now degree mul circuit basis order is c.deref-2.result.now c.in_ok-cut.cut.terms c.bound.ensures.is_bound c.requires.bits c.requires.basis.elements.size list c.in_ok-cut.ensures in
     record {
       is = first;
-      within = one_more degree mul (BoundCut circuit basis) c.args.bound 0 c.in_ok-poly.poly.terms (none_before degree mul (BoundCut circuit basis) c.args.bound) (is_cut degree mul circuit basis order is 0 c.in_ok-poly.poly.terms first) c.in_ok-check_size.ensures.within;
+      within = one_more degree mul (BoundCut circuit basis) c.args.bound 0 c.in_ok-cut.cut.terms (none_before degree mul (BoundCut circuit basis) c.args.bound) (is_cut degree mul circuit basis order is 0 c.in_ok-cut.cut.terms first) c.in_ok-check_size.ensures.within;
       recorded = nothing_recorded degree mul circuit.net (variables (nets circuit.net) circuit.bound.words) (output_word circuit.bound.words basis) order (g.T.Steps.steps c.args.steps.now);
     }
 
@@ -105,11 +112,11 @@ returns-in_err-check_size-2-clause-fault g c =
     let L : List GateValue → Type 0 = λ gs. c.index.result.now < length gs in
     let S : List GateValue → Type 0 = λ gs. slice_get gs c.index.result.now ≡ Some c.index-gates-index.result in
     let at_net = subst S gates (read_at c.gates.result.now c.index.result.now c.index-gates-index.result (subst L (sym gates) (position_inside circuit.net order c.loop-t.t c.index.result.now is at)) c.index-gates-index.is) in
-    let next = turn degree mul circuit basis order is c.loop-t.t c.index.result.now c.index-gates-index.result c.loop-t.poly.terms c.eliminate.new.poly.terms sound c.net-net.ensures.is_bound at at_net c.loop-t.invariant.is c.in_ok-eliminate.ensures.reduced c.in_ok-eliminate.ensures.values in
+    let next = turn degree mul circuit basis order is c.loop-t.t c.index.result.now c.index-gates-index.result c.loop-t.cut.terms c.eliminate.new.cut.terms sound c.net-net.ensures.is_bound at at_net c.loop-t.invariant.is c.in_ok-eliminate.ensures.reduced c.in_ok-eliminate.ensures.values in
     let long : length order ≡ length circuit.net.gates = elimination_long circuit.net order is in
-    let fault : IsCutRefusal degree mul (BoundCut circuit basis) (length circuit.net.gates + 1) c.args.bound c.in_err-check_size-2.field-0.0 =
-    just degree mul (BoundCut circuit basis) c.args.bound (length circuit.net.gates + 1) (c.loop-t.t + 1) c.eliminate.new.poly.terms c.in_err-check_size-2.field-0.0 (omega arith) c.loop-t.invariant.within
-    (is_cut degree mul circuit basis order is (c.loop-t.t + 1) c.eliminate.new.poly.terms next) c.in_err-check_size-2.ensures.over.1 c.in_err-check_size-2.ensures.over.0 in
+    let fault : IsRefusal degree mul (cut_listing (length circuit.net.gates + 1) (BoundCut circuit basis)) c.args.bound c.in_err-check_size-2.field-0.0 =
+    just degree mul (BoundCut circuit basis) c.args.bound (length circuit.net.gates + 1) (c.loop-t.t + 1) c.eliminate.new.cut.terms c.in_err-check_size-2.field-0.0 (omega arith) c.loop-t.invariant.within
+    (is_cut degree mul circuit basis order is (c.loop-t.t + 1) c.eliminate.new.cut.terms next) c.in_err-check_size-2.ensures.over.1 c.in_err-check_size-2.ensures.over.0 in
     search rules
 
 pub loop-t-preserved : goal.loop-t-preserved
@@ -128,12 +135,12 @@ loop-t-preserved g c =
     let L : List GateValue → Type 0 = λ gs. c.index.result.now < length gs in
     let S : List GateValue → Type 0 = λ gs. slice_get gs c.index.result.now ≡ Some c.index-gates-index.result in
     let at_net = subst S gates (read_at c.gates.result.now c.index.result.now c.index-gates-index.result (subst L (sym gates) (position_inside circuit.net order c.loop-t.t c.index.result.now is at)) c.index-gates-index.is) in
-    let next = turn degree mul circuit basis order is c.loop-t.t c.index.result.now c.index-gates-index.result c.loop-t.poly.terms c.eliminate.new.poly.terms sound c.net-net.ensures.is_bound at at_net c.loop-t.invariant.is c.in_ok-eliminate.ensures.reduced c.in_ok-eliminate.ensures.values in
+    let next = turn degree mul circuit basis order is c.loop-t.t c.index.result.now c.index-gates-index.result c.loop-t.cut.terms c.eliminate.new.cut.terms sound c.net-net.ensures.is_bound at at_net c.loop-t.invariant.is c.in_ok-eliminate.ensures.reduced c.in_ok-eliminate.ensures.values in
     let made = c.in_ok-eliminate.ensures.steps in
     record {
       is = next;
-      within = one_more degree mul (BoundCut circuit basis) c.args.bound (c.loop-t.t + 1) c.eliminate.new.poly.terms c.loop-t.invariant.within (is_cut degree mul circuit basis order is (c.loop-t.t + 1) c.eliminate.new.poly.terms next) c.in_ok-check_size-2.ensures.within;
-      recorded = told_more degree mul circuit basis order is c.loop-t.t c.index.result.now c.index-gates-index.result c.loop-t.poly.terms made.0 (g.T.Steps.steps c.args.steps.now) (g.T.Steps.steps c.loop-t.steps) (g.T.Steps.steps c.eliminate.new.steps) at at_net c.loop-t.invariant.is made.1 c.loop-t.invariant.recorded made.2;
+      within = one_more degree mul (BoundCut circuit basis) c.args.bound (c.loop-t.t + 1) c.eliminate.new.cut.terms c.loop-t.invariant.within (is_cut degree mul circuit basis order is (c.loop-t.t + 1) c.eliminate.new.cut.terms next) c.in_ok-check_size-2.ensures.within;
+      recorded = told_more degree mul circuit basis order is c.loop-t.t c.index.result.now c.index-gates-index.result c.loop-t.cut.terms made.0 (g.T.Steps.steps c.args.steps.now) (g.T.Steps.steps c.loop-t.steps) (g.T.Steps.steps c.eliminate.new.steps) at at_net c.loop-t.invariant.is made.1 c.loop-t.invariant.recorded made.2;
     }
 
 pub returns-clause-last : goal.returns-clause-last
@@ -147,8 +154,9 @@ returns-clause-last g c =
     let degree = g.F.Ring.degree c.args.field.now in
     let mul = g.F.Ring.product c.args.field.now in
     let basis = elements_of c.args.output.now in
-    let P : ℕ → Type 0 = λ n. IsOfStage degree mul (BoundCut circuit basis n) c.loop-t.poly.terms in
-    subst P done (is_cut degree mul circuit basis order is c.loop-t.t c.loop-t.poly.terms c.loop-t.invariant.is)
+    let P : ℕ → Type 0 = λ n. IsOfStage degree mul (BoundCut circuit basis n) c.loop-t.cut.terms in
+    let Q : Terms → Type 0 = λ ts. IsOfStage degree mul (BoundCut circuit basis (length circuit.net.gates)) ts in
+    subst Q (sym c.in_ok-poly.ensures) (subst P done (is_cut degree mul circuit basis order is c.loop-t.t c.loop-t.cut.terms c.loop-t.invariant.is))
 
 pub returns-clause-within : goal.returns-clause-within
 returns-clause-within g c =
@@ -159,7 +167,7 @@ returns-clause-within g c =
     let long : length order ≡ length circuit.net.gates = elimination_long circuit.net order is in
     let done : c.loop-t.t ≡ length circuit.net.gates = omega arith in
     let P : ℕ → Type 0 = λ n. IsNoneOver (g.F.Ring.degree c.args.field.now) (g.F.Ring.product c.args.field.now) (BoundCut circuit (elements_of c.args.output.now)) (n + 1) c.args.bound in
-    subst P done c.loop-t.invariant.within
+    all_within (g.F.Ring.degree c.args.field.now) (g.F.Ring.product c.args.field.now) (BoundCut circuit (elements_of c.args.output.now)) c.args.bound (length circuit.net.gates + 1) (subst P done c.loop-t.invariant.within)
 
 pub returns-clause-steps : goal.returns-clause-steps
 returns-clause-steps g c =

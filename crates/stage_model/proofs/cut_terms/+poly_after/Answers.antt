@@ -1,6 +1,6 @@
 use Rattle.std.proofs.Common.{◌∙◌, subst, Bool, List, ℕ}
 use Rattle.circuit_model.specs.Flat.{word_of}
-use Rattle.stage_model.specs.Plain.{IsCutAfter}
+use Rattle.stage_model.specs.private.Plain.{IsCutAfter}
 use Rattle.stage_model.proofs.CutPolyLemmas.{all_bits, one_more}
 use Rattle.stage_model.proofs.cut_terms.+poly_after.Goals as goal
 

@@ -3,7 +3,7 @@ use Rattle.net_core.specs.NetList.{nets}
 use Rattle.net_words.specs.Variables.{others}
 use Rattle.circuit_model.specs.Word.{word_nets}
 use Rattle.circuit_model.specs.Flat.{word_of}
-use Rattle.stage_model.specs.Plain.{HasEachNet}
+use Rattle.stage_model.specs.private.Plain.{HasEachNet}
 use Rattle.stage_model.proofs.VariableLemmas.{has_each}
 use Rattle.stage_model.proofs.ranks.variables.Goals as goal
 

@@ -2,7 +2,7 @@ use Rattle.std.proofs.Common.{◌≡◌, sym, refl, subst, get_or, take, drop, l
 use Rattle.std.specs.Prelude.{slice_get}
 use Rattle.std.proofs.lemmas.Option.{slice_get_within}
 use Rattle.graph_core.proofs.ListLemmas.{got_at}
-use Rattle.stage_model.specs.Plain.{AreSettledFrom}
+use Rattle.stage_model.specs.private.Plain.{AreSettledFrom}
 use Rattle.stage_model.proofs.MixLemmas.{of_taken}
 use Rattle.stage_model.proofs.EvaluationLemmas.{with_levels, settled_step, got_drop}
 use Rattle.stage_model.proofs.settle.settle.Goals as goal

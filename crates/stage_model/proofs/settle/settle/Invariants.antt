@@ -1,5 +1,5 @@
 use Rattle.std.proofs.Common.{◌+◌}
-use Rattle.stage_model.specs.Plain.{AreSettledFrom}
+use Rattle.stage_model.specs.private.Plain.{AreSettledFrom}
 use Rattle.stage_model.proofs.settle.settle.Given as goal
 
 abbrev pub invariant-loop-position : goal.invariant-loop-position

@@ -1,5 +1,6 @@
 use Rattle.std.proofs.Common.{◌≡◌, ◌<◌, ◌^◌, ◌∙◌, refl, sym, ap, arith, length, length-set, take, subst}
 use Rattle.std.proofs.lemmas.Nat.{one_shl, pow_below}
+use Rattle.std.proofs.lemmas.List.{get_or-take}
 use Rattle.irreducible.specs.Span.{combination}
 use Rattle.irreducible.specs.SpanLaws.{combination_below}
 use Rattle.irreducible.specs.BitMatrix.{rows_of}
@@ -53,4 +54,5 @@ returns-clause-over g c =
       dual = subst (λ xs. AreDual (g.F.Ring.degree c.args.field.now) (g.F.Ring.product c.args.field.now) xs (take (length c.args.elements.now) c.loop-i.duals)) (sym c.filled.ensures.numbers)
           (AreDual-from_array _ _ law (g.met.F.Field.no_zero_divisors c.args.field.now) c.args.elements.now c.loop-i.duals c.requires.size (omega (arith, law.small, c.requires.size, c.loop-i.invariant.whole))
           (λ j h. c.loop-i.invariant.words j (omega arith)) (λ j h. c.loop-i.invariant.inside j (omega arith)));
+      coordinates = λ j h. get_or-take (length c.args.elements.now) c.coordinates.result j 0 (omega (arith, c.requires.size)) ∙ c.coordinates.ensures j h;
     }

@@ -1,7 +1,7 @@
 use Rattle.poly_mixed.proofs.FieldLaws.{field_of}
 use Rattle.std.proofs.Common.{sym, ◌∙◌, ap, subst, bit_xor}
 use Rattle.std.proofs.lemmas.Result.{on_ok_weaker}
-use Rattle.poly_mixed.specs.Polynomial.{Polynomial, Terms, IsReduced, value}
+use Rattle.poly_mixed.specs.Polynomial.{Terms, IsReduced, value}
 use Rattle.poly_mixed.proofs.Cofactors.{reduced_cofactors, reduced_lacking, substituted}
 use Rattle.poly_mixed.proofs.poly.Poly.substitute_bit.Goals as goal
 
@@ -12,8 +12,8 @@ mul-requires-clause-over g c =
 
 pub add_into-requires-clause-over : goal.add_into-requires-clause-over
 add_into-requires-clause-over g c =
-    let P : Polynomial → Type 0 = λ p. IsReduced (g.F.Ring.degree c.args.field.now) p.terms in
-    subst P (sym c.drop_bit.ensures) (reduced_lacking (g.F.Ring.degree c.args.field.now) c.args.bit c.args.self.now.terms c.requires.over)
+    let P : Terms → Type 0 = IsReduced (g.F.Ring.degree c.args.field.now) in
+    subst P (sym c.in_ok-part.ensures.left) (reduced_lacking (g.F.Ring.degree c.args.field.now) c.args.bit c.args.self.now.terms c.requires.over)
 
 pub returns-clause-values : goal.returns-clause-values
 returns-clause-values g c =
@@ -23,5 +23,5 @@ returns-clause-values g c =
     on_ok_weaker c.add_into.result (λ sum.
     substituted f c.args.bit c.args.by.now.terms c.args.self.now.terms c.in_ok-part.part.terms c.in_ok-product.product.terms c.add_into.new.self.terms
     c.requires.over c.requires.by_over rp c.in_ok-part.ensures.terms c.in_ok-product.ensures.values
-    (λ p at. sum p at ∙ ap (λ (q : Polynomial). bit_xor (value (g.F.Ring.product c.args.field.now) p q.terms) (value (g.F.Ring.product c.args.field.now) p c.in_ok-product.product.terms)) c.drop_bit.ensures))
+    (λ p at. sum p at ∙ ap (λ (ts : Terms). bit_xor (value (g.F.Ring.product c.args.field.now) p ts) (value (g.F.Ring.product c.args.field.now) p c.in_ok-product.product.terms)) c.in_ok-part.ensures.left))
     c.add_into.ensures.values

@@ -1,5 +1,0 @@
-use Rattle.gf_abs.proofs.AnswerDetermined.{answer_determined}
-use Rattle.gf_abs.proofs.answer_laws.one_answer_or_fault.Goals as goal
-
-pub returns : goal.returns
-returns c = λ words files. answer_determined files words

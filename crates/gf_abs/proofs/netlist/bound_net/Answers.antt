@@ -1,5 +1,0 @@
-use Rattle.gf_abs.proofs.NetlistLemmas.{text_bound}
-use Rattle.gf_abs.proofs.netlist.bound_net.Goals as goal
-
-pub returns-in-Ok-clause-fits : goal.returns-in-Ok-clause-fits
-returns-in-Ok-clause-fits c = text_bound c.args.text.now c.args.words.now c.in-Ok.net c.bound_to.result c.in-Ok.ensures.fits c.bound_to.ensures.fits

@@ -1,6 +1,0 @@
-use Rattle.std.proofs.Common.{◌∙◌}
-use Rattle.gf_abs.proofs.NetlistLemmas.{name_found}
-use Rattle.gf_abs.proofs.netlist.word_name.Goals as goal
-
-pub returns : goal.returns
-returns c = rw (c.as_str.ensures ∙ name_found c.args.words.now c.args.word c.index-words-word.result c.requires) at c.new.ensures

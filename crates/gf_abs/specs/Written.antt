@@ -1,0 +1,28 @@
+-- What the program wrote of an answer. Source: this project's own.
+use Rattle.std.specs.Prelude.{◌≡◌, ◌⊎◌, ◌<◌, ℕ, List, length, take, Option, Result, Ok, Err}
+use Rattle.std.specs.Io.KnownBytes.{Appends}
+use Rattle.text_core.specs.Outcome.{Outcome}
+use Rattle.job_words.specs.declared.fault.Fault.{Fault}
+use Rattle.job_words.specs.Fault.{fault_line, fault_status}
+use Rattle.job_words.specs.Stop.{IsMiss}
+use Rattle.gf_abs.specs.Reply.{Reply}
+
+-- an output that may come, or the line of a fault that may come, with its status
+abbrev pub IsText : Outcome Fault Reply → (missed : Type 0) → ℕ → List ℕ → Type 0
+IsText answer missed status text =
+    answer (Ok (record { status = status; text = text }))
+    ⊎ ((fault : Fault) × answer (Err fault) × (IsMiss fault → missed) × (text ≡ fault_line fault) × (status ≡ fault_status fault))
+
+-- it was written whole, and the status is its own
+abbrev pub Writes : Outcome Fault Reply → (missed : Type 0) → ℕ → Option (List ℕ) → Option (List ℕ) → Type 0
+Writes answer missed status old new = (text : List ℕ) × IsText answer missed status text × Appends old new text
+
+-- the sink failed, and less than the whole was written
+abbrev pub WritesPart : Outcome Fault Reply → (missed failed : Type 0) → Option (List ℕ) → Option (List ℕ) → Type 0
+WritesPart answer missed failed old new =
+    failed × (status : ℕ) × (text : List ℕ) × (n : ℕ) × IsText answer missed status text × (n < length text) × Appends old new (take n text)
+
+-- the answer or the fault's line was written whole, and the status is its own
+abbrev pub IsWritten : Result Reply Fault → ℕ → Option (List ℕ) → Option (List ℕ) → Type 0
+IsWritten (Ok reply) status old new = (status ≡ reply.status) × Appends old new reply.text
+IsWritten (Err fault) status old new = (status ≡ fault_status fault) × Appends old new (fault_line fault)

@@ -1,0 +1,3 @@
+//! The commands, each in a file of its own: what it does after its signature was taken.
+pub(crate) mod abstraction;
+pub(crate) mod bits;

@@ -1,0 +1,82 @@
+//! The command `abstract`: the output word's polynomial in the input words.
+ghost use Rattle.std.specs.Prelude.{◌≡◌, ◌≤◌, length};
+ghost use Rattle.job_io.specs.Counts.{Rose};
+ghost use Rattle.job_words.specs.Stop.{GivesBy};
+ghost use Rattle.net_words.specs.Binding.{AreWords};
+ghost use Rattle.net_words.specs.WordNames.{HaveNames};
+ghost use Rattle.job_input.specs.Setting.{setting_value, elements_of_each, AreBasesOver, HaveRoles, IsReady};
+ghost use Rattle.gf_abs.specs.Reply.{printed};
+ghost use Rattle.gf_abs.specs.commands.Abstract.{AbstractReply, AbstractAnswer};
+
+use crate::line::polynomial_line;
+use crate::stages::stage_stop;
+use gf_basis::Basis;
+use gf_field::Field;
+use job_input::{Setting, labels_for, output_basis, read_circuit};
+use job_io::Shelf;
+use job_words::Stop;
+use net_words::{Combinational, Signature};
+use poly_mixed::NoSteps;
+use rato_reduce::reduce_bits;
+use std::alloc::Global;
+use word_subst::to_words;
+
+/// What the command answers over a setting and its netlist's file.
+pub(crate) fn answer<F: Field, S: Shelf>(
+    alloc: Global,
+    field: &F,
+    setting: &Setting,
+    net: &str,
+    terms: u32,
+    shelf: &mut S,
+) -> Result<Vec<u8>, Stop>
+    requires { IsReady (F.degree field.now) (F.product field.now) setting.now }
+    ensures held { S.held shelf.new ≡ S.held shelf.old }
+    ensures never_fall { (S.faults shelf.old ≤ S.faults shelf.new) × (S.misses shelf.old ≤ S.misses shelf.new) }
+    ensures gives { GivesBy printed result (AbstractAnswer (S.held shelf.old) (setting_value (F.degree field.now) (F.product field.now) setting.now) net.now terms)
+        (Rose (S.misses shelf.old) (S.misses shelf.new)) (Rose (S.faults shelf.old) (S.faults shelf.new)) }
+{
+    match read_circuit(alloc, shelf, setting, net) {
+        Ok(circuit) => reply(
+            alloc,
+            field,
+            &setting.signature,
+            setting.bases.as_slice(),
+            &circuit,
+            terms,
+        ),
+        Err(stop) => Err(stop),
+    }
+}
+
+// The line of the polynomial of a circuit, or the first stage of more than `bound` terms.
+fn reply<F: Field>(
+    alloc: Global,
+    field: &F,
+    signature: &Signature,
+    bases: &[Basis],
+    circuit: &Combinational,
+    bound: u32,
+) -> Result<Vec<u8>, Stop>
+    requires bits { circuit.now.bound.k ≡ F.degree field.now }
+    requires words { AreWords (F.degree field.now) signature.now.words }
+    requires names { HaveNames signature.now.words }
+    requires roles { HaveRoles signature.now.words circuit.now.bound.words }
+    requires over { AreBasesOver (F.degree field.now) (F.product field.now) bases.now }
+    requires long { length bases.now ≡ length circuit.now.bound.words }
+    ensures { GivesBy printed result (AbstractReply (record { signature = signature.now; k = F.degree field.now; product = F.product field.now; bases = elements_of_each bases.now }) circuit.now bound) ⊥ ⊥ }
+{
+    let labels = labels_for(alloc, signature.words(), field.k())?;
+    let basis = output_basis(circuit.bound(), bases);
+    let _gates = circuit.net().gates();
+    let bits = match reduce_bits(alloc, field, circuit, basis, bound, &mut NoSteps) {
+        Ok(bits) => bits,
+        Err(fault) => return Err(stage_stop(alloc, &labels, fault, bound)),
+    };
+    let poly = match to_words(alloc, field, circuit, bases, bits, bound, &mut NoSteps) {
+        Ok(poly) => poly,
+        Err(fault) => return Err(stage_stop(alloc, &labels, fault, bound)),
+    };
+    let line = polynomial_line(alloc, &poly, &labels)?;
+    Ok(line)
+}

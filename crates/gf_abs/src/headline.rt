@@ -1,0 +1,48 @@
+//! What the program's answers say, for all words and held files. These functions do nothing: their contracts are proved of
+//! the definitions alone. `run` says that what it wrote is the answer.
+ghost use Rattle.std.specs.Prelude.{◌≡◌, ◌↔◌, List, Some};
+ghost use Rattle.text_core.specs.Outcome.{Determined};
+ghost use Rattle.job_io.specs.Shelf.{Files};
+ghost use Rattle.net_words.specs.Binding.{BoundNet};
+ghost use Rattle.poly_mixed.specs.Polynomial.{Terms};
+ghost use Rattle.circuit_model.specs.WellFormed.{IsWellFormed};
+ghost use Rattle.job_words.specs.Operands.{Word};
+ghost use Rattle.job_input.specs.SettingValue.{SettingValue};
+ghost use Rattle.gf_abs.specs.Answer.{Answer};
+ghost use Rattle.gf_abs.specs.Headline.{IsTaken, AreHeld, AnswersBits, AnswersAbstract, PrintsHeld, PrintsHeldInBits, IsInItsWords, HasOutput, AreOneFunction};
+ghost use Rattle.gf_abs.specs.Reply.{Reply, polynomial_line};
+ghost use Rattle.gf_abs.specs.commands.Abstract.{taken_circuit};
+
+/// Where the shelf tells what it holds, at most one answer or fault comes of the words.
+pub fn one_answer_or_fault()
+    ensures { (words : List Word) (files : Files) → Determined (Answer words (Some files)) }
+{}
+
+/// The circuit of a signature's text and a netlist's text is well-formed, so that it has exactly one output at each input.
+pub fn each_taken_circuit_is_well_formed()
+    ensures { (setting : SettingValue) (circuit : BoundNet) → IsTaken setting circuit → IsWellFormed (taken_circuit setting circuit) }
+{}
+
+/// What `abstract` prints is the polynomial of the output of the circuit in the files: it is reduced, no bit and no other word
+/// stands in it, and at each point it has the output word's element at the point's elements.
+pub fn abstract_prints_the_output()
+    ensures { (files : Files) (words : List Word) (signature net : Word) (reply : Reply) → AnswersAbstract files words signature net reply → PrintsHeld files signature net reply }
+{}
+
+/// What `bits` prints is the polynomial of the output in the bits of the words: it is reduced, nothing else stands in it, and
+/// wherever these are the bits of an input it has the output's value there.
+pub fn bits_print_the_output()
+    ensures { (files : Files) (words : List Word) (signature net : Word) (reply : Reply) → AnswersBits files words signature net reply → PrintsHeldInBits files signature net reply }
+{}
+
+/// The printed bytes are the text of no other polynomial: of the reduced polynomials in the circuit's words alone, it is
+/// that of exactly those that have the output word's element at each point.
+pub fn bytes_are_the_only_text()
+    ensures { (files : Files) (words : List Word) (signature net : Word) (reply : Reply) (setting : SettingValue) (circuit : BoundNet) (ts : Terms) → AnswersAbstract files words signature net reply → AreHeld files signature net setting circuit → IsInItsWords setting circuit ts → reply.text ≡ polynomial_line setting ts ↔ HasOutput setting circuit ts }
+{}
+
+/// Two runs over one signature and two netlists, whatever the bounds on terms, print equal bytes exactly if the outputs are
+/// equal at every input.
+pub fn equal_bytes_exactly_if_equal_functions()
+    ensures { (files files' : Files) (words words' : List Word) (signature signature' net net' : Word) (reply reply' : Reply) (setting : SettingValue) (circuit other : BoundNet) → AnswersAbstract files words signature net reply → AnswersAbstract files' words' signature' net' reply' → AreHeld files signature net setting circuit → AreHeld files' signature' net' setting other → reply.text ≡ reply'.text ↔ AreOneFunction setting circuit other }
+{}

@@ -1,0 +1,21 @@
+use Rattle.std.proofs.Common.{◌∙◌, sym}
+use Rattle.std.proofs.lemmas.List.{length-map}
+use Rattle.gf_basis.specs.BasisParts.{elements_of}
+use Rattle.job_input.specs.Setting.{elements_of_each}
+use Rattle.job_input.proofs.SettingWords.{bases_words, bases_long}
+use Rattle.job_input.proofs.setting.setting_over.Goals as goal
+
+pub returns-in-Ok-clause-ready : goal.returns-in-Ok-clause-ready
+returns-in-Ok-clause-ready g c =
+    let k = g.F.Ring.degree c.args.field.now in
+    let product = g.F.Ring.product c.args.field.now in
+    let ring = g.met.F.Ring.laws c.args.field.now in
+    let words = c.args.signature.words in
+    let bases = c.in-Ok.bases.items in
+    let are = rw c.words.ensures at c.in-Ok.ensures.gives in
+    record {
+      over = c.in-Ok.ensures.over;
+      long = sym (length-map bases elements_of) ∙ bases_long k product words (elements_of_each bases) are;
+      words = bases_words k product ring.some ring.small words (elements_of_each bases) c.requires.said.output c.requires.said.others are;
+      names = c.requires.said.names;
+    }

@@ -1,0 +1,10 @@
+pub mod File
+pub mod FieldOf
+pub mod SettingValue
+pub mod SettingOf
+pub mod SignedIn
+pub mod Setting
+pub mod SettingSound
+pub mod NetlistOf
+pub mod Labelling
+pub mod private

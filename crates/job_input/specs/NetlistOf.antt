@@ -1,0 +1,89 @@
+-- The net of a netlist's text with the words of a signature bound to it, or the fault with which it is refused. Source: this
+-- project's own, docs/DEFINITIONS.md; nets are those of the BLIF format of UC Berkeley.
+use Rattle.std.specs.Prelude.{ℕ, Option, List, [], length, slice_get}
+use Rattle.std.specs.Option.{option_map_or}
+use Rattle.text_core.specs.Outcome.{Outcome, ◌>>=◌, Exactly, Within}
+use Rattle.job_io.specs.Shelf.{Files}
+use Rattle.job_input.specs.File.{Read}
+use Rattle.net_core.specs.NetList.{NetList, text_of}
+use Rattle.net_core.specs.declared.fault.NetFault.{NetFault}
+use Rattle.net_core.specs.declared.fault.NetFault.TheVariants as nets
+use Rattle.net_blif.specs.Flat.{Flattens}
+use Rattle.net_blif.specs.Models.{BlifDesign}
+use Rattle.net_blif.specs.declared.fault.BlifFault.{BlifFault}
+use Rattle.net_blif.specs.declared.fault.BlifFault.TheVariants as texts
+use Rattle.net_blif.specs.declared.flat_fault.FlatFault.{FlatFault}
+use Rattle.net_blif.specs.declared.flat_fault.FlatFault.TheVariants as flats
+use Rattle.net_words.specs.Bind.{BindingOf}
+use Rattle.net_words.specs.Binding.{BoundNet}
+use Rattle.net_words.specs.declared.binding.BindFault.{BindFault}
+use Rattle.net_words.specs.declared.binding.BindFault.TheVariants as binds
+use Rattle.net_words.specs.declared.word.WordText.{WordText}
+use Rattle.job_words.specs.Operands.{Word}
+use Rattle.job_words.specs.declared.netlist_fault.BindingFault.{BindingFault}
+use Rattle.job_words.specs.declared.netlist_fault.BindingFault.TheVariants as binding
+use Rattle.job_words.specs.declared.fault.Fault.{Fault}
+use Rattle.job_words.specs.declared.fault.Fault.TheVariants.{File, Netlist}
+use Rattle.job_words.specs.declared.netlist_fault.NetlistFault.{NetlistFault}
+use Rattle.job_words.specs.declared.netlist_fault.NetlistFault.TheVariants as netlist
+
+-- the name of a word of the signature, by its number
+abbrev pub word_name : List WordText → ℕ → Word
+word_name words w = option_map_or (λ (word : WordText). word.name) (slice_get words w) []
+
+-- A fault of the text as a fault of the netlist. Want of memory comes of no text: what stands for it is never met.
+abbrev pub of_text : BlifFault → NetlistFault
+of_text texts.NoModel = netlist.NoModel
+of_text (texts.Syntax line) = netlist.Syntax line
+of_text (texts.LeftOut line word) = netlist.LeftOut line word
+of_text (texts.TooWide line inputs) = netlist.TooWide line inputs
+of_text (texts.ModelTwice line) = netlist.ModelTwice line
+of_text texts.OutOfMemory = netlist.NoModel
+
+-- a fault of a net list as a fault of the netlist: a net by its label, a loop by its length and the label of its first net
+abbrev pub of_net : NetFault → NetlistFault
+of_net nets.TooManyNets = netlist.TooManyNets
+of_net nets.TooManyGates = netlist.TooManyGates
+of_net (nets.DrivenTwice n label) = netlist.DrivenTwice label
+of_net (nets.Undriven n label) = netlist.Undriven label
+of_net (nets.Loop loop label) = netlist.Loop (length loop) label
+of_net nets.OutOfMemory = netlist.TooManyNets
+
+-- a fault of the model's net as a fault of the netlist
+abbrev pub of_model : FlatFault → NetlistFault
+of_model (flats.Net fault) = of_net fault
+of_model flats.OutOfMemory = netlist.TooManyNets
+
+-- a fault of the binding with the name of its word, or the label of its net
+abbrev pub of_binding : List WordText → NetList → BindFault → BindingFault
+of_binding words net (binds.NoSuchNet word place) = binding.NoSuchNet (word_name words word) place
+of_binding words net (binds.NotInput word place) = binding.NotInput (word_name words word) place
+of_binding words net (binds.NotLatch word place) = binding.NotLatch (word_name words word) place
+of_binding words net (binds.NetTwice n) = binding.NetTwice (text_of net n)
+of_binding words net (binds.Uncovered n) = binding.Uncovered (text_of net n)
+of_binding words net (binds.UnknownStart n) = binding.UnknownStart (text_of net n)
+of_binding words net binds.OutOfMemory = binding.NetTwice []
+
+-- the net of the first model of a text: the text's first fault, or else the net's
+abbrev pub NetOf : List ℕ → Outcome NetlistFault NetList
+NetOf text = do
+  design ← Within of_text (BlifDesign text)
+  Within of_model (Flattens design 0)
+
+-- the net with the words that are bound to it, or the first fault of the binding
+abbrev pub WordsBound : List WordText → NetList → Outcome NetlistFault BoundNet
+WordsBound words net = do
+  bound ← Within (λ fault. netlist.Binding (of_binding words net fault)) (BindingOf net words)
+  Exactly (record { net = net; bound = bound })
+
+-- the net of a text with the words that are bound to it: the text, its net, and the binding, of which the first fault counts
+abbrev pub BoundNetOf : List WordText → List ℕ → Outcome NetlistFault BoundNet
+BoundNetOf words text = do
+  net ← NetOf text
+  WordsBound words net
+
+-- the circuit of a file: it is read, and its netlist taken
+abbrev pub CircuitIn : Option Files → List WordText → Word → Outcome Fault BoundNet
+CircuitIn held words file = do
+  text ← Within File (Read held file)
+  Within (Netlist file) (BoundNetOf words text)

@@ -1,0 +1,93 @@
+-- What a `Setting` is made of, and the stops of its making. Source: this project's own.
+use Rattle.std.specs.Prelude.{◌≡◌, ℕ, ◌*◌, ◌≤◌, List, filter, length, map}
+use Rattle.net_core.specs.Lists.{Has}
+use Rattle.net_words.specs.Binding.{AreWords, BoundNet}
+use Rattle.net_words.specs.Signature.{is_output, input_count}
+use Rattle.net_words.specs.declared.bound.BoundWord.{BoundWord}
+use Rattle.net_words.specs.declared.word.WordText.{WordText}
+use Rattle.net_words.specs.WordNames.{HaveNames}
+use Rattle.net_words.specs.declared.fault.SigFault.{SigFault}
+use Rattle.net_words.specs.declared.fault.SigFault.TheVariants.{Syntax, NameTwice, TwoOutputs, TooManyWords, NoOutput, OutOfMemory}
+use Rattle.gf_field.specs.Bit.{bit_mul}
+use Rattle.gf_field.specs.Quotient.{product as quotient_product}
+use Rattle.gf_field.specs.Ring2k.{degree_of, modulus_of}
+use Rattle.irreducible.specs.Proved.{ring_of}
+use Rattle.gf_tower.specs.Tower.{tower_polynomial}
+use Rattle.gf_tower.specs.TowerParts.{base_of, coefficients_of, size_of}
+use Rattle.gf_tower.specs.declared.any_field.AnyField.{AnyField}
+use Rattle.gf_tower.specs.declared.any_field.AnyField.TheVariants.{Base, Tower}
+use Rattle.gf_basis.specs.BasisParts.{elements_of, IsOver}
+use Rattle.gf_basis.specs.declared.bases.Basis.{Basis}
+use Rattle.job_input.specs.declared.setting.Setting.{Setting}
+use Rattle.job_input.specs.declared.signed.Signed.{Signed}
+use Rattle.job_input.specs.FieldOf.{FieldValue}
+use Rattle.job_words.specs.declared.fault.Fault.TheVariants.{Signature}
+use Rattle.job_words.specs.declared.stop.Stop.{Stop}
+use Rattle.job_words.specs.declared.stop.Stop.TheVariants as stops
+use Rattle.job_input.specs.SettingOf.{text_fault, SignedValue}
+use Rattle.job_input.specs.SettingValue.{SettingValue}
+
+-- how many bits an element of the field has
+abbrev pub any_degree : AnyField → ℕ
+any_degree (Base field) = degree_of (ring_of field)
+any_degree (Tower field) = degree_of (ring_of (base_of (ring_of field))) * size_of (ring_of field)
+
+-- the product of the field
+abbrev pub any_product : AnyField → ℕ → ℕ → ℕ
+any_product (Base field) = quotient_product 1 (degree_of (ring_of field)) bit_mul (modulus_of (ring_of field))
+any_product (Tower field) =
+    let base = ring_of (base_of (ring_of field)) in
+    quotient_product (degree_of base) (size_of (ring_of field)) (quotient_product 1 (degree_of base) bit_mul (modulus_of base)) (tower_polynomial (degree_of base) (coefficients_of (ring_of field)))
+
+-- the elements of bases
+abbrev pub elements_of_each : List Basis → List (List ℕ)
+elements_of_each bases = map elements_of bases
+
+-- the field by its degree and its product
+abbrev pub field_value : AnyField → FieldValue
+field_value field = record { k = any_degree field; product = any_product field }
+
+-- a signature with its field
+abbrev pub signed_value : Signed → SignedValue
+signed_value signed = record { signature = signed.signature; field = field_value signed.field }
+
+-- a setting over a field by its signature, the field and the elements of its bases
+abbrev pub setting_value : ℕ → (ℕ → ℕ → ℕ) → Setting → SettingValue
+setting_value k product setting = record { signature = setting.signature; k = k; product = product; bases = elements_of_each setting.bases.items }
+
+-- each basis is one of the field of 2 to the k elements with this product
+abbrev pub AreBasesOver : ℕ → (ℕ → ℕ → ℕ) → List Basis → Type 0
+AreBasesOver k product bases = (basis : Basis) → Has bases basis → IsOver k product basis
+
+-- why no output comes after a fault of a signature's text
+abbrev pub text_stop : SigFault → Stop
+text_stop (Syntax line) = stops.Refused (Signature (text_fault (Syntax line)))
+text_stop (NameTwice line) = stops.Refused (Signature (text_fault (NameTwice line)))
+text_stop (TwoOutputs line) = stops.Refused (Signature (text_fault (TwoOutputs line)))
+text_stop (TooManyWords line) = stops.Refused (Signature (text_fault (TooManyWords line)))
+text_stop (NoOutput block) = stops.Refused (Signature (text_fault (NoOutput block)))
+text_stop OutOfMemory = stops.OutOfMemory
+
+-- what is known of the words of each signature: one is the output, at most eight are others, and they have names, no two the same
+pub record AreSaid (words : List WordText) : Type 0 where
+  pub output : length (filter is_output words) ≡ 1
+  pub others : input_count words ≤ 8
+  pub names : HaveNames words
+
+-- what is known of each setting over a field: its bases are over the field, one for each word; its words have k nets each,
+-- one is the output, and at most eight are others; and they have names, no two the same
+pub record IsReady (k : ℕ) (product : ℕ → ℕ → ℕ) (setting : Setting) : Type 0 where
+  pub over : AreBasesOver k product setting.bases.items
+  pub long : length setting.bases.items ≡ length setting.signature.words
+  pub words : AreWords k setting.signature.words
+  pub names : HaveNames setting.signature.words
+
+-- the bound words are as many as these, and have their roles
+abbrev pub HaveRoles : List WordText → List BoundWord → Type 0
+HaveRoles words bound = map (λ word. word.role) bound ≡ map (λ word. word.role) words
+
+-- what is known of each circuit that is taken for a setting: its words have k bits each, the setting's roles, and a basis each
+pub record IsTakenFor (k : ℕ) (setting : Setting) (circuit : BoundNet) : Type 0 where
+  pub bits : circuit.bound.k ≡ k
+  pub roles : HaveRoles setting.signature.words circuit.bound.words
+  pub long : length setting.bases.items ≡ length circuit.bound.words

@@ -1,0 +1,93 @@
+-- What the text of a signature gives a job, or its first fault. Source: this project's own format, docs/FORMATS.md, and for bases
+-- Lidl and Niederreiter, Finite Fields, chapter 2.
+use Rattle.std.specs.Prelude.{◌≡◌, ◌≢◌, ℕ, ◌<◌, ◌^◌, List, [], ◌∷◌, length, Ok, Err}
+use Rattle.text_core.specs.Outcome.{Outcome, ◌>>=◌, Exactly, Within}
+use Rattle.net_words.specs.Signature.{Sig, SignatureValue}
+use Rattle.net_words.specs.declared.fault.SigFault.{SigFault}
+use Rattle.net_words.specs.declared.fault.SigFault.TheVariants as text
+use Rattle.net_words.specs.declared.word.BasisText.{BasisText}
+use Rattle.net_words.specs.declared.word.BasisText.TheVariants.{Poly, Normal, Elements}
+use Rattle.net_words.specs.declared.word.WordText.{WordText}
+use Rattle.irreducible.specs.Span.{IsIndependent}
+use Rattle.gf_basis.specs.Basis.{IsBasisList, first_values}
+use Rattle.gf_basis.specs.BasisFault.{IsListFault, IsNormalFault, conjugates_of}
+use Rattle.gf_basis.specs.declared.bases.BasisFault.{BasisFault}
+use Rattle.gf_basis.specs.declared.bases.BasisFault.TheVariants.{WrongCount, BadElement, Dependent}
+use Rattle.job_words.specs.declared.signature_fault.SignatureFault.{SignatureFault}
+use Rattle.job_words.specs.declared.signature_fault.SignatureFault.TheVariants as signature
+use Rattle.job_input.specs.FieldOf.{FieldValue, FieldOf}
+use Rattle.job_input.specs.SettingValue.{SettingValue}
+
+-- the fault that a fault of a signature's text is; want of memory, which no text has, is taken as any other
+abbrev pub text_fault : SigFault → SignatureFault
+text_fault (text.Syntax line) = signature.Syntax line
+text_fault (text.NameTwice line) = signature.NameTwice line
+text_fault (text.TwoOutputs line) = signature.TwoOutputs line
+text_fault (text.TooManyWords line) = signature.TooManyWords line
+text_fault (text.NoOutput block) = signature.NoOutput
+text_fault text.OutOfMemory = signature.NoOutput
+
+-- the word has as many nets as the field's elements have bits
+abbrev pub HasBits : ℕ → WordText → Outcome SignatureFault (Unit {0})
+HasBits k word (Ok u) = length word.nets ≡ k
+HasBits k word (Err fault) = (length word.nets ≢ k) × (fault ≡ signature.Bits word.line)
+
+-- the conjugates of gamma, which is an element, where they are independent
+abbrev pub NormalBasis : ℕ → (ℕ → ℕ → ℕ) → ℕ → Outcome BasisFault (List ℕ)
+NormalBasis k product gamma (Ok elements) = (gamma < 2 ^ k) × IsIndependent (conjugates_of k product gamma) × (elements ≡ conjugates_of k product gamma)
+NormalBasis k product gamma (Err fault) = IsNormalFault k product gamma fault
+
+-- the elements of the list, where they are k independent elements
+abbrev pub ListBasis : ℕ → List ℕ → Outcome BasisFault (List ℕ)
+ListBasis k list (Ok elements) = IsBasisList k list × (elements ≡ list)
+ListBasis k list (Err fault) = IsListFault k list fault
+
+-- the elements of a basis of the field of 2 to the k elements with this product: `poly` has the powers of 2
+abbrev pub BasisOf : ℕ → (ℕ → ℕ → ℕ) → BasisText → Outcome BasisFault (List ℕ)
+BasisOf k product Poly = Exactly (first_values k (λ i. 2 ^ i))
+BasisOf k product (Normal gamma) = NormalBasis k product gamma
+BasisOf k product (Elements list) = ListBasis k list
+
+-- the fault that a fault of the basis in the line of this number is
+abbrev pub basis_fault : ℕ → BasisFault → SignatureFault
+basis_fault line Dependent = signature.Dependent line
+basis_fault line (WrongCount count) = signature.Basis line
+basis_fault line (BadElement place) = signature.Basis line
+
+-- the basis of a word: first its number of bits counts
+abbrev pub WordBasis : ℕ → (ℕ → ℕ → ℕ) → WordText → Outcome SignatureFault (List ℕ)
+WordBasis k product word = do
+  bits ← HasBits k word
+  Within (basis_fault word.line) (BasisOf k product word.basis)
+
+-- the bases of words: word by word, the first fault decides
+abbrev pub BasesOf : ℕ → (ℕ → ℕ → ℕ) → List WordText → Outcome SignatureFault (List (List ℕ))
+BasesOf k product [] = Exactly []
+BasesOf k product (word ∷ words) = do
+  basis ← WordBasis k product word
+  bases ← BasesOf k product words
+  Exactly (basis ∷ bases)
+
+-- a signature, and the field that it names
+pub record SignedValue : Type 0 where
+  pub signature : SignatureValue
+  pub field : FieldValue
+
+-- the signature of a text: first its lines, then its field
+unfoldable pub SignedOf : List ℕ → Outcome SignatureFault SignedValue
+SignedOf bytes = do
+  said ← Within text_fault (Sig bytes)
+  field ← FieldOf said.modulus said.tower
+  Exactly (record { signature = said; field = field })
+
+-- its setting: its words with their bases
+abbrev pub SettingWith : SignedValue → Outcome SignatureFault SettingValue
+SettingWith signed = do
+  bases ← BasesOf signed.field.k signed.field.product signed.signature.words
+  Exactly (record { signature = signed.signature; k = signed.field.k; product = signed.field.product; bases = bases })
+
+-- the setting of a signature's text: first its lines, then its field, and then its words with their bases
+abbrev pub SettingOf : List ℕ → Outcome SignatureFault SettingValue
+SettingOf bytes = do
+  signed ← SignedOf bytes
+  SettingWith signed

@@ -1,0 +1,61 @@
+//! The circuit of a netlist's file.
+ghost use Rattle.std.specs.Prelude.{◌≡◌, ◌≤◌, ℕ, length, IfOk};
+ghost use Rattle.text_core.specs.Outcome.{Within};
+ghost use Rattle.job_io.specs.Counts.{Rose};
+ghost use Rattle.net_words.specs.Bind.{bits_of};
+ghost use Rattle.net_words.specs.Binding.{AreWords};
+ghost use Rattle.job_words.specs.Stop.{GivesBy};
+ghost use Rattle.job_words.specs.declared.fault.Fault.TheVariants.{Netlist};
+ghost use Rattle.job_input.specs.NetlistOf.{BoundNetOf, CircuitIn};
+ghost use Rattle.job_input.specs.Setting.{IsReady, IsTakenFor};
+
+use crate::files::read_file;
+use crate::netlist::{Refusal, bound_net};
+use crate::setting::Setting;
+use job_io::Shelf;
+use job_words::{Fault, Stop};
+use net_core::Name;
+use net_words::{Combinational, WordText};
+use std::alloc::Global;
+
+/// The circuit of a netlist's file, to which the words of the setting are bound, or the first fault: that of the file, of
+/// its text, of its net, or of the binding.
+pub fn read_circuit<S: Shelf>(
+    alloc: Global,
+    shelf: &mut S,
+    setting: &Setting,
+    file: &str,
+) -> Result<Combinational, Stop>
+    requires { (k : ℕ) × (product : ℕ → ℕ → ℕ) × IsReady k product setting.now }
+    ensures held { S.held shelf.new ≡ S.held shelf.old }
+    ensures never_fall { (S.faults shelf.old ≤ S.faults shelf.new) × (S.misses shelf.old ≤ S.misses shelf.new) }
+    ensures gives { GivesBy (λ circuit. circuit) result (CircuitIn (S.held shelf.old) setting.now.signature.words file.now)
+        (Rose (S.misses shelf.old) (S.misses shelf.new)) (Rose (S.faults shelf.old) (S.faults shelf.new)) }
+    ensures taken { IfOk result (λ circuit. (k : ℕ) (product : ℕ → ℕ → ℕ) → IsReady k product setting.now → IsTakenFor k setting.now circuit) }
+{
+    let text = match read_file(alloc, shelf, file) {
+        Ok(text) => text,
+        Err(stop) => return Err(stop),
+    };
+    circuit_of(alloc, setting.signature.words(), file, &text)
+}
+
+// The circuit of a netlist's text of at most 67,108,864 bytes.
+fn circuit_of(
+    alloc: Global,
+    words: &[WordText],
+    file: &str,
+    text: &[u8],
+) -> Result<Combinational, Stop>
+    requires short { length text.now ≤ 67108864 }
+    requires words { (k : ℕ) × AreWords k words.now }
+    ensures gives { GivesBy (λ circuit. circuit) result (Within (Netlist file.now) (BoundNetOf words.now text.now)) ⊥ ⊥ }
+    ensures bits { IfOk result (λ circuit. circuit.bound.k ≡ bits_of words.now) }
+{
+    let name = Name::new(alloc, file)?;
+    match bound_net(alloc, words, text) {
+        Ok(circuit) => Ok(circuit),
+        Err(Refusal::Fault(fault)) => Err(Stop::Refused(Fault::Netlist { file: name, fault })),
+        Err(Refusal::OutOfMemory) => Err(Stop::OutOfMemory),
+    }
+}

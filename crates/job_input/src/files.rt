@@ -1,0 +1,37 @@
+//! The bytes of a file.
+ghost use Rattle.std.specs.Prelude.{◌≡◌, ◌≤◌, length, IfOk};
+ghost use Rattle.text_core.specs.Outcome.{Within};
+ghost use Rattle.job_io.specs.Counts.{Rose};
+ghost use Rattle.job_words.specs.Stop.{bytes_of, GivesBy};
+ghost use Rattle.job_words.specs.declared.fault.Fault.TheVariants.{File};
+ghost use Rattle.job_input.specs.File.{Read};
+
+use job_io::{Shelf, ShelfFault};
+use job_words::{Fault, FileFault, Stop};
+use net_core::Name;
+use std::alloc::Global;
+
+const LIMIT: u32 = 67_108_864;
+
+/// The bytes of a file, at most 67,108,864.
+pub(crate) fn read_file<S: Shelf>(alloc: Global, shelf: &mut S, name: &str) -> Result<Vec<u8>, Stop>
+    ensures held { S.held shelf.new ≡ S.held shelf.old }
+    ensures never_fall { (S.faults shelf.old ≤ S.faults shelf.new) × (S.misses shelf.old ≤ S.misses shelf.new) }
+    ensures gives { GivesBy bytes_of result (Within File (Read (S.held shelf.old) name.now))
+        (Rose (S.misses shelf.old) (S.misses shelf.new)) (Rose (S.faults shelf.old) (S.faults shelf.new)) }
+    ensures short { IfOk result (λ bytes. length bytes.items ≤ 67108864) }
+{
+    match shelf.read(alloc, name, LIMIT) {
+        Ok(bytes) => Ok(bytes),
+        Err(ShelfFault::Absent) => {
+            let file = Name::new(alloc, name)?;
+            Err(Stop::Refused(Fault::File(FileFault::Absent { file })))
+        }
+        Err(ShelfFault::TooLong { .. }) => {
+            let file = Name::new(alloc, name)?;
+            Err(Stop::Refused(Fault::File(FileFault::TooLong { file })))
+        }
+        Err(ShelfFault::Failed) => Err(Stop::Outside),
+        Err(ShelfFault::OutOfMemory) => Err(Stop::OutOfMemory),
+    }
+}

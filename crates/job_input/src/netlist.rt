@@ -1,0 +1,183 @@
+//! A netlist: its text, its net, and the binding of the signature's words.
+ghost use Rattle.std.specs.Prelude.{◌≡◌, ◌≤◌, ◌<◌, ℕ, [], length, IfOk, IsOk};
+ghost use Rattle.net_core.specs.NetList.{nets, text_of};
+ghost use Rattle.net_words.specs.Bind.{bits_of};
+ghost use Rattle.net_words.specs.Binding.{AreWords};
+ghost use Rattle.job_input.specs.NetlistOf.{BoundNetOf, NetOf, WordsBound, of_binding, word_name as name_of};
+ghost use Rattle.job_input.specs.private.NetlistReading.{FitsNetlist, IsNamed, IsNetlistRefusal, text_refusal, model_refusal, net_refusal};
+
+use job_words::{BindingFault, NetlistFault};
+use net_blif::{BlifFault, FlatFault, flatten, read_blif};
+use net_core::{Name, Net, NetFault};
+use net_words::{BindFault, Combinational, WordText, bind};
+use std::alloc::{AllocError, Global};
+
+/// Why a netlist is refused, without its file.
+#[derive(Debug, Drop)]
+pub(crate) enum Refusal {
+    Fault(NetlistFault),
+    OutOfMemory,
+}
+
+/// The net of a text with the words that are bound to it.
+pub(crate) fn bound_net(
+    alloc: Global,
+    words: &[WordText],
+    text: &[u8],
+) -> Result<Combinational, Refusal>
+    requires short { length text.now ≤ 67108864 }
+    requires words { (k : ℕ) × AreWords k words.now }
+    ensures fits { FitsNetlist result (BoundNetOf words.now text.now) }
+    ensures bits { IfOk result (λ circuit. circuit.bound.k ≡ bits_of words.now) }
+{
+    match net_of(alloc, text) {
+        Ok(net) => bound_to(alloc, words, net),
+        Err(refusal) => Err(refusal),
+    }
+}
+
+// The net with the words that are bound to it.
+fn bound_to(alloc: Global, words: &[WordText], net: Net) -> Result<Combinational, Refusal>
+    requires words { (k : ℕ) × AreWords k words.now }
+    requires flat { net.latches ≡ [] }
+    ensures fits { FitsNetlist result (WordsBound words.now net) }
+    ensures bits { IfOk result (λ circuit. circuit.bound.k ≡ bits_of words.now) }
+{
+    let bound = match bind(alloc, words, &net) {
+        Ok(bound) => bound,
+        Err(fault) => return Err(binding_fault(alloc, words, &net, fault)),
+    };
+    match Combinational::new(net, bound) {
+        Ok(circuit) => Ok(circuit),
+        Err(_) => unreachable!(),
+    }
+}
+
+// The net of a text, which has no latches.
+fn net_of(alloc: Global, text: &[u8]) -> Result<Net, Refusal>
+    requires { length text.now ≤ 67108864 }
+    ensures fits { FitsNetlist result (NetOf text.now) }
+    ensures flat { IfOk result (λ net. net.latches ≡ []) }
+{
+    let design = match read_blif(alloc, text) {
+        Ok(design) => design,
+        Err(fault) => return Err(text_fault(fault)),
+    };
+    match flatten(alloc, &design, 0) {
+        Ok(net) => Ok(net),
+        Err(fault) => Err(model_fault(fault)),
+    }
+}
+
+// The refusal of a netlist's text.
+fn text_fault(fault: BlifFault) -> Refusal
+    ensures { result ≡ text_refusal fault }
+{
+    match fault {
+        BlifFault::NoModel => Refusal::Fault(NetlistFault::NoModel),
+        BlifFault::Syntax { line } => Refusal::Fault(NetlistFault::Syntax { line }),
+        BlifFault::LeftOut { line, word } => Refusal::Fault(NetlistFault::LeftOut { line, word }),
+        BlifFault::TooWide { line, inputs } => {
+            Refusal::Fault(NetlistFault::TooWide { line, inputs })
+        }
+        BlifFault::ModelTwice { line } => Refusal::Fault(NetlistFault::ModelTwice { line }),
+        BlifFault::OutOfMemory => Refusal::OutOfMemory,
+    }
+}
+
+// The refusal of a model's net.
+fn model_fault(fault: FlatFault) -> Refusal
+    ensures { result ≡ model_refusal fault }
+{
+    match fault {
+        FlatFault::Net(fault) => net_fault(fault),
+        FlatFault::OutOfMemory => Refusal::OutOfMemory,
+    }
+}
+
+// The refusal of a net.
+fn net_fault(fault: NetFault) -> Refusal
+    ensures { result ≡ net_refusal fault }
+{
+    match fault {
+        NetFault::TooManyNets => Refusal::Fault(NetlistFault::TooManyNets),
+        NetFault::TooManyGates => Refusal::Fault(NetlistFault::TooManyGates),
+        NetFault::DrivenTwice { net: _net, label } => {
+            Refusal::Fault(NetlistFault::DrivenTwice { label })
+        }
+        NetFault::Undriven { net: _net, label } => Refusal::Fault(NetlistFault::Undriven { label }),
+        NetFault::Loop { nets, label } => {
+            let count = nets.as_slice().len() as u64;
+            Refusal::Fault(NetlistFault::Loop { count, label })
+        }
+        NetFault::OutOfMemory => Refusal::OutOfMemory,
+    }
+}
+
+// The refusal of a binding.
+fn binding_fault(alloc: Global, words: &[WordText], net: &Net, fault: BindFault) -> Refusal
+    requires { IsNamed (length words.now) net.now fault }
+    ensures same { IsNetlistRefusal (NetlistFault.Binding (of_binding words.now net.now fault)) result }
+    ensures memory { fault ≡ BindFault.OutOfMemory → result ≡ Refusal.OutOfMemory }
+{
+    match named_fault(alloc, words, net, fault) {
+        Ok(fault) => Refusal::Fault(NetlistFault::Binding(fault)),
+        Err(_) => Refusal::OutOfMemory,
+    }
+}
+
+// The fault of a binding with the name of its word or the label of its net.
+fn named_fault(
+    alloc: Global,
+    words: &[WordText],
+    net: &Net,
+    fault: BindFault,
+) -> Result<BindingFault, AllocError>
+    requires { IsNamed (length words.now) net.now fault }
+    ensures named { IfOk result (λ named. named ≡ of_binding words.now net.now fault) }
+    ensures memory { IsOk result → fault ≡ BindFault.OutOfMemory → ⊥ }
+{
+    match fault {
+        BindFault::NoSuchNet { word, place } => {
+            let word = word_name(alloc, words, word)?;
+            Ok(BindingFault::NoSuchNet { word, place })
+        }
+        BindFault::NotInput { word, place } => {
+            let word = word_name(alloc, words, word)?;
+            Ok(BindingFault::NotInput { word, place })
+        }
+        BindFault::NotLatch { word, place } => {
+            let word = word_name(alloc, words, word)?;
+            Ok(BindingFault::NotLatch { word, place })
+        }
+        BindFault::NetTwice { net: number } => {
+            let label = label(alloc, net, number)?;
+            Ok(BindingFault::NetTwice { label })
+        }
+        BindFault::Uncovered { net: number } => {
+            let label = label(alloc, net, number)?;
+            Ok(BindingFault::Uncovered { label })
+        }
+        BindFault::UnknownStart { net: number } => {
+            let label = label(alloc, net, number)?;
+            Ok(BindingFault::UnknownStart { label })
+        }
+        BindFault::OutOfMemory => Err(AllocError),
+    }
+}
+
+// The name of a word.
+fn word_name(alloc: Global, words: &[WordText], word: u32) -> Result<Name, AllocError>
+    requires { word < length words.now }
+    ensures { IfOk result (λ name. name ≡ name_of words.now word) }
+{
+    Name::new(alloc, words[word as usize].name.as_str())
+}
+
+// What a net is called.
+fn label(alloc: Global, net: &Net, number: u32) -> Result<Name, AllocError>
+    requires { number < nets net.now }
+    ensures { IfOk result (λ label. label ≡ text_of net.now number) }
+{
+    Name::new(alloc, net.label(number))
+}

@@ -1,0 +1,97 @@
+//! The setting of a job: a signature, and over its field the bases of its words.
+ghost use Rattle.std.specs.Prelude.{◌≡◌, Ok, Err, IfOk, IfErr};
+ghost use Rattle.text_core.specs.Outcome.{Within};
+ghost use Rattle.gf_basis.specs.BasisParts.{IsOver, elements_of};
+ghost use Rattle.job_words.specs.Stop.{GivesBy};
+ghost use Rattle.job_words.specs.declared.fault.Fault.TheVariants.{Signature};
+ghost use Rattle.job_input.specs.SettingOf.{BasisOf, WordBasis, BasesOf, SettingWith, basis_fault as fault_of_basis};
+ghost use Rattle.job_input.specs.Setting.{elements_of_each, setting_value, AreBasesOver, AreSaid, IsReady};
+
+use crate::signed::refused;
+use gf_basis::{Basis, BasisFault};
+use gf_field::Field;
+use job_words::{SignatureFault, Stop};
+use net_words::{BasisText, WordText};
+use std::alloc::Global;
+
+/// A signature, and the bases of its words in their order.
+#[derive(Drop)]
+pub struct Setting {
+    /// What the signature's text says.
+    pub signature: net_words::Signature,
+    /// The basis of each word, the output word's among them.
+    pub bases: Vec<Basis>,
+}
+
+/// The setting of a signature over its field, or the first fault: line by line that of the number of a word's bits, and of
+/// its basis. One word of the signature is the output, at most eight are others, and all have names.
+pub fn setting_over<F: Field>(
+    alloc: Global,
+    field: &F,
+    signature: net_words::Signature,
+) -> Result<Setting, Stop>
+    requires said { AreSaid signature.words }
+    ensures gives { GivesBy (setting_value (F.degree field.now) (F.product field.now)) result
+        (Within Signature (SettingWith (record { signature = signature; field = record { k = F.degree field.now; product = F.product field.now } }))) ⊥ ⊥ }
+    ensures ready { IfOk result (λ setting. IsReady (F.degree field.now) (F.product field.now) setting) }
+{
+    match bases_of(alloc, field, signature.words()) {
+        Ok(bases) => Ok(Setting { signature, bases }),
+        Err(stop) => Err(stop),
+    }
+}
+
+// The bases of words, line by line.
+fn bases_of<F: Field>(alloc: Global, field: &F, words: &[WordText]) -> Result<Vec<Basis>, Stop>
+    ensures gives { GivesBy (λ bases. elements_of_each bases.items) result (Within Signature (BasesOf (F.degree field.now) (F.product field.now) words.now)) ⊥ ⊥ }
+    ensures over { IfOk result (λ bases. AreBasesOver (F.degree field.now) (F.product field.now) bases.items) }
+{
+    let mut bases = Vec::new(alloc);
+    for word in words {
+        let basis = match word_basis(field, word) {
+            Ok(basis) => basis,
+            Err(stop) => return Err(stop),
+        };
+        bases.push(basis)?;
+    }
+    Ok(bases)
+}
+
+// The basis of a word: first its number of bits counts.
+fn word_basis<F: Field>(field: &F, word: &WordText) -> Result<Basis, Stop>
+    ensures gives { GivesBy elements_of result (Within Signature (WordBasis (F.degree field.now) (F.product field.now) word.now)) ⊥ ⊥ }
+    ensures over { IfOk result (λ basis. IsOver (F.degree field.now) (F.product field.now) basis) }
+{
+    let line = word.line;
+    if word.nets.as_slice().len() != field.k() as usize {
+        return Err(refused(SignatureFault::Bits { line }));
+    }
+    match basis_of(field, &word.basis) {
+        Ok(basis) => Ok(basis),
+        Err(fault) => Err(refused(basis_fault(line, fault))),
+    }
+}
+
+// The basis that a text names.
+fn basis_of<F: Field>(field: &F, text: &BasisText) -> Result<Basis, BasisFault>
+    ensures ok { IfOk result (λ basis. BasisOf (F.degree field.now) (F.product field.now) text.now (Ok (elements_of basis))) }
+    ensures fault { IfErr result (λ fault. BasisOf (F.degree field.now) (F.product field.now) text.now (Err fault)) }
+    ensures over { IfOk result (λ basis. IsOver (F.degree field.now) (F.product field.now) basis) }
+{
+    match text {
+        BasisText::Poly => Ok(Basis::poly(field)),
+        BasisText::Normal { gamma } => Basis::normal(field, *gamma),
+        BasisText::Elements { list } => Basis::list(field, list.as_slice()),
+    }
+}
+
+// The fault of a basis in the line of this number.
+fn basis_fault(line: u32, fault: BasisFault) -> SignatureFault
+    ensures { result ≡ fault_of_basis line fault }
+{
+    match fault {
+        BasisFault::Dependent => SignatureFault::Dependent { line },
+        BasisFault::WrongCount { .. } => SignatureFault::Basis { line },
+        BasisFault::BadElement { .. } => SignatureFault::Basis { line },
+    }
+}

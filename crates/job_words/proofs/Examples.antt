@@ -1,0 +1,78 @@
+-- Small worked examples of the definitions of specs/, which the check computes: lines of faults, words of the command line.
+use Rattle.std.proofs.Common.{◌≡◌, ◌≢◌, ℕ, zero, suc, ◌<◌, ◌≤◌, [], ◌∷◌, codes, get_or, slice_index, inl, inr, refl, arith}
+use Rattle.std.specs.Fmt.{digits}
+use Rattle.text_core.specs.Numbers.{IsDigit}
+use Rattle.poly_mixed.specs.declared.stage.Stage.TheVariants as stages
+use Rattle.job_words.specs.Command.{Bits, Abstract, IsSpelled}
+use Rattle.job_words.specs.Fault.{fault_line, fault_status}
+use Rattle.job_words.specs.Operands.{IsOperand, IsBlifName, IsOverNet}
+use Rattle.job_words.specs.StageFault.{stage_text}
+use Rattle.job_words.specs.declared.fault.Fault.{Fault}
+use Rattle.job_words.specs.declared.fault.Fault.TheVariants as faults
+use Rattle.job_words.specs.declared.netlist_fault.NetlistFault.TheVariants as netlist
+
+-- the line where the net y of n.blif has two drivers
+line_of_driven_twice : fault_line (faults.Netlist (codes "n.blif") (netlist.DrivenTwice (codes "y"))) ≡ codes "fault 34: net y is driven twice in n.blif\n"
+line_of_driven_twice = refl
+
+abbrev over : Fault
+over = faults.Stage (record { stage = codes "word A term 1 bit 2"; terms = 70000; bound = 65536 })
+
+-- the line where a stage has 70,000 terms and the bound is 65,536
+line_of_too_many : fault_line over ≡ codes "fault 03: word A term 1 bit 2 has 70000 terms, bound 65536\n"
+unfolding digits
+line_of_too_many = refl
+
+-- it ends with the status 3
+status_of_too_many : fault_status over ≡ 3
+status_of_too_many = refl
+
+-- where the words are A and B, the sum of 3 terms of word 1 is called by B
+text_of_sum : stage_text (record { output = codes "Z"; words = (codes "A", 2) ∷ (codes "B", 2) ∷ []; nets = [] }) (stages.WordSum 1 3) ≡ codes "word B sum 3"
+unfolding digits
+text_of_sum = refl
+
+operand_s : IsOperand (codes "s")
+operand_s = record { not_empty = λ e. absurd (cc); no_option = refl; plain = plain }
+  where
+    plain : (k d : ℕ) → k < 1 → (32 ≤ get_or (codes "s") k d) × (get_or (codes "s") k d ≢ 127)
+    plain zero d h = (omega arith, λ e. absurd (omega arith))
+    plain (suc k) d h = absurd (omega arith)
+
+operand_n : IsOperand (codes "n")
+operand_n = record { not_empty = λ e. absurd (cc); no_option = refl; plain = plain }
+  where
+    plain : (k d : ℕ) → k < 1 → (32 ≤ get_or (codes "n") k d) × (get_or (codes "n") k d ≢ 127)
+    plain zero d h = (omega arith, λ e. absurd (omega arith))
+    plain (suc k) d h = absurd (omega arith)
+
+over_net : IsOverNet (codes "s" ∷ codes "n" ∷ []) (codes "s") (codes "n") 65536
+over_net = record { options = []; words_are = refl; signature_is = operand_s; net_is = operand_n; blif = record { no_verilog = refl; no_aiger = refl }; set = inl (refl, refl) }
+
+-- `bits s n` is the command `bits` with the signature s, the netlist n and the bound 65,536
+spelled_bits : IsSpelled (codes "bits" ∷ codes "s" ∷ codes "n" ∷ []) (record { signature = codes "s"; action = Bits (codes "n") 65536 })
+spelled_bits = record { rest = codes "s" ∷ codes "n" ∷ []; words_are = refl; follow = over_net }
+
+-- `abstract s n --terms 10` sets the bound 10
+spelled_abstract : IsSpelled (codes "abstract" ∷ codes "s" ∷ codes "n" ∷ codes "--terms" ∷ codes "10" ∷ []) (record { signature = codes "s"; action = Abstract (codes "n") 10 })
+spelled_abstract = record {
+  rest = codes "s" ∷ codes "n" ∷ codes "--terms" ∷ codes "10" ∷ [];
+  words_are = refl;
+  follow = record {
+    options = codes "--terms" ∷ codes "10" ∷ [];
+    words_are = refl;
+    signature_is = operand_s;
+    net_is = operand_n;
+    blif = record { no_verilog = refl; no_aiger = refl };
+    set = inr (codes "10", refl, record { decimal = ((omega arith, each), refl); no_zero = λ e. absurd (omega arith); some = omega arith; most = omega arith });
+  };
+}
+  where
+    each : (k : ℕ) → k < 2 → IsDigit 10 (slice_index (codes "10") k)
+    each zero h = (inl (omega arith, omega arith), omega arith)
+    each (suc zero) h = (inl (omega arith, omega arith), omega arith)
+    each (suc (suc k)) h = absurd (omega arith)
+
+-- a netlist whose name ends in `.v` is not read as BLIF
+verilog_is_refused : IsBlifName (codes "m.v") → ⊥
+verilog_is_refused name = let same = name.no_verilog in absurd (cc)

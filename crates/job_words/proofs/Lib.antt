@@ -1,0 +1,4 @@
+pub mod WordLemmas
+pub mod SpelledLemmas
+pub mod StepLemmas
+mod Examples

@@ -1,0 +1,124 @@
+//! Why a netlist or its binding to a signature is refused.
+ghost use Rattle.std.specs.Prelude.{◌≡◌, ◌++◌, IfOk, codes, string_bytes};
+ghost use Rattle.std.specs.Fmt.{decimal};
+ghost use Rattle.job_words.specs.NetlistFault.{netlist_text as text_of, binding_text as text_of_binding};
+
+use net_core::Name;
+use std::alloc::{AllocError, Global};
+
+/// Why a netlist or its binding is refused. Lines count from 1.
+#[derive(Debug, Drop)]
+pub enum NetlistFault {
+    /// The line has a wrong byte or form, or stands where it may not.
+    Syntax { line: u32 },
+    /// The line begins with a word that is not read.
+    LeftOut { line: u32, word: Name },
+    /// There is no statement, or the first is not `.model`.
+    NoModel,
+    /// An earlier model has the name.
+    ModelTwice { line: u32 },
+    /// A net has two drivers.
+    DrivenTwice { label: Name },
+    /// A net has no driver.
+    Undriven { label: Name },
+    /// So many gates drive each other in a ring; the net is the first of them.
+    Loop { count: u64, label: Name },
+    /// A cover has more than 6 inputs.
+    TooWide { line: u32, inputs: u32 },
+    /// There would be 1,048,577 nets.
+    TooManyNets,
+    /// There would be 1,048,577 gates and latches.
+    TooManyGates,
+    /// The words can't be bound.
+    Binding(BindingFault),
+}
+
+/// Why the words of a signature can't be bound to a netlist. Places count from 0.
+#[derive(Debug, Drop)]
+pub enum BindingFault {
+    /// No net has the name of this place of a word.
+    NoSuchNet { word: Name, place: u32 },
+    /// The net of this place of an input word is no primary input.
+    NotInput { word: Name, place: u32 },
+    /// The net of this place of a state word is no output of a latch.
+    NotLatch { word: Name, place: u32 },
+    /// The net stands twice in input and state words.
+    NetTwice { label: Name },
+    /// A primary input is in no word, and something depends on it.
+    Uncovered { label: Name },
+    /// A latch with an unknown start is in no state word.
+    UnknownStart { label: Name },
+}
+
+/// The number and the text of a netlist's fault, without its file.
+pub(crate) fn netlist_text(alloc: Global, fault: &NetlistFault) -> Result<String, AllocError>
+    ensures { IfOk result (λ text. string_bytes text ≡ text_of fault.now) }
+{
+    match fault {
+        NetlistFault::Syntax { line } => format!(in alloc; "30: netlist line {line}"),
+        NetlistFault::LeftOut { line, word } => {
+            let word = word.as_str();
+            format!(in alloc; "31: {word} at line {line}")
+        }
+        NetlistFault::NoModel => format!(in alloc; "32: no model"),
+        NetlistFault::ModelTwice { line } => format!(in alloc; "32: model twice at line {line}"),
+        NetlistFault::DrivenTwice { label } => {
+            about(alloc, "34: net ", label.as_str(), " is driven twice")
+        }
+        NetlistFault::Undriven { label } => {
+            about(alloc, "35: net ", label.as_str(), " is not driven")
+        }
+        NetlistFault::Loop { count, label } => loop_text(alloc, *count, label.as_str()),
+        NetlistFault::TooWide { line, inputs } => {
+            format!(in alloc; "37: {inputs} inputs at line {line}")
+        }
+        NetlistFault::TooManyNets => format!(in alloc; "38: too many nets"),
+        NetlistFault::TooManyGates => format!(in alloc; "38: too many gates"),
+        NetlistFault::Binding(fault) => binding_text(alloc, fault),
+    }
+}
+
+// The number and the text of a fault of a binding.
+fn binding_text(alloc: Global, fault: &BindingFault) -> Result<String, AllocError>
+    ensures { IfOk result (λ text. string_bytes text ≡ text_of_binding fault.now) }
+{
+    match fault {
+        BindingFault::NoSuchNet { word, place } => {
+            let word = word.as_str();
+            format!(in alloc; "39: no net for {word}[{place}]")
+        }
+        BindingFault::NotInput { word, place } => {
+            let word = word.as_str();
+            format!(in alloc; "39: {word}[{place}] is no input")
+        }
+        BindingFault::NotLatch { word, place } => {
+            let word = word.as_str();
+            format!(in alloc; "39: {word}[{place}] is no latch")
+        }
+        BindingFault::NetTwice { label } => {
+            about(alloc, "39: net ", label.as_str(), " stands twice")
+        }
+        BindingFault::Uncovered { label } => {
+            about(alloc, "39: input ", label.as_str(), " is in no word")
+        }
+        BindingFault::UnknownStart { label } => {
+            about(alloc, "39: latch ", label.as_str(), " has no start")
+        }
+    }
+}
+
+// A text about a net.
+fn about(alloc: Global, before: &str, label: &str, after: &str) -> Result<String, AllocError>
+    ensures { IfOk result (λ text. string_bytes text ≡ before.now ++ (label.now ++ after.now)) }
+{
+    format!(in alloc; "{before}{label}{after}")
+}
+
+// The text of a ring of so many gates.
+fn loop_text(alloc: Global, count: u64, label: &str) -> Result<String, AllocError>
+    ensures { IfOk result (λ text. string_bytes text ≡ (codes "36: loop of " ++ (decimal count ++ codes " nets through ")) ++ label.now) }
+{
+    let front = format!(in alloc; "36: loop of {count} nets through ")?;
+    let front = front.as_str();
+    format!(in alloc; "{front}{label}")
+}

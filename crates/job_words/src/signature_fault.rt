@@ -1,0 +1,60 @@
+//! Why a signature is refused.
+ghost use Rattle.std.specs.Prelude.{◌≡◌, IfOk, string_bytes};
+ghost use Rattle.job_words.specs.SignatureFault.{signature_text as text_of};
+
+use std::alloc::{AllocError, Global};
+
+/// Why a signature is refused. Lines count from 1.
+#[derive(Debug, Drop)]
+pub enum SignatureFault {
+    /// The line is no line of its place.
+    Syntax { line: u32 },
+    /// The modulus has not degree 1 to 64.
+    Degree,
+    /// The modulus is not irreducible.
+    Modulus,
+    /// The polynomial of the tower is not irreducible.
+    TowerPolynomial,
+    /// The elements of a basis are dependent.
+    Dependent { line: u32 },
+    /// A basis has not k elements, or an element is none of the field.
+    Basis { line: u32 },
+    /// The tower's polynomial has not at least two coefficients of the field that fit into 64 bits.
+    Tower,
+    /// A word has not as many nets as the field's elements have bits.
+    Bits { line: u32 },
+    /// An earlier word has the name.
+    NameTwice { line: u32 },
+    /// There is no output word.
+    NoOutput,
+    /// A second output word.
+    TwoOutputs { line: u32 },
+    /// The ninth input or state word.
+    TooManyWords { line: u32 },
+}
+
+/// The number and the text of a signature's fault.
+pub(crate) fn signature_text(alloc: Global, fault: &SignatureFault) -> Result<String, AllocError>
+    ensures { IfOk result (λ text. string_bytes text ≡ text_of fault.now) }
+{
+    match fault {
+        SignatureFault::Syntax { line } => format!(in alloc; "20: signature line {line}"),
+        SignatureFault::Degree => format!(in alloc; "21: modulus degree"),
+        SignatureFault::Modulus => format!(in alloc; "22: the modulus is not irreducible"),
+        SignatureFault::TowerPolynomial => {
+            format!(in alloc; "22: the tower polynomial is not irreducible")
+        }
+        SignatureFault::Dependent { line } => {
+            format!(in alloc; "23: dependent basis at line {line}")
+        }
+        SignatureFault::Basis { line } => format!(in alloc; "24: basis at line {line}"),
+        SignatureFault::Tower => format!(in alloc; "25: tower"),
+        SignatureFault::Bits { line } => format!(in alloc; "26: bits at line {line}"),
+        SignatureFault::NameTwice { line } => format!(in alloc; "27: name twice at line {line}"),
+        SignatureFault::NoOutput => format!(in alloc; "28: no output word"),
+        SignatureFault::TwoOutputs { line } => {
+            format!(in alloc; "28: second output word at line {line}")
+        }
+        SignatureFault::TooManyWords { line } => format!(in alloc; "29: ninth word at line {line}"),
+    }
+}

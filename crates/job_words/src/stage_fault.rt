@@ -1,0 +1,63 @@
+//! The stage that has more terms than the bound, and what stages are called.
+ghost use Rattle.std.specs.Prelude.{◌≡◌, ◌++◌, IfOk, codes, length, string_bytes};
+ghost use Rattle.std.specs.Fmt.{decimal};
+ghost use Rattle.job_words.specs.StageFault.{stage_text, stage_fault_text as text_of, HasItsWord};
+
+use net_core::Name;
+use poly_mixed::{Labels, Stage};
+use std::alloc::{AllocError, Global};
+
+/// A stage has more terms than the bound.
+#[derive(Debug, Drop)]
+pub struct StageFault {
+    /// What the stage is called.
+    pub stage: Name,
+    /// How many terms it has.
+    pub terms: u64,
+    /// The most terms that it might have.
+    pub bound: u32,
+}
+
+/// The number and the text of the fault of a stage.
+pub(crate) fn stage_fault_text(alloc: Global, fault: &StageFault) -> Result<String, AllocError>
+    ensures { IfOk result (λ text. string_bytes text ≡ text_of fault.now) }
+{
+    bound_text(alloc, fault.stage.as_str(), fault.terms, fault.bound)
+}
+
+// The same, of the stage's name.
+fn bound_text(alloc: Global, stage: &str, terms: u64, bound: u32) -> Result<String, AllocError>
+    ensures { IfOk result (λ text. string_bytes text ≡ codes "03: " ++ (stage.now ++ (codes " has " ++ (decimal terms ++ (codes " terms, bound " ++ decimal bound))))) }
+{
+    format!(in alloc; "03: {stage} has {terms} terms, bound {bound}")
+}
+
+/// What a stage is called, where these are the labels of the words. A stage of a word is one of a word with a label.
+pub fn write_stage(alloc: Global, labels: &Labels, stage: Stage) -> Result<String, AllocError>
+    requires { HasItsWord (length labels.now.words) stage }
+    ensures { IfOk result (λ text. string_bytes text ≡ stage_text labels.now stage) }
+{
+    match stage {
+        Stage::Cut(cut) => format!(in alloc; "cut {cut}"),
+        Stage::WordProduct { word, term, bit } => {
+            let word = labels.name(word);
+            format!(in alloc; "word {word} term {term} bit {bit}")
+        }
+        Stage::WordSum { word, term } => {
+            let word = labels.name(word);
+            format!(in alloc; "word {word} sum {term}")
+        }
+        Stage::SpecProduct { term, factor } => {
+            format!(in alloc; "specification term {term} factor {factor}")
+        }
+        Stage::SpecSum { term } => format!(in alloc; "specification sum {term}"),
+        Stage::InstanceProduct {
+            instance,
+            term,
+            factor,
+        } => format!(in alloc; "instance {instance} term {term} factor {factor}"),
+        Stage::InstanceSum { instance, term } => {
+            format!(in alloc; "instance {instance} sum {term}")
+        }
+    }
+}

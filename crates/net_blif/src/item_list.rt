@@ -1,0 +1,164 @@
+//! What the lines of a model place, with their tokens in one text.
+ghost use Rattle.std.specs.Prelude.{◌≡◌, ◌≤◌, ◌<◌, ◌^◌, [], ◌∷◌, ◌++◌, Some, length, slice_get, All, IfOk, OnOk};
+ghost use Rattle.net_blif.specs.Item.{IsSoundItem};
+ghost use Rattle.net_blif.specs.Statement.{IsToken};
+
+use crate::item::Item;
+use crate::token::Token;
+use crate::token_list::{TokenList, TokenSlice};
+use std::alloc::{AllocError, Global};
+use std::marker::Model;
+
+/// An item, whose tokens stand from `first` on and before `end`; the output of a gate stands at `end`.
+#[derive(Clone, Copy)]
+pub enum Place {
+    Inputs {
+        first: u32,
+        end: u32,
+    },
+    Outputs {
+        first: u32,
+        end: u32,
+    },
+    Gate {
+        line: u32,
+        first: u32,
+        end: u32,
+        table: u64,
+    },
+}
+
+/// What the lines of a model place, in order. Contracts see the list of the items.
+#[derive(Drop)]
+pub struct ItemList {
+    tokens: TokenList,
+    places: Vec<Place>,
+}
+
+impl Model for ItemList {
+    ghost use Rattle.std.specs.Prelude.{List, length, All};
+    ghost use Rattle.net_blif.specs.declared.item.Item.{Item};
+    ghost use Rattle.net_blif.specs.Item.{IsSoundItem};
+    ghost use Rattle.net_blif.specs.Places.{ArePlaces, items_at};
+
+    ghost Value = { List Item };
+
+    ghost view = { λ l. items_at l.tokens l.places.items };
+
+    ghost invariant = { λ l. ArePlaces (length l.tokens) l.places.items × All IsSoundItem (items_at l.tokens l.places.items) };
+}
+
+impl ItemList {
+    /// Nothing is placed. It takes no memory.
+    pub fn new(alloc: Global) -> ItemList
+        ensures { result ≡ [] }
+    {
+        ItemList {
+            tokens: TokenList::new(alloc),
+            places: Vec::new(alloc),
+        }
+    }
+
+    /// How many items there are.
+    pub fn len(&self) -> usize
+        ensures { result ≡ length self.now }
+    {
+        self.places.len()
+    }
+
+    /// The item of a place below the count.
+    pub fn get(&self, place: usize) -> Item<'_>
+        requires { place < length self.now }
+        ensures item { Some result ≡ slice_get self.now place }
+        ensures sound { IsSoundItem result }
+    {
+        match place_at(&self.places, place) {
+            Place::Inputs { first, end } => Item::Inputs(
+                self.tokens.range(first as usize, end as usize),
+            ),
+            Place::Outputs { first, end } => Item::Outputs(
+                self.tokens.range(first as usize, end as usize),
+            ),
+            Place::Gate {
+                line,
+                first,
+                end,
+                table,
+            } => Item::Gate {
+                line,
+                inputs: self.tokens.range(first as usize, end as usize),
+                out: Token::new(self.tokens.get(end as usize)),
+                table,
+            },
+        }
+    }
+
+    /// Primary inputs at the end.
+    pub fn push_inputs(&mut self, nets: &[Token<'_>]) -> Result<(), AllocError>
+        requires { All IsToken nets.now }
+        ensures { OnOk result (self.new ≡ self.old ++ Item.Inputs nets.now ∷ []) }
+    {
+        let first = number(self.tokens.len())?;
+        self.tokens.push_all(nets)?;
+        let end = number(self.tokens.len())?;
+        self.places.push(Place::Inputs { first, end })?;
+        Ok(())
+    }
+
+    /// Outputs at the end.
+    pub fn push_outputs(&mut self, nets: &[Token<'_>]) -> Result<(), AllocError>
+        requires { All IsToken nets.now }
+        ensures { OnOk result (self.new ≡ self.old ++ Item.Outputs nets.now ∷ []) }
+    {
+        let first = number(self.tokens.len())?;
+        self.tokens.push_all(nets)?;
+        let end = number(self.tokens.len())?;
+        self.places.push(Place::Outputs { first, end })?;
+        Ok(())
+    }
+
+    /// A gate at the end.
+    pub fn push_gate(
+        &mut self,
+        line: u32,
+        inputs: &TokenSlice<'_>,
+        out: &[u8],
+        table: u64,
+    ) -> Result<(), AllocError>
+        requires inputs { All IsToken inputs.now }
+        requires few { length inputs.now ≤ 6 }
+        requires out { IsToken out.now }
+        requires table { table < 2 ^ (2 ^ length inputs.now) }
+        ensures { OnOk result (self.new ≡ self.old ++ Item.Gate line inputs.now out.now table ∷ []) }
+    {
+        let first = number(self.tokens.len())?;
+        self.tokens.append(inputs)?;
+        let end = number(self.tokens.len())?;
+        self.tokens.push(out)?;
+        self.places.push(Place::Gate {
+            line,
+            first,
+            end,
+            table,
+        })?;
+        Ok(())
+    }
+}
+
+// The place of an item.
+fn place_at(places: &[Place], place: usize) -> Place
+    requires { place < length places.now }
+    ensures { Some result ≡ slice_get places.now place }
+{
+    places[place]
+}
+
+// A count of tokens in memory, which is below 2^32.
+fn number(count: usize) -> Result<u32, AllocError>
+    ensures { IfOk result (λ n. n ≡ count) }
+{
+    match u32::try_from(count) {
+        Ok(number) => Ok(number),
+        Err(_) => Err(AllocError),
+    }
+}

@@ -1,0 +1,33 @@
+//! A hash with a key.
+ghost use Rattle.std.specs.Prelude.{◌≡◌};
+ghost use Rattle.net_core.specs.KeyedHash.{key_start, start_of};
+
+use std::hash::{BuildHasher, DefaultHasher, Hasher};
+
+/// SipHash of a key and what is hashed. Where the key is not known before the names are, nobody can look for names
+/// that collide.
+#[derive(Clone, Copy)]
+pub struct KeyedHash {
+    start: DefaultHasher,
+}
+
+impl KeyedHash {
+    /// The hash with this key.
+    pub fn new(key: u64) -> KeyedHash
+        ensures { start_of result ≡ key_start key }
+    {
+        let mut start = DefaultHasher::new();
+        start.write_u64(key);
+        KeyedHash { start }
+    }
+}
+
+impl BuildHasher for KeyedHash {
+    type Hasher = DefaultHasher;
+
+    ghost build_hasher = { start_of };
+
+    fn build_hasher(&self) -> DefaultHasher {
+        self.start
+    }
+}

@@ -1,0 +1,271 @@
+-- The terms of a cut with a bit, and those without it.
+use Rattle.std.proofs.Common.{◌≡◌, ◌≢◌, ℕ, zero, suc, ◌+◌, ◌<◌, ◌≤◌, length, drop, get_or, Bool, true, false, cond, not, nat_le, nat_lt, nat_eq, List, [], ◌∷◌, ◌++◌, map, bit_xor, refl, sym, ◌∙◌, ap, subst, arith, append-nil, Some, None, ◌||◌}
+use lib.Bits.{xor_zero_l, xor_zero_r, xor_assoc, xor_comm}
+use Rattle.std.specs.declared.cmp.Ordering.{Ordering}
+use Rattle.std.specs.declared.cmp.Ordering.TheVariants.{Less, Equal, Greater}
+use Rattle.std.specs.Cmp.Lexicographic.{slice_cmp}
+use Rattle.std.specs.FinMap.{nat_cmp-IsAntisymmetric}
+use Rattle.std.specs.List.{AllByRecursion, filter, list_any}
+use Rattle.std.specs.List.Sorted.{IsStrictlySortedBy}
+use Rattle.std.specs.Map.{keys_of}
+use Rattle.std.specs.Ordering.{nat_cmp, ordering_then, is_eq}
+use Rattle.std.proofs.lemmas.List.{append_assoc}
+use Rattle.std.proofs.lemmas.Bool.{eqb-true, leb-false, ltb-true, ltb-false}
+use Rattle.poly_mixed.specs.Monomial.{Monomial, has_bit, text_cmp, text_cmp_total}
+use Rattle.poly_mixed.specs.Polynomial.{Terms, IsMap, IsTerm, coefficient}
+use Rattle.poly_mixed.specs.Cofactor.{LacksBit, lacking, cofactors, with_bit, without_bit}
+use Rattle.poly_mixed.specs.Sum.{xor_sum, plus}
+use Rattle.poly_mixed.proofs.Cofactors.{rising-filter, lacking_all, lacking_map, cofactors_map, none_of_absent, absent_of_none, all_lacking}
+use Rattle.poly_mixed.proofs.Monomials.{text_cmp-same}
+use Rattle.poly_mixed.proofs.OneBit.{is_cofactor}
+use Rattle.poly_mixed.proofs.Ranks.{from_less}
+use Rattle.poly_mixed.proofs.Sums.{at, at_additive, found_is_sum, xor_sum-plus}
+use Rattle.poly_mixed.proofs.Values.{same_map, one_map}
+use Rattle.rato_reduce.specs.CutKey.{CutKey, place_at, first_from, key_of, key_cmp}
+use Rattle.rato_reduce.specs.CutTerms.{of_bits, IsBitTerm, term_of, cut_polynomial, IsEntry, AreEntries, begins_up_to, products, all_products}
+use Rattle.rato_reduce.proofs.CutLemmas.{coefficient_sum, sum_map_is, nothing_map, entry_terms, cut_is_map, all_unit}
+use Rattle.rato_reduce.proofs.ProductLemmas.{plus_append, sum_append}
+
+-- ---- the terms without the bit
+
+other_monomial : (bit : ℕ) (q : Monomial) (t : Monomial × ℕ) → (has_bit bit q ≡ has_bit bit t.0 → ⊥) → at text_cmp q t ≡ 0
+other_monomial bit q t apart =
+    elim (text_cmp q t.0) as (λ r. text_cmp q t.0 ≡ r → cond (is_eq r) t.1 0 ≡ 0) [
+      | Less ↦ λ e. refl
+      | Equal ↦ λ e. absurd (apart (ap (has_bit bit) (text_cmp-same q t.0 e)))
+      | Greater ↦ λ e. refl
+    ] refl
+
+lacking_sum : (bit : ℕ) (q : Monomial) (ts : Terms) → xor_sum (at text_cmp q) (lacking bit ts) ≡ cond (has_bit bit q) 0 (xor_sum (at text_cmp q) ts)
+lacking_sum bit q [] = elim (has_bit bit q) as (λ b. ◌≡◌ {A = ℕ} 0 (cond b 0 0)) [ true ↦ refl | false ↦ refl ]
+lacking_sum bit q (t ∷ ts) =
+    let s = xor_sum (at text_cmp q) ts in
+    elim (has_bit bit t.0) as (λ v. has_bit bit t.0 ≡ v → xor_sum (at text_cmp q) (cond (not v) (t ∷ lacking bit ts) (lacking bit ts)) ≡ cond (has_bit bit q) 0 (bit_xor (at text_cmp q t) s)) [
+      | true ↦ λ has. lacking_sum bit q ts ∙ elim (has_bit bit q) as (λ w. has_bit bit q ≡ w → cond w 0 s ≡ cond w 0 (bit_xor (at text_cmp q t) s)) [
+        | true ↦ λ e. refl
+        | false ↦ λ e. sym (ap (λ n. bit_xor n s) (other_monomial bit q t (λ same. let bad : false ≡ true = sym e ∙ same ∙ has in cc)) ∙ xor_zero_l s)
+      ] refl
+      | false ↦ λ lacks. ap (bit_xor (at text_cmp q t)) (lacking_sum bit q ts) ∙ elim (has_bit bit q) as (λ w. has_bit bit q ≡ w → bit_xor (at text_cmp q t) (cond w 0 s) ≡ cond w 0 (bit_xor (at text_cmp q t) s)) [
+        | true ↦ λ e. ap (λ n. bit_xor n 0) (other_monomial bit q t (λ same. let bad : true ≡ false = sym e ∙ same ∙ lacks in cc))
+        | false ↦ λ e. refl
+      ] refl
+    ] refl
+
+-- ---- those with it
+
+one_term_map : (t : Monomial × ℕ) → IsBitTerm t → IsMap (t ∷ [])
+one_term_map t is = one_map t.0 t.1 is.rising is.some
+
+cofactors_split : (bit : ℕ) (t : Monomial × ℕ) (ts : Terms) → cofactors bit (t ∷ ts) ≡ cofactors bit (t ∷ []) ++ cofactors bit ts
+cofactors_split bit t ts = elim (has_bit bit t.0) as (λ b. cond b ((without_bit bit t.0, t.1) ∷ cofactors bit ts) (cofactors bit ts) ≡ cond b ((without_bit bit t.0, t.1) ∷ []) [] ++ cofactors bit ts) [ true ↦ refl | false ↦ refl ]
+
+one_cofactor_sum : (bit : ℕ) (q : Monomial) (t : Monomial × ℕ) → IsBitTerm t → xor_sum (at text_cmp q) (cofactors bit (t ∷ [])) ≡ cond (has_bit bit q) 0 (at text_cmp (with_bit bit q) t)
+one_cofactor_sum bit q t is =
+    let map = one_term_map t is in
+    sym (found_is_sum text_cmp text_cmp_total (cofactors bit (t ∷ [])) q (cofactors_map bit (t ∷ []) map).sorted)
+    ∙ is_cofactor bit (t ∷ []) map q
+    ∙ ap (cond (has_bit bit q) 0) (found_is_sum text_cmp text_cmp_total (t ∷ []) (with_bit bit q) map.sorted ∙ xor_zero_r (at text_cmp (with_bit bit q) t))
+
+cofactors_sum : (bit : ℕ) (q : Monomial) (ts : Terms) → AllByRecursion IsBitTerm ts → xor_sum (at text_cmp q) (cofactors bit ts) ≡ cond (has_bit bit q) 0 (xor_sum (at text_cmp (with_bit bit q)) ts)
+cofactors_sum bit q [] all = elim (has_bit bit q) as (λ b. ◌≡◌ {A = ℕ} 0 (cond b 0 0)) [ true ↦ refl | false ↦ refl ]
+cofactors_sum bit q (t ∷ ts) all =
+    let one = at text_cmp (with_bit bit q) t in
+    let s = xor_sum (at text_cmp (with_bit bit q)) ts in
+    ap (xor_sum (at text_cmp q)) (cofactors_split bit t ts)
+    ∙ sum_append (at text_cmp q) (cofactors bit (t ∷ [])) (cofactors bit ts)
+    ∙ (λ i. bit_xor (one_cofactor_sum bit q t all.0 i) (cofactors_sum bit q ts all.1 i))
+    ∙ elim (has_bit bit q) as (λ b. bit_xor (cond b 0 one) (cond b 0 s) ≡ cond b 0 (bit_xor one s)) [ true ↦ refl | false ↦ refl ]
+
+-- ---- of sums
+
+pub cofactor_terms : (bit : ℕ) (ts : Terms) → AllByRecursion IsBitTerm ts → AllByRecursion IsBitTerm (cofactors bit ts)
+cofactor_terms bit [] all = tt
+cofactor_terms bit (t ∷ ts) all = elim (has_bit bit t.0) as (λ b. AllByRecursion IsBitTerm (cond b ((without_bit bit t.0, t.1) ∷ cofactors bit ts) (cofactors bit ts))) [
+  | true ↦ (record { no_words = ap (without_bit bit) all.0.no_words; rising = rising-filter (λ r. not (nat_eq r bit)) t.0.bits all.0.rising; some = all.0.some }, cofactor_terms bit ts all.1)
+  | false ↦ cofactor_terms bit ts all.1
+]
+
+cofactors_over : (k bit : ℕ) (ts : Terms) → AllByRecursion (IsTerm k) ts → AllByRecursion (IsTerm k) (cofactors bit ts)
+cofactors_over k bit [] all = tt
+cofactors_over k bit (t ∷ ts) all = elim (has_bit bit t.0) as (λ v. AllByRecursion (IsTerm k) (cond v ((without_bit bit t.0, t.1) ∷ cofactors bit ts) (cofactors bit ts))) [
+  | true ↦ (record { monomial = record { words = all.0.monomial.words; exponents = all.0.monomial.exponents; rising = rising-filter (λ r. not (nat_eq r bit)) t.0.bits all.0.monomial.rising }; element = all.0.element }, cofactors_over k bit ts all.1)
+  | false ↦ cofactors_over k bit ts all.1
+]
+
+cofactors_of_sum : (bit : ℕ) (us : Terms) → AllByRecursion IsBitTerm us → cofactors bit (plus text_cmp [] us) ≡ plus text_cmp [] (cofactors bit us)
+cofactors_of_sum bit us all =
+    let sum = plus text_cmp [] us in
+    let is_map = sum_map_is [] us nothing_map all in
+    same_map (cofactors bit sum) (plus text_cmp [] (cofactors bit us)) (cofactors_map bit sum is_map) (sum_map_is [] (cofactors bit us) nothing_map (cofactor_terms bit us all))
+    (λ q. is_cofactor bit sum is_map q ∙ ap (cond (has_bit bit q) 0) (coefficient_sum us (with_bit bit q)) ∙ sym (cofactors_sum bit q us all) ∙ sym (coefficient_sum (cofactors bit us) q))
+
+lacking_of_sum : (bit : ℕ) (q : Monomial) (us : Terms) → AllByRecursion IsBitTerm us → coefficient (lacking bit (plus text_cmp [] us)) q ≡ xor_sum (at text_cmp q) (lacking bit us)
+lacking_of_sum bit q us all =
+    let sum = plus text_cmp [] us in
+    let is_map = sum_map_is [] us nothing_map all in
+    found_is_sum text_cmp text_cmp_total (lacking bit sum) q (lacking_map bit sum is_map).sorted
+    ∙ lacking_sum bit q sum
+    ∙ ap (cond (has_bit bit q) 0) (sym (found_is_sum text_cmp text_cmp_total sum q is_map.sorted) ∙ coefficient_sum us q)
+    ∙ sym (lacking_sum bit q us)
+
+-- ---- the entries behind the place of a bit lack it
+
+least_first : (places : List ℕ) (least : ℕ) (rs : List ℕ) → first_from places least rs ≤ least
+least_first places least [] = omega arith
+least_first places least (r ∷ rs) =
+    let place = place_at places r in
+    elim (nat_lt place least) as (λ b. nat_lt place least ≡ b → first_from places (cond b place least) rs ≤ least) [
+      | true ↦ λ e. let less = ltb-true place least e in let more = least_first places place rs in omega arith
+      | false ↦ λ e. least_first places least rs
+    ] refl
+
+member_first : (places : List ℕ) (least rank : ℕ) (rs : List ℕ) → list_any (λ r. nat_eq r rank) rs ≡ true → first_from places least rs ≤ place_at places rank
+member_first places least rank [] has = cc
+member_first places least rank (r ∷ rs) has =
+    let place = place_at places r in
+    let low = cond (nat_lt place least) place least in
+    elim (nat_eq r rank) as (λ b. nat_eq r rank ≡ b → (b || list_any (λ r. nat_eq r rank) rs) ≡ true → first_from places low rs ≤ place_at places rank) [
+      | true ↦ λ e _.
+          let same : place ≡ place_at places rank = ap (place_at places) (eqb-true r rank e) in
+          let down : low ≤ place = lower place least in
+          let more = least_first places low rs in
+          omega arith
+      | false ↦ λ e h. member_first places low rank rs h
+    ] refl has
+  where
+    lower : (a b : ℕ) → cond (nat_lt a b) a b ≤ a
+    lower a b = elim (nat_lt a b) as (λ v. nat_lt a b ≡ v → cond v a b ≤ a) [ true ↦ λ e. omega arith | false ↦ λ e. ltb-false a b e ] refl
+
+first_rises : (x y : CutKey) → key_cmp x y ≡ Less → x.first ≤ y.first
+first_rises x y less =
+    let rest = ordering_then (nat_cmp x.hash y.hash) (slice_cmp nat_cmp x.bits y.bits) in
+    elim (nat_cmp x.first y.first) as (λ r. nat_cmp x.first y.first ≡ r → ordering_then r rest ≡ Less → x.first ≤ y.first) [
+      | Less ↦ λ e _. let l = from_less x.first y.first e in omega arith
+      | Equal ↦ λ e _. let same = nat_cmp-IsAntisymmetric x.first y.first e in omega arith
+      | Greater ↦ λ e h. let bad : Greater ≡ Less = h in cc
+    ] refl less
+
+behind_lacks : (places : List ℕ) (rank : ℕ) (e : CutKey × ℕ) → IsEntry places e → place_at places rank < e.0.first → has_bit rank (term_of e).0 ≡ false
+behind_lacks places rank e is behind =
+    elim (list_any (λ r. nat_eq r rank) e.0.bits) as (λ b. list_any (λ r. nat_eq r rank) e.0.bits ≡ b → b ≡ false) [
+      | true ↦ λ has.
+          let low = member_first places 4294967295 rank e.0.bits has in
+          let first : e.0.first ≡ first_from places 4294967295 e.0.bits = ap (λ (k : CutKey). k.first) is.key in
+          absurd (omega arith)
+      | false ↦ λ e. refl
+    ] refl
+
+all_behind : (places : List ℕ) (rank : ℕ) (e : CutKey × ℕ) (es : List (CutKey × ℕ)) → AllByRecursion (IsEntry places) es → place_at places rank < e.0.first → AllByRecursion (λ y. key_cmp e.0 y ≡ Less) (keys_of es) → LacksBit rank (map term_of es)
+all_behind places rank e [] each behind less = tt
+all_behind places rank e (f ∷ es) each behind less =
+    let up = first_rises e.0 f.0 less.0 in
+    (behind_lacks places rank f each.0 (omega arith), all_behind places rank e es each.1 behind less.1)
+
+pub rest_lacks : (places : List ℕ) (rank : ℕ) (es : List (CutKey × ℕ)) → AreEntries places es → begins_up_to (place_at places rank) es ≡ false → LacksBit rank (map term_of es)
+unfolding IsStrictlySortedBy
+rest_lacks places rank [] are behind = tt
+rest_lacks places rank (e ∷ es) are behind =
+    let first : place_at places rank < e.0.first = leb-false e.0.first (place_at places rank) behind in
+    (behind_lacks places rank e are.each.0 first, all_behind places rank e es are.each.1 first are.sorted.0)
+
+pub entries_rest : (places : List ℕ) (e : CutKey × ℕ) (es : List (CutKey × ℕ)) → AreEntries places (e ∷ es) → AreEntries places es
+unfolding IsStrictlySortedBy
+entries_rest places e es are = record { sorted = are.sorted.1; each = are.each.1 }
+
+-- ---- the front of the entries was taken, its terms without the bit were put back
+
+lacking_append : (bit : ℕ) (ts us : Terms) → lacking bit (ts ++ us) ≡ lacking bit ts ++ lacking bit us
+lacking_append bit [] us = refl
+lacking_append bit (t ∷ ts) us = ap (λ rest. cond (not (has_bit bit t.0)) (t ∷ rest) rest) (lacking_append bit ts us)
+    ∙ elim (has_bit bit t.0) as (λ b. cond (not b) (t ∷ (lacking bit ts ++ lacking bit us)) (lacking bit ts ++ lacking bit us) ≡ cond (not b) (t ∷ lacking bit ts) (lacking bit ts) ++ lacking bit us) [ true ↦ refl | false ↦ refl ]
+
+cofactors_append : (bit : ℕ) (ts us : Terms) → cofactors bit (ts ++ us) ≡ cofactors bit ts ++ cofactors bit us
+cofactors_append bit [] us = refl
+cofactors_append bit (t ∷ ts) us = ap (λ rest. cond (has_bit bit t.0) ((without_bit bit t.0, t.1) ∷ rest) rest) (cofactors_append bit ts us)
+    ∙ elim (has_bit bit t.0) as (λ b. cond b ((without_bit bit t.0, t.1) ∷ (cofactors bit ts ++ cofactors bit us)) (cofactors bit ts ++ cofactors bit us) ≡ cond b ((without_bit bit t.0, t.1) ∷ cofactors bit ts) (cofactors bit ts) ++ cofactors bit us) [ true ↦ refl | false ↦ refl ]
+
+all_front : (P : Monomial × ℕ → Type 0) (ts us : Terms) → AllByRecursion P (ts ++ us) → AllByRecursion P ts
+all_front P [] us all = tt
+all_front P (t ∷ ts) us all = (all.0, all_front P ts us all.1)
+
+all_end : (P : Monomial × ℕ → Type 0) (ts us : Terms) → AllByRecursion P (ts ++ us) → AllByRecursion P us
+all_end P [] us all = all
+all_end P (t ∷ ts) us all = all_end P ts us all.1
+
+-- whole are the terms of all entries, front those taken, rest those of the entries behind
+module _ (bit : ℕ) (whole front rest : Terms) (are : whole ≡ front ++ rest) (each : AllByRecursion IsBitTerm whole) (lacks : LacksBit bit rest) where
+  both : AllByRecursion IsBitTerm (front ++ rest)
+  both = (let P : Terms → Type 0 = AllByRecursion IsBitTerm in subst P are each)
+
+  pub front_terms : AllByRecursion IsBitTerm front
+  front_terms = all_front IsBitTerm front rest both
+
+  pub put_back : plus text_cmp (plus text_cmp [] rest) (lacking bit front) ≡ lacking bit (plus text_cmp [] whole)
+  put_back =
+      let few = plus text_cmp [] rest in
+      let rest_terms = all_end IsBitTerm front rest both in
+      let few_map = sum_map_is [] rest nothing_map rest_terms in
+      let others = lacking_all IsBitTerm bit front front_terms in
+      let all_map = sum_map_is few (lacking bit front) few_map others in
+      same_map (plus text_cmp few (lacking bit front)) (lacking bit (plus text_cmp [] whole)) all_map (lacking_map bit (plus text_cmp [] whole) (sum_map_is [] whole nothing_map each))
+      (λ q.
+      found_is_sum text_cmp text_cmp_total (plus text_cmp few (lacking bit front)) q all_map.sorted
+      ∙ xor_sum-plus text_cmp text_cmp-same (λ _. Unit {0}) (at text_cmp q) (at_additive text_cmp q) (λ x y _ _. tt) few (lacking bit front) (all_unit few) (all_unit (lacking bit front))
+      ∙ ap (λ n. bit_xor n (xor_sum (at text_cmp q) (lacking bit front))) (sym (found_is_sum text_cmp text_cmp_total few q few_map.sorted) ∙ coefficient_sum rest q ∙ ap (xor_sum (at text_cmp q)) (sym (all_lacking bit rest lacks)))
+      ∙ xor_comm (xor_sum (at text_cmp q) (lacking bit rest)) (xor_sum (at text_cmp q) (lacking bit front))
+      ∙ sym (sum_append (at text_cmp q) (lacking bit front) (lacking bit rest))
+      ∙ ap (xor_sum (at text_cmp q)) (sym (lacking_append bit front rest) ∙ ap (lacking bit) (sym are))
+      ∙ sym (lacking_of_sum bit q whole each))
+
+  pub part_is : plus text_cmp [] (cofactors bit front) ≡ cofactors bit (plus text_cmp [] whole)
+  part_is =
+      ap (plus text_cmp []) (sym (append-nil (cofactors bit front)) ∙ ap (λ us. cofactors bit front ++ us) (sym (none_of_absent bit rest lacks)) ∙ sym (cofactors_append bit front rest) ∙ ap (cofactors bit) (sym are))
+      ∙ sym (cofactors_of_sum bit whole each)
+
+  pub part_over : (k : ℕ) → AllByRecursion (IsTerm k) whole → AllByRecursion (IsTerm k) (cofactors bit front)
+  part_over k over = (let P : Terms → Type 0 = AllByRecursion (IsTerm k) in cofactors_over k bit front (all_front (IsTerm k) front rest (subst P are over)))
+
+  pub none_without : LacksBit bit whole → cofactors bit front ≡ []
+  none_without none = (let P : Terms → Type 0 = LacksBit bit in none_of_absent bit front (all_front (λ t. has_bit bit t.0 ≡ false) front rest (subst P are none)))
+
+  pub without_none : cofactors bit front ≡ [] → LacksBit bit (plus text_cmp [] whole)
+  without_none none = absent_of_none bit (plus text_cmp [] whole) (sym part_is ∙ ap (plus text_cmp []) none)
+
+-- ---- turns of loops
+
+-- what is read at an index stands in front of what is left
+pub drop_read : {A : Type 0} (xs : List A) (i : ℕ) (x : A) → i < length xs → x ≡ get_or xs i x → drop i xs ≡ x ∷ drop (i + 1) xs
+drop_read [] i x less is = absurd (omega arith)
+drop_read (y ∷ ys) zero x less is = ap (λ z. z ∷ ys) (sym is)
+drop_read (y ∷ ys) (suc i) x less is = let up : suc i + 1 ≡ suc (i + 1) = omega arith in drop_read ys i x (omega arith) is ∙ ap (λ n. x ∷ drop n (y ∷ ys)) (sym up)
+
+pub take_step : (front more whole : Terms) (before after : List (CutKey × ℕ)) (e : CutKey × ℕ) (t : Monomial × ℕ) → front ++ map term_of before ≡ whole → before ≡ e ∷ after → t ≡ term_of e → more ≡ front ++ t ∷ []
+    → more ++ map term_of after ≡ whole
+take_step front more whole before after e t so_far are is longer =
+    ap (λ us. us ++ map term_of after) longer
+    ∙ append_assoc front (t ∷ []) (map term_of after)
+    ∙ ap (λ u. front ++ u ∷ map term_of after) is
+    ∙ ap (λ es. front ++ map term_of es) (sym are)
+    ∙ so_far
+
+pub step_left : (bit : ℕ) (old new goal : Terms) (t : Monomial × ℕ) (rest ts : Terms) → rest ≡ t ∷ ts → plus text_cmp old (lacking bit rest) ≡ goal → new ≡ plus text_cmp old (lacking bit (t ∷ [])) → plus text_cmp new (lacking bit ts) ≡ goal
+step_left bit old new goal t rest ts next so_far step =
+    ap (λ us. plus text_cmp us (lacking bit ts)) step
+    ∙ sym (plus_append old (lacking bit (t ∷ [])) (lacking bit ts))
+    ∙ ap (plus text_cmp old) (sym (lacking_append bit (t ∷ []) ts) ∙ ap (lacking bit) (sym next))
+    ∙ so_far
+
+pub step_part : (bit : ℕ) (old new goal : Terms) (t : Monomial × ℕ) (rest ts : Terms) → rest ≡ t ∷ ts → old ++ cofactors bit rest ≡ goal → new ≡ old ++ cofactors bit (t ∷ []) → new ++ cofactors bit ts ≡ goal
+step_part bit old new goal t rest ts next so_far step =
+    ap (λ us. us ++ cofactors bit ts) step
+    ∙ append_assoc old (cofactors bit (t ∷ [])) (cofactors bit ts)
+    ∙ ap (λ us. old ++ us) (sym (cofactors_append bit (t ∷ []) ts) ∙ ap (cofactors bit) (sym next))
+    ∙ so_far
+
+pub step_products : (old new goal : Terms) (t : Monomial × ℕ) (rest ts : Terms) (sets : List (List ℕ)) → rest ≡ t ∷ ts → plus text_cmp old (all_products rest sets) ≡ goal → new ≡ plus text_cmp old (products t sets)
+    → plus text_cmp new (all_products ts sets) ≡ goal
+step_products old new goal t rest ts sets next so_far step =
+    ap (λ us. plus text_cmp us (all_products ts sets)) step
+    ∙ sym (plus_append old (products t sets) (all_products ts sets))
+    ∙ ap (λ r. plus text_cmp old (all_products r sets)) (sym next)
+    ∙ so_far

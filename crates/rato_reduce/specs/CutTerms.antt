@@ -1,0 +1,59 @@
+-- The terms of a cut in the order of their keys, and the polynomial that they are. Source: this project's own.
+use Rattle.std.specs.Prelude.{◌≡◌, ◌≢◌, ℕ, Bool, false, nat_le, List, [], ◌∷◌, ◌++◌, map}
+use Rattle.std.specs.List.{AllByRecursion}
+use Rattle.std.specs.List.Sorted.{IsStrictlySortedBy}
+use Rattle.std.specs.Map.{keys_of}
+use Rattle.std.specs.Ordering.{nat_cmp}
+use Rattle.poly_mixed.specs.Monomial.{Monomial, text_cmp}
+use Rattle.poly_mixed.specs.Polynomial.{Terms}
+use Rattle.poly_mixed.specs.Product.{union}
+use Rattle.poly_mixed.specs.Sum.{plus}
+use Rattle.rato_reduce.specs.CutKey.{CutKey, key_of, key_cmp}
+
+-- what a `Cut` is: a polynomial
+pub record CutPolynomial : Type 0 where
+  pub terms : Terms
+
+-- the product of bits, without words
+abbrev pub of_bits : List ℕ → Monomial
+of_bits bits = record { exponents = 0 ∷ 0 ∷ 0 ∷ 0 ∷ 0 ∷ 0 ∷ 0 ∷ 0 ∷ []; bits = bits }
+
+-- a monomial without words, of rising bits, with a coefficient that is not 0
+pub record IsBitTerm (t : Monomial × ℕ) : Type 0 where
+  pub no_words : t.0 ≡ of_bits t.0.bits
+  pub rising : IsStrictlySortedBy nat_cmp t.0.bits
+  pub some : t.1 ≢ 0
+
+-- the term of an entry
+abbrev pub term_of : CutKey × ℕ → Monomial × ℕ
+term_of e = (of_bits e.0.bits, e.1)
+
+-- the entries as a polynomial
+abbrev pub cut_polynomial : List (CutKey × ℕ) → CutPolynomial
+cut_polynomial entries = record { terms = plus text_cmp [] (map term_of entries) }
+
+-- an entry's key is that of its bits, which rise, and its coefficient is not 0
+pub record IsEntry (places : List ℕ) (e : CutKey × ℕ) : Type 0 where
+  pub key : e.0 ≡ key_of places e.0.bits
+  pub rising : IsStrictlySortedBy nat_cmp e.0.bits
+  pub some : e.1 ≢ 0
+
+-- entries in the order of their keys
+pub record AreEntries (places : List ℕ) (entries : List (CutKey × ℕ)) : Type 0 where
+  pub sorted : IsStrictlySortedBy key_cmp (keys_of entries)
+  pub each : AllByRecursion (IsEntry places) entries
+
+-- the first entry's first place is not behind this one
+abbrev pub begins_up_to : ℕ → List (CutKey × ℕ) → Bool
+begins_up_to place [] = false
+begins_up_to place (e ∷ es) = nat_le e.0.first place
+
+-- the products of a term and of each of these sets of bits
+abbrev pub products : Monomial × ℕ → List (List ℕ) → Terms
+products t [] = []
+products t (n ∷ ns) = (of_bits (union t.0.bits n), t.1) ∷ products t ns
+
+-- those of each of the terms
+abbrev pub all_products : Terms → List (List ℕ) → Terms
+all_products [] ns = []
+all_products (t ∷ ts) ns = products t ns ++ all_products ts ns

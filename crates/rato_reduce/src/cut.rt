@@ -1,0 +1,203 @@
+//! The polynomial of a cut.
+ghost use Rattle.std.specs.Prelude.{◌≡◌, ◌≢◌, ℕ, List, ◌++◌, ◌∷◌, [], length, map, false, IfOk, IfSome, IfNone, OnOk, OnErr, ◌↔◌};
+ghost use Rattle.std.specs.List.{AllByRecursion};
+ghost use Rattle.std.specs.List.Sorted.{IsStrictlySortedBy};
+ghost use Rattle.std.specs.Ordering.{nat_cmp};
+ghost use Rattle.poly_mixed.specs.Cofactor.{cofactors, lacking, LacksBit};
+ghost use Rattle.poly_mixed.specs.Monomial.{text_cmp};
+ghost use Rattle.poly_mixed.specs.Polynomial.{IsMap, IsReduced, IsTerm};
+ghost use Rattle.poly_mixed.specs.Sum.{plus, plus_term};
+ghost use Rattle.rato_reduce.specs.CutKey.{key_cmp};
+ghost use Rattle.rato_reduce.specs.CutTerms.{of_bits, term_of, begins_up_to, products, AreEntries, IsBitTerm};
+
+use crate::bit_term::BitTerm;
+use crate::key::{Key, place_of};
+use crate::ranks::Ranks;
+use poly_mixed::{Mono, Poly};
+use std::alloc::{AllocError, Global};
+use std::collections::BTreeMap;
+use std::collections::btree_map::Entry;
+use std::marker::Model;
+
+/// A polynomial in bits, whose terms stand in the order in which nets are eliminated: those with a net come first once
+/// each net of an earlier place is gone. `places` has the place of each rank. The places decide how long a call takes
+/// and nothing else.
+#[derive(Drop)]
+pub struct Cut {
+    map: BTreeMap<Key, u64>,
+    places: Vec<u32>,
+    alloc: Global,
+}
+
+impl Model for Cut {
+    ghost use Rattle.rato_reduce.specs.CutTerms.{CutPolynomial, cut_polynomial, AreEntries};
+
+    ghost Value = { CutPolynomial };
+
+    ghost view = { λ c. cut_polynomial c.map.entries };
+
+    ghost invariant = { λ c. AreEntries c.places.items c.map.entries };
+}
+
+impl Cut {
+    /// The polynomial without terms.
+    pub fn zero(alloc: Global, places: Vec<u32>) -> Cut
+        ensures { result.terms ≡ [] }
+    {
+        Cut {
+            map: BTreeMap::new(alloc),
+            places,
+            alloc,
+        }
+    }
+
+    /// The size: how many terms it has.
+    pub fn len(&self) -> usize
+        ensures { result ≡ length self.now.terms }
+    {
+        self.map.len()
+    }
+
+    /// Adds a term of rising bits. After want of memory it is not used again.
+    pub fn add(&mut self, bits: Ranks, c: u64) -> Result<(), AllocError>
+        requires rising { IsStrictlySortedBy nat_cmp bits }
+        requires some { c ≢ 0 }
+        ensures { OnOk result (self.new.terms ≡ plus_term text_cmp self.old.terms (of_bits bits, c)) }
+    {
+        let key = Key::new(self.places.as_slice(), bits);
+        add_to(&mut self.map, key, c)?;
+        Ok(())
+    }
+
+    /// Adds the products of a term and of each of these sets of bits. After want of memory it is not used again.
+    pub fn add_products(&mut self, term: &BitTerm, sets: &[Ranks]) -> Result<(), AllocError>
+        requires { IsBitTerm term.now }
+        ensures { OnOk result (self.new.terms ≡ plus text_cmp self.old.terms (products term.now sets.now)) }
+    {
+        for set in sets {
+            let bits = term.bits().union(set)?;
+            self.add(bits, term.coefficient())?;
+        }
+        Ok(())
+    }
+
+    /// Takes out the terms with the bit, and gives them without it. It takes the time of the terms whose first place is
+    /// not behind that of the bit. After want of memory it is not used again.
+    pub fn take_with(&mut self, rank: u32) -> Result<Vec<BitTerm>, AllocError>
+        ensures left { OnOk result (self.new.terms ≡ lacking rank self.old.terms) }
+        ensures part { IfOk result (λ part. plus text_cmp [] part.items ≡ cofactors rank self.old.terms) }
+        ensures each { IfOk result (λ part. AllByRecursion IsBitTerm part.items) }
+        ensures terms { (k : ℕ) → IsReduced k self.old.terms → IfOk result (λ part. AllByRecursion (IsTerm k) part.items) }
+        ensures stands { IfOk result (λ part. LacksBit rank self.old.terms ↔ (part.items ≡ [])) }
+    {
+        let place = place_of(self.places.as_slice(), rank);
+        let front = take_up_to(self.alloc, &mut self.map, place)?;
+        self.split(&front, rank)
+    }
+
+    // The terms with the bit, without it; adds the others.
+    fn split(&mut self, front: &[BitTerm], rank: u32) -> Result<Vec<BitTerm>, AllocError>
+        requires { AllByRecursion IsBitTerm front.now }
+        ensures left { OnOk result (self.new.terms ≡ plus text_cmp self.old.terms (lacking rank front.now)) }
+        ensures part { IfOk result (λ part. part.items ≡ cofactors rank front.now) }
+    {
+        let mut part = Vec::new(self.alloc);
+        for term in front {
+            self.sort_out(term, rank, &mut part)?;
+        }
+        Ok(part)
+    }
+
+    // Puts a term with the bit into the part, without the bit, and adds one that lacks it.
+    fn sort_out(
+        &mut self,
+        term: &BitTerm,
+        rank: u32,
+        part: &mut Vec<BitTerm>,
+    ) -> Result<(), AllocError>
+        requires { IsBitTerm term.now }
+        ensures left { OnOk result (self.new.terms ≡ plus text_cmp self.old.terms (lacking rank (term.now ∷ []))) }
+        ensures part { OnOk result (part.new.items ≡ part.old.items ++ cofactors rank (term.now ∷ [])) }
+    {
+        if !term.bits().has(rank) {
+            let bits = term.bits().copied()?;
+            self.add(bits, term.coefficient())?;
+            return Ok(());
+        }
+        let bits = term.bits().without(rank)?;
+        part.push(BitTerm::new(bits, term.coefficient()))?;
+        Ok(())
+    }
+
+    /// The same polynomial, in the order of a text.
+    pub fn to_poly(&self) -> Result<Poly, AllocError>
+        ensures { IfOk result (λ q. q.terms ≡ self.now.terms) }
+    {
+        let mut sum = Poly::zero(self.alloc);
+        for (key, c) in &self.map {
+            let mono = Mono::new(self.alloc, key.bits().as_slice(), &[0; 8])?;
+            sum.add_term(mono, *c)?;
+        }
+        Ok(sum)
+    }
+}
+
+// Adds an entry to a map; the sum of two coefficients that is 0 leaves no entry.
+fn add_to(entries: &mut BTreeMap<Key, u64>, key: Key, c: u64) -> Result<(), AllocError>
+    requires { c ≢ 0 }
+    ensures added { OnOk result (entries.new.entries ≡ plus_term key_cmp entries.old.entries (key, c)) }
+    ensures unchanged { OnErr result (entries.new.entries ≡ entries.old.entries) }
+{
+    match entries.entry(key)? {
+        Entry::Vacant(entry) => {
+            entry.insert(c);
+        }
+        Entry::Occupied(mut entry) => {
+            let sum = *entry.get() ^ c;
+            if sum == 0 {
+                entry.remove();
+            } else {
+                entry.insert(sum);
+            }
+        }
+    }
+    Ok(())
+}
+
+// Whether there is an entry whose first place is not behind this one.
+fn begins_up_to(entries: &BTreeMap<Key, u64>, place: u32) -> bool
+    ensures { result ≡ begins_up_to place entries.now.entries }
+{
+    match entries.first_key_value() {
+        Some((key, _)) => key.first() <= place,
+        None => false,
+    }
+}
+
+// Takes the first entry, if its first place is not behind this one.
+fn pop_up_to(entries: &mut BTreeMap<Key, u64>, place: u32) -> Option<(Key, u64)>
+    ensures some { IfSome result (λ e. entries.old.entries ≡ e ∷ entries.new.entries) }
+    ensures none { IfNone result ((entries.new.entries ≡ entries.old.entries) × (begins_up_to place entries.old.entries ≡ false)) }
+{
+    if !begins_up_to(entries, place) {
+        return None;
+    }
+    entries.pop_first()
+}
+
+// Takes the entries from the front on whose first place is not behind this one, as terms.
+fn take_up_to(
+    alloc: Global,
+    entries: &mut BTreeMap<Key, u64>,
+    place: u32,
+) -> Result<Vec<BitTerm>, AllocError>
+    ensures all { IfOk result (λ front. map term_of entries.old.entries ≡ front.items ++ map term_of entries.new.entries) }
+    ensures rest { OnOk result (begins_up_to place entries.new.entries ≡ false) }
+    ensures entries { (places : List ℕ) → AreEntries places entries.old.entries → AreEntries places entries.new.entries }
+{
+    let mut front = Vec::new(alloc);
+    while let Some((key, c)) = pop_up_to(entries, place) {
+        front.push(BitTerm::new(key.into_bits(), c))?;
+    }
+    Ok(front)
+}

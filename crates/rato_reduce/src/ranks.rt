@@ -1,0 +1,115 @@
+//! Lists of ranks of bits.
+ghost use Rattle.std.specs.Prelude.{◌≡◌, ◌<◌, ◌≤◌, ◌∷◌, ◌++◌, [], not, nat_eq, length, take, drop, slice_index, IfOk, OnOk, OnErr};
+ghost use Rattle.std.specs.List.{filter, list_any};
+ghost use Rattle.poly_mixed.specs.Product.{with_rank, union};
+
+use smallvec::SmallVec;
+use std::alloc::{AllocError, Global};
+use std::marker::Model;
+
+/// Ranks of bits, rising where they are those of a term; six of them take no memory of their own.
+#[derive(Drop)]
+pub struct Ranks {
+    items: SmallVec<u32, 6>,
+}
+
+impl Model for Ranks {
+    ghost use Rattle.std.specs.Prelude.{ℕ, List};
+
+    ghost Value = { List ℕ };
+
+    ghost view = { λ r. r.items.items };
+}
+
+impl Ranks {
+    /// No rank.
+    pub fn none(alloc: Global) -> Ranks
+        ensures { result ≡ [] }
+    {
+        Ranks {
+            items: SmallVec::new(alloc),
+        }
+    }
+
+    /// The ranks, as they stand.
+    pub fn as_slice(&self) -> &[u32]
+        ensures { result.now ≡ self.now }
+    {
+        self.items.as_slice()
+    }
+
+    /// The same ranks.
+    pub fn copied(&self) -> Result<Ranks, AllocError>
+        ensures { IfOk result (λ r. r ≡ self.now) }
+    {
+        Ok(Ranks {
+            items: self.items.clone()?,
+        })
+    }
+
+    /// Whether the rank is among them.
+    pub fn has(&self, rank: u32) -> bool
+        ensures { result ≡ list_any (λ r. nat_eq r rank) self.now }
+    {
+        self.items.as_slice().contains(&rank)
+    }
+
+    /// The ranks of both; these are rising.
+    pub fn union(&self, other: &Ranks) -> Result<Ranks, AllocError>
+        ensures { IfOk result (λ r. r ≡ union self.now other.now) }
+    {
+        let most = self.items.len().saturating_add(other.items.len());
+        let mut items = SmallVec::with_capacity(*self.items.allocator(), most)?;
+        items.extend_from_slice(self.items.as_slice())?;
+        for rank in other.items.as_slice() {
+            add_rank(&mut items, *rank)?;
+        }
+        Ok(Ranks { items })
+    }
+
+    /// These, which are rising, and one more.
+    pub fn with(&self, rank: u32) -> Result<Ranks, AllocError>
+        ensures { IfOk result (λ r. r ≡ with_rank self.now rank) }
+    {
+        let mut items = self.items.clone()?;
+        add_rank(&mut items, rank)?;
+        Ok(Ranks { items })
+    }
+
+    /// All but this one.
+    pub fn without(&self, rank: u32) -> Result<Ranks, AllocError>
+        ensures { IfOk result (λ r. r ≡ filter (λ r. not (nat_eq r rank)) self.now) }
+    {
+        let mut items = SmallVec::new(*self.items.allocator());
+        for r in self.items.as_slice() {
+            if *r != rank {
+                items.push(*r)?;
+            }
+        }
+        Ok(Ranks { items })
+    }
+}
+
+fn add_rank(items: &mut SmallVec<u32, 6>, r: u32) -> Result<(), AllocError>
+    ensures with { OnOk result (items.new.items ≡ with_rank items.old.items r) }
+{
+    let i = place_of(items.as_slice(), r);
+    if i < items.len() && items.as_slice()[i] == r {
+        return Ok(());
+    }
+    items.insert(i, r)?;
+    Ok(())
+}
+
+// The index of the first rank that is not below `r`.
+fn place_of(items: &[u32], r: u32) -> usize
+    ensures within { result ≤ length items.now }
+    ensures place { with_rank items.now r ≡ take result items.now ++ with_rank (drop result items.now) r }
+    ensures stop { result < length items.now → r ≤ slice_index items.now result }
+{
+    let mut i = 0;
+    while i < items.len() && items[i] < r {
+        i += 1;
+    }
+    i
+}

@@ -1,0 +1,170 @@
+//! Netlists that are refused.
+use crate::row::Row;
+use crate::texts::{
+    EMPTY, LIBRARY_GATE, LOOP, MODEL_TWICE, MULTIPLIER, NO_DRIVER, TWO_DRIVERS, WIDE, WORD_OF_4,
+    WORDS_OF_4,
+};
+
+pub static ROWS_1: [Row; 9] = [
+    Row {
+        name: "bits s4a loop",
+        words: &["bits", "s4a", "loop"],
+        files: &[("s4a", WORD_OF_4, 0, ""), ("loop", LOOP, 0, "")],
+        status: 2,
+        text: "fault 36: loop of 2 nets through x in loop\n",
+    },
+    Row {
+        name: "abstract s4a loop",
+        words: &["abstract", "s4a", "loop"],
+        files: &[("s4a", WORD_OF_4, 0, ""), ("loop", LOOP, 0, "")],
+        status: 2,
+        text: "fault 36: loop of 2 nets through x in loop\n",
+    },
+    Row {
+        name: "bits s4a twice",
+        words: &["bits", "s4a", "twice"],
+        files: &[("s4a", WORD_OF_4, 0, ""), ("twice", TWO_DRIVERS, 0, "")],
+        status: 2,
+        text: "fault 34: net z0 is driven twice in twice\n",
+    },
+    Row {
+        name: "abstract s4a twice",
+        words: &["abstract", "s4a", "twice"],
+        files: &[("s4a", WORD_OF_4, 0, ""), ("twice", TWO_DRIVERS, 0, "")],
+        status: 2,
+        text: "fault 34: net z0 is driven twice in twice\n",
+    },
+    Row {
+        name: "bits s4a undriven",
+        words: &["bits", "s4a", "undriven"],
+        files: &[("s4a", WORD_OF_4, 0, ""), ("undriven", NO_DRIVER, 0, "")],
+        status: 2,
+        text: "fault 35: net q is not driven in undriven\n",
+    },
+    Row {
+        name: "abstract s4a undriven",
+        words: &["abstract", "s4a", "undriven"],
+        files: &[("s4a", WORD_OF_4, 0, ""), ("undriven", NO_DRIVER, 0, "")],
+        status: 2,
+        text: "fault 35: net q is not driven in undriven\n",
+    },
+    Row {
+        name: "bits s4a wide",
+        words: &["bits", "s4a", "wide"],
+        files: &[("s4a", WORD_OF_4, 0, ""), ("wide", WIDE, 0, "")],
+        status: 2,
+        text: "fault 37: 7 inputs at line 4 in wide\n",
+    },
+    Row {
+        name: "abstract s4a wide",
+        words: &["abstract", "s4a", "wide"],
+        files: &[("s4a", WORD_OF_4, 0, ""), ("wide", WIDE, 0, "")],
+        status: 2,
+        text: "fault 37: 7 inputs at line 4 in wide\n",
+    },
+    Row {
+        name: "bits s4a mul",
+        words: &["bits", "s4a", "mul"],
+        files: &[("s4a", WORD_OF_4, 0, ""), ("mul", MULTIPLIER, 0, "")],
+        status: 2,
+        text: "fault 39: input b0 is in no word in mul\n",
+    },
+];
+
+pub static ROWS_2: [Row; 9] = [
+    Row {
+        name: "abstract s4a mul",
+        words: &["abstract", "s4a", "mul"],
+        files: &[("s4a", WORD_OF_4, 0, ""), ("mul", MULTIPLIER, 0, "")],
+        status: 2,
+        text: "fault 39: input b0 is in no word in mul\n",
+    },
+    Row {
+        name: "bits s4 e",
+        words: &["bits", "s4", "e"],
+        files: &[("s4", WORDS_OF_4, 0, ""), ("e", EMPTY, 0, "")],
+        status: 2,
+        text: "fault 32: no model in e\n",
+    },
+    Row {
+        name: "abstract s4 e",
+        words: &["abstract", "s4", "e"],
+        files: &[("s4", WORDS_OF_4, 0, ""), ("e", EMPTY, 0, "")],
+        status: 2,
+        text: "fault 32: no model in e\n",
+    },
+    Row {
+        name: "bits s4a g",
+        words: &["bits", "s4a", "g"],
+        files: &[("s4a", WORD_OF_4, 0, ""), ("g", LIBRARY_GATE, 0, "")],
+        status: 2,
+        text: "fault 31: .gate at line 4 in g\n",
+    },
+    Row {
+        name: "abstract s4a g",
+        words: &["abstract", "s4a", "g"],
+        files: &[("s4a", WORD_OF_4, 0, ""), ("g", LIBRARY_GATE, 0, "")],
+        status: 2,
+        text: "fault 31: .gate at line 4 in g\n",
+    },
+    Row {
+        name: "bits of a line out of place",
+        words: &["bits", "s4", "mul"],
+        files: &[
+            ("s4", WORDS_OF_4, 0, ""),
+            ("mul", MULTIPLIER, 4, "1-0- 1 1"),
+        ],
+        status: 2,
+        text: "fault 30: netlist line 4 in mul\n",
+    },
+    Row {
+        name: "abstract of a line out of place",
+        words: &["abstract", "s4", "mul"],
+        files: &[
+            ("s4", WORDS_OF_4, 0, ""),
+            ("mul", MULTIPLIER, 4, "1-0- 1 1"),
+        ],
+        status: 2,
+        text: "fault 30: netlist line 4 in mul\n",
+    },
+    Row {
+        name: "bits of a model that comes twice",
+        words: &["bits", "s4a", "m"],
+        files: &[("s4a", WORD_OF_4, 0, ""), ("m", MODEL_TWICE, 0, "")],
+        status: 2,
+        text: "fault 32: model twice at line 9 in m\n",
+    },
+    Row {
+        name: "bits of a word without its net",
+        words: &["bits", "s4", "mul"],
+        files: &[
+            ("s4", WORDS_OF_4, 5, "word Z output poly z0 z9"),
+            ("mul", MULTIPLIER, 0, ""),
+        ],
+        status: 2,
+        text: "fault 39: no net for Z[1] in mul\n",
+    },
+];
+
+pub static ROWS_3: [Row; 2] = [
+    Row {
+        name: "bits of an input word at a gate",
+        words: &["bits", "s4", "mul"],
+        files: &[
+            ("s4", WORDS_OF_4, 4, "word B input poly b0 p0"),
+            ("mul", MULTIPLIER, 0, ""),
+        ],
+        status: 2,
+        text: "fault 39: B[1] is no input in mul\n",
+    },
+    Row {
+        name: "bits of two words at one net",
+        words: &["bits", "s4", "mul"],
+        files: &[
+            ("s4", WORDS_OF_4, 4, "word B input poly b0 a1"),
+            ("mul", MULTIPLIER, 0, ""),
+        ],
+        status: 2,
+        text: "fault 39: net a1 stands twice in mul\n",
+    },
+];

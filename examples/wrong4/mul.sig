@@ -1,0 +1,5 @@
+gfsig 1
+field 0x7
+word A input poly a0 a1
+word B input poly b0 b1
+word Z output poly z0 z1
