@@ -22,10 +22,10 @@ some : (n : ℕ) → false ≡ (n == 0) → 1 ≤ n
 some n e = let other : n ≡ 0 → ⊥ = eqb-false n 0 (sym e) in omega arith
 
 pub table_from-requires : goal.table_from-requires
-table_from-requires g t c κs within = let more = some (length c.args.ranks.now) c.if-is_empty.ensures in (search rules, (search rules, (omega arith, halved c.args.ranks.now c.args.step more c.requires.within)))
+table_from-requires g t c κs within = let more = some (length c.args.ranks.now) c.if-is_empty.ensures in (search rules, (search rules, (search rules, (omega arith, halved c.args.ranks.now c.args.step more c.requires.within))))
 
 pub table_from-requires-2 : goal.table_from-requires-2
-table_from-requires-2 g t c κs within = let more = some (length c.args.ranks.now) c.if-is_empty.ensures in (search rules, (search rules, (omega arith, halved c.args.ranks.now c.args.step more c.requires.within)))
+table_from-requires-2 g t c κs within = let more = some (length c.args.ranks.now) c.if-is_empty.ensures in (search rules, (search rules, (search rules, (omega arith, halved c.args.ranks.now c.args.step more c.requires.within))))
 
 pub returns : goal.returns
 returns g t c =
