@@ -8,7 +8,7 @@ use Rattle.circuit_model.proofs.SliceLemmas.{rest_has, rest_long, first_get}
 use Rattle.circuit_model.proofs.plain.+bit_in_words.Goals as goal
 
 pub bit_in_words-other-requires : goal.bit_in_words-other-requires
-bit_in_words-other-requires g t c κs within = (search rules, (search rules, ((λ w has. c.requires.over w (rest_has c.args.words.now w has)), (rest_long c.args.xs.now c.args.words.now c.requires.long, λ x has. c.requires.elements x (rest_has c.args.xs.now x has)))))
+bit_in_words-other-requires g t c κs within = (search rules, (search rules, (search rules, ((λ w has. c.requires.over w (rest_has c.args.words.now w has)), (rest_long c.args.xs.now c.args.words.now c.requires.long, λ x has. c.requires.elements x (rest_has c.args.xs.now x has))))))
 
 pub bits_of-requires-clause-element : goal.bits_of-requires-clause-element
 bits_of-requires-clause-element g t c = c.requires.elements _ (0, first_get c.args.xs.now (omega (arith, c.in-len1-up.len_at_least, c.requires.long)))

@@ -8,7 +8,7 @@ use Rattle.circuit_model.proofs.PlainLemmas.{first_at, have_all, have_rest, foun
 use Rattle.circuit_model.proofs.plain.+have_elements.Goals as goal
 
 pub have_elements-requires : goal.have_elements-requires
-have_elements-requires g t c κs within = (search rules, (search rules, ((λ w has. c.requires.over w (rest_has c.args.words.now w has)), rest_long c.args.xs.now c.args.words.now c.requires.long)))
+have_elements-requires g t c κs within = (search rules, (search rules, (search rules, ((λ w has. c.requires.over w (rest_has c.args.words.now w has)), rest_long c.args.xs.now c.args.words.now c.requires.long))))
 
 pub returns-then-eq : goal.returns-then-eq
 returns-then-eq g t c =
