@@ -77,6 +77,11 @@ at_set [] w e less = absurd (omega arith)
 at_set (x ∷ xs) zero e less = refl
 at_set (x ∷ xs) (suc w) e less = at_set xs w e (omega arith)
 
+pub element_at : (k : ℕ) (xs : List ℕ) (i : ℕ) → AllByRecursion (IsElement k) xs → i < length xs → IsElement k (slice_index xs i)
+element_at k [] i all less = absurd (omega arith)
+element_at k (x ∷ xs) zero all less = all.0
+element_at k (x ∷ xs) (suc i) all less = element_at k xs i all.1 (omega arith)
+
 pub set_all : (P : ℕ → Type 0) (xs : List ℕ) (w e : ℕ) → AllByRecursion P xs → P e → AllByRecursion P (set xs w e)
 set_all P [] w e all here = tt
 set_all P (x ∷ xs) zero e all here = (here, all.1)
@@ -213,22 +218,12 @@ module _ {k : ℕ} {mul : ℕ → ℕ → ℕ} (f : IsField k mul) where
       let y = power mul (slice_index ws w) e in
       let q = powers mul xs ws in
       let hp = power_element f v x all.0 in
-      let hy = power_element f (slice_index ws w) e (member ws w all.1 (omega arith)) in
+      let hy = power_element f (slice_index ws w) e (element_at k ws w all.1 (omega arith)) in
       let hq = powers_element f xs ws all.1 in
       ap (mul p) (powers_set xs ws w e (omega arith) (omega arith) none all.1) ∙ (sym (f.assoc p y q hp hy hq) ∙ (ap (λ n. mul n q) (f.comm p y hp hy) ∙ f.assoc y p q hy hp hq))
-    where
-      member : (vs : List ℕ) (i : ℕ) → AllByRecursion (IsElement k) vs → i < length vs → IsElement k (slice_index vs i)
-      member [] i up h = absurd (omega arith)
-      member (z ∷ vs) zero up h = up.0
-      member (z ∷ vs) (suc i) up h = member vs i up.1 (omega arith)
 
   pub word_element : (p : Point) (w : ℕ) → IsPoint k p → w < 8 → IsElement k (slice_index p.words w)
-  word_element p w at less = member p.words w at.elements (omega (arith, less, at.words))
-    where
-      member : (vs : List ℕ) (i : ℕ) → AllByRecursion (IsElement k) vs → i < length vs → IsElement k (slice_index vs i)
-      member [] i up h = absurd (omega arith)
-      member (z ∷ vs) zero up h = up.0
-      member (z ∷ vs) (suc i) up h = member vs i up.1 (omega arith)
+  word_element p w at less = element_at k p.words w at.elements (omega (arith, less, at.words))
 
   module _ (w : ℕ) (inside : w < 8) where
     -- the value of a polynomial in the word times a monomial without it

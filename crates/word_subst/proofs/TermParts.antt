@@ -1,5 +1,5 @@
 -- What is found of a term out of the products of its bits of the word.
-use Rattle.std.proofs.Common.{◌≡◌, ◌≢◌, ◌∙◌, ap, sym, refl, subst, ℕ, zero, suc, ◌<◌, ◌≤◌, ◌+◌, ◌-◌, ◌*◌, ◌==◌, ◌&&◌, Bool, true, false, cond, not, List, [], ◌∷◌, ◌++◌, length, take, drop, slice_index, Option, None, arith}
+use Rattle.std.proofs.Common.{◌≡◌, ◌≢◌, ◌∙◌, ap, sym, refl, subst, ℕ, zero, suc, ◌<◌, ◌≤◌, ◌+◌, ◌-◌, ◌*◌, ◌==◌, ◌&&◌, Bool, true, false, cond, not, List, [], ◌∷◌, ◌++◌, length, take, drop, slice_index, bit_xor, Option, None, arith}
 use Rattle.std.specs.Prelude.{slice_get}
 use Rattle.std.proofs.Math.ListN.{set, length-set}
 use Rattle.std.specs.Int.{bit_at}
@@ -21,17 +21,18 @@ use Rattle.poly_mixed.proofs.Products.{all-union, rising-union}
 use Rattle.poly_mixed.proofs.Values.{power_element, powers_element, one_element, zero_element, product_zero, product_by_zero}
 use Rattle.stage_model.specs.WordStage.{is_of_word, word_bits, with_word}
 use Rattle.stage_model.specs.PlainWord.{IsProductOf}
+use Rattle.stage_model.proofs.WordPolyLemmas.{whole_term}
 use Rattle.word_subst.specs.Univariate.{Powers, IsUnivariate, IsMultiple, value_of, power_value}
 use Rattle.word_subst.specs.Multiple.{multiplied}
 use Rattle.word_subst.specs.Multiplier.{IsWithBits}
 use Rattle.word_subst.specs.Prefix.{Products, IsBitProduct, AreProducts, IsProductWithin, IsFirstOver, IsProductRefusal}
-use Rattle.word_subst.specs.Spread.{IsRest, spread}
-use Rattle.word_subst.specs.Rest.{rest_of}
+use Rattle.word_subst.specs.Spread.{Groups, IsRest, AddsGroup, spread, all_terms}
+use Rattle.word_subst.specs.Rest.{rest_of, AddsTerm}
 use Rattle.word_subst.specs.Read.{HasWithin, HasOver, product_at, IsTermWithin}
 use Rattle.word_subst.specs.ReadRefusal.{IsTermRefusal}
 use Rattle.word_subst.proofs.Multiples.{scaled_is}
 use Rattle.word_subst.proofs.Prefixes.{product_before}
-use Rattle.word_subst.proofs.Spreads.{at_set, set_all, put_back, powers_set, word_element, spread_value, spread_terms, spread_nonzero, spread_length, gathered_reduced, gathered_value}
+use Rattle.word_subst.proofs.Spreads.{element_at, at_set, set_all, put_back, powers_set, word_element, spread_value, spread_terms, spread_nonzero, spread_length, gathered_reduced, gathered_value}
 
 -- ---- the bits of a term
 
@@ -81,6 +82,9 @@ module _ {k : ℕ} {mul : ℕ → ℕ → ℕ} (f : IsField k mul) (elements : L
     none = at_set t.0.exponents w 0 low;
   }
 
+  pub start_element : IsElement k start
+  start_element = element_at k t.0.exponents w is.monomial.exponents low
+
   own_tests : (d j : ℕ) (p : Point) → list_all (with_word k w d p).is_one (take j own) ≡ list_all (λ r. bit_at d (r - k * w) == 1) (take j own)
   own_tests d j p = same_tests (with_word k w d p).is_one (λ r. bit_at d (r - k * w) == 1) (take j own)
       (take_all_of (λ x. (with_word k w d p).is_one x ≡ (bit_at d (x - k * w) == 1)) j own
@@ -120,6 +124,18 @@ module _ {k : ℕ} {mul : ℕ → ℕ → ℕ} (f : IsField k mul) (elements : L
         ∙ (gathered a b t.1 s q is.element hs hq
         ∙ (λ i. cond (sym tests i) (mul t.1 (sym whole i)) 0))));
   }
+
+  -- the sum with the term
+  pub adds_term : (us scaled : Powers) (rest : Monomial) (old new : Groups) → IsBitProduct k mul elements w start (take (length own) own) us → IsMultiple k mul (0, t.1) us scaled → rest ≡ rest_of k w t.0 → AddsGroup k mul w rest scaled old new → AddsTerm k mul elements w t old new
+  adds_term us scaled rest old new product multiple rest_is adds =
+      let ts = spread w (rest_of k w t.0) scaled in
+      let P : Monomial → Type 0 = λ m. AddsGroup k mul w m scaled old new in
+      let added = subst P rest_is adds in
+      record {
+        part = plus text_cmp [] ts;
+        is = whole_term k mul elements w t (plus text_cmp [] ts) (product_is (length own) us scaled product multiple);
+        values = λ p at. added p at ∙ ap (bit_xor (value mul p (all_terms w old))) (sym (gathered_value f p at ts (spread_terms w k inside (rest_of k w t.0) scaled is_rest multiple.univariate.powers)));
+      }
 
   module _ (some : t.1 ≢ 0) where
     -- the product times the coefficient

@@ -22,6 +22,17 @@ fn sum_exponent(k: u32, a: u64, b: u64) -> u64
     if a <= top - b { a + b } else { a - (top - b) }
 }
 
+// The product of an element, by its table, and another.
+fn product_by<F: Field>(field: &F, _c: u64, table: &F::Times, d: u64) -> u64
+    requires c { IsElement (F.degree field.now) _c }
+    requires table { F.is_table field.now table.now _c }
+    requires d { IsElement (F.degree field.now) d }
+    ensures product { result ≡ F.product field.now _c d }
+    ensures element { result < 2 ^ F.degree field.now }
+{
+    field.by(table, d)
+}
+
 // Each of some powers times one power, in their order.
 fn times_power<F: Field>(
     alloc: Global,
@@ -36,9 +47,10 @@ fn times_power<F: Field>(
     ensures { IfOk result (λ u. u ≡ multiplied (F.degree field.now) (F.product field.now) (exponent, c) powers.now) }
 {
     let k = field.k();
+    let table = field.times(c);
     let mut out = Univariate::zero(alloc);
     for (e, d) in powers {
-        out.push(sum_exponent(k, *e, exponent), field.mul(c, *d))?;
+        out.push(sum_exponent(k, *e, exponent), product_by(field, c, &table, *d))?;
     }
     Ok(out)
 }

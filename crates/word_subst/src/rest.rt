@@ -60,5 +60,6 @@ pub fn rest(alloc: Global, mono: &Mono, k: u32, word: u32) -> Result<Mono, Alloc
     let bits = other_ranks(alloc, mono.bits(), k, word)?;
     let mut exponents = *mono.exponents();
     exponents[word as usize] = 0;
-    Mono::new(alloc, &bits, &exponents)
+    let others = Mono::new(alloc, &bits, &exponents)?;
+    Ok(others)
 }

@@ -4,7 +4,6 @@ ghost use Rattle.std.specs.List.{AllByRecursion};
 ghost use Rattle.std.specs.List.Sorted.{IsStrictlySortedBy};
 ghost use Rattle.std.specs.Map.{keys_of};
 ghost use Rattle.poly_mixed.specs.Monomial.{text_cmp};
-ghost use Rattle.poly_mixed.specs.Polynomial.{polynomial};
 ghost use Rattle.poly_mixed.specs.Sum.{plus};
 ghost use Rattle.word_subst.specs.Univariate.{IsUnivariate};
 ghost use Rattle.word_subst.specs.Spread.{total, spread, all_terms, with_exponent, IsGroup, IsRest, IsAdded, AddsGroup};
@@ -74,7 +73,7 @@ fn add_spread(
 ) -> Result<(), AllocError>
     requires word { word < 8 }
     requires some { AllByRecursion (λ t. t.1 ≢ 0) powers.now }
-    ensures { OnOk result (poly.new ≡ polynomial (plus text_cmp poly.old.terms (spread word rest.now powers.now))) }
+    ensures { OnOk result (poly.new.terms ≡ plus text_cmp poly.old.terms (spread word rest.now powers.now)) }
 {
     for (exponent, c) in powers.powers() {
         let mut exponents = *rest.exponents();
@@ -94,7 +93,7 @@ pub fn spread_poly(
 ) -> Result<Poly, AllocError>
     requires word { word < 8 }
     requires some { AllByRecursion (λ t. t.1 ≢ 0) powers.now }
-    ensures { IfOk result (λ q. q ≡ polynomial (plus text_cmp [] (spread word rest.now powers.now))) }
+    ensures { IfOk result (λ q. q.terms ≡ plus text_cmp [] (spread word rest.now powers.now)) }
 {
     let mut poly = Poly::zero(alloc);
     add_spread(alloc, &mut poly, word, rest, powers)?;
@@ -149,7 +148,7 @@ impl Sums {
     pub fn to_poly(&self, alloc: Global, word: u32) -> Result<Poly, AllocError>
         requires word { word < 8 }
         requires some { AllByRecursion (λ g. AllByRecursion (λ t. t.1 ≢ 0) g.1) self.now }
-        ensures { IfOk result (λ q. q ≡ polynomial (plus text_cmp [] (all_terms word self.now))) }
+        ensures { IfOk result (λ q. q.terms ≡ plus text_cmp [] (all_terms word self.now)) }
     {
         let mut poly = Poly::zero(alloc);
         for (rest, powers) in &self.map {

@@ -39,9 +39,10 @@ fn restart<F: Field>(
     ensures products { OnOk result (AreProducts (F.degree field.now) (F.product field.now) (elements_of _basis.now) word bound products.new) }
     ensures start { OnOk result (products.new.start ≡ start) }
 {
-    if products.start() != start {
-        *products = BitProducts::new(alloc, field, word, start, bound)?;
+    if products.start() == start {
+        return Ok(());
     }
+    *products = BitProducts::new(alloc, field, word, start, bound)?;
     Ok(())
 }
 
@@ -72,7 +73,8 @@ pub fn follow_term<F: Field>(
 {
     let start = term.mono().exponents()[word as usize];
     restart(alloc, field, basis, word, start, bound, products)?;
-    products.follow(alloc, field, basis, forms, word, own, number, bound)
+    products.follow(alloc, field, basis, forms, word, own, number, bound)?;
+    Ok(())
 }
 
 /// Adds a term, read from the word, to the sum of the terms before.
@@ -102,5 +104,6 @@ pub fn add_term<F: Field>(
 {
     let part = scaled(alloc, field, products.at(own.len()), term.coefficient())?;
     let others = rest(alloc, term.mono(), field.k(), word)?;
-    sums.add(alloc, field, word, others, part)
+    sums.add(alloc, field, word, others, part)?;
+    Ok(())
 }
