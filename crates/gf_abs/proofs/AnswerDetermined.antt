@@ -1,10 +1,9 @@
 -- At most one answer comes of the words, where the shelf tells what it holds.
 use Rattle.std.proofs.Common.{◌≡◌, ◌⊎◌, ◌∙◌, ap, sym, inl, inr, ℕ, ◌<◌, List, length, Option, None, Some, Ok, Err, arith}
 use Rattle.std.specs.FinMap.{get}
-use Rattle.text_core.specs.Outcome.{◌>>=◌, Determined, Within}
+use Rattle.text_core.specs.Outcome.{Determined, Within}
 use Rattle.job_io.specs.Shelf.{Files}
 use Rattle.net_blif.proofs.FlatDetermined.{determined_after, determined_within}
-use Rattle.net_words.specs.Binding.{BoundNet}
 use Rattle.job_words.specs.declared.fault.Fault.TheVariants.{File, Signature, Netlist}
 use Rattle.job_words.specs.declared.file_fault.FileFault.{FileFault}
 use Rattle.job_words.specs.declared.file_fault.FileFault.TheVariants.{Absent, TooLong}
@@ -13,7 +12,7 @@ use Rattle.job_words.specs.Command.{Action, Bits, Abstract, Job}
 use Rattle.job_words.proofs.SpelledLemmas.{one_job}
 use Rattle.job_input.specs.File.{Read}
 use Rattle.job_input.specs.NetlistOf.{BoundNetOf, CircuitIn}
-use Rattle.job_input.specs.SettingOf.{SignedOf, SignedValue, SettingWith, SettingOf}
+use Rattle.job_input.specs.SettingOf.{SignedOf, SignedValue, SettingWith}
 use Rattle.job_input.specs.SettingSound.{IsSoundSetting}
 use Rattle.job_input.specs.SettingValue.{SettingValue}
 use Rattle.job_input.specs.SignedIn.{SignedIn}

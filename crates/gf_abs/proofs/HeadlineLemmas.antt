@@ -1,13 +1,11 @@
 -- What the program's answers say, out of what comes of their steps.
-use Rattle.std.proofs.Common.{◌≡◌, ◌∙◌, ap, sym, subst, ℕ, List, Option, Some, Result, Ok, ◌↔◌}
-use Rattle.text_core.specs.Outcome.{Determined}
+use Rattle.std.proofs.Common.{◌≡◌, subst, ℕ, List, Some, Result, Ok, ◌↔◌}
 use Rattle.job_io.specs.Shelf.{Files}
 use Rattle.net_words.specs.Binding.{BoundNet}
 use Rattle.poly_mixed.specs.Polynomial.{Terms}
 use Rattle.job_words.specs.Operands.{Word}
-use Rattle.job_words.specs.Command.{Action, Bits, Abstract, Job}
+use Rattle.job_words.specs.Command.{Bits, Abstract, Job}
 use Rattle.job_words.proofs.SpelledLemmas.{one_job}
-use Rattle.job_input.specs.File.{Read}
 use Rattle.job_input.specs.NetlistOf.{BoundNetOf}
 use Rattle.job_input.specs.SettingOf.{SettingOf}
 use Rattle.job_input.specs.SettingValue.{SettingValue}

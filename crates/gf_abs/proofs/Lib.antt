@@ -1,7 +1,6 @@
 pub mod NamedLemmas
 pub mod StageLemmas
 pub mod WordsLemmas
-pub mod EngineLemmas
 pub mod RefusalLemmas
 pub mod TakenLemmas
 pub mod StagedDetermined

@@ -1,9 +1,7 @@
 -- The refusal of a stage is what comes of a job whose stages it belongs to.
-use Rattle.std.proofs.Common.{◌≡◌, refl, sym, subst, ℕ, ◌<◌, ◌+◌, List, length, Result, Err, arith}
+use Rattle.std.proofs.Common.{◌≡◌, refl, sym, subst, ℕ, List, length, Err, arith}
 use Rattle.text_core.specs.Outcome.{Within}
 use Rattle.net_words.specs.Binding.{BoundNet}
-use Rattle.net_words.specs.declared.word.WordText.{WordText}
-use Rattle.gf_basis.specs.declared.bases.Basis.{Basis}
 use Rattle.poly_mixed.specs.Labels.{Labelling}
 use Rattle.poly_mixed.specs.declared.stage.ReduceFault.{ReduceFault}
 use Rattle.poly_mixed.specs.declared.stage.ReduceFault.TheVariants as reduce
@@ -11,7 +9,7 @@ use Rattle.poly_mixed.specs.declared.stage.Stage.{Stage}
 use Rattle.poly_mixed.specs.declared.stage.Stage.TheVariants.{Cut, WordProduct, WordSum, SpecProduct, SpecSum, InstanceProduct, InstanceSum}
 use Rattle.circuit_model.specs.Circuit.{Circuit}
 use Rattle.stage_model.specs.CircuitListing.{bound_cuts}
-use Rattle.stage_model.specs.Listing.{Listing, Joined, Earlier, Later, followed_by, AreAllWithin, IsOver, IsRefusal}
+use Rattle.stage_model.specs.Listing.{Listing, Earlier, Later, followed_by, AreAllWithin, IsOver, IsRefusal}
 use Rattle.stage_model.specs.WordListing.{word_listing}
 use Rattle.stage_model.proofs.ListingLemmas.{earlier_over, later_over}
 use Rattle.job_words.specs.declared.fault.Fault.{Fault}

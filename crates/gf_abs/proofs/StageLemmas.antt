@@ -1,5 +1,5 @@
 -- The stages of a job: cuts and then stages of words.
-use Rattle.std.proofs.Common.{◌≡◌, ◌∙◌, ap, refl, subst, ℕ, ◌≤◌, ◌+◌, List, [], length, arith}
+use Rattle.std.proofs.Common.{◌≡◌, ◌∙◌, ap, subst, ℕ, ◌≤◌, ◌+◌, List, [], length, arith}
 use Rattle.std.proofs.lemmas.List.{length-map}
 use Rattle.net_core.specs.Sound.{IsSound}
 use Rattle.net_core.proofs.DriverLemmas.{from_map}
@@ -14,8 +14,7 @@ use Rattle.gf_basis.specs.declared.bases.Basis.{Basis}
 use Rattle.poly_mixed.specs.Polynomial.{Terms, Point}
 use Rattle.poly_mixed.specs.Labels.{bit_count}
 use Rattle.poly_mixed.specs.Text.{HasNames}
-use Rattle.poly_mixed.specs.declared.stage.Stage.{Stage}
-use Rattle.poly_mixed.specs.declared.stage.Stage.TheVariants.{Cut, WordProduct, WordSum, SpecProduct, SpecSum, InstanceProduct, InstanceSum}
+use Rattle.poly_mixed.specs.declared.stage.Stage.TheVariants.{Cut}
 use Rattle.circuit_model.specs.Circuit.{Circuit}
 use Rattle.circuit_model.specs.OfBinding.{output_word, output_basis, circuit_with, HaveBases}
 use Rattle.circuit_model.specs.WellFormed.{IsWellFormed}
@@ -26,7 +25,7 @@ use Rattle.stage_model.proofs.CutLemmas.{one_cut_of}
 use Rattle.stage_model.proofs.SizeLemmas.{same_terms}
 use Rattle.stage_model.specs.Cut.{IsCut, CutOf, BoundCut}
 use Rattle.stage_model.specs.Mix.{IsMix}
-use Rattle.stage_model.specs.Stage.{IsOfStage, HasSize, IsWithin, IsNoneOver, IsFirstOver}
+use Rattle.stage_model.specs.Stage.{IsOfStage}
 use Rattle.stage_model.specs.CircuitListing.{bound_cuts}
 use Rattle.stage_model.specs.Listing.{AreAllWithin}
 use Rattle.stage_model.proofs.BoundLemmas.{bound_cut}

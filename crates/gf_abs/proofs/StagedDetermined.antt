@@ -1,7 +1,7 @@
 -- At most one value or fault comes of a job with stages.
-use Rattle.std.proofs.Common.{◌≡◌, ◌∙◌, ap, sym, ℕ, List, Result, Ok, Err}
+use Rattle.std.proofs.Common.{◌≡◌, ◌∙◌, ap, sym, ℕ, List, Ok, Err}
 use Rattle.text_core.specs.Outcome.{Determined}
-use Rattle.stage_model.specs.Listing.{Listing, IsOver, AreAllWithin}
+use Rattle.stage_model.specs.Listing.{Listing, AreAllWithin}
 use Rattle.stage_model.proofs.ListingLemmas.{IsOrdered, HaveOneSize, one_over, over_not_all}
 use Rattle.job_words.specs.declared.stage_fault.StageFault.{StageFault}
 use Rattle.gf_abs.specs.Staged.{Staged, IsStageOver}

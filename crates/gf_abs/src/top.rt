@@ -46,6 +46,7 @@ fn job_answer<S: Shelf>(alloc: Global, command: &Command, shelf: &mut S) -> Resu
     match field {
         AnyField::Base(field) => signed_answer(alloc, &field, signature, &command.task, shelf),
         AnyField::Tower(field) => signed_answer(alloc, &field, signature, &command.task, shelf),
+        AnyField::Upper(field) => signed_answer(alloc, &field, signature, &command.task, shelf),
     }
 }
 

@@ -12,7 +12,7 @@ use Rattle.gf_tower.specs.TowerParts.{base_of, coefficients_of, size_of}
 use Rattle.gf_tower.specs.FieldName.{IsFieldName}
 use Rattle.gf_tower.specs.AnyField.{IsMadeOf}
 use Rattle.gf_tower.specs.declared.any_field.AnyField.{AnyField}
-use Rattle.gf_tower.specs.declared.any_field.AnyField.TheVariants.{Base, Tower}
+use Rattle.gf_tower.specs.declared.any_field.AnyField.TheVariants.{Base, Tower, Upper}
 use Rattle.gf_tower.proofs.FieldNameLaws.{degree_unique, fault_clash}
 use Rattle.gf_tower.proofs.FieldFaultLaws.{one_field_fault}
 use Rattle.net_blif.proofs.FlatDetermined.{determined_within}
@@ -38,16 +38,22 @@ tower_is d l m e g ks cs same_degree same_modulus same_list long two =
     some [] less = absurd (omega arith)
     some (x ∷ xs) less = refl
 
-pub field_made : (field : AnyField) (g : ℕ) (cs : List ℕ) → IsFieldName g cs → IsMadeOf field g cs → FieldOf g cs (Ok (record { k = any_degree field; product = any_product field }))
+pub field_made : (field : AnyField) (g : ℕ) (cs : List ℕ) → IsFieldName g cs [] → IsMadeOf field g cs [] → FieldOf g cs (Ok (record { k = any_degree field; product = any_product field }))
 field_made (Base field) g cs name made =
     let ring = ring_of field in
     let same = degree_unique (degree_of ring) name.degree g (subst (IsModulus (degree_of ring)) made.0 ring.fits) name.base.modulus in
-    (name, base_is (degree_of ring) (modulus_of ring) name.degree g cs same made.0 made.1)
+    (name, base_is (degree_of ring) (modulus_of ring) name.degree g cs same made.0 made.1.0)
 field_made (Tower field) g cs name made =
     let tower = ring_of field in
     let ring = ring_of (base_of tower) in
     let same = degree_unique (degree_of ring) name.degree g (subst (IsModulus (degree_of ring)) made.0 ring.fits) name.base.modulus in
-    (name, tower_is (degree_of ring) (size_of tower) (modulus_of ring) name.degree g (coefficients_of tower) cs same made.0 made.1 tower.fits.size tower.fits.two)
+    (name, tower_is (degree_of ring) (size_of tower) (modulus_of ring) name.degree g (coefficients_of tower) cs same made.0 made.1.0 tower.fits.size tower.fits.two)
+field_made (Upper field) g cs name made =
+    let tower = ring_of field in
+    let none : length (coefficients_of tower) ≡ 0 = ap length made.1.1 in
+    let size = tower.fits.size in
+    let two = tower.fits.two in
+    absurd (omega arith)
 
 -- ---- how many bits its elements have
 
@@ -69,9 +75,9 @@ field_or_fault : (g : ℕ) (cs : List ℕ) → Determined (FieldOrFault g cs)
 field_or_fault g cs (Ok x) (Ok y) h k =
     let same = degree_unique h.0.degree k.0.degree g h.0.base.modulus k.0.base.modulus in
     ap Ok (h.1 ∙ ap (λ d. field_of d g cs) same ∙ sym k.1)
-field_or_fault g cs (Ok x) (Err f) h k = absurd (fault_clash g cs f k h.0)
-field_or_fault g cs (Err f) (Ok y) h k = absurd (fault_clash g cs f h k.0)
-field_or_fault g cs (Err e) (Err f) h k = ap Err (one_field_fault g cs e f h k)
+field_or_fault g cs (Ok x) (Err f) h k = absurd (fault_clash g cs [] f k h.0)
+field_or_fault g cs (Err f) (Ok y) h k = absurd (fault_clash g cs [] f h k.0)
+field_or_fault g cs (Err e) (Err f) h k = ap Err (one_field_fault g cs [] e f h k)
 
 pub field_determined : (g : ℕ) (cs : List ℕ) → Determined (FieldOf g cs)
 field_determined g cs = determined_within field_fault (FieldOrFault g cs) (field_or_fault g cs)

@@ -8,7 +8,7 @@ use Rattle.gf_tower.specs.Tower.{tower_polynomial}
 use Rattle.gf_tower.specs.FieldName.{IsFieldName}
 use Rattle.gf_tower.specs.FieldFault.{IsFieldFault}
 use Rattle.gf_tower.specs.declared.any_field.FieldFault.{FieldFault}
-use Rattle.gf_tower.specs.declared.any_field.FieldFault.TheVariants.{BadDegree, NotIrreducible, BadLength, BadCoefficient, TowerNotIrreducible}
+use Rattle.gf_tower.specs.declared.any_field.FieldFault.TheVariants.{BadDegree, NotIrreducible, BadLength, BadCoefficient, TowerNotIrreducible, UpperBadLength, UpperBadCoefficient, UpperNotIrreducible}
 use Rattle.job_words.specs.declared.signature_fault.SignatureFault.{SignatureFault}
 use Rattle.job_words.specs.declared.signature_fault.SignatureFault.TheVariants.{Degree, Modulus, Tower, TowerPolynomial}
 
@@ -30,10 +30,10 @@ abbrev pub field_of : ℕ → ℕ → List ℕ → FieldValue
 field_of d g [] = base_field d g
 field_of d g (c ∷ cs) = tower_field d g (c ∷ cs)
 
--- the field that the modulus and the coefficients name, or the reason why they name none
+-- the field that the modulus and the coefficients of no or one tower step name, or the reason why they name none
 abbrev pub FieldOrFault : ℕ → List ℕ → Outcome FieldFault FieldValue
-FieldOrFault g cs (Ok field) = (name : IsFieldName g cs) × (field ≡ field_of name.degree g cs)
-FieldOrFault g cs (Err fault) = IsFieldFault g cs fault
+FieldOrFault g cs (Ok field) = (name : IsFieldName g cs []) × (field ≡ field_of name.degree g cs)
+FieldOrFault g cs (Err fault) = IsFieldFault g cs [] fault
 
 -- the fault of a signature that this reason is
 abbrev pub field_fault : FieldFault → SignatureFault
@@ -42,6 +42,9 @@ field_fault NotIrreducible = Modulus
 field_fault BadLength = Tower
 field_fault (BadCoefficient place) = Tower
 field_fault TowerNotIrreducible = TowerPolynomial
+field_fault UpperBadLength = Tower
+field_fault (UpperBadCoefficient place) = Tower
+field_fault UpperNotIrreducible = TowerPolynomial
 
 -- the field of a signature with this modulus and tower, or its fault
 abbrev pub FieldOf : ℕ → List ℕ → Outcome SignatureFault FieldValue

@@ -15,7 +15,7 @@ use Rattle.irreducible.specs.Proved.{ring_of}
 use Rattle.gf_tower.specs.Tower.{tower_polynomial}
 use Rattle.gf_tower.specs.TowerParts.{base_of, coefficients_of, size_of}
 use Rattle.gf_tower.specs.declared.any_field.AnyField.{AnyField}
-use Rattle.gf_tower.specs.declared.any_field.AnyField.TheVariants.{Base, Tower}
+use Rattle.gf_tower.specs.declared.any_field.AnyField.TheVariants.{Base, Tower, Upper}
 use Rattle.gf_basis.specs.BasisParts.{elements_of, IsOver}
 use Rattle.gf_basis.specs.declared.bases.Basis.{Basis}
 use Rattle.job_input.specs.declared.setting.Setting.{Setting}
@@ -31,6 +31,9 @@ use Rattle.job_input.specs.SettingValue.{SettingValue}
 abbrev pub any_degree : AnyField → ℕ
 any_degree (Base field) = degree_of (ring_of field)
 any_degree (Tower field) = degree_of (ring_of (base_of (ring_of field))) * size_of (ring_of field)
+any_degree (Upper field) =
+    let lower = ring_of (base_of (ring_of field)) in
+    degree_of (ring_of (base_of lower)) * size_of lower * size_of (ring_of field)
 
 -- the product of the field
 abbrev pub any_product : AnyField → ℕ → ℕ → ℕ
@@ -38,6 +41,12 @@ any_product (Base field) = quotient_product 1 (degree_of (ring_of field)) bit_mu
 any_product (Tower field) =
     let base = ring_of (base_of (ring_of field)) in
     quotient_product (degree_of base) (size_of (ring_of field)) (quotient_product 1 (degree_of base) bit_mul (modulus_of base)) (tower_polynomial (degree_of base) (coefficients_of (ring_of field)))
+any_product (Upper field) =
+    let lower = ring_of (base_of (ring_of field)) in
+    let base = ring_of (base_of lower) in
+    let degree = degree_of base * size_of lower in
+    let product = quotient_product (degree_of base) (size_of lower) (quotient_product 1 (degree_of base) bit_mul (modulus_of base)) (tower_polynomial (degree_of base) (coefficients_of lower)) in
+    quotient_product degree (size_of (ring_of field)) product (tower_polynomial degree (coefficients_of (ring_of field)))
 
 -- the elements of bases
 abbrev pub elements_of_each : List Basis → List (List ℕ)

@@ -51,7 +51,7 @@ fn signed_of(alloc: Global, text: &[u8]) -> Result<Signed, Stop>
         Ok(signature) => signature,
         Err(fault) => return Err(text_stop(fault)),
     };
-    match AnyField::new(signature.modulus(), signature.tower()) {
+    match AnyField::new(signature.modulus(), signature.tower(), &[]) {
         Ok(field) => Ok(Signed { signature, field }),
         Err(fault) => Err(refused(field_fault(fault))),
     }
@@ -88,5 +88,8 @@ fn field_fault(fault: FieldFault) -> SignatureFault
         FieldFault::BadLength => SignatureFault::Tower,
         FieldFault::BadCoefficient { .. } => SignatureFault::Tower,
         FieldFault::TowerNotIrreducible => SignatureFault::TowerPolynomial,
+        FieldFault::UpperBadLength => SignatureFault::Tower,
+        FieldFault::UpperBadCoefficient { .. } => SignatureFault::Tower,
+        FieldFault::UpperNotIrreducible => SignatureFault::TowerPolynomial,
     }
 }

@@ -9,7 +9,7 @@ use Rattle.gf_field.specs.Power.{power}
 use Rattle.poly_mixed.specs.Monomial.{Monomial, text_cmp}
 use Rattle.poly_mixed.specs.Sum.{plus, with_coefficient}
 use Rattle.poly_mixed.specs.Product.{times, AddsProduct}
-use Rattle.poly_mixed.specs.Polynomial.{Terms, Point, IsPoint, IsTerm, IsReduced, IsPolynomialOf, polynomial, term_value, value}
+use Rattle.poly_mixed.specs.Polynomial.{Terms, Point, IsPoint, IsTerm, IsReduced, IsPolynomialOf, term_value, value}
 use Rattle.poly_mixed.proofs.FieldLaws.{IsField, field_of}
 use Rattle.poly_mixed.proofs.Values.{one_element, zero_element, power_element, product_zero, product_by_zero, value-plus, reduced_plus}
 use Rattle.poly_mixed.proofs.Products.{term-times, term_value-times, product_nonzero, term_value_element, value_element, one_term}
@@ -88,12 +88,12 @@ module _ (k : ℕ) (mul : ℕ → ℕ → ℕ) (ring : IsRing k mul) (field : Ha
   pub some_constant : (c : ℕ) → c < 2 ^ k → HasPolynomial k mul (λ p. c)
   some_constant c less =
       let m : Monomial = record { exponents = zeros8; bits = [] } in
-      (with_coefficient m c [], bits_polynomial f [] m c (polynomial (with_coefficient m c [])) refl no_ranks_rise less refl)
+      (with_coefficient m c [], bits_polynomial f [] m c (record { terms = with_coefficient m c []; slots = [] }) refl no_ranks_rise less refl)
 
   pub some_bit : (rank : ℕ) → HasPolynomial k mul (λ p. cond (p.is_one rank) 1 0)
   some_bit rank =
       let m : Monomial = record { exponents = zeros8; bits = rank ∷ [] } in
-      let is = bits_polynomial f (rank ∷ []) m 1 (polynomial (with_coefficient m 1 [])) refl (one_rank_rises rank) (one_element f) refl in
+      let is = bits_polynomial f (rank ∷ []) m 1 (record { terms = with_coefficient m 1 []; slots = [] }) refl (one_rank_rises rank) (one_element f) refl in
       (with_coefficient m 1 [], record { reduced = is.reduced; values = λ p at. is.values p at ∙ single f rank 1 p })
 
   first_power : (x : ℕ) → x < 2 ^ k → mul 1 (power mul x 1) ≡ x
@@ -103,7 +103,7 @@ module _ (k : ℕ) (mul : ℕ → ℕ → ℕ) (ring : IsRing k mul) (field : Ha
   pub some_word : (w : ℕ) → w < 8 → HasPolynomial k mul (λ p. slice_index p.words w)
   some_word w low =
       let m : Monomial = record { exponents = set zeros8 w 1; bits = [] } in
-      let is = power_polynomial f w 1 1 m (polynomial (with_coefficient m 1 [])) low refl (one_element f) (one_element f) refl in
+      let is = power_polynomial f w 1 1 m (record { terms = with_coefficient m 1 []; slots = [] }) low refl (one_element f) (one_element f) refl in
       (with_coefficient m 1 [], record { reduced = is.reduced; values = λ p at. is.values p at ∙ first_power (slice_index p.words w) (element_in k p w at low) })
 
   pub some_power : (e : ℕ) (g : Point → ℕ) → HasPolynomial k mul g → HasPolynomial k mul (λ p. power mul (g p) e)

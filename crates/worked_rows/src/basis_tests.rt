@@ -62,9 +62,10 @@ fn check_bases<F: Field>(rt: &impl Abort, field: &F) {
 // The tower of Y^2 + Y + x over GF(4), in which 8 of the 16 elements have independent conjugates.
 #[test]
 fn bases_of_a_tower(rt: HostRuntime) {
-    let field = AnyField::new(0x7, &[2, 1]).expect(&rt, "a tower");
+    let field = AnyField::new(0x7, &[2, 1], &[]).expect(&rt, "a tower");
     match field {
         AnyField::Base(_field) => panic!(rt; "no tower"),
+        AnyField::Upper(_field) => panic!(rt; "a second step"),
         AnyField::Tower(field) => check_bases(&rt, &field),
     }
 }

@@ -65,5 +65,6 @@ fn values_in_64_bits(rt: HostRuntime) -> Result<(), Fail> {
             check_values(&rt, alloc, &field, &circuit, setting.bases.as_slice())
         }
         AnyField::Tower(_field) => panic!(rt; "no base field"),
+        AnyField::Upper(_field) => panic!(rt; "no base field"),
     }
 }

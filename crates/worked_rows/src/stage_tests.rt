@@ -178,6 +178,7 @@ fn check(
     match field {
         AnyField::Base(field) => check_over(rt, alloc, &field, signature, &mut shelf, largest),
         AnyField::Tower(field) => check_over(rt, alloc, &field, signature, &mut shelf, largest),
+        AnyField::Upper(field) => check_over(rt, alloc, &field, signature, &mut shelf, largest),
     }
 }
 

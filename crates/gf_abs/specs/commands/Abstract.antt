@@ -1,6 +1,6 @@
 -- The command `abstract`: the output word's polynomial in the input words. Source: Pruss, Kalla, Enescu, Word-Level Abstraction from
 -- Bit-Level Circuits Using Gröbner Bases, DAC 2014; the stages and the bound on their terms are this project's own.
-use Rattle.std.specs.Prelude.{ℕ, List, Option, length}
+use Rattle.std.specs.Prelude.{ℕ, Option, length}
 use Rattle.text_core.specs.Outcome.{Outcome, ◌>>=◌, Exactly, Within}
 use Rattle.job_io.specs.Shelf.{Files}
 use Rattle.net_words.specs.Binding.{BoundNet}

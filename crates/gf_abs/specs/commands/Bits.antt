@@ -1,6 +1,6 @@
 -- The command `bits`: the output word's polynomial in the bits of the input words. Source: Lv, Kalla, Enescu, IEEE TCAD 2013; the
 -- order of cuts and the bound on their terms are this project's own.
-use Rattle.std.specs.Prelude.{ℕ, List, Option, length}
+use Rattle.std.specs.Prelude.{ℕ, Option, length}
 use Rattle.text_core.specs.Outcome.{Outcome, ◌>>=◌, Exactly, Within}
 use Rattle.job_io.specs.Shelf.{Files}
 use Rattle.net_words.specs.Binding.{BoundNet}

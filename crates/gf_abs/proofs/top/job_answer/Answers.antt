@@ -40,3 +40,18 @@ returns-in-Tower-clause-gives g c =
     after printed c.signed_answer-in-Tower.result (SignedIn held c.args.command.now.signature.now) (λ signed. SignedAnswer held signed action) (signed_value c.in-Ok.signed)
     (Rose m0 m2) (Rose f0 f2) (Rose m1 m2) (Rose f1 f2) c.in-Ok.ensures.gives
     (rose_earlier m0 m1 m2 c.read_signed.ensures.never_fall.1) (rose_earlier f0 f1 f2 c.read_signed.ensures.never_fall.0) (subst P (sym c.in-Tower.is) (rw c.read_signed.ensures.held at c.signed_answer-in-Tower.ensures.gives))
+
+pub returns-in-Upper-clause-gives : goal.returns-in-Upper-clause-gives
+returns-in-Upper-clause-gives g c =
+    let held = g.S.Shelf.held c.args.shelf.now in
+    let action = action_of c.args.command.now.task in
+    let m0 = g.S.Shelf.misses c.args.shelf.now in
+    let m1 = g.S.Shelf.misses c.read_signed.new.shelf in
+    let m2 = g.S.Shelf.misses c.signed_answer-in-Upper.new.shelf in
+    let f0 = g.S.Shelf.faults c.args.shelf.now in
+    let f1 = g.S.Shelf.faults c.read_signed.new.shelf in
+    let f2 = g.S.Shelf.faults c.signed_answer-in-Upper.new.shelf in
+    let P : AnyField → Type 0 = λ f. GivesBy printed c.signed_answer-in-Upper.result (SignedAnswer held (record { signature = c.in-Ok.signed.signature; field = field_value f }) action) (Rose m1 m2) (Rose f1 f2) in
+    after printed c.signed_answer-in-Upper.result (SignedIn held c.args.command.now.signature.now) (λ signed. SignedAnswer held signed action) (signed_value c.in-Ok.signed)
+    (Rose m0 m2) (Rose f0 f2) (Rose m1 m2) (Rose f1 f2) c.in-Ok.ensures.gives
+    (rose_earlier m0 m1 m2 c.read_signed.ensures.never_fall.1) (rose_earlier f0 f1 f2 c.read_signed.ensures.never_fall.0) (subst P (sym c.in-Upper.is) (rw c.read_signed.ensures.held at c.signed_answer-in-Upper.ensures.gives))

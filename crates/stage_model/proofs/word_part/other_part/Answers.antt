@@ -4,7 +4,6 @@ use Rattle.std.specs.List.Sorted.{IsStrictlySortedBy}
 use Rattle.std.specs.Ordering.{nat_cmp}
 use Rattle.gf_basis.specs.BasisParts.{elements_of}
 use Rattle.poly_mixed.specs.Monomial.{Monomial}
-use Rattle.poly_mixed.specs.Polynomial.{Polynomial}
 use Rattle.poly_mixed.specs.Sum.{with_coefficient}
 use Rattle.poly_mixed.proofs.FieldLaws.{field_of}
 use Rattle.poly_mixed.proofs.Cofactors.{rising-filter}
@@ -32,4 +31,4 @@ returns g c =
     let exps : c.exponents.result.now ≡ t.0.exponents = c.exponents.ensures.value ∙ ap (λ (m : Monomial). m.exponents) c.mono-2.ensures in
     let made : c.in_ok-mono.mono ≡ record { exponents = t.0.exponents; bits = filter (λ r. not (is_of_word k c.args.word r)) ys } = c.in_ok-mono.ensures ∙ (λ i. record { exponents = exps i; bits = is i }) in
     product_first (field_of k mul (g.met.F.Ring.laws c.args.field.now) (g.met.F.Field.no_zero_divisors c.args.field.now)) (elements_of c.args.basis.now) c.args.word t c.requires.term c.in_ok-mono.mono c.in_ok-poly.poly.terms made
-    (ap (λ (q : Polynomial). q.terms) c.in_ok-poly.ensures ∙ ap (λ x. with_coefficient c.in_ok-mono.mono x []) c.coefficient.ensures)
+    (c.in_ok-poly.ensures ∙ ap (λ x. with_coefficient c.in_ok-mono.mono x []) c.coefficient.ensures)

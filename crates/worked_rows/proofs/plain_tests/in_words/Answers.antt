@@ -9,7 +9,6 @@ use Rattle.stage_model.specs.CircuitListing.{bound_cuts}
 use Rattle.stage_model.specs.Listing.{AreAllWithin}
 use Rattle.stage_model.specs.Stage.{IsOfStage}
 use Rattle.job_input.specs.Setting.{elements_of_each}
-use Rattle.gf_abs.proofs.EngineLemmas.{bound_within}
 use Rattle.gf_abs.proofs.StageLemmas.{IsJob, few, no_words}
 use Rattle.worked_rows.proofs.plain_tests.in_words.Goals as goal
 
@@ -40,6 +39,6 @@ to_words-requires-clause-few g c =
     let L : List ℕ → Type 0 = λ e. IsOfStage degree mul (BoundCut circuit e (length circuit.net.gates)) c.in-Ok.bits.terms in
     let last = subst L basis c.in-Ok.ensures.last in
     let N : List ℕ → Type 0 = λ e. AreAllWithin degree mul (bound_cuts circuit e) 4294967295 in
-    let none = subst N basis (bound_within degree mul circuit (elements_of c.output_basis-basis.result.now) 4294967295 c.in-Ok.ensures.within) in
+    let none = subst N basis c.in-Ok.ensures.within in
     let small : length c.in-Ok.bits.terms ≤ 4294967295 = few degree mul circuit bases job 4294967295 c.in-Ok.bits.terms last none in
     omega (arith, small)

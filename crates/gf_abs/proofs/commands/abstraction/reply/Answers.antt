@@ -1,4 +1,4 @@
-use Rattle.std.proofs.Common.{◌≡◌, ◌≤◌, ◌∙◌, ◌+◌, ◌++◌, List, ℕ, ap, sym, subst, refl, codes, length, arith}
+use Rattle.std.proofs.Common.{◌≡◌, ◌≤◌, ◌∙◌, ◌++◌, List, ℕ, ap, sym, subst, codes, length, arith}
 use Rattle.text_core.specs.Outcome.{Exactly, Within}
 use Rattle.net_core.specs.NetList.{NetList}
 use Rattle.net_core.specs.Sound.{IsSound}
@@ -23,7 +23,6 @@ use Rattle.gf_abs.specs.Reply.{printed, prints}
 use Rattle.gf_abs.specs.commands.Bits.{bits_stages}
 use Rattle.gf_abs.specs.commands.Abstract.{taken_circuit, IsInWords, AbstractOf}
 use Rattle.gf_abs.specs.private.StageStop.{IsNamed, IsStageStop}
-use Rattle.gf_abs.proofs.EngineLemmas.{bound_within, bound_refusal, words_within, words_refusal}
 use Rattle.gf_abs.proofs.RefusalLemmas.{earlier_refused, later_refused, cuts_named, words_named}
 use Rattle.gf_abs.proofs.StageLemmas.{IsJob, whole, based, few, no_words, terms_named}
 use Rattle.gf_abs.proofs.WordsLemmas.{as_many}
@@ -34,7 +33,7 @@ stage_stop-requires g c =
     let degree = g.F.Ring.degree c.args.field.now in
     let mul = g.F.Ring.product c.args.field.now in
     let elements = elements_of c.output_basis-basis.result.now in
-    cuts_named degree mul c.args.circuit.now elements (length c.in_ok-labels.labels.words) c.args.bound c.in-Err.fault (bound_refusal degree mul c.args.circuit.now elements c.args.bound c.in-Err.fault c.in-Err.ensures.fault)
+    cuts_named degree mul c.args.circuit.now elements (length c.in_ok-labels.labels.words) c.args.bound c.in-Err.fault c.in-Err.ensures.fault
 
 pub returns-in-Err : goal.returns-in-Err
 returns-in-Err g c =
@@ -47,7 +46,7 @@ returns-in-Err g c =
     let setting : SettingValue = record { signature = c.args.signature.now; k = degree; product = mul; bases = elements_of_each bases } in
     let same : c.in_ok-labels.labels ≡ labels_of degree c.args.signature.now.words = c.in_ok-labels.ensures ∙ (λ i. labels_of (c.k.ensures i) (c.words.ensures i)) in
     let R : List ℕ → Type 0 = λ e. IsRefusal degree mul (bound_cuts circuit e) c.args.bound c.in-Err.fault in
-    let refusal = subst R basis (bound_refusal degree mul circuit (elements_of c.output_basis-basis.result.now) c.args.bound c.in-Err.fault c.in-Err.ensures.fault) in
+    let refusal = subst R basis c.in-Err.ensures.fault in
     let S : Labelling → Type 0 = λ l. IsStageStop l c.in-Err.fault c.args.bound c.stage_stop.result in
     let stop = subst S same c.stage_stop.ensures in
     let view : Terms → Terms = λ ts. ts in
@@ -79,7 +78,7 @@ to_words-requires-clause-few g c =
     c.output_basis-basis.ensures.basis ∙ ap (λ (b : Binding). output_basis b.words (elements_of_each bases)) c.bound.ensures.bound in
     let L : List ℕ → Type 0 = λ e. IsOfStage degree mul (BoundCut circuit e (length circuit.net.gates)) c.in-Ok.bits.terms in
     let W : List ℕ → Type 0 = λ e. AreAllWithin degree mul (bound_cuts circuit e) c.args.bound in
-    let within = subst W basis (bound_within degree mul circuit (elements_of c.output_basis-basis.result.now) c.args.bound c.in-Ok.ensures.within) in
+    let within = subst W basis c.in-Ok.ensures.within in
     let small : length c.in-Ok.bits.terms ≤ c.args.bound = few degree mul circuit bases job c.args.bound c.in-Ok.bits.terms (subst L basis c.in-Ok.ensures.last) within in
     omega (arith, small, c.ranges.bound.fits)
 
@@ -94,7 +93,7 @@ stage_stop-requires-in-Err-to_words g c =
     let same : c.in_ok-labels.labels ≡ labels_of degree c.args.signature.now.words = c.in_ok-labels.ensures ∙ (λ i. labels_of (c.k.ensures i) (c.words.ensures i)) in
     let circuit' = whole degree mul circuit bases job in
     let count : length circuit'.words ≡ length (word_labels degree c.args.signature.now.words) = as_many degree circuit.bound.words c.args.signature.now.words (elements_of_each bases) (based degree mul circuit bases job).long c.requires.roles in
-    let is = words_named degree mul circuit' (length (word_labels degree c.args.signature.now.words)) c.args.bound c.in-Err-to_words.fault count (words_refusal circuit' c.args.bound c.in-Err-to_words.fault c.in-Err-to_words.ensures.fault) in
+    let is = words_named degree mul circuit' (length (word_labels degree c.args.signature.now.words)) c.args.bound c.in-Err-to_words.fault count c.in-Err-to_words.ensures.fault in
     let Q : Labelling → Type 0 = λ l. IsNamed (length l.words) c.in-Err-to_words.fault in
     subst Q (sym same) is
 
@@ -109,8 +108,8 @@ returns-in-Err-to_words g c =
     let setting : SettingValue = record { signature = c.args.signature.now; k = degree; product = mul; bases = elements_of_each bases } in
     let same : c.in_ok-labels.labels ≡ labels_of degree c.args.signature.now.words = c.in_ok-labels.ensures ∙ (λ i. labels_of (c.k.ensures i) (c.words.ensures i)) in
     let W : List ℕ → Type 0 = λ e. AreAllWithin degree mul (bound_cuts circuit e) c.args.bound in
-    let within = subst W basis (bound_within degree mul circuit (elements_of c.output_basis-basis.result.now) c.args.bound c.in-Ok.ensures.within) in
-    let refusal = words_refusal (taken_circuit setting circuit) c.args.bound c.in-Err-to_words.fault c.in-Err-to_words.ensures.fault in
+    let within = subst W basis c.in-Ok.ensures.within in
+    let refusal = c.in-Err-to_words.ensures.fault in
     let S : Labelling → Type 0 = λ l. IsStageStop l c.in-Err-to_words.fault c.args.bound c.stage_stop-in-Err-to_words.result in
     let stop = subst S same c.stage_stop-in-Err-to_words.ensures in
     let view : Terms → Terms = λ ts. ts in
@@ -141,8 +140,8 @@ returns g c =
     let setting : SettingValue = record { signature = c.args.signature.now; k = degree; product = mul; bases = elements_of_each bases } in
     let same : c.in_ok-labels.labels ≡ labels_of degree c.args.signature.now.words = c.in_ok-labels.ensures ∙ (λ i. labels_of (c.k.ensures i) (c.words.ensures i)) in
     let W : List ℕ → Type 0 = λ e. AreAllWithin degree mul (bound_cuts circuit e) c.args.bound in
-    let within = subst W basis (bound_within degree mul circuit (elements_of c.output_basis-basis.result.now) c.args.bound c.in-Ok.ensures.within) in
-    let words = words_within (taken_circuit setting circuit) c.args.bound c.in-Ok-to_words.ensures.within in
+    let within = subst W basis c.in-Ok.ensures.within in
+    let words = c.in-Ok-to_words.ensures.within in
     let ts = c.in-Ok-to_words.poly.terms in (
       ts,
       (c.in-Ok-to_words.ensures.words, both_within degree mul (bits_stages setting circuit) (word_listing (taken_circuit setting circuit)) c.args.bound within words),

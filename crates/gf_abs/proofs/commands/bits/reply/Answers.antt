@@ -1,4 +1,4 @@
-use Rattle.std.proofs.Common.{◌≡◌, ◌∙◌, ◌+◌, ◌++◌, List, ℕ, ap, sym, subst, refl, codes, length}
+use Rattle.std.proofs.Common.{◌≡◌, ◌∙◌, ◌++◌, List, ℕ, ap, sym, subst, codes, length}
 use Rattle.text_core.specs.Outcome.{Exactly, Within}
 use Rattle.net_core.specs.NetList.{NetList}
 use Rattle.net_core.specs.Sound.{IsSound}
@@ -20,7 +20,6 @@ use Rattle.job_input.specs.SettingValue.{SettingValue}
 use Rattle.gf_abs.specs.Reply.{printed, prints}
 use Rattle.gf_abs.specs.commands.Bits.{bits_stages, IsLastCut, BitsOf}
 use Rattle.gf_abs.specs.private.StageStop.{IsStageStop}
-use Rattle.gf_abs.proofs.EngineLemmas.{bound_within, bound_refusal}
 use Rattle.gf_abs.proofs.NamedLemmas.{named}
 use Rattle.gf_abs.proofs.RefusalLemmas.{one_refused, cuts_named}
 use Rattle.gf_abs.proofs.commands.bits.reply.Goals as goal
@@ -30,7 +29,7 @@ stage_stop-requires g c =
     let degree = g.F.Ring.degree c.args.field.now in
     let mul = g.F.Ring.product c.args.field.now in
     let elements = elements_of c.output_basis-basis.result.now in
-    cuts_named degree mul c.args.circuit.now elements (length c.in_ok-labels.labels.words) c.args.bound c.in-Err.fault (bound_refusal degree mul c.args.circuit.now elements c.args.bound c.in-Err.fault c.in-Err.ensures.fault)
+    cuts_named degree mul c.args.circuit.now elements (length c.in_ok-labels.labels.words) c.args.bound c.in-Err.fault c.in-Err.ensures.fault
 
 pub returns-in-Err : goal.returns-in-Err
 returns-in-Err g c =
@@ -43,7 +42,7 @@ returns-in-Err g c =
     let setting : SettingValue = record { signature = c.args.signature.now; k = degree; product = mul; bases = elements_of_each bases } in
     let same : c.in_ok-labels.labels ≡ labels_of degree c.args.signature.now.words = c.in_ok-labels.ensures ∙ (λ i. labels_of (c.k.ensures i) (c.words.ensures i)) in
     let R : List ℕ → Type 0 = λ e. IsRefusal degree mul (bound_cuts circuit e) c.args.bound c.in-Err.fault in
-    let refusal = subst R basis (bound_refusal degree mul circuit (elements_of c.output_basis-basis.result.now) c.args.bound c.in-Err.fault c.in-Err.ensures.fault) in
+    let refusal = subst R basis c.in-Err.ensures.fault in
     let S : Labelling → Type 0 = λ l. IsStageStop l c.in-Err.fault c.args.bound c.stage_stop.result in
     let stop = subst S same c.stage_stop.ensures in
     let view : Terms → Terms = λ ts. ts in
@@ -77,5 +76,5 @@ returns g c =
     let ts = c.in-Ok.poly.terms in
     let L : List ℕ → Type 0 = λ e. IsOfStage degree mul (BoundCut circuit e (length circuit.net.gates)) ts in
     let W : List ℕ → Type 0 = λ e. AreAllWithin degree mul (bound_cuts circuit e) c.args.bound in
-    let within = subst W basis (bound_within degree mul circuit (elements_of c.output_basis-basis.result.now) c.args.bound c.in-Ok.ensures.within) in
+    let within = subst W basis c.in-Ok.ensures.within in
     (ts, (subst L basis c.in-Ok.ensures.last, within), ap (λ (t : List ℕ). record { status = 0; text = t }) (c.in_ok-line.ensures ∙ ap (λ (l : Labelling). l.output ++ (codes " = " ++ (text l ts ++ codes "\n"))) same))

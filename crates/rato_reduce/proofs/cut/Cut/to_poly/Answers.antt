@@ -1,7 +1,6 @@
 use Rattle.std.proofs.Common.{◌≡◌, List, ℕ, [], map, sym, ◌∙◌, ap, subst}
 use Rattle.std.specs.List.{AllByRecursion}
 use Rattle.poly_mixed.specs.Monomial.{text_cmp}
-use Rattle.poly_mixed.specs.Polynomial.{Polynomial}
 use Rattle.poly_mixed.specs.Sum.{plus}
 use Rattle.rato_reduce.specs.CutKey.{CutKey}
 use Rattle.rato_reduce.specs.CutTerms.{CutPolynomial, IsBitTerm, term_of}
@@ -11,7 +10,7 @@ use Rattle.rato_reduce.proofs.cut.Cut.to_poly.Goals as goal
 pub loop-key-init : goal.loop-key-init
 loop-key-init c =
     let all : c.into_iter-key-iterator.result ≡ c.self.inside.map.entries = c.into_iter-key-iterator.ensures.into_iter_gives.0 in
-    let zero : c.zero-sum.result.terms ≡ [] = ap (λ (q : Polynomial). q.terms) c.zero-sum.ensures in
+    let zero : c.zero-sum.result.terms ≡ [] = c.zero-sum.ensures in
     let P : List (CutKey × ℕ) → Type 0 = λ es. AllByRecursion IsBitTerm (map term_of es) in
     record {
       each = subst P (sym all) (entry_terms c.self.inside.places.items c.self.inside.map.entries c.self.invariant.each);
