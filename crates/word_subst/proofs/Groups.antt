@@ -96,13 +96,13 @@ pub only_powers : (w k : ℕ) (gs : Groups) → AllByRecursion (IsGroup w k) gs 
 only_powers w k [] all = tt
 only_powers w k (g ∷ gs) all = (all.0.powers, only_powers w k gs all.1)
 
+pub some_powers : (k : ℕ) (us : Powers) → IsUnivariate k us → AllByRecursion (λ t. t.1 ≢ 0) us
+some_powers k [] is = tt
+some_powers k (u ∷ us) is = (is.powers.0.some, some_powers k us (record { rising = is.rising.1; powers = is.powers.1 }))
+
 pub some_of_groups : (w k : ℕ) (gs : Groups) → AllByRecursion (IsGroup w k) gs → AllByRecursion (λ g. AllByRecursion (λ t. t.1 ≢ 0) g.1) gs
 some_of_groups w k [] all = tt
-some_of_groups w k (g ∷ gs) all = (some g.1 all.0.powers, some_of_groups w k gs all.1)
-  where
-    some : (us : Powers) → IsUnivariate k us → AllByRecursion (λ t. t.1 ≢ 0) us
-    some [] is = tt
-    some (u ∷ us) is = (is.powers.0.some, some us (record { rising = is.rising.1; powers = is.powers.1 }))
+some_of_groups w k (g ∷ gs) all = (some_powers k g.1 all.0.powers, some_of_groups w k gs all.1)
 
 module _ {k : ℕ} {mul : ℕ → ℕ → ℕ} (f : IsField k mul) (w : ℕ) (inside : w < 8) (m : Monomial) (part : Powers) (old new : Groups) (before after : ℕ) (rest : IsRest w k m) (is : IsUnivariate k part) (all : AllByRecursion (IsGroup w k) old) (up : IsStrictlySortedBy text_cmp (keys_of old)) (added : IsAdded k mul m part old new before after) where
   pub new_groups : AllByRecursion (IsGroup w k) new

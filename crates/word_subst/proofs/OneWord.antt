@@ -10,6 +10,8 @@ use Rattle.poly_mixed.specs.Monomial.{Monomial, text_cmp}
 use Rattle.poly_mixed.specs.Sum.{plus}
 use Rattle.poly_mixed.proofs.FieldLaws.{IsField}
 use Rattle.std.specs.List.{AllByRecursion}
+use Rattle.std.specs.List.Sorted.{IsStrictlySortedBy}
+use Rattle.std.specs.Map.{keys_of}
 use Rattle.poly_mixed.specs.Polynomial.{Terms, IsReduced, value}
 use Rattle.poly_mixed.specs.Steps.{Step}
 use Rattle.poly_mixed.specs.declared.stage.ReduceFault.{ReduceFault}
@@ -22,9 +24,9 @@ use Rattle.word_subst.specs.ReadSteps.{AreFirstSteps, AreReadSteps, TellsFirst, 
 use Rattle.word_subst.specs.ReadRefusal.{IsTermRefusal, IsWordRefusal}
 use Rattle.poly_mixed.proofs.Recorders.{tells_none, tells_more}
 use Rattle.stage_model.proofs.WordPolyLemmas.{sum_next}
-use Rattle.word_subst.specs.Spread.{Groups, IsGroup, all_terms}
+use Rattle.word_subst.specs.Spread.{Groups, total, IsGroup, all_terms}
 use Rattle.word_subst.specs.Rest.{AddsTerm}
-use Rattle.word_subst.proofs.Spreads.{gathered_reduced, gathered_value, groups_terms, groups_nonzero}
+use Rattle.word_subst.proofs.Spreads.{nothing_sorted, gathered_reduced, gathered_value, groups_terms, groups_nonzero}
 
 -- the term at an index that the code reads
 pub term_read : (items terms : Terms) (s : ℕ) (t : Monomial × ℕ) → items ≡ terms → s < length items → t ≡ get_or items s t → slice_get terms s ≡ Some t
@@ -95,6 +97,11 @@ module _ (k : ℕ) (mul : ℕ → ℕ → ℕ) (elements : List ℕ) (w : ℕ) (
 module _ {k : ℕ} {mul : ℕ → ℕ → ℕ} (f : IsField k mul) (elements : List ℕ) (w : ℕ) (inside : w < 8) (terms : Terms) where
   groups_reduced : (gs : Groups) → AllByRecursion (IsGroup w k) gs → IsReduced k (plus text_cmp [] (all_terms w gs))
   groups_reduced gs all = gathered_reduced f (all_terms w gs) (groups_terms w k inside gs all) (groups_nonzero w k inside gs all)
+
+  pub nothing_summed : (bound : ℕ) (gs : Groups) → gs ≡ [] → AllByRecursion (IsGroup w k) gs × IsStrictlySortedBy text_cmp (keys_of gs) × IsSumOf k mul elements w terms 0 (plus text_cmp [] (all_terms w gs)) × (total gs ≤ bound)
+  nothing_summed bound gs none =
+      let P : Groups → Type 0 = λ hs. AllByRecursion (IsGroup w k) hs × IsStrictlySortedBy text_cmp (keys_of hs) × IsSumOf k mul elements w terms 0 (plus text_cmp [] (all_terms w hs)) × (total hs ≤ bound) in
+      subst P (sym none) (tt, nothing_sorted, record { reduced = gathered_reduced f [] tt tt; values = λ p d at bits. refl }, omega arith)
 
   pub sum_added : (i : ℕ) (t : Monomial × ℕ) (old new : Groups) → slice_get terms i ≡ Some t → AllByRecursion (IsGroup w k) old → AllByRecursion (IsGroup w k) new → IsSumOf k mul elements w terms i (plus text_cmp [] (all_terms w old)) → AddsTerm k mul elements w t old new
       → IsSumOf k mul elements w terms (i + 1) (plus text_cmp [] (all_terms w new))
