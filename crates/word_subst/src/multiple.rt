@@ -50,7 +50,10 @@ fn times_power<F: Field>(
     let table = field.times(c);
     let mut out = Univariate::zero(alloc);
     for (e, d) in powers {
-        out.push(sum_exponent(k, *e, exponent), product_by(field, c, &table, *d))?;
+        out.push(
+            sum_exponent(k, *e, exponent),
+            product_by(field, c, &table, *d),
+        )?;
     }
     Ok(out)
 }
