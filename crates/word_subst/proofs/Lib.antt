@@ -1,8 +1,15 @@
-mod FormList
 mod Rising
+mod Univariates
+mod Multiples
+mod Prefixes
+mod Spreads
+mod Groups
+mod TermParts
+mod FormList
 mod Around
 mod Multiplier
 mod OneTerm
+mod Told
 mod OneWord
 mod Lifted
 mod PlaceList

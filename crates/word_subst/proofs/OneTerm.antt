@@ -5,9 +5,7 @@ use Rattle.std.specs.List.{filter}
 use Rattle.std.proofs.lemmas.Bool.{cases_eq}
 use Rattle.graph_core.proofs.ListLemmas.{got_push, length-push, got_read}
 use Rattle.poly_mixed.specs.Monomial.{Monomial}
-use Rattle.poly_mixed.specs.Polynomial.{Polynomial, Terms, IsTerm, IsReduced}
-use Rattle.poly_mixed.specs.Product.{IsProduct}
-use Rattle.poly_mixed.proofs.FieldLaws.{IsField}
+use Rattle.poly_mixed.specs.Polynomial.{Terms, IsTerm}
 use Rattle.poly_mixed.specs.Steps.{Step}
 use Rattle.poly_mixed.specs.declared.steps.Generator.TheVariants.{Bit}
 use Rattle.poly_mixed.specs.declared.stage.ReduceFault.{ReduceFault}
@@ -15,9 +13,8 @@ use Rattle.poly_mixed.specs.declared.stage.ReduceFault.TheVariants.{TooManyTerms
 use Rattle.poly_mixed.specs.declared.stage.Stage.TheVariants.{WordProduct}
 use Rattle.poly_mixed.proofs.Cofactors.{rising-filter}
 use Rattle.stage_model.specs.WordStage.{is_of_word, word_bits}
-use Rattle.stage_model.specs.PlainWord.{IsReading, IsBitOf, IsProductOf}
-use Rattle.stage_model.proofs.WordPolyLemmas.{filter_passes, own_range, own_is, product_next}
-use Rattle.word_subst.specs.Forms.{AreForms}
+use Rattle.stage_model.specs.PlainWord.{IsReading, IsProductOf}
+use Rattle.stage_model.proofs.WordPolyLemmas.{filter_passes, own_range, own_is}
 use Rattle.word_subst.specs.Multiplier.{TellsMultiplier}
 use Rattle.word_subst.specs.Read.{HasWithin, product_at, multiplier_at, AreProductsWithin}
 use Rattle.word_subst.specs.ReadSteps.{IsReadStep, TellsFirst}
@@ -123,10 +120,3 @@ module _ (k w : ℕ) (t : Monomial × ℕ) where
         here j r place ts full got is =
             let M : ℕ → Type 0 = λ n. IsReading k mul elements w (multiplier_at k mul w t n) ts in
             record { place = place; at = got ∙ ap Some (sym full); generator = refl; multiplier = subst M (sym full) is }
-
-    -- the product with one bit more
-    pub turn : IsField k mul → IsTerm k t → (count j r : ℕ) (forms : List Polynomial) (form : Polynomial) (old new : Terms) → count ≡ k → slice_get (word_bits k w t) j ≡ Some r → AreForms k mul elements w forms
-        → slice_get forms (r - count * w) ≡ Some form → IsProductOf k mul elements w t j old → IsReduced k new → IsProduct k mul new old form.terms → IsProductOf k mul elements w t (j + 1) new
-    turn f is count j r forms form old new same got are at before reduced product =
-        let P : ℕ → Type 0 = λ x. IsBitOf k mul elements w (r - x * w) form.terms in
-        product_next f elements w t is j r old form.terms new got before (subst P same (are.each (r - count * w) form at)) reduced product

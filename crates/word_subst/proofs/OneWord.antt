@@ -1,13 +1,18 @@
 -- One word, term by term.
-use Rattle.std.proofs.Common.{◌≡◌, ◌∙◌, ap, sym, refl, subst, inl, inr, ℕ, ◌<◌, ◌≤◌, ◌+◌, List, [], ◌∷◌, ◌++◌, length, take, get_or, Option, Some, arith, append-nil}
+use Rattle.std.proofs.Common.{◌≡◌, ◌∙◌, ap, sym, refl, subst, inl, inr, ℕ, ◌<◌, ◌≤◌, ◌+◌, List, [], ◌∷◌, ◌++◌, length, take, get_or, Option, Some, arith, append-nil, bit_xor}
 use Rattle.std.specs.Prelude.{slice_get}
 use Rattle.std.proofs.lemmas.Bool.{cases_eq}
 use Rattle.std.proofs.lemmas.List.{append_assoc, take_more}
 use Rattle.std.proofs.lemmas.Option.{slice_get_within, get_or_from_slice_get}
 use Rattle.std.proofs.Math.Seq.{take-length}
 use Rattle.graph_core.proofs.ListLemmas.{got_read}
-use Rattle.poly_mixed.specs.Monomial.{Monomial}
-use Rattle.poly_mixed.specs.Polynomial.{Terms}
+use Rattle.poly_mixed.specs.Monomial.{Monomial, text_cmp}
+use Rattle.poly_mixed.specs.Sum.{plus}
+use Rattle.poly_mixed.proofs.FieldLaws.{IsField}
+use Rattle.std.specs.List.{AllByRecursion}
+use Rattle.std.specs.List.Sorted.{IsStrictlySortedBy}
+use Rattle.std.specs.Map.{keys_of}
+use Rattle.poly_mixed.specs.Polynomial.{Terms, IsReduced, value}
 use Rattle.poly_mixed.specs.Steps.{Step}
 use Rattle.poly_mixed.specs.declared.stage.ReduceFault.{ReduceFault}
 use Rattle.poly_mixed.specs.declared.stage.ReduceFault.TheVariants.{TooManyTerms, OutOfMemory}
@@ -18,6 +23,10 @@ use Rattle.word_subst.specs.Read.{HasWithin, sum_at, IsTermWithin, AreTermsWithi
 use Rattle.word_subst.specs.ReadSteps.{AreFirstSteps, AreReadSteps, TellsFirst, TellsTerms}
 use Rattle.word_subst.specs.ReadRefusal.{IsTermRefusal, IsWordRefusal}
 use Rattle.poly_mixed.proofs.Recorders.{tells_none, tells_more}
+use Rattle.stage_model.proofs.WordPolyLemmas.{sum_next}
+use Rattle.word_subst.specs.Spread.{Groups, total, IsGroup, all_terms}
+use Rattle.word_subst.specs.Rest.{AddsTerm}
+use Rattle.word_subst.proofs.Spreads.{nothing_sorted, gathered_reduced, gathered_value, groups_terms, groups_nonzero}
 
 -- the term at an index that the code reads
 pub term_read : (items terms : Terms) (s : ℕ) (t : Monomial × ℕ) → items ≡ terms → s < length items → t ≡ get_or items s t → slice_get terms s ≡ Some t
@@ -82,3 +91,20 @@ module _ (k : ℕ) (mul : ℕ → ℕ → ℕ) (elements : List ℕ) (w : ℕ) (
   all_told n old new same told =
       let P : Terms → Type 0 = λ ts. TellsTerms k mul elements w ts old new in
       subst P (ap (λ m. take m terms) same ∙ take-length terms) told
+
+-- ---- the sum of the terms
+
+module _ {k : ℕ} {mul : ℕ → ℕ → ℕ} (f : IsField k mul) (elements : List ℕ) (w : ℕ) (inside : w < 8) (terms : Terms) where
+  groups_reduced : (gs : Groups) → AllByRecursion (IsGroup w k) gs → IsReduced k (plus text_cmp [] (all_terms w gs))
+  groups_reduced gs all = gathered_reduced f (all_terms w gs) (groups_terms w k inside gs all) (groups_nonzero w k inside gs all)
+
+  pub nothing_summed : (bound : ℕ) (gs : Groups) → gs ≡ [] → AllByRecursion (IsGroup w k) gs × IsStrictlySortedBy text_cmp (keys_of gs) × IsSumOf k mul elements w terms 0 (plus text_cmp [] (all_terms w gs)) × (total gs ≤ bound)
+  nothing_summed bound gs none =
+      let P : Groups → Type 0 = λ hs. AllByRecursion (IsGroup w k) hs × IsStrictlySortedBy text_cmp (keys_of hs) × IsSumOf k mul elements w terms 0 (plus text_cmp [] (all_terms w hs)) × (total hs ≤ bound) in
+      subst P (sym none) (tt, nothing_sorted, record { reduced = gathered_reduced f [] tt tt; values = λ p d at bits. refl }, omega arith)
+
+  pub sum_added : (i : ℕ) (t : Monomial × ℕ) (old new : Groups) → slice_get terms i ≡ Some t → AllByRecursion (IsGroup w k) old → AllByRecursion (IsGroup w k) new → IsSumOf k mul elements w terms i (plus text_cmp [] (all_terms w old)) → AddsTerm k mul elements w t old new
+      → IsSumOf k mul elements w terms (i + 1) (plus text_cmp [] (all_terms w new))
+  sum_added i t old new at all more before added =
+      sum_next k mul elements w terms i t (plus text_cmp [] (all_terms w old)) added.part (plus text_cmp [] (all_terms w new)) (slice_get_within terms i t at) (get_or_from_slice_get terms i t t at) before added.is (groups_reduced new more)
+      (λ p at_p. gathered_value f p at_p (all_terms w new) (groups_terms w k inside new more) ∙ (added.values p at_p ∙ ap (λ n. bit_xor n (value mul p added.part)) (sym (gathered_value f p at_p (all_terms w old) (groups_terms w k inside old all)))))

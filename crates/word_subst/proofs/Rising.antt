@@ -15,10 +15,10 @@ drop_rises (suc n) [] up = tt
 drop_rises (suc n) (r ∷ rs) up = drop_rises n rs up.1
 
 -- the rest of a list, as a slice from a place on
-pub rest_is : (n : ℕ) (rs : List ℕ) → take (length rs - n) (drop n rs) ≡ drop n rs
+pub rest_is : {X : Type 0} (n : ℕ) (rs : List X) → take (length rs - n) (drop n rs) ≡ drop n rs
 rest_is n rs = take_all (length rs - n) (drop n rs) (omega (arith, long n rs))
   where
-    long : (m : ℕ) (xs : List ℕ) → length xs - m ≡ length (drop m xs)
+    long : {X : Type 0} (m : ℕ) (xs : List X) → length xs - m ≡ length (drop m xs)
     long zero xs = omega arith
     long (suc m) [] = omega arith
     long (suc m) (x ∷ xs) = let e : suc (length xs) - suc m ≡ length xs - m = omega arith in e ∙ long m xs

@@ -1,9 +1,17 @@
 -- The linear forms of the bits of a word. Source: Lidl and Niederreiter, Finite Fields, chapter 2 (dual bases and traces).
 use Rattle.std.specs.Prelude.{◌≡◌, ℕ, List, Some, length, slice_get}
-use Rattle.poly_mixed.specs.Polynomial.{Polynomial}
-use Rattle.stage_model.specs.PlainWord.{IsBitOf}
+use Rattle.std.specs.Int.{bit_at}
+use Rattle.gf_basis.specs.Basis.{AreBits}
+use Rattle.poly_mixed.specs.Polynomial.{IsElement}
+use Rattle.word_subst.specs.Univariate.{Powers, IsUnivariate, value_of}
 
--- for each place a polynomial of that bit of the word in its basis
-pub record AreForms (k : ℕ) (mul : ℕ → ℕ → ℕ) (elements : List ℕ) (word : ℕ) (forms : List Polynomial) : Type 0 where
-  pub long : length forms ≡ k
-  pub each : (place : ℕ) (form : Polynomial) → slice_get forms place ≡ Some form → IsBitOf k mul elements word place form.terms
+module _ (k : ℕ) (mul : ℕ → ℕ → ℕ) (elements : List ℕ) where
+  -- a polynomial in the word, whose value at an element is the bit at this place
+  pub record IsForm (place : ℕ) (us : Powers) : Type 0 where
+    pub univariate : IsUnivariate k us
+    pub values : (x d : ℕ) → IsElement k x → AreBits elements x d → value_of mul x us ≡ bit_at d place
+
+  -- for each place the form of that bit
+  pub record AreForms (forms : List Powers) : Type 0 where
+    pub long : length forms ≡ k
+    pub each : (place : ℕ) (form : Powers) → slice_get forms place ≡ Some form → IsForm place form

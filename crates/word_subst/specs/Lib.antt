@@ -6,3 +6,9 @@ pub mod Multiplier
 pub mod Read
 pub mod ReadSteps
 pub mod ReadRefusal
+pub mod Univariate
+pub mod Merge
+pub mod Multiple
+pub mod Prefix
+pub mod Spread
+pub mod Rest

@@ -4,11 +4,18 @@
 
 mod forms;
 mod laws;
+mod multiple;
 mod places;
 mod product;
+mod products;
+mod rest;
+mod size;
+mod sums;
+mod tell;
 mod term;
 #[cfg(test)]
 mod tests;
+mod univariate;
 mod word;
 mod words;
 

@@ -1,69 +1,109 @@
-//! One term with all its bits of a word read from the word.
-ghost use Rattle.std.specs.Prelude.{◌≡◌, ◌<◌, ◌≤◌, length, IfOk, IfErr, OnOk};
+//! One term with all its bits of the word read from the word.
+ghost use Rattle.std.specs.Prelude.{◌≡◌, ◌≢◌, ◌<◌, ◌^◌, length, slice_index, IfErr, OnOk};
+ghost use Rattle.std.specs.List.{AllByRecursion};
+ghost use Rattle.std.specs.List.Sorted.{IsStrictlySortedBy};
+ghost use Rattle.std.specs.Map.{keys_of};
 ghost use Rattle.gf_basis.specs.BasisParts.{elements_of};
-ghost use Rattle.poly_mixed.specs.Polynomial.{IsTerm};
+ghost use Rattle.poly_mixed.specs.Monomial.{text_cmp};
+ghost use Rattle.poly_mixed.specs.Polynomial.{IsElement, IsTerm};
 ghost use Rattle.stage_model.specs.WordStage.{word_bits};
-ghost use Rattle.stage_model.specs.PlainWord.{IsTermRead};
 ghost use Rattle.word_subst.specs.Forms.{AreForms};
+ghost use Rattle.word_subst.specs.Prefix.{AreProducts};
+ghost use Rattle.word_subst.specs.Spread.{total, IsGroup};
+ghost use Rattle.word_subst.specs.Rest.{AddsTerm};
 ghost use Rattle.word_subst.specs.Read.{IsTermWithin};
-ghost use Rattle.word_subst.specs.ReadSteps.{TellsFirst};
 ghost use Rattle.word_subst.specs.ReadRefusal.{IsTermRefusal};
 
-use crate::product::multiplied;
+use crate::multiple::scaled;
+use crate::products::BitProducts;
+use crate::rest::rest;
+use crate::sums::Sums;
+use crate::univariate::Univariate;
 use gf_basis::Basis;
 use gf_field::Field;
-use poly_mixed::{Generator, Poly, ReduceFault, Stage, Steps, Term};
-use stage_model::{other_part, own_ranks};
-use std::alloc::Global;
+use poly_mixed::{ReduceFault, Term};
+use std::alloc::{AllocError, Global};
 
-/// Refuses a stage of more terms than the bound.
-pub fn check_size(poly: &Poly, bound: u32, stage: Stage) -> Result<(), ReduceFault>
-    ensures within { OnOk result (length poly.now.terms ≤ bound) }
-    ensures over { IfErr result (λ fault. (fault ≡ ReduceFault.TooManyTerms stage (length poly.now.terms)) × (bound < length poly.now.terms)) }
+// Begins anew where the term has another power of the word than the term before.
+fn restart<F: Field>(
+    alloc: Global,
+    field: &F,
+    _basis: &Basis,
+    word: u32,
+    start: u64,
+    bound: u32,
+    products: &mut BitProducts,
+) -> Result<(), AllocError>
+    requires start { IsElement (F.degree field.now) start }
+    requires products { AreProducts (F.degree field.now) (F.product field.now) (elements_of _basis.now) word bound products.old }
+    ensures products { OnOk result (AreProducts (F.degree field.now) (F.product field.now) (elements_of _basis.now) word bound products.new) }
+    ensures start { OnOk result (products.new.start ≡ start) }
 {
-    let terms = poly.len() as u64;
-    if terms > u64::from(bound) {
-        return Err(ReduceFault::TooManyTerms { stage, terms });
+    if products.start() == start {
+        return Ok(());
     }
+    *products = BitProducts::new(alloc, field, word, start, bound)?;
     Ok(())
 }
 
-/// A term with all its bits of the word read from the word, bit by bit by rising place; `number` is its number, and
-/// `forms` are the linear forms of the word's bits. The recorder gets a pair for each of these bits. The fault is the first
-/// product of more than `bound` terms.
-pub fn replaced<F: Field, T: Steps>(
+/// Goes on to a term, which has this number and these bits of the word. The fault is its first product of more than
+/// `bound` terms.
+pub fn follow_term<F: Field>(
     alloc: Global,
     field: &F,
     basis: &Basis,
-    forms: &[Poly],
+    forms: &[Univariate],
     word: u32,
     number: u32,
     term: &Term,
+    own: &[u32],
     bound: u32,
-    steps: &mut T,
-) -> Result<Poly, ReduceFault>
+    products: &mut BitProducts,
+) -> Result<(), ReduceFault>
     requires word { word < 8 }
-    requires forms { AreForms (F.degree field.now) (F.product field.now) (elements_of basis.now) word forms.now }
+    requires forms { AreForms (F.degree field.now) (F.product field.now) (elements_of basis.now) forms.now }
     requires term { IsTerm (F.degree field.now) term.now }
-    ensures term { IfOk result (λ q. IsTermRead (F.degree field.now) (F.product field.now) (elements_of basis.now) word term.now q.terms) }
-    ensures within { OnOk result (IsTermWithin (F.degree field.now) (F.product field.now) (elements_of basis.now) word term.now bound) }
+    requires some { term.now.1 ≢ 0 }
+    requires own { own.now ≡ word_bits (F.degree field.now) word term.now }
+    requires products { AreProducts (F.degree field.now) (F.product field.now) (elements_of basis.now) word bound products.old }
+    ensures products { OnOk result (AreProducts (F.degree field.now) (F.product field.now) (elements_of basis.now) word bound products.new) }
+    ensures ranks { OnOk result (products.new.ranks ≡ word_bits (F.degree field.now) word term.now) }
+    ensures start { OnOk result (products.new.start ≡ slice_index term.now.0.exponents word) }
     ensures fault { IfErr result (IsTermRefusal (F.degree field.now) (F.product field.now) (elements_of basis.now) word term.now number bound) }
-    ensures steps { OnOk result (TellsFirst (F.degree field.now) (F.product field.now) (elements_of basis.now) word term.now (length (word_bits (F.degree field.now) word term.now)) (T.steps steps.old) (T.steps steps.new)) }
 {
-    let k = field.k();
-    let own = own_ranks(alloc, term.mono().bits(), k, word)?;
-    let mut product = other_part(alloc, field, basis, word, term)?;
-    for j in 0..own.len() {
-        let place = own[j] - k * word;
-        let form = &forms[place as usize];
-        let bit = Generator::Bit { word, place };
-        product = multiplied(alloc, field, &product, form, bit, &own[j + 1..], steps)?;
-        let stage = Stage::WordProduct {
-            word,
-            term: number,
-            bit: j as u32 + 1,
-        };
-        check_size(&product, bound, stage)?;
-    }
-    Ok(product)
+    let start = term.mono().exponents()[word as usize];
+    restart(alloc, field, basis, word, start, bound, products)?;
+    products.follow(alloc, field, basis, forms, word, own, number, bound)?;
+    Ok(())
+}
+
+/// Adds a term, read from the word, to the sum of the terms before.
+pub fn add_term<F: Field>(
+    alloc: Global,
+    field: &F,
+    _basis: &Basis,
+    word: u32,
+    term: &Term,
+    _bound: u32,
+    own: &[u32],
+    products: &BitProducts,
+    sums: &mut Sums,
+) -> Result<(), AllocError>
+    requires word { word < 8 }
+    requires term { IsTerm (F.degree field.now) term.now }
+    requires some { term.now.1 ≢ 0 }
+    requires own { own.now ≡ word_bits (F.degree field.now) word term.now }
+    requires products { AreProducts (F.degree field.now) (F.product field.now) (elements_of _basis.now) word _bound products.now }
+    requires ranks { products.now.ranks ≡ own.now }
+    requires start { products.now.start ≡ slice_index term.now.0.exponents word }
+    requires groups { AllByRecursion (IsGroup word (F.degree field.now)) sums.old }
+    requires few { total sums.old < 2 ^ 32 }
+    ensures groups { OnOk result (AllByRecursion (IsGroup word (F.degree field.now)) sums.new) }
+    ensures ordered { OnOk result (IsStrictlySortedBy text_cmp (keys_of sums.new)) }
+    ensures values { OnOk result (AddsTerm (F.degree field.now) (F.product field.now) (elements_of _basis.now) word term.now sums.old sums.new) }
+{
+    let part = scaled(alloc, field, products.at(own.len()), term.coefficient())?;
+    let others = rest(alloc, term.mono(), field.k(), word)?;
+    sums.add(alloc, field, word, others, part)?;
+    Ok(())
 }

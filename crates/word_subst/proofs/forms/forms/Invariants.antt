@@ -3,4 +3,4 @@ use Rattle.word_subst.proofs.FormList.{AreFirst}
 use Rattle.word_subst.proofs.forms.forms.Given as goal
 
 abbrev pub invariant-loop-place : goal.invariant-loop-place
-invariant-loop-place g l = AreFirst (g.F.Ring.degree l.field) (g.F.Ring.product l.field) (elements_of l.basis) l.word l.place l.list.items
+invariant-loop-place g l = AreFirst (g.F.Ring.degree l.field) (g.F.Ring.product l.field) (elements_of l.basis) l.place l.list.items

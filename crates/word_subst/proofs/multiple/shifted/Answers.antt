@@ -1,0 +1,25 @@
+use Rattle.std.proofs.Common.{refl, take, drop, length, ◌-◌}
+use Rattle.poly_mixed.proofs.FieldLaws.{field_of}
+use Rattle.word_subst.proofs.Multiples.{shifted_is}
+use Rattle.word_subst.proofs.multiple.shifted.Goals as goal
+
+pub plus-requires-clause-left : goal.plus-requires-clause-left
+plus-requires-clause-left g c =
+    let all = c.powers-all.result.now in
+    let n = c.low_count-n.result in
+    (shifted_is (field_of _ _ (g.met.F.Ring.laws c.args.field.now) (g.met.F.Field.no_zero_divisors c.args.field.now)) (c.args.exponent, c.args.c) c.requires.by n c.args.powers.now all (take n all) (take (length all - n) (drop n all)) c.in_ok-low.low c.in_ok-high.high c.in_ok-high.high c.requires.powers c.powers-all.ensures refl refl
+    c.low_count-n.ensures.low c.low_count-n.ensures.high c.in_ok-low.ensures c.in_ok-high.ensures).0.0
+
+pub plus-requires-clause-right : goal.plus-requires-clause-right
+plus-requires-clause-right g c =
+    let all = c.powers-all.result.now in
+    let n = c.low_count-n.result in
+    (shifted_is (field_of _ _ (g.met.F.Ring.laws c.args.field.now) (g.met.F.Field.no_zero_divisors c.args.field.now)) (c.args.exponent, c.args.c) c.requires.by n c.args.powers.now all (take n all) (take (length all - n) (drop n all)) c.in_ok-low.low c.in_ok-high.high c.in_ok-high.high c.requires.powers c.powers-all.ensures refl refl
+    c.low_count-n.ensures.low c.low_count-n.ensures.high c.in_ok-low.ensures c.in_ok-high.ensures).0.1
+
+pub returns : goal.returns
+returns g c =
+    let all = c.powers-all.result.now in
+    let n = c.low_count-n.result in
+    (shifted_is (field_of _ _ (g.met.F.Ring.laws c.args.field.now) (g.met.F.Field.no_zero_divisors c.args.field.now)) (c.args.exponent, c.args.c) c.requires.by n c.args.powers.now all (take n all) (take (length all - n) (drop n all)) c.in_ok-low.low c.in_ok-high.high c.in_ok-out.out c.requires.powers c.powers-all.ensures refl refl
+    c.low_count-n.ensures.low c.low_count-n.ensures.high c.in_ok-low.ensures c.in_ok-high.ensures).1 c.in_ok-out.ensures

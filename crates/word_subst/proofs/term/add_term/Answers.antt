@@ -1,0 +1,23 @@
+use Rattle.std.proofs.Common.{◌∙◌, ap, subst, ℕ, List, length}
+use Rattle.gf_basis.specs.BasisParts.{elements_of}
+use Rattle.poly_mixed.specs.Monomial.{Monomial}
+use Rattle.poly_mixed.proofs.FieldLaws.{field_of}
+use Rattle.word_subst.specs.Univariate.{IsMultiple}
+use Rattle.word_subst.specs.Rest.{rest_of}
+use Rattle.word_subst.proofs.Told.{read_term}
+use Rattle.word_subst.proofs.term.add_term.Goals as goal
+
+pub scaled-requires-clause-powers : goal.scaled-requires-clause-powers
+scaled-requires-clause-powers g c = (c.requires.products.each (length c.args.own.now) c.at.result.now c.at.ensures).univariate
+
+pub returns-clause-values : goal.returns-clause-values
+returns-clause-values g c =
+    let k : ℕ = g.F.Ring.degree c.args.field.now in
+    let mul : ℕ → ℕ → ℕ = g.F.Ring.product c.args.field.now in
+    let els : List ℕ = elements_of c.args._basis.now in
+    let w : ℕ = c.args.word in
+    let t : Monomial × ℕ = c.args.term.now in
+    let f = field_of k mul (g.met.F.Ring.laws c.args.field.now) (g.met.F.Field.no_zero_divisors c.args.field.now) in
+    let P : ℕ → Type 0 = λ x. IsMultiple k mul (0, x) c.at.result.now c.in_ok-part.part in
+    read_term f els w c.requires.word t c.requires.term c.requires.some c.args._bound c.args.products.now c.requires.products (c.requires.ranks ∙ c.requires.own) c.requires.start (length c.args.own.now) c.at.result.now c.in_ok-part.part c.in_ok-others.others
+    c.args.sums.now c.add.new.self (ap length c.requires.own) c.at.ensures (subst P c.coefficient.ensures c.in_ok-part.ensures.multiple) (c.in_ok-others.ensures ∙ (λ i. rest_of (c.k.ensures i) w (c.mono.ensures i))) c.in_ok-add.ensures.values
