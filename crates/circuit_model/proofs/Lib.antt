@@ -4,7 +4,9 @@ pub mod BoundLemmas
 pub mod TakenLemmas
 pub mod ChoiceLemmas
 pub mod GivenLemmas
+pub mod DifferingLemmas
 pub mod OneRunLemmas
+pub mod OnesLemmas
 pub mod OutLemmas
 pub mod PlainLemmas
 pub mod SliceLemmas
@@ -12,3 +14,4 @@ pub mod SomeRunLemmas
 pub mod SourceLemmas
 pub mod WordLemmas
 pub mod Examples
+mod OnesExamples

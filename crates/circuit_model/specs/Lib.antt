@@ -5,4 +5,9 @@ pub mod Run
 pub mod Out
 pub mod Flat
 pub mod OfBinding
+pub mod Bases
+pub mod Alike
+pub mod Ones
+pub mod Differing
+pub mod InputOrder
 pub mod private

@@ -17,6 +17,7 @@ ghost use Rattle.circuit_model.specs.Word.{word_nets};
 ghost use Rattle.circuit_model.specs.Circuit.{Circuit, IsInput};
 ghost use Rattle.circuit_model.specs.WellFormed.{IsWellFormed};
 ghost use Rattle.circuit_model.specs.OfBinding.{circuit_with, HaveBases, words_of};
+ghost use Rattle.circuit_model.specs.InputOrder.{AreOrdered, HasOneDifferingInput};
 ghost use Rattle.circuit_model.specs.Run.{IsOpenRun, IsRun};
 ghost use Rattle.circuit_model.specs.Out.{Ends, IsOut};
 
@@ -51,4 +52,14 @@ pub fn bound_circuits_are_well_formed()
 pub fn taken_circuits_are_well_formed()
     ensures well_formed { (k : ℕ) (product : ℕ → ℕ → ℕ) (circuit : BoundNet) (words : List WordText) (bases : List (List ℕ)) → IsRing k product → HasNoZeroDivisors k product → IsSound circuit.net → AreWords k words → BindingOf circuit.net words (Ok circuit.bound) → length bases ≡ length words → ((basis : List ℕ) → Has bases basis → IsBasis k basis) → IsWellFormed (circuit_with k product circuit bases) }
     ensures long { (net : NetList) (words : List WordText) (binding : Binding) → BindingOf net words (Ok binding) → length binding.words ≡ length words }
+{}
+
+/// Inputs of a well-formed circuit are in a total order by their bits that are 1, so that one at most is the first.
+pub fn one_first_input()
+    ensures { (circuit : Circuit) → AreOrdered circuit }
+{}
+
+/// Two circuits over the same words are told apart at one input at most, with one output each.
+pub fn one_differing_input()
+    ensures { (circuit other : Circuit) → IsWellFormed circuit → IsWellFormed other → HasOneDifferingInput circuit (IsOut circuit) (IsOut other) }
 {}

@@ -12,8 +12,8 @@ mod tests;
 
 pub use circuit_word::CircuitWord;
 pub use laws::{
-    bound_circuits_are_well_formed, one_output, one_run, output_of_open_runs,
-    taken_circuits_are_well_formed,
+    bound_circuits_are_well_formed, one_differing_input, one_first_input, one_output, one_run,
+    output_of_open_runs, taken_circuits_are_well_formed,
 };
 pub use net_bits::number_of_bits;
 pub use plain::output;

@@ -4,25 +4,32 @@ use Rattle.std.specs.FinMap.{get}
 use Rattle.text_core.specs.Outcome.{Determined, Within}
 use Rattle.job_io.specs.Shelf.{Files}
 use Rattle.net_blif.proofs.FlatDetermined.{determined_after, determined_within}
-use Rattle.job_words.specs.declared.fault.Fault.TheVariants.{File, Signature, Netlist}
+use Rattle.job_words.specs.declared.fault.Fault.TheVariants.{File, Signature, Netlist, Specification}
 use Rattle.job_words.specs.declared.file_fault.FileFault.{FileFault}
 use Rattle.job_words.specs.declared.file_fault.FileFault.TheVariants.{Absent, TooLong}
 use Rattle.job_words.specs.Operands.{Word}
-use Rattle.job_words.specs.Command.{Action, Bits, Abstract, Job}
-use Rattle.job_words.proofs.SpelledLemmas.{one_job}
+use Rattle.job_words.specs.Command.{Action, Bits, Abstract, Check, Same, Job}
+use Rattle.job_words.proofs.OneCommandLemmas.{one_job}
 use Rattle.job_input.specs.File.{Read}
-use Rattle.job_input.specs.NetlistOf.{BoundNetOf, CircuitIn}
+use Rattle.job_input.specs.Labelling.{labels_of}
+use Rattle.job_input.specs.NetlistOf.{BoundNetOf, CircuitIn, by_ending}
 use Rattle.job_input.specs.SettingOf.{SignedOf, SignedValue, SettingWith}
 use Rattle.job_input.specs.SettingSound.{IsSoundSetting}
 use Rattle.job_input.specs.SettingValue.{SettingValue}
 use Rattle.job_input.specs.SignedIn.{SignedIn}
+use Rattle.job_input.specs.SpecificationIn.{SpecificationOf, SpecificationIn}
 use Rattle.job_input.proofs.NetlistDetermined.{netlist_determined}
 use Rattle.job_input.proofs.SettingDetermined.{signed_determined, with_determined}
 use Rattle.job_input.proofs.SettingSoundLemmas.{setting_sound}
+use Rattle.job_input.proofs.SpecificationDetermined.{specification_determined}
 use Rattle.gf_abs.specs.Answer.{Spelled, ActionAnswer, SignedAnswer, JobAnswer, Answer}
 use Rattle.gf_abs.specs.commands.Bits.{BitsReply}
 use Rattle.gf_abs.specs.commands.Abstract.{AbstractReply}
+use Rattle.gf_abs.specs.commands.Check.{CheckReply, CheckOver}
+use Rattle.gf_abs.specs.commands.Same.{SameReply, SameBeside}
+use Rattle.gf_abs.proofs.CheckDetermined.{check_determined}
 use Rattle.gf_abs.proofs.ReplyDetermined.{bits_determined, abstract_determined}
+use Rattle.gf_abs.proofs.SameDetermined.{same_determined}
 
 same_some : {A : Type 0} (a b : A) → ◌≡◌ {A = Option A} (Some a) (Some b) → a ≡ b
 same_some a b e = cc
@@ -74,14 +81,28 @@ module _ (files : Files) where
 
   circuit_determined : (setting : SettingValue) (net : Word) → Determined (CircuitIn (Some files) setting.signature.words net)
   circuit_determined setting net =
-      determined_after (Within File (Read (Some files) net)) (λ text. Within (Netlist net) (BoundNetOf setting.signature.words text)) (file_determined net)
-      (λ text read. determined_within (Netlist net) (BoundNetOf setting.signature.words text) (netlist_determined setting.signature.words text))
+      determined_after (Within File (Read (Some files) net)) (λ text. Within (Netlist net) (BoundNetOf setting.signature.words (by_ending net text))) (file_determined net)
+      (λ text read. determined_within (Netlist net) (BoundNetOf setting.signature.words (by_ending net text)) (netlist_determined setting.signature.words (by_ending net text)))
+
+  pub said_determined : (setting : SettingValue) (file : Word) → Determined (SpecificationIn (Some files) (labels_of setting.k setting.signature.words) setting.k setting.product file)
+  said_determined setting file =
+      let labels = labels_of setting.k setting.signature.words in
+      determined_after (Within File (Read (Some files) file)) (λ bytes. Within Specification (SpecificationOf labels setting.k setting.product bytes)) (file_determined file)
+      (λ bytes read. determined_within Specification (SpecificationOf labels setting.k setting.product bytes) (specification_determined labels setting.k setting.product bytes))
 
   action_determined : (setting : SettingValue) (action : Action) → IsSoundSetting setting → Determined (ActionAnswer (Some files) setting action)
   action_determined setting (Bits net terms) sound =
-      determined_after (CircuitIn (Some files) setting.signature.words net) (λ circuit. BitsReply setting circuit terms) (circuit_determined setting net) (λ circuit taken. bits_determined setting circuit terms sound taken.0 taken.2)
+      determined_after (CircuitIn (Some files) setting.signature.words net) (λ circuit. BitsReply setting circuit terms) (circuit_determined setting net) (λ circuit taken. bits_determined setting circuit terms sound (by_ending net taken.0) taken.2)
   action_determined setting (Abstract net terms) sound =
-      determined_after (CircuitIn (Some files) setting.signature.words net) (λ circuit. AbstractReply setting circuit terms) (circuit_determined setting net) (λ circuit taken. abstract_determined setting circuit terms sound taken.0 taken.2)
+      determined_after (CircuitIn (Some files) setting.signature.words net) (λ circuit. AbstractReply setting circuit terms) (circuit_determined setting net) (λ circuit taken. abstract_determined setting circuit terms sound (by_ending net taken.0) taken.2)
+  action_determined setting (Check net file terms) sound =
+      determined_after (CircuitIn (Some files) setting.signature.words net) (λ circuit. CheckOver (Some files) setting circuit file terms) (circuit_determined setting net) (λ circuit taken.
+      determined_after (SpecificationIn (Some files) (labels_of setting.k setting.signature.words) setting.k setting.product file) (λ spec. CheckReply setting circuit spec terms) (said_determined setting file) (λ spec said.
+      check_determined setting circuit spec terms sound (by_ending net taken.0) taken.2))
+  action_determined setting (Same net other terms) sound =
+      determined_after (CircuitIn (Some files) setting.signature.words net) (λ circuit. SameBeside (Some files) setting circuit other terms) (circuit_determined setting net) (λ circuit taken.
+      determined_after (CircuitIn (Some files) setting.signature.words other) (λ second. SameReply setting circuit second terms) (circuit_determined setting other) (λ second more.
+      same_determined setting circuit second terms sound (by_ending net taken.0) taken.2 (by_ending other more.0) more.2))
 
   signed_answer_determined : (text : List ℕ) (signed : SignedValue) (action : Action) → SignedOf text (Ok signed) → Determined (SignedAnswer (Some files) signed action)
   signed_answer_determined text signed action is =

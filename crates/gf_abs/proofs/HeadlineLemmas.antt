@@ -1,12 +1,12 @@
 -- What the program's answers say, out of what comes of their steps.
-use Rattle.std.proofs.Common.{◌≡◌, subst, ℕ, List, Some, Result, Ok, ◌↔◌}
+use Rattle.std.proofs.Common.{◌≡◌, ◌∙◌, ap, refl, sym, subst, ℕ, List, Some, Result, Ok, ◌↔◌}
 use Rattle.job_io.specs.Shelf.{Files}
 use Rattle.net_words.specs.Binding.{BoundNet}
 use Rattle.poly_mixed.specs.Polynomial.{Terms}
 use Rattle.job_words.specs.Operands.{Word}
 use Rattle.job_words.specs.Command.{Bits, Abstract, Job}
-use Rattle.job_words.proofs.SpelledLemmas.{one_job}
-use Rattle.job_input.specs.NetlistOf.{BoundNetOf}
+use Rattle.job_words.proofs.OneCommandLemmas.{one_job}
+use Rattle.job_input.specs.NetlistOf.{BoundNetOf, NetlistText, by_ending}
 use Rattle.job_input.specs.SettingOf.{SettingOf}
 use Rattle.job_input.specs.SettingValue.{SettingValue}
 use Rattle.job_input.proofs.NetlistDetermined.{netlist_determined}
@@ -21,13 +21,13 @@ use Rattle.gf_abs.proofs.EqualLemmas.{printed, printed_in_bits, only_text}
 -- what comes of these files
 job_prints : (files : Files) (signature net : Word) (bound : ℕ) (reply : Reply) → JobAnswer (Some files) (record { signature = signature; action = Abstract net bound }) (Ok reply) → PrintsHeld files signature net reply
 job_prints files signature net bound reply (signed, (text, read, is), (setting, are, (circuit, (netlist, read', taken), came))) =
-    let both : IsTaken setting circuit = record { signature = text; is_setting = (signed, is, are); netlist = netlist; is_circuit = taken } in
-    record { setting = setting; circuit = circuit; held = record { taken = both; signature_read = read; net_read = read' }; printed = printed setting circuit both bound reply came }
+    let both : IsTaken setting circuit = record { signature = text; is_setting = (signed, is, are); netlist = by_ending net netlist; is_circuit = taken } in
+    record { setting = setting; circuit = circuit; held = record { taken = both; signature_read = read; text = netlist; net_read = read'; net_is = refl }; printed = printed setting circuit both bound reply came }
 
 job_prints_bits : (files : Files) (signature net : Word) (bound : ℕ) (reply : Reply) → JobAnswer (Some files) (record { signature = signature; action = Bits net bound }) (Ok reply) → PrintsHeldInBits files signature net reply
 job_prints_bits files signature net bound reply (signed, (text, read, is), (setting, are, (circuit, (netlist, read', taken), came))) =
-    let both : IsTaken setting circuit = record { signature = text; is_setting = (signed, is, are); netlist = netlist; is_circuit = taken } in
-    record { setting = setting; circuit = circuit; held = record { taken = both; signature_read = read; net_read = read' }; printed = printed_in_bits setting circuit both bound reply came }
+    let both : IsTaken setting circuit = record { signature = text; is_setting = (signed, is, are); netlist = by_ending net netlist; is_circuit = taken } in
+    record { setting = setting; circuit = circuit; held = record { taken = both; signature_read = read; text = netlist; net_read = read'; net_is = refl }; printed = printed_in_bits setting circuit both bound reply came }
 
 module _ (files : Files) (words : List Word) (signature net : Word) (reply : Reply) where
   pub abstract_prints : AnswersAbstract files words signature net reply → PrintsHeld files signature net reply
@@ -48,16 +48,17 @@ same_ok : {A F : Type 0} (a b : A) → ◌≡◌ {A = Result A F} (Ok a) (Ok b) 
 same_ok a b e = cc
 
 module _ (files : Files) (signature net : Word) where
-  one_setting : (s t : SettingValue) (c d : BoundNet) → AreHeld files signature net s c → AreHeld files signature net t d → s ≡ t
+  pub one_setting : (s t : SettingValue) (c d : BoundNet) → AreHeld files signature net s c → AreHeld files signature net t d → s ≡ t
   one_setting s t c d a b =
       let text : a.taken.signature ≡ b.taken.signature = same_ok a.taken.signature b.taken.signature (read_determined files signature (Ok a.taken.signature) (Ok b.taken.signature) a.signature_read b.signature_read) in
       let P : List ℕ → Type 0 = λ bytes. SettingOf bytes (Ok s) in
       same_ok s t (setting_determined b.taken.signature (Ok s) (Ok t) (subst P text a.taken.is_setting) b.taken.is_setting)
 
-  one_circuit : (s : SettingValue) (c d : BoundNet) → AreHeld files signature net s c → AreHeld files signature net s d → c ≡ d
+  pub one_circuit : (s : SettingValue) (c d : BoundNet) → AreHeld files signature net s c → AreHeld files signature net s d → c ≡ d
   one_circuit s c d a b =
-      let text : a.taken.netlist ≡ b.taken.netlist = same_ok a.taken.netlist b.taken.netlist (read_determined files net (Ok a.taken.netlist) (Ok b.taken.netlist) a.net_read b.net_read) in
-      let P : List ℕ → Type 0 = λ bytes. BoundNetOf s.signature.words bytes (Ok c) in
+      let bytes : a.text ≡ b.text = same_ok a.text b.text (read_determined files net (Ok a.text) (Ok b.text) a.net_read b.net_read) in
+      let text : a.taken.netlist ≡ b.taken.netlist = a.net_is ∙ (ap (by_ending net) bytes ∙ sym b.net_is) in
+      let P : NetlistText → Type 0 = λ text. BoundNetOf s.signature.words text (Ok c) in
       same_ok c d (netlist_determined s.signature.words b.taken.netlist (Ok c) (Ok d) (subst P text a.taken.is_circuit) b.taken.is_circuit)
 
   -- what is printed is of this setting and circuit

@@ -1,14 +1,25 @@
 pub mod NamedLemmas
 pub mod StageLemmas
 pub mod WordsLemmas
+pub mod WordNamesLemmas
 pub mod RefusalLemmas
+pub mod SameRefusalLemmas
+pub mod DifferingLineLemmas
 pub mod TakenLemmas
 pub mod StagedDetermined
 pub mod ReplyDetermined
+pub mod SpecStageLemmas
+pub mod CheckLemmas
+pub mod CheckDetermined
+pub mod SameDetermined
+pub mod AlikeLemmas
+pub mod SameLemmas
 pub mod AnswerDetermined
 pub mod CompleteLemmas
 pub mod EqualLabels
 pub mod EqualLemmas
 pub mod EqualFunctions
 pub mod HeadlineLemmas
+pub mod SameHeadlineLemmas
+pub mod CheckHeadlineLemmas
 mod Examples

@@ -23,14 +23,14 @@ use Rattle.gf_abs.specs.private.StageStop.{IsNamed, stage_fault, IsRefusalOf, Is
 
 module _ (k : ℕ) (mul : ℕ → ℕ → ℕ) {X A : Type 0} (view : X → A) (bound : ℕ) (is : A → Type 0) where
   -- the first stage over the bound is refused by its name
-  stage_refused : {N : Type 0} (listing : Listing N) (called : N → List ℕ) (name : N) (n : ℕ) (stop : Stop) → IsOver k mul listing bound name n → IsRefusalOf (stage_fault (called name) n bound) stop → GivesBy view (Err stop) (Within faults.Stage (Staged k mul listing called bound is)) ⊥ ⊥
+  pub stage_refused : {N : Type 0} (listing : Listing N) (called : N → List ℕ) (name : N) (n : ℕ) (stop : Stop) → IsOver k mul listing bound name n → IsRefusalOf (stage_fault (called name) n bound) stop → GivesBy view (Err stop) (Within faults.Stage (Staged k mul listing called bound is)) ⊥ ⊥
   stage_refused listing called name n (stops.Refused refused) over same =
       let P : Fault → Type 0 = λ f. IsMiss f in
       ((record { stage = called name; terms = n; bound = bound }, record { name = name; over = over; text = refl; most = refl }, same), λ miss. subst P same miss)
   stage_refused listing called name n stops.Outside over same = absurd same
   stage_refused listing called name n stops.OutOfMemory over same = tt
 
-  wanting : {N : Type 0} (listing : Listing N) (called : N → List ℕ) (stop : Stop) → stop ≡ stops.OutOfMemory → GivesBy view (Err stop) (Within faults.Stage (Staged k mul listing called bound is)) ⊥ ⊥
+  pub wanting : {N : Type 0} (listing : Listing N) (called : N → List ℕ) (stop : Stop) → stop ≡ stops.OutOfMemory → GivesBy view (Err stop) (Within faults.Stage (Staged k mul listing called bound is)) ⊥ ⊥
   wanting listing called stop same =
       let P : Stop → Type 0 = λ s. GivesBy view (Err s) (Within faults.Stage (Staged k mul listing called bound is)) ⊥ ⊥ in
       subst P (sym same) tt

@@ -22,7 +22,7 @@ use Rattle.stage_model.proofs.WordListingLemmas.{words_ordered, words_sizes}
 use Rattle.job_words.specs.declared.fault.Fault.TheVariants as faults
 use Rattle.job_words.specs.StageFault.{stage_text}
 use Rattle.job_input.specs.Labelling.{labels_of}
-use Rattle.job_input.specs.NetlistOf.{BoundNetOf}
+use Rattle.job_input.specs.NetlistOf.{BoundNetOf, NetlistText}
 use Rattle.job_input.specs.SettingSound.{IsSoundSetting}
 use Rattle.job_input.specs.SettingValue.{SettingValue}
 use Rattle.gf_abs.specs.Reply.{prints}
@@ -32,14 +32,14 @@ use Rattle.gf_abs.specs.commands.Abstract.{taken_circuit, abstract_stages, IsInW
 use Rattle.gf_abs.proofs.StagedDetermined.{staged_determined}
 use Rattle.gf_abs.proofs.TakenLemmas.{netlist_sound, circuit_well}
 
-module _ (setting : SettingValue) (circuit : BoundNet) (bound : ℕ) (sound : IsSoundSetting setting) (text : List ℕ) (is : BoundNetOf setting.signature.words text (Ok circuit)) where
+module _ (setting : SettingValue) (circuit : BoundNet) (bound : ℕ) (sound : IsSoundSetting setting) (text : NetlistText) (is : BoundNetOf setting.signature.words text (Ok circuit)) where
   well : IsWellFormed (taken_circuit setting circuit)
   well = circuit_well setting circuit sound text is
 
-  cuts_one_order : IsOrdered (bits_stages setting circuit)
+  pub cuts_one_order : IsOrdered (bits_stages setting circuit)
   cuts_one_order = cuts_ordered (length circuit.net.gates + 1) (BoundCut circuit (output_basis circuit.bound.words setting.bases))
 
-  cuts_one_size : HaveOneSize setting.k setting.product (bits_stages setting circuit)
+  pub cuts_one_size : HaveOneSize setting.k setting.product (bits_stages setting circuit)
   cuts_one_size =
       net_cuts_sizes setting.k setting.product circuit.net (variables (nets circuit.net) circuit.bound.words) (output_word circuit.bound.words (output_basis circuit.bound.words setting.bases)) (length circuit.net.gates + 1)
       sound.ring sound.field (netlist_sound setting.signature.words text circuit is)
@@ -62,11 +62,12 @@ module _ (setting : SettingValue) (circuit : BoundNet) (bound : ℕ) (sound : Is
       (determined_within faults.Stage (BitsOf setting circuit bound) (staged_determined setting.k setting.product (bits_stages setting circuit) (stage_text (labels_of setting.k setting.signature.words)) bound (IsLastCut setting circuit) one_last_cut cuts_one_order cuts_one_size))
       (λ ts. determined_exactly (prints setting ts))
 
-  pub abstract_determined : Determined (AbstractReply setting circuit bound)
-  abstract_determined =
+  pub words_determined : Determined (Within faults.Stage (AbstractOf setting circuit bound))
+  words_determined =
       let cuts = bits_stages setting circuit in
       let words = word_listing (taken_circuit setting circuit) in
-      determined_bind (Within faults.Stage (AbstractOf setting circuit bound)) (λ ts. Exactly (prints setting ts))
-      (determined_within faults.Stage (AbstractOf setting circuit bound) (staged_determined setting.k setting.product (abstract_stages setting circuit) (either_text (labels_of setting.k setting.signature.words)) bound (IsInWords setting circuit) one_in_words
-      (both_ordered setting.k setting.product cuts words cuts_one_order (words_ordered (taken_circuit setting circuit))) (both_sizes setting.k setting.product cuts words cuts_one_size (words_sizes (taken_circuit setting circuit) well))))
-      (λ ts. determined_exactly (prints setting ts))
+      determined_within faults.Stage (AbstractOf setting circuit bound) (staged_determined setting.k setting.product (abstract_stages setting circuit) (either_text (labels_of setting.k setting.signature.words)) bound (IsInWords setting circuit) one_in_words
+      (both_ordered setting.k setting.product cuts words cuts_one_order (words_ordered (taken_circuit setting circuit))) (both_sizes setting.k setting.product cuts words cuts_one_size (words_sizes (taken_circuit setting circuit) well)))
+
+  pub abstract_determined : Determined (AbstractReply setting circuit bound)
+  abstract_determined = determined_bind (Within faults.Stage (AbstractOf setting circuit bound)) (λ ts. Exactly (prints setting ts)) words_determined (λ ts. determined_exactly (prints setting ts))

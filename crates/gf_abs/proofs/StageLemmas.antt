@@ -25,12 +25,14 @@ use Rattle.stage_model.proofs.CutLemmas.{one_cut_of}
 use Rattle.stage_model.proofs.SizeLemmas.{same_terms}
 use Rattle.stage_model.specs.Cut.{IsCut, CutOf, BoundCut}
 use Rattle.stage_model.specs.Mix.{IsMix}
+use Rattle.stage_model.specs.OutputInBits.{IsOutputInBits}
 use Rattle.stage_model.specs.Stage.{IsOfStage}
 use Rattle.stage_model.specs.CircuitListing.{bound_cuts}
 use Rattle.stage_model.specs.Listing.{AreAllWithin}
 use Rattle.stage_model.proofs.BoundLemmas.{bound_cut}
 use Rattle.stage_model.proofs.MixLemmas.{mix_none}
 use Rattle.stage_model.proofs.NextMixLemmas.{mix_lacks}
+use Rattle.stage_model.proofs.OutputInBitsLemmas.{last_is_output}
 use Rattle.job_input.specs.Labelling.{word_labels, labels_of}
 use Rattle.job_input.specs.Setting.{elements_of_each, AreBasesOver}
 use Rattle.gf_abs.proofs.NamedLemmas.{named_terms}
@@ -77,6 +79,10 @@ module _ (k : ℕ) (mul : ℕ → ℕ → ℕ) (b : BoundNet) (bases : List Basi
       let e : ts ≡ last.has.terms = same_terms k mul job.ring job.nozero (IsCut b.net order output (length b.net.gates)) (λ p x y at first other. one_cut_of b.net job.sound order output (length b.net.gates) p x y first other) ts last.has.terms stage last.has.is in
       let size : length ts ≡ length last.has.terms = ap length e in
       omega (arith, last.has.size, last.within)
+
+  -- the last cut is the output in bits
+  pub output_of_last : (ts : Terms) → IsOfStage k mul (cuts (length b.net.gates)) ts → IsOutputInBits whole ts
+  output_of_last ts stage = (last_is_output whole well job.flat ts).0 (cut_stage (length b.net.gates) ts stage)
 
   -- the last cut is the mix of no words
   pub no_words : (ts : Terms) → IsOfStage k mul (cuts (length b.net.gates)) ts → IsOfStage k mul (IsMix whole 0) ts

@@ -8,31 +8,30 @@ use Rattle.net_words.specs.declared.word.WordText.{WordText}
 use Rattle.net_words.proofs.BoundLemmas.{bound_to, first_long}
 use Rattle.circuit_model.specs.WellFormed.{IsWellFormed}
 use Rattle.circuit_model.proofs.BoundLemmas.{bound_well}
-use Rattle.job_input.specs.NetlistOf.{BoundNetOf}
+use Rattle.job_input.specs.NetlistOf.{BoundNetOf, NetlistText}
 use Rattle.job_input.specs.SettingSound.{IsSoundSetting}
 use Rattle.job_input.specs.SettingValue.{SettingValue}
-use Rattle.job_input.proofs.NetlistLemmas.{flat_net}
+use Rattle.job_input.proofs.NetlistLemmas.{net_sound}
 use Rattle.job_input.proofs.RoleLemmas.{netlist_roles, roles_long}
 use Rattle.gf_abs.specs.commands.Abstract.{taken_circuit}
 
-pub netlist_sound : (words : List WordText) (text : List ℕ) (circuit : BoundNet) → BoundNetOf words text (Ok circuit) → IsSound circuit.net
-netlist_sound words text circuit (net, (design, is_design, (flat, is_flat, made)), (bound, is, exactly)) =
-    let P : NetList → Type 0 = λ n. IsSound n in
+pub netlist_sound : (words : List WordText) (text : NetlistText) (circuit : BoundNet) → BoundNetOf words text (Ok circuit) → IsSound circuit.net
+netlist_sound words text circuit (net, is_net, (bound, is, (same, none))) =
     let Q : BoundNet → Type 0 = λ c. IsSound c.net in
-    subst Q (sym exactly) (subst P (sym made.0) made.1)
+    subst Q (sym same) (net_sound text net is_net)
 
-pub netlist_flat : (words : List WordText) (text : List ℕ) (circuit : BoundNet) → BoundNetOf words text (Ok circuit) → circuit.net.latches ≡ []
-netlist_flat words text circuit (net, (design, is_design, flat), (bound, is, exactly)) = ap (λ (c : BoundNet). c.net.latches) exactly ∙ flat_net design 0 net flat
+pub netlist_flat : (words : List WordText) (text : NetlistText) (circuit : BoundNet) → BoundNetOf words text (Ok circuit) → circuit.net.latches ≡ []
+netlist_flat words text circuit (net, is_net, (bound, is, (same, none))) = ap (λ (c : BoundNet). c.net.latches) same ∙ none
 
-netlist_bound : (words : List WordText) (text : List ℕ) (circuit : BoundNet) → BoundNetOf words text (Ok circuit) → BindingOf circuit.net words (Ok circuit.bound)
-netlist_bound words text circuit (net, is_net, (bound, is, exactly)) =
+netlist_bound : (words : List WordText) (text : NetlistText) (circuit : BoundNet) → BoundNetOf words text (Ok circuit) → BindingOf circuit.net words (Ok circuit.bound)
+netlist_bound words text circuit (net, is_net, (bound, is, (same, none))) =
     let P : BoundNet → Type 0 = λ c. BindingOf c.net words (Ok c.bound) in
-    subst P (sym exactly) is
+    subst P (sym same) is
 
 binding_bits : (net : NetList) (words : List WordText) (binding : Binding) → BindingOf net words (Ok binding) → binding.k ≡ bits_of words
 binding_bits net words binding (bound, is, rest) = ap (λ (b : Binding). b.k) rest.2.2
 
-module _ (setting : SettingValue) (circuit : BoundNet) (sound : IsSoundSetting setting) (text : List ℕ) (is : BoundNetOf setting.signature.words text (Ok circuit)) where
+module _ (setting : SettingValue) (circuit : BoundNet) (sound : IsSoundSetting setting) (text : NetlistText) (is : BoundNetOf setting.signature.words text (Ok circuit)) where
   -- there is a basis for each word
   pub bases_long : length setting.bases ≡ length circuit.bound.words
   bases_long = sound.long ∙ sym (roles_long setting.signature.words circuit.bound.words (netlist_roles setting.signature.words text circuit is))

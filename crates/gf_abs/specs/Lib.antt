@@ -1,7 +1,9 @@
 pub mod Reply
 pub mod Staged
+pub mod DifferingLines
 pub mod commands
 pub mod Answer
 pub mod Written
 pub mod Headline
+pub mod CheckHeadline
 pub mod private

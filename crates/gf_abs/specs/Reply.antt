@@ -1,10 +1,10 @@
 -- What the program writes, and the status that it ends with. Source: this project's own.
-use Rattle.std.specs.Prelude.{ℕ, List, ◌++◌, codes, Vec}
-use Rattle.std.specs.declared.alloc.Global.{Global}
+use Rattle.std.specs.Prelude.{ℕ, List, ◌++◌, codes}
 use Rattle.poly_mixed.specs.Polynomial.{Terms}
 use Rattle.poly_mixed.specs.Text.{text}
 use Rattle.job_input.specs.Labelling.{labels_of}
 use Rattle.job_input.specs.SettingValue.{SettingValue}
+use Rattle.gf_abs.specs.declared.output.Output.{Output}
 
 -- a status and the bytes of an output
 pub record Reply : Type 0 where
@@ -19,6 +19,6 @@ polynomial_line setting ts = (labels_of setting.k setting.signature.words).outpu
 abbrev pub prints : SettingValue → Terms → Reply
 prints setting ts = record { status = 0; text = polynomial_line setting ts }
 
--- an output with status 0
-abbrev pub printed : Vec ℕ Global → Reply
-printed bytes = record { status = 0; text = bytes.items }
+-- the reply that the program's output is
+abbrev pub reply_of : Output → Reply
+reply_of output = record { status = output.status; text = output.text.items }

@@ -1,2 +1,4 @@
 pub mod Bits
 pub mod Abstract
+pub mod Check
+pub mod Same

@@ -1,3 +1,5 @@
 //! The commands, each in a file of its own: what it does after its signature was taken.
 pub(crate) mod abstraction;
 pub(crate) mod bits;
+pub(crate) mod check;
+pub(crate) mod same;

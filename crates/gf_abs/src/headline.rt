@@ -1,6 +1,6 @@
 //! What the program's answers say, for all words and held files. These functions do nothing: their contracts are proved of
 //! the definitions alone. `run` says that what it wrote is the answer.
-ghost use Rattle.std.specs.Prelude.{◌≡◌, ◌↔◌, List, Some};
+ghost use Rattle.std.specs.Prelude.{◌≡◌, ◌⊎◌, ◌↔◌, codes, List, Some};
 ghost use Rattle.text_core.specs.Outcome.{Determined};
 ghost use Rattle.job_io.specs.Shelf.{Files};
 ghost use Rattle.net_words.specs.Binding.{BoundNet};
@@ -8,8 +8,10 @@ ghost use Rattle.poly_mixed.specs.Polynomial.{Terms};
 ghost use Rattle.circuit_model.specs.WellFormed.{IsWellFormed};
 ghost use Rattle.job_words.specs.Operands.{Word};
 ghost use Rattle.job_input.specs.SettingValue.{SettingValue};
+ghost use Rattle.spec_expand.specs.Specification.{SpecTerms};
 ghost use Rattle.gf_abs.specs.Answer.{Answer};
-ghost use Rattle.gf_abs.specs.Headline.{IsTaken, AreHeld, AnswersBits, AnswersAbstract, PrintsHeld, PrintsHeldInBits, IsInItsWords, HasOutput, AreOneFunction};
+ghost use Rattle.gf_abs.specs.CheckHeadline.{AnswersCheck, AreHeldWith, Computes, PrintsAcceptance, PrintsRejection};
+ghost use Rattle.gf_abs.specs.Headline.{IsTaken, AreHeld, AnswersBits, AnswersAbstract, AnswersSame, PrintsHeld, PrintsHeldInBits, PrintsDifference, IsInItsWords, HasOutput, AreOneFunction};
 ghost use Rattle.gf_abs.specs.Reply.{Reply, polynomial_line};
 ghost use Rattle.gf_abs.specs.commands.Abstract.{taken_circuit};
 
@@ -45,4 +47,37 @@ pub fn bytes_are_the_only_text()
 /// equal at every input.
 pub fn equal_bytes_exactly_if_equal_functions()
     ensures { (files files' : Files) (words words' : List Word) (signature signature' net net' : Word) (reply reply' : Reply) (setting : SettingValue) (circuit other : BoundNet) → AnswersAbstract files words signature net reply → AnswersAbstract files' words' signature' net' reply' → AreHeld files signature net setting circuit → AreHeld files' signature' net' setting other → reply.text ≡ reply'.text ↔ AreOneFunction setting circuit other }
+{}
+
+/// `same` prints that two netlists are one function, with status 0, exactly if their outputs are equal at every input;
+/// otherwise it answers with status 1, where it gives a reply at all.
+pub fn same_exactly_if_equal_functions()
+    ensures status { (files : Files) (words : List Word) (signature net other : Word) (reply : Reply) → AnswersSame files words signature net other reply → (reply.status ≡ 0) ⊎ (reply.status ≡ 1) }
+    ensures equal { (files : Files) (words : List Word) (signature net other : Word) (reply : Reply) (setting : SettingValue) (circuit second : BoundNet) → AnswersSame files words signature net other reply → AreHeld files signature net setting circuit → AreHeld files signature other setting second → reply.status ≡ 0 ↔ AreOneFunction setting circuit second }
+    ensures text { (files : Files) (words : List Word) (signature net other : Word) (reply : Reply) → AnswersSame files words signature net other reply → reply.status ≡ 0 → reply.text ≡ codes "same\n" }
+{}
+
+/// With status 1 `same` prints an input at which the two outputs differ, and these outputs. Of all inputs where they differ it is
+/// the one with the fewest bits that are 1, and among several the one whose rising list of ranks is lexicographically first.
+pub fn same_prints_the_differing_input()
+    ensures { (files : Files) (words : List Word) (signature net other : Word) (reply : Reply) (setting : SettingValue) (circuit second : BoundNet) → AnswersSame files words signature net other reply → AreHeld files signature net setting circuit → AreHeld files signature other setting second → reply.status ≡ 1 → PrintsDifference setting circuit second reply }
+{}
+
+/// `check` answers with status 0 exactly if the output is the specification's value at every input; otherwise it answers with
+/// status 1, where it gives a reply at all.
+pub fn check_accepts_exactly_if_equal()
+    ensures status { (files : Files) (words : List Word) (signature net specification : Word) (reply : Reply) → AnswersCheck files words signature net specification reply → (reply.status ≡ 0) ⊎ (reply.status ≡ 1) }
+    ensures equal { (files : Files) (words : List Word) (signature net specification : Word) (reply : Reply) (setting : SettingValue) (circuit : BoundNet) (spec : SpecTerms) → AnswersCheck files words signature net specification reply → AreHeldWith files signature net specification setting circuit spec → reply.status ≡ 0 ↔ Computes setting circuit spec }
+{}
+
+/// With status 0 `check` prints that the netlist is accepted, and then the polynomial of its output in words.
+pub fn check_prints_the_output()
+    ensures { (files : Files) (words : List Word) (signature net specification : Word) (reply : Reply) (setting : SettingValue) (circuit : BoundNet) (spec : SpecTerms) → AnswersCheck files words signature net specification reply → AreHeldWith files signature net specification setting circuit spec → reply.status ≡ 0 → PrintsAcceptance setting circuit reply }
+{}
+
+/// With status 1 `check` prints that the netlist is rejected, the polynomial of its output in words, and an input at which the
+/// output is not the specification's value, with both. Of all such inputs it is the one with the fewest bits that are 1, and
+/// among several the one whose rising list of ranks is lexicographically first.
+pub fn check_prints_the_differing_input()
+    ensures { (files : Files) (words : List Word) (signature net specification : Word) (reply : Reply) (setting : SettingValue) (circuit : BoundNet) (spec : SpecTerms) → AnswersCheck files words signature net specification reply → AreHeldWith files signature net specification setting circuit spec → reply.status ≡ 1 → PrintsRejection setting circuit spec reply }
 {}

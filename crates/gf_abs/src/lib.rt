@@ -3,13 +3,20 @@
 #![tactic(auto)]
 
 mod commands;
+mod cuts;
+mod differing;
 mod headline;
 mod line;
+mod output;
+mod second_stages;
 mod stages;
 mod top;
+mod words;
 
 pub use headline::{
     abstract_prints_the_output, bits_print_the_output, bytes_are_the_only_text,
+    check_accepts_exactly_if_equal, check_prints_the_differing_input, check_prints_the_output,
     each_taken_circuit_is_well_formed, equal_bytes_exactly_if_equal_functions, one_answer_or_fault,
+    same_exactly_if_equal_functions, same_prints_the_differing_input,
 };
 pub use top::{run, run_surely};

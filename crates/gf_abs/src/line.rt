@@ -1,6 +1,6 @@
 //! The line that prints a polynomial.
 ghost use Rattle.std.specs.Prelude.{◌≡◌, ◌++◌, codes, IfOk};
-ghost use Rattle.poly_mixed.specs.Text.{text, HasNames};
+ghost use Rattle.poly_mixed.specs.Text.{text, HasNames, HasWordNames};
 
 use poly_mixed::{Labels, Poly, write_poly};
 use std::alloc::{AllocError, Global};
@@ -11,7 +11,8 @@ pub(crate) fn polynomial_line(
     poly: &Poly,
     labels: &Labels,
 ) -> Result<Vec<u8>, AllocError>
-    requires { HasNames labels.now poly.now.terms }
+    requires named { HasNames labels.now poly.now.terms }
+    requires words_named { HasWordNames labels.now poly.now.terms }
     ensures { IfOk result (λ line. line.items ≡ labels.now.output ++ (codes " = " ++ (text labels.now poly.now.terms ++ codes "\n"))) }
 {
     let polynomial = write_poly(alloc, poly, labels)?;

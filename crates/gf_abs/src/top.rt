@@ -7,10 +7,11 @@ ghost use Rattle.job_words.specs.Command.{action_of, job_of};
 ghost use Rattle.job_words.specs.Stop.{GivesBy};
 ghost use Rattle.job_input.specs.Setting.{setting_value, AreSaid, IsReady};
 ghost use Rattle.gf_abs.specs.Answer.{ActionAnswer, SignedAnswer, JobAnswer, Answer};
-ghost use Rattle.gf_abs.specs.Reply.{printed};
+ghost use Rattle.gf_abs.specs.Reply.{reply_of};
 ghost use Rattle.gf_abs.specs.Written.{IsText, Writes, WritesPart, IsWritten};
 
 use crate::commands;
+use crate::output::Output;
 use gf_field::Field;
 use gf_tower::AnyField;
 use job_input::{Setting, Signed, read_signed, setting_over};
@@ -20,10 +21,10 @@ use net_words::Signature;
 use std::alloc::Global;
 
 // The output of the words.
-fn answer<S: Shelf>(alloc: Global, words: &[String], shelf: &mut S) -> Result<Vec<u8>, Stop>
+fn answer<S: Shelf>(alloc: Global, words: &[String], shelf: &mut S) -> Result<Output, Stop>
     ensures held { S.held shelf.new ≡ S.held shelf.old }
     ensures never_fall { (S.faults shelf.old ≤ S.faults shelf.new) × (S.misses shelf.old ≤ S.misses shelf.new) }
-    ensures gives { GivesBy printed result (Answer (map string_bytes words.now) (S.held shelf.old))
+    ensures gives { GivesBy reply_of result (Answer (map string_bytes words.now) (S.held shelf.old))
         (Rose (S.misses shelf.old) (S.misses shelf.new)) (Rose (S.faults shelf.old) (S.faults shelf.new)) }
 {
     match read_words(words) {
@@ -33,10 +34,10 @@ fn answer<S: Shelf>(alloc: Global, words: &[String], shelf: &mut S) -> Result<Ve
 }
 
 // The output of a command, whose field is matched here and nowhere else.
-fn job_answer<S: Shelf>(alloc: Global, command: &Command, shelf: &mut S) -> Result<Vec<u8>, Stop>
+fn job_answer<S: Shelf>(alloc: Global, command: &Command, shelf: &mut S) -> Result<Output, Stop>
     ensures held { S.held shelf.new ≡ S.held shelf.old }
     ensures never_fall { (S.faults shelf.old ≤ S.faults shelf.new) × (S.misses shelf.old ≤ S.misses shelf.new) }
-    ensures gives { GivesBy printed result (JobAnswer (S.held shelf.old) (job_of command.now))
+    ensures gives { GivesBy reply_of result (JobAnswer (S.held shelf.old) (job_of command.now))
         (Rose (S.misses shelf.old) (S.misses shelf.new)) (Rose (S.faults shelf.old) (S.faults shelf.new)) }
 {
     let Signed { signature, field } = match read_signed(alloc, shelf, command.signature) {
@@ -57,11 +58,11 @@ fn signed_answer<F: Field, S: Shelf>(
     signature: Signature,
     task: &Task,
     shelf: &mut S,
-) -> Result<Vec<u8>, Stop>
+) -> Result<Output, Stop>
     requires { AreSaid signature.words }
     ensures held { S.held shelf.new ≡ S.held shelf.old }
     ensures never_fall { (S.faults shelf.old ≤ S.faults shelf.new) × (S.misses shelf.old ≤ S.misses shelf.new) }
-    ensures gives { GivesBy printed result (SignedAnswer (S.held shelf.old) (record { signature = signature; field = record { k = F.degree field.now; product = F.product field.now } }) (action_of task.now))
+    ensures gives { GivesBy reply_of result (SignedAnswer (S.held shelf.old) (record { signature = signature; field = record { k = F.degree field.now; product = F.product field.now } }) (action_of task.now))
         (Rose (S.misses shelf.old) (S.misses shelf.new)) (Rose (S.faults shelf.old) (S.faults shelf.new)) }
 {
     match setting_over(alloc, field, signature) {
@@ -77,11 +78,11 @@ fn task_answer<F: Field, S: Shelf>(
     setting: &Setting,
     task: &Task,
     shelf: &mut S,
-) -> Result<Vec<u8>, Stop>
+) -> Result<Output, Stop>
     requires { IsReady (F.degree field.now) (F.product field.now) setting.now }
     ensures held { S.held shelf.new ≡ S.held shelf.old }
     ensures never_fall { (S.faults shelf.old ≤ S.faults shelf.new) × (S.misses shelf.old ≤ S.misses shelf.new) }
-    ensures gives { GivesBy printed result (ActionAnswer (S.held shelf.old) (setting_value (F.degree field.now) (F.product field.now) setting.now) (action_of task.now))
+    ensures gives { GivesBy reply_of result (ActionAnswer (S.held shelf.old) (setting_value (F.degree field.now) (F.product field.now) setting.now) (action_of task.now))
         (Rose (S.misses shelf.old) (S.misses shelf.new)) (Rose (S.faults shelf.old) (S.faults shelf.new)) }
 {
     match task {
@@ -91,6 +92,8 @@ fn task_answer<F: Field, S: Shelf>(
         Task::Abstract(words) => {
             commands::abstraction::answer(alloc, field, setting, words.net, words.terms, shelf)
         }
+        Task::Check(words) => { commands::check::answer(alloc, field, setting, words, shelf) }
+        Task::Same(words) => { commands::same::answer(alloc, field, setting, words, shelf) }
     }
 }
 
@@ -108,7 +111,7 @@ fn status_and_text<S: Shelf>(
     ensures stops { (fault : _) → IsErrOf result (Stop.Refused fault) → ⊥ }
 {
     match answer(alloc, words, shelf) {
-        Ok(text) => Ok((0, text)),
+        Ok(output) => Ok((output.status, output.text)),
         Err(Stop::Refused(fault)) => Ok((status_of(&fault), write_fault(alloc, &fault)?)),
         Err(Stop::Outside) => Err(Stop::Outside),
         Err(Stop::OutOfMemory) => Err(Stop::OutOfMemory),
@@ -116,7 +119,7 @@ fn status_and_text<S: Shelf>(
 }
 
 /// All that the program does: the words after its name, the files that it may read, the output.
-/// The result is its status: 0 printed, 2 refused, 3 a stage passed the bound, 4 the outside failed, 5 want of memory.
+/// The result is its status: 0 printed or yes, 1 no, 2 refused, 3 a stage passed the bound, 4 the outside failed, 5 want of memory.
 pub fn run<S: Shelf, K: Sink>(alloc: Global, words: &[String], shelf: &mut S, sink: &mut K) -> u8
     // The whole of an answer is written, with its status, unless the outside or memory fails.
     ensures answers { (result ≡ 4) ⊎ (result ≡ 5) ⊎ Writes (Answer (map string_bytes words.now) (S.held shelf.old))

@@ -11,4 +11,5 @@ pub mod LabelLemmas
 pub mod CircuitLemmas
 pub mod RoseLemmas
 pub mod OutputLemmas
+pub mod SpecificationDetermined
 mod Examples

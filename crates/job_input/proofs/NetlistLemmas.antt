@@ -1,20 +1,26 @@
 -- What comes of a netlist, step by step.
-use Rattle.std.proofs.Common.{◌≡◌, ◌⊎◌, ◌∙◌, inl, inr, ap, sym, refl, ℕ, ◌<◌, ◌+◌, ◌^◌, Bool, true, false, cond, not, List, [], ◌∷◌, ◌++◌, length, get_or, Option, None, Some, Result, Ok, Err, arith}
-use Rattle.std.specs.Prelude.{nat_le}
+use Rattle.std.proofs.Common.{◌≡◌, ◌⊎◌, inl, inr, sym, refl, subst, ℕ, zero, suc, ◌<◌, ◌+◌, Bool, true, false, cond, ◌&&◌, not, List, [], ◌∷◌, ◌++◌, length, get_or, Option, None, Some, Result, Ok, Err, arith}
+use Rattle.std.specs.Prelude.{All}
 use Rattle.std.proofs.lemmas.List.{length-append}
 use Rattle.std.proofs.lemmas.Option.{slice_get-get_or}
 use Rattle.net_core.specs.NetList.{NetList, nets, number_of}
+use Rattle.net_core.specs.Inside.{IsInside, LatchIsInside}
+use Rattle.net_core.specs.LatchValue.{LatchValue}
+use Rattle.net_core.specs.Sound.{IsSound}
 use Rattle.net_core.specs.declared.fault.NetFault.{NetFault}
 use Rattle.net_core.specs.declared.fault.NetFault.TheVariants as net_faults
+use Rattle.net_aiger.specs.AigerNet.{AigerNet}
+use Rattle.net_aiger.specs.declared.fault.AigerFault.{AigerFault}
+use Rattle.net_aiger.specs.declared.fault.AigerFault.TheVariants as aigers
 use Rattle.net_blif.specs.Design.{ModelValue}
-use Rattle.net_blif.specs.Flat.{Path, Step, Mention, Input, Output, Gate, Flat, nothing, after_step, gate_on, number, on_value, walked, walk_of, was_mentioned, Flattens}
+use Rattle.net_blif.specs.Flat.{Flattens}
 use Rattle.net_blif.specs.Models.{BlifDesign}
 use Rattle.net_blif.specs.declared.fault.BlifFault.{BlifFault}
 use Rattle.net_blif.specs.declared.fault.BlifFault.TheVariants as texts
 use Rattle.net_blif.specs.declared.flat_fault.FlatFault.{FlatFault}
 use Rattle.net_blif.specs.declared.flat_fault.FlatFault.TheVariants as flat_faults
 use Rattle.net_blif.proofs.WalkLemmas.{number_inside}
-use Rattle.net_words.specs.Bind.{BindingOf, BoundOf, IsCovered, NetsOf, bound_word, is_latch, place_net, stands_in, started, taken_with, with_role}
+use Rattle.net_words.specs.Bind.{BindingOf, BoundOf, IsCovered, NetsOf, bound_word, in_word, is_latch, is_unknown, place_net, stands_in, started, taken_with, with_role}
 use Rattle.net_words.specs.BindReading.{FitsBinding}
 use Rattle.net_words.specs.Binding.{Binding, BoundNet}
 use Rattle.net_words.specs.declared.binding.BindFault.{BindFault}
@@ -23,8 +29,8 @@ use Rattle.net_words.specs.declared.bound.BoundWord.{BoundWord}
 use Rattle.net_words.specs.declared.word.Role.{Role}
 use Rattle.net_words.specs.declared.word.Role.TheVariants as roles
 use Rattle.net_words.specs.declared.word.WordText.{WordText}
-use Rattle.job_input.specs.NetlistOf.{BoundNetOf, NetOf, WordsBound, of_binding, of_text, word_name}
-use Rattle.job_input.specs.private.NetlistReading.{FitsNetlist, IsNamed, IsNetlistRefusal, text_refusal, net_refusal, model_refusal}
+use Rattle.job_input.specs.NetlistOf.{Aiger, Blif, BoundNetOf, NetOf, NetlistText, WordsBound, of_binding, of_text, word_name}
+use Rattle.job_input.specs.private.NetlistReading.{FitsNetlist, IsNamed, IsNetlistRefusal, aiger_refusal, text_refusal, net_refusal, model_refusal}
 use Rattle.job_words.specs.declared.netlist_fault.NetlistFault.TheVariants as netlist
 use Rattle.job_input.specs.declared.netlist.Refusal.{Refusal}
 use Rattle.job_input.specs.declared.netlist.Refusal.TheVariants.{Fault, OutOfMemory}
@@ -32,41 +38,6 @@ use Rattle.job_input.specs.declared.netlist.Refusal.TheVariants.{Fault, OutOfMem
 -- the name of a word that was found
 pub name_found : (words : List WordText) (w : ℕ) (d : WordText) → w < length words → (get_or words w d).name ≡ word_name words w
 name_found words w d less = rw (slice_get-get_or words w d less) refl
-
-module _ (flat next : Flat) where
-  mention_latches : (path : Path) → after_step flat (Mention path) ≡ Ok next → next.latches ≡ flat.latches
-  mention_latches path made = by (was_mentioned flat path) (nat_le (2 ^ 20) (length flat.paths)) made
-    where
-      by : (b c : Bool) → cond b (Ok flat) (cond c (Err net_faults.TooManyNets) (Ok (record flat { paths = flat.paths ++ path ∷ [] }))) ≡ Ok next → next.latches ≡ flat.latches
-      by true c e = let same : flat ≡ next = cc in ap (λ (f : Flat). f.latches) (sym same)
-      by false true e = absurd (cc)
-      by false false e = let same : record flat { paths = flat.paths ++ path ∷ [] } ≡ next = cc in ap (λ (f : Flat). f.latches) (sym same)
-
-  gate_latches : (inputs : List Path) (out : Path) (table : ℕ) → after_step flat (Gate inputs out table) ≡ Ok next → next.latches ≡ flat.latches
-  gate_latches inputs out table made = by (nat_le (2 ^ 20) (length flat.gates + length flat.latches)) made
-    where
-      by : (b : Bool) → cond b (Err net_faults.TooManyGates) (Ok (record flat { gates = flat.gates ++ gate_on flat inputs out table ∷ [] })) ≡ Ok next → next.latches ≡ flat.latches
-      by true e = absurd (cc)
-      by false e = let same : record flat { gates = flat.gates ++ gate_on flat inputs out table ∷ [] } ≡ next = cc in ap (λ (f : Flat). f.latches) (sym same)
-
-  -- no step makes a latch
-  step_latches : (step : Step) → after_step flat step ≡ Ok next → next.latches ≡ flat.latches
-  step_latches (Mention path) made = mention_latches path made
-  step_latches (Input path) made = let same : record flat { inputs = flat.inputs ++ number flat path ∷ [] } ≡ next = cc in ap (λ (f : Flat). f.latches) (sym same)
-  step_latches (Output path) made = let same : record flat { outputs = flat.outputs ++ number flat path ∷ [] } ≡ next = cc in ap (λ (f : Flat). f.latches) (sym same)
-  step_latches (Gate inputs out table) made = gate_latches inputs out table made
-
-walk_latches : (flat more : Flat) (steps : List Step) → walked flat steps ≡ Ok more → more.latches ≡ flat.latches
-walk_latches flat more [] made = let same : flat ≡ more = cc in ap (λ (f : Flat). f.latches) (sym same)
-walk_latches flat more (step ∷ steps) made = by (λ next rest. walk_latches next more steps rest) (after_step flat step) refl made
-  where
-    by : ((next : Flat) → walked next steps ≡ Ok more → more.latches ≡ next.latches) → (r : Result Flat NetFault) → after_step flat step ≡ r → on_value (λ m. walked m steps) r ≡ Ok more → more.latches ≡ flat.latches
-    by further (Ok next) is e = further next e ∙ step_latches flat next step is
-    by further (Err fault) is e = absurd (cc)
-
--- the net of a model has no latches
-pub flat_net : (design : List ModelValue) (model : ℕ) (net : NetList) → Flattens design model (Ok net) → net.latches ≡ []
-flat_net design model net (flat, made, finished) = ap (λ (n : NetList). n.latches) finished.0 ∙ walk_latches nothing flat (walk_of design model) (sym made)
 
 module _ (net : NetList) (count word place : ℕ) (within : word < count) (taken : List ℕ) where
   role_named : (role : Role) (n : ℕ) (fault : BindFault) → n < nets net → with_role net word place taken role n ≡ Err fault → IsNamed count net fault
@@ -112,24 +83,29 @@ covered_named net count words (binds.NetTwice n) refused = absurd refused
 covered_named net count words (binds.UnknownStart n) refused = absurd refused
 covered_named net count words binds.OutOfMemory refused = absurd refused
 
--- the word or the net of a fault of a binding exists
-binding_named : (net : NetList) (words : List WordText) (fault : BindFault) → net.latches ≡ [] → BindingOf net words (Err fault) → IsNamed (length words) net fault
-binding_named net words fault flat (inl here) = words_named net (length words) [] [] words fault (omega arith) here
-binding_named net words fault flat (inr (bound, _, inl here)) = covered_named net (length words) bound.0 fault here
-binding_named net words fault flat (inr (bound, _, inr (_, _, inl here))) = never (rw flat at here)
+started_named : (net : NetList) (count : ℕ) (words : List BoundWord) (latches : List LatchValue) (fault : BindFault) → All (LatchIsInside (nets net)) latches → Err fault ≡ started words latches → IsNamed count net fault
+started_named net count words [] fault inside refused = absurd (cc)
+started_named net count words (latch ∷ latches) fault inside refused = by (started_named net count words latches fault (λ k d less. inside (suc k) d (omega arith))) (is_unknown latch.start && not (in_word roles.State words latch.out)) refused
   where
-    never : Err fault ≡ started bound.0 [] → IsNamed (length words) net fault
-    never e = absurd (cc)
-binding_named net words fault flat (inr (bound, _, inr (_, _, inr (_, _, here)))) = absurd here
+    by : (Err fault ≡ started words latches → IsNamed count net fault) → (b : Bool) → Err fault ≡ cond b (Err (binds.UnknownStart latch.out)) (started words latches) → IsNamed count net fault
+    by later true e = let same : binds.UnknownStart latch.out ≡ fault = cc in rw (← same) (inside zero latch (omega arith)).1
+    by later false e = later e
 
-pub fault_named : (net : NetList) (words : List WordText) (fault : BindFault) → net.latches ≡ [] → FitsBinding {A = Binding} (λ bound. bound) (Err fault) (BindingOf net words) → IsNamed (length words) net fault
-fault_named net words (binds.NoSuchNet word place) flat fits = binding_named net words (binds.NoSuchNet word place) flat fits
-fault_named net words (binds.NotInput word place) flat fits = binding_named net words (binds.NotInput word place) flat fits
-fault_named net words (binds.NotLatch word place) flat fits = binding_named net words (binds.NotLatch word place) flat fits
-fault_named net words (binds.NetTwice n) flat fits = binding_named net words (binds.NetTwice n) flat fits
-fault_named net words (binds.Uncovered n) flat fits = binding_named net words (binds.Uncovered n) flat fits
-fault_named net words (binds.UnknownStart n) flat fits = binding_named net words (binds.UnknownStart n) flat fits
-fault_named net words binds.OutOfMemory flat fits = tt
+-- the word or the net of a fault of a binding exists
+binding_named : (net : NetList) (words : List WordText) (fault : BindFault) → IsInside net → BindingOf net words (Err fault) → IsNamed (length words) net fault
+binding_named net words fault inside (inl here) = words_named net (length words) [] [] words fault (omega arith) here
+binding_named net words fault inside (inr (bound, _, inl here)) = covered_named net (length words) bound.0 fault here
+binding_named net words fault inside (inr (bound, _, inr (_, _, inl here))) = started_named net (length words) bound.0 net.latches fault inside.latches here
+binding_named net words fault inside (inr (bound, _, inr (_, _, inr (_, _, here)))) = absurd here
+
+pub fault_named : (net : NetList) (words : List WordText) (fault : BindFault) → IsInside net → FitsBinding {A = Binding} (λ bound. bound) (Err fault) (BindingOf net words) → IsNamed (length words) net fault
+fault_named net words (binds.NoSuchNet word place) inside fits = binding_named net words (binds.NoSuchNet word place) inside fits
+fault_named net words (binds.NotInput word place) inside fits = binding_named net words (binds.NotInput word place) inside fits
+fault_named net words (binds.NotLatch word place) inside fits = binding_named net words (binds.NotLatch word place) inside fits
+fault_named net words (binds.NetTwice n) inside fits = binding_named net words (binds.NetTwice n) inside fits
+fault_named net words (binds.Uncovered n) inside fits = binding_named net words (binds.Uncovered n) inside fits
+fault_named net words (binds.UnknownStart n) inside fits = binding_named net words (binds.UnknownStart n) inside fits
+fault_named net words binds.OutOfMemory inside fits = tt
 
 -- a fault that is not want of memory is one that may come
 fault_comes : (net : NetList) (words : List WordText) (fault : BindFault) → ¬ (fault ≡ binds.OutOfMemory) → FitsBinding {A = Binding} (λ bound. bound) (Err fault) (BindingOf net words) → BindingOf net words (Err fault)
@@ -150,23 +126,28 @@ unbound net words fault (Fault other) fits same memory = inl (fault, fault_comes
     never e = cc
 
 -- what comes of the words comes of the text whose net it is
-pub text_bound : (text : List ℕ) (words : List WordText) (net : NetList) (result : Result BoundNet Refusal) → NetOf text (Ok net) → FitsNetlist result (WordsBound words net) → FitsNetlist result (BoundNetOf words text)
+pub text_bound : (text : NetlistText) (words : List WordText) (net : NetList) (result : Result BoundNet Refusal) → NetOf text (Ok net) → FitsNetlist result (WordsBound words net) → FitsNetlist result (BoundNetOf words text)
 text_bound text words net (Ok circuit) first then = (net, first, then)
 text_bound text words net (Err (Fault fault)) first then = inr (net, first, then)
 text_bound text words net (Err OutOfMemory) first then = tt
 
+-- a net of a text is sound
+pub net_sound : (text : NetlistText) (net : NetList) → NetOf text (Ok net) → IsSound net
+net_sound (Blif text) net (design, is_design, (flat, is_flat, made)) = let P : NetList → Type 0 = λ n. IsSound n in subst P (sym made.0) made.1
+net_sound (Aiger text) net (reading, is_read, (_, _, (_, _, (listed, is_made, made)))) = let P : NetList → Type 0 = λ n. IsSound n in subst P (sym made.0) made.1
+
 -- what comes of a text that is refused
-pub text_refused : (text : List ℕ) (fault : BlifFault) → (fault ≡ texts.OutOfMemory) ⊎ BlifDesign text (Err fault) → FitsNetlist {A = NetList} (Err (text_refusal fault)) (NetOf text)
+pub text_refused : (text : List ℕ) (fault : BlifFault) → (fault ≡ texts.OutOfMemory) ⊎ BlifDesign text (Err fault) → FitsNetlist {A = NetList} (Err (text_refusal fault)) (NetOf (Blif text))
 text_refused text fault why = by fault why
   where
-    none : (fault : BlifFault) → BlifDesign text (Err fault) → NetOf text (Err (of_text fault))
+    none : (fault : BlifFault) → BlifDesign text (Err fault) → NetOf (Blif text) (Err (of_text fault))
     none fault refused = inl (fault, refused, refl)
 
     wanting : (fault : BlifFault) (C : Type 0) → (fault ≡ texts.OutOfMemory → C) → (BlifDesign text (Err fault) → C) → (fault ≡ texts.OutOfMemory) ⊎ BlifDesign text (Err fault) → C
     wanting fault C f g (inl is) = f is
     wanting fault C f g (inr is) = g is
 
-    by : (fault : BlifFault) → (fault ≡ texts.OutOfMemory) ⊎ BlifDesign text (Err fault) → FitsNetlist {A = NetList} (Err (text_refusal fault)) (NetOf text)
+    by : (fault : BlifFault) → (fault ≡ texts.OutOfMemory) ⊎ BlifDesign text (Err fault) → FitsNetlist {A = NetList} (Err (text_refusal fault)) (NetOf (Blif text))
     by texts.NoModel why = wanting texts.NoModel _ (λ e. absurd (cc)) (none texts.NoModel) why
     by (texts.Syntax line) why = wanting (texts.Syntax line) _ (λ e. absurd (cc)) (none (texts.Syntax line)) why
     by (texts.LeftOut line word) why = wanting (texts.LeftOut line word) _ (λ e. absurd (cc)) (none (texts.LeftOut line word)) why
@@ -175,7 +156,7 @@ text_refused text fault why = by fault why
     by texts.OutOfMemory why = tt
 
 module _ (text : List ℕ) (design : List ModelValue) (read : BlifDesign text (Ok design)) where
-  net_refused : (fault : NetFault) → (flat_faults.Net fault ≡ flat_faults.OutOfMemory) ⊎ Flattens design 0 (Err (flat_faults.Net fault)) → FitsNetlist {A = NetList} (Err (net_refusal fault)) (NetOf text)
+  net_refused : (fault : NetFault) → (flat_faults.Net fault ≡ flat_faults.OutOfMemory) ⊎ Flattens design 0 (Err (flat_faults.Net fault)) → FitsNetlist {A = NetList} (Err (net_refusal fault)) (NetOf (Blif text))
   net_refused fault (inl e) = absurd (cc)
   net_refused net_faults.TooManyNets (inr is) = inr (design, read, (flat_faults.Net net_faults.TooManyNets, is, refl))
   net_refused net_faults.TooManyGates (inr is) = inr (design, read, (flat_faults.Net net_faults.TooManyGates, is, refl))
@@ -185,6 +166,32 @@ module _ (text : List ℕ) (design : List ModelValue) (read : BlifDesign text (O
   net_refused net_faults.OutOfMemory (inr is) = tt
 
   -- what comes of a model whose net is refused
-  pub model_refused : (fault : FlatFault) → (fault ≡ flat_faults.OutOfMemory) ⊎ Flattens design 0 (Err fault) → FitsNetlist {A = NetList} (Err (model_refusal fault)) (NetOf text)
+  pub model_refused : (fault : FlatFault) → (fault ≡ flat_faults.OutOfMemory) ⊎ Flattens design 0 (Err fault) → FitsNetlist {A = NetList} (Err (model_refusal fault)) (NetOf (Blif text))
   model_refused (flat_faults.Net fault) why = net_refused fault why
   model_refused flat_faults.OutOfMemory why = tt
+
+-- what comes of a text in ASCII AIGER that is refused
+pub aiger_refused : (text : List ℕ) (fault : AigerFault) → (fault ≡ aigers.OutOfMemory) ⊎ AigerNet text (Err fault) → FitsNetlist {A = NetList} (Err (aiger_refusal fault)) (NetOf (Aiger text))
+aiger_refused text fault why = by fault why
+  where
+    wanting : (fault : AigerFault) (C : Type 0) → (fault ≡ aigers.OutOfMemory → C) → (AigerNet text (Err fault) → C) → (fault ≡ aigers.OutOfMemory) ⊎ AigerNet text (Err fault) → C
+    wanting fault C f g (inl is) = f is
+    wanting fault C f g (inr is) = g is
+
+    net : (fault : NetFault) → AigerNet text (Err (aigers.Net fault)) → FitsNetlist {A = NetList} (Err (net_refusal fault)) (NetOf (Aiger text))
+    net net_faults.TooManyNets is = (aigers.Net net_faults.TooManyNets, is, refl)
+    net net_faults.TooManyGates is = (aigers.Net net_faults.TooManyGates, is, refl)
+    net (net_faults.DrivenTwice n label) is = (aigers.Net (net_faults.DrivenTwice n label), is, refl)
+    net (net_faults.Undriven n label) is = (aigers.Net (net_faults.Undriven n label), is, refl)
+    net (net_faults.Loop loop label) is = (aigers.Net (net_faults.Loop loop label), is, refl)
+    net net_faults.OutOfMemory is = tt
+
+    by : (fault : AigerFault) → (fault ≡ aigers.OutOfMemory) ⊎ AigerNet text (Err fault) → FitsNetlist {A = NetList} (Err (aiger_refusal fault)) (NetOf (Aiger text))
+    by (aigers.Syntax line) why = wanting (aigers.Syntax line) _ (λ e. absurd (cc)) (λ is. (aigers.Syntax line, is, refl)) why
+    by (aigers.LeftOut line word) why = wanting (aigers.LeftOut line word) _ (λ e. absurd (cc)) (λ is. (aigers.LeftOut line word, is, refl)) why
+    by (aigers.Literal line) why = wanting (aigers.Literal line) _ (λ e. absurd (cc)) (λ is. (aigers.Literal line, is, refl)) why
+    by (aigers.DefinedTwice line) why = wanting (aigers.DefinedTwice line) _ (λ e. absurd (cc)) (λ is. (aigers.DefinedTwice line, is, refl)) why
+    by (aigers.Undefined line) why = wanting (aigers.Undefined line) _ (λ e. absurd (cc)) (λ is. (aigers.Undefined line, is, refl)) why
+    by (aigers.NameTwice line) why = wanting (aigers.NameTwice line) _ (λ e. absurd (cc)) (λ is. (aigers.NameTwice line, is, refl)) why
+    by (aigers.Net fault) why = wanting (aigers.Net fault) _ (λ e. absurd (cc)) (net fault) why
+    by aigers.OutOfMemory why = tt

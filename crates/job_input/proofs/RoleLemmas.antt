@@ -8,7 +8,7 @@ use Rattle.net_words.specs.declared.bound.BoundWord.{BoundWord}
 use Rattle.net_words.specs.declared.word.Role.{Role}
 use Rattle.net_words.specs.declared.word.WordText.{WordText}
 use Rattle.job_input.specs.Setting.{HaveRoles}
-use Rattle.job_input.specs.NetlistOf.{BoundNetOf}
+use Rattle.job_input.specs.NetlistOf.{BoundNetOf, NetlistText}
 
 roles : List BoundWord → List Role
 roles words = map (λ word. word.role) words
@@ -34,10 +34,10 @@ unfolding roles text_roles
 binding_roles net words binding (bound, is, rest) =
     ap (λ (b : Binding). roles b.words) rest.2.2 ∙ bound_roles net [] [] words bound is
 
-pub netlist_roles : (words : List WordText) (text : List ℕ) (circuit : BoundNet) → BoundNetOf words text (Ok circuit) → HaveRoles words circuit.bound.words
-netlist_roles words text circuit (net, is_net, (bound, is, exactly)) =
+pub netlist_roles : (words : List WordText) (text : NetlistText) (circuit : BoundNet) → BoundNetOf words text (Ok circuit) → HaveRoles words circuit.bound.words
+netlist_roles words text circuit (net, is_net, (bound, is, (same, flat))) =
     let P : BoundNet → Type 0 = λ c. HaveRoles words c.bound.words in
-    subst P (sym exactly) (binding_roles net words bound is)
+    subst P (sym same) (binding_roles net words bound is)
 
 -- so there are as many
 pub roles_long : (words : List WordText) (bound : List BoundWord) → HaveRoles words bound → length bound ≡ length words

@@ -1,6 +1,6 @@
 -- At most one outcome comes of a signature's text.
 use Rattle.std.proofs.Common.{◌≡◌, ◌∙◌, ap, sym, refl, ℕ, ◌<◌, ◌^◌, List, [], ◌∷◌, Ok, Err, arith}
-use Rattle.text_core.specs.Outcome.{Outcome, ◌>>=◌, Exactly, Within, Determined}
+use Rattle.text_core.specs.Outcome.{◌>>=◌, Exactly, Within, Determined}
 use Rattle.text_core.proofs.DeterminedLemmas.{determined_bind}
 use Rattle.irreducible.specs.Span.{IsIndependent}
 use Rattle.net_words.specs.Signature.{SignatureValue, Sig}
@@ -17,7 +17,6 @@ use Rattle.gf_basis.proofs.BasisFaultLaws.{one_list_fault}
 use Rattle.gf_field.proofs.FirstOutside.{first_clash}
 use Rattle.job_input.specs.FieldOf.{FieldValue, FieldOf}
 use Rattle.job_input.specs.SettingOf.{text_fault, HasBits, NormalBasis, ListBasis, BasisOf, basis_fault, WordBasis, BasesOf, SignedValue, SignedOf, SettingWith, SettingOf}
-use Rattle.job_input.specs.SettingValue.{SettingValue}
 use Rattle.job_input.proofs.SignedLemmas.{made}
 use Rattle.job_input.proofs.FieldLemmas.{field_determined}
 use Rattle.net_blif.proofs.FlatDetermined.{determined_within}

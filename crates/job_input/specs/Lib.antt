@@ -7,4 +7,5 @@ pub mod Setting
 pub mod SettingSound
 pub mod NetlistOf
 pub mod Labelling
+pub mod SpecificationIn
 pub mod private

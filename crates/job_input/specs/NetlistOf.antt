@@ -1,13 +1,16 @@
 -- The net of a netlist's text with the words of a signature bound to it, or the fault with which it is refused. Source: this
--- project's own, docs/DEFINITIONS.md; nets are those of the BLIF format of UC Berkeley.
-use Rattle.std.specs.Prelude.{ℕ, Option, List, [], length, slice_get}
+-- project's own, docs/DEFINITIONS.md; nets are those of the BLIF format of UC Berkeley and of ASCII AIGER.
+use Rattle.std.specs.Prelude.{◌≡◌, ◌≢◌, ℕ, Option, List, [], length, slice_get, Ok, Err, if◌then◌else◌}
 use Rattle.std.specs.Option.{option_map_or}
-use Rattle.text_core.specs.Outcome.{Outcome, ◌>>=◌, Exactly, Within}
+use Rattle.text_core.specs.Outcome.{Outcome, ◌>>=◌, Within}
 use Rattle.job_io.specs.Shelf.{Files}
 use Rattle.job_input.specs.File.{Read}
 use Rattle.net_core.specs.NetList.{NetList, text_of}
 use Rattle.net_core.specs.declared.fault.NetFault.{NetFault}
 use Rattle.net_core.specs.declared.fault.NetFault.TheVariants as nets
+use Rattle.net_aiger.specs.AigerNet.{AigerNet}
+use Rattle.net_aiger.specs.declared.fault.AigerFault.{AigerFault}
+use Rattle.net_aiger.specs.declared.fault.AigerFault.TheVariants as aigers
 use Rattle.net_blif.specs.Flat.{Flattens}
 use Rattle.net_blif.specs.Models.{BlifDesign}
 use Rattle.net_blif.specs.declared.fault.BlifFault.{BlifFault}
@@ -15,11 +18,11 @@ use Rattle.net_blif.specs.declared.fault.BlifFault.TheVariants as texts
 use Rattle.net_blif.specs.declared.flat_fault.FlatFault.{FlatFault}
 use Rattle.net_blif.specs.declared.flat_fault.FlatFault.TheVariants as flats
 use Rattle.net_words.specs.Bind.{BindingOf}
-use Rattle.net_words.specs.Binding.{BoundNet}
+use Rattle.net_words.specs.Binding.{Binding, BoundNet}
 use Rattle.net_words.specs.declared.binding.BindFault.{BindFault}
 use Rattle.net_words.specs.declared.binding.BindFault.TheVariants as binds
 use Rattle.net_words.specs.declared.word.WordText.{WordText}
-use Rattle.job_words.specs.Operands.{Word}
+use Rattle.job_words.specs.Operands.{Word, is_aiger}
 use Rattle.job_words.specs.declared.netlist_fault.BindingFault.{BindingFault}
 use Rattle.job_words.specs.declared.netlist_fault.BindingFault.TheVariants as binding
 use Rattle.job_words.specs.declared.fault.Fault.{Fault}
@@ -64,20 +67,50 @@ of_binding words net (binds.Uncovered n) = binding.Uncovered (text_of net n)
 of_binding words net (binds.UnknownStart n) = binding.UnknownStart (text_of net n)
 of_binding words net binds.OutOfMemory = binding.NetTwice []
 
--- the net of the first model of a text: the text's first fault, or else the net's
-abbrev pub NetOf : List ℕ → Outcome NetlistFault NetList
-NetOf text = do
+-- A fault of a text in ASCII AIGER as a fault of the netlist.
+abbrev pub of_aiger : AigerFault → NetlistFault
+of_aiger (aigers.Syntax line) = netlist.Syntax line
+of_aiger (aigers.LeftOut line word) = netlist.LeftOut line word
+of_aiger (aigers.Literal line) = netlist.Literal line
+of_aiger (aigers.DefinedTwice line) = netlist.DefinedTwice line
+of_aiger (aigers.Undefined line) = netlist.Undefined line
+of_aiger (aigers.NameTwice line) = netlist.NameTwice line
+of_aiger (aigers.Net fault) = of_net fault
+of_aiger aigers.OutOfMemory = netlist.TooManyNets
+
+-- the text of a netlist, by its form
+pub data NetlistText : Type 0 where
+  Blif : (text : List ℕ) → NetlistText
+  Aiger : (text : List ℕ) → NetlistText
+
+-- the form of a text is told by the ending of its file's name
+abbrev pub by_ending : Word → List ℕ → NetlistText
+by_ending file text = if is_aiger file then Aiger text else Blif text
+
+-- the net of the first model of a text in BLIF: the text's first fault, or else the net's
+abbrev pub BlifNetOf : List ℕ → Outcome NetlistFault NetList
+BlifNetOf text = do
   design ← Within of_text (BlifDesign text)
   Within of_model (Flattens design 0)
 
--- the net with the words that are bound to it, or the first fault of the binding
+-- the net of a text, as the reader of its form gives it
+abbrev pub NetOf : NetlistText → Outcome NetlistFault NetList
+NetOf (Blif text) = BlifNetOf text
+NetOf (Aiger text) = Within of_aiger (AigerNet text)
+
+-- the net with its words, where it has no latches; the cycles of latches are not unrolled yet
+abbrev pub Unlatched : NetList → Binding → Outcome NetlistFault BoundNet
+Unlatched net bound (Ok circuit) = (circuit ≡ record { net = net; bound = bound }) × (net.latches ≡ [])
+Unlatched net bound (Err fault) = (fault ≡ netlist.Latches) × (net.latches ≢ [])
+
+-- the net with the words that are bound to it, or the first fault of the binding, and then of the latches
 abbrev pub WordsBound : List WordText → NetList → Outcome NetlistFault BoundNet
 WordsBound words net = do
   bound ← Within (λ fault. netlist.Binding (of_binding words net fault)) (BindingOf net words)
-  Exactly (record { net = net; bound = bound })
+  Unlatched net bound
 
 -- the net of a text with the words that are bound to it: the text, its net, and the binding, of which the first fault counts
-abbrev pub BoundNetOf : List WordText → List ℕ → Outcome NetlistFault BoundNet
+abbrev pub BoundNetOf : List WordText → NetlistText → Outcome NetlistFault BoundNet
 BoundNetOf words text = do
   net ← NetOf text
   WordsBound words net
@@ -86,4 +119,4 @@ BoundNetOf words text = do
 abbrev pub CircuitIn : Option Files → List WordText → Word → Outcome Fault BoundNet
 CircuitIn held words file = do
   text ← Within File (Read held file)
-  Within (Netlist file) (BoundNetOf words text)
+  Within (Netlist file) (BoundNetOf words (by_ending file text))

@@ -6,7 +6,7 @@ ghost use Rattle.net_words.specs.Bind.{bits_of};
 ghost use Rattle.net_words.specs.Binding.{AreWords};
 ghost use Rattle.job_words.specs.Stop.{GivesBy};
 ghost use Rattle.job_words.specs.declared.fault.Fault.TheVariants.{Netlist};
-ghost use Rattle.job_input.specs.NetlistOf.{BoundNetOf, CircuitIn};
+ghost use Rattle.job_input.specs.NetlistOf.{BoundNetOf, CircuitIn, by_ending};
 ghost use Rattle.job_input.specs.Setting.{IsReady, IsTakenFor};
 
 use crate::files::read_file;
@@ -49,11 +49,11 @@ fn circuit_of(
 ) -> Result<Combinational, Stop>
     requires short { length text.now ≤ 67108864 }
     requires words { (k : ℕ) × AreWords k words.now }
-    ensures gives { GivesBy (λ circuit. circuit) result (Within (Netlist file.now) (BoundNetOf words.now text.now)) ⊥ ⊥ }
+    ensures gives { GivesBy (λ circuit. circuit) result (Within (Netlist file.now) (BoundNetOf words.now (by_ending file.now text.now))) ⊥ ⊥ }
     ensures bits { IfOk result (λ circuit. circuit.bound.k ≡ bits_of words.now) }
 {
     let name = Name::new(alloc, file)?;
-    match bound_net(alloc, words, text) {
+    match bound_net(alloc, words, file, text) {
         Ok(circuit) => Ok(circuit),
         Err(Refusal::Fault(fault)) => Err(Stop::Refused(Fault::Netlist { file: name, fault })),
         Err(Refusal::OutOfMemory) => Err(Stop::OutOfMemory),

@@ -1,12 +1,14 @@
 //! A netlist: its text, its net, and the binding of the signature's words.
-ghost use Rattle.std.specs.Prelude.{◌≡◌, ◌≤◌, ◌<◌, ℕ, [], length, IfOk, IsOk};
+ghost use Rattle.std.specs.Prelude.{◌≡◌, ◌≤◌, ◌<◌, ℕ, length, IfOk, IsOk};
 ghost use Rattle.net_core.specs.NetList.{nets, text_of};
 ghost use Rattle.net_words.specs.Bind.{bits_of};
 ghost use Rattle.net_words.specs.Binding.{AreWords};
-ghost use Rattle.job_input.specs.NetlistOf.{BoundNetOf, NetOf, WordsBound, of_binding, word_name as name_of};
-ghost use Rattle.job_input.specs.private.NetlistReading.{FitsNetlist, IsNamed, IsNetlistRefusal, text_refusal, model_refusal, net_refusal};
+ghost use Rattle.job_words.specs.Operands.{is_aiger as ends_as_aiger};
+ghost use Rattle.job_input.specs.NetlistOf.{Aiger, Blif, BoundNetOf, NetOf, WordsBound, by_ending, of_binding, word_name as name_of};
+ghost use Rattle.job_input.specs.private.NetlistReading.{FitsNetlist, IsNamed, IsNetlistRefusal, aiger_refusal, text_refusal, model_refusal, net_refusal};
 
 use job_words::{BindingFault, NetlistFault};
+use net_aiger::{AigerFault, read_aiger};
 use net_blif::{BlifFault, FlatFault, flatten, read_blif};
 use net_core::{Name, Net, NetFault};
 use net_words::{BindFault, Combinational, WordText, bind};
@@ -19,18 +21,19 @@ pub(crate) enum Refusal {
     OutOfMemory,
 }
 
-/// The net of a text with the words that are bound to it.
+/// The net of a netlist's text, by the ending of its file's name, with the words that are bound to it.
 pub(crate) fn bound_net(
     alloc: Global,
     words: &[WordText],
+    file: &str,
     text: &[u8],
 ) -> Result<Combinational, Refusal>
     requires short { length text.now ≤ 67108864 }
     requires words { (k : ℕ) × AreWords k words.now }
-    ensures fits { FitsNetlist result (BoundNetOf words.now text.now) }
+    ensures fits { FitsNetlist result (BoundNetOf words.now (by_ending file.now text.now)) }
     ensures bits { IfOk result (λ circuit. circuit.bound.k ≡ bits_of words.now) }
 {
-    match net_of(alloc, text) {
+    match net_of(alloc, file, text) {
         Ok(net) => bound_to(alloc, words, net),
         Err(refusal) => Err(refusal),
     }
@@ -39,25 +42,70 @@ pub(crate) fn bound_net(
 // The net with the words that are bound to it.
 fn bound_to(alloc: Global, words: &[WordText], net: Net) -> Result<Combinational, Refusal>
     requires words { (k : ℕ) × AreWords k words.now }
-    requires flat { net.latches ≡ [] }
     ensures fits { FitsNetlist result (WordsBound words.now net) }
     ensures bits { IfOk result (λ circuit. circuit.bound.k ≡ bits_of words.now) }
 {
+    let _count = net.nets();
     let bound = match bind(alloc, words, &net) {
         Ok(bound) => bound,
         Err(fault) => return Err(binding_fault(alloc, words, &net, fault)),
     };
     match Combinational::new(net, bound) {
         Ok(circuit) => Ok(circuit),
-        Err(_) => unreachable!(),
+        Err(_) => Err(Refusal::Fault(NetlistFault::Latches)),
     }
 }
 
-// The net of a text, which has no latches.
-fn net_of(alloc: Global, text: &[u8]) -> Result<Net, Refusal>
+// Whether the name of a file says that it is in ASCII AIGER.
+fn is_aiger(file: &str) -> bool
+    ensures { result ≡ ends_as_aiger file.now }
+{
+    file.as_bytes().ends_with(b".aag")
+}
+
+// The net of a text, which the reader of its form gives.
+fn net_of(alloc: Global, file: &str, text: &[u8]) -> Result<Net, Refusal>
     requires { length text.now ≤ 67108864 }
-    ensures fits { FitsNetlist result (NetOf text.now) }
-    ensures flat { IfOk result (λ net. net.latches ≡ []) }
+    ensures fits { FitsNetlist result (NetOf (by_ending file.now text.now)) }
+{
+    if is_aiger(file) {
+        aiger_net(alloc, text)
+    } else {
+        blif_net(alloc, text)
+    }
+}
+
+// The net of a text in ASCII AIGER.
+fn aiger_net(alloc: Global, text: &[u8]) -> Result<Net, Refusal>
+    requires { length text.now ≤ 67108864 }
+    ensures fits { FitsNetlist result (NetOf (Aiger text.now)) }
+{
+    match read_aiger(alloc, text) {
+        Ok(net) => Ok(net),
+        Err(fault) => Err(aiger_fault(fault)),
+    }
+}
+
+// The refusal of a text in ASCII AIGER.
+fn aiger_fault(fault: AigerFault) -> Refusal
+    ensures { result ≡ aiger_refusal fault }
+{
+    match fault {
+        AigerFault::Syntax { line } => Refusal::Fault(NetlistFault::Syntax { line }),
+        AigerFault::LeftOut { line, word } => Refusal::Fault(NetlistFault::LeftOut { line, word }),
+        AigerFault::Literal { line } => Refusal::Fault(NetlistFault::Literal { line }),
+        AigerFault::DefinedTwice { line } => Refusal::Fault(NetlistFault::DefinedTwice { line }),
+        AigerFault::Undefined { line } => Refusal::Fault(NetlistFault::Undefined { line }),
+        AigerFault::NameTwice { line } => Refusal::Fault(NetlistFault::NameTwice { line }),
+        AigerFault::Net(fault) => net_fault(fault),
+        AigerFault::OutOfMemory => Refusal::OutOfMemory,
+    }
+}
+
+// The net of a text in BLIF.
+fn blif_net(alloc: Global, text: &[u8]) -> Result<Net, Refusal>
+    requires { length text.now ≤ 67108864 }
+    ensures fits { FitsNetlist result (NetOf (Blif text.now)) }
 {
     let design = match read_blif(alloc, text) {
         Ok(design) => design,

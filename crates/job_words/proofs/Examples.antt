@@ -1,11 +1,11 @@
 -- Small worked examples of the definitions of specs/, which the check computes: lines of faults, words of the command line.
-use Rattle.std.proofs.Common.{◌≡◌, ◌≢◌, ℕ, zero, suc, ◌<◌, ◌≤◌, [], ◌∷◌, codes, get_or, slice_index, inl, inr, refl, arith}
+use Rattle.std.proofs.Common.{◌≡◌, ◌≢◌, ℕ, zero, suc, ◌<◌, ◌≤◌, [], ◌∷◌, codes, get_or, slice_index, inl, inr, refl, arith, true}
 use Rattle.std.specs.Fmt.{digits}
 use Rattle.text_core.specs.Numbers.{IsDigit}
 use Rattle.poly_mixed.specs.declared.stage.Stage.TheVariants as stages
-use Rattle.job_words.specs.Command.{Bits, Abstract, IsSpelled}
+use Rattle.job_words.specs.Command.{Bits, Abstract, Same, IsSpelled}
 use Rattle.job_words.specs.Fault.{fault_line, fault_status}
-use Rattle.job_words.specs.Operands.{IsOperand, IsBlifName, IsOverNet}
+use Rattle.job_words.specs.Operands.{IsOperand, IsNetlistName, IsOverNet, is_aiger}
 use Rattle.job_words.specs.StageFault.{stage_text}
 use Rattle.job_words.specs.declared.fault.Fault.{Fault}
 use Rattle.job_words.specs.declared.fault.Fault.TheVariants as faults
@@ -47,11 +47,22 @@ operand_n = record { not_empty = λ e. absurd (cc); no_option = refl; plain = pl
     plain (suc k) d h = absurd (omega arith)
 
 over_net : IsOverNet (codes "s" ∷ codes "n" ∷ []) (codes "s") (codes "n") 65536
-over_net = record { options = []; words_are = refl; signature_is = operand_s; net_is = operand_n; blif = record { no_verilog = refl; no_aiger = refl }; set = inl (refl, refl) }
+over_net = record { options = []; words_are = refl; signature_is = operand_s; net_is = operand_n; netlist = refl; set = inl (refl, refl) }
 
 -- `bits s n` is the command `bits` with the signature s, the netlist n and the bound 65,536
 spelled_bits : IsSpelled (codes "bits" ∷ codes "s" ∷ codes "n" ∷ []) (record { signature = codes "s"; action = Bits (codes "n") 65536 })
 spelled_bits = record { rest = codes "s" ∷ codes "n" ∷ []; words_are = refl; follow = over_net }
+
+-- `same s n n` is the command `same` with the netlist n twice
+spelled_same : IsSpelled (codes "same" ∷ codes "s" ∷ codes "n" ∷ codes "n" ∷ []) (record { signature = codes "s"; action = Same (codes "n") (codes "n") 65536 })
+spelled_same = record {
+  rest = codes "s" ∷ codes "n" ∷ codes "n" ∷ [];
+  words_are = refl;
+  follow = record {
+    pair = record { options = []; words_are = refl; signature_is = operand_s; net_is = operand_n; netlist = refl; other_is = operand_n; set = inl (refl, refl) };
+    second = refl;
+  };
+}
 
 -- `abstract s n --terms 10` sets the bound 10
 spelled_abstract : IsSpelled (codes "abstract" ∷ codes "s" ∷ codes "n" ∷ codes "--terms" ∷ codes "10" ∷ []) (record { signature = codes "s"; action = Abstract (codes "n") 10 })
@@ -63,7 +74,7 @@ spelled_abstract = record {
     words_are = refl;
     signature_is = operand_s;
     net_is = operand_n;
-    blif = record { no_verilog = refl; no_aiger = refl };
+    netlist = refl;
     set = inr (codes "10", refl, record { decimal = ((omega arith, each), refl); no_zero = λ e. absurd (omega arith); some = omega arith; most = omega arith });
   };
 }
@@ -73,6 +84,10 @@ spelled_abstract = record {
     each (suc zero) h = (inl (omega arith, omega arith), omega arith)
     each (suc (suc k)) h = absurd (omega arith)
 
--- a netlist whose name ends in `.v` is not read as BLIF
-verilog_is_refused : IsBlifName (codes "m.v") → ⊥
-verilog_is_refused name = let same = name.no_verilog in absurd (cc)
+-- a netlist whose name ends in `.v` is not read
+verilog_is_refused : IsNetlistName (codes "m.v") → ⊥
+verilog_is_refused same = absurd (cc)
+
+-- one whose name ends in `.aag` is in ASCII AIGER
+aiger_by_ending : is_aiger (codes "m.aag") ≡ true
+aiger_by_ending = refl

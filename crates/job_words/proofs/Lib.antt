@@ -1,4 +1,5 @@
 pub mod WordLemmas
 pub mod SpelledLemmas
+pub mod OneCommandLemmas
 pub mod StepLemmas
 mod Examples

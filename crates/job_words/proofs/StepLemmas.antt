@@ -1,7 +1,7 @@
 -- One step of a job after another.
-use Rattle.std.proofs.Common.{inl, inr, refl, Result, Ok, Err}
-use Rattle.text_core.specs.Outcome.{Outcome, ◌>>=◌, Within}
-use Rattle.job_words.specs.Stop.{GivesBy, IsMiss}
+use Rattle.std.proofs.Common.{inl, inr, Result, Ok, Err}
+use Rattle.text_core.specs.Outcome.{Outcome, ◌>>=◌}
+use Rattle.job_words.specs.Stop.{GivesBy}
 use Rattle.job_words.specs.declared.fault.Fault.{Fault}
 use Rattle.job_words.specs.declared.stop.Stop.{Stop}
 use Rattle.job_words.specs.declared.stop.Stop.TheVariants.{Refused, Outside, OutOfMemory}

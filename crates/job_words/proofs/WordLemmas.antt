@@ -1,5 +1,5 @@
 -- The bytes of the first words of a list.
-use Rattle.std.proofs.Common.{◌≡◌, ℕ, ◌≤◌, ◌<◌, List, [], ◌∷◌, length, map, get_or, drop, take, ap, refl, subst, sym, ◌∙◌, ◌-◌, arith}
+use Rattle.std.proofs.Common.{◌≡◌, ℕ, ◌≤◌, ◌<◌, List, [], ◌∷◌, length, map, get_or, drop, take, ap, sym, ◌∙◌, ◌-◌, arith}
 use Rattle.std.proofs.lemmas.List.{take_all, length-drop}
 
 -- the whole of what is left after k elements
@@ -15,11 +15,20 @@ two_more f [] a b long x y = absurd (omega arith)
 two_more f (p ∷ []) a b long x y = absurd (omega arith)
 two_more f (p ∷ q ∷ xs) a b long x y = (λ i. f (sym x i) ∷ f (sym y i) ∷ map f xs)
 
+three_more : {A : Type 0} (f : A → List ℕ) (xs : List A) (a b c : A) → 3 ≤ length xs → a ≡ get_or xs 0 a → b ≡ get_or xs 1 b → c ≡ get_or xs 2 c → map f xs ≡ f a ∷ f b ∷ f c ∷ map f (drop 3 xs)
+three_more f [] a b c long x y z = absurd (omega arith)
+three_more f (p ∷ []) a b c long x y z = absurd (omega arith)
+three_more f (p ∷ q ∷ []) a b c long x y z = absurd (omega arith)
+three_more f (p ∷ q ∷ r ∷ xs) a b c long x y z = (λ i. f (sym x i) ∷ f (sym y i) ∷ f (sym z i) ∷ map f xs)
+
 pub one_first : {A : Type 0} (f : A → List ℕ) (xs : List A) (a : A) → 1 ≤ length xs → a ≡ get_or xs 0 a → map f xs ≡ f a ∷ map f (take (length xs - 1) (drop 1 xs))
 one_first f xs a long x = one_more f xs a long x ∙ ap (λ ys. f a ∷ map f ys) (rest_whole 1 xs)
 
 pub two_first : {A : Type 0} (f : A → List ℕ) (xs : List A) (a b : A) → 2 ≤ length xs → a ≡ get_or xs 0 a → b ≡ get_or xs 1 b → map f xs ≡ f a ∷ f b ∷ map f (take (length xs - 2) (drop 2 xs))
 two_first f xs a b long x y = two_more f xs a b long x y ∙ ap (λ ys. f a ∷ f b ∷ map f ys) (rest_whole 2 xs)
+
+pub three_first : {A : Type 0} (f : A → List ℕ) (xs : List A) (a b c : A) → 3 ≤ length xs → a ≡ get_or xs 0 a → b ≡ get_or xs 1 b → c ≡ get_or xs 2 c → map f xs ≡ f a ∷ f b ∷ f c ∷ map f (take (length xs - 3) (drop 3 xs))
+three_first f xs a b c long x y z = three_more f xs a b c long x y z ∙ ap (λ ys. f a ∷ f b ∷ f c ∷ map f ys) (rest_whole 3 xs)
 
 pub two_whole : {A : Type 0} (f : A → List ℕ) (xs : List A) (a b : A) → 2 ≤ length xs → length xs < 3 → a ≡ get_or xs 0 a → b ≡ get_or xs 1 b → map f xs ≡ f a ∷ f b ∷ []
 two_whole f [] a b long short x y = absurd (omega arith)

@@ -3,6 +3,7 @@ pub mod Command
 pub mod FileFault
 pub mod SignatureFault
 pub mod NetlistFault
+pub mod SpecificationFault
 pub mod StageFault
 pub mod Fault
 pub mod Stop

@@ -2,7 +2,7 @@
 ghost use Rattle.std.specs.Prelude.{◌≡◌, ◌∷◌, map, string_bytes, IfSome, IfNone};
 ghost use Rattle.job_words.specs.Command.{IsSpelled, job_of};
 
-use crate::operands::over_net;
+use crate::operands::{over_net, over_pair, over_two_nets};
 
 /// A command: the signature that it reads first, and what it does over it.
 #[derive(Clone, Copy, Debug)]
@@ -20,6 +20,10 @@ pub enum Task<'a> {
     Bits(NetWords<'a>),
     /// `abstract`: prints the output word's polynomial in the input words.
     Abstract(NetWords<'a>),
+    /// `check`: says whether a netlist computes its specification, or the input at which it does not.
+    Check(PairWords<'a>),
+    /// `same`: says whether two netlists compute one function, or the input at which they are told apart.
+    Same(PairWords<'a>),
 }
 
 /// The words of a command over one netlist.
@@ -27,6 +31,17 @@ pub enum Task<'a> {
 pub struct NetWords<'a> {
     /// The name of the netlist's file, which is read as BLIF.
     pub net: &'a str,
+    /// The most terms that a stage may have, 1 to 262,144.
+    pub terms: u32,
+}
+
+/// The words of a command over a netlist and a second file.
+#[derive(Clone, Copy, Debug)]
+pub struct PairWords<'a> {
+    /// The name of the netlist's file, which is read as BLIF.
+    pub net: &'a str,
+    /// The name of the second file.
+    pub other: &'a str,
     /// The most terms that a stage may have, 1 to 262,144.
     pub terms: u32,
 }
@@ -59,6 +74,20 @@ fn read_command<'a>(name: &str, rest: &'a [String]) -> Option<Command<'a>>
             Some((signature, words)) => Some(Command {
                 signature,
                 task: Task::Abstract(words),
+            }),
+            None => None,
+        },
+        "check" => match over_pair(rest) {
+            Some((signature, words)) => Some(Command {
+                signature,
+                task: Task::Check(words),
+            }),
+            None => None,
+        },
+        "same" => match over_two_nets(rest) {
+            Some((signature, words)) => Some(Command {
+                signature,
+                task: Task::Same(words),
             }),
             None => None,
         },

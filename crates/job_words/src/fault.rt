@@ -5,6 +5,7 @@ ghost use Rattle.job_words.specs.Fault.{fault_line, fault_status};
 use crate::file_fault::{FileFault, file_text};
 use crate::netlist_fault::{NetlistFault, netlist_text};
 use crate::signature_fault::{SignatureFault, signature_text};
+use crate::specification_fault::{SpecificationFault, specification_text};
 use crate::stage_fault::{StageFault, stage_fault_text};
 use net_core::Name;
 use std::alloc::{AllocError, Global};
@@ -20,6 +21,8 @@ pub enum Fault {
     Signature(SignatureFault),
     /// The netlist of this file, or its binding to the signature, is refused.
     Netlist { file: Name, fault: NetlistFault },
+    /// The specification is refused.
+    Specification(SpecificationFault),
     /// A stage has more terms than the bound.
     Stage(StageFault),
 }
@@ -29,7 +32,11 @@ pub fn status_of(fault: &Fault) -> u8
     ensures { result ≡ fault_status fault.now }
 {
     match fault {
-        Fault::Words | Fault::File(_) | Fault::Signature(_) | Fault::Netlist { .. } => 2,
+        Fault::Words
+        | Fault::File(_)
+        | Fault::Signature(_)
+        | Fault::Netlist { .. }
+        | Fault::Specification(_) => 2,
         Fault::Stage(_) => 3,
     }
 }
@@ -45,6 +52,7 @@ pub fn write_fault(alloc: Global, fault: &Fault) -> Result<Vec<u8>, AllocError>
         Fault::Netlist { file, fault } => {
             line_in(alloc, netlist_text(alloc, fault)?.as_str(), file.as_str())
         }
+        Fault::Specification(fault) => line_of(alloc, specification_text(alloc, fault)?.as_str()),
         Fault::Stage(fault) => line_of(alloc, stage_fault_text(alloc, fault)?.as_str()),
     }
 }

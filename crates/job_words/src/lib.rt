@@ -8,13 +8,15 @@ mod file_fault;
 mod netlist_fault;
 mod operands;
 mod signature_fault;
+mod specification_fault;
 mod stage_fault;
 mod stop;
 
-pub use command::{Command, NetWords, Task, read_words};
+pub use command::{Command, NetWords, PairWords, Task, read_words};
 pub use fault::{Fault, status_of, write_fault};
 pub use file_fault::FileFault;
 pub use netlist_fault::{BindingFault, NetlistFault};
 pub use signature_fault::SignatureFault;
+pub use specification_fault::SpecificationFault;
 pub use stage_fault::{StageFault, write_stage};
 pub use stop::Stop;

@@ -29,8 +29,18 @@ pub enum NetlistFault {
     TooManyNets,
     /// There would be 1,048,577 gates and latches.
     TooManyGates,
+    /// A literal is above those of the header, or one that is defined is 0, 1 or odd.
+    Literal { line: u32 },
+    /// An earlier line defines the literal.
+    DefinedTwice { line: u32 },
+    /// The line uses a variable that no line defines.
+    Undefined { line: u32 },
+    /// An earlier input, latch or output has the name.
+    NameTwice { line: u32 },
     /// The words can't be bound.
     Binding(BindingFault),
+    /// The words are bound, and the net has latches, whose cycles are not unrolled yet.
+    Latches,
 }
 
 /// Why the words of a signature can't be bound to a netlist. Places count from 0.
@@ -74,7 +84,14 @@ pub(crate) fn netlist_text(alloc: Global, fault: &NetlistFault) -> Result<String
         }
         NetlistFault::TooManyNets => format!(in alloc; "38: too many nets"),
         NetlistFault::TooManyGates => format!(in alloc; "38: too many gates"),
+        NetlistFault::Literal { line } => format!(in alloc; "46: literal at line {line}"),
+        NetlistFault::DefinedTwice { line } => {
+            format!(in alloc; "46: defined twice at line {line}")
+        }
+        NetlistFault::Undefined { line } => format!(in alloc; "46: undefined at line {line}"),
+        NetlistFault::NameTwice { line } => format!(in alloc; "46: name twice at line {line}"),
         NetlistFault::Binding(fault) => binding_text(alloc, fault),
+        NetlistFault::Latches => format!(in alloc; "31: latches"),
     }
 }
 

@@ -1,8 +1,8 @@
 //! Operands and options: the words behind the name of a command.
 ghost use Rattle.std.specs.Prelude.{◌≡◌, [], ◌∷◌, ◌↔◌, map, string_bytes, IsTrue, IfSome, IfNone};
-ghost use Rattle.job_words.specs.Operands.{IsOperand, IsBlifName, IsTermCount, AreOptions, IsOverNet};
+ghost use Rattle.job_words.specs.Operands.{IsOperand, IsNetlistName, IsTermCount, AreOptions, IsOverNet, IsOverPair, IsOverTwoNets};
 
-use crate::command::NetWords;
+use crate::command::{NetWords, PairWords};
 use text_core::read_decimal;
 
 /// A signature, and a netlist with the options behind it.
@@ -25,11 +25,64 @@ fn with_options<'a>(
     ensures found { IfSome result (λ r. IsOverNet (signature.now ∷ net.now ∷ map string_bytes options.now) r.0.now r.1.net.now r.1.terms) }
     ensures none { IfNone result ((s n t : _) → IsOverNet (signature.now ∷ net.now ∷ map string_bytes options.now) s n t → ⊥) }
 {
-    if !is_operand(signature) || !is_operand(net) || !is_blif_name(net) {
+    if !is_operand(signature) || !is_operand(net) || !is_netlist_name(net) {
         return None;
     }
     match read_options(options) {
         Some(terms) => Some((signature, NetWords { net, terms })),
+        None => None,
+    }
+}
+
+/// A signature, and two netlists with the options behind them.
+#[tactic(auto, using(crate::proofs::SpelledLemmas::not_second_net))]
+pub(crate) fn over_two_nets<'a>(words: &'a [String]) -> Option<(&'a str, PairWords<'a>)>
+    ensures found { IfSome result (λ r. IsOverTwoNets (map string_bytes words.now) r.0.now r.1.net.now r.1.other.now r.1.terms) }
+    ensures none { IfNone result ((signature net other terms : _) → IsOverTwoNets (map string_bytes words.now) signature net other terms → ⊥) }
+{
+    match over_pair(words) {
+        Some((signature, pair)) => {
+            if is_netlist_name(pair.other) {
+                Some((signature, pair))
+            } else {
+                None
+            }
+        }
+        None => None,
+    }
+}
+
+/// A signature, and a netlist and a second file with the options behind them.
+pub(crate) fn over_pair<'a>(words: &'a [String]) -> Option<(&'a str, PairWords<'a>)>
+    ensures found { IfSome result (λ r. IsOverPair (map string_bytes words.now) r.0.now r.1.net.now r.1.other.now r.1.terms) }
+    ensures none { IfNone result ((signature net other terms : _) → IsOverPair (map string_bytes words.now) signature net other terms → ⊥) }
+{
+    match words {
+        [signature, net, other, options @ ..] => pair_with_options(
+            signature.as_str(),
+            net.as_str(),
+            other.as_str(),
+            options,
+        ),
+        _ => None,
+    }
+}
+
+// The same of three operands and options.
+fn pair_with_options<'a>(
+    signature: &'a str,
+    net: &'a str,
+    other: &'a str,
+    options: &[String],
+) -> Option<(&'a str, PairWords<'a>)>
+    ensures found { IfSome result (λ r. IsOverPair (signature.now ∷ net.now ∷ other.now ∷ map string_bytes options.now) r.0.now r.1.net.now r.1.other.now r.1.terms) }
+    ensures none { IfNone result ((s n o t : _) → IsOverPair (signature.now ∷ net.now ∷ other.now ∷ map string_bytes options.now) s n o t → ⊥) }
+{
+    if !is_operand(signature) || !is_operand(net) || !is_operand(other) || !is_netlist_name(net) {
+        return None;
+    }
+    match read_options(options) {
+        Some(terms) => Some((signature, PairWords { net, other, terms })),
         None => None,
     }
 }
@@ -43,11 +96,11 @@ fn is_operand(word: &str) -> bool
         && word.as_bytes().iter().all(|&b| b >= 0x20 && b != 0x7f)
 }
 
-// Whether a word names a netlist in BLIF.
-fn is_blif_name(word: &str) -> bool
-    ensures { IsTrue result ↔ IsBlifName word.now }
+// Whether a word names a netlist of a form that is read.
+fn is_netlist_name(word: &str) -> bool
+    ensures { IsTrue result ↔ IsNetlistName word.now }
 {
-    !word.as_bytes().ends_with(b".v") && !word.as_bytes().ends_with(b".aag")
+    !word.as_bytes().ends_with(b".v")
 }
 
 // The bound on terms that the options set.

@@ -5,10 +5,11 @@ use Rattle.std.proofs.lemmas.List.{length-append, length-map}
 use Rattle.std.proofs.lemmas.List.Elements.{All-append, All-weaker}
 use Rattle.net_core.specs.NetList.{NetList, nets}
 use Rattle.net_core.specs.GateValue.{GateValue}
+use Rattle.net_core.specs.declared.latch.Start.{Start}
 use Rattle.net_core.specs.declared.fault.NetFault.{NetFault}
 use Rattle.net_core.specs.declared.fault.NetFault.TheVariants as faults
 use Rattle.net_blif.specs.Design.{ModelValue, items_of}
-use Rattle.net_blif.specs.Flat.{Path, Step, Mention, Input, Output, Gate, Flat, nothing, label_of, place_from, number, gate_on, after_step, on_value, same_path, walked, walk_of, was_mentioned, steps_of, net_list}
+use Rattle.net_blif.specs.Flat.{Path, Step, Mention, Input, Output, Gate, Latch, Flat, nothing, label_of, place_from, number, gate_on, latch_on, after_step, on_value, same_path, walked, walk_of, was_mentioned, steps_of, net_list}
 use Rattle.net_blif.specs.declared.item.Item.{Item}
 use Rattle.net_blif.specs.declared.item.Item.TheVariants as items
 
@@ -72,11 +73,19 @@ module _ (flat : Flat) (drives : Drives flat) where
         by true e = absurd (cc)
         by false e = became (record flat { gates = flat.gates ++ gate_on flat inputs out table ∷ [] }) (with_one inputs out table) e
 
+    latch_drives : (first out : Path) (start : Start) → after_step flat (Latch first out start) ≡ Ok next → Drives next
+    latch_drives first out start made = by (nat_le (2 ^ 20) (length flat.gates + length flat.latches)) made
+      where
+        by : (b : Bool) → cond b (Err faults.TooManyGates) (Ok (record flat { latches = flat.latches ++ latch_on flat first out start ∷ [] })) ≡ Ok next → Drives next
+        by true e = absurd (cc)
+        by false e = became (record flat { latches = flat.latches ++ latch_on flat first out start ∷ [] }) (record { some = drives.some; gates = drives.gates }) e
+
     step_drives : (step : Step) → after_step flat step ≡ Ok next → Drives next
     step_drives (Mention path) made = mention_drives path made
     step_drives (Input path) made = became (record flat { inputs = flat.inputs ++ number flat path ∷ [] }) (record { some = drives.some; gates = drives.gates }) made
     step_drives (Output path) made = became (record flat { outputs = flat.outputs ++ number flat path ∷ [] }) (record { some = drives.some; gates = drives.gates }) made
     step_drives (Gate inputs out table) made = gate_drives inputs out table made
+    step_drives (Latch first out start) made = latch_drives first out start made
 
 further_drives : (flat more : Flat) (steps : List Step) → Drives flat → walked flat steps ≡ Ok more → Drives more
 further_drives flat more [] drives made = became flat drives more flat drives made
@@ -93,6 +102,7 @@ BeginsWell (Mention path ∷ steps) = Unit {0}
 BeginsWell (Input path ∷ steps) = ⊥
 BeginsWell (Output path ∷ steps) = ⊥
 BeginsWell (Gate inputs out table ∷ steps) = ⊥
+BeginsWell (Latch next out start ∷ steps) = ⊥
 
 begins_first : (xs ys : List Step) → BeginsWell xs → BeginsWell ys → BeginsWell (xs ++ ys)
 begins_first [] ys first second = second
@@ -100,6 +110,7 @@ begins_first (Mention path ∷ xs) ys first second = tt
 begins_first (Input path ∷ xs) ys first second = absurd first
 begins_first (Output path ∷ xs) ys first second = absurd first
 begins_first (Gate inputs out table ∷ xs) ys first second = absurd first
+begins_first (Latch next out start ∷ xs) ys first second = absurd first
 
 item_begins : (item : Item) → BeginsWell (steps_of item)
 item_begins (items.Inputs []) = tt
@@ -108,6 +119,7 @@ item_begins (items.Outputs []) = tt
 item_begins (items.Outputs (net ∷ nets)) = tt
 item_begins (items.Gate line [] out table) = tt
 item_begins (items.Gate line (net ∷ nets) out table) = tt
+item_begins (items.Latch line next out start) = tt
 
 items_begin : (list : List Item) → BeginsWell (flat_map steps_of list)
 items_begin [] = tt
@@ -119,6 +131,7 @@ from_nothing (Mention path ∷ steps) flat begins made = (further_drives (record
 from_nothing (Input path ∷ steps) flat begins made = absurd begins
 from_nothing (Output path ∷ steps) flat begins made = absurd begins
 from_nothing (Gate inputs out table ∷ steps) flat begins made = absurd begins
+from_nothing (Latch next out start ∷ steps) flat begins made = absurd begins
 
 -- what the lines of a model place drives nets that exist
 pub walk_drives : (design : List ModelValue) (model : ℕ) (flat : Flat) → walked nothing (walk_of design model) ≡ Ok flat → DriveNets (net_list flat)

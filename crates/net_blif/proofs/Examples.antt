@@ -1,7 +1,9 @@
 -- Small worked examples of the definitions of specs/, which the check computes. A `\` is the byte 92.
 use Rattle.std.proofs.Common.{◌≡◌, List, [], ◌∷◌, ◌++◌, true, false, Ok, Some, codes, refl}
 use Rattle.net_blif.specs.Lines.{clean, joined}
-use Rattle.net_blif.specs.Statement.{spelled, is_other}
+use Rattle.net_core.specs.declared.latch.Start.TheVariants.{One, Unknown}
+use Rattle.net_blif.specs.Statement.{spelled, is_latch_end, is_other}
+use Rattle.net_blif.specs.Latch.{start_of}
 use Rattle.net_blif.specs.Cover.{CoverValue, fits, table_of}
 use Rattle.net_blif.specs.Design.{ModelValue, model_named}
 use Rattle.net_blif.specs.Flat.{Top, walked, walk_of, nothing}
@@ -24,9 +26,24 @@ spelled_cover = refl
 spelled_row : spelled (Row [] true) ≡ codes "1" ∷ []
 spelled_row = refl
 
--- `.latch` is a word that no statement begins with
-latch_is_other : is_other (codes ".latch") ≡ true
-latch_is_other = refl
+-- a latch may end with `re clk 1`, and then starts with 1
+latch_ends : is_latch_end (codes "re" ∷ codes "clk" ∷ codes "1" ∷ []) ≡ true
+latch_ends = refl
+
+latch_starts : start_of (codes "re" ∷ codes "clk" ∷ codes "1" ∷ []) ≡ One
+latch_starts = refl
+
+-- with `re clk` alone its start is not known
+latch_starts_somehow : start_of (codes "re" ∷ codes "clk" ∷ []) ≡ Unknown
+latch_starts_somehow = refl
+
+-- and with `re` alone it may not end
+latch_ends_not : is_latch_end (codes "re" ∷ []) ≡ false
+latch_ends_not = refl
+
+-- `.gate` is a word that no statement begins with
+gate_is_other : is_other (codes ".gate") ≡ true
+gate_is_other = refl
 
 -- and `.names` is none
 names_is_no_other : is_other (codes ".names") ≡ false
@@ -65,3 +82,10 @@ model_named_and = refl
 -- the walk over it mentions a, b and y as nets 0, 1 and 2, and places the gate on them
 walk_of_and : walked nothing (walk_of design 0) ≡ Ok (record { paths = Top (codes "a") ∷ Top (codes "b") ∷ Top (codes "y") ∷ []; inputs = 0 ∷ 1 ∷ []; outputs = 2 ∷ []; gates = record { out = 2; inputs = 0 ∷ 1 ∷ []; table = 8 } ∷ []; latches = [] })
 walk_of_and = refl
+
+abbrev latched : List ModelValue
+latched = record { name = codes "r"; items = items.Inputs (codes "d" ∷ []) ∷ items.Latch 3 (codes "d") (codes "q") One ∷ [] } ∷ []
+
+-- a latch mentions what it reads and then what it drives
+walk_of_latch : walked nothing (walk_of latched 0) ≡ Ok (record { paths = Top (codes "d") ∷ Top (codes "q") ∷ []; inputs = 0 ∷ []; outputs = []; gates = []; latches = record { next = 0; out = 1; start = One } ∷ [] })
+walk_of_latch = refl

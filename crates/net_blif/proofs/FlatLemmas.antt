@@ -3,13 +3,14 @@ use Rattle.std.proofs.Common.{◌≡◌, ◌⊎◌, ◌∙◌, inl, inr, ap, sym
 use Rattle.std.specs.Prelude.{is_some, unwrap_or, nat_le}
 use Rattle.std.specs.Str.{bytes_eq}
 use Rattle.std.proofs.lemmas.List.{length-map, map_push}
-use Rattle.net_core.specs.NetList.{NetList, empty, number_from, with_gate}
+use Rattle.net_core.specs.NetList.{NetList, empty, number_from, with_gate, with_latch}
 use Rattle.net_core.specs.Finish.{Finishes}
+use Rattle.net_core.specs.declared.latch.Start.{Start}
 use Rattle.net_core.specs.declared.fault.NetFault.{NetFault}
 use Rattle.net_core.specs.declared.fault.NetFault.TheVariants as faults
 use Rattle.net_blif.specs.Statement.{Token}
 use Rattle.net_blif.specs.Design.{ModelValue}
-use Rattle.net_blif.specs.Flat.{Path, Top, Step, Mention, Input, Output, Gate, Flat, nothing, label_of, place_from, number, gate_on, after_step, on_value, walked, walk_of, net_list, Settles, Flattens}
+use Rattle.net_blif.specs.Flat.{Path, Top, Step, Mention, Input, Output, Gate, Latch, Flat, nothing, label_of, place_from, number, gate_on, latch_on, after_step, on_value, walked, walk_of, net_list, Settles, Flattens}
 use Rattle.net_blif.specs.NamedWalk.{after_named, name_of, named_walk, number_in, IsFaultOf}
 use Rattle.net_blif.specs.declared.flat_fault.FlatFault.{FlatFault}
 use Rattle.net_blif.specs.declared.flat_fault.FlatFault.TheVariants.{Net, OutOfMemory}
@@ -44,11 +45,19 @@ gate_same flat inputs out table = rw (number_same flat out, numbers_same flat in
     by true = refl
     by false = refl
 
+latch_same : (flat : Flat) (first out : Path) (start : Start) → after_named (net_list flat) (Latch first out start) ≡ listed (after_step flat (Latch first out start))
+latch_same flat first out start = rw (number_same flat first, number_same flat out) (by (nat_le (2 ^ 20) (length flat.gates + length flat.latches)))
+  where
+    by : (b : Bool) → cond b (Err faults.TooManyGates) (Ok (with_latch (net_list flat) (latch_on flat first out start))) ≡ listed (cond b (Err faults.TooManyGates) (Ok (record flat { latches = flat.latches ++ latch_on flat first out start ∷ [] })))
+    by true = refl
+    by false = refl
+
 step_same : (flat : Flat) (step : Step) → after_named (net_list flat) step ≡ listed (after_step flat step)
 step_same flat (Mention path) = mention_same flat path
 step_same flat (Input path) = ap (λ n. Ok (record (net_list flat) { inputs = flat.inputs ++ n ∷ [] })) (number_same flat path)
 step_same flat (Output path) = ap (λ n. Ok (record (net_list flat) { outputs = flat.outputs ++ n ∷ [] })) (number_same flat path)
 step_same flat (Gate inputs out table) = gate_same flat inputs out table
+step_same flat (Latch first out start) = latch_same flat first out start
 
 walk_same : (flat : Flat) (steps : List Step) → named_walk (net_list flat) steps ≡ listed (walked flat steps)
 walk_same flat [] = refl

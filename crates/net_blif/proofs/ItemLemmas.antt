@@ -6,7 +6,7 @@ use Rattle.net_blif.specs.Statement.{Token, IsToken, spelled}
 use Rattle.net_blif.specs.Spelling.{statement_of}
 use Rattle.net_blif.specs.Item.{HasPrintingNames}
 use Rattle.net_blif.specs.declared.statement.Statement.{Statement}
-use Rattle.net_blif.specs.declared.statement.Statement.TheVariants.{Model, Inputs, Outputs, Clock, Cover, Row, End, Other}
+use Rattle.net_blif.specs.declared.statement.Statement.TheVariants.{Model, Inputs, Outputs, Clock, Cover, Latch, Row, End, Other}
 use Rattle.net_blif.proofs.StatementLemmas.{read_spells}
 
 names_rest : (word : Token) (nets : List Token) → All IsToken (word ∷ nets) → All IsToken nets
@@ -31,6 +31,7 @@ spelled_names (Inputs nets) all = names_rest _ nets all
 spelled_names (Outputs nets) all = names_rest _ nets all
 spelled_names (Clock nets) all = tt
 spelled_names (Cover inputs out) all = let nets = names_rest _ (inputs ++ out ∷ []) all in (names_front inputs out nets, name_last inputs out nets)
+spelled_names (Latch next out rest) all = (all 1 [] (omega arith), all 2 [] (omega arith))
 spelled_names (Row pattern output) all = tt
 spelled_names End all = tt
 spelled_names (Other word rest) all = (all 0 [] (omega arith)).2

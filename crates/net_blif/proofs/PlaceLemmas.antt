@@ -6,11 +6,12 @@ use Rattle.std.proofs.Math.Seq.{get_or-append_seam}
 use Rattle.std.proofs.lemmas.List.{get_or_append_left, length-append, map_push}
 use Rattle.std.proofs.lemmas.List.Elements.{All-append}
 use Rattle.std.proofs.lemmas.Option.{get_or_from_slice_get, slice_get-map, slice_get_within}
+use Rattle.net_core.specs.declared.latch.Start.{Start}
 use Rattle.net_blif.specs.Statement.{Token, IsToken}
 use Rattle.net_blif.specs.Item.{IsSoundItem}
 use Rattle.net_blif.specs.Places.{ArePlaces, IsPlace, item_at, items_at}
 use Rattle.net_blif.specs.declared.item.Item.{Item}
-use Rattle.net_blif.specs.declared.item.Item.TheVariants.{Inputs, Outputs, Gate}
+use Rattle.net_blif.specs.declared.item.Item.TheVariants.{Inputs, Outputs, Gate, Latch}
 use Rattle.net_blif.specs.declared.item_list.Place.{Place}
 use Rattle.net_blif.specs.declared.item_list.Place.TheVariants as places
 use Rattle.net_blif.proofs.TokenLemmas.{range_kept, range_new}
@@ -33,6 +34,7 @@ pub place_grows : (n m : ℕ) (place : Place) → n ≤ m → IsPlace n place �
 place_grows n m (places.Inputs first end) le is = (is.0, omega (arith, le, is.1))
 place_grows n m (places.Outputs first end) le is = (is.0, omega (arith, le, is.1))
 place_grows n m (places.Gate line first end table) le is = (is.0, omega (arith, le, is.1))
+place_grows n m (places.Latch line first start) le is = omega (arith, le, is)
 
 pub item_kept : (tokens more : List Token) (place : Place) → IsPlace (length tokens) place → item_at (tokens ++ more) place ≡ item_at tokens place
 item_kept tokens more (places.Inputs first end) is = ap Inputs (range_kept tokens more first end is.0 is.1)
@@ -40,6 +42,9 @@ item_kept tokens more (places.Outputs first end) is = ap Outputs (range_kept tok
 item_kept tokens more (places.Gate line first end table) is =
     let within : end ≤ length tokens = omega (arith, is.1) in
     ap (λ (nets : List Token). Gate line nets (get_or (tokens ++ more) end []) table) (range_kept tokens more first end is.0 within) ∙ ap (λ (out : Token). Gate line (slice_range tokens first end) out table) (get_or_append_left tokens more [] end is.1)
+item_kept tokens more (places.Latch line first start) is =
+    let less : first < length tokens = omega (arith, is) in
+    ap (λ (next : Token). Latch line next (get_or (tokens ++ more) (first + 1) []) start) (get_or_append_left tokens more [] first less) ∙ ap (λ (out : Token). Latch line (get_or tokens first []) out start) (get_or_append_left tokens more [] (first + 1) is)
 
 pub items_kept : (tokens more : List Token) (list : List Place) → ArePlaces (length tokens) list → items_at (tokens ++ more) list ≡ items_at tokens list
 items_kept tokens more [] inside = refl
@@ -100,3 +105,21 @@ module _ (tokens inputs mid new : List Token) (out : Token) (line first end tabl
       let size : length mid ≡ length tokens + length inputs = ap length appended ∙ length-append tokens inputs in
       let longer : length new ≡ length mid + 1 = ap length pushed ∙ length-append mid (out ∷ []) in
       (omega (arith, from, to, size), omega (arith, to, longer))
+
+-- the nets of a latch
+module _ (tokens mid new : List Token) (next out : Token) (line first : ℕ) (start : Start) (read : mid ≡ tokens ++ next ∷ []) (pushed : new ≡ mid ++ out ∷ []) (from : first ≡ length tokens) where
+  second : first + 1 ≡ length mid
+  second = omega (arith, from, ap length read, length-append tokens (next ∷ []))
+
+  pub latch_new : item_at new (places.Latch line first start) ≡ Latch line next out start
+  latch_new =
+      let less : first < length mid = omega (arith, second) in
+      let one : get_or new first [] ≡ next = rw pushed (get_or_append_left mid (out ∷ []) [] first less ∙ rw (read, from) (get_or-append_seam tokens next [] [])) in
+      let two : get_or new (first + 1) [] ≡ out = rw (pushed, second) (get_or-append_seam mid out [] []) in
+      ap (λ (x : Token). Latch line x (get_or new (first + 1) []) start) one ∙ ap (λ (x : Token). Latch line next x start) two
+
+  pub latch_grown : new ≡ tokens ++ (next ∷ out ∷ [])
+  latch_grown = pushed ∙ (ap (λ (xs : List Token). xs ++ out ∷ []) read ∙ append_assoc tokens (next ∷ []) (out ∷ []))
+
+  pub latch_inside : IsPlace (length new) (places.Latch line first start)
+  latch_inside = omega (arith, second, ap length pushed, length-append mid (out ∷ []))

@@ -5,15 +5,16 @@ use Rattle.std.proofs.lemmas.Bool.{leb-true, le-leb}
 use Rattle.std.proofs.lemmas.List.{map_push}
 use Rattle.std.proofs.lemmas.List.Elements.{All-append, All-map}
 use Rattle.std.proofs.Math.Seq.{take-suc}
-use Rattle.net_core.specs.NetList.{NetList, nets, number_of, with_gate, with_label, with_name}
+use Rattle.net_core.specs.NetList.{NetList, nets, number_of, with_gate, with_latch, with_label, with_name}
 use Rattle.net_core.specs.GateValue.{GateValue}
 use Rattle.net_core.specs.Inside.{HasNoMoreGates, IsFull}
+use Rattle.net_core.specs.declared.latch.Start.{Start}
 use Rattle.net_core.specs.declared.fault.NetFault.{NetFault}
 use Rattle.net_core.specs.declared.fault.NetFault.TheVariants as faults
 use Rattle.net_core.proofs.NameLemmas.{number_kept, number_below}
 use Rattle.net_blif.specs.Statement.{Token}
-use Rattle.net_blif.specs.Flat.{Top, Step, Mention, Gate, on_value}
-use Rattle.net_blif.specs.NamedWalk.{after_named, gate_steps, mentions, name_of, named_gate, named_walk, number_in, HasEach, IsFaultOf}
+use Rattle.net_blif.specs.Flat.{Top, Step, Mention, Gate, Latch, on_value}
+use Rattle.net_blif.specs.NamedWalk.{after_named, gate_steps, latch_steps, mentions, name_of, named_gate, named_latch, named_walk, number_in, HasEach, IsFaultOf}
 use Rattle.net_blif.specs.declared.flat_fault.FlatFault.{FlatFault}
 use Rattle.net_blif.specs.declared.flat_fault.FlatFault.TheVariants.{Net, OutOfMemory}
 
@@ -164,3 +165,35 @@ gate_numbers mid more inputs out numbers second each are =
     let same : numbers ≡ map (number_in more) inputs = are ∙ numbers_kept mid more inputs keeps each in
     let P : List ℕ → Type 0 = All (λ n. n < nets more) in
     (same, subst P (sym same) (numbers_inside more inputs (each_kept mid more inputs keeps each)))
+
+-- a latch on two nets
+module _ (old mid more : NetList) (next out : Token) (start : Start) (first : after_named old (Mention (Top next)) ≡ Ok mid) where
+  pub refused_driven : (fault : FlatFault) → IsFaultOf (after_named mid (Mention (Top out))) fault → IsFaultOf (named_walk old (latch_steps next out start)) fault
+  refused_driven fault refused = refused_same _ _ fault (made_step old mid (Mention (Top next)) (Mention (Top out) ∷ Latch (Top next) (Top out) start ∷ []) first) (refused_step mid fault (Mention (Top out)) (Latch (Top next) (Top out) start ∷ []) refused)
+
+  module _ (second : after_named mid (Mention (Top out)) ≡ Ok more) where
+    to_latch : named_walk old (latch_steps next out start) ≡ named_walk more (Latch (Top next) (Top out) start ∷ [])
+    to_latch = made_step old mid (Mention (Top next)) (Mention (Top out) ∷ Latch (Top next) (Top out) start ∷ []) first ∙ made_step mid more (Mention (Top out)) (Latch (Top next) (Top out) start ∷ []) second
+
+    -- what the maker answers to a latch, as a step
+    pub latch_walked : (new : NetList) (read driven : ℕ) → number_of mid next ≡ Some read → number_of more out ≡ Some driven → new ≡ with_latch more (record { next = read; out = driven; start = start }) → (HasNoMoreGates more → ⊥) → named_walk old (latch_steps next out start) ≡ Ok new
+    latch_walked new read driven reads drives made room = to_latch ∙ made_step more new (Latch (Top next) (Top out) start) [] (by (nat_le (2 ^ 20) (length more.gates + length more.latches)) refl)
+      where
+        kept_next : number_of more next ≡ Some read
+        kept_next = kept mid more out second next read reads
+
+        same : named_latch more next out start ≡ record { next = read; out = driven; start = start }
+        same = rw (kept_next, drives) refl
+
+        by : (b : Bool) → nat_le (2 ^ 20) (length more.gates + length more.latches) ≡ b → cond b (Err faults.TooManyGates) (Ok (with_latch more (named_latch more next out start))) ≡ Ok new
+        by true f = absurd (room (leb-true (2 ^ 20) (length more.gates + length more.latches) f))
+        by false f = ap Ok (ap (with_latch more) same ∙ sym made)
+
+    pub latch_fault : (refusal : NetFault) (fault : FlatFault) → ((refusal ≡ faults.OutOfMemory) × (fault ≡ OutOfMemory)) ⊎ (¬ (refusal ≡ faults.OutOfMemory) × (fault ≡ Net refusal)) → (refusal ≡ faults.TooManyGates) ⊎ (refusal ≡ faults.OutOfMemory) → (refusal ≡ faults.TooManyGates → HasNoMoreGates more) → IsFaultOf (named_walk old (latch_steps next out start)) fault
+    latch_fault refusal fault (inl (wanting, is)) only full = inl is
+    latch_fault refusal fault (inr (other, is)) (inr wanting) full = absurd (other wanting)
+    latch_fault refusal fault (inr (other, is)) (inl gates) full =
+        refused_same _ _ fault to_latch (refused_step more fault (Latch (Top next) (Top out) start) [] (inr (refusal, refuses ∙ ap Err (sym gates), is)))
+      where
+        refuses : after_named more (Latch (Top next) (Top out) start) ≡ Err faults.TooManyGates
+        refuses = let b : nat_le (2 ^ 20) (length more.gates + length more.latches) ≡ true = le-leb (2 ^ 20) (length more.gates + length more.latches) (full gates) in rw b refl

@@ -6,6 +6,7 @@ use Rattle.net_core.specs.NetList.{NetList, LabelValue}
 use Rattle.net_core.specs.GateValue.{GateValue}
 use Rattle.net_core.specs.LatchValue.{LatchValue}
 use Rattle.net_core.specs.Finish.{Finishes}
+use Rattle.net_core.specs.declared.latch.Start.{Start}
 use Rattle.net_core.specs.declared.fault.NetFault.{NetFault}
 use Rattle.net_core.specs.declared.fault.NetFault.TheVariants.{TooManyNets, TooManyGates, OutOfMemory}
 use Rattle.net_blif.specs.Statement.{Token}
@@ -32,6 +33,7 @@ pub data Step : Type 0 where
   Input : (path : Path) → Step
   Output : (path : Path) → Step
   Gate : (inputs : List Path) (out : Path) (table : ℕ) → Step
+  Latch : (next : Path) (out : Path) (start : Start) → Step
 
 -- what the walk has met: the different paths by their first mention, and what was appended, in order
 pub record Flat : Type 0 where
@@ -60,6 +62,9 @@ number flat path = unwrap_or (place_from 0 flat.paths path) 0
 abbrev pub gate_on : Flat → List Path → Path → ℕ → GateValue
 gate_on flat inputs out table = record { out = number flat out; inputs = map (number flat) inputs; table = table }
 
+abbrev pub latch_on : Flat → Path → Path → Start → LatchValue
+latch_on flat next out start = record { next = number flat next; out = number flat out; start = start }
+
 -- A mention of a new path makes a net, of which there are at most 1,048,576; all else is appended, and there are at most 1,048,576 gates and latches.
 abbrev pub after_step : Flat → Step → Result Flat NetFault
 after_step flat (Mention path) =
@@ -71,6 +76,9 @@ after_step flat (Output path) = Ok (record flat { outputs = flat.outputs ++ numb
 after_step flat (Gate inputs out table) =
     if nat_le (2 ^ 20) (length flat.gates + length flat.latches) then Err TooManyGates
     else Ok (record flat { gates = flat.gates ++ gate_on flat inputs out table ∷ [] })
+after_step flat (Latch next out start) =
+    if nat_le (2 ^ 20) (length flat.gates + length flat.latches) then Err TooManyGates
+    else Ok (record flat { latches = flat.latches ++ latch_on flat next out start ∷ [] })
 
 -- what a further step makes of a value, where there is one
 abbrev pub on_value : {F A B : Type 0} → (A → Result B F) → Result A F → Result B F
@@ -87,6 +95,7 @@ abbrev pub steps_of : Item → List Step
 steps_of (items.Inputs nets) = flat_map (λ net. Mention (Top net) ∷ Input (Top net) ∷ []) nets
 steps_of (items.Outputs nets) = flat_map (λ net. Mention (Top net) ∷ Output (Top net) ∷ []) nets
 steps_of (items.Gate line inputs out table) = map (λ net. Mention (Top net)) inputs ++ Mention (Top out) ∷ Gate (map Top inputs) (Top out) table ∷ []
+steps_of (items.Latch line next out start) = Mention (Top next) ∷ Mention (Top out) ∷ Latch (Top next) (Top out) start ∷ []
 
 -- the walk over what the lines of a model place, from the first to the last
 abbrev pub walk_of : List ModelValue → ℕ → List Step

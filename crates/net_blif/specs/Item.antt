@@ -4,7 +4,7 @@ use Rattle.text_core.specs.Lines.{IsPrinting}
 use Rattle.net_blif.specs.Statement.{IsToken}
 use Rattle.net_blif.specs.Cover.{CoverValue}
 use Rattle.net_blif.specs.declared.item.Item.{Item}
-use Rattle.net_blif.specs.declared.item.Item.TheVariants.{Inputs, Outputs, Gate}
+use Rattle.net_blif.specs.declared.item.Item.TheVariants.{Inputs, Outputs, Gate, Latch}
 use Rattle.net_blif.specs.declared.statement.Statement.{Statement}
 use Rattle.net_blif.specs.declared.statement.Statement.TheVariants as statements
 
@@ -13,6 +13,7 @@ abbrev pub IsSoundItem : Item → Type 0
 IsSoundItem (Inputs nets) = All IsToken nets
 IsSoundItem (Outputs nets) = All IsToken nets
 IsSoundItem (Gate line inputs out table) = All IsToken inputs × IsToken out × (length inputs ≤ 6) × (table < 2 ^ (2 ^ length inputs))
+IsSoundItem (Latch line next out start) = IsToken next × IsToken out
 
 -- a cover on at most 6 inputs, whose names are tokens
 abbrev pub IsSoundCover : CoverValue → Type 0
@@ -24,5 +25,6 @@ HasPrintingNames (statements.Model name) = IsPrinting name
 HasPrintingNames (statements.Inputs nets) = All IsToken nets
 HasPrintingNames (statements.Outputs nets) = All IsToken nets
 HasPrintingNames (statements.Cover inputs out) = All IsToken inputs × IsToken out
+HasPrintingNames (statements.Latch next out rest) = IsToken next × IsToken out
 HasPrintingNames (statements.Other word rest) = IsPrinting word
 HasPrintingNames _ = ⊤

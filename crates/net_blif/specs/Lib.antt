@@ -1,6 +1,7 @@
 pub mod Lines
 pub mod Statement
 pub mod Tokens
+pub mod Latch
 pub mod Cover
 pub mod Item
 pub mod Places

@@ -6,12 +6,13 @@ use Rattle.text_core.specs.Lines.{tokens_of}
 use Rattle.text_core.specs.Outcome.{Outcome, ◌>>=◌, Exactly, Returns}
 use Rattle.net_blif.specs.Lines.{Numbered, lines_of}
 use Rattle.net_blif.specs.Statement.{Token, IsToken, spelled, is_well, is_dotted}
+use Rattle.net_blif.specs.Latch.{start_of}
 use Rattle.net_blif.specs.Cover.{CoverValue, begun, gate_of, takes_row, with_row}
 use Rattle.net_blif.specs.Design.{ModelValue, model_named}
 use Rattle.net_blif.specs.declared.item.Item.{Item}
 use Rattle.net_blif.specs.declared.item.Item.TheVariants as items
 use Rattle.net_blif.specs.declared.statement.Statement.{Statement}
-use Rattle.net_blif.specs.declared.statement.Statement.TheVariants.{Model, Inputs, Outputs, Clock, Cover, Row, End, Other}
+use Rattle.net_blif.specs.declared.statement.Statement.TheVariants.{Model, Inputs, Outputs, Clock, Cover, Latch, Row, End, Other}
 use Rattle.net_blif.specs.declared.fault.BlifFault.{BlifFault}
 use Rattle.net_blif.specs.declared.fault.BlifFault.TheVariants.{NoModel, Syntax, LeftOut, TooWide, ModelTwice}
 
@@ -71,6 +72,7 @@ next reading n (Clock nets) = Ok (in_model (with_items [] None) reading)
 next reading n (Cover inputs out) =
     if nat_lt 6 (length inputs) then Err (TooWide n (length inputs))
     else Ok (in_model (with_items [] (Some (begun n inputs out))) reading)
+next reading n (Latch first out rest) = Ok (in_model (with_items (items.Latch n first out (start_of rest) ∷ []) None) reading)
 next reading n (Row pattern output) = Ok (in_model (with_cover_row pattern output) reading)
 next reading n End = Ok (record { models = models_of reading; model = None })
 next reading n (Other word rest) = Err (LeftOut n word)

@@ -4,13 +4,13 @@ ghost use Rattle.net_core.specs.NetList.{empty, nets, number_of};
 ghost use Rattle.net_blif.specs.Statement.{IsToken};
 ghost use Rattle.net_blif.specs.Item.{IsSoundItem};
 ghost use Rattle.net_blif.specs.Flat.{Flattens, Gate, Mention, Top, steps_of, walk_of};
-ghost use Rattle.net_blif.specs.NamedWalk.{HasEach, IsFaultOf, after_named, gate_steps, input_steps, mentions, named_walk, number_in, output_steps};
+ghost use Rattle.net_blif.specs.NamedWalk.{HasEach, IsFaultOf, after_named, gate_steps, input_steps, latch_steps, mentions, named_walk, number_in, output_steps};
 
 use crate::item::Item;
 use crate::item_list::ItemList;
 use crate::token_list::TokenSlice;
 use crate::{Design, FlatFault};
-use net_core::{Net, NetFault, NetMaker};
+use net_core::{Net, NetFault, NetMaker, Start};
 use std::alloc::Global;
 use text_core::printing_text;
 
@@ -127,6 +127,21 @@ fn place_gate(
     }
 }
 
+// Adds a latch on the nets of names.
+fn place_latch(maker: &mut NetMaker, next: &[u8], out: &[u8], start: Start) -> Result<(), FlatFault>
+    requires next { IsToken next.now }
+    requires out { IsToken out.now }
+    ensures made { OnOk result (named_walk maker.old (latch_steps next.now out.now start) ≡ Ok maker.new) }
+    ensures fault { IfErr result (λ e. IsFaultOf (named_walk maker.old (latch_steps next.now out.now start)) e) }
+{
+    let read = mention(maker, next)?;
+    let driven = mention(maker, out)?;
+    match maker.latch(read, driven, start) {
+        Ok(()) => Ok(()),
+        Err(fault) => Err(fault_of(fault)),
+    }
+}
+
 // Places what a line says.
 fn place(numbers: &mut Vec<u32>, maker: &mut NetMaker, item: &Item<'_>) -> Result<(), FlatFault>
     requires { IsSoundItem item.now }
@@ -142,6 +157,12 @@ fn place(numbers: &mut Vec<u32>, maker: &mut NetMaker, item: &Item<'_>) -> Resul
             table,
             ..
         } => place_gate(numbers, maker, inputs, out.bytes(), *table),
+        Item::Latch {
+            next,
+            out,
+            start,
+            ..
+        } => place_latch(maker, next.bytes(), out.bytes(), *start),
     }
 }
 
@@ -170,7 +191,7 @@ fn walk_model(alloc: Global, design: &Design, model: u32) -> Result<NetMaker, Fl
     }
 }
 
-/// The net of a model: its lines are walked in order, each name that is mentioned first makes a net, and gates,
+/// The net of a model: its lines are walked in order, each name that is mentioned first makes a net, and gates, latches,
 /// primary inputs and outputs are appended as met; then the net must be sound.
 /// A model that does not exist has the empty net. `FlatFault::Net` holds no want of memory.
 pub fn flatten(alloc: Global, design: &Design, model: u32) -> Result<Net, FlatFault>

@@ -1,8 +1,9 @@
 //! What the lines of a model place.
 use crate::token::Token;
 use crate::token_list::TokenSlice;
+use net_core::Start;
 
-/// What a line of a model places: primary inputs, outputs, or a gate with its table.
+/// What a line of a model places: primary inputs, outputs, a gate with its table, or a latch.
 #[derive(Drop)]
 pub enum Item<'a> {
     Inputs(TokenSlice<'a>),
@@ -12,5 +13,11 @@ pub enum Item<'a> {
         inputs: TokenSlice<'a>,
         out: Token<'a>,
         table: u64,
+    },
+    Latch {
+        line: u32,
+        next: Token<'a>,
+        out: Token<'a>,
+        start: Start,
     },
 }

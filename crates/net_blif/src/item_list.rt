@@ -1,15 +1,17 @@
 //! What the lines of a model place, with their tokens in one text.
-ghost use Rattle.std.specs.Prelude.{◌≡◌, ◌≤◌, ◌<◌, ◌^◌, [], ◌∷◌, ◌++◌, Some, length, slice_get, All, IfOk, OnOk};
+ghost use Rattle.std.specs.Prelude.{◌≡◌, ◌≤◌, ◌<◌, ◌+◌, ◌^◌, [], ◌∷◌, ◌++◌, Some, length, slice_get, slice_index_or, All, IfOk, OnOk};
 ghost use Rattle.net_blif.specs.Item.{IsSoundItem};
 ghost use Rattle.net_blif.specs.Statement.{IsToken};
 
 use crate::item::Item;
 use crate::token::Token;
 use crate::token_list::{TokenList, TokenSlice};
+use net_core::Start;
 use std::alloc::{AllocError, Global};
 use std::marker::Model;
 
-/// An item, whose tokens stand from `first` on and before `end`; the output of a gate stands at `end`.
+/// An item, whose tokens stand from `first` on and before `end`; the output of a gate stands at `end`,
+/// and the nets of a latch at `first` and behind it.
 #[derive(Clone, Copy)]
 pub enum Place {
     Inputs {
@@ -25,6 +27,11 @@ pub enum Place {
         first: u32,
         end: u32,
         table: u64,
+    },
+    Latch {
+        line: u32,
+        first: u32,
+        start: Start,
     },
 }
 
@@ -90,6 +97,7 @@ impl ItemList {
                 out: Token::new(self.tokens.get(end as usize)),
                 table,
             },
+            Place::Latch { line, first, start } => latch_at(&self.tokens, line, first, start),
         }
     }
 
@@ -143,6 +151,25 @@ impl ItemList {
         })?;
         Ok(())
     }
+
+    /// A latch at the end.
+    pub fn push_latch(
+        &mut self,
+        line: u32,
+        next: &[u8],
+        out: &[u8],
+        start: Start,
+    ) -> Result<(), AllocError>
+        requires next { IsToken next.now }
+        requires out { IsToken out.now }
+        ensures { OnOk result (self.new ≡ self.old ++ Item.Latch line next.now out.now start ∷ []) }
+    {
+        let first = number(self.tokens.len())?;
+        self.tokens.push(next)?;
+        self.tokens.push(out)?;
+        self.places.push(Place::Latch { line, first, start })?;
+        Ok(())
+    }
 }
 
 // The place of an item.
@@ -151,6 +178,19 @@ fn place_at(places: &[Place], place: usize) -> Place
     ensures { Some result ≡ slice_get places.now place }
 {
     places[place]
+}
+
+// The latch whose nets stand at `first` and behind it.
+fn latch_at(tokens: &TokenList, line: u32, first: u32, start: Start) -> Item<'_>
+    requires { first + 1 < length tokens.now }
+    ensures { result ≡ Item.Latch line (slice_index_or tokens.now first []) (slice_index_or tokens.now (first + 1) []) start }
+{
+    Item::Latch {
+        line,
+        next: Token::new(tokens.get(first as usize)),
+        out: Token::new(tokens.get(first as usize + 1)),
+        start,
+    }
 }
 
 // A count of tokens in memory, which is below 2^32.

@@ -10,7 +10,7 @@ use crate::cover::Cover;
 use crate::design::ModelText;
 use crate::item_list::ItemList;
 use crate::token::Token;
-use net_core::Name;
+use net_core::{Name, Start};
 use std::alloc::{AllocError, Global};
 use std::marker::Model;
 
@@ -101,6 +101,23 @@ impl OpenModel {
     {
         self.close()?;
         self.items.push_outputs(nets)?;
+        Ok(())
+    }
+
+    /// Places a latch.
+    pub fn place_latch(
+        &mut self,
+        line: u32,
+        next: &[u8],
+        out: &[u8],
+        start: Start,
+    ) -> Result<(), AllocError>
+        requires next { IsToken next.now }
+        requires out { IsToken out.now }
+        ensures { OnOk result (self.new ≡ with_items (Item.Latch line next.now out.now start ∷ []) None self.old) }
+    {
+        self.close()?;
+        self.items.push_latch(line, next, out, start)?;
         Ok(())
     }
 

@@ -10,9 +10,9 @@ ghost use Rattle.net_blif.specs.Models.{in_model, with_cover_row, with_items, mo
 use crate::BlifFault;
 use crate::design::Design;
 use crate::open_model::OpenModel;
-use crate::statement::{Statement, read_statement, words};
+use crate::statement::{Statement, read_statement, start_of, words};
 use crate::token::Token;
-use net_core::Name;
+use net_core::{Name, Start};
 use std::alloc::{AllocError, Global};
 use std::marker::Model;
 use text_core::printing_text;
@@ -127,6 +127,32 @@ impl Reader {
         })
     }
 
+    // With a latch of the model.
+    fn place_latch(
+        self,
+        line: u32,
+        next: &[u8],
+        out: &[u8],
+        start: Start,
+    ) -> Result<Reader, AllocError>
+        requires next { IsToken next.now }
+        requires out { IsToken out.now }
+        ensures { IfOk result (λ reader. reader ≡ in_model (with_items (Item.Latch line next.now out.now start ∷ []) None) self) }
+    {
+        let Reader { design, model } = self;
+        let Some(mut model) = model else {
+            return Ok(Reader {
+                design,
+                model: None,
+            });
+        };
+        model.place_latch(line, next, out, start)?;
+        Ok(Reader {
+            design,
+            model: Some(model),
+        })
+    }
+
     // With no open cover.
     fn close(self) -> Result<Reader, AllocError>
         ensures { IfOk result (λ reader. reader ≡ in_model (with_items [] None) self) }
@@ -211,6 +237,10 @@ impl Reader {
             Statement::Outputs(nets) => Ok(self.place_outputs(nets.as_slice())?),
             Statement::Clock(_) => Ok(self.close()?),
             Statement::Cover { inputs, out } => self.cover(line, inputs.as_slice(), out.bytes()),
+            Statement::Latch { next, out, rest } => {
+                let start = start_of(rest.as_slice());
+                Ok(self.place_latch(line, next.bytes(), out.bytes(), start)?)
+            }
             Statement::Row { pattern, output } => Ok(self.add_row(pattern.bytes(), output)?),
             Statement::End => {
                 let design = self.finish(alloc)?;

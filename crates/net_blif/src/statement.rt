@@ -1,25 +1,42 @@
 //! What a line says.
 ghost use Rattle.std.specs.Prelude.{◌≡◌, ◌↔◌, ◌<◌, ◌∷◌, [], All, IsTrue, IfOk, IfSome, IfNone, Some, None, if◌then◌else◌};
 ghost use Rattle.text_core.specs.Lines.{tokens_of};
-ghost use Rattle.net_blif.specs.Statement.{IsToken, is_cell as cell_is, is_dotted as dotted};
-ghost use Rattle.net_blif.specs.Spelling.{bit_of as bit_that, cover_of, dotted_of, end_of, model_of, row_of, statement_of};
+ghost use Rattle.net_blif.specs.Statement.{IsToken, is_cell as cell_is, is_dotted as dotted, is_kind as kind_is, is_latch_end as latch_end_is, is_start as start_is};
+ghost use Rattle.net_blif.specs.Latch.{start_of as start_that, start_said};
+ghost use Rattle.net_blif.specs.Spelling.{bit_of as bit_that, cover_of, dotted_of, end_of, latch_of, model_of, row_of, statement_of};
 ghost use Rattle.std.specs.List.{list_all};
 
 use crate::token::{Token, Tokens};
+use net_core::Start;
 use std::alloc::{AllocError, Global};
 use text_core::{is_printing, tokens};
 
 /// A statement. `Cover` is `.names`, `Row` a row of its cover, and `Other` begins with a word that is not read.
+/// The `rest` of a latch is its kind, control and start, as far as they are there.
 #[derive(Drop)]
 pub enum Statement<'a> {
     Model(Token<'a>),
     Inputs(Tokens<'a>),
     Outputs(Tokens<'a>),
     Clock(Tokens<'a>),
-    Cover { inputs: Tokens<'a>, out: Token<'a> },
-    Row { pattern: Token<'a>, output: bool },
+    Cover {
+        inputs: Tokens<'a>,
+        out: Token<'a>,
+    },
+    Latch {
+        next: Token<'a>,
+        out: Token<'a>,
+        rest: Tokens<'a>,
+    },
+    Row {
+        pattern: Token<'a>,
+        output: bool,
+    },
     End,
-    Other { word: Token<'a>, rest: Tokens<'a> },
+    Other {
+        word: Token<'a>,
+        rest: Tokens<'a>,
+    },
 }
 
 // Whether a token has 1 to 255 bytes that print.
@@ -97,6 +114,88 @@ fn cover<'a>(rest: &'a [Token<'a>]) -> Option<Statement<'a>>
     }
 }
 
+// Whether a token is the kind of a latch's clock.
+fn is_kind(token: &[u8]) -> bool
+    ensures { result ≡ kind_is token.now }
+{
+    token == b"fe".as_slice()
+        || token == b"re".as_slice()
+        || token == b"ah".as_slice()
+        || token == b"al".as_slice()
+        || token == b"as".as_slice()
+}
+
+// Whether a token is the start of a latch.
+fn is_start(token: &[u8]) -> bool
+    ensures { result ≡ start_is token.now }
+{
+    token == b"0".as_slice()
+        || token == b"1".as_slice()
+        || token == b"2".as_slice()
+        || token == b"3".as_slice()
+}
+
+// Whether these words may stand behind the nets of a latch.
+fn is_latch_end(rest: &[Token<'_>]) -> bool
+    ensures { result ≡ latch_end_is rest.now }
+{
+    match rest {
+        [] => true,
+        [start] => is_start(start.bytes()),
+        [kind, _] => is_kind(kind.bytes()),
+        [kind, _, start] => is_kind(kind.bytes()) && is_start(start.bytes()),
+        _ => false,
+    }
+}
+
+// What the words after `.latch` say.
+fn latch<'a>(rest: &'a [Token<'a>]) -> Option<Statement<'a>>
+    ensures { result ≡ latch_of rest.now }
+{
+    match rest {
+        [next, out, more @ ..] => latch_on(next.bytes(), out.bytes(), more),
+        _ => None,
+    }
+}
+
+// What the nets of a latch and the words behind them say.
+fn latch_on<'a>(next: &'a [u8], out: &'a [u8], rest: &'a [Token<'a>]) -> Option<Statement<'a>>
+    ensures { result ≡ latch_of (next.now ∷ out.now ∷ rest.now) }
+{
+    if !is_latch_end(rest) {
+        return None;
+    }
+    Some(Statement::Latch {
+        next: Token::new(next),
+        out: Token::new(out),
+        rest: Tokens::new(rest),
+    })
+}
+
+// The start that a token says.
+fn said_start(token: &[u8]) -> Start
+    ensures { result ≡ start_said token.now }
+{
+    if token == b"0".as_slice() {
+        Start::Zero
+    } else if token == b"1".as_slice() {
+        Start::One
+    } else {
+        Start::Unknown
+    }
+}
+
+/// What a latch holds in the first cycle, by the words behind its nets.
+pub fn start_of(rest: &[Token<'_>]) -> Start
+    ensures { result ≡ start_that rest.now }
+{
+    match rest {
+        [start] => said_start(start.bytes()),
+        [_, _, start, ..] => said_start(start.bytes()),
+        _ => Start::Unknown,
+    }
+}
+
 // What the words after `.end` say.
 fn end<'a>(rest: &'a [Token<'a>]) -> Option<Statement<'a>>
     ensures { result ≡ end_of rest.now }
@@ -125,6 +224,9 @@ fn dotted_statement<'a>(word: &'a [u8], rest: &'a [Token<'a>]) -> Option<Stateme
     }
     if word == b".names".as_slice() {
         return cover(rest);
+    }
+    if word == b".latch".as_slice() {
+        return latch(rest);
     }
     if word == b".end".as_slice() {
         return end(rest);

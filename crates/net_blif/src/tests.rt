@@ -4,9 +4,14 @@ use net_core::Net;
 use std::alloc::Global;
 use std::test::Fail;
 
-// The inputs and outputs of a net, and each gate with its inputs and table, all by number.
+// The inputs and outputs of a net, each latch with what it reads and its start, and each gate with its inputs and table,
+// all by number.
 fn net_text(alloc: Global, net: &Net) -> Result<String, Fail> {
     let mut text = format!(in alloc; "{:?} {:?}", net.inputs(), net.outputs())?;
+    for latch in net.latches() {
+        let part = format!(in alloc; " {}<{}:{:?}", latch.out, latch.next, latch.start)?;
+        text.push_str(&part)?;
+    }
     for gate in net.gates() {
         let (out, inputs, table) = (gate.out(), gate.inputs(), gate.table());
         let part = format!(in alloc; " {out}{inputs:?}={table:x}")?;
@@ -73,8 +78,8 @@ fn statements_and_faults(rt: HostRuntime) -> Result<(), Fail> {
             "LeftOut { line: 2, word: Name { text: \".gate\" } }",
         ),
         (
-            ".model a\n.latch b c\n.names\n",
-            "LeftOut { line: 2, word: Name { text: \".latch\" } }",
+            ".model a\n.subckt b c\n.names\n",
+            "LeftOut { line: 2, word: Name { text: \".subckt\" } }",
         ),
         (".model a\n.subckt \u{80}\n.names\n", "Syntax { line: 2 }"),
         (".model a\n.names\n", "Syntax { line: 2 }"),
@@ -136,6 +141,39 @@ fn covers(rt: HostRuntime) -> Result<(), Fail> {
         let found = outcome(alloc, text.as_bytes())?;
         let inside = found.as_str().contains(wanted);
         assert!(rt; inside, "at {rows}: {found}");
+    }
+    Ok(())
+}
+
+#[test]
+fn latches(rt: HostRuntime) -> Result<(), Fail> {
+    let alloc = rt.alloc();
+    for (line, wanted) in [
+        (".latch a q", "[0] [] 1<0:Unknown"),
+        (".latch a q 0", "[0] [] 1<0:Zero"),
+        (".latch a q 1", "[0] [] 1<0:One"),
+        (".latch a q 2", "[0] [] 1<0:Unknown"),
+        (".latch a q 3", "[0] [] 1<0:Unknown"),
+        (".latch a q 4", "Syntax { line: 3 }"),
+        (".latch a q re", "Syntax { line: 3 }"),
+        (".latch a q re clk", "[0] [] 1<0:Unknown"),
+        (".latch a q as clk 1", "[0] [] 1<0:One"),
+        (".latch a q ae clk 1", "Syntax { line: 3 }"),
+        (".latch a q fe clk 1 1", "Syntax { line: 3 }"),
+        (".latch a", "Syntax { line: 3 }"),
+        (".latch q q 0", "[0] [] 1<1:Zero"),
+        (
+            ".latch a a 0",
+            "Net(DrivenTwice { net: 0, label: Name { text: \"a\" } })",
+        ),
+        (
+            ".latch b q 0",
+            "Net(Undriven { net: 1, label: Name { text: \"b\" } })",
+        ),
+    ] {
+        let text = format!(in alloc; ".model m\n.inputs a\n{line}\n")?;
+        let found = outcome(alloc, text.as_bytes())?;
+        assert_eq!(rt; found.as_str(), wanted, "at {line}");
     }
     Ok(())
 }

@@ -79,13 +79,21 @@ one_tower tokens n m h k =
 input_output : codes "input" ≡ codes "output" → ⊥
 input_output e = let same = heads 105 111 (codes "nput") (codes "utput") e in absurd (omega (arith, same))
 
+input_state : codes "input" ≡ codes "state" → ⊥
+input_state e = let same = heads 105 115 (codes "nput") (codes "tate") e in absurd (omega (arith, same))
+
+state_output : codes "state" ≡ codes "output" → ⊥
+state_output e = let same = heads 115 111 (codes "tate") (codes "utput") e in absurd (omega (arith, same))
+
 one_role : (token : Token) → IsSingle (SaysRole token)
 one_role token Input Input h k = refl
-one_role token Input State h k = absurd k
+one_role token Input State h k = absurd (input_state (sym h ∙ k))
 one_role token Input Output h k = absurd (input_output (sym h ∙ k))
-one_role token State b h k = absurd h
+one_role token State Input h k = absurd (input_state (sym k ∙ h))
+one_role token State State h k = refl
+one_role token State Output h k = absurd (state_output (sym h ∙ k))
 one_role token Output Input h k = absurd (input_output (sym k ∙ h))
-one_role token Output State h k = absurd k
+one_role token Output State h k = absurd (state_output (sym k ∙ h))
 one_role token Output Output h k = refl
 
 one_normal : (token : Token) → IsSingle (IsNormalOf token)

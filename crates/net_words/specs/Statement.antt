@@ -27,10 +27,10 @@ SaysElement token element = IsHex token element × (element < 2 ^ 64)
 abbrev pub SaysTower : List Token → List ℕ → Type 0
 SaysTower tokens coefficients = (numbers : List Token) × (tokens ≡ codes "tower" ∷ numbers) × (0 < length numbers) × AllZip SaysElement numbers coefficients
 
--- the roles that are read today
+-- what a word is to the netlist
 abbrev pub SaysRole : Token → Role → Type 0
 SaysRole token Input = token ≡ codes "input"
-SaysRole token State = ⊥
+SaysRole token State = token ≡ codes "state"
 SaysRole token Output = token ≡ codes "output"
 
 -- the normal basis of the element that the token says

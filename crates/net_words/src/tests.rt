@@ -48,7 +48,12 @@ fn the_first_lines(rt: HostRuntime) -> Result<(), Fail> {
         (b"gfsig 1\nfield 0x7\nword Z output poly a b\r", "syntax", 3),
         (b"gfsig 1\nfield 0x7\nword Z output poly a b", "words", 1),
         (b"gfsig 1\nfield 0x7\nword Z output poly\n", "syntax", 3),
-        (b"gfsig 1\nfield 0x7\nword Z state poly a b\n", "syntax", 3),
+        (
+            b"gfsig 1\nfield 0x7\nword Z state poly a b\n",
+            "no output",
+            0,
+        ),
+        (b"gfsig 1\nfield 0x7\nword Z fed poly a b\n", "syntax", 3),
         (b"gfsig 1\nfield 0x7\nblock m\n", "syntax", 3),
         (b"gfsig 1\nfield 0x7\n\\\n", "syntax", 3),
     ] {

@@ -89,6 +89,7 @@ fn role_of(token: &[u8]) -> Option<Role>
 {
     match token {
         b"input" => Some(Role::Input),
+        b"state" => Some(Role::State),
         b"output" => Some(Role::Output),
         _ => None,
     }

@@ -15,7 +15,8 @@ use Rattle.poly_mixed.specs.Labels.{Labelling, AreLabels, IsWord, bit_count, ran
 use Rattle.poly_mixed.specs.Monomial.{Monomial, has_bit}
 use Rattle.poly_mixed.specs.Polynomial.{Terms}
 use Rattle.poly_mixed.specs.Product.{with_rank}
-use Rattle.poly_mixed.specs.Reading.{Progress, more, one, variable_at, with_variable, exponent_in, next_at, factor_at, after_factor, after_zero, coefficient_at, zero_at, step_at, term_at, read_on}
+use Rattle.poly_mixed.specs.Said.{one}
+use Rattle.poly_mixed.specs.private.Reading.{Progress, more, variable_at, with_variable, exponent_in, next_at, factor_at, after_factor, after_zero, coefficient_at, zero_at, step_at, term_at, read_on}
 use Rattle.poly_mixed.specs.Scan.{skip, is_hex_digit}
 use Rattle.poly_mixed.specs.declared.fault.PolyFault.{PolyFault}
 use Rattle.poly_mixed.specs.declared.fault.PolyFault.TheVariants.{Syntax}

@@ -1,6 +1,6 @@
 -- Small worked examples of the definitions of specs/, which the check computes: the polynomial A^3 + 0x3*A[0]*A[1] over
 -- the field of four elements, whose modulus is 7, with one word A of two bits.
-use Rattle.std.proofs.Common.{◌≡◌, ℕ, [], ◌∷◌, List, true, false, Ok, Err, codes, refl}
+use Rattle.std.proofs.Common.{◌≡◌, ℕ, [], ◌∷◌, List, true, false, Some, inl, codes, refl, arith}
 use Rattle.std.specs.Fmt.{digits}
 use Rattle.std.specs.declared.cmp.Ordering.TheVariants.{Less}
 use Rattle.gf_field.specs.Bit.{bit_mul}
@@ -14,8 +14,10 @@ use Rattle.poly_mixed.specs.Cofactor.{cofactors, lacking}
 use Rattle.poly_mixed.specs.Order.{exponent_list}
 use Rattle.poly_mixed.specs.Labels.{Labelling, rank_text}
 use Rattle.poly_mixed.specs.Text.{text}
-use Rattle.poly_mixed.specs.Reading.{reading}
-use Rattle.poly_mixed.specs.declared.fault.PolyFault.TheVariants.{NoSuchBit}
+use Rattle.poly_mixed.specs.Token.{word, bit, variable, hex, times_sign, token_front}
+use Rattle.poly_mixed.specs.Grammar.{number, factor, IsPolynomial}
+use Rattle.poly_mixed.specs.Said.{sum_of}
+use Rattle.poly_mixed.specs.TextOutcome.{name_fault, no_such_bit}
 
 abbrev four : ℕ → ℕ → ℕ
 four = product 1 2 bit_mul 7
@@ -48,16 +50,20 @@ text_of_rank_two : rank_text labels.words labels.nets 2 ≡ codes "@7"
 unfolding digits
 text_of_rank_two = refl
 
--- the text is read back
-reading_of_example : reading labels 2 (codes "A^3 + 0x3*A[0]*A[1]") ≡ Ok example
-reading_of_example = refl
+-- the first token of `A[1] + @7`, and what stands after it
+first_token : token_front (codes "A[1] + @7") ≡ Some (variable (bit (codes "A") 1), codes " + @7")
+first_token = refl
 
--- so is one with its terms and factors in another order and with blanks
-reading_in_another_order : reading labels 2 (codes "0x3 * A[1]*A[0]+A^3") ≡ Ok example
-reading_in_another_order = refl
+-- `0x3*A` is a polynomial of one term with two parts
+two_parts : IsPolynomial 2 (hex 3 ∷ times_sign ∷ variable (word (codes "A")) ∷ []) ((number 3 ∷ factor (word (codes "A")) 1 ∷ []) ∷ [])
+two_parts = ((hex 3 ∷ [], variable (word (codes "A")) ∷ [], refl, (refl, omega arith), inl (refl, refl)), (tt, tt), (tt, tt))
+
+-- the terms 0x3*A[1]*A[0] and A^3 say the example
+said_of_terms : sum_of labels [] ((number 3 ∷ factor (bit (codes "A") 1) 1 ∷ factor (bit (codes "A") 0) 1 ∷ []) ∷ (factor (word (codes "A")) 3 ∷ []) ∷ []) ≡ example
+said_of_terms = refl
 
 -- A has no bit 2
-no_bit_two : reading labels 2 (codes "A[2]") ≡ Err NoSuchBit
+no_bit_two : name_fault labels (variable (bit (codes "A") 2)) ≡ Some no_such_bit
 no_bit_two = refl
 
 -- A^3 stands before A[0]*A[1], for the word counts first

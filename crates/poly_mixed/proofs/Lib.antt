@@ -33,7 +33,15 @@ pub mod Spelled
 pub mod Scanned
 pub mod Chain
 pub mod ReadBack
-pub mod TextLaws
 pub mod Recorders
+pub mod Machine
+pub mod MachineMeans
+pub mod OneOutcome
+pub mod ReadTokens
+pub mod Tracks
+pub mod ReadOutcome
+pub mod ReadReduced
+pub mod ReadResult
+pub mod TextLaws
 mod Examples
 mod FormLemmas

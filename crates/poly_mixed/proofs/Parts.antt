@@ -3,15 +3,15 @@ use Rattle.std.proofs.Common.{◌≡◌, ℕ, zero, suc, ◌+◌, ◌-◌, ◌<�
 use Rattle.poly_mixed.specs.Labels.{Labelling}
 use Rattle.poly_mixed.specs.Monomial.{Monomial}
 use Rattle.poly_mixed.specs.Polynomial.{Terms}
-use Rattle.poly_mixed.specs.Reading.{Progress, advanced, read_on, zero_at, after_zero, coefficient_at, IsSaid}
-use Rattle.poly_mixed.specs.ReadingState.{IsStep}
+use Rattle.poly_mixed.specs.private.Reading.{Progress, advanced, read_on, zero_at, after_zero, coefficient_at, IsSaid}
+use Rattle.poly_mixed.specs.private.ReadingState.{IsStep}
 use Rattle.poly_mixed.specs.Scan.{run, skip, is_hex_digit}
 use Rattle.poly_mixed.specs.declared.fault.PolyFault.{PolyFault}
 use Rattle.poly_mixed.specs.declared.fault.PolyFault.TheVariants.{Syntax, NoSuchNet, NoSuchBit, OutOfMemory}
 use Rattle.poly_mixed.specs.declared.read.Next.{Next}
 use Rattle.poly_mixed.proofs.Simple.{first_and_rest}
 
-err_on : (n : ℕ) (l : Labelling) (k : ℕ) (e : PolyFault) → read_on n l k (Err e) ≡ Err e
+pub err_on : (n : ℕ) (l : Labelling) (k : ℕ) (e : PolyFault) → read_on n l k (Err e) ≡ Err e
 err_on zero l k e = refl
 err_on (suc n) l k e = err_on n l k e
 

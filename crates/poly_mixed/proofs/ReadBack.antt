@@ -14,7 +14,7 @@ use Rattle.poly_mixed.specs.Product.{with_rank}
 use Rattle.poly_mixed.specs.Text.{joined, powers_texts, variable_texts, factor_texts, hex_text, term_text}
 use Rattle.std.specs.Map.{keys_of}
 use Rattle.poly_mixed.specs.Sum.{with_coefficient, plus_term, plus}
-use Rattle.poly_mixed.specs.Reading.{added}
+use Rattle.poly_mixed.specs.Said.{added}
 use Rattle.poly_mixed.proofs.Chain.{Factor, power, bit, factor_text, put, Chain, tail_text}
 use Rattle.poly_mixed.proofs.Scanned.{power_text}
 use Rattle.poly_mixed.proofs.Texts.{all_more}

@@ -10,7 +10,8 @@ use Rattle.text_core.specs.Names.{IsName}
 use Rattle.text_core.specs.Numbers.{value_of}
 use Rattle.poly_mixed.specs.Labels.{Labelling, bit_count, rank_text, bit_text, net_text}
 use Rattle.poly_mixed.specs.Monomial.{Monomial}
-use Rattle.poly_mixed.specs.Reading.{variable_at, named_at, name_at, net_at, net_found, net_rank, bit_found, word_found, number_at, exponent_in, exponent_at, with_exponent, with_variable}
+use Rattle.poly_mixed.specs.Said.{net_rank}
+use Rattle.poly_mixed.specs.private.Reading.{variable_at, named_at, name_at, net_at, net_found, bit_found, word_found, number_at, exponent_in, exponent_at, with_exponent, with_variable}
 use Rattle.poly_mixed.specs.Scan.{run, skip, name_of, index_of, closed_by, is_digit, is_hex_digit, is_letter, is_name_byte, word_of, bit_of, net_of}
 use Rattle.poly_mixed.specs.declared.fault.PolyFault.TheVariants.{Syntax}
 use Rattle.poly_mixed.specs.declared.variables.Variable.TheVariants.{Word, Rank}

@@ -5,15 +5,17 @@ use Rattle.std.specs.List.{AllByRecursion}
 use Rattle.poly_mixed.specs.Labels.{Labelling}
 use Rattle.poly_mixed.specs.Monomial.{Monomial}
 use Rattle.poly_mixed.specs.Polynomial.{Terms, IsTerm}
-use Rattle.poly_mixed.specs.Reading.{done, one, added, exponent_in, next_at, step_at, term_at, read_on, reading}
+use Rattle.poly_mixed.specs.Said.{one, added}
+use Rattle.poly_mixed.specs.private.Reading.{done, exponent_in, next_at, step_at, term_at, read_on, reading}
 use Rattle.poly_mixed.specs.Scan.{skip}
-use Rattle.poly_mixed.specs.Text.{joined, term_text, HasNames}
+use Rattle.poly_mixed.specs.Text.{joined, term_text, text, HasNames}
 use Rattle.poly_mixed.specs.TextLaw.{IsWritten, ReadsBack, OneText}
 use Rattle.poly_mixed.specs.declared.fault.PolyFault.{PolyFault}
 use Rattle.poly_mixed.proofs.Chain.{Leads, turn, term_lead}
 use Rattle.poly_mixed.proofs.ReadBack.{factors, factors_chain, term_written, total, total_is}
 use Rattle.poly_mixed.proofs.Runs.{skip_none, skip_space}
 use Rattle.poly_mixed.proofs.Scanned.{IsEnd}
+use Rattle.poly_mixed.proofs.ReadOutcome.{MayCome, reading_comes}
 
 -- the terms after a first one
 abbrev rest_text : Labelling → Terms → List ℕ
@@ -62,9 +64,9 @@ module _ (l : Labelling) (k : ℕ) (all : Terms) (is : IsWritten l k all) where
 zero_text : (l : Labelling) (k : ℕ) → reading l k (codes "0") ≡ Ok []
 zero_text l k = refl
 
-pub reads_back : ReadsBack
-reads_back l k [] is = zero_text l k
-reads_back l k (t ∷ ts) is =
+reading_back : (l : Labelling) (k : ℕ) (ts : Terms) → IsWritten l k ts → reading l k (text l ts) ≡ Ok ts
+reading_back l k [] is = zero_text l k
+reading_back l k (t ∷ ts) is =
     let w : AreWritten l k (t ∷ ts) is (t ∷ ts) = (is.reduced.terms, is.ranks, is.words) in
     let y = term_text l t ++ rest_text l ts in
     let lead = first_term l k (t ∷ ts) is t ts [] (Ok (total (added [] t.1 t.0) ts)) w (later_terms l k (t ∷ ts) is ts [] t.1 t.0 (w.0.1, w.1.1, w.2.1)) in
@@ -72,9 +74,14 @@ reads_back l k (t ∷ ts) is =
     ∙ turn l k (length y) true [] 1 one y (Ok (total [] (t ∷ ts))) lead (length y + 1) (omega arith)
     ∙ ap Ok (total_is (t ∷ ts) is.reduced.is_map)
 
+pub reads_back : ReadsBack
+reads_back l k ts is =
+    let P : Result Terms PolyFault → Type 0 = MayCome l k (text l ts) is.some is.labels in
+    subst P (reading_back l k ts is) (reading_comes l k (text l ts) is.some is.labels)
+
 pub one_text : OneText
 one_text l k ts us is also e =
-    let same : Ok ts ≡ Ok us = sym (reads_back l k ts is) ∙ ap (reading l k) e ∙ reads_back l k us also in
+    let same : Ok ts ≡ Ok us = sym (reading_back l k ts is) ∙ ap (reading l k) e ∙ reading_back l k us also in
     ap (λ (r : Result Terms PolyFault). found r) same
   where
     found : Result Terms PolyFault → Terms

@@ -12,7 +12,9 @@ pub mod Labels
 pub mod Text
 pub mod Parts
 pub mod Scan
-pub mod Reading
-pub mod ReadingState
+pub mod Token
+pub mod Grammar
+pub mod Said
+pub mod TextOutcome
 pub mod TextLaw
 pub mod private

@@ -2,7 +2,7 @@
 use Rattle.std.specs.Prelude.{◌≡◌, ℕ, ◌+◌, ◌^◌, ◌≤◌, length, Ok}
 use Rattle.poly_mixed.specs.Labels.{Labelling, AreLabels, bit_count}
 use Rattle.poly_mixed.specs.Polynomial.{Terms, IsReduced}
-use Rattle.poly_mixed.specs.Reading.{reading}
+use Rattle.poly_mixed.specs.TextOutcome.{TextOutcome}
 use Rattle.poly_mixed.specs.Text.{text, HasNames, HasWordNames}
 
 -- a reduced polynomial in the words and ranks that labels name; a rank is below 2^32
@@ -15,9 +15,9 @@ pub record IsWritten (l : Labelling) (k : ℕ) (ts : Terms) : Type 0 where
   pub ranks : HasNames l ts
   pub words : HasWordNames l ts
 
--- the text of a polynomial is read as the polynomial
+-- reading the text of a polynomial gives the polynomial
 abbrev pub ReadsBack : Type 0
-ReadsBack = (l : Labelling) (k : ℕ) (ts : Terms) → IsWritten l k ts → reading l k (text l ts) ≡ Ok ts
+ReadsBack = (l : Labelling) (k : ℕ) (ts : Terms) → IsWritten l k ts → TextOutcome l k (text l ts) (Ok ts)
 
 -- equal texts are of equal polynomials
 abbrev pub OneText : Type 0

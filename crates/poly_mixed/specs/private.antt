@@ -1,2 +1,4 @@
 pub mod Listed
 pub mod Indexed
+pub mod Reading
+pub mod ReadingState

@@ -1,5 +1,9 @@
 //! Laws of polynomials: functions that do nothing, whose contracts are the laws.
 ghost use Rattle.poly_mixed.specs.Order.{IsTextOrder};
+ghost use Rattle.std.specs.Prelude.{ℕ, List};
+ghost use Rattle.text_core.specs.Outcome.{Determined};
+ghost use Rattle.poly_mixed.specs.Labels.{Labelling};
+ghost use Rattle.poly_mixed.specs.TextOutcome.{TextOutcome};
 ghost use Rattle.poly_mixed.specs.TextLaw.{ReadsBack, OneText};
 ghost use Rattle.poly_mixed.specs.Uniqueness.{Unique, UniqueInBits, OneSize};
 
@@ -23,6 +27,11 @@ pub fn one_size<F: Field>(_field: &F)
 /// The order of terms in a text is falling lexicographic order of the exponents of all variables.
 pub fn text_order()
     ensures { IsTextOrder }
+{}
+
+/// A text is one polynomial or has one fault.
+pub fn one_poly_or_fault()
+    ensures { (l : Labelling) (k : ℕ) (bytes : List ℕ) → Determined (TextOutcome l k bytes) }
 {}
 
 /// The text of a polynomial is read back as the polynomial.

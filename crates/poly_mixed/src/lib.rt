@@ -18,19 +18,17 @@ mod single;
 mod stage;
 mod steps;
 mod table;
-#[cfg(test)]
-mod table_tests;
 mod term;
 #[cfg(test)]
 mod tests;
-#[cfg(test)]
-mod text_tests;
 mod variables;
 mod write;
 
 pub use fault::PolyFault;
 pub use labels::Labels;
-pub use laws::{one_size, one_text, text_order, text_reads_back, unique, unique_in_bits};
+pub use laws::{
+    one_poly_or_fault, one_size, one_text, text_order, text_reads_back, unique, unique_in_bits,
+};
 pub use mono::Mono;
 pub use named::is_named;
 pub use poly::Poly;

@@ -1,5 +1,5 @@
 //! Polynomials as finite maps from monomials to coefficients.
-ghost use Rattle.std.specs.Prelude.{◌≡◌, ℕ, ◌<◌, ◌≢◌, length, IfOk, IfSome, IfNone, OnOk, ◌↔◌, bit_xor, true, []};
+ghost use Rattle.std.specs.Prelude.{◌≡◌, ℕ, ◌<◌, ◌^◌, ◌≢◌, length, IfOk, IfSome, IfNone, OnOk, ◌↔◌, bit_xor, true, []};
 ghost use Rattle.std.specs.List.{AllByRecursion, list_any};
 ghost use Rattle.std.specs.Option.{option_map};
 ghost use Rattle.std.specs.List.Sorted.{IsStrictlySortedBy};
@@ -128,7 +128,8 @@ impl Poly {
         Ok(out)
     }
 
-    // Adds the multiple of another polynomial by one coefficient and one monomial: all products of coefficients are made here.
+    // Adds the multiple of another polynomial by one coefficient and one monomial. All products of coefficients are made
+    // here, by a table of the coefficient.
     fn add_product<F: Field>(
         &mut self,
         field: &F,
@@ -143,8 +144,10 @@ impl Poly {
         ensures values { OnOk result (AddsProduct (F.degree field.now) (F.product field.now) (mono.now, c) other.now.terms self.old.terms self.new.terms) }
     {
         let k = field.k();
+        let table = field.times(c);
         for (n, place) in &other.map {
-            self.add_term(mono.times(n, k)?, field.mul(c, place.coefficient))?;
+            let product = product_by(field, c, &table, place.coefficient);
+            self.add_term(mono.times(n, k)?, product)?;
         }
         Ok(())
     }
@@ -286,6 +289,17 @@ impl Poly {
         }
         sum
     }
+}
+
+// The product of the element that a table is of and another element.
+fn product_by<F: Field>(field: &F, _c: u64, table: &F::Times, d: u64) -> u64
+    requires c { IsElement (F.degree field.now) _c }
+    requires table { F.is_table field.now table.now _c }
+    requires d { IsElement (F.degree field.now) d }
+    ensures product { result ≡ F.product field.now _c d }
+    ensures element { result < 2 ^ F.degree field.now }
+{
+    field.by(table, d)
 }
 
 // Adds a term to a map of monomials in slots; the sum of two coefficients that is 0 leaves no term.

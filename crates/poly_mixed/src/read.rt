@@ -1,9 +1,12 @@
 //! A polynomial from its text.
 ghost use Rattle.std.specs.Prelude.{◌≡◌, ◌==◌, ◌&&◌, ℕ, ◌≤◌, ◌^◌, length, nat_lt, OnOk, IfOk, IfErr, Ok};
-ghost use Rattle.poly_mixed.specs.Reading.{reading, number_at, exponent_at, with_variable, next_at, factor_at, after_zero, coefficient_at, zero_at, term_at, advanced, added, one, IsSaid, IsScanned};
+ghost use Rattle.poly_mixed.specs.Said.{added, one};
+ghost use Rattle.poly_mixed.specs.private.Reading.{reading, number_at, exponent_at, with_variable, next_at, factor_at, after_zero, coefficient_at, zero_at, term_at, advanced, IsSaid, IsScanned};
 ghost use Rattle.poly_mixed.specs.Scan.{run, is_hex_digit};
-ghost use Rattle.poly_mixed.specs.ReadingState.{IsStep, IsAdded, IsFresh, IsFreshAfter, progress};
-ghost use Rattle.poly_mixed.specs.Polynomial.{Terms};
+ghost use Rattle.poly_mixed.specs.private.ReadingState.{IsStep, IsAdded, IsFresh, IsFreshAfter, progress};
+ghost use Rattle.poly_mixed.specs.Polynomial.{Terms, IsReduced};
+ghost use Rattle.poly_mixed.specs.TextOutcome.{text_fault, TextOutcome};
+ghost use Rattle.text_core.specs.Outcome.{Fits};
 ghost use Rattle.poly_mixed.specs.Monomial.{Monomial};
 
 use crate::scan::{Class, after, front, skip, value};
@@ -220,7 +223,18 @@ fn add_variable<'a>(
 }
 
 /// The polynomial that a text says, in the variables that labels name, over a field of 2^k elements with k from 1 to 64.
+/// Terms may stand in any order, and equal monomials add up; the fault is that of the first token that has one.
 pub fn read_poly(alloc: Global, bytes: &[u8], k: u32, labels: &Labels) -> Result<Poly, PolyFault>
+    requires { (1 ≤ k) × (k ≤ 64) }
+    ensures outcome { Fits text_fault (λ p. p.terms) result (TextOutcome labels.now k bytes.now) }
+    ensures reduced { IfOk result (λ p. IsReduced k p.terms) }
+{
+    labels.check();
+    read_parts(alloc, bytes, k, labels)
+}
+
+// The same, part by part.
+fn read_parts(alloc: Global, bytes: &[u8], k: u32, labels: &Labels) -> Result<Poly, PolyFault>
     requires { (1 ≤ k) × (k ≤ 64) }
     ensures read { IfOk result (λ p. reading labels.now k bytes.now ≡ Ok p.terms) }
     ensures fault { IfErr result (IsSaid (reading labels.now k bytes.now)) }

@@ -1,6 +1,6 @@
 //! Variables at the front of a text.
 ghost use Rattle.std.specs.Prelude.{◌≡◌, length, drop, option_map};
-ghost use Rattle.poly_mixed.specs.Reading.{variable_at, net_at, name_at, IsScanned};
+ghost use Rattle.poly_mixed.specs.private.Reading.{variable_at, net_at, name_at, IsScanned};
 ghost use Rattle.poly_mixed.specs.Scan.{index_of, name_of};
 
 use crate::scan::{Class, after, front, name, value};

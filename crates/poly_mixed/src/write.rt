@@ -3,15 +3,15 @@ ghost use Rattle.std.specs.Prelude.{◌≡◌, ◌<◌, ◌+◌, ◌==◌, ◌&&
 ghost use Rattle.std.specs.List.{AllByRecursion};
 ghost use Rattle.poly_mixed.specs.Labels.{bit_count};
 ghost use Rattle.poly_mixed.specs.Parts.{part_after, parts_after};
-ghost use Rattle.poly_mixed.specs.Text.{HasNames, text, hex_text, is_none, term_text as text_of_term, variable_texts, power_texts, joined};
+ghost use Rattle.poly_mixed.specs.Text.{HasNames, HasWordNames, text, hex_text, is_none, term_text as text_of_term, variable_texts, power_texts, joined};
 
 use crate::{Labels, Mono, Poly};
 use std::alloc::{AllocError, Global};
 
-/// The text of a polynomial: terms joined by ` + `, or `0`. A word that has no name in the labels is left out;
-/// `is_named` says that there is none.
+/// The text of a polynomial whose variables all have names in the labels, as `is_named` says: terms joined by ` + `, or `0`.
 pub fn write_poly(alloc: Global, poly: &Poly, labels: &Labels) -> Result<Vec<u8>, AllocError>
     requires named { HasNames labels.now poly.now.terms }
+    requires words_named { HasWordNames labels.now poly.now.terms }
     ensures { IfOk result (λ v. v.items ≡ text labels.now poly.now.terms) }
 {
     if poly.len() == 0 {

@@ -1,5 +1,5 @@
 -- Word by word: the stages of words so far, the first over the bound, and the pairs so far.
-use Rattle.std.proofs.Common.{◌≡◌, ◌⊎◌, sym, refl, subst, inl, inr, ℕ, suc, ◌<◌, ◌≤◌, ◌+◌, true, List, [], ◌++◌, length, Option, Some, arith}
+use Rattle.std.proofs.Common.{◌≡◌, ◌⊎◌, sym, refl, subst, inl, inr, ℕ, suc, ◌<◌, ◌≤◌, ◌+◌, List, [], ◌++◌, length, Option, Some, arith}
 use Rattle.std.specs.Prelude.{slice_get}
 use Rattle.std.proofs.lemmas.Option.{slice_get_within}
 use Rattle.std.proofs.lemmas.Bool.{cases_order}

@@ -17,7 +17,7 @@ use Rattle.stage_model.specs.Stage.{IsOfStage}
 use Rattle.stage_model.proofs.BoundLemmas.{bound_cut}
 use Rattle.stage_model.proofs.MixLemmas.{mix_none, mix_all}
 use Rattle.stage_model.proofs.NextMixLemmas.{mix_lacks}
-use Rattle.word_subst.specs.Bases.{AreBases, circuit_in}
+use Rattle.circuit_model.specs.Bases.{AreBases, circuit_in}
 
 pub taken : (k : ℕ) (mul : ℕ → ℕ → ℕ) (bound : BoundNet) (bases : List Basis) (basis : List ℕ) (ts : Terms) → IsWellFormed (circuit_in k mul bound bases) → AreBases k mul bound bases → bound.net.latches ≡ []
     → basis ≡ output_basis bound.bound.words (map elements_of bases) → IsOfStage k mul (BoundCut bound basis (length bound.net.gates)) ts → IsOfStage k mul (IsMix (circuit_in k mul bound bases) 0) ts

@@ -1,5 +1,5 @@
 -- The first powers of a linear form, and the linear forms of the first places.
-use Rattle.std.proofs.Common.{◌≡◌, ◌∙◌, ap, sym, refl, subst, inl, inr, ℕ, ◌<◌, ◌≤◌, ◌+◌, ◌^◌, ◌==◌, true, false, cond, List, [], ◌∷◌, ◌++◌, length, Some, bit_xor, append-nil, arith}
+use Rattle.std.proofs.Common.{◌≡◌, ◌∙◌, ap, sym, refl, subst, inl, inr, ℕ, ◌<◌, ◌+◌, ◌^◌, ◌==◌, true, false, cond, List, [], ◌∷◌, ◌++◌, length, Some, bit_xor, append-nil, arith}
 use Rattle.std.specs.Prelude.{slice_get, slice_index}
 use Rattle.std.specs.Int.Bits.{xor_zero_r}
 use Rattle.std.proofs.lemmas.Bool.{eqb-true, eqb-false}
@@ -12,7 +12,7 @@ use Rattle.poly_mixed.specs.Sum.{with_coefficient}
 use Rattle.poly_mixed.proofs.FieldLaws.{IsField}
 use Rattle.poly_mixed.proofs.Values.{power_element, product_zero}
 use Rattle.stage_model.proofs.WordBitLemmas.{part_value, next_part}
-use Rattle.word_subst.specs.Univariate.{Powers, IsPower, IsBelow, IsUnivariate, value_of, power_value}
+use Rattle.word_subst.specs.Univariate.{Powers, IsPower, IsUnivariate, value_of, power_value}
 use Rattle.word_subst.specs.Merge.{IsBefore}
 use Rattle.word_subst.specs.Forms.{IsForm}
 use Rattle.word_subst.proofs.Univariates.{all_append, xor_sum-append, univariate_append, one_power, no_powers}

@@ -1,5 +1,5 @@
 -- A polynomial in one word that is added to the polynomial of its monomial.
-use Rattle.std.proofs.Common.{◌≡◌, ◌≢◌, ◌∙◌, ap, sym, refl, subst, ℕ, ◌<◌, ◌≤◌, ◌+◌, ◌-◌, Bool, true, false, cond, List, [], ◌∷◌, ◌++◌, length, bit_xor, slice_index, Option, Some, None, arith}
+use Rattle.std.proofs.Common.{◌≡◌, ◌≢◌, ◌∙◌, ap, sym, refl, subst, ℕ, ◌<◌, ◌≤◌, ◌+◌, Bool, true, false, cond, [], ◌∷◌, ◌++◌, length, bit_xor, slice_index, Some, arith}
 use Rattle.std.specs.Int.Bits.{xor_zero_l, xor_zero_r, xor_assoc, xor_comm}
 use Rattle.std.specs.declared.cmp.Ordering.TheVariants.{Less, Equal, Greater}
 use Rattle.std.specs.Ordering.{match_ordering, eq_by_cmp, is_eq}
@@ -12,12 +12,12 @@ use Rattle.std.proofs.lemmas.Map.{lookup-none}
 use Rattle.std.proofs.lemmas.Map.Entries.{none_below_head}
 use Rattle.std.proofs.lemmas.Map.Keys.{sorted_tail}
 use Rattle.poly_mixed.specs.Monomial.{Monomial, text_cmp, text_cmp_total}
-use Rattle.poly_mixed.specs.Polynomial.{Terms, Point, IsPoint, IsElement, powers, term_value, value}
+use Rattle.poly_mixed.specs.Polynomial.{Terms, Point, IsElement, powers, term_value, value}
 use Rattle.poly_mixed.specs.Sum.{plus_term, plus}
 use Rattle.poly_mixed.proofs.FieldLaws.{IsField}
 use Rattle.poly_mixed.proofs.Monomials.{text_cmp-same}
 use Rattle.poly_mixed.proofs.Values.{powers_element}
-use Rattle.word_subst.specs.Univariate.{Powers, IsUnivariate, IsSum, value_of}
+use Rattle.word_subst.specs.Univariate.{Powers, IsUnivariate, value_of}
 use Rattle.word_subst.specs.Spread.{Groups, total, found, spread, all_terms, IsRest, IsGroup, IsAdded, AddsGroup}
 use Rattle.word_subst.proofs.Univariates.{xor_sum-append, no_powers, value_of_element}
 use Rattle.word_subst.proofs.Spreads.{spread_value, word_element}

@@ -16,3 +16,7 @@ mod PlaceList
 mod AllWords
 mod Turn
 mod Callers
+mod GatheredPowersLemmas
+mod SomeProductsLemmas
+mod ReadFromLemmas
+mod ReadAtOnceLemmas

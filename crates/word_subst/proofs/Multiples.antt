@@ -1,5 +1,5 @@
 -- The values of multiples and products of polynomials in one word, and the order of their powers.
-use Rattle.std.proofs.Common.{◌≡◌, ◌≢◌, ◌∙◌, ap, sym, refl, subst, ℕ, zero, suc, ◌<◌, ◌≤◌, ◌+◌, ◌-◌, ◌^◌, nat_lt, List, [], ◌∷◌, ◌++◌, length, take, drop, get_or, map, bit_xor, inl, inr, arith}
+use Rattle.std.proofs.Common.{◌≡◌, ◌∙◌, ap, sym, refl, subst, ℕ, zero, suc, ◌<◌, ◌≤◌, ◌+◌, ◌-◌, ◌^◌, nat_lt, List, [], ◌∷◌, ◌++◌, length, take, drop, get_or, bit_xor, inl, inr, arith}
 use Rattle.std.specs.Int.Bits.{xor_zero_l, xor_zero_r, xor_assoc}
 use Rattle.std.proofs.lemmas.Bool.{lt-ltb, le-ltb, cond-true, cond-false, cases_lt}
 use Rattle.std.proofs.lemmas.Nat.{pow_pos}
@@ -15,7 +15,7 @@ use Rattle.poly_mixed.proofs.Products.{power-add_exponent, cross, distrib_right,
 use Rattle.word_subst.specs.Univariate.{Powers, IsPower, IsBelow, IsRising, IsUnivariate, power_value, value_of, IsSum, IsMultiple, IsProductOfTwo}
 use Rattle.word_subst.specs.Multiple.{multiplied}
 use Rattle.word_subst.proofs.Rising.{rest_is}
-use Rattle.word_subst.proofs.Univariates.{all_append, xor_sum-append, below_less, power_value_element, value_of_element, no_powers}
+use Rattle.word_subst.proofs.Univariates.{all_append, xor_sum-append, power_value_element, value_of_element}
 
 -- ---- parts of a polynomial in one word
 
@@ -112,10 +112,10 @@ module _ {k : ℕ} {mul : ℕ → ℕ → ℕ} (f : IsField k mul) (by : ℕ × 
         } in
         ((run_below t.0 us all.0 all.1 up.0, rest.0), (first, rest.1))
 
-  low_is : (e : ℕ) → e + by.0 < 2 ^ k → add_exponent k e by.0 ≡ e + by.0
+  pub low_is : (e : ℕ) → e + by.0 < 2 ^ k → add_exponent k e by.0 ≡ e + by.0
   low_is e less = cond-true (nat_lt (e + by.0) (2 ^ k)) _ _ (lt-ltb (e + by.0) (2 ^ k) less)
 
-  high_is : (e : ℕ) → 2 ^ k ≤ e + by.0 → add_exponent k e by.0 ≡ e + by.0 - (2 ^ k - 1)
+  pub high_is : (e : ℕ) → 2 ^ k ≤ e + by.0 → add_exponent k e by.0 ≡ e + by.0 - (2 ^ k - 1)
   high_is e most = cond-false (nat_lt (e + by.0) (2 ^ k)) _ _ (le-ltb (e + by.0) (2 ^ k) most)
 
   pub low_run : (us : Powers) → AllByRecursion (λ t. t.0 + by.0 < 2 ^ k) us → IsUnivariate k us → IsUnivariate k (multiplied k mul by us)

@@ -1,8 +1,8 @@
 -- Terms that are gathered from polynomials in one word: their values and how many they are.
-use Rattle.std.proofs.Common.{◌≡◌, ◌≢◌, ◌∙◌, ap, sym, refl, subst, ℕ, zero, suc, ◌<◌, ◌≤◌, ◌+◌, ◌&&◌, Bool, true, false, cond, List, [], ◌∷◌, ◌++◌, length, map, bit_xor, slice_index, arith}
+use Rattle.std.proofs.Common.{◌≡◌, ◌≢◌, ◌∙◌, ap, sym, refl, subst, ℕ, zero, suc, ◌<◌, ◌+◌, true, false, cond, List, [], ◌∷◌, ◌++◌, length, bit_xor, slice_index, arith}
 use Rattle.std.proofs.Math.ListN.{set, length-set}
 use Rattle.std.proofs.lemmas.List.{length-append, length-map}
-use Rattle.std.specs.Int.Bits.{xor_zero_l, xor_zero_r, xor_assoc, xor_comm, xor_lt}
+use Rattle.std.specs.Int.Bits.{xor_zero_l, xor_lt}
 use Rattle.std.specs.declared.cmp.Ordering.{Ordering}
 use Rattle.std.specs.declared.cmp.Ordering.TheVariants.{Less, Equal, Greater}
 use Rattle.std.specs.Ordering.{match_ordering, nat_cmp}
@@ -12,17 +12,16 @@ use Rattle.std.specs.List.Sorted.{IsStrictlySortedBy}
 use Rattle.std.specs.Map.{keys_of}
 use Rattle.gf_field.specs.Power.{power}
 use Rattle.poly_mixed.specs.Monomial.{Monomial, text_cmp, text_cmp_total}
-use Rattle.poly_mixed.specs.Polynomial.{Terms, Point, IsPoint, IsElement, IsMonomial, IsTerm, IsReduced, powers, term_value, value}
+use Rattle.poly_mixed.specs.Polynomial.{Terms, Point, IsPoint, IsElement, IsTerm, IsReduced, powers, value}
 use Rattle.poly_mixed.specs.Sum.{with_coefficient, plus_term, plus}
 use Rattle.poly_mixed.proofs.FieldLaws.{IsField}
 use Rattle.poly_mixed.proofs.Monomials.{text_cmp-same}
 use Rattle.poly_mixed.proofs.Sums.{sorted-plus, all_plus}
 use Rattle.poly_mixed.proofs.Terms.{all_plus_term}
-use Rattle.poly_mixed.proofs.Values.{value-plus, power_element, powers_element, product_by_zero, product_zero, one_element}
-use Rattle.poly_mixed.proofs.Products.{distrib_right}
-use Rattle.word_subst.specs.Univariate.{Powers, IsPower, IsBelow, IsRising, IsUnivariate, value_of, power_value}
+use Rattle.poly_mixed.proofs.Values.{value-plus, power_element, powers_element, product_zero}
+use Rattle.word_subst.specs.Univariate.{Powers, IsPower, IsBelow, IsRising, IsUnivariate, value_of}
 use Rattle.word_subst.specs.Spread.{Groups, total, with_exponent, spread, all_terms, IsRest, IsGroup}
-use Rattle.word_subst.proofs.Univariates.{all_append, xor_sum-append, value_of_element}
+use Rattle.word_subst.proofs.Univariates.{all_append, value_of_element}
 
 -- ---- lists of terms of different keys
 

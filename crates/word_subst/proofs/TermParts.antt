@@ -1,15 +1,13 @@
 -- What is found of a term out of the products of its bits of the word.
-use Rattle.std.proofs.Common.{◌≡◌, ◌≢◌, ◌∙◌, ap, sym, refl, subst, ℕ, zero, suc, ◌<◌, ◌≤◌, ◌+◌, ◌-◌, ◌*◌, ◌==◌, ◌&&◌, Bool, true, false, cond, not, List, [], ◌∷◌, ◌++◌, length, take, drop, slice_index, bit_xor, Option, None, arith}
-use Rattle.std.specs.Prelude.{slice_get}
+use Rattle.std.proofs.Common.{◌≡◌, ◌≢◌, ◌∙◌, ap, sym, refl, subst, ℕ, zero, suc, ◌<◌, ◌-◌, ◌*◌, ◌==◌, ◌&&◌, Bool, true, false, cond, not, List, [], ◌∷◌, ◌++◌, length, take, slice_index, bit_xor, arith}
 use Rattle.std.proofs.Math.ListN.{set, length-set}
 use Rattle.std.specs.Int.{bit_at}
 use Rattle.std.specs.List.{AllByRecursion, filter, list_all}
 use Rattle.std.proofs.lemmas.List.Folds.{list_all-append}
 use Rattle.std.proofs.Math.Seq.{take-length}
 use Rattle.gf_field.specs.Power.{power}
-use Rattle.gf_basis.specs.Basis.{AreBits}
 use Rattle.poly_mixed.specs.Monomial.{Monomial, text_cmp}
-use Rattle.poly_mixed.specs.Polynomial.{Terms, Point, IsPoint, IsElement, IsTerm, powers, value}
+use Rattle.poly_mixed.specs.Polynomial.{Point, IsElement, IsTerm, powers, value}
 use Rattle.poly_mixed.specs.Product.{union}
 use Rattle.poly_mixed.specs.Sum.{plus}
 use Rattle.poly_mixed.specs.declared.stage.ReduceFault.{ReduceFault}
@@ -22,13 +20,13 @@ use Rattle.poly_mixed.proofs.Values.{power_element, powers_element, one_element,
 use Rattle.stage_model.specs.WordStage.{is_of_word, word_bits, with_word}
 use Rattle.stage_model.specs.PlainWord.{IsProductOf}
 use Rattle.stage_model.proofs.WordPolyLemmas.{whole_term}
-use Rattle.word_subst.specs.Univariate.{Powers, IsUnivariate, IsMultiple, value_of, power_value}
+use Rattle.word_subst.specs.Univariate.{Powers, IsUnivariate, IsMultiple, value_of}
 use Rattle.word_subst.specs.Multiple.{multiplied}
 use Rattle.word_subst.specs.Multiplier.{IsWithBits}
-use Rattle.word_subst.specs.Prefix.{Products, IsBitProduct, AreProducts, IsProductWithin, IsFirstOver, IsProductRefusal}
+use Rattle.word_subst.specs.Prefix.{Products, IsBitProduct, AreProducts, IsProductWithin, IsProductRefusal}
 use Rattle.word_subst.specs.Spread.{Groups, IsRest, AddsGroup, spread, all_terms}
 use Rattle.word_subst.specs.Rest.{rest_of, AddsTerm}
-use Rattle.word_subst.specs.Read.{HasWithin, HasOver, product_at, IsTermWithin}
+use Rattle.word_subst.specs.Read.{HasWithin, product_at, IsTermWithin}
 use Rattle.word_subst.specs.ReadRefusal.{IsTermRefusal}
 use Rattle.word_subst.proofs.Multiples.{scaled_is}
 use Rattle.word_subst.proofs.Prefixes.{product_before}

@@ -17,7 +17,7 @@ use Rattle.circuit_model.specs.Word.{Word}
 use Rattle.circuit_model.specs.WellFormed.{IsWellFormed}
 use Rattle.circuit_model.specs.OfBinding.{HaveBases}
 use Rattle.circuit_model.proofs.BoundLemmas.{bound_well}
-use Rattle.word_subst.specs.Bases.{AreBases, circuit_in}
+use Rattle.circuit_model.specs.Bases.{AreBases, circuit_in}
 use Rattle.word_subst.specs.Places.{places_from}
 use Rattle.word_subst.proofs.PlaceList.{places_long, word_at}
 

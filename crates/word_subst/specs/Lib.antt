@@ -1,5 +1,5 @@
-pub mod Bases
 pub mod Recorded
+pub mod AtOnce
 pub mod Places
 pub mod Forms
 pub mod Multiplier

@@ -17,7 +17,7 @@ ghost use Rattle.stage_model.specs.Cut.{BoundCut};
 ghost use Rattle.stage_model.specs.InputPoint.{input_of};
 ghost use Rattle.stage_model.specs.Mix.{IsMix};
 ghost use Rattle.stage_model.specs.Stage.{IsOfStage};
-ghost use Rattle.word_subst.specs.Bases.{AreBases, circuit_in};
+ghost use Rattle.circuit_model.specs.Bases.{AreBases, circuit_in};
 
 /// Words that are bound to a sound net make a well-formed circuit with one basis of the field for each.
 pub fn bases_make_a_circuit()

@@ -2,6 +2,7 @@
 //! words, word by word and term by term, with the exact bound on the terms of each stage.
 #![tactic(auto)]
 
+mod at_once;
 mod forms;
 mod laws;
 mod multiple;

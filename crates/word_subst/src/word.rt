@@ -16,6 +16,7 @@ ghost use Rattle.word_subst.specs.Read.{IsTermWithin, AreTermsWithin};
 ghost use Rattle.word_subst.specs.ReadSteps.{TellsFirst, TellsTerms};
 ghost use Rattle.word_subst.specs.ReadRefusal.{IsTermRefusal, IsWordRefusal};
 
+use crate::at_once::at_once;
 use crate::forms::forms;
 use crate::products::BitProducts;
 use crate::rest::own_ranks;
@@ -69,10 +70,8 @@ fn next_term<F: Field, T: Steps>(
     Ok(())
 }
 
-/// The sum of all terms of a polynomial, with their bits of the word read from the word, term by term in the order of a
-/// text. The recorder gets the pairs of the terms. The fault is the first stage of more than `bound` terms, the products of
-/// a term before the sum with it.
-pub fn one_word<F: Field, T: Steps>(
+// Term by term: each stage is counted.
+fn term_by_term<F: Field, T: Steps>(
     alloc: Global,
     field: &F,
     basis: &Basis,
@@ -115,5 +114,36 @@ pub fn one_word<F: Field, T: Steps>(
         check_size(sums.len(), bound, stage)?;
     }
     let poly = sums.to_poly(alloc, word)?;
+    Ok(poly)
+}
+
+/// The sum of all terms of a polynomial, with their bits of the word read from the word, term by term in the order of a
+/// text. The recorder gets the pairs of the terms. The fault is the first stage of more than `bound` terms, the products of
+/// a term before the sum with it.
+pub fn one_word<F: Field, T: Steps>(
+    alloc: Global,
+    field: &F,
+    basis: &Basis,
+    word: u32,
+    bits: &Poly,
+    bound: u32,
+    steps: &mut T,
+) -> Result<Poly, ReduceFault>
+    requires over { IsOver (F.degree field.now) (F.product field.now) basis.now }
+    requires word { word < 8 }
+    requires bits { IsReduced (F.degree field.now) bits.now.terms }
+    requires few { length bits.now.terms < 2 ^ 32 }
+    ensures sum { IfOk result (λ q. IsSumOf (F.degree field.now) (F.product field.now) (elements_of basis.now) word bits.now.terms (length bits.now.terms) q.terms) }
+    ensures small { IfOk result (λ q. length q.terms ≤ bound) }
+    ensures within { OnOk result (AreTermsWithin (F.degree field.now) (F.product field.now) (elements_of basis.now) word bits.now.terms (length bits.now.terms) bound) }
+    ensures fault { IfErr result (IsWordRefusal (F.degree field.now) (F.product field.now) (elements_of basis.now) word bits.now.terms bound) }
+    ensures steps { OnOk result (TellsTerms (F.degree field.now) (F.product field.now) (elements_of basis.now) word bits.now.terms (T.steps steps.old) (T.steps steps.new)) }
+{
+    if !steps.tells() {
+        if let Some(poly) = at_once(alloc, field, basis, word, bits, bound)? {
+            return Ok(poly);
+        }
+    }
+    let poly = term_by_term(alloc, field, basis, word, bits, bound, steps)?;
     Ok(poly)
 }

@@ -6,7 +6,7 @@ ghost use Rattle.stage_model.specs.Mix.{IsMix};
 ghost use Rattle.stage_model.specs.Stage.{IsOfStage};
 ghost use Rattle.stage_model.specs.Listing.{AreAllWithin, IsRefusal};
 ghost use Rattle.stage_model.specs.WordListing.{word_listing};
-ghost use Rattle.word_subst.specs.Bases.{AreBases, circuit_in};
+ghost use Rattle.circuit_model.specs.Bases.{AreBases, circuit_in};
 ghost use Rattle.word_subst.specs.Recorded.{IsRecorded};
 
 use crate::places::word_places;

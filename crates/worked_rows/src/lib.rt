@@ -4,9 +4,13 @@
 #[cfg(test)]
 mod abstract_rows;
 #[cfg(test)]
+mod aiger_rows;
+#[cfg(test)]
 mod basis_tests;
 #[cfg(test)]
 mod bits_rows;
+#[cfg(test)]
+mod check_rows;
 #[cfg(test)]
 mod file_rows;
 #[cfg(test)]
@@ -26,7 +30,11 @@ mod row;
 #[cfg(test)]
 mod row_tests;
 #[cfg(test)]
+mod same_rows;
+#[cfg(test)]
 mod signature_rows;
+#[cfg(test)]
+mod specification_tests;
 #[cfg(test)]
 mod stage_rows;
 #[cfg(test)]

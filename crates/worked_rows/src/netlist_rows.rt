@@ -1,8 +1,8 @@
 //! Netlists that are refused.
 use crate::row::Row;
 use crate::texts::{
-    EMPTY, LIBRARY_GATE, LOOP, MODEL_TWICE, MULTIPLIER, NO_DRIVER, TWO_DRIVERS, WIDE, WORD_OF_4,
-    WORDS_OF_4,
+    EMPTY, HIERARCHY, LIBRARY_GATE, LOOP, MODEL_TWICE, MULTIPLIER, NO_DRIVER, TWO_DRIVERS, WIDE,
+    WORD_OF_4, WORDS_OF_4,
 };
 
 pub static ROWS_1: [Row; 9] = [
@@ -146,7 +146,7 @@ pub static ROWS_2: [Row; 9] = [
     },
 ];
 
-pub static ROWS_3: [Row; 2] = [
+pub static ROWS_3: [Row; 8] = [
     Row {
         name: "bits of an input word at a gate",
         words: &["bits", "s4", "mul"],
@@ -166,5 +166,62 @@ pub static ROWS_3: [Row; 2] = [
         ],
         status: 2,
         text: "fault 39: net a1 stands twice in mul\n",
+    },
+    Row {
+        name: "abstract of a latch that starts with 0",
+        words: &["abstract", "s4", "mul"],
+        files: &[
+            ("s4", WORDS_OF_4, 0, ""),
+            ("mul", MULTIPLIER, 3, ".latch z0 q re clk 0"),
+        ],
+        status: 2,
+        text: "fault 31: latches in mul\n",
+    },
+    Row {
+        name: "abstract of a latch without a start",
+        words: &["abstract", "s4", "mul"],
+        files: &[
+            ("s4", WORDS_OF_4, 0, ""),
+            ("mul", MULTIPLIER, 3, ".latch z0 q re clk"),
+        ],
+        status: 2,
+        text: "fault 39: latch q has no start in mul\n",
+    },
+    Row {
+        name: "abstract of a latch with a kind alone",
+        words: &["abstract", "s4", "mul"],
+        files: &[
+            ("s4", WORDS_OF_4, 0, ""),
+            ("mul", MULTIPLIER, 3, ".latch z0 q re"),
+        ],
+        status: 2,
+        text: "fault 30: netlist line 3 in mul\n",
+    },
+    Row {
+        name: "abstract of an instance",
+        words: &["abstract", "s4", "hier"],
+        files: &[("s4", WORDS_OF_4, 0, ""), ("hier", HIERARCHY, 0, "")],
+        status: 2,
+        text: "fault 31: .subckt at line 4 in hier\n",
+    },
+    Row {
+        name: "bits of a state word where there is no latch",
+        words: &["bits", "s4", "mul"],
+        files: &[
+            ("s4", WORDS_OF_4, 4, "word B state poly b0 b1"),
+            ("mul", MULTIPLIER, 0, ""),
+        ],
+        status: 2,
+        text: "fault 39: B[0] is no latch in mul\n",
+    },
+    Row {
+        name: "abstract of a state word without its net",
+        words: &["abstract", "s4", "mul"],
+        files: &[
+            ("s4", WORDS_OF_4, 4, "word B state poly b9 b1"),
+            ("mul", MULTIPLIER, 0, ""),
+        ],
+        status: 2,
+        text: "fault 39: no net for B[0] in mul\n",
     },
 ];

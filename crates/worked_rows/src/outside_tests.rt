@@ -59,7 +59,11 @@ fn words_and_places(rt: HostRuntime) -> Result<(), Fail> {
         (&["bits", "s4", "m\u{1f}"], 2, refused),
         (&["bits", "s4", "m\u{7f}"], 2, refused),
         (&["bits", "s4", "mul.v"], 2, refused),
-        (&["bits", "s4", "mul.aag"], 2, refused),
+        (
+            &["bits", "s4", "mul.aag"],
+            2,
+            "fault 10: mul.aag is absent\n",
+        ),
         (&["--help"], 2, refused),
         (&["--version"], 2, refused),
         (&["bits", "x.v", "mul"], 2, "fault 10: x.v is absent\n"),

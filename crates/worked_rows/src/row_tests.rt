@@ -2,7 +2,9 @@
 use crate::program::answer;
 use crate::row::{Row, changed};
 use crate::{
-    abstract_rows, bits_rows, file_rows, netlist_rows, signature_rows, stage_rows, word_rows,
+    abstract_rows, aiger_rows, bits_rows, check_rows, file_rows, netlist_rows, same_rows,
+    signature_rows,
+    stage_rows, word_rows,
 };
 use std::alloc::Global;
 use std::process::Abort;
@@ -47,8 +49,33 @@ fn abstract_rows_2(rt: HostRuntime) -> Result<(), Fail> {
 }
 
 #[test]
+fn check_rows_1(rt: HostRuntime) -> Result<(), Fail> {
+    check(&rt, rt.alloc(), &check_rows::ROWS_1)
+}
+
+#[test]
+fn check_rows_2(rt: HostRuntime) -> Result<(), Fail> {
+    check(&rt, rt.alloc(), &check_rows::ROWS_2)
+}
+
+#[test]
 fn stage_rows(rt: HostRuntime) -> Result<(), Fail> {
     check(&rt, rt.alloc(), &stage_rows::ROWS)
+}
+
+#[test]
+fn same_rows_1(rt: HostRuntime) -> Result<(), Fail> {
+    check(&rt, rt.alloc(), &same_rows::ROWS_1)
+}
+
+#[test]
+fn same_rows_2(rt: HostRuntime) -> Result<(), Fail> {
+    check(&rt, rt.alloc(), &same_rows::ROWS_2)
+}
+
+#[test]
+fn same_rows_3(rt: HostRuntime) -> Result<(), Fail> {
+    check(&rt, rt.alloc(), &same_rows::ROWS_3)
 }
 
 #[test]
@@ -99,4 +126,14 @@ fn word_rows_3(rt: HostRuntime) -> Result<(), Fail> {
 #[test]
 fn file_rows(rt: HostRuntime) -> Result<(), Fail> {
     check(&rt, rt.alloc(), &file_rows::ROWS)
+}
+
+#[test]
+fn aiger_rows_1(rt: HostRuntime) -> Result<(), Fail> {
+    check(&rt, rt.alloc(), &aiger_rows::ROWS_1)
+}
+
+#[test]
+fn aiger_rows_2(rt: HostRuntime) -> Result<(), Fail> {
+    check(&rt, rt.alloc(), &aiger_rows::ROWS_2)
 }

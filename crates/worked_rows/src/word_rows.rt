@@ -5,7 +5,7 @@ use crate::texts::{
     TOWER_WORDS, WORDS_OF_4, WORDS_OF_16,
 };
 
-pub static ROWS_1: [Row; 9] = [
+pub static ROWS_1: [Row; 8] = [
     Row {
         name: "abstract s4",
         words: &["abstract", "s4"],
@@ -45,17 +45,6 @@ pub static ROWS_1: [Row; 9] = [
         name: "bits s4 mul --terms 262145",
         words: &["bits", "s4", "mul", "--terms", "262145"],
         files: &[("s4", WORDS_OF_4, 0, ""), ("mul", MULTIPLIER, 0, "")],
-        status: 2,
-        text: "fault 01: words\n",
-    },
-    Row {
-        name: "check s4 mul ab",
-        words: &["check", "s4", "mul", "ab"],
-        files: &[
-            ("s4", WORDS_OF_4, 0, ""),
-            ("mul", MULTIPLIER, 0, ""),
-            ("ab", PRODUCT, 0, ""),
-        ],
         status: 2,
         text: "fault 01: words\n",
     },

@@ -2,6 +2,7 @@
 use Rattle.std.specs.Prelude.{◌≡◌, ℕ, List}
 use Rattle.poly_mixed.specs.Labels.{Labelling}
 use Rattle.poly_mixed.specs.declared.stage.ReduceFault.{ReduceFault}
+use Rattle.poly_mixed.specs.declared.stage.Stage.{Stage}
 use Rattle.poly_mixed.specs.declared.stage.ReduceFault.TheVariants as reduce
 use Rattle.job_words.specs.declared.fault.Fault.{Fault}
 use Rattle.job_words.specs.declared.fault.Fault.TheVariants as faults
@@ -24,7 +25,11 @@ IsRefusalOf fault (stops.Refused refused) = refused ≡ fault
 IsRefusalOf fault stops.Outside = ⊥
 IsRefusalOf fault stops.OutOfMemory = Unit {0}
 
--- the refusal of the stage that is too large; or memory was wanted
+-- the refusal of the stage that is too large, by what it is called; or memory was wanted
+abbrev pub IsStopCalled : (Stage → List ℕ) → ReduceFault → ℕ → Stop → Type 0
+IsStopCalled called (reduce.TooManyTerms stage n) bound stop = IsRefusalOf (stage_fault (called stage) n bound) stop
+IsStopCalled called reduce.OutOfMemory bound stop = stop ≡ stops.OutOfMemory
+
+-- the same where stages have their own texts
 abbrev pub IsStageStop : Labelling → ReduceFault → ℕ → Stop → Type 0
-IsStageStop labels (reduce.TooManyTerms stage n) bound stop = IsRefusalOf (stage_fault (stage_text labels stage) n bound) stop
-IsStageStop labels reduce.OutOfMemory bound stop = stop ≡ stops.OutOfMemory
+IsStageStop labels = IsStopCalled (stage_text labels)

@@ -5,10 +5,11 @@ ghost use Rattle.job_words.specs.Stop.{GivesBy};
 ghost use Rattle.net_words.specs.Binding.{AreWords};
 ghost use Rattle.net_words.specs.WordNames.{HaveNames};
 ghost use Rattle.job_input.specs.Setting.{setting_value, elements_of_each, AreBasesOver, HaveRoles, IsReady};
-ghost use Rattle.gf_abs.specs.Reply.{printed};
+ghost use Rattle.gf_abs.specs.Reply.{reply_of};
 ghost use Rattle.gf_abs.specs.commands.Bits.{BitsReply, BitsAnswer};
 
 use crate::line::polynomial_line;
+use crate::output::Output;
 use crate::stages::stage_stop;
 use gf_basis::Basis;
 use gf_field::Field;
@@ -28,11 +29,11 @@ pub(crate) fn answer<F: Field, S: Shelf>(
     net: &str,
     terms: u32,
     shelf: &mut S,
-) -> Result<Vec<u8>, Stop>
+) -> Result<Output, Stop>
     requires { IsReady (F.degree field.now) (F.product field.now) setting.now }
     ensures held { S.held shelf.new ≡ S.held shelf.old }
     ensures never_fall { (S.faults shelf.old ≤ S.faults shelf.new) × (S.misses shelf.old ≤ S.misses shelf.new) }
-    ensures gives { GivesBy printed result (BitsAnswer (S.held shelf.old) (setting_value (F.degree field.now) (F.product field.now) setting.now) net.now terms)
+    ensures gives { GivesBy reply_of result (BitsAnswer (S.held shelf.old) (setting_value (F.degree field.now) (F.product field.now) setting.now) net.now terms)
         (Rose (S.misses shelf.old) (S.misses shelf.new)) (Rose (S.faults shelf.old) (S.faults shelf.new)) }
 {
     match read_circuit(alloc, shelf, setting, net) {
@@ -56,14 +57,14 @@ fn reply<F: Field>(
     bases: &[Basis],
     circuit: &Combinational,
     bound: u32,
-) -> Result<Vec<u8>, Stop>
+) -> Result<Output, Stop>
     requires bits { circuit.now.bound.k ≡ F.degree field.now }
     requires words { AreWords (F.degree field.now) signature.now.words }
     requires names { HaveNames signature.now.words }
     requires roles { HaveRoles signature.now.words circuit.now.bound.words }
     requires over { AreBasesOver (F.degree field.now) (F.product field.now) bases.now }
     requires long { length bases.now ≡ length circuit.now.bound.words }
-    ensures { GivesBy printed result (BitsReply (record { signature = signature.now; k = F.degree field.now; product = F.product field.now; bases = elements_of_each bases.now }) circuit.now bound) ⊥ ⊥ }
+    ensures { GivesBy reply_of result (BitsReply (record { signature = signature.now; k = F.degree field.now; product = F.product field.now; bases = elements_of_each bases.now }) circuit.now bound) ⊥ ⊥ }
 {
     let labels = labels_for(alloc, signature.words(), field.k())?;
     let basis = output_basis(circuit.bound(), bases);
@@ -72,6 +73,6 @@ fn reply<F: Field>(
         Ok(poly) => poly,
         Err(fault) => return Err(stage_stop(alloc, &labels, fault, bound)),
     };
-    let line = polynomial_line(alloc, &poly, &labels)?;
-    Ok(line)
+    let text = polynomial_line(alloc, &poly, &labels)?;
+    Ok(Output { status: 0, text })
 }

@@ -4,6 +4,8 @@ use Rattle.text_core.specs.Outcome.{Outcome, Fits}
 use Rattle.net_core.specs.NetList.{NetList, nets as net_count}
 use Rattle.net_core.specs.declared.fault.NetFault.{NetFault}
 use Rattle.net_core.specs.declared.fault.NetFault.TheVariants as nets
+use Rattle.net_aiger.specs.declared.fault.AigerFault.{AigerFault}
+use Rattle.net_aiger.specs.declared.fault.AigerFault.TheVariants as aigers
 use Rattle.net_blif.specs.declared.fault.BlifFault.{BlifFault}
 use Rattle.net_blif.specs.declared.fault.BlifFault.TheVariants as texts
 use Rattle.net_blif.specs.declared.flat_fault.FlatFault.{FlatFault}
@@ -11,7 +13,7 @@ use Rattle.net_blif.specs.declared.flat_fault.FlatFault.TheVariants as flats
 use Rattle.net_words.specs.declared.binding.BindFault.{BindFault}
 use Rattle.net_words.specs.declared.binding.BindFault.TheVariants as binds
 use Rattle.job_words.specs.declared.netlist_fault.NetlistFault.{NetlistFault}
-use Rattle.job_input.specs.NetlistOf.{of_text, of_net}
+use Rattle.job_input.specs.NetlistOf.{of_aiger, of_text, of_net}
 use Rattle.job_input.specs.declared.netlist.Refusal.{Refusal}
 use Rattle.job_input.specs.declared.netlist.Refusal.TheVariants.{Fault, OutOfMemory}
 
@@ -43,6 +45,12 @@ net_refusal fault = Fault (of_net fault)
 abbrev pub model_refusal : FlatFault → Refusal
 model_refusal (flats.Net fault) = net_refusal fault
 model_refusal flats.OutOfMemory = OutOfMemory
+
+-- the refusal of a text in ASCII AIGER
+abbrev pub aiger_refusal : AigerFault → Refusal
+aiger_refusal aigers.OutOfMemory = OutOfMemory
+aiger_refusal (aigers.Net fault) = net_refusal fault
+aiger_refusal fault = Fault (of_aiger fault)
 
 -- the word of a fault of a binding is one of so many words, and its net one of the net list
 abbrev pub IsNamed : ℕ → NetList → BindFault → Type 0

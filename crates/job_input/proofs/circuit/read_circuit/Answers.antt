@@ -6,7 +6,7 @@ use Rattle.job_words.specs.declared.fault.Fault.TheVariants.{File, Netlist}
 use Rattle.job_words.specs.Stop.{GivesBy}
 use Rattle.job_words.proofs.StepLemmas.{after}
 use Rattle.job_input.specs.File.{Read}
-use Rattle.job_input.specs.NetlistOf.{BoundNetOf}
+use Rattle.job_input.specs.NetlistOf.{BoundNetOf, by_ending}
 use Rattle.job_input.proofs.CircuitLemmas.{taken_for}
 use Rattle.job_input.proofs.circuit.read_circuit.Goals as goal
 
@@ -16,8 +16,8 @@ returns-clause-gives g c =
     let file = c.args.file.now in
     let missed = Rose (g.S.Shelf.misses c.args.shelf.now) (g.S.Shelf.misses c.read_file.new.shelf) in
     let failed = Rose (g.S.Shelf.faults c.args.shelf.now) (g.S.Shelf.faults c.read_file.new.shelf) in
-    let P : List ℕ → Type 0 = λ text. GivesBy {X = BoundNet} (λ circuit. circuit) c.circuit_of.result (Within (Netlist file) (BoundNetOf words text)) ⊥ ⊥ in
-    after {X = BoundNet} (λ circuit. circuit) c.circuit_of.result (Within File (Read (g.S.Shelf.held c.args.shelf.now) file)) (λ text. Within (Netlist file) (BoundNetOf words text)) c.in-Ok.text.items
+    let P : List ℕ → Type 0 = λ text. GivesBy {X = BoundNet} (λ circuit. circuit) c.circuit_of.result (Within (Netlist file) (BoundNetOf words (by_ending file text))) ⊥ ⊥ in
+    after {X = BoundNet} (λ circuit. circuit) c.circuit_of.result (Within File (Read (g.S.Shelf.held c.args.shelf.now) file)) (λ text. Within (Netlist file) (BoundNetOf words (by_ending file text))) c.in-Ok.text.items
     missed failed ⊥ ⊥ c.in-Ok.ensures.gives (λ m. absurd m) (λ f. absurd f) (subst P c.deref.ensures.value (rw c.words.ensures at c.circuit_of.ensures.gives))
 
 pub returns-clause-taken : goal.returns-clause-taken

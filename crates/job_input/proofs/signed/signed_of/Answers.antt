@@ -1,5 +1,4 @@
 use Rattle.std.proofs.Common.{refl}
-use Rattle.job_input.specs.FieldOf.{FieldValue}
 use Rattle.job_input.specs.Setting.{field_value}
 use Rattle.job_input.proofs.FieldLemmas.{field_made}
 use Rattle.job_input.proofs.SettingWords.{said_words}

@@ -1,4 +1,4 @@
-use Rattle.std.proofs.Common.{◌≡◌, ◌∷◌, List, ℕ, map, drop, take, length, ◌-◌, subst, sym, ◌∙◌, string_bytes, arith}
+use Rattle.std.proofs.Common.{◌≡◌, ◌∷◌, List, map, drop, take, length, ◌-◌, subst, sym, ◌∙◌, string_bytes, arith}
 use Rattle.std.specs.Prelude.{IfNone}
 use Rattle.job_words.specs.Operands.{Word}
 use Rattle.job_words.specs.Command.{Job, IsSpelled}

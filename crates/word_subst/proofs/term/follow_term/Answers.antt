@@ -1,9 +1,9 @@
-use Rattle.std.proofs.Common.{rules, ◌≡◌, ◌≤◌, ◌∙◌, ap, sym, subst, true, ℕ, List, length, slice_index, arith}
+use Rattle.std.proofs.Common.{rules, ◌≡◌, ◌≤◌, sym, subst, true, ℕ, List, length, slice_index, arith}
 use Rattle.std.specs.List.{AllByRecursion}
 use Rattle.gf_basis.specs.BasisParts.{elements_of}
 use Rattle.poly_mixed.specs.Monomial.{Monomial}
 use Rattle.poly_mixed.proofs.FieldLaws.{field_of}
-use Rattle.stage_model.specs.WordStage.{is_of_word, word_bits}
+use Rattle.stage_model.specs.WordStage.{is_of_word}
 use Rattle.word_subst.specs.Prefix.{IsProductRefusal}
 use Rattle.word_subst.specs.ReadRefusal.{IsTermRefusal}
 use Rattle.word_subst.proofs.OneTerm.{few_own}

@@ -5,7 +5,7 @@ use Rattle.gf_basis.specs.declared.bases.Basis.{Basis}
 use Rattle.circuit_model.specs.Circuit.{Circuit}
 use Rattle.stage_model.specs.Mix.{IsMix}
 use Rattle.stage_model.specs.Stage.{IsOfStage}
-use Rattle.word_subst.specs.Bases.{circuit_in}
+use Rattle.circuit_model.specs.Bases.{circuit_in}
 use Rattle.stage_model.specs.Listing.{IsRefusal}
 use Rattle.stage_model.specs.WordListing.{word_listing}
 use Rattle.word_subst.proofs.Turn.{is_well_formed, places_are, as_many, inside, own_word, is_over}

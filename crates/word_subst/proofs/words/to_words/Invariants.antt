@@ -1,7 +1,7 @@
 use Rattle.std.proofs.Common.{◌<◌, ◌^◌, length}
 use Rattle.stage_model.specs.Mix.{IsMix}
 use Rattle.stage_model.specs.Stage.{IsOfStage}
-use Rattle.word_subst.specs.Bases.{circuit_in}
+use Rattle.circuit_model.specs.Bases.{circuit_in}
 use Rattle.word_subst.proofs.AllWords.{AreWithinTo, IsRecordedTo}
 use Rattle.word_subst.proofs.words.to_words.Given as goal
 

@@ -6,7 +6,7 @@ use Rattle.net_words.specs.Binding.{Binding}
 use Rattle.gf_basis.specs.BasisParts.{elements_of}
 use Rattle.poly_mixed.specs.Labels.{Labelling}
 use Rattle.poly_mixed.specs.Polynomial.{Terms}
-use Rattle.poly_mixed.specs.Text.{text, HasNames}
+use Rattle.poly_mixed.specs.Text.{text, HasNames, HasWordNames}
 use Rattle.circuit_model.specs.OfBinding.{output_basis}
 use Rattle.stage_model.specs.CircuitListing.{bound_cuts}
 use Rattle.stage_model.specs.Cut.{BoundCut}
@@ -19,12 +19,13 @@ use Rattle.job_words.proofs.StepLemmas.{stops}
 use Rattle.job_input.specs.Labelling.{labels_of, word_labels}
 use Rattle.job_input.specs.Setting.{elements_of_each}
 use Rattle.job_input.specs.SettingValue.{SettingValue}
-use Rattle.gf_abs.specs.Reply.{printed, prints}
+use Rattle.gf_abs.specs.Reply.{reply_of, prints}
 use Rattle.gf_abs.specs.commands.Bits.{bits_stages}
 use Rattle.gf_abs.specs.commands.Abstract.{taken_circuit, IsInWords, AbstractOf}
 use Rattle.gf_abs.specs.private.StageStop.{IsNamed, IsStageStop}
 use Rattle.gf_abs.proofs.RefusalLemmas.{earlier_refused, later_refused, cuts_named, words_named}
 use Rattle.gf_abs.proofs.StageLemmas.{IsJob, whole, based, few, no_words, terms_named}
+use Rattle.gf_abs.proofs.WordNamesLemmas.{mix_words_named}
 use Rattle.gf_abs.proofs.WordsLemmas.{as_many}
 use Rattle.gf_abs.proofs.commands.abstraction.reply.Goals as goal
 
@@ -50,7 +51,7 @@ returns-in-Err g c =
     let S : Labelling → Type 0 = λ l. IsStageStop l c.in-Err.fault c.args.bound c.stage_stop.result in
     let stop = subst S same c.stage_stop.ensures in
     let view : Terms → Terms = λ ts. ts in
-    stops view printed c.stage_stop.result (Within faults.Stage (AbstractOf setting circuit c.args.bound)) (λ ts. Exactly (prints setting ts)) ⊥ ⊥ ⊥ ⊥ (λ m. m) (λ f. f)
+    stops view reply_of c.stage_stop.result (Within faults.Stage (AbstractOf setting circuit c.args.bound)) (λ ts. Exactly (prints setting ts)) ⊥ ⊥ ⊥ ⊥ (λ m. m) (λ f. f)
     (earlier_refused degree mul view c.args.bound (IsInWords setting circuit) (bits_stages setting circuit) (word_listing (taken_circuit setting circuit)) (labels_of degree c.args.signature.now.words) c.in-Err.fault c.stage_stop.result refusal stop)
 
 pub to_words-requires-clause-bits : goal.to_words-requires-clause-bits
@@ -113,11 +114,11 @@ returns-in-Err-to_words g c =
     let S : Labelling → Type 0 = λ l. IsStageStop l c.in-Err-to_words.fault c.args.bound c.stage_stop-in-Err-to_words.result in
     let stop = subst S same c.stage_stop-in-Err-to_words.ensures in
     let view : Terms → Terms = λ ts. ts in
-    stops view printed c.stage_stop-in-Err-to_words.result (Within faults.Stage (AbstractOf setting circuit c.args.bound)) (λ ts. Exactly (prints setting ts)) ⊥ ⊥ ⊥ ⊥ (λ m. m) (λ f. f)
+    stops view reply_of c.stage_stop-in-Err-to_words.result (Within faults.Stage (AbstractOf setting circuit c.args.bound)) (λ ts. Exactly (prints setting ts)) ⊥ ⊥ ⊥ ⊥ (λ m. m) (λ f. f)
     (later_refused degree mul view c.args.bound (IsInWords setting circuit) (bits_stages setting circuit) (word_listing (taken_circuit setting circuit)) (labels_of degree c.args.signature.now.words) c.in-Err-to_words.fault c.stage_stop-in-Err-to_words.result within refusal stop)
 
-pub polynomial_line-requires : goal.polynomial_line-requires
-polynomial_line-requires g c =
+pub polynomial_line-requires-clause-named : goal.polynomial_line-requires-clause-named
+polynomial_line-requires-clause-named g c =
     let degree = g.F.Ring.degree c.args.field.now in
     let mul = g.F.Ring.product c.args.field.now in
     let circuit = c.args.circuit.now in
@@ -127,6 +128,19 @@ polynomial_line-requires g c =
     let same : c.in_ok-labels.labels ≡ labels_of degree c.args.signature.now.words = c.in_ok-labels.ensures ∙ (λ i. labels_of (c.k.ensures i) (c.words.ensures i)) in
     let names = terms_named degree mul circuit bases job c.args.signature.now.words c.in-Ok-to_words.poly.terms c.in-Ok-to_words.ensures.words in
     let Q : Labelling → Type 0 = λ l. HasNames l c.in-Ok-to_words.poly.terms in
+    subst Q (sym same) names
+
+pub polynomial_line-requires-clause-words_named : goal.polynomial_line-requires-clause-words_named
+polynomial_line-requires-clause-words_named g c =
+    let degree = g.F.Ring.degree c.args.field.now in
+    let mul = g.F.Ring.product c.args.field.now in
+    let circuit = c.args.circuit.now in
+    let bases = c.args.bases.now in
+    let S : NetList → Type 0 = λ n. IsSound n in
+    let job : IsJob degree mul circuit bases = record { ring = g.met.F.Ring.laws c.args.field.now; nozero = g.met.F.Field.no_zero_divisors c.args.field.now; sound = subst S c.net.ensures.net c.gates-gates.ensures.sound; bound = c.net.ensures.is_bound; flat = c.net.ensures.flat; same = c.requires.bits; over = c.requires.over; long = c.requires.long } in
+    let same : c.in_ok-labels.labels ≡ labels_of degree c.args.signature.now.words = c.in_ok-labels.ensures ∙ (λ i. labels_of (c.k.ensures i) (c.words.ensures i)) in
+    let names = mix_words_named degree mul circuit bases job c.args.signature.now.words c.in-Ok-to_words.poly.terms c.requires.roles c.in-Ok-to_words.ensures.words in
+    let Q : Labelling → Type 0 = λ l. HasWordNames l c.in-Ok-to_words.poly.terms in
     subst Q (sym same) names
 
 pub returns : goal.returns
@@ -145,5 +159,5 @@ returns g c =
     let ts = c.in-Ok-to_words.poly.terms in (
       ts,
       (c.in-Ok-to_words.ensures.words, both_within degree mul (bits_stages setting circuit) (word_listing (taken_circuit setting circuit)) c.args.bound within words),
-      ap (λ (t : List ℕ). record { status = 0; text = t }) (c.in_ok-line.ensures ∙ ap (λ (l : Labelling). l.output ++ (codes " = " ++ (text l ts ++ codes "\n"))) same),
+      ap (λ (t : List ℕ). record { status = 0; text = t }) (c.in_ok-text.ensures ∙ ap (λ (l : Labelling). l.output ++ (codes " = " ++ (text l ts ++ codes "\n"))) same),
     )

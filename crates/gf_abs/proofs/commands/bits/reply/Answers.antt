@@ -6,7 +6,7 @@ use Rattle.net_words.specs.Binding.{Binding}
 use Rattle.gf_basis.specs.BasisParts.{elements_of}
 use Rattle.poly_mixed.specs.Labels.{Labelling}
 use Rattle.poly_mixed.specs.Polynomial.{Terms}
-use Rattle.poly_mixed.specs.Text.{text, HasNames}
+use Rattle.poly_mixed.specs.Text.{text, HasNames, HasWordNames}
 use Rattle.circuit_model.specs.OfBinding.{output_basis}
 use Rattle.stage_model.specs.CircuitListing.{bound_cuts}
 use Rattle.stage_model.specs.Cut.{BoundCut}
@@ -17,10 +17,12 @@ use Rattle.job_words.proofs.StepLemmas.{stops}
 use Rattle.job_input.specs.Labelling.{labels_of}
 use Rattle.job_input.specs.Setting.{elements_of_each}
 use Rattle.job_input.specs.SettingValue.{SettingValue}
-use Rattle.gf_abs.specs.Reply.{printed, prints}
+use Rattle.gf_abs.specs.Reply.{reply_of, prints}
 use Rattle.gf_abs.specs.commands.Bits.{bits_stages, IsLastCut, BitsOf}
 use Rattle.gf_abs.specs.private.StageStop.{IsStageStop}
 use Rattle.gf_abs.proofs.NamedLemmas.{named}
+use Rattle.gf_abs.proofs.StageLemmas.{IsJob}
+use Rattle.gf_abs.proofs.WordNamesLemmas.{cut_words_named}
 use Rattle.gf_abs.proofs.RefusalLemmas.{one_refused, cuts_named}
 use Rattle.gf_abs.proofs.commands.bits.reply.Goals as goal
 
@@ -46,11 +48,11 @@ returns-in-Err g c =
     let S : Labelling → Type 0 = λ l. IsStageStop l c.in-Err.fault c.args.bound c.stage_stop.result in
     let stop = subst S same c.stage_stop.ensures in
     let view : Terms → Terms = λ ts. ts in
-    stops view printed c.stage_stop.result (Within faults.Stage (BitsOf setting circuit c.args.bound)) (λ ts. Exactly (prints setting ts)) ⊥ ⊥ ⊥ ⊥ (λ m. m) (λ f. f)
+    stops view reply_of c.stage_stop.result (Within faults.Stage (BitsOf setting circuit c.args.bound)) (λ ts. Exactly (prints setting ts)) ⊥ ⊥ ⊥ ⊥ (λ m. m) (λ f. f)
     (one_refused degree mul view c.args.bound (IsLastCut setting circuit) (bits_stages setting circuit) (labels_of degree c.args.signature.now.words) c.in-Err.fault c.stage_stop.result refusal stop)
 
-pub polynomial_line-requires : goal.polynomial_line-requires
-polynomial_line-requires g c =
+pub polynomial_line-requires-clause-named : goal.polynomial_line-requires-clause-named
+polynomial_line-requires-clause-named g c =
     let degree = g.F.Ring.degree c.args.field.now in
     let mul = g.F.Ring.product c.args.field.now in
     let circuit = c.args.circuit.now in
@@ -62,6 +64,22 @@ polynomial_line-requires g c =
     (g.met.F.Ring.laws c.args.field.now) (g.met.F.Field.no_zero_divisors c.args.field.now) sound c.net.ensures.is_bound c.net.ensures.flat c.requires.bits c.requires.over c.requires.long c.requires.roles basis c.in-Ok.ensures.last in
     let same : c.in_ok-labels.labels ≡ labels_of degree c.args.signature.now.words = c.in_ok-labels.ensures ∙ (λ i. labels_of (c.k.ensures i) (c.words.ensures i)) in
     let P : Labelling → Type 0 = λ l. HasNames l c.in-Ok.poly.terms in
+    subst P (sym same) names
+
+pub polynomial_line-requires-clause-words_named : goal.polynomial_line-requires-clause-words_named
+polynomial_line-requires-clause-words_named g c =
+    let degree = g.F.Ring.degree c.args.field.now in
+    let mul = g.F.Ring.product c.args.field.now in
+    let circuit = c.args.circuit.now in
+    let bases = c.args.bases.now in
+    let S : NetList → Type 0 = λ n. IsSound n in
+    let job : IsJob degree mul circuit bases = record { ring = g.met.F.Ring.laws c.args.field.now; nozero = g.met.F.Field.no_zero_divisors c.args.field.now; sound = subst S c.net.ensures.net c.gates-gates.ensures.sound; bound = c.net.ensures.is_bound; flat = c.net.ensures.flat; same = c.requires.bits; over = c.requires.over; long = c.requires.long } in
+    let basis : elements_of c.output_basis-basis.result.now ≡ output_basis circuit.bound.words (elements_of_each bases) =
+    c.output_basis-basis.ensures.basis ∙ ap (λ (b : Binding). output_basis b.words (elements_of_each bases)) c.bound.ensures.bound in
+    let same : c.in_ok-labels.labels ≡ labels_of degree c.args.signature.now.words = c.in_ok-labels.ensures ∙ (λ i. labels_of (c.k.ensures i) (c.words.ensures i)) in
+    let L : List ℕ → Type 0 = λ e. IsOfStage degree mul (BoundCut circuit e (length circuit.net.gates)) c.in-Ok.poly.terms in
+    let names = cut_words_named degree mul circuit bases job c.args.signature.now.words c.in-Ok.poly.terms (subst L basis c.in-Ok.ensures.last) in
+    let P : Labelling → Type 0 = λ l. HasWordNames l c.in-Ok.poly.terms in
     subst P (sym same) names
 
 pub returns : goal.returns
@@ -77,4 +95,4 @@ returns g c =
     let L : List ℕ → Type 0 = λ e. IsOfStage degree mul (BoundCut circuit e (length circuit.net.gates)) ts in
     let W : List ℕ → Type 0 = λ e. AreAllWithin degree mul (bound_cuts circuit e) c.args.bound in
     let within = subst W basis c.in-Ok.ensures.within in
-    (ts, (subst L basis c.in-Ok.ensures.last, within), ap (λ (t : List ℕ). record { status = 0; text = t }) (c.in_ok-line.ensures ∙ ap (λ (l : Labelling). l.output ++ (codes " = " ++ (text l ts ++ codes "\n"))) same))
+    (ts, (subst L basis c.in-Ok.ensures.last, within), ap (λ (t : List ℕ). record { status = 0; text = t }) (c.in_ok-text.ensures ∙ ap (λ (l : Labelling). l.output ++ (codes " = " ++ (text l ts ++ codes "\n"))) same))

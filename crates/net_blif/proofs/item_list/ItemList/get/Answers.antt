@@ -1,7 +1,7 @@
 use Rattle.std.proofs.Common.{◌≡◌, ◌∙◌, ap, List, Some}
 use Rattle.std.specs.Prelude.{slice_get, slice_range}
 use Rattle.net_blif.specs.Statement.{Token}
-use Rattle.net_blif.specs.declared.item.Item.TheVariants.{Inputs, Outputs, Gate}
+use Rattle.net_blif.specs.declared.item.Item.TheVariants.{Inputs, Outputs, Gate, Latch}
 use Rattle.net_blif.specs.declared.item_list.Place.{Place}
 use Rattle.net_blif.proofs.PlaceLemmas.{found_item, found_sound}
 use Rattle.net_blif.proofs.item_list.ItemList.get.Goals as goal
@@ -35,3 +35,13 @@ pub returns-in-Gate-clause-sound : goal.returns-in-Gate-clause-sound
 returns-in-Gate-clause-sound c =
     let found = c.in-Gate.ensures ∙ ap (λ (xs : List Place). slice_get xs c.args.place) c.deref.ensures.value in
     found_sound c.self.inside.tokens c.self.inside.places.items c.args.place _ _ c.self.invariant found (ap (λ (nets : List Token). Gate c.in-Gate.line nets c.new.result c.in-Gate.table) c.range-in-Gate.ensures ∙ ap (λ (out : Token). Gate c.in-Gate.line (slice_range c.self.inside.tokens c.in-Gate.first c.in-Gate.end) out c.in-Gate.table) (c.new.ensures ∙ c.get.ensures))
+
+pub returns-in-Latch-clause-item : goal.returns-in-Latch-clause-item
+returns-in-Latch-clause-item c =
+    let found = c.in-Latch.ensures ∙ ap (λ (xs : List Place). slice_get xs c.args.place) c.deref.ensures.value in
+    found_item c.self.inside.tokens c.self.inside.places.items c.args.self.now c.args.place _ _ c.self.view_is found c.latch_at.ensures
+
+pub returns-in-Latch-clause-sound : goal.returns-in-Latch-clause-sound
+returns-in-Latch-clause-sound c =
+    let found = c.in-Latch.ensures ∙ ap (λ (xs : List Place). slice_get xs c.args.place) c.deref.ensures.value in
+    found_sound c.self.inside.tokens c.self.inside.places.items c.args.place _ _ c.self.invariant found c.latch_at.ensures

@@ -11,7 +11,7 @@ loop-n-preserved g c =
     let i = c.loop-n.invariant in
     let next = rest_more deref_pair _ _ _ _ c.in-Some.is c.next.ensures.steps in
     let t = turn (field_of _ _ (g.met.F.Ring.laws c.args.field.now) (g.met.F.Field.no_zero_divisors c.args.field.now)) c.loop-n.self.terms (terms_in c.loop-n.n-iterator) (terms_in c.next.new.self) c.args.mono.now c.in-Some.n.now c.args.c c.in-Some.place.now.coefficient
-    i.reduced c.requires.term.0 c.requires.term.1 (ap terms_in next) i.terms i.nonzero c.k-k.result c.mul.result c.in_ok-times.field-0 c.add_term.new.self c.k-k.ensures c.in_ok-times.ensures c.mul.ensures.product c.in_ok-add_term.ensures in
+    i.reduced c.requires.term.0 c.requires.term.1 (ap terms_in next) i.terms i.nonzero c.k-k.result c.product_by-product.result c.in_ok-times.field-0 c.add_term.new.self c.k-k.ensures c.in_ok-times.ensures c.product_by-product.ensures.product c.in_ok-add_term.ensures in
     record { reduced = t.0; terms = t.1; nonzero = t.2; values = λ p at. t.3 p at ∙ i.values p at }
 
 pub returns-clause-values : goal.returns-clause-values

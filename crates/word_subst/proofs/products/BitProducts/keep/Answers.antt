@@ -1,4 +1,4 @@
-use Rattle.std.proofs.Common.{sym, ap, ◌∙◌, length, take, ◌+◌, arith}
+use Rattle.std.proofs.Common.{ap, ◌∙◌, length, take, ◌+◌, arith}
 use Rattle.word_subst.specs.Prefix.{Products}
 use Rattle.word_subst.proofs.Prefixes.{kept}
 use Rattle.word_subst.proofs.products.BitProducts.keep.Goals as goal

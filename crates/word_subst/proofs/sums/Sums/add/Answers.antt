@@ -1,10 +1,9 @@
 use Rattle.std.proofs.Common.{◌≡◌, subst, sym, bit_xor, arith}
 use Rattle.std.specs.List.{AllByRecursion}
 use Rattle.poly_mixed.proofs.FieldLaws.{field_of}
-use Rattle.word_subst.specs.Univariate.{IsUnivariate}
 use Rattle.poly_mixed.specs.Polynomial.{value}
 use Rattle.word_subst.specs.Spread.{Groups, IsGroup, all_terms, spread}
-use Rattle.word_subst.proofs.Groups.{new_groups, new_total, few_before, few_after, adds_group, only_powers}
+use Rattle.word_subst.proofs.Groups.{new_groups, new_total, few_before, adds_group}
 use Rattle.word_subst.proofs.sums.Sums.add.Goals as goal
 
 pub overflow_sub-self : goal.overflow_sub-self

@@ -1,0 +1,158 @@
+-- What the answers of `check` say, out of what comes of its steps.
+use Rattle.std.proofs.Common.{◌≡◌, ◌⊎◌, ◌∙◌, ap, sym, refl, subst, inl, inr, ℕ, List, [], ◌++◌, Option, None, Some, Result, Ok, Err, ◌↔◌, codes, arith}
+use Rattle.job_io.specs.Shelf.{Files}
+use Rattle.net_words.specs.Binding.{BoundNet}
+use Rattle.poly_mixed.specs.Polynomial.{Terms}
+use Rattle.circuit_model.specs.Circuit.{IsInput}
+use Rattle.circuit_model.specs.Differing.{Difference, AreSame}
+use Rattle.circuit_model.specs.Out.{IsOut}
+use Rattle.circuit_model.proofs.OutLemmas.{one_out, some_out}
+use Rattle.spec_expand.specs.SpecValue.{spec_at}
+use Rattle.spec_expand.specs.Specification.{SpecTerms}
+use Rattle.job_words.specs.Operands.{Word}
+use Rattle.job_words.specs.declared.fault.Fault.{Fault}
+use Rattle.job_words.specs.Command.{Check, Job}
+use Rattle.job_words.proofs.OneCommandLemmas.{one_job}
+use Rattle.job_input.specs.Labelling.{labels_of}
+use Rattle.job_input.specs.NetlistOf.{by_ending}
+use Rattle.job_input.specs.SettingValue.{SettingValue}
+use Rattle.job_input.specs.SpecificationIn.{SpecificationIn}
+use Rattle.gf_abs.specs.Answer.{JobAnswer}
+use Rattle.gf_abs.specs.CheckHeadline.{AnswersCheck, AreHeldWith, Computes, PrintsAcceptance, PrintsRejection}
+use Rattle.gf_abs.specs.DifferingLines.{differing_lines}
+use Rattle.gf_abs.specs.Headline.{IsTaken, AreHeld, IsPrinted}
+use Rattle.gf_abs.specs.Reply.{Reply, prints, polynomial_line}
+use Rattle.gf_abs.specs.commands.Abstract.{taken_circuit, AbstractReply}
+use Rattle.gf_abs.specs.commands.Check.{IsSpecified, IsJudged, WordsLine, CheckReply, check_reply}
+use Rattle.gf_abs.proofs.AnswerDetermined.{said_determined}
+use Rattle.gf_abs.proofs.EqualLemmas.{well, printed}
+use Rattle.gf_abs.proofs.HeadlineLemmas.{one_setting, one_circuit}
+
+-- what was judged for a reply
+pub record Judged (setting : SettingValue) (circuit : BoundNet) (spec : SpecTerms) (reply : Reply) : Type 0 where
+  pub bound : ℕ
+  pub polynomial : Terms
+  pub reduced : AbstractReply setting circuit bound (Ok (prints setting polynomial))
+  pub found : Option Difference
+  pub is : IsJudged setting circuit spec found
+  pub replied : reply ≡ check_reply (labels_of setting.k setting.signature.words) (polynomial_line setting polynomial) found
+
+record HeldJudged (files : Files) (signature net specification : Word) (reply : Reply) : Type 0 where
+  pub setting : SettingValue
+  pub circuit : BoundNet
+  pub spec : SpecTerms
+  pub held : AreHeldWith files signature net specification setting circuit spec
+  pub judged : Judged setting circuit spec reply
+
+replied_by : (setting : SettingValue) (circuit : BoundNet) (spec : SpecTerms) (bound : ℕ) (reply : Reply) → CheckReply setting circuit spec bound (Ok reply) → Judged setting circuit spec reply
+replied_by setting circuit spec bound reply (line, (ts, of_words, is_line), (found, is, exactly)) = record {
+  bound = bound;
+  polynomial = ts;
+  reduced = (ts, of_words, refl);
+  found = found;
+  is = is.0;
+  replied = exactly ∙ ap (λ l. check_reply (labels_of setting.k setting.signature.words) l found) is_line;
+}
+
+job_judges : (files : Files) (signature net specification : Word) (bound : ℕ) (reply : Reply) → JobAnswer (Some files) (record { signature = signature; action = Check net specification bound }) (Ok reply) → HeldJudged files signature net specification reply
+job_judges files signature net specification bound reply (signed, (text, read, is), (setting, are, (circuit, (netlist, read', taken), (spec, said, came)))) =
+    let first : IsTaken setting circuit = record { signature = text; is_setting = (signed, is, are); netlist = by_ending net netlist; is_circuit = taken } in
+    record {
+      setting = setting;
+      circuit = circuit;
+      spec = spec;
+      held = record { held = record { taken = first; signature_read = read; text = netlist; net_read = read'; net_is = refl }; said = said };
+      judged = replied_by setting circuit spec bound reply came;
+    }
+
+said_in : Result SpecTerms Fault → SpecTerms
+said_in (Ok spec) = spec
+said_in (Err fault) = []
+
+one_said : (files : Files) (setting : SettingValue) (specification : Word) (a b : SpecTerms) → SpecificationIn (Some files) (labels_of setting.k setting.signature.words) setting.k setting.product specification (Ok a) → SpecificationIn (Some files) (labels_of setting.k setting.signature.words) setting.k setting.product specification (Ok b) → a ≡ b
+unfolding said_in
+one_said files setting specification a b p q = ap said_in (said_determined files setting specification (Ok a) (Ok b) p q)
+
+module _ (files : Files) (words : List Word) (signature net specification : Word) (reply : Reply) (answers : AnswersCheck files words signature net specification reply) where
+  held_judged : HeldJudged files signature net specification reply
+  held_judged =
+      let P : Job → Type 0 = λ job. JobAnswer (Some files) job (Ok reply) in
+      let answer = answers.answer in
+      job_judges files signature net specification answers.bound reply (subst P (one_job words answer.0 (record { signature = signature; action = Check net specification answers.bound }) answer.1 answers.spelled) answer.2)
+
+  -- what was judged of these
+  judged_for : (setting : SettingValue) (circuit : BoundNet) (spec : SpecTerms) → AreHeldWith files signature net specification setting circuit spec → Judged setting circuit spec reply
+  judged_for setting circuit spec are =
+      let found = held_judged in
+      let one : found.setting ≡ setting = one_setting files signature net found.setting setting found.circuit circuit found.held.held are.held in
+      let P : SettingValue → Type 0 = λ s. AreHeldWith files signature net specification s found.circuit found.spec in
+      let R : SettingValue → Type 0 = λ s. Judged s found.circuit found.spec reply in
+      let here = subst P one found.held in
+      let S : BoundNet → Type 0 = λ c. Judged setting c found.spec reply in
+      let T : SpecTerms → Type 0 = λ s. Judged setting circuit s reply in
+      let said : found.spec ≡ spec = one_said files setting specification found.spec spec here.said are.said in
+      subst T said (subst S (one_circuit files signature net setting found.circuit circuit here.held are.held) (subst R one found.judged))
+
+-- ---- what a judgement says
+
+module _ (setting : SettingValue) (circuit : BoundNet) (spec : SpecTerms) (taken : IsTaken setting circuit) where
+  -- an output that is the specification's value wherever both are computes it
+  computed : AreSame (taken_circuit setting circuit) (IsOut (taken_circuit setting circuit)) (IsSpecified setting circuit spec) → Computes setting circuit spec
+  computed same xs e =
+      let c = taken_circuit setting circuit in
+      let P : ℕ → Type 0 = IsOut c xs in (
+        (λ out. let input = out.is_run.open_run.input in record { input = input; value = sym (same xs e (spec_at setting.product xs spec) input out (record { input = input; value = refl })) }),
+        λ said. let there = some_out c xs (well setting circuit taken) said.input in subst P (same xs there.0 e said.input there.1 said) there.1,
+      )
+
+  zero_there : (reply : Reply) (line : List ℕ) (found : Option Difference) → IsJudged setting circuit spec found → reply ≡ check_reply (labels_of setting.k setting.signature.words) line found → reply.status ≡ 0 ↔ Computes setting circuit spec
+  zero_there reply line None is replied = ((λ zero. computed is), λ equal. ap (λ (r : Reply). r.status) replied)
+  zero_there reply line (Some found) is replied =
+      let status : reply.status ≡ 1 = ap (λ (r : Reply). r.status) replied in (
+        (λ zero. absurd (omega (arith, zero, status))),
+        λ equal.
+            let said = (equal found.input found.left).0 is.differ.first in
+            absurd (is.differ.apart (sym said.value ∙ is.differ.second.value)),
+      )
+
+  module _ (reply : Reply) (ts : Terms) (p : IsPrinted setting circuit (prints setting ts)) where
+    acceptance_there : (found : Option Difference) → reply ≡ check_reply (labels_of setting.k setting.signature.words) (polynomial_line setting ts) found → reply.status ≡ 0 → PrintsAcceptance setting circuit reply
+    acceptance_there None replied zero = record { polynomial = p.polynomial; text = ap (λ (r : Reply). r.text) replied ∙ ap (λ (l : List ℕ). codes "accepted\n" ++ l) p.line; in_words = p.in_words; values = p.values }
+    acceptance_there (Some found) replied zero = let status : reply.status ≡ 1 = ap (λ (r : Reply). r.status) replied in absurd (omega (arith, zero, status))
+
+    rejection_there : (found : Option Difference) → IsJudged setting circuit spec found → reply ≡ check_reply (labels_of setting.k setting.signature.words) (polynomial_line setting ts) found → reply.status ≡ 1 → PrintsRejection setting circuit spec reply
+    rejection_there None is replied one = let status : reply.status ≡ 0 = ap (λ (r : Reply). r.status) replied in absurd (omega (arith, one, status))
+    rejection_there (Some found) is replied one = record {
+      polynomial = p.polynomial;
+      found = found;
+      text = ap (λ (r : Reply). r.text) replied ∙ ap (λ (l : List ℕ). codes "rejected\n" ++ (l ++ differing_lines (labels_of setting.k setting.signature.words) (codes "netlist") (codes "specification") found)) p.line;
+      in_words = p.in_words;
+      values = p.values;
+      differing = is;
+    }
+
+status_there : (setting : SettingValue) (line : List ℕ) (reply : Reply) (found : Option Difference) → reply ≡ check_reply (labels_of setting.k setting.signature.words) line found → (reply.status ≡ 0) ⊎ (reply.status ≡ 1)
+status_there setting line reply None replied = inl (ap (λ (r : Reply). r.status) replied)
+status_there setting line reply (Some found) replied = inr (ap (λ (r : Reply). r.status) replied)
+
+module _ (files : Files) (words : List Word) (signature net specification : Word) (reply : Reply) where
+  pub check_status : AnswersCheck files words signature net specification reply → (reply.status ≡ 0) ⊎ (reply.status ≡ 1)
+  check_status answers =
+      let found = held_judged files words signature net specification reply answers in
+      status_there found.setting (polynomial_line found.setting found.judged.polynomial) reply found.judged.found found.judged.replied
+
+  module _ (setting : SettingValue) (circuit : BoundNet) (spec : SpecTerms) (answers : AnswersCheck files words signature net specification reply) (are : AreHeldWith files signature net specification setting circuit spec) where
+    pub check_equal : reply.status ≡ 0 ↔ Computes setting circuit spec
+    check_equal = let found = judged_for files words signature net specification reply answers setting circuit spec are in zero_there setting circuit spec are.held.taken reply (polynomial_line setting found.polynomial) found.found found.is found.replied
+
+    judged_here : Judged setting circuit spec reply
+    judged_here = judged_for files words signature net specification reply answers setting circuit spec are
+
+    printed_here : IsPrinted setting circuit (prints setting judged_here.polynomial)
+    printed_here = printed setting circuit are.held.taken judged_here.bound (prints setting judged_here.polynomial) judged_here.reduced
+
+    pub check_accepts : reply.status ≡ 0 → PrintsAcceptance setting circuit reply
+    check_accepts = acceptance_there setting circuit spec are.held.taken reply judged_here.polynomial printed_here judged_here.found judged_here.replied
+
+    pub check_rejects : reply.status ≡ 1 → PrintsRejection setting circuit spec reply
+    check_rejects = rejection_there setting circuit spec are.held.taken reply judged_here.polynomial printed_here judged_here.found judged_here.is judged_here.replied

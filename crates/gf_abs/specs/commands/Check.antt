@@ -1,0 +1,73 @@
+-- The command `check`: whether a netlist computes its specification, or the input at which it does not. Source: this project's own.
+use Rattle.std.specs.Prelude.{◌≡◌, ℕ, List, ◌++◌, codes, Option, None, Some}
+use Rattle.text_core.specs.Outcome.{Outcome, ◌>>=◌, Exactly, Within}
+use Rattle.job_io.specs.Shelf.{Files}
+use Rattle.net_words.specs.Binding.{BoundNet}
+use Rattle.poly_mixed.specs.Labels.{Labelling}
+use Rattle.circuit_model.specs.Circuit.{IsInput}
+use Rattle.circuit_model.specs.Differing.{Difference, IsComparison}
+use Rattle.circuit_model.specs.Out.{IsOut}
+use Rattle.spec_expand.specs.SpecListing.{spec_listing}
+use Rattle.spec_expand.specs.SpecValue.{spec_at}
+use Rattle.spec_expand.specs.Specification.{SpecTerms}
+use Rattle.job_words.specs.declared.fault.Fault.{Fault}
+use Rattle.job_words.specs.declared.fault.Fault.TheVariants as faults
+use Rattle.job_words.specs.declared.stage_fault.StageFault.{StageFault}
+use Rattle.job_words.specs.Operands.{Word}
+use Rattle.job_words.specs.StageFault.{stage_text}
+use Rattle.job_input.specs.Labelling.{labels_of}
+use Rattle.job_input.specs.NetlistOf.{CircuitIn}
+use Rattle.job_input.specs.SettingValue.{SettingValue}
+use Rattle.job_input.specs.SpecificationIn.{SpecificationIn}
+use Rattle.gf_abs.specs.DifferingLines.{differing_lines}
+use Rattle.gf_abs.specs.Reply.{Reply, polynomial_line}
+use Rattle.gf_abs.specs.Staged.{Staged}
+use Rattle.gf_abs.specs.commands.Abstract.{taken_circuit, AbstractOf}
+
+-- at an input the specification has this value
+pub record IsSpecified (setting : SettingValue) (circuit : BoundNet) (spec : SpecTerms) (xs : List ℕ) (e : ℕ) : Type 0 where
+  pub input : IsInput (taken_circuit setting circuit) xs
+  pub value : spec_at setting.product xs spec ≡ e
+
+-- this is the comparison of the output with the specification
+abbrev pub IsJudged : SettingValue → BoundNet → SpecTerms → Option Difference → Type 0
+IsJudged setting circuit spec = IsComparison (taken_circuit setting circuit) (IsOut (taken_circuit setting circuit)) (IsSpecified setting circuit spec)
+
+-- the comparison with the specification, where no stage of the specification has more than `bound` terms
+abbrev pub JudgedOf : SettingValue → BoundNet → SpecTerms → ℕ → Outcome StageFault (Option Difference)
+JudgedOf setting circuit spec bound = Staged setting.k setting.product (spec_listing (taken_circuit setting circuit) spec) (stage_text (labels_of setting.k setting.signature.words)) bound (IsJudged setting circuit spec)
+
+-- the line of the polynomial in words, as `abstract` prints it
+abbrev pub WordsLine : SettingValue → BoundNet → ℕ → Outcome Fault (List ℕ)
+WordsLine setting circuit bound = do
+  ts ← Within faults.Stage (AbstractOf setting circuit bound)
+  Exactly (polynomial_line setting ts)
+
+-- how a comparison is answered: `accepted` and the line; or `rejected`, the line, and the input with the two values there
+abbrev pub check_reply : Labelling → List ℕ → Option Difference → Reply
+check_reply labels line None = record { status = 0; text = codes "accepted\n" ++ line }
+check_reply labels line (Some found) = record { status = 1; text = codes "rejected\n" ++ (line ++ differing_lines labels (codes "netlist") (codes "specification") found) }
+
+-- its reply beside the line of the polynomial: the stages of the specification come after those of the words
+abbrev pub CheckBeside : SettingValue → BoundNet → SpecTerms → ℕ → List ℕ → Outcome Fault Reply
+CheckBeside setting circuit spec bound line = do
+  found ← Within faults.Stage (JudgedOf setting circuit spec bound)
+  Exactly (check_reply (labels_of setting.k setting.signature.words) line found)
+
+-- its reply over a circuit and a specification: the stages of cuts and words come first, as those of `abstract`
+abbrev pub CheckReply : SettingValue → BoundNet → SpecTerms → ℕ → Outcome Fault Reply
+CheckReply setting circuit spec bound = do
+  line ← WordsLine setting circuit bound
+  CheckBeside setting circuit spec bound line
+
+-- its answer over a circuit: the specification is read then
+abbrev pub CheckOver : Option Files → SettingValue → BoundNet → Word → ℕ → Outcome Fault Reply
+CheckOver held setting circuit file terms = do
+  spec ← SpecificationIn held (labels_of setting.k setting.signature.words) setting.k setting.product file
+  CheckReply setting circuit spec terms
+
+-- its answer, after its signature was taken: its inputs are a netlist and a specification
+abbrev pub CheckAnswer : Option Files → SettingValue → Word → Word → ℕ → Outcome Fault Reply
+CheckAnswer held setting net file terms = do
+  circuit ← CircuitIn held setting.signature.words net
+  CheckOver held setting circuit file terms

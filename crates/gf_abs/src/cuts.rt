@@ -1,0 +1,42 @@
+//! The polynomial of a circuit's output in the bits of its words.
+ghost use Rattle.std.specs.Prelude.{◌≡◌, ◌≤◌, length, IfOk, IfErr, OnOk};
+ghost use Rattle.circuit_model.specs.WellFormed.{IsWellFormed};
+ghost use Rattle.stage_model.specs.Listing.{AreAllWithin, IsRefusal};
+ghost use Rattle.stage_model.specs.Mix.{IsMix};
+ghost use Rattle.stage_model.specs.OutputInBits.{IsOutputInBits};
+ghost use Rattle.stage_model.specs.Stage.{IsOfStage};
+ghost use Rattle.job_input.specs.Setting.{setting_value, IsReady, IsTakenFor};
+ghost use Rattle.gf_abs.specs.commands.Abstract.{taken_circuit};
+ghost use Rattle.gf_abs.specs.commands.Bits.{bits_stages};
+
+use gf_field::Field;
+use job_input::{Setting, output_basis};
+use net_words::Combinational;
+use poly_mixed::{NoSteps, Poly, ReduceFault};
+use rato_reduce::reduce_bits;
+use std::alloc::Global;
+
+/// The polynomial of a circuit's output in the bits of its words, or the first cut of more than `bound` terms.
+pub(crate) fn last_cut<F: Field>(
+    alloc: Global,
+    field: &F,
+    setting: &Setting,
+    circuit: &Combinational,
+    bound: u32,
+) -> Result<Poly, ReduceFault>
+    requires ready { IsReady (F.degree field.now) (F.product field.now) setting.now }
+    requires taken { IsTakenFor (F.degree field.now) setting.now circuit.now }
+    ensures well { IsWellFormed (taken_circuit (setting_value (F.degree field.now) (F.product field.now) setting.now) circuit.now) }
+    ensures output { IfOk result (λ poly. IsOutputInBits (taken_circuit (setting_value (F.degree field.now) (F.product field.now) setting.now) circuit.now) poly.terms) }
+    ensures mix { IfOk result (λ poly. IsOfStage (F.degree field.now) (F.product field.now) (IsMix (taken_circuit (setting_value (F.degree field.now) (F.product field.now) setting.now) circuit.now) 0) poly.terms) }
+    ensures few { IfOk result (λ poly. length poly.terms ≤ bound) }
+    ensures within { OnOk result (AreAllWithin (F.degree field.now) (F.product field.now) (bits_stages (setting_value (F.degree field.now) (F.product field.now) setting.now) circuit.now) bound) }
+    ensures fault { IfErr result (IsRefusal (F.degree field.now) (F.product field.now) (bits_stages (setting_value (F.degree field.now) (F.product field.now) setting.now) circuit.now) bound) }
+{
+    let basis = output_basis(circuit.bound(), setting.bases.as_slice());
+    let _gates = circuit.net().gates();
+    match reduce_bits(alloc, field, circuit, basis, bound, &mut NoSteps) {
+        Ok(poly) => Ok(poly),
+        Err(fault) => Err(fault),
+    }
+}

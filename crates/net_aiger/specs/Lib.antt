@@ -1,0 +1,9 @@
+pub mod Numbers
+pub mod Steps
+pub mod Reading
+pub mod Lines
+pub mod Checks
+pub mod Nets
+pub mod AigerNet
+pub mod Values
+pub mod private

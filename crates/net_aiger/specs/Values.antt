@@ -1,0 +1,20 @@
+-- The values of literals. Source: Armin Biere, The AIGER And-Inverter Graph (AIG) Format, Johannes Kepler University, Linz, 2007.
+use Rattle.std.specs.Prelude.{◌≡◌, ℕ, ◌%◌, ◌==◌, ◌&&◌, not, Bool, nat_lt, List, Some, Ok, if◌then◌else◌}
+use Rattle.net_core.specs.Lists.{Has}
+use Rattle.net_core.specs.NetList.{NetList}
+use Rattle.net_core.specs.Value.{bit_of, IsConsistent}
+use Rattle.net_aiger.specs.Nets.{net_made}
+use Rattle.net_aiger.specs.Reading.{Reading, net_of, variable_net}
+use Rattle.net_aiger.specs.declared.reading.AndLine.{AndLine}
+
+-- 0 and 1 are constants, an even literal has its variable's bit, an odd one the other
+abbrev pub literal_value : Reading → List Bool → ℕ → Bool
+literal_value reading bits literal =
+    if nat_lt literal 2 then literal == 1
+    else (if literal % 2 == 0 then bit_of bits (variable_net reading literal) else not (bit_of bits (variable_net reading literal)))
+
+-- in each consistent list of bits the net of an AND has the conjunction of its two literals
+abbrev pub HasConjunctions : Reading → NetList → Type 0
+HasConjunctions reading net =
+    (bits : List Bool) (line : AndLine) (n : ℕ) → IsConsistent net bits → Has reading.ands line → net_of reading line.literal ≡ Some n
+    → bit_of bits n ≡ (literal_value reading bits line.left && literal_value reading bits line.right)

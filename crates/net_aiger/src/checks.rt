@@ -1,0 +1,156 @@
+//! What is asked of a text once it was read.
+ghost use Rattle.std.specs.Prelude.{◌≡◌, ◌⊎◌, ◌+◌, ◌<◌, ◌++◌, ◌∷◌, [], ℕ, List, Ok, Err, Some, true, not, IfOk, IfErr, IfSome, OnOk, length};
+ghost use Rattle.std.specs.List.{list_any};
+ghost use Rattle.std.specs.Str.{bytes_eq};
+ghost use Rattle.net_aiger.specs.Checks.{apart, is_known as knows, known, own as own_of, own_net};
+
+use crate::AigerFault;
+use crate::reader::{Reader, even};
+use crate::reading::Use;
+use indexmap::IndexSet;
+use net_core::{KeyedHash, Name};
+use std::alloc::{AllocError, Global};
+use std::marker::Model;
+
+// Names that were met. Contracts see the list of them.
+#[derive(Drop)]
+struct NameSet {
+    alloc: Global,
+    names: IndexSet<String, KeyedHash>,
+}
+
+impl Model for NameSet {
+    ghost use Rattle.std.specs.Prelude.{List, ℕ, map, string_bytes};
+
+    ghost Value = { List (List ℕ) };
+
+    ghost view = { λ s. map string_bytes s.names.keys };
+}
+
+impl NameSet {
+    fn new(alloc: Global, key: u64) -> NameSet
+        ensures { result ≡ [] }
+    {
+        NameSet {
+            alloc,
+            names: IndexSet::with_hasher(alloc, KeyedHash::new(key)),
+        }
+    }
+
+    // Adds a name, and says whether it is new.
+    fn add(&mut self, name: &Name) -> Result<bool, AllocError>
+        ensures added { IfOk result (λ added. added ≡ not (list_any (bytes_eq name.now) self.old)) }
+        ensures more { IfOk result (λ added. added ≡ true → self.new ≡ self.old ++ name.now ∷ []) }
+    {
+        let text = String::from_str(self.alloc, name.as_str())?;
+        let added = self.names.insert(text)?;
+        Ok(added)
+    }
+}
+
+// The fault of the port whose line is two behind its number. The count of lines in memory is below 2^32.
+fn name_twice(port: usize) -> AigerFault
+    ensures { (result ≡ AigerFault.OutOfMemory) ⊎ (result ≡ AigerFault.NameTwice (port + 2)) }
+{
+    match u32::try_from(port) {
+        Ok(port) if port < 0xffff_fffe => AigerFault::NameTwice { line: port + 2 },
+        _ => AigerFault::OutOfMemory,
+    }
+}
+
+impl Reader {
+    // Whether a literal is a constant, or one of a variable that is defined.
+    fn is_known(&self, literal: u32) -> bool
+        ensures { result ≡ knows self.now.defined literal }
+    {
+        literal < 2 || self.defined.contains(&even(literal))
+    }
+
+    // The net of an input or latch, if it has the name of a port.
+    fn of_name(&self, port: u64, net: u32) -> Result<Option<u32>, AllocError>
+        ensures own { IfOk result (λ found. found ≡ own_net self.now port (Some net)) }
+        ensures same { IfOk result (λ found. IfSome found (λ n. n ≡ net)) }
+    {
+        if u64::from(net) >= self.header.driven() {
+            return Ok(None);
+        }
+        let name = self.port_name(port)?;
+        let other = self.port_name(u64::from(net))?;
+        if name.as_str() == other.as_str() {
+            Ok(Some(net))
+        } else {
+            Ok(None)
+        }
+    }
+
+    /// The net of the input or latch whose literal and name an output has.
+    pub(crate) fn own(&self, port: u64, literal: u32) -> Result<Option<u32>, AllocError>
+        ensures own { IfOk result (λ net. net ≡ own_of self.now port literal) }
+        ensures within { IfOk result (λ net. IfSome net (λ n. n < length self.now.defined)) }
+    {
+        if port < self.header.driven() {
+            return Ok(None);
+        }
+        match self.net(literal) {
+            Some(net) => self.of_name(port, net),
+            None => Ok(None),
+        }
+    }
+
+    // Refuses a port whose name an earlier one has, unless it is an input or a latch.
+    fn check_name(&self, names: &mut NameSet, port: usize, literal: u32) -> Result<(), AigerFault>
+        ensures made { OnOk result ((rest : List ℕ) → apart self.now port names.old (literal ∷ rest) ≡ apart self.now (port + 1) names.new rest) }
+        ensures fault { IfErr result (λ e. (e ≡ AigerFault.OutOfMemory) ⊎ ((rest : List ℕ) → apart self.now port names.old (literal ∷ rest) ≡ Err e)) }
+    {
+        if self.own(port as u64, literal)?.is_some() {
+            return Ok(());
+        }
+        let name = self.port_name(port as u64)?;
+        if names.add(&name)? {
+            Ok(())
+        } else {
+            Err(name_twice(port))
+        }
+    }
+}
+
+// Refuses the first use of a variable without a definition.
+fn check_uses(reader: &Reader, uses: &[Use]) -> Result<(), AigerFault>
+    ensures { result ≡ known reader.now.defined uses.now }
+{
+    for one in uses {
+        if !reader.is_known(one.literal) {
+            return Err(AigerFault::Undefined { line: one.line });
+        }
+    }
+    Ok(())
+}
+
+// Refuses the first port whose name an earlier one has.
+fn check_ports(reader: &Reader, names: &mut NameSet, ports: &[u32]) -> Result<(), AigerFault>
+    ensures made { OnOk result (apart reader.now 0 names.old ports.now ≡ Ok tt) }
+    ensures fault { IfErr result (λ e. (e ≡ AigerFault.OutOfMemory) ⊎ (apart reader.now 0 names.old ports.now ≡ Err e)) }
+{
+    for (port, literal) in ports.iter().enumerate() {
+        reader.check_name(names, port, *literal)?;
+    }
+    Ok(())
+}
+
+impl Reader {
+    /// Refuses the first line that uses a variable without a definition.
+    pub(crate) fn check_known(&self) -> Result<(), AigerFault>
+        ensures { result ≡ known self.now.defined self.now.uses }
+    {
+        check_uses(self, self.uses())
+    }
+
+    /// Refuses the first input, latch or output with the name of an earlier one; an output that is one of them is passed over.
+    pub(crate) fn check_names(&self, key: u64) -> Result<(), AigerFault>
+        ensures made { OnOk result (apart self.now 0 [] self.now.ports ≡ Ok tt) }
+        ensures fault { IfErr result (λ e. (e ≡ AigerFault.OutOfMemory) ⊎ (apart self.now 0 [] self.now.ports ≡ Err e)) }
+    {
+        let mut names = NameSet::new(self.alloc, key);
+        check_ports(self, &mut names, self.ports())
+    }
+}

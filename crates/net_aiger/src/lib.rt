@@ -1,0 +1,21 @@
+//! Nets written in ASCII AIGER: what a text says, and its net.
+#![tactic(auto)]
+
+mod checks;
+mod fault;
+mod gates;
+mod header;
+mod laws;
+mod lines;
+mod make;
+mod names;
+mod numbers;
+mod read;
+mod reader;
+mod reading;
+#[cfg(test)]
+mod tests;
+
+pub use fault::AigerFault;
+pub use laws::{ands_are_conjunctions, one_net_or_fault};
+pub use read::read_aiger;

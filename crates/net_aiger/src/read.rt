@@ -1,0 +1,96 @@
+//! The reader of ASCII AIGER.
+ghost use Rattle.std.specs.Prelude.{◌≡◌, ◌⊎◌, ◌≤◌, Ok, Err, true, IfOk, IfErr, length};
+ghost use Rattle.std.specs.Str.Lines.{lines};
+ghost use Rattle.net_aiger.specs.AigerNet.{AigerNet};
+ghost use Rattle.net_aiger.specs.Lines.{is_complete, lines_read, text_read};
+
+use crate::AigerFault;
+use crate::header::read_header;
+use crate::make::make_net;
+use crate::reader::Reader;
+use net_core::{Net, NetFault};
+use std::alloc::Global;
+use std::hash::{DefaultHasher, Hasher};
+use text_core::next_line;
+
+// The key of a text, which is not known before the text is.
+fn key_of(text: &[u8]) -> u64 {
+    let mut state = DefaultHasher::new();
+    state.write(text);
+    state.finish()
+}
+
+// What the lines behind the header say.
+#[tactic(auto, using(crate::proofs::ReadLemmas::all_read, crate::proofs::ReadLemmas::cut_short))]
+fn read_lines(begun: Reader, text: &[u8]) -> Result<Reader, AigerFault>
+    requires { length text.now ≤ 67108864 }
+    ensures made { IfOk result (λ more. lines_read 2 (lines text.now) begun ≡ Ok more) }
+    ensures complete { IfOk result (λ more. is_complete more ≡ true) }
+    ensures fault { IfErr result (λ e. (e ≡ AigerFault.OutOfMemory) ⊎ (lines_read 2 (lines text.now) begun ≡ Err e)) }
+{
+    let mut reader = begun;
+    let mut rest = text;
+    let mut number = 2u32;
+    while !rest.is_empty() {
+        let (line, after) = next_line(rest);
+        if reader.ends(line) {
+            return Ok(reader);
+        }
+        reader.read_line(number, line)?;
+        rest = after;
+        number += 1;
+    }
+    if reader.is_complete() {
+        Ok(reader)
+    } else {
+        Err(AigerFault::Syntax { line: number })
+    }
+}
+
+// What a text says.
+fn read_text(alloc: Global, key: u64, text: &[u8]) -> Result<Reader, AigerFault>
+    requires { length text.now ≤ 67108864 }
+    ensures made { IfOk result (λ reader. text_read (lines text.now) ≡ Ok reader) }
+    ensures complete { IfOk result (λ reader. is_complete reader ≡ true) }
+    ensures fault { IfErr result (λ e. (e ≡ AigerFault.OutOfMemory) ⊎ (text_read (lines text.now) ≡ Err e)) }
+{
+    if text.is_empty() {
+        return Err(AigerFault::Syntax { line: 1 });
+    }
+    let (line, rest) = next_line(text);
+    let header = read_header(alloc, line)?;
+    read_lines(Reader::new(alloc, key, header), rest)
+}
+
+// A fault of nets, or want of memory.
+fn fault_of(fault: NetFault) -> AigerFault
+    ensures { ((fault ≡ NetFault.OutOfMemory) × (result ≡ AigerFault.OutOfMemory)) ⊎ (¬ (fault ≡ NetFault.OutOfMemory) × (result ≡ AigerFault.Net fault)) }
+{
+    match fault {
+        NetFault::OutOfMemory => AigerFault::OutOfMemory,
+        fault => AigerFault::Net(fault),
+    }
+}
+
+/// The net of a text in ASCII AIGER, of at most 67,108,864 bytes, or its first fault. Line by line, and at one line in this
+/// order: `Syntax`, `LeftOut`, `Literal` and `DefinedTwice`. After the last line come `Undefined` at the first line that uses
+/// a variable without a definition, `NameTwice` at the line of the first input, latch or output with the name of an earlier
+/// one, and `Net`, which holds no want of memory. Want of memory may come at any place.
+pub fn read_aiger(alloc: Global, bytes: &[u8]) -> Result<Net, AigerFault>
+    requires { length bytes.now ≤ 67108864 }
+    ensures net { IfOk result (λ net. AigerNet bytes.now (Ok net)) }
+    ensures fault { IfErr result (λ e. (e ≡ AigerFault.OutOfMemory) ⊎ AigerNet bytes.now (Err e)) }
+{
+    let key = key_of(bytes);
+    let reader = read_text(alloc, key, bytes)?;
+    reader.check_known()?;
+    reader.check_names(key)?;
+    let maker = match make_net(&reader, key) {
+        Ok(maker) => maker,
+        Err(fault) => return Err(fault_of(fault)),
+    };
+    match maker.finish() {
+        Ok(net) => Ok(net),
+        Err(fault) => Err(fault_of(fault)),
+    }
+}

@@ -1,0 +1,13 @@
+pub mod TokenLemmas
+pub mod PieceLemmas
+pub mod KindLemmas
+pub mod OpenLemmas
+pub mod GateLemmas
+pub mod StandLemmas
+pub mod EndLemmas
+pub mod StepLemmas
+pub mod AfterLemmas
+pub mod ValueLemmas
+pub mod KeepLemmas
+pub mod TreeLemmas
+mod Examples

@@ -1,0 +1,10 @@
+pub mod Bytes
+pub mod Tokens
+pub mod Words
+pub mod Declarations
+pub mod Targets
+pub mod Tree
+pub mod Made
+pub mod Expression
+pub mod Value
+pub mod private

@@ -1,0 +1,8 @@
+pub mod FirstLemmas
+pub mod InputLemmas
+pub mod StepLemmas
+pub mod TurnLemmas
+pub mod SomeOnesLemmas
+pub mod ComparedLemmas
+pub mod OutputLemmas
+mod Examples

@@ -1,0 +1,3 @@
+pub mod ValueAt
+pub mod Verdict
+pub mod private

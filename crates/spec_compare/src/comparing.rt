@@ -1,0 +1,144 @@
+//! The comparison of two polynomials in input and state bits.
+ghost use Rattle.std.specs.Prelude.{◌≡◌, ◌≤◌, ◌<◌, ◌+◌, ◌++◌, ℕ, List, length, take, drop, map, IfOk, OnOk, []};
+ghost use Rattle.std.specs.List.{AllByRecursion};
+ghost use Rattle.gf_basis.specs.BasisParts.{elements_of, IsOver};
+ghost use Rattle.net_core.specs.Sound.{IsSound};
+ghost use Rattle.net_words.specs.BoundTo.{IsBoundTo};
+ghost use Rattle.poly_mixed.specs.Polynomial.{IsReduced, value};
+ghost use Rattle.poly_mixed.specs.Uniqueness.{IsZeros};
+ghost use Rattle.circuit_model.specs.OfBinding.{word_with};
+ghost use Rattle.circuit_model.specs.Bases.{AreBases, circuit_in};
+ghost use Rattle.spec_compare.specs.private.First.{IsSumOf};
+ghost use Rattle.spec_compare.specs.private.InputOf.{inputs_from};
+ghost use Rattle.spec_compare.specs.ValueAt.{at_ones, IsInInputBits};
+ghost use Rattle.spec_compare.specs.Verdict.{IsVerdict};
+
+use crate::Verdict;
+use crate::first::{bits_at, first_term, number};
+use gf_basis::Basis;
+use gf_field::Field;
+use net_words::{Combinational, Role};
+use poly_mixed::Poly;
+use std::alloc::{AllocError, Global};
+
+// What a circuit keeps: its net is sound, and its words are bound to the net.
+fn kept(circuit: &Combinational)
+    ensures sound { IsSound circuit.now.net }
+    ensures bound { IsBoundTo circuit.now.net circuit.now.bound }
+{
+    let net = circuit.net();
+    let _gates = net.gates();
+}
+
+// Adds the element of the next word, unless it is the output word, where the bits of these ranks are 1.
+fn add_element<F: Field>(
+    field: &F,
+    role: Role,
+    basis: &Basis,
+    ones: &[u32],
+    list: &mut Vec<u64>,
+) -> Result<(), AllocError>
+    requires over { IsOver (F.degree field.now) (F.product field.now) basis.now }
+    requires few { (nets : List ℕ) → length list.old.items + length (word_with role nets (elements_of basis.now)) ≤ 8 }
+    ensures { OnOk result ((nets : List ℕ) → list.new.items ≡ list.old.items ++ inputs_from (F.degree field.now) ones.now (length list.old.items) (word_with role nets (elements_of basis.now))) }
+{
+    match role {
+        Role::Input | Role::State => {
+            let k = field.k();
+            let bits = number(ones, k * list.len() as u32, k);
+            list.push(basis.element_of(bits))?;
+            Ok(())
+        }
+        Role::Output => Ok(()),
+    }
+}
+
+// The elements of the input and state words where the bits of these ranks are 1.
+fn elements<F: Field>(
+    alloc: Global,
+    field: &F,
+    circuit: &Combinational,
+    bases: &[Basis],
+    ones: &[u32],
+) -> Result<Vec<u64>, AllocError>
+    requires bases { AreBases (F.degree field.now) (F.product field.now) circuit.now bases.now }
+    ensures { IfOk result (λ list. list.items ≡ inputs_from (F.degree field.now) ones.now 0 (circuit_in (F.degree field.now) (F.product field.now) circuit.now bases.now).words) }
+{
+    kept(circuit);
+    let bound = circuit.bound();
+    let mut list = Vec::new(alloc);
+    for v in 0..bound.words() {
+        add_element(field, bound.role(v), &bases[v as usize], ones, &mut list)?;
+    }
+    Ok(list)
+}
+
+// These elements and then zeros.
+fn padded(list: &[u64]) -> [u64; 8]
+    requires { length list.now ≤ 8 }
+    ensures front { take (length list.now) result ≡ list.now }
+    ensures rest { IsZeros (drop (length list.now) result) }
+    ensures long { length result ≡ 8 }
+{
+    let mut out = [0; 8];
+    for i in 0..list.len() {
+        out[i] = list[i];
+    }
+    out
+}
+
+// The value of a polynomial in bits where the bits of these ranks are 1.
+fn value_at<F: Field>(field: &F, poly: &Poly, ones: &[u32]) -> u64
+    requires over { IsReduced (F.degree field.now) poly.now.terms }
+    requires few { AllByRecursion (λ r. r < 512) ones.now }
+    ensures { result ≡ value (F.product field.now) (at_ones ones.now) poly.now.terms }
+{
+    let bits = bits_at(ones);
+    poly.value(field, &[0; 8], &bits)
+}
+
+// The sum of two polynomials.
+fn sum_of<F: Field>(alloc: Global, field: &F, left: &Poly, right: &Poly) -> Result<Poly, AllocError>
+    requires left { IsReduced (F.degree field.now) left.now.terms }
+    requires right { IsReduced (F.degree field.now) right.now.terms }
+    ensures { IfOk result (λ q. IsSumOf (F.degree field.now) (F.product field.now) left.now.terms right.now.terms q.terms) }
+{
+    let mut sum = Poly::zero(alloc);
+    sum.add_into(field, left)?;
+    sum.add_into(field, right)?;
+    Ok(sum)
+}
+
+/// Whether two polynomials in the bits of a circuit's input and state words have equal values at every input.
+///
+/// There is one basis of this field for each word of the binding, and each word has k bits. Where the values differ
+/// somewhere, the input is the one with the fewest bits that are 1 among those, and of several the one whose rising list of
+/// ranks of these bits is lexicographically first; the two values there come with it.
+pub fn compare<F: Field>(
+    alloc: Global,
+    field: &F,
+    circuit: &Combinational,
+    bases: &[Basis],
+    left: &Poly,
+    right: &Poly,
+) -> Result<Verdict, AllocError>
+    requires k { circuit.now.bound.k ≡ F.degree field.now }
+    requires bases { AreBases (F.degree field.now) (F.product field.now) circuit.now bases.now }
+    requires left { IsInInputBits (circuit_in (F.degree field.now) (F.product field.now) circuit.now bases.now) left.now.terms }
+    requires right { IsInInputBits (circuit_in (F.degree field.now) (F.product field.now) circuit.now bases.now) right.now.terms }
+    ensures { IfOk result (IsVerdict (circuit_in (F.degree field.now) (F.product field.now) circuit.now bases.now) left.now.terms right.now.terms) }
+{
+    kept(circuit);
+    let sum = sum_of(alloc, field, left, right)?;
+    let terms = sum.terms(alloc)?;
+    let Some(term) = first_term(&terms) else {
+        return Ok(Verdict::Same);
+    };
+    let ones = term.mono().bits();
+    let list = elements(alloc, field, circuit, bases, ones)?;
+    Ok(Verdict::Differ {
+        input: padded(&list),
+        left: value_at(field, left, ones),
+        right: value_at(field, right, ones),
+    })
+}

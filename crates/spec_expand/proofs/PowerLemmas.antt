@@ -1,0 +1,160 @@
+-- A power of a word in its bits.
+use Rattle.std.proofs.Common.{◌≡◌, ◌∙◌, ap, sym, refl, subst, ℕ, zero, suc, ◌<◌, ◌≤◌, ◌+◌, ◌-◌, ◌*◌, ◌/◌, ◌%◌, ◌^◌, Bool, true, false, cond, List, [], ◌∷◌, length, take, get_or, bit_xor, Some, arith}
+use Rattle.std.specs.Prelude.{slice_get, slice_index}
+use lib.Bits.{xor_zero_l, xor_zero_r, xor_assoc}
+use Rattle.std.specs.List.Sorted.{IsStrictlySortedBy}
+use Rattle.std.proofs.lemmas.Option.{slice_get-get_or, get_or_from_slice_get, slice_get_within}
+use Rattle.gf_field.specs.Ring.{IsRing}
+use Rattle.gf_field.specs.RingLaws.{mul_zero}
+use Rattle.gf_field.specs.Power.{power}
+use Rattle.gf_field.specs.Trace.{frobenius}
+use Rattle.gf_field.specs.TraceLaws.{frobenius-xor, frobenius-power}
+use Rattle.gf_basis.specs.Basis.{first_values, IsBasis, AreBits}
+use Rattle.irreducible.specs.Span.{combination}
+use Rattle.graph_core.proofs.ListLemmas.{get_below}
+use Rattle.net_core.specs.NetList.{nets}
+use Rattle.net_core.specs.Value.{bit_of, index_of}
+use Rattle.net_core.specs.Lists.{Has}
+use Rattle.poly_mixed.specs.Table.{index}
+use Rattle.poly_mixed.specs.Polynomial.{Terms, Point, IsPoint, IsReduced, IsPolynomialOf, value}
+use Rattle.circuit_model.specs.Word.{Word, HasElement}
+use Rattle.circuit_model.specs.Circuit.{Circuit, IsInput}
+use Rattle.circuit_model.specs.WellFormed.{IsWellFormed, IsWord}
+use Rattle.circuit_model.proofs.SourceLemmas.{source_inside, stands_source}
+use Rattle.stage_model.specs.Variables.{rank_in, point_bits, variables_of}
+use Rattle.stage_model.specs.InputPoint.{IsAtInput}
+use Rattle.stage_model.proofs.PointLemmas.{point_bits_at}
+use Rattle.stage_model.proofs.PlaceLemmas.{place_rank}
+use Rattle.spec_expand.specs.private.Expanding.{IsOfInput}
+
+low : (b : Bool) (m r : ℕ) → (cond b 1 0 + 2 * m) % 2 * r ≡ cond b r 0
+low true m r = let one : (1 + 2 * m) % 2 ≡ 1 = omega arith in ap (λ c. c * r) one ∙ (let e : 1 * r ≡ r = omega arith in e)
+low false m r = let none : (0 + 2 * m) % 2 ≡ 0 = omega arith in ap (λ c. c * r) none ∙ (let e : 0 * r ≡ 0 = omega arith in e)
+
+half : (b : Bool) (m : ℕ) → (cond b 1 0 + 2 * m) / 2 ≡ m
+half true m = omega arith
+half false m = omega arith
+
+-- the sum of chosen elements, place by place
+sum_more : (f : ℕ → Bool) (basis ns : List ℕ) (i : ℕ) → i < length basis → i < length ns
+    → combination (take (suc i) basis) (index f (take (suc i) ns)) ≡ bit_xor (combination (take i basis) (index f (take i ns))) (cond (f (get_or ns i 0)) (get_or basis i 0) 0)
+sum_more f [] ns i l m = absurd (omega arith)
+sum_more f (b ∷ bs) [] i l m = absurd (omega arith)
+sum_more f (b ∷ bs) (n ∷ ns) zero l m = ap (λ x. bit_xor x 0) (low (f n) 0 b) ∙ (xor_zero_r (cond (f n) b 0) ∙ sym (xor_zero_l (cond (f n) b 0)))
+sum_more f (b ∷ bs) (n ∷ ns) (suc i) l m =
+    let more = index f (take (suc i) ns) in
+    let less = index f (take i ns) in
+    (λ j. bit_xor (low (f n) more b j) (combination (take (suc i) bs) (half (f n) more j)))
+    ∙ (ap (bit_xor (cond (f n) b 0)) (sum_more f bs ns i (omega arith) (omega arith))
+    ∙ (sym (xor_assoc (cond (f n) b 0) (combination (take i bs) less) (cond (f (get_or ns i 0)) (get_or bs i 0) 0))
+    ∙ sym (λ j. bit_xor (bit_xor (low (f n) less b j) (combination (take i bs) (half (f n) less j))) (cond (f (get_or ns i 0)) (get_or bs i 0) 0))))
+
+-- ---- the ranks of a word
+
+pub word_ranks_long : (k : ℕ) (f : ℕ → ℕ) → length (first_values k f) ≡ k
+word_ranks_long zero f = refl
+word_ranks_long (suc k) f = ap suc (word_ranks_long k (λ i. f (suc i)))
+
+rank_at : (k : ℕ) (f : ℕ → ℕ) (i : ℕ) → i < k → get_or (first_values k f) i 0 ≡ f i
+rank_at zero f i less = absurd (omega (arith, less))
+rank_at (suc k) f zero less = refl
+rank_at (suc k) f (suc i) less = rank_at k (λ j. f (suc j)) i (omega (arith, less))
+
+reduced_none : (k : ℕ) → IsReduced k []
+unfolding IsStrictlySortedBy
+reduced_none k = record { is_map = record { sorted = tt; rising = tt; nonzero = tt }; terms = tt }
+
+abbrev pub ranks : ℕ → ℕ → List ℕ
+ranks k w = first_values k (λ i. k * w + i)
+
+-- the power with the first m places of the word
+abbrev pub first_power : ℕ → (ℕ → ℕ → ℕ) → List ℕ → ℕ → ℕ → ℕ → Point → ℕ
+first_power k mul elements j w m p = frobenius mul j (combination (take m elements) (index p.is_one (take m (ranks k w))))
+
+module _ (k : ℕ) (mul : ℕ → ℕ → ℕ) (ring : IsRing k mul) (elements : List ℕ) (long : length elements ≡ k) (j w : ℕ) where
+  frobenius_zero : (j : ℕ) → frobenius mul j 0 ≡ 0
+  unfolding frobenius
+  frobenius_zero zero = refl
+  frobenius_zero (suc j) = ap (λ x. mul x x) (frobenius_zero j) ∙ mul_zero k mul ring 0
+
+  chosen : (b : Bool) (x : ℕ) → frobenius mul j (cond b x 0) ≡ cond b (frobenius mul j x) 0
+  chosen true x = refl
+  chosen false x = frobenius_zero j
+
+  -- one place more
+  pub next_power : (m : ℕ) (p : Point) → m < k → first_power k mul elements j w (m + 1) p ≡ bit_xor (first_power k mul elements j w m p) (cond (p.is_one (k * w + m)) (frobenius mul j (get_or elements m 0)) 0)
+  next_power m p less =
+      let up : m + 1 ≡ suc m = omega arith in
+      ap (λ n. first_power k mul elements j w n p) up
+      ∙ ap (frobenius mul j) (sum_more p.is_one elements (ranks k w) m (omega (arith, less, long)) (omega (arith, less, word_ranks_long k (λ i. k * w + i))))
+      ∙ frobenius-xor k mul ring j (combination (take m elements) (index p.is_one (take m (ranks k w)))) (cond (p.is_one (get_or (ranks k w) m 0)) (get_or elements m 0) 0)
+      ∙ ap (bit_xor (first_power k mul elements j w m p)) (chosen (p.is_one (get_or (ranks k w) m 0)) (get_or elements m 0) ∙ ap (λ r. cond (p.is_one r) (frobenius mul j (get_or elements m 0)) 0) (rank_at k (λ i. k * w + i) m less))
+
+  pub no_power : (p : Point) → 0 ≡ first_power k mul elements j w 0 p
+  no_power p = sym (frobenius_zero j)
+
+  whole : (m : ℕ) (xs : List ℕ) → length xs ≡ m → take m xs ≡ xs
+  whole zero [] e = refl
+  whole zero (x ∷ xs) e = absurd (omega (arith, e))
+  whole (suc m) [] e = absurd (omega (arith, e))
+  whole (suc m) (x ∷ xs) e = ap (λ (ys : List ℕ). x ∷ ys) (whole m xs (omega (arith, e)))
+
+  pub all_power : (p : Point) → first_power k mul elements j w k p ≡ frobenius mul j (combination elements (index p.is_one (ranks k w)))
+  all_power p = λ i. frobenius mul j (combination (whole k elements long i) (index p.is_one (whole k (ranks k w) (word_ranks_long k (λ i. k * w + i)) i)))
+
+  -- nothing is the power with no place
+  pub first_sum : (ts : Terms) → ts ≡ [] → IsPolynomialOf k mul (first_power k mul elements j w 0) ts
+  first_sum ts e =
+      let P : Terms → Type 0 = λ us. IsPolynomialOf k mul (first_power k mul elements j w 0) us in
+      subst P (sym e) (record { reduced = reduced_none k; values = λ p at. no_power p })
+
+  -- the sum with one place more
+  pub next_sum : (m : ℕ) (old part new : Terms) (scale rank : ℕ) → m < k → scale ≡ frobenius mul j (slice_index elements m) → rank ≡ k * w + m
+      → IsPolynomialOf k mul (first_power k mul elements j w m) old → IsPolynomialOf k mul (λ p. cond (p.is_one rank) scale 0) part → IsReduced k new → ((p : Point) → IsPoint k p → value mul p new ≡ bit_xor (value mul p old) (value mul p part))
+      → IsPolynomialOf k mul (first_power k mul elements j w (m + 1)) new
+  next_sum m old part new scale rank less is place a b reduced values = record {
+    reduced = reduced;
+    values = λ p at. values p at ∙ ((λ i. bit_xor (a.values p at i) ((b.values p at ∙ (λ n. cond (p.is_one (place n)) (is n) 0)) i)) ∙ sym (next_power m p less));
+  }
+
+  pub last_sum : (m : ℕ) (ts : Terms) → m ≡ k → IsPolynomialOf k mul (first_power k mul elements j w m) ts → IsPolynomialOf k mul (λ p. frobenius mul j (combination elements (index p.is_one (first_values k (λ i. k * w + i))))) ts
+  last_sum m ts last a = record { reduced = a.reduced; values = λ p at. a.values p at ∙ (ap (λ n. first_power k mul elements j w n p) last ∙ all_power p) }
+
+-- ---- the word's element
+
+same_index : (bits : List Bool) (f : ℕ → Bool) (k : ℕ) (g : ℕ → ℕ) (ns : List ℕ) → length ns ≡ k → ((i n : ℕ) → slice_get ns i ≡ Some n → bit_of bits n ≡ f (g i)) → index_of bits ns ≡ index f (first_values k g)
+same_index bits f zero g [] e same = refl
+same_index bits f zero g (n ∷ ns) e same = absurd (omega (arith, e))
+same_index bits f (suc k) g [] e same = absurd (omega (arith, e))
+same_index bits f (suc k) g (n ∷ ns) e same =
+    (λ i. cond (same 0 n refl i) 1 0 + 2 * same_index bits f k (λ j. g (suc j)) ns (omega (arith, e)) (λ j m got. same (suc j) m got) i)
+
+module _ (c : Circuit) (well : IsWellFormed c) (w : ℕ) (word : Word) (at : slice_get c.words w ≡ Some word) where
+  -- the bits of a word at a point that has the bits of an input are those of the word's element
+  pub word_element : (p : Point) (xs : List ℕ) → IsInput c xs → IsAtInput c xs p → combination word.basis (index p.is_one (first_values c.k (λ i. c.k * w + i))) ≡ slice_index xs w
+  word_element p xs input here =
+      let found = get_below xs w (omega (arith, slice_get_within c.words w word at, input.long)) in
+      let element : HasElement (point_bits (nets c.net) (variables_of c) p) word found.0 = here w word found.0 at found.1 tt in
+      let is = well.words word (w, at) in
+      ap (combination word.basis) (sym (same_index (point_bits (nets c.net) (variables_of c) p) p.is_one c.k (λ i. c.k * w + i) word.nets is.nets (λ i n got.
+      point_bits_at (nets c.net) (variables_of c) p n (source_inside c.net well.sound n (stands_source c.net word.role n (well.places word n (w, at) (i, got))))
+      ∙ ap p.is_one (place_rank c well w i n word at got))))
+      ∙ (element.sum.is ∙ sym (get_or_from_slice_get xs w found.0 0 found.1))
+
+  element_below : (xs : List ℕ) → IsInput c xs → slice_index xs w < 2 ^ c.k
+  element_below xs input =
+      let found = get_below xs w (omega (arith, slice_get_within c.words w word at, input.long)) in
+      let P : ℕ → Type 0 = λ x. x < 2 ^ c.k in
+      subst P (sym (get_or_from_slice_get xs w found.0 0 found.1)) (input.elements found.0 (w, found.1))
+
+  -- so the polynomial is that of the power of the input's element
+  pub power_of_input : (j : ℕ) (ts : Terms) (elements : List ℕ) → word.basis ≡ elements → IsPolynomialOf c.k c.product (λ p. frobenius c.product j (combination elements (index p.is_one (first_values c.k (λ i. c.k * w + i))))) ts
+      → IsOfInput c (λ xs. power c.product (slice_index xs w) (2 ^ j)) ts
+  power_of_input j ts elements same is = record {
+    reduced = is.reduced;
+    values = λ p xs is_point input here.
+        is.values p is_point
+        ∙ (ap (λ es. frobenius c.product j (combination es (index p.is_one (first_values c.k (λ i. c.k * w + i))))) (sym same)
+        ∙ (ap (frobenius c.product j) (word_element p xs input here)
+        ∙ frobenius-power c.k c.product well.ring j (slice_index xs w) (element_below xs input)));
+  }

@@ -1,0 +1,192 @@
+-- The values of products with one factor more, and of all factors.
+use Rattle.std.proofs.Common.{◌≡◌, ◌≢◌, ◌∙◌, ap, sym, refl, subst, ℕ, zero, suc, ◌<◌, ◌≤◌, ◌+◌, ◌-◌, ◌*◌, ◌/◌, ◌%◌, ◌^◌, Bool, true, false, cond, List, [], ◌∷◌, ◌++◌, length, take, drop, bit_xor, Some, ◌==◌, arith, add-one, mul_assoc, mul_comm, append_assoc, append-nil, length-append}
+use Rattle.std.specs.Prelude.{slice_get, slice_index}
+use Rattle.std.specs.List.{AllByRecursion}
+use Rattle.std.proofs.Math.Nat.{pow-succ', add-mul}
+use Rattle.std.proofs.lemmas.Bool.{eq-eqb}
+use Rattle.std.proofs.lemmas.Bool.Decides.{nat_tests}
+use Rattle.gf_field.specs.Ring.{IsRing}
+use Rattle.gf_field.specs.Power.{power}
+use Rattle.gf_field.specs.PowerLaws.{power-add, power_below, one_below}
+use Rattle.spec_expand.specs.Specification.{SpecTerms}
+use Rattle.spec_expand.specs.SpecValue.{powers_at, spec_at, ones_of, factors_with, factors_of, product_at}
+
+-- ---- lists of factors
+
+pub factors_with_long : (w : ℕ) (js : List ℕ) → length (factors_with w js) ≡ length js
+factors_with_long w [] = refl
+factors_with_long w (j ∷ js) = ap suc (factors_with_long w js)
+
+factors_with_at : (w : ℕ) (js : List ℕ) (m j : ℕ) → slice_get js m ≡ Some j → slice_get (factors_with w js) m ≡ Some (w, 2 ^ j)
+factors_with_at w [] m j got = absurd (cc)
+factors_with_at w (i ∷ js) zero j got = let same : i ≡ j = cc in ap (λ n. Some (w, 2 ^ n)) same
+factors_with_at w (i ∷ js) (suc m) j got = factors_with_at w js m j got
+
+ones_few : (n first e : ℕ) → length (ones_of n first e) ≤ n
+ones_few zero first e = omega arith
+ones_few (suc n) first e =
+    elim (e % 2 == 1) as (λ b. length (cond b (first ∷ ones_of n (first + 1) (e / 2)) (ones_of n (first + 1) (e / 2))) ≤ suc n) [
+      | true ↦ omega (arith, ones_few n (first + 1) (e / 2))
+      | false ↦ omega (arith, ones_few n (first + 1) (e / 2))
+    ]
+
+-- one digit more
+pub next_digit : (j left : ℕ) (xs new all : List ℕ) → j < 64 → new ≡ cond (left % 2 == 1) (xs ++ j ∷ []) xs → xs ++ ones_of (64 - j) j left ≡ all → new ++ ones_of (64 - (j + 1)) (j + 1) (left / 2) ≡ all
+next_digit j left xs new all less is so_far =
+    let down : 64 - j ≡ suc (64 - (j + 1)) = omega (arith, less) in
+    ap (λ ys. ys ++ ones_of (64 - (j + 1)) (j + 1) (left / 2)) is ∙ both (left % 2 == 1) (64 - (j + 1)) ∙ ap (λ n. xs ++ ones_of n j left) (sym down) ∙ so_far
+  where
+    both : (b : Bool) (n : ℕ) → cond b (xs ++ j ∷ []) xs ++ ones_of n (j + 1) (left / 2) ≡ xs ++ cond b (j ∷ ones_of n (j + 1) (left / 2)) (ones_of n (j + 1) (left / 2))
+    both true n = append_assoc xs (j ∷ []) (ones_of n (j + 1) (left / 2))
+    both false n = refl
+
+-- what holds of all powers holds of one
+pub power_at : (P : ℕ × ℕ → Type 0) (ps : List (ℕ × ℕ)) (i : ℕ) (p : ℕ × ℕ) → AllByRecursion P ps → slice_get ps i ≡ Some p → P p
+power_at P [] i p all got = absurd (cc)
+power_at P (q ∷ ps) zero p all got = let same : q ≡ p = cc in subst P same all.0
+power_at P (q ∷ ps) (suc i) p all got = power_at P ps i p all.1 got
+
+pub factors_few : (ps : List (ℕ × ℕ)) → length (factors_of ps) ≤ 64 * length ps
+factors_few [] = omega arith
+factors_few (p ∷ ps) = omega (arith, length-append (factors_with p.0 (ones_of 64 0 p.1)) (factors_of ps), factors_with_long p.0 (ones_of 64 0 p.1), ones_few 64 0 p.1, factors_few ps)
+
+-- the factors of the first pairs, and those of the next one
+pair_after : (ps : List (ℕ × ℕ)) (i w e : ℕ) → slice_get ps i ≡ Some (w, e) → factors_of (take (suc i) ps) ≡ factors_of (take i ps) ++ factors_with w (ones_of 64 0 e)
+pair_after [] i w e got = absurd (cc)
+pair_after (p ∷ ps) zero w e got =
+    let same : p ≡ (w, e) = cc in
+    append-nil (factors_with p.0 (ones_of 64 0 p.1)) ∙ ap (λ (q : ℕ × ℕ). factors_with q.0 (ones_of 64 0 q.1)) same
+pair_after (p ∷ ps) (suc i) w e got =
+    ap (λ fs. factors_with p.0 (ones_of 64 0 p.1) ++ fs) (pair_after ps i w e got)
+    ∙ sym (append_assoc (factors_with p.0 (ones_of 64 0 p.1)) (factors_of (take i ps)) (factors_with w (ones_of 64 0 e)))
+
+pub next_pair : (ps : List (ℕ × ℕ)) (i w e : ℕ) → slice_get ps i ≡ Some (w, e) → factors_of (take (i + 1) ps) ≡ factors_of (take i ps) ++ factors_with w (ones_of 64 0 e)
+next_pair ps i w e got = ap (λ n. factors_of (take n ps)) (add-one i) ∙ pair_after ps i w e got
+
+-- all factors begin with those of the first pairs
+rest_factors : (ps : List (ℕ × ℕ)) (i : ℕ) → factors_of ps ≡ factors_of (take i ps) ++ factors_of (drop i ps)
+rest_factors ps zero = refl
+rest_factors [] (suc i) = refl
+rest_factors (p ∷ ps) (suc i) =
+    ap (λ fs. factors_with p.0 (ones_of 64 0 p.1) ++ fs) (rest_factors ps i)
+    ∙ sym (append_assoc (factors_with p.0 (ones_of 64 0 p.1)) (factors_of (take i ps)) (factors_of (drop i ps)))
+
+get_front : (xs ys : List (ℕ × ℕ)) (m : ℕ) (x : ℕ × ℕ) → slice_get xs m ≡ Some x → slice_get (xs ++ ys) m ≡ Some x
+get_front [] ys m x got = absurd (cc)
+get_front (y ∷ xs) ys zero x got = got
+get_front (y ∷ xs) ys (suc m) x got = get_front xs ys m x got
+
+get_after : (xs ys : List (ℕ × ℕ)) (m : ℕ) (x : ℕ × ℕ) → slice_get ys m ≡ Some x → slice_get (xs ++ ys) (length xs + m) ≡ Some x
+get_after [] ys m x got = let P : ℕ → Type 0 = λ i. slice_get ys i ≡ Some x in let e : m ≡ 0 + m = omega arith in subst P e got
+get_after (y ∷ xs) ys m x got = let P : ℕ → Type 0 = λ i. slice_get (y ∷ (xs ++ ys)) i ≡ Some x in let e : suc (length xs + m) ≡ suc (length xs) + m = omega arith in subst P e (get_after xs ys m x got)
+
+-- a factor of a pair at its place among all factors
+pub factor_at : (ps : List (ℕ × ℕ)) (i w e m j : ℕ) → slice_get ps i ≡ Some (w, e) → slice_get (ones_of 64 0 e) m ≡ Some j → slice_get (factors_of ps) (length (factors_of (take i ps)) + m) ≡ Some (w, 2 ^ j)
+factor_at ps i w e m j got one =
+    let P : List (ℕ × ℕ) → Type 0 = λ fs. slice_get fs (length (factors_of (take i ps)) + m) ≡ Some (w, 2 ^ j) in
+    let here : slice_get (factors_of (take i ps) ++ factors_with w (ones_of 64 0 e)) (length (factors_of (take i ps)) + m) ≡ Some (w, 2 ^ j) = get_after (factors_of (take i ps)) (factors_with w (ones_of 64 0 e)) m (w, 2 ^ j) (factors_with_at w (ones_of 64 0 e) m j one) in
+    let first : slice_get (factors_of (take (i + 1) ps)) (length (factors_of (take i ps)) + m) ≡ Some (w, 2 ^ j) = subst P (sym (next_pair ps i w e got)) here in
+    subst P (sym (rest_factors ps (i + 1))) (get_front (factors_of (take (i + 1) ps)) (factors_of (drop (i + 1) ps)) (length (factors_of (take i ps)) + m) (w, 2 ^ j) first)
+
+one_taken : {A : Type 0} (fs : List A) (n : ℕ) (f : A) → slice_get fs n ≡ Some f → take (suc n) fs ≡ take n fs ++ f ∷ []
+one_taken [] n f got = absurd (cc)
+one_taken (x ∷ fs) zero f got = let same : x ≡ f = cc in ap (λ y. y ∷ []) same
+one_taken (x ∷ fs) (suc n) f got = ap (λ ys. x ∷ ys) (one_taken fs n f got)
+
+pub taken_more : (fs : List (ℕ × ℕ)) (n : ℕ) (f : ℕ × ℕ) → slice_get fs n ≡ Some f → take (n + 1) fs ≡ take n fs ++ f ∷ []
+taken_more fs n f got = ap (λ m. take m fs) (add-one n) ∙ one_taken fs n f got
+
+pub terms_taken : (ts : SpecTerms) (n : ℕ) (t : ℕ × List (ℕ × ℕ)) → slice_get ts n ≡ Some t → take (n + 1) ts ≡ take n ts ++ t ∷ []
+terms_taken ts n t got = ap (λ m. take m ts) (add-one n) ∙ one_taken ts n t got
+
+-- ---- values
+
+halved : (e n : ℕ) → e < 2 ^ suc n → e / 2 < 2 ^ n
+halved e n less = omega (arith, less, pow-succ' 2 n)
+
+digit_odd : (e : ℕ) → (e % 2 == 1) ≡ true → e ≡ 2 * (e / 2) + 1
+digit_odd e h = let one : e % 2 ≡ 1 = grind (arith, nat_tests) in omega (arith, one)
+
+digit_even : (e : ℕ) → (e % 2 == 1) ≡ false → e ≡ 2 * (e / 2)
+digit_even e h = let other : e % 2 ≢ 1 = (λ q. let bad : true ≡ false = sym (eq-eqb (e % 2) 1 q) ∙ h in cc) in omega (arith, other)
+
+spread : (h p q e : ℕ) → q ≡ 2 * p → e ≡ 2 * h + 1 → p + h * q ≡ e * p
+spread h p q e is odd =
+    let f : h * q ≡ h * 2 * p = ap (λ x. h * x) is ∙ sym (mul_assoc h 2 p) in
+    let g : e * p ≡ (2 * h + 1) * p = ap (λ x. x * p) odd in
+    omega (arith, f, g, add-mul (2 * h) 1 p, (ap (λ x. x * p) (mul_comm h 2)))
+
+spread_even : (h p q e : ℕ) → q ≡ 2 * p → e ≡ 2 * h → h * q ≡ e * p
+spread_even h p q e is even = ap (λ x. h * x) is ∙ sym (mul_assoc h 2 p) ∙ ap (λ x. x * p) (mul_comm h 2 ∙ sym even)
+
+two_more : (first : ℕ) → 2 ^ (first + 1) ≡ 2 * 2 ^ first
+two_more first = ap (λ n. 2 ^ n) (add-one first) ∙ pow-succ' 2 first
+
+odd_sum : (e first : ℕ) → (e % 2 == 1) ≡ true → 2 ^ first + e / 2 * 2 ^ (first + 1) ≡ e * 2 ^ first
+odd_sum e first h = spread (e / 2) (2 ^ first) (2 ^ (first + 1)) e (two_more first) (digit_odd e h)
+
+even_sum : (e first : ℕ) → (e % 2 == 1) ≡ false → e / 2 * 2 ^ (first + 1) ≡ e * 2 ^ first
+even_sum e first h = spread_even (e / 2) (2 ^ first) (2 ^ (first + 1)) e (two_more first) (digit_even e h)
+
+module _ (k : ℕ) (mul : ℕ → ℕ → ℕ) (ring : IsRing k mul) (xs : List ℕ) where
+  powers_more : (ps : List (ℕ × ℕ)) (p : ℕ × ℕ) → powers_at mul xs (ps ++ p ∷ []) ≡ mul (powers_at mul xs ps) (power mul (slice_index xs p.0) p.1)
+  powers_more [] p = ring.comm (power mul (slice_index xs p.0) p.1) 1
+  powers_more (q ∷ ps) p =
+      ap (mul (power mul (slice_index xs q.0) q.1)) (powers_more ps p)
+      ∙ sym (ring.assoc (power mul (slice_index xs q.0) q.1) (powers_at mul xs ps) (power mul (slice_index xs p.0) p.1))
+
+  powers_below : (ps : List (ℕ × ℕ)) → powers_at mul xs ps < 2 ^ k
+  powers_below [] = one_below k mul ring
+  powers_below (p ∷ ps) = ring.closed (power mul (slice_index xs p.0) p.1) (powers_at mul xs ps)
+
+  powers_both : (ps qs : List (ℕ × ℕ)) → powers_at mul xs (ps ++ qs) ≡ mul (powers_at mul xs ps) (powers_at mul xs qs)
+  powers_both [] qs = sym (ring.one (powers_at mul xs qs) (powers_below qs))
+  powers_both (p ∷ ps) qs =
+      ap (mul (power mul (slice_index xs p.0) p.1)) (powers_both ps qs)
+      ∙ sym (ring.assoc (power mul (slice_index xs p.0) p.1) (powers_at mul xs ps) (powers_at mul xs qs))
+
+  -- one factor more
+  pub product_more : (t : ℕ × List (ℕ × ℕ)) (n w e : ℕ) → slice_get (factors_of t.1) n ≡ Some (w, e) → product_at mul xs t (n + 1) ≡ mul (product_at mul xs t n) (power mul (slice_index xs w) e)
+  product_more t n w e got =
+      ap (λ fs. mul t.0 (powers_at mul xs fs)) (taken_more (factors_of t.1) n (w, e) got)
+      ∙ ap (mul t.0) (powers_more (take n (factors_of t.1)) (w, e))
+      ∙ sym (ring.assoc t.0 (powers_at mul xs (take n (factors_of t.1))) (power mul (slice_index xs w) e))
+
+  -- no factor
+  pub product_none : (t : ℕ × List (ℕ × ℕ)) → t.0 < 2 ^ k → t.0 ≡ product_at mul xs t 0
+  product_none t less = sym (ring.comm t.0 1 ∙ ring.one t.0 less)
+
+  -- the binary digits of an exponent
+  ones_value : (w n first e : ℕ) → e < 2 ^ n → powers_at mul xs (factors_with w (ones_of n first e)) ≡ power mul (slice_index xs w) (e * 2 ^ first)
+  unfolding power
+  ones_value w zero first e less = let none : e ≡ 0 = omega (arith, less) in sym (ap (λ m. power mul (slice_index xs w) m) (zero_times e (2 ^ first) none))
+    where
+      zero_times : (a b : ℕ) → a ≡ 0 → a * b ≡ 0
+      zero_times a b q = ap (λ m. m * b) q ∙ (let z : 0 * b ≡ 0 = omega arith in z)
+  ones_value w (suc n) first e less =
+      let rest : powers_at mul xs (factors_with w (ones_of n (first + 1) (e / 2))) ≡ power mul (slice_index xs w) (e / 2 * 2 ^ (first + 1)) = ones_value w n (first + 1) (e / 2) (halved e n less) in
+      elim (e % 2 == 1) as (λ b. (e % 2 == 1) ≡ b → powers_at mul xs (factors_with w (cond b (first ∷ ones_of n (first + 1) (e / 2)) (ones_of n (first + 1) (e / 2)))) ≡ power mul (slice_index xs w) (e * 2 ^ first)) [
+        | true ↦ λ odd.
+            ap (mul (power mul (slice_index xs w) (2 ^ first))) rest
+            ∙ sym (power-add k mul ring (slice_index xs w) (2 ^ first) (e / 2 * 2 ^ (first + 1)))
+            ∙ ap (power mul (slice_index xs w)) (odd_sum e first odd)
+        | false ↦ λ even. rest ∙ ap (power mul (slice_index xs w)) (even_sum e first even)
+      ] refl
+
+  -- the factors of pairs have the pairs' value
+  pub factors_value : (ps : List (ℕ × ℕ)) → AllByRecursion (λ (p : ℕ × ℕ). p.1 < 2 ^ 64) ps → powers_at mul xs (factors_of ps) ≡ powers_at mul xs ps
+  factors_value [] all = refl
+  factors_value (p ∷ ps) all =
+      powers_both (factors_with p.0 (ones_of 64 0 p.1)) (factors_of ps)
+      ∙ (λ i. mul ((ones_value p.0 64 0 p.1 all.0 ∙ ap (power mul (slice_index xs p.0)) (times_one p.1)) i) (factors_value ps all.1 i))
+    where
+      times_one : (n : ℕ) → n * 2 ^ 0 ≡ n
+      times_one n = omega arith
+
+  -- all factors
+  pub product_all : (t : ℕ × List (ℕ × ℕ)) (n : ℕ) → n ≡ length (factors_of t.1) → AllByRecursion (λ (p : ℕ × ℕ). p.1 < 2 ^ 64) t.1 → product_at mul xs t n ≡ mul t.0 (powers_at mul xs t.1)
+  product_all t n e all = ap (λ fs. mul t.0 (powers_at mul xs fs)) (ap (λ m. take m (factors_of t.1)) e ∙ whole (factors_of t.1)) ∙ ap (mul t.0) (factors_value t.1 all)
+    where
+      whole : (fs : List (ℕ × ℕ)) → take (length fs) fs ≡ fs
+      whole [] = refl
+      whole (f ∷ fs) = ap (λ gs. f ∷ gs) (whole fs)

@@ -1,0 +1,15 @@
+-- A function of the input as a polynomial in input and state bits. Source: this project's own.
+use Rattle.std.specs.Prelude.{◌≡◌, ℕ, List, length}
+use Rattle.poly_mixed.specs.Polynomial.{Terms, Point, IsPoint, IsReduced, value}
+use Rattle.poly_mixed.specs.Uniqueness.{InBits}
+use Rattle.circuit_model.specs.Word.{word_nets}
+use Rattle.circuit_model.specs.Circuit.{Circuit, IsInput}
+use Rattle.stage_model.specs.First.{InFirstRanks}
+use Rattle.stage_model.specs.InputPoint.{IsAtInput}
+
+-- reduced, in the bits of input and state words alone, and wherever these are the bits of an input, the function's value there
+pub record IsExpansion (circuit : Circuit) (h : List ℕ → ℕ) (ts : Terms) : Type 0 where
+  pub reduced : IsReduced circuit.k ts
+  pub bits_alone : InBits ts
+  pub words_alone : InFirstRanks (length (word_nets circuit.words)) ts
+  pub values : (p : Point) (xs : List ℕ) → IsPoint circuit.k p → IsInput circuit xs → IsAtInput circuit xs p → value circuit.product p ts ≡ h xs

@@ -1,0 +1,30 @@
+-- The grammar of specifications: NAME = term + term .., a term being factor * factor .. Source: this project's own.
+use Rattle.std.specs.Prelude.{◌≡◌, ◌⊎◌, ℕ, List, [], ◌∷◌, ◌++◌}
+use Rattle.spec_expand.specs.Token.{Token, name, hex, decimal, equals, plus, times, power}
+
+-- a number, or a name to an exponent
+pub data Factor : Type 0 where
+  number : ℕ → Factor
+  power_of : List ℕ → ℕ → Factor
+
+-- a number in hexadecimal or decimal; a name, to the power 1 where no exponent stands
+abbrev pub IsFactor : List Token → Factor → Type 0
+IsFactor ts (number n) = (ts ≡ hex n ∷ []) ⊎ (ts ≡ decimal n ∷ [])
+IsFactor ts (power_of word e) = ((ts ≡ name word ∷ []) × (e ≡ 1)) ⊎ (ts ≡ name word ∷ power ∷ decimal e ∷ [])
+
+-- one or more parts with a sign between them
+abbrev pub AreJoined : {A : Type 0} → Token → (List Token → A → Type 0) → List Token → List A → Type 0
+AreJoined sign IsPart ts [] = ⊥
+AreJoined sign IsPart ts (a ∷ []) = IsPart ts a
+AreJoined sign IsPart ts (a ∷ b ∷ more) = (front : List Token) × (rest : List Token) × (ts ≡ front ++ sign ∷ rest) × IsPart front a × AreJoined sign IsPart rest (b ∷ more)
+
+abbrev pub IsTerm : List Token → List Factor → Type 0
+IsTerm = AreJoined times IsFactor
+
+-- the name on the left and the terms
+abbrev pub IsSpec : List Token → List ℕ → List (List Factor) → Type 0
+IsSpec ts out terms = (rest : List Token) × (ts ≡ name out ∷ equals ∷ rest) × AreJoined plus IsTerm rest terms
+
+-- some tokens after these make a specification
+abbrev pub IsBeginning : List Token → Type 0
+IsBeginning ts = (rest : List Token) × (out : List ℕ) × (terms : List (List Factor)) × IsSpec (ts ++ rest) out terms

@@ -1,0 +1,9 @@
+pub mod Token
+pub mod Tokens
+pub mod Grammar
+pub mod Fault
+pub mod Specification
+pub mod SpecValue
+pub mod SpecListing
+pub mod Expanded
+pub mod private

@@ -1,0 +1,4 @@
+pub mod Scanning
+pub mod Progress
+pub mod Places
+pub mod Expanding

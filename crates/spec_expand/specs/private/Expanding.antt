@@ -1,0 +1,76 @@
+-- What the expansion keeps: polynomials of functions of the input, and the stages that are within the bound.
+-- Source: this project's own.
+use Rattle.std.specs.Prelude.{◌≡◌, ℕ, ◌+◌, ◌<◌, ◌≤◌, List, Some, length, take, slice_get}
+use Rattle.net_words.specs.Binding.{BoundNet}
+use Rattle.gf_basis.specs.declared.bases.Basis.{Basis}
+use Rattle.poly_mixed.specs.Polynomial.{Terms, Point, IsPoint, IsReduced, value}
+use Rattle.poly_mixed.specs.declared.stage.ReduceFault.{ReduceFault}
+use Rattle.poly_mixed.specs.declared.stage.ReduceFault.TheVariants.{TooManyTerms, OutOfMemory}
+use Rattle.poly_mixed.specs.declared.stage.Stage.{Stage}
+use Rattle.poly_mixed.specs.declared.stage.Stage.TheVariants.{Cut, WordProduct, WordSum, SpecProduct, SpecSum, InstanceProduct, InstanceSum}
+use Rattle.circuit_model.specs.Circuit.{Circuit, IsInput}
+use Rattle.stage_model.specs.InputPoint.{IsAtInput}
+use Rattle.stage_model.specs.Stage.{HasSize, IsWithin}
+use Rattle.circuit_model.specs.Bases.{AreBases}
+use Rattle.spec_expand.specs.Specification.{SpecTerms}
+use Rattle.spec_expand.specs.SpecValue.{spec_at, factors_of, product_at}
+use Rattle.spec_expand.specs.SpecListing.{IsAtPoint}
+use Rattle.spec_expand.specs.private.Places.{places_from}
+
+-- bases of a field, and the numbers of the input and state words
+pub record IsSetting (k : ℕ) (mul : ℕ → ℕ → ℕ) (bound : BoundNet) (bases : List Basis) (places : List ℕ) : Type 0 where
+  pub bits : bound.bound.k ≡ k
+  pub bases_are : AreBases k mul bound bases
+  pub places_are : places ≡ places_from 0 bound.bound.words
+
+module _ (circuit : Circuit) where
+  -- a reduced polynomial that has the function's value at each point with the bits of an input
+  pub record IsOfInput (h : List ℕ → ℕ) (ts : Terms) : Type 0 where
+    pub reduced : IsReduced circuit.k ts
+    pub values : (p : Point) (xs : List ℕ) → IsPoint circuit.k p → IsInput circuit xs → IsAtInput circuit xs p → value circuit.product p ts ≡ h xs
+
+  -- the function has a polynomial of no more terms than the bound
+  abbrev pub HasWithin : (List ℕ → ℕ) → ℕ → Type 0
+  HasWithin h bound = IsWithin circuit.k circuit.product (IsAtPoint circuit h) bound
+
+  -- the products of a term with its first factors, up to n, are within the bound
+  abbrev pub AreProductsWithin : ℕ × List (ℕ × ℕ) → ℕ → ℕ → Type 0
+  AreProductsWithin t n bound = (j : ℕ) → 1 ≤ j → j ≤ n → HasWithin (λ xs. product_at circuit.product xs t j) bound
+
+  -- the product of a term with its first n factors was reached
+  pub record IsReached (t : ℕ × List (ℕ × ℕ)) (bound n : ℕ) (ts : Terms) : Type 0 where
+    pub is : IsOfInput (λ xs. product_at circuit.product xs t n) ts
+    pub within : AreProductsWithin t n bound
+
+  -- of the products of a term the one with j factors is the first over the bound, and has n terms
+  pub record IsProductOver (t : ℕ × List (ℕ × ℕ)) (bound j n : ℕ) : Type 0 where
+    pub some : 1 ≤ j
+    pub most : j ≤ length (factors_of t.1)
+    pub size : HasSize circuit.k circuit.product (IsAtPoint circuit (λ xs. product_at circuit.product xs t j)) n
+    pub over : bound < n
+    pub before : (i : ℕ) → 1 ≤ i → i < j → HasWithin (λ xs. product_at circuit.product xs t i) bound
+
+  -- the stage is a product of the term with this number
+  abbrev pub IsOverAt : ℕ × List (ℕ × ℕ) → ℕ → ℕ → Stage → ℕ → Type 0
+  IsOverAt t number bound (SpecProduct s j) n = (s ≡ number) × IsProductOver t bound j n
+  IsOverAt t number bound (Cut c) n = ⊥
+  IsOverAt t number bound (WordProduct w s j) n = ⊥
+  IsOverAt t number bound (WordSum w s) n = ⊥
+  IsOverAt t number bound (SpecSum s) n = ⊥
+  IsOverAt t number bound (InstanceProduct i s j) n = ⊥
+  IsOverAt t number bound (InstanceSum i s) n = ⊥
+
+  -- that stage with its size; want of memory is free
+  abbrev pub IsTermRefusal : ℕ × List (ℕ × ℕ) → ℕ → ℕ → ReduceFault → Type 0
+  IsTermRefusal t number bound (TooManyTerms stage n) = IsOverAt t number bound stage n
+  IsTermRefusal t number bound OutOfMemory = Unit {0}
+
+  -- the stages of the first s terms are within the bound
+  pub record AreTermsWithin (spec : SpecTerms) (s bound : ℕ) : Type 0 where
+    pub products : (i : ℕ) (t : ℕ × List (ℕ × ℕ)) → i < s → slice_get spec i ≡ Some t → AreProductsWithin t (length (factors_of t.1)) bound
+    pub sums : (r : ℕ) → 1 ≤ r → r ≤ s → HasWithin (λ xs. spec_at circuit.product xs (take r spec)) bound
+
+  -- what holds after s terms: the polynomial of their sum, and their stages are within the bound
+  pub record IsSummed (spec : SpecTerms) (bound s : ℕ) (ts : Terms) : Type 0 where
+    pub is : IsOfInput (λ xs. spec_at circuit.product xs (take s spec)) ts
+    pub terms_within : AreTermsWithin spec s bound

@@ -1,0 +1,178 @@
+//! Tokens at the front of a text, each as long as possible.
+ghost use Rattle.std.specs.Prelude.{◌≡◌, ◌≤◌, ◌+◌, ◌*◌, ◌^◌, length, MatchOption};
+ghost use Rattle.text_core.specs.Numbers.{value_of, digit_value};
+ghost use Rattle.poly_mixed.specs.Scan.{run, name_of as name_at_front};
+ghost use Rattle.spec_expand.specs.private.Scanning.{is_in, hex_run, number_front, word_front, any_front, front_of, IsSeenAs, IsSeenAt};
+
+/// Kinds of bytes.
+#[derive(Clone, Copy, Debug, PartialEq, Eq)]
+pub(crate) enum Class {
+    White,
+    Digit,
+    HexDigit,
+    NameByte,
+}
+
+/// A token; a number that is not below 2^64 is not kept.
+#[derive(Clone, Copy)]
+pub(crate) enum Scanned<'a> {
+    Named(&'a [u8]),
+    HexNumber(Option<u64>),
+    DecimalNumber(Option<u64>),
+    EqualsSign,
+    PlusSign,
+    TimesSign,
+    PowerSign,
+}
+
+fn is_of(class: Class, byte: u8) -> bool
+    ensures { result ≡ is_in class byte }
+{
+    match class {
+        Class::White => byte == b' ' || byte == b'\t' || byte == b'\n' || byte == b'\r',
+        Class::Digit => byte >= b'0' && byte <= b'9',
+        Class::HexDigit => {
+            (byte >= b'0' && byte <= b'9')
+                || (byte >= b'A' && byte <= b'F')
+                || (byte >= b'a' && byte <= b'f')
+        }
+        Class::NameByte => {
+            (byte >= b'A' && byte <= b'Z')
+                || (byte >= b'a' && byte <= b'z')
+                || (byte >= b'0' && byte <= b'9')
+                || byte == b'_'
+        }
+    }
+}
+
+/// The run of such bytes at the front.
+pub(crate) fn front(bytes: &[u8], class: Class) -> &[u8]
+    ensures value { result.now ≡ run (is_in class) bytes.now }
+    ensures within { length result.now ≤ length bytes.now }
+{
+    for (i, byte) in bytes.iter().enumerate() {
+        if !is_of(class, *byte) {
+            return &bytes[..i];
+        }
+    }
+    bytes
+}
+
+// The name at the front, at most 255 bytes.
+fn name(bytes: &[u8]) -> &[u8]
+    ensures value { result.now ≡ name_at_front bytes.now }
+    ensures within { length result.now ≤ length bytes.now }
+{
+    let front = front(bytes, Class::NameByte);
+    if front.len() > 255 {
+        &front[..255]
+    } else {
+        front
+    }
+}
+
+// The value of digits of a base up to 16, where it is below 2^64.
+fn value(digits: &[u8], base: u8) -> Option<u64>
+    requires { (1 ≤ base) × (base ≤ 16) }
+    ensures { MatchOption result (2 ^ 64 ≤ value_of base digits.now) (λ n. n ≡ value_of base digits.now) }
+{
+    let mut n: u64 = 0;
+    for byte in digits {
+        match with_digit(n, base, digit(*byte)) {
+            Some(more) => n = more,
+            None => return None,
+        }
+    }
+    Some(n)
+}
+
+// A value with one more digit, where it is below 2^64.
+fn with_digit(n: u64, base: u8, digit: u8) -> Option<u64>
+    ensures { MatchOption result (2 ^ 64 ≤ n * base + digit) (λ m. m ≡ n * base + digit) }
+{
+    let shifted = n.checked_mul(u64::from(base))?;
+    shifted.checked_add(u64::from(digit))
+}
+
+// What a digit stands for.
+fn digit(byte: u8) -> u8
+    ensures { result ≡ digit_value byte }
+{
+    if byte < 58 {
+        byte.saturating_sub(48)
+    } else if byte < 71 {
+        byte - 55
+    } else {
+        byte.saturating_sub(87)
+    }
+}
+
+// The hexadecimal digits after `0x` at the front.
+fn hex_digits(bytes: &[u8]) -> &[u8]
+    ensures value { result.now ≡ hex_run bytes.now }
+    ensures within { length result.now ≤ length bytes.now }
+{
+    match bytes {
+        [zero, x, rest @ ..] => {
+            if *zero == b'0' && *x == b'x' {
+                front(rest, Class::HexDigit)
+            } else {
+                &[]
+            }
+        }
+        _ => &[],
+    }
+}
+
+// The number at the front, and how many bytes it has.
+fn number(bytes: &[u8]) -> (Scanned<'_>, usize)
+    requires { length bytes.now ≤ 67108864 }
+    ensures { IsSeenAs (number_front bytes.now) result }
+{
+    let digits = hex_digits(bytes);
+    if digits.len() > 0 {
+        return (Scanned::HexNumber(value(digits, 16)), digits.len() + 2);
+    }
+    let digits = front(bytes, Class::Digit);
+    (Scanned::DecimalNumber(value(digits, 10)), digits.len())
+}
+
+// The number or name at the front, by its first byte, and how many bytes it has.
+fn word(bytes: &[u8], first: u8) -> Option<(Scanned<'_>, usize)>
+    requires { length bytes.now ≤ 67108864 }
+    ensures { IsSeenAt (word_front first bytes.now) result }
+{
+    if first >= b'0' && first <= b'9' {
+        return Some(number(bytes));
+    }
+    if (first >= b'A' && first <= b'Z') || (first >= b'a' && first <= b'z') {
+        let name = name(bytes);
+        return Some((Scanned::Named(name), name.len()));
+    }
+    None
+}
+
+// The token at the front, by its first byte, and how many bytes it has.
+fn any(bytes: &[u8], first: u8) -> Option<(Scanned<'_>, usize)>
+    requires { length bytes.now ≤ 67108864 }
+    ensures { IsSeenAt (any_front first bytes.now) result }
+{
+    match first {
+        b'=' => Some((Scanned::EqualsSign, 1)),
+        b'+' => Some((Scanned::PlusSign, 1)),
+        b'*' => Some((Scanned::TimesSign, 1)),
+        b'^' => Some((Scanned::PowerSign, 1)),
+        _ => word(bytes, first),
+    }
+}
+
+/// The token at the front, and how many bytes it has.
+pub(crate) fn token(bytes: &[u8]) -> Option<(Scanned<'_>, usize)>
+    requires { length bytes.now ≤ 67108864 }
+    ensures { IsSeenAt (front_of bytes.now) result }
+{
+    match bytes {
+        [] => None,
+        [first, ..] => any(bytes, *first),
+    }
+}
