@@ -3,8 +3,7 @@ use crate::program::answer;
 use crate::row::{Row, changed};
 use crate::{
     abstract_rows, aiger_rows, bits_rows, check_rows, file_rows, netlist_rows, same_rows,
-    signature_rows,
-    stage_rows, word_rows,
+    signature_rows, stage_rows, word_rows,
 };
 use std::alloc::Global;
 use std::process::Abort;
