@@ -1,8 +1,9 @@
 pub mod LineLemmas
 pub mod BasisLemmas
-pub mod WordLemmas
 pub mod ReaderLemmas
-pub mod SignatureLemmas
-pub mod NamesLemmas
-pub mod SigDetermined
+pub mod WordLemmas
+pub mod BitLemmas
+pub mod EntryLemmas
+pub mod SeenLemmas
+pub mod FewLemmas
 mod Examples
