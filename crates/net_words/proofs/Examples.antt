@@ -36,5 +36,5 @@ output_on_any_net : with_role and_net 0 1 (1 ∷ []) Output 1 ≡ Ok 1
 output_on_any_net = refl
 
 -- where A is net 0 and Z is net 2, net 1 feeds the gate and is in no word
-b_is_uncovered : is_uncovered and_net (word (codes "A") Input (0 ∷ []) ∷ word (codes "Z") Output (2 ∷ []) ∷ []) 1 ≡ true
+b_is_uncovered : is_uncovered and_net (word (codes "A") Input (0 ∷ []) ∷ word (codes "Z") Output (2 ∷ []) ∷ []) [] 1 ≡ true
 b_is_uncovered = refl
