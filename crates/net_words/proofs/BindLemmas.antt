@@ -67,6 +67,17 @@ feeds_step net words before new feeds i d feed fed n outcome less is found fed-i
     subst P (sym (drop_more feeds i d less)) (subst T is
     (after (Returns (free_net net words feed.line (number_of net feed.net))) (λ m. FeedsOf net words (before ++ bound_feed feed m ∷ []) more) n outcome found (subst Q fed-is (subst R new-is rest))))
 
+-- a fault of the inputs, after words and feeds that are bound
+pub covered_fails : (net : NetList) (words : List WordText) (feeds : List FeedText) (bound : List BoundWord) (taken : List ℕ) (fed : List Feed) (fault : BindFault) → BoundOf net [] [] words (Ok (bound, taken)) → FeedsOf net bound [] feeds (Ok fed) → FitsBinding {X = Unit {0}} {A = Unit {0}} (λ u. tt) (Err fault) (IsCovered net bound fed) → FitsBinding {X = Binding} {A = Binding} (λ b. b) (Err fault) (BindingOf net words feeds)
+covered_fails net words feeds bound taken fed (NoSuchNet word place) ok is_fed fits = inr ((bound, taken), ok, inr (fed, is_fed, inl fits))
+covered_fails net words feeds bound taken fed (NotInput word place) ok is_fed fits = inr ((bound, taken), ok, inr (fed, is_fed, inl fits))
+covered_fails net words feeds bound taken fed (NotLatch word place) ok is_fed fits = inr ((bound, taken), ok, inr (fed, is_fed, inl fits))
+covered_fails net words feeds bound taken fed (NetTwice n) ok is_fed fits = inr ((bound, taken), ok, inr (fed, is_fed, inl fits))
+covered_fails net words feeds bound taken fed (FeedNotFree line) ok is_fed fits = inr ((bound, taken), ok, inr (fed, is_fed, inl fits))
+covered_fails net words feeds bound taken fed (Uncovered n) ok is_fed fits = inr ((bound, taken), ok, inr (fed, is_fed, inl fits))
+covered_fails net words feeds bound taken fed (UnknownStart n) ok is_fed fits = inr ((bound, taken), ok, inr (fed, is_fed, inl fits))
+covered_fails net words feeds bound taken fed OutOfMemory ok is_fed fits = tt
+
 -- a fault of a latch's start, after words and feeds that are bound and cover the inputs
 pub started_fails : (net : NetList) (words : List WordText) (feeds : List FeedText) (bound : List BoundWord) (taken : List ℕ) (fed : List Feed) (fault : BindFault) → BoundOf net [] [] words (Ok (bound, taken)) → FeedsOf net bound [] feeds (Ok fed) → IsCovered net bound fed (Ok tt) → FitsBinding {X = Unit {0}} {A = Unit {0}} (λ u. tt) (Err fault) (Returns (started bound net.latches)) → FitsBinding {X = Binding} {A = Binding} (λ b. b) (Err fault) (BindingOf net words feeds)
 started_fails net words feeds bound taken fed (NoSuchNet word place) ok is_fed covered fits = inr ((bound, taken), ok, inr (fed, is_fed, inr (tt, covered, inl fits)))

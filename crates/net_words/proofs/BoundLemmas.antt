@@ -12,7 +12,7 @@ use Rattle.net_core.specs.Sound.{IsSound}
 use Rattle.net_core.specs.declared.latch.Start.TheVariants.{Unknown}
 use Rattle.net_core.proofs.DriverLemmas.{Has_map, times_append, All_has, none_here}
 use Rattle.net_core.proofs.NameLemmas.{some_below}
-use Rattle.net_words.specs.Binding.{Binding, AreWords, HasWidth}
+use Rattle.net_words.specs.Binding.{Binding, AreWords, HasWidth, IsBinding}
 use Rattle.net_words.specs.Bind.{is_latch, with_role, names_with, place_net, taken_with, NetsOf, bound_word, BoundOf, feeds_gate, feeds_latch, is_used, IsCovered, is_unknown, started, bits_of, BindingOf}
 use Rattle.net_words.specs.BoundTo.{output_bits, StandsOn, IsBoundTo}
 use Rattle.net_words.specs.Feeds.{AreFeeds, FeedsOf, fed_nets, is_fed}
@@ -268,6 +268,22 @@ first_long k words are = first words are.each (omega (arith, are.output))
         by Fed is own some rest = rest some
         by Output is own some rest = ⊎_elim (λ long. long) (λ fed. absurd (cc)) own
 
+-- words that are bound are parts of a binding
+pub bound_parts : (net : NetList) (k : ℕ) (words : List WordText) (list : List BoundWord) (taken : List ℕ) (feeds : List Feed) (count : ℕ) → AreWords k words → BoundOf net [] [] words (Ok (list, taken)) → IsBinding (record { k = bits_of words; words = list; feeds = feeds; nets = count })
+bound_parts net k words list taken feeds count are is =
+    let added : WordsAdded net [] [] words list taken = words_added net [] [] words list taken is in
+    let long : bits_of words ≡ k = first_long k words are in
+    let same : added.more ≡ list = sym added.whole_is in
+    let A : ℕ → Type 0 = λ j. All (HasWidth j) added.more in
+    let Q : List BoundWord → Type 0 = λ xs. IsBinding (record { k = bits_of words; words = xs; feeds = feeds; nets = count }) in
+    subst Q same (record {
+      some = omega (arith, are.some, long);
+      most = omega (arith, are.most, long);
+      one = added.outputs ∙ are.output;
+      few = omega (arith, added.others, are.others);
+      each = subst A (sym long) (added.each k are.each);
+    })
+
 -- words and feeds that are bound by the list are bound to the net list
 pub bound_to : (net : NetList) (k : ℕ) (words : List WordText) (feeds : List FeedText) (binding : Binding) → IsSound net → AreWords k words → AreFeeds k (map (λ word. word.role) words) feeds → BindingOf net words feeds (Ok binding) → IsBoundTo net binding
 bound_to net k words feeds binding sound are fed is =
@@ -288,19 +304,13 @@ bound_to net k words feeds binding sound are fed is =
     let covers : IsCovered net added.more found (Ok tt) = subst R (sym same) covered in
     let starts : Ok tt ≡ started added.more net.latches = subst S (sym same) known in
     let fed_of : FeedsOf net added.more [] feeds (Ok found) = subst T (sym same) of in
-    let A : ℕ → Type 0 = λ j. All (HasWidth j) added.more in
+    let B : List BoundWord → Type 0 = λ xs. IsBinding (record { k = bits_of words; words = xs; feeds = found; nets = nets net }) in
     let F : List Role → Type 0 = λ roles. AreFeeds k roles feeds in
     let are_fed : AreFeeds k (map (λ (w : BoundWord). w.role) added.more) feeds = subst F (sym added.roles) fed in
     let G : ℕ → Type 0 = λ j. AreFeeds j (map (λ (w : BoundWord). w.role) added.more) feeds in
     let all_fed : AreFeeds (bits_of words) (map (λ (w : BoundWord). w.role) added.more) feeds = subst G (sym long) are_fed in
     subst P (sym is.2.2.2.2) (subst Q same (record {
-      parts = record {
-        some = omega (arith, are.some, long);
-        most = omega (arith, are.most, long);
-        one = added.outputs ∙ are.output;
-        few = omega (arith, added.others, are.others);
-        each = subst A (sym long) (added.each k are.each);
-      };
+      parts = subst B (sym same) (bound_parts net k words list is.0.1 found (nets net) are is.1);
       count = refl;
       once = apart;
       places = added.places;

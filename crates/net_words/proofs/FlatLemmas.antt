@@ -1,5 +1,9 @@
 -- Bindings of one cycle: those that `bind` gives where nothing is left to unroll, and those on other nets.
-use Rattle.std.proofs.Common.{◌≡◌, ◌∙◌, ap, sym, refl, inl, inr, ⊎_elim, subst, ℕ, zero, suc, ◌<◌, ◌≤◌, ◌+◌, ◌*◌, List, [], ◌∷◌, ◌++◌, length, map, take, drop, filter, not, cond, true, false, Bool, Some, arith, All}
+use Rattle.std.proofs.Common.{◌≡◌, ◌∙◌, ap, sym, refl, inl, inr, ⊎_elim, subst, ℕ, zero, suc, ◌<◌, ◌≤◌, ◌+◌, ◌*◌, List, [], ◌∷◌, ◌++◌, length, map, take, drop, filter, not, cond, true, false, Bool, Some, get_or, arith, All, mul-suc, mul-le-mul_left, below_more, append-nil, append_assoc, drop_of_length-le}
+use Rattle.std.specs.Prelude.{◌↔◌, IsTrue, slice_get}
+use Rattle.std.proofs.lemmas.Bool.{cases_lt}
+use Rattle.std.proofs.lemmas.List.{drop_more}
+use Rattle.std.proofs.lemmas.Option.{slice_get-get_or}
 use Rattle.graph_core.specs.Walk.{IsChain}
 use Rattle.net_core.specs.Lists.{Has, times}
 use Rattle.net_core.specs.LatchValue.{LatchValue}
@@ -72,10 +76,10 @@ long_rest (suc k) m [] long = absurd (omega arith)
 long_rest (suc k) m (x ∷ xs) long = long_rest k m xs (omega (arith, long))
 
 -- each has k nets
-rebound_long : (k : ℕ) (words : List BoundWord) (list : List ℕ) → length list ≡ length words * k → All (λ word. length word.nets ≡ k) (rebound k words list)
+rebound_long : (k : ℕ) (words : List BoundWord) (list : List ℕ) → length list ≡ k * length words → All (λ word. length word.nets ≡ k) (rebound k words list)
 rebound_long k [] list long i d below = absurd (omega arith)
-rebound_long k (word ∷ words) list long zero d below = long_front k list (omega (arith, long))
-rebound_long k (word ∷ words) list long (suc i) d below = rebound_long k words (drop k list) (long_rest k (length words * k) list (omega (arith, long))) i d (omega arith)
+rebound_long k (word ∷ words) list long zero d below = long_front k list (omega (arith, long, mul-suc k (length words)))
+rebound_long k (word ∷ words) list long (suc i) d below = rebound_long k words (drop k list) (long_rest k (k * length words) list (omega (arith, long, mul-suc k (length words)))) i d (omega arith)
 
 all_front : (P : ℕ → Type 0) (k : ℕ) (list : List ℕ) → ((n : ℕ) → Has list n → P n) → (n : ℕ) → Has (take k list) n → P n
 all_front P zero list each n has = absurd (none_at n has)
@@ -119,3 +123,73 @@ module _ (net : NetList) (binding : Binding) (list : List ℕ) (is : IsBinding b
     outputs = λ n has. let found = output_bits_word (rebound binding.k binding.words list) n has in rebound_nets (λ m. m < nets net) binding.k binding.words list (λ m in_list. All_has (λ j. j < nets net) list m are.exist in_list) found.0 n found.1 found.2;
     closed = closed;
   }
+
+-- each of the first words has k nets
+abbrev pub HaveNetsTo : ℕ → List BoundWord → ℕ → Type 0
+HaveNetsTo k words w = (v : ℕ) (word : BoundWord) → v < w → slice_get words v ≡ Some word → length word.nets ≡ k
+
+-- what is told of the word with this number
+abbrev pub Tells : ℕ → List BoundWord → ℕ → Bool → Type 0
+Tells k words w b = (word : BoundWord) → slice_get words w ≡ Some word → IsTrue b ↔ (length word.nets ≡ k)
+
+is_true : (b : Bool) → b ≡ true → IsTrue b
+is_true true e = tt
+is_true false e = absurd (cc)
+
+is_false : (b : Bool) → not b ≡ true → IsTrue b → ⊥
+is_false true e t = absurd (cc)
+is_false false e t = t
+
+pub have_more : (k : ℕ) (words : List BoundWord) (w : ℕ) (b : Bool) → Tells k words w b → not b ≡ false → HaveNetsTo k words w → HaveNetsTo k words (w + 1)
+have_more k words w b tells is so_far v word less at =
+    ⊎_elim (λ before. so_far v word before at) (λ past. own v (omega arith) at) (cases_lt v w)
+  where
+    own : (u : ℕ) → u ≡ w → slice_get words u ≡ Some word → length word.nets ≡ k
+    own u same got = let P : ℕ → Type 0 = λ j. slice_get words j ≡ Some word in (tells word (subst P same got)).0 (is_true b (yes_it b is))
+      where
+        yes_it : (a : Bool) → not a ≡ false → a ≡ true
+        yes_it true e = refl
+        yes_it false e = absurd (cc)
+
+pub have_all : (k : ℕ) (words : List BoundWord) (w : ℕ) → length words ≤ w → HaveNetsTo k words w → All (λ word. length word.nets ≡ k) words
+have_all k words w past so_far i d below = so_far i (get_or words i d) (omega arith) (slice_get-get_or words i d below)
+
+pub has_no_nets : (k : ℕ) (words : List BoundWord) (w : ℕ) (b : Bool) → w < length words → Tells k words w b → not b ≡ true → All (λ word. length word.nets ≡ k) words → ⊥
+has_no_nets k words w b less tells is all =
+    let word = some_word words w less in
+    is_false b is ((tells word.0 word.1).1 (All_has (λ (u : BoundWord). length u.nets ≡ k) words word.0 all (w, word.1)))
+  where
+    some_word : (ws : List BoundWord) (i : ℕ) → i < length ws → (x : BoundWord) × (slice_get ws i ≡ Some x)
+    some_word [] i l = absurd (omega arith)
+    some_word (x ∷ xs) zero l = (x, refl)
+    some_word (x ∷ xs) (suc i) l = some_word xs i (omega arith)
+
+-- a part of k numbers is within the list
+pub part_within : (k w n : ℕ) → w < n → k * w + k ≤ k * n
+part_within k w n less = let more : k * suc w ≤ k * n = mul-le-mul_left {m = suc w} {n = n} k (omega arith) in omega (arith, more, mul-suc k w)
+
+drop_drop : (a b : ℕ) (list : List ℕ) → drop a (drop b list) ≡ drop (b + a) list
+drop_drop a zero list = ap (λ n. drop n list) (omega arith)
+drop_drop a (suc b) [] = nothing a
+  where
+    nothing : (n : ℕ) → ◌≡◌ {A = List ℕ} (drop n []) []
+    nothing zero = refl
+    nothing (suc n) = refl
+drop_drop a (suc b) (x ∷ xs) = drop_drop a b xs
+
+-- one more word on its nets
+pub rebound_step : (k : ℕ) (words : List BoundWord) (list : List ℕ) (before new : List BoundWord) (w : ℕ) (made : BoundWord) → w < length words → ((word : BoundWord) → slice_get words w ≡ Some word → made ≡ record { name = word.name; role = word.role; nets = take k (drop (k * w) list) }) → new ≡ before ++ made ∷ [] → before ++ rebound k (drop w words) (drop (k * w) list) ≡ rebound k words list → new ++ rebound k (drop (w + 1) words) (drop (k * (w + 1)) list) ≡ rebound k words list
+rebound_step k words list before new w made less is new_is so_far =
+    let word : BoundWord = get_or words w made in
+    let rest : List BoundWord = rebound k (drop (w + 1) words) (drop k (drop (k * w) list)) in
+    let bound : BoundWord = record { name = word.name; role = word.role; nets = take k (drop (k * w) list) } in
+    let up : w + 1 ≡ suc w = omega arith in
+    let next : drop k (drop (k * w) list) ≡ drop (k * (w + 1)) list = drop_drop k (k * w) list ∙ ap (λ n. drop n list) (sym (ap (λ n. k * n) up ∙ mul-suc k w)) in
+    ap (λ xs. xs ++ rebound k (drop (w + 1) words) (drop (k * (w + 1)) list)) new_is
+    ∙ (append_assoc before (made ∷ []) (rebound k (drop (w + 1) words) (drop (k * (w + 1)) list))
+    ∙ (ap (λ xs. before ++ made ∷ rebound k (drop (w + 1) words) xs) (sym next)
+    ∙ (ap (λ m. before ++ m ∷ rest) (is word (slice_get-get_or words w made less))
+    ∙ (ap (λ ws. before ++ rebound k ws (drop (k * w) list)) (sym (drop_more words w made less)) ∙ so_far))))
+
+pub rebound_end : (k : ℕ) (words : List BoundWord) (list : List ℕ) (before : List BoundWord) (w : ℕ) → length words ≤ w → before ++ rebound k (drop w words) (drop (k * w) list) ≡ rebound k words list → before ≡ rebound k words list
+rebound_end k words list before w past so_far = sym (append-nil before) ∙ (ap (λ ws. before ++ rebound k ws (drop (k * w) list)) (sym (drop_of_length-le words past)) ∙ so_far)

@@ -1,11 +1,12 @@
 -- What stands in lists and in the bits of words.
-use Rattle.std.proofs.Common.{◌≡◌, ◌∙◌, ap, refl, ⊎_elim, ℕ, zero, suc, ◌+◌, ◌==◌, ◌&&◌, ◌||◌, List, [], ◌∷◌, Bool, true, false, cond, Some, arith}
+use Rattle.std.proofs.Common.{◌≡◌, ◌∙◌, ap, sym, refl, inl, inr, length, ⊎_elim, ℕ, zero, suc, ◌+◌, ◌==◌, ◌&&◌, ◌||◌, List, [], ◌∷◌, Bool, true, false, cond, Some, arith}
 use Rattle.std.specs.List.{list_any}
 use Rattle.std.proofs.lemmas.Bool.{eqb-true}
 use Rattle.std.proofs.lemmas.Bool.Decides.{nat_tests}
 use Rattle.net_core.specs.Lists.{Has, times}
 use Rattle.net_core.proofs.DriverLemmas.{Has_left, Has_right, Has_cases}
 use Rattle.net_words.specs.Roles.{stands_in, same_role, in_word}
+use Rattle.net_words.specs.Binding.{HasWidth}
 use Rattle.net_words.specs.BoundTo.{output_bits, output_bits_with}
 use Rattle.net_words.specs.Variables.{bits, bits_with}
 use Rattle.net_words.specs.declared.bound.BoundWord.{BoundWord}
@@ -113,3 +114,8 @@ pub output_bits_word : (words : List BoundWord) (n : ℕ) → Has (output_bits w
 output_bits_word [] n has = absurd (let got = has.1 in cc)
 output_bits_word (word ∷ words) n has =
     ⊎_elim (λ here. let own = output_bit word.role word.nets n here in (word, (0, refl), own.0, own.1)) (λ there. let rest = output_bits_word words n there in (rest.0, (suc rest.1.0, rest.1.1), rest.2, rest.3)) (Has_cases (output_bits_with word.role word.nets) (output_bits words) n has)
+
+-- the output word has k nets
+pub output_width : (k : ℕ) (word : BoundWord) → HasWidth k word → word.role ≡ Output → length word.nets ≡ k
+output_width k word (inl long) is = long
+output_width k word (inr (fed, none)) is = let same : Output ≡ Fed = sym is ∙ fed in absurd (cc)

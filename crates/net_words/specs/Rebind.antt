@@ -19,7 +19,7 @@ rebinding net binding list = record { k = binding.k; words = rebound binding.k b
 -- net list without latches
 pub record AreNets (net : NetList) (binding : Binding) (list : List ℕ) : Type 0 where
   pub flat : net.latches ≡ []
-  pub long : length list ≡ length binding.words * binding.k
+  pub long : length list ≡ binding.k * length binding.words
   pub once : (n : ℕ) → times n (bits (rebound binding.k binding.words list)) ≤ 1
   pub inputs : (n : ℕ) → Has (bits (rebound binding.k binding.words list)) n → Has net.inputs n
   pub exist : All (λ n. n < nets net) list

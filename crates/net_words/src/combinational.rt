@@ -51,7 +51,7 @@ impl Combinational {
         ensures net { result.now ≡ self.now.net }
         ensures flat { self.now.net.latches ≡ [] }
         ensures sound { IsSound self.now.net }
-        ensures one_cycle { IsOneCycle self.now.net self.now.bound }
+        ensures is_bound { IsOneCycle self.now.net self.now.bound }
     {
         &self.net
     }
@@ -60,7 +60,7 @@ impl Combinational {
     pub fn bound(&self) -> &Bound
         ensures bound { result.now ≡ self.now.bound }
         ensures flat { self.now.net.latches ≡ [] }
-        ensures one_cycle { IsOneCycle self.now.net self.now.bound }
+        ensures is_bound { IsOneCycle self.now.net self.now.bound }
     {
         &self.bound
     }

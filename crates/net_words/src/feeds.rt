@@ -1,11 +1,10 @@
 //! The binding of feeds to nets.
-ghost use Rattle.std.specs.Prelude.{◌≡◌, ◌||◌, ℕ, List, [], length, IfOk};
+ghost use Rattle.std.specs.Prelude.{◌≡◌, ◌||◌, [], length, IfOk};
 ghost use Rattle.text_core.specs.Outcome.{Returns};
 ghost use Rattle.net_core.specs.NetList.{nets, number_of};
 ghost use Rattle.net_words.specs.BindReading.{AreMarks, FitsBinding, mark_at};
 ghost use Rattle.net_words.specs.Feeds.{FeedsOf, bound_feed as is_bound_feed, free_net, is_fed};
 ghost use Rattle.net_words.specs.Roles.{in_word, stands_in};
-ghost use Rattle.net_words.specs.declared.bound.BoundWord.{BoundWord};
 ghost use Rattle.net_words.specs.declared.word.Role.TheVariants.{Input};
 
 use crate::binding::BindFault;
@@ -30,7 +29,7 @@ pub fn bind_feeds(
     let held = word_marks(alloc, net, words, Role::Input)?;
     let mut bound = Vec::new(alloc);
     for feed in feeds {
-        let number = feed_net(feed, net, inputs, &held)?;
+        let number = feed_net(feed, net, words, inputs, &held)?;
         bound.push(bound_feed(feed, number))?;
     }
     Ok(bound)
@@ -49,9 +48,16 @@ fn bound_feed(feed: &FeedText, net: u32) -> Feed
 }
 
 // The net of a feed, if it is a primary input in no input word.
-fn feed_net(feed: &FeedText, net: &Net, inputs: &[bool], held: &[bool]) -> Result<u32, BindFault>
+fn feed_net(
+    feed: &FeedText,
+    net: &Net,
+    _words: &[BoundWord],
+    inputs: &[bool],
+    held: &[bool],
+) -> Result<u32, BindFault>
     requires inputs { AreMarks (nets net.now) (stands_in net.now.inputs) inputs.now }
-    ensures { (words : List BoundWord) → AreMarks (nets net.now) (in_word Input words) held.now → FitsBinding (λ n. n) result (Returns (free_net net.now words feed.now.line (number_of net.now feed.now.net))) }
+    requires held { AreMarks (nets net.now) (in_word Input _words.now) held.now }
+    ensures { FitsBinding (λ n. n) result (Returns (free_net net.now _words.now feed.now.line (number_of net.now feed.now.net))) }
 {
     let fault = BindFault::FeedNotFree { line: feed.line };
     match net.find(feed.net.as_str()) {

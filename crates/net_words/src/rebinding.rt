@@ -1,7 +1,5 @@
 //! The words of a binding on other nets.
-ghost use Rattle.std.specs.Prelude.{◌≡◌, ◌<◌, ◌*◌, Some, length, slice_get, IfOk};
-ghost use Rattle.net_core.specs.NetList.{nets as nets_of};
-ghost use Rattle.net_words.specs.Binding.{HasWidth};
+ghost use Rattle.std.specs.Prelude.{◌≡◌, ◌<◌, ◌≤◌, ◌*◌, Some, length, take, drop, slice_get, IfOk};
 ghost use Rattle.net_words.specs.OneCycle.{IsClosed, IsFlat, IsOneCycle};
 ghost use Rattle.net_words.specs.Rebind.{AreNets, rebinding, rebound};
 
@@ -11,7 +9,7 @@ use net_core::{Name, Net, Numbers};
 use std::alloc::{AllocError, Global};
 
 /// The binding of a net without latches with the words of another binding, in which place i of word w is the net
-/// `nets[w * k + i]`. There are k numbers for each word; those of the input, state and fed words are different primary
+/// `nets[k * w + i]`. There are k numbers for each word; those of the input, state and fed words are different primary
 /// inputs, and the others exist. It has no feed, and a fed word gets its nets.
 pub fn rebind(alloc: Global, bound: &Bound, net: &Net, nets: &[u32]) -> Result<Bound, AllocError>
     requires { AreNets net.now bound.now nets.now }
@@ -26,27 +24,38 @@ pub fn rebind(alloc: Global, bound: &Bound, net: &Net, nets: &[u32]) -> Result<B
 
 // The words with these nets, k for each word.
 fn rebound_words(alloc: Global, bound: &Bound, nets: &[u32]) -> Result<Vec<BoundWord>, AllocError>
-    requires { length nets.now ≡ length bound.now.words * bound.now.k }
+    requires { length nets.now ≡ bound.now.k * length bound.now.words }
     ensures { IfOk result (λ words. words.items ≡ rebound bound.now.k bound.now.words nets.now) }
 {
-    let k = bound.k() as usize;
-    let mut rest = nets;
     let mut words = Vec::new(alloc);
     for w in 0..bound.words() {
-        words.push(rebound_word(alloc, bound, w, &rest[..k])?)?;
-        rest = &rest[k..];
+        words.push(rebound_word(alloc, bound, w, nets)?)?;
     }
     Ok(words)
 }
 
-// Word w with these nets.
+// Word w with its nets among these.
 fn rebound_word(alloc: Global, bound: &Bound, w: u32, nets: &[u32]) -> Result<BoundWord, AllocError>
-    requires { w < length bound.now.words }
-    ensures { IfOk result (λ made. (word : _) → slice_get bound.now.words w ≡ Some word → made ≡ record { name = word.name; role = word.role; nets = nets.now }) }
+    requires long { length nets.now ≡ bound.now.k * length bound.now.words }
+    requires word { w < length bound.now.words }
+    ensures { IfOk result (λ made. (word : _) → slice_get bound.now.words w ≡ Some word → made ≡ record { name = word.name; role = word.role; nets = take bound.now.k (drop (bound.now.k * w) nets.now) }) }
 {
+    let nets = part(nets, bound.k() as usize, w as usize, bound.words() as usize);
     Ok(BoundWord {
         name: Name::new(alloc, bound.name(w))?,
         role: bound.role(w),
         nets: Numbers::new(nets.to_vec(alloc)?),
     })
+}
+
+// Part w of a list of so many parts with k numbers each.
+fn part(list: &[u32], k: usize, w: usize, parts: usize) -> &[u32]
+    requires long { length list.now ≡ k * parts }
+    requires few { parts ≤ 9 }
+    requires small { k ≤ 64 }
+    requires within { w < parts }
+    ensures { result.now ≡ take k (drop (k * w) list.now) }
+{
+    let start = k * w;
+    &list[start..start + k]
 }
