@@ -1,23 +1,22 @@
 -- Bindings of one cycle: those that `bind` gives where nothing is left to unroll, and those on other nets.
-use Rattle.std.proofs.Common.{◌≡◌, ◌∙◌, ap, sym, refl, inl, inr, ⊎_elim, subst, ℕ, zero, suc, ◌<◌, ◌≤◌, ◌+◌, ◌*◌, List, [], ◌∷◌, ◌++◌, length, map, take, drop, filter, not, cond, true, false, Bool, Some, get_or, arith, All, mul-suc, mul-le-mul_left, below_more, append-nil, append_assoc, drop_of_length-le}
+use Rattle.std.proofs.Common.{◌≡◌, ◌∙◌, ap, sym, refl, inl, inr, ⊎_elim, subst, ℕ, zero, suc, ◌<◌, ◌≤◌, ◌+◌, ◌*◌, List, [], ◌∷◌, ◌++◌, length, map, take, drop, filter, not, cond, true, false, Bool, Some, get_or, arith, All, mul-suc, mul-le-mul_left, append-nil, append_assoc, drop_of_length-le}
 use Rattle.std.specs.Prelude.{◌↔◌, IsTrue, slice_get}
-use Rattle.std.proofs.lemmas.Bool.{cases_lt}
+use Rattle.std.proofs.lemmas.Bool.{cases_lt, true≢false}
 use Rattle.std.proofs.lemmas.List.{drop_more}
 use Rattle.std.proofs.lemmas.Option.{slice_get-get_or}
 use Rattle.graph_core.specs.Walk.{IsChain}
-use Rattle.net_core.specs.Lists.{Has, times}
+use Rattle.net_core.specs.Lists.{Has}
 use Rattle.net_core.specs.LatchValue.{LatchValue}
 use Rattle.net_core.specs.NetList.{NetList, nets}
 use Rattle.net_core.specs.Sound.{Needs}
 use Rattle.net_core.proofs.DriverLemmas.{All_has}
-use Rattle.net_words.specs.Binding.{Binding, HasWidth, IsBinding}
+use Rattle.net_words.specs.Binding.{Binding, IsBinding}
 use Rattle.net_words.specs.BoundTo.{StandsOn, IsBoundTo, output_bits}
 use Rattle.net_words.specs.Feeds.{fed_nets}
 use Rattle.net_words.specs.OneCycle.{IsFlat, IsClosed, IsOneCycle}
 use Rattle.net_words.specs.Reach.{Draws, Reaches, ReachesByGates}
 use Rattle.net_words.specs.Rebind.{AreNets, rebinding, rebound}
 use Rattle.net_words.specs.Roles.{same_role}
-use Rattle.net_words.specs.Variables.{bits}
 use Rattle.net_words.specs.declared.bound.BoundWord.{BoundWord}
 use Rattle.net_words.specs.declared.feed.Feed.{Feed}
 use Rattle.net_words.specs.declared.word.Role.{Role}
@@ -132,32 +131,21 @@ HaveNetsTo k words w = (v : ℕ) (word : BoundWord) → v < w → slice_get word
 abbrev pub Tells : ℕ → List BoundWord → ℕ → Bool → Type 0
 Tells k words w b = (word : BoundWord) → slice_get words w ≡ Some word → IsTrue b ↔ (length word.nets ≡ k)
 
-is_true : (b : Bool) → b ≡ true → IsTrue b
-is_true true e = tt
-is_true false e = absurd (cc)
-
-is_false : (b : Bool) → not b ≡ true → IsTrue b → ⊥
-is_false true e t = absurd (cc)
-is_false false e t = t
-
-pub have_more : (k : ℕ) (words : List BoundWord) (w : ℕ) (b : Bool) → Tells k words w b → not b ≡ false → HaveNetsTo k words w → HaveNetsTo k words (w + 1)
+pub have_more : (k : ℕ) (words : List BoundWord) (w : ℕ) (b : Bool) → Tells k words w b → b ≡ true → HaveNetsTo k words w → HaveNetsTo k words (w + 1)
 have_more k words w b tells is so_far v word less at =
-    ⊎_elim (λ before. so_far v word before at) (λ past. own v (omega arith) at) (cases_lt v w)
+    ⊎_elim (λ before. so_far v word before at) (λ past. own (omega arith)) (cases_lt v w)
   where
-    own : (u : ℕ) → u ≡ w → slice_get words u ≡ Some word → length word.nets ≡ k
-    own u same got = let P : ℕ → Type 0 = λ j. slice_get words j ≡ Some word in (tells word (subst P same got)).0 (is_true b (yes_it b is))
-      where
-        yes_it : (a : Bool) → not a ≡ false → a ≡ true
-        yes_it true e = refl
-        yes_it false e = absurd (cc)
+    own : v ≡ w → length word.nets ≡ k
+    own same = let P : ℕ → Type 0 = λ j. slice_get words j ≡ Some word in (tells word (subst P same at)).0 is
 
 pub have_all : (k : ℕ) (words : List BoundWord) (w : ℕ) → length words ≤ w → HaveNetsTo k words w → All (λ word. length word.nets ≡ k) words
 have_all k words w past so_far i d below = so_far i (get_or words i d) (omega arith) (slice_get-get_or words i d below)
 
-pub has_no_nets : (k : ℕ) (words : List BoundWord) (w : ℕ) (b : Bool) → w < length words → Tells k words w b → not b ≡ true → All (λ word. length word.nets ≡ k) words → ⊥
+pub has_no_nets : (k : ℕ) (words : List BoundWord) (w : ℕ) (b : Bool) → w < length words → Tells k words w b → b ≡ false → All (λ word. length word.nets ≡ k) words → ⊥
 has_no_nets k words w b less tells is all =
     let word = some_word words w less in
-    is_false b is ((tells word.0 word.1).1 (All_has (λ (u : BoundWord). length u.nets ≡ k) words word.0 all (w, word.1)))
+    let hit : b ≡ true = (tells word.0 word.1).1 (All_has (λ (u : BoundWord). length u.nets ≡ k) words word.0 all (w, word.1)) in
+    true≢false (sym hit ∙ is)
   where
     some_word : (ws : List BoundWord) (i : ℕ) → i < length ws → (x : BoundWord) × (slice_get ws i ≡ Some x)
     some_word [] i l = absurd (omega arith)
@@ -170,12 +158,12 @@ part_within k w n less = let more : k * suc w ≤ k * n = mul-le-mul_left {m = s
 
 drop_drop : (a b : ℕ) (list : List ℕ) → drop a (drop b list) ≡ drop (b + a) list
 drop_drop a zero list = ap (λ n. drop n list) (omega arith)
-drop_drop a (suc b) [] = nothing a
+drop_drop a (suc b) [] = nothing a ∙ sym (nothing (suc b + a))
   where
     nothing : (n : ℕ) → ◌≡◌ {A = List ℕ} (drop n []) []
     nothing zero = refl
     nothing (suc n) = refl
-drop_drop a (suc b) (x ∷ xs) = drop_drop a b xs
+drop_drop a (suc b) (x ∷ xs) = let e : suc (b + a) ≡ suc b + a = omega arith in drop_drop a b xs ∙ ap (λ n. drop n (x ∷ xs)) e
 
 -- one more word on its nets
 pub rebound_step : (k : ℕ) (words : List BoundWord) (list : List ℕ) (before new : List BoundWord) (w : ℕ) (made : BoundWord) → w < length words → ((word : BoundWord) → slice_get words w ≡ Some word → made ≡ record { name = word.name; role = word.role; nets = take k (drop (k * w) list) }) → new ≡ before ++ made ∷ [] → before ++ rebound k (drop w words) (drop (k * w) list) ≡ rebound k words list → new ++ rebound k (drop (w + 1) words) (drop (k * (w + 1)) list) ≡ rebound k words list

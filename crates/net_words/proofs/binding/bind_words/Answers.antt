@@ -1,4 +1,4 @@
-use Rattle.std.proofs.Common.{◌≡◌, ◌⊎◌, ◌≤◌, inl, inr, sym, subst, ⊎_elim, refl, rules, length, arith}
+use Rattle.std.proofs.Common.{◌≡◌, ◌⊎◌, sym, subst, ⊎_elim, refl, rules, length, arith}
 use Rattle.net_words.specs.declared.bound.BoundWord.{BoundWord}
 use Rattle.net_words.specs.declared.word.Role.TheVariants.{Fed}
 use Rattle.net_words.specs.declared.word.WordText.{WordText}
@@ -18,5 +18,5 @@ loop-i-preserved c =
     let bound : BoundWord = record { name = c.in_ok-new.field-0; role = word.role; nets = c.new-in-loop-i.result } in (
       search rules,
       λ outcome rest. c.loop-i.invariant.1 outcome
-          (words_step c.args.net.now c.loop-i.taken.items c.bind_word.new.taken.items c.loop-i.bound.items c.push.new.self.items c.args.words.now c.loop-i.i word word bound c.in_ok-nets.nets.items outcome c.loop-i-test.true c.loop-i.invariant.0 c.index-words-i.is c.in_ok-nets.ensures (rw (c.in_ok-new.ensures, c.as_str.ensures, c.new-in-loop-i.ensures) refl) c.in_ok-push.ensures.items rest),
+          (words_step c.args.net.now c.loop-i.taken.items c.bind_word.new.taken.items c.loop-i.bound.items c.push.new.self.items c.args.words.now c.loop-i.i word word bound c.in_ok-nets.nets.items outcome c.loop-i-test.true c.loop-i.invariant.0 c.index-words-i.is c.in_ok-nets.ensures.fits (rw (c.in_ok-new.ensures, c.as_str.ensures, c.new-in-loop-i.ensures) refl) c.in_ok-push.ensures.items rest),
     )

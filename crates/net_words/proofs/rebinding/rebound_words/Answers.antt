@@ -1,5 +1,4 @@
-use Rattle.std.proofs.Common.{◌∙◌, refl, sym, ap, ◌++◌, ◌*◌, drop, append-nil, drop_of_length-le, arith}
-use Rattle.net_words.specs.Rebind.{rebound}
+use Rattle.std.proofs.Common.{arith}
 use Rattle.net_words.proofs.FlatLemmas.{rebound_step, rebound_end}
 use Rattle.net_words.proofs.rebinding.rebound_words.Goals as goal
 
