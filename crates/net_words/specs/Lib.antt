@@ -1,7 +1,10 @@
 pub mod Roles
+pub mod Feeds
 pub mod Binding
 pub mod Bind
 pub mod BindReading
 pub mod Variables
 pub mod Reach
 pub mod BoundTo
+pub mod OneCycle
+pub mod Rebind

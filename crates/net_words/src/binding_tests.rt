@@ -1,16 +1,18 @@
 //! Bindings that are taken and refused.
-ghost use Rattle.std.specs.Prelude.{◌≡◌, ◌↔◌, ℕ, length, filter, All, IsTrue};
+ghost use Rattle.std.specs.Prelude.{◌≡◌, ◌⊎◌, ◌↔◌, ℕ, Some, length, filter, map, slice_get, All, IsTrue};
 ghost use Rattle.net_words.specs.Binding.{AreWords};
+ghost use Rattle.net_words.specs.Feeds.{AreFeeds, IsSource};
 ghost use Rattle.net_words.specs.Roles.{is_output as is_output_word, input_count as count_inputs};
+ghost use Rattle.net_words.specs.declared.word.Role.TheVariants.{Fed};
 
-use crate::{BasisText, Role, WordText, bind};
+use crate::{BasisText, FeedText, Role, Source, WordText, bind};
 use net_core::{Name, Names, Net, NetFault, NetMaker, Start};
 use std::alloc::{AllocError, Global};
 use std::test::Fail;
 use text_core::{plain_text, tokens};
 
 // The net z = a & b, in which c drives nothing.
-fn conjunction(alloc: Global) -> Result<Net, NetFault> {
+pub(crate) fn conjunction(alloc: Global) -> Result<Net, NetFault> {
     let mut maker = NetMaker::new(alloc);
     let a = maker.net("a")?;
     let b = maker.net("b")?;
@@ -24,7 +26,7 @@ fn conjunction(alloc: Global) -> Result<Net, NetFault> {
 }
 
 // A latch q with an unknown start that holds a, and a latch r with a known one that holds z = q.
-fn latches(alloc: Global) -> Result<Net, NetFault> {
+pub(crate) fn latches(alloc: Global) -> Result<Net, NetFault> {
     let mut maker = NetMaker::new(alloc);
     let a = maker.net("a")?;
     let q = maker.net("q")?;
@@ -55,6 +57,7 @@ fn word_of(alloc: Global, line: u32, name: &[u8], nets: &[&[u8]]) -> Result<Word
     let role = match name {
         [b'I', ..] => Role::Input,
         [b'S', ..] => Role::State,
+        [b'F', ..] => Role::Fed,
         _ => Role::Output,
     };
     Ok(WordText {
@@ -78,8 +81,26 @@ fn name_of(alloc: Global, token: &[u8]) -> Result<Name, AllocError> {
     Name::new(alloc, plain_text(token).unwrap_or(""))
 }
 
-pub(crate) fn can_be_bound(words: &[WordText]) -> bool
-    ensures { IsTrue result → (k : ℕ) × AreWords k words.now }
+// Whether words and at most two feeds can be bound.
+pub(crate) fn can_be_bound(words: &[WordText], feeds: &[FeedText]) -> bool
+    ensures { IsTrue result → (k : ℕ) × AreWords k words.now × AreFeeds k (map (λ word. word.role) words.now) feeds.now }
+{
+    let k = width(words);
+    are_words(words, k) && are_feeds(words, k, feeds)
+}
+
+// How many nets the first word has that is not fed.
+fn width(words: &[WordText]) -> usize {
+    for word in words {
+        if word.role != Role::Fed {
+            return word.nets.as_slice().len();
+        }
+    }
+    0
+}
+
+fn are_words(words: &[WordText], k: usize) -> bool
+    ensures { IsTrue result → AreWords k words.now }
 {
     if words.len() < 1 || words.len() > 9 {
         return false;
@@ -87,7 +108,6 @@ pub(crate) fn can_be_bound(words: &[WordText]) -> bool
     if output_count(words) != 1 || input_count(words) > 8 {
         return false;
     }
-    let k = words[0].nets.as_slice().len();
     if k < 1 || k > 64 {
         return false;
     }
@@ -112,19 +132,90 @@ fn input_count(words: &[WordText]) -> usize
     words.iter().filter(|word| !is_output(word)).count()
 }
 
-fn have_nets(words: &[WordText], k: usize) -> bool
-    ensures { IsTrue result ↔ All (λ word. length word.nets ≡ k) words.now }
+fn has_nets(word: &WordText, k: usize) -> bool
+    ensures { IsTrue result ↔ ((length word.now.nets ≡ k) ⊎ (word.now.role ≡ Fed)) }
 {
-    words.iter().all(|word| word.nets.as_slice().len() == k)
+    word.nets.as_slice().len() == k || word.role == Role::Fed
+}
+
+fn have_nets(words: &[WordText], k: usize) -> bool
+    ensures { IsTrue result ↔ All (λ word. (length word.nets ≡ k) ⊎ (word.role ≡ Fed)) words.now }
+{
+    words.iter().all(|word| has_nets(word, k))
+}
+
+fn are_feeds(words: &[WordText], k: usize, feeds: &[FeedText]) -> bool
+    ensures { IsTrue result → AreFeeds k (map (λ word. word.role) words.now) feeds.now }
+{
+    match feeds {
+        [] => true,
+        [feed] => has_source(words, k, feed.source),
+        [first, second] => {
+            has_source(words, k, first.source)
+                && has_source(words, k, second.source)
+                && first.net.as_str() != second.net.as_str()
+        }
+        _ => false,
+    }
+}
+
+fn has_source(words: &[WordText], k: usize, source: Source) -> bool
+    ensures { IsTrue result → IsSource k (map (λ word. word.role) words.now) source }
+{
+    match source {
+        Source::Zero | Source::One => true,
+        Source::Bit { word, place } => (place as usize) < k && is_fed(words, word as usize),
+    }
+}
+
+fn is_fed(words: &[WordText], w: usize) -> bool
+    ensures { IsTrue result → slice_get (map (λ word. word.role) words.now) w ≡ Some Fed }
+{
+    w < words.len() && words[w].role == Role::Fed
+}
+
+// The feeds of these lines.
+pub(crate) fn feeds_of(
+    alloc: Global,
+    rows: &[(u32, &str, Source)],
+) -> Result<Vec<FeedText>, AllocError> {
+    let mut feeds = Vec::new(alloc);
+    for &(line, net, source) in rows {
+        feeds.push(FeedText {
+            line,
+            net: Name::new(alloc, net)?,
+            cycle: 0,
+            source,
+        })?;
+    }
+    Ok(feeds)
+}
+
+// What comes of the words of a text and of these feeds: the fault's text, or how many words are bound.
+pub(crate) fn fed_outcome(
+    alloc: Global,
+    net: &Net,
+    text: &[u8],
+    rows: &[(u32, &str, Source)],
+) -> Result<String, AllocError> {
+    let words = words_of(alloc, text)?;
+    let feeds = feeds_of(alloc, rows)?;
+    if !can_be_bound(&words, &feeds) {
+        return format!(in alloc; "no words");
+    }
+    match bind(alloc, &words, &feeds, net) {
+        Ok(bound) => format!(in alloc; "{} words, {} feeds", bound.words(), bound.feeds().len()),
+        Err(fault) => format!(in alloc; "{fault}"),
+    }
 }
 
 // What comes of the words of a text: the fault's text, or how many words are bound.
 fn outcome(alloc: Global, net: &Net, text: &[u8]) -> Result<String, AllocError> {
     let words = words_of(alloc, text)?;
-    if !can_be_bound(&words) {
+    if !can_be_bound(&words, &[]) {
         return format!(in alloc; "no words");
     }
-    match bind(alloc, &words, net) {
+    match bind(alloc, &words, &[], net) {
         Ok(bound) => format!(in alloc; "{} words", bound.words()),
         Err(fault) => format!(in alloc; "{fault}"),
     }

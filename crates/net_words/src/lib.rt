@@ -1,5 +1,5 @@
 //! Words over nets: the types of a signature's words, and their binding to the nets of a netlist.
-//! `bind` finds the nets, and `Combinational` is a net without latches with its words.
+//! `bind` finds the nets, `rebind` puts the words on other nets, and `Combinational` is a net of one cycle with its words.
 #![tactic(auto)]
 
 mod binding;
@@ -8,10 +8,15 @@ mod binding_tests;
 mod bound;
 mod combinational;
 mod feed;
+#[cfg(test)]
+mod feed_tests;
+mod feeds;
 mod laws;
 mod marks;
+mod order;
 #[cfg(test)]
 mod rank_tests;
+mod rebinding;
 mod variables;
 mod word;
 
@@ -19,5 +24,9 @@ pub use binding::{BindFault, bind};
 pub use bound::Bound;
 pub use combinational::Combinational;
 pub use feed::{Feed, FeedText, Source};
-pub use laws::{each_net_has_one_rank, one_binding_or_fault, ranks_and_nets_are_one_to_one};
+pub use laws::{
+    each_net_has_one_rank, flat_bindings_are_of_one_cycle, one_binding_or_fault,
+    ranks_and_nets_are_one_to_one, what_is_bound_stands_on_its_net,
+};
+pub use rebinding::rebind;
 pub use word::{BasisText, Role, WordText};

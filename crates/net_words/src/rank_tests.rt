@@ -59,10 +59,10 @@ fn add_sums(maker: &mut NetMaker) -> Result<(), NetFault> {
 
 // The net with the words that can be bound to it.
 fn circuit(alloc: Global, words: &[WordText], net: Net) -> Option<Combinational> {
-    if !can_be_bound(words) {
+    if !can_be_bound(words, &[]) {
         return None;
     }
-    match bind(alloc, words, &net) {
+    match bind(alloc, words, &[], &net) {
         Ok(bound) => Combinational::new(net, bound).ok(),
         Err(_fault) => None,
     }
