@@ -53,7 +53,7 @@ module _ (c : Circuit) (well : IsWellFormed c) (xs : List ℕ) (input : IsInput 
     input_same : (u v : List Bool) → IsCycle c xs u → IsCycle c xs v → AgreeOutside u v → (n : ℕ) → Has c.net.inputs n → C n → bit_of v n ≡ bit_of u n
     input_same u v a b outside n has in_c =
         elim (has_or (word_nets c.words) n) [
-          | inl named ↦ in_word IsInputWord u v a.inputs b.inputs n named (λ w in_words in_w. role_input c.net w.role n well.sound (well.places w n in_words in_w) has)
+          | inl named ↦ in_word IsInputWord u v a.inputs b.inputs n named (λ w in_words in_w. role_input c.net w.role n well.sound (well.inner w in_words) (well.places w n in_words in_w) has)
           | inr none ↦ outside n has none in_c
         ]
 

@@ -1,5 +1,5 @@
 -- Small worked examples of the order of inputs by their bits that are 1, which the check computes.
-use Rattle.std.proofs.Common.{◌≡◌, ℕ, List, [], ◌∷◌, refl}
+use Rattle.std.proofs.Common.{◌≡◌, [], ◌∷◌, refl}
 use Rattle.std.specs.declared.cmp.Ordering.TheVariants.{Less, Equal}
 use Rattle.circuit_model.specs.Ones.{ones_cmp}
 

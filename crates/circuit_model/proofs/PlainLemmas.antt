@@ -1,5 +1,5 @@
 -- Evaluation gives the output.
-use Rattle.std.proofs.Common.{◌≡◌, ◌∙◌, ap, sym, refl, subst, ℕ, zero, suc, ◌<◌, ◌≤◌, ◌+◌, ◌^◌, Bool, true, false, List, [], ◌∷◌, length, get_or, map, Option, None, Some, IfSome, arith}
+use Rattle.std.proofs.Common.{◌≡◌, ◌≢◌, ◌∙◌, ap, sym, refl, subst, ℕ, zero, suc, ◌<◌, ◌≤◌, ◌+◌, ◌^◌, Bool, true, false, List, [], ◌∷◌, length, get_or, map, Option, None, Some, IfSome, arith}
 use Rattle.std.specs.Prelude.{slice_get, unwrap_or, eqb, IsSome, ◌==◌}
 use Rattle.std.specs.Int.{bit_at}
 use Rattle.std.specs.Option.{option_eq}
@@ -12,14 +12,15 @@ use Rattle.net_core.specs.Lists.{Has}
 use Rattle.net_core.specs.Value.{bit_of, IsConsistent, HasValues}
 use Rattle.net_core.proofs.DriverLemmas.{Has_left, Has_right, from_map}
 use Rattle.graph_core.proofs.ListLemmas.{get_below}
+use Rattle.net_words.specs.BoundTo.{StandsOn}
 use Rattle.net_words.specs.declared.word.Role.{Role}
-use Rattle.net_words.specs.declared.word.Role.TheVariants.{Input, State, Output}
+use Rattle.net_words.specs.declared.word.Role.TheVariants.{Input, State, Fed, Output}
 use Rattle.gf_basis.specs.Basis.{AreBits, HasOnlyBits}
 use Rattle.gf_basis.specs.BasisParts.{elements_of}
 use Rattle.circuit_model.specs.declared.circuit_word.CircuitWord.{CircuitWord}
 use Rattle.circuit_model.specs.Word.{Word, HasElement, word_nets}
 use Rattle.circuit_model.specs.Circuit.{Circuit}
-use Rattle.circuit_model.specs.WellFormed.{IsWellFormed, IsWord, StandsOn}
+use Rattle.circuit_model.specs.WellFormed.{IsWellFormed, IsWord}
 use Rattle.circuit_model.specs.Run.{HaveElements, IsInputWord, IsAnyWord, IsCycle, IsFirst, HasZeros}
 use Rattle.circuit_model.specs.Out.{IsOut}
 use Rattle.circuit_model.specs.Flat.{word_of, circuit_of_parts}
@@ -114,12 +115,13 @@ module _ (k : ℕ) (product : ℕ → ℕ → ℕ) (net : NetList) (words : List
     ends = record { last = bits; at = refl; element = ends };
   }
 
-  stands_input : net.latches ≡ [] → (role : Role) (n : ℕ) → StandsOn net role n → Has net.inputs n
-  stands_input flat Input n stands = stands
-  stands_input flat State n stands =
+  stands_input : net.latches ≡ [] → (role : Role) (n : ℕ) → role ≢ Output → StandsOn net role n → Has net.inputs n
+  stands_input flat Input n inner stands = stands
+  stands_input flat State n inner stands =
       let found = from_map (λ (l : LatchValue). l.out) net.latches stands.0 n stands.1 in
       absurd (no_latch flat found.0 (stands.0, found.1))
-  stands_input flat Output n stands = absurd stands
+  stands_input flat Fed n inner stands = absurd stands
+  stands_input flat Output n inner stands = absurd (inner refl)
 
   -- in a well-formed circuit each word has its element, where the inputs have the bits of the words
   pub plain_all : net.latches ≡ [] → IsWellFormed circuit → ((x : ℕ) → Has xs x → x < 2 ^ k) → length values ≡ length net.inputs → HasValues net values bits → HaveBits words xs net.inputs values → HaveAll words xs bits
@@ -145,7 +147,7 @@ module _ (k : ℕ) (product : ℕ → ℕ → ℕ) (net : NetList) (words : List
 
       each : (place n : ℕ) → slice_get w.nets.items place ≡ Some n → bit_of bits n ≡ (bit_at only.choice place == 1)
       each place n in_w =
-          let input = stands_input flat w.role n (well.places (word_of w) n in_words (place, in_w)) in
+          let input = stands_input flat w.role n (well.inner (word_of w) in_words) (well.places (word_of w) n in_words (place, in_w)) in
           let v = get_below values input.0 (omega (arith, slice_get_within net.inputs input.0 n input.1)) in
           let bit = have input.0 n v.0 input.1 v.1 (well.once n) i place w x got at in_w in
           same_bit (bit_of bits n) v.0 bit.0 only.choice place (ap (λ o. unwrap_or o false) (has input.0 n v.0 input.1 v.1)) bit.2 (only.only bit.0 bit.1)

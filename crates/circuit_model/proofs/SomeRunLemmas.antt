@@ -8,10 +8,11 @@ use Rattle.net_core.specs.Lists.{Has, times}
 use Rattle.net_core.specs.Value.{bit_of, IsConsistent}
 use Rattle.net_core.proofs.DriverLemmas.{Has_left, Has_right, Has_map}
 use Rattle.net_core.proofs.ExistLemmas.{sound_some}
+use Rattle.net_words.specs.BoundTo.{StandsOn}
 use Rattle.net_words.specs.declared.word.Role.{Role}
 use Rattle.circuit_model.specs.Word.{Word, word_nets}
 use Rattle.circuit_model.specs.Circuit.{Circuit, IsInNoWord, IsInput}
-use Rattle.circuit_model.specs.WellFormed.{IsWellFormed, StandsOn}
+use Rattle.circuit_model.specs.WellFormed.{IsWellFormed}
 use Rattle.circuit_model.specs.Run.{IsInputWord, IsCycle, IsFirst, IsNext, HasZeros, IsStart, IsRun}
 use Rattle.circuit_model.proofs.GivenLemmas.{Pairs, keys, given, given_not, given_has, bits_by, bits_long, bits_at}
 use Rattle.circuit_model.proofs.WordLemmas.{has_word}
@@ -39,7 +40,7 @@ module _ (c : Circuit) (well : IsWellFormed c) (xs : List ℕ) (input : IsInput 
   named_source : (n : ℕ) → Has (word_nets c.words) n → Has (sources c.net) n
   named_source n has =
       let found = find_word c.words n has in
-      stands_source c.net found.1.role n (well.places found.1 n (found.0, found.2) found.3)
+      stands_source c.net found.1.role n (well.inner found.1 (found.0, found.2)) (well.places found.1 n (found.0, found.2) found.3)
 
   words_once : (n : ℕ) → times n (keys ps) ≤ 1
   words_once n = let P : List ℕ → Type 0 = λ ns. times n ns ≤ 1 in subst P (sym named) (well.once n)

@@ -9,14 +9,14 @@ use Rattle.net_core.specs.Sound.{IsSound, sources}
 use Rattle.net_core.specs.Lists.{Has, times}
 use Rattle.net_core.specs.declared.latch.Start.{Start}
 use Rattle.net_core.specs.declared.latch.Start.TheVariants.{Zero, One, Unknown}
+use Rattle.net_words.specs.BoundTo.{StandsOn}
 use Rattle.net_words.specs.declared.word.Role.{Role}
-use Rattle.net_words.specs.declared.word.Role.TheVariants.{Input, State, Output}
+use Rattle.net_words.specs.declared.word.Role.TheVariants.{Input, State, Fed, Output}
 use Rattle.net_core.proofs.DriverLemmas.{Has_left, Has_right, Has_cases, All_has, times_get, times_append}
 use Rattle.net_core.proofs.LevelLemmas.{sources_inside}
 use Rattle.graph_core.proofs.ListLemmas.{get_below}
 use Rattle.circuit_model.specs.Word.{Word, word_nets}
 use Rattle.circuit_model.specs.Circuit.{Circuit, IsInput}
-use Rattle.circuit_model.specs.WellFormed.{StandsOn}
 use Rattle.circuit_model.specs.Run.{IsStart}
 use Rattle.circuit_model.proofs.GivenLemmas.{has_or, none_times}
 
@@ -50,15 +50,17 @@ latches_once net sound n =
       | inr none ↦ omega (arith, none_times n (latch_outs net) none)
     ]
 
-pub role_input : (net : NetList) (r : Role) (n : ℕ) → IsSound net → StandsOn net r n → Has net.inputs n → r ≡ Input
-role_input net Input n sound stands input = refl
-role_input net State n sound stands input = absurd (not_both net sound n input stands)
-role_input net Output n sound stands input = absurd stands
+pub role_input : (net : NetList) (r : Role) (n : ℕ) → IsSound net → r ≢ Output → StandsOn net r n → Has net.inputs n → r ≡ Input
+role_input net Input n sound inner stands input = refl
+role_input net State n sound inner stands input = absurd (not_both net sound n input stands)
+role_input net Fed n sound inner stands input = absurd stands
+role_input net Output n sound inner stands input = absurd (inner refl)
 
-pub stands_source : (net : NetList) (r : Role) (n : ℕ) → StandsOn net r n → Has (sources net) n
-stands_source net Input n stands = Has_left net.inputs (latch_outs net) n stands
-stands_source net State n stands = Has_right net.inputs (latch_outs net) n stands
-stands_source net Output n stands = absurd stands
+pub stands_source : (net : NetList) (r : Role) (n : ℕ) → r ≢ Output → StandsOn net r n → Has (sources net) n
+stands_source net Input n inner stands = Has_left net.inputs (latch_outs net) n stands
+stands_source net State n inner stands = Has_right net.inputs (latch_outs net) n stands
+stands_source net Fed n inner stands = absurd stands
+stands_source net Output n inner stands = absurd (inner refl)
 
 pub start_bit : Start → Bool
 start_bit Zero = false

@@ -1,22 +1,24 @@
--- The circuit of a net list without latches and of the words that are bound to it. Source: this project's own.
+-- The circuit of a net list in one cycle and of the words that are bound to it: all its words are on primary inputs, and so
+-- input words of the circuit. Source: this project's own.
 use Rattle.std.specs.Prelude.{◌≡◌, ℕ, List, [], ◌∷◌, ◌++◌, length}
 use Rattle.net_core.specs.Lists.{Has}
 use Rattle.net_words.specs.Binding.{BoundNet}
 use Rattle.net_words.specs.BoundTo.{output_bits}
 use Rattle.net_words.specs.declared.bound.BoundWord.{BoundWord}
 use Rattle.net_words.specs.declared.word.Role.{Role}
-use Rattle.net_words.specs.declared.word.Role.TheVariants.{Input, State, Output}
+use Rattle.net_words.specs.declared.word.Role.TheVariants.{Input, State, Fed, Output}
 use Rattle.gf_basis.specs.Basis.{IsBasis}
 use Rattle.circuit_model.specs.Word.{Word}
 use Rattle.circuit_model.specs.Circuit.{Circuit}
 
--- the word that a bound word adds to the input and state words
+-- the word that a bound word adds to the input words of the circuit
 abbrev pub word_with : Role → List ℕ → List ℕ → List Word
 word_with Input nets basis = record { role = Input; nets = nets; basis = basis } ∷ []
-word_with State nets basis = record { role = State; nets = nets; basis = basis } ∷ []
+word_with State nets basis = record { role = Input; nets = nets; basis = basis } ∷ []
+word_with Fed nets basis = record { role = Input; nets = nets; basis = basis } ∷ []
 word_with Output nets basis = []
 
--- the input and state words, with their bases out of a list of one basis for each word
+-- the input, state and fed words, with their bases out of a list of one basis for each word
 abbrev pub words_of : List BoundWord → List (List ℕ) → List Word
 words_of [] bases = []
 words_of (word ∷ words) [] = []
@@ -26,6 +28,7 @@ words_of (word ∷ words) (basis ∷ bases) = word_with word.role word.nets basi
 abbrev pub output_basis_with : Role → List ℕ → List ℕ → List ℕ
 output_basis_with Input basis other = other
 output_basis_with State basis other = other
+output_basis_with Fed basis other = other
 output_basis_with Output basis other = basis
 
 -- the basis of the first output word, out of a list of one basis for each word

@@ -1,13 +1,12 @@
 -- What makes a circuit well-formed. Source: this project's own.
-use Rattle.std.specs.Prelude.{◌≡◌, ◌≢◌, ℕ, ◌≤◌, length, map}
-use Rattle.net_core.specs.NetList.{NetList}
+use Rattle.std.specs.Prelude.{◌≡◌, ◌≢◌, ℕ, ◌≤◌, length}
 use Rattle.net_core.specs.LatchValue.{LatchValue}
 use Rattle.net_core.specs.Sound.{IsSound}
 use Rattle.net_core.specs.Lists.{Has, times}
 use Rattle.net_core.specs.declared.latch.Start.TheVariants.{Unknown}
+use Rattle.net_words.specs.BoundTo.{StandsOn}
 use Rattle.net_words.specs.Reach.{Reaches}
-use Rattle.net_words.specs.declared.word.Role.{Role}
-use Rattle.net_words.specs.declared.word.Role.TheVariants.{Input, State, Output}
+use Rattle.net_words.specs.declared.word.Role.TheVariants.{Output}
 use Rattle.gf_field.specs.Ring.{IsRing}
 use Rattle.gf_field.specs.Field.{HasNoZeroDivisors}
 use Rattle.gf_basis.specs.Basis.{IsBasis}
@@ -19,21 +18,15 @@ pub record IsWord (k : ℕ) (word : Word) : Type 0 where
   pub nets : length word.nets ≡ k
   pub basis : IsBasis k word.basis
 
--- an input word's net is a primary input, a state word's net is the output of a latch
-abbrev pub StandsOn : NetList → Role → ℕ → Type 0
-StandsOn net Input n = Has net.inputs n
-StandsOn net State n = Has (map (λ l. l.out) net.latches) n
-StandsOn net Output n = ⊥
-
 -- The field is one and the net list is sound; there are at most 8 input and state words; each word has k nets and a basis;
--- no net stands twice in input and state words, which stand on primary inputs and on outputs of latches; the output word's
--- nets exist; each latch in no word has a start; and a primary input in no word reaches no bit of the output word.
+-- no net stands twice in input and state words, and each stands on what its role asks for; the output word's nets exist; each latch in no word has a start; and a primary input in no word reaches no bit of the output word.
 pub record IsWellFormed (circuit : Circuit) : Type 0 where
   pub ring : IsRing circuit.k circuit.product
   pub no_zero_divisors : HasNoZeroDivisors circuit.k circuit.product
   pub sound : IsSound circuit.net
   pub few : length circuit.words ≤ 8
   pub words : (w : Word) → Has circuit.words w → IsWord circuit.k w
+  pub inner : (w : Word) → Has circuit.words w → w.role ≢ Output
   pub once : (n : ℕ) → times n (word_nets circuit.words) ≤ 1
   pub places : (w : Word) (n : ℕ) → Has circuit.words w → Has w.nets n → StandsOn circuit.net w.role n
   pub output : IsWord circuit.k circuit.output

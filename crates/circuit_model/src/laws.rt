@@ -1,13 +1,16 @@
 //! Laws of circuits. These functions do nothing: their contracts are proved of the definitions alone.
-ghost use Rattle.std.specs.Prelude.{◌≡◌, ◌<◌, ◌^◌, ◌↔◌, not, Bool, List, ℕ, Ok, filter, length};
+ghost use Rattle.std.specs.Prelude.{◌≡◌, ◌<◌, ◌^◌, ◌↔◌, not, Bool, List, ℕ, Ok, filter, length, map};
 ghost use Rattle.net_core.specs.Lists.{Has};
 ghost use Rattle.net_core.specs.NetList.{NetList};
 ghost use Rattle.net_core.specs.Sound.{IsSound};
-ghost use Rattle.net_words.specs.Bind.{same_role, BindingOf};
+ghost use Rattle.net_words.specs.Bind.{BindingOf};
 ghost use Rattle.net_words.specs.Binding.{Binding, BoundNet, AreWords};
-ghost use Rattle.net_words.specs.BoundTo.{IsBoundTo};
+ghost use Rattle.net_words.specs.Feeds.{AreFeeds};
+ghost use Rattle.net_words.specs.OneCycle.{IsFlat, IsOneCycle};
+ghost use Rattle.net_words.specs.Roles.{same_role};
 ghost use Rattle.net_words.specs.Variables.{bits};
 ghost use Rattle.net_words.specs.declared.bound.BoundWord.{BoundWord};
+ghost use Rattle.net_words.specs.declared.feed.FeedText.{FeedText};
 ghost use Rattle.net_words.specs.declared.word.Role.TheVariants.{Output};
 ghost use Rattle.net_words.specs.declared.word.WordText.{WordText};
 ghost use Rattle.gf_basis.specs.Basis.{IsBasis};
@@ -39,19 +42,19 @@ pub fn output_of_open_runs()
     ensures { (circuit : Circuit) (xs : List ℕ) (run : List (List Bool)) (e : ℕ) → IsWellFormed circuit → IsOpenRun circuit xs run → Ends circuit run e ↔ IsOut circuit xs e }
 {}
 
-/// The circuit of words that are bound to a sound net list, with one basis of the field for each, is well-formed; its
-/// input and state words are those of the binding, and so are their bits.
+/// The circuit of words that are bound to a sound net list in one cycle, with one basis of the field for each, is
+/// well-formed; its words are the input, state and fed words of the binding, and so are their bits.
 pub fn bound_circuits_are_well_formed()
-    ensures well_formed { (k : ℕ) (product : ℕ → ℕ → ℕ) (bound : BoundNet) (bases : List (List ℕ)) → IsRing k product → HasNoZeroDivisors k product → IsSound bound.net → IsBoundTo bound.net bound.bound → bound.bound.k ≡ k → HaveBases k bound.bound.words bases → IsWellFormed (circuit_with k product bound bases) }
+    ensures well_formed { (k : ℕ) (product : ℕ → ℕ → ℕ) (bound : BoundNet) (bases : List (List ℕ)) → IsRing k product → HasNoZeroDivisors k product → IsSound bound.net → IsOneCycle bound.net bound.bound → bound.bound.k ≡ k → HaveBases k bound.bound.words bases → IsWellFormed (circuit_with k product bound bases) }
     ensures bits { (words : List BoundWord) (bases : List (List ℕ)) → length bases ≡ length words → word_nets (words_of words bases) ≡ bits words }
     ensures count { (words : List BoundWord) (bases : List (List ℕ)) → length bases ≡ length words → length (words_of words bases) ≡ length (filter (λ word. not (same_role word.role Output)) words) }
 {}
 
-/// The circuit of a sound net list to which words are bound, by what comes of binding them, is well-formed where each of
-/// these words has a basis of the field; and as many words are bound.
+/// The circuit of a sound net list to which words are bound, by what comes of binding them, is well-formed where nothing is
+/// left to unroll and each of these words has a basis of the field; and as many words are bound.
 pub fn taken_circuits_are_well_formed()
-    ensures well_formed { (k : ℕ) (product : ℕ → ℕ → ℕ) (circuit : BoundNet) (words : List WordText) (bases : List (List ℕ)) → IsRing k product → HasNoZeroDivisors k product → IsSound circuit.net → AreWords k words → BindingOf circuit.net words (Ok circuit.bound) → length bases ≡ length words → ((basis : List ℕ) → Has bases basis → IsBasis k basis) → IsWellFormed (circuit_with k product circuit bases) }
-    ensures long { (net : NetList) (words : List WordText) (binding : Binding) → BindingOf net words (Ok binding) → length binding.words ≡ length words }
+    ensures well_formed { (k : ℕ) (product : ℕ → ℕ → ℕ) (circuit : BoundNet) (words : List WordText) (feeds : List FeedText) (bases : List (List ℕ)) → IsRing k product → HasNoZeroDivisors k product → IsSound circuit.net → AreWords k words → AreFeeds k (map (λ word. word.role) words) feeds → BindingOf circuit.net words feeds (Ok circuit.bound) → IsFlat circuit.net circuit.bound → length bases ≡ length words → ((basis : List ℕ) → Has bases basis → IsBasis k basis) → IsWellFormed (circuit_with k product circuit bases) }
+    ensures long { (net : NetList) (words : List WordText) (feeds : List FeedText) (binding : Binding) → BindingOf net words feeds (Ok binding) → length binding.words ≡ length words }
 {}
 
 /// Inputs of a well-formed circuit are in a total order by their bits that are 1, so that one at most is the first.

@@ -3,7 +3,7 @@ use Rattle.std.proofs.Common.{◌≡◌, ◌∙◌, ap, sym, refl, ℕ, List, []
 use Rattle.net_words.specs.Binding.{BoundNet}
 use Rattle.net_words.specs.declared.bound.BoundWord.{BoundWord}
 use Rattle.net_words.specs.declared.word.Role.{Role}
-use Rattle.net_words.specs.declared.word.Role.TheVariants.{Input, State, Output}
+use Rattle.net_words.specs.declared.word.Role.TheVariants.{Input, State, Fed, Output}
 use Rattle.net_words.specs.declared.word.WordText.{WordText}
 use Rattle.circuit_model.specs.Alike.{AreAlike}
 use Rattle.circuit_model.specs.OfBinding.{word_with, words_of}
@@ -27,6 +27,7 @@ rest_roles (r ∷ rs) = rs
 before : (r : Role) (m n b : List ℕ) (us vs : List Word) → bases us ≡ bases vs → bases (word_with r m b ++ us) ≡ bases (word_with r n b ++ vs)
 before Input m n b us vs e = ap (λ bs. b ∷ bs) e
 before State m n b us vs e = ap (λ bs. b ∷ bs) e
+before Fed m n b us vs e = ap (λ bs. b ∷ bs) e
 before Output m n b us vs e = e
 
 same_bases : (us vs : List BoundWord) (bs : List (List ℕ)) → map (λ (w : BoundWord). w.role) us ≡ map (λ (w : BoundWord). w.role) vs → bases (words_of us bs) ≡ bases (words_of vs bs)

@@ -79,10 +79,10 @@ module _ (files : Files) where
   file_determined : (name : Word) → Determined (Within File (Read (Some files) name))
   file_determined name = determined_within File (Read (Some files) name) (read_determined files name)
 
-  circuit_determined : (setting : SettingValue) (net : Word) → Determined (CircuitIn (Some files) setting.signature.words net)
+  circuit_determined : (setting : SettingValue) (net : Word) → Determined (CircuitIn (Some files) setting.signature net)
   circuit_determined setting net =
-      determined_after (Within File (Read (Some files) net)) (λ text. Within (Netlist net) (BoundNetOf setting.signature.words (by_ending net text))) (file_determined net)
-      (λ text read. determined_within (Netlist net) (BoundNetOf setting.signature.words (by_ending net text)) (netlist_determined setting.signature.words (by_ending net text)))
+      determined_after (Within File (Read (Some files) net)) (λ text. Within (Netlist net) (BoundNetOf setting.signature (by_ending net text))) (file_determined net)
+      (λ text read. determined_within (Netlist net) (BoundNetOf setting.signature (by_ending net text)) (netlist_determined setting.signature (by_ending net text)))
 
   pub said_determined : (setting : SettingValue) (file : Word) → Determined (SpecificationIn (Some files) (labels_of setting.k setting.signature.words) setting.k setting.product file)
   said_determined setting file =
@@ -92,16 +92,16 @@ module _ (files : Files) where
 
   action_determined : (setting : SettingValue) (action : Action) → IsSoundSetting setting → Determined (ActionAnswer (Some files) setting action)
   action_determined setting (Bits net terms) sound =
-      determined_after (CircuitIn (Some files) setting.signature.words net) (λ circuit. BitsReply setting circuit terms) (circuit_determined setting net) (λ circuit taken. bits_determined setting circuit terms sound (by_ending net taken.0) taken.2)
+      determined_after (CircuitIn (Some files) setting.signature net) (λ circuit. BitsReply setting circuit terms) (circuit_determined setting net) (λ circuit taken. bits_determined setting circuit terms sound (by_ending net taken.0) taken.2)
   action_determined setting (Abstract net terms) sound =
-      determined_after (CircuitIn (Some files) setting.signature.words net) (λ circuit. AbstractReply setting circuit terms) (circuit_determined setting net) (λ circuit taken. abstract_determined setting circuit terms sound (by_ending net taken.0) taken.2)
+      determined_after (CircuitIn (Some files) setting.signature net) (λ circuit. AbstractReply setting circuit terms) (circuit_determined setting net) (λ circuit taken. abstract_determined setting circuit terms sound (by_ending net taken.0) taken.2)
   action_determined setting (Check net file terms) sound =
-      determined_after (CircuitIn (Some files) setting.signature.words net) (λ circuit. CheckOver (Some files) setting circuit file terms) (circuit_determined setting net) (λ circuit taken.
+      determined_after (CircuitIn (Some files) setting.signature net) (λ circuit. CheckOver (Some files) setting circuit file terms) (circuit_determined setting net) (λ circuit taken.
       determined_after (SpecificationIn (Some files) (labels_of setting.k setting.signature.words) setting.k setting.product file) (λ spec. CheckReply setting circuit spec terms) (said_determined setting file) (λ spec said.
       check_determined setting circuit spec terms sound (by_ending net taken.0) taken.2))
   action_determined setting (Same net other terms) sound =
-      determined_after (CircuitIn (Some files) setting.signature.words net) (λ circuit. SameBeside (Some files) setting circuit other terms) (circuit_determined setting net) (λ circuit taken.
-      determined_after (CircuitIn (Some files) setting.signature.words other) (λ second. SameReply setting circuit second terms) (circuit_determined setting other) (λ second more.
+      determined_after (CircuitIn (Some files) setting.signature net) (λ circuit. SameBeside (Some files) setting circuit other terms) (circuit_determined setting net) (λ circuit taken.
+      determined_after (CircuitIn (Some files) setting.signature other) (λ second. SameReply setting circuit second terms) (circuit_determined setting other) (λ second more.
       same_determined setting circuit second terms sound (by_ending net taken.0) taken.2 (by_ending other more.0) more.2))
 
   signed_answer_determined : (text : List ℕ) (signed : SignedValue) (action : Action) → SignedOf text (Ok signed) → Determined (SignedAnswer (Some files) signed action)

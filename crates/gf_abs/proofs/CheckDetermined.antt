@@ -27,7 +27,7 @@ use Rattle.gf_abs.proofs.SpecStageLemmas.{spec_ordered, spec_sizes}
 use Rattle.gf_abs.proofs.StagedDetermined.{staged_determined}
 use Rattle.gf_abs.proofs.TakenLemmas.{circuit_well}
 
-module _ (setting : SettingValue) (circuit : BoundNet) (spec : SpecTerms) (bound : ℕ) (sound : IsSoundSetting setting) (text : NetlistText) (is : BoundNetOf setting.signature.words text (Ok circuit)) where
+module _ (setting : SettingValue) (circuit : BoundNet) (spec : SpecTerms) (bound : ℕ) (sound : IsSoundSetting setting) (text : NetlistText) (is : BoundNetOf setting.signature text (Ok circuit)) where
   one_judged : (a b : Option Difference) → IsJudged setting circuit spec a → IsJudged setting circuit spec b → a ≡ b
   one_judged =
       let c : Circuit = taken_circuit setting circuit in

@@ -5,10 +5,10 @@ use Rattle.std.specs.List.{AllByRecursion}
 use Rattle.text_core.specs.Names.{IsName}
 use Rattle.net_core.specs.Lists.{Has}
 use Rattle.net_words.specs.Binding.{AreWords}
-use Rattle.net_words.specs.Signature.{is_output}
-use Rattle.net_words.specs.WordNames.{HaveNames}
+use Rattle.net_words.specs.Roles.{is_output}
+use Rattle.net_signature.specs.WordNames.{HaveNames}
 use Rattle.net_words.specs.declared.word.Role.{Role}
-use Rattle.net_words.specs.declared.word.Role.TheVariants.{Input, State, Output}
+use Rattle.net_words.specs.declared.word.Role.TheVariants.{Input, State, Fed, Output}
 use Rattle.net_words.specs.declared.word.WordText.{WordText}
 use Rattle.poly_mixed.specs.Labels.{AreLabels, AreDifferent, Differs, IsWord, bit_count}
 use Rattle.job_input.specs.Labelling.{word_label, word_labels, name_with, output_name, labels_of}
@@ -24,6 +24,7 @@ HasOne w ws r = length (cond (is_output (record w { role = r })) (w ∷ filter i
 named_with : (w : WordText) (ws : List WordText) (r : Role) → w.role ≡ r → IsName w.name → HasOne w ws w.role → (length (filter is_output ws) ≡ 1 → IsName (output_name ws)) → IsName (name_with r w.name (output_name ws))
 named_with w ws Input is own one rest = rest (subst (HasOne w ws) is one)
 named_with w ws State is own one rest = rest (subst (HasOne w ws) is one)
+named_with w ws Fed is own one rest = rest (subst (HasOne w ws) is one)
 named_with w ws Output is own one rest = own
 
 output_named : (words : List WordText) → ((word : WordText) → Has words word → IsName word.name) → length (filter is_output words) ≡ 1 → IsName (output_name words)
@@ -35,6 +36,7 @@ output_named (w ∷ ws) names one = named_with w ws w.role refl (names w (0, ref
 word_with : (k : ℕ) → 1 ≤ k → k ≤ 64 → (r : Role) (name : List ℕ) (ls : List (List ℕ × ℕ)) → IsName name → AllByRecursion IsWord ls → AllByRecursion IsWord (word_label r name k ++ ls)
 word_with k some most Input name ls is rest = ((is, some, most), rest)
 word_with k some most State name ls is rest = ((is, some, most), rest)
+word_with k some most Fed name ls is rest = ((is, some, most), rest)
 word_with k some most Output name ls is rest = rest
 
 words_are : (k : ℕ) → 1 ≤ k → k ≤ 64 → (words : List WordText) → ((word : WordText) → Has words word → IsName word.name) → AllByRecursion IsWord (word_labels k words)
@@ -44,6 +46,7 @@ words_are k some most (w ∷ ws) names = word_with k some most w.role w.name (wo
 different_with : (k : ℕ) (r : Role) (name : List ℕ) (ls : List (List ℕ × ℕ)) → Differs name (map (λ w. w.0) ls) → AreDifferent (map (λ w. w.0) ls) → AreDifferent (map (λ w. w.0) (word_label r name k ++ ls))
 different_with k Input name ls new rest = (new, rest)
 different_with k State name ls new rest = (new, rest)
+different_with k Fed name ls new rest = (new, rest)
 different_with k Output name ls new rest = rest
 
 different : (k : ℕ) (us : List WordText) → ((i j : ℕ) (u v : WordText) → slice_get us i ≡ Some u → slice_get us j ≡ Some v → u.name ≡ v.name → i ≡ j) → AreDifferent (map (λ w. w.0) (word_labels k us))

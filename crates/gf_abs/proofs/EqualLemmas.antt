@@ -64,7 +64,7 @@ module _ (setting : SettingValue) (circuit : BoundNet) (taken : IsTaken setting 
   -- there are as many labels as words
   pub count : length whole.words ≡ length (word_labels setting.k setting.signature.words)
   count =
-      let roles = netlist_roles setting.signature.words taken.netlist circuit taken.is_circuit in
+      let roles = netlist_roles setting.signature taken.netlist circuit taken.is_circuit in
       as_many setting.k circuit.bound.words setting.signature.words setting.bases (sound.long ∙ sym (roles_long setting.signature.words circuit.bound.words roles)) roles
 
   labels : AreLabels (labels_of setting.k setting.signature.words)
@@ -99,7 +99,7 @@ module _ (setting : SettingValue) (circuit : BoundNet) (taken : IsTaken setting 
   -- what comes of `bits` is the output's polynomial in bits
   pub printed_in_bits : (bound : ℕ) (reply : Reply) → BitsReply setting circuit bound (Ok reply) → IsPrintedInBits setting circuit reply
   printed_in_bits bound reply (ts, found, exactly) =
-      let flat = netlist_flat setting.signature.words taken.netlist circuit taken.is_circuit in
+      let flat = netlist_flat setting.signature taken.netlist circuit taken.is_circuit in
       let long = bases_long setting circuit sound taken.netlist taken.is_circuit in
       let stage = (same_stage setting.k setting.product circuit setting.bases (output_basis circuit.bound.words setting.bases) (length circuit.net.gates) ts long refl).0 found.0 in
       record {

@@ -58,8 +58,8 @@ module _ (files : Files) (signature net : Word) where
   one_circuit s c d a b =
       let bytes : a.text ≡ b.text = same_ok a.text b.text (read_determined files net (Ok a.text) (Ok b.text) a.net_read b.net_read) in
       let text : a.taken.netlist ≡ b.taken.netlist = a.net_is ∙ (ap (by_ending net) bytes ∙ sym b.net_is) in
-      let P : NetlistText → Type 0 = λ text. BoundNetOf s.signature.words text (Ok c) in
-      same_ok c d (netlist_determined s.signature.words b.taken.netlist (Ok c) (Ok d) (subst P text a.taken.is_circuit) b.taken.is_circuit)
+      let P : NetlistText → Type 0 = λ text. BoundNetOf s.signature text (Ok c) in
+      same_ok c d (netlist_determined s.signature b.taken.netlist (Ok c) (Ok d) (subst P text a.taken.is_circuit) b.taken.is_circuit)
 
   -- what is printed is of this setting and circuit
   pub printed_of : (reply : Reply) (setting : SettingValue) (circuit : BoundNet) → PrintsHeld files signature net reply → AreHeld files signature net setting circuit → IsPrinted setting circuit reply

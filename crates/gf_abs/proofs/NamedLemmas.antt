@@ -8,11 +8,11 @@ use Rattle.net_core.specs.Lists.{Has}
 use Rattle.net_core.specs.Sound.{IsSound}
 use Rattle.net_core.proofs.DriverLemmas.{All_has, from_map}
 use Rattle.net_words.specs.Binding.{BoundNet}
-use Rattle.net_words.specs.BoundTo.{IsBoundTo}
+use Rattle.net_words.specs.OneCycle.{IsOneCycle}
 use Rattle.net_words.specs.Variables.{bits, bits_with}
 use Rattle.net_words.specs.declared.bound.BoundWord.{BoundWord}
 use Rattle.net_words.specs.declared.word.Role.{Role}
-use Rattle.net_words.specs.declared.word.Role.TheVariants.{Input, State, Output}
+use Rattle.net_words.specs.declared.word.Role.TheVariants.{Input, State, Fed, Output}
 use Rattle.net_words.specs.declared.word.WordText.{WordText}
 use Rattle.gf_field.specs.Ring.{IsRing}
 use Rattle.gf_field.specs.Field.{HasNoZeroDivisors}
@@ -39,6 +39,7 @@ use Rattle.job_input.specs.Setting.{elements_of_each, AreBasesOver}
 count_with : (r : Role) (name nets : List ℕ) (k : ℕ) → length nets ≡ k → (ls : List (List ℕ × ℕ)) → length (bits_with r nets) + bit_count ls ≡ bit_count (word_label r name k ++ ls)
 count_with Input name nets k long ls = ap (λ n. n + bit_count ls) long
 count_with State name nets k long ls = ap (λ n. n + bit_count ls) long
+count_with Fed name nets k long ls = ap (λ n. n + bit_count ls) long
 count_with Output name nets k long ls = omega arith
 
 counted : (k : ℕ) (bound : List BoundWord) (words : List WordText) → ((word : BoundWord) → Has bound word → length word.nets ≡ k) → HaveRoles words bound → length (bits bound) ≡ bit_count (word_labels k words)
@@ -83,7 +84,7 @@ named_terms count (t ∷ ts) lacks = (all_below count t.0.bits below, named_term
     ]
 
 pub named : (k : ℕ) (mul : ℕ → ℕ → ℕ) (b : BoundNet) (bases : List Basis) (words : List WordText) (basis : List ℕ) (ts : Terms)
-    → IsRing k mul → HasNoZeroDivisors k mul → IsSound b.net → IsBoundTo b.net b.bound → b.net.latches ≡ [] → b.bound.k ≡ k → AreBasesOver k mul bases → length bases ≡ length b.bound.words → HaveRoles words b.bound.words
+    → IsRing k mul → HasNoZeroDivisors k mul → IsSound b.net → IsOneCycle b.net b.bound → b.net.latches ≡ [] → b.bound.k ≡ k → AreBasesOver k mul bases → length bases ≡ length b.bound.words → HaveRoles words b.bound.words
     → basis ≡ output_basis b.bound.words (elements_of_each bases) → IsOfStage k mul (BoundCut b basis (length b.net.gates)) ts → HasNames (labels_of k words) ts
 named k mul b bases words basis ts ring nozero sound bound flat same over long roles is stage =
     let all : List (List ℕ) = elements_of_each bases in
@@ -94,7 +95,7 @@ named k mul b bases words basis ts ring nozero sound bound flat same over long r
     let stage' : IsOfStage k mul (BoundCut b (output_basis b.bound.words all) (length b.net.gates)) ts = subst B is stage in
     let cut : IsOfStage k mul (CutOf (circuit_with k mul b all) (length b.net.gates)) ts = record { reduced = stage'.reduced; values = λ p at. (bound_cut k mul b all (length b.net.gates) p _ long').0 (stage'.values p at) } in
     let nets : length (word_nets (words_of b.bound.words all)) ≡ bit_count (word_labels k words) =
-    ap length (word_nets_of b.bound.words all long') ∙ counted k b.bound.words words (λ word has. All_has (λ u. length u.nets ≡ b.bound.k) b.bound.words word bound.parts.each has ∙ same) roles in
+    ap length (word_nets_of b.bound.words all long') ∙ counted k b.bound.words words (λ word has. All_has (λ u. length u.nets ≡ b.bound.k) b.bound.words word bound.flat.named has ∙ same) roles in
     let names = named_terms (bit_count (word_labels k words)) ts (λ rank high. in_words (circuit_with k mul b all) well flat ts rank cut (omega (arith, nets, high))) in
     let P : ℕ → Type 0 = λ n. AllByRecursion (λ t. AllByRecursion (λ r. r < n) t.0.bits) ts in
     let none : bit_count (word_labels k words) ≡ bit_count (word_labels k words) + 0 = omega arith in

@@ -32,7 +32,7 @@ use Rattle.gf_abs.specs.commands.Abstract.{taken_circuit, abstract_stages, IsInW
 use Rattle.gf_abs.proofs.StagedDetermined.{staged_determined}
 use Rattle.gf_abs.proofs.TakenLemmas.{netlist_sound, circuit_well}
 
-module _ (setting : SettingValue) (circuit : BoundNet) (bound : ℕ) (sound : IsSoundSetting setting) (text : NetlistText) (is : BoundNetOf setting.signature.words text (Ok circuit)) where
+module _ (setting : SettingValue) (circuit : BoundNet) (bound : ℕ) (sound : IsSoundSetting setting) (text : NetlistText) (is : BoundNetOf setting.signature text (Ok circuit)) where
   well : IsWellFormed (taken_circuit setting circuit)
   well = circuit_well setting circuit sound text is
 
@@ -42,14 +42,14 @@ module _ (setting : SettingValue) (circuit : BoundNet) (bound : ℕ) (sound : Is
   pub cuts_one_size : HaveOneSize setting.k setting.product (bits_stages setting circuit)
   cuts_one_size =
       net_cuts_sizes setting.k setting.product circuit.net (variables (nets circuit.net) circuit.bound.words) (output_word circuit.bound.words (output_basis circuit.bound.words setting.bases)) (length circuit.net.gates + 1)
-      sound.ring sound.field (netlist_sound setting.signature.words text circuit is)
+      sound.ring sound.field (netlist_sound setting.signature text circuit is)
 
   one_last_cut : (ts us : Terms) → IsLastCut setting circuit ts → IsLastCut setting circuit us → ts ≡ us
   one_last_cut ts us a b =
       let order = variables (nets circuit.net) circuit.bound.words in
       let output = output_word circuit.bound.words (output_basis circuit.bound.words setting.bases) in
       same_terms setting.k setting.product sound.ring sound.field (IsCut circuit.net order output (length circuit.net.gates))
-      (λ p x y at first other. one_cut_of circuit.net (netlist_sound setting.signature.words text circuit is) order output (length circuit.net.gates) p x y first other) ts us a b
+      (λ p x y at first other. one_cut_of circuit.net (netlist_sound setting.signature text circuit is) order output (length circuit.net.gates) p x y first other) ts us a b
 
   one_in_words : (ts us : Terms) → IsInWords setting circuit ts → IsInWords setting circuit us → ts ≡ us
   one_in_words ts us a b =

@@ -25,7 +25,7 @@ use Rattle.gf_abs.proofs.ReplyDetermined.{cuts_one_order, cuts_one_size}
 use Rattle.gf_abs.proofs.StagedDetermined.{staged_determined}
 use Rattle.gf_abs.proofs.TakenLemmas.{circuit_well}
 
-module _ (setting : SettingValue) (circuit other : BoundNet) (bound : ℕ) (sound : IsSoundSetting setting) (text : NetlistText) (is : BoundNetOf setting.signature.words text (Ok circuit)) (text' : NetlistText) (is' : BoundNetOf setting.signature.words text' (Ok other)) where
+module _ (setting : SettingValue) (circuit other : BoundNet) (bound : ℕ) (sound : IsSoundSetting setting) (text : NetlistText) (is : BoundNetOf setting.signature text (Ok circuit)) (text' : NetlistText) (is' : BoundNetOf setting.signature text' (Ok other)) where
   one_of_outputs : (a b : Option Difference) → AreCompared setting circuit other a → AreCompared setting circuit other b → a ≡ b
   one_of_outputs =
       let c : Circuit = taken_circuit setting circuit in

@@ -79,7 +79,7 @@ module _ (files : Files) (words : List Word) (signature net other : Word) (reply
 
 module _ (setting : SettingValue) (circuit other : BoundNet) (taken : IsTaken setting circuit) (more : IsTaken setting other) where
   are_alike : AreAlike (taken_circuit setting circuit) (taken_circuit setting other)
-  are_alike = alike setting circuit other setting.signature.words (netlist_roles setting.signature.words taken.netlist circuit taken.is_circuit) (netlist_roles setting.signature.words more.netlist other more.is_circuit)
+  are_alike = alike setting circuit other setting.signature.words (netlist_roles setting.signature taken.netlist circuit taken.is_circuit) (netlist_roles setting.signature more.netlist other more.is_circuit)
 
   -- they have the same inputs
   there_too : (xs : List ℕ) → IsInput (taken_circuit setting circuit) xs → IsInput (taken_circuit setting other) xs

@@ -4,7 +4,7 @@ use Rattle.std.proofs.lemmas.List.{length-map}
 use Rattle.net_core.specs.Sound.{IsSound}
 use Rattle.net_core.proofs.DriverLemmas.{from_map}
 use Rattle.net_words.specs.Binding.{BoundNet}
-use Rattle.net_words.specs.BoundTo.{IsBoundTo}
+use Rattle.net_words.specs.OneCycle.{IsOneCycle}
 use Rattle.net_words.specs.declared.word.WordText.{WordText}
 use Rattle.gf_field.specs.Ring.{IsRing}
 use Rattle.gf_field.specs.Field.{HasNoZeroDivisors}
@@ -42,7 +42,7 @@ pub record IsJob (k : ℕ) (mul : ℕ → ℕ → ℕ) (b : BoundNet) (bases : L
   pub ring : IsRing k mul
   pub nozero : HasNoZeroDivisors k mul
   pub sound : IsSound b.net
-  pub bound : IsBoundTo b.net b.bound
+  pub bound : IsOneCycle b.net b.bound
   pub flat : b.net.latches ≡ []
   pub same : b.bound.k ≡ k
   pub over : AreBasesOver k mul bases

@@ -3,7 +3,7 @@ use Rattle.std.proofs.Common.{◌≡◌, ◌∙◌, ap, sym, refl, ℕ, ◌+◌,
 use Rattle.std.proofs.lemmas.List.{length-append}
 use Rattle.net_words.specs.declared.bound.BoundWord.{BoundWord}
 use Rattle.net_words.specs.declared.word.Role.{Role}
-use Rattle.net_words.specs.declared.word.Role.TheVariants.{Input, State, Output}
+use Rattle.net_words.specs.declared.word.Role.TheVariants.{Input, State, Fed, Output}
 use Rattle.net_words.specs.declared.word.WordText.{WordText}
 use Rattle.circuit_model.specs.OfBinding.{word_with, words_of}
 use Rattle.job_input.specs.Setting.{HaveRoles}
@@ -12,6 +12,7 @@ use Rattle.job_input.specs.Labelling.{word_label, word_labels}
 label_with : (r : Role) (name nets basis : List ℕ) (k : ℕ) → length (word_with r nets basis) ≡ length (word_label r name k)
 label_with Input name nets basis k = refl
 label_with State name nets basis k = refl
+label_with Fed name nets basis k = refl
 label_with Output name nets basis k = refl
 
 first_role : List Role → Role

@@ -27,7 +27,7 @@ pub record IsTaken (setting : SettingValue) (circuit : BoundNet) : Type 0 where
   pub signature : List ℕ
   pub is_setting : SettingOf signature (Ok setting)
   pub netlist : NetlistText
-  pub is_circuit : BoundNetOf setting.signature.words netlist (Ok circuit)
+  pub is_circuit : BoundNetOf setting.signature netlist (Ok circuit)
 
 -- the held files of these names have such texts
 pub record AreHeld (files : Files) (signature net : Word) (setting : SettingValue) (circuit : BoundNet) : Type 0 where

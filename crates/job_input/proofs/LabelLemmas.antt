@@ -3,10 +3,10 @@ use Rattle.std.proofs.Common.{◌≡◌, ◌≢◌, ◌∙◌, ap, sym, refl, su
 use Rattle.std.specs.Prelude.{slice_get}
 use Rattle.std.proofs.lemmas.Option.{slice_get_read}
 use Rattle.std.proofs.lemmas.List.{append_assoc, length-append}
-use Rattle.net_words.specs.Signature.{is_output, input_count}
-use Rattle.net_words.specs.WordNames.{HaveNames}
+use Rattle.net_words.specs.Roles.{is_output, input_count}
+use Rattle.net_signature.specs.WordNames.{HaveNames}
 use Rattle.net_words.specs.declared.word.Role.{Role}
-use Rattle.net_words.specs.declared.word.Role.TheVariants.{Input, State, Output}
+use Rattle.net_words.specs.declared.word.Role.TheVariants.{Input, State, Fed, Output}
 use Rattle.net_words.specs.declared.word.WordText.{WordText}
 use Rattle.poly_mixed.specs.Labels.{Differs}
 use Rattle.job_input.specs.Labelling.{word_label, word_labels, IsNewLabel}
@@ -49,18 +49,21 @@ differs k name (u ∷ us) apart =
     own : (r : Role) → Differs name (map (λ w. w.0) (word_label r u.name k))
     own Input = (apart 0 u refl, tt)
     own State = (apart 0 u refl, tt)
+    own Fed = (apart 0 u refl, tt)
     own Output = tt
 
 -- how many labels and inputs a word with this role adds
 more_inputs : Role → ℕ
 more_inputs Input = 1
 more_inputs State = 1
+more_inputs Fed = 1
 more_inputs Output = 0
 
 count_step : (word : WordText) (words : List WordText) (r : Role) → word.role ≡ r → input_count (word ∷ words) ≡ more_inputs r + input_count words
 unfolding more_inputs
 count_step word words Input is = (λ i. length (cond (not (is_output (record word { role = is i }))) (word ∷ filter (λ w. not (is_output w)) words) (filter (λ w. not (is_output w)) words))) ∙ (let e : suc (input_count words) ≡ 1 + input_count words = omega arith in e)
 count_step word words State is = (λ i. length (cond (not (is_output (record word { role = is i }))) (word ∷ filter (λ w. not (is_output w)) words) (filter (λ w. not (is_output w)) words))) ∙ (let e : suc (input_count words) ≡ 1 + input_count words = omega arith in e)
+count_step word words Fed is = (λ i. length (cond (not (is_output (record word { role = is i }))) (word ∷ filter (λ w. not (is_output w)) words) (filter (λ w. not (is_output w)) words))) ∙ (let e : suc (input_count words) ≡ 1 + input_count words = omega arith in e)
 count_step word words Output is = (λ i. length (cond (not (is_output (record word { role = is i }))) (word ∷ filter (λ w. not (is_output w)) words) (filter (λ w. not (is_output w)) words))) ∙ (let e : input_count words ≡ 0 + input_count words = omega arith in e)
 
 -- there are as many labels as input and state words
@@ -74,6 +77,7 @@ labels_long k (u ∷ us) =
     own : (r : Role) → length (word_label r u.name k) ≡ more_inputs r
     own Input = refl
     own State = refl
+    own Fed = refl
     own Output = refl
 
 fewer : (words : List WordText) (i : ℕ) (word : WordText) → slice_get words i ≡ Some word → more_inputs word.role + input_count (take i words) ≤ input_count words
@@ -112,4 +116,5 @@ new_label k words i word names few at = by word.role refl
     by : (r : Role) → word.role ≡ r → IsNewLabel word.role word.name (word_labels k (take i words))
     by Input is = let P : Role → Type 0 = λ q. IsNewLabel q word.name (word_labels k (take i words)) in subst P (sym is) (apart, room Input is (omega arith))
     by State is = let P : Role → Type 0 = λ q. IsNewLabel q word.name (word_labels k (take i words)) in subst P (sym is) (apart, room State is (omega arith))
+    by Fed is = let P : Role → Type 0 = λ q. IsNewLabel q word.name (word_labels k (take i words)) in subst P (sym is) (apart, room Fed is (omega arith))
     by Output is = let P : Role → Type 0 = λ q. IsNewLabel q word.name (word_labels k (take i words)) in subst P (sym is) tt

@@ -20,17 +20,24 @@ use Rattle.net_blif.specs.declared.fault.BlifFault.TheVariants as texts
 use Rattle.net_blif.specs.declared.flat_fault.FlatFault.{FlatFault}
 use Rattle.net_blif.specs.declared.flat_fault.FlatFault.TheVariants as flat_faults
 use Rattle.net_blif.proofs.WalkLemmas.{number_inside}
-use Rattle.net_words.specs.Bind.{BindingOf, BoundOf, IsCovered, NetsOf, bound_word, in_word, is_latch, is_unknown, place_net, stands_in, started, taken_with, with_role}
+use Rattle.net_words.specs.Bind.{BindingOf, BoundOf, IsCovered, NetsOf, bound_word, is_latch, is_unknown, names_with, place_net, started, taken_with, with_role}
 use Rattle.net_words.specs.BindReading.{FitsBinding}
 use Rattle.net_words.specs.Binding.{Binding, BoundNet}
+use Rattle.net_words.specs.Feeds.{AreFeeds, FeedsOf, bound_feed, free_net, is_free}
+use Rattle.net_words.specs.OneCycle.{IsFlat}
+use Rattle.net_words.specs.Roles.{in_word, stands_in}
 use Rattle.net_words.specs.declared.binding.BindFault.{BindFault}
 use Rattle.net_words.specs.declared.binding.BindFault.TheVariants as binds
 use Rattle.net_words.specs.declared.bound.BoundWord.{BoundWord}
+use Rattle.net_words.specs.declared.feed.Feed.{Feed}
+use Rattle.net_words.specs.declared.feed.FeedText.{FeedText}
 use Rattle.net_words.specs.declared.word.Role.{Role}
 use Rattle.net_words.specs.declared.word.Role.TheVariants as roles
 use Rattle.net_words.specs.declared.word.WordText.{WordText}
+use Rattle.net_signature.specs.Signature.{SignatureValue}
 use Rattle.job_input.specs.NetlistOf.{Aiger, Blif, BoundNetOf, NetOf, NetlistText, WordsBound, of_binding, of_text, word_name}
-use Rattle.job_input.specs.private.NetlistReading.{FitsNetlist, IsNamed, IsNetlistRefusal, aiger_refusal, text_refusal, net_refusal, model_refusal}
+use Rattle.job_input.specs.private.NetlistReading.{FitsNetlist, IsNamed, IsNetlistRefusal, IsUnrollingFault, aiger_refusal, text_refusal, net_refusal, model_refusal}
+use Rattle.job_words.specs.declared.netlist_fault.NetlistFault.{NetlistFault}
 use Rattle.job_words.specs.declared.netlist_fault.NetlistFault.TheVariants as netlist
 use Rattle.job_input.specs.declared.netlist.Refusal.{Refusal}
 use Rattle.job_input.specs.declared.netlist.Refusal.TheVariants.{Fault, OutOfMemory}
@@ -53,6 +60,7 @@ module _ (net : NetList) (count word place : ℕ) (within : word < count) (taken
       by false b e = let same : binds.NotLatch word place ≡ fault = cc in rw (← same) within
       by true true e = let same : binds.NetTwice n ≡ fault = cc in rw (← same) exists
       by true false e = absurd (cc)
+  role_named roles.Fed n fault exists refused = let same : binds.NotInput word place ≡ fault = cc in rw (← same) within
   role_named roles.Output n fault exists refused = absurd (cc)
 
   place_named : (role : Role) (name : List ℕ) (fault : BindFault) → place_net net word place taken role (number_of net name) ≡ Err fault → IsNamed count net fault
@@ -69,19 +77,33 @@ nets_named net count word role taken before (name ∷ names) fault within (inr (
 
 words_named : (net : NetList) (count : ℕ) (taken : List ℕ) (before : List BoundWord) (words : List WordText) (fault : BindFault) → count ≡ length before + length words → BoundOf net taken before words (Err fault) → IsNamed count net fault
 words_named net count taken before [] fault all refused = absurd refused
-words_named net count taken before (word ∷ words) fault all (inl here) = nets_named net count (length before) word.role taken [] word.nets fault (omega arith) here
+words_named net count taken before (word ∷ words) fault all (inl here) = nets_named net count (length before) word.role taken [] (names_with word.role word.nets) fault (omega arith) here
 words_named net count taken before (word ∷ words) fault all (inr (list, _, later)) =
     let more : length (before ++ bound_word word list.0 ∷ []) ≡ length before + 1 = length-append before (bound_word word list.0 ∷ []) in
     words_named net count list.1 (before ++ bound_word word list.0 ∷ []) words fault (omega (arith, all, more)) later
 
-covered_named : (net : NetList) (count : ℕ) (words : List BoundWord) (fault : BindFault) → IsCovered net words (Err fault) → IsNamed count net fault
-covered_named net count words (binds.Uncovered n) refused = refused.0
-covered_named net count words (binds.NoSuchNet word place) refused = absurd refused
-covered_named net count words (binds.NotInput word place) refused = absurd refused
-covered_named net count words (binds.NotLatch word place) refused = absurd refused
-covered_named net count words (binds.NetTwice n) refused = absurd refused
-covered_named net count words (binds.UnknownStart n) refused = absurd refused
-covered_named net count words binds.OutOfMemory refused = absurd refused
+feeds_named : (net : NetList) (count : ℕ) (words : List BoundWord) (before : List Feed) (feeds : List FeedText) (fault : BindFault) → FeedsOf net words before feeds (Err fault) → IsNamed count net fault
+feeds_named net count words before [] fault refused = absurd refused
+feeds_named net count words before (feed ∷ feeds) fault (inl here) = by (number_of net feed.net) here
+  where
+    by : (found : Option ℕ) → Err fault ≡ free_net net words feed.line found → IsNamed count net fault
+    by None e = let same : fault ≡ binds.FeedNotFree feed.line = cc in rw same tt
+    by (Some n) e = free (is_free net words n) e
+      where
+        free : (b : Bool) → Err fault ≡ cond b (Ok n) (Err (binds.FeedNotFree feed.line)) → IsNamed count net fault
+        free true f = absurd (cc)
+        free false f = let same : fault ≡ binds.FeedNotFree feed.line = cc in rw same tt
+feeds_named net count words before (feed ∷ feeds) fault (inr (n, _, later)) = feeds_named net count words (before ++ bound_feed feed n ∷ []) feeds fault later
+
+covered_named : (net : NetList) (count : ℕ) (words : List BoundWord) (feeds : List Feed) (fault : BindFault) → IsCovered net words feeds (Err fault) → IsNamed count net fault
+covered_named net count words feeds (binds.Uncovered n) refused = refused.0
+covered_named net count words feeds (binds.NoSuchNet word place) refused = absurd refused
+covered_named net count words feeds (binds.NotInput word place) refused = absurd refused
+covered_named net count words feeds (binds.NotLatch word place) refused = absurd refused
+covered_named net count words feeds (binds.NetTwice n) refused = absurd refused
+covered_named net count words feeds (binds.FeedNotFree line) refused = absurd refused
+covered_named net count words feeds (binds.UnknownStart n) refused = absurd refused
+covered_named net count words feeds binds.OutOfMemory refused = absurd refused
 
 started_named : (net : NetList) (count : ℕ) (words : List BoundWord) (latches : List LatchValue) (fault : BindFault) → All (LatchIsInside (nets net)) latches → Err fault ≡ started words latches → IsNamed count net fault
 started_named net count words [] fault inside refused = absurd (cc)
@@ -92,44 +114,56 @@ started_named net count words (latch ∷ latches) fault inside refused = by (sta
     by later false e = later e
 
 -- the word or the net of a fault of a binding exists
-binding_named : (net : NetList) (words : List WordText) (fault : BindFault) → IsInside net → BindingOf net words (Err fault) → IsNamed (length words) net fault
-binding_named net words fault inside (inl here) = words_named net (length words) [] [] words fault (omega arith) here
-binding_named net words fault inside (inr (bound, _, inl here)) = covered_named net (length words) bound.0 fault here
-binding_named net words fault inside (inr (bound, _, inr (_, _, inl here))) = started_named net (length words) bound.0 net.latches fault inside.latches here
-binding_named net words fault inside (inr (bound, _, inr (_, _, inr (_, _, here)))) = absurd here
+binding_named : (net : NetList) (words : List WordText) (feeds : List FeedText) (fault : BindFault) → IsInside net → BindingOf net words feeds (Err fault) → IsNamed (length words) net fault
+binding_named net words feeds fault inside (inl here) = words_named net (length words) [] [] words fault (omega arith) here
+binding_named net words feeds fault inside (inr (bound, _, inl here)) = feeds_named net (length words) bound.0 [] feeds fault here
+binding_named net words feeds fault inside (inr (bound, _, inr (fed, _, inl here))) = covered_named net (length words) bound.0 fed fault here
+binding_named net words feeds fault inside (inr (bound, _, inr (fed, _, inr (_, _, inl here)))) = started_named net (length words) bound.0 net.latches fault inside.latches here
+binding_named net words feeds fault inside (inr (bound, _, inr (fed, _, inr (_, _, inr (_, _, here))))) = absurd here
 
-pub fault_named : (net : NetList) (words : List WordText) (fault : BindFault) → IsInside net → FitsBinding {A = Binding} (λ bound. bound) (Err fault) (BindingOf net words) → IsNamed (length words) net fault
-fault_named net words (binds.NoSuchNet word place) inside fits = binding_named net words (binds.NoSuchNet word place) inside fits
-fault_named net words (binds.NotInput word place) inside fits = binding_named net words (binds.NotInput word place) inside fits
-fault_named net words (binds.NotLatch word place) inside fits = binding_named net words (binds.NotLatch word place) inside fits
-fault_named net words (binds.NetTwice n) inside fits = binding_named net words (binds.NetTwice n) inside fits
-fault_named net words (binds.Uncovered n) inside fits = binding_named net words (binds.Uncovered n) inside fits
-fault_named net words (binds.UnknownStart n) inside fits = binding_named net words (binds.UnknownStart n) inside fits
-fault_named net words binds.OutOfMemory inside fits = tt
+pub fault_named : (net : NetList) (words : List WordText) (feeds : List FeedText) (fault : BindFault) → IsInside net → FitsBinding {A = Binding} (λ bound. bound) (Err fault) (BindingOf net words feeds) → IsNamed (length words) net fault
+fault_named net words feeds (binds.NoSuchNet word place) inside fits = binding_named net words feeds (binds.NoSuchNet word place) inside fits
+fault_named net words feeds (binds.NotInput word place) inside fits = binding_named net words feeds (binds.NotInput word place) inside fits
+fault_named net words feeds (binds.NotLatch word place) inside fits = binding_named net words feeds (binds.NotLatch word place) inside fits
+fault_named net words feeds (binds.NetTwice n) inside fits = binding_named net words feeds (binds.NetTwice n) inside fits
+fault_named net words feeds (binds.FeedNotFree line) inside fits = binding_named net words feeds (binds.FeedNotFree line) inside fits
+fault_named net words feeds (binds.Uncovered n) inside fits = binding_named net words feeds (binds.Uncovered n) inside fits
+fault_named net words feeds (binds.UnknownStart n) inside fits = binding_named net words feeds (binds.UnknownStart n) inside fits
+fault_named net words feeds binds.OutOfMemory inside fits = tt
 
 -- a fault that is not want of memory is one that may come
-fault_comes : (net : NetList) (words : List WordText) (fault : BindFault) → ¬ (fault ≡ binds.OutOfMemory) → FitsBinding {A = Binding} (λ bound. bound) (Err fault) (BindingOf net words) → BindingOf net words (Err fault)
-fault_comes net words (binds.NoSuchNet word place) other fits = fits
-fault_comes net words (binds.NotInput word place) other fits = fits
-fault_comes net words (binds.NotLatch word place) other fits = fits
-fault_comes net words (binds.NetTwice n) other fits = fits
-fault_comes net words (binds.Uncovered n) other fits = fits
-fault_comes net words (binds.UnknownStart n) other fits = fits
-fault_comes net words binds.OutOfMemory other fits = absurd (other refl)
+fault_comes : (net : NetList) (words : List WordText) (feeds : List FeedText) (fault : BindFault) → ¬ (fault ≡ binds.OutOfMemory) → FitsBinding {A = Binding} (λ bound. bound) (Err fault) (BindingOf net words feeds) → BindingOf net words feeds (Err fault)
+fault_comes net words feeds (binds.NoSuchNet word place) other fits = fits
+fault_comes net words feeds (binds.NotInput word place) other fits = fits
+fault_comes net words feeds (binds.NotLatch word place) other fits = fits
+fault_comes net words feeds (binds.NetTwice n) other fits = fits
+fault_comes net words feeds (binds.FeedNotFree line) other fits = fits
+fault_comes net words feeds (binds.Uncovered n) other fits = fits
+fault_comes net words feeds (binds.UnknownStart n) other fits = fits
+fault_comes net words feeds binds.OutOfMemory other fits = absurd (other refl)
 
 -- what comes of a binding that is refused
-pub unbound : (net : NetList) (words : List WordText) (fault : BindFault) (refusal : Refusal) → FitsBinding {A = Binding} (λ bound. bound) (Err fault) (BindingOf net words) → IsNetlistRefusal (netlist.Binding (of_binding words net fault)) refusal → (fault ≡ binds.OutOfMemory → refusal ≡ OutOfMemory) → FitsNetlist (Err refusal) (WordsBound words net)
-unbound net words fault OutOfMemory fits same memory = tt
-unbound net words fault (Fault other) fits same memory = inl (fault, fault_comes net words fault (λ wanting. never (memory wanting)) fits, same)
+pub unbound : (net : NetList) (words : List WordText) (feeds : List FeedText) (fault : BindFault) (refusal : Refusal) → FitsBinding {A = Binding} (λ bound. bound) (Err fault) (BindingOf net words feeds) → IsNetlistRefusal (netlist.Binding (of_binding words net fault)) refusal → (fault ≡ binds.OutOfMemory → refusal ≡ OutOfMemory) → FitsNetlist (Err refusal) (WordsBound words feeds net)
+unbound net words feeds fault OutOfMemory fits same memory = tt
+unbound net words feeds fault (Fault other) fits same memory = inl (fault, fault_comes net words feeds fault (λ wanting. never (memory wanting)) fits, same)
   where
     never : Fault other ≡ OutOfMemory → ⊥
     never e = cc
 
+-- what comes of words that are bound, where something is left to unroll
+pub not_flat : (net : NetList) (words : List WordText) (feeds : List FeedText) (bound : Binding) (fault : NetlistFault) → BindingOf net words feeds (Ok bound) → (IsFlat net bound → ⊥) → IsUnrollingFault net fault → FitsNetlist (Err (Fault fault)) (WordsBound words feeds net)
+not_flat net words feeds bound fault is left (inl latches) = inr (bound, is, inl latches)
+not_flat net words feeds bound fault is left (inr none) = inr (bound, is, inr (none.0, none.1, left))
+
+-- a signature without feeds feeds nothing
+pub no_feeds : (k : ℕ) (roles : List Role) → AreFeeds k roles []
+no_feeds k roles = record { sources = λ feed has. absurd (let got = has.1 in cc); apart = λ i j f g at. absurd (cc) }
+
 -- what comes of the words comes of the text whose net it is
-pub text_bound : (text : NetlistText) (words : List WordText) (net : NetList) (result : Result BoundNet Refusal) → NetOf text (Ok net) → FitsNetlist result (WordsBound words net) → FitsNetlist result (BoundNetOf words text)
-text_bound text words net (Ok circuit) first then = (net, first, then)
-text_bound text words net (Err (Fault fault)) first then = inr (net, first, then)
-text_bound text words net (Err OutOfMemory) first then = tt
+pub text_bound : (text : NetlistText) (signature : SignatureValue) (net : NetList) (result : Result BoundNet Refusal) → NetOf text (Ok net) → FitsNetlist result (WordsBound signature.words [] net) → FitsNetlist result (BoundNetOf signature text)
+text_bound text signature net (Ok circuit) first then = (net, first, then)
+text_bound text signature net (Err (Fault fault)) first then = inr (net, first, then)
+text_bound text signature net (Err OutOfMemory) first then = tt
 
 -- a net of a text is sound
 pub net_sound : (text : NetlistText) (net : NetList) → NetOf text (Ok net) → IsSound net

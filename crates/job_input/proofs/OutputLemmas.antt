@@ -1,10 +1,10 @@
 -- The basis of the output word, out of those of all words.
 use Rattle.std.proofs.Common.{◌≡◌, ◌≢◌, ◌∙◌, ap, sym, refl, subst, ℕ, zero, suc, ◌<◌, ◌+◌, true, false, cond, List, [], ◌∷◌, length, map, drop, filter, Some, arith}
 use Rattle.std.specs.Prelude.{slice_get}
-use Rattle.net_words.specs.Bind.{same_role}
+use Rattle.net_words.specs.Roles.{same_role}
 use Rattle.net_words.specs.declared.bound.BoundWord.{BoundWord}
 use Rattle.net_words.specs.declared.word.Role.{Role}
-use Rattle.net_words.specs.declared.word.Role.TheVariants.{Input, State, Output}
+use Rattle.net_words.specs.declared.word.Role.TheVariants.{Input, State, Fed, Output}
 use Rattle.gf_basis.specs.BasisParts.{elements_of}
 use Rattle.gf_basis.specs.declared.bases.Basis.{Basis}
 use Rattle.circuit_model.specs.OfBinding.{output_basis, output_basis_with}
@@ -39,6 +39,7 @@ past_other words bases w word basis got at other =
     by : (r : Role) → word.role ≡ r → output_basis_with word.role (elements_of basis) (output_basis (drop (suc w) words) (drop (suc w) (map elements_of bases))) ≡ output_basis (drop (suc w) words) (drop (suc w) (map elements_of bases))
     by Input is = ap (λ q. output_basis_with q (elements_of basis) (output_basis (drop (suc w) words) (drop (suc w) (map elements_of bases)))) is
     by State is = ap (λ q. output_basis_with q (elements_of basis) (output_basis (drop (suc w) words) (drop (suc w) (map elements_of bases)))) is
+    by Fed is = ap (λ q. output_basis_with q (elements_of basis) (output_basis (drop (suc w) words) (drop (suc w) (map elements_of bases)))) is
     by Output is = absurd (other is)
 
 abbrev outputs : List BoundWord → ℕ
@@ -51,6 +52,7 @@ past_count words w word got other = let up : w + 1 ≡ suc w = omega arith in ap
     own : (us : List BoundWord) (r : Role) → word.role ≡ r → outputs (word ∷ us) ≡ outputs us
     own us Input is = (λ i. length (cond (same_role (is i) Output) (word ∷ filter (λ v. same_role v.role Output) us) (filter (λ v. same_role v.role Output) us)))
     own us State is = (λ i. length (cond (same_role (is i) Output) (word ∷ filter (λ v. same_role v.role Output) us) (filter (λ v. same_role v.role Output) us)))
+    own us Fed is = (λ i. length (cond (same_role (is i) Output) (word ∷ filter (λ v. same_role v.role Output) us) (filter (λ v. same_role v.role Output) us)))
     own us Output is = absurd (other is)
 
     rest : (us : List BoundWord) (v : ℕ) → slice_get us v ≡ Some word → outputs (drop v us) ≡ outputs (drop (suc v) us)
@@ -61,6 +63,7 @@ past_count words w word got other = let up : w + 1 ≡ suc w = omega arith in ap
 pub is_role : (r : Role) → same_role r Output ≡ true → r ≡ Output
 is_role Input e = absurd (cc)
 is_role State e = absurd (cc)
+is_role Fed e = absurd (cc)
 is_role Output e = refl
 
 pub not_role : (r : Role) → same_role r Output ≡ false → r ≢ Output

@@ -6,7 +6,9 @@ use Rattle.net_words.specs.Bind.{BoundOf, BindingOf, bound_word}
 use Rattle.net_words.specs.Binding.{Binding, BoundNet}
 use Rattle.net_words.specs.declared.bound.BoundWord.{BoundWord}
 use Rattle.net_words.specs.declared.word.Role.{Role}
+use Rattle.net_words.specs.declared.feed.FeedText.{FeedText}
 use Rattle.net_words.specs.declared.word.WordText.{WordText}
+use Rattle.net_signature.specs.Signature.{SignatureValue}
 use Rattle.job_input.specs.Setting.{HaveRoles}
 use Rattle.job_input.specs.NetlistOf.{BoundNetOf, NetlistText}
 
@@ -29,15 +31,15 @@ bound_roles net taken before (word ∷ words) more (list, own, rest) =
     ∙ (ap (λ rs. rs ++ text_roles words) (one_more before (bound_word word list.0))
     ∙ append_assoc (roles before) (word.role ∷ []) (text_roles words))
 
-binding_roles : (net : NetList) (words : List WordText) (binding : Binding) → BindingOf net words (Ok binding) → HaveRoles words binding.words
+binding_roles : (net : NetList) (words : List WordText) (feeds : List FeedText) (binding : Binding) → BindingOf net words feeds (Ok binding) → HaveRoles words binding.words
 unfolding roles text_roles
-binding_roles net words binding (bound, is, rest) =
-    ap (λ (b : Binding). roles b.words) rest.2.2 ∙ bound_roles net [] [] words bound is
+binding_roles net words feeds binding (bound, is, rest) =
+    ap (λ (b : Binding). roles b.words) rest.2.2.2 ∙ bound_roles net [] [] words bound is
 
-pub netlist_roles : (words : List WordText) (text : NetlistText) (circuit : BoundNet) → BoundNetOf words text (Ok circuit) → HaveRoles words circuit.bound.words
-netlist_roles words text circuit (net, is_net, (bound, is, (same, flat))) =
-    let P : BoundNet → Type 0 = λ c. HaveRoles words c.bound.words in
-    subst P (sym same) (binding_roles net words bound is)
+pub netlist_roles : (signature : SignatureValue) (text : NetlistText) (circuit : BoundNet) → BoundNetOf signature text (Ok circuit) → HaveRoles signature.words circuit.bound.words
+netlist_roles signature text circuit (net, is_net, (bound, is, (same, flat))) =
+    let P : BoundNet → Type 0 = λ c. HaveRoles signature.words c.bound.words in
+    subst P (sym same) (binding_roles net signature.words [] bound is)
 
 -- so there are as many
 pub roles_long : (words : List WordText) (bound : List BoundWord) → HaveRoles words bound → length bound ≡ length words

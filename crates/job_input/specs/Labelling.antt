@@ -1,17 +1,18 @@
 -- The labels with which a job's polynomials are printed. Source: this project's own, docs/FORMATS.md.
 use Rattle.std.specs.Prelude.{ℕ, ◌<◌, List, [], ◌∷◌, ◌++◌, length, map}
 use Rattle.net_words.specs.declared.word.Role.{Role}
-use Rattle.net_words.specs.declared.word.Role.TheVariants.{Input, State, Output}
+use Rattle.net_words.specs.declared.word.Role.TheVariants.{Input, State, Fed, Output}
 use Rattle.net_words.specs.declared.word.WordText.{WordText}
 use Rattle.poly_mixed.specs.Labels.{Labelling, Differs}
 
--- what a word with this role adds to the input and state words
+-- what a word with this role adds to the input, state and fed words
 abbrev pub word_label : Role → List ℕ → ℕ → List (List ℕ × ℕ)
 word_label Input name k = (name, k) ∷ []
 word_label State name k = (name, k) ∷ []
+word_label Fed name k = (name, k) ∷ []
 word_label Output name k = []
 
--- the input and state words in the order of the signature, each with k bits
+-- the input, state and fed words in the order of the signature, each with k bits
 abbrev pub word_labels : ℕ → List WordText → List (List ℕ × ℕ)
 word_labels k [] = []
 word_labels k (word ∷ words) = word_label word.role word.name k ++ word_labels k words
@@ -20,6 +21,7 @@ word_labels k (word ∷ words) = word_label word.role word.name k ++ word_labels
 abbrev pub name_with : Role → List ℕ → List ℕ → List ℕ
 name_with Input name other = other
 name_with State name other = other
+name_with Fed name other = other
 name_with Output name other = name
 
 -- the name of the first output word
@@ -35,4 +37,5 @@ labels_of k words = record { output = output_name words; words = word_labels k w
 abbrev pub IsNewLabel : Role → List ℕ → List (List ℕ × ℕ) → Type 0
 IsNewLabel Input name before = Differs name (map (λ w. w.0) before) × (length before < 8)
 IsNewLabel State name before = Differs name (map (λ w. w.0) before) × (length before < 8)
+IsNewLabel Fed name before = Differs name (map (λ w. w.0) before) × (length before < 8)
 IsNewLabel Output name before = Unit {0}

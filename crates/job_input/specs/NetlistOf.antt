@@ -1,6 +1,6 @@
 -- The net of a netlist's text with the words of a signature bound to it, or the fault with which it is refused. Source: this
 -- project's own, docs/DEFINITIONS.md; nets are those of the BLIF format of UC Berkeley and of ASCII AIGER.
-use Rattle.std.specs.Prelude.{◌≡◌, ◌≢◌, ℕ, Option, List, [], length, slice_get, Ok, Err, if◌then◌else◌}
+use Rattle.std.specs.Prelude.{◌≡◌, ◌≢◌, ◌⊎◌, ℕ, Option, List, [], length, slice_get, Ok, Err, if◌then◌else◌}
 use Rattle.std.specs.Option.{option_map_or}
 use Rattle.text_core.specs.Outcome.{Outcome, ◌>>=◌, Within}
 use Rattle.job_io.specs.Shelf.{Files}
@@ -19,9 +19,12 @@ use Rattle.net_blif.specs.declared.flat_fault.FlatFault.{FlatFault}
 use Rattle.net_blif.specs.declared.flat_fault.FlatFault.TheVariants as flats
 use Rattle.net_words.specs.Bind.{BindingOf}
 use Rattle.net_words.specs.Binding.{Binding, BoundNet}
+use Rattle.net_words.specs.OneCycle.{IsFlat}
 use Rattle.net_words.specs.declared.binding.BindFault.{BindFault}
 use Rattle.net_words.specs.declared.binding.BindFault.TheVariants as binds
+use Rattle.net_words.specs.declared.feed.FeedText.{FeedText}
 use Rattle.net_words.specs.declared.word.WordText.{WordText}
+use Rattle.net_signature.specs.Signature.{SignatureValue}
 use Rattle.job_words.specs.Operands.{Word, is_aiger}
 use Rattle.job_words.specs.declared.netlist_fault.BindingFault.{BindingFault}
 use Rattle.job_words.specs.declared.netlist_fault.BindingFault.TheVariants as binding
@@ -63,6 +66,7 @@ of_binding words net (binds.NoSuchNet word place) = binding.NoSuchNet (word_name
 of_binding words net (binds.NotInput word place) = binding.NotInput (word_name words word) place
 of_binding words net (binds.NotLatch word place) = binding.NotLatch (word_name words word) place
 of_binding words net (binds.NetTwice n) = binding.NetTwice (text_of net n)
+of_binding words net (binds.FeedNotFree line) = binding.FeedNotFree line
 of_binding words net (binds.Uncovered n) = binding.Uncovered (text_of net n)
 of_binding words net (binds.UnknownStart n) = binding.UnknownStart (text_of net n)
 of_binding words net binds.OutOfMemory = binding.NetTwice []
@@ -98,25 +102,26 @@ abbrev pub NetOf : NetlistText → Outcome NetlistFault NetList
 NetOf (Blif text) = BlifNetOf text
 NetOf (Aiger text) = Within of_aiger (AigerNet text)
 
--- the net with its words, where it has no latches; the cycles of latches are not unrolled yet
-abbrev pub Unlatched : NetList → Binding → Outcome NetlistFault BoundNet
-Unlatched net bound (Ok circuit) = (circuit ≡ record { net = net; bound = bound }) × (net.latches ≡ [])
-Unlatched net bound (Err fault) = (fault ≡ netlist.Latches) × (net.latches ≢ [])
+-- the net with its words in one cycle; the cycles of latches and of feeds are not unrolled yet
+abbrev pub InOneCycle : NetList → Binding → Outcome NetlistFault BoundNet
+InOneCycle net bound (Ok circuit) = (circuit ≡ record { net = net; bound = bound }) × IsFlat net bound
+InOneCycle net bound (Err fault) = ((fault ≡ netlist.Latches) × (net.latches ≢ [])) ⊎ ((fault ≡ netlist.Feeds) × (net.latches ≡ []) × (IsFlat net bound → ⊥))
 
--- the net with the words that are bound to it, or the first fault of the binding, and then of the latches
-abbrev pub WordsBound : List WordText → NetList → Outcome NetlistFault BoundNet
-WordsBound words net = do
-  bound ← Within (λ fault. netlist.Binding (of_binding words net fault)) (BindingOf net words)
-  Unlatched net bound
+-- the net with the words and feeds that are bound to it, or the first fault of the binding, and then of latches and feeds
+abbrev pub WordsBound : List WordText → List FeedText → NetList → Outcome NetlistFault BoundNet
+WordsBound words feeds net = do
+  bound ← Within (λ fault. netlist.Binding (of_binding words net fault)) (BindingOf net words feeds)
+  InOneCycle net bound
 
--- the net of a text with the words that are bound to it: the text, its net, and the binding, of which the first fault counts
-abbrev pub BoundNetOf : List WordText → NetlistText → Outcome NetlistFault BoundNet
-BoundNetOf words text = do
+-- The net of a text with the words of a signature, which has no feeds yet, bound to it: the text, its net, and the binding,
+-- of which the first fault counts.
+abbrev pub BoundNetOf : SignatureValue → NetlistText → Outcome NetlistFault BoundNet
+BoundNetOf signature text = do
   net ← NetOf text
-  WordsBound words net
+  WordsBound signature.words [] net
 
 -- the circuit of a file: it is read, and its netlist taken
-abbrev pub CircuitIn : Option Files → List WordText → Word → Outcome Fault BoundNet
-CircuitIn held words file = do
+abbrev pub CircuitIn : Option Files → SignatureValue → Word → Outcome Fault BoundNet
+CircuitIn held signature file = do
   text ← Within File (Read held file)
-  Within (Netlist file) (BoundNetOf words (by_ending file text))
+  Within (Netlist file) (BoundNetOf signature (by_ending file text))

@@ -15,7 +15,8 @@ use crate::setting::Setting;
 use job_io::Shelf;
 use job_words::{Fault, Stop};
 use net_core::Name;
-use net_words::{Combinational, WordText};
+use net_signature::Signature;
+use net_words::Combinational;
 use std::alloc::Global;
 
 /// The circuit of a netlist's file, to which the words of the setting are bound, or the first fault: that of the file, of
@@ -29,7 +30,7 @@ pub fn read_circuit<S: Shelf>(
     requires { (k : ℕ) × (product : ℕ → ℕ → ℕ) × IsReady k product setting.now }
     ensures held { S.held shelf.new ≡ S.held shelf.old }
     ensures never_fall { (S.faults shelf.old ≤ S.faults shelf.new) × (S.misses shelf.old ≤ S.misses shelf.new) }
-    ensures gives { GivesBy (λ circuit. circuit) result (CircuitIn (S.held shelf.old) setting.now.signature.words file.now)
+    ensures gives { GivesBy (λ circuit. circuit) result (CircuitIn (S.held shelf.old) setting.now.signature file.now)
         (Rose (S.misses shelf.old) (S.misses shelf.new)) (Rose (S.faults shelf.old) (S.faults shelf.new)) }
     ensures taken { IfOk result (λ circuit. (k : ℕ) (product : ℕ → ℕ → ℕ) → IsReady k product setting.now → IsTakenFor k setting.now circuit) }
 {
@@ -37,23 +38,23 @@ pub fn read_circuit<S: Shelf>(
         Ok(text) => text,
         Err(stop) => return Err(stop),
     };
-    circuit_of(alloc, setting.signature.words(), file, &text)
+    circuit_of(alloc, &setting.signature, file, &text)
 }
 
 // The circuit of a netlist's text of at most 67,108,864 bytes.
 fn circuit_of(
     alloc: Global,
-    words: &[WordText],
+    signature: &Signature,
     file: &str,
     text: &[u8],
 ) -> Result<Combinational, Stop>
     requires short { length text.now ≤ 67108864 }
-    requires words { (k : ℕ) × AreWords k words.now }
-    ensures gives { GivesBy (λ circuit. circuit) result (Within (Netlist file.now) (BoundNetOf words.now (by_ending file.now text.now))) ⊥ ⊥ }
-    ensures bits { IfOk result (λ circuit. circuit.bound.k ≡ bits_of words.now) }
+    requires words { (k : ℕ) × AreWords k signature.now.words }
+    ensures gives { GivesBy (λ circuit. circuit) result (Within (Netlist file.now) (BoundNetOf signature.now (by_ending file.now text.now))) ⊥ ⊥ }
+    ensures bits { IfOk result (λ circuit. circuit.bound.k ≡ bits_of signature.now.words) }
 {
     let name = Name::new(alloc, file)?;
-    match bound_net(alloc, words, file, text) {
+    match bound_net(alloc, signature, file, text) {
         Ok(circuit) => Ok(circuit),
         Err(Refusal::Fault(fault)) => Err(Stop::Refused(Fault::Netlist { file: name, fault })),
         Err(Refusal::OutOfMemory) => Err(Stop::OutOfMemory),

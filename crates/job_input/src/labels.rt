@@ -2,7 +2,7 @@
 ghost use Rattle.std.specs.Prelude.{◌≡◌, ◌≤◌, ◌++◌, ℕ, [], IfOk, OnOk};
 ghost use Rattle.text_core.specs.Names.{IsName};
 ghost use Rattle.net_words.specs.Binding.{AreWords};
-ghost use Rattle.net_words.specs.WordNames.{HaveNames};
+ghost use Rattle.net_signature.specs.WordNames.{HaveNames};
 ghost use Rattle.job_input.specs.Labelling.{labels_of, word_label, IsNewLabel, output_name as name_of_output};
 
 use net_words::{Role, WordText};
@@ -37,7 +37,7 @@ fn output_name<'a>(words: &'a [WordText]) -> &'a str
     unreachable!()
 }
 
-// Adds a word's label, if it is an input or state word.
+// Adds a word's label, unless it is the output word.
 fn add_label(labels: &mut Labels, word: &WordText, k: u32) -> Result<(), AllocError>
     requires name { IsName word.now.name }
     requires bits { (1 ≤ k) × (k ≤ 64) }
@@ -46,7 +46,7 @@ fn add_label(labels: &mut Labels, word: &WordText, k: u32) -> Result<(), AllocEr
     ensures { OnOk result (labels.new ≡ record { output = labels.old.output; words = labels.old.words ++ word_label word.now.role word.now.name k; nets = [] }) }
 {
     match word.role {
-        Role::Input | Role::State => labels.word(word.name.as_str(), k),
+        Role::Input | Role::State | Role::Fed => labels.word(word.name.as_str(), k),
         Role::Output => Ok(()),
     }
 }

@@ -1,7 +1,7 @@
 //! Laws of settings, circuits and specifications. These functions do nothing: their contracts are proved of the definitions alone.
 ghost use Rattle.std.specs.Prelude.{List, ℕ, Ok};
 ghost use Rattle.text_core.specs.Outcome.{Determined};
-ghost use Rattle.net_words.specs.declared.word.WordText.{WordText};
+ghost use Rattle.net_signature.specs.Signature.{SignatureValue};
 ghost use Rattle.poly_mixed.specs.Labels.{Labelling};
 ghost use Rattle.job_input.specs.NetlistOf.{BoundNetOf, NetlistText};
 ghost use Rattle.job_input.specs.SettingOf.{SettingOf};
@@ -21,7 +21,7 @@ pub fn each_setting_is_sound()
 
 /// At most one net with its binding, or one fault, comes of the text of a netlist under the words of a signature.
 pub fn one_netlist_or_fault()
-    ensures { (words : List WordText) (text : NetlistText) → Determined (BoundNetOf words text) }
+    ensures { (signature : SignatureValue) (text : NetlistText) → Determined (BoundNetOf signature text) }
 {}
 
 /// At most one specification, or one fault, comes of the text of a specification over the words of some labels.

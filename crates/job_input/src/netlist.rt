@@ -1,17 +1,19 @@
 //! A netlist: its text, its net, and the binding of the signature's words.
-ghost use Rattle.std.specs.Prelude.{◌≡◌, ◌≤◌, ◌<◌, ℕ, length, IfOk, IsOk};
+ghost use Rattle.std.specs.Prelude.{◌≡◌, ◌≤◌, ◌<◌, ℕ, length, map, IfOk, IsOk};
 ghost use Rattle.net_core.specs.NetList.{nets, text_of};
 ghost use Rattle.net_words.specs.Bind.{bits_of};
 ghost use Rattle.net_words.specs.Binding.{AreWords};
+ghost use Rattle.net_words.specs.Feeds.{AreFeeds};
 ghost use Rattle.job_words.specs.Operands.{is_aiger as ends_as_aiger};
 ghost use Rattle.job_input.specs.NetlistOf.{Aiger, Blif, BoundNetOf, NetOf, WordsBound, by_ending, of_binding, word_name as name_of};
-ghost use Rattle.job_input.specs.private.NetlistReading.{FitsNetlist, IsNamed, IsNetlistRefusal, aiger_refusal, text_refusal, model_refusal, net_refusal};
+ghost use Rattle.job_input.specs.private.NetlistReading.{FitsNetlist, IsNamed, IsNetlistRefusal, IsUnrollingFault, aiger_refusal, text_refusal, model_refusal, net_refusal};
 
 use job_words::{BindingFault, NetlistFault};
 use net_aiger::{AigerFault, read_aiger};
 use net_blif::{BlifFault, FlatFault, flatten, read_blif};
 use net_core::{Name, Net, NetFault};
-use net_words::{BindFault, Combinational, WordText, bind};
+use net_signature::Signature;
+use net_words::{BindFault, Combinational, FeedText, WordText, bind};
 use std::alloc::{AllocError, Global};
 
 /// Why a netlist is refused, without its file.
@@ -21,38 +23,54 @@ pub(crate) enum Refusal {
     OutOfMemory,
 }
 
-/// The net of a netlist's text, by the ending of its file's name, with the words that are bound to it.
+/// The net of a netlist's text, by the ending of its file's name, with the words of a signature bound to it.
 pub(crate) fn bound_net(
     alloc: Global,
-    words: &[WordText],
+    signature: &Signature,
     file: &str,
     text: &[u8],
 ) -> Result<Combinational, Refusal>
     requires short { length text.now ≤ 67108864 }
-    requires words { (k : ℕ) × AreWords k words.now }
-    ensures fits { FitsNetlist result (BoundNetOf words.now (by_ending file.now text.now)) }
-    ensures bits { IfOk result (λ circuit. circuit.bound.k ≡ bits_of words.now) }
+    requires words { (k : ℕ) × AreWords k signature.now.words }
+    ensures fits { FitsNetlist result (BoundNetOf signature.now (by_ending file.now text.now)) }
+    ensures bits { IfOk result (λ circuit. circuit.bound.k ≡ bits_of signature.now.words) }
 {
     match net_of(alloc, file, text) {
-        Ok(net) => bound_to(alloc, words, net),
+        Ok(net) => bound_to(alloc, signature.words(), &[], net),
         Err(refusal) => Err(refusal),
     }
 }
 
-// The net with the words that are bound to it.
-fn bound_to(alloc: Global, words: &[WordText], net: Net) -> Result<Combinational, Refusal>
-    requires words { (k : ℕ) × AreWords k words.now }
-    ensures fits { FitsNetlist result (WordsBound words.now net) }
+// The net with the words and feeds that are bound to it.
+fn bound_to(
+    alloc: Global,
+    words: &[WordText],
+    feeds: &[FeedText],
+    net: Net,
+) -> Result<Combinational, Refusal>
+    requires words { (k : ℕ) × AreWords k words.now × AreFeeds k (map (λ word. word.role) words.now) feeds.now }
+    ensures fits { FitsNetlist result (WordsBound words.now feeds.now net) }
     ensures bits { IfOk result (λ circuit. circuit.bound.k ≡ bits_of words.now) }
 {
     let _count = net.nets();
-    let bound = match bind(alloc, words, &net) {
+    let bound = match bind(alloc, words, feeds, &net) {
         Ok(bound) => bound,
         Err(fault) => return Err(binding_fault(alloc, words, &net, fault)),
     };
     match Combinational::new(net, bound) {
         Ok(circuit) => Ok(circuit),
-        Err(_) => Err(Refusal::Fault(NetlistFault::Latches)),
+        Err((net, _bound)) => Err(Refusal::Fault(unrolling_fault(&net))),
+    }
+}
+
+// What a net is refused for that is not of one cycle.
+fn unrolling_fault(net: &Net) -> NetlistFault
+    ensures { IsUnrollingFault net.now result }
+{
+    if net.latches().is_empty() {
+        NetlistFault::Feeds
+    } else {
+        NetlistFault::Latches
     }
 }
 
@@ -202,6 +220,7 @@ fn named_fault(
             let label = label(alloc, net, number)?;
             Ok(BindingFault::NetTwice { label })
         }
+        BindFault::FeedNotFree { line } => Ok(BindingFault::FeedNotFree { line }),
         BindFault::Uncovered { net: number } => {
             let label = label(alloc, net, number)?;
             Ok(BindingFault::Uncovered { label })

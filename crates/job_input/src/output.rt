@@ -2,9 +2,9 @@
 ghost use Rattle.std.specs.Prelude.{◌≡◌, length};
 ghost use Rattle.gf_basis.specs.BasisParts.{elements_of};
 ghost use Rattle.net_core.specs.Lists.{Has};
-ghost use Rattle.net_words.specs.Bind.{same_role};
 ghost use Rattle.net_words.specs.declared.word.Role.TheVariants.{Output};
-ghost use Rattle.net_words.specs.BoundTo.{IsBoundTo};
+ghost use Rattle.net_words.specs.Binding.{IsBinding};
+ghost use Rattle.net_words.specs.Roles.{same_role};
 ghost use Rattle.circuit_model.specs.OfBinding.{output_basis as basis_of_output};
 ghost use Rattle.job_input.specs.Setting.{elements_of_each};
 
@@ -13,7 +13,7 @@ use net_words::{Bound, Role};
 
 /// The basis of the output word, out of one basis for each word.
 pub fn output_basis<'a>(bound: &Bound, bases: &'a [Basis]) -> &'a Basis
-    requires one { (net : _) × IsBoundTo net bound.now }
+    requires one { IsBinding bound.now }
     requires long { length bases.now ≡ length bound.now.words }
     ensures basis { elements_of result.now ≡ basis_of_output bound.now.words (elements_of_each bases.now) }
     ensures among { Has bases.now result.now }
@@ -32,6 +32,6 @@ fn is_output(role: Role) -> bool
 {
     match role {
         Role::Output => true,
-        Role::Input | Role::State => false,
+        Role::Input | Role::State | Role::Fed => false,
     }
 }

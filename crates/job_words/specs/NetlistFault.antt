@@ -16,6 +16,7 @@ binding_text (binding.NoSuchNet word place) = codes "39: no net for " ++ bit_tex
 binding_text (binding.NotInput word place) = codes "39: " ++ bit_text word place (codes " is no input")
 binding_text (binding.NotLatch word place) = codes "39: " ++ bit_text word place (codes " is no latch")
 binding_text (binding.NetTwice label) = codes "39: net " ++ (label ++ codes " stands twice")
+binding_text (binding.FeedNotFree line) = codes "13: feed at line " ++ (decimal line ++ codes " is no free input")
 binding_text (binding.Uncovered label) = codes "39: input " ++ (label ++ codes " is in no word")
 binding_text (binding.UnknownStart label) = codes "39: latch " ++ (label ++ codes " has no start")
 
@@ -37,3 +38,4 @@ netlist_text (netlist.Undefined line) = codes "46: undefined at line " ++ decima
 netlist_text (netlist.NameTwice line) = codes "46: name twice at line " ++ decimal line
 netlist_text (netlist.Binding fault) = binding_text fault
 netlist_text netlist.Latches = codes "31: latches"
+netlist_text netlist.Feeds = codes "31: feeds"

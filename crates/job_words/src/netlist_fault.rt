@@ -41,6 +41,8 @@ pub enum NetlistFault {
     Binding(BindingFault),
     /// The words are bound, and the net has latches, whose cycles are not unrolled yet.
     Latches,
+    /// The words are bound, and the signature has feeds or fed words, whose cycles are not unrolled yet.
+    Feeds,
 }
 
 /// Why the words of a signature can't be bound to a netlist. Places count from 0.
@@ -54,7 +56,9 @@ pub enum BindingFault {
     NotLatch { word: Name, place: u32 },
     /// The net stands twice in input and state words.
     NetTwice { label: Name },
-    /// A primary input is in no word, and something depends on it.
+    /// The net of a feed's line is no named net, or no primary input, or stands in an input word.
+    FeedNotFree { line: u32 },
+    /// A primary input is in no word and not fed, and something depends on it.
     Uncovered { label: Name },
     /// A latch with an unknown start is in no state word.
     UnknownStart { label: Name },
@@ -92,6 +96,7 @@ pub(crate) fn netlist_text(alloc: Global, fault: &NetlistFault) -> Result<String
         NetlistFault::NameTwice { line } => format!(in alloc; "46: name twice at line {line}"),
         NetlistFault::Binding(fault) => binding_text(alloc, fault),
         NetlistFault::Latches => format!(in alloc; "31: latches"),
+        NetlistFault::Feeds => format!(in alloc; "31: feeds"),
     }
 }
 
@@ -114,6 +119,9 @@ fn binding_text(alloc: Global, fault: &BindingFault) -> Result<String, AllocErro
         }
         BindingFault::NetTwice { label } => {
             about(alloc, "39: net ", label.as_str(), " stands twice")
+        }
+        BindingFault::FeedNotFree { line } => {
+            format!(in alloc; "13: feed at line {line} is no free input")
         }
         BindingFault::Uncovered { label } => {
             about(alloc, "39: input ", label.as_str(), " is in no word")

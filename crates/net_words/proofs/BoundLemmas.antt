@@ -1,5 +1,5 @@
 -- What comes of binding words is bound to the net list.
-use Rattle.std.proofs.Common.{◌≡◌, ◌∙◌, ap, sym, refl, ⊎_elim, subst, append_assoc, ℕ, zero, suc, ◌<◌, ◌≤◌, ◌==◌, ◌&&◌, ◌||◌, not, List, [], ◌∷◌, ◌++◌, length, map, filter, Bool, true, false, cond, Option, Some, None, Result, Ok, Err, arith, All, append-nil}
+use Rattle.std.proofs.Common.{◌≡◌, ◌∙◌, ◌⊎◌, ap, sym, refl, ⊎_elim, subst, append_assoc, ℕ, zero, suc, ◌<◌, ◌≤◌, ◌==◌, ◌&&◌, ◌||◌, not, List, [], ◌∷◌, ◌++◌, length, map, filter, Bool, true, false, cond, Option, Some, None, Result, Ok, Err, arith, All, append-nil}
 use Rattle.std.proofs.lemmas.Bool.{true≢false}
 use Rattle.std.proofs.lemmas.Bool.Decides.{eqb_tells}
 use Rattle.graph_core.specs.Walk.{IsChain}
@@ -12,18 +12,23 @@ use Rattle.net_core.specs.Sound.{IsSound}
 use Rattle.net_core.specs.declared.latch.Start.TheVariants.{Unknown}
 use Rattle.net_core.proofs.DriverLemmas.{Has_map, times_append, All_has, none_here}
 use Rattle.net_core.proofs.NameLemmas.{some_below}
-use Rattle.net_words.specs.Binding.{Binding, AreWords}
-use Rattle.net_words.specs.Bind.{stands_in, is_latch, with_role, place_net, taken_with, NetsOf, bound_word, BoundOf, same_role, in_word, feeds_gate, feeds_latch, is_used, IsCovered, is_unknown, started, bits_of, BindingOf}
+use Rattle.net_words.specs.Binding.{Binding, AreWords, HasWidth, IsBinding}
+use Rattle.net_words.specs.Bind.{is_latch, with_role, names_with, place_net, taken_with, NetsOf, bound_word, BoundOf, feeds_gate, feeds_latch, is_used, IsCovered, is_unknown, started, bits_of, BindingOf}
 use Rattle.net_words.specs.BoundTo.{output_bits, StandsOn, IsBoundTo}
+use Rattle.net_words.specs.Feeds.{AreFeeds, FeedsOf, fed_nets, is_fed}
 use Rattle.net_words.specs.Reach.{Draws, Reaches}
-use Rattle.net_words.specs.Signature.{is_output, input_count}
+use Rattle.net_words.specs.Roles.{is_output, input_count, same_role, in_word, stands_in}
 use Rattle.net_words.specs.Variables.{bits, bits_with}
 use Rattle.net_words.specs.declared.binding.BindFault.{BindFault}
 use Rattle.net_words.specs.declared.binding.BindFault.TheVariants.{NotInput, NotLatch, NetTwice, UnknownStart}
 use Rattle.net_words.specs.declared.bound.BoundWord.{BoundWord}
+use Rattle.net_words.specs.declared.feed.Feed.{Feed}
+use Rattle.net_words.specs.declared.feed.FeedText.{FeedText}
 use Rattle.net_words.specs.declared.word.Role.{Role}
-use Rattle.net_words.specs.declared.word.Role.TheVariants.{Input, State, Output}
+use Rattle.net_words.specs.declared.word.Role.TheVariants.{Input, State, Fed, Output}
 use Rattle.net_words.specs.declared.word.WordText.{WordText}
+use Rattle.net_words.proofs.BindLemmas.{width_of}
+use Rattle.net_words.proofs.FeedLemmas.{feed_is, feeds_apart, fed_has}
 use Rattle.net_words.proofs.MemberLemmas.{any_has, has_any, stands_has, has_stands, stands_none, word_bits, output_word}
 
 -- no number stands twice
@@ -74,6 +79,7 @@ role_placed net word place taken State m n below is =
     let same : n ≡ m = through.2 in
     let P : ℕ → Type 0 = λ k. IsPlaced net State taken k in
     subst P (sym same) (record { stands = latch_stands net m through.0; apart = apart_more taken m through.1 })
+role_placed net word place taken Fed m n below is = absurd (ok_no_err n (NotInput word place) is)
 role_placed net word place taken Output m n below is =
     let same : n ≡ m = same_ok n m is in
     record { stands = omega arith; apart = λ apart. apart }
@@ -85,6 +91,7 @@ place_placed net word place taken role name (Some m) n found is = role_placed ne
 taken_more : (role : Role) (n : ℕ) (taken more : List ℕ) → taken_with role n taken ++ bits_with role more ≡ taken ++ bits_with role (n ∷ more)
 taken_more Input n taken more = append_assoc taken (n ∷ []) more
 taken_more State n taken more = append_assoc taken (n ∷ []) more
+taken_more Fed n taken more = append_assoc taken (n ∷ []) more
 taken_more Output n taken more = refl
 
 -- the nets of a word, after those before
@@ -116,6 +123,7 @@ nets_added net word role taken before [] whole taken' is =
     none_added : (r : Role) (xs : List ℕ) → xs ++ bits_with r [] ≡ xs
     none_added Input xs = append-nil xs
     none_added State xs = append-nil xs
+    none_added Fed xs = append-nil xs
     none_added Output xs = append-nil xs
 nets_added net word role taken before (name ∷ names) whole taken' is =
     let n : ℕ = is.0 in
@@ -136,7 +144,8 @@ record WordsAdded (net : NetList) (taken : List ℕ) (before : List BoundWord) (
   whole_is : whole ≡ before ++ more
   taken_is : taken' ≡ taken ++ bits more
   long : length more ≡ length words
-  each : (k : ℕ) → All (λ word. length word.nets ≡ k) words → All (λ word. length word.nets ≡ k) more
+  each : (k : ℕ) → All (λ word. (length word.nets ≡ k) ⊎ (word.role ≡ Fed)) words → All (HasWidth k) more
+  roles : map (λ word. word.role) more ≡ map (λ word. word.role) words
   outputs : length (filter (λ word. same_role word.role Output) more) ≡ length (filter is_output words)
   others : length (filter (λ word. not (same_role word.role Output)) more) ≡ input_count words
   places : (word : BoundWord) (n : ℕ) → Has more word → Has word.nets n → StandsOn net word.role n
@@ -155,14 +164,6 @@ all_first : {X : Type 0} (P : X → Type 0) (x : X) (xs : List X) → P x → Al
 all_first P x xs here there zero d below = here
 all_first P x xs here there (suc i) d below = there i d (omega arith)
 
-role_output : (word : WordText) → same_role word.role Output ≡ is_output word
-role_output word = by word.line word.name word.role word.basis word.nets
-  where
-    by : (line : _) (name : _) (role : Role) (basis : _) (list : _) → same_role role Output ≡ is_output (record { line = line; name = name; role = role; basis = basis; nets = list })
-    by line name Input basis list = refl
-    by line name State basis list = refl
-    by line name Output basis list = refl
-
 words_added : (net : NetList) (taken : List ℕ) (before : List BoundWord) (words : List WordText) (whole : List BoundWord) (taken' : List ℕ) → BoundOf net taken before words (Ok (whole, taken')) → WordsAdded net taken before words whole taken'
 words_added net taken before [] whole taken' is =
     let taken_same : taken' ≡ taken = ap (λ p. p.1) is in
@@ -173,6 +174,7 @@ words_added net taken before [] whole taken' is =
       taken_is = taken_same ∙ sym (append-nil taken);
       long = refl;
       each = λ k all i d below. absurd (omega arith);
+      roles = refl;
       outputs = refl;
       others = refl;
       places = λ word n has. absurd (let got = has.1 in cc);
@@ -181,7 +183,8 @@ words_added net taken before [] whole taken' is =
 words_added net taken before (word ∷ words) whole taken' is =
     let list : List ℕ × List ℕ = is.0 in
     let bound : BoundWord = bound_word word list.0 in
-    let here : NetsAdded net word.role taken [] word.nets list.0 list.1 = nets_added net (length before) word.role taken [] word.nets list.0 list.1 is.1 in
+    let names : List (List ℕ) = names_with word.role word.nets in
+    let here : NetsAdded net word.role taken [] names list.0 list.1 = nets_added net (length before) word.role taken [] names list.0 list.1 is.1 in
     let rest : WordsAdded net list.1 (before ++ bound ∷ []) words whole taken' = words_added net list.1 (before ++ bound ∷ []) words whole taken' is.2 in
     let nets_are : here.more ≡ list.0 = sym here.whole_is in
     let P : List ℕ → Type 0 = λ xs. (n : ℕ) → Has xs n → StandsOn net word.role n in
@@ -193,9 +196,10 @@ words_added net taken before (word ∷ words) whole taken' is =
       whole_is = rest.whole_is ∙ append_assoc before (bound ∷ []) rest.more;
       taken_is = rest.taken_is ∙ ap (λ xs. xs ++ bits rest.more) (here.taken_is ∙ ap (λ xs. taken ++ bits_with word.role xs) nets_are) ∙ append_assoc taken (bits_with word.role list.0) (bits rest.more);
       long = omega (arith, rest.long);
-      each = λ k all. all_first (λ w. length w.nets ≡ k) bound rest.more (ap length (sym nets_are) ∙ here.long ∙ all 0 word (omega arith)) (rest.each k (λ i d below. all (suc i) d (omega arith)));
-      outputs = count_more (λ w. same_role w.role Output) is_output bound word rest.more words (role_output word) rest.outputs;
-      others = count_more (λ w. not (same_role w.role Output)) (λ w. not (is_output w)) bound word rest.more words (ap not (role_output word)) rest.others;
+      each = λ k all. all_first (HasWidth k) bound rest.more (width_of k word.role word.nets list.0 (ap length (sym nets_are) ∙ here.long) (all 0 word (omega arith))) (rest.each k (λ i d below. all (suc i) d (omega arith)));
+      roles = ap (λ roles. word.role ∷ roles) rest.roles;
+      outputs = count_more (λ w. same_role w.role Output) is_output bound word rest.more words refl rest.outputs;
+      others = count_more (λ w. not (same_role w.role Output)) (λ w. not (is_output w)) bound word rest.more words refl rest.others;
       places = λ w n has. placed w has n;
       apart = λ apart. rest.apart (here.apart apart);
     }
@@ -238,45 +242,80 @@ reach_used : (net : NetList) (words : List BoundWord) (n : ℕ) → Reaches net 
 reach_used net words n reaches =
     ⊎_elim (λ here. or_right (feeds_gate net n || feeds_latch net n) (in_word Output words n) (output_word words n here)) (λ far. let last = last_draw (Draws net) far.0 far.1 n far.3 in drawn_used net words last.0 n last.1) reaches
 
--- a primary input that is in no word reaches no bit of the output word
-covered_reach : (net : NetList) (words : List BoundWord) (n : ℕ) → IsInside net → IsCovered net words (Ok tt) → Has net.inputs n → (Has (bits words) n → ⊥) → Reaches net n (output_bits words) → ⊥
-covered_reach net words n inside covered has free reaches =
+-- a primary input that is in no word and not fed reaches no bit of the output word
+covered_reach : (net : NetList) (words : List BoundWord) (feeds : List Feed) (n : ℕ) → IsInside net → IsCovered net words feeds (Ok tt) → Has net.inputs n → (Has (bits words) n → ⊥) → (Has (fed_nets feeds) n → ⊥) → Reaches net n (output_bits words) → ⊥
+covered_reach net words feeds n inside covered has free unfed reaches =
     let below : n < nets net = All_has (λ m. m < nets net) net.inputs n inside.inputs has in
-    true≢false (sym (uncovered (stands_in net.inputs n) (in_word Input words n) (is_used net words n) (has_stands net.inputs n has) (λ hit. free (word_bits Input words n refl hit)) (reach_used net words n reaches)) ∙ covered n below)
+    true≢false (sym (uncovered (stands_in net.inputs n) (in_word Input words n) (is_fed feeds n) (is_used net words n) (has_stands net.inputs n has) (λ hit. free (word_bits Input words n refl hit)) (λ hit. unfed (fed_has feeds n hit)) (reach_used net words n reaches)) ∙ covered n below)
   where
-    uncovered : (a b c : Bool) → a ≡ true → (b ≡ true → ⊥) → c ≡ true → (a && not b && c) ≡ true
-    uncovered true true c ea eb ec = absurd (eb refl)
-    uncovered true false c ea eb ec = ec
-    uncovered false b c ea eb ec = absurd (cc)
+    uncovered : (a b c d : Bool) → a ≡ true → (b ≡ true → ⊥) → (c ≡ true → ⊥) → d ≡ true → (a && not b && not c && d) ≡ true
+    uncovered true true c d ea eb ec ed = absurd (eb refl)
+    uncovered true false true d ea eb ec ed = absurd (ec refl)
+    uncovered true false false d ea eb ec ed = ed
+    uncovered false b c d ea eb ec ed = absurd (cc)
 
--- the first word has k nets, as each has
+-- the first word that is not fed has k nets, as each such word has
 pub first_long : (k : ℕ) (words : List WordText) → AreWords k words → bits_of words ≡ k
-first_long k [] are = absurd (omega (arith, are.one))
-first_long k (word ∷ words) are = are.each 0 word (omega arith)
+first_long k words are = first words are.each (omega (arith, are.output))
+  where
+    first : (ws : List WordText) → All (λ word. (length word.nets ≡ k) ⊎ (word.role ≡ Fed)) ws → 1 ≤ length (filter is_output ws) → bits_of ws ≡ k
+    first [] each some = absurd (omega (arith, some))
+    first (word ∷ ws) each some = by word.role refl (each 0 word (omega arith)) some (first ws (λ i d below. each (suc i) d (omega arith)))
+      where
+        by : (r : Role) → word.role ≡ r → (length word.nets ≡ k) ⊎ (word.role ≡ Fed) → 1 ≤ length (cond (same_role r Output) (word ∷ filter is_output ws) (filter is_output ws)) → (1 ≤ length (filter is_output ws) → bits_of ws ≡ k) → cond (same_role r Fed) (bits_of ws) (length word.nets) ≡ k
+        by Input is own some rest = ⊎_elim (λ long. long) (λ fed. absurd (cc)) own
+        by State is own some rest = ⊎_elim (λ long. long) (λ fed. absurd (cc)) own
+        by Fed is own some rest = rest some
+        by Output is own some rest = ⊎_elim (λ long. long) (λ fed. absurd (cc)) own
 
--- words that are bound by the list are bound to the net list
-pub bound_to : (net : NetList) (k : ℕ) (words : List WordText) (binding : Binding) → IsSound net → AreWords k words → BindingOf net words (Ok binding) → IsBoundTo net binding
-bound_to net k words binding sound are is =
+-- words that are bound are parts of a binding
+pub bound_parts : (net : NetList) (k : ℕ) (words : List WordText) (list : List BoundWord) (taken : List ℕ) (feeds : List Feed) (count : ℕ) → AreWords k words → BoundOf net [] [] words (Ok (list, taken)) → IsBinding (record { k = bits_of words; words = list; feeds = feeds; nets = count })
+bound_parts net k words list taken feeds count are is =
+    let added : WordsAdded net [] [] words list taken = words_added net [] [] words list taken is in
+    let long : bits_of words ≡ k = first_long k words are in
+    let same : added.more ≡ list = sym added.whole_is in
+    let A : ℕ → Type 0 = λ j. All (HasWidth j) added.more in
+    let Q : List BoundWord → Type 0 = λ xs. IsBinding (record { k = bits_of words; words = xs; feeds = feeds; nets = count }) in
+    subst Q same (record {
+      some = omega (arith, are.some, long);
+      most = omega (arith, are.most, long);
+      one = added.outputs ∙ are.output;
+      few = omega (arith, added.others, are.others);
+      each = subst A (sym long) (added.each k are.each);
+    })
+
+-- words and feeds that are bound by the list are bound to the net list
+pub bound_to : (net : NetList) (k : ℕ) (words : List WordText) (feeds : List FeedText) (binding : Binding) → IsSound net → AreWords k words → AreFeeds k (map (λ word. word.role) words) feeds → BindingOf net words feeds (Ok binding) → IsBoundTo net binding
+bound_to net k words feeds binding sound are fed is =
     let list : List BoundWord = is.0.0 in
     let added : WordsAdded net [] [] words list is.0.1 = words_added net [] [] words list is.0.1 is.1 in
-    let covered : IsCovered net list (Ok tt) = is.2.1 in
-    let known : Ok tt ≡ started list net.latches = is.2.2.1 in
+    let found : List Feed = is.2.0 in
+    let of : FeedsOf net list [] feeds (Ok found) = is.2.1 in
+    let covered : IsCovered net list found (Ok tt) = is.2.2.1 in
+    let known : Ok tt ≡ started list net.latches = is.2.2.2.1 in
     let long : bits_of words ≡ k = first_long k words are in
     let same : added.more ≡ list = sym added.whole_is in
     let apart : AreApart (bits added.more) = subst AreApart added.taken_is (added.apart (λ n. omega arith)) in
     let P : Binding → Type 0 = λ b. IsBoundTo net b in
-    let Q : List BoundWord → Type 0 = λ xs. IsBoundTo net (record { k = bits_of words; words = xs; nets = nets net }) in
-    let R : List BoundWord → Type 0 = λ xs. IsCovered net xs (Ok tt) in
+    let Q : List BoundWord → Type 0 = λ xs. IsBoundTo net (record { k = bits_of words; words = xs; feeds = found; nets = nets net }) in
+    let R : List BoundWord → Type 0 = λ xs. IsCovered net xs found (Ok tt) in
     let S : List BoundWord → Type 0 = λ xs. Ok tt ≡ started xs net.latches in
-    let covers : IsCovered net added.more (Ok tt) = subst R (sym same) covered in
+    let T : List BoundWord → Type 0 = λ xs. FeedsOf net xs [] feeds (Ok found) in
+    let covers : IsCovered net added.more found (Ok tt) = subst R (sym same) covered in
     let starts : Ok tt ≡ started added.more net.latches = subst S (sym same) known in
-    subst P (sym is.2.2.2) (subst Q same (record {
-      parts = record { some = omega (arith, are.some, long); most = omega (arith, are.most, long); few = omega (arith, are.few, added.long); each = λ i d below. added.each k are.each i d below ∙ sym long };
+    let fed_of : FeedsOf net added.more [] feeds (Ok found) = subst T (sym same) of in
+    let B : List BoundWord → Type 0 = λ xs. IsBinding (record { k = bits_of words; words = xs; feeds = found; nets = nets net }) in
+    let F : List Role → Type 0 = λ roles. AreFeeds k roles feeds in
+    let are_fed : AreFeeds k (map (λ (w : BoundWord). w.role) added.more) feeds = subst F (sym added.roles) fed in
+    let G : ℕ → Type 0 = λ j. AreFeeds j (map (λ (w : BoundWord). w.role) added.more) feeds in
+    let all_fed : AreFeeds (bits_of words) (map (λ (w : BoundWord). w.role) added.more) feeds = subst G (sym long) are_fed in
+    subst P (sym is.2.2.2.2) (subst Q same (record {
+      parts = subst B (sym same) (bound_parts net k words list is.0.1 found (nets net) are is.1);
       count = refl;
-      one = added.outputs ∙ are.output;
-      few = omega (arith, added.others, are.others);
       once = apart;
       places = added.places;
+      feeds = λ f has. feed_is net (bits_of words) added.more feeds found all_fed fed_of (record { k = bits_of words; words = added.more; feeds = found; nets = nets net }) refl refl f has;
+      apart = λ i j f g at_f at_g net_same cycle_same. feeds_apart net (bits_of words) added.more feeds found all_fed fed_of i j f g at_f at_g net_same cycle_same;
       starts = λ l has free unknown. free (word_bits State added.more l.out refl (started_each added.more net.latches starts l has unknown));
-      covered = λ n has free reaches. covered_reach net added.more n sound.inside covers has free reaches;
+      covered = λ n has free unfed reaches. covered_reach net added.more found n sound.inside covers has free unfed reaches;
     }))

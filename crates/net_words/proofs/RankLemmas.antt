@@ -5,19 +5,15 @@ use Rattle.std.specs.List.{range_with_len}
 use Rattle.std.proofs.lemmas.Bool.{true≢false}
 use Rattle.std.proofs.lemmas.Bool.Decides.{eqb_tells}
 use Rattle.std.proofs.lemmas.Option.{slice_get-get_or}
-use Rattle.net_core.specs.LatchValue.{LatchValue}
 use Rattle.net_core.specs.Inside.{IsInside}
 use Rattle.net_core.specs.Sound.{IsSound}
 use Rattle.net_core.specs.Lists.{Has, times}
 use Rattle.net_core.specs.NetList.{NetList, nets}
-use Rattle.net_core.proofs.DriverLemmas.{Has_cases, from_map, times_append, times_get, times_two, one_here, none_here, All_has}
-use Rattle.net_words.specs.Bind.{stands_in}
+use Rattle.net_core.proofs.DriverLemmas.{Has_cases, times_append, times_get, times_two, one_here, none_here, All_has}
 use Rattle.net_words.specs.Binding.{Binding}
-use Rattle.net_words.specs.BoundTo.{StandsOn, IsBoundTo}
-use Rattle.net_words.specs.Variables.{bits, bits_with, others, variables, IsRanked}
-use Rattle.net_words.specs.declared.bound.BoundWord.{BoundWord}
-use Rattle.net_words.specs.declared.word.Role.{Role}
-use Rattle.net_words.specs.declared.word.Role.TheVariants.{Input, State, Output}
+use Rattle.net_words.specs.OneCycle.{IsOneCycle}
+use Rattle.net_words.specs.Roles.{stands_in}
+use Rattle.net_words.specs.Variables.{bits, others, variables, IsRanked}
 use Rattle.net_words.proofs.MemberLemmas.{stands_has, stands_none}
 
 below_range : (a c n : ℕ) → Has (range_with_len a c) n → (a ≤ n) × (n < a + c)
@@ -93,37 +89,16 @@ below_each : (c : ℕ) (xs : List ℕ) → ((n : ℕ) → n < c → times n xs �
 below_each zero xs once = refl
 below_each (suc c) xs once = omega (arith, once c (omega arith), below_each c xs (λ n less. once n (omega arith)))
 
--- a net on which a word stands exists
-stands_below : (net : NetList) (role : Role) (n : ℕ) → IsInside net → StandsOn net role n → n < nets net
-stands_below net Input n inside stands = All_has (λ m. m < nets net) net.inputs n inside.inputs stands
-stands_below net State n inside stands =
-    let found = from_map (λ (l : LatchValue). l.out) net.latches stands.0 n stands.1 in
-    let P : ℕ → Type 0 = λ m. m < nets net in
-    subst P found.2 ((All_has (λ l. (l.next < nets net) × (l.out < nets net)) net.latches found.0 inside.latches (stands.0, found.1)).1)
-stands_below net Output n inside stands = stands
-
-bit_word : (role : Role) (list : List ℕ) (n : ℕ) → Has (bits_with role list) n → Has list n
-bit_word Input list n has = has
-bit_word State list n has = has
-bit_word Output list n has = absurd (let got = has.1 in cc)
-
-bits_word : (words : List BoundWord) (n : ℕ) → Has (bits words) n → (word : BoundWord) × Has words word × Has word.nets n
-bits_word [] n has = absurd (let got = has.1 in cc)
-bits_word (word ∷ words) n has =
-    ⊎_elim (λ here. (word, (0, refl), bit_word word.role word.nets n here)) (λ there. let rest = bits_word words n there in (rest.0, (suc rest.1.0, rest.1.1), rest.2)) (Has_cases (bits_with word.role word.nets) (bits words) n has)
-
-bits_below : (net : NetList) (binding : Binding) (n : ℕ) → IsInside net → IsBoundTo net binding → Has (bits binding.words) n → n < nets net
-bits_below net binding n inside bound has =
-    let found = bits_word binding.words n has in
-    stands_below net found.0.role n inside (bound.places found.0 n found.1 found.2)
+bits_below : (net : NetList) (binding : Binding) (n : ℕ) → IsInside net → IsOneCycle net binding → Has (bits binding.words) n → n < nets net
+bits_below net binding n inside bound has = All_has (λ m. m < nets net) net.inputs n inside.inputs (bound.inputs n has)
 
 -- only nets are variables
-pub variables_within : (net : NetList) (binding : Binding) (n : ℕ) → IsInside net → IsBoundTo net binding → Has (variables (nets net) binding.words) n → n < nets net
+pub variables_within : (net : NetList) (binding : Binding) (n : ℕ) → IsInside net → IsOneCycle net binding → Has (variables (nets net) binding.words) n → n < nets net
 variables_within net binding n inside bound has =
     ⊎_elim (λ bit. bits_below net binding n inside bound bit) (λ other. omega (arith, (below_range 0 (nets net) n (has_filter (λ m. not (stands_in (bits binding.words) m)) (range_with_len 0 (nets net)) n other)).1)) (Has_cases (bits binding.words) (others (nets net) (bits binding.words)) n has)
 
 -- each net is a variable once
-pub variables_once : (net : NetList) (binding : Binding) (n : ℕ) → IsBoundTo net binding → n < nets net → times n (variables (nets net) binding.words) ≡ 1
+pub variables_once : (net : NetList) (binding : Binding) (n : ℕ) → IsOneCycle net binding → n < nets net → times n (variables (nets net) binding.words) ≡ 1
 variables_once net binding n bound less =
     let list : List ℕ = bits binding.words in
     let free : ℕ → Bool = λ m. not (stands_in list m) in
@@ -134,7 +109,7 @@ variables_once net binding n bound less =
     ] refl
 
 -- there are as many variables as nets
-pub variables_long : (net : NetList) (binding : Binding) → IsInside net → IsBoundTo net binding → length (variables (nets net) binding.words) ≡ nets net
+pub variables_long : (net : NetList) (binding : Binding) → IsInside net → IsOneCycle net binding → length (variables (nets net) binding.words) ≡ nets net
 variables_long net binding inside bound =
     let list : List ℕ = variables (nets net) binding.words in
     sym (below_all (nets net) list (λ n has. variables_within net binding n inside bound has)) ∙ below_each (nets net) list (λ n less. variables_once net binding n bound less)
@@ -143,7 +118,7 @@ ranked_has : (list : List ℕ) (rank n : ℕ) → IsRanked list rank n → slice
 ranked_has list rank n ranked = slice_get-get_or list rank 0 ranked.0 ∙ ap Some ranked.1
 
 -- a net has one rank
-pub one_rank : (net : NetList) (binding : Binding) (p q n : ℕ) → IsInside net → IsBoundTo net binding → IsRanked (variables (nets net) binding.words) p n → IsRanked (variables (nets net) binding.words) q n → p ≡ q
+pub one_rank : (net : NetList) (binding : Binding) (p q n : ℕ) → IsInside net → IsOneCycle net binding → IsRanked (variables (nets net) binding.words) p n → IsRanked (variables (nets net) binding.words) q n → p ≡ q
 one_rank net binding p q n inside bound first second =
     let list : List ℕ = variables (nets net) binding.words in
     let at_p : slice_get list p ≡ Some n = ranked_has list p n first in
@@ -156,23 +131,23 @@ one_rank net binding p q n inside bound first second =
     apart f g = omega (arith, f, g)
 
 -- two variables have the same rank exactly where they are the same net
-pub one_to_one : (net : NetList) (binding : Binding) (p q n m : ℕ) → IsInside net → IsBoundTo net binding → IsRanked (variables (nets net) binding.words) p n → IsRanked (variables (nets net) binding.words) q m → (p ≡ q) ↔ (n ≡ m)
+pub one_to_one : (net : NetList) (binding : Binding) (p q n m : ℕ) → IsInside net → IsOneCycle net binding → IsRanked (variables (nets net) binding.words) p n → IsRanked (variables (nets net) binding.words) q m → (p ≡ q) ↔ (n ≡ m)
 one_to_one net binding p q n m inside bound first second =
     let P : ℕ → Type 0 = IsRanked (variables (nets net) binding.words) q in
     ((λ same. sym first.1 ∙ (ap (slice_index (variables (nets net) binding.words)) same ∙ second.1)), λ same. one_rank net binding p q n inside bound first (subst P (sym same) second))
 
 -- the net of a rank exists
-pub ranked_within : (net : NetList) (binding : Binding) (rank n : ℕ) → IsInside net → IsBoundTo net binding → IsRanked (variables (nets net) binding.words) rank n → (rank < nets net) × (n < nets net)
+pub ranked_within : (net : NetList) (binding : Binding) (rank n : ℕ) → IsInside net → IsOneCycle net binding → IsRanked (variables (nets net) binding.words) rank n → (rank < nets net) × (n < nets net)
 ranked_within net binding rank n inside bound ranked =
     let list : List ℕ = variables (nets net) binding.words in
     (omega (arith, ranked.0, variables_long net binding inside bound), variables_within net binding n inside bound (rank, ranked_has list rank n ranked))
 
-pub rank_within : (net : NetList) (binding : Binding) (rank n : ℕ) → IsSound net → IsBoundTo net binding → (n < binding.nets → IsRanked (variables binding.nets binding.words) rank n) → n < nets net → rank < nets net
+pub rank_within : (net : NetList) (binding : Binding) (rank n : ℕ) → IsSound net → IsOneCycle net binding → (n < binding.nets → IsRanked (variables binding.nets binding.words) rank n) → n < nets net → rank < nets net
 rank_within net binding rank n sound bound ranked less =
     let P : ℕ → Type 0 = λ count. n < count → IsRanked (variables count binding.words) rank n in
     (ranked_within net binding rank n sound.inside bound (subst P bound.count ranked less)).0
 
-pub net_within : (net : NetList) (binding : Binding) (rank n : ℕ) → IsSound net → IsBoundTo net binding → (rank < length (variables binding.nets binding.words) → IsRanked (variables binding.nets binding.words) rank n) → rank < nets net → n < nets net
+pub net_within : (net : NetList) (binding : Binding) (rank n : ℕ) → IsSound net → IsOneCycle net binding → (rank < length (variables binding.nets binding.words) → IsRanked (variables binding.nets binding.words) rank n) → rank < nets net → n < nets net
 net_within net binding rank n sound bound ranked less =
     let P : ℕ → Type 0 = λ count. rank < length (variables count binding.words) → IsRanked (variables count binding.words) rank n in
     (ranked_within net binding rank n sound.inside bound (subst P bound.count ranked (omega (arith, less, variables_long net binding sound.inside bound)))).1

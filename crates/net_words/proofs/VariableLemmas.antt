@@ -1,15 +1,16 @@
 -- The order of variables, while it is made.
-use Rattle.std.proofs.Common.{◌≡◌, ◌∙◌, ap, sym, refl, subst, ℕ, zero, suc, ◌<◌, ◌≤◌, ◌+◌, ◌*◌, ◌^◌, ◌==◌, ◌||◌, List, [], ◌∷◌, ◌++◌, length, drop, get_or, filter, Bool, true, false, not, cond, arith, below_more, eq-eqb, All}
+use Rattle.std.proofs.Common.{◌≡◌, ◌∙◌, ap, sym, refl, inl, inr, subst, ℕ, zero, suc, ◌<◌, ◌≤◌, ◌+◌, ◌*◌, ◌^◌, ◌==◌, ◌||◌, List, [], ◌∷◌, ◌++◌, length, drop, get_or, filter, Bool, true, false, not, cond, arith, below_more, eq-eqb, All}
 use Rattle.std.proofs.lemmas.Bool.{eqb-true}
 use Rattle.std.proofs.lemmas.List.{drop_more}
 use Rattle.std.proofs.lemmas.List.Elements.{filter-append}
 use Rattle.std.proofs.lemmas.List.FromFn.{length-range_with_len, get_or-range_with_len}
 use Rattle.std.specs.List.{range_with_len}
-use Rattle.net_words.specs.Bind.{stands_in}
+use Rattle.net_words.specs.Binding.{Binding, HasWidth, IsBinding}
+use Rattle.net_words.specs.Roles.{same_role, stands_in}
 use Rattle.net_words.specs.Variables.{bits, bits_with, others, variables, IsRanked}
 use Rattle.net_words.specs.declared.bound.BoundWord.{BoundWord}
 use Rattle.net_words.specs.declared.word.Role.{Role}
-use Rattle.net_words.specs.declared.word.Role.TheVariants.{Input, State, Output}
+use Rattle.net_words.specs.declared.word.Role.TheVariants.{Input, State, Fed, Output}
 
 join : {A : Type 0} (xs ys zs : List A) → (xs ++ ys) ++ zs ≡ xs ++ (ys ++ zs)
 join [] ys zs = refl
@@ -118,6 +119,7 @@ length-join (x ∷ xs) ys = omega (arith, length-join xs ys)
 few_bits : (role : Role) (list : List ℕ) → length (bits_with role list) ≤ length list
 few_bits Input list = omega arith
 few_bits State list = omega arith
+few_bits Fed list = omega arith
 few_bits Output list = omega arith
 
 few_filtered : (p : ℕ → Bool) (xs : List ℕ) → length (filter p xs) ≤ length xs
@@ -126,15 +128,32 @@ few_filtered p (x ∷ xs) =
     let rest : length (filter p xs) ≤ length xs = few_filtered p xs in
     elim (p x) as (λ b. length (cond b (x ∷ filter p xs) (filter p xs)) ≤ suc (length xs)) [ true ↦ omega arith | false ↦ omega arith ]
 
-bits_short : (k : ℕ) (words : List BoundWord) → k ≤ 64 → All (λ word. length word.nets ≡ k) words → length (bits words) ≤ 64 * length words
+-- a word has at most k nets
+width_most : (k : ℕ) (word : BoundWord) → HasWidth k word → length word.nets ≤ k
+width_most k word (inl same) = omega (arith, same)
+width_most k word (inr (fed, none)) = let nothing : length word.nets ≡ 0 = ap length none in omega (arith, nothing)
+
+bits_short : (k : ℕ) (words : List BoundWord) → k ≤ 64 → All (HasWidth k) words → length (bits words) ≤ 64 * length words
 bits_short k [] small each = omega arith
 bits_short k (word ∷ words) small each =
-    let one : length word.nets ≡ k = each 0 word (omega arith) in
+    let one : length word.nets ≤ k = width_most k word (each 0 word (omega arith)) in
     let rest : length (bits words) ≤ 64 * length words = bits_short k words small (λ j e below. each (suc j) e (omega arith)) in
     omega (arith, length-join (bits_with word.role word.nets) (bits words), few_bits word.role word.nets, one, rest, small)
 
+-- those that pass a test and those that don't are all
+pub count_both : {X : Type 0} (p : X → Bool) (xs : List X) → length xs ≡ length (filter p xs) + length (filter (λ x. not (p x)) xs)
+count_both p [] = omega arith
+count_both p (x ∷ xs) =
+    let rest : length xs ≡ length (filter p xs) + length (filter (λ y. not (p y)) xs) = count_both p xs in
+    elim (p x) as (λ b. suc (length xs) ≡ length (cond b (x ∷ filter p xs) (filter p xs)) + length (cond (not b) (x ∷ filter (λ y. not (p y)) xs) (filter (λ y. not (p y)) xs))) [ true ↦ omega (arith, rest) | false ↦ omega (arith, rest) ]
+
+-- there are one to nine words
+pub words_few : (binding : Binding) → IsBinding binding → length binding.words ≤ 9
+words_few binding is = omega (arith, count_both (λ (word : BoundWord). same_role word.role Output) binding.words, is.one, is.few)
+
 -- there are few variables
-pub variables_short : (count k : ℕ) (words : List BoundWord) → count ≤ 2 ^ 20 → k ≤ 64 → length words ≤ 9 → All (λ word. length word.nets ≡ k) words → length (variables count words) < 2 ^ 32
-variables_short count k words few small nine each =
+pub variables_short : (count : ℕ) (binding : Binding) → count ≤ 2 ^ 20 → IsBinding binding → length (variables count binding.words) < 2 ^ 32
+variables_short count binding few is =
+    let words : List BoundWord = binding.words in
     let p : ℕ → Bool = λ n. not (stands_in (bits words) n) in
-    omega (arith, length-join (bits words) (others count (bits words)), few_filtered p (range_with_len 0 count), length-range_with_len 0 count, bits_short k words small each, few, nine)
+    omega (arith, length-join (bits words) (others count (bits words)), few_filtered p (range_with_len 0 count), length-range_with_len 0 count, bits_short binding.k words is.most is.each, few, words_few binding is)

@@ -1,18 +1,19 @@
 -- The order of variables after the words. Source: this project's own, docs/DEFINITIONS.md.
 use Rattle.std.specs.Prelude.{◌≡◌, ℕ, ◌<◌, not, List, [], ◌∷◌, ◌++◌, length, filter, slice_index}
 use Rattle.std.specs.List.{range_with_len}
-use Rattle.net_words.specs.Bind.{stands_in}
+use Rattle.net_words.specs.Roles.{stands_in}
 use Rattle.net_words.specs.declared.bound.BoundWord.{BoundWord}
 use Rattle.net_words.specs.declared.word.Role.{Role}
-use Rattle.net_words.specs.declared.word.Role.TheVariants.{Input, State, Output}
+use Rattle.net_words.specs.declared.word.Role.TheVariants.{Input, State, Fed, Output}
 
 -- the bits that a word with this role adds
 abbrev pub bits_with : Role → List ℕ → List ℕ
 bits_with Input list = list
 bits_with State list = list
+bits_with Fed list = list
 bits_with Output list = []
 
--- the bits of input and state words, in signature order and by place
+-- the bits of input, state and fed words, in signature order and by place
 abbrev pub bits : List BoundWord → List ℕ
 bits [] = []
 bits (word ∷ words) = bits_with word.role word.nets ++ bits words
@@ -21,8 +22,8 @@ bits (word ∷ words) = bits_with word.role word.nets ++ bits words
 abbrev pub others : ℕ → List ℕ → List ℕ
 others count list = filter (λ n. not (stands_in list n)) (range_with_len 0 count)
 
--- The order of variables after the words: the bits of input and state words in signature order and by place, then all
--- other nets by number.
+-- The order of variables after the words: the bits of input, state and fed words in signature order and by place, then
+-- all other nets by number.
 abbrev pub variables : ℕ → List BoundWord → List ℕ
 variables count words = bits words ++ others count (bits words)
 

@@ -1,16 +1,22 @@
 //! The binding of words to nets.
-ghost use Rattle.std.specs.Prelude.{◌≡◌, ◌≤◌, ◌&&◌, ◌<◌, ℕ, [], length, IfOk, All};
+ghost use Rattle.std.specs.Prelude.{◌≡◌, ◌≤◌, ◌&&◌, ◌<◌, ℕ, [], length, map, IfOk};
 ghost use Rattle.text_core.specs.Outcome.{Returns};
 ghost use Rattle.net_core.specs.NetList.{NetList, nets as nets_of, number_of};
-ghost use Rattle.net_words.specs.Binding.{AreWords, IsBinding};
-ghost use Rattle.net_words.specs.Bind.{stands_in, is_latch, is_used, is_uncovered as is_uncovered_net, with_role, place_net, taken_with, NetsOf, BoundOf, IsCovered, started, in_word as is_in_word, BindingOf, bits_of as bits_of_words, is_unknown as is_unknown_start, same_role as is_same_role};
+ghost use Rattle.net_words.specs.Binding.{AreWords};
+ghost use Rattle.net_words.specs.Bind.{is_latch, is_used, is_uncovered as is_uncovered_net, with_role, names_with, place_net, taken_with, NetsOf, BoundOf, IsCovered, started, BindingOf, bits_of as bits_of_words, is_unknown as is_unknown_start};
 ghost use Rattle.net_words.specs.BindReading.{AreMarks, FitsBinding};
 ghost use Rattle.net_words.specs.BoundTo.{IsBoundTo};
+ghost use Rattle.net_words.specs.Feeds.{AreFeeds, FeedsOf, is_fed};
+ghost use Rattle.net_words.specs.OneCycle.{IsFlat, IsOneCycle};
+ghost use Rattle.net_words.specs.Roles.{stands_in, in_word as is_in_word, same_role as is_same_role};
 ghost use Rattle.net_words.specs.declared.binding.BindFault.TheVariants.{OutOfMemory};
+ghost use Rattle.net_words.specs.declared.word.Role.TheVariants.{Fed, Input};
 
 use crate::bound::{Bound, BoundWord};
-use crate::marks::{input_marks, is_marked, latch_marks, same_role, used_marks};
-use crate::variables::{ranks, variables};
+use crate::feed::{Feed, FeedText};
+use crate::feeds::{bind_feeds, fed_marks};
+use crate::marks::{input_marks, is_marked, latch_marks, same_role, used_marks, word_marks};
+use crate::order::ordered;
 use crate::word::{Role, WordText};
 use net_core::{Latch, Name, Net, Numbers, Start};
 use std::alloc::{AllocError, AllocFailed, Global};
@@ -31,7 +37,10 @@ pub enum BindFault {
     /// The net stands twice in input and state words.
     #[error("net {net} stands twice")]
     NetTwice { net: u32 },
-    /// A primary input in no input word that something depends on.
+    /// The net of a feed is no named net, or no primary input, or stands in an input word.
+    #[error("feed at line {line} is no free input")]
+    FeedNotFree { line: u32 },
+    /// A primary input in no input word and no feed that something depends on.
     #[error("input {net} is in no word")]
     Uncovered { net: u32 },
     /// A latch with an unknown start in no state word.
@@ -58,14 +67,22 @@ impl<T: Drop> From<AllocFailed<T>> for BindFault {
     }
 }
 
-/// Binds words to the nets of a netlist, or gives the first fault: word by word and place by place `NoSuchNet`,
-/// `NotInput`, `NotLatch` and `NetTwice`; then `Uncovered`, the least such net; then `UnknownStart`, the first such latch.
-/// Each word has k nets for one k from 1 to 64, one is the output word, and at most 8 are input or state words.
-pub fn bind(alloc: Global, words: &[WordText], net: &Net) -> Result<Bound, BindFault>
-    requires { (k : ℕ) × AreWords k words.now }
-    ensures fits { FitsBinding (λ bound. bound) result (BindingOf net.now words.now) }
+/// Binds words and feeds to the nets of a netlist, or gives the first fault: word by word and place by place `NoSuchNet`,
+/// `NotInput`, `NotLatch` and `NetTwice`; then `FeedNotFree`, at the first such feed; then `Uncovered`, the least such net;
+/// then `UnknownStart`, the first such latch. Each word that is not fed has k nets for one k from 1 to 64, one is the
+/// output word, and at most 8 are others; a feed's source is a constant, or a place below k of a fed word; and no two
+/// feeds have the same net and cycle. A fed word gets no nets.
+pub fn bind(
+    alloc: Global,
+    words: &[WordText],
+    feeds: &[FeedText],
+    net: &Net,
+) -> Result<Bound, BindFault>
+    requires words { (k : ℕ) × AreWords k words.now × AreFeeds k (map (λ word. word.role) words.now) feeds.now }
+    ensures fits { FitsBinding (λ bound. bound) result (BindingOf net.now words.now feeds.now) }
     ensures nets { IfOk result (λ bound. bound.nets ≡ nets_of net.now) }
     ensures bound { IfOk result (λ bound. IsBoundTo net.now bound) }
+    ensures one_cycle { IfOk result (λ bound. IsFlat net.now bound → IsOneCycle net.now bound) }
 {
     let k = bits_of(words);
     let inputs = input_marks(alloc, net)?;
@@ -75,7 +92,11 @@ pub fn bind(alloc: Global, words: &[WordText], net: &Net) -> Result<Bound, BindF
         Ok(bound) => bound,
         Err(fault) => return Err(fault),
     };
-    match check_covered(alloc, net, &bound, &inputs) {
+    let fed = match bind_feeds(alloc, feeds, net, &bound, &inputs) {
+        Ok(fed) => fed,
+        Err(fault) => return Err(fault),
+    };
+    match check_covered(alloc, net, &bound, &fed, &inputs) {
         Ok(()) => {}
         Err(fault) => return Err(fault),
     }
@@ -83,46 +104,38 @@ pub fn bind(alloc: Global, words: &[WordText], net: &Net) -> Result<Bound, BindF
         Ok(()) => {}
         Err(fault) => return Err(fault),
     }
-    let bound = ordered(alloc, k, bound, net)?;
+    let bound = ordered(alloc, k, bound, fed, net)?;
     Ok(bound)
 }
 
-// The words with their nets, and the nets in the order of variables.
-fn ordered(alloc: Global, k: u32, words: Vec<BoundWord>, net: &Net) -> Result<Bound, AllocError>
-    requires { IsBinding (record { k = k; words = words.items; nets = nets_of net.now }) }
-    ensures { IfOk result (λ bound. bound ≡ record { k = k; words = words.items; nets = nets_of net.now }) }
-{
-    let count = net.nets();
-    let order = variables(alloc, count, &words)?;
-    let ranks = ranks(alloc, count, &order)?;
-    Ok(Bound::of_parts(k, words, count, order, ranks))
-}
-
-// How many nets each word has.
+// How many nets each word has that is not fed.
 fn bits_of(words: &[WordText]) -> u32
     requires { (k : ℕ) × AreWords k words.now }
     ensures words { AreWords result words.now }
     ensures bits { result ≡ bits_of_words words.now }
 {
-    words[0].nets.as_slice().len() as u32
+    for word in words {
+        if !same_role(word.role, Role::Fed) {
+            return word.nets.as_slice().len() as u32;
+        }
+    }
+    0
 }
 
 // The words with their nets.
 fn bind_words(
     alloc: Global,
-    k: u32,
+    _k: u32,
     words: &[WordText],
     net: &Net,
     inputs: &[bool],
     latches: &[bool],
     taken: &mut Vec<u32>,
 ) -> Result<Vec<BoundWord>, BindFault>
-    requires words { AreWords k words.now }
+    requires words { AreWords _k words.now }
     requires inputs { AreMarks (nets_of net.now) (stands_in net.now.inputs) inputs.now }
     requires latches { AreMarks (nets_of net.now) (is_latch net.now) latches.now }
     ensures fits { FitsBinding (λ bound. (bound.items, taken.new.items)) result (BoundOf net.now taken.old.items [] words.now) }
-    ensures count { IfOk result (λ bound. length bound.items ≡ length words.now) }
-    ensures each { IfOk result (λ bound. All (λ word. length word.nets ≡ k) bound.items) }
 {
     let mut bound = Vec::new(alloc);
     for (i, word) in words.iter().enumerate() {
@@ -146,18 +159,46 @@ fn bind_word(
     latches: &[bool],
     taken: &mut Vec<u32>,
 ) -> Result<Vec<u32>, BindFault>
-    requires few { length word.now.nets ≤ 64 }
+    requires few { (word.now.role ≡ Fed → ⊥) → length word.now.nets ≤ 64 }
     requires inputs { AreMarks (nets_of net.now) (stands_in net.now.inputs) inputs.now }
     requires latches { AreMarks (nets_of net.now) (is_latch net.now) latches.now }
-    ensures fits { FitsBinding (λ nets. (nets.items, taken.new.items)) result (NetsOf net.now number word.now.role taken.old.items [] word.now.nets) }
-    ensures count { IfOk result (λ nets. length nets.items ≡ length word.now.nets) }
+    ensures fits { FitsBinding (λ nets. (nets.items, taken.new.items)) result (NetsOf net.now number word.now.role taken.old.items [] (names_with word.now.role word.now.nets)) }
+{
+    match word.role {
+        Role::Fed => Ok(Vec::new(alloc)),
+        Role::Input | Role::State | Role::Output => bind_places(
+            alloc,
+            number,
+            word.role,
+            word.nets.as_slice(),
+            net,
+            inputs,
+            latches,
+            taken,
+        ),
+    }
+}
+
+// The nets of a word's places.
+fn bind_places(
+    alloc: Global,
+    number: u32,
+    role: Role,
+    names: &[Name],
+    net: &Net,
+    inputs: &[bool],
+    latches: &[bool],
+    taken: &mut Vec<u32>,
+) -> Result<Vec<u32>, BindFault>
+    requires few { length names.now ≤ 64 }
+    requires inputs { AreMarks (nets_of net.now) (stands_in net.now.inputs) inputs.now }
+    requires latches { AreMarks (nets_of net.now) (is_latch net.now) latches.now }
+    ensures fits { FitsBinding (λ nets. (nets.items, taken.new.items)) result (NetsOf net.now number role taken.old.items [] names.now) }
 {
     let mut nets = Vec::new(alloc);
-    for (i, name) in word.nets.as_slice().iter().enumerate() {
+    for (i, name) in names.iter().enumerate() {
         let text = name.as_str();
-        let found = bind_place(
-            number, i as u32, word.role, text, net, inputs, latches, taken,
-        )?;
+        let found = bind_place(number, i as u32, role, text, net, inputs, latches, taken)?;
         nets.push(found)?;
     }
     Ok(nets)
@@ -214,6 +255,7 @@ fn take_net(
                 return Err(BindFault::NotLatch { word, place });
             }
         }
+        Role::Fed => return Err(BindFault::NotInput { word, place }),
         Role::Output => return Ok(found),
     }
     if taken.as_slice().contains(&found) {
@@ -223,33 +265,50 @@ fn take_net(
     Ok(found)
 }
 
-// Refuses the least primary input in no input word that something depends on.
+// Refuses the least primary input in no input word and no feed that something depends on.
 fn check_covered(
     alloc: Global,
     net: &Net,
     words: &[BoundWord],
+    feeds: &[Feed],
     inputs: &[bool],
 ) -> Result<(), BindFault>
     requires inputs { AreMarks (nets_of net.now) (stands_in net.now.inputs) inputs.now }
-    ensures { FitsBinding (λ u. tt) result (IsCovered net.now words.now) }
+    ensures { FitsBinding (λ u. tt) result (IsCovered net.now words.now feeds.now) }
 {
+    let held = word_marks(alloc, net, words, Role::Input)?;
+    let fed = fed_marks(alloc, net, feeds)?;
     let used = used_marks(alloc, net, words)?;
     for number in 0..net.nets() {
-        if is_uncovered(net, words, inputs, &used, number) {
+        if is_uncovered(net, words, feeds, inputs, &held, &fed, &used, number) {
             return Err(BindFault::Uncovered { net: number });
         }
     }
     Ok(())
 }
 
-// Whether a primary input is in no input word and something depends on it.
-fn is_uncovered(net: &Net, words: &[BoundWord], inputs: &[bool], used: &[bool], number: u32) -> bool
-    requires inputs { AreMarks (nets_of net.now) (stands_in net.now.inputs) inputs.now }
-    requires used { AreMarks (nets_of net.now) (is_used net.now words.now) used.now }
-    requires within { number < nets_of net.now }
-    ensures { result ≡ is_uncovered_net net.now words.now number }
+// Whether a primary input is in no input word and no feed and something depends on it.
+fn is_uncovered(
+    _net: &Net,
+    _words: &[BoundWord],
+    _feeds: &[Feed],
+    inputs: &[bool],
+    held: &[bool],
+    fed: &[bool],
+    used: &[bool],
+    number: u32,
+) -> bool
+    requires inputs { AreMarks (nets_of _net.now) (stands_in _net.now.inputs) inputs.now }
+    requires held { AreMarks (nets_of _net.now) (is_in_word Input _words.now) held.now }
+    requires fed { AreMarks (nets_of _net.now) (is_fed _feeds.now) fed.now }
+    requires used { AreMarks (nets_of _net.now) (is_used _net.now _words.now) used.now }
+    requires within { number < nets_of _net.now }
+    ensures { result ≡ is_uncovered_net _net.now _words.now _feeds.now number }
 {
-    is_marked(inputs, number) && !in_word(Role::Input, words, number) && is_marked(used, number)
+    is_marked(inputs, number)
+        && !is_marked(held, number)
+        && !is_marked(fed, number)
+        && is_marked(used, number)
 }
 
 // Refuses the first latch with an unknown start that is in no state word.

@@ -1,8 +1,9 @@
 //! Words that are bound to nets.
-ghost use Rattle.std.specs.Prelude.{◌≡◌, ◌<◌, length, slice_index, slice_get, Some};
+ghost use Rattle.std.specs.Prelude.{◌≡◌, ◌<◌, ◌↔◌, IsTrue, length, slice_index, slice_get, Some};
 ghost use Rattle.net_words.specs.Binding.{IsBinding};
 ghost use Rattle.net_words.specs.Variables.{variables, IsRanked, IsOrdered};
 
+use crate::feed::Feed;
 use crate::word::Role;
 use net_core::{Name, Numbers};
 use std::marker::Model;
@@ -14,7 +15,7 @@ pub struct BoundWord {
     pub name: Name,
     /// What it is to the net list.
     pub role: Role,
-    /// The numbers of its 1 to 64 nets, place 0 first.
+    /// The numbers of its 1 to 64 nets, place 0 first; none where a fed word has none.
     pub nets: Numbers<u32>,
 }
 
@@ -23,6 +24,7 @@ pub struct BoundWord {
 pub struct Bound {
     k: u32,
     words: Vec<BoundWord>,
+    feeds: Vec<Feed>,
     // How many nets the netlist has.
     nets: u32,
     // The nets in the order of variables.
@@ -37,9 +39,9 @@ impl Model for Bound {
 
     ghost Value = { Binding };
 
-    ghost view = { λ bound. record { k = bound.k; words = bound.words.items; nets = bound.nets } };
+    ghost view = { λ bound. record { k = bound.k; words = bound.words.items; feeds = bound.feeds.items; nets = bound.nets } };
 
-    ghost invariant = { λ bound. IsBinding (record { k = bound.k; words = bound.words.items; nets = bound.nets }) × IsOrdered bound.nets bound.words.items bound.order.items bound.ranks.items };
+    ghost invariant = { λ bound. IsBinding (record { k = bound.k; words = bound.words.items; feeds = bound.feeds.items; nets = bound.nets }) × IsOrdered bound.nets bound.words.items bound.order.items bound.ranks.items };
 }
 
 impl Bound {
@@ -47,17 +49,19 @@ impl Bound {
     pub(crate) fn of_parts(
         k: u32,
         words: Vec<BoundWord>,
+        feeds: Vec<Feed>,
         nets: u32,
         order: Vec<u32>,
         ranks: Vec<u32>,
     ) -> Bound
-        requires parts { IsBinding (record { k = k; words = words.items; nets = nets }) }
+        requires parts { IsBinding (record { k = k; words = words.items; feeds = feeds.items; nets = nets }) }
         requires order { IsOrdered nets words.items order.items ranks.items }
-        ensures { result ≡ record { k = k; words = words.items; nets = nets } }
+        ensures { result ≡ record { k = k; words = words.items; feeds = feeds.items; nets = nets } }
     {
         Bound {
             k,
             words,
+            feeds,
             nets,
             order,
             ranks,
@@ -96,13 +100,37 @@ impl Bound {
         self.words[w as usize].name.as_str()
     }
 
-    /// The net of a place, below k, of word w, below the number of words.
+    /// What is fed, in the order of the lines.
+    pub fn feeds(&self) -> &[Feed]
+        ensures { result.now ≡ self.now.feeds }
+    {
+        &self.feeds
+    }
+
+    /// Whether word w, below the number of words, has nets: a fed word may have none.
+    pub fn has_nets(&self, w: u32) -> bool
+        requires { w < length self.now.words }
+        ensures { (word : _) → slice_get self.now.words w ≡ Some word → IsTrue result ↔ (length word.nets ≡ self.now.k) }
+    {
+        self.words[w as usize].nets.as_slice().len() > 0
+    }
+
+    /// The net of a place, below k, of word w, below the number of words, which has nets.
     pub fn net(&self, w: u32, place: u32) -> u32
         requires word { w < length self.now.words }
         requires place { place < self.now.k }
+        requires nets { (word : _) → slice_get self.now.words w ≡ Some word → length word.nets ≡ self.now.k }
         ensures { (word : _) → slice_get self.now.words w ≡ Some word → result ≡ slice_index word.nets place }
     {
         self.words[w as usize].nets.as_slice()[place as usize]
+    }
+
+    // The nets of word w, below the number of words.
+    pub(crate) fn nets(&self, w: u32) -> &[u32]
+        requires { w < length self.now.words }
+        ensures { (word : _) → slice_get self.now.words w ≡ Some word → result.now ≡ word.nets }
+    {
+        self.words[w as usize].nets.as_slice()
     }
 
     // The place of a net in the order of variables after the words.

@@ -1,14 +1,16 @@
-//! Nets without latches, with their words.
-ghost use Rattle.std.specs.Prelude.{◌≡◌, ◌<◌, [], length, IfOk, IsOk, ◌↔◌, IfErr};
+//! Nets in one cycle, without latches and feeds, with their words.
+ghost use Rattle.std.specs.Prelude.{◌≡◌, ◌<◌, [], length, IfOk, IsOk, ◌↔◌, IfErr, IsTrue, All};
 ghost use Rattle.net_core.specs.NetList.{nets};
-ghost use Rattle.net_words.specs.BoundTo.{IsBoundTo};
+ghost use Rattle.net_core.specs.Sound.{IsSound};
+ghost use Rattle.net_words.specs.OneCycle.{IsFlat, IsOneCycle};
 ghost use Rattle.net_words.specs.Variables.{variables, IsRanked};
 
 use crate::bound::Bound;
 use net_core::Net;
 use std::marker::Model;
 
-/// A net without latches, with words that are bound to it.
+/// A net without latches, with words that are bound to it: the bits of input, state and fed words are different primary
+/// inputs, and the output word depends on them alone.
 #[derive(Drop)]
 pub struct Combinational {
     net: Net,
@@ -16,27 +18,28 @@ pub struct Combinational {
 }
 
 impl Model for Combinational {
-    ghost use Rattle.std.specs.Prelude.{◌≡◌, []};
     ghost use Rattle.net_core.specs.Sound.{IsSound};
     ghost use Rattle.net_words.specs.Binding.{BoundNet};
-    ghost use Rattle.net_words.specs.BoundTo.{IsBoundTo};
+    ghost use Rattle.net_words.specs.OneCycle.{IsOneCycle};
 
     ghost Value = { BoundNet };
 
     ghost view = { λ circuit. record { net = circuit.net; bound = circuit.bound } };
 
-    ghost invariant = { λ circuit. (circuit.net.latches ≡ []) × IsSound circuit.net × IsBoundTo circuit.net circuit.bound };
+    ghost invariant = { λ circuit. IsSound circuit.net × IsOneCycle circuit.net circuit.bound };
 }
 
 impl Combinational {
-    /// A net without latches with its words; both are handed back where it has latches.
+    /// A net with its words, where nothing is left to unroll; both are handed back where the net has latches, the binding
+    /// has a feed, or a fed word has no nets. Where none of these holds, the binding is of this net, and no chain of gates
+    /// leads from a primary input in no word to a bit of the output word.
     pub fn new(net: Net, bound: Bound) -> Result<Combinational, (Net, Bound)>
-        requires { IsBoundTo net bound }
+        requires { IsFlat net bound → IsOneCycle net bound }
         ensures made { IfOk result (λ circuit. circuit ≡ record { net = net; bound = bound }) }
-        ensures latches { IsOk result ↔ (net.latches ≡ []) }
+        ensures flat { IsOk result ↔ IsFlat net bound }
         ensures back { IfErr result (λ pair. (pair.0 ≡ net) × (pair.1 ≡ bound)) }
     {
-        if net.latches().is_empty() {
+        if is_flat(&net, &bound) {
             Ok(Combinational { net, bound })
         } else {
             Err((net, bound))
@@ -47,7 +50,8 @@ impl Combinational {
     pub fn net(&self) -> &Net
         ensures net { result.now ≡ self.now.net }
         ensures flat { self.now.net.latches ≡ [] }
-        ensures is_bound { IsBoundTo self.now.net self.now.bound }
+        ensures sound { IsSound self.now.net }
+        ensures is_bound { IsOneCycle self.now.net self.now.bound }
     {
         &self.net
     }
@@ -56,13 +60,13 @@ impl Combinational {
     pub fn bound(&self) -> &Bound
         ensures bound { result.now ≡ self.now.bound }
         ensures flat { self.now.net.latches ≡ [] }
-        ensures is_bound { IsBoundTo self.now.net self.now.bound }
+        ensures is_bound { IsOneCycle self.now.net self.now.bound }
     {
         &self.bound
     }
 
-    /// The place of a net in the order of variables after the words: the bits of the input and state words in signature
-    /// order and by place, and then the other nets by number.
+    /// The place of a net in the order of variables after the words: the bits of the input, state and fed words in
+    /// signature order and by place, and then the other nets by number.
     pub fn rank_of(&self, net: u32) -> u32
         ensures ranked { net < nets self.now.net → IsRanked (variables (nets self.now.net) self.now.bound.words) result net }
         ensures within { net < nets self.now.net → result < nets self.now.net }
@@ -77,4 +81,23 @@ impl Combinational {
     {
         self.bound.net_of(rank)
     }
+}
+
+// Whether nothing is left to unroll.
+fn is_flat(net: &Net, bound: &Bound) -> bool
+    ensures { IsTrue result ↔ IsFlat net.now bound.now }
+{
+    net.latches().is_empty() && bound.feeds().is_empty() && have_nets(bound)
+}
+
+// Whether each word has nets.
+fn have_nets(bound: &Bound) -> bool
+    ensures { IsTrue result ↔ All (λ word. length word.nets ≡ bound.now.k) bound.now.words }
+{
+    for w in 0..bound.words() {
+        if !bound.has_nets(w) {
+            return false;
+        }
+    }
+    true
 }

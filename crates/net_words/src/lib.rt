@@ -1,37 +1,32 @@
-//! Words over nets: what a signature says of them, and their binding to the nets of a netlist.
-//! `read_signature` reads the text, `bind` finds the nets, and `Combinational` is a net without latches with its words.
+//! Words over nets: the types of a signature's words, and their binding to the nets of a netlist.
+//! `bind` finds the nets, `rebind` puts the words on other nets, and `Combinational` is a net of one cycle with its words.
 #![tactic(auto)]
 
-mod basis;
 mod binding;
 #[cfg(test)]
 mod binding_tests;
 mod bound;
 mod combinational;
-mod element;
-mod fault;
+mod feed;
+#[cfg(test)]
+mod feed_tests;
+mod feeds;
 mod laws;
-mod lines;
 mod marks;
+mod order;
 #[cfg(test)]
 mod rank_tests;
-mod reader;
-mod signature;
-#[cfg(test)]
-mod tests;
+mod rebinding;
 mod variables;
 mod word;
-mod word_line;
-mod words;
 
 pub use binding::{BindFault, bind};
 pub use bound::Bound;
 pub use combinational::Combinational;
-pub use fault::SigFault;
+pub use feed::{Feed, FeedText, Source};
 pub use laws::{
-    each_net_has_one_rank, one_binding_or_fault, one_signature_or_fault,
-    ranks_and_nets_are_one_to_one, words_have_names,
+    each_net_has_one_rank, flat_bindings_are_of_one_cycle, one_binding_or_fault,
+    ranks_and_nets_are_one_to_one, what_is_bound_stands_on_its_net,
 };
-pub use reader::read_signature;
-pub use signature::Signature;
+pub use rebinding::rebind;
 pub use word::{BasisText, Role, WordText};

@@ -2,9 +2,9 @@
 ghost use Rattle.std.specs.Prelude.{◌≡◌, ◌<◌, ◌==◌, ◌&&◌, ◌||◌, false, length, IfOk};
 ghost use Rattle.std.specs.List.{list_any};
 ghost use Rattle.net_core.specs.NetList.{nets};
-ghost use Rattle.net_words.specs.Bind.{stands_in, is_latch, in_word, is_used, same_role as is_same_role};
+ghost use Rattle.net_words.specs.Bind.{is_latch, is_used};
 ghost use Rattle.net_words.specs.BindReading.{mark_at, AreMarks};
-ghost use Rattle.net_words.specs.declared.word.Role.TheVariants.{Output};
+ghost use Rattle.net_words.specs.Roles.{in_word, same_role as is_same_role, stands_in};
 
 use crate::bound::BoundWord;
 use crate::word::Role;
@@ -36,7 +36,21 @@ pub fn used_marks(alloc: Global, net: &Net, words: &[BoundWord]) -> Result<Vec<b
     let mut marks = no_marks(alloc, net)?;
     mark_gates(&mut marks, net.gates());
     mark_nexts(&mut marks, net.latches());
-    mark_words(&mut marks, words);
+    mark_words(&mut marks, words, Role::Output);
+    Ok(marks)
+}
+
+/// The marks of the nets in words with a role.
+pub fn word_marks(
+    alloc: Global,
+    net: &Net,
+    words: &[BoundWord],
+    role: Role,
+) -> Result<Vec<bool>, AllocError>
+    ensures { IfOk result (λ marks. AreMarks (nets net.now) (in_word role words.now) marks.items) }
+{
+    let mut marks = no_marks(alloc, net)?;
+    mark_words(&mut marks, words, role);
     Ok(marks)
 }
 
@@ -55,6 +69,7 @@ pub fn same_role(a: Role, b: Role) -> bool
     match (a, b) {
         (Role::Input, Role::Input) => true,
         (Role::State, Role::State) => true,
+        (Role::Fed, Role::Fed) => true,
         (Role::Output, Role::Output) => true,
         _ => false,
     }
@@ -69,8 +84,8 @@ pub fn list_marks(alloc: Global, count: u32, list: &[u32]) -> Result<Vec<bool>, 
     Ok(marks)
 }
 
-// A mark for each net, none of them set.
-fn no_marks(alloc: Global, net: &Net) -> Result<Vec<bool>, AllocError>
+/// A mark for each net, none of them set.
+pub fn no_marks(alloc: Global, net: &Net) -> Result<Vec<bool>, AllocError>
     ensures long { IfOk result (λ marks. length marks.items ≡ nets net.now) }
     ensures none { IfOk result (λ marks. AreMarks (nets net.now) (λ n. false) marks.items) }
 {
@@ -78,7 +93,8 @@ fn no_marks(alloc: Global, net: &Net) -> Result<Vec<bool>, AllocError>
     Ok(marks)
 }
 
-fn mark(marks: &mut [bool], net: u32)
+/// Marks a net.
+pub fn mark(marks: &mut [bool], net: u32)
     ensures { AreMarks (length marks.new) (λ k. mark_at marks.old k || (net == k)) marks.new }
 {
     let place = net as usize;
@@ -119,18 +135,18 @@ fn mark_gates(marks: &mut [bool], gates: &[Gate])
     }
 }
 
-fn mark_words(marks: &mut [bool], words: &[BoundWord])
-    ensures { AreMarks (length marks.new) (λ k. mark_at marks.old k || in_word Output words.now k) marks.new }
+fn mark_words(marks: &mut [bool], words: &[BoundWord], role: Role)
+    ensures { AreMarks (length marks.new) (λ k. mark_at marks.old k || in_word role words.now k) marks.new }
 {
     for word in words {
-        mark_word(marks, word);
+        mark_word(marks, word, role);
     }
 }
 
-fn mark_word(marks: &mut [bool], word: &BoundWord)
-    ensures { AreMarks (length marks.new) (λ k. mark_at marks.old k || (is_same_role word.now.role Output && stands_in word.now.nets k)) marks.new }
+fn mark_word(marks: &mut [bool], word: &BoundWord, role: Role)
+    ensures { AreMarks (length marks.new) (λ k. mark_at marks.old k || (is_same_role word.now.role role && stands_in word.now.nets k)) marks.new }
 {
-    if same_role(word.role, Role::Output) {
+    if same_role(word.role, role) {
         mark_all(marks, word.nets.as_slice());
     }
 }

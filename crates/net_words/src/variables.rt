@@ -1,7 +1,7 @@
 //! The order of variables after the words.
 ghost use Rattle.std.specs.Prelude.{◌≡◌, ◌<◌, ◌+◌, ◌==◌, ◌^◌, ℕ, [], ◌∷◌, ◌++◌, length, not, slice_index, IfOk, OnOk, if◌then◌else◌};
-ghost use Rattle.net_words.specs.Bind.{stands_in};
 ghost use Rattle.net_words.specs.BindReading.{AreMarks};
+ghost use Rattle.net_words.specs.Roles.{stands_in};
 ghost use Rattle.net_words.specs.Variables.{bits as bits_of, bits_with, others, variables as variables_of, IsRanked};
 
 use crate::bound::BoundWord;
@@ -9,7 +9,7 @@ use crate::marks::{is_marked, list_marks, same_role};
 use crate::word::Role;
 use std::alloc::{AllocError, Global};
 
-/// The nets in the order of variables: the bits of input and state words, then all other nets by number.
+/// The nets in the order of variables: the bits of input, state and fed words, then all other nets by number.
 pub fn variables(alloc: Global, count: u32, words: &[BoundWord]) -> Result<Vec<u32>, AllocError>
     ensures { IfOk result (λ order. order.items ≡ variables_of count words.now) }
 {
@@ -19,7 +19,7 @@ pub fn variables(alloc: Global, count: u32, words: &[BoundWord]) -> Result<Vec<u
     Ok(order)
 }
 
-// The bits of input and state words.
+// The bits of input, state and fed words.
 fn bits(alloc: Global, words: &[BoundWord]) -> Result<Vec<u32>, AllocError>
     ensures { IfOk result (λ list. list.items ≡ bits_of words.now) }
 {
@@ -35,7 +35,7 @@ fn add_bits(word: &BoundWord, list: &mut Vec<u32>) -> Result<(), AllocError>
     ensures { OnOk result (list.new.items ≡ list.old.items ++ bits_with word.now.role word.now.nets) }
 {
     match word.role {
-        Role::Input | Role::State => {
+        Role::Input | Role::State | Role::Fed => {
             list.extend_from_slice(word.nets.as_slice())?;
             Ok(())
         }

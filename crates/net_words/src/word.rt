@@ -8,6 +8,8 @@ pub enum Role {
     Input,
     /// Its bits are outputs of latches.
     State,
+    /// Its bits are fed to primary inputs, cycle by cycle; it has nets of its own where the cycles are unrolled.
+    Fed,
     /// Its bits are what is computed.
     Output,
 }

@@ -1,16 +1,17 @@
 -- The nets of the output word, word by word and place by place.
-use Rattle.std.proofs.Common.{◌≡◌, ℕ, zero, suc, ◌<◌, ◌+◌, ◌≤◌, cond, List, [], ◌∷◌, ◌++◌, length, get_or, take, drop, filter, Some, inl, inr, refl, sym, ap, subst, ◌∙◌, arith, append-nil, drop_of_length-le}
+use Rattle.std.proofs.Common.{◌≡◌, ℕ, zero, suc, ◌<◌, ◌+◌, ◌≤◌, cond, List, [], ◌∷◌, ◌++◌, length, get_or, take, drop, filter, Some, refl, sym, ap, ◌∙◌, arith, append-nil, drop_of_length-le}
 use Rattle.std.specs.Prelude.{slice_get}
 use Rattle.std.proofs.lemmas.List.{append_assoc, length-append}
 use Rattle.net_core.specs.Lists.{Has}
-use Rattle.net_core.specs.NetList.{NetList, nets}
-use Rattle.net_core.proofs.DriverLemmas.{All_has, Has_cases}
-use Rattle.net_words.specs.Bind.{same_role}
+use Rattle.net_core.specs.NetList.{NetList}
+use Rattle.net_core.proofs.DriverLemmas.{All_has}
 use Rattle.net_words.specs.Binding.{Binding}
-use Rattle.net_words.specs.BoundTo.{output_bits, output_bits_with, StandsOn, IsBoundTo}
+use Rattle.net_words.specs.BoundTo.{output_bits, output_bits_with}
+use Rattle.net_words.specs.OneCycle.{IsOneCycle}
+use Rattle.net_words.specs.Roles.{same_role}
 use Rattle.net_words.specs.declared.bound.BoundWord.{BoundWord}
 use Rattle.net_words.specs.declared.word.Role.{Role}
-use Rattle.net_words.specs.declared.word.Role.TheVariants.{Input, State, Output}
+use Rattle.net_words.specs.declared.word.Role.TheVariants.{Input, State, Fed, Output}
 
 pub some_at : {A : Type 0} (xs : List A) (i : ℕ) → i < length xs → (x : A) × (slice_get xs i ≡ Some x)
 some_at [] i less = absurd (omega arith)
@@ -51,17 +52,20 @@ outputs words = length (filter (λ word. same_role word.role Output) words)
 more_outputs : Role → ℕ
 more_outputs Input = 0
 more_outputs State = 0
+more_outputs Fed = 0
 more_outputs Output = 1
 
 more_nets : Role → ℕ → ℕ
 more_nets Input k = 0
 more_nets State k = 0
+more_nets Fed k = 0
 more_nets Output k = k
 
 count_word : (word : BoundWord) (words : List BoundWord) (r : Role) → word.role ≡ r → outputs (word ∷ words) ≡ more_outputs r + outputs words
 unfolding more_outputs
 count_word word words Input is = (λ i. length (cond (same_role (is i) Output) (word ∷ filter (λ u. same_role u.role Output) words) (filter (λ u. same_role u.role Output) words))) ∙ (let e : outputs words ≡ 0 + outputs words = omega arith in e)
 count_word word words State is = (λ i. length (cond (same_role (is i) Output) (word ∷ filter (λ u. same_role u.role Output) words) (filter (λ u. same_role u.role Output) words))) ∙ (let e : outputs words ≡ 0 + outputs words = omega arith in e)
+count_word word words Fed is = (λ i. length (cond (same_role (is i) Output) (word ∷ filter (λ u. same_role u.role Output) words) (filter (λ u. same_role u.role Output) words))) ∙ (let e : outputs words ≡ 0 + outputs words = omega arith in e)
 count_word word words Output is = (λ i. length (cond (same_role (is i) Output) (word ∷ filter (λ u. same_role u.role Output) words) (filter (λ u. same_role u.role Output) words))) ∙ (let e : suc (outputs words) ≡ 1 + outputs words = omega arith in e)
 
 count_nets : (k : ℕ) (word : BoundWord) (words : List BoundWord) (r : Role) → word.role ≡ r → length word.nets ≡ k → length (output_bits (word ∷ words)) ≡ more_nets r k + length (output_bits words)
@@ -71,6 +75,7 @@ count_nets k word words r is long = length-append (output_bits_with word.role wo
     own : (q : Role) → word.role ≡ q → length (output_bits_with word.role word.nets) ≡ more_nets q k
     own Input e = (λ i. length (output_bits_with (e i) word.nets))
     own State e = (λ i. length (output_bits_with (e i) word.nets))
+    own Fed e = (λ i. length (output_bits_with (e i) word.nets))
     own Output e = (λ i. length (output_bits_with (e i) word.nets)) ∙ long
 
 abbrev pub AllLong : ℕ → List BoundWord → Type 0
@@ -87,6 +92,7 @@ no_output k (word ∷ words) each none = by (no_output k words (later k word wor
     by : (outputs words ≡ 0 → length (output_bits words) ≡ 0) → (r : Role) → word.role ≡ r → length (output_bits (word ∷ words)) ≡ 0
     by rest Input is = let n = count_word word words Input is in let m = count_nets k word words Input is (each word (0, refl)) in let e = rest (omega arith) in omega arith
     by rest State is = let n = count_word word words State is in let m = count_nets k word words State is (each word (0, refl)) in let e = rest (omega arith) in omega arith
+    by rest Fed is = let n = count_word word words Fed is in let m = count_nets k word words Fed is (each word (0, refl)) in let e = rest (omega arith) in omega arith
     by rest Output is = let n = count_word word words Output is in absurd (omega arith)
 
 -- the nets of the only output word
@@ -98,30 +104,9 @@ long_output k (word ∷ words) each one = by (long_output k words (later k word 
     by : (outputs words ≡ 1 → length (output_bits words) ≡ k) → (outputs words ≡ 0 → length (output_bits words) ≡ 0) → (r : Role) → word.role ≡ r → length (output_bits (word ∷ words)) ≡ k
     by rest none Input is = let n = count_word word words Input is in let m = count_nets k word words Input is (each word (0, refl)) in let e = rest (omega arith) in omega arith
     by rest none State is = let n = count_word word words State is in let m = count_nets k word words State is (each word (0, refl)) in let e = rest (omega arith) in omega arith
+    by rest none Fed is = let n = count_word word words Fed is in let m = count_nets k word words Fed is (each word (0, refl)) in let e = rest (omega arith) in omega arith
     by rest none Output is = let n = count_word word words Output is in let m = count_nets k word words Output is (each word (0, refl)) in let e = none (omega arith) in omega arith
 
-abbrev nil : List ℕ
-nil = []
-
--- the nets of the output word exist
-pub output_inside : (net : NetList) (words : List BoundWord) → ((word : BoundWord) (n : ℕ) → Has words word → Has word.nets n → StandsOn net word.role n) → (n : ℕ) → Has (output_bits words) n → n < nets net
-output_inside net [] places n has = let got = has.1 in absurd (cc)
-output_inside net (word ∷ words) places n has = elim (Has_cases (output_bits_with word.role word.nets) (output_bits words) n has) [
-  | inl own ↦ by word.role refl own
-  | inr rest ↦ output_inside net words (λ u m in_words in_u. places u m (suc in_words.0, in_words.1) in_u) n rest
-]
-  where
-    nothing : Has (nil) n → ⊥
-    nothing got = let none = got.1 in absurd (cc)
-
-    by : (r : Role) → word.role ≡ r → Has (output_bits_with word.role word.nets) n → n < nets net
-    by Input is in_word = let P : Role → Type 0 = λ q. Has (output_bits_with q word.nets) n in absurd (nothing (subst P is in_word))
-    by State is in_word = let P : Role → Type 0 = λ q. Has (output_bits_with q word.nets) n in absurd (nothing (subst P is in_word))
-    by Output is in_word =
-        let P : Role → Type 0 = λ q. Has (output_bits_with q word.nets) n in
-        let Q : Role → Type 0 = λ q. StandsOn net q n in
-        subst Q is (places word n (0, refl) (subst P is in_word))
-
--- the output word of a bound net list has k nets, which exist
-pub output_long : (net : NetList) (binding : Binding) → IsBoundTo net binding → length (output_bits binding.words) ≡ binding.k
-output_long net binding bound = long_output binding.k binding.words (λ word has. All_has (λ u. length u.nets ≡ binding.k) binding.words word bound.parts.each has) bound.one
+-- the output word of a bound net list has k nets
+pub output_long : (net : NetList) (binding : Binding) → IsOneCycle net binding → length (output_bits binding.words) ≡ binding.k
+output_long net binding bound = long_output binding.k binding.words (λ word has. All_has (λ u. length u.nets ≡ binding.k) binding.words word bound.flat.named has) bound.parts.one

@@ -9,7 +9,7 @@ use Rattle.net_core.specs.Sound.{IsSound}
 use Rattle.net_core.specs.Order.{IsElimination}
 use Rattle.net_core.proofs.DriverLemmas.{times_some}
 use Rattle.net_words.specs.Binding.{BoundNet}
-use Rattle.net_words.specs.BoundTo.{IsBoundTo}
+use Rattle.net_words.specs.OneCycle.{IsOneCycle}
 use Rattle.net_words.specs.Variables.{variables}
 use Rattle.net_words.proofs.RankLemmas.{variables_once}
 use Rattle.poly_mixed.specs.Polynomial.{Terms, IsReduced}
@@ -21,7 +21,7 @@ use Rattle.rato_reduce.specs.Recorded.{IsRecorded}
 use Rattle.poly_mixed.specs.Steps.{Step}
 use Rattle.rato_reduce.proofs.Elimination.{Settled, next_cut, to_cut, reversed}
 use Rattle.rato_reduce.proofs.FirstCut.{is_first}
-use Rattle.rato_reduce.proofs.OutputNets.{output_long, output_inside}
+use Rattle.rato_reduce.proofs.OutputNets.{output_long}
 use Rattle.irreducible.specs.Span.{combination}
 use Rattle.net_words.specs.BoundTo.{output_bits}
 use Rattle.poly_mixed.specs.Polynomial.{IsPolynomialOf}
@@ -50,7 +50,7 @@ module _ (k : ℕ) (mul : ℕ → ℕ → ℕ) (b : BoundNet) (basis order : Lis
   abbrev pub Told : ℕ → Option (List Step) → Option (List Step) → Type 0
   Told t old new = IsRecordedBy k mul b.net (variables (nets b.net) b.bound.words) (output_word b.bound.words basis) order t old new
 
-  pub turn : (t position : ℕ) (gate : GateValue) (old new : Terms) → IsSound b.net → IsBoundTo b.net b.bound → slice_get order t ≡ Some position → slice_get b.net.gates position ≡ Some gate
+  pub turn : (t position : ℕ) (gate : GateValue) (old new : Terms) → IsSound b.net → IsOneCycle b.net b.bound → slice_get order t ≡ Some position → slice_get b.net.gates position ≡ Some gate
       → Now t old → IsReduced k new → HasGatePutIn k mul (variables (nets b.net) b.bound.words) gate old new → Now (t + 1) new
   turn t position gate old new sound bound at at_net before reduced put =
       let list : List ℕ = variables (nets b.net) b.bound.words in
@@ -59,13 +59,13 @@ module _ (k : ℕ) (mul : ℕ → ℕ → ℕ) (b : BoundNet) (basis order : Lis
       let P : ℕ → Type 0 = λ j. Now j new in
       subst P up (next_cut b.net sound list stands is.0 is.1 order is.2 t position gate at at_net (output_word b.bound.words basis) k mul old new before reduced put)
 
-  pub first_now : (list : List ℕ) (ts : Terms) → IsBoundTo b.net b.bound → b.bound.k ≡ k → length basis ≡ k → list ≡ output_bits b.bound.words
+  pub first_now : (list : List ℕ) (ts : Terms) → IsOneCycle b.net b.bound → b.bound.k ≡ k → length basis ≡ k → list ≡ output_bits b.bound.words
       → IsPolynomialOf k mul (λ p. combination basis (index (point_bit (variables (nets b.net) b.bound.words) p) list)) ts → Now 0 ts
   first_now list ts bound bits long same poly =
       let P : List ℕ → Type 0 = λ ns. IsPolynomialOf k mul (λ p. combination basis (index (point_bit (variables (nets b.net) b.bound.words) p) ns)) ts in
       let sum = subst P same poly in
       is_first b.net (variables (nets b.net) b.bound.words) (output_word b.bound.words basis) order k mul ts long (output_long b.net b.bound bound ∙ bits)
-      (output_inside b.net b.bound.words bound.places) sum.reduced sum.values
+      bound.outputs sum.reduced sum.values
 
   pub is_cut : (t : ℕ) (ts : Terms) → Now t ts → IsOfStage k mul (BoundCut b basis t) ts
   is_cut t ts now = to_cut b.net (variables (nets b.net) b.bound.words) (output_word b.bound.words basis) order k mul t ts is now

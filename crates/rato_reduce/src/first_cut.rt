@@ -33,7 +33,7 @@ fn add_word(bound: &Bound, w: u32, list: &mut Vec<u32>) -> Result<(), AllocError
     ensures { OnOk result ((word : _) → slice_get bound.now.words w ≡ Some word → list.new.items ≡ list.old.items ++ output_bits_with word.role word.nets) }
 {
     match bound.role(w) {
-        Role::Input | Role::State => Ok(()),
+        Role::Input | Role::State | Role::Fed => Ok(()),
         Role::Output => {
             for place in 0..bound.k() {
                 list.push(bound.net(w, place))?;

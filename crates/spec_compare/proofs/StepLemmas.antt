@@ -10,7 +10,7 @@ use Rattle.std.proofs.lemmas.List.{append_assoc, length-append}
 use Rattle.std.proofs.lemmas.Option.{slice_get_within}
 use Rattle.net_words.specs.declared.bound.BoundWord.{BoundWord}
 use Rattle.net_words.specs.declared.word.Role.{Role}
-use Rattle.net_words.specs.declared.word.Role.TheVariants.{Input, State, Output}
+use Rattle.net_words.specs.declared.word.Role.TheVariants.{Input, State, Fed, Output}
 use Rattle.circuit_model.specs.Word.{Word}
 use Rattle.circuit_model.specs.OfBinding.{word_with, words_of}
 use Rattle.poly_mixed.specs.Monomial.{Monomial}
@@ -31,12 +31,15 @@ doubled n (suc count) less some =
     omega (arith, low, pow-succ' 2 count)
 
 -- room for one more word
-pub room : (role : Role) (basis : List ℕ) (n : ℕ) → (role ≡ Input) ⊎ (role ≡ State) → ((nets : List ℕ) → n + length (word_with role nets basis) ≤ 8) → n ≤ 7
+pub room : (role : Role) (basis : List ℕ) (n : ℕ) → (role ≡ Input) ⊎ (role ≡ State) ⊎ (role ≡ Fed) → ((nets : List ℕ) → n + length (word_with role nets basis) ≤ 8) → n ≤ 7
 room role basis n is few =
     let P : Role → Type 0 = λ r. n + length (word_with r [] basis) ≤ 8 in
     elim is [
       | inl e ↦ let l : n + 1 ≤ 8 = subst P e (few []) in omega arith
-      | inr e ↦ let l : n + 1 ≤ 8 = subst P e (few []) in omega arith
+      | inr other ↦ elim other [
+        | inl e ↦ let l : n + 1 ≤ 8 = subst P e (few []) in omega arith
+        | inr e ↦ let l : n + 1 ≤ 8 = subst P e (few []) in omega arith
+      ]
     ]
 
 pub room_product : (k n : ℕ) → k ≤ 64 → n ≤ 7 → k * n + k ≤ 512
@@ -152,6 +155,7 @@ module _ (k : ℕ) (ones : List ℕ) (words : List BoundWord) (bases : List (Lis
   role_long : (role : Role) (ms ns : List ℕ) → length (word_with role ms basis) ≡ length (word_with role ns basis)
   role_long Input ms ns = refl
   role_long State ms ns = refl
+  role_long Fed ms ns = refl
   role_long Output ms ns = refl
 
   pub still_few : length (words_of words bases) ≤ 8 → (nets : List ℕ) → length list + length (word_with word.role nets basis) ≤ 8

@@ -7,7 +7,7 @@ use Rattle.graph_core.proofs.ListLemmas.{got_read, get_below}
 use Rattle.net_core.specs.Sound.{IsSound}
 use Rattle.net_core.proofs.DriverLemmas.{from_map}
 use Rattle.net_words.specs.Binding.{Binding, BoundNet}
-use Rattle.net_words.specs.BoundTo.{IsBoundTo}
+use Rattle.net_words.specs.OneCycle.{IsOneCycle}
 use Rattle.net_words.specs.declared.bound.BoundWord.{BoundWord}
 use Rattle.net_words.specs.declared.word.Role.{Role}
 use Rattle.gf_field.specs.Ring.{IsRing}
@@ -35,11 +35,11 @@ module _ (k : ℕ) (mul : ℕ → ℕ → ℕ) (b : BoundNet) (bases : List Basi
         subst P found.2 (are.each found.0 (has.0, found.1)).elements;
   }
 
-  pub is_well_formed : IsRing k mul → HasNoZeroDivisors k mul → IsSound b.net → IsBoundTo b.net b.bound → b.bound.k ≡ k → IsWellFormed (circuit_in k mul b bases)
+  pub is_well_formed : IsRing k mul → HasNoZeroDivisors k mul → IsSound b.net → IsOneCycle b.net b.bound → b.bound.k ≡ k → IsWellFormed (circuit_in k mul b bases)
   is_well_formed ring field sound bound bits = bound_well k mul b (map elements_of bases) bound bits have_bases ring field sound
 
-  words_few : IsBoundTo b.net b.bound → length (words_of b.bound.words (map elements_of bases)) ≤ 8
-  words_few bound = omega (arith, count_of b.bound.words (map elements_of bases) all_long, bound.few)
+  words_few : IsOneCycle b.net b.bound → length (words_of b.bound.words (map elements_of bases)) ≤ 8
+  words_few bound = omega (arith, count_of b.bound.words (map elements_of bases) all_long, bound.parts.few)
 
   module _ (v : ℕ) (basis : Basis) (less : v < length b.bound.words) (read : basis ≡ get_or bases v basis) where
     at_base : slice_get bases v ≡ Some basis
@@ -63,7 +63,7 @@ module _ (k : ℕ) (mul : ℕ → ℕ → ℕ) (b : BoundNet) (bases : List Basi
       at_elements : slice_get (map elements_of bases) v ≡ Some (elements_of basis)
       at_elements = slice_get-map elements_of bases v ∙ rw at_base refl
 
-      pub few_here : IsBoundTo b.net b.bound → (nets : List ℕ) → length list + length (word_with role nets (elements_of basis)) ≤ 8
+      pub few_here : IsOneCycle b.net b.bound → (nets : List ℕ) → length list + length (word_with role nets (elements_of basis)) ≤ 8
       few_here bound nets =
           let P : Role → Type 0 = λ r. length list + length (word_with r nets (elements_of basis)) ≤ 8 in
           subst P (sym own_role) (still_few k ones b.bound.words (map elements_of bases) v word (elements_of basis) at_word at_elements list so_far (words_few bound) nets)

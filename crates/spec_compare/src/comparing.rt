@@ -3,7 +3,7 @@ ghost use Rattle.std.specs.Prelude.{◌≡◌, ◌≤◌, ◌<◌, ◌+◌, ◌+
 ghost use Rattle.std.specs.List.{AllByRecursion};
 ghost use Rattle.gf_basis.specs.BasisParts.{elements_of, IsOver};
 ghost use Rattle.net_core.specs.Sound.{IsSound};
-ghost use Rattle.net_words.specs.BoundTo.{IsBoundTo};
+ghost use Rattle.net_words.specs.OneCycle.{IsOneCycle};
 ghost use Rattle.poly_mixed.specs.Polynomial.{IsReduced, value};
 ghost use Rattle.poly_mixed.specs.Uniqueness.{IsZeros};
 ghost use Rattle.circuit_model.specs.OfBinding.{word_with};
@@ -24,7 +24,7 @@ use std::alloc::{AllocError, Global};
 // What a circuit keeps: its net is sound, and its words are bound to the net.
 fn kept(circuit: &Combinational)
     ensures sound { IsSound circuit.now.net }
-    ensures bound { IsBoundTo circuit.now.net circuit.now.bound }
+    ensures bound { IsOneCycle circuit.now.net circuit.now.bound }
 {
     let net = circuit.net();
     let _gates = net.gates();
@@ -43,7 +43,7 @@ fn add_element<F: Field>(
     ensures { OnOk result ((nets : List ℕ) → list.new.items ≡ list.old.items ++ inputs_from (F.degree field.now) ones.now (length list.old.items) (word_with role nets (elements_of basis.now))) }
 {
     match role {
-        Role::Input | Role::State => {
+        Role::Input | Role::State | Role::Fed => {
             let k = field.k();
             let bits = number(ones, k * list.len() as u32, k);
             list.push(basis.element_of(bits))?;
@@ -53,7 +53,7 @@ fn add_element<F: Field>(
     }
 }
 
-// The elements of the input and state words where the bits of these ranks are 1.
+// The elements of the input, state and fed words where the bits of these ranks are 1.
 fn elements<F: Field>(
     alloc: Global,
     field: &F,

@@ -7,7 +7,7 @@ use Rattle.graph_core.proofs.ListLemmas.{got_read}
 use Rattle.net_core.specs.Sound.{IsSound}
 use Rattle.net_core.proofs.DriverLemmas.{from_map}
 use Rattle.net_words.specs.Binding.{Binding, BoundNet}
-use Rattle.net_words.specs.BoundTo.{IsBoundTo}
+use Rattle.net_words.specs.OneCycle.{IsOneCycle}
 use Rattle.gf_field.specs.Ring.{IsRing}
 use Rattle.gf_field.specs.Field.{HasNoZeroDivisors}
 use Rattle.gf_basis.specs.Basis.{IsBasis}
@@ -34,7 +34,7 @@ module _ (k : ℕ) (mul : ℕ → ℕ → ℕ) (b : BoundNet) (bases : List Basi
         subst P found.2 (are.each found.0 (has.0, found.1)).elements;
   }
 
-  pub is_well_formed : IsRing k mul → HasNoZeroDivisors k mul → IsSound b.net → IsBoundTo b.net b.bound → b.bound.k ≡ k → IsWellFormed (circuit_in k mul b bases)
+  pub is_well_formed : IsRing k mul → HasNoZeroDivisors k mul → IsSound b.net → IsOneCycle b.net b.bound → b.bound.k ≡ k → IsWellFormed (circuit_in k mul b bases)
   is_well_formed ring field sound bound bits = bound_well k mul b (map elements_of bases) bound bits have_bases ring field sound
 
   -- the numbers that the code finds are as many as the words of the circuit

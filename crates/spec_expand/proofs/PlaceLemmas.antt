@@ -4,7 +4,7 @@ use Rattle.std.specs.Prelude.{slice_get}
 use Rattle.std.proofs.lemmas.List.{append_assoc}
 use Rattle.net_words.specs.declared.bound.BoundWord.{BoundWord}
 use Rattle.net_words.specs.declared.word.Role.{Role}
-use Rattle.net_words.specs.declared.word.Role.TheVariants.{Input, State, Output}
+use Rattle.net_words.specs.declared.word.Role.TheVariants.{Input, State, Fed, Output}
 use Rattle.circuit_model.specs.Word.{Word}
 use Rattle.circuit_model.specs.OfBinding.{word_with, words_of}
 use Rattle.spec_expand.specs.private.Places.{place_with, places_from}
@@ -37,6 +37,7 @@ places_long m (word ∷ words) (basis ∷ bases) long = by word.role (places_lon
     by : (r : Role) → length (places_from (m + 1) words) ≡ length (words_of words bases) → length (place_with r m ++ places_from (m + 1) words) ≡ length (word_with r word.nets basis ++ words_of words bases)
     by Input e = ap suc e
     by State e = ap suc e
+    by Fed e = ap suc e
     by Output e = e
 
 -- number w of the circuit is the word with the number v, and has its basis
@@ -63,6 +64,8 @@ word_at m (word ∷ words) (basis ∷ bases) w v long got =
         → (index : ℕ) × (v ≡ m + index) × (index < length (word ∷ words)) × ((b : List ℕ) → slice_get (basis ∷ bases) index ≡ Some b → (found : Word) × (slice_get (word_with r word.nets basis ++ words_of words bases) w ≡ Some found) × (found.basis ≡ b))
     by Input zero at more = let same : m ≡ v = cc in (0, here same, omega arith, λ b got. let equal : basis ≡ b = cc in (record { role = Input; nets = word.nets; basis = basis }, refl, equal))
     by Input (suc i) at more = let is = more i at in (suc is.index, up is.index is.number, omega (arith, is.inside), λ b got. is.word b got)
-    by State zero at more = let same : m ≡ v = cc in (0, here same, omega arith, λ b got. let equal : basis ≡ b = cc in (record { role = State; nets = word.nets; basis = basis }, refl, equal))
+    by State zero at more = let same : m ≡ v = cc in (0, here same, omega arith, λ b got. let equal : basis ≡ b = cc in (record { role = Input; nets = word.nets; basis = basis }, refl, equal))
     by State (suc i) at more = let is = more i at in (suc is.index, up is.index is.number, omega (arith, is.inside), λ b got. is.word b got)
+    by Fed zero at more = let same : m ≡ v = cc in (0, here same, omega arith, λ b got. let equal : basis ≡ b = cc in (record { role = Input; nets = word.nets; basis = basis }, refl, equal))
+    by Fed (suc i) at more = let is = more i at in (suc is.index, up is.index is.number, omega (arith, is.inside), λ b got. is.word b got)
     by Output w at more = let is = more w at in (suc is.index, up is.index is.number, omega (arith, is.inside), λ b got. is.word b got)

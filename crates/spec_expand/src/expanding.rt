@@ -1,7 +1,7 @@
 //! A specification as a polynomial in the bits of input and state words.
 ghost use Rattle.std.specs.Prelude.{◌≡◌, ◌<◌, ◌≤◌, ◌+◌, ◌^◌, length, take, slice_get, Some, IfOk, IfErr, OnOk};
 ghost use Rattle.net_core.specs.Sound.{IsSound};
-ghost use Rattle.net_words.specs.BoundTo.{IsBoundTo};
+ghost use Rattle.net_words.specs.OneCycle.{IsOneCycle};
 ghost use Rattle.gf_basis.specs.BasisParts.{elements_of, IsOver};
 ghost use Rattle.circuit_model.specs.Word.{Word};
 ghost use Rattle.stage_model.specs.Listing.{AreAllWithin, IsRefusal};
@@ -33,7 +33,7 @@ struct Reached {
 // What a circuit keeps: its net is sound, and its words are bound to the net.
 fn kept(circuit: &Combinational)
     ensures sound { IsSound circuit.now.net }
-    ensures bound { IsBoundTo circuit.now.net circuit.now.bound }
+    ensures bound { IsOneCycle circuit.now.net circuit.now.bound }
 {
     let net = circuit.net();
     let _gates = net.gates();

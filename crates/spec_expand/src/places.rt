@@ -1,4 +1,4 @@
-//! The input and state words of a binding.
+//! The input, state and fed words of a binding.
 ghost use Rattle.std.specs.Prelude.{◌≡◌, ◌<◌, ◌++◌, length, slice_get, IfOk, OnOk, Some};
 ghost use Rattle.spec_expand.specs.private.Places.{place_with, places_from};
 
@@ -11,7 +11,7 @@ fn add_place(bound: &Bound, v: u32, list: &mut Vec<u32>) -> Result<(), AllocErro
     ensures { OnOk result ((word : _) → slice_get bound.now.words v ≡ Some word → list.new.items ≡ list.old.items ++ place_with word.role v) }
 {
     match bound.role(v) {
-        Role::Input | Role::State => {
+        Role::Input | Role::State | Role::Fed => {
             list.push(v)?;
             Ok(())
         }
@@ -19,7 +19,7 @@ fn add_place(bound: &Bound, v: u32, list: &mut Vec<u32>) -> Result<(), AllocErro
     }
 }
 
-/// The numbers of the input and state words, in the order of the binding.
+/// The numbers of the input, state and fed words, in the order of the binding.
 pub fn word_places(alloc: Global, bound: &Bound) -> Result<Vec<u32>, AllocError>
     ensures { IfOk result (λ list. list.items ≡ places_from 0 bound.now.words) }
 {

@@ -2,7 +2,7 @@
 ghost use Rattle.std.specs.Prelude.{◌≡◌, [], List, length, map, ℕ};
 ghost use Rattle.net_core.specs.Sound.{IsSound};
 ghost use Rattle.net_words.specs.Binding.{BoundNet};
-ghost use Rattle.net_words.specs.BoundTo.{IsBoundTo};
+ghost use Rattle.net_words.specs.OneCycle.{IsOneCycle};
 ghost use Rattle.gf_field.specs.Ring.{IsRing};
 ghost use Rattle.gf_field.specs.Field.{HasNoZeroDivisors};
 ghost use Rattle.gf_basis.specs.BasisParts.{elements_of};
@@ -21,7 +21,7 @@ ghost use Rattle.circuit_model.specs.Bases.{AreBases, circuit_in};
 
 /// Words that are bound to a sound net make a well-formed circuit with one basis of the field for each.
 pub fn bases_make_a_circuit()
-    ensures { (k : ℕ) (mul : ℕ → ℕ → ℕ) (bound : BoundNet) (bases : List Basis) → IsRing k mul → HasNoZeroDivisors k mul → IsSound bound.net → IsBoundTo bound.net bound.bound → bound.bound.k ≡ k → AreBases k mul bound bases → IsWellFormed (circuit_in k mul bound bases) }
+    ensures { (k : ℕ) (mul : ℕ → ℕ → ℕ) (bound : BoundNet) (bases : List Basis) → IsRing k mul → HasNoZeroDivisors k mul → IsSound bound.net → IsOneCycle bound.net bound.bound → bound.bound.k ≡ k → AreBases k mul bound bases → IsWellFormed (circuit_in k mul bound bases) }
 {}
 
 /// The polynomial of the last cut is that of the mix of no words: what the elimination of gates gives is what `to_words`

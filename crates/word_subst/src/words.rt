@@ -1,7 +1,7 @@
 //! All words in place of their bits.
 ghost use Rattle.std.specs.Prelude.{◌≡◌, ◌<◌, ◌^◌, length, IfOk, IfErr, OnOk};
 ghost use Rattle.net_core.specs.Sound.{IsSound};
-ghost use Rattle.net_words.specs.BoundTo.{IsBoundTo};
+ghost use Rattle.net_words.specs.OneCycle.{IsOneCycle};
 ghost use Rattle.stage_model.specs.Mix.{IsMix};
 ghost use Rattle.stage_model.specs.Stage.{IsOfStage};
 ghost use Rattle.stage_model.specs.Listing.{AreAllWithin, IsRefusal};
@@ -20,7 +20,7 @@ use std::alloc::Global;
 // What a circuit keeps: its net is sound, and its words are bound to the net.
 fn kept(circuit: &Combinational)
     ensures sound { IsSound circuit.now.net }
-    ensures bound { IsBoundTo circuit.now.net circuit.now.bound }
+    ensures bound { IsOneCycle circuit.now.net circuit.now.bound }
 {
     let net = circuit.net();
     let _gates = net.gates();

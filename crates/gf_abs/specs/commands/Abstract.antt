@@ -48,5 +48,5 @@ AbstractReply setting circuit bound = do
 -- its answer, after its signature was taken: its input is a netlist
 abbrev pub AbstractAnswer : Option Files → SettingValue → Word → ℕ → Outcome Fault Reply
 AbstractAnswer held setting net terms = do
-  circuit ← CircuitIn held setting.signature.words net
+  circuit ← CircuitIn held setting.signature net
   AbstractReply setting circuit terms

@@ -43,5 +43,5 @@ BitsReply setting circuit bound = do
 -- its answer, after its signature was taken: its input is a netlist
 abbrev pub BitsAnswer : Option Files → SettingValue → Word → ℕ → Outcome Fault Reply
 BitsAnswer held setting net terms = do
-  circuit ← CircuitIn held setting.signature.words net
+  circuit ← CircuitIn held setting.signature net
   BitsReply setting circuit terms

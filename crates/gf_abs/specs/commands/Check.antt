@@ -69,5 +69,5 @@ CheckOver held setting circuit file terms = do
 -- its answer, after its signature was taken: its inputs are a netlist and a specification
 abbrev pub CheckAnswer : Option Files → SettingValue → Word → Word → ℕ → Outcome Fault Reply
 CheckAnswer held setting net file terms = do
-  circuit ← CircuitIn held setting.signature.words net
+  circuit ← CircuitIn held setting.signature net
   CheckOver held setting circuit file terms

@@ -47,11 +47,11 @@ SameReply setting circuit other bound = do
 -- its answer over the first circuit: the second netlist is read then
 abbrev pub SameBeside : Option Files → SettingValue → BoundNet → Word → ℕ → Outcome Fault Reply
 SameBeside held setting circuit other terms = do
-  second ← CircuitIn held setting.signature.words other
+  second ← CircuitIn held setting.signature other
   SameReply setting circuit second terms
 
 -- its answer, after its signature was taken: its inputs are two netlists
 abbrev pub SameAnswer : Option Files → SettingValue → Word → Word → ℕ → Outcome Fault Reply
 SameAnswer held setting net other terms = do
-  circuit ← CircuitIn held setting.signature.words net
+  circuit ← CircuitIn held setting.signature net
   SameBeside held setting circuit other terms

@@ -12,13 +12,13 @@ use Rattle.job_input.proofs.circuit.read_circuit.Goals as goal
 
 pub returns-clause-gives : goal.returns-clause-gives
 returns-clause-gives g c =
-    let words = c.args.setting.now.signature.words in
+    let signature = c.args.setting.now.signature in
     let file = c.args.file.now in
     let missed = Rose (g.S.Shelf.misses c.args.shelf.now) (g.S.Shelf.misses c.read_file.new.shelf) in
     let failed = Rose (g.S.Shelf.faults c.args.shelf.now) (g.S.Shelf.faults c.read_file.new.shelf) in
-    let P : List ℕ → Type 0 = λ text. GivesBy {X = BoundNet} (λ circuit. circuit) c.circuit_of.result (Within (Netlist file) (BoundNetOf words (by_ending file text))) ⊥ ⊥ in
-    after {X = BoundNet} (λ circuit. circuit) c.circuit_of.result (Within File (Read (g.S.Shelf.held c.args.shelf.now) file)) (λ text. Within (Netlist file) (BoundNetOf words (by_ending file text))) c.in-Ok.text.items
-    missed failed ⊥ ⊥ c.in-Ok.ensures.gives (λ m. absurd m) (λ f. absurd f) (subst P c.deref.ensures.value (rw c.words.ensures at c.circuit_of.ensures.gives))
+    let P : List ℕ → Type 0 = λ text. GivesBy {X = BoundNet} (λ circuit. circuit) c.circuit_of.result (Within (Netlist file) (BoundNetOf signature (by_ending file text))) ⊥ ⊥ in
+    after {X = BoundNet} (λ circuit. circuit) c.circuit_of.result (Within File (Read (g.S.Shelf.held c.args.shelf.now) file)) (λ text. Within (Netlist file) (BoundNetOf signature (by_ending file text))) c.in-Ok.text.items
+    missed failed ⊥ ⊥ c.in-Ok.ensures.gives (λ m. absurd m) (λ f. absurd f) (subst P c.deref.ensures.value c.circuit_of.ensures.gives)
 
 pub returns-clause-taken : goal.returns-clause-taken
-returns-clause-taken g c = taken_for c.args.setting.now c.args.file.now c.deref.result.now c.circuit_of.result (rw c.words.ensures at c.circuit_of.ensures.gives) (rw c.words.ensures at c.circuit_of.ensures.bits)
+returns-clause-taken g c = taken_for c.args.setting.now c.args.file.now c.deref.result.now c.circuit_of.result c.circuit_of.ensures.gives c.circuit_of.ensures.bits

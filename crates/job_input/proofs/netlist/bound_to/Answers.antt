@@ -1,8 +1,9 @@
-use Rattle.job_input.proofs.NetlistLemmas.{fault_named, unbound}
+use Rattle.std.proofs.Common.{rules}
+use Rattle.job_input.proofs.NetlistLemmas.{fault_named, not_flat, unbound}
 use Rattle.job_input.proofs.netlist.bound_to.Goals as goal
 
 pub binding_fault-requires : goal.binding_fault-requires
-binding_fault-requires c = fault_named c.args.net c.args.words.now c.in-Err.fault c.nets-count.ensures.sound.inside c.in-Err.ensures.fits
+binding_fault-requires c = fault_named c.args.net c.args.words.now c.args.feeds.now c.in-Err.fault c.nets-count.ensures.sound.inside c.in-Err.ensures.fits
 
 pub returns-in-Err-clause-fits : goal.returns-in-Err-clause-fits
-returns-in-Err-clause-fits c = unbound c.args.net c.args.words.now c.in-Err.fault c.binding_fault.result c.in-Err.ensures.fits c.binding_fault.ensures.same c.binding_fault.ensures.memory
+returns-in-Err-clause-fits c = unbound c.args.net c.args.words.now c.args.feeds.now c.in-Err.fault c.binding_fault.result c.in-Err.ensures.fits c.binding_fault.ensures.same c.binding_fault.ensures.memory

@@ -1,5 +1,5 @@
 use Rattle.std.proofs.Common.{◌≡◌, drop, length, filter}
-use Rattle.net_words.specs.Bind.{same_role}
+use Rattle.net_words.specs.Roles.{same_role}
 use Rattle.net_words.specs.declared.word.Role.TheVariants.{Output}
 use Rattle.circuit_model.specs.OfBinding.{output_basis}
 use Rattle.job_input.specs.Setting.{elements_of_each}

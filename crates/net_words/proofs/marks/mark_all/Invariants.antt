@@ -1,6 +1,6 @@
 use Rattle.std.proofs.Common.{◌≡◌, ℕ, ◌<◌, ◌||◌, length, take}
-use Rattle.net_words.specs.Bind.{stands_in}
 use Rattle.net_words.specs.BindReading.{mark_at}
+use Rattle.net_words.specs.Roles.{stands_in}
 use Rattle.net_words.proofs.marks.mark_all.Given as goal
 
 abbrev pub invariant-loop-net : goal.invariant-loop-net

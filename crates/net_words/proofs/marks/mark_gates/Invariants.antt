@@ -1,7 +1,7 @@
 use Rattle.std.proofs.Common.{◌≡◌, ℕ, ◌<◌, ◌||◌, length, take}
 use Rattle.std.specs.List.{list_any}
-use Rattle.net_words.specs.Bind.{stands_in}
 use Rattle.net_words.specs.BindReading.{mark_at}
+use Rattle.net_words.specs.Roles.{stands_in}
 use Rattle.net_words.proofs.marks.mark_gates.Given as goal
 
 abbrev pub invariant-loop-gate : goal.invariant-loop-gate

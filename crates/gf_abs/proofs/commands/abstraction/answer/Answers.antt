@@ -26,5 +26,5 @@ returns-in-Ok-clause-gives g c =
     let missed = Rose (g.S.Shelf.misses c.args.shelf.now) (g.S.Shelf.misses c.read_circuit.new.shelf) in
     let failed = Rose (g.S.Shelf.faults c.args.shelf.now) (g.S.Shelf.faults c.read_circuit.new.shelf) in
     let P : List Basis → Type 0 = λ bases. GivesBy reply_of c.reply.result (AbstractReply (record { signature = c.args.setting.now.signature; k = degree; product = mul; bases = elements_of_each bases }) c.in-Ok.circuit c.args.terms) ⊥ ⊥ in
-    after reply_of c.reply.result (CircuitIn (g.S.Shelf.held c.args.shelf.now) c.args.setting.now.signature.words c.args.net.now) (λ circuit. AbstractReply setting circuit c.args.terms) c.in-Ok.circuit
+    after reply_of c.reply.result (CircuitIn (g.S.Shelf.held c.args.shelf.now) c.args.setting.now.signature c.args.net.now) (λ circuit. AbstractReply setting circuit c.args.terms) c.in-Ok.circuit
     missed failed ⊥ ⊥ c.in-Ok.ensures.gives (λ m. absurd m) (λ f. absurd f) (subst P c.as_slice.ensures.value c.reply.ensures)

@@ -14,5 +14,5 @@ returns-in-Ok-clause-gives g c =
     let setting = setting_value (g.F.Ring.degree c.args.field.now) (g.F.Ring.product c.args.field.now) c.args.setting.now in
     let missed = Rose (g.S.Shelf.misses c.args.shelf.now) (g.S.Shelf.misses c.read_circuit.new.shelf) in
     let failed = Rose (g.S.Shelf.faults c.args.shelf.now) (g.S.Shelf.faults c.read_circuit.new.shelf) in
-    after reply_of c.reply.result (CircuitIn (g.S.Shelf.held c.args.shelf.now) c.args.setting.now.signature.words c.args.other.now) (λ second. SameReply setting c.args.circuit.now second c.args.terms) c.in-Ok.second
+    after reply_of c.reply.result (CircuitIn (g.S.Shelf.held c.args.shelf.now) c.args.setting.now.signature c.args.other.now) (λ second. SameReply setting c.args.circuit.now second c.args.terms) c.in-Ok.second
     missed failed ⊥ ⊥ c.in-Ok.ensures.gives (λ m. absurd m) (λ f. absurd f) c.reply.ensures

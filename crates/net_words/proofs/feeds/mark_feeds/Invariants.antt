@@ -1,0 +1,7 @@
+use Rattle.std.proofs.Common.{◌≡◌, ℕ, ◌<◌, ◌||◌, length, take}
+use Rattle.net_words.specs.BindReading.{mark_at}
+use Rattle.net_words.specs.Feeds.{is_fed}
+use Rattle.net_words.proofs.feeds.mark_feeds.Given as goal
+
+abbrev pub invariant-loop-feed : goal.invariant-loop-feed
+invariant-loop-feed l = (k : ℕ) → k < length l.marks → mark_at l.marks k ≡ (mark_at l.initial.marks k || is_fed (take l.feed-index l.feeds) k)
