@@ -5,8 +5,8 @@ use Rattle.std.specs.List.{AllByRecursion}
 use Rattle.text_core.specs.Names.{IsName}
 use Rattle.net_core.specs.Lists.{Has}
 use Rattle.net_words.specs.Binding.{AreWords}
-use Rattle.net_words.specs.Signature.{is_output}
-use Rattle.net_words.specs.WordNames.{HaveNames}
+use Rattle.net_words.specs.Roles.{is_output}
+use Rattle.net_signature.specs.WordNames.{HaveNames}
 use Rattle.net_words.specs.declared.word.Role.{Role}
 use Rattle.net_words.specs.declared.word.Role.TheVariants.{Input, State, Output}
 use Rattle.net_words.specs.declared.word.WordText.{WordText}

@@ -17,7 +17,7 @@ use gf_tower::AnyField;
 use job_input::{Setting, Signed, read_signed, setting_over};
 use job_io::{Shelf, Sink, SureShelf, SureSink, put_all};
 use job_words::{Command, Fault, Stop, Task, read_words, status_of, write_fault};
-use net_words::Signature;
+use net_signature::Signature;
 use std::alloc::Global;
 
 // The output of the words.

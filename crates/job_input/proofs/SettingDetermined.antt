@@ -3,12 +3,12 @@ use Rattle.std.proofs.Common.{◌≡◌, ◌∙◌, ap, sym, refl, ℕ, ◌<◌,
 use Rattle.text_core.specs.Outcome.{◌>>=◌, Exactly, Within, Determined}
 use Rattle.text_core.proofs.DeterminedLemmas.{determined_bind}
 use Rattle.irreducible.specs.Span.{IsIndependent}
-use Rattle.net_words.specs.Signature.{SignatureValue, Sig}
+use Rattle.net_signature.specs.Signature.{SignatureValue, Sig}
 use Rattle.net_words.specs.declared.word.BasisText.{BasisText}
 use Rattle.net_words.specs.declared.word.BasisText.TheVariants.{Poly, Normal, Elements}
 use Rattle.net_words.specs.declared.word.WordText.{WordText}
 use Rattle.net_words.proofs.BindDetermined.{determined_exactly}
-use Rattle.net_words.proofs.SigDetermined.{text_determined}
+use Rattle.net_signature.proofs.SigDetermined.{text_determined}
 use Rattle.gf_basis.specs.Basis.{IsBasisList}
 use Rattle.gf_basis.specs.BasisFault.{IsListFault, IsNormalFault, conjugates_of}
 use Rattle.gf_basis.specs.declared.bases.BasisFault.{BasisFault}

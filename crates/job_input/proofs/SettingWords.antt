@@ -6,17 +6,18 @@ use Rattle.std.proofs.lemmas.Bool.Decides.{nat_tests}
 use Rattle.std.proofs.lemmas.List.Elements.{filter-append}
 use Rattle.std.proofs.lemmas.List.Filters.{length-filter_both}
 use Rattle.net_words.specs.Binding.{AreWords}
-use Rattle.net_words.specs.Lines.{Line}
-use Rattle.net_words.specs.Signature.{SignatureValue, is_output, input_count, with_word, WordsOf, has_output, Sig}
+use Rattle.net_signature.specs.Lines.{Line}
+use Rattle.net_words.specs.Roles.{is_output, input_count}
+use Rattle.net_signature.specs.Signature.{SignatureValue, with_word, WordsOf, has_output, Sig}
 use Rattle.net_words.specs.declared.word.WordText.{WordText}
-use Rattle.net_words.specs.declared.fault.SigFault.{SigFault}
-use Rattle.net_words.specs.declared.fault.SigFault.TheVariants.{NameTwice, TwoOutputs, TooManyWords, NoOutput}
+use Rattle.net_signature.specs.declared.fault.SigFault.{SigFault}
+use Rattle.net_signature.specs.declared.fault.SigFault.TheVariants.{NameTwice, TwoOutputs, TooManyWords, NoOutput}
 use Rattle.job_input.specs.SettingOf.{BasesOf, SettingOf}
 use Rattle.job_input.specs.Setting.{AreSaid}
 use Rattle.job_input.specs.SettingValue.{SettingValue}
 use Rattle.job_input.proofs.FieldLemmas.{field_some, field_most}
 use Rattle.job_input.proofs.SignedLemmas.{setting_parts}
-use Rattle.net_words.proofs.NamesLemmas.{sig_names}
+use Rattle.net_signature.proofs.NamesLemmas.{sig_names}
 
 -- ---- counts of words
 

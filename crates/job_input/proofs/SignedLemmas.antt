@@ -1,12 +1,12 @@
 -- The steps of a signature's reading, one after another, and of its setting's making.
 use Rattle.std.proofs.Common.{◌≡◌, inl, inr, refl, subst, sym, [], List, ℕ, Ok, Err}
 use Rattle.text_core.specs.Outcome.{Within}
-use Rattle.net_words.specs.Signature.{SignatureValue, Sig}
-use Rattle.net_words.specs.WordNames.{HaveNames}
-use Rattle.net_words.specs.Reading.{Fits}
-use Rattle.net_words.specs.declared.fault.SigFault.{SigFault}
-use Rattle.net_words.specs.declared.fault.SigFault.TheVariants as text
-use Rattle.net_words.proofs.NamesLemmas.{sig_names}
+use Rattle.net_signature.specs.Signature.{SignatureValue, Sig}
+use Rattle.net_signature.specs.WordNames.{HaveNames}
+use Rattle.net_signature.specs.Reading.{Fits}
+use Rattle.net_signature.specs.declared.fault.SigFault.{SigFault}
+use Rattle.net_signature.specs.declared.fault.SigFault.TheVariants as text
+use Rattle.net_signature.proofs.NamesLemmas.{sig_names}
 use Rattle.gf_tower.specs.FieldFault.{IsFieldFault}
 use Rattle.gf_tower.specs.declared.any_field.FieldFault.{FieldFault}
 use Rattle.job_words.specs.declared.fault.Fault.TheVariants.{Signature}

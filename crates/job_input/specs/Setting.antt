@@ -2,12 +2,12 @@
 use Rattle.std.specs.Prelude.{◌≡◌, ℕ, ◌*◌, ◌≤◌, List, filter, length, map}
 use Rattle.net_core.specs.Lists.{Has}
 use Rattle.net_words.specs.Binding.{AreWords, BoundNet}
-use Rattle.net_words.specs.Signature.{is_output, input_count}
+use Rattle.net_words.specs.Roles.{is_output, input_count}
 use Rattle.net_words.specs.declared.bound.BoundWord.{BoundWord}
 use Rattle.net_words.specs.declared.word.WordText.{WordText}
-use Rattle.net_words.specs.WordNames.{HaveNames}
-use Rattle.net_words.specs.declared.fault.SigFault.{SigFault}
-use Rattle.net_words.specs.declared.fault.SigFault.TheVariants.{Syntax, NameTwice, TwoOutputs, TooManyWords, NoOutput, OutOfMemory}
+use Rattle.net_signature.specs.WordNames.{HaveNames}
+use Rattle.net_signature.specs.declared.fault.SigFault.{SigFault}
+use Rattle.net_signature.specs.declared.fault.SigFault.TheVariants.{Syntax, NameTwice, TwoOutputs, TooManyWords, NoOutput, OutOfMemory}
 use Rattle.gf_field.specs.Bit.{bit_mul}
 use Rattle.gf_field.specs.Quotient.{product as quotient_product}
 use Rattle.gf_field.specs.Ring2k.{degree_of, modulus_of}

@@ -2,9 +2,9 @@
 -- Lidl and Niederreiter, Finite Fields, chapter 2.
 use Rattle.std.specs.Prelude.{◌≡◌, ◌≢◌, ℕ, ◌<◌, ◌^◌, List, [], ◌∷◌, length, Ok, Err}
 use Rattle.text_core.specs.Outcome.{Outcome, ◌>>=◌, Exactly, Within}
-use Rattle.net_words.specs.Signature.{Sig, SignatureValue}
-use Rattle.net_words.specs.declared.fault.SigFault.{SigFault}
-use Rattle.net_words.specs.declared.fault.SigFault.TheVariants as text
+use Rattle.net_signature.specs.Signature.{Sig, SignatureValue}
+use Rattle.net_signature.specs.declared.fault.SigFault.{SigFault}
+use Rattle.net_signature.specs.declared.fault.SigFault.TheVariants as text
 use Rattle.net_words.specs.declared.word.BasisText.{BasisText}
 use Rattle.net_words.specs.declared.word.BasisText.TheVariants.{Poly, Normal, Elements}
 use Rattle.net_words.specs.declared.word.WordText.{WordText}

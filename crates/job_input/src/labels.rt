@@ -2,7 +2,7 @@
 ghost use Rattle.std.specs.Prelude.{◌≡◌, ◌≤◌, ◌++◌, ℕ, [], IfOk, OnOk};
 ghost use Rattle.text_core.specs.Names.{IsName};
 ghost use Rattle.net_words.specs.Binding.{AreWords};
-ghost use Rattle.net_words.specs.WordNames.{HaveNames};
+ghost use Rattle.net_signature.specs.WordNames.{HaveNames};
 ghost use Rattle.job_input.specs.Labelling.{labels_of, word_label, IsNewLabel, output_name as name_of_output};
 
 use net_words::{Role, WordText};

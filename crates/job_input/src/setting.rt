@@ -18,7 +18,7 @@ use std::alloc::Global;
 #[derive(Drop)]
 pub struct Setting {
     /// What the signature's text says.
-    pub signature: net_words::Signature,
+    pub signature: net_signature::Signature,
     /// The basis of each word, the output word's among them.
     pub bases: Vec<Basis>,
 }
@@ -28,7 +28,7 @@ pub struct Setting {
 pub fn setting_over<F: Field>(
     alloc: Global,
     field: &F,
-    signature: net_words::Signature,
+    signature: net_signature::Signature,
 ) -> Result<Setting, Stop>
     requires said { AreSaid signature.words }
     ensures gives { GivesBy (setting_value (F.degree field.now) (F.product field.now)) result

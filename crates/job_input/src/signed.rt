@@ -14,14 +14,14 @@ use crate::files::read_file;
 use gf_tower::{AnyField, FieldFault};
 use job_io::Shelf;
 use job_words::{Fault, SignatureFault, Stop};
-use net_words::{SigFault, read_signature};
+use net_signature::{SigFault, read_signature};
 use std::alloc::Global;
 
 /// A signature, and the field that it names.
 #[derive(Drop)]
 pub struct Signed {
     /// What the signature's text says.
-    pub signature: net_words::Signature,
+    pub signature: net_signature::Signature,
     /// The field that it names.
     pub field: AnyField,
 }

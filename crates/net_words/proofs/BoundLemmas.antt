@@ -16,7 +16,7 @@ use Rattle.net_words.specs.Binding.{Binding, AreWords}
 use Rattle.net_words.specs.Bind.{stands_in, is_latch, with_role, place_net, taken_with, NetsOf, bound_word, BoundOf, same_role, in_word, feeds_gate, feeds_latch, is_used, IsCovered, is_unknown, started, bits_of, BindingOf}
 use Rattle.net_words.specs.BoundTo.{output_bits, StandsOn, IsBoundTo}
 use Rattle.net_words.specs.Reach.{Draws, Reaches}
-use Rattle.net_words.specs.Signature.{is_output, input_count}
+use Rattle.net_words.specs.Roles.{is_output, input_count}
 use Rattle.net_words.specs.Variables.{bits, bits_with}
 use Rattle.net_words.specs.declared.binding.BindFault.{BindFault}
 use Rattle.net_words.specs.declared.binding.BindFault.TheVariants.{NotInput, NotLatch, NetTwice, UnknownStart}

@@ -1,10 +1,7 @@
 -- Small worked examples of the definitions of specs/, which the check computes: the net y = a AND b, whose nets are
 -- 0, 1 and 2, and words on it.
-use Rattle.std.proofs.Common.{◌≡◌, ℕ, zero, suc, ◌<◌, ◌++◌, [], ◌∷◌, List, true, Ok, Err, codes, slice_index, inl, refl, arith}
-use Rattle.text_core.specs.Numbers.{IsDigit}
+use Rattle.std.proofs.Common.{◌≡◌, ℕ, [], ◌∷◌, List, true, Ok, Err, codes, refl}
 use Rattle.net_core.specs.NetList.{NetList, LabelValue}
-use Rattle.net_words.specs.Lines.{lines_from}
-use Rattle.net_words.specs.Statement.{SaysField}
 use Rattle.net_words.specs.Bind.{with_role, is_uncovered}
 use Rattle.net_words.specs.Variables.{variables}
 use Rattle.net_words.specs.declared.binding.BindFault.TheVariants.{NotInput, NetTwice}
@@ -41,15 +38,3 @@ output_on_any_net = refl
 -- where A is net 0 and Z is net 2, net 1 feeds the gate and is in no word
 b_is_uncovered : is_uncovered and_net (word (codes "A") Input (0 ∷ []) ∷ word (codes "Z") Output (2 ∷ []) ∷ []) 1 ≡ true
 b_is_uncovered = refl
-
--- of a comment and a line `field 0x7`, line 2 alone has tokens
-lines_with_tokens : lines_from 1 (codes "# four" ++ 10 ∷ codes "field 0x7") ≡ record { number = 2; tokens = codes "field" ∷ codes "0x7" ∷ [] } ∷ []
-lines_with_tokens = refl
-
--- `field 0x7` says the modulus 7
-says_field : SaysField (codes "field" ∷ codes "0x7" ∷ []) 7
-says_field = (codes "0x7", refl, (codes "7", refl, (omega arith, each), refl), omega arith)
-  where
-    each : (k : ℕ) → k < 1 → IsDigit 16 (slice_index (codes "7") k)
-    each zero h = (inl (omega arith, omega arith), omega arith)
-    each (suc k) h = absurd (omega arith)

@@ -1,7 +1,7 @@
 -- Words that are bound to nets. Source: this project's own.
 use Rattle.std.specs.Prelude.{◌≡◌, ℕ, ◌≤◌, List, length, filter, All}
 use Rattle.net_core.specs.NetList.{NetList}
-use Rattle.net_words.specs.Signature.{is_output, input_count}
+use Rattle.net_words.specs.Roles.{is_output, input_count}
 use Rattle.net_words.specs.declared.bound.BoundWord.{BoundWord}
 use Rattle.net_words.specs.declared.word.WordText.{WordText}
 

@@ -1,11 +1,7 @@
-pub mod Lines
-pub mod Statement
-pub mod Signature
+pub mod Roles
 pub mod Binding
 pub mod Bind
 pub mod BindReading
 pub mod Variables
 pub mod Reach
 pub mod BoundTo
-pub mod WordNames
-pub mod Reading

@@ -1,12 +1,13 @@
 //! Bindings that are taken and refused.
 ghost use Rattle.std.specs.Prelude.{◌≡◌, ◌↔◌, ℕ, length, filter, All, IsTrue};
 ghost use Rattle.net_words.specs.Binding.{AreWords};
-ghost use Rattle.net_words.specs.Signature.{is_output as is_output_word, input_count as count_inputs};
+ghost use Rattle.net_words.specs.Roles.{is_output as is_output_word, input_count as count_inputs};
 
-use crate::{BasisText, Role, WordText, bind, read_signature};
+use crate::{BasisText, Role, WordText, bind};
 use net_core::{Name, Names, Net, NetFault, NetMaker, Start};
 use std::alloc::{AllocError, Global};
 use std::test::Fail;
+use text_core::{plain_text, tokens};
 
 // The net z = a & b, in which c drives nothing.
 fn conjunction(alloc: Global) -> Result<Net, NetFault> {
@@ -36,37 +37,45 @@ fn latches(alloc: Global) -> Result<Net, NetFault> {
     maker.finish()
 }
 
-// The words, of which those whose name begins with S are state words.
-fn with_states(alloc: Global, words: &[WordText]) -> Result<Vec<WordText>, AllocError> {
-    let mut list = Vec::new(alloc);
-    for word in words {
-        list.push(with_state(alloc, word)?)?;
+// The words of a text with a `;` between words: the name of each, whose first letter says its role, and its nets.
+pub(crate) fn words_of(alloc: Global, text: &[u8]) -> Result<Vec<WordText>, AllocError> {
+    let mut words = Vec::new(alloc);
+    let mut line = 3;
+    for part in text.split(|&byte| byte == b';') {
+        let tokens = tokens(alloc, part)?;
+        if let [name, nets @ ..] = tokens.as_slice() {
+            words.push(word_of(alloc, line, name, nets)?)?;
+        }
+        line += 1;
     }
-    Ok(list)
+    Ok(words)
 }
 
-fn with_state(alloc: Global, word: &WordText) -> Result<WordText, AllocError> {
-    let name = word.name.as_str();
-    let role = if name.as_bytes().starts_with(b"S") {
-        Role::State
-    } else {
-        word.role
+fn word_of(alloc: Global, line: u32, name: &[u8], nets: &[&[u8]]) -> Result<WordText, AllocError> {
+    let role = match name {
+        [b'I', ..] => Role::Input,
+        [b'S', ..] => Role::State,
+        _ => Role::Output,
     };
     Ok(WordText {
-        line: word.line,
-        name: Name::new(alloc, name)?,
+        line,
+        name: name_of(alloc, name)?,
         role,
         basis: BasisText::Poly,
-        nets: names(alloc, word.nets.as_slice())?,
+        nets: names(alloc, nets)?,
     })
 }
 
-fn names(alloc: Global, nets: &[Name]) -> Result<Names, AllocError> {
+fn names(alloc: Global, tokens: &[&[u8]]) -> Result<Names, AllocError> {
     let mut list = Vec::new(alloc);
-    for net in nets {
-        list.push(Name::new(alloc, net.as_str())?)?;
+    for token in tokens {
+        list.push(name_of(alloc, token)?)?;
     }
     Ok(Names::new(list))
+}
+
+fn name_of(alloc: Global, token: &[u8]) -> Result<Name, AllocError> {
+    Name::new(alloc, plain_text(token).unwrap_or(""))
 }
 
 pub(crate) fn can_be_bound(words: &[WordText]) -> bool
@@ -111,17 +120,7 @@ fn have_nets(words: &[WordText], k: usize) -> bool
 
 // What comes of the words of a text: the fault's text, or how many words are bound.
 fn outcome(alloc: Global, net: &Net, text: &[u8]) -> Result<String, AllocError> {
-    if text.len() > 67108864 {
-        return format!(in alloc; "too long");
-    }
-    match read_signature(alloc, text) {
-        Ok(signature) => bound_words(alloc, net, signature.words()),
-        Err(fault) => format!(in alloc; "{fault}"),
-    }
-}
-
-fn bound_words(alloc: Global, net: &Net, words: &[WordText]) -> Result<String, AllocError> {
-    let words = with_states(alloc, words)?;
+    let words = words_of(alloc, text)?;
     if !can_be_bound(&words) {
         return format!(in alloc; "no words");
     }
@@ -136,30 +135,18 @@ fn inputs(rt: HostRuntime) -> Result<(), Fail> {
     let alloc = rt.alloc();
     let net = conjunction(alloc)?;
     for (text, outcome_is) in [
+        (b"I0 a; I1 b; O2 z".as_slice(), "3 words"),
+        (b"O0 z a; I1 b a".as_slice(), "2 words"),
         (
-            b"gfsig 1\nfield 0x7\nword I0 input poly a\nword I1 input poly b\nword O2 output poly z\n".as_slice(),
-            "3 words",
-        ),
-        (
-            b"gfsig 1\nfield 0x7\nword O0 output poly z a\nword I1 input poly b a\n".as_slice(),
-            "2 words",
-        ),
-        (
-            b"gfsig 1\nfield 0x7\nword I0 input poly a\nword O1 output poly z\nword I2 input poly x\n".as_slice(),
+            b"I0 a; O1 z; I2 x".as_slice(),
             "no net for place 0 of word 2",
         ),
         (
-            b"gfsig 1\nfield 0x7\nword I0 input poly a z\nword O1 output poly z x\n".as_slice(),
+            b"I0 a z; O1 z x".as_slice(),
             "place 1 of word 0 is no input",
         ),
-        (
-            b"gfsig 1\nfield 0x7\nword I0 input poly a a\nword O1 output poly z x\n".as_slice(),
-            "net 0 stands twice",
-        ),
-        (
-            b"gfsig 1\nfield 0x7\nword I0 input poly a b\nword O1 output poly z x\n".as_slice(),
-            "no net for place 1 of word 1",
-        ),
+        (b"I0 a a; O1 z x".as_slice(), "net 0 stands twice"),
+        (b"I0 a b; O1 z x".as_slice(), "no net for place 1 of word 1"),
     ] {
         assert_eq!(rt;
             outcome(alloc, &net, text)?.as_str(),
@@ -175,26 +162,14 @@ fn inputs_that_stand_elsewhere(rt: HostRuntime) -> Result<(), Fail> {
     let alloc = rt.alloc();
     let net = conjunction(alloc)?;
     for (text, outcome_is) in [
+        (b"I0 a b; I1 b c; O2 z z".as_slice(), "net 1 stands twice"),
         (
-            b"gfsig 1\nfield 0x7\nword I0 input poly a b\nword I1 input poly b c\nword O2 output poly z z\n".as_slice(),
-            "net 1 stands twice",
-        ),
-        (
-            b"gfsig 1\nfield 0x7\nword I0 input poly z x\nword O1 output poly z z\n".as_slice(),
+            b"I0 z x; O1 z z".as_slice(),
             "place 0 of word 0 is no input",
         ),
-        (
-            b"gfsig 1\nfield 0x7\nword I0 input poly b\nword O1 output poly z\n".as_slice(),
-            "input 0 is in no word",
-        ),
-        (
-            b"gfsig 1\nfield 0x7\nword I0 input poly a b\nword O1 output poly z c\n".as_slice(),
-            "input 2 is in no word",
-        ),
-        (
-            b"gfsig 1\nfield 0x7\nword O0 output poly z\n".as_slice(),
-            "input 0 is in no word",
-        ),
+        (b"I0 b; O1 z".as_slice(), "input 0 is in no word"),
+        (b"I0 a b; O1 z c".as_slice(), "input 2 is in no word"),
+        (b"O0 z".as_slice(), "input 0 is in no word"),
     ] {
         assert_eq!(rt;
             outcome(alloc, &net, text)?.as_str(),
@@ -210,34 +185,19 @@ fn states(rt: HostRuntime) -> Result<(), Fail> {
     let alloc = rt.alloc();
     let net = latches(alloc)?;
     for (text, outcome_is) in [
+        (b"I0 a; S1 q; O2 z".as_slice(), "3 words"),
+        (b"I0 a; S1 r; O2 z".as_slice(), "latch 1 has no start"),
+        (b"I0 a; O1 z".as_slice(), "latch 1 has no start"),
+        (b"S0 q; O1 z".as_slice(), "input 0 is in no word"),
         (
-            b"gfsig 1\nfield 0x7\nword I0 input poly a\nword S1 input poly q\nword O2 output poly z\n".as_slice(),
-            "3 words",
-        ),
-        (
-            b"gfsig 1\nfield 0x7\nword I0 input poly a\nword S1 input poly r\nword O2 output poly z\n".as_slice(),
-            "latch 1 has no start",
-        ),
-        (
-            b"gfsig 1\nfield 0x7\nword I0 input poly a\nword O1 output poly z\n".as_slice(),
-            "latch 1 has no start",
-        ),
-        (
-            b"gfsig 1\nfield 0x7\nword S0 input poly q\nword O1 output poly z\n".as_slice(),
-            "input 0 is in no word",
-        ),
-        (
-            b"gfsig 1\nfield 0x7\nword I0 input poly a q\nword O1 output poly z z\n".as_slice(),
+            b"I0 a q; O1 z z".as_slice(),
             "place 1 of word 0 is no input",
         ),
         (
-            b"gfsig 1\nfield 0x7\nword S0 input poly q a\nword O1 output poly z z\n".as_slice(),
+            b"S0 q a; O1 z z".as_slice(),
             "place 1 of word 0 is no latch",
         ),
-        (
-            b"gfsig 1\nfield 0x7\nword S0 input poly q q\nword O1 output poly z z\n".as_slice(),
-            "net 1 stands twice",
-        ),
+        (b"S0 q q; O1 z z".as_slice(), "net 1 stands twice"),
     ] {
         assert_eq!(rt;
             outcome(alloc, &net, text)?.as_str(),

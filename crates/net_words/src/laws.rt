@@ -1,5 +1,5 @@
-//! Laws of signatures and bindings. These functions do nothing: their contracts are proved of the definitions alone.
-ghost use Rattle.std.specs.Prelude.{◌≡◌, ◌<◌, ◌↔◌, List, Ok, length, ℕ};
+//! Laws of bindings. These functions do nothing: their contracts are proved of the definitions alone.
+ghost use Rattle.std.specs.Prelude.{◌≡◌, ◌<◌, ◌↔◌, List, length, ℕ};
 ghost use Rattle.text_core.specs.Outcome.{Determined};
 ghost use Rattle.net_core.specs.Lists.{Has, times};
 ghost use Rattle.net_core.specs.NetList.{NetList, nets};
@@ -7,19 +7,12 @@ ghost use Rattle.net_core.specs.Sound.{IsSound};
 ghost use Rattle.net_words.specs.Bind.{BindingOf};
 ghost use Rattle.net_words.specs.Binding.{Binding};
 ghost use Rattle.net_words.specs.BoundTo.{IsBoundTo};
-ghost use Rattle.net_words.specs.Signature.{Sig, SignatureValue};
 ghost use Rattle.net_words.specs.Variables.{variables, IsRanked};
-ghost use Rattle.net_words.specs.WordNames.{HaveNames};
 ghost use Rattle.net_words.specs.declared.word.WordText.{WordText};
 
 /// At most one binding or fault comes of binding words to the nets of a net list.
 pub fn one_binding_or_fault()
     ensures { (net : NetList) (words : List WordText) → Determined (BindingOf net words) }
-{}
-
-/// At most one signature or fault comes of a text.
-pub fn one_signature_or_fault()
-    ensures { (text : List ℕ) → Determined (Sig text) }
 {}
 
 /// Where words are bound to a sound net, the order of variables has each net once and nothing else.
@@ -35,9 +28,4 @@ pub fn each_net_has_one_rank()
 /// So `net_of` and `rank_of` are inverse of each other at arguments below the number of nets.
 pub fn ranks_and_nets_are_one_to_one()
     ensures { (net : NetList) (binding : Binding) (p q n m : ℕ) → IsSound net → IsBoundTo net binding → IsRanked (variables (nets net) binding.words) p n → IsRanked (variables (nets net) binding.words) q m → (p ≡ q) ↔ (n ≡ m) }
-{}
-
-/// The words of a signature have names, and no two have the same.
-pub fn words_have_names()
-    ensures { (text : List ℕ) (signature : SignatureValue) → Sig text (Ok signature) → HaveNames signature.words }
 {}

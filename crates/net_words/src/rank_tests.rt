@@ -1,6 +1,6 @@
 //! The order of variables of a circuit.
-use crate::binding_tests::can_be_bound;
-use crate::{Combinational, WordText, bind, read_signature};
+use crate::binding_tests::{can_be_bound, words_of};
+use crate::{Combinational, WordText, bind};
 use net_core::{Net, NetFault, NetMaker};
 use std::alloc::Global;
 use std::test::Fail;
@@ -71,13 +71,9 @@ fn circuit(alloc: Global, words: &[WordText], net: Net) -> Option<Combinational>
 #[test]
 fn ranks(rt: HostRuntime) -> Result<(), Fail> {
     let alloc = rt.alloc();
-    let text =
-        b"gfsig 1\nfield 0x7\nword A input poly a0 a1\nword Z output poly z0 z1\nword B input poly b0 b1\n";
-    let Ok(signature) = read_signature(alloc, text) else {
-        panic!(rt; "refused");
-    };
+    let words = words_of(alloc, b"I0 a0 a1; O1 z0 z1; I2 b0 b1")?;
     let net = multiplier(alloc)?;
-    let Some(circuit) = circuit(alloc, signature.words(), net) else {
+    let Some(circuit) = circuit(alloc, &words, net) else {
         panic!(rt; "not bound");
     };
     assert_eq!(rt; circuit.net().nets(), 11);

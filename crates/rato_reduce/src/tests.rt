@@ -2,7 +2,7 @@
 ghost use Rattle.std.specs.Prelude.{◌≡◌, ◌≤◌, ℕ, Some, map, length, filter, All, IfOk, IsTrue, ◌↔◌};
 ghost use Rattle.net_core.specs.NetList.{nets};
 ghost use Rattle.net_words.specs.Binding.{AreWords};
-ghost use Rattle.net_words.specs.Signature.{is_output as is_output_word, input_count as count_inputs};
+ghost use Rattle.net_words.specs.Roles.{is_output as is_output_word, input_count as count_inputs};
 ghost use Rattle.poly_mixed.specs.Polynomial.{IsReduced};
 
 use crate::reduce_bits;
@@ -10,7 +10,8 @@ use gf_basis::Basis;
 use gf_field::{Field, Ring2k, is_element};
 use irreducible::Proved;
 use net_core::{Net, NetFault, NetMaker};
-use net_words::{Combinational, Role, WordText, bind, read_signature};
+use net_signature::read_signature;
+use net_words::{Combinational, Role, WordText, bind};
 use poly_mixed::{Generator, NoSteps, Poly, ReduceFault, Stage, Steps, Term};
 use std::alloc::{AllocError, Global};
 use std::process::Abort;

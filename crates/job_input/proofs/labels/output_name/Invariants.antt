@@ -1,5 +1,5 @@
 use Rattle.std.proofs.Common.{◌≡◌, drop, length, filter}
-use Rattle.net_words.specs.Signature.{is_output}
+use Rattle.net_words.specs.Roles.{is_output}
 use Rattle.job_input.specs.Labelling.{output_name}
 use Rattle.job_input.proofs.labels.output_name.Given as goal
 

@@ -1,0 +1,122 @@
+//! The line of a word.
+ghost use Rattle.std.specs.Prelude.{◌≡◌, ◌∷◌, ◌↔◌, map, codes, All, IsTrue, IfSome, IfNone};
+ghost use Rattle.text_core.specs.Names.{IsName};
+ghost use Rattle.net_signature.specs.Statement.{SaysRole, IsNetToken};
+ghost use Rattle.net_signature.specs.Signature.{OrSyntax, IsWordLine};
+ghost use Rattle.net_signature.specs.Reading.{Fits, line_of};
+
+use crate::basis::read_basis;
+use crate::fault::SigFault;
+use crate::lines::Statement;
+use net_core::{Name, Names};
+use net_words::{Role, WordText};
+use std::alloc::Global;
+use text_core::{is_name, plain_text};
+
+/// The word of a line.
+pub fn read_word(alloc: Global, statement: &Statement) -> Result<WordText, SigFault>
+    ensures { Fits (λ word. word) result (IsWordLine (line_of statement.now)) }
+{
+    match statement.tokens.as_slice() {
+        [keyword, name, role, basis, nets @ ..] => {
+            word_of(alloc, statement.number, keyword, name, role, basis, nets)
+        }
+        _ => Err(SigFault::Syntax {
+            line: statement.number,
+        }),
+    }
+}
+
+// The word of a line of these tokens.
+fn word_of(
+    alloc: Global,
+    line: u32,
+    keyword: &[u8],
+    name: &[u8],
+    role: &[u8],
+    basis: &[u8],
+    nets: &[&[u8]],
+) -> Result<WordText, SigFault>
+    ensures { Fits (λ word. word) result (IsWordLine (record { number = line; tokens = keyword.now ∷ name.now ∷ role.now ∷ basis.now ∷ map (λ t. t.now) nets.now })) }
+{
+    let (Some(name), Some(role)) = (word_name(name), role_of(role)) else {
+        return Err(SigFault::Syntax { line });
+    };
+    if !is_keyword(keyword) || nets.len() < 1 {
+        return Err(SigFault::Syntax { line });
+    }
+    let name = Name::new(alloc, name)?;
+    let basis = match read_basis(alloc, line, basis) {
+        Ok(basis) => basis,
+        Err(fault) => return Err(fault),
+    };
+    let nets = match net_names(alloc, line, nets) {
+        Ok(nets) => nets,
+        Err(fault) => return Err(fault),
+    };
+    Ok(WordText {
+        line,
+        name,
+        role,
+        basis,
+        nets,
+    })
+}
+
+// The text of a token that is the name of a word.
+fn word_name(token: &[u8]) -> Option<&str>
+    ensures found { IfSome result (λ text. (text.now ≡ token.now) × IsName token.now) }
+    ensures none { IfNone result (IsName token.now → ⊥) }
+{
+    if is_name(token) {
+        plain_text(token)
+    } else {
+        None
+    }
+}
+
+// Whether the line is one of a word.
+fn is_keyword(token: &[u8]) -> bool
+    ensures { IsTrue result ↔ (token.now ≡ codes "word") }
+{
+    token == b"word".as_slice()
+}
+
+// The role that a token names.
+fn role_of(token: &[u8]) -> Option<Role>
+    ensures found { IfSome result (λ role. SaysRole token.now role) }
+    ensures none { IfNone result ((role : _) → SaysRole token.now role → ⊥) }
+{
+    match token {
+        b"input" => Some(Role::Input),
+        b"state" => Some(Role::State),
+        b"output" => Some(Role::Output),
+        _ => None,
+    }
+}
+
+// The names of nets at a line.
+fn net_names(alloc: Global, number: u32, tokens: &[&[u8]]) -> Result<Names, SigFault>
+    ensures { Fits (λ names. names) result (OrSyntax number (λ names. (names ≡ map (λ t. t.now) tokens.now) × All IsNetToken names)) }
+{
+    let mut names = Vec::new(alloc);
+    for token in tokens {
+        let Some(name) = net_name(token) else {
+            return Err(SigFault::Syntax { line: number });
+        };
+        names.push(Name::new(alloc, name)?)?;
+    }
+    Ok(Names::new(names))
+}
+
+// The name of a net, as a token says it.
+fn net_name(token: &[u8]) -> Option<&str>
+    ensures found { IfSome result (λ name. (name.now ≡ token.now) × IsNetToken token.now) }
+    ensures none { IfNone result (IsNetToken token.now → ⊥) }
+{
+    if token.len() <= 255 {
+        plain_text(token)
+    } else {
+        None
+    }
+}

@@ -1,5 +1,0 @@
-use Rattle.net_words.proofs.NamesLemmas.{sig_names}
-use Rattle.net_words.proofs.laws.words_have_names.Goals as goal
-
-pub returns : goal.returns
-returns c = sig_names
