@@ -7,8 +7,6 @@ mod circuit_word;
 mod laws;
 mod net_bits;
 mod plain;
-#[cfg(test)]
-mod tests;
 
 pub use circuit_word::CircuitWord;
 pub use laws::{

@@ -5,8 +5,6 @@
 mod bases;
 mod duals;
 mod laws;
-#[cfg(test)]
-mod tests;
 
 pub use bases::{Basis, BasisFault};
 pub use laws::{independent_lists, one_list_fault, one_normal_fault, only_duals};

@@ -9,8 +9,6 @@ mod powers;
 mod ring_2k;
 mod rings;
 mod table_16;
-#[cfg(test)]
-mod tests;
 mod traces;
 
 pub use elements::{filled, first_outside, is_element};

@@ -4,8 +4,6 @@
 
 mod any_field;
 mod laws;
-#[cfg(test)]
-mod tests;
 mod towers;
 
 pub use any_field::{AnyField, FieldFault};

@@ -14,6 +14,3 @@ pub use laws::{
     order_has_no_cycle,
 };
 pub use walk::arrange;
-
-#[cfg(test)]
-mod tests;

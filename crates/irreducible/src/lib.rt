@@ -6,8 +6,6 @@ mod bit_matrix;
 mod elimination;
 mod laws;
 mod proved_rings;
-#[cfg(test)]
-mod tests;
 
 pub use bit_matrix::BitMatrix;
 pub use elimination::combined;

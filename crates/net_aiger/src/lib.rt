@@ -13,8 +13,6 @@ mod numbers;
 mod read;
 mod reader;
 mod reading;
-#[cfg(test)]
-mod tests;
 
 pub use fault::AigerFault;
 pub use laws::{ands_are_conjunctions, one_net_or_fault};

@@ -31,6 +31,3 @@ pub use maker::NetMaker;
 pub use name::{Name, Names, Numbers};
 pub use net::Net;
 pub use valuation::eval;
-
-#[cfg(test)]
-mod tests;

@@ -19,8 +19,6 @@ mod stage;
 mod steps;
 mod table;
 mod term;
-#[cfg(test)]
-mod tests;
 mod variables;
 mod write;
 

@@ -8,13 +8,7 @@ mod eliminate;
 mod first_cut;
 mod key;
 mod monomials;
-#[cfg(test)]
-mod net_tests;
-#[cfg(test)]
-mod plain_tests;
 mod ranks;
 mod reduce;
-#[cfg(test)]
-mod tests;
 
 pub use reduce::reduce_bits;

@@ -12,15 +12,11 @@ mod over_laws;
 mod ranks;
 mod settle;
 mod stage_laws;
-#[cfg(test)]
-mod tests;
 mod word_bit;
 mod word_laws;
 mod word_part;
 mod word_poly;
 mod word_stage;
-#[cfg(test)]
-mod word_tests;
 
 pub use cut_terms::{cut_poly, cut_size};
 pub use cut_value::cut_at;

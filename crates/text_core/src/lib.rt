@@ -5,8 +5,6 @@
 mod lines;
 mod name;
 mod number;
-#[cfg(test)]
-mod tests;
 
 pub use lines::{before_comment, is_printing, next_line, plain_text, printing_text, tokens};
 pub use name::is_name;

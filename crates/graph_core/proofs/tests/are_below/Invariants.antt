@@ -1,5 +1,0 @@
-use Rattle.std.proofs.Common.{ℕ, ◌<◌, get_or}
-use Rattle.graph_core.proofs.tests.are_below.Given as goal
-
-abbrev pub invariant-loop-point : goal.invariant-loop-point
-invariant-loop-point l = (k : ℕ) → k < l.point-index → (d : ℕ) → get_or l.points k d < l.count

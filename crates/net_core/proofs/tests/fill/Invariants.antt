@@ -1,6 +1,0 @@
-use Rattle.std.proofs.Common.{◌≡◌}
-use Rattle.net_core.specs.NetList.{nets}
-use Rattle.net_core.proofs.tests.fill.Given as goal
-
-abbrev pub invariant-loop : goal.invariant-loop
-invariant-loop l = nets l.maker ≡ 2
