@@ -7,5 +7,6 @@ pub mod LevelLemmas
 pub mod LoopLemmas
 pub mod NameLemmas
 pub mod OrderLemmas
+pub mod PlaceLemmas
 pub mod TurnLemmas
 mod Examples

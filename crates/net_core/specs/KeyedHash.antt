@@ -1,5 +1,5 @@
 -- A hash with a key. Source: SipHash-1-3, after Aumasson and Bernstein, SipHash: a fast short-input PRF, 2012.
-use Rattle.std.specs.Prelude.{ℕ, fold}
+use Rattle.std.specs.Prelude.{ℕ, List, fold}
 use Rattle.std.specs.Hash as fed
 use Rattle.std.specs.Hash.DefaultHasher as sip
 use Rattle.std.specs.declared.hash.DefaultHasher.{DefaultHasher}
@@ -12,3 +12,7 @@ key_start key = fold sip.write sip.initial (fed.u64 key)
 -- the state in which this hash begins
 abbrev pub start_of : KeyedHash → DefaultHasher
 start_of hash = hash.start
+
+-- the hash of a name
+abbrev pub name_hash : KeyedHash → List ℕ → ℕ
+name_hash hash name = sip.finish (sip.write (start_of hash) name)

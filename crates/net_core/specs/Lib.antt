@@ -14,3 +14,4 @@ pub mod Turned
 pub mod Levelled
 pub mod Partial
 pub mod Driving
+pub mod private

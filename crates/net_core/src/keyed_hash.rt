@@ -1,6 +1,6 @@
 //! A hash with a key.
 ghost use Rattle.std.specs.Prelude.{◌≡◌};
-ghost use Rattle.net_core.specs.KeyedHash.{key_start, start_of};
+ghost use Rattle.net_core.specs.KeyedHash.{key_start, name_hash, start_of};
 
 use std::hash::{BuildHasher, DefaultHasher, Hasher};
 
@@ -19,6 +19,15 @@ impl KeyedHash {
         let mut start = DefaultHasher::new();
         start.write_u64(key);
         KeyedHash { start }
+    }
+
+    // The hash of a name.
+    pub(crate) fn of_name(&self, name: &str) -> u64
+        ensures { result ≡ name_hash self.now name.now }
+    {
+        let mut state = self.start;
+        state.write(name.as_bytes());
+        state.finish()
     }
 }
 

@@ -1,5 +1,6 @@
 //! What nets are called.
 ghost use Rattle.std.specs.Prelude.{◌≡◌};
+ghost use Rattle.net_core.specs.NetList.{is_named};
 
 use crate::Name;
 use std::marker::Model;
@@ -30,5 +31,12 @@ impl Label {
         ensures { result.now ≡ self.now.text }
     {
         self.text.as_str()
+    }
+
+    // Whether it is this name.
+    pub(crate) fn is(&self, name: &str) -> bool
+        ensures { result ≡ is_named name.now self.now }
+    {
+        self.named && name == self.text.as_str()
     }
 }

@@ -15,6 +15,7 @@ mod levels;
 mod maker;
 mod name;
 mod net;
+mod places;
 mod valuation;
 
 pub use fault::NetFault;

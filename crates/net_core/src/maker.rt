@@ -5,8 +5,8 @@ ghost use Rattle.net_core.specs.Inside.{IsNetName, IsFull, HasNoMoreGates, IsIns
 ghost use Rattle.net_core.specs.Turned.{turned};
 
 use crate::label::Label;
-use crate::{Gate, KeyedHash, Latch, Name, NetFault, Start};
-use indexmap::IndexMap;
+use crate::places::Places;
+use crate::{Gate, Latch, Name, NetFault, Start};
 use std::alloc::{AllocError, Global};
 use std::marker::Model;
 
@@ -14,15 +14,12 @@ const MAX_NETS: usize = 1 << 20;
 
 const MAX_GATES: usize = 1 << 20;
 
-// The number of each name, looked up by a hash with a key, since names that collide in a hash without one can be made.
-type Numbers = IndexMap<String, u32, KeyedHash>;
-
 /// A net list in the making. Contracts see it as the net list that was made so far.
 /// A call that is refused leaves it as it was.
 #[derive(Drop)]
 pub struct NetMaker {
     alloc: Global,
-    numbers: Numbers,
+    places: Places,
     labels: Vec<Label>,
     inputs: Vec<u32>,
     outputs: Vec<u32>,
@@ -31,16 +28,15 @@ pub struct NetMaker {
 }
 
 impl Model for NetMaker {
-    ghost use Rattle.std.specs.Prelude.{◌≡◌, List, ℕ};
-    ghost use Rattle.indexmap.specs.IndexMap.{get_by_text};
-    ghost use Rattle.net_core.specs.NetList.{NetList, number_from};
+    ghost use Rattle.net_core.specs.NetList.{NetList};
     ghost use Rattle.net_core.specs.Inside.{IsInside};
+    ghost use Rattle.net_core.specs.private.Placed.{IsPlaced};
 
     ghost Value = { NetList };
 
     ghost view = { λ m. record { labels = m.labels.items; inputs = m.inputs.items; outputs = m.outputs.items; gates = m.gates.items; latches = m.latches.items } };
 
-    ghost invariant = { λ m. ((name : List ℕ) → get_by_text m.numbers name ≡ number_from 0 m.labels.items name)
+    ghost invariant = { λ m. IsPlaced m.places m.labels.items
         × IsInside (record { labels = m.labels.items; inputs = m.inputs.items; outputs = m.outputs.items; gates = m.gates.items; latches = m.latches.items }) };
 }
 
@@ -59,7 +55,7 @@ impl NetMaker {
     {
         NetMaker {
             alloc,
-            numbers: IndexMap::with_hasher(alloc, KeyedHash::new(key)),
+            places: Places::new(alloc, key),
             labels: Vec::new(alloc),
             inputs: Vec::new(alloc),
             outputs: Vec::new(alloc),
@@ -81,34 +77,17 @@ impl NetMaker {
         ensures only { IfErr result (λ fault. (fault ≡ NetFault.TooManyNets) ⊎ (fault ≡ NetFault.OutOfMemory)) }
         ensures unchanged { OnErr result (self.new ≡ self.old) }
     {
-        match self.find(name) {
+        let hash = self.places.hash(name);
+        match self.places.find(&self.labels, hash, name) {
             Some(number) => Ok(number),
-            None => self.add(name),
+            None => {
+                if self.labels.len() >= MAX_NETS {
+                    return Err(NetFault::TooManyNets);
+                }
+                let number = self.places.add(self.alloc, &mut self.labels, hash, name)?;
+                Ok(number)
+            }
         }
-    }
-
-    // The number of a net of a new name.
-    fn add(&mut self, name: &str) -> Result<u32, NetFault>
-        requires name { IsNetName name.now }
-        requires is_new { number_of self.old name.now ≡ None }
-        ensures number { IfOk result (λ n. number_of self.new name.now ≡ Some n) }
-        ensures within { IfOk result (λ n. n < nets self.new) }
-        ensures made { OnOk result (self.new ≡ with_label self.old name.now true) }
-        ensures room { OnOk result (IsFull self.old → ⊥) }
-        ensures full { IsErrOf result NetFault.TooManyNets → IsFull self.old }
-        ensures only { IfErr result (λ fault. (fault ≡ NetFault.TooManyNets) ⊎ (fault ≡ NetFault.OutOfMemory)) }
-        ensures unchanged { OnErr result (self.new ≡ self.old) }
-    {
-        if self.labels.len() >= MAX_NETS {
-            return Err(NetFault::TooManyNets);
-        }
-        let number = self.labels.len() as u32;
-        self.labels.reserve(1)?;
-        let text = Name::new(self.alloc, name)?;
-        let key = String::from_str(self.alloc, name)?;
-        self.numbers.insert(key, number)?;
-        self.labels.push(Label::new(text, true)).unwrap();
-        Ok(number)
     }
 
     /// The number of a new net that no name finds; the label is for messages.
@@ -203,7 +182,8 @@ impl NetMaker {
         ensures number { result ≡ number_of self.now name.now }
         ensures within { IfSome result (λ n. n < nets self.now) }
     {
-        self.numbers.get(name).copied()
+        let hash = self.places.hash(name);
+        self.places.find(&self.labels, hash, name)
     }
 
     // How many nets there are.

@@ -1,4 +1,4 @@
-use Rattle.std.proofs.Common.{◌≡◌, ◌∙◌, ap, arith, ◌++◌, ◌∷◌, [], false}
+use Rattle.std.proofs.Common.{◌≡◌, ◌∙◌, ap, sym, arith, ◌++◌, ◌∷◌, [], false}
 use Rattle.net_core.specs.NetList.{LabelValue}
 use Rattle.net_core.proofs.NameLemmas.{fresh_made, inside_fresh}
 use Rattle.net_core.proofs.maker.NetMaker.fresh.Goals as goal
@@ -6,4 +6,4 @@ use Rattle.net_core.proofs.maker.NetMaker.fresh.Goals as goal
 pub invariant_of-self-2 : goal.invariant_of-self-2
 invariant_of-self-2 c =
     let pushed : c.push.new.self.items ≡ c.self.inside.labels.items ++ record { text = c.in_ok-text.text; named = false } ∷ [] = c.in_ok-push.ensures.items ∙ ap (λ (l : LabelValue). c.self.inside.labels.items ++ l ∷ []) c.new-2.ensures in
-    ((λ q. let old = c.self.invariant.0 q in rw old (fresh_made _ c.push.new.self.items c.in_ok-text.text pushed q)), inside_fresh (record { labels = c.self.inside.labels.items; inputs = c.self.inside.inputs.items; outputs = c.self.inside.outputs.items; gates = c.self.inside.gates.items; latches = c.self.inside.latches.items }) c.push.new.self.items _ pushed (omega arith) c.self.invariant.1)
+    ((λ q none. sym (fresh_made c.self.inside.labels.items c.push.new.self.items c.in_ok-text.text pushed q) ∙ c.self.invariant.0 q none), inside_fresh (record { labels = c.self.inside.labels.items; inputs = c.self.inside.inputs.items; outputs = c.self.inside.outputs.items; gates = c.self.inside.gates.items; latches = c.self.inside.latches.items }) c.push.new.self.items _ pushed (omega arith) c.self.invariant.1)
