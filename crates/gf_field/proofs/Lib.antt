@@ -1,6 +1,7 @@
 pub mod ShiftAndAddLaws
 pub mod PartLaws
 pub mod TableSteps
+pub mod RowSteps
 pub mod Shifts
 pub mod Copies
 pub mod FirstOutside

@@ -202,3 +202,9 @@ lower d g ok = ap (bit_and g) (ones_shr 128 (128 - d) (omega arith) ∙ ap (λ y
   where
     back : (d : ℕ) → d ≤ 64 → 128 - (128 - d) ≡ d
     back d h = omega arith
+
+pub product_element : (d g a b : ℕ) → IsModulus d g → a < 2 ^ d → b < 2 ^ d → product 1 d bit_mul g a b < 2 ^ d
+product_element d g a b ok ha hb = rw (sym (part_whole d g a b ok ha hb)) (part_element d g d a b ok)
+
+pub parts_element : (d g a : ℕ) (entries : List ℕ) → IsModulus d g → AreParts d g a entries → (n : ℕ) → n < 16 → get_or entries n 0 < 2 ^ d
+parts_element d g a entries ok are n l = rw (are n l) (part_element d g 4 n a ok)

@@ -46,9 +46,12 @@ fn times_power<F: Field>(
     requires element { IsElement (F.degree field.now) c }
     ensures { IfOk result (λ u. u ≡ multiplied (F.degree field.now) (F.product field.now) (exponent, c) powers.now) }
 {
+    if powers.is_empty() {
+        return Ok(Univariate::zero(alloc));
+    }
     let k = field.k();
     let table = field.times(c);
-    let mut out = Univariate::zero(alloc);
+    let mut out = Univariate::with_capacity(alloc, powers.len())?;
     for (e, d) in powers {
         out.push(
             sum_exponent(k, *e, exponent),
