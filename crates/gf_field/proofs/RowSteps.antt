@@ -1,5 +1,5 @@
 -- Products by rows of the multiples of x^0, x^4, .. x^60 times an element.
-use Rattle.std.proofs.Common.{◌≡◌, ◌≢◌, ℕ, zero, suc, refl, sym, ◌∙◌, ap, ap₂, ◌<◌, ◌≤◌, ◌^◌, ◌+◌, ◌-◌, ◌*◌, ◌/◌, ◌%◌, inl, inr, arith, mod-lt, pow_pos, pow-add, add_comm, add-zero, bit_and, List, length, get_or, set, get_or-set_other}
+use Rattle.std.proofs.Common.{◌≡◌, ℕ, suc, refl, sym, ◌∙◌, ap, ap₂, ◌<◌, ◌≤◌, ◌^◌, ◌+◌, ◌-◌, ◌*◌, ◌/◌, ◌%◌, inl, inr, arith, mod-lt, pow_pos, pow-add, add_comm, add-zero, bit_and, List, length, get_or, set, get_or-set_other}
 use Rattle.std.proofs.lemmas.List.{get_or-set_same}
 use Rattle.std.proofs.Math.Nat.{mul-lt-mul_of_pos_right, mul-mod_left}
 use Rattle.std.specs.Prelude.{bit_xor}

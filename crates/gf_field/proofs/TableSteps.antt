@@ -1,5 +1,5 @@
 -- The steps of products by tables, in the terms that the code computes.
-use Rattle.std.proofs.Common.{◌≡◌, ◌≢◌, ℕ, zero, suc, refl, sym, ◌∙◌, ap, ap₂, ◌<◌, ◌≤◌, ◌^◌, ◌+◌, ◌-◌, ◌*◌, ◌/◌, ◌%◌, inl, inr, arith, pow_mono, lt_of_lt_of_le, shr-shr, one-mul, zero-mul, mod-lt, pow_pos, mul_assoc, pow-add, bit_and, subst, List, length, replicate, get_or, set, get_or-set_other, length-set}
+use Rattle.std.proofs.Common.{◌≡◌, ◌≢◌, ℕ, zero, suc, sym, ◌∙◌, ap, ap₂, ◌<◌, ◌≤◌, ◌^◌, ◌+◌, ◌-◌, ◌*◌, ◌/◌, ◌%◌, inl, inr, arith, pow_mono, lt_of_lt_of_le, shr-shr, one-mul, zero-mul, mod-lt, pow_pos, mul_assoc, pow-add, bit_and, subst, List, length, replicate, get_or, set, get_or-set_other, length-set}
 use Rattle.std.proofs.lemmas.List.{get_or-set_same}
 use Rattle.std.proofs.Math.Nat.{mul-lt-mul_of_pos_right}
 use Rattle.std.specs.Prelude.{bit_xor}

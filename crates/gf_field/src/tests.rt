@@ -16,7 +16,9 @@ fn product(rt: &impl Abort, modulus: u128, a: u64, b: u64) -> u64 {
     let ring = ring(rt, modulus);
     assert!(rt; is_element(&ring, a));
     assert!(rt; is_element(&ring, b));
-    ring.mul(a, b)
+    let product = ring.mul(a, b);
+    assert_eq!(rt; by_table(&ring, a, b), product);
+    product
 }
 
 // a product by a table

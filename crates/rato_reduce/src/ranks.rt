@@ -7,10 +7,10 @@ use smallvec::SmallVec;
 use std::alloc::{AllocError, Global};
 use std::marker::Model;
 
-/// Ranks of bits, rising where they are those of a term; fourteen of them take no memory of their own.
+/// Ranks of bits, rising where they are those of a term; sixteen of them take no memory of their own.
 #[derive(Drop)]
 pub struct Ranks {
-    items: SmallVec<u32, 14>,
+    items: SmallVec<u32, 16>,
 }
 
 impl Model for Ranks {
@@ -90,7 +90,7 @@ impl Ranks {
     }
 }
 
-fn add_rank(items: &mut SmallVec<u32, 14>, r: u32) -> Result<(), AllocError>
+fn add_rank(items: &mut SmallVec<u32, 16>, r: u32) -> Result<(), AllocError>
     ensures with { OnOk result (items.new.items ≡ with_rank items.old.items r) }
 {
     let i = place_of(items.as_slice(), r);

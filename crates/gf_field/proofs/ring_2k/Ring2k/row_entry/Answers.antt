@@ -1,4 +1,4 @@
-use Rattle.std.proofs.Common.{◌≡◌, ◌≤◌, ◌-◌, ◌/◌, ◌%◌, ◌*◌, ◌∙◌, ap, arith, mod-lt}
+use Rattle.std.proofs.Common.{◌-◌, ◌/◌, ◌%◌, ◌*◌, ◌∙◌, ap, arith, mod-lt}
 use Rattle.gf_field.specs.private.ShiftAndAdd.{times_power}
 use Rattle.gf_field.proofs.TableSteps.{power_element}
 use Rattle.gf_field.proofs.RowSteps.{first_row, next_row}

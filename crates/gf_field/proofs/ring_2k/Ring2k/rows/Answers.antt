@@ -1,4 +1,4 @@
-use Rattle.std.proofs.Common.{◌≡◌, ◌∙◌, arith, ℕ, replicate, length-set}
+use Rattle.std.proofs.Common.{◌∙◌, arith, ℕ, length-set}
 use Rattle.std.proofs.Math.ListN.{length-replicate}
 use Rattle.gf_field.proofs.RowSteps.{row_more}
 use Rattle.gf_field.proofs.ring_2k.Ring2k.rows.Goals as goal

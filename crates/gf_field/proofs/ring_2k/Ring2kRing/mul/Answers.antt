@@ -1,6 +1,3 @@
-use Rattle.std.proofs.Common.{◌≡◌, ◌<◌, ◌^◌}
-use Rattle.gf_field.specs.Bit.{bit_mul}
-use Rattle.gf_field.specs.Quotient.{product}
 use Rattle.gf_field.proofs.TableSteps.{are_multiples, remainder_is, product_element}
 use Rattle.gf_field.proofs.ring_2k.Ring2kRing.mul.Goals as goal
 

@@ -1,4 +1,4 @@
-use Rattle.std.proofs.Common.{◌≡◌, ℕ, List, Some, sym, subst, rules}
+use Rattle.std.proofs.Common.{ℕ, List, sym, subst, rules}
 use Rattle.std.specs.Prelude.{Option, IfSome}
 use Rattle.gf_field.specs.Table16.{AreRows}
 use Rattle.gf_field.proofs.TableSteps.{are_multiples, parts_element}
