@@ -1,7 +1,6 @@
 pub mod ShiftAndAddLaws
 pub mod PartLaws
 pub mod TableSteps
-pub mod RowSteps
 pub mod Shifts
 pub mod Copies
 pub mod FirstOutside

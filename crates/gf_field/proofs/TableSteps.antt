@@ -1,5 +1,5 @@
 -- The steps of products by tables, in the terms that the code computes.
-use Rattle.std.proofs.Common.{◌≡◌, ◌≢◌, ℕ, zero, suc, sym, ◌∙◌, ap, ap₂, ◌<◌, ◌≤◌, ◌^◌, ◌+◌, ◌-◌, ◌*◌, ◌/◌, ◌%◌, inl, inr, arith, pow_mono, lt_of_lt_of_le, shr-shr, one-mul, zero-mul, mod-lt, pow_pos, mul_assoc, pow-add, bit_and, subst, List, length, replicate, get_or, set, get_or-set_other, length-set}
+use Rattle.std.proofs.Common.{◌≡◌, ◌≢◌, ℕ, zero, suc, refl, sym, ◌∙◌, ap, ap₂, ◌<◌, ◌≤◌, ◌^◌, ◌+◌, ◌-◌, ◌*◌, ◌/◌, ◌%◌, inl, inr, arith, pow_mono, lt_of_lt_of_le, shr-shr, one-mul, zero-mul, mod-lt, pow_pos, mul_assoc, pow-add, bit_and, subst, List, length, replicate, get_or, set, get_or-set_other, length-set}
 use Rattle.std.proofs.lemmas.List.{get_or-set_same}
 use Rattle.std.proofs.Math.Nat.{mul-lt-mul_of_pos_right}
 use Rattle.std.specs.Prelude.{bit_xor}
@@ -202,9 +202,3 @@ lower d g ok = ap (bit_and g) (ones_shr 128 (128 - d) (omega arith) ∙ ap (λ y
   where
     back : (d : ℕ) → d ≤ 64 → 128 - (128 - d) ≡ d
     back d h = omega arith
-
-pub product_element : (d g a b : ℕ) → IsModulus d g → a < 2 ^ d → b < 2 ^ d → product 1 d bit_mul g a b < 2 ^ d
-product_element d g a b ok ha hb = rw (sym (part_whole d g a b ok ha hb)) (part_element d g d a b ok)
-
-pub parts_element : (d g a : ℕ) (entries : List ℕ) → IsModulus d g → AreParts d g a entries → (n : ℕ) → n < 16 → get_or entries n 0 < 2 ^ d
-parts_element d g a entries ok are n l = rw (are n l) (part_element d g 4 n a ok)

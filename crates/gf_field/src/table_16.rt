@@ -1,6 +1,6 @@
 //! Tables of sixteen multiples.
 
-ghost use Rattle.std.specs.Prelude.{◌≡◌, ◌<◌, ◌^◌, length, None, Some};
+ghost use Rattle.std.specs.Prelude.{◌≡◌, ◌<◌, ◌^◌, length};
 ghost use Rattle.gf_field.specs.Modulus.{IsModulus};
 ghost use Rattle.gf_field.specs.private.ShiftAndAdd.{AreParts, times_x as times_x_of};
 
@@ -8,20 +8,17 @@ ghost use Rattle.gf_field.specs.private.ShiftAndAdd.{AreParts, times_x as times_
 #[derive(Drop)]
 pub struct Table16 {
     multiples: [u64; 16],
-    // the multiples of x^0, x^4, .. x^60 times the element behind one another, where products by it are many and long
-    rows: Option<[u64; 256]>,
 }
 
 impl Table16 {
-    ghost use Rattle.gf_field.specs.Table16.{entries_of, rows_of};
+    ghost use Rattle.gf_field.specs.Table16.{entries_of};
 
-    // the table of the element `a` modulo a polynomial of this degree, without rows
+    // the table of the element `a` modulo a polynomial of this degree
     pub(crate) fn new(degree: u32, modulus: u128, a: u64) -> Table16
         requires modulus { IsModulus degree modulus }
         requires element { a < 2 ^ degree }
         ensures multiples { AreParts degree modulus a (entries_of result) }
         ensures whole { length (entries_of result) ≡ 16 }
-        ensures rows { rows_of result ≡ None }
     {
         let mut multiples = [0; 16];
         multiples[1] = a;
@@ -30,29 +27,7 @@ impl Table16 {
             multiples[2 * n] = even;
             multiples[2 * n + 1] = even ^ a;
         }
-        Table16 {
-            multiples,
-            rows: None,
-        }
-    }
-
-    // the same table with these rows
-    pub(crate) fn with_rows(self, rows: [u64; 256]) -> Table16
-        ensures multiples { entries_of result ≡ entries_of self }
-        ensures rows { rows_of result ≡ Some rows }
-    {
-        let multiples = self.multiples;
-        Table16 {
-            multiples,
-            rows: Some(rows),
-        }
-    }
-
-    // its rows, if it has them
-    pub(crate) fn rows(&self) -> &Option<[u64; 256]>
-        ensures { result.now ≡ rows_of self.now }
-    {
-        &self.rows
+        Table16 { multiples }
     }
 
     /// The entries: entry n is the remainder, by the modulus of the ring, of the table's element times the polynomial with

@@ -16,9 +16,7 @@ fn product(rt: &impl Abort, modulus: u128, a: u64, b: u64) -> u64 {
     let ring = ring(rt, modulus);
     assert!(rt; is_element(&ring, a));
     assert!(rt; is_element(&ring, b));
-    let product = ring.mul(a, b);
-    assert_eq!(rt; by_table(&ring, a, b), product);
-    product
+    ring.mul(a, b)
 }
 
 // a product by a table

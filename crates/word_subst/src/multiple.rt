@@ -67,7 +67,7 @@ fn times_power<F: Field>(
     requires element { IsElement (F.degree field.now) c }
     ensures { IfOk result (λ u. u ≡ multiplied (F.degree field.now) (F.product field.now) (exponent, c) powers.now) }
 {
-    if powers.len() < 8 {
+    if powers.len() < 2 {
         let few = few_times_power(alloc, field, powers, exponent, c)?;
         return Ok(few);
     }

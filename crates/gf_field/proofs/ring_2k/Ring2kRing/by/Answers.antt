@@ -1,26 +1,27 @@
-use Rattle.std.proofs.Common.{ℕ, List, sym, ◌∙◌, subst}
-use Rattle.std.specs.Prelude.{Option, IfSome}
-use Rattle.gf_field.specs.Table16.{AreRows}
-use Rattle.gf_field.proofs.TableSteps.{product_element}
+use Rattle.std.proofs.Common.{◌≡◌, ◌-◌, ◌/◌, ◌+◌, ◌*◌, ◌^◌, sym, ◌∙◌, ap, suc, arith}
+use Rattle.gf_field.specs.private.ShiftAndAdd.{part}
+use Rattle.gf_field.proofs.TableSteps.{group_start, group_step, group_element, group_end}
+use Rattle.std.proofs.Common.{pow_pos}
 use Rattle.gf_field.proofs.ring_2k.Ring2kRing.by.Goals as goal
 
-pub by_multiples-requires-clause-multiples : goal.by_multiples-requires-clause-multiples
-by_multiples-requires-clause-multiples c = (c.requires.table.0, c.requires.table.1, rw (c.multiples.ensures) c.requires.table.2.multiples)
+pub loop-i-init : goal.loop-i-init
+loop-i-init c = record {
+  element = pow_pos c.args.self.now.degree;
+  sum = λ a h are. group_start c.args.self.now.degree c.args.self.now.modulus ((c.args.self.now.degree + 3) / 4) c.args.b a c.args.self.now.fits;
+}
 
-pub returns-in-Some-clause-product : goal.returns-in-Some-clause-product
-returns-in-Some-clause-product c a h is =
-    let P : Option (List ℕ) → Type 0 = λ rows. IfSome rows (AreRows c.args.self.now.degree c.args.self.now.modulus a) in
-    c.by_rows.ensures a h (subst P (sym c.rows.ensures ∙ c.in-Some.is) is.rows)
+pub loop-i-preserved : goal.loop-i-preserved
+loop-i-preserved c =
+    let same : suc (c.loop-i.i - 1) ≡ c.loop-i.i = omega arith in
+    let d = c.args.self.now.degree in let g = c.args.self.now.modulus in record {
+      element = group_element d g c.requires.table.0 c.multiples-multiples.result.now c.times_x4.result (c.args.b / 2 ^ (4 * (c.loop-i.i - 1))) (rw (c.multiples-multiples.ensures) c.requires.table.2) c.times_x4.ensures.element;
+      sum = λ a h are. group_step d g ((d + 3) / 4) (c.loop-i.i - 1) c.args.b a c.multiples-multiples.result.now c.loop-i.sum c.times_x4.result c.args.self.now.fits h are (omega arith)
+          (c.loop-i.invariant.sum a h are ∙ ap (λ x. part d g (4 * ((d + 3) / 4 - x)) (c.args.b / 2 ^ (4 * x)) a) (sym same)) c.times_x4.ensures.product;
+    }
 
-pub returns-in-None-clause-product : goal.returns-in-None-clause-product
-returns-in-None-clause-product c a h is = c.by_multiples.ensures a h (rw (c.multiples.ensures) is.multiples)
-
-pub returns-in-Some-clause-element : goal.returns-in-Some-clause-element
-returns-in-Some-clause-element c =
-    let a = c.requires.table.0 in let h = c.requires.table.1 in
-    rw (returns-in-Some-clause-product c a h c.requires.table.2) (product_element c.args.self.now.degree c.args.self.now.modulus a c.args.b c.args.self.now.fits h c.requires.element)
-
-pub returns-in-None-clause-element : goal.returns-in-None-clause-element
-returns-in-None-clause-element c =
-    let a = c.requires.table.0 in let h = c.requires.table.1 in
-    rw (returns-in-None-clause-product c a h c.requires.table.2) (product_element c.args.self.now.degree c.args.self.now.modulus a c.args.b c.args.self.now.fits h c.requires.element)
+pub returns-clause-product : goal.returns-clause-product
+returns-clause-product c =
+    let done : c.loop-i.i ≡ 0 = omega arith in
+    let d = c.args.self.now.degree in let g = c.args.self.now.modulus in
+    λ a h are. group_end d g c.args.b a c.loop-i.sum c.args.self.now.fits h c.requires.element
+    (c.loop-i.invariant.sum a h (rw (c.multiples-multiples.ensures) are) ∙ ap (λ x. part d g (4 * ((d + 3) / 4 - x)) (c.args.b / 2 ^ (4 * x)) a) done)

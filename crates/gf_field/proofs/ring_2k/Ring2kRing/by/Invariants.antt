@@ -1,7 +1,7 @@
 use Rattle.std.proofs.Common.{◌≡◌, ℕ, ◌<◌, ◌+◌, ◌^◌, ◌*◌, ◌/◌, ◌-◌}
 use Rattle.gf_field.specs.Table16.{AreMultiples}
 use Rattle.gf_field.specs.private.ShiftAndAdd.{part}
-use Rattle.gf_field.proofs.ring_2k.Ring2k.by_multiples.Given as goal
+use Rattle.gf_field.proofs.ring_2k.Ring2kRing.by.Given as goal
 
 abbrev pub invariant-loop-i : goal.invariant-loop-i
 invariant-loop-i l = record {
