@@ -7,10 +7,10 @@ use smallvec::SmallVec;
 use std::alloc::{AllocError, Global};
 use std::marker::Model;
 
-/// Ranks of bits, rising where they are those of a term; six of them take no memory of their own.
+/// Ranks of bits, rising where they are those of a term; sixteen of them take no memory of their own.
 #[derive(Drop)]
 pub struct Ranks {
-    items: SmallVec<u32, 6>,
+    items: SmallVec<u32, 16>,
 }
 
 impl Model for Ranks {
@@ -80,7 +80,7 @@ impl Ranks {
     pub fn without(&self, rank: u32) -> Result<Ranks, AllocError>
         ensures { IfOk result (λ r. r ≡ filter (λ r. not (nat_eq r rank)) self.now) }
     {
-        let mut items = SmallVec::new(*self.items.allocator());
+        let mut items = SmallVec::with_capacity(*self.items.allocator(), self.items.len())?;
         for r in self.items.as_slice() {
             if *r != rank {
                 items.push(*r)?;
@@ -90,7 +90,7 @@ impl Ranks {
     }
 }
 
-fn add_rank(items: &mut SmallVec<u32, 6>, r: u32) -> Result<(), AllocError>
+fn add_rank(items: &mut SmallVec<u32, 16>, r: u32) -> Result<(), AllocError>
     ensures with { OnOk result (items.new.items ≡ with_rank items.old.items r) }
 {
     let i = place_of(items.as_slice(), r);

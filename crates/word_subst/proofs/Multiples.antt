@@ -196,5 +196,12 @@ module _ {k : ℕ} {mul : ℕ → ℕ → ℕ} (f : IsField k mul) where
         ∙ so_far x at;
   }
 
+  -- the factors may change places
+  pub product_swapped : (us vs new : Powers) → IsUnivariate k us → IsUnivariate k vs → IsProductOfTwo k mul vs us new → IsProductOfTwo k mul us vs new
+  product_swapped us vs new left right is = record {
+    univariate = is.univariate;
+    values = λ x at. is.values x at ∙ f.comm (value_of mul x vs) (value_of mul x us) (value_of_element f x vs at right.powers) (value_of_element f x us at left.powers);
+  }
+
   pub power_at : (us : Powers) (n : ℕ) → IsUnivariate k us → n < length us → IsPower k (get_or us n (0, 0))
   power_at us n is less = let A : Powers → Type 0 = λ ts. AllByRecursion (IsPower k) ts in (subst A (drop_more us n (0, 0) less) (all_drop (IsPower k) n us is.powers)).0

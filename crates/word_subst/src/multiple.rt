@@ -33,6 +33,27 @@ fn product_by<F: Field>(field: &F, _c: u64, table: &F::Times, d: u64) -> u64
     field.by(table, d)
 }
 
+// Each of a few powers times one power, in their order, without a table for all of them.
+fn few_times_power<F: Field>(
+    alloc: Global,
+    field: &F,
+    powers: &[(u64, u64)],
+    exponent: u64,
+    c: u64,
+) -> Result<Univariate, AllocError>
+    requires powers { AllByRecursion (IsPower (F.degree field.now)) powers.now }
+    requires exponent { IsElement (F.degree field.now) exponent }
+    requires element { IsElement (F.degree field.now) c }
+    ensures { IfOk result (λ u. u ≡ multiplied (F.degree field.now) (F.product field.now) (exponent, c) powers.now) }
+{
+    let k = field.k();
+    let mut out = Univariate::zero(alloc);
+    for (e, d) in powers {
+        out.push(sum_exponent(k, *e, exponent), field.mul(c, *d))?;
+    }
+    Ok(out)
+}
+
 // Each of some powers times one power, in their order.
 fn times_power<F: Field>(
     alloc: Global,
@@ -46,9 +67,13 @@ fn times_power<F: Field>(
     requires element { IsElement (F.degree field.now) c }
     ensures { IfOk result (λ u. u ≡ multiplied (F.degree field.now) (F.product field.now) (exponent, c) powers.now) }
 {
+    if powers.len() < 2 {
+        let few = few_times_power(alloc, field, powers, exponent, c)?;
+        return Ok(few);
+    }
     let k = field.k();
     let table = field.times(c);
-    let mut out = Univariate::zero(alloc);
+    let mut out = Univariate::with_capacity(alloc, powers.len())?;
     for (e, d) in powers {
         out.push(
             sum_exponent(k, *e, exponent),
@@ -109,8 +134,8 @@ fn shifted<F: Field>(
     Ok(out)
 }
 
-/// The product of two polynomials in one word.
-pub fn product<F: Field>(
+// The sum of the left's multiples by each of the right's powers.
+fn sum_of_multiples<F: Field>(
     alloc: Global,
     field: &F,
     left: &Univariate,
@@ -126,4 +151,23 @@ pub fn product<F: Field>(
         out = out.plus(alloc, field, &part)?;
     }
     Ok(out)
+}
+
+/// The product of two polynomials in one word.
+pub fn product<F: Field>(
+    alloc: Global,
+    field: &F,
+    left: &Univariate,
+    right: &Univariate,
+) -> Result<Univariate, AllocError>
+    requires left { IsUnivariate (F.degree field.now) left.now }
+    requires right { IsUnivariate (F.degree field.now) right.now }
+    ensures { IfOk result (IsProductOfTwo (F.degree field.now) (F.product field.now) left.now right.now) }
+{
+    if left.len() < right.len() {
+        let swapped = sum_of_multiples(alloc, field, right, left)?;
+        return Ok(swapped);
+    }
+    let product = sum_of_multiples(alloc, field, left, right)?;
+    Ok(product)
 }

@@ -32,6 +32,14 @@ impl Univariate {
         }
     }
 
+    /// No powers, with room for `most`.
+    pub fn with_capacity(alloc: Global, most: usize) -> Result<Univariate, AllocError>
+        ensures { IfOk result (λ u. u ≡ []) }
+    {
+        let powers = Vec::with_capacity(alloc, most)?;
+        Ok(Univariate { powers })
+    }
+
     /// The size: how many powers it has.
     pub fn len(&self) -> usize
         ensures value { result ≡ length self.now }

@@ -1,7 +1,7 @@
 use Rattle.std.proofs.Common.{◌≡◌, drop, bit_xor}
 use Rattle.poly_mixed.specs.Polynomial.{IsElement}
 use Rattle.word_subst.specs.Univariate.{IsUnivariate, value_of}
-use Rattle.word_subst.proofs.multiple.product.Given as goal
+use Rattle.word_subst.proofs.multiple.sum_of_multiples.Given as goal
 
 abbrev pub invariant-loop-exponent : goal.invariant-loop-exponent
 invariant-loop-exponent g l =
