@@ -1,12 +1,11 @@
 -- Small worked examples of the definitions of specs/, which the check computes. A `\` is the byte 92.
-use Rattle.std.proofs.Common.{◌≡◌, List, [], ◌∷◌, ◌++◌, true, false, Ok, Some, codes, refl}
+use Rattle.std.proofs.Common.{◌≡◌, List, [], ◌∷◌, ◌++◌, true, false, Some, codes, refl}
 use Rattle.net_blif.specs.Lines.{clean, joined}
 use Rattle.net_core.specs.declared.latch.Start.TheVariants.{One, Unknown}
 use Rattle.net_blif.specs.Statement.{spelled, is_latch_end, is_other}
 use Rattle.net_blif.specs.Latch.{start_of}
 use Rattle.net_blif.specs.Cover.{CoverValue, fits, table_of}
 use Rattle.net_blif.specs.Design.{ModelValue, model_named}
-use Rattle.net_blif.specs.Flat.{Top, walked, walk_of, nothing}
 use Rattle.net_blif.specs.declared.item.Item.TheVariants as items
 use Rattle.net_blif.specs.declared.statement.Statement.TheVariants.{Cover, Row}
 
@@ -78,14 +77,3 @@ design = record { name = codes "and"; items = items.Inputs (codes "a" ∷ codes 
 -- the one model is found by its name
 model_named_and : model_named design (codes "and") ≡ Some 0
 model_named_and = refl
-
--- the walk over it mentions a, b and y as nets 0, 1 and 2, and places the gate on them
-walk_of_and : walked nothing (walk_of design 0) ≡ Ok (record { paths = Top (codes "a") ∷ Top (codes "b") ∷ Top (codes "y") ∷ []; inputs = 0 ∷ 1 ∷ []; outputs = 2 ∷ []; gates = record { out = 2; inputs = 0 ∷ 1 ∷ []; table = 8 } ∷ []; latches = [] })
-walk_of_and = refl
-
-abbrev latched : List ModelValue
-latched = record { name = codes "r"; items = items.Inputs (codes "d" ∷ []) ∷ items.Latch 3 (codes "d") (codes "q") One ∷ [] } ∷ []
-
--- a latch mentions what it reads and then what it drives
-walk_of_latch : walked nothing (walk_of latched 0) ≡ Ok (record { paths = Top (codes "d") ∷ Top (codes "q") ∷ []; inputs = 0 ∷ []; outputs = []; gates = []; latches = record { next = 0; out = 1; start = One } ∷ [] })
-walk_of_latch = refl

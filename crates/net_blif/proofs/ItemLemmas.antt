@@ -1,12 +1,12 @@
 -- Which names and tables statements and items have.
 use Rattle.std.proofs.Common.{◌≡◌, subst, ℕ, zero, suc, ◌<◌, List, [], ◌∷◌, ◌++◌, length, Some, arith}
-use Rattle.std.specs.Prelude.{All}
+use Rattle.std.specs.Prelude.{All, IsTrue}
 use Rattle.std.proofs.lemmas.List.{get_or_append_left}
-use Rattle.net_blif.specs.Statement.{Token, IsToken, spelled}
+use Rattle.net_blif.specs.Statement.{Token, IsToken, is_well, spelled}
 use Rattle.net_blif.specs.Spelling.{statement_of}
 use Rattle.net_blif.specs.Item.{HasPrintingNames}
 use Rattle.net_blif.specs.declared.statement.Statement.{Statement}
-use Rattle.net_blif.specs.declared.statement.Statement.TheVariants.{Model, Inputs, Outputs, Clock, Cover, Latch, Row, End, Other}
+use Rattle.net_blif.specs.declared.statement.Statement.TheVariants.{Model, Inputs, Outputs, Clock, Cover, Latch, Instance, Row, End, Other}
 use Rattle.net_blif.proofs.StatementLemmas.{read_spells}
 
 names_rest : (word : Token) (nets : List Token) → All IsToken (word ∷ nets) → All IsToken nets
@@ -24,18 +24,22 @@ name_last : (xs : List Token) (y : Token) → All IsToken (xs ++ y ∷ []) → I
 name_last [] y all = all zero [] (omega arith)
 name_last (x ∷ xs) y all = name_last xs y (λ k d less. all (suc k) d (omega arith))
 
-spelled_names : (s : Statement) → All IsToken (spelled s) → HasPrintingNames s
-spelled_names (Model []) all = λ k d less. absurd (omega (arith, less))
-spelled_names (Model (b ∷ bs)) all = (all 1 [] (omega arith)).2
-spelled_names (Inputs nets) all = names_rest _ nets all
-spelled_names (Outputs nets) all = names_rest _ nets all
-spelled_names (Clock nets) all = tt
-spelled_names (Cover inputs out) all = let nets = names_rest _ (inputs ++ out ∷ []) all in (names_front inputs out nets, name_last inputs out nets)
-spelled_names (Latch next out rest) all = (all 1 [] (omega arith), all 2 [] (omega arith))
-spelled_names (Row pattern output) all = tt
-spelled_names End all = tt
-spelled_names (Other word rest) all = (all 0 [] (omega arith)).2
+spelled_names : (s : Statement) → All IsToken (spelled s) → IsTrue (is_well s) → HasPrintingNames s
+spelled_names (Model []) all well = λ k d less. absurd (omega (arith, less))
+spelled_names (Model (b ∷ bs)) all well = (all 1 [] (omega arith)).2
+spelled_names (Inputs nets) all well = names_rest _ nets all
+spelled_names (Outputs nets) all well = names_rest _ nets all
+spelled_names (Clock nets) all well = tt
+spelled_names (Cover inputs out) all well = let nets = names_rest _ (inputs ++ out ∷ []) all in (names_front inputs out nets, name_last inputs out nets)
+spelled_names (Latch next out rest) all well = (all 1 [] (omega arith), all 2 [] (omega arith))
+spelled_names (Instance model connections) all well = (all 1 [] (omega arith), names_rest model connections (names_rest _ (model ∷ connections) all), well)
+spelled_names (Row pattern output) all well = tt
+spelled_names End all well = tt
+spelled_names (Other word rest) all well = (all 0 [] (omega arith)).2
 
 -- the nets of a statement that is read have names
 pub read_names : (tokens : List Token) (s : Statement) → All IsToken tokens → statement_of tokens ≡ Some s → HasPrintingNames s
-read_names tokens s all is = let P : List Token → Type 0 = All IsToken in spelled_names s (subst P (read_spells tokens s all is).0 all)
+read_names tokens s all is =
+    let P : List Token → Type 0 = All IsToken in
+    let h = read_spells tokens s all is in
+    spelled_names s (subst P h.0 all) h.1

@@ -6,10 +6,10 @@ pub mod PlaceLemmas
 pub mod WordLemmas
 pub mod StatementLemmas
 pub mod ReadLemmas
-pub mod WalkLemmas
-pub mod FlatLemmas
 pub mod TableLemmas
 pub mod OutcomeLemmas
-pub mod DriveLemmas
-pub mod FlatDetermined
+pub mod StepLemmas
+pub mod FormalLemmas
+pub mod ChainLemmas
+pub mod RightLemmas
 mod Examples

@@ -11,7 +11,7 @@ use Rattle.net_blif.specs.Statement.{Token, IsToken}
 use Rattle.net_blif.specs.Item.{IsSoundItem}
 use Rattle.net_blif.specs.Places.{ArePlaces, IsPlace, item_at, items_at}
 use Rattle.net_blif.specs.declared.item.Item.{Item}
-use Rattle.net_blif.specs.declared.item.Item.TheVariants.{Inputs, Outputs, Gate, Latch}
+use Rattle.net_blif.specs.declared.item.Item.TheVariants.{Inputs, Outputs, Gate, Latch, Instance}
 use Rattle.net_blif.specs.declared.item_list.Place.{Place}
 use Rattle.net_blif.specs.declared.item_list.Place.TheVariants as places
 use Rattle.net_blif.proofs.TokenLemmas.{range_kept, range_new}
@@ -34,6 +34,7 @@ pub place_grows : (n m : ℕ) (place : Place) → n ≤ m → IsPlace n place �
 place_grows n m (places.Inputs first end) le is = (is.0, omega (arith, le, is.1))
 place_grows n m (places.Outputs first end) le is = (is.0, omega (arith, le, is.1))
 place_grows n m (places.Gate line first end table) le is = (is.0, omega (arith, le, is.1))
+place_grows n m (places.Instance line first end) le is = (is.0, omega (arith, le, is.1))
 place_grows n m (places.Latch line first start) le is = omega (arith, le, is)
 
 pub item_kept : (tokens more : List Token) (place : Place) → IsPlace (length tokens) place → item_at (tokens ++ more) place ≡ item_at tokens place
@@ -42,6 +43,9 @@ item_kept tokens more (places.Outputs first end) is = ap Outputs (range_kept tok
 item_kept tokens more (places.Gate line first end table) is =
     let within : end ≤ length tokens = omega (arith, is.1) in
     ap (λ (nets : List Token). Gate line nets (get_or (tokens ++ more) end []) table) (range_kept tokens more first end is.0 within) ∙ ap (λ (out : Token). Gate line (slice_range tokens first end) out table) (get_or_append_left tokens more [] end is.1)
+item_kept tokens more (places.Instance line first end) is =
+    let within : end ≤ length tokens = omega (arith, is.1) in
+    ap (λ (cs : List Token). Instance line (get_or (tokens ++ more) end []) cs) (range_kept tokens more first end is.0 within) ∙ ap (λ (model : Token). Instance line model (slice_range tokens first end)) (get_or_append_left tokens more [] end is.1)
 item_kept tokens more (places.Latch line first start) is =
     let less : first < length tokens = omega (arith, is) in
     ap (λ (next : Token). Latch line next (get_or (tokens ++ more) (first + 1) []) start) (get_or_append_left tokens more [] first less) ∙ ap (λ (out : Token). Latch line (get_or tokens first []) out start) (get_or_append_left tokens more [] (first + 1) is)
@@ -96,6 +100,15 @@ module _ (tokens inputs mid new : List Token) (out : Token) (line first end tabl
       let nets : slice_range new first end ≡ inputs = rw pushed (range_kept mid (out ∷ []) first end order within ∙ nets_new tokens inputs mid first end appended from to) in
       let last : get_or new end [] ≡ out = rw (pushed, to) (get_or-append_seam mid out [] []) in
       ap (λ (xs : List Token). Gate line xs (get_or new end []) table) nets ∙ ap (λ (x : Token). Gate line inputs x table) last
+
+  pub instance_new : item_at new (places.Instance line first end) ≡ Instance line out inputs
+  instance_new =
+      let size : length mid ≡ length tokens + length inputs = ap length appended ∙ length-append tokens inputs in
+      let order : first ≤ end = omega (arith, from, to, size) in
+      let within : end ≤ length mid = omega (arith, to) in
+      let nets : slice_range new first end ≡ inputs = rw pushed (range_kept mid (out ∷ []) first end order within ∙ nets_new tokens inputs mid first end appended from to) in
+      let last : get_or new end [] ≡ out = rw (pushed, to) (get_or-append_seam mid out [] []) in
+      ap (λ (xs : List Token). Instance line (get_or new end []) xs) nets ∙ ap (λ (x : Token). Instance line x inputs) last
 
   pub gate_grown : new ≡ tokens ++ (inputs ++ out ∷ [])
   gate_grown = pushed ∙ (ap (λ (xs : List Token). xs ++ out ∷ []) appended ∙ append_assoc tokens inputs (out ∷ []))

@@ -7,10 +7,11 @@ use Rattle.std.specs.Str.{bytes_eq}
 use Rattle.std.proofs.lemmas.Bool.{lt-ltb, eqb-true}
 use Rattle.std.proofs.Math.Dec.{ltb}
 use Rattle.std.proofs.lemmas.Slice.Eq.{bytes_eq-Decides}
+use Rattle.net_blif.specs.Connection.{is_connection}
 use Rattle.net_blif.specs.Statement.{Token, IsToken, spelled, bit_token, row_tokens, is_cell, is_dotted, is_latch_end, is_other, is_well, keywords}
-use Rattle.net_blif.specs.Spelling.{bit_of, model_of, cover_of, end_of, latch_of, dotted_of, row_of, statement_of}
+use Rattle.net_blif.specs.Spelling.{bit_of, model_of, cover_of, end_of, instance_of, latch_of, dotted_of, row_of, statement_of}
 use Rattle.net_blif.specs.declared.statement.Statement.{Statement}
-use Rattle.net_blif.specs.declared.statement.Statement.TheVariants.{Model, Inputs, Outputs, Clock, Cover, Latch, Row, End, Other}
+use Rattle.net_blif.specs.declared.statement.Statement.TheVariants.{Model, Inputs, Outputs, Clock, Cover, Latch, Instance, Row, End, Other}
 
 -- what is wanted of a statement that tokens spell
 abbrev pub Spells : List Token → Statement → Type 0
@@ -49,6 +50,14 @@ latch_spells (next ∷ out ∷ rest) s e = by (is_latch_end rest) refl e
   where
     by : (b : Bool) → is_latch_end rest ≡ b → cond b (Some (Latch next out rest)) None ≡ Some s → Spells (codes ".latch" ∷ next ∷ out ∷ rest) s
     by true is e = by_same _ s (Latch next out rest) e (refl, is)
+    by false is e = absurd (cc)
+
+instance_spells : (rest : List Token) (s : Statement) → instance_of rest ≡ Some s → Spells (codes ".subckt" ∷ rest) s
+instance_spells [] s e = absurd (cc)
+instance_spells (model ∷ connections) s e = by (list_all is_connection connections) refl e
+  where
+    by : (b : Bool) → list_all is_connection connections ≡ b → cond b (Some (Instance model connections)) None ≡ Some s → Spells (codes ".subckt" ∷ model ∷ connections) s
+    by true is e = by_same _ s (Instance model connections) e (refl, is)
     by false is e = absurd (cc)
 
 cover_at : (token : Token) (rest : List Token) → cover_of (token ∷ rest) ≡ Some (Cover (take (length rest) (token ∷ rest)) (get_or (token ∷ rest) (length rest) []))
@@ -95,15 +104,16 @@ equal a b e = (bytes_eq-Decides a b).0 e
 keyword_spells : (word keyword : Token) (rest : List Token) (s : Statement) → bytes_eq word keyword ≡ true → Spells (keyword ∷ rest) s → Spells (word ∷ rest) s
 keyword_spells word keyword rest s e h = let P : Token → Type 0 = λ w. Spells (w ∷ rest) s in subst P (sym (equal word keyword e)) h
 
-dotted_spells : (word : Token) (rest : List Token) (s : Statement) (b1 b2 b3 b4 b5 b6 b7 : Bool) → is_dotted word ≡ true → All IsToken rest → bytes_eq word (codes ".model") ≡ b1 → bytes_eq word (codes ".inputs") ≡ b2 → bytes_eq word (codes ".outputs") ≡ b3 → bytes_eq word (codes ".clock") ≡ b4 → bytes_eq word (codes ".names") ≡ b5 → bytes_eq word (codes ".latch") ≡ b6 → bytes_eq word (codes ".end") ≡ b7 → cond b1 (model_of rest) (cond b2 (Some (Inputs rest)) (cond b3 (Some (Outputs rest)) (cond b4 (Some (Clock rest)) (cond b5 (cover_of rest) (cond b6 (latch_of rest) (cond b7 (end_of rest) (Some (Other word rest)))))))) ≡ Some s → Spells (word ∷ rest) s
-dotted_spells word rest s true b2 b3 b4 b5 b6 b7 dot all e1 e2 e3 e4 e5 e6 e7 e = keyword_spells word (codes ".model") rest s e1 (model_spells rest s all e)
-dotted_spells word rest s false true b3 b4 b5 b6 b7 dot all e1 e2 e3 e4 e5 e6 e7 e = keyword_spells word (codes ".inputs") rest s e2 (by_same _ s (Inputs rest) e (refl, refl))
-dotted_spells word rest s false false true b4 b5 b6 b7 dot all e1 e2 e3 e4 e5 e6 e7 e = keyword_spells word (codes ".outputs") rest s e3 (by_same _ s (Outputs rest) e (refl, refl))
-dotted_spells word rest s false false false true b5 b6 b7 dot all e1 e2 e3 e4 e5 e6 e7 e = keyword_spells word (codes ".clock") rest s e4 (by_same _ s (Clock rest) e (refl, refl))
-dotted_spells word rest s false false false false true b6 b7 dot all e1 e2 e3 e4 e5 e6 e7 e = keyword_spells word (codes ".names") rest s e5 (cover_spells rest s e)
-dotted_spells word rest s false false false false false true b7 dot all e1 e2 e3 e4 e5 e6 e7 e = keyword_spells word (codes ".latch") rest s e6 (latch_spells rest s e)
-dotted_spells word rest s false false false false false false true dot all e1 e2 e3 e4 e5 e6 e7 e = keyword_spells word (codes ".end") rest s e7 (end_spells rest s e)
-dotted_spells word rest s false false false false false false false dot all e1 e2 e3 e4 e5 e6 e7 e = by_same _ s (Other word rest) e (refl, rw (dot, e1, e2, e3, e4, e5, e6, e7) refl)
+dotted_spells : (word : Token) (rest : List Token) (s : Statement) (b1 b2 b3 b4 b5 b6 b7 b8 : Bool) → is_dotted word ≡ true → All IsToken rest → bytes_eq word (codes ".model") ≡ b1 → bytes_eq word (codes ".inputs") ≡ b2 → bytes_eq word (codes ".outputs") ≡ b3 → bytes_eq word (codes ".clock") ≡ b4 → bytes_eq word (codes ".names") ≡ b5 → bytes_eq word (codes ".latch") ≡ b6 → bytes_eq word (codes ".subckt") ≡ b7 → bytes_eq word (codes ".end") ≡ b8 → cond b1 (model_of rest) (cond b2 (Some (Inputs rest)) (cond b3 (Some (Outputs rest)) (cond b4 (Some (Clock rest)) (cond b5 (cover_of rest) (cond b6 (latch_of rest) (cond b7 (instance_of rest) (cond b8 (end_of rest) (Some (Other word rest))))))))) ≡ Some s → Spells (word ∷ rest) s
+dotted_spells word rest s true b2 b3 b4 b5 b6 b7 b8 dot all e1 e2 e3 e4 e5 e6 e7 e8 e = keyword_spells word (codes ".model") rest s e1 (model_spells rest s all e)
+dotted_spells word rest s false true b3 b4 b5 b6 b7 b8 dot all e1 e2 e3 e4 e5 e6 e7 e8 e = keyword_spells word (codes ".inputs") rest s e2 (by_same _ s (Inputs rest) e (refl, refl))
+dotted_spells word rest s false false true b4 b5 b6 b7 b8 dot all e1 e2 e3 e4 e5 e6 e7 e8 e = keyword_spells word (codes ".outputs") rest s e3 (by_same _ s (Outputs rest) e (refl, refl))
+dotted_spells word rest s false false false true b5 b6 b7 b8 dot all e1 e2 e3 e4 e5 e6 e7 e8 e = keyword_spells word (codes ".clock") rest s e4 (by_same _ s (Clock rest) e (refl, refl))
+dotted_spells word rest s false false false false true b6 b7 b8 dot all e1 e2 e3 e4 e5 e6 e7 e8 e = keyword_spells word (codes ".names") rest s e5 (cover_spells rest s e)
+dotted_spells word rest s false false false false false true b7 b8 dot all e1 e2 e3 e4 e5 e6 e7 e8 e = keyword_spells word (codes ".latch") rest s e6 (latch_spells rest s e)
+dotted_spells word rest s false false false false false false true b8 dot all e1 e2 e3 e4 e5 e6 e7 e8 e = keyword_spells word (codes ".subckt") rest s e7 (instance_spells rest s e)
+dotted_spells word rest s false false false false false false false true dot all e1 e2 e3 e4 e5 e6 e7 e8 e = keyword_spells word (codes ".end") rest s e8 (end_spells rest s e)
+dotted_spells word rest s false false false false false false false false dot all e1 e2 e3 e4 e5 e6 e7 e8 e = by_same _ s (Other word rest) e (refl, rw (dot, e1, e2, e3, e4, e5, e6, e7, e8) refl)
 
 all_rest : (word : Token) (rest : List Token) → All IsToken (word ∷ rest) → All IsToken rest
 all_rest word rest all = λ k d less. all (suc k) d (omega arith)
@@ -114,7 +124,7 @@ read_spells [] s all e = absurd (cc)
 read_spells (word ∷ rest) s all e = by (is_dotted word) refl e
   where
     by : (dotted : Bool) → is_dotted word ≡ dotted → cond dotted (dotted_of word rest) (row_of (word ∷ rest)) ≡ Some s → Spells (word ∷ rest) s
-    by true dot e = dotted_spells word rest s _ _ _ _ _ _ _ dot (all_rest word rest all) refl refl refl refl refl refl refl e
+    by true dot e = dotted_spells word rest s _ _ _ _ _ _ _ _ dot (all_rest word rest all) refl refl refl refl refl refl refl refl e
     by false dot e = row_spells (word ∷ rest) s all e
 
 last_of : (inputs : List Token) (out : Token) → cover_of (inputs ++ out ∷ []) ≡ Some (Cover inputs out)
@@ -167,11 +177,15 @@ other_read word rest other =
     let n4 = neither (bytes_eq word (codes ".clock")) _ n3.1 in
     let n5 = neither (bytes_eq word (codes ".names")) _ n4.1 in
     let n6 = neither (bytes_eq word (codes ".latch")) _ n5.1 in
-    let n7 = neither (bytes_eq word (codes ".end")) _ n6.1 in
-    rw (split.0, n1.0, n2.0, n3.0, n4.0, n5.0, n6.0, n7.0) refl
+    let n7 = neither (bytes_eq word (codes ".subckt")) _ n6.1 in
+    let n8 = neither (bytes_eq word (codes ".end")) _ n7.1 in
+    rw (split.0, n1.0, n2.0, n3.0, n4.0, n5.0, n6.0, n7.0, n8.0) refl
 
 latch_read : (next out : Token) (rest : List Token) → is_latch_end rest ≡ true → statement_of (codes ".latch" ∷ next ∷ out ∷ rest) ≡ Some (Latch next out rest)
 latch_read next out rest ends = rw ends refl
+
+instance_read : (model : Token) (connections : List Token) → list_all is_connection connections ≡ true → statement_of (codes ".subckt" ∷ model ∷ connections) ≡ Some (Instance model connections)
+instance_read model connections are = rw are refl
 
 row_read : (pattern : Token) (output : Bool) → list_all is_cell pattern ≡ true → statement_of (row_tokens pattern output) ≡ Some (Row pattern output)
 row_read [] true cells = refl
@@ -188,6 +202,7 @@ spelled_read (Outputs nets) well = refl
 spelled_read (Clock nets) well = refl
 spelled_read (Cover inputs out) well = last_of inputs out
 spelled_read (Latch next out rest) well = latch_read next out rest well
+spelled_read (Instance model connections) well = instance_read model connections well
 spelled_read (Row pattern output) well = row_read pattern output well
 spelled_read End well = refl
 spelled_read (Other word rest) well = other_read word rest well

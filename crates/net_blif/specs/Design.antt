@@ -22,3 +22,7 @@ model_named models name = model_from 0 models name
 -- what the lines of a model place; a model that does not exist places nothing
 abbrev pub items_of : List ModelValue → ℕ → List Item
 items_of models model = option_map_or (λ (m : ModelValue). m.items) (slice_get models model) []
+
+-- the name of a model; one that does not exist has none
+abbrev pub name_of : List ModelValue → ℕ → Token
+name_of models model = option_map_or (λ (m : ModelValue). m.name) (slice_get models model) []

@@ -1,4 +1,5 @@
 pub mod Lines
+pub mod Connection
 pub mod Statement
 pub mod Tokens
 pub mod Latch
@@ -6,7 +7,10 @@ pub mod Cover
 pub mod Item
 pub mod Places
 pub mod Design
+pub mod Table
+pub mod Instances
+pub mod Chains
 pub mod Models
-pub mod Flat
 pub mod Spelling
-pub mod NamedWalk
+pub mod Top
+pub mod private

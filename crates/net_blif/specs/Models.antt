@@ -9,10 +9,12 @@ use Rattle.net_blif.specs.Statement.{Token, IsToken, spelled, is_well, is_dotted
 use Rattle.net_blif.specs.Latch.{start_of}
 use Rattle.net_blif.specs.Cover.{CoverValue, begun, gate_of, takes_row, with_row}
 use Rattle.net_blif.specs.Design.{ModelValue, model_named}
+use Rattle.net_blif.specs.Instances.{HaveFormals}
+use Rattle.net_blif.specs.Chains.{AreWithinDepth, WalkEnds}
 use Rattle.net_blif.specs.declared.item.Item.{Item}
 use Rattle.net_blif.specs.declared.item.Item.TheVariants as items
 use Rattle.net_blif.specs.declared.statement.Statement.{Statement}
-use Rattle.net_blif.specs.declared.statement.Statement.TheVariants.{Model, Inputs, Outputs, Clock, Cover, Latch, Row, End, Other}
+use Rattle.net_blif.specs.declared.statement.Statement.TheVariants.{Model, Inputs, Outputs, Clock, Cover, Latch, Instance, Row, End, Other}
 use Rattle.net_blif.specs.declared.fault.BlifFault.{BlifFault}
 use Rattle.net_blif.specs.declared.fault.BlifFault.TheVariants.{NoModel, Syntax, LeftOut, TooWide, ModelTwice}
 
@@ -73,6 +75,7 @@ next reading n (Cover inputs out) =
     if nat_lt 6 (length inputs) then Err (TooWide n (length inputs))
     else Ok (in_model (with_items [] (Some (begun n inputs out))) reading)
 next reading n (Latch first out rest) = Ok (in_model (with_items (items.Latch n first out (start_of rest) ∷ []) None) reading)
+next reading n (Instance model connections) = Ok (in_model (with_items (items.Instance n model connections ∷ []) None) reading)
 next reading n (Row pattern output) = Ok (in_model (with_cover_row pattern output) reading)
 next reading n End = Ok (record { models = models_of reading; model = None })
 next reading n (Other word rest) = Err (LeftOut n word)
@@ -106,9 +109,17 @@ begins (line ∷ lines) =
 abbrev pub HasModel : List Numbered → Outcome BlifFault (Unit {0})
 HasModel lines = Returns (if begins lines then Ok tt else Err NoModel)
 
+-- Instances have models and formals that there are, no model contains itself, and no chain is too long.
+abbrev pub AreRight : List ModelValue → Outcome BlifFault (Unit {0})
+AreRight models = do
+  _ ← HaveFormals models
+  _ ← WalkEnds models
+  AreWithinDepth models
+
 -- The models of a text, or its first fault.
 abbrev pub BlifDesign : List ℕ → Outcome BlifFault (List ModelValue)
 BlifDesign text = do
   _ ← HasModel (lines_of text)
   reading ← Reads start (lines_of text)
+  _ ← AreRight (models_of reading)
   Exactly (models_of reading)

@@ -3,9 +3,10 @@ use Rattle.std.specs.Prelude.{◌-◌, Bool, true, false, List, [], ◌∷◌, l
 use Rattle.std.specs.List.{list_all}
 use Rattle.std.specs.Option.{option_map}
 use Rattle.std.specs.Str.{bytes_eq}
+use Rattle.net_blif.specs.Connection.{is_connection}
 use Rattle.net_blif.specs.Statement.{Token, is_cell, is_dotted, is_latch_end}
 use Rattle.net_blif.specs.declared.statement.Statement.{Statement}
-use Rattle.net_blif.specs.declared.statement.Statement.TheVariants.{Model, Inputs, Outputs, Clock, Cover, Latch, Row, End, Other}
+use Rattle.net_blif.specs.declared.statement.Statement.TheVariants.{Model, Inputs, Outputs, Clock, Cover, Latch, Instance, Row, End, Other}
 
 abbrev pub bit_of : Token → Option Bool
 bit_of token = if bytes_eq token (codes "1") then Some true else (if bytes_eq token (codes "0") then Some false else None)
@@ -23,6 +24,10 @@ latch_of [] = None
 latch_of (next ∷ []) = None
 latch_of (next ∷ out ∷ rest) = if is_latch_end rest then Some (Latch next out rest) else None
 
+abbrev pub instance_of : List Token → Option Statement
+instance_of [] = None
+instance_of (model ∷ connections) = if list_all is_connection connections then Some (Instance model connections) else None
+
 abbrev pub end_of : List Token → Option Statement
 end_of [] = Some End
 end_of (token ∷ rest) = None
@@ -35,8 +40,9 @@ dotted_of word rest =
     else (if bytes_eq word (codes ".clock") then Some (Clock rest)
     else (if bytes_eq word (codes ".names") then cover_of rest
     else (if bytes_eq word (codes ".latch") then latch_of rest
+    else (if bytes_eq word (codes ".subckt") then instance_of rest
     else (if bytes_eq word (codes ".end") then end_of rest
-    else Some (Other word rest)))))))
+    else Some (Other word rest))))))))
 
 abbrev pub row_of : List Token → Option Statement
 row_of [] = None

@@ -3,8 +3,9 @@ use Rattle.std.specs.Prelude.{ℕ, ◌≤◌, ◌==◌, ◌||◌, ◌&&◌, Bool
 use Rattle.std.specs.List.{list_any, list_all}
 use Rattle.std.specs.Str.{bytes_eq}
 use Rattle.text_core.specs.Lines.{IsPrinting}
+use Rattle.net_blif.specs.Connection.{is_connection}
 use Rattle.net_blif.specs.declared.statement.Statement.{Statement}
-use Rattle.net_blif.specs.declared.statement.Statement.TheVariants.{Model, Inputs, Outputs, Clock, Cover, Latch, Row, End, Other}
+use Rattle.net_blif.specs.declared.statement.Statement.TheVariants.{Model, Inputs, Outputs, Clock, Cover, Latch, Instance, Row, End, Other}
 
 abbrev pub Token : Type 0
 Token = List ℕ
@@ -52,13 +53,14 @@ spelled (Outputs nets) = codes ".outputs" ∷ nets
 spelled (Clock nets) = codes ".clock" ∷ nets
 spelled (Cover inputs out) = codes ".names" ∷ (inputs ++ out ∷ [])
 spelled (Latch next out rest) = codes ".latch" ∷ next ∷ out ∷ rest
+spelled (Instance model connections) = codes ".subckt" ∷ model ∷ connections
 spelled (Row pattern output) = row_tokens pattern output
 spelled End = codes ".end" ∷ []
 spelled (Other word rest) = word ∷ rest
 
 -- the words that begin a statement
 abbrev pub keywords : List Token
-keywords = codes ".model" ∷ codes ".inputs" ∷ codes ".outputs" ∷ codes ".clock" ∷ codes ".names" ∷ codes ".latch" ∷ codes ".end" ∷ []
+keywords = codes ".model" ∷ codes ".inputs" ∷ codes ".outputs" ∷ codes ".clock" ∷ codes ".names" ∷ codes ".latch" ∷ codes ".subckt" ∷ codes ".end" ∷ []
 
 abbrev pub is_dotted : Token → Bool
 is_dotted [] = false
@@ -72,9 +74,10 @@ is_other word = is_dotted word && not (list_any (λ keyword. bytes_eq word keywo
 abbrev pub is_cell : ℕ → Bool
 is_cell b = (b == 48) || (b == 49) || (b == 45)
 
--- a row asks cell by cell, the end of a latch is one of those that there are, and another word is no keyword
+-- a row asks cell by cell, the end of a latch is one of those that there are, an instance has connections, and another word is no keyword
 abbrev pub is_well : Statement → Bool
 is_well (Row pattern output) = list_all is_cell pattern
 is_well (Latch next out rest) = is_latch_end rest
+is_well (Instance model connections) = list_all is_connection connections
 is_well (Other word rest) = is_other word
 is_well s = true

@@ -1,123 +1,75 @@
-//! Designs: the models of a text.
-ghost use Rattle.std.specs.Prelude.{◌≡◌, ℕ, List, is_some, if◌then◌else◌, ◌<◌, ◌++◌, ◌∷◌, [], Some, length, slice_get, IfOk, IfSome, IfNone};
-ghost use Rattle.std.specs.Str.{bytes_eq};
-ghost use Rattle.indexmap.specs.IndexMap.{get_by_text};
-ghost use Rattle.net_blif.specs.Design.{ModelValue, items_of, model_from, model_named};
+//! Designs.
+ghost use Rattle.std.specs.Prelude.{◌≡◌, ◌⊎◌, ◌<◌, Ok, Err, Some, IfOk, IfErr, OnOk, length, slice_get};
+ghost use Rattle.net_blif.specs.Design.{ModelValue, items_of, model_named};
+ghost use Rattle.net_blif.specs.Models.{AreRight};
 
+use crate::BlifFault;
+use crate::chains::{check_depth, check_walk, graph};
+use crate::instances::check_instances;
 use crate::item_list::ItemList;
-use indexmap::IndexMap;
-use net_core::{KeyedHash, Name};
-use std::alloc::{AllocError, Global};
+use crate::model_list::ModelList;
+use std::alloc::Global;
 use std::marker::Model;
 
-// The number of each name, by a hash whose key is made of the text, so that names that collide cannot be looked for.
-type Numbers = IndexMap<String, u32, KeyedHash>;
-
-/// A model: its name, and what its lines place.
-#[derive(Drop)]
-pub struct ModelText {
-    name: Name,
-    items: ItemList,
-}
-
-impl Model for ModelText {
-    ghost use Rattle.net_blif.specs.Design.{ModelValue};
-
-    ghost Value = { ModelValue };
-
-    ghost view = { λ m. record { name = m.name; items = m.items } };
-}
-
-impl ModelText {
-    /// A model of this name that places these.
-    pub fn new(name: Name, items: ItemList) -> ModelText
-        ensures { result ≡ record { name = name; items = items } }
-    {
-        ModelText { name, items }
-    }
-
-    /// Its name, which may be empty.
-    pub fn name(&self) -> &str
-        ensures { result.now ≡ self.now.name }
-    {
-        self.name.as_str()
-    }
-
-    /// What its lines place, in order.
-    pub fn items(&self) -> &ItemList
-        ensures { result.now ≡ self.now.items }
-    {
-        &self.items
-    }
-}
-
 /// The models of a text in BLIF, in order. Contracts see the list of models; model 0 is the top.
+/// The type keeps that there is a top, that instances are of models that there are, with the formals that these have,
+/// that from the top no model contains itself, and that no chain of instances from the top has more than 64 models.
 #[derive(Drop)]
 pub struct Design {
-    key: u64,
-    models: Vec<ModelText>,
-    numbers: Numbers,
+    models: ModelList,
 }
 
 impl Model for Design {
-    ghost use Rattle.std.specs.Prelude.{◌≡◌, ◌<◌, ◌^◌, List, ℕ, length};
-    ghost use Rattle.indexmap.specs.IndexMap.{get_by_text};
-    ghost use Rattle.net_blif.specs.Design.{ModelValue, model_from};
+    ghost use Rattle.std.specs.Prelude.{◌<◌, List, Ok, length};
+    ghost use Rattle.net_blif.specs.Design.{ModelValue};
+    ghost use Rattle.net_blif.specs.Models.{AreRight};
 
     ghost Value = { List ModelValue };
 
-    ghost view = { λ d. d.models.items };
+    ghost view = { λ d. d.models };
 
-    ghost invariant = { λ d. ((name : List ℕ) → get_by_text d.numbers name ≡ model_from 0 d.models.items name)
-        × (length d.models.items < 2 ^ 32) };
+    ghost invariant = { λ d. (0 < length d.models) × AreRight d.models (Ok tt) };
+}
+
+// Whether models are right; else the first fault.
+fn check(alloc: Global, models: &ModelList) -> Result<(), BlifFault>
+    requires { 0 < length models.now }
+    ensures right { OnOk result (AreRight models.now (Ok tt)) }
+    ensures fault { IfErr result (λ e. (e ≡ BlifFault.OutOfMemory) ⊎ AreRight models.now (Err e)) }
+{
+    check_instances(alloc, models)?;
+    let graph = graph(alloc, models)?;
+    check_walk(alloc, models, &graph)?;
+    check_depth(alloc, models, &graph)?;
+    Ok(())
 }
 
 impl Design {
-    // A design without models, whose names are hashed with this key. It takes no memory.
-    pub(crate) fn new(alloc: Global, key: u64) -> Design
-        ensures { result ≡ [] }
+    // The design of these models, if they are right; else the first fault.
+    pub(crate) fn new(alloc: Global, models: ModelList) -> Result<Design, BlifFault>
+        requires { 0 < length models }
+        ensures design { IfOk result (λ design. design ≡ models) }
+        ensures right { OnOk result (AreRight models (Ok tt)) }
+        ensures fault { IfErr result (λ e. (e ≡ BlifFault.OutOfMemory) ⊎ AreRight models (Err e)) }
     {
-        Design {
-            key,
-            models: Vec::new(alloc),
-            numbers: IndexMap::with_hasher(alloc, KeyedHash::new(key)),
-        }
-    }
-
-    // The design with one more model.
-    pub(crate) fn with(self, alloc: Global, model: ModelText) -> Result<Design, AllocError>
-        ensures { IfOk result (λ design. design ≡ self ++ model ∷ []) }
-    {
-        let Design {
-            key,
-            models,
-            numbers,
-        } = self;
-        let mut models = models;
-        let Ok(number) = u32::try_from(models.len() + 1) else {
-            return Err(AllocError);
-        };
-        let numbers = with_number(alloc, numbers, model.name(), number - 1)?;
-        models.push(model)?;
-        Ok(Design {
-            key,
-            models,
-            numbers,
-        })
+        check(alloc, &models)?;
+        Ok(Design { models })
     }
 
     /// How many models there are.
     pub fn models(&self) -> u32
-        ensures { result ≡ length self.now }
+        ensures count { result ≡ length self.now }
+        ensures some { 0 < result }
+        ensures right { AreRight self.now (Ok tt) }
     {
-        self.models.len() as u32
+        self.models.models()
     }
 
     /// The model of this name; none where no model has it.
     pub fn model(&self, name: &str) -> Option<u32>
         ensures { result ≡ model_named self.now name.now }
     {
-        self.numbers.get(name).copied()
+        self.models.model(name)
     }
 
     /// The name of a model, which may be empty; models are numbered from 0.
@@ -125,42 +77,19 @@ impl Design {
         requires { model < length self.now }
         ensures { (m : ModelValue) → slice_get self.now model ≡ Some m → result.now ≡ m.name }
     {
-        self.models[model as usize].name()
+        self.models.name(model)
     }
 
-    // The key of its names.
-    pub(crate) fn key(&self) -> u64 {
-        self.key
-    }
-
-    // What the lines of a model place, in order; none where there is no such model.
-    pub(crate) fn items(&self, model: u32) -> Option<&ItemList>
-        ensures found { IfSome result (λ items. items.now ≡ items_of self.now model) }
-        ensures none { IfNone result (items_of self.now model ≡ []) }
+    /// What the lines of a model place, in order; models are numbered from 0.
+    pub fn items(&self, model: u32) -> &ItemList
+        requires { model < length self.now }
+        ensures { result.now ≡ items_of self.now model }
     {
-        match self.models.get(model as usize) {
-            Some(found) => Some(found.items()),
-            None => None,
-        }
+        self.models.items(model)
     }
-}
 
-// With this number for the name, unless it has one.
-fn with_number(
-    alloc: Global,
-    numbers: Numbers,
-    name: &str,
-    number: u32,
-) -> Result<Numbers, AllocError>
-    ensures { IfOk result (λ after. (q : List ℕ) → get_by_text after q
-        ≡ (if is_some (get_by_text numbers name.now) then get_by_text numbers q
-        else (if bytes_eq name.now q then Some number else get_by_text numbers q))) }
-{
-    if numbers.get(name).is_some() {
-        return Ok(numbers);
+    /// A key for tables of names, made of the text, so that names that collide in one cannot be looked for.
+    pub fn key(&self) -> u64 {
+        self.models.key()
     }
-    let mut after = numbers;
-    let key = String::from_str(alloc, name)?;
-    after.insert(key, number)?;
-    Ok(after)
 }

@@ -24,6 +24,25 @@ pub enum BlifFault {
     /// An earlier model has the name of the one that begins here.
     #[error("model twice at line {line}")]
     ModelTwice { line: u32 },
+    /// No model has the name of which the line makes an instance.
+    #[error("no such model at line {line}")]
+    NoSuchModel { line: u32 },
+    /// A connection names a formal that is neither an input nor an output of the instance's model.
+    #[error("no such formal at line {line}")]
+    NoSuchFormal { line: u32 },
+    /// A connection names a formal that an earlier connection of the line has.
+    #[error("formal twice at line {line}")]
+    FormalTwice { line: u32 },
+    /// An input of the instance's model is not connected.
+    #[error("formal missing at line {line}")]
+    FormalMissing { line: u32 },
+    /// A walk from the top through instances, in order of lines and depth first, meets a model that is on its own path;
+    /// this is the first one that it meets.
+    #[error("a model contains itself")]
+    Recursive { model: Name },
+    /// A chain of instances from the top has more than 64 models, the top included.
+    #[error("more than 64 models deep")]
+    TooDeep,
     /// There was no memory for what was read.
     #[error("out of memory")]
     OutOfMemory,

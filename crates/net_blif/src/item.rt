@@ -3,7 +3,8 @@ use crate::token::Token;
 use crate::token_list::TokenSlice;
 use net_core::Start;
 
-/// What a line of a model places: primary inputs, outputs, a gate with its table, or a latch.
+/// What a line of a model places: primary inputs, outputs, a gate with its table, a latch,
+/// or an instance with its connections, each `formal=actual`.
 #[derive(Drop)]
 pub enum Item<'a> {
     Inputs(TokenSlice<'a>),
@@ -19,5 +20,10 @@ pub enum Item<'a> {
         next: Token<'a>,
         out: Token<'a>,
         start: Start,
+    },
+    Instance {
+        line: u32,
+        model: Token<'a>,
+        connections: TokenSlice<'a>,
     },
 }

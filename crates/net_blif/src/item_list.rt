@@ -1,5 +1,7 @@
 //! What the lines of a model place, with their tokens in one text.
-ghost use Rattle.std.specs.Prelude.{◌≡◌, ◌≤◌, ◌<◌, ◌+◌, ◌^◌, [], ◌∷◌, ◌++◌, Some, length, slice_get, slice_index_or, All, IfOk, OnOk};
+ghost use Rattle.std.specs.Prelude.{◌≡◌, ◌≤◌, ◌<◌, ◌+◌, ◌^◌, [], ◌∷◌, ◌++◌, Some, length, slice_get, slice_index_or, slice_range, All, IsTrue, IfOk, OnOk};
+ghost use Rattle.std.specs.List.{list_all};
+ghost use Rattle.net_blif.specs.Connection.{is_connection};
 ghost use Rattle.net_blif.specs.Item.{IsSoundItem};
 ghost use Rattle.net_blif.specs.Statement.{IsToken};
 
@@ -11,7 +13,7 @@ use std::alloc::{AllocError, Global};
 use std::marker::Model;
 
 /// An item, whose tokens stand from `first` on and before `end`; the output of a gate stands at `end`,
-/// and the nets of a latch at `first` and behind it.
+/// the nets of a latch at `first` and behind it, and the model of an instance at `end`, behind its connections.
 #[derive(Clone, Copy)]
 pub enum Place {
     Inputs {
@@ -32,6 +34,11 @@ pub enum Place {
         line: u32,
         first: u32,
         start: Start,
+    },
+    Instance {
+        line: u32,
+        first: u32,
+        end: u32,
     },
 }
 
@@ -98,6 +105,7 @@ impl ItemList {
                 table,
             },
             Place::Latch { line, first, start } => latch_at(&self.tokens, line, first, start),
+            Place::Instance { line, first, end } => instance_at(&self.tokens, line, first, end),
         }
     }
 
@@ -170,6 +178,26 @@ impl ItemList {
         self.places.push(Place::Latch { line, first, start })?;
         Ok(())
     }
+
+    /// An instance at the end.
+    pub fn push_instance(
+        &mut self,
+        line: u32,
+        model: &[u8],
+        connections: &[Token<'_>],
+    ) -> Result<(), AllocError>
+        requires model { IsToken model.now }
+        requires tokens { All IsToken connections.now }
+        requires connections { IsTrue (list_all is_connection connections.now) }
+        ensures { OnOk result (self.new ≡ self.old ++ Item.Instance line model.now connections.now ∷ []) }
+    {
+        let first = number(self.tokens.len())?;
+        self.tokens.push_all(connections)?;
+        let end = number(self.tokens.len())?;
+        self.tokens.push(model)?;
+        self.places.push(Place::Instance { line, first, end })?;
+        Ok(())
+    }
 }
 
 // The place of an item.
@@ -190,6 +218,19 @@ fn latch_at(tokens: &TokenList, line: u32, first: u32, start: Start) -> Item<'_>
         next: Token::new(tokens.get(first as usize)),
         out: Token::new(tokens.get(first as usize + 1)),
         start,
+    }
+}
+
+// The instance whose connections stand from `first` on and before `end`, and whose model stands at `end`.
+fn instance_at(tokens: &TokenList, line: u32, first: u32, end: u32) -> Item<'_>
+    requires order { first ≤ end }
+    requires end { end < length tokens.now }
+    ensures { result ≡ Item.Instance line (slice_index_or tokens.now end []) (slice_range tokens.now first end) }
+{
+    Item::Instance {
+        line,
+        model: Token::new(tokens.get(end as usize)),
+        connections: tokens.range(first as usize, end as usize),
     }
 }
 

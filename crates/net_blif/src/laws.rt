@@ -3,18 +3,11 @@ ghost use Rattle.std.specs.Prelude.{◌≡◌, ◌<◌, ◌^◌, ℕ, List, leng
 ghost use Rattle.std.specs.Int.{bit_at};
 ghost use Rattle.text_core.specs.Outcome.{Determined};
 ghost use Rattle.net_blif.specs.Cover.{CoverValue, bit_value, is_one, table_of};
-ghost use Rattle.net_blif.specs.Design.{ModelValue};
-ghost use Rattle.net_blif.specs.Flat.{Flattens};
 ghost use Rattle.net_blif.specs.Models.{BlifDesign};
 
 /// At most one outcome fits a text.
 pub fn one_design_or_fault()
     ensures { (text : List ℕ) → Determined (BlifDesign text) }
-{}
-
-/// At most one net or fault comes of a model of a design.
-pub fn one_net_or_fault()
-    ensures { (design : List ModelValue) (model : ℕ) → Determined (Flattens design model) }
 {}
 
 /// The table of a cover bit by bit: below 2^inputs a bit is 1 exactly where the gate is, and no bit stands above.

@@ -1,27 +1,36 @@
-//! Nets written in BLIF: what a text says, and the net of a model.
+//! Netlists in BLIF: the models that a text describes, with their gates, latches and instances.
 #![tactic(auto)]
 
+mod chains;
+mod connection;
 mod cover;
 mod design;
 mod fault;
-mod flat;
-mod flat_fault;
+mod formal_set;
+mod formals;
+mod instances;
 mod item;
 mod item_list;
 mod laws;
 mod lines;
+mod model_list;
 mod open_model;
 mod read;
 mod reader;
 mod statement;
-#[cfg(test)]
-mod tests;
+mod table;
 mod token;
 mod token_list;
+mod top;
 
+pub use connection::sides;
 pub use design::Design;
 pub use fault::BlifFault;
-pub use flat::flatten;
-pub use flat_fault::FlatFault;
-pub use laws::{one_design_or_fault, one_net_or_fault, table_by_bits};
+pub use item::Item;
+pub use item_list::ItemList;
+pub use laws::{one_design_or_fault, table_by_bits};
 pub use read::read_blif;
+pub use table::Table;
+pub use formals::text_of;
+pub use token::Token;
+pub use token_list::TokenSlice;

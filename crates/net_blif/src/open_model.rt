@@ -1,14 +1,16 @@
 //! A model whose lines are being read.
-ghost use Rattle.std.specs.Prelude.{◌≡◌, ◌≤◌, ◌∷◌, [], None, Some, false, length, All, IfOk, OnOk};
+ghost use Rattle.std.specs.Prelude.{◌≡◌, ◌≤◌, ◌∷◌, [], None, Some, false, length, All, IsTrue, IfOk, OnOk};
+ghost use Rattle.std.specs.List.{list_all};
 ghost use Rattle.std.specs.Option.{option_map_or};
+ghost use Rattle.net_blif.specs.Connection.{is_connection};
 ghost use Rattle.net_blif.specs.Statement.{IsToken};
 ghost use Rattle.net_blif.specs.Cover.{begun, takes_row};
 ghost use Rattle.net_blif.specs.declared.item.Item.{Item};
 ghost use Rattle.net_blif.specs.Models.{placed, with_cover_row, with_items};
 
 use crate::cover::Cover;
-use crate::design::ModelText;
 use crate::item_list::ItemList;
+use crate::model_list::ModelText;
 use crate::token::Token;
 use net_core::{Name, Start};
 use std::alloc::{AllocError, Global};
@@ -118,6 +120,23 @@ impl OpenModel {
     {
         self.close()?;
         self.items.push_latch(line, next, out, start)?;
+        Ok(())
+    }
+
+    /// Places an instance.
+    pub fn place_instance(
+        &mut self,
+        line: u32,
+        model: &[u8],
+        connections: &[Token<'_>],
+    ) -> Result<(), AllocError>
+        requires model { IsToken model.now }
+        requires tokens { All IsToken connections.now }
+        requires connections { IsTrue (list_all is_connection connections.now) }
+        ensures { OnOk result (self.new ≡ with_items (Item.Instance line model.now connections.now ∷ []) None self.old) }
+    {
+        self.close()?;
+        self.items.push_instance(line, model, connections)?;
         Ok(())
     }
 

@@ -1,6 +1,8 @@
 //! What was read of a text, line by line.
-ghost use Rattle.std.specs.Prelude.{◌≡◌, ◌⊎◌, ◌≤◌, ◌∷◌, [], None, Some, Ok, Err, length, IfOk, IfErr, All};
+ghost use Rattle.std.specs.Prelude.{◌≡◌, ◌⊎◌, ◌≤◌, ◌∷◌, [], None, Some, Ok, Err, length, IfOk, IfErr, All, IsTrue};
+ghost use Rattle.std.specs.List.{list_all};
 ghost use Rattle.text_core.specs.Lines.{tokens_of, IsPrinting};
+ghost use Rattle.net_blif.specs.Connection.{is_connection};
 ghost use Rattle.net_blif.specs.Statement.{IsToken};
 ghost use Rattle.net_blif.specs.Cover.{begun};
 ghost use Rattle.net_blif.specs.Item.{HasPrintingNames};
@@ -8,7 +10,7 @@ ghost use Rattle.net_blif.specs.declared.item.Item.{Item};
 ghost use Rattle.net_blif.specs.Models.{in_model, with_cover_row, with_items, models_of, may_stand as may_stand_here, next as next_reading, start, ReadsLine};
 
 use crate::BlifFault;
-use crate::design::Design;
+use crate::model_list::ModelList;
 use crate::open_model::OpenModel;
 use crate::statement::{Statement, read_statement, start_of, words};
 use crate::token::Token;
@@ -20,7 +22,7 @@ use text_core::printing_text;
 /// The models that have ended, and the one whose lines are being read.
 #[derive(Drop)]
 pub struct Reader {
-    design: Design,
+    design: ModelList,
     model: Option<OpenModel>,
 }
 
@@ -38,13 +40,13 @@ impl Reader {
         ensures { result ≡ start }
     {
         Reader {
-            design: Design::new(alloc, key),
+            design: ModelList::new(alloc, key),
             model: None,
         }
     }
 
-    /// The design, of which all lines were read.
-    pub fn finish(self, alloc: Global) -> Result<Design, AllocError>
+    /// The models, of which all lines were read.
+    pub fn finish(self, alloc: Global) -> Result<ModelList, AllocError>
         ensures { IfOk result (λ design. design ≡ models_of self) }
     {
         let Reader { design, model } = self;
@@ -153,6 +155,32 @@ impl Reader {
         })
     }
 
+    // With an instance in the model.
+    fn place_instance(
+        self,
+        line: u32,
+        name: &[u8],
+        connections: &[Token<'_>],
+    ) -> Result<Reader, AllocError>
+        requires name { IsToken name.now }
+        requires tokens { All IsToken connections.now }
+        requires connections { IsTrue (list_all is_connection connections.now) }
+        ensures { IfOk result (λ reader. reader ≡ in_model (with_items (Item.Instance line name.now connections.now ∷ []) None) self) }
+    {
+        let Reader { design, model } = self;
+        let Some(mut model) = model else {
+            return Ok(Reader {
+                design,
+                model: None,
+            });
+        };
+        model.place_instance(line, name, connections)?;
+        Ok(Reader {
+            design,
+            model: Some(model),
+        })
+    }
+
     // With no open cover.
     fn close(self) -> Result<Reader, AllocError>
         ensures { IfOk result (λ reader. reader ≡ in_model (with_items [] None) self) }
@@ -240,6 +268,9 @@ impl Reader {
             Statement::Latch { next, out, rest } => {
                 let start = start_of(rest.as_slice());
                 Ok(self.place_latch(line, next.bytes(), out.bytes(), start)?)
+            }
+            Statement::Instance { model, connections } => {
+                Ok(self.place_instance(line, model.bytes(), connections.as_slice())?)
             }
             Statement::Row { pattern, output } => Ok(self.add_row(pattern.bytes(), output)?),
             Statement::End => {

@@ -3,16 +3,19 @@ ghost use Rattle.std.specs.Prelude.{◌≡◌, ◌↔◌, ◌<◌, ◌∷◌, []
 ghost use Rattle.text_core.specs.Lines.{tokens_of};
 ghost use Rattle.net_blif.specs.Statement.{IsToken, is_cell as cell_is, is_dotted as dotted, is_kind as kind_is, is_latch_end as latch_end_is, is_start as start_is};
 ghost use Rattle.net_blif.specs.Latch.{start_of as start_that, start_said};
-ghost use Rattle.net_blif.specs.Spelling.{bit_of as bit_that, cover_of, dotted_of, end_of, latch_of, model_of, row_of, statement_of};
+ghost use Rattle.net_blif.specs.Spelling.{bit_of as bit_that, cover_of, dotted_of, end_of, instance_of, latch_of, model_of, row_of, statement_of};
 ghost use Rattle.std.specs.List.{list_all};
+ghost use Rattle.net_blif.specs.Connection.{is_connection as connection_is};
 
+use crate::connection::is_connection;
 use crate::token::{Token, Tokens};
 use net_core::Start;
 use std::alloc::{AllocError, Global};
 use text_core::{is_printing, tokens};
 
 /// A statement. `Cover` is `.names`, `Row` a row of its cover, and `Other` begins with a word that is not read.
-/// The `rest` of a latch is its kind, control and start, as far as they are there.
+/// The `rest` of a latch is its kind, control and start, as far as they are there; each connection of an instance
+/// is `formal=actual`.
 #[derive(Drop)]
 pub enum Statement<'a> {
     Model(Token<'a>),
@@ -27,6 +30,10 @@ pub enum Statement<'a> {
         next: Token<'a>,
         out: Token<'a>,
         rest: Tokens<'a>,
+    },
+    Instance {
+        model: Token<'a>,
+        connections: Tokens<'a>,
     },
     Row {
         pattern: Token<'a>,
@@ -196,6 +203,36 @@ pub fn start_of(rest: &[Token<'_>]) -> Start
     }
 }
 
+// Whether each token is a connection.
+fn are_connections(tokens: &[Token<'_>]) -> bool
+    ensures { result ≡ list_all connection_is tokens.now }
+{
+    tokens.iter().all(|token| is_connection(token.bytes()))
+}
+
+// What the words after `.subckt` say.
+fn instance<'a>(rest: &'a [Token<'a>]) -> Option<Statement<'a>>
+    ensures { result ≡ instance_of rest.now }
+{
+    match rest {
+        [model, connections @ ..] => instance_on(model.bytes(), connections),
+        [] => None,
+    }
+}
+
+// What the model of an instance and its connections say.
+fn instance_on<'a>(model: &'a [u8], connections: &'a [Token<'a>]) -> Option<Statement<'a>>
+    ensures { result ≡ instance_of (model.now ∷ connections.now) }
+{
+    if !are_connections(connections) {
+        return None;
+    }
+    Some(Statement::Instance {
+        model: Token::new(model),
+        connections: Tokens::new(connections),
+    })
+}
+
 // What the words after `.end` say.
 fn end<'a>(rest: &'a [Token<'a>]) -> Option<Statement<'a>>
     ensures { result ≡ end_of rest.now }
@@ -227,6 +264,9 @@ fn dotted_statement<'a>(word: &'a [u8], rest: &'a [Token<'a>]) -> Option<Stateme
     }
     if word == b".latch".as_slice() {
         return latch(rest);
+    }
+    if word == b".subckt".as_slice() {
+        return instance(rest);
     }
     if word == b".end".as_slice() {
         return end(rest);

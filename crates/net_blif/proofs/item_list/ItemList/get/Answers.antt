@@ -45,3 +45,13 @@ pub returns-in-Latch-clause-sound : goal.returns-in-Latch-clause-sound
 returns-in-Latch-clause-sound c =
     let found = c.in-Latch.ensures ∙ ap (λ (xs : List Place). slice_get xs c.args.place) c.deref.ensures.value in
     found_sound c.self.inside.tokens c.self.inside.places.items c.args.place _ _ c.self.invariant found c.latch_at.ensures
+
+pub returns-in-Instance-clause-item : goal.returns-in-Instance-clause-item
+returns-in-Instance-clause-item c =
+    let found = c.in-Instance.ensures ∙ ap (λ (xs : List Place). slice_get xs c.args.place) c.deref.ensures.value in
+    found_item c.self.inside.tokens c.self.inside.places.items c.args.self.now c.args.place _ _ c.self.view_is found c.instance_at.ensures
+
+pub returns-in-Instance-clause-sound : goal.returns-in-Instance-clause-sound
+returns-in-Instance-clause-sound c =
+    let found = c.in-Instance.ensures ∙ ap (λ (xs : List Place). slice_get xs c.args.place) c.deref.ensures.value in
+    found_sound c.self.inside.tokens c.self.inside.places.items c.args.place _ _ c.self.invariant found c.instance_at.ensures

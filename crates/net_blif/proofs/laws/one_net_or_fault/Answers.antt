@@ -1,5 +1,0 @@
-use Rattle.net_blif.proofs.FlatDetermined.{flattens_once}
-use Rattle.net_blif.proofs.laws.one_net_or_fault.Goals as goal
-
-pub returns : goal.returns
-returns c = flattens_once

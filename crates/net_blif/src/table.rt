@@ -1,0 +1,43 @@
+//! Numbers of names.
+ghost use Rattle.std.specs.Prelude.{◌≡◌, OnOk};
+ghost use Rattle.net_blif.specs.Table.{no_numbers, numbers_in, with_number as with_one};
+
+use indexmap::IndexMap;
+use net_core::KeyedHash;
+use std::alloc::{AllocError, Global};
+
+/// The number that each name has, if it has one. Contracts see it as a function of the name, by the word `numbers_in`.
+#[derive(Drop)]
+pub struct Table {
+    alloc: Global,
+    numbers: IndexMap<String, u32, KeyedHash>,
+}
+
+impl Table {
+    /// No name has a number. Names are hashed with this key, so that names that collide cannot be looked for where it is
+    /// not known before they are. It takes no memory.
+    pub fn new(alloc: Global, key: u64) -> Table
+        ensures { numbers_in result ≡ no_numbers }
+    {
+        Table {
+            alloc,
+            numbers: IndexMap::with_hasher(alloc, KeyedHash::new(key)),
+        }
+    }
+
+    /// The number of a name.
+    pub fn get(&self, name: &str) -> Option<u32>
+        ensures { result ≡ numbers_in self.now name.now }
+    {
+        self.numbers.get(name).copied()
+    }
+
+    /// Gives a name this number.
+    pub fn insert(&mut self, name: &str, number: u32) -> Result<(), AllocError>
+        ensures { OnOk result (numbers_in self.new ≡ with_one (numbers_in self.old) name.now number) }
+    {
+        let key = String::from_str(self.alloc, name)?;
+        self.numbers.insert(key, number)?;
+        Ok(())
+    }
+}

@@ -1,0 +1,8 @@
+pub mod PathLemmas
+pub mod TiedLemmas
+pub mod SameLemmas
+pub mod StateLemmas
+pub mod DriveLemmas
+pub mod FlatLemmas
+pub mod FlatDetermined
+mod Examples

@@ -1,0 +1,5 @@
+pub mod Paths
+pub mod Steps
+pub mod Walk
+pub mod Flat
+pub mod private

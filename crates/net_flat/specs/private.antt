@@ -1,0 +1,4 @@
+pub mod LocalWalk
+pub mod LocalScope
+pub mod WalkerState
+pub mod Entering

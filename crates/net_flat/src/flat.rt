@@ -1,0 +1,42 @@
+//! The net of a model.
+ghost use Rattle.std.specs.Prelude.{◌≡◌, ◌⊎◌, Ok, Err, IfOk, IfErr};
+ghost use Rattle.net_core.specs.NetList.{empty};
+ghost use Rattle.net_flat.specs.Flat.{Flattens};
+ghost use Rattle.net_flat.specs.private.LocalWalk.{InTop, IsFaultOf, IsWalked, local_within, state_with};
+
+use crate::FlatFault;
+use crate::walker::{Walker, fault_of};
+use net_blif::Design;
+use net_core::{Net, NetMaker};
+use std::alloc::Global;
+
+// The most models of a chain, which no chain of a design passes.
+const MAX_CHAIN: u32 = 64;
+
+// The net list of a model's walk.
+fn walk(alloc: Global, design: &Design, model: u32) -> Result<NetMaker, FlatFault>
+    ensures made { IfOk result (λ maker. IsWalked (local_within 64 design.now (state_with empty 0 InTop) model) maker) }
+    ensures fault { IfErr result (IsFaultOf (local_within 64 design.now (state_with empty 0 InTop) model)) }
+{
+    let mut walker = Walker::new(alloc, design.key());
+    walker.walk(design, model, MAX_CHAIN)?;
+    Ok(walker.into_maker())
+}
+
+/// The net of a model: its lines are walked in order, each name that is mentioned first makes a net, and gates, latches,
+/// inputs and outputs are appended as they are met. At an instance the actuals are mentioned, and then the lines of its
+/// model are walked in place: a connected formal is its actual, and every other name is a new net, which is called by the
+/// numbers of the instances, each with a `/`, and the name. The models of instances are walked through chains of 64 models,
+/// and no chain of a design has more.
+/// A net, a gate or latch, or an instance that would be the 1,048,577th is refused where it is met. Then a net with two
+/// drivers or none, or gates that drive each other in a cycle, refuse the net. Want of memory may come at any place.
+pub fn flatten(alloc: Global, design: &Design, model: u32) -> Result<Net, FlatFault>
+    ensures net { IfOk result (λ net. Flattens design.now model (Ok net)) }
+    ensures fault { IfErr result (λ e. (e ≡ FlatFault.OutOfMemory) ⊎ Flattens design.now model (Err e)) }
+{
+    let maker = walk(alloc, design, model)?;
+    match maker.finish() {
+        Ok(net) => Ok(net),
+        Err(fault) => Err(fault_of(fault)),
+    }
+}

@@ -1,0 +1,153 @@
+//! The walk through instances.
+ghost use Rattle.std.specs.Prelude.{◌≡◌, ◌<◌, ◌+◌, ◌^◌, ◌++◌, ◌∷◌, Ok, Some, None, All, IsTrue, IfOk, IfErr, IfSome, IfNone, OnOk, codes, map, string_bytes};
+ghost use Rattle.std.specs.Fmt.{decimal};
+ghost use Rattle.std.specs.List.{list_all};
+ghost use Rattle.net_blif.specs.Connection.{actual_of, is_connection};
+ghost use Rattle.net_blif.specs.Design.{model_named};
+ghost use Rattle.net_blif.specs.Item.{IsSoundItem};
+ghost use Rattle.net_blif.specs.Statement.{IsToken};
+ghost use Rattle.net_blif.specs.Table.{numbers_in};
+ghost use Rattle.net_flat.specs.Steps.{Enter, actual_steps};
+ghost use Rattle.net_flat.specs.Walk.{next_number as number_after};
+ghost use Rattle.net_flat.specs.private.LocalScope.{local_in};
+ghost use Rattle.net_flat.specs.private.LocalWalk.{AreInside, IsFaultOf, entered, local_line, local_walked, local_within, number_in, numbers_of as numbers_of_actuals, prefix_in};
+ghost use Rattle.net_flat.specs.private.WalkerState.{state_of};
+ghost use Rattle.net_flat.specs.private.Entering.{HasEntered};
+
+use crate::FlatFault;
+use crate::scope::Scope;
+use crate::walker::Walker;
+use net_blif::{Design, Item, Table, TokenSlice, sides, text_of};
+use std::alloc::AllocError;
+use std::mem;
+
+// The number of the next instance.
+fn next_number(number: u64, item: &Item<'_>) -> u64
+    requires { number + 1 < 2 ^ 64 }
+    ensures { result ≡ number_after number item.now }
+{
+    match item {
+        Item::Instance { .. } => number + 1,
+        _ => number,
+    }
+}
+
+impl Walker {
+    // The table of an instance's formals, from the list of the numbers of its actuals.
+    fn formals(&self, connections: &TokenSlice<'_>) -> Result<Table, AllocError>
+        requires connections { All IsToken connections.now }
+        requires numbers { self.now.inputs.items ≡ map (number_in (state_of self.now)) (map actual_of connections.now) }
+        ensures { IfOk result (λ table. numbers_in table ≡ numbers_of_actuals (state_of self.now) connections.now) }
+    {
+        let mut table = Table::new(self.alloc, self.key);
+        for place in (0..connections.len()).rev() {
+            let (formal, _) = sides(connections.get(place));
+            table.insert(text_of(formal), self.inputs[place])?;
+        }
+        Ok(table)
+    }
+
+    // The prefix of the names in the instance of this number.
+    fn inner_prefix(&self, number: u64) -> Result<String, AllocError>
+        ensures { IfOk result (λ text. string_bytes text ≡ prefix_in (state_of self.now).local ++ (decimal number ++ codes "/")) }
+    {
+        let alloc = self.alloc;
+        if self.scope.is_top {
+            return Ok(format!(in alloc; "{number}/")?);
+        }
+        let prefix = self.scope.prefix.as_str();
+        Ok(format!(in alloc; "{prefix}{number}/")?)
+    }
+
+    // The scope in the instance of this number.
+    fn inner(&self, number: u64, connections: &TokenSlice<'_>) -> Result<Scope, AllocError>
+        requires connections { All IsToken connections.now }
+        requires numbers { self.now.inputs.items ≡ map (number_in (state_of self.now)) (map actual_of connections.now) }
+        ensures { IfOk result (λ scope. local_in scope ≡ (entered (state_of self.now) number connections.now).local) }
+    {
+        let numbers = self.formals(connections)?;
+        let prefix = self.inner_prefix(number)?;
+        Ok(Scope {
+            is_top: false,
+            prefix,
+            numbers,
+        })
+    }
+
+    // Mentions what is connected to an instance, and goes into it, if its model is there: gives the scope to come back to.
+    fn enter(
+        &mut self,
+        design: &Design,
+        number: u64,
+        name: &[u8],
+        connections: &TokenSlice<'_>,
+    ) -> Result<Option<(u32, Scope)>, FlatFault>
+        requires name { IsToken name.now }
+        requires connections { All IsToken connections.now }
+        requires sides { IsTrue (list_all is_connection connections.now) }
+        requires inside { AreInside (state_of self.old) }
+        ensures none { IfOk result (λ entered. IfNone entered ((model_named design.now name.now ≡ None) × (local_walked (state_of self.old) (Enter ∷ actual_steps connections.now) ≡ Ok (state_of self.new)))) }
+        ensures some { IfOk result (λ entered. IfSome entered (λ e. (model_named design.now name.now ≡ Some e.0) × HasEntered (state_of self.old) number connections.now e.1 (state_of self.new))) }
+        ensures inside { OnOk result (AreInside (state_of self.new)) }
+        ensures fault { IfErr result (IsFaultOf (local_walked (state_of self.old) (Enter ∷ actual_steps connections.now))) }
+    {
+        self.place_instance(connections)?;
+        let Some(model) = design.model(text_of(name)) else {
+            return Ok(None);
+        };
+        let inner = self.inner(number, connections)?;
+        let outer = mem::replace(&mut self.scope, inner);
+        Ok(Some((model, outer)))
+    }
+
+    // Walks a line, and the body of its instance.
+    #[cycle(walk)]
+    fn line(
+        &mut self,
+        design: &Design,
+        number: u64,
+        item: &Item<'_>,
+        depth: u32,
+    ) -> Result<(), FlatFault>
+        requires sound { IsSoundItem item.now }
+        requires inside { AreInside (state_of self.old) }
+        ensures made { OnOk result (local_line (local_within depth design.now) design.now (state_of self.old) number item.now ≡ Ok (state_of self.new)) }
+        ensures inside { OnOk result (AreInside (state_of self.new)) }
+        ensures fault { IfErr result (IsFaultOf (local_line (local_within depth design.now) design.now (state_of self.old) number item.now)) }
+    {
+        let Item::Instance {
+            model,
+            connections,
+            ..
+        } = item else {
+            return self.place(item);
+        };
+        let Some((inside, outer)) = self.enter(design, number, model.bytes(), connections)? else {
+            return Ok(());
+        };
+        self.walk(design, inside, depth)?;
+        self.scope = outer;
+        Ok(())
+    }
+
+    /// Walks the lines of a model, through at most so many models one inside another.
+    #[cycle(walk)]
+    pub fn walk(&mut self, design: &Design, model: u32, depth: u32) -> Result<(), FlatFault>
+        requires { AreInside (state_of self.old) }
+        ensures made { OnOk result (local_within depth design.now (state_of self.old) model ≡ Ok (state_of self.new)) }
+        ensures inside { OnOk result (AreInside (state_of self.new)) }
+        ensures fault { IfErr result (IsFaultOf (local_within depth design.now (state_of self.old) model)) }
+    {
+        if depth == 0 || model >= design.models() {
+            return Ok(());
+        }
+        let lines = design.items(model);
+        let mut number = 1u64;
+        for place in 0..lines.len() {
+            let item = lines.get(place);
+            self.line(design, number, &item, depth - 1)?;
+            number = next_number(number, &item);
+        }
+        Ok(())
+    }
+}
