@@ -11,3 +11,5 @@ pub mod ValueLemmas
 pub mod KeepLemmas
 pub mod TreeLemmas
 mod Examples
+mod DecimalLemmas
+mod TableLemmas

@@ -4,6 +4,7 @@
 
 mod cursor;
 mod declared;
+mod expression;
 mod fault;
 mod gates;
 mod kind;
@@ -11,14 +12,19 @@ mod laws;
 mod operator;
 mod piece;
 mod stack;
+mod table;
+mod target;
 mod words;
 
 pub use cursor::{Cursor, Token};
 pub use declared::{Declared, Direction};
+pub use expression::read_expression;
 pub use fault::VerilogFault;
 pub use gates::{drive, mentioned, settle};
 pub use kind::Kind;
 pub use laws::assigned_net_has_the_value;
 pub use operator::{Driver, Operator};
 use operator::{Frame, Next, Start};
+pub use table::Table;
+pub use target::read_target;
 pub use words::wrong;
