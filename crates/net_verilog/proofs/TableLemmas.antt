@@ -1,14 +1,17 @@
 -- Declared names in a map.
-use Rattle.std.proofs.Common.{◌≡◌, ◌⊎◌, ◌∙◌, ap, sym, refl, inl, inr, ℕ, ◌≤◌, Bool, true, false, List, [], ◌∷◌, length, Option, None, Some}
+use Rattle.std.proofs.Common.{◌≡◌, ◌⊎◌, ◌∙◌, ap, sym, refl, inl, inr, ℕ, ◌≤◌, Bool, true, false, List, [], ◌∷◌, ◌++◌, length, codes, arith, Option, None, Some}
 use Rattle.std.specs.declared.string.String.{String}
 use Rattle.std.specs.Prelude.{string_bytes, string_eq, if◌then◌else◌}
 use Rattle.std.specs.Option.{option_map}
 use Rattle.std.specs.Str.{bytes_eq}
+use Rattle.std.specs.Prelude.{decimal}
+use Rattle.net_core.specs.Inside.{IsNetName}
 use Rattle.std.specs.Map.{lookup}
-use Rattle.core.specs.Cmp.Lexicographic.{bytes_decides}
+use Rattle.std.specs.Cmp.Lexicographic.{bytes_decides}
 use Rattle.indexmap.specs.IndexMap.{insert_entry}
 use Rattle.net_verilog.specs.Declarations.{Declarations, Range, bit_name, declared_as, put, range_of}
 use Rattle.net_verilog.specs.Targets.{HasNetNames}
+use Rattle.net_verilog.specs.private.Decimals.{HasBits}
 use Rattle.net_verilog.specs.private.Entries.{named_entries}
 use Rattle.net_verilog.specs.declared.declared.Declared.{Declared}
 
@@ -55,6 +58,17 @@ put_at name q d (e ∷ es) = by (bytes_eq name e.0) refl (put_at name q d es)
 pub names_kept : (name : List ℕ) (d : Declared) (declared : Declarations) → ((low : ℕ) → (high : ℕ) → (i : ℕ) → d.range ≡ Some (low, high) → low ≤ i → i ≤ high → length (bit_name name i) ≤ 255) → HasNetNames declared → HasNetNames (put name d declared)
 names_kept name d declared short names q low high i is above below = by (bytes_eq q name) refl (sym (ap (option_map (λ (x : Declared). x.range)) (put_at name q d declared)) ∙ is)
   where
-    by : (b : Bool) → bytes_eq q name ≡ b → option_map (λ (x : Declared). x.range) (if bytes_eq q name then Some d else declared_as declared q) ≡ Some (Some (low, high)) → length (bit_name q i) ≤ 255
+    by : (b : Bool) → bytes_eq q name ≡ b → option_map (λ (x : Declared). x.range) (if b then Some d else declared_as declared q) ≡ Some (Some (low, high)) → length (bit_name q i) ≤ 255
     by true same range = let name' = (bytes_decides q name).0 same in rw name' (short low high i (cc) above below)
     by false other range = names q low high i range above below
+
+-- a bit's name is not empty
+some_name : (name : List ℕ) (rest : List ℕ) → 1 ≤ length rest → 1 ≤ length (name ++ rest)
+some_name [] rest some = some
+some_name (b ∷ bs) rest some = omega arith
+
+-- each bit of a declared vector has the name of a net
+pub bits_named : (declared : Declarations) (name : List ℕ) → HasNetNames declared → (range : Option Range) → range_of declared name ≡ range → HasBits name range
+bits_named declared name names None is = tt
+bits_named declared name names (Some None) is = tt
+bits_named declared name names (Some (Some (low, high))) is = λ i above below. (some_name (name ++ codes "[" ++ decimal i) (codes "]") (omega arith), names name low high i is above below)

@@ -1,13 +1,13 @@
 //! Targets.
-ghost use Rattle.std.specs.Prelude.{◌≡◌, ◌⊎◌, ◌<◌, ◌≤◌, ℕ, Ok, Err, None, Some, true, IfOk, IfErr, IfSome, IfNone, length};
+ghost use Rattle.std.specs.Prelude.{◌≡◌, ◌⊎◌, ◌<◌, ◌≤◌, Ok, Err, None, Some, true, IfOk, IfErr, IfSome, IfNone, length};
 ghost use Rattle.std.specs.Option.{option_map};
 ghost use Rattle.net_core.specs.Inside.{IsNetName};
 ghost use Rattle.text_core.specs.Numbers.{value_of as value_that};
 ghost use Rattle.net_verilog.specs.Words.{is_decimal as decimal_that};
 ghost use Rattle.net_verilog.specs.Declarations.{bit_name as bit_that, range_of as range_that};
-ghost use Rattle.net_verilog.specs.Targets.{HasNetNames, after_name, closed as closed_that, decimal_kind, indexed as indexed_that, name_kind, target_of};
+ghost use Rattle.net_verilog.specs.Targets.{after_name, closed as closed_that, decimal_kind, indexed as indexed_that, name_kind, target_of};
 ghost use Rattle.net_verilog.specs.private.Places.{Prints, left, value_of};
-ghost use Rattle.net_verilog.specs.private.Decimals.{short};
+ghost use Rattle.net_verilog.specs.private.Decimals.{HasBits, short};
 
 use crate::words::{is_close_index, is_decimal, is_keyword, is_open_index, text_of, wrong};
 use crate::{Cursor, Kind, Table, Token, VerilogFault};
@@ -101,7 +101,7 @@ fn indexed<'a>(
     high: u32,
     place: &Cursor<'a>,
 ) -> Result<(Name, Cursor<'a>), VerilogFault>
-    requires { (i : ℕ) → low ≤ i → i ≤ high → IsNetName (bit_that name.now i) }
+    requires { HasBits name.now (Some (Some (low, high))) }
     ensures found { IfOk result (λ r. indexed_that name.now low high (left place.now) ≡ Ok (r.0, left r.1)) }
     ensures name { IfOk result (λ r. IsNetName r.0) }
     ensures shorter { IfOk result (λ r. length r.1.rest.now < length place.now.rest.now) }
@@ -130,7 +130,7 @@ fn after_name_of<'a>(
     place: &Cursor<'a>,
 ) -> Result<(Name, Cursor<'a>), VerilogFault>
     requires name { IsNetName name.now }
-    requires bits { (low : ℕ) → (high : ℕ) → range ≡ Some (Some (low, high)) → (i : ℕ) → low ≤ i → i ≤ high → IsNetName (bit_that name.now i) }
+    requires bits { HasBits name.now range }
     ensures found { IfOk result (λ r. after_name line name.now range (left place.now) ≡ Ok (r.0, left r.1)) }
     ensures name { IfOk result (λ r. IsNetName r.0) }
     ensures shorter { IfOk result (λ r. length r.1.rest.now ≤ length place.now.rest.now) }
@@ -158,7 +158,7 @@ fn after_name_of<'a>(
 // The range of a declared name.
 fn range_of(declared: &Table, name: &str) -> Option<Option<(u32, u32)>>
     ensures same { result ≡ range_that declared.now name.now }
-    ensures names { HasNetNames declared.now }
+    ensures bits { HasBits name.now result }
 {
     match declared.find(name) {
         Some(d) => Some(d.range),

@@ -1,5 +1,7 @@
 //! What words and numbers are.
 ghost use Rattle.std.specs.Prelude.{◌≡◌, ◌⊎◌, IfOk, IfErr};
+ghost use Rattle.std.specs.List.{list_all};
+ghost use Rattle.net_verilog.specs.Bytes.{is_digit as digit_is};
 ghost use Rattle.net_verilog.specs.Words.{bit_of as bit_that, is_base as base_is, is_decimal as decimal_is, is_keyword as keyword_is, literal_of as literal_that, next_kind, start_of as start_that, wrong as wrong_token};
 ghost use Rattle.net_verilog.specs.Tokens.{is_end as end_is};
 ghost use Rattle.net_verilog.specs.Targets.{is_close_index as close_index_is, is_open_index as open_index_is};
@@ -64,11 +66,17 @@ fn literal_of(text: &[u8]) -> Option<bool>
     }
 }
 
+fn are_digits(text: &[u8]) -> bool
+    ensures { result ≡ list_all digit_is text.now }
+{
+    text.iter().all(|b| is_digit(*b))
+}
+
 /// Whether there are decimal digits alone.
 pub fn is_decimal(text: &[u8]) -> bool
     ensures { result ≡ decimal_is text.now }
 {
-    !text.is_empty() && text.iter().all(|b| is_digit(*b))
+    0 < text.len() && are_digits(text)
 }
 
 /// What a token does where an operand is wanted.
