@@ -13,3 +13,6 @@ pub mod TreeLemmas
 mod Examples
 mod DecimalLemmas
 mod TableLemmas
+mod SpotLemmas
+mod ReadLemmas
+mod ExpressionDetermined

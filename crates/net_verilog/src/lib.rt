@@ -22,7 +22,7 @@ pub use expression::read_expression;
 pub use fault::VerilogFault;
 pub use gates::{drive, mentioned, settle};
 pub use kind::Kind;
-pub use laws::assigned_net_has_the_value;
+pub use laws::{assigned_net_has_the_value, one_expression_or_fault};
 pub use operator::{Driver, Operator};
 use operator::{Frame, Next, Start};
 pub use table::Table;
