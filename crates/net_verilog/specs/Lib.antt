@@ -6,5 +6,7 @@ pub mod Targets
 pub mod Tree
 pub mod Made
 pub mod Expression
+pub mod Parts
+pub mod Assigns
 pub mod Value
 pub mod private

@@ -41,6 +41,7 @@ fn begin<'a>(
     ensures on { OnOk result (IsStackOn maker.new stack.new) }
     ensures last { IfOk result (λ r. IsLastOn maker.new r.0) }
     ensures shorter { IfOk result (λ r. length r.1.rest.now < length place.now.rest.now) }
+    ensures grows { OnOk result (nets maker.old ≤ nets maker.new) }
     ensures fault { IfErr result (λ e. (e ≡ VerilogFault.OutOfMemory) ⊎ ((start : NetList) → (tokens : List TokenValue) → Standing declared.now start tokens maker.old stack.old (left place.now) → Expression declared.now start tokens (Err e))) }
 {
     let (token, after) = place.next();
@@ -99,6 +100,7 @@ fn end_one(
     ensures on { OnOk result (IsStackOn maker.new stack.new) }
     ensures last { IfOk result (λ r. IfSome r (λ ended. IsDriverOn maker.new ended)) }
     ensures shorter { IfOk result (λ r. IfSome r (λ ended. length stack.new < length stack.old)) }
+    ensures grows { OnOk result (nets maker.old ≤ nets maker.new) }
     ensures fault { IfErr result (λ e. (e ≡ VerilogFault.OutOfMemory) ⊎ ((declared : Declarations) → (start : NetList) → (tokens : List TokenValue) → (here : List TokenValue) → Holding declared start tokens cap maker.old stack.old driver here → Expression declared start tokens (Err e))) }
 {
     match stack.top() {
@@ -153,6 +155,7 @@ fn end_all(
     ensures group { OnOk result (cap ≡ 3 → (stack.new ≡ []) ⊎ (stack.new ≡ Frame.Group ∷ drop 1 stack.new)) }
     ensures on { OnOk result (IsStackOn maker.new stack.new) }
     ensures last { IfOk result (λ ended. IsDriverOn maker.new ended) }
+    ensures grows { OnOk result (nets maker.old ≤ nets maker.new) }
     ensures fault { IfErr result (λ e. (e ≡ VerilogFault.OutOfMemory) ⊎ ((declared : Declarations) → (start : NetList) → (tokens : List TokenValue) → (here : List TokenValue) → Holding declared start tokens cap maker.old stack.old driver here → Expression declared start tokens (Err e))) }
 {
     let mut last = driver;
@@ -183,6 +186,7 @@ fn go_on<'a>(
     ensures shorter { IfOk result (λ r. IfOk r (λ more. length more.1.rest.now < length place.now.rest.now)) }
     ensures done { IfOk result (λ r. IfErr r (λ last. (declared : Declarations) → (start : NetList) → (tokens : List TokenValue) → Holding declared start tokens 0 maker.old stack.old driver (left place.now) → Expression declared start tokens (Ok (record { net = maker.new; driver = last; rest = left place.now })))) }
     ensures end { IfOk result (λ r. IfErr r (λ last. IsDriverOn maker.new last)) }
+    ensures grows { OnOk result (nets maker.old ≤ nets maker.new) }
     ensures fault { IfErr result (λ e. (e ≡ VerilogFault.OutOfMemory) ⊎ ((declared : Declarations) → (start : NetList) → (tokens : List TokenValue) → Holding declared start tokens 0 maker.old stack.old driver (left place.now) → Expression declared start tokens (Err e))) }
 {
     let (token, after) = place.next();
@@ -242,6 +246,7 @@ fn step<'a>(
     ensures shorter { IfOk result (λ r. IfOk r (λ more. length more.1.rest.now < length place.now.rest.now)) }
     ensures done { IfOk result (λ r. IfErr r (λ driver. (start : NetList) → (tokens : List TokenValue) → Met declared.now start tokens maker.old stack.old last (left place.now) → Expression declared.now start tokens (Ok (record { net = maker.new; driver = driver; rest = left place.now })))) }
     ensures end { IfOk result (λ r. IfErr r (λ driver. IsDriverOn maker.new driver)) }
+    ensures grows { OnOk result (nets maker.old ≤ nets maker.new) }
     ensures fault { IfErr result (λ e. (e ≡ VerilogFault.OutOfMemory) ⊎ ((start : NetList) → (tokens : List TokenValue) → Met declared.now start tokens maker.old stack.old last (left place.now) → Expression declared.now start tokens (Err e))) }
 {
     match last {
@@ -265,6 +270,8 @@ pub fn read_expression<'a>(
 ) -> Result<(Driver, Cursor<'a>), VerilogFault>
     ensures read { IfOk result (λ r. Expression declared.now maker.old (left place.now) (Ok (record { net = maker.new; driver = r.0; rest = left r.1 }))) }
     ensures on { IfOk result (λ r. IsDriverOn maker.new r.0) }
+    ensures shorter { IfOk result (λ r. length r.1.rest.now ≤ length place.now.rest.now) }
+    ensures grows { OnOk result (nets maker.old ≤ nets maker.new) }
     ensures fault { IfErr result (λ e. (e ≡ VerilogFault.OutOfMemory) ⊎ Expression declared.now maker.old (left place.now) (Err e)) }
 {
     let mut stack = Stack::new(alloc);

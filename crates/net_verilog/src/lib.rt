@@ -2,6 +2,7 @@
 //! The readers of declarations, statements and modules are to come.
 #![tactic(auto)]
 
+mod assign;
 mod cursor;
 mod declared;
 mod expression;
@@ -10,12 +11,15 @@ mod gates;
 mod kind;
 mod laws;
 mod operator;
+mod parts;
 mod piece;
+mod sign;
 mod stack;
 mod table;
 mod target;
 mod words;
 
+pub use assign::read_assignment;
 pub use cursor::{Cursor, Token};
 pub use declared::{Declared, Direction};
 pub use expression::read_expression;
@@ -25,6 +29,8 @@ pub use kind::Kind;
 pub use laws::{assigned_net_has_the_value, one_expression_or_fault};
 pub use operator::{Driver, Operator};
 use operator::{Frame, Next, Start};
+pub use parts::{is_sign, read_identifier, read_range, take};
+pub use sign::Sign;
 pub use table::Table;
 pub use target::read_target;
 pub use words::wrong;

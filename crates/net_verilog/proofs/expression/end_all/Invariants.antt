@@ -1,5 +1,5 @@
-use Rattle.std.proofs.Common.{List, length}
-use Rattle.net_core.specs.NetList.{NetList}
+use Rattle.std.proofs.Common.{◌≤◌, List, length}
+use Rattle.net_core.specs.NetList.{NetList, nets}
 use Rattle.net_verilog.specs.Tokens.{TokenValue}
 use Rattle.net_verilog.specs.private.Gates.{IsDriverOn, IsStackOn}
 use Rattle.net_verilog.specs.private.Standing.{Holding}
@@ -12,6 +12,7 @@ invariant-loop-ended l =
     record {
       held : (declared : Declarations) → (start : NetList) → (tokens : List TokenValue) → (here : List TokenValue) → Holding declared start tokens l.cap l.fn.maker l.fn.stack l.fn.driver here → Holding declared start tokens l.cap l.maker l.stack l.last here;
       on : IsStackOn l.maker l.stack;
+      grows : nets l.fn.maker ≤ nets l.maker;
       last : IsDriverOn l.maker l.last;
     }
 

@@ -1,4 +1,5 @@
-use Rattle.std.proofs.Common.{length}
+use Rattle.std.proofs.Common.{◌≤◌, length}
+use Rattle.net_core.specs.NetList.{nets}
 use Rattle.net_verilog.specs.private.Places.{left}
 use Rattle.net_verilog.specs.private.Gates.{IsLastOn, IsStackOn}
 use Rattle.net_verilog.specs.private.Standing.{Met}
@@ -11,6 +12,8 @@ invariant-loop-driver l =
       met : Met l.declared l.fn.maker (left l.place) l.maker l.stack l.last (left l.here);
       on : IsStackOn l.maker l.stack;
       last : IsLastOn l.maker l.last;
+      grows : nets l.fn.maker ≤ nets l.maker;
+      shorter : length l.here.rest.now ≤ length l.place.rest.now;
     }
 
 abbrev pub decreases-loop-driver : goal.decreases-loop-driver
