@@ -16,3 +16,5 @@ mod TableLemmas
 mod SpotLemmas
 mod ReadLemmas
 mod ExpressionDetermined
+mod AssignLemmas
+mod SeveralLemmas

@@ -8,5 +8,6 @@ pub mod Made
 pub mod Expression
 pub mod Parts
 pub mod Assigns
+pub mod Several
 pub mod Value
 pub mod private

@@ -3,6 +3,7 @@
 #![tactic(auto)]
 
 mod assign;
+mod assign_list;
 mod cursor;
 mod declared;
 mod expression;
@@ -20,6 +21,7 @@ mod target;
 mod words;
 
 pub use assign::read_assignment;
+pub use assign_list::read_assignments;
 pub use cursor::{Cursor, Token};
 pub use declared::{Declared, Direction};
 pub use expression::read_expression;
