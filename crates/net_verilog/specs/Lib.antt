@@ -9,5 +9,6 @@ pub mod Expression
 pub mod Parts
 pub mod Assigns
 pub mod Several
+pub mod Instances
 pub mod Value
 pub mod private
