@@ -7,7 +7,7 @@ use Rattle.net_verilog.specs.declared.kind.Kind.{Kind}
 use Rattle.net_verilog.specs.declared.kind.Kind.TheVariants as kinds
 use Rattle.net_verilog.specs.Tree.{looseness}
 use Rattle.net_verilog.specs.Made.{settled}
-use Rattle.net_verilog.specs.Expression.{Expression, close_fault, goes_on}
+use Rattle.net_verilog.specs.Expression.{Expression, binding, binding_at, close_fault, goes_on}
 use Rattle.net_verilog.specs.private.Gates.{IsRefused, IsStackOn}
 use Rattle.net_verilog.specs.Declarations.{Declarations}
 use Rattle.net_verilog.specs.declared.operator.Operator.{Operator}
@@ -30,16 +30,22 @@ Keeps cap net old driver more new last = (declared : Declarations) → (start : 
 abbrev pub Refuses : NetList → List Frame → Driver → List TokenValue → VerilogFault → Type 0
 Refuses net old driver here fault = (declared : Declarations) → (start : NetList) → (tokens : List TokenValue) → Holding declared start tokens 0 net old driver here → Expression declared start tokens (Err fault)
 
-pub end_fault : (cap : ℕ) (net : NetList) (old : List Frame) (driver : Driver) (here : List TokenValue) (fault : VerilogFault) → (fault ≡ faults.OutOfMemory) ⊎ ((declared : Declarations) → (start : NetList) → (tokens : List TokenValue) → (here : List TokenValue) → Holding declared start tokens cap net old driver here → Expression declared start tokens (Err fault)) → (fault ≡ faults.OutOfMemory) ⊎ Refuses net old driver here fault
-end_fault cap net old driver here fault (inl e) = inl e
-end_fault cap net old driver here fault (inr refuses) = inr (λ declared start tokens h. refuses declared start tokens here (raised declared start tokens net old driver here 0 cap (omega arith) h))
+-- a cap that the next token sets
+pub ends_before : (cap : ℕ) (here : List TokenValue) (t : TokenValue) (ts : List TokenValue) (next : Next) → here ≡ t ∷ ts → next_of t ≡ next → cap ≡ binding next → cap ≤ binding_at here
+ends_before cap here t ts next split is same =
+    let at : binding_at here ≡ binding next = ap binding_at split ∙ ap binding is in
+    omega (arith, at, same)
+
+pub end_fault : (cap : ℕ) (net : NetList) (old : List Frame) (driver : Driver) (here : List TokenValue) (fault : VerilogFault) → cap ≤ binding_at here → (fault ≡ faults.OutOfMemory) ⊎ ((declared : Declarations) → (start : NetList) → (tokens : List TokenValue) → (here : List TokenValue) → Holding declared start tokens cap net old driver here → Expression declared start tokens (Err fault)) → (fault ≡ faults.OutOfMemory) ⊎ Refuses net old driver here fault
+end_fault cap net old driver here fault ends (inl e) = inl e
+end_fault cap net old driver here fault ends (inr refuses) = inr (λ declared start tokens h. refuses declared start tokens here (raised declared start tokens net old driver here 0 cap (omega arith) ends h))
 
 -- what stands where an operand was read, and after all that the cap ends
-module _ (cap : ℕ) (net more : NetList) (old mid : List Frame) (driver last : Driver) (here : List TokenValue) (t : TokenValue) (ts : List TokenValue) (split : here ≡ t ∷ ts) (keeps : Keeps cap net old driver more mid last) where
+module _ (cap : ℕ) (net more : NetList) (old mid : List Frame) (driver last : Driver) (here : List TokenValue) (t : TokenValue) (ts : List TokenValue) (split : here ≡ t ∷ ts) (ends : cap ≤ binding_at here) (keeps : Keeps cap net old driver more mid last) where
   after_ends : (declared : Declarations) (start : NetList) (tokens : List TokenValue) → Holding declared start tokens 0 net old driver here → Holding declared start tokens cap more mid last (t ∷ ts)
   after_ends declared start tokens h =
       let P : List TokenValue → Type 0 = λ r. Holding declared start tokens cap more mid last r in
-      subst P split (keeps declared start tokens here (raised declared start tokens net old driver here 0 cap (omega arith) h))
+      subst P split (keeps declared start tokens here (raised declared start tokens net old driver here 0 cap (omega arith) ends h))
 
   capped : (operator : Operator) → cap ≡ looseness operator → (declared : Declarations) (start : NetList) (tokens : List TokenValue) → Holding declared start tokens 0 net old driver here → Holding declared start tokens (looseness operator) more mid last (t ∷ ts)
   capped operator is declared start tokens h =
@@ -74,10 +80,10 @@ module _ (cap : ℕ) (net more : NetList) (old mid : List Frame) (driver last : 
   group_wrong frame fault top group is (inr e) = inr (λ declared start tokens h. group_refused declared start tokens cap more (drop 1 mid) last (t ∷ ts) fault (grouped frame top group declared start tokens h) (ap (λ k. close_fault k t) is ∙ ap Some (sym e)))
 
   pub done_step : (next : Next) → mid ≡ [] → next_of t ≡ next → goes_on next ≡ false → (declared : Declarations) (start : NetList) (tokens : List TokenValue) → Holding declared start tokens 0 net old driver here → Expression declared start tokens (Ok (record { net = more; driver = last; rest = here }))
-  done_step next none is ends declared start tokens h =
+  done_step next none is stops declared start tokens h =
       let P : List Frame → Type 0 = λ s. Holding declared start tokens cap more s last (t ∷ ts) in
       let Q : List TokenValue → Type 0 = λ r. Expression declared start tokens (Ok (record { net = more; driver = last; rest = r })) in
-      subst Q (sym split) (whole declared start tokens cap more last (t ∷ ts) (subst P none (after_ends declared start tokens h)) (ap goes_on is ∙ ends))
+      subst Q (sym split) (whole declared start tokens cap more last (t ∷ ts) (subst P none (after_ends declared start tokens h)) (ap goes_on is ∙ stops))
 
 -- the net of a left operand is there
 pub left_on : (more final : NetList) (mid new : List Frame) (line : ℕ) (operator : Operator) (n : ℕ) → new ≡ frames.Left line operator n ∷ mid → n < nets final → nets more ≤ nets final → IsStackOn more mid → IsStackOn final new

@@ -6,7 +6,7 @@ use Rattle.net_verilog.specs.Tokens.{TokenValue}
 use Rattle.net_verilog.specs.Words.{next_of}
 use Rattle.net_verilog.specs.Tree.{Tree, Group, Binary, IsWell, level, nesting, looseness, Spells, Cut, InGroup, InRight, AreWell, allowed, depth, Begins}
 use Rattle.net_verilog.specs.Made.{on_value, made, settled, opened}
-use Rattle.net_verilog.specs.Expression.{Expression, continues, group_fault}
+use Rattle.net_verilog.specs.Expression.{Expression, binding_at, continues, group_fault}
 use Rattle.net_verilog.specs.Declarations.{Declarations}
 use Rattle.net_verilog.specs.declared.operator.Operator.{Operator}
 use Rattle.net_verilog.specs.declared.operator.Driver.{Driver}
@@ -74,12 +74,13 @@ ended declared start tokens cap net stack driver here line operator number h =
 pub end_right : (declared : Declarations) (start : NetList) (tokens : List TokenValue) (cap : ℕ) (net more : NetList) (stack : List Frame) (driver : Driver) (here : List TokenValue) (line : ℕ) (operator : Operator) (number n : ℕ) → Holding declared start tokens cap net (frames.Left line operator number ∷ stack) driver here → looseness operator ≤ cap → settled net driver ≡ Ok (more, n) → Holding declared start tokens cap more stack (drivers.Binary line operator number n) here
 end_right declared start tokens cap net more stack driver here line operator number n h below settles =
     let e = ended declared start tokens cap net stack driver here line operator number h in
-    record { cuts = e.cuts; tree = Binary line operator e.left h.tree; between = e.between; mid = e.before; begins = e.begins; well = e.well; spells = e.spells; tree_well = e.tree_well; low = below; fits = e.fits; flat = e.flat; opens = e.opens; makes = e.makes ∙ ap (on_value (λ (b : NetList × ℕ). Ok (b.0, drivers.Binary line operator number b.1))) settles }
+    record { cuts = e.cuts; tree = Binary line operator e.left h.tree; between = e.between; mid = e.before; begins = e.begins; well = e.well; spells = e.spells; tree_well = e.tree_well; low = below; ends = h.ends; fits = e.fits; flat = e.flat; opens = e.opens; makes = e.makes ∙ ap (on_value (λ (b : NetList × ℕ). Ok (b.0, drivers.Binary line operator number b.1))) settles }
 
-pub right_refused : (declared : Declarations) (start : NetList) (tokens : List TokenValue) (cap : ℕ) (net : NetList) (stack : List Frame) (driver : Driver) (here : List TokenValue) (line : ℕ) (operator : Operator) (number : ℕ) (refusal : NetFault) → Holding declared start tokens cap net (frames.Left line operator number ∷ stack) driver here → settled net driver ≡ Err refusal → Expression declared start tokens (Err (faults.Net refusal))
-right_refused declared start tokens cap net stack driver here line operator number refusal h settles =
+pub right_refused : (declared : Declarations) (start : NetList) (tokens : List TokenValue) (cap : ℕ) (net : NetList) (stack : List Frame) (driver : Driver) (here : List TokenValue) (line : ℕ) (operator : Operator) (number : ℕ) (refusal : NetFault) → Holding declared start tokens cap net (frames.Left line operator number ∷ stack) driver here → looseness operator ≤ cap → settled net driver ≡ Err refusal → Expression declared start tokens (Err (faults.Net refusal))
+right_refused declared start tokens cap net stack driver here line operator number refusal h below settles =
+    let ends = h.ends in
     let e = ended declared start tokens cap net stack driver here line operator number h in
-    inr (inr (refusal, inr (e.cuts, Binary line operator e.left h.tree, e.between, here, (e.before, stack), e.begins, e.well, e.spells, e.tree_well, e.opens, e.makes ∙ ap (on_value (λ (b : NetList × ℕ). Ok (b.0, drivers.Binary line operator number b.1))) settles), refl))
+    inr (inr (refusal, inr (e.cuts, Binary line operator e.left h.tree, e.between, here, (e.before, stack), e.begins, e.well, e.spells, e.tree_well, e.fits, omega (arith, below, ends), e.flat, e.opens, e.makes ∙ ap (on_value (λ (b : NetList × ℕ). Ok (b.0, drivers.Binary line operator number b.1))) settles), refl))
 
 -- an operator after its left operand
 left_opened : (start mid net : NetList) (cuts : List Cut) (tree : Tree) (stack : List Frame) (driver : Driver) (line : ℕ) (operator : Operator) → opened start cuts ≡ Ok (mid, stack) → made mid tree ≡ Ok (net, driver) → opened start (InRight line operator tree ∷ cuts) ≡ on_value (λ (a : NetList × ℕ). Ok (a.0, frames.Left line operator a.1 ∷ stack)) (settled net driver)
@@ -121,7 +122,7 @@ close_group declared start tokens cap net stack driver u rest h is =
     let W : List Cut → Type 0 = AreWell in
     let well : AreWell (InGroup ∷ o.0) = subst W o.1 h.well in
     let flat : nesting h.tree + (1 + depth o.0) ≤ 1024 = let F : List Cut → Type 0 = λ cuts. nesting h.tree + depth cuts ≤ 1024 in subst F o.1 h.flat in
-    record { cuts = o.0; tree = Group h.tree; between = begins.0 ∷ h.between; mid = h.mid; begins = begins.1; well = well.0; spells = (begins.0, u, h.between, refl, begins.2, h.spells, is); tree_well = h.tree_well; low = omega arith; fits = omega arith; flat = omega (arith, flat); opens = o.2; makes = h.makes }
+    record { cuts = o.0; tree = Group h.tree; between = begins.0 ∷ h.between; mid = h.mid; begins = begins.1; well = well.0; spells = (begins.0, u, h.between, refl, begins.2, h.spells, is); tree_well = h.tree_well; low = omega arith; ends = omega arith; fits = omega arith; flat = omega (arith, flat); opens = o.2; makes = h.makes }
 
 -- a group that neither goes on nor is closed
 pub group_refused : (declared : Declarations) (start : NetList) (tokens : List TokenValue) (cap : ℕ) (net : NetList) (stack : List Frame) (driver : Driver) (here : List TokenValue) (fault : VerilogFault) → Holding declared start tokens cap net (frames.Group ∷ stack) driver here → group_fault here ≡ Some fault → Expression declared start tokens (Err fault)
@@ -129,8 +130,9 @@ group_refused declared start tokens cap net stack driver here fault h is =
     let o = group_open start h.mid h.cuts stack h.opens in
     let B : List Cut → Type 0 = λ cuts. Begins declared cuts tokens h.between in
     let W : List Cut → Type 0 = AreWell in
+    let F : List Cut → Type 0 = λ cuts. nesting h.tree + depth cuts ≤ 1024 in
     let O : List Cut → Type 0 = λ cuts. opened start cuts ≡ Ok (h.mid, frames.Group ∷ stack) in
-    inr (inl (o.0, h.tree, h.between, here, (h.mid, frames.Group ∷ stack), (net, driver), subst B o.1 h.begins, subst W o.1 h.well, h.spells, h.tree_well, subst O o.1 h.opens, h.makes, is))
+    inr (inl (o.0, h.tree, h.between, here, (h.mid, frames.Group ∷ stack), (net, driver), subst B o.1 h.begins, subst W o.1 h.well, h.spells, h.tree_well, subst F o.1 h.flat, subst O o.1 h.opens, h.makes, is))
 
 -- the expression ends
 pub whole : (declared : Declarations) (start : NetList) (tokens : List TokenValue) (cap : ℕ) (net : NetList) (driver : Driver) (here : List TokenValue) → Holding declared start tokens cap net [] driver here → continues here ≡ false → Expression declared start tokens (Ok (record { net = net; driver = driver; rest = here }))
@@ -144,7 +146,7 @@ whole declared start tokens cap net driver here h ends =
     (h.tree, subst S (sym begins) h.spells, h.tree_well, omega (arith, flat), ends, subst M (sym o.1) h.makes)
 
 -- a higher cap
-pub raised : (declared : Declarations) (start : NetList) (tokens : List TokenValue) (net : NetList) (stack : List Frame) (driver : Driver) (here : List TokenValue) (low cap : ℕ) → low ≤ cap → Holding declared start tokens low net stack driver here → Holding declared start tokens cap net stack driver here
-raised declared start tokens net stack driver here low cap more h =
+pub raised : (declared : Declarations) (start : NetList) (tokens : List TokenValue) (net : NetList) (stack : List Frame) (driver : Driver) (here : List TokenValue) (low cap : ℕ) → low ≤ cap → cap ≤ binding_at here → Holding declared start tokens low net stack driver here → Holding declared start tokens cap net stack driver here
+raised declared start tokens net stack driver here low cap more ends h =
     let below = h.low in
-    record { cuts = h.cuts; tree = h.tree; between = h.between; mid = h.mid; begins = h.begins; well = h.well; spells = h.spells; tree_well = h.tree_well; low = omega (arith, below, more); fits = h.fits; flat = h.flat; opens = h.opens; makes = h.makes }
+    record { cuts = h.cuts; tree = h.tree; between = h.between; mid = h.mid; begins = h.begins; well = h.well; spells = h.spells; tree_well = h.tree_well; low = omega (arith, below, more); ends = ends; fits = h.fits; flat = h.flat; opens = h.opens; makes = h.makes }

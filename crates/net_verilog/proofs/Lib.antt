@@ -11,3 +11,10 @@ pub mod ValueLemmas
 pub mod KeepLemmas
 pub mod TreeLemmas
 mod Examples
+mod DecimalLemmas
+mod TableLemmas
+mod SpotLemmas
+mod ReadLemmas
+mod ExpressionDetermined
+mod AssignLemmas
+mod SeveralLemmas

@@ -61,17 +61,18 @@ few_open (InRight line o left ∷ cuts) well = few_open cuts well.0
 pub hold_literal : (declared : Declarations) (start : NetList) (tokens : List TokenValue) (net : NetList) (stack : List Frame) (t : TokenValue) (ts : List TokenValue) (bit : Bool) → Standing declared start tokens net stack (t ∷ ts) → start_of t ≡ starts.Bit bit → Holding declared start tokens 0 net stack (drivers.Literal t.line bit) ts
 hold_literal declared start tokens net stack t ts bit s is =
     let few = few_open s.cuts s.well in
-    record { cuts = s.cuts; tree = Literal t.line bit; between = t ∷ ts; mid = net; begins = s.begins; well = s.well; spells = (t, refl, is, refl); tree_well = tt; low = omega arith; fits = omega arith; flat = omega (arith, few); opens = s.opens; makes = refl }
+    record { cuts = s.cuts; tree = Literal t.line bit; between = t ∷ ts; mid = net; begins = s.begins; well = s.well; spells = (t, refl, is, refl); tree_well = tt; low = omega arith; ends = omega arith; fits = omega arith; flat = omega (arith, few); opens = s.opens; makes = refl }
 
 -- a target
 pub hold_target : (declared : Declarations) (start : NetList) (tokens : List TokenValue) (net more : NetList) (stack : List Frame) (here rest : List TokenValue) (name : List ℕ) (n : ℕ) → Standing declared start tokens net stack here → target_of declared here ≡ Ok (name, rest) → mentioned net name ≡ Ok (more, n) → Holding declared start tokens 0 more stack (drivers.Wire n) rest
 hold_target declared start tokens net more stack here rest name n s is mention =
     let few = few_open s.cuts s.well in
-    record { cuts = s.cuts; tree = Net name; between = here; mid = net; begins = s.begins; well = s.well; spells = is; tree_well = tt; low = omega arith; fits = omega arith; flat = omega (arith, few); opens = s.opens; makes = ap (on_value (λ (p : NetList × ℕ). Ok (p.0, drivers.Wire p.1))) mention }
+    record { cuts = s.cuts; tree = Net name; between = here; mid = net; begins = s.begins; well = s.well; spells = is; tree_well = tt; low = omega arith; ends = omega arith; fits = omega arith; flat = omega (arith, few); opens = s.opens; makes = ap (on_value (λ (p : NetList × ℕ). Ok (p.0, drivers.Wire p.1))) mention }
 
 pub target_refused : (declared : Declarations) (start : NetList) (tokens : List TokenValue) (net : NetList) (stack : List Frame) (here rest : List TokenValue) (name : List ℕ) (refusal : NetFault) → Standing declared start tokens net stack here → target_of declared here ≡ Ok (name, rest) → mentioned net name ≡ Err refusal → Expression declared start tokens (Err (faults.Net refusal))
 target_refused declared start tokens net stack here rest name refusal s is mention =
-    inr (inr (refusal, inr (s.cuts, Net name, here, rest, (net, stack), s.begins, s.well, is, tt, s.opens, ap (on_value (λ (p : NetList × ℕ). Ok (p.0, drivers.Wire p.1))) mention), refl))
+    let few = few_open s.cuts s.well in
+    inr (inr (refusal, inr (s.cuts, Net name, here, rest, (net, stack), s.begins, s.well, is, tt, omega arith, omega arith, omega (arith, few), s.opens, ap (on_value (λ (p : NetList × ℕ). Ok (p.0, drivers.Wire p.1))) mention), refl))
 
 -- a fault where an operand is wanted
 pub operand_refused : (declared : Declarations) (start : NetList) (tokens : List TokenValue) (net : NetList) (stack : List Frame) (here : List TokenValue) (fault : VerilogFault) → Standing declared start tokens net stack here → operand_fault declared (count_open stack) here ≡ Some fault → Expression declared start tokens (Err fault)
@@ -99,6 +100,7 @@ end_not declared start tokens cap net more stack driver here line n h settles =
       spells = (begins.0, h.between, refl, begins.2, begins.3, h.spells);
       tree_well = (h.tree_well, fits);
       low = omega arith;
+      ends = h.ends;
       fits = omega arith;
       flat = omega (arith, flat);
       opens = o.2;
@@ -113,6 +115,7 @@ not_refused declared start tokens cap net stack driver here line refusal h settl
     let W : List Cut → Type 0 = AreWell in
     let well : AreWell (InNot line ∷ o.0) = subst W o.1 h.well in
     let fits : level h.tree ≤ 0 = let F : List Cut → Type 0 = λ cuts. level h.tree ≤ allowed cuts in subst F o.1 h.fits in
+    let flat : nesting h.tree + (1 + depth o.0) ≤ 1024 = let F : List Cut → Type 0 = λ cuts. nesting h.tree + depth cuts ≤ 1024 in subst F o.1 h.flat in
     inr (inr (
       refusal,
       inr (
@@ -125,6 +128,9 @@ not_refused declared start tokens cap net stack driver here line refusal h settl
         well.0,
         (begins.0, h.between, refl, begins.2, begins.3, h.spells),
         (h.tree_well, fits),
+        omega arith,
+        omega arith,
+        omega (arith, flat),
         o.2,
         ap (on_value (λ (p : NetList × Driver). on_value (λ (q : NetList × ℕ). Ok (q.0, drivers.Not line q.1)) (settled p.0 p.1))) h.makes ∙ ap (on_value (λ (q : NetList × ℕ). Ok (q.0, drivers.Not line q.1))) settles,
       ),

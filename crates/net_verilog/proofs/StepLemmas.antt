@@ -43,12 +43,12 @@ right_step old new line number n cap loose operator net more driver is popped sa
     let Q : List Frame → Type 0 = λ s. Holding declared start tokens cap more s (drivers.Binary line operator number n) here in
     subst Q (sym popped) (end_right declared start tokens cap net more (drop 1 old) driver here line operator number n (subst P is h) (omega (arith, same, below)) settles)
 
-pub right_fault : (old : List Frame) (line number cap : ℕ) (operator : Operator) (net : NetList) (driver : Driver) (fault : VerilogFault) → old ≡ frames.Left line operator number ∷ drop 1 old → IsRefused (settled net driver) fault → (fault ≡ faults.OutOfMemory) ⊎ ((declared : Declarations) → (start : NetList) → (tokens : List TokenValue) → (here : List TokenValue) → Holding declared start tokens cap net old driver here → Expression declared start tokens (Err fault))
-right_fault old line number cap operator net driver fault is (inl e) = inl e
-right_fault old line number cap operator net driver fault is (inr (refusal, settles, e)) = inr (λ declared start tokens here h.
+pub right_fault : (old : List Frame) (line number cap : ℕ) (operator : Operator) (net : NetList) (driver : Driver) (fault : VerilogFault) → old ≡ frames.Left line operator number ∷ drop 1 old → looseness operator ≤ cap → IsRefused (settled net driver) fault → (fault ≡ faults.OutOfMemory) ⊎ ((declared : Declarations) → (start : NetList) → (tokens : List TokenValue) → (here : List TokenValue) → Holding declared start tokens cap net old driver here → Expression declared start tokens (Err fault))
+right_fault old line number cap operator net driver fault is below (inl e) = inl e
+right_fault old line number cap operator net driver fault is below (inr (refusal, settles, e)) = inr (λ declared start tokens here h.
     let P : List Frame → Type 0 = λ s. Holding declared start tokens cap net s driver here in
     let Q : VerilogFault → Type 0 = λ f. Expression declared start tokens (Err f) in
-    subst Q (sym e) (right_refused declared start tokens cap net (drop 1 old) driver here line operator number refusal (subst P is h) settles))
+    subst Q (sym e) (right_refused declared start tokens cap net (drop 1 old) driver here line operator number refusal (subst P is h) below settles))
 
 -- nets that there are stay
 pub stack_more : (net more : NetList) (stack : List Frame) → nets net ≤ nets more → IsStackOn net stack → IsStackOn more stack

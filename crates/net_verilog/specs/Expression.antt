@@ -1,12 +1,12 @@
 -- What comes of an expression: its tree and its nets, or its first fault. Source: IEEE Std 1364-2005, in the profile of docs/FORMATS.md.
-use Rattle.std.specs.Prelude.{◌≡◌, ◌⊎◌, ℕ, ◌≤◌, nat_le, Bool, true, false, List, [], ◌∷◌, Option, None, Some, Ok, Err, if◌then◌else◌}
+use Rattle.std.specs.Prelude.{◌≡◌, ◌⊎◌, ℕ, ◌+◌, ◌≤◌, nat_le, Bool, true, false, List, [], ◌∷◌, Option, None, Some, Ok, Err, if◌then◌else◌}
 use Rattle.text_core.specs.Outcome.{Outcome}
 use Rattle.net_core.specs.NetList.{NetList}
 use Rattle.net_core.specs.declared.fault.NetFault.{NetFault}
 use Rattle.net_verilog.specs.Tokens.{TokenValue}
 use Rattle.net_verilog.specs.Words.{start_of, next_of, wrong}
 use Rattle.net_verilog.specs.Targets.{Answer, target_of}
-use Rattle.net_verilog.specs.Tree.{Tree, IsWell, nesting, Spells, Cut, InGroup, AreWell, depth, Begins}
+use Rattle.net_verilog.specs.Tree.{Tree, IsWell, level, looseness, nesting, Spells, Cut, InGroup, AreWell, allowed, depth, Begins}
 use Rattle.net_verilog.specs.Made.{made, opened}
 use Rattle.net_verilog.specs.Declarations.{Declarations}
 use Rattle.net_verilog.specs.declared.operator.Driver.{Driver}
@@ -32,6 +32,15 @@ goes_on next = false
 abbrev pub continues : List TokenValue → Bool
 continues [] = false
 continues (t ∷ ts) = goes_on (next_of t)
+
+-- how loosely an expression may bind that ends before a token: before an operator no more loosely than it
+abbrev pub binding : Next → ℕ
+binding (nexts.Operator operator) = looseness operator
+binding next = 3
+
+abbrev pub binding_at : List TokenValue → ℕ
+binding_at [] = 3
+binding_at (t ∷ ts) = binding (next_of t)
 
 abbrev pub target_fault : Answer (List ℕ) → Option VerilogFault
 target_fault (Ok r) = None
@@ -68,13 +77,13 @@ BreaksAtOperand declared start tokens fault = (cuts : List Cut) × (here : List 
 
 -- where the innermost thing open is a group with an expression in it, all of which has been made
 abbrev pub BreaksInGroup : Declarations → NetList → List TokenValue → VerilogFault → Type 0
-BreaksInGroup declared start tokens fault = (cuts : List Cut) × (inner : Tree) × (between : List TokenValue) × (here : List TokenValue) × (p : NetList × List Frame) × (q : NetList × Driver) × Begins declared (InGroup ∷ cuts) tokens between × AreWell (InGroup ∷ cuts) × Spells declared inner between here × IsWell inner × (opened start (InGroup ∷ cuts) ≡ Ok p) × (made p.0 inner ≡ Ok q) × (group_fault here ≡ Some fault)
+BreaksInGroup declared start tokens fault = (cuts : List Cut) × (inner : Tree) × (between : List TokenValue) × (here : List TokenValue) × (p : NetList × List Frame) × (q : NetList × Driver) × Begins declared (InGroup ∷ cuts) tokens between × AreWell (InGroup ∷ cuts) × Spells declared inner between here × IsWell inner × (nesting inner + depth (InGroup ∷ cuts) ≤ 1024) × (opened start (InGroup ∷ cuts) ≡ Ok p) × (made p.0 inner ≡ Ok q) × (group_fault here ≡ Some fault)
 
--- where the net of a left operand before a place, or of what an expression stands on, passes a limit
+-- where the net of a left operand before a place, or of what an expression stands on that ends at one, passes a limit
 abbrev pub BreaksLimit : Declarations → NetList → List TokenValue → NetFault → Type 0
 BreaksLimit declared start tokens refusal =
     ((cuts : List Cut) × (here : List TokenValue) × Begins declared cuts tokens here × AreWell cuts × (opened start cuts ≡ Err refusal))
-    ⊎ ((cuts : List Cut) × (tree : Tree) × (between : List TokenValue) × (here : List TokenValue) × (p : NetList × List Frame) × Begins declared cuts tokens between × AreWell cuts × Spells declared tree between here × IsWell tree × (opened start cuts ≡ Ok p) × (made p.0 tree ≡ Err refusal))
+    ⊎ ((cuts : List Cut) × (tree : Tree) × (between : List TokenValue) × (here : List TokenValue) × (p : NetList × List Frame) × Begins declared cuts tokens between × AreWell cuts × Spells declared tree between here × IsWell tree × (level tree ≤ allowed cuts) × (level tree ≤ binding_at here) × (nesting tree + depth cuts ≤ 1024) × (opened start cuts ≡ Ok p) × (made p.0 tree ≡ Err refusal))
 
 -- The longest expression with which the tokens begin, or the first fault where none stands.
 abbrev pub Expression : Declarations → NetList → List TokenValue → Outcome VerilogFault Read

@@ -6,5 +6,9 @@ pub mod Targets
 pub mod Tree
 pub mod Made
 pub mod Expression
+pub mod Parts
+pub mod Assigns
+pub mod Several
+pub mod Instances
 pub mod Value
 pub mod private

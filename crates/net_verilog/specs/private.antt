@@ -1,4 +1,6 @@
 pub mod Places
+pub mod Decimals
+pub mod Entries
 pub mod Steps
 pub mod Gates
 pub mod Standing

@@ -2,23 +2,41 @@
 //! The readers of declarations, statements and modules are to come.
 #![tactic(auto)]
 
+mod assign;
+mod assign_list;
 mod cursor;
 mod declared;
+mod expression;
 mod fault;
+mod gate_kind;
 mod gates;
+mod inputs;
 mod kind;
 mod laws;
 mod operator;
+mod parts;
 mod piece;
+mod sign;
 mod stack;
+mod table;
+mod target;
 mod words;
 
+pub use assign::read_assignment;
+pub use assign_list::read_assignments;
 pub use cursor::{Cursor, Token};
 pub use declared::{Declared, Direction};
+pub use expression::read_expression;
 pub use fault::VerilogFault;
 pub use gates::{drive, mentioned, settle};
+pub use gate_kind::{fits, gate_of, gate_table, GateKind};
+pub use inputs::read_inputs;
 pub use kind::Kind;
-pub use laws::assigned_net_has_the_value;
+pub use laws::{assigned_net_has_the_value, one_expression_or_fault};
 pub use operator::{Driver, Operator};
 use operator::{Frame, Next, Start};
+pub use parts::{is_sign, read_identifier, read_range, take};
+pub use sign::Sign;
+pub use table::Table;
+pub use target::read_target;
 pub use words::wrong;

@@ -1,11 +1,14 @@
 //! What words and numbers are.
 ghost use Rattle.std.specs.Prelude.{◌≡◌, ◌⊎◌, IfOk, IfErr};
-ghost use Rattle.net_verilog.specs.Words.{bit_of as bit_that, is_base as base_is, is_keyword as keyword_is, literal_of as literal_that, next_kind, start_of as start_that, wrong as wrong_token};
+ghost use Rattle.std.specs.List.{list_all};
+ghost use Rattle.net_verilog.specs.Bytes.{is_digit as digit_is};
+ghost use Rattle.net_verilog.specs.Words.{bit_of as bit_that, is_base as base_is, is_decimal as decimal_is, is_keyword as keyword_is, literal_of as literal_that, next_kind, start_of as start_that, wrong as wrong_token};
 ghost use Rattle.net_verilog.specs.Tokens.{is_end as end_is};
 ghost use Rattle.net_verilog.specs.Targets.{is_close_index as close_index_is, is_open_index as open_index_is};
 ghost use Rattle.net_verilog.specs.private.Places.{Prints, value_of};
 ghost use Rattle.text_core.specs.Lines.{IsPrinting};
 
+use crate::piece::is_digit;
 use crate::{Kind, Next, Operator, Start, Token, VerilogFault};
 use net_core::Name;
 use std::alloc::Global;
@@ -61,6 +64,19 @@ fn literal_of(text: &[u8]) -> Option<bool>
         }
         _ => None,
     }
+}
+
+fn are_digits(text: &[u8]) -> bool
+    ensures { result ≡ list_all digit_is text.now }
+{
+    text.iter().all(|b| is_digit(*b))
+}
+
+/// Whether there are decimal digits alone.
+pub fn is_decimal(text: &[u8]) -> bool
+    ensures { result ≡ decimal_is text.now }
+{
+    0 < text.len() && are_digits(text)
 }
 
 /// What a token does where an operand is wanted.

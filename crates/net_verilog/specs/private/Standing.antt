@@ -5,6 +5,7 @@ use Rattle.net_verilog.specs.Tokens.{TokenValue}
 use Rattle.net_verilog.specs.Tree.{Tree, IsWell, looseness, level, nesting, Spells, Cut, AreWell, allowed, depth, Begins}
 use Rattle.net_verilog.specs.Made.{made, opened}
 use Rattle.net_verilog.specs.Declarations.{Declarations}
+use Rattle.net_verilog.specs.Expression.{binding_at}
 use Rattle.net_verilog.specs.declared.operator.Driver.{Driver}
 use Rattle.net_verilog.specs.declared.operator.Frame.{Frame}
 use Rattle.net_verilog.specs.declared.operator.Frame.TheVariants as frames
@@ -27,6 +28,7 @@ pub record Holding (declared : Declarations) (start : NetList) (tokens : List To
   pub spells : Spells declared tree between here
   pub tree_well : IsWell tree
   pub low : level tree ≤ cap
+  pub ends : cap ≤ binding_at here
   pub fits : level tree ≤ allowed cuts
   pub flat : nesting tree + depth cuts ≤ 1024
   pub opens : opened start cuts ≡ Ok (mid, stack)

@@ -1,0 +1,290 @@
+//! The reader of expressions.
+ghost use Rattle.std.specs.Prelude.{◌≡◌, ◌⊎◌, ◌<◌, ◌≤◌, ◌∷◌, [], ℕ, List, None, Some, Ok, Err, IfOk, IfErr, IfSome, IfNone, OnOk, length, drop};
+ghost use Rattle.net_core.specs.NetList.{NetList, nets};
+ghost use Rattle.net_verilog.specs.Tokens.{TokenValue};
+ghost use Rattle.net_verilog.specs.Declarations.{Declarations};
+ghost use Rattle.net_verilog.specs.Tree.{looseness as looseness_of};
+ghost use Rattle.net_verilog.specs.Expression.{Expression};
+ghost use Rattle.net_verilog.specs.private.Gates.{IsDriverOn, IsLastOn, IsStackOn};
+ghost use Rattle.net_verilog.specs.private.Places.{left, value_of};
+ghost use Rattle.net_verilog.specs.private.Standing.{Holding, Met, Standing, allows};
+
+use crate::gates::{mentioned, settle};
+use crate::stack::Stack;
+use crate::target::read_target;
+use crate::words::{is_end, left_out, next_of, start_of, wrong};
+use crate::{Cursor, Driver, Frame, Next, Operator, Start, Table, VerilogFault};
+use net_core::NetMaker;
+use std::alloc::Global;
+
+fn looseness(operator: Operator) -> u32
+    ensures same { result ≡ looseness_of operator }
+    ensures few { result ≤ 3 }
+{
+    match operator {
+        Operator::And => 1,
+        Operator::Xor | Operator::Xnor => 2,
+        Operator::Or => 3,
+    }
+}
+
+// Reads one token where an operand is wanted: `(`, `~`, or an operand.
+fn begin<'a>(
+    alloc: Global,
+    maker: &mut NetMaker,
+    declared: &Table,
+    stack: &mut Stack,
+    place: &Cursor<'a>,
+) -> Result<(Option<Driver>, Cursor<'a>), VerilogFault>
+    requires on { IsStackOn maker.old stack.old }
+    ensures met { IfOk result (λ r. (start : NetList) → (tokens : List TokenValue) → Standing declared.now start tokens maker.old stack.old (left place.now) → Met declared.now start tokens maker.new stack.new r.0 (left r.1)) }
+    ensures on { OnOk result (IsStackOn maker.new stack.new) }
+    ensures last { IfOk result (λ r. IsLastOn maker.new r.0) }
+    ensures shorter { IfOk result (λ r. length r.1.rest.now < length place.now.rest.now) }
+    ensures grows { OnOk result (nets maker.old ≤ nets maker.new) }
+    ensures fault { IfErr result (λ e. (e ≡ VerilogFault.OutOfMemory) ⊎ ((start : NetList) → (tokens : List TokenValue) → Standing declared.now start tokens maker.old stack.old (left place.now) → Expression declared.now start tokens (Err e))) }
+{
+    let (token, after) = place.next();
+    if is_end(token.kind) {
+        return Err(VerilogFault::Syntax { line: token.line });
+    }
+    match start_of(&token) {
+        Start::Group => {
+            if stack.open() >= 1024 {
+                return Err(left_out(alloc, token.line, token.text));
+            }
+            stack.push_group()?;
+            Ok((None, after))
+        }
+        Start::Not => {
+            if stack.open() >= 1024 {
+                return Err(left_out(alloc, token.line, token.text));
+            }
+            stack.push_not(token.line)?;
+            Ok((None, after))
+        }
+        Start::Bit(bit) => Ok((
+            Some(Driver::Literal {
+                line: token.line,
+                bit,
+            }),
+            after,
+        )),
+        Start::Target => {
+            let (name, after) = match read_target(alloc, declared, place) {
+                Ok(found) => found,
+                Err(fault) => return Err(fault),
+            };
+            match mentioned(maker, name.as_str()) {
+                Ok(net) => Ok((Some(Driver::Wire(net)), after)),
+                Err(fault) => Err(fault),
+            }
+        }
+        Start::Other => Err(wrong(alloc, &token)),
+    }
+}
+
+// Ends a `~` or an operator with its right operand, where the innermost one binds at least as tightly as the cap.
+fn end_one(
+    alloc: Global,
+    maker: &mut NetMaker,
+    stack: &mut Stack,
+    driver: Driver,
+    cap: u32,
+) -> Result<Option<Driver>, VerilogFault>
+    requires driver { IsDriverOn maker.old driver }
+    requires on { IsStackOn maker.old stack.old }
+    ensures ended { IfOk result (λ r. IfSome r (λ ended. (declared : Declarations) → (start : NetList) → (tokens : List TokenValue) → (here : List TokenValue) → Holding declared start tokens cap maker.old stack.old driver here → Holding declared start tokens cap maker.new stack.new ended here)) }
+    ensures none { IfOk result (λ r. IfNone r ((maker.new ≡ maker.old) × (stack.new ≡ stack.old) × (cap ≤ 3 → cap ≤ allows stack.new))) }
+    ensures group { IfOk result (λ r. IfNone r (cap ≡ 3 → (stack.new ≡ []) ⊎ (stack.new ≡ Frame.Group ∷ drop 1 stack.new))) }
+    ensures on { OnOk result (IsStackOn maker.new stack.new) }
+    ensures last { IfOk result (λ r. IfSome r (λ ended. IsDriverOn maker.new ended)) }
+    ensures shorter { IfOk result (λ r. IfSome r (λ ended. length stack.new < length stack.old)) }
+    ensures grows { OnOk result (nets maker.old ≤ nets maker.new) }
+    ensures fault { IfErr result (λ e. (e ≡ VerilogFault.OutOfMemory) ⊎ ((declared : Declarations) → (start : NetList) → (tokens : List TokenValue) → (here : List TokenValue) → Holding declared start tokens cap maker.old stack.old driver here → Expression declared start tokens (Err e))) }
+{
+    match stack.top() {
+        None => Ok(None),
+        Some(Frame::Group) => Ok(None),
+        Some(Frame::Not { line }) => match settle(alloc, maker, driver) {
+            Ok(net) => {
+                stack.pop();
+                Ok(Some(Driver::Not { line, net }))
+            }
+            Err(fault) => Err(fault),
+        },
+        Some(
+            Frame::Left {
+                line,
+                operator,
+                net: left,
+            },
+        ) => {
+            if looseness(operator) > cap {
+                return Ok(None);
+            }
+            match settle(alloc, maker, driver) {
+                Ok(right) => {
+                    stack.pop();
+                    Ok(Some(Driver::Binary {
+                        line,
+                        operator,
+                        left,
+                        right,
+                    }))
+                }
+                Err(fault) => Err(fault),
+            }
+        }
+    }
+}
+
+// Ends all that binds at least as tightly as the cap, up to a group.
+fn end_all(
+    alloc: Global,
+    maker: &mut NetMaker,
+    stack: &mut Stack,
+    driver: Driver,
+    cap: u32,
+) -> Result<Driver, VerilogFault>
+    requires driver { IsDriverOn maker.old driver }
+    requires on { IsStackOn maker.old stack.old }
+    requires cap { cap ≤ 3 }
+    ensures ended { IfOk result (λ ended. (declared : Declarations) → (start : NetList) → (tokens : List TokenValue) → (here : List TokenValue) → Holding declared start tokens cap maker.old stack.old driver here → Holding declared start tokens cap maker.new stack.new ended here) }
+    ensures room { OnOk result (cap ≤ allows stack.new) }
+    ensures group { OnOk result (cap ≡ 3 → (stack.new ≡ []) ⊎ (stack.new ≡ Frame.Group ∷ drop 1 stack.new)) }
+    ensures on { OnOk result (IsStackOn maker.new stack.new) }
+    ensures last { IfOk result (λ ended. IsDriverOn maker.new ended) }
+    ensures grows { OnOk result (nets maker.old ≤ nets maker.new) }
+    ensures fault { IfErr result (λ e. (e ≡ VerilogFault.OutOfMemory) ⊎ ((declared : Declarations) → (start : NetList) → (tokens : List TokenValue) → (here : List TokenValue) → Holding declared start tokens cap maker.old stack.old driver here → Expression declared start tokens (Err e))) }
+{
+    let mut last = driver;
+    loop {
+        match end_one(alloc, maker, stack, last, cap) {
+            Ok(Some(ended)) => {
+                last = ended;
+            }
+            Ok(None) => return Ok(last),
+            Err(fault) => return Err(fault),
+        }
+    }
+}
+
+// Reads one token where an operand was read: an operator, or a `)` that closes a group; else the expression has ended.
+fn go_on<'a>(
+    alloc: Global,
+    maker: &mut NetMaker,
+    stack: &mut Stack,
+    driver: Driver,
+    place: &Cursor<'a>,
+) -> Result<Result<(Option<Driver>, Cursor<'a>), Driver>, VerilogFault>
+    requires driver { IsDriverOn maker.old driver }
+    requires on { IsStackOn maker.old stack.old }
+    ensures met { IfOk result (λ r. IfOk r (λ more. (declared : Declarations) → (start : NetList) → (tokens : List TokenValue) → Holding declared start tokens 0 maker.old stack.old driver (left place.now) → Met declared start tokens maker.new stack.new more.0 (left more.1))) }
+    ensures on { OnOk result (IsStackOn maker.new stack.new) }
+    ensures last { IfOk result (λ r. IfOk r (λ more. IsLastOn maker.new more.0)) }
+    ensures shorter { IfOk result (λ r. IfOk r (λ more. length more.1.rest.now < length place.now.rest.now)) }
+    ensures done { IfOk result (λ r. IfErr r (λ last. (declared : Declarations) → (start : NetList) → (tokens : List TokenValue) → Holding declared start tokens 0 maker.old stack.old driver (left place.now) → Expression declared start tokens (Ok (record { net = maker.new; driver = last; rest = left place.now })))) }
+    ensures end { IfOk result (λ r. IfErr r (λ last. IsDriverOn maker.new last)) }
+    ensures grows { OnOk result (nets maker.old ≤ nets maker.new) }
+    ensures fault { IfErr result (λ e. (e ≡ VerilogFault.OutOfMemory) ⊎ ((declared : Declarations) → (start : NetList) → (tokens : List TokenValue) → Holding declared start tokens 0 maker.old stack.old driver (left place.now) → Expression declared start tokens (Err e))) }
+{
+    let (token, after) = place.next();
+    match next_of(token.kind) {
+        Next::Operator(operator) => {
+            let last = match end_all(alloc, maker, stack, driver, looseness(operator)) {
+                Ok(last) => last,
+                Err(fault) => return Err(fault),
+            };
+            let net = match settle(alloc, maker, last) {
+                Ok(net) => net,
+                Err(fault) => return Err(fault),
+            };
+            stack.push_left(token.line, operator, net)?;
+            Ok(Ok((None, after)))
+        }
+        Next::Close => {
+            let last = match end_all(alloc, maker, stack, driver, 3) {
+                Ok(last) => last,
+                Err(fault) => return Err(fault),
+            };
+            match stack.top() {
+                None => Ok(Err(last)),
+                Some(_) => {
+                    stack.pop();
+                    Ok(Ok((Some(last), after)))
+                }
+            }
+        }
+        Next::Other => {
+            let last = match end_all(alloc, maker, stack, driver, 3) {
+                Ok(last) => last,
+                Err(fault) => return Err(fault),
+            };
+            match stack.top() {
+                None => Ok(Err(last)),
+                Some(_) => Err(wrong(alloc, &token)),
+            }
+        }
+    }
+}
+
+// Reads one token of an expression.
+fn step<'a>(
+    alloc: Global,
+    maker: &mut NetMaker,
+    declared: &Table,
+    stack: &mut Stack,
+    last: Option<Driver>,
+    place: &Cursor<'a>,
+) -> Result<Result<(Option<Driver>, Cursor<'a>), Driver>, VerilogFault>
+    requires last { IsLastOn maker.old last }
+    requires on { IsStackOn maker.old stack.old }
+    ensures met { IfOk result (λ r. IfOk r (λ more. (start : NetList) → (tokens : List TokenValue) → Met declared.now start tokens maker.old stack.old last (left place.now) → Met declared.now start tokens maker.new stack.new more.0 (left more.1))) }
+    ensures on { OnOk result (IsStackOn maker.new stack.new) }
+    ensures last { IfOk result (λ r. IfOk r (λ more. IsLastOn maker.new more.0)) }
+    ensures shorter { IfOk result (λ r. IfOk r (λ more. length more.1.rest.now < length place.now.rest.now)) }
+    ensures done { IfOk result (λ r. IfErr r (λ driver. (start : NetList) → (tokens : List TokenValue) → Met declared.now start tokens maker.old stack.old last (left place.now) → Expression declared.now start tokens (Ok (record { net = maker.new; driver = driver; rest = left place.now })))) }
+    ensures end { IfOk result (λ r. IfErr r (λ driver. IsDriverOn maker.new driver)) }
+    ensures grows { OnOk result (nets maker.old ≤ nets maker.new) }
+    ensures fault { IfErr result (λ e. (e ≡ VerilogFault.OutOfMemory) ⊎ ((start : NetList) → (tokens : List TokenValue) → Met declared.now start tokens maker.old stack.old last (left place.now) → Expression declared.now start tokens (Err e))) }
+{
+    match last {
+        None => match begin(alloc, maker, declared, stack, place) {
+            Ok(more) => Ok(Ok(more)),
+            Err(fault) => Err(fault),
+        },
+        Some(driver) => match go_on(alloc, maker, stack, driver, place) {
+            Ok(found) => Ok(found),
+            Err(fault) => Err(fault),
+        },
+    }
+}
+
+/// Reads the longest expression with which the tokens from a place begin: what drives its net, and the place after it.
+pub fn read_expression<'a>(
+    alloc: Global,
+    maker: &mut NetMaker,
+    declared: &Table,
+    place: &Cursor<'a>,
+) -> Result<(Driver, Cursor<'a>), VerilogFault>
+    ensures read { IfOk result (λ r. Expression declared.now maker.old (left place.now) (Ok (record { net = maker.new; driver = r.0; rest = left r.1 }))) }
+    ensures on { IfOk result (λ r. IsDriverOn maker.new r.0) }
+    ensures shorter { IfOk result (λ r. length r.1.rest.now ≤ length place.now.rest.now) }
+    ensures grows { OnOk result (nets maker.old ≤ nets maker.new) }
+    ensures fault { IfErr result (λ e. (e ≡ VerilogFault.OutOfMemory) ⊎ Expression declared.now maker.old (left place.now) (Err e)) }
+{
+    let mut stack = Stack::new(alloc);
+    let mut last = None;
+    let mut here = *place;
+    loop {
+        match step(alloc, maker, declared, &mut stack, last, &here) {
+            Ok(Ok((driver, after))) => {
+                last = driver;
+                here = after;
+            }
+            Ok(Err(driver)) => return Ok((driver, here)),
+            Err(fault) => return Err(fault),
+        }
+    }
+}
