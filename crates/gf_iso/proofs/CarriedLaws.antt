@@ -1,5 +1,5 @@
 -- Values of polynomials whose coefficients are carried over to another ring.
-use Rattle.std.proofs.Common.{◌≡◌, ℕ, zero, suc, refl, sym, ◌∙◌, ap, ap₂, ◌<◌, ◌≤◌, ◌^◌, ◌*◌, ◌%◌, arith, pow_pos}
+use Rattle.std.proofs.Common.{◌≡◌, ℕ, zero, suc, refl, sym, ◌∙◌, ap, ap₂, ◌<◌, ◌≤◌, ◌^◌, ◌*◌, ◌%◌, arith, pow_pos, mod-lt}
 use Rattle.std.specs.Prelude.{bit_xor}
 use Rattle.std.specs.Int.Bits.{xor_self, xor_lt, xor_zero_l, xor_zero_r, xor_assoc}
 use native.Mathlib.Nat.{mod-eq_of_lt}
@@ -11,8 +11,9 @@ use Rattle.gf_field.specs.Power.{power}
 use Rattle.gf_field.specs.Polynomial.{coefficient, IsMonic}
 use Rattle.gf_field.specs.Quotient.{none, unit, plus, times, shift, rest, step, reduced, product}
 use Rattle.gf_field.specs.RingLaws.{distrib_left, mul_zero, zero_mul, mul_one, mul_left_comm}
-use Rattle.gf_field.specs.PackingLaws.{coefficient_one, shorten_xor}
-use Rattle.gf_field.specs.QuotientRingLaws.{parts, parts_of, parts-product}
+use Rattle.gf_field.specs.PackingLaws.{coefficient_one, shorten_xor, coefficient-packed, coefficient_below, coefficient_ends}
+use Rattle.gf_field.specs.QuotientLaws.{reduced_below, reduced_ends}
+use Rattle.gf_field.specs.QuotientRingLaws.{parts, product_below}
 use Rattle.gf_iso.specs.Root.{value_at}
 
 -- f keeps sums, products and 1 of all numbers
@@ -26,6 +27,15 @@ pub value_at_below : (k : ℕ) (big : ℕ → ℕ → ℕ) → IsRing k big → 
 unfolding value_at
 value_at_below k big ring zero f y = pow_pos k
 value_at_below k big ring (suc m) f y = xor_lt k _ _ (value_at_below k big ring m f y) (ring.closed (f m) (power big y m))
+
+-- the coefficients of a product
+pub parts_are : (n e : ℕ) (mul : ℕ → ℕ → ℕ) (g : ℕ) → IsRing n mul → IsMonic n (suc e) g → (u v : ℕ) → parts n (suc e) (product n (suc e) mul g u v) ≡ reduced mul e (coefficient n g) (suc e) (parts n (suc e) u) (parts n (suc e) v)
+unfolding product
+parts_are n e mul g ring monic u v =
+    ap (coefficient n) (mod-eq_of_lt (product_below n e mul g ring monic u v))
+    ∙ fun_ext (coefficient-packed n (suc e) (reduced mul e (coefficient n g) (suc e) (parts n (suc e) u) (parts n (suc e) v))
+    (reduced_below n mul ring e (coefficient n g) (suc e) (parts n (suc e) u) (parts n (suc e) v) (coefficient_below n (v % 2 ^ (n * suc e))))
+    (reduced_ends n mul ring e (coefficient n g) monic.leading monic.last (suc e) (parts n (suc e) u) (parts n (suc e) v) (coefficient_below n (v % 2 ^ (n * suc e))) (coefficient_ends n (suc e) (v % 2 ^ (n * suc e)) (mod-lt v (pow_pos (n * suc e))))))
 
 module _ (mul : ℕ → ℕ → ℕ) (k : ℕ) (big : ℕ → ℕ → ℕ) (ring : IsRing k big) (c : ℕ → ℕ) (carried : IsCarried mul k big c) (y : ℕ) where
   -- the value at y of the first m coefficients, carried over
@@ -113,11 +123,11 @@ module _ (mul : ℕ → ℕ → ℕ) (k : ℕ) (big : ℕ → ℕ → ℕ) (ring
     image u = val (suc e) (parts n (suc e) u)
 
     pub IsCarried-image : val (suc (suc e)) (coefficient n g) ≡ 0 → IsCarried (product n (suc e) mul g) k big image
-    unfolding image parts_of
+    unfolding image
     IsCarried-image root = record {
       below = λ a. value_at_below k big ring (suc e) (λ i. c (parts n (suc e) a i)) y;
       sum = λ a b. ap (val (suc e)) (shorten_xor n (suc e) a b) ∙ val_plus (suc e) (parts n (suc e) a) (parts n (suc e) b);
-      product = λ a b. ap (val (suc e)) (parts-product n e mul g below monic a b) ∙ val_reduced e (coefficient n g) monic.leading root (suc e) (parts n (suc e) a) (parts n (suc e) b);
+      product = λ a b. ap (val (suc e)) (parts_are n e mul g below monic a b) ∙ val_reduced e (coefficient n g) monic.leading root (suc e) (parts n (suc e) a) (parts n (suc e) b);
       one = ap (val (suc e)) (ap (coefficient n) (mod-eq_of_lt wide) ∙ coefficient_one n below.some) ∙ val_unit e;
     }
       where

@@ -1,1 +1,2 @@
 pub mod CarriedLaws
+pub mod RootLaws
