@@ -119,11 +119,10 @@ module _ (mul : ℕ → ℕ → ℕ) (k : ℕ) (big : ℕ → ℕ → ℕ) (ring
 
   -- the elements of a quotient go to their values at a root of its modulus
   module _ (n e g : ℕ) (below : IsRing n mul) (monic : IsMonic n (suc e) g) where
-    pub image : ℕ → ℕ
+    abbrev pub image : ℕ → ℕ
     image u = val (suc e) (parts n (suc e) u)
 
     pub IsCarried-image : val (suc (suc e)) (coefficient n g) ≡ 0 → IsCarried (product n (suc e) mul g) k big image
-    unfolding image
     IsCarried-image root = record {
       below = λ a. value_at_below k big ring (suc e) (λ i. c (parts n (suc e) a i)) y;
       sum = λ a b. ap (val (suc e)) (shorten_xor n (suc e) a b) ∙ val_plus (suc e) (parts n (suc e) a) (parts n (suc e) b);

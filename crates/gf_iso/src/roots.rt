@@ -35,6 +35,19 @@ fn lesser(first: Option<u64>, second: Option<u64>) -> Option<u64>
     }
 }
 
+// The start, where it is a root of that polynomial.
+fn tested<F: Field>(field: &F, n: u32, modulus: u64, start: u64) -> Option<u64>
+    requires start { start < 2 ^ F.degree field.now }
+    requires small { n ≤ 16 }
+    ensures { IsLeastOf (F.degree field.now) (value_at (F.product field.now) (suc n) (coefficient 1 modulus)) [] start result }
+{
+    if value(field, n, modulus, start) == 0 {
+        Some(start)
+    } else {
+        None
+    }
+}
+
 // The least root of that polynomial among the start plus the sums of the vectors.
 fn least_root<F: Field>(field: &F, n: u32, modulus: u64, vectors: &[u64], start: u64) -> Option<u64>
     requires start { start < 2 ^ F.degree field.now }
@@ -43,13 +56,7 @@ fn least_root<F: Field>(field: &F, n: u32, modulus: u64, vectors: &[u64], start:
     ensures { IsLeastOf (F.degree field.now) (value_at (F.product field.now) (suc n) (coefficient 1 modulus)) vectors.now start result }
 {
     match vectors {
-        [] => {
-            if value(field, n, modulus, start) == 0 {
-                Some(start)
-            } else {
-                None
-            }
-        }
+        [] => tested(field, n, modulus, start),
         [first, rest @ ..] => {
             let without = least_root(field, n, modulus, rest, start);
             if *first == 0 {
