@@ -1,0 +1,10 @@
+pub mod CarriedLaws
+pub mod RootLaws
+pub mod CodeLaws
+pub mod SubfieldLaws
+pub mod TowerImageLaws
+pub mod SearchLaws
+pub mod IsoLaws
+pub mod WordLaws
+pub mod StepLaws
+mod Examples

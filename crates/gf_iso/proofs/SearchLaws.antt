@@ -1,0 +1,61 @@
+-- The search for the least root among sums of words.
+use Rattle.std.proofs.Common.{◌≡◌, ◌≢◌, ℕ, zero, suc, refl, sym, ◌∙◌, ap, ap₂, ◌<◌, ◌≤◌, ◌^◌, ◌*◌, ◌/◌, ◌%◌, ◌⊎◌, inl, inr, arith, subst, one-mul, zero-mul, mul-zero, List, [], ◌∷◌, length, get_or}
+use Rattle.std.specs.Prelude.{bit_xor, Option, None, Some}
+use Rattle.std.specs.Int.Bits.{xor_zero_l, xor_zero_r, xor_assoc}
+use Rattle.gf_field.specs.BitLaws.{bit_cases}
+use Rattle.irreducible.specs.Span.{combination}
+use Rattle.gf_iso.specs.private.Search.{IsLeastIn, IsLeastOf, IsLesser, IsLesserOf}
+
+module _ (k : ℕ) (f : ℕ → ℕ) where
+  pub leaf_some : (start : ℕ) → start < 2 ^ k → f start ≡ 0 → IsLeastOf k f [] start (Some start)
+  leaf_some start h z = record { element = h; root = z; least = λ c e. rw xor_zero_r (omega arith) }
+
+  pub leaf_none : (start : ℕ) → f start ≢ 0 → IsLeastOf k f [] start None
+  leaf_none start ne c e = ne (ap f (sym (xor_zero_r start)) ∙ e)
+
+  combination_cases : (first : ℕ) (rest : List ℕ) (c : ℕ) → (combination (first ∷ rest) c ≡ combination rest (c / 2)) ⊎ (combination (first ∷ rest) c ≡ bit_xor first (combination rest (c / 2)))
+  combination_cases first rest c = elim (bit_cases (c % 2) (omega arith)) [
+    | inl z ↦ inl (ap (λ b. bit_xor (b * first) (combination rest (c / 2))) z ∙ ap (λ x. bit_xor x (combination rest (c / 2))) (zero-mul first) ∙ xor_zero_l (combination rest (c / 2)))
+    | inr o ↦ inr (ap (λ b. bit_xor (b * first) (combination rest (c / 2))) o ∙ ap (λ x. bit_xor x (combination rest (c / 2))) (one-mul first))
+  ]
+
+  -- what holds of the roots without the first word and with it holds of all
+  reach : (P : ℕ → Type 0) (first : ℕ) (rest : List ℕ) (start : ℕ)
+      → ((c : ℕ) → f (bit_xor start (combination rest c)) ≡ 0 → P (bit_xor start (combination rest c)))
+      → ((c : ℕ) → f (bit_xor (bit_xor start first) (combination rest c)) ≡ 0 → P (bit_xor (bit_xor start first) (combination rest c)))
+      → (c : ℕ) → f (bit_xor start (combination (first ∷ rest) c)) ≡ 0 → P (bit_xor start (combination (first ∷ rest) c))
+  reach P first rest start left right c z = elim (combination_cases first rest c) [
+    | inl e ↦ subst (λ w. P (bit_xor start w)) (sym e) (left (c / 2) (ap (λ w. f (bit_xor start w)) (sym e) ∙ z))
+    | inr e ↦ subst P (sym (same e)) (right (c / 2) (ap f (sym (same e)) ∙ z))
+  ]
+    where
+      same : combination (first ∷ rest) c ≡ bit_xor first (combination rest (c / 2)) → bit_xor start (combination (first ∷ rest) c) ≡ bit_xor (bit_xor start first) (combination rest (c / 2))
+      same e = ap (bit_xor start) e ∙ sym (xor_assoc start first (combination rest (c / 2)))
+
+  -- a word 0 adds nothing
+  pub skipped : (rest : List ℕ) (start : ℕ) (r : Option ℕ) → IsLeastOf k f rest start r → IsLeastOf k f (0 ∷ rest) start r
+  skipped rest start None h = reach (λ x. ⊥) 0 rest start h (λ c z. h c (ap (λ w. f (bit_xor w (combination rest c))) (sym (xor_zero_r start)) ∙ z))
+  skipped rest start (Some y) h = record {
+    element = h.element;
+    root = h.root;
+    least = reach (λ x. y ≤ x) 0 rest start h.least (λ c z. rw (xor_zero_r start) (h.least c (ap (λ w. f (bit_xor w (combination rest c))) (sym (xor_zero_r start)) ∙ z)));
+  }
+
+  pub joined : (first : ℕ) (rest : List ℕ) (start : ℕ) (a b r : Option ℕ) → IsLeastOf k f rest start a → IsLeastOf k f rest (bit_xor start first) b → IsLesserOf a b r → IsLeastOf k f (first ∷ rest) start r
+  joined first rest start None None r ha hb e = subst (IsLeastOf k f (first ∷ rest) start) (sym e) (reach (λ x. ⊥) first rest start ha hb)
+  joined first rest start None (Some b) r ha hb e = subst (IsLeastOf k f (first ∷ rest) start) (sym e) (record {
+    element = hb.element;
+    root = hb.root;
+    least = reach (λ x. b ≤ x) first rest start (λ c z. absurd (ha c z)) hb.least;
+  })
+  joined first rest start (Some a) None r ha hb e = subst (IsLeastOf k f (first ∷ rest) start) (sym e) (record {
+    element = ha.element;
+    root = ha.root;
+    least = reach (λ x. a ≤ x) first rest start ha.least (λ c z. absurd (hb c z));
+  })
+  joined first rest start (Some a) (Some b) None ha hb e = absurd e
+  joined first rest start (Some a) (Some b) (Some y) ha hb e = record {
+    element = elim e.is [ inl is ↦ rw is ha.element | inr is ↦ rw is hb.element ];
+    root = elim e.is [ inl is ↦ ap f is ∙ ha.root | inr is ↦ ap f is ∙ hb.root ];
+    least = reach (λ x. y ≤ x) first rest start (λ c z. let l : a ≤ bit_xor start (combination rest c) = ha.least c z in omega (arith, e.first)) (λ c z. let l : b ≤ bit_xor (bit_xor start first) (combination rest c) = hb.least c z in omega (arith, e.second));
+  }
