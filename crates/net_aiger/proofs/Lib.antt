@@ -8,4 +8,7 @@ mod KeepLemmas
 mod ReadLemmas
 pub mod AigerDetermined
 mod ValueLemmas
+mod PlainLemmas
+mod LiteralLemmas
+mod PortLemmas
 mod Examples

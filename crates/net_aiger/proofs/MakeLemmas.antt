@@ -80,12 +80,15 @@ gated_labels gate net more made = by (nat_le (2 ^ 20) (length net.gates + length
     by true e = absurd (cc)
     by false e = let same : with_gate net gate ≡ more = cc in ap (λ (n : NetList). n.labels) (sym same)
 
-pub gated_gates : (gate : GateValue) (net more : NetList) → gated gate net ≡ Ok more → more.gates ≡ net.gates ++ gate ∷ []
-gated_gates gate net more made = by (nat_le (2 ^ 20) (length net.gates + length net.latches)) made
+pub gated_is : (gate : GateValue) (net more : NetList) → gated gate net ≡ Ok more → more ≡ with_gate net gate
+gated_is gate net more made = by (nat_le (2 ^ 20) (length net.gates + length net.latches)) made
   where
-    by : (b : Bool) → cond b (Err TooManyGates) (Ok (with_gate net gate)) ≡ Ok more → more.gates ≡ net.gates ++ gate ∷ []
+    by : (b : Bool) → cond b (Err TooManyGates) (Ok (with_gate net gate)) ≡ Ok more → more ≡ with_gate net gate
     by true e = absurd (cc)
-    by false e = let same : with_gate net gate ≡ more = cc in ap (λ (n : NetList). n.gates) (sym same)
+    by false e = let same : with_gate net gate ≡ more = cc in sym same
+
+pub gated_gates : (gate : GateValue) (net more : NetList) → gated gate net ≡ Ok more → more.gates ≡ net.gates ++ gate ∷ []
+gated_gates gate net more made = ap (λ (n : NetList). n.gates) (gated_is gate net more made)
 
 pub latched_is : (latch : LatchValue) (net more : NetList) → latched latch net ≡ Ok more → more ≡ with_latch net latch
 latched_is latch net more made = by (nat_le (2 ^ 20) (length net.gates + length net.latches)) made

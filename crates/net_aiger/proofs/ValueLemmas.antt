@@ -1,15 +1,15 @@
 -- The values of literals in consistent lists of bits.
-use Rattle.std.proofs.Common.{◌≡◌, ◌∙◌, ap, sym, refl, subst, inl, inr, ◌⊎◌, ℕ, zero, suc, ◌<◌, ◌≤◌, ◌+◌, ◌*◌, ◌%◌, ◌&&◌, Bool, true, false, cond, not, List, [], ◌∷◌, ◌++◌, length, drop, Option, None, Some, Ok, arith}
-use Rattle.std.specs.Prelude.{nat_lt, slice_get, ◌==◌}
+use Rattle.std.proofs.Common.{◌≡◌, ◌∙◌, ap, sym, refl, subst, inl, inr, ◌⊎◌, ℕ, zero, suc, ◌<◌, ◌+◌, ◌*◌, ◌%◌, ◌&&◌, Bool, true, false, cond, not, List, [], ◌∷◌, ◌++◌, drop, Option, None, Some, Ok, arith}
+use Rattle.std.specs.Prelude.{nat_lt, ◌==◌}
 use Rattle.std.specs.Fmt.{decimal}
 use Rattle.std.specs.Int.{bit_at}
 use Rattle.std.proofs.lemmas.Bool.{ltb-true}
 use Rattle.net_core.specs.GateValue.{GateValue}
 use Rattle.net_core.specs.Lists.{Has}
 use Rattle.net_core.specs.NetList.{NetList, empty, nets}
-use Rattle.net_core.specs.Value.{bit_of, index_of, IsConsistent}
+use Rattle.net_core.specs.Value.{bit_of, index_of}
 use Rattle.net_aiger.specs.Checks.{own}
-use Rattle.net_aiger.specs.Nets.{and_gate, and_made, and_table, ands_made, fresh_latch, gated, inputs_of, is_plain, labelled, latch_made, latch_on, latched, latches_made, literal_gate, net_made, output_made, outputs_made, table_of, variables_made, with_output}
+use Rattle.net_aiger.specs.Nets.{and_gate, and_made, and_table, ands_made, fresh_latch, gated, inputs_of, is_plain, labelled, latch_made, latch_on, latched, latches_made, literal_gate, net_made, output_made, outputs_made, variables_made, with_output}
 use Rattle.net_aiger.specs.Reading.{Reading, driven, net_of, port_name, variable_net}
 use Rattle.net_aiger.specs.Steps.{◌>>=◌}
 use Rattle.net_aiger.specs.Values.{HasConjunctions, literal_value}
@@ -39,14 +39,14 @@ two_values false false true false = refl
 two_values false false false true = refl
 two_values false false false false = refl
 
-one_value : (e x : Bool) → (bit_at (cond e 2 1) (cond x 1 0 + 2 * 0) == 1) ≡ cond e x (not x)
+pub one_value : (e x : Bool) → (bit_at (cond e 2 1) (cond x 1 0 + 2 * 0) == 1) ≡ cond e x (not x)
 one_value true true = refl
 one_value true false = refl
 one_value false true = refl
 one_value false false = refl
 
 -- a constant is 0 or 1
-constant : (l : ℕ) → l < 2 → (l ≡ 0) ⊎ (l ≡ 1)
+pub constant : (l : ℕ) → l < 2 → (l ≡ 0) ⊎ (l ≡ 1)
 constant zero less = inl refl
 constant (suc zero) less = inr refl
 constant (suc (suc n)) less = absurd (omega arith)
@@ -113,10 +113,10 @@ has_last : (xs : List GateValue) (g : GateValue) → Has (xs ++ g ∷ []) g
 has_last [] g = (zero, refl)
 has_last (x ∷ xs) g = let more = has_last xs g in (suc more.0, more.1)
 
-same_gates : (net more : NetList) → more.gates ≡ net.gates → KeepsGates net more
+pub same_gates : (net more : NetList) → more.gates ≡ net.gates → KeepsGates net more
 same_gates net more same = λ g has. let P : List GateValue → Type 0 = λ gs. Has gs g in subst P (sym same) has
 
-one_gate : (gate : GateValue) (net more : NetList) → gated gate net ≡ Ok more → KeepsGates net more
+pub one_gate : (gate : GateValue) (net more : NetList) → gated gate net ≡ Ok more → KeepsGates net more
 one_gate gate net more made = λ g has. let P : List GateValue → Type 0 = λ gs. Has gs g in subst P (sym (gated_gates gate net more made)) (has_front net.gates (gate ∷ []) g has)
 
 module _ (reading : Reading) where
@@ -153,7 +153,7 @@ module _ (reading : Reading) where
       λ g has. same_gates second more (ap (λ (x : NetList). x.gates) (latched_is (latch_on (nets net) out latch) second more last)) g
       (one_gate (literal_gate reading (nets net) latch.next) first second two g (same_gates net first (ap (λ (x : NetList). x.gates) (labelled_is (decimal latch.next) false net first one)) g has))
 
-  keep_latch : (found : Option ℕ) (latch : LatchLine) (net more : NetList) → latch_made reading found latch net ≡ Ok more → KeepsGates net more
+  pub keep_latch : (found : Option ℕ) (latch : LatchLine) (net more : NetList) → latch_made reading found latch net ≡ Ok more → KeepsGates net more
   keep_latch None latch net more made = let is : net ≡ more = cc in same_gates net more (ap (λ (x : NetList). x.gates) (sym is))
   keep_latch (Some out) latch net more made = by (is_plain latch.next) made
     where
@@ -161,13 +161,13 @@ module _ (reading : Reading) where
       by true is = same_gates net more (ap (λ (x : NetList). x.gates) (latched_is (latch_on (variable_net reading latch.next) out latch) net more is))
       by false is = keep_fresh out latch net more is
 
-  keep_latches : (lines : List LatchLine) (net more : NetList) → latches_made reading lines net ≡ Ok more → KeepsGates net more
+  pub keep_latches : (lines : List LatchLine) (net more : NetList) → latches_made reading lines net ≡ Ok more → KeepsGates net more
   keep_latches [] net more made = let is : net ≡ more = cc in same_gates net more (ap (λ (x : NetList). x.gates) (sym is))
   keep_latches (line ∷ lines) net more made =
       let (next, one, rest) = split_ok (latch_made reading (net_of reading line.literal) line net) (λ m. latches_made reading lines m) more made in
       λ g has. keep_latches lines next more rest g (keep_latch (net_of reading line.literal) line net next one g has)
 
-  keep_output : (port literal : ℕ) (found : Option ℕ) (net more : NetList) → output_made reading port literal found net ≡ Ok more → KeepsGates net more
+  pub keep_output : (port literal : ℕ) (found : Option ℕ) (net more : NetList) → output_made reading port literal found net ≡ Ok more → KeepsGates net more
   keep_output port literal (Some n) net more made = let is : with_output n net ≡ more = cc in same_gates net more (ap (λ (x : NetList). x.gates) (sym is))
   keep_output port literal None net more made =
       let (first, one, rest) = split_ok (labelled (port_name reading port) true net) (λ m. gated (literal_gate reading (nets net) literal) m >>= (λ with. Ok (with_output (nets net) with))) more made in
@@ -176,7 +176,7 @@ module _ (reading : Reading) where
       λ g has. same_gates second more (ap (λ (x : NetList). x.gates) (sym is)) g
       (one_gate (literal_gate reading (nets net) literal) first second two g (same_gates net first (ap (λ (x : NetList). x.gates) (labelled_is (port_name reading port) true net first one)) g has))
 
-  keep_outputs : (port : ℕ) (literals : List ℕ) (net more : NetList) → outputs_made reading port literals net ≡ Ok more → KeepsGates net more
+  pub keep_outputs : (port : ℕ) (literals : List ℕ) (net more : NetList) → outputs_made reading port literals net ≡ Ok more → KeepsGates net more
   keep_outputs port [] net more made = let is : net ≡ more = cc in same_gates net more (ap (λ (x : NetList). x.gates) (sym is))
   keep_outputs port (literal ∷ literals) net more made =
       let (next, one, rest) = split_ok (output_made reading port literal (own reading port literal) net) (λ m. outputs_made reading (port + 1) literals m) more made in

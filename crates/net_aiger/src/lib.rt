@@ -15,5 +15,5 @@ mod reader;
 mod reading;
 
 pub use fault::AigerFault;
-pub use laws::{ands_are_conjunctions, one_net_or_fault};
+pub use laws::{ands_are_conjunctions, one_net_or_fault, ports_have_the_values_of_their_literals};
 pub use read::read_aiger;
