@@ -12,4 +12,5 @@ pub mod TableLemmas
 pub mod OutcomeLemmas
 pub mod DriveLemmas
 pub mod FlatDetermined
+pub mod PrintingLemmas
 mod Examples
