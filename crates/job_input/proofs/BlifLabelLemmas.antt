@@ -1,5 +1,5 @@
 -- The names of a text print, and so do the labels of its nets.
-use Rattle.std.proofs.Common.{◌≡◌, ◌⊎◌, inl, inr, sym, refl, subst, ℕ, ◌^◌, ◌+◌, Bool, true, false, cond, List, [], ◌∷◌, ◌++◌, map, length, Option, None, Some, Result, Ok, Err}
+use Rattle.std.proofs.Common.{◌≡◌, ◌⊎◌, ◌∙◌, inl, inr, sym, refl, subst, ℕ, zero, suc, ◌^◌, ◌+◌, Bool, true, false, cond, List, [], ◌∷◌, ◌++◌, map, length, Option, None, Some, Result, Ok, Err}
 use Rattle.std.specs.Prelude.{All, IfSome, IsTrue, codes, flat_map, is_some, nat_le, nat_lt, slice_get}
 use Rattle.std.specs.List.{AllByRecursion}
 use Rattle.std.proofs.lemmas.List.Elements.{All-weaker, recursion_from_All}
@@ -13,7 +13,7 @@ use Rattle.net_blif.specs.Flat.{Path, Top, Step, Mention, Input, Output, Gate, L
 use Rattle.net_blif.specs.Item.{HasPrintingNames}
 use Rattle.net_blif.specs.Latch.{start_of}
 use Rattle.net_blif.specs.Lines.{Numbered, lines_of}
-use Rattle.net_blif.specs.Models.{OpenValue, Reading, start, placed, models_of, may_stand, with_items, with_cover_row, in_model, next, ReadsLine, Reads, HasModel, begins, BlifDesign}
+use Rattle.net_blif.specs.Models.{OpenValue, Reading, start, placed, models_of, may_stand, with_items, with_cover_row, in_model, next, Says, ReadsLine, Reads, HasModel, begins, BlifDesign}
 use Rattle.net_blif.specs.Statement.{Token, IsToken, spelled, is_well}
 use Rattle.net_blif.specs.declared.item.Item.{Item}
 use Rattle.net_blif.specs.declared.item.Item.TheVariants as items
@@ -45,7 +45,7 @@ abbrev pub ItemPrints : Item → Type 0
 ItemPrints (items.Inputs nets) = AllByRecursion IsPrinting nets
 ItemPrints (items.Outputs nets) = AllByRecursion IsPrinting nets
 ItemPrints (items.Gate line inputs out table) = AllByRecursion IsPrinting inputs × IsPrinting out
-ItemPrints (items.Latch line first out start) = IsPrinting first × IsPrinting out
+ItemPrints (items.Latch line first out begin) = IsPrinting first × IsPrinting out
 
 abbrev pub ModelPrints : ModelValue → Type 0
 ModelPrints model = AllByRecursion ItemPrints model.items
@@ -168,7 +168,7 @@ lines_fault reading (line ∷ lines) fault (inr (middle, first, rest)) = lines_f
 
 -- the names of a design print
 pub design_prints : (text : List ℕ) (design : List ModelValue) → BlifDesign text (Ok design) → AllByRecursion ModelPrints design
-design_prints text design (unit, has, reading, reads, is) =
+design_prints text design (unit, has, (reading, reads, is)) =
     let P : List ModelValue → Type 0 = AllByRecursion ModelPrints in
     subst P (sym is) (models_print reading (lines_print start (lines_of text) reading (tt, tt) reads))
 
@@ -208,7 +208,7 @@ steps_print : (item : Item) → ItemPrints item → AllByRecursion StepPrints (s
 steps_print (items.Inputs nets) prints = inputs_print nets prints
 steps_print (items.Outputs nets) prints = outputs_print nets prints
 steps_print (items.Gate line inputs out table) prints = all_append StepPrints (map (λ net. Mention (Top net)) inputs) (Mention (Top out) ∷ Gate (map Top inputs) (Top out) table ∷ []) (mentions_print inputs prints.0) (prints.1, (tt, tt))
-steps_print (items.Latch line first out start) prints = (prints.0, (prints.1, (tt, tt)))
+steps_print (items.Latch line first out begin) prints = (prints.0, (prints.1, (tt, tt)))
 
 walk_prints : (list : List Item) → AllByRecursion ItemPrints list → AllByRecursion StepPrints (flat_map steps_of list)
 walk_prints [] all = tt
@@ -216,7 +216,7 @@ walk_prints (item ∷ list) all = all_append StepPrints (steps_of item) (flat_ma
 
 items_print : (design : List ModelValue) (model : ℕ) → AllByRecursion ModelPrints design → AllByRecursion ItemPrints (items_of design model)
 items_print [] model all = tt
-items_print (m ∷ design) 0 all = all.0
+items_print (m ∷ design) zero all = all.0
 items_print (m ∷ design) (suc model) all = items_print design model all.1
 
 abbrev FlatPrints : Flat → Type 0
@@ -236,19 +236,19 @@ step_prints flat (Gate inputs out table) more prints is e = by (nat_le (2 ^ 20) 
     by : (b : Bool) → ◌≡◌ {A = Result Flat NetFault} (cond b (Err TooManyGates) (Ok (record flat { gates = flat.gates ++ gate_on flat inputs out table ∷ [] }))) (Ok more) → FlatPrints more
     by true e = absurd (cc)
     by false e = let P : Flat → Type 0 = FlatPrints in subst P (ok_same _ more e) prints
-step_prints flat (Latch first out start) more prints is e = by (nat_le (2 ^ 20) (length flat.gates + length flat.latches)) e
+step_prints flat (Latch first out begin) more prints is e = by (nat_le (2 ^ 20) (length flat.gates + length flat.latches)) e
   where
-    by : (b : Bool) → ◌≡◌ {A = Result Flat NetFault} (cond b (Err TooManyGates) (Ok (record flat { latches = flat.latches ++ latch_on flat first out start ∷ [] }))) (Ok more) → FlatPrints more
+    by : (b : Bool) → ◌≡◌ {A = Result Flat NetFault} (cond b (Err TooManyGates) (Ok (record flat { latches = flat.latches ++ latch_on flat first out begin ∷ [] }))) (Ok more) → FlatPrints more
     by true e = absurd (cc)
     by false e = let P : Flat → Type 0 = FlatPrints in subst P (ok_same _ more e) prints
 
 walked_prints : (flat : Flat) (steps : List Step) (more : Flat) → FlatPrints flat → AllByRecursion StepPrints steps → walked flat steps ≡ Ok more → FlatPrints more
 walked_prints flat [] more prints all e = let P : Flat → Type 0 = FlatPrints in subst P (ok_same flat more e) prints
-walked_prints flat (step ∷ steps) more prints all e = by (after_step flat step) refl e
+walked_prints flat (step ∷ steps) more prints all e = by (λ middle still f. walked_prints middle steps more still all.1 f) (after_step flat step) refl e
   where
-    by : (r : Result Flat NetFault) → after_step flat step ≡ r → on_value (λ middle. walked middle steps) r ≡ Ok more → FlatPrints more
-    by (Ok middle) is e = walked_prints middle steps more (step_prints flat step middle prints all.0 is) all.1 e
-    by (Err fault) is e = absurd (cc)
+    by : ((middle : Flat) → FlatPrints middle → walked middle steps ≡ Ok more → FlatPrints more) → (r : Result Flat NetFault) → after_step flat step ≡ r → on_value (λ middle. walked middle steps) r ≡ Ok more → FlatPrints more
+    by later (Ok middle) is e = later middle (step_prints flat step middle prints all.0 is) e
+    by later (Err fault) is e = absurd (cc)
 
 -- the labels of a walk's nets print
 pub walk_labels_print : (text : List ℕ) (design : List ModelValue) (model : ℕ) (flat : Flat) → BlifDesign text (Ok design) → walked nothing (walk_of design model) ≡ Ok flat → AllByRecursion (λ (l : LabelValue). IsPrinting l.text) (map label_of flat.paths)
@@ -278,16 +278,16 @@ stop_step flat (Gate inputs out table) fault e = by (nat_le (2 ^ 20) (length fla
     by : (b : Bool) → ◌≡◌ {A = Result Flat NetFault} (cond b (Err TooManyGates) (Ok (record flat { gates = flat.gates ++ gate_on flat inputs out table ∷ [] }))) (Err fault) → IsLimit fault
     by true e = inr (sym (err_same TooManyGates fault e))
     by false e = absurd (cc)
-stop_step flat (Latch first out start) fault e = by (nat_le (2 ^ 20) (length flat.gates + length flat.latches)) e
+stop_step flat (Latch first out begin) fault e = by (nat_le (2 ^ 20) (length flat.gates + length flat.latches)) e
   where
-    by : (b : Bool) → ◌≡◌ {A = Result Flat NetFault} (cond b (Err TooManyGates) (Ok (record flat { latches = flat.latches ++ latch_on flat first out start ∷ [] }))) (Err fault) → IsLimit fault
+    by : (b : Bool) → ◌≡◌ {A = Result Flat NetFault} (cond b (Err TooManyGates) (Ok (record flat { latches = flat.latches ++ latch_on flat first out begin ∷ [] }))) (Err fault) → IsLimit fault
     by true e = inr (sym (err_same TooManyGates fault e))
     by false e = absurd (cc)
 
 pub walk_stops : (flat : Flat) (steps : List Step) (fault : NetFault) → walked flat steps ≡ Err fault → IsLimit fault
 walk_stops flat [] fault e = absurd (cc)
-walk_stops flat (step ∷ steps) fault e = by (after_step flat step) refl e
+walk_stops flat (step ∷ steps) fault e = by (λ middle f. walk_stops middle steps fault f) (after_step flat step) refl e
   where
-    by : (r : Result Flat NetFault) → after_step flat step ≡ r → on_value (λ middle. walked middle steps) r ≡ Err fault → IsLimit fault
-    by (Ok middle) is e = walk_stops middle steps fault e
-    by (Err other) is e = stop_step flat step fault (is ∙ e)
+    by : ((middle : Flat) → walked middle steps ≡ Err fault → IsLimit fault) → (r : Result Flat NetFault) → after_step flat step ≡ r → on_value (λ middle. walked middle steps) r ≡ Err fault → IsLimit fault
+    by later (Ok middle) is e = later middle e
+    by later (Err other) is e = stop_step flat step fault (is ∙ e)

@@ -12,5 +12,4 @@ pub mod TableLemmas
 pub mod OutcomeLemmas
 pub mod DriveLemmas
 pub mod FlatDetermined
-pub mod PrintingLemmas
 mod Examples
