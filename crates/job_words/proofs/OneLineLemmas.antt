@@ -1,5 +1,5 @@
 -- Texts of faults without a line feed.
-use Rattle.std.proofs.Common.{◌≡◌, ◌≢◌, ◌∙◌, ap, sym, refl, subst, ℕ, zero, suc, ◌<◌, ◌/◌, ◌%◌, ◌==◌, Bool, true, false, cond, not, ◌&&◌, List, [], ◌∷◌, ◌++◌, length, get_or, arith}
+use Rattle.std.proofs.Common.{◌≡◌, ◌≢◌, ◌∙◌, ap, sym, refl, subst, ℕ, zero, suc, ◌+◌, ◌<◌, ◌/◌, ◌%◌, ◌==◌, Bool, true, false, cond, not, ◌&&◌, List, [], ◌∷◌, ◌++◌, length, get_or, arith}
 use Rattle.std.specs.Prelude.{All, codes, nat_lt}
 use Rattle.std.specs.Fmt.{decimal, digits, digits_onto, digit_glyph}
 use Rattle.std.specs.List.{AllByRecursion, list_all}
@@ -9,7 +9,7 @@ use Rattle.poly_mixed.specs.declared.stage.Stage.{Stage}
 use Rattle.poly_mixed.specs.declared.stage.Stage.TheVariants as stages
 use Rattle.job_words.specs.Fault.{fault_line, fault_text}
 use Rattle.job_words.specs.FileFault.{file_text}
-use Rattle.job_words.specs.NetlistFault.{binding_text, bit_text, netlist_text}
+use Rattle.job_words.specs.NetlistFault.{binding_text, place_text, netlist_text}
 use Rattle.job_words.specs.OneLine.{HasNoLineFeed, IsOneLine, KeepsToItsLine, repeated_of_binding, repeated_of_file, repeated_of_netlist}
 use Rattle.job_words.specs.Operands.{Word}
 use Rattle.job_words.specs.SignatureFault.{signature_text}
@@ -77,14 +77,14 @@ glyph_kept n = by (nat_lt (n % 10) 10)
 
 digits_clean : (k n : ℕ) (rest : List ℕ) → IsClean rest → IsClean (digits_onto k 10 false n rest)
 digits_clean zero n rest clean = clean
-digits_clean (suc k) n rest clean = by (n / 10 == 0)
+digits_clean (suc k) n rest clean = by (λ more. digits_clean k (n / 10) (digit_glyph false (n % 10) ∷ rest) more) (n / 10 == 0)
   where
     one : IsClean (digit_glyph false (n % 10) ∷ rest)
     one = rw (glyph_kept n, clean) refl
 
-    by : (b : Bool) → IsClean (cond b (digit_glyph false (n % 10) ∷ rest) (digits_onto k 10 false (n / 10) (digit_glyph false (n % 10) ∷ rest)))
-    by true = one
-    by false = digits_clean k (n / 10) (digit_glyph false (n % 10) ∷ rest) one
+    by : (IsClean (digit_glyph false (n % 10) ∷ rest) → IsClean (digits_onto k 10 false (n / 10) (digit_glyph false (n % 10) ∷ rest))) → (b : Bool) → IsClean (cond b (digit_glyph false (n % 10) ∷ rest) (digits_onto k 10 false (n / 10) (digit_glyph false (n % 10) ∷ rest)))
+    by later true = one
+    by later false = later one
 
 pub number_clean : (n : ℕ) → IsClean (decimal n)
 unfolding digits
@@ -119,7 +119,7 @@ signature_clean (signature.TwoOutputs line) = number_clean line
 signature_clean (signature.TooManyWords line) = number_clean line
 
 -- a bit of a word, and a text behind it
-bit_then : (word : Word) (place : ℕ) (rest : List ℕ) → HasNoLineFeed word → IsClean rest → IsClean (bit_text word place rest)
+bit_then : (word : Word) (place : ℕ) (rest : List ℕ) → HasNoLineFeed word → IsClean rest → IsClean (place_text word place rest)
 bit_then word place rest kept more = word_then word _ kept (number_then place (codes "]" ++ rest) more)
 
 binding_clean : (fault : BindingFault) → AllByRecursion HasNoLineFeed (repeated_of_binding fault) → IsClean (binding_text fault)
