@@ -73,9 +73,6 @@ limit_keeps : (fault : NetFault) → IsLimit fault → NetKeeps fault
 limit_keeps fault (inl same) = let P : NetFault → Type 0 = NetKeeps in subst P (sym same) tt
 limit_keeps fault (inr same) = let P : NetFault → Type 0 = NetKeeps in subst P (sym same) tt
 
-err_same : {A F : Type 0} (a b : F) → ◌≡◌ {A = Result A F} (Err a) (Err b) → a ≡ b
-err_same a b e = cc
-
 text_keeps : (fault : BlifFault) → FaultPrints fault → NetlistKeeps (of_text fault)
 text_keeps texts.NoModel prints = tt
 text_keeps (texts.Syntax line) prints = tt
