@@ -1,5 +1,5 @@
 -- Each fault that may come is one line.
-use Rattle.std.proofs.Common.{◌≡◌, inl, inr, refl, subst, sym, ℕ, List, Option, Some, Ok, Err}
+use Rattle.std.proofs.Common.{◌≡◌, inl, inr, refl, subst, sym, ℕ, List, Option, Ok, Err}
 use Rattle.std.specs.Prelude.{codes}
 use Rattle.job_io.specs.Shelf.{Files}
 use Rattle.net_words.specs.Binding.{BoundNet}
@@ -7,6 +7,7 @@ use Rattle.net_words.specs.WordNames.{HaveNames}
 use Rattle.poly_mixed.specs.Labels.{Labelling}
 use Rattle.poly_mixed.specs.declared.stage.Stage.{Stage}
 use Rattle.spec_expand.specs.Specification.{SpecTerms}
+use Rattle.spec_expand.specs.SpecListing.{spec_listing}
 use Rattle.stage_model.specs.Listing.{Joined, Earlier, Later, Listing}
 use Rattle.job_words.specs.Command.{Action, Bits, Abstract, Check, Same, IsSpelled, Job}
 use Rattle.job_words.specs.Fault.{fault_line}
@@ -23,9 +24,8 @@ use Rattle.job_input.specs.SettingValue.{SettingValue}
 use Rattle.job_input.proofs.FileLineLemmas.{HaveKeptNames, circuit_keeps, labels_kept, operand_kept, signed_keeps, specification_keeps}
 use Rattle.job_input.proofs.SignedLemmas.{setting_names}
 use Rattle.gf_abs.specs.Answer.{ActionAnswer, Answer, JobAnswer, SignedAnswer}
-use Rattle.gf_abs.specs.Reply.{Reply}
 use Rattle.gf_abs.specs.Staged.{IsStageOver, Staged, either_net_text, either_text}
-use Rattle.gf_abs.specs.commands.Abstract.{AbstractReply, abstract_stages}
+use Rattle.gf_abs.specs.commands.Abstract.{AbstractReply, abstract_stages, taken_circuit}
 use Rattle.gf_abs.specs.commands.Bits.{BitsReply, bits_stages}
 use Rattle.gf_abs.specs.commands.Check.{CheckReply}
 use Rattle.gf_abs.specs.commands.Same.{SameReply, same_stages}
@@ -69,28 +69,25 @@ module _ (labels : Labelling) (names : HaveKeptNames labels.words) where
 -- ---- the reply of each command
 
 module _ (setting : SettingValue) (names : HaveNames setting.signature.words) where
-  labels : Labelling
-  labels = labels_of setting.k setting.signature.words
-
   kept : HaveKeptNames (labels_of setting.k setting.signature.words).words
   kept = labels_kept setting.k setting.signature.words names
 
   bits_kept : (circuit : BoundNet) (bound : ℕ) (fault : Fault) → BitsReply setting circuit bound (Err fault) → KeepsToItsLine fault
-  bits_kept circuit bound fault (inl (stage, over, same)) = over_kept _ _ _ _ bound fault (one_kept (labels_of setting.k setting.signature.words) kept) stage over same
+  bits_kept circuit bound fault (inl (stage, over, same)) = over_kept setting.k setting.product (bits_stages setting circuit) (stage_text (labels_of setting.k setting.signature.words)) bound fault (one_kept (labels_of setting.k setting.signature.words) kept) stage over same
   bits_kept circuit bound fault (inr (ts, of, never)) = absurd never
 
   abstract_kept : (circuit : BoundNet) (bound : ℕ) (fault : Fault) → AbstractReply setting circuit bound (Err fault) → KeepsToItsLine fault
-  abstract_kept circuit bound fault (inl (stage, over, same)) = over_kept _ _ _ _ bound fault (either_kept (labels_of setting.k setting.signature.words) kept) stage over same
+  abstract_kept circuit bound fault (inl (stage, over, same)) = over_kept setting.k setting.product (abstract_stages setting circuit) (either_text (labels_of setting.k setting.signature.words)) bound fault (either_kept (labels_of setting.k setting.signature.words) kept) stage over same
   abstract_kept circuit bound fault (inr (ts, of, never)) = absurd never
 
   same_kept : (circuit other : BoundNet) (bound : ℕ) (fault : Fault) → SameReply setting circuit other bound (Err fault) → KeepsToItsLine fault
-  same_kept circuit other bound fault (inl (stage, over, same)) = over_kept _ _ _ _ bound fault (net_kept (labels_of setting.k setting.signature.words) kept) stage over same
+  same_kept circuit other bound fault (inl (stage, over, same)) = over_kept setting.k setting.product (same_stages setting circuit other) (either_net_text (labels_of setting.k setting.signature.words)) bound fault (net_kept (labels_of setting.k setting.signature.words) kept) stage over same
   same_kept circuit other bound fault (inr (found, of, never)) = absurd never
 
   check_kept : (circuit : BoundNet) (spec : SpecTerms) (bound : ℕ) (fault : Fault) → CheckReply setting circuit spec bound (Err fault) → KeepsToItsLine fault
-  check_kept circuit spec bound fault (inl (inl (stage, over, same))) = over_kept _ _ _ _ bound fault (either_kept (labels_of setting.k setting.signature.words) kept) stage over same
+  check_kept circuit spec bound fault (inl (inl (stage, over, same))) = over_kept setting.k setting.product (abstract_stages setting circuit) (either_text (labels_of setting.k setting.signature.words)) bound fault (either_kept (labels_of setting.k setting.signature.words) kept) stage over same
   check_kept circuit spec bound fault (inl (inr (ts, of, never))) = absurd never
-  check_kept circuit spec bound fault (inr (line, of, inl (stage, over, same))) = over_kept _ _ _ _ bound fault (one_kept (labels_of setting.k setting.signature.words) kept) stage over same
+  check_kept circuit spec bound fault (inr (line, of, inl (stage, over, same))) = over_kept setting.k setting.product (spec_listing (taken_circuit setting circuit) spec) (stage_text (labels_of setting.k setting.signature.words)) bound fault (one_kept (labels_of setting.k setting.signature.words) kept) stage over same
   check_kept circuit spec bound fault (inr (line, of, inr (found, is, never))) = absurd never
 
   -- ---- the answer of each command
