@@ -15,6 +15,8 @@ pub mod SameDetermined
 pub mod AlikeLemmas
 pub mod SameLemmas
 pub mod AnswerDetermined
+pub mod OneLineLemmas
+pub mod StatusLemmas
 pub mod CompleteLemmas
 pub mod EqualLabels
 pub mod EqualLemmas

@@ -1,12 +1,15 @@
 //! What the program's answers say, for all words and held files. These functions do nothing: their contracts are proved of
 //! the definitions alone. `run` says that what it wrote is the answer.
-ghost use Rattle.std.specs.Prelude.{◌≡◌, ◌⊎◌, ◌↔◌, codes, List, Some};
+ghost use Rattle.std.specs.Prelude.{◌≡◌, ◌⊎◌, ◌↔◌, codes, List, Option, Some, Ok, Err};
 ghost use Rattle.text_core.specs.Outcome.{Determined};
 ghost use Rattle.job_io.specs.Shelf.{Files};
 ghost use Rattle.net_words.specs.Binding.{BoundNet};
 ghost use Rattle.poly_mixed.specs.Polynomial.{Terms};
 ghost use Rattle.circuit_model.specs.WellFormed.{IsWellFormed};
+ghost use Rattle.job_words.specs.Fault.{fault_line, fault_status};
+ghost use Rattle.job_words.specs.OneLine.{IsOneLine};
 ghost use Rattle.job_words.specs.Operands.{Word};
+ghost use Rattle.job_words.specs.declared.fault.Fault.{Fault};
 ghost use Rattle.job_input.specs.SettingValue.{SettingValue};
 ghost use Rattle.spec_expand.specs.Specification.{SpecTerms};
 ghost use Rattle.gf_abs.specs.Answer.{Answer};
@@ -18,6 +21,14 @@ ghost use Rattle.gf_abs.specs.commands.Abstract.{taken_circuit};
 /// Where the shelf tells what it holds, at most one answer or fault comes of the words.
 pub fn one_answer_or_fault()
     ensures { (words : List Word) (files : Files) → Determined (Answer words (Some files)) }
+{}
+
+/// A reply has status 0 or 1. A fault, which has status 2 or 3, is one line: its text ends with its only line feed, whatever
+/// stands in the words and the files.
+pub fn each_fault_is_one_line()
+    ensures reply { (words : List Word) (held : Option Files) (reply : Reply) → Answer words held (Ok reply) → (reply.status ≡ 0) ⊎ (reply.status ≡ 1) }
+    ensures status { (fault : Fault) → (fault_status fault ≡ 2) ⊎ (fault_status fault ≡ 3) }
+    ensures line { (words : List Word) (held : Option Files) (fault : Fault) → Answer words held (Err fault) → IsOneLine (fault_line fault) }
 {}
 
 /// The circuit of a signature's text and a netlist's text is well-formed, so that it has exactly one output at each input.

@@ -9,6 +9,11 @@ pub mod NetlistDetermined
 pub mod RoleLemmas
 pub mod LabelLemmas
 pub mod CircuitLemmas
+pub mod LabelFaultLemmas
+pub mod BlifLabelLemmas
+pub mod AigerLabelLemmas
+pub mod NetlistLineLemmas
+pub mod FileLineLemmas
 pub mod RoseLemmas
 pub mod OutputLemmas
 pub mod SpecificationDetermined

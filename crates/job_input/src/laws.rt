@@ -1,13 +1,20 @@
 //! Laws of settings, circuits and specifications. These functions do nothing: their contracts are proved of the definitions alone.
-ghost use Rattle.std.specs.Prelude.{List, ℕ, Ok};
+ghost use Rattle.std.specs.Prelude.{List, ℕ, Option, Ok, Err};
 ghost use Rattle.text_core.specs.Outcome.{Determined};
+ghost use Rattle.job_io.specs.Shelf.{Files};
 ghost use Rattle.net_signature.specs.Signature.{SignatureValue};
+ghost use Rattle.net_signature.specs.WordNames.{HaveNames};
+ghost use Rattle.net_words.specs.declared.word.WordText.{WordText};
 ghost use Rattle.poly_mixed.specs.Labels.{Labelling};
-ghost use Rattle.job_input.specs.NetlistOf.{BoundNetOf, NetlistText};
+ghost use Rattle.job_words.specs.OneLine.{HasNoLineFeed, KeepsToItsLine};
+ghost use Rattle.job_words.specs.Operands.{Word};
+ghost use Rattle.job_words.specs.declared.fault.Fault.{Fault};
+ghost use Rattle.job_input.specs.NetlistOf.{BoundNetOf, CircuitIn, NetlistText};
 ghost use Rattle.job_input.specs.SettingOf.{SettingOf};
 ghost use Rattle.job_input.specs.SettingSound.{IsSoundSetting};
 ghost use Rattle.job_input.specs.SettingValue.{SettingValue};
-ghost use Rattle.job_input.specs.SpecificationIn.{SpecificationOf};
+ghost use Rattle.job_input.specs.SignedIn.{SignedIn};
+ghost use Rattle.job_input.specs.SpecificationIn.{SpecificationIn, SpecificationOf};
 
 /// At most one setting or fault comes of a signature's text.
 pub fn one_setting_or_fault()
@@ -27,4 +34,12 @@ pub fn one_netlist_or_fault()
 /// At most one specification, or one fault, comes of the text of a specification over the words of some labels.
 pub fn one_specification_or_fault()
     ensures { (labels : Labelling) (k : ℕ) (product : ℕ → ℕ → ℕ) (text : List ℕ) → Determined (SpecificationOf labels k product text) }
+{}
+
+/// What a fault of a job's files repeats of words and files has no line feed, where the file's name has none: a signature's
+/// fault, a netlist's under words that have names, and a specification's.
+pub fn faults_keep_to_their_line()
+    ensures signature { (held : Option Files) (name : Word) (fault : Fault) → HasNoLineFeed name → SignedIn held name (Err fault) → KeepsToItsLine fault }
+    ensures netlist { (held : Option Files) (words : List WordText) (name : Word) (fault : Fault) → HaveNames words → HasNoLineFeed name → CircuitIn held words name (Err fault) → KeepsToItsLine fault }
+    ensures specification { (held : Option Files) (labels : Labelling) (k : ℕ) (product : ℕ → ℕ → ℕ) (name : Word) (fault : Fault) → HasNoLineFeed name → SpecificationIn held labels k product name (Err fault) → KeepsToItsLine fault }
 {}

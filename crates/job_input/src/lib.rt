@@ -16,7 +16,8 @@ mod specification;
 pub use circuit::read_circuit;
 pub use labels::labels_for;
 pub use laws::{
-    each_setting_is_sound, one_netlist_or_fault, one_setting_or_fault, one_specification_or_fault,
+    each_setting_is_sound, faults_keep_to_their_line, one_netlist_or_fault, one_setting_or_fault,
+    one_specification_or_fault,
 };
 pub use output::output_basis;
 pub use setting::{Setting, setting_over};

@@ -5,15 +5,25 @@ use Rattle.text_core.specs.Numbers.{IsDigit}
 use Rattle.poly_mixed.specs.declared.stage.Stage.TheVariants as stages
 use Rattle.job_words.specs.Command.{Bits, Abstract, Same, IsSpelled}
 use Rattle.job_words.specs.Fault.{fault_line, fault_status}
+use Rattle.job_words.specs.OneLine.{IsOneLine, repeated}
 use Rattle.job_words.specs.Operands.{IsOperand, IsNetlistName, IsOverNet, is_aiger}
 use Rattle.job_words.specs.StageFault.{stage_text}
 use Rattle.job_words.specs.declared.fault.Fault.{Fault}
 use Rattle.job_words.specs.declared.fault.Fault.TheVariants as faults
 use Rattle.job_words.specs.declared.netlist_fault.NetlistFault.TheVariants as netlist
+use Rattle.job_words.proofs.OneLineLemmas.{clean_kept}
 
 -- the line where the net y of n.blif has two drivers
 line_of_driven_twice : fault_line (faults.Netlist (codes "n.blif") (netlist.DrivenTwice (codes "y"))) ≡ codes "fault 34: net y is driven twice in n.blif\n"
 line_of_driven_twice = refl
+
+-- it repeats the file's name and the net's
+repeated_of_driven_twice : repeated (faults.Netlist (codes "n.blif") (netlist.DrivenTwice (codes "y"))) ≡ codes "n.blif" ∷ codes "y" ∷ []
+repeated_of_driven_twice = refl
+
+-- the line of fault 01 is one line
+words_on_one_line : IsOneLine (codes "fault 01: words\n")
+words_on_one_line = record { before = codes "fault 01: words"; ends = refl; only = clean_kept (codes "fault 01: words") refl }
 
 abbrev over : Fault
 over = faults.Stage (record { stage = codes "word A term 1 bit 2"; terms = 70000; bound = 65536 })

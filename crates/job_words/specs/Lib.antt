@@ -7,3 +7,4 @@ pub mod SpecificationFault
 pub mod StageFault
 pub mod Fault
 pub mod Stop
+pub mod OneLine

@@ -7,14 +7,14 @@ use Rattle.job_words.specs.declared.netlist_fault.NetlistFault.{NetlistFault}
 use Rattle.job_words.specs.declared.netlist_fault.NetlistFault.TheVariants as netlist
 
 -- `W[i]` for bit i of word W, and what stands behind it
-abbrev pub bit_text : List ℕ → ℕ → List ℕ → List ℕ
-bit_text word place rest = word ++ (codes "[" ++ (decimal place ++ (codes "]" ++ rest)))
+abbrev pub place_text : List ℕ → ℕ → List ℕ → List ℕ
+place_text word place rest = word ++ (codes "[" ++ (decimal place ++ (codes "]" ++ rest)))
 
 -- the number and the text of a fault of a binding
 abbrev pub binding_text : BindingFault → List ℕ
-binding_text (binding.NoSuchNet word place) = codes "39: no net for " ++ bit_text word place (codes "")
-binding_text (binding.NotInput word place) = codes "39: " ++ bit_text word place (codes " is no input")
-binding_text (binding.NotLatch word place) = codes "39: " ++ bit_text word place (codes " is no latch")
+binding_text (binding.NoSuchNet word place) = codes "39: no net for " ++ place_text word place (codes "")
+binding_text (binding.NotInput word place) = codes "39: " ++ place_text word place (codes " is no input")
+binding_text (binding.NotLatch word place) = codes "39: " ++ place_text word place (codes " is no latch")
 binding_text (binding.NetTwice label) = codes "39: net " ++ (label ++ codes " stands twice")
 binding_text (binding.FeedNotFree line) = codes "13: feed at line " ++ (decimal line ++ codes " is no free input")
 binding_text (binding.Uncovered label) = codes "39: input " ++ (label ++ codes " is in no word")

@@ -5,6 +5,7 @@
 mod command;
 mod fault;
 mod file_fault;
+mod laws;
 mod netlist_fault;
 mod operands;
 mod signature_fault;
@@ -15,6 +16,7 @@ mod stop;
 pub use command::{Command, NetWords, PairWords, Task, read_words};
 pub use fault::{Fault, status_of, write_fault};
 pub use file_fault::FileFault;
+pub use laws::each_fault_is_one_line;
 pub use netlist_fault::{BindingFault, NetlistFault};
 pub use signature_fault::SignatureFault;
 pub use specification_fault::SpecificationFault;

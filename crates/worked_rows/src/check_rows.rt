@@ -1,9 +1,11 @@
 //! A netlist compared with its specification.
 use crate::row::Row;
 use crate::texts::{
-    CUBE, FOURTH_POWER, INVERSE, MULTIPLIER, MULTIPLIER_WITH_OR, NOTHING, OTHER_WORD, POWER_14,
-    POWER_29, POWER_TOO_LARGE, PRODUCT, SQUARE, TIMES_Y, TIMES_Y_TO_16, TOWER_WORD, WIRED_WORD,
-    WIRES, WORD_OF_4, WORD_OF_16, WORDS_OF_4, ZERO,
+    A_FOUR_TIMES, A_TWICE, ALL_CANCELLED, BUFFERS, CUBE, FOURTH_POWER, INVERSE, LIST_WORD, LISTED,
+    LISTED_TIMES_Y, LISTED_TOWER_WORD, MULTIPLIER, MULTIPLIER_WITH_OR, NOR, NOTHING, ONCE, ONE,
+    OTHER_WORD, POWER_0, POWER_14, POWER_29, POWER_64_BITS, POWER_TOO_LARGE, PRODUCT, SQUARE,
+    TERM_CANCELLED, TIMES_Y, TIMES_Y_TO_16, TOWER_WORD, WIRED_WORD, WIRES, WORD_OF_4, WORD_OF_16,
+    WORDS_OF_4, ZERO,
 };
 
 pub static ROWS_1: [Row; 8] = [
@@ -163,5 +165,107 @@ pub static ROWS_2: [Row; 6] = [
         ],
         status: 0,
         text: "accepted\nZ = 0x4*A\n",
+    },
+];
+
+pub static ROWS_3: [Row; 9] = [
+    Row {
+        name: "check with an exponent of 0",
+        words: &["check", "s4a", "one", "p0"],
+        files: &[
+            ("s4a", WORD_OF_4, 0, ""),
+            ("one", ONE, 0, ""),
+            ("p0", POWER_0, 0, ""),
+        ],
+        status: 0,
+        text: "accepted\nZ = 0x1\n",
+    },
+    Row {
+        name: "check with a factor of 1",
+        words: &["check", "s4w", "wires", "once"],
+        files: &[
+            ("s4w", WIRED_WORD, 0, ""),
+            ("wires", WIRES, 0, ""),
+            ("once", ONCE, 0, ""),
+        ],
+        status: 0,
+        text: "accepted\nZ = A\n",
+    },
+    Row {
+        name: "check with a word twice in a term",
+        words: &["check", "s4w", "wires", "aa"],
+        files: &[
+            ("s4w", WIRED_WORD, 0, ""),
+            ("wires", WIRES, 0, ""),
+            ("aa", A_TWICE, 0, ""),
+        ],
+        status: 1,
+        text: "rejected\nZ = A\nA = 0x2\nnetlist 0x2\nspecification 0x3\n",
+    },
+    Row {
+        name: "check with a word four times in a term",
+        words: &["check", "s4w", "wires", "aaaa"],
+        files: &[
+            ("s4w", WIRED_WORD, 0, ""),
+            ("wires", WIRES, 0, ""),
+            ("aaaa", A_FOUR_TIMES, 0, ""),
+        ],
+        status: 0,
+        text: "accepted\nZ = A\n",
+    },
+    Row {
+        name: "check with an exponent of 64 ones",
+        words: &["check", "s4a", "nor", "p64"],
+        files: &[
+            ("s4a", WORD_OF_4, 0, ""),
+            ("nor", NOR, 0, ""),
+            ("p64", POWER_64_BITS, 0, ""),
+        ],
+        status: 0,
+        text: "accepted\nZ = A^3 + 0x1\n",
+    },
+    Row {
+        name: "check where a term cancels another",
+        words: &["check", "s4w", "wires", "cancel"],
+        files: &[
+            ("s4w", WIRED_WORD, 0, ""),
+            ("wires", WIRES, 0, ""),
+            ("cancel", TERM_CANCELLED, 0, ""),
+        ],
+        status: 0,
+        text: "accepted\nZ = A\n",
+    },
+    Row {
+        name: "check where all terms cancel",
+        words: &["check", "s4a", "zero", "cancel"],
+        files: &[
+            ("s4a", WORD_OF_4, 0, ""),
+            ("zero", ZERO, 0, ""),
+            ("cancel", ALL_CANCELLED, 0, ""),
+        ],
+        status: 0,
+        text: "accepted\nZ = 0\n",
+    },
+    Row {
+        name: "check over a list basis",
+        words: &["check", "l8", "wires", "spec"],
+        files: &[
+            ("l8", LIST_WORD, 0, ""),
+            ("wires", BUFFERS, 0, ""),
+            ("spec", LISTED, 0, ""),
+        ],
+        status: 0,
+        text: "accepted\nZ = A^4 + 0x7*A^2 + 0x2*A\n",
+    },
+    Row {
+        name: "check over a list and a normal basis of a tower",
+        words: &["check", "lt16", "mulY", "spec"],
+        files: &[
+            ("lt16", LISTED_TOWER_WORD, 0, ""),
+            ("mulY", TIMES_Y, 0, ""),
+            ("spec", LISTED_TIMES_Y, 0, ""),
+        ],
+        status: 0,
+        text: "accepted\nZ = 0x4*A^8 + 0xf*A^4 + 0x8*A^2 + 0xd*A\n",
     },
 ];

@@ -58,6 +58,11 @@ fn check_rows_2(rt: HostRuntime) -> Result<(), Fail> {
 }
 
 #[test]
+fn check_rows_3(rt: HostRuntime) -> Result<(), Fail> {
+    check(&rt, rt.alloc(), &check_rows::ROWS_3)
+}
+
+#[test]
 fn stage_rows(rt: HostRuntime) -> Result<(), Fail> {
     check(&rt, rt.alloc(), &stage_rows::ROWS)
 }
@@ -75,6 +80,11 @@ fn same_rows_2(rt: HostRuntime) -> Result<(), Fail> {
 #[test]
 fn same_rows_3(rt: HostRuntime) -> Result<(), Fail> {
     check(&rt, rt.alloc(), &same_rows::ROWS_3)
+}
+
+#[test]
+fn same_rows_4(rt: HostRuntime) -> Result<(), Fail> {
+    check(&rt, rt.alloc(), &same_rows::ROWS_4)
 }
 
 #[test]

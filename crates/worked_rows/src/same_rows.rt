@@ -1,8 +1,9 @@
 //! Two netlists compared.
 use crate::row::Row;
 use crate::texts::{
-    ALL_ONES_OF_65536, BUFFERS, CONJUNCTION, CONJUNCTION_BY_NOR, EXCLUSIVE_OR, LOOP, MULTIPLIER,
-    MULTIPLIER_WITH_OR, NO_DRIVER, NOR, ONE_BIT_OR_TWO, ONE_OF_65536, TWICE_INVERTED, WORD_OF_4,
+    ALL_ONES_OF_65536, BUFFERS, BUFFERS_AND_ONE_BIT, CONJUNCTION, CONJUNCTION_BY_NOR, EXCLUSIVE_OR,
+    LIST_WORD, LISTED_TOWER_WORD, LOOP, MULTIPLIER, MULTIPLIER_WITH_OR, NO_DRIVER, NOR,
+    ONE_BIT_OR_TWO, ONE_OF_65536, TIMES_Y, TIMES_Y_BY_NAND, TOWER_WORD, TWICE_INVERTED, WORD_OF_4,
     WORD_OF_8, WORDS_OF_4, WORDS_OF_256, ZERO, ZERO_OF_65536, ZERO_OF_TWO,
 };
 
@@ -277,5 +278,96 @@ pub static ROWS_3: [Row; 9] = [
         ],
         status: 1,
         text: "differ\nA = 0xff\nB = 0xff\nfirst 0x0\nsecond 0x1\n",
+    },
+];
+
+pub static ROWS_4: [Row; 8] = [
+    Row {
+        name: "same over a tower",
+        words: &["same", "t16a", "mulY", "nand"],
+        files: &[
+            ("t16a", TOWER_WORD, 0, ""),
+            ("mulY", TIMES_Y, 0, ""),
+            ("nand", TIMES_Y_BY_NAND, 0, ""),
+        ],
+        status: 0,
+        text: "same\n",
+    },
+    Row {
+        name: "same where two bits over a tower meet",
+        words: &["same", "t16a", "mulY", "or"],
+        files: &[
+            ("t16a", TOWER_WORD, 0, ""),
+            ("mulY", TIMES_Y, 0, ""),
+            ("or", TIMES_Y, 13, "1- 1"),
+        ],
+        status: 1,
+        text: "differ\nA = 0xa\nfirst 0x3\nsecond 0xb\n",
+    },
+    Row {
+        name: "same where a bit over a tower is left out",
+        words: &["same", "t16a", "mulY", "left"],
+        files: &[
+            ("t16a", TOWER_WORD, 0, ""),
+            ("mulY", TIMES_Y, 0, ""),
+            ("left", TIMES_Y, 10, "11 1"),
+        ],
+        status: 1,
+        text: "differ\nA = 0x1\nfirst 0x4\nsecond 0x0\n",
+    },
+    Row {
+        name: "same over a list basis",
+        words: &["same", "l8", "wires", "inverted"],
+        files: &[
+            ("l8", LIST_WORD, 0, ""),
+            ("wires", BUFFERS, 0, ""),
+            ("inverted", TWICE_INVERTED, 0, ""),
+        ],
+        status: 0,
+        text: "same\n",
+    },
+    Row {
+        name: "same where a bit over a list basis is turned",
+        words: &["same", "l8", "wires", "turned"],
+        files: &[
+            ("l8", LIST_WORD, 0, ""),
+            ("wires", BUFFERS, 0, ""),
+            ("turned", BUFFERS, 5, "0 1"),
+        ],
+        status: 1,
+        text: "differ\nA = 0x0\nfirst 0x0\nsecond 0x7\n",
+    },
+    Row {
+        name: "same where two bits over a list basis meet",
+        words: &["same", "l8", "wires", "and"],
+        files: &[
+            ("l8", LIST_WORD, 0, ""),
+            ("wires", BUFFERS, 0, ""),
+            ("and", BUFFERS_AND_ONE_BIT, 0, ""),
+        ],
+        status: 1,
+        text: "differ\nA = 0x4\nfirst 0x5\nsecond 0x4\n",
+    },
+    Row {
+        name: "same over a list basis of a tower",
+        words: &["same", "lt16", "mulY", "nand"],
+        files: &[
+            ("lt16", LISTED_TOWER_WORD, 0, ""),
+            ("mulY", TIMES_Y, 0, ""),
+            ("nand", TIMES_Y_BY_NAND, 0, ""),
+        ],
+        status: 0,
+        text: "same\n",
+    },
+    Row {
+        name: "same where two bits over a list basis of a tower meet",
+        words: &["same", "lt16", "mulY", "or"],
+        files: &[
+            ("lt16", LISTED_TOWER_WORD, 0, ""),
+            ("mulY", TIMES_Y, 0, ""),
+            ("or", TIMES_Y, 13, "1- 1"),
+        ],
+        status: 1,
+        text: "differ\nA = 0x3\nfirst 0x5\nsecond 0xb\n",
     },
 ];

@@ -4,14 +4,23 @@ pub const AIGER_CONJUNCTION: &str = "aag 3 2 0 1 1\n2\n4\n6\n6 2 4\ni0 a\ni1 b\n
 
 pub const AIGER_TOGGLE: &str = "aag 1 0 1 1 0\n2 3\n2\n";
 
+pub const ALL_CANCELLED: &str = "Z = 0x2*A + A^5 + 0x2*A + A^5\n";
+
 pub const ALL_ONES_OF_65536: &str =
     ".model m\n.inputs a0 a1 a2 a3 a4 a5 a6 a7 b0 b1 b2 b3 b4 b5 b6 b7\n.outputs z0 z1 z2 z3 z4 z5 z6 z7\n.names a0 a1 a2 a3 p0\n1111 1\n.names a4 a5 a6 a7 p1\n1111 1\n.names b0 b1 b2 b3 q0\n1111 1\n.names b4 b5 b6 b7 q1\n1111 1\n.names p0 p1 q0 q1 z0\n1111 1\n.names z1\n.names z2\n.names z3\n.names z4\n.names z5\n.names z6\n.names z7\n.end\n";
+
+pub const A_FOUR_TIMES: &str = "Z = A*A*A*A\n";
+
+pub const A_TWICE: &str = "Z = A*A\n";
 
 pub const BIT_SUM: &str =
     ".model m\n.inputs a0 a1 b0 b1\n.outputs z0 z1\n.names a0 b0 z0\n10 1\n01 1\n.names z1\n.end\n";
 
 pub const BUFFERS: &str =
     ".model m\n.inputs a0 a1 a2\n.outputs z0 z1 z2\n.names a0 z0\n1 1\n.names a1 z1\n1 1\n.names a2 z2\n1 1\n.end\n";
+
+pub const BUFFERS_AND_ONE_BIT: &str =
+    ".model m\n.inputs a0 a1 a2\n.outputs z0 z1 z2\n.names a0 z0\n1 1\n.names a0 a1 a2 z1\n-1- 1\n1-1 1\n.names a2 z2\n1 1\n.end\n";
 
 pub const CERTIFICATE: &str =
     "gfcert 1\nclaim Z = A*B\nnet 5 : 0x2\nnet 10 : 0x2\nnet 4 : 0x1\nnet 9 : 0x3\nnet 8 : 0x2\nnet 7 : 0x2\nnet 6 : 0x1\nbit A[0] : B[0]\nbit A[0] : 0x2*B[1]\nbit A[1] : 0x2*B[0]\nbit A[1] : 0x3*B[1]\nbit B[0] : A\nbit B[1] : 0x2*A\nend\n";
@@ -52,6 +61,16 @@ pub const INVERSE: &str =
 pub const LIBRARY_GATE: &str =
     ".model m\n.inputs a0 a1\n.outputs z0 z1\n.gate buf a=a0 O=z0\n.names z1\n.end\n";
 
+pub const LISTED: &str = "Z = A^4 + 0x7*A^2 + 0x2*A\n";
+
+pub const LISTED_TIMES_Y: &str = "Z = 0x4*A^8 + 0xf*A^4 + 0x8*A^2 + 0xd*A\n";
+
+pub const LISTED_TOWER_WORD: &str =
+    "gfsig 1\nfield 0x7\ntower 0x2 0x1\nword A input list:0x4,0x1,0xb,0x2 a0 a1 a2 a3\nword Z output normal:0x8 z0 z1 z2 z3\n";
+
+pub const LIST_WORD: &str =
+    "gfsig 1\nfield 0xb\nword A input list:0x3,0x5,0x7 a0 a1 a2\nword Z output list:0x7,0x1,0x2 z0 z1 z2\n";
+
 pub const LOOP: &str = ".model l\n.outputs x y\n.names y x\n1 1\n.names x y\n1 1\n.end\n";
 
 pub const MODEL_TWICE: &str =
@@ -80,6 +99,8 @@ pub const NOTHING: &str = "Z = 0\n";
 pub const NO_DRIVER: &str =
     ".model m\n.inputs a0 a1\n.outputs z0 z1\n.names q z0\n1 1\n.names z1\n.end\n";
 
+pub const ONCE: &str = "Z = 1*A\n";
+
 pub const ONE: &str = ".model m\n.inputs a0 a1\n.outputs z0 z1\n.names z0\n1\n.names z1\n.end\n";
 
 pub const ONE_BIT_OR_TWO: &str =
@@ -93,9 +114,13 @@ pub const OTHER_NAMES: &str =
 
 pub const OTHER_WORD: &str = "Z = A*C\n";
 
+pub const POWER_0: &str = "Z = A^0\n";
+
 pub const POWER_14: &str = "Z = A^14\n";
 
 pub const POWER_29: &str = "Z = A^29\n";
+
+pub const POWER_64_BITS: &str = "Z = 1 + A^18446744073709551615\n";
 
 pub const POWER_TOO_LARGE: &str = "Z = A^18446744073709551616\n";
 
@@ -108,8 +133,13 @@ pub const ROTATION: &str = ".model w\n.inputs a0 a1 a2\n.outputs a0 a1 a2\n.end\
 
 pub const SQUARE: &str = "Z = A^2\n";
 
+pub const TERM_CANCELLED: &str = "Z = A^2 + A + A^2\n";
+
 pub const TIMES_Y: &str =
     ".model y\n.inputs a0 a1 a2 a3\n.outputs z0 z1 z2 z3\n.names a3 z0\n1 1\n.names a2 a3 z1\n10 1\n01 1\n.names a0 a2 z2\n10 1\n01 1\n.names a1 a3 z3\n10 1\n01 1\n.end\n";
+
+pub const TIMES_Y_BY_NAND: &str =
+    ".model y\n.inputs a0 a1 a2 a3\n.outputs z0 z1 z2 z3\n.names a3 i\n0 1\n.names i z0\n0 1\n.names a2 a3 n\n11 0\n.names a2 n p\n11 0\n.names a3 n q\n11 0\n.names p q z1\n11 0\n.names a0 a2 z2\n10 1\n01 1\n.names a3 a1 z3\n01 1\n10 1\n.end\n";
 
 pub const TIMES_Y_TO_16: &str = "Z = 0x4*A^16\n";
 

@@ -1,0 +1,121 @@
+-- Each fault that may come is one line.
+use Rattle.std.proofs.Common.{◌≡◌, inl, inr, refl, subst, sym, ℕ, List, Option, Ok, Err}
+use Rattle.std.specs.Prelude.{codes}
+use Rattle.job_io.specs.Shelf.{Files}
+use Rattle.net_words.specs.Binding.{BoundNet}
+use Rattle.net_signature.specs.WordNames.{HaveNames}
+use Rattle.poly_mixed.specs.Labels.{Labelling}
+use Rattle.poly_mixed.specs.declared.stage.Stage.{Stage}
+use Rattle.spec_expand.specs.Specification.{SpecTerms}
+use Rattle.spec_expand.specs.SpecListing.{spec_listing}
+use Rattle.stage_model.specs.Listing.{Joined, Earlier, Later, Listing}
+use Rattle.job_words.specs.Command.{Action, Bits, Abstract, Check, Same, IsSpelled, Job}
+use Rattle.job_words.specs.Fault.{fault_line}
+use Rattle.job_words.specs.OneLine.{HasNoLineFeed, IsOneLine, KeepsToItsLine}
+use Rattle.job_words.specs.Operands.{IsOperand, Word}
+use Rattle.job_words.specs.StageFault.{stage_text}
+use Rattle.job_words.specs.declared.fault.Fault.{Fault}
+use Rattle.job_words.specs.declared.fault.Fault.TheVariants as faults
+use Rattle.job_words.specs.declared.stage_fault.StageFault.{StageFault}
+use Rattle.job_words.proofs.OneLineLemmas.{before_kept, one_line, stage_kept}
+use Rattle.job_input.specs.Labelling.{labels_of}
+use Rattle.job_input.specs.SettingOf.{SettingWith, SignedOf, SignedValue}
+use Rattle.job_input.specs.SettingValue.{SettingValue}
+use Rattle.job_input.proofs.FileLineLemmas.{HaveKeptNames, circuit_keeps, labels_kept, operand_kept, signed_keeps, specification_keeps}
+use Rattle.job_input.proofs.SignedLemmas.{setting_names}
+use Rattle.gf_abs.specs.Answer.{ActionAnswer, Answer, JobAnswer, SignedAnswer}
+use Rattle.gf_abs.specs.Staged.{IsStageOver, Staged, either_net_text, either_text}
+use Rattle.gf_abs.specs.commands.Abstract.{AbstractReply, abstract_stages, taken_circuit}
+use Rattle.gf_abs.specs.commands.Bits.{BitsReply, bits_stages}
+use Rattle.gf_abs.specs.commands.Check.{CheckReply}
+use Rattle.gf_abs.specs.commands.Same.{SameReply, same_stages}
+
+-- ---- what the words of a command name
+
+-- the operands have no line feed
+abbrev AreKept : Action → Type 0
+AreKept (Bits net terms) = HasNoLineFeed net
+AreKept (Abstract net terms) = HasNoLineFeed net
+AreKept (Check net specification terms) = HasNoLineFeed net × HasNoLineFeed specification
+AreKept (Same net other terms) = HasNoLineFeed net × HasNoLineFeed other
+
+spelled_kept : (words : List Word) (signature : Word) (action : Action) → IsSpelled words (record { signature = signature; action = action }) → HasNoLineFeed signature × AreKept action
+spelled_kept words signature (Bits net terms) is = (operand_kept signature is.follow.signature_is, operand_kept net is.follow.net_is)
+spelled_kept words signature (Abstract net terms) is = (operand_kept signature is.follow.signature_is, operand_kept net is.follow.net_is)
+spelled_kept words signature (Check net specification terms) is = (operand_kept signature is.follow.signature_is, (operand_kept net is.follow.net_is, operand_kept specification is.follow.other_is))
+spelled_kept words signature (Same net other terms) is = (operand_kept signature is.follow.pair.signature_is, (operand_kept net is.follow.pair.net_is, operand_kept other is.follow.pair.other_is))
+
+-- ---- stages
+
+same_line : (fault other : Fault) → fault ≡ other → KeepsToItsLine other → KeepsToItsLine fault
+same_line fault other same keeps = let P : Fault → Type 0 = KeepsToItsLine in subst P (sym same) keeps
+
+-- the first stage over the bound, whatever the stages are called
+over_kept : (k : ℕ) (mul : ℕ → ℕ → ℕ) {N : Type 0} (listing : Listing N) (called : N → List ℕ) (bound : ℕ) (fault : Fault) → ((name : N) → HasNoLineFeed (called name)) → (stage : StageFault) → IsStageOver k mul listing called bound stage → fault ≡ faults.Stage stage → KeepsToItsLine fault
+over_kept k mul listing called bound fault kept stage over same = let P : List ℕ → Type 0 = HasNoLineFeed in same_line fault (faults.Stage stage) same (subst P (sym over.text) (kept over.name), tt)
+
+module _ (labels : Labelling) (names : HaveKeptNames labels.words) where
+  one_kept : (stage : Stage) → HasNoLineFeed (stage_text labels stage)
+  one_kept stage = stage_kept labels stage names
+
+  either_kept : (stage : Joined Stage Stage) → HasNoLineFeed (either_text labels stage)
+  either_kept (Earlier stage) = one_kept stage
+  either_kept (Later stage) = one_kept stage
+
+  net_kept : (stage : Joined Stage Stage) → HasNoLineFeed (either_net_text labels stage)
+  net_kept (Earlier stage) = one_kept stage
+  net_kept (Later stage) = before_kept (codes "second ") (stage_text labels stage) refl (one_kept stage)
+
+-- ---- the reply of each command
+
+module _ (setting : SettingValue) (names : HaveNames setting.signature.words) where
+  kept : HaveKeptNames (labels_of setting.k setting.signature.words).words
+  kept = labels_kept setting.k setting.signature.words names
+
+  bits_kept : (circuit : BoundNet) (bound : ℕ) (fault : Fault) → BitsReply setting circuit bound (Err fault) → KeepsToItsLine fault
+  bits_kept circuit bound fault (inl (stage, over, same)) = over_kept setting.k setting.product (bits_stages setting circuit) (stage_text (labels_of setting.k setting.signature.words)) bound fault (one_kept (labels_of setting.k setting.signature.words) kept) stage over same
+  bits_kept circuit bound fault (inr (ts, of, never)) = absurd never
+
+  abstract_kept : (circuit : BoundNet) (bound : ℕ) (fault : Fault) → AbstractReply setting circuit bound (Err fault) → KeepsToItsLine fault
+  abstract_kept circuit bound fault (inl (stage, over, same)) = over_kept setting.k setting.product (abstract_stages setting circuit) (either_text (labels_of setting.k setting.signature.words)) bound fault (either_kept (labels_of setting.k setting.signature.words) kept) stage over same
+  abstract_kept circuit bound fault (inr (ts, of, never)) = absurd never
+
+  same_kept : (circuit other : BoundNet) (bound : ℕ) (fault : Fault) → SameReply setting circuit other bound (Err fault) → KeepsToItsLine fault
+  same_kept circuit other bound fault (inl (stage, over, same)) = over_kept setting.k setting.product (same_stages setting circuit other) (either_net_text (labels_of setting.k setting.signature.words)) bound fault (net_kept (labels_of setting.k setting.signature.words) kept) stage over same
+  same_kept circuit other bound fault (inr (found, of, never)) = absurd never
+
+  check_kept : (circuit : BoundNet) (spec : SpecTerms) (bound : ℕ) (fault : Fault) → CheckReply setting circuit spec bound (Err fault) → KeepsToItsLine fault
+  check_kept circuit spec bound fault (inl (inl (stage, over, same))) = over_kept setting.k setting.product (abstract_stages setting circuit) (either_text (labels_of setting.k setting.signature.words)) bound fault (either_kept (labels_of setting.k setting.signature.words) kept) stage over same
+  check_kept circuit spec bound fault (inl (inr (ts, of, never))) = absurd never
+  check_kept circuit spec bound fault (inr (line, of, inl (stage, over, same))) = over_kept setting.k setting.product (spec_listing (taken_circuit setting circuit) spec) (stage_text (labels_of setting.k setting.signature.words)) bound fault (one_kept (labels_of setting.k setting.signature.words) kept) stage over same
+  check_kept circuit spec bound fault (inr (line, of, inr (found, is, never))) = absurd never
+
+  -- ---- the answer of each command
+
+  action_kept : (held : Option Files) (action : Action) (fault : Fault) → AreKept action → ActionAnswer held setting action (Err fault) → KeepsToItsLine fault
+  action_kept held (Bits net terms) fault is (inl wrong) = circuit_keeps held setting.signature.words net fault names is wrong
+  action_kept held (Bits net terms) fault is (inr (circuit, taken, wrong)) = bits_kept circuit terms fault wrong
+  action_kept held (Abstract net terms) fault is (inl wrong) = circuit_keeps held setting.signature.words net fault names is wrong
+  action_kept held (Abstract net terms) fault is (inr (circuit, taken, wrong)) = abstract_kept circuit terms fault wrong
+  action_kept held (Check net specification terms) fault is (inl wrong) = circuit_keeps held setting.signature.words net fault names is.0 wrong
+  action_kept held (Check net specification terms) fault is (inr (circuit, taken, inl wrong)) = specification_keeps held (labels_of setting.k setting.signature.words) setting.k setting.product specification fault is.1 wrong
+  action_kept held (Check net specification terms) fault is (inr (circuit, taken, inr (spec, said, wrong))) = check_kept circuit spec terms fault wrong
+  action_kept held (Same net other terms) fault is (inl wrong) = circuit_keeps held setting.signature.words net fault names is.0 wrong
+  action_kept held (Same net other terms) fault is (inr (circuit, taken, inl wrong)) = circuit_keeps held setting.signature.words other fault names is.1 wrong
+  action_kept held (Same net other terms) fault is (inr (circuit, taken, inr (second, more, wrong))) = same_kept circuit second terms fault wrong
+
+signed_kept : (held : Option Files) (text : List ℕ) (signed : SignedValue) (action : Action) (fault : Fault) → SignedOf text (Ok signed) → AreKept action → SignedAnswer held signed action (Err fault) → KeepsToItsLine fault
+signed_kept held text signed action fault is kept (inl (other, wrong, same)) = same_line fault (faults.Signature other) same tt
+signed_kept held text signed action fault is kept (inr (setting, taken, wrong)) = action_kept setting (setting_names text setting (signed, is, taken)) held action fault kept wrong
+
+job_kept : (held : Option Files) (job : Job) (fault : Fault) → HasNoLineFeed job.signature → AreKept job.action → JobAnswer held job (Err fault) → KeepsToItsLine fault
+job_kept held job fault signature action (inl wrong) = signed_keeps held job.signature fault signature wrong
+job_kept held job fault signature action (inr (signed, (text, read, is), wrong)) = signed_kept held text signed job.action fault is action wrong
+
+answer_kept : (words : List Word) (held : Option Files) (fault : Fault) → Answer words held (Err fault) → KeepsToItsLine fault
+answer_kept words held fault (inl (same, never)) = same_line fault faults.Words same tt
+answer_kept words held fault (inr (job, spelled, wrong)) = let kept = spelled_kept words job.signature job.action spelled in job_kept held job fault kept.0 kept.1 wrong
+
+-- the line of a fault that may come is one line
+pub answers_one_line : (words : List Word) (held : Option Files) (fault : Fault) → Answer words held (Err fault) → IsOneLine (fault_line fault)
+answers_one_line words held fault is = one_line fault (answer_kept words held fault is)

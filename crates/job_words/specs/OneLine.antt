@@ -1,0 +1,56 @@
+-- Faults that keep to one line. Source: this project's own, docs/COMMANDS.md.
+use Rattle.std.specs.Prelude.{◌≡◌, ◌≢◌, ℕ, List, [], ◌∷◌, ◌++◌, All, codes}
+use Rattle.std.specs.List.{AllByRecursion}
+use Rattle.job_words.specs.Operands.{Word}
+use Rattle.job_words.specs.declared.fault.Fault.{Fault}
+use Rattle.job_words.specs.declared.fault.Fault.TheVariants as faults
+use Rattle.job_words.specs.declared.file_fault.FileFault.{FileFault}
+use Rattle.job_words.specs.declared.file_fault.FileFault.TheVariants as file
+use Rattle.job_words.specs.declared.netlist_fault.BindingFault.{BindingFault}
+use Rattle.job_words.specs.declared.netlist_fault.BindingFault.TheVariants as binding
+use Rattle.job_words.specs.declared.netlist_fault.NetlistFault.{NetlistFault}
+use Rattle.job_words.specs.declared.netlist_fault.NetlistFault.TheVariants as netlist
+
+-- no line feed is among the bytes
+abbrev pub HasNoLineFeed : List ℕ → Type 0
+HasNoLineFeed bytes = All (λ b. b ≢ 10) bytes
+
+-- the text ends with its only line feed
+pub record IsOneLine (text : List ℕ) : Type 0 where
+  pub before : List ℕ
+  pub ends : text ≡ before ++ codes "\n"
+  pub only : HasNoLineFeed before
+
+-- what a file's fault repeats of the words
+abbrev pub repeated_of_file : FileFault → List Word
+repeated_of_file (file.Absent name) = name ∷ []
+repeated_of_file (file.TooLong name) = name ∷ []
+
+-- what a binding's fault repeats of the signature and the netlist
+abbrev pub repeated_of_binding : BindingFault → List Word
+repeated_of_binding (binding.NoSuchNet word place) = word ∷ []
+repeated_of_binding (binding.NotInput word place) = word ∷ []
+repeated_of_binding (binding.NotLatch word place) = word ∷ []
+repeated_of_binding (binding.NetTwice label) = label ∷ []
+repeated_of_binding (binding.Uncovered label) = label ∷ []
+repeated_of_binding (binding.UnknownStart label) = label ∷ []
+
+-- what a netlist's fault repeats of the netlist, and of the signature where it is the binding's
+abbrev pub repeated_of_netlist : NetlistFault → List Word
+repeated_of_netlist (netlist.LeftOut line word) = word ∷ []
+repeated_of_netlist (netlist.DrivenTwice label) = label ∷ []
+repeated_of_netlist (netlist.Undriven label) = label ∷ []
+repeated_of_netlist (netlist.Loop count label) = label ∷ []
+repeated_of_netlist (netlist.Binding fault) = repeated_of_binding fault
+repeated_of_netlist fault = []
+
+-- what a fault repeats of words and files: all else in its line is the program's own
+abbrev pub repeated : Fault → List Word
+repeated (faults.File fault) = repeated_of_file fault
+repeated (faults.Netlist name fault) = name ∷ repeated_of_netlist fault
+repeated (faults.Stage fault) = fault.stage ∷ []
+repeated fault = []
+
+-- nothing that a fault repeats has a line feed
+abbrev pub KeepsToItsLine : Fault → Type 0
+KeepsToItsLine fault = AllByRecursion HasNoLineFeed (repeated fault)
