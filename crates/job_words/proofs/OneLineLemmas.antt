@@ -127,6 +127,7 @@ binding_clean (binding.NoSuchNet word place) kept = bit_then word place (codes "
 binding_clean (binding.NotInput word place) kept = bit_then word place (codes " is no input") kept.0 refl
 binding_clean (binding.NotLatch word place) kept = bit_then word place (codes " is no latch") kept.0 refl
 binding_clean (binding.NetTwice label) kept = word_then label (codes " stands twice") kept.0 refl
+binding_clean (binding.FeedNotFree line) kept = number_then line (codes " is no free input") refl
 binding_clean (binding.Uncovered label) kept = word_then label (codes " is in no word") kept.0 refl
 binding_clean (binding.UnknownStart label) kept = word_then label (codes " has no start") kept.0 refl
 
@@ -147,6 +148,7 @@ netlist_clean (netlist.Undefined line) kept = number_clean line
 netlist_clean (netlist.NameTwice line) kept = number_clean line
 netlist_clean (netlist.Binding fault) kept = binding_clean fault kept
 netlist_clean netlist.Latches kept = refl
+netlist_clean netlist.Feeds kept = refl
 
 specification_clean : (fault : SpecificationFault) → IsClean (specification_text fault)
 specification_clean (specification.Syntax place) = number_clean place

@@ -32,6 +32,7 @@ repeated_of_binding (binding.NoSuchNet word place) = word ∷ []
 repeated_of_binding (binding.NotInput word place) = word ∷ []
 repeated_of_binding (binding.NotLatch word place) = word ∷ []
 repeated_of_binding (binding.NetTwice label) = label ∷ []
+repeated_of_binding (binding.FeedNotFree line) = []
 repeated_of_binding (binding.Uncovered label) = label ∷ []
 repeated_of_binding (binding.UnknownStart label) = label ∷ []
 
