@@ -93,15 +93,15 @@ module _ (setting : SettingValue) (names : HaveNames setting.signature.words) wh
   -- ---- the answer of each command
 
   action_kept : (held : Option Files) (action : Action) (fault : Fault) → AreKept action → ActionAnswer held setting action (Err fault) → KeepsToItsLine fault
-  action_kept held (Bits net terms) fault is (inl wrong) = circuit_keeps held setting.signature.words net fault names is wrong
+  action_kept held (Bits net terms) fault is (inl wrong) = circuit_keeps held setting.signature net fault names is wrong
   action_kept held (Bits net terms) fault is (inr (circuit, taken, wrong)) = bits_kept circuit terms fault wrong
-  action_kept held (Abstract net terms) fault is (inl wrong) = circuit_keeps held setting.signature.words net fault names is wrong
+  action_kept held (Abstract net terms) fault is (inl wrong) = circuit_keeps held setting.signature net fault names is wrong
   action_kept held (Abstract net terms) fault is (inr (circuit, taken, wrong)) = abstract_kept circuit terms fault wrong
-  action_kept held (Check net specification terms) fault is (inl wrong) = circuit_keeps held setting.signature.words net fault names is.0 wrong
+  action_kept held (Check net specification terms) fault is (inl wrong) = circuit_keeps held setting.signature net fault names is.0 wrong
   action_kept held (Check net specification terms) fault is (inr (circuit, taken, inl wrong)) = specification_keeps held (labels_of setting.k setting.signature.words) setting.k setting.product specification fault is.1 wrong
   action_kept held (Check net specification terms) fault is (inr (circuit, taken, inr (spec, said, wrong))) = check_kept circuit spec terms fault wrong
-  action_kept held (Same net other terms) fault is (inl wrong) = circuit_keeps held setting.signature.words net fault names is.0 wrong
-  action_kept held (Same net other terms) fault is (inr (circuit, taken, inl wrong)) = circuit_keeps held setting.signature.words other fault names is.1 wrong
+  action_kept held (Same net other terms) fault is (inl wrong) = circuit_keeps held setting.signature net fault names is.0 wrong
+  action_kept held (Same net other terms) fault is (inr (circuit, taken, inl wrong)) = circuit_keeps held setting.signature other fault names is.1 wrong
   action_kept held (Same net other terms) fault is (inr (circuit, taken, inr (second, more, wrong))) = same_kept circuit second terms fault wrong
 
 signed_kept : (held : Option Files) (text : List ℕ) (signed : SignedValue) (action : Action) (fault : Fault) → SignedOf text (Ok signed) → AreKept action → SignedAnswer held signed action (Err fault) → KeepsToItsLine fault

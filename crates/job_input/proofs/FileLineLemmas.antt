@@ -6,9 +6,10 @@ use Rattle.std.proofs.lemmas.List.Elements.{All-weaker}
 use Rattle.text_core.specs.Outcome.{Within}
 use Rattle.job_io.specs.Shelf.{Files}
 use Rattle.net_core.specs.Lists.{Has}
+use Rattle.net_signature.specs.Signature.{SignatureValue}
 use Rattle.net_signature.specs.WordNames.{HaveNames}
 use Rattle.net_words.specs.declared.word.Role.{Role}
-use Rattle.net_words.specs.declared.word.Role.TheVariants.{Input, State, Output}
+use Rattle.net_words.specs.declared.word.Role.TheVariants.{Input, State, Fed, Output}
 use Rattle.net_words.specs.declared.word.WordText.{WordText}
 use Rattle.poly_mixed.specs.Labels.{Labelling}
 use Rattle.spec_expand.specs.Specification.{SpecTerms}
@@ -43,9 +44,9 @@ pub signed_keeps : (held : Option Files) (name : Word) (fault : Fault) → HasNo
 signed_keeps held name fault kept (inl is) = file_keeps held name fault kept is
 signed_keeps held name fault kept (inr (text, read, (other, is, same))) = same_line fault (faults.Signature other) same tt
 
-pub circuit_keeps : (held : Option Files) (words : List WordText) (name : Word) (fault : Fault) → HaveNames words → HasNoLineFeed name → CircuitIn held words name (Err fault) → KeepsToItsLine fault
-circuit_keeps held words name fault names kept (inl is) = file_keeps held name fault kept is
-circuit_keeps held words name fault names kept (inr (text, read, (other, is, same))) = same_line fault (faults.Netlist name other) same (kept, netlist_keeps words (by_ending name text) other names is)
+pub circuit_keeps : (held : Option Files) (signature : SignatureValue) (name : Word) (fault : Fault) → HaveNames signature.words → HasNoLineFeed name → CircuitIn held signature name (Err fault) → KeepsToItsLine fault
+circuit_keeps held signature name fault names kept (inl is) = file_keeps held name fault kept is
+circuit_keeps held signature name fault names kept (inr (text, read, (other, is, same))) = same_line fault (faults.Netlist name other) same (kept, netlist_keeps signature (by_ending name text) other names is)
 
 pub specification_keeps : (held : Option Files) (labels : Labelling) (k : ℕ) (product : ℕ → ℕ → ℕ) (name : Word) (fault : Fault) → HasNoLineFeed name → SpecificationIn held labels k product name (Err fault) → KeepsToItsLine fault
 specification_keeps held labels k product name fault kept (inl is) = file_keeps held name fault kept is
@@ -60,6 +61,7 @@ HaveKeptNames words = AllByRecursion (λ (w : List ℕ × ℕ). HasNoLineFeed w.
 label_kept : (role : Role) (name : List ℕ) (k : ℕ) (rest : List (List ℕ × ℕ)) → HasNoLineFeed name → HaveKeptNames rest → HaveKeptNames (word_label role name k ++ rest)
 label_kept Input name k rest kept more = (kept, more)
 label_kept State name k rest kept more = (kept, more)
+label_kept Fed name k rest kept more = (kept, more)
 label_kept Output name k rest kept more = more
 
 pub labels_kept : (k : ℕ) (words : List WordText) → HaveNames words → HaveKeptNames (labels_of k words).words

@@ -19,15 +19,18 @@ use Rattle.net_blif.specs.declared.fault.BlifFault.{BlifFault}
 use Rattle.net_blif.specs.declared.fault.BlifFault.TheVariants as texts
 use Rattle.net_blif.specs.declared.flat_fault.FlatFault.{FlatFault}
 use Rattle.net_blif.specs.declared.flat_fault.FlatFault.TheVariants as flats
+use Rattle.net_signature.specs.Signature.{SignatureValue}
 use Rattle.net_signature.specs.WordNames.{HaveNames}
+use Rattle.net_words.specs.Binding.{Binding}
 use Rattle.net_words.specs.declared.binding.BindFault.{BindFault}
 use Rattle.net_words.specs.declared.binding.BindFault.TheVariants as binds
+use Rattle.net_words.specs.declared.feed.FeedText.{FeedText}
 use Rattle.net_words.specs.declared.word.WordText.{WordText}
 use Rattle.job_words.specs.OneLine.{HasNoLineFeed, repeated_of_binding, repeated_of_netlist}
 use Rattle.job_words.specs.declared.netlist_fault.NetlistFault.{NetlistFault}
 use Rattle.job_words.specs.declared.netlist_fault.NetlistFault.TheVariants as netlist
 use Rattle.job_words.proofs.OneLineLemmas.{IsClean, clean_kept, kept_clean}
-use Rattle.job_input.specs.NetlistOf.{Aiger, Blif, BoundNetOf, NetOf, NetlistText, WordsBound, of_aiger, of_binding, of_model, of_net, of_text, word_name}
+use Rattle.job_input.specs.NetlistOf.{Aiger, Blif, BoundNetOf, InOneCycle, NetOf, NetlistText, WordsBound, of_aiger, of_binding, of_model, of_net, of_text, word_name}
 use Rattle.job_input.proofs.AigerLabelLemmas.{AigerKeeps, aiger_fault_keeps, aiger_labels}
 use Rattle.job_input.proofs.BlifLabelLemmas.{FaultPrints, IsLimit, text_fault_prints, walk_labels_print, walk_stops}
 use Rattle.job_input.proofs.LabelFaultLemmas.{HasCleanLabels, NetKeeps, finish_keeps, text_clean}
@@ -131,14 +134,20 @@ binding_keeps words net (binds.NoSuchNet word place) names labels = (word_kept w
 binding_keeps words net (binds.NotInput word place) names labels = (word_kept words word names, tt)
 binding_keeps words net (binds.NotLatch word place) names labels = (word_kept words word names, tt)
 binding_keeps words net (binds.NetTwice n) names labels = (clean_kept (text_of net n) (text_clean net n labels), tt)
+binding_keeps words net (binds.FeedNotFree line) names labels = tt
 binding_keeps words net (binds.Uncovered n) names labels = (clean_kept (text_of net n) (text_clean net n labels), tt)
 binding_keeps words net (binds.UnknownStart n) names labels = (clean_kept (text_of net n) (text_clean net n labels), tt)
 binding_keeps words net binds.OutOfMemory names labels = ((λ k d less. absurd (omega arith)), tt)
 
-bound_keeps : (words : List WordText) (net : NetList) (fault : NetlistFault) → HaveNames words → HasCleanLabels net → WordsBound words net (Err fault) → NetlistKeeps fault
-bound_keeps words net fault names labels (inl (other, is, same)) = same_keeps fault (netlist.Binding (of_binding words net other)) same (binding_keeps words net other names labels)
-bound_keeps words net fault names labels (inr (bound, is, latches)) = same_keeps fault netlist.Latches latches.0 tt
+-- latches and feeds are refused by a text of the program's own
+cycles_keep : (net : NetList) (bound : Binding) (fault : NetlistFault) → InOneCycle net bound (Err fault) → NetlistKeeps fault
+cycles_keep net bound fault (inl latches) = same_keeps fault netlist.Latches latches.0 tt
+cycles_keep net bound fault (inr feeds) = same_keeps fault netlist.Feeds feeds.0 tt
 
-pub netlist_keeps : (words : List WordText) (text : NetlistText) (fault : NetlistFault) → HaveNames words → BoundNetOf words text (Err fault) → NetlistKeeps fault
-netlist_keeps words text fault names (inl is) = net_fault_keeps text fault is
-netlist_keeps words text fault names (inr (net, is, wrong)) = bound_keeps words net fault names (net_labels text net is) wrong
+bound_keeps : (words : List WordText) (feeds : List FeedText) (net : NetList) (fault : NetlistFault) → HaveNames words → HasCleanLabels net → WordsBound words feeds net (Err fault) → NetlistKeeps fault
+bound_keeps words feeds net fault names labels (inl (other, is, same)) = same_keeps fault (netlist.Binding (of_binding words net other)) same (binding_keeps words net other names labels)
+bound_keeps words feeds net fault names labels (inr (bound, is, unrolled)) = cycles_keep net bound fault unrolled
+
+pub netlist_keeps : (signature : SignatureValue) (text : NetlistText) (fault : NetlistFault) → HaveNames signature.words → BoundNetOf signature text (Err fault) → NetlistKeeps fault
+netlist_keeps signature text fault names (inl is) = net_fault_keeps text fault is
+netlist_keeps signature text fault names (inr (net, is, wrong)) = bound_keeps signature.words _ net fault names (net_labels text net is) wrong

@@ -4,7 +4,6 @@ ghost use Rattle.text_core.specs.Outcome.{Determined};
 ghost use Rattle.job_io.specs.Shelf.{Files};
 ghost use Rattle.net_signature.specs.Signature.{SignatureValue};
 ghost use Rattle.net_signature.specs.WordNames.{HaveNames};
-ghost use Rattle.net_words.specs.declared.word.WordText.{WordText};
 ghost use Rattle.poly_mixed.specs.Labels.{Labelling};
 ghost use Rattle.job_words.specs.OneLine.{HasNoLineFeed, KeepsToItsLine};
 ghost use Rattle.job_words.specs.Operands.{Word};
@@ -40,6 +39,6 @@ pub fn one_specification_or_fault()
 /// fault, a netlist's under words that have names, and a specification's.
 pub fn faults_keep_to_their_line()
     ensures signature { (held : Option Files) (name : Word) (fault : Fault) → HasNoLineFeed name → SignedIn held name (Err fault) → KeepsToItsLine fault }
-    ensures netlist { (held : Option Files) (words : List WordText) (name : Word) (fault : Fault) → HaveNames words → HasNoLineFeed name → CircuitIn held words name (Err fault) → KeepsToItsLine fault }
+    ensures netlist { (held : Option Files) (signature : SignatureValue) (name : Word) (fault : Fault) → HaveNames signature.words → HasNoLineFeed name → CircuitIn held signature name (Err fault) → KeepsToItsLine fault }
     ensures specification { (held : Option Files) (labels : Labelling) (k : ℕ) (product : ℕ → ℕ → ℕ) (name : Word) (fault : Fault) → HasNoLineFeed name → SpecificationIn held labels k product name (Err fault) → KeepsToItsLine fault }
 {}
