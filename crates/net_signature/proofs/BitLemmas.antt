@@ -1,8 +1,9 @@
 -- The parts of a token `NAME[DEC]`.
-use Rattle.std.proofs.Common.{◌≡◌, ◌≢◌, ◌∙◌, ap, sym, refl, inl, inr, ℕ, suc, ◌<◌, List, [], ◌∷◌, ◌++◌, length, take, drop, zero, ◌+◌, ◌-◌, get_or, arith, codes, take_all, length-take}
-use Rattle.std.specs.Prelude.{slice_index}
+use Rattle.std.proofs.Common.{◌≡◌, ◌≢◌, ◌∙◌, ap, sym, refl, inl, inr, ℕ, suc, ◌<◌, List, [], ◌∷◌, ◌++◌, length, take, drop, zero, ◌+◌, ◌-◌, ◌≤◌, Option, None, Some, subst, get_or, arith, codes, take_all, length-take}
+use Rattle.std.specs.Prelude.{slice_index, IfNone}
 use Rattle.std.proofs.lemmas.List.{append_cancel_right, append_assoc, length-append, length-drop, get_or-take}
 use Rattle.text_core.specs.Names.{IsName, IsNameByte}
+use Rattle.text_core.specs.Numbers.{IsDecimal}
 use Rattle.net_signature.specs.Lines.{Token}
 use Rattle.net_signature.specs.Statement.{SaysBit}
 
@@ -81,7 +82,7 @@ split_at xs i less is =
     at : (xs : List ℕ) (i : ℕ) → i < length xs → get_or xs i 0 ≡ 91 → xs ≡ take i xs ++ codes "[" ++ drop (i + 1) xs
     at [] i less is = absurd (omega arith)
     at (x ∷ xs) zero less is = ap (λ b. b ∷ xs) is
-    at (x ∷ xs) (suc i) less is = ap (λ rest. x ∷ rest) (at xs i (omega arith) is)
+    at (x ∷ xs) (suc i) less is = let next : suc i + 1 ≡ suc (i + 1) = omega arith in rw next (ap (λ rest. x ∷ rest) (at xs i (omega arith) is))
 
 -- no `[` stands before the first
 pub before_first : (xs : List ℕ) (i : ℕ) → i < length xs → ((k : ℕ) → k < i → get_or xs k 0 ≡ 91 → ⊥) → HasNoBracket (take i xs)
@@ -89,3 +90,18 @@ before_first xs i less none k within same =
     let long = length-take i xs in
     let below : k < i = omega (arith, long, within) in
     none k below (sym (get_or-take i xs k 0 below) ∙ same)
+
+-- a name and a place that are not there are not in the token either
+pub no_bit : (token front word digits : Token) → token ≡ front ++ codes "]" → front ≡ word ++ codes "[" ++ digits → HasNoBracket word → ((place : ℕ) → IsName word → IsDecimal digits place → place ≤ 63 → ⊥) → (name : Token) (place : ℕ) → SaysBit token name place → ⊥
+no_bit token front word digits ends parts free none name place says =
+    let are = parts_are token front word digits name place says ends parts free in
+    let P : Token → Type 0 = λ t. IsName t in
+    let Q : Token → Type 0 = λ t. IsDecimal t place in
+    none place (subst P (sym are.0) says.is_name) (subst Q (sym are.1) says.is_place) says.within
+
+pub bit_is : (token front word digits : Token) (place : ℕ) → token ≡ front ++ codes "]" → front ≡ word ++ codes "[" ++ digits → IsName word → IsDecimal digits place → place ≤ 63 → SaysBit token word place
+bit_is token front word digits place ends parts name number within = record { digits = digits; token_is = around token front word digits ends parts; is_name = name; is_place = number; within = within }
+
+pub if_none : {X P Q : Type 0} (r : Option X) → (P → Q) → IfNone r P → IfNone r Q
+if_none (Some x) f h = h
+if_none None f h = f h

@@ -63,6 +63,19 @@ two_fit {X = X} {A = A} {C = C} view says f xs d number result long fits =
     two (a ∷ b ∷ []) long = refl
     two (a ∷ b ∷ c ∷ xs) long = absurd (omega arith)
 
+-- a line of three tokens
+pub three_only : {X A C : Type 0} (view : X → A) (says : List Token → A → Type 0) (f : C → Token) (xs : List C) (d : C) (number : ℕ) (result : Result X SigFault) → length xs ≡ 3 → Fits view result (OrSyntax number (says (f (get_or xs 0 d) ∷ f (get_or xs 1 d) ∷ f (get_or xs 2 d) ∷ []))) → Fits view result (OrSyntax number (says (map f xs)))
+three_only {X = X} {A = A} {C = C} view says f xs d number result long fits =
+    let P : List Token → Type 0 = λ tokens. Fits view result (OrSyntax number (says tokens)) in
+    subst P (sym (three xs long)) fits
+  where
+    three : (xs : List C) → length xs ≡ 3 → map f xs ≡ f (get_or xs 0 d) ∷ f (get_or xs 1 d) ∷ f (get_or xs 2 d) ∷ []
+    three [] long = absurd (omega arith)
+    three (a ∷ []) long = absurd (omega arith)
+    three (a ∷ b ∷ []) long = absurd (omega arith)
+    three (a ∷ b ∷ c ∷ []) long = refl
+    three (a ∷ b ∷ c ∷ e ∷ xs) long = absurd (omega arith)
+
 -- a line of a token and those after it
 pub more_fit : {X A C : Type 0} (view : X → A) (says : List Token → A → Type 0) (f : C → Token) (xs : List C) (d : C) (number : ℕ) (result : Result X SigFault) → 1 ≤ length xs → Fits view result (OrSyntax number (says (f (get_or xs 0 d) ∷ map f (take (length xs - 1) (drop 1 xs))))) → Fits view result (OrSyntax number (says (map f xs)))
 more_fit {X = X} {A = A} {C = C} view says f xs d number result long fits =

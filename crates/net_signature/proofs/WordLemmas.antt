@@ -1,7 +1,6 @@
 -- What the line of a word says, part by part.
-use Rattle.std.proofs.Common.{◌≡◌, ap, sym, refl, subst, ℕ, ◌≤◌, ◌-◌, List, [], ◌∷◌, length, map, take, drop, get_or, arith, All, Result, Ok, Err, codes}
+use Rattle.std.proofs.Common.{◌≡◌, ap, sym, refl, subst, ℕ, ◌≤◌, ◌-◌, List, [], ◌∷◌, length, map, take, drop, get_or, arith, All, Result, Err, codes}
 use Rattle.std.proofs.Math.Seq.{take-length}
-use Rattle.text_core.specs.Outcome.{Outcome}
 use Rattle.text_core.specs.Names.{IsName}
 use Rattle.net_words.specs.declared.word.BasisText.{BasisText}
 use Rattle.net_words.specs.declared.word.WordText.{WordText}
@@ -47,8 +46,8 @@ module _ (line : ℕ) (name role basis : Token) (nets : List Token) where
   basis_of : (word : WordText) → IsWord line tokens word → (b : BasisText) × SaysBasis basis b
   basis_of word says = (word.basis, let P : Token → Type 0 = λ t. SaysBasis t word.basis in subst P (sym (ap (λ ts. get_or ts 3 []) says.0.tokens_are)) says.0.is_basis)
 
-  nets_of : (word : WordText) → IsWord line tokens word → (names : List Token) × (names ≡ nets) × All IsNetToken names
-  nets_of word says = (word.nets, sym (ap (drop 4) says.0.tokens_are), says.0.are_nets)
+  nets_of : (word : WordText) → IsWord line tokens word → (names : List Token) × ((names ≡ nets) × All IsNetToken names)
+  nets_of word says = (word.nets, (sym (ap (drop 4) says.0.tokens_are), says.0.are_nets))
 
   pub basis_err : (fault : SigFault) → Fits same_basis (Err fault) (OrSyntax line (SaysBasis basis)) → Fits same_word (Err fault) (OrSyntax line (IsWord line tokens))
   basis_err fault fits = syntax_moves same_basis same_word line (SaysBasis basis) (IsWord line tokens) fault basis_of fits

@@ -1,7 +1,7 @@
 //! What was read of the lines after the field and the towers.
 ghost use Rattle.std.specs.Prelude.{◌≡◌, ◌≤◌, length, Some, None, IfOk};
 ghost use Rattle.text_core.specs.Outcome.{Returns};
-ghost use Rattle.net_signature.specs.Body.{begun, blocks_of, blocks_with, may_stand as may_stand_here, word_may_stand as word_may_stand_here, body_with, block_begun, fed_with, source_of as source_in, fed_word as fed_word_from, next as next_body, ReadsLine};
+ghost use Rattle.net_signature.specs.Body.{begun, blocks_of, blocks_with, may_stand as may_stand_here, word_may_stand as word_may_stand_here, body_with, block_begun, fed_with, source_of as source_in, fed_word as fed_word_from, next as next_body, SaysHere, ReadsLine};
 ghost use Rattle.net_signature.specs.private.Seen.{IsFeedWithin};
 ghost use Rattle.net_signature.specs.Reading.{Fits, line_of};
 
@@ -224,19 +224,31 @@ impl Body {
         }
     }
 
-    /// With what one more line says.
-    pub fn read_line(self, alloc: Global, statement: &Statement) -> Result<Body, SigFault>
-        ensures { Fits (λ body. body) result (ReadsLine self (line_of statement.now)) }
+    // What a line says that may stand here.
+    fn entry_here(&self, alloc: Global, statement: &Statement) -> Result<Entry, SigFault>
+        ensures says { Fits (λ entry. entry) result (SaysHere self.now (line_of statement.now)) }
+        ensures within { IfOk result (λ entry. IsFeedWithin entry) }
     {
-        let line = statement.number;
         let entry = match read_entry(alloc, statement) {
             Ok(entry) => entry,
             Err(fault) => return Err(fault),
         };
         if !self.may_stand(&entry) {
-            return Err(SigFault::Syntax { line });
+            return Err(SigFault::Syntax {
+                line: statement.number,
+            });
         }
-        self.next(alloc, line, entry)
+        Ok(entry)
+    }
+
+    /// With what one more line says.
+    pub fn read_line(self, alloc: Global, statement: &Statement) -> Result<Body, SigFault>
+        ensures { Fits (λ body. body) result (ReadsLine self (line_of statement.now)) }
+    {
+        match self.entry_here(alloc, statement) {
+            Ok(entry) => self.next(alloc, statement.number, entry),
+            Err(fault) => Err(fault),
+        }
     }
 
     /// The words of the top, the feeds, and all blocks.

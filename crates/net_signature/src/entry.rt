@@ -59,22 +59,43 @@ fn entry_of(alloc: Global, line: u32, keyword: &[u8], rest: &[&[u8]]) -> Result<
     ensures { Fits (λ said. said) result (OrSyntax line (SaysEntry (record { number = line; tokens = keyword.now ∷ map (λ t. t.now) rest.now }))) }
 {
     if is_token(keyword, b"word") {
-        match read_word(alloc, line, rest) {
-            Ok(word) => Ok(Entry::Word(word)),
-            Err(fault) => Err(fault),
-        }
+        word_entry(alloc, line, rest)
     } else if is_token(keyword, b"feed") {
-        match read_feed(alloc, line, rest) {
-            Ok(feed) => Ok(Entry::Feed(feed)),
-            Err(fault) => Err(fault),
-        }
+        feed_entry(alloc, line, rest)
     } else if is_token(keyword, b"block") {
-        match read_block(alloc, line, rest) {
-            Ok(model) => Ok(Entry::Block(model)),
-            Err(fault) => Err(fault),
-        }
+        block_entry(alloc, line, rest)
     } else {
         Err(SigFault::Syntax { line })
+    }
+}
+
+// What a line says that begins with `word`.
+fn word_entry(alloc: Global, line: u32, rest: &[&[u8]]) -> Result<Entry, SigFault>
+    ensures { Fits (λ said. said) result (OrSyntax line (SaysEntry (record { number = line; tokens = codes "word" ∷ map (λ t. t.now) rest.now }))) }
+{
+    match read_word(alloc, line, rest) {
+        Ok(word) => Ok(Entry::Word(word)),
+        Err(fault) => Err(fault),
+    }
+}
+
+// What a line says that begins with `feed`.
+fn feed_entry(alloc: Global, line: u32, rest: &[&[u8]]) -> Result<Entry, SigFault>
+    ensures { Fits (λ said. said) result (OrSyntax line (SaysEntry (record { number = line; tokens = codes "feed" ∷ map (λ t. t.now) rest.now }))) }
+{
+    match read_feed(alloc, line, rest) {
+        Ok(feed) => Ok(Entry::Feed(feed)),
+        Err(fault) => Err(fault),
+    }
+}
+
+// What a line says that begins with `block`.
+fn block_entry(alloc: Global, line: u32, rest: &[&[u8]]) -> Result<Entry, SigFault>
+    ensures { Fits (λ said. said) result (OrSyntax line (SaysEntry (record { number = line; tokens = codes "block" ∷ map (λ t. t.now) rest.now }))) }
+{
+    match read_block(alloc, line, rest) {
+        Ok(model) => Ok(Entry::Block(model)),
+        Err(fault) => Err(fault),
     }
 }
 

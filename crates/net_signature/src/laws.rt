@@ -1,1 +1,15 @@
-//! Laws.
+//! Laws of signatures. These functions do nothing: their contracts are proved of the definitions alone.
+ghost use Rattle.std.specs.Prelude.{List, Ok, ℕ};
+ghost use Rattle.text_core.specs.Outcome.{Determined};
+ghost use Rattle.net_signature.specs.Signature.{Sig, SignatureValue};
+ghost use Rattle.net_signature.specs.WordNames.{HaveNames};
+
+/// At most one signature or fault comes of a text.
+pub fn one_signature_or_fault()
+    ensures { (text : List ℕ) → Determined (Sig text) }
+{}
+
+/// The words of a signature have names, and no two have the same.
+pub fn words_have_names()
+    ensures { (text : List ℕ) (signature : SignatureValue) → Sig text (Ok signature) → HaveNames signature.words }
+{}

@@ -6,7 +6,7 @@ use Rattle.net_signature.proofs.reader.read_body.Given as goal
 
 -- what may come of the rest may come of the whole
 abbrev pub invariant-loop-body : goal.invariant-loop-body
-invariant-loop-body l = (outcome : Result BodyValue SigFault) → Reads l.body (left l.lines) outcome → Reads (begun l.version) (left l.initial.lines) outcome
+invariant-loop-body l = (outcome : Result BodyValue SigFault) → Reads l.body (left l.lines) outcome → Reads (begun l.fn.version) (left l.initial.lines) outcome
 
 abbrev pub decreases-loop-body : goal.decreases-loop-body
 decreases-loop-body l = length l.lines.rest.now
