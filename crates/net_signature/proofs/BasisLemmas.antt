@@ -4,12 +4,12 @@ use Rattle.std.specs.Prelude.{◌==◌}
 use Rattle.std.specs.List.{slice_split, AllZip}
 use Rattle.net_signature.specs.Lines.{Token}
 use Rattle.net_signature.specs.Statement.{SaysElement, IsNormalOf, IsListOf}
-use Rattle.net_signature.specs.Signature.{OrSyntax}
+use Rattle.net_signature.specs.Outcomes.{OrSyntax}
 use Rattle.net_signature.specs.Reading.{Fits}
 use Rattle.net_words.specs.declared.word.BasisText.{BasisText}
 use Rattle.net_words.specs.declared.word.BasisText.TheVariants.{Poly, Normal, Elements}
 use Rattle.net_signature.specs.declared.fault.SigFault.{SigFault}
-use Rattle.net_signature.specs.declared.fault.SigFault.TheVariants.{Syntax, NameTwice, TwoOutputs, TooManyWords, NoOutput, OutOfMemory}
+use Rattle.net_signature.specs.declared.fault.SigFault.TheVariants.{Syntax, NameTwice, NoFedWord, FeedTwice, TwoOutputs, TooManyWords, NoOutput, OutOfMemory}
 
 pub normal-none : (token : Token) → ((n : ℕ) → SaysElement token n → ⊥) → (basis : BasisText) → IsNormalOf token basis → ⊥
 normal-none token none Poly is = is
@@ -30,6 +30,8 @@ same_basis basis = basis
 pub list-err : (number : ℕ) (token : Token) (parts : List Token) (fault : SigFault) → parts ≡ slice_split (λ b. b == 44) token → Fits same_list (Err fault) (OrSyntax number (AllZip SaysElement parts)) → Fits same_basis (Err fault) (OrSyntax number (IsListOf token))
 list-err number token parts (Syntax n) are fits = (fits.0, list-none token (λ list zip. let P : List Token → Type 0 = λ ps. AllZip SaysElement ps list in fits.1 list (subst P (sym are) zip)))
 list-err number token parts (NameTwice n) are fits = fits
+list-err number token parts (NoFedWord n) are fits = fits
+list-err number token parts (FeedTwice n) are fits = fits
 list-err number token parts (TwoOutputs n) are fits = fits
 list-err number token parts (TooManyWords n) are fits = fits
 list-err number token parts (NoOutput block) are fits = fits

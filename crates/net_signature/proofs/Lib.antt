@@ -1,7 +1,13 @@
 pub mod LineLemmas
 pub mod BasisLemmas
-pub mod WordLemmas
 pub mod ReaderLemmas
+pub mod WordLemmas
+pub mod BitLemmas
+pub mod EntryLemmas
+pub mod EntryDetermined
+pub mod SeenLemmas
+pub mod FewLemmas
+pub mod BodyLemmas
 pub mod SignatureLemmas
 pub mod NamesLemmas
 pub mod SigDetermined

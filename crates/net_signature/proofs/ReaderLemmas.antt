@@ -6,16 +6,18 @@ use Rattle.text_core.specs.Outcome.{Outcome, ◌>>=◌, Exactly, Returns}
 use Rattle.text_core.specs.Numbers.{IsHex}
 use Rattle.net_signature.specs.Lines.{Token, Line}
 use Rattle.net_signature.specs.Statement.{SaysField, SaysTower, SaysElement}
-use Rattle.net_signature.specs.Signature.{OrSyntax, Says, Next, first_of}
+use Rattle.net_signature.specs.Outcomes.{OrSyntax, Says, Next, first_of}
 use Rattle.net_signature.specs.Reading.{Fits}
 use Rattle.net_signature.specs.declared.fault.SigFault.{SigFault}
-use Rattle.net_signature.specs.declared.fault.SigFault.TheVariants.{Syntax, NameTwice, TwoOutputs, TooManyWords, NoOutput, OutOfMemory}
+use Rattle.net_signature.specs.declared.fault.SigFault.TheVariants.{Syntax, NameTwice, NoFedWord, FeedTwice, TwoOutputs, TooManyWords, NoOutput, OutOfMemory}
 
 -- what comes of the second step, after a value of the first, comes of both
 pub fits_after : {X A B : Type 0} (view : X → B) (result : Result X SigFault) (first : Outcome SigFault A) (second : A → Outcome SigFault B) (a : A) → first (Ok a) → Fits view result (second a) → Fits view result (first >>= second)
 fits_after view (Ok x) first second a one fits = (a, one, fits)
 fits_after view (Err (Syntax n)) first second a one fits = inr (a, one, fits)
 fits_after view (Err (NameTwice n)) first second a one fits = inr (a, one, fits)
+fits_after view (Err (NoFedWord n)) first second a one fits = inr (a, one, fits)
+fits_after view (Err (FeedTwice n)) first second a one fits = inr (a, one, fits)
 fits_after view (Err (TwoOutputs n)) first second a one fits = inr (a, one, fits)
 fits_after view (Err (TooManyWords n)) first second a one fits = inr (a, one, fits)
 fits_after view (Err (NoOutput block)) first second a one fits = inr (a, one, fits)
@@ -25,6 +27,8 @@ fits_after view (Err OutOfMemory) first second a one fits = tt
 pub fits_first : {X Y A B : Type 0} (view : X → A) (view' : Y → B) (fault : SigFault) (first : Outcome SigFault A) (second : A → Outcome SigFault B) → Fits view (Err fault) first → Fits view' (Err fault) (first >>= second)
 fits_first view view' (Syntax n) first second fits = inl fits
 fits_first view view' (NameTwice n) first second fits = inl fits
+fits_first view view' (NoFedWord n) first second fits = inl fits
+fits_first view view' (FeedTwice n) first second fits = inl fits
 fits_first view view' (TwoOutputs n) first second fits = inl fits
 fits_first view view' (TooManyWords n) first second fits = inl fits
 fits_first view view' (NoOutput block) first second fits = inl fits
@@ -40,6 +44,8 @@ next_ok {X} {A} view result says end lines line rest first fits =
     said (Ok x) fits = (view x, fits, refl)
     said (Err (Syntax n)) fits = inl fits
     said (Err (NameTwice n)) fits = inl fits
+    said (Err (NoFedWord n)) fits = inl fits
+    said (Err (FeedTwice n)) fits = inl fits
     said (Err (TwoOutputs n)) fits = inl fits
     said (Err (TooManyWords n)) fits = inl fits
     said (Err (NoOutput block)) fits = inl fits
@@ -56,6 +62,19 @@ two_fit {X = X} {A = A} {C = C} view says f xs d number result long fits =
     two (a ∷ []) long = absurd (omega arith)
     two (a ∷ b ∷ []) long = refl
     two (a ∷ b ∷ c ∷ xs) long = absurd (omega arith)
+
+-- a line of three tokens
+pub three_only : {X A C : Type 0} (view : X → A) (says : List Token → A → Type 0) (f : C → Token) (xs : List C) (d : C) (number : ℕ) (result : Result X SigFault) → length xs ≡ 3 → Fits view result (OrSyntax number (says (f (get_or xs 0 d) ∷ f (get_or xs 1 d) ∷ f (get_or xs 2 d) ∷ []))) → Fits view result (OrSyntax number (says (map f xs)))
+three_only {X = X} {A = A} {C = C} view says f xs d number result long fits =
+    let P : List Token → Type 0 = λ tokens. Fits view result (OrSyntax number (says tokens)) in
+    subst P (sym (three xs long)) fits
+  where
+    three : (xs : List C) → length xs ≡ 3 → map f xs ≡ f (get_or xs 0 d) ∷ f (get_or xs 1 d) ∷ f (get_or xs 2 d) ∷ []
+    three [] long = absurd (omega arith)
+    three (a ∷ []) long = absurd (omega arith)
+    three (a ∷ b ∷ []) long = absurd (omega arith)
+    three (a ∷ b ∷ c ∷ []) long = refl
+    three (a ∷ b ∷ c ∷ e ∷ xs) long = absurd (omega arith)
 
 -- a line of a token and those after it
 pub more_fit : {X A C : Type 0} (view : X → A) (says : List Token → A → Type 0) (f : C → Token) (xs : List C) (d : C) (number : ℕ) (result : Result X SigFault) → 1 ≤ length xs → Fits view result (OrSyntax number (says (f (get_or xs 0 d) ∷ map f (take (length xs - 1) (drop 1 xs))))) → Fits view result (OrSyntax number (says (map f xs)))
@@ -87,7 +106,20 @@ tower_fits view number keyword numbers (Err (Syntax n)) key some fits = (
       fits.1 list (subst P same says.3),
 )
 tower_fits view number keyword numbers (Err (NameTwice n)) key some fits = fits
+tower_fits view number keyword numbers (Err (NoFedWord n)) key some fits = fits
+tower_fits view number keyword numbers (Err (FeedTwice n)) key some fits = fits
 tower_fits view number keyword numbers (Err (TwoOutputs n)) key some fits = fits
 tower_fits view number keyword numbers (Err (TooManyWords n)) key some fits = fits
 tower_fits view number keyword numbers (Err (NoOutput block)) key some fits = fits
 tower_fits view number keyword numbers (Err OutOfMemory) key some fits = tt
+
+-- where the first says nothing, the second says nothing: a syntax fault of one is one of the other
+pub syntax_moves : {X Y A B : Type 0} (view : X → A) (view' : Y → B) (line : ℕ) (says : A → Type 0) (says' : B → Type 0) (fault : SigFault) → ((b : B) → says' b → (a : A) × says a) → Fits view (Err fault) (OrSyntax line says) → Fits view' (Err fault) (OrSyntax line says')
+syntax_moves view view' line says says' (Syntax n) back fits = (fits.0, λ b is. let a = back b is in fits.1 a.0 a.1)
+syntax_moves view view' line says says' (NameTwice n) back fits = fits
+syntax_moves view view' line says says' (NoFedWord n) back fits = fits
+syntax_moves view view' line says says' (FeedTwice n) back fits = fits
+syntax_moves view view' line says says' (TwoOutputs n) back fits = fits
+syntax_moves view view' line says says' (TooManyWords n) back fits = fits
+syntax_moves view view' line says says' (NoOutput block) back fits = fits
+syntax_moves view view' line says says' OutOfMemory back fits = tt

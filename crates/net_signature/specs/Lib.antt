@@ -1,5 +1,9 @@
 pub mod Lines
 pub mod Statement
+pub mod Outcomes
+pub mod Body
+pub mod Few
 pub mod Signature
 pub mod WordNames
 pub mod Reading
+pub mod private

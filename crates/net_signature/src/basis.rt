@@ -2,7 +2,7 @@
 ghost use Rattle.std.specs.Prelude.{◌≡◌, ◌==◌, ◌++◌, ℕ, List, map, IfOk, IfSome, IfNone};
 ghost use Rattle.std.specs.List.{slice_split};
 ghost use Rattle.net_signature.specs.Statement.{SaysBasis, IsNormalOf, IsListOf};
-ghost use Rattle.net_signature.specs.Signature.{OrSyntax};
+ghost use Rattle.net_signature.specs.Outcomes.{OrSyntax};
 ghost use Rattle.net_signature.specs.Reading.{Fits};
 
 use crate::element::{read_element, read_elements};

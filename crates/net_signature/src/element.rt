@@ -2,7 +2,7 @@
 ghost use Rattle.std.specs.Prelude.{ℕ, map, IfSome, IfNone};
 ghost use Rattle.std.specs.List.{AllZip};
 ghost use Rattle.net_signature.specs.Statement.{SaysElement};
-ghost use Rattle.net_signature.specs.Signature.{OrSyntax};
+ghost use Rattle.net_signature.specs.Outcomes.{OrSyntax};
 ghost use Rattle.net_signature.specs.Reading.{Fits};
 
 use crate::fault::SigFault;

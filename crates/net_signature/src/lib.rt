@@ -1,19 +1,28 @@
-//! The text of a signature: a field, and words with their bases and nets.
+//! The text of a signature: a field, words with their bases and nets, feeds, and blocks.
 //! `read_signature` reads it, or gives its first fault.
 #![tactic(auto)]
 
 mod basis;
+mod blocks;
+mod body;
 mod element;
+mod entry;
 mod fault;
+mod feed_line;
+mod feeds;
+mod head;
 mod laws;
 mod lines;
 mod reader;
+mod seen;
 mod signature;
 #[cfg(test)]
 mod tests;
+mod version;
 mod word_line;
 mod words;
 
+pub use blocks::Block;
 pub use fault::SigFault;
 pub use laws::{one_signature_or_fault, words_have_names};
 pub use reader::read_signature;

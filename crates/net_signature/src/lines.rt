@@ -24,7 +24,7 @@ pub struct Lines<'a> {
 
 impl<'a> Lines<'a> {
     ghost use Rattle.net_signature.specs.Reading.{Fits, left, end_of, line_of};
-    ghost use Rattle.net_signature.specs.Signature.{first_of};
+    ghost use Rattle.net_signature.specs.Outcomes.{first_of};
     ghost use Rattle.text_core.specs.Outcome.{Returns};
     ghost use Rattle.net_signature.specs.Lines.{lines_from, end_from};
 

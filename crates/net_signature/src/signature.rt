@@ -1,16 +1,20 @@
 //! What a signature says.
 ghost use Rattle.std.specs.Prelude.{◌≡◌};
 
+use crate::blocks::Block;
 use net_core::Numbers;
-use net_words::WordText;
+use net_words::{FeedText, WordText};
 use std::marker::Model;
 
-/// A field, and words with their bases and nets. Contracts see its three parts.
+/// A field, words with their bases and nets, feeds, and blocks. Contracts see its parts.
 #[derive(Debug, Drop)]
 pub struct Signature {
     modulus: u128,
     tower: Numbers<u64>,
+    upper: Numbers<u64>,
     words: Vec<WordText>,
+    feeds: Vec<FeedText>,
+    blocks: Vec<Block>,
 }
 
 impl Model for Signature {
@@ -18,18 +22,28 @@ impl Model for Signature {
 
     ghost Value = { SignatureValue };
 
-    ghost view = { λ s. record { modulus = s.modulus; tower = s.tower; words = s.words.items } };
+    ghost view = { λ s. record { modulus = s.modulus; tower = s.tower; upper = s.upper; words = s.words.items; feeds = s.feeds.items; blocks = s.blocks.items } };
 }
 
 impl Signature {
     // A signature of these parts.
-    pub(crate) fn of_parts(modulus: u128, tower: Numbers<u64>, words: Vec<WordText>) -> Signature
-        ensures { result ≡ record { modulus = modulus; tower = tower; words = words.items } }
+    pub(crate) fn of_parts(
+        modulus: u128,
+        tower: Numbers<u64>,
+        upper: Numbers<u64>,
+        words: Vec<WordText>,
+        feeds: Vec<FeedText>,
+        blocks: Vec<Block>,
+    ) -> Signature
+        ensures { result ≡ record { modulus = modulus; tower = tower; upper = upper; words = words.items; feeds = feeds.items; blocks = blocks.items } }
     {
         Signature {
             modulus,
             tower,
+            upper,
             words,
+            feeds,
+            blocks,
         }
     }
 
@@ -47,10 +61,31 @@ impl Signature {
         self.tower.as_slice()
     }
 
-    /// The words, in order of their lines.
+    /// The coefficients of the polynomial of the tower over the first tower; none where there is no such tower.
+    pub fn upper(&self) -> &[u64]
+        ensures { result.now ≡ self.now.upper }
+    {
+        self.upper.as_slice()
+    }
+
+    /// The words of the top, in order of their lines.
     pub fn words(&self) -> &[WordText]
         ensures { result.now ≡ self.now.words }
     {
         &self.words
+    }
+
+    /// The feeds, in order of their lines; a source names a fed word of the top by its number among the top's words.
+    pub fn feeds(&self) -> &[FeedText]
+        ensures { result.now ≡ self.now.feeds }
+    {
+        &self.feeds
+    }
+
+    /// The blocks, in order of their lines.
+    pub fn blocks(&self) -> &[Block]
+        ensures { result.now ≡ self.now.blocks }
+    {
+        &self.blocks
     }
 }

@@ -18,6 +18,8 @@ fn outcome(alloc: Global, text: &[u8]) -> (&'static str, u32) {
         Ok(signature) => ("words", number(signature.words().len())),
         Err(SigFault::Syntax { line }) => ("syntax", line),
         Err(SigFault::NameTwice { line }) => ("name twice", line),
+        Err(SigFault::NoFedWord { line }) => ("no fed word", line),
+        Err(SigFault::FeedTwice { line }) => ("feed twice", line),
         Err(SigFault::TwoOutputs { line }) => ("two outputs", line),
         Err(SigFault::TooManyWords { line }) => ("too many words", line),
         Err(SigFault::NoOutput { block: _block }) => ("no output", 0),

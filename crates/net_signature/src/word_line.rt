@@ -1,29 +1,24 @@
 //! The line of a word.
-ghost use Rattle.std.specs.Prelude.{◌≡◌, ◌∷◌, ◌↔◌, map, codes, All, IsTrue, IfSome, IfNone};
+ghost use Rattle.std.specs.Prelude.{◌≡◌, ◌∷◌, ◌↔◌, map, codes, length, All, IsTrue, IfSome, IfNone};
 ghost use Rattle.text_core.specs.Names.{IsName};
-ghost use Rattle.net_signature.specs.Statement.{SaysRole, IsNetToken};
-ghost use Rattle.net_signature.specs.Signature.{OrSyntax, IsWordLine};
-ghost use Rattle.net_signature.specs.Reading.{Fits, line_of};
+ghost use Rattle.net_signature.specs.Statement.{SaysRole, SaysWord, IsNetToken, IsNetCount};
+ghost use Rattle.net_signature.specs.Outcomes.{OrSyntax};
+ghost use Rattle.net_signature.specs.Reading.{Fits};
 
 use crate::basis::read_basis;
 use crate::fault::SigFault;
-use crate::lines::Statement;
 use net_core::{Name, Names};
 use net_words::{Role, WordText};
 use std::alloc::Global;
 use text_core::{is_name, plain_text};
 
-/// The word of a line.
-pub fn read_word(alloc: Global, statement: &Statement) -> Result<WordText, SigFault>
-    ensures { Fits (λ word. word) result (IsWordLine (line_of statement.now)) }
+/// The word of a line `word NAME ROLE BASIS NET NET ..`, of which these tokens stand behind `word`.
+pub fn read_word(alloc: Global, line: u32, tokens: &[&[u8]]) -> Result<WordText, SigFault>
+    ensures { Fits (λ word. word) result (OrSyntax line (λ word. SaysWord (codes "word" ∷ map (λ t. t.now) tokens.now) word × (word.line ≡ line))) }
 {
-    match statement.tokens.as_slice() {
-        [keyword, name, role, basis, nets @ ..] => {
-            word_of(alloc, statement.number, keyword, name, role, basis, nets)
-        }
-        _ => Err(SigFault::Syntax {
-            line: statement.number,
-        }),
+    match tokens {
+        [name, role, basis, nets @ ..] => word_of(alloc, line, name, role, basis, nets),
+        _ => Err(SigFault::Syntax { line }),
     }
 }
 
@@ -31,18 +26,17 @@ pub fn read_word(alloc: Global, statement: &Statement) -> Result<WordText, SigFa
 fn word_of(
     alloc: Global,
     line: u32,
-    keyword: &[u8],
     name: &[u8],
     role: &[u8],
     basis: &[u8],
     nets: &[&[u8]],
 ) -> Result<WordText, SigFault>
-    ensures { Fits (λ word. word) result (IsWordLine (record { number = line; tokens = keyword.now ∷ name.now ∷ role.now ∷ basis.now ∷ map (λ t. t.now) nets.now })) }
+    ensures { Fits (λ word. word) result (OrSyntax line (λ word. SaysWord (codes "word" ∷ name.now ∷ role.now ∷ basis.now ∷ map (λ t. t.now) nets.now) word × (word.line ≡ line))) }
 {
     let (Some(name), Some(role)) = (word_name(name), role_of(role)) else {
         return Err(SigFault::Syntax { line });
     };
-    if !is_keyword(keyword) || nets.len() < 1 {
+    if !is_net_count(role, nets.len()) {
         return Err(SigFault::Syntax { line });
     }
     let name = Name::new(alloc, name)?;
@@ -63,8 +57,8 @@ fn word_of(
     })
 }
 
-// The text of a token that is the name of a word.
-fn word_name(token: &[u8]) -> Option<&str>
+/// The text of a token that is the name of a word.
+pub fn word_name(token: &[u8]) -> Option<&str>
     ensures found { IfSome result (λ text. (text.now ≡ token.now) × IsName token.now) }
     ensures none { IfNone result (IsName token.now → ⊥) }
 {
@@ -75,13 +69,6 @@ fn word_name(token: &[u8]) -> Option<&str>
     }
 }
 
-// Whether the line is one of a word.
-fn is_keyword(token: &[u8]) -> bool
-    ensures { IsTrue result ↔ (token.now ≡ codes "word") }
-{
-    token == b"word".as_slice()
-}
-
 // The role that a token names.
 fn role_of(token: &[u8]) -> Option<Role>
     ensures found { IfSome result (λ role. SaysRole token.now role) }
@@ -90,8 +77,19 @@ fn role_of(token: &[u8]) -> Option<Role>
     match token {
         b"input" => Some(Role::Input),
         b"state" => Some(Role::State),
+        b"fed" => Some(Role::Fed),
         b"output" => Some(Role::Output),
         _ => None,
+    }
+}
+
+// Whether a word with this role may have so many nets.
+fn is_net_count(role: Role, count: usize) -> bool
+    ensures { IsTrue result ↔ IsNetCount role count }
+{
+    match role {
+        Role::Input | Role::State | Role::Output => count > 0,
+        Role::Fed => count == 0,
     }
 }
 
@@ -109,8 +107,8 @@ fn net_names(alloc: Global, number: u32, tokens: &[&[u8]]) -> Result<Names, SigF
     Ok(Names::new(names))
 }
 
-// The name of a net, as a token says it.
-fn net_name(token: &[u8]) -> Option<&str>
+/// The name of a net or of a model, as a token says it.
+pub fn net_name(token: &[u8]) -> Option<&str>
     ensures found { IfSome result (λ name. (name.now ≡ token.now) × IsNetToken token.now) }
     ensures none { IfNone result (IsNetToken token.now → ⊥) }
 {

@@ -1,10 +1,10 @@
 //! Words, one after another.
-ghost use Rattle.std.specs.Prelude.{◌≡◌, filter};
+ghost use Rattle.std.specs.Prelude.{◌≡◌};
 ghost use Rattle.std.specs.List.{list_any};
 ghost use Rattle.std.specs.Str.{bytes_eq};
 ghost use Rattle.text_core.specs.Outcome.{Returns};
 ghost use Rattle.net_words.specs.Roles.{is_output as is_output_word, input_count as count_inputs};
-ghost use Rattle.net_signature.specs.Signature.{with_word, has_output};
+ghost use Rattle.net_signature.specs.Body.{with_word as words_with, is_fed as is_fed_word};
 ghost use Rattle.net_signature.specs.Reading.{Fits};
 
 use crate::fault::SigFault;
@@ -12,34 +12,24 @@ use net_words::{Role, WordText};
 
 const MAX_WORDS: usize = 8;
 
-/// The words with one more, whose name is new; no second output word, and no ninth input or state word.
-pub fn add_word(words: &mut Vec<WordText>, word: WordText) -> Result<(), SigFault>
-    ensures { Fits (λ u. words.new.items) result (Returns (with_word words.old.items word)) }
+/// The words with one more, whose name is new; no second output word, and no ninth other word.
+pub fn with_word(words: Vec<WordText>, word: WordText) -> Result<Vec<WordText>, SigFault>
+    ensures { Fits (λ v. v.items) result (Returns (words_with words.items word)) }
 {
     let line = word.line;
-    if has_name(words, word.name.as_str()) {
+    if has_name(&words, word.name.as_str()) {
         return Err(SigFault::NameTwice { line });
     }
     if is_output(&word) {
-        if has_output_word(words) {
+        if has_output(&words) {
             return Err(SigFault::TwoOutputs { line });
         }
-    } else if input_count(words) >= MAX_WORDS {
+    } else if input_count(&words) >= MAX_WORDS {
         return Err(SigFault::TooManyWords { line });
     }
+    let mut words = words;
     words.push(word)?;
-    Ok(())
-}
-
-/// Refuses words without an output word.
-pub fn check_output(words: &[WordText]) -> Result<(), SigFault>
-    ensures { Fits (λ u. tt) result (Returns (has_output words.now)) }
-{
-    if has_output_word(words) {
-        Ok(())
-    } else {
-        Err(SigFault::NoOutput { block: None })
-    }
+    Ok(words)
 }
 
 // Whether a word has the name.
@@ -56,14 +46,21 @@ fn is_output(word: &WordText) -> bool
     word.role == Role::Output
 }
 
-// Whether there is an output word.
-fn has_output_word(words: &[WordText]) -> bool
+/// Whether a word is fed.
+pub fn is_fed(word: &WordText) -> bool
+    ensures { result ≡ is_fed_word word.now }
+{
+    word.role == Role::Fed
+}
+
+/// Whether there is an output word.
+pub fn has_output(words: &[WordText]) -> bool
     ensures { result ≡ list_any is_output_word words.now }
 {
     words.iter().any(|word| is_output(word))
 }
 
-// How many input and state words there are.
+// How many words there are that are no output word.
 fn input_count(words: &[WordText]) -> usize
     ensures { result ≡ count_inputs words.now }
 {

@@ -1,8 +1,8 @@
 use Rattle.std.proofs.Common.{[], Bor, List, ℕ}
-use Rattle.net_signature.proofs.WordLemmas.{four_fit}
+use Rattle.net_signature.proofs.WordLemmas.{three_fit}
 use Rattle.net_signature.proofs.word_line.read_word.Goals as goal
 
-pub returns-in-len4-up : goal.returns-in-len4-up
-returns-in-len4-up c =
+pub returns-in-len3-up : goal.returns-in-len3-up
+returns-in-len3-up c =
     let f : Bor (List ℕ) → List ℕ = λ t. t.now in
-    four_fit f c.args.statement.now.tokens.items (record { ref_ptr = (0, 0); now = [] }) c.args.statement.now.number c.word_of.result (rw c.as_slice.ensures.value at c.in-len4-up.len_at_least) (rw c.as_slice.ensures.value at c.word_of.ensures)
+    three_fit f c.args.tokens.now (record { ref_ptr = (0, 0); now = [] }) c.args.line c.word_of.result c.in-len3-up.len_at_least c.word_of.ensures

@@ -1,0 +1,8 @@
+use Rattle.std.proofs.Common.{Bor, List, ℕ, map}
+use Rattle.net_signature.proofs.EntryLemmas.{feed_err}
+use Rattle.net_signature.proofs.entry.feed_entry.Goals as goal
+
+pub returns-in-Err : goal.returns-in-Err
+returns-in-Err c =
+    let f : Bor (List ℕ) → List ℕ = λ t. t.now in
+    feed_err c.in-Err.fault c.args.line (map f c.args.rest.now) c.in-Err.ensures

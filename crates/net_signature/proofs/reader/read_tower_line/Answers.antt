@@ -1,8 +1,0 @@
-use Rattle.net_signature.specs.Statement.{SaysTower}
-use Rattle.net_signature.specs.Reading.{left, end_of, line_of}
-use Rattle.net_signature.proofs.ReaderLemmas.{next_ok}
-use Rattle.net_signature.proofs.reader.read_tower_line.Goals as goal
-
-pub returns-in-Ok-clause-says : goal.returns-in-Ok-clause-says
-returns-in-Ok-clause-says c =
-    next_ok (λ v. v.items) c.tower_of.result SaysTower (end_of c.args.lines.now) (left c.args.lines.now) (line_of c.in-Ok.line) (left c.required.new.self) c.in-Ok.ensures.line c.tower_of.ensures

@@ -1,0 +1,27 @@
+//! Texts that were seen.
+ghost use Rattle.std.specs.Prelude.{◌≡◌, ◌||◌, ℕ, List, is_some, string_bytes, IfOk};
+ghost use Rattle.std.specs.Str.{bytes_eq};
+ghost use Rattle.indexmap.specs.IndexMap.{get_by_text};
+
+use indexmap::IndexMap;
+use net_core::KeyedHash;
+use std::alloc::{AllocError, Global};
+
+/// Texts, looked up by a hash whose key is made of the file, so that texts that collide cannot be looked for.
+pub type Seen = IndexMap<String, u32, KeyedHash>;
+
+/// Whether the text is one of these.
+pub fn is_seen(seen: &Seen, text: &str) -> bool
+    ensures { result ≡ is_some (get_by_text seen.now text.now) }
+{
+    seen.get(text).is_some()
+}
+
+/// These and one more.
+pub fn with_text(seen: Seen, text: String) -> Result<Seen, AllocError>
+    ensures { IfOk result (λ after. (q : List ℕ) → is_some (get_by_text after q) ≡ (bytes_eq (string_bytes text) q || is_some (get_by_text seen q))) }
+{
+    let mut seen = seen;
+    seen.insert(text, 0)?;
+    Ok(seen)
+}
