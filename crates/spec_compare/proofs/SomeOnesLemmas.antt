@@ -152,7 +152,7 @@ module _ (c : Circuit) (well : IsWellFormed c) (xs : List ℕ) (input : IsInput 
 
     one_bit : (i x d j n : ℕ) (word : Word) → slice_get c.words i ≡ Some word → slice_get xs i ≡ Some x → AreBits word.basis x d → slice_get word.nets j ≡ Some n → bit_of (point_bits (nets c.net) (variables_of c) (at_ones ones)) n ≡ (bit_at d j == 1)
     one_bit i x d j n word at got own net =
-        let inside = source_inside c.net well.sound n (stands_source c.net word.role n (well.places word n (i, at) (j, net))) in
+        let inside = source_inside c.net well.sound n (stands_source c.net word.role n (well.inner word (i, at)) (well.places word n (i, at) (j, net))) in
         let less : j < c.k = omega (arith, slice_get_within word.nets j n net, (well.words word (i, at)).nets) in
         let same : is_in ones (c.k * i + j) ≡ nat_eq (bit_at d j) 1 =
         both_ways (is_in ones (c.k * i + j)) (nat_eq (bit_at d j) 1)

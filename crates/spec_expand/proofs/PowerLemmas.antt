@@ -137,7 +137,7 @@ module _ (c : Circuit) (well : IsWellFormed c) (w : ℕ) (word : Word) (at : sli
       let element : HasElement (point_bits (nets c.net) (variables_of c) p) word found.0 = here w word found.0 at found.1 tt in
       let is = well.words word (w, at) in
       ap (combination word.basis) (sym (same_index (point_bits (nets c.net) (variables_of c) p) p.is_one c.k (λ i. c.k * w + i) word.nets is.nets (λ i n got.
-      point_bits_at (nets c.net) (variables_of c) p n (source_inside c.net well.sound n (stands_source c.net word.role n (well.places word n (w, at) (i, got))))
+      point_bits_at (nets c.net) (variables_of c) p n (source_inside c.net well.sound n (stands_source c.net word.role n (well.inner word (w, at)) (well.places word n (w, at) (i, got))))
       ∙ ap p.is_one (place_rank c well w i n word at got))))
       ∙ (element.sum.is ∙ sym (get_or_from_slice_get xs w found.0 0 found.1))
 

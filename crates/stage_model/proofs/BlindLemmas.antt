@@ -50,7 +50,7 @@ module _ (c : Circuit) (well : IsWellFormed c) where
       same_word (point_bits (nets c.net) (variables_of c) p) (point_bits (nets c.net) (variables_of c) (at_bit p rank b)) w x (λ n has. same n (within n has) (low n has)) (is i w x got at any)
     where
       within : (n : ℕ) → Has w.nets n → n < nets c.net
-      within n has = source_inside c.net well.sound n (stands_source c.net w.role n (well.places w n (i, got) has))
+      within n has = source_inside c.net well.sound n (stands_source c.net w.role n (well.inner w (i, got)) (well.places w n (i, got) has))
 
       low : (n : ℕ) → Has w.nets n → rank_in (variables_of c) n ≢ rank
       low n has e = let less = front_rank (word_nets c.words) (others (nets c.net) (word_nets c.words)) n (has_word c.words i w n got has) in omega (arith, less, e, high)

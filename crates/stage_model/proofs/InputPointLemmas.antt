@@ -76,7 +76,7 @@ module _ (c : Circuit) (xs : List ℕ) (well : IsWellFormed c) (input : IsInput 
   at_input i w x at got any =
       same_word start.0 (point_bits (nets c.net) (variables_of c) the_point) w x
       (λ n has.
-      let less : n < nets c.net = source_inside c.net well.sound n (stands_source c.net w.role n (well.places w n (i, at) has)) in
+      let less : n < nets c.net = source_inside c.net well.sound n (stands_source c.net w.role n (well.inner w (i, at)) (well.places w n (i, at) has)) in
       let stands : slice_index (variables_of c) (rank_in (variables_of c) n) ≡ n = net_at_rank (variables_of c) n (has_each c.net (word_nets c.words) n less) in
       ap (bit_of start.0) (sym stands) ∙ sym (point_bits_at (nets c.net) (variables_of c) the_point n less))
       (start.1 i w x at got)

@@ -73,7 +73,7 @@ module _ (c : Circuit) (well : IsWellFormed c) (flat : c.net.latches ≡ []) (p 
       in_word : (i : ℕ) (w : Word) (x : ℕ) → slice_get c.words i ≡ Some w → slice_get xs i ≡ Some x → HasElement bits w x
       in_word i w x got at =
           same_word (point_bits (nets c.net) (variables_of c) p) bits w x
-          (λ n has. sym (source_bit n (stands_source c.net w.role n (well.places w n (i, got) has)))) (is i w x got at tt)
+          (λ n has. sym (source_bit n (stands_source c.net w.role n (well.inner w (i, got)) (well.places w n (i, got) has)))) (is i w x got at tt)
 
       cycle : IsCycle c xs bits
       cycle = record { consistent = consistent; inputs = λ i w x got at role. in_word i w x got at }

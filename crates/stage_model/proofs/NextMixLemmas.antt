@@ -42,7 +42,7 @@ pairs_at (m ∷ ns) d (suc i) n b got =
 
 module _ (c : Circuit) (well : IsWellFormed c) where
   net_inside : (i : ℕ) (word : Word) → slice_get c.words i ≡ Some word → (n : ℕ) → Has word.nets n → n < nets c.net
-  net_inside i word at n has = source_inside c.net well.sound n (stands_source c.net word.role n (well.places word n (i, at) has))
+  net_inside i word at n has = source_inside c.net well.sound n (stands_source c.net word.role n (well.inner word (i, at)) (well.places word n (i, at) has))
 
   -- two points with the same bits at the ranks of a word
   same_at_word : (p q : Point) (i x : ℕ) (word : Word) → slice_get c.words i ≡ Some word → ((j : ℕ) → j < c.k → p.is_one (c.k * i + j) ≡ q.is_one (c.k * i + j))

@@ -79,7 +79,7 @@ module _ (c : Circuit) (well : IsWellFormed c) where
   cut_polynomial t = of_first c.k c.product well.ring well.no_zero_divisors 0 count (CutOf c t) (omega arith) (cut_looks t)
 
   word_net : (i n : ℕ) (w : Word) → slice_get c.words i ≡ Some w → Has w.nets n → n < nets c.net
-  word_net i n w at has = source_inside c.net well.sound n (stands_source c.net w.role n (well.places w n (i, at) has))
+  word_net i n w at has = source_inside c.net well.sound n (stands_source c.net w.role n (well.inner w (i, at)) (well.places w n (i, at) has))
 
   mix_alone : (w : ℕ) (p q : Point) (e : ℕ) → AgreeAtFirst w count p q → IsMix c w p e → IsMix c w q e
   mix_alone w p q e same mix = record {

@@ -8,7 +8,7 @@ use Rattle.std.proofs.lemmas.List.Elements.{filter-append}
 use Rattle.net_core.specs.Lists.{Has}
 use Rattle.net_core.specs.NetList.{NetList, nets}
 use Rattle.net_core.proofs.DriverLemmas.{Has_left, Has_right}
-use Rattle.net_words.specs.Bind.{stands_in}
+use Rattle.net_words.specs.Roles.{stands_in}
 use Rattle.net_words.specs.Variables.{others}
 use Rattle.stage_model.specs.Variables.{rank_in}
 use Rattle.stage_model.specs.private.Plain.{HasEachNet}

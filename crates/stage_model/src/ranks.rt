@@ -1,7 +1,7 @@
 //! The order of variables of a circuit, and the rank of a net.
 ghost use Rattle.std.specs.Prelude.{◌≡◌, ◌≤◌, [], ◌∷◌, ◌++◌, length, map, not, IfOk, OnOk, if◌then◌else◌};
 ghost use Rattle.net_core.specs.NetList.{nets};
-ghost use Rattle.net_words.specs.Bind.{stands_in};
+ghost use Rattle.net_words.specs.Roles.{stands_in};
 ghost use Rattle.net_words.specs.Variables.{others};
 ghost use Rattle.circuit_model.specs.Word.{word_nets};
 ghost use Rattle.circuit_model.specs.Flat.{word_of};

@@ -1,7 +1,8 @@
 //! A multiplier over the field of 4 elements, worked by hand: what the elimination records, where it stops, and values.
-ghost use Rattle.std.specs.Prelude.{◌≡◌, ◌≤◌, ℕ, Some, map, length, filter, All, IfOk, IsTrue, ◌↔◌};
+ghost use Rattle.std.specs.Prelude.{◌≡◌, ◌≤◌, ℕ, [], Some, map, length, filter, All, IfOk, IsTrue, ◌↔◌};
 ghost use Rattle.net_core.specs.NetList.{nets};
 ghost use Rattle.net_words.specs.Binding.{AreWords};
+ghost use Rattle.net_words.specs.Feeds.{AreFeeds};
 ghost use Rattle.net_words.specs.Roles.{is_output as is_output_word, input_count as count_inputs};
 ghost use Rattle.poly_mixed.specs.Polynomial.{IsReduced};
 
@@ -102,7 +103,7 @@ fn multiplier(rt: &impl Abort, alloc: Global) -> Result<Net, NetFault> {
 
 // Whether words can be bound.
 fn can_be_bound(words: &[WordText]) -> bool
-    ensures { IsTrue result → (k : ℕ) × AreWords k words.now }
+    ensures { IsTrue result → (k : ℕ) × AreWords k words.now × AreFeeds k (map (λ word. word.role) words.now) [] }
 {
     if words.len() < 1 || words.len() > 9 {
         return false;
@@ -146,7 +147,7 @@ pub(crate) fn circuit(rt: &impl Abort, alloc: Global, net: Net, text: &[u8]) -> 
     assert!(rt; text.len() < 200);
     let signature = read_signature(alloc, text).ok().expect(rt, "a signature");
     assert!(rt; can_be_bound(signature.words()));
-    let bound = bind(alloc, signature.words(), &net)
+    let bound = bind(alloc, signature.words(), &[], &net)
         .ok()
         .expect(rt, "bound words");
     Combinational::new(net, bound)
