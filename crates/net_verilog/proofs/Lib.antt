@@ -18,3 +18,4 @@ mod ReadLemmas
 mod ExpressionDetermined
 mod AssignLemmas
 mod SeveralLemmas
+mod InputLemmas
