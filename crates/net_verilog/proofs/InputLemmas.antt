@@ -36,3 +36,13 @@ module _ (declared : Declarations) (kind : GateKind) (net mid : NetList) (tokens
   pub from_inputs : (outcome : Result (NetList × List TokenValue) VerilogFault) → FromInputs declared kind mid out first outcome → ReadsInstance declared kind net tokens outcome
   from_inputs (Ok found) rest = (named, sym skips, ((line, left), sym opens, ((name, comma), sym targets, ((mid, out), sym (ap net_fault mentions), ((second, first), sym takes, rest)))))
   from_inputs (Err fault) rest = inr (named, sym skips, inr ((line, left), sym opens, inr ((name, comma), sym targets, inr ((mid, out), sym (ap net_fault mentions), inr ((second, first), sym takes, rest)))))
+
+-- what stands before the net of the target
+module _ (declared : Declarations) (kind : GateKind) (net : NetList) (tokens named left comma : List TokenValue) (name : List ℕ) (line : ℕ) (fault : VerilogFault)
+    (skips : after_name tokens ≡ Ok named) (opens : taken signs.Open named ≡ Ok (line, left)) (targets : target_of declared left ≡ Ok (name, comma)) where
+  pub mention_refused : (text : List ℕ) → text ≡ name → IsRefused (mentioned net text) fault → (fault ≡ faults.OutOfMemory) ⊎ ReadsInstance declared kind net tokens (Err fault)
+  mention_refused text alike (inl memory) = inl memory
+  mention_refused text alike (inr (refusal, is, same)) = inr (inr (named, sym skips, inr ((line, left), sym opens, inr ((name, comma), sym targets, inl (ap (λ f. Err f) same ∙ sym (ap net_fault (ap (mentioned net) (sym alike) ∙ is)))))))
+
+  pub comma_refused : (mid : NetList) (out : ℕ) → mentioned net name ≡ Ok (mid, out) → taken signs.Comma comma ≡ Err fault → ReadsInstance declared kind net tokens (Err fault)
+  comma_refused mid out mentions is = inr (named, sym skips, inr ((line, left), sym opens, inr ((name, comma), sym targets, inr ((mid, out), sym (ap net_fault mentions), inl (sym is)))))

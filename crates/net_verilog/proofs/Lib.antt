@@ -19,3 +19,4 @@ mod ExpressionDetermined
 mod AssignLemmas
 mod SeveralLemmas
 mod InputLemmas
+mod StatementDetermined

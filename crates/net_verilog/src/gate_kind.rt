@@ -51,7 +51,6 @@ pub fn fits(kind: GateKind, inputs: usize) -> bool
     }
 }
 
-
 fn and_table(inputs: usize) -> u64
     requires { fits_gate GateKind.And inputs ≡ true }
     ensures same { result ≡ table_that GateKind.And inputs }

@@ -23,8 +23,8 @@ loop-next-preserved c =
     let goes : comma_first (left c.in-Ok.next) ≡ true = ap comma_first more ∙ sym c.is_sign.ensures ∙ some in
     record {
       onward = λ outcome rest.
-        let P : List TokenValue → Type 0 = λ ts. Several (ReadsInput c.args.declared.now) (c.read_input.new.maker, c.read_input.new.inputs.items) ts outcome in
-        c.loop-next.invariant.onward outcome (several_more (ReadsInput c.args.declared.now) (c.loop-next.maker, c.loop-next.inputs.items) (c.read_input.new.maker, c.read_input.new.inputs.items) (left c.loop-next.here) (left c.in-Ok.next) outcome c.in-Ok.ensures.made goes (subst P (sym (ap after_first more)) rest));
+          let P : List TokenValue → Type 0 = λ ts. Several (ReadsInput c.args.declared.now) (c.read_input.new.maker, c.read_input.new.inputs.items) ts outcome in
+          c.loop-next.invariant.onward outcome (several_more (ReadsInput c.args.declared.now) (c.loop-next.maker, c.loop-next.inputs.items) (c.read_input.new.maker, c.read_input.new.inputs.items) (left c.loop-next.here) (left c.in-Ok.next) outcome c.in-Ok.ensures.made goes (subst P (sym (ap after_first more)) rest));
       on = search rules;
       grows = search rules;
       shorter = search rules;
