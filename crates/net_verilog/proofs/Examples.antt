@@ -4,6 +4,10 @@ use Rattle.net_verilog.specs.Tokens.{TokenValue, tokens_of}
 use Rattle.std.specs.Prelude.{Some, Ok, Err, decimal}
 use Rattle.net_core.specs.NetList.{empty}
 use Rattle.net_verilog.specs.Targets.{target_of}
+use Rattle.net_verilog.specs.Parts.{identifier, range, taken}
+use Rattle.net_verilog.specs.Instances.{gate_table}
+use Rattle.net_verilog.specs.declared.gate_kind.GateKind.TheVariants as gates
+use Rattle.net_verilog.specs.declared.sign.Sign.TheVariants as signs
 use Rattle.net_verilog.specs.Tree.{Net, Group, Not, Binary}
 use Rattle.net_verilog.specs.Made.{made}
 use Rattle.net_verilog.specs.Declarations.{Declarations, bit_name, undeclared, with_declared}
@@ -56,3 +60,25 @@ vector_alone = refl
 nand_made : made empty (Not 3 (Group (Binary 4 operators.And (Net (codes "a")) (Net (codes "b")))))
     ≡ Ok (record { labels = record { text = codes "a"; named = true } ∷ record { text = codes "b"; named = true } ∷ record { text = codes "expr" ++ decimal 4; named = false } ∷ []; inputs = []; outputs = []; gates = record { out = 2; inputs = 0 ∷ 1 ∷ []; table = 8 } ∷ []; latches = [] }, drivers.Not 3 2)
 nand_made = refl
+
+-- a range may be written from either end
+rising_range : range (tokens_of (codes "[0:3]")) ≡ Ok (Some (0, 3), token End [] 1 ∷ [])
+rising_range = refl
+
+falling_range : range (tokens_of (codes "[3:0]")) ≡ Ok (Some (0, 3), token End [] 1 ∷ [])
+falling_range = refl
+
+-- a keyword is no name, unless it is escaped
+keyword_escaped : identifier (tokens_of (92 ∷ codes "wire ")) ≡ Ok ((1, codes "wire"), token End [] 1 ∷ [])
+keyword_escaped = refl
+
+keyword_alone : identifier (tokens_of (codes "wire")) ≡ Err (faults.Syntax 1)
+keyword_alone = refl
+
+-- `&&` in the place of a comma is left out with its text
+pair_left_out : taken signs.Comma (tokens_of (codes "&& a")) ≡ Err (faults.LeftOut 1 (codes "&&"))
+pair_left_out = refl
+
+-- `xnor` of three inputs is 1 where an even number of them is
+xnor_table : gate_table gates.Xnor 3 ≡ 105
+xnor_table = refl

@@ -18,3 +18,5 @@ mod ReadLemmas
 mod ExpressionDetermined
 mod AssignLemmas
 mod SeveralLemmas
+mod InputLemmas
+mod StatementDetermined

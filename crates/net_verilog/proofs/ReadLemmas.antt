@@ -168,21 +168,21 @@ read_tree declared out (Group inner) net stack tokens rest (t, u, more, split, i
     let few : level inner ≤ 3 = level_few inner in
     let cap : binding_at (u ∷ rest) ≡ 3 = ap binding closes in
     stepped
-      declared
-      (Want net stack tokens)
-      (Want net (frames.Group ∷ stack) more)
-      out
-      (opens declared net stack (frames.Group ∷ stack) tokens more t split (ap (λ s. start_move s declared net stack t more) is) (omega (arith, flat)))
-      (read_tree declared out inner net (frames.Group ∷ stack) more (u ∷ rest) spells well (omega (arith, flat)) few (omega (arith, few, cap)) (after_group declared (made net inner) stack u rest out closes goes))
+    declared
+    (Want net stack tokens)
+    (Want net (frames.Group ∷ stack) more)
+    out
+    (opens declared net stack (frames.Group ∷ stack) tokens more t split (ap (λ s. start_move s declared net stack t more) is) (omega (arith, flat)))
+    (read_tree declared out inner net (frames.Group ∷ stack) more (u ∷ rest) spells well (omega (arith, flat)) few (omega (arith, few, cap)) (after_group declared (made net inner) stack u rest out closes goes))
 read_tree declared out (Not line inner) net stack tokens rest (t, more, split, is, at, spells) well flat fits ends goes =
     let few = well.1 in
     stepped
-      declared
-      (Want net stack tokens)
-      (Want net (frames.Not line ∷ stack) more)
-      out
-      (opens declared net stack (frames.Not t.line ∷ stack) tokens more t split (ap (λ s. start_move s declared net stack t more) is) (omega (arith, flat)) ∙ ap (λ l. Ok (Want net (frames.Not l ∷ stack) more)) at)
-      (read_tree declared out inner net (frames.Not line ∷ stack) more rest spells well.0 (omega (arith, flat)) few (omega (arith, few)) (after_inner declared (made net inner) stack rest line out goes))
+    declared
+    (Want net stack tokens)
+    (Want net (frames.Not line ∷ stack) more)
+    out
+    (opens declared net stack (frames.Not t.line ∷ stack) tokens more t split (ap (λ s. start_move s declared net stack t more) is) (omega (arith, flat)) ∙ ap (λ l. Ok (Want net (frames.Not l ∷ stack) more)) at)
+    (read_tree declared out inner net (frames.Not line ∷ stack) more rest spells well.0 (omega (arith, flat)) few (omega (arith, few)) (after_inner declared (made net inner) stack rest line out goes))
 read_tree declared out (Binary line operator left right) net stack tokens rest (t, more, first, is, at, second) well flat fits ends goes =
     let loose = well.2 in
     let tight = well.3 in

@@ -77,7 +77,7 @@ module _ {A B : Type 0} (first : Reads A) (second third : A × List TokenValue �
       errors : ◌≡◌ {A = Result (A × List TokenValue) VerilogFault} (Err d) (Err e) → ◌≡◌ {A = Result (B × List TokenValue) VerilogFault} (Err d) (Err e)
       errors same = let same' : d ≡ e = cc in ap Err same'
 
-exactly_same : {A : Type 0} (a : A × List TokenValue) (x y : Result (A × List TokenValue) VerilogFault) → Exactly a x → Exactly a y → x ≡ y
+pub exactly_same : {A : Type 0} (a : A × List TokenValue) (x y : Result (A × List TokenValue) VerilogFault) → Exactly a x → Exactly a y → x ≡ y
 exactly_same a (Ok x) (Ok y) h k = ap (λ z. Ok z) (h ∙ sym k)
 exactly_same a (Ok x) (Err e) h k = absurd k
 exactly_same a (Err d) y h k = absurd h
@@ -91,15 +91,15 @@ several_same one each zero m state tokens x y h k = absurd h
 several_same one each (suc n) zero state tokens x y h k = absurd k
 several_same one each (suc n) (suc m) state tokens x y h k =
     bind_same
-      (one state tokens)
-      (λ first. Either (comma_first first.1) (SeveralOf n one first.0 (after_first first.1)) (Exactly first))
-      (λ first. Either (comma_first first.1) (SeveralOf m one first.0 (after_first first.1)) (Exactly first))
-      (each state tokens)
-      (λ first x y. either_same (comma_first first.1) first (SeveralOf n one first.0 (after_first first.1)) (SeveralOf m one first.0 (after_first first.1)) (several_same one each n m first.0 (after_first first.1)) x y)
-      x
-      y
-      h
-      k
+    (one state tokens)
+    (λ first. Either (comma_first first.1) (SeveralOf n one first.0 (after_first first.1)) (Exactly first))
+    (λ first. Either (comma_first first.1) (SeveralOf m one first.0 (after_first first.1)) (Exactly first))
+    (each state tokens)
+    (λ first x y. either_same (comma_first first.1) first (SeveralOf n one first.0 (after_first first.1)) (SeveralOf m one first.0 (after_first first.1)) (several_same one each n m first.0 (after_first first.1)) x y)
+    x
+    y
+    h
+    k
 
 -- at most one outcome comes of a list, where at most one comes of each part
 pub several_determined : {S : Type 0} (one : S → List TokenValue → Reads S) → ((state : S) (tokens : List TokenValue) → Determined (one state tokens)) → (state : S) (tokens : List TokenValue) → Determined (Several one state tokens)

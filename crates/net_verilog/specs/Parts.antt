@@ -76,7 +76,7 @@ bounds tokens =
     on_value (λ (colon : ℕ × List TokenValue).
     on_value (λ (b : ℕ × List TokenValue).
     on_value (λ (end : ℕ × List TokenValue). Ok (Some (min a.0 b.0, max a.0 b.0), end.1))
-      (taken signs.CloseIndex b.1)) (bound colon.1)) (taken signs.Colon a.1)) (bound tokens)
+    (taken signs.CloseIndex b.1)) (bound colon.1)) (taken signs.Colon a.1)) (bound tokens)
 
 -- a range, or nothing
 abbrev pub range : List TokenValue → Answer Range

@@ -33,8 +33,8 @@ pub fn mentioned(maker: &mut NetMaker, name: &str) -> Result<u32, VerilogFault>
     }
 }
 
-// Adds a gate.
-fn add(maker: &mut NetMaker, out: u32, inputs: &[u32], table: u64) -> Result<(), VerilogFault>
+/// Adds a gate.
+pub fn add(maker: &mut NetMaker, out: u32, inputs: &[u32], table: u64) -> Result<(), VerilogFault>
     requires few { length inputs.now ≤ 6 }
     requires out { out < nets maker.old }
     requires inputs { All (λ n. n < nets maker.old) inputs.now }

@@ -1,5 +1,5 @@
 //! Inputs of instances.
-ghost use Rattle.std.specs.Prelude.{◌≡◌, ◌⊎◌, ◌<◌, ◌≤◌, [], All, Ok, Err, IfOk, IfErr, OnOk, length};
+ghost use Rattle.std.specs.Prelude.{◌≡◌, ◌⊎◌, ◌<◌, ◌≤◌, ◌+◌, [], All, Ok, Err, IfOk, IfErr, OnOk, length};
 ghost use Rattle.net_core.specs.NetList.{nets};
 ghost use Rattle.net_verilog.specs.Instances.{ReadsInput};
 ghost use Rattle.net_verilog.specs.Several.{Several};
@@ -23,6 +23,7 @@ fn read_input<'a>(
     requires { All (λ n. n < nets maker.old) inputs.old.items }
     ensures made { IfOk result (λ after. ReadsInput declared.now (maker.old, inputs.old.items) (left place.now) (Ok ((maker.new, inputs.new.items), left after))) }
     ensures on { OnOk result (All (λ n. n < nets maker.new) inputs.new.items) }
+    ensures one { OnOk result (length inputs.new.items ≡ 1 + length inputs.old.items) }
     ensures grows { OnOk result (nets maker.old ≤ nets maker.new) }
     ensures shorter { IfOk result (λ after. length after.rest.now ≤ length place.now.rest.now) }
     ensures fault { IfErr result (λ e. (e ≡ VerilogFault.OutOfMemory) ⊎ ReadsInput declared.now (maker.old, inputs.old.items) (left place.now) (Err e)) }
@@ -50,6 +51,7 @@ pub fn read_inputs<'a>(
     ensures on { IfOk result (λ r. All (λ n. n < nets maker.new) r.0.items) }
     ensures grows { OnOk result (nets maker.old ≤ nets maker.new) }
     ensures shorter { IfOk result (λ r. length r.1.rest.now ≤ length place.now.rest.now) }
+    ensures few { IfOk result (λ r. length r.0.items ≤ 1 + length place.now.rest.now) }
     ensures fault { IfErr result (λ e. (e ≡ VerilogFault.OutOfMemory) ⊎ Several (ReadsInput declared.now) (maker.old, []) (left place.now) (Err e)) }
 {
     let mut inputs = Vec::new(alloc);

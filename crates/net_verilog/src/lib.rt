@@ -1,5 +1,5 @@
-//! Nets written in structural Verilog: the tokens of a text with their lines, and the gates of expressions.
-//! The readers of declarations, statements and modules are to come.
+//! Nets written in structural Verilog: the tokens of a text with their lines, and the readers of expressions, assignments and
+//! instances of gates, which make the gates. The readers of declarations and modules are to come.
 #![tactic(auto)]
 
 mod assign;
@@ -11,6 +11,7 @@ mod fault;
 mod gate_kind;
 mod gates;
 mod inputs;
+mod instance;
 mod kind;
 mod laws;
 mod operator;
@@ -28,11 +29,15 @@ pub use cursor::{Cursor, Token};
 pub use declared::{Declared, Direction};
 pub use expression::read_expression;
 pub use fault::VerilogFault;
+pub use gate_kind::{GateKind, fits, gate_of, gate_table};
 pub use gates::{drive, mentioned, settle};
-pub use gate_kind::{fits, gate_of, gate_table, GateKind};
 pub use inputs::read_inputs;
+pub use instance::read_instance;
 pub use kind::Kind;
-pub use laws::{assigned_net_has_the_value, one_expression_or_fault};
+pub use laws::{
+    assigned_net_has_the_value, one_assignment_or_fault, one_expression_or_fault,
+    one_instance_or_fault,
+};
 pub use operator::{Driver, Operator};
 use operator::{Frame, Next, Start};
 pub use parts::{is_sign, read_identifier, read_range, take};

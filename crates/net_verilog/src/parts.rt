@@ -117,10 +117,7 @@ pub fn read_identifier<'a>(
 }
 
 // Reads a bound of a range.
-fn read_bound<'a>(
-    alloc: Global,
-    place: &Cursor<'a>,
-) -> Result<(u32, Cursor<'a>), VerilogFault>
+fn read_bound<'a>(alloc: Global, place: &Cursor<'a>) -> Result<(u32, Cursor<'a>), VerilogFault>
     ensures found { IfOk result (λ r. bound_that (left place.now) ≡ Ok (r.0, left r.1)) }
     ensures few { IfOk result (λ r. r.0 ≤ 65535) }
     ensures shorter { IfOk result (λ r. length r.1.rest.now < length place.now.rest.now) }

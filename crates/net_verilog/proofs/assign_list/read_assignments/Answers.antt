@@ -23,7 +23,7 @@ loop-next-preserved c =
     let goes : comma_first (left c.in-Ok.next) ≡ true = ap comma_first more ∙ sym c.is_sign.ensures ∙ some in
     record {
       onward = λ outcome rest.
-        let P : List TokenValue → Type 0 = λ ts. Several (Assigns c.args.declared.now) c.read_assignment.new.maker ts outcome in
-        c.loop-next.invariant.onward outcome (several_more (Assigns c.args.declared.now) c.loop-next.maker c.read_assignment.new.maker (left c.loop-next.here) (left c.in-Ok.next) outcome c.in-Ok.ensures.made goes (subst P (sym (ap after_first more)) rest));
+          let P : List TokenValue → Type 0 = λ ts. Several (Assigns c.args.declared.now) c.read_assignment.new.maker ts outcome in
+          c.loop-next.invariant.onward outcome (several_more (Assigns c.args.declared.now) c.loop-next.maker c.read_assignment.new.maker (left c.loop-next.here) (left c.in-Ok.next) outcome c.in-Ok.ensures.made goes (subst P (sym (ap after_first more)) rest));
       shorter = search rules;
     }
