@@ -7,4 +7,5 @@ pub mod SearchLaws
 pub mod IsoLaws
 pub mod WordLaws
 pub mod StepLaws
+pub mod UniqueLaws
 mod Examples
