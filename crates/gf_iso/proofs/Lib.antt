@@ -8,4 +8,6 @@ pub mod IsoLaws
 pub mod WordLaws
 pub mod StepLaws
 pub mod UniqueLaws
+pub mod FieldsLaws
+pub mod FoundLaws
 mod Examples
