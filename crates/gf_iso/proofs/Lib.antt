@@ -7,4 +7,7 @@ pub mod SearchLaws
 pub mod IsoLaws
 pub mod WordLaws
 pub mod StepLaws
+pub mod UniqueLaws
+pub mod FieldsLaws
+pub mod FoundLaws
 mod Examples

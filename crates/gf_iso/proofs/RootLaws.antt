@@ -56,7 +56,7 @@ module _ (n : ℕ) (mul : ℕ → ℕ → ℕ) (below : IsRing n mul) (e : ℕ) 
   nothing : (i : ℕ) (a : ℕ) → bit_xor (mul 0 a) (bit_xor 0 (mul 0 (h i))) ≡ 0
   nothing i a = ap₂ bit_xor (zero_mul n mul below a) (ap (bit_xor 0) (zero_mul n mul below (h i)) ∙ xor_self 0) ∙ xor_self 0
 
-  reduced_nothing : (m : ℕ) (f : ℕ → ℕ) → reduced mul e h m none f ≡ none
+  pub reduced_nothing : (m : ℕ) (f : ℕ → ℕ) → reduced mul e h m none f ≡ none
   reduced_nothing zero f = refl
   reduced_nothing (suc m) f = ap (λ p. plus (times mul 0 f) (step mul e h p)) (reduced_nothing m f) ∙ fun_ext at
     where
@@ -80,7 +80,7 @@ module _ (n : ℕ) (mul : ℕ → ℕ → ℕ) (below : IsRing n mul) (e : ℕ) 
       ap (λ p. plus (times mul 0 f) (step mul e h p)) (reduced_one m f b)
       ∙ fun_ext (λ i. ap (λ z. bit_xor z (step mul e h f i)) (zero_mul n mul below (f i)) ∙ xor_zero_l (step mul e h f i))
 
-  step_low : (f : ℕ → ℕ) → f e ≡ 0 → step mul e h f ≡ shift f
+  pub step_low : (f : ℕ → ℕ) → f e ≡ 0 → step mul e h f ≡ shift f
   step_low f z = fun_ext (λ i. ap (λ y. bit_xor (shift f i) (mul y (h i))) z ∙ ap (bit_xor (shift f i)) (zero_mul n mul below (h i)) ∙ xor_zero_r (shift f i))
 
 -- a modulus of degree 2 or more

@@ -72,16 +72,12 @@ impl Iso {
     {
         let base = tower.ring().base();
         let n = base.k();
-        match tower.ring().coefficients() {
-            [c0, c1] if n <= 16 && big.k() == 2 * n => Ok(Iso::found(
-                big,
-                n,
-                base.ring().modulus() as u64,
-                *c0,
-                *c1,
-            )),
-            _ => Err(IsoFault::Unfit),
+        let coefficients = tower.ring().coefficients();
+        if coefficients.len() != 2 || n > 16 || big.k() != 2 * n {
+            return Err(IsoFault::Unfit);
         }
+        let modulus = base.ring().modulus() as u64;
+        Ok(Iso::found(big, n, modulus, coefficients[0], coefficients[1]))
     }
 
     // the isomorphism between a field and a tower that fit

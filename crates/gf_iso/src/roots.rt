@@ -29,8 +29,8 @@ fn lesser(first: Option<u64>, second: Option<u64>) -> Option<u64>
     match first {
         None => second,
         Some(a) => match second {
-            Some(b) if b < a => Some(b),
-            _ => Some(a),
+            None => Some(a),
+            Some(b) => { if b < a { Some(b) } else { Some(a) } }
         },
     }
 }
