@@ -6,6 +6,8 @@ use Rattle.job_words.specs.declared.signature_fault.SignatureFault.TheVariants a
 
 -- the number and the text of a signature's fault
 abbrev pub signature_text : SignatureFault → List ℕ
+signature_text (signature.NoFedWord line) = codes "12: no fed word at line " ++ decimal line
+signature_text (signature.FeedTwice line) = codes "12: feed twice at line " ++ decimal line
 signature_text (signature.Syntax line) = codes "20: signature line " ++ decimal line
 signature_text signature.Degree = codes "21: modulus degree"
 signature_text signature.Modulus = codes "22: the modulus is not irreducible"
@@ -16,5 +18,6 @@ signature_text signature.Tower = codes "25: tower"
 signature_text (signature.Bits line) = codes "26: bits at line " ++ decimal line
 signature_text (signature.NameTwice line) = codes "27: name twice at line " ++ decimal line
 signature_text signature.NoOutput = codes "28: no output word"
+signature_text (signature.NoOutputInBlock model) = codes "28: no output word in block " ++ model
 signature_text (signature.TwoOutputs line) = codes "28: second output word at line " ++ decimal line
 signature_text (signature.TooManyWords line) = codes "29: ninth word at line " ++ decimal line

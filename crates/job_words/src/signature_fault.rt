@@ -2,11 +2,16 @@
 ghost use Rattle.std.specs.Prelude.{◌≡◌, IfOk, string_bytes};
 ghost use Rattle.job_words.specs.SignatureFault.{signature_text as text_of};
 
+use net_core::Name;
 use std::alloc::{AllocError, Global};
 
 /// Why a signature is refused. Lines count from 1.
 #[derive(Debug, Drop)]
 pub enum SignatureFault {
+    /// A feed is from a word that is no fed word of the top.
+    NoFedWord { line: u32 },
+    /// An earlier feed has the same net and cycle.
+    FeedTwice { line: u32 },
     /// The line is no line of its place.
     Syntax { line: u32 },
     /// The modulus has not degree 1 to 64.
@@ -21,15 +26,18 @@ pub enum SignatureFault {
     Basis { line: u32 },
     /// The tower's polynomial has not at least two coefficients of the field that fit into 64 bits.
     Tower,
-    /// A word has not as many nets as the field's elements have bits.
+    /// A word that is not fed has not as many nets as the field's elements have bits, or a feed is from a place that is no
+    /// place of such a word.
     Bits { line: u32 },
-    /// An earlier word has the name.
+    /// Another word of the same top or block has the name, or another block is of the model.
     NameTwice { line: u32 },
-    /// There is no output word.
+    /// The top has no output word.
     NoOutput,
-    /// A second output word.
+    /// The block of this model has no output word.
+    NoOutputInBlock { model: Name },
+    /// A second output word of the same top or block.
     TwoOutputs { line: u32 },
-    /// The ninth input or state word.
+    /// The ninth input, state or fed word of the same top or block.
     TooManyWords { line: u32 },
 }
 
@@ -38,6 +46,8 @@ pub(crate) fn signature_text(alloc: Global, fault: &SignatureFault) -> Result<St
     ensures { IfOk result (λ text. string_bytes text ≡ text_of fault.now) }
 {
     match fault {
+        SignatureFault::NoFedWord { line } => format!(in alloc; "12: no fed word at line {line}"),
+        SignatureFault::FeedTwice { line } => format!(in alloc; "12: feed twice at line {line}"),
         SignatureFault::Syntax { line } => format!(in alloc; "20: signature line {line}"),
         SignatureFault::Degree => format!(in alloc; "21: modulus degree"),
         SignatureFault::Modulus => format!(in alloc; "22: the modulus is not irreducible"),
@@ -52,6 +62,9 @@ pub(crate) fn signature_text(alloc: Global, fault: &SignatureFault) -> Result<St
         SignatureFault::Bits { line } => format!(in alloc; "26: bits at line {line}"),
         SignatureFault::NameTwice { line } => format!(in alloc; "27: name twice at line {line}"),
         SignatureFault::NoOutput => format!(in alloc; "28: no output word"),
+        SignatureFault::NoOutputInBlock { model } => {
+            format!(in alloc; "28: no output word in block {}", model.as_str())
+        }
         SignatureFault::TwoOutputs { line } => {
             format!(in alloc; "28: second output word at line {line}")
         }

@@ -1,14 +1,13 @@
 -- One more line of what is being read.
-use Rattle.std.proofs.Common.{◌≡◌, ◌∙◌, ap, sym, refl, subst, ℕ, ◌≤◌, List, [], ◌∷◌, Bool, true, false, Result, Ok, Err, Some, inr}
-use Rattle.std.specs.Prelude.{IfOk}
+use Rattle.std.proofs.Common.{◌≡◌, ◌∙◌, ap, sym, refl, subst, ℕ, List, [], ◌∷◌, true, false, Result, Ok, Err, Some, inr}
 use Rattle.std.proofs.lemmas.Bool.{true≢false}
 use Rattle.std.specs.List.{list_any}
 use Rattle.std.specs.Str.{bytes_eq}
-use Rattle.text_core.specs.Outcome.{Outcome, ◌>>=◌, Exactly, Returns}
+use Rattle.text_core.specs.Outcome.{Returns}
 use Rattle.net_signature.specs.Lines.{Line}
 use Rattle.net_signature.specs.Statement.{SaysEntry}
 use Rattle.net_signature.specs.Outcomes.{OrSyntax}
-use Rattle.net_signature.specs.Body.{BlockValue, BodyValue, blocks_with, blocks_of, may_stand, block_begun, next, SaysHere, ReadsLine, Reads}
+use Rattle.net_signature.specs.Body.{BlockValue, BodyValue, blocks_of, may_stand, block_begun, next, SaysHere, ReadsLine, Reads}
 use Rattle.net_signature.specs.private.Seen.{IsFeedWithin}
 use Rattle.net_signature.specs.Reading.{Fits}
 use Rattle.net_signature.specs.declared.entry.Entry.{Entry}

@@ -1,5 +1,5 @@
 -- A line says one thing at most.
-use Rattle.std.proofs.Common.{◌≡◌, ◌∙◌, ap, sym, refl, subst, inl, inr, ℕ, ◌==◌, List, [], ◌∷◌, ◌++◌, get_or, length, Bool, true, false, if◌then◌else◌, arith, codes}
+use Rattle.std.proofs.Common.{◌≡◌, ◌∙◌, ap, sym, refl, subst, inl, inr, ℕ, ◌==◌, List, [], ◌∷◌, ◌++◌, get_or, if◌then◌else◌, arith, codes}
 use Rattle.std.specs.List.{slice_split, AllZip}
 use Rattle.text_core.specs.Numbers.{IsHex, IsDecimal}
 use Rattle.net_words.specs.declared.word.Role.{Role}
@@ -11,13 +11,12 @@ use Rattle.net_signature.specs.Lines.{Token, Line}
 use Rattle.net_signature.specs.Statement.{SaysVersion, SaysField, SaysElement, SaysTower, SaysRole, IsNormalOf, IsListOf, SaysBasis, SaysWord, SaysBit, SaysSource, SaysFeed, SaysEntry}
 use Rattle.net_signature.specs.declared.version.Version.{Version}
 use Rattle.net_signature.specs.declared.version.Version.TheVariants as version
-use Rattle.net_signature.specs.declared.entry.Entry.{Entry}
 use Rattle.net_signature.specs.declared.entry.Entry.TheVariants as entry
 use Rattle.net_signature.specs.declared.entry.FeedLine.{FeedLine}
 use Rattle.net_signature.specs.declared.entry.SourceText.{SourceText}
 use Rattle.net_signature.specs.declared.entry.SourceText.TheVariants.{Zero, One, Bit}
 use Rattle.net_signature.proofs.BasisLemmas.{poly_normal, poly_list, normal_list, behind_normal, behind_list}
-use Rattle.net_signature.proofs.BitLemmas.{parts_are, front_is, name_free, one_byte}
+use Rattle.net_signature.proofs.BitLemmas.{parts_are, name_free, one_byte}
 use Rattle.net_signature.proofs.EntryLemmas.{other_kind}
 
 -- a relation that holds of one value at most

@@ -1,5 +1,5 @@
 -- What a line says, kind by kind.
-use Rattle.std.proofs.Common.{◌≡◌, ◌∙◌, ap, sym, refl, subst, ℕ, ◌≤◌, ◌<◌, ◌-◌, List, [], ◌∷◌, length, map, take, drop, get_or, arith, Result, Ok, Err, codes}
+use Rattle.std.proofs.Common.{◌≡◌, ◌∙◌, ap, sym, refl, subst, ℕ, ◌≤◌, ◌-◌, List, [], ◌∷◌, length, map, take, drop, get_or, arith, Result, Err, codes}
 use Rattle.net_words.specs.declared.word.WordText.{WordText}
 use Rattle.net_signature.specs.Lines.{Token, Line}
 use Rattle.net_signature.specs.Statement.{SaysWord, SaysFeed, SaysBlock, SaysEntry}

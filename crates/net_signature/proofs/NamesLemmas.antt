@@ -78,7 +78,7 @@ on_value_ok f (Err e) b ok = absurd (cc)
 abbrev words_of : BodyValue → List WordText
 words_of body = body.words
 
-word_step : (body : BodyValue) (open : Option BlockValue) (word : WordText) (more : BodyValue) → IsName word.name → Ok more ≡ body_with body open word → AreWell body.words → AreWell more.words
+word_step : (body : BodyValue) (current : Option BlockValue) (word : WordText) (more : BodyValue) → IsName word.name → Ok more ≡ body_with body current word → AreWell body.words → AreWell more.words
 word_step body None word more name ok well =
     let got = on_value_ok (λ (words : List WordText). record body { words = words }) (with_word body.words word) more ok in
     subst AreWell (sym (ap words_of got.2)) (well_more body.words word got.0 name got.1 well)

@@ -1,6 +1,6 @@
 -- At most one outcome comes of a signature's text.
-use Rattle.std.proofs.Common.{◌≡◌, ◌∙◌, ap, sym, refl, ℕ, ◌&&◌, List, [], ◌∷◌, Bool, true, false, Ok, Err}
-use Rattle.text_core.specs.Outcome.{Outcome, ◌>>=◌, Exactly, Returns, Determined}
+use Rattle.std.proofs.Common.{◌≡◌, ◌∙◌, ap, sym, ℕ, ◌&&◌, List, [], ◌∷◌, Bool, true, false, Ok, Err}
+use Rattle.text_core.specs.Outcome.{◌>>=◌, Exactly, Returns, Determined}
 use Rattle.text_core.proofs.DeterminedLemmas.{determined_returns, determined_bind}
 use Rattle.net_words.proofs.BindDetermined.{determined_exactly}
 use Rattle.net_signature.specs.Lines.{Token, Line, lines_from, end_from}
@@ -8,7 +8,6 @@ use Rattle.net_signature.specs.Statement.{SaysVersion, SaysField, SaysTower, Say
 use Rattle.net_signature.specs.Outcomes.{OrSyntax, Says, first_of, Next, tower_comes}
 use Rattle.net_signature.specs.Body.{BodyValue, begun, blocks_of, has_feeds, may_stand, next, whole, SaysHere, ReadsLine, Reads}
 use Rattle.net_signature.specs.Signature.{SignatureValue, TowerIf, TowerOf, UpperOf, WholeSignature, SignatureOf, Sig}
-use Rattle.net_signature.specs.declared.version.Version.{Version}
 use Rattle.net_signature.specs.declared.fault.SigFault.{SigFault}
 use Rattle.net_signature.specs.declared.fault.SigFault.TheVariants.{Syntax, NameTwice, NoFedWord, FeedTwice, TwoOutputs, TooManyWords, NoOutput, OutOfMemory}
 use Rattle.net_signature.proofs.EntryDetermined.{IsSingle, one_version, one_field, one_tower, one_entry}

@@ -1,11 +1,11 @@
 -- The parts of a signature, one after another.
-use Rattle.std.proofs.Common.{◌≡◌, ℕ, ◌&&◌, List, Result, Ok, Err, true}
+use Rattle.std.proofs.Common.{ℕ, List, Result, Ok, Err}
 use Rattle.text_core.specs.Outcome.{Outcome, ◌>>=◌}
 use Rattle.net_signature.specs.Lines.{Line}
 use Rattle.net_signature.specs.Statement.{SaysVersion, SaysField}
-use Rattle.net_signature.specs.Outcomes.{Next, tower_comes}
-use Rattle.net_signature.specs.Body.{BodyValue, begun, has_feeds, Reads}
-use Rattle.net_signature.specs.Signature.{SignatureValue, TowerIf, TowerOf, UpperOf, WholeSignature, SignatureOf}
+use Rattle.net_signature.specs.Outcomes.{Next}
+use Rattle.net_signature.specs.Body.{BodyValue, begun, Reads}
+use Rattle.net_signature.specs.Signature.{SignatureValue, TowerOf, UpperOf, WholeSignature, SignatureOf}
 use Rattle.net_signature.specs.Reading.{Fits}
 use Rattle.net_signature.specs.declared.version.Version.{Version}
 use Rattle.net_signature.specs.declared.fault.SigFault.{SigFault}

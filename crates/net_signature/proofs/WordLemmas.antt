@@ -1,7 +1,6 @@
 -- What the line of a word says, part by part.
-use Rattle.std.proofs.Common.{◌≡◌, ap, sym, refl, subst, ℕ, ◌≤◌, ◌-◌, List, [], ◌∷◌, length, map, take, drop, get_or, arith, All, Result, Ok, Err, codes}
+use Rattle.std.proofs.Common.{◌≡◌, ap, sym, refl, subst, ℕ, ◌≤◌, ◌-◌, List, [], ◌∷◌, length, map, take, drop, get_or, arith, All, Result, Err, codes}
 use Rattle.std.proofs.Math.Seq.{take-length}
-use Rattle.text_core.specs.Outcome.{Outcome}
 use Rattle.text_core.specs.Names.{IsName}
 use Rattle.net_words.specs.declared.word.BasisText.{BasisText}
 use Rattle.net_words.specs.declared.word.WordText.{WordText}

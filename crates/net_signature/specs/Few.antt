@@ -1,5 +1,5 @@
 -- How many words stand together. Source: this project's own format, docs/FORMATS.md.
-use Rattle.std.specs.Prelude.{ℕ, ◌≤◌, List, length, filter}
+use Rattle.std.specs.Prelude.{◌≤◌, List, length, filter}
 use Rattle.net_words.specs.Roles.{is_output, input_count}
 use Rattle.net_words.specs.declared.word.WordText.{WordText}
 

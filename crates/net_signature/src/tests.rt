@@ -22,7 +22,12 @@ fn outcome(alloc: Global, text: &[u8]) -> (&'static str, u32) {
         Err(SigFault::FeedTwice { line }) => ("feed twice", line),
         Err(SigFault::TwoOutputs { line }) => ("two outputs", line),
         Err(SigFault::TooManyWords { line }) => ("too many words", line),
-        Err(SigFault::NoOutput { block: _block }) => ("no output", 0),
+        Err(SigFault::NoOutput { block: None }) => ("no output", 0),
+        Err(
+            SigFault::NoOutput {
+                block: Some(_model),
+            },
+        ) => ("no output of a block", 0),
         Err(SigFault::OutOfMemory) => ("memory", 0),
     }
 }
@@ -40,7 +45,8 @@ fn the_first_lines(rt: HostRuntime) -> Result<(), Fail> {
         (b"".as_slice(), "syntax", 1),
         (b"gfsig 1", "syntax", 2),
         (b"gfsig 1\n", "syntax", 2),
-        (b"\n# a\ngfsig 2\n", "syntax", 3),
+        (b"\n# a\ngfsig 3\n", "syntax", 3),
+        (b"gfsig 2\n", "syntax", 2),
         (b"gfsig 01\n", "syntax", 1),
         (b"gfsig 1\nfield 0x7\n", "no output", 0),
         (
@@ -57,7 +63,8 @@ fn the_first_lines(rt: HostRuntime) -> Result<(), Fail> {
             0,
         ),
         (b"gfsig 1\nfield 0x7\nword Z fed poly a b\n", "syntax", 3),
-        (b"gfsig 1\nfield 0x7\nblock m\n", "syntax", 3),
+        (b"gfsig 1\nfield 0x7\nblock m\n", "no output", 0),
+        (b"gfsig 1\nfield 0x7\nblock m m\n", "syntax", 3),
         (b"gfsig 1\nfield 0x7\n\\\n", "syntax", 3),
     ] {
         assert_eq!(rt; outcome(alloc, text), (kind, number), "at {text:?}");
@@ -164,6 +171,118 @@ fn data(rt: HostRuntime) -> Result<(), Fail> {
     assert_eq!(rt; second.as_str(), "n[1]");
     if let BasisText::Elements { list } = &word.basis {
         assert_eq!(rt; list.as_slice(), [1, 10].as_slice());
+    }
+    Ok(())
+}
+
+#[test]
+fn feeds_and_fed_words(rt: HostRuntime) -> Result<(), Fail> {
+    let alloc = rt.alloc();
+    for (text, kind, number) in [
+        (
+            b"gfsig 2\nfield 0x7\nword A fed poly\nword Z output poly z\nfeed d 4096 A[63]\nfeed d 0 0\nfeed d 1 1\n".as_slice(),
+            "words",
+            2,
+        ),
+        (
+            b"gfsig 2\nfield 0x7\nword A fed poly\nfeed d 4097 0\n",
+            "syntax",
+            4,
+        ),
+        (
+            b"gfsig 2\nfield 0x7\nword A fed poly\nfeed d 0 A[64]\n",
+            "syntax",
+            4,
+        ),
+        (b"gfsig 2\nfield 0x7\nword A fed poly d\n", "syntax", 3),
+        (
+            b"gfsig 2\nfield 0x7\nfeed d 0 1\nword Z output poly z\n",
+            "syntax",
+            4,
+        ),
+        (
+            b"gfsig 2\nfield 0x7\nword Z output poly z\nfeed d 0 Z[0]\n",
+            "no fed word",
+            4,
+        ),
+        (
+            b"gfsig 2\nfield 0x7\nword A fed poly\nfeed d 07 0\nfeed e 7 0\nfeed d 8 0\nfeed d 7 A[0]\n",
+            "feed twice",
+            7,
+        ),
+        (
+            b"gfsig 2\nfield 0x7\nword Z output poly z\nblock m\nfeed d 0 0\n",
+            "syntax",
+            5,
+        ),
+        (
+            b"gfsig 2\nfield 0x7\nword Z output poly z\nblock m\nword A fed poly\n",
+            "syntax",
+            5,
+        ),
+    ] {
+        assert_eq!(rt; outcome(alloc, text), (kind, number), "at {text:?}");
+    }
+    Ok(())
+}
+
+#[test]
+fn blocks_and_second_towers(rt: HostRuntime) -> Result<(), Fail> {
+    let alloc = rt.alloc();
+    for (text, kind, number) in [
+        (
+            b"gfsig 1\nfield 0x7\nword A output poly z\nblock m\nword A output poly z\n".as_slice(),
+            "words",
+            1,
+        ),
+        (
+            b"gfsig 1\nfield 0x7\nword A output poly z\nblock m\nblock n\n",
+            "no output of a block",
+            0,
+        ),
+        (
+            b"gfsig 1\nfield 0x7\nword A output poly z\nblock m\nblock n\nblock m\n",
+            "name twice",
+            6,
+        ),
+        (
+            b"gfsig 1\nfield 0x7\nword A output poly z\nblock m\nword B output poly z\nword C output poly z\n",
+            "two outputs",
+            6,
+        ),
+        (b"gfsig 1\nfield 0x7\ntower 0x2\ntower 0x2\n", "syntax", 4),
+        (
+            b"gfsig 2\nfield 0x7\ntower 0x2\ntower 0x2\nword A output poly z\n",
+            "words",
+            1,
+        ),
+        (
+            b"gfsig 2\nfield 0x7\ntower 0x2\ntower 0x2\ntower 0x2\n",
+            "syntax",
+            5,
+        ),
+    ] {
+        assert_eq!(rt; outcome(alloc, text), (kind, number), "at {text:?}");
+    }
+    Ok(())
+}
+
+#[test]
+fn ninth_words(rt: HostRuntime) -> Result<(), Fail> {
+    let alloc = rt.alloc();
+    for (text, kind, number) in [
+        (
+            b"gfsig 2\nfield 0x3\nword A input poly a\nword B state poly b\nword C fed poly\nword D input poly d\nword E state poly e\nword F fed poly\nword G input poly g\nword H fed poly\nword Z output poly z\nblock m\nword A input poly a\nword Z output poly z\n".as_slice(),
+            "words",
+            9,
+        ),
+        (
+            b"gfsig 2\nfield 0x3\nword A input poly a\nword B state poly b\nword C fed poly\nword D input poly d\nword E state poly e\nword F fed poly\nword G input poly g\nword H fed poly\nword I fed poly\n",
+            "too many words",
+            11,
+        ),
+    ] {
+        assert_eq!(rt; outcome(alloc, text), (kind, number), "at {text:?}");
     }
     Ok(())
 }

@@ -1,4 +1,3 @@
-use Rattle.std.proofs.Common.{ℕ, List}
 use Rattle.net_signature.proofs.BitLemmas.{no_bit, if_none}
 use Rattle.net_signature.proofs.feed_line.bit_of.Goals as goal
 

@@ -1,4 +1,4 @@
-use Rattle.std.proofs.Common.{ℕ, List, Vec, Global, Ok, Err}
+use Rattle.std.proofs.Common.{ℕ, List, Vec, Global, Err}
 use Rattle.net_signature.specs.Lines.{Line}
 use Rattle.net_signature.specs.Body.{BodyValue}
 use Rattle.net_signature.specs.Reading.{left, end_of}
