@@ -42,18 +42,16 @@ pub(crate) fn latches(alloc: Global) -> Result<Net, NetFault> {
 // The words of a text with a `;` between words: the name of each, whose first letter says its role, and its nets.
 pub(crate) fn words_of(alloc: Global, text: &[u8]) -> Result<Vec<WordText>, AllocError> {
     let mut words = Vec::new(alloc);
-    let mut line = 3;
     for part in text.split(|&byte| byte == b';') {
         let tokens = tokens(alloc, part)?;
         if let [name, nets @ ..] = tokens.as_slice() {
-            words.push(word_of(alloc, line, name, nets)?)?;
+            words.push(word_of(alloc, name, nets)?)?;
         }
-        line += 1;
     }
     Ok(words)
 }
 
-fn word_of(alloc: Global, line: u32, name: &[u8], nets: &[&[u8]]) -> Result<WordText, AllocError> {
+fn word_of(alloc: Global, name: &[u8], nets: &[&[u8]]) -> Result<WordText, AllocError> {
     let role = match name {
         [b'I', ..] => Role::Input,
         [b'S', ..] => Role::State,
@@ -61,7 +59,7 @@ fn word_of(alloc: Global, line: u32, name: &[u8], nets: &[&[u8]]) -> Result<Word
         _ => Role::Output,
     };
     Ok(WordText {
-        line,
+        line: 3,
         name: name_of(alloc, name)?,
         role,
         basis: BasisText::Poly,
@@ -81,7 +79,7 @@ fn name_of(alloc: Global, token: &[u8]) -> Result<Name, AllocError> {
     Name::new(alloc, plain_text(token).unwrap_or(""))
 }
 
-// Whether words and at most two feeds can be bound.
+// Whether words and at most one feed can be bound.
 pub(crate) fn can_be_bound(words: &[WordText], feeds: &[FeedText]) -> bool
     ensures { IsTrue result → (k : ℕ) × AreWords k words.now × AreFeeds k (map (λ word. word.role) words.now) feeds.now }
 {
@@ -150,11 +148,6 @@ fn are_feeds(words: &[WordText], k: usize, feeds: &[FeedText]) -> bool
     match feeds {
         [] => true,
         [feed] => has_source(words, k, feed.source),
-        [first, second] => {
-            has_source(words, k, first.source)
-                && has_source(words, k, second.source)
-                && first.net.as_str() != second.net.as_str()
-        }
         _ => false,
     }
 }

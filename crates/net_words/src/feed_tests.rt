@@ -61,25 +61,6 @@ fn feeds_of_free_inputs(rt: HostRuntime) -> Result<(), Fail> {
 }
 
 #[test]
-fn first_of_two_feeds(rt: HostRuntime) -> Result<(), Fail> {
-    let alloc = rt.alloc();
-    let net = conjunction(alloc)?;
-    for (first, second, outcome_is) in [
-        ("a", "c", "2 words, 2 feeds"),
-        ("a", "z", "feed at line 7 is no free input"),
-        ("z", "b", "feed at line 6 is no free input"),
-    ] {
-        let rows = [(6, first, Source::One), (7, second, Source::Zero)];
-        assert_eq!(rt;
-            fed_outcome(alloc, &net, b"I0 b; O1 z", &rows)?.as_str(),
-            outcome_is,
-            "at {first} and {second}"
-        );
-    }
-    Ok(())
-}
-
-#[test]
 fn feeds_before_starts(rt: HostRuntime) -> Result<(), Fail> {
     let alloc = rt.alloc();
     let net = latches(alloc)?;
