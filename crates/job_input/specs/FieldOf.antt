@@ -25,17 +25,22 @@ base_field d g = record { k = d; product = quotient_product 1 d bit_mul g }
 abbrev pub tower_field : ℕ → ℕ → List ℕ → FieldValue
 tower_field d g cs = record { k = d * length cs; product = quotient_product d (length cs) (quotient_product 1 d bit_mul g) (tower_polynomial d cs) }
 
--- the first where there are no coefficients, and else the second
-abbrev pub field_of : ℕ → ℕ → List ℕ → FieldValue
-field_of d g [] = base_field d g
-field_of d g (c ∷ cs) = tower_field d g (c ∷ cs)
+-- the polynomials over that tower modulo the polynomial of the second step, whose coefficients below its leading one are us
+abbrev pub upper_field : ℕ → ℕ → List ℕ → List ℕ → FieldValue
+upper_field d g cs us = record { k = d * length cs * length us; product = quotient_product (d * length cs) (length us) (tower_field d g cs).product (tower_polynomial (d * length cs) us) }
 
--- the field that the modulus and the coefficients of no or one tower step name, or the reason why they name none
-abbrev pub FieldOrFault : ℕ → List ℕ → Outcome FieldFault FieldValue
-FieldOrFault g cs (Ok field) = (name : IsFieldName g cs []) × (field ≡ field_of name.degree g cs)
-FieldOrFault g cs (Err fault) = IsFieldFault g cs [] fault
+-- the first where there are no coefficients, the second where there is one step, and else the third
+abbrev pub field_of : ℕ → ℕ → List ℕ → List ℕ → FieldValue
+field_of d g [] us = base_field d g
+field_of d g (c ∷ cs) [] = tower_field d g (c ∷ cs)
+field_of d g (c ∷ cs) (u ∷ us) = upper_field d g (c ∷ cs) (u ∷ us)
 
--- the fault of a signature that this reason is; no signature has a second tower step yet, so the last three are never met
+-- the field that the modulus and the coefficients of no, one or two tower steps name, or the reason why they name none
+abbrev pub FieldOrFault : ℕ → List ℕ → List ℕ → Outcome FieldFault FieldValue
+FieldOrFault g cs us (Ok field) = (name : IsFieldName g cs us) × (field ≡ field_of name.degree g cs us)
+FieldOrFault g cs us (Err fault) = IsFieldFault g cs us fault
+
+-- the fault of a signature that this reason is
 abbrev pub field_fault : FieldFault → SignatureFault
 field_fault BadDegree = Degree
 field_fault NotIrreducible = Modulus
@@ -46,6 +51,6 @@ field_fault UpperBadLength = Tower
 field_fault (UpperBadCoefficient place) = Tower
 field_fault UpperNotIrreducible = TowerPolynomial
 
--- the field of a signature with this modulus and tower, or its fault
-abbrev pub FieldOf : ℕ → List ℕ → Outcome SignatureFault FieldValue
-FieldOf modulus tower = Within field_fault (FieldOrFault modulus tower)
+-- the field of a signature with this modulus and these towers, or its fault
+abbrev pub FieldOf : ℕ → List ℕ → List ℕ → Outcome SignatureFault FieldValue
+FieldOf modulus tower upper = Within field_fault (FieldOrFault modulus tower upper)

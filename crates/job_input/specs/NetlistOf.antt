@@ -113,12 +113,12 @@ WordsBound words feeds net = do
   bound ← Within (λ fault. netlist.Binding (of_binding words net fault)) (BindingOf net words feeds)
   InOneCycle net bound
 
--- The net of a text with the words of a signature, which has no feeds yet, bound to it: the text, its net, and the binding,
--- of which the first fault counts.
+-- The net of a text with the words and feeds of a signature bound to it: the text, its net, and the binding, of which the
+-- first fault counts.
 abbrev pub BoundNetOf : SignatureValue → NetlistText → Outcome NetlistFault BoundNet
 BoundNetOf signature text = do
   net ← NetOf text
-  WordsBound signature.words [] net
+  WordsBound signature.words signature.feeds net
 
 -- the circuit of a file: it is read, and its netlist taken
 abbrev pub CircuitIn : Option Files → SignatureValue → Word → Outcome Fault BoundNet

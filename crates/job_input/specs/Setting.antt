@@ -7,7 +7,7 @@ use Rattle.net_words.specs.declared.bound.BoundWord.{BoundWord}
 use Rattle.net_words.specs.declared.word.WordText.{WordText}
 use Rattle.net_signature.specs.WordNames.{HaveNames}
 use Rattle.net_signature.specs.declared.fault.SigFault.{SigFault}
-use Rattle.net_signature.specs.declared.fault.SigFault.TheVariants.{Syntax, NameTwice, TwoOutputs, TooManyWords, NoOutput, OutOfMemory}
+use Rattle.net_signature.specs.declared.fault.SigFault.TheVariants.{Syntax, NameTwice, NoFedWord, FeedTwice, TwoOutputs, TooManyWords, NoOutput, OutOfMemory}
 use Rattle.gf_field.specs.Bit.{bit_mul}
 use Rattle.gf_field.specs.Quotient.{product as quotient_product}
 use Rattle.gf_field.specs.Ring2k.{degree_of, modulus_of}
@@ -72,6 +72,8 @@ AreBasesOver k product bases = (basis : Basis) → Has bases basis → IsOver k 
 abbrev pub text_stop : SigFault → Stop
 text_stop (Syntax line) = stops.Refused (Signature (text_fault (Syntax line)))
 text_stop (NameTwice line) = stops.Refused (Signature (text_fault (NameTwice line)))
+text_stop (NoFedWord line) = stops.Refused (Signature (text_fault (NoFedWord line)))
+text_stop (FeedTwice line) = stops.Refused (Signature (text_fault (FeedTwice line)))
 text_stop (TwoOutputs line) = stops.Refused (Signature (text_fault (TwoOutputs line)))
 text_stop (TooManyWords line) = stops.Refused (Signature (text_fault (TooManyWords line)))
 text_stop (NoOutput block) = stops.Refused (Signature (text_fault (NoOutput block)))

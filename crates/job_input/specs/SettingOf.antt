@@ -1,10 +1,15 @@
 -- What the text of a signature gives a job, or its first fault. Source: this project's own format, docs/FORMATS.md, and for bases
 -- Lidl and Niederreiter, Finite Fields, chapter 2.
-use Rattle.std.specs.Prelude.{◌≡◌, ◌≢◌, ℕ, ◌<◌, ◌^◌, List, [], ◌∷◌, length, Ok, Err}
-use Rattle.text_core.specs.Outcome.{Outcome, ◌>>=◌, Exactly, Within}
+use Rattle.std.specs.Prelude.{◌≡◌, ◌⊎◌, ℕ, ◌<◌, ◌^◌, nat_lt, Bool, true, List, [], ◌∷◌, length, None, Some, Result, Ok, Err, if◌then◌else◌}
+use Rattle.text_core.specs.Outcome.{Outcome, ◌>>=◌, Exactly, Returns, Within}
 use Rattle.net_signature.specs.Signature.{Sig, SignatureValue}
 use Rattle.net_signature.specs.declared.fault.SigFault.{SigFault}
 use Rattle.net_signature.specs.declared.fault.SigFault.TheVariants as text
+use Rattle.net_signature.specs.Body.{BlockValue}
+use Rattle.net_words.specs.declared.feed.FeedText.{FeedText}
+use Rattle.net_words.specs.declared.feed.Source.{Source}
+use Rattle.net_words.specs.declared.feed.Source.TheVariants.{Zero, One, Bit}
+use Rattle.net_words.specs.declared.word.Role.TheVariants.{Fed}
 use Rattle.net_words.specs.declared.word.BasisText.{BasisText}
 use Rattle.net_words.specs.declared.word.BasisText.TheVariants.{Poly, Normal, Elements}
 use Rattle.net_words.specs.declared.word.WordText.{WordText}
@@ -22,15 +27,21 @@ use Rattle.job_input.specs.SettingValue.{SettingValue}
 abbrev pub text_fault : SigFault → SignatureFault
 text_fault (text.Syntax line) = signature.Syntax line
 text_fault (text.NameTwice line) = signature.NameTwice line
+text_fault (text.NoFedWord line) = signature.NoFedWord line
+text_fault (text.FeedTwice line) = signature.FeedTwice line
 text_fault (text.TwoOutputs line) = signature.TwoOutputs line
 text_fault (text.TooManyWords line) = signature.TooManyWords line
-text_fault (text.NoOutput block) = signature.NoOutput
+text_fault (text.NoOutput None) = signature.NoOutput
+text_fault (text.NoOutput (Some model)) = signature.NoOutputInBlock model
 text_fault text.OutOfMemory = signature.NoOutput
 
--- the word has as many nets as the field's elements have bits
+-- the word is fed, or has as many nets as the field's elements have bits
+abbrev pub HasWidth : ℕ → WordText → Type 0
+HasWidth k word = (length word.nets ≡ k) ⊎ (word.role ≡ Fed)
+
 abbrev pub HasBits : ℕ → WordText → Outcome SignatureFault (Unit {0})
-HasBits k word (Ok u) = length word.nets ≡ k
-HasBits k word (Err fault) = (length word.nets ≢ k) × (fault ≡ signature.Bits word.line)
+HasBits k word (Ok u) = HasWidth k word
+HasBits k word (Err fault) = (HasWidth k word → ⊥) × (fault ≡ signature.Bits word.line)
 
 -- the conjugates of gamma, which is an element, where they are independent
 abbrev pub NormalBasis : ℕ → (ℕ → ℕ → ℕ) → ℕ → Outcome BasisFault (List ℕ)
@@ -68,6 +79,24 @@ BasesOf k product (word ∷ words) = do
   bases ← BasesOf k product words
   Exactly (basis ∷ bases)
 
+-- the words of each block have bases too, which are judged in order
+abbrev pub BlocksHaveBases : ℕ → (ℕ → ℕ → ℕ) → List BlockValue → Outcome SignatureFault (Unit {0})
+BlocksHaveBases k product [] = Exactly tt
+BlocksHaveBases k product (block ∷ blocks) = do
+  bases ← BasesOf k product block.words
+  BlocksHaveBases k product blocks
+
+-- the place of a source is below k
+abbrev pub place_within : ℕ → Source → Bool
+place_within k Zero = true
+place_within k One = true
+place_within k (Bit word place) = nat_lt place k
+
+-- each feed is from a place below k, or the first that is not is the fault
+abbrev pub feeds_within : ℕ → List FeedText → Result (Unit {0}) SignatureFault
+feeds_within k [] = Ok tt
+feeds_within k (feed ∷ feeds) = if place_within k feed.source then feeds_within k feeds else Err (signature.Bits feed.line)
+
 -- a signature, and the field that it names
 pub record SignedValue : Type 0 where
   pub signature : SignatureValue
@@ -77,13 +106,15 @@ pub record SignedValue : Type 0 where
 unfoldable pub SignedOf : List ℕ → Outcome SignatureFault SignedValue
 SignedOf bytes = do
   said ← Within text_fault (Sig bytes)
-  field ← FieldOf said.modulus said.tower
+  field ← FieldOf said.modulus said.tower said.upper
   Exactly (record { signature = said; field = field })
 
 -- its setting: its words with their bases
 abbrev pub SettingWith : SignedValue → Outcome SignatureFault SettingValue
 SettingWith signed = do
   bases ← BasesOf signed.field.k signed.field.product signed.signature.words
+  blocks ← BlocksHaveBases signed.field.k signed.field.product signed.signature.blocks
+  feeds ← Returns (feeds_within signed.field.k signed.signature.feeds)
   Exactly (record { signature = signed.signature; k = signed.field.k; product = signed.field.product; bases = bases })
 
 -- the setting of a signature's text: first its lines, then its field, and then its words with their bases

@@ -31,12 +31,12 @@ pub(crate) fn bound_net(
     text: &[u8],
 ) -> Result<Combinational, Refusal>
     requires short { length text.now ≤ 67108864 }
-    requires words { (k : ℕ) × AreWords k signature.now.words }
+    requires words { (k : ℕ) × AreWords k signature.now.words × AreFeeds k (map (λ word. word.role) signature.now.words) signature.now.feeds }
     ensures fits { FitsNetlist result (BoundNetOf signature.now (by_ending file.now text.now)) }
     ensures bits { IfOk result (λ circuit. circuit.bound.k ≡ bits_of signature.now.words) }
 {
     match net_of(alloc, file, text) {
-        Ok(net) => bound_to(alloc, signature.words(), &[], net),
+        Ok(net) => bound_to(alloc, signature.words(), signature.feeds(), net),
         Err(refusal) => Err(refusal),
     }
 }

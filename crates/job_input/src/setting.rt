@@ -1,17 +1,18 @@
 //! The setting of a job: a signature, and over its field the bases of its words.
 ghost use Rattle.std.specs.Prelude.{◌≡◌, Ok, Err, IfOk, IfErr};
-ghost use Rattle.text_core.specs.Outcome.{Within};
+ghost use Rattle.text_core.specs.Outcome.{Returns, Within};
 ghost use Rattle.gf_basis.specs.BasisParts.{IsOver, elements_of};
 ghost use Rattle.job_words.specs.Stop.{GivesBy};
 ghost use Rattle.job_words.specs.declared.fault.Fault.TheVariants.{Signature};
-ghost use Rattle.job_input.specs.SettingOf.{BasisOf, WordBasis, BasesOf, SettingWith, basis_fault as fault_of_basis};
+ghost use Rattle.job_input.specs.SettingOf.{BasisOf, WordBasis, BasesOf, BlocksHaveBases, feeds_within, place_within, SettingWith, basis_fault as fault_of_basis};
 ghost use Rattle.job_input.specs.Setting.{elements_of_each, setting_value, AreBasesOver, AreSaid, IsReady};
 
 use crate::signed::refused;
 use gf_basis::{Basis, BasisFault};
 use gf_field::Field;
 use job_words::{SignatureFault, Stop};
-use net_words::{BasisText, WordText};
+use net_signature::Block;
+use net_words::{BasisText, FeedText, Role, Source, WordText};
 use std::alloc::Global;
 
 /// A signature, and the bases of its words in their order.
@@ -35,9 +36,17 @@ pub fn setting_over<F: Field>(
         (Within Signature (SettingWith (record { signature = signature; field = record { k = F.degree field.now; product = F.product field.now } }))) ⊥ ⊥ }
     ensures ready { IfOk result (λ setting. IsReady (F.degree field.now) (F.product field.now) setting) }
 {
-    match bases_of(alloc, field, signature.words()) {
-        Ok(bases) => Ok(Setting { signature, bases }),
-        Err(stop) => Err(stop),
+    let bases = match bases_of(alloc, field, signature.words()) {
+        Ok(bases) => bases,
+        Err(stop) => return Err(stop),
+    };
+    match judge_blocks(alloc, field, signature.blocks()) {
+        Ok(()) => {}
+        Err(stop) => return Err(stop),
+    }
+    match judge_feeds(field.k(), signature.feeds()) {
+        Ok(()) => Ok(Setting { signature, bases }),
+        Err(fault) => Err(refused(fault)),
     }
 }
 
@@ -57,13 +66,48 @@ fn bases_of<F: Field>(alloc: Global, field: &F, words: &[WordText]) -> Result<Ve
     Ok(bases)
 }
 
+// The bases of the words of blocks, which are judged and not kept.
+fn judge_blocks<F: Field>(alloc: Global, field: &F, blocks: &[Block]) -> Result<(), Stop>
+    ensures { GivesBy (λ u. tt) result (Within Signature (BlocksHaveBases (F.degree field.now) (F.product field.now) blocks.now)) ⊥ ⊥ }
+{
+    for block in blocks {
+        match bases_of(alloc, field, block.words()) {
+            Ok(_bases) => {}
+            Err(stop) => return Err(stop),
+        }
+    }
+    Ok(())
+}
+
+// The first feed whose place is not below k is refused.
+fn judge_feeds(k: u32, feeds: &[FeedText]) -> Result<(), SignatureFault>
+    ensures { Returns (feeds_within k feeds.now) result }
+{
+    for feed in feeds {
+        if !is_within(k, &feed.source) {
+            return Err(SignatureFault::Bits { line: feed.line });
+        }
+    }
+    Ok(())
+}
+
+// Whether the place of a source is below k.
+fn is_within(k: u32, source: &Source) -> bool
+    ensures { result ≡ place_within k source.now }
+{
+    match source {
+        Source::Zero | Source::One => true,
+        Source::Bit { place, .. } => *place < k,
+    }
+}
+
 // The basis of a word: first its number of bits counts.
 fn word_basis<F: Field>(field: &F, word: &WordText) -> Result<Basis, Stop>
     ensures gives { GivesBy elements_of result (Within Signature (WordBasis (F.degree field.now) (F.product field.now) word.now)) ⊥ ⊥ }
     ensures over { IfOk result (λ basis. IsOver (F.degree field.now) (F.product field.now) basis) }
 {
     let line = word.line;
-    if word.nets.as_slice().len() != field.k() as usize {
+    if word.role != Role::Fed && word.nets.as_slice().len() != field.k() as usize {
         return Err(refused(SignatureFault::Bits { line }));
     }
     match basis_of(field, &word.basis) {

@@ -51,7 +51,7 @@ fn signed_of(alloc: Global, text: &[u8]) -> Result<Signed, Stop>
         Ok(signature) => signature,
         Err(fault) => return Err(text_stop(fault)),
     };
-    match AnyField::new(signature.modulus(), signature.tower(), &[]) {
+    match AnyField::new(signature.modulus(), signature.tower(), signature.upper()) {
         Ok(field) => Ok(Signed { signature, field }),
         Err(fault) => Err(refused(field_fault(fault))),
     }
@@ -64,9 +64,14 @@ fn text_stop(fault: SigFault) -> Stop
     match fault {
         SigFault::Syntax { line } => refused(SignatureFault::Syntax { line }),
         SigFault::NameTwice { line } => refused(SignatureFault::NameTwice { line }),
+        SigFault::NoFedWord { line } => refused(SignatureFault::NoFedWord { line }),
+        SigFault::FeedTwice { line } => refused(SignatureFault::FeedTwice { line }),
         SigFault::TwoOutputs { line } => refused(SignatureFault::TwoOutputs { line }),
         SigFault::TooManyWords { line } => refused(SignatureFault::TooManyWords { line }),
-        SigFault::NoOutput { block: _block } => refused(SignatureFault::NoOutput),
+        SigFault::NoOutput { block: None } => refused(SignatureFault::NoOutput),
+        SigFault::NoOutput { block: Some(model) } => {
+            refused(SignatureFault::NoOutputInBlock { model })
+        }
         SigFault::OutOfMemory => Stop::OutOfMemory,
     }
 }
