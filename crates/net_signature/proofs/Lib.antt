@@ -10,5 +10,6 @@ pub mod FewLemmas
 pub mod BodyLemmas
 pub mod SignatureLemmas
 pub mod NamesLemmas
+pub mod ModelLemmas
 pub mod SigDetermined
 mod Examples

@@ -1,8 +1,10 @@
 //! Laws of signatures. These functions do nothing: their contracts are proved of the definitions alone.
-ghost use Rattle.std.specs.Prelude.{List, Ok, ℕ};
+ghost use Rattle.std.specs.Prelude.{List, Ok, Err, Some, ℕ};
 ghost use Rattle.text_core.specs.Outcome.{Determined};
 ghost use Rattle.net_signature.specs.Signature.{Sig, SignatureValue};
+ghost use Rattle.net_signature.specs.Statement.{IsNetToken};
 ghost use Rattle.net_signature.specs.WordNames.{HaveNames};
+ghost use Rattle.net_signature.specs.declared.fault.SigFault.TheVariants.{NoOutput};
 
 /// At most one signature or fault comes of a text.
 pub fn one_signature_or_fault()
@@ -12,4 +14,9 @@ pub fn one_signature_or_fault()
 /// The words of a signature have names, and no two have the same.
 pub fn words_have_names()
     ensures { (text : List ℕ) (signature : SignatureValue) → Sig text (Ok signature) → HaveNames signature.words }
+{}
+
+/// The model that the fault of a text names is a token: at most 255 bytes that print.
+pub fn named_models_are_tokens()
+    ensures { (text model : List ℕ) → Sig text (Err (NoOutput (Some model))) → IsNetToken model }
 {}
