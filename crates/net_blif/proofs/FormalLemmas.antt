@@ -128,14 +128,14 @@ both false b e = absurd (cc)
 
 all_each : (others xs : List Token) → list_all (λ x. is_among others x) xs ≡ true → (q : Token) → is_among xs q ≡ true → is_among others q ≡ true
 all_each others [] all q there = absurd (cc)
-all_each others (x ∷ xs) all q there = by (bytes_eq x q) refl there
+all_each others (x ∷ xs) all q there = by (λ h. all_each others xs split.1 q h) (bytes_eq x q) refl there
   where
     split : (is_among others x ≡ true) × (list_all (λ x. is_among others x) xs ≡ true)
     split = both (is_among others x) (list_all (λ x. is_among others x) xs) all
 
-    by : (b : Bool) → bytes_eq x q ≡ b → (b || is_among xs q) ≡ true → is_among others q ≡ true
-    by true e h = let same : x ≡ q = (bytes_eq-Decides x q).0 e in subst (λ (n : Token). is_among others n ≡ true) same split.0
-    by false e h = all_each others xs split.1 q h
+    by : (is_among xs q ≡ true → is_among others q ≡ true) → (b : Bool) → bytes_eq x q ≡ b → (b || is_among xs q) ≡ true → is_among others q ≡ true
+    by later true e h = let same : x ≡ q = (bytes_eq-Decides x q).0 e in subst (λ (n : Token). is_among others n ≡ true) same split.0
+    by later false e h = later h
 
 each_all : (others xs : List Token) → ((q : Token) → is_among xs q ≡ true → is_among others q ≡ true) → list_all (λ x. is_among others x) xs ≡ true
 each_all others [] each = refl

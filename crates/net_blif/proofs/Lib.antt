@@ -10,6 +10,7 @@ pub mod TableLemmas
 pub mod OutcomeLemmas
 pub mod StepLemmas
 pub mod FormalLemmas
+pub mod InstanceLemmas
 pub mod ChainLemmas
 pub mod RightLemmas
 mod Examples

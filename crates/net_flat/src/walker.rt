@@ -153,10 +153,12 @@ impl Walker {
         ensures inside { OnOk result (AreInside (state_of self.new)) }
         ensures fault { IfErr result (IsFaultOf (local_walked (state_of self.old) (input_steps (is_in_top (state_of self.old).local) name.now))) }
     {
+        let is_top = self.scope.is_top;
         let number = self.mention(name)?;
-        if self.scope.is_top {
-            self.maker.input(number)?;
+        if !is_top {
+            return Ok(());
         }
+        self.maker.input(number)?;
         Ok(())
     }
 
@@ -168,10 +170,12 @@ impl Walker {
         ensures inside { OnOk result (AreInside (state_of self.new)) }
         ensures fault { IfErr result (IsFaultOf (local_walked (state_of self.old) (output_steps (is_in_top (state_of self.old).local) name.now))) }
     {
+        let is_top = self.scope.is_top;
         let number = self.mention(name)?;
-        if self.scope.is_top {
-            self.maker.output(number)?;
+        if !is_top {
+            return Ok(());
         }
+        self.maker.output(number)?;
         Ok(())
     }
 
