@@ -1,6 +1,6 @@
 -- The graph of models, and how far its edges lead.
-use Rattle.std.proofs.Common.{◌≡◌, ◌⊎◌, ◌∙◌, inl, inr, ap, sym, refl, subst, append_assoc, append-nil, ℕ, zero, suc, ◌+◌, ◌<◌, ◌≤◌, Bool, true, false, cond, ◌||◌, List, [], ◌∷◌, ◌++◌, map, length, drop, take, get_or, set, replicate, Option, None, Some, Ok, Err, arith}
-use Rattle.std.specs.Prelude.{All, slice_get, slice_index_or, flat_map}
+use Rattle.std.proofs.Common.{◌≡◌, ◌∙◌, inl, inr, ap, sym, refl, subst, append_assoc, append-nil, ℕ, zero, suc, ◌+◌, ◌<◌, Bool, true, false, cond, ◌||◌, List, [], ◌∷◌, ◌++◌, length, take, get_or, set, replicate, Option, None, Some, arith}
+use Rattle.std.specs.Prelude.{All, slice_get, slice_index_or}
 use Rattle.std.specs.List.{list_any}
 use Rattle.std.specs.Option.{option_map, option_map_or}
 use Rattle.std.specs.Str.{bytes_eq}
@@ -8,7 +8,7 @@ use Rattle.std.proofs.Math.Seq.{take-suc}
 use Rattle.std.proofs.lemmas.List.{length-append, length-map, length-replicate, length-set}
 use Rattle.std.proofs.lemmas.List.Elements.{All-append}
 use Rattle.std.proofs.lemmas.Option.{slice_get-map, slice_get_within}
-use Rattle.graph_core.specs.Graph.{Graph, edges, HasEdge, IsCycle, IsInside}
+use Rattle.graph_core.specs.Graph.{Graph, edges, IsCycle, IsInside}
 use Rattle.graph_core.specs.Cycle.{IsCycleOf, IsGrounded}
 use Rattle.graph_core.specs.Arranged.{IsArranged}
 use Rattle.graph_core.proofs.GraphLemmas.{edges_within, nat_eq_or, same_lists}

@@ -1,15 +1,15 @@
 -- Connections looked up in tables are connections looked up in lists.
 use Rattle.std.proofs.Common.{◌≡◌, ◌∙◌, ap, sym, refl, subst, append_assoc, append-nil, ℕ, Bool, true, false, not, ◌||◌, ◌&&◌, cond, List, [], ◌∷◌, ◌++◌, map, Option, None, Some}
 use Rattle.std.specs.Prelude.{is_some, flat_map}
-use Rattle.std.specs.List.{list_any, list_all}
+use Rattle.std.specs.List.{list_all}
 use Rattle.std.specs.Str.{bytes_eq}
 use Rattle.std.proofs.lemmas.List.Folds.{list_any-append}
 use Rattle.std.proofs.lemmas.Slice.Eq.{bytes_eq-Decides}
 use Rattle.net_blif.specs.Statement.{Token}
 use Rattle.net_blif.specs.Connection.{formal_of}
 use Rattle.net_blif.specs.Table.{no_numbers, with_number, Numbers}
-use Rattle.net_blif.specs.Instances.{connection_fault, fault_on, formals_of, inputs_in, inputs_of, is_among, missing_fault, or_else, outputs_in, outputs_of}
-use Rattle.net_blif.specs.private.Connecting.{after, collected, connect, fault_by, formal_fault, has_all, missing, no_formals, table_fault, with_input, with_inputs_in, with_output, with_outputs_in, FormalsValue}
+use Rattle.net_blif.specs.Instances.{connection_fault, fault_on, formals_of, inputs_in, inputs_of, is_among, or_else, outputs_in}
+use Rattle.net_blif.specs.private.Connecting.{after, collected, connect, fault_by, has_all, missing, no_formals, table_fault, with_input, with_inputs_in, with_output, with_outputs_in, FormalsValue}
 use Rattle.net_blif.specs.declared.item.Item.{Item}
 use Rattle.net_blif.specs.declared.fault.BlifFault.{BlifFault}
 use Rattle.net_blif.specs.declared.fault.BlifFault.TheVariants.{NoSuchFormal, FormalTwice, FormalMissing}

@@ -13,4 +13,5 @@ pub mod FormalLemmas
 pub mod InstanceLemmas
 pub mod ChainLemmas
 pub mod RightLemmas
+pub mod TopLemmas
 mod Examples

@@ -1,5 +1,5 @@
 -- Whether models are right, and that a text that is read has one.
-use Rattle.std.proofs.Common.{◌≡◌, ◌⊎◌, ◌∙◌, inl, inr, ap, sym, refl, subst, ℕ, zero, suc, ◌+◌, ◌<◌, ◌≤◌, Bool, true, false, cond, List, [], ◌∷◌, ◌++◌, length, Option, None, Some, Result, Ok, Err, arith}
+use Rattle.std.proofs.Common.{◌≡◌, ◌⊎◌, ◌∙◌, inl, inr, ap, sym, refl, subst, ℕ, zero, suc, ◌<◌, ◌≤◌, Bool, true, false, cond, List, [], ◌∷◌, ◌++◌, length, Option, None, Some, Result, Ok, Err, arith}
 use Rattle.std.specs.Prelude.{slice_get, is_some, nat_lt, codes, IsTrue}
 use Rattle.std.specs.Str.{bytes_eq}
 use Rattle.std.specs.Option.{option_map, option_map_or}
@@ -7,8 +7,8 @@ use Rattle.std.proofs.lemmas.List.{length-append}
 use Rattle.text_core.specs.Lines.{tokens_of}
 use Rattle.text_core.specs.Outcome.{◌>>=◌, Determined}
 use Rattle.text_core.proofs.DeterminedLemmas.{determined_bind, determined_returns}
-use Rattle.graph_core.specs.Graph.{Graph, edges}
-use Rattle.graph_core.specs.Cycle.{IsCycleOf, IsEndless, IsFirstEndless, IsGrounded, grounded}
+use Rattle.graph_core.specs.Graph.{Graph}
+use Rattle.graph_core.specs.Cycle.{IsCycleOf, IsEndless, IsFirstEndless}
 use Rattle.graph_core.proofs.LawLemmas.{is_only}
 use Rattle.net_blif.specs.Statement.{Token, is_dotted}
 use Rattle.net_blif.specs.Cover.{begun}

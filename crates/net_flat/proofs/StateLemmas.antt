@@ -258,6 +258,9 @@ output_refused s false name fault is = refused_step s fault (Mention name) [] is
 pub inside_placed : (t : State) (new : NetList) → nets t.net ≤ nets new → AreInside t → AreInside (on_net t new)
 inside_placed t new le is = inside_more t.net new t.instances t.instances t.local le is
 
+pub inside_as : (t : State) (new : NetList) → new.labels ≡ t.net.labels → AreInside t → AreInside (on_net t new)
+inside_as t new same is = inside_placed t new (omega (arith, ap length same)) is
+
 -- a gate on its nets
 module _ (s mid t : State) (inputs : List Token) (out : Token) (table : ℕ) (first : local_walked s (map Mention inputs) ≡ Ok mid) where
   after_inputs : local_walked s (gate_steps inputs out table) ≡ local_walked mid (Mention out ∷ Gate inputs out table ∷ [])
@@ -393,3 +396,7 @@ pub keeps_within : (depth : ℕ) (design : List ModelValue) (model : ℕ) → Ke
 unfolding local_within
 keeps_within zero design model = keeps_all
 keeps_within (suc depth) design model = keeps_lines design (local_within depth design) (keeps_within depth design) (items_of design model) 1
+
+pub map_same : (names : List Token) → map (λ name. name) names ≡ names
+map_same [] = refl
+map_same (name ∷ names) = ap (λ (ns : List Token). name ∷ ns) (map_same names)

@@ -1,4 +1,4 @@
-use Rattle.std.proofs.Common.{subst, ◌∷◌, []}
+use Rattle.std.proofs.Common.{subst}
 use Rattle.graph_core.specs.Graph.{Graph}
 use Rattle.graph_core.specs.Cycle.{IsGrounded}
 use Rattle.net_blif.proofs.ChainLemmas.{top_grounded}

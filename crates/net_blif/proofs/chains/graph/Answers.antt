@@ -1,6 +1,4 @@
-use Rattle.std.proofs.Common.{rules, ◌≡◌, ◌∙◌, ap, sym, subst, ℕ, ◌<◌, List, length, arith}
-use Rattle.std.specs.Prelude.{All}
-use Rattle.net_blif.specs.Design.{items_of}
+use Rattle.std.proofs.Common.{rules, ◌≡◌, ◌∙◌, ap, subst, ℕ, ◌<◌, length}
 use Rattle.net_blif.specs.Chains.{row_of}
 use Rattle.net_blif.proofs.ChainLemmas.{built_more, built_start, built_whole, row_below, IsBuilt}
 use Rattle.net_blif.proofs.chains.graph.Goals as goal

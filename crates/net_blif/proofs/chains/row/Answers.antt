@@ -1,6 +1,6 @@
-use Rattle.std.proofs.Common.{rules, ◌≡◌, ◌∙◌, ap, sym, ◌≤◌, ◌<◌, length}
+use Rattle.std.proofs.Common.{◌∙◌, ap, sym, ◌≤◌, ◌<◌, length}
 use Rattle.std.proofs.lemmas.List.{take_all}
-use Rattle.std.proofs.lemmas.Option.{get_or_from_slice_get, slice_get_within}
+use Rattle.std.proofs.lemmas.Option.{get_or_from_slice_get}
 use Rattle.net_blif.specs.Chains.{row_of}
 use Rattle.net_blif.proofs.ChainLemmas.{row_more}
 use Rattle.net_blif.proofs.chains.row.Goals as goal

@@ -1,4 +1,4 @@
-use Rattle.std.proofs.Common.{rules, ◌≡◌, ◌⊎◌, inl, inr, Ok, Err}
+use Rattle.std.proofs.Common.{rules, ◌≡◌, ◌⊎◌, Err}
 use Rattle.net_blif.specs.Models.{AreRight}
 use Rattle.net_blif.specs.declared.fault.BlifFault.TheVariants.{OutOfMemory}
 use Rattle.net_blif.proofs.RightLemmas.{right, wrong_depth, wrong_formals, wrong_walk}

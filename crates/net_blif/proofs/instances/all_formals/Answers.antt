@@ -1,4 +1,4 @@
-use Rattle.std.proofs.Common.{rules, ◌≡◌, ◌∙◌, ap, ◌<◌, ◌++◌, ◌∷◌, [], List, length, map, take, arith}
+use Rattle.std.proofs.Common.{rules, ◌≡◌, ◌∙◌, ap, ◌<◌, List, length, map, take, arith}
 use Rattle.std.proofs.lemmas.List.{map_push, take_all}
 use Rattle.net_blif.specs.Design.{ModelValue}
 use Rattle.net_blif.specs.private.Connecting.{collected, formals_in}

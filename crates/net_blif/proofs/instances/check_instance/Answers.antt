@@ -1,7 +1,6 @@
-use Rattle.std.proofs.Common.{rules, ◌≡◌, ◌∙◌, sym, inr, subst, Option, None, Some}
+use Rattle.std.proofs.Common.{rules, ◌≡◌, inr, None, Some}
 use Rattle.net_blif.specs.Design.{model_named}
-use Rattle.net_blif.specs.private.Connecting.{formals_in, IsFault}
-use Rattle.net_blif.specs.declared.fault.BlifFault.{BlifFault}
+use Rattle.net_blif.specs.private.Connecting.{formals_in}
 use Rattle.net_blif.proofs.ChainLemmas.{named_below}
 use Rattle.net_blif.proofs.InstanceLemmas.{known_fault, unknown_fault}
 use Rattle.net_blif.proofs.instances.check_instance.Goals as goal

@@ -1,4 +1,4 @@
-use Rattle.std.proofs.Common.{rules, ◌≡◌, sym, ◌<◌, [], length, None, Some}
+use Rattle.std.proofs.Common.{rules, ◌≡◌, ◌<◌, [], length, None}
 use Rattle.net_blif.specs.Top.{actual_at}
 use Rattle.net_blif.proofs.StepLemmas.{found_here, found_later}
 use Rattle.net_blif.proofs.top.actual_among.Goals as goal

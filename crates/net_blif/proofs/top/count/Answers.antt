@@ -1,4 +1,4 @@
-use Rattle.std.proofs.Common.{rules, ◌≡◌, ◌≤◌, refl}
+use Rattle.std.proofs.Common.{rules, refl}
 use Rattle.net_blif.specs.Top.{is_instance}
 use Rattle.net_blif.proofs.StepLemmas.{count_got}
 use Rattle.net_blif.proofs.top.count.Goals as goal
