@@ -148,12 +148,13 @@ module _ (flat : Flat) (local : Local) (scope : Scope) (n : ℕ) (tied : Tied fl
   grows_back = (more, grows.1, each_weaker (IsUnder (scope.trail ++ n ∷ [])) (IsUnder scope.trail) more under grows.2)
 
 back_agrees : (flat : Flat) (local : Local) (scope : Scope) (n : ℕ) → Tied flat local scope n → (a : Result Flat FlatFault) (b : Result State FlatFault) → Same (scope.trail ++ n ∷ []) flat a b → Agree Anything flat scope (n + 1) a (on_value (back_to (tie flat local)) b)
-back_agrees flat local scope n tied (Ok new) (Ok state) (net, instances, grows) =
-    (local,
-     ap (λ (x : NetList). state_with x new.instances local) net ∙ ap (λ i. state_with state.net i local) instances,
-     tied_back flat local scope n tied new grows,
-     grows_back flat local scope n tied new grows,
-     tt)
+back_agrees flat local scope n tied (Ok new) (Ok state) (net, instances, grows) = (
+  local,
+  ap (λ (x : NetList). state_with x new.instances local) net ∙ ap (λ i. state_with state.net i local) instances,
+  tied_back flat local scope n tied new grows,
+  grows_back flat local scope n tied new grows,
+  tt,
+)
 back_agrees flat local scope n tied (Err e) (Err f) same = same
 back_agrees flat local scope n tied (Ok new) (Err f) h = absurd h
 back_agrees flat local scope n tied (Err e) (Ok state) h = absurd h
@@ -169,10 +170,13 @@ BodiesAgree design inside goes = (flat : Flat) (local : Local) (scope : Scope) (
 
 module _ (design : List ModelValue) (inside : Scope → ℕ → List (Step Path)) (goes : State → ℕ → Result State FlatFault) (bodies : BodiesAgree design inside goes) where
   instance_agrees : (flat : Flat) (local : Local) (scope : Scope) (n : ℕ) (connections : List Token) (found : Option ℕ) → Tied flat local scope n → AreMentioned scope (map actual_of connections) flat → Agree Anything flat scope (n + 1) (walked flat (option_map_or (inside (inner scope n connections)) found [])) (option_map_or (λ m. on_value (back_to (tie flat local)) (goes (entered (tie flat local) n connections) m)) found (Ok (tie flat local)))
-  instance_agrees flat local scope n connections None tied are =
-      (local, refl,
-       record { known = tied.known; prefix = tied.prefix; in_top = tied.in_top; top_owns = tied.top_owns; owned = tied.owned; fresh = each_weaker (IsFresh scope.trail n) (IsFresh scope.trail (n + 1)) flat.paths (λ p fresh k rest le. fresh k rest (omega (arith, le))) tied.fresh },
-       grows_none scope.trail flat flat refl, tt)
+  instance_agrees flat local scope n connections None tied are = (
+    local,
+    refl,
+    record { known = tied.known; prefix = tied.prefix; in_top = tied.in_top; top_owns = tied.top_owns; owned = tied.owned; fresh = each_weaker (IsFresh scope.trail n) (IsFresh scope.trail (n + 1)) flat.paths (λ p fresh k rest le. fresh k rest (omega (arith, le))) tied.fresh },
+    grows_none scope.trail flat flat refl,
+    tt,
+  )
   instance_agrees flat local scope n connections (Some m) tied are =
       back_agrees flat local scope n tied _ _ (bodies flat (entered (tie flat local) n connections).local (inner scope n connections) m (tied_inside flat local scope n tied connections are))
 
@@ -200,8 +204,8 @@ module _ (design : List ModelValue) (inside : Scope → ℕ → List (Step Path)
       let P : Result Flat FlatFault → Type 0 = λ r. Agree Anything flat scope (n + 1) r (on_value (λ mentioned. local_body goes design mentioned n (items.Instance line name connections)) (local_walked (tie flat local) (Enter ∷ actual_steps connections))) in
       subst P (sym (walked_append after_step flat steps body))
       (agree_after (AreMentioned scope (map actual_of connections)) Anything flat scope n (n + 1) (λ more. walked more body) (λ mentioned. local_body goes design mentioned n (items.Instance line name connections)) _ _
-        (agree_after Anything (AreMentioned scope (map actual_of connections)) flat scope n n (λ more. walked more (map (along (path_in scope)) (actual_steps connections))) (λ more. local_walked more (actual_steps connections)) _ _ (step_agrees flat local scope n tied Enter) (λ mid later is grows q. actuals_agree connections mid later scope n is))
-        (λ mid later is grows are. instance_agrees mid later scope n connections (model_named design name) is are))
+      (agree_after Anything (AreMentioned scope (map actual_of connections)) flat scope n n (λ more. walked more (map (along (path_in scope)) (actual_steps connections))) (λ more. local_walked more (actual_steps connections)) _ _ (step_agrees flat local scope n tied Enter) (λ mid later is grows q. actuals_agree connections mid later scope n is))
+      (λ mid later is grows are. instance_agrees mid later scope n connections (model_named design name) is are))
 
   line_agrees : (flat : Flat) (local : Local) (scope : Scope) (n : ℕ) (item : Item) → Tied flat local scope n → Agree Anything flat scope (next_number n item) (walked flat (steps_in scope item ++ body_in inside design scope n item)) (local_line goes design (tie flat local) n item)
   line_agrees flat local scope n item tied =
@@ -216,7 +220,7 @@ module _ (design : List ModelValue) (inside : Scope → ℕ → List (Step Path)
       let whole : walked flat (steps_in scope item ++ (body_in inside design scope n item ++ rest)) ≡ on_value (λ more. walked more rest) (walked flat (steps_in scope item ++ body_in inside design scope n item)) = ap (walked flat) (sym (append_assoc (steps_in scope item) (body_in inside design scope n item) rest)) ∙ walked_append after_step flat (steps_in scope item ++ body_in inside design scope n item) rest in
       subst P (sym whole)
       (agree_after Anything Anything flat scope (next_number n item) (last_number (next_number n item) lines) (λ more. walked more rest) (λ more. local_lines goes design more (next_number n item) lines) _ _ (line_agrees flat local scope n item tied)
-        (λ mid later is grows q. lines_agree lines mid later scope (next_number n item) is))
+      (λ mid later is grows q. lines_agree lines mid later scope (next_number n item) is))
 
 walk_step : (depth : ℕ) (design : List ModelValue) (scope : Scope) (model : ℕ) → walk_within (suc depth) design scope model ≡ lines_in (walk_within depth design) design scope 1 (items_of design model)
 unfolding walk_within

@@ -134,7 +134,7 @@ module _ {A : Type 0} (name_of : A → Token) (xs : List A) (i : ℕ) (x d : A) 
       pushed ∙ (ap (λ (o : List ℕ). o ++ n ∷ []) (was ∙ numbers_kept s t (map name_of (take i xs)) (kept s t (name_of x) made) each) ∙ (ap (λ k. map (number_in t) (map name_of (take i xs)) ++ k ∷ []) number ∙ (sym (map_push (number_in t) (map name_of (take i xs)) (name_of x)) ∙ ap (λ (ys : List Token). map (number_in t) ys) whole)))
 
 -- numbers that are found are those of nets
-number_inside : (net : NetList) (name : List ℕ) (k : ℕ) → number_of net name ≡ Some k → k < nets net
+pub number_inside : (net : NetList) (name : List ℕ) (k : ℕ) → number_of net name ≡ Some k → k < nets net
 number_inside net name k at = let less = number_below 0 net.labels name k at in omega arith
 
 pub top_inside : (net : NetList) (i : ℕ) → AreInside (state_with net i InTop)

@@ -207,7 +207,9 @@ fn faults_of_instances(rt: HostRuntime) -> Result<(), Fail> {
             "Net(Undriven { net: 2, label: Name { text: \"x=y\" } })",
         ),
     ] {
-        let text = format!(in alloc; ".model t\n.inputs x\n.outputs y\n.names y\n{line}\n.end\n.model m\n.inputs a b a\n.outputs z\n.names a z\n1 1\n")?;
+        let text = format!(in alloc;
+            ".model t\n.inputs x\n.outputs y\n.names y\n{line}\n.end\n.model m\n.inputs a b a\n.outputs z\n.names a z\n1 1\n"
+        )?;
         let found = outcome(alloc, text.as_bytes())?;
         assert_eq!(rt; found.as_str(), wanted, "at {line}");
     }
@@ -218,10 +220,7 @@ fn faults_of_instances(rt: HostRuntime) -> Result<(), Fail> {
 fn instances(rt: HostRuntime) -> Result<(), Fail> {
     let alloc = rt.alloc();
     for (top, wanted) in [
-        (
-            ".subckt m a=x z=y\n.subckt m a=y",
-            "[0] [1] 1[0]=1 2[1]=1",
-        ),
+        (".subckt m a=x z=y\n.subckt m a=y", "[0] [1] 1[0]=1 2[1]=1"),
         (".subckt b a=x b=x z=y", "[0] [1] 1[0, 0]=8"),
         (
             ".names y\n.subckt m a=x z=x",
@@ -238,7 +237,9 @@ fn instances(rt: HostRuntime) -> Result<(), Fail> {
             "Net(Loop { nets: Numbers { list: [1] }, label: Name { text: \"y\" } })",
         ),
     ] {
-        let text = format!(in alloc; ".model t\n.inputs x\n.outputs y\n{top}\n.end\n.model m\n.inputs a\n.outputs z\n.names a z\n1 0\n.end\n.model b\n.inputs a b\n.outputs z\n.names a b z\n11 1\n.end\n.model o\n.inputs p\n.outputs q\n.subckt m a=p z=w\n.subckt m a=w z=q\n.end\n.model l\n.inputs d\n.outputs q\n.latch d q 1\n.end\n.model u\n.subckt v\n.end\n.model v\n.names n z\n1 1\n.end\n")?;
+        let text = format!(in alloc;
+            ".model t\n.inputs x\n.outputs y\n{top}\n.end\n.model m\n.inputs a\n.outputs z\n.names a z\n1 0\n.end\n.model b\n.inputs a b\n.outputs z\n.names a b z\n11 1\n.end\n.model o\n.inputs p\n.outputs q\n.subckt m a=p z=w\n.subckt m a=w z=q\n.end\n.model l\n.inputs d\n.outputs q\n.latch d q 1\n.end\n.model u\n.subckt v\n.end\n.model v\n.names n z\n1 1\n.end\n"
+        )?;
         let found = outcome(alloc, text.as_bytes())?;
         assert_eq!(rt; found.as_str(), wanted, "at {top}");
     }
@@ -286,7 +287,9 @@ fn long_labels(rt: HostRuntime) -> Result<(), Fail> {
         name.push('n')?;
     }
     let text = format!(in alloc; ".model t\n.subckt m\n.model m\n.names {name} z\n1 1\n")?;
-    let wanted = format!(in alloc; "Net(Undriven {{ net: 0, label: Name {{ text: \"1/{name}\" }} }})")?;
+    let wanted = format!(in alloc;
+        "Net(Undriven {{ net: 0, label: Name {{ text: \"1/{name}\" }} }})"
+    )?;
     let found = outcome(alloc, text.as_bytes())?;
     assert_eq!(rt; found.as_str(), wanted.as_str());
     Ok(())
@@ -295,7 +298,10 @@ fn long_labels(rt: HostRuntime) -> Result<(), Fail> {
 #[test]
 fn chosen_models(rt: HostRuntime) -> Result<(), Fail> {
     let alloc = rt.alloc();
-    let design = read_blif(alloc, b".model top\n.subckt b\n.model b\n.names z\n1\n.end\n")?;
+    let design = read_blif(
+        alloc,
+        b".model top\n.subckt b\n.model b\n.names z\n1\n.end\n",
+    )?;
     let net = flatten(alloc, &design, 1)?;
     assert_eq!(rt; net.find("z"), Some(0));
     assert_eq!(rt; net.nets(), 1);

@@ -227,7 +227,12 @@ impl Walker {
     }
 
     // Adds a gate on the nets of names.
-    fn place_gate(&mut self, inputs: &TokenSlice<'_>, out: &[u8], table: u64) -> Result<(), FlatFault>
+    fn place_gate(
+        &mut self,
+        inputs: &TokenSlice<'_>,
+        out: &[u8],
+        table: u64,
+    ) -> Result<(), FlatFault>
         requires inputs { All IsToken inputs.now }
         requires few { length inputs.now ≤ 6 }
         requires out { IsToken out.now }
