@@ -46,22 +46,22 @@ module _ (flat : Flat) (local : Local) (scope : Scope) (n : ℕ) (tied : Tied fl
 
   numbers_known : (connections : List Token) → AreMentioned scope (map actual_of connections) flat → (q : Token) → numbers_of (tie flat local) connections q ≡ place flat (path_among (map (connected scope) connections) (At (scope.trail ++ n ∷ []) q) q)
   numbers_known [] are q = sym (none_among 0 flat.paths (At (scope.trail ++ n ∷ []) q) (not_there q))
-  numbers_known (c ∷ cs) are q = by (bytes_eq (formal_of c) q)
+  numbers_known (c ∷ cs) are q = by (numbers_known cs are.1 q) (bytes_eq (formal_of c) q)
     where
       actual : Some (number_in (tie flat local) (actual_of c)) ≡ place flat (path_in scope (actual_of c))
       actual = let at = tied.known (actual_of c) ∙ are.0.1 in ap (λ (o : Option ℕ). Some (unwrap_or o 0)) at ∙ sym are.0.1
 
-      by : (b : Bool) → cond b (Some (number_in (tie flat local) (actual_of c))) (numbers_of (tie flat local) cs q) ≡ place flat (cond b (path_in scope (actual_of c)) (path_among (map (connected scope) cs) (At (scope.trail ++ n ∷ []) q) q))
-      by true = actual
-      by false = numbers_known cs are.1 q
+      by : numbers_of (tie flat local) cs q ≡ place flat (path_among (map (connected scope) cs) (At (scope.trail ++ n ∷ []) q) q) → (b : Bool) → cond b (Some (number_in (tie flat local) (actual_of c))) (numbers_of (tie flat local) cs q) ≡ place flat (cond b (path_in scope (actual_of c)) (path_among (map (connected scope) cs) (At (scope.trail ++ n ∷ []) q) q))
+      by rest true = actual
+      by rest false = rest
 
   owned_inside : (connections : List Token) → AreMentioned scope (map actual_of connections) flat → (q : Token) → (path_among (map (connected scope) connections) (At (scope.trail ++ n ∷ []) q) q ≡ At (scope.trail ++ n ∷ []) q) ⊎ IsMentioned flat (path_among (map (connected scope) connections) (At (scope.trail ++ n ∷ []) q) q)
   owned_inside [] are q = inl refl
-  owned_inside (c ∷ cs) are q = by (bytes_eq (formal_of c) q)
+  owned_inside (c ∷ cs) are q = by (owned_inside cs are.1 q) (bytes_eq (formal_of c) q)
     where
-      by : (b : Bool) → (cond b (path_in scope (actual_of c)) (path_among (map (connected scope) cs) (At (scope.trail ++ n ∷ []) q) q) ≡ At (scope.trail ++ n ∷ []) q) ⊎ IsMentioned flat (cond b (path_in scope (actual_of c)) (path_among (map (connected scope) cs) (At (scope.trail ++ n ∷ []) q) q))
-      by true = inr are.0
-      by false = owned_inside cs are.1 q
+      by : (path_among (map (connected scope) cs) (At (scope.trail ++ n ∷ []) q) q ≡ At (scope.trail ++ n ∷ []) q) ⊎ IsMentioned flat (path_among (map (connected scope) cs) (At (scope.trail ++ n ∷ []) q) q) → (b : Bool) → (cond b (path_in scope (actual_of c)) (path_among (map (connected scope) cs) (At (scope.trail ++ n ∷ []) q) q) ≡ At (scope.trail ++ n ∷ []) q) ⊎ IsMentioned flat (cond b (path_in scope (actual_of c)) (path_among (map (connected scope) cs) (At (scope.trail ++ n ∷ []) q) q))
+      by rest true = inr are.0
+      by rest false = rest
 
   below_top : (t : List ℕ) (k : ℕ) → is_top (t ++ k ∷ []) ≡ false
   below_top [] k = refl
@@ -96,7 +96,7 @@ forget Q flat scope n (Err e) (Ok state) h = absurd h
 
 -- back from an instance
 module _ (flat : Flat) (local : Local) (scope : Scope) (n : ℕ) (tied : Tied flat local scope n) (new : Flat) (grows : Grows (scope.trail ++ n ∷ []) flat new) where
-  more : List Path
+  abbrev more : List Path
   more = grows.0
 
   under : (p : Path) → IsUnder (scope.trail ++ n ∷ []) p → IsUnder scope.trail p

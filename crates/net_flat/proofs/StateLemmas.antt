@@ -142,7 +142,7 @@ top_inside net i name k at = number_inside net name k at
 
 -- more nets, and the same names
 pub inside_more : (old new : NetList) (i j : ℕ) (local : Local) → nets old ≤ nets new → AreInside (state_with old i local) → AreInside (state_with new j local)
-inside_more old new i j InTop le is = top_inside new j
+inside_more old new i j InTop le is name k at = top_inside new j name k at
 inside_more old new i j (Inside prefix numbers) le is name k at = let less = is name k at in omega (arith, less, le)
 
 longer : (net : NetList) (text : Token) (named : Bool) → nets (with_label net text named) ≡ nets net + 1
@@ -159,7 +159,7 @@ new_inside : (s : State) (name : Token) → AreInside s → AreInside (with_new 
 new_inside s name is = by s.local is
   where
     by : (l : Local) → AreInside (state_with s.net s.instances l) → AreInside (state_with (net_with s.net l name) s.instances (local_with s.net l name))
-    by InTop is = top_inside (with_label s.net name true) s.instances
+    by InTop is x k at = top_inside (with_label s.net name true) s.instances x k at
     by (Inside prefix numbers) is x k at = here (bytes_eq name x) at
       where
         here : (b : Bool) → cond b (Some (nets s.net)) (numbers x) ≡ Some k → k < nets (with_label s.net (prefix ++ name) false)
@@ -371,10 +371,10 @@ grows_walked (step ∷ steps) = keeps_after (λ s. local_step s step) (λ s. loc
 
 module _ (design : List ModelValue) (goes : State → ℕ → Result State FlatFault) (keeps : (model : ℕ) → Keeps (λ s. goes s model)) where
   keeps_body : (n : ℕ) (item : Item) → Keeps (λ s. local_body goes design s n item)
-  keeps_body n (items.Inputs nets) = keeps_all
-  keeps_body n (items.Outputs nets) = keeps_all
-  keeps_body n (items.Gate line inputs out table) = keeps_all
-  keeps_body n (items.Latch line next out start) = keeps_all
+  keeps_body n (items.Inputs list) s t made = keeps_all s t made
+  keeps_body n (items.Outputs list) s t made = keeps_all s t made
+  keeps_body n (items.Gate line inputs out table) s t made = keeps_all s t made
+  keeps_body n (items.Latch line next out start) s t made = keeps_all s t made
   keeps_body n (items.Instance line name connections) s t made = by (model_named design name) made
     where
       back : (m : ℕ) (r : Result State FlatFault) → goes (entered s n connections) m ≡ r → on_value (back_to s) r ≡ Ok t → nets s.net ≤ nets t.net

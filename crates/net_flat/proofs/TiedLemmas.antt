@@ -107,12 +107,12 @@ module _ (flat : Flat) (local : Local) (scope : Scope) (n : ℕ) (tied : Tied fl
   own : path_in scope name ≡ At scope.trail name
   own = elim (tied.owned name) [ inl is ↦ is | inr (k, at) ↦ absurd (cc) ]
 
-  longer : Flat
+  abbrev pub longer : Flat
   longer = record flat { paths = flat.paths ++ path_in scope name ∷ [] }
 
   -- the place of a name after the mention
   place_then : (q : Token) → place longer (path_in scope q) ≡ or_place (place flat (path_in scope q)) (cond (same_path (path_in scope q) (path_in scope name)) (Some (length flat.paths)) None)
-  place_then q = place_append 0 flat.paths (path_in scope name ∷ []) (path_in scope q)
+  place_then q = let none : 0 + length flat.paths ≡ length flat.paths = omega arith in place_append 0 flat.paths (path_in scope name ∷ []) (path_in scope q) ∙ ap (λ k. or_place (place flat (path_in scope q)) (place_from k (path_in scope name ∷ []) (path_in scope q))) none
 
   known_inside : (numbers : Numbers) → ((q : Token) → numbers q ≡ place flat (path_in scope q)) → (q : Token) → cond (bytes_eq name q) (Some (length flat.paths)) (numbers q) ≡ place longer (path_in scope q)
   known_inside numbers is q = by (bytes_eq name q) (place flat (path_in scope q)) refl refl
