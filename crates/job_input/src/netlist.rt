@@ -10,8 +10,8 @@ ghost use Rattle.job_input.specs.private.NetlistReading.{FitsNetlist, IsNamed, I
 use job_words::{BindingFault, NetlistFault};
 use net_aiger::{AigerFault, read_aiger};
 use net_blif::{BlifFault, read_blif};
-use net_flat::{FlatFault, flatten};
 use net_core::{Name, Net, NetFault};
+use net_flat::{FlatFault, flatten};
 use net_words::{BindFault, Combinational, WordText, bind};
 use std::alloc::{AllocError, Global};
 

@@ -1,12 +1,8 @@
 -- Small worked examples of the definitions of specs/, which the check computes.
-use Rattle.std.proofs.Common.{◌≡◌, List, [], ◌∷◌, true, false, codes, refl}
-use Rattle.net_flat.specs.Paths.{inner, label_of, path_in, top, At}
-use Rattle.net_flat.specs.Steps.{steps_of, Mention, Enter}
+use Rattle.std.proofs.Common.{◌≡◌, List, [], ◌∷◌, false, codes, refl}
+use Rattle.net_flat.specs.Paths.{inner, path_in, top, At}
+use Rattle.net_flat.specs.Steps.{steps_of, Mention}
 use Rattle.net_blif.specs.declared.item.Item.TheVariants as items
-
--- the net n in instance 1 of instance 2 is called `2/1/n`, by which it is not found
-net_inside : label_of (At (2 ∷ 1 ∷ []) (codes "n")) ≡ record { text = codes "2/1/n"; named = false }
-net_inside = refl
 
 -- in the third instance of the top, which connects a to x, the formal a is the net x
 connected_formal : path_in (inner top 3 (codes "a=x" ∷ [])) (codes "a") ≡ At [] (codes "x")

@@ -6,4 +6,4 @@ use Rattle.net_flat.proofs.StateLemmas.{top_inside}
 use Rattle.net_flat.proofs.flat.walk.Goals as goal
 
 pub walk-requires : goal.walk-requires
-walk-requires c = let P : State → Type 0 = AreInside in subst P (sym c.new.ensures) (top_inside empty 0)
+walk-requires c = let P : State → Type 0 = AreInside in subst P (sym c.new-walker.ensures) (top_inside empty 0)
