@@ -3,7 +3,7 @@ use Rattle.std.proofs.Common.{◌≡◌, ◌⊎◌, ◌∙◌, ap, sym, inl, inr
 use Rattle.std.specs.FinMap.{get}
 use Rattle.text_core.specs.Outcome.{Determined, Within}
 use Rattle.job_io.specs.Shelf.{Files}
-use Rattle.net_blif.proofs.FlatDetermined.{determined_after, determined_within}
+use Rattle.net_flat.proofs.FlatDetermined.{determined_after, determined_within}
 use Rattle.job_words.specs.declared.fault.Fault.TheVariants.{File, Signature, Netlist, Specification}
 use Rattle.job_words.specs.declared.file_fault.FileFault.{FileFault}
 use Rattle.job_words.specs.declared.file_fault.FileFault.TheVariants.{Absent, TooLong}

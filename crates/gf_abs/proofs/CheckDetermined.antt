@@ -2,7 +2,7 @@
 use Rattle.std.proofs.Common.{◌≡◌, ◌∙◌, sym, ℕ, List, Option, Ok}
 use Rattle.text_core.specs.Outcome.{Determined, Exactly, Within}
 use Rattle.text_core.proofs.DeterminedLemmas.{determined_bind}
-use Rattle.net_blif.proofs.FlatDetermined.{determined_within}
+use Rattle.net_flat.proofs.FlatDetermined.{determined_within}
 use Rattle.net_words.specs.Binding.{BoundNet}
 use Rattle.net_words.proofs.BindDetermined.{determined_exactly}
 use Rattle.circuit_model.specs.Circuit.{Circuit}

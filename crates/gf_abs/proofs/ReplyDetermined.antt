@@ -3,7 +3,7 @@ use Rattle.std.proofs.Common.{◌≡◌, ℕ, ◌+◌, List, length, Ok}
 use Rattle.text_core.specs.Outcome.{Determined, Exactly, Within}
 use Rattle.text_core.proofs.DeterminedLemmas.{determined_bind}
 use Rattle.net_core.specs.NetList.{nets}
-use Rattle.net_blif.proofs.FlatDetermined.{determined_within}
+use Rattle.net_flat.proofs.FlatDetermined.{determined_within}
 use Rattle.net_words.specs.Binding.{BoundNet}
 use Rattle.net_words.specs.Variables.{variables}
 use Rattle.net_words.proofs.BindDetermined.{determined_exactly}

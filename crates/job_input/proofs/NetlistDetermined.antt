@@ -5,9 +5,9 @@ use Rattle.text_core.proofs.DeterminedLemmas.{determined_bind}
 use Rattle.net_core.specs.NetList.{NetList}
 use Rattle.net_aiger.specs.AigerNet.{AigerNet}
 use Rattle.net_aiger.proofs.AigerDetermined.{aiger_determined}
-use Rattle.net_blif.specs.Flat.{Flattens}
+use Rattle.net_flat.specs.Flat.{Flattens}
 use Rattle.net_blif.specs.Models.{BlifDesign}
-use Rattle.net_blif.proofs.FlatDetermined.{determined_within, flattens_once}
+use Rattle.net_flat.proofs.FlatDetermined.{determined_within, flattens_once}
 use Rattle.net_blif.proofs.OutcomeLemmas.{determined_design}
 use Rattle.net_words.specs.Bind.{BindingOf}
 use Rattle.net_words.specs.Binding.{Binding}

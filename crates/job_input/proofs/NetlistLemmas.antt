@@ -13,13 +13,13 @@ use Rattle.net_aiger.specs.AigerNet.{AigerNet}
 use Rattle.net_aiger.specs.declared.fault.AigerFault.{AigerFault}
 use Rattle.net_aiger.specs.declared.fault.AigerFault.TheVariants as aigers
 use Rattle.net_blif.specs.Design.{ModelValue}
-use Rattle.net_blif.specs.Flat.{Flattens}
+use Rattle.net_flat.specs.Flat.{Flattens}
 use Rattle.net_blif.specs.Models.{BlifDesign}
 use Rattle.net_blif.specs.declared.fault.BlifFault.{BlifFault}
 use Rattle.net_blif.specs.declared.fault.BlifFault.TheVariants as texts
-use Rattle.net_blif.specs.declared.flat_fault.FlatFault.{FlatFault}
-use Rattle.net_blif.specs.declared.flat_fault.FlatFault.TheVariants as flat_faults
-use Rattle.net_blif.proofs.WalkLemmas.{number_inside}
+use Rattle.net_flat.specs.declared.flat_fault.FlatFault.{FlatFault}
+use Rattle.net_flat.specs.declared.flat_fault.FlatFault.TheVariants as flat_faults
+use Rattle.net_flat.proofs.StateLemmas.{number_inside}
 use Rattle.net_words.specs.Bind.{BindingOf, BoundOf, IsCovered, NetsOf, bound_word, is_latch, is_unknown, names_with, place_net, started, taken_with, with_role}
 use Rattle.net_words.specs.BindReading.{FitsBinding}
 use Rattle.net_words.specs.Binding.{Binding, BoundNet}
@@ -187,6 +187,12 @@ text_refused text fault why = by fault why
     by (texts.LeftOut line word) why = wanting (texts.LeftOut line word) _ (λ e. absurd (cc)) (none (texts.LeftOut line word)) why
     by (texts.TooWide line inputs) why = wanting (texts.TooWide line inputs) _ (λ e. absurd (cc)) (none (texts.TooWide line inputs)) why
     by (texts.ModelTwice line) why = wanting (texts.ModelTwice line) _ (λ e. absurd (cc)) (none (texts.ModelTwice line)) why
+    by (texts.NoSuchModel line) why = wanting (texts.NoSuchModel line) _ (λ e. absurd (cc)) (none (texts.NoSuchModel line)) why
+    by (texts.NoSuchFormal line) why = wanting (texts.NoSuchFormal line) _ (λ e. absurd (cc)) (none (texts.NoSuchFormal line)) why
+    by (texts.FormalTwice line) why = wanting (texts.FormalTwice line) _ (λ e. absurd (cc)) (none (texts.FormalTwice line)) why
+    by (texts.FormalMissing line) why = wanting (texts.FormalMissing line) _ (λ e. absurd (cc)) (none (texts.FormalMissing line)) why
+    by (texts.Recursive model) why = wanting (texts.Recursive model) _ (λ e. absurd (cc)) (none (texts.Recursive model)) why
+    by texts.TooDeep why = wanting texts.TooDeep _ (λ e. absurd (cc)) (none texts.TooDeep) why
     by texts.OutOfMemory why = tt
 
 module _ (text : List ℕ) (design : List ModelValue) (read : BlifDesign text (Ok design)) where
@@ -202,6 +208,8 @@ module _ (text : List ℕ) (design : List ModelValue) (read : BlifDesign text (O
   -- what comes of a model whose net is refused
   pub model_refused : (fault : FlatFault) → (fault ≡ flat_faults.OutOfMemory) ⊎ Flattens design 0 (Err fault) → FitsNetlist {A = NetList} (Err (model_refusal fault)) (NetOf (Blif text))
   model_refused (flat_faults.Net fault) why = net_refused fault why
+  model_refused flat_faults.TooManyInstances (inl e) = absurd (cc)
+  model_refused flat_faults.TooManyInstances (inr is) = inr (design, read, (flat_faults.TooManyInstances, is, refl))
   model_refused flat_faults.OutOfMemory why = tt
 
 -- what comes of a text in ASCII AIGER that is refused

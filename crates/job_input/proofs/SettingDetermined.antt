@@ -19,7 +19,7 @@ use Rattle.job_input.specs.FieldOf.{FieldValue, FieldOf}
 use Rattle.job_input.specs.SettingOf.{text_fault, HasBits, NormalBasis, ListBasis, BasisOf, basis_fault, WordBasis, BasesOf, SignedValue, SignedOf, SettingWith, SettingOf}
 use Rattle.job_input.proofs.SignedLemmas.{made}
 use Rattle.job_input.proofs.FieldLemmas.{field_determined}
-use Rattle.net_blif.proofs.FlatDetermined.{determined_within}
+use Rattle.net_flat.proofs.FlatDetermined.{determined_within}
 
 bits_determined : (k : ℕ) (word : WordText) → Determined (HasBits k word)
 bits_determined k word (Ok x) (Ok y) h g = refl

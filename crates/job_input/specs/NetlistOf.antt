@@ -11,12 +11,12 @@ use Rattle.net_core.specs.declared.fault.NetFault.TheVariants as nets
 use Rattle.net_aiger.specs.AigerNet.{AigerNet}
 use Rattle.net_aiger.specs.declared.fault.AigerFault.{AigerFault}
 use Rattle.net_aiger.specs.declared.fault.AigerFault.TheVariants as aigers
-use Rattle.net_blif.specs.Flat.{Flattens}
+use Rattle.net_flat.specs.Flat.{Flattens}
 use Rattle.net_blif.specs.Models.{BlifDesign}
 use Rattle.net_blif.specs.declared.fault.BlifFault.{BlifFault}
 use Rattle.net_blif.specs.declared.fault.BlifFault.TheVariants as texts
-use Rattle.net_blif.specs.declared.flat_fault.FlatFault.{FlatFault}
-use Rattle.net_blif.specs.declared.flat_fault.FlatFault.TheVariants as flats
+use Rattle.net_flat.specs.declared.flat_fault.FlatFault.{FlatFault}
+use Rattle.net_flat.specs.declared.flat_fault.FlatFault.TheVariants as flats
 use Rattle.net_words.specs.Bind.{BindingOf}
 use Rattle.net_words.specs.Binding.{Binding, BoundNet}
 use Rattle.net_words.specs.OneCycle.{IsFlat}
@@ -44,6 +44,12 @@ of_text (texts.Syntax line) = netlist.Syntax line
 of_text (texts.LeftOut line word) = netlist.LeftOut line word
 of_text (texts.TooWide line inputs) = netlist.TooWide line inputs
 of_text (texts.ModelTwice line) = netlist.ModelTwice line
+of_text (texts.NoSuchModel line) = netlist.NoSuchModel line
+of_text (texts.NoSuchFormal line) = netlist.NoSuchFormal line
+of_text (texts.FormalTwice line) = netlist.FormalTwice line
+of_text (texts.FormalMissing line) = netlist.FormalMissing line
+of_text (texts.Recursive model) = netlist.Recursive model
+of_text texts.TooDeep = netlist.TooDeep
 of_text texts.OutOfMemory = netlist.NoModel
 
 -- a fault of a net list as a fault of the netlist: a net by its label, a loop by its length and the label of its first net
@@ -58,6 +64,7 @@ of_net nets.OutOfMemory = netlist.TooManyNets
 -- a fault of the model's net as a fault of the netlist
 abbrev pub of_model : FlatFault → NetlistFault
 of_model (flats.Net fault) = of_net fault
+of_model flats.TooManyInstances = netlist.TooManyInstances
 of_model flats.OutOfMemory = netlist.TooManyNets
 
 -- a fault of the binding with the name of its word, or the label of its net

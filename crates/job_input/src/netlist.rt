@@ -10,8 +10,9 @@ ghost use Rattle.job_input.specs.private.NetlistReading.{FitsNetlist, IsNamed, I
 
 use job_words::{BindingFault, NetlistFault};
 use net_aiger::{AigerFault, read_aiger};
-use net_blif::{BlifFault, FlatFault, flatten, read_blif};
+use net_blif::{BlifFault, read_blif};
 use net_core::{Name, Net, NetFault};
+use net_flat::{FlatFault, flatten};
 use net_signature::Signature;
 use net_words::{BindFault, Combinational, FeedText, WordText, bind};
 use std::alloc::{AllocError, Global};
@@ -147,6 +148,12 @@ fn text_fault(fault: BlifFault) -> Refusal
             Refusal::Fault(NetlistFault::TooWide { line, inputs })
         }
         BlifFault::ModelTwice { line } => Refusal::Fault(NetlistFault::ModelTwice { line }),
+        BlifFault::NoSuchModel { line } => Refusal::Fault(NetlistFault::NoSuchModel { line }),
+        BlifFault::NoSuchFormal { line } => Refusal::Fault(NetlistFault::NoSuchFormal { line }),
+        BlifFault::FormalTwice { line } => Refusal::Fault(NetlistFault::FormalTwice { line }),
+        BlifFault::FormalMissing { line } => Refusal::Fault(NetlistFault::FormalMissing { line }),
+        BlifFault::Recursive { model } => Refusal::Fault(NetlistFault::Recursive { model }),
+        BlifFault::TooDeep => Refusal::Fault(NetlistFault::TooDeep),
         BlifFault::OutOfMemory => Refusal::OutOfMemory,
     }
 }
@@ -157,6 +164,7 @@ fn model_fault(fault: FlatFault) -> Refusal
 {
     match fault {
         FlatFault::Net(fault) => net_fault(fault),
+        FlatFault::TooManyInstances => Refusal::Fault(NetlistFault::TooManyInstances),
         FlatFault::OutOfMemory => Refusal::OutOfMemory,
     }
 }

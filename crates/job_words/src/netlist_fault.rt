@@ -17,6 +17,18 @@ pub enum NetlistFault {
     NoModel,
     /// An earlier model has the name.
     ModelTwice { line: u32 },
+    /// No model has the name of which the line makes an instance.
+    NoSuchModel { line: u32 },
+    /// A connection names a formal that the instance's model does not have.
+    NoSuchFormal { line: u32 },
+    /// A connection names a formal that an earlier connection of the line has.
+    FormalTwice { line: u32 },
+    /// An input of the instance's model is not connected.
+    FormalMissing { line: u32 },
+    /// A model contains an instance of itself, perhaps through others.
+    Recursive { model: Name },
+    /// A chain of instances from the top has more than 64 models.
+    TooDeep,
     /// A net has two drivers.
     DrivenTwice { label: Name },
     /// A net has no driver.
@@ -29,6 +41,8 @@ pub enum NetlistFault {
     TooManyNets,
     /// There would be 1,048,577 gates and latches.
     TooManyGates,
+    /// There would be 1,048,577 instances.
+    TooManyInstances,
     /// A literal is above those of the header, or one that is defined is 0, 1 or odd.
     Literal { line: u32 },
     /// An earlier line defines the literal.
@@ -76,6 +90,19 @@ pub(crate) fn netlist_text(alloc: Global, fault: &NetlistFault) -> Result<String
         }
         NetlistFault::NoModel => format!(in alloc; "32: no model"),
         NetlistFault::ModelTwice { line } => format!(in alloc; "32: model twice at line {line}"),
+        NetlistFault::NoSuchModel { line } => format!(in alloc; "32: no such model at line {line}"),
+        NetlistFault::NoSuchFormal { line } => {
+            format!(in alloc; "32: no such formal at line {line}")
+        }
+        NetlistFault::FormalTwice { line } => format!(in alloc; "32: formal twice at line {line}"),
+        NetlistFault::FormalMissing { line } => {
+            format!(in alloc; "32: formal missing at line {line}")
+        }
+        NetlistFault::Recursive { model } => {
+            let model = model.as_str();
+            format!(in alloc; "32: model {model} contains itself")
+        }
+        NetlistFault::TooDeep => format!(in alloc; "32: more than 64 models deep"),
         NetlistFault::DrivenTwice { label } => {
             about(alloc, "34: net ", label.as_str(), " is driven twice")
         }
@@ -88,6 +115,7 @@ pub(crate) fn netlist_text(alloc: Global, fault: &NetlistFault) -> Result<String
         }
         NetlistFault::TooManyNets => format!(in alloc; "38: too many nets"),
         NetlistFault::TooManyGates => format!(in alloc; "38: too many gates"),
+        NetlistFault::TooManyInstances => format!(in alloc; "38: too many instances"),
         NetlistFault::Literal { line } => format!(in alloc; "46: literal at line {line}"),
         NetlistFault::DefinedTwice { line } => {
             format!(in alloc; "46: defined twice at line {line}")

@@ -1,23 +1,23 @@
 -- The graph of models, and how far its edges lead.
-use Rattle.std.proofs.Common.{◌≡◌, ◌⊎◌, ◌∙◌, inl, inr, ap, sym, refl, subst, append_assoc, append-nil, ℕ, zero, suc, ◌+◌, ◌<◌, ◌≤◌, Bool, true, false, cond, ◌||◌, List, [], ◌∷◌, ◌++◌, map, length, drop, take, get_or, set, Option, None, Some, Ok, Err, arith}
-use Rattle.std.specs.Prelude.{All, slice_get, slice_index_or, flat_map}
+use Rattle.std.proofs.Common.{◌≡◌, ◌∙◌, inl, inr, ap, sym, refl, subst, append_assoc, append-nil, ℕ, zero, suc, ◌+◌, ◌<◌, Bool, true, false, cond, ◌||◌, List, [], ◌∷◌, ◌++◌, length, take, get_or, set, replicate, Option, None, Some, arith}
+use Rattle.std.specs.Prelude.{All, slice_get, slice_index_or}
 use Rattle.std.specs.List.{list_any}
 use Rattle.std.specs.Option.{option_map, option_map_or}
 use Rattle.std.specs.Str.{bytes_eq}
 use Rattle.std.proofs.Math.Seq.{take-suc}
-use Rattle.std.proofs.lemmas.List.{length-append, length-map, length-set}
+use Rattle.std.proofs.lemmas.List.{length-append, length-map, length-replicate, length-set}
 use Rattle.std.proofs.lemmas.List.Elements.{All-append}
 use Rattle.std.proofs.lemmas.Option.{slice_get-map, slice_get_within}
-use Rattle.graph_core.specs.Graph.{Graph, edges, HasEdge, IsCycle, IsInside}
+use Rattle.graph_core.specs.Graph.{Graph, edges, IsCycle, IsInside}
 use Rattle.graph_core.specs.Cycle.{IsCycleOf, IsGrounded}
 use Rattle.graph_core.specs.Arranged.{IsArranged}
 use Rattle.graph_core.proofs.GraphLemmas.{edges_within, nat_eq_or, same_lists}
 use Rattle.graph_core.proofs.LawLemmas.{arranged_grounded, is_cycle}
 use Rattle.graph_core.proofs.ListLemmas.{get_set_other, get_set_same}
 use Rattle.net_blif.specs.Statement.{Token}
-use Rattle.net_blif.specs.Design.{ModelValue, items_of, model_from, model_named}
+use Rattle.net_blif.specs.Design.{ModelValue, items_of, model_from, model_named, name_of}
 use Rattle.net_blif.specs.Chains.{graph_of, leads_on, models_in, row_of}
-use Rattle.net_blif.specs.private.Leading.{LeadOn, LeadTo}
+use Rattle.net_blif.specs.private.Leading.{AreMarks, LeadOn, LeadTo}
 use Rattle.net_blif.specs.declared.item.Item.{Item}
 use Rattle.net_blif.specs.declared.item.Item.TheVariants.{Inputs, Outputs, Gate, Latch, Instance}
 
@@ -70,9 +70,9 @@ row_more models items i item d row new below is was made =
     add-one = omega arith
 
 -- the rows so far
-record IsBuilt (models : List ModelValue) (built : ℕ) (graph : Graph) : Type 0 where
-  long : length graph ≡ length models
-  each : (k : ℕ) → k < built → slice_get graph k ≡ slice_get (graph_of models) k
+pub record IsBuilt (models : List ModelValue) (built : ℕ) (graph : Graph) : Type 0 where
+  pub long : length graph ≡ length models
+  pub each : (k : ℕ) → k < built → slice_get graph k ≡ slice_get (graph_of models) k
 
 -- the row of a model
 row_at : (models : List ModelValue) (k : ℕ) → k < length models → slice_get (graph_of models) k ≡ Some (row_of models (items_of models k))
@@ -110,6 +110,16 @@ built_more models built graph new row below is same made =
           let was = some_at graph k inside in
           get_set_other graph built row k was.0 other was.1 ∙ sym was.1 ∙ is.each k lower
     ]
+
+pub built_start : (models : List ModelValue) (graph : Graph) (n : ℕ) → n ≡ length models → graph ≡ replicate n [] → IsBuilt models 0 graph
+built_start models graph n count is = record { long = ap length is ∙ (length-replicate n [] ∙ count); each = λ k less. absurd (omega arith) }
+
+-- a row leads to points of the graph
+pub row_below : (models : List ModelValue) (items : List Item) (row : List ℕ) (graph : Graph) → length graph ≡ length models → row ≡ row_of models items → All (λ a. a < length graph) row
+row_below models items row graph long is =
+    let P : List ℕ → Type 0 = All (λ a. a < length graph) in
+    let Q : ℕ → Type 0 = λ n. All (λ a. a < n) (row_of models items) in
+    subst P (sym is) (subst Q (sym long) (row_inside models items))
 
 pub built_whole : (models : List ModelValue) (graph : Graph) → IsBuilt models (length models) graph → graph ≡ graph_of models
 built_whole models graph is = same_lists graph (graph_of models) (is.long ∙ sym (length-map models (λ (m : ModelValue). row_of models m.items))) same
@@ -159,7 +169,7 @@ pub all_inside : (graph : Graph) (a : ℕ) → IsInside graph → All (λ b. b <
 all_inside graph a inside = all (edges graph a) (λ b has. inside a b has)
   where
     all : (xs : List ℕ) → ((b : ℕ) → (k : ℕ) × (slice_get xs k ≡ Some b) → b < length graph) → All (λ b. b < length graph) xs
-    all [] each = none_inside (length graph)
+    all [] each k d less = absurd (omega arith)
     all (x ∷ xs) each zero d less = each x (0, refl)
     all (x ∷ xs) each (suc k) d less = all xs (λ b has. each b (suc has.0, has.1)) k d (omega arith)
 
@@ -168,6 +178,53 @@ unfolding leads_on
 leads_suc graph n a = refl
 
 -- one edge more
-pub lead_further : (graph : Graph) (n : ℕ) (marks more : List Bool) → IsInside graph → LeadOn graph n marks → LeadTo graph marks more → LeadOn graph (suc n) more
+pub lead_further : (graph : Graph) (n : ℕ) (marks more : List Bool) → IsInside graph → LeadOn graph n marks → LeadTo graph marks more → LeadOn graph (n + 1) more
 lead_further graph n marks more inside is to =
-    record { long = to.long; each = λ a below. to.each a below ∙ ap Some (any_same graph n marks (edges graph a) is (all_inside graph a inside) ∙ further a) }
+    let P : ℕ → Type 0 = λ k. LeadOn graph k more in
+    let same : suc n ≡ n + 1 = omega arith in
+    subst P same (record { long = to.long; each = λ a below. to.each a below ∙ ap Some (any_same graph n marks (edges graph a) is (all_inside graph a inside) ∙ leads_suc graph n a) })
+
+-- one mark more
+pub marks_more : (mark : ℕ → Bool) (n : ℕ) (marks new : List Bool) (b : Bool) → AreMarks mark n marks → new ≡ marks ++ b ∷ [] → b ≡ mark n → AreMarks mark (n + 1) new
+marks_more mark n marks new b is pushed same =
+    let P : List Bool → Type 0 = AreMarks mark (n + 1) in
+    subst P (sym pushed) (record { long = length-append marks (b ∷ []) ∙ ap (λ k. k + 1) is.long; each = each })
+  where
+    front : (xs : List Bool) (b : Bool) (k : ℕ) (x : Bool) → slice_get xs k ≡ Some x → slice_get (xs ++ b ∷ []) k ≡ Some x
+    front [] b k x at = absurd (cc)
+    front (y ∷ ys) b zero x at = at
+    front (y ∷ ys) b (suc k) x at = front ys b k x at
+
+    back : (xs : List Bool) (b : Bool) → slice_get (xs ++ b ∷ []) (length xs) ≡ Some b
+    back [] b = refl
+    back (y ∷ ys) b = back ys b
+
+    each : (a : ℕ) → a < n + 1 → slice_get (marks ++ b ∷ []) a ≡ Some (mark a)
+    each a less = elim (nat_eq_or a n) [
+      | inl here ↦ let at : a ≡ length marks = here ∙ sym is.long in ap (slice_get (marks ++ b ∷ [])) at ∙ (back marks b ∙ ap Some (same ∙ ap mark (sym here)))
+      | inr other ↦ front marks b a (mark a) (is.each a (omega (arith, less, other)))
+    ]
+
+pub no_marks : (mark : ℕ → Bool) (marks : List Bool) → marks ≡ [] → AreMarks mark 0 marks
+no_marks mark marks none = let P : List Bool → Type 0 = AreMarks mark 0 in subst P (sym none) (record { long = refl; each = λ a less. absurd (omega arith) })
+
+pub all_marked : (mark : ℕ → Bool) (n m : ℕ) (marks : List Bool) → n ≡ m → AreMarks mark n marks → AreMarks mark m marks
+all_marked mark n m marks same is = let P : ℕ → Type 0 = λ k. AreMarks mark k marks in subst P same is
+
+-- the edges of a point lead to marks
+pub marks_inside : (graph : Graph) (marks : List Bool) (a : ℕ) (points : List ℕ) → IsInside graph → length marks ≡ length graph → points ≡ edges graph a → All (λ b. b < length marks) points
+marks_inside graph marks a points inside long is =
+    let P : List ℕ → Type 0 = All (λ b. b < length marks) in
+    let Q : ℕ → Type 0 = λ k. All (λ b. b < k) (edges graph a) in
+    subst P (sym is) (subst Q (sym long) (all_inside graph a inside))
+
+-- the first point of a cycle is a model, which has this name
+pub first_below : (models : List ModelValue) (cycle : List ℕ) (a : ℕ) → IsCycleOf (graph_of models) (0 ∷ []) cycle → slice_get cycle 0 ≡ Some a → a < length models
+first_below models cycle a is at =
+    let h = first_of_cycle (graph_of models) cycle is in
+    let same : Some h.0 ≡ Some a = sym h.1 ∙ at in
+    let number : h.0 ≡ a = cc in
+    omega (arith, h.2, number, rows models)
+
+pub named_is : (models : List ModelValue) (k : ℕ) (text : Token) → k < length models → ((m : ModelValue) → slice_get models k ≡ Some m → text ≡ m.name) → text ≡ name_of models k
+named_is models k text below each = let m = some_at models k below in each m.0 m.1 ∙ sym (ap (λ (o : Option ModelValue). option_map_or (λ (m : ModelValue). m.name) o []) m.1)

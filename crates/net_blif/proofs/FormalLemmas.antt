@@ -1,15 +1,15 @@
 -- Connections looked up in tables are connections looked up in lists.
 use Rattle.std.proofs.Common.{◌≡◌, ◌∙◌, ap, sym, refl, subst, append_assoc, append-nil, ℕ, Bool, true, false, not, ◌||◌, ◌&&◌, cond, List, [], ◌∷◌, ◌++◌, map, Option, None, Some}
 use Rattle.std.specs.Prelude.{is_some, flat_map}
-use Rattle.std.specs.List.{list_any, list_all}
+use Rattle.std.specs.List.{list_all}
 use Rattle.std.specs.Str.{bytes_eq}
 use Rattle.std.proofs.lemmas.List.Folds.{list_any-append}
 use Rattle.std.proofs.lemmas.Slice.Eq.{bytes_eq-Decides}
 use Rattle.net_blif.specs.Statement.{Token}
 use Rattle.net_blif.specs.Connection.{formal_of}
 use Rattle.net_blif.specs.Table.{no_numbers, with_number, Numbers}
-use Rattle.net_blif.specs.Instances.{connection_fault, fault_on, formals_of, inputs_in, inputs_of, is_among, missing_fault, or_else, outputs_in, outputs_of}
-use Rattle.net_blif.specs.private.Connecting.{after, collected, connect, fault_by, formal_fault, has_all, missing, no_formals, table_fault, with_input, with_inputs_in, with_output, with_outputs_in, FormalsValue}
+use Rattle.net_blif.specs.Instances.{connection_fault, fault_on, formals_of, inputs_in, inputs_of, is_among, or_else, outputs_in}
+use Rattle.net_blif.specs.private.Connecting.{after, collected, connect, fault_by, has_all, missing, no_formals, table_fault, with_input, with_inputs_in, with_output, with_outputs_in, FormalsValue}
 use Rattle.net_blif.specs.declared.item.Item.{Item}
 use Rattle.net_blif.specs.declared.fault.BlifFault.{BlifFault}
 use Rattle.net_blif.specs.declared.fault.BlifFault.TheVariants.{NoSuchFormal, FormalTwice, FormalMissing}
@@ -128,14 +128,14 @@ both false b e = absurd (cc)
 
 all_each : (others xs : List Token) → list_all (λ x. is_among others x) xs ≡ true → (q : Token) → is_among xs q ≡ true → is_among others q ≡ true
 all_each others [] all q there = absurd (cc)
-all_each others (x ∷ xs) all q there = by (bytes_eq x q) refl there
+all_each others (x ∷ xs) all q there = by (λ h. all_each others xs split.1 q h) (bytes_eq x q) refl there
   where
     split : (is_among others x ≡ true) × (list_all (λ x. is_among others x) xs ≡ true)
     split = both (is_among others x) (list_all (λ x. is_among others x) xs) all
 
-    by : (b : Bool) → bytes_eq x q ≡ b → (b || is_among xs q) ≡ true → is_among others q ≡ true
-    by true e h = let same : x ≡ q = (bytes_eq-Decides x q).0 e in subst (λ (n : Token). is_among others n ≡ true) same split.0
-    by false e h = all_each others xs split.1 q h
+    by : (is_among xs q ≡ true → is_among others q ≡ true) → (b : Bool) → bytes_eq x q ≡ b → (b || is_among xs q) ≡ true → is_among others q ≡ true
+    by later true e h = let same : x ≡ q = (bytes_eq-Decides x q).0 e in subst (λ (n : Token). is_among others n ≡ true) same split.0
+    by later false e h = later h
 
 each_all : (others xs : List Token) → ((q : Token) → is_among xs q ≡ true → is_among others q ≡ true) → list_all (λ x. is_among others x) xs ≡ true
 each_all others [] each = refl

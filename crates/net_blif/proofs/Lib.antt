@@ -10,6 +10,8 @@ pub mod TableLemmas
 pub mod OutcomeLemmas
 pub mod StepLemmas
 pub mod FormalLemmas
+pub mod InstanceLemmas
 pub mod ChainLemmas
 pub mod RightLemmas
+pub mod TopLemmas
 mod Examples

@@ -1,13 +1,13 @@
 -- Items whose tokens stand in one list.
-use Rattle.std.proofs.Common.{◌≡◌, ◌∙◌, ap, sym, refl, subst, append_assoc, ℕ, suc, zero, ◌+◌, ◌^◌, ◌<◌, ◌≤◌, List, [], ◌∷◌, ◌++◌, length, map, get_or, Some, arith}
-use Rattle.std.specs.Prelude.{All, slice_get, slice_range, slice_index_or}
+use Rattle.std.proofs.Common.{◌≡◌, ◌∙◌, ap, sym, refl, subst, append_assoc, ℕ, suc, zero, ◌+◌, ◌<◌, ◌≤◌, List, [], ◌∷◌, ◌++◌, length, get_or, Some, arith}
+use Rattle.std.specs.Prelude.{All, slice_get, slice_range}
 use Rattle.std.specs.Option.{option_map}
 use Rattle.std.proofs.Math.Seq.{get_or-append_seam}
 use Rattle.std.proofs.lemmas.List.{get_or_append_left, length-append, map_push}
 use Rattle.std.proofs.lemmas.List.Elements.{All-append}
 use Rattle.std.proofs.lemmas.Option.{get_or_from_slice_get, slice_get-map, slice_get_within}
 use Rattle.net_core.specs.declared.latch.Start.{Start}
-use Rattle.net_blif.specs.Statement.{Token, IsToken}
+use Rattle.net_blif.specs.Statement.{Token}
 use Rattle.net_blif.specs.Item.{IsSoundItem}
 use Rattle.net_blif.specs.Places.{ArePlaces, IsPlace, item_at, items_at}
 use Rattle.net_blif.specs.declared.item.Item.{Item}

@@ -1,5 +1,5 @@
 -- Whether models are right, and that a text that is read has one.
-use Rattle.std.proofs.Common.{◌≡◌, ◌∙◌, inl, inr, ap, sym, refl, subst, ℕ, zero, suc, ◌+◌, ◌<◌, ◌≤◌, Bool, true, false, cond, List, [], ◌∷◌, ◌++◌, length, Option, None, Some, Result, Ok, Err, arith}
+use Rattle.std.proofs.Common.{◌≡◌, ◌⊎◌, ◌∙◌, inl, inr, ap, sym, refl, subst, ℕ, zero, suc, ◌<◌, ◌≤◌, Bool, true, false, cond, List, [], ◌∷◌, ◌++◌, length, Option, None, Some, Result, Ok, Err, arith}
 use Rattle.std.specs.Prelude.{slice_get, is_some, nat_lt, codes, IsTrue}
 use Rattle.std.specs.Str.{bytes_eq}
 use Rattle.std.specs.Option.{option_map, option_map_or}
@@ -7,16 +7,16 @@ use Rattle.std.proofs.lemmas.List.{length-append}
 use Rattle.text_core.specs.Lines.{tokens_of}
 use Rattle.text_core.specs.Outcome.{◌>>=◌, Determined}
 use Rattle.text_core.proofs.DeterminedLemmas.{determined_bind, determined_returns}
-use Rattle.graph_core.specs.Graph.{Graph, edges}
-use Rattle.graph_core.specs.Cycle.{IsCycleOf, IsEndless, IsFirstEndless, IsGrounded, grounded}
+use Rattle.graph_core.specs.Graph.{Graph}
+use Rattle.graph_core.specs.Cycle.{IsCycleOf, IsEndless, IsFirstEndless}
 use Rattle.graph_core.proofs.LawLemmas.{is_only}
 use Rattle.net_blif.specs.Statement.{Token, is_dotted}
 use Rattle.net_blif.specs.Cover.{begun}
-use Rattle.net_blif.specs.Lines.{Numbered}
+use Rattle.net_blif.specs.Lines.{lines_of, Numbered}
 use Rattle.net_blif.specs.Design.{ModelValue, model_named, name_of}
 use Rattle.net_blif.specs.Instances.{instances_fault, refused, HaveFormals}
 use Rattle.net_blif.specs.Chains.{graph_of, AreWithinDepth, WalkEnds}
-use Rattle.net_blif.specs.Models.{begins, first_word, in_model, may_stand, models_of, next, placed, start, with_items, AreRight, OpenValue, Reading, Reads, ReadsLine}
+use Rattle.net_blif.specs.Models.{begins, first_word, in_model, may_stand, models_of, next, placed, start, with_items, AreRight, BlifDesign, HasModel, OpenValue, Reading, Reads, ReadsLine}
 use Rattle.net_blif.specs.declared.statement.Statement.{Statement}
 use Rattle.net_blif.specs.declared.statement.Statement.TheVariants.{Model, Inputs, Outputs, Clock, Cover, Latch, Instance, Row, End, Other}
 use Rattle.net_blif.specs.declared.fault.BlifFault.{BlifFault}
@@ -34,6 +34,19 @@ walk_wrong models fault none wrong = inr (tt, sym (ap refused none), inl wrong)
 
 pub depth_wrong : (models : List ModelValue) (fault : BlifFault) → instances_fault models ≡ None → WalkEnds models (Ok tt) → AreWithinDepth models (Err fault) → AreRight models (Err fault)
 depth_wrong models fault none ends wrong = inr (tt, sym (ap refused none), inr (tt, ends, wrong))
+
+-- what a step answers in place of right, or want of memory
+pub wrong_formals : (models : List ModelValue) (fault wanting : BlifFault) → (fault ≡ wanting) ⊎ (instances_fault models ≡ Some fault) → (fault ≡ wanting) ⊎ AreRight models (Err fault)
+wrong_formals models fault wanting (inl is) = inl is
+wrong_formals models fault wanting (inr some) = inr (formals_wrong models fault some)
+
+pub wrong_walk : (models : List ModelValue) (fault wanting : BlifFault) → instances_fault models ≡ None → (fault ≡ wanting) ⊎ WalkEnds models (Err fault) → (fault ≡ wanting) ⊎ AreRight models (Err fault)
+wrong_walk models fault wanting none (inl is) = inl is
+wrong_walk models fault wanting none (inr wrong) = inr (walk_wrong models fault none wrong)
+
+pub wrong_depth : (models : List ModelValue) (fault wanting : BlifFault) → instances_fault models ≡ None → WalkEnds models (Ok tt) → (fault ≡ wanting) ⊎ AreWithinDepth models (Err fault) → (fault ≡ wanting) ⊎ AreRight models (Err fault)
+wrong_depth models fault wanting none ends (inl is) = inl is
+wrong_depth models fault wanting none ends (inr wrong) = inr (depth_wrong models fault none ends wrong)
 
 -- a fault of a walk names the first model of its cycle
 only_recursive : (models : List ModelValue) (fault : BlifFault) → WalkEnds models (Err fault) → (name : Token) × (fault ≡ Recursive name) × WalkEnds models (Err (Recursive name))
@@ -151,18 +164,33 @@ first_line more n token tokens (s, says, made) = first_model more n s says.3 (sy
 -- a text that is read has a model
 pub some_model : (lines : List Numbered) (more : Reading) → begins lines ≡ true → Reads start lines (Ok more) → 1 ≤ length (models_of more)
 some_model [] more dot reads = absurd (cc)
-some_model (line ∷ lines) more dot (mid, first, rest) = by (tokens_of line.1) refl
+some_model (line ∷ lines) more dot (mid, first, rest) = by (λ again reads. some_model lines more again reads) (tokens_of line.1) refl
   where
     at : (tokens : List Token) → tokens_of line.1 ≡ tokens → ReadsLine start line.0 tokens (Ok mid)
     at tokens is = let P : List Token → Type 0 = λ t. ReadsLine start line.0 t (Ok mid) in subst P is first
 
-    by : (tokens : List Token) → tokens_of line.1 ≡ tokens → 1 ≤ length (models_of more)
-    by [] is =
+    by : (begins lines ≡ true → Reads start lines (Ok more) → 1 ≤ length (models_of more)) → (tokens : List Token) → tokens_of line.1 ≡ tokens → 1 ≤ length (models_of more)
+    by further [] is =
         let same : mid ≡ start = at [] is in
         let P : Reading → Type 0 = λ r. Reads r lines (Ok more) in
         let Q : List Token → Type 0 = λ t. cond (is_dotted (first_word t)) (bytes_eq (first_word t) (codes ".model")) (begins lines) ≡ true in
-        some_model lines more (subst Q is dot) (subst P same rest)
-    by (token ∷ tokens) is =
+        further (subst Q is dot) (subst P same rest)
+    by further (token ∷ tokens) is =
         let one = first_line mid line.0 token tokens (at (token ∷ tokens) is) in
         let two = lines_kept mid more lines rest in
         omega (arith, one, two)
+
+-- a text whose models are right, or not
+module _ (text : List ℕ) (reading : Reading) (models : List ModelValue) (dot : begins (lines_of text) ≡ true) (reads : Reads start (lines_of text) (Ok reading)) (are : models ≡ models_of reading) where
+  has_model : HasModel (lines_of text) (Ok tt)
+  has_model = rw dot refl
+
+  pub read_some : 0 < length models
+  read_some = let some = some_model (lines_of text) reading dot reads in omega (arith, some, ap length are)
+
+  pub read_right : (design : List ModelValue) → design ≡ models → AreRight models (Ok tt) → BlifDesign text (Ok design)
+  read_right design is right = let P : List ModelValue → Type 0 = λ ms. AreRight ms (Ok tt) in (tt, has_model, (reading, reads, (tt, subst P are right, is ∙ are)))
+
+  pub read_wrong : (fault wanting : BlifFault) → (fault ≡ wanting) ⊎ AreRight models (Err fault) → (fault ≡ wanting) ⊎ BlifDesign text (Err fault)
+  read_wrong fault wanting (inl is) = inl is
+  read_wrong fault wanting (inr wrong) = let P : List ModelValue → Type 0 = λ ms. AreRight ms (Err fault) in inr (inr (tt, has_model, inr (reading, reads, inl (subst P are wrong))))

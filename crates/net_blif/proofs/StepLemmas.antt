@@ -1,5 +1,7 @@
 -- Loops over lists, one element after another.
-use Rattle.std.proofs.Common.{◌≡◌, ◌⊎◌, ◌∙◌, inl, inr, ap, sym, refl, subst, ℕ, suc, ◌<◌, ◌+◌, List, [], ◌∷◌, length, drop, get_or, Option, None, Some, drop-cons, add-one}
+use Rattle.std.proofs.Common.{◌≡◌, ◌∙◌, inl, inr, ap, sym, refl, ℕ, zero, suc, ◌<◌, ◌+◌, ◌-◌, Bool, true, false, cond, List, [], ◌∷◌, length, drop, get_or, Option, None, Some, arith, drop-cons, add-one}
+use Rattle.std.specs.Prelude.{filter, slice_get}
+use Rattle.std.proofs.lemmas.Option.{get_or_from_slice_get, slice_get_within}
 use Rattle.net_blif.specs.Statement.{Token}
 use Rattle.net_blif.specs.Connection.{formal_of}
 use Rattle.net_blif.specs.Instances.{first_found, or_else}
@@ -10,6 +12,50 @@ use Rattle.net_blif.specs.declared.fault.BlifFault.{BlifFault}
 -- what is left begins with the element at i
 pub rest_at : {A : Type 0} (xs : List A) (i : ℕ) (x d : A) → i < length xs → x ≡ get_or xs i d → drop i xs ≡ x ∷ drop (i + 1) xs
 rest_at xs i x d below is = rw add-one (drop-cons xs i d below ∙ ap (λ y. y ∷ drop (suc i) xs) (sym is))
+
+-- what is found at i, and what is left after it
+pub rest_got : {A : Type 0} (xs : List A) (i : ℕ) (x : A) → Some x ≡ slice_get xs i → drop i xs ≡ x ∷ drop (i + 1) xs
+rest_got xs i x at = rest_at xs i x x (slice_get_within xs i x (sym at)) (sym (get_or_from_slice_get xs i x x (sym at)))
+
+pub after_got : {A B : Type 0} (f : A → B → A) (xs : List B) (i : ℕ) (x : B) (whole a new : A) → Some x ≡ slice_get xs i → whole ≡ after f a (drop i xs) → new ≡ f a x → whole ≡ after f new (drop (i + 1) xs)
+after_got f xs i x whole a new at so_far made = so_far ∙ (ap (after f a) (rest_got xs i x at) ∙ ap (λ b. after f b (drop (i + 1) xs)) (sym made))
+
+-- the elements that pass, with the one at i
+pub filter_got : {A : Type 0} (test : A → Bool) (xs : List A) (i : ℕ) (x : A) → Some x ≡ slice_get xs i → filter test (drop i xs) ≡ cond (test x) (x ∷ filter test (drop (i + 1) xs)) (filter test (drop (i + 1) xs))
+filter_got test xs i x at = ap (filter test) (rest_got xs i x at)
+
+pub count_got : {A : Type 0} (test : A → Bool) (xs : List A) (i : ℕ) (x : A) (whole count one new : ℕ) → Some x ≡ slice_get xs i → whole ≡ count + length (filter test (drop i xs)) → one ≡ cond (test x) 1 0 → new ≡ count + one → whole ≡ new + length (filter test (drop (i + 1) xs))
+count_got test xs i x whole count one new at so_far is made = by (test x) (so_far ∙ ap (λ ys. count + length ys) (filter_got test xs i x at)) is
+  where
+    by : (b : Bool) → whole ≡ count + length (cond b (x ∷ filter test (drop (i + 1) xs)) (filter test (drop (i + 1) xs))) → one ≡ cond b 1 0 → whole ≡ new + length (filter test (drop (i + 1) xs))
+    by true e o = omega (arith, e, o, made)
+    by false e o = omega (arith, e, o, made)
+
+-- the element that passes after so many others
+module _ {A : Type 0} (test : A → Bool) (xs : List A) (i left : ℕ) (x : A) (whole : Option A) (at : Some x ≡ slice_get xs i) (so_far : whole ≡ slice_get (filter test (drop i xs)) left) where
+  filtered : slice_get (filter test (drop i xs)) left ≡ slice_get (cond (test x) (x ∷ filter test (drop (i + 1) xs)) (filter test (drop (i + 1) xs))) left
+  filtered = ap (λ ys. slice_get ys left) (filter_got test xs i x at)
+
+  pub passing_here : left ≡ 0 → test x ≡ true → whole ≡ Some x
+  passing_here none passes = so_far ∙ (filtered ∙ rw (none, passes) refl)
+
+  pub passing_later : (new : ℕ) → (test x ≡ true → 0 < left) → new ≡ cond (test x) (left - 1) left → whole ≡ slice_get (filter test (drop (i + 1) xs)) new
+  passing_later new some is = by (test x) refl (so_far ∙ filtered) is
+    where
+      later : (n m : ℕ) → 0 < n → m ≡ n - 1 → slice_get (x ∷ filter test (drop (i + 1) xs)) n ≡ slice_get (filter test (drop (i + 1) xs)) m
+      later zero m less e = absurd (omega arith)
+      later (suc n) m less e = let same : m ≡ n = omega (arith, e) in ap (slice_get (filter test (drop (i + 1) xs))) (sym same)
+
+      by : (b : Bool) → test x ≡ b → whole ≡ slice_get (cond b (x ∷ filter test (drop (i + 1) xs)) (filter test (drop (i + 1) xs))) left → new ≡ cond b (left - 1) left → whole ≡ slice_get (filter test (drop (i + 1) xs)) new
+      by true passes e n = e ∙ later left new (some passes) n
+      by false passes e n = e ∙ ap (slice_get (filter test (drop (i + 1) xs))) (sym n)
+
+  pub fewer_later : (new : ℕ) → left < length (filter test (drop i xs)) → (test x ≡ true → 0 < left) → new ≡ cond (test x) (left - 1) left → new < length (filter test (drop (i + 1) xs))
+  fewer_later new less some is = by (test x) refl (filter_got test xs i x at) is
+    where
+      by : (b : Bool) → test x ≡ b → filter test (drop i xs) ≡ cond b (x ∷ filter test (drop (i + 1) xs)) (filter test (drop (i + 1) xs)) → new ≡ cond b (left - 1) left → new < length (filter test (drop (i + 1) xs))
+      by true passes e n = omega (arith, less, ap length e, n, some passes)
+      by false passes e n = omega (arith, less, ap length e, n)
 
 pub after_step : {A B : Type 0} (f : A → B → A) (xs : List B) (i : ℕ) (x d : B) (whole a new : A) → i < length xs → x ≡ get_or xs i d → whole ≡ after f a (drop i xs) → new ≡ f a x → whole ≡ after f new (drop (i + 1) xs)
 after_step f xs i x d whole a new below is so_far made = so_far ∙ (ap (after f a) (rest_at xs i x d below is) ∙ ap (λ b. after f b (drop (i + 1) xs)) (sym made))
@@ -32,6 +78,17 @@ fault_here find xs i x d whole fault below is so_far (inr some) = inr (found_her
 or_none : {F : Type 0} (o : Option F) → or_else o None ≡ o
 or_none None = refl
 or_none (Some f) = refl
+
+-- the same, where the element is got
+module _ {F A : Type 0} (find : A → Option F) (xs : List A) (i : ℕ) (x : A) (whole : Option F) (at : Some x ≡ slice_get xs i) (so_far : whole ≡ first_found find (drop i xs)) where
+  pub got_later : find x ≡ None → whole ≡ first_found find (drop (i + 1) xs)
+  got_later none = found_later find xs i x x whole (slice_get_within xs i x (sym at)) (sym (get_or_from_slice_get xs i x x (sym at))) so_far none
+
+  pub got_here : (found : F) → find x ≡ Some found → whole ≡ Some found
+  got_here found some = found_here find xs i x x whole (slice_get_within xs i x (sym at)) (sym (get_or_from_slice_get xs i x x (sym at))) so_far found some
+
+pub fault_got : {A : Type 0} (find : A → Option BlifFault) (xs : List A) (i : ℕ) (x : A) (whole : Option BlifFault) (fault : BlifFault) → Some x ≡ slice_get xs i → whole ≡ first_found find (drop i xs) → IsFault (find x) fault → IsFault whole fault
+fault_got find xs i x whole fault at so_far is = fault_here find xs i x x whole fault (slice_get_within xs i x (sym at)) (sym (get_or_from_slice_get xs i x x (sym at))) so_far is
 
 -- connections one after another
 module _ (line : ℕ) (formals connected : Numbers) (xs : List Token) (i : ℕ) (x d : Token) (whole : Option BlifFault) (below : i < length xs) (is : x ≡ get_or xs i d) (so_far : whole ≡ table_fault line formals connected (drop i xs)) where

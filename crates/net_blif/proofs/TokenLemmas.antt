@@ -1,8 +1,8 @@
 -- Tokens that stand one after another in one text.
 use Rattle.std.proofs.Common.{◌≡◌, ◌∙◌, ap, sym, refl, subst, append_assoc, add-one, ℕ, suc, zero, ◌+◌, ◌-◌, ◌<◌, ◌≤◌, List, [], ◌∷◌, ◌++◌, length, map, take, drop, get_or, Some, arith}
-use Rattle.std.specs.Prelude.{All, slice_get, slice_range}
+use Rattle.std.specs.Prelude.{slice_get, slice_range}
 use Rattle.std.proofs.Math.Seq.{take-suc, take-length, drop-append_seam}
-use Rattle.std.proofs.lemmas.List.{drop-append-le, take-append-le, length-drop, length-map, map_push, take-map, drop-map, get_or-map}
+use Rattle.std.proofs.lemmas.List.{drop-append-le, take-append-le, length-drop, map_push, take-map, drop-map, get_or-map}
 use Rattle.std.proofs.lemmas.Option.{get_or_from_slice_get}
 use Rattle.net_blif.specs.Statement.{Token}
 use Rattle.net_blif.specs.Tokens.{AreSpans, IsSpan, token_at, tokens_at}

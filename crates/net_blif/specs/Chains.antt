@@ -1,5 +1,5 @@
 -- Models inside models: those that contain themselves, and how deep they stand. Source: the Berkeley Logic Interchange Format (BLIF), University of California, Berkeley.
-use Rattle.std.specs.Prelude.{◌≡◌, ℕ, zero, suc, Bool, true, List, [], ◌∷◌, map, flat_map, Some, slice_get, Result, Ok, Err, if◌then◌else◌}
+use Rattle.std.specs.Prelude.{◌≡◌, ℕ, zero, suc, Bool, true, List, [], ◌∷◌, map, flat_map, Some, slice_get, Ok, Err, if◌then◌else◌}
 use Rattle.std.specs.List.{list_any}
 use Rattle.std.specs.Option.{option_map_or}
 use Rattle.text_core.specs.Outcome.{Outcome, Returns}
@@ -7,7 +7,7 @@ use Rattle.graph_core.specs.Graph.{Graph, edges}
 use Rattle.graph_core.specs.Cycle.{IsGrounded, IsCycleOf}
 use Rattle.net_blif.specs.Design.{ModelValue, model_named, name_of}
 use Rattle.net_blif.specs.declared.item.Item.{Item}
-use Rattle.net_blif.specs.declared.item.Item.TheVariants.{Inputs, Outputs, Gate, Latch, Instance}
+use Rattle.net_blif.specs.declared.item.Item.TheVariants.{Instance}
 use Rattle.net_blif.specs.declared.fault.BlifFault.{BlifFault}
 use Rattle.net_blif.specs.declared.fault.BlifFault.TheVariants.{Recursive, TooDeep}
 

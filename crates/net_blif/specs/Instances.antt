@@ -1,5 +1,5 @@
 -- What is wrong with an instance. Source: the Berkeley Logic Interchange Format (BLIF), University of California, Berkeley.
-use Rattle.std.specs.Prelude.{ℕ, Bool, not, List, [], ◌∷◌, ◌++◌, map, flat_map, Option, None, Some, slice_get, Result, Ok, Err, if◌then◌else◌}
+use Rattle.std.specs.Prelude.{ℕ, Bool, not, List, [], ◌∷◌, ◌++◌, map, flat_map, Option, None, Some, Result, Ok, Err, if◌then◌else◌}
 use Rattle.std.specs.List.{list_any, list_all}
 use Rattle.std.specs.Str.{bytes_eq}
 use Rattle.text_core.specs.Outcome.{Outcome, Returns}
@@ -7,7 +7,7 @@ use Rattle.net_blif.specs.Connection.{formal_of}
 use Rattle.net_blif.specs.Statement.{Token}
 use Rattle.net_blif.specs.Design.{ModelValue, items_of, model_named}
 use Rattle.net_blif.specs.declared.item.Item.{Item}
-use Rattle.net_blif.specs.declared.item.Item.TheVariants.{Inputs, Outputs, Gate, Latch, Instance}
+use Rattle.net_blif.specs.declared.item.Item.TheVariants.{Inputs, Outputs, Instance}
 use Rattle.net_blif.specs.declared.fault.BlifFault.{BlifFault}
 use Rattle.net_blif.specs.declared.fault.BlifFault.TheVariants.{NoSuchModel, NoSuchFormal, FormalTwice, FormalMissing}
 

@@ -1,12 +1,12 @@
 -- What stands in the top. Source: the Berkeley Logic Interchange Format (BLIF), University of California, Berkeley.
-use Rattle.std.specs.Prelude.{ℕ, Bool, true, false, List, [], ◌∷◌, Option, None, Some, filter, if◌then◌else◌}
+use Rattle.std.specs.Prelude.{ℕ, Bool, true, false, List, [], Option, None, Some, filter, if◌then◌else◌}
 use Rattle.std.specs.Str.{bytes_eq}
 use Rattle.net_blif.specs.Connection.{actual_of, formal_of}
 use Rattle.net_blif.specs.Statement.{Token}
 use Rattle.net_blif.specs.Design.{ModelValue, items_of}
 use Rattle.net_blif.specs.Instances.{first_found}
 use Rattle.net_blif.specs.declared.item.Item.{Item}
-use Rattle.net_blif.specs.declared.item.Item.TheVariants.{Inputs, Outputs, Gate, Latch, Instance}
+use Rattle.net_blif.specs.declared.item.Item.TheVariants.{Gate, Latch, Instance}
 
 -- the line of a gate or latch
 abbrev pub line_in : Item → Option ℕ

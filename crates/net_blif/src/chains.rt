@@ -5,6 +5,7 @@ ghost use Rattle.net_blif.specs.Chains.{graph_of, leads_on, models_in, row_of, A
 ghost use Rattle.net_blif.specs.Item.{IsSoundItem};
 ghost use Rattle.net_blif.specs.private.Leading.{LeadOn, LeadTo};
 ghost use Rattle.graph_core.specs.Cycle.{IsCycleOf};
+ghost use Rattle.graph_core.specs.Graph.{IsInside};
 
 use crate::BlifFault;
 use crate::formals::text_of;
@@ -105,11 +106,14 @@ fn leads_into(marks: &[bool], edges: &[u32]) -> bool
 // From which points one edge more leads on.
 fn further(alloc: Global, graph: &Graph, on: &[bool]) -> Result<Vec<bool>, AllocError>
     requires { length on.now ≡ length graph.now }
-    ensures { IfOk result (λ more. LeadTo graph.now on.now more.items) }
+    ensures marks { IfOk result (λ more. LeadTo graph.now on.now more.items) }
+    ensures inside { IsInside graph.now }
 {
     let mut more = Vec::new(alloc);
-    for point in 0..graph.points() {
-        more.push(leads_into(on, graph.edges(point as u32)))?;
+    let points = graph.points();
+    for point in 0..points {
+        let mark = leads_into(on, graph.edges(point as u32));
+        more.push(mark)?;
     }
     Ok(more)
 }
@@ -119,7 +123,8 @@ fn all_points(alloc: Global, graph: &Graph) -> Result<Vec<bool>, AllocError>
     ensures { IfOk result (λ on. LeadOn graph.now 0 on.items) }
 {
     let mut on = Vec::new(alloc);
-    for _ in 0..graph.points() {
+    let points = graph.points();
+    for _ in 0..points {
         on.push(true)?;
     }
     Ok(on)

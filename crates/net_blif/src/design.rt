@@ -1,13 +1,15 @@
 //! Designs.
-ghost use Rattle.std.specs.Prelude.{◌≡◌, ◌⊎◌, ◌<◌, Ok, Err, Some, IfOk, IfErr, OnOk, length, slice_get};
+ghost use Rattle.std.specs.Prelude.{◌≡◌, ◌⊎◌, ◌<◌, ◌^◌, Ok, Err, Some, IfOk, IfErr, OnOk, length, slice_get};
 ghost use Rattle.net_blif.specs.Design.{ModelValue, items_of, model_named};
 ghost use Rattle.net_blif.specs.Models.{AreRight};
+ghost use Rattle.net_blif.specs.Top.{instances_of};
 
 use crate::BlifFault;
 use crate::chains::{check_depth, check_walk, graph};
 use crate::instances::check_instances;
 use crate::item_list::ItemList;
 use crate::model_list::ModelList;
+use crate::top::count;
 use std::alloc::Global;
 use std::marker::Model;
 
@@ -20,15 +22,16 @@ pub struct Design {
 }
 
 impl Model for Design {
-    ghost use Rattle.std.specs.Prelude.{◌<◌, List, Ok, length};
+    ghost use Rattle.std.specs.Prelude.{◌<◌, ◌^◌, List, Ok, length};
     ghost use Rattle.net_blif.specs.Design.{ModelValue};
     ghost use Rattle.net_blif.specs.Models.{AreRight};
+    ghost use Rattle.net_blif.specs.Top.{instances_of};
 
     ghost Value = { List ModelValue };
 
     ghost view = { λ d. d.models };
 
-    ghost invariant = { λ d. (0 < length d.models) × AreRight d.models (Ok tt) };
+    ghost invariant = { λ d. (0 < length d.models) × AreRight d.models (Ok tt) × (length (instances_of d.models) < 2 ^ 32) };
 }
 
 // Whether models are right; else the first fault.
@@ -53,6 +56,10 @@ impl Design {
         ensures fault { IfErr result (λ e. (e ≡ BlifFault.OutOfMemory) ⊎ AreRight models (Err e)) }
     {
         check(alloc, &models)?;
+        // the instances are in memory, so their count is below 2^32
+        let Ok(_) = u32::try_from(count(models.items(0))) else {
+            return Err(BlifFault::OutOfMemory);
+        };
         Ok(Design { models })
     }
 
@@ -61,6 +68,7 @@ impl Design {
         ensures count { result ≡ length self.now }
         ensures some { 0 < result }
         ensures right { AreRight self.now (Ok tt) }
+        ensures few { length (instances_of self.now) < 2 ^ 32 }
     {
         self.models.models()
     }

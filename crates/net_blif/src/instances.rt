@@ -2,7 +2,7 @@
 ghost use Rattle.std.specs.Prelude.{◌≡◌, ◌<◌, ◌∷◌, [], None, Some, All, IfOk, IfErr, OnOk, ℕ, length, map, slice_get};
 ghost use Rattle.net_blif.specs.Item.{IsSoundItem};
 ghost use Rattle.net_blif.specs.Statement.{IsToken};
-ghost use Rattle.net_blif.specs.Design.{ModelValue};
+ghost use Rattle.net_blif.specs.Design.{ModelValue, items_of};
 ghost use Rattle.net_blif.specs.Instances.{first_found, instance_fault, instances_fault};
 ghost use Rattle.net_blif.specs.Table.{numbers_in};
 ghost use Rattle.net_blif.specs.private.Connecting.{after, collected, connect, fault_by, formals_in, table_fault, IsFault};
@@ -80,6 +80,15 @@ fn check_formals(
     Ok(())
 }
 
+// The formals of a model.
+fn formals_at<'a>(models: &ModelList, formals: &'a [Formals], model: u32) -> &'a Formals
+    requires formals { map formals_in formals.now ≡ map (λ (m : ModelValue). collected m.items) models.now }
+    requires model { model < length models.now }
+    ensures { formals_in result.now ≡ collected (items_of models.now model) }
+{
+    &formals[model as usize]
+}
+
 // An instance of the model of this name.
 fn check_instance(
     alloc: Global,
@@ -101,7 +110,7 @@ fn check_instance(
             alloc,
             models.key(),
             line,
-            &formals[model as usize],
+            formals_at(models, formals, model),
             connections,
         ),
     }

@@ -103,6 +103,8 @@ pub fn read_blif(alloc: Global, bytes: &[u8]) -> Result<Design, BlifFault>
     }
     let reader = read_lines(alloc, bytes)?;
     let models = reader.finish(alloc)?;
-    let design = Design::new(alloc, models)?;
-    Ok(design)
+    match Design::new(alloc, models) {
+        Ok(design) => Ok(design),
+        Err(fault) => Err(fault),
+    }
 }

@@ -1,5 +1,5 @@
 //! What stands in the top of a design.
-ghost use Rattle.std.specs.Prelude.{◌≡◌, ◌<◌, None, Some, All, IfSome, IfNone, filter, length, slice_get};
+ghost use Rattle.std.specs.Prelude.{◌≡◌, ◌<◌, ◌-◌, true, if◌then◌else◌, None, Some, All, IfSome, IfNone, filter, length, slice_get};
 ghost use Rattle.net_blif.specs.Item.{IsSoundItem};
 ghost use Rattle.net_blif.specs.Statement.{IsToken};
 ghost use Rattle.net_blif.specs.Design.{model_named};
@@ -44,18 +44,31 @@ fn is_instance(item: &Item<'_>) -> bool
     matches!(item, Item::Instance { .. })
 }
 
-// How many instances there are.
-fn count(items: &ItemList) -> u32
+// How many instances an item is.
+fn counted(item: &Item<'_>) -> usize
+    ensures { result ≡ (if instance_is item.now then 1 else 0) }
+{
+    if is_instance(item) { 1 } else { 0 }
+}
+
+/// How many instances there are.
+pub fn count(items: &ItemList) -> usize
     ensures { result ≡ length (filter instance_is items.now) }
 {
     let mut count = 0;
     for place in 0..items.len() {
         let item = items.get(place);
-        if is_instance(&item) {
-            count += 1;
-        }
+        count += counted(&item);
     }
     count
+}
+
+// How many instances are to be passed after an item.
+fn left_after(left: u32, item: &Item<'_>) -> u32
+    requires { instance_is item.now ≡ true → 0 < left }
+    ensures { result ≡ (if instance_is item.now then left - 1 else left) }
+{
+    if is_instance(item) { left - 1 } else { left }
 }
 
 // The instance of a number below the count.
@@ -67,12 +80,10 @@ fn instance_at(items: &ItemList, number: u32) -> Item<'_>
     let mut left = number;
     for place in 0..items.len() {
         let item = items.get(place);
-        if is_instance(&item) {
-            if left == 0 {
-                return item;
-            }
-            left -= 1;
+        if left == 0 && is_instance(&item) {
+            return item;
         }
+        left = left_after(left, &item);
     }
     unreachable!()
 }
@@ -143,7 +154,7 @@ impl Design {
         ensures { result ≡ length (instances_of self.now) }
     {
         let _count = self.models();
-        count(self.items(0))
+        count(self.items(0)) as u32
     }
 
     /// The model of an instance; they are numbered from 0 in the order of the lines. It takes no memory.

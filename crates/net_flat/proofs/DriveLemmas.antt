@@ -1,5 +1,5 @@
 -- Gates of a walk drive nets that exist.
-use Rattle.std.proofs.Common.{◌≡◌, refl, subst, ℕ, zero, suc, ◌<◌, ◌≤◌, ◌+◌, ◌^◌, Bool, true, false, cond, List, [], ◌∷◌, ◌++◌, length, get_or, Option, None, Some, Result, Ok, Err, arith}
+use Rattle.std.proofs.Common.{◌≡◌, refl, subst, ℕ, zero, suc, ◌<◌, ◌≤◌, ◌+◌, ◌^◌, Bool, true, false, cond, List, [], ◌∷◌, ◌++◌, map, length, get_or, Option, None, Some, Result, Ok, Err, arith}
 use Rattle.std.specs.Prelude.{All, unwrap_or, nat_le}
 use Rattle.std.proofs.lemmas.List.{length-append, length-map}
 use Rattle.std.proofs.lemmas.List.Elements.{All-append, All-weaker}
@@ -173,11 +173,11 @@ entered_only n = record nothing { instances = n }
 from_nothing : (steps : List (Step Path)) (n : ℕ) (flat : Flat) → BeginsWell steps → walked (entered_only n) steps ≡ Ok flat → DriveBelow (length flat.paths) flat.gates
 from_nothing [] n flat begins made = let same : entered_only n ≡ flat = cc in let P : Flat → Type 0 = λ f. DriveBelow (length f.paths) f.gates in subst P same (λ k d less. absurd (omega arith))
 from_nothing (Mention path ∷ steps) n flat begins made = (further_drives (record (entered_only n) { paths = path ∷ [] }) flat steps (record { some = omega arith; gates = λ k d less. absurd (omega arith) }) made).gates
-from_nothing (Enter ∷ steps) n flat begins made = by (nat_le (2 ^ 20) n) made
+from_nothing (Enter ∷ steps) n flat begins made = by (λ e. from_nothing steps (n + 1) flat begins e) (nat_le (2 ^ 20) n) made
   where
-    by : (b : Bool) → on_value (λ more. walked more steps) (cond b (Err TooManyInstances) (Ok (entered_only (n + 1)))) ≡ Ok flat → DriveBelow (length flat.paths) flat.gates
-    by true e = absurd (cc)
-    by false e = from_nothing steps (n + 1) flat begins e
+    by : (walked (entered_only (n + 1)) steps ≡ Ok flat → DriveBelow (length flat.paths) flat.gates) → (b : Bool) → on_value (λ more. walked more steps) (cond b (Err TooManyInstances) (Ok (entered_only (n + 1)))) ≡ Ok flat → DriveBelow (length flat.paths) flat.gates
+    by rest true e = absurd (cc)
+    by rest false e = rest e
 from_nothing (Input path ∷ steps) n flat begins made = absurd begins
 from_nothing (Output path ∷ steps) n flat begins made = absurd begins
 from_nothing (Gate inputs out table ∷ steps) n flat begins made = absurd begins

@@ -60,14 +60,14 @@ or_place None other = other
 
 pub place_append : (n : ℕ) (ps qs : List Path) (r : Path) → place_from n (ps ++ qs) r ≡ or_place (place_from n ps r) (place_from (n + length ps) qs r)
 place_append n [] qs r = let same : n + 0 ≡ n = omega arith in rw same refl
-place_append n (p ∷ ps) qs r = by (same_path r p)
+place_append n (p ∷ ps) qs r = by (place_append (n + 1) ps qs r) (same_path r p)
   where
     same : n + 1 + length ps ≡ n + suc (length ps)
     same = omega arith
 
-    by : (b : Bool) → cond b (Some n) (place_from (n + 1) (ps ++ qs) r) ≡ or_place (cond b (Some n) (place_from (n + 1) ps r)) (place_from (n + suc (length ps)) qs r)
-    by true = refl
-    by false = place_append (n + 1) ps qs r ∙ ap (λ k. or_place (place_from (n + 1) ps r) (place_from k qs r)) same
+    by : place_from (n + 1) (ps ++ qs) r ≡ or_place (place_from (n + 1) ps r) (place_from (n + 1 + length ps) qs r) → (b : Bool) → cond b (Some n) (place_from (n + 1) (ps ++ qs) r) ≡ or_place (cond b (Some n) (place_from (n + 1) ps r)) (place_from (n + suc (length ps)) qs r)
+    by rest true = refl
+    by rest false = rest ∙ ap (λ k. or_place (place_from (n + 1) ps r) (place_from k qs r)) same
 
 pub place_kept : (n : ℕ) (ps qs : List Path) (r : Path) (k : ℕ) → place_from n ps r ≡ Some k → place_from n (ps ++ qs) r ≡ Some k
 place_kept n ps qs r k found = place_append n ps qs r ∙ ap (λ o. or_place o (place_from (n + length ps) qs r)) found

@@ -46,22 +46,22 @@ module _ (flat : Flat) (local : Local) (scope : Scope) (n : ℕ) (tied : Tied fl
 
   numbers_known : (connections : List Token) → AreMentioned scope (map actual_of connections) flat → (q : Token) → numbers_of (tie flat local) connections q ≡ place flat (path_among (map (connected scope) connections) (At (scope.trail ++ n ∷ []) q) q)
   numbers_known [] are q = sym (none_among 0 flat.paths (At (scope.trail ++ n ∷ []) q) (not_there q))
-  numbers_known (c ∷ cs) are q = by (bytes_eq (formal_of c) q)
+  numbers_known (c ∷ cs) are q = by (numbers_known cs are.1 q) (bytes_eq (formal_of c) q)
     where
       actual : Some (number_in (tie flat local) (actual_of c)) ≡ place flat (path_in scope (actual_of c))
       actual = let at = tied.known (actual_of c) ∙ are.0.1 in ap (λ (o : Option ℕ). Some (unwrap_or o 0)) at ∙ sym are.0.1
 
-      by : (b : Bool) → cond b (Some (number_in (tie flat local) (actual_of c))) (numbers_of (tie flat local) cs q) ≡ place flat (cond b (path_in scope (actual_of c)) (path_among (map (connected scope) cs) (At (scope.trail ++ n ∷ []) q) q))
-      by true = actual
-      by false = numbers_known cs are.1 q
+      by : numbers_of (tie flat local) cs q ≡ place flat (path_among (map (connected scope) cs) (At (scope.trail ++ n ∷ []) q) q) → (b : Bool) → cond b (Some (number_in (tie flat local) (actual_of c))) (numbers_of (tie flat local) cs q) ≡ place flat (cond b (path_in scope (actual_of c)) (path_among (map (connected scope) cs) (At (scope.trail ++ n ∷ []) q) q))
+      by rest true = actual
+      by rest false = rest
 
   owned_inside : (connections : List Token) → AreMentioned scope (map actual_of connections) flat → (q : Token) → (path_among (map (connected scope) connections) (At (scope.trail ++ n ∷ []) q) q ≡ At (scope.trail ++ n ∷ []) q) ⊎ IsMentioned flat (path_among (map (connected scope) connections) (At (scope.trail ++ n ∷ []) q) q)
   owned_inside [] are q = inl refl
-  owned_inside (c ∷ cs) are q = by (bytes_eq (formal_of c) q)
+  owned_inside (c ∷ cs) are q = by (owned_inside cs are.1 q) (bytes_eq (formal_of c) q)
     where
-      by : (b : Bool) → (cond b (path_in scope (actual_of c)) (path_among (map (connected scope) cs) (At (scope.trail ++ n ∷ []) q) q) ≡ At (scope.trail ++ n ∷ []) q) ⊎ IsMentioned flat (cond b (path_in scope (actual_of c)) (path_among (map (connected scope) cs) (At (scope.trail ++ n ∷ []) q) q))
-      by true = inr are.0
-      by false = owned_inside cs are.1 q
+      by : (path_among (map (connected scope) cs) (At (scope.trail ++ n ∷ []) q) q ≡ At (scope.trail ++ n ∷ []) q) ⊎ IsMentioned flat (path_among (map (connected scope) cs) (At (scope.trail ++ n ∷ []) q) q) → (b : Bool) → (cond b (path_in scope (actual_of c)) (path_among (map (connected scope) cs) (At (scope.trail ++ n ∷ []) q) q) ≡ At (scope.trail ++ n ∷ []) q) ⊎ IsMentioned flat (cond b (path_in scope (actual_of c)) (path_among (map (connected scope) cs) (At (scope.trail ++ n ∷ []) q) q))
+      by rest true = inr are.0
+      by rest false = rest
 
   below_top : (t : List ℕ) (k : ℕ) → is_top (t ++ k ∷ []) ≡ false
   below_top [] k = refl
@@ -96,7 +96,7 @@ forget Q flat scope n (Err e) (Ok state) h = absurd h
 
 -- back from an instance
 module _ (flat : Flat) (local : Local) (scope : Scope) (n : ℕ) (tied : Tied flat local scope n) (new : Flat) (grows : Grows (scope.trail ++ n ∷ []) flat new) where
-  more : List Path
+  abbrev more : List Path
   more = grows.0
 
   under : (p : Path) → IsUnder (scope.trail ++ n ∷ []) p → IsUnder scope.trail p
@@ -148,12 +148,13 @@ module _ (flat : Flat) (local : Local) (scope : Scope) (n : ℕ) (tied : Tied fl
   grows_back = (more, grows.1, each_weaker (IsUnder (scope.trail ++ n ∷ [])) (IsUnder scope.trail) more under grows.2)
 
 back_agrees : (flat : Flat) (local : Local) (scope : Scope) (n : ℕ) → Tied flat local scope n → (a : Result Flat FlatFault) (b : Result State FlatFault) → Same (scope.trail ++ n ∷ []) flat a b → Agree Anything flat scope (n + 1) a (on_value (back_to (tie flat local)) b)
-back_agrees flat local scope n tied (Ok new) (Ok state) (net, instances, grows) =
-    (local,
-     ap (λ (x : NetList). state_with x new.instances local) net ∙ ap (λ i. state_with state.net i local) instances,
-     tied_back flat local scope n tied new grows,
-     grows_back flat local scope n tied new grows,
-     tt)
+back_agrees flat local scope n tied (Ok new) (Ok state) (net, instances, grows) = (
+  local,
+  ap (λ (x : NetList). state_with x new.instances local) net ∙ ap (λ i. state_with state.net i local) instances,
+  tied_back flat local scope n tied new grows,
+  grows_back flat local scope n tied new grows,
+  tt,
+)
 back_agrees flat local scope n tied (Err e) (Err f) same = same
 back_agrees flat local scope n tied (Ok new) (Err f) h = absurd h
 back_agrees flat local scope n tied (Err e) (Ok state) h = absurd h
@@ -169,10 +170,13 @@ BodiesAgree design inside goes = (flat : Flat) (local : Local) (scope : Scope) (
 
 module _ (design : List ModelValue) (inside : Scope → ℕ → List (Step Path)) (goes : State → ℕ → Result State FlatFault) (bodies : BodiesAgree design inside goes) where
   instance_agrees : (flat : Flat) (local : Local) (scope : Scope) (n : ℕ) (connections : List Token) (found : Option ℕ) → Tied flat local scope n → AreMentioned scope (map actual_of connections) flat → Agree Anything flat scope (n + 1) (walked flat (option_map_or (inside (inner scope n connections)) found [])) (option_map_or (λ m. on_value (back_to (tie flat local)) (goes (entered (tie flat local) n connections) m)) found (Ok (tie flat local)))
-  instance_agrees flat local scope n connections None tied are =
-      (local, refl,
-       record { known = tied.known; prefix = tied.prefix; in_top = tied.in_top; top_owns = tied.top_owns; owned = tied.owned; fresh = each_weaker (IsFresh scope.trail n) (IsFresh scope.trail (n + 1)) flat.paths (λ p fresh k rest le. fresh k rest (omega (arith, le))) tied.fresh },
-       grows_none scope.trail flat flat refl, tt)
+  instance_agrees flat local scope n connections None tied are = (
+    local,
+    refl,
+    record { known = tied.known; prefix = tied.prefix; in_top = tied.in_top; top_owns = tied.top_owns; owned = tied.owned; fresh = each_weaker (IsFresh scope.trail n) (IsFresh scope.trail (n + 1)) flat.paths (λ p fresh k rest le. fresh k rest (omega (arith, le))) tied.fresh },
+    grows_none scope.trail flat flat refl,
+    tt,
+  )
   instance_agrees flat local scope n connections (Some m) tied are =
       back_agrees flat local scope n tied _ _ (bodies flat (entered (tie flat local) n connections).local (inner scope n connections) m (tied_inside flat local scope n tied connections are))
 
@@ -200,8 +204,8 @@ module _ (design : List ModelValue) (inside : Scope → ℕ → List (Step Path)
       let P : Result Flat FlatFault → Type 0 = λ r. Agree Anything flat scope (n + 1) r (on_value (λ mentioned. local_body goes design mentioned n (items.Instance line name connections)) (local_walked (tie flat local) (Enter ∷ actual_steps connections))) in
       subst P (sym (walked_append after_step flat steps body))
       (agree_after (AreMentioned scope (map actual_of connections)) Anything flat scope n (n + 1) (λ more. walked more body) (λ mentioned. local_body goes design mentioned n (items.Instance line name connections)) _ _
-        (agree_after Anything (AreMentioned scope (map actual_of connections)) flat scope n n (λ more. walked more (map (along (path_in scope)) (actual_steps connections))) (λ more. local_walked more (actual_steps connections)) _ _ (step_agrees flat local scope n tied Enter) (λ mid later is grows q. actuals_agree connections mid later scope n is))
-        (λ mid later is grows are. instance_agrees mid later scope n connections (model_named design name) is are))
+      (agree_after Anything (AreMentioned scope (map actual_of connections)) flat scope n n (λ more. walked more (map (along (path_in scope)) (actual_steps connections))) (λ more. local_walked more (actual_steps connections)) _ _ (step_agrees flat local scope n tied Enter) (λ mid later is grows q. actuals_agree connections mid later scope n is))
+      (λ mid later is grows are. instance_agrees mid later scope n connections (model_named design name) is are))
 
   line_agrees : (flat : Flat) (local : Local) (scope : Scope) (n : ℕ) (item : Item) → Tied flat local scope n → Agree Anything flat scope (next_number n item) (walked flat (steps_in scope item ++ body_in inside design scope n item)) (local_line goes design (tie flat local) n item)
   line_agrees flat local scope n item tied =
@@ -216,7 +220,7 @@ module _ (design : List ModelValue) (inside : Scope → ℕ → List (Step Path)
       let whole : walked flat (steps_in scope item ++ (body_in inside design scope n item ++ rest)) ≡ on_value (λ more. walked more rest) (walked flat (steps_in scope item ++ body_in inside design scope n item)) = ap (walked flat) (sym (append_assoc (steps_in scope item) (body_in inside design scope n item) rest)) ∙ walked_append after_step flat (steps_in scope item ++ body_in inside design scope n item) rest in
       subst P (sym whole)
       (agree_after Anything Anything flat scope (next_number n item) (last_number (next_number n item) lines) (λ more. walked more rest) (λ more. local_lines goes design more (next_number n item) lines) _ _ (line_agrees flat local scope n item tied)
-        (λ mid later is grows q. lines_agree lines mid later scope (next_number n item) is))
+      (λ mid later is grows q. lines_agree lines mid later scope (next_number n item) is))
 
 walk_step : (depth : ℕ) (design : List ModelValue) (scope : Scope) (model : ℕ) → walk_within (suc depth) design scope model ≡ lines_in (walk_within depth design) design scope 1 (items_of design model)
 unfolding walk_within

@@ -107,12 +107,12 @@ module _ (flat : Flat) (local : Local) (scope : Scope) (n : ℕ) (tied : Tied fl
   own : path_in scope name ≡ At scope.trail name
   own = elim (tied.owned name) [ inl is ↦ is | inr (k, at) ↦ absurd (cc) ]
 
-  longer : Flat
+  abbrev pub longer : Flat
   longer = record flat { paths = flat.paths ++ path_in scope name ∷ [] }
 
   -- the place of a name after the mention
   place_then : (q : Token) → place longer (path_in scope q) ≡ or_place (place flat (path_in scope q)) (cond (same_path (path_in scope q) (path_in scope name)) (Some (length flat.paths)) None)
-  place_then q = place_append 0 flat.paths (path_in scope name ∷ []) (path_in scope q)
+  place_then q = let none : 0 + length flat.paths ≡ length flat.paths = omega arith in place_append 0 flat.paths (path_in scope name ∷ []) (path_in scope q) ∙ ap (λ k. or_place (place flat (path_in scope q)) (place_from k (path_in scope name ∷ []) (path_in scope q))) none
 
   known_inside : (numbers : Numbers) → ((q : Token) → numbers q ≡ place flat (path_in scope q)) → (q : Token) → cond (bytes_eq name q) (Some (length flat.paths)) (numbers q) ≡ place longer (path_in scope q)
   known_inside numbers is q = by (bytes_eq name q) (place flat (path_in scope q)) refl refl
@@ -171,12 +171,13 @@ module _ (flat : Flat) (local : Local) (scope : Scope) (n : ℕ) (tied : Tied fl
       }
 
   pub new_agrees : Agree (λ f. IsMentioned f (path_in scope name)) flat scope n (Ok longer) (Ok (with_new (tie flat local) name))
-  new_agrees =
-      (local_with (net_list flat) local name,
-       ap (λ (net : NetList). state_with net flat.instances (local_with (net_list flat) local name)) net_longer,
-       tied_then,
-       (path_in scope name ∷ [], refl, (([], ap trail_of own ∙ sym (append-nil scope.trail)), tt)),
-       here_then)
+  new_agrees = (
+    local_with (net_list flat) local name,
+    ap (λ (net : NetList). state_with net flat.instances (local_with (net_list flat) local name)) net_longer,
+    tied_then,
+    (path_in scope name ∷ [], refl, (([], ap trail_of own ∙ sym (append-nil scope.trail)), tt)),
+    here_then,
+  )
 
 module _ (flat : Flat) (local : Local) (scope : Scope) (n : ℕ) (tied : Tied flat local scope n) where
   pub mention_agrees : (name : Token) → Agree (λ f. IsMentioned f (path_in scope name)) flat scope n (after_step flat (Mention (path_in scope name))) (local_step (tie flat local) (Mention name))
@@ -196,19 +197,20 @@ module _ (flat : Flat) (local : Local) (scope : Scope) (n : ℕ) (tied : Tied fl
 
   -- what is placed changes no name
   placed : (net : NetList) (new : Flat) → new.paths ≡ flat.paths → new.instances ≡ flat.instances → net_list new ≡ net → Agree Anything flat scope n (Ok new) (Ok (on_net (tie flat local) net))
-  placed net new paths instances is =
-      (local,
-       ap (λ (x : NetList). state_with x new.instances local) is ∙ ap (λ i. state_with net i local) instances,
-       record {
-         known = λ q. labels q ∙ (tied.known q ∙ ap (λ (ps : List Path). place_from 0 ps (path_in scope q)) (sym paths));
-         prefix = tied.prefix;
-         in_top = tied.in_top;
-         top_owns = tied.top_owns;
-         owned = λ q. elim (tied.owned q) [ inl h ↦ inl h | inr (k, at) ↦ inr (k, ap (λ (ps : List Path). place_from 0 ps (path_in scope q)) paths ∙ at) ];
-         fresh = let P : List Path → Type 0 = Each (IsFresh scope.trail n) in subst P (sym paths) tied.fresh;
-       },
-       grows_none scope.trail flat new paths,
-       tt)
+  placed net new paths instances is = (
+    local,
+    ap (λ (x : NetList). state_with x new.instances local) is ∙ ap (λ i. state_with net i local) instances,
+    record {
+      known = λ q. labels q ∙ (tied.known q ∙ ap (λ (ps : List Path). place_from 0 ps (path_in scope q)) (sym paths));
+      prefix = tied.prefix;
+      in_top = tied.in_top;
+      top_owns = tied.top_owns;
+      owned = λ q. elim (tied.owned q) [ inl h ↦ inl h | inr (k, at) ↦ inr (k, ap (λ (ps : List Path). place_from 0 ps (path_in scope q)) paths ∙ at) ];
+      fresh = let P : List Path → Type 0 = Each (IsFresh scope.trail n) in subst P (sym paths) tied.fresh;
+    },
+    grows_none scope.trail flat new paths,
+    tt,
+  )
     where
       labels : (q : Token) → found_by (net_list new) local q ≡ found_by (net_list flat) local q
       labels q = by local

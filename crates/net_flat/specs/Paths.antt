@@ -1,7 +1,7 @@
 -- The nets of a walk through instances, and what they are called. Source: the Berkeley Logic Interchange Format (BLIF), University of California, Berkeley.
 use Rattle.std.specs.Prelude.{ℕ, ◌&&◌, Bool, true, false, List, [], ◌∷◌, ◌++◌, map, codes, if◌then◌else◌}
 use Rattle.std.specs.Fmt.{decimal}
-use Rattle.std.specs.List.{pointwise}
+use Rattle.std.specs.Cmp.Lexicographic.{pointwise}
 use Rattle.std.specs.Str.{bytes_eq}
 use Rattle.std.specs.Prelude.{nat_eq}
 use Rattle.net_core.specs.NetList.{LabelValue}

@@ -119,7 +119,8 @@ impl Walker {
             model,
             connections,
             ..
-        } = item else {
+        } = item
+        else {
             return self.place(item);
         };
         let Some((inside, outer)) = self.enter(design, number, model.bytes(), connections)? else {

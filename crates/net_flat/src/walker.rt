@@ -128,7 +128,8 @@ impl Walker {
         ensures number { IfOk result (λ n. found (state_of self.new) name.now ≡ Some n) }
         ensures made { OnOk result (local_step (state_of self.old) (Mention name.now) ≡ Ok (state_of self.new)) }
         ensures inside { OnOk result (AreInside (state_of self.new)) }
-        ensures kept { self.new.inputs ≡ self.old.inputs }
+        ensures top { self.new.scope.is_top ≡ self.old.scope.is_top }
+        ensures kept { self.new.inputs.items ≡ self.old.inputs.items }
         ensures fault { IfErr result (IsFaultOf (local_step (state_of self.old) (Mention name.now))) }
     {
         let text = text_of(name);
@@ -150,13 +151,16 @@ impl Walker {
         requires name { IsToken name.now }
         requires inside { AreInside (state_of self.old) }
         ensures made { OnOk result (local_walked (state_of self.old) (input_steps (is_in_top (state_of self.old).local) name.now) ≡ Ok (state_of self.new)) }
+        ensures top { is_in_top (state_of self.new).local ≡ is_in_top (state_of self.old).local }
         ensures inside { OnOk result (AreInside (state_of self.new)) }
         ensures fault { IfErr result (IsFaultOf (local_walked (state_of self.old) (input_steps (is_in_top (state_of self.old).local) name.now))) }
     {
+        let is_top = self.scope.is_top;
         let number = self.mention(name)?;
-        if self.scope.is_top {
-            self.maker.input(number)?;
+        if !is_top {
+            return Ok(());
         }
+        self.maker.input(number)?;
         Ok(())
     }
 
@@ -165,13 +169,16 @@ impl Walker {
         requires name { IsToken name.now }
         requires inside { AreInside (state_of self.old) }
         ensures made { OnOk result (local_walked (state_of self.old) (output_steps (is_in_top (state_of self.old).local) name.now) ≡ Ok (state_of self.new)) }
+        ensures top { is_in_top (state_of self.new).local ≡ is_in_top (state_of self.old).local }
         ensures inside { OnOk result (AreInside (state_of self.new)) }
         ensures fault { IfErr result (IsFaultOf (local_walked (state_of self.old) (output_steps (is_in_top (state_of self.old).local) name.now))) }
     {
+        let is_top = self.scope.is_top;
         let number = self.mention(name)?;
-        if self.scope.is_top {
-            self.maker.output(number)?;
+        if !is_top {
+            return Ok(());
         }
+        self.maker.output(number)?;
         Ok(())
     }
 
@@ -220,7 +227,12 @@ impl Walker {
     }
 
     // Adds a gate on the nets of names.
-    fn place_gate(&mut self, inputs: &TokenSlice<'_>, out: &[u8], table: u64) -> Result<(), FlatFault>
+    fn place_gate(
+        &mut self,
+        inputs: &TokenSlice<'_>,
+        out: &[u8],
+        table: u64,
+    ) -> Result<(), FlatFault>
         requires inputs { All IsToken inputs.now }
         requires few { length inputs.now ≤ 6 }
         requires out { IsToken out.now }
@@ -275,6 +287,7 @@ impl Walker {
         requires sides { IsTrue (is_connection connection.now) }
         requires inside { AreInside (state_of self.old) }
         ensures number { IfOk result (λ n. found (state_of self.new) (actual_of connection.now) ≡ Some n) }
+        ensures kept { self.new.inputs.items ≡ self.old.inputs.items }
         ensures made { OnOk result (local_step (state_of self.old) (Mention (actual_of connection.now)) ≡ Ok (state_of self.new)) }
         ensures inside { OnOk result (AreInside (state_of self.new)) }
         ensures fault { IfErr result (IsFaultOf (local_step (state_of self.old) (Mention (actual_of connection.now)))) }

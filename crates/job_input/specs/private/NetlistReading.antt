@@ -8,13 +8,13 @@ use Rattle.net_aiger.specs.declared.fault.AigerFault.{AigerFault}
 use Rattle.net_aiger.specs.declared.fault.AigerFault.TheVariants as aigers
 use Rattle.net_blif.specs.declared.fault.BlifFault.{BlifFault}
 use Rattle.net_blif.specs.declared.fault.BlifFault.TheVariants as texts
-use Rattle.net_blif.specs.declared.flat_fault.FlatFault.{FlatFault}
-use Rattle.net_blif.specs.declared.flat_fault.FlatFault.TheVariants as flats
+use Rattle.net_flat.specs.declared.flat_fault.FlatFault.{FlatFault}
+use Rattle.net_flat.specs.declared.flat_fault.FlatFault.TheVariants as flats
 use Rattle.net_words.specs.declared.binding.BindFault.{BindFault}
 use Rattle.net_words.specs.declared.binding.BindFault.TheVariants as binds
 use Rattle.job_words.specs.declared.netlist_fault.NetlistFault.{NetlistFault}
 use Rattle.job_words.specs.declared.netlist_fault.NetlistFault.TheVariants as netlist
-use Rattle.job_input.specs.NetlistOf.{of_aiger, of_text, of_net}
+use Rattle.job_input.specs.NetlistOf.{of_model, of_aiger, of_text, of_net}
 use Rattle.job_input.specs.declared.netlist.Refusal.{Refusal}
 use Rattle.job_input.specs.declared.netlist.Refusal.TheVariants.{Fault, OutOfMemory}
 
@@ -45,6 +45,7 @@ net_refusal fault = Fault (of_net fault)
 -- the refusal of a model's net
 abbrev pub model_refusal : FlatFault → Refusal
 model_refusal (flats.Net fault) = net_refusal fault
+model_refusal flats.TooManyInstances = Fault (of_model flats.TooManyInstances)
 model_refusal flats.OutOfMemory = OutOfMemory
 
 -- the refusal of a text in ASCII AIGER

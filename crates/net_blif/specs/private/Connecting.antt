@@ -1,10 +1,10 @@
 -- Connections looked up in tables, name by name. Source: this project's own.
-use Rattle.std.specs.Prelude.{◌≡◌, ◌⊎◌, ℕ, Bool, not, List, [], ◌∷◌, ◌++◌, map, All, Option, None, Some, is_some, if◌then◌else◌}
+use Rattle.std.specs.Prelude.{◌≡◌, ◌⊎◌, ℕ, Bool, not, List, [], ◌∷◌, ◌++◌, Option, None, Some, is_some, if◌then◌else◌}
 use Rattle.std.specs.List.{list_all}
 use Rattle.net_blif.specs.Connection.{formal_of}
-use Rattle.net_blif.specs.Statement.{Token, IsToken}
+use Rattle.net_blif.specs.Statement.{Token}
 use Rattle.net_blif.specs.Table.{no_numbers, numbers_in, with_number, Numbers}
-use Rattle.net_blif.specs.Instances.{formals_of, inputs_in, inputs_of, is_among, or_else, outputs_in}
+use Rattle.net_blif.specs.Instances.{inputs_in, or_else, outputs_in}
 use Rattle.net_blif.specs.declared.item.Item.{Item}
 use Rattle.net_blif.specs.declared.formal_set.Formals.{Formals}
 use Rattle.net_blif.specs.declared.fault.BlifFault.{BlifFault}

@@ -4,12 +4,18 @@ use Rattle.std.specs.List.{list_any}
 use Rattle.graph_core.specs.Graph.{Graph, edges}
 use Rattle.net_blif.specs.Chains.{leads_on}
 
--- a mark for each point
-pub record LeadOn (graph : Graph) (n : ℕ) (marks : List Bool) : Type 0 where
-  pub long : length marks ≡ length graph
-  pub each : (a : ℕ) → a < length graph → slice_get marks a ≡ Some (leads_on graph n a)
+-- a mark for each of the first n points
+pub record AreMarks (mark : ℕ → Bool) (n : ℕ) (marks : List Bool) : Type 0 where
+  pub long : length marks ≡ n
+  pub each : (a : ℕ) → a < n → slice_get marks a ≡ Some (mark a)
 
--- the points that lead to marked ones
-pub record LeadTo (graph : Graph) (marks more : List Bool) : Type 0 where
-  pub long : length more ≡ length graph
-  pub each : (a : ℕ) → a < length graph → slice_get more a ≡ Some (list_any (λ b. slice_index_or marks b false) (edges graph a))
+-- the points from which n edges lead on
+abbrev pub LeadOn : Graph → ℕ → List Bool → Type 0
+LeadOn graph n marks = AreMarks (leads_on graph n) (length graph) marks
+
+-- whether a point leads to a marked one
+abbrev pub leads_to : Graph → List Bool → ℕ → Bool
+leads_to graph marks a = list_any (λ b. slice_index_or marks b false) (edges graph a)
+
+abbrev pub LeadTo : Graph → List Bool → List Bool → Type 0
+LeadTo graph marks more = AreMarks (leads_to graph marks) (length graph) more

@@ -1,7 +1,7 @@
-use Rattle.std.proofs.Common.{◌≡◌, ◌∙◌, ap, List, Some}
+use Rattle.std.proofs.Common.{◌∙◌, ap, List}
 use Rattle.std.specs.Prelude.{slice_get, slice_range}
 use Rattle.net_blif.specs.Statement.{Token}
-use Rattle.net_blif.specs.declared.item.Item.TheVariants.{Inputs, Outputs, Gate, Latch}
+use Rattle.net_blif.specs.declared.item.Item.TheVariants.{Inputs, Outputs, Gate}
 use Rattle.net_blif.specs.declared.item_list.Place.{Place}
 use Rattle.net_blif.proofs.PlaceLemmas.{found_item, found_sound}
 use Rattle.net_blif.proofs.item_list.ItemList.get.Goals as goal

@@ -1,4 +1,4 @@
-use Rattle.std.proofs.Common.{rules, ◌≡◌, ◌∙◌, ap, ◌<◌, ◌≤◌, ◌++◌, List, [], length, take}
+use Rattle.std.proofs.Common.{rules, ◌≡◌, ◌∙◌, ap, ◌<◌, ◌++◌, List, length, take}
 use Rattle.std.proofs.Math.Seq.{take-length}
 use Rattle.net_blif.specs.Statement.{Token}
 use Rattle.net_blif.proofs.TokenLemmas.{appended_more}

@@ -1,4 +1,4 @@
-use Rattle.std.proofs.Common.{◌≡◌, ◌∙◌, ap, List, map}
+use Rattle.std.proofs.Common.{◌∙◌, ap, List, map}
 use Rattle.std.specs.Prelude.{slice_range}
 use Rattle.net_blif.specs.Statement.{Token}
 use Rattle.net_blif.specs.Tokens.{token_at}

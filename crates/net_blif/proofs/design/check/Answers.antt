@@ -1,0 +1,23 @@
+use Rattle.std.proofs.Common.{rules, ◌≡◌, ◌⊎◌, Err}
+use Rattle.net_blif.specs.Models.{AreRight}
+use Rattle.net_blif.specs.declared.fault.BlifFault.TheVariants.{OutOfMemory}
+use Rattle.net_blif.proofs.RightLemmas.{right, wrong_depth, wrong_formals, wrong_walk}
+use Rattle.net_blif.proofs.design.check.Goals as goal
+
+pub returns-in_err-check_instances-clause-fault : goal.returns-in_err-check_instances-clause-fault
+returns-in_err-check_instances-clause-fault c =
+    let fault : (c.in_err-check_instances.field-0.0 ≡ OutOfMemory) ⊎ AreRight c.args.models.now (Err c.in_err-check_instances.field-0.0) = wrong_formals c.args.models.now c.in_err-check_instances.field-0.0 OutOfMemory c.in_err-check_instances.ensures.fault in
+    search rules
+
+pub returns-in_err-check_walk-clause-fault : goal.returns-in_err-check_walk-clause-fault
+returns-in_err-check_walk-clause-fault c =
+    let fault : (c.in_err-check_walk.field-0.0 ≡ OutOfMemory) ⊎ AreRight c.args.models.now (Err c.in_err-check_walk.field-0.0) = wrong_walk c.args.models.now c.in_err-check_walk.field-0.0 OutOfMemory c.in_ok-check_instances.ensures.right c.in_err-check_walk.ensures.fault in
+    search rules
+
+pub returns-in_err-check_depth-clause-fault : goal.returns-in_err-check_depth-clause-fault
+returns-in_err-check_depth-clause-fault c =
+    let fault : (c.in_err-check_depth.field-0.0 ≡ OutOfMemory) ⊎ AreRight c.args.models.now (Err c.in_err-check_depth.field-0.0) = wrong_depth c.args.models.now c.in_err-check_depth.field-0.0 OutOfMemory c.in_ok-check_instances.ensures.right c.in_ok-check_walk.ensures.ends c.in_err-check_depth.ensures.fault in
+    search rules
+
+pub returns-clause-right : goal.returns-clause-right
+returns-clause-right c = right c.args.models.now c.in_ok-check_instances.ensures.right c.in_ok-check_walk.ensures.ends c.in_ok-check_depth.ensures.within

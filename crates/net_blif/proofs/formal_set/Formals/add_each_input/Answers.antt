@@ -1,0 +1,9 @@
+use Rattle.std.proofs.Common.{◌<◌, [], length}
+use Rattle.net_blif.specs.private.Connecting.{formals_in, with_input}
+use Rattle.net_blif.proofs.StepLemmas.{after_step}
+use Rattle.net_blif.proofs.formal_set.Formals.add_each_input.Goals as goal
+
+pub loop-place-preserved : goal.loop-place-preserved
+loop-place-preserved c =
+    let less : c.loop-place.place < length c.args.names.now = rw c.len-place-end.ensures at c.loop-place-test.true in
+    after_step with_input c.args.names.now c.loop-place.place c.get.result.now [] _ (formals_in c.loop-place.self) (formals_in c.add_input.new.self) less c.get.ensures c.loop-place.invariant c.in_ok-add_input.ensures

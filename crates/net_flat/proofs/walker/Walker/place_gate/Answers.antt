@@ -1,0 +1,37 @@
+use Rattle.std.proofs.Common.{rules, ◌≡◌, ◌∙◌, ap, ◌∷◌, [], map, Err}
+use Rattle.net_core.specs.NetList.{NetList}
+use Rattle.net_flat.specs.Steps.{gate_steps, Mention, Gate}
+use Rattle.net_flat.specs.private.LocalWalk.{local_walked, number_in, IsFaultOf}
+use Rattle.net_flat.proofs.StateLemmas.{found_inside, gate_made, gate_numbers, gate_out_refused, gate_refused, inside_as, refused_front}
+use Rattle.net_flat.specs.private.WalkerState.{state_of}
+use Rattle.net_flat.proofs.walker.Walker.place_gate.Goals as goal
+
+pub returns-in_err-mention_all-clause-fault : goal.returns-in_err-mention_all-clause-fault
+returns-in_err-mention_all-clause-fault c =
+    let fault : IsFaultOf (local_walked (state_of c.args.self.now) (gate_steps c.args.inputs.now c.args.out.now c.args.table)) c.in_err-mention_all.field-0.0 = refused_front (state_of c.args.self.now) c.in_err-mention_all.field-0.0 (map Mention c.args.inputs.now) (Mention c.args.out.now ∷ Gate c.args.inputs.now c.args.out.now c.args.table ∷ []) c.in_err-mention_all.ensures.fault in
+    search rules
+
+pub returns-in_err-number-clause-fault : goal.returns-in_err-number-clause-fault
+returns-in_err-number-clause-fault c =
+    let fault : IsFaultOf (local_walked (state_of c.args.self.now) (gate_steps c.args.inputs.now c.args.out.now c.args.table)) c.in_err-number.field-0.0 = gate_out_refused (state_of c.args.self.now) (state_of c.mention_all.new.self) (state_of c.mention_all.new.self) c.args.inputs.now c.args.out.now c.args.table c.in_ok-mention_all.ensures.made c.in_err-number.field-0.0 c.in_err-number.ensures.fault in
+    search rules
+
+pub gate-requires-clause-out : goal.gate-requires-clause-out
+gate-requires-clause-out c = found_inside (state_of c.mention.new.self) c.args.out.now c.in_ok-number.number c.in_ok-number.ensures.inside c.in_ok-number.ensures.number
+
+pub gate-requires-clause-inputs : goal.gate-requires-clause-inputs
+gate-requires-clause-inputs c =
+    let are : c.as_slice.result.now ≡ map (number_in (state_of c.mention_all.new.self)) c.args.inputs.now = c.as_slice.ensures.value ∙ (c.mention.ensures.kept ∙ c.in_ok-mention_all.ensures.numbers) in
+    (gate_numbers (state_of c.mention_all.new.self) (state_of c.mention.new.self) c.args.inputs.now c.args.out.now c.as_slice.result.now c.in_ok-number.ensures.made c.in_ok-number.ensures.inside c.in_ok-mention_all.ensures.found are).1
+
+pub returns-in-Ok-clause-made : goal.returns-in-Ok-clause-made
+returns-in-Ok-clause-made c =
+    let are : c.as_slice.result.now ≡ map (number_in (state_of c.mention_all.new.self)) c.args.inputs.now = c.as_slice.ensures.value ∙ (c.mention.ensures.kept ∙ c.in_ok-mention_all.ensures.numbers) in
+    let h = gate_numbers (state_of c.mention_all.new.self) (state_of c.mention.new.self) c.args.inputs.now c.args.out.now c.as_slice.result.now c.in_ok-number.ensures.made c.in_ok-number.ensures.inside c.in_ok-mention_all.ensures.found are in
+    gate_made (state_of c.args.self.now) (state_of c.mention_all.new.self) (state_of c.mention.new.self) c.args.inputs.now c.args.out.now c.args.table c.in_ok-mention_all.ensures.made c.in_ok-number.ensures.made c.as_slice.result.now c.in_ok-number.number c.gate.new.self h.0 c.in_ok-number.ensures.number c.in-Ok.ensures.made c.in-Ok.ensures.room
+
+pub returns-in-Ok-clause-inside : goal.returns-in-Ok-clause-inside
+returns-in-Ok-clause-inside c = inside_as (state_of c.mention.new.self) c.gate.new.self (ap (λ (n : NetList). n.labels) c.in-Ok.ensures.made) c.in_ok-number.ensures.inside
+
+pub returns-in-Err-clause-fault : goal.returns-in-Err-clause-fault
+returns-in-Err-clause-fault c = gate_refused (state_of c.args.self.now) (state_of c.mention_all.new.self) (state_of c.mention.new.self) c.args.inputs.now c.args.out.now c.args.table c.in_ok-mention_all.ensures.made c.in_ok-number.ensures.made c.in-Err.fault c.fault_of.result c.fault_of.ensures c.in-Err.ensures.only (λ e. c.in-Err.ensures.full (ap Err e))
