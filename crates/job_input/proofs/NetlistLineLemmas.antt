@@ -150,4 +150,4 @@ bound_keeps words feeds net fault names labels (inr (bound, is, unrolled)) = cyc
 
 pub netlist_keeps : (signature : SignatureValue) (text : NetlistText) (fault : NetlistFault) → HaveNames signature.words → BoundNetOf signature text (Err fault) → NetlistKeeps fault
 netlist_keeps signature text fault names (inl is) = net_fault_keeps text fault is
-netlist_keeps signature text fault names (inr (net, is, wrong)) = bound_keeps signature.words _ net fault names (net_labels text net is) wrong
+netlist_keeps signature text fault names (inr (net, is, wrong)) = bound_keeps signature.words signature.feeds net fault names (net_labels text net is) wrong
