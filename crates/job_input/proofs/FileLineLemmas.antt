@@ -6,22 +6,31 @@ use Rattle.std.proofs.lemmas.List.Elements.{All-weaker}
 use Rattle.text_core.specs.Outcome.{Within}
 use Rattle.job_io.specs.Shelf.{Files}
 use Rattle.net_core.specs.Lists.{Has}
-use Rattle.net_signature.specs.Signature.{SignatureValue}
+use Rattle.gf_tower.specs.declared.any_field.FieldFault.{FieldFault}
+use Rattle.gf_tower.specs.declared.any_field.FieldFault.TheVariants as fields
+use Rattle.net_signature.specs.Signature.{Sig, SignatureValue}
+use Rattle.net_signature.specs.Statement.{IsNetToken}
+use Rattle.net_signature.specs.declared.fault.SigFault.{SigFault}
+use Rattle.net_signature.specs.declared.fault.SigFault.TheVariants as texts
+use Rattle.net_signature.proofs.ModelLemmas.{model_is_token}
 use Rattle.net_signature.specs.WordNames.{HaveNames}
 use Rattle.net_words.specs.declared.word.Role.{Role}
 use Rattle.net_words.specs.declared.word.Role.TheVariants.{Input, State, Fed, Output}
 use Rattle.net_words.specs.declared.word.WordText.{WordText}
 use Rattle.poly_mixed.specs.Labels.{Labelling}
 use Rattle.spec_expand.specs.Specification.{SpecTerms}
-use Rattle.job_words.specs.OneLine.{HasNoLineFeed, KeepsToItsLine, repeated_of_file}
+use Rattle.job_words.specs.OneLine.{HasNoLineFeed, KeepsToItsLine, repeated_of_file, repeated_of_signature}
 use Rattle.job_words.specs.Operands.{IsOperand, Word}
 use Rattle.job_words.specs.declared.fault.Fault.{Fault}
 use Rattle.job_words.specs.declared.fault.Fault.TheVariants as faults
 use Rattle.job_words.specs.declared.file_fault.FileFault.{FileFault}
 use Rattle.job_words.specs.declared.file_fault.FileFault.TheVariants as file
+use Rattle.job_words.specs.declared.signature_fault.SignatureFault.{SignatureFault}
+use Rattle.job_input.specs.FieldOf.{field_fault}
 use Rattle.job_input.specs.File.{Read}
 use Rattle.job_input.specs.Labelling.{labels_of, word_label, word_labels}
 use Rattle.job_input.specs.NetlistOf.{CircuitIn, by_ending}
+use Rattle.job_input.specs.SettingOf.{SignedOf, text_fault}
 use Rattle.job_input.specs.SignedIn.{SignedIn}
 use Rattle.job_input.specs.SpecificationIn.{SpecificationIn}
 use Rattle.job_input.proofs.NetlistLineLemmas.{name_kept, netlist_keeps}
@@ -40,9 +49,43 @@ read_keeps held name (file.TooLong other) kept is = let P : Word → Type 0 = Ha
 file_keeps : (held : Option Files) (name : Word) (fault : Fault) → HasNoLineFeed name → Within faults.File (Read held name) (Err fault) → KeepsToItsLine fault
 file_keeps held name fault kept (other, is, same) = same_line fault (faults.File other) same (read_keeps held name other kept is)
 
+plain_kept : (token : Word) → IsNetToken token → HasNoLineFeed token
+plain_kept token is = All-weaker (λ b. (33 ≤ b) × (b ≤ 126) × (b ≢ 92)) (λ b. b ≢ 10) (λ b plain e. absurd (omega (arith, plain.0, e))) token is.0
+
+-- the model that a fault of the text names has no line feed
+text_keeps : (text : List ℕ) (fault : SigFault) → Sig text (Err fault) → AllByRecursion HasNoLineFeed (repeated_of_signature (text_fault fault))
+text_keeps text (texts.Syntax line) is = tt
+text_keeps text (texts.NameTwice line) is = tt
+text_keeps text (texts.NoFedWord line) is = tt
+text_keeps text (texts.FeedTwice line) is = tt
+text_keeps text (texts.TwoOutputs line) is = tt
+text_keeps text (texts.TooManyWords line) is = tt
+text_keeps text (texts.NoOutput None) is = tt
+text_keeps text (texts.NoOutput (Some model)) is = (plain_kept model (model_is_token text model is), tt)
+text_keeps text texts.OutOfMemory is = tt
+
+field_keeps : (fault : FieldFault) → AllByRecursion HasNoLineFeed (repeated_of_signature (field_fault fault))
+field_keeps fields.BadDegree = tt
+field_keeps fields.NotIrreducible = tt
+field_keeps fields.BadLength = tt
+field_keeps (fields.BadCoefficient place) = tt
+field_keeps fields.TowerNotIrreducible = tt
+field_keeps fields.UpperBadLength = tt
+field_keeps (fields.UpperBadCoefficient place) = tt
+field_keeps fields.UpperNotIrreducible = tt
+
+same_signature : (fault other : SignatureFault) → fault ≡ other → AllByRecursion HasNoLineFeed (repeated_of_signature other) → AllByRecursion HasNoLineFeed (repeated_of_signature fault)
+same_signature fault other same keeps = let P : SignatureFault → Type 0 = λ f. AllByRecursion HasNoLineFeed (repeated_of_signature f) in subst P (sym same) keeps
+
+signature_keeps : (text : List ℕ) (fault : SignatureFault) → SignedOf text (Err fault) → AllByRecursion HasNoLineFeed (repeated_of_signature fault)
+unfolding SignedOf
+signature_keeps text fault (inl (other, is, same)) = same_signature fault (text_fault other) same (text_keeps text other is)
+signature_keeps text fault (inr (said, says, inl (other, is, same))) = same_signature fault (field_fault other) same (field_keeps other)
+signature_keeps text fault (inr (said, says, inr (field, named, never))) = absurd never
+
 pub signed_keeps : (held : Option Files) (name : Word) (fault : Fault) → HasNoLineFeed name → SignedIn held name (Err fault) → KeepsToItsLine fault
 signed_keeps held name fault kept (inl is) = file_keeps held name fault kept is
-signed_keeps held name fault kept (inr (text, read, (other, is, same))) = same_line fault (faults.Signature other) same tt
+signed_keeps held name fault kept (inr (text, read, (other, is, same))) = same_line fault (faults.Signature other) same (signature_keeps text other is)
 
 pub circuit_keeps : (held : Option Files) (signature : SignatureValue) (name : Word) (fault : Fault) → HaveNames signature.words → HasNoLineFeed name → CircuitIn held signature name (Err fault) → KeepsToItsLine fault
 circuit_keeps held signature name fault names kept (inl is) = file_keeps held name fault kept is

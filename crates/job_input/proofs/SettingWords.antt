@@ -12,6 +12,7 @@ use Rattle.job_input.specs.SettingOf.{feeds_within, HasWidth, BasesOf, SettingOf
 use Rattle.job_input.specs.Setting.{AreSaid}
 use Rattle.job_input.specs.SettingValue.{SettingValue}
 use Rattle.job_input.proofs.FieldLemmas.{field_some, field_most}
+use Rattle.job_input.proofs.PlaceLemmas.{places_below}
 use Rattle.job_input.proofs.SignedLemmas.{setting_parts}
 
 -- ---- bases
@@ -46,7 +47,7 @@ bases_long k product words bases are = as_many k product words bases are
 pub text_said : (bytes : List ℕ) (said : SignatureValue) → Sig bytes (Ok said) → AreSaid said
 text_said bytes said ok =
     let counts = sig_counts bytes said ok in
-    record { output = counts.0; others = counts.1; names = sig_names bytes said ok; feeds = λ k within. feeds_are bytes said k ok within }
+    record { output = counts.0; others = counts.1; names = sig_names bytes said ok; feeds = λ k within. feeds_are bytes said k ok (places_below k said.feeds within) }
 
 pub setting_words : (bytes : List ℕ) (value : SettingValue) → SettingOf bytes (Ok value) → AreWords value.k value.signature.words
 setting_words bytes value is =
@@ -64,4 +65,4 @@ pub setting_feeds : (bytes : List ℕ) (value : SettingValue) → SettingOf byte
 setting_feeds bytes value is =
     let parts = setting_parts bytes value is in
     let P : SettingValue → Type 0 = λ v. AreFeeds v.k (map (λ word. word.role) v.signature.words) v.signature.feeds in
-    subst P (sym parts.value_is) (feeds_are bytes parts.said parts.field.k parts.says parts.within)
+    subst P (sym parts.value_is) (feeds_are bytes parts.said parts.field.k parts.says (places_below parts.field.k parts.said.feeds parts.within))
