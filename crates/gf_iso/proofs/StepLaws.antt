@@ -1,6 +1,6 @@
 -- The steps of the code, over plain lists and numbers.
 use Rattle.std.proofs.Common.{◌≡◌, ◌≢◌, ℕ, suc, refl, sym, inl, inr, pow_pos, ◌∙◌, ap, ap₂, ◌<◌, ◌≤◌, ◌^◌, ◌+◌, arith, add-one, subst, List, length, take, set, get_or, get_or-set_same, get_or-set_other}
-use Rattle.std.specs.Prelude.{bit_xor, Option}
+use Rattle.std.specs.Prelude.{bit_xor, Option, None, Some, IsSome}
 use Rattle.std.proofs.lemmas.List.{length-take-le, get_or-take, get_or_past}
 use Rattle.std.proofs.lemmas.Bool.{cases_eq, cases_lt}
 use Rattle.gf_field.specs.Ring.{IsRing}
