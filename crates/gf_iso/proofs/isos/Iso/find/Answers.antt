@@ -1,4 +1,4 @@
-use Rattle.std.proofs.Common.{◌≡◌, ℕ, ◌∙◌, sym, ap, ◌<◌, ◌≤◌, ◌^◌, List, length}
+use Rattle.std.proofs.Common.{◌≡◌, ℕ, ◌∙◌, sym, ap, ◌<◌, ◌≤◌, ◌^◌, arith, length}
 use Rattle.gf_field.specs.Ring2k.{degree_of, modulus_of}
 use Rattle.irreducible.specs.Proved.{ring_of}
 use Rattle.gf_tower.specs.TowerParts.{base_of, coefficients_of}
@@ -9,7 +9,8 @@ pub overflow_cast-modulus : goal.overflow_cast-modulus
 overflow_cast-modulus c =
     let n_is : c.k-n.result ≡ degree_of (ring_of (base_of (ring_of c.args.tower.now))) = rw (← c.ring.ensures, ← c.base-base.ensures) c.k-n.ensures in
     let g_is : c.modulus-modulus.result ≡ modulus_of (ring_of (base_of (ring_of c.args.tower.now))) = rw (← c.ring.ensures, ← c.base-base.ensures, ← c.ring-3.ensures) c.modulus-modulus.ensures in
-    rw (g_is) (modulus_word _ _ c.args.tower.now.ring.base.ring.fits (rw (n_is) at c.if-n-gt16.false))
+    let word : c.modulus-modulus.result < 2 ^ 64 = rw (g_is) (modulus_word _ _ c.args.tower.now.ring.base.ring.fits (rw (n_is) at c.if-n-gt16.false)) in
+    omega arith
 
 pub found-requires-clause-tower : goal.found-requires-clause-tower
 found-requires-clause-tower c =
