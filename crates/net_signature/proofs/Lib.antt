@@ -11,5 +11,6 @@ pub mod BodyLemmas
 pub mod SignatureLemmas
 pub mod NamesLemmas
 pub mod ModelLemmas
+pub mod FeedLemmas
 pub mod SigDetermined
 mod Examples
