@@ -7,7 +7,6 @@ use Rattle.gf_field.specs.ModulusLaws.{modulus_below}
 use Rattle.gf_field.specs.Quotient.{product}
 use Rattle.gf_tower.specs.Tower.{tower_polynomial}
 use Rattle.gf_tower.specs.Digits.{IsPackedList}
-use Rattle.gf_tower.specs.FieldName.{tower_product}
 use Rattle.gf_iso.specs.Isomorphism.{HasOnlyIso}
 use Rattle.gf_iso.specs.private.Fields.{IsTowerField}
 use Rattle.gf_iso.proofs.UniqueLaws.{only_iso}

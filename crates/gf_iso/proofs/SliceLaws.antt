@@ -1,5 +1,5 @@
 -- The search, at the first word of a slice and the rest.
-use Rattle.std.proofs.Common.{◌≡◌, ℕ, zero, suc, refl, sym, ◌∙◌, ap, ◌<◌, ◌≤◌, ◌^◌, ◌-◌, arith, subst, List, [], ◌∷◌, length, take, drop, get_or}
+use Rattle.std.proofs.Common.{◌≡◌, ℕ, suc, sym, ◌∙◌, ap, ◌<◌, ◌≤◌, ◌^◌, ◌-◌, arith, subst, List, [], ◌∷◌, length, take, drop, get_or}
 use Rattle.std.specs.Prelude.{bit_xor, Option}
 use Rattle.std.proofs.Math.Seq.{take-length}
 use Rattle.gf_iso.specs.private.Search.{IsLeastOf, IsLesserOf}
