@@ -1,6 +1,6 @@
 -- Into an instance and through the lines of its model, by tables.
-use Rattle.std.proofs.Common.{◌≡◌, ◌⊎◌, ◌∙◌, inl, inr, ap, sym, refl, subst, ℕ, zero, suc, ◌<◌, ◌≤◌, ◌+◌, ◌-◌, Bool, true, false, cond, List, [], ◌∷◌, map, length, drop, get_or, Option, None, Some, Result, Ok, Err, arith, drop-cons, add-one}
-use Rattle.std.specs.Prelude.{slice_get, unwrap_or}
+use Rattle.std.proofs.Common.{◌≡◌, ◌∙◌, ap, sym, subst, ℕ, zero, suc, ◌<◌, ◌≤◌, ◌+◌, ◌-◌, Bool, true, false, cond, List, [], ◌∷◌, map, length, drop, get_or, Option, Some, Result, Ok, arith, drop-cons, add-one}
+use Rattle.std.specs.Prelude.{slice_get, unwrap_or, IfSome}
 use Rattle.std.specs.Option.{option_map_or}
 use Rattle.std.specs.Str.{bytes_eq}
 use Rattle.std.proofs.lemmas.Option.{get_or_from_slice_get, slice_get_past, slice_get_within}
@@ -13,13 +13,12 @@ use Rattle.net_blif.specs.Design.{ModelValue, items_of, model_named}
 use Rattle.net_blif.specs.declared.item.Item.{Item}
 use Rattle.net_blif.specs.declared.item.Item.TheVariants as items
 use Rattle.net_flat.specs.Flat.{on_value}
-use Rattle.net_flat.specs.Steps.{steps_of}
 use Rattle.net_flat.specs.Walk.{next_number}
 use Rattle.net_flat.specs.declared.flat_fault.FlatFault.{FlatFault}
 use Rattle.net_flat.specs.declared.scope.Scope.{Scope}
 use Rattle.net_flat.specs.private.Entering.{HasEntered}
 use Rattle.net_flat.specs.private.LocalScope.{local_in}
-use Rattle.net_flat.specs.private.LocalWalk.{back_to, entered, found, is_in_top, local_body, local_line, local_lines, local_walked, local_within, number_in, numbers_of, state_with, AreInside, HasEach, IsFaultOf, State}
+use Rattle.net_flat.specs.private.LocalWalk.{back_to, entered, local_body, local_line, local_lines, local_within, number_in, numbers_of, state_with, AreInside, HasEach, IsFaultOf, State}
 use Rattle.net_flat.proofs.SameLemmas.{local_walk_none, local_walk_step}
 use Rattle.net_flat.proofs.StateLemmas.{inside_more, keeps_within, refused_on, refused_same}
 
@@ -110,9 +109,16 @@ walk_lines depth design s model lines some are =
     ap (λ d. local_within d design s model) (sym same) ∙ (local_walk_step (depth - 1) design s model ∙ ap (local_lines (local_within (depth - 1) design) design s 1) (sym are))
 
 -- at most one instance a line
-pub few_next : (n place : ℕ) (item : Item) → n ≤ place + 1 → next_number n item ≤ place + 1 + 1
-few_next n place (items.Inputs list) few = omega (arith, few)
-few_next n place (items.Outputs list) few = omega (arith, few)
-few_next n place (items.Gate line inputs out table) few = omega (arith, few)
-few_next n place (items.Latch line next out start) few = omega (arith, few)
-few_next n place (items.Instance line model connections) few = omega (arith, few)
+pub few_met : (met more place : ℕ) (item : Item) → met ≤ place → more + 1 ≡ next_number (met + 1) item → more ≤ place + 1
+few_met met more place (items.Inputs list) few is = omega (arith, few, is)
+few_met met more place (items.Outputs list) few is = omega (arith, few, is)
+few_met met more place (items.Gate line inputs out table) few is = omega (arith, few, is)
+few_met met more place (items.Latch line next out start) few is = omega (arith, few, is)
+few_met met more place (items.Instance line model connections) few is = omega (arith, few, is)
+
+-- what is known of an instance that was entered
+pub entered_some : (design : List ModelValue) (called model : Token) (old new : State) (number m : ℕ) (connections : List Token) (outer : Scope) (o : Option (ℕ × Scope)) → called ≡ model → o ≡ Some (m, outer) → IfSome o (λ e. (model_named design called ≡ Some e.0) × HasEntered old number connections e.1 new) → (model_named design model ≡ Some m) × HasEntered old number connections outer new
+entered_some design called model old new number m connections outer o same is known =
+    let P : Option (ℕ × Scope) → Type 0 = λ p. IfSome p (λ e. (model_named design called ≡ Some e.0) × HasEntered old number connections e.1 new) in
+    let h : (model_named design called ≡ Some m) × HasEntered old number connections outer new = subst P is known in
+    (sym (ap (model_named design) same) ∙ h.0, h.1)

@@ -1,5 +1,5 @@
 -- Small worked examples of the definitions of specs/, which the check computes.
-use Rattle.std.proofs.Common.{◌≡◌, List, [], ◌∷◌, false, codes, refl}
+use Rattle.std.proofs.Common.{◌≡◌, [], ◌∷◌, false, codes, refl}
 use Rattle.net_flat.specs.Paths.{inner, path_in, top, At}
 use Rattle.net_flat.specs.Steps.{steps_of, Mention}
 use Rattle.net_blif.specs.declared.item.Item.TheVariants as items

@@ -1,4 +1,4 @@
-use Rattle.std.proofs.Common.{◌≡◌, ◌∙◌, ap, sym, subst}
+use Rattle.std.proofs.Common.{◌∙◌, ap, sym, subst}
 use Rattle.net_flat.specs.declared.scope.Scope.{Scope}
 use Rattle.net_flat.specs.private.LocalScope.{local_in}
 use Rattle.net_flat.specs.private.LocalWalk.{state_with, AreInside, Local}

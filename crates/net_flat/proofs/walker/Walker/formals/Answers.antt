@@ -1,4 +1,4 @@
-use Rattle.std.proofs.Common.{◌≡◌, ◌∙◌, ◌<◌, ◌≤◌, length, [], arith}
+use Rattle.std.proofs.Common.{◌∙◌, ◌≤◌, length, []}
 use Rattle.net_blif.specs.Table.{numbers_in}
 use Rattle.net_flat.specs.private.WalkerState.{state_of}
 use Rattle.net_flat.proofs.EnterLemmas.{numbers_before}
