@@ -1,5 +1,5 @@
 -- The steps of the code.
-use Rattle.std.proofs.Common.{◌≡◌, ℕ, zero, suc, refl, sym, ◌∙◌, ap, ap₂, ◌<◌, ◌≤◌, ◌^◌, ◌+◌, add-one}
+use Rattle.std.proofs.Common.{◌≡◌, ℕ, ◌∙◌, ap, ◌+◌, add-one}
 use Rattle.gf_field.specs.Power.{power}
 
 pub power_next : (mul : ℕ → ℕ → ℕ) (y i p r : ℕ) → p ≡ power mul y i → r ≡ mul y p → r ≡ power mul y (i + 1)

@@ -7,7 +7,6 @@ use Rattle.gf_field.specs.ModulusLaws.{modulus_below}
 use Rattle.gf_field.specs.Quotient.{product}
 use Rattle.gf_tower.specs.Tower.{tower_polynomial}
 use Rattle.gf_tower.specs.Digits.{IsPackedList}
-use Rattle.gf_tower.specs.FieldName.{tower_product}
 use Rattle.gf_iso.specs.Isomorphism.{HasOnlyIso}
 use Rattle.gf_iso.specs.private.Fields.{IsTowerField}
 use Rattle.gf_iso.proofs.UniqueLaws.{only_iso}
@@ -40,4 +39,4 @@ two_list (c0 ∷ c1 ∷ []) h = refl
 two_list (c0 ∷ c1 ∷ c2 ∷ cs) h = absurd (omega arith)
 
 pub modulus_word : (n g : ℕ) → IsModulus n g → n ≤ 16 → g < 2 ^ 64
-modulus_word n g modulus small = lt_of_lt_of_le (modulus_below n g modulus) (pow_mono (omega arith))
+modulus_word n g modulus small = lt_of_lt_of_le (modulus_below n g modulus) (pow_mono {i = suc n} {j = 64} (omega arith))

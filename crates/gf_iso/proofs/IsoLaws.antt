@@ -1,6 +1,6 @@
 -- The matrices of the search, and the isomorphism that the two least roots make.
-use Rattle.std.proofs.Common.{◌≡◌, ◌≢◌, ℕ, zero, suc, refl, sym, ◌∙◌, ap, ap₂, ◌<◌, ◌≤◌, ◌^◌, ◌+◌, ◌-◌, ◌*◌, ◌/◌, ◌%◌, inl, inr, arith, pow_pos, subst, one-mul, zero-mul, pow-add, lt_of_lt_of_le, pow_mono, List, [], ◌∷◌, length, get_or}
-use Rattle.std.specs.Prelude.{bit_xor, Option, None, Some, slice_index}
+use Rattle.std.proofs.Common.{◌≡◌, ℕ, zero, suc, refl, sym, ◌∙◌, ap, ap₂, ◌<◌, ◌≤◌, ◌^◌, ◌+◌, ◌-◌, ◌*◌, ◌/◌, ◌%◌, inl, inr, arith, subst, one-mul, zero-mul, pow-add, lt_of_lt_of_le, pow_mono, List, [], ◌∷◌, length, get_or}
+use Rattle.std.specs.Prelude.{bit_xor, None, Some, slice_index}
 use Rattle.std.specs.Int.Bits.{xor_self, xor_zero_l, xor_comm, xor_assoc}
 use Rattle.std.proofs.lemmas.Bool.{cases_lt}
 use Rattle.std.proofs.lemmas.Nat.{pow_below}
@@ -27,12 +27,12 @@ use Rattle.irreducible.specs.SpanLaws.{combination-xor, combination_unit, combin
 use Rattle.irreducible.specs.AdditiveLaws.{IsAdditive, combination-additive}
 use Rattle.irreducible.specs.Matrix.{IsKernel, IsLeastSolution, AreInverse}
 use Rattle.gf_iso.specs.Root.{value_at, IsLeastRoot}
-use Rattle.gf_iso.specs.Isomorphism.{IsHomomorphism, IsIsomorphism, IsIsoOf}
+use Rattle.gf_iso.specs.Isomorphism.{IsHomomorphism, IsIsoOf}
 use Rattle.gf_iso.specs.private.Fields.{IsBaseField, IsTowerField, base_image, fixed, quadratic}
-use Rattle.gf_iso.specs.private.Search.{IsLeastIn, IsLeastOf}
-use Rattle.gf_iso.proofs.CarriedLaws.{IsCarried, value_at_below}
+use Rattle.gf_iso.specs.private.Search.{IsLeastOf}
+use Rattle.gf_iso.proofs.CarriedLaws.{IsCarried}
 use Rattle.gf_iso.proofs.SubfieldLaws.{base_root_found, base_root_fixed}
-use Rattle.gf_iso.proofs.TowerImageLaws.{base_map, tower_map, base_same, digits_same, base_map_x, carried, base_ring, tower_root_found, root_quadratic, tower_ring, tower_carried, tower_map_base, tower_map_high, tower_map_Y, tower_map_nonzero}
+use Rattle.gf_iso.proofs.TowerImageLaws.{base_map, tower_map, base_same, digits_same, base_map_x, base_ring, tower_root_found, root_quadratic, tower_ring, tower_carried, tower_map_base, tower_map_high, tower_map_Y, tower_map_nonzero}
 
 -- a sum of first values, the first taken apart
 sum_open : (m : ℕ) (f : ℕ → ℕ) → sum_of_first (suc m) f ≡ bit_xor (f 0) (sum_of_first m (rest f))

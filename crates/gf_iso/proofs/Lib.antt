@@ -4,6 +4,7 @@ pub mod CodeLaws
 pub mod SubfieldLaws
 pub mod TowerImageLaws
 pub mod SearchLaws
+pub mod SliceLaws
 pub mod IsoLaws
 pub mod WordLaws
 pub mod StepLaws

@@ -22,7 +22,7 @@ use Rattle.gf_field.specs.FermatLaws.{power_same}
 use Rattle.gf_field.specs.Roots.{value, AllZero, AllElements}
 use Rattle.gf_field.specs.RootsLaws.{HasFewRoots-from_field}
 use Rattle.gf_iso.specs.Root.{value_at}
-use Rattle.gf_iso.proofs.CarriedLaws.{IsCarried, value_at_below, val, val_shift, val_open, val_unit, val_step}
+use Rattle.gf_iso.proofs.CarriedLaws.{IsCarried, value_at_below, val_shift, val_open, val_unit, val_step}
 
 -- x ^ i, as a list of coefficients
 mono : ℕ → ℕ → ℕ

@@ -1,10 +1,10 @@
 -- The search for the least root among sums of words.
-use Rattle.std.proofs.Common.{◌≡◌, ◌≢◌, ℕ, zero, suc, refl, sym, ◌∙◌, ap, ap₂, ◌<◌, ◌≤◌, ◌^◌, ◌*◌, ◌/◌, ◌%◌, ◌⊎◌, inl, inr, arith, subst, one-mul, zero-mul, mul-zero, List, [], ◌∷◌, length, get_or}
+use Rattle.std.proofs.Common.{◌≡◌, ◌≢◌, ℕ, sym, ◌∙◌, ap, ◌<◌, ◌≤◌, ◌^◌, ◌*◌, ◌/◌, ◌%◌, ◌⊎◌, inl, inr, arith, subst, one-mul, zero-mul, List, [], ◌∷◌}
 use Rattle.std.specs.Prelude.{bit_xor, Option, None, Some}
 use Rattle.std.specs.Int.Bits.{xor_zero_l, xor_zero_r, xor_assoc}
 use Rattle.gf_field.specs.BitLaws.{bit_cases}
 use Rattle.irreducible.specs.Span.{combination}
-use Rattle.gf_iso.specs.private.Search.{IsLeastIn, IsLeastOf, IsLesser, IsLesserOf}
+use Rattle.gf_iso.specs.private.Search.{IsLeastOf, IsLesserOf}
 
 module _ (k : ℕ) (f : ℕ → ℕ) where
   pub leaf_some : (start : ℕ) → start < 2 ^ k → f start ≡ 0 → IsLeastOf k f [] start (Some start)

@@ -1,6 +1,6 @@
 -- The steps of the code, over plain lists and numbers.
-use Rattle.std.proofs.Common.{◌≡◌, ◌≢◌, ℕ, suc, refl, sym, inl, inr, pow_pos, ◌∙◌, ap, ap₂, ◌<◌, ◌≤◌, ◌^◌, ◌+◌, arith, add-one, subst, List, [], ◌∷◌, length, take, drop, set, get_or, get_or-set_same, get_or-set_other}
-use Rattle.std.specs.Prelude.{bit_xor, Option}
+use Rattle.std.proofs.Common.{◌≡◌, ◌≢◌, ℕ, suc, refl, sym, inl, inr, pow_pos, ◌∙◌, ap, ap₂, ◌<◌, ◌≤◌, ◌^◌, ◌+◌, arith, add-one, subst, List, length, take, set, get_or, get_or-set_same, get_or-set_other}
+use Rattle.std.specs.Prelude.{bit_xor, Option, None, Some, IsSome}
 use Rattle.std.proofs.lemmas.List.{length-take-le, get_or-take, get_or_past}
 use Rattle.std.proofs.lemmas.Bool.{cases_eq, cases_lt}
 use Rattle.gf_field.specs.Ring.{IsRing}
@@ -11,9 +11,8 @@ use Rattle.irreducible.specs.Span.{combination}
 use Rattle.irreducible.specs.Matrix.{IsSquare}
 use Rattle.gf_iso.specs.Root.{value_at}
 use Rattle.gf_iso.specs.private.Fields.{base_image, fixed, quadratic}
-use Rattle.gf_iso.specs.private.Search.{IsLeastOf, IsLesserOf}
+use Rattle.gf_iso.specs.private.Search.{IsLeastOf}
 use Rattle.gf_iso.proofs.CarriedLaws.{value_at_below}
-use Rattle.gf_iso.proofs.SearchLaws.{skipped, joined}
 use Rattle.gf_iso.proofs.IsoLaws.{value_combination}
 
 -- ---- rows of a matrix, written into an array
@@ -38,20 +37,6 @@ taken_value k big ring y all n u whole small at =
   where
     size : length (take (n + 1) all) ≡ n + 1
     size = length-take-le (n + 1) all (omega arith)
-
--- ---- the search, at a slice and its rest
-module _ (k : ℕ) (f : ℕ → ℕ) where
-  pub leaf_at : (vectors : List ℕ) (start : ℕ) (r : Option ℕ) → length vectors ≡ 0 → IsLeastOf k f [] start r → IsLeastOf k f vectors start r
-  leaf_at [] start r h least = least
-  leaf_at (v ∷ vs) start r h least = absurd (omega arith)
-
-  pub skipped_at : (vectors : List ℕ) (start : ℕ) (r : Option ℕ) → 1 ≤ length vectors → get_or vectors 0 0 ≡ 0 → IsLeastOf k f (drop 1 vectors) start r → IsLeastOf k f vectors start r
-  skipped_at [] start r h z least = absurd (omega arith)
-  skipped_at (v ∷ vs) start r h z least = subst (λ w. IsLeastOf k f (w ∷ vs) start r) (sym z) (skipped k f vs start r least)
-
-  pub joined_at : (vectors : List ℕ) (start : ℕ) (a b r : Option ℕ) → 1 ≤ length vectors → IsLeastOf k f (drop 1 vectors) start a → IsLeastOf k f (drop 1 vectors) (bit_xor start (get_or vectors 0 0)) b → IsLesserOf a b r → IsLeastOf k f vectors start r
-  joined_at [] start a b r h ha hb e = absurd (omega arith)
-  joined_at (v ∷ vs) start a b r h ha hb e = joined k f v vs start a b r ha hb e
 
 -- ---- arrays
 pub set_all : (P : ℕ → Type 0) (xs : List ℕ) (i v : ℕ) → i < length xs → ((j : ℕ) → P (get_or xs j 0)) → P v → (j : ℕ) → P (get_or (set xs i v) j 0)

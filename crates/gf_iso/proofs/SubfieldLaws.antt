@@ -1,7 +1,6 @@
 -- The roots of the base's modulus, which lie in the subfield of 2 to the n elements.
-use Rattle.std.proofs.Common.{◌≡◌, ◌≢◌, ℕ, zero, suc, refl, sym, ◌∙◌, ap, ap₂, ◌<◌, ◌≤◌, ◌^◌, ◌+◌, ◌*◌, ◌%◌, inl, inr, arith, pow_pos, subst, one-mul, add-zero, add-suc, le_trans}
-use Rattle.std.specs.Prelude.{bit_xor}
-use Rattle.std.specs.Int.Bits.{xor_self, xor_mod}
+use Rattle.std.proofs.Common.{◌≡◌, ℕ, zero, suc, refl, sym, ◌∙◌, ap, ◌<◌, ◌≤◌, ◌^◌, ◌+◌, ◌*◌, ◌%◌, inl, inr, arith, subst, one-mul, add-zero, add-suc, le_trans}
+use Rattle.std.specs.Int.Bits.{xor_mod}
 use Rattle.std.proofs.lemmas.Nat.{pow_below}
 use native.Mathlib.Nat.{mod-eq_of_lt}
 use mathlib.Core.Path.{fun_ext}
@@ -9,11 +8,10 @@ use Rattle.gf_field.specs.Ring.{IsRing}
 use Rattle.gf_field.specs.Bit.{bit_mul}
 use Rattle.gf_field.specs.BitLaws.{bit_cases, bit_mul_below, IsRing-bit_mul}
 use Rattle.gf_field.specs.Field.{HasNoZeroDivisors}
-use Rattle.gf_field.specs.Modulus.{IsModulus}
 use Rattle.gf_field.specs.ModulusLaws.{IsMonic-from_modulus, IsRing-from_modulus}
 use Rattle.gf_field.specs.Power.{power}
-use Rattle.gf_field.specs.PowerLaws.{one_below, power-one}
-use Rattle.gf_field.specs.Polynomial.{coefficient, IsMonic}
+use Rattle.gf_field.specs.PowerLaws.{one_below}
+use Rattle.gf_field.specs.Polynomial.{coefficient}
 use Rattle.gf_field.specs.Quotient.{product}
 use Rattle.gf_field.specs.RingLaws.{zero_mul}
 use Rattle.gf_field.specs.PackingLaws.{coefficient_below, self_below}

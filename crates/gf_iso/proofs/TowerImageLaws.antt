@@ -1,5 +1,5 @@
 -- The maps from the base and from the tower that take x and Y to roots.
-use Rattle.std.proofs.Common.{◌≡◌, ◌≢◌, ℕ, zero, suc, refl, sym, ◌∙◌, ap, ap₂, ◌<◌, ◌≤◌, ◌^◌, ◌+◌, ◌*◌, ◌/◌, ◌%◌, inl, inr, arith, pow_pos, subst, one-mul, mul-suc, mul-zero, pow-add, mod-lt, lt_of_lt_of_le, pow_mono, List, [], ◌∷◌, length, get_or}
+use Rattle.std.proofs.Common.{◌≡◌, ℕ, zero, suc, refl, sym, ◌∙◌, ap, ap₂, ◌<◌, ◌≤◌, ◌^◌, ◌+◌, ◌*◌, ◌%◌, inl, inr, arith, pow_pos, subst, one-mul, pow-add, lt_of_lt_of_le, pow_mono, [], ◌∷◌}
 use Rattle.std.specs.Prelude.{bit_xor}
 use Rattle.std.specs.Int.Bits.{xor_self, xor_zero_l, xor_zero_r, xor_comm, xor_assoc}
 use Rattle.std.proofs.Math.Arith.{digits_lt}
@@ -7,7 +7,6 @@ use Rattle.std.proofs.lemmas.Bool.{cases_eq}
 use Rattle.std.proofs.lemmas.Nat.{pow_below, shr_high, mod_low}
 use native.Mathlib.Nat.{mod-eq_of_lt}
 use mathlib.Core.Path.{fun_ext}
-use Rattle.gf_field.specs.XorLaws.{xor_same, xor_cross}
 use Rattle.gf_field.specs.Ring.{IsRing}
 use Rattle.gf_field.specs.Bit.{bit_mul}
 use Rattle.gf_field.specs.BitLaws.{IsRing-bit_mul}
@@ -17,10 +16,10 @@ use Rattle.gf_field.specs.ModulusLaws.{IsMonic-from_modulus, IsRing-from_modulus
 use Rattle.gf_field.specs.Power.{power}
 use Rattle.gf_field.specs.PowerLaws.{one_below}
 use Rattle.gf_field.specs.Polynomial.{coefficient, IsMonic, IsProduct}
-use Rattle.gf_field.specs.Quotient.{unit, shift, reduced, packed, product}
+use Rattle.gf_field.specs.Quotient.{unit, reduced, packed, product}
 use Rattle.gf_field.specs.QuotientLaws.{EndsAt, AllBelow, reduced_below, reduced_ends}
-use Rattle.gf_field.specs.RingLaws.{mul_zero, zero_mul, mul_one, square-xor}
-use Rattle.gf_field.specs.PackingLaws.{coefficient_below, coefficient_zero, coefficient_suc, coefficient_none, coefficient_one, coefficient-packed, coefficient_ends}
+use Rattle.gf_field.specs.RingLaws.{mul_zero, zero_mul, mul_one}
+use Rattle.gf_field.specs.PackingLaws.{coefficient_below, coefficient_zero, coefficient_suc, coefficient_one, coefficient-packed, coefficient_ends}
 use Rattle.gf_field.specs.ProductLaws.{IsProduct-reduced, IsProduct_same}
 use Rattle.gf_field.specs.PigeonholeLaws.{FoundAt}
 use Rattle.gf_field.specs.FermatLaws.{power_same}
@@ -29,10 +28,9 @@ use Rattle.gf_tower.specs.Tower.{polynomial_of, tower_polynomial}
 use Rattle.gf_tower.specs.Digits.{IsPackedList}
 use Rattle.gf_tower.specs.TowerLaws.{IsMonic-tower, IsRing-tower}
 use Rattle.gf_field.specs.Element.{AreElements}
-use Rattle.irreducible.specs.Span.{combination}
 use Rattle.gf_iso.specs.Root.{value_at}
 use Rattle.gf_iso.specs.private.Fields.{IsBaseField, IsTowerField, base_image, quadratic}
-use Rattle.gf_iso.proofs.CarriedLaws.{IsCarried, value_at_below, carried_zero, val, val_shift, val_open, val_unit, val_reduced, image, IsCarried-image}
+use Rattle.gf_iso.proofs.CarriedLaws.{IsCarried, carried_zero, val_shift, val_open, val_unit, val_reduced, IsCarried-image}
 use Rattle.gf_iso.proofs.RootLaws.{coefficient_x, root_found}
 use Rattle.gf_iso.proofs.SubfieldLaws.{IsCarried-bit, bits_same}
 

@@ -1,7 +1,7 @@
 -- The isomorphism that takes x and Y to the two least roots is the only one.
-use Rattle.std.proofs.Common.{◌≡◌, ◌≢◌, ℕ, zero, suc, refl, sym, ◌∙◌, ap, ap₂, ◌<◌, ◌≤◌, ◌^◌, ◌+◌, ◌-◌, ◌*◌, ◌/◌, ◌%◌, inl, inr, arith, pow_pos, subst, one-mul, mul-suc, mul-zero, pow-add, pow-suc, mod-lt, lt_of_lt_of_le, pow_mono, le_antisymm, List, [], ◌∷◌, length, get_or}
+use Rattle.std.proofs.Common.{◌≡◌, ℕ, zero, suc, refl, sym, ◌∙◌, ap, ap₂, ◌<◌, ◌≤◌, ◌^◌, ◌+◌, ◌-◌, ◌*◌, ◌%◌, inl, inr, arith, pow_pos, subst, mul-suc, pow-add, pow-suc, lt_of_lt_of_le, pow_mono, le_antisymm, List, [], ◌∷◌, length, get_or}
 use Rattle.std.specs.Prelude.{bit_xor}
-use Rattle.std.specs.Int.Bits.{xor_self, xor_zero_l, xor_zero_r}
+use Rattle.std.specs.Int.Bits.{xor_self, xor_zero_r}
 use Rattle.std.proofs.Math.Arith.{digits_lt}
 use Rattle.std.proofs.lemmas.Bool.{cases_lt}
 use Rattle.std.proofs.lemmas.Nat.{pow_below, shr_high, mod_low}
@@ -10,11 +10,11 @@ use mathlib.Core.Path.{fun_ext}
 use Rattle.gf_field.specs.Ring.{IsRing}
 use Rattle.gf_field.specs.Bit.{bit_mul}
 use Rattle.gf_field.specs.BitLaws.{IsRing-bit_mul}
-use Rattle.gf_field.specs.ModulusLaws.{IsMonic-from_modulus, IsRing-from_modulus}
+use Rattle.gf_field.specs.ModulusLaws.{IsMonic-from_modulus}
 use Rattle.gf_field.specs.Polynomial.{coefficient, IsMonic, IsProduct}
-use Rattle.gf_field.specs.Quotient.{none, unit, plus, times, shift, rest, step, reduced, packed, product}
+use Rattle.gf_field.specs.Quotient.{none, plus, times, shift, rest, step, reduced, packed, product}
 use Rattle.gf_field.specs.DivisionLaws.{joined}
-use Rattle.gf_field.specs.RingLaws.{zero_mul, mul_zero, mul_one}
+use Rattle.gf_field.specs.RingLaws.{zero_mul, mul_zero}
 use Rattle.gf_field.specs.PackingLaws.{coefficient_below, coefficient_zero, coefficient_suc, coefficient_ends, packed-coefficient}
 use Rattle.gf_field.specs.ProductLaws.{IsProduct-product}
 use Rattle.gf_field.specs.QuotientRingLaws.{product_below, coefficient-product}
@@ -22,11 +22,11 @@ use Rattle.gf_tower.specs.FieldName.{tower_product}
 use Rattle.gf_tower.specs.Tower.{tower_polynomial}
 use Rattle.irreducible.specs.Span.{combination}
 use Rattle.irreducible.specs.AdditiveLaws.{IsAdditive, combination-additive}
-use Rattle.gf_iso.specs.Root.{value_at, IsLeastRoot}
-use Rattle.gf_iso.specs.Isomorphism.{IsHomomorphism, IsIsomorphism, IsIsoOf, AreSame}
-use Rattle.gf_iso.specs.private.Fields.{IsBaseField, IsTowerField}
+use Rattle.gf_iso.specs.Root.{IsLeastRoot}
+use Rattle.gf_iso.specs.Isomorphism.{IsHomomorphism, IsIsoOf, AreSame}
+use Rattle.gf_iso.specs.private.Fields.{IsTowerField}
 use Rattle.gf_iso.proofs.RootLaws.{coefficient_x, reduced_x, reduced_nothing, step_low}
-use Rattle.gf_iso.proofs.TowerImageLaws.{base_ring, tower_monic, tower_ring}
+use Rattle.gf_iso.proofs.TowerImageLaws.{base_ring, tower_monic}
 use Rattle.gf_iso.proofs.WordLaws.{IsAdditive-clipped}
 
 -- ---- additive maps that agree at the powers of 2

@@ -1,6 +1,5 @@
 -- A word whose list basis are the images of the numbers 2 to the i.
-use Rattle.std.proofs.Common.{◌≡◌, ℕ, sym, ◌∙◌, ap, ◌<◌, ◌^◌, ◌*◌, ◌%◌, arith, pow_pos, mod-lt, List, length}
-use Rattle.std.specs.Prelude.{bit_xor}
+use Rattle.std.proofs.Common.{ℕ, sym, ◌∙◌, ap, ◌^◌, ◌*◌, ◌%◌, arith, pow_pos, mod-lt, List, length}
 use Rattle.std.specs.Int.Bits.{xor_mod}
 use Rattle.std.proofs.lemmas.Nat.{pow_below}
 use native.Mathlib.Nat.{mod-eq_of_lt}

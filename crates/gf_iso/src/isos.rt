@@ -9,7 +9,7 @@ ghost use Rattle.irreducible.specs.Proved.{ring_of};
 ghost use Rattle.gf_tower.specs.TowerParts.{base_of, coefficients_of, size_of as tower_size_of};
 ghost use Rattle.gf_iso.specs.Fits.{Fits};
 ghost use Rattle.gf_iso.specs.Isomorphism.{IsIsoOf};
-ghost use Rattle.gf_iso.specs.private.Fields.{IsTowerField, tower_image};
+ghost use Rattle.gf_iso.specs.private.Fields.{IsTowerField};
 
 use super::matrices::powers;
 use super::roots::{base_root, tower_root};

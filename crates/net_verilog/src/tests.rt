@@ -1,5 +1,5 @@
 //! Assignments and instances with what comes of them: gates, and faults at their tokens.
-use crate::{read_assignments, read_instance, Cursor, Declared, GateKind, Table};
+use crate::{Cursor, Declared, GateKind, Table, read_assignments, read_instance};
 use net_core::NetMaker;
 use std::alloc::Global;
 use std::test::Fail;
@@ -24,7 +24,13 @@ fn begin(alloc: Global) -> Result<(NetMaker, Table), Fail> {
     let mut maker = NetMaker::new(alloc);
     let mut declared = Table::new(alloc, 7);
     for name in ["a", "b", "c", "z", "y"] {
-        declared.put(name, Declared { range: None, directed: false })?;
+        declared.put(
+            name,
+            Declared {
+                range: None,
+                directed: false,
+            },
+        )?;
     }
     for name in ["a", "b", "c"] {
         if name.is_empty() || name.len() > 255 {
@@ -107,9 +113,17 @@ fn instances(rt: HostRuntime) -> Result<(), Fail> {
         (GateKind::Nor, "(z, a, b)", "4 3[0, 1]=1"),
         (GateKind::Xor, "g(z, a, b, c)", "4 3[0, 1, 2]=96"),
         (GateKind::Buf, "(z, a & b)", "5 4[0, 1]=8 3[4]=2"),
-        (GateKind::And, "(z, a, b, c, a, b, c)", "4 3[0, 1, 2, 0, 1, 2]=8000000000000000"),
+        (
+            GateKind::And,
+            "(z, a, b, c, a, b, c)",
+            "4 3[0, 1, 2, 0, 1, 2]=8000000000000000",
+        ),
         (GateKind::Nor, "(z, a\n)", "Arity { line: 2, inputs: 1 }"),
-        (GateKind::And, "(z, a, b, c, a, b, c, a)", "Arity { line: 1, inputs: 7 }"),
+        (
+            GateKind::And,
+            "(z, a, b, c, a, b, c, a)",
+            "Arity { line: 1, inputs: 7 }",
+        ),
         (GateKind::Not, "(z)", "Syntax { line: 1 }"),
     ] {
         let found = placed(alloc, kind, text.as_bytes())?;

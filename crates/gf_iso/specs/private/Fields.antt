@@ -1,5 +1,5 @@
 -- A base and a tower of degree 2 over it, both fields. Source: this project's own.
-use Rattle.std.specs.Prelude.{◌≡◌, ℕ, ◌<◌, ◌≤◌, ◌*◌, ◌^◌, List, [], ◌∷◌, bit_xor}
+use Rattle.std.specs.Prelude.{ℕ, ◌<◌, ◌≤◌, ◌*◌, ◌^◌, [], ◌∷◌, bit_xor}
 use Rattle.gf_field.specs.Bit.{bit_mul}
 use Rattle.gf_field.specs.Field.{HasNoZeroDivisors}
 use Rattle.gf_field.specs.Modulus.{IsModulus}
@@ -25,10 +25,6 @@ pub record IsTowerField (n g c0 c1 : ℕ) : Type 0 where
 -- the value at s of the polynomial whose n coefficients are the bits of u
 unfoldable pub base_image : (ℕ → ℕ → ℕ) → (n s u : ℕ) → ℕ
 base_image big n s u = value_at big n (coefficient 1 u) s
-
--- u1 * Y + u0 at Y = t, its coefficients carried over
-unfoldable pub tower_image : (ℕ → ℕ → ℕ) → (n s t a : ℕ) → ℕ
-tower_image big n s t a = value_at big 2 (λ i. base_image big n s (coefficient n a i)) t
 
 -- y squared n times, plus y
 abbrev pub fixed : (ℕ → ℕ → ℕ) → (n y : ℕ) → ℕ

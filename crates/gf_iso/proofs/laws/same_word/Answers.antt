@@ -1,6 +1,4 @@
 use Rattle.gf_iso.proofs.WordLaws.{same_word}
-use Rattle.gf_iso.proofs.IsoLaws.{made}
-use Rattle.gf_iso.proofs.SearchLaws.{joined}
 use Rattle.gf_iso.proofs.laws.same_word.Goals as goal
 
 pub returns : goal.returns

@@ -25,7 +25,7 @@ loop-i-preserved g c =
     let unit : 1 * 2 ^ c.loop-i.i % 2 ^ 64 ≡ 2 ^ c.loop-i.i = one_shl c.loop-i.i 64 (omega (arith, law.small, c.k-k.ensures)) in
     record {
       whole = length-set c.loop-i.rows c.loop-i.i _ ∙ inv.whole;
-      words = set_more (λ j x. x ≡ quadratic (g.F.Ring.product c.args.field.now) c.args.b (2 ^ j)) c.loop-i.rows c.loop-i.i _ room inv.words (quadratic_row _ c.args.b c.loop-i.i _ c.square.result c.mul.result unit c.square.ensures.product c.mul.ensures.product);
+      words = set_more (λ j x. x ≡ quadratic (g.F.Ring.product c.args.field.now) c.args.b (2 ^ j)) c.loop-i.rows c.loop-i.i _ room inv.words (quadratic_row (g.F.Ring.product c.args.field.now) c.args.b c.loop-i.i _ c.square.result c.mul.result unit c.square.ensures.product c.mul.ensures.product);
       short = set_more (λ j x. x < 2 ^ d) c.loop-i.rows c.loop-i.i _ room inv.short (xor_lt d _ _ c.square.ensures.element c.mul.ensures.element);
     }
 

@@ -1,4 +1,4 @@
-use Rattle.std.proofs.Common.{◌≡◌, ℕ, ◌∙◌, sym, ap, ◌<◌, ◌^◌, subst, length}
+use Rattle.std.proofs.Common.{◌≡◌, ◌∙◌, sym, ap, ◌^◌, subst, length}
 use Rattle.irreducible.specs.Span.{InSpan}
 use Rattle.irreducible.specs.BitMatrix.{rows_of}
 use Rattle.irreducible.specs.Matrix.{IsLeastSolution}

@@ -18,7 +18,7 @@ use Rattle.net_core.specs.Order.{IsElimination}
 use Rattle.stage_model.specs.Stage.{IsOfStage, IsNoneOver}
 use Rattle.net_words.specs.Binding.{Binding}
 use Rattle.net_words.specs.BoundTo.{output_bits}
-use Rattle.rato_reduce.proofs.OutputNets.{output_long, output_inside}
+use Rattle.rato_reduce.proofs.OutputNets.{output_long}
 use Rattle.rato_reduce.proofs.reduce.reduce_bits.Goals as goal
 use Rattle.stage_model.proofs.EliminationLemmas.{elimination_long}
 
@@ -38,7 +38,7 @@ first_cut-requires-clause-inside g c n has =
     let bound = c.bound.ensures.is_bound in
     let list : c.deref-2.result.now ≡ output_bits c.args.circuit.now.bound.words = c.deref-2.ensures.value ∙ (c.in_ok-list.ensures ∙ ap (λ (b : Binding). output_bits b.words) c.bound.ensures.bound) in
     let P : List ℕ → Type 0 = λ xs. Has xs n in
-    output_inside c.args.circuit.now.net c.args.circuit.now.bound.words bound.places n (subst P list has)
+    bound.outputs n (subst P list has)
 
 pub returns-in_err-check_size-clause-fault : goal.returns-in_err-check_size-clause-fault
 returns-in_err-check_size-clause-fault g c =

@@ -1,4 +1,4 @@
-use Rattle.std.proofs.Common.{◌≡◌, ℕ, suc, ◌∙◌, sym, ap, ◌<◌, ◌≤◌, ◌^◌, ◌+◌, ◌*◌, arith, subst, length, take, [], ◌∷◌}
+use Rattle.std.proofs.Common.{suc, ◌∙◌, sym, ap, ◌<◌, ◌≤◌, ◌*◌, arith, subst, [], ◌∷◌}
 use Rattle.std.proofs.lemmas.List.{get_or-take}
 use Rattle.gf_field.specs.Polynomial.{coefficient}
 use Rattle.irreducible.specs.Span.{combination, IsIndependent}
