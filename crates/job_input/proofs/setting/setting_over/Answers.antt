@@ -24,6 +24,6 @@ returns-in-Ok-judge_feeds-clause-ready g c =
 pub returns-in-Err-judge_feeds-clause-gives : goal.returns-in-Err-judge_feeds-clause-gives
 returns-in-Err-judge_feeds-clause-gives g c =
     let are = rw c.words.ensures at c.in-Ok.ensures.gives in
-    let judged = rw c.blocks.ensures at c.in-Ok-judge_blocks.ensures in
+    let judged = rw c.blocks-2.ensures at c.in-Ok-judge_blocks.ensures in
     let wrong = rw (c.k.ensures, c.feeds.ensures) at c.in-Err-judge_feeds.ensures in
     rw c.refused.ensures ((c.in-Err-judge_feeds.fault, inr (elements_of_each c.in-Ok.bases.items, are, inr (tt, judged, inl wrong)), refl), λ miss. miss)
