@@ -77,14 +77,11 @@ ScopePrints scope = AllByRecursion ActualPrints scope.actuals
 
 among_prints : (actuals : List (Token × Path)) (own : Path) (name : Token) → AllByRecursion ActualPrints actuals → PathPrints own → PathPrints (path_among actuals own name)
 among_prints [] own name all is = is
-among_prints (actual ∷ actuals) own name all is = by (bytes_eq actual.0 name)
+among_prints (actual ∷ actuals) own name all is = by (bytes_eq actual.0 name) (among_prints actuals own name all.1 is)
   where
-    rest : PathPrints (path_among actuals own name)
-    rest = among_prints actuals own name all.1 is
-
-    by : (b : Bool) → PathPrints (cond b actual.1 (path_among actuals own name))
-    by true = all.0
-    by false = rest
+    by : (b : Bool) → PathPrints (path_among actuals own name) → PathPrints (cond b actual.1 (path_among actuals own name))
+    by true rest = all.0
+    by false rest = rest
 
 net_prints : (scope : Scope) → ScopePrints scope → (name : Token) → IsPrinting name → PathPrints (path_in scope name)
 net_prints scope all name prints = among_prints scope.actuals (At scope.trail name) name all prints

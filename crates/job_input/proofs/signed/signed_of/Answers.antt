@@ -7,7 +7,7 @@ use Rattle.job_input.proofs.SignedLemmas.{signed_is, text_fails, field_fails}
 use Rattle.job_input.proofs.signed.signed_of.Goals as goal
 
 pub new-requires : goal.new-requires
-new-requires c = ?
+new-requires c = record { steps = rw (c.tower.ensures, c.upper.ensures) (no_upper c.args.text.now c.in-Ok.signature c.in-Ok.ensures) }
 
 pub returns-in-Err-clause-gives : goal.returns-in-Err-clause-gives
 returns-in-Err-clause-gives c = rw c.text_stop.ensures (text_fails c.args.text.now c.in-Err.fault c.in-Err.ensures)
