@@ -21,7 +21,7 @@ use Rattle.job_words.proofs.OneLineLemmas.{before_kept, one_line, stage_kept}
 use Rattle.job_input.specs.Labelling.{labels_of}
 use Rattle.job_input.specs.SettingOf.{SettingWith, SignedOf, SignedValue}
 use Rattle.job_input.specs.SettingValue.{SettingValue}
-use Rattle.job_input.proofs.FileLineLemmas.{HaveKeptNames, circuit_keeps, labels_kept, operand_kept, signed_keeps, specification_keeps}
+use Rattle.job_input.proofs.FileLineLemmas.{HaveKeptNames, circuit_keeps, labels_kept, operand_kept, setting_keeps, signed_keeps, specification_keeps}
 use Rattle.job_input.proofs.SignedLemmas.{setting_names}
 use Rattle.gf_abs.specs.Answer.{ActionAnswer, Answer, JobAnswer, SignedAnswer}
 use Rattle.gf_abs.specs.Staged.{IsStageOver, Staged, either_net_text, either_text}
@@ -105,7 +105,7 @@ module _ (setting : SettingValue) (names : HaveNames setting.signature.words) wh
   action_kept held (Same net other terms) fault is (inr (circuit, taken, inr (second, more, wrong))) = same_kept circuit second terms fault wrong
 
 signed_kept : (held : Option Files) (text : List ℕ) (signed : SignedValue) (action : Action) (fault : Fault) → SignedOf text (Ok signed) → AreKept action → SignedAnswer held signed action (Err fault) → KeepsToItsLine fault
-signed_kept held text signed action fault is kept (inl (other, wrong, same)) = same_line fault (faults.Signature other) same tt
+signed_kept held text signed action fault is kept (inl (other, wrong, same)) = same_line fault (faults.Signature other) same (setting_keeps signed other wrong)
 signed_kept held text signed action fault is kept (inr (setting, taken, wrong)) = action_kept setting (setting_names text setting (signed, is, taken)) held action fault kept wrong
 
 job_kept : (held : Option Files) (job : Job) (fault : Fault) → HasNoLineFeed job.signature → AreKept job.action → JobAnswer held job (Err fault) → KeepsToItsLine fault

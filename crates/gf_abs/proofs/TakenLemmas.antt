@@ -1,5 +1,5 @@
 -- The circuit of texts that are taken is well-formed, and has no latches.
-use Rattle.std.proofs.Common.{◌≡◌, ◌∙◌, ap, sym, subst, List, ℕ, [], length, map, Ok}
+use Rattle.std.proofs.Common.{◌≡◌, ◌∙◌, ap, sym, subst, List, ℕ, [], length, Ok}
 use Rattle.net_core.specs.NetList.{NetList}
 use Rattle.net_core.specs.Sound.{IsSound}
 use Rattle.net_words.specs.Bind.{BindingOf, bits_of}
@@ -15,7 +15,7 @@ use Rattle.circuit_model.proofs.BoundLemmas.{bound_well}
 use Rattle.job_input.specs.NetlistOf.{BoundNetOf, NetlistText}
 use Rattle.job_input.specs.SettingSound.{IsSoundSetting}
 use Rattle.job_input.specs.SettingValue.{SettingValue}
-use Rattle.job_input.proofs.NetlistLemmas.{net_sound, no_feeds}
+use Rattle.job_input.proofs.NetlistLemmas.{net_sound}
 use Rattle.job_input.proofs.RoleLemmas.{netlist_roles, roles_long}
 use Rattle.gf_abs.specs.commands.Abstract.{taken_circuit}
 
@@ -33,9 +33,9 @@ netlist_whole signature text circuit (net, is_net, (bound, is, (same, flat))) =
 pub netlist_flat : (signature : SignatureValue) (text : NetlistText) (circuit : BoundNet) → BoundNetOf signature text (Ok circuit) → circuit.net.latches ≡ []
 netlist_flat signature text circuit is = (netlist_whole signature text circuit is).latches
 
-netlist_bound : (signature : SignatureValue) (text : NetlistText) (circuit : BoundNet) → BoundNetOf signature text (Ok circuit) → BindingOf circuit.net signature.words [] (Ok circuit.bound)
+netlist_bound : (signature : SignatureValue) (text : NetlistText) (circuit : BoundNet) → BoundNetOf signature text (Ok circuit) → BindingOf circuit.net signature.words signature.feeds (Ok circuit.bound)
 netlist_bound signature text circuit (net, is_net, (bound, is, (same, flat))) =
-    let P : BoundNet → Type 0 = λ c. BindingOf c.net signature.words [] (Ok c.bound) in
+    let P : BoundNet → Type 0 = λ c. BindingOf c.net signature.words signature.feeds (Ok c.bound) in
     subst P (sym same) is
 
 binding_bits : (net : NetList) (words : List WordText) (feeds : List FeedText) (binding : Binding) → BindingOf net words feeds (Ok binding) → binding.k ≡ bits_of words
@@ -51,6 +51,6 @@ module _ (setting : SettingValue) (circuit : BoundNet) (sound : IsSoundSetting s
       let net = netlist_sound setting.signature text circuit is in
       let binding = netlist_bound setting.signature text circuit is in
       let words = setting.signature.words in
-      let bits : circuit.bound.k ≡ setting.k = binding_bits circuit.net words [] circuit.bound binding ∙ first_long setting.k words sound.words in
-      let bound = bound_to circuit.net setting.k words [] circuit.bound net sound.words (no_feeds setting.k (map (λ (w : WordText). w.role) words)) binding in
+      let bits : circuit.bound.k ≡ setting.k = binding_bits circuit.net words setting.signature.feeds circuit.bound binding ∙ first_long setting.k words sound.words in
+      let bound = bound_to circuit.net setting.k words setting.signature.feeds circuit.bound net sound.words sound.feeds binding in
       bound_well setting.k setting.product circuit setting.bases (flat_bound circuit.net circuit.bound bound (netlist_whole setting.signature text circuit is)) bits (record { long = bases_long; each = sound.each }) sound.ring sound.field net

@@ -59,7 +59,7 @@ fn signed_answer<F: Field, S: Shelf>(
     task: &Task,
     shelf: &mut S,
 ) -> Result<Output, Stop>
-    requires { AreSaid signature.words }
+    requires { AreSaid signature }
     ensures held { S.held shelf.new ≡ S.held shelf.old }
     ensures never_fall { (S.faults shelf.old ≤ S.faults shelf.new) × (S.misses shelf.old ≤ S.misses shelf.new) }
     ensures gives { GivesBy reply_of result (SignedAnswer (S.held shelf.old) (record { signature = signature; field = record { k = F.degree field.now; product = F.product field.now } }) (action_of task.now))

@@ -4,12 +4,15 @@ pub mod SettingWords
 pub mod SettingSoundLemmas
 pub mod SettingDetermined
 pub mod BasesLemmas
+pub mod JudgeLemmas
+pub mod PlaceLemmas
 pub mod NetlistLemmas
 pub mod NetlistDetermined
 pub mod RoleLemmas
 pub mod LabelLemmas
 pub mod CircuitLemmas
 pub mod LabelFaultLemmas
+pub mod BlifTextLemmas
 pub mod BlifLabelLemmas
 pub mod AigerLabelLemmas
 pub mod NetlistLineLemmas

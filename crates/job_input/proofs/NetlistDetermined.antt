@@ -1,5 +1,5 @@
 -- At most one net with its binding, or one fault, comes of a netlist.
-use Rattle.std.proofs.Common.{◌∙◌, ap, sym, inl, inr, List, [], Ok, Err}
+use Rattle.std.proofs.Common.{◌∙◌, ap, sym, inl, inr, List, Ok, Err}
 use Rattle.text_core.specs.Outcome.{Determined, Within}
 use Rattle.text_core.proofs.DeterminedLemmas.{determined_bind}
 use Rattle.net_core.specs.NetList.{NetList}
@@ -45,4 +45,4 @@ words_determined words feeds net =
     named fault = netlist.Binding (of_binding words net fault)
 
 pub netlist_determined : (signature : SignatureValue) (text : NetlistText) → Determined (BoundNetOf signature text)
-netlist_determined signature text = determined_bind (NetOf text) (λ net. WordsBound signature.words [] net) (net_determined text) (λ net. words_determined signature.words [] net)
+netlist_determined signature text = determined_bind (NetOf text) (λ net. WordsBound signature.words signature.feeds net) (net_determined text) (λ net. words_determined signature.words signature.feeds net)

@@ -23,7 +23,7 @@ use Rattle.net_flat.proofs.StateLemmas.{number_inside}
 use Rattle.net_words.specs.Bind.{BindingOf, BoundOf, IsCovered, NetsOf, bound_word, is_latch, is_unknown, names_with, place_net, started, taken_with, with_role}
 use Rattle.net_words.specs.BindReading.{FitsBinding}
 use Rattle.net_words.specs.Binding.{Binding, BoundNet}
-use Rattle.net_words.specs.Feeds.{AreFeeds, FeedsOf, bound_feed, free_net, is_free}
+use Rattle.net_words.specs.Feeds.{FeedsOf, bound_feed, free_net, is_free}
 use Rattle.net_words.specs.OneCycle.{IsFlat}
 use Rattle.net_words.specs.Roles.{in_word, stands_in}
 use Rattle.net_words.specs.declared.binding.BindFault.{BindFault}
@@ -155,12 +155,8 @@ pub not_flat : (net : NetList) (words : List WordText) (feeds : List FeedText) (
 not_flat net words feeds bound fault is left (inl latches) = inr (bound, is, inl latches)
 not_flat net words feeds bound fault is left (inr none) = inr (bound, is, inr (none.0, none.1, left))
 
--- a signature without feeds feeds nothing
-pub no_feeds : (k : ℕ) (roles : List Role) → AreFeeds k roles []
-no_feeds k roles = record { sources = λ feed has. absurd (let got = has.1 in cc); apart = λ i j f g at. absurd (cc) }
-
 -- what comes of the words comes of the text whose net it is
-pub text_bound : (text : NetlistText) (signature : SignatureValue) (net : NetList) (result : Result BoundNet Refusal) → NetOf text (Ok net) → FitsNetlist result (WordsBound signature.words [] net) → FitsNetlist result (BoundNetOf signature text)
+pub text_bound : (text : NetlistText) (signature : SignatureValue) (net : NetList) (result : Result BoundNet Refusal) → NetOf text (Ok net) → FitsNetlist result (WordsBound signature.words signature.feeds net) → FitsNetlist result (BoundNetOf signature text)
 text_bound text signature net (Ok circuit) first then = (net, first, then)
 text_bound text signature net (Err (Fault fault)) first then = inr (net, first, then)
 text_bound text signature net (Err OutOfMemory) first then = tt

@@ -5,20 +5,20 @@ use Rattle.std.specs.Char.{IsAsciiAlphanumeric}
 use Rattle.std.specs.List.{AllByRecursion}
 use Rattle.std.specs.Option.{option_map_or}
 use Rattle.std.proofs.lemmas.List.Elements.{All-from_get_or, All-weaker}
-use Rattle.text_core.specs.Lines.{IsPrinting}
 use Rattle.text_core.specs.Names.{IsName, IsNameByte}
-use Rattle.net_core.specs.NetList.{LabelValue, NetList, text_of}
+use Rattle.net_core.specs.NetList.{NetList, text_of}
 use Rattle.net_core.specs.declared.fault.NetFault.{NetFault}
 use Rattle.net_core.specs.declared.fault.NetFault.TheVariants as nets
 use Rattle.net_aiger.specs.declared.fault.AigerFault.{AigerFault}
 use Rattle.net_aiger.specs.declared.fault.AigerFault.TheVariants as aigers
 use Rattle.net_blif.specs.Design.{ModelValue}
-use Rattle.net_blif.specs.Flat.{Flat, Flattens, Settles, nothing, net_list, label_of, walked, walk_of}
+use Rattle.net_flat.specs.Flat.{Flattens, Settles, nothing, net_list}
+use Rattle.net_flat.specs.Walk.{walk_of}
 use Rattle.net_blif.specs.Models.{BlifDesign}
 use Rattle.net_blif.specs.declared.fault.BlifFault.{BlifFault}
 use Rattle.net_blif.specs.declared.fault.BlifFault.TheVariants as texts
-use Rattle.net_blif.specs.declared.flat_fault.FlatFault.{FlatFault}
-use Rattle.net_blif.specs.declared.flat_fault.FlatFault.TheVariants as flats
+use Rattle.net_flat.specs.declared.flat_fault.FlatFault.{FlatFault}
+use Rattle.net_flat.specs.declared.flat_fault.FlatFault.TheVariants as flats
 use Rattle.net_signature.specs.Signature.{SignatureValue}
 use Rattle.net_signature.specs.WordNames.{HaveNames}
 use Rattle.net_words.specs.Binding.{Binding}
@@ -29,10 +29,11 @@ use Rattle.net_words.specs.declared.word.WordText.{WordText}
 use Rattle.job_words.specs.OneLine.{HasNoLineFeed, repeated_of_binding, repeated_of_netlist}
 use Rattle.job_words.specs.declared.netlist_fault.NetlistFault.{NetlistFault}
 use Rattle.job_words.specs.declared.netlist_fault.NetlistFault.TheVariants as netlist
-use Rattle.job_words.proofs.OneLineLemmas.{IsClean, clean_kept, kept_clean}
+use Rattle.job_words.proofs.OneLineLemmas.{clean_kept}
 use Rattle.job_input.specs.NetlistOf.{Aiger, Blif, BoundNetOf, InOneCycle, NetOf, NetlistText, WordsBound, of_aiger, of_binding, of_model, of_net, of_text, word_name}
 use Rattle.job_input.proofs.AigerLabelLemmas.{AigerKeeps, aiger_fault_keeps, aiger_labels}
-use Rattle.job_input.proofs.BlifLabelLemmas.{FaultPrints, IsLimit, text_fault_prints, walk_labels_print, walk_stops}
+use Rattle.job_input.proofs.BlifLabelLemmas.{IsLimit, printing_kept, walk_labels, walk_stops}
+use Rattle.job_input.proofs.BlifTextLemmas.{FaultPrints, text_fault_prints}
 use Rattle.job_input.proofs.LabelFaultLemmas.{HasCleanLabels, NetKeeps, finish_keeps, text_clean}
 
 -- what a netlist's fault repeats has no line feed
@@ -41,9 +42,6 @@ NetlistKeeps fault = AllByRecursion HasNoLineFeed (repeated_of_netlist fault)
 
 same_keeps : (fault other : NetlistFault) → fault ≡ other → NetlistKeeps other → NetlistKeeps fault
 same_keeps fault other same keeps = let P : NetlistFault → Type 0 = NetlistKeeps in subst P (sym same) keeps
-
-printing_kept : (text : List ℕ) → IsPrinting text → HasNoLineFeed text
-printing_kept text prints = All-weaker (λ b. (33 ≤ b) × (b ≤ 126)) (λ b. ¬ (b ≡ 10)) (λ b is e. absurd (omega (arith, is.0, e))) text prints
 
 -- ---- nets
 
@@ -57,13 +55,6 @@ net_keeps nets.OutOfMemory keeps = tt
 
 -- ---- BLIF
 
-walk_labels : (text : List ℕ) (design : List ModelValue) (flat : Flat) → BlifDesign text (Ok design) → walked nothing (walk_of design 0) ≡ Ok flat → HasCleanLabels (net_list flat)
-walk_labels text design flat said is = by (net_list flat).labels (walk_labels_print text design 0 flat said is)
-  where
-    by : (list : List LabelValue) → AllByRecursion (λ (l : LabelValue). IsPrinting l.text) list → AllByRecursion (λ (l : LabelValue). IsClean l.text) list
-    by [] all = tt
-    by (l ∷ list) all = (kept_clean l.text (printing_kept l.text all.0), by list all.1)
-
 settled_keeps : (net : NetList) → HasCleanLabels net → (fault : NetFault) → Settles net (Err fault) → NetKeeps fault
 settled_keeps net labels nets.TooManyNets settles = tt
 settled_keeps net labels nets.TooManyGates settles = tt
@@ -72,9 +63,11 @@ settled_keeps net labels (nets.Undriven n label) settles = finish_keeps net labe
 settled_keeps net labels (nets.Loop loop label) settles = finish_keeps net labels (nets.Loop loop label) settles
 settled_keeps net labels nets.OutOfMemory settles = tt
 
-limit_keeps : (fault : NetFault) → IsLimit fault → NetKeeps fault
-limit_keeps fault (inl same) = let P : NetFault → Type 0 = NetKeeps in subst P (sym same) tt
-limit_keeps fault (inr same) = let P : NetFault → Type 0 = NetKeeps in subst P (sym same) tt
+limit_keeps : (fault : FlatFault) → IsLimit fault → NetlistKeeps (of_model fault)
+limit_keeps fault limit = elim limit [ inl same ↦ by same tt | inr (inl same) ↦ by same tt | inr (inr same) ↦ by same tt ]
+  where
+    by : {limit : FlatFault} → fault ≡ limit → NetlistKeeps (of_model limit) → NetlistKeeps (of_model fault)
+    by same keeps = let P : FlatFault → Type 0 = λ f. NetlistKeeps (of_model f) in subst P (sym same) keeps
 
 text_keeps : (fault : BlifFault) → FaultPrints fault → NetlistKeeps (of_text fault)
 text_keeps texts.NoModel prints = tt
@@ -82,6 +75,12 @@ text_keeps (texts.Syntax line) prints = tt
 text_keeps (texts.LeftOut line word) prints = (printing_kept word prints, tt)
 text_keeps (texts.TooWide line inputs) prints = tt
 text_keeps (texts.ModelTwice line) prints = tt
+text_keeps (texts.NoSuchModel line) prints = tt
+text_keeps (texts.NoSuchFormal line) prints = tt
+text_keeps (texts.FormalTwice line) prints = tt
+text_keeps (texts.FormalMissing line) prints = tt
+text_keeps (texts.Recursive model) prints = (printing_kept model prints, tt)
+text_keeps texts.TooDeep prints = tt
 text_keeps texts.OutOfMemory prints = tt
 
 -- a fault of the model's net is one of the net
@@ -89,8 +88,8 @@ model_keeps : (fault : FlatFault) (net : NetFault) → fault ≡ flats.Net net �
 model_keeps fault net same keeps = let P : FlatFault → Type 0 = λ f. NetlistKeeps (of_model f) in subst P (sym same) (net_keeps net keeps)
 
 flat_keeps : (text : List ℕ) (design : List ModelValue) (fault : FlatFault) → BlifDesign text (Ok design) → Flattens design 0 (Err fault) → NetlistKeeps (of_model fault)
-flat_keeps text design fault said (inl (net, is, same)) = model_keeps fault net same (limit_keeps net (walk_stops nothing (walk_of design 0) net (sym is)))
-flat_keeps text design fault said (inr (flat, is, (net, settles, same))) = model_keeps fault net same (settled_keeps (net_list flat) (walk_labels text design flat said (sym is)) net settles)
+flat_keeps text design fault said (inl is) = limit_keeps fault (walk_stops nothing (walk_of design 0) fault (sym is))
+flat_keeps text design fault said (inr (flat, is, (net, settles, same))) = model_keeps fault net same (settled_keeps (net_list flat) (walk_labels text design 0 flat said (sym is)) net settles)
 
 -- ---- each form of netlists
 
@@ -105,7 +104,7 @@ aiger_keeps (aigers.Net fault) keeps = net_keeps fault keeps
 aiger_keeps aigers.OutOfMemory keeps = tt
 
 net_labels : (text : NetlistText) (net : NetList) → NetOf text (Ok net) → HasCleanLabels net
-net_labels (Blif text) net (design, said, (flat, is, settles)) = let P : NetList → Type 0 = HasCleanLabels in subst P (sym settles.0) (walk_labels text design flat said (sym is))
+net_labels (Blif text) net (design, said, (flat, is, settles)) = let P : NetList → Type 0 = HasCleanLabels in subst P (sym settles.0) (walk_labels text design 0 flat said (sym is))
 net_labels (Aiger text) net is = aiger_labels text net is
 
 net_fault_keeps : (text : NetlistText) (fault : NetlistFault) → NetOf text (Err fault) → NetlistKeeps fault
@@ -150,4 +149,4 @@ bound_keeps words feeds net fault names labels (inr (bound, is, unrolled)) = cyc
 
 pub netlist_keeps : (signature : SignatureValue) (text : NetlistText) (fault : NetlistFault) → HaveNames signature.words → BoundNetOf signature text (Err fault) → NetlistKeeps fault
 netlist_keeps signature text fault names (inl is) = net_fault_keeps text fault is
-netlist_keeps signature text fault names (inr (net, is, wrong)) = bound_keeps signature.words _ net fault names (net_labels text net is) wrong
+netlist_keeps signature text fault names (inr (net, is, wrong)) = bound_keeps signature.words signature.feeds net fault names (net_labels text net is) wrong

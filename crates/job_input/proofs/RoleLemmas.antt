@@ -39,7 +39,7 @@ binding_roles net words feeds binding (bound, is, rest) =
 pub netlist_roles : (signature : SignatureValue) (text : NetlistText) (circuit : BoundNet) → BoundNetOf signature text (Ok circuit) → HaveRoles signature.words circuit.bound.words
 netlist_roles signature text circuit (net, is_net, (bound, is, (same, flat))) =
     let P : BoundNet → Type 0 = λ c. HaveRoles signature.words c.bound.words in
-    subst P (sym same) (binding_roles net signature.words [] bound is)
+    subst P (sym same) (binding_roles net signature.words signature.feeds bound is)
 
 -- so there are as many
 pub roles_long : (words : List WordText) (bound : List BoundWord) → HaveRoles words bound → length bound ≡ length words

@@ -1,8 +1,9 @@
 -- At most one outcome comes of a signature's text.
 use Rattle.std.proofs.Common.{◌≡◌, ◌∙◌, ap, sym, refl, ℕ, ◌<◌, ◌^◌, List, [], ◌∷◌, Ok, Err, arith}
-use Rattle.text_core.specs.Outcome.{◌>>=◌, Exactly, Within, Determined}
-use Rattle.text_core.proofs.DeterminedLemmas.{determined_bind}
+use Rattle.text_core.specs.Outcome.{Outcome, ◌>>=◌, Exactly, Returns, Within, Determined}
+use Rattle.text_core.proofs.DeterminedLemmas.{determined_bind, determined_returns}
 use Rattle.irreducible.specs.Span.{IsIndependent}
+use Rattle.net_signature.specs.Body.{BlockValue}
 use Rattle.net_signature.specs.Signature.{SignatureValue, Sig}
 use Rattle.net_words.specs.declared.word.BasisText.{BasisText}
 use Rattle.net_words.specs.declared.word.BasisText.TheVariants.{Poly, Normal, Elements}
@@ -16,7 +17,9 @@ use Rattle.gf_basis.specs.declared.bases.BasisFault.TheVariants.{WrongCount, Bad
 use Rattle.gf_basis.proofs.BasisFaultLaws.{one_list_fault}
 use Rattle.gf_field.proofs.FirstOutside.{first_clash}
 use Rattle.job_input.specs.FieldOf.{FieldValue, FieldOf}
-use Rattle.job_input.specs.SettingOf.{text_fault, HasBits, NormalBasis, ListBasis, BasisOf, basis_fault, WordBasis, BasesOf, SignedValue, SignedOf, SettingWith, SettingOf}
+use Rattle.job_input.specs.SettingOf.{text_fault, HasBits, NormalBasis, ListBasis, BasisOf, basis_fault, WordBasis, BasesOf, BlocksHaveBases, feeds_within, SignedValue, SignedOf, SettingWith, SettingOf}
+use Rattle.job_input.specs.SettingValue.{SettingValue}
+use Rattle.job_words.specs.declared.signature_fault.SignatureFault.{SignatureFault}
 use Rattle.job_input.proofs.SignedLemmas.{made}
 use Rattle.job_input.proofs.FieldLemmas.{field_determined}
 use Rattle.net_flat.proofs.FlatDetermined.{determined_within}
@@ -75,19 +78,39 @@ module _ (k : ℕ) (product : ℕ → ℕ → ℕ) where
       determined_bind (WordBasis k product word) (λ basis. BasesOf k product words >>= (λ bases. Exactly (basis ∷ bases))) (word_determined word) (λ basis.
       determined_bind (BasesOf k product words) (λ bases. Exactly (basis ∷ bases)) (bases_determined words) (λ bases. determined_exactly (basis ∷ bases)))
 
+  blocks_determined : (blocks : List BlockValue) → Determined (BlocksHaveBases k product blocks)
+  blocks_determined [] = determined_exactly tt
+  blocks_determined (block ∷ blocks) = determined_bind (BasesOf k product block.words) (λ bases. BlocksHaveBases k product blocks) (bases_determined block.words) (λ bases. blocks_determined blocks)
+
 pub signed_determined : (bytes : List ℕ) → Determined (SignedOf bytes)
 unfolding SignedOf
 signed_determined bytes =
-    determined_bind (Within text_fault (Sig bytes)) (λ said. FieldOf said.modulus said.tower >>= (λ field. Exactly (signed said field))) (determined_within text_fault (Sig bytes) (text_determined bytes)) (λ said.
-    determined_bind (FieldOf said.modulus said.tower) (λ field. Exactly (signed said field)) (field_determined said.modulus said.tower) (λ field. determined_exactly (signed said field)))
+    determined_bind (Within text_fault (Sig bytes)) (λ said. FieldOf said.modulus said.tower said.upper >>= (λ field. Exactly (signed said field))) (determined_within text_fault (Sig bytes) (text_determined bytes)) (λ said.
+    determined_bind (FieldOf said.modulus said.tower said.upper) (λ field. Exactly (signed said field)) (field_determined said.modulus said.tower said.upper) (λ field. determined_exactly (signed said field)))
   where
     signed : SignatureValue → FieldValue → SignedValue
     signed said field = record { signature = said; field = field }
 
+-- the blocks, the feeds, and what is made
+module _ (signed : SignedValue) (bases : List (List ℕ)) where
+  abbrev setting : SettingValue
+  setting = made signed.signature signed.field bases
+
+  abbrev AfterBlocks : Outcome SignatureFault SettingValue
+  AfterBlocks = Returns (feeds_within signed.field.k signed.signature.feeds) >>= (λ feeds. Exactly setting)
+
+  abbrev AfterBases : Outcome SignatureFault SettingValue
+  AfterBases = BlocksHaveBases signed.field.k signed.field.product signed.signature.blocks >>= (λ blocks. AfterBlocks)
+
+  after_blocks : Determined AfterBlocks
+  after_blocks = determined_bind (Returns (feeds_within signed.field.k signed.signature.feeds)) (λ feeds. Exactly setting) (determined_returns (feeds_within signed.field.k signed.signature.feeds)) (λ feeds. determined_exactly setting)
+
+  after_bases : Determined AfterBases
+  after_bases = determined_bind (BlocksHaveBases signed.field.k signed.field.product signed.signature.blocks) (λ blocks. AfterBlocks) (blocks_determined signed.field.k signed.field.product signed.signature.blocks) (λ blocks. after_blocks)
+
 pub with_determined : (signed : SignedValue) → Determined (SettingWith signed)
 with_determined signed =
-    determined_bind (BasesOf signed.field.k signed.field.product signed.signature.words) (λ bases. Exactly (made signed.signature signed.field bases)) (bases_determined signed.field.k signed.field.product signed.signature.words)
-    (λ bases. determined_exactly (made signed.signature signed.field bases))
+    determined_bind (BasesOf signed.field.k signed.field.product signed.signature.words) (AfterBases signed) (bases_determined signed.field.k signed.field.product signed.signature.words) (after_bases signed)
 
 pub setting_determined : (bytes : List ℕ) → Determined (SettingOf bytes)
 setting_determined bytes = determined_bind (SignedOf bytes) SettingWith (signed_determined bytes) with_determined

@@ -14,18 +14,18 @@ use Rattle.gf_field.specs.ModulusLaws.{IsRing-from_modulus}
 use Rattle.gf_field.specs.IrreducibleBitLaws.{field_by_modulus}
 use Rattle.gf_tower.specs.Tower.{polynomial_of}
 use Rattle.gf_tower.specs.Digits.{IsPackedList}
-use Rattle.gf_tower.specs.FieldName.{IsFieldModulus, IsFieldTower}
+use Rattle.gf_tower.specs.FieldName.{IsFieldModulus, IsFieldTower, IsFieldUpper}
 use Rattle.gf_tower.specs.TowerLaws.{IsRing-tower, field_by_polynomial}
 use Rattle.gf_basis.specs.Basis.{IsBasis, first_values}
 use Rattle.gf_basis.specs.BasisFault.{conjugates_of}
 use Rattle.gf_basis.proofs.BasisLaws.{IsBasis-from_independent}
 use Rattle.gf_basis.proofs.CodeLaws.{length-first_values, get_or-first_values, AreElements-units, IsIndependent-powers}
-use Rattle.job_input.specs.FieldOf.{FieldValue, base_field, tower_field, FieldOf}
+use Rattle.job_input.specs.FieldOf.{FieldValue, base_field, tower_field, upper_field, FieldOf}
 use Rattle.job_input.specs.SettingOf.{BasisOf, BasesOf, SettingOf}
 use Rattle.job_input.specs.SettingValue.{SettingValue}
 use Rattle.job_input.specs.SettingSound.{IsSoundSetting}
 use Rattle.job_input.proofs.SignedLemmas.{setting_parts}
-use Rattle.job_input.proofs.SettingWords.{setting_words, setting_long}
+use Rattle.job_input.proofs.SettingWords.{setting_words, setting_feeds, setting_long}
 
 -- ---- the field
 
@@ -46,10 +46,28 @@ tower_sound d g cs base tower =
       no_zero_divisors = (field_by_polynomial d (length cs) (polynomial_of d cs) cs packs mul below.ring below.no_zero_divisors).1 tower.irreducible;
     }
 
-field_sound : (g : ℕ) (cs : List ℕ) (field : FieldValue) → FieldOf g cs (Ok field) → IsField field
-field_sound g [] field named = subst IsField (sym named.1) (base_sound named.0.degree g named.0.base)
-field_sound g (c ∷ cs) field named =
+upper_sound : (d g : ℕ) (cs us : List ℕ) → IsFieldModulus d g → IsFieldTower d g cs → IsFieldUpper d g cs us → IsField (upper_field d g cs us)
+upper_sound d g cs us base tower upper =
+    let n = d * length cs in
+    let below = tower_sound d g cs base tower in
+    let packs : IsPackedList n (length us) (polynomial_of n us) us = record { two = upper.list.size.two; small = upper.list.size.small; size = refl; elements = upper.list.elements; packs = refl } in
+    let mul = (tower_field d g cs).product in
+    record {
+      ring = IsRing-tower n (length us) (polynomial_of n us) us packs mul below.ring;
+      no_zero_divisors = (field_by_polynomial n (length us) (polynomial_of n us) us packs mul below.ring below.no_zero_divisors).1 upper.irreducible;
+    }
+
+field_sound : (g : ℕ) (cs us : List ℕ) (field : FieldValue) → FieldOf g cs us (Ok field) → IsField field
+field_sound g [] us field named = subst IsField (sym named.1) (base_sound named.0.degree g named.0.base)
+field_sound g (c ∷ cs) [] field named =
     subst IsField (sym named.1) (elim (named.0.tower) [ inl none ↦ absurd (cc) | inr tower ↦ tower_sound named.0.degree g (c ∷ cs) named.0.base tower ])
+field_sound g (c ∷ cs) (u ∷ us) field named =
+    let d = named.0.degree in
+    let base = named.0.base in
+    subst IsField (sym named.1) (elim (named.0.tower) [
+      | inl none ↦ absurd (cc)
+      | inr tower ↦ elim (named.0.upper) [ inl none ↦ absurd (cc) | inr upper ↦ upper_sound d g (c ∷ cs) (u ∷ us) base tower upper ]
+    ])
 
 -- ---- the bases
 
@@ -90,13 +108,13 @@ module _ (k : ℕ) (product : ℕ → ℕ → ℕ) (ring : IsRing k product) whe
 
 sound_parts : (bytes : List ℕ) (value : SettingValue) → SettingOf bytes (Ok value) → IsField (record { k = value.k; product = value.product }) × ((basis : List ℕ) → Has value.bases basis → IsBasis value.k basis)
 sound_parts bytes value is =
-    let ok = setting_parts bytes value is in
-    let field = ok.2.0 in
-    let is_field = field_sound ok.0.modulus ok.0.tower field ok.2.1 in
+    let parts = setting_parts bytes value is in
+    let field = parts.field in
+    let is_field = field_sound parts.said.modulus parts.said.tower parts.said.upper field parts.named in
     let P : SettingValue → Type 0 = λ v. IsField (record { k = v.k; product = v.product }) × ((basis : List ℕ) → Has v.bases basis → IsBasis v.k basis) in
-    subst P (sym ok.2.2.2) (is_field, bases_sound field.k field.product is_field.ring ok.0.words ok.2.2.0 ok.2.2.1)
+    subst P (sym parts.value_is) (is_field, bases_sound field.k field.product is_field.ring parts.said.words parts.bases parts.have_bases)
 
 pub setting_sound : (bytes : List ℕ) (value : SettingValue) → SettingOf bytes (Ok value) → IsSoundSetting value
 setting_sound bytes value ok =
     let parts = sound_parts bytes value ok in
-    record { ring = parts.0.ring; field = parts.0.no_zero_divisors; words = setting_words bytes value ok; long = setting_long bytes value ok; each = parts.1 }
+    record { ring = parts.0.ring; field = parts.0.no_zero_divisors; words = setting_words bytes value ok; feeds = setting_feeds bytes value ok; long = setting_long bytes value ok; each = parts.1 }

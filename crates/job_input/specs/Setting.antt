@@ -1,10 +1,13 @@
 -- What a `Setting` is made of, and the stops of its making. Source: this project's own.
-use Rattle.std.specs.Prelude.{◌≡◌, ℕ, ◌*◌, ◌≤◌, List, filter, length, map}
+use Rattle.std.specs.Prelude.{◌≡◌, ℕ, ◌*◌, ◌≤◌, List, filter, length, map, Result, Ok}
 use Rattle.net_core.specs.Lists.{Has}
 use Rattle.net_words.specs.Binding.{AreWords, BoundNet}
+use Rattle.net_words.specs.Feeds.{AreFeeds}
 use Rattle.net_words.specs.Roles.{is_output, input_count}
 use Rattle.net_words.specs.declared.bound.BoundWord.{BoundWord}
+use Rattle.net_words.specs.declared.word.Role.{Role}
 use Rattle.net_words.specs.declared.word.WordText.{WordText}
+use Rattle.net_signature.specs.Signature.{SignatureValue}
 use Rattle.net_signature.specs.WordNames.{HaveNames}
 use Rattle.net_signature.specs.declared.fault.SigFault.{SigFault}
 use Rattle.net_signature.specs.declared.fault.SigFault.TheVariants.{Syntax, NameTwice, NoFedWord, FeedTwice, TwoOutputs, TooManyWords, NoOutput, OutOfMemory}
@@ -22,9 +25,10 @@ use Rattle.job_input.specs.declared.setting.Setting.{Setting}
 use Rattle.job_input.specs.declared.signed.Signed.{Signed}
 use Rattle.job_input.specs.FieldOf.{FieldValue}
 use Rattle.job_words.specs.declared.fault.Fault.TheVariants.{Signature}
+use Rattle.job_words.specs.declared.signature_fault.SignatureFault.{SignatureFault}
 use Rattle.job_words.specs.declared.stop.Stop.{Stop}
 use Rattle.job_words.specs.declared.stop.Stop.TheVariants as stops
-use Rattle.job_input.specs.SettingOf.{text_fault, SignedValue}
+use Rattle.job_input.specs.SettingOf.{feeds_within, text_fault, SignedValue}
 use Rattle.job_input.specs.SettingValue.{SettingValue}
 
 -- how many bits an element of the field has
@@ -79,19 +83,26 @@ text_stop (TooManyWords line) = stops.Refused (Signature (text_fault (TooManyWor
 text_stop (NoOutput block) = stops.Refused (Signature (text_fault (NoOutput block)))
 text_stop OutOfMemory = stops.OutOfMemory
 
--- what is known of the words of each signature: one is the output, at most eight are others, and they have names, no two the same
-pub record AreSaid (words : List WordText) : Type 0 where
-  pub output : length (filter is_output words) ≡ 1
-  pub others : input_count words ≤ 8
-  pub names : HaveNames words
+-- what each word is to the netlist
+abbrev pub roles_of : List WordText → List Role
+roles_of words = map (λ word. word.role) words
 
--- what is known of each setting over a field: its bases are over the field, one for each word; its words have k nets each,
--- one is the output, and at most eight are others; and they have names, no two the same
+-- What is known of each signature: one word is the output, at most eight are others, they have names, no two the same, and
+-- the feeds can be bound where their places are below k.
+pub record AreSaid (signature : SignatureValue) : Type 0 where
+  pub output : length (filter is_output signature.words) ≡ 1
+  pub others : input_count signature.words ≤ 8
+  pub names : HaveNames signature.words
+  pub feeds : (k : ℕ) → ◌≡◌ {A = Result (Unit {0}) SignatureFault} (Ok tt) (feeds_within k signature.feeds) → AreFeeds k (roles_of signature.words) signature.feeds
+
+-- what is known of each setting over a field: its bases are over the field, one for each word; its words have k nets each
+-- or are fed, one is the output, and at most eight are others; they have names, no two the same; and its feeds can be bound
 pub record IsReady (k : ℕ) (product : ℕ → ℕ → ℕ) (setting : Setting) : Type 0 where
   pub over : AreBasesOver k product setting.bases.items
   pub long : length setting.bases.items ≡ length setting.signature.words
   pub words : AreWords k setting.signature.words
   pub names : HaveNames setting.signature.words
+  pub feeds : AreFeeds k (roles_of setting.signature.words) setting.signature.feeds
 
 -- the bound words are as many as these, and have their roles
 abbrev pub HaveRoles : List WordText → List BoundWord → Type 0

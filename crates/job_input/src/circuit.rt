@@ -4,10 +4,11 @@ ghost use Rattle.text_core.specs.Outcome.{Within};
 ghost use Rattle.job_io.specs.Counts.{Rose};
 ghost use Rattle.net_words.specs.Bind.{bits_of};
 ghost use Rattle.net_words.specs.Binding.{AreWords};
+ghost use Rattle.net_words.specs.Feeds.{AreFeeds};
 ghost use Rattle.job_words.specs.Stop.{GivesBy};
 ghost use Rattle.job_words.specs.declared.fault.Fault.TheVariants.{Netlist};
 ghost use Rattle.job_input.specs.NetlistOf.{BoundNetOf, CircuitIn, by_ending};
-ghost use Rattle.job_input.specs.Setting.{IsReady, IsTakenFor};
+ghost use Rattle.job_input.specs.Setting.{IsReady, IsTakenFor, roles_of};
 
 use crate::files::read_file;
 use crate::netlist::{Refusal, bound_net};
@@ -49,7 +50,7 @@ fn circuit_of(
     text: &[u8],
 ) -> Result<Combinational, Stop>
     requires short { length text.now ≤ 67108864 }
-    requires words { (k : ℕ) × AreWords k signature.now.words }
+    requires words { (k : ℕ) × AreWords k signature.now.words × AreFeeds k (roles_of signature.now.words) signature.now.feeds }
     ensures gives { GivesBy (λ circuit. circuit) result (Within (Netlist file.now) (BoundNetOf signature.now (by_ending file.now text.now))) ⊥ ⊥ }
     ensures bits { IfOk result (λ circuit. circuit.bound.k ≡ bits_of signature.now.words) }
 {

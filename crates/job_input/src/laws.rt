@@ -20,7 +20,7 @@ pub fn one_setting_or_fault()
     ensures { (text : List ℕ) → Determined (SettingOf text) }
 {}
 
-/// The field of a setting is a field, its words can be bound, and each of them has a basis of the field.
+/// The field of a setting is a field, its words and feeds can be bound, and each word has a basis of the field.
 pub fn each_setting_is_sound()
     ensures { (text : List ℕ) (setting : SettingValue) → SettingOf text (Ok setting) → IsSoundSetting setting }
 {}

@@ -1,11 +1,12 @@
 //! A netlist: its text, its net, and the binding of the signature's words.
-ghost use Rattle.std.specs.Prelude.{◌≡◌, ◌≤◌, ◌<◌, ℕ, length, map, IfOk, IsOk};
+ghost use Rattle.std.specs.Prelude.{◌≡◌, ◌≤◌, ◌<◌, ℕ, length, IfOk, IsOk};
 ghost use Rattle.net_core.specs.NetList.{nets, text_of};
 ghost use Rattle.net_words.specs.Bind.{bits_of};
 ghost use Rattle.net_words.specs.Binding.{AreWords};
 ghost use Rattle.net_words.specs.Feeds.{AreFeeds};
 ghost use Rattle.job_words.specs.Operands.{is_aiger as ends_as_aiger};
 ghost use Rattle.job_input.specs.NetlistOf.{Aiger, Blif, BoundNetOf, NetOf, WordsBound, by_ending, of_binding, word_name as name_of};
+ghost use Rattle.job_input.specs.Setting.{roles_of};
 ghost use Rattle.job_input.specs.private.NetlistReading.{FitsNetlist, IsNamed, IsNetlistRefusal, IsUnrollingFault, aiger_refusal, text_refusal, model_refusal, net_refusal};
 
 use job_words::{BindingFault, NetlistFault};
@@ -32,7 +33,7 @@ pub(crate) fn bound_net(
     text: &[u8],
 ) -> Result<Combinational, Refusal>
     requires short { length text.now ≤ 67108864 }
-    requires words { (k : ℕ) × AreWords k signature.now.words × AreFeeds k (map (λ word. word.role) signature.now.words) signature.now.feeds }
+    requires words { (k : ℕ) × AreWords k signature.now.words × AreFeeds k (roles_of signature.now.words) signature.now.feeds }
     ensures fits { FitsNetlist result (BoundNetOf signature.now (by_ending file.now text.now)) }
     ensures bits { IfOk result (λ circuit. circuit.bound.k ≡ bits_of signature.now.words) }
 {
@@ -49,7 +50,7 @@ fn bound_to(
     feeds: &[FeedText],
     net: Net,
 ) -> Result<Combinational, Refusal>
-    requires words { (k : ℕ) × AreWords k words.now × AreFeeds k (map (λ word. word.role) words.now) feeds.now }
+    requires words { (k : ℕ) × AreWords k words.now × AreFeeds k (roles_of words.now) feeds.now }
     ensures fits { FitsNetlist result (WordsBound words.now feeds.now net) }
     ensures bits { IfOk result (λ circuit. circuit.bound.k ≡ bits_of words.now) }
 {

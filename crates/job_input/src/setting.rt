@@ -25,13 +25,14 @@ pub struct Setting {
 }
 
 /// The setting of a signature over its field, or the first fault: line by line that of the number of a word's bits, and of
-/// its basis. One word of the signature is the output, at most eight are others, and all have names.
+/// its basis, for the words of the top and then for those of the blocks; and then the first feed from a place that is not
+/// below the field's degree. One word of the signature is the output, at most eight are others, and all have names.
 pub fn setting_over<F: Field>(
     alloc: Global,
     field: &F,
     signature: net_signature::Signature,
 ) -> Result<Setting, Stop>
-    requires said { AreSaid signature.words }
+    requires said { AreSaid signature }
     ensures gives { GivesBy (setting_value (F.degree field.now) (F.product field.now)) result
         (Within Signature (SettingWith (record { signature = signature; field = record { k = F.degree field.now; product = F.product field.now } }))) ⊥ ⊥ }
     ensures ready { IfOk result (λ setting. IsReady (F.degree field.now) (F.product field.now) setting) }

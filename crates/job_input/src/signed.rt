@@ -32,7 +32,7 @@ pub fn read_signed<S: Shelf>(alloc: Global, shelf: &mut S, file: &str) -> Result
     ensures never_fall { (S.faults shelf.old ≤ S.faults shelf.new) × (S.misses shelf.old ≤ S.misses shelf.new) }
     ensures gives { GivesBy signed_value result (SignedIn (S.held shelf.old) file.now)
         (Rose (S.misses shelf.old) (S.misses shelf.new)) (Rose (S.faults shelf.old) (S.faults shelf.new)) }
-    ensures said { IfOk result (λ signed. AreSaid signed.signature.words) }
+    ensures said { IfOk result (λ signed. AreSaid signed.signature) }
 {
     let text = match read_file(alloc, shelf, file) {
         Ok(text) => text,
@@ -45,7 +45,7 @@ pub fn read_signed<S: Shelf>(alloc: Global, shelf: &mut S, file: &str) -> Result
 fn signed_of(alloc: Global, text: &[u8]) -> Result<Signed, Stop>
     requires { length text.now ≤ 67108864 }
     ensures gives { GivesBy signed_value result (Within Signature (SignedOf text.now)) ⊥ ⊥ }
-    ensures said { IfOk result (λ signed. AreSaid signed.signature.words) }
+    ensures said { IfOk result (λ signed. AreSaid signed.signature) }
 {
     let signature = match read_signature(alloc, text) {
         Ok(signature) => signature,

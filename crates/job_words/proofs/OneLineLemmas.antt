@@ -10,7 +10,7 @@ use Rattle.poly_mixed.specs.declared.stage.Stage.TheVariants as stages
 use Rattle.job_words.specs.Fault.{fault_line, fault_text}
 use Rattle.job_words.specs.FileFault.{file_text}
 use Rattle.job_words.specs.NetlistFault.{binding_text, place_text, netlist_text}
-use Rattle.job_words.specs.OneLine.{HasNoLineFeed, IsOneLine, KeepsToItsLine, repeated_of_binding, repeated_of_file, repeated_of_netlist}
+use Rattle.job_words.specs.OneLine.{HasNoLineFeed, IsOneLine, KeepsToItsLine, repeated_of_binding, repeated_of_file, repeated_of_netlist, repeated_of_signature}
 use Rattle.job_words.specs.Operands.{Word}
 use Rattle.job_words.specs.SignatureFault.{signature_text}
 use Rattle.job_words.specs.SpecificationFault.{specification_text}
@@ -104,19 +104,22 @@ file_clean : (fault : FileFault) → AllByRecursion HasNoLineFeed (repeated_of_f
 file_clean (file.Absent name) kept = word_then name (codes " is absent") kept.0 refl
 file_clean (file.TooLong name) kept = word_then name (codes " has more than 67108864 bytes") kept.0 refl
 
-signature_clean : (fault : SignatureFault) → IsClean (signature_text fault)
-signature_clean (signature.Syntax line) = number_clean line
-signature_clean signature.Degree = refl
-signature_clean signature.Modulus = refl
-signature_clean signature.TowerPolynomial = refl
-signature_clean (signature.Dependent line) = number_clean line
-signature_clean (signature.Basis line) = number_clean line
-signature_clean signature.Tower = refl
-signature_clean (signature.Bits line) = number_clean line
-signature_clean (signature.NameTwice line) = number_clean line
-signature_clean signature.NoOutput = refl
-signature_clean (signature.TwoOutputs line) = number_clean line
-signature_clean (signature.TooManyWords line) = number_clean line
+signature_clean : (fault : SignatureFault) → AllByRecursion HasNoLineFeed (repeated_of_signature fault) → IsClean (signature_text fault)
+signature_clean (signature.NoFedWord line) kept = number_clean line
+signature_clean (signature.FeedTwice line) kept = number_clean line
+signature_clean (signature.Syntax line) kept = number_clean line
+signature_clean signature.Degree kept = refl
+signature_clean signature.Modulus kept = refl
+signature_clean signature.TowerPolynomial kept = refl
+signature_clean (signature.Dependent line) kept = number_clean line
+signature_clean (signature.Basis line) kept = number_clean line
+signature_clean signature.Tower kept = refl
+signature_clean (signature.Bits line) kept = number_clean line
+signature_clean (signature.NameTwice line) kept = number_clean line
+signature_clean signature.NoOutput kept = refl
+signature_clean (signature.NoOutputInBlock model) kept = kept_clean model kept.0
+signature_clean (signature.TwoOutputs line) kept = number_clean line
+signature_clean (signature.TooManyWords line) kept = number_clean line
 
 -- a bit of a word, and a text behind it
 bit_then : (word : Word) (place : ℕ) (rest : List ℕ) → HasNoLineFeed word → IsClean rest → IsClean (place_text word place rest)
@@ -136,12 +139,19 @@ netlist_clean (netlist.Syntax line) kept = number_clean line
 netlist_clean (netlist.LeftOut line word) kept = word_then word (codes " at line " ++ decimal line) kept.0 (number_clean line)
 netlist_clean netlist.NoModel kept = refl
 netlist_clean (netlist.ModelTwice line) kept = number_clean line
+netlist_clean (netlist.NoSuchModel line) kept = number_clean line
+netlist_clean (netlist.NoSuchFormal line) kept = number_clean line
+netlist_clean (netlist.FormalTwice line) kept = number_clean line
+netlist_clean (netlist.FormalMissing line) kept = number_clean line
+netlist_clean (netlist.Recursive model) kept = word_then model (codes " contains itself") kept.0 refl
+netlist_clean netlist.TooDeep kept = refl
 netlist_clean (netlist.DrivenTwice label) kept = word_then label (codes " is driven twice") kept.0 refl
 netlist_clean (netlist.Undriven label) kept = word_then label (codes " is not driven") kept.0 refl
 netlist_clean (netlist.Loop count label) kept = clean_then (codes "36: loop of " ++ (decimal count ++ codes " nets through ")) label (number_then count (codes " nets through ") refl) (kept_clean label kept.0)
 netlist_clean (netlist.TooWide line inputs) kept = number_then inputs (codes " inputs at line " ++ decimal line) (number_clean line)
 netlist_clean netlist.TooManyNets kept = refl
 netlist_clean netlist.TooManyGates kept = refl
+netlist_clean netlist.TooManyInstances kept = refl
 netlist_clean (netlist.Literal line) kept = number_clean line
 netlist_clean (netlist.DefinedTwice line) kept = number_clean line
 netlist_clean (netlist.Undefined line) kept = number_clean line
@@ -161,7 +171,7 @@ stage_clean fault kept = word_then fault.stage _ kept (number_then fault.terms (
 text_clean : (fault : Fault) → KeepsToItsLine fault → IsClean (fault_text fault)
 text_clean faults.Words kept = refl
 text_clean (faults.File fault) kept = file_clean fault kept
-text_clean (faults.Signature fault) kept = signature_clean fault
+text_clean (faults.Signature fault) kept = signature_clean fault kept
 text_clean (faults.Netlist name fault) kept = clean_then (netlist_text fault) (codes " in " ++ name) (netlist_clean fault kept.1) (kept_clean name kept.0)
 text_clean (faults.Specification fault) kept = specification_clean fault
 text_clean (faults.Stage fault) kept = stage_clean fault kept.0

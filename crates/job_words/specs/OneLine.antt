@@ -10,6 +10,8 @@ use Rattle.job_words.specs.declared.netlist_fault.BindingFault.{BindingFault}
 use Rattle.job_words.specs.declared.netlist_fault.BindingFault.TheVariants as binding
 use Rattle.job_words.specs.declared.netlist_fault.NetlistFault.{NetlistFault}
 use Rattle.job_words.specs.declared.netlist_fault.NetlistFault.TheVariants as netlist
+use Rattle.job_words.specs.declared.signature_fault.SignatureFault.{SignatureFault}
+use Rattle.job_words.specs.declared.signature_fault.SignatureFault.TheVariants as signature
 
 -- no line feed is among the bytes
 abbrev pub HasNoLineFeed : List ℕ → Type 0
@@ -26,6 +28,11 @@ abbrev pub repeated_of_file : FileFault → List Word
 repeated_of_file (file.Absent name) = name ∷ []
 repeated_of_file (file.TooLong name) = name ∷ []
 
+-- what a signature's fault repeats of the signature
+abbrev pub repeated_of_signature : SignatureFault → List Word
+repeated_of_signature (signature.NoOutputInBlock model) = model ∷ []
+repeated_of_signature fault = []
+
 -- what a binding's fault repeats of the signature and the netlist
 abbrev pub repeated_of_binding : BindingFault → List Word
 repeated_of_binding (binding.NoSuchNet word place) = word ∷ []
@@ -39,6 +46,7 @@ repeated_of_binding (binding.UnknownStart label) = label ∷ []
 -- what a netlist's fault repeats of the netlist, and of the signature where it is the binding's
 abbrev pub repeated_of_netlist : NetlistFault → List Word
 repeated_of_netlist (netlist.LeftOut line word) = word ∷ []
+repeated_of_netlist (netlist.Recursive model) = model ∷ []
 repeated_of_netlist (netlist.DrivenTwice label) = label ∷ []
 repeated_of_netlist (netlist.Undriven label) = label ∷ []
 repeated_of_netlist (netlist.Loop count label) = label ∷ []
@@ -48,6 +56,7 @@ repeated_of_netlist fault = []
 -- what a fault repeats of words and files: all else in its line is the program's own
 abbrev pub repeated : Fault → List Word
 repeated (faults.File fault) = repeated_of_file fault
+repeated (faults.Signature fault) = repeated_of_signature fault
 repeated (faults.Netlist name fault) = name ∷ repeated_of_netlist fault
 repeated (faults.Stage fault) = fault.stage ∷ []
 repeated fault = []

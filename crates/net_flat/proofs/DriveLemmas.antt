@@ -8,11 +8,10 @@ use Rattle.net_core.specs.GateValue.{GateValue}
 use Rattle.net_core.specs.declared.latch.Start.{Start}
 use Rattle.net_core.specs.declared.fault.NetFault.TheVariants as faults
 use Rattle.std.specs.Option.{option_map_or}
-use Rattle.net_blif.specs.Connection.{actual_of}
 use Rattle.net_blif.specs.Statement.{Token}
 use Rattle.net_blif.specs.Design.{ModelValue, items_of, model_named}
 use Rattle.net_flat.specs.Paths.{inner, label_of, path_in, same_path, top, Path, Scope}
-use Rattle.net_flat.specs.Steps.{actual_steps, along, input_steps, output_steps, steps_of, Step, Mention, Input, Output, Gate, Latch, Enter}
+use Rattle.net_flat.specs.Steps.{along, steps_of, Step, Mention, Input, Output, Gate, Latch, Enter}
 use Rattle.net_flat.specs.Walk.{body_in, is_top, lines_in, next_number, steps_in, walk_of, walk_within}
 use Rattle.net_flat.specs.Flat.{after_step, gate_on, latch_on, net_list, nothing, number, on_value, place_from, walked, was_mentioned, Flat}
 use Rattle.net_flat.specs.declared.flat_fault.FlatFault.{FlatFault}

@@ -9,7 +9,6 @@ use Rattle.std.proofs.lemmas.List.Elements.{All-append, All-map}
 use Rattle.std.proofs.lemmas.Slice.Eq.{bytes_eq-Decides}
 use Rattle.std.proofs.Math.Seq.{take-suc}
 use Rattle.net_core.specs.NetList.{NetList, nets, number_of, with_gate, with_latch, with_label, with_name}
-use Rattle.net_core.specs.GateValue.{GateValue}
 use Rattle.net_core.specs.Inside.{HasNoMoreGates, IsFull}
 use Rattle.net_core.specs.declared.latch.Start.{Start}
 use Rattle.net_core.specs.declared.fault.NetFault.{NetFault}
@@ -22,11 +21,11 @@ use Rattle.net_blif.specs.declared.item.Item.{Item}
 use Rattle.net_blif.specs.declared.item.Item.TheVariants as items
 use Rattle.net_flat.specs.Steps.{steps_of, gate_steps, input_steps, latch_steps, output_steps, Step, Mention, Input, Output, Gate, Latch, Enter}
 use Rattle.net_flat.specs.Walk.{next_number}
-use Rattle.net_flat.specs.Flat.{on_value, walked_by}
+use Rattle.net_flat.specs.Flat.{on_value}
 use Rattle.net_flat.specs.private.LocalWalk.{back_to, entered, found, found_by, is_in_top, local_body, local_gate, local_latch, local_line, local_lines, local_step, local_walked, local_with, local_within, net_with, number_in, on_net, state_with, with_new, AreInside, HasEach, InTop, Inside, IsFaultOf, Local, State}
 use Rattle.net_flat.specs.declared.flat_fault.FlatFault.{FlatFault}
 use Rattle.net_flat.specs.declared.flat_fault.FlatFault.TheVariants.{Net, OutOfMemory, TooManyInstances}
-use Rattle.net_flat.proofs.SameLemmas.{local_walk_none, local_walk_step, walked_append}
+use Rattle.net_flat.proofs.SameLemmas.{walked_append}
 
 -- a first part that was walked
 pub walked_front : (s t : State) (xs ys : List (Step Token)) → local_walked s xs ≡ Ok t → local_walked s (xs ++ ys) ≡ local_walked t ys

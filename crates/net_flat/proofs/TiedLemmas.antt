@@ -1,23 +1,21 @@
 -- What the walk over paths has met, and what tables know of it.
-use Rattle.std.proofs.Common.{◌≡◌, ◌⊎◌, ◌∙◌, inl, inr, ap, sym, refl, subst, append_assoc, append-nil, ℕ, zero, suc, ◌+◌, ◌<◌, ◌≤◌, ◌^◌, Bool, true, false, cond, List, [], ◌∷◌, ◌++◌, map, length, Option, None, Some, Result, Ok, Err, arith}
-use Rattle.std.specs.Prelude.{is_some, unwrap_or, nat_le, codes}
-use Rattle.std.specs.Fmt.{decimal}
+use Rattle.std.proofs.Common.{◌≡◌, ◌⊎◌, ◌∙◌, inl, inr, ap, sym, refl, subst, append_assoc, append-nil, ℕ, ◌+◌, ◌≤◌, ◌^◌, Bool, true, false, cond, List, [], ◌∷◌, ◌++◌, map, length, Option, None, Some, Result, Ok, Err, arith}
+use Rattle.std.specs.Prelude.{is_some, unwrap_or, nat_le}
 use Rattle.std.specs.Str.{bytes_eq}
 use Rattle.std.proofs.lemmas.List.{length-map, map_push}
 use Rattle.std.proofs.lemmas.Slice.Eq.{bytes_eq-Decides}
 use Rattle.net_core.specs.NetList.{NetList, nets, number_from, with_gate, with_latch}
-use Rattle.net_core.specs.declared.latch.Start.{Start}
 use Rattle.net_core.specs.declared.fault.NetFault.TheVariants as faults
 use Rattle.net_blif.specs.Statement.{Token}
-use Rattle.net_blif.specs.Table.{with_number, Numbers}
+use Rattle.net_blif.specs.Table.{Numbers}
 use Rattle.net_flat.specs.Paths.{label_of, path_in, prefix_of, same_path, At, Path, Scope}
 use Rattle.net_flat.specs.Steps.{along, Step, Mention, Input, Output, Gate, Latch, Enter}
 use Rattle.net_flat.specs.Walk.{is_top}
-use Rattle.net_flat.specs.Flat.{after_step, gate_on, latch_on, net_list, number, on_value, place_from, walked, walked_by, Flat}
-use Rattle.net_flat.specs.private.LocalWalk.{found, found_by, is_in_top, local_gate, local_latch, local_step, local_walked, local_with, net_with, number_in, on_net, prefix_in, state_with, with_new, InTop, Inside, Local, State}
+use Rattle.net_flat.specs.Flat.{after_step, gate_on, latch_on, net_list, number, on_value, place_from, walked, Flat}
+use Rattle.net_flat.specs.private.LocalWalk.{found_by, is_in_top, local_gate, local_latch, local_step, local_walked, local_with, net_with, number_in, on_net, prefix_in, state_with, with_new, InTop, Inside, Local, State}
 use Rattle.net_flat.specs.declared.flat_fault.FlatFault.{FlatFault}
 use Rattle.net_flat.specs.declared.flat_fault.FlatFault.TheVariants.{Net, TooManyInstances}
-use Rattle.net_flat.proofs.PathLemmas.{each_append, each_weaker, name_same, no_longer, path_other, path_same, place_append, place_kept, place_named, place_past, or_place, trail_of, Each}
+use Rattle.net_flat.proofs.PathLemmas.{each_append, name_same, no_longer, path_same, place_append, place_kept, place_named, or_place, trail_of, Each}
 
 -- the state with these names
 abbrev pub tie : Flat → Local → State

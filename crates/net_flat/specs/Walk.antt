@@ -1,7 +1,6 @@
 -- The walk over the lines of a model and through its instances. Source: the Berkeley Logic Interchange Format (BLIF), University of California, Berkeley.
 use Rattle.std.specs.Prelude.{ℕ, zero, suc, ◌+◌, Bool, true, false, List, [], ◌∷◌, ◌++◌, map}
 use Rattle.std.specs.Option.{option_map_or}
-use Rattle.net_blif.specs.Statement.{Token}
 use Rattle.net_blif.specs.Design.{ModelValue, items_of, model_named}
 use Rattle.net_blif.specs.declared.item.Item.{Item}
 use Rattle.net_blif.specs.declared.item.Item.TheVariants as items

@@ -8,7 +8,7 @@ ghost use Rattle.net_blif.specs.Item.{IsSoundItem};
 ghost use Rattle.net_blif.specs.Statement.{IsToken};
 ghost use Rattle.net_blif.specs.Table.{numbers_in};
 ghost use Rattle.net_flat.specs.Steps.{Enter, actual_steps};
-ghost use Rattle.net_flat.specs.Walk.{next_number as number_after};
+ghost use Rattle.net_flat.specs.Walk.{next_number};
 ghost use Rattle.net_flat.specs.private.LocalScope.{local_in};
 ghost use Rattle.net_flat.specs.private.LocalWalk.{AreInside, IsFaultOf, entered, local_line, local_walked, local_within, number_in, numbers_of as numbers_of_actuals, prefix_in};
 ghost use Rattle.net_flat.specs.private.WalkerState.{state_of};
@@ -21,14 +21,14 @@ use net_blif::{Design, Item, Table, TokenSlice, sides, text_of};
 use std::alloc::AllocError;
 use std::mem;
 
-// The number of the next instance.
-fn next_number(number: u64, item: &Item<'_>) -> u64
-    requires { number + 1 < 2 ^ 64 }
-    ensures { result ≡ number_after number item.now }
+// How many instances were met, with those of this line.
+fn met_with(met: u64, item: &Item<'_>) -> u64
+    requires { met + 1 < 2 ^ 64 }
+    ensures { result + 1 ≡ next_number (met + 1) item.now }
 {
     match item {
-        Item::Instance { .. } => number + 1,
-        _ => number,
+        Item::Instance { .. } => met + 1,
+        _ => met,
     }
 }
 
@@ -143,11 +143,11 @@ impl Walker {
             return Ok(());
         }
         let lines = design.items(model);
-        let mut number = 1u64;
+        let mut met = 0u64;
         for place in 0..lines.len() {
             let item = lines.get(place);
-            self.line(design, number, &item, depth - 1)?;
-            number = next_number(number, &item);
+            self.line(design, met + 1, &item, depth - 1)?;
+            met = met_with(met, &item);
         }
         Ok(())
     }

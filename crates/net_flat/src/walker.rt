@@ -321,6 +321,7 @@ impl Walker {
         requires sides { IsTrue (list_all is_connection connections.now) }
         requires inside { AreInside (state_of self.old) }
         ensures numbers { OnOk result (self.new.inputs.items ≡ map (number_in (state_of self.new)) (map actual_of connections.now)) }
+        ensures found { OnOk result (HasEach (state_of self.new) (map actual_of connections.now)) }
         ensures made { OnOk result (local_walked (state_of self.old) (Enter ∷ actual_steps connections.now) ≡ Ok (state_of self.new)) }
         ensures inside { OnOk result (AreInside (state_of self.new)) }
         ensures fault { IfErr result (IsFaultOf (local_walked (state_of self.old) (Enter ∷ actual_steps connections.now))) }

@@ -24,6 +24,9 @@ mod words;
 
 pub use blocks::Block;
 pub use fault::SigFault;
-pub use laws::{named_models_are_tokens, one_signature_or_fault, words_have_names};
+pub use laws::{
+    feeds_are_of_fed_words, named_models_are_tokens, no_tower_over_none, one_signature_or_fault,
+    words_have_names,
+};
 pub use reader::read_signature;
 pub use signature::Signature;

@@ -1,8 +1,8 @@
 //! Netlists that are refused.
 use crate::row::Row;
 use crate::texts::{
-    EMPTY, HIERARCHY, LIBRARY_GATE, LOOP, MODEL_TWICE, MULTIPLIER, NO_DRIVER, TWO_DRIVERS, WIDE,
-    WORD_OF_4, WORDS_OF_4,
+    DIGIT_WORDS, EMPTY, HIERARCHY, LIBRARY_GATE, LOOP, MODEL_TWICE, MULTIPLIER, NO_DRIVER,
+    TOP_WORDS, TWO_DRIVERS, WIDE, WORD_OF_4, WORDS_OF_4,
 };
 
 pub static ROWS_1: [Row; 9] = [
@@ -198,11 +198,11 @@ pub static ROWS_3: [Row; 8] = [
         text: "fault 30: netlist line 3 in mul\n",
     },
     Row {
-        name: "abstract of an instance",
-        words: &["abstract", "s4", "hier"],
-        files: &[("s4", WORDS_OF_4, 0, ""), ("hier", HIERARCHY, 0, "")],
+        name: "abstract of a feed of a net that is not there",
+        words: &["abstract", "s4d", "mul"],
+        files: &[("s4d", DIGIT_WORDS, 0, ""), ("mul", MULTIPLIER, 0, "")],
         status: 2,
-        text: "fault 31: .subckt at line 4 in hier\n",
+        text: "fault 13: feed at line 6 is no free input in mul\n",
     },
     Row {
         name: "bits of a state word where there is no latch",
@@ -223,5 +223,130 @@ pub static ROWS_3: [Row; 8] = [
         ],
         status: 2,
         text: "fault 39: no net for B[0] in mul\n",
+    },
+];
+
+pub static ROWS_4: [Row; 9] = [
+    Row {
+        name: "abstract of two instances",
+        words: &["abstract", "s4h", "hier"],
+        files: &[("s4h", TOP_WORDS, 0, ""), ("hier", HIERARCHY, 0, "")],
+        status: 0,
+        text: "Z = A^2*B\n",
+    },
+    Row {
+        name: "abstract of an instance without an input",
+        words: &["abstract", "s4h", "hier"],
+        files: &[
+            ("s4h", TOP_WORDS, 0, ""),
+            (
+                "hier",
+                HIERARCHY,
+                4,
+                ".subckt mul a0=a0 a1=a1 b0=b0 z0=t0 z1=t1",
+            ),
+        ],
+        status: 2,
+        text: "fault 32: formal missing at line 4 in hier\n",
+    },
+    Row {
+        name: "abstract of an instance with a formal that its model lacks",
+        words: &["abstract", "s4h", "hier"],
+        files: &[
+            ("s4h", TOP_WORDS, 0, ""),
+            (
+                "hier",
+                HIERARCHY,
+                4,
+                ".subckt mul c0=a0 a1=a1 b0=b0 b1=b1 z0=t0 z1=t1",
+            ),
+        ],
+        status: 2,
+        text: "fault 32: no such formal at line 4 in hier\n",
+    },
+    Row {
+        name: "abstract of an instance with a formal twice",
+        words: &["abstract", "s4h", "hier"],
+        files: &[
+            ("s4h", TOP_WORDS, 0, ""),
+            (
+                "hier",
+                HIERARCHY,
+                4,
+                ".subckt mul a0=a0 a1=a1 b0=b0 b1=b1 z0=t0 z0=t1",
+            ),
+        ],
+        status: 2,
+        text: "fault 32: formal twice at line 4 in hier\n",
+    },
+    Row {
+        name: "abstract of an instance of no model",
+        words: &["abstract", "s4h", "hier"],
+        files: &[
+            ("s4h", TOP_WORDS, 0, ""),
+            (
+                "hier",
+                HIERARCHY,
+                4,
+                ".subckt mult a0=a0 a1=a1 b0=b0 b1=b1 z0=t0 z1=t1",
+            ),
+        ],
+        status: 2,
+        text: "fault 32: no such model at line 4 in hier\n",
+    },
+    Row {
+        name: "abstract of a model that contains itself",
+        words: &["abstract", "s4h", "hier"],
+        files: &[
+            ("s4h", TOP_WORDS, 0, ""),
+            ("hier", HIERARCHY, 4, ".subckt top a0=a0 a1=a1 b0=b0 b1=b1"),
+        ],
+        status: 2,
+        text: "fault 32: model top contains itself in hier\n",
+    },
+    Row {
+        name: "abstract of an instance with half a connection",
+        words: &["abstract", "s4h", "hier"],
+        files: &[
+            ("s4h", TOP_WORDS, 0, ""),
+            (
+                "hier",
+                HIERARCHY,
+                4,
+                ".subckt mul a0=a0 a1= b0=b0 b1=b1 z0=t0 z1=t1",
+            ),
+        ],
+        status: 2,
+        text: "fault 30: netlist line 4 in hier\n",
+    },
+    Row {
+        name: "abstract of an instance without an output",
+        words: &["abstract", "s4h", "hier"],
+        files: &[
+            ("s4h", TOP_WORDS, 0, ""),
+            (
+                "hier",
+                HIERARCHY,
+                5,
+                ".subckt mul a0=t0 a1=t1 b0=a0 b1=a1 z0=z0",
+            ),
+        ],
+        status: 2,
+        text: "fault 35: net z1 is not driven in hier\n",
+    },
+    Row {
+        name: "abstract of instances that drive one net",
+        words: &["abstract", "s4h", "hier"],
+        files: &[
+            ("s4h", TOP_WORDS, 0, ""),
+            (
+                "hier",
+                HIERARCHY,
+                5,
+                ".subckt mul a0=t0 a1=t1 b0=a0 b1=a1 z0=t0 z1=z1",
+            ),
+        ],
+        status: 2,
+        text: "fault 34: net t0 is driven twice in hier\n",
     },
 ];

@@ -47,7 +47,7 @@ pub fn answer(
 
 /// The signature in the file `s`, with its field.
 pub fn signed(rt: &impl Abort, alloc: Global, shelf: &mut MemShelf) -> Signed
-    ensures { AreSaid result.signature.words }
+    ensures { AreSaid result.signature }
 {
     match read_signed(alloc, shelf, "s") {
         Ok(signed) => signed,
@@ -63,7 +63,7 @@ pub fn job<F: Field>(
     signature: Signature,
     shelf: &mut MemShelf,
 ) -> (Setting, Combinational)
-    requires { AreSaid signature.words }
+    requires { AreSaid signature }
     ensures { AreBasesOver (F.degree field.now) (F.product field.now) result.0.bases.items }
 {
     let setting = match setting_over(alloc, field, signature) {

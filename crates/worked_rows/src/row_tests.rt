@@ -103,6 +103,16 @@ fn signature_rows_3(rt: HostRuntime) -> Result<(), Fail> {
 }
 
 #[test]
+fn signature_rows_4(rt: HostRuntime) -> Result<(), Fail> {
+    check(&rt, rt.alloc(), &signature_rows::ROWS_4)
+}
+
+#[test]
+fn signature_rows_5(rt: HostRuntime) -> Result<(), Fail> {
+    check(&rt, rt.alloc(), &signature_rows::ROWS_5)
+}
+
+#[test]
 fn netlist_rows_1(rt: HostRuntime) -> Result<(), Fail> {
     check(&rt, rt.alloc(), &netlist_rows::ROWS_1)
 }
@@ -115,6 +125,11 @@ fn netlist_rows_2(rt: HostRuntime) -> Result<(), Fail> {
 #[test]
 fn netlist_rows_3(rt: HostRuntime) -> Result<(), Fail> {
     check(&rt, rt.alloc(), &netlist_rows::ROWS_3)
+}
+
+#[test]
+fn netlist_rows_4(rt: HostRuntime) -> Result<(), Fail> {
+    check(&rt, rt.alloc(), &netlist_rows::ROWS_4)
 }
 
 #[test]

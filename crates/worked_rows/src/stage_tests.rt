@@ -150,7 +150,7 @@ fn check_over<F: Field>(
     shelf: &mut MemShelf,
     largest: u32,
 ) -> Result<(), Fail>
-    requires { AreSaid signature.words }
+    requires { AreSaid signature }
 {
     let (setting, circuit) = job(rt, alloc, field, signature, shelf);
     compare(

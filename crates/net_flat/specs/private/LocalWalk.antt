@@ -1,5 +1,5 @@
 -- The walk over what a table of names knows in each instance: for proofs. Source: this project's own.
-use Rattle.std.specs.Prelude.{◌≡◌, ◌⊎◌, ℕ, zero, suc, ◌+◌, ◌<◌, ◌^◌, nat_le, Bool, true, false, List, [], ◌∷◌, ◌++◌, map, length, codes, Option, None, Some, is_some, unwrap_or, All, Result, Ok, Err, if◌then◌else◌}
+use Rattle.std.specs.Prelude.{◌≡◌, ◌⊎◌, ℕ, zero, suc, ◌+◌, ◌<◌, ◌^◌, nat_le, Bool, true, false, List, [], ◌∷◌, ◌++◌, map, length, codes, Option, Some, is_some, unwrap_or, All, Result, Ok, Err, if◌then◌else◌}
 use Rattle.std.specs.Fmt.{decimal}
 use Rattle.std.specs.Option.{option_map_or}
 use Rattle.net_core.specs.NetList.{NetList, nets, number_of, with_gate, with_label, with_latch}

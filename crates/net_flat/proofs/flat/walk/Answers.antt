@@ -1,7 +1,6 @@
-use Rattle.std.proofs.Common.{◌≡◌, sym, subst, ap, ℕ, Result, Ok}
+use Rattle.std.proofs.Common.{sym, subst}
 use Rattle.net_core.specs.NetList.{empty}
-use Rattle.net_flat.specs.private.LocalWalk.{local_within, state_with, AreInside, InTop, IsFaultOf, IsWalked, State}
-use Rattle.net_flat.specs.private.WalkerState.{state_of}
+use Rattle.net_flat.specs.private.LocalWalk.{AreInside, State}
 use Rattle.net_flat.proofs.StateLemmas.{top_inside}
 use Rattle.net_flat.proofs.flat.walk.Goals as goal
 

@@ -14,6 +14,6 @@ abbrev pub invariant-walk-loop-place : goal.invariant-walk-loop-place
 invariant-walk-loop-place l =
     record {
       inside : AreInside (state_of l.self);
-      few : l.number ≤ l.place + 1;
-      walk : local_lines (local_within (l.depth - 1) l.design) l.design (state_of l.fn.self) 1 l.lines ≡ local_lines (local_within (l.depth - 1) l.design) l.design (state_of l.self) l.number (drop l.place l.lines);
+      few : l.met ≤ l.place;
+      walk : local_lines (local_within (l.depth - 1) l.design) l.design (state_of l.fn.self) 1 l.lines ≡ local_lines (local_within (l.depth - 1) l.design) l.design (state_of l.self) (l.met + 1) (drop l.place l.lines);
     }

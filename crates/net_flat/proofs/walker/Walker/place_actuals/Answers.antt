@@ -1,10 +1,10 @@
-use Rattle.std.proofs.Common.{rules, ◌≡◌, ◌∙◌, ap, sym, subst, ◌<◌, ◌≤◌, ℕ, List, [], ◌∷◌, ◌++◌, length, map, take}
+use Rattle.std.proofs.Common.{rules, ◌∙◌, ap, subst, ◌<◌, ◌≤◌, ℕ, List, [], ◌∷◌, ◌++◌, length, map}
 use Rattle.std.proofs.lemmas.List.{take_all}
 use Rattle.net_blif.specs.Statement.{Token}
 use Rattle.net_blif.specs.Connection.{actual_of}
-use Rattle.net_flat.specs.Steps.{actual_steps, Mention}
+use Rattle.net_flat.specs.Steps.{actual_steps}
 use Rattle.net_flat.specs.private.LocalWalk.{local_walked, number_in, HasEach, IsFaultOf}
-use Rattle.net_flat.proofs.StateLemmas.{each_more, made_mention, map_same, numbers_more, refused_mention}
+use Rattle.net_flat.proofs.StateLemmas.{each_more, made_mention, numbers_more, refused_mention}
 use Rattle.net_flat.specs.private.WalkerState.{state_of}
 use Rattle.net_flat.proofs.walker.Walker.place_actuals.Goals as goal
 

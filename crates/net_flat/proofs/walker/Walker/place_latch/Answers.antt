@@ -1,8 +1,8 @@
-use Rattle.std.proofs.Common.{rules, ◌≡◌, ap, Err}
+use Rattle.std.proofs.Common.{rules, ap, Err}
 use Rattle.net_core.specs.NetList.{NetList}
 use Rattle.net_flat.specs.Steps.{latch_steps}
 use Rattle.net_flat.specs.private.LocalWalk.{local_walked, IsFaultOf}
-use Rattle.net_flat.proofs.StateLemmas.{driven_refused, found_inside, inside_as, kept, latch_made, latch_refused, refused_step}
+use Rattle.net_flat.proofs.StateLemmas.{driven_refused, found_inside, inside_as, kept, latch_made, latch_refused}
 use Rattle.net_flat.specs.private.WalkerState.{state_of}
 use Rattle.net_flat.proofs.walker.Walker.place_latch.Goals as goal
 

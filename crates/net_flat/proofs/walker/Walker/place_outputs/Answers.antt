@@ -1,4 +1,4 @@
-use Rattle.std.proofs.Common.{rules, ◌≡◌, ◌∙◌, ◌<◌, [], length, sym, subst, Bool, Ok}
+use Rattle.std.proofs.Common.{rules, ◌≡◌, ◌∙◌, ◌<◌, [], length, subst, Bool, Ok}
 use Rattle.std.specs.Prelude.{flat_map}
 use Rattle.net_flat.specs.Steps.{output_steps}
 use Rattle.net_flat.specs.private.LocalWalk.{is_in_top, local_walked, IsFaultOf}

@@ -1,0 +1,53 @@
+use Rattle.std.proofs.Common.{rules, ◌∙◌, ◌≤◌, ◌+◌, ◌-◌, length, drop_of_length-le, ap, arith, List}
+use Rattle.net_blif.specs.declared.item.Item.{Item}
+use Rattle.net_flat.specs.private.LocalWalk.{local_line, local_lines, local_within, IsFaultOf}
+use Rattle.net_flat.specs.private.WalkerState.{state_of}
+use Rattle.net_flat.proofs.EnterLemmas.{back_inside, entered_some, few_met, line_made, line_refused, lines_refused, more_lines, walk_lines, walk_none, walk_past}
+use Rattle.net_flat.proofs.walker.Walker.+walk.Goals as goal
+use Rattle.net_flat.proofs.walker.Walker.+walk.Goals.{walk-then-depth-eq0-via-then-depth-eq0, walk-then-depth-eq0-via-else-depth-eq0+then-model-models}
+
+pub line-returns-in_err-walk-clause-fault : goal.line-returns-in_err-walk-clause-fault
+line-returns-in_err-walk-clause-fault t c =
+    let went = entered_some c.args.design.now c.bytes.result.now c.in-Instance.model (state_of c.args.self.now) (state_of c.enter.new.self) c.args.number c.in-Some.inside c.in-Instance.connections c.in-Some.outer c.in_ok-inside.field-0 c.bytes.ensures c.in-Some.is c.in_ok-inside.ensures.some in
+    let fault : IsFaultOf (local_line (local_within c.args.depth c.args.design.now) c.args.design.now (state_of c.args.self.now) c.args.number c.args.item.now) c.in_err-walk.field-0.0 = line_refused (local_within c.args.depth c.args.design.now) c.args.design.now (state_of c.args.self.now) (state_of c.enter.new.self) c.args.number c.in-Instance.line c.in-Some.inside c.in-Instance.model c.in-Instance.connections c.in-Some.outer c.args.item.now c.in-Instance.is went.0 went.1 c.in_err-walk.field-0.0 c.in_err-walk.ensures.fault in
+    search rules
+
+pub line-returns-clause-made : goal.line-returns-clause-made
+line-returns-clause-made t c =
+    let went = entered_some c.args.design.now c.bytes.result.now c.in-Instance.model (state_of c.args.self.now) (state_of c.enter.new.self) c.args.number c.in-Some.inside c.in-Instance.connections c.in-Some.outer c.in_ok-inside.field-0 c.bytes.ensures c.in-Some.is c.in_ok-inside.ensures.some in
+    line_made (local_within c.args.depth c.args.design.now) c.args.design.now (state_of c.args.self.now) (state_of c.enter.new.self) c.args.number c.in-Instance.line c.in-Some.inside c.in-Instance.model c.in-Instance.connections c.in-Some.outer c.args.item.now c.in-Instance.is went.0 went.1 (state_of c.walk.new.self) c.in_ok-walk.ensures.made
+
+pub line-returns-clause-inside : goal.line-returns-clause-inside
+line-returns-clause-inside t c =
+    let went = entered_some c.args.design.now c.bytes.result.now c.in-Instance.model (state_of c.args.self.now) (state_of c.enter.new.self) c.args.number c.in-Some.inside c.in-Instance.connections c.in-Some.outer c.in_ok-inside.field-0 c.bytes.ensures c.in-Some.is c.in_ok-inside.ensures.some in
+    back_inside c.args.depth c.args.design.now c.in-Some.inside c.args.number c.in-Instance.connections c.in-Some.outer (state_of c.args.self.now) (state_of c.enter.new.self) (state_of c.walk.new.self) went.1 c.in_ok-walk.ensures.made
+
+pub walk-returns-then-depth-eq0-clause-made : goal.walk-returns-then-depth-eq0-clause-made
+walk-returns-then-depth-eq0-clause-made t c =
+    elim c.then-depth-eq0.branch [
+      | walk-then-depth-eq0-via-then-depth-eq0 w ↦ walk_none c.args.depth c.args.design.now (state_of c.args.self.now) c.args.model w.if-depth-eq0.true
+      | walk-then-depth-eq0-via-else-depth-eq0+then-model-models w ↦ walk_past c.args.depth c.args.design.now (state_of c.args.self.now) c.args.model (rw w.models.ensures.count at w.if-model-models.true)
+    ]
+
+pub walk-returns-in_err-line-clause-fault : goal.walk-returns-in_err-line-clause-fault
+walk-returns-in_err-line-clause-fault t c =
+    let start = walk_lines c.args.depth c.args.design.now (state_of c.args.self.now) c.args.model c.items-lines.result.now c.if-depth-eq0.false c.items-lines.ensures in
+    let fault : IsFaultOf (local_within c.args.depth c.args.design.now (state_of c.args.self.now) c.args.model) c.in_err-line.field-0.0 = lines_refused (local_within (c.args.depth - 1) c.args.design.now) c.args.design.now c.items-lines.result.now c.loop-place.place c.get-item.result c.get-item.ensures.item (state_of c.loop-place.self) (c.loop-place.met + 1) _ (start ∙ c.loop-place.invariant.walk) c.in_err-line.field-0.0 c.in_err-line.ensures.fault in
+    search rules
+
+pub walk-met_with-met-requires : goal.walk-met_with-met-requires
+walk-met_with-met-requires t c = omega (arith, c.loop-place.invariant.few, c.loop-place-test.true, c.len-place-end.type_inv)
+
+pub walk-loop-place-preserved : goal.walk-loop-place-preserved
+walk-loop-place-preserved t c =
+    record {
+      inside = c.in_ok-line.ensures.inside;
+      few = few_met c.loop-place.met c.met_with-met.result c.loop-place.place c.get-item.result c.loop-place.invariant.few c.met_with-met.ensures;
+      walk = more_lines (local_within (c.args.depth - 1) c.args.design.now) c.args.design.now c.items-lines.result.now c.loop-place.place c.get-item.result c.get-item.ensures.item (state_of c.loop-place.self) (c.loop-place.met + 1) _ c.loop-place.invariant.walk (state_of c.line.new.self) (c.met_with-met.result + 1) c.met_with-met.ensures c.in_ok-line.ensures.made;
+    }
+
+pub walk-returns-clause-made : goal.walk-returns-clause-made
+walk-returns-clause-made t c =
+    let past : length c.items-lines.result.now ≤ c.loop-place.place = rw c.len-place-end.ensures at c.loop-place-test.false in
+    let start = walk_lines c.args.depth c.args.design.now (state_of c.args.self.now) c.args.model c.items-lines.result.now c.if-depth-eq0.false c.items-lines.ensures in
+    start ∙ (c.loop-place.invariant.walk ∙ ap (λ (ls : List Item). local_lines (local_within (c.args.depth - 1) c.args.design.now) c.args.design.now (state_of c.loop-place.self) (c.loop-place.met + 1) ls) (drop_of_length-le c.items-lines.result.now past))
