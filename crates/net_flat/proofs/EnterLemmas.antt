@@ -20,7 +20,8 @@ use Rattle.net_flat.specs.private.Entering.{HasEntered}
 use Rattle.net_flat.specs.private.LocalScope.{local_in}
 use Rattle.net_flat.specs.private.LocalWalk.{back_to, entered, local_body, local_line, local_lines, local_within, number_in, numbers_of, state_with, AreInside, HasEach, IsFaultOf, State}
 use Rattle.net_flat.proofs.SameLemmas.{local_walk_none, local_walk_step}
-use Rattle.net_flat.proofs.StateLemmas.{inside_more, keeps_within, refused_on, refused_same}
+use Rattle.net_flat.proofs.KeepLemmas.{keeps_within}
+use Rattle.net_flat.proofs.StateLemmas.{inside_more, refused_on, refused_same}
 
 -- the table of the connections from one place on, from that of the connections after it
 module _ (s : State) (cs : List Token) (place : ℕ) (some : 0 < place) (below : place ≤ length cs) where

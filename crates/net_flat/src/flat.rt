@@ -26,8 +26,8 @@ fn walk(alloc: Global, design: &Design, model: u32) -> Result<NetMaker, FlatFaul
 /// The net of a model: its lines are walked in order, each name that is mentioned first makes a net, and gates, latches,
 /// inputs and outputs are appended as they are met. At an instance the actuals are mentioned, and then the lines of its
 /// model are walked in place: a connected formal is its actual, and every other name is a new net, which is called by the
-/// numbers of the instances, each with a `/`, and the name. The models of instances are walked through chains of 64 models,
-/// and no chain of a design has more.
+/// numbers of the instances, each with a `/`, and the name. The walk goes through 64 models one
+/// inside another: no chain from the top has more, and of a model that no such chain reaches what is deeper is left out.
 /// A net, a gate or latch, or an instance that would be the 1,048,577th is refused where it is met. Then a net with two
 /// drivers or none, or gates that drive each other in a cycle, refuse the net. Want of memory may come at any place.
 pub fn flatten(alloc: Global, design: &Design, model: u32) -> Result<Net, FlatFault>

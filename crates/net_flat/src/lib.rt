@@ -4,6 +4,7 @@
 mod flat;
 mod flat_fault;
 mod laws;
+mod place;
 mod scope;
 #[cfg(test)]
 mod tests;

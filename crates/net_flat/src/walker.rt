@@ -1,23 +1,18 @@
 //! The walk over the lines of models.
-ghost use Rattle.std.specs.Prelude.{◌≡◌, ◌⊎◌, ◌<◌, ◌≤◌, ◌^◌, ◌∷◌, ℕ, Ok, Some, None, All, IsTrue, IfOk, IfErr, OnOk, flat_map, map, length};
-ghost use Rattle.std.specs.List.{list_all};
+ghost use Rattle.std.specs.Prelude.{◌≡◌, ◌⊎◌, ◌<◌, ℕ, Ok, Some, None, IfOk, IfErr, OnOk};
 ghost use Rattle.net_core.specs.Inside.{IsNetName};
 ghost use Rattle.net_core.specs.NetList.{empty, nets, number_of};
-ghost use Rattle.net_blif.specs.Connection.{actual_of, is_connection};
 ghost use Rattle.net_blif.specs.Statement.{IsToken};
-ghost use Rattle.net_blif.specs.Item.{IsSoundItem};
 ghost use Rattle.net_blif.specs.Table.{numbers_in};
-ghost use Rattle.net_flat.specs.Steps.{Enter, Mention, actual_steps, gate_steps, input_steps, latch_steps, output_steps, steps_of};
-ghost use Rattle.net_flat.specs.private.LocalWalk.{AreInside, HasEach, InTop, Inside, IsFaultOf, found, is_in_top, local_step, local_walked, number_in, state_with};
+ghost use Rattle.net_flat.specs.Steps.{Mention};
+ghost use Rattle.net_flat.specs.private.LocalWalk.{AreInside, InTop, Inside, IsFaultOf, found, local_step, state_with};
 ghost use Rattle.net_flat.specs.private.WalkerState.{state_of};
 
 use crate::FlatFault;
 use crate::scope::Scope;
-use net_blif::{Item, Table, TokenSlice, sides, text_of};
-use net_core::{NetFault, NetMaker, Start};
+use net_blif::{Table, text_of};
+use net_core::{NetFault, NetMaker};
 use std::alloc::Global;
-
-const MAX_INSTANCES: u32 = 1 << 20;
 
 /// A walk on its way: the net list so far, how many instances were entered, and what is known of names.
 /// The numbers of a gate's inputs stand in a list that is used again.
@@ -121,8 +116,8 @@ impl Walker {
         self.maker
     }
 
-    // The number of the net of a name, which is made if it is new.
-    fn mention(&mut self, name: &[u8]) -> Result<u32, FlatFault>
+    /// The number of the net of a name, which is made if it is new.
+    pub fn mention(&mut self, name: &[u8]) -> Result<u32, FlatFault>
         requires name { IsToken name.now }
         requires inside { AreInside (state_of self.old) }
         ensures number { IfOk result (λ n. found (state_of self.new) name.now ≡ Some n) }
@@ -143,218 +138,6 @@ impl Walker {
                 &mut self.scope.numbers,
                 text,
             )
-        }
-    }
-
-    // Mentions a name, and makes its net a primary input in the chosen model.
-    fn place_input(&mut self, name: &[u8]) -> Result<(), FlatFault>
-        requires name { IsToken name.now }
-        requires inside { AreInside (state_of self.old) }
-        ensures made { OnOk result (local_walked (state_of self.old) (input_steps (is_in_top (state_of self.old).local) name.now) ≡ Ok (state_of self.new)) }
-        ensures top { is_in_top (state_of self.new).local ≡ is_in_top (state_of self.old).local }
-        ensures inside { OnOk result (AreInside (state_of self.new)) }
-        ensures fault { IfErr result (IsFaultOf (local_walked (state_of self.old) (input_steps (is_in_top (state_of self.old).local) name.now))) }
-    {
-        let is_top = self.scope.is_top;
-        let number = self.mention(name)?;
-        if !is_top {
-            return Ok(());
-        }
-        self.maker.input(number)?;
-        Ok(())
-    }
-
-    // Mentions a name, and makes its net an output in the chosen model.
-    fn place_output(&mut self, name: &[u8]) -> Result<(), FlatFault>
-        requires name { IsToken name.now }
-        requires inside { AreInside (state_of self.old) }
-        ensures made { OnOk result (local_walked (state_of self.old) (output_steps (is_in_top (state_of self.old).local) name.now) ≡ Ok (state_of self.new)) }
-        ensures top { is_in_top (state_of self.new).local ≡ is_in_top (state_of self.old).local }
-        ensures inside { OnOk result (AreInside (state_of self.new)) }
-        ensures fault { IfErr result (IsFaultOf (local_walked (state_of self.old) (output_steps (is_in_top (state_of self.old).local) name.now))) }
-    {
-        let is_top = self.scope.is_top;
-        let number = self.mention(name)?;
-        if !is_top {
-            return Ok(());
-        }
-        self.maker.output(number)?;
-        Ok(())
-    }
-
-    fn place_inputs(&mut self, names: &TokenSlice<'_>) -> Result<(), FlatFault>
-        requires names { All IsToken names.now }
-        requires inside { AreInside (state_of self.old) }
-        ensures made { OnOk result (local_walked (state_of self.old) (flat_map (input_steps (is_in_top (state_of self.old).local)) names.now) ≡ Ok (state_of self.new)) }
-        ensures inside { OnOk result (AreInside (state_of self.new)) }
-        ensures fault { IfErr result (IsFaultOf (local_walked (state_of self.old) (flat_map (input_steps (is_in_top (state_of self.old).local)) names.now))) }
-    {
-        for place in 0..names.len() {
-            self.place_input(names.get(place))?;
-        }
-        Ok(())
-    }
-
-    fn place_outputs(&mut self, names: &TokenSlice<'_>) -> Result<(), FlatFault>
-        requires names { All IsToken names.now }
-        requires inside { AreInside (state_of self.old) }
-        ensures made { OnOk result (local_walked (state_of self.old) (flat_map (output_steps (is_in_top (state_of self.old).local)) names.now) ≡ Ok (state_of self.new)) }
-        ensures inside { OnOk result (AreInside (state_of self.new)) }
-        ensures fault { IfErr result (IsFaultOf (local_walked (state_of self.old) (flat_map (output_steps (is_in_top (state_of self.old).local)) names.now))) }
-    {
-        for place in 0..names.len() {
-            self.place_output(names.get(place))?;
-        }
-        Ok(())
-    }
-
-    // Mentions names, whose numbers are then the list.
-    fn mention_all(&mut self, names: &TokenSlice<'_>) -> Result<(), FlatFault>
-        requires names { All IsToken names.now }
-        requires inside { AreInside (state_of self.old) }
-        ensures numbers { OnOk result (self.new.inputs.items ≡ map (number_in (state_of self.new)) names.now) }
-        ensures found { OnOk result (HasEach (state_of self.new) names.now) }
-        ensures made { OnOk result (local_walked (state_of self.old) (map Mention names.now) ≡ Ok (state_of self.new)) }
-        ensures inside { OnOk result (AreInside (state_of self.new)) }
-        ensures fault { IfErr result (IsFaultOf (local_walked (state_of self.old) (map Mention names.now))) }
-    {
-        self.inputs.clear();
-        for place in 0..names.len() {
-            let number = self.mention(names.get(place))?;
-            self.inputs.push(number)?;
-        }
-        Ok(())
-    }
-
-    // Adds a gate on the nets of names.
-    fn place_gate(
-        &mut self,
-        inputs: &TokenSlice<'_>,
-        out: &[u8],
-        table: u64,
-    ) -> Result<(), FlatFault>
-        requires inputs { All IsToken inputs.now }
-        requires few { length inputs.now ≤ 6 }
-        requires out { IsToken out.now }
-        requires table { table < 2 ^ (2 ^ length inputs.now) }
-        requires inside { AreInside (state_of self.old) }
-        ensures made { OnOk result (local_walked (state_of self.old) (gate_steps inputs.now out.now table) ≡ Ok (state_of self.new)) }
-        ensures inside { OnOk result (AreInside (state_of self.new)) }
-        ensures fault { IfErr result (IsFaultOf (local_walked (state_of self.old) (gate_steps inputs.now out.now table))) }
-    {
-        self.mention_all(inputs)?;
-        let number = self.mention(out)?;
-        match self.maker.gate(number, self.inputs.as_slice(), table) {
-            Ok(()) => Ok(()),
-            Err(fault) => Err(fault_of(fault)),
-        }
-    }
-
-    // Adds a latch on the nets of names.
-    fn place_latch(&mut self, next: &[u8], out: &[u8], start: Start) -> Result<(), FlatFault>
-        requires next { IsToken next.now }
-        requires out { IsToken out.now }
-        requires inside { AreInside (state_of self.old) }
-        ensures made { OnOk result (local_walked (state_of self.old) (latch_steps next.now out.now start) ≡ Ok (state_of self.new)) }
-        ensures inside { OnOk result (AreInside (state_of self.new)) }
-        ensures fault { IfErr result (IsFaultOf (local_walked (state_of self.old) (latch_steps next.now out.now start))) }
-    {
-        let read = self.mention(next)?;
-        let driven = self.mention(out)?;
-        match self.maker.latch(read, driven, start) {
-            Ok(()) => Ok(()),
-            Err(fault) => Err(fault_of(fault)),
-        }
-    }
-
-    // Goes into an instance, if there may be one more.
-    fn begin_instance(&mut self) -> Result<(), FlatFault>
-        requires { AreInside (state_of self.old) }
-        ensures made { OnOk result (local_step (state_of self.old) Enter ≡ Ok (state_of self.new)) }
-        ensures inside { OnOk result (AreInside (state_of self.new)) }
-        ensures fault { IfErr result (IsFaultOf (local_step (state_of self.old) Enter)) }
-    {
-        if self.instances >= MAX_INSTANCES {
-            return Err(FlatFault::TooManyInstances);
-        }
-        self.instances += 1;
-        Ok(())
-    }
-
-    // Mentions the actual of a connection.
-    fn place_actual(&mut self, connection: &[u8]) -> Result<u32, FlatFault>
-        requires connection { IsToken connection.now }
-        requires sides { IsTrue (is_connection connection.now) }
-        requires inside { AreInside (state_of self.old) }
-        ensures number { IfOk result (λ n. found (state_of self.new) (actual_of connection.now) ≡ Some n) }
-        ensures kept { self.new.inputs.items ≡ self.old.inputs.items }
-        ensures made { OnOk result (local_step (state_of self.old) (Mention (actual_of connection.now)) ≡ Ok (state_of self.new)) }
-        ensures inside { OnOk result (AreInside (state_of self.new)) }
-        ensures fault { IfErr result (IsFaultOf (local_step (state_of self.old) (Mention (actual_of connection.now)))) }
-    {
-        let (_, actual) = sides(connection);
-        self.mention(actual)
-    }
-
-    // Mentions the actuals of connections, whose numbers are then the list.
-    fn place_actuals(&mut self, connections: &TokenSlice<'_>) -> Result<(), FlatFault>
-        requires connections { All IsToken connections.now }
-        requires sides { IsTrue (list_all is_connection connections.now) }
-        requires inside { AreInside (state_of self.old) }
-        ensures numbers { OnOk result (self.new.inputs.items ≡ map (number_in (state_of self.new)) (map actual_of connections.now)) }
-        ensures found { OnOk result (HasEach (state_of self.new) (map actual_of connections.now)) }
-        ensures made { OnOk result (local_walked (state_of self.old) (actual_steps connections.now) ≡ Ok (state_of self.new)) }
-        ensures inside { OnOk result (AreInside (state_of self.new)) }
-        ensures fault { IfErr result (IsFaultOf (local_walked (state_of self.old) (actual_steps connections.now))) }
-    {
-        self.inputs.clear();
-        for place in 0..connections.len() {
-            let number = self.place_actual(connections.get(place))?;
-            self.inputs.push(number)?;
-        }
-        Ok(())
-    }
-
-    /// Goes into an instance and mentions what is connected, whose numbers are then the list.
-    pub fn place_instance(&mut self, connections: &TokenSlice<'_>) -> Result<(), FlatFault>
-        requires connections { All IsToken connections.now }
-        requires sides { IsTrue (list_all is_connection connections.now) }
-        requires inside { AreInside (state_of self.old) }
-        ensures numbers { OnOk result (self.new.inputs.items ≡ map (number_in (state_of self.new)) (map actual_of connections.now)) }
-        ensures found { OnOk result (HasEach (state_of self.new) (map actual_of connections.now)) }
-        ensures made { OnOk result (local_walked (state_of self.old) (Enter ∷ actual_steps connections.now) ≡ Ok (state_of self.new)) }
-        ensures inside { OnOk result (AreInside (state_of self.new)) }
-        ensures fault { IfErr result (IsFaultOf (local_walked (state_of self.old) (Enter ∷ actual_steps connections.now))) }
-    {
-        self.begin_instance()?;
-        self.place_actuals(connections)?;
-        Ok(())
-    }
-
-    /// Places what a line says; the body of an instance is left.
-    pub fn place(&mut self, item: &Item<'_>) -> Result<(), FlatFault>
-        requires sound { IsSoundItem item.now }
-        requires inside { AreInside (state_of self.old) }
-        ensures made { OnOk result (local_walked (state_of self.old) (steps_of (is_in_top (state_of self.old).local) item.now) ≡ Ok (state_of self.new)) }
-        ensures inside { OnOk result (AreInside (state_of self.new)) }
-        ensures fault { IfErr result (IsFaultOf (local_walked (state_of self.old) (steps_of (is_in_top (state_of self.old).local) item.now))) }
-    {
-        match item {
-            Item::Inputs(names) => self.place_inputs(names),
-            Item::Outputs(names) => self.place_outputs(names),
-            Item::Gate {
-                inputs,
-                out,
-                table,
-                ..
-            } => self.place_gate(inputs, out.bytes(), *table),
-            Item::Latch {
-                next,
-                out,
-                start,
-                ..
-            } => self.place_latch(next.bytes(), out.bytes(), *start),
-            Item::Instance { connections, .. } => self.place_instance(connections),
         }
     }
 }
