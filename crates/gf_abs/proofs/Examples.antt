@@ -21,7 +21,7 @@ word name role = record { line = 3; name = name; role = role; basis = Poly; nets
 -- over the field of 0 and 1, with input words A and B and the output word Z
 abbrev setting : SettingValue
 setting = record {
-  signature = record { modulus = 3; tower = []; words = word (codes "A") Input ∷ word (codes "B") Input ∷ word (codes "Z") Output ∷ [] };
+  signature = record { modulus = 3; tower = []; upper = []; words = word (codes "A") Input ∷ word (codes "B") Input ∷ word (codes "Z") Output ∷ []; feeds = []; blocks = [] };
   k = 1;
   product = bit_mul;
   bases = (1 ∷ []) ∷ (1 ∷ []) ∷ (1 ∷ []) ∷ [];

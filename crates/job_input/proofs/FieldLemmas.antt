@@ -68,8 +68,7 @@ field_made (Upper field) g cs us name made =
     let upper = ring_of field in
     let tower = ring_of (base_of upper) in
     let ring = ring_of (base_of tower) in
-    let same = degree_unique (degree_of ring) name.degree g (subst (IsModulus (degree_of ring)) made.0 ring.fits) name.base.modulus in
-    (
+    let same = degree_unique (degree_of ring) name.degree g (subst (IsModulus (degree_of ring)) made.0 ring.fits) name.base.modulus in (
       name,
       upper_is (degree_of ring) (size_of tower) (size_of upper) (modulus_of ring) name.degree g (coefficients_of tower) (coefficients_of upper) cs us same made.0 made.1 made.2 tower.fits.size tower.fits.two upper.fits.size upper.fits.two,
     )
