@@ -147,9 +147,10 @@ pub(crate) fn circuit(rt: &impl Abort, alloc: Global, net: Net, text: &[u8]) -> 
     assert!(rt; text.len() < 200);
     let signature = read_signature(alloc, text).ok().expect(rt, "a signature");
     assert!(rt; can_be_bound(signature.words()));
-    let bound = bind(alloc, signature.words(), &[], &net)
-        .ok()
-        .expect(rt, "bound words");
+    let bound = match bind(alloc, signature.words(), &[], &net) {
+        Ok(bound) => bound,
+        Err(_) => panic!(rt; "no bound words"),
+    };
     Combinational::new(net, bound)
         .ok()
         .expect(rt, "a net without latches")
