@@ -13,7 +13,6 @@ ghost use Rattle.spec_expand.specs.Expanded.{IsExpansion};
 ghost use Rattle.spec_expand.specs.private.Expanding.{IsSetting, IsReached, IsTermRefusal};
 
 use crate::ones::ones;
-use crate::places::word_places;
 use crate::power::power_of_word;
 use crate::size::check_size;
 use crate::{Spec, SpecTerm};
@@ -21,6 +20,7 @@ use gf_basis::Basis;
 use gf_field::Field;
 use net_words::Combinational;
 use poly_mixed::{Poly, ReduceFault, Stage, constant};
+use stage_model::word_places;
 use std::alloc::Global;
 
 // The product of a term's coefficient and its first factors, and how many these are.

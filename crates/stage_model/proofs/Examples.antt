@@ -13,7 +13,9 @@ use Rattle.net_core.specs.Sound.{sources}
 use Rattle.net_core.specs.Value.{bit_of, IsRight}
 use Rattle.net_core.specs.Level.{Levels, level_at, level_over, AreLevels}
 use Rattle.net_core.specs.Order.{IsElimination, IsOrder, IsBefore, rank_at}
-use Rattle.net_words.specs.declared.word.Role.TheVariants.{Input}
+use Rattle.net_words.specs.declared.bound.BoundWord.{BoundWord}
+use Rattle.net_words.specs.declared.word.Role.{Role}
+use Rattle.net_words.specs.declared.word.Role.TheVariants.{Input, State, Output}
 use Rattle.poly_mixed.specs.Monomial.{Monomial}
 use Rattle.poly_mixed.specs.Polynomial.{Point, point, IsMonomial, IsPolynomialOf, IsReduced, powers, value}
 use Rattle.poly_mixed.proofs.FieldLaws.{IsField, field_of}
@@ -31,6 +33,7 @@ use Rattle.stage_model.specs.Stage.{IsOfStage}
 use Rattle.stage_model.specs.Listing.{Earlier, Later}
 use Rattle.stage_model.specs.WordListing.{word_listing}
 use Rattle.stage_model.specs.CircuitListing.{circuit_cuts, circuit_stages}
+use Rattle.stage_model.specs.WordPlaces.{places_from}
 
 -- where B on net 1 stands before A on net 0, the variables are the nets 1, 0 and 2
 variables_of_words : variables_of (record and_circuit { words = word Input (1 ∷ []) (1 ∷ []) ∷ word Input (0 ∷ []) (1 ∷ []) ∷ [] }) ≡ 1 ∷ 0 ∷ 2 ∷ []
@@ -243,3 +246,10 @@ mix_at (x ∷ y ∷ ws) is_one long all = record {
 -- the polynomial of the mix of both words, which is the output in the words, is A*B
 polynomial_of_words : IsOfStage 1 bit_mul (IsMix and_circuit 2) ((both_words, 1) ∷ [])
 polynomial_of_words = record { reduced = product_is_reduced; values = λ p at. mix_at p.words p.is_one at.words at.elements }
+
+role_word : Role → BoundWord
+role_word role = record { role = role; nets = [] }
+
+-- of an output, an input and a state word the input and state words have the numbers 1 and 2
+numbers_of_words : places_from 0 (role_word Output ∷ role_word Input ∷ role_word State ∷ []) ≡ 1 ∷ 2 ∷ []
+numbers_of_words = refl

@@ -13,8 +13,9 @@ pub mod ListingLemmas
 pub mod CutListingLemmas
 pub mod WordListingLemmas
 pub mod CircuitListingLemmas
-pub mod StageListLemmas
 pub mod PlaceLemmas
+pub mod WordPlaceLemmas
+pub mod WordBasisLemmas
 pub mod NextMixLemmas
 pub mod StepLemmas
 pub mod VariableLemmas

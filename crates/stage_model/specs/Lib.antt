@@ -8,10 +8,10 @@ pub mod First
 pub mod OutputInBits
 pub mod OutputInWords
 pub mod WordStage
+pub mod WordPlaces
 pub mod Listing
 pub mod WordListing
 pub mod CircuitListing
-pub mod StageList
 pub mod WordSteps
 pub mod PlainWord
 pub mod private

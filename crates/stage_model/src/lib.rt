@@ -17,6 +17,7 @@ mod tests;
 mod word_bit;
 mod word_laws;
 mod word_part;
+mod word_places;
 mod word_poly;
 mod word_stage;
 #[cfg(test)]
@@ -47,4 +48,5 @@ pub use word_laws::{
     sum_of_all_terms,
 };
 pub use word_part::{other_part, own_ranks};
+pub use word_places::word_places;
 pub use word_stage::{word_product, word_sum};

@@ -12,9 +12,7 @@ mod OneTerm
 mod Told
 mod OneWord
 mod Lifted
-mod PlaceList
 mod AllWords
-mod Turn
 mod Callers
 mod GatheredPowersLemmas
 mod SomeProductsLemmas

@@ -1,6 +1,5 @@
 pub mod Recorded
 pub mod AtOnce
-pub mod Places
 pub mod Forms
 pub mod Multiplier
 pub mod Read

@@ -9,12 +9,12 @@ ghost use Rattle.stage_model.specs.WordListing.{word_listing};
 ghost use Rattle.circuit_model.specs.Bases.{AreBases, circuit_in};
 ghost use Rattle.word_subst.specs.Recorded.{IsRecorded};
 
-use crate::places::word_places;
 use crate::word::one_word;
 use gf_basis::Basis;
 use gf_field::Field;
 use net_words::Combinational;
 use poly_mixed::{Poly, ReduceFault, Steps};
+use stage_model::word_places;
 use std::alloc::Global;
 
 // What a circuit keeps: its net is sound, and its words are bound to the net.

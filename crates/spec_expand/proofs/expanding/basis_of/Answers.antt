@@ -1,7 +1,7 @@
 use Rattle.std.proofs.Common.{◌<◌, ℕ, List, length, arith}
 use Rattle.net_words.specs.Binding.{BoundNet}
 use Rattle.gf_basis.specs.declared.bases.Basis.{Basis}
-use Rattle.spec_expand.proofs.BasisLemmas.{as_many, inside, own_word, is_over}
+use Rattle.stage_model.proofs.WordBasisLemmas.{as_many, inside, own_word, is_over}
 use Rattle.spec_expand.proofs.expanding.basis_of.Goals as goal
 
 pub place_at-place-requires : goal.place_at-place-requires

@@ -12,7 +12,7 @@ use Rattle.circuit_model.specs.Circuit.{Circuit}
 use Rattle.circuit_model.specs.Bases.{circuit_in}
 use Rattle.spec_expand.specs.SpecValue.{factors_of}
 use Rattle.spec_expand.specs.private.Expanding.{IsTermRefusal, IsOfInput}
-use Rattle.spec_expand.proofs.BasisLemmas.{is_well_formed}
+use Rattle.stage_model.proofs.WordBasisLemmas.{is_well_formed}
 use Rattle.spec_expand.proofs.PowerLemmas.{power_of_input}
 use Rattle.spec_expand.proofs.StageLemmas.{reached_more, product_refused}
 use Rattle.spec_expand.proofs.expanding.one_factor.Goals as goal

@@ -7,7 +7,7 @@ use Rattle.circuit_model.specs.Circuit.{Circuit}
 use Rattle.circuit_model.specs.Bases.{circuit_in}
 use Rattle.spec_expand.specs.SpecValue.{factors_of}
 use Rattle.spec_expand.specs.private.Expanding.{IsReached}
-use Rattle.spec_expand.proofs.BasisLemmas.{is_well_formed}
+use Rattle.stage_model.proofs.WordBasisLemmas.{is_well_formed}
 use Rattle.spec_expand.proofs.SpecValueLemmas.{factors_few}
 use Rattle.spec_expand.proofs.StageLemmas.{constant_of}
 use Rattle.spec_expand.proofs.expanding.one_term.Goals as goal

@@ -1,4 +1,5 @@
 use Rattle.std.proofs.Common.{rules, ◌≡◌, ◌<◌, ◌≤◌, length, ℕ, suc, ◌+◌, List, subst, arith}
+use Rattle.graph_core.proofs.ListLemmas.{got_read}
 use Rattle.net_words.specs.Binding.{BoundNet}
 use Rattle.gf_basis.specs.BasisParts.{elements_of}
 use Rattle.gf_basis.specs.declared.bases.Basis.{Basis}
@@ -8,7 +9,7 @@ use Rattle.stage_model.specs.Stage.{IsOfStage}
 use Rattle.circuit_model.specs.Bases.{circuit_in}
 use Rattle.stage_model.specs.Listing.{IsRefusal}
 use Rattle.stage_model.specs.WordListing.{word_listing}
-use Rattle.word_subst.proofs.Turn.{is_well_formed, places_are, as_many, inside, own_word, is_over}
+use Rattle.stage_model.proofs.WordBasisLemmas.{is_well_formed, places_are, as_many, inside, own_word, is_over}
 use Rattle.word_subst.proofs.Lifted.{next_mix}
 use Rattle.word_subst.proofs.AllWords.{all_recorded, all_within, one_word_within, one_word_recorded, refused}
 use Rattle.word_subst.proofs.words.to_words.Goals as goal
@@ -24,7 +25,7 @@ bounds-bases-index g c =
     let w : ℕ = c.loop-w.w in
     let v : ℕ = c.index.result.now in
     let less : w < length places = omega (arith, c.loop-w-test.true, c.len-w-end.ensures) in
-    inside k mul b bases c.requires.bases places places_is w v less c.index.ensures
+    inside k mul b bases c.requires.bases places places_is w v less (got_read places w v less c.index.ensures)
 
 pub overflow_cast-w : goal.overflow_cast-w
 overflow_cast-w g c =
@@ -52,7 +53,7 @@ one_word-requires-clause-over g c =
     let w : ℕ = c.loop-w.w in
     let v : ℕ = c.index.result.now in
     let less : w < length places = omega (arith, c.loop-w-test.true, c.len-w-end.ensures) in
-    is_over k mul b bases c.requires.bases places places_is w v less c.index.ensures c.index-bases-index.result c.index-bases-index.is
+    is_over k mul b bases c.requires.bases places places_is w v less (got_read places w v less c.index.ensures) c.index-bases-index.result c.index-bases-index.is
 
 pub one_word-requires-clause-word : goal.one_word-requires-clause-word
 one_word-requires-clause-word g c =
@@ -82,7 +83,7 @@ returns-in_err-poly-clause-fault g c =
     let v : ℕ = c.index.result.now in
     let less : w < length places = omega (arith, c.loop-w-test.true, c.len-w-end.ensures) in
     let basis : Basis = c.index-bases-index.result in
-    let word = own_word k mul b bases c.requires.bases places places_is w v less c.index.ensures basis c.index-bases-index.is in
+    let word = own_word k mul b bases c.requires.bases places places_is w v less (got_read places w v less c.index.ensures) basis c.index-bases-index.is in
     let circuit : Circuit = circuit_in k mul b bases in
     let fault : IsRefusal k mul (word_listing circuit) c.args.bound c.in_err-poly.field-0.0 =
     refused circuit well w word.0 word.1 (elements_of basis) word.2 c.loop-w.poly.terms c.loop-w.invariant.mix c.args.bound c.loop-w.invariant.within c.in_err-poly.field-0.0 c.in_err-poly.ensures.fault in
@@ -101,7 +102,7 @@ loop-w-preserved g c =
     let v : ℕ = c.index.result.now in
     let less : w < length places = omega (arith, c.loop-w-test.true, c.len-w-end.ensures) in
     let basis : Basis = c.index-bases-index.result in
-    let word = own_word k mul b bases c.requires.bases places places_is w v less c.index.ensures basis c.index-bases-index.is in
+    let word = own_word k mul b bases c.requires.bases places places_is w v less (got_read places w v less c.index.ensures) basis c.index-bases-index.is in
     let circuit : Circuit = circuit_in k mul b bases in
     let up : suc w ≡ w + 1 = omega arith in
     let P : ℕ → Type 0 = λ n. IsOfStage k mul (IsMix circuit n) c.in_ok-poly.poly.terms in

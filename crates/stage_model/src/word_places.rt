@@ -1,6 +1,6 @@
 //! The input and state words of a binding.
 ghost use Rattle.std.specs.Prelude.{◌≡◌, ◌<◌, ◌++◌, length, slice_get, IfOk, OnOk, Some};
-ghost use Rattle.spec_expand.specs.private.Places.{place_with, places_from};
+ghost use Rattle.stage_model.specs.WordPlaces.{place_with, places_from};
 
 use net_words::{Bound, Role};
 use std::alloc::{AllocError, Global};

@@ -1,4 +1,4 @@
--- What is known of a word when its turn comes.
+-- The bases of the input and state words, by their numbers.
 use Rattle.std.proofs.Common.{◌≡◌, ◌∙◌, ap, refl, subst, ℕ, ◌<◌, ◌+◌, List, length, map, get_or, Some, arith}
 use Rattle.std.specs.Prelude.{slice_get}
 use Rattle.std.proofs.lemmas.Option.{slice_get-map}
@@ -18,8 +18,8 @@ use Rattle.circuit_model.specs.WellFormed.{IsWellFormed}
 use Rattle.circuit_model.specs.OfBinding.{HaveBases}
 use Rattle.circuit_model.proofs.BoundLemmas.{bound_well}
 use Rattle.circuit_model.specs.Bases.{AreBases, circuit_in}
-use Rattle.word_subst.specs.Places.{places_from}
-use Rattle.word_subst.proofs.PlaceList.{places_long, word_at}
+use Rattle.stage_model.specs.WordPlaces.{places_from}
+use Rattle.stage_model.proofs.WordPlaceLemmas.{places_long, word_at}
 
 module _ (k : ℕ) (mul : ℕ → ℕ → ℕ) (b : BoundNet) (bases : List Basis) (are : AreBases k mul b bases) where
   all_long : length (map elements_of bases) ≡ length b.bound.words
@@ -44,9 +44,9 @@ module _ (k : ℕ) (mul : ℕ → ℕ → ℕ) (b : BoundNet) (bases : List Basi
   pub as_many : (places : List ℕ) → places ≡ places_from 0 b.bound.words → length places ≡ length (circuit_in k mul b bases).words
   as_many places is = ap length is ∙ places_long 0 b.bound.words (map elements_of bases) all_long
 
-  module _ (places : List ℕ) (is : places ≡ places_from 0 b.bound.words) (w v : ℕ) (less : w < length places) (read : v ≡ get_or places w v) where
+  module _ (places : List ℕ) (is : places ≡ places_from 0 b.bound.words) (w v : ℕ) (less : w < length places) (read : slice_get places w ≡ Some v) where
     at_place : slice_get (places_from 0 b.bound.words) w ≡ Some v
-    at_place = let P : List ℕ → Type 0 = λ ns. slice_get ns w ≡ Some v in subst P is (got_read places w v less read)
+    at_place = let P : List ℕ → Type 0 = λ ns. slice_get ns w ≡ Some v in subst P is read
 
     pub inside : v < length bases
     inside = let at = word_at 0 b.bound.words (map elements_of bases) w v all_long at_place in omega (arith, at.number, at.inside, are.long)
