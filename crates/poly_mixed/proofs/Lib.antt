@@ -38,6 +38,7 @@ pub mod Machine
 pub mod MachineMeans
 pub mod OneOutcome
 pub mod ReadTokens
+pub mod ReadTerms
 pub mod Tracks
 pub mod ReadOutcome
 pub mod ReadReduced

@@ -25,7 +25,8 @@ use Rattle.poly_mixed.proofs.Parts.{err_on}
 use Rattle.poly_mixed.proofs.Texts.{all_more}
 use Rattle.poly_mixed.proofs.Machine.{State, start, inside, named, raised, closed, empty, has, enter, step, final, goes, goes_then, variables_more, whole_ends, beginning_goes}
 use Rattle.poly_mixed.proofs.MachineMeans.{is_whole, goes_beginning}
-use Rattle.poly_mixed.proofs.ReadTokens.{variable_in, variable_is, number_in, number_is, power_in, exponent_is, sign_in, next_in, next_is, zero_next_is, term_in, term_is, IsSign, IsLeft, front_left}
+use Rattle.poly_mixed.proofs.ReadTokens.{variable_in, variable_is, number_in, number_is, power_in, exponent_is, sign_in, next_in, term_in}
+use Rattle.poly_mixed.proofs.ReadTerms.{next_is, zero_next_is, term_is, IsSign, IsLeft, front_left}
 use Rattle.poly_mixed.proofs.Tracks.{Tracks, rank_of, holds_word, tracks_nothing, tracks_word, tracks_rank}
 
 some_is : {A : Type 0} (x y : A) → Some x ≡ Some y → x ≡ y

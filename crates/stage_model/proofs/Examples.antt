@@ -248,7 +248,7 @@ polynomial_of_words : IsOfStage 1 bit_mul (IsMix and_circuit 2) ((both_words, 1)
 polynomial_of_words = record { reduced = product_is_reduced; values = λ p at. mix_at p.words p.is_one at.words at.elements }
 
 role_word : Role → BoundWord
-role_word role = record { role = role; nets = [] }
+role_word role = record { name = []; role = role; nets = [] }
 
 -- of an output, an input and a state word the input and state words have the numbers 1 and 2
 numbers_of_words : places_from 0 (role_word Output ∷ role_word Input ∷ role_word State ∷ []) ≡ 1 ∷ 2 ∷ []
