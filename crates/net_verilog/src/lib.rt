@@ -45,5 +45,5 @@ use operator::{Frame, Next, Start};
 pub use parts::{is_sign, read_identifier, read_range, take};
 pub use sign::Sign;
 pub use table::Table;
-pub use target::read_target;
-pub use words::wrong;
+pub use target::{bit_name, name_of, read_target};
+pub use words::{is_end, is_open_index, wrong};
