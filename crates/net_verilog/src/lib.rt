@@ -46,4 +46,4 @@ pub use parts::{is_sign, read_identifier, read_range, take};
 pub use sign::Sign;
 pub use table::Table;
 pub use target::{bit_name, name_of, read_target};
-pub use words::{is_end, is_open_index, wrong};
+pub use words::{is_end, is_open_index, text_of, wrong};
