@@ -1,0 +1,3 @@
+mod FoundLemmas
+mod NumeralLemmas
+mod NameLemmas
