@@ -1,3 +1,4 @@
 mod FoundLemmas
 mod NumeralLemmas
 mod NameLemmas
+mod CutLemmas

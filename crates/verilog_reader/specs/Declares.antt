@@ -60,10 +60,14 @@ with_port Input net n = record net { inputs = net.inputs ++ n ∷ [] }
 with_port Output net n = record net { outputs = net.outputs ++ n ∷ [] }
 with_port Wire net n = net
 
+-- with the net of a name as a primary input or an output
+abbrev pub with_port_named : Direction → NetList → List ℕ → Result NetList NetFault
+with_port_named direction net name = on_value (λ p. Ok (with_port direction p.0 p.1)) (mentioned net name)
+
 -- with the nets of these names as primary inputs or outputs
 abbrev pub with_ports : Direction → NetList → List (List ℕ) → Result NetList NetFault
 with_ports direction net [] = Ok net
-with_ports direction net (name ∷ names) = on_value (λ p. with_ports direction (with_port direction p.0 p.1) names) (mentioned net name)
+with_ports direction net (name ∷ names) = on_value (λ more. with_ports direction more names) (with_port_named direction net name)
 
 -- the ports of a declared name; a wire alone makes no net
 abbrev pub ported : Direction → NetList → List ℕ → Range → Result NetList NetFault

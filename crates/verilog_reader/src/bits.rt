@@ -1,16 +1,13 @@
 //! Nets that two names make.
 ghost use Rattle.std.specs.Prelude.{◌≡◌, ◌≤◌, ◌+◌, IfOk};
-ghost use Rattle.text_core.specs.Lines.{IsPrinting};
-ghost use Rattle.net_core.specs.Inside.{IsNetName};
 ghost use Rattle.net_verilog.specs.Declarations.{bit_name as bit_that, range_of as range_that};
-ghost use Rattle.verilog_reader.specs.private.Meets.{IsBitAt, IsFound, bit_state as bit_state_that, is_scalar as scalar_that};
+ghost use Rattle.verilog_reader.specs.private.Meets.{IsFound, bit_state as bit_state_that, is_scalar as scalar_that};
 
-use net_verilog::{Table, bit_name, text_of};
+use net_verilog::{Table, bit_name};
 use std::alloc::{AllocError, Global};
-use text_core::read_decimal;
 
-// The range of a declared name.
-fn range_of(declared: &Table, name: &str) -> Option<Option<(u32, u32)>>
+/// The range of a declared name.
+pub fn range_of(declared: &Table, name: &str) -> Option<Option<(u32, u32)>>
     ensures { result ≡ range_that declared.now name.now }
 {
     match declared.find(name) {

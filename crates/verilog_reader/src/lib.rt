@@ -2,5 +2,10 @@
 #![tactic(auto)]
 
 mod bits;
+mod cuts;
+mod declare;
+mod ports;
 
-pub use bits::bits_found;
+pub use bits::{bits_found, range_of};
+pub use cuts::is_bit;
+pub use declare::declare;

@@ -1,6 +1,7 @@
 -- Names that make one net: words of this crate's code. Source: this project's own.
 use Rattle.std.specs.Prelude.{◌≡◌, ℕ, ◌+◌, ◌-◌, ◌<◌, ◌≤◌, nat_lt, Bool, true, false, List, take, length, Option, None, Some, if◌then◌else◌}
 use Rattle.net_verilog.specs.Declarations.{Declarations, Range, bit_name, range_of}
+use Rattle.verilog_reader.specs.Declares.{HasShortNames, Meets}
 
 abbrev pub is_scalar : Option Range → Bool
 is_scalar (Some None) = true
@@ -27,3 +28,17 @@ IsFound declared name low end (Some false) = AreShort name low end × ¬ HasScal
 -- a name is that of a bit of the declared vector before a place in it
 abbrev pub IsBitAt : Declarations → List ℕ → ℕ → Type 0
 IsBitAt declared name k = (low : ℕ) × (high : ℕ) × (i : ℕ) × (range_of declared (take k name) ≡ Some (Some (low, high))) × (low ≤ i) × (i ≤ high) × (name ≡ bit_name (take k name) i)
+
+-- a name is that of a bit of some declared vector
+abbrev pub IsBit : Declarations → List ℕ → Type 0
+IsBit declared name = (k : ℕ) × (k < length name) × IsBitAt declared name k
+
+-- whether a sentence holds
+abbrev pub Decides : Bool → Type 0 → Type 0
+Decides true sentence = sentence
+Decides false sentence = ¬ sentence
+
+-- what was found of a name that is declared: None where the name of a net is too long, else whether it meets another
+abbrev pub IsMet : Declarations → Range → List ℕ → Option Bool → Type 0
+IsMet declared range name None = ¬ HasShortNames name range
+IsMet declared range name (Some met) = HasShortNames name range × Decides met (Meets declared range name)
