@@ -14,7 +14,7 @@ taken_length zero xs within = refl
 taken_length (suc k) [] within = absurd (omega arith)
 taken_length (suc k) (x ∷ xs) within = omega (arith, taken_length k xs (omega arith))
 
-behind_one : (xs ys : List ℕ) (b : ℕ) → drop (length xs + 1) (xs ++ b ∷ ys) ≡ ys
+behind_one : (xs ys : List ℕ) (b : ℕ) → drop (suc (length xs)) (xs ++ b ∷ ys) ≡ ys
 behind_one [] ys b = refl
 behind_one (x ∷ xs) ys b = behind_one xs ys b
 
@@ -22,7 +22,8 @@ behind_one (x ∷ xs) ys b = behind_one xs ys b
 middle : (name before : List ℕ) (cut i : ℕ) → name ≡ bit_name before i → length before ≡ cut → take (length name - 1 - (cut + 1)) (drop (cut + 1) name) ≡ decimal i
 middle name before cut i same at =
     let split : name ≡ before ++ 91 ∷ (decimal i ++ 93 ∷ []) = same ∙ name_split before i in
-    let rest : drop (cut + 1) name ≡ decimal i ++ 93 ∷ [] = (λ j. drop (sym at j + 1) (split j)) ∙ behind_one before (decimal i ++ 93 ∷ []) 91 in
+    let step : cut + 1 ≡ suc (length before) = omega (arith, at) in
+    let rest : drop (cut + 1) name ≡ decimal i ++ 93 ∷ [] = (λ j. drop (step j) (split j)) ∙ behind_one before (decimal i ++ 93 ∷ []) 91 in
     let long : length name - 1 - (cut + 1) ≡ length (decimal i) = omega (arith, ap length split, length-append before (91 ∷ (decimal i ++ 93 ∷ [])), length-append (decimal i) (93 ∷ []), at) in
     (λ j. take (long j) (rest j)) ∙ front (decimal i) (93 ∷ [])
 
@@ -35,7 +36,9 @@ index_none name before cut i few at same none =
     none i (subst P (sym (middle name before cut i same at)) (printed_value i (omega (arith, few)))) few
 
 vectors_same : (a b c d : ℕ) → ◌≡◌ {A = Option Range} (Some (Some (a, b))) (Some (Some (c, d))) → (a ≡ c) × (b ≡ d)
-vectors_same a b c d is = (cc, cc)
+vectors_same a b c d is =
+    let same : ◌≡◌ {A = ℕ × ℕ} (a, b) (c, d) = cc in
+    (ap (λ p. p.0) same, ap (λ p. p.1) same)
 
 module _ (declared : Declarations) (name before : List ℕ) (cut : ℕ) (inside : cut < length name) where
   pub never_open : (open_at : Bool) → ((before : List ℕ) → (i : ℕ) → length before ≡ cut → name ≡ bit_name before i → open_at ≡ true) → open_at ≡ false → IsBitAt declared name cut → ⊥
@@ -88,7 +91,7 @@ no_cut_more declared name cut before here k less bit = elim (up_to cut k less) [
 
 module _ (declared : Declarations) (name : List ℕ) where
   bit_meets : IsBit declared name → Meets declared None name
-  bit_meets (k, inside, low, high, i, range, above, below, same) =
+  bit_meets (k, inside, (low, high, i, range, above, below, same)) =
       (take k name, Some (low, high), name, range, (λ e. omega (arith, inside, ap length e, taken_length k name (omega (arith, inside)))), (i, above, below, same), refl)
 
   meets_bit : Meets declared None name → IsBit declared name
@@ -96,7 +99,7 @@ module _ (declared : Declarations) (name : List ℕ) where
   meets_bit (other, Some (low, high), net, range, apart, (i, above, below, there), here) =
       let same : name ≡ bit_name other i = sym here ∙ there in
       let cut : take (length other) name ≡ other = ap (take (length other)) (same ∙ name_split other i) ∙ front other _ in
-      (length other, omega (arith, ap length same, longer other i), low, high, i, ap (range_of declared) cut ∙ range, above, below, same ∙ ap (λ b. bit_name b i) (sym cut))
+      (length other, omega (arith, ap length same, longer other i), (low, high, i, ap (range_of declared) cut ∙ range, above, below, same ∙ ap (λ b. bit_name b i) (sym cut)))
 
   pub met_scalar : (r : Bool) → length name ≤ 255 → Decides r (IsBit declared name) → IsMet declared None name (Some r)
   met_scalar true short bit = ((λ net is. omega (arith, short, ap length is)), bit_meets bit)

@@ -3,9 +3,9 @@
 
 mod bits;
 mod cuts;
-mod declare;
+mod declaring;
 mod ports;
 
 pub use bits::{bits_found, range_of};
 pub use cuts::is_bit;
-pub use declare::declare;
+pub use declaring::declare;

@@ -6,4 +6,4 @@ pub loop-cut-preserved : goal.loop-cut-preserved
 loop-cut-preserved c = no_cut_more c.args.declared.now c.args.name.now c.loop-cut.cut c.loop-cut.invariant (search rules)
 
 pub returns : goal.returns
-returns c = λ bit. c.loop-cut.invariant bit.0 (omega (arith, bit.1, c.loop-cut-test.false)) (bit.2, bit.3, bit.4, bit.5, bit.6, bit.7, bit.8)
+returns c = λ bit. c.loop-cut.invariant bit.0 (omega (arith, bit.1, c.loop-cut-test.false)) bit.2
