@@ -2,3 +2,5 @@ mod FoundLemmas
 mod NumeralLemmas
 mod NameLemmas
 mod CutLemmas
+mod PortLemmas
+mod ReadDetermined

@@ -4,8 +4,15 @@
 mod bits;
 mod cuts;
 mod declaring;
+mod instance_list;
+mod laws;
+mod names;
 mod ports;
 
 pub use bits::{bits_found, range_of};
 pub use cuts::is_bit;
 pub use declaring::declare;
+pub use instance_list::read_instances;
+pub use laws::{one_declaration_or_fault, one_statement_of_instances_or_fault};
+pub use names::{read_name, read_names};
+pub use ports::make_ports;
