@@ -4,7 +4,6 @@ ghost use Rattle.net_verilog.specs.Instances.{ReadsInstance};
 ghost use Rattle.net_verilog.specs.Several.{Several};
 ghost use Rattle.net_verilog.specs.private.Places.{left};
 
-use crate::parts::is_sign;
 use net_core::NetMaker;
 use net_verilog::{Cursor, GateKind, Sign, Table, VerilogFault, is_sign, read_instance};
 use std::alloc::Global;
