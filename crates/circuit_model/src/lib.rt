@@ -3,11 +3,13 @@
 //! laws of the definitions.
 #![tactic(auto)]
 
+mod circuit_feed;
 mod circuit_word;
 mod laws;
 mod net_bits;
 mod plain;
 
+pub use circuit_feed::{CircuitFeed, FeedSource};
 pub use circuit_word::CircuitWord;
 pub use laws::{
     bound_circuits_are_well_formed, one_differing_input, one_first_input, one_output, one_run,
