@@ -9,7 +9,8 @@ use Rattle.net_core.specs.declared.latch.Start.TheVariants.{Zero, One, Unknown}
 use Rattle.gf_basis.specs.Basis.{AreBits}
 use Rattle.circuit_model.specs.declared.circuit_feed.FeedSource.{FeedSource}
 use Rattle.circuit_model.specs.declared.circuit_feed.FeedSource.TheVariants.{Constant, Bit}
-use Rattle.circuit_model.specs.Word.{Word, HasElement, IsInputWord, IsStateWord}
+pub use Rattle.circuit_model.specs.Word.{IsInputWord, IsStateWord, IsAnyWord}
+use Rattle.circuit_model.specs.Word.{Word, HasElement}
 use Rattle.circuit_model.specs.Feeds.{source_at}
 use Rattle.circuit_model.specs.Circuit.{Circuit, IsInNoWord, IsFed, IsFree, IsInput}
 
@@ -18,9 +19,9 @@ abbrev pub HaveElements : Circuit → (Word → Type 0) → List ℕ → List Bo
 HaveElements circuit P xs bits = (i : ℕ) (w : Word) (x : ℕ) → slice_get circuit.words i ≡ Some w → slice_get xs i ≡ Some x → P w → HasElement bits w x
 
 -- the bit of a source, where word i has element i
-abbrev pub HasSource : Circuit → List ℕ → FeedSource → Bool → Type 0
-HasSource circuit xs (Constant constant) b = b ≡ constant
-HasSource circuit xs (Bit i place) b = (w : Word) (x d : ℕ) → slice_get circuit.words i ≡ Some w → slice_get xs i ≡ Some x → AreBits w.basis x d → b ≡ (bit_at d place == 1)
+abbrev pub HasSource : List Word → List ℕ → FeedSource → Bool → Type 0
+HasSource words xs (Constant constant) b = b ≡ constant
+HasSource words xs (Bit i place) b = (w : Word) (x d : ℕ) → slice_get words i ≡ Some w → slice_get xs i ≡ Some x → AreBits w.basis x d → b ≡ (bit_at d place == 1)
 
 -- the bit is the start; an unknown start is either bit
 abbrev pub IsStart : Start → Bool → Type 0
@@ -33,7 +34,7 @@ IsStart Unknown b = Unit {0}
 pub record IsCycle (circuit : Circuit) (xs : List ℕ) (t : ℕ) (bits : List Bool) : Type 0 where
   pub consistent : IsConsistent circuit.net bits
   pub inputs : HaveElements circuit IsInputWord xs bits
-  pub feeds : (n : ℕ) → IsFed circuit n → HasSource circuit xs (source_at circuit.feeds n t) (bit_of bits n)
+  pub feeds : (n : ℕ) → IsFed circuit n → HasSource circuit.words xs (source_at circuit.feeds n t) (bit_of bits n)
 
 -- the first cycle: each state word has its element, and each latch in no word has its start
 pub record IsFirst (circuit : Circuit) (xs : List ℕ) (bits : List Bool) : Type 0 where
