@@ -88,6 +88,14 @@ width net k Fed ns some (inr fed) stands = ap length fed.1
 width net k Output ns some (inl long) stands = long
 width net k Output ns some (inr fed) stands = let e : Output ≡ Fed = fed.0 in absurd (cc)
 
+-- one more word before it
+later : (u : BoundWord) (b : List ℕ) (us : List BoundWord) (bs : List (List ℕ)) (w : ℕ) (r : Role) → ((v : Word) × (slice_get (job_words_of us bs) (inner_number us w) ≡ Some v) × IsFedWord v)
+    → (v : Word) × (slice_get (job_word_with r u.nets b ++ job_words_of us bs) (length (cond (not (same_role r Output)) (u ∷ filter (λ word. not (same_role word.role Output)) (take w us)) (filter (λ word. not (same_role word.role Output)) (take w us)))) ≡ Some v) × IsFedWord v
+later u b us bs w Input rest = rest
+later u b us bs w State rest = rest
+later u b us bs w Fed rest = rest
+later u b us bs w Output rest = rest
+
 -- the fed word with number w among all words is the word with its inner number among the words of the job
 source_word : (words : List BoundWord) (bases : List (List ℕ)) → length bases ≡ length words → (w : ℕ) → slice_get (map (λ (word : BoundWord). word.role) words) w ≡ Some Fed → (v : Word) × (slice_get (job_words_of words bases) (inner_number words w) ≡ Some v) × IsFedWord v
 source_word [] bases long w got = absurd (cc)
@@ -99,17 +107,7 @@ source_word (u ∷ us) (b ∷ bs) long zero got = here u.role (cc)
     here State is = absurd (cc)
     here Fed is = (record { role = Fed; nets = u.nets; basis = b }, refl, refl)
     here Output is = absurd (cc)
-source_word (u ∷ us) (b ∷ bs) long (suc w) got = later u.role (source_word us bs (omega arith) w got)
-  where
-    before : List BoundWord
-    before = filter (λ word. not (same_role word.role Output)) (take w us)
-
-    later : (r : Role) → ((v : Word) × (slice_get (job_words_of us bs) (inner_number us w) ≡ Some v) × IsFedWord v) → (v : Word) × (slice_get (job_word_with r u.nets b ++ job_words_of us bs) (length (cond (not (same_role r Output)) (u ∷ before) before)) ≡ Some v) × IsFedWord v
-    unfolding before
-    later Input rest = rest
-    later State rest = rest
-    later Fed rest = rest
-    later Output rest = rest
+source_word (u ∷ us) (b ∷ bs) long (suc w) got = later u b us bs w u.role (source_word us bs (omega arith) w got)
 
 -- a net of a word with this role stands in one
 pub in_word_has : (role : Role) (words : List BoundWord) (word : BoundWord) (n : ℕ) → Has words word → Has word.nets n → word.role ≡ role → in_word role words n ≡ true
