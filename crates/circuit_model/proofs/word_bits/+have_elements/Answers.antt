@@ -5,7 +5,7 @@ use Rattle.circuit_model.specs.Flat.{word_of}
 use Rattle.circuit_model.proofs.WordLemmas.{same_element}
 use Rattle.circuit_model.proofs.SliceLemmas.{rest_has, rest_long, first_get}
 use Rattle.circuit_model.proofs.PlainLemmas.{first_at, have_all, have_rest, found_is, option_is, must_be}
-use Rattle.circuit_model.proofs.plain.+have_elements.Goals as goal
+use Rattle.circuit_model.proofs.word_bits.+have_elements.Goals as goal
 
 pub have_elements-requires : goal.have_elements-requires
 have_elements-requires g t c κs within = (search rules, (search rules, (search rules, ((λ w has. c.requires.over w (rest_has c.args.words.now w has)), rest_long c.args.xs.now c.args.words.now c.requires.long))))
