@@ -1,5 +1,5 @@
 //! The bits that are fed to nets.
-ghost use Rattle.std.specs.Prelude.{◌≡◌, ◌==◌, ◌<◌, ◌^◌, ℕ, Some, length, map, IsTrue, slice_get};
+ghost use Rattle.std.specs.Prelude.{◌≡◌, ◌==◌, ◌&&◌, ◌<◌, ◌^◌, ℕ, Some, length, map, IsTrue, slice_get};
 ghost use Rattle.std.specs.Int.{bit_at};
 ghost use Rattle.net_core.specs.Lists.{Has};
 ghost use Rattle.net_core.specs.Value.{bit_of};
@@ -53,12 +53,19 @@ fn source_bit<F: Field>(field: &F, words: &[CircuitWord], xs: &[u64], source: Fe
     }
 }
 
+// Whether the feed is that of a net for a cycle.
+fn is_for(feed: &CircuitFeed, net: u32, cycle: u32) -> bool
+    ensures { result ≡ (feed.now.net == net && feed.now.cycle == cycle) }
+{
+    feed.net == net && feed.cycle == cycle
+}
+
 // The source of a net's feed for a cycle, and the constant 0 where there is none.
 fn source_at(feeds: &[CircuitFeed], net: u32, cycle: u32) -> FeedSource
     ensures { result ≡ source_in feeds.now net cycle }
 {
     for feed in feeds {
-        if feed.net == net && feed.cycle == cycle {
+        if is_for(feed, net, cycle) {
             return feed.source;
         }
     }
