@@ -22,3 +22,4 @@ pub mod SourceLemmas
 pub mod WordLemmas
 pub mod Examples
 mod OnesExamples
+mod JobExamples

@@ -1,5 +1,5 @@
 //! The output of a job, cycle by cycle and gate by gate.
-ghost use Rattle.std.specs.Prelude.{◌≡◌, ◌<◌, ◌+◌, ◌^◌, ℕ, [], length, IfOk, IfSome, IsSome};
+ghost use Rattle.std.specs.Prelude.{◌≡◌, ◌<◌, ◌+◌, ◌^◌, true, false, ℕ, [], length, IfOk, IfSome, IsSome, IsTrue};
 ghost use Rattle.net_core.specs.Lists.{Has};
 ghost use Rattle.gf_basis.specs.BasisParts.{IsOver};
 ghost use Rattle.circuit_model.specs.WellFormed.{IsWellFormed};
@@ -7,7 +7,7 @@ ghost use Rattle.circuit_model.specs.Job.{IsJob};
 ghost use Rattle.circuit_model.specs.Out.{IsOut};
 ghost use Rattle.circuit_model.specs.Flat.{AreOver, circuit_of_parts};
 ghost use Rattle.circuit_model.specs.JobOfParts.{job_of_parts};
-ghost use Rattle.circuit_model.specs.private.Cycle.{IsReached};
+ghost use Rattle.circuit_model.specs.private.Cycle.{AreFed, AreOnlyFed, HaveAsked, IsReached};
 
 use crate::circuit_feed::CircuitFeed;
 use crate::circuit_word::CircuitWord;
@@ -17,6 +17,52 @@ use crate::word_bits::{element, have_elements};
 use gf_field::Field;
 use net_core::Net;
 use std::alloc::{AllocError, Global};
+
+// Whether each input word has its element and each fed net its bit of a cycle.
+fn is_cycle<F: Field>(
+    field: &F,
+    words: &[CircuitWord],
+    xs: &[u64],
+    feeds: &[CircuitFeed],
+    cycle: u32,
+    bits: &[bool],
+) -> bool
+    requires over { AreOver (F.degree field.now) (F.product field.now) words.now }
+    requires long { length xs.now ≡ length words.now }
+    requires elements { (x : ℕ) → Has xs.now x → x < 2 ^ F.degree field.now }
+    ensures inputs { IsTrue result → HaveAsked false words.now xs.now bits.now }
+    ensures fed { IsTrue result → AreFed words.now xs.now feeds.now cycle bits.now }
+    ensures complete { HaveAsked false words.now xs.now bits.now → AreOnlyFed words.now xs.now feeds.now cycle bits.now → IsTrue result }
+{
+    if have_elements(field, bits, words, xs, false) {
+        are_fed(field, words, xs, feeds, cycle, bits)
+    } else {
+        false
+    }
+}
+
+// Whether each input and state word has its element and each fed net its bit of the first cycle.
+fn is_first<F: Field>(
+    field: &F,
+    words: &[CircuitWord],
+    xs: &[u64],
+    feeds: &[CircuitFeed],
+    bits: &[bool],
+) -> bool
+    requires over { AreOver (F.degree field.now) (F.product field.now) words.now }
+    requires long { length xs.now ≡ length words.now }
+    requires elements { (x : ℕ) → Has xs.now x → x < 2 ^ F.degree field.now }
+    ensures inputs { IsTrue result → HaveAsked false words.now xs.now bits.now }
+    ensures states { IsTrue result → HaveAsked true words.now xs.now bits.now }
+    ensures fed { IsTrue result → AreFed words.now xs.now feeds.now 0 bits.now }
+    ensures complete { HaveAsked false words.now xs.now bits.now → HaveAsked true words.now xs.now bits.now → AreOnlyFed words.now xs.now feeds.now 0 bits.now → IsTrue result }
+{
+    if have_elements(field, bits, words, xs, true) {
+        is_cycle(field, words, xs, feeds, 0, bits)
+    } else {
+        false
+    }
+}
 
 // The bits of the first cycle, if words and fed nets can have theirs.
 fn first_cycle<F: Field>(
@@ -35,10 +81,7 @@ fn first_cycle<F: Field>(
     ensures complete { IfOk result (λ found. IsJob (job_of_parts (F.degree field.now) (F.product field.now) net.now words.now _output.now feeds.now 0) → IsSome found) }
 {
     let bits = first_bits(alloc, field, net, words, xs, feeds)?;
-    if have_elements(field, &bits, words, xs, false)
-        && have_elements(field, &bits, words, xs, true)
-        && are_fed(field, words, xs, feeds, 0, &bits)
-    {
+    if is_first(field, words, xs, feeds, &bits) {
         Ok(Some(bits))
     } else {
         Ok(None)
@@ -66,9 +109,7 @@ fn next_cycle<F: Field>(
     ensures complete { IfOk result (λ found. IsJob (job_of_parts (F.degree field.now) (F.product field.now) net.now words.now _output.now feeds.now 0) → IsSome found) }
 {
     let bits = next_bits(alloc, field, net, words, xs, feeds, t + 1, before)?;
-    if have_elements(field, &bits, words, xs, false)
-        && are_fed(field, words, xs, feeds, t + 1, &bits)
-    {
+    if is_cycle(field, words, xs, feeds, t + 1, &bits) {
         Ok(Some(bits))
     } else {
         Ok(None)
