@@ -23,12 +23,7 @@ pub fn memory(fault: NetFault) -> AllocError
 }
 
 // Adds a gate to a net list that has room for it.
-fn add_gate(
-    maker: &mut NetMaker,
-    out: u32,
-    inputs: &[u32],
-    table: u64,
-) -> Result<(), AllocError>
+fn add_gate(maker: &mut NetMaker, out: u32, inputs: &[u32], table: u64) -> Result<(), AllocError>
     requires room { HasRoom (nets maker.old) 1 maker.old }
     requires inside { GateIsInside (nets maker.old) (record { out = out; inputs = inputs.now; table = table }) }
     ensures { OnOk result (maker.new ≡ with_gates maker.old (record { out = out; inputs = inputs.now; table = table } ∷ [])) }
@@ -143,7 +138,11 @@ impl Plan {
         requires next { latch.next < nets self.now.net }
         ensures { OnOk result (maker.new ≡ with_gates maker.old (latch_gate (nets self.now.net) t latch ∷ [])) }
     {
-        add_buffer(maker, self.net_at(t + 1, latch.out), self.net_at(t, latch.next))
+        add_buffer(
+            maker,
+            self.net_at(t + 1, latch.out),
+            self.net_at(t, latch.next),
+        )
     }
 
     // The nets of a gate's inputs in cycle t.
@@ -170,6 +169,11 @@ impl Plan {
     {
         let inputs = gate.inputs();
         let nets = self.inputs_at(t, inputs);
-        add_gate(maker, self.net_at(t, gate.out()), &nets[..inputs.len()], gate.table())
+        add_gate(
+            maker,
+            self.net_at(t, gate.out()),
+            &nets[..inputs.len()],
+            gate.table(),
+        )
     }
 }

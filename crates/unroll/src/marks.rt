@@ -50,12 +50,7 @@ pub fn fed_marks(alloc: Global, net: &Net, bound: &Bound) -> Result<Vec<bool>, A
 }
 
 // Marks the nets of word w, below the number of words, if it is a state word.
-fn mark_held(
-    alloc: Global,
-    marks: &mut [bool],
-    bound: &Bound,
-    w: u32,
-) -> Result<(), AllocError>
+fn mark_held(alloc: Global, marks: &mut [bool], bound: &Bound, w: u32) -> Result<(), AllocError>
     requires { w < length bound.now.words }
     ensures { OnOk result ((word : _) → slice_get bound.now.words w ≡ Some word → (n : ℕ) → n < length marks.new → mark_at marks.new n ≡ (mark_at marks.old n || marks_with word n)) }
 {

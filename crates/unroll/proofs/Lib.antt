@@ -1,0 +1,4 @@
+pub mod GrowLemmas
+pub mod PlaceLemmas
+pub mod LaidLemmas
+pub mod DrivenLemmas
