@@ -2,3 +2,5 @@ pub mod GrowLemmas
 pub mod PlaceLemmas
 pub mod LaidLemmas
 pub mod DrivenLemmas
+pub mod CountLemmas
+pub mod SoundLemmas

@@ -67,3 +67,8 @@ bit_within k base (u ∷ us) zero place word got is less =
 bit_within k base (u ∷ us) (suc w) place word got is less =
     let rest = bit_within k (base + fed_bits k u.role) us w place word got is less in
     (omega (arith, rest.0), omega (arith, rest.1))
+
+pub bit_high : (k base : ℕ) (words : List BoundWord) (w : ℕ) → base ≤ first_bit k base words w
+bit_high k base [] w = omega arith
+bit_high k base (u ∷ us) zero = omega arith
+bit_high k base (u ∷ us) (suc w) = omega (arith, bit_high k (base + fed_bits k u.role) us w)
