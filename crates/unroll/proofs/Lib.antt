@@ -4,3 +4,5 @@ pub mod LaidLemmas
 pub mod DrivenLemmas
 pub mod CountLemmas
 pub mod SoundLemmas
+pub mod WordLemmas
+pub mod ClosedLemmas

@@ -91,7 +91,7 @@ impl Plan {
     }
 
     // Adds the feeding gate of a primary input in the first cycle, if it is fed.
-    fn add_first_input(&self, maker: &mut NetMaker, n: u32) -> Result<(), AllocError>
+    pub fn add_first_input(&self, maker: &mut NetMaker, n: u32) -> Result<(), AllocError>
         requires room { HasRoom (net_count self.now.net self.now.bound self.now.cycles) (length (filter (is_fed self.now.bound.feeds) (n ∷ []))) maker.old }
         requires net { n < nets self.now.net }
         ensures { OnOk result (maker.new ≡ with_gates maker.old (map (feeding_gate self.now.net self.now.bound self.now.cycles 0) (filter (is_fed self.now.bound.feeds) (n ∷ [])))) }
@@ -104,7 +104,7 @@ impl Plan {
     }
 
     // Adds a gate with a latch's start in the first cycle, unless it is in a state word.
-    fn add_first_latch(&self, maker: &mut NetMaker, latch: Latch) -> Result<(), AllocError>
+    pub fn add_first_latch(&self, maker: &mut NetMaker, latch: Latch) -> Result<(), AllocError>
         requires room { HasRoom (net_count self.now.net self.now.bound self.now.cycles) (length (filter (λ l. not (is_held self.now.bound l)) (latch ∷ []))) maker.old }
         requires net { latch.out < nets self.now.net }
         ensures { OnOk result (maker.new ≡ with_gates maker.old (map start_gate (filter (λ l. not (is_held self.now.bound l)) (latch ∷ [])))) }
@@ -117,7 +117,7 @@ impl Plan {
     }
 
     // Adds what gives a primary input its bit in cycle t, after the first: its feeding gate, or a buffer from the first cycle.
-    fn add_input(&self, maker: &mut NetMaker, t: u32, n: u32) -> Result<(), AllocError>
+    pub fn add_input(&self, maker: &mut NetMaker, t: u32, n: u32) -> Result<(), AllocError>
         requires room { HasRoom (net_count self.now.net self.now.bound self.now.cycles) 1 maker.old }
         requires cycle { t ≤ self.now.cycles }
         requires net { n < nets self.now.net }
@@ -131,7 +131,7 @@ impl Plan {
     }
 
     // Adds what gives a latch its bit in the cycle after t: a buffer from its `next` in cycle t.
-    fn add_latch(&self, maker: &mut NetMaker, t: u32, latch: Latch) -> Result<(), AllocError>
+    pub fn add_latch(&self, maker: &mut NetMaker, t: u32, latch: Latch) -> Result<(), AllocError>
         requires room { HasRoom (net_count self.now.net self.now.bound self.now.cycles) 1 maker.old }
         requires cycle { t < self.now.cycles }
         requires out { latch.out < nets self.now.net }
@@ -161,7 +161,7 @@ impl Plan {
     }
 
     // Adds a gate in cycle t.
-    fn add_gate_at(&self, maker: &mut NetMaker, t: u32, gate: &Gate) -> Result<(), AllocError>
+    pub fn add_gate_at(&self, maker: &mut NetMaker, t: u32, gate: &Gate) -> Result<(), AllocError>
         requires room { HasRoom (net_count self.now.net self.now.bound self.now.cycles) 1 maker.old }
         requires cycle { t ≤ self.now.cycles }
         requires inside { GateIsInside (nets self.now.net) gate.now }
