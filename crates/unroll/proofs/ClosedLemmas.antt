@@ -123,8 +123,8 @@ pub moved_output : (v c k base : ℕ) (words : List BoundWord) → output_bits (
 moved_output v c k base [] = refl
 moved_output v c k base (word ∷ words) =
     ap (λ ns. output_bits_with word.role (nets_with v c k base word.role word.nets) ++ ns) (moved_output v c k (base + fed_bits k word.role) words)
-      ∙ (ap (λ ns. ns ++ map (net_at v c) (output_bits words)) (own word.role)
-      ∙ sym (map-append (net_at v c) (output_bits_with word.role word.nets) (output_bits words)))
+    ∙ (ap (λ ns. ns ++ map (net_at v c) (output_bits words)) (own word.role)
+    ∙ sym (map-append (net_at v c) (output_bits_with word.role word.nets) (output_bits words)))
   where
     own : (r : Role) → output_bits_with r (nets_with v c k base r word.nets) ≡ map (net_at v c) (output_bits_with r word.nets)
     own Input = refl
@@ -190,10 +190,10 @@ closed net b c sound bound =
     let P : List BoundWord → Type 0 = λ ws. IsClosed (all_cycles net b c) ws in
     let Q : List ℕ → ℕ → Type 0 = λ ends n. ReachesByGates (all_cycles net b c) n ends in
     subst P (sym same) (λ n has none reaches.
-      let free = free_from net b c n bound has none in
-      let low : n < nets net = All_has (λ m. m < nets net) net.inputs n sound.inside.inputs free.0 in
-      let R : List ℕ → Type 0 = λ ends. Q ends n in
-      bound.covered n free.0 free.2 (λ fed. not_fed n free.1 fed) (reaches_from net b c n sound bound low (subst R (moved_output v c b.k base b.words) reaches)))
+    let free = free_from net b c n bound has none in
+    let low : n < nets net = All_has (λ m. m < nets net) net.inputs n sound.inside.inputs free.0 in
+    let R : List ℕ → Type 0 = λ ends. Q ends n in
+    bound.covered n free.0 free.2 (λ fed. not_fed n free.1 fed) (reaches_from net b c n sound bound low (subst R (moved_output v c b.k base b.words) reaches)))
   where
     not_fed : (n : ℕ) → is_fed b.feeds n ≡ false → Has (fed_nets b.feeds) n → ⊥
     not_fed n unfed fed =

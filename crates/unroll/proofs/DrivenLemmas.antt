@@ -75,11 +75,11 @@ next_outs net b c t =
     let third : List GateValue = map (gate_at (nets net) (t + 1)) net.gates in
     let ls : List ℕ = map (λ l. l.out) net.latches in
     outs_append first (second ++ third)
-      ∙ (ap (λ ns. outs first ++ ns) (outs_append second third)
-      ∙ (ap (λ ns. ns ++ (outs second ++ outs third)) inputs
-      ∙ (ap (λ ns. map at net.inputs ++ (ns ++ outs third)) latches
-      ∙ (ap (λ ns. map at net.inputs ++ (map at ls ++ ns)) gates
-      ∙ (join at net.inputs ls (outs net.gates))))))
+    ∙ (ap (λ ns. outs first ++ ns) (outs_append second third)
+    ∙ (ap (λ ns. ns ++ (outs second ++ outs third)) inputs
+    ∙ (ap (λ ns. map at net.inputs ++ (ns ++ outs third)) latches
+    ∙ (ap (λ ns. map at net.inputs ++ (map at ls ++ ns)) gates
+    ∙ (join at net.inputs ls (outs net.gates))))))
   where
     join : (f : ℕ → ℕ) (xs ys zs : List ℕ) → map f xs ++ (map f ys ++ map f zs) ≡ map f ((xs ++ ys) ++ zs)
     join f [] ys zs = sym (map-append f ys zs)
@@ -164,9 +164,10 @@ none_high : (net : NetList) (b : Binding) (c m : ℕ) → IsSound net → nets n
 none_high net b c m sound high =
     let ls : List ℕ = map (λ l. l.out) net.latches in
     let none : times m (driven net) ≡ 0 = absent m (driven net) (λ has. omega (arith, driven_low net sound m has, high)) in
-    let all : times m (driven net) ≡ times m net.inputs + times m ls + times m (outs net.gates) = times_append m (sources net) (outs net.gates) ∙ ap (λ k. k + times m (outs net.gates)) (times_append m net.inputs ls) in
-    (omega (arith, none, all, first_outs net b c m, times_both (is_fed b.feeds) m net.inputs, mapped_both (λ (l : LatchValue). l.out) (is_held b) m net.latches),
-     (omega (arith, none, all), omega (arith, none, all)))
+    let all : times m (driven net) ≡ times m net.inputs + times m ls + times m (outs net.gates) = times_append m (sources net) (outs net.gates) ∙ ap (λ k. k + times m (outs net.gates)) (times_append m net.inputs ls) in (
+      omega (arith, none, all, first_outs net b c m, times_both (is_fed b.feeds) m net.inputs, mapped_both (λ (l : LatchValue). l.out) (is_held b) m net.latches),
+      (omega (arith, none, all), omega (arith, none, all)),
+    )
 
 more_outs : (net : NetList) (b : Binding) (c t m : ℕ) → times m (outs (gates_to net b c (suc t))) ≡ times m (outs (gates_to net b c t)) + times m (map (net_at (nets net) (t + 1)) (driven net))
 more_outs net b c t m = ap (times m) (outs_append (gates_to net b c t) (next_gates net b c t)) ∙ (times_append m (outs (gates_to net b c t)) (outs (next_gates net b c t)) ∙ ap (λ ns. times m (outs (gates_to net b c t)) + times m ns) (next_outs net b c t))
@@ -210,7 +211,7 @@ none_after net b c (suc t) m sound within high = omega (arith, more_outs net b c
 inputs_times : (net : NetList) (b : Binding) (c m : ℕ) → times m (unrolled_inputs net b c) ≡ times m (filter (λ n. not (is_fed b.feeds n)) net.inputs) + (times m (map (λ l. l.out) (filter (is_held b) net.latches)) + times m (range_with_len (cycle_nets (nets net) c) (fed_count b.k b.words)))
 inputs_times net b c m =
     times_append m (filter (λ n. not (is_fed b.feeds n)) net.inputs) (map (λ l. l.out) (filter (is_held b) net.latches) ++ range_with_len (cycle_nets (nets net) c) (fed_count b.k b.words))
-      ∙ ap (λ k. times m (filter (λ n. not (is_fed b.feeds n)) net.inputs) + k) (times_append m (map (λ l. l.out) (filter (is_held b) net.latches)) (range_with_len (cycle_nets (nets net) c) (fed_count b.k b.words)))
+    ∙ ap (λ k. times m (filter (λ n. not (is_fed b.feeds n)) net.inputs) + k) (times_append m (map (λ l. l.out) (filter (is_held b) net.latches)) (range_with_len (cycle_nets (nets net) c) (fed_count b.k b.words)))
 
 no_bit : (net : NetList) (b : Binding) (c m : ℕ) → m < cycle_nets (nets net) c → times m (range_with_len (cycle_nets (nets net) c) (fed_count b.k b.words)) ≡ 0
 no_bit net b c m low = absent m (range_with_len (cycle_nets (nets net) c) (fed_count b.k b.words)) (λ has. omega (arith, low, (range_has (cycle_nets (nets net) c) (fed_count b.k b.words) m has).0))

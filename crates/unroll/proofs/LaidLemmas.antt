@@ -15,15 +15,15 @@ use Rattle.unroll.specs.Places.{net_at}
 -- what passes a test is in the list and passes
 pub has_filter : {X : Type 0} (p : X → Bool) (xs : List X) (x : X) → Has (filter p xs) x → Has xs x × (p x ≡ true)
 has_filter p [] x has = let got = has.1 in absurd (cc)
-has_filter {X} p (y ∷ ys) x has = by (p y) refl has
+has_filter {X} p (y ∷ ys) x has = by (p y) refl (λ later. has_filter p ys x later) has
   where
-    further : Has (filter p ys) x → Has (y ∷ ys) x × (p x ≡ true)
-    further later = let rest = has_filter p ys x later in ((suc rest.0.0, rest.0.1), rest.1)
+    further : Has ys x × (p x ≡ true) → Has (y ∷ ys) x × (p x ≡ true)
+    further rest = ((suc rest.0.0, rest.0.1), rest.1)
 
-    by : (b : Bool) → p y ≡ b → Has (if b then (y ∷ filter p ys) else filter p ys) x → Has (y ∷ ys) x × (p x ≡ true)
-    by true hit (zero, got) = let same : y ≡ x = cc in ((0, ap Some same), sym (ap p same) ∙ hit)
-    by true hit (suc i, got) = further (i, got)
-    by false miss later = further later
+    by : (b : Bool) → p y ≡ b → (Has (filter p ys) x → Has ys x × (p x ≡ true)) → Has (if b then (y ∷ filter p ys) else filter p ys) x → Has (y ∷ ys) x × (p x ≡ true)
+    by true hit each (zero, got) = let same : y ≡ x = cc in ((0, ap Some same), sym (ap p same) ∙ hit)
+    by true hit each (suc i, got) = further (each (i, got))
+    by false miss each later = further (each later)
 
 -- what is in a list and passes is among what passes
 pub filter_has : {X : Type 0} (p : X → Bool) (xs : List X) (x : X) → Has xs x → p x ≡ true → Has (filter p xs) x

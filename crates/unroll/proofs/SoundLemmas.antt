@@ -45,11 +45,11 @@ use Rattle.unroll.proofs.DrivenLemmas.{driven_low, has_shift, one_driver_high, o
 pub source_is : (k : ℕ) (roles : List Role) (feeds : List Feed) (n t : ℕ) → ((feed : Feed) → Has feeds feed → IsSource k roles feed.source) → IsSource k roles (source_at feeds n t)
 source_is k roles [] n t each = tt
 source_is k roles (feed ∷ feeds) n t each =
-    by (feed.net == n && feed.cycle == t)
+    by (feed.net == n && feed.cycle == t) (source_is k roles feeds n t (λ f has. each f (suc has.0, has.1)))
   where
-    by : (b : Bool) → IsSource k roles (if b then feed.source else source_at feeds n t)
-    by true = each feed (0, refl)
-    by false = source_is k roles feeds n t (λ f has. each f (suc has.0, has.1))
+    by : (b : Bool) → IsSource k roles (source_at feeds n t) → IsSource k roles (if b then feed.source else source_at feeds n t)
+    by true rest = each feed (0, refl)
+    by false rest = rest
 
 -- the bit of a fed word that a source names
 pub source_bit : (net : NetList) (b : Binding) (c w place : ℕ) → IsSource b.k (map (λ word. word.role) b.words) (Bit w place) → (cycle_nets (nets net) c ≤ bit_net net b c w place) × (bit_net net b c w place < net_count net b c)
@@ -96,11 +96,12 @@ low_count net b c n less = omega (arith, at_count net b c 0 n (omega arith) less
 pub moved_inside : (net : NetList) (b : Binding) (c t : ℕ) (g : GateValue) → t ≤ c → GateIsInside (nets net) g → GateIsInside (net_count net b c) (gate_at (nets net) t g)
 moved_inside net b c t g within is =
     let long : length (map (net_at (nets net) t) g.inputs) ≡ length g.inputs = map-long (net_at (nets net) t) g.inputs in
-    let P : ℕ → Type 0 = λ k. g.table < 2 ^ (2 ^ k) in
-    (at_count net b c t g.out within is.0,
-     all_from (λ n. n < net_count net b c) (map (net_at (nets net) t) g.inputs) (λ x has. let from = has_shift (nets net) t g.inputs x has in omega (arith, from.2, at_count net b c t from.0 within (All_has (λ n. n < nets net) g.inputs from.0 is.1 from.1))),
-     omega (arith, long, is.2),
-     subst P (sym long) is.3)
+    let P : ℕ → Type 0 = λ k. g.table < 2 ^ (2 ^ k) in (
+      at_count net b c t g.out within is.0,
+      all_from (λ n. n < net_count net b c) (map (net_at (nets net) t) g.inputs) (λ x has. let from = has_shift (nets net) t g.inputs x has in omega (arith, from.2, at_count net b c t from.0 within (All_has (λ n. n < nets net) g.inputs from.0 is.1 from.1))),
+      omega (arith, long, is.2),
+      subst P (sym long) is.3,
+    )
 
 input_low : (net : NetList) → IsSound net → (n : ℕ) → Has net.inputs n → n < nets net
 input_low net sound n has = All_has (λ m. m < nets net) net.inputs n sound.inside.inputs has
@@ -183,8 +184,8 @@ rank v c levels m = below (cycle_nets v c - m) (m / v * (total levels + 1) + ran
 rank_here : (v c : ℕ) (levels : Levels) (t n : ℕ) → t ≤ c → n < v → rank v c levels (net_at v t n) ≡ t * (total levels + 1) + rank_at levels n + 1
 rank_here v c levels t n within less =
     below_low (net_at v t n) (cycle_nets v c) (net_at v t n / v * (total levels + 1) + rank_at levels (net_at v t n % v) + 1) 0 (at_below v c t n within less)
-      ∙ (ap (λ x. x * (total levels + 1) + rank_at levels (net_at v t n % v) + 1) (at_cycle v t n less)
-      ∙ ap (λ x. t * (total levels + 1) + rank_at levels x + 1) (at_net v t n less))
+    ∙ (ap (λ x. x * (total levels + 1) + rank_at levels (net_at v t n % v) + 1) (at_cycle v t n less)
+    ∙ ap (λ x. t * (total levels + 1) + rank_at levels x + 1) (at_net v t n less))
 
 rank_bit : (v c : ℕ) (levels : Levels) (m : ℕ) → cycle_nets v c ≤ m → rank v c levels m ≡ 0
 rank_bit v c levels m high = below_high m (cycle_nets v c) (m / v * (total levels + 1) + rank_at levels (m % v) + 1) 0 high

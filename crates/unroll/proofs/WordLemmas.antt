@@ -69,7 +69,7 @@ rebound_is v c k base (word ∷ words) each =
     let rest : List ℕ = nets_of_words v c k (base + fed_bits k word.role) words in
     let long : length own ≡ k = with_long v c k base word (each 0 word (omega arith)) in
     ap (λ (list : List ℕ). record { name = word.name; role = word.role; nets = list } ∷ rebound k words (drop k (own ++ rest))) (take_whole k own rest long)
-      ∙ ap (λ (ws : List BoundWord). record { name = word.name; role = word.role; nets = own } ∷ ws) (ap (rebound k words) (drop_whole k own rest long) ∙ rebound_is v c k (base + fed_bits k word.role) words (rest_width k word words each))
+    ∙ ap (λ (ws : List BoundWord). record { name = word.name; role = word.role; nets = own } ∷ ws) (ap (rebound k words) (drop_whole k own rest long) ∙ rebound_is v c k (base + fed_bits k word.role) words (rest_width k word words each))
 
 pub words_long : (v c k base : ℕ) (words : List BoundWord) → All (HasWidth k) words → length (nets_of_words v c k base words) ≡ k * length words
 words_long v c k base [] each = omega arith

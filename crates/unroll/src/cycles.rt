@@ -1,6 +1,7 @@
 //! The gates of all cycles, cycle by cycle.
 ghost use Rattle.std.specs.Prelude.{◌≡◌, ◌<◌, ◌≤◌, ◌+◌, not, length, map, filter, OnOk};
 ghost use Rattle.net_core.specs.NetList.{nets};
+ghost use Rattle.net_words.specs.BoundTo.{IsBoundTo};
 ghost use Rattle.net_words.specs.Feeds.{is_fed};
 ghost use Rattle.unroll.specs.Gates.{feeding_gate, first_gates, gate_at, gates_to, input_gate, is_held, latch_gate, next_gates, start_gate};
 ghost use Rattle.unroll.specs.private.Plan.{HasRoom, net_count, with_gates};
@@ -12,7 +13,8 @@ use std::alloc::AllocError;
 impl Plan {
     // Adds the feeding gates of the fed nets in the first cycle.
     fn add_first_inputs(&self, maker: &mut NetMaker) -> Result<(), AllocError>
-        requires { HasRoom (net_count self.now.net self.now.bound self.now.cycles) (length (filter (is_fed self.now.bound.feeds) self.now.net.inputs)) maker.old }
+        requires bound { IsBoundTo self.now.net self.now.bound }
+        requires room { HasRoom (net_count self.now.net self.now.bound self.now.cycles) (length (filter (is_fed self.now.bound.feeds) self.now.net.inputs)) maker.old }
         ensures { OnOk result (maker.new ≡ with_gates maker.old (map (feeding_gate self.now.net self.now.bound self.now.cycles 0) (filter (is_fed self.now.bound.feeds) self.now.net.inputs))) }
     {
         for n in self.net.inputs() {
@@ -34,6 +36,7 @@ impl Plan {
 
     // Adds what gives the primary inputs their bits in cycle t, after the first.
     fn add_inputs(&self, maker: &mut NetMaker, t: u32) -> Result<(), AllocError>
+        requires bound { IsBoundTo self.now.net self.now.bound }
         requires room { HasRoom (net_count self.now.net self.now.bound self.now.cycles) (length self.now.net.inputs) maker.old }
         requires cycle { t ≤ self.now.cycles }
         ensures { OnOk result (maker.new ≡ with_gates maker.old (map (input_gate self.now.net self.now.bound self.now.cycles t) self.now.net.inputs)) }
@@ -70,7 +73,8 @@ impl Plan {
 
     // Adds the gates of the first cycle.
     fn add_first(&self, maker: &mut NetMaker) -> Result<(), AllocError>
-        requires { HasRoom (net_count self.now.net self.now.bound self.now.cycles) (length (first_gates self.now.net self.now.bound self.now.cycles)) maker.old }
+        requires bound { IsBoundTo self.now.net self.now.bound }
+        requires room { HasRoom (net_count self.now.net self.now.bound self.now.cycles) (length (first_gates self.now.net self.now.bound self.now.cycles)) maker.old }
         ensures { OnOk result (maker.new ≡ with_gates maker.old (first_gates self.now.net self.now.bound self.now.cycles)) }
     {
         self.add_first_inputs(maker)?;
@@ -80,6 +84,7 @@ impl Plan {
 
     // Adds the gates of the cycle after t.
     fn add_next(&self, maker: &mut NetMaker, t: u32) -> Result<(), AllocError>
+        requires bound { IsBoundTo self.now.net self.now.bound }
         requires room { HasRoom (net_count self.now.net self.now.bound self.now.cycles) (length (next_gates self.now.net self.now.bound self.now.cycles t)) maker.old }
         requires cycle { t < self.now.cycles }
         ensures { OnOk result (maker.new ≡ with_gates maker.old (next_gates self.now.net self.now.bound self.now.cycles t)) }
@@ -91,7 +96,8 @@ impl Plan {
 
     /// Adds the gates of all cycles to a net list that has room for them.
     pub fn add_cycles(&self, maker: &mut NetMaker) -> Result<(), AllocError>
-        requires { HasRoom (net_count self.now.net self.now.bound self.now.cycles) (length (gates_to self.now.net self.now.bound self.now.cycles self.now.cycles)) maker.old }
+        requires bound { IsBoundTo self.now.net self.now.bound }
+        requires room { HasRoom (net_count self.now.net self.now.bound self.now.cycles) (length (gates_to self.now.net self.now.bound self.now.cycles self.now.cycles)) maker.old }
         ensures { OnOk result (maker.new ≡ with_gates maker.old (gates_to self.now.net self.now.bound self.now.cycles self.now.cycles)) }
     {
         self.add_first(maker)?;

@@ -4,6 +4,7 @@ ghost use Rattle.net_core.specs.GateValue.{GateValue};
 ghost use Rattle.net_core.specs.Inside.{GateIsInside};
 ghost use Rattle.net_core.specs.NetList.{nets, with_gate};
 ghost use Rattle.net_core.specs.declared.fault.NetFault.TheVariants as faults;
+ghost use Rattle.net_words.specs.BoundTo.{IsBoundTo};
 ghost use Rattle.net_words.specs.Feeds.{IsSource, is_fed};
 ghost use Rattle.unroll.specs.Gates.{buffer, constant, feeding_gate, first_gates, gate_at, gates_to, input_gate, is_held, latch_gate, next_gates, source_gate, start_bit as start_bit_of, start_gate};
 ghost use Rattle.unroll.specs.Places.{net_at};
@@ -82,6 +83,7 @@ impl Plan {
 
     // Adds the feeding gate of a fed net in cycle t.
     fn add_feeding(&self, maker: &mut NetMaker, t: u32, n: u32) -> Result<(), AllocError>
+        requires bound { IsBoundTo self.now.net self.now.bound }
         requires room { HasRoom (net_count self.now.net self.now.bound self.now.cycles) 1 maker.old }
         requires cycle { t ≤ self.now.cycles }
         requires net { n < nets self.now.net }
@@ -92,6 +94,7 @@ impl Plan {
 
     // Adds the feeding gate of a primary input in the first cycle, if it is fed.
     pub fn add_first_input(&self, maker: &mut NetMaker, n: u32) -> Result<(), AllocError>
+        requires bound { IsBoundTo self.now.net self.now.bound }
         requires room { HasRoom (net_count self.now.net self.now.bound self.now.cycles) (length (filter (is_fed self.now.bound.feeds) (n ∷ []))) maker.old }
         requires net { n < nets self.now.net }
         ensures { OnOk result (maker.new ≡ with_gates maker.old (map (feeding_gate self.now.net self.now.bound self.now.cycles 0) (filter (is_fed self.now.bound.feeds) (n ∷ [])))) }
@@ -118,6 +121,7 @@ impl Plan {
 
     // Adds what gives a primary input its bit in cycle t, after the first: its feeding gate, or a buffer from the first cycle.
     pub fn add_input(&self, maker: &mut NetMaker, t: u32, n: u32) -> Result<(), AllocError>
+        requires bound { IsBoundTo self.now.net self.now.bound }
         requires room { HasRoom (net_count self.now.net self.now.bound self.now.cycles) 1 maker.old }
         requires cycle { t ≤ self.now.cycles }
         requires net { n < nets self.now.net }

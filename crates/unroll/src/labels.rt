@@ -1,5 +1,5 @@
 //! The nets of all cycles, with their labels.
-ghost use Rattle.std.specs.Prelude.{◌≡◌, ◌<◌, ◌≤◌, ◌+◌, ◌^◌, [], ◌∷◌, ◌++◌, Some, codes, false, length, map, slice_get, IfOk, OnOk};
+ghost use Rattle.std.specs.Prelude.{◌≡◌, ◌<◌, ◌≤◌, ◌+◌, ◌^◌, [], ◌∷◌, ◌++◌, Some, codes, false, length, map, slice_get, string_bytes, IfOk, OnOk};
 ghost use Rattle.std.specs.List.{range_with_len};
 ghost use Rattle.std.specs.Fmt.{decimal};
 ghost use Rattle.net_core.specs.NetList.{nets, text_of};
@@ -26,7 +26,7 @@ fn add_label(maker: &mut NetMaker, label: &str) -> Result<(), AllocError>
 
 // The label of a bit of a word.
 fn bit_label(alloc: Global, name: &str, i: u32) -> Result<String, AllocError>
-    ensures { IfOk result (λ label. label ≡ name.now ++ (codes "[" ++ (decimal i ++ codes "]"))) }
+    ensures { IfOk result (λ label. string_bytes label ≡ name.now ++ (codes "[" ++ (decimal i ++ codes "]"))) }
 {
     format!(in alloc; "{name}[{i}]")
 }

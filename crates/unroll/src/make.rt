@@ -2,6 +2,7 @@
 ghost use Rattle.std.specs.Prelude.{◌≡◌, ◌≤◌, ◌<◌, ◌+◌, ◌^◌, not, length, filter, IfOk};
 ghost use Rattle.net_core.specs.NetList.{nets};
 ghost use Rattle.net_core.specs.Sound.{IsSound};
+ghost use Rattle.net_words.specs.BoundTo.{IsBoundTo};
 ghost use Rattle.net_words.specs.Feeds.{is_fed};
 ghost use Rattle.unroll.specs.Gates.{gates_to, is_held};
 ghost use Rattle.unroll.specs.Nets.{all_cycles};
@@ -65,7 +66,8 @@ impl Plan {
 
     // The net list of all cycles.
     fn laid_out(&self, alloc: Global) -> Result<NetMaker, AllocError>
-        requires { length (gates_to self.now.net self.now.bound self.now.cycles self.now.cycles) ≤ 2 ^ 20 }
+        requires bound { IsBoundTo self.now.net self.now.bound }
+        requires room { length (gates_to self.now.net self.now.bound self.now.cycles self.now.cycles) ≤ 2 ^ 20 }
         ensures { IfOk result (λ maker. maker ≡ all_cycles self.now.net self.now.bound self.now.cycles) }
     {
         let mut maker = NetMaker::new(alloc);
@@ -79,7 +81,8 @@ impl Plan {
 
     /// The net of all cycles, where it has no more gates than a net may have.
     pub fn net(&self, alloc: Global) -> Result<Net, AllocError>
-        requires { length (gates_to self.now.net self.now.bound self.now.cycles self.now.cycles) ≤ 2 ^ 20 }
+        requires bound { IsBoundTo self.now.net self.now.bound }
+        requires room { length (gates_to self.now.net self.now.bound self.now.cycles self.now.cycles) ≤ 2 ^ 20 }
         ensures { IfOk result (λ net. net ≡ all_cycles self.now.net self.now.bound self.now.cycles) }
     {
         let maker = self.laid_out(alloc)?;

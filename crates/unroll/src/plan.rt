@@ -2,7 +2,6 @@
 ghost use Rattle.std.specs.Prelude.{◌≡◌, ◌<◌, ◌≤◌, ◌+◌, ◌^◌, length, map, IfOk, take};
 ghost use Rattle.net_core.specs.NetList.{nets};
 ghost use Rattle.net_core.specs.Sound.{IsSound};
-ghost use Rattle.net_words.specs.BoundTo.{IsBoundTo};
 ghost use Rattle.net_words.specs.Feeds.{is_fed as is_fed_net};
 ghost use Rattle.net_words.specs.Roles.{in_word};
 ghost use Rattle.net_words.specs.declared.word.Role.TheVariants.{State};
@@ -26,7 +25,6 @@ pub struct Plan {
     pub sources: Vec<Source>,
     pub firsts: Vec<u32>,
     ghost sound: { IsSound net },
-    ghost is_bound: { IsBoundTo net bound },
     ghost short: { cycles ≤ 4096 },
     ghost few: { net_count net bound cycles ≤ 2 ^ 20 },
     ghost are_fed: { AreMarks (nets net) (is_fed_net bound.feeds) fed.items },

@@ -1,9 +1,9 @@
 //! What fed nets hold, cycle by cycle.
-ghost use Rattle.std.specs.Prelude.{◌≡◌, ◌<◌, ◌≤◌, ◌+◌, ◌*◌, ◌^◌, ℕ, length, IfOk};
+ghost use Rattle.std.specs.Prelude.{◌≡◌, ◌<◌, ◌≤◌, ◌+◌, ◌*◌, ◌^◌, ℕ, length, slice_set, IfOk};
 ghost use Rattle.net_core.specs.NetList.{nets};
 ghost use Rattle.net_words.specs.BoundTo.{IsBoundTo};
-ghost use Rattle.unroll.specs.Places.{cycle_nets};
-ghost use Rattle.unroll.specs.private.Plan.{AreSources, sources_with};
+ghost use Rattle.unroll.specs.Places.{cycle_nets, net_at};
+ghost use Rattle.unroll.specs.private.Plan.{AreSources};
 
 use net_core::Net;
 use net_words::{Bound, Feed, Source};
@@ -14,7 +14,8 @@ fn put_source(sources: &mut [Source], nets: u32, cycles: u32, feed: &Feed)
     requires net { feed.now.net < nets }
     requires long { length sources.old ≡ cycle_nets nets cycles }
     requires few { cycle_nets nets cycles ≤ 2 ^ 20 }
-    ensures { sources.new ≡ sources_with nets cycles feed.now sources.old }
+    ensures put { feed.now.cycle ≤ cycles → sources.new ≡ slice_set sources.old (net_at nets feed.now.cycle feed.now.net) feed.now.source }
+    ensures kept { cycles < feed.now.cycle → sources.new ≡ sources.old }
 {
     if feed.cycle <= cycles {
         sources[(feed.cycle * nets + feed.net) as usize] = feed.source;

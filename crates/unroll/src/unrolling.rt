@@ -46,7 +46,8 @@ fn plan(alloc: Global, net: Net, bound: Bound, cycles: u32) -> Result<Plan, Allo
 impl Plan {
     // The net of all cycles with its words, where it has no more gates than a net may have.
     fn circuit(&self, alloc: Global) -> Result<Combinational, AllocError>
-        requires { length (gates_to self.now.net self.now.bound self.now.cycles self.now.cycles) ≤ 2 ^ 20 }
+        requires bound { IsBoundTo self.now.net self.now.bound }
+        requires room { length (gates_to self.now.net self.now.bound self.now.cycles self.now.cycles) ≤ 2 ^ 20 }
         ensures { IfOk result (λ circuit. circuit ≡ in_one_cycle self.now.net self.now.bound self.now.cycles) }
     {
         let net = self.net(alloc)?;

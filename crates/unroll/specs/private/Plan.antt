@@ -1,12 +1,11 @@
 -- What is known while the cycles of a net are laid out. Source: this project's own.
-use Rattle.std.specs.Prelude.{◌≡◌, ℕ, ◌<◌, ◌≤◌, ◌+◌, ◌^◌, ◌<=◌, ◌&&◌, Bool, false, List, [], ◌++◌, Some, length, slice_get, slice_index_or, slice_set, if◌then◌else◌}
+use Rattle.std.specs.Prelude.{◌≡◌, ℕ, ◌<◌, ◌≤◌, ◌+◌, ◌^◌, ◌&&◌, Bool, false, List, [], ◌++◌, Some, length, slice_get, slice_index_or}
 use Rattle.net_core.specs.GateValue.{GateValue}
 use Rattle.net_core.specs.NetList.{NetList, LabelValue, nets}
 use Rattle.net_words.specs.Binding.{Binding}
 use Rattle.net_words.specs.Feeds.{is_fed}
 use Rattle.net_words.specs.Roles.{same_role, stands_in}
 use Rattle.net_words.specs.declared.bound.BoundWord.{BoundWord}
-use Rattle.net_words.specs.declared.feed.Feed.{Feed}
 use Rattle.net_words.specs.declared.feed.Source.{Source}
 use Rattle.net_words.specs.declared.feed.Source.TheVariants.{Zero}
 use Rattle.net_words.specs.declared.word.Role.TheVariants.{Fed, State}
@@ -65,7 +64,3 @@ with_outputs net list = record net { outputs = net.outputs ++ list }
 -- the word is fed, and the place is one of its bits
 abbrev pub IsBit : Binding → ℕ → ℕ → Type 0
 IsBit binding w place = (place < binding.k) × ((word : BoundWord) × (slice_get binding.words w ≡ Some word) × (word.role ≡ Fed))
-
--- the sources with that of a feed, unless its cycle is after the last
-abbrev pub sources_with : ℕ → ℕ → Feed → List Source → List Source
-sources_with v c feed sources = if feed.cycle <= c then slice_set sources (net_at v feed.cycle feed.net) feed.source else sources
