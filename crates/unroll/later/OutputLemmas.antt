@@ -187,7 +187,7 @@ module _ (product : ℕ → ℕ → ℕ) (net : NetList) (b : Binding) (bases : 
   well_moved = let P : List BoundWord → Type 0 = λ ws. IsWellFormed (circuit_of product net b bases c ws) in subst P same_words well
 
   is_job : IsJob (job_of product net b bases c)
-  is_job = job_well b.k product (record { net = net; bound = b }) bases c sound bound refl based ring no_zero_divisors
+  is_job = job_well b.k product (record { net = net; bound = b }) bases c bound refl based sound ring no_zero_divisors
 
   forth : (xs : List ℕ) (e : ℕ) → IsOut (job_of product net b bases c) xs e → IsOut (circuit_of product net b bases c (rebound b.k b.words (unrolled_nets net b c))) xs e
   forth xs e out =

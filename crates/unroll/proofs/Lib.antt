@@ -6,3 +6,4 @@ pub mod CountLemmas
 pub mod SoundLemmas
 pub mod WordLemmas
 pub mod ClosedLemmas
+pub mod FlatLemmas
