@@ -35,7 +35,7 @@ unnamed_to labels zero l has = let from = from_map unnamed labels has.0 l has.1 
 unnamed_to labels (suc t) l has =
     elim (Has_cases (labels_to labels t) (map unnamed labels) l has) [
       | inl before ↦ unnamed_to labels t l before
-      | inr here ↦ unnamed_to labels zero l here
+      | inr here ↦ let from = from_map unnamed labels here.0 l here.1 in sym (ap (λ (k : LabelValue). k.named) from.2)
     ]
 
 unnamed_fed : (k : ℕ) (words : List BoundWord) (l : LabelValue) → Has (fed_labels k words) l → l.named ≡ false

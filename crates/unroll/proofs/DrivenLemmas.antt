@@ -109,7 +109,7 @@ times_shift v t n (x ∷ xs) =
       | inr other ↦ omega (arith, none_here n x other, none_here (net_at v t n) (net_at v t x) (λ e. other (omega (arith, e))), times_shift v t n xs)
     ]
 
-has_shift : (v t : ℕ) (xs : List ℕ) (m : ℕ) → Has (map (net_at v t) xs) m → (x : ℕ) × Has xs x × (net_at v t x ≡ m)
+pub has_shift : (v t : ℕ) (xs : List ℕ) (m : ℕ) → Has (map (net_at v t) xs) m → (x : ℕ) × Has xs x × (net_at v t x ≡ m)
 has_shift v t xs m has = let from = from_map (net_at v t) xs has.0 m has.1 in (from.0, (has.0, from.1), from.2)
 
 -- another cycle has not this net

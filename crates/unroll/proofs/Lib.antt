@@ -7,3 +7,4 @@ pub mod SoundLemmas
 pub mod WordLemmas
 pub mod ClosedLemmas
 pub mod FlatLemmas
+pub mod CodeLemmas

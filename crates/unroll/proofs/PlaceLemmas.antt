@@ -61,7 +61,8 @@ below_high {X} m k x y high = by (k - m) (omega arith)
 pub bit_within : (k base : ℕ) (words : List BoundWord) (w place : ℕ) (word : BoundWord) → slice_get words w ≡ Some word → word.role ≡ Fed → place < k → (base ≤ first_bit k base words w) × (first_bit k base words w + place < base + fed_count k words)
 bit_within k base [] w place word got is less = absurd (cc)
 bit_within k base (u ∷ us) zero place word got is less =
-    let same : u.role ≡ Fed = ap (λ (o : BoundWord). o.role) (cc) ∙ is in
+    let here : u ≡ word = cc in
+    let same : u.role ≡ Fed = ap (λ (o : BoundWord). o.role) here ∙ is in
     let many : fed_bits k u.role ≡ k = ap (fed_bits k) same in
     (omega arith, omega (arith, many, less))
 bit_within k base (u ∷ us) (suc w) place word got is less =

@@ -90,7 +90,7 @@ source_inside net b c out (Bit w place) less is = buffer_inside (net_count net b
 pub at_count : (net : NetList) (b : Binding) (c t n : ℕ) → t ≤ c → n < nets net → net_at (nets net) t n < net_count net b c
 at_count net b c t n within less = omega (arith, at_below (nets net) c t n within less)
 
-low_count : (net : NetList) (b : Binding) (c n : ℕ) → n < nets net → n < net_count net b c
+pub low_count : (net : NetList) (b : Binding) (c n : ℕ) → n < nets net → n < net_count net b c
 low_count net b c n less = omega (arith, at_count net b c 0 n (omega arith) less, first_at (nets net) n)
 
 pub moved_inside : (net : NetList) (b : Binding) (c t : ℕ) (g : GateValue) → t ≤ c → GateIsInside (nets net) g → GateIsInside (net_count net b c) (gate_at (nets net) t g)

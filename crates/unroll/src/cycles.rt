@@ -14,7 +14,7 @@ impl Plan {
     // Adds the feeding gates of the fed nets in the first cycle.
     fn add_first_inputs(&self, maker: &mut NetMaker) -> Result<(), AllocError>
         requires bound { IsBoundTo self.now.net self.now.bound }
-        requires room { HasRoom (net_count self.now.net self.now.bound self.now.cycles) (length (filter (is_fed self.now.bound.feeds) self.now.net.inputs)) maker.old }
+        requires room { HasRoom (net_count self.now.net self.now.bound self.now.cycles) (length (map (feeding_gate self.now.net self.now.bound self.now.cycles 0) (filter (is_fed self.now.bound.feeds) self.now.net.inputs))) maker.old }
         ensures { OnOk result (maker.new ≡ with_gates maker.old (map (feeding_gate self.now.net self.now.bound self.now.cycles 0) (filter (is_fed self.now.bound.feeds) self.now.net.inputs))) }
     {
         for n in self.net.inputs() {
@@ -25,7 +25,7 @@ impl Plan {
 
     // Adds a start for each latch in no state word.
     fn add_first_latches(&self, maker: &mut NetMaker) -> Result<(), AllocError>
-        requires { HasRoom (net_count self.now.net self.now.bound self.now.cycles) (length (filter (λ latch. not (is_held self.now.bound latch)) self.now.net.latches)) maker.old }
+        requires { HasRoom (net_count self.now.net self.now.bound self.now.cycles) (length (map start_gate (filter (λ latch. not (is_held self.now.bound latch)) self.now.net.latches))) maker.old }
         ensures { OnOk result (maker.new ≡ with_gates maker.old (map start_gate (filter (λ latch. not (is_held self.now.bound latch)) self.now.net.latches))) }
     {
         for latch in self.net.latches() {

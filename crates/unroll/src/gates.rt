@@ -95,7 +95,7 @@ impl Plan {
     // Adds the feeding gate of a primary input in the first cycle, if it is fed.
     pub fn add_first_input(&self, maker: &mut NetMaker, n: u32) -> Result<(), AllocError>
         requires bound { IsBoundTo self.now.net self.now.bound }
-        requires room { HasRoom (net_count self.now.net self.now.bound self.now.cycles) (length (filter (is_fed self.now.bound.feeds) (n ∷ []))) maker.old }
+        requires room { HasRoom (net_count self.now.net self.now.bound self.now.cycles) (length (map (feeding_gate self.now.net self.now.bound self.now.cycles 0) (filter (is_fed self.now.bound.feeds) (n ∷ [])))) maker.old }
         requires net { n < nets self.now.net }
         ensures { OnOk result (maker.new ≡ with_gates maker.old (map (feeding_gate self.now.net self.now.bound self.now.cycles 0) (filter (is_fed self.now.bound.feeds) (n ∷ [])))) }
     {
@@ -108,7 +108,7 @@ impl Plan {
 
     // Adds a gate with a latch's start in the first cycle, unless it is in a state word.
     pub fn add_first_latch(&self, maker: &mut NetMaker, latch: Latch) -> Result<(), AllocError>
-        requires room { HasRoom (net_count self.now.net self.now.bound self.now.cycles) (length (filter (λ l. not (is_held self.now.bound l)) (latch ∷ []))) maker.old }
+        requires room { HasRoom (net_count self.now.net self.now.bound self.now.cycles) (length (map start_gate (filter (λ l. not (is_held self.now.bound l)) (latch ∷ [])))) maker.old }
         requires net { latch.out < nets self.now.net }
         ensures { OnOk result (maker.new ≡ with_gates maker.old (map start_gate (filter (λ l. not (is_held self.now.bound l)) (latch ∷ [])))) }
     {

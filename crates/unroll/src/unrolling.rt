@@ -84,6 +84,15 @@ fn all_cycles(
     Ok(circuit)
 }
 
+// A circuit, whose net is sound.
+fn kept(circuit: Combinational) -> Combinational
+    ensures same { result ≡ circuit }
+    ensures sound { IsSound circuit.net }
+{
+    let _net = circuit.net();
+    circuit
+}
+
 /// A net with its words, unrolled for at most 4,096 cycles after the first. The words are bound to the net.
 ///
 /// A net without latches, bound without fed words and feeds, is kept as it is. Otherwise, with v nets, net n of cycle t has the
@@ -105,7 +114,7 @@ pub fn unroll(
     ensures room { OnOk result (length (unrolled net bound cycles).net.gates ≤ 2 ^ 20) }
 {
     match Combinational::new(net, bound) {
-        Ok(circuit) => Ok(circuit),
+        Ok(circuit) => Ok(kept(circuit)),
         Err((net, bound)) => all_cycles(alloc, net, bound, cycles),
     }
 }
