@@ -8,3 +8,11 @@ pub mod WordLemmas
 pub mod ClosedLemmas
 pub mod FlatLemmas
 pub mod CodeLemmas
+pub mod PlanLemmas
+pub mod FedBitLemmas
+pub mod RunLemmas
+pub mod FromRunLemmas
+pub mod ElementLemmas
+pub mod OutputLemmas
+pub mod FlatOutputLemmas
+pub mod UnrolledLemmas

@@ -6,6 +6,7 @@ mod ends;
 mod fault;
 mod gates;
 mod labels;
+mod laws;
 mod make;
 mod marks;
 mod places;
@@ -15,4 +16,7 @@ mod unrolling;
 mod words;
 
 pub use fault::UnrollFault;
+pub use laws::{
+    counts_of_unrolled_nets, unrolled_circuits_compute_the_job, unrolled_nets_are_sound,
+};
 pub use unrolling::unroll;
