@@ -154,3 +154,11 @@ taken_few {X} p xs i = omega (arith, filter_few p (take i xs), few xs i)
     few ys zero = omega arith
     few [] (suc j) = omega arith
     few (y ∷ ys) (suc j) = omega (arith, few ys j)
+
+pub taken_short : {X : Type 0} (p : X → Bool) (xs : List X) (i : ℕ) → length (filter p (take i xs)) ≤ i
+taken_short {X} p xs i = omega (arith, filter_few p (take i xs), few xs i)
+  where
+    few : (ys : List X) (j : ℕ) → length (take j ys) ≤ j
+    few ys zero = omega arith
+    few [] (suc j) = omega arith
+    few (y ∷ ys) (suc j) = omega (arith, few ys j)

@@ -11,7 +11,7 @@ ghost use Rattle.unroll.specs.private.Plan.{net_count};
 use crate::gates::memory;
 use crate::places::net_count as count_nets;
 use crate::plan::Plan;
-use net_core::{Net, NetMaker};
+use net_core::{Latch, Net, NetMaker};
 use std::alloc::{AllocError, Global};
 
 // The net of a sound net list.
@@ -40,6 +40,14 @@ impl Plan {
         count
     }
 
+    // Whether the output of the latch is in no state word.
+    fn is_started(&self, latch: &Latch) -> bool
+        requires { latch.now.out < nets self.now.net }
+        ensures { result ≡ not (is_held self.now.bound latch.now) }
+    {
+        !self.is_held(latch.out)
+    }
+
     // How many latches are in no state word.
     fn started_latches(&self) -> u64
         ensures count { result ≡ length (filter (λ latch. not (is_held self.now.bound latch)) self.now.net.latches) }
@@ -47,7 +55,7 @@ impl Plan {
     {
         let mut count: u64 = 0;
         for latch in self.net.latches() {
-            if !self.is_held(latch.out) {
+            if self.is_started(latch) {
                 count += 1;
             }
         }

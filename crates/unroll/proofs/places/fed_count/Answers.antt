@@ -1,7 +1,7 @@
-use Rattle.std.proofs.Common.{arith}
+use Rattle.std.proofs.Common.{◌∙◌, ◌+◌, ap, arith, refl}
 use Rattle.net_words.proofs.VariableLemmas.{words_few}
 use Rattle.unroll.proofs.CodeLemmas.{count_step}
-use Rattle.unroll.specs.Places.{fed_count}
+use Rattle.unroll.specs.Places.{fed_bits, fed_count}
 use Rattle.unroll.proofs.places.fed_count.Goals as goal
 
 pub overflow_add-count : goal.overflow_add-count
@@ -9,7 +9,7 @@ overflow_add-count c = omega (arith, c.loop-w.invariant.few, c.fed_bits.ensures.
 
 pub loop-w-preserved : goal.loop-w-preserved
 loop-w-preserved c = record {
-  sum = count_step c.args.bound.now.k c.args.bound.now.words c.loop-w.w c.loop-w.count _ c.fed_bits.result (fed_count c.args.bound.now.k c.args.bound.now.words) c.role.result (omega (arith, c.words-w-end.ensures.count)) c.role.ensures ? refl c.loop-w.invariant.sum;
+  sum = count_step c.args.bound.now.k c.args.bound.now.words c.loop-w.w c.loop-w.count (c.loop-w.count + c.fed_bits.result) c.fed_bits.result (fed_count c.args.bound.now.k c.args.bound.now.words) c.role.result (omega (arith, c.words-w-end.ensures.count)) c.role.ensures (c.fed_bits.ensures.count ∙ ap (λ k. fed_bits k c.role.result) c.k.ensures.bits) refl c.loop-w.invariant.sum;
   few = omega (arith, c.loop-w.invariant.few, c.fed_bits.ensures.few, c.k.ensures.bits, c.k.ensures.is_binding.most);
 }
 
