@@ -102,7 +102,7 @@ bit_label_step m now new name text i is was made =
     made ∙ (ap (λ (t : List ℕ). with_labels now (record { text = t; named = false } ∷ [])) is
     ∙ (ap (λ (n : NetList). with_labels n (bit_label name i ∷ [])) was
     ∙ (puts_labels m (map (bit_label name) (range_with_len 0 i)) (bit_label name i ∷ [])
-    ∙ ap (with_labels m) (sym (map-range_with_len_more (bit_label name) 0 i i refl)))))
+    ∙ ap (with_labels m) (sym (map-range_with_len_more (bit_label name) 0 i i (omega arith))))))
 
 pub bit_room : (m now : NetList) (name : List ℕ) (i k : ℕ) → nets m + k ≤ 2 ^ 20 → i < k → now ≡ with_labels m (map (bit_label name) (range_with_len 0 i)) → nets now < 2 ^ 20
 bit_room m now name i k room less is = omega (arith, nets_more m now (map (bit_label name) (range_with_len 0 i)) is, length-map-range_with_len (bit_label name) 0 i, room, less)
@@ -118,7 +118,7 @@ fed_label_step k words w m now new less was made =
     ∙ (ap (λ (ws : List BoundWord). with_labels now (fed_labels k ws)) (sym (word_drop words w got.0 got.1)) ∙ was))
 
 pub fed_label_end : (k : ℕ) (words : List BoundWord) (w : ℕ) (m now : NetList) → length words ≤ w → with_labels now (fed_labels k (drop w words)) ≡ with_labels m (fed_labels k words) → now ≡ with_labels m (fed_labels k words)
-fed_label_end k words w m now past was = no_labels now ∙ (ap (λ (ws : List BoundWord). with_labels now (fed_labels k ws)) (sym (drop_of_length-le w words past)) ∙ was)
+fed_label_end k words w m now past was = no_labels now ∙ (ap (λ (ws : List BoundWord). with_labels now (fed_labels k ws)) (sym (drop_of_length-le words w past)) ∙ was)
 
 pub fed_label_room : (k : ℕ) (words : List BoundWord) (w : ℕ) (m now : NetList) (word : BoundWord) → slice_get words w ≡ Some word → nets m + length (fed_labels k words) ≤ 2 ^ 20 → with_labels now (fed_labels k (drop w words)) ≡ with_labels m (fed_labels k words) → nets now + fed_bits k word.role ≤ 2 ^ 20
 fed_label_room k words w m now word got room was =

@@ -1,5 +1,5 @@
 -- How often the nets of all cycles are driven.
-use Rattle.std.proofs.Common.{◌≡◌, ◌≢◌, ◌⊎◌, ◌∙◌, ap, sym, refl, subst, inl, inr, ℕ, zero, suc, ◌<◌, ◌≤◌, ◌+◌, ◌-◌, ◌*◌, Bool, true, false, not, List, [], ◌∷◌, ◌++◌, length, map, cond, Some, arith, All, append-nil}
+use Rattle.std.proofs.Common.{◌≡◌, ◌≢◌, ◌⊎◌, ◌∙◌, ap, sym, refl, subst, inl, inr, ℕ, zero, suc, ◌<◌, ◌≤◌, ◌+◌, ◌-◌, ◌*◌, Bool, true, false, not, List, [], ◌∷◌, ◌++◌, length, length-append, map, cond, Some, arith, All, append-nil}
 use Rattle.std.specs.Prelude.{slice_get, ◌==◌, if◌then◌else◌}
 use Rattle.std.specs.List.{filter, range_with_len}
 use Rattle.std.proofs.lemmas.Bool.{cases_lt}
@@ -13,6 +13,7 @@ use Rattle.net_core.specs.NetList.{NetList, nets}
 use Rattle.net_core.specs.Sound.{sources, driven, drivers, IsSound, HasOneDriverEach}
 use Rattle.net_core.proofs.DriverLemmas.{Has_cases, from_map, times_append, times_some, one_here, none_here}
 use Rattle.net_words.specs.Binding.{Binding}
+use Rattle.net_words.proofs.ZipLemmas.{map-long}
 use Rattle.net_words.specs.Feeds.{is_fed}
 use Rattle.net_words.specs.declared.feed.Source.{Source}
 use Rattle.net_words.specs.declared.feed.Source.TheVariants.{Zero, One, Bit}
@@ -232,3 +233,40 @@ pub one_driver_high : (net : NetList) (b : Binding) (c m : ℕ) → IsSound net 
 one_driver_high net b c m sound high low =
     let none = none_high net b c m sound (omega (arith, high)) in
     omega (arith, inputs_times net b c m, none_after net b c c m sound (omega arith) high, times_both (is_fed b.feeds) m net.inputs, mapped_both (λ (l : LatchValue). l.out) (is_held b) m net.latches, range_once (cycle_nets (nets net) c) (fed_count b.k b.words) m high low, none.1.0, none.1.1)
+
+-- ---- how many nets are driven
+
+-- how many places hold a number below c
+abbrev places_below : ℕ → List ℕ → ℕ
+places_below zero xs = 0
+places_below (suc c) xs = times c xs + places_below c xs
+
+below_past : (c x : ℕ) (xs : List ℕ) → c ≤ x → places_below c (x ∷ xs) ≡ places_below c xs
+below_past zero x xs past = refl
+below_past (suc c) x xs past = omega (arith, none_here c x (λ e. omega (arith, e, past)), below_past c x xs (omega arith))
+
+below_here : (c x : ℕ) (xs : List ℕ) → x < c → places_below c (x ∷ xs) ≡ 1 + places_below c xs
+below_here zero x xs less = absurd (omega arith)
+below_here (suc c) x xs less =
+    elim (nat_eq_or x c) [
+      | inl same ↦ omega (arith, one_here c x same, below_past c x xs (omega arith))
+      | inr other ↦ omega (arith, none_here c x other, below_here c x xs (omega (arith, other, less)))
+    ]
+
+below_none : (c : ℕ) → places_below c [] ≡ 0
+below_none zero = refl
+below_none (suc c) = omega (arith, below_none c)
+
+below_all : (c : ℕ) (xs : List ℕ) → ((n : ℕ) → Has xs n → n < c) → places_below c xs ≡ length xs
+below_all c [] each = below_none c
+below_all c (x ∷ xs) each = omega (arith, below_here c x xs (each x (0, refl)), below_all c xs (λ n has. each n (suc has.0, has.1)))
+
+below_each : (c : ℕ) (xs : List ℕ) → ((n : ℕ) → n < c → times n xs ≡ 1) → places_below c xs ≡ c
+below_each zero xs once = refl
+below_each (suc c) xs once = omega (arith, once c (omega arith), below_each c xs (λ n less. once n (omega arith)))
+
+-- as many nets are driven as there are
+pub driven_long : (net : NetList) → IsSound net → length net.inputs + length net.latches + length net.gates ≡ nets net
+driven_long net sound =
+    let all : length (driven net) ≡ nets net = sym (below_all (nets net) (driven net) (driven_low net sound)) ∙ below_each (nets net) (driven net) sound.one in
+    omega (arith, all, length-append (sources net) (outs net.gates), length-append net.inputs (map (λ l. l.out) net.latches), map-long (λ (l : LatchValue). l.out) net.latches, map-long (λ (g : GateValue). g.out) net.gates)

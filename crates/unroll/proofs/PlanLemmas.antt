@@ -1,11 +1,13 @@
 -- What is known while the cycles of a net are laid out.
-use Rattle.std.proofs.Common.{◌≡◌, ◌≢◌, ◌⊎◌, ◌∙◌, ap, sym, refl, subst, inl, inr, ℕ, zero, suc, ◌<◌, ◌≤◌, ◌+◌, ◌-◌, ◌*◌, ◌^◌, ◌&&◌, ◌||◌, Bool, true, false, not, List, [], ◌∷◌, ◌++◌, length, length-append, map, take, drop, Some, get_or, cond, arith, add-one, append_assoc, append-nil, drop_of_length-le, eq-eqb, All, get_or-set_other, get_or-set_same, length-set}
-use Rattle.std.specs.Prelude.{slice_get, ◌==◌, ◌↔◌, Result, Ok, Err, IfOk, IsErrOf}
+use Rattle.std.proofs.Common.{◌≡◌, ◌≢◌, ◌⊎◌, ◌∙◌, ap, sym, refl, subst, inl, inr, ℕ, zero, suc, ◌<◌, ◌≤◌, ◌+◌, ◌-◌, ◌*◌, ◌^◌, ◌&&◌, ◌||◌, Bool, true, false, not, List, [], ◌∷◌, ◌++◌, length, length-append, map, take, drop, Some, get_or, cond, arith, add-one, append_assoc, append-nil, drop_of_length-le, drop-cons, eq-eqb, All, get_or-set_other, get_or-set_same, length-set}
+use Rattle.std.specs.Prelude.{slice_get, ◌==◌, ◌↔◌, Result, Ok, Err, IfOk, IsErrOf, IsTrue}
 use Rattle.std.specs.List.{list_any, range_with_len}
 use Rattle.std.proofs.Math.ListN.{set}
 use Rattle.std.proofs.lemmas.Bool.{cases_lt}
 use Rattle.std.proofs.lemmas.Bool.Decides.{nat_tests, eqb_tells}
-use Rattle.std.proofs.lemmas.Option.{slice_get_within, get_or_from_slice_get}
+use Rattle.std.proofs.lemmas.Option.{slice_get_within, slice_get-get_or}
+use Rattle.std.proofs.lemmas.List.FromFn.{get_or-range_with_len}
+use Rattle.net_words.proofs.ZipLemmas.{map-get}
 use Rattle.graph_core.proofs.ListLemmas.{get_below}
 use Rattle.net_core.specs.GateValue.{GateValue}
 use Rattle.net_core.specs.Inside.{GateIsInside}
@@ -25,6 +27,8 @@ use Rattle.net_words.specs.declared.feed.Source.{Source}
 use Rattle.net_words.specs.declared.feed.Source.TheVariants.{Zero, One, Bit}
 use Rattle.net_words.specs.declared.word.Role.{Role}
 use Rattle.net_words.specs.declared.word.Role.TheVariants.{Input, State, Fed, Output}
+use Rattle.unroll.specs.declared.fault.UnrollFault.{UnrollFault}
+use Rattle.unroll.specs.declared.fault.UnrollFault.TheVariants.{TooManyNets, TooManyGates, OutOfMemory}
 use Rattle.unroll.specs.Gates.{bit_net, gate_at, gates_to}
 use Rattle.unroll.specs.Nets.{all_cycles, fed_labels, labels_to}
 use Rattle.unroll.specs.Places.{net_at, cycle_nets, fed_bits, fed_count, first_bit}
@@ -34,10 +38,11 @@ use Rattle.unroll.specs.private.Plan.{AreFirstBits, IsBit, net_count, with_label
 use Rattle.unroll.proofs.PlaceLemmas.{at_below, bit_within, one_cycle, one_net}
 use Rattle.unroll.proofs.CountLemmas.{fed_long, labels_long, nets_long}
 use Rattle.unroll.proofs.SoundLemmas.{cycles_sound, moved_inside}
-use Rattle.unroll.proofs.WordLemmas.{are_nets}
+use Rattle.unroll.proofs.WordLemmas.{are_nets, stood}
 use Rattle.unroll.proofs.ClosedLemmas.{closed}
 use Rattle.unroll.proofs.FlatLemmas.{unrolled_flat, unrolled_laid}
-use Rattle.unroll.proofs.CodeLemmas.{nets_more, word_drop}
+use Rattle.unroll.proofs.CodeLemmas.{first_bit_here, nets_more, word_drop}
+use Rattle.unroll.proofs.GrowLemmas.{front_more}
 
 -- ---- bits of fed words
 
@@ -103,12 +108,17 @@ words_step v c k base words w list new whole less made was =
     ∙ (ap (λ (ws : List BoundWord). list ++ nets_of_words v c k (first_bit k base words w) ws) (sym (word_drop words w word got.1)) ∙ was)))
 
 pub words_end : (v c k base next : ℕ) (words : List BoundWord) (w : ℕ) (list whole : List ℕ) → length words ≤ w → list ++ nets_of_words v c k next (drop w words) ≡ whole → list ≡ whole
-words_end v c k base next words w list whole past was = sym (append-nil list) ∙ (ap (λ (ws : List BoundWord). list ++ nets_of_words v c k next ws) (sym (drop_of_length-le w words past)) ∙ was)
+words_end v c k base next words w list whole past was = sym (append-nil list) ∙ (ap (λ (ws : List BoundWord). list ++ nets_of_words v c k next ws) (sym (drop_of_length-le words w past)) ∙ was)
 
 -- ---- sources
 
 both_true : (m n : ℕ) → m ≡ n → (m == n) ≡ true
 both_true m n same = eq-eqb m n same
+
+pub feeds_back : (feeds : List Feed) (i : ℕ) (d : Feed) → 0 < i → i ≤ length feeds → drop (i - 1) feeds ≡ get_or feeds (i - 1) d ∷ drop i feeds
+feeds_back feeds i d some within =
+    let at : suc (i - 1) ≡ i = omega (arith, some) in
+    drop-cons feeds (i - 1) d (omega (arith, some, within)) ∙ ap (λ n. get_or feeds (i - 1) d ∷ drop n feeds) at
 
 pub put_here : (v c : ℕ) (old new : List Source) (feed : Feed) (feeds : List Feed) → length old ≡ cycle_nets v c → feed.net < v → (feed.cycle ≤ c → new ≡ set old (net_at v feed.cycle feed.net) feed.source) → (c < feed.cycle → new ≡ old) → ((t n : ℕ) → t ≤ c → n < v → get_or old (net_at v t n) Zero ≡ source_at feeds n t) → (t n : ℕ) → t ≤ c → n < v → get_or new (net_at v t n) Zero ≡ source_at (feed ∷ feeds) n t
 put_here v c old new feed feeds long low put kept was t n within less =
@@ -183,3 +193,80 @@ made_whole net b c made list binding is are same =
 -- what was laid out of the net that was handed back
 pub laid_same : (net other : NetList) (b binding : Binding) (c : ℕ) → other ≡ net → binding ≡ b → IsBoundTo net b → (IsFlat net b → ⊥) → in_one_cycle other binding c ≡ unrolled net b c
 laid_same net other b binding c same equal bound left = ap (λ (n : NetList). in_one_cycle n binding c) same ∙ (ap (λ (x : Binding). in_one_cycle net x c) equal ∙ sym (unrolled_laid net b c bound left))
+
+-- ---- words and their nets
+
+bare : (r : Bool) → r ≡ false → IsTrue r → ⊥
+bare true is yes = absurd (cc)
+bare false is yes = yes
+
+-- a word of which it is told that it has not k nets has none
+pub no_nets : (b : Binding) (w : ℕ) (r : Bool) (word : BoundWord) → IsBinding b → slice_get b.words w ≡ Some word → (IsTrue r ↔ (length word.nets ≡ b.k)) → r ≡ false → word.nets ≡ []
+no_nets b w r word is got tells miss = by (All_has (HasWidth b.k) b.words word is.each (w, got))
+  where
+    by : HasWidth b.k word → word.nets ≡ []
+    by (inl long) = absurd (bare r miss (tells.1 long))
+    by (inr none) = none.1
+
+pub has_k : (b : Binding) (w : ℕ) (r : Bool) (word : BoundWord) → (IsTrue r ↔ (length word.nets ≡ b.k)) → r ≡ true → length word.nets ≡ b.k
+has_k b w r word tells hit = let P : Bool → Type 0 = λ x. IsTrue x → length word.nets ≡ b.k in subst P hit tells.0 tt
+
+-- one more net of a word
+pub nets_step : (nets list new : List ℕ) (place x : ℕ) → place < length nets → list ≡ take place nets → x ≡ get_or nets place 0 → new ≡ list ++ x ∷ [] → new ≡ take (place + 1) nets
+nets_step nets list new place x less was is made = made ∙ (ap (λ ns. ns ++ x ∷ []) was ∙ (ap (λ n. take place nets ++ n ∷ []) is ∙ sym (front_more nets place 0 less)))
+
+pub more_step : (old nets list new : List ℕ) (place x : ℕ) → place < length nets → list ≡ old ++ take place nets → x ≡ get_or nets place 0 → new ≡ list ++ x ∷ [] → new ≡ old ++ take (place + 1) nets
+more_step old nets list new place x less was is made =
+    made ∙ (ap (λ ns. ns ++ x ∷ []) was ∙ (append_assoc old (take place nets) (x ∷ []) ∙ ap (λ ns. old ++ ns) (nets_step nets (take place nets) (take place nets ++ x ∷ []) place x less refl is refl)))
+
+pub not_fed : (role : Role) (word : BoundWord) → role ≡ word.role → (role ≡ Input) ⊎ (role ≡ State) → word.role ≢ Fed
+not_fed role word is (inl input) fed = let wrong : Input ≡ Fed = sym input ∙ (is ∙ fed) in absurd (cc)
+not_fed role word is (inr state) fed = let wrong : State ≡ Fed = sym state ∙ (is ∙ fed) in absurd (cc)
+
+pub output_not_fed : (role : Role) (word : BoundWord) → role ≡ word.role → role ≡ Output → word.role ≢ Fed
+output_not_fed role word is out fed = let wrong : Output ≡ Fed = sym out ∙ (is ∙ fed) in absurd (cc)
+
+-- the output word's nets exist
+pub output_exists : (net : NetList) (b : Binding) (w place x : ℕ) (role : Role) (word : BoundWord) → IsBoundTo net b → slice_get b.words w ≡ Some word → role ≡ word.role → role ≡ Output → place < b.k → x ≡ get_or word.nets place 0 → x < nets net
+output_exists net b w place x role word bound got is out less at =
+    let long : length word.nets ≡ b.k = wide b word bound.parts (w, got) (output_not_fed role word is out) in
+    let here : slice_get word.nets place ≡ Some (get_or word.nets place 0) = slice_get-get_or word.nets place 0 (omega (arith, long, less)) in
+    omega (arith, at, stood net b word (get_or word.nets place 0) Output bound (w, got) (place, here) (sym is ∙ out))
+
+pub fed_place : (v c k s place x : ℕ) (role : Role) (ns : List ℕ) → role ≡ Fed → place < k → x ≡ s + place → x ≡ get_or (nets_with v c k s role ns) place 0
+fed_place v c k s place x role ns is less at =
+    let P : Role → Type 0 = λ r. x ≡ get_or (nets_with v c k s r ns) place 0 in
+    subst P (sym is) (at ∙ sym (get_or-range_with_len s k place 0 less))
+
+pub output_place : (v c k s place x y : ℕ) (role : Role) (ns : List ℕ) → role ≡ Output → place < length ns → x ≡ net_at v c y → y ≡ get_or ns place 0 → x ≡ get_or (nets_with v c k s role ns) place 0
+output_place v c k s place x y role ns is less at from =
+    let P : Role → Type 0 = λ r. x ≡ get_or (nets_with v c k s r ns) place 0 in
+    subst P (sym is) (at ∙ (ap (net_at v c) from ∙ sym (map-get (net_at v c) ns place 0 0 less)))
+
+pub words_init : (v c k base : ℕ) (words : List BoundWord) (list : List ℕ) → list ≡ [] → list ++ nets_of_words v c k (first_bit k base words 0) words ≡ nets_of_words v c k base words
+words_init v c k base words list none = ap (λ ns. ns ++ nets_of_words v c k (first_bit k base words 0) words) none ∙ ap (λ n. nets_of_words v c k n words) (first_bit_here k base words)
+
+-- ---- marks
+
+pub held_step : (words : List BoundWord) (w n : ℕ) (old was new : Bool) (word : BoundWord) → slice_get words w ≡ Some word → was ≡ (old || in_word State (take w words) n) → new ≡ (was || (same_role word.role State && stands_in word.nets n)) → new ≡ (old || in_word State (take (w + 1) words) n)
+held_step words w n old was new word got before made =
+    let p : BoundWord → Bool = λ u. same_role u.role State && stands_in u.nets n in
+    made ∙ (ap (λ r. r || p word) before ∙ (join old (in_word State (take w words) n) (p word) ∙ ap (λ r. old || r) (sym (rw add-one (more words w got)))))
+  where
+    join : (x y z : Bool) → ((x || y) || z) ≡ (x || (y || z))
+    join true y z = refl
+    join false y z = refl
+
+    more : (us : List BoundWord) (i : ℕ) → slice_get us i ≡ Some word → in_word State (take (suc i) us) n ≡ (in_word State (take i us) n || (same_role word.role State && stands_in word.nets n))
+    more [] i at = absurd (cc)
+    more (u ∷ us) zero at = let same : u ≡ word = cc in ap (λ (v : BoundWord). (same_role v.role State && stands_in v.nets n) || false) same ∙ off (same_role word.role State && stands_in word.nets n)
+    more (u ∷ us) (suc i) at = ap (λ r. (same_role u.role State && stands_in u.nets n) || r) (more us i at) ∙ sym (join (same_role u.role State && stands_in u.nets n) (in_word State (take i us) n) (same_role word.role State && stands_in word.nets n))
+
+    off : (x : Bool) → (x || false) ≡ x
+    off true = refl
+    off false = refl
+
+-- ---- faults
+
+pub no_fault : {X : Type 0} (fault : UnrollFault) (n count : ℕ) → fault ≢ TooManyNets → n ≡ count → count ≤ 2 ^ 20 → (Err {X} {UnrollFault} fault ≡ Err TooManyNets) ↔ (2 ^ 20 < n)
+no_fault fault n count other is few = ((λ same. absurd (other (cc))), (λ more. absurd (omega (arith, is, few, more))))

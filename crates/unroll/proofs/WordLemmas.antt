@@ -40,7 +40,7 @@ moved v c k base [] = []
 moved v c k base (word ∷ words) = record { name = word.name; role = word.role; nets = nets_with v c k base word.role word.nets } ∷ moved v c k (base + fed_bits k word.role) words
 
 -- a word has k nets in the unrolled net
-with_long : (v c k base : ℕ) (word : BoundWord) → HasWidth k word → length (nets_with v c k base word.role word.nets) ≡ k
+pub with_long : (v c k base : ℕ) (word : BoundWord) → HasWidth k word → length (nets_with v c k base word.role word.nets) ≡ k
 with_long v c k base word width = by word.role refl width
   where
     by : (r : Role) → word.role ≡ r → HasWidth k word → length (nets_with v c k base r word.nets) ≡ k
@@ -183,10 +183,10 @@ fed_bare net b bound word has is = none word.nets (λ n in_w. let P : Role → T
     none [] no_net = refl
     none (n ∷ ns) no_net = absurd (no_net n (0, refl))
 
-stood : (net : NetList) (b : Binding) (word : BoundWord) (n : ℕ) (r : Role) → IsBoundTo net b → Has b.words word → Has word.nets n → word.role ≡ r → StandsOn net r n
+pub stood : (net : NetList) (b : Binding) (word : BoundWord) (n : ℕ) (r : Role) → IsBoundTo net b → Has b.words word → Has word.nets n → word.role ≡ r → StandsOn net r n
 stood net b word n r bound has in_w is = let P : Role → Type 0 = λ q. StandsOn net q n in subst P is (bound.places word n has in_w)
 
-in_some : (words : List BoundWord) (word : BoundWord) (n : ℕ) (r : Role) → Has words word → Has word.nets n → word.role ≡ r → in_word r words n ≡ true
+pub in_some : (words : List BoundWord) (word : BoundWord) (n : ℕ) (r : Role) → Has words word → Has word.nets n → word.role ≡ r → in_word r words n ≡ true
 in_some words word n r has in_w is = any_has _ words word has (both (same_role word.role r) _ (ap (λ q. same_role q r) is ∙ same r) (has_stands word.nets n in_w))
   where
     both : (x y : Bool) → x ≡ true → y ≡ true → (x && y) ≡ true

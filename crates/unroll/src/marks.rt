@@ -1,7 +1,7 @@
 //! Marks of nets.
 ghost use Rattle.std.specs.Prelude.{◌≡◌, ◌<◌, ◌||◌, ◌==◌, ℕ, Some, false, length, slice_get, slice_index_or, IfOk, OnOk};
 ghost use Rattle.net_core.specs.NetList.{nets};
-ghost use Rattle.net_words.specs.BoundTo.{IsBoundTo};
+ghost use Rattle.net_words.specs.Binding.{IsBinding};
 ghost use Rattle.net_words.specs.Feeds.{is_fed};
 ghost use Rattle.net_words.specs.Roles.{in_word, same_role, stands_in};
 ghost use Rattle.net_words.specs.declared.word.Role.TheVariants.{State};
@@ -51,7 +51,8 @@ pub fn fed_marks(alloc: Global, net: &Net, bound: &Bound) -> Result<Vec<bool>, A
 
 // Marks the nets of word w, below the number of words, if it is a state word.
 fn mark_held(alloc: Global, marks: &mut [bool], bound: &Bound, w: u32) -> Result<(), AllocError>
-    requires { w < length bound.now.words }
+    requires binding { IsBinding bound.now }
+    requires word { w < length bound.now.words }
     ensures { OnOk result ((word : _) → slice_get bound.now.words w ≡ Some word → (n : ℕ) → n < length marks.new → mark_at marks.new n ≡ (mark_at marks.old n || marks_with word n)) }
 {
     if bound.role(w) != Role::State {
@@ -62,13 +63,21 @@ fn mark_held(alloc: Global, marks: &mut [bool], bound: &Bound, w: u32) -> Result
     Ok(())
 }
 
+// Marks the nets in state words.
+fn mark_states(alloc: Global, marks: &mut [bool], bound: &Bound) -> Result<(), AllocError>
+    ensures { OnOk result ((n : ℕ) → n < length marks.new → mark_at marks.new n ≡ (mark_at marks.old n || in_word State bound.now.words n)) }
+{
+    for w in 0..bound.words() {
+        mark_held(alloc, marks, bound, w)?;
+    }
+    Ok(())
+}
+
 /// The marks of the nets in state words.
 pub fn held_marks(alloc: Global, net: &Net, bound: &Bound) -> Result<Vec<bool>, AllocError>
     ensures { IfOk result (λ marks. AreMarks (nets net.now) (in_word State bound.now.words) marks.items) }
 {
     let mut marks = vec![in alloc; false; net.nets() as usize]?;
-    for w in 0..bound.words() {
-        mark_held(alloc, &mut marks, bound, w)?;
-    }
+    mark_states(alloc, &mut marks, bound)?;
     Ok(marks)
 }

@@ -1,5 +1,5 @@
 //! Nets with words, unrolled into one cycle.
-ghost use Rattle.std.specs.Prelude.{◌≡◌, ◌≤◌, ◌<◌, ◌^◌, ◌↔◌, Err, length, IfOk, IfErr, IsErrOf, OnOk};
+ghost use Rattle.std.specs.Prelude.{◌≡◌, ◌≢◌, ◌≤◌, ◌<◌, ◌^◌, ◌↔◌, Err, length, IfOk, IfErr, IsErrOf, OnOk};
 ghost use Rattle.net_core.specs.NetList.{nets};
 ghost use Rattle.net_core.specs.Sound.{IsSound};
 ghost use Rattle.net_words.specs.BoundTo.{IsBoundTo};
@@ -60,6 +60,22 @@ impl Plan {
     }
 }
 
+// The net of all cycles with its words, where it has no more gates than a net may have.
+fn within_gates(alloc: Global, plan: Plan) -> Result<Combinational, UnrollFault>
+    requires { IsBoundTo plan.net plan.bound }
+    ensures made { IfOk result (λ circuit. circuit ≡ in_one_cycle plan.net plan.bound plan.cycles) }
+    ensures other { IfErr result (λ fault. fault ≢ UnrollFault.TooManyNets) }
+    ensures gates { IsErrOf result UnrollFault.TooManyGates → 2 ^ 20 < length (in_one_cycle plan.net plan.bound plan.cycles).net.gates }
+{
+    if plan.gate_count() > MOST {
+        return Err(UnrollFault::TooManyGates);
+    }
+    match plan.circuit(alloc) {
+        Ok(circuit) => Ok(circuit),
+        Err(AllocError) => Err(UnrollFault::OutOfMemory),
+    }
+}
+
 // The net of all cycles with its words.
 fn all_cycles(
     alloc: Global,
@@ -76,12 +92,10 @@ fn all_cycles(
     if net_count(&net, &bound, cycles) > MOST {
         return Err(UnrollFault::TooManyNets);
     }
-    let plan = plan(alloc, net, bound, cycles)?;
-    if plan.gate_count() > MOST {
-        return Err(UnrollFault::TooManyGates);
+    match plan(alloc, net, bound, cycles) {
+        Ok(plan) => within_gates(alloc, plan),
+        Err(AllocError) => Err(UnrollFault::OutOfMemory),
     }
-    let circuit = plan.circuit(alloc)?;
-    Ok(circuit)
 }
 
 // A circuit, whose net is sound.
