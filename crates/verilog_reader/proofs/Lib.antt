@@ -1,0 +1,6 @@
+mod FoundLemmas
+mod NumeralLemmas
+mod NameLemmas
+mod CutLemmas
+mod PortLemmas
+mod ReadDetermined

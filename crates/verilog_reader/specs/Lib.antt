@@ -1,0 +1,4 @@
+pub mod Declares
+pub mod Items
+pub mod Modules
+pub mod private
