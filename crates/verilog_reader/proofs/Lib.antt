@@ -4,3 +4,5 @@ mod NameLemmas
 mod CutLemmas
 mod PortLemmas
 mod ReadDetermined
+mod ItemLemmas
+mod ModuleDetermined

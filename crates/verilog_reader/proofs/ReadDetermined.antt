@@ -24,7 +24,7 @@ declares_determined declared range direction name (Err d) (Err e) h k = elim h [
   | inr w ↦ elim k [ inl v ↦ absurd (v.0 w.0) | inr v ↦ ap Err (w.2 ∙ sym v.2) ]
 ]
 
-name_determined : (range : Range) (direction : Direction) (state : Declarations × NetList) (tokens : List TokenValue) → Determined (ReadsName range direction state tokens)
+pub name_determined : (range : Range) (direction : Direction) (state : Declarations × NetList) (tokens : List TokenValue) → Determined (ReadsName range direction state tokens)
 name_determined range direction state tokens =
     determined_bind _ _ (determined_returns (identifier tokens)) (λ name.
     determined_bind _ _ (declares_determined state.0 range direction name.0) (λ declared.
