@@ -6,3 +6,5 @@ mod PortLemmas
 mod ReadDetermined
 mod ItemLemmas
 mod ModuleDetermined
+mod PrintLemmas
+mod GrowLemmas
