@@ -8,3 +8,6 @@ mod ItemLemmas
 mod ModuleDetermined
 mod PrintLemmas
 mod GrowLemmas
+mod StepLemmas
+mod TextLemmas
+mod VerilogDetermined
