@@ -6,8 +6,8 @@ mod PortLemmas
 mod ReadDetermined
 mod ItemLemmas
 mod ModuleDetermined
-mod PrintLemmas
-mod GrowLemmas
+pub mod PrintLemmas
+pub mod GrowLemmas
 mod StepLemmas
-mod TextLemmas
-mod VerilogDetermined
+pub mod TextLemmas
+pub mod VerilogDetermined
