@@ -23,7 +23,7 @@ use Rattle.net_verilog.specs.declared.operator.Frame.{Frame}
 use Rattle.net_verilog.specs.declared.operator.Frame.TheVariants as frames
 use Rattle.net_verilog.proofs.KeepLemmas.{covers_more, covers_same, mention_covers}
 use Rattle.net_verilog.specs.Declarations.{Range}
-use Rattle.net_verilog.proofs.PieceLemmas.{all_cons, none_prints}
+use Rattle.net_verilog.proofs.PieceLemmas.{Shows, all_cons, none_prints}
 use Rattle.verilog_reader.specs.Declares.{bits_from, net_names, ported, with_port, with_port_named, with_ports}
 use Rattle.verilog_reader.proofs.PrintLemmas.{IsLimit, bit_prints, decimal_prints}
 
@@ -130,16 +130,13 @@ pub gate_of_grows : (net : NetList) (out : ℕ) (inputs : List ℕ) (table : ℕ
 gate_of_grows net out inputs table below = makes_if (Grows net) (nat_le (2 ^ 20) (length net.gates + length net.latches)) (Err nets_faults.TooManyGates) (Ok (with_gate net (record { out = out; inputs = inputs; table = table }))) tt (gate_grows net (record { out = out; inputs = inputs; table = table }) below)
 
 expr_prints : (line : ℕ) → IsPrinting (codes "expr" ++ decimal line)
-expr_prints line = All-append _ (codes "expr") (decimal line) (all_cons 101 _ (omega arith, omega arith) (all_cons 120 _ (omega arith, omega arith) (all_cons 112 _ (omega arith, omega arith) (all_cons 114 _ (omega arith, omega arith) none_prints)))) (decimal_prints line)
+expr_prints line = All-append Shows (codes "expr") (decimal line) (all_cons 101 _ (omega arith, omega arith) (all_cons 120 _ (omega arith, omega arith) (all_cons 112 _ (omega arith, omega arith) (all_cons 114 _ (omega arith, omega arith) none_prints)))) (decimal_prints line)
 
 pub fresh_grows : (net : NetList) (line : ℕ) (driver : Driver) → Makes (λ (p : NetList × ℕ). Grows net p.0) (fresh_driven net line driver)
 fresh_grows net line driver =
-    makes_if (λ (p : NetList × ℕ). Grows net p.0) (nat_le (2 ^ 20) (nets net)) (Err nets_faults.TooManyNets) (on_value (λ (m : NetList). Ok (m, nets net)) (driven labelled (nets net) driver)) tt
-    (makes_then (Grows labelled) (λ (p : NetList × ℕ). Grows net p.0) (λ (m : NetList). Ok (m, nets net)) (driven labelled (nets net) driver) (gate_of_grows labelled (nets net) (inputs_of driver) (table_of driver) (omega (arith, label_wider net (codes "expr" ++ decimal line) false))) (λ m kept. grows_more net labelled m first kept))
+    makes_if (λ (p : NetList × ℕ). Grows net p.0) (nat_le (2 ^ 20) (nets net)) (Err nets_faults.TooManyNets) (on_value (λ (m : NetList). Ok (m, nets net)) (driven (with_label net (codes "expr" ++ decimal line) false) (nets net) driver)) tt
+    (makes_then (Grows (with_label net (codes "expr" ++ decimal line) false)) (λ (p : NetList × ℕ). Grows net p.0) (λ (m : NetList). Ok (m, nets net)) (driven (with_label net (codes "expr" ++ decimal line) false) (nets net) driver) (gate_of_grows (with_label net (codes "expr" ++ decimal line) false) (nets net) (inputs_of driver) (table_of driver) (omega (arith, label_wider net (codes "expr" ++ decimal line) false))) (λ m kept. grows_more net (with_label net (codes "expr" ++ decimal line) false) m first kept))
   where
-    abbrev labelled : NetList
-    labelled = with_label net (codes "expr" ++ decimal line) false
-
     first : Grows net (with_label net (codes "expr" ++ decimal line) false)
     first = record {
         wider = omega (arith, label_wider net (codes "expr" ++ decimal line) false);

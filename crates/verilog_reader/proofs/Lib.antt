@@ -11,3 +11,5 @@ pub mod GrowLemmas
 mod StepLemmas
 pub mod TextLemmas
 pub mod VerilogDetermined
+mod ReadingLemmas
+mod AssignedLemmas

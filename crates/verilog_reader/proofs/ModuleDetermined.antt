@@ -98,7 +98,7 @@ after_determined : (state : State) (tokens : List TokenValue) → Determined (Po
 after_determined state [] = determined_returns (Err (faults.Syntax 0))
 after_determined state (t ∷ ts) = either_determined (is_close t.kind) _ _ (exactly_same (state, ts)) (from_determined (port_direction (item_start t)) state (t ∷ ts))
 
-ports_determined : (state : State) (tokens : List TokenValue) → Determined (PortList state tokens)
+pub ports_determined : (state : State) (tokens : List TokenValue) → Determined (PortList state tokens)
 ports_determined state tokens = either_determined (open_first tokens) _ _ (after_determined state (after_first tokens)) (exactly_same (state, tokens))
 
 -- ---- the module

@@ -1,5 +1,5 @@
 -- What is read of tokens that print, and the faults that repeat their texts, print.
-use Rattle.std.proofs.Common.{◌≡◌, ap, sym, refl, subst, ℕ, zero, suc, ◌+◌, ◌-◌, ◌/◌, ◌%◌, ◌<◌, ◌≤◌, ◌==◌, ◌&&◌, ◌||◌, Bool, true, false, cond, List, [], ◌∷◌, ◌++◌, drop, length, codes, decimal, Option, None, Some, Result, Ok, Err, arith}
+use Rattle.std.proofs.Common.{◌≡◌, ap, inl, inr, sym, refl, subst, ℕ, zero, suc, ◌+◌, ◌-◌, ◌/◌, ◌%◌, ◌<◌, ◌≤◌, ◌==◌, ◌&&◌, ◌||◌, Bool, true, false, cond, List, [], ◌∷◌, ◌++◌, drop, length, codes, decimal, Option, None, Some, Result, Ok, Err, arith}
 use Rattle.std.specs.Prelude.{All, is_some, nat_le, nat_lt}
 use Rattle.std.specs.List.{AllByRecursion}
 use Rattle.std.specs.Fmt.{digits, digits_onto, digit_glyph}
@@ -109,7 +109,7 @@ one_prints b shows = all_cons b [] shows none_prints
 -- names of bits
 pub bit_prints : (name : List ℕ) (i : ℕ) → IsPrinting name → IsPrinting (bit_name name i)
 bit_prints name i prints =
-    All-append _ (name ++ codes "[" ++ decimal i) (codes "]") (All-append _ (name ++ codes "[") (decimal i) (All-append _ name (codes "[") prints (one_prints 91 (omega arith, omega arith))) (decimal_prints i)) (one_prints 93 (omega arith, omega arith))
+    All-append Shows (name ++ codes "[" ++ decimal i) (codes "]") (All-append Shows (name ++ codes "[") (decimal i) (All-append Shows name (codes "[") prints (one_prints 91 (omega arith, omega arith))) (decimal_prints i)) (one_prints 93 (omega arith, omega arith))
 
 pub wrong_prints : (t : TokenValue) → Prints t → FaultPrints (wrong t)
 wrong_prints t prints = by t.kind prints
@@ -124,7 +124,7 @@ wrong_prints t prints = by t.kind prints
 
     by : (kind : Kind) → (is_wrong kind ≡ false → IsPrinting t.text) → FaultPrints (wrong_kind kind t.text t.line)
     by kinds.LeftOut p = p refl
-    by kinds.Directive p = All-drop _ 1 t.text (p refl)
+    by kinds.Directive p = All-drop Shows 1 t.text (p refl)
     by kinds.Number p = number (literal_of t.text) (p refl)
     by kinds.Word p = word (bytes_eq t.text (codes "module")) (p refl)
     by kind p = tt
@@ -142,7 +142,7 @@ name_prints t name is prints = by t.kind prints is
 
     by : (kind : Kind) → (is_wrong kind ≡ false → IsPrinting t.text) → name_kind kind t.text ≡ Some name → IsPrinting name
     by kinds.Word p e = word (is_keyword t.text) e (p refl)
-    by kinds.Escaped p e = same (drop 1 t.text) e (All-drop _ 1 t.text (p refl))
+    by kinds.Escaped p e = same (drop 1 t.text) e (All-drop Shows 1 t.text (p refl))
     by kind p e = absurd (cc)
 
 -- ---- parts of statements

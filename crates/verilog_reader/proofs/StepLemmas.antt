@@ -161,7 +161,7 @@ module _ {S : Type 0} (Holds : S → Type 0) (one : S → List TokenValue → Re
 -- ---- assignments and instances
 
 module _ (start : NetList) (declared : Declarations) where
-  assigns_keeps : (net : NetList) (tokens : List TokenValue) → Grows start net → ArePrinting tokens → Keeps (Assigns declared net tokens) (Then (Grows start))
+  pub assigns_keeps : (net : NetList) (tokens : List TokenValue) → Grows start net → ArePrinting tokens → Keeps (Assigns declared net tokens) (Then (Grows start))
   assigns_keeps net tokens grows prints =
       keeps_bind (Then IsPrinting) (Then (Grows start)) (Returns (target_of declared tokens)) _ (keeps_returns _ _ (target_prints declared tokens prints)) (λ target one.
       keeps_bind (GrowsTo net) (Then (Grows start)) (Returns (net_fault (mentioned net target.0))) _ (keeps_returns _ _ (net_good (GrowsTo net) (mentioned net target.0) (mention_grows net target.0 one.0))) (λ out two.

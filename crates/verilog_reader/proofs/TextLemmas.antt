@@ -176,7 +176,7 @@ module _ (start : NetList) where
   after_keeps state [] grows prints = keeps_returns (Then (StateGrows start)) (Err (faults.Syntax 0)) tt
   after_keeps state (t ∷ ts) grows prints = either_keeps (is_close t.kind) (Exactly (state, ts)) (PortsFrom (port_direction (item_start t)) state (t ∷ ts)) (keeps_exactly (Then (StateGrows start)) (state, ts) (grows, prints.1)) (from_keeps (port_direction (item_start t)) state (t ∷ ts) grows prints)
 
-  ports_keep : (state : State) (tokens : List TokenValue) → StateGrows start state → ArePrinting tokens → Keeps (PortList state tokens) (Then (StateGrows start))
+  pub ports_keep : (state : State) (tokens : List TokenValue) → StateGrows start state → ArePrinting tokens → Keeps (PortList state tokens) (Then (StateGrows start))
   ports_keep state tokens grows prints = either_keeps (open_first tokens) (PortsAfter state (after_first tokens)) (Exactly (state, tokens)) (after_keeps state (after_first tokens) grows (after_prints tokens prints)) (keeps_exactly (Then (StateGrows start)) (state, tokens) (grows, prints))
 
 -- ---- the module
