@@ -1,17 +1,17 @@
 -- The law of values: an assigned target has its expression's value, in each consistent list of bits.
-use Rattle.std.proofs.Common.{◌≡◌, ◌∙◌, ap, sym, inl, inr, refl, subst, ℕ, zero, suc, ◌+◌, ◌<◌, ◌≤◌, Bool, true, false, List, [], ◌∷◌, Option, Some, Result, Ok, Err, arith}
-use Rattle.std.specs.Prelude.{unwrap_or}
+use Rattle.std.proofs.Common.{◌≡◌, ◌∙◌, ap, sym, inl, inr, refl, subst, ℕ, zero, suc, ◌+◌, ◌<◌, ◌≤◌, Bool, true, false, cond, List, [], ◌∷◌, Option, Some, Result, Ok, Err, arith}
+use Rattle.text_core.specs.Lines.{IsPrinting}
 use Rattle.text_core.specs.Outcome.{Determined, Exactly, ◌>>=◌}
 use Rattle.net_core.specs.NetList.{NetList, empty, number_of}
 use Rattle.net_core.specs.Value.{IsConsistent, bit_of}
 use Rattle.net_core.specs.declared.fault.NetFault.{NetFault}
-use Rattle.net_verilog.specs.Tokens.{TokenValue, tokens_of}
+use Rattle.net_verilog.specs.Tokens.{TokenValue, is_end, tokens_of}
+use Rattle.net_verilog.specs.Words.{next_of, wrong}
 use Rattle.net_verilog.specs.Targets.{target_of}
 use Rattle.net_verilog.specs.Tree.{Tree, Net, Literal, Group, Not, Binary, IsWell, Spells, level, looseness, nesting}
 use Rattle.net_verilog.specs.Made.{driven, made, mentioned, value}
 use Rattle.net_verilog.specs.Value.{Agrees, Covers, named_bit}
 use Rattle.net_verilog.specs.Expression.{Expression, Read, binding, binding_at, continues, goes_on}
-use Rattle.net_verilog.specs.Words.{next_of}
 use Rattle.net_verilog.specs.Parts.{identifier, taken}
 use Rattle.net_verilog.specs.Assigns.{Assigns, net_fault}
 use Rattle.net_verilog.specs.Several.{Either, Several, SeveralOf, after_first, comma_first}
@@ -30,14 +30,14 @@ use Rattle.net_verilog.proofs.StatementDetermined.{assigns_determined}
 use Rattle.net_verilog.proofs.TreeLemmas.{made_covers, target_value}
 use Rattle.verilog_reader.specs.Items.{Item, Items, ItemsOf, ReadsAssignments, ReadsItem, State, endmodule_first, item_start}
 use Rattle.verilog_reader.specs.Modules.{Module, PortList, VerilogNet, module_taken, nothing_more}
-use Rattle.verilog_reader.specs.Assigned.{AssignedAmong, AssignedHere, AssignedOf, IsAssigned, IsAssignment}
+use Rattle.verilog_reader.specs.Assigned.{AssignedAmong, AssignedHere, AssignedOf, HasValueOf, IsAssigned, IsAssignment}
 use Rattle.verilog_reader.specs.declared.starts.ItemStart.{ItemStart}
 use Rattle.verilog_reader.specs.declared.starts.ItemStart.TheVariants as items
 use Rattle.verilog_reader.proofs.ModuleDetermined.{item_determined, ports_determined}
-use Rattle.verilog_reader.proofs.PrintLemmas.{ArePrinting, Then}
+use Rattle.verilog_reader.proofs.PrintLemmas.{Any, ArePrinting, Then, identifier_prints, taken_prints}
 use Rattle.verilog_reader.proofs.GrowLemmas.{Grows, grows_more, grows_same}
-use Rattle.verilog_reader.proofs.StepLemmas.{after_prints, assigns_keeps, assignments_keep}
-use Rattle.verilog_reader.proofs.TextLemmas.{item_keeps, items_keep, ports_keep, tokens_print}
+use Rattle.verilog_reader.proofs.StepLemmas.{after_prints, assigns_keeps, assignments_keep, value_of}
+use Rattle.verilog_reader.proofs.TextLemmas.{StateGrows, begun_prints, item_keeps, items_keep, ports_keep, tokens_print}
 
 -- what comes twice of an outcome is the same
 same_ok : {A F : Type 0} (may : Result A F → Type 0) → Determined may → (a b : A) → may (Ok a) → may (Ok b) → a ≡ b
@@ -95,7 +95,7 @@ net_value (Err f) a is = absurd (cc)
 
 module _ (final : NetList) (bits : List Bool) (agrees : Agrees final bits) (name : List ℕ) (tree : Tree) where
   abbrev HasValue : Type 0
-  HasValue = named_bit final bits name ≡ value (named_bit final bits) tree
+  HasValue = HasValueOf final bits name tree
 
   -- the value of one assignment
   one_value : (declared : Declarations) (net : NetList) (tokens : List TokenValue) (more : NetList × List TokenValue) → Assigns declared net tokens (Ok more) → IsAssignment declared tokens name tree → Covers more.0 final → HasValue
@@ -111,7 +111,7 @@ module _ (final : NetList) (bits : List Bool) (agrees : Agrees final bits) (name
       let from_out : Covers out.0 final = covers_more out.0 read.net final (made_covers out.0 read.net tree read.driver makes) (covers_more read.net last final (driven_covers read.net last out.1 read.driver drive).0 whole) in
       let found : number_of final target.0 ≡ Some out.1 = from_out.names target.0 out.1 (mention_covers net out.0 target.0 out.1 mention).1 in
       let named : number_of final name ≡ Some out.1 = ap (λ (p : List ℕ × List TokenValue). number_of final p.0) (sym at) ∙ found in
-      ap (λ (o : Option ℕ). bit_of bits (unwrap_or o 0)) named ∙ target_value out.0 read.net last final tree read.driver out.1 bits makes drive whole agrees
+      (out.1, named, target_value out.0 read.net last final tree read.driver out.1 bits makes drive whole agrees)
 
   -- what the rest of assignments makes
   rest_covers : (declared : Declarations) (m : ℕ) (first more : NetList × List TokenValue) → ArePrinting first.1 → Either (comma_first first.1) (SeveralOf m (Assigns declared) first.0 (after_first first.1)) (Exactly first) (Ok more) → Covers first.0 more.0
@@ -167,3 +167,30 @@ module _ (final : NetList) (bits : List Bool) (agrees : Agrees final bits) (name
       let kept = item_keeps state.1 state tokens (grows_same state.1) prints (Ok found.0) found.1 in
       let Q : State × List TokenValue → Type 0 = λ p. AssignedAmong n p.0 p.1 name tree in
       items_value n m found.0.0 found.0.1 last kept.1 found.2 (subst Q same there) covers
+
+end_is : (net made : NetList) (tokens : List TokenValue) → Ok made ≡ nothing_more net tokens → made ≡ net
+end_is net made [] is = absurd (cc)
+end_is net made (t ∷ ts) is = by (is_end t.kind) is
+  where
+    by : (b : Bool) → Ok made ≡ cond b (Ok net) (Err (wrong t)) → made ≡ net
+    by true e = cc
+    by false e = absurd (cc)
+
+-- In each list of bits that is consistent with the net of a text, the net of an assigned target has its expression's value.
+pub assigned_value : (text : List ℕ) (net : NetList) (name : List ℕ) (tree : Tree) (bits : List Bool) → VerilogNet text (Ok net) → IsAssigned text name tree → IsConsistent net bits → HasValueOf net bits name tree
+assigned_value text net name tree bits (made, (begun, begins, (title, named, (ports, listed, (sign, takes, (whole, reads, last))))), settles) a consistent =
+    let same_begun : begun ≡ a.begun = same_answer (module_taken (tokens_of text)) begun a.begun begins a.begins in
+    let same_title : title ≡ a.module_name = same_answer (identifier begun) title a.module_name named (ap identifier same_begun ∙ a.named) in
+    let P : (ℕ × List ℕ) × List TokenValue → Type 0 = λ n. PortList (undeclared, empty) n.1 (Ok ports) in
+    let same_ports : ports ≡ a.ports = same_ok (PortList (undeclared, empty) a.module_name.1) (ports_determined (undeclared, empty) a.module_name.1) ports a.ports (subst P same_title listed) a.listed in
+    let same_sign : sign ≡ a.sign = same_answer (taken signs.Semicolon ports.1) sign a.sign takes (ap (λ (p : State × List TokenValue). taken signs.Semicolon p.1) same_ports ∙ a.takes) in
+    let Q : State × List TokenValue → Type 0 = λ p. Items p.0 sign.1 (Ok whole) in
+    let R : ℕ × List TokenValue → Type 0 = λ s. Items a.ports.0 s.1 (Ok whole) in
+    let there : Items a.ports.0 a.sign.1 (Ok whole) = subst R same_sign (subst Q same_ports reads) in
+    let one = value_of ArePrinting (module_taken (tokens_of text)) a.begun a.begins (begun_prints (tokens_of text) (tokens_print text)) in
+    let two = value_of (Then (λ (p : ℕ × List ℕ). IsPrinting p.1)) (identifier a.begun) a.module_name a.named (identifier_prints a.begun one) in
+    let three = ports_keep empty (undeclared, empty) a.module_name.1 (grows_same empty) two.1 (Ok a.ports) a.listed in
+    let four = value_of (Then Any) (taken signs.Semicolon a.ports.1) a.sign a.takes (taken_prints signs.Semicolon a.ports.1 three.1) in
+    let same_net : whole.0.1 ≡ net = sym (end_is whole.0.1 made whole.1 last) ∙ sym settles.0 in
+    let S : NetList → Type 0 = λ n. Covers whole.0.1 n in
+    items_value net bits consistent.gates name tree a.before there.0 a.ports.0 a.sign.1 whole four.1 there.1 a.stands (subst S same_net (grows_same whole.0.1).covers)

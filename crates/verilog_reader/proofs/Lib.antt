@@ -13,3 +13,4 @@ pub mod TextLemmas
 pub mod VerilogDetermined
 mod ReadingLemmas
 mod AssignedLemmas
+mod ModuleLemmas

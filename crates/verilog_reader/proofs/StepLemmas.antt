@@ -32,7 +32,7 @@ use Rattle.verilog_reader.proofs.PrintLemmas.{Any, ArePrinting, FaultPrints, Goo
 use Rattle.verilog_reader.proofs.GrowLemmas.{CutsPrint, Grows, GrowsBy, GrowsTo, Makes, TreePrints, gate_of_grows, grows_more, grows_same, made_grows, mention_grows, opened_grows, settle_grows}
 
 -- a value of a result that is good is as said, and its fault prints
-value_of : {A : Type 0} (is : A → Type 0) (r : Result A VerilogFault) (a : A) → r ≡ Ok a → Good is r → is a
+pub value_of : {A : Type 0} (is : A → Type 0) (r : Result A VerilogFault) (a : A) → r ≡ Ok a → Good is r → is a
 value_of {A} is r a same good = let P : Result A VerilogFault → Type 0 = Good is in subst P same good
 
 -- a fault of the net as one of the text

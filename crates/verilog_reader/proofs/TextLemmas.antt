@@ -181,7 +181,7 @@ module _ (start : NetList) where
 
 -- ---- the module
 
-begun_prints : (tokens : List TokenValue) → ArePrinting tokens → Good ArePrinting (module_taken tokens)
+pub begun_prints : (tokens : List TokenValue) → ArePrinting tokens → Good ArePrinting (module_taken tokens)
 begun_prints [] prints = tt
 begun_prints (t ∷ ts) prints = good_if ArePrinting (is_module t) (Ok ts) (Err (wrong t)) prints.1 (wrong_prints t prints.0)
 

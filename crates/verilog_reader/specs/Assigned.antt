@@ -1,7 +1,10 @@
 -- The assignments of a text: where one stands, with its target and the tree of its expression. Source: IEEE Std 1364-2005, section 6,
 -- in the profile of docs/FORMATS.md.
-use Rattle.std.specs.Prelude.{◌≡◌, ◌⊎◌, ℕ, zero, suc, ◌≤◌, true, false, List, ◌∷◌, Ok}
-use Rattle.net_core.specs.NetList.{NetList, empty}
+use Rattle.std.specs.Prelude.{◌≡◌, ◌⊎◌, ℕ, zero, suc, ◌≤◌, Bool, true, false, List, ◌∷◌, Some, Ok}
+use Rattle.net_core.specs.NetList.{NetList, empty, number_of}
+use Rattle.net_core.specs.Value.{bit_of}
+use Rattle.net_verilog.specs.Made.{value}
+use Rattle.net_verilog.specs.Value.{named_bit}
 use Rattle.net_verilog.specs.Tokens.{TokenValue, tokens_of}
 use Rattle.net_verilog.specs.Targets.{target_of}
 use Rattle.net_verilog.specs.Tree.{Tree, IsWell, Spells, nesting}
@@ -54,3 +57,7 @@ pub record IsAssigned (text : List ℕ) (name : List ℕ) (tree : Tree) : Type 0
   pub listed : PortList (undeclared, empty) module_name.1 (Ok ports)
   pub takes : taken signs.Semicolon ports.1 ≡ Ok sign
   pub stands : AssignedAmong before ports.0 sign.1 name tree
+
+-- in this list of bits the net of this name has the tree's value
+abbrev pub HasValueOf : NetList → List Bool → List ℕ → Tree → Type 0
+HasValueOf net bits name tree = (n : ℕ) × (number_of net name ≡ Some n) × (bit_of bits n ≡ value (named_bit net bits) tree)
