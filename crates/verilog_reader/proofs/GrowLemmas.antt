@@ -23,6 +23,7 @@ use Rattle.net_verilog.specs.declared.operator.Frame.{Frame}
 use Rattle.net_verilog.specs.declared.operator.Frame.TheVariants as frames
 use Rattle.net_verilog.proofs.KeepLemmas.{covers_more, covers_same, mention_covers}
 use Rattle.net_verilog.specs.Declarations.{Range}
+use Rattle.net_verilog.proofs.OpenLemmas.{ok_pair}
 use Rattle.net_verilog.proofs.PieceLemmas.{Shows, all_cons, none_prints}
 use Rattle.verilog_reader.specs.Declares.{bits_from, net_names, ported, with_port, with_port_named, with_ports}
 use Rattle.verilog_reader.proofs.PrintLemmas.{IsLimit, bit_prints, decimal_prints}
@@ -75,11 +76,11 @@ module _ (net : NetList) (text : List ℕ) (named : Bool) where
 
 number_below : (n : ℕ) (labels : List LabelValue) (name : List ℕ) (k : ℕ) → number_from n labels name ≡ Some k → k < n + length labels
 number_below n [] name k is = absurd (cc)
-number_below n (l ∷ labels) name k is = by (is_named name l) is
+number_below n (l ∷ labels) name k is = by (is_named name l) (λ e. number_below (n + 1) labels name k e) is
   where
-    by : (b : Bool) → cond b (Some n) (number_from (n + 1) labels name) ≡ Some k → k < n + suc (length labels)
-    by true e = let same : n ≡ k = cc in omega (arith, same)
-    by false e = omega (arith, number_below (n + 1) labels name k e)
+    by : (b : Bool) → (number_from (n + 1) labels name ≡ Some k → k < n + 1 + length labels) → cond b (Some n) (number_from (n + 1) labels name) ≡ Some k → k < n + suc (length labels)
+    by true later e = let same : n ≡ k = cc in omega (arith, same)
+    by false later e = omega (arith, later e)
 
 -- a net that is made or found, and its number
 abbrev pub GrowsTo : NetList → NetList × ℕ → Type 0
@@ -94,10 +95,7 @@ mention_grows net name shown = by (mentioned net name) refl
 
     value : (b : Bool) (m : NetList) (n : ℕ) → ◌≡◌ {A = Result (NetList × ℕ) NetFault} (cond b (Err nets_faults.TooManyNets) (Ok (with_name net name, unwrap_or (number_of (with_name net name) name) 0))) (Ok (m, n)) → with_name net name ≡ m
     value true m n e = absurd (cc)
-    value false m n e = ok_first (with_name net name) m _ n e
-      where
-        ok_first : (a b : NetList) (x y : ℕ) → ◌≡◌ {A = Result (NetList × ℕ) NetFault} (Ok (a, x)) (Ok (b, y)) → a ≡ b
-        ok_first a b x y e = cc
+    value false m n e = (ok_pair (with_name net name, unwrap_or (number_of (with_name net name) name) 0) m n e).0
 
     fault : (b : Bool) (f : NetFault) → ◌≡◌ {A = Result (NetList × ℕ) NetFault} (cond b (Err nets_faults.TooManyNets) (Ok (with_name net name, unwrap_or (number_of (with_name net name) name) 0))) (Err f) → IsLimit f
     fault true f e = let same : nets_faults.TooManyNets ≡ f = cc in subst IsLimit same tt
@@ -130,7 +128,7 @@ pub gate_of_grows : (net : NetList) (out : ℕ) (inputs : List ℕ) (table : ℕ
 gate_of_grows net out inputs table below = makes_if (Grows net) (nat_le (2 ^ 20) (length net.gates + length net.latches)) (Err nets_faults.TooManyGates) (Ok (with_gate net (record { out = out; inputs = inputs; table = table }))) tt (gate_grows net (record { out = out; inputs = inputs; table = table }) below)
 
 expr_prints : (line : ℕ) → IsPrinting (codes "expr" ++ decimal line)
-expr_prints line = All-append Shows (codes "expr") (decimal line) (all_cons 101 _ (omega arith, omega arith) (all_cons 120 _ (omega arith, omega arith) (all_cons 112 _ (omega arith, omega arith) (all_cons 114 _ (omega arith, omega arith) none_prints)))) (decimal_prints line)
+expr_prints line = All-append Shows (codes "expr") (decimal line) (all_cons 101 (120 ∷ 112 ∷ 114 ∷ []) (omega arith, omega arith) (all_cons 120 (112 ∷ 114 ∷ []) (omega arith, omega arith) (all_cons 112 (114 ∷ []) (omega arith, omega arith) (all_cons 114 [] (omega arith, omega arith) none_prints)))) (decimal_prints line)
 
 pub fresh_grows : (net : NetList) (line : ℕ) (driver : Driver) → Makes (λ (p : NetList × ℕ). Grows net p.0) (fresh_driven net line driver)
 fresh_grows net line driver =

@@ -14,3 +14,4 @@ pub mod VerilogDetermined
 mod ReadingLemmas
 mod AssignedLemmas
 mod ModuleLemmas
+mod PortListLemmas

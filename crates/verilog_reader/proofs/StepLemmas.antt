@@ -149,7 +149,7 @@ after_prints (t ∷ ts) prints = prints.1
 module _ {S : Type 0} (Holds : S → Type 0) (one : S → List TokenValue → Reads S) (each : (state : S) (tokens : List TokenValue) → Holds state → ArePrinting tokens → Keeps (one state tokens) (Then Holds)) where
   several_of : (n : ℕ) (state : S) (tokens : List TokenValue) → Holds state → ArePrinting tokens → Keeps (SeveralOf n one state tokens) (Then Holds)
   several_of zero state tokens holds prints x h = absurd h
-  several_of (suc n) state tokens holds prints = keeps_bind (Then Holds) (Then Holds) (one state tokens) (λ first. Either (comma_first first.1) (SeveralOf n one first.0 (after_first first.1)) (Exactly first)) (each state tokens holds prints) (λ first kept. either first kept (several_of n first.0 (after_first first.1) kept.0 (after_prints first.1 kept.1)) (comma_first first.1))
+  several_of (suc n) state tokens holds prints x h = keeps_bind (Then Holds) (Then Holds) (one state tokens) (λ first. Either (comma_first first.1) (SeveralOf n one first.0 (after_first first.1)) (Exactly first)) (each state tokens holds prints) (λ first kept. either first kept (several_of n first.0 (after_first first.1) kept.0 (after_prints first.1 kept.1)) (comma_first first.1)) x h
     where
       either : (first : S × List TokenValue) → Then Holds first → Keeps (SeveralOf n one first.0 (after_first first.1)) (Then Holds) → (b : Bool) → Keeps (Either b (SeveralOf n one first.0 (after_first first.1)) (Exactly first)) (Then Holds)
       either first kept more true = more

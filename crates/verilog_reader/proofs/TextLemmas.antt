@@ -127,10 +127,12 @@ module _ (start : NetList) where
 
   items_of : (n : ℕ) (state : State) (tokens : List TokenValue) → StateGrows start state → ArePrinting tokens → Keeps (ItemsOf n state tokens) (Then (StateGrows start))
   items_of zero state tokens grows prints x h = absurd h
-  items_of (suc n) state tokens grows prints =
+  items_of (suc n) state tokens grows prints x h =
       either_keeps (endmodule_first tokens) (Exactly (state, after_first tokens)) (Item state tokens >>= (λ next. ItemsOf n next.0 next.1))
       (keeps_exactly (Then (StateGrows start)) (state, after_first tokens) (grows, after_prints tokens prints))
       (keeps_bind (Then (StateGrows start)) (Then (StateGrows start)) (Item state tokens) (λ next. ItemsOf n next.0 next.1) (item_keeps state tokens grows prints) (λ next kept. items_of n next.0 next.1 kept.0 kept.1))
+      x
+      h
 
   pub items_keep : (state : State) (tokens : List TokenValue) → StateGrows start state → ArePrinting tokens → Keeps (Items state tokens) (Then (StateGrows start))
   items_keep state tokens grows prints x h = items_of h.0 state tokens grows prints x h.1
