@@ -114,11 +114,11 @@ mention_grows net name shown = by (mentioned net name) refl
 
 pub gate_grows : (net : NetList) (gate : GateValue) → gate.out < nets net → Grows net (with_gate net gate)
 gate_grows net gate below = record {
-    wider = omega arith;
-    drives = λ d. All-append (λ (g : GateValue). g.out < nets net) net.gates (gate ∷ []) d (λ k e less. one k e less);
-    prints = λ p. p;
-    covers = record { gates = λ g h. Has_left net.gates (gate ∷ []) g h; names = λ name k h. h };
-  }
+  wider = omega arith;
+  drives = λ d. All-append (λ (g : GateValue). g.out < nets net) net.gates (gate ∷ []) d (λ k e less. one k e less);
+  prints = λ p. p;
+  covers = record { gates = λ g h. Has_left net.gates (gate ∷ []) g h; names = λ name k h. h };
+}
   where
     one : (k : ℕ) (e : GateValue) → k < 1 → (get_or (gate ∷ []) k e).out < nets net
     one zero e less = below
@@ -137,11 +137,11 @@ fresh_grows net line driver =
   where
     first : Grows net (with_label net (codes "expr" ++ decimal line) false)
     first = record {
-        wider = omega (arith, label_wider net (codes "expr" ++ decimal line) false);
-        drives = label_drives net (codes "expr" ++ decimal line) false;
-        prints = label_prints net (codes "expr" ++ decimal line) false (expr_prints line);
-        covers = record { gates = λ g has. has; names = λ name k found. fresh_after net.labels (record { text = codes "expr" ++ decimal line; named = false }) name refl ∙ found };
-      }
+      wider = omega (arith, label_wider net (codes "expr" ++ decimal line) false);
+      drives = label_drives net (codes "expr" ++ decimal line) false;
+      prints = label_prints net (codes "expr" ++ decimal line) false (expr_prints line);
+      covers = record { gates = λ g has. has; names = λ name k found. fresh_after net.labels (record { text = codes "expr" ++ decimal line; named = false }) name refl ∙ found };
+    }
 
 pub settle_grows : (net : NetList) (driver : Driver) → Makes (λ (p : NetList × ℕ). Grows net p.0) (settled net driver)
 settle_grows net (drivers.Wire n) = grows_same net

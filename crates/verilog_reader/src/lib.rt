@@ -21,8 +21,8 @@ pub use cuts::is_bit;
 pub use declaring::declare;
 pub use instance_list::read_instances;
 pub use laws::{
-    assigned_targets_have_the_values_of_their_expressions, one_declaration_or_fault, one_net_or_fault,
-    one_statement_of_instances_or_fault,
+    assigned_targets_have_the_values_of_their_expressions, one_declaration_or_fault,
+    one_net_or_fault, one_statement_of_instances_or_fault,
 };
 pub use names::{read_name, read_names};
 pub use ports::make_ports;

@@ -61,12 +61,18 @@ fn frames(rt: HostRuntime) -> Result<(), Fail> {
         ("", "Syntax { line: 1 }"),
         ("\n// x\n", "Syntax { line: 3 }"),
         ("wire a;", "Syntax { line: 1 }"),
-        ("module\nmodule", "LeftOut { line: 2, word: Name { text: \"module\" } }"),
+        (
+            "module\nmodule",
+            "LeftOut { line: 2, word: Name { text: \"module\" } }",
+        ),
         ("module m(a,\ninput b);", "Syntax { line: 2 }"),
         ("module m(input a,\nwire b);", "Syntax { line: 2 }"),
         ("module m;\nwire a;\n", "Syntax { line: 3 }"),
         ("module m; endmodule\nwire", "Syntax { line: 2 }"),
-        ("module m; endmodule\nmodule", "LeftOut { line: 2, word: Name { text: \"module\" } }"),
+        (
+            "module m; endmodule\nmodule",
+            "LeftOut { line: 2, word: Name { text: \"module\" } }",
+        ),
     ] {
         let found = outcome(alloc, text.as_bytes())?;
         assert_eq!(rt; found.as_str(), wanted, "at {text}");
@@ -78,14 +84,32 @@ fn frames(rt: HostRuntime) -> Result<(), Fail> {
 fn faults(rt: HostRuntime) -> Result<(), Fail> {
     let alloc = rt.alloc();
     for (text, wanted) in [
-        ("module m;\n\\reg a;", "LeftOut { line: 2, word: Name { text: \"\\\\reg\" } }"),
+        (
+            "module m;\n\\reg a;",
+            "LeftOut { line: 2, word: Name { text: \"\\\\reg\" } }",
+        ),
         ("module m; wire [1:65536] a;", "Syntax { line: 1 }"),
-        ("module m; wire [1:0] a; wire [0:1] a; wire a;", "Redeclared { line: 1 }"),
+        (
+            "module m; wire [1:0] a; wire [0:1] a; wire a;",
+            "Redeclared { line: 1 }",
+        ),
         ("module m; input a;\noutput a;", "Redeclared { line: 2 }"),
-        ("module m; wire [1:0] a;\nwire \\a[1] ;", "Redeclared { line: 2 }"),
-        ("module m; wire \\a[1] ;\nwire [2:0] a;", "Redeclared { line: 2 }"),
-        ("module m; wire a; assign\na[0] = a;", "OutOfRange { line: 2 }"),
-        ("module m; output z; nor (z, z\n);", "Arity { line: 2, inputs: 1 }"),
+        (
+            "module m; wire [1:0] a;\nwire \\a[1] ;",
+            "Redeclared { line: 2 }",
+        ),
+        (
+            "module m; wire \\a[1] ;\nwire [2:0] a;",
+            "Redeclared { line: 2 }",
+        ),
+        (
+            "module m; wire a; assign\na[0] = a;",
+            "OutOfRange { line: 2 }",
+        ),
+        (
+            "module m; output z; nor (z, z\n);",
+            "Arity { line: 2, inputs: 1 }",
+        ),
         (
             "module m; output z; assign z = z; endmodule",
             "Net(Loop { nets: [0], label: Name { text: \"z\" } })",
