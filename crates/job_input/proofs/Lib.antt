@@ -15,6 +15,7 @@ pub mod LabelFaultLemmas
 pub mod BlifTextLemmas
 pub mod BlifLabelLemmas
 pub mod AigerLabelLemmas
+pub mod VerilogLabelLemmas
 pub mod NetlistLineLemmas
 pub mod FileLineLemmas
 pub mod RoseLemmas

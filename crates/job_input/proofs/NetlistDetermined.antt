@@ -5,6 +5,8 @@ use Rattle.text_core.proofs.DeterminedLemmas.{determined_bind}
 use Rattle.net_core.specs.NetList.{NetList}
 use Rattle.net_aiger.specs.AigerNet.{AigerNet}
 use Rattle.net_aiger.proofs.AigerDetermined.{aiger_determined}
+use Rattle.verilog_reader.specs.Modules.{VerilogNet}
+use Rattle.verilog_reader.proofs.VerilogDetermined.{verilog_determined}
 use Rattle.net_flat.specs.Flat.{Flattens}
 use Rattle.net_blif.specs.Models.{BlifDesign}
 use Rattle.net_flat.proofs.FlatDetermined.{determined_within, flattens_once}
@@ -16,7 +18,7 @@ use Rattle.net_words.specs.declared.feed.FeedText.{FeedText}
 use Rattle.net_words.specs.declared.word.WordText.{WordText}
 use Rattle.net_signature.specs.Signature.{SignatureValue}
 use Rattle.net_words.proofs.BindDetermined.{binding_determined}
-use Rattle.job_input.specs.NetlistOf.{Aiger, Blif, BoundNetOf, NetOf, InOneCycle, NetlistText, WordsBound, of_aiger, of_binding, of_model, of_text}
+use Rattle.job_input.specs.NetlistOf.{Aiger, Blif, BoundNetOf, NetOf, InOneCycle, NetlistText, Verilog, WordsBound, of_aiger, of_binding, of_model, of_text, of_verilog}
 use Rattle.job_words.specs.declared.netlist_fault.NetlistFault.{NetlistFault}
 use Rattle.job_words.specs.declared.netlist_fault.NetlistFault.TheVariants as netlist
 
@@ -24,6 +26,7 @@ net_determined : (text : NetlistText) → Determined (NetOf text)
 net_determined (Blif text) =
     determined_bind (Within of_text (BlifDesign text)) (λ design. Within of_model (Flattens design 0)) (determined_within of_text (BlifDesign text) (determined_design text))
     (λ design. determined_within of_model (Flattens design 0) (flattens_once design 0))
+net_determined (Verilog text) = determined_within of_verilog (VerilogNet text) (verilog_determined text)
 net_determined (Aiger text) = determined_within of_aiger (AigerNet text) (aiger_determined text)
 
 cycle_determined : (net : NetList) (bound : Binding) → Determined (InOneCycle net bound)

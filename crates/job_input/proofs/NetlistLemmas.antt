@@ -35,8 +35,11 @@ use Rattle.net_words.specs.declared.word.Role.{Role}
 use Rattle.net_words.specs.declared.word.Role.TheVariants as roles
 use Rattle.net_words.specs.declared.word.WordText.{WordText}
 use Rattle.net_signature.specs.Signature.{SignatureValue}
-use Rattle.job_input.specs.NetlistOf.{Aiger, Blif, BoundNetOf, NetOf, NetlistText, WordsBound, of_binding, of_text, word_name}
-use Rattle.job_input.specs.private.NetlistReading.{FitsNetlist, IsNamed, IsNetlistRefusal, IsUnrollingFault, aiger_refusal, text_refusal, net_refusal, model_refusal}
+use Rattle.verilog_reader.specs.Modules.{VerilogNet}
+use Rattle.net_verilog.specs.declared.fault.VerilogFault.{VerilogFault}
+use Rattle.net_verilog.specs.declared.fault.VerilogFault.TheVariants as verilogs
+use Rattle.job_input.specs.NetlistOf.{Aiger, Blif, BoundNetOf, NetOf, NetlistText, Verilog, WordsBound, of_binding, of_text, word_name}
+use Rattle.job_input.specs.private.NetlistReading.{FitsNetlist, IsNamed, IsNetlistRefusal, IsUnrollingFault, aiger_refusal, text_refusal, net_refusal, model_refusal, verilog_refusal}
 use Rattle.job_words.specs.declared.netlist_fault.NetlistFault.{NetlistFault}
 use Rattle.job_words.specs.declared.netlist_fault.NetlistFault.TheVariants as netlist
 use Rattle.job_input.specs.declared.netlist.Refusal.{Refusal}
@@ -164,6 +167,7 @@ text_bound text signature net (Err OutOfMemory) first then = tt
 -- a net of a text is sound
 pub net_sound : (text : NetlistText) (net : NetList) → NetOf text (Ok net) → IsSound net
 net_sound (Blif text) net (design, is_design, (flat, is_flat, made)) = let P : NetList → Type 0 = λ n. IsSound n in subst P (sym made.0) made.1
+net_sound (Verilog text) net (listed, is_made, made) = let P : NetList → Type 0 = λ n. IsSound n in subst P (sym made.0) made.1
 net_sound (Aiger text) net (reading, is_read, (_, _, (_, _, (listed, is_made, made)))) = let P : NetList → Type 0 = λ n. IsSound n in subst P (sym made.0) made.1
 
 -- what comes of a text that is refused
@@ -233,3 +237,29 @@ aiger_refused text fault why = by fault why
     by (aigers.NameTwice line) why = wanting (aigers.NameTwice line) _ (λ e. absurd (cc)) (λ is. (aigers.NameTwice line, is, refl)) why
     by (aigers.Net fault) why = wanting (aigers.Net fault) _ (λ e. absurd (cc)) (net fault) why
     by aigers.OutOfMemory why = tt
+
+-- what comes of a text in structural Verilog that is refused
+pub verilog_refused : (text : List ℕ) (fault : VerilogFault) → (fault ≡ verilogs.OutOfMemory) ⊎ VerilogNet text (Err fault) → FitsNetlist {A = NetList} (Err (verilog_refusal fault)) (NetOf (Verilog text))
+verilog_refused text fault why = by fault why
+  where
+    wanting : (fault : VerilogFault) (C : Type 0) → (fault ≡ verilogs.OutOfMemory → C) → (VerilogNet text (Err fault) → C) → (fault ≡ verilogs.OutOfMemory) ⊎ VerilogNet text (Err fault) → C
+    wanting fault C f g (inl is) = f is
+    wanting fault C f g (inr is) = g is
+
+    net : (fault : NetFault) → VerilogNet text (Err (verilogs.Net fault)) → FitsNetlist {A = NetList} (Err (net_refusal fault)) (NetOf (Verilog text))
+    net net_faults.TooManyNets is = (verilogs.Net net_faults.TooManyNets, is, refl)
+    net net_faults.TooManyGates is = (verilogs.Net net_faults.TooManyGates, is, refl)
+    net (net_faults.DrivenTwice n label) is = (verilogs.Net (net_faults.DrivenTwice n label), is, refl)
+    net (net_faults.Undriven n label) is = (verilogs.Net (net_faults.Undriven n label), is, refl)
+    net (net_faults.Loop loop label) is = (verilogs.Net (net_faults.Loop loop label), is, refl)
+    net net_faults.OutOfMemory is = tt
+
+    by : (fault : VerilogFault) → (fault ≡ verilogs.OutOfMemory) ⊎ VerilogNet text (Err fault) → FitsNetlist {A = NetList} (Err (verilog_refusal fault)) (NetOf (Verilog text))
+    by (verilogs.Syntax line) why = wanting (verilogs.Syntax line) _ (λ e. absurd (cc)) (λ is. (verilogs.Syntax line, is, refl)) why
+    by (verilogs.LeftOut line word) why = wanting (verilogs.LeftOut line word) _ (λ e. absurd (cc)) (λ is. (verilogs.LeftOut line word, is, refl)) why
+    by (verilogs.Undeclared line) why = wanting (verilogs.Undeclared line) _ (λ e. absurd (cc)) (λ is. (verilogs.Undeclared line, is, refl)) why
+    by (verilogs.OutOfRange line) why = wanting (verilogs.OutOfRange line) _ (λ e. absurd (cc)) (λ is. (verilogs.OutOfRange line, is, refl)) why
+    by (verilogs.Redeclared line) why = wanting (verilogs.Redeclared line) _ (λ e. absurd (cc)) (λ is. (verilogs.Redeclared line, is, refl)) why
+    by (verilogs.Arity line inputs) why = wanting (verilogs.Arity line inputs) _ (λ e. absurd (cc)) (λ is. (verilogs.Arity line inputs, is, refl)) why
+    by (verilogs.Net fault) why = wanting (verilogs.Net fault) _ (λ e. absurd (cc)) (net fault) why
+    by verilogs.OutOfMemory why = tt

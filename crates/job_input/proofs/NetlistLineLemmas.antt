@@ -11,6 +11,8 @@ use Rattle.net_core.specs.declared.fault.NetFault.{NetFault}
 use Rattle.net_core.specs.declared.fault.NetFault.TheVariants as nets
 use Rattle.net_aiger.specs.declared.fault.AigerFault.{AigerFault}
 use Rattle.net_aiger.specs.declared.fault.AigerFault.TheVariants as aigers
+use Rattle.net_verilog.specs.declared.fault.VerilogFault.{VerilogFault}
+use Rattle.net_verilog.specs.declared.fault.VerilogFault.TheVariants as verilogs
 use Rattle.net_blif.specs.Design.{ModelValue}
 use Rattle.net_flat.specs.Flat.{Flattens, Settles, nothing, net_list}
 use Rattle.net_flat.specs.Walk.{walk_of}
@@ -30,11 +32,12 @@ use Rattle.job_words.specs.OneLine.{HasNoLineFeed, repeated_of_binding, repeated
 use Rattle.job_words.specs.declared.netlist_fault.NetlistFault.{NetlistFault}
 use Rattle.job_words.specs.declared.netlist_fault.NetlistFault.TheVariants as netlist
 use Rattle.job_words.proofs.OneLineLemmas.{clean_kept}
-use Rattle.job_input.specs.NetlistOf.{Aiger, Blif, BoundNetOf, InOneCycle, NetOf, NetlistText, WordsBound, of_aiger, of_binding, of_model, of_net, of_text, word_name}
+use Rattle.job_input.specs.NetlistOf.{Aiger, Blif, BoundNetOf, InOneCycle, NetOf, NetlistText, Verilog, WordsBound, of_aiger, of_binding, of_model, of_net, of_text, of_verilog, word_name}
 use Rattle.job_input.proofs.AigerLabelLemmas.{AigerKeeps, aiger_fault_keeps, aiger_labels}
 use Rattle.job_input.proofs.BlifLabelLemmas.{IsLimit, printing_kept, walk_labels, walk_stops}
 use Rattle.job_input.proofs.BlifTextLemmas.{FaultPrints, text_fault_prints}
 use Rattle.job_input.proofs.LabelFaultLemmas.{HasCleanLabels, NetKeeps, finish_keeps, text_clean}
+use Rattle.job_input.proofs.VerilogLabelLemmas.{VerilogKeeps, verilog_fault_keeps, verilog_labels}
 
 -- what a netlist's fault repeats has no line feed
 abbrev pub NetlistKeeps : NetlistFault → Type 0
@@ -103,13 +106,25 @@ aiger_keeps (aigers.NameTwice line) keeps = tt
 aiger_keeps (aigers.Net fault) keeps = net_keeps fault keeps
 aiger_keeps aigers.OutOfMemory keeps = tt
 
+verilog_keeps : (fault : VerilogFault) → VerilogKeeps fault → NetlistKeeps (of_verilog fault)
+verilog_keeps (verilogs.Syntax line) keeps = tt
+verilog_keeps (verilogs.LeftOut line word) keeps = (printing_kept word keeps, tt)
+verilog_keeps (verilogs.Undeclared line) keeps = tt
+verilog_keeps (verilogs.OutOfRange line) keeps = tt
+verilog_keeps (verilogs.Redeclared line) keeps = tt
+verilog_keeps (verilogs.Arity line inputs) keeps = tt
+verilog_keeps (verilogs.Net fault) keeps = net_keeps fault keeps
+verilog_keeps verilogs.OutOfMemory keeps = tt
+
 net_labels : (text : NetlistText) (net : NetList) → NetOf text (Ok net) → HasCleanLabels net
 net_labels (Blif text) net (design, said, (flat, is, settles)) = let P : NetList → Type 0 = HasCleanLabels in subst P (sym settles.0) (walk_labels text design 0 flat said (sym is))
+net_labels (Verilog text) net is = verilog_labels text net is
 net_labels (Aiger text) net is = aiger_labels text net is
 
 net_fault_keeps : (text : NetlistText) (fault : NetlistFault) → NetOf text (Err fault) → NetlistKeeps fault
 net_fault_keeps (Blif text) fault (inl (other, is, same)) = same_keeps fault (of_text other) same (text_keeps other (text_fault_prints text other is))
 net_fault_keeps (Blif text) fault (inr (design, said, (other, is, same))) = same_keeps fault (of_model other) same (flat_keeps text design other said is)
+net_fault_keeps (Verilog text) fault (other, is, same) = same_keeps fault (of_verilog other) same (verilog_keeps other (verilog_fault_keeps text other is))
 net_fault_keeps (Aiger text) fault (other, is, same) = same_keeps fault (of_aiger other) same (aiger_keeps other (aiger_fault_keeps text other is))
 
 -- ---- names of words

@@ -1,5 +1,5 @@
 -- The net of a netlist's text with the words of a signature bound to it, or the fault with which it is refused. Source: this
--- project's own, docs/DEFINITIONS.md; nets are those of the BLIF format of UC Berkeley and of ASCII AIGER.
+-- project's own, docs/DEFINITIONS.md; nets are those of the BLIF format of UC Berkeley, of structural Verilog and of ASCII AIGER.
 use Rattle.std.specs.Prelude.{◌≡◌, ◌≢◌, ◌⊎◌, ℕ, Option, List, [], length, slice_get, Ok, Err, if◌then◌else◌}
 use Rattle.std.specs.Option.{option_map_or}
 use Rattle.text_core.specs.Outcome.{Outcome, ◌>>=◌, Within}
@@ -11,6 +11,9 @@ use Rattle.net_core.specs.declared.fault.NetFault.TheVariants as nets
 use Rattle.net_aiger.specs.AigerNet.{AigerNet}
 use Rattle.net_aiger.specs.declared.fault.AigerFault.{AigerFault}
 use Rattle.net_aiger.specs.declared.fault.AigerFault.TheVariants as aigers
+use Rattle.verilog_reader.specs.Modules.{VerilogNet}
+use Rattle.net_verilog.specs.declared.fault.VerilogFault.{VerilogFault}
+use Rattle.net_verilog.specs.declared.fault.VerilogFault.TheVariants as verilogs
 use Rattle.net_flat.specs.Flat.{Flattens}
 use Rattle.net_blif.specs.Models.{BlifDesign}
 use Rattle.net_blif.specs.declared.fault.BlifFault.{BlifFault}
@@ -25,7 +28,7 @@ use Rattle.net_words.specs.declared.binding.BindFault.TheVariants as binds
 use Rattle.net_words.specs.declared.feed.FeedText.{FeedText}
 use Rattle.net_words.specs.declared.word.WordText.{WordText}
 use Rattle.net_signature.specs.Signature.{SignatureValue}
-use Rattle.job_words.specs.Operands.{Word, is_aiger}
+use Rattle.job_words.specs.Operands.{Word, is_aiger, is_verilog}
 use Rattle.job_words.specs.declared.netlist_fault.BindingFault.{BindingFault}
 use Rattle.job_words.specs.declared.netlist_fault.BindingFault.TheVariants as binding
 use Rattle.job_words.specs.declared.fault.Fault.{Fault}
@@ -89,14 +92,26 @@ of_aiger (aigers.NameTwice line) = netlist.NameTwice line
 of_aiger (aigers.Net fault) = of_net fault
 of_aiger aigers.OutOfMemory = netlist.TooManyNets
 
+-- A fault of a text in structural Verilog as a fault of the netlist.
+abbrev pub of_verilog : VerilogFault → NetlistFault
+of_verilog (verilogs.Syntax line) = netlist.Syntax line
+of_verilog (verilogs.LeftOut line word) = netlist.LeftOut line word
+of_verilog (verilogs.Undeclared line) = netlist.Undeclared line
+of_verilog (verilogs.OutOfRange line) = netlist.OutOfRange line
+of_verilog (verilogs.Redeclared line) = netlist.Redeclared line
+of_verilog (verilogs.Arity line inputs) = netlist.TooWide line inputs
+of_verilog (verilogs.Net fault) = of_net fault
+of_verilog verilogs.OutOfMemory = netlist.TooManyNets
+
 -- the text of a netlist, by its form
 pub data NetlistText : Type 0 where
   Blif : (text : List ℕ) → NetlistText
+  Verilog : (text : List ℕ) → NetlistText
   Aiger : (text : List ℕ) → NetlistText
 
 -- the form of a text is told by the ending of its file's name
 abbrev pub by_ending : Word → List ℕ → NetlistText
-by_ending file text = if is_aiger file then Aiger text else Blif text
+by_ending file text = if is_aiger file then Aiger text else (if is_verilog file then Verilog text else Blif text)
 
 -- the net of the first model of a text in BLIF: the text's first fault, or else the net's
 abbrev pub BlifNetOf : List ℕ → Outcome NetlistFault NetList
@@ -107,6 +122,7 @@ BlifNetOf text = do
 -- the net of a text, as the reader of its form gives it
 abbrev pub NetOf : NetlistText → Outcome NetlistFault NetList
 NetOf (Blif text) = BlifNetOf text
+NetOf (Verilog text) = Within of_verilog (VerilogNet text)
 NetOf (Aiger text) = Within of_aiger (AigerNet text)
 
 -- the net with its words in one cycle; the cycles of latches and of feeds are not unrolled yet

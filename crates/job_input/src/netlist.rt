@@ -4,10 +4,10 @@ ghost use Rattle.net_core.specs.NetList.{nets, text_of};
 ghost use Rattle.net_words.specs.Bind.{bits_of};
 ghost use Rattle.net_words.specs.Binding.{AreWords};
 ghost use Rattle.net_words.specs.Feeds.{AreFeeds};
-ghost use Rattle.job_words.specs.Operands.{is_aiger as ends_as_aiger};
-ghost use Rattle.job_input.specs.NetlistOf.{Aiger, Blif, BoundNetOf, NetOf, WordsBound, by_ending, of_binding, word_name as name_of};
+ghost use Rattle.job_words.specs.Operands.{is_aiger as ends_as_aiger, is_verilog as ends_as_verilog};
+ghost use Rattle.job_input.specs.NetlistOf.{Aiger, Blif, BoundNetOf, NetOf, Verilog, WordsBound, by_ending, of_binding, word_name as name_of};
 ghost use Rattle.job_input.specs.Setting.{roles_of};
-ghost use Rattle.job_input.specs.private.NetlistReading.{FitsNetlist, IsNamed, IsNetlistRefusal, IsUnrollingFault, aiger_refusal, text_refusal, model_refusal, net_refusal};
+ghost use Rattle.job_input.specs.private.NetlistReading.{FitsNetlist, IsNamed, IsNetlistRefusal, IsUnrollingFault, aiger_refusal, text_refusal, model_refusal, net_refusal, verilog_refusal};
 
 use job_words::{BindingFault, NetlistFault};
 use net_aiger::{AigerFault, read_aiger};
@@ -15,8 +15,10 @@ use net_blif::{BlifFault, read_blif};
 use net_core::{Name, Net, NetFault};
 use net_flat::{FlatFault, flatten};
 use net_signature::Signature;
+use net_verilog::VerilogFault;
 use net_words::{BindFault, Combinational, FeedText, WordText, bind};
 use std::alloc::{AllocError, Global};
+use verilog_reader::read_verilog;
 
 /// Why a netlist is refused, without its file.
 #[derive(Debug, Drop)]
@@ -83,6 +85,13 @@ fn is_aiger(file: &str) -> bool
     file.as_bytes().ends_with(b".aag")
 }
 
+// Whether the name of a file says that it is in structural Verilog.
+fn is_verilog(file: &str) -> bool
+    ensures { result ≡ ends_as_verilog file.now }
+{
+    file.as_bytes().ends_with(b".v")
+}
+
 // The net of a text, which the reader of its form gives.
 fn net_of(alloc: Global, file: &str, text: &[u8]) -> Result<Net, Refusal>
     requires { length text.now ≤ 67108864 }
@@ -90,6 +99,8 @@ fn net_of(alloc: Global, file: &str, text: &[u8]) -> Result<Net, Refusal>
 {
     if is_aiger(file) {
         aiger_net(alloc, text)
+    } else if is_verilog(file) {
+        verilog_net(alloc, text)
     } else {
         blif_net(alloc, text)
     }
@@ -119,6 +130,37 @@ fn aiger_fault(fault: AigerFault) -> Refusal
         AigerFault::NameTwice { line } => Refusal::Fault(NetlistFault::NameTwice { line }),
         AigerFault::Net(fault) => net_fault(fault),
         AigerFault::OutOfMemory => Refusal::OutOfMemory,
+    }
+}
+
+// The net of a text in structural Verilog.
+fn verilog_net(alloc: Global, text: &[u8]) -> Result<Net, Refusal>
+    requires { length text.now ≤ 67108864 }
+    ensures fits { FitsNetlist result (NetOf (Verilog text.now)) }
+{
+    match read_verilog(alloc, text) {
+        Ok(net) => Ok(net),
+        Err(fault) => Err(verilog_fault(fault)),
+    }
+}
+
+// The refusal of a text in structural Verilog.
+fn verilog_fault(fault: VerilogFault) -> Refusal
+    ensures { result ≡ verilog_refusal fault }
+{
+    match fault {
+        VerilogFault::Syntax { line } => Refusal::Fault(NetlistFault::Syntax { line }),
+        VerilogFault::LeftOut { line, word } => {
+            Refusal::Fault(NetlistFault::LeftOut { line, word })
+        }
+        VerilogFault::Undeclared { line } => Refusal::Fault(NetlistFault::Undeclared { line }),
+        VerilogFault::OutOfRange { line } => Refusal::Fault(NetlistFault::OutOfRange { line }),
+        VerilogFault::Redeclared { line } => Refusal::Fault(NetlistFault::Redeclared { line }),
+        VerilogFault::Arity { line, inputs } => {
+            Refusal::Fault(NetlistFault::TooWide { line, inputs })
+        }
+        VerilogFault::Net(fault) => net_fault(fault),
+        VerilogFault::OutOfMemory => Refusal::OutOfMemory,
     }
 }
 

@@ -6,7 +6,7 @@ use Rattle.poly_mixed.specs.declared.stage.Stage.TheVariants as stages
 use Rattle.job_words.specs.Command.{Bits, Abstract, Same, IsSpelled}
 use Rattle.job_words.specs.Fault.{fault_line, fault_status}
 use Rattle.job_words.specs.OneLine.{IsOneLine, repeated}
-use Rattle.job_words.specs.Operands.{IsOperand, IsNetlistName, IsOverNet, is_aiger}
+use Rattle.job_words.specs.Operands.{IsOperand, IsOverNet, is_aiger, is_verilog}
 use Rattle.job_words.specs.StageFault.{stage_text}
 use Rattle.job_words.specs.declared.fault.Fault.{Fault}
 use Rattle.job_words.specs.declared.fault.Fault.TheVariants as faults
@@ -57,7 +57,7 @@ operand_n = record { not_empty = λ e. absurd (cc); no_option = refl; plain = pl
     plain (suc k) d h = absurd (omega arith)
 
 over_net : IsOverNet (codes "s" ∷ codes "n" ∷ []) (codes "s") (codes "n") 65536
-over_net = record { options = []; words_are = refl; signature_is = operand_s; net_is = operand_n; netlist = refl; set = inl (refl, refl) }
+over_net = record { options = []; words_are = refl; signature_is = operand_s; net_is = operand_n; netlist = tt; set = inl (refl, refl) }
 
 -- `bits s n` is the command `bits` with the signature s, the netlist n and the bound 65,536
 spelled_bits : IsSpelled (codes "bits" ∷ codes "s" ∷ codes "n" ∷ []) (record { signature = codes "s"; action = Bits (codes "n") 65536 })
@@ -69,8 +69,8 @@ spelled_same = record {
   rest = codes "s" ∷ codes "n" ∷ codes "n" ∷ [];
   words_are = refl;
   follow = record {
-    pair = record { options = []; words_are = refl; signature_is = operand_s; net_is = operand_n; netlist = refl; other_is = operand_n; set = inl (refl, refl) };
-    second = refl;
+    pair = record { options = []; words_are = refl; signature_is = operand_s; net_is = operand_n; netlist = tt; other_is = operand_n; set = inl (refl, refl) };
+    second = tt;
   };
 }
 
@@ -84,7 +84,7 @@ spelled_abstract = record {
     words_are = refl;
     signature_is = operand_s;
     net_is = operand_n;
-    netlist = refl;
+    netlist = tt;
     set = inr (codes "10", refl, record { decimal = ((omega arith, each), refl); no_zero = λ e. absurd (omega arith); some = omega arith; most = omega arith });
   };
 }
@@ -94,9 +94,9 @@ spelled_abstract = record {
     each (suc zero) h = (inl (omega arith, omega arith), omega arith)
     each (suc (suc k)) h = absurd (omega arith)
 
--- a netlist whose name ends in `.v` is not read
-verilog_is_refused : IsNetlistName (codes "m.v") → ⊥
-verilog_is_refused same = absurd (cc)
+-- a netlist whose name ends in `.v` is in Verilog
+verilog_by_ending : is_verilog (codes "m.v") ≡ true
+verilog_by_ending = refl
 
 -- one whose name ends in `.aag` is in ASCII AIGER
 aiger_by_ending : is_aiger (codes "m.aag") ≡ true

@@ -17,11 +17,14 @@ pub record IsOperand (word : Word) : Type 0 where
   pub no_option : starts_with nat_eq word (codes "--") ≡ false
   pub plain : HasPlainBytes word
 
--- a netlist may not end in `.v`, whose reader is not built yet
+-- a netlist may have any ending: each tells a form that is read
 abbrev pub IsNetlistName : Word → Type 0
-IsNetlistName word = ends_with nat_eq word (codes ".v") ≡ false
+IsNetlistName word = Unit {0}
 
--- a netlist that ends in `.aag` is one in ASCII AIGER, else in BLIF
+-- a netlist that ends in `.v` is one in structural Verilog, and one that ends in `.aag` in ASCII AIGER; else it is in BLIF
+abbrev pub is_verilog : Word → Bool
+is_verilog word = ends_with nat_eq word (codes ".v")
+
 abbrev pub is_aiger : Word → Bool
 is_aiger word = ends_with nat_eq word (codes ".aag")
 

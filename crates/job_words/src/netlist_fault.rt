@@ -29,13 +29,19 @@ pub enum NetlistFault {
     Recursive { model: Name },
     /// A chain of instances from the top has more than 64 models.
     TooDeep,
+    /// A name is not declared before.
+    Undeclared { line: u32 },
+    /// A vector without an index, a scalar with one, or an index outside the range.
+    OutOfRange { line: u32 },
+    /// A name is declared again with another range or a second direction, or another name makes a net of the same name.
+    Redeclared { line: u32 },
     /// A net has two drivers.
     DrivenTwice { label: Name },
     /// A net has no driver.
     Undriven { label: Name },
     /// So many gates drive each other in a ring; the net is the first of them.
     Loop { count: u64, label: Name },
-    /// A cover has more than 6 inputs.
+    /// A cover has more than 6 inputs, or a gate has a number of inputs that it may not have.
     TooWide { line: u32, inputs: u32 },
     /// There would be 1,048,577 nets.
     TooManyNets,
@@ -103,6 +109,9 @@ pub(crate) fn netlist_text(alloc: Global, fault: &NetlistFault) -> Result<String
             format!(in alloc; "32: model {model} contains itself")
         }
         NetlistFault::TooDeep => format!(in alloc; "32: more than 64 models deep"),
+        NetlistFault::Undeclared { line } => format!(in alloc; "33: undeclared at line {line}"),
+        NetlistFault::OutOfRange { line } => format!(in alloc; "33: index at line {line}"),
+        NetlistFault::Redeclared { line } => format!(in alloc; "33: redeclared at line {line}"),
         NetlistFault::DrivenTwice { label } => {
             about(alloc, "34: net ", label.as_str(), " is driven twice")
         }

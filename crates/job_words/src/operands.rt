@@ -100,7 +100,8 @@ fn is_operand(word: &str) -> bool
 fn is_netlist_name(word: &str) -> bool
     ensures { IsTrue result ↔ IsNetlistName word.now }
 {
-    !word.as_bytes().ends_with(b".v")
+    let _ = word;
+    true
 }
 
 // The bound on terms that the options set.

@@ -11,12 +11,12 @@ pub mod ValueLemmas
 pub mod KeepLemmas
 pub mod TreeLemmas
 mod Examples
-mod DecimalLemmas
-mod TableLemmas
-mod SpotLemmas
-mod ReadLemmas
-mod ExpressionDetermined
-mod AssignLemmas
-mod SeveralLemmas
-mod InputLemmas
-mod StatementDetermined
+pub mod DecimalLemmas
+pub mod TableLemmas
+pub mod SpotLemmas
+pub mod ReadLemmas
+pub mod ExpressionDetermined
+pub mod AssignLemmas
+pub mod SeveralLemmas
+pub mod InputLemmas
+pub mod StatementDetermined

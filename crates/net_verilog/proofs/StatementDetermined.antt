@@ -17,7 +17,7 @@ use Rattle.net_verilog.specs.declared.sign.Sign.TheVariants as signs
 use Rattle.net_verilog.proofs.ExpressionDetermined.{expression_determined}
 use Rattle.net_verilog.proofs.SeveralLemmas.{exactly_same, several_determined}
 
-assigns_determined : (declared : Declarations) (net : NetList) (tokens : List TokenValue) → Determined (Assigns declared net tokens)
+pub assigns_determined : (declared : Declarations) (net : NetList) (tokens : List TokenValue) → Determined (Assigns declared net tokens)
 assigns_determined declared net tokens =
     determined_bind _ _ (determined_returns (target_of declared tokens)) (λ target.
     determined_bind _ _ (determined_returns (net_fault (mentioned net target.0))) (λ out.

@@ -1,5 +1,5 @@
 //! Nets written in structural Verilog: the tokens of a text with their lines, and the readers of expressions, assignments and
-//! instances of gates, which make the gates. The readers of declarations and modules are to come.
+//! instances of gates, which make the gates. Declarations and modules are read by `verilog_reader`.
 #![tactic(auto)]
 
 mod assign;
@@ -45,5 +45,5 @@ use operator::{Frame, Next, Start};
 pub use parts::{is_sign, read_identifier, read_range, take};
 pub use sign::Sign;
 pub use table::Table;
-pub use target::read_target;
-pub use words::wrong;
+pub use target::{bit_name, name_of, read_target};
+pub use words::{is_end, is_open_index, left_out, text_of, wrong};

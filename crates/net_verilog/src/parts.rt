@@ -2,7 +2,9 @@
 ghost use Rattle.std.specs.Prelude.{◌≡◌, ◌⊎◌, ◌<◌, ◌≤◌, Ok, Err, None, Some, IfOk, IfErr, length};
 ghost use Rattle.net_core.specs.Inside.{IsNetName};
 ghost use Rattle.net_verilog.specs.Parts.{bound as bound_that, bounds as bounds_that, identifier, is_close, is_colon, is_comma, is_equals, is_open, is_semicolon, is_sign as sign_is, range as range_that, taken};
+ghost use Rattle.net_verilog.specs.private.Decimals.{IsSmall};
 ghost use Rattle.net_verilog.specs.private.Places.{left};
+ghost use Rattle.text_core.specs.Lines.{IsPrinting};
 
 use crate::target::{decimal, name_of};
 use crate::words::{is_close_index, is_open_index, wrong};
@@ -103,6 +105,7 @@ pub fn read_identifier<'a>(
 ) -> Result<((u32, &'a str), Cursor<'a>), VerilogFault>
     ensures found { IfOk result (λ r. identifier (left place.now) ≡ Ok ((r.0.0, r.0.1.now), left r.1)) }
     ensures name { IfOk result (λ r. IsNetName r.0.1.now) }
+    ensures prints { IfOk result (λ r. IsPrinting r.0.1.now) }
     ensures shorter { IfOk result (λ r. length r.1.rest.now < length place.now.rest.now) }
     ensures fault { IfErr result (λ e. (e ≡ VerilogFault.OutOfMemory) ⊎ (identifier (left place.now) ≡ Err e)) }
 {
@@ -143,6 +146,7 @@ fn read_bounds<'a>(
     place: &Cursor<'a>,
 ) -> Result<(Option<(u32, u32)>, Cursor<'a>), VerilogFault>
     ensures found { IfOk result (λ r. bounds_that (left place.now) ≡ Ok (r.0, left r.1)) }
+    ensures small { IfOk result (λ r. IsSmall r.0) }
     ensures shorter { IfOk result (λ r. length r.1.rest.now < length place.now.rest.now) }
     ensures fault { IfErr result (λ e. (e ≡ VerilogFault.OutOfMemory) ⊎ (bounds_that (left place.now) ≡ Err e)) }
 {
@@ -171,6 +175,7 @@ pub fn read_range<'a>(
     place: &Cursor<'a>,
 ) -> Result<(Option<(u32, u32)>, Cursor<'a>), VerilogFault>
     ensures found { IfOk result (λ r. range_that (left place.now) ≡ Ok (r.0, left r.1)) }
+    ensures small { IfOk result (λ r. IsSmall r.0) }
     ensures shorter { IfOk result (λ r. length r.1.rest.now ≤ length place.now.rest.now) }
     ensures fault { IfErr result (λ e. (e ≡ VerilogFault.OutOfMemory) ⊎ (range_that (left place.now) ≡ Err e)) }
 {

@@ -2,6 +2,7 @@
 ghost use Rattle.std.specs.Prelude.{◌≡◌, ◌⊎◌, ◌<◌, ◌≤◌, Ok, Err, None, Some, true, IfOk, IfErr, IfSome, IfNone, length};
 ghost use Rattle.std.specs.Option.{option_map};
 ghost use Rattle.net_core.specs.Inside.{IsNetName};
+ghost use Rattle.text_core.specs.Lines.{IsPrinting};
 ghost use Rattle.text_core.specs.Numbers.{value_of as value_that};
 ghost use Rattle.net_verilog.specs.Words.{is_decimal as decimal_that};
 ghost use Rattle.net_verilog.specs.Declarations.{bit_name as bit_that, range_of as range_that};
@@ -19,6 +20,7 @@ use text_core::read_decimal;
 pub fn name_of<'a>(token: &Token<'a>) -> Option<&'a str>
     requires { Prints (value_of token.now) }
     ensures some { IfSome result (λ name. name_kind token.now.kind token.now.text.now ≡ Some name.now) }
+    ensures prints { IfSome result (λ name. IsPrinting name.now) }
     ensures none { IfNone result (name_kind token.now.kind token.now.text.now ≡ None) }
 {
     match token.kind {

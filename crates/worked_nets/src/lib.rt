@@ -10,3 +10,5 @@ mod net_aiger_tests;
 mod net_core_tests;
 #[cfg(test)]
 mod text_core_tests;
+#[cfg(test)]
+mod verilog_reader_tests;

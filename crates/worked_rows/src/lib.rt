@@ -42,6 +42,10 @@ mod stage_tests;
 #[cfg(test)]
 mod texts;
 #[cfg(test)]
+mod verilog_rows;
+#[cfg(test)]
+mod verilog_tests;
+#[cfg(test)]
 mod wide_tests;
 #[cfg(test)]
 mod word_rows;

@@ -58,7 +58,7 @@ fn words_and_places(rt: HostRuntime) -> Result<(), Fail> {
         (&["bits", "s4", "--mul"], 2, refused),
         (&["bits", "s4", "m\u{1f}"], 2, refused),
         (&["bits", "s4", "m\u{7f}"], 2, refused),
-        (&["bits", "s4", "mul.v"], 2, refused),
+        (&["bits", "s4", "mul.v"], 2, "fault 10: mul.v is absent\n"),
         (
             &["bits", "s4", "mul.aag"],
             2,

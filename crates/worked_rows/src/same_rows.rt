@@ -1,10 +1,11 @@
 //! Two netlists compared.
 use crate::row::Row;
 use crate::texts::{
-    ALL_ONES_OF_65536, BUFFERS, BUFFERS_AND_ONE_BIT, CONJUNCTION, CONJUNCTION_BY_NOR, EXCLUSIVE_OR,
-    LIST_WORD, LISTED_TOWER_WORD, LOOP, MULTIPLIER, MULTIPLIER_WITH_OR, NO_DRIVER, NOR,
-    ONE_BIT_OR_TWO, ONE_OF_65536, TIMES_Y, TIMES_Y_BY_NAND, TOWER_WORD, TWICE_INVERTED, WORD_OF_4,
-    WORD_OF_8, WORDS_OF_4, WORDS_OF_256, ZERO, ZERO_OF_65536, ZERO_OF_TWO,
+    ALL_ONES_OF_65536, BUFFERS, BUFFERS_AND_ONE_BIT, COMPLEMENTED, CONJUNCTION, CONJUNCTION_BY_NOR,
+    EXCLUSIVE_OR, LIST_WORD, LISTED_TOWER_WORD, LOOP, MULTIPLIER, MULTIPLIER_WITH_OR, NO_DRIVER,
+    NOR, ONE_BIT_OR_TWO, ONE_OF_65536, OTHER_NAMES, TIMES_Y, TIMES_Y_BY_NAND, TOWER_WORD,
+    TWICE_INVERTED, VERILOG_MULTIPLIER, WORD_OF_4, WORD_OF_8, WORDS_OF_4, WORDS_OF_256, ZERO,
+    ZERO_OF_65536, ZERO_OF_TWO,
 };
 
 pub static ROWS_1: [Row; 9] = [
@@ -150,18 +151,22 @@ pub static ROWS_2: [Row; 9] = [
         text: "fault 01: words\n",
     },
     Row {
-        name: "same s4 mul mul.v",
-        words: &["same", "s4", "mul", "mul.v"],
-        files: &[("s4", WORDS_OF_4, 0, ""), ("mul", MULTIPLIER, 0, "")],
-        status: 2,
-        text: "fault 01: words\n",
+        name: "same s4v mulc mul.v",
+        words: &["same", "s4v", "mulc", "mul.v"],
+        files: &[
+            ("s4v", OTHER_NAMES, 0, ""),
+            ("mulc", COMPLEMENTED, 0, ""),
+            ("mul.v", VERILOG_MULTIPLIER, 0, ""),
+        ],
+        status: 0,
+        text: "same\n",
     },
     Row {
         name: "same s4 mul.v mul",
         words: &["same", "s4", "mul.v", "mul"],
         files: &[("s4", WORDS_OF_4, 0, ""), ("mul", MULTIPLIER, 0, "")],
         status: 2,
-        text: "fault 01: words\n",
+        text: "fault 10: mul.v is absent\n",
     },
     Row {
         name: "same s4 mul mul mul",

@@ -158,6 +158,12 @@ pub const TWICE_INVERTED: &str =
 pub const TWO_DRIVERS: &str =
     ".model m\n.inputs a0 a1\n.outputs z0 z1\n.names a0 z0\n1 1\n.names a1 z0\n1 1\n.names z1\n.end\n";
 
+pub const VERILOG_MULTIPLIER: &str =
+    "module mul(a, b, z);\n  input [1:0] a, b;\n  output [1:0] z;\n  wire p3;\n  and g1(p3, a[1], b[1]);\n  assign z[0] = a[0] & b[0] ^ p3;\n  assign z[1] = a[0] & b[1] ^ a[1] & b[0] ^ p3;\nendmodule\n";
+
+pub const VERILOG_NOR: &str =
+    "module m(input a0, a1, output z0, z1);\n  nor (z0, a0, a1);\n  assign z1 = 1'b0;\nendmodule\n";
+
 pub const WIDE: &str =
     ".model w\n.inputs a b c d e f g\n.outputs z\n.names a b c d e f g z\n1111111 1\n.end\n";
 

@@ -6,6 +6,8 @@ use Rattle.net_core.specs.declared.fault.NetFault.{NetFault}
 use Rattle.net_core.specs.declared.fault.NetFault.TheVariants as nets
 use Rattle.net_aiger.specs.declared.fault.AigerFault.{AigerFault}
 use Rattle.net_aiger.specs.declared.fault.AigerFault.TheVariants as aigers
+use Rattle.net_verilog.specs.declared.fault.VerilogFault.{VerilogFault}
+use Rattle.net_verilog.specs.declared.fault.VerilogFault.TheVariants as verilogs
 use Rattle.net_blif.specs.declared.fault.BlifFault.{BlifFault}
 use Rattle.net_blif.specs.declared.fault.BlifFault.TheVariants as texts
 use Rattle.net_flat.specs.declared.flat_fault.FlatFault.{FlatFault}
@@ -14,7 +16,7 @@ use Rattle.net_words.specs.declared.binding.BindFault.{BindFault}
 use Rattle.net_words.specs.declared.binding.BindFault.TheVariants as binds
 use Rattle.job_words.specs.declared.netlist_fault.NetlistFault.{NetlistFault}
 use Rattle.job_words.specs.declared.netlist_fault.NetlistFault.TheVariants as netlist
-use Rattle.job_input.specs.NetlistOf.{of_model, of_aiger, of_text, of_net}
+use Rattle.job_input.specs.NetlistOf.{of_model, of_aiger, of_text, of_net, of_verilog}
 use Rattle.job_input.specs.declared.netlist.Refusal.{Refusal}
 use Rattle.job_input.specs.declared.netlist.Refusal.TheVariants.{Fault, OutOfMemory}
 
@@ -53,6 +55,12 @@ abbrev pub aiger_refusal : AigerFault → Refusal
 aiger_refusal aigers.OutOfMemory = OutOfMemory
 aiger_refusal (aigers.Net fault) = net_refusal fault
 aiger_refusal fault = Fault (of_aiger fault)
+
+-- the refusal of a text in structural Verilog
+abbrev pub verilog_refusal : VerilogFault → Refusal
+verilog_refusal verilogs.OutOfMemory = OutOfMemory
+verilog_refusal (verilogs.Net fault) = net_refusal fault
+verilog_refusal fault = Fault (of_verilog fault)
 
 -- the word of a fault of a binding is one of so many words, and its net one of the net list
 abbrev pub IsNamed : ℕ → NetList → BindFault → Type 0

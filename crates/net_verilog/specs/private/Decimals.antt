@@ -12,3 +12,8 @@ abbrev pub HasBits : List ℕ → Option Range → Type 0
 HasBits name None = ⊤
 HasBits name (Some None) = ⊤
 HasBits name (Some (Some (low, high))) = (i : ℕ) → low ≤ i → i ≤ high → IsNetName (bit_name name i)
+
+-- a range as one that was read: its highest index is at most 65,535
+abbrev pub IsSmall : Range → Type 0
+IsSmall None = ⊤
+IsSmall (Some (low, high)) = high ≤ 65535

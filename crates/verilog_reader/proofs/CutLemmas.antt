@@ -1,0 +1,122 @@
+-- Names that may be those of bits, and the places where they are cut.
+use Rattle.std.proofs.Common.{◌≡◌, ◌⊎◌, ◌∙◌, ap, sym, refl, subst, inl, inr, ℕ, zero, suc, ◌+◌, ◌-◌, ◌<◌, ◌≤◌, Bool, true, false, List, [], ◌∷◌, ◌++◌, length, take, drop, decimal, length-append, Option, None, Some, arith}
+use Rattle.std.specs.Prelude.{nat_lt}
+use Rattle.std.proofs.lemmas.Bool.{ltb-true, ltb-false}
+use Rattle.text_core.specs.Numbers.{IsDecimal, value_of}
+use Rattle.net_verilog.specs.Declarations.{Declarations, Range, IsNetOf, bit_name, range_of}
+use Rattle.verilog_reader.specs.Declares.{HasShortNames, Meets}
+use Rattle.verilog_reader.specs.private.Meets.{AreShort, Decides, HasScalar, IsBit, IsBitAt, IsFound, IsMet}
+use Rattle.verilog_reader.proofs.NumeralLemmas.{printed_value}
+use Rattle.verilog_reader.proofs.NameLemmas.{front, longer, name_split, same_vector}
+
+pub taken_length : (k : ℕ) (xs : List ℕ) → k ≤ length xs → length (take k xs) ≡ k
+taken_length zero xs within = refl
+taken_length (suc k) [] within = absurd (omega arith)
+taken_length (suc k) (x ∷ xs) within = omega (arith, taken_length k xs (omega arith))
+
+behind_one : (xs ys : List ℕ) (b : ℕ) → drop (suc (length xs)) (xs ++ b ∷ ys) ≡ ys
+behind_one [] ys b = refl
+behind_one (x ∷ xs) ys b = behind_one xs ys b
+
+-- what stands between `[` and `]`
+middle : (name before : List ℕ) (cut i : ℕ) → name ≡ bit_name before i → length before ≡ cut → take (length name - 1 - (cut + 1)) (drop (cut + 1) name) ≡ decimal i
+middle name before cut i same at =
+    let split : name ≡ before ++ 91 ∷ (decimal i ++ 93 ∷ []) = same ∙ name_split before i in
+    let step : cut + 1 ≡ suc (length before) = omega (arith, at) in
+    let rest : drop (cut + 1) name ≡ decimal i ++ 93 ∷ [] = (λ j. drop (step j) (split j)) ∙ behind_one before (decimal i ++ 93 ∷ []) 91 in
+    let long : length name - 1 - (cut + 1) ≡ length (decimal i) = omega (arith, ap length split, length-append before (91 ∷ (decimal i ++ 93 ∷ [])), length-append (decimal i) (93 ∷ []), at) in
+    (λ j. take (long j) (rest j)) ∙ front (decimal i) (93 ∷ [])
+
+pub index_found : (name before : List ℕ) (cut i index : ℕ) → i ≤ 4294967295 → length before ≡ cut → name ≡ bit_name before i → IsDecimal (take (length name - 1 - (cut + 1)) (drop (cut + 1) name)) index → ◌≡◌ {A = Option ℕ} (Some index) (Some i)
+index_found name before cut i index few at same found = ap Some (found.1 ∙ ap (value_of 10) (middle name before cut i same at) ∙ sym (printed_value i (omega (arith, few))).1)
+
+pub index_none : (name before : List ℕ) (cut i : ℕ) → i ≤ 4294967295 → length before ≡ cut → name ≡ bit_name before i → ((n : ℕ) → IsDecimal (take (length name - 1 - (cut + 1)) (drop (cut + 1) name)) n → n ≤ 4294967295 → ⊥) → ⊥
+index_none name before cut i few at same none =
+    let P : List ℕ → Type 0 = λ s. IsDecimal s i in
+    none i (subst P (sym (middle name before cut i same at)) (printed_value i (omega (arith, few)))) few
+
+vectors_same : (a b c d : ℕ) → ◌≡◌ {A = Option Range} (Some (Some (a, b))) (Some (Some (c, d))) → (a ≡ c) × (b ≡ d)
+vectors_same a b c d is =
+    let same : ◌≡◌ {A = ℕ × ℕ} (a, b) (c, d) = cc in
+    (ap (λ p. p.0) same, ap (λ p. p.1) same)
+
+module _ (declared : Declarations) (name before : List ℕ) (cut : ℕ) (inside : cut < length name) where
+  pub never_open : (open_at : Bool) → ((before : List ℕ) → (i : ℕ) → length before ≡ cut → name ≡ bit_name before i → open_at ≡ true) → open_at ≡ false → IsBitAt declared name cut → ⊥
+  never_open open_at is none (low, high, i, range, above, below, same) =
+      let bad : true ≡ false = sym (is (take cut name) i (taken_length cut name (omega arith)) same) ∙ none in
+      absurd (cc)
+
+  pub never_vector : before ≡ take cut name → ((r : ℕ × ℕ) → range_of declared before ≡ Some (Some r) → ⊥) → IsBitAt declared name cut → ⊥
+  never_vector is none (low, high, i, range, above, below, same) = none (low, high) (ap (range_of declared) is ∙ range)
+
+  module _ (low high : ℕ) (is : before ≡ take cut name) (range : range_of declared before ≡ Some (Some (low, high))) (few : high ≤ 4294967295) where
+    known : IsBitAt declared name cut → (i : ℕ) × (low ≤ i) × (i ≤ high) × (length before ≡ cut) × (name ≡ bit_name before i)
+    known (l, h, i, there, above, below, same) =
+        let both = vectors_same l h low high (sym there ∙ ap (range_of declared) (sym is) ∙ range) in
+        (i, omega (arith, above, both.0), omega (arith, below, both.1), ap length is ∙ taken_length cut name (omega arith), same ∙ ap (λ b. bit_name b i) (sym is))
+
+    pub never_index : ((before : List ℕ) → (i : ℕ) → i ≤ 4294967295 → length before ≡ cut → name ≡ bit_name before i → ◌≡◌ {A = Option ℕ} None (Some i)) → IsBitAt declared name cut → ⊥
+    never_index none bit =
+        let k = known bit in
+        let bad : ◌≡◌ {A = Option ℕ} None (Some k.0) = none before k.0 (omega (arith, k.2)) k.3 k.4 in
+        absurd (cc)
+
+    module _ (index : ℕ) (found : (before : List ℕ) → (i : ℕ) → i ≤ 4294967295 → length before ≡ cut → name ≡ bit_name before i → ◌≡◌ {A = Option ℕ} (Some index) (Some i)) where
+      same_index : (bit : IsBitAt declared name cut) → index ≡ (known bit).0
+      same_index bit =
+          let k = known bit in
+          let same : ◌≡◌ {A = Option ℕ} (Some index) (Some k.0) = found before k.0 (omega (arith, k.2)) k.3 k.4 in
+          cc
+
+      pub never_inside : (index < low) ⊎ (high < index) → IsBitAt declared name cut → ⊥
+      never_inside (inl less) bit = let k = known bit in omega (arith, less, k.1, same_index bit)
+      never_inside (inr more) bit = let k = known bit in omega (arith, more, k.2, same_index bit)
+
+      pub decided : (r : Bool) → low ≤ index → index ≤ high → Decides r (name ≡ bit_name before index) → Decides r (IsBitAt declared name cut)
+      decided true above below same = (low, high, index, ap (range_of declared) (sym is) ∙ range, above, below, same ∙ ap (λ b. bit_name b index) is)
+      decided false above below differs = λ bit. (let k = known bit in differs (k.4 ∙ ap (bit_name before) (sym (same_index bit))))
+
+up_to : (i j : ℕ) → j < i + 1 → (j < i) ⊎ (j ≡ i)
+up_to i j less = by (nat_lt j i) refl
+  where
+    by : (b : Bool) → nat_lt j i ≡ b → (j < i) ⊎ (j ≡ i)
+    by true is = inl (ltb-true j i is)
+    by false is = inr (omega (arith, ltb-false j i is, less))
+
+pub no_cut_more : (declared : Declarations) (name : List ℕ) (cut : ℕ) → ((k : ℕ) → k < cut → IsBitAt declared name k → ⊥) → (IsBitAt declared name cut → ⊥) → (k : ℕ) → k < cut + 1 → IsBitAt declared name k → ⊥
+no_cut_more declared name cut before here k less bit = elim (up_to cut k less) [
+  | inl earlier ↦ before k earlier bit
+  | inr same ↦ (let P : ℕ → Type 0 = λ j. IsBitAt declared name j in here (subst P same bit))
+]
+
+module _ (declared : Declarations) (name : List ℕ) where
+  bit_meets : IsBit declared name → Meets declared None name
+  bit_meets (k, inside, (low, high, i, range, above, below, same)) =
+      (take k name, Some (low, high), name, range, (λ e. omega (arith, inside, ap length e, taken_length k name (omega (arith, inside)))), (i, above, below, same), refl)
+
+  meets_bit : Meets declared None name → IsBit declared name
+  meets_bit (other, None, net, range, apart, there, here) = absurd (apart (sym there ∙ here))
+  meets_bit (other, Some (low, high), net, range, apart, (i, above, below, there), here) =
+      let same : name ≡ bit_name other i = sym here ∙ there in
+      let cut : take (length other) name ≡ other = ap (take (length other)) (same ∙ name_split other i) ∙ front other _ in
+      (length other, omega (arith, ap length same, longer other i), (low, high, i, ap (range_of declared) cut ∙ range, above, below, same ∙ ap (λ b. bit_name b i) (sym cut)))
+
+  pub met_scalar : (r : Bool) → length name ≤ 255 → Decides r (IsBit declared name) → IsMet declared None name (Some r)
+  met_scalar true short bit = ((λ net is. omega (arith, short, ap length is)), bit_meets bit)
+  met_scalar false short none = ((λ net is. omega (arith, short, ap length is)), (λ m. none (meets_bit m)))
+
+  module _ (low high : ℕ) where
+    short_names : AreShort name low (1 + high) → HasShortNames name (Some (low, high))
+    short_names short net (i, above, below, is) = omega (arith, ap length is, short i above (omega (arith, below)))
+
+    scalar_meets : HasScalar declared name low (1 + high) → Meets declared (Some (low, high)) name
+    scalar_meets (i, above, below, is) = (bit_name name i, None, bit_name name i, is, (λ e. omega (arith, ap length e, longer name i)), refl, (i, above, omega (arith, below), refl))
+
+    meets_scalar : Meets declared (Some (low, high)) name → HasScalar declared name low (1 + high)
+    meets_scalar (other, None, net, range, apart, there, (i, above, below, here)) = (i, above, omega (arith, below), ap (range_of declared) (sym here ∙ there) ∙ range)
+    meets_scalar (other, Some (l, h), net, range, apart, (j, a, b, there), (i, above, below, here)) = absurd (apart (same_vector other name j i (sym there ∙ here)))
+
+    pub met_vector : (found : Option Bool) → IsFound declared name low (1 + high) found → IsMet declared (Some (low, high)) name found
+    met_vector None long = λ short. long (λ i above below. short (bit_name name i) (i, above, omega (arith, below), refl))
+    met_vector (Some true) (short, some) = (short_names short, scalar_meets some)
+    met_vector (Some false) (short, none) = (short_names short, (λ m. none (meets_scalar m)))

@@ -1,0 +1,17 @@
+mod FoundLemmas
+mod NumeralLemmas
+mod NameLemmas
+mod CutLemmas
+mod PortLemmas
+mod ReadDetermined
+mod ItemLemmas
+mod ModuleDetermined
+pub mod PrintLemmas
+pub mod GrowLemmas
+mod StepLemmas
+pub mod TextLemmas
+pub mod VerilogDetermined
+mod ReadingLemmas
+mod AssignedLemmas
+mod ModuleLemmas
+mod PortListLemmas

@@ -1,0 +1,6 @@
+use Rattle.std.proofs.Common.{rules, refl, inl, inr, ◌+◌, arith}
+use Rattle.verilog_reader.proofs.FoundLemmas.{found_first, found_last, found_more, found_none}
+use Rattle.verilog_reader.proofs.bits.bits_found.Goals as goal
+
+pub returns : goal.returns
+returns c = found_last c.args.declared.now c.args.name.now c.args.low c.loop-index.index (1 + c.args.high) c.loop-index.met c.loop-index.invariant.found (search rules) c.loop-index.invariant.within

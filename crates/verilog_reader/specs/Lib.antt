@@ -1,0 +1,5 @@
+pub mod Declares
+pub mod Items
+pub mod Modules
+pub mod Assigned
+pub mod private

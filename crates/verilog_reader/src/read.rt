@@ -1,0 +1,61 @@
+//! The reader of structural Verilog.
+ghost use Rattle.std.specs.Prelude.{◌≡◌, ◌⊎◌, ◌≤◌, Ok, Err, IfOk, IfErr, length};
+ghost use Rattle.net_verilog.specs.Tokens.{tokens_of};
+ghost use Rattle.verilog_reader.specs.Modules.{Module, VerilogNet};
+
+use crate::module::read_module;
+use net_core::{Net, NetFault, NetMaker};
+use net_verilog::{Cursor, Table, VerilogFault};
+use std::alloc::Global;
+use std::hash::{DefaultHasher, Hasher};
+
+// The key of a text, which is not known before the text is.
+fn key_of(text: &[u8]) -> u64 {
+    let mut state = DefaultHasher::new();
+    state.write(text);
+    state.finish()
+}
+
+// The net list of a text.
+fn read_text(alloc: Global, bytes: &[u8]) -> Result<NetMaker, VerilogFault>
+    requires { length bytes.now ≤ 67108864 }
+    ensures made { IfOk result (λ maker. Module (tokens_of bytes.now) (Ok maker)) }
+    ensures fault { IfErr result (λ e. (e ≡ VerilogFault.OutOfMemory) ⊎ Module (tokens_of bytes.now) (Err e)) }
+{
+    let key = key_of(bytes);
+    let mut maker = NetMaker::keyed(alloc, key);
+    let mut declared = Table::new(alloc, key);
+    match read_module(alloc, &mut maker, &mut declared, &Cursor::new(bytes)) {
+        Ok(()) => Ok(maker),
+        Err(fault) => Err(fault),
+    }
+}
+
+// A fault of nets, or want of memory.
+fn fault_of(fault: NetFault) -> VerilogFault
+    ensures { ((fault ≡ NetFault.OutOfMemory) × (result ≡ VerilogFault.OutOfMemory)) ⊎ (¬ (fault ≡ NetFault.OutOfMemory) × (result ≡ VerilogFault.Net fault)) }
+{
+    match fault {
+        NetFault::OutOfMemory => VerilogFault::OutOfMemory,
+        fault => VerilogFault::Net(fault),
+    }
+}
+
+/// The net of a text in structural Verilog, of at most 67,108,864 bytes, or its first fault. Faults are decided at the first
+/// token at which one stands, and at one token in this order: `LeftOut`, `Syntax`, `Undeclared`, `OutOfRange`, `Redeclared`;
+/// `Arity` stands at the `)` of its instance, and a limit of the net where the net or gate is made. After the text comes `Net`
+/// where the net is not sound. Want of memory may come at any place.
+pub fn read_verilog(alloc: Global, bytes: &[u8]) -> Result<Net, VerilogFault>
+    requires { length bytes.now ≤ 67108864 }
+    ensures net { IfOk result (λ net. VerilogNet bytes.now (Ok net)) }
+    ensures fault { IfErr result (λ e. (e ≡ VerilogFault.OutOfMemory) ⊎ VerilogNet bytes.now (Err e)) }
+{
+    let maker = match read_text(alloc, bytes) {
+        Ok(maker) => maker,
+        Err(fault) => return Err(fault),
+    };
+    match maker.finish() {
+        Ok(net) => Ok(net),
+        Err(fault) => Err(fault_of(fault)),
+    }
+}
