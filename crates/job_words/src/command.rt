@@ -2,7 +2,7 @@
 ghost use Rattle.std.specs.Prelude.{◌≡◌, ◌∷◌, map, string_bytes, IfSome, IfNone};
 ghost use Rattle.job_words.specs.Command.{IsSpelled, job_of};
 
-use crate::operands::{over_net, over_pair, over_two_nets};
+use crate::operands::{over_net, over_pair, over_two_nets, over_values};
 
 /// A command: the signature that it reads first, and what it does over it.
 #[derive(Clone, Copy, Debug)]
@@ -24,6 +24,8 @@ pub enum Task<'a> {
     Check(PairWords<'a>),
     /// `same`: says whether two netlists compute one function, or the input at which they are told apart.
     Same(PairWords<'a>),
+    /// `eval`: prints the output word's element where the input words have these.
+    Eval(EvalWords<'a>),
 }
 
 /// The words of a command over one netlist.
@@ -33,6 +35,8 @@ pub struct NetWords<'a> {
     pub net: &'a str,
     /// The most terms that a stage may have, 1 to 262,144.
     pub terms: u32,
+    /// How many cycles come after the first, 0 to 4,096.
+    pub cycles: u32,
 }
 
 /// The words of a command over a netlist and a second file.
@@ -44,6 +48,19 @@ pub struct PairWords<'a> {
     pub other: &'a str,
     /// The most terms that a stage may have, 1 to 262,144.
     pub terms: u32,
+    /// How many cycles come after the first, 0 to 4,096.
+    pub cycles: u32,
+}
+
+/// The words of a command over a netlist and values.
+#[derive(Clone, Copy, Debug)]
+pub struct EvalWords<'a> {
+    /// The name of the netlist's file, which is read as BLIF.
+    pub net: &'a str,
+    /// The values, each `0x` and 1 to 32 hexadecimal digits.
+    pub values: &'a [String],
+    /// How many cycles come after the first, 0 to 4,096.
+    pub cycles: u32,
 }
 
 /// The command that the words spell.
@@ -88,6 +105,13 @@ fn read_command<'a>(name: &str, rest: &'a [String]) -> Option<Command<'a>>
             Some((signature, words)) => Some(Command {
                 signature,
                 task: Task::Same(words),
+            }),
+            None => None,
+        },
+        "eval" => match over_values(rest) {
+            Some((signature, words)) => Some(Command {
+                signature,
+                task: Task::Eval(words),
             }),
             None => None,
         },
