@@ -160,8 +160,6 @@ netlist_clean (netlist.DefinedTwice line) kept = number_clean line
 netlist_clean (netlist.Undefined line) kept = number_clean line
 netlist_clean (netlist.NameTwice line) kept = number_clean line
 netlist_clean (netlist.Binding fault) kept = binding_clean fault kept
-netlist_clean netlist.Latches kept = refl
-netlist_clean netlist.Feeds kept = refl
 
 specification_clean : (fault : SpecificationFault) → IsClean (specification_text fault)
 specification_clean (specification.Syntax place) = number_clean place

@@ -1,6 +1,7 @@
 -- The shapes of options.
-use Rattle.std.proofs.Common.{◌≡◌, ◌≢◌, ◌⊎◌, ◌∙◌, ap, sym, subst, inl, inr, refl, ℕ, List, [], ◌∷◌, ◌++◌, length, get_or, codes, arith}
-use Rattle.std.proofs.lemmas.List.{append-nil}
+use Rattle.std.proofs.Common.{◌≡◌, ◌≢◌, ◌⊎◌, ◌∙◌, ap, sym, subst, inl, inr, refl, ℕ, ◌<◌, List, [], ◌∷◌, ◌++◌, length, map, codes, Option, None, Some, arith}
+use Rattle.std.specs.Prelude.{IfSome}
+use Rattle.std.proofs.lemmas.List.{length-map}
 use Rattle.job_words.specs.Operands.{Word, AreOptions, IsTermsOption, IsCyclesOption, IsTermCount, IsCycleCount}
 use Rattle.job_words.proofs.SpelledLemmas.{first_word, rest_of}
 
@@ -98,3 +99,31 @@ terms_then_cycles name x other y t c e f tx cy = record { of_terms = name ∷ x 
 
 pub cycles_then_terms : (name x other y : Word) (t c : ℕ) → name ≡ codes "--cycles" → other ≡ codes "--terms" → IsTermCount y t → IsCycleCount x c → AreOptions (name ∷ x ∷ other ∷ y ∷ []) t c
 cycles_then_terms name x other y t c e f ty cx = record { of_terms = other ∷ y ∷ []; of_cycles = name ∷ x ∷ []; words_are = inr refl; terms_set = inr (y, (λ i. f i ∷ y ∷ []), ty); cycles_set = inr (x, (λ i. e i ∷ x ∷ []), cx) }
+
+-- the two numbers of two options
+pub terms_first_found : (name x other y : Word) (r : Option (ℕ × ℕ)) → name ≡ codes "--terms" → other ≡ codes "--cycles" → IfSome r (λ r. IsTermCount x r.0 × IsCycleCount y r.1) → IfSome r (λ r. AreOptions (name ∷ x ∷ other ∷ y ∷ []) r.0 r.1)
+terms_first_found name x other y (Some r) e f is = terms_then_cycles name x other y r.0 r.1 e f is.0 is.1
+terms_first_found name x other y None e f is = tt
+
+pub cycles_first_found : (name x other y : Word) (r : Option (ℕ × ℕ)) → name ≡ codes "--cycles" → other ≡ codes "--terms" → IfSome r (λ r. IsTermCount y r.0 × IsCycleCount x r.1) → IfSome r (λ r. AreOptions (name ∷ x ∷ other ∷ y ∷ []) r.0 r.1)
+cycles_first_found name x other y (Some r) e f is = cycles_then_terms name x other y r.0 r.1 e f is.0 is.1
+cycles_first_found name x other y None e f is = tt
+
+-- ---- of the words of a program
+
+-- no words
+pub none_set : {A : Type 0} (f : A → Word) (xs : List A) → length xs < 1 → AreOptions (map f xs) 65536 0
+none_set f [] short = record { of_terms = []; of_cycles = []; words_are = inl refl; terms_set = inl (refl, refl); cycles_set = inl (refl, refl) }
+none_set f (x ∷ xs) short = absurd (omega arith)
+
+-- a number of words that no options have
+pub not_so_long : {A : Type 0} (f : A → Word) (xs : List A) → length xs ≢ 0 → length xs ≢ 2 → length xs ≢ 4 → (t c : ℕ) → AreOptions (map f xs) t c → ⊥
+not_so_long f xs none two four t c is = by (lengths (map f xs) t c is)
+  where
+    same : length (map f xs) ≡ length xs
+    same = length-map xs f
+
+    by : (length (map f xs) ≡ 0) ⊎ (length (map f xs) ≡ 2) ⊎ (length (map f xs) ≡ 4) → ⊥
+    by (inl e) = none (sym same ∙ e)
+    by (inr (inl e)) = two (sym same ∙ e)
+    by (inr (inr e)) = four (sym same ∙ e)

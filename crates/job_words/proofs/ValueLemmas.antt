@@ -1,14 +1,17 @@
 -- Values, and the options behind them.
-use Rattle.std.proofs.Common.{◌≡◌, ◌≢◌, ◌⊎◌, ◌∙◌, ap, sym, subst, inl, inr, refl, ℕ, zero, suc, ◌<◌, ◌≤◌, Bool, true, false, cond, IsTrue, List, [], ◌∷◌, ◌++◌, All, length, take, drop, get_or, slice_index, codes, nat_eq, arith}
-use Rattle.std.proofs.lemmas.List.{append-nil}
-use Rattle.std.specs.List.{starts_with}
-use Rattle.text_core.specs.Numbers.{IsHex, value_of}
+use Rattle.std.proofs.Common.{◌≡◌, ◌⊎◌, ◌∙◌, ap, sym, subst, inl, inr, refl, ℕ, zero, suc, ◌+◌, ◌*◌, ◌^◌, ◌<◌, ◌≤◌, Bool, true, false, cond, List, [], ◌∷◌, ◌++◌, length, map, take, drop, get_or, codes, Option, None, Some, arith}
+use Rattle.std.specs.Prelude.{◌↔◌, All, EachIndex, IfSome, IfNone, IsSome, IsTrue, slice_index}
+use Rattle.std.proofs.Math.Nat.{mul-le-mul_right, pow-le-pow_right, pow-succ'}
+use Rattle.std.proofs.lemmas.Bool.{cases_lt}
+use Rattle.std.proofs.lemmas.List.{get_or-map, length-map}
+use Rattle.std.proofs.lemmas.List.Elements.{All-from_get_or}
+use Rattle.text_core.specs.Numbers.{IsDigit, IsHex, digit_value, value_of}
 use Rattle.job_words.specs.Operands.{Word, AreValues, IsValue, IsCyclesOption}
 use Rattle.job_words.specs.private.OptionPlace.{begins_options, before_options, from_options}
 
 -- a value begins with 0, and so no option
 no_option : (word : Word) → IsValue word → begins_options word ≡ false
-no_option word is = ap begins_options is.hex.2.0
+no_option word is = ap begins_options is.hex.1
 
 -- options are none, or their first word begins them
 begins : (options : List Word) (c : ℕ) → IsCyclesOption options c → (before_options options ≡ []) × (from_options options ≡ options)
@@ -37,5 +40,79 @@ cycles_back options c (inr (y, e, is)) read none some = is.decimal.1 ∙ sym (so
 -- ---- where the options begin
 
 -- words none of which begins the options, before the end or one that does
-pub before_is : (n : ℕ) (words : List Word) → ((k : ℕ) → k < n → begins_options (slice_index words k) ≡ false) → (n ≡ length words) ⊎ (begins_options (slice_index words n) ≡ true) → (take n words ≡ before_options words) × (drop n words ≡ from_options words)
-before_is n words none ends = ?
+pub before_is : (n : ℕ) (words : List Word) → ((k : ℕ) → k < n → begins_options (get_or words k []) ≡ false) → (n ≡ length words) ⊎ (begins_options (get_or words n []) ≡ true) → n ≤ length words → (take n words ≡ before_options words) × (drop n words ≡ from_options words)
+before_is zero [] none ends within = (refl, refl)
+before_is zero (w ∷ words) none (inl e) within = absurd (omega (arith, e))
+before_is zero (w ∷ words) none (inr is) within = ((λ i. cond (sym is i) [] (w ∷ before_options words)), (λ i. cond (sym is i) (w ∷ words) (from_options words)))
+before_is (suc n) [] none ends within = absurd (omega arith)
+before_is (suc n) (w ∷ words) none ends within = by (before_is n words (λ k less. none (suc k) (omega arith)) (rest ends) (omega arith))
+  where
+    first : begins_options w ≡ false
+    first = none zero (omega arith)
+
+    rest : (suc n ≡ suc (length words)) ⊎ (begins_options (get_or words n []) ≡ true) → (n ≡ length words) ⊎ (begins_options (get_or words n []) ≡ true)
+    rest (inl e) = inl (omega (arith, e))
+    rest (inr is) = inr is
+
+    by : (take n words ≡ before_options words) × (drop n words ≡ from_options words) → (w ∷ take n words ≡ before_options (w ∷ words)) × (drop n words ≡ from_options (w ∷ words))
+    by (before, behind) = (ap (λ (ws : List Word). w ∷ ws) before ∙ (λ i. cond (sym first i) [] (w ∷ before_options words)), behind ∙ (λ i. cond (sym first i) (w ∷ words) (from_options words)))
+
+-- the same of the words of a program
+pub begins_at : {A : Type 0} (f : A → Word) (xs : List A) (i : ℕ) (d : A) → i < length xs → ((k : ℕ) → k < i → begins_options (get_or (map f xs) k []) ≡ false) → begins_options (f (get_or xs i d)) ≡ true → (take i (map f xs) ≡ before_options (map f xs)) × (drop i (map f xs) ≡ from_options (map f xs))
+begins_at f xs i d less none is =
+    before_is i (map f xs) none (inr (ap begins_options (get_or-map f xs i d [] less) ∙ is)) (let long = length-map xs f in omega (arith, long))
+
+pub begins_nowhere : {A : Type 0} (f : A → Word) (xs : List A) (i : ℕ) → length xs ≤ i → ((k : ℕ) → k < i → begins_options (get_or (map f xs) k []) ≡ false) → (take (length xs) (map f xs) ≡ before_options (map f xs)) × (drop (length xs) (map f xs) ≡ from_options (map f xs))
+begins_nowhere f xs i past none =
+    before_is (length xs) (map f xs) (λ k less. none k (omega arith)) (inl (sym (length-map xs f))) (let long = length-map xs f in omega (arith, long))
+
+-- one more word that does not begin the options
+pub one_more : {A : Type 0} (f : A → Word) (xs : List A) (i : ℕ) (d : A) → i < length xs → ((k : ℕ) → k < i → begins_options (get_or (map f xs) k []) ≡ false) → begins_options (f (get_or xs i d)) ≡ false → (k : ℕ) → k < i + 1 → begins_options (get_or (map f xs) k []) ≡ false
+one_more f xs i d less none is k below = by (cases_lt k i)
+  where
+    by : (k < i) ⊎ (i ≤ k) → begins_options (get_or (map f xs) k []) ≡ false
+    by (inl earlier) = none k earlier
+    by (inr here) = let same : k ≡ i = omega arith in ap (λ j. begins_options (get_or (map f xs) j [])) same ∙ (ap begins_options (get_or-map f xs i d [] less) ∙ is)
+
+-- ---- numbers of values
+
+-- digits count less than one more at the next place
+value_below : (digits : List ℕ) → EachIndex digits (λ k. IsDigit 16 (slice_index digits k)) → value_of 16 digits < 16 ^ length digits
+value_below [] each = omega arith
+value_below (b ∷ bs) each =
+    let p = 16 ^ length bs in
+    let rest : value_of 16 bs < p = value_below bs (λ k less. each (suc k) (omega arith)) in
+    let digit : digit_value b ≤ 15 = let below = (each zero (omega arith)).1 in omega (arith, below) in
+    let first : digit_value b * p ≤ 15 * p = mul-le-mul_right p digit in
+    rw (pow-succ' 16 (length bs)) (omega (arith, rest, first))
+
+-- 32 digits count less than 2 to the 128
+pub value_fits : (word : Word) (is : IsValue word) → is.number ≤ 340282366920938463463374607431768211455
+value_fits word is =
+    let digits = is.hex.0 in
+    let long : length word ≡ 2 + length digits = ap length is.hex.1 in
+    let below : value_of 16 digits < 16 ^ length digits = value_below digits is.hex.2.1 in
+    let most : 16 ^ length digits ≤ 16 ^ 32 = pow-le-pow_right (omega arith) (let short = is.short in omega (arith, short, long)) in
+    let number : is.number ≡ value_of 16 digits = is.hex.3 in
+    omega (arith, number, below, most)
+
+-- a word of 34 bytes at most is a value where its number is found
+pub value_iff : (word : Word) (found : Option ℕ) (b : Bool) → length word ≤ 34 → IfSome found (λ n. IsHex word n × (n ≤ 340282366920938463463374607431768211455)) → IfNone found ((n : ℕ) → IsHex word n → n ≤ 340282366920938463463374607431768211455 → ⊥) → IsTrue b ↔ IsSome found → IsTrue b ↔ IsValue word
+value_iff word (Some n) b short is none same = ((λ t. record { number = n; hex = is.0; short = short }), (λ v. same.1 tt))
+value_iff word None b short is none same = ((λ t. absurd (same.0 t)), (λ v. absurd (none v.number v.hex (value_fits word v))))
+
+-- each of the first words is a value
+pub values_more : {A : Type 0} (f : A → Word) (xs : List A) (i : ℕ) (d : A) → i < length xs → ((k : ℕ) → k < i → IsValue (get_or (map f xs) k [])) → IsValue (f (get_or xs i d)) → (k : ℕ) → k < i + 1 → IsValue (get_or (map f xs) k [])
+values_more f xs i d less before is k below = by (cases_lt k i)
+  where
+    by : (k < i) ⊎ (i ≤ k) → IsValue (get_or (map f xs) k [])
+    by (inl earlier) = before k earlier
+    by (inr here) = let same : i ≡ k = omega arith in let P : ℕ → Type 0 = λ j. IsValue (get_or (map f xs) j []) in subst P same (subst IsValue (sym (get_or-map f xs i d [] less)) is)
+
+-- and so all are
+pub values_all : {A : Type 0} (f : A → Word) (xs : List A) (i : ℕ) → length xs ≤ i → ((k : ℕ) → k < i → IsValue (get_or (map f xs) k [])) → All IsValue (map f xs)
+values_all f xs i past each = All-from_get_or IsValue (map f xs) [] (λ k less. each k (let long = length-map xs f in omega (arith, long)))
+
+-- or this one is none
+pub value_fails : {A : Type 0} (f : A → Word) (xs : List A) (i : ℕ) (d : A) → i < length xs → (IsValue (f (get_or xs i d)) → ⊥) → All IsValue (map f xs) → ⊥
+value_fails f xs i d less none all = none (subst IsValue (get_or-map f xs i d [] less) (all i [] (let long = length-map xs f in omega (arith, long))))

@@ -3,6 +3,7 @@ ghost use Rattle.std.specs.Prelude.{◌≡◌, ◌∷◌, map, string_bytes, IfS
 ghost use Rattle.job_words.specs.Command.{IsSpelled, job_of};
 
 use crate::operands::{over_net, over_pair, over_two_nets, over_values};
+use crate::words::{EvalWords, NetWords, PairWords};
 
 /// A command: the signature that it reads first, and what it does over it.
 #[derive(Clone, Copy, Debug)]
@@ -26,41 +27,6 @@ pub enum Task<'a> {
     Same(PairWords<'a>),
     /// `eval`: prints the output word's element where the input words have these.
     Eval(EvalWords<'a>),
-}
-
-/// The words of a command over one netlist.
-#[derive(Clone, Copy, Debug)]
-pub struct NetWords<'a> {
-    /// The name of the netlist's file, which is read as BLIF.
-    pub net: &'a str,
-    /// The most terms that a stage may have, 1 to 262,144.
-    pub terms: u32,
-    /// How many cycles come after the first, 0 to 4,096.
-    pub cycles: u32,
-}
-
-/// The words of a command over a netlist and a second file.
-#[derive(Clone, Copy, Debug)]
-pub struct PairWords<'a> {
-    /// The name of the netlist's file, which is read as BLIF.
-    pub net: &'a str,
-    /// The name of the second file.
-    pub other: &'a str,
-    /// The most terms that a stage may have, 1 to 262,144.
-    pub terms: u32,
-    /// How many cycles come after the first, 0 to 4,096.
-    pub cycles: u32,
-}
-
-/// The words of a command over a netlist and values.
-#[derive(Clone, Copy, Debug)]
-pub struct EvalWords<'a> {
-    /// The name of the netlist's file, which is read as BLIF.
-    pub net: &'a str,
-    /// The values, each `0x` and 1 to 32 hexadecimal digits.
-    pub values: &'a [String],
-    /// How many cycles come after the first, 0 to 4,096.
-    pub cycles: u32,
 }
 
 /// The command that the words spell.

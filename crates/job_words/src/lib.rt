@@ -14,8 +14,9 @@ mod specification_fault;
 mod stage_fault;
 mod stop;
 mod value_fault;
+mod words;
 
-pub use command::{Command, EvalWords, NetWords, PairWords, Task, read_words};
+pub use command::{Command, Task, read_words};
 pub use fault::{Fault, status_of, write_fault};
 pub use file_fault::FileFault;
 pub use laws::each_fault_is_one_line;
@@ -25,3 +26,4 @@ pub use specification_fault::SpecificationFault;
 pub use stage_fault::{StageFault, write_stage};
 pub use stop::Stop;
 pub use value_fault::ValueFault;
+pub use words::{EvalWords, NetWords, PairWords};

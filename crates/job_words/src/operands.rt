@@ -1,10 +1,10 @@
 //! Operands and options: the words behind the name of a command.
 ghost use Rattle.std.specs.Prelude.{◌≡◌, ◌∷◌, ◌≤◌, ◌↔◌, All, drop, length, map, take, string_bytes, IsTrue, IfSome, IfNone};
 ghost use Rattle.job_words.specs.Operands.{IsOperand, IsNetlistName, IsValue, AreValues, IsOverNet, IsOverPair, IsOverTwoNets, IsOverValues};
-ghost use Rattle.job_words.specs.private.OptionPlace.{before_options, from_options};
+ghost use Rattle.job_words.specs.private.OptionPlace.{begins_options as begins, before_options, from_options};
 
-use crate::command::{EvalWords, NetWords, PairWords};
 use crate::options::{read_cycles, read_options};
+use crate::words::{EvalWords, NetWords, PairWords};
 use text_core::read_hex;
 
 /// A signature, and a netlist with the options behind it.
@@ -137,10 +137,11 @@ fn with_values<'a>(
 fn read_values<'a>(words: &'a [String]) -> Option<(&'a [String], u32)>
     ensures found { IfSome result (λ r. AreValues (map string_bytes words.now) (map string_bytes r.0.now) r.1) }
     ensures none { IfNone result ((vs c : _) → AreValues (map string_bytes words.now) vs c → ⊥) }
+    ensures few { IfSome result (λ r. r.1 ≤ 4096) }
 {
     let end = options_begin(words);
     let values = &words[..end];
-    if !values.iter().all(|word| is_value(word.as_str())) {
+    if !are_values(values) {
         return None;
     }
     match read_cycles(&words[end..]) {
@@ -155,12 +156,31 @@ fn options_begin(words: &[String]) -> usize
     ensures before { take result (map string_bytes words.now) ≡ before_options (map string_bytes words.now) }
     ensures behind { drop result (map string_bytes words.now) ≡ from_options (map string_bytes words.now) }
 {
-    for (i, word) in words.iter().enumerate() {
-        if word.as_str().starts_with("--") {
+    for i in 0..words.len() {
+        if begins_options(words[i].as_str()) {
             return i;
         }
     }
     words.len()
+}
+
+// Whether a word begins the options.
+fn begins_options(word: &str) -> bool
+    ensures { result ≡ begins word.now }
+{
+    word.starts_with("--")
+}
+
+// Whether each word is a value.
+fn are_values(words: &[String]) -> bool
+    ensures { IsTrue result ↔ All IsValue (map string_bytes words.now) }
+{
+    for i in 0..words.len() {
+        if !is_value(words[i].as_str()) {
+            return false;
+        }
+    }
+    true
 }
 
 // Whether a word is a value.

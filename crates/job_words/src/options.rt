@@ -1,5 +1,5 @@
 //! Options: what stands behind the operands of a command.
-ghost use Rattle.std.specs.Prelude.{◌≡◌, [], ◌∷◌, map, string_bytes, IfSome, IfNone};
+ghost use Rattle.std.specs.Prelude.{◌≡◌, ◌≤◌, [], ◌∷◌, map, string_bytes, IfSome, IfNone};
 ghost use Rattle.job_words.specs.Operands.{IsTermCount, IsCycleCount, IsCyclesOption, AreOptions};
 
 use text_core::read_decimal;
@@ -12,6 +12,7 @@ const CYCLES: u32 = 0;
 pub(crate) fn read_options(options: &[String]) -> Option<(u32, u32)>
     ensures found { IfSome result (λ r. AreOptions (map string_bytes options.now) r.0 r.1) }
     ensures none { IfNone result ((terms cycles : _) → AreOptions (map string_bytes options.now) terms cycles → ⊥) }
+    ensures few { IfSome result (λ r. r.1 ≤ 4096) }
 {
     match options {
         [] => Some((TERMS, CYCLES)),
@@ -30,6 +31,7 @@ pub(crate) fn read_options(options: &[String]) -> Option<(u32, u32)>
 fn of_option(name: &str, number: &str) -> Option<(u32, u32)>
     ensures found { IfSome result (λ r. AreOptions (name.now ∷ number.now ∷ []) r.0 r.1) }
     ensures none { IfNone result ((terms cycles : _) → AreOptions (name.now ∷ number.now ∷ []) terms cycles → ⊥) }
+    ensures few { IfSome result (λ r. r.1 ≤ 4096) }
 {
     match name {
         "--terms" => match term_count(number) {
@@ -48,6 +50,7 @@ fn of_option(name: &str, number: &str) -> Option<(u32, u32)>
 fn of_two(name: &str, number: &str, other: &str, second: &str) -> Option<(u32, u32)>
     ensures found { IfSome result (λ r. AreOptions (name.now ∷ number.now ∷ other.now ∷ second.now ∷ []) r.0 r.1) }
     ensures none { IfNone result ((terms cycles : _) → AreOptions (name.now ∷ number.now ∷ other.now ∷ second.now ∷ []) terms cycles → ⊥) }
+    ensures few { IfSome result (λ r. r.1 ≤ 4096) }
 {
     if name == "--terms" && other == "--cycles" {
         both(number, second)
@@ -62,6 +65,7 @@ fn of_two(name: &str, number: &str, other: &str, second: &str) -> Option<(u32, u
 fn both(terms: &str, cycles: &str) -> Option<(u32, u32)>
     ensures found { IfSome result (λ r. IsTermCount terms.now r.0 × IsCycleCount cycles.now r.1) }
     ensures none { IfNone result ((t c : _) → IsTermCount terms.now t → IsCycleCount cycles.now c → ⊥) }
+    ensures few { IfSome result (λ r. r.1 ≤ 4096) }
 {
     match (term_count(terms), cycle_count(cycles)) {
         (Some(terms), Some(cycles)) => Some((terms, cycles)),
@@ -73,6 +77,7 @@ fn both(terms: &str, cycles: &str) -> Option<(u32, u32)>
 pub(crate) fn read_cycles(options: &[String]) -> Option<u32>
     ensures found { IfSome result (λ cycles. IsCyclesOption (map string_bytes options.now) cycles) }
     ensures none { IfNone result ((cycles : _) → IsCyclesOption (map string_bytes options.now) cycles → ⊥) }
+    ensures few { IfSome result (λ cycles. cycles ≤ 4096) }
 {
     match options {
         [] => Some(CYCLES),
@@ -85,6 +90,7 @@ pub(crate) fn read_cycles(options: &[String]) -> Option<u32>
 fn of_cycles(name: &str, number: &str) -> Option<u32>
     ensures found { IfSome result (λ cycles. IsCyclesOption (name.now ∷ number.now ∷ []) cycles) }
     ensures none { IfNone result ((cycles : _) → IsCyclesOption (name.now ∷ number.now ∷ []) cycles → ⊥) }
+    ensures few { IfSome result (λ cycles. cycles ≤ 4096) }
 {
     match name {
         "--cycles" => cycle_count(number),
@@ -111,6 +117,7 @@ fn term_count(number: &str) -> Option<u32>
 fn cycle_count(number: &str) -> Option<u32>
     ensures found { IfSome result (λ cycles. IsCycleCount number.now cycles) }
     ensures none { IfNone result ((cycles : _) → IsCycleCount number.now cycles → ⊥) }
+    ensures few { IfSome result (λ cycles. cycles ≤ 4096) }
 {
     let digits = number.as_bytes();
     if digits.len() != 1 && digits.starts_with(b"0") {

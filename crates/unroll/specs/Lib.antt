@@ -1,0 +1,5 @@
+pub mod Places
+pub mod Sources
+pub mod Gates
+pub mod Nets
+pub mod Unrolled
