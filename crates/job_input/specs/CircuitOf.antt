@@ -11,7 +11,7 @@ use Rattle.job_words.specs.declared.fault.Fault.{Fault}
 use Rattle.job_words.specs.declared.fault.Fault.TheVariants.{Netlist}
 use Rattle.job_words.specs.declared.netlist_fault.NetlistFault.{NetlistFault}
 use Rattle.job_words.specs.declared.netlist_fault.NetlistFault.TheVariants.{TooManyNets, TooManyGates}
-use Rattle.job_input.specs.NetlistOf.{NetlistIn}
+use Rattle.job_input.specs.NetlistOf.{BoundNetOf, NetlistIn, NetlistText}
 
 -- the circuit of a net with bound words and feeds, over so many cycles after the first
 unfoldable pub all_cycles : BoundNet → ℕ → BoundNet
@@ -33,3 +33,9 @@ abbrev pub CircuitIn : Option Files → SignatureValue → Word → ℕ → Outc
 CircuitIn held signature file cycles = do
   bound ← NetlistIn held signature file
   UnrolledIn file bound cycles
+
+-- the circuit of a netlist's text: the text is taken, and then its cycles are unrolled
+abbrev pub CircuitOfText : SignatureValue → NetlistText → ℕ → Outcome NetlistFault BoundNet
+CircuitOfText signature text cycles = do
+  netlist ← BoundNetOf signature text
+  CircuitOf netlist cycles
