@@ -25,8 +25,8 @@ use Rattle.gf_abs.specs.Headline.{AreOneFunction, HasOutput, IsInItsWords, IsPri
 use Rattle.gf_abs.specs.Reply.{Reply}
 use Rattle.gf_abs.specs.commands.Abstract.{taken_circuit}
 use Rattle.gf_abs.specs.commands.Check.{IsSpecified}
-use Rattle.gf_abs.proofs.TakenLemmas.{netlist_bases, netlist_bound_to, netlist_sound}
-use Rattle.gf_abs.proofs.UnrollingLemmas.{unrolled_output}
+use Rattle.gf_abs.proofs.TakenLemmas.{netlist_bases, netlist_bits, netlist_bound_to, netlist_sound}
+use Rattle.gf_abs.proofs.UnrollingLemmas.{IsSmall, unrolled_output}
 
 -- one function over the same words
 pub record IsOneWith (circuit job : Circuit) : Type 0 where
@@ -64,16 +64,16 @@ same_bases (u ∷ us) (v ∷ vs) (b ∷ bs) e =
     ∙ before v.role u.nets v.nets b (words_of us bs) (job_words_of vs bs) (same_bases us vs bs (ap rest_roles e))
 
 -- all cycles as one circuit are one with the job
-cycles_with : (setting : SettingValue) (netlist : BoundNet) (cycles : ℕ) → IsSoundSetting setting → (text : NetlistText) → BoundNetOf setting.signature text (Ok netlist) → IsOneWith (taken_circuit setting (all_cycles netlist cycles)) (job_of setting netlist cycles)
-cycles_with setting netlist cycles sound text is = record {
+cycles_with : (setting : SettingValue) (netlist : BoundNet) (cycles : ℕ) → IsSmall netlist cycles → IsSoundSetting setting → (text : NetlistText) → BoundNetOf setting.signature text (Ok netlist) → IsOneWith (taken_circuit setting (all_cycles netlist cycles)) (job_of setting netlist cycles)
+cycles_with setting netlist cycles small sound text is = record {
   alike = record { k = refl; product = refl; bases = same_bases (all_cycles netlist cycles).bound.words netlist.bound.words setting.bases (keeps_words netlist cycles).roles };
-  output = unrolled_output setting.k setting.product netlist setting.bases cycles sound.ring sound.field (netlist_sound setting.signature text netlist is) (netlist_bound_to setting netlist sound text is) (netlist_bases setting netlist sound text is);
+  output = unrolled_output setting.k setting.product netlist setting.bases cycles (netlist_bits setting netlist sound text is) sound.ring sound.field small (netlist_sound setting.signature text netlist is) (netlist_bound_to setting netlist sound text is) (netlist_bases setting netlist sound text is);
 }
 
 pub with_job : (setting : SettingValue) (netlist circuit : BoundNet) (cycles : ℕ) → IsSoundSetting setting → (text : NetlistText) → BoundNetOf setting.signature text (Ok netlist) → CircuitOf netlist cycles (Ok circuit) → IsOneWith (taken_circuit setting circuit) (job_of setting netlist cycles)
 with_job setting netlist circuit cycles sound text is of =
     let P : BoundNet → Type 0 = λ c. IsOneWith (taken_circuit setting c) (job_of setting netlist cycles) in
-    subst P (sym of.0) (cycles_with setting netlist cycles sound text is)
+    subst P (sym of.0) (cycles_with setting netlist cycles (record { few = of.1; small = of.2 }) sound text is)
 
 -- ---- what is said of one is said of the other
 

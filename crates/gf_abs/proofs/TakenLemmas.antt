@@ -43,7 +43,7 @@ module _ (setting : SettingValue) (netlist : BoundNet) (sound : IsSoundSetting s
   pub netlist_bound_to : IsBoundTo netlist.net netlist.bound
   netlist_bound_to = bound_to netlist.net setting.k setting.signature.words setting.signature.feeds netlist.bound (netlist_sound setting.signature text netlist is) sound.words sound.feeds (netlist_bound setting.signature text netlist is)
 
-  netlist_bits : netlist.bound.k ≡ setting.k
+  pub netlist_bits : netlist.bound.k ≡ setting.k
   netlist_bits = binding_bits netlist.net setting.signature.words setting.signature.feeds netlist.bound (netlist_bound setting.signature text netlist is) ∙ first_long setting.k setting.signature.words sound.words
 
   pub netlist_bases : HaveBases setting.k netlist.bound.words setting.bases
@@ -65,7 +65,7 @@ module _ (setting : SettingValue) (circuit : BoundNet) (sound : IsSoundSetting s
   one_cycle : IsSound circuit.net × IsOneCycle circuit.net circuit.bound
   one_cycle =
       let P : BoundNet → Type 0 = λ c. IsSound c.net × IsOneCycle c.net c.bound in
-      subst P (sym is.2.0) (unrolled_one_cycle is.0 cycles (netlist_sound setting.signature text is.0 is.1) (netlist_bound_to setting is.0 sound text is.1))
+      subst P (sym is.2.0) (unrolled_one_cycle is.0 cycles (record { few = is.2.1; small = is.2.2 }) (netlist_sound setting.signature text is.0 is.1) (netlist_bound_to setting is.0 sound text is.1))
 
   pub circuit_sound : IsSound circuit.net
   circuit_sound = one_cycle.0

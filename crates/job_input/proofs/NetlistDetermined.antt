@@ -1,5 +1,5 @@
 -- At most one net with its binding, or one fault, comes of a netlist.
-use Rattle.std.proofs.Common.{◌∙◌, ap, sym, List, Ok, Err}
+use Rattle.std.proofs.Common.{List}
 use Rattle.text_core.specs.Outcome.{Determined, Exactly, Within}
 use Rattle.text_core.proofs.DeterminedLemmas.{determined_bind}
 use Rattle.net_core.specs.NetList.{NetList}
@@ -15,7 +15,7 @@ use Rattle.net_words.specs.declared.binding.BindFault.{BindFault}
 use Rattle.net_words.specs.declared.feed.FeedText.{FeedText}
 use Rattle.net_words.specs.declared.word.WordText.{WordText}
 use Rattle.net_signature.specs.Signature.{SignatureValue}
-use Rattle.net_words.proofs.BindDetermined.{binding_determined}
+use Rattle.net_words.proofs.BindDetermined.{binding_determined, determined_exactly}
 use Rattle.job_input.specs.NetlistOf.{Aiger, Blif, BoundNetOf, NetOf, NetlistText, WordsBound, of_aiger, of_binding, of_model, of_text}
 use Rattle.job_words.specs.declared.netlist_fault.NetlistFault.{NetlistFault}
 use Rattle.job_words.specs.declared.netlist_fault.NetlistFault.TheVariants as netlist
@@ -26,15 +26,9 @@ net_determined (Blif text) =
     (λ design. determined_within of_model (Flattens design 0) (flattens_once design 0))
 net_determined (Aiger text) = determined_within of_aiger (AigerNet text) (aiger_determined text)
 
-bound_determined : (bound : BoundNet) → Determined {F = NetlistFault} (Exactly bound)
-bound_determined bound (Ok a) (Ok b) h k = ap Ok (h ∙ sym k)
-bound_determined bound (Ok a) (Err e) h k = absurd k
-bound_determined bound (Err d) (Ok b) h k = absurd h
-bound_determined bound (Err d) (Err e) h k = absurd h
-
 words_determined : (words : List WordText) (feeds : List FeedText) (net : NetList) → Determined (WordsBound words feeds net)
 words_determined words feeds net =
-    determined_bind (Within named (BindingOf net words feeds)) (λ bound. Exactly (with_words bound)) (determined_within named (BindingOf net words feeds) (binding_determined net words feeds)) (λ bound. bound_determined (with_words bound))
+    determined_bind (Within named (BindingOf net words feeds)) (λ bound. Exactly (with_words bound)) (determined_within named (BindingOf net words feeds) (binding_determined net words feeds)) (λ bound. determined_exactly (with_words bound))
   where
     named : BindFault → NetlistFault
     named fault = netlist.Binding (of_binding words net fault)

@@ -1,9 +1,9 @@
 -- Values, and the options behind them.
-use Rattle.std.proofs.Common.{◌≡◌, ◌⊎◌, ◌∙◌, ap, sym, subst, inl, inr, refl, ℕ, zero, suc, ◌+◌, ◌*◌, ◌^◌, ◌<◌, ◌≤◌, Bool, true, false, cond, List, [], ◌∷◌, ◌++◌, length, map, take, drop, get_or, codes, Option, None, Some, arith}
+use Rattle.std.proofs.Common.{◌≡◌, ◌⊎◌, ◌∙◌, ap, sym, subst, inl, inr, refl, ℕ, zero, suc, ◌+◌, ◌-◌, ◌*◌, ◌^◌, ◌<◌, ◌≤◌, Bool, true, false, cond, List, [], ◌∷◌, ◌++◌, length, map, take, drop, get_or, codes, Option, None, Some, arith}
 use Rattle.std.specs.Prelude.{◌↔◌, All, EachIndex, IfSome, IfNone, IsSome, IsTrue, slice_index}
 use Rattle.std.proofs.Math.Nat.{mul-le-mul_right, pow-le-pow_right, pow-succ'}
 use Rattle.std.proofs.lemmas.Bool.{cases_lt}
-use Rattle.std.proofs.lemmas.List.{get_or-map, length-map}
+use Rattle.std.proofs.lemmas.List.{drop-map, get_or-map, length-drop, length-map, take-append-drop, take-map, take_all}
 use Rattle.std.proofs.lemmas.List.Elements.{All-from_get_or}
 use Rattle.text_core.specs.Numbers.{IsDigit, IsHex, digit_value, value_of}
 use Rattle.job_words.specs.Operands.{Word, AreValues, IsValue, IsCyclesOption}
@@ -90,7 +90,7 @@ value_below (b ∷ bs) each =
 pub value_fits : (word : Word) (is : IsValue word) → is.number ≤ 340282366920938463463374607431768211455
 value_fits word is =
     let digits = is.hex.0 in
-    let long : length word ≡ 2 + length digits = ap length is.hex.1 in
+    let long : length word ≡ suc (suc (length digits)) = ap length is.hex.1 in
     let below : value_of 16 digits < 16 ^ length digits = value_below digits is.hex.2.1 in
     let most : 16 ^ length digits ≤ 16 ^ 32 = pow-le-pow_right (omega arith) (let short = is.short in omega (arith, short, long)) in
     let number : is.number ≡ value_of 16 digits = is.hex.3 in
@@ -98,8 +98,8 @@ value_fits word is =
 
 -- a word of 34 bytes at most is a value where its number is found
 pub value_iff : (word : Word) (found : Option ℕ) (b : Bool) → length word ≤ 34 → IfSome found (λ n. IsHex word n × (n ≤ 340282366920938463463374607431768211455)) → IfNone found ((n : ℕ) → IsHex word n → n ≤ 340282366920938463463374607431768211455 → ⊥) → IsTrue b ↔ IsSome found → IsTrue b ↔ IsValue word
-value_iff word (Some n) b short is none same = ((λ t. record { number = n; hex = is.0; short = short }), (λ v. same.1 tt))
-value_iff word None b short is none same = ((λ t. absurd (same.0 t)), (λ v. absurd (none v.number v.hex (value_fits word v))))
+value_iff word (Some n) b short is none same = ((λ t. record { number = n; hex = is.0; short = short }), (λ v. same.1 refl))
+value_iff word None b short is none same = ((λ t. absurd (let wrong = same.0 t in cc)), (λ v. absurd (none v.number v.hex (value_fits word v))))
 
 -- each of the first words is a value
 pub values_more : {A : Type 0} (f : A → Word) (xs : List A) (i : ℕ) (d : A) → i < length xs → ((k : ℕ) → k < i → IsValue (get_or (map f xs) k [])) → IsValue (f (get_or xs i d)) → (k : ℕ) → k < i + 1 → IsValue (get_or (map f xs) k [])
@@ -116,3 +116,31 @@ values_all f xs i past each = All-from_get_or IsValue (map f xs) [] (λ k less. 
 -- or this one is none
 pub value_fails : {A : Type 0} (f : A → Word) (xs : List A) (i : ℕ) (d : A) → i < length xs → (IsValue (f (get_or xs i d)) → ⊥) → All IsValue (map f xs) → ⊥
 value_fails f xs i d less none all = none (subst IsValue (get_or-map f xs i d [] less) (all i [] (let long = length-map xs f in omega (arith, long))))
+
+-- ---- values and the options behind them
+
+module _ {A : Type 0} (f : A → Word) (xs : List A) (n : ℕ) where
+  -- words before the options that are no values
+  pub not_values : take n (map f xs) ≡ before_options (map f xs) → (All IsValue (map f (take n xs)) → ⊥) → (vs : List Word) (c : ℕ) → AreValues (map f xs) vs c → ⊥
+  not_values before none vs c is =
+      let P : List Word → Type 0 = λ ws. All IsValue ws in
+      none (subst P (sym (values_back (map f xs) vs c is).0 ∙ (sym before ∙ take-map f n xs)) is.values_are)
+
+  behind_is : take (length xs - n) (drop n xs) ≡ drop n xs
+  behind_is = let long = length-drop n xs in take_all (length xs - n) (drop n xs) (omega (arith, long))
+
+  -- words behind them that are no option
+  pub no_cycles : drop n (map f xs) ≡ from_options (map f xs) → ((c : ℕ) → IsCyclesOption (map f (take (length xs - n) (drop n xs))) c → ⊥) → (vs : List Word) (c : ℕ) → AreValues (map f xs) vs c → ⊥
+  no_cycles behind none vs c is =
+      let P : List Word → Type 0 = λ ws. IsCyclesOption ws c in
+      none c (subst P (sym (values_back (map f xs) vs c is).1 ∙ (sym behind ∙ (drop-map f n xs ∙ ap (λ (ys : List A). map f ys) (sym behind_is)))) is.set)
+
+  -- values and an option
+  pub are_read : (c : ℕ) → All IsValue (map f (take n xs)) → IsCyclesOption (map f (take (length xs - n) (drop n xs))) c → AreValues (map f xs) (map f (take n xs)) c
+  are_read c all set =
+      let P : List Word → Type 0 = λ ws. IsCyclesOption ws c in record {
+        options = drop n (map f xs);
+        words_are = sym (take-append-drop n (map f xs)) ∙ ap (λ (ws : List Word). ws ++ drop n (map f xs)) (take-map f n xs);
+        values_are = all;
+        set = subst P (ap (λ (ys : List A). map f ys) behind_is ∙ sym (drop-map f n xs)) set;
+      }
