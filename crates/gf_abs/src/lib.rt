@@ -2,6 +2,7 @@
 //! `run` carries the contract of the whole; each command is a file of `commands`, and one line of the table `ActionAnswer`.
 #![tactic(auto)]
 
+mod circuit_parts;
 mod commands;
 mod cuts;
 mod differing;
@@ -11,6 +12,7 @@ mod output;
 mod second_stages;
 mod stages;
 mod top;
+mod values;
 mod words;
 
 pub use headline::{
@@ -18,7 +20,6 @@ pub use headline::{
     check_accepts_exactly_if_equal, check_prints_the_differing_input, check_prints_the_output,
     each_fault_is_one_line, each_taken_circuit_is_well_formed,
     equal_bytes_exactly_if_equal_functions, eval_prints_the_output, one_answer_or_fault,
-    same_exactly_if_equal_functions,
-    same_prints_the_differing_input,
+    same_exactly_if_equal_functions, same_prints_the_differing_input,
 };
 pub use top::{run, run_surely};
