@@ -92,7 +92,8 @@ value_fits word is =
     let digits = is.hex.0 in
     let long : length word ≡ suc (suc (length digits)) = ap length is.hex.1 in
     let below : value_of 16 digits < 16 ^ length digits = value_below digits is.hex.2.1 in
-    let most : 16 ^ length digits ≤ 16 ^ 32 = pow-le-pow_right (omega arith) (let short = is.short in omega (arith, short, long)) in
+    let short : length digits ≤ 32 = let whole = is.short in omega (arith, whole, long) in
+    let most : 16 ^ length digits ≤ 16 ^ 32 = pow-le-pow_right {n = 16} (omega arith) {i = length digits} {j = 32} short in
     let number : is.number ≡ value_of 16 digits = is.hex.3 in
     omega (arith, number, below, most)
 

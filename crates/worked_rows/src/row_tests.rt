@@ -2,8 +2,8 @@
 use crate::program::answer;
 use crate::row::{Row, changed};
 use crate::{
-    abstract_rows, aiger_rows, bits_rows, check_rows, file_rows, netlist_rows, same_rows,
-    signature_rows, stage_rows, word_rows,
+    abstract_rows, aiger_rows, bits_rows, check_rows, cycle_rows, file_rows, netlist_rows,
+    same_rows, signature_rows, stage_rows, word_rows,
 };
 use std::alloc::Global;
 use std::process::Abort;
@@ -160,4 +160,19 @@ fn aiger_rows_1(rt: HostRuntime) -> Result<(), Fail> {
 #[test]
 fn aiger_rows_2(rt: HostRuntime) -> Result<(), Fail> {
     check(&rt, rt.alloc(), &aiger_rows::ROWS_2)
+}
+
+#[test]
+fn cycle_rows_1(rt: HostRuntime) -> Result<(), Fail> {
+    check(&rt, rt.alloc(), &cycle_rows::ROWS_1)
+}
+
+#[test]
+fn cycle_rows_2(rt: HostRuntime) -> Result<(), Fail> {
+    check(&rt, rt.alloc(), &cycle_rows::ROWS_2)
+}
+
+#[test]
+fn cycle_rows_3(rt: HostRuntime) -> Result<(), Fail> {
+    check(&rt, rt.alloc(), &cycle_rows::ROWS_3)
 }
