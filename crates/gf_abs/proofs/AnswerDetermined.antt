@@ -4,20 +4,23 @@ use Rattle.std.specs.FinMap.{get}
 use Rattle.text_core.specs.Outcome.{Determined, Within}
 use Rattle.job_io.specs.Shelf.{Files}
 use Rattle.net_flat.proofs.FlatDetermined.{determined_after, determined_within}
-use Rattle.job_words.specs.declared.fault.Fault.TheVariants.{File, Signature, Netlist, Specification}
+use Rattle.job_words.specs.declared.fault.Fault.TheVariants.{File, Signature, Netlist, Specification, Value}
 use Rattle.job_words.specs.declared.file_fault.FileFault.{FileFault}
 use Rattle.job_words.specs.declared.file_fault.FileFault.TheVariants.{Absent, TooLong}
 use Rattle.job_words.specs.Operands.{Word}
-use Rattle.job_words.specs.Command.{Action, Bits, Abstract, Check, Same, Job}
+use Rattle.job_words.specs.Command.{Action, Bits, Abstract, Check, Same, Eval, Job}
 use Rattle.job_words.proofs.OneCommandLemmas.{one_job}
 use Rattle.job_input.specs.File.{Read}
 use Rattle.job_input.specs.Labelling.{labels_of}
-use Rattle.job_input.specs.NetlistOf.{BoundNetOf, CircuitIn, by_ending}
+use Rattle.job_input.specs.CircuitOf.{CircuitIn, CircuitOf, UnrolledIn}
+use Rattle.job_input.specs.NetlistOf.{BoundNetOf, NetlistIn, by_ending}
 use Rattle.job_input.specs.SettingOf.{SignedOf, SignedValue, SettingWith}
 use Rattle.job_input.specs.SettingSound.{IsSoundSetting}
 use Rattle.job_input.specs.SettingValue.{SettingValue}
 use Rattle.job_input.specs.SignedIn.{SignedIn}
 use Rattle.job_input.specs.SpecificationIn.{SpecificationOf, SpecificationIn}
+use Rattle.net_words.specs.Binding.{BoundNet}
+use Rattle.job_input.proofs.CycleLemmas.{circuit_determined}
 use Rattle.job_input.proofs.NetlistDetermined.{netlist_determined}
 use Rattle.job_input.proofs.SettingDetermined.{signed_determined, with_determined}
 use Rattle.job_input.proofs.SettingSoundLemmas.{setting_sound}
@@ -25,9 +28,12 @@ use Rattle.job_input.proofs.SpecificationDetermined.{specification_determined}
 use Rattle.gf_abs.specs.Answer.{Spelled, ActionAnswer, SignedAnswer, JobAnswer, Answer}
 use Rattle.gf_abs.specs.commands.Bits.{BitsReply}
 use Rattle.gf_abs.specs.commands.Abstract.{AbstractReply}
-use Rattle.gf_abs.specs.commands.Check.{CheckReply, CheckOver}
-use Rattle.gf_abs.specs.commands.Same.{SameReply, SameBeside}
+use Rattle.gf_abs.specs.commands.Check.{CheckReply, CheckUnrolled, CheckOver}
+use Rattle.gf_abs.specs.commands.Eval.{EvalAt, EvalOver, EvalReply}
+use Rattle.gf_abs.specs.commands.Same.{SameReply, SameSecond, SameUnrolled, SameBeside}
+use Rattle.gf_abs.specs.Values.{ValuesOf}
 use Rattle.gf_abs.proofs.CheckDetermined.{check_determined}
+use Rattle.gf_abs.proofs.EvalDetermined.{eval_determined, values_determined}
 use Rattle.gf_abs.proofs.ReplyDetermined.{bits_determined, abstract_determined}
 use Rattle.gf_abs.proofs.SameDetermined.{same_determined}
 
@@ -79,10 +85,16 @@ module _ (files : Files) where
   file_determined : (name : Word) → Determined (Within File (Read (Some files) name))
   file_determined name = determined_within File (Read (Some files) name) (read_determined files name)
 
-  circuit_determined : (setting : SettingValue) (net : Word) → Determined (CircuitIn (Some files) setting.signature net)
-  circuit_determined setting net =
+  file_netlist_determined : (setting : SettingValue) (net : Word) → Determined (NetlistIn (Some files) setting.signature net)
+  file_netlist_determined setting net =
       determined_after (Within File (Read (Some files) net)) (λ text. Within (Netlist net) (BoundNetOf setting.signature (by_ending net text))) (file_determined net)
       (λ text read. determined_within (Netlist net) (BoundNetOf setting.signature (by_ending net text)) (netlist_determined setting.signature (by_ending net text)))
+
+  unrolled_determined : (net : Word) (netlist : BoundNet) (cycles : ℕ) → Determined (UnrolledIn net netlist cycles)
+  unrolled_determined net netlist cycles = determined_within (Netlist net) (CircuitOf netlist cycles) (circuit_determined netlist cycles)
+
+  file_circuit_determined : (setting : SettingValue) (net : Word) (cycles : ℕ) → Determined (CircuitIn (Some files) setting.signature net cycles)
+  file_circuit_determined setting net cycles = determined_after (NetlistIn (Some files) setting.signature net) (λ netlist. UnrolledIn net netlist cycles) (file_netlist_determined setting net) (λ netlist taken. unrolled_determined net netlist cycles)
 
   pub said_determined : (setting : SettingValue) (file : Word) → Determined (SpecificationIn (Some files) (labels_of setting.k setting.signature.words) setting.k setting.product file)
   said_determined setting file =
@@ -91,18 +103,29 @@ module _ (files : Files) where
       (λ bytes read. determined_within Specification (SpecificationOf labels setting.k setting.product bytes) (specification_determined labels setting.k setting.product bytes))
 
   action_determined : (setting : SettingValue) (action : Action) → IsSoundSetting setting → Determined (ActionAnswer (Some files) setting action)
-  action_determined setting (Bits net terms) sound =
-      determined_after (CircuitIn (Some files) setting.signature net) (λ circuit. BitsReply setting circuit terms) (circuit_determined setting net) (λ circuit taken. bits_determined setting circuit terms sound (by_ending net taken.0) taken.2)
-  action_determined setting (Abstract net terms) sound =
-      determined_after (CircuitIn (Some files) setting.signature net) (λ circuit. AbstractReply setting circuit terms) (circuit_determined setting net) (λ circuit taken. abstract_determined setting circuit terms sound (by_ending net taken.0) taken.2)
-  action_determined setting (Check net file terms) sound =
-      determined_after (CircuitIn (Some files) setting.signature net) (λ circuit. CheckOver (Some files) setting circuit file terms) (circuit_determined setting net) (λ circuit taken.
-      determined_after (SpecificationIn (Some files) (labels_of setting.k setting.signature.words) setting.k setting.product file) (λ spec. CheckReply setting circuit spec terms) (said_determined setting file) (λ spec said.
-      check_determined setting circuit spec terms sound (by_ending net taken.0) taken.2))
-  action_determined setting (Same net other terms) sound =
-      determined_after (CircuitIn (Some files) setting.signature net) (λ circuit. SameBeside (Some files) setting circuit other terms) (circuit_determined setting net) (λ circuit taken.
-      determined_after (CircuitIn (Some files) setting.signature other) (λ second. SameReply setting circuit second terms) (circuit_determined setting other) (λ second more.
-      same_determined setting circuit second terms sound (by_ending net taken.0) taken.2 (by_ending other more.0) more.2))
+  action_determined setting (Bits net terms cycles) sound =
+      determined_after (CircuitIn (Some files) setting.signature net cycles) (λ circuit. BitsReply setting circuit terms) (file_circuit_determined setting net cycles)
+      (λ circuit of. bits_determined setting circuit terms sound (by_ending net of.1.0) cycles (of.0, of.1.2, of.2))
+  action_determined setting (Abstract net terms cycles) sound =
+      determined_after (CircuitIn (Some files) setting.signature net cycles) (λ circuit. AbstractReply setting circuit terms) (file_circuit_determined setting net cycles)
+      (λ circuit of. abstract_determined setting circuit terms sound (by_ending net of.1.0) cycles (of.0, of.1.2, of.2))
+  action_determined setting (Check net file terms cycles) sound =
+      determined_after (NetlistIn (Some files) setting.signature net) (λ netlist. CheckOver (Some files) setting net netlist file terms cycles) (file_netlist_determined setting net) (λ netlist taken.
+      determined_after (SpecificationIn (Some files) (labels_of setting.k setting.signature.words) setting.k setting.product file) (λ spec. CheckUnrolled setting net netlist spec terms cycles) (said_determined setting file) (λ spec said.
+      determined_after (UnrolledIn net netlist cycles) (λ circuit. CheckReply setting circuit spec terms) (unrolled_determined net netlist cycles) (λ circuit of.
+      check_determined setting circuit spec terms sound (by_ending net taken.0) cycles (netlist, taken.2, of))))
+  action_determined setting (Same net other terms cycles) sound =
+      determined_after (NetlistIn (Some files) setting.signature net) (λ netlist. SameBeside (Some files) setting net netlist other terms cycles) (file_netlist_determined setting net) (λ netlist taken.
+      determined_after (NetlistIn (Some files) setting.signature other) (λ second. SameUnrolled setting net netlist other second terms cycles) (file_netlist_determined setting other) (λ second taken'.
+      determined_after (UnrolledIn net netlist cycles) (λ circuit. SameSecond setting circuit other second terms cycles) (unrolled_determined net netlist cycles) (λ circuit of.
+      determined_after (UnrolledIn other second cycles) (λ more. SameReply setting circuit more terms) (unrolled_determined other second cycles) (λ more of'.
+      same_determined setting circuit more terms sound (by_ending net taken.0) cycles (netlist, taken.2, of) (by_ending other taken'.0) cycles (second, taken'.2, of')))))
+  action_determined setting (Eval net values cycles) sound =
+      let count = length (labels_of setting.k setting.signature.words).words in
+      determined_after (NetlistIn (Some files) setting.signature net) (λ netlist. EvalOver setting net netlist values cycles) (file_netlist_determined setting net) (λ netlist taken.
+      determined_after (Within Value (ValuesOf setting.k count values)) (λ xs. EvalAt setting net netlist xs cycles) (determined_within Value (ValuesOf setting.k count values) (values_determined setting.k count values)) (λ xs are.
+      determined_after (UnrolledIn net netlist cycles) (λ circuit. EvalReply setting circuit xs) (unrolled_determined net netlist cycles) (λ circuit of.
+      eval_determined setting circuit xs sound (by_ending net taken.0) cycles (netlist, taken.2, of))))
 
   signed_answer_determined : (text : List ℕ) (signed : SignedValue) (action : Action) → SignedOf text (Ok signed) → Determined (SignedAnswer (Some files) signed action)
   signed_answer_determined text signed action is =

@@ -3,7 +3,7 @@ use Rattle.std.proofs.Common.{◌≡◌, ◌⊎◌, ◌∙◌, ap, sym, refl, su
 use Rattle.job_io.specs.Shelf.{Files}
 use Rattle.net_words.specs.Binding.{BoundNet}
 use Rattle.poly_mixed.specs.Polynomial.{Terms}
-use Rattle.circuit_model.specs.Circuit.{IsInput}
+use Rattle.circuit_model.specs.Circuit.{Circuit, IsInput}
 use Rattle.circuit_model.specs.Differing.{Difference, AreSame}
 use Rattle.circuit_model.specs.Out.{IsOut}
 use Rattle.circuit_model.proofs.OutLemmas.{one_out, some_out}
@@ -14,6 +14,7 @@ use Rattle.job_words.specs.declared.fault.Fault.{Fault}
 use Rattle.job_words.specs.Command.{Check, Job}
 use Rattle.job_words.proofs.OneCommandLemmas.{one_job}
 use Rattle.job_input.specs.Labelling.{labels_of}
+use Rattle.job_input.specs.JobOf.{job_of}
 use Rattle.job_input.specs.NetlistOf.{by_ending}
 use Rattle.job_input.specs.SettingValue.{SettingValue}
 use Rattle.job_input.specs.SpecificationIn.{SpecificationIn}
@@ -26,10 +27,13 @@ use Rattle.gf_abs.specs.commands.Abstract.{taken_circuit, AbstractReply}
 use Rattle.gf_abs.specs.commands.Check.{IsSpecified, IsJudged, WordsLine, CheckReply, check_reply}
 use Rattle.gf_abs.proofs.AnswerDetermined.{said_determined}
 use Rattle.gf_abs.proofs.EqualLemmas.{well, printed}
-use Rattle.gf_abs.proofs.HeadlineLemmas.{one_setting, one_circuit}
+use Rattle.gf_abs.proofs.HeadlineLemmas.{IsUnrolled, held_job, one_held, one_setting, unrolled}
+use Rattle.gf_abs.proofs.JobLemmas.{computes, differing, output_to, specified, words_to}
 
 -- what was judged for a reply
-pub record Judged (setting : SettingValue) (circuit : BoundNet) (spec : SpecTerms) (reply : Reply) : Type 0 where
+pub record Judged (setting : SettingValue) (job : Circuit) (spec : SpecTerms) (reply : Reply) : Type 0 where
+  pub circuit : BoundNet
+  pub behind : IsUnrolled setting circuit job
   pub bound : ℕ
   pub polynomial : Terms
   pub reduced : AbstractReply setting circuit bound (Ok (prints setting polynomial))
@@ -37,15 +41,17 @@ pub record Judged (setting : SettingValue) (circuit : BoundNet) (spec : SpecTerm
   pub is : IsJudged setting circuit spec found
   pub replied : reply ≡ check_reply (labels_of setting.k setting.signature.words) (polynomial_line setting polynomial) found
 
-record HeldJudged (files : Files) (signature net specification : Word) (reply : Reply) : Type 0 where
+record HeldJudged (files : Files) (signature net specification : Word) (cycles : ℕ) (reply : Reply) : Type 0 where
   pub setting : SettingValue
-  pub circuit : BoundNet
+  pub job : Circuit
   pub spec : SpecTerms
-  pub held : AreHeldWith files signature net specification setting circuit spec
-  pub judged : Judged setting circuit spec reply
+  pub held : AreHeldWith files signature net specification cycles setting job spec
+  pub judged : Judged setting job spec reply
 
-replied_by : (setting : SettingValue) (circuit : BoundNet) (spec : SpecTerms) (bound : ℕ) (reply : Reply) → CheckReply setting circuit spec bound (Ok reply) → Judged setting circuit spec reply
-replied_by setting circuit spec bound reply (line, (ts, of_words, is_line), (found, is, exactly)) = record {
+replied_by : (setting : SettingValue) (circuit : BoundNet) (job : Circuit) (spec : SpecTerms) (bound : ℕ) (reply : Reply) → IsUnrolled setting circuit job → CheckReply setting circuit spec bound (Ok reply) → Judged setting job spec reply
+replied_by setting circuit job spec bound reply behind (line, (ts, of_words, is_line), (found, is, exactly)) = record {
+  circuit = circuit;
+  behind = behind;
   bound = bound;
   polynomial = ts;
   reduced = (ts, of_words, refl);
@@ -54,15 +60,15 @@ replied_by setting circuit spec bound reply (line, (ts, of_words, is_line), (fou
   replied = exactly ∙ ap (λ l. check_reply (labels_of setting.k setting.signature.words) l found) is_line;
 }
 
-job_judges : (files : Files) (signature net specification : Word) (bound : ℕ) (reply : Reply) → JobAnswer (Some files) (record { signature = signature; action = Check net specification bound }) (Ok reply) → HeldJudged files signature net specification reply
-job_judges files signature net specification bound reply (signed, (text, read, is), (setting, are, (circuit, (netlist, read', taken), (spec, said, came)))) =
-    let first : IsTaken setting circuit = record { signature = text; is_setting = (signed, is, are); netlist = by_ending net netlist; is_circuit = taken } in
+job_judges : (files : Files) (signature net specification : Word) (bound cycles : ℕ) (reply : Reply) → JobAnswer (Some files) (record { signature = signature; action = Check net specification bound cycles }) (Ok reply) → HeldJudged files signature net specification cycles reply
+job_judges files signature net specification bound cycles reply (signed, (text, read, is), (setting, are, (netlist, (bytes, read', taken), (spec, said, (circuit, of, came))))) =
+    let behind = unrolled text (by_ending net bytes) cycles setting netlist circuit (signed, is, are) taken of in
     record {
       setting = setting;
-      circuit = circuit;
+      job = job_of setting netlist cycles;
       spec = spec;
-      held = record { held = record { taken = first; signature_read = read; text = netlist; net_read = read'; net_is = refl }; said = said };
-      judged = replied_by setting circuit spec bound reply came;
+      held = record { held = held_job files signature net cycles setting netlist text bytes read read' (signed, is, are) taken; said = said };
+      judged = replied_by setting circuit (job_of setting netlist cycles) spec bound reply behind came;
     }
 
 said_in : Result SpecTerms Fault → SpecTerms
@@ -73,31 +79,31 @@ one_said : (files : Files) (setting : SettingValue) (specification : Word) (a b 
 unfolding said_in
 one_said files setting specification a b p q = ap said_in (said_determined files setting specification (Ok a) (Ok b) p q)
 
-module _ (files : Files) (words : List Word) (signature net specification : Word) (reply : Reply) (answers : AnswersCheck files words signature net specification reply) where
-  held_judged : HeldJudged files signature net specification reply
+module _ (files : Files) (words : List Word) (signature net specification : Word) (cycles : ℕ) (reply : Reply) (answers : AnswersCheck files words signature net specification cycles reply) where
+  held_judged : HeldJudged files signature net specification cycles reply
   held_judged =
       let P : Job → Type 0 = λ job. JobAnswer (Some files) job (Ok reply) in
       let answer = answers.answer in
-      job_judges files signature net specification answers.bound reply (subst P (one_job words answer.0 (record { signature = signature; action = Check net specification answers.bound }) answer.1 answers.spelled) answer.2)
+      job_judges files signature net specification answers.bound cycles reply (subst P (one_job words answer.0 (record { signature = signature; action = Check net specification answers.bound cycles }) answer.1 answers.spelled) answer.2)
 
   -- what was judged of these
-  judged_for : (setting : SettingValue) (circuit : BoundNet) (spec : SpecTerms) → AreHeldWith files signature net specification setting circuit spec → Judged setting circuit spec reply
-  judged_for setting circuit spec are =
+  judged_for : (setting : SettingValue) (job : Circuit) (spec : SpecTerms) → AreHeldWith files signature net specification cycles setting job spec → Judged setting job spec reply
+  judged_for setting job spec are =
       let found = held_judged in
-      let one : found.setting ≡ setting = one_setting files signature net found.setting setting found.circuit circuit found.held.held are.held in
-      let P : SettingValue → Type 0 = λ s. AreHeldWith files signature net specification s found.circuit found.spec in
-      let R : SettingValue → Type 0 = λ s. Judged s found.circuit found.spec reply in
+      let one : found.setting ≡ setting = one_setting files signature net net cycles found.setting setting found.job job found.held.held are.held in
+      let P : SettingValue → Type 0 = λ s. AreHeldWith files signature net specification cycles s found.job found.spec in
+      let R : SettingValue → Type 0 = λ s. Judged s found.job found.spec reply in
       let here = subst P one found.held in
-      let S : BoundNet → Type 0 = λ c. Judged setting c found.spec reply in
-      let T : SpecTerms → Type 0 = λ s. Judged setting circuit s reply in
+      let S : Circuit → Type 0 = λ c. Judged setting c found.spec reply in
+      let T : SpecTerms → Type 0 = λ s. Judged setting job s reply in
       let said : found.spec ≡ spec = one_said files setting specification found.spec spec here.said are.said in
-      subst T said (subst S (one_circuit files signature net setting found.circuit circuit here.held are.held) (subst R one found.judged))
+      subst T said (subst S (one_held files signature net cycles setting found.job job here.held are.held) (subst R one found.judged))
 
 -- ---- what a judgement says
 
 module _ (setting : SettingValue) (circuit : BoundNet) (spec : SpecTerms) (taken : IsTaken setting circuit) where
   -- an output that is the specification's value wherever both are computes it
-  computed : AreSame (taken_circuit setting circuit) (IsOut (taken_circuit setting circuit)) (IsSpecified setting circuit spec) → Computes setting circuit spec
+  computed : AreSame (taken_circuit setting circuit) (IsOut (taken_circuit setting circuit)) (IsSpecified setting (taken_circuit setting circuit) spec) → Computes setting (taken_circuit setting circuit) spec
   computed same xs e =
       let c = taken_circuit setting circuit in
       let P : ℕ → Type 0 = IsOut c xs in (
@@ -105,7 +111,7 @@ module _ (setting : SettingValue) (circuit : BoundNet) (spec : SpecTerms) (taken
         λ said. let there = some_out c xs (well setting circuit taken) said.input in subst P (same xs there.0 e said.input there.1 said) there.1,
       )
 
-  zero_there : (reply : Reply) (line : List ℕ) (found : Option Difference) → IsJudged setting circuit spec found → reply ≡ check_reply (labels_of setting.k setting.signature.words) line found → reply.status ≡ 0 ↔ Computes setting circuit spec
+  zero_there : (reply : Reply) (line : List ℕ) (found : Option Difference) → IsJudged setting circuit spec found → reply ≡ check_reply (labels_of setting.k setting.signature.words) line found → reply.status ≡ 0 ↔ Computes setting (taken_circuit setting circuit) spec
   zero_there reply line None is replied = ((λ zero. computed is), λ equal. ap (λ (r : Reply). r.status) replied)
   zero_there reply line (Some found) is replied =
       let status : reply.status ≡ 1 = ap (λ (r : Reply). r.status) replied in (
@@ -115,12 +121,12 @@ module _ (setting : SettingValue) (circuit : BoundNet) (spec : SpecTerms) (taken
             absurd (is.differ.apart (sym said.value ∙ is.differ.second.value)),
       )
 
-  module _ (reply : Reply) (ts : Terms) (p : IsPrinted setting circuit (prints setting ts)) where
-    acceptance_there : (found : Option Difference) → reply ≡ check_reply (labels_of setting.k setting.signature.words) (polynomial_line setting ts) found → reply.status ≡ 0 → PrintsAcceptance setting circuit reply
+  module _ (reply : Reply) (ts : Terms) (p : IsPrinted setting (taken_circuit setting circuit) (prints setting ts)) where
+    acceptance_there : (found : Option Difference) → reply ≡ check_reply (labels_of setting.k setting.signature.words) (polynomial_line setting ts) found → reply.status ≡ 0 → PrintsAcceptance setting (taken_circuit setting circuit) reply
     acceptance_there None replied zero = record { polynomial = p.polynomial; text = ap (λ (r : Reply). r.text) replied ∙ ap (λ (l : List ℕ). codes "accepted\n" ++ l) p.line; in_words = p.in_words; values = p.values }
     acceptance_there (Some found) replied zero = let status : reply.status ≡ 1 = ap (λ (r : Reply). r.status) replied in absurd (omega (arith, zero, status))
 
-    rejection_there : (found : Option Difference) → IsJudged setting circuit spec found → reply ≡ check_reply (labels_of setting.k setting.signature.words) (polynomial_line setting ts) found → reply.status ≡ 1 → PrintsRejection setting circuit spec reply
+    rejection_there : (found : Option Difference) → IsJudged setting circuit spec found → reply ≡ check_reply (labels_of setting.k setting.signature.words) (polynomial_line setting ts) found → reply.status ≡ 1 → PrintsRejection setting (taken_circuit setting circuit) spec reply
     rejection_there None is replied one = let status : reply.status ≡ 0 = ap (λ (r : Reply). r.status) replied in absurd (omega (arith, one, status))
     rejection_there (Some found) is replied one = record {
       polynomial = p.polynomial;
@@ -135,24 +141,45 @@ status_there : (setting : SettingValue) (line : List ℕ) (reply : Reply) (found
 status_there setting line reply None replied = inl (ap (λ (r : Reply). r.status) replied)
 status_there setting line reply (Some found) replied = inr (ap (λ (r : Reply). r.status) replied)
 
-module _ (files : Files) (words : List Word) (signature net specification : Word) (reply : Reply) where
-  pub check_status : AnswersCheck files words signature net specification reply → (reply.status ≡ 0) ⊎ (reply.status ≡ 1)
+module _ (files : Files) (words : List Word) (signature net specification : Word) (cycles : ℕ) (reply : Reply) where
+  pub check_status : AnswersCheck files words signature net specification cycles reply → (reply.status ≡ 0) ⊎ (reply.status ≡ 1)
   check_status answers =
-      let found = held_judged files words signature net specification reply answers in
+      let found = held_judged files words signature net specification cycles reply answers in
       status_there found.setting (polynomial_line found.setting found.judged.polynomial) reply found.judged.found found.judged.replied
 
-  module _ (setting : SettingValue) (circuit : BoundNet) (spec : SpecTerms) (answers : AnswersCheck files words signature net specification reply) (are : AreHeldWith files signature net specification setting circuit spec) where
-    pub check_equal : reply.status ≡ 0 ↔ Computes setting circuit spec
-    check_equal = let found = judged_for files words signature net specification reply answers setting circuit spec are in zero_there setting circuit spec are.held.taken reply (polynomial_line setting found.polynomial) found.found found.is found.replied
+  module _ (setting : SettingValue) (job : Circuit) (spec : SpecTerms) (answers : AnswersCheck files words signature net specification cycles reply) (are : AreHeldWith files signature net specification cycles setting job spec) where
+    judged_here : Judged setting job spec reply
+    judged_here = judged_for files words signature net specification cycles reply answers setting job spec are
 
-    judged_here : Judged setting circuit spec reply
-    judged_here = judged_for files words signature net specification reply answers setting circuit spec are
+    pub check_equal : reply.status ≡ 0 ↔ Computes setting job spec
+    check_equal =
+        let found = judged_here in
+        let zero = zero_there setting found.circuit spec found.behind.taken reply (polynomial_line setting found.polynomial) found.found found.is found.replied in
+        let moved = computes setting (taken_circuit setting found.circuit) job found.behind.one spec in (
+          (λ status. moved.0 (zero.0 status)),
+          λ equal. zero.1 (moved.1 equal),
+        )
 
-    printed_here : IsPrinted setting circuit (prints setting judged_here.polynomial)
-    printed_here = printed setting circuit are.held.taken judged_here.bound (prints setting judged_here.polynomial) judged_here.reduced
+    printed_here : IsPrinted setting (taken_circuit setting judged_here.circuit) (prints setting judged_here.polynomial)
+    printed_here = printed setting judged_here.circuit judged_here.behind.taken judged_here.bound (prints setting judged_here.polynomial) judged_here.reduced
 
-    pub check_accepts : reply.status ≡ 0 → PrintsAcceptance setting circuit reply
-    check_accepts = acceptance_there setting circuit spec are.held.taken reply judged_here.polynomial printed_here judged_here.found judged_here.replied
+    pub check_accepts : reply.status ≡ 0 → PrintsAcceptance setting job reply
+    check_accepts zero =
+        let found = judged_here in
+        let c : Circuit = taken_circuit setting found.circuit in
+        let there = acceptance_there setting found.circuit spec found.behind.taken reply found.polynomial printed_here found.found found.replied zero in
+        record { polynomial = there.polynomial; text = there.text; in_words = words_to setting c job found.behind.one there.polynomial there.in_words; values = output_to setting c job found.behind.one there.polynomial there.values }
 
-    pub check_rejects : reply.status ≡ 1 → PrintsRejection setting circuit spec reply
-    check_rejects = rejection_there setting circuit spec are.held.taken reply judged_here.polynomial printed_here judged_here.found judged_here.is judged_here.replied
+    pub check_rejects : reply.status ≡ 1 → PrintsRejection setting job spec reply
+    check_rejects one =
+        let found = judged_here in
+        let c : Circuit = taken_circuit setting found.circuit in
+        let there = rejection_there setting found.circuit spec found.behind.taken reply found.polynomial printed_here found.found found.is found.replied one in
+        record {
+          polynomial = there.polynomial;
+          found = there.found;
+          text = there.text;
+          in_words = words_to setting c job found.behind.one there.polynomial there.in_words;
+          values = output_to setting c job found.behind.one there.polynomial there.values;
+          differing = differing setting c job found.behind.one (IsOut c) (IsSpecified setting c spec) (IsOut job) (IsSpecified setting job spec) found.behind.one.output (specified setting c job found.behind.one spec) there.found.input there.found.left there.found.right there.differing;
+        }

@@ -38,7 +38,7 @@ expanded_there c h ts well is xs ones are =
 
 module _ (setting : SettingValue) (circuit : BoundNet) (spec : SpecTerms) (ts : Terms) (well : IsWellFormed (taken_circuit setting circuit)) (is : IsExpansion (taken_circuit setting circuit) (λ xs. spec_at setting.product xs spec) ts) where
   -- its value at an input is the specification's
-  as_specified : (xs : List ℕ) (e : ℕ) → IsValueAt (taken_circuit setting circuit) ts xs e ↔ IsSpecified setting circuit spec xs e
+  as_specified : (xs : List ℕ) (e : ℕ) → IsValueAt (taken_circuit setting circuit) ts xs e ↔ IsSpecified setting (taken_circuit setting circuit) spec xs e
   as_specified xs e =
       let c : Circuit = taken_circuit setting circuit in
       let h : List ℕ → ℕ = λ xs. spec_at setting.product xs spec in (
@@ -55,7 +55,7 @@ module _ (setting : SettingValue) (circuit : BoundNet) (spec : SpecTerms) (ts : 
       let c : Circuit = taken_circuit setting circuit in
       let P : ℕ → Type 0 = λ m. IsJudged setting circuit spec (comparison_of m v) in
       subst P (sym long)
-      (moved_comparison c (IsValueAt c bits) (IsValueAt c ts) (IsOut c) (IsSpecified setting circuit spec) (λ xs e. as_value c bits xs e well out) as_specified (comparison_of (length c.words) v) (verdict_comparison c bits ts v verdict))
+      (moved_comparison c (IsValueAt c bits) (IsValueAt c ts) (IsOut c) (IsSpecified setting (taken_circuit setting circuit) spec) (λ xs e. as_value c bits xs e well out) as_specified (comparison_of (length c.words) v) (verdict_comparison c bits ts v verdict))
 
 module _ (k : ℕ) (mul : ℕ → ℕ → ℕ) (setting : Setting) (ready : IsReady k mul setting) (circuit : BoundNet) (taken : IsTakenFor k setting circuit) (labels : Labelling) (named : labels ≡ labels_of k setting.signature.words) where
   -- there are as many labels as input and state words

@@ -46,7 +46,7 @@ input_point xs = record { words = padded 8 xs; is_one = λ r. false }
 
 module _ (setting : SettingValue) (circuit : BoundNet) (taken : IsTaken setting circuit) where
   -- a polynomial of the output has the output's element at each input
-  at_input : (ts : Terms) (xs : List ℕ) → HasOutput setting circuit ts → IsInput (taken_circuit setting circuit) xs → IsOut (taken_circuit setting circuit) xs (value setting.product (input_point xs) ts)
+  at_input : (ts : Terms) (xs : List ℕ) → HasOutput setting (taken_circuit setting circuit) ts → IsInput (taken_circuit setting circuit) xs → IsOut (taken_circuit setting circuit) xs (value setting.product (input_point xs) ts)
   unfolding input_point
   at_input ts xs values input =
       let c = taken_circuit setting circuit in
@@ -61,7 +61,7 @@ module _ (setting : SettingValue) (circuit other : BoundNet) (taken : IsTaken se
   same_count = count setting circuit taken ∙ sym (count setting other taken')
 
   -- one polynomial of both outputs makes them equal
-  follows : (ts : Terms) → HasOutput setting circuit ts → HasOutput setting other ts → (xs : List ℕ) (e : ℕ) → IsOut (taken_circuit setting circuit) xs e → IsOut (taken_circuit setting other) xs e
+  follows : (ts : Terms) → HasOutput setting (taken_circuit setting circuit) ts → HasOutput setting (taken_circuit setting other) ts → (xs : List ℕ) (e : ℕ) → IsOut (taken_circuit setting circuit) xs e → IsOut (taken_circuit setting other) xs e
   follows ts first second xs e out =
       let input = out.is_run.open_run.input in
       let input' : IsInput (taken_circuit setting other) xs = record { long = input.long ∙ same_count; elements = input.elements } in
@@ -70,16 +70,16 @@ module _ (setting : SettingValue) (circuit other : BoundNet) (taken : IsTaken se
       subst P same (at_input setting other taken' ts xs second input')
 
   -- what stands in the words of one stands in those of the other
-  in_words : (ts : Terms) → IsInItsWords setting circuit ts → IsInItsWords setting other ts
+  in_words : (ts : Terms) → IsInItsWords setting (taken_circuit setting circuit) ts → IsInItsWords setting (taken_circuit setting other) ts
   in_words ts is = let P : ℕ → Type 0 = λ n. StandsInWords n ts in record { reduced = is.reduced; words = subst P same_count is.words }
 
   -- a polynomial of one output is one of the other, where they are equal
-  moved : (ts : Terms) → AreOneFunction setting circuit other → HasOutput setting circuit ts → HasOutput setting other ts
+  moved : (ts : Terms) → AreOneFunction (taken_circuit setting circuit) (taken_circuit setting other) → HasOutput setting (taken_circuit setting circuit) ts → HasOutput setting (taken_circuit setting other) ts
   moved ts equal values p at =
       let P : ℕ → Type 0 = λ n. IsOut (taken_circuit setting other) (take n p.words) (value setting.product p ts) in
       subst P same_count ((equal (input_of (taken_circuit setting circuit) p) (value setting.product p ts)).0 (values p at))
 
-pub equal_bytes : (setting : SettingValue) (circuit other : BoundNet) (reply reply' : Reply) → IsTaken setting circuit → IsTaken setting other → IsPrinted setting circuit reply → IsPrinted setting other reply' → reply.text ≡ reply'.text ↔ AreOneFunction setting circuit other
+pub equal_bytes : (setting : SettingValue) (circuit other : BoundNet) (reply reply' : Reply) → IsTaken setting circuit → IsTaken setting other → IsPrinted setting (taken_circuit setting circuit) reply → IsPrinted setting (taken_circuit setting other) reply' → reply.text ≡ reply'.text ↔ AreOneFunction (taken_circuit setting circuit) (taken_circuit setting other)
 equal_bytes setting circuit other reply reply' taken taken' is is' =
     let ts = is.polynomial in
     let text = only_text setting other taken' reply' ts is' (in_words setting circuit other taken taken' ts is.in_words) in (

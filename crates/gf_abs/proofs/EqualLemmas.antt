@@ -19,6 +19,7 @@ use Rattle.circuit_model.specs.Out.{IsOut}
 use Rattle.circuit_model.specs.WellFormed.{IsWellFormed}
 use Rattle.circuit_model.proofs.OutLemmas.{one_out}
 use Rattle.stage_model.specs.InputPoint.{input_of}
+use Rattle.stage_model.specs.OutputInBits.{IsOutputInBits}
 use Rattle.stage_model.proofs.MixLemmas.{mix_all}
 use Rattle.stage_model.proofs.NextMixLemmas.{mix_lacks}
 use Rattle.stage_model.proofs.OutputInBitsLemmas.{last_is_output, same_stage}
@@ -26,15 +27,16 @@ use Rattle.stage_model.proofs.SizeLemmas.{is_unique}
 use Rattle.job_input.specs.Labelling.{word_labels, labels_of}
 use Rattle.job_input.specs.SettingSound.{IsSoundSetting}
 use Rattle.job_input.specs.SettingValue.{SettingValue}
-use Rattle.job_input.proofs.RoleLemmas.{netlist_roles, roles_long}
+use Rattle.job_input.specs.Setting.{HaveRoles}
+use Rattle.job_input.proofs.RoleLemmas.{roles_long}
 use Rattle.job_input.proofs.SettingSoundLemmas.{setting_sound}
 use Rattle.job_input.proofs.SignedLemmas.{setting_names}
-use Rattle.gf_abs.specs.Headline.{IsTaken, IsInItsWords, HasOutput, IsPrinted, IsPrintedInBits}
+use Rattle.gf_abs.specs.Headline.{IsTaken, IsInItsWords, HasOutput, IsPrinted}
 use Rattle.gf_abs.specs.Reply.{Reply, polynomial_line}
 use Rattle.gf_abs.specs.commands.Abstract.{AbstractReply, taken_circuit}
 use Rattle.gf_abs.specs.commands.Bits.{BitsReply}
 use Rattle.gf_abs.proofs.EqualLabels.{are_labels, few_bits}
-use Rattle.gf_abs.proofs.TakenLemmas.{circuit_well, bases_long, netlist_flat}
+use Rattle.gf_abs.proofs.TakenLemmas.{bases_long, circuit_flat, circuit_roles, circuit_well}
 use Rattle.gf_abs.proofs.WordsLemmas.{as_many}
 
 -- a polynomial in which no bit stands has no bits
@@ -59,19 +61,21 @@ module _ (setting : SettingValue) (circuit : BoundNet) (taken : IsTaken setting 
   sound = setting_sound taken.signature setting taken.is_setting
 
   pub well : IsWellFormed whole
-  well = circuit_well setting circuit sound taken.netlist taken.is_circuit
+  well = circuit_well setting circuit sound taken.netlist taken.cycles taken.is_circuit
+
+  pub roles : HaveRoles setting.signature.words circuit.bound.words
+  roles = circuit_roles setting circuit sound taken.netlist taken.cycles taken.is_circuit
 
   -- there are as many labels as words
   pub count : length whole.words ≡ length (word_labels setting.k setting.signature.words)
   count =
-      let roles = netlist_roles setting.signature taken.netlist circuit taken.is_circuit in
       as_many setting.k circuit.bound.words setting.signature.words setting.bases (sound.long ∙ sym (roles_long setting.signature.words circuit.bound.words roles)) roles
 
   labels : AreLabels (labels_of setting.k setting.signature.words)
   labels = are_labels setting.k setting.signature.words sound.words (setting_names taken.signature setting taken.is_setting)
 
   -- a polynomial of the output stands in words alone
-  alone : (ts : Terms) → IsReduced setting.k ts → HasOutput setting circuit ts → AllByRecursion (λ t. AllByRecursion (λ e. e ≡ 0) (drop (length whole.words) t.0.exponents)) ts
+  alone : (ts : Terms) → IsReduced setting.k ts → HasOutput setting whole ts → AllByRecursion (λ t. AllByRecursion (λ e. e ≡ 0) (drop (length whole.words) t.0.exponents)) ts
   alone ts reduced values =
       let f = field_of setting.k setting.product sound.ring sound.field in
       let n = length whole.words in
@@ -82,11 +86,11 @@ module _ (setting : SettingValue) (circuit : BoundNet) (taken : IsTaken setting 
       (subst P (first_taken n p.words) (values (first_point n p) (is_first_point f n p at))) (values p at))
 
   -- what comes of `abstract` is the output's polynomial
-  pub printed : (bound : ℕ) (reply : Reply) → AbstractReply setting circuit bound (Ok reply) → IsPrinted setting circuit reply
+  pub printed : (bound : ℕ) (reply : Reply) → AbstractReply setting circuit bound (Ok reply) → IsPrinted setting whole reply
   printed bound reply (ts, found, exactly) =
       let is = found.0 in
       let n = length whole.words in
-      let values : HasOutput setting circuit ts = λ p at. (mix_all whole well p (value setting.product p ts) at).0 (is.values p at) in
+      let values : HasOutput setting whole ts = λ p at. (mix_all whole well p (value setting.product p ts) at).0 (is.values p at) in
       let lacks : (rank : ℕ) → LacksBit rank ts = λ rank. mix_lacks whole well n rank ts (λ i j low high less. absurd (omega arith)) is in
       record {
         polynomial = ts;
@@ -97,20 +101,15 @@ module _ (setting : SettingValue) (circuit : BoundNet) (taken : IsTaken setting 
       }
 
   -- what comes of `bits` is the output's polynomial in bits
-  pub printed_in_bits : (bound : ℕ) (reply : Reply) → BitsReply setting circuit bound (Ok reply) → IsPrintedInBits setting circuit reply
-  printed_in_bits bound reply (ts, found, exactly) =
-      let flat = netlist_flat setting.signature taken.netlist circuit taken.is_circuit in
-      let long = bases_long setting circuit sound taken.netlist taken.is_circuit in
+  pub in_bits : (bound : ℕ) (reply : Reply) → (is : BitsReply setting circuit bound (Ok reply)) → IsOutputInBits whole is.0
+  in_bits bound reply (ts, found, exactly) =
+      let flat = circuit_flat setting circuit sound taken.netlist taken.cycles taken.is_circuit in
+      let long = bases_long setting circuit sound taken.netlist taken.cycles taken.is_circuit in
       let stage = (same_stage setting.k setting.product circuit setting.bases (output_basis circuit.bound.words setting.bases) (length circuit.net.gates) ts long refl).0 found.0 in
-      record {
-        polynomial = ts;
-        status = ap (λ (r : Reply). r.status) exactly;
-        line = ap (λ (r : Reply). r.text) exactly;
-        output = (last_is_output whole well flat ts).0 stage;
-      }
+      (last_is_output whole well flat ts).0 stage
 
   -- it is written with the labels
-  written : (ts : Terms) → IsInItsWords setting circuit ts → IsWritten (labels_of setting.k setting.signature.words) setting.k ts
+  written : (ts : Terms) → IsInItsWords setting whole ts → IsWritten (labels_of setting.k setting.signature.words) setting.k ts
   written ts is =
       let P : ℕ → Type 0 = λ n. AllByRecursion (λ t. AllByRecursion (λ e. e ≡ 0) (drop n t.0.exponents)) ts in
       record {
@@ -124,21 +123,21 @@ module _ (setting : SettingValue) (circuit : BoundNet) (taken : IsTaken setting 
       }
 
   -- equal lines are of equal polynomials
-  pub one_line : (ts us : Terms) → IsInItsWords setting circuit ts → IsInItsWords setting circuit us → polynomial_line setting ts ≡ polynomial_line setting us → ts ≡ us
+  pub one_line : (ts us : Terms) → IsInItsWords setting whole ts → IsInItsWords setting whole us → polynomial_line setting ts ≡ polynomial_line setting us → ts ≡ us
   one_line ts us a b same =
       let l = labels_of setting.k setting.signature.words in
       let behind = append_cancel_left (codes " = ") (text l ts ++ codes "\n") (text l us ++ codes "\n") (append_cancel_left l.output (codes " = " ++ (text l ts ++ codes "\n")) (codes " = " ++ (text l us ++ codes "\n")) same) in
       one_text l setting.k ts us (written ts a) (written us b) (append_cancel_right (text l ts) (text l us) (codes "\n") behind)
 
   -- the output has one polynomial
-  pub one_polynomial : (ts us : Terms) → IsReduced setting.k ts → IsReduced setting.k us → HasOutput setting circuit ts → HasOutput setting circuit us → ts ≡ us
+  pub one_polynomial : (ts us : Terms) → IsReduced setting.k ts → IsReduced setting.k us → HasOutput setting whole ts → HasOutput setting whole us → ts ≡ us
   one_polynomial ts us a b first other =
       is_unique setting.k setting.product sound.ring sound.field ts us a b
       (λ p at. one_out whole (input_of whole p) (value setting.product p ts) (value setting.product p us) well (first p at) (other p at))
 
-  pub only_text : (reply : Reply) (ts : Terms) → IsPrinted setting circuit reply → IsInItsWords setting circuit ts → reply.text ≡ polynomial_line setting ts ↔ HasOutput setting circuit ts
+  pub only_text : (reply : Reply) (ts : Terms) → IsPrinted setting whole reply → IsInItsWords setting whole ts → reply.text ≡ polynomial_line setting ts ↔ HasOutput setting whole ts
   only_text reply ts found is =
-      let P : Terms → Type 0 = λ us. HasOutput setting circuit us in (
+      let P : Terms → Type 0 = λ us. HasOutput setting whole us in (
         (λ same. subst P (one_line found.polynomial ts found.in_words is (sym found.line ∙ same)) found.values),
         λ values. found.line ∙ ap (λ us. polynomial_line setting us) (one_polynomial found.polynomial ts found.in_words.reduced is.reduced found.values values),
       )

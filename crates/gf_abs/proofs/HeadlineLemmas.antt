@@ -1,81 +1,190 @@
 -- What the program's answers say, out of what comes of their steps.
-use Rattle.std.proofs.Common.{◌≡◌, ◌∙◌, ap, refl, sym, subst, ℕ, List, Some, Result, Ok, ◌↔◌}
+use Rattle.std.proofs.Common.{◌≡◌, ◌∙◌, ap, refl, sym, subst, ℕ, ◌*◌, List, length, Some, Result, Ok, ◌↔◌}
 use Rattle.job_io.specs.Shelf.{Files}
+use Rattle.net_core.specs.Lists.{Has}
 use Rattle.net_words.specs.Binding.{BoundNet}
-use Rattle.poly_mixed.specs.Polynomial.{Terms}
+use Rattle.poly_mixed.specs.Polynomial.{Terms, value}
+use Rattle.circuit_model.specs.Circuit.{Circuit}
+use Rattle.circuit_model.specs.Word.{Word as CircuitWord, word_nets}
+use Rattle.circuit_model.proofs.OnesLemmas.{alike_back, alike_ones}
+use Rattle.stage_model.specs.First.{InFirstRanks}
+use Rattle.spec_compare.specs.ValueAt.{at_ones}
+use Rattle.spec_compare.proofs.ComparedLemmas.{nets_long}
+use Rattle.spec_compare.proofs.SomeOnesLemmas.{as_value}
 use Rattle.job_words.specs.Operands.{Word}
 use Rattle.job_words.specs.Command.{Bits, Abstract, Job}
 use Rattle.job_words.proofs.OneCommandLemmas.{one_job}
+use Rattle.job_input.specs.CircuitOf.{CircuitOf}
+use Rattle.job_input.specs.File.{Read}
+use Rattle.job_input.specs.JobOf.{IsJobOf, job_of}
 use Rattle.job_input.specs.NetlistOf.{BoundNetOf, NetlistText, by_ending}
 use Rattle.job_input.specs.SettingOf.{SettingOf}
 use Rattle.job_input.specs.SettingValue.{SettingValue}
 use Rattle.job_input.proofs.NetlistDetermined.{netlist_determined}
 use Rattle.job_input.proofs.SettingDetermined.{setting_determined}
+use Rattle.job_input.proofs.SettingSoundLemmas.{setting_sound}
 use Rattle.gf_abs.specs.Answer.{JobAnswer}
-use Rattle.gf_abs.specs.Headline.{IsTaken, AreHeld, AnswersBits, AnswersAbstract, IsInItsWords, HasOutput, IsPrinted, AreOneFunction, PrintsHeld, PrintsHeldInBits}
+use Rattle.gf_abs.specs.Headline.{IsTaken, AreHeld, AnswersBits, AnswersAbstract, IsInItsWords, HasOutput, IsPrinted, IsPrintedInBits, AreOneFunction, PrintsHeld, PrintsHeldInBits}
 use Rattle.gf_abs.specs.Reply.{Reply, polynomial_line}
+use Rattle.gf_abs.specs.commands.Abstract.{taken_circuit}
+use Rattle.gf_abs.specs.commands.Bits.{BitsReply}
 use Rattle.gf_abs.proofs.AnswerDetermined.{read_determined}
 use Rattle.gf_abs.proofs.EqualFunctions.{equal_bytes}
-use Rattle.gf_abs.proofs.EqualLemmas.{printed, printed_in_bits, only_text}
+use Rattle.gf_abs.proofs.EqualLemmas.{in_bits, only_text, printed, well}
+use Rattle.gf_abs.proofs.JobLemmas.{IsOneWith, both_one, long, output_from, output_to, printed_to, with_job, words_from}
 
--- what comes of these files
-job_prints : (files : Files) (signature net : Word) (bound : ℕ) (reply : Reply) → JobAnswer (Some files) (record { signature = signature; action = Abstract net bound }) (Ok reply) → PrintsHeld files signature net reply
-job_prints files signature net bound reply (signed, (text, read, is), (setting, are, (circuit, (netlist, read', taken), came))) =
-    let both : IsTaken setting circuit = record { signature = text; is_setting = (signed, is, are); netlist = by_ending net netlist; is_circuit = taken } in
-    record { setting = setting; circuit = circuit; held = record { taken = both; signature_read = read; text = netlist; net_read = read'; net_is = refl }; printed = printed setting circuit both bound reply came }
+-- ---- the circuit behind a job
 
-job_prints_bits : (files : Files) (signature net : Word) (bound : ℕ) (reply : Reply) → JobAnswer (Some files) (record { signature = signature; action = Bits net bound }) (Ok reply) → PrintsHeldInBits files signature net reply
-job_prints_bits files signature net bound reply (signed, (text, read, is), (setting, are, (circuit, (netlist, read', taken), came))) =
-    let both : IsTaken setting circuit = record { signature = text; is_setting = (signed, is, are); netlist = by_ending net netlist; is_circuit = taken } in
-    record { setting = setting; circuit = circuit; held = record { taken = both; signature_read = read; text = netlist; net_read = read'; net_is = refl }; printed = printed_in_bits setting circuit both bound reply came }
+-- the circuit of all cycles of taken texts, which is one with the job
+pub record IsUnrolled (setting : SettingValue) (circuit : BoundNet) (job : Circuit) : Type 0 where
+  pub taken : IsTaken setting circuit
+  pub one : IsOneWith (taken_circuit setting circuit) job
 
-module _ (files : Files) (words : List Word) (signature net : Word) (reply : Reply) where
-  pub abstract_prints : AnswersAbstract files words signature net reply → PrintsHeld files signature net reply
-  abstract_prints is =
-      let P : Job → Type 0 = λ job. JobAnswer (Some files) job (Ok reply) in
-      let answer = is.answer in
-      job_prints files signature net is.bound reply (subst P (one_job words answer.0 (record { signature = signature; action = Abstract net is.bound }) answer.1 is.spelled) answer.2)
+-- of texts that were read and taken
+pub unrolled : (signature : List ℕ) (netlist : NetlistText) (cycles : ℕ) (setting : SettingValue) (bound circuit : BoundNet) → SettingOf signature (Ok setting) → BoundNetOf setting.signature netlist (Ok bound) → CircuitOf bound cycles (Ok circuit) → IsUnrolled setting circuit (job_of setting bound cycles)
+unrolled signature netlist cycles setting bound circuit is_setting is_bound is_circuit = record {
+  taken = record { signature = signature; is_setting = is_setting; netlist = netlist; cycles = cycles; is_circuit = (bound, is_bound, is_circuit) };
+  one = with_job setting bound circuit cycles (setting_sound signature setting is_setting) netlist is_bound is_circuit;
+}
 
-  pub bits_print : AnswersBits files words signature net reply → PrintsHeldInBits files signature net reply
-  bits_print is =
-      let P : Job → Type 0 = λ job. JobAnswer (Some files) job (Ok reply) in
-      let answer = is.answer in
-      job_prints_bits files signature net is.bound reply (subst P (one_job words answer.0 (record { signature = signature; action = Bits net is.bound }) answer.1 is.spelled) answer.2)
+-- of held files
+pub held_job : (files : Files) (signature net : Word) (cycles : ℕ) (setting : SettingValue) (bound : BoundNet) (bytes text : List ℕ) → Read (Some files) signature (Ok bytes) → Read (Some files) net (Ok text) → SettingOf bytes (Ok setting) → BoundNetOf setting.signature (by_ending net text) (Ok bound) → AreHeld files signature net cycles setting (job_of setting bound cycles)
+held_job files signature net cycles setting bound bytes text signature_read net_read is_setting is_bound = record {
+  bytes = bytes;
+  signature_read = signature_read;
+  text = text;
+  net_read = net_read;
+  is_job = record { is_setting = is_setting; bound = bound; is_bound = is_bound; is_job = refl };
+}
 
--- ---- one setting and circuit in the files
+-- ---- one setting and job in the files
 
 same_ok : {A F : Type 0} (a b : A) → ◌≡◌ {A = Result A F} (Ok a) (Ok b) → a ≡ b
 same_ok a b e = cc
 
-module _ (files : Files) (signature net : Word) where
-  pub one_setting : (s t : SettingValue) (c d : BoundNet) → AreHeld files signature net s c → AreHeld files signature net t d → s ≡ t
+module _ (files : Files) (signature net other : Word) (cycles : ℕ) where
+  pub one_setting : (s t : SettingValue) (c d : Circuit) → AreHeld files signature net cycles s c → AreHeld files signature other cycles t d → s ≡ t
   one_setting s t c d a b =
-      let text : a.taken.signature ≡ b.taken.signature = same_ok a.taken.signature b.taken.signature (read_determined files signature (Ok a.taken.signature) (Ok b.taken.signature) a.signature_read b.signature_read) in
+      let text : a.bytes ≡ b.bytes = same_ok a.bytes b.bytes (read_determined files signature (Ok a.bytes) (Ok b.bytes) a.signature_read b.signature_read) in
       let P : List ℕ → Type 0 = λ bytes. SettingOf bytes (Ok s) in
-      same_ok s t (setting_determined b.taken.signature (Ok s) (Ok t) (subst P text a.taken.is_setting) b.taken.is_setting)
+      same_ok s t (setting_determined b.bytes (Ok s) (Ok t) (subst P text a.is_job.is_setting) b.is_job.is_setting)
 
-  pub one_circuit : (s : SettingValue) (c d : BoundNet) → AreHeld files signature net s c → AreHeld files signature net s d → c ≡ d
-  one_circuit s c d a b =
+module _ (files : Files) (signature net : Word) (cycles : ℕ) where
+  pub one_held : (s : SettingValue) (c d : Circuit) → AreHeld files signature net cycles s c → AreHeld files signature net cycles s d → c ≡ d
+  one_held s c d a b =
       let bytes : a.text ≡ b.text = same_ok a.text b.text (read_determined files net (Ok a.text) (Ok b.text) a.net_read b.net_read) in
-      let text : a.taken.netlist ≡ b.taken.netlist = a.net_is ∙ (ap (by_ending net) bytes ∙ sym b.net_is) in
-      let P : NetlistText → Type 0 = λ text. BoundNetOf s.signature text (Ok c) in
-      same_ok c d (netlist_determined s.signature b.taken.netlist (Ok c) (Ok d) (subst P text a.taken.is_circuit) b.taken.is_circuit)
+      let P : List ℕ → Type 0 = λ text. BoundNetOf s.signature (by_ending net text) (Ok a.is_job.bound) in
+      let bound : a.is_job.bound ≡ b.is_job.bound = same_ok a.is_job.bound b.is_job.bound (netlist_determined s.signature (by_ending net b.text) (Ok a.is_job.bound) (Ok b.is_job.bound) (subst P bytes a.is_job.is_bound) b.is_job.is_bound) in
+      a.is_job.is_job ∙ (ap (λ n. job_of s n cycles) bound ∙ sym b.is_job.is_job)
 
-  -- what is printed is of this setting and circuit
-  pub printed_of : (reply : Reply) (setting : SettingValue) (circuit : BoundNet) → PrintsHeld files signature net reply → AreHeld files signature net setting circuit → IsPrinted setting circuit reply
-  printed_of reply setting circuit found held =
-      let P : SettingValue → Type 0 = λ s. AreHeld files signature net s found.circuit in
-      let Q : SettingValue → Type 0 = λ s. IsPrinted s found.circuit reply in
-      let R : BoundNet → Type 0 = λ c. IsPrinted setting c reply in
-      let same = one_setting found.setting setting found.circuit circuit found.held held in
-      subst R (one_circuit setting found.circuit circuit (subst P same found.held) held) (subst Q same found.printed)
+-- ---- what `abstract` prints
 
-pub bytes_only : (files : Files) (words : List Word) (signature net : Word) (reply : Reply) (setting : SettingValue) (circuit : BoundNet) (ts : Terms) → AnswersAbstract files words signature net reply → AreHeld files signature net setting circuit → IsInItsWords setting circuit ts → reply.text ≡ polynomial_line setting ts ↔ HasOutput setting circuit ts
-bytes_only files words signature net reply setting circuit ts is held in_words =
-    only_text setting circuit held.taken reply ts (printed_of files signature net reply setting circuit (abstract_prints files words signature net reply is) held) in_words
+-- what was printed of a job
+pub record Printed (setting : SettingValue) (job : Circuit) (reply : Reply) : Type 0 where
+  pub circuit : BoundNet
+  pub behind : IsUnrolled setting circuit job
+  pub is : IsPrinted setting (taken_circuit setting circuit) reply
 
-pub bytes_equal : (files files' : Files) (words words' : List Word) (signature signature' net net' : Word) (reply reply' : Reply) (setting : SettingValue) (circuit other : BoundNet) → AnswersAbstract files words signature net reply → AnswersAbstract files' words' signature' net' reply' → AreHeld files signature net setting circuit → AreHeld files' signature' net' setting other
-    → reply.text ≡ reply'.text ↔ AreOneFunction setting circuit other
-bytes_equal files files' words words' signature signature' net net' reply reply' setting circuit other is is' held held' =
-    equal_bytes setting circuit other reply reply' held.taken held'.taken (printed_of files signature net reply setting circuit (abstract_prints files words signature net reply is) held)
-    (printed_of files' signature' net' reply' setting other (abstract_prints files' words' signature' net' reply' is') held')
+record HeldPrinted (files : Files) (signature net : Word) (cycles : ℕ) (reply : Reply) : Type 0 where
+  pub setting : SettingValue
+  pub job : Circuit
+  pub held : AreHeld files signature net cycles setting job
+  pub printed : Printed setting job reply
+
+job_prints : (files : Files) (signature net : Word) (bound cycles : ℕ) (reply : Reply) → JobAnswer (Some files) (record { signature = signature; action = Abstract net bound cycles }) (Ok reply) → HeldPrinted files signature net cycles reply
+job_prints files signature net bound cycles reply (signed, (text, read, is), (setting, are, (circuit, (netlist, (bytes, read', taken), of), came))) =
+    let behind = unrolled text (by_ending net bytes) cycles setting netlist circuit (signed, is, are) taken of in
+    record {
+      setting = setting;
+      job = job_of setting netlist cycles;
+      held = held_job files signature net cycles setting netlist text bytes read read' (signed, is, are) taken;
+      printed = record { circuit = circuit; behind = behind; is = printed setting circuit behind.taken bound reply came };
+    }
+
+-- ---- what `bits` prints
+
+module _ (setting : SettingValue) (circuit : BoundNet) (job : Circuit) (behind : IsUnrolled setting circuit job) (bound : ℕ) (reply : Reply) (came : BitsReply setting circuit bound (Ok reply)) where
+  printed_bits : IsPrintedInBits setting job reply
+  printed_bits =
+      let c : Circuit = taken_circuit setting circuit in
+      let one = behind.one in
+      let ts = came.0 in
+      let is = in_bits setting circuit behind.taken bound reply came in
+      let ok = well setting circuit behind.taken in
+      let many : length (word_nets c.words) ≡ setting.k * length job.words = nets_long setting.k c.words (λ w has. (ok.words w has).nets) ∙ ap (λ n. setting.k * n) (long setting c job one) in
+      let P : ℕ → Type 0 = λ n. InFirstRanks n ts in
+      record {
+        polynomial = ts;
+        status = ap (λ (r : Reply). r.status) came.2;
+        line = ap (λ (r : Reply). r.text) came.2;
+        reduced = is.reduced;
+        bits_alone = is.bits_alone;
+        words_alone = subst P many is.words_alone;
+        values = λ xs ones are.
+            let here = alike_ones job c (alike_back c job one.alike) xs ones are in
+            (one.output xs (value setting.product (at_ones ones) ts)).0 ((as_value c ts xs (value setting.product (at_ones ones) ts) ok is).0 (record { ones = ones; are = here; value_is = refl }));
+      }
+
+job_prints_bits : (files : Files) (signature net : Word) (bound cycles : ℕ) (reply : Reply) → JobAnswer (Some files) (record { signature = signature; action = Bits net bound cycles }) (Ok reply) → PrintsHeldInBits files signature net cycles reply
+job_prints_bits files signature net bound cycles reply (signed, (text, read, is), (setting, are, (circuit, (netlist, (bytes, read', taken), of), came))) =
+    let behind = unrolled text (by_ending net bytes) cycles setting netlist circuit (signed, is, are) taken of in
+    record {
+      setting = setting;
+      job = job_of setting netlist cycles;
+      held = held_job files signature net cycles setting netlist text bytes read read' (signed, is, are) taken;
+      printed = printed_bits setting circuit (job_of setting netlist cycles) behind bound reply came;
+    }
+
+-- ---- the answers
+
+module _ (files : Files) (words : List Word) (signature net : Word) (cycles : ℕ) (reply : Reply) where
+  held_printed : AnswersAbstract files words signature net cycles reply → HeldPrinted files signature net cycles reply
+  held_printed is =
+      let P : Job → Type 0 = λ job. JobAnswer (Some files) job (Ok reply) in
+      let answer = is.answer in
+      job_prints files signature net is.bound cycles reply (subst P (one_job words answer.0 (record { signature = signature; action = Abstract net is.bound cycles }) answer.1 is.spelled) answer.2)
+
+  pub abstract_prints : AnswersAbstract files words signature net cycles reply → PrintsHeld files signature net cycles reply
+  abstract_prints is =
+      let found = held_printed is in
+      let p = found.printed in
+      record { setting = found.setting; job = found.job; held = found.held; printed = printed_to found.setting (taken_circuit found.setting p.circuit) found.job p.behind.one reply p.is }
+
+  pub bits_print : AnswersBits files words signature net cycles reply → PrintsHeldInBits files signature net cycles reply
+  bits_print is =
+      let P : Job → Type 0 = λ job. JobAnswer (Some files) job (Ok reply) in
+      let answer = is.answer in
+      job_prints_bits files signature net is.bound cycles reply (subst P (one_job words answer.0 (record { signature = signature; action = Bits net is.bound cycles }) answer.1 is.spelled) answer.2)
+
+  -- what is printed is of this setting and job
+  printed_of : (setting : SettingValue) (job : Circuit) → AnswersAbstract files words signature net cycles reply → AreHeld files signature net cycles setting job → Printed setting job reply
+  printed_of setting job is held =
+      let found = held_printed is in
+      let P : SettingValue → Type 0 = λ s. AreHeld files signature net cycles s found.job in
+      let Q : SettingValue → Type 0 = λ s. Printed s found.job reply in
+      let R : Circuit → Type 0 = λ c. Printed setting c reply in
+      let same = one_setting files signature net net cycles found.setting setting found.job job found.held held in
+      subst R (one_held files signature net cycles setting found.job job (subst P same found.held) held) (subst Q same found.printed)
+
+pub bytes_only : (files : Files) (words : List Word) (signature net : Word) (cycles : ℕ) (reply : Reply) (setting : SettingValue) (job : Circuit) (ts : Terms) → AnswersAbstract files words signature net cycles reply → AreHeld files signature net cycles setting job → IsInItsWords setting job ts → reply.text ≡ polynomial_line setting ts ↔ HasOutput setting job ts
+bytes_only files words signature net cycles reply setting job ts is held in_words =
+    let p = printed_of files words signature net cycles reply setting job is held in
+    let c : Circuit = taken_circuit setting p.circuit in
+    let one = p.behind.one in
+    let text = only_text setting p.circuit p.behind.taken reply ts p.is (words_from setting c job one ts in_words) in (
+      (λ same. output_to setting c job one ts (text.0 same)),
+      λ values. text.1 (output_from setting c job one ts values),
+    )
+
+pub bytes_equal : (files files' : Files) (words words' : List Word) (signature signature' net net' : Word) (cycles cycles' : ℕ) (reply reply' : Reply) (setting : SettingValue) (job other : Circuit) → AnswersAbstract files words signature net cycles reply → AnswersAbstract files' words' signature' net' cycles' reply' → AreHeld files signature net cycles setting job → AreHeld files' signature' net' cycles' setting other
+    → reply.text ≡ reply'.text ↔ AreOneFunction job other
+bytes_equal files files' words words' signature signature' net net' cycles cycles' reply reply' setting job other is is' held held' =
+    let p = printed_of files words signature net cycles reply setting job is held in
+    let q = printed_of files' words' signature' net' cycles' reply' setting other is' held' in
+    let c : Circuit = taken_circuit setting p.circuit in
+    let d : Circuit = taken_circuit setting q.circuit in
+    let text = equal_bytes setting p.circuit q.circuit reply reply' p.behind.taken q.behind.taken p.is q.is in
+    let both = both_one c job d other p.behind.one q.behind.one in (
+      (λ same. both.0 (text.0 same)),
+      λ equal. text.1 (both.1 equal),
+    )

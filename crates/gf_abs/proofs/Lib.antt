@@ -5,6 +5,7 @@ pub mod WordNamesLemmas
 pub mod RefusalLemmas
 pub mod SameRefusalLemmas
 pub mod DifferingLineLemmas
+pub mod UnrollingLemmas
 pub mod TakenLemmas
 pub mod StagedDetermined
 pub mod ReplyDetermined
@@ -12,6 +13,9 @@ pub mod SpecStageLemmas
 pub mod CheckLemmas
 pub mod CheckDetermined
 pub mod SameDetermined
+pub mod EvalDetermined
+pub mod ElementLemmas
+pub mod PartLemmas
 pub mod AlikeLemmas
 pub mod SameLemmas
 pub mod AnswerDetermined
@@ -21,7 +25,9 @@ pub mod CompleteLemmas
 pub mod EqualLabels
 pub mod EqualLemmas
 pub mod EqualFunctions
+pub mod JobLemmas
 pub mod HeadlineLemmas
 pub mod SameHeadlineLemmas
 pub mod CheckHeadlineLemmas
+pub mod EvalHeadlineLemmas
 mod Examples

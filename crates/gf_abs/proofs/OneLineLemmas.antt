@@ -1,5 +1,6 @@
 -- Each fault that may come is one line.
-use Rattle.std.proofs.Common.{◌≡◌, inl, inr, refl, subst, sym, ℕ, List, Option, Ok, Err}
+use Rattle.std.proofs.Common.{◌≡◌, inl, inr, refl, subst, sym, ℕ, List, length, Option, Ok, Err}
+use Rattle.text_core.specs.Outcome.{Within}
 use Rattle.std.specs.Prelude.{codes}
 use Rattle.job_io.specs.Shelf.{Files}
 use Rattle.net_words.specs.Binding.{BoundNet}
@@ -9,7 +10,7 @@ use Rattle.poly_mixed.specs.declared.stage.Stage.{Stage}
 use Rattle.spec_expand.specs.Specification.{SpecTerms}
 use Rattle.spec_expand.specs.SpecListing.{spec_listing}
 use Rattle.stage_model.specs.Listing.{Joined, Earlier, Later, Listing}
-use Rattle.job_words.specs.Command.{Action, Bits, Abstract, Check, Same, IsSpelled, Job}
+use Rattle.job_words.specs.Command.{Action, Bits, Abstract, Check, Same, Eval, IsSpelled, Job}
 use Rattle.job_words.specs.Fault.{fault_line}
 use Rattle.job_words.specs.OneLine.{HasNoLineFeed, IsOneLine, KeepsToItsLine}
 use Rattle.job_words.specs.Operands.{IsOperand, Word}
@@ -18,12 +19,14 @@ use Rattle.job_words.specs.declared.fault.Fault.{Fault}
 use Rattle.job_words.specs.declared.fault.Fault.TheVariants as faults
 use Rattle.job_words.specs.declared.stage_fault.StageFault.{StageFault}
 use Rattle.job_words.proofs.OneLineLemmas.{before_kept, one_line, stage_kept}
+use Rattle.job_input.specs.CircuitOf.{CircuitIn}
 use Rattle.job_input.specs.Labelling.{labels_of}
 use Rattle.job_input.specs.SettingOf.{SettingWith, SignedOf, SignedValue}
 use Rattle.job_input.specs.SettingValue.{SettingValue}
-use Rattle.job_input.proofs.FileLineLemmas.{HaveKeptNames, circuit_keeps, labels_kept, operand_kept, setting_keeps, signed_keeps, specification_keeps}
+use Rattle.job_input.proofs.FileLineLemmas.{HaveKeptNames, cycles_keep, labels_kept, netlist_file_keeps, operand_kept, setting_keeps, signed_keeps, specification_keeps}
 use Rattle.job_input.proofs.SignedLemmas.{setting_names}
 use Rattle.gf_abs.specs.Answer.{ActionAnswer, Answer, JobAnswer, SignedAnswer}
+use Rattle.gf_abs.specs.Values.{ValuesOf}
 use Rattle.gf_abs.specs.Staged.{IsStageOver, Staged, either_net_text, either_text}
 use Rattle.gf_abs.specs.commands.Abstract.{AbstractReply, abstract_stages, taken_circuit}
 use Rattle.gf_abs.specs.commands.Bits.{BitsReply, bits_stages}
@@ -34,16 +37,18 @@ use Rattle.gf_abs.specs.commands.Same.{SameReply, same_stages}
 
 -- the operands have no line feed
 abbrev AreKept : Action → Type 0
-AreKept (Bits net terms) = HasNoLineFeed net
-AreKept (Abstract net terms) = HasNoLineFeed net
-AreKept (Check net specification terms) = HasNoLineFeed net × HasNoLineFeed specification
-AreKept (Same net other terms) = HasNoLineFeed net × HasNoLineFeed other
+AreKept (Bits net terms cycles) = HasNoLineFeed net
+AreKept (Abstract net terms cycles) = HasNoLineFeed net
+AreKept (Check net specification terms cycles) = HasNoLineFeed net × HasNoLineFeed specification
+AreKept (Same net other terms cycles) = HasNoLineFeed net × HasNoLineFeed other
+AreKept (Eval net values cycles) = HasNoLineFeed net
 
 spelled_kept : (words : List Word) (signature : Word) (action : Action) → IsSpelled words (record { signature = signature; action = action }) → HasNoLineFeed signature × AreKept action
-spelled_kept words signature (Bits net terms) is = (operand_kept signature is.follow.signature_is, operand_kept net is.follow.net_is)
-spelled_kept words signature (Abstract net terms) is = (operand_kept signature is.follow.signature_is, operand_kept net is.follow.net_is)
-spelled_kept words signature (Check net specification terms) is = (operand_kept signature is.follow.signature_is, (operand_kept net is.follow.net_is, operand_kept specification is.follow.other_is))
-spelled_kept words signature (Same net other terms) is = (operand_kept signature is.follow.pair.signature_is, (operand_kept net is.follow.pair.net_is, operand_kept other is.follow.pair.other_is))
+spelled_kept words signature (Bits net terms cycles) is = (operand_kept signature is.follow.signature_is, operand_kept net is.follow.net_is)
+spelled_kept words signature (Abstract net terms cycles) is = (operand_kept signature is.follow.signature_is, operand_kept net is.follow.net_is)
+spelled_kept words signature (Check net specification terms cycles) is = (operand_kept signature is.follow.signature_is, (operand_kept net is.follow.net_is, operand_kept specification is.follow.other_is))
+spelled_kept words signature (Same net other terms cycles) is = (operand_kept signature is.follow.pair.signature_is, (operand_kept net is.follow.pair.net_is, operand_kept other is.follow.pair.other_is))
+spelled_kept words signature (Eval net values cycles) is = (operand_kept signature is.follow.signature_is, operand_kept net is.follow.net_is)
 
 -- ---- stages
 
@@ -92,17 +97,32 @@ module _ (setting : SettingValue) (names : HaveNames setting.signature.words) wh
 
   -- ---- the answer of each command
 
+  circuit_kept : (held : Option Files) (net : Word) (cycles : ℕ) (fault : Fault) → HasNoLineFeed net → CircuitIn held setting.signature net cycles (Err fault) → KeepsToItsLine fault
+  circuit_kept held net cycles fault is (inl wrong) = netlist_file_keeps held setting.signature net fault names is wrong
+  circuit_kept held net cycles fault is (inr (netlist, taken, wrong)) = cycles_keep net netlist cycles fault is wrong
+
+  -- faults of values repeat nothing
+  values_kept : (k count : ℕ) (values : List Word) (fault : Fault) → Within faults.Value (ValuesOf k count values) (Err fault) → KeepsToItsLine fault
+  values_kept k count values fault (other, wrong, same) = same_line fault (faults.Value other) same tt
+
   action_kept : (held : Option Files) (action : Action) (fault : Fault) → AreKept action → ActionAnswer held setting action (Err fault) → KeepsToItsLine fault
-  action_kept held (Bits net terms) fault is (inl wrong) = circuit_keeps held setting.signature net fault names is wrong
-  action_kept held (Bits net terms) fault is (inr (circuit, taken, wrong)) = bits_kept circuit terms fault wrong
-  action_kept held (Abstract net terms) fault is (inl wrong) = circuit_keeps held setting.signature net fault names is wrong
-  action_kept held (Abstract net terms) fault is (inr (circuit, taken, wrong)) = abstract_kept circuit terms fault wrong
-  action_kept held (Check net specification terms) fault is (inl wrong) = circuit_keeps held setting.signature net fault names is.0 wrong
-  action_kept held (Check net specification terms) fault is (inr (circuit, taken, inl wrong)) = specification_keeps held (labels_of setting.k setting.signature.words) setting.k setting.product specification fault is.1 wrong
-  action_kept held (Check net specification terms) fault is (inr (circuit, taken, inr (spec, said, wrong))) = check_kept circuit spec terms fault wrong
-  action_kept held (Same net other terms) fault is (inl wrong) = circuit_keeps held setting.signature net fault names is.0 wrong
-  action_kept held (Same net other terms) fault is (inr (circuit, taken, inl wrong)) = circuit_keeps held setting.signature other fault names is.1 wrong
-  action_kept held (Same net other terms) fault is (inr (circuit, taken, inr (second, more, wrong))) = same_kept circuit second terms fault wrong
+  action_kept held (Bits net terms cycles) fault is (inl wrong) = circuit_kept held net cycles fault is wrong
+  action_kept held (Bits net terms cycles) fault is (inr (circuit, taken, wrong)) = bits_kept circuit terms fault wrong
+  action_kept held (Abstract net terms cycles) fault is (inl wrong) = circuit_kept held net cycles fault is wrong
+  action_kept held (Abstract net terms cycles) fault is (inr (circuit, taken, wrong)) = abstract_kept circuit terms fault wrong
+  action_kept held (Check net specification terms cycles) fault is (inl wrong) = netlist_file_keeps held setting.signature net fault names is.0 wrong
+  action_kept held (Check net specification terms cycles) fault is (inr (netlist, taken, inl wrong)) = specification_keeps held (labels_of setting.k setting.signature.words) setting.k setting.product specification fault is.1 wrong
+  action_kept held (Check net specification terms cycles) fault is (inr (netlist, taken, inr (spec, said, inl wrong))) = cycles_keep net netlist cycles fault is.0 wrong
+  action_kept held (Check net specification terms cycles) fault is (inr (netlist, taken, inr (spec, said, inr (circuit, of, wrong)))) = check_kept circuit spec terms fault wrong
+  action_kept held (Same net other terms cycles) fault is (inl wrong) = netlist_file_keeps held setting.signature net fault names is.0 wrong
+  action_kept held (Same net other terms cycles) fault is (inr (netlist, taken, inl wrong)) = netlist_file_keeps held setting.signature other fault names is.1 wrong
+  action_kept held (Same net other terms cycles) fault is (inr (netlist, taken, inr (second, more, inl wrong))) = cycles_keep net netlist cycles fault is.0 wrong
+  action_kept held (Same net other terms cycles) fault is (inr (netlist, taken, inr (second, more, inr (circuit, of, inl wrong)))) = cycles_keep other second cycles fault is.1 wrong
+  action_kept held (Same net other terms cycles) fault is (inr (netlist, taken, inr (second, more, inr (circuit, of, inr (beside, of', wrong))))) = same_kept circuit beside terms fault wrong
+  action_kept held (Eval net values cycles) fault is (inl wrong) = netlist_file_keeps held setting.signature net fault names is wrong
+  action_kept held (Eval net values cycles) fault is (inr (netlist, taken, inl wrong)) = values_kept setting.k (length (labels_of setting.k setting.signature.words).words) values fault wrong
+  action_kept held (Eval net values cycles) fault is (inr (netlist, taken, inr (xs, are, inl wrong))) = cycles_keep net netlist cycles fault is wrong
+  action_kept held (Eval net values cycles) fault is (inr (netlist, taken, inr (xs, are, inr (circuit, of, never)))) = absurd never
 
 signed_kept : (held : Option Files) (text : List ℕ) (signed : SignedValue) (action : Action) (fault : Fault) → SignedOf text (Ok signed) → AreKept action → SignedAnswer held signed action (Err fault) → KeepsToItsLine fault
 signed_kept held text signed action fault is kept (inl (other, wrong, same)) = same_line fault (faults.Signature other) same (setting_keeps signed other wrong)

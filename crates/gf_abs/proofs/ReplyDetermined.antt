@@ -22,7 +22,8 @@ use Rattle.stage_model.proofs.WordListingLemmas.{words_ordered, words_sizes}
 use Rattle.job_words.specs.declared.fault.Fault.TheVariants as faults
 use Rattle.job_words.specs.StageFault.{stage_text}
 use Rattle.job_input.specs.Labelling.{labels_of}
-use Rattle.job_input.specs.NetlistOf.{BoundNetOf, NetlistText}
+use Rattle.job_input.specs.CircuitOf.{CircuitOfText}
+use Rattle.job_input.specs.NetlistOf.{NetlistText}
 use Rattle.job_input.specs.SettingSound.{IsSoundSetting}
 use Rattle.job_input.specs.SettingValue.{SettingValue}
 use Rattle.gf_abs.specs.Reply.{prints}
@@ -30,11 +31,11 @@ use Rattle.gf_abs.specs.Staged.{either_text}
 use Rattle.gf_abs.specs.commands.Bits.{bits_stages, IsLastCut, BitsOf, BitsReply}
 use Rattle.gf_abs.specs.commands.Abstract.{taken_circuit, abstract_stages, IsInWords, AbstractOf, AbstractReply}
 use Rattle.gf_abs.proofs.StagedDetermined.{staged_determined}
-use Rattle.gf_abs.proofs.TakenLemmas.{netlist_sound, circuit_well}
+use Rattle.gf_abs.proofs.TakenLemmas.{circuit_sound, circuit_well}
 
-module _ (setting : SettingValue) (circuit : BoundNet) (bound : ℕ) (sound : IsSoundSetting setting) (text : NetlistText) (is : BoundNetOf setting.signature text (Ok circuit)) where
+module _ (setting : SettingValue) (circuit : BoundNet) (bound : ℕ) (sound : IsSoundSetting setting) (text : NetlistText) (cycles : ℕ) (is : CircuitOfText setting.signature text cycles (Ok circuit)) where
   well : IsWellFormed (taken_circuit setting circuit)
-  well = circuit_well setting circuit sound text is
+  well = circuit_well setting circuit sound text cycles is
 
   pub cuts_one_order : IsOrdered (bits_stages setting circuit)
   cuts_one_order = cuts_ordered (length circuit.net.gates + 1) (BoundCut circuit (output_basis circuit.bound.words setting.bases))
@@ -42,14 +43,14 @@ module _ (setting : SettingValue) (circuit : BoundNet) (bound : ℕ) (sound : Is
   pub cuts_one_size : HaveOneSize setting.k setting.product (bits_stages setting circuit)
   cuts_one_size =
       net_cuts_sizes setting.k setting.product circuit.net (variables (nets circuit.net) circuit.bound.words) (output_word circuit.bound.words (output_basis circuit.bound.words setting.bases)) (length circuit.net.gates + 1)
-      sound.ring sound.field (netlist_sound setting.signature text circuit is)
+      sound.ring sound.field (circuit_sound setting circuit sound text cycles is)
 
   one_last_cut : (ts us : Terms) → IsLastCut setting circuit ts → IsLastCut setting circuit us → ts ≡ us
   one_last_cut ts us a b =
       let order = variables (nets circuit.net) circuit.bound.words in
       let output = output_word circuit.bound.words (output_basis circuit.bound.words setting.bases) in
       same_terms setting.k setting.product sound.ring sound.field (IsCut circuit.net order output (length circuit.net.gates))
-      (λ p x y at first other. one_cut_of circuit.net (netlist_sound setting.signature text circuit is) order output (length circuit.net.gates) p x y first other) ts us a b
+      (λ p x y at first other. one_cut_of circuit.net (circuit_sound setting circuit sound text cycles is) order output (length circuit.net.gates) p x y first other) ts us a b
 
   one_in_words : (ts us : Terms) → IsInWords setting circuit ts → IsInWords setting circuit us → ts ≡ us
   one_in_words ts us a b =

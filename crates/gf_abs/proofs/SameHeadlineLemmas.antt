@@ -13,73 +13,78 @@ use Rattle.job_words.specs.Operands.{Word}
 use Rattle.job_words.specs.Command.{Same, Job}
 use Rattle.job_words.proofs.OneCommandLemmas.{one_job}
 use Rattle.job_input.specs.Labelling.{labels_of}
+use Rattle.job_input.specs.JobOf.{job_of}
 use Rattle.job_input.specs.NetlistOf.{by_ending}
 use Rattle.job_input.specs.SettingValue.{SettingValue}
-use Rattle.job_input.proofs.RoleLemmas.{netlist_roles}
 use Rattle.gf_abs.specs.Answer.{JobAnswer}
 use Rattle.gf_abs.specs.Headline.{IsTaken, AreHeld, AnswersSame, PrintsDifference, AreOneFunction}
 use Rattle.gf_abs.specs.Reply.{Reply}
 use Rattle.gf_abs.specs.commands.Abstract.{taken_circuit}
 use Rattle.gf_abs.specs.commands.Same.{AreCompared, SameReply, same_reply}
 use Rattle.gf_abs.proofs.AlikeLemmas.{alike}
-use Rattle.gf_abs.proofs.EqualLemmas.{well}
-use Rattle.gf_abs.proofs.HeadlineLemmas.{one_setting, one_circuit}
+use Rattle.gf_abs.proofs.EqualLemmas.{roles, well}
+use Rattle.gf_abs.proofs.HeadlineLemmas.{IsUnrolled, held_job, one_held, one_setting, unrolled}
+use Rattle.gf_abs.proofs.JobLemmas.{both_one, differing}
 
 -- what was compared for a reply
-pub record Compared (setting : SettingValue) (circuit other : BoundNet) (reply : Reply) : Type 0 where
+pub record Compared (setting : SettingValue) (job second : Circuit) (reply : Reply) : Type 0 where
+  pub circuit : BoundNet
+  pub other : BoundNet
+  pub behind : IsUnrolled setting circuit job
+  pub beside : IsUnrolled setting other second
   pub found : Option Difference
   pub is : AreCompared setting circuit other found
   pub replied : reply ≡ same_reply (labels_of setting.k setting.signature.words) found
 
-record HeldCompared (files : Files) (signature net other : Word) (reply : Reply) : Type 0 where
+record HeldCompared (files : Files) (signature net other : Word) (cycles : ℕ) (reply : Reply) : Type 0 where
   pub setting : SettingValue
-  pub circuit : BoundNet
-  pub second : BoundNet
-  pub held : AreHeld files signature net setting circuit
-  pub more : AreHeld files signature other setting second
-  pub compared : Compared setting circuit second reply
+  pub job : Circuit
+  pub second : Circuit
+  pub held : AreHeld files signature net cycles setting job
+  pub more : AreHeld files signature other cycles setting second
+  pub compared : Compared setting job second reply
 
-replied_by : (setting : SettingValue) (circuit other : BoundNet) (bound : ℕ) (reply : Reply) → SameReply setting circuit other bound (Ok reply) → Compared setting circuit other reply
-replied_by setting circuit other bound reply (found, is, exactly) = record { found = found; is = is.0; replied = exactly }
+replied_by : (setting : SettingValue) (circuit other : BoundNet) (job second : Circuit) (bound : ℕ) (reply : Reply) → IsUnrolled setting circuit job → IsUnrolled setting other second → SameReply setting circuit other bound (Ok reply) → Compared setting job second reply
+replied_by setting circuit other job second bound reply behind beside (found, is, exactly) = record { circuit = circuit; other = other; behind = behind; beside = beside; found = found; is = is.0; replied = exactly }
 
-job_compares : (files : Files) (signature net other : Word) (bound : ℕ) (reply : Reply) → JobAnswer (Some files) (record { signature = signature; action = Same net other bound }) (Ok reply) → HeldCompared files signature net other reply
-job_compares files signature net other bound reply (signed, (text, read, is), (setting, are, (circuit, (netlist, read', taken), (second, (netlist', read'', taken'), came)))) =
-    let first : IsTaken setting circuit = record { signature = text; is_setting = (signed, is, are); netlist = by_ending net netlist; is_circuit = taken } in
-    let beside : IsTaken setting second = record { signature = text; is_setting = (signed, is, are); netlist = by_ending other netlist'; is_circuit = taken' } in
+job_compares : (files : Files) (signature net other : Word) (bound cycles : ℕ) (reply : Reply) → JobAnswer (Some files) (record { signature = signature; action = Same net other bound cycles }) (Ok reply) → HeldCompared files signature net other cycles reply
+job_compares files signature net other bound cycles reply (signed, (text, read, is), (setting, are, (netlist, (bytes, read', taken), (second, (bytes', read'', taken'), (circuit, of, (more, of', came)))))) =
+    let behind = unrolled text (by_ending net bytes) cycles setting netlist circuit (signed, is, are) taken of in
+    let beside = unrolled text (by_ending other bytes') cycles setting second more (signed, is, are) taken' of' in
     record {
       setting = setting;
-      circuit = circuit;
-      second = second;
-      held = record { taken = first; signature_read = read; text = netlist; net_read = read'; net_is = refl };
-      more = record { taken = beside; signature_read = read; text = netlist'; net_read = read''; net_is = refl };
-      compared = replied_by setting circuit second bound reply came;
+      job = job_of setting netlist cycles;
+      second = job_of setting second cycles;
+      held = held_job files signature net cycles setting netlist text bytes read read' (signed, is, are) taken;
+      more = held_job files signature other cycles setting second text bytes' read read'' (signed, is, are) taken';
+      compared = replied_by setting circuit more (job_of setting netlist cycles) (job_of setting second cycles) bound reply behind beside came;
     }
 
-module _ (files : Files) (words : List Word) (signature net other : Word) (reply : Reply) (answers : AnswersSame files words signature net other reply) where
-  held_compared : HeldCompared files signature net other reply
+module _ (files : Files) (words : List Word) (signature net other : Word) (cycles : ℕ) (reply : Reply) (answers : AnswersSame files words signature net other cycles reply) where
+  held_compared : HeldCompared files signature net other cycles reply
   held_compared =
       let P : Job → Type 0 = λ job. JobAnswer (Some files) job (Ok reply) in
       let answer = answers.answer in
-      job_compares files signature net other answers.bound reply (subst P (one_job words answer.0 (record { signature = signature; action = Same net other answers.bound }) answer.1 answers.spelled) answer.2)
+      job_compares files signature net other answers.bound cycles reply (subst P (one_job words answer.0 (record { signature = signature; action = Same net other answers.bound cycles }) answer.1 answers.spelled) answer.2)
 
-  -- the comparison of these circuits
-  compared_for : (setting : SettingValue) (circuit second : BoundNet) → AreHeld files signature net setting circuit → AreHeld files signature other setting second → Compared setting circuit second reply
-  compared_for setting circuit second held more =
+  -- the comparison of these jobs
+  compared_for : (setting : SettingValue) (job second : Circuit) → AreHeld files signature net cycles setting job → AreHeld files signature other cycles setting second → Compared setting job second reply
+  compared_for setting job second held more =
       let found = held_compared in
-      let same : found.setting ≡ setting = one_setting files signature net found.setting setting found.circuit circuit found.held held in
-      let P : SettingValue → Type 0 = λ s. AreHeld files signature net s found.circuit in
-      let Q : SettingValue → Type 0 = λ s. AreHeld files signature other s found.second in
-      let R : SettingValue → Type 0 = λ s. Compared s found.circuit found.second reply in
-      let S : BoundNet → Type 0 = λ c. Compared setting c found.second reply in
-      let T : BoundNet → Type 0 = λ d. Compared setting circuit d reply in
-      subst T (one_circuit files signature other setting found.second second (subst Q same found.more) more)
-      (subst S (one_circuit files signature net setting found.circuit circuit (subst P same found.held) held) (subst R same found.compared))
+      let same : found.setting ≡ setting = one_setting files signature net net cycles found.setting setting found.job job found.held held in
+      let P : SettingValue → Type 0 = λ s. AreHeld files signature net cycles s found.job in
+      let Q : SettingValue → Type 0 = λ s. AreHeld files signature other cycles s found.second in
+      let R : SettingValue → Type 0 = λ s. Compared s found.job found.second reply in
+      let S : Circuit → Type 0 = λ c. Compared setting c found.second reply in
+      let T : Circuit → Type 0 = λ d. Compared setting job d reply in
+      subst T (one_held files signature other cycles setting found.second second (subst Q same found.more) more)
+      (subst S (one_held files signature net cycles setting found.job job (subst P same found.held) held) (subst R same found.compared))
 
 -- ---- what a comparison says
 
 module _ (setting : SettingValue) (circuit other : BoundNet) (taken : IsTaken setting circuit) (more : IsTaken setting other) where
   are_alike : AreAlike (taken_circuit setting circuit) (taken_circuit setting other)
-  are_alike = alike setting circuit other setting.signature.words (netlist_roles setting.signature taken.netlist circuit taken.is_circuit) (netlist_roles setting.signature more.netlist other more.is_circuit)
+  are_alike = alike setting circuit other setting.signature.words (roles setting circuit taken) (roles setting other more)
 
   -- they have the same inputs
   there_too : (xs : List ℕ) → IsInput (taken_circuit setting circuit) xs → IsInput (taken_circuit setting other) xs
@@ -89,7 +94,7 @@ module _ (setting : SettingValue) (circuit other : BoundNet) (taken : IsTaken se
   here_too xs is = record { long = is.long ∙ sym (alike_long (taken_circuit setting circuit) (taken_circuit setting other) are_alike); elements = is.elements }
 
   -- outputs that are the same wherever both are, are one function
-  one_function : AreSame (taken_circuit setting circuit) (IsOut (taken_circuit setting circuit)) (IsOut (taken_circuit setting other)) → AreOneFunction setting circuit other
+  one_function : AreSame (taken_circuit setting circuit) (IsOut (taken_circuit setting circuit)) (IsOut (taken_circuit setting other)) → AreOneFunction (taken_circuit setting circuit) (taken_circuit setting other)
   one_function same xs e =
       let c = taken_circuit setting circuit in
       let d = taken_circuit setting other in
@@ -105,7 +110,7 @@ module _ (setting : SettingValue) (circuit other : BoundNet) (taken : IsTaken se
             subst Q (same xs there.0 e input there.1 out) there.1,
       )
 
-  zero_there : (reply : Reply) (found : Option Difference) → AreCompared setting circuit other found → reply ≡ same_reply (labels_of setting.k setting.signature.words) found → reply.status ≡ 0 ↔ AreOneFunction setting circuit other
+  zero_there : (reply : Reply) (found : Option Difference) → AreCompared setting circuit other found → reply ≡ same_reply (labels_of setting.k setting.signature.words) found → reply.status ≡ 0 ↔ AreOneFunction (taken_circuit setting circuit) (taken_circuit setting other)
   zero_there reply None is replied = ((λ zero. one_function is), λ equal. ap (λ (r : Reply). r.status) replied)
   zero_there reply (Some found) is replied =
       let status : reply.status ≡ 1 = ap (λ (r : Reply). r.status) replied in (
@@ -113,7 +118,7 @@ module _ (setting : SettingValue) (circuit other : BoundNet) (taken : IsTaken se
         λ equal. absurd (is.differ.apart (one_out (taken_circuit setting other) found.input found.left found.right (well setting other more) ((equal found.input found.left).0 is.differ.first) is.differ.second)),
       )
 
-  difference_there : (reply : Reply) (found : Option Difference) → AreCompared setting circuit other found → reply ≡ same_reply (labels_of setting.k setting.signature.words) found → reply.status ≡ 1 → PrintsDifference setting circuit other reply
+  difference_there : (reply : Reply) (found : Option Difference) → AreCompared setting circuit other found → reply ≡ same_reply (labels_of setting.k setting.signature.words) found → reply.status ≡ 1 → PrintsDifference setting (taken_circuit setting circuit) (taken_circuit setting other) reply
   difference_there reply None is replied one = let status : reply.status ≡ 0 = ap (λ (r : Reply). r.status) replied in absurd (omega (arith, one, status))
   difference_there reply (Some found) is replied one = record { found = found; text = ap (λ (r : Reply). r.text) replied; differing = is }
 
@@ -125,16 +130,34 @@ text_there : (setting : SettingValue) (reply : Reply) (found : Option Difference
 text_there setting reply None replied zero = ap (λ (r : Reply). r.text) replied
 text_there setting reply (Some found) replied zero = let status : reply.status ≡ 1 = ap (λ (r : Reply). r.status) replied in absurd (omega (arith, zero, status))
 
-module _ (files : Files) (words : List Word) (signature net other : Word) (reply : Reply) where
-  pub same_status : AnswersSame files words signature net other reply → (reply.status ≡ 0) ⊎ (reply.status ≡ 1)
-  same_status answers = let found = held_compared files words signature net other reply answers in status_there found.setting reply found.compared.found found.compared.replied
+module _ (files : Files) (words : List Word) (signature net other : Word) (cycles : ℕ) (reply : Reply) where
+  pub same_status : AnswersSame files words signature net other cycles reply → (reply.status ≡ 0) ⊎ (reply.status ≡ 1)
+  same_status answers = let found = held_compared files words signature net other cycles reply answers in status_there found.setting reply found.compared.found found.compared.replied
 
-  pub same_text : AnswersSame files words signature net other reply → reply.status ≡ 0 → reply.text ≡ codes "same\n"
-  same_text answers zero = let found = held_compared files words signature net other reply answers in text_there found.setting reply found.compared.found found.compared.replied zero
+  pub same_text : AnswersSame files words signature net other cycles reply → reply.status ≡ 0 → reply.text ≡ codes "same\n"
+  same_text answers zero = let found = held_compared files words signature net other cycles reply answers in text_there found.setting reply found.compared.found found.compared.replied zero
 
-  module _ (setting : SettingValue) (circuit second : BoundNet) (answers : AnswersSame files words signature net other reply) (held : AreHeld files signature net setting circuit) (more : AreHeld files signature other setting second) where
-    pub same_equal : reply.status ≡ 0 ↔ AreOneFunction setting circuit second
-    same_equal = let found = compared_for files words signature net other reply answers setting circuit second held more in zero_there setting circuit second held.taken more.taken reply found.found found.is found.replied
+  module _ (setting : SettingValue) (job second : Circuit) (answers : AnswersSame files words signature net other cycles reply) (held : AreHeld files signature net cycles setting job) (more : AreHeld files signature other cycles setting second) where
+    compared_here : Compared setting job second reply
+    compared_here = compared_for files words signature net other cycles reply answers setting job second held more
 
-    pub same_differs : reply.status ≡ 1 → PrintsDifference setting circuit second reply
-    same_differs one = let found = compared_for files words signature net other reply answers setting circuit second held more in difference_there setting circuit second held.taken more.taken reply found.found found.is found.replied one
+    pub same_equal : reply.status ≡ 0 ↔ AreOneFunction job second
+    same_equal =
+        let found = compared_here in
+        let both = both_one (taken_circuit setting found.circuit) job (taken_circuit setting found.other) second found.behind.one found.beside.one in
+        let zero = zero_there setting found.circuit found.other found.behind.taken found.beside.taken reply found.found found.is found.replied in (
+          (λ status. both.0 (zero.0 status)),
+          λ equal. zero.1 (both.1 equal),
+        )
+
+    pub same_differs : reply.status ≡ 1 → PrintsDifference setting job second reply
+    same_differs one =
+        let found = compared_here in
+        let c : Circuit = taken_circuit setting found.circuit in
+        let d : Circuit = taken_circuit setting found.other in
+        let there = difference_there setting found.circuit found.other found.behind.taken found.beside.taken reply found.found found.is found.replied one in
+        record {
+          found = there.found;
+          text = there.text;
+          differing = differing setting c job found.behind.one (IsOut c) (IsOut d) (IsOut job) (IsOut second) found.behind.one.output found.beside.one.output there.found.input there.found.left there.found.right there.differing;
+        }

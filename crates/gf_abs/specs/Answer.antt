@@ -5,7 +5,7 @@ use Rattle.job_io.specs.Shelf.{Files}
 use Rattle.job_words.specs.declared.fault.Fault.{Fault}
 use Rattle.job_words.specs.declared.fault.Fault.TheVariants.{Words, Signature}
 use Rattle.job_words.specs.Operands.{Word}
-use Rattle.job_words.specs.Command.{Action, Bits, Abstract, Check, Same, Job, IsSpelled}
+use Rattle.job_words.specs.Command.{Action, Bits, Abstract, Check, Same, Eval, Job, IsSpelled}
 use Rattle.job_input.specs.SettingOf.{SignedValue, SettingWith}
 use Rattle.job_input.specs.SettingValue.{SettingValue}
 use Rattle.job_input.specs.SignedIn.{SignedIn}
@@ -14,6 +14,7 @@ use Rattle.gf_abs.specs.commands.Bits.{BitsAnswer}
 use Rattle.gf_abs.specs.commands.Abstract.{AbstractAnswer}
 use Rattle.gf_abs.specs.commands.Check.{CheckAnswer}
 use Rattle.gf_abs.specs.commands.Same.{SameAnswer}
+use Rattle.gf_abs.specs.commands.Eval.{EvalAnswer}
 
 -- the command of the words, or fault 01 where they spell none
 abbrev pub Spelled : List Word → Outcome Fault Job
@@ -22,10 +23,11 @@ Spelled words (Err fault) = (fault ≡ Words) × ((job : Job) → IsSpelled word
 
 -- what comes of a command after its signature was taken
 abbrev pub ActionAnswer : Option Files → SettingValue → Action → Outcome Fault Reply
-ActionAnswer held setting (Bits net terms) = BitsAnswer held setting net terms
-ActionAnswer held setting (Abstract net terms) = AbstractAnswer held setting net terms
-ActionAnswer held setting (Check net specification terms) = CheckAnswer held setting net specification terms
-ActionAnswer held setting (Same net other terms) = SameAnswer held setting net other terms
+ActionAnswer held setting (Bits net terms cycles) = BitsAnswer held setting net terms cycles
+ActionAnswer held setting (Abstract net terms cycles) = AbstractAnswer held setting net terms cycles
+ActionAnswer held setting (Check net specification terms cycles) = CheckAnswer held setting net specification terms cycles
+ActionAnswer held setting (Same net other terms cycles) = SameAnswer held setting net other terms cycles
+ActionAnswer held setting (Eval net values cycles) = EvalAnswer held setting net values cycles
 
 -- what comes of a command over a signature with its field: first the bases of its words
 abbrev pub SignedAnswer : Option Files → SignedValue → Action → Outcome Fault Reply

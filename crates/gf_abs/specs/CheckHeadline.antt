@@ -1,8 +1,8 @@
--- What the answers of `check` say of the circuit and the specification in the files. Source: this project's own.
+-- What the answers of `check` say of the job and the specification in the files. Source: this project's own.
 use Rattle.std.specs.Prelude.{◌≡◌, ℕ, ◌↔◌, List, ◌++◌, codes, Some, Ok}
 use Rattle.job_io.specs.Shelf.{Files}
-use Rattle.net_words.specs.Binding.{BoundNet}
 use Rattle.poly_mixed.specs.Polynomial.{Terms}
+use Rattle.circuit_model.specs.Circuit.{Circuit}
 use Rattle.circuit_model.specs.Differing.{Difference, IsDifferingInput}
 use Rattle.circuit_model.specs.Out.{IsOut}
 use Rattle.spec_expand.specs.Specification.{SpecTerms}
@@ -15,37 +15,37 @@ use Rattle.gf_abs.specs.Answer.{Answer}
 use Rattle.gf_abs.specs.DifferingLines.{differing_lines}
 use Rattle.gf_abs.specs.Headline.{AreHeld, IsInItsWords, HasOutput}
 use Rattle.gf_abs.specs.Reply.{Reply, polynomial_line}
-use Rattle.gf_abs.specs.commands.Abstract.{taken_circuit}
 use Rattle.gf_abs.specs.commands.Check.{IsSpecified}
 
--- to the words `check SIGNATURE NET SPECIFICATION` over the held files the program answers with this reply
-pub record AnswersCheck (files : Files) (words : List Word) (signature net specification : Word) (reply : Reply) : Type 0 where
+-- to the words `check SIGNATURE NET SPECIFICATION` over the held files the program answers with this reply, over so many cycles after
+-- the first
+pub record AnswersCheck (files : Files) (words : List Word) (signature net specification : Word) (cycles : ℕ) (reply : Reply) : Type 0 where
   pub bound : ℕ
-  pub spelled : IsSpelled words (record { signature = signature; action = Check net specification bound })
+  pub spelled : IsSpelled words (record { signature = signature; action = Check net specification bound cycles })
   pub answer : Answer words (Some files) (Ok reply)
 
--- the held files of these names give the setting, the circuit and the specification
-pub record AreHeldWith (files : Files) (signature net specification : Word) (setting : SettingValue) (circuit : BoundNet) (spec : SpecTerms) : Type 0 where
-  pub held : AreHeld files signature net setting circuit
+-- the held files of these names give the setting, the job and the specification
+pub record AreHeldWith (files : Files) (signature net specification : Word) (cycles : ℕ) (setting : SettingValue) (job : Circuit) (spec : SpecTerms) : Type 0 where
+  pub held : AreHeld files signature net cycles setting job
   pub said : SpecificationIn (Some files) (labels_of setting.k setting.signature.words) setting.k setting.product specification (Ok spec)
 
 -- at each input the output word's element is the specification's value
-abbrev pub Computes : SettingValue → BoundNet → SpecTerms → Type 0
-Computes setting circuit spec = (xs : List ℕ) (e : ℕ) → IsOut (taken_circuit setting circuit) xs e ↔ IsSpecified setting circuit spec xs e
+abbrev pub Computes : SettingValue → Circuit → SpecTerms → Type 0
+Computes setting job spec = (xs : List ℕ) (e : ℕ) → IsOut job xs e ↔ IsSpecified setting job spec xs e
 
--- the reply is `accepted` and the line of the netlist's polynomial: reduced, in the circuit's words alone, with the output's values
-pub record PrintsAcceptance (setting : SettingValue) (circuit : BoundNet) (reply : Reply) : Type 0 where
+-- the reply is `accepted` and the line of the netlist's polynomial: reduced, in the job's words alone, with the output's values
+pub record PrintsAcceptance (setting : SettingValue) (job : Circuit) (reply : Reply) : Type 0 where
   pub polynomial : Terms
   pub text : reply.text ≡ codes "accepted\n" ++ polynomial_line setting polynomial
-  pub in_words : IsInItsWords setting circuit polynomial
-  pub values : HasOutput setting circuit polynomial
+  pub in_words : IsInItsWords setting job polynomial
+  pub values : HasOutput setting job polynomial
 
 -- the reply is `rejected`, the line of the netlist's polynomial, and the input at which the output and the specification are told
 -- apart with the two values there
-pub record PrintsRejection (setting : SettingValue) (circuit : BoundNet) (spec : SpecTerms) (reply : Reply) : Type 0 where
+pub record PrintsRejection (setting : SettingValue) (job : Circuit) (spec : SpecTerms) (reply : Reply) : Type 0 where
   pub polynomial : Terms
   pub found : Difference
   pub text : reply.text ≡ codes "rejected\n" ++ (polynomial_line setting polynomial ++ differing_lines (labels_of setting.k setting.signature.words) (codes "netlist") (codes "specification") found)
-  pub in_words : IsInItsWords setting circuit polynomial
-  pub values : HasOutput setting circuit polynomial
-  pub differing : IsDifferingInput (taken_circuit setting circuit) (IsOut (taken_circuit setting circuit)) (IsSpecified setting circuit spec) found.input found.left found.right
+  pub in_words : IsInItsWords setting job polynomial
+  pub values : HasOutput setting job polynomial
+  pub differing : IsDifferingInput job (IsOut job) (IsSpecified setting job spec) found.input found.left found.right

@@ -1,9 +1,11 @@
 pub mod Reply
 pub mod Staged
 pub mod DifferingLines
+pub mod Values
 pub mod commands
 pub mod Answer
 pub mod Written
 pub mod Headline
 pub mod CheckHeadline
+pub mod EvalHeadline
 pub mod private

@@ -2,3 +2,4 @@ pub mod Bits
 pub mod Abstract
 pub mod Check
 pub mod Same
+pub mod Eval

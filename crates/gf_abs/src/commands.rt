@@ -2,4 +2,5 @@
 pub(crate) mod abstraction;
 pub(crate) mod bits;
 pub(crate) mod check;
+pub(crate) mod eval;
 pub(crate) mod same;

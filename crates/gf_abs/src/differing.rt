@@ -36,8 +36,13 @@ fn word_lines(alloc: Global, labels: &Labels, input: &[u64; 8]) -> Result<Vec<u8
     Ok(lines)
 }
 
-// Appends the line of a word.
-fn add_word(alloc: Global, lines: &mut Vec<u8>, name: &str, element: u64) -> Result<(), AllocError>
+/// Appends the line of a word with its element.
+pub(crate) fn add_word(
+    alloc: Global,
+    lines: &mut Vec<u8>,
+    name: &str,
+    element: u64,
+) -> Result<(), AllocError>
     ensures { OnOk result (lines.new.items ≡ lines.old.items ++ word_line name.now element) }
 {
     let line = format!(in alloc; "{name} = 0x{element:x}\n")?;

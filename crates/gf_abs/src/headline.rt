@@ -1,10 +1,11 @@
 //! What the program's answers say, for all words and held files. These functions do nothing: their contracts are proved of
 //! the definitions alone. `run` says that what it wrote is the answer.
-ghost use Rattle.std.specs.Prelude.{◌≡◌, ◌⊎◌, ◌↔◌, codes, List, Option, Some, Ok, Err};
+ghost use Rattle.std.specs.Prelude.{◌≡◌, ◌⊎◌, ◌↔◌, codes, ℕ, List, Option, Some, Ok, Err};
 ghost use Rattle.text_core.specs.Outcome.{Determined};
 ghost use Rattle.job_io.specs.Shelf.{Files};
 ghost use Rattle.net_words.specs.Binding.{BoundNet};
 ghost use Rattle.poly_mixed.specs.Polynomial.{Terms};
+ghost use Rattle.circuit_model.specs.Circuit.{Circuit};
 ghost use Rattle.circuit_model.specs.WellFormed.{IsWellFormed};
 ghost use Rattle.job_words.specs.Fault.{fault_line, fault_status};
 ghost use Rattle.job_words.specs.OneLine.{IsOneLine};
@@ -14,6 +15,7 @@ ghost use Rattle.job_input.specs.SettingValue.{SettingValue};
 ghost use Rattle.spec_expand.specs.Specification.{SpecTerms};
 ghost use Rattle.gf_abs.specs.Answer.{Answer};
 ghost use Rattle.gf_abs.specs.CheckHeadline.{AnswersCheck, AreHeldWith, Computes, PrintsAcceptance, PrintsRejection};
+ghost use Rattle.gf_abs.specs.EvalHeadline.{AnswersEval, PrintsElement};
 ghost use Rattle.gf_abs.specs.Headline.{IsTaken, AreHeld, AnswersBits, AnswersAbstract, AnswersSame, PrintsHeld, PrintsHeldInBits, PrintsDifference, IsInItsWords, HasOutput, AreOneFunction};
 ghost use Rattle.gf_abs.specs.Reply.{Reply, polynomial_line};
 ghost use Rattle.gf_abs.specs.commands.Abstract.{taken_circuit};
@@ -31,64 +33,71 @@ pub fn each_fault_is_one_line()
     ensures line { (words : List Word) (held : Option Files) (fault : Fault) → Answer words held (Err fault) → IsOneLine (fault_line fault) }
 {}
 
-/// The circuit of a signature's text and a netlist's text is well-formed, so that it has exactly one output at each input.
+/// The circuit of a signature's text and of all cycles of a netlist's text is well-formed, so that it has exactly one output
+/// at each input.
 pub fn each_taken_circuit_is_well_formed()
     ensures { (setting : SettingValue) (circuit : BoundNet) → IsTaken setting circuit → IsWellFormed (taken_circuit setting circuit) }
 {}
 
-/// What `abstract` prints is the polynomial of the output of the circuit in the files: it is reduced, no bit and no other word
+/// What `abstract` prints is the polynomial of the output of the job in the files, over the cycles of the words: it is reduced, no bit and no other word
 /// stands in it, and at each point it has the output word's element at the point's elements.
 pub fn abstract_prints_the_output()
-    ensures { (files : Files) (words : List Word) (signature net : Word) (reply : Reply) → AnswersAbstract files words signature net reply → PrintsHeld files signature net reply }
+    ensures { (files : Files) (words : List Word) (signature net : Word) (cycles : ℕ) (reply : Reply) → AnswersAbstract files words signature net cycles reply → PrintsHeld files signature net cycles reply }
 {}
 
 /// What `bits` prints is the polynomial of the output in the bits of the words: it is reduced, nothing else stands in it, and
 /// wherever these are the bits of an input it has the output's value there.
 pub fn bits_print_the_output()
-    ensures { (files : Files) (words : List Word) (signature net : Word) (reply : Reply) → AnswersBits files words signature net reply → PrintsHeldInBits files signature net reply }
+    ensures { (files : Files) (words : List Word) (signature net : Word) (cycles : ℕ) (reply : Reply) → AnswersBits files words signature net cycles reply → PrintsHeldInBits files signature net cycles reply }
 {}
 
-/// The printed bytes are the text of no other polynomial: of the reduced polynomials in the circuit's words alone, it is
+/// The printed bytes are the text of no other polynomial: of the reduced polynomials in the job's words alone, it is
 /// that of exactly those that have the output word's element at each point.
 pub fn bytes_are_the_only_text()
-    ensures { (files : Files) (words : List Word) (signature net : Word) (reply : Reply) (setting : SettingValue) (circuit : BoundNet) (ts : Terms) → AnswersAbstract files words signature net reply → AreHeld files signature net setting circuit → IsInItsWords setting circuit ts → reply.text ≡ polynomial_line setting ts ↔ HasOutput setting circuit ts }
+    ensures { (files : Files) (words : List Word) (signature net : Word) (cycles : ℕ) (reply : Reply) (setting : SettingValue) (job : Circuit) (ts : Terms) → AnswersAbstract files words signature net cycles reply → AreHeld files signature net cycles setting job → IsInItsWords setting job ts → reply.text ≡ polynomial_line setting ts ↔ HasOutput setting job ts }
 {}
 
-/// Two runs over one signature and two netlists, whatever the bounds on terms, print equal bytes exactly if the outputs are
-/// equal at every input.
+/// Two runs over one signature and two netlists, whatever the bounds on terms and the cycles of each, print equal bytes
+/// exactly if the outputs are equal at every input.
 pub fn equal_bytes_exactly_if_equal_functions()
-    ensures { (files files' : Files) (words words' : List Word) (signature signature' net net' : Word) (reply reply' : Reply) (setting : SettingValue) (circuit other : BoundNet) → AnswersAbstract files words signature net reply → AnswersAbstract files' words' signature' net' reply' → AreHeld files signature net setting circuit → AreHeld files' signature' net' setting other → reply.text ≡ reply'.text ↔ AreOneFunction setting circuit other }
+    ensures { (files files' : Files) (words words' : List Word) (signature signature' net net' : Word) (cycles cycles' : ℕ) (reply reply' : Reply) (setting : SettingValue) (job other : Circuit) → AnswersAbstract files words signature net cycles reply → AnswersAbstract files' words' signature' net' cycles' reply' → AreHeld files signature net cycles setting job → AreHeld files' signature' net' cycles' setting other → reply.text ≡ reply'.text ↔ AreOneFunction job other }
 {}
 
 /// `same` prints that two netlists are one function, with status 0, exactly if their outputs are equal at every input;
 /// otherwise it answers with status 1, where it gives a reply at all.
 pub fn same_exactly_if_equal_functions()
-    ensures status { (files : Files) (words : List Word) (signature net other : Word) (reply : Reply) → AnswersSame files words signature net other reply → (reply.status ≡ 0) ⊎ (reply.status ≡ 1) }
-    ensures equal { (files : Files) (words : List Word) (signature net other : Word) (reply : Reply) (setting : SettingValue) (circuit second : BoundNet) → AnswersSame files words signature net other reply → AreHeld files signature net setting circuit → AreHeld files signature other setting second → reply.status ≡ 0 ↔ AreOneFunction setting circuit second }
-    ensures text { (files : Files) (words : List Word) (signature net other : Word) (reply : Reply) → AnswersSame files words signature net other reply → reply.status ≡ 0 → reply.text ≡ codes "same\n" }
+    ensures status { (files : Files) (words : List Word) (signature net other : Word) (cycles : ℕ) (reply : Reply) → AnswersSame files words signature net other cycles reply → (reply.status ≡ 0) ⊎ (reply.status ≡ 1) }
+    ensures equal { (files : Files) (words : List Word) (signature net other : Word) (cycles : ℕ) (reply : Reply) (setting : SettingValue) (job second : Circuit) → AnswersSame files words signature net other cycles reply → AreHeld files signature net cycles setting job → AreHeld files signature other cycles setting second → reply.status ≡ 0 ↔ AreOneFunction job second }
+    ensures text { (files : Files) (words : List Word) (signature net other : Word) (cycles : ℕ) (reply : Reply) → AnswersSame files words signature net other cycles reply → reply.status ≡ 0 → reply.text ≡ codes "same\n" }
 {}
 
 /// With status 1 `same` prints an input at which the two outputs differ, and these outputs. Of all inputs where they differ it is
 /// the one with the fewest bits that are 1, and among several the one whose rising list of ranks is lexicographically first.
 pub fn same_prints_the_differing_input()
-    ensures { (files : Files) (words : List Word) (signature net other : Word) (reply : Reply) (setting : SettingValue) (circuit second : BoundNet) → AnswersSame files words signature net other reply → AreHeld files signature net setting circuit → AreHeld files signature other setting second → reply.status ≡ 1 → PrintsDifference setting circuit second reply }
+    ensures { (files : Files) (words : List Word) (signature net other : Word) (cycles : ℕ) (reply : Reply) (setting : SettingValue) (job second : Circuit) → AnswersSame files words signature net other cycles reply → AreHeld files signature net cycles setting job → AreHeld files signature other cycles setting second → reply.status ≡ 1 → PrintsDifference setting job second reply }
 {}
 
 /// `check` answers with status 0 exactly if the output is the specification's value at every input; otherwise it answers with
 /// status 1, where it gives a reply at all.
 pub fn check_accepts_exactly_if_equal()
-    ensures status { (files : Files) (words : List Word) (signature net specification : Word) (reply : Reply) → AnswersCheck files words signature net specification reply → (reply.status ≡ 0) ⊎ (reply.status ≡ 1) }
-    ensures equal { (files : Files) (words : List Word) (signature net specification : Word) (reply : Reply) (setting : SettingValue) (circuit : BoundNet) (spec : SpecTerms) → AnswersCheck files words signature net specification reply → AreHeldWith files signature net specification setting circuit spec → reply.status ≡ 0 ↔ Computes setting circuit spec }
+    ensures status { (files : Files) (words : List Word) (signature net specification : Word) (cycles : ℕ) (reply : Reply) → AnswersCheck files words signature net specification cycles reply → (reply.status ≡ 0) ⊎ (reply.status ≡ 1) }
+    ensures equal { (files : Files) (words : List Word) (signature net specification : Word) (cycles : ℕ) (reply : Reply) (setting : SettingValue) (job : Circuit) (spec : SpecTerms) → AnswersCheck files words signature net specification cycles reply → AreHeldWith files signature net specification cycles setting job spec → reply.status ≡ 0 ↔ Computes setting job spec }
 {}
 
 /// With status 0 `check` prints that the netlist is accepted, and then the polynomial of its output in words.
 pub fn check_prints_the_output()
-    ensures { (files : Files) (words : List Word) (signature net specification : Word) (reply : Reply) (setting : SettingValue) (circuit : BoundNet) (spec : SpecTerms) → AnswersCheck files words signature net specification reply → AreHeldWith files signature net specification setting circuit spec → reply.status ≡ 0 → PrintsAcceptance setting circuit reply }
+    ensures { (files : Files) (words : List Word) (signature net specification : Word) (cycles : ℕ) (reply : Reply) (setting : SettingValue) (job : Circuit) (spec : SpecTerms) → AnswersCheck files words signature net specification cycles reply → AreHeldWith files signature net specification cycles setting job spec → reply.status ≡ 0 → PrintsAcceptance setting job reply }
 {}
 
 /// With status 1 `check` prints that the netlist is rejected, the polynomial of its output in words, and an input at which the
 /// output is not the specification's value, with both. Of all such inputs it is the one with the fewest bits that are 1, and
 /// among several the one whose rising list of ranks is lexicographically first.
 pub fn check_prints_the_differing_input()
-    ensures { (files : Files) (words : List Word) (signature net specification : Word) (reply : Reply) (setting : SettingValue) (circuit : BoundNet) (spec : SpecTerms) → AnswersCheck files words signature net specification reply → AreHeldWith files signature net specification setting circuit spec → reply.status ≡ 1 → PrintsRejection setting circuit spec reply }
+    ensures { (files : Files) (words : List Word) (signature net specification : Word) (cycles : ℕ) (reply : Reply) (setting : SettingValue) (job : Circuit) (spec : SpecTerms) → AnswersCheck files words signature net specification cycles reply → AreHeldWith files signature net specification cycles setting job spec → reply.status ≡ 1 → PrintsRejection setting job spec reply }
+{}
+
+/// `eval` prints, with status 0, the output's element at the values, which are elements of the field, one for each input,
+/// state and fed word.
+pub fn eval_prints_the_output()
+    ensures { (files : Files) (words : List Word) (signature net : Word) (values : List Word) (cycles : ℕ) (reply : Reply) (setting : SettingValue) (job : Circuit) → AnswersEval files words signature net values cycles reply → AreHeld files signature net cycles setting job → PrintsElement setting job values reply }
 {}

@@ -2,6 +2,7 @@
 //! `run` carries the contract of the whole; each command is a file of `commands`, and one line of the table `ActionAnswer`.
 #![tactic(auto)]
 
+mod circuit_parts;
 mod commands;
 mod cuts;
 mod differing;
@@ -11,13 +12,14 @@ mod output;
 mod second_stages;
 mod stages;
 mod top;
+mod values;
 mod words;
 
 pub use headline::{
     abstract_prints_the_output, bits_print_the_output, bytes_are_the_only_text,
     check_accepts_exactly_if_equal, check_prints_the_differing_input, check_prints_the_output,
     each_fault_is_one_line, each_taken_circuit_is_well_formed,
-    equal_bytes_exactly_if_equal_functions, one_answer_or_fault, same_exactly_if_equal_functions,
-    same_prints_the_differing_input,
+    equal_bytes_exactly_if_equal_functions, eval_prints_the_output, one_answer_or_fault,
+    same_exactly_if_equal_functions, same_prints_the_differing_input,
 };
 pub use top::{run, run_surely};

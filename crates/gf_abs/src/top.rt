@@ -86,14 +86,13 @@ fn task_answer<F: Field, S: Shelf>(
         (Rose (S.misses shelf.old) (S.misses shelf.new)) (Rose (S.faults shelf.old) (S.faults shelf.new)) }
 {
     match task {
-        Task::Bits(words) => {
-            commands::bits::answer(alloc, field, setting, words.net, words.terms, shelf)
-        }
+        Task::Bits(words) => { commands::bits::answer(alloc, field, setting, words, shelf) }
         Task::Abstract(words) => {
-            commands::abstraction::answer(alloc, field, setting, words.net, words.terms, shelf)
+            commands::abstraction::answer(alloc, field, setting, words, shelf)
         }
         Task::Check(words) => { commands::check::answer(alloc, field, setting, words, shelf) }
         Task::Same(words) => { commands::same::answer(alloc, field, setting, words, shelf) }
+        Task::Eval(words) => { commands::eval::answer(alloc, field, setting, words, shelf) }
     }
 }
 

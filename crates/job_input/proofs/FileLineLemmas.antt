@@ -23,7 +23,9 @@ use Rattle.net_words.specs.declared.word.Role.TheVariants.{Input, State, Fed, Ou
 use Rattle.net_words.specs.declared.word.WordText.{WordText}
 use Rattle.poly_mixed.specs.Labels.{Labelling}
 use Rattle.spec_expand.specs.Specification.{SpecTerms}
-use Rattle.job_words.specs.OneLine.{HasNoLineFeed, KeepsToItsLine, repeated_of_file, repeated_of_signature}
+use Rattle.net_words.specs.Binding.{BoundNet}
+use Rattle.job_words.specs.declared.netlist_fault.NetlistFault.{NetlistFault}
+use Rattle.job_words.specs.OneLine.{HasNoLineFeed, KeepsToItsLine, repeated_of_file, repeated_of_netlist, repeated_of_signature}
 use Rattle.job_words.specs.Operands.{IsOperand, Word}
 use Rattle.job_words.specs.declared.fault.Fault.{Fault}
 use Rattle.job_words.specs.declared.fault.Fault.TheVariants as faults
@@ -34,7 +36,8 @@ use Rattle.job_words.specs.declared.signature_fault.SignatureFault.TheVariants a
 use Rattle.job_input.specs.FieldOf.{field_fault}
 use Rattle.job_input.specs.File.{Read}
 use Rattle.job_input.specs.Labelling.{labels_of, word_label, word_labels}
-use Rattle.job_input.specs.NetlistOf.{CircuitIn, by_ending}
+use Rattle.job_input.specs.NetlistOf.{NetlistIn, by_ending}
+use Rattle.job_input.specs.CircuitOf.{CircuitOf, UnrolledIn}
 use Rattle.job_input.specs.SettingOf.{BasesOf, BlocksHaveBases, SettingWith, SignedOf, SignedValue, WordBasis, basis_fault, feeds_within, place_within, text_fault}
 use Rattle.job_input.specs.SignedIn.{SignedIn}
 use Rattle.job_input.specs.SpecificationIn.{SpecificationIn}
@@ -135,9 +138,17 @@ pub signed_keeps : (held : Option Files) (name : Word) (fault : Fault) → HasNo
 signed_keeps held name fault kept (inl is) = file_keeps held name fault kept is
 signed_keeps held name fault kept (inr (text, read, (other, is, same))) = same_line fault (faults.Signature other) same (signature_keeps text other is)
 
-pub circuit_keeps : (held : Option Files) (signature : SignatureValue) (name : Word) (fault : Fault) → HaveNames signature.words → HasNoLineFeed name → CircuitIn held signature name (Err fault) → KeepsToItsLine fault
-circuit_keeps held signature name fault names kept (inl is) = file_keeps held name fault kept is
-circuit_keeps held signature name fault names kept (inr (text, read, (other, is, same))) = same_line fault (faults.Netlist name other) same (kept, netlist_keeps signature (by_ending name text) other names is)
+pub netlist_file_keeps : (held : Option Files) (signature : SignatureValue) (name : Word) (fault : Fault) → HaveNames signature.words → HasNoLineFeed name → NetlistIn held signature name (Err fault) → KeepsToItsLine fault
+netlist_file_keeps held signature name fault names kept (inl is) = file_keeps held name fault kept is
+netlist_file_keeps held signature name fault names kept (inr (text, read, (other, is, same))) = same_line fault (faults.Netlist name other) same (kept, netlist_keeps signature (by_ending name text) other names is)
+
+-- too many nets or gates are refused by a text of the program's own
+unrolled_keeps : (netlist : BoundNet) (cycles : ℕ) (fault : NetlistFault) → CircuitOf netlist cycles (Err fault) → AllByRecursion HasNoLineFeed (repeated_of_netlist fault)
+unrolled_keeps netlist cycles fault (inl nets) = let P : NetlistFault → Type 0 = λ f. AllByRecursion HasNoLineFeed (repeated_of_netlist f) in subst P (sym nets.0) tt
+unrolled_keeps netlist cycles fault (inr gates) = let P : NetlistFault → Type 0 = λ f. AllByRecursion HasNoLineFeed (repeated_of_netlist f) in subst P (sym gates.0) tt
+
+pub cycles_keep : (name : Word) (netlist : BoundNet) (cycles : ℕ) (fault : Fault) → HasNoLineFeed name → UnrolledIn name netlist cycles (Err fault) → KeepsToItsLine fault
+cycles_keep name netlist cycles fault kept (other, is, same) = same_line fault (faults.Netlist name other) same (kept, unrolled_keeps netlist cycles other is)
 
 pub specification_keeps : (held : Option Files) (labels : Labelling) (k : ℕ) (product : ℕ → ℕ → ℕ) (name : Word) (fault : Fault) → HasNoLineFeed name → SpecificationIn held labels k product name (Err fault) → KeepsToItsLine fault
 specification_keeps held labels k product name fault kept (inl is) = file_keeps held name fault kept is

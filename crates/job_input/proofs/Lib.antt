@@ -11,6 +11,7 @@ pub mod NetlistDetermined
 pub mod RoleLemmas
 pub mod LabelLemmas
 pub mod CircuitLemmas
+pub mod CycleLemmas
 pub mod LabelFaultLemmas
 pub mod BlifTextLemmas
 pub mod BlifLabelLemmas

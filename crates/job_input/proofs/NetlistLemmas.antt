@@ -24,7 +24,6 @@ use Rattle.net_words.specs.Bind.{BindingOf, BoundOf, IsCovered, NetsOf, bound_wo
 use Rattle.net_words.specs.BindReading.{FitsBinding}
 use Rattle.net_words.specs.Binding.{Binding, BoundNet}
 use Rattle.net_words.specs.Feeds.{FeedsOf, bound_feed, free_net, is_free}
-use Rattle.net_words.specs.OneCycle.{IsFlat}
 use Rattle.net_words.specs.Roles.{in_word, stands_in}
 use Rattle.net_words.specs.declared.binding.BindFault.{BindFault}
 use Rattle.net_words.specs.declared.binding.BindFault.TheVariants as binds
@@ -39,7 +38,7 @@ use Rattle.verilog_reader.specs.Modules.{VerilogNet}
 use Rattle.net_verilog.specs.declared.fault.VerilogFault.{VerilogFault}
 use Rattle.net_verilog.specs.declared.fault.VerilogFault.TheVariants as verilogs
 use Rattle.job_input.specs.NetlistOf.{Aiger, Blif, BoundNetOf, NetOf, NetlistText, Verilog, WordsBound, of_binding, of_text, word_name}
-use Rattle.job_input.specs.private.NetlistReading.{FitsNetlist, IsNamed, IsNetlistRefusal, IsUnrollingFault, aiger_refusal, text_refusal, net_refusal, model_refusal, verilog_refusal}
+use Rattle.job_input.specs.private.NetlistReading.{FitsNetlist, IsNamed, IsNetlistRefusal, aiger_refusal, text_refusal, net_refusal, model_refusal, verilog_refusal}
 use Rattle.job_words.specs.declared.netlist_fault.NetlistFault.{NetlistFault}
 use Rattle.job_words.specs.declared.netlist_fault.NetlistFault.TheVariants as netlist
 use Rattle.job_input.specs.declared.netlist.Refusal.{Refusal}
@@ -152,11 +151,6 @@ unbound net words feeds fault (Fault other) fits same memory = inl (fault, fault
   where
     never : Fault other ≡ OutOfMemory → ⊥
     never e = cc
-
--- what comes of words that are bound, where something is left to unroll
-pub not_flat : (net : NetList) (words : List WordText) (feeds : List FeedText) (bound : Binding) (fault : NetlistFault) → BindingOf net words feeds (Ok bound) → (IsFlat net bound → ⊥) → IsUnrollingFault net fault → FitsNetlist (Err (Fault fault)) (WordsBound words feeds net)
-not_flat net words feeds bound fault is left (inl latches) = inr (bound, is, inl latches)
-not_flat net words feeds bound fault is left (inr none) = inr (bound, is, inr (none.0, none.1, left))
 
 -- what comes of the words comes of the text whose net it is
 pub text_bound : (text : NetlistText) (signature : SignatureValue) (net : NetList) (result : Result BoundNet Refusal) → NetOf text (Ok net) → FitsNetlist result (WordsBound signature.words signature.feeds net) → FitsNetlist result (BoundNetOf signature text)

@@ -32,7 +32,7 @@ use Rattle.job_words.specs.OneLine.{HasNoLineFeed, repeated_of_binding, repeated
 use Rattle.job_words.specs.declared.netlist_fault.NetlistFault.{NetlistFault}
 use Rattle.job_words.specs.declared.netlist_fault.NetlistFault.TheVariants as netlist
 use Rattle.job_words.proofs.OneLineLemmas.{clean_kept}
-use Rattle.job_input.specs.NetlistOf.{Aiger, Blif, BoundNetOf, InOneCycle, NetOf, NetlistText, Verilog, WordsBound, of_aiger, of_binding, of_model, of_net, of_text, of_verilog, word_name}
+use Rattle.job_input.specs.NetlistOf.{Aiger, Blif, BoundNetOf, NetOf, NetlistText, Verilog, WordsBound, of_aiger, of_binding, of_model, of_net, of_text, of_verilog, word_name}
 use Rattle.job_input.proofs.AigerLabelLemmas.{AigerKeeps, aiger_fault_keeps, aiger_labels}
 use Rattle.job_input.proofs.BlifLabelLemmas.{IsLimit, printing_kept, walk_labels, walk_stops}
 use Rattle.job_input.proofs.BlifTextLemmas.{FaultPrints, text_fault_prints}
@@ -153,14 +153,9 @@ binding_keeps words net (binds.Uncovered n) names labels = (clean_kept (text_of 
 binding_keeps words net (binds.UnknownStart n) names labels = (clean_kept (text_of net n) (text_clean net n labels), tt)
 binding_keeps words net binds.OutOfMemory names labels = ((λ k d less. absurd (omega arith)), tt)
 
--- latches and feeds are refused by a text of the program's own
-cycles_keep : (net : NetList) (bound : Binding) (fault : NetlistFault) → InOneCycle net bound (Err fault) → NetlistKeeps fault
-cycles_keep net bound fault (inl latches) = same_keeps fault netlist.Latches latches.0 tt
-cycles_keep net bound fault (inr feeds) = same_keeps fault netlist.Feeds feeds.0 tt
-
 bound_keeps : (words : List WordText) (feeds : List FeedText) (net : NetList) (fault : NetlistFault) → HaveNames words → HasCleanLabels net → WordsBound words feeds net (Err fault) → NetlistKeeps fault
 bound_keeps words feeds net fault names labels (inl (other, is, same)) = same_keeps fault (netlist.Binding (of_binding words net other)) same (binding_keeps words net other names labels)
-bound_keeps words feeds net fault names labels (inr (bound, is, unrolled)) = cycles_keep net bound fault unrolled
+bound_keeps words feeds net fault names labels (inr (bound, is, never)) = absurd never
 
 pub netlist_keeps : (signature : SignatureValue) (text : NetlistText) (fault : NetlistFault) → HaveNames signature.words → BoundNetOf signature text (Err fault) → NetlistKeeps fault
 netlist_keeps signature text fault names (inl is) = net_fault_keeps text fault is

@@ -37,7 +37,7 @@ binding_roles net words feeds binding (bound, is, rest) =
     ap (λ (b : Binding). roles b.words) rest.2.2.2 ∙ bound_roles net [] [] words bound is
 
 pub netlist_roles : (signature : SignatureValue) (text : NetlistText) (circuit : BoundNet) → BoundNetOf signature text (Ok circuit) → HaveRoles signature.words circuit.bound.words
-netlist_roles signature text circuit (net, is_net, (bound, is, (same, flat))) =
+netlist_roles signature text circuit (net, is_net, (bound, is, same)) =
     let P : BoundNet → Type 0 = λ c. HaveRoles signature.words c.bound.words in
     subst P (sym same) (binding_roles net signature.words signature.feeds bound is)
 

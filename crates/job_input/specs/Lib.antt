@@ -6,6 +6,8 @@ pub mod SignedIn
 pub mod Setting
 pub mod SettingSound
 pub mod NetlistOf
+pub mod CircuitOf
+pub mod JobOf
 pub mod Labelling
 pub mod SpecificationIn
 pub mod private

@@ -1,8 +1,8 @@
 -- The net of a netlist's text with the words of a signature bound to it, or the fault with which it is refused. Source: this
 -- project's own, docs/DEFINITIONS.md; nets are those of the BLIF format of UC Berkeley, of structural Verilog and of ASCII AIGER.
-use Rattle.std.specs.Prelude.{◌≡◌, ◌≢◌, ◌⊎◌, ℕ, Option, List, [], length, slice_get, Ok, Err, if◌then◌else◌}
+use Rattle.std.specs.Prelude.{ℕ, Option, List, [], length, slice_get, if◌then◌else◌}
 use Rattle.std.specs.Option.{option_map_or}
-use Rattle.text_core.specs.Outcome.{Outcome, ◌>>=◌, Within}
+use Rattle.text_core.specs.Outcome.{Outcome, ◌>>=◌, Exactly, Within}
 use Rattle.job_io.specs.Shelf.{Files}
 use Rattle.job_input.specs.File.{Read}
 use Rattle.net_core.specs.NetList.{NetList, text_of}
@@ -21,8 +21,7 @@ use Rattle.net_blif.specs.declared.fault.BlifFault.TheVariants as texts
 use Rattle.net_flat.specs.declared.flat_fault.FlatFault.{FlatFault}
 use Rattle.net_flat.specs.declared.flat_fault.FlatFault.TheVariants as flats
 use Rattle.net_words.specs.Bind.{BindingOf}
-use Rattle.net_words.specs.Binding.{Binding, BoundNet}
-use Rattle.net_words.specs.OneCycle.{IsFlat}
+use Rattle.net_words.specs.Binding.{BoundNet}
 use Rattle.net_words.specs.declared.binding.BindFault.{BindFault}
 use Rattle.net_words.specs.declared.binding.BindFault.TheVariants as binds
 use Rattle.net_words.specs.declared.feed.FeedText.{FeedText}
@@ -125,16 +124,11 @@ NetOf (Blif text) = BlifNetOf text
 NetOf (Verilog text) = Within of_verilog (VerilogNet text)
 NetOf (Aiger text) = Within of_aiger (AigerNet text)
 
--- the net with its words in one cycle; the cycles of latches and of feeds are not unrolled yet
-abbrev pub InOneCycle : NetList → Binding → Outcome NetlistFault BoundNet
-InOneCycle net bound (Ok circuit) = (circuit ≡ record { net = net; bound = bound }) × IsFlat net bound
-InOneCycle net bound (Err fault) = ((fault ≡ netlist.Latches) × (net.latches ≢ [])) ⊎ ((fault ≡ netlist.Feeds) × (net.latches ≡ []) × (IsFlat net bound → ⊥))
-
--- the net with the words and feeds that are bound to it, or the first fault of the binding, and then of latches and feeds
+-- the net with the words and feeds that are bound to it, or the first fault of the binding
 abbrev pub WordsBound : List WordText → List FeedText → NetList → Outcome NetlistFault BoundNet
 WordsBound words feeds net = do
   bound ← Within (λ fault. netlist.Binding (of_binding words net fault)) (BindingOf net words feeds)
-  InOneCycle net bound
+  Exactly (record { net = net; bound = bound })
 
 -- The net of a text with the words and feeds of a signature bound to it: the text, its net, and the binding, of which the
 -- first fault counts.
@@ -143,8 +137,8 @@ BoundNetOf signature text = do
   net ← NetOf text
   WordsBound signature.words signature.feeds net
 
--- the circuit of a file: it is read, and its netlist taken
-abbrev pub CircuitIn : Option Files → SignatureValue → Word → Outcome Fault BoundNet
-CircuitIn held signature file = do
+-- the net of a file with the words and feeds that are bound to it: the file is read, and its netlist taken
+abbrev pub NetlistIn : Option Files → SignatureValue → Word → Outcome Fault BoundNet
+NetlistIn held signature file = do
   text ← Within File (Read held file)
   Within (Netlist file) (BoundNetOf signature (by_ending file text))

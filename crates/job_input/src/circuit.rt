@@ -7,9 +7,13 @@ ghost use Rattle.net_words.specs.Binding.{AreWords};
 ghost use Rattle.net_words.specs.Feeds.{AreFeeds};
 ghost use Rattle.job_words.specs.Stop.{GivesBy};
 ghost use Rattle.job_words.specs.declared.fault.Fault.TheVariants.{Netlist};
-ghost use Rattle.job_input.specs.NetlistOf.{BoundNetOf, CircuitIn, by_ending};
+ghost use Rattle.job_input.specs.CircuitOf.{CircuitIn, UnrolledIn};
+ghost use Rattle.job_input.specs.NetlistOf.{BoundNetOf, NetlistIn, by_ending};
 ghost use Rattle.job_input.specs.Setting.{IsReady, IsTakenFor, roles_of};
+ghost use Rattle.job_input.specs.declared.setting.Setting.{Setting as SettingOfJob};
 
+use crate::bound::BoundNetlist;
+use crate::cycles::all_cycles;
 use crate::files::read_file;
 use crate::netlist::{Refusal, bound_net};
 use crate::setting::Setting;
@@ -20,44 +24,87 @@ use net_signature::Signature;
 use net_words::Combinational;
 use std::alloc::Global;
 
-/// The circuit of a netlist's file, to which the words of the setting are bound, or the first fault: that of the file, of
-/// its text, of its net, or of the binding.
-pub fn read_circuit<S: Shelf>(
+/// The net of a netlist's file, to which the words and feeds of the setting are bound, or the first fault: that of the file,
+/// of its text, of its net, or of the binding.
+pub fn read_netlist<S: Shelf>(
     alloc: Global,
     shelf: &mut S,
     setting: &Setting,
     file: &str,
-) -> Result<Combinational, Stop>
+) -> Result<BoundNetlist, Stop>
     requires { (k : ℕ) × (product : ℕ → ℕ → ℕ) × IsReady k product setting.now }
     ensures held { S.held shelf.new ≡ S.held shelf.old }
     ensures never_fall { (S.faults shelf.old ≤ S.faults shelf.new) × (S.misses shelf.old ≤ S.misses shelf.new) }
-    ensures gives { GivesBy (λ circuit. circuit) result (CircuitIn (S.held shelf.old) setting.now.signature file.now)
+    ensures gives { GivesBy (λ netlist. netlist) result (NetlistIn (S.held shelf.old) setting.now.signature file.now)
         (Rose (S.misses shelf.old) (S.misses shelf.new)) (Rose (S.faults shelf.old) (S.faults shelf.new)) }
-    ensures taken { IfOk result (λ circuit. (k : ℕ) (product : ℕ → ℕ → ℕ) → IsReady k product setting.now → IsTakenFor k setting.now circuit) }
+    ensures taken { IfOk result (λ netlist. (k : ℕ) (product : ℕ → ℕ → ℕ) → IsReady k product setting.now → IsTakenFor k setting.now netlist) }
 {
     let text = match read_file(alloc, shelf, file) {
         Ok(text) => text,
         Err(stop) => return Err(stop),
     };
-    circuit_of(alloc, &setting.signature, file, &text)
+    netlist_of(alloc, &setting.signature, file, &text)
 }
 
-// The circuit of a netlist's text of at most 67,108,864 bytes.
-fn circuit_of(
+// The netlist of a text of at most 67,108,864 bytes.
+fn netlist_of(
     alloc: Global,
     signature: &Signature,
     file: &str,
     text: &[u8],
-) -> Result<Combinational, Stop>
+) -> Result<BoundNetlist, Stop>
     requires short { length text.now ≤ 67108864 }
     requires words { (k : ℕ) × AreWords k signature.now.words × AreFeeds k (roles_of signature.now.words) signature.now.feeds }
-    ensures gives { GivesBy (λ circuit. circuit) result (Within (Netlist file.now) (BoundNetOf signature.now (by_ending file.now text.now))) ⊥ ⊥ }
-    ensures bits { IfOk result (λ circuit. circuit.bound.k ≡ bits_of signature.now.words) }
+    ensures gives { GivesBy (λ netlist. netlist) result (Within (Netlist file.now) (BoundNetOf signature.now (by_ending file.now text.now))) ⊥ ⊥ }
+    ensures bits { IfOk result (λ netlist. netlist.bound.k ≡ bits_of signature.now.words) }
 {
     let name = Name::new(alloc, file)?;
     match bound_net(alloc, signature, file, text) {
+        Ok(netlist) => Ok(netlist),
+        Err(Refusal::Fault(fault)) => Err(Stop::Refused(Fault::Netlist { file: name, fault })),
+        Err(Refusal::OutOfMemory) => Err(Stop::OutOfMemory),
+    }
+}
+
+/// The circuit of a file's netlist, over at most 4,096 cycles after the first, or the fault of too many nets, and else of too
+/// many gates.
+pub fn unroll_netlist(
+    alloc: Global,
+    file: &str,
+    netlist: BoundNetlist,
+    cycles: u32,
+) -> Result<Combinational, Stop>
+    requires { cycles ≤ 4096 }
+    ensures gives { GivesBy (λ circuit. circuit) result (UnrolledIn file.now netlist cycles) ⊥ ⊥ }
+    ensures taken { IfOk result (λ circuit. (k : ℕ) (setting : SettingOfJob) → IsTakenFor k setting netlist → IsTakenFor k setting circuit) }
+{
+    let name = Name::new(alloc, file)?;
+    match all_cycles(alloc, netlist, cycles) {
         Ok(circuit) => Ok(circuit),
         Err(Refusal::Fault(fault)) => Err(Stop::Refused(Fault::Netlist { file: name, fault })),
         Err(Refusal::OutOfMemory) => Err(Stop::OutOfMemory),
+    }
+}
+
+/// The circuit of a netlist's file, to which the words and feeds of the setting are bound, over at most 4,096 cycles after the
+/// first; or the first fault: that of the netlist, or of unrolling it.
+pub fn read_circuit<S: Shelf>(
+    alloc: Global,
+    shelf: &mut S,
+    setting: &Setting,
+    file: &str,
+    cycles: u32,
+) -> Result<Combinational, Stop>
+    requires ready { (k : ℕ) × (product : ℕ → ℕ → ℕ) × IsReady k product setting.now }
+    requires cycles { cycles ≤ 4096 }
+    ensures held { S.held shelf.new ≡ S.held shelf.old }
+    ensures never_fall { (S.faults shelf.old ≤ S.faults shelf.new) × (S.misses shelf.old ≤ S.misses shelf.new) }
+    ensures gives { GivesBy (λ circuit. circuit) result (CircuitIn (S.held shelf.old) setting.now.signature file.now cycles)
+        (Rose (S.misses shelf.old) (S.misses shelf.new)) (Rose (S.faults shelf.old) (S.faults shelf.new)) }
+    ensures taken { IfOk result (λ circuit. (k : ℕ) (product : ℕ → ℕ → ℕ) → IsReady k product setting.now → IsTakenFor k setting.now circuit) }
+{
+    match read_netlist(alloc, shelf, setting, file) {
+        Ok(netlist) => unroll_netlist(alloc, file, netlist, cycles),
+        Err(stop) => Err(stop),
     }
 }

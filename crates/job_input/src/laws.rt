@@ -2,13 +2,15 @@
 ghost use Rattle.std.specs.Prelude.{List, ℕ, Option, Ok, Err};
 ghost use Rattle.text_core.specs.Outcome.{Determined};
 ghost use Rattle.job_io.specs.Shelf.{Files};
+ghost use Rattle.net_words.specs.Binding.{BoundNet};
 ghost use Rattle.net_signature.specs.Signature.{SignatureValue};
 ghost use Rattle.net_signature.specs.WordNames.{HaveNames};
 ghost use Rattle.poly_mixed.specs.Labels.{Labelling};
 ghost use Rattle.job_words.specs.OneLine.{HasNoLineFeed, KeepsToItsLine};
 ghost use Rattle.job_words.specs.Operands.{Word};
 ghost use Rattle.job_words.specs.declared.fault.Fault.{Fault};
-ghost use Rattle.job_input.specs.NetlistOf.{BoundNetOf, CircuitIn, NetlistText};
+ghost use Rattle.job_input.specs.CircuitOf.{CircuitOf, UnrolledIn};
+ghost use Rattle.job_input.specs.NetlistOf.{BoundNetOf, NetlistIn, NetlistText};
 ghost use Rattle.job_input.specs.SettingOf.{SettingOf};
 ghost use Rattle.job_input.specs.SettingSound.{IsSoundSetting};
 ghost use Rattle.job_input.specs.SettingValue.{SettingValue};
@@ -30,15 +32,21 @@ pub fn one_netlist_or_fault()
     ensures { (signature : SignatureValue) (text : NetlistText) → Determined (BoundNetOf signature text) }
 {}
 
+/// At most one circuit of all cycles, or one fault, comes of a net with its binding.
+pub fn one_circuit_or_fault()
+    ensures { (netlist : BoundNet) (cycles : ℕ) → Determined (CircuitOf netlist cycles) }
+{}
+
 /// At most one specification, or one fault, comes of the text of a specification over the words of some labels.
 pub fn one_specification_or_fault()
     ensures { (labels : Labelling) (k : ℕ) (product : ℕ → ℕ → ℕ) (text : List ℕ) → Determined (SpecificationOf labels k product text) }
 {}
 
 /// What a fault of a job's files repeats of words and files has no line feed, where the file's name has none: a signature's
-/// fault, a netlist's under words that have names, and a specification's.
+/// fault, a netlist's under words that have names, that of unrolling it, and a specification's.
 pub fn faults_keep_to_their_line()
     ensures signature { (held : Option Files) (name : Word) (fault : Fault) → HasNoLineFeed name → SignedIn held name (Err fault) → KeepsToItsLine fault }
-    ensures netlist { (held : Option Files) (signature : SignatureValue) (name : Word) (fault : Fault) → HaveNames signature.words → HasNoLineFeed name → CircuitIn held signature name (Err fault) → KeepsToItsLine fault }
+    ensures netlist { (held : Option Files) (signature : SignatureValue) (name : Word) (fault : Fault) → HaveNames signature.words → HasNoLineFeed name → NetlistIn held signature name (Err fault) → KeepsToItsLine fault }
+    ensures unrolled { (name : Word) (netlist : BoundNet) (cycles : ℕ) (fault : Fault) → HasNoLineFeed name → UnrolledIn name netlist cycles (Err fault) → KeepsToItsLine fault }
     ensures specification { (held : Option Files) (labels : Labelling) (k : ℕ) (product : ℕ → ℕ → ℕ) (name : Word) (fault : Fault) → HasNoLineFeed name → SpecificationIn held labels k product name (Err fault) → KeepsToItsLine fault }
 {}

@@ -3,7 +3,9 @@
 //! Each file is read, and then its text is taken; the first fault counts.
 #![tactic(auto)]
 
+mod bound;
 mod circuit;
+mod cycles;
 mod files;
 mod labels;
 mod laws;
@@ -13,11 +15,12 @@ mod setting;
 mod signed;
 mod specification;
 
-pub use circuit::read_circuit;
+pub use bound::BoundNetlist;
+pub use circuit::{read_circuit, read_netlist, unroll_netlist};
 pub use labels::labels_for;
 pub use laws::{
-    each_setting_is_sound, faults_keep_to_their_line, one_netlist_or_fault, one_setting_or_fault,
-    one_specification_or_fault,
+    each_setting_is_sound, faults_keep_to_their_line, one_circuit_or_fault, one_netlist_or_fault,
+    one_setting_or_fault, one_specification_or_fault,
 };
 pub use output::output_basis;
 pub use setting::{Setting, setting_over};

@@ -7,8 +7,9 @@ ghost use Rattle.net_words.specs.Feeds.{AreFeeds};
 ghost use Rattle.job_words.specs.Operands.{is_aiger as ends_as_aiger, is_verilog as ends_as_verilog};
 ghost use Rattle.job_input.specs.NetlistOf.{Aiger, Blif, BoundNetOf, NetOf, Verilog, WordsBound, by_ending, of_binding, word_name as name_of};
 ghost use Rattle.job_input.specs.Setting.{roles_of};
-ghost use Rattle.job_input.specs.private.NetlistReading.{FitsNetlist, IsNamed, IsNetlistRefusal, IsUnrollingFault, aiger_refusal, text_refusal, model_refusal, net_refusal, verilog_refusal};
+ghost use Rattle.job_input.specs.private.NetlistReading.{FitsNetlist, IsNamed, IsNetlistRefusal, aiger_refusal, text_refusal, model_refusal, net_refusal, verilog_refusal};
 
+use crate::bound::BoundNetlist;
 use job_words::{BindingFault, NetlistFault};
 use net_aiger::{AigerFault, read_aiger};
 use net_blif::{BlifFault, read_blif};
@@ -16,7 +17,7 @@ use net_core::{Name, Net, NetFault};
 use net_flat::{FlatFault, flatten};
 use net_signature::Signature;
 use net_verilog::VerilogFault;
-use net_words::{BindFault, Combinational, FeedText, WordText, bind};
+use net_words::{BindFault, FeedText, WordText, bind};
 use std::alloc::{AllocError, Global};
 use verilog_reader::read_verilog;
 
@@ -33,11 +34,11 @@ pub(crate) fn bound_net(
     signature: &Signature,
     file: &str,
     text: &[u8],
-) -> Result<Combinational, Refusal>
+) -> Result<BoundNetlist, Refusal>
     requires short { length text.now ≤ 67108864 }
     requires words { (k : ℕ) × AreWords k signature.now.words × AreFeeds k (roles_of signature.now.words) signature.now.feeds }
     ensures fits { FitsNetlist result (BoundNetOf signature.now (by_ending file.now text.now)) }
-    ensures bits { IfOk result (λ circuit. circuit.bound.k ≡ bits_of signature.now.words) }
+    ensures bits { IfOk result (λ netlist. netlist.bound.k ≡ bits_of signature.now.words) }
 {
     match net_of(alloc, file, text) {
         Ok(net) => bound_to(alloc, signature.words(), signature.feeds(), net),
@@ -51,30 +52,15 @@ fn bound_to(
     words: &[WordText],
     feeds: &[FeedText],
     net: Net,
-) -> Result<Combinational, Refusal>
+) -> Result<BoundNetlist, Refusal>
     requires words { (k : ℕ) × AreWords k words.now × AreFeeds k (roles_of words.now) feeds.now }
     ensures fits { FitsNetlist result (WordsBound words.now feeds.now net) }
-    ensures bits { IfOk result (λ circuit. circuit.bound.k ≡ bits_of words.now) }
+    ensures bits { IfOk result (λ netlist. netlist.bound.k ≡ bits_of words.now) }
 {
     let _count = net.nets();
-    let bound = match bind(alloc, words, feeds, &net) {
-        Ok(bound) => bound,
-        Err(fault) => return Err(binding_fault(alloc, words, &net, fault)),
-    };
-    match Combinational::new(net, bound) {
-        Ok(circuit) => Ok(circuit),
-        Err((net, _bound)) => Err(Refusal::Fault(unrolling_fault(&net))),
-    }
-}
-
-// What a net is refused for that is not of one cycle.
-fn unrolling_fault(net: &Net) -> NetlistFault
-    ensures { IsUnrollingFault net.now result }
-{
-    if net.latches().is_empty() {
-        NetlistFault::Feeds
-    } else {
-        NetlistFault::Latches
+    match bind(alloc, words, feeds, &net) {
+        Ok(bound) => Ok(BoundNetlist::new(net, bound)),
+        Err(fault) => Err(binding_fault(alloc, words, &net, fault)),
     }
 }
 

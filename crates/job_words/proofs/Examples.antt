@@ -6,7 +6,7 @@ use Rattle.poly_mixed.specs.declared.stage.Stage.TheVariants as stages
 use Rattle.job_words.specs.Command.{Bits, Abstract, Same, IsSpelled}
 use Rattle.job_words.specs.Fault.{fault_line, fault_status}
 use Rattle.job_words.specs.OneLine.{IsOneLine, repeated}
-use Rattle.job_words.specs.Operands.{IsOperand, IsOverNet, is_aiger, is_verilog}
+use Rattle.job_words.specs.Operands.{AreOptions, IsOperand, IsNetlistName, IsOverNet, is_aiger, is_verilog}
 use Rattle.job_words.specs.StageFault.{stage_text}
 use Rattle.job_words.specs.declared.fault.Fault.{Fault}
 use Rattle.job_words.specs.declared.fault.Fault.TheVariants as faults
@@ -56,39 +56,52 @@ operand_n = record { not_empty = λ e. absurd (cc); no_option = refl; plain = pl
     plain zero d h = (omega arith, λ e. absurd (omega arith))
     plain (suc k) d h = absurd (omega arith)
 
-over_net : IsOverNet (codes "s" ∷ codes "n" ∷ []) (codes "s") (codes "n") 65536
-over_net = record { options = []; words_are = refl; signature_is = operand_s; net_is = operand_n; netlist = tt; set = inl (refl, refl) }
+no_options : AreOptions [] 65536 0
+no_options = record { of_terms = []; of_cycles = []; words_are = inl refl; terms_set = inl (refl, refl); cycles_set = inl (refl, refl) }
 
--- `bits s n` is the command `bits` with the signature s, the netlist n and the bound 65,536
-spelled_bits : IsSpelled (codes "bits" ∷ codes "s" ∷ codes "n" ∷ []) (record { signature = codes "s"; action = Bits (codes "n") 65536 })
+over_net : IsOverNet (codes "s" ∷ codes "n" ∷ []) (codes "s") (codes "n") 65536 0
+over_net = record { options = []; words_are = refl; signature_is = operand_s; net_is = operand_n; netlist = tt; set = no_options }
+
+-- `bits s n` is the command `bits` with the signature s, the netlist n, the bound 65,536 and no cycle but the first
+spelled_bits : IsSpelled (codes "bits" ∷ codes "s" ∷ codes "n" ∷ []) (record { signature = codes "s"; action = Bits (codes "n") 65536 0 })
 spelled_bits = record { rest = codes "s" ∷ codes "n" ∷ []; words_are = refl; follow = over_net }
 
 -- `same s n n` is the command `same` with the netlist n twice
-spelled_same : IsSpelled (codes "same" ∷ codes "s" ∷ codes "n" ∷ codes "n" ∷ []) (record { signature = codes "s"; action = Same (codes "n") (codes "n") 65536 })
+spelled_same : IsSpelled (codes "same" ∷ codes "s" ∷ codes "n" ∷ codes "n" ∷ []) (record { signature = codes "s"; action = Same (codes "n") (codes "n") 65536 0 })
 spelled_same = record {
   rest = codes "s" ∷ codes "n" ∷ codes "n" ∷ [];
   words_are = refl;
   follow = record {
-    pair = record { options = []; words_are = refl; signature_is = operand_s; net_is = operand_n; netlist = tt; other_is = operand_n; set = inl (refl, refl) };
+    pair = record { options = []; words_are = refl; signature_is = operand_s; net_is = operand_n; netlist = tt; other_is = operand_n; set = no_options };
     second = tt;
   };
 }
 
--- `abstract s n --terms 10` sets the bound 10
-spelled_abstract : IsSpelled (codes "abstract" ∷ codes "s" ∷ codes "n" ∷ codes "--terms" ∷ codes "10" ∷ []) (record { signature = codes "s"; action = Abstract (codes "n") 10 })
+-- `abstract s n --cycles 3 --terms 10` sets the bound 10 and 3 cycles
+spelled_abstract : IsSpelled (codes "abstract" ∷ codes "s" ∷ codes "n" ∷ codes "--cycles" ∷ codes "3" ∷ codes "--terms" ∷ codes "10" ∷ []) (record { signature = codes "s"; action = Abstract (codes "n") 10 3 })
 spelled_abstract = record {
-  rest = codes "s" ∷ codes "n" ∷ codes "--terms" ∷ codes "10" ∷ [];
+  rest = codes "s" ∷ codes "n" ∷ codes "--cycles" ∷ codes "3" ∷ codes "--terms" ∷ codes "10" ∷ [];
   words_are = refl;
   follow = record {
-    options = codes "--terms" ∷ codes "10" ∷ [];
+    options = codes "--cycles" ∷ codes "3" ∷ codes "--terms" ∷ codes "10" ∷ [];
     words_are = refl;
     signature_is = operand_s;
     net_is = operand_n;
     netlist = tt;
-    set = inr (codes "10", refl, record { decimal = ((omega arith, each), refl); no_zero = λ e. absurd (omega arith); some = omega arith; most = omega arith });
+    set = record {
+      of_terms = codes "--terms" ∷ codes "10" ∷ [];
+      of_cycles = codes "--cycles" ∷ codes "3" ∷ [];
+      words_are = inr refl;
+      terms_set = inr (codes "10", refl, record { decimal = ((omega arith, each), refl); no_zero = λ e. absurd (omega arith); some = omega arith; most = omega arith });
+      cycles_set = inr (codes "3", refl, record { decimal = ((omega arith, digit), refl); no_zeros = λ e. absurd (omega arith); most = omega arith });
+    };
   };
 }
   where
+    digit : (k : ℕ) → k < 1 → IsDigit 10 (slice_index (codes "3") k)
+    digit zero h = (inl (omega arith, omega arith), omega arith)
+    digit (suc k) h = absurd (omega arith)
+
     each : (k : ℕ) → k < 2 → IsDigit 10 (slice_index (codes "10") k)
     each zero h = (inl (omega arith, omega arith), omega arith)
     each (suc zero) h = (inl (omega arith, omega arith), omega arith)

@@ -1,5 +1,7 @@
 pub mod WordLemmas
 pub mod SpelledLemmas
+pub mod OptionLemmas
+pub mod ValueLemmas
 pub mod OneCommandLemmas
 pub mod StepLemmas
 pub mod OneLineLemmas

@@ -15,6 +15,7 @@ use Rattle.job_words.specs.Operands.{Word}
 use Rattle.job_words.specs.SignatureFault.{signature_text}
 use Rattle.job_words.specs.SpecificationFault.{specification_text}
 use Rattle.job_words.specs.StageFault.{stage_text, stage_fault_text}
+use Rattle.job_words.specs.ValueFault.{value_text}
 use Rattle.job_words.specs.declared.fault.Fault.{Fault}
 use Rattle.job_words.specs.declared.fault.Fault.TheVariants as faults
 use Rattle.job_words.specs.declared.file_fault.FileFault.{FileFault}
@@ -28,6 +29,8 @@ use Rattle.job_words.specs.declared.signature_fault.SignatureFault.TheVariants a
 use Rattle.job_words.specs.declared.specification_fault.SpecificationFault.{SpecificationFault}
 use Rattle.job_words.specs.declared.specification_fault.SpecificationFault.TheVariants as specification
 use Rattle.job_words.specs.declared.stage_fault.StageFault.{StageFault}
+use Rattle.job_words.specs.declared.value_fault.ValueFault.{ValueFault}
+use Rattle.job_words.specs.declared.value_fault.ValueFault.TheVariants as values
 
 -- ---- by a test that computes over the program's own texts
 
@@ -160,13 +163,15 @@ netlist_clean (netlist.DefinedTwice line) kept = number_clean line
 netlist_clean (netlist.Undefined line) kept = number_clean line
 netlist_clean (netlist.NameTwice line) kept = number_clean line
 netlist_clean (netlist.Binding fault) kept = binding_clean fault kept
-netlist_clean netlist.Latches kept = refl
-netlist_clean netlist.Feeds kept = refl
 
 specification_clean : (fault : SpecificationFault) → IsClean (specification_text fault)
 specification_clean (specification.Syntax place) = number_clean place
 specification_clean (specification.UnknownWord place) = number_clean place
 specification_clean (specification.BadNumber place) = number_clean place
+
+value_clean : (fault : ValueFault) → IsClean (value_text fault)
+value_clean (values.WrongCount count words) = number_then count _ (number_then words (codes " words") refl)
+value_clean (values.TooLarge place) = number_then place (codes " is too large") refl
 
 stage_clean : (fault : StageFault) → HasNoLineFeed fault.stage → IsClean (stage_fault_text fault)
 stage_clean fault kept = word_then fault.stage _ kept (number_then fault.terms (codes " terms, bound " ++ decimal fault.bound) (number_clean fault.bound))
@@ -177,6 +182,7 @@ text_clean (faults.File fault) kept = file_clean fault kept
 text_clean (faults.Signature fault) kept = signature_clean fault kept
 text_clean (faults.Netlist name fault) kept = clean_then (netlist_text fault) (codes " in " ++ name) (netlist_clean fault kept.1) (kept_clean name kept.0)
 text_clean (faults.Specification fault) kept = specification_clean fault
+text_clean (faults.Value fault) kept = value_clean fault
 text_clean (faults.Stage fault) kept = stage_clean fault kept.0
 
 -- the line of a fault that repeats no line feed

@@ -35,3 +35,11 @@ two_whole f [] a b long short x y = absurd (omega arith)
 two_whole f (p ∷ []) a b long short x y = absurd (omega arith)
 two_whole f (p ∷ q ∷ []) a b long short x y = (λ i. f (sym x i) ∷ f (sym y i) ∷ [])
 two_whole f (p ∷ q ∷ r ∷ xs) a b long short x y = absurd (omega arith)
+
+pub four_whole : {A : Type 0} (f : A → List ℕ) (xs : List A) (a b c d : A) → 4 ≤ length xs → length xs < 5 → a ≡ get_or xs 0 a → b ≡ get_or xs 1 b → c ≡ get_or xs 2 c → d ≡ get_or xs 3 d → map f xs ≡ f a ∷ f b ∷ f c ∷ f d ∷ []
+four_whole f [] a b c d long short x y z w = absurd (omega arith)
+four_whole f (p ∷ []) a b c d long short x y z w = absurd (omega arith)
+four_whole f (p ∷ q ∷ []) a b c d long short x y z w = absurd (omega arith)
+four_whole f (p ∷ q ∷ r ∷ []) a b c d long short x y z w = absurd (omega arith)
+four_whole f (p ∷ q ∷ r ∷ s ∷ []) a b c d long short x y z w = (λ i. f (sym x i) ∷ f (sym y i) ∷ f (sym z i) ∷ f (sym w i) ∷ [])
+four_whole f (p ∷ q ∷ r ∷ s ∷ t ∷ xs) a b c d long short x y z w = absurd (omega arith)

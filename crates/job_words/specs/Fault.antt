@@ -6,6 +6,7 @@ use Rattle.job_words.specs.FileFault.{file_text}
 use Rattle.job_words.specs.SignatureFault.{signature_text}
 use Rattle.job_words.specs.NetlistFault.{netlist_text}
 use Rattle.job_words.specs.SpecificationFault.{specification_text}
+use Rattle.job_words.specs.ValueFault.{value_text}
 use Rattle.job_words.specs.StageFault.{stage_fault_text}
 
 -- the number and the text of a fault
@@ -15,6 +16,7 @@ fault_text (faults.File fault) = file_text fault
 fault_text (faults.Signature fault) = signature_text fault
 fault_text (faults.Netlist file fault) = netlist_text fault ++ (codes " in " ++ file)
 fault_text (faults.Specification fault) = specification_text fault
+fault_text (faults.Value fault) = value_text fault
 fault_text (faults.Stage fault) = stage_fault_text fault
 
 -- the line of a fault, with its LF
@@ -28,4 +30,5 @@ fault_status (faults.File fault) = 2
 fault_status (faults.Signature fault) = 2
 fault_status (faults.Netlist file fault) = 2
 fault_status (faults.Specification fault) = 2
+fault_status (faults.Value fault) = 2
 fault_status (faults.Stage fault) = 3

@@ -4,7 +4,9 @@ pub mod FileFault
 pub mod SignatureFault
 pub mod NetlistFault
 pub mod SpecificationFault
+pub mod ValueFault
 pub mod StageFault
 pub mod Fault
 pub mod Stop
 pub mod OneLine
+pub mod private

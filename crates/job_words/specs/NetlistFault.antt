@@ -47,5 +47,3 @@ netlist_text (netlist.DefinedTwice line) = codes "46: defined twice at line " ++
 netlist_text (netlist.Undefined line) = codes "46: undefined at line " ++ decimal line
 netlist_text (netlist.NameTwice line) = codes "46: name twice at line " ++ decimal line
 netlist_text (netlist.Binding fault) = binding_text fault
-netlist_text netlist.Latches = codes "31: latches"
-netlist_text netlist.Feeds = codes "31: feeds"

@@ -2,7 +2,8 @@
 ghost use Rattle.std.specs.Prelude.{◌≡◌, ◌∷◌, map, string_bytes, IfSome, IfNone};
 ghost use Rattle.job_words.specs.Command.{IsSpelled, job_of};
 
-use crate::operands::{over_net, over_pair, over_two_nets};
+use crate::operands::{over_net, over_pair, over_two_nets, over_values};
+use crate::words::{EvalWords, NetWords, PairWords};
 
 /// A command: the signature that it reads first, and what it does over it.
 #[derive(Clone, Copy, Debug)]
@@ -24,26 +25,8 @@ pub enum Task<'a> {
     Check(PairWords<'a>),
     /// `same`: says whether two netlists compute one function, or the input at which they are told apart.
     Same(PairWords<'a>),
-}
-
-/// The words of a command over one netlist.
-#[derive(Clone, Copy, Debug)]
-pub struct NetWords<'a> {
-    /// The name of the netlist's file, which is read as BLIF.
-    pub net: &'a str,
-    /// The most terms that a stage may have, 1 to 262,144.
-    pub terms: u32,
-}
-
-/// The words of a command over a netlist and a second file.
-#[derive(Clone, Copy, Debug)]
-pub struct PairWords<'a> {
-    /// The name of the netlist's file, which is read as BLIF.
-    pub net: &'a str,
-    /// The name of the second file.
-    pub other: &'a str,
-    /// The most terms that a stage may have, 1 to 262,144.
-    pub terms: u32,
+    /// `eval`: prints the output word's element where the input words have these.
+    Eval(EvalWords<'a>),
 }
 
 /// The command that the words spell.
@@ -88,6 +71,13 @@ fn read_command<'a>(name: &str, rest: &'a [String]) -> Option<Command<'a>>
             Some((signature, words)) => Some(Command {
                 signature,
                 task: Task::Same(words),
+            }),
+            None => None,
+        },
+        "eval" => match over_values(rest) {
+            Some((signature, words)) => Some(Command {
+                signature,
+                task: Task::Eval(words),
             }),
             None => None,
         },

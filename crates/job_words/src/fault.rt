@@ -7,6 +7,7 @@ use crate::netlist_fault::{NetlistFault, netlist_text};
 use crate::signature_fault::{SignatureFault, signature_text};
 use crate::specification_fault::{SpecificationFault, specification_text};
 use crate::stage_fault::{StageFault, stage_fault_text};
+use crate::value_fault::{ValueFault, value_text};
 use net_core::Name;
 use std::alloc::{AllocError, Global};
 
@@ -23,6 +24,8 @@ pub enum Fault {
     Netlist { file: Name, fault: NetlistFault },
     /// The specification is refused.
     Specification(SpecificationFault),
+    /// The values at which a netlist is to be evaluated are refused.
+    Value(ValueFault),
     /// A stage has more terms than the bound.
     Stage(StageFault),
 }
@@ -36,7 +39,8 @@ pub fn status_of(fault: &Fault) -> u8
         | Fault::File(_)
         | Fault::Signature(_)
         | Fault::Netlist { .. }
-        | Fault::Specification(_) => 2,
+        | Fault::Specification(_)
+        | Fault::Value(_) => 2,
         Fault::Stage(_) => 3,
     }
 }
@@ -53,6 +57,7 @@ pub fn write_fault(alloc: Global, fault: &Fault) -> Result<Vec<u8>, AllocError>
             line_in(alloc, netlist_text(alloc, fault)?.as_str(), file.as_str())
         }
         Fault::Specification(fault) => line_of(alloc, specification_text(alloc, fault)?.as_str()),
+        Fault::Value(fault) => line_of(alloc, value_text(alloc, fault)?.as_str()),
         Fault::Stage(fault) => line_of(alloc, stage_fault_text(alloc, fault)?.as_str()),
     }
 }

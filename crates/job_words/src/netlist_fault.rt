@@ -43,9 +43,9 @@ pub enum NetlistFault {
     Loop { count: u64, label: Name },
     /// A cover has more than 6 inputs, or a gate has a number of inputs that it may not have.
     TooWide { line: u32, inputs: u32 },
-    /// There would be 1,048,577 nets.
+    /// There would be 1,048,577 nets, or more after unrolling.
     TooManyNets,
-    /// There would be 1,048,577 gates and latches.
+    /// There would be 1,048,577 gates and latches, or more gates after unrolling.
     TooManyGates,
     /// There would be 1,048,577 instances.
     TooManyInstances,
@@ -59,10 +59,6 @@ pub enum NetlistFault {
     NameTwice { line: u32 },
     /// The words can't be bound.
     Binding(BindingFault),
-    /// The words are bound, and the net has latches, whose cycles are not unrolled yet.
-    Latches,
-    /// The words are bound, and the signature has feeds or fed words, whose cycles are not unrolled yet.
-    Feeds,
 }
 
 /// Why the words of a signature can't be bound to a netlist. Places count from 0.
@@ -132,8 +128,6 @@ pub(crate) fn netlist_text(alloc: Global, fault: &NetlistFault) -> Result<String
         NetlistFault::Undefined { line } => format!(in alloc; "46: undefined at line {line}"),
         NetlistFault::NameTwice { line } => format!(in alloc; "46: name twice at line {line}"),
         NetlistFault::Binding(fault) => binding_text(alloc, fault),
-        NetlistFault::Latches => format!(in alloc; "31: latches"),
-        NetlistFault::Feeds => format!(in alloc; "31: feeds"),
     }
 }
 

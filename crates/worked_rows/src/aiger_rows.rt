@@ -74,14 +74,14 @@ pub static ROWS_1: [Row; 9] = [
         text: "fault 46: name twice at line 3 in and.aag\n",
     },
     Row {
-        name: "bits s1t tog.aag, before cycles are unrolled",
+        name: "bits s1t tog.aag",
         words: &["bits", "s1t", "tog.aag"],
         files: &[
             ("s1t", "gfsig 1\nfield 0x3\nword Z output poly o0\n", 0, ""),
             ("tog.aag", AIGER_TOGGLE, 0, ""),
         ],
-        status: 2,
-        text: "fault 31: latches in tog.aag\n",
+        status: 0,
+        text: "Z = 0\n",
     },
     Row {
         name: "bits s1t tog.aag, the next undefined",

@@ -12,6 +12,10 @@ mod bits_rows;
 #[cfg(test)]
 mod check_rows;
 #[cfg(test)]
+mod cycle_rows;
+#[cfg(test)]
+mod cycle_tests;
+#[cfg(test)]
 mod file_rows;
 #[cfg(test)]
 mod large_tests;

@@ -1,7 +1,7 @@
 //! Netlists that are refused.
 use crate::row::Row;
 use crate::texts::{
-    DIGIT_WORDS, EMPTY, HIERARCHY, LIBRARY_GATE, LOOP, MODEL_TWICE, MULTIPLIER, NO_DRIVER,
+    DIGIT_WORDS, EMPTY, HIERARCHY, LIBRARY_GATE, LOOP, MODEL_TWICE, MULTIPLIER, NO_DRIVER, PRODUCT,
     TOP_WORDS, TWO_DRIVERS, WIDE, WORD_OF_4, WORDS_OF_4,
 };
 
@@ -174,8 +174,8 @@ pub static ROWS_3: [Row; 8] = [
             ("s4", WORDS_OF_4, 0, ""),
             ("mul", MULTIPLIER, 3, ".latch z0 q re clk 0"),
         ],
-        status: 2,
-        text: "fault 31: latches in mul\n",
+        status: 0,
+        text: PRODUCT,
     },
     Row {
         name: "abstract of a latch without a start",

@@ -71,7 +71,7 @@ fn words_and_places(rt: HostRuntime) -> Result<(), Fail> {
         (&["bits", "s4", "mul", "--terms", "04"], 2, refused),
         (&["bits", "s4", "mul", "--terms", "+4"], 2, refused),
         (&["bits", "--terms", "4", "s4", "mul"], 2, refused),
-        (&["bits", "s4", "mul", "--cycles", "1"], 2, refused),
+        (&["bits", "s4", "mul", "--cycles", "-1"], 2, refused),
         (
             &["bits", "sum", "mul"],
             0,

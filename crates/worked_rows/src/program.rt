@@ -70,7 +70,7 @@ pub fn job<F: Field>(
         Ok(setting) => setting,
         Err(_) => panic!(rt; "no setting"),
     };
-    match read_circuit(alloc, shelf, &setting, "net") {
+    match read_circuit(alloc, shelf, &setting, "net", 0) {
         Ok(circuit) => (setting, circuit),
         Err(_) => panic!(rt; "no circuit"),
     }

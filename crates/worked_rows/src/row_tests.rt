@@ -2,8 +2,8 @@
 use crate::program::answer;
 use crate::row::{Row, changed};
 use crate::{
-    abstract_rows, aiger_rows, bits_rows, check_rows, file_rows, netlist_rows, same_rows,
-    signature_rows, stage_rows, verilog_rows, word_rows,
+    abstract_rows, aiger_rows, bits_rows, check_rows, cycle_rows, file_rows, netlist_rows,
+    same_rows, signature_rows, stage_rows, word_rows,
 };
 use std::alloc::Global;
 use std::process::Abort;
@@ -163,6 +163,16 @@ fn aiger_rows_2(rt: HostRuntime) -> Result<(), Fail> {
 }
 
 #[test]
-fn verilog_rows_1(rt: HostRuntime) -> Result<(), Fail> {
-    check(&rt, rt.alloc(), &verilog_rows::ROWS_1)
+fn cycle_rows_1(rt: HostRuntime) -> Result<(), Fail> {
+    check(&rt, rt.alloc(), &cycle_rows::ROWS_1)
+}
+
+#[test]
+fn cycle_rows_2(rt: HostRuntime) -> Result<(), Fail> {
+    check(&rt, rt.alloc(), &cycle_rows::ROWS_2)
+}
+
+#[test]
+fn cycle_rows_3(rt: HostRuntime) -> Result<(), Fail> {
+    check(&rt, rt.alloc(), &cycle_rows::ROWS_3)
 }

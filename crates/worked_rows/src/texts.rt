@@ -42,6 +42,9 @@ pub const CONJUNCTION_OF_BITS: &str =
 
 pub const CUBE: &str = "Z = A^3\n";
 
+pub const DIGIT_MULTIPLIER: &str =
+    ".model make\n.inputs b0 b1 d\n.outputs z0 z1\n.latch w2 z0 0\n.latch w4 z1 0\n.names d b0 w0\n11 1\n.names d b1 w1\n11 1\n.names z1 w0 w2\n10 1\n01 1\n.names z0 z1 w3\n10 1\n01 1\n.names w3 w1 w4\n10 1\n01 1\n.end\n";
+
 pub const DIGIT_WORDS: &str =
     "gfsig 2\nfield 0x7\nword A fed poly\nword B input poly b0 b1\nword Z output poly z0 z1\nfeed d 0 A[1]\nfeed d 1 A[0]\n";
 
@@ -125,6 +128,10 @@ pub const POWER_64_BITS: &str = "Z = 1 + A^18446744073709551615\n";
 pub const POWER_TOO_LARGE: &str = "Z = A^18446744073709551616\n";
 
 pub const PRODUCT: &str = "Z = A*B\n";
+
+pub const REGISTER: &str = ".model r\n.inputs d\n.outputs q\n.latch d q 1\n.end\n";
+
+pub const REGISTER_WORDS: &str = "gfsig 1\nfield 0x3\nword A input poly d\nword Z output poly q\n";
 
 pub const ROTATED_WORD: &str =
     "gfsig 1\nfield 0xb\nword A input normal:0x3 a0 a1 a2\nword Z output normal:0x3 a2 a0 a1\n";

@@ -17,7 +17,7 @@ use Rattle.job_words.specs.declared.fault.Fault.TheVariants as faults
 use Rattle.job_words.specs.declared.stage_fault.StageFault.{StageFault}
 use Rattle.job_words.specs.Operands.{Word}
 use Rattle.job_input.specs.Labelling.{labels_of}
-use Rattle.job_input.specs.NetlistOf.{CircuitIn}
+use Rattle.job_input.specs.CircuitOf.{CircuitIn}
 use Rattle.job_input.specs.SettingValue.{SettingValue}
 use Rattle.gf_abs.specs.Reply.{Reply, prints}
 use Rattle.gf_abs.specs.Staged.{Staged, either_text}
@@ -46,7 +46,7 @@ AbstractReply setting circuit bound = do
   Exactly (prints setting ts)
 
 -- its answer, after its signature was taken: its input is a netlist
-abbrev pub AbstractAnswer : Option Files → SettingValue → Word → ℕ → Outcome Fault Reply
-AbstractAnswer held setting net terms = do
-  circuit ← CircuitIn held setting.signature net
+abbrev pub AbstractAnswer : Option Files → SettingValue → Word → (terms cycles : ℕ) → Outcome Fault Reply
+AbstractAnswer held setting net terms cycles = do
+  circuit ← CircuitIn held setting.signature net cycles
   AbstractReply setting circuit terms

@@ -17,7 +17,7 @@ use Rattle.job_words.specs.declared.stage_fault.StageFault.{StageFault}
 use Rattle.job_words.specs.Operands.{Word}
 use Rattle.job_words.specs.StageFault.{stage_text}
 use Rattle.job_input.specs.Labelling.{labels_of}
-use Rattle.job_input.specs.NetlistOf.{CircuitIn}
+use Rattle.job_input.specs.CircuitOf.{CircuitIn}
 use Rattle.job_input.specs.SettingValue.{SettingValue}
 use Rattle.gf_abs.specs.Reply.{Reply, prints}
 use Rattle.gf_abs.specs.Staged.{Staged}
@@ -41,7 +41,7 @@ BitsReply setting circuit bound = do
   Exactly (prints setting ts)
 
 -- its answer, after its signature was taken: its input is a netlist
-abbrev pub BitsAnswer : Option Files → SettingValue → Word → ℕ → Outcome Fault Reply
-BitsAnswer held setting net terms = do
-  circuit ← CircuitIn held setting.signature net
+abbrev pub BitsAnswer : Option Files → SettingValue → Word → (terms cycles : ℕ) → Outcome Fault Reply
+BitsAnswer held setting net terms cycles = do
+  circuit ← CircuitIn held setting.signature net cycles
   BitsReply setting circuit terms

@@ -4,7 +4,7 @@ use Rattle.text_core.specs.Outcome.{Outcome, ◌>>=◌, Exactly, Within}
 use Rattle.job_io.specs.Shelf.{Files}
 use Rattle.net_words.specs.Binding.{BoundNet}
 use Rattle.poly_mixed.specs.Labels.{Labelling}
-use Rattle.circuit_model.specs.Circuit.{IsInput}
+use Rattle.circuit_model.specs.Circuit.{Circuit, IsInput}
 use Rattle.circuit_model.specs.Differing.{Difference, IsComparison}
 use Rattle.circuit_model.specs.Out.{IsOut}
 use Rattle.spec_expand.specs.SpecListing.{spec_listing}
@@ -16,7 +16,8 @@ use Rattle.job_words.specs.declared.stage_fault.StageFault.{StageFault}
 use Rattle.job_words.specs.Operands.{Word}
 use Rattle.job_words.specs.StageFault.{stage_text}
 use Rattle.job_input.specs.Labelling.{labels_of}
-use Rattle.job_input.specs.NetlistOf.{CircuitIn}
+use Rattle.job_input.specs.CircuitOf.{UnrolledIn}
+use Rattle.job_input.specs.NetlistOf.{NetlistIn}
 use Rattle.job_input.specs.SettingValue.{SettingValue}
 use Rattle.job_input.specs.SpecificationIn.{SpecificationIn}
 use Rattle.gf_abs.specs.DifferingLines.{differing_lines}
@@ -25,13 +26,13 @@ use Rattle.gf_abs.specs.Staged.{Staged}
 use Rattle.gf_abs.specs.commands.Abstract.{taken_circuit, AbstractOf}
 
 -- at an input the specification has this value
-pub record IsSpecified (setting : SettingValue) (circuit : BoundNet) (spec : SpecTerms) (xs : List ℕ) (e : ℕ) : Type 0 where
-  pub input : IsInput (taken_circuit setting circuit) xs
+pub record IsSpecified (setting : SettingValue) (circuit : Circuit) (spec : SpecTerms) (xs : List ℕ) (e : ℕ) : Type 0 where
+  pub input : IsInput circuit xs
   pub value : spec_at setting.product xs spec ≡ e
 
 -- this is the comparison of the output with the specification
 abbrev pub IsJudged : SettingValue → BoundNet → SpecTerms → Option Difference → Type 0
-IsJudged setting circuit spec = IsComparison (taken_circuit setting circuit) (IsOut (taken_circuit setting circuit)) (IsSpecified setting circuit spec)
+IsJudged setting circuit spec = IsComparison (taken_circuit setting circuit) (IsOut (taken_circuit setting circuit)) (IsSpecified setting (taken_circuit setting circuit) spec)
 
 -- the comparison with the specification, where no stage of the specification has more than `bound` terms
 abbrev pub JudgedOf : SettingValue → BoundNet → SpecTerms → ℕ → Outcome StageFault (Option Difference)
@@ -60,14 +61,20 @@ CheckReply setting circuit spec bound = do
   line ← WordsLine setting circuit bound
   CheckBeside setting circuit spec bound line
 
--- its answer over a circuit: the specification is read then
-abbrev pub CheckOver : Option Files → SettingValue → BoundNet → Word → ℕ → Outcome Fault Reply
-CheckOver held setting circuit file terms = do
-  spec ← SpecificationIn held (labels_of setting.k setting.signature.words) setting.k setting.product file
+-- its answer over a netlist and a specification: the netlist's cycles are unrolled then
+abbrev pub CheckUnrolled : SettingValue → Word → BoundNet → SpecTerms → (terms cycles : ℕ) → Outcome Fault Reply
+CheckUnrolled setting net netlist spec terms cycles = do
+  circuit ← UnrolledIn net netlist cycles
   CheckReply setting circuit spec terms
 
+-- its answer over a netlist: the specification is read then
+abbrev pub CheckOver : Option Files → SettingValue → Word → BoundNet → Word → (terms cycles : ℕ) → Outcome Fault Reply
+CheckOver held setting net netlist file terms cycles = do
+  spec ← SpecificationIn held (labels_of setting.k setting.signature.words) setting.k setting.product file
+  CheckUnrolled setting net netlist spec terms cycles
+
 -- its answer, after its signature was taken: its inputs are a netlist and a specification
-abbrev pub CheckAnswer : Option Files → SettingValue → Word → Word → ℕ → Outcome Fault Reply
-CheckAnswer held setting net file terms = do
-  circuit ← CircuitIn held setting.signature net
-  CheckOver held setting circuit file terms
+abbrev pub CheckAnswer : Option Files → SettingValue → Word → Word → (terms cycles : ℕ) → Outcome Fault Reply
+CheckAnswer held setting net file terms cycles = do
+  netlist ← NetlistIn held setting.signature net
+  CheckOver held setting net netlist file terms cycles

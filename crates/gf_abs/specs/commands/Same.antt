@@ -13,7 +13,8 @@ use Rattle.job_words.specs.declared.fault.Fault.TheVariants as faults
 use Rattle.job_words.specs.declared.stage_fault.StageFault.{StageFault}
 use Rattle.job_words.specs.Operands.{Word}
 use Rattle.job_input.specs.Labelling.{labels_of}
-use Rattle.job_input.specs.NetlistOf.{CircuitIn}
+use Rattle.job_input.specs.CircuitOf.{UnrolledIn}
+use Rattle.job_input.specs.NetlistOf.{NetlistIn}
 use Rattle.job_input.specs.SettingValue.{SettingValue}
 use Rattle.gf_abs.specs.DifferingLines.{differing_lines}
 use Rattle.gf_abs.specs.Reply.{Reply}
@@ -44,14 +45,26 @@ SameReply setting circuit other bound = do
   found ← Within faults.Stage (SameOf setting circuit other bound)
   Exactly (same_reply (labels_of setting.k setting.signature.words) found)
 
--- its answer over the first circuit: the second netlist is read then
-abbrev pub SameBeside : Option Files → SettingValue → BoundNet → Word → ℕ → Outcome Fault Reply
-SameBeside held setting circuit other terms = do
-  second ← CircuitIn held setting.signature other
-  SameReply setting circuit second terms
+-- its answer over the first circuit and the second netlist, whose cycles are unrolled then
+abbrev pub SameSecond : SettingValue → BoundNet → Word → BoundNet → (terms cycles : ℕ) → Outcome Fault Reply
+SameSecond setting circuit other second terms cycles = do
+  more ← UnrolledIn other second cycles
+  SameReply setting circuit more terms
+
+-- its answer over two netlists: the cycles of the first are unrolled first
+abbrev pub SameUnrolled : SettingValue → (net : Word) → BoundNet → (other : Word) → BoundNet → (terms cycles : ℕ) → Outcome Fault Reply
+SameUnrolled setting net netlist other second terms cycles = do
+  circuit ← UnrolledIn net netlist cycles
+  SameSecond setting circuit other second terms cycles
+
+-- its answer over the first netlist: the second is read then
+abbrev pub SameBeside : Option Files → SettingValue → (net : Word) → BoundNet → (other : Word) → (terms cycles : ℕ) → Outcome Fault Reply
+SameBeside held setting net netlist other terms cycles = do
+  second ← NetlistIn held setting.signature other
+  SameUnrolled setting net netlist other second terms cycles
 
 -- its answer, after its signature was taken: its inputs are two netlists
-abbrev pub SameAnswer : Option Files → SettingValue → Word → Word → ℕ → Outcome Fault Reply
-SameAnswer held setting net other terms = do
-  circuit ← CircuitIn held setting.signature net
-  SameBeside held setting circuit other terms
+abbrev pub SameAnswer : Option Files → SettingValue → Word → Word → (terms cycles : ℕ) → Outcome Fault Reply
+SameAnswer held setting net other terms cycles = do
+  netlist ← NetlistIn held setting.signature net
+  SameBeside held setting net netlist other terms cycles

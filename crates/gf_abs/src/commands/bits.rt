@@ -15,7 +15,7 @@ use gf_basis::Basis;
 use gf_field::Field;
 use job_input::{Setting, labels_for, output_basis, read_circuit};
 use job_io::Shelf;
-use job_words::Stop;
+use job_words::{NetWords, Stop};
 use net_signature::Signature;
 use net_words::Combinational;
 use poly_mixed::NoSteps;
@@ -27,24 +27,23 @@ pub(crate) fn answer<F: Field, S: Shelf>(
     alloc: Global,
     field: &F,
     setting: &Setting,
-    net: &str,
-    terms: u32,
+    words: &NetWords,
     shelf: &mut S,
 ) -> Result<Output, Stop>
     requires { IsReady (F.degree field.now) (F.product field.now) setting.now }
     ensures held { S.held shelf.new ≡ S.held shelf.old }
     ensures never_fall { (S.faults shelf.old ≤ S.faults shelf.new) × (S.misses shelf.old ≤ S.misses shelf.new) }
-    ensures gives { GivesBy reply_of result (BitsAnswer (S.held shelf.old) (setting_value (F.degree field.now) (F.product field.now) setting.now) net.now terms)
+    ensures gives { GivesBy reply_of result (BitsAnswer (S.held shelf.old) (setting_value (F.degree field.now) (F.product field.now) setting.now) words.now.net.now words.now.terms words.now.cycles)
         (Rose (S.misses shelf.old) (S.misses shelf.new)) (Rose (S.faults shelf.old) (S.faults shelf.new)) }
 {
-    match read_circuit(alloc, shelf, setting, net) {
+    match read_circuit(alloc, shelf, setting, words.net, words.cycles) {
         Ok(circuit) => reply(
             alloc,
             field,
             &setting.signature,
             setting.bases.as_slice(),
             &circuit,
-            terms,
+            words.terms,
         ),
         Err(stop) => Err(stop),
     }

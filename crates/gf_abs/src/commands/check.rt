@@ -14,7 +14,7 @@ ghost use Rattle.spec_compare.specs.Verdict.{comparison_of};
 ghost use Rattle.gf_abs.specs.DifferingLines.{differing_lines};
 ghost use Rattle.gf_abs.specs.Reply.{reply_of};
 ghost use Rattle.gf_abs.specs.commands.Abstract.{taken_circuit};
-ghost use Rattle.gf_abs.specs.commands.Check.{JudgedOf, WordsLine, CheckBeside, CheckReply, CheckOver, CheckAnswer, check_reply};
+ghost use Rattle.gf_abs.specs.commands.Check.{JudgedOf, WordsLine, CheckBeside, CheckReply, CheckUnrolled, CheckOver, CheckAnswer, check_reply};
 
 use crate::cuts::last_cut;
 use crate::differing::add_difference;
@@ -23,7 +23,9 @@ use crate::output::Output;
 use crate::stages::stage_stop;
 use crate::words::in_words;
 use gf_field::Field;
-use job_input::{Setting, labels_for, read_circuit, read_specification};
+use job_input::{
+    BoundNetlist, Setting, labels_for, read_netlist, read_specification, unroll_netlist,
+};
 use job_io::Shelf;
 use job_words::{PairWords, Stop};
 use net_words::Combinational;
@@ -50,43 +52,56 @@ pub(crate) fn answer<F: Field, S: Shelf>(
     requires { IsReady (F.degree field.now) (F.product field.now) setting.now }
     ensures held { S.held shelf.new ≡ S.held shelf.old }
     ensures never_fall { (S.faults shelf.old ≤ S.faults shelf.new) × (S.misses shelf.old ≤ S.misses shelf.new) }
-    ensures gives { GivesBy reply_of result (CheckAnswer (S.held shelf.old) (setting_value (F.degree field.now) (F.product field.now) setting.now) words.now.net.now words.now.other.now words.now.terms)
+    ensures gives { GivesBy reply_of result (CheckAnswer (S.held shelf.old) (setting_value (F.degree field.now) (F.product field.now) setting.now) words.now.net.now words.now.other.now words.now.terms words.now.cycles)
         (Rose (S.misses shelf.old) (S.misses shelf.new)) (Rose (S.faults shelf.old) (S.faults shelf.new)) }
 {
-    match read_circuit(alloc, shelf, setting, words.net) {
-        Ok(circuit) => over(
-            alloc,
-            field,
-            setting,
-            &circuit,
-            words.other,
-            words.terms,
-            shelf,
-        ),
+    match read_netlist(alloc, shelf, setting, words.net) {
+        Ok(netlist) => over(alloc, field, setting, words, netlist, shelf),
         Err(stop) => Err(stop),
     }
 }
 
-// The same over the circuit, of the specification's file.
+// The same over the netlist, of the specification's file.
 fn over<F: Field, S: Shelf>(
     alloc: Global,
     field: &F,
     setting: &Setting,
-    circuit: &Combinational,
-    file: &str,
-    terms: u32,
+    words: &PairWords,
+    netlist: BoundNetlist,
     shelf: &mut S,
 ) -> Result<Output, Stop>
     requires ready { IsReady (F.degree field.now) (F.product field.now) setting.now }
-    requires taken { IsTakenFor (F.degree field.now) setting.now circuit.now }
+    requires taken { IsTakenFor (F.degree field.now) setting.now netlist }
     ensures held { S.held shelf.new ≡ S.held shelf.old }
     ensures never_fall { (S.faults shelf.old ≤ S.faults shelf.new) × (S.misses shelf.old ≤ S.misses shelf.new) }
-    ensures gives { GivesBy reply_of result (CheckOver (S.held shelf.old) (setting_value (F.degree field.now) (F.product field.now) setting.now) circuit.now file.now terms)
+    ensures gives { GivesBy reply_of result (CheckOver (S.held shelf.old) (setting_value (F.degree field.now) (F.product field.now) setting.now) words.now.net.now netlist words.now.other.now words.now.terms words.now.cycles)
         (Rose (S.misses shelf.old) (S.misses shelf.new)) (Rose (S.faults shelf.old) (S.faults shelf.new)) }
 {
     let labels = labels(alloc, field, setting)?;
-    match read_specification(alloc, field, shelf, &labels, file) {
-        Ok(spec) => reply(alloc, field, setting, &labels, circuit, &spec, terms),
+    match read_specification(alloc, field, shelf, &labels, words.other) {
+        Ok(spec) => unrolled(alloc, field, setting, &labels, words, netlist, &spec),
+        Err(stop) => Err(stop),
+    }
+}
+
+// The same over the netlist and the specification: the cycles are unrolled.
+fn unrolled<F: Field>(
+    alloc: Global,
+    field: &F,
+    setting: &Setting,
+    labels: &Labels,
+    words: &PairWords,
+    netlist: BoundNetlist,
+    spec: &Spec,
+) -> Result<Output, Stop>
+    requires ready { IsReady (F.degree field.now) (F.product field.now) setting.now }
+    requires taken { IsTakenFor (F.degree field.now) setting.now netlist }
+    requires labels { labels.now ≡ labels_of (F.degree field.now) setting.now.signature.words }
+    requires spec { IsOverWords (F.degree field.now) (length labels.now.words) spec.now }
+    ensures { GivesBy reply_of result (CheckUnrolled (setting_value (F.degree field.now) (F.product field.now) setting.now) words.now.net.now netlist spec.now words.now.terms words.now.cycles) ⊥ ⊥ }
+{
+    match unroll_netlist(alloc, words.net, netlist, words.cycles) {
+        Ok(circuit) => reply(alloc, field, setting, labels, &circuit, spec, words.terms),
         Err(stop) => Err(stop),
     }
 }

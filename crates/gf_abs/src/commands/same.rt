@@ -9,7 +9,7 @@ ghost use Rattle.job_input.specs.Setting.{setting_value, IsReady, IsTakenFor};
 ghost use Rattle.spec_compare.specs.Verdict.{comparison_of};
 ghost use Rattle.gf_abs.specs.DifferingLines.{differing_lines};
 ghost use Rattle.gf_abs.specs.Reply.{reply_of};
-ghost use Rattle.gf_abs.specs.commands.Same.{SameOf, SameReply, SameBeside, SameAnswer, same_reply};
+ghost use Rattle.gf_abs.specs.commands.Same.{SameOf, SameReply, SameSecond, SameUnrolled, SameBeside, SameAnswer, same_reply};
 
 use crate::cuts::last_cut;
 use crate::differing::add_difference;
@@ -17,7 +17,7 @@ use crate::output::Output;
 use crate::second_stages::second_stage_stop;
 use crate::stages::stage_stop;
 use gf_field::Field;
-use job_input::{Setting, labels_for, read_circuit};
+use job_input::{BoundNetlist, Setting, labels_for, read_netlist, unroll_netlist};
 use job_io::Shelf;
 use job_words::{PairWords, Stop};
 use net_words::Combinational;
@@ -36,42 +36,73 @@ pub(crate) fn answer<F: Field, S: Shelf>(
     requires { IsReady (F.degree field.now) (F.product field.now) setting.now }
     ensures held { S.held shelf.new ≡ S.held shelf.old }
     ensures never_fall { (S.faults shelf.old ≤ S.faults shelf.new) × (S.misses shelf.old ≤ S.misses shelf.new) }
-    ensures gives { GivesBy reply_of result (SameAnswer (S.held shelf.old) (setting_value (F.degree field.now) (F.product field.now) setting.now) words.now.net.now words.now.other.now words.now.terms)
+    ensures gives { GivesBy reply_of result (SameAnswer (S.held shelf.old) (setting_value (F.degree field.now) (F.product field.now) setting.now) words.now.net.now words.now.other.now words.now.terms words.now.cycles)
         (Rose (S.misses shelf.old) (S.misses shelf.new)) (Rose (S.faults shelf.old) (S.faults shelf.new)) }
 {
-    match read_circuit(alloc, shelf, setting, words.net) {
-        Ok(circuit) => beside(
-            alloc,
-            field,
-            setting,
-            &circuit,
-            words.other,
-            words.terms,
-            shelf,
-        ),
+    match read_netlist(alloc, shelf, setting, words.net) {
+        Ok(netlist) => beside(alloc, field, setting, words, netlist, shelf),
         Err(stop) => Err(stop),
     }
 }
 
-// The same beside the first circuit, of the second netlist's file.
+// The same beside the first netlist, of the second netlist's file.
 fn beside<F: Field, S: Shelf>(
     alloc: Global,
     field: &F,
     setting: &Setting,
-    circuit: &Combinational,
-    other: &str,
-    terms: u32,
+    words: &PairWords,
+    netlist: BoundNetlist,
     shelf: &mut S,
 ) -> Result<Output, Stop>
     requires ready { IsReady (F.degree field.now) (F.product field.now) setting.now }
-    requires taken { IsTakenFor (F.degree field.now) setting.now circuit.now }
+    requires taken { IsTakenFor (F.degree field.now) setting.now netlist }
     ensures held { S.held shelf.new ≡ S.held shelf.old }
     ensures never_fall { (S.faults shelf.old ≤ S.faults shelf.new) × (S.misses shelf.old ≤ S.misses shelf.new) }
-    ensures gives { GivesBy reply_of result (SameBeside (S.held shelf.old) (setting_value (F.degree field.now) (F.product field.now) setting.now) circuit.now other.now terms)
+    ensures gives { GivesBy reply_of result (SameBeside (S.held shelf.old) (setting_value (F.degree field.now) (F.product field.now) setting.now) words.now.net.now netlist words.now.other.now words.now.terms words.now.cycles)
         (Rose (S.misses shelf.old) (S.misses shelf.new)) (Rose (S.faults shelf.old) (S.faults shelf.new)) }
 {
-    match read_circuit(alloc, shelf, setting, other) {
-        Ok(second) => reply(alloc, field, setting, circuit, &second, terms),
+    match read_netlist(alloc, shelf, setting, words.other) {
+        Ok(second) => unrolled(alloc, field, setting, words, netlist, second),
+        Err(stop) => Err(stop),
+    }
+}
+
+// The same over two netlists: the cycles of the first are unrolled.
+fn unrolled<F: Field>(
+    alloc: Global,
+    field: &F,
+    setting: &Setting,
+    words: &PairWords,
+    netlist: BoundNetlist,
+    second: BoundNetlist,
+) -> Result<Output, Stop>
+    requires ready { IsReady (F.degree field.now) (F.product field.now) setting.now }
+    requires first { IsTakenFor (F.degree field.now) setting.now netlist }
+    requires second { IsTakenFor (F.degree field.now) setting.now second }
+    ensures { GivesBy reply_of result (SameUnrolled (setting_value (F.degree field.now) (F.product field.now) setting.now) words.now.net.now netlist words.now.other.now second words.now.terms words.now.cycles) ⊥ ⊥ }
+{
+    match unroll_netlist(alloc, words.net, netlist, words.cycles) {
+        Ok(circuit) => second_unrolled(alloc, field, setting, words, &circuit, second),
+        Err(stop) => Err(stop),
+    }
+}
+
+// The same beside the first circuit: the cycles of the second netlist are unrolled.
+fn second_unrolled<F: Field>(
+    alloc: Global,
+    field: &F,
+    setting: &Setting,
+    words: &PairWords,
+    circuit: &Combinational,
+    second: BoundNetlist,
+) -> Result<Output, Stop>
+    requires ready { IsReady (F.degree field.now) (F.product field.now) setting.now }
+    requires first { IsTakenFor (F.degree field.now) setting.now circuit.now }
+    requires second { IsTakenFor (F.degree field.now) setting.now second }
+    ensures { GivesBy reply_of result (SameSecond (setting_value (F.degree field.now) (F.product field.now) setting.now) circuit.now words.now.other.now second words.now.terms words.now.cycles) ⊥ ⊥ }
+{
+    match unroll_netlist(alloc, words.other, second, words.cycles) {
+        Ok(more) => reply(alloc, field, setting, circuit, &more, words.terms),
         Err(stop) => Err(stop),
     }
 }

@@ -1,5 +1,5 @@
 -- What is known while a netlist is read: for the clauses of private functions. Source: this project's own.
-use Rattle.std.specs.Prelude.{◌≡◌, ◌≢◌, ◌⊎◌, ℕ, ◌<◌, [], Option, None, Some, Result}
+use Rattle.std.specs.Prelude.{◌≡◌, ℕ, ◌<◌, Option, None, Some, Result}
 use Rattle.text_core.specs.Outcome.{Outcome, Fits}
 use Rattle.net_core.specs.NetList.{NetList, nets as net_count}
 use Rattle.net_core.specs.declared.fault.NetFault.{NetFault}
@@ -15,7 +15,6 @@ use Rattle.net_flat.specs.declared.flat_fault.FlatFault.TheVariants as flats
 use Rattle.net_words.specs.declared.binding.BindFault.{BindFault}
 use Rattle.net_words.specs.declared.binding.BindFault.TheVariants as binds
 use Rattle.job_words.specs.declared.netlist_fault.NetlistFault.{NetlistFault}
-use Rattle.job_words.specs.declared.netlist_fault.NetlistFault.TheVariants as netlist
 use Rattle.job_input.specs.NetlistOf.{of_model, of_aiger, of_text, of_net, of_verilog}
 use Rattle.job_input.specs.declared.netlist.Refusal.{Refusal}
 use Rattle.job_input.specs.declared.netlist.Refusal.TheVariants.{Fault, OutOfMemory}
@@ -72,7 +71,3 @@ IsNamed count net (binds.FeedNotFree line) = Unit {0}
 IsNamed count net (binds.Uncovered n) = n < net_count net
 IsNamed count net (binds.UnknownStart n) = n < net_count net
 IsNamed count net binds.OutOfMemory = Unit {0}
-
--- what a net is refused for that is not of one cycle: for its latches, or else for feeds
-abbrev pub IsUnrollingFault : NetList → NetlistFault → Type 0
-IsUnrollingFault net fault = ((fault ≡ netlist.Latches) × (net.latches ≢ [])) ⊎ ((fault ≡ netlist.Feeds) × (net.latches ≡ []))

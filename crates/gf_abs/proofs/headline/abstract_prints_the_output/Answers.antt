@@ -2,4 +2,4 @@ use Rattle.gf_abs.proofs.HeadlineLemmas.{abstract_prints}
 use Rattle.gf_abs.proofs.headline.abstract_prints_the_output.Goals as goal
 
 pub returns : goal.returns
-returns c = λ files words signature net reply is. abstract_prints files words signature net reply is
+returns c = abstract_prints

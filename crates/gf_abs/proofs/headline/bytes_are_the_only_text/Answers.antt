@@ -2,4 +2,4 @@ use Rattle.gf_abs.proofs.HeadlineLemmas.{bytes_only}
 use Rattle.gf_abs.proofs.headline.bytes_are_the_only_text.Goals as goal
 
 pub returns : goal.returns
-returns c = λ files words signature net reply setting circuit ts is held in_words. bytes_only files words signature net reply setting circuit ts is held in_words
+returns c = bytes_only

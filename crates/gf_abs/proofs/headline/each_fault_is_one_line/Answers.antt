@@ -12,6 +12,7 @@ statuses (faults.File fault) = inl refl
 statuses (faults.Signature fault) = inl refl
 statuses (faults.Netlist file fault) = inl refl
 statuses (faults.Specification fault) = inl refl
+statuses (faults.Value fault) = inl refl
 statuses (faults.Stage fault) = inr refl
 
 pub returns-clause-reply : goal.returns-clause-reply

@@ -2,4 +2,4 @@ use Rattle.gf_abs.proofs.HeadlineLemmas.{bytes_equal}
 use Rattle.gf_abs.proofs.headline.equal_bytes_exactly_if_equal_functions.Goals as goal
 
 pub returns : goal.returns
-returns c = λ files files' words words' signature signature' net net' reply reply' setting circuit other is is' held held'. bytes_equal files files' words words' signature signature' net net' reply reply' setting circuit other is is' held held'
+returns c = bytes_equal

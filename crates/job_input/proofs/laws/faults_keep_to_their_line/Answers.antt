@@ -1,11 +1,14 @@
-use Rattle.job_input.proofs.FileLineLemmas.{circuit_keeps, signed_keeps, specification_keeps}
+use Rattle.job_input.proofs.FileLineLemmas.{cycles_keep, netlist_file_keeps, signed_keeps, specification_keeps}
 use Rattle.job_input.proofs.laws.faults_keep_to_their_line.Goals as goal
 
 pub returns-clause-signature : goal.returns-clause-signature
 returns-clause-signature c = signed_keeps
 
 pub returns-clause-netlist : goal.returns-clause-netlist
-returns-clause-netlist c = circuit_keeps
+returns-clause-netlist c = netlist_file_keeps
+
+pub returns-clause-unrolled : goal.returns-clause-unrolled
+returns-clause-unrolled c = cycles_keep
 
 pub returns-clause-specification : goal.returns-clause-specification
 returns-clause-specification c = specification_keeps

@@ -10,6 +10,7 @@ returns-in-None-clause-none c =
     (λ e. letters (codes "abstract") (codes "bits") _ (λ d. absurd (omega arith)) (sym e ∙ named))
     (λ e. letters (codes "check") (codes "bits") _ (λ d. absurd (omega arith)) (sym e ∙ named))
     (λ e. letters (codes "same") (codes "bits") _ (λ d. absurd (omega arith)) (sym e ∙ named))
+    (λ e. letters (codes "eval") (codes "bits") _ (λ d. absurd (omega arith)) (sym e ∙ named))
 
 pub returns-in-None-over_net-clause-none : goal.returns-in-None-over_net-clause-none
 returns-in-None-over_net-clause-none c =
@@ -19,6 +20,7 @@ returns-in-None-over_net-clause-none c =
     (λ e. c.in-None-over_net.ensures.none)
     (λ e. letters (codes "check") (codes "abstract") _ (λ d. absurd (omega arith)) (sym e ∙ named))
     (λ e. letters (codes "same") (codes "abstract") _ (λ d. absurd (omega arith)) (sym e ∙ named))
+    (λ e. letters (codes "eval") (codes "abstract") _ (λ d. absurd (omega arith)) (sym e ∙ named))
 
 pub returns-in-None-over_pair-clause-none : goal.returns-in-None-over_pair-clause-none
 returns-in-None-over_pair-clause-none c =
@@ -28,6 +30,7 @@ returns-in-None-over_pair-clause-none c =
     (λ e. letters (codes "abstract") (codes "check") _ (λ d. absurd (omega arith)) (sym e ∙ named))
     (λ e. c.in-None-over_pair.ensures.none)
     (λ e. letters (codes "same") (codes "check") _ (λ d. absurd (omega arith)) (sym e ∙ named))
+    (λ e. letters (codes "eval") (codes "check") _ (λ d. absurd (omega arith)) (sym e ∙ named))
 
 pub returns-in-None-over_two_nets-clause-none : goal.returns-in-None-over_two_nets-clause-none
 returns-in-None-over_two_nets-clause-none c =
@@ -37,3 +40,14 @@ returns-in-None-over_two_nets-clause-none c =
     (λ e. letters (codes "abstract") (codes "same") _ (λ d. absurd (omega arith)) (sym e ∙ named))
     (λ e. letters (codes "check") (codes "same") _ (λ d. absurd (omega arith)) (sym e ∙ named))
     (λ e. c.in-None-over_two_nets.ensures.none)
+    (λ e. letters (codes "eval") (codes "same") _ (λ d. absurd (omega arith)) (sym e ∙ named))
+
+pub returns-in-None-over_values-clause-none : goal.returns-in-None-over_values-clause-none
+returns-in-None-over_values-clause-none c =
+    let named : c.args.name.now ≡ codes "eval" = search rules in
+    not_spelled c.args.name.now (map string_bytes c.args.rest.now)
+    (λ e. letters (codes "bits") (codes "eval") _ (λ d. absurd (omega arith)) (sym e ∙ named))
+    (λ e. letters (codes "abstract") (codes "eval") _ (λ d. absurd (omega arith)) (sym e ∙ named))
+    (λ e. letters (codes "check") (codes "eval") _ (λ d. absurd (omega arith)) (sym e ∙ named))
+    (λ e. letters (codes "same") (codes "eval") _ (λ d. absurd (omega arith)) (sym e ∙ named))
+    (λ e. c.in-None-over_values.ensures.none)

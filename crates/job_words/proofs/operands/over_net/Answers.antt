@@ -9,5 +9,5 @@ returns-in-len2-up-clause-none c =
     let whole = two_first string_bytes c.args.words.now c.signature-item.result c.net-item.result (omega arith) c.signature-item.is c.net-item.is in
     let rest : List Word = map string_bytes (take (length c.args.words.now - 2) (drop 2 c.args.words.now)) in
     let texts : c.as_str.result.now ∷ c.as_str-in-len2-up.result.now ∷ rest ≡ map string_bytes c.args.words.now = (λ i. c.as_str.ensures.value i ∷ c.as_str-in-len2-up.ensures.value i ∷ rest) ∙ sym whole in
-    let P : List Word → Type 0 = λ words. IfNone c.with_options.result ((signature net : Word) (terms : ℕ) → IsOverNet words signature net terms → ⊥) in
+    let P : List Word → Type 0 = λ words. IfNone c.with_options.result ((signature net : Word) (terms cycles : ℕ) → IsOverNet words signature net terms cycles → ⊥) in
     subst P texts c.with_options.ensures.none

@@ -9,5 +9,5 @@ returns-in-len3-up-clause-none c =
     let whole = three_first string_bytes c.args.words.now c.signature-item.result c.net-item.result c.other-item.result (omega arith) c.signature-item.is c.net-item.is c.other-item.is in
     let rest : List Word = map string_bytes (take (length c.args.words.now - 3) (drop 3 c.args.words.now)) in
     let texts : c.as_str.result.now ∷ c.as_str-in-len3-up.result.now ∷ c.as_str-in-len3-up-2.result.now ∷ rest ≡ map string_bytes c.args.words.now = (λ i. c.as_str.ensures.value i ∷ c.as_str-in-len3-up.ensures.value i ∷ c.as_str-in-len3-up-2.ensures.value i ∷ rest) ∙ sym whole in
-    let P : List Word → Type 0 = λ words. IfNone c.pair_with_options.result ((signature net other : Word) (terms : ℕ) → IsOverPair words signature net other terms → ⊥) in
+    let P : List Word → Type 0 = λ words. IfNone c.pair_with_options.result ((signature net other : Word) (terms cycles : ℕ) → IsOverPair words signature net other terms cycles → ⊥) in
     subst P texts c.pair_with_options.ensures.none

@@ -8,7 +8,7 @@ use Rattle.job_input.specs.Labelling.{labels_of}
 use Rattle.job_input.specs.Setting.{setting_value}
 use Rattle.job_input.specs.SpecificationIn.{SpecificationIn}
 use Rattle.gf_abs.specs.Reply.{reply_of}
-use Rattle.gf_abs.specs.commands.Check.{CheckReply}
+use Rattle.gf_abs.specs.commands.Check.{CheckUnrolled}
 use Rattle.gf_abs.proofs.commands.check.over.Goals as goal
 
 pub returns-in-Ok-clause-gives : goal.returns-in-Ok-clause-gives
@@ -19,9 +19,9 @@ returns-in-Ok-clause-gives g c =
     let setting = setting_value degree mul c.args.setting.now in
     let missed = Rose (g.S.Shelf.misses c.args.shelf.now) (g.S.Shelf.misses c.read_specification.new.shelf) in
     let failed = Rose (g.S.Shelf.faults c.args.shelf.now) (g.S.Shelf.faults c.read_specification.new.shelf) in
-    let P : Labelling → Type 0 = λ l. SpecificationIn held l degree mul c.args.file.now (Ok c.in-Ok.spec) in
-    after reply_of c.reply.result (SpecificationIn held (labels_of degree c.args.setting.now.signature.words) degree mul c.args.file.now) (λ spec. CheckReply setting c.args.circuit.now spec c.args.terms) c.in-Ok.spec
-    missed failed ⊥ ⊥ (subst P c.in_ok-labels.ensures c.in-Ok.ensures.gives) (λ m. absurd m) (λ f. absurd f) c.reply.ensures
+    let P : Labelling → Type 0 = λ l. SpecificationIn held l degree mul c.args.words.now.other.now (Ok c.in-Ok.spec) in
+    after reply_of c.unrolled.result (SpecificationIn held (labels_of degree c.args.setting.now.signature.words) degree mul c.args.words.now.other.now) (λ spec. CheckUnrolled setting c.args.words.now.net.now c.args.netlist spec c.args.words.now.terms c.args.words.now.cycles) c.in-Ok.spec
+    missed failed ⊥ ⊥ (subst P c.in_ok-labels.ensures c.in-Ok.ensures.gives) (λ m. absurd m) (λ f. absurd f) c.unrolled.ensures
 
 pub returns-clause-gives : goal.returns-clause-gives
 returns-clause-gives g c =
@@ -31,6 +31,6 @@ returns-clause-gives g c =
     let setting = setting_value degree mul c.args.setting.now in
     let missed = Rose (g.S.Shelf.misses c.args.shelf.now) (g.S.Shelf.misses c.read_specification.new.shelf) in
     let failed = Rose (g.S.Shelf.faults c.args.shelf.now) (g.S.Shelf.faults c.read_specification.new.shelf) in
-    let P : Labelling → Type 0 = λ l. GivesBy {X = SpecTerms} (λ spec. spec) (Err c.in-Err.stop) (SpecificationIn held l degree mul c.args.file.now) missed failed in
-    stops {X = SpecTerms} (λ spec. spec) reply_of c.in-Err.stop (SpecificationIn held (labels_of degree c.args.setting.now.signature.words) degree mul c.args.file.now) (λ spec. CheckReply setting c.args.circuit.now spec c.args.terms)
+    let P : Labelling → Type 0 = λ l. GivesBy {X = SpecTerms} (λ spec. spec) (Err c.in-Err.stop) (SpecificationIn held l degree mul c.args.words.now.other.now) missed failed in
+    stops {X = SpecTerms} (λ spec. spec) reply_of c.in-Err.stop (SpecificationIn held (labels_of degree c.args.setting.now.signature.words) degree mul c.args.words.now.other.now) (λ spec. CheckUnrolled setting c.args.words.now.net.now c.args.netlist spec c.args.words.now.terms c.args.words.now.cycles)
     missed failed missed failed (λ m. m) (λ f. f) (subst P c.in_ok-labels.ensures c.in-Err.ensures.gives)

@@ -1,6 +1,6 @@
 use Rattle.job_io.specs.Counts.{Rose}
 use Rattle.job_words.proofs.StepLemmas.{after}
-use Rattle.job_input.specs.NetlistOf.{CircuitIn}
+use Rattle.job_input.specs.NetlistOf.{NetlistIn}
 use Rattle.job_input.specs.Setting.{setting_value}
 use Rattle.job_input.proofs.RoseLemmas.{rose_earlier}
 use Rattle.gf_abs.specs.Reply.{reply_of}
@@ -16,11 +16,11 @@ returns-in-Ok-clause-gives g c =
     let setting = setting_value (g.F.Ring.degree c.args.field.now) (g.F.Ring.product c.args.field.now) c.args.setting.now in
     let words = c.args.words.now in
     let m0 = g.S.Shelf.misses c.args.shelf.now in
-    let m1 = g.S.Shelf.misses c.read_circuit.new.shelf in
+    let m1 = g.S.Shelf.misses c.read_netlist.new.shelf in
     let m2 = g.S.Shelf.misses c.beside.new.shelf in
     let f0 = g.S.Shelf.faults c.args.shelf.now in
-    let f1 = g.S.Shelf.faults c.read_circuit.new.shelf in
+    let f1 = g.S.Shelf.faults c.read_netlist.new.shelf in
     let f2 = g.S.Shelf.faults c.beside.new.shelf in
-    after reply_of c.beside.result (CircuitIn held c.args.setting.now.signature words.net.now) (λ circuit. SameBeside held setting circuit words.other.now words.terms) c.in-Ok.circuit
+    after reply_of c.beside.result (NetlistIn held c.args.setting.now.signature words.net.now) (λ netlist. SameBeside held setting words.net.now netlist words.other.now words.terms words.cycles) c.in-Ok.netlist
     (Rose m0 m2) (Rose f0 f2) (Rose m1 m2) (Rose f1 f2) c.in-Ok.ensures.gives
-    (rose_earlier m0 m1 m2 c.read_circuit.ensures.never_fall.1) (rose_earlier f0 f1 f2 c.read_circuit.ensures.never_fall.0) (rw c.read_circuit.ensures.held at c.beside.ensures.gives)
+    (rose_earlier m0 m1 m2 c.read_netlist.ensures.never_fall.1) (rose_earlier f0 f1 f2 c.read_netlist.ensures.never_fall.0) (rw c.read_netlist.ensures.held at c.beside.ensures.gives)

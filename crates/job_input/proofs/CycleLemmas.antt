@@ -1,0 +1,71 @@
+-- All cycles of a netlist as one circuit.
+use Rattle.std.proofs.Common.{◌≡◌, ◌∙◌, ap, sym, refl, subst, inl, inr, ℕ, suc, Bool, ◌<◌, ◌≤◌, ◌*◌, List, [], ◌∷◌, length, map, take, drop, true, false, cond, Result, Ok, Err, arith}
+use Rattle.std.specs.Prelude.{IfOk}
+use Rattle.std.specs.List.{list_any}
+use Rattle.text_core.specs.Outcome.{Determined, Within}
+use Rattle.net_core.specs.NetList.{NetList}
+use Rattle.net_words.specs.Binding.{Binding, BoundNet}
+use Rattle.net_words.specs.Rebind.{rebinding, rebound}
+use Rattle.net_words.specs.declared.bound.BoundWord.{BoundWord}
+use Rattle.unroll.specs.Unrolled.{in_one_cycle, is_flat, unrolled, unrolled_nets}
+use Rattle.job_words.specs.declared.fault.Fault.TheVariants.{Netlist}
+use Rattle.job_words.specs.declared.netlist_fault.NetlistFault.{NetlistFault}
+use Rattle.job_words.specs.declared.stop.Stop.{Stop}
+use Rattle.job_words.specs.Operands.{Word}
+use Rattle.job_words.specs.Stop.{GivesBy}
+use Rattle.job_input.specs.CircuitOf.{CircuitOf, UnrolledIn, all_cycles}
+use Rattle.job_input.specs.Setting.{HaveRoles, IsTakenFor}
+use Rattle.job_input.specs.declared.setting.Setting.{Setting}
+
+-- ---- at most one circuit
+
+pub circuit_determined : (netlist : BoundNet) (cycles : ℕ) → Determined (CircuitOf netlist cycles)
+circuit_determined netlist cycles (Ok a) (Ok b) h k = ap Ok (h.0 ∙ sym k.0)
+circuit_determined netlist cycles (Ok a) (Err e) h (inl k) = absurd (omega (arith, h.1, k.1))
+circuit_determined netlist cycles (Ok a) (Err e) h (inr k) = absurd (omega (arith, h.2, k.2))
+circuit_determined netlist cycles (Err d) (Ok b) (inl h) k = absurd (omega (arith, h.1, k.1))
+circuit_determined netlist cycles (Err d) (Ok b) (inr h) k = absurd (omega (arith, h.2, k.2))
+circuit_determined netlist cycles (Err d) (Err e) (inl h) (inl k) = ap Err (h.0 ∙ sym k.0)
+circuit_determined netlist cycles (Err d) (Err e) (inl h) (inr k) = absurd (omega (arith, h.1, k.1))
+circuit_determined netlist cycles (Err d) (Err e) (inr h) (inl k) = absurd (omega (arith, h.1, k.1))
+circuit_determined netlist cycles (Err d) (Err e) (inr h) (inr k) = ap Err (h.0 ∙ sym k.0)
+
+-- ---- its words
+
+rebound_roles : (k : ℕ) (words : List BoundWord) (list : List ℕ) → map (λ (w : BoundWord). w.role) (rebound k words list) ≡ map (λ (w : BoundWord). w.role) words
+rebound_roles k [] list = refl
+rebound_roles k (word ∷ words) list = ap (λ rs. word.role ∷ rs) (rebound_roles k words (drop k list))
+
+rebound_long : (k : ℕ) (words : List BoundWord) (list : List ℕ) → length (rebound k words list) ≡ length words
+rebound_long k [] list = refl
+rebound_long k (word ∷ words) list = ap suc (rebound_long k words (drop k list))
+
+-- the same words: as many, with the same roles, of k bits each
+pub record KeepsWords (netlist circuit : BoundNet) : Type 0 where
+  pub bits : circuit.bound.k ≡ netlist.bound.k
+  pub roles : map (λ (w : BoundWord). w.role) circuit.bound.words ≡ map (λ (w : BoundWord). w.role) netlist.bound.words
+  pub long : length circuit.bound.words ≡ length netlist.bound.words
+
+pub keeps_words : (netlist : BoundNet) (cycles : ℕ) → KeepsWords netlist (all_cycles netlist cycles)
+unfolding all_cycles
+keeps_words netlist cycles = by (is_flat netlist.net netlist.bound)
+  where
+    flat : BoundNet
+    flat = record { net = netlist.net; bound = netlist.bound }
+
+    list : List ℕ
+    list = unrolled_nets netlist.net netlist.bound cycles
+
+    by : (b : Bool) → KeepsWords netlist (cond b flat (in_one_cycle netlist.net netlist.bound cycles))
+    by true = record { bits = refl; roles = refl; long = refl }
+    by false = record { bits = refl; roles = rebound_roles netlist.bound.k netlist.bound.words list; long = rebound_long netlist.bound.k netlist.bound.words list }
+
+-- what is taken for a setting stays so
+pub still_taken : (k : ℕ) (setting : Setting) (netlist circuit : BoundNet) → KeepsWords netlist circuit → IsTakenFor k setting netlist → IsTakenFor k setting circuit
+still_taken k setting netlist circuit keeps taken = record { bits = keeps.bits ∙ taken.bits; roles = keeps.roles ∙ taken.roles; long = taken.long ∙ sym keeps.long }
+
+pub unrolled_taken : (file : Word) (netlist : BoundNet) (cycles : ℕ) (result : Result BoundNet Stop) → GivesBy {X = BoundNet} (λ circuit. circuit) result (UnrolledIn file netlist cycles) ⊥ ⊥ → IfOk result (λ circuit. (k : ℕ) (setting : Setting) → IsTakenFor k setting netlist → IsTakenFor k setting circuit)
+unrolled_taken file netlist cycles (Ok circuit) gives = λ k setting taken.
+    let P : BoundNet → Type 0 = λ c. KeepsWords netlist c in
+    still_taken k setting netlist circuit (subst P (sym gives.0) (keeps_words netlist cycles)) taken
+unrolled_taken file netlist cycles (Err stop) gives = tt

@@ -1,0 +1,41 @@
+-- All cycles of a netlist as one circuit, or the fault with which it is refused. Source: this project's own, docs/DEFINITIONS.md.
+use Rattle.std.specs.Prelude.{◌≡◌, ◌⊎◌, ℕ, ◌^◌, ◌<◌, ◌≤◌, Option, length, Ok, Err}
+use Rattle.text_core.specs.Outcome.{Outcome, ◌>>=◌, Within}
+use Rattle.job_io.specs.Shelf.{Files}
+use Rattle.net_core.specs.NetList.{nets}
+use Rattle.net_words.specs.Binding.{BoundNet}
+use Rattle.net_signature.specs.Signature.{SignatureValue}
+use Rattle.unroll.specs.Unrolled.{unrolled}
+use Rattle.job_words.specs.Operands.{Word}
+use Rattle.job_words.specs.declared.fault.Fault.{Fault}
+use Rattle.job_words.specs.declared.fault.Fault.TheVariants.{Netlist}
+use Rattle.job_words.specs.declared.netlist_fault.NetlistFault.{NetlistFault}
+use Rattle.job_words.specs.declared.netlist_fault.NetlistFault.TheVariants.{TooManyNets, TooManyGates}
+use Rattle.job_input.specs.NetlistOf.{BoundNetOf, NetlistIn, NetlistText}
+
+-- the circuit of a net with bound words and feeds, over so many cycles after the first
+unfoldable pub all_cycles : BoundNet → ℕ → BoundNet
+all_cycles bound cycles = unrolled bound.net bound.bound cycles
+
+-- this circuit where it has at most 1,048,576 nets and gates; its nets are counted first
+abbrev pub CircuitOf : BoundNet → ℕ → Outcome NetlistFault BoundNet
+CircuitOf bound cycles (Ok circuit) = (circuit ≡ all_cycles bound cycles) × (nets (all_cycles bound cycles).net ≤ 2 ^ 20) × (length (all_cycles bound cycles).net.gates ≤ 2 ^ 20)
+CircuitOf bound cycles (Err fault) =
+    ((fault ≡ TooManyNets) × (2 ^ 20 < nets (all_cycles bound cycles).net))
+    ⊎ ((fault ≡ TooManyGates) × (nets (all_cycles bound cycles).net ≤ 2 ^ 20) × (2 ^ 20 < length (all_cycles bound cycles).net.gates))
+
+-- the circuit of the netlist in a file
+abbrev pub UnrolledIn : Word → BoundNet → ℕ → Outcome Fault BoundNet
+UnrolledIn file bound cycles = Within (Netlist file) (CircuitOf bound cycles)
+
+-- the circuit of a file: its netlist is taken, and then its cycles are unrolled
+abbrev pub CircuitIn : Option Files → SignatureValue → Word → ℕ → Outcome Fault BoundNet
+CircuitIn held signature file cycles = do
+  bound ← NetlistIn held signature file
+  UnrolledIn file bound cycles
+
+-- the circuit of a netlist's text: the text is taken, and then its cycles are unrolled
+abbrev pub CircuitOfText : SignatureValue → NetlistText → ℕ → Outcome NetlistFault BoundNet
+CircuitOfText signature text cycles = do
+  netlist ← BoundNetOf signature text
+  CircuitOf netlist cycles

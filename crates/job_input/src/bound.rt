@@ -1,0 +1,47 @@
+//! Nets with the words and feeds that are bound to them, whose cycles are not unrolled yet.
+ghost use Rattle.std.specs.Prelude.{◌≡◌};
+ghost use Rattle.net_words.specs.BoundTo.{IsBoundTo};
+
+use net_core::Net;
+use net_words::Bound;
+use std::marker::Model;
+
+/// A netlist: its net, with the words and feeds of a signature bound to it.
+#[derive(Drop)]
+pub struct BoundNetlist {
+    net: Net,
+    bound: Bound,
+}
+
+impl Model for BoundNetlist {
+    ghost use Rattle.net_core.specs.Sound.{IsSound};
+    ghost use Rattle.net_words.specs.Binding.{BoundNet};
+    ghost use Rattle.net_words.specs.BoundTo.{IsBoundTo};
+
+    ghost Value = { BoundNet };
+
+    ghost view = { λ netlist. record { net = netlist.net; bound = netlist.bound } };
+
+    ghost invariant = { λ netlist. IsSound netlist.net × IsBoundTo netlist.net netlist.bound };
+}
+
+impl BoundNetlist {
+    // The net with the words and feeds that are bound to it.
+    pub(crate) fn new(net: Net, bound: Bound) -> BoundNetlist
+        requires { IsBoundTo net bound }
+        ensures { result ≡ record { net = net; bound = bound } }
+    {
+        let _count = net.nets();
+        BoundNetlist { net, bound }
+    }
+
+    // The two of them.
+    pub(crate) fn into_parts(self) -> (Net, Bound)
+        ensures net { result.0 ≡ self.net }
+        ensures bound { result.1 ≡ self.bound }
+        ensures bound_to { IsBoundTo result.0 result.1 }
+    {
+        let BoundNetlist { net, bound } = self;
+        (net, bound)
+    }
+}

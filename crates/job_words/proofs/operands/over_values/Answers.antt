@@ -1,0 +1,13 @@
+use Rattle.std.proofs.Common.{◌≡◌, ◌∷◌, List, ℕ, map, drop, take, length, ◌-◌, subst, sym, ◌∙◌, string_bytes, arith}
+use Rattle.std.specs.Prelude.{IfNone}
+use Rattle.job_words.specs.Operands.{IsOverValues, Word}
+use Rattle.job_words.proofs.WordLemmas.{two_first}
+use Rattle.job_words.proofs.operands.over_values.Goals as goal
+
+pub returns-in-len2-up-clause-none : goal.returns-in-len2-up-clause-none
+returns-in-len2-up-clause-none c =
+    let whole = two_first string_bytes c.args.words.now c.signature-item.result c.net-item.result (omega arith) c.signature-item.is c.net-item.is in
+    let rest : List Word = map string_bytes (take (length c.args.words.now - 2) (drop 2 c.args.words.now)) in
+    let texts : c.as_str.result.now ∷ c.as_str-in-len2-up.result.now ∷ rest ≡ map string_bytes c.args.words.now = (λ i. c.as_str.ensures.value i ∷ c.as_str-in-len2-up.ensures.value i ∷ rest) ∙ sym whole in
+    let P : List Word → Type 0 = λ words. IfNone c.with_values.result ((signature net : Word) (values : List Word) (cycles : ℕ) → IsOverValues words signature net values cycles → ⊥) in
+    subst P texts c.with_values.ensures.none
