@@ -146,6 +146,25 @@ fn last_cycle<F: Field>(
     Ok(Some(bits))
 }
 
+// The element of the output word in the bits of the last cycle.
+fn last_element<F: Field>(
+    field: &F,
+    _net: &Net,
+    _words: &[CircuitWord],
+    output: &CircuitWord,
+    _feeds: &[CircuitFeed],
+    _xs: &[u64],
+    _cycles: u32,
+    bits: &[bool],
+) -> Option<u64>
+    requires over { IsOver (F.degree field.now) (F.product field.now) output.now.basis }
+    requires reached { IsReached (job_of_parts (F.degree field.now) (F.product field.now) _net.now _words.now output.now _feeds.now) _xs.now _cycles bits.now }
+    ensures output { IfSome result (λ e. IsOut (job_of_parts (F.degree field.now) (F.product field.now) _net.now _words.now output.now _feeds.now _cycles) _xs.now e) }
+    ensures some { IsJob (job_of_parts (F.degree field.now) (F.product field.now) _net.now _words.now output.now _feeds.now _cycles) → IsSome result }
+{
+    element(field, bits, output)
+}
+
 /// The output of a job at an input after so many cycles, cycle by cycle and gate by gate: slow, and no more than the
 /// definition. Where these parts are a job it is the output; elsewhere it may be none, as where a word that is not fed
 /// has not k nets, or its nets can't have the bits of its element, or a fed net is in a word.
@@ -167,7 +186,7 @@ pub fn job_output<F: Field>(
     ensures complete { IfOk result (λ found. IsJob (job_of_parts (F.degree field.now) (F.product field.now) net.now words.now output.now feeds.now cycles) → IsSome found) }
 {
     match last_cycle(alloc, field, net, words, output, feeds, xs, cycles)? {
-        Some(bits) => Ok(element(field, &bits, output)),
+        Some(bits) => Ok(last_element(field, net, words, output, feeds, xs, cycles, &bits)),
         None => Ok(None),
     }
 }
