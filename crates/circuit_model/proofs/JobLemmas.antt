@@ -1,5 +1,5 @@
 -- A well-formed circuit is a job to which nothing is fed, and whose words all stand on nets.
-use Rattle.std.proofs.Common.{◌≡◌, ◌≢◌, ◌∙◌, sym, refl, subst, ℕ, ◌↔◌, List, [], length, arith}
+use Rattle.std.proofs.Common.{◌≡◌, ◌≢◌, ◌∙◌, sym, refl, subst, ℕ, ◌↔◌, Bool, List, [], length, arith}
 use Rattle.net_core.specs.Lists.{Has}
 use Rattle.net_words.specs.BoundTo.{StandsOn}
 use Rattle.net_words.specs.declared.word.Role.{Role}
@@ -7,10 +7,11 @@ use Rattle.net_words.specs.declared.word.Role.TheVariants.{Input, State, Fed, Ou
 use Rattle.graph_core.proofs.ListLemmas.{get_below}
 use Rattle.circuit_model.specs.declared.circuit_feed.CircuitFeed.{CircuitFeed}
 use Rattle.circuit_model.specs.Feeds.{fed_nets}
-use Rattle.circuit_model.specs.Word.{Word}
+use Rattle.circuit_model.specs.Word.{Word, HasElement}
 use Rattle.circuit_model.specs.Circuit.{Circuit}
 use Rattle.circuit_model.specs.WellFormed.{IsWellFormed}
 use Rattle.circuit_model.specs.Job.{IsJob, net_count}
+use Rattle.circuit_model.specs.Run.{HaveElements, IsAnyWord, IsCycle, IsFirst}
 
 none_of : {X : Type 0} (x : X) → Has [] x → ⊥
 none_of x has = let got = has.1 in absurd (cc)
@@ -67,3 +68,13 @@ well_of c job unfed standing = record {
 
 pub well_formed_job : (c : Circuit) → IsWellFormed c ↔ (IsJob c × (c.feeds ≡ []) × ((w : Word) → Has c.words w → w.role ≢ Fed))
 well_formed_job c = ((λ well. (job_of c well, well.unfed, no_fed_word c well)), λ is. well_of c is.0 is.1 is.2)
+
+-- in the first cycle each word of a well-formed circuit has its element
+pub first_elements : (c : Circuit) (xs : List ℕ) (bits : List Bool) → IsWellFormed c → IsCycle c xs 0 bits → IsFirst c xs bits → HaveElements c IsAnyWord xs bits
+first_elements c xs bits well cycle first i w x got at any = by w.role refl
+  where
+    by : (r : Role) → w.role ≡ r → HasElement bits w x
+    by Input is = cycle.inputs i w x got at is
+    by State is = first.states i w x got at is
+    by Fed is = absurd (no_fed_word c well w (i, got) is)
+    by Output is = absurd (well.inner w (i, got) is)
