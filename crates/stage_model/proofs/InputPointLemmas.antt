@@ -54,7 +54,7 @@ module _ (c : Circuit) (xs : List ℕ) (well : IsWellFormed c) (input : IsInput 
   start =
       let run = some_run c xs (job_of c well) input in
       let first = get_below run.0 0 (omega (arith, run.1.open_run.long)) in
-      (first.0, λ i w x at got. (run.1.open_run.first first.0 first.1).words i w x at got tt)
+      (first.0, λ i w x at got. first_elements c xs first.0 well (run.1.open_run.each 0 first.0 first.1) (run.1.open_run.first first.0 first.1) i w x at got tt)
 
   the_point : Point
   the_point = record { words = xs ++ zeros (8 - length c.words); is_one = λ r. bit_of start.0 (slice_index (variables_of c) r) }
