@@ -18,3 +18,4 @@ pub mod SourceLemmas
 pub mod WordLemmas
 pub mod Examples
 mod OnesExamples
+mod JobExamples
