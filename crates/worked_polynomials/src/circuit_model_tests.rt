@@ -3,11 +3,11 @@ ghost use Rattle.std.specs.Prelude.{◌≡◌, ◌<◌, IfOk, length};
 ghost use Rattle.net_core.specs.NetList.{nets};
 ghost use Rattle.gf_basis.specs.BasisParts.{IsOver};
 
-use circuit_model::{CircuitFeed, CircuitWord, FeedSource, job_output, output};
+use circuit_model::{CircuitWord, output};
 use gf_basis::Basis;
 use gf_field::{Field, Ring2k, is_element};
 use irreducible::Proved;
-use net_core::{Net, NetFault, NetMaker, Start};
+use net_core::{Net, NetFault, NetMaker};
 use net_words::Role;
 use std::alloc::{AllocError, Global};
 use std::process::Abort;
@@ -63,17 +63,12 @@ fn wires(alloc: Global) -> Result<Net, NetFault> {
     maker.finish()
 }
 
-// A word with the polynomial basis.
-fn word<F: Field>(
-    alloc: Global,
-    field: &F,
-    role: Role,
-    nets: &[u32],
-) -> Result<CircuitWord, AllocError>
+// An input word with the polynomial basis.
+fn word<F: Field>(alloc: Global, field: &F, nets: &[u32]) -> Result<CircuitWord, AllocError>
     ensures { IfOk result (λ w. IsOver (F.degree field.now) (F.product field.now) w.basis) }
 {
     Ok(CircuitWord {
-        role,
+        role: Role::Input,
         nets: nets.to_vec(alloc)?,
         basis: Basis::poly(field),
     })
@@ -91,8 +86,8 @@ fn output_with<F: Field>(
     requires { IsOver (F.degree field.now) (F.product field.now) basis }
 {
     let [x, y] = xs;
-    let first = word(alloc, field, Role::Input, nets[0])?;
-    let second = word(alloc, field, Role::Input, nets[1])?;
+    let first = word(alloc, field, nets[0])?;
+    let second = word(alloc, field, nets[1])?;
     let product = CircuitWord {
         role: Role::Output,
         nets: nets[2].to_vec(alloc)?,
@@ -184,84 +179,5 @@ fn another_basis(rt: HostRuntime) -> Result<(), Fail> {
         let found = output_with(alloc, &field, &net, nets, basis, [x as u64, 0])?;
         assert_eq!(rt; found, Some(*element));
     }
-    Ok(())
-}
-
-// Nets 0 and 1 are a factor, and net 2 is fed the other one's bits; latches 3 and 4 hold the product so far.
-fn digit_serial(alloc: Global) -> Result<Net, NetFault> {
-    let labels = ["b0", "b1", "d", "z0", "z1", "w0", "w1", "w2", "w3", "w4"];
-    let mut maker = with_labels(alloc, &labels)?;
-    maker.input(0)?;
-    maker.input(1)?;
-    maker.input(2)?;
-    maker.gate(5, &[2, 0], 8)?;
-    maker.gate(6, &[2, 1], 8)?;
-    maker.gate(7, &[4, 5], 6)?;
-    maker.gate(8, &[3, 4], 6)?;
-    maker.gate(9, &[8, 6], 6)?;
-    maker.latch(7, 3, Start::Zero)?;
-    maker.latch(9, 4, Start::Zero)?;
-    maker.finish()
-}
-
-// The product so far at two elements, of which the first is fed, its highest bit first.
-fn fed_output_at<F: Field>(
-    alloc: Global,
-    field: &F,
-    net: &Net,
-    xs: [u64; 2],
-    cycles: u32,
-) -> Result<Option<u64>, AllocError> {
-    let [x, y] = xs;
-    let fed = word(alloc, field, Role::Fed, &[])?;
-    let held = word(alloc, field, Role::Input, &[0, 1])?;
-    let product = word(alloc, field, Role::Output, &[3, 4])?;
-    let high = FeedSource::Bit { word: 0, place: 1 };
-    let low = FeedSource::Bit { word: 0, place: 0 };
-    let feeds = [
-        CircuitFeed {
-            net: 2,
-            cycle: 0,
-            source: high,
-        },
-        CircuitFeed {
-            net: 2,
-            cycle: 1,
-            source: low,
-        },
-    ];
-    if is_element(field, x) && is_element(field, y) {
-        job_output(
-            alloc,
-            field,
-            net,
-            &[fed, held],
-            &product,
-            &feeds,
-            &[x, y],
-            cycles,
-        )
-    } else {
-        Ok(None)
-    }
-}
-
-// After two cycles the product stands in the latches. After one it is that of the highest bit, and after three it is
-// taken times the root once more, since nothing is fed.
-#[test]
-fn a_product_of_fed_bits(rt: HostRuntime) -> Result<(), Fail> {
-    let alloc = rt.alloc();
-    let field = field(&rt);
-    let net = digit_serial(alloc)?;
-    let table = [0, 0, 0, 0, 0, 1, 2, 3, 0, 2, 3, 1, 0, 3, 1, 2];
-    for (i, product) in table.iter().enumerate() {
-        let xs = [i as u64 / 4, i as u64 % 4];
-        let found = fed_output_at(alloc, &field, &net, xs, 2)?;
-        assert_eq!(rt; found, Some(*product));
-    }
-    let first = fed_output_at(alloc, &field, &net, [2, 3], 1)?;
-    assert_eq!(rt; first, Some(3));
-    let further = fed_output_at(alloc, &field, &net, [1, 1], 3)?;
-    assert_eq!(rt; further, Some(2));
     Ok(())
 }
