@@ -1,5 +1,6 @@
 -- Steps of loops.
-use Rattle.std.proofs.Common.{◌≡◌, ◌≢◌, ◌⊎◌, ◌∙◌, ap, sym, refl, subst, inl, inr, ⊎_elim, ℕ, zero, suc, ◌<◌, ◌≤◌, ◌+◌, ◌-◌, ◌*◌, ◌^◌, ◌||◌, Bool, true, false, not, List, [], ◌∷◌, ◌++◌, length, length-append, map, take, drop, drop_of_length-le, Some, get_or, cond, arith, add-one, append_assoc, append-nil, take_all, All, mul-le-mul_left, below_more}
+use Rattle.std.proofs.Common.{◌≡◌, ◌≢◌, ◌⊎◌, ◌∙◌, ap, sym, refl, subst, inl, inr, ⊎_elim, ℕ, zero, suc, ◌<◌, ◌≤◌, ◌+◌, ◌-◌, ◌*◌, ◌^◌, ◌||◌, Bool, true, false, not, List, [], ◌∷◌, ◌++◌, length, length-append, map, take, drop, drop_of_length-le, Some, get_or, cond, arith, add-one, append_assoc, append-nil, take_all, All, mul-le-mul_left}
+use Rattle.std.proofs.Math.Nat.{mul-le-mul_right}
 use Rattle.std.specs.Prelude.{slice_get, ◌==◌, ◌&&◌, codes, Option}
 use Rattle.std.specs.Option.{option_map_or}
 use Rattle.std.specs.Fmt.{decimal}
@@ -162,3 +163,7 @@ taken_short {X} p xs i = omega (arith, filter_few p (take i xs), few xs i)
     few ys zero = omega arith
     few [] (suc j) = omega arith
     few (y ∷ ys) (suc j) = omega (arith, few ys j)
+
+-- a product with a number of cycles
+pub product_small : (a x : ℕ) → a ≤ 4097 → x ≤ 2 ^ 20 → a * x ≤ 4097 * 2 ^ 20
+product_small a x few small = omega (arith, mul-le-mul_right {m = a} {n = 4097} x few, small)

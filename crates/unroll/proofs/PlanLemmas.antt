@@ -30,11 +30,11 @@ use Rattle.net_words.specs.declared.word.Role.TheVariants.{Input, State, Fed, Ou
 use Rattle.unroll.specs.declared.fault.UnrollFault.{UnrollFault}
 use Rattle.unroll.specs.declared.fault.UnrollFault.TheVariants.{TooManyNets, TooManyGates, OutOfMemory}
 use Rattle.unroll.specs.Gates.{bit_net, gate_at, gates_to}
-use Rattle.unroll.specs.Nets.{all_cycles, fed_labels, labels_to}
+use Rattle.unroll.specs.Nets.{all_cycles, fed_labels, labels_to, unrolled_inputs}
 use Rattle.unroll.specs.Places.{net_at, cycle_nets, fed_bits, fed_count, first_bit}
 use Rattle.unroll.specs.Sources.{source_at}
 use Rattle.unroll.specs.Unrolled.{in_one_cycle, nets_of_words, nets_with, unrolled, unrolled_nets}
-use Rattle.unroll.specs.private.Plan.{AreFirstBits, IsBit, net_count, with_labels}
+use Rattle.unroll.specs.private.Plan.{AreFirstBits, HasRoom, IsBit, net_count, with_inputs, with_labels, with_outputs}
 use Rattle.unroll.proofs.PlaceLemmas.{at_below, bit_within, one_cycle, one_net}
 use Rattle.unroll.proofs.CountLemmas.{fed_long, labels_long, nets_long}
 use Rattle.unroll.proofs.SoundLemmas.{cycles_sound, moved_inside}
@@ -270,3 +270,12 @@ held_step words w n old was new word got before made =
 
 pub no_fault : {X : Type 0} (fault : UnrollFault) (n count : ℕ) → fault ≢ TooManyNets → n ≡ count → count ≤ 2 ^ 20 → (Err {X} {UnrollFault} fault ≡ Err TooManyNets) ↔ (2 ^ 20 < n)
 no_fault fault n count other is few = ((λ same. absurd (other (cc))), (λ more. absurd (omega (arith, is, few, more))))
+
+-- ---- room
+
+pub made_room : (net : NetList) (b : Binding) (c : ℕ) (new labels inputs outputs : NetList) → new ≡ empty → labels ≡ with_labels new (labels_to net.labels c ++ fed_labels b.k b.words) → inputs ≡ with_inputs labels (unrolled_inputs net b c) → outputs ≡ with_outputs inputs (map (net_at (nets net) c) net.outputs) → length (gates_to net b c c) ≤ 2 ^ 20 → HasRoom (net_count net b c) (length (gates_to net b c c)) outputs
+made_room net b c new labels inputs outputs one two three four few =
+    let all : outputs ≡ with_outputs (with_inputs (with_labels empty (labels_to net.labels c ++ fed_labels b.k b.words)) (unrolled_inputs net b c)) (map (net_at (nets net) c) net.outputs) =
+    four ∙ ap (λ (m : NetList). with_outputs m (map (net_at (nets net) c) net.outputs)) (three ∙ ap (λ (m : NetList). with_inputs m (unrolled_inputs net b c)) (two ∙ ap (λ (m : NetList). with_labels m (labels_to net.labels c ++ fed_labels b.k b.words)) one)) in
+    let P : NetList → Type 0 = λ m. HasRoom (net_count net b c) (length (gates_to net b c c)) m in
+    subst P (sym all) (record { nets_are = omega (arith, length-append (labels_to net.labels c) (fed_labels b.k b.words), labels_long net.labels c, fed_long b.k b.words); flat = refl; room = omega (arith, few) })
