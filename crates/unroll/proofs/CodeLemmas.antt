@@ -167,3 +167,10 @@ taken_short {X} p xs i = omega (arith, filter_few p (take i xs), few xs i)
 -- a product with a number of cycles
 pub product_small : (a x : ℕ) → a ≤ 4097 → x ≤ 2 ^ 20 → a * x ≤ 4097 * 2 ^ 20
 product_small a x few small = omega (arith, mul-le-mul_right {m = a} {n = 4097} x few, small)
+
+-- the count of gates fits
+pub gates_fit : (c g u x y h : ℕ) → c ≤ 4096 → x + y + g ≤ 2 ^ 20 → u ≤ y → h ≤ x → (c * (x + y) ≤ 2 ^ 40) × ((c + 1) * g + u + c * (x + y) ≤ 2 ^ 40) × ((c + 1) * g + u + c * (x + y) + h ≤ 2 ^ 40)
+gates_fit c g u x y h few all one two =
+    let first : c * (x + y) ≤ 4097 * 2 ^ 20 = product_small c (x + y) (omega arith) (omega arith) in
+    let second : (c + 1) * g ≤ 4097 * 2 ^ 20 = product_small (c + 1) g (omega arith) (omega arith) in
+    (omega (arith, first), omega (arith, first, second, all, one), omega (arith, first, second, all, one, two))
