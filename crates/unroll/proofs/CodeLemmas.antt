@@ -119,7 +119,7 @@ fed_label_step k words w m now new less was made =
     ∙ (ap (λ (ws : List BoundWord). with_labels now (fed_labels k ws)) (sym (word_drop words w got.0 got.1)) ∙ was))
 
 pub fed_label_end : (k : ℕ) (words : List BoundWord) (w : ℕ) (m now : NetList) → length words ≤ w → with_labels now (fed_labels k (drop w words)) ≡ with_labels m (fed_labels k words) → now ≡ with_labels m (fed_labels k words)
-fed_label_end k words w m now past was = no_labels now ∙ (ap (λ (ws : List BoundWord). with_labels now (fed_labels k ws)) (sym (drop_of_length-le words w past)) ∙ was)
+fed_label_end k words w m now past was = no_labels now ∙ (ap (λ (ws : List BoundWord). with_labels now (fed_labels k ws)) (sym (drop_of_length-le words past)) ∙ was)
 
 pub fed_label_room : (k : ℕ) (words : List BoundWord) (w : ℕ) (m now : NetList) (word : BoundWord) → slice_get words w ≡ Some word → nets m + length (fed_labels k words) ≤ 2 ^ 20 → with_labels now (fed_labels k (drop w words)) ≡ with_labels m (fed_labels k words) → nets now + fed_bits k word.role ≤ 2 ^ 20
 fed_label_room k words w m now word got room was =
@@ -174,3 +174,9 @@ gates_fit c g u x y h few all one two =
     let first : c * (x + y) ≤ 4097 * 2 ^ 20 = product_small c (x + y) (omega arith) (omega arith) in
     let second : (c + 1) * g ≤ 4097 * 2 ^ 20 = product_small (c + 1) g (omega arith) (omega arith) in
     (omega (arith, first), omega (arith, first, second, all, one), omega (arith, first, second, all, one, two))
+
+-- one more item that is counted where it passes
+pub count_more : {X : Type 0} (p : X → Bool) (xs ys : List X) (i : ℕ) (d : X) (count new : ℕ) (r : Bool) → ys ≡ xs → i < length xs → count ≡ length (filter p (take i xs)) → r ≡ p (get_or ys i d) → new ≡ count + cond r 1 0 → new ≡ length (filter p (take (i + 1) xs))
+count_more p xs ys i d count new r same less was is made =
+    let here : r ≡ p (get_or xs i d) = is ∙ ap (λ zs. p (get_or zs i d)) same in
+    made ∙ (ap (λ n. n + cond r 1 0) was ∙ (ap (λ (b : Bool). length (filter p (take i xs)) + cond b 1 0) here ∙ sym (length-filter_more p xs i d less)))
