@@ -107,9 +107,6 @@ words_step v c k base words w list new whole less made was =
     ∙ (ap (λ n. list ++ (own ++ rest n)) (first_bit_next k base words w word got.1)
     ∙ (ap (λ (ws : List BoundWord). list ++ nets_of_words v c k (first_bit k base words w) ws) (sym (word_drop words w word got.1)) ∙ was)))
 
-pub words_end : (v c k base next : ℕ) (words : List BoundWord) (w : ℕ) (list whole : List ℕ) → length words ≤ w → list ++ nets_of_words v c k next (drop w words) ≡ whole → list ≡ whole
-words_end v c k base next words w list whole past was = sym (append-nil list) ∙ (ap (λ (ws : List BoundWord). list ++ nets_of_words v c k next ws) (sym (drop_of_length-le words past)) ∙ was)
-
 -- ---- sources
 
 both_true : (m n : ℕ) → m ≡ n → (m == n) ≡ true
@@ -184,11 +181,6 @@ made_cycle net b c made list binding sound bound is are same each =
     let P : NetList → Type 0 = λ n. IsClosed n binding.words in
     let Q : Binding → Type 0 = λ x. IsClosed (all_cycles net b c) x.words in
     each (subst P (sym is) (subst Q (sym whole) (closed net b c sound bound)))
-
-pub made_whole : (net : NetList) (b : Binding) (c : ℕ) (made : NetList) (list : List ℕ) (binding : Binding) → made ≡ all_cycles net b c → list ≡ unrolled_nets net b c → binding ≡ rebinding made b list → record { net = made; bound = binding } ≡ in_one_cycle net b c
-made_whole net b c made list binding is are same =
-    let whole : binding ≡ rebinding (all_cycles net b c) b (unrolled_nets net b c) = same ∙ (ap (λ (n : NetList). rebinding n b list) is ∙ ap (λ (ns : List ℕ). rebinding (all_cycles net b c) b ns) are) in
-    ap (λ (n : NetList). record { net = n; bound = binding }) is ∙ ap (λ (x : Binding). record { net = all_cycles net b c; bound = x }) whole
 
 -- what was laid out of the net that was handed back
 pub laid_same : (net other : NetList) (b binding : Binding) (c : ℕ) → other ≡ net → binding ≡ b → IsBoundTo net b → (IsFlat net b → ⊥) → in_one_cycle other binding c ≡ unrolled net b c
