@@ -74,3 +74,13 @@ next_long net b c t =
 pub gates_long : (net : NetList) (b : Binding) (c t : ℕ) → length (gates_to net b c t) ≡ (t + 1) * length net.gates + length (filter (λ l. not (is_held b l)) net.latches) + t * (length net.inputs + length net.latches) + length (filter (is_fed b.feeds) net.inputs)
 gates_long net b c zero = omega (arith, first_long net b c)
 gates_long net b c (suc t) = omega (arith, length-append (gates_to net b c t) (next_gates net b c t), gates_long net b c t, next_long net b c t)
+
+pub gate_sum : (net : NetList) (b : Binding) (c cycles g u x y h : ℕ) → cycles ≡ c → g ≡ length net.gates → u ≡ length (filter (λ l. not (is_held b l)) net.latches) → x ≡ length net.inputs → y ≡ length net.latches → h ≡ length (filter (is_fed b.feeds) net.inputs) → (cycles + 1) * g + u + cycles * (x + y) + h ≡ length (gates_to net b c c)
+gate_sum net b c cycles g u x y h e_c e_g e_u e_x e_y e_h =
+    ap (λ n. (n + 1) * g + u + n * (x + y) + h) e_c
+    ∙ (ap (λ n. (c + 1) * n + u + c * (x + y) + h) e_g
+    ∙ (ap (λ n. (c + 1) * length net.gates + n + c * (x + y) + h) e_u
+    ∙ (ap (λ n. (c + 1) * length net.gates + length (filter (λ l. not (is_held b l)) net.latches) + c * (n + y) + h) e_x
+    ∙ (ap (λ n. (c + 1) * length net.gates + length (filter (λ l. not (is_held b l)) net.latches) + c * (length net.inputs + n) + h) e_y
+    ∙ (ap (λ n. (c + 1) * length net.gates + length (filter (λ l. not (is_held b l)) net.latches) + c * (length net.inputs + length net.latches) + n) e_h
+    ∙ sym (gates_long net b c c))))))

@@ -16,3 +16,4 @@ pub mod ElementLemmas
 pub mod OutputLemmas
 pub mod FlatOutputLemmas
 pub mod UnrolledLemmas
+pub mod CycleLemmas

@@ -1,8 +1,5 @@
-use Rattle.std.proofs.Common.{arith}
+use Rattle.unroll.proofs.PlanLemmas.{feeds_low}
 use Rattle.unroll.proofs.sources.sources.Goals as goal
 
-pub put_source-requires-clause-net : goal.put_source-requires-clause-net
-put_source-requires-clause-net c = ?
-
-pub loop-i-preserved : goal.loop-i-preserved
-loop-i-preserved c = ?
+pub put_sources-requires-clause-nets : goal.put_sources-requires-clause-nets
+put_sources-requires-clause-nets c = feeds_low c.args.net.now c.args.bound.now c.feeds.result.now c.nets-nets.result c.nets-nets.ensures.sound c.requires.bound c.feeds.ensures c.nets-nets.ensures.count
