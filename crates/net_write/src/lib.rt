@@ -1,0 +1,10 @@
+//! The text of a net in BLIF, and that it is read back.
+#![tactic(auto)]
+
+mod lines;
+mod plain;
+mod rows;
+mod write;
+
+pub use plain::plain_names;
+pub use write::write_blif;
