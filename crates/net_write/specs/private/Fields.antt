@@ -1,7 +1,6 @@
--- Fields of a line behind its first, and the rows so far. Source: this project's own.
+-- Fields of a line behind its first and some of the rows. Source: this project's own.
 use Rattle.std.specs.Prelude.{ℕ, ◌==◌, true, List, ◌∷◌, filter, flat_map, map}
 use Rattle.std.specs.Int.{bit_at}
-use Rattle.std.specs.List.{range_with_len}
 use Rattle.net_core.specs.NetList.{NetList, text_of}
 use Rattle.net_blif.specs.Statement.{Token}
 use Rattle.net_blif.specs.declared.statement.Statement.{Statement}
@@ -16,6 +15,6 @@ field name = 32 ∷ name
 abbrev pub fields_of : NetList → List ℕ → List ℕ
 fields_of net nets = flat_map (λ n. field (text_of net n)) nets
 
--- the rows of the indexes below an end
-abbrev pub rows_below : ℕ → ℕ → ℕ → List Statement
-rows_below n table end = map (λ index. Row (pattern n index) true) (filter (λ index. bit_at table index == 1) (range_with_len 0 end))
+-- the rows of those of these indexes whose bit of the table is 1
+abbrev pub rows_at : ℕ → ℕ → List ℕ → List Statement
+rows_at n table indexes = map (λ index. Row (pattern n index) true) (filter (λ index. bit_at table index == 1) indexes)

@@ -1,0 +1,6 @@
+use Rattle.std.proofs.Common.{arith}
+use Rattle.std.proofs.lemmas.Nat.{one_shl}
+use Rattle.net_write.proofs.rows.choices.Goals as goal
+
+pub returns-clause-count : goal.returns-clause-count
+returns-clause-count c = one_shl c.args.inputs 32 (omega (arith, c.requires))
