@@ -3,3 +3,9 @@ pub mod PlainLemmas
 pub mod LineTextLemmas
 pub mod RowLemmas
 pub mod FieldLemmas
+pub mod SaidLemmas
+pub mod MakeLemmas
+pub mod MetLemmas
+pub mod PlaceLemmas
+pub mod AgainLemmas
+pub mod RoundTrip

@@ -46,7 +46,7 @@ named net n label at finds =
     let other : slice_get net.labels n ≡ Some that.1 = ap (slice_get net.labels) place ∙ that.3 in
     ap (λ (l : LabelValue). l.named) (same_label label that.1 (sym at ∙ other)) ∙ first_true that.1.named (bytes_eq (text_of net n) that.1.text) that.4
 
-text_at : (net : NetList) (n : ℕ) (label : LabelValue) → slice_get net.labels n ≡ Some label → text_of net n ≡ label.text
+pub text_at : (net : NetList) (n : ℕ) (label : LabelValue) → slice_get net.labels n ≡ Some label → text_of net n ≡ label.text
 text_at net n label at = rw at refl
 
 -- one more net

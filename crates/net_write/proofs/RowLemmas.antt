@@ -158,3 +158,9 @@ rows_say line inputs out table small = ap gate_of (with_rows_is (begun line inpu
 
     table_same : number_of_bits test (2 ^ n) ≡ table
     table_same = same_from_bits_below (2 ^ n) (number_of_bits test (2 ^ n)) table (bits_small test (2 ^ n)) small (λ index less. bits_same test (2 ^ n) index less ∙ bit_same (bit_at table index) (bit_at-lt table index))
+
+-- the same, where the number of inputs stands by itself
+pub rows_say_at : (n line : ℕ) (inputs : List Token) (out : Token) (table : ℕ) → length inputs ≡ n → table < 2 ^ (2 ^ n) → gate_of (with_rows (begun line inputs out) (map (pattern n) (ones n table))) ≡ Gate line inputs out table
+rows_say_at n line inputs out table is small =
+    let P : ℕ → Type 0 = λ m. table < 2 ^ (2 ^ m) → gate_of (with_rows (begun line inputs out) (map (pattern m) (ones m table))) ≡ Gate line inputs out table in
+    subst P is (rows_say line inputs out table) small
