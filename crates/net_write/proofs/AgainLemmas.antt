@@ -97,7 +97,9 @@ module _ (net : NetList) (sound : IsSound net) (plain : HasPlainNames net) (orde
 
   -- the same name
   text_is : (m n : ℕ) → IsAt order m n → text_of again m ≡ text_of net n
-  text_is m n at = ap (λ (ls : List LabelValue). option_map_or (λ (l : LabelValue). l.text) (slice_get ls m) []) labels ∙ ap (λ (o : Option LabelValue). option_map_or (λ (l : LabelValue). l.text) o []) (slice_get-map label order m ∙ rw at refl)
+  text_is m n at =
+      let there : slice_get (map label order) m ≡ Some (label n) = slice_get-map label order m ∙ rw at refl in
+      ap (λ (ls : List LabelValue). option_map_or (λ (l : LabelValue). l.text) (slice_get ls m) []) labels ∙ ap (λ (o : Option LabelValue). option_map_or (λ (l : LabelValue). l.text) o []) there
 
   names_are : (ms ns : List ℕ) → AllZip (IsAt order) ms ns → names_of again ms ≡ names_of net ns
   names_are ms ns all = zip_same (IsAt order) (text_of again) (text_of net) text_is ms ns all

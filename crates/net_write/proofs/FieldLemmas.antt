@@ -85,8 +85,8 @@ fields_append (x ∷ xs) ys h k = (h.0, fields_append xs ys h.1 k)
 
 -- a row of at most 6 characters
 row_of : (cells : Token) → ArePlain cells → length cells ≤ 6 → IsLine (row_tokens cells true)
-row_of [] plain short = (omega arith, one_word, tt)
-row_of (b ∷ bs) plain short = (omega arith, (omega arith, omega (arith, short), plain), one_word, tt)
+row_of [] plain short = (omega arith, (one_word, tt))
+row_of (b ∷ bs) plain short = (omega arith, ((omega arith, omega (arith, short), plain), (one_word, tt)))
 
 pub row_line : (n index : ℕ) → n ≤ 6 → IsLine (row_tokens (pattern n index) true)
 row_line n index few = row_of (pattern n index) (pattern_plain n index) (omega (arith, few, pattern_length n index))

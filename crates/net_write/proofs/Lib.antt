@@ -9,3 +9,4 @@ pub mod MetLemmas
 pub mod PlaceLemmas
 pub mod AgainLemmas
 pub mod RoundTrip
+mod Examples

@@ -11,7 +11,7 @@ use Rattle.net_blif.specs.Chains.{AreWithinDepth, graph_of, leads_on, row_of}
 use Rattle.net_blif.specs.Design.{ModelValue}
 use Rattle.net_blif.specs.Instances.{first_found, instance_fault, instances_fault, or_else}
 use Rattle.net_blif.specs.Lines.{joined, lines_of}
-use Rattle.net_blif.specs.Models.{AreRight, BlifDesign, HasModel, Reads, begins, start}
+use Rattle.net_blif.specs.Models.{AreRight, BlifDesign, HasModel, Reads, start}
 use Rattle.net_blif.specs.Top.{is_instance}
 use Rattle.net_blif.specs.declared.fault.BlifFault.{BlifFault}
 use Rattle.net_blif.specs.declared.item.Item.{Item}
@@ -52,11 +52,15 @@ no_row models (Instance line model connections ∷ items) none = absurd (cc)
 no_edge : (items : List Item) → AreNoInstances items → edges (graph_of (make_of items)) 0 ≡ []
 no_edge items none = no_row (make_of items) items none
 
+gone : (xs : List ℕ) (k b : ℕ) → xs ≡ [] → slice_get xs k ≡ Some b → ⊥
+gone [] k b e at = cc
+gone (x ∷ xs) k b e at = cc
+
 ends_here : (graph : Graph) (a : ℕ) → edges graph a ≡ [] → IsGrounded graph a
 ends_here graph a none = grounded a (λ b edge. absurd (never b edge))
   where
     never : (b : ℕ) → HasEdge graph a b → ⊥
-    never b (k, at) = let P : List ℕ → Type 0 = λ l. slice_get l k ≡ Some b in let bad : slice_get {A = ℕ} [] k ≡ Some b = subst P none at in absurd (cc)
+    never b (k, at) = gone (edges graph a) k b none at
 
 leads_nowhere : (graph : Graph) (n : ℕ) → edges graph 0 ≡ [] → leads_on graph (suc n) 0 ≡ false
 unfolding leads_on
@@ -75,7 +79,7 @@ module _ (net : NetList) (sound : IsSound net) (plain : HasPlainNames net) where
   designed =
       let ends = statements_read net sound plain in
       let lines_are : lines_of (written net) ≡ numbered 1 (statements_of net) = text_lines 1 (statements_of net) ends.3 in
-      let model : HasModel (lines_of (written net)) (Ok tt) = let first : begins (numbered 1 (statements_of net)) ≡ true = refl in rw (lines_are, first) refl in
+      let model : HasModel (lines_of (written net)) (Ok tt) = rw lines_are refl in
       let reads : Reads start (lines_of (written net)) (Ok (ended ends.0)) = rw lines_are ends.1 in
       (ends.0, (tt, model, (ended ends.0, reads, (tt, make_right ends.0 ends.2.no_instance, refl))), ends.2)
 

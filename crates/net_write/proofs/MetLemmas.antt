@@ -73,11 +73,11 @@ count_past (suc n) x xs past = omega (arith, count_past n x xs (omega (arith, pa
 count_first : (n x : ℕ) (xs : List ℕ) → x < n → count n (x ∷ xs) ≡ 1 + count n xs
 unfolding count
 count_first zero x xs below = absurd (omega (arith, below))
-count_first (suc n) x xs below = by (x == n) refl
+count_first (suc n) x xs below = by (x == n) refl (λ less. count_first n x xs less)
   where
-    by : (b : Bool) → (x == n) ≡ b → count n (x ∷ xs) + times n (x ∷ xs) ≡ 1 + (count n xs + times n xs)
-    by true e = let same : x ≡ n = grind (arith, nat_tests) in omega (arith, count_past n x xs (omega (arith, same)), one_here n x same)
-    by false e = let other : x ≢ n = grind (arith, nat_tests) in omega (arith, count_first n x xs (omega (arith, below, other)), none_here n x other)
+    by : (b : Bool) → (x == n) ≡ b → (x < n → count n (x ∷ xs) ≡ 1 + count n xs) → count n (x ∷ xs) + times n (x ∷ xs) ≡ 1 + (count n xs + times n xs)
+    by true e more = let same : x ≡ n = grind (arith, nat_tests) in omega (arith, count_past n x xs (omega (arith, same)), one_here n x same)
+    by false e more = let other : x ≢ n = grind (arith, nat_tests) in omega (arith, more (omega (arith, below, other)), none_here n x other)
 
 count_all : (n : ℕ) (xs : List ℕ) → ((m k : ℕ) → IsAt xs m k → k < n) → count n xs ≡ length xs
 count_all n [] below = count_none n
@@ -119,17 +119,17 @@ module _ (net : NetList) (sound : IsSound net) (plain : HasPlainNames net) where
   pub place_is : (k : ℕ) (order : List ℕ) (n : ℕ) → n < nets net → ((m i : ℕ) → IsAt order m i → i < nets net)
       → ((place_from k (map (path_of net) order) (path_of net n) ≡ None) × (times n order ≡ 0)) ⊎ ((i : ℕ) × (place_from k (map (path_of net) order) (path_of net n) ≡ Some (k + i)) × IsAt order i n)
   place_is k [] n low below = inl (refl, refl)
-  place_is k (m ∷ ms) n low below = by (bytes_eq (text_of net n) (text_of net m)) refl
+  place_is k (m ∷ ms) n low below = by (bytes_eq (text_of net n) (text_of net m)) refl (place_is (k + 1) ms n low (λ i j at. below (suc i) j at))
     where
-      by : (b : Bool) → bytes_eq (text_of net n) (text_of net m) ≡ b
+      by : (b : Bool) → bytes_eq (text_of net n) (text_of net m) ≡ b → ((place_from (k + 1) (map (path_of net) ms) (path_of net n) ≡ None) × (times n ms ≡ 0)) ⊎ ((i : ℕ) × (place_from (k + 1) (map (path_of net) ms) (path_of net n) ≡ Some (k + 1 + i)) × IsAt ms i n)
           → ((cond b (Some k) (place_from (k + 1) (map (path_of net) ms) (path_of net n)) ≡ None) × (times n (m ∷ ms) ≡ 0)) ⊎ ((i : ℕ) × (cond b (Some k) (place_from (k + 1) (map (path_of net) ms) (path_of net n)) ≡ Some (k + i)) × IsAt (m ∷ ms) i n)
-      by true e =
+      by true e more =
           let same : n ≡ m = names_apart n m low (below 0 m refl) ((bytes_eq-Decides (text_of net n) (text_of net m)).0 e) in
           let here : k ≡ k + 0 = omega arith in
           inr (0, ap Some here, ap Some (sym same))
-      by false e =
+      by false e more =
           let other : m ≢ n = λ same. let bad : bytes_eq (text_of net n) (text_of net m) ≡ true = (bytes_eq-Decides (text_of net n) (text_of net m)).1 (ap (text_of net) (sym same)) in cc in
-          elim (place_is (k + 1) ms n low (λ i j at. below (suc i) j at)) [
+          elim more [
             | inl none ↦ inl (none.0, omega (arith, none.1, none_here n m other))
             | inr some ↦ let next : k + 1 + some.0 ≡ k + suc some.0 = omega arith in inr (suc some.0, some.1 ∙ ap Some next, some.2)
           ]

@@ -17,7 +17,7 @@ use Rattle.net_flat.specs.Steps.{Gate, Input, Latch, Mention, Output, Step, alon
 use Rattle.net_write.specs.Plain.{HasPlainNames}
 use Rattle.net_write.specs.Written.{names_of}
 use Rattle.net_write.proofs.MakeLemmas.{in_top}
-use Rattle.net_write.proofs.MetLemmas.{GateAt, Goal, Grows, IsAt, LatchAt, Met, gate_grows, latch_grows, mention_walk, number_is, path_of}
+use Rattle.net_write.proofs.MetLemmas.{GateAt, Goal, Grows, IsAt, LatchAt, Met, mention_walk, number_is, path_of}
 use Rattle.net_write.proofs.SaidLemmas.{each_of, gate_walk, latch_walk, net_walk}
 
 -- the steps on the nets of the chosen model

@@ -16,10 +16,10 @@ within (y ∷ ys) (suc k) x at = omega (arith, within ys k x at)
 -- the label that a name finds
 found : (n : ℕ) (labels : List LabelValue) (name : List ℕ) (k : ℕ) → number_from n labels name ≡ Some k → (i : ℕ) × (label : LabelValue) × (k ≡ n + i) × (slice_get labels i ≡ Some label) × (is_named name label ≡ true)
 found n [] name k e = absurd (cc)
-found n (label ∷ labels) name k e = by (is_named name label) refl e
+found n (label ∷ labels) name k e = by (is_named name label) refl e (λ e. found (n + 1) labels name k e)
   where
-    later : number_from (n + 1) labels name ≡ Some k → (i : ℕ) × (other : LabelValue) × (k ≡ n + i) × (slice_get (label ∷ labels) i ≡ Some other) × (is_named name other ≡ true)
-    later e = let more = found (n + 1) labels name k e in (suc more.0, more.1, omega (arith, more.2), more.3, more.4)
+    later : (i : ℕ) × (other : LabelValue) × (k ≡ n + 1 + i) × (slice_get labels i ≡ Some other) × (is_named name other ≡ true) → (i : ℕ) × (other : LabelValue) × (k ≡ n + i) × (slice_get (label ∷ labels) i ≡ Some other) × (is_named name other ≡ true)
+    later more = (suc more.0, more.1, omega (arith, more.2), more.3, more.4)
 
     here : n ≡ k → is_named name label ≡ true → (i : ℕ) × (other : LabelValue) × (k ≡ n + i) × (slice_get (label ∷ labels) i ≡ Some other) × (is_named name other ≡ true)
     here same is = (0, label, omega (arith, same), refl, is)
@@ -27,9 +27,9 @@ found n (label ∷ labels) name k e = by (is_named name label) refl e
     some_same : (a b : ℕ) → ◌≡◌ {A = Option ℕ} (Some a) (Some b) → a ≡ b
     some_same a b e = cc
 
-    by : (b : Bool) → is_named name label ≡ b → cond b (Some n) (number_from (n + 1) labels name) ≡ Some k → (i : ℕ) × (other : LabelValue) × (k ≡ n + i) × (slice_get (label ∷ labels) i ≡ Some other) × (is_named name other ≡ true)
-    by true is e = here (some_same n k e) is
-    by false is e = later e
+    by : (b : Bool) → is_named name label ≡ b → cond b (Some n) (number_from (n + 1) labels name) ≡ Some k → (number_from (n + 1) labels name ≡ Some k → (i : ℕ) × (other : LabelValue) × (k ≡ n + 1 + i) × (slice_get labels i ≡ Some other) × (is_named name other ≡ true)) → (i : ℕ) × (other : LabelValue) × (k ≡ n + i) × (slice_get (label ∷ labels) i ≡ Some other) × (is_named name other ≡ true)
+    by true is e more = here (some_same n k e) is
+    by false is e more = later (more e)
 
 first_true : (a b : Bool) → (a && b) ≡ true → a ≡ true
 first_true true b e = refl

@@ -44,36 +44,39 @@ pattern_plain (suc n) index =
 pub pattern_cells : (n index : ℕ) → list_all is_cell (pattern n index) ≡ true
 pattern_cells zero index = refl
 pattern_cells (suc n) index =
-    rw (pattern_first n index) (bit_cases (index % 2) (λ b. (is_cell (48 + b) && list_all is_cell (pattern n (index / 2))) ≡ true) (omega arith) (pattern_cells n (index / 2)) (pattern_cells n (index / 2)))
+    let P : Token → Type 0 = λ cells. list_all is_cell cells ≡ true in
+    let more : list_all is_cell (pattern n (index / 2)) ≡ true = pattern_cells n (index / 2) in
+    subst P (sym (pattern_first n index)) (bit_cases (index % 2) (λ b. (is_cell (48 + b) && list_all is_cell (pattern n (index / 2))) ≡ true) (omega arith) more more)
 
 -- a pattern fits its index
 fits_own : (n index : ℕ) → fits (pattern n index) index ≡ true
 fits_own zero index = refl
-fits_own (suc n) index = rw (pattern_first n index) (by (index % 2) refl)
+fits_own (suc n) index = let P : Token → Type 0 = λ cells. fits cells index ≡ true in subst P (sym (pattern_first n index)) (by (index % 2) refl (fits_own n (index / 2)))
   where
-    by : (b : ℕ) → index % 2 ≡ b → (cell_fits (48 + b) index && fits (pattern n (index / 2)) (index / 2)) ≡ true
-    by zero is = rw (is, fits_own n (index / 2)) refl
-    by (suc zero) is = rw (is, fits_own n (index / 2)) refl
-    by (suc (suc b)) is = absurd (omega (arith, is))
+    by : (b : ℕ) → index % 2 ≡ b → fits (pattern n (index / 2)) (index / 2) ≡ true → (cell_fits (48 + index % 2) index && fits (pattern n (index / 2)) (index / 2)) ≡ true
+    by zero is more = rw (is, more) refl
+    by (suc zero) is more = rw (is, more) refl
+    by (suc (suc b)) is more = absurd (omega (arith, is))
 
 -- and no other
 fits_only : (n i j : ℕ) → i < 2 ^ n → j < 2 ^ n → i ≢ j → fits (pattern n i) j ≡ false
 fits_only zero i j low less other = absurd (other (omega (arith, low, less)))
-fits_only (suc n) i j low less other = rw (pattern_first n i) (by (i % 2) (j % 2) refl refl)
+fits_only (suc n) i j low less other = let P : Token → Type 0 = λ cells. fits cells j ≡ false in subst P (sym (pattern_first n i)) (by (i % 2) (j % 2) refl refl (rest (λ low less other. fits_only n (i / 2) (j / 2) low less other)))
   where
     half : (k : ℕ) → k < 2 ^ suc n → k / 2 < 2 ^ n
     half k below = let whole : k < 2 * 2 ^ n = rw (← pow-succ') below in omega (arith, whole)
 
-    rest : i % 2 ≡ j % 2 → fits (pattern n (i / 2)) (j / 2) ≡ false
-    rest same = fits_only n (i / 2) (j / 2) (half i low) (half j less) (λ e. other (omega (arith, e, same)))
+    rest : (i / 2 < 2 ^ n → j / 2 < 2 ^ n → i / 2 ≢ j / 2 → fits (pattern n (i / 2)) (j / 2) ≡ false) → i % 2 ≡ j % 2 → fits (pattern n (i / 2)) (j / 2) ≡ false
+    rest more same = more (half i low) (half j less) (λ e. other (omega (arith, e, same)))
 
-    by : (b c : ℕ) → i % 2 ≡ b → j % 2 ≡ c → (cell_fits (48 + b) j && fits (pattern n (i / 2)) (j / 2)) ≡ false
-    by zero zero is are = rw (are, rest (is ∙ sym are)) refl
-    by zero (suc zero) is are = rw are refl
-    by (suc zero) zero is are = rw are refl
-    by (suc zero) (suc zero) is are = rw (are, rest (is ∙ sym are)) refl
-    by (suc (suc b)) c is are = absurd (omega (arith, is))
-    by b (suc (suc c)) is are = absurd (omega (arith, are))
+    by : (b c : ℕ) → i % 2 ≡ b → j % 2 ≡ c → (i % 2 ≡ j % 2 → fits (pattern n (i / 2)) (j / 2) ≡ false) → (cell_fits (48 + i % 2) j && fits (pattern n (i / 2)) (j / 2)) ≡ false
+    by zero zero is are more = rw (is, are, more (is ∙ sym are)) refl
+    by zero (suc zero) is are more = rw (is, are) refl
+    by (suc zero) zero is are more = rw (is, are) refl
+    by (suc zero) (suc zero) is are more = rw (is, are, more (is ∙ sym are)) refl
+    by (suc (suc b)) c is are more = absurd (omega (arith, is))
+    by zero (suc (suc c)) is are more = absurd (omega (arith, are))
+    by (suc zero) (suc (suc c)) is are more = absurd (omega (arith, are))
 
 module _ (n : ℕ) (test : ℕ → Bool) (j : ℕ) (within : j < 2 ^ n) where
   -- rows of indexes above
@@ -90,7 +93,7 @@ module _ (n : ℕ) (test : ℕ → Bool) (j : ℕ) (within : j < 2 ^ n) where
   -- a row fits exactly where the index passes
   pub hits : (a m : ℕ) → a ≤ j → j < a + m → a + m ≤ 2 ^ n → fits_some (map (pattern n) (filter test (range_with_len a m))) j ≡ test j
   hits a zero low high few = absurd (omega (arith, low, high))
-  hits a (suc m) low high few = by (a == j) refl
+  hits a (suc m) low high few = by (a == j) refl (λ low. hits (a + 1) m low (omega (arith, high)) (omega (arith, few)))
     where
       rest : List ℕ
       rest = filter test (range_with_len (a + 1) m)
@@ -99,13 +102,13 @@ module _ (n : ℕ) (test : ℕ → Bool) (j : ℕ) (within : j < 2 ^ n) where
       here true passes same = let P : ℕ → Type 0 = λ k. fits (pattern n a) k ≡ true in rw (subst P same (fits_own n a)) (sym passes ∙ ap test same)
       here false passes same = misses (a + 1) m (omega (arith, same)) (omega (arith, few)) ∙ (sym passes ∙ ap test same)
 
-      later : (b : Bool) → a ≢ j → fits_some (map (pattern n) (cond b (a ∷ rest) rest)) j ≡ test j
-      later true other = rw (fits_only n a j (omega (arith, few)) within other) (hits (a + 1) m (omega (arith, low, other)) (omega (arith, high)) (omega (arith, few)))
-      later false other = hits (a + 1) m (omega (arith, low, other)) (omega (arith, high)) (omega (arith, few))
+      later : (b : Bool) → (a + 1 ≤ j → fits_some (map (pattern n) rest) j ≡ test j) → a ≢ j → fits_some (map (pattern n) (cond b (a ∷ rest) rest)) j ≡ test j
+      later true more other = rw (fits_only n a j (omega (arith, few)) within other) (more (omega (arith, low, other)))
+      later false more other = more (omega (arith, low, other))
 
-      by : (b : Bool) → (a == j) ≡ b → fits_some (map (pattern n) (cond (test a) (a ∷ rest) rest)) j ≡ test j
-      by true e = here (test a) refl (grind (arith, nat_tests))
-      by false e = later (test a) (grind (arith, nat_tests))
+      by : (b : Bool) → (a == j) ≡ b → (a + 1 ≤ j → fits_some (map (pattern n) rest) j ≡ test j) → fits_some (map (pattern n) (cond (test a) (a ∷ rest) rest)) j ≡ test j
+      by true e more = here (test a) refl (grind (arith, nat_tests))
+      by false e more = later (test a) more (grind (arith, nat_tests))
 
 -- the output of a cover after rows with output 1
 abbrev pub output_after : Option Bool → List Token → Option Bool

@@ -141,7 +141,7 @@ gate_walk net gate = gate_steps (names_of net gate.inputs) (text_of net gate.out
 abbrev pub net_walk : NetList → List (Step Token)
 net_walk net = flat_map (input_steps true) (names_of net net.inputs) ++ flat_map (output_steps true) (names_of net net.outputs) ++ flat_map (latch_walk net) net.latches ++ flat_map (gate_walk net) net.gates
 
-each_of : {A : Type 0} (P : A → Type 0) (xs : List A) → All P xs → AllByRecursion P xs
+pub each_of : {A : Type 0} (P : A → Type 0) (xs : List A) → All P xs → AllByRecursion P xs
 each_of P [] all = tt
 each_of P (x ∷ xs) all = (all 0 x (omega arith), each_of P xs (λ k d less. all (suc k) d (omega (arith, less))))
 

@@ -9,11 +9,12 @@ use Rattle.std.specs.List.{join_with_byte, range_with_len}
 use Rattle.std.proofs.lemmas.Grind.{flat_map-append}
 use Rattle.std.proofs.lemmas.List.Folds.{flat_map-map}
 use Rattle.std.proofs.lemmas.List.FromFn.{map-range_with_len_more}
+use Rattle.net_core.specs.GateValue.{GateValue}
 use Rattle.net_core.specs.NetList.{NetList, text_of}
 use Rattle.net_blif.specs.Statement.{Token, row_tokens, spelled}
 use Rattle.net_blif.specs.declared.statement.Statement.{Statement}
 use Rattle.net_blif.specs.declared.statement.Statement.TheVariants.{Row}
-use Rattle.net_write.specs.Written.{line_text, names_of, pattern, text_with}
+use Rattle.net_write.specs.Written.{gate_statements, line_text, names_of, pattern, rows_of, text_with}
 use Rattle.net_write.specs.private.Fields.{field, fields_of, rows_at}
 
 -- the fields of a line, one after another
@@ -89,3 +90,11 @@ row_there old new n table index is made = made ∙ ap (λ (l : List ℕ). old ++
 
 pub row_absent : (old new : List ℕ) (n table index : ℕ) → bit_at table index ≢ 1 → new ≡ old → new ≡ old ++ text_with (rows_at n table (index ∷ []))
 row_absent old new n table index other same = let no : (bit_at table index == 1) ≡ false = grind (arith, nat_tests) in same ∙ rw no (sym (append-nil old))
+
+-- the cover and the rows of a gate
+pub gate_added : (net : NetList) (gate : GateValue) (old a b d e f inputs : List ℕ) (out n table : ℕ) → inputs ≡ gate.inputs → out ≡ gate.out → n ≡ length gate.inputs → table ≡ gate.table
+    → a ≡ old ++ codes ".names" → b ≡ a ++ fields_of net inputs → d ≡ b ++ field (text_of net out) → e ≡ d ++ 10 ∷ [] → f ≡ e ++ text_with (rows_of n table) → f ≡ old ++ text_with (gate_statements net gate)
+gate_added net gate old a b d e f inputs out n table reads drives long bits one two three four five =
+    cover_added net old (codes ".names") a b d e f gate.inputs gate.out (rows_of (length gate.inputs) gate.table) one
+    (two ∙ ap (λ (ns : List ℕ). a ++ fields_of net ns) reads) (three ∙ ap (λ (m : ℕ). b ++ field (text_of net m)) drives) four
+    (five ∙ ap (λ (m : ℕ). e ++ text_with (rows_of m table)) long ∙ ap (λ (t : ℕ). e ++ text_with (rows_of (length gate.inputs) t)) bits)
