@@ -6,7 +6,7 @@ use Rattle.net_blif.specs.Design.{ModelValue}
 use Rattle.net_blif.specs.Models.{BlifDesign}
 use Rattle.net_blif.specs.declared.fault.BlifFault.{BlifFault}
 use Rattle.net_blif.proofs.OutcomeLemmas.{determined_design}
-use Rattle.net_flat.specs.Flat.{Flattens, net_list}
+use Rattle.net_flat.specs.Flat.{Flattens, net_list, nothing, walked}
 use Rattle.net_flat.specs.declared.flat_fault.FlatFault.{FlatFault}
 use Rattle.net_flat.proofs.FlatDetermined.{flattens_once}
 use Rattle.net_write.specs.Plain.{HasPlainNames}
@@ -26,7 +26,7 @@ module _ (net : NetList) (sound : IsSound net) (plain : HasPlainNames net) where
         make_of made.0,
         net_list walk.1,
         made.1,
-        (walk.1, sym (ap _ (make_walk made.0 (net_walk net) made.2) ∙ walk.2), (refl, sound_again net sound plain walk.0 walk.1 walk.3)),
+        (walk.1, sym (ap (walked nothing) (make_walk made.0 (net_walk net) made.2) ∙ walk.2), (refl, sound_again net sound plain walk.0 walk.1 walk.3)),
         same_by_name net sound plain walk.0 walk.1 walk.3,
         plain_again net sound plain walk.0 walk.1 walk.3,
       )
