@@ -1,74 +1,30 @@
 -- A net that was met in another order is sound, and the same by name.
-use Rattle.std.proofs.Common.{◌≡◌, ◌⊎◌, ◌∙◌, inl, inr, ap, sym, refl, subst, ℕ, zero, suc, ◌+◌, ◌^◌, ◌<◌, ◌≤◌, ◌==◌, Bool, true, false, cond, List, [], ◌∷◌, ◌++◌, length, map, Option, None, Some, arith}
+use Rattle.std.proofs.Common.{◌≡◌, ◌∙◌, inl, inr, ap, sym, refl, subst, ℕ, ◌+◌, ◌^◌, ◌<◌, ◌≤◌, true, List, [], ◌∷◌, length, map, Option, Some, arith}
 use Rattle.std.specs.Prelude.{◌≢◌, All, slice_get, unwrap_or}
 use Rattle.std.specs.List.{AllZip}
 use Rattle.std.specs.Option.{option_map_or}
-use Rattle.std.proofs.lemmas.Bool.Decides.{nat_tests}
 use Rattle.std.proofs.lemmas.List.{length-map}
 use Rattle.std.proofs.lemmas.Option.{slice_get-map}
 use Rattle.graph_core.proofs.CycleLemmas.{from_map}
 use Rattle.graph_core.proofs.GraphLemmas.{even, nat_eq_or}
 use Rattle.graph_core.proofs.ListLemmas.{get_below}
-use Rattle.graph_core.specs.Walk.{IsChain, IsCycleBy}
+use Rattle.graph_core.specs.Walk.{IsChain}
 use Rattle.net_core.specs.GateValue.{GateValue}
 use Rattle.net_core.specs.LatchValue.{LatchValue}
 use Rattle.net_core.specs.Inside.{GateIsInside, IsInside, IsNetName, LatchIsInside}
 use Rattle.net_core.specs.Lists.{Has, times}
-use Rattle.net_core.specs.NetList.{LabelValue, NetList, nets, number_from, number_of, text_of}
-use Rattle.net_core.specs.Sound.{HasCycle, HasOneDriverEach, IsCycle, IsSound, Needs, driven, drivers, sources}
+use Rattle.net_core.specs.NetList.{LabelValue, NetList, nets, number_of, text_of}
+use Rattle.net_core.specs.Sound.{HasOneDriverEach, IsCycle, IsSound, Needs, driven, sources}
 use Rattle.net_core.proofs.DriverLemmas.{none_here, one_here, times_get, times_two}
 use Rattle.net_flat.proofs.PathLemmas.{place_named}
-use Rattle.net_flat.specs.Flat.{Flat, net_list, place_from}
+use Rattle.net_flat.specs.Flat.{Flat, net_list}
 use Rattle.net_flat.specs.Paths.{label_of}
 use Rattle.net_write.specs.Plain.{HasPlainNames, IsPlainName}
-use Rattle.net_write.specs.SameByName.{IsSameByName, NamedGate, NamedLatch, named_gate, named_latch}
+use Rattle.net_write.specs.SameByName.{IsSameByName, named_gate, named_latch}
 use Rattle.net_write.specs.Written.{names_of}
 use Rattle.net_write.proofs.MetLemmas.{GateAt, IsAt, LatchAt, Met, few, path_of, place_is}
 use Rattle.net_write.proofs.PlainLemmas.{text_at, within}
-
-zip_append : {A B : Type 0} (R : A → B → Type 0) (xs : List A) (ys : List B) (us : List A) (vs : List B) → AllZip R xs ys → AllZip R us vs → AllZip R (xs ++ us) (ys ++ vs)
-zip_append R [] [] us vs h k = k
-zip_append R [] (y ∷ ys) us vs h k = absurd h
-zip_append R (x ∷ xs) [] us vs h k = absurd h
-zip_append R (x ∷ xs) (y ∷ ys) us vs h k = (h.0, zip_append R xs ys us vs h.1 k)
-
-zip_map : {A B C D : Type 0} (R : A → B → Type 0) (S : C → D → Type 0) (f : A → C) (g : B → D) → ((a : A) (b : B) → R a b → S (f a) (g b)) → (xs : List A) (ys : List B) → AllZip R xs ys → AllZip S (map f xs) (map g ys)
-zip_map R S f g to [] [] all = tt
-zip_map R S f g to [] (y ∷ ys) all = absurd all
-zip_map R S f g to (x ∷ xs) [] all = absurd all
-zip_map R S f g to (x ∷ xs) (y ∷ ys) all = (to x y all.0, zip_map R S f g to xs ys all.1)
-
--- what is said of each pair is an equation of what is made of them
-zip_same : {A B C : Type 0} (R : A → B → Type 0) (f : A → C) (g : B → C) → ((a : A) (b : B) → R a b → f a ≡ g b) → (xs : List A) (ys : List B) → AllZip R xs ys → map f xs ≡ map g ys
-zip_same R f g to [] [] all = refl
-zip_same R f g to [] (y ∷ ys) all = absurd all
-zip_same R f g to (x ∷ xs) [] all = absurd all
-zip_same {C} R f g to (x ∷ xs) (y ∷ ys) all = ap (λ (c : C). c ∷ map f xs) (to x y all.0) ∙ ap (λ (l : List C). g y ∷ l) (zip_same R f g to xs ys all.1)
-
-zip_length : {A B : Type 0} (R : A → B → Type 0) (xs : List A) (ys : List B) → AllZip R xs ys → length xs ≡ length ys
-zip_length R [] [] all = refl
-zip_length R [] (y ∷ ys) all = absurd all
-zip_length R (x ∷ xs) [] all = absurd all
-zip_length R (x ∷ xs) (y ∷ ys) all = ap suc (zip_length R xs ys all.1)
-
--- an element has a partner
-zip_has : {A B : Type 0} (R : A → B → Type 0) (xs : List A) (ys : List B) → AllZip R xs ys → (x : A) → Has xs x → (y : B) × Has ys y × R x y
-zip_has R [] ys all x (k, at) = absurd (cc)
-zip_has R (a ∷ xs) [] all x has = absurd all
-zip_has {A} {B} R (a ∷ xs) (b ∷ ys) all x (zero, at) = let P : A → Type 0 = λ z. R z b in (b, (0, refl), subst P (same a x at) all.0)
-  where
-    same : (c d : A) → ◌≡◌ {A = Option A} (Some c) (Some d) → c ≡ d
-    same c d e = cc
-zip_has R (a ∷ xs) (b ∷ ys) all x (suc k, at) = let more = zip_has R xs ys all.1 x (k, at) in (more.0, (suc more.1.0, more.1.1), more.2)
-
-zip_each : {A B : Type 0} (R : A → B → Type 0) (P : A → Type 0) (Q : B → Type 0) → ((a : A) (b : B) → R a b → Q b → P a) → (xs : List A) (ys : List B) → AllZip R xs ys → All Q ys → All P xs
-zip_each R P Q to [] ys all each k d less = absurd (omega (arith, less))
-zip_each R P Q to (x ∷ xs) [] all each k d less = absurd all
-zip_each R P Q to (x ∷ xs) (y ∷ ys) all each zero d less = to x y all.0 (each 0 y (omega arith))
-zip_each R P Q to (x ∷ xs) (y ∷ ys) all each (suc k) d less = zip_each R P Q to xs ys all.1 (λ i e low. each (suc i) e (omega (arith, low))) k d (omega (arith, less))
-
-some_same : {A : Type 0} (a b : A) → ◌≡◌ {A = Option A} (Some a) (Some b) → a ≡ b
-some_same a b e = cc
+use Rattle.net_write.proofs.ZipLemmas.{some_same, zip_append, zip_each, zip_has, zip_length, zip_map, zip_same}
 
 module _ (net : NetList) (sound : IsSound net) (plain : HasPlainNames net) (order : List ℕ) (flat : Flat) (met : Met net order flat net) where
   abbrev pub again : NetList

@@ -2,7 +2,6 @@
 use Rattle.std.proofs.Common.{◌≡◌, ℕ, List, [], ◌∷◌, true, codes, refl, map}
 use Rattle.net_core.specs.NetList.{LabelValue, NetList}
 use Rattle.net_core.specs.declared.latch.Start.TheVariants.{Zero, Unknown}
-use Rattle.net_blif.specs.Statement.{spelled}
 use Rattle.net_write.specs.SameByName.{named_gate, named_latch}
 use Rattle.net_write.specs.Written.{gate_statements, latch_statement, pattern, text_with, written}
 

@@ -1,11 +1,10 @@
 -- The fields of each statement of a text.
-use Rattle.std.proofs.Common.{◌≡◌, ◌∙◌, ap, sym, refl, subst, ℕ, zero, suc, ◌+◌, ◌^◌, ◌<◌, ◌≤◌, ◌==◌, ◌&&◌, Bool, true, false, not, List, [], ◌∷◌, ◌++◌, length, map, Some, codes, arith}
-use Rattle.std.specs.Prelude.{◌≢◌, All, nat_le, slice_get}
+use Rattle.std.proofs.Common.{◌≡◌, refl, ℕ, suc, ◌+◌, ◌<◌, ◌≤◌, ◌==◌, ◌&&◌, Bool, true, false, not, List, [], ◌∷◌, ◌++◌, length, codes, arith}
+use Rattle.std.specs.Prelude.{All, nat_le}
 use Rattle.std.specs.List.{list_all}
-use Rattle.std.specs.Option.{option_map_or}
 use Rattle.std.proofs.lemmas.Bool.Decides.{nat_tests}
 use Rattle.graph_core.proofs.ListLemmas.{get_below}
-use Rattle.net_core.specs.NetList.{LabelValue, NetList, nets, text_of}
+use Rattle.net_core.specs.NetList.{NetList, nets, text_of}
 use Rattle.net_core.specs.Sound.{IsSound}
 use Rattle.net_core.specs.declared.latch.Start.{Start}
 use Rattle.net_core.specs.declared.latch.Start.TheVariants.{Zero, One, Unknown}
@@ -14,7 +13,6 @@ use Rattle.net_write.specs.Plain.{HasPlainNames, IsPlainByte, IsPlainName}
 use Rattle.net_write.specs.Written.{names_of, pattern, start_token}
 use Rattle.net_write.proofs.LineTextLemmas.{AreFields, ArePlain, IsField, IsLine}
 use Rattle.net_write.proofs.RowLemmas.{pattern_length, pattern_plain}
-use Rattle.std.specs.List.{AllByRecursion}
 
 is_plain : ℕ → Bool
 is_plain b = nat_le 33 b && nat_le b 126 && not (b == 35) && not (b == 92)

@@ -1,4 +1,5 @@
 pub mod WriteLemmas
+pub mod ZipLemmas
 pub mod PlainLemmas
 pub mod LineTextLemmas
 pub mod RowLemmas

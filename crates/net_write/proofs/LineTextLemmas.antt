@@ -1,7 +1,7 @@
 -- A written line, read back: where it ends, that nothing of it is a comment or trails, and its fields.
-use Rattle.std.proofs.Common.{◌≡◌, ◌∙◌, ap, sym, refl, subst, ℕ, zero, suc, ◌+◌, ◌-◌, ◌<◌, ◌≤◌, ◌==◌, ◌&&◌, Bool, true, false, cond, not, List, [], ◌∷◌, ◌++◌, length, take, drop, get_or, arith, add-one, append_assoc}
-use Rattle.std.specs.Prelude.{◌≢◌, All, filter, flat_map, nat_le, nat_lt, take_while, slice_index}
-use Rattle.std.specs.List.{AllByRecursion, join_with_byte, list_all, slice_split}
+use Rattle.std.proofs.Common.{◌≡◌, ◌∙◌, ap, sym, refl, ℕ, zero, suc, ◌+◌, ◌-◌, ◌<◌, ◌≤◌, ◌==◌, ◌&&◌, Bool, true, false, cond, not, List, [], ◌∷◌, ◌++◌, length, take, drop, get_or, arith, add-one, append_assoc}
+use Rattle.std.specs.Prelude.{◌≢◌, All, filter, nat_lt}
+use Rattle.std.specs.List.{AllByRecursion, join_with_byte, slice_split}
 use Rattle.std.specs.Str.Lines.{lines, strip_carriage_return}
 use Rattle.std.proofs.lemmas.Bool.Decides.{nat_tests}
 use Rattle.std.proofs.lemmas.List.Sums.{take_while-cons}
@@ -11,7 +11,7 @@ use Rattle.text_core.proofs.LineLemmas.{lines_at}
 use Rattle.net_blif.specs.Lines.{Numbered, before_trimmed, clean, goes_on, is_trailing, joined, trim_end}
 use Rattle.net_blif.specs.Statement.{IsToken, Token, spelled}
 use Rattle.net_blif.specs.declared.statement.Statement.{Statement}
-use Rattle.net_write.specs.Plain.{IsPlainByte, IsPlainName}
+use Rattle.net_write.specs.Plain.{IsPlainByte}
 use Rattle.net_write.specs.Written.{line_text, text_with}
 
 -- a byte of a line: a space, or one of a field

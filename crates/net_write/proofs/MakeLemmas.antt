@@ -1,5 +1,5 @@
 -- The design of a written text, and the walk over its model.
-use Rattle.std.proofs.Common.{◌≡◌, ◌∙◌, ap, sym, refl, subst, ℕ, zero, suc, ◌+◌, Bool, true, false, not, List, [], ◌∷◌, ◌++◌, map, Option, None, Some, Ok, codes, arith}
+use Rattle.std.proofs.Common.{◌≡◌, ◌∙◌, ap, sym, refl, ℕ, suc, ◌+◌, true, false, not, List, [], ◌∷◌, ◌++◌, map, None, Some, Ok, codes}
 use Rattle.std.specs.Prelude.{flat_map, slice_get}
 use Rattle.std.specs.List.{list_all}
 use Rattle.std.proofs.lemmas.List.{map-append}
@@ -9,15 +9,14 @@ use Rattle.net_core.specs.NetList.{NetList}
 use Rattle.net_core.specs.Sound.{IsSound}
 use Rattle.net_blif.specs.Chains.{AreWithinDepth, graph_of, leads_on, row_of}
 use Rattle.net_blif.specs.Design.{ModelValue}
-use Rattle.net_blif.specs.Instances.{first_found, instance_fault, instances_fault, or_else}
-use Rattle.net_blif.specs.Lines.{joined, lines_of}
+use Rattle.net_blif.specs.Instances.{first_found, instance_fault, instances_fault}
+use Rattle.net_blif.specs.Lines.{lines_of}
 use Rattle.net_blif.specs.Models.{AreRight, BlifDesign, HasModel, Reads, start}
 use Rattle.net_blif.specs.Top.{is_instance}
-use Rattle.net_blif.specs.declared.fault.BlifFault.{BlifFault}
 use Rattle.net_blif.specs.declared.item.Item.{Item}
 use Rattle.net_blif.specs.declared.item.Item.TheVariants.{Inputs, Outputs, Gate, Latch, Instance}
 use Rattle.net_blif.proofs.RightLemmas.{right}
-use Rattle.net_flat.specs.Paths.{At, Path, Scope, path_in, top}
+use Rattle.net_flat.specs.Paths.{At, Path, Scope, top}
 use Rattle.net_flat.specs.Steps.{Step, along, steps_of}
 use Rattle.net_flat.specs.Walk.{lines_in, walk_of, walk_within}
 use Rattle.net_write.specs.Plain.{HasPlainNames}

@@ -1,11 +1,10 @@
 -- What a walk has met, by the numbers that the nets had when they were written.
-use Rattle.std.proofs.Common.{◌≡◌, ◌⊎◌, ◌∙◌, inl, inr, ap, sym, refl, subst, ℕ, zero, suc, ◌+◌, ◌-◌, ◌^◌, ◌<◌, ◌≤◌, ◌==◌, Bool, true, false, cond, List, [], ◌∷◌, ◌++◌, length, map, Option, None, Some, Ok, arith}
-use Rattle.std.specs.Prelude.{◌≢◌, All, is_some, nat_le, slice_get, unwrap_or}
+use Rattle.std.proofs.Common.{◌≡◌, ◌⊎◌, ◌∙◌, inl, inr, ap, sym, refl, subst, ℕ, zero, suc, ◌+◌, ◌-◌, ◌^◌, ◌<◌, ◌≤◌, ◌==◌, Bool, true, false, cond, List, [], ◌∷◌, ◌++◌, length, map, None, Some, Ok, arith}
+use Rattle.std.specs.Prelude.{◌≢◌, nat_le, slice_get}
 use Rattle.std.specs.List.{AllZip}
 use Rattle.std.specs.Str.{bytes_eq}
 use Rattle.std.proofs.lemmas.Bool.Decides.{nat_tests}
 use Rattle.std.proofs.lemmas.List.{length-map, length-append, map_push}
-use Rattle.std.proofs.lemmas.List.Elements.{AllZip-push}
 use Rattle.std.proofs.lemmas.Slice.Eq.{bytes_eq-Decides}
 use Rattle.graph_core.proofs.ListLemmas.{get_below, get_front, get_here, got_push}
 use Rattle.net_core.specs.GateValue.{GateValue}
@@ -14,11 +13,12 @@ use Rattle.net_core.specs.Lists.{Has, times}
 use Rattle.net_core.specs.NetList.{NetList, nets, number_of, text_of}
 use Rattle.net_core.specs.Sound.{IsSound}
 use Rattle.net_core.proofs.DriverLemmas.{none_here, one_here, times_append, times_get}
-use Rattle.net_flat.specs.Flat.{Flat, after_step, number, place_from, walked}
+use Rattle.net_flat.specs.Flat.{Flat, number, place_from, walked}
 use Rattle.net_flat.specs.Paths.{At, Path}
 use Rattle.net_flat.specs.Steps.{Mention, Step}
 use Rattle.net_write.specs.Plain.{HasPlainNames}
 use Rattle.net_write.proofs.PlainLemmas.{text_at}
+use Rattle.net_write.proofs.ZipLemmas.{some_same, zip_weaker}
 
 -- the net that was met as number m had number n
 abbrev pub IsAt : List ℕ → ℕ → ℕ → Type 0
@@ -37,12 +37,6 @@ pub record LatchAt (order : List ℕ) (met old : LatchValue) : Type 0 where
 -- the numbers met so far stay
 abbrev pub Grows : List ℕ → List ℕ → Type 0
 Grows order longer = (m n : ℕ) → IsAt order m n → IsAt longer m n
-
-zip_weaker : {A B : Type 0} (R S : A → B → Type 0) → ((a : A) (b : B) → R a b → S a b) → (xs : List A) (ys : List B) → AllZip R xs ys → AllZip S xs ys
-zip_weaker R S to [] [] all = tt
-zip_weaker R S to [] (y ∷ ys) all = absurd all
-zip_weaker R S to (x ∷ xs) [] all = absurd all
-zip_weaker R S to (x ∷ xs) (y ∷ ys) all = (to x y all.0, zip_weaker R S to xs ys all.1)
 
 gate_grows : (order longer : List ℕ) → Grows order longer → (g h : GateValue) → GateAt order g h → GateAt longer g h
 gate_grows order longer grows g h at = record { out = grows g.out h.out at.out; inputs = zip_weaker (IsAt order) (IsAt longer) grows g.inputs h.inputs at.inputs; table = at.table }
@@ -83,6 +77,10 @@ count_all : (n : ℕ) (xs : List ℕ) → ((m k : ℕ) → IsAt xs m k → k < n
 count_all n [] below = count_none n
 count_all n (x ∷ xs) below = count_first n x xs (below 0 x refl) ∙ (let more = count_all n xs (λ m k at. below (suc m) k at) in omega (arith, more))
 
+-- a limit that is not met
+pub not_full : (k : ℕ) → k < 2 ^ 20 → nat_le (2 ^ 20) k ≡ false
+not_full k less = grind (arith, nat_tests)
+
 -- different numbers below n are at most n
 pub few : (n : ℕ) (xs : List ℕ) → ((m k : ℕ) → IsAt xs m k → k < n) → ((m : ℕ) → times m xs ≤ 1) → length xs ≤ n
 few n xs below once = omega (arith, count_all n xs below, count_bound n xs once)
@@ -110,10 +108,7 @@ module _ (net : NetList) (sound : IsSound net) (plain : HasPlainNames net) where
       rw (text_at net n label.0 label.1) (sound.inside.names n label.0 label.1 (plain n label.0 label.1).0).1
 
   pub names_apart : (n m : ℕ) → n < nets net → m < nets net → text_of net n ≡ text_of net m → n ≡ m
-  names_apart n m below under same = one n m (sym (finds n below) ∙ (ap (number_of net) same ∙ finds m under))
-    where
-      one : (a b : ℕ) → ◌≡◌ {A = Option ℕ} (Some a) (Some b) → a ≡ b
-      one a b e = cc
+  names_apart n m below under same = some_same n m (sym (finds n below) ∙ (ap (number_of net) same ∙ finds m under))
 
   -- where a net's path stands among those met, if it does
   pub place_is : (k : ℕ) (order : List ℕ) (n : ℕ) → n < nets net → ((m i : ℕ) → IsAt order m i → i < nets net)
@@ -186,6 +181,3 @@ module _ (net : NetList) (sound : IsSound net) (plain : HasPlainNames net) where
             let then = goes order flat (λ m i at. at) (some.0, some.2) met in
             (then.0, then.1, rw place then.2, then.3)
       ]
-    where
-      not_full : (k : ℕ) → k < 2 ^ 20 → nat_le (2 ^ 20) k ≡ false
-      not_full k less = grind (arith, nat_tests)

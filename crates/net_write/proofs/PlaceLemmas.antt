@@ -1,8 +1,7 @@
 -- A walk over what a net asks places what stands on the net.
-use Rattle.std.proofs.Common.{◌≡◌, ◌∙◌, ap, sym, refl, subst, ℕ, zero, suc, ◌+◌, ◌^◌, ◌<◌, ◌≤◌, Bool, true, false, List, [], ◌∷◌, ◌++◌, length, map, Ok, arith, append-nil, append_assoc}
-use Rattle.std.specs.Prelude.{All, flat_map, nat_le}
+use Rattle.std.proofs.Common.{◌≡◌, ◌∙◌, ap, sym, refl, subst, ℕ, ◌+◌, ◌^◌, ◌<◌, ◌≤◌, true, false, List, [], ◌∷◌, ◌++◌, length, map, arith, append-nil, append_assoc}
+use Rattle.std.specs.Prelude.{flat_map, nat_le}
 use Rattle.std.specs.List.{AllByRecursion, AllZip}
-use Rattle.std.proofs.lemmas.Bool.Decides.{nat_tests}
 use Rattle.std.proofs.lemmas.List.{length-append, map-append}
 use Rattle.std.proofs.lemmas.List.Elements.{AllZip-push}
 use Rattle.net_core.specs.GateValue.{GateValue}
@@ -11,14 +10,15 @@ use Rattle.net_core.specs.Inside.{GateIsInside, LatchIsInside}
 use Rattle.net_core.specs.Lists.{Has}
 use Rattle.net_core.specs.NetList.{NetList, nets, text_of}
 use Rattle.net_core.specs.Sound.{IsSound}
-use Rattle.net_flat.specs.Flat.{Flat, gate_on, latch_on, nothing, number, walked}
+use Rattle.net_flat.specs.Flat.{Flat, gate_on, latch_on, nothing, number}
 use Rattle.net_flat.specs.Paths.{Path}
-use Rattle.net_flat.specs.Steps.{Gate, Input, Latch, Mention, Output, Step, along, gate_steps, input_steps, latch_steps, output_steps}
+use Rattle.net_flat.specs.Steps.{Gate, Input, Latch, Mention, Output, Step, along, input_steps, output_steps}
 use Rattle.net_write.specs.Plain.{HasPlainNames}
 use Rattle.net_write.specs.Written.{names_of}
 use Rattle.net_write.proofs.MakeLemmas.{in_top}
-use Rattle.net_write.proofs.MetLemmas.{GateAt, Goal, Grows, IsAt, LatchAt, Met, mention_walk, number_is, path_of}
+use Rattle.net_write.proofs.MetLemmas.{GateAt, Goal, Grows, IsAt, LatchAt, Met, mention_walk, not_full, number_is, path_of}
 use Rattle.net_write.proofs.SaidLemmas.{each_of, gate_walk, latch_walk, net_walk}
+use Rattle.net_write.proofs.ZipLemmas.{zip_length}
 
 -- the steps on the nets of the chosen model
 abbrev pub tops : List (Step (List ℕ)) → List (Step Path)
@@ -98,22 +98,13 @@ module _ (net : NetList) (sound : IsSound net) (plain : HasPlainNames net) where
   each_grows order longer [] grows each = tt
   each_grows order longer (n ∷ ns) grows each = ((each.0.0, grows each.0.0 n each.0.1), each_grows order longer ns grows each.1)
 
-  not_full : (k : ℕ) → k < 2 ^ 20 → nat_le (2 ^ 20) k ≡ false
-  not_full k less = grind (arith, nat_tests)
-
-  zip_long : {A B : Type 0} (R : A → B → Type 0) (xs : List A) (ys : List B) → AllZip R xs ys → length xs ≡ length ys
-  zip_long R [] [] all = refl
-  zip_long R [] (y ∷ ys) all = absurd all
-  zip_long R (x ∷ xs) [] all = absurd all
-  zip_long R (x ∷ xs) (y ∷ ys) all = ap suc (zip_long R xs ys all.1)
-
   -- fewer gates and latches than there may be were placed
   abbrev HasRoom : NetList → Type 0
   HasRoom done = length done.gates + length done.latches < 2 ^ 20
 
   room_left : (order : List ℕ) (flat : Flat) (done : NetList) → Met net order flat done → HasRoom done → nat_le (2 ^ 20) (length flat.gates + length flat.latches) ≡ false
   room_left order flat done met room =
-      not_full (length flat.gates + length flat.latches) (omega (arith, room, zip_long (GateAt order) flat.gates done.gates met.gates, zip_long (LatchAt order) flat.latches done.latches met.latches))
+      not_full (length flat.gates + length flat.latches) (omega (arith, room, zip_length (GateAt order) flat.gates done.gates met.gates, zip_length (LatchAt order) flat.latches done.latches met.latches))
 
   -- one latch
   latch_placed : (latch : LatchValue) → LatchIsInside (nets net) latch → (order : List ℕ) (flat : Flat) (done : NetList) → Met net order flat done → HasRoom done → Has order latch.next → Has order latch.out → (rest : List (Step Path)) (whole : NetList)

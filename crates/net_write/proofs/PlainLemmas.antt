@@ -1,12 +1,13 @@
 -- Nets that are found by their names.
-use Rattle.std.proofs.Common.{◌≡◌, ◌⊎◌, ◌∙◌, inl, inr, ap, sym, refl, subst, ℕ, zero, suc, ◌+◌, ◌<◌, ◌≤◌, ◌&&◌, Bool, true, false, cond, List, [], ◌∷◌, length, Option, None, Some, arith}
-use Rattle.std.specs.Prelude.{◌≢◌, slice_get}
+use Rattle.std.proofs.Common.{◌≡◌, ◌∙◌, inl, inr, ap, sym, refl, subst, ℕ, zero, suc, ◌+◌, ◌<◌, ◌&&◌, Bool, true, false, cond, List, [], ◌∷◌, length, Some, arith}
+use Rattle.std.specs.Prelude.{slice_get}
 use Rattle.std.specs.Str.{bytes_eq}
 use Rattle.graph_core.proofs.GraphLemmas.{nat_eq_or}
 use Rattle.graph_core.proofs.ListLemmas.{get_below}
 use Rattle.net_core.specs.NetList.{LabelValue, NetList, is_named, nets, number_from, number_of, text_of}
 use Rattle.net_core.specs.Sound.{IsSound}
 use Rattle.net_write.specs.Plain.{HasPlainNames, IsPlainName}
+use Rattle.net_write.proofs.ZipLemmas.{some_same}
 
 pub within : {A : Type 0} (xs : List A) (k : ℕ) (x : A) → slice_get xs k ≡ Some x → k < length xs
 within [] k x at = absurd (cc)
@@ -24,9 +25,6 @@ found n (label ∷ labels) name k e = by (is_named name label) refl e (λ e. fou
     here : n ≡ k → is_named name label ≡ true → (i : ℕ) × (other : LabelValue) × (k ≡ n + i) × (slice_get (label ∷ labels) i ≡ Some other) × (is_named name other ≡ true)
     here same is = (0, label, omega (arith, same), refl, is)
 
-    some_same : (a b : ℕ) → ◌≡◌ {A = Option ℕ} (Some a) (Some b) → a ≡ b
-    some_same a b e = cc
-
     by : (b : Bool) → is_named name label ≡ b → cond b (Some n) (number_from (n + 1) labels name) ≡ Some k → (number_from (n + 1) labels name ≡ Some k → (i : ℕ) × (other : LabelValue) × (k ≡ n + 1 + i) × (slice_get labels i ≡ Some other) × (is_named name other ≡ true)) → (i : ℕ) × (other : LabelValue) × (k ≡ n + i) × (slice_get (label ∷ labels) i ≡ Some other) × (is_named name other ≡ true)
     by true is e more = here (some_same n k e) is
     by false is e more = later (more e)
@@ -35,16 +33,13 @@ first_true : (a b : Bool) → (a && b) ≡ true → a ≡ true
 first_true true b e = refl
 first_true false b e = absurd (cc)
 
-same_label : (a b : LabelValue) → ◌≡◌ {A = Option LabelValue} (Some a) (Some b) → a ≡ b
-same_label a b e = cc
-
 -- a net that its name finds is named
 named : (net : NetList) (n : ℕ) (label : LabelValue) → slice_get net.labels n ≡ Some label → number_of net (text_of net n) ≡ Some n → label.named ≡ true
 named net n label at finds =
     let that = found 0 net.labels (text_of net n) n finds in
     let place : n ≡ that.0 = omega (arith, that.2) in
     let other : slice_get net.labels n ≡ Some that.1 = ap (slice_get net.labels) place ∙ that.3 in
-    ap (λ (l : LabelValue). l.named) (same_label label that.1 (sym at ∙ other)) ∙ first_true that.1.named (bytes_eq (text_of net n) that.1.text) that.4
+    ap (λ (l : LabelValue). l.named) (some_same label that.1 (sym at ∙ other)) ∙ first_true that.1.named (bytes_eq (text_of net n) that.1.text) that.4
 
 pub text_at : (net : NetList) (n : ℕ) (label : LabelValue) → slice_get net.labels n ≡ Some label → text_of net n ≡ label.text
 text_at net n label at = rw at refl

@@ -1,15 +1,14 @@
 -- The rows of a cover say the table that they were written from.
-use Rattle.std.proofs.Common.{◌≡◌, ◌∙◌, ap, sym, refl, subst, ℕ, zero, suc, ◌+◌, ◌*◌, ◌/◌, ◌%◌, ◌^◌, ◌<◌, ◌≤◌, ◌==◌, ◌&&◌, ◌||◌, Bool, true, false, cond, List, [], ◌∷◌, ◌++◌, length, map, Option, None, Some, arith, add-one, append-nil, append_assoc}
+use Rattle.std.proofs.Common.{◌≡◌, ◌∙◌, ap, sym, refl, subst, ℕ, zero, suc, ◌+◌, ◌*◌, ◌/◌, ◌%◌, ◌^◌, ◌<◌, ◌≤◌, ◌==◌, ◌&&◌, Bool, true, false, cond, List, [], ◌∷◌, ◌++◌, length, map, Option, None, Some, arith, add-one, append-nil, append_assoc}
 use Rattle.std.specs.Prelude.{◌≢◌, filter}
 use Rattle.std.specs.Int.{bit_at}
-use Rattle.std.specs.List.{list_all, list_any, range_with_len}
+use Rattle.std.specs.List.{list_all, range_with_len}
 use Rattle.std.proofs.lemmas.Bool.Decides.{nat_tests}
 use Rattle.std.proofs.lemmas.List.FromFn.{length-map-range_with_len}
 use Rattle.std.proofs.lemmas.Nat.Bits.{bit_at-lt, bit_at-suc, bit_at_lowest, same_from_bits_below}
 use Rattle.std.proofs.Math.Nat.{pow-succ'}
-use Rattle.net_blif.specs.Cover.{CoverValue, agrees, begun, bit_value, cell_fits, fits, fits_some, gate_bit, gate_of, is_one, number_of_bits, table_of, with_row}
+use Rattle.net_blif.specs.Cover.{CoverValue, begun, bit_value, cell_fits, fits, fits_some, gate_bit, gate_of, number_of_bits, with_row}
 use Rattle.net_blif.specs.Statement.{Token, is_cell}
-use Rattle.net_blif.specs.declared.item.Item.{Item}
 use Rattle.net_blif.specs.declared.item.Item.TheVariants.{Gate}
 use Rattle.net_blif.proofs.TableLemmas.{bits_same, bits_small}
 use Rattle.net_write.specs.Written.{ones, pattern}

@@ -1,5 +1,5 @@
 //! Lines of a text whose fields are names of nets.
-ghost use Rattle.std.specs.Prelude.{◌≡◌, ◌<◌, ◌++◌, ◌∷◌, [], All, OnOk};
+ghost use Rattle.std.specs.Prelude.{◌≡◌, ◌<◌, ◌++◌, ◌∷◌, All, OnOk};
 ghost use Rattle.net_core.specs.NetList.{nets, text_of};
 ghost use Rattle.net_write.specs.Written.{line_text, names_of};
 ghost use Rattle.net_write.specs.private.Fields.{field, fields_of};
