@@ -3,10 +3,8 @@ use Rattle.std.proofs.Common.{◌≡◌, ◌∙◌, inl, inr, ap, sym, refl, sub
 use Rattle.std.specs.Prelude.{slice_get}
 use Rattle.std.specs.Str.{bytes_eq}
 use Rattle.graph_core.proofs.GraphLemmas.{nat_eq_or}
-use Rattle.graph_core.proofs.ListLemmas.{get_below}
-use Rattle.net_core.specs.NetList.{LabelValue, NetList, is_named, nets, number_from, number_of, text_of}
-use Rattle.net_core.specs.Sound.{IsSound}
-use Rattle.net_write.specs.Plain.{HasPlainNames, IsPlainName}
+use Rattle.net_core.specs.NetList.{LabelValue, NetList, is_named, number_from, number_of, text_of}
+use Rattle.net_write.specs.Plain.{IsPlainName}
 use Rattle.net_write.proofs.ZipLemmas.{some_same}
 
 pub within : {A : Type 0} (xs : List A) (k : ℕ) (x : A) → slice_get xs k ≡ Some x → k < length xs
@@ -55,12 +53,3 @@ plain_more net end finds plain so_far n label less at = elim (nat_eq_or end n) [
         let back : slice_get net.labels end ≡ Some label = subst P (sym same) at in
         let Q : List ℕ → Type 0 = IsPlainName in
         (named net end label back finds, subst Q (text_at net end label back) plain)
-
--- a net that a call found to be not plain
-pub not_plain : (net : NetList) (n : ℕ) → IsSound net → n < nets net → ((number_of net (text_of net n) ≡ Some n) × IsPlainName (text_of net n) → ⊥) → HasPlainNames net → ⊥
-not_plain net n sound below bad plain =
-    let label = get_below net.labels n below in
-    let is = plain n label.0 label.1 in
-    let same = text_at net n label.0 label.1 in
-    let Q : List ℕ → Type 0 = λ name. (number_of net name ≡ Some n) × IsPlainName name in
-    bad (subst Q (sym same) ((sound.inside.names n label.0 label.1 is.0).1, is.1))
