@@ -1,0 +1,4 @@
+pub mod Plain
+pub mod Written
+pub mod SameByName
+pub mod private
