@@ -3,7 +3,6 @@ pub mod ItemLemmas
 pub mod LineLemmas
 pub mod TokenLemmas
 pub mod PlaceLemmas
-pub mod WordLemmas
 pub mod StatementLemmas
 pub mod ReadLemmas
 pub mod TableLemmas

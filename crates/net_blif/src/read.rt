@@ -81,7 +81,7 @@ fn read_lines(alloc: Global, text: &[u8]) -> Result<Reader, BlifFault>
     let mut number = 1u32;
     while !rest.is_empty() {
         let (after, count) = next_joined(rest, &mut line)?;
-        reader = reader.read_line(alloc, number, &line)?;
+        reader.read_line(alloc, number, &line)?;
         rest = after;
         number += count;
     }

@@ -1,5 +1,5 @@
 //! What was read of a text, line by line.
-ghost use Rattle.std.specs.Prelude.{◌≡◌, ◌⊎◌, ◌≤◌, ◌∷◌, [], None, Some, Ok, Err, length, IfOk, IfErr, All, IsTrue};
+ghost use Rattle.std.specs.Prelude.{◌≡◌, ◌⊎◌, ◌≤◌, ◌∷◌, [], None, Some, Ok, Err, length, IfOk, IfErr, OnOk, All, IsTrue};
 ghost use Rattle.std.specs.List.{list_all};
 ghost use Rattle.text_core.specs.Lines.{tokens_of, IsPrinting};
 ghost use Rattle.net_blif.specs.Connection.{is_connection};
@@ -17,6 +17,7 @@ use crate::token::Token;
 use net_core::{Name, Start};
 use std::alloc::{AllocError, Global};
 use std::marker::Model;
+use std::mem::replace;
 use text_core::printing_text;
 
 /// The models that have ended, and the one whose lines are being read.
@@ -45,19 +46,27 @@ impl Reader {
         }
     }
 
+    // Ends the model that is being read, if there is one. An error leaves some reader, here and below.
+    fn end(&mut self, alloc: Global) -> Result<(), AllocError>
+        ensures { OnOk result (self.new ≡ record { models = models_of self.old; model = None }) }
+    {
+        if let Some(model) = self.model.take() {
+            let last = model.finish()?;
+            let none = ModelList::new(alloc, self.design.key());
+            let design = replace(&mut self.design, none);
+            self.design = design.with(alloc, last)?;
+        }
+        Ok(())
+    }
+
     /// The models, of which all lines were read.
     pub fn finish(self, alloc: Global) -> Result<ModelList, AllocError>
         ensures { IfOk result (λ design. design ≡ models_of self) }
     {
-        let Reader { design, model } = self;
-        match model {
-            None => Ok(design),
-            Some(model) => {
-                let last = model.finish()?;
-                let design = design.with(alloc, last)?;
-                Ok(design)
-            }
-        }
+        let mut reader = self;
+        reader.end(alloc)?;
+        let Reader { design, .. } = reader;
+        Ok(design)
     }
 
     // Whether the statement may stand here.
@@ -74,190 +83,132 @@ impl Reader {
         }
     }
 
-    // With the model that begins here.
-    fn begin(self, alloc: Global, line: u32, name: &[u8]) -> Result<Reader, BlifFault>
+    // Begins a model.
+    fn begin(&mut self, alloc: Global, line: u32, name: &[u8]) -> Result<(), BlifFault>
         requires { IsPrinting name.now }
-        ensures read { IfOk result (λ reader. next_reading self line (Statement.Model name.now) ≡ Ok reader) }
-        ensures fault { IfErr result (λ e. (e ≡ BlifFault.OutOfMemory) ⊎ (next_reading self line (Statement.Model name.now) ≡ Err e)) }
+        ensures read { OnOk result (next_reading self.old line (Statement.Model name.now) ≡ Ok self.new) }
+        ensures fault { IfErr result (λ e. (e ≡ BlifFault.OutOfMemory) ⊎ (next_reading self.old line (Statement.Model name.now) ≡ Err e)) }
     {
         let name = name_of(alloc, name)?;
-        let design = self.finish(alloc)?;
-        if design.model(name.as_str()).is_some() {
+        self.end(alloc)?;
+        if self.design.model(name.as_str()).is_some() {
             return Err(BlifFault::ModelTwice { line });
         }
-        Ok(Reader {
-            design,
-            model: Some(OpenModel::new(alloc, name)),
-        })
+        self.model = Some(OpenModel::new(alloc, name));
+        Ok(())
     }
 
-    // With primary inputs of the model.
-    fn place_inputs(self, nets: &[Token<'_>]) -> Result<Reader, AllocError>
+    // Places primary inputs of the model.
+    fn place_inputs(&mut self, nets: &[Token<'_>]) -> Result<(), AllocError>
         requires { All IsToken nets.now }
-        ensures { IfOk result (λ reader. reader ≡ in_model (with_items (Item.Inputs nets.now ∷ []) None) self) }
+        ensures { OnOk result (self.new ≡ in_model (with_items (Item.Inputs nets.now ∷ []) None) self.old) }
     {
-        let Reader { design, model } = self;
-        let Some(mut model) = model else {
-            return Ok(Reader {
-                design,
-                model: None,
-            });
-        };
-        model.place_inputs(nets)?;
-        Ok(Reader {
-            design,
-            model: Some(model),
-        })
+        if let Some(model) = &mut self.model {
+            model.place_inputs(nets)?;
+        }
+        Ok(())
     }
 
-    // With outputs of the model.
-    fn place_outputs(self, nets: &[Token<'_>]) -> Result<Reader, AllocError>
+    // Places outputs of the model.
+    fn place_outputs(&mut self, nets: &[Token<'_>]) -> Result<(), AllocError>
         requires { All IsToken nets.now }
-        ensures { IfOk result (λ reader. reader ≡ in_model (with_items (Item.Outputs nets.now ∷ []) None) self) }
+        ensures { OnOk result (self.new ≡ in_model (with_items (Item.Outputs nets.now ∷ []) None) self.old) }
     {
-        let Reader { design, model } = self;
-        let Some(mut model) = model else {
-            return Ok(Reader {
-                design,
-                model: None,
-            });
-        };
-        model.place_outputs(nets)?;
-        Ok(Reader {
-            design,
-            model: Some(model),
-        })
+        if let Some(model) = &mut self.model {
+            model.place_outputs(nets)?;
+        }
+        Ok(())
     }
 
-    // With a latch of the model.
+    // Places a latch of the model.
     fn place_latch(
-        self,
+        &mut self,
         line: u32,
         next: &[u8],
         out: &[u8],
         start: Start,
-    ) -> Result<Reader, AllocError>
+    ) -> Result<(), AllocError>
         requires next { IsToken next.now }
         requires out { IsToken out.now }
-        ensures { IfOk result (λ reader. reader ≡ in_model (with_items (Item.Latch line next.now out.now start ∷ []) None) self) }
+        ensures { OnOk result (self.new ≡ in_model (with_items (Item.Latch line next.now out.now start ∷ []) None) self.old) }
     {
-        let Reader { design, model } = self;
-        let Some(mut model) = model else {
-            return Ok(Reader {
-                design,
-                model: None,
-            });
-        };
-        model.place_latch(line, next, out, start)?;
-        Ok(Reader {
-            design,
-            model: Some(model),
-        })
+        if let Some(model) = &mut self.model {
+            model.place_latch(line, next, out, start)?;
+        }
+        Ok(())
     }
 
-    // With an instance in the model.
+    // Places an instance in the model.
     fn place_instance(
-        self,
+        &mut self,
         line: u32,
         name: &[u8],
         connections: &[Token<'_>],
-    ) -> Result<Reader, AllocError>
+    ) -> Result<(), AllocError>
         requires name { IsToken name.now }
         requires tokens { All IsToken connections.now }
         requires connections { IsTrue (list_all is_connection connections.now) }
-        ensures { IfOk result (λ reader. reader ≡ in_model (with_items (Item.Instance line name.now connections.now ∷ []) None) self) }
+        ensures { OnOk result (self.new ≡ in_model (with_items (Item.Instance line name.now connections.now ∷ []) None) self.old) }
     {
-        let Reader { design, model } = self;
-        let Some(mut model) = model else {
-            return Ok(Reader {
-                design,
-                model: None,
-            });
-        };
-        model.place_instance(line, name, connections)?;
-        Ok(Reader {
-            design,
-            model: Some(model),
-        })
+        if let Some(model) = &mut self.model {
+            model.place_instance(line, name, connections)?;
+        }
+        Ok(())
     }
 
-    // With no open cover.
-    fn close(self) -> Result<Reader, AllocError>
-        ensures { IfOk result (λ reader. reader ≡ in_model (with_items [] None) self) }
+    // Ends the cover just begun.
+    fn close(&mut self) -> Result<(), AllocError>
+        ensures { OnOk result (self.new ≡ in_model (with_items [] None) self.old) }
     {
-        let Reader { design, model } = self;
-        let Some(mut model) = model else {
-            return Ok(Reader {
-                design,
-                model: None,
-            });
-        };
-        model.close()?;
-        Ok(Reader {
-            design,
-            model: Some(model),
-        })
+        if let Some(model) = &mut self.model {
+            model.close()?;
+        }
+        Ok(())
     }
 
-    // With one more row.
-    fn add_row(self, pattern: &[u8], output: bool) -> Result<Reader, AllocError>
-        ensures { IfOk result (λ reader. reader ≡ in_model (with_cover_row pattern.now output) self) }
+    // Adds a row.
+    fn add_row(&mut self, pattern: &[u8], output: bool) -> Result<(), AllocError>
+        ensures { OnOk result (self.new ≡ in_model (with_cover_row pattern.now output) self.old) }
     {
-        let Reader { design, model } = self;
-        let Some(mut model) = model else {
-            return Ok(Reader {
-                design,
-                model: None,
-            });
-        };
-        model.add_row(pattern, output)?;
-        Ok(Reader {
-            design,
-            model: Some(model),
-        })
+        if let Some(model) = &mut self.model {
+            model.add_row(pattern, output)?;
+        }
+        Ok(())
     }
 
-    // With a cover of these nets that begins.
-    fn begin_cover(self, line: u32, inputs: &[Token<'_>], out: &[u8]) -> Result<Reader, AllocError>
+    // Begins a cover of these nets.
+    fn begin_cover(&mut self, line: u32, inputs: &[Token<'_>], out: &[u8]) -> Result<(), AllocError>
         requires few { length inputs.now ≤ 6 }
         requires inputs { All IsToken inputs.now }
         requires out { IsToken out.now }
-        ensures { IfOk result (λ reader. reader ≡ in_model (with_items [] (Some (begun line inputs.now out.now))) self) }
+        ensures { OnOk result (self.new ≡ in_model (with_items [] (Some (begun line inputs.now out.now))) self.old) }
     {
-        let Reader { design, model } = self;
-        let Some(mut model) = model else {
-            return Ok(Reader {
-                design,
-                model: None,
-            });
-        };
-        model.begin_cover(line, inputs, out)?;
-        Ok(Reader {
-            design,
-            model: Some(model),
-        })
+        if let Some(model) = &mut self.model {
+            model.begin_cover(line, inputs, out)?;
+        }
+        Ok(())
     }
 
-    // With a cover of these nets that begins, if they are few.
-    fn cover(self, line: u32, inputs: &[Token<'_>], out: &[u8]) -> Result<Reader, BlifFault>
+    // Begins a cover of these nets, if they are few.
+    fn cover(&mut self, line: u32, inputs: &[Token<'_>], out: &[u8]) -> Result<(), BlifFault>
         requires inputs { All IsToken inputs.now }
         requires out { IsToken out.now }
-        ensures read { IfOk result (λ reader. next_reading self line (Statement.Cover inputs.now out.now) ≡ Ok reader) }
-        ensures fault { IfErr result (λ e. (e ≡ BlifFault.OutOfMemory) ⊎ (next_reading self line (Statement.Cover inputs.now out.now) ≡ Err e)) }
+        ensures read { OnOk result (next_reading self.old line (Statement.Cover inputs.now out.now) ≡ Ok self.new) }
+        ensures fault { IfErr result (λ e. (e ≡ BlifFault.OutOfMemory) ⊎ (next_reading self.old line (Statement.Cover inputs.now out.now) ≡ Err e)) }
     {
         let count = inputs.len();
         if count > 6 {
             return Err(too_wide(line, count));
         }
-        let reader = self.begin_cover(line, inputs, out)?;
-        Ok(reader)
+        self.begin_cover(line, inputs, out)?;
+        Ok(())
     }
 
-    // With what one more statement says.
-    fn next(self, alloc: Global, line: u32, statement: Statement<'_>) -> Result<Reader, BlifFault>
-        requires { HasPrintingNames statement }
-        ensures read { IfOk result (λ reader. next_reading self line statement.entry ≡ Ok reader) }
-        ensures fault { IfErr result (λ e. (e ≡ BlifFault.OutOfMemory) ⊎ (next_reading self line statement.entry ≡ Err e)) }
+    // Adds what one more statement says.
+    fn next(&mut self, alloc: Global, line: u32, statement: &Statement<'_>) -> Result<(), BlifFault>
+        requires { HasPrintingNames statement.now }
+        ensures read { OnOk result (next_reading self.old line statement.now ≡ Ok self.new) }
+        ensures fault { IfErr result (λ e. (e ≡ BlifFault.OutOfMemory) ⊎ (next_reading self.old line statement.now ≡ Err e)) }
     {
         match statement {
             Statement::Model(name) => self.begin(alloc, line, name.bytes()),
@@ -272,14 +223,8 @@ impl Reader {
             Statement::Instance { model, connections } => {
                 Ok(self.place_instance(line, model.bytes(), connections.as_slice())?)
             }
-            Statement::Row { pattern, output } => Ok(self.add_row(pattern.bytes(), output)?),
-            Statement::End => {
-                let design = self.finish(alloc)?;
-                Ok(Reader {
-                    design,
-                    model: None,
-                })
-            }
+            Statement::Row { pattern, output } => Ok(self.add_row(pattern.bytes(), *output)?),
+            Statement::End => Ok(self.end(alloc)?),
             Statement::Other { word, .. } => {
                 let word = name_of(alloc, word.bytes())?;
                 Err(BlifFault::LeftOut { line, word })
@@ -287,16 +232,16 @@ impl Reader {
         }
     }
 
-    /// With what one more line says.
-    pub fn read_line(self, alloc: Global, line: u32, bytes: &[u8]) -> Result<Reader, BlifFault>
-        ensures read { IfOk result (λ reader. ReadsLine self line (tokens_of bytes.now) (Ok reader)) }
-        ensures fault { IfErr result (λ e. (e ≡ BlifFault.OutOfMemory) ⊎ ReadsLine self line (tokens_of bytes.now) (Err e)) }
+    /// Adds what one more line says. After an error the reader is not used again.
+    pub fn read_line(&mut self, alloc: Global, line: u32, bytes: &[u8]) -> Result<(), BlifFault>
+        ensures read { OnOk result (ReadsLine self.old line (tokens_of bytes.now) (Ok self.new)) }
+        ensures fault { IfErr result (λ e. (e ≡ BlifFault.OutOfMemory) ⊎ ReadsLine self.old line (tokens_of bytes.now) (Err e)) }
     {
         let Some(words) = words(alloc, bytes)? else {
             return Err(BlifFault::Syntax { line });
         };
         if words.is_empty() {
-            return Ok(self);
+            return Ok(());
         }
         let Some(statement) = read_statement(&words) else {
             return Err(BlifFault::Syntax { line });
@@ -304,8 +249,8 @@ impl Reader {
         if !self.may_stand(&statement) {
             return Err(BlifFault::Syntax { line });
         }
-        let reader = self.next(alloc, line, statement)?;
-        Ok(reader)
+        self.next(alloc, line, &statement)?;
+        Ok(())
     }
 }
 

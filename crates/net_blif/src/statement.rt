@@ -11,7 +11,7 @@ use crate::connection::is_connection;
 use crate::token::{Token, Tokens};
 use net_core::Start;
 use std::alloc::{AllocError, Global};
-use text_core::{is_printing, tokens};
+use text_core::is_printing;
 
 /// A statement. `Cover` is `.names`, `Row` a row of its cover, and `Other` begins with a word that is not read.
 /// The `rest` of a latch is its kind, control and start, as far as they are there; each connection of an instance
@@ -53,18 +53,31 @@ fn is_token(token: &[u8]) -> bool
     !token.is_empty() && token.len() <= 255 && is_printing(token)
 }
 
+// What stands between the spaces and tabs of a line.
+fn all_words<'a>(alloc: Global, line: &'a [u8]) -> Result<Vec<Token<'a>>, AllocError>
+    ensures { IfOk result (λ words. words.items ≡ tokens_of line.now) }
+{
+    line.split(|&b| b == b' ' || b == b'\t')
+        .filter(|token| !token.is_empty())
+        .map(|token| Token::new(token))
+        .collect(alloc)
+}
+
+// Whether each has 1 to 255 bytes that print.
+fn are_tokens(words: &[Token<'_>]) -> bool
+    ensures { IsTrue result ↔ All IsToken words.now }
+{
+    words.iter().all(|word| is_token(word.bytes()))
+}
+
 /// The tokens of a line, if each has 1 to 255 bytes and all of them print.
 pub fn words<'a>(alloc: Global, line: &'a [u8]) -> Result<Option<Vec<Token<'a>>>, AllocError>
     ensures found { IfOk result (λ found. IfSome found (λ words. (words.items ≡ tokens_of line.now) × All IsToken words.items)) }
     ensures none { IfOk result (λ found. IfNone found (All IsToken (tokens_of line.now) → ⊥)) }
 {
-    let tokens = tokens(alloc, line)?;
-    let mut words = Vec::new(alloc);
-    for token in &tokens {
-        if !is_token(*token) {
-            return Ok(None);
-        }
-        words.push(Token::new(*token))?;
+    let words = all_words(alloc, line)?;
+    if !are_tokens(&words) {
+        return Ok(None);
     }
     Ok(Some(words))
 }

@@ -12,7 +12,7 @@ use Rattle.net_blif.proofs.reader.Reader.read_line.Goals as goal
 pub returns-in_default-clause-fault : goal.returns-in_default-clause-fault
 returns-in_default-clause-fault c =
     let bad : All IsToken (tokens_of c.args.bytes.now) → ⊥ = search rules in
-    inr (bad_token c.args.self c.args.line (tokens_of c.args.bytes.now) bad)
+    inr (bad_token c.args.self.now c.args.line (tokens_of c.args.bytes.now) bad)
 
 pub next-requires : goal.next-requires
 next-requires c =
@@ -25,29 +25,29 @@ returns-in_default-read_statement-clause-fault c =
     let words : (c.in-Some.words.items ≡ tokens_of c.args.bytes.now) × All IsToken c.in-Some.words.items = search rules in
     let some : length c.in-Some.words.items ≡ 0 → ⊥ = search rules in
     let none : statement_of c.in-Some.words.items ≡ None = search rules in
-    let P : List Token → Type 0 = λ tokens. ReadsLine c.args.self c.args.line tokens (Err (Syntax c.args.line)) in
-    inr (subst P words.0 (no_statement c.args.self c.args.line c.in-Some.words.items words.1 some none))
+    let P : List Token → Type 0 = λ tokens. ReadsLine c.args.self.now c.args.line tokens (Err (Syntax c.args.line)) in
+    inr (subst P words.0 (no_statement c.args.self.now c.args.line c.in-Some.words.items words.1 some none))
 
 pub returns-then-not-may_stand-clause-fault : goal.returns-then-not-may_stand-clause-fault
 returns-then-not-may_stand-clause-fault c =
     let words : (c.in-Some.words.items ≡ tokens_of c.args.bytes.now) × All IsToken c.in-Some.words.items = search rules in
     let said : statement_of c.in-Some.words.items ≡ Some c.in-Some-read_statement.statement = search rules in
-    let stands : may_stand c.args.self c.in-Some-read_statement.statement ≡ false = search rules in
-    let P : List Token → Type 0 = λ tokens. ReadsLine c.args.self c.args.line tokens (Err (Syntax c.args.line)) in
-    inr (subst P words.0 (misplaced c.args.self c.args.line c.in-Some.words.items c.in-Some-read_statement.statement words.1 said stands))
+    let stands : may_stand c.args.self.now c.in-Some-read_statement.statement ≡ false = search rules in
+    let P : List Token → Type 0 = λ tokens. ReadsLine c.args.self.now c.args.line tokens (Err (Syntax c.args.line)) in
+    inr (subst P words.0 (misplaced c.args.self.now c.args.line c.in-Some.words.items c.in-Some-read_statement.statement words.1 said stands))
 
-pub returns-in_err-reader-clause-fault : goal.returns-in_err-reader-clause-fault
-returns-in_err-reader-clause-fault c =
+pub returns-in_err-next-clause-fault : goal.returns-in_err-next-clause-fault
+returns-in_err-next-clause-fault c =
     let words : (c.in-Some.words.items ≡ tokens_of c.args.bytes.now) × All IsToken c.in-Some.words.items = search rules in
     let said : statement_of c.in-Some.words.items ≡ Some c.in-Some-read_statement.statement = search rules in
-    let stands : may_stand c.args.self c.in-Some-read_statement.statement ≡ true = search rules in
-    let fault : (c.in_err-reader.field-0.0 ≡ OutOfMemory) ⊎ ReadsLine c.args.self c.args.line (tokens_of c.args.bytes.now) (Err c.in_err-reader.field-0.0) = refused_or c.args.self c.args.line c.in-Some.words.items (tokens_of c.args.bytes.now) c.in-Some-read_statement.statement c.in_err-reader.field-0.0 OutOfMemory words.0 words.1 said stands c.in_err-reader.ensures.fault in
+    let stands : may_stand c.args.self.now c.in-Some-read_statement.statement ≡ true = search rules in
+    let fault : (c.in_err-next.field-0.0 ≡ OutOfMemory) ⊎ ReadsLine c.args.self.now c.args.line (tokens_of c.args.bytes.now) (Err c.in_err-next.field-0.0) = refused_or c.args.self.now c.args.line c.in-Some.words.items (tokens_of c.args.bytes.now) c.in-Some-read_statement.statement c.in_err-next.field-0.0 OutOfMemory words.0 words.1 said stands c.in_err-next.ensures.fault in
     search rules
 
 pub returns-clause-read : goal.returns-clause-read
 returns-clause-read c =
     let words : (c.in-Some.words.items ≡ tokens_of c.args.bytes.now) × All IsToken c.in-Some.words.items = search rules in
     let said : statement_of c.in-Some.words.items ≡ Some c.in-Some-read_statement.statement = search rules in
-    let stands : may_stand c.args.self c.in-Some-read_statement.statement ≡ true = search rules in
-    let P : List Token → Type 0 = λ tokens. ReadsLine c.args.self c.args.line tokens (Ok c.in_ok-reader.reader) in
-    subst P words.0 (added c.args.self c.args.line c.in-Some.words.items c.in-Some-read_statement.statement c.in_ok-reader.reader words.1 said stands c.in_ok-reader.ensures.read)
+    let stands : may_stand c.args.self.now c.in-Some-read_statement.statement ≡ true = search rules in
+    let P : List Token → Type 0 = λ tokens. ReadsLine c.args.self.now c.args.line tokens (Ok c.next.new.self) in
+    subst P words.0 (added c.args.self.now c.args.line c.in-Some.words.items c.in-Some-read_statement.statement c.next.new.self words.1 said stands c.in_ok-next.ensures.read)
