@@ -112,7 +112,7 @@ fn faults(rt: HostRuntime) -> Result<(), Fail> {
         ),
         (
             "module m; output z; assign z = z; endmodule",
-            "Net(Loop { nets: [0], label: Name { text: \"z\" } })",
+            "Net(Loop { nets: Numbers { list: [0] }, label: Name { text: \"z\" } })",
         ),
     ] {
         let found = outcome(alloc, text.as_bytes())?;
