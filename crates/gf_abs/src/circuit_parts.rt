@@ -68,15 +68,19 @@ fn output_nets(alloc: Global, bound: &Bound) -> Result<Vec<u32>, AllocError>
 }
 
 // Adds word w with its nets and a basis, unless it is the output word.
-fn add_word(
+fn add_word<F: Field>(
+    _field: &F,
     bound: &Bound,
     w: u32,
     nets: Vec<u32>,
     basis: Basis,
     words: &mut Vec<CircuitWord>,
 ) -> Result<(), AllocError>
-    requires { w < length bound.now.words }
-    ensures { OnOk result ((word : _) → slice_get bound.now.words w ≡ Some word → map word_of words.new.items ≡ map word_of words.old.items ++ word_with word.role nets.items (elements_of basis)) }
+    requires word { w < length bound.now.words }
+    requires basis { IsOver (F.degree _field.now) (F.product _field.now) basis }
+    requires over { AreOver (F.degree _field.now) (F.product _field.now) words.old.items }
+    ensures over { OnOk result (AreOver (F.degree _field.now) (F.product _field.now) words.new.items) }
+    ensures words { OnOk result ((word : _) → slice_get bound.now.words w ≡ Some word → map word_of words.new.items ≡ map word_of words.old.items ++ word_with word.role nets.items (elements_of basis)) }
 {
     match bound.role(w) {
         Role::Input | Role::State | Role::Fed => {
@@ -99,12 +103,13 @@ pub(crate) fn circuit_words<F: Field>(
     requires over { AreBasesOver (F.degree field.now) (F.product field.now) bases.now }
     requires long { length bases.now ≡ length bound.now.words }
     ensures words { IfOk result (λ words. map word_of words.items ≡ words_of bound.now.words (elements_of_each bases.now)) }
+    ensures over { IfOk result (λ words. AreOver (F.degree field.now) (F.product field.now) words.items) }
 {
     let mut words = Vec::new(alloc);
     for w in 0..bound.words() {
         let nets = word_nets(alloc, bound, w)?;
         let basis = copied(alloc, field, &bases[w as usize])?;
-        add_word(bound, w, nets, basis, &mut words)?;
+        add_word(field, bound, w, nets, basis, &mut words)?;
     }
     Ok(words)
 }

@@ -10,6 +10,7 @@ mod headline;
 mod line;
 mod output;
 mod second_stages;
+mod setting_labels;
 mod stages;
 mod top;
 mod values;

@@ -20,12 +20,11 @@ use crate::cuts::last_cut;
 use crate::differing::add_difference;
 use crate::line::polynomial_line;
 use crate::output::Output;
+use crate::setting_labels::labels;
 use crate::stages::stage_stop;
 use crate::words::in_words;
 use gf_field::Field;
-use job_input::{
-    BoundNetlist, Setting, labels_for, read_netlist, read_specification, unroll_netlist,
-};
+use job_input::{BoundNetlist, Setting, read_netlist, read_specification, unroll_netlist};
 use job_io::Shelf;
 use job_words::{PairWords, Stop};
 use net_words::Combinational;
@@ -104,15 +103,6 @@ fn unrolled<F: Field>(
         Ok(circuit) => reply(alloc, field, setting, labels, &circuit, spec, words.terms),
         Err(stop) => Err(stop),
     }
-}
-
-// The labels of a setting.
-fn labels<F: Field>(alloc: Global, field: &F, setting: &Setting) -> Result<Labels, AllocError>
-    requires { IsReady (F.degree field.now) (F.product field.now) setting.now }
-    ensures { IfOk result (λ labels. labels ≡ labels_of (F.degree field.now) setting.now.signature.words) }
-{
-    let labels = labels_for(alloc, setting.signature.words(), field.k())?;
-    Ok(labels)
 }
 
 // The reply over a circuit and a specification, or the first stage of more than `bound` terms.

@@ -13,10 +13,11 @@ ghost use Rattle.gf_abs.specs.commands.Eval.{EvalReply, EvalAt, EvalOver, EvalAn
 use crate::circuit_parts::{circuit_output, circuit_words};
 use crate::differing::add_word;
 use crate::output::Output;
+use crate::setting_labels::labels;
 use crate::values::read_values;
 use circuit_model::output;
 use gf_field::Field;
-use job_input::{BoundNetlist, Setting, labels_for, read_netlist, unroll_netlist};
+use job_input::{BoundNetlist, Setting, read_netlist, unroll_netlist};
 use job_io::Shelf;
 use job_words::{EvalWords, Stop};
 use net_words::Combinational;
@@ -55,7 +56,7 @@ fn over<F: Field>(
     requires taken { IsTakenFor (F.degree field.now) setting.now netlist }
     ensures { GivesBy reply_of result (EvalOver (setting_value (F.degree field.now) (F.product field.now) setting.now) words.now.net.now netlist (map string_bytes words.now.values.now) words.now.cycles) ⊥ ⊥ }
 {
-    let labels = labels_for(alloc, setting.signature.words(), field.k())?;
+    let labels = labels(alloc, field, setting)?;
     match read_values(alloc, field, labels.words(), words.values) {
         Ok(xs) => at(alloc, field, setting, &labels, words, netlist, &xs),
         Err(stop) => Err(stop),
