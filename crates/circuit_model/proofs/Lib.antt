@@ -1,6 +1,9 @@
 pub mod AgreeLemmas
 pub mod BitLemmas
 pub mod BoundLemmas
+pub mod FeedLemmas
+pub mod JobLemmas
+pub mod JobBoundLemmas
 pub mod TakenLemmas
 pub mod ChoiceLemmas
 pub mod GivenLemmas

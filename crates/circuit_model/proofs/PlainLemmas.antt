@@ -19,9 +19,9 @@ use Rattle.gf_basis.specs.Basis.{AreBits, HasOnlyBits}
 use Rattle.gf_basis.specs.BasisParts.{elements_of}
 use Rattle.circuit_model.specs.declared.circuit_word.CircuitWord.{CircuitWord}
 use Rattle.circuit_model.specs.Word.{Word, HasElement, word_nets}
-use Rattle.circuit_model.specs.Circuit.{Circuit}
+use Rattle.circuit_model.specs.Circuit.{Circuit, IsFed}
 use Rattle.circuit_model.specs.WellFormed.{IsWellFormed, IsWord}
-use Rattle.circuit_model.specs.Run.{HaveElements, IsInputWord, IsAnyWord, IsCycle, IsFirst, HasZeros}
+use Rattle.circuit_model.specs.Run.{HaveElements, IsInputWord, IsStateWord, IsCycle, IsFirst, HasZeros}
 use Rattle.circuit_model.specs.Out.{IsOut}
 use Rattle.circuit_model.specs.Flat.{word_of, circuit_of_parts}
 use Rattle.circuit_model.specs.private.Found.{HaveAll, HaveZeros, HaveBits}
@@ -81,7 +81,9 @@ module _ (k : ℕ) (product : ℕ → ℕ → ℕ) (net : NetList) (words : List
   no_latch flat l has = let got : slice_get net.latches has.0 ≡ Some l = has.1 in let got' = rw flat at got in absurd (cc)
 
   zeros : length values ≡ length net.inputs → HasValues net values bits → HaveZeros words net.inputs values → HasZeros circuit bits
-  zeros long has empty n input none =
+  zeros long has empty n free =
+      let input = free.input in
+      let none = free.unnamed in
       let v = get_below values input.0 (omega (arith, slice_get_within net.inputs input.0 n input.1)) in
       ap (λ o. unwrap_or o false) (has input.0 n v.0 input.1 v.1) ∙ empty input.0 n v.0 input.1 v.1 none
 
@@ -99,6 +101,9 @@ module _ (k : ℕ) (product : ℕ → ℕ → ℕ) (net : NetList) (words : List
       none : (t : ℕ) → slice_get (bits ∷ []) (suc t) ≡ Some b → ⊥
       none t got = cc
 
+  no_feed : (n : ℕ) → IsFed circuit n → ⊥
+  no_feed n has = let got = has.1 in absurd (cc)
+
   pub plain_out : net.latches ≡ [] → length xs ≡ length words → ((x : ℕ) → Has xs x → x < 2 ^ k) → length values ≡ length net.inputs → IsConsistent net bits → HasValues net values bits → HaveZeros words net.inputs values → HaveAll words xs bits → (e : ℕ) → HasElement bits (word_of output) e → IsOut circuit xs e
   plain_out flat many elements long consistent has empty have e ends = record {
     run = bits ∷ [];
@@ -106,8 +111,8 @@ module _ (k : ℕ) (product : ℕ → ℕ → ℕ) (net : NetList) (words : List
       open_run = record {
         input = record { long = many ∙ sym (length-map words word_of); elements = elements };
         long = refl;
-        each = one_at (IsCycle circuit xs) (record { consistent = consistent; inputs = all_words (IsInputWord) have });
-        first = λ b got. one_at (IsFirst circuit xs) (record { words = all_words IsAnyWord have; latches = λ l in_net. absurd (no_latch flat l in_net) }) 0 b got;
+        each = λ t b got. one_at (IsCycle circuit xs t) (record { consistent = consistent; inputs = all_words (IsInputWord) have; feeds = λ n fed. absurd (no_feed n fed) }) t b got;
+        first = λ b got. one_at (IsFirst circuit xs) (record { states = all_words IsStateWord have; latches = λ l in_net. absurd (no_latch flat l in_net) }) 0 b got;
         next = λ t u b at_u at_b. absurd (no_next t b at_b);
       };
       zeros = one_at (HasZeros circuit) (zeros long has empty);

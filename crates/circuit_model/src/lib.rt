@@ -3,15 +3,18 @@
 //! laws of the definitions.
 #![tactic(auto)]
 
+mod circuit_feed;
 mod circuit_word;
 mod laws;
 mod net_bits;
 mod plain;
 
+pub use circuit_feed::{CircuitFeed, FeedSource};
 pub use circuit_word::CircuitWord;
 pub use laws::{
-    bound_circuits_are_well_formed, one_differing_input, one_first_input, one_output, one_run,
-    output_of_open_runs, taken_circuits_are_well_formed,
+    bound_circuits_are_jobs, bound_circuits_are_well_formed, one_differing_input, one_first_input,
+    one_output, one_run, output_of_open_runs, taken_circuits_are_jobs,
+    taken_circuits_are_well_formed, well_formed_circuits_are_jobs,
 };
 pub use net_bits::number_of_bits;
 pub use plain::output;

@@ -4,6 +4,7 @@ use Rattle.std.specs.Prelude.{bit_xor, slice_index}
 use Rattle.std.specs.Int.{bit_at}
 use Rattle.std.specs.Int.Bits.{xor_self, xor_lt}
 use Rattle.std.proofs.lemmas.List.{ext_get_or, get_or-take, length-take-le}
+use Rattle.std.proofs.lemmas.Nat.{pow_below}
 use Rattle.std.proofs.lemmas.Nat.Bits.{bit_at-pow_same, bit_at-pow_other}
 use native.Mathlib.Nat.{mod-eq_of_lt}
 use Rattle.gf_field.specs.XorLaws.{xor_same}
@@ -15,7 +16,8 @@ use Rattle.gf_field.specs.Trace.{trace, frobenius}
 use Rattle.gf_field.specs.TraceLaws.{frobenius-mul, trace_is_sum}
 use Rattle.gf_field.specs.PigeonholeLaws.{FoundAt}
 use Rattle.irreducible.specs.Span.{combination, IsIndependent}
-use Rattle.irreducible.specs.SpanLaws.{combination_zero}
+use Rattle.irreducible.specs.Matrix.{AreInverse}
+use Rattle.irreducible.specs.SpanLaws.{combination_zero, combination_below}
 use Rattle.irreducible.specs.AdditiveLaws.{IsAdditive-self, additive-combination}
 use Rattle.irreducible.proofs.InverseMatrixLaws.{sums_reach, sums_apart}
 use Rattle.gf_basis.specs.Basis.{AreBits, HasOnlyBits, IsBasis, AreIndependentLists}
@@ -49,6 +51,13 @@ AreIndependentLists-all k list = (
   λ basis. record { size = basis.size; inside = basis.inside; free = IsIndependent-from_basis k list basis },
   λ l. IsBasis-from_independent k list l.size l.inside l.free,
 )
+
+-- a row of the inverse matrix has the bits of a power of 2
+pub AreBits-inverse : (bs rows : List ℕ) (i r : ℕ) → AreInverse bs rows → i < length bs → r ≡ combination rows (2 ^ i) → AreBits bs (2 ^ i) r
+AreBits-inverse bs rows i r inverse h is = record {
+  short = rw (is, sym inverse.size) (combination_below rows (length rows) (2 ^ i) inverse.square);
+  is = ap (combination bs) is ∙ inverse.after (2 ^ i) (pow_below i (length bs) h);
+}
 
 -- ---- dual bases
 module _ (k : ℕ) (mul : ℕ → ℕ → ℕ) (ring : IsRing k mul) (field : HasNoZeroDivisors k mul) where
@@ -87,6 +96,9 @@ module _ (k : ℕ) (mul : ℕ → ℕ → ℕ) (ring : IsRing k mul) (field : Ha
         unit j l =
             let below : j < k = omega arith in
             trace_word_unit k mul ring field ds (get_or bs j 0) j (rw (dual.size) below) (dual.same j below) (λ i m ne. dual.other i j (let s : length ds ≡ k = dual.size in omega arith) below ne)
+
+    pub trace_word-row : (j r : ℕ) → AreBits bs (2 ^ j) r → r ≡ trace_word mul k ds (2 ^ j)
+    trace_word-row j r a = sym (trace_word-bits r a.short) ∙ ap (trace_word mul k ds) a.is
 
     pub AreBits-traces : IsBasis k bs → (x : ℕ) → x < 2 ^ k → AreBits bs x (trace_word mul k ds x)
     AreBits-traces basis x h = at (basis.sums x h)

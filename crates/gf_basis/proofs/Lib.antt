@@ -1,3 +1,4 @@
+pub mod ParityLaws
 pub mod TraceWordLaws
 pub mod BasisLaws
 pub mod CodeLaws

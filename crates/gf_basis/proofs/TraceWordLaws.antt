@@ -1,6 +1,5 @@
 -- Traces as words, and that the matrix of traces is independent exactly where the elements are.
-use Rattle.std.proofs.Common.{◌≡◌, ◌≢◌, ℕ, zero, suc, refl, sym, ◌∙◌, ap, ap₂, ◌<◌, ◌≤◌, ◌^◌, ◌+◌, ◌*◌, ◌/◌, ◌%◌, inl, inr, arith, pow-suc, subst, List, [], ◌∷◌, length, get_or, take}
-use Rattle.std.proofs.lemmas.List.{get_or-take, length-take-le}
+use Rattle.std.proofs.Common.{◌≡◌, ◌≢◌, ℕ, zero, suc, refl, sym, ◌∙◌, ap, ap₂, ◌<◌, ◌≤◌, ◌^◌, ◌+◌, ◌*◌, ◌/◌, ◌%◌, inl, inr, arith, pow-suc, subst, List, [], ◌∷◌, length, get_or}
 use Rattle.std.specs.Prelude.{bit_xor}
 use Rattle.std.specs.Int.{bit_at}
 use Rattle.std.specs.Int.Bits.{xor_self, xor_block}
@@ -21,7 +20,7 @@ use Rattle.irreducible.specs.Matrix.{IsSquare, AreInverse}
 use Rattle.irreducible.specs.SpanLaws.{combination_unit, combination_below}
 use Rattle.irreducible.specs.AdditiveLaws.{IsAdditive, IsAdditive-combination, additive_zero, additive-combination, combination-additive}
 use Rattle.irreducible.proofs.InverseMatrixLaws.{sums_reach}
-use Rattle.gf_basis.specs.TraceWord.{trace_word, AreCoordinates, AreUnitTraces, IsTraceMatrix}
+use Rattle.gf_basis.specs.TraceWord.{trace_word, AreCoordinates, IsTraceMatrix}
 
 IsAdditive-zero : IsAdditive (λ x. 0)
 IsAdditive-zero = record { sum = λ a b. sym (xor_self 0) }
@@ -128,17 +127,8 @@ module _ (k : ℕ) (mul : ℕ → ℕ → ℕ) (ring : IsRing k mul) (field : Ha
           short : combination inverse (2 ^ i) < 2 ^ length bs
           short = subst (λ (n : ℕ). combination inverse (2 ^ i) < 2 ^ n) same_size (combination_below inverse (length inverse) (2 ^ i) v.square)
 
--- ---- traces and coordinates from those of the powers of 2
+-- ---- coordinates from those of the powers of 2
 module _ (k : ℕ) (mul : ℕ → ℕ → ℕ) (ring : IsRing k mul) (field : HasNoZeroDivisors k mul) where
-  pub trace_from_units : (units : List ℕ) (y : ℕ) → k ≤ length units → AreUnitTraces mul k units → y < 2 ^ k → combination (take k units) y ≡ trace mul k y
-  trace_from_units units y room are h =
-      combination-additive (take k units) (trace mul k) (record { sum = trace-xor k mul ring k })
-      (λ i l. get_or-take k units i 0 (omega (arith, count)) ∙ are i (omega (arith, count))) y
-      ∙ ap (λ n. trace mul k (y % 2 ^ n)) count ∙ ap (trace mul k) (mod-eq_of_lt h)
-    where
-      count : length (take k units) ≡ k
-      count = length-take-le k units room
-
   pub bits_from_coordinates : (duals rows : List ℕ) (x : ℕ) → length rows ≡ k → AreCoordinates mul k duals rows → x < 2 ^ k → combination rows x ≡ trace_word mul k duals x
   bits_from_coordinates duals rows x size are h =
       combination-additive rows (trace_word mul k duals) (IsAdditive-trace_word k mul ring field duals) (λ i l. are i (omega (arith, size))) x

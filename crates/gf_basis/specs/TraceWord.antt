@@ -1,6 +1,6 @@
 -- Traces as bits of words, and the matrix of the traces of products of basis elements.
 -- Source: Lidl and Niederreiter, Finite Fields, chapter 2 (dual bases and traces).
-use Rattle.std.specs.Prelude.{◌≡◌, ℕ, ◌+◌, ◌*◌, ◌<◌, ◌^◌, List, [], ◌∷◌, length, slice_index}
+use Rattle.std.specs.Prelude.{◌≡◌, ℕ, ◌+◌, ◌*◌, ◌%◌, ◌<◌, ◌^◌, List, [], ◌∷◌, length, slice_index, bit_and, count_ones}
 use Rattle.gf_field.specs.Trace.{trace}
 
 -- bit i is the trace of element i times x
@@ -13,9 +13,22 @@ pub record IsTraceMatrix (mul : ℕ → ℕ → ℕ) (k : ℕ) (elements rows : 
   pub size : length rows ≡ length elements
   pub at : (i : ℕ) → i < length elements → slice_index rows i ≡ trace_word mul k elements (slice_index elements i)
 
--- entry j is the trace of 2 to the j, for j below k
-abbrev pub AreUnitTraces : (ℕ → ℕ → ℕ) → ℕ → List ℕ → Type 0
-AreUnitTraces mul k units = (j : ℕ) → j < k → slice_index units j ≡ trace mul k (2 ^ j)
+-- the parity of the number of bits that are set in both
+abbrev pub parity : ℕ → ℕ → ℕ
+parity mask x = count_ones (bit_and mask x) % 2
+
+-- bit i is the parity of row i with the mask
+abbrev pub parity_word : List ℕ → ℕ → ℕ
+parity_word [] mask = 0
+parity_word (r ∷ rs) mask = parity_word rs mask * 2 + parity mask r
+
+-- the trace of an element is its parity with the mask
+abbrev pub IsTraceMask : (ℕ → ℕ → ℕ) → ℕ → ℕ → Type 0
+IsTraceMask mul k mask = (y : ℕ) → y < 2 ^ k → parity mask y ≡ trace mul k y
+
+-- entry j is 2 to the j squared, for j below k
+abbrev pub AreUnitSquares : (ℕ → ℕ → ℕ) → ℕ → List ℕ → Type 0
+AreUnitSquares mul k squares = (j : ℕ) → j < k → slice_index squares j ≡ mul (2 ^ j) (2 ^ j)
 
 -- entry j has the traces of 2 to the j times each of these elements, for j below k
 abbrev pub AreCoordinates : (ℕ → ℕ → ℕ) → ℕ → List ℕ → List ℕ → Type 0

@@ -8,7 +8,7 @@ ghost use Rattle.irreducible.specs.Span.{combination, IsIndependent};
 ghost use Rattle.gf_basis.specs.Basis.{AreBits, IsBasisList, first_values};
 ghost use Rattle.gf_basis.specs.Dual.{linear_value};
 
-use super::duals::{conjugates, coordinates, trace_matrix, unit_traces};
+use super::duals::{conjugates, coordinates, trace_mask, trace_matrix};
 use gf_field::{Field, filled, first_outside, is_element};
 use irreducible::combined;
 use thiserror::Error;
@@ -154,8 +154,8 @@ impl Basis {
         ensures over { IfSome result (λ basis. IsOver (F.degree field.now) (F.product field.now) basis) }
         ensures elements { IfSome result (λ basis. elements_of basis ≡ elements.now) }
     {
-        let units = unit_traces(field);
-        let inverse = match trace_matrix(field, &units, elements).inverse() {
+        let mask = trace_mask(field);
+        let inverse = match trace_matrix(field, mask, elements).inverse() {
             Some(inverse) => inverse,
             None => return None,
         };
@@ -165,7 +165,7 @@ impl Basis {
         }
         Some(Basis {
             elements: filled(elements),
-            coordinates: coordinates(field, &units, &duals[..elements.len()]),
+            coordinates: coordinates(elements),
             duals,
             count: elements.len() as u32,
         })

@@ -5,6 +5,7 @@
 mod bases;
 mod duals;
 mod laws;
+mod parities;
 
 pub use bases::{Basis, BasisFault};
 pub use laws::{independent_lists, one_list_fault, one_normal_fault, only_duals};

@@ -1,4 +1,4 @@
-use Rattle.std.proofs.Common.{◌≡◌, ◌<◌, ◌^◌, ◌∙◌, refl, sym, ap, arith, length, length-set, take, subst}
+use Rattle.std.proofs.Common.{◌≡◌, ◌<◌, ◌^◌, ◌∙◌, refl, sym, ap, arith, length, length-set, take, get_or, subst}
 use Rattle.std.proofs.lemmas.Nat.{one_shl, pow_below}
 use Rattle.std.proofs.lemmas.List.{get_or-take}
 use Rattle.irreducible.specs.Span.{combination}
@@ -9,7 +9,7 @@ use Rattle.gf_basis.specs.Basis.{IsBasis}
 use Rattle.gf_basis.specs.Dual.{AreDual}
 use Rattle.gf_basis.specs.TraceWord.{trace_word}
 use Rattle.gf_basis.proofs.TraceWordLaws.{IsIndependent-matrix, IsIndependent-from_matrix, trace_word-dual}
-use Rattle.gf_basis.proofs.BasisLaws.{IsBasis-from_independent, AreDual-from_array}
+use Rattle.gf_basis.proofs.BasisLaws.{IsBasis-from_independent, AreDual-from_array, trace_word-row}
 use Rattle.gf_basis.proofs.bases.Basis.made.Goals as goal
 
 pub returns-in-None-clause-found : goal.returns-in-None-clause-found
@@ -43,16 +43,23 @@ loop-i-preserved g c =
           (rw (c.combined.ensures) (combination_below c.args.elements.now (g.F.Ring.degree c.args.field.now) c.apply.result c.requires.inside));
     }
 
+pub coordinates-requires-clause-free : goal.coordinates-requires-clause-free
+coordinates-requires-clause-free g c = IsIndependent-from_matrix _ _ (g.met.F.Ring.laws c.args.field.now) (g.met.F.Field.no_zero_divisors c.args.field.now) c.args.elements.now c.requires.size c.requires.inside (rows_of c.trace_matrix.result) c.trace_matrix.ensures (c.in-Some.ensures.found.0 refl)
+
 pub returns-clause-over : goal.returns-clause-over
 returns-clause-over g c =
-    let law = g.met.F.Ring.laws c.args.field.now in
-    let free = c.in-Some.ensures.found.0 refl in
+    let law = g.met.F.Ring.laws c.args.field.now in let field = g.met.F.Field.no_zero_divisors c.args.field.now in
+    let k = g.F.Ring.degree c.args.field.now in let mul = g.F.Ring.product c.args.field.now in
+    let bs = c.args.elements.now in let ds = take (length c.args.elements.now) c.loop-i.duals in
+    let dual : AreDual k mul bs ds = AreDual-from_array _ _ law field bs c.loop-i.duals c.requires.size (omega (arith, law.small, c.requires.size, c.loop-i.invariant.whole))
+    (λ j h. c.loop-i.invariant.words j (omega arith)) (λ j h. c.loop-i.invariant.inside j (omega arith)) in
     record {
-      elements = subst (IsBasis (g.F.Ring.degree c.args.field.now)) (sym c.filled.ensures.numbers)
-          (IsBasis-from_independent _ c.args.elements.now c.requires.size c.requires.inside
-          (IsIndependent-from_matrix _ _ law (g.met.F.Field.no_zero_divisors c.args.field.now) c.args.elements.now c.requires.size c.requires.inside (rows_of c.trace_matrix.result) c.trace_matrix.ensures free));
-      dual = subst (λ xs. AreDual (g.F.Ring.degree c.args.field.now) (g.F.Ring.product c.args.field.now) xs (take (length c.args.elements.now) c.loop-i.duals)) (sym c.filled.ensures.numbers)
-          (AreDual-from_array _ _ law (g.met.F.Field.no_zero_divisors c.args.field.now) c.args.elements.now c.loop-i.duals c.requires.size (omega (arith, law.small, c.requires.size, c.loop-i.invariant.whole))
-          (λ j h. c.loop-i.invariant.words j (omega arith)) (λ j h. c.loop-i.invariant.inside j (omega arith)));
-      coordinates = λ j h. get_or-take (length c.args.elements.now) c.coordinates.result j 0 (omega (arith, c.requires.size)) ∙ c.coordinates.ensures j h;
+      elements = subst (IsBasis k) (sym c.filled.ensures.numbers)
+          (IsBasis-from_independent _ bs c.requires.size c.requires.inside
+          (IsIndependent-from_matrix _ _ law field bs c.requires.size c.requires.inside (rows_of c.trace_matrix.result) c.trace_matrix.ensures (c.in-Some.ensures.found.0 refl)));
+      dual = subst (λ xs. AreDual k mul xs ds) (sym c.filled.ensures.numbers) dual;
+      coordinates = λ j h.
+          let below : j < length bs = omega (arith, c.requires.size) in
+          get_or-take (length bs) c.coordinates.result j 0 below
+          ∙ trace_word-row k mul law field bs ds c.requires.size dual j (get_or c.coordinates.result j 0) (c.coordinates.ensures j below);
     }
