@@ -1,4 +1,4 @@
-//! Files that are too large: too many bytes, nets, gates, instances, or models one inside another.
+//! Files that are too large: too many bytes, nets or gates.
 use crate::program::answer;
 use std::alloc::{AllocError, Global};
 use std::process::Abort;
@@ -25,22 +25,6 @@ fn with_lines(alloc: Global, text: &str, line: &str, count: u32) -> Result<Vec<u
     for _ in 0..count {
         bytes.extend_from_slice(line.as_bytes())?;
     }
-    Ok(bytes)
-}
-
-// Models `m0`, `m1` and so on, of which each but the last has so many instances of the next.
-fn chain(alloc: Global, models: u32, instances: u32) -> Result<Vec<u8>, AllocError> {
-    let mut bytes = Vec::new(alloc);
-    for number in 1..models {
-        let part = format!(in alloc; ".model m{}\n", number - 1)?;
-        bytes.extend_from_slice(part.as_bytes())?;
-        for _ in 0..instances {
-            let part = format!(in alloc; ".subckt m{number}\n")?;
-            bytes.extend_from_slice(part.as_bytes())?;
-        }
-    }
-    let part = format!(in alloc; ".model m{}\n", models.saturating_sub(1))?;
-    bytes.extend_from_slice(part.as_bytes())?;
     Ok(bytes)
 }
 
@@ -85,23 +69,4 @@ fn too_many_gates(rt: HostRuntime) -> Result<(), Fail> {
     let alloc = rt.alloc();
     let net = with_lines(alloc, ".model m\n.inputs a\n", ".names z\n", 1_048_577)?;
     check(&rt, alloc, net, "fault 38: too many gates in net\n")
-}
-
-#[test]
-fn too_many_models_inside(rt: HostRuntime) -> Result<(), Fail> {
-    let alloc = rt.alloc();
-    let net = chain(alloc, 65, 1)?;
-    check(
-        &rt,
-        alloc,
-        net,
-        "fault 32: more than 64 models deep in net\n",
-    )
-}
-
-#[test]
-fn too_many_instances(rt: HostRuntime) -> Result<(), Fail> {
-    let alloc = rt.alloc();
-    let net = chain(alloc, 21, 2)?;
-    check(&rt, alloc, net, "fault 38: too many instances in net\n")
 }
