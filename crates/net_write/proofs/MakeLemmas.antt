@@ -1,5 +1,5 @@
 -- The design of a written text, and the walk over its model.
-use Rattle.std.proofs.Common.{◌≡◌, ◌∙◌, ap, sym, refl, ℕ, suc, ◌+◌, true, false, not, List, [], ◌∷◌, ◌++◌, map, None, Some, Ok, codes}
+use Rattle.std.proofs.Common.{◌≡◌, ◌∙◌, ap, sym, refl, ℕ, suc, true, false, not, List, [], ◌∷◌, ◌++◌, map, None, Some, Ok, codes}
 use Rattle.std.specs.Prelude.{flat_map, slice_get}
 use Rattle.std.specs.List.{list_all}
 use Rattle.std.proofs.lemmas.List.{map-append}
