@@ -1,5 +1,0 @@
-pub mod Places
-pub mod Sources
-pub mod Gates
-pub mod Nets
-pub mod Unrolled
