@@ -48,11 +48,11 @@ count_of [] bases long = refl
 count_of (w ∷ ws) [] long = absurd (omega arith)
 count_of (w ∷ ws) (b ∷ bs) long = count_with w.role w.nets b (words_of ws bs) w (filter (λ word. not (same_role word.role Output)) ws) (count_of ws bs (omega arith))
 
-only_one : {X : Type 0} (x y : X) → Has (x ∷ []) y → x ≡ y
+pub only_one : {X : Type 0} (x y : X) → Has (x ∷ []) y → x ≡ y
 only_one x y (zero, got) = cc
 only_one x y (suc k, got) = absurd (cc)
 
-none_at : {X : Type 0} (y : X) → Has [] y → ⊥
+pub none_at : {X : Type 0} (y : X) → Has [] y → ⊥
 none_at y has = let got = has.1 in absurd (cc)
 
 -- a word is that of a bound word, with its basis
@@ -79,7 +79,7 @@ is_input Fed ns basis w has = ap (λ (v : Word). v.role) (sym (only_one _ w has)
 is_input Output ns basis w has = absurd (none_at w has)
 
 -- a net of a word is a net of words
-word_has : (ws : List Word) (w : Word) (n : ℕ) → Has ws w → Has w.nets n → Has (word_nets ws) n
+pub word_has : (ws : List Word) (w : Word) (n : ℕ) → Has ws w → Has w.nets n → Has (word_nets ws) n
 word_has [] w n has in_w = absurd (none_at w has)
 word_has (u ∷ us) w n (zero, got) in_w = let same : u ≡ w = cc in let P : Word → Type 0 = λ v. Has v.nets n in Has_left u.nets (word_nets us) n (subst P (sym same) in_w)
 word_has (u ∷ us) w n (suc i, got) in_w = Has_right u.nets (word_nets us) n (word_has us w n (i, got) in_w)
@@ -108,11 +108,10 @@ no_output_bits (w ∷ ws) none = by w.role none (no_output_bits ws)
     by Output none rest = absurd (omega arith)
 
 -- these bits and this basis are those of an output word
-IsOutputWord : List BoundWord → List (List ℕ) → List ℕ → List ℕ → Type 0
+abbrev pub IsOutputWord : List BoundWord → List (List ℕ) → List ℕ → List ℕ → Type 0
 IsOutputWord words bases ns basis = (word : BoundWord) × Has words word × Has bases basis × (word.role ≡ Output) × (ns ≡ word.nets)
 
-find_output : (words : List BoundWord) (bases : List (List ℕ)) → length bases ≡ length words → length (filter (λ word. same_role word.role Output) words) ≡ 1 → IsOutputWord words bases (output_bits words) (output_basis words bases)
-unfolding IsOutputWord
+pub find_output : (words : List BoundWord) (bases : List (List ℕ)) → length bases ≡ length words → length (filter (λ word. same_role word.role Output) words) ≡ 1 → IsOutputWord words bases (output_bits words) (output_basis words bases)
 find_output [] bases long one = absurd (omega arith)
 find_output (w ∷ ws) [] long one = absurd (omega arith)
 find_output (w ∷ ws) (b ∷ bs) long one = by w.role refl one (find_output ws bs (omega arith))
@@ -134,7 +133,7 @@ module _ (k : ℕ) (product : ℕ → ℕ → ℕ) (bound : BoundNet) (bases : L
   output = find_output bound.bound.words bases based.long is.parts.one
 
   output_long : length (output_bits bound.bound.words) ≡ k
-  unfolding IsOutputWord output
+  unfolding output
   output_long = ap length output.4 ∙ long_nets output.0 output.1
 
   held : (w : Word) (n : ℕ) → Has (words_of bound.bound.words bases) w → Has w.nets n → Has bound.net.inputs n
@@ -146,11 +145,12 @@ module _ (k : ℕ) (product : ℕ → ℕ → ℕ) (bound : BoundNet) (bases : L
   input w has = let found = find_bound bound.bound.words bases w has in is_input found.0.role found.0.nets found.1 w found.4
 
   pub bound_well : IsRing k product → HasNoZeroDivisors k product → IsSound bound.net → IsWellFormed (circuit_with k product bound bases)
-  unfolding IsOutputWord output
+  unfolding output
   bound_well ring no_zero_divisors sound = record {
     ring = ring;
     no_zero_divisors = no_zero_divisors;
     sound = sound;
+    unfed = refl;
     few = omega (arith, is.parts.few, count_of bound.bound.words bases based.long);
     words = λ w has. let found = find_bound bound.bound.words bases w has in fits k found.0.role found.0.nets found.1 w (long_nets found.0 found.2) (based.each found.1 found.3) found.4;
     once = λ n. let P : List ℕ → Type 0 = λ ns. times n ns ≤ 1 in subst P (sym (word_nets_of bound.bound.words bases based.long)) (is.once n);

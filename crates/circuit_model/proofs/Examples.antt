@@ -10,7 +10,7 @@ use Rattle.net_core.specs.Value.{IsRight}
 use Rattle.net_words.specs.declared.word.Role.{Role}
 use Rattle.net_words.specs.declared.word.Role.TheVariants.{Input, Output}
 use Rattle.circuit_model.specs.Word.{Word, HasElement, word_nets}
-use Rattle.circuit_model.specs.Circuit.{Circuit}
+use Rattle.circuit_model.specs.Circuit.{Circuit, IsFed, IsInNoWord}
 use Rattle.circuit_model.specs.Run.{IsRun, IsCycle, HasZeros}
 use Rattle.circuit_model.specs.Out.{IsOut}
 
@@ -39,7 +39,7 @@ abbrev pub and_net : NetList
 and_net = record { labels = named (codes "a") ∷ named (codes "b") ∷ named (codes "y") ∷ []; inputs = 0 ∷ 1 ∷ []; outputs = 2 ∷ []; gates = and_gate ∷ []; latches = [] }
 
 abbrev pub and_circuit : Circuit
-and_circuit = record { k = 1; product = bit_mul; net = and_net; words = word Input (0 ∷ []) (1 ∷ []) ∷ word Input (1 ∷ []) (1 ∷ []) ∷ []; output = word Output (2 ∷ []) (1 ∷ []); cycles = 0 }
+and_circuit = record { k = 1; product = bit_mul; net = and_net; words = word Input (0 ∷ []) (1 ∷ []) ∷ word Input (1 ∷ []) (1 ∷ []) ∷ []; output = word Output (2 ∷ []) (1 ∷ []); feeds = []; cycles = 0 }
 
 -- a bit as an element
 abbrev pub element : Bool → ℕ
@@ -78,6 +78,9 @@ output_element a b false = record { long = refl; sum = record { short = omega ar
 no_latch : (l : LatchValue) → Has and_net.latches l → ⊥
 no_latch l (k, got) = absurd (cc)
 
+no_feed : (n : ℕ) → IsFed and_circuit n → ⊥
+no_feed n (k, got) = absurd (cc)
+
 below_two : (a : Bool) → element a < 2
 below_two true = omega arith
 below_two false = omega arith
@@ -94,7 +97,7 @@ module _ (a b : Bool) where
       input = record { long = refl; elements = elements };
       long = refl;
       each = each;
-      first = λ bits got. rw (← only_bits (bits_at a b) 0 bits got) (record { words = λ i w x at one any. have_elements i w x at one; latches = λ l has out. absurd (no_latch l has) });
+      first = λ bits got. rw (← only_bits (bits_at a b) 0 bits got) (record { states = λ i w x at one is. have_elements i w x at one; latches = λ l has out. absurd (no_latch l has) });
       next = λ t before bits got after l has. absurd (no_latch l has);
     };
     zeros = zeros;
@@ -105,13 +108,16 @@ module _ (a b : Bool) where
       elements x (suc zero, got) = let is : element b ≡ x = cc in rw (← is) (below_two b)
       elements x (suc (suc k), got) = absurd (cc)
 
-      each : (t : ℕ) (bits : List Bool) → slice_get (bits_at a b ∷ []) t ≡ Some bits → IsCycle and_circuit (element a ∷ element b ∷ []) bits
-      each t bits got = rw (← only_bits (bits_at a b) t bits got) (record { consistent = record { long = refl; gates = gates_are_right a b }; inputs = λ i w x at one role. have_elements i w x at one })
+      each : (t : ℕ) (bits : List Bool) → slice_get (bits_at a b ∷ []) t ≡ Some bits → IsCycle and_circuit (element a ∷ element b ∷ []) t bits
+      each t bits got = rw (← only_bits (bits_at a b) t bits got) (record { consistent = record { long = refl; gates = gates_are_right a b }; inputs = λ i w x at one role. have_elements i w x at one; feeds = λ n fed. absurd (no_feed n fed) })
 
       zeros : (t : ℕ) (bits : List Bool) → slice_get (bits_at a b ∷ []) t ≡ Some bits → HasZeros and_circuit bits
-      zeros t bits got n (zero, is) none = absurd (none (0, is))
-      zeros t bits got n (suc zero, is) none = absurd (none (1, is))
-      zeros t bits got n (suc (suc k), is) none = absurd (cc)
+      zeros t bits got n free = absurd (named n free.input free.unnamed)
+        where
+          named : (n : ℕ) → Has and_net.inputs n → IsInNoWord and_circuit n → ⊥
+          named n (zero, is) none = none (0, is)
+          named n (suc zero, is) none = none (1, is)
+          named n (suc (suc k), is) none = absurd (cc)
 
 -- where A and B have the bits a and b, the output is a AND b, by the run of one cycle
 pub output_at : (a b : Bool) → IsOut and_circuit (element a ∷ element b ∷ []) (element (a && b))

@@ -1,6 +1,13 @@
 pub mod AgreeLemmas
 pub mod BitLemmas
 pub mod BoundLemmas
+pub mod FeedLemmas
+pub mod FedBitLemmas
+pub mod CycleBitLemmas
+pub mod SettledLemmas
+pub mod JobRunLemmas
+pub mod JobLemmas
+pub mod JobBoundLemmas
 pub mod TakenLemmas
 pub mod ChoiceLemmas
 pub mod GivenLemmas
@@ -15,3 +22,4 @@ pub mod SourceLemmas
 pub mod WordLemmas
 pub mod Examples
 mod OnesExamples
+mod JobExamples

@@ -3,7 +3,7 @@ use Rattle.std.proofs.Common.{◌≡◌, ◌∙◌, sym, refl, ℕ, suc, Bool, L
 use Rattle.std.specs.Prelude.{slice_get}
 use Rattle.net_core.proofs.EvalLemmas.{same_lists}
 use Rattle.circuit_model.specs.Circuit.{Circuit}
-use Rattle.circuit_model.specs.WellFormed.{IsWellFormed}
+use Rattle.circuit_model.specs.Job.{IsJob}
 use Rattle.circuit_model.specs.Run.{IsRun}
 use Rattle.circuit_model.proofs.AgreeLemmas.{agree}
 
@@ -16,10 +16,10 @@ same_runs (u ∷ us) (v ∷ vs) long same =
     let tail : us ≡ vs = same_runs us vs (omega arith) (λ t p q. same (suc t) p q) in
     rw (head, tail) refl
 
-pub one_run : (c : Circuit) (xs : List ℕ) (run other : List (List Bool)) → IsWellFormed c → IsRun c xs run → IsRun c xs other → run ≡ other
+pub one_run : (c : Circuit) (xs : List ℕ) (run other : List (List Bool)) → IsJob c → IsRun c xs run → IsRun c xs other → run ≡ other
 one_run c xs run other well r o = same_runs run other (r.open_run.long ∙ sym o.open_run.long) (λ t u v at_u at_v. same_lists u v (long t u v at_u at_v) (λ n less.
     sym (agree c well xs r.open_run.input (λ m. Unit {0}) (λ a b draws any. tt) run other r.open_run o.open_run
-    (λ s p q at_p at_q m has none any. o.zeros s q at_q m has none ∙ sym (r.zeros s p at_p m has none))
+    (λ s p q at_p at_q m free any. o.zeros s q at_q m free ∙ sym (r.zeros s p at_p m free))
     t u v at_u at_v n (omega (arith, (r.open_run.each t u at_u).consistent.long)) tt)))
   where
     long : (t : ℕ) (u v : List Bool) → slice_get run t ≡ Some u → slice_get other t ≡ Some v → length u ≡ length v

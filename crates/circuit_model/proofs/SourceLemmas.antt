@@ -56,6 +56,12 @@ role_input net State n sound inner stands input = absurd (not_both net sound n i
 role_input net Fed n sound inner stands input = absurd stands
 role_input net Output n sound inner stands input = absurd (inner refl)
 
+pub role_state : (net : NetList) (r : Role) (n : ℕ) → IsSound net → r ≢ Output → StandsOn net r n → Has (latch_outs net) n → r ≡ State
+role_state net Input n sound inner stands latch = absurd (not_both net sound n stands latch)
+role_state net State n sound inner stands latch = refl
+role_state net Fed n sound inner stands latch = absurd stands
+role_state net Output n sound inner stands latch = absurd (inner refl)
+
 pub stands_source : (net : NetList) (r : Role) (n : ℕ) → r ≢ Output → StandsOn net r n → Has (sources net) n
 stands_source net Input n inner stands = Has_left net.inputs (latch_outs net) n stands
 stands_source net State n inner stands = Has_right net.inputs (latch_outs net) n stands

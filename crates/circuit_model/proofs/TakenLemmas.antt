@@ -18,7 +18,10 @@ use Rattle.gf_field.specs.Field.{HasNoZeroDivisors}
 use Rattle.gf_basis.specs.Basis.{IsBasis}
 use Rattle.circuit_model.specs.WellFormed.{IsWellFormed}
 use Rattle.circuit_model.specs.OfBinding.{circuit_with}
+use Rattle.circuit_model.specs.Job.{IsJob}
+use Rattle.circuit_model.specs.JobOfBinding.{job_with}
 use Rattle.circuit_model.proofs.BoundLemmas.{bound_well}
+use Rattle.circuit_model.proofs.JobBoundLemmas.{job_well}
 
 added_long : (net : NetList) (taken : List ℕ) (before : List BoundWord) (words : List WordText) (whole : List BoundWord × List ℕ) → BoundOf net taken before words (Ok whole) → length whole.0 ≡ length before + length words
 added_long net taken before [] whole is = ap (λ (m : List BoundWord × List ℕ). length m.0) is ∙ omega arith
@@ -39,3 +42,9 @@ pub taken_well : (k : ℕ) (product : ℕ → ℕ → ℕ) (circuit : BoundNet) 
 taken_well k product circuit words feeds bases ring field sound are fed is flat long each =
     bound_well k product circuit bases (flat_bound circuit.net circuit.bound (bound_to circuit.net k words feeds circuit.bound sound are fed is) flat) (bits_are circuit.net k words feeds circuit.bound are is)
     (record { long = long ∙ sym (bound_long circuit.net words feeds circuit.bound is); each = each }) ring field sound
+
+pub taken_job : (k : ℕ) (product : ℕ → ℕ → ℕ) (circuit : BoundNet) (words : List WordText) (feeds : List FeedText) (bases : List (List ℕ)) (cycles : ℕ) → IsRing k product → HasNoZeroDivisors k product → IsSound circuit.net → AreWords k words → AreFeeds k (map (λ word. word.role) words) feeds → BindingOf circuit.net words feeds (Ok circuit.bound)
+    → length bases ≡ length words → ((basis : List ℕ) → Has bases basis → IsBasis k basis) → IsJob (job_with k product circuit bases cycles)
+taken_job k product circuit words feeds bases cycles ring field sound are fed is long each =
+    job_well k product circuit bases cycles (bound_to circuit.net k words feeds circuit.bound sound are fed is) (bits_are circuit.net k words feeds circuit.bound are is)
+    (record { long = long ∙ sym (bound_long circuit.net words feeds circuit.bound is); each = each }) sound ring field

@@ -6,9 +6,8 @@ use Rattle.std.proofs.lemmas.Bool.Decides.{nat_tests}
 use Rattle.net_core.specs.Lists.{Has}
 use Rattle.net_core.specs.Value.{bit_of, index_of}
 use Rattle.net_core.proofs.DriverLemmas.{Has_left, Has_right}
-use Rattle.gf_basis.specs.Basis.{AreBits}
+use Rattle.gf_basis.specs.Basis.{IsBasis, AreBits}
 use Rattle.circuit_model.specs.Word.{Word, HasElement, word_nets}
-use Rattle.circuit_model.specs.WellFormed.{IsWord}
 use Rattle.circuit_model.proofs.GivenLemmas.{Pairs, keys, Gives}
 
 -- a number of its lowest bit and the others
@@ -49,9 +48,9 @@ index_bits v w (m ∷ ms) same zero n got =
 index_bits v w (m ∷ ms) same (suc k) n got = index_bits v w ms ((same_bit (bit_of v m) (bit_of w m) (index_of v ms) (index_of w ms) same).1) k n got
 
 -- two lists of bits in which a word has one element have the same bits at its nets
-pub same_bits : (k : ℕ) (w : Word) (x : ℕ) (u v : List Bool) → IsWord k w → x < 2 ^ k → HasElement u w x → HasElement v w x → (n : ℕ) → Has w.nets n → bit_of u n ≡ bit_of v n
+pub same_bits : (k : ℕ) (w : Word) (x : ℕ) (u v : List Bool) → IsBasis k w.basis → x < 2 ^ k → HasElement u w x → HasElement v w x → (n : ℕ) → Has w.nets n → bit_of u n ≡ bit_of v n
 same_bits k w x u v is less a b n has =
-    let only = is.basis.sums x less in
+    let only = is.sums x less in
     index_bits u v w.nets (only.only (index_of u w.nets) a.sum ∙ sym (only.only (index_of v w.nets) b.sum)) has.0 n has.1
 
 -- in bits of which a word has an element it has one element

@@ -1,5 +1,5 @@
 -- Circuits of one cycle that a program is given part by part. Source: this project's own.
-use Rattle.std.specs.Prelude.{ℕ, List, map}
+use Rattle.std.specs.Prelude.{ℕ, List, [], map}
 use Rattle.net_core.specs.NetList.{NetList}
 use Rattle.net_core.specs.Lists.{Has}
 use Rattle.gf_basis.specs.BasisParts.{elements_of, IsOver}
@@ -13,7 +13,7 @@ word_of word = record { role = word.role; nets = word.nets.items; basis = elemen
 
 -- the circuit of these parts, which has no cycle but the first
 abbrev pub circuit_of_parts : ℕ → (ℕ → ℕ → ℕ) → NetList → List CircuitWord → CircuitWord → Circuit
-circuit_of_parts k product net words output = record { k = k; product = product; net = net; words = map word_of words; output = word_of output; cycles = 0 }
+circuit_of_parts k product net words output = record { k = k; product = product; net = net; words = map word_of words; output = word_of output; feeds = []; cycles = 0 }
 
 -- each word's basis is one of the field
 abbrev pub AreOver : ℕ → (ℕ → ℕ → ℕ) → List CircuitWord → Type 0

@@ -1,10 +1,14 @@
 pub mod Word
+pub mod Feeds
 pub mod Circuit
 pub mod WellFormed
+pub mod Job
 pub mod Run
 pub mod Out
 pub mod Flat
+pub mod JobOfParts
 pub mod OfBinding
+pub mod JobOfBinding
 pub mod Bases
 pub mod Alike
 pub mod Ones

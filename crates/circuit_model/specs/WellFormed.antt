@@ -1,5 +1,5 @@
--- What makes a circuit well-formed. Source: this project's own.
-use Rattle.std.specs.Prelude.{◌≡◌, ◌≢◌, ℕ, ◌≤◌, length}
+-- What makes a circuit well-formed whose words all stand on nets, and to which nothing is fed. Source: this project's own.
+use Rattle.std.specs.Prelude.{◌≡◌, ◌≢◌, ℕ, ◌≤◌, [], length}
 use Rattle.net_core.specs.LatchValue.{LatchValue}
 use Rattle.net_core.specs.Sound.{IsSound}
 use Rattle.net_core.specs.Lists.{Has, times}
@@ -18,12 +18,14 @@ pub record IsWord (k : ℕ) (word : Word) : Type 0 where
   pub nets : length word.nets ≡ k
   pub basis : IsBasis k word.basis
 
--- The field is one and the net list is sound; there are at most 8 input and state words; each word has k nets and a basis;
--- no net stands twice in input and state words, and each stands on what its role asks for; the output word's nets exist; each latch in no word has a start; and a primary input in no word reaches no bit of the output word.
+-- The field is one and the net list is sound; nothing is fed; there are at most 8 input and state words; each word has k
+-- nets and a basis; no net stands twice in input and state words, and each stands on what its role asks for; the output
+-- word's nets exist; each latch in no word has a start; and a primary input in no word reaches no bit of the output word.
 pub record IsWellFormed (circuit : Circuit) : Type 0 where
   pub ring : IsRing circuit.k circuit.product
   pub no_zero_divisors : HasNoZeroDivisors circuit.k circuit.product
   pub sound : IsSound circuit.net
+  pub unfed : circuit.feeds ≡ []
   pub few : length circuit.words ≤ 8
   pub words : (w : Word) → Has circuit.words w → IsWord circuit.k w
   pub inner : (w : Word) → Has circuit.words w → w.role ≢ Output

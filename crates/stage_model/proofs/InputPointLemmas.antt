@@ -14,6 +14,7 @@ use Rattle.net_core.specs.Value.{bit_of}
 use Rattle.circuit_model.specs.Word.{Word, HasElement, word_nets}
 use Rattle.circuit_model.specs.Circuit.{Circuit, IsInput}
 use Rattle.circuit_model.specs.WellFormed.{IsWellFormed}
+use Rattle.circuit_model.proofs.JobLemmas.{job_of, first_elements}
 use Rattle.circuit_model.proofs.SomeRunLemmas.{some_run}
 use Rattle.circuit_model.proofs.SourceLemmas.{source_inside, stands_source}
 use Rattle.poly_mixed.specs.Polynomial.{Point, IsPoint, IsElement}
@@ -51,9 +52,9 @@ module _ (c : Circuit) (xs : List ℕ) (well : IsWellFormed c) (input : IsInput 
   -- the bits of the first cycle
   start : (bits : List Bool) × ((i : ℕ) (w : Word) (x : ℕ) → slice_get c.words i ≡ Some w → slice_get xs i ≡ Some x → HasElement bits w x)
   start =
-      let run = some_run c xs well input in
+      let run = some_run c xs (job_of c well) input in
       let first = get_below run.0 0 (omega (arith, run.1.open_run.long)) in
-      (first.0, λ i w x at got. (run.1.open_run.first first.0 first.1).words i w x at got tt)
+      (first.0, λ i w x at got. first_elements c xs first.0 well (run.1.open_run.each 0 first.0 first.1) (run.1.open_run.first first.0 first.1) i w x at got tt)
 
   the_point : Point
   the_point = record { words = xs ++ zeros (8 - length c.words); is_one = λ r. bit_of start.0 (slice_index (variables_of c) r) }

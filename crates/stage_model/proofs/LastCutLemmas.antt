@@ -15,6 +15,8 @@ use Rattle.net_core.specs.Lists.{Has}
 use Rattle.net_core.specs.Order.{IsElimination}
 use Rattle.net_core.specs.Value.{bit_of, IsConsistent}
 use Rattle.net_core.proofs.DriverLemmas.{source_no_gate}
+use Rattle.circuit_model.specs.declared.circuit_feed.CircuitFeed.{CircuitFeed}
+use Rattle.circuit_model.specs.Feeds.{fed_nets}
 use Rattle.circuit_model.specs.Word.{Word, HasElement}
 use Rattle.circuit_model.specs.Circuit.{Circuit, IsInput}
 use Rattle.circuit_model.specs.WellFormed.{IsWellFormed}
@@ -56,6 +58,9 @@ all_there (suc m) (suc t) x less = all_there m t x (omega arith)
 no_latch : (ls : List LatchValue) (l : LatchValue) → ls ≡ [] → Has ls l → ⊥
 no_latch ls l flat has = let got : slice_get ls has.0 ≡ Some l = has.1 in let got' = rw flat at got in absurd (cc)
 
+none_fed : (n : ℕ) → Has (fed_nets []) n → ⊥
+none_fed n has = let got = has.1 in absurd (cc)
+
 module _ (c : Circuit) (well : IsWellFormed c) (flat : c.net.latches ≡ []) (p : Point) where
   module _ (order : List ℕ) (elimination : IsElimination c.net order) (bits : List Bool) (settled : IsSettled c.net (variables_of c) order (length c.net.gates) p bits) where
     consistent : IsConsistent c.net bits
@@ -75,18 +80,22 @@ module _ (c : Circuit) (well : IsWellFormed c) (flat : c.net.latches ≡ []) (p 
           same_word (point_bits (nets c.net) (variables_of c) p) bits w x
           (λ n has. sym (source_bit n (stands_source c.net w.role n (well.inner w (i, got)) (well.places w n (i, got) has)))) (is i w x got at tt)
 
-      cycle : IsCycle c xs bits
-      cycle = record { consistent = consistent; inputs = λ i w x got at role. in_word i w x got at }
+      cycle : (t : ℕ) → IsCycle c xs t bits
+      cycle t = record {
+        consistent = consistent;
+        inputs = λ i w x got at role. in_word i w x got at;
+        feeds = λ n fed. let P : List CircuitFeed → Type 0 = λ fs. Has (fed_nets fs) n in absurd (none_fed n (subst P well.unfed fed));
+      }
 
       first : IsFirst c xs bits
-      first = record { words = λ i w x got at any. in_word i w x got at; latches = λ l has none. absurd (no_latch c.net.latches l flat has) }
+      first = record { states = λ i w x got at is. in_word i w x got at; latches = λ l has none. absurd (no_latch c.net.latches l flat has) }
 
       open_run : IsOpenRun c xs run
       unfolding run
       open_run = record {
         input = input;
         long = length-replicate {A = List Bool} (c.cycles + 1) bits;
-        each = λ t u got. let P : List Bool → Type 0 = λ v. IsCycle c xs v in subst P (all_same (c.cycles + 1) t bits u got) cycle;
+        each = λ t u got. let P : List Bool → Type 0 = λ v. IsCycle c xs t v in subst P (all_same (c.cycles + 1) t bits u got) (cycle t);
         first = λ u got. let P : List Bool → Type 0 = λ v. IsFirst c xs v in subst P (all_same (c.cycles + 1) 0 bits u got) first;
         next = λ t u v at_u at_v. λ l has. absurd (no_latch c.net.latches l flat has);
       }

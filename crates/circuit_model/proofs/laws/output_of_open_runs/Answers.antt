@@ -1,5 +1,5 @@
-use Rattle.circuit_model.proofs.OutLemmas.{open_out}
+use Rattle.circuit_model.proofs.OutLemmas.{job_open_out}
 use Rattle.circuit_model.proofs.laws.output_of_open_runs.Goals as goal
 
 pub returns : goal.returns
-returns c = open_out
+returns c = job_open_out
