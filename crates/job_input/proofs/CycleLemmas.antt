@@ -1,15 +1,17 @@
 -- All cycles of a netlist as one circuit.
-use Rattle.std.proofs.Common.{◌≡◌, ◌∙◌, ap, sym, refl, subst, inl, inr, ℕ, suc, Bool, ◌<◌, ◌≤◌, ◌*◌, List, [], ◌∷◌, length, map, take, drop, true, false, cond, Result, Ok, Err, arith}
+use Rattle.std.proofs.Common.{◌≡◌, ◌∙◌, ap, sym, refl, subst, inl, inr, ℕ, suc, ◌⊎◌, ◌^◌, Bool, ◌<◌, ◌≤◌, ◌*◌, List, [], ◌∷◌, length, map, take, drop, true, false, cond, Result, Ok, Err, arith}
 use Rattle.std.specs.Prelude.{IfOk}
+use Rattle.std.proofs.lemmas.Bool.{cases_lt}
 use Rattle.std.specs.List.{list_any}
 use Rattle.text_core.specs.Outcome.{Determined, Within}
-use Rattle.net_core.specs.NetList.{NetList}
+use Rattle.net_core.specs.NetList.{NetList, nets}
 use Rattle.net_words.specs.Binding.{Binding, BoundNet}
 use Rattle.net_words.specs.Rebind.{rebinding, rebound}
 use Rattle.net_words.specs.declared.bound.BoundWord.{BoundWord}
 use Rattle.unroll.specs.Unrolled.{in_one_cycle, is_flat, unrolled, unrolled_nets}
 use Rattle.job_words.specs.declared.fault.Fault.TheVariants.{Netlist}
 use Rattle.job_words.specs.declared.netlist_fault.NetlistFault.{NetlistFault}
+use Rattle.job_words.specs.declared.netlist_fault.NetlistFault.TheVariants.{TooManyNets, TooManyGates}
 use Rattle.job_words.specs.declared.stop.Stop.{Stop}
 use Rattle.job_words.specs.Operands.{Word}
 use Rattle.job_words.specs.Stop.{GivesBy}
@@ -69,3 +71,24 @@ unrolled_taken file netlist cycles (Ok circuit) gives = λ k setting taken.
     let P : BoundNet → Type 0 = λ c. KeepsWords netlist c in
     still_taken k setting netlist circuit (subst P (sym gives.0) (keeps_words netlist cycles)) taken
 unrolled_taken file netlist cycles (Err stop) gives = tt
+
+-- ---- what comes of unrolling
+
+le_of_not_lt : (m n : ℕ) → (m < n → ⊥) → n ≤ m
+le_of_not_lt m n none = by (cases_lt m n)
+  where
+    by : (m < n) ⊎ (n ≤ m) → n ≤ m
+    by (inl less) = absurd (none less)
+    by (inr le) = le
+
+pub circuit_made : (netlist circuit : BoundNet) (cycles : ℕ) → circuit ≡ unrolled netlist.net netlist.bound cycles → (2 ^ 20 < nets (unrolled netlist.net netlist.bound cycles).net → ⊥) → length (unrolled netlist.net netlist.bound cycles).net.gates ≤ 2 ^ 20 → CircuitOf netlist cycles (Ok circuit)
+unfolding all_cycles
+circuit_made netlist circuit cycles made few room = (made, le_of_not_lt (2 ^ 20) (nets (unrolled netlist.net netlist.bound cycles).net) few, room)
+
+pub too_many_nets : (netlist : BoundNet) (cycles : ℕ) → 2 ^ 20 < nets (unrolled netlist.net netlist.bound cycles).net → CircuitOf netlist cycles (Err TooManyNets)
+unfolding all_cycles
+too_many_nets netlist cycles many = inl (refl, many)
+
+pub too_many_gates : (netlist : BoundNet) (cycles : ℕ) → (2 ^ 20 < nets (unrolled netlist.net netlist.bound cycles).net → ⊥) → 2 ^ 20 < length (unrolled netlist.net netlist.bound cycles).net.gates → CircuitOf netlist cycles (Err TooManyGates)
+unfolding all_cycles
+too_many_gates netlist cycles few many = inr (refl, le_of_not_lt (2 ^ 20) (nets (unrolled netlist.net netlist.bound cycles).net) few, many)

@@ -1,21 +1,29 @@
 //! All cycles of a netlist as one circuit.
-ghost use Rattle.std.specs.Prelude.{◌≡◌, ◌≤◌, IfOk, map};
+ghost use Rattle.std.specs.Prelude.{◌≡◌, ◌≤◌};
 ghost use Rattle.job_input.specs.CircuitOf.{CircuitOf};
 ghost use Rattle.job_input.specs.private.NetlistReading.{FitsNetlist};
 
 use crate::bound::BoundNetlist;
 use crate::netlist::Refusal;
+use job_words::NetlistFault;
 use net_words::Combinational;
 use std::alloc::Global;
+use unroll::{UnrollFault, unroll};
 
 /// The circuit of a netlist over at most 4,096 cycles after the first.
 pub(crate) fn all_cycles(
-    _alloc: Global,
-    _netlist: BoundNetlist,
-    _cycles: u32,
+    alloc: Global,
+    netlist: BoundNetlist,
+    cycles: u32,
 ) -> Result<Combinational, Refusal>
-    requires { _cycles ≤ 4096 }
-    ensures fits { FitsNetlist result (CircuitOf _netlist _cycles) }
+    requires { cycles ≤ 4096 }
+    ensures fits { FitsNetlist result (CircuitOf netlist cycles) }
 {
-    Err(Refusal::OutOfMemory)
+    let (net, bound) = netlist.into_parts();
+    match unroll(alloc, net, bound, cycles) {
+        Ok(circuit) => Ok(circuit),
+        Err(UnrollFault::TooManyNets) => Err(Refusal::Fault(NetlistFault::TooManyNets)),
+        Err(UnrollFault::TooManyGates) => Err(Refusal::Fault(NetlistFault::TooManyGates)),
+        Err(UnrollFault::OutOfMemory) => Err(Refusal::OutOfMemory),
+    }
 }

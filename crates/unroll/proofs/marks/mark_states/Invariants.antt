@@ -1,0 +1,9 @@
+use Rattle.std.proofs.Common.{◌≡◌, ◌≤◌, ◌<◌, ◌+◌, ◌*◌, ℕ, ◌||◌, ◌==◌, ◌++◌, Bool, not, length, map, take, drop, Some}
+use Rattle.std.specs.Prelude.{slice_get, slice_index_or}
+use Rattle.net_words.specs.Roles.{in_word}
+use Rattle.net_words.specs.declared.word.Role.TheVariants.{State}
+use Rattle.unroll.specs.private.Plan.{mark_at}
+use Rattle.unroll.proofs.marks.mark_states.Given as goal
+
+abbrev pub invariant-loop-w : goal.invariant-loop-w
+invariant-loop-w l = (n : ℕ) → n < length l.marks → mark_at l.marks n ≡ (mark_at l.fn.marks n || in_word State (take l.w l.bound.words) n)

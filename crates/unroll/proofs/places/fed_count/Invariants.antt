@@ -1,0 +1,12 @@
+use Rattle.std.proofs.Common.{◌≡◌, ◌≤◌, ◌<◌, ◌+◌, ◌*◌, ℕ, ◌||◌, ◌==◌, ◌++◌, Bool, not, length, map, take, drop, Some}
+use Rattle.std.specs.Prelude.{slice_get, slice_index_or}
+use Rattle.std.specs.List.{filter, range_with_len}
+use Rattle.unroll.specs.Places.{fed_count}
+use Rattle.unroll.proofs.places.fed_count.Given as goal
+
+-- those so far, and those of the rest
+abbrev pub invariant-loop-w : goal.invariant-loop-w
+invariant-loop-w l = record {
+  sum : l.count + fed_count l.bound.k (drop l.w l.bound.words) ≡ fed_count l.bound.k l.bound.words;
+  few : l.count ≤ 64 * l.w;
+}

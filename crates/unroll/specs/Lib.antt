@@ -1,0 +1,6 @@
+pub mod Places
+pub mod Sources
+pub mod Gates
+pub mod Nets
+pub mod Unrolled
+pub mod private

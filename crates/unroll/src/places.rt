@@ -1,0 +1,61 @@
+//! Where the bits of fed words begin.
+ghost use Rattle.std.specs.Prelude.{◌≡◌, ◌<◌, ◌+◌, ◌*◌, ◌≤◌, ◌^◌, Some, length, slice_get, IfOk};
+ghost use Rattle.net_core.specs.NetList.{nets};
+ghost use Rattle.net_words.specs.Binding.{IsBinding};
+ghost use Rattle.unroll.specs.Places.{fed_bits as fed_bits_of, fed_count as fed_count_of};
+ghost use Rattle.unroll.specs.private.Plan.{AreFirstBits, net_count as net_count_of};
+
+use net_core::Net;
+use net_words::{Bound, Role};
+use std::alloc::{AllocError, Global};
+
+// How many nets a word with this role adds after the nets of the cycles.
+fn fed_bits(k: u32, role: Role) -> u32
+    ensures count { result ≡ fed_bits_of k role }
+    ensures few { result ≤ k }
+{
+    match role {
+        Role::Fed => k,
+        Role::Input | Role::State | Role::Output => 0,
+    }
+}
+
+// How many nets the fed words add.
+fn fed_count(bound: &Bound) -> u32
+    ensures count { result ≡ fed_count_of bound.now.k bound.now.words }
+    ensures few { result ≤ 64 * 9 }
+{
+    let mut count = 0;
+    for w in 0..bound.words() {
+        count += fed_bits(bound.k(), bound.role(w));
+    }
+    count
+}
+
+/// How many nets the net has after unrolling.
+pub fn net_count(net: &Net, bound: &Bound, cycles: u32) -> u64
+    requires { cycles ≤ 4096 }
+    ensures { result ≡ net_count_of net.now bound.now cycles }
+{
+    (u64::from(cycles) + 1) * u64::from(net.nets()) + u64::from(fed_count(bound))
+}
+
+/// For each word the net of its bit 0, if it is fed.
+pub fn first_bits(
+    alloc: Global,
+    net: &Net,
+    bound: &Bound,
+    cycles: u32,
+) -> Result<Vec<u32>, AllocError>
+    requires cycles { cycles ≤ 4096 }
+    requires few { net_count_of net.now bound.now cycles ≤ 2 ^ 20 }
+    ensures { IfOk result (λ firsts. AreFirstBits net.now bound.now cycles firsts.items) }
+{
+    let mut firsts = Vec::new(alloc);
+    let mut next = (cycles + 1) * net.nets();
+    for w in 0..bound.words() {
+        firsts.push(next)?;
+        next += fed_bits(bound.k(), bound.role(w));
+    }
+    Ok(firsts)
+}

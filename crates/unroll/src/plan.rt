@@ -1,0 +1,80 @@
+//! What the cycles of a net are laid out by.
+ghost use Rattle.std.specs.Prelude.{◌≡◌, ◌<◌, ◌≤◌, ◌+◌, ◌^◌, length, map, IfOk, take};
+ghost use Rattle.net_core.specs.NetList.{nets};
+ghost use Rattle.net_core.specs.Sound.{IsSound};
+ghost use Rattle.net_words.specs.Feeds.{is_fed as is_fed_net};
+ghost use Rattle.net_words.specs.Roles.{in_word};
+ghost use Rattle.net_words.specs.declared.word.Role.TheVariants.{State};
+ghost use Rattle.unroll.specs.Gates.{bit_net as bit_net_of};
+ghost use Rattle.unroll.specs.Places.{cycle_nets, net_at as net_at_of};
+ghost use Rattle.unroll.specs.Sources.{source_at};
+ghost use Rattle.unroll.specs.private.Plan.{AreFirstBits, AreMarks, AreSources, IsBit, net_count};
+
+use net_core::Net;
+use net_words::{Bound, Source};
+
+/// A net with its words, how many cycles follow the first, which nets are fed and which are in state words, what the fed nets
+/// hold in each cycle, and where the bits of the fed words begin.
+#[derive(Drop)]
+pub struct Plan {
+    pub net: Net,
+    pub bound: Bound,
+    pub cycles: u32,
+    pub fed: Vec<bool>,
+    pub held: Vec<bool>,
+    pub sources: Vec<Source>,
+    pub firsts: Vec<u32>,
+    ghost sound: { IsSound net },
+    ghost short: { cycles ≤ 4096 },
+    ghost few: { net_count net bound cycles ≤ 2 ^ 20 },
+    ghost are_fed: { AreMarks (nets net) (is_fed_net bound.feeds) fed.items },
+    ghost are_held: { AreMarks (nets net) (in_word State bound.words) held.items },
+    ghost are_sources: { AreSources net bound cycles sources.items },
+    ghost are_firsts: { AreFirstBits net bound cycles firsts.items },
+}
+
+impl Plan {
+    /// The number of net n of cycle t.
+    pub fn net_at(&self, t: u32, n: u32) -> u32
+        requires cycle { t ≤ self.now.cycles }
+        requires net { n < nets self.now.net }
+        ensures number { result ≡ net_at_of (nets self.now.net) t n }
+        ensures within { result < net_count self.now.net self.now.bound self.now.cycles }
+    {
+        t * self.net.nets() + n
+    }
+
+    /// Whether the net is fed.
+    pub fn is_fed(&self, n: u32) -> bool
+        requires { n < nets self.now.net }
+        ensures { result ≡ is_fed_net self.now.bound.feeds n }
+    {
+        self.fed[n as usize]
+    }
+
+    /// Whether the net is in a state word.
+    pub fn is_held(&self, n: u32) -> bool
+        requires { n < nets self.now.net }
+        ensures { result ≡ in_word State self.now.bound.words n }
+    {
+        self.held[n as usize]
+    }
+
+    /// What a fed net holds in cycle t.
+    pub fn source(&self, t: u32, n: u32) -> Source
+        requires cycle { t ≤ self.now.cycles }
+        requires net { n < nets self.now.net }
+        ensures { result ≡ source_at self.now.bound.feeds n t }
+    {
+        self.sources[self.net_at(t, n) as usize]
+    }
+
+    /// The net of a bit of a fed word.
+    pub fn bit_net(&self, word: u32, place: u32) -> u32
+        requires { IsBit self.now.bound word place }
+        ensures number { result ≡ bit_net_of self.now.net self.now.bound self.now.cycles word place }
+        ensures within { result < net_count self.now.net self.now.bound self.now.cycles }
+    {
+        self.firsts[word as usize] + place
+    }
+}

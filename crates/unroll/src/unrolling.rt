@@ -1,0 +1,134 @@
+//! Nets with words, unrolled into one cycle.
+ghost use Rattle.std.specs.Prelude.{◌≡◌, ◌≢◌, ◌≤◌, ◌<◌, ◌^◌, ◌↔◌, Err, length, IfOk, IfErr, IsErrOf, OnOk};
+ghost use Rattle.net_core.specs.NetList.{nets};
+ghost use Rattle.net_core.specs.Sound.{IsSound};
+ghost use Rattle.net_words.specs.BoundTo.{IsBoundTo};
+ghost use Rattle.unroll.specs.Gates.{gates_to};
+ghost use Rattle.unroll.specs.Unrolled.{in_one_cycle, unrolled};
+ghost use Rattle.unroll.specs.private.Plan.{net_count as net_count_of};
+
+use crate::UnrollFault;
+use crate::marks::{fed_marks, held_marks};
+use crate::places::{first_bits, net_count};
+use crate::plan::Plan;
+use crate::sources::sources;
+use net_core::Net;
+use net_words::{Bound, Combinational, rebind};
+use std::alloc::{AllocError, Global};
+
+// The most nets, and the most gates, of a net.
+const MOST: u64 = 1 << 20;
+
+// What the cycles of a net are laid out by.
+fn plan(alloc: Global, net: Net, bound: Bound, cycles: u32) -> Result<Plan, AllocError>
+    requires bound { IsBoundTo net bound }
+    requires cycles { cycles ≤ 4096 }
+    requires few { net_count_of net bound cycles ≤ 2 ^ 20 }
+    ensures net { IfOk result (λ plan. plan.net ≡ net) }
+    ensures bound { IfOk result (λ plan. plan.bound ≡ bound) }
+    ensures cycles { IfOk result (λ plan. plan.cycles ≡ cycles) }
+{
+    let fed = fed_marks(alloc, &net, &bound)?;
+    let held = held_marks(alloc, &net, &bound)?;
+    let sources = sources(alloc, &net, &bound, cycles)?;
+    let firsts = first_bits(alloc, &net, &bound, cycles)?;
+    Ok(Plan {
+        net,
+        bound,
+        cycles,
+        fed,
+        held,
+        sources,
+        firsts,
+    })
+}
+
+impl Plan {
+    // The net of all cycles with its words, where it has no more gates than a net may have.
+    fn circuit(&self, alloc: Global) -> Result<Combinational, AllocError>
+        requires bound { IsBoundTo self.now.net self.now.bound }
+        requires room { length (gates_to self.now.net self.now.bound self.now.cycles self.now.cycles) ≤ 2 ^ 20 }
+        ensures { IfOk result (λ circuit. circuit ≡ in_one_cycle self.now.net self.now.bound self.now.cycles) }
+    {
+        let net = self.net(alloc)?;
+        let list = self.word_nets(alloc)?;
+        let bound = rebind(alloc, &self.bound, &net, &list)?;
+        match Combinational::new(net, bound) {
+            Ok(circuit) => Ok(circuit),
+            Err(_) => unreachable!(),
+        }
+    }
+}
+
+// The net of all cycles with its words, where it has no more gates than a net may have.
+fn within_gates(alloc: Global, plan: Plan) -> Result<Combinational, UnrollFault>
+    requires { IsBoundTo plan.net plan.bound }
+    ensures made { IfOk result (λ circuit. circuit ≡ in_one_cycle plan.net plan.bound plan.cycles) }
+    ensures other { IfErr result (λ fault. fault ≢ UnrollFault.TooManyNets) }
+    ensures gates { IsErrOf result UnrollFault.TooManyGates → 2 ^ 20 < length (in_one_cycle plan.net plan.bound plan.cycles).net.gates }
+{
+    if plan.gate_count() > MOST {
+        return Err(UnrollFault::TooManyGates);
+    }
+    match plan.circuit(alloc) {
+        Ok(circuit) => Ok(circuit),
+        Err(AllocError) => Err(UnrollFault::OutOfMemory),
+    }
+}
+
+// The net of all cycles with its words.
+fn all_cycles(
+    alloc: Global,
+    net: Net,
+    bound: Bound,
+    cycles: u32,
+) -> Result<Combinational, UnrollFault>
+    requires bound { IsBoundTo net bound }
+    requires cycles { cycles ≤ 4096 }
+    ensures made { IfOk result (λ circuit. circuit ≡ in_one_cycle net bound cycles) }
+    ensures nets { (result ≡ Err UnrollFault.TooManyNets) ↔ (2 ^ 20 < nets (in_one_cycle net bound cycles).net) }
+    ensures gates { IsErrOf result UnrollFault.TooManyGates → 2 ^ 20 < length (in_one_cycle net bound cycles).net.gates }
+{
+    if net_count(&net, &bound, cycles) > MOST {
+        return Err(UnrollFault::TooManyNets);
+    }
+    match plan(alloc, net, bound, cycles) {
+        Ok(plan) => within_gates(alloc, plan),
+        Err(AllocError) => Err(UnrollFault::OutOfMemory),
+    }
+}
+
+// A circuit, whose net is sound.
+fn kept(circuit: Combinational) -> Combinational
+    ensures same { result ≡ circuit }
+    ensures sound { IsSound circuit.net }
+{
+    let _net = circuit.net();
+    circuit
+}
+
+/// A net with its words, unrolled for at most 4,096 cycles after the first. The words are bound to the net.
+///
+/// A net without latches, bound without fed words and feeds, is kept as it is. Otherwise, with v nets, net n of cycle t has the
+/// number `t * v + n` and the label of n; bit i of the j-th fed word has the number `(cycles + 1) * v + k * j + i` and a label as
+/// `W[i]`. Input and state words have their nets of the first cycle, the output word those of the last, and a fed word its own.
+/// `TooManyNets` comes exactly where this net has more than 1,048,576 nets; else `TooManyGates` where it has more than
+/// 1,048,576 gates.
+pub fn unroll(
+    alloc: Global,
+    net: Net,
+    bound: Bound,
+    cycles: u32,
+) -> Result<Combinational, UnrollFault>
+    requires bound { IsBoundTo net bound }
+    requires cycles { cycles ≤ 4096 }
+    ensures made { IfOk result (λ circuit. circuit ≡ unrolled net bound cycles) }
+    ensures nets { (result ≡ Err UnrollFault.TooManyNets) ↔ (2 ^ 20 < nets (unrolled net bound cycles).net) }
+    ensures gates { IsErrOf result UnrollFault.TooManyGates → 2 ^ 20 < length (unrolled net bound cycles).net.gates }
+    ensures room { OnOk result (length (unrolled net bound cycles).net.gates ≤ 2 ^ 20) }
+{
+    match Combinational::new(net, bound) {
+        Ok(circuit) => Ok(kept(circuit)),
+        Err((net, bound)) => all_cycles(alloc, net, bound, cycles),
+    }
+}

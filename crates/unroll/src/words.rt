@@ -1,0 +1,67 @@
+//! The nets of words.
+ghost use Rattle.std.specs.Prelude.{◌≡◌, ◌<◌, ◌≤◌, ◌++◌, ◌^◌, ℕ, Some, length, slice_get, slice_index, IfOk, OnOk};
+ghost use Rattle.net_core.specs.NetList.{nets};
+ghost use Rattle.net_words.specs.Binding.{IsBinding};
+ghost use Rattle.net_words.specs.BoundTo.{IsBoundTo};
+ghost use Rattle.unroll.specs.Places.{cycle_nets, first_bit};
+ghost use Rattle.unroll.specs.Unrolled.{nets_with, unrolled_nets};
+
+use crate::plan::Plan;
+use net_words::{Bound, Role};
+use std::alloc::{AllocError, Global};
+
+/// The nets of word w, below the number of words.
+pub fn nets_of(alloc: Global, bound: &Bound, w: u32) -> Result<Vec<u32>, AllocError>
+    requires binding { IsBinding bound.now }
+    requires word { w < length bound.now.words }
+    ensures { IfOk result (λ list. (word : _) → slice_get bound.now.words w ≡ Some word → list.items ≡ word.nets) }
+{
+    let mut list = Vec::new(alloc);
+    if !bound.has_nets(w) {
+        return Ok(list);
+    }
+    for place in 0..bound.k() {
+        list.push(bound.net(w, place))?;
+    }
+    Ok(list)
+}
+
+impl Plan {
+    // The net of a place, below k, of word w, below the number of words, in the unrolled net.
+    fn place_net(&self, w: u32, place: u32) -> u32
+        requires bound { IsBoundTo self.now.net self.now.bound }
+        requires word { w < length self.now.bound.words }
+        requires place { place < self.now.bound.k }
+        ensures { (word : _) → slice_get self.now.bound.words w ≡ Some word → result ≡ slice_index (nets_with (nets self.now.net) self.now.cycles self.now.bound.k (first_bit self.now.bound.k (cycle_nets (nets self.now.net) self.now.cycles) self.now.bound.words w) word.role word.nets) place }
+    {
+        match self.bound.role(w) {
+            Role::Fed => self.bit_net(w, place),
+            Role::Input | Role::State => self.bound.net(w, place),
+            Role::Output => self.net_at(self.cycles, self.bound.net(w, place)),
+        }
+    }
+
+    // Adds the nets of word w, below the number of words, in the unrolled net.
+    fn add_word_nets(&self, list: &mut Vec<u32>, w: u32) -> Result<(), AllocError>
+        requires bound { IsBoundTo self.now.net self.now.bound }
+        requires word { w < length self.now.bound.words }
+        ensures { OnOk result ((word : _) → slice_get self.now.bound.words w ≡ Some word → list.new.items ≡ list.old.items ++ nets_with (nets self.now.net) self.now.cycles self.now.bound.k (first_bit self.now.bound.k (cycle_nets (nets self.now.net) self.now.cycles) self.now.bound.words w) word.role word.nets) }
+    {
+        for place in 0..self.bound.k() {
+            list.push(self.place_net(w, place))?;
+        }
+        Ok(())
+    }
+
+    /// The nets of all words in the unrolled net, k for each word.
+    pub fn word_nets(&self, alloc: Global) -> Result<Vec<u32>, AllocError>
+        requires { IsBoundTo self.now.net self.now.bound }
+        ensures { IfOk result (λ list. list.items ≡ unrolled_nets self.now.net self.now.bound self.now.cycles) }
+    {
+        let mut list = Vec::new(alloc);
+        for w in 0..self.bound.words() {
+            self.add_word_nets(&mut list, w)?;
+        }
+        Ok(list)
+    }
+}
