@@ -85,7 +85,8 @@ fn add_word<F: Field>(
     match bound.role(w) {
         Role::Input | Role::State | Role::Fed => {
             let role = Role::Input;
-            words.push(CircuitWord { role, nets, basis })
+            words.push(CircuitWord { role, nets, basis })?;
+            Ok(())
         }
         Role::Output => Ok(()),
     }

@@ -3,20 +3,17 @@ use Rattle.std.proofs.Common.{◌≡◌, ◌∙◌, ap, sym, refl, subst, inl, i
 use Rattle.std.specs.Prelude.{IfOk}
 use Rattle.std.proofs.lemmas.Bool.{cases_lt}
 use Rattle.std.specs.List.{list_any}
-use Rattle.text_core.specs.Outcome.{Determined, Within}
+use Rattle.text_core.specs.Outcome.{Determined}
 use Rattle.net_core.specs.NetList.{NetList, nets}
 use Rattle.net_words.specs.Binding.{Binding, BoundNet}
 use Rattle.net_words.specs.Rebind.{rebinding, rebound}
 use Rattle.net_words.specs.declared.bound.BoundWord.{BoundWord}
 use Rattle.unroll.specs.Unrolled.{in_one_cycle, is_flat, unrolled, unrolled_nets}
-use Rattle.job_words.specs.declared.fault.Fault.TheVariants.{Netlist}
 use Rattle.job_words.specs.declared.netlist_fault.NetlistFault.{NetlistFault}
 use Rattle.job_words.specs.declared.netlist_fault.NetlistFault.TheVariants.{TooManyNets, TooManyGates}
 use Rattle.job_words.specs.declared.stop.Stop.{Stop}
-use Rattle.job_words.specs.Operands.{Word}
-use Rattle.job_words.specs.Stop.{GivesBy}
-use Rattle.job_input.specs.CircuitOf.{CircuitOf, UnrolledIn, all_cycles}
-use Rattle.job_input.specs.Setting.{HaveRoles, IsTakenFor}
+use Rattle.job_input.specs.CircuitOf.{CircuitOf, all_cycles}
+use Rattle.job_input.specs.Setting.{IsReady, IsTakenFor}
 use Rattle.job_input.specs.declared.setting.Setting.{Setting}
 
 -- ---- at most one circuit
@@ -66,11 +63,16 @@ keeps_words netlist cycles = by (is_flat netlist.net netlist.bound)
 pub still_taken : (k : ℕ) (setting : Setting) (netlist circuit : BoundNet) → KeepsWords netlist circuit → IsTakenFor k setting netlist → IsTakenFor k setting circuit
 still_taken k setting netlist circuit keeps taken = record { bits = keeps.bits ∙ taken.bits; roles = keeps.roles ∙ taken.roles; long = taken.long ∙ sym keeps.long }
 
-pub unrolled_taken : (file : Word) (netlist : BoundNet) (cycles : ℕ) (result : Result BoundNet Stop) → GivesBy {X = BoundNet} (λ circuit. circuit) result (UnrolledIn file netlist cycles) ⊥ ⊥ → IfOk result (λ circuit. (k : ℕ) (setting : Setting) → IsTakenFor k setting netlist → IsTakenFor k setting circuit)
-unrolled_taken file netlist cycles (Ok circuit) gives = λ k setting taken.
+pub circuit_taken : (netlist circuit : BoundNet) (cycles : ℕ) → CircuitOf netlist cycles (Ok circuit) → (k : ℕ) (setting : Setting) → IsTakenFor k setting netlist → IsTakenFor k setting circuit
+circuit_taken netlist circuit cycles is k setting taken =
     let P : BoundNet → Type 0 = λ c. KeepsWords netlist c in
-    still_taken k setting netlist circuit (subst P (sym gives.0) (keeps_words netlist cycles)) taken
-unrolled_taken file netlist cycles (Err stop) gives = tt
+    still_taken k setting netlist circuit (subst P (sym is.0) (keeps_words netlist cycles)) taken
+
+-- so does what is taken for each field
+pub still_taken_for : (setting : Setting) (netlist : BoundNet) (result : Result BoundNet Stop) → IfOk result (λ circuit. (k : ℕ) (s : Setting) → IsTakenFor k s netlist → IsTakenFor k s circuit) → ((k : ℕ) (product : ℕ → ℕ → ℕ) → IsReady k product setting → IsTakenFor k setting netlist)
+    → IfOk result (λ circuit. (k : ℕ) (product : ℕ → ℕ → ℕ) → IsReady k product setting → IsTakenFor k setting circuit)
+still_taken_for setting netlist (Ok circuit) keeps taken = λ k product ready. keeps k setting (taken k product ready)
+still_taken_for setting netlist (Err stop) keeps taken = tt
 
 -- ---- what comes of unrolling
 
