@@ -24,9 +24,7 @@ use crate::setting_labels::labels;
 use crate::stages::stage_stop;
 use crate::words::in_words;
 use gf_field::Field;
-use job_input::{
-    BoundNetlist, Setting, read_netlist, read_specification, unroll_netlist,
-};
+use job_input::{BoundNetlist, Setting, read_netlist, read_specification, unroll_netlist};
 use job_io::Shelf;
 use job_words::{PairWords, Stop};
 use net_words::Combinational;
