@@ -24,11 +24,7 @@ use Rattle.unroll.specs.Nets.{bit_label, fed_labels, labels_to, unnamed}
 use Rattle.unroll.specs.Places.{cycle_nets, fed_bits, fed_count, first_bit}
 use Rattle.unroll.specs.private.Plan.{with_inputs, with_labels}
 use Rattle.unroll.proofs.CountLemmas.{labels_long, fed_long}
-use Rattle.unroll.proofs.GrowLemmas.{joins_map, no_labels, parts_of, put_more, puts_inputs, puts_labels}
-
--- a word is known by what is true of each
-pub at_word : (words : List BoundWord) (w : ℕ) (P : BoundWord → Type 0) (Q : Type 0) → w < length words → ((word : BoundWord) → slice_get words w ≡ Some word → P word) → ((word : BoundWord) → slice_get words w ≡ Some word → P word → Q) → Q
-at_word words w P Q less each gives = let got = get_below words w less in gives got.0 got.1 (each got.0 got.1)
+use Rattle.unroll.proofs.GrowLemmas.{joins_map, put_more, puts_inputs, puts_labels}
 
 -- the words from w on are word w and the others
 pub word_drop : (words : List BoundWord) (w : ℕ) (word : BoundWord) → slice_get words w ≡ Some word → drop w words ≡ word ∷ drop (w + 1) words
@@ -81,9 +77,6 @@ label_step net m now new n text less is was made =
     let same : record { text = text; named = false } ≡ unnamed (get_or net.labels n d) = ap (λ (t : List ℕ). record { text = t; named = false }) is ∙ label_here net n d less in
     put_more with_labels (map unnamed) net.labels n d (get_or net.labels n d) m now new puts_labels (joins_map unnamed) less refl was (made ∙ ap (λ (l : LabelValue). with_labels now (l ∷ [])) same)
 
-pub label_end : (net m now : NetList) (n : ℕ) → nets net ≤ n → now ≡ with_labels m (map unnamed (take n net.labels)) → now ≡ with_labels m (map unnamed net.labels)
-label_end net m now n past was = was ∙ ap (λ (ls : List LabelValue). with_labels m (map unnamed ls)) (take_all n net.labels past)
-
 -- how many nets there are after labels were added
 pub nets_more : (m now : NetList) (labels : List LabelValue) → now ≡ with_labels m labels → nets now ≡ nets m + length labels
 nets_more m now labels is = ap (λ (n : NetList). nets n) is ∙ length-append m.labels labels
@@ -117,9 +110,6 @@ fed_label_step k words w m now new less was made =
     ap (λ (n : NetList). with_labels n rest) (made got.0 got.1)
     ∙ (puts_labels now own rest
     ∙ (ap (λ (ws : List BoundWord). with_labels now (fed_labels k ws)) (sym (word_drop words w got.0 got.1)) ∙ was))
-
-pub fed_label_end : (k : ℕ) (words : List BoundWord) (w : ℕ) (m now : NetList) → length words ≤ w → with_labels now (fed_labels k (drop w words)) ≡ with_labels m (fed_labels k words) → now ≡ with_labels m (fed_labels k words)
-fed_label_end k words w m now past was = no_labels now ∙ (ap (λ (ws : List BoundWord). with_labels now (fed_labels k ws)) (sym (drop_of_length-le words w past)) ∙ was)
 
 pub fed_label_room : (k : ℕ) (words : List BoundWord) (w : ℕ) (m now : NetList) (word : BoundWord) → slice_get words w ≡ Some word → nets m + length (fed_labels k words) ≤ 2 ^ 20 → with_labels now (fed_labels k (drop w words)) ≡ with_labels m (fed_labels k words) → nets now + fed_bits k word.role ≤ 2 ^ 20
 fed_label_room k words w m now word got room was =
@@ -174,3 +164,9 @@ gates_fit c g u x y h few all one two =
     let first : c * (x + y) ≤ 4097 * 2 ^ 20 = product_small c (x + y) (omega arith) (omega arith) in
     let second : (c + 1) * g ≤ 4097 * 2 ^ 20 = product_small (c + 1) g (omega arith) (omega arith) in
     (omega (arith, first), omega (arith, first, second, all, one), omega (arith, first, second, all, one, two))
+
+-- one more item that is counted where it passes
+pub count_more : {X : Type 0} (p : X → Bool) (xs ys : List X) (i : ℕ) (d : X) (count new : ℕ) (r : Bool) → ys ≡ xs → i < length xs → count ≡ length (filter p (take i xs)) → r ≡ p (get_or ys i d) → new ≡ count + cond r 1 0 → new ≡ length (filter p (take (i + 1) xs))
+count_more p xs ys i d count new r same less was is made =
+    let here : r ≡ p (get_or xs i d) = is ∙ ap (λ zs. p (get_or zs i d)) same in
+    made ∙ (ap (λ n. n + cond r 1 0) was ∙ (ap (λ (b : Bool). length (filter p (take i xs)) + cond b 1 0) here ∙ sym (length-filter_more p xs i d less)))

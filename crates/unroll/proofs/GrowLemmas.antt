@@ -44,29 +44,10 @@ puts_labels m a b = ap (λ (list : List LabelValue). record m { labels = list })
 pub puts_inputs : IsPutting with_inputs
 puts_inputs m a b = ap (λ (list : List ℕ). record m { inputs = list }) (append_assoc m.inputs a b)
 
-pub puts_outputs : IsPutting with_outputs
-puts_outputs m a b = ap (λ (list : List ℕ). record m { outputs = list }) (append_assoc m.outputs a b)
-
-pub no_gates : (m : NetList) → m ≡ with_gates m []
-no_gates m = ap (λ (list : List GateValue). record m { gates = list }) (sym (append-nil m.gates))
-
-pub no_labels : (m : NetList) → m ≡ with_labels m []
-no_labels m = ap (λ (list : List LabelValue). record m { labels = list }) (sym (append-nil m.labels))
-
-pub no_inputs : (m : NetList) → m ≡ with_inputs m []
-no_inputs m = ap (λ (list : List ℕ). record m { inputs = list }) (sym (append-nil m.inputs))
-
-pub no_outputs : (m : NetList) → m ≡ with_outputs m []
-no_outputs m = ap (λ (list : List ℕ). record m { outputs = list }) (sym (append-nil m.outputs))
-
 -- one turn of a loop that puts the piece of each item
 pub put_more : {M X Y : Type 0} (put : M → List Y → M) (F : List X → List Y) (xs : List X) (i : ℕ) (d x : X) (m now new : M) → IsPutting put → IsJoining F → i < length xs → x ≡ get_or xs i d → now ≡ put m (F (take i xs)) → new ≡ put now (F (x ∷ [])) → new ≡ put m (F (take (i + 1) xs))
 put_more put F xs i d x m now new puts joins less is was made =
     made ∙ (ap (λ n. put n (F (x ∷ []))) was ∙ (puts m (F (take i xs)) (F (x ∷ [])) ∙ ap (put m) (ap (λ y. F (take i xs) ++ F (y ∷ [])) is ∙ (sym (joins (take i xs) (get_or xs i d ∷ [])) ∙ ap F (sym (front_more xs i d less))))))
-
--- the loop's end
-pub put_all : {M X Y : Type 0} (put : M → List Y → M) (F : List X → List Y) (xs : List X) (i : ℕ) (m now : M) → length xs ≤ i → now ≡ put m (F (take i xs)) → now ≡ put m (F xs)
-put_all put F xs i m now past was = was ∙ ap (λ ys. put m (F ys)) (take_all i xs past)
 
 -- room for a list that is longer
 pub less_room : (count more less : ℕ) (m : NetList) → less ≤ more → HasRoom count more m → HasRoom count less m

@@ -1,6 +1,6 @@
 -- What is known while the cycles of a net are laid out.
 use Rattle.std.proofs.Common.{◌≡◌, ◌≢◌, ◌⊎◌, ◌∙◌, ap, sym, refl, subst, inl, inr, ℕ, zero, suc, ◌<◌, ◌≤◌, ◌+◌, ◌-◌, ◌*◌, ◌^◌, ◌&&◌, ◌||◌, Bool, true, false, not, List, [], ◌∷◌, ◌++◌, length, length-append, map, take, drop, Some, get_or, cond, arith, add-one, append_assoc, append-nil, drop_of_length-le, drop-cons, eq-eqb, All, get_or-set_other, get_or-set_same, length-set}
-use Rattle.std.specs.Prelude.{slice_get, ◌==◌, ◌↔◌, Result, Ok, Err, IfOk, IsErrOf, IsTrue}
+use Rattle.std.specs.Prelude.{slice_get, ◌==◌, ◌↔◌, Result, Ok, Err, IfErr, IfOk, IsErrOf, IsTrue}
 use Rattle.std.specs.List.{list_any, range_with_len}
 use Rattle.std.proofs.Math.ListN.{set}
 use Rattle.std.proofs.lemmas.Bool.{cases_lt}
@@ -107,9 +107,6 @@ words_step v c k base words w list new whole less made was =
     ∙ (ap (λ n. list ++ (own ++ rest n)) (first_bit_next k base words w word got.1)
     ∙ (ap (λ (ws : List BoundWord). list ++ nets_of_words v c k (first_bit k base words w) ws) (sym (word_drop words w word got.1)) ∙ was)))
 
-pub words_end : (v c k base next : ℕ) (words : List BoundWord) (w : ℕ) (list whole : List ℕ) → length words ≤ w → list ++ nets_of_words v c k next (drop w words) ≡ whole → list ≡ whole
-words_end v c k base next words w list whole past was = sym (append-nil list) ∙ (ap (λ (ws : List BoundWord). list ++ nets_of_words v c k next ws) (sym (drop_of_length-le words w past)) ∙ was)
-
 -- ---- sources
 
 both_true : (m n : ℕ) → m ≡ n → (m == n) ≡ true
@@ -185,11 +182,6 @@ made_cycle net b c made list binding sound bound is are same each =
     let Q : Binding → Type 0 = λ x. IsClosed (all_cycles net b c) x.words in
     each (subst P (sym is) (subst Q (sym whole) (closed net b c sound bound)))
 
-pub made_whole : (net : NetList) (b : Binding) (c : ℕ) (made : NetList) (list : List ℕ) (binding : Binding) → made ≡ all_cycles net b c → list ≡ unrolled_nets net b c → binding ≡ rebinding made b list → record { net = made; bound = binding } ≡ in_one_cycle net b c
-made_whole net b c made list binding is are same =
-    let whole : binding ≡ rebinding (all_cycles net b c) b (unrolled_nets net b c) = same ∙ (ap (λ (n : NetList). rebinding n b list) is ∙ ap (λ (ns : List ℕ). rebinding (all_cycles net b c) b ns) are) in
-    ap (λ (n : NetList). record { net = n; bound = binding }) is ∙ ap (λ (x : Binding). record { net = all_cycles net b c; bound = x }) whole
-
 -- what was laid out of the net that was handed back
 pub laid_same : (net other : NetList) (b binding : Binding) (c : ℕ) → other ≡ net → binding ≡ b → IsBoundTo net b → (IsFlat net b → ⊥) → in_one_cycle other binding c ≡ unrolled net b c
 laid_same net other b binding c same equal bound left = ap (λ (n : NetList). in_one_cycle n binding c) same ∙ (ap (λ (x : Binding). in_one_cycle net x c) equal ∙ sym (unrolled_laid net b c bound left))
@@ -197,8 +189,8 @@ laid_same net other b binding c same equal bound left = ap (λ (n : NetList). in
 -- ---- words and their nets
 
 bare : (r : Bool) → r ≡ false → IsTrue r → ⊥
-bare true is yes = absurd (cc)
-bare false is yes = yes
+bare true is holds = absurd (cc)
+bare false is holds = absurd (cc)
 
 -- a word of which it is told that it has not k nets has none
 pub no_nets : (b : Binding) (w : ℕ) (r : Bool) (word : BoundWord) → IsBinding b → slice_get b.words w ≡ Some word → (IsTrue r ↔ (length word.nets ≡ b.k)) → r ≡ false → word.nets ≡ []
@@ -209,7 +201,7 @@ no_nets b w r word is got tells miss = by (All_has (HasWidth b.k) b.words word i
     by (inr none) = none.1
 
 pub has_k : (b : Binding) (w : ℕ) (r : Bool) (word : BoundWord) → (IsTrue r ↔ (length word.nets ≡ b.k)) → r ≡ true → length word.nets ≡ b.k
-has_k b w r word tells hit = let P : Bool → Type 0 = λ x. IsTrue x → length word.nets ≡ b.k in subst P hit tells.0 tt
+has_k b w r word tells hit = let P : Bool → Type 0 = λ x. IsTrue x → length word.nets ≡ b.k in subst P hit tells.0 refl
 
 -- one more net of a word
 pub nets_step : (nets list new : List ℕ) (place x : ℕ) → place < length nets → list ≡ take place nets → x ≡ get_or nets place 0 → new ≡ list ++ x ∷ [] → new ≡ take (place + 1) nets
@@ -257,18 +249,18 @@ held_step words w n old was new word got before made =
     join true y z = refl
     join false y z = refl
 
+    off : (x : Bool) → (x || false) ≡ x
+    off true = refl
+    off false = refl
+
     more : (us : List BoundWord) (i : ℕ) → slice_get us i ≡ Some word → in_word State (take (suc i) us) n ≡ (in_word State (take i us) n || (same_role word.role State && stands_in word.nets n))
     more [] i at = absurd (cc)
     more (u ∷ us) zero at = let same : u ≡ word = cc in ap (λ (v : BoundWord). (same_role v.role State && stands_in v.nets n) || false) same ∙ off (same_role word.role State && stands_in word.nets n)
     more (u ∷ us) (suc i) at = ap (λ r. (same_role u.role State && stands_in u.nets n) || r) (more us i at) ∙ sym (join (same_role u.role State && stands_in u.nets n) (in_word State (take i us) n) (same_role word.role State && stands_in word.nets n))
 
-    off : (x : Bool) → (x || false) ≡ x
-    off true = refl
-    off false = refl
-
 -- ---- faults
 
-pub no_fault : {X : Type 0} (fault : UnrollFault) (n count : ℕ) → fault ≢ TooManyNets → n ≡ count → count ≤ 2 ^ 20 → (Err {X} {UnrollFault} fault ≡ Err TooManyNets) ↔ (2 ^ 20 < n)
+pub no_fault : {X : Type 0} (fault : UnrollFault) (n count : ℕ) → fault ≢ TooManyNets → n ≡ count → count ≤ 2 ^ 20 → (◌≡◌ {A = Result X UnrollFault} (Err fault) (Err TooManyNets)) ↔ (2 ^ 20 < n)
 no_fault fault n count other is few = ((λ same. absurd (other (cc))), (λ more. absurd (omega (arith, is, few, more))))
 
 -- ---- room
@@ -279,3 +271,16 @@ made_room net b c new labels inputs outputs one two three four few =
     four ∙ ap (λ (m : NetList). with_outputs m (map (net_at (nets net) c) net.outputs)) (three ∙ ap (λ (m : NetList). with_inputs m (unrolled_inputs net b c)) (two ∙ ap (λ (m : NetList). with_labels m (labels_to net.labels c ++ fed_labels b.k b.words)) one)) in
     let P : NetList → Type 0 = λ m. HasRoom (net_count net b c) (length (gates_to net b c c)) m in
     subst P (sym all) (record { nets_are = omega (arith, length-append (labels_to net.labels c) (fed_labels b.k b.words), labels_long net.labels c, fed_long b.k b.words); flat = refl; room = omega (arith, few) })
+
+pub within_no_fault : {X : Type 0} (r : Result X UnrollFault) (n count : ℕ) → IfErr r (λ fault. fault ≢ TooManyNets) → n ≡ count → count ≤ 2 ^ 20 → (r ≡ Err TooManyNets) ↔ (2 ^ 20 < n)
+within_no_fault {X} r n count other is few =
+    let P : Result X UnrollFault → Type 0 = λ q. IfErr q (λ fault. fault ≢ TooManyNets) in
+    ((λ same. absurd (subst P same other refl)), (λ more. absurd (omega (arith, is, few, more))))
+
+-- ---- feeds
+
+pub feeds_low : (net : NetList) (b : Binding) (feeds : List Feed) (count : ℕ) → IsSound net → IsBoundTo net b → feeds ≡ b.feeds → count ≡ nets net → (feed : Feed) → Has feeds feed → feed.net < count
+feeds_low net b feeds count sound bound are is feed has =
+    let P : List Feed → Type 0 = λ fs. Has fs feed in
+    let input : Has net.inputs feed.net = (bound.feeds feed (subst P are has)).input in
+    omega (arith, is, All_has (λ n. n < nets net) net.inputs feed.net sound.inside.inputs input)

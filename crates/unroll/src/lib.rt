@@ -12,6 +12,8 @@ mod marks;
 mod places;
 mod plan;
 mod sources;
+#[cfg(test)]
+mod tests;
 mod unrolling;
 mod words;
 

@@ -17,4 +17,4 @@ loop-i-preserved c =
     let rest : List Feed = drop c.loop-i.i c.args.feeds.now in
     let back = feeds_back c.args.feeds.now c.loop-i.i (record { line = 0; net = 0; cycle = 0; source = Zero }) (omega arith) (omega arith) in
     let P : List Feed → Type 0 = λ fs. (t n : ℕ) → t ≤ c.args.cycles → n < c.args.nets → get_or c.put_source.new.sources (net_at c.args.nets t n) Zero ≡ source_at fs n t in
-    subst P (sym back) (put_here c.args.nets c.args.cycles c.loop-i.sources c.put_source.new.sources feed rest ? (c.requires.nets feed (c.loop-i.i - 1, slice_get-get_or c.args.feeds.now (c.loop-i.i - 1) (record { line = 0; net = 0; cycle = 0; source = Zero }) (omega arith))) c.put_source.ensures.put c.put_source.ensures.kept c.loop-i.invariant)
+    subst P (sym back) (put_here c.args.nets c.args.cycles c.loop-i.sources c.put_source.new.sources feed rest (omega (arith, c.requires.long, c.loop-i.auto.sources)) (c.requires.nets feed (c.loop-i.i - 1, slice_get-get_or c.args.feeds.now (c.loop-i.i - 1) (record { line = 0; net = 0; cycle = 0; source = Zero }) (omega arith))) c.put_source.ensures.put c.put_source.ensures.kept c.loop-i.invariant)

@@ -1,4 +1,5 @@
-use Rattle.std.proofs.Common.{◌≡◌, ◌∙◌, ◌<◌, ◌^◌, ap, arith, length, subst, sym}
+use Rattle.std.proofs.Common.{◌≡◌, ◌∙◌, ◌<◌, ◌^◌, ap, arith, length, refl, subst, sym}
+use Rattle.std.proofs.lemmas.Bool.{false≢true}
 use Rattle.std.specs.Prelude.{◌↔◌, Err, IfOk, IsErrOf}
 use Rattle.net_core.specs.NetList.{nets}
 use Rattle.net_words.specs.Binding.{BoundNet}
@@ -12,17 +13,17 @@ pub new-requires : goal.new-requires
 new-requires c = λ flat. flat_bound c.args.net c.args.bound c.requires.bound flat
 
 pub returns-in-Ok-clause-made : goal.returns-in-Ok-clause-made
-returns-in-Ok-clause-made c = c.kept.ensures.same ∙ (c.in-Ok.ensures.made ∙ sym (unrolled_flat c.args.net c.args.bound c.args.cycles c.requires.bound (c.in-Ok.ensures.flat.0 tt)))
+returns-in-Ok-clause-made c = c.kept.ensures.same ∙ (c.in-Ok.ensures.made ∙ sym (unrolled_flat c.args.net c.args.bound c.args.cycles c.requires.bound (c.in-Ok.ensures.flat.0 refl)))
 
 pub returns-in-Ok-clause-nets : goal.returns-in-Ok-clause-nets
 returns-in-Ok-clause-nets c =
-    let flat = ap (λ (n : BoundNet). nets n.net) (unrolled_flat c.args.net c.args.bound c.args.cycles c.requires.bound (c.in-Ok.ensures.flat.0 tt)) in
+    let flat = ap (λ (n : BoundNet). nets n.net) (unrolled_flat c.args.net c.args.bound c.args.cycles c.requires.bound (c.in-Ok.ensures.flat.0 refl)) in
     let made = ap (λ (n : BoundNet). nets n.net) c.in-Ok.ensures.made in
     ((λ same. absurd (cc)), (λ more. absurd (omega (arith, more, flat, made, c.kept.ensures.sound.inside.few_nets))))
 
 pub returns-in-Ok-clause-room : goal.returns-in-Ok-clause-room
 returns-in-Ok-clause-room c =
-    let flat = ap (λ (n : BoundNet). length n.net.gates) (unrolled_flat c.args.net c.args.bound c.args.cycles c.requires.bound (c.in-Ok.ensures.flat.0 tt)) in
+    let flat = ap (λ (n : BoundNet). length n.net.gates) (unrolled_flat c.args.net c.args.bound c.args.cycles c.requires.bound (c.in-Ok.ensures.flat.0 refl)) in
     let made = ap (λ (n : BoundNet). length n.net.gates) c.in-Ok.ensures.made in
     omega (arith, flat, made, c.kept.ensures.sound.inside.few_gates)
 
@@ -32,7 +33,7 @@ returns-in-Err-clause-made c =
     let one : c.in-Err.net ≡ c.args.net = cc in
     let two : c.in-Err.bound ≡ c.args.bound = cc in
     let P : BoundNet → Type 0 = λ n. IfOk c.all_cycles.result (λ circuit. circuit ≡ n) in
-    subst P (laid_same c.args.net c.in-Err.net c.args.bound c.in-Err.bound c.args.cycles one two c.requires.bound (λ flat. c.in-Err.ensures.flat.1 flat)) c.all_cycles.ensures.made
+    subst P (laid_same c.args.net c.in-Err.net c.args.bound c.in-Err.bound c.args.cycles one two c.requires.bound (λ flat. false≢true (c.in-Err.ensures.flat.1 flat))) c.all_cycles.ensures.made
 
 pub returns-in-Err-clause-nets : goal.returns-in-Err-clause-nets
 returns-in-Err-clause-nets c =
@@ -40,7 +41,7 @@ returns-in-Err-clause-nets c =
     let one : c.in-Err.net ≡ c.args.net = cc in
     let two : c.in-Err.bound ≡ c.args.bound = cc in
     let P : BoundNet → Type 0 = λ n. (c.all_cycles.result ≡ Err TooManyNets) ↔ (2 ^ 20 < nets n.net) in
-    subst P (laid_same c.args.net c.in-Err.net c.args.bound c.in-Err.bound c.args.cycles one two c.requires.bound (λ flat. c.in-Err.ensures.flat.1 flat)) c.all_cycles.ensures.nets
+    subst P (laid_same c.args.net c.in-Err.net c.args.bound c.in-Err.bound c.args.cycles one two c.requires.bound (λ flat. false≢true (c.in-Err.ensures.flat.1 flat))) c.all_cycles.ensures.nets
 
 pub returns-in-Err-clause-gates : goal.returns-in-Err-clause-gates
 returns-in-Err-clause-gates c =
@@ -48,4 +49,4 @@ returns-in-Err-clause-gates c =
     let one : c.in-Err.net ≡ c.args.net = cc in
     let two : c.in-Err.bound ≡ c.args.bound = cc in
     let P : BoundNet → Type 0 = λ n. IsErrOf c.all_cycles.result TooManyGates → 2 ^ 20 < length n.net.gates in
-    subst P (laid_same c.args.net c.in-Err.net c.args.bound c.in-Err.bound c.args.cycles one two c.requires.bound (λ flat. c.in-Err.ensures.flat.1 flat)) c.all_cycles.ensures.gates
+    subst P (laid_same c.args.net c.in-Err.net c.args.bound c.in-Err.bound c.args.cycles one two c.requires.bound (λ flat. false≢true (c.in-Err.ensures.flat.1 flat))) c.all_cycles.ensures.gates
