@@ -2,10 +2,6 @@ pub mod AgreeLemmas
 pub mod BitLemmas
 pub mod BoundLemmas
 pub mod FeedLemmas
-pub mod FedBitLemmas
-pub mod CycleBitLemmas
-pub mod SettledLemmas
-pub mod JobRunLemmas
 pub mod JobLemmas
 pub mod JobBoundLemmas
 pub mod TakenLemmas

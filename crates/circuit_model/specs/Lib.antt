@@ -6,7 +6,6 @@ pub mod Job
 pub mod Run
 pub mod Out
 pub mod Flat
-pub mod JobOfParts
 pub mod OfBinding
 pub mod JobOfBinding
 pub mod Bases

@@ -1,17 +1,13 @@
-//! What a circuit computes: words in a basis, the runs of a net with words and feeds at an input, and its output there.
-//! `job_output` runs a job cycle by cycle and gate by gate, `output` a circuit of one cycle, `number_of_bits` reads bits; the
-//! other functions do nothing: their contracts are laws of the definitions.
+//! What a circuit computes: words in a basis, the runs of a net with words at an input, and its output there.
+//! `output` evaluates a circuit gate by gate, `number_of_bits` reads bits; the other functions do nothing: their contracts are
+//! laws of the definitions.
 #![tactic(auto)]
 
 mod circuit_feed;
 mod circuit_word;
-mod cycle_bits;
-mod fed_bits;
 mod laws;
 mod net_bits;
 mod plain;
-mod settle;
-mod word_bits;
 
 pub use circuit_feed::{CircuitFeed, FeedSource};
 pub use circuit_word::CircuitWord;
@@ -21,4 +17,4 @@ pub use laws::{
     taken_circuits_are_well_formed, well_formed_circuits_are_jobs,
 };
 pub use net_bits::number_of_bits;
-pub use plain::{job_output, output};
+pub use plain::output;

@@ -1,178 +1,104 @@
-//! The output of a job, cycle by cycle and gate by gate.
-ghost use Rattle.std.specs.Prelude.{◌≡◌, ◌<◌, ◌+◌, ◌^◌, true, false, ℕ, [], length, IfOk, IfSome, IsSome, IsTrue};
-ghost use Rattle.net_core.specs.Lists.{Has};
+//! The output of a circuit without latches, gate by gate.
+ghost use Rattle.std.specs.Prelude.{◌≡◌, ◌==◌, ◌≤◌, ◌<◌, ◌^◌, ◌↔◌, ℕ, [], Some, length, IfOk, IfSome, IsSome, IsTrue, slice_get, false};
+ghost use Rattle.std.specs.Int.{bit_at};
+ghost use Rattle.net_core.specs.Lists.{Has, times};
 ghost use Rattle.gf_basis.specs.BasisParts.{IsOver};
+ghost use Rattle.circuit_model.specs.Word.{HasElement};
 ghost use Rattle.circuit_model.specs.WellFormed.{IsWellFormed};
-ghost use Rattle.circuit_model.specs.Job.{IsJob};
 ghost use Rattle.circuit_model.specs.Out.{IsOut};
-ghost use Rattle.circuit_model.specs.Flat.{AreOver, circuit_of_parts};
-ghost use Rattle.circuit_model.specs.JobOfParts.{job_of_parts};
-ghost use Rattle.circuit_model.specs.private.Cycle.{AreFed, AreOnlyFed, HaveAsked, IsReached};
+ghost use Rattle.circuit_model.specs.Flat.{AreOver, circuit_of_parts, word_of};
+ghost use Rattle.circuit_model.specs.private.Found.{HaveAll, HaveBits, HaveZeros, IsBitIn, IsOnce, IsUnnamed};
 
-use crate::circuit_feed::CircuitFeed;
 use crate::circuit_word::CircuitWord;
-use crate::cycle_bits::{first_bits, next_bits};
-use crate::fed_bits::are_fed;
-use crate::word_bits::{element, have_elements};
+use crate::net_bits::number_of_bits;
 use gf_field::Field;
-use net_core::Net;
+use net_core::{Net, eval};
 use std::alloc::{AllocError, Global};
 
-// Whether each input word has its element and each fed net its bit of a cycle.
-fn is_cycle<F: Field>(
-    field: &F,
-    words: &[CircuitWord],
-    xs: &[u64],
-    feeds: &[CircuitFeed],
-    cycle: u32,
-    bits: &[bool],
-) -> bool
-    requires over { AreOver (F.degree field.now) (F.product field.now) words.now }
-    requires long { length xs.now ≡ length words.now }
-    requires elements { (x : ℕ) → Has xs.now x → x < 2 ^ F.degree field.now }
-    ensures inputs { IsTrue result → HaveAsked false words.now xs.now bits.now }
-    ensures fed { IsTrue result → AreFed words.now xs.now feeds.now cycle bits.now }
-    ensures complete { HaveAsked false words.now xs.now bits.now → AreOnlyFed words.now xs.now feeds.now cycle bits.now → IsTrue result }
+// The element of a word, if it has k nets.
+fn element<F: Field>(field: &F, bits: &[bool], word: &CircuitWord) -> Option<u64>
+    requires { IsOver (F.degree field.now) (F.product field.now) word.now.basis }
+    ensures element { IfSome result (λ e. HasElement bits.now (word_of word.now) e) }
+    ensures some { length word.now.nets.items ≡ F.degree field.now → IsSome result }
 {
-    if have_elements(field, bits, words, xs, false) {
-        are_fed(field, words, xs, feeds, cycle, bits)
+    if word.nets.len() == field.k() as usize {
+        Some(word.basis.element_of(number_of_bits(bits, &word.nets)))
     } else {
-        false
+        None
     }
 }
 
-// Whether each input and state word has its element and each fed net its bit of the first cycle.
-fn is_first<F: Field>(
-    field: &F,
-    words: &[CircuitWord],
-    xs: &[u64],
-    feeds: &[CircuitFeed],
-    bits: &[bool],
-) -> bool
+// Whether each word has its element.
+fn have_elements<F: Field>(field: &F, bits: &[bool], words: &[CircuitWord], xs: &[u64]) -> bool
     requires over { AreOver (F.degree field.now) (F.product field.now) words.now }
     requires long { length xs.now ≡ length words.now }
-    requires elements { (x : ℕ) → Has xs.now x → x < 2 ^ F.degree field.now }
-    ensures inputs { IsTrue result → HaveAsked false words.now xs.now bits.now }
-    ensures states { IsTrue result → HaveAsked true words.now xs.now bits.now }
-    ensures fed { IsTrue result → AreFed words.now xs.now feeds.now 0 bits.now }
-    ensures complete { HaveAsked false words.now xs.now bits.now → HaveAsked true words.now xs.now bits.now → AreOnlyFed words.now xs.now feeds.now 0 bits.now → IsTrue result }
+    ensures { IsTrue result ↔ HaveAll words.now xs.now bits.now }
 {
-    if have_elements(field, bits, words, xs, true) {
-        is_cycle(field, words, xs, feeds, 0, bits)
-    } else {
-        false
+    match words {
+        [] => true,
+        [first, rest @ ..] => {
+            element(field, bits, first) == Some(xs[0]) && have_elements(field, bits, rest, &xs[1..])
+        }
     }
 }
 
-// The bits of the first cycle, if words and fed nets can have theirs.
-fn first_cycle<F: Field>(
+// The bit of a net of a word whose bits these are, and another where it is no net of the word.
+fn bit_in_word(nets: &[u32], bits: u64, net: u32, other: bool) -> bool
+    ensures other { (Has nets.now net → ⊥) → result ≡ other }
+    ensures bit { (place : ℕ) → slice_get nets.now place ≡ Some net → times net nets.now ≤ 1 → result ≡ (bit_at bits place == 1) }
+{
+    match nets {
+        [] => other,
+        [first, rest @ ..] => {
+            if *first == net {
+                bits % 2 == 1
+            } else {
+                bit_in_word(rest, bits / 2, net, other)
+            }
+        }
+    }
+}
+
+// The bit of a net where the words have these elements, and 0 where no word has the net.
+fn bit_in_words<F: Field>(field: &F, words: &[CircuitWord], xs: &[u64], net: u32) -> bool
+    requires over { AreOver (F.degree field.now) (F.product field.now) words.now }
+    requires long { length xs.now ≡ length words.now }
+    requires elements { (x : ℕ) → Has xs.now x → x < 2 ^ F.degree field.now }
+    ensures zero { IsUnnamed words.now net → result ≡ false }
+    ensures bit { IsOnce words.now net → IsBitIn words.now xs.now net result }
+{
+    match words {
+        [] => false,
+        [first, rest @ ..] => {
+            let other = bit_in_words(field, rest, &xs[1..], net);
+            bit_in_word(&first.nets, first.basis.bits_of(field, xs[0]), net, other)
+        }
+    }
+}
+
+// The values of the primary inputs where the words have these elements.
+fn input_values<F: Field>(
     alloc: Global,
     field: &F,
     net: &Net,
     words: &[CircuitWord],
-    _output: &CircuitWord,
-    feeds: &[CircuitFeed],
     xs: &[u64],
-) -> Result<Option<Vec<bool>>, AllocError>
+) -> Result<Vec<bool>, AllocError>
     requires over { AreOver (F.degree field.now) (F.product field.now) words.now }
     requires long { length xs.now ≡ length words.now }
     requires elements { (x : ℕ) → Has xs.now x → x < 2 ^ F.degree field.now }
-    ensures reached { IfOk result (λ found. IfSome found (λ v. IsReached (job_of_parts (F.degree field.now) (F.product field.now) net.now words.now _output.now feeds.now) xs.now 0 v.items)) }
-    ensures complete { IfOk result (λ found. IsJob (job_of_parts (F.degree field.now) (F.product field.now) net.now words.now _output.now feeds.now 0) → IsSome found) }
+    ensures long { IfOk result (λ v. length v.items ≡ length net.now.inputs) }
+    ensures zeros { IfOk result (λ v. HaveZeros words.now net.now.inputs v.items) }
+    ensures bits { IfOk result (λ v. HaveBits words.now xs.now net.now.inputs v.items) }
 {
-    let bits = first_bits(alloc, field, net, words, xs, feeds)?;
-    if is_first(field, words, xs, feeds, &bits) {
-        Ok(Some(bits))
-    } else {
-        Ok(None)
+    let mut values = vec![in alloc; false; net.inputs().len()]?;
+    for (i, input) in net.inputs().iter().enumerate() {
+        values[i] = bit_in_words(field, words, xs, *input);
     }
+    Ok(values)
 }
 
-// The bits of the cycle after cycle t, if words and fed nets can have theirs.
-fn next_cycle<F: Field>(
-    alloc: Global,
-    field: &F,
-    net: &Net,
-    words: &[CircuitWord],
-    _output: &CircuitWord,
-    feeds: &[CircuitFeed],
-    xs: &[u64],
-    t: u32,
-    before: &[bool],
-) -> Result<Option<Vec<bool>>, AllocError>
-    requires over { AreOver (F.degree field.now) (F.product field.now) words.now }
-    requires long { length xs.now ≡ length words.now }
-    requires elements { (x : ℕ) → Has xs.now x → x < 2 ^ F.degree field.now }
-    requires few { t < 4294967295 }
-    requires reached { IsReached (job_of_parts (F.degree field.now) (F.product field.now) net.now words.now _output.now feeds.now) xs.now t before.now }
-    ensures reached { IfOk result (λ found. IfSome found (λ v. IsReached (job_of_parts (F.degree field.now) (F.product field.now) net.now words.now _output.now feeds.now) xs.now (t + 1) v.items)) }
-    ensures complete { IfOk result (λ found. IsJob (job_of_parts (F.degree field.now) (F.product field.now) net.now words.now _output.now feeds.now 0) → IsSome found) }
-{
-    let bits = next_bits(alloc, field, net, words, xs, feeds, t + 1, before)?;
-    if is_cycle(field, words, xs, feeds, t + 1, &bits) {
-        Ok(Some(bits))
-    } else {
-        Ok(None)
-    }
-}
-
-// The bits of the last cycle, if words and fed nets can have theirs in each.
-fn last_cycle<F: Field>(
-    alloc: Global,
-    field: &F,
-    net: &Net,
-    words: &[CircuitWord],
-    output: &CircuitWord,
-    feeds: &[CircuitFeed],
-    xs: &[u64],
-    cycles: u32,
-) -> Result<Option<Vec<bool>>, AllocError>
-    requires over { AreOver (F.degree field.now) (F.product field.now) words.now }
-    requires long { length xs.now ≡ length words.now }
-    requires elements { (x : ℕ) → Has xs.now x → x < 2 ^ F.degree field.now }
-    ensures reached { IfOk result (λ found. IfSome found (λ v. IsReached (job_of_parts (F.degree field.now) (F.product field.now) net.now words.now output.now feeds.now) xs.now cycles v.items)) }
-    ensures complete { IfOk result (λ found. IsJob (job_of_parts (F.degree field.now) (F.product field.now) net.now words.now output.now feeds.now 0) → IsSome found) }
-{
-    let mut bits = match first_cycle(alloc, field, net, words, output, feeds, xs)? {
-        Some(bits) => bits,
-        None => return Ok(None),
-    };
-    for t in 0..cycles {
-        bits = match next_cycle(alloc, field, net, words, output, feeds, xs, t, &bits)? {
-            Some(bits) => bits,
-            None => return Ok(None),
-        };
-    }
-    Ok(Some(bits))
-}
-
-/// The output of a job at an input after so many cycles, cycle by cycle and gate by gate: slow, and no more than the
-/// definition. Where these parts are a job it is the output; elsewhere it may be none, as where a word that is not fed
-/// has not k nets, or its nets can't have the bits of its element, or a fed net is in a word.
-pub fn job_output<F: Field>(
-    alloc: Global,
-    field: &F,
-    net: &Net,
-    words: &[CircuitWord],
-    output: &CircuitWord,
-    feeds: &[CircuitFeed],
-    xs: &[u64],
-    cycles: u32,
-) -> Result<Option<u64>, AllocError>
-    requires over { AreOver (F.degree field.now) (F.product field.now) words.now }
-    requires over_output { IsOver (F.degree field.now) (F.product field.now) output.now.basis }
-    requires long { length xs.now ≡ length words.now }
-    requires elements { (x : ℕ) → Has xs.now x → x < 2 ^ F.degree field.now }
-    ensures output { IfOk result (λ found. IfSome found (λ e. IsOut (job_of_parts (F.degree field.now) (F.product field.now) net.now words.now output.now feeds.now cycles) xs.now e)) }
-    ensures complete { IfOk result (λ found. IsJob (job_of_parts (F.degree field.now) (F.product field.now) net.now words.now output.now feeds.now cycles) → IsSome found) }
-{
-    match last_cycle(alloc, field, net, words, output, feeds, xs, cycles)? {
-        Some(bits) => Ok(element(field, &bits, output)),
-        None => Ok(None),
-    }
-}
-
-/// The output of a circuit of one cycle at an input, by evaluation gate by gate: slow, and no more than the
+/// The output of a circuit without latches at an input, by evaluation gate by gate: slow, and no more than the
 /// definition. Where the circuit is well-formed it is the output; elsewhere it may be none, as where a word has not
 /// k nets, or its nets can't have the bits of its element.
 pub fn output<F: Field>(
@@ -183,6 +109,7 @@ pub fn output<F: Field>(
     output: &CircuitWord,
     xs: &[u64],
 ) -> Result<Option<u64>, AllocError>
+    requires flat { net.now.latches ≡ [] }
     requires over { AreOver (F.degree field.now) (F.product field.now) words.now }
     requires over_output { IsOver (F.degree field.now) (F.product field.now) output.now.basis }
     requires long { length xs.now ≡ length words.now }
@@ -190,6 +117,11 @@ pub fn output<F: Field>(
     ensures output { IfOk result (λ found. IfSome found (λ e. IsOut (circuit_of_parts (F.degree field.now) (F.product field.now) net.now words.now output.now) xs.now e)) }
     ensures complete { IfOk result (λ found. IsWellFormed (circuit_of_parts (F.degree field.now) (F.product field.now) net.now words.now output.now) → IsSome found) }
 {
-    let found = job_output(alloc, field, net, words, output, &[], xs, 0)?;
-    Ok(found)
+    let values = input_values(alloc, field, net, words, xs)?;
+    let bits = eval(alloc, net, &values)?;
+    if have_elements(field, &bits, words, xs) {
+        Ok(element(field, &bits, output))
+    } else {
+        Ok(None)
+    }
 }

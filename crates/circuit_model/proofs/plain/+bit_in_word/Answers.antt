@@ -1,6 +1,6 @@
 use Rattle.circuit_model.proofs.SliceLemmas.{rest_has}
 use Rattle.circuit_model.proofs.BitLemmas.{bit_first, bit_later}
-use Rattle.circuit_model.proofs.word_bits.+bit_in_word.Goals as goal
+use Rattle.circuit_model.proofs.plain.+bit_in_word.Goals as goal
 
 pub returns-then-first-net-clause-bit : goal.returns-then-first-net-clause-bit
 returns-then-first-net-clause-bit t c = λ place got once. bit_first c.args.nets.now c.args.net c.args.bits place c.in-len1-up.len_at_least c.if-first-net.true got once

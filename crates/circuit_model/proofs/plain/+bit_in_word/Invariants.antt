@@ -1,5 +1,5 @@
 use Rattle.std.proofs.Common.{length}
-use Rattle.circuit_model.proofs.word_bits.+bit_in_word.Given as goal
+use Rattle.circuit_model.proofs.plain.+bit_in_word.Given as goal
 
 abbrev pub decreases-bit_in_word : goal.decreases-bit_in_word
 decreases-bit_in_word l = length l.nets.now

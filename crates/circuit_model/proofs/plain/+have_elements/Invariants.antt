@@ -1,5 +1,5 @@
 use Rattle.std.proofs.Common.{length}
-use Rattle.circuit_model.proofs.word_bits.+have_elements.Given as goal
+use Rattle.circuit_model.proofs.plain.+have_elements.Given as goal
 
 abbrev pub decreases-have_elements : goal.decreases-have_elements
 decreases-have_elements g l = length l.words.now
