@@ -9,13 +9,14 @@ use Rattle.poly_mixed.specs.Polynomial.{Terms, Point, value}
 use Rattle.circuit_model.specs.Alike.{AreAlike}
 use Rattle.circuit_model.specs.Circuit.{Circuit, IsInput}
 use Rattle.circuit_model.specs.Differing.{IsDifferingInput}
+use Rattle.circuit_model.specs.JobOfBinding.{job_word_with, job_words_of}
 use Rattle.circuit_model.specs.OfBinding.{word_with, words_of}
 use Rattle.circuit_model.specs.Out.{IsOut}
 use Rattle.circuit_model.specs.Word.{Word}
 use Rattle.circuit_model.proofs.OnesLemmas.{alike_back, alike_long, alike_ones}
 use Rattle.spec_expand.specs.Specification.{SpecTerms}
 use Rattle.job_input.specs.CircuitOf.{CircuitOf, all_cycles}
-use Rattle.job_input.specs.JobOf.{job_of, job_with, job_word_with, job_words_of}
+use Rattle.job_input.specs.JobOf.{job_of}
 use Rattle.job_input.specs.NetlistOf.{BoundNetOf, NetlistText}
 use Rattle.job_input.specs.SettingSound.{IsSoundSetting}
 use Rattle.job_input.specs.SettingValue.{SettingValue}

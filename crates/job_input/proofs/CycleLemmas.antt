@@ -1,14 +1,16 @@
 -- All cycles of a netlist as one circuit.
-use Rattle.std.proofs.Common.{◌≡◌, ◌∙◌, ap, sym, refl, subst, inl, inr, ℕ, suc, Bool, ◌<◌, ◌≤◌, ◌*◌, List, [], ◌∷◌, length, map, take, drop, true, false, cond, Result, Ok, Err, arith}
+use Rattle.std.proofs.Common.{◌≡◌, ◌∙◌, ap, sym, refl, subst, inl, inr, ℕ, suc, ◌⊎◌, ◌^◌, Bool, ◌<◌, ◌≤◌, ◌*◌, List, [], ◌∷◌, length, map, take, drop, true, false, cond, Result, Ok, Err, arith}
 use Rattle.std.specs.Prelude.{IfOk}
+use Rattle.std.proofs.lemmas.Bool.{cases_lt}
 use Rattle.std.specs.List.{list_any}
 use Rattle.text_core.specs.Outcome.{Determined}
-use Rattle.net_core.specs.NetList.{NetList}
+use Rattle.net_core.specs.NetList.{NetList, nets}
 use Rattle.net_words.specs.Binding.{Binding, BoundNet}
 use Rattle.net_words.specs.Rebind.{rebinding, rebound}
 use Rattle.net_words.specs.declared.bound.BoundWord.{BoundWord}
 use Rattle.unroll.specs.Unrolled.{in_one_cycle, is_flat, unrolled, unrolled_nets}
 use Rattle.job_words.specs.declared.netlist_fault.NetlistFault.{NetlistFault}
+use Rattle.job_words.specs.declared.netlist_fault.NetlistFault.TheVariants.{TooManyNets, TooManyGates}
 use Rattle.job_words.specs.declared.stop.Stop.{Stop}
 use Rattle.job_input.specs.CircuitOf.{CircuitOf, all_cycles}
 use Rattle.job_input.specs.Setting.{IsReady, IsTakenFor}
@@ -71,3 +73,24 @@ pub still_taken_for : (setting : Setting) (netlist : BoundNet) (result : Result 
     → IfOk result (λ circuit. (k : ℕ) (product : ℕ → ℕ → ℕ) → IsReady k product setting → IsTakenFor k setting circuit)
 still_taken_for setting netlist (Ok circuit) keeps taken = λ k product ready. keeps k setting (taken k product ready)
 still_taken_for setting netlist (Err stop) keeps taken = tt
+
+-- ---- what comes of unrolling
+
+le_of_not_lt : (m n : ℕ) → (m < n → ⊥) → n ≤ m
+le_of_not_lt m n none = by (cases_lt m n)
+  where
+    by : (m < n) ⊎ (n ≤ m) → n ≤ m
+    by (inl less) = absurd (none less)
+    by (inr le) = le
+
+pub circuit_made : (netlist circuit : BoundNet) (cycles : ℕ) → circuit ≡ unrolled netlist.net netlist.bound cycles → (2 ^ 20 < nets (unrolled netlist.net netlist.bound cycles).net → ⊥) → length (unrolled netlist.net netlist.bound cycles).net.gates ≤ 2 ^ 20 → CircuitOf netlist cycles (Ok circuit)
+unfolding all_cycles
+circuit_made netlist circuit cycles made few room = (made, le_of_not_lt (2 ^ 20) (nets (unrolled netlist.net netlist.bound cycles).net) few, room)
+
+pub too_many_nets : (netlist : BoundNet) (cycles : ℕ) → 2 ^ 20 < nets (unrolled netlist.net netlist.bound cycles).net → CircuitOf netlist cycles (Err TooManyNets)
+unfolding all_cycles
+too_many_nets netlist cycles many = inl (refl, many)
+
+pub too_many_gates : (netlist : BoundNet) (cycles : ℕ) → (2 ^ 20 < nets (unrolled netlist.net netlist.bound cycles).net → ⊥) → 2 ^ 20 < length (unrolled netlist.net netlist.bound cycles).net.gates → CircuitOf netlist cycles (Err TooManyGates)
+unfolding all_cycles
+too_many_gates netlist cycles few many = inr (refl, le_of_not_lt (2 ^ 20) (nets (unrolled netlist.net netlist.bound cycles).net) few, many)
