@@ -1,6 +1,6 @@
 -- What reaches the output word of the unrolled net.
-use Rattle.std.proofs.Common.{◌≡◌, ◌≢◌, ◌⊎◌, ◌∙◌, ap, sym, refl, subst, inl, inr, ℕ, zero, suc, ◌<◌, ◌≤◌, ◌+◌, Bool, true, false, not, List, [], ◌∷◌, ◌++◌, length, map, Some, arith}
-use Rattle.std.specs.Prelude.{slice_get, ◌==◌}
+use Rattle.std.proofs.Common.{◌≡◌, ◌⊎◌, ◌∙◌, ap, sym, refl, subst, inl, inr, ℕ, zero, suc, ◌<◌, ◌≤◌, ◌+◌, Bool, true, false, not, List, [], ◌∷◌, ◌++◌, map, arith}
+use Rattle.std.specs.Prelude.{◌==◌}
 use Rattle.std.proofs.Common.{eq-eqb}
 use Rattle.std.specs.List.{filter, range_with_len}
 use Rattle.std.proofs.lemmas.List.{map-append}
@@ -18,7 +18,6 @@ use Rattle.net_words.specs.Feeds.{fed_nets, is_fed}
 use Rattle.net_words.specs.OneCycle.{IsClosed}
 use Rattle.net_words.specs.Reach.{Draws, Reaches, ReachesByGates}
 use Rattle.net_words.specs.Rebind.{rebound}
-use Rattle.net_words.specs.Roles.{in_word}
 use Rattle.net_words.specs.Variables.{bits}
 use Rattle.net_words.specs.declared.bound.BoundWord.{BoundWord}
 use Rattle.net_words.specs.declared.feed.Feed.{Feed}
@@ -26,8 +25,8 @@ use Rattle.net_words.specs.declared.feed.Source.{Source}
 use Rattle.net_words.specs.declared.feed.Source.TheVariants.{Zero, One, Bit}
 use Rattle.net_words.specs.declared.word.Role.{Role}
 use Rattle.net_words.specs.declared.word.Role.TheVariants.{Input, State, Fed, Output}
-use Rattle.net_words.proofs.MemberLemmas.{any_has, has_stands, output_bits_word, word_bits}
-use Rattle.unroll.specs.Gates.{bit_net, gates_to, is_held, source_gate}
+use Rattle.net_words.proofs.MemberLemmas.{any_has, output_bits_word, word_bits}
+use Rattle.unroll.specs.Gates.{bit_net, is_held, source_gate}
 use Rattle.unroll.specs.Nets.{all_cycles, unrolled_inputs}
 use Rattle.unroll.specs.Places.{net_at, cycle_nets, fed_bits, fed_count}
 use Rattle.unroll.specs.Sources.{source_at}

@@ -1,7 +1,7 @@
 -- The gates, cycle by cycle.
-use Rattle.std.proofs.Common.{◌≡◌, ◌⊎◌, ◌∙◌, ap, inl, inr, ℕ, zero, suc, ◌<◌, ◌≤◌, ◌+◌, ◌*◌, List, ◌++◌, length, length-append, arith, add-one}
+use Rattle.std.proofs.Common.{◌≡◌, ◌∙◌, ap, inl, inr, ℕ, zero, suc, ◌<◌, ◌≤◌, ◌+◌, ◌++◌, length, length-append, arith, add-one}
 use Rattle.std.proofs.lemmas.Bool.{cases_lt}
-use Rattle.net_core.specs.NetList.{NetList, nets}
+use Rattle.net_core.specs.NetList.{NetList}
 use Rattle.net_words.specs.Binding.{Binding}
 use Rattle.unroll.specs.Gates.{first_gates, gates_to, next_gates}
 use Rattle.unroll.specs.private.Plan.{HasRoom, net_count, with_gates}

@@ -1,6 +1,6 @@
 -- How often the nets of all cycles are driven.
-use Rattle.std.proofs.Common.{◌≡◌, ◌≢◌, ◌⊎◌, ◌∙◌, ap, sym, refl, subst, inl, inr, ℕ, zero, suc, ◌<◌, ◌≤◌, ◌+◌, ◌-◌, ◌*◌, Bool, true, false, not, List, [], ◌∷◌, ◌++◌, length, length-append, map, cond, Some, arith, All, append-nil}
-use Rattle.std.specs.Prelude.{slice_get, ◌==◌, if◌then◌else◌}
+use Rattle.std.proofs.Common.{◌≡◌, ◌≢◌, ◌∙◌, ap, sym, refl, subst, inl, inr, ℕ, zero, suc, ◌<◌, ◌≤◌, ◌+◌, Bool, true, false, not, List, [], ◌∷◌, ◌++◌, length, length-append, map, cond, arith}
+use Rattle.std.specs.Prelude.{if◌then◌else◌}
 use Rattle.std.specs.List.{filter, range_with_len}
 use Rattle.std.proofs.lemmas.Bool.{cases_lt}
 use Rattle.std.proofs.lemmas.List.{map-append}
@@ -10,7 +10,7 @@ use Rattle.net_core.specs.LatchValue.{LatchValue}
 use Rattle.net_core.specs.Inside.{GateIsInside, LatchIsInside}
 use Rattle.net_core.specs.Lists.{Has, times}
 use Rattle.net_core.specs.NetList.{NetList, nets}
-use Rattle.net_core.specs.Sound.{sources, driven, drivers, IsSound, HasOneDriverEach}
+use Rattle.net_core.specs.Sound.{sources, driven, IsSound}
 use Rattle.net_core.proofs.DriverLemmas.{Has_cases, from_map, times_append, times_some, one_here, none_here}
 use Rattle.net_words.specs.Binding.{Binding}
 use Rattle.net_words.proofs.ZipLemmas.{map-long}
@@ -18,11 +18,10 @@ use Rattle.net_words.specs.Feeds.{is_fed}
 use Rattle.net_words.specs.declared.feed.Source.{Source}
 use Rattle.net_words.specs.declared.feed.Source.TheVariants.{Zero, One, Bit}
 use Rattle.unroll.specs.Gates.{buffer, feeding_gate, first_gates, gate_at, gates_to, input_gate, is_held, latch_gate, next_gates, source_gate, start_gate}
-use Rattle.unroll.specs.Nets.{all_cycles, unrolled_inputs}
+use Rattle.unroll.specs.Nets.{unrolled_inputs}
 use Rattle.unroll.specs.Places.{net_at, cycle_nets, fed_count}
 use Rattle.unroll.specs.Sources.{source_at}
-use Rattle.unroll.proofs.PlaceLemmas.{first_at, at_below, one_cycle, one_net}
-use Rattle.unroll.proofs.LaidLemmas.{has_filter}
+use Rattle.unroll.proofs.PlaceLemmas.{first_at, at_below, one_cycle}
 
 pub absent : (n : ℕ) (xs : List ℕ) → (Has xs n → ⊥) → times n xs ≡ 0
 absent n xs none =

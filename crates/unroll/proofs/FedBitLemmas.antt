@@ -1,5 +1,5 @@
 -- The bits of the fed words, one word after another.
-use Rattle.std.proofs.Common.{◌≡◌, ◌≢◌, ◌⊎◌, ◌∙◌, ap, sym, refl, subst, inl, inr, ℕ, zero, suc, ◌<◌, ◌≤◌, ◌+◌, ◌-◌, ◌*◌, ◌/◌, ◌%◌, ◌^◌, Bool, true, false, not, List, [], ◌∷◌, ◌++◌, length, length-append, map, take, Some, cond, get_or, arith}
+use Rattle.std.proofs.Common.{◌≡◌, ◌∙◌, ap, sym, refl, subst, ℕ, zero, suc, ◌<◌, ◌≤◌, ◌+◌, ◌-◌, ◌^◌, Bool, not, List, [], ◌∷◌, ◌++◌, length, take, Some, cond, arith}
 use Rattle.std.specs.Prelude.{slice_get, ◌==◌, filter}
 use Rattle.std.specs.Int.{bit_at}
 use Rattle.std.specs.List.{range_with_len}
@@ -15,7 +15,7 @@ use Rattle.circuit_model.specs.Word.{Word}
 use Rattle.circuit_model.specs.JobOfBinding.{inner_number}
 use Rattle.circuit_model.proofs.BitLemmas.{index_is}
 use Rattle.circuit_model.proofs.GivenLemmas.{bits_at, bits_by, bits_long}
-use Rattle.unroll.specs.Places.{fed_bits, fed_count, first_bit}
+use Rattle.unroll.specs.Places.{fed_bits, first_bit}
 use Rattle.unroll.proofs.PlaceLemmas.{bit_high}
 
 pub bit_left : (a b : List Bool) (n : ℕ) → n < length a → bit_of (a ++ b) n ≡ bit_of a n

@@ -1,12 +1,12 @@
 -- Nets of which nothing is left to unroll.
-use Rattle.std.proofs.Common.{◌≡◌, ◌≢◌, ◌⊎◌, ◌∙◌, ap, sym, refl, subst, inl, inr, ℕ, zero, suc, ◌<◌, ◌≤◌, ◌&&◌, Bool, true, false, not, List, [], ◌∷◌, length, Some, arith, All}
-use Rattle.std.specs.Prelude.{slice_get, if◌then◌else◌}
+use Rattle.std.proofs.Common.{◌≡◌, ap, refl, inl, inr, ℕ, ◌&&◌, Bool, true, false, not, List, [], ◌∷◌, length, arith}
+use Rattle.std.specs.Prelude.{if◌then◌else◌}
 use Rattle.std.specs.List.{list_any}
 use Rattle.net_core.specs.LatchValue.{LatchValue}
 use Rattle.net_core.specs.Lists.{Has}
 use Rattle.net_core.specs.NetList.{NetList}
 use Rattle.net_core.proofs.DriverLemmas.{All_has}
-use Rattle.net_words.specs.Binding.{Binding, BoundNet, HasWidth}
+use Rattle.net_words.specs.Binding.{Binding, HasWidth}
 use Rattle.net_words.specs.BoundTo.{IsBoundTo}
 use Rattle.net_words.specs.OneCycle.{IsFlat}
 use Rattle.net_words.specs.Roles.{same_role}

@@ -1,15 +1,14 @@
 -- What a circuit of one cycle computes, in however many cycles.
-use Rattle.std.proofs.Common.{◌≡◌, ◌≢◌, ◌⊎◌, ◌∙◌, ap, sym, refl, subst, inl, inr, ℕ, zero, suc, ◌<◌, ◌≤◌, ◌+◌, Bool, true, false, List, [], ◌∷◌, ◌++◌, length, map, Some, get_or, arith, All}
-use Rattle.std.specs.Prelude.{slice_get, ◌↔◌, if◌then◌else◌}
-use Rattle.std.proofs.lemmas.Option.{slice_get-get_or}
+use Rattle.std.proofs.Common.{◌≡◌, ◌≢◌, ◌∙◌, ap, sym, refl, subst, ℕ, zero, suc, Bool, List, [], ◌∷◌, ◌++◌, length, map, Some, arith}
+use Rattle.std.specs.Prelude.{slice_get}
 use Rattle.net_core.specs.LatchValue.{LatchValue}
 use Rattle.net_core.specs.Lists.{Has}
-use Rattle.net_core.specs.NetList.{NetList, nets}
+use Rattle.net_core.specs.NetList.{NetList}
 use Rattle.net_core.specs.Sound.{IsSound}
 use Rattle.net_core.proofs.DriverLemmas.{All_has}
-use Rattle.net_words.specs.Binding.{Binding, BoundNet}
+use Rattle.net_words.specs.Binding.{Binding}
 use Rattle.net_words.specs.BoundTo.{IsBoundTo}
-use Rattle.net_words.specs.OneCycle.{IsFlat, IsOneCycle}
+use Rattle.net_words.specs.OneCycle.{IsFlat}
 use Rattle.net_words.specs.declared.bound.BoundWord.{BoundWord}
 use Rattle.net_words.specs.declared.word.Role.{Role}
 use Rattle.net_words.specs.declared.word.Role.TheVariants.{Input, State, Fed, Output}
@@ -20,20 +19,15 @@ use Rattle.circuit_model.specs.Circuit.{Circuit, IsInput}
 use Rattle.circuit_model.specs.Job.{IsJob}
 use Rattle.circuit_model.specs.JobOfBinding.{job_word_with, job_words_of}
 use Rattle.circuit_model.specs.OfBinding.{circuit_with, HaveBases, word_with, words_of}
-use Rattle.circuit_model.specs.Out.{Ends, IsOut}
-use Rattle.circuit_model.specs.Run.{HaveElements, IsCycle, IsFirst, IsOpenRun, IsRun}
+use Rattle.circuit_model.specs.Out.{IsOut}
+use Rattle.circuit_model.specs.Run.{HaveElements, IsCycle, IsFirst, IsOpenRun}
 use Rattle.circuit_model.specs.WellFormed.{IsWellFormed}
-use Rattle.circuit_model.specs.Word.{HasElement, IsAnyWord, Word}
+use Rattle.circuit_model.specs.Word.{HasElement, Word}
 use Rattle.circuit_model.proofs.BoundLemmas.{bound_well}
 use Rattle.circuit_model.proofs.JobBoundLemmas.{job_well}
 use Rattle.circuit_model.proofs.OutLemmas.{job_some_out, one_out, open_out}
-use Rattle.unroll.specs.Unrolled.{in_one_cycle, is_flat, unrolled}
-use Rattle.unroll.proofs.FlatLemmas.{flat_from, unrolled_flat, unrolled_laid}
 use Rattle.unroll.proofs.FromRunLemmas.{job_of}
-use Rattle.unroll.proofs.OutputLemmas.{cycles_output}
-use Rattle.unroll.proofs.RunLemmas.{row}
-use Rattle.unroll.proofs.WordLemmas.{fed_bare, stood}
-use Rattle.unroll.specs.Nets.{all_cycles}
+use Rattle.unroll.proofs.WordLemmas.{stood}
 
 -- a word of the circuit and the word of the job at the same place
 pub record IsFlatWord (words : List BoundWord) (bases : List (List ℕ)) (i : ℕ) (w : Word) : Type 0 where

@@ -1,40 +1,34 @@
 -- What a run of a job says of the bits of all cycles.
-use Rattle.std.proofs.Common.{◌≡◌, ◌≢◌, ◌⊎◌, ◌∙◌, ap, sym, refl, subst, inl, inr, ℕ, zero, suc, ◌<◌, ◌≤◌, ◌+◌, ◌^◌, ◌&&◌, Bool, true, false, List, [], ◌∷◌, length, map, Some, get_or, cond, arith, eq-eqb}
+use Rattle.std.proofs.Common.{◌≡◌, ◌≢◌, ◌∙◌, ap, sym, refl, subst, inl, inr, ℕ, zero, suc, ◌≤◌, ◌+◌, ◌&&◌, Bool, true, false, List, [], ◌∷◌, length, map, Some, get_or, cond, arith, eq-eqb}
 use Rattle.std.specs.Prelude.{slice_get, ◌==◌}
-use Rattle.std.specs.Int.{bit_at}
 use Rattle.std.proofs.lemmas.Option.{slice_get-get_or}
 use Rattle.std.proofs.lemmas.Option.{slice_get_within}
 use Rattle.net_core.specs.LatchValue.{LatchValue}
 use Rattle.net_core.specs.Lists.{Has}
-use Rattle.net_core.specs.NetList.{NetList, nets}
+use Rattle.net_core.specs.NetList.{NetList}
 use Rattle.net_core.specs.Sound.{IsSound}
-use Rattle.net_core.specs.Value.{bit_of, IsConsistent}
+use Rattle.net_core.specs.Value.{bit_of}
 use Rattle.net_core.specs.declared.latch.Start.{Start}
 use Rattle.net_core.specs.declared.latch.Start.TheVariants as starts
 use Rattle.net_core.proofs.DriverLemmas.{Has_map, from_map}
-use Rattle.net_words.specs.Binding.{Binding, BoundNet}
+use Rattle.net_words.specs.Binding.{Binding}
 use Rattle.net_words.specs.BoundTo.{IsBoundTo}
 use Rattle.net_words.specs.Feeds.{is_fed, fed_nets as bound_fed_nets}
-use Rattle.net_words.specs.Roles.{in_word, same_role}
+use Rattle.net_words.specs.Roles.{same_role}
 use Rattle.net_words.specs.Variables.{bits}
 use Rattle.net_words.specs.declared.bound.BoundWord.{BoundWord}
 use Rattle.net_words.specs.declared.feed.Feed.{Feed}
 use Rattle.net_words.specs.declared.feed.Source.{Source}
 use Rattle.net_words.specs.declared.feed.Source.TheVariants.{Zero, One, Bit}
-use Rattle.net_words.specs.declared.word.Role.{Role}
-use Rattle.net_words.specs.declared.word.Role.TheVariants.{Input, State, Fed, Output}
+use Rattle.net_words.specs.declared.word.Role.TheVariants.{Input, State, Output}
 use Rattle.net_words.proofs.FeedLemmas.{fed_has}
 use Rattle.net_words.proofs.MemberLemmas.{any_has, bits_word}
-use Rattle.gf_basis.specs.Basis.{AreBits}
-use Rattle.circuit_model.specs.declared.circuit_feed.CircuitFeed.{CircuitFeed}
 use Rattle.circuit_model.specs.declared.circuit_feed.FeedSource.{FeedSource}
-use Rattle.circuit_model.specs.declared.circuit_feed.FeedSource.TheVariants.{Constant, Bit as BitOf}
-use Rattle.circuit_model.specs.Circuit.{Circuit, IsFed, IsFree, IsInNoWord, IsInput}
+use Rattle.circuit_model.specs.Circuit.{Circuit, IsFree, IsInNoWord}
 use Rattle.circuit_model.specs.Feeds.{fed_nets, source_at as job_source_at}
 use Rattle.circuit_model.specs.Job.{IsJob, IsSource as IsJobSource}
 use Rattle.circuit_model.specs.JobOfBinding.{inner_number, inner_source, job_feed, job_with, job_words_of}
 use Rattle.circuit_model.specs.Run.{HasSource, IsRun, IsStart}
-use Rattle.circuit_model.specs.Word.{HasElement, Word, word_nets}
 use Rattle.circuit_model.proofs.FeedLemmas.{source_fits}
 use Rattle.circuit_model.proofs.GivenLemmas.{has_or}
 use Rattle.circuit_model.proofs.JobBoundLemmas.{job_nets_of}

@@ -1,12 +1,12 @@
 -- Lists to which a loop adds piece by piece.
-use Rattle.std.proofs.Common.{◌≡◌, ◌∙◌, ap, sym, refl, subst, ℕ, zero, suc, ◌<◌, ◌≤◌, ◌+◌, ◌^◌, Bool, true, false, not, List, [], ◌∷◌, ◌++◌, length, map, take, drop, get_or, cond, arith, add-one, append_assoc, append-nil, length-append, take_all}
+use Rattle.std.proofs.Common.{◌≡◌, ◌∙◌, ap, sym, refl, subst, ℕ, zero, suc, ◌<◌, ◌≤◌, ◌+◌, Bool, List, [], ◌∷◌, ◌++◌, length, map, take, drop, get_or, arith, add-one, append_assoc, length-append}
 use Rattle.std.specs.List.{filter}
 use Rattle.std.proofs.Math.Seq.{take-suc}
 use Rattle.std.proofs.lemmas.List.{map-append}
 use Rattle.std.proofs.lemmas.List.Elements.{filter-append}
 use Rattle.net_core.specs.GateValue.{GateValue}
-use Rattle.net_core.specs.NetList.{NetList, LabelValue, nets}
-use Rattle.unroll.specs.private.Plan.{HasRoom, with_gates, with_inputs, with_labels, with_outputs}
+use Rattle.net_core.specs.NetList.{NetList, LabelValue}
+use Rattle.unroll.specs.private.Plan.{HasRoom, with_gates, with_inputs, with_labels}
 
 -- what joins of lists are taken to is the join of what they are taken to
 abbrev pub IsJoining : {X Y : Type 0} → (List X → List Y) → Type 0

@@ -1,6 +1,6 @@
 -- The gates of all cycles, kind by kind.
-use Rattle.std.proofs.Common.{◌≡◌, ◌⊎◌, ◌∙◌, ap, sym, refl, subst, inl, inr, ℕ, zero, suc, ◌<◌, ◌≤◌, ◌+◌, Bool, true, false, not, List, [], ◌∷◌, ◌++◌, length, map, Some, arith}
-use Rattle.std.specs.Prelude.{slice_get, if◌then◌else◌}
+use Rattle.std.proofs.Common.{◌≡◌, ◌∙◌, ap, sym, refl, subst, inl, inr, ℕ, zero, suc, ◌<◌, ◌≤◌, ◌+◌, Bool, true, false, not, List, [], ◌∷◌, ◌++◌, map, Some, arith}
+use Rattle.std.specs.Prelude.{if◌then◌else◌}
 use Rattle.std.specs.List.{filter}
 use Rattle.net_core.specs.GateValue.{GateValue}
 use Rattle.net_core.specs.LatchValue.{LatchValue}
@@ -9,7 +9,7 @@ use Rattle.net_core.specs.NetList.{NetList, nets}
 use Rattle.net_core.proofs.DriverLemmas.{Has_cases, from_map}
 use Rattle.net_words.specs.Binding.{Binding}
 use Rattle.net_words.specs.Feeds.{is_fed}
-use Rattle.unroll.specs.Gates.{buffer, feeding_gate, first_gates, gate_at, gates_to, input_gate, is_held, latch_gate, next_gates, start_gate}
+use Rattle.unroll.specs.Gates.{buffer, feeding_gate, gate_at, gates_to, input_gate, is_held, latch_gate, next_gates, start_gate}
 use Rattle.unroll.specs.Places.{net_at}
 
 -- what passes a test is in the list and passes

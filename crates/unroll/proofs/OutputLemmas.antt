@@ -1,19 +1,18 @@
 -- What the unrolled circuit computes is what the job computes.
-use Rattle.std.proofs.Common.{◌≡◌, ◌≢◌, ◌⊎◌, ◌∙◌, ap, sym, refl, subst, inl, inr, ℕ, zero, suc, ◌<◌, ◌≤◌, ◌+◌, ◌^◌, Bool, true, false, List, [], ◌∷◌, ◌++◌, length, map, Some, get_or, arith, All}
-use Rattle.std.specs.Prelude.{slice_get, ◌==◌, ◌↔◌}
-use Rattle.std.specs.Int.{bit_at}
+use Rattle.std.proofs.Common.{◌≡◌, ◌∙◌, ap, sym, refl, subst, ℕ, zero, suc, ◌<◌, ◌+◌, ◌^◌, Bool, false, List, [], ◌∷◌, length, map, Some, get_or, arith}
+use Rattle.std.specs.Prelude.{slice_get, ◌↔◌}
 use Rattle.std.specs.List.{range_with_len}
 use Rattle.std.proofs.lemmas.List.FromFn.{length-range_with_len}
 use Rattle.std.proofs.lemmas.Option.{slice_get-get_or, slice_get_within}
 use Rattle.net_core.specs.Lists.{Has}
 use Rattle.net_core.specs.NetList.{NetList, nets}
 use Rattle.net_core.specs.Sound.{IsSound}
-use Rattle.net_core.specs.Value.{bit_of, index_of, IsConsistent}
+use Rattle.net_core.specs.Value.{index_of}
 use Rattle.net_core.specs.Inside.{LatchIsInside}
 use Rattle.net_core.specs.LatchValue.{LatchValue}
 use Rattle.net_core.proofs.DriverLemmas.{All_has, from_map}
 use Rattle.net_core.proofs.EvalLemmas.{index_agree}
-use Rattle.net_words.specs.Binding.{Binding, BoundNet}
+use Rattle.net_words.specs.Binding.{Binding}
 use Rattle.net_words.specs.BoundTo.{IsBoundTo, output_bits}
 use Rattle.net_words.specs.OneCycle.{IsOneCycle}
 use Rattle.net_words.specs.Rebind.{rebinding, rebound}
@@ -25,10 +24,10 @@ use Rattle.net_words.proofs.FlatLemmas.{rebound_cycle}
 use Rattle.net_words.proofs.ZipLemmas.{map-long}
 use Rattle.gf_field.specs.Field.{HasNoZeroDivisors}
 use Rattle.gf_field.specs.Ring.{IsRing}
-use Rattle.gf_basis.specs.Basis.{AreBits, IsBasis}
+use Rattle.gf_basis.specs.Basis.{AreBits}
 use Rattle.circuit_model.specs.Circuit.{Circuit, IsInput}
 use Rattle.circuit_model.specs.Job.{IsJob}
-use Rattle.circuit_model.specs.JobOfBinding.{inner_number, job_with, job_words_of}
+use Rattle.circuit_model.specs.JobOfBinding.{inner_number, job_words_of}
 use Rattle.circuit_model.specs.OfBinding.{circuit_with, HaveBases, output_basis, words_of}
 use Rattle.circuit_model.specs.Out.{Ends, IsOut}
 use Rattle.circuit_model.specs.Run.{HaveElements, IsCycle, IsFirst, IsOpenRun, IsRun}
@@ -37,13 +36,10 @@ use Rattle.circuit_model.specs.Word.{HasElement, IsInputWord, IsStateWord, Word}
 use Rattle.circuit_model.proofs.BoundLemmas.{bound_well}
 use Rattle.circuit_model.proofs.JobBoundLemmas.{job_well}
 use Rattle.circuit_model.proofs.OutLemmas.{job_some_out, one_out, open_out}
-use Rattle.unroll.specs.Gates.{bit_net, gates_to}
 use Rattle.unroll.specs.Nets.{all_cycles}
 use Rattle.unroll.specs.Places.{net_at, cycle_nets, first_bit}
 use Rattle.unroll.specs.Unrolled.{in_one_cycle, nets_with, unrolled_nets}
-use Rattle.unroll.specs.private.Plan.{net_count}
 use Rattle.unroll.proofs.PlaceLemmas.{bit_within}
-use Rattle.unroll.proofs.SoundLemmas.{cycles_sound}
 use Rattle.unroll.proofs.WordLemmas.{are_nets, moved, rebound_is, stood}
 use Rattle.unroll.proofs.ClosedLemmas.{closed, moved_output}
 use Rattle.unroll.proofs.FedBitLemmas.{AreDigits, index_range, some_digits}

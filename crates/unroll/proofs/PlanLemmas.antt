@@ -1,10 +1,9 @@
 -- What is known while the cycles of a net are laid out.
-use Rattle.std.proofs.Common.{◌≡◌, ◌≢◌, ◌⊎◌, ◌∙◌, ap, sym, refl, subst, inl, inr, ℕ, zero, suc, ◌<◌, ◌≤◌, ◌+◌, ◌-◌, ◌*◌, ◌^◌, ◌&&◌, ◌||◌, Bool, true, false, not, List, [], ◌∷◌, ◌++◌, length, length-append, map, take, drop, Some, get_or, cond, arith, add-one, append_assoc, append-nil, drop_of_length-le, drop-cons, eq-eqb, All, get_or-set_other, get_or-set_same, length-set}
-use Rattle.std.specs.Prelude.{slice_get, ◌==◌, ◌↔◌, Result, Ok, Err, IfErr, IfOk, IsErrOf, IsTrue}
-use Rattle.std.specs.List.{list_any, range_with_len}
+use Rattle.std.proofs.Common.{◌≡◌, ◌≢◌, ◌⊎◌, ◌∙◌, ap, sym, refl, subst, inl, inr, ℕ, zero, suc, ◌<◌, ◌≤◌, ◌+◌, ◌-◌, ◌^◌, ◌&&◌, ◌||◌, Bool, true, false, List, [], ◌∷◌, ◌++◌, length, length-append, map, take, drop, Some, get_or, cond, arith, add-one, append_assoc, drop-cons, eq-eqb, get_or-set_other, get_or-set_same}
+use Rattle.std.specs.Prelude.{slice_get, ◌==◌, ◌↔◌, Result, Err, IfErr, IsTrue}
 use Rattle.std.proofs.Math.ListN.{set}
 use Rattle.std.proofs.lemmas.Bool.{cases_lt}
-use Rattle.std.proofs.lemmas.Bool.Decides.{nat_tests, eqb_tells}
+use Rattle.std.proofs.lemmas.Bool.Decides.{eqb_tells}
 use Rattle.std.proofs.lemmas.Option.{slice_get_within, slice_get-get_or}
 use Rattle.std.proofs.lemmas.List.FromFn.{get_or-range_with_len}
 use Rattle.net_words.proofs.ZipLemmas.{map-get}
@@ -12,10 +11,10 @@ use Rattle.graph_core.proofs.ListLemmas.{get_below}
 use Rattle.net_core.specs.GateValue.{GateValue}
 use Rattle.net_core.specs.Inside.{GateIsInside}
 use Rattle.net_core.specs.Lists.{Has}
-use Rattle.net_core.specs.NetList.{NetList, LabelValue, empty, nets}
+use Rattle.net_core.specs.NetList.{NetList, empty, nets}
 use Rattle.net_core.specs.Sound.{IsSound}
 use Rattle.net_core.proofs.DriverLemmas.{All_has, from_map}
-use Rattle.net_words.specs.Binding.{Binding, BoundNet, HasWidth, IsBinding}
+use Rattle.net_words.specs.Binding.{Binding, HasWidth, IsBinding}
 use Rattle.net_words.specs.BoundTo.{IsBoundTo}
 use Rattle.net_words.specs.Feeds.{IsSource}
 use Rattle.net_words.specs.OneCycle.{IsClosed, IsFlat, IsOneCycle}
@@ -24,23 +23,23 @@ use Rattle.net_words.specs.Roles.{in_word, same_role, stands_in}
 use Rattle.net_words.specs.declared.bound.BoundWord.{BoundWord}
 use Rattle.net_words.specs.declared.feed.Feed.{Feed}
 use Rattle.net_words.specs.declared.feed.Source.{Source}
-use Rattle.net_words.specs.declared.feed.Source.TheVariants.{Zero, One, Bit}
+use Rattle.net_words.specs.declared.feed.Source.TheVariants.{Zero, Bit}
 use Rattle.net_words.specs.declared.word.Role.{Role}
 use Rattle.net_words.specs.declared.word.Role.TheVariants.{Input, State, Fed, Output}
 use Rattle.unroll.specs.declared.fault.UnrollFault.{UnrollFault}
-use Rattle.unroll.specs.declared.fault.UnrollFault.TheVariants.{TooManyNets, TooManyGates, OutOfMemory}
+use Rattle.unroll.specs.declared.fault.UnrollFault.TheVariants.{TooManyNets}
 use Rattle.unroll.specs.Gates.{bit_net, gate_at, gates_to}
 use Rattle.unroll.specs.Nets.{all_cycles, fed_labels, labels_to, unrolled_inputs}
-use Rattle.unroll.specs.Places.{net_at, cycle_nets, fed_bits, fed_count, first_bit}
+use Rattle.unroll.specs.Places.{net_at, cycle_nets, fed_bits, first_bit}
 use Rattle.unroll.specs.Sources.{source_at}
 use Rattle.unroll.specs.Unrolled.{in_one_cycle, nets_of_words, nets_with, unrolled, unrolled_nets}
 use Rattle.unroll.specs.private.Plan.{AreFirstBits, HasRoom, IsBit, net_count, with_inputs, with_labels, with_outputs}
 use Rattle.unroll.proofs.PlaceLemmas.{at_below, bit_within, one_cycle, one_net}
-use Rattle.unroll.proofs.CountLemmas.{fed_long, labels_long, nets_long}
+use Rattle.unroll.proofs.CountLemmas.{fed_long, labels_long}
 use Rattle.unroll.proofs.SoundLemmas.{cycles_sound, moved_inside}
 use Rattle.unroll.proofs.WordLemmas.{are_nets, stood}
 use Rattle.unroll.proofs.ClosedLemmas.{closed}
-use Rattle.unroll.proofs.FlatLemmas.{unrolled_flat, unrolled_laid}
+use Rattle.unroll.proofs.FlatLemmas.{unrolled_laid}
 use Rattle.unroll.proofs.CodeLemmas.{first_bit_here, nets_more, word_drop}
 use Rattle.unroll.proofs.GrowLemmas.{front_more}
 

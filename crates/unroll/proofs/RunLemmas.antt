@@ -1,5 +1,5 @@
 -- The bits of all cycles as the bits of the unrolled net.
-use Rattle.std.proofs.Common.{◌≡◌, ◌≢◌, ◌⊎◌, ◌∙◌, ap, sym, refl, subst, inl, inr, ℕ, zero, suc, ◌<◌, ◌≤◌, ◌+◌, ◌-◌, ◌*◌, ◌/◌, ◌%◌, Bool, true, false, not, List, [], ◌∷◌, ◌++◌, length, map, Some, get_or, cond, arith, All}
+use Rattle.std.proofs.Common.{◌≡◌, ◌∙◌, ap, sym, refl, ℕ, zero, suc, ◌<◌, ◌≤◌, ◌+◌, ◌-◌, ◌*◌, ◌/◌, ◌%◌, Bool, true, false, List, [], ◌∷◌, length, map, Some, get_or, cond, arith}
 use Rattle.std.specs.Prelude.{slice_get, ◌==◌}
 use Rattle.std.specs.Int.{bit_at}
 use Rattle.net_core.specs.GateValue.{GateValue}
@@ -18,13 +18,12 @@ use Rattle.net_words.specs.Feeds.{is_fed, IsSource}
 use Rattle.net_words.specs.declared.bound.BoundWord.{BoundWord}
 use Rattle.net_words.specs.declared.feed.Source.{Source}
 use Rattle.net_words.specs.declared.feed.Source.TheVariants.{Zero, One, Bit}
-use Rattle.net_words.specs.declared.word.Role.{Role}
 use Rattle.net_words.specs.declared.word.Role.TheVariants.{Fed}
 use Rattle.circuit_model.specs.JobOfBinding.{inner_number}
 use Rattle.circuit_model.proofs.GivenLemmas.{bits_at, bits_by, bits_long}
-use Rattle.unroll.specs.Gates.{bit_net, buffer, constant, gates_to, is_held, source_gate, start_bit}
+use Rattle.unroll.specs.Gates.{bit_net, buffer, constant, is_held, source_gate, start_bit}
 use Rattle.unroll.specs.Nets.{all_cycles}
-use Rattle.unroll.specs.Places.{net_at, cycle_nets, fed_bits, fed_count, first_bit}
+use Rattle.unroll.specs.Places.{net_at, cycle_nets}
 use Rattle.unroll.specs.Sources.{source_at}
 use Rattle.unroll.specs.private.Plan.{net_count}
 use Rattle.unroll.proofs.PlaceLemmas.{at_below, at_cycle, at_net, below, below_high, below_low, bit_high, first_at}

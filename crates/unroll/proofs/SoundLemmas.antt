@@ -1,6 +1,6 @@
 -- The net list of all cycles is sound.
-use Rattle.std.proofs.Common.{◌≡◌, ◌≢◌, ◌⊎◌, ◌∙◌, ap, sym, refl, subst, inl, inr, ℕ, zero, suc, ◌<◌, ◌≤◌, ◌+◌, ◌-◌, ◌*◌, ◌/◌, ◌%◌, ◌^◌, Bool, true, false, not, List, [], ◌∷◌, ◌++◌, length, map, Some, None, get_or, arith, All, append-nil}
-use Rattle.std.specs.Prelude.{slice_get, ◌==◌, ◌&&◌, if◌then◌else◌}
+use Rattle.std.proofs.Common.{◌≡◌, ◌∙◌, ap, sym, refl, subst, inl, inr, ℕ, zero, suc, ◌<◌, ◌≤◌, ◌+◌, ◌-◌, ◌*◌, ◌/◌, ◌%◌, ◌^◌, Bool, true, false, not, List, [], ◌∷◌, ◌++◌, length, map, get_or, arith, All, append-nil}
+use Rattle.std.specs.Prelude.{◌==◌, ◌&&◌, if◌then◌else◌}
 use Rattle.std.specs.List.{filter, range_with_len}
 use Rattle.std.proofs.lemmas.Bool.{cases_lt}
 use Rattle.std.proofs.lemmas.Option.{slice_get-get_or}
@@ -8,7 +8,7 @@ use Rattle.graph_core.specs.Walk.{IsChain, IsCycleBy}
 use Rattle.net_core.specs.GateValue.{GateValue}
 use Rattle.net_core.specs.LatchValue.{LatchValue}
 use Rattle.net_core.specs.Inside.{GateIsInside, IsInside, LatchIsInside}
-use Rattle.net_core.specs.Level.{Levels, level_at}
+use Rattle.net_core.specs.Level.{Levels}
 use Rattle.net_core.specs.Levelled.{AllHaveLevels}
 use Rattle.net_core.specs.Lists.{Has, times}
 use Rattle.net_core.specs.NetList.{NetList, nets}
@@ -29,15 +29,15 @@ use Rattle.net_words.specs.declared.feed.Source.TheVariants.{Zero, One, Bit}
 use Rattle.net_words.specs.declared.word.Role.{Role}
 use Rattle.net_words.specs.declared.word.Role.TheVariants.{Fed}
 use Rattle.net_words.proofs.ZipLemmas.{map-long}
-use Rattle.unroll.specs.Gates.{bit_net, buffer, constant, feeding_gate, gate_at, gates_to, is_held, latch_gate, source_gate, start_bit, start_gate}
+use Rattle.unroll.specs.Gates.{bit_net, buffer, constant, gate_at, gates_to, is_held, source_gate, start_bit}
 use Rattle.unroll.specs.Nets.{all_cycles, unrolled_inputs}
-use Rattle.unroll.specs.Places.{net_at, cycle_nets, fed_count, first_bit}
+use Rattle.unroll.specs.Places.{net_at, cycle_nets, fed_count}
 use Rattle.unroll.specs.Sources.{source_at}
 use Rattle.unroll.specs.private.Plan.{net_count}
 use Rattle.unroll.proofs.PlaceLemmas.{at_below, at_cycle, at_net, below, below_high, below_low, bit_high, bit_within, first_at, placed}
 use Rattle.unroll.proofs.LaidLemmas.{IsLaid, has_filter, laid, of_feed, of_gate, of_input, of_latch, of_start}
 use Rattle.unroll.proofs.CountLemmas.{all_unnamed, nets_long}
-use Rattle.unroll.proofs.DrivenLemmas.{driven_low, has_shift, one_driver_high, one_driver_low, outs, range_has}
+use Rattle.unroll.proofs.DrivenLemmas.{has_shift, one_driver_high, one_driver_low, outs, range_has}
 
 -- ---- sources
 

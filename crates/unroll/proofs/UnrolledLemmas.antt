@@ -1,5 +1,5 @@
 -- Laws of unrolled nets.
-use Rattle.std.proofs.Common.{◌≡◌, ◌≢◌, ◌⊎◌, ◌∙◌, ap, sym, refl, subst, ℕ, zero, suc, ◌<◌, ◌≤◌, ◌+◌, ◌*◌, ◌^◌, Bool, true, false, not, List, [], ◌∷◌, length, cond, arith}
+use Rattle.std.proofs.Common.{◌≡◌, ◌∙◌, ap, refl, ℕ, ◌≤◌, ◌+◌, ◌*◌, ◌^◌, Bool, true, false, not, List, [], ◌∷◌, length, cond, arith}
 use Rattle.std.specs.Prelude.{◌↔◌, if◌then◌else◌, filter}
 use Rattle.net_core.specs.NetList.{NetList, nets}
 use Rattle.net_core.specs.Sound.{IsSound}
@@ -7,7 +7,6 @@ use Rattle.net_words.specs.Binding.{Binding, BoundNet}
 use Rattle.net_words.specs.BoundTo.{IsBoundTo}
 use Rattle.net_words.specs.Feeds.{is_fed}
 use Rattle.net_words.specs.OneCycle.{IsOneCycle}
-use Rattle.net_words.specs.Rebind.{rebinding}
 use Rattle.net_words.specs.Roles.{same_role}
 use Rattle.net_words.specs.declared.bound.BoundWord.{BoundWord}
 use Rattle.net_words.specs.declared.word.Role.{Role}
@@ -17,11 +16,10 @@ use Rattle.gf_field.specs.Field.{HasNoZeroDivisors}
 use Rattle.gf_field.specs.Ring.{IsRing}
 use Rattle.circuit_model.specs.OfBinding.{circuit_with, HaveBases}
 use Rattle.circuit_model.specs.Out.{IsOut}
-use Rattle.unroll.specs.Gates.{gates_to, is_held}
+use Rattle.unroll.specs.Gates.{is_held}
 use Rattle.unroll.specs.Nets.{all_cycles}
-use Rattle.unroll.specs.Places.{cycle_nets, fed_bits, fed_count}
+use Rattle.unroll.specs.Places.{fed_bits, fed_count}
 use Rattle.unroll.specs.Unrolled.{in_one_cycle, is_flat, unrolled, unrolled_nets}
-use Rattle.unroll.specs.private.Plan.{net_count}
 use Rattle.unroll.proofs.CountLemmas.{gates_long, nets_long}
 use Rattle.unroll.proofs.SoundLemmas.{cycles_sound}
 use Rattle.unroll.proofs.WordLemmas.{are_nets}

@@ -1,6 +1,6 @@
 -- The words of the unrolled net.
-use Rattle.std.proofs.Common.{◌≡◌, ◌≢◌, ◌⊎◌, ◌∙◌, ap, sym, refl, subst, inl, inr, ℕ, zero, suc, ◌<◌, ◌≤◌, ◌+◌, ◌*◌, Bool, true, false, not, List, [], ◌∷◌, ◌++◌, length, length-append, map, take, drop, Some, arith, All, mul-suc}
-use Rattle.std.specs.Prelude.{slice_get, ◌&&◌}
+use Rattle.std.proofs.Common.{◌≡◌, ◌⊎◌, ◌∙◌, ap, sym, refl, subst, inl, inr, ℕ, zero, suc, ◌<◌, ◌≤◌, ◌+◌, ◌*◌, Bool, true, false, not, List, [], ◌∷◌, ◌++◌, length, length-append, map, take, drop, Some, arith, All, mul-suc}
+use Rattle.std.specs.Prelude.{◌&&◌}
 use Rattle.std.specs.List.{filter, range_with_len}
 use Rattle.std.proofs.Math.Seq.{take-append_seam, drop-append_seam}
 use Rattle.std.proofs.lemmas.Bool.{cases_lt}
@@ -12,8 +12,8 @@ use Rattle.net_core.specs.NetList.{NetList, nets}
 use Rattle.net_core.specs.Sound.{IsSound}
 use Rattle.net_core.proofs.DriverLemmas.{All_has, Has_cases, Has_left, Has_map, Has_right, from_map, times_append}
 use Rattle.net_words.specs.Binding.{Binding, HasWidth}
-use Rattle.net_words.specs.BoundTo.{IsBoundTo, StandsOn, output_bits, output_bits_with}
-use Rattle.net_words.specs.Feeds.{fed_nets, is_fed}
+use Rattle.net_words.specs.BoundTo.{IsBoundTo, StandsOn}
+use Rattle.net_words.specs.Feeds.{is_fed}
 use Rattle.net_words.specs.Rebind.{AreNets, rebound}
 use Rattle.net_words.specs.Roles.{in_word, same_role}
 use Rattle.net_words.specs.Variables.{bits, bits_with}
@@ -22,7 +22,7 @@ use Rattle.net_words.specs.declared.feed.Feed.{Feed}
 use Rattle.net_words.specs.declared.word.Role.{Role}
 use Rattle.net_words.specs.declared.word.Role.TheVariants.{Input, State, Fed, Output}
 use Rattle.net_words.proofs.FeedLemmas.{fed_has}
-use Rattle.net_words.proofs.MemberLemmas.{any_has, bits_word, has_stands, output_bits_word}
+use Rattle.net_words.proofs.MemberLemmas.{any_has, bits_word, has_stands}
 use Rattle.net_words.proofs.ZipLemmas.{map-long}
 use Rattle.unroll.specs.Gates.{is_held}
 use Rattle.unroll.specs.Nets.{all_cycles, unrolled_inputs}

@@ -1,5 +1,5 @@
 -- The net list of all cycles of a net list with bound words. Source: this project's own.
-use Rattle.std.specs.Prelude.{ℕ, zero, suc, ◌+◌, not, Bool, false, List, [], ◌∷◌, ◌++◌, codes, filter, map}
+use Rattle.std.specs.Prelude.{ℕ, zero, suc, not, false, List, [], ◌∷◌, ◌++◌, codes, filter, map}
 use Rattle.std.specs.Fmt.{decimal}
 use Rattle.std.specs.List.{range_with_len}
 use Rattle.net_core.specs.NetList.{NetList, LabelValue, nets}

@@ -107,7 +107,10 @@ fn refuses_more_nets_than_the_limit(rt: HostRuntime) -> Result<(), Fail> {
     let mut words = Vec::new(alloc);
     words.push(word(alloc, "Z", Role::Output, "q")?)?;
     let made = unrolled(alloc, wide(alloc)?, &words, 4096);
-    assert_eq!(rt; made.and_then(|unrolled| unrolled.err()), Some(UnrollFault::TooManyNets));
+    assert_eq!(rt;
+        made.and_then(|unrolled| unrolled.err()),
+        Some(UnrollFault::TooManyNets)
+    );
     Ok(())
 }
 

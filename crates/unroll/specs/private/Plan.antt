@@ -3,7 +3,6 @@ use Rattle.std.specs.Prelude.{◌≡◌, ℕ, ◌<◌, ◌≤◌, ◌+◌, ◌^�
 use Rattle.net_core.specs.GateValue.{GateValue}
 use Rattle.net_core.specs.NetList.{NetList, LabelValue, nets}
 use Rattle.net_words.specs.Binding.{Binding}
-use Rattle.net_words.specs.Feeds.{is_fed}
 use Rattle.net_words.specs.Roles.{same_role, stands_in}
 use Rattle.net_words.specs.declared.bound.BoundWord.{BoundWord}
 use Rattle.net_words.specs.declared.feed.Source.{Source}

@@ -1,6 +1,5 @@
-use Rattle.std.proofs.Common.{◌≡◌, ◌≤◌, ◌<◌, ◌+◌, ◌*◌, ℕ, ◌||◌, ◌==◌, ◌++◌, Bool, not, length, map, take, drop, Some}
-use Rattle.std.specs.Prelude.{slice_get, slice_index_or}
-use Rattle.std.specs.List.{filter, range_with_len}
+use Rattle.std.proofs.Common.{◌≡◌, ◌<◌, ◌+◌, ℕ, length, drop}
+use Rattle.std.specs.Prelude.{slice_index_or}
 use Rattle.net_core.specs.NetList.{nets}
 use Rattle.unroll.specs.Places.{cycle_nets, fed_count, first_bit}
 use Rattle.unroll.proofs.places.first_bits.Given as goal

@@ -1,4 +1,4 @@
-use Rattle.std.proofs.Common.{◌≡◌, ◌-◌, ap, arith, drop, get_or, subst, sym}
+use Rattle.std.proofs.Common.{◌≡◌, ◌-◌, arith, drop, get_or, subst, sym}
 use Rattle.std.proofs.lemmas.Option.{slice_get-get_or}
 use Rattle.net_words.specs.declared.feed.Feed.{Feed}
 use Rattle.net_words.specs.declared.feed.Source.TheVariants.{Zero}

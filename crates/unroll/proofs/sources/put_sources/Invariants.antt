@@ -1,5 +1,5 @@
-use Rattle.std.proofs.Common.{◌≡◌, ◌≤◌, ◌<◌, ◌+◌, ◌*◌, ℕ, ◌||◌, ◌==◌, ◌++◌, Bool, not, length, map, take, drop, Some}
-use Rattle.std.specs.Prelude.{slice_get, slice_index_or}
+use Rattle.std.proofs.Common.{◌≡◌, ◌≤◌, ◌<◌, ℕ, drop}
+use Rattle.std.specs.Prelude.{slice_index_or}
 use Rattle.net_words.specs.declared.feed.Source.TheVariants.{Zero}
 use Rattle.unroll.specs.Places.{net_at}
 use Rattle.unroll.specs.Sources.{source_at}

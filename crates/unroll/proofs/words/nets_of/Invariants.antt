@@ -1,6 +1,5 @@
-use Rattle.std.proofs.Common.{◌≡◌, ◌≤◌, ◌<◌, ◌+◌, ◌*◌, ℕ, ◌||◌, ◌==◌, ◌++◌, Bool, not, length, map, take, drop, Some}
-use Rattle.std.specs.Prelude.{slice_get, slice_index_or}
-use Rattle.std.specs.List.{filter, range_with_len}
+use Rattle.std.proofs.Common.{◌≡◌, take, Some}
+use Rattle.std.specs.Prelude.{slice_get}
 use Rattle.net_words.specs.declared.bound.BoundWord.{BoundWord}
 use Rattle.unroll.proofs.words.nets_of.Given as goal
 

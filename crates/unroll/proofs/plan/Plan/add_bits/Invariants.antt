@@ -1,11 +1,8 @@
-use Rattle.std.proofs.Common.{◌≡◌, ◌-◌, ◌≤◌, ◌<◌, ◌+◌, ◌*◌, ℕ, ◌||◌, ◌==◌, ◌++◌, Bool, not, length, map, take, drop, Some}
-use Rattle.std.specs.Prelude.{slice_get, slice_index_or}
-use Rattle.std.specs.List.{filter, range_with_len}
+use Rattle.std.proofs.Common.{◌≡◌, ◌-◌}
+use Rattle.std.specs.List.{range_with_len}
 use Rattle.net_core.specs.NetList.{nets}
-use Rattle.net_words.specs.Feeds.{is_fed}
-use Rattle.unroll.specs.Gates.{is_held}
-use Rattle.unroll.specs.Places.{cycle_nets, net_at}
-use Rattle.unroll.specs.private.Plan.{with_inputs, with_outputs}
+use Rattle.unroll.specs.Places.{cycle_nets}
+use Rattle.unroll.specs.private.Plan.{with_inputs}
 use Rattle.unroll.proofs.plan.Plan.add_bits.Given as goal
 
 abbrev pub invariant-loop-n : goal.invariant-loop-n

@@ -1,5 +1,5 @@
-use Rattle.std.proofs.Common.{arith, length}
-use Rattle.unroll.specs.Gates.{first_gates, gates_to, next_gates}
+use Rattle.std.proofs.Common.{length}
+use Rattle.unroll.specs.Gates.{first_gates, gates_to}
 use Rattle.unroll.specs.private.Plan.{net_count}
 use Rattle.unroll.proofs.GrowLemmas.{less_room}
 use Rattle.unroll.proofs.CycleLemmas.{first_few, next_room, next_step}

@@ -1,4 +1,4 @@
-use Rattle.std.proofs.Common.{ap, arith, get_or, length, map, not}
+use Rattle.std.proofs.Common.{ap, arith, get_or, length, map}
 use Rattle.std.specs.List.{filter}
 use Rattle.net_words.specs.Feeds.{is_fed}
 use Rattle.unroll.specs.Gates.{feeding_gate}

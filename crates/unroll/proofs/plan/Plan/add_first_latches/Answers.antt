@@ -1,4 +1,4 @@
-use Rattle.std.proofs.Common.{refl, ap, arith, get_or, length, map, not}
+use Rattle.std.proofs.Common.{ap, arith, get_or, length, map, not}
 use Rattle.unroll.specs.private.Plan.{with_gates, net_count}
 use Rattle.unroll.proofs.GrowLemmas.{put_more, puts_gates, joins_both, joins_filter, joins_map, room_next}
 use Rattle.std.specs.List.{filter}

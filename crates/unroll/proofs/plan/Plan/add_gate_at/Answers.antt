@@ -1,4 +1,4 @@
-use Rattle.std.proofs.Common.{◌≡◌, ◌∙◌, ap, length, take}
+use Rattle.std.proofs.Common.{◌∙◌, ap, length, take}
 use Rattle.net_core.specs.NetList.{nets}
 use Rattle.unroll.specs.Places.{net_at}
 use Rattle.std.proofs.Common.{map}

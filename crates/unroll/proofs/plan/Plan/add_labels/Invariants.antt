@@ -1,9 +1,5 @@
-use Rattle.std.proofs.Common.{◌≡◌, ◌≤◌, ◌<◌, ◌+◌, ◌*◌, ℕ, ◌||◌, ◌==◌, ◌++◌, Bool, not, length, map, take, drop, Some}
-use Rattle.std.specs.Prelude.{slice_get, slice_index_or}
-use Rattle.std.specs.List.{filter, range_with_len}
-use Rattle.net_core.specs.NetList.{nets}
-use Rattle.net_words.specs.declared.bound.BoundWord.{BoundWord}
-use Rattle.unroll.specs.Nets.{bit_label, fed_labels, labels_to, unnamed}
+use Rattle.std.proofs.Common.{◌≡◌}
+use Rattle.unroll.specs.Nets.{labels_to}
 use Rattle.unroll.specs.private.Plan.{with_labels}
 use Rattle.unroll.proofs.plan.Plan.add_labels.Given as goal
 

@@ -1,4 +1,3 @@
-use Rattle.std.proofs.Common.{arith}
 use Rattle.unroll.proofs.PlanLemmas.{source_is_bit}
 use Rattle.unroll.proofs.plan.Plan.add_source.Goals as goal
 

@@ -1,6 +1,5 @@
-use Rattle.std.proofs.Common.{◌≡◌, ◌∙◌, ◌+◌, ap, arith, get_or, sym}
+use Rattle.std.proofs.Common.{◌∙◌, ◌+◌, ap, arith}
 use Rattle.std.proofs.lemmas.List.{get_or_default}
-use Rattle.unroll.specs.Gates.{bit_net}
 use Rattle.unroll.proofs.PlanLemmas.{bit_is, bit_low, bit_place}
 use Rattle.unroll.proofs.plan.Plan.bit_net.Goals as goal
 

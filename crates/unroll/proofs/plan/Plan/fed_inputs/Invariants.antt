@@ -1,11 +1,6 @@
-use Rattle.std.proofs.Common.{◌≡◌, ◌≤◌, ◌<◌, ◌+◌, ◌*◌, ℕ, ◌||◌, ◌==◌, ◌++◌, Bool, not, length, map, take, drop, Some}
-use Rattle.std.specs.Prelude.{slice_get, slice_index_or}
-use Rattle.std.specs.List.{filter, range_with_len}
-use Rattle.net_core.specs.NetList.{nets}
+use Rattle.std.proofs.Common.{◌≡◌, length, take}
+use Rattle.std.specs.List.{filter}
 use Rattle.net_words.specs.Feeds.{is_fed}
-use Rattle.unroll.specs.Gates.{is_held}
-use Rattle.unroll.specs.Places.{cycle_nets, net_at}
-use Rattle.unroll.specs.private.Plan.{with_inputs, with_outputs}
 use Rattle.unroll.proofs.plan.Plan.fed_inputs.Given as goal
 
 abbrev pub invariant-loop-n : goal.invariant-loop-n

@@ -1,6 +1,4 @@
-use Rattle.std.proofs.Common.{◌≡◌, ◌≤◌, ◌<◌, ◌+◌, ◌*◌, ℕ, ◌||◌, ◌==◌, ◌++◌, Bool, not, length, map, take, drop, Some}
-use Rattle.std.specs.Prelude.{slice_get, slice_index_or}
-use Rattle.std.specs.List.{filter, range_with_len}
+use Rattle.std.proofs.Common.{◌≡◌, length, map, take}
 use Rattle.net_core.specs.NetList.{nets}
 use Rattle.unroll.specs.Places.{net_at}
 use Rattle.unroll.proofs.plan.Plan.inputs_at.Given as goal

@@ -1,4 +1,4 @@
-use Rattle.std.proofs.Common.{◌∙◌, ap, arith, length}
+use Rattle.std.proofs.Common.{◌∙◌, ap}
 use Rattle.net_core.specs.NetList.{NetList, nets}
 use Rattle.unroll.proofs.PlanLemmas.{labels_count, made_room}
 use Rattle.unroll.proofs.plan.Plan.laid_out.Goals as goal

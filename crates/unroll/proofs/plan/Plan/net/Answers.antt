@@ -1,4 +1,3 @@
-use Rattle.std.proofs.Common.{arith}
 use Rattle.unroll.proofs.PlanLemmas.{made_sound}
 use Rattle.unroll.proofs.plan.Plan.net.Goals as goal
 

@@ -1,10 +1,7 @@
-use Rattle.std.proofs.Common.{◌≡◌, ◌≤◌, ◌<◌, ◌+◌, ◌*◌, ℕ, ◌||◌, ◌==◌, ◌++◌, Bool, not, length, map, take, drop, Some}
-use Rattle.std.specs.Prelude.{slice_get, slice_index_or}
-use Rattle.std.specs.List.{filter, range_with_len}
+use Rattle.std.proofs.Common.{◌≡◌, ◌++◌, drop}
 use Rattle.net_core.specs.NetList.{nets}
-use Rattle.net_words.specs.declared.bound.BoundWord.{BoundWord}
 use Rattle.unroll.specs.Places.{cycle_nets, first_bit}
-use Rattle.unroll.specs.Unrolled.{nets_with, nets_of_words}
+use Rattle.unroll.specs.Unrolled.{nets_of_words}
 use Rattle.unroll.proofs.plan.Plan.word_nets.Given as goal
 
 abbrev pub invariant-loop-w : goal.invariant-loop-w
