@@ -1,23 +1,22 @@
 -- The law of values: an assigned target has its expression's value, in each consistent list of bits.
-use Rattle.std.proofs.Common.{◌≡◌, ◌∙◌, ap, sym, inl, inr, refl, subst, ℕ, zero, suc, ◌+◌, ◌<◌, ◌≤◌, Bool, true, false, cond, List, [], ◌∷◌, Option, Some, Result, Ok, Err, arith}
+use Rattle.std.proofs.Common.{◌≡◌, ◌∙◌, ap, sym, inr, refl, subst, ℕ, zero, suc, ◌≤◌, Bool, true, false, cond, List, [], ◌∷◌, Some, Result, Ok, Err, arith}
 use Rattle.text_core.specs.Lines.{IsPrinting}
 use Rattle.text_core.specs.Outcome.{Determined, Exactly, ◌>>=◌}
 use Rattle.net_core.specs.NetList.{NetList, empty, number_of}
-use Rattle.net_core.specs.Value.{IsConsistent, bit_of}
+use Rattle.net_core.specs.Value.{IsConsistent}
 use Rattle.net_core.specs.declared.fault.NetFault.{NetFault}
 use Rattle.net_verilog.specs.Tokens.{TokenValue, is_end, tokens_of}
 use Rattle.net_verilog.specs.Words.{next_of, wrong}
 use Rattle.net_verilog.specs.Targets.{target_of}
-use Rattle.net_verilog.specs.Tree.{Tree, Net, Literal, Group, Not, Binary, IsWell, Spells, level, looseness, nesting}
-use Rattle.net_verilog.specs.Made.{driven, made, mentioned, value}
-use Rattle.net_verilog.specs.Value.{Agrees, Covers, named_bit}
+use Rattle.net_verilog.specs.Tree.{Tree, Net, Literal, Group, Not, Binary, IsWell, Spells, level, nesting}
+use Rattle.net_verilog.specs.Made.{driven, made, mentioned}
+use Rattle.net_verilog.specs.Value.{Agrees, Covers}
 use Rattle.net_verilog.specs.Expression.{Expression, Read, binding, binding_at, continues, goes_on}
 use Rattle.net_verilog.specs.Parts.{identifier, taken}
 use Rattle.net_verilog.specs.Assigns.{Assigns, net_fault}
-use Rattle.net_verilog.specs.Several.{Either, Several, SeveralOf, after_first, comma_first}
+use Rattle.net_verilog.specs.Several.{Either, SeveralOf, after_first, comma_first}
 use Rattle.net_verilog.specs.Declarations.{Declarations, undeclared}
 use Rattle.net_verilog.specs.declared.operator.Driver.{Driver}
-use Rattle.net_verilog.specs.declared.operator.Operator.{Operator}
 use Rattle.net_verilog.specs.declared.operator.Operator.TheVariants as operators
 use Rattle.net_verilog.specs.declared.operator.Next.{Next}
 use Rattle.net_verilog.specs.declared.operator.Next.TheVariants as nexts
@@ -28,16 +27,15 @@ use Rattle.net_verilog.proofs.ExpressionDetermined.{expression_determined}
 use Rattle.net_verilog.proofs.KeepLemmas.{covers_more, driven_covers, mention_covers}
 use Rattle.net_verilog.proofs.StatementDetermined.{assigns_determined}
 use Rattle.net_verilog.proofs.TreeLemmas.{made_covers, target_value}
-use Rattle.verilog_reader.specs.Items.{Item, Items, ItemsOf, ReadsAssignments, ReadsItem, State, endmodule_first, item_start}
-use Rattle.verilog_reader.specs.Modules.{Module, PortList, VerilogNet, module_taken, nothing_more}
+use Rattle.verilog_reader.specs.Items.{Item, Items, ItemsOf, ReadsAssignments, ReadsItem, State}
+use Rattle.verilog_reader.specs.Modules.{PortList, VerilogNet, module_taken, nothing_more}
 use Rattle.verilog_reader.specs.Assigned.{AssignedAmong, AssignedHere, AssignedOf, HasValueOf, IsAssigned, IsAssignment}
 use Rattle.verilog_reader.specs.declared.starts.ItemStart.{ItemStart}
-use Rattle.verilog_reader.specs.declared.starts.ItemStart.TheVariants as items
 use Rattle.verilog_reader.proofs.ModuleDetermined.{item_determined, ports_determined}
 use Rattle.verilog_reader.proofs.PrintLemmas.{Any, ArePrinting, Then, identifier_prints, taken_prints}
-use Rattle.verilog_reader.proofs.GrowLemmas.{Grows, grows_more, grows_same}
+use Rattle.verilog_reader.proofs.GrowLemmas.{grows_same}
 use Rattle.verilog_reader.proofs.StepLemmas.{after_prints, assigns_keeps, assignments_keep, value_of}
-use Rattle.verilog_reader.proofs.TextLemmas.{StateGrows, begun_prints, item_keeps, items_keep, ports_keep, tokens_print}
+use Rattle.verilog_reader.proofs.TextLemmas.{begun_prints, item_keeps, items_keep, ports_keep, tokens_print}
 
 -- what comes twice of an outcome is the same
 same_ok : {A F : Type 0} (may : Result A F → Type 0) → Determined may → (a b : A) → may (Ok a) → may (Ok b) → a ≡ b

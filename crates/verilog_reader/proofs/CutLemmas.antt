@@ -3,7 +3,7 @@ use Rattle.std.proofs.Common.{◌≡◌, ◌⊎◌, ◌∙◌, ap, sym, refl, su
 use Rattle.std.specs.Prelude.{nat_lt}
 use Rattle.std.proofs.lemmas.Bool.{ltb-true, ltb-false}
 use Rattle.text_core.specs.Numbers.{IsDecimal, value_of}
-use Rattle.net_verilog.specs.Declarations.{Declarations, Range, IsNetOf, bit_name, range_of}
+use Rattle.net_verilog.specs.Declarations.{Declarations, Range, bit_name, range_of}
 use Rattle.verilog_reader.specs.Declares.{HasShortNames, Meets}
 use Rattle.verilog_reader.specs.private.Meets.{AreShort, Decides, HasScalar, IsBit, IsBitAt, IsFound, IsMet}
 use Rattle.verilog_reader.proofs.NumeralLemmas.{printed_value}

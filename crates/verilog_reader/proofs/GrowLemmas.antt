@@ -1,12 +1,11 @@
 -- What reading makes of a net list: its nets and gates stay, gates drive nets that exist, and labels that print.
-use Rattle.std.proofs.Common.{◌≡◌, ◌∙◌, ap, sym, refl, subst, ℕ, zero, suc, ◌+◌, ◌-◌, ◌^◌, ◌<◌, ◌≤◌, Bool, true, false, not, ◌&&◌, cond, List, [], ◌∷◌, ◌++◌, get_or, length, length-append, codes, decimal, Option, None, Some, Result, Ok, Err, arith}
-use Rattle.std.specs.Prelude.{All, is_some, nat_le, unwrap_or}
+use Rattle.std.proofs.Common.{◌≡◌, ◌∙◌, refl, subst, ℕ, zero, suc, ◌+◌, ◌-◌, ◌^◌, ◌<◌, ◌≤◌, Bool, true, false, not, ◌&&◌, cond, List, [], ◌∷◌, ◌++◌, get_or, length, length-append, codes, decimal, Option, None, Some, Result, Ok, Err, arith}
+use Rattle.std.specs.Prelude.{is_some, nat_le, unwrap_or}
 use Rattle.std.specs.List.{AllByRecursion}
 use Rattle.std.proofs.lemmas.List.Elements.{All-append, All-weaker}
 use Rattle.text_core.specs.Lines.{IsPrinting}
 use Rattle.net_core.specs.NetList.{LabelValue, NetList, nets, number_from, number_of, is_named, with_gate, with_label, with_name}
 use Rattle.net_core.specs.GateValue.{GateValue}
-use Rattle.net_core.specs.Lists.{Has}
 use Rattle.net_core.specs.declared.fault.NetFault.{NetFault}
 use Rattle.net_core.specs.declared.fault.NetFault.TheVariants as nets_faults
 use Rattle.net_core.proofs.DriverLemmas.{Has_left}
@@ -19,7 +18,6 @@ use Rattle.net_verilog.specs.declared.declared.Direction.{Direction}
 use Rattle.net_verilog.specs.declared.declared.Direction.TheVariants.{Input, Output, Wire}
 use Rattle.net_verilog.specs.declared.operator.Driver.{Driver}
 use Rattle.net_verilog.specs.declared.operator.Driver.TheVariants as drivers
-use Rattle.net_verilog.specs.declared.operator.Frame.{Frame}
 use Rattle.net_verilog.specs.declared.operator.Frame.TheVariants as frames
 use Rattle.net_verilog.proofs.KeepLemmas.{covers_more, covers_same, mention_covers}
 use Rattle.net_verilog.specs.Declarations.{Range}

@@ -1,12 +1,12 @@
 -- At most one outcome comes of a module.
-use Rattle.std.proofs.Common.{◌≡◌, ap, ℕ, zero, suc, Bool, true, false, List, [], ◌∷◌, Option, None, Some, Result, Ok, Err}
+use Rattle.std.proofs.Common.{◌≡◌, ℕ, zero, suc, Bool, true, false, List, [], ◌∷◌, Option, None, Some, Result, Err}
 use Rattle.text_core.specs.Outcome.{Determined, Exactly}
 use Rattle.text_core.proofs.DeterminedLemmas.{determined_bind, determined_returns}
 use Rattle.net_core.specs.NetList.{empty}
 use Rattle.net_verilog.specs.Tokens.{TokenValue}
 use Rattle.net_verilog.specs.Parts.{identifier, is_close, taken}
-use Rattle.net_verilog.specs.Assigns.{Assigns, Reads}
-use Rattle.net_verilog.specs.Several.{Either, Several, after_first}
+use Rattle.net_verilog.specs.Assigns.{Reads}
+use Rattle.net_verilog.specs.Several.{Either, after_first}
 use Rattle.net_verilog.specs.Declarations.{undeclared}
 use Rattle.net_verilog.specs.declared.declared.Direction.{Direction}
 use Rattle.net_verilog.specs.declared.declared.Direction.TheVariants.{Wire}
@@ -15,7 +15,6 @@ use Rattle.net_verilog.specs.declared.fault.VerilogFault.{VerilogFault}
 use Rattle.net_verilog.specs.declared.fault.VerilogFault.TheVariants as faults
 use Rattle.net_verilog.proofs.SeveralLemmas.{bind_same, exactly_same, several_determined}
 use Rattle.net_verilog.proofs.StatementDetermined.{assignment_determined}
-use Rattle.verilog_reader.specs.Declares.{ReadsName}
 use Rattle.verilog_reader.specs.Items.{Item, Items, ItemsOf, ReadsItem, State, declared_range, endmodule_first, item_fault, item_start}
 use Rattle.verilog_reader.specs.Modules.{DeclaredPorts, Head, Module, PlainPort, PlainPorts, PortList, PortsAfter, PortsFrom, ReadsPort, head_of, module_taken, nothing_more, open_first, port_direction}
 use Rattle.verilog_reader.specs.declared.starts.ItemStart.{ItemStart}

@@ -1,5 +1,5 @@
 -- Modules that are read, or refused at one of their parts.
-use Rattle.std.proofs.Common.{◌≡◌, ◌∙◌, ap, inl, inr, sym, subst, ℕ, List, Ok, Err}
+use Rattle.std.proofs.Common.{◌≡◌, inl, inr, sym, subst, ℕ, List, Ok, Err}
 use Rattle.net_core.specs.NetList.{NetList, empty}
 use Rattle.net_verilog.specs.Tokens.{TokenValue}
 use Rattle.net_verilog.specs.Parts.{identifier, taken}

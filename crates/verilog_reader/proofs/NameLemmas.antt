@@ -1,5 +1,5 @@
 -- Names of bits: what stands before the last `[` is the vector's name.
-use Rattle.std.proofs.Common.{◌≡◌, ◌∙◌, ap, sym, refl, subst, ℕ, ◌+◌, ◌-◌, ◌<◌, ◌≤◌, List, [], ◌∷◌, ◌++◌, length, take, drop, codes, decimal, append_assoc, length-append, arith}
+use Rattle.std.proofs.Common.{◌≡◌, ◌∙◌, ap, sym, refl, subst, ℕ, ◌<◌, List, [], ◌∷◌, ◌++◌, length, take, drop, codes, decimal, append_assoc, length-append, arith}
 use Rattle.net_verilog.specs.Declarations.{bit_name}
 use Rattle.verilog_reader.proofs.NumeralLemmas.{NoOpen, digits_no_open}
 

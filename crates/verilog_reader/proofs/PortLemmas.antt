@@ -1,5 +1,5 @@
 -- Ports, one after another.
-use Rattle.std.proofs.Common.{◌≡◌, ◌⊎◌, ◌∙◌, ap, sym, refl, inl, inr, ℕ, zero, suc, ◌+◌, ◌-◌, ◌<◌, ◌≤◌, List, [], ◌∷◌, length, Result, Ok, Err, arith}
+use Rattle.std.proofs.Common.{◌≡◌, ◌∙◌, ap, inl, inr, ℕ, suc, ◌+◌, ◌-◌, ◌<◌, ◌≤◌, List, Result, Ok, Err, arith}
 use Rattle.net_core.specs.NetList.{NetList}
 use Rattle.net_core.specs.Inside.{IsNetName}
 use Rattle.net_core.specs.declared.fault.NetFault.{NetFault}

@@ -1,6 +1,6 @@
 -- What is read of tokens that print, and the faults that repeat their texts, print.
-use Rattle.std.proofs.Common.{◌≡◌, ap, inl, inr, sym, refl, subst, ℕ, zero, suc, ◌+◌, ◌-◌, ◌/◌, ◌%◌, ◌<◌, ◌≤◌, ◌==◌, ◌&&◌, ◌||◌, Bool, true, false, cond, List, [], ◌∷◌, ◌++◌, drop, length, codes, decimal, Option, None, Some, Result, Ok, Err, arith}
-use Rattle.std.specs.Prelude.{All, is_some, nat_le, nat_lt}
+use Rattle.std.proofs.Common.{◌≡◌, ap, inl, inr, sym, refl, subst, ℕ, zero, suc, ◌+◌, ◌/◌, ◌%◌, ◌<◌, ◌==◌, ◌&&◌, ◌||◌, Bool, true, false, cond, List, [], ◌∷◌, ◌++◌, drop, length, codes, decimal, Option, None, Some, Result, Ok, Err, arith}
+use Rattle.std.specs.Prelude.{nat_le, nat_lt}
 use Rattle.std.specs.List.{AllByRecursion}
 use Rattle.std.specs.Fmt.{digits, digits_onto, digit_glyph}
 use Rattle.std.specs.Str.{bytes_eq}
@@ -11,8 +11,8 @@ use Rattle.text_core.specs.Outcome.{Outcome, ◌>>=◌, Exactly, Returns}
 use Rattle.net_core.specs.declared.fault.NetFault.{NetFault}
 use Rattle.net_core.specs.declared.fault.NetFault.TheVariants as nets
 use Rattle.net_verilog.specs.Tokens.{TokenValue}
-use Rattle.net_verilog.specs.Words.{is_decimal, is_keyword, literal_of, number_fault, wrong, wrong_kind}
-use Rattle.net_verilog.specs.Targets.{Answer, after_name, closed, decimal_kind, indexed, is_close_index, is_open_index, name_kind, named, target_of, within}
+use Rattle.net_verilog.specs.Words.{is_keyword, literal_of, number_fault, wrong, wrong_kind}
+use Rattle.net_verilog.specs.Targets.{after_name, closed, decimal_kind, indexed, is_close_index, is_open_index, name_kind, named, target_of, within}
 use Rattle.net_verilog.specs.Parts.{bound, bounded, bounds, identified, identifier, is_sign, range, taken}
 use Rattle.net_verilog.specs.Declarations.{Declarations, Range, bit_name, range_of}
 use Rattle.net_verilog.specs.Made.{on_value}

@@ -1,5 +1,5 @@
 -- At most one outcome comes of declarations and of instances.
-use Rattle.std.proofs.Common.{◌≡◌, ◌∙◌, ap, sym, inl, inr, ℕ, List, Result, Ok, Err}
+use Rattle.std.proofs.Common.{◌∙◌, ap, sym, inl, inr, ℕ, List, Ok, Err}
 use Rattle.text_core.specs.Outcome.{Determined}
 use Rattle.text_core.proofs.DeterminedLemmas.{determined_bind, determined_returns}
 use Rattle.net_core.specs.NetList.{NetList}

@@ -1,13 +1,13 @@
 -- What comes of expressions, assignments and instances: nets grow, the tokens after them print, and so do the faults.
-use Rattle.std.proofs.Common.{◌≡◌, ◌∙◌, ap, sym, inl, inr, refl, subst, ℕ, zero, suc, ◌<◌, ◌≤◌, Bool, true, false, cond, ◌⊎◌, List, [], ◌∷◌, ◌++◌, length, Option, None, Some, Result, Ok, Err, arith}
-use Rattle.std.specs.Prelude.{is_some, nat_le}
+use Rattle.std.proofs.Common.{◌≡◌, sym, inl, inr, refl, subst, ℕ, zero, suc, ◌<◌, Bool, true, false, cond, ◌⊎◌, List, [], ◌∷◌, ◌++◌, length, Option, None, Some, Result, Ok, Err, arith}
+use Rattle.std.specs.Prelude.{nat_le}
 use Rattle.text_core.specs.Lines.{IsPrinting}
-use Rattle.text_core.specs.Outcome.{Outcome, ◌>>=◌, Exactly, Returns}
+use Rattle.text_core.specs.Outcome.{Exactly, Returns}
 use Rattle.net_core.specs.NetList.{NetList, nets}
 use Rattle.net_core.specs.declared.fault.NetFault.{NetFault}
 use Rattle.net_verilog.specs.Tokens.{TokenValue}
-use Rattle.net_verilog.specs.Words.{next_of, start_kind, start_of, wrong}
-use Rattle.net_verilog.specs.Targets.{Answer, name_kind, target_of}
+use Rattle.net_verilog.specs.Words.{next_of, start_kind, start_of}
+use Rattle.net_verilog.specs.Targets.{Answer, target_of}
 use Rattle.net_verilog.specs.Tree.{Tree, Net, Literal, Group, Not, Binary, Cut, InGroup, InNot, InRight, Begins, Spells, depth}
 use Rattle.net_verilog.specs.Made.{driven, inputs_of, made, mentioned, on_value, opened, settled, table_of, with_gate_of}
 use Rattle.net_verilog.specs.Expression.{BreaksLimit, Expression, Read, close_fault, group_fault, open_fault, operand_fault, start_fault, target_fault}
@@ -17,7 +17,6 @@ use Rattle.net_verilog.specs.Several.{Either, Several, SeveralOf, after_first, c
 use Rattle.net_verilog.specs.Instances.{ReadsInput, ReadsInstance, after_name, fits_gate, gate_table, named_first, placed}
 use Rattle.net_verilog.specs.Declarations.{Declarations}
 use Rattle.net_verilog.specs.declared.gate_kind.GateKind.{GateKind}
-use Rattle.net_verilog.specs.declared.operator.Driver.{Driver}
 use Rattle.net_verilog.specs.declared.operator.Next.{Next}
 use Rattle.net_verilog.specs.declared.operator.Next.TheVariants as nexts
 use Rattle.net_verilog.specs.declared.operator.Start.{Start}

@@ -1,15 +1,13 @@
 -- What comes of a module: its net grows from nothing, and its faults print.
-use Rattle.std.proofs.Common.{◌≡◌, ap, sym, inl, inr, refl, subst, ℕ, zero, suc, ◌+◌, ◌-◌, ◌==◌, ◌||◌, Bool, true, false, cond, List, [], ◌∷◌, take, Option, None, Some, Result, Ok, Err, arith}
+use Rattle.std.proofs.Common.{◌≡◌, sym, inl, inr, refl, subst, ℕ, zero, suc, ◌-◌, ◌==◌, ◌||◌, Bool, true, false, cond, List, [], ◌∷◌, take, Option, None, Some, Ok, Err}
 use Rattle.std.specs.Prelude.{is_some}
 use Rattle.text_core.specs.Lines.{IsPrinting}
-use Rattle.text_core.specs.Outcome.{Outcome, ◌>>=◌, Exactly, Returns}
+use Rattle.text_core.specs.Outcome.{◌>>=◌, Exactly, Returns}
 use Rattle.net_core.specs.NetList.{NetList, empty}
-use Rattle.net_aiger.proofs.SettleLemmas.{DriveNets}
 use Rattle.net_verilog.specs.Tokens.{Piece, TokenValue, first_after, is_end, line_after, piece, tokens_from, tokens_of, unless_end, with_piece}
 use Rattle.net_verilog.specs.Words.{wrong}
-use Rattle.net_verilog.specs.Targets.{Answer, name_kind}
+use Rattle.net_verilog.specs.Targets.{name_kind}
 use Rattle.net_verilog.specs.Parts.{identifier, is_close, range, taken}
-use Rattle.net_verilog.specs.Made.{on_value}
 use Rattle.net_verilog.specs.Assigns.{Assigns, Reads, net_fault}
 use Rattle.net_verilog.specs.Several.{Either, Several, after_first}
 use Rattle.net_verilog.specs.Instances.{ReadsInstance}
@@ -19,17 +17,16 @@ use Rattle.net_verilog.specs.declared.declared.Direction.TheVariants.{Input, Out
 use Rattle.net_verilog.specs.declared.kind.Kind.{Kind}
 use Rattle.net_verilog.specs.declared.kind.Kind.TheVariants as kinds
 use Rattle.net_verilog.specs.declared.sign.Sign.TheVariants as signs
-use Rattle.net_verilog.specs.declared.fault.VerilogFault.{VerilogFault}
 use Rattle.net_verilog.specs.declared.fault.VerilogFault.TheVariants as faults
 use Rattle.net_verilog.specs.private.Places.{Prints, is_wrong}
-use Rattle.net_verilog.proofs.PieceLemmas.{PrintsPiece, none_prints, piece_prints}
+use Rattle.net_verilog.proofs.PieceLemmas.{none_prints, piece_prints}
 use Rattle.verilog_reader.specs.Declares.{Declares, ReadsName, ported}
 use Rattle.verilog_reader.specs.Items.{Item, Items, ItemsOf, ReadsItem, State, after_wire, declared_range, endmodule_first, is_module, is_wire, item_fault, item_start}
 use Rattle.verilog_reader.specs.Modules.{DeclaredPorts, Head, Module, PlainPort, PlainPorts, PortList, PortsAfter, PortsFrom, ReadsPort, head_of, module_taken, nothing_more, open_first, port_direction, port_head}
 use Rattle.verilog_reader.specs.declared.starts.ItemStart.{ItemStart}
 use Rattle.verilog_reader.specs.declared.starts.ItemStart.TheVariants as items
 use Rattle.verilog_reader.proofs.PrintLemmas.{Any, ArePrinting, FaultPrints, Good, Keeps, Then, good_if, good_then, identifier_prints, keeps_bind, keeps_exactly, keeps_returns, range_prints, taken_prints, wrong_prints}
-use Rattle.verilog_reader.proofs.GrowLemmas.{Grows, HavePrintingLabels, grows_more, grows_same, ported_grows}
+use Rattle.verilog_reader.proofs.GrowLemmas.{Grows, grows_more, grows_same, ported_grows}
 use Rattle.verilog_reader.proofs.StepLemmas.{after_prints, assignments_keep, instances_keep, net_good, several_keeps}
 
 -- ---- tokens

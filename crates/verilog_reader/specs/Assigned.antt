@@ -1,6 +1,6 @@
 -- The assignments of a text: where one stands, with its target and the tree of its expression. Source: IEEE Std 1364-2005, section 6,
 -- in the profile of docs/FORMATS.md.
-use Rattle.std.specs.Prelude.{◌≡◌, ◌⊎◌, ℕ, zero, suc, ◌≤◌, Bool, true, false, List, ◌∷◌, Some, Ok}
+use Rattle.std.specs.Prelude.{◌≡◌, ℕ, zero, suc, ◌≤◌, Bool, true, false, List, ◌∷◌, Some, Ok}
 use Rattle.net_core.specs.NetList.{NetList, empty, number_of}
 use Rattle.net_core.specs.Value.{bit_of}
 use Rattle.net_verilog.specs.Made.{value}

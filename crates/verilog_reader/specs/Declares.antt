@@ -1,5 +1,5 @@
 -- Declarations of names, and the ports that they make. Source: IEEE Std 1364-2005, section 4.2 and annex A.2, in the profile of docs/FORMATS.md.
-use Rattle.std.specs.Prelude.{◌≡◌, ◌⊎◌, ℕ, zero, suc, ◌+◌, ◌-◌, ◌==◌, ◌≤◌, ◌||◌, ◌&&◌, not, Bool, true, false, List, [], ◌∷◌, ◌++◌, length, Option, None, Some, Result, Ok, Err, if◌then◌else◌}
+use Rattle.std.specs.Prelude.{◌≡◌, ◌⊎◌, ℕ, zero, suc, ◌+◌, ◌-◌, ◌==◌, ◌≤◌, ◌||◌, ◌&&◌, not, Bool, true, false, List, [], ◌∷◌, ◌++◌, length, Option, None, Some, Result, Ok, Err}
 use Rattle.text_core.specs.Outcome.{Outcome, ◌>>=◌, Exactly, Returns}
 use Rattle.net_core.specs.NetList.{NetList}
 use Rattle.net_core.specs.declared.fault.NetFault.{NetFault}

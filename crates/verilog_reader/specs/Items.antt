@@ -1,8 +1,8 @@
 -- The items of a module: declarations, assignments and instances of gates. Source: IEEE Std 1364-2005, annex A.1.4, in the profile of
 -- docs/FORMATS.md.
-use Rattle.std.specs.Prelude.{◌≡◌, ℕ, zero, suc, Bool, true, false, List, [], ◌∷◌, codes, is_some, Option, None, Some, Ok, Err, if◌then◌else◌}
+use Rattle.std.specs.Prelude.{ℕ, zero, suc, Bool, false, List, [], ◌∷◌, codes, is_some, Option, None, Some, Err, if◌then◌else◌}
 use Rattle.std.specs.Str.{bytes_eq}
-use Rattle.text_core.specs.Outcome.{Outcome, ◌>>=◌, Exactly, Returns}
+use Rattle.text_core.specs.Outcome.{◌>>=◌, Exactly, Returns}
 use Rattle.net_core.specs.NetList.{NetList}
 use Rattle.net_verilog.specs.Tokens.{TokenValue}
 use Rattle.net_verilog.specs.Words.{wrong}

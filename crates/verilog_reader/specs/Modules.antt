@@ -11,7 +11,7 @@ use Rattle.net_verilog.specs.Parts.{identifier, is_close, is_open, range, taken}
 use Rattle.net_verilog.specs.Made.{on_value}
 use Rattle.net_verilog.specs.Assigns.{Reads}
 use Rattle.net_verilog.specs.Several.{Either, Several, after_first}
-use Rattle.net_verilog.specs.Declarations.{Declarations, Range, undeclared}
+use Rattle.net_verilog.specs.Declarations.{Range, undeclared}
 use Rattle.net_verilog.specs.declared.declared.Direction.{Direction}
 use Rattle.net_verilog.specs.declared.declared.Direction.TheVariants.{Input, Output, Wire}
 use Rattle.net_verilog.specs.declared.sign.Sign.TheVariants as signs
@@ -20,7 +20,7 @@ use Rattle.net_verilog.specs.declared.fault.VerilogFault.TheVariants.{Net, Synta
 use Rattle.verilog_reader.specs.Declares.{ReadsName}
 use Rattle.verilog_reader.specs.Items.{Items, State, after_wire, is_module, item_start}
 use Rattle.verilog_reader.specs.declared.starts.ItemStart.{ItemStart}
-use Rattle.verilog_reader.specs.declared.starts.ItemStart.TheVariants.{Declaration, Assignments, Instances, Other}
+use Rattle.verilog_reader.specs.declared.starts.ItemStart.TheVariants.{Declaration}
 
 -- a direction and a range, as a declaration in a list of ports gives them to the names after it
 abbrev pub Head : Type 0

@@ -1,5 +1,5 @@
 -- Names that make one net: words of this crate's code. Source: this project's own.
-use Rattle.std.specs.Prelude.{◌≡◌, ℕ, ◌+◌, ◌-◌, ◌<◌, ◌≤◌, nat_lt, Bool, true, false, List, take, length, Option, None, Some, if◌then◌else◌}
+use Rattle.std.specs.Prelude.{◌≡◌, ℕ, ◌<◌, ◌≤◌, nat_lt, Bool, true, false, List, take, length, Option, None, Some, if◌then◌else◌}
 use Rattle.net_verilog.specs.Declarations.{Declarations, Range, bit_name, range_of}
 use Rattle.verilog_reader.specs.Declares.{HasShortNames, Meets}
 

@@ -1,5 +1,5 @@
-use Rattle.std.proofs.Common.{rules, refl, inl, inr, ◌+◌, arith}
-use Rattle.verilog_reader.proofs.FoundLemmas.{found_first, found_last, found_more, found_none}
+use Rattle.std.proofs.Common.{rules, ◌+◌}
+use Rattle.verilog_reader.proofs.FoundLemmas.{found_last}
 use Rattle.verilog_reader.proofs.bits.bits_found.Goals as goal
 
 pub returns : goal.returns

@@ -1,4 +1,3 @@
-use Rattle.std.proofs.Common.{rules}
 use Rattle.verilog_reader.proofs.CutLemmas.{index_found, index_none}
 use Rattle.verilog_reader.proofs.cuts.index_at.Goals as goal
 

@@ -1,4 +1,4 @@
-use Rattle.std.proofs.Common.{rules, ◌<◌, length, arith}
+use Rattle.std.proofs.Common.{rules, arith}
 use Rattle.verilog_reader.proofs.CutLemmas.{no_cut_more}
 use Rattle.verilog_reader.proofs.cuts.is_bit.Goals as goal
 

@@ -1,4 +1,4 @@
-use Rattle.std.proofs.Common.{◌≤◌, length, List, Result}
+use Rattle.std.proofs.Common.{length, List, Result}
 use Rattle.net_verilog.specs.Tokens.{TokenValue}
 use Rattle.net_verilog.specs.private.Places.{left}
 use Rattle.net_verilog.specs.declared.fault.VerilogFault.{VerilogFault}

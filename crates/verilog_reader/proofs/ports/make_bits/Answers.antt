@@ -1,4 +1,4 @@
-use Rattle.std.proofs.Common.{rules, ◌∙◌, ◌+◌, ◌-◌, ◌<◌, arith}
+use Rattle.std.proofs.Common.{rules, ◌∙◌, ◌+◌, ◌-◌, ◌<◌}
 use Rattle.verilog_reader.specs.Declares.{bits_from, with_ports}
 use Rattle.verilog_reader.proofs.PortLemmas.{ports_fault, ports_step}
 use Rattle.verilog_reader.proofs.ports.make_bits.Goals as goal
