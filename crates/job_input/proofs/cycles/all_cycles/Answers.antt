@@ -1,4 +1,4 @@
-use Rattle.std.proofs.Common.{ap, refl, Err, ◌∙◌, sym}
+use Rattle.std.proofs.Common.{ap, Err}
 use Rattle.job_input.proofs.CycleLemmas.{circuit_made, too_many_gates, too_many_nets}
 use Rattle.job_input.proofs.cycles.all_cycles.Goals as goal
 
