@@ -70,7 +70,17 @@ abbrev pub Refused : {F A : Type 0} → F → Outcome F A
 Refused fault (Ok value) = ⊥
 Refused fault (Err other) = other ≡ fault
 
-module _ (k : ℕ) (net : NetList) (labels : Labelling) where
+-- the first of these lines, which has the number n
+abbrev pub FirstLine : {A : Type 0} → ℕ → (List ℕ → Outcome LineFault A) → List (List ℕ) → Outcome CertFault A
+FirstLine n Reads [] = Refused no_end
+FirstLine n Reads (line ∷ more) = Within (fault_at n) (Reads line)
+
+-- no line follows, of which the first would have the number n
+abbrev pub NoLine : ℕ → List (List ℕ) → Certificate → Outcome CertFault Certificate
+NoLine n [] c = Exactly c
+NoLine n (line ∷ more) c = Refused (fault_at n Syntax)
+
+module _ (k : ℕ) (labels : Labelling) where
   -- the polynomial that a text says
   abbrev pub PolynomialOf : List ℕ → Outcome LineFault Terms
   PolynomialOf text = Within poly_fault (TextOutcome labels k text)
@@ -83,21 +93,6 @@ module _ (k : ℕ) (net : NetList) (labels : Labelling) where
   abbrev pub MultiplierOf : ℕ → List Terms → List ℕ → Outcome LineFault Terms
   MultiplierOf version shared text = MultiplierBy shared (after_hash version text) text
 
-  abbrev pub SaidBy : ℕ → List Terms → Frame → Outcome LineFault Said
-  SaidBy version shared (pair_of g text) = do
-    m ← MultiplierOf version shared text
-    Exactly (pairs g m)
-  SaidBy version shared (share_of text) = do
-    m ← PolynomialOf text
-    Exactly (shares m)
-  SaidBy version shared end_of = Exactly ends
-
-  -- what a line after the claim says, where these multipliers are shared before it
-  abbrev pub LineOf : ℕ → List Terms → List ℕ → Outcome LineFault Said
-  LineOf version shared line = do
-    frame ← Returns (frame_of net labels version (length shared) line)
-    SaidBy version shared frame
-
   -- a polynomial in words alone
   abbrev pub InWords : List ℕ → Outcome LineFault Terms
   InWords text (Ok claim) = TextOutcome labels k text (Ok claim) × IsInWords text
@@ -109,15 +104,28 @@ module _ (k : ℕ) (net : NetList) (labels : Labelling) where
     text ← Returns (claim_text labels line)
     InWords text
 
-  -- the first of these lines, which has the number n
-  abbrev pub FirstLine : {A : Type 0} → ℕ → (List ℕ → Outcome LineFault A) → List (List ℕ) → Outcome CertFault A
-  FirstLine n Reads [] = Refused no_end
-  FirstLine n Reads (line ∷ more) = Within (fault_at n) (Reads line)
+  -- the version and the claim of the first two lines
+  abbrev pub HeadOf : List (List ℕ) → Outcome CertFault (ℕ × Terms)
+  HeadOf text = do
+    version ← FirstLine 1 (λ line. Returns (version_of line)) text
+    claim ← FirstLine 2 ClaimOf (drop 1 text)
+    Exactly (version, claim)
 
-  -- no line follows, of which the first would have the number n
-  abbrev pub NoLine : ℕ → List (List ℕ) → Certificate → Outcome CertFault Certificate
-  NoLine n [] c = Exactly c
-  NoLine n (line ∷ more) c = Refused (fault_at n Syntax)
+module _ (k : ℕ) (net : NetList) (labels : Labelling) where
+  abbrev pub SaidBy : ℕ → List Terms → Frame → Outcome LineFault Said
+  SaidBy version shared (pair_of g text) = do
+    m ← MultiplierOf k labels version shared text
+    Exactly (pairs g m)
+  SaidBy version shared (share_of text) = do
+    m ← PolynomialOf k labels text
+    Exactly (shares m)
+  SaidBy version shared end_of = Exactly ends
+
+  -- what a line after the claim says, where these multipliers are shared before it
+  abbrev pub LineOf : ℕ → List Terms → List ℕ → Outcome LineFault Said
+  LineOf version shared line = do
+    frame ← Returns (frame_of net labels version (length shared) line)
+    SaidBy version shared frame
 
   -- below, what else is asked of a certificate after the line of this number
   module _ (Asks : ℕ → Certificate → Outcome CertFault (Unit {0})) where
@@ -139,10 +147,9 @@ module _ (k : ℕ) (net : NetList) (labels : Labelling) where
     -- the whole text
     abbrev pub CertificateBy : List ℕ → Outcome CertFault Certificate
     CertificateBy bytes = do
-      version ← FirstLine 1 (λ line. Returns (version_of line)) (lines bytes)
-      claim ← FirstLine 2 ClaimOf (drop 1 (lines bytes))
-      met ← Asks 2 (begun claim)
-      LinesOf version (drop 2 (lines bytes)) 3 (begun claim)
+      head ← HeadOf k labels (lines bytes)
+      met ← Asks 2 (begun head.1)
+      LinesOf head.0 (drop 2 (lines bytes)) 3 (begun head.1)
 
   -- nothing else is asked
   abbrev pub AsksNothing : ℕ → Certificate → Outcome CertFault (Unit {0})

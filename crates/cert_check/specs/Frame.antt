@@ -2,21 +2,16 @@
 -- At one line the first token with a fault decides.
 -- Source: this project's own, docs/FORMATS.md.
 use Rattle.std.specs.Prelude.{ℕ, ◌+◌, Bool, cond, List, [], ◌∷◌, length, nat_lt, ◌==◌, Option, Some, None, Result, Ok, Err, bytes_eq, codes}
-use Rattle.std.specs.List.{list_any}
 use Rattle.text_core.specs.Numbers.{value_of}
 use Rattle.net_core.specs.NetList.{NetList, nets}
-use Rattle.net_core.specs.GateValue.{GateValue}
 use Rattle.poly_mixed.specs.Labels.{Labelling, word_at}
 use Rattle.poly_mixed.specs.Scan.{word_of}
 use Rattle.poly_mixed.specs.declared.steps.Generator.{Generator}
 use Rattle.poly_mixed.specs.declared.steps.Generator.TheVariants.{Net, Bit}
+use Rattle.cert_check.specs.Driver.{is_driven}
 use Rattle.cert_check.specs.Scan.{is_blank, after_word, after_first, after_sign, digits_at, indexed_at}
 use Rattle.cert_check.specs.declared.fault.LineFault.{LineFault}
 use Rattle.cert_check.specs.declared.fault.LineFault.TheVariants.{Syntax, NoSuchNet, NoSuchBit, NotDriven}
-
--- a gate drives the net
-abbrev pub is_driven : NetList → ℕ → Bool
-is_driven net n = list_any (λ (g : GateValue). g.out == n) net.gates
 
 -- what stands after `:`, of this generator
 abbrev pub after_generator : Generator → Option (List ℕ) → Result (Generator × List ℕ) LineFault

@@ -1,7 +1,9 @@
 pub mod Fault
 pub mod Scan
+pub mod Driver
 pub mod Frame
 pub mod Certificate
 pub mod Running
 pub mod Verdict
+pub mod Labels
 pub mod private

@@ -2,7 +2,7 @@
 -- At a list of bits that agrees with the gates, and with the words, each generator is 0.
 -- Source: Lidl and Niederreiter, Finite Fields, chapter 2 (dual bases and traces); Lv, Kalla, Enescu, IEEE TCAD 2013 (gates as
 -- polynomials); Clegg, Edmonds, Impagliazzo, STOC 1996 (proofs by sums of multiples).
-use Rattle.std.specs.Prelude.{ℕ, ◌+◌, ◌*◌, ◌==◌, Bool, cond, List, [], ◌∷◌, map, bit_xor, slice_index, slice_get, Option, None, Some, find}
+use Rattle.std.specs.Prelude.{ℕ, ◌+◌, ◌*◌, ◌==◌, Bool, cond, List, [], ◌∷◌, map, bit_xor, slice_index, slice_get, Option, None, Some}
 use Rattle.std.specs.List.{position_or_len}
 use Rattle.gf_field.specs.Polynomial.{sum_of_first}
 use Rattle.gf_field.specs.Trace.{frobenius}
@@ -22,6 +22,7 @@ use Rattle.poly_mixed.specs.declared.steps.Generator.TheVariants.{Net, Bit}
 use Rattle.circuit_model.specs.Word.{Word}
 use Rattle.circuit_model.specs.OfBinding.{words_of, output_basis}
 use Rattle.cert_check.specs.Certificate.{Certificate}
+use Rattle.cert_check.specs.Driver.{driver}
 
 -- the place of a net among the variables
 abbrev pub rank_among : List ℕ → ℕ → ℕ
@@ -39,10 +40,6 @@ bit_value b = cond b 1 0
 abbrev pub driven_value : List ℕ → Point → Option GateValue → ℕ
 driven_value vars p None = 0
 driven_value vars p (Some g) = table_value g.table g.inputs (net_bit vars p)
-
--- the gate that drives the net: the first with this output
-abbrev pub driver : NetList → ℕ → Option GateValue
-driver net n = find (λ (g : GateValue). g.out == n) net.gates
 
 -- the sum of the conjugates of d, each times the conjugate of x: the trace of the product
 abbrev pub dual_form : ℕ → (ℕ → ℕ → ℕ) → ℕ → ℕ → ℕ

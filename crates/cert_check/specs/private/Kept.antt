@@ -1,0 +1,55 @@
+-- What the code keeps of a certificate. Source: this project's own.
+use Rattle.std.specs.Prelude.{ℕ, ◌<◌, ◌+◌, ◌^◌, List, length, map, get_or}
+use Rattle.std.specs.List.{AllByRecursion}
+use Rattle.gf_basis.specs.declared.bases.Basis.{Basis}
+use Rattle.net_words.specs.Binding.{BoundNet}
+use Rattle.poly_mixed.specs.Polynomial.{Polynomial, Terms}
+use Rattle.poly_mixed.specs.declared.steps.Generator.{Generator}
+use Rattle.cert_check.specs.Certificate.{Certificate, with_shared, with_pair}
+use Rattle.cert_check.specs.declared.cert_pairs.Entry.{Entry}
+use Rattle.cert_check.specs.Running.{dual_words}
+use Rattle.cert_check.specs.declared.line.Multiplier.{Multiplier}
+use Rattle.cert_check.specs.declared.line.Multiplier.TheVariants as multiplier
+use Rattle.net_core.specs.NetList.{nets}
+use Rattle.poly_mixed.specs.declared.steps.Generator.TheVariants.{Net, Bit}
+use Rattle.cert_check.specs.declared.line.Line.{Line}
+use Rattle.cert_check.specs.declared.line.Line.TheVariants as line
+use Rattle.cert_check.specs.private.Reading.{multiplier_in}
+
+-- the terms of each polynomial
+abbrev pub terms_of : List Polynomial → List Terms
+terms_of polys = map (λ (p : Polynomial). p.terms) polys
+
+-- the certificate of a claim, entries and the places of shared multipliers
+abbrev pub certificate_of : Polynomial → List Entry → List ℕ → List Polynomial → Certificate
+certificate_of claim entries shared polys = record {
+  claim = claim.terms;
+  shared = map (λ at. get_or (terms_of polys) at []) shared;
+  pairs = map (λ (e : Entry). (e.generator, get_or (terms_of polys) e.at [])) entries;
+}
+
+-- each place is one of a multiplier
+pub record AreInside (entries : List Entry) (shared : List ℕ) (polys : List Polynomial) : Type 0 where
+  pub few : length entries < 2 ^ 32
+  pub entries : AllByRecursion (λ (e : Entry). e.at < length polys) entries
+  pub shared : AllByRecursion (λ at. at < length polys) shared
+
+-- the certificate with one more line
+abbrev pub with_line : Certificate → Line → Certificate
+with_line c (line.Pair g m) = with_pair c g (multiplier_in c.shared m)
+with_line c (line.Share p) = with_shared c p.terms
+
+-- the number of a shared multiplier is one of those before
+abbrev pub IsMultiplierIn : Certificate → Multiplier → Type 0
+IsMultiplierIn c (multiplier.Own p) = Unit {0}
+IsMultiplierIn c (multiplier.Shared n) = n < length c.shared
+
+-- the line's multiplier is one that there is
+abbrev pub IsLineIn : Certificate → Line → Type 0
+IsLineIn c (line.Pair g m) = IsMultiplierIn c m × (length c.pairs + 1 < 2 ^ 32)
+IsLineIn c (line.Share p) = Unit {0}
+
+-- a net, or a bit of an input or state word, of which there are at most 8
+abbrev pub IsGeneratorOf : ℕ → BoundNet → List Basis → Generator → Type 0
+IsGeneratorOf k bound bases (Net n) = n < nets bound.net
+IsGeneratorOf k bound bases (Bit w i) = (w < length (dual_words bound bases)) × (w < 8) × (i < k)
