@@ -6,3 +6,4 @@ pub mod WordsLemmas
 pub mod BasisLemmas
 pub mod FormLemmas
 pub mod SumLemmas
+pub mod WordsAloneLemmas

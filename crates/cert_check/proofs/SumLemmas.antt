@@ -1,8 +1,11 @@
 -- Sums of basis elements, place by place, and tables over ranks.
-use Rattle.std.proofs.Common.{◌≡◌, ℕ, zero, suc, ◌<◌, ◌+◌, ◌*◌, ◌/◌, ◌%◌, Bool, true, false, cond, List, [], ◌∷◌, length, map, get_or, take, bit_xor, refl, sym, ap, ◌∙◌, arith}
+use Rattle.std.proofs.Common.{◌≡◌, ℕ, zero, suc, ◌<◌, ◌+◌, ◌*◌, ◌/◌, ◌%◌, Bool, true, false, cond, List, [], ◌∷◌, length, map, get_or, take, bit_xor, refl, sym, ap, ◌∙◌, arith, Result, Ok, Err}
+use Rattle.std.specs.Prelude.{IfOk}
 use lib.Bits.{xor_zero_l, xor_zero_r, xor_assoc}
 use Rattle.irreducible.specs.Span.{combination}
-use Rattle.poly_mixed.specs.Table.{index}
+use Rattle.poly_mixed.specs.Polynomial.{Polynomial, Terms, IsPolynomialOf}
+use Rattle.poly_mixed.specs.Table.{index, table_bit, table_value}
+use Rattle.cert_check.specs.Running.{rank_among, net_bit}
 
 low : (b : Bool) (m r : ℕ) → (cond b 1 0 + 2 * m) % 2 * r ≡ cond b r 0
 low true m r = let one : (1 + 2 * m) % 2 ≡ 1 = omega arith in ap (λ c. c * r) one ∙ (let e : 1 * r ≡ r = omega arith in e)
@@ -30,3 +33,19 @@ sum_more f (b ∷ bs) (n ∷ ns) (suc i) l m =
 pub index_map : (bit : ℕ → Bool) (rank : ℕ → ℕ) (ns : List ℕ) → index bit (map rank ns) ≡ index (λ n. bit (rank n)) ns
 index_map bit rank [] = refl
 index_map bit rank (n ∷ ns) = ap (λ i. cond (bit (rank n)) 1 0 + 2 * i) (index_map bit rank ns)
+
+-- a table over the ranks of nets
+table_over : (k : ℕ) (mul : ℕ → ℕ → ℕ) (order inputs ranks : List ℕ) (table other : ℕ) (ts : Terms) → ranks ≡ map (rank_among order) inputs → other ≡ table
+    → IsPolynomialOf k mul (λ p. table_value other ranks p.is_one) ts → IsPolynomialOf k mul (λ p. table_value table inputs (net_bit order p)) ts
+table_over k mul order inputs ranks table other ts are same is = record {
+  reduced = is.reduced;
+  values = λ p at.
+      is.values p at
+      ∙ ((λ i. cond (table_bit (same i) (index p.is_one (are i))) 1 0)
+      ∙ ap (λ n. cond (table_bit table n) 1 0) (index_map p.is_one (rank_among order) inputs));
+}
+
+pub gate_comes : {E : Type 0} (k : ℕ) (mul : ℕ → ℕ → ℕ) (order inputs ranks : List ℕ) (table other : ℕ) (r : Result Polynomial E) → ranks ≡ map (rank_among order) inputs → other ≡ table
+    → IfOk r (λ q. IsPolynomialOf k mul (λ p. table_value other ranks p.is_one) q.terms) → IfOk r (λ q. IsPolynomialOf k mul (λ p. table_value table inputs (net_bit order p)) q.terms)
+gate_comes k mul order inputs ranks table other (Ok q) are same is = table_over k mul order inputs ranks table other q.terms are same is
+gate_comes k mul order inputs ranks table other (Err e) are same is = tt

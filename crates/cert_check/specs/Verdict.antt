@@ -6,8 +6,10 @@ use Rattle.gf_basis.specs.declared.bases.Basis.{Basis}
 use Rattle.net_words.specs.Binding.{BoundNet}
 use Rattle.poly_mixed.specs.Labels.{Labelling}
 use Rattle.poly_mixed.specs.Polynomial.{Terms, IsPolynomialOf}
-use Rattle.cert_check.specs.Certificate.{Certificate, CertificateBy}
+use Rattle.cert_check.specs.Certificate.{Certificate, NoLine, LinesOf, CertificateBy}
 use Rattle.cert_check.specs.Running.{running}
+use Rattle.cert_check.specs.declared.checking.CertVerdict.{CertVerdict}
+use Rattle.cert_check.specs.declared.checking.CertVerdict.TheVariants as answer
 use Rattle.cert_check.specs.declared.fault.CertFault.{CertFault}
 use Rattle.cert_check.specs.declared.fault.CertFault.TheVariants.{TooManyTerms}
 
@@ -36,3 +38,16 @@ module _ (k : ℕ) (mul : ℕ → ℕ → ℕ) (bound : BoundNet) (bases : List 
   Check labels most bytes = do
     certificate ← CertificateBy k bound.net labels (AsksAtMost most) bytes
     VerdictOn certificate
+
+  -- the verdict of these lines after the claim, of which the first has the number n
+  abbrev pub VerdictFrom : Labelling → ℕ → ℕ → List (List ℕ) → ℕ → Certificate → Outcome CertFault Verdict
+  VerdictFrom labels most version lines n c = LinesOf k bound.net labels (AsksAtMost most) version lines n c >>= VerdictOn
+
+  -- the verdict after `end`
+  abbrev pub VerdictAtEnd : ℕ → List (List ℕ) → Certificate → Outcome CertFault Verdict
+  VerdictAtEnd n lines c = NoLine n lines c >>= VerdictOn
+
+-- what the code answers, as a verdict
+abbrev pub verdict_of : CertVerdict → Verdict
+verdict_of (answer.Valid claim) = valid claim.terms
+verdict_of (answer.Invalid remaining) = invalid remaining

@@ -1,5 +1,5 @@
 //! Generators as polynomials.
-ghost use Rattle.std.specs.Prelude.{◌≡◌, ◌<◌, bit_xor, map, option_map, slice_index, IfOk, IfSome};
+ghost use Rattle.std.specs.Prelude.{◌≡◌, ◌<◌, ◌+◌, ◌*◌, bit_xor, map, option_map, slice_index, IfOk, IfSome};
 ghost use Rattle.gf_basis.specs.BasisParts.{duals_of, IsOver};
 ghost use Rattle.net_core.specs.NetList.{nets};
 ghost use Rattle.net_core.specs.Lists.{Has};

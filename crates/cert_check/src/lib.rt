@@ -3,11 +3,14 @@
 #![tactic(auto)]
 
 mod cert_pairs;
+mod checking;
 mod drivers;
 mod fault;
 mod frame;
 mod generator;
+mod head;
 mod line;
+mod reading;
 mod running;
 mod scan;
 #[cfg(test)]
@@ -15,4 +18,6 @@ mod tests;
 mod words;
 
 pub use cert_pairs::CertPairs;
+pub use checking::{CertVerdict, check};
 pub use fault::CertFault;
+pub use reading::pairs;

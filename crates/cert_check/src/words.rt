@@ -1,5 +1,5 @@
 //! The bases of the words.
-ghost use Rattle.std.specs.Prelude.{◌≡◌, ◌<◌, map, length, slice_get, Some};
+ghost use Rattle.std.specs.Prelude.{◌≡◌, ◌⊎◌, ◌<◌, ◌-◌, true, false, map, length, slice_get, Some, IfSome, IfNone};
 ghost use Rattle.gf_basis.specs.BasisParts.{duals_of, elements_of};
 ghost use Rattle.net_core.specs.Lists.{Has};
 ghost use Rattle.net_words.specs.Binding.{IsBinding};
@@ -35,6 +35,20 @@ pub(crate) fn output_basis<'a>(bound: &Bound, bases: &'a [Basis]) -> &'a Basis
     unreachable!()
 }
 
+// How many words are to be passed after this one, or none where this one is the word.
+fn left_after(is_output: bool, left: u32) -> Option<u32>
+    ensures found { IfNone result ((is_output ≡ false) × (left ≡ 0)) }
+    ensures passed { IfSome result (λ more. ((is_output ≡ true) × (more ≡ left)) ⊎ ((is_output ≡ false) × (0 < left) × (more ≡ left - 1))) }
+{
+    if is_output {
+        Some(left)
+    } else if left == 0 {
+        None
+    } else {
+        Some(left - 1)
+    }
+}
+
 /// The basis of an input, state or fed word, by its number among these, out of one basis for each word.
 pub(crate) fn input_basis<'a>(bound: &Bound, bases: &'a [Basis], word: u32) -> &'a Basis
     requires word { word < length (words_of bound.now.words (map duals_of bases.now)) }
@@ -44,11 +58,9 @@ pub(crate) fn input_basis<'a>(bound: &Bound, bases: &'a [Basis], word: u32) -> &
 {
     let mut left = word;
     for w in 0..bound.words() {
-        if !is_output(bound.role(w)) {
-            if left == 0 {
-                return &bases[w as usize];
-            }
-            left -= 1;
+        match left_after(is_output(bound.role(w)), left) {
+            Some(more) => left = more,
+            None => return &bases[w as usize],
         }
     }
     unreachable!()

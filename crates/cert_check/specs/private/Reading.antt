@@ -1,5 +1,5 @@
 -- What the code keeps while it reads, and what it stands for. Source: this project's own.
-use Rattle.std.specs.Prelude.{◌≡◌, ℕ, ◌<◌, ◌==◌, IsTrue, List, [], length, Option, None, Some, Result, Ok, Err, get_or}
+use Rattle.std.specs.Prelude.{◌≡◌, ℕ, ◌<◌, ◌==◌, true, List, [], length, Option, None, Some, Result, Ok, Err, get_or}
 use Rattle.std.specs.List.{position_from}
 use denote.Ref.{Bor}
 use Rattle.net_core.specs.NetList.{NetList, nets}
@@ -17,6 +17,7 @@ use Rattle.poly_mixed.specs.declared.fault.PolyFault.{PolyFault}
 use Rattle.poly_mixed.specs.declared.fault.PolyFault.TheVariants as poly
 use Rattle.cert_check.specs.declared.frame.Frame.{Frame as CodeFrame}
 use Rattle.cert_check.specs.declared.frame.Frame.TheVariants as frame
+use Rattle.cert_check.specs.declared.head.Head.{Head}
 use Rattle.cert_check.specs.declared.line.Multiplier.{Multiplier}
 use Rattle.cert_check.specs.declared.line.Multiplier.TheVariants as multiplier
 use Rattle.cert_check.specs.declared.line.Line.{Line}
@@ -66,7 +67,7 @@ said_in shared (Some said) = line_in shared said
 
 -- a net that a gate drives, or a bit of a word that the labels name
 abbrev pub IsGenerator : NetList → Labelling → Generator → Type 0
-IsGenerator net labels (Net n) = (n < nets net) × IsTrue (is_driven net n)
+IsGenerator net labels (Net n) = (n < nets net) × (is_driven net n ≡ true)
 IsGenerator net labels (Bit w i) = (w < length labels.words) × (i < (word_at labels.words w).1)
 
 abbrev pub HasGenerator : NetList → Labelling → Frame → Type 0
@@ -96,3 +97,7 @@ fault_of_claim poly.Syntax = own.Syntax
 fault_of_claim poly.NoSuchNet = own.Syntax
 fault_of_claim poly.NoSuchBit = own.Syntax
 fault_of_claim poly.OutOfMemory = own.OutOfMemory
+
+-- the version and the claim
+abbrev pub head_of : Head → ℕ × Terms
+head_of head = (head.version, head.claim.terms)

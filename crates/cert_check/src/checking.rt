@@ -1,0 +1,224 @@
+//! The verdict on a certificate.
+ghost use Rattle.std.specs.Prelude.{◌≡◌, ◌<◌, ◌≤◌, ◌+◌, ◌^◌, length, map, IfErr, OnOk};
+ghost use Rattle.std.specs.Str.Lines.{lines};
+ghost use Rattle.text_core.specs.Outcome.{Fits};
+ghost use Rattle.poly_mixed.specs.Polynomial.{IsReduced};
+ghost use Rattle.circuit_model.specs.Bases.{AreBases};
+ghost use Rattle.cert_check.specs.Fault.{refusal};
+ghost use Rattle.cert_check.specs.Labels.{NameWords};
+ghost use Rattle.cert_check.specs.Certificate.{Certificate, begun};
+ghost use Rattle.cert_check.specs.Verdict.{IsRunningSum, VerdictAtEnd, VerdictFrom, Check, verdict_of};
+ghost use Rattle.cert_check.specs.declared.fault.CertFault.TheVariants.{TooManyTerms};
+ghost use Rattle.cert_check.specs.private.Reading.{AreDrivers};
+ghost use Rattle.cert_check.specs.private.Kept.{terms_of, with_line, IsLineOf, IsKept, LineAsks};
+
+use crate::drivers::drivers;
+use crate::fault::{CertFault, at_line};
+use crate::head::read_head;
+use crate::line::{Line, Multiplier, read_line};
+use crate::running::{add_product, first_sum};
+use gf_basis::Basis;
+use gf_field::Field;
+use net_words::Combinational;
+use poly_mixed::{Labels, Poly};
+use std::alloc::Global;
+use text_core::next_line;
+
+/// The verdict on a certificate that has no fault.
+#[derive(Drop)]
+pub enum CertVerdict {
+    /// The last running sum is empty: the claim has the output's value at every input.
+    Valid(Poly),
+    /// So many terms are left of the last running sum.
+    Invalid { remaining: u64 },
+}
+
+// The claim, the shared multipliers and the running sum.
+#[derive(Drop)]
+struct Checking {
+    claim: Poly,
+    shared: Vec<Poly>,
+    sum: Poly,
+}
+
+// Refuses a sum of more terms than the bound after the line of this number.
+fn check_size(sum: &Poly, line: u32, bound: u32) -> Result<(), CertFault>
+    ensures within { OnOk result (length sum.now.terms ≤ bound) }
+    ensures over { IfErr result (λ fault. (fault ≡ TooManyTerms line (length sum.now.terms)) × (bound < length sum.now.terms)) }
+{
+    let terms = sum.len() as u64;
+    if terms > u64::from(bound) {
+        return Err(CertFault::TooManyTerms { line, terms });
+    }
+    Ok(())
+}
+
+impl Checking {
+    // Adds what a line says, and compares the sum with the bound after a pair.
+    fn add<F: Field>(
+        &mut self,
+        alloc: Global,
+        field: &F,
+        circuit: &Combinational,
+        bases: &[Basis],
+        drivers: &[Option<u32>],
+        number: u32,
+        bound: u32,
+        line: Line,
+    ) -> Result<(), CertFault>
+        requires bases { AreBases (F.degree field.now) (F.product field.now) circuit.now bases.now }
+        requires drivers { AreDrivers circuit.now.net drivers.now }
+        requires kept { (c : Certificate) × IsKept (F.degree field.now) (F.product field.now) circuit.now bases.now bound c self.old.claim.terms (terms_of self.old.shared.items) self.old.sum.terms }
+        requires line { IsLineOf (F.degree field.now) circuit.now bases.now (length self.old.shared.items) line }
+        ensures asks { (c : Certificate) → IsKept (F.degree field.now) (F.product field.now) circuit.now bases.now bound c self.old.claim.terms (terms_of self.old.shared.items) self.old.sum.terms → Fits refusal (λ u. tt) result (LineAsks (F.degree field.now) (F.product field.now) circuit.now bases.now bound number c line) }
+        ensures kept { (c : Certificate) → IsKept (F.degree field.now) (F.product field.now) circuit.now bases.now bound c self.old.claim.terms (terms_of self.old.shared.items) self.old.sum.terms → OnOk result (IsKept (F.degree field.now) (F.product field.now) circuit.now bases.now bound (with_line c line) self.new.claim.terms (terms_of self.new.shared.items) self.new.sum.terms) }
+        ensures few { OnOk result (length self.new.shared.items ≤ length self.old.shared.items + 1) }
+    {
+        match line {
+            Line::Pair(generator, Multiplier::Own(poly)) => {
+                add_product(
+                    alloc,
+                    field,
+                    circuit,
+                    bases,
+                    drivers,
+                    generator,
+                    &poly,
+                    &mut self.sum,
+                )?;
+                check_size(&self.sum, number, bound)
+            }
+            Line::Pair(generator, Multiplier::Shared(n)) => {
+                add_product(
+                    alloc,
+                    field,
+                    circuit,
+                    bases,
+                    drivers,
+                    generator,
+                    &self.shared[n as usize],
+                    &mut self.sum,
+                )?;
+                check_size(&self.sum, number, bound)
+            }
+            Line::Share(poly) => {
+                self.shared.push(poly)?;
+                Ok(())
+            }
+        }
+    }
+
+    // The verdict, where nothing follows; the next line would have this number.
+    fn ended(self, number: u32, rest: &[u8]) -> Result<CertVerdict, CertFault>
+        ensures { (k : _) (mul : _) (bound : _) (bases : _) (most : _) (c : Certificate) → IsKept k mul bound bases most c self.claim.terms (terms_of self.shared.items) self.sum.terms → Fits refusal verdict_of result (VerdictAtEnd k mul bound bases number (lines rest.now) c) }
+    {
+        if !rest.is_empty() {
+            return Err(CertFault::Syntax { line: number });
+        }
+        let remaining = self.sum.len() as u64;
+        if remaining == 0 {
+            Ok(CertVerdict::Valid(self.claim))
+        } else {
+            Ok(CertVerdict::Invalid { remaining })
+        }
+    }
+}
+
+// The verdict of the lines after the claim.
+fn verdict_from<F: Field>(
+    alloc: Global,
+    field: &F,
+    circuit: &Combinational,
+    bases: &[Basis],
+    drivers: &[Option<u32>],
+    labels: &Labels,
+    bound: u32,
+    version: u32,
+    claim: Poly,
+    sum: Poly,
+    bytes: &[u8],
+) -> Result<CertVerdict, CertFault>
+    requires k { circuit.now.bound.k ≡ F.degree field.now }
+    requires bases { AreBases (F.degree field.now) (F.product field.now) circuit.now bases.now }
+    requires labels { NameWords circuit.now.bound labels.now }
+    requires drivers { AreDrivers circuit.now.net drivers.now }
+    requires size { length bytes.now ≤ 67108864 }
+    requires sum { IsRunningSum (F.degree field.now) (F.product field.now) circuit.now bases.now (begun claim.terms) sum.terms }
+    requires within { length sum.terms ≤ bound }
+    ensures { Fits refusal verdict_of result (VerdictFrom (F.degree field.now) (F.product field.now) circuit.now bases.now labels.now bound version (lines bytes.now) 3 (begun claim.terms)) }
+{
+    let k = field.k();
+    let net = circuit.net();
+    let mut checking = Checking {
+        claim,
+        shared: Vec::new(alloc),
+        sum,
+    };
+    let mut rest = bytes;
+    let mut number: u32 = 3;
+    while !rest.is_empty() {
+        let (text, more) = next_line(rest);
+        let count = checking.shared.len() as u32;
+        let said = match read_line(alloc, k, net, drivers, labels, version, count, text) {
+            Ok(said) => said,
+            Err(fault) => return Err(at_line(number, fault)),
+        };
+        let Some(line) = said else {
+            return checking.ended(number + 1, more);
+        };
+        match checking.add(alloc, field, circuit, bases, drivers, number, bound, line) {
+            Ok(()) => {}
+            Err(fault) => return Err(fault),
+        }
+        rest = more;
+        number += 1;
+    }
+    Err(CertFault::NoEnd)
+}
+
+/// The verdict on a certificate in version 1 or 2, or the fault of the first line that shows one; at one line the text
+/// comes before the size.
+///
+/// The running sum begins as the sum of the output word, that is of its basis elements each times its bit, and the claim;
+/// each pair adds the product of its generator and its multiplier, as the reduced polynomial in which all variables are
+/// free. `TooManyTerms` comes where the sum after a line has more than `bound` terms; the claim's line is such a line
+/// too. Each word has k bits, there is one basis of this field for each word of the binding, the labels name the input,
+/// state and fed words of the circuit, and the text has at most 67,108,864 bytes.
+pub fn check<F: Field>(
+    alloc: Global,
+    field: &F,
+    circuit: &Combinational,
+    bases: &[Basis],
+    labels: &Labels,
+    bytes: &[u8],
+    bound: u32,
+) -> Result<CertVerdict, CertFault>
+    requires k { circuit.now.bound.k ≡ F.degree field.now }
+    requires bases { AreBases (F.degree field.now) (F.product field.now) circuit.now bases.now }
+    requires labels { NameWords circuit.now.bound labels.now }
+    requires size { length bytes.now ≤ 67108864 }
+    ensures { Fits refusal verdict_of result (Check (F.degree field.now) (F.product field.now) circuit.now bases.now labels.now bound bytes.now) }
+{
+    let drivers = drivers(alloc, circuit.net())?;
+    let head = match read_head(alloc, field.k(), labels, bytes) {
+        Ok(head) => head,
+        Err(fault) => return Err(fault),
+    };
+    let sum = first_sum(alloc, field, circuit, bases, &head.claim)?;
+    match check_size(&sum, 2, bound) {
+        Ok(()) => verdict_from(
+            alloc,
+            field,
+            circuit,
+            bases,
+            &drivers,
+            labels,
+            bound,
+            head.version,
+            head.claim,
+            sum,
+            head.rest,
+        ),
+        Err(fault) => Err(fault),
+    }
+}
