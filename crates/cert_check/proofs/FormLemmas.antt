@@ -25,7 +25,7 @@ pub record IsPart (k : ℕ) (mul : ℕ → ℕ → ℕ) (linear : List ℕ) (wor
   pub reduced : IsReduced k ts
   pub values : (p : Point) → IsPoint k p → value mul p ts ≡ part_value mul linear (slice_index p.words word) m
 
-same_sum : (m : ℕ) (f g : ℕ → ℕ) → ((i : ℕ) → i < m → f i ≡ g i) → sum_of_first m f ≡ sum_of_first m g
+pub same_sum : (m : ℕ) (f g : ℕ → ℕ) → ((i : ℕ) → i < m → f i ≡ g i) → sum_of_first m f ≡ sum_of_first m g
 same_sum zero f g same = refl
 same_sum (suc m) f g same = λ i. bit_xor (same_sum m f g (λ j less. same j (omega arith)) i) (same m (omega arith) i)
 

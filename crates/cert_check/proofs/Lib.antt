@@ -1,4 +1,9 @@
 pub mod StepLemmas
+pub mod FrameLemmas
+pub mod LineLemmas
+pub mod HeadLemmas
+pub mod LoopLemmas
+pub mod CheckLemmas
 pub mod RankLemmas
 pub mod InsideLemmas
 pub mod OutputLemmas
@@ -7,3 +12,7 @@ pub mod BasisLemmas
 pub mod FormLemmas
 pub mod SumLemmas
 pub mod WordsAloneLemmas
+pub mod SaidLemmas
+pub mod SoundLemmas
+pub mod OutputLaw
+pub mod KeptLemmas

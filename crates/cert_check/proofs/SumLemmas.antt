@@ -1,17 +1,24 @@
 -- Sums of basis elements, place by place, and tables over ranks.
-use Rattle.std.proofs.Common.{◌≡◌, ℕ, zero, suc, ◌<◌, ◌+◌, ◌*◌, ◌/◌, ◌%◌, Bool, true, false, cond, List, [], ◌∷◌, length, map, get_or, take, bit_xor, refl, sym, ap, ◌∙◌, arith, Result, Ok, Err}
-use Rattle.std.specs.Prelude.{IfOk}
+use Rattle.std.proofs.Common.{◌≡◌, ℕ, zero, suc, ◌<◌, ◌+◌, ◌*◌, ◌/◌, ◌%◌, Bool, true, false, cond, List, [], ◌∷◌, length, map, get_or, take, bit_xor, refl, sym, ap, subst, ◌∙◌, arith, Some, Result, Ok, Err}
+use Rattle.std.specs.Prelude.{IfOk, slice_get, slice_index}
 use lib.Bits.{xor_zero_l, xor_zero_r, xor_assoc}
 use Rattle.irreducible.specs.Span.{combination}
 use Rattle.poly_mixed.specs.Polynomial.{Polynomial, Terms, IsPolynomialOf}
 use Rattle.poly_mixed.specs.Table.{index, table_bit, table_value}
-use Rattle.cert_check.specs.Running.{rank_among, net_bit}
+use Rattle.poly_mixed.specs.declared.steps.Generator.{Generator}
+use Rattle.poly_mixed.specs.declared.steps.Generator.TheVariants.{Bit}
+use Rattle.gf_basis.specs.BasisParts.{duals_of}
+use Rattle.gf_basis.specs.declared.bases.Basis.{Basis}
+use Rattle.graph_core.proofs.ListLemmas.{get_below}
+use Rattle.net_words.specs.Binding.{BoundNet}
+use Rattle.circuit_model.specs.Word.{Word}
+use Rattle.cert_check.specs.Running.{rank_among, net_bit, bit_value, dual_form, dual_at, dual_words, generator_value}
 
 low : (b : Bool) (m r : ℕ) → (cond b 1 0 + 2 * m) % 2 * r ≡ cond b r 0
 low true m r = let one : (1 + 2 * m) % 2 ≡ 1 = omega arith in ap (λ c. c * r) one ∙ (let e : 1 * r ≡ r = omega arith in e)
 low false m r = let none : (0 + 2 * m) % 2 ≡ 0 = omega arith in ap (λ c. c * r) none ∙ (let e : 0 * r ≡ 0 = omega arith in e)
 
-half : (b : Bool) (m : ℕ) → (cond b 1 0 + 2 * m) / 2 ≡ m
+pub half : (b : Bool) (m : ℕ) → (cond b 1 0 + 2 * m) / 2 ≡ m
 half true m = omega arith
 half false m = omega arith
 
@@ -49,3 +56,20 @@ pub gate_comes : {E : Type 0} (k : ℕ) (mul : ℕ → ℕ → ℕ) (order input
     → IfOk r (λ q. IsPolynomialOf k mul (λ p. table_value other ranks p.is_one) q.terms) → IfOk r (λ q. IsPolynomialOf k mul (λ p. table_value table inputs (net_bit order p)) q.terms)
 gate_comes k mul order inputs ranks table other (Ok q) are same is = table_over k mul order inputs ranks table other q.terms are same is
 gate_comes k mul order inputs ranks table other (Err e) are same is = tt
+
+-- the generator of a bit, with the basis of its word
+bit_generator : (k : ℕ) (mul : ℕ → ℕ → ℕ) (bound : BoundNet) (bases : List Basis) (w i : ℕ) (basis : Basis) (g : Generator) (ts : Terms) → w < length (dual_words bound bases) → ((x : Word) → slice_get (dual_words bound bases) w ≡ Some x → x.basis ≡ duals_of basis) → g ≡ Bit w i
+    → IsPolynomialOf k mul (λ p. bit_xor (bit_value (p.is_one (k * w + i))) (dual_form k mul (slice_index (duals_of basis) i) (slice_index p.words w))) ts → IsPolynomialOf k mul (generator_value k mul bound bases g) ts
+bit_generator k mul bound bases w i basis g ts less own same is =
+    let found = get_below (dual_words bound bases) w less in
+    let dual : dual_at (slice_get (dual_words bound bases) w) i ≡ slice_index (duals_of basis) i = ap (λ o. dual_at o i) found.1 ∙ ap (λ ds. slice_index ds i) (own found.0 found.1) in
+    let P : Generator → Type 0 = λ h. IsPolynomialOf k mul (generator_value k mul bound bases h) ts in
+    subst P (sym same) (record {
+      reduced = is.reduced;
+      values = λ p at. is.values p at ∙ ap (λ d. bit_xor (bit_value (p.is_one (k * w + i))) (dual_form k mul d (slice_index p.words w))) (sym dual);
+    })
+
+pub bit_comes : {E : Type 0} (k : ℕ) (mul : ℕ → ℕ → ℕ) (bound : BoundNet) (bases : List Basis) (w i : ℕ) (basis : Basis) (g : Generator) (r : Result Polynomial E) → w < length (dual_words bound bases) → ((x : Word) → slice_get (dual_words bound bases) w ≡ Some x → x.basis ≡ duals_of basis) → g ≡ Bit w i
+    → IfOk r (λ q. IsPolynomialOf k mul (λ p. bit_xor (bit_value (p.is_one (k * w + i))) (dual_form k mul (slice_index (duals_of basis) i) (slice_index p.words w))) q.terms) → IfOk r (λ q. IsPolynomialOf k mul (generator_value k mul bound bases g) q.terms)
+bit_comes k mul bound bases w i basis g (Ok q) less own same is = bit_generator k mul bound bases w i basis g q.terms less own same is
+bit_comes k mul bound bases w i basis g (Err e) less own same is = tt

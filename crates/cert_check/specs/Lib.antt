@@ -6,4 +6,5 @@ pub mod Certificate
 pub mod Running
 pub mod Verdict
 pub mod Labels
+pub mod Output
 pub mod private

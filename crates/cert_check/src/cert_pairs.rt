@@ -8,32 +8,31 @@ use poly_mixed::{Generator, Poly};
 use std::alloc::{AllocError, Global};
 use std::marker::Model;
 
-// A generator, and the place of its multiplier.
-#[derive(Clone, Copy)]
+// A generator with its multiplier.
+#[derive(Drop)]
 struct Entry {
     generator: Generator,
-    at: usize,
+    multiplier: Multiplier,
 }
 
 /// The claim of a certificate and its pairs of generator and multiplier, in their order.
 #[derive(Drop)]
 pub struct CertPairs {
     claim: Poly,
+    shared: Vec<Poly>,
     entries: Vec<Entry>,
-    // The places of the shared multipliers, by number.
-    shared: Vec<usize>,
-    multipliers: Vec<Poly>,
 }
 
 impl Model for CertPairs {
+    ghost use Rattle.std.specs.Prelude.{length};
     ghost use Rattle.cert_check.specs.Certificate.{Certificate};
-    ghost use Rattle.cert_check.specs.private.Kept.{certificate_of, AreInside};
+    ghost use Rattle.cert_check.specs.private.Kept.{certificate_of, AreEntries};
 
     ghost Value = { Certificate };
 
-    ghost view = { λ c. certificate_of c.claim c.entries.items c.shared.items c.multipliers.items };
+    ghost view = { λ c. certificate_of c.claim c.shared.items c.entries.items };
 
-    ghost invariant = { λ c. AreInside c.entries.items c.shared.items c.multipliers.items };
+    ghost invariant = { λ c. AreEntries (length c.shared.items) c.entries.items };
 }
 
 impl CertPairs {
@@ -64,7 +63,9 @@ impl CertPairs {
         requires { n < length self.now.pairs }
         ensures { (s : _) → slice_get self.now.pairs n ≡ Some s → result.now.terms ≡ s.1 }
     {
-        &self.multipliers[self.entries[n as usize].at]
+        self.entries[n as usize]
+            .multiplier
+            .among(self.shared.as_slice())
     }
 
     // A claim without pairs.
@@ -73,9 +74,8 @@ impl CertPairs {
     {
         CertPairs {
             claim,
-            entries: Vec::new(alloc),
             shared: Vec::new(alloc),
-            multipliers: Vec::new(alloc),
+            entries: Vec::new(alloc),
         }
     }
 
@@ -92,20 +92,11 @@ impl CertPairs {
         ensures { OnOk result (self.new ≡ with_line self.old line) }
     {
         match line {
-            Line::Pair(generator, Multiplier::Own(poly)) => {
-                let at = self.multipliers.len();
-                self.multipliers.push(poly)?;
-                self.entries.push(Entry { generator, at })?;
-            }
-            Line::Pair(generator, Multiplier::Shared(n)) => {
-                let at = self.shared[n as usize];
-                self.entries.push(Entry { generator, at })?;
-            }
-            Line::Share(poly) => {
-                let at = self.multipliers.len();
-                self.multipliers.push(poly)?;
-                self.shared.push(at)?;
-            }
+            Line::Pair(generator, multiplier) => self.entries.push(Entry {
+                generator,
+                multiplier,
+            })?,
+            Line::Share(poly) => self.shared.push(poly)?,
         }
         Ok(())
     }

@@ -1,16 +1,15 @@
 //! The verdict on a certificate.
-ghost use Rattle.std.specs.Prelude.{◌≡◌, ◌<◌, ◌≤◌, ◌+◌, ◌^◌, length, map, IfErr, OnOk};
+ghost use Rattle.std.specs.Prelude.{◌≡◌, ◌<◌, ◌≤◌, ◌+◌, length, IfErr, OnOk};
 ghost use Rattle.std.specs.Str.Lines.{lines};
 ghost use Rattle.text_core.specs.Outcome.{Fits};
-ghost use Rattle.poly_mixed.specs.Polynomial.{IsReduced};
 ghost use Rattle.circuit_model.specs.Bases.{AreBases};
 ghost use Rattle.cert_check.specs.Fault.{refusal};
 ghost use Rattle.cert_check.specs.Labels.{NameWords};
-ghost use Rattle.cert_check.specs.Certificate.{Certificate, begun};
-ghost use Rattle.cert_check.specs.Verdict.{IsRunningSum, VerdictAtEnd, VerdictFrom, Check, verdict_of};
+ghost use Rattle.cert_check.specs.Certificate.{Certificate, begun, with_pair};
+ghost use Rattle.cert_check.specs.Verdict.{IsRunningSum, AsksAtMost, VerdictAtEnd, VerdictFrom, Check, verdict_of};
 ghost use Rattle.cert_check.specs.declared.fault.CertFault.TheVariants.{TooManyTerms};
-ghost use Rattle.cert_check.specs.private.Reading.{AreDrivers};
-ghost use Rattle.cert_check.specs.private.Kept.{terms_of, with_line, IsLineOf, IsKept, LineAsks};
+ghost use Rattle.cert_check.specs.private.Reading.{AreDrivers, IsMultiplier, multiplier_in};
+ghost use Rattle.cert_check.specs.private.Kept.{terms_of, with_line, IsGeneratorOf, IsLineOf, IsKept, LineAsks};
 
 use crate::drivers::drivers;
 use crate::fault::{CertFault, at_line};
@@ -20,7 +19,7 @@ use crate::running::{add_product, first_sum};
 use gf_basis::Basis;
 use gf_field::Field;
 use net_words::Combinational;
-use poly_mixed::{Labels, Poly};
+use poly_mixed::{Generator, Labels, Poly};
 use std::alloc::Global;
 use text_core::next_line;
 
@@ -54,6 +53,42 @@ fn check_size(sum: &Poly, line: u32, bound: u32) -> Result<(), CertFault>
 }
 
 impl Checking {
+    // Adds the product of a pair, and compares the sum with the bound.
+    fn add_pair<F: Field>(
+        &mut self,
+        alloc: Global,
+        field: &F,
+        circuit: &Combinational,
+        bases: &[Basis],
+        drivers: &[Option<u32>],
+        number: u32,
+        bound: u32,
+        generator: Generator,
+        multiplier: &Multiplier,
+    ) -> Result<(), CertFault>
+        requires bases { AreBases (F.degree field.now) (F.product field.now) circuit.now bases.now }
+        requires drivers { AreDrivers circuit.now.net drivers.now }
+        requires kept { (c : Certificate) × IsKept (F.degree field.now) (F.product field.now) circuit.now bases.now bound c self.old.claim.terms (terms_of self.old.shared.items) self.old.sum.terms }
+        requires generator { IsGeneratorOf (F.degree field.now) circuit.now bases.now generator }
+        requires multiplier { IsMultiplier (F.degree field.now) (length self.old.shared.items) multiplier.now }
+        ensures asks { (c : Certificate) → IsKept (F.degree field.now) (F.product field.now) circuit.now bases.now bound c self.old.claim.terms (terms_of self.old.shared.items) self.old.sum.terms → Fits refusal (λ u. tt) result (AsksAtMost (F.degree field.now) (F.product field.now) circuit.now bases.now bound number (with_pair c generator (multiplier_in c.shared multiplier.now))) }
+        ensures kept { (c : Certificate) → IsKept (F.degree field.now) (F.product field.now) circuit.now bases.now bound c self.old.claim.terms (terms_of self.old.shared.items) self.old.sum.terms → OnOk result (IsKept (F.degree field.now) (F.product field.now) circuit.now bases.now bound (with_pair c generator (multiplier_in c.shared multiplier.now)) self.new.claim.terms (terms_of self.new.shared.items) self.new.sum.terms) }
+        ensures few { OnOk result (length self.new.shared.items ≤ length self.old.shared.items) }
+    {
+        let factor = multiplier.among(self.shared.as_slice());
+        add_product(
+            alloc,
+            field,
+            circuit,
+            bases,
+            drivers,
+            generator,
+            factor,
+            &mut self.sum,
+        )?;
+        check_size(&self.sum, number, bound)
+    }
+
     // Adds what a line says, and compares the sum with the bound after a pair.
     fn add<F: Field>(
         &mut self,
@@ -75,32 +110,17 @@ impl Checking {
         ensures few { OnOk result (length self.new.shared.items ≤ length self.old.shared.items + 1) }
     {
         match line {
-            Line::Pair(generator, Multiplier::Own(poly)) => {
-                add_product(
-                    alloc,
-                    field,
-                    circuit,
-                    bases,
-                    drivers,
-                    generator,
-                    &poly,
-                    &mut self.sum,
-                )?;
-                check_size(&self.sum, number, bound)
-            }
-            Line::Pair(generator, Multiplier::Shared(n)) => {
-                add_product(
-                    alloc,
-                    field,
-                    circuit,
-                    bases,
-                    drivers,
-                    generator,
-                    &self.shared[n as usize],
-                    &mut self.sum,
-                )?;
-                check_size(&self.sum, number, bound)
-            }
+            Line::Pair(generator, multiplier) => self.add_pair(
+                alloc,
+                field,
+                circuit,
+                bases,
+                drivers,
+                number,
+                bound,
+                generator,
+                &multiplier,
+            ),
             Line::Share(poly) => {
                 self.shared.push(poly)?;
                 Ok(())
@@ -112,14 +132,15 @@ impl Checking {
     fn ended(self, number: u32, rest: &[u8]) -> Result<CertVerdict, CertFault>
         ensures { (k : _) (mul : _) (bound : _) (bases : _) (most : _) (c : Certificate) → IsKept k mul bound bases most c self.claim.terms (terms_of self.shared.items) self.sum.terms → Fits refusal verdict_of result (VerdictAtEnd k mul bound bases number (lines rest.now) c) }
     {
-        if !rest.is_empty() {
-            return Err(CertFault::Syntax { line: number });
-        }
-        let remaining = self.sum.len() as u64;
-        if remaining == 0 {
-            Ok(CertVerdict::Valid(self.claim))
+        if rest.is_empty() {
+            let remaining = self.sum.len() as u64;
+            if remaining == 0 {
+                Ok(CertVerdict::Valid(self.claim))
+            } else {
+                Ok(CertVerdict::Invalid { remaining })
+            }
         } else {
-            Ok(CertVerdict::Invalid { remaining })
+            Err(CertFault::Syntax { line: number })
         }
     }
 }

@@ -1,5 +1,5 @@
 //! What a line begins with.
-ghost use Rattle.std.specs.Prelude.{◌≡◌, ◌<◌, ◌≤◌, ◌==◌, MatchOption, Some};
+ghost use Rattle.std.specs.Prelude.{◌≡◌, ◌<◌, ◌≤◌, ◌==◌, length, MatchOption, IfSome, Some};
 ghost use Rattle.text_core.specs.Numbers.{value_of};
 ghost use Rattle.net_core.specs.NetList.{nets};
 ghost use Rattle.poly_mixed.specs.Labels.{word_at};
@@ -72,6 +72,7 @@ fn net_line<'a>(
 // The number of the word of a name.
 fn word_number(labels: &Labels, name: &[u8]) -> Option<u32>
     ensures value { result ≡ word_of labels.now.words name.now }
+    ensures below { IfSome result (λ w. w < length labels.now.words) }
 {
     for word in 0..labels.words() {
         if labels.name(word).as_bytes() == name {

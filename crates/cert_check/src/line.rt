@@ -5,6 +5,7 @@ ghost use Rattle.poly_mixed.specs.Polynomial.{Terms, IsReduced};
 ghost use Rattle.cert_check.specs.Fault.{line_refusal};
 ghost use Rattle.cert_check.specs.Scan.{digits_first as digits_in_front};
 ghost use Rattle.cert_check.specs.Certificate.{after_hash as hash_left, shared_by, IsInWords, InWords, ClaimOf, PolynomialOf, MultiplierOf, LineOf};
+ghost use Rattle.cert_check.specs.private.Kept.{terms_of, IsNumbered};
 ghost use Rattle.cert_check.specs.private.Scanning.{left_of};
 ghost use Rattle.cert_check.specs.private.Reading.{AreDrivers, multiplier_in, said_in, IsMultiplier, IsLine, fault_of_poly, fault_of_claim};
 
@@ -20,6 +21,19 @@ use std::alloc::Global;
 pub(crate) enum Multiplier {
     Own(Poly),
     Shared(u32),
+}
+
+impl Multiplier {
+    /// The polynomial, where these are shared.
+    pub(crate) fn among<'a>(&'a self, shared: &'a [Poly]) -> &'a Poly
+        requires { IsNumbered (length shared.now) self.now }
+        ensures { result.now.terms ≡ multiplier_in (terms_of shared.now) self.now }
+    {
+        match self {
+            Multiplier::Own(poly) => poly,
+            Multiplier::Shared(n) => &shared[*n as usize],
+        }
+    }
 }
 
 /// A line after the claim: a pair, or a shared multiplier.

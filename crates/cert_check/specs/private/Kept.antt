@@ -1,10 +1,11 @@
 -- What the code keeps of a certificate. Source: this project's own.
-use Rattle.std.specs.Prelude.{◌≡◌, ℕ, ◌<◌, ◌≤◌, ◌+◌, ◌^◌, List, [], length, map, get_or}
+use Rattle.std.specs.Prelude.{◌≡◌, ℕ, ◌<◌, ◌≤◌, ◌+◌, ◌^◌, List, length, map}
 use Rattle.std.specs.List.{AllByRecursion}
 use Rattle.gf_basis.specs.declared.bases.Basis.{Basis}
 use Rattle.net_words.specs.Binding.{BoundNet}
 use Rattle.text_core.specs.Outcome.{Outcome, Exactly}
 use Rattle.poly_mixed.specs.Polynomial.{Polynomial, Terms, IsReduced}
+use Rattle.poly_mixed.specs.Steps.{Step}
 use Rattle.poly_mixed.specs.declared.steps.Generator.{Generator}
 use Rattle.cert_check.specs.Certificate.{Certificate, with_shared, with_pair}
 use Rattle.cert_check.specs.declared.cert_pairs.Entry.{Entry}
@@ -23,33 +24,36 @@ use Rattle.cert_check.specs.private.Reading.{multiplier_in, IsMultiplier}
 abbrev pub terms_of : List Polynomial → List Terms
 terms_of polys = map (λ (p : Polynomial). p.terms) polys
 
--- the certificate of a claim, entries and the places of shared multipliers
-abbrev pub certificate_of : Polynomial → List Entry → List ℕ → List Polynomial → Certificate
-certificate_of claim entries shared polys = record {
+-- a pair, where these multipliers are shared
+abbrev pub step_in : List Terms → Entry → Step
+step_in shared e = (e.generator, multiplier_in shared e.multiplier)
+
+-- the certificate of a claim, shared multipliers and entries
+abbrev pub certificate_of : Polynomial → List Polynomial → List Entry → Certificate
+certificate_of claim shared entries = record {
   claim = claim.terms;
-  shared = map (λ at. get_or (terms_of polys) at []) shared;
-  pairs = map (λ (e : Entry). (e.generator, get_or (terms_of polys) e.at [])) entries;
+  shared = terms_of shared;
+  pairs = map (step_in (terms_of shared)) entries;
 }
 
--- each place is one of a multiplier
-pub record AreInside (entries : List Entry) (shared : List ℕ) (polys : List Polynomial) : Type 0 where
+-- the number of a shared multiplier, of which there are so many
+abbrev pub IsNumbered : ℕ → Multiplier → Type 0
+IsNumbered count (multiplier.Own p) = Unit {0}
+IsNumbered count (multiplier.Shared n) = n < count
+
+-- fewer than 2^32 entries, each with a multiplier that there is
+pub record AreEntries (count : ℕ) (entries : List Entry) : Type 0 where
   pub few : length entries < 2 ^ 32
-  pub each : AllByRecursion (λ (e : Entry). e.at < length polys) entries
-  pub places : AllByRecursion (λ at. at < length polys) shared
+  pub each : AllByRecursion (λ (e : Entry). IsNumbered count e.multiplier) entries
 
 -- the certificate with one more line
 abbrev pub with_line : Certificate → Line → Certificate
 with_line c (line.Pair g m) = with_pair c g (multiplier_in c.shared m)
 with_line c (line.Share p) = with_shared c p.terms
 
--- the number of a shared multiplier is one of those before
-abbrev pub IsMultiplierIn : Certificate → Multiplier → Type 0
-IsMultiplierIn c (multiplier.Own p) = Unit {0}
-IsMultiplierIn c (multiplier.Shared n) = n < length c.shared
-
 -- the line's multiplier is one that there is
 abbrev pub IsLineIn : Certificate → Line → Type 0
-IsLineIn c (line.Pair g m) = IsMultiplierIn c m × (length c.pairs + 1 < 2 ^ 32)
+IsLineIn c (line.Pair g m) = IsNumbered (length c.shared) m × (length c.pairs + 1 < 2 ^ 32)
 IsLineIn c (line.Share p) = Unit {0}
 
 -- a net, or a bit of an input or state word, of which there are at most 8
