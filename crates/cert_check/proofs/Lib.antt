@@ -16,3 +16,4 @@ pub mod SaidLemmas
 pub mod SoundLemmas
 pub mod OutputLaw
 pub mod KeptLemmas
+pub mod DeterminedLemmas

@@ -184,8 +184,9 @@ fn verdict_from<F: Field>(
             Ok(said) => said,
             Err(fault) => return Err(at_line(number, fault)),
         };
-        let Some(line) = said else {
-            return checking.ended(number + 1, more);
+        let line = match said {
+            Some(line) => line,
+            None => return checking.ended(number + 1, more),
         };
         match checking.add(alloc, field, circuit, bases, drivers, number, bound, line) {
             Ok(()) => {}

@@ -21,5 +21,5 @@ mod words;
 pub use cert_pairs::CertPairs;
 pub use checking::{CertVerdict, check};
 pub use fault::CertFault;
-pub use laws::valid_claims_are_outputs;
+pub use laws::{one_certificate_or_fault, one_verdict_or_fault, valid_claims_are_outputs};
 pub use reading::pairs;

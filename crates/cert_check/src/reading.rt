@@ -54,8 +54,9 @@ fn pairs_from(
             Ok(said) => said,
             Err(fault) => return Err(at_line(number, fault)),
         };
-        let Some(line) = said else {
-            return ended(pairs, number + 1, more);
+        let line = match said {
+            Some(line) => line,
+            None => return ended(pairs, number + 1, more),
         };
         pairs.add(line)?;
         rest = more;
