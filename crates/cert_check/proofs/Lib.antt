@@ -17,3 +17,5 @@ pub mod SoundLemmas
 pub mod OutputLaw
 pub mod KeptLemmas
 pub mod DeterminedLemmas
+pub mod PairsLemmas
+pub mod TurnLemmas
