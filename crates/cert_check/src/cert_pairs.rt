@@ -1,7 +1,8 @@
 //! What a certificate says: its claim and its pairs.
-ghost use Rattle.std.specs.Prelude.{◌≡◌, ◌<◌, length, slice_get, OnOk, Some};
-ghost use Rattle.cert_check.specs.Certificate.{begun};
-ghost use Rattle.cert_check.specs.private.Kept.{with_line, IsLineIn};
+ghost use Rattle.std.specs.Prelude.{◌≡◌, ◌<◌, ◌+◌, ◌^◌, length, slice_get, OnOk, Some};
+ghost use Rattle.cert_check.specs.Certificate.{begun, with_pair, with_shared};
+ghost use Rattle.cert_check.specs.private.Reading.{multiplier_in};
+ghost use Rattle.cert_check.specs.private.Kept.{with_line, IsLineIn, IsNumbered};
 
 use crate::line::{Line, Multiplier};
 use poly_mixed::{Generator, Poly};
@@ -86,18 +87,35 @@ impl CertPairs {
         self.shared.len()
     }
 
+    // Adds a pair. After want of memory the pairs are not used again.
+    fn add_pair(&mut self, generator: Generator, multiplier: Multiplier) -> Result<(), AllocError>
+        requires multiplier { IsNumbered (length self.old.shared) multiplier }
+        requires few { length self.old.pairs + 1 < 2 ^ 32 }
+        ensures { OnOk result (self.new ≡ with_pair self.old generator (multiplier_in self.old.shared multiplier)) }
+    {
+        self.entries.push(Entry {
+            generator,
+            multiplier,
+        })?;
+        Ok(())
+    }
+
+    // Adds a shared multiplier. After want of memory the pairs are not used again.
+    fn share(&mut self, poly: Poly) -> Result<(), AllocError>
+        ensures { OnOk result (self.new ≡ with_shared self.old poly.terms) }
+    {
+        self.shared.push(poly)?;
+        Ok(())
+    }
+
     // Adds what a line says. After want of memory the pairs are not used again.
     pub(crate) fn add(&mut self, line: Line) -> Result<(), AllocError>
         requires { IsLineIn self.old line }
         ensures { OnOk result (self.new ≡ with_line self.old line) }
     {
         match line {
-            Line::Pair(generator, multiplier) => self.entries.push(Entry {
-                generator,
-                multiplier,
-            })?,
-            Line::Share(poly) => self.shared.push(poly)?,
+            Line::Pair(generator, multiplier) => self.add_pair(generator, multiplier),
+            Line::Share(poly) => self.share(poly),
         }
-        Ok(())
     }
 }

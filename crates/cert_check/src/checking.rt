@@ -1,18 +1,19 @@
 //! The verdict on a certificate.
-ghost use Rattle.std.specs.Prelude.{◌≡◌, ◌<◌, ◌≤◌, ◌+◌, length, IfErr, OnOk};
+ghost use Rattle.std.specs.Prelude.{◌≡◌, ◌<◌, ◌≤◌, ◌+◌, List, length, IfOk, IfErr, IfSome, OnOk};
 ghost use Rattle.std.specs.Str.Lines.{lines};
 ghost use Rattle.text_core.specs.Outcome.{Fits};
 ghost use Rattle.circuit_model.specs.Bases.{AreBases};
-ghost use Rattle.cert_check.specs.Fault.{refusal};
+ghost use Rattle.cert_check.specs.Fault.{line_refusal, refusal};
+ghost use Rattle.poly_mixed.specs.Polynomial.{Terms};
 ghost use Rattle.cert_check.specs.Labels.{NameWords};
-ghost use Rattle.cert_check.specs.Certificate.{Certificate, begun, with_pair};
+ghost use Rattle.cert_check.specs.Certificate.{Certificate, begun, with_pair, LineOf};
 ghost use Rattle.cert_check.specs.Verdict.{IsRunningSum, AsksAtMost, VerdictAtEnd, VerdictFrom, Check, verdict_of};
 ghost use Rattle.cert_check.specs.declared.fault.CertFault.TheVariants.{TooManyTerms};
-ghost use Rattle.cert_check.specs.private.Reading.{AreDrivers, IsMultiplier, multiplier_in};
+ghost use Rattle.cert_check.specs.private.Reading.{AreDrivers, IsLine, IsMultiplier, multiplier_in, said_in};
 ghost use Rattle.cert_check.specs.private.Kept.{terms_of, with_line, IsGeneratorOf, IsLineOf, IsKept, LineAsks};
 
 use crate::drivers::drivers;
-use crate::fault::{CertFault, at_line};
+use crate::fault::{CertFault, LineFault, at_line};
 use crate::head::read_head;
 use crate::line::{Line, Multiplier, read_line};
 use crate::running::{add_product, first_sum};
@@ -145,6 +146,26 @@ impl Checking {
     }
 }
 
+// What a line after the claim says, where so many shared multipliers stand before it.
+fn line_said<F: Field>(
+    alloc: Global,
+    field: &F,
+    circuit: &Combinational,
+    drivers: &[Option<u32>],
+    labels: &Labels,
+    version: u32,
+    count: u32,
+    line: &[u8],
+) -> Result<Option<Line>, LineFault>
+    requires { AreDrivers circuit.now.net drivers.now }
+    ensures value { (shared : List Terms) → length shared ≡ count → Fits line_refusal (said_in shared) result (LineOf (F.degree field.now) circuit.now.net labels.now version shared line.now) }
+    ensures is { IfOk result (λ said. IfSome said (IsLine (F.degree field.now) circuit.now.net labels.now count)) }
+{
+    let k = field.k();
+    let net = circuit.net();
+    read_line(alloc, k, net, drivers, labels, version, count, line)
+}
+
 // The verdict of the lines after the claim.
 fn verdict_from<F: Field>(
     alloc: Global,
@@ -168,8 +189,6 @@ fn verdict_from<F: Field>(
     requires within { length sum.terms ≤ bound }
     ensures { Fits refusal verdict_of result (VerdictFrom (F.degree field.now) (F.product field.now) circuit.now bases.now labels.now bound version (lines bytes.now) 3 (begun claim.terms)) }
 {
-    let k = field.k();
-    let net = circuit.net();
     let mut checking = Checking {
         claim,
         shared: Vec::new(alloc),
@@ -177,10 +196,10 @@ fn verdict_from<F: Field>(
     };
     let mut rest = bytes;
     let mut number: u32 = 3;
-    while !rest.is_empty() {
+    'turns: while !rest.is_empty() {
         let (text, more) = next_line(rest);
         let count = checking.shared.len() as u32;
-        let said = match read_line(alloc, k, net, drivers, labels, version, count, text) {
+        let said = match line_said(alloc, field, circuit, drivers, labels, version, count, text) {
             Ok(said) => said,
             Err(fault) => return Err(at_line(number, fault)),
         };

@@ -6,13 +6,13 @@ use Rattle.cert_check.specs.private.Kept.{terms_of}
 use Rattle.cert_check.proofs.CheckLemmas.{IsAt}
 use Rattle.cert_check.proofs.checking.verdict_from.Given as goal
 
-abbrev pub invariant-loop-net : goal.invariant-loop-net
-invariant-loop-net g l =
+abbrev pub invariant-turns : goal.invariant-turns
+invariant-turns g l =
     record {
       at : IsAt (g.F.Ring.degree l.field) (g.F.Ring.product l.field) l.circuit l.bases l.labels l.bound l.version (VerdictFrom (g.F.Ring.degree l.field) (g.F.Ring.product l.field) l.circuit l.bases l.labels l.bound l.version (lines l.bytes) 3 (begun l.fn.claim.terms)) l.number (lines l.rest) l.checking.claim.terms (terms_of l.checking.shared.items) l.checking.sum.terms;
       long : l.number + length l.rest ≤ 3 + length l.bytes;
       shared : length l.checking.shared.items + 3 ≤ l.number;
     }
 
-abbrev pub decreases-loop-net : goal.decreases-loop-net
-decreases-loop-net g l = length l.rest
+abbrev pub decreases-turns : goal.decreases-turns
+decreases-turns g l = length l.rest
