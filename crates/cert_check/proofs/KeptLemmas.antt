@@ -110,7 +110,7 @@ some_line bs some =
 -- ---- the claim's text
 
 never : (l : Labelling) (k : ℕ) (text : List ℕ) (claim : Terms) (fault : TextFault) → TextOutcome l k text (Err fault) → TextOutcome l k text (Ok claim) → ⊥
-never l k text claim fault bad good = let same : Ok claim ≡ Err fault = one_outcome l k text (Ok claim) (Err fault) good bad in absurd (cc)
+never l k text claim fault bad good = let same : ◌≡◌ {A = Result Terms TextFault} (Ok claim) (Err fault) = one_outcome l k text (Ok claim) (Err fault) good bad in absurd (cc)
 
 pub claim_refused : (l : Labelling) (k : ℕ) (text : List ℕ) (fault : PolyFault) (r : LineFault) → r ≡ fault_of_claim fault → Fits text_fault (λ (p : Polynomial). p.terms) (Err fault) (TextOutcome l k text) → MayRefuse (InWords k l text) (line_refusal r)
 claim_refused l k text fault r is fits =

@@ -168,16 +168,16 @@ later es ds bases w b is = record { basis = is.basis; word = is.word; dual = is.
 next : (es ds : List Word) (bases : List Basis) (w : ℕ) (e d : Word) → IsBoth es ds bases w → IsBoth (e ∷ es) (d ∷ ds) bases (suc w)
 next es ds bases w e d is = record { basis = is.basis; word = is.word; dual = is.dual; has = is.has; word_at = is.word_at; dual_at = is.dual_at; word_is = is.word_is; dual_is = is.dual_is }
 
-here : (es ds : List Word) (bases : List Basis) (b : Basis) (ns : List ℕ) → IsBoth (record { role = Input; nets = ns; basis = elements_of b } ∷ es) (record { role = Input; nets = ns; basis = duals_of b } ∷ ds) (b ∷ bases) 0
-here es ds bases b ns = record { basis = b; word = record { role = Input; nets = ns; basis = elements_of b }; dual = record { role = Input; nets = ns; basis = duals_of b }; has = (0, refl); word_at = refl; dual_at = refl; word_is = refl; dual_is = refl }
+front_word : (es ds : List Word) (bases : List Basis) (b : Basis) (ns : List ℕ) → IsBoth (record { role = Input; nets = ns; basis = elements_of b } ∷ es) (record { role = Input; nets = ns; basis = duals_of b } ∷ ds) (b ∷ bases) 0
+front_word es ds bases b ns = record { basis = b; word = record { role = Input; nets = ns; basis = elements_of b }; dual = record { role = Input; nets = ns; basis = duals_of b }; has = (0, refl); word_at = refl; dual_at = refl; word_is = refl; dual_is = refl }
 
 by_role : (r : Role) (ns : List ℕ) (b : Basis) (bs : List Basis) (es ds : List Word) (v : ℕ) → v < length (word_with r ns (duals_of b) ++ ds) → ((v : ℕ) → v < length ds → IsBoth es ds bs v)
     → IsBoth (word_with r ns (elements_of b) ++ es) (word_with r ns (duals_of b) ++ ds) (b ∷ bs) v
-by_role Input ns b bs es ds zero less more = here es ds bs b ns
+by_role Input ns b bs es ds zero less more = front_word es ds bs b ns
 by_role Input ns b bs es ds (suc v) less more = next es ds (b ∷ bs) v (record { role = Input; nets = ns; basis = elements_of b }) (record { role = Input; nets = ns; basis = duals_of b }) (later es ds bs v b (more v (omega arith)))
-by_role State ns b bs es ds zero less more = here es ds bs b ns
+by_role State ns b bs es ds zero less more = front_word es ds bs b ns
 by_role State ns b bs es ds (suc v) less more = next es ds (b ∷ bs) v (record { role = Input; nets = ns; basis = elements_of b }) (record { role = Input; nets = ns; basis = duals_of b }) (later es ds bs v b (more v (omega arith)))
-by_role Fed ns b bs es ds zero less more = here es ds bs b ns
+by_role Fed ns b bs es ds zero less more = front_word es ds bs b ns
 by_role Fed ns b bs es ds (suc v) less more = next es ds (b ∷ bs) v (record { role = Input; nets = ns; basis = elements_of b }) (record { role = Input; nets = ns; basis = duals_of b }) (later es ds bs v b (more v (omega arith)))
 by_role Output ns b bs es ds v less more = later es ds bs v b (more v less)
 

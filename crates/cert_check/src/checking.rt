@@ -189,6 +189,7 @@ fn verdict_from<F: Field>(
     requires within { length sum.terms ≤ bound }
     ensures { Fits refusal verdict_of result (VerdictFrom (F.degree field.now) (F.product field.now) circuit.now bases.now labels.now bound version (lines bytes.now) 3 (begun claim.terms)) }
 {
+    let _words = labels.words();
     let mut checking = Checking {
         claim,
         shared: Vec::new(alloc),
@@ -241,7 +242,8 @@ pub fn check<F: Field>(
     ensures { Fits refusal verdict_of result (Check (F.degree field.now) (F.product field.now) circuit.now bases.now labels.now bound bytes.now) }
 {
     let drivers = drivers(alloc, circuit.net())?;
-    let head = match read_head(alloc, field.k(), labels, bytes) {
+    let k = field.k();
+    let head = match read_head(alloc, k, labels, bytes) {
         Ok(head) => head,
         Err(fault) => return Err(fault),
     };
