@@ -219,10 +219,10 @@ module _ (k : ℕ) (mul : ℕ → ℕ → ℕ) (bound : BoundNet) (bases : List 
       elements = λ x has. all_in (IsElement k) p.words x at.elements (taken_has (length (circuit_in k mul bound bases).words) p.words x has);
     }
 
-    run : (run : List (List Bool)) × IsRun (circuit_in k mul bound bases) xs run
+    pub run : (run : List (List Bool)) × IsRun (circuit_in k mul bound bases) xs run
     run = some_run (circuit_in k mul bound bases) xs well input
 
-    last : (v : List Bool) × (slice_get run.0 0 ≡ Some v)
+    pub last : (v : List Bool) × (slice_get run.0 0 ≡ Some v)
     last = get_below run.0 0 (omega (arith, run.1.open_run.long))
 
     abbrev pub v : List Bool

@@ -218,6 +218,48 @@ fn verdict_from<F: Field>(
     Err(CertFault::NoEnd)
 }
 
+// The verdict on a text, where these gates drive the nets.
+fn verdict_on<F: Field>(
+    alloc: Global,
+    field: &F,
+    circuit: &Combinational,
+    bases: &[Basis],
+    drivers: &[Option<u32>],
+    labels: &Labels,
+    bytes: &[u8],
+    bound: u32,
+) -> Result<CertVerdict, CertFault>
+    requires k { circuit.now.bound.k ≡ F.degree field.now }
+    requires bases { AreBases (F.degree field.now) (F.product field.now) circuit.now bases.now }
+    requires labels { NameWords circuit.now.bound labels.now }
+    requires drivers { AreDrivers circuit.now.net drivers.now }
+    requires size { length bytes.now ≤ 67108864 }
+    ensures { Fits refusal verdict_of result (Check (F.degree field.now) (F.product field.now) circuit.now bases.now labels.now bound bytes.now) }
+{
+    let k = field.k();
+    let head = match read_head(alloc, k, labels, bytes) {
+        Ok(head) => head,
+        Err(fault) => return Err(fault),
+    };
+    let sum = first_sum(alloc, field, circuit, bases, &head.claim)?;
+    match check_size(&sum, 2, bound) {
+        Ok(()) => verdict_from(
+            alloc,
+            field,
+            circuit,
+            bases,
+            drivers,
+            labels,
+            bound,
+            head.version,
+            head.claim,
+            sum,
+            head.rest,
+        ),
+        Err(fault) => Err(fault),
+    }
+}
+
 /// The verdict on a certificate in version 1 or 2, or the fault of the first line that shows one; at one line the text
 /// comes before the size.
 ///
@@ -241,27 +283,18 @@ pub fn check<F: Field>(
     requires size { length bytes.now ≤ 67108864 }
     ensures { Fits refusal verdict_of result (Check (F.degree field.now) (F.product field.now) circuit.now bases.now labels.now bound bytes.now) }
 {
-    let drivers = drivers(alloc, circuit.net())?;
-    let k = field.k();
-    let head = match read_head(alloc, k, labels, bytes) {
-        Ok(head) => head,
-        Err(fault) => return Err(fault),
-    };
-    let sum = first_sum(alloc, field, circuit, bases, &head.claim)?;
-    match check_size(&sum, 2, bound) {
-        Ok(()) => verdict_from(
-            alloc,
-            field,
-            circuit,
-            bases,
-            &drivers,
-            labels,
-            bound,
-            head.version,
-            head.claim,
-            sum,
-            head.rest,
-        ),
+    let drivers = drivers(alloc, circuit)?;
+    match verdict_on(
+        alloc,
+        field,
+        circuit,
+        bases,
+        drivers.as_slice(),
+        labels,
+        bytes,
+        bound,
+    ) {
+        Ok(verdict) => Ok(verdict),
         Err(fault) => Err(fault),
     }
 }

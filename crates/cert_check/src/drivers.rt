@@ -4,6 +4,7 @@ ghost use Rattle.net_core.specs.NetList.{nets};
 ghost use Rattle.cert_check.specs.private.Reading.{AreDrivers};
 
 use net_core::Net;
+use net_words::Combinational;
 use std::alloc::{AllocError, Global};
 
 // Sets the position of the gate that drives a net.
@@ -14,8 +15,8 @@ fn set_driver(drivers: &mut [Option<u32>], out: u32, position: u32)
     drivers[out as usize] = Some(position);
 }
 
-/// For each net the position of the first gate that drives it.
-pub(crate) fn drivers(alloc: Global, net: &Net) -> Result<Vec<Option<u32>>, AllocError>
+// For each net the position of the first gate that drives it.
+fn net_drivers(alloc: Global, net: &Net) -> Result<Vec<Option<u32>>, AllocError>
     ensures { IfOk result (λ list. AreDrivers net.now list.items) }
 {
     let gates = net.gates();
@@ -26,6 +27,17 @@ pub(crate) fn drivers(alloc: Global, net: &Net) -> Result<Vec<Option<u32>>, Allo
         set_driver(&mut list, gates[i].out(), i as u32);
     }
     Ok(list)
+}
+
+/// For each net of a circuit the position of the first gate that drives it.
+pub(crate) fn drivers(
+    alloc: Global,
+    circuit: &Combinational,
+) -> Result<Vec<Option<u32>>, AllocError>
+    ensures { IfOk result (λ list. AreDrivers circuit.now.net list.items) }
+{
+    let net = circuit.net();
+    net_drivers(alloc, net)
 }
 
 /// Whether a gate drives the net.

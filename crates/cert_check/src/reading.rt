@@ -65,6 +65,36 @@ fn pairs_from(
     Err(CertFault::NoEnd)
 }
 
+// The pairs of a text, where these gates drive the nets.
+fn pairs_of(
+    alloc: Global,
+    k: u32,
+    circuit: &Combinational,
+    drivers: &[Option<u32>],
+    labels: &Labels,
+    bytes: &[u8],
+) -> Result<CertPairs, CertFault>
+    requires k { (1 ≤ k) × (k ≤ 64) }
+    requires drivers { AreDrivers circuit.now.net drivers.now }
+    requires size { length bytes.now ≤ 67108864 }
+    ensures { Fits refusal (λ c. c) result (CertificateOf k circuit.now.net labels.now bytes.now) }
+{
+    let net = circuit.net();
+    match read_head(alloc, k, labels, bytes) {
+        Ok(head) => pairs_from(
+            alloc,
+            k,
+            net,
+            drivers,
+            labels,
+            head.version,
+            head.claim,
+            head.rest,
+        ),
+        Err(fault) => Err(fault),
+    }
+}
+
 /// The claim and the pairs that the text of a certificate says, in version 1 or 2, or the first fault of the text.
 ///
 /// Each word has k bits, k from 1 to 64; the labels are the circuit's; the text has at most 67,108,864 bytes. It never
@@ -80,19 +110,9 @@ pub fn pairs(
     requires size { length bytes.now ≤ 67108864 }
     ensures { Fits refusal (λ c. c) result (CertificateOf k circuit.now.net labels.now bytes.now) }
 {
-    let net = circuit.net();
-    let drivers = drivers(alloc, net)?;
-    match read_head(alloc, k, labels, bytes) {
-        Ok(head) => pairs_from(
-            alloc,
-            k,
-            net,
-            &drivers,
-            labels,
-            head.version,
-            head.claim,
-            head.rest,
-        ),
+    let drivers = drivers(alloc, circuit)?;
+    match pairs_of(alloc, k, circuit, drivers.as_slice(), labels, bytes) {
+        Ok(pairs) => Ok(pairs),
         Err(fault) => Err(fault),
     }
 }

@@ -1,10 +1,10 @@
-use Rattle.std.proofs.Common.{subst, ℕ}
+use Rattle.std.proofs.Common.{subst, sym, ℕ}
 use Rattle.std.specs.Prelude.{IfOk, IfSome}
 use Rattle.text_core.specs.Outcome.{Fits}
 use Rattle.net_core.specs.NetList.{NetList}
 use Rattle.cert_check.specs.Certificate.{LineOf}
 use Rattle.cert_check.specs.Fault.{line_refusal}
-use Rattle.cert_check.specs.private.Reading.{said_in, IsLine}
+use Rattle.cert_check.specs.private.Reading.{said_in, IsLine, AreDrivers}
 use Rattle.cert_check.proofs.checking.line_said.Goals as goal
 
 pub returns-clause-value : goal.returns-clause-value
@@ -18,3 +18,6 @@ returns-clause-is g c =
     let P : ℕ → Type 0 = λ d. IfOk c.read_line.result (λ said. IfSome said (IsLine d c.args.circuit.now.net c.args.labels.now c.args.count)) in
     let Q : NetList → Type 0 = λ n. IfOk c.read_line.result (λ said. IfSome said (IsLine c.k-k.result n c.args.labels.now c.args.count)) in
     subst P c.k-k.ensures (subst Q c.net-net.ensures.net c.read_line.ensures.is)
+
+pub read_line-requires-clause-drivers : goal.read_line-requires-clause-drivers
+read_line-requires-clause-drivers g c = let P : NetList → Type 0 = λ n. AreDrivers n c.args.drivers.now in subst P (sym c.net-net.ensures.net) c.requires

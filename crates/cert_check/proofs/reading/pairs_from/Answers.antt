@@ -25,7 +25,7 @@ returns-in-Err c =
     let n : ℕ = c.loop-rest.number in
     let same : Certificate → Certificate = λ x. x in
     let P : CertFault → Type 0 = λ f. Fits refusal same (Err f) (LinesOf k net labels (AsksNothing k net labels) c.args.version (lines c.args.bytes.now) 3 (begun c.args.claim.terms)) in
-    let fits = line_fails k net labels (AsksNothing k net labels) c.args.version n (lines c.loop-rest.rest.now) (lines c.next_line.result.1.now) c.next_line.result.0.now ps c.next_line.ensures.lines same c.in-Err.fault (c.in-Err.ensures.value ps.shared (sym c.shares.ensures)) in
+    let fits = line_fails k net labels (AsksNothing k net labels) c.args.version n (lines c.loop-rest.rest.now) (lines c.next_line.result.1.now) c.next_line.result.0.now ps c.next_line.ensures.lines same c.in-Err.fault (c.in-Err.ensures.value ps.shared (sym c.shares-count.ensures)) in
     subst P (sym c.at_line.ensures)
     (cert_fails same same (fault_at n c.in-Err.fault) (LinesOf k net labels (AsksNothing k net labels) c.args.version (lines c.loop-rest.rest.now) n ps) (LinesOf k net labels (AsksNothing k net labels) c.args.version (lines c.args.bytes.now) 3 (begun c.args.claim.terms)) (λ f comes. c.loop-rest.invariant.rest (Err f) comes) fits)
 
@@ -38,7 +38,7 @@ returns-in-None c =
     let n : ℕ = c.loop-rest.number in
     let same : Certificate → Certificate = λ x. x in
     let P : Option Line → Type 0 = λ o. Fits line_refusal (said_in ps.shared) (Ok o) (LineOf k net labels c.args.version ps.shared c.next_line.result.0.now) in
-    let fits = subst P c.in-None.is (c.in-Ok.ensures.value ps.shared (sym c.shares.ensures)) in
+    let fits = subst P c.in-None.is (c.in-Ok.ensures.value ps.shared (sym c.shares-count.ensures)) in
     let ends = line_ends k net labels (AsksNothing k net labels) c.args.version n (lines c.loop-rest.rest.now) (lines c.next_line.result.1.now) c.next_line.result.0.now ps c.next_line.ensures.lines fits in
     cert_moved same same c.ended.result (NoLine (n + 1) (lines c.next_line.result.1.now) ps) (LinesOf k net labels (AsksNothing k net labels) c.args.version (lines c.args.bytes.now) 3 (begun c.args.claim.terms))
     (λ x comes. c.loop-rest.invariant.rest (Ok x) (ends (Ok x) comes)) (λ f comes. c.loop-rest.invariant.rest (Err f) (ends (Err f) comes)) c.ended.ensures
@@ -46,7 +46,7 @@ returns-in-None c =
 pub add-requires : goal.add-requires
 add-requires c =
     let ps : Certificate = c.loop-rest.pairs in
-    is_in c.args.k c.args.net.now c.args.labels.now c.shares.result ps c.in-Some.line (sym c.shares.ensures) (omega (arith, c.loop-rest.invariant.pairs, c.loop-rest.invariant.long, c.requires.size)) (rw c.in-Some.is at c.in-Ok.ensures.is)
+    is_in c.args.k c.args.net.now c.args.labels.now c.shares-count.result ps c.in-Some.line (sym c.shares-count.ensures) (omega (arith, c.loop-rest.invariant.pairs, c.loop-rest.invariant.long, c.requires.size)) (rw c.in-Some.is at c.in-Ok.ensures.is)
 
 pub loop-rest-preserved : goal.loop-rest-preserved
 loop-rest-preserved c =
@@ -58,7 +58,7 @@ loop-rest-preserved c =
     let line : Line = c.in-Some.line in
     let more : List (List ℕ) = lines c.next_line.result.1.now in
     let P : Option Line → Type 0 = λ o. Fits line_refusal (said_in ps.shared) (Ok o) (LineOf k net labels c.args.version ps.shared c.next_line.result.0.now) in
-    let fits = subst P c.in-Some.is (c.in-Ok.ensures.value ps.shared (sym c.shares.ensures)) in
+    let fits = subst P c.in-Some.is (c.in-Ok.ensures.value ps.shared (sym c.shares-count.ensures)) in
     let asked = nothing_asked k net labels c.args.version n (lines c.loop-rest.rest.now) more c.next_line.result.0.now ps c.next_line.ensures.lines line in
     let new : c.add.new.self ≡ with_line ps line = c.in_ok-add.ensures in
     let pairs_long : length c.add.new.self.pairs ≡ length (with_line ps line).pairs = ap (λ (x : Certificate). length x.pairs) new in

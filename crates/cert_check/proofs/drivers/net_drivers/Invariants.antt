@@ -1,7 +1,7 @@
 use Rattle.std.proofs.Common.{◌≡◌, ◌≤◌, length, drop}
 use Rattle.net_core.specs.NetList.{nets}
 use Rattle.cert_check.specs.private.Reading.{AreDriversFrom}
-use Rattle.cert_check.proofs.drivers.drivers.Given as goal
+use Rattle.cert_check.proofs.drivers.net_drivers.Given as goal
 
 abbrev pub invariant-loop-i : goal.invariant-loop-i
 invariant-loop-i l = record {
