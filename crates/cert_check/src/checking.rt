@@ -199,7 +199,7 @@ fn verdict_from<F: Field>(
     let mut number: u32 = 3;
     'turns: while !rest.is_empty() {
         let (text, more) = next_line(rest);
-        let count = checking.shared.len() as u32;
+        let count = checking.shared.as_slice().len() as u32;
         let said = match line_said(alloc, field, circuit, drivers, labels, version, count, text) {
             Ok(said) => said,
             Err(fault) => return Err(at_line(number, fault)),

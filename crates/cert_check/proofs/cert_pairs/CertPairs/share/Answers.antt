@@ -8,4 +8,4 @@ pub returns : goal.returns
 returns c =
     let own = c.self.inside in
     let P : Certificate → Type 0 = λ s. certificate_of own.claim c.push.new.self.items own.entries.items ≡ with_shared s c.args.poly.terms in
-    subst P (sym c.self.view_is) (share_added own.claim own.shared.items c.push.new.self.items c.args.poly own.entries.items c.in_ok-push.ensures.items c.self.invariant)
+    subst P c.self.view_is (share_added own.claim own.shared.items c.push.new.self.items c.args.poly own.entries.items c.in_ok-push.ensures.items c.self.invariant)
