@@ -14,8 +14,6 @@ mod line;
 mod reading;
 mod running;
 mod scan;
-#[cfg(test)]
-mod tests;
 mod words;
 
 pub use cert_pairs::CertPairs;
