@@ -1,0 +1,35 @@
+-- Ranks of nets in a list of variables.
+use Rattle.std.proofs.Common.{◌≡◌, ◌≢◌, ℕ, zero, suc, ◌≤◌, ◌+◌, cond, not, List, [], ◌∷◌, Some, inl, inr, sym, ap, ◌∙◌, arith}
+use Rattle.std.specs.Prelude.{slice_get}
+use Rattle.std.proofs.lemmas.Bool.{eq-eqb, ne_eqb, cases_order}
+use Rattle.net_core.specs.Lists.{Has, times}
+use Rattle.net_core.proofs.DriverLemmas.{times_two}
+use Rattle.net_core.proofs.LevelLemmas.{nat_eq_or}
+use Rattle.cert_check.specs.Running.{rank_among}
+
+-- a net that stands in the list stands at its rank
+pub at_rank : (variables : List ℕ) (n : ℕ) → Has variables n → slice_get variables (rank_among variables n) ≡ Some n
+at_rank [] n has = let got = has.1 in absurd (cc)
+at_rank (m ∷ ms) n has = elim (nat_eq_or m n) [
+  | inl same ↦ ap (λ b. slice_get (m ∷ ms) (cond (not b) (1 + rank_among ms n) 0)) (eq-eqb m n same) ∙ ap Some same
+  | inr other ↦ ap (λ b. slice_get (m ∷ ms) (cond (not b) (1 + rank_among ms n) 0)) (ne_eqb m n other) ∙ (next (rank_among ms n) ∙ at_rank ms n (rest other has))
+]
+  where
+    rest : m ≢ n → Has (m ∷ ms) n → Has ms n
+    rest other (zero, got) = absurd (other (cc))
+    rest other (suc k, got) = (k, got)
+
+    next : (r : ℕ) → slice_get (m ∷ ms) (1 + r) ≡ slice_get ms r
+    next r = let same : 1 + r ≡ suc r = omega arith in ap (λ k. slice_get (m ∷ ms) k) same
+
+-- where a net stands once, each place at which it stands is its rank
+pub only_rank : (variables : List ℕ) (n r : ℕ) → times n variables ≤ 1 → slice_get variables r ≡ Some n → r ≡ rank_among variables n
+only_rank variables n r once at =
+    let here : slice_get variables (rank_among variables n) ≡ Some n = at_rank variables n (r, at) in
+    elim (cases_order r (rank_among variables n)) [
+      | inl same ↦ same
+      | inr less ↦ elim less [
+        | inl before ↦ let two = times_two n variables r (rank_among variables n) at here before in absurd (omega arith)
+        | inr after ↦ let two = times_two n variables (rank_among variables n) r here at after in absurd (omega arith)
+      ]
+    ]

@@ -1,0 +1,11 @@
+use Rattle.std.proofs.Common.{◌≡◌, sym, subst}
+use Rattle.cert_check.specs.Certificate.{Certificate, with_shared}
+use Rattle.cert_check.specs.private.Kept.{certificate_of}
+use Rattle.cert_check.proofs.KeptLemmas.{share_added}
+use Rattle.cert_check.proofs.cert_pairs.CertPairs.share.Goals as goal
+
+pub returns : goal.returns
+returns c =
+    let own = c.self.inside in
+    let P : Certificate → Type 0 = λ s. certificate_of own.claim c.push.new.self.items own.entries.items ≡ with_shared s c.args.poly.terms in
+    subst P c.self.view_is (share_added own.claim own.shared.items c.push.new.self.items c.args.poly own.entries.items c.in_ok-push.ensures.items c.self.invariant)

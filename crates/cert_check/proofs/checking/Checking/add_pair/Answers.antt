@@ -1,0 +1,39 @@
+use Rattle.std.proofs.Common.{◌≡◌, ◌∙◌, ap, sym, subst, ℕ, List, length}
+use Rattle.std.proofs.lemmas.List.{length-map}
+use Rattle.poly_mixed.specs.Polynomial.{Polynomial, Terms, IsReduced}
+use Rattle.cert_check.specs.private.Kept.{terms_of, IsNumbered}
+use Rattle.cert_check.specs.private.Reading.{multiplier_in, IsMultiplier}
+use Rattle.cert_check.proofs.CheckLemmas.{pair_asks, pair_kept, multiplier_reduced, numbered}
+use Rattle.cert_check.proofs.checking.Checking.add_pair.Goals as goal
+
+pub among-factor-requires : goal.among-factor-requires
+among-factor-requires g c =
+    let P : List Polynomial → Type 0 = λ xs. IsNumbered (length xs) c.args.multiplier.now in
+    subst P (sym c.as_slice.ensures.value) (numbered (g.F.Ring.degree c.args.field.now) (length c.args.self.now.shared.items) c.args.multiplier.now c.requires.multiplier)
+
+pub add_product-requires-clause-multiplier : goal.add_product-requires-clause-multiplier
+add_product-requires-clause-multiplier g c =
+    let k = g.F.Ring.degree c.args.field.now in
+    let shared = c.args.self.now.shared.items in
+    let m = c.args.multiplier.now in
+    let terms : c.among-factor.result.now.terms ≡ multiplier_in (terms_of shared) m = c.among-factor.ensures ∙ ap (λ (xs : List Polynomial). multiplier_in (terms_of xs) m) c.as_slice.ensures.value in
+    let count : length shared ≡ length (terms_of shared) = sym (length-map shared (λ (p : Polynomial). p.terms)) in
+    let Q : ℕ → Type 0 = λ n. IsMultiplier k n m in
+    let P : Terms → Type 0 = IsReduced k in
+    subst P (sym terms) (multiplier_reduced k (terms_of shared) m c.requires.kept.1.reduced (subst Q count c.requires.multiplier))
+
+pub returns-clause-asks : goal.returns-clause-asks
+returns-clause-asks g c d kept =
+    let shared = c.args.self.now.shared.items in
+    let m = c.args.multiplier.now in
+    let terms : c.among-factor.result.now.terms ≡ multiplier_in (terms_of shared) m = c.among-factor.ensures ∙ ap (λ (xs : List Polynomial). multiplier_in (terms_of xs) m) c.as_slice.ensures.value in
+    pair_asks (g.F.Ring.degree c.args.field.now) (g.F.Ring.product c.args.field.now) c.args.circuit.now c.args.bases.now c.args.number c.args.bound d c.args.generator m c.among-factor.result.now.terms c.args.self.now.claim.terms (terms_of shared) c.args.self.now.sum.terms c.add_product.new.sum.terms c.check_size.result kept terms
+    c.in_ok-add_product.ensures.reduced c.in_ok-add_product.ensures.values c.check_size.ensures.within c.check_size.ensures.over
+
+pub returns-clause-kept : goal.returns-clause-kept
+returns-clause-kept g c d kept =
+    let shared = c.args.self.now.shared.items in
+    let m = c.args.multiplier.now in
+    let terms : c.among-factor.result.now.terms ≡ multiplier_in (terms_of shared) m = c.among-factor.ensures ∙ ap (λ (xs : List Polynomial). multiplier_in (terms_of xs) m) c.as_slice.ensures.value in
+    pair_kept (g.F.Ring.degree c.args.field.now) (g.F.Ring.product c.args.field.now) c.args.circuit.now c.args.bases.now c.args.bound d c.args.generator m c.among-factor.result.now.terms c.args.self.now.claim.terms (terms_of shared) c.args.self.now.sum.terms c.add_product.new.sum.terms c.check_size.result kept terms
+    c.in_ok-add_product.ensures.reduced c.in_ok-add_product.ensures.values c.check_size.ensures.within

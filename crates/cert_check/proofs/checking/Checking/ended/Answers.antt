@@ -1,0 +1,11 @@
+use Rattle.std.proofs.Common.{sym, refl, subst, inl, List, ℕ, Err, length}
+use Rattle.cert_check.specs.Certificate.{NoLine}
+use Rattle.cert_check.specs.declared.fault.CertFault.TheVariants.{Syntax}
+use Rattle.cert_check.proofs.KeptLemmas.{some_line, not_empty}
+use Rattle.cert_check.proofs.checking.Checking.ended.Goals as goal
+
+pub returns-else-is_empty : goal.returns-else-is_empty
+returns-else-is_empty c k mul bound bases most d kept =
+    let found = some_line c.args.rest.now (not_empty (length c.args.rest.now) c.if-is_empty.ensures) in
+    let P : List (List ℕ) → Type 0 = λ ls. NoLine c.args.number ls d (Err (Syntax c.args.number)) in
+    inl (subst P (sym found.2) refl)

@@ -1,0 +1,8 @@
+use Rattle.std.proofs.Common.{subst}
+use Rattle.std.specs.Prelude.{IfOk}
+use Rattle.net_core.specs.NetList.{NetList}
+use Rattle.cert_check.specs.private.Reading.{AreDrivers}
+use Rattle.cert_check.proofs.drivers.drivers.Goals as goal
+
+pub returns : goal.returns
+returns c = let P : NetList → Type 0 = λ n. IfOk c.net_drivers.result (λ list. AreDrivers n list.items) in subst P c.net-net.ensures.net c.net_drivers.ensures

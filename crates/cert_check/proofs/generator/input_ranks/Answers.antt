@@ -1,0 +1,12 @@
+use Rattle.std.proofs.Common.{◌≡◌, Some, ap, sym, ◌∙◌, get_or}
+use Rattle.std.specs.Prelude.{slice_get}
+use Rattle.std.proofs.lemmas.Option.{slice_get-get_or}
+use Rattle.cert_check.proofs.InsideLemmas.{input_below}
+use Rattle.cert_check.proofs.generator.input_ranks.Goals as goal
+
+pub rank-requires : goal.rank-requires
+rank-requires c =
+    let items = c.inputs-input-items.ensures.inputs in
+    let at : slice_get c.inputs-input-items.result.now c.loop-input.input-index ≡ Some (get_or c.inputs-input-items.result.now c.loop-input.input-index 0) = slice_get-get_or c.inputs-input-items.result.now c.loop-input.input-index 0 c.loop-input-test.true in
+    input_below c.args.circuit.now.net c.args.gate.now c.requires.sound c.requires.gate (get_or c.inputs-input-items.result.now c.loop-input.input-index 0)
+    (c.loop-input.input-index, ap (λ xs. slice_get xs c.loop-input.input-index) (sym items) ∙ at)

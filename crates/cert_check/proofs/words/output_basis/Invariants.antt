@@ -1,0 +1,13 @@
+use Rattle.std.proofs.Common.{◌≡◌, drop, length, map, filter}
+use Rattle.net_words.specs.Roles.{same_role}
+use Rattle.net_words.specs.declared.word.Role.TheVariants.{Output}
+use Rattle.circuit_model.specs.OfBinding.{output_basis}
+use Rattle.gf_basis.specs.BasisParts.{elements_of}
+use Rattle.cert_check.proofs.words.output_basis.Given as goal
+
+abbrev pub invariant-loop-w : goal.invariant-loop-w
+invariant-loop-w l =
+    record {
+      basis : output_basis (drop l.w l.bound.words) (drop l.w (map elements_of l.bases)) ≡ output_basis l.bound.words (map elements_of l.bases);
+      one : length (filter (λ word. same_role word.role Output) (drop l.w l.bound.words)) ≡ 1;
+    }

@@ -1,0 +1,10 @@
+pub mod Fault
+pub mod Scan
+pub mod Driver
+pub mod Frame
+pub mod Certificate
+pub mod Running
+pub mod Verdict
+pub mod Labels
+pub mod Output
+pub mod private

@@ -1,0 +1,300 @@
+//! The verdict on a certificate.
+ghost use Rattle.std.specs.Prelude.{◌≡◌, ◌<◌, ◌≤◌, ◌+◌, List, length, IfOk, IfErr, IfSome, OnOk};
+ghost use Rattle.std.specs.Str.Lines.{lines};
+ghost use Rattle.text_core.specs.Outcome.{Fits};
+ghost use Rattle.circuit_model.specs.Bases.{AreBases};
+ghost use Rattle.cert_check.specs.Fault.{line_refusal, refusal};
+ghost use Rattle.poly_mixed.specs.Polynomial.{Terms};
+ghost use Rattle.cert_check.specs.Labels.{NameWords};
+ghost use Rattle.cert_check.specs.Certificate.{Certificate, begun, with_pair, LineOf};
+ghost use Rattle.cert_check.specs.Verdict.{IsRunningSum, AsksAtMost, VerdictAtEnd, VerdictFrom, Check, verdict_of};
+ghost use Rattle.cert_check.specs.declared.fault.CertFault.TheVariants.{TooManyTerms};
+ghost use Rattle.cert_check.specs.private.Reading.{AreDrivers, IsLine, IsMultiplier, multiplier_in, said_in};
+ghost use Rattle.cert_check.specs.private.Kept.{terms_of, with_line, IsGeneratorOf, IsLineOf, IsKept, LineAsks};
+
+use crate::drivers::drivers;
+use crate::fault::{CertFault, LineFault, at_line};
+use crate::head::read_head;
+use crate::line::{Line, Multiplier, read_line};
+use crate::running::{add_product, first_sum};
+use gf_basis::Basis;
+use gf_field::Field;
+use net_words::Combinational;
+use poly_mixed::{Generator, Labels, Poly};
+use std::alloc::Global;
+use text_core::next_line;
+
+/// The verdict on a certificate that has no fault.
+#[derive(Drop)]
+pub enum CertVerdict {
+    /// The last running sum is empty: the claim has the output's value at every input.
+    Valid(Poly),
+    /// So many terms are left of the last running sum.
+    Invalid { remaining: u64 },
+}
+
+// The claim, the shared multipliers and the running sum.
+#[derive(Drop)]
+struct Checking {
+    claim: Poly,
+    shared: Vec<Poly>,
+    sum: Poly,
+}
+
+// Refuses a sum of more terms than the bound after the line of this number.
+fn check_size(sum: &Poly, line: u32, bound: u32) -> Result<(), CertFault>
+    ensures within { OnOk result (length sum.now.terms ≤ bound) }
+    ensures over { IfErr result (λ fault. (fault ≡ TooManyTerms line (length sum.now.terms)) × (bound < length sum.now.terms)) }
+{
+    let terms = sum.len() as u64;
+    if terms > u64::from(bound) {
+        return Err(CertFault::TooManyTerms { line, terms });
+    }
+    Ok(())
+}
+
+impl Checking {
+    // Adds the product of a pair, and compares the sum with the bound.
+    fn add_pair<F: Field>(
+        &mut self,
+        alloc: Global,
+        field: &F,
+        circuit: &Combinational,
+        bases: &[Basis],
+        drivers: &[Option<u32>],
+        number: u32,
+        bound: u32,
+        generator: Generator,
+        multiplier: &Multiplier,
+    ) -> Result<(), CertFault>
+        requires bases { AreBases (F.degree field.now) (F.product field.now) circuit.now bases.now }
+        requires drivers { AreDrivers circuit.now.net drivers.now }
+        requires kept { (c : Certificate) × IsKept (F.degree field.now) (F.product field.now) circuit.now bases.now bound c self.old.claim.terms (terms_of self.old.shared.items) self.old.sum.terms }
+        requires generator { IsGeneratorOf (F.degree field.now) circuit.now bases.now generator }
+        requires multiplier { IsMultiplier (F.degree field.now) (length self.old.shared.items) multiplier.now }
+        ensures asks { (c : Certificate) → IsKept (F.degree field.now) (F.product field.now) circuit.now bases.now bound c self.old.claim.terms (terms_of self.old.shared.items) self.old.sum.terms → Fits refusal (λ u. tt) result (AsksAtMost (F.degree field.now) (F.product field.now) circuit.now bases.now bound number (with_pair c generator (multiplier_in c.shared multiplier.now))) }
+        ensures kept { (c : Certificate) → IsKept (F.degree field.now) (F.product field.now) circuit.now bases.now bound c self.old.claim.terms (terms_of self.old.shared.items) self.old.sum.terms → OnOk result (IsKept (F.degree field.now) (F.product field.now) circuit.now bases.now bound (with_pair c generator (multiplier_in c.shared multiplier.now)) self.new.claim.terms (terms_of self.new.shared.items) self.new.sum.terms) }
+        ensures few { OnOk result (length self.new.shared.items ≤ length self.old.shared.items) }
+    {
+        let factor = multiplier.among(self.shared.as_slice());
+        add_product(
+            alloc,
+            field,
+            circuit,
+            bases,
+            drivers,
+            generator,
+            factor,
+            &mut self.sum,
+        )?;
+        check_size(&self.sum, number, bound)
+    }
+
+    // Adds what a line says, and compares the sum with the bound after a pair.
+    fn add<F: Field>(
+        &mut self,
+        alloc: Global,
+        field: &F,
+        circuit: &Combinational,
+        bases: &[Basis],
+        drivers: &[Option<u32>],
+        number: u32,
+        bound: u32,
+        line: Line,
+    ) -> Result<(), CertFault>
+        requires bases { AreBases (F.degree field.now) (F.product field.now) circuit.now bases.now }
+        requires drivers { AreDrivers circuit.now.net drivers.now }
+        requires kept { (c : Certificate) × IsKept (F.degree field.now) (F.product field.now) circuit.now bases.now bound c self.old.claim.terms (terms_of self.old.shared.items) self.old.sum.terms }
+        requires line { IsLineOf (F.degree field.now) circuit.now bases.now (length self.old.shared.items) line }
+        ensures asks { (c : Certificate) → IsKept (F.degree field.now) (F.product field.now) circuit.now bases.now bound c self.old.claim.terms (terms_of self.old.shared.items) self.old.sum.terms → Fits refusal (λ u. tt) result (LineAsks (F.degree field.now) (F.product field.now) circuit.now bases.now bound number c line) }
+        ensures kept { (c : Certificate) → IsKept (F.degree field.now) (F.product field.now) circuit.now bases.now bound c self.old.claim.terms (terms_of self.old.shared.items) self.old.sum.terms → OnOk result (IsKept (F.degree field.now) (F.product field.now) circuit.now bases.now bound (with_line c line) self.new.claim.terms (terms_of self.new.shared.items) self.new.sum.terms) }
+        ensures few { OnOk result (length self.new.shared.items ≤ length self.old.shared.items + 1) }
+    {
+        match line {
+            Line::Pair(generator, multiplier) => self.add_pair(
+                alloc,
+                field,
+                circuit,
+                bases,
+                drivers,
+                number,
+                bound,
+                generator,
+                &multiplier,
+            ),
+            Line::Share(poly) => {
+                self.shared.push(poly)?;
+                Ok(())
+            }
+        }
+    }
+
+    // The verdict, where nothing follows; the next line would have this number.
+    fn ended(self, number: u32, rest: &[u8]) -> Result<CertVerdict, CertFault>
+        ensures { (k : _) (mul : _) (bound : _) (bases : _) (most : _) (c : Certificate) → IsKept k mul bound bases most c self.claim.terms (terms_of self.shared.items) self.sum.terms → Fits refusal verdict_of result (VerdictAtEnd k mul bound bases number (lines rest.now) c) }
+    {
+        if rest.is_empty() {
+            let remaining = self.sum.len() as u64;
+            if remaining == 0 {
+                Ok(CertVerdict::Valid(self.claim))
+            } else {
+                Ok(CertVerdict::Invalid { remaining })
+            }
+        } else {
+            Err(CertFault::Syntax { line: number })
+        }
+    }
+}
+
+// What a line after the claim says, where so many shared multipliers stand before it.
+fn line_said<F: Field>(
+    alloc: Global,
+    field: &F,
+    circuit: &Combinational,
+    drivers: &[Option<u32>],
+    labels: &Labels,
+    version: u32,
+    count: u32,
+    line: &[u8],
+) -> Result<Option<Line>, LineFault>
+    requires { AreDrivers circuit.now.net drivers.now }
+    ensures value { (shared : List Terms) → length shared ≡ count → Fits line_refusal (said_in shared) result (LineOf (F.degree field.now) circuit.now.net labels.now version shared line.now) }
+    ensures is { IfOk result (λ said. IfSome said (IsLine (F.degree field.now) circuit.now.net labels.now count)) }
+{
+    let k = field.k();
+    let net = circuit.net();
+    read_line(alloc, k, net, drivers, labels, version, count, line)
+}
+
+// The verdict of the lines after the claim.
+fn verdict_from<F: Field>(
+    alloc: Global,
+    field: &F,
+    circuit: &Combinational,
+    bases: &[Basis],
+    drivers: &[Option<u32>],
+    labels: &Labels,
+    bound: u32,
+    version: u32,
+    claim: Poly,
+    sum: Poly,
+    bytes: &[u8],
+) -> Result<CertVerdict, CertFault>
+    requires k { circuit.now.bound.k ≡ F.degree field.now }
+    requires bases { AreBases (F.degree field.now) (F.product field.now) circuit.now bases.now }
+    requires labels { NameWords circuit.now.bound labels.now }
+    requires drivers { AreDrivers circuit.now.net drivers.now }
+    requires size { length bytes.now ≤ 67108864 }
+    requires sum { IsRunningSum (F.degree field.now) (F.product field.now) circuit.now bases.now (begun claim.terms) sum.terms }
+    requires within { length sum.terms ≤ bound }
+    ensures { Fits refusal verdict_of result (VerdictFrom (F.degree field.now) (F.product field.now) circuit.now bases.now labels.now bound version (lines bytes.now) 3 (begun claim.terms)) }
+{
+    let _words = labels.words();
+    let mut checking = Checking {
+        claim,
+        shared: Vec::new(alloc),
+        sum,
+    };
+    let mut rest = bytes;
+    let mut number: u32 = 3;
+    'turns: while !rest.is_empty() {
+        let (text, more) = next_line(rest);
+        let count = checking.shared.as_slice().len() as u32;
+        let said = match line_said(alloc, field, circuit, drivers, labels, version, count, text) {
+            Ok(said) => said,
+            Err(fault) => return Err(at_line(number, fault)),
+        };
+        let line = match said {
+            Some(line) => line,
+            None => return checking.ended(number + 1, more),
+        };
+        match checking.add(alloc, field, circuit, bases, drivers, number, bound, line) {
+            Ok(()) => {}
+            Err(fault) => return Err(fault),
+        }
+        rest = more;
+        number += 1;
+    }
+    Err(CertFault::NoEnd)
+}
+
+// The verdict on a text, where these gates drive the nets.
+fn verdict_on<F: Field>(
+    alloc: Global,
+    field: &F,
+    circuit: &Combinational,
+    bases: &[Basis],
+    drivers: &[Option<u32>],
+    labels: &Labels,
+    bytes: &[u8],
+    bound: u32,
+) -> Result<CertVerdict, CertFault>
+    requires k { circuit.now.bound.k ≡ F.degree field.now }
+    requires bases { AreBases (F.degree field.now) (F.product field.now) circuit.now bases.now }
+    requires labels { NameWords circuit.now.bound labels.now }
+    requires drivers { AreDrivers circuit.now.net drivers.now }
+    requires size { length bytes.now ≤ 67108864 }
+    ensures { Fits refusal verdict_of result (Check (F.degree field.now) (F.product field.now) circuit.now bases.now labels.now bound bytes.now) }
+{
+    let k = field.k();
+    let head = match read_head(alloc, k, labels, bytes) {
+        Ok(head) => head,
+        Err(fault) => return Err(fault),
+    };
+    let sum = first_sum(alloc, field, circuit, bases, &head.claim)?;
+    match check_size(&sum, 2, bound) {
+        Ok(()) => verdict_from(
+            alloc,
+            field,
+            circuit,
+            bases,
+            drivers,
+            labels,
+            bound,
+            head.version,
+            head.claim,
+            sum,
+            head.rest,
+        ),
+        Err(fault) => Err(fault),
+    }
+}
+
+/// The verdict on a certificate in version 1 or 2, or the fault of the first line that shows one; at one line the text
+/// comes before the size.
+///
+/// The running sum begins as the sum of the output word, that is of its basis elements each times its bit, and the claim;
+/// each pair adds the product of its generator and its multiplier, as the reduced polynomial in which all variables are
+/// free. `TooManyTerms` comes where the sum after a line has more than `bound` terms; the claim's line is such a line
+/// too. Each word has k bits, there is one basis of this field for each word of the binding, the labels name the input,
+/// state and fed words of the circuit, and the text has at most 67,108,864 bytes.
+pub fn check<F: Field>(
+    alloc: Global,
+    field: &F,
+    circuit: &Combinational,
+    bases: &[Basis],
+    labels: &Labels,
+    bytes: &[u8],
+    bound: u32,
+) -> Result<CertVerdict, CertFault>
+    requires k { circuit.now.bound.k ≡ F.degree field.now }
+    requires bases { AreBases (F.degree field.now) (F.product field.now) circuit.now bases.now }
+    requires labels { NameWords circuit.now.bound labels.now }
+    requires size { length bytes.now ≤ 67108864 }
+    ensures { Fits refusal verdict_of result (Check (F.degree field.now) (F.product field.now) circuit.now bases.now labels.now bound bytes.now) }
+{
+    let drivers = drivers(alloc, circuit)?;
+    match verdict_on(
+        alloc,
+        field,
+        circuit,
+        bases,
+        drivers.as_slice(),
+        labels,
+        bytes,
+        bound,
+    ) {
+        Ok(verdict) => Ok(verdict),
+        Err(fault) => Err(fault),
+    }
+}

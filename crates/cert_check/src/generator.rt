@@ -1,0 +1,172 @@
+//! Generators as polynomials.
+ghost use Rattle.std.specs.Prelude.{◌≡◌, ◌<◌, ◌+◌, ◌*◌, bit_xor, map, option_map, slice_index, IfOk, IfSome};
+ghost use Rattle.gf_basis.specs.BasisParts.{duals_of, IsOver};
+ghost use Rattle.net_core.specs.NetList.{nets};
+ghost use Rattle.net_core.specs.Lists.{Has};
+ghost use Rattle.net_core.specs.Sound.{IsSound};
+ghost use Rattle.net_words.specs.Variables.{variables};
+ghost use Rattle.poly_mixed.specs.Polynomial.{IsPolynomialOf};
+ghost use Rattle.poly_mixed.specs.Table.{table_value};
+ghost use Rattle.circuit_model.specs.Bases.{AreBases};
+ghost use Rattle.cert_check.specs.Driver.{driver as driver_of};
+ghost use Rattle.cert_check.specs.Running.{rank_among, net_bit, bit_value, driven_value, dual_form, generator_value};
+ghost use Rattle.cert_check.specs.private.Reading.{AreDrivers};
+ghost use Rattle.cert_check.specs.private.Kept.{IsGeneratorOf};
+
+use crate::words::input_basis;
+use gf_basis::Basis;
+use gf_field::Field;
+use net_core::{Gate, Net};
+use net_words::Combinational;
+use poly_mixed::{Generator, Poly, scaled_bit, scaled_power, table_poly};
+use std::alloc::{AllocError, Global};
+
+/// The place of a net among the variables.
+pub(crate) fn rank(circuit: &Combinational, net: u32) -> u32
+    requires { net < nets circuit.now.net }
+    ensures { result ≡ rank_among (variables (nets circuit.now.net) circuit.now.bound.words) net }
+{
+    let _bound = circuit.bound();
+    circuit.rank_of(net)
+}
+
+// The ranks of a gate's inputs.
+fn input_ranks(alloc: Global, circuit: &Combinational, gate: &Gate) -> Result<Vec<u32>, AllocError>
+    requires sound { IsSound circuit.now.net }
+    requires gate { Has circuit.now.net.gates gate.now }
+    ensures { IfOk result (λ list. list.items ≡ map (rank_among (variables (nets circuit.now.net) circuit.now.bound.words)) gate.now.inputs) }
+{
+    let mut list = Vec::with_capacity(alloc, gate.inputs().len())?;
+    for input in gate.inputs() {
+        list.push(rank(circuit, *input))?;
+    }
+    Ok(list)
+}
+
+// The polynomial of a gate's table over its inputs.
+fn gate_poly<F: Field>(
+    alloc: Global,
+    field: &F,
+    circuit: &Combinational,
+    gate: &Gate,
+) -> Result<Poly, AllocError>
+    requires sound { IsSound circuit.now.net }
+    requires gate { Has circuit.now.net.gates gate.now }
+    ensures { IfOk result (λ q. IsPolynomialOf (F.degree field.now) (F.product field.now) (λ p. table_value gate.now.table gate.now.inputs (net_bit (variables (nets circuit.now.net) circuit.now.bound.words) p)) q.terms) }
+{
+    let ranks = input_ranks(alloc, circuit, gate)?;
+    table_poly(alloc, field, &ranks, gate.table())
+}
+
+// The gate that drives a net.
+fn driver<'a>(net: &'a Net, drivers: &[Option<u32>], n: u32) -> Option<&'a Gate>
+    requires net { n < nets net.now }
+    requires drivers { AreDrivers net.now drivers.now }
+    ensures gate { option_map (λ g. g.now) result ≡ driver_of net.now n }
+    ensures among { IfSome result (λ g. Has net.now.gates g.now) }
+{
+    match drivers[n as usize] {
+        Some(position) => net.gates().get(position as usize),
+        None => None,
+    }
+}
+
+// What the gate that drives a net makes of its inputs.
+fn driven_poly<F: Field>(
+    alloc: Global,
+    field: &F,
+    circuit: &Combinational,
+    drivers: &[Option<u32>],
+    n: u32,
+) -> Result<Poly, AllocError>
+    requires net { n < nets circuit.now.net }
+    requires drivers { AreDrivers circuit.now.net drivers.now }
+    ensures { IfOk result (λ q. IsPolynomialOf (F.degree field.now) (F.product field.now) (λ p. driven_value (variables (nets circuit.now.net) circuit.now.bound.words) p (driver_of circuit.now.net n)) q.terms) }
+{
+    match driver(circuit.net(), drivers, n) {
+        Some(gate) => gate_poly(alloc, field, circuit, gate),
+        None => Ok(Poly::zero(alloc)),
+    }
+}
+
+// A net plus what its gate makes of its inputs.
+fn net_poly<F: Field>(
+    alloc: Global,
+    field: &F,
+    circuit: &Combinational,
+    drivers: &[Option<u32>],
+    n: u32,
+) -> Result<Poly, AllocError>
+    requires net { n < nets circuit.now.net }
+    requires drivers { AreDrivers circuit.now.net drivers.now }
+    ensures { IfOk result (λ q. IsPolynomialOf (F.degree field.now) (F.product field.now) (λ p. bit_xor (bit_value (net_bit (variables (nets circuit.now.net) circuit.now.bound.words) p n)) (driven_value (variables (nets circuit.now.net) circuit.now.bound.words) p (driver_of circuit.now.net n))) q.terms) }
+{
+    let driven = driven_poly(alloc, field, circuit, drivers, n)?;
+    let mut sum = scaled_bit(alloc, field, 1, rank(circuit, n))?;
+    sum.add_into(field, &driven)?;
+    Ok(sum)
+}
+
+// The linear form of a bit of a word, 0 to 7, in the word: the trace of the product with an element of the dual basis.
+fn form_poly<F: Field>(
+    alloc: Global,
+    field: &F,
+    basis: &Basis,
+    word: u32,
+    place: u32,
+) -> Result<Poly, AllocError>
+    requires over { IsOver (F.degree field.now) (F.product field.now) basis.now }
+    requires word { word < 8 }
+    requires place { place < F.degree field.now }
+    ensures { IfOk result (λ q. IsPolynomialOf (F.degree field.now) (F.product field.now) (λ p. dual_form (F.degree field.now) (F.product field.now) (slice_index (duals_of basis.now) place) (slice_index p.words word)) q.terms) }
+{
+    let linear = basis.linear_of(field, place);
+    let mut sum = Poly::zero(alloc);
+    for j in 0..field.k() {
+        let part = scaled_power(alloc, field, linear[j as usize], word as usize, 1 << j)?;
+        sum.add_into(field, &part)?;
+    }
+    Ok(sum)
+}
+
+// A bit of a word plus the linear form that reads it from the word.
+fn bit_poly<F: Field>(
+    alloc: Global,
+    field: &F,
+    basis: &Basis,
+    word: u32,
+    place: u32,
+) -> Result<Poly, AllocError>
+    requires over { IsOver (F.degree field.now) (F.product field.now) basis.now }
+    requires word { word < 8 }
+    requires place { place < F.degree field.now }
+    ensures { IfOk result (λ q. IsPolynomialOf (F.degree field.now) (F.product field.now) (λ p. bit_xor (bit_value (p.is_one (F.degree field.now * word + place))) (dual_form (F.degree field.now) (F.product field.now) (slice_index (duals_of basis.now) place) (slice_index p.words word))) q.terms) }
+{
+    let form = form_poly(alloc, field, basis, word, place)?;
+    let mut sum = scaled_bit(alloc, field, 1, field.k() * word + place)?;
+    sum.add_into(field, &form)?;
+    Ok(sum)
+}
+
+/// The polynomial of a generator: a net, or a bit of an input or state word.
+pub(crate) fn generator_poly<F: Field>(
+    alloc: Global,
+    field: &F,
+    circuit: &Combinational,
+    bases: &[Basis],
+    drivers: &[Option<u32>],
+    generator: Generator,
+) -> Result<Poly, AllocError>
+    requires bases { AreBases (F.degree field.now) (F.product field.now) circuit.now bases.now }
+    requires drivers { AreDrivers circuit.now.net drivers.now }
+    requires generator { IsGeneratorOf (F.degree field.now) circuit.now bases.now generator }
+    ensures { IfOk result (λ q. IsPolynomialOf (F.degree field.now) (F.product field.now) (generator_value (F.degree field.now) (F.product field.now) circuit.now bases.now generator) q.terms) }
+{
+    match generator {
+        Generator::Net(n) => net_poly(alloc, field, circuit, drivers, n),
+        Generator::Bit { word, place } => {
+            let basis = input_basis(circuit.bound(), bases, word);
+            bit_poly(alloc, field, basis, word, place)
+        }
+    }
+}

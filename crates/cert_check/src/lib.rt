@@ -1,0 +1,23 @@
+//! The checker of certificates: the text of a certificate, and whether its pairs prove its claim.
+//! It knows neither the elimination of gates nor the words' stages.
+#![tactic(auto)]
+
+mod cert_pairs;
+mod checking;
+mod drivers;
+mod fault;
+mod frame;
+mod generator;
+mod head;
+mod laws;
+mod line;
+mod reading;
+mod running;
+mod scan;
+mod words;
+
+pub use cert_pairs::CertPairs;
+pub use checking::{CertVerdict, check};
+pub use fault::CertFault;
+pub use laws::{one_certificate_or_fault, one_verdict_or_fault, valid_claims_are_outputs};
+pub use reading::pairs;
