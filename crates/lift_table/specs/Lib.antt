@@ -1,0 +1,6 @@
+pub mod Small
+pub mod Table
+pub mod TablePolynomial
+pub mod TableText
+pub mod CircuitTable
+pub mod private

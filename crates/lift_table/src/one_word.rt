@@ -1,0 +1,77 @@
+//! Interpolation in one word.
+ghost use Rattle.std.specs.Prelude.{◌≡◌, ◌+◌, ◌*◌, ◌<◌, ◌≤◌, ◌^◌, ℕ, length, slice_index, IfOk};
+ghost use Rattle.gf_field.specs.Element.{AreElements};
+ghost use Rattle.gf_field.specs.Polynomial.{sum_of_first};
+ghost use Rattle.lift_table.specs.private.OneWord.{AreCoefficients, AreColumns};
+
+use crate::gather::gather;
+use gf_field::Field;
+use std::alloc::{AllocError, Global};
+
+// The sum of elements.
+fn sum_of<F: Field>(_field: &F, values: &[u64]) -> u64
+    requires { AreElements (F.degree _field.now) values.now }
+    ensures sum { result ≡ sum_of_first (length values.now) (slice_index values.now) }
+    ensures element { result < 2 ^ F.degree _field.now }
+{
+    let mut sum = 0;
+    for value in values {
+        sum ^= *value;
+    }
+    sum
+}
+
+// Multiplies the value of each element with the element.
+fn raise<F: Field>(field: &F, values: &mut [u64])
+    requires long { length values.old ≤ 2 ^ F.degree field.now }
+    requires few { length values.old ≤ 256 }
+    requires elements { AreElements (F.degree field.now) values.old }
+    ensures at { (x : ℕ) → x < length values.old → slice_index values.new x ≡ F.product field.now (slice_index values.old x) x }
+    ensures elements { AreElements (F.degree field.now) values.new }
+{
+    for x in 0..values.len() {
+        values[x] = field.mul(values[x], x as u64);
+    }
+}
+
+/// The coefficients of the polynomial in one word that has these values at the elements of the field.
+pub(crate) fn coefficients<F: Field>(
+    alloc: Global,
+    field: &F,
+    values: &[u64],
+) -> Result<Vec<u64>, AllocError>
+    requires small { F.degree field.now ≤ 8 }
+    requires long { length values.now ≡ 2 ^ F.degree field.now }
+    requires elements { AreElements (F.degree field.now) values.now }
+    ensures { IfOk result (λ list. AreCoefficients (F.degree field.now) (F.product field.now) values.now list.items) }
+{
+    let mut list = Vec::from_slice(alloc, values)?;
+    let mut left = Vec::from_slice(alloc, values)?;
+    for e in (1..values.len()).rev() {
+        list[e] = sum_of(field, &left);
+        raise(field, &mut left);
+    }
+    Ok(list)
+}
+
+/// The coefficients in the last word: for each of n inputs of the others, that of each power.
+pub(crate) fn columns<F: Field>(
+    alloc: Global,
+    field: &F,
+    table: &[u64],
+    n: usize,
+) -> Result<Vec<u64>, AllocError>
+    requires small { F.degree field.now ≤ 8 }
+    requires long { length table.now ≡ n * 2 ^ F.degree field.now }
+    requires elements { AreElements (F.degree field.now) table.now }
+    ensures { IfOk result (λ list. AreColumns (F.degree field.now) (F.product field.now) n table.now list.items) }
+{
+    let count = 1 << field.k();
+    let mut list = Vec::new(alloc);
+    for row in 0..n {
+        let values = gather(alloc, table, n, row, count)?;
+        let column = coefficients(alloc, field, &values)?;
+        list.extend_from_slice(&column)?;
+    }
+    Ok(list)
+}
