@@ -2,6 +2,7 @@
 use Rattle.std.proofs.Common.{◌≡◌, ◌≢◌, ℕ, zero, suc, ◌<◌, ◌≤◌, ◌+◌, ◌*◌, ◌-◌, ◌^◌, sym, refl, ◌∙◌, ap, subst, inl, inr, arith}
 use Rattle.std.specs.Prelude.{bit_xor}
 use Rattle.std.proofs.Math.Nat.{pow-suc}
+use Rattle.std.proofs.lemmas.Nat.{pow_pos}
 use Rattle.std.proofs.lemmas.Bool.{cases_eq}
 use Rattle.std.specs.Int.Bits.{xor_assoc, xor_comm, xor_self, xor_zero_l, xor_zero_r, xor_lt}
 use Rattle.gf_field.specs.XorLaws.{xor_cancel, xor_same}
@@ -12,7 +13,7 @@ use Rattle.gf_field.specs.Power.{power}
 use Rattle.gf_field.specs.PowerLaws.{one_below, power_below}
 use Rattle.gf_field.specs.Polynomial.{sum_of_first}
 use Rattle.gf_field.specs.RingLaws.{distrib_left, mul_zero, zero_mul, mul_one, mul_left_comm}
-use Rattle.lift_table.specs.private.OneWord.{coefficient_of}
+use Rattle.lift_table.specs.OneWord.{coefficient_of}
 use Rattle.lift_table.proofs.SumLemmas.{sum_same, sum_zero, sum_open, sum_swap, sum_scale, sum_scale_right}
 
 module _ (k : ℕ) (mul : ℕ → ℕ → ℕ) (ring : IsRing k mul) (field : HasNoZeroDivisors k mul) where
@@ -48,7 +49,7 @@ module _ (k : ℕ) (mul : ℕ → ℕ → ℕ) (ring : IsRing k mul) (field : Ha
   is_between x y zero = refl
   is_between x y (suc m) =
       sum_open m (λ e. mul (power mul y (suc m - suc e)) (power mul x e))
-      ∙ (λ i. bit_xor (first i) (later i))
+      ∙ (λ i. bit_xor (first i) (later (is_between x y m) i))
     where
       whole : suc m - suc 0 ≡ m
       whole = omega arith
@@ -62,10 +63,10 @@ module _ (k : ℕ) (mul : ℕ → ℕ → ℕ) (ring : IsRing k mul) (field : Ha
       one : (e : ℕ) → mul (power mul y (suc m - suc (suc e))) (mul x (power mul x e)) ≡ mul x (mul (power mul y (m - suc e)) (power mul x e))
       one e = mul_left_comm k mul ring (power mul y (suc m - suc (suc e))) x (power mul x e) ∙ ap (λ n. mul x (mul (power mul y n) (power mul x e))) (shorter e)
 
-      later : sum_of_first m (λ e. mul (power mul y (suc m - suc (suc e))) (mul x (power mul x e))) ≡ mul x (between x y m)
-      later =
+      later : sum_of_first m (λ e. mul (power mul y (m - suc e)) (power mul x e)) ≡ between x y m → sum_of_first m (λ e. mul (power mul y (suc m - suc (suc e))) (mul x (power mul x e))) ≡ mul x (between x y m)
+      later before =
           sum_same m (λ e. mul (power mul y (suc m - suc (suc e))) (mul x (power mul x e))) (λ e. mul x (mul (power mul y (m - suc e)) (power mul x e))) (λ e less. one e)
-          ∙ (sum_scale k mul ring x m (λ e. mul (power mul y (m - suc e)) (power mul x e)) ∙ ap (mul x) (is_between x y m))
+          ∙ (sum_scale k mul ring x m (λ e. mul (power mul y (m - suc e)) (power mul x e)) ∙ ap (mul x) before)
 
   -- where the two are the same, only an odd number of summands does not cancel
   diagonal : (x j : ℕ) → (mul x (between x x (2 * j)) ≡ 0) × (mul x (between x x (suc (2 * j))) ≡ power mul x (suc (2 * j)))
@@ -128,7 +129,7 @@ module _ (k : ℕ) (mul : ℕ → ℕ → ℕ) (ring : IsRing k mul) (field : Ha
         half_of (suc k) h = let one = pow_one k in (2 ^ k - 1, let twice : 2 ^ suc k ≡ 2 ^ k * 2 = pow-suc 2 k in omega (arith, one, twice))
           where
             pow_one : (k : ℕ) → 1 ≤ 2 ^ k
-            pow_one k = ?
+            pow_one k = pow_pos k
 
     module _ (v : ℕ → ℕ) (elements : (y : ℕ) → y < 2 ^ k → v y < 2 ^ k) (x : ℕ) (less : x < 2 ^ k) (other : x ≢ 0) where
       abbrev shares : ℕ → ℕ

@@ -1,3 +1,2 @@
-pub mod OneWord
 pub mod Reading
 pub mod Lifting

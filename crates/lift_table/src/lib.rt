@@ -12,6 +12,7 @@ mod small;
 mod writing;
 
 pub use fault::TableFault;
+pub use laws::coefficients_have_the_values;
 pub use lifting::lift;
 pub use reading::read_table;
 pub use small::is_small;

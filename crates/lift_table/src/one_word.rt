@@ -2,7 +2,7 @@
 ghost use Rattle.std.specs.Prelude.{◌≡◌, ◌+◌, ◌*◌, ◌<◌, ◌≤◌, ◌^◌, ℕ, length, slice_index, IfOk};
 ghost use Rattle.gf_field.specs.Element.{AreElements};
 ghost use Rattle.gf_field.specs.Polynomial.{sum_of_first};
-ghost use Rattle.lift_table.specs.private.OneWord.{AreCoefficients, AreColumns};
+ghost use Rattle.lift_table.specs.OneWord.{AreCoefficients, AreColumns};
 
 use crate::gather::gather;
 use gf_field::Field;
@@ -47,8 +47,8 @@ pub(crate) fn coefficients<F: Field>(
 {
     let mut list = Vec::from_slice(alloc, values)?;
     let mut left = Vec::from_slice(alloc, values)?;
-    for e in (1..values.len()).rev() {
-        list[e] = sum_of(field, &left);
+    for step in 0..values.len() - 1 {
+        list[values.len() - 1 - step] = sum_of(field, &left);
         raise(field, &mut left);
     }
     Ok(list)

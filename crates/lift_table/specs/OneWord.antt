@@ -1,4 +1,4 @@
--- Interpolation in one word of a field of 2 to the k elements, for the clauses of private functions.
+-- Interpolation in one word of a field of 2 to the k elements.
 -- Source: Lidl and Niederreiter, Finite Fields, chapter 1, section 3 (interpolation) and chapter 7.
 use Rattle.std.specs.Prelude.{◌≡◌, ℕ, zero, suc, ◌+◌, ◌-◌, ◌*◌, ◌<◌, ◌^◌, List, length, slice_index}
 use Rattle.gf_field.specs.Element.{AreElements}
