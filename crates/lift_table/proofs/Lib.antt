@@ -3,4 +3,7 @@ pub mod GatherLemmas
 pub mod InterpolationLemmas
 pub mod OneWordLemmas
 pub mod RowLemmas
+pub mod ReadingLemmas
+pub mod OneOutcomeLemmas
+pub mod PolynomialLemmas
 pub mod LiftingLemmas

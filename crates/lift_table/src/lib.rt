@@ -12,7 +12,10 @@ mod small;
 mod writing;
 
 pub use fault::TableFault;
-pub use laws::coefficients_have_the_values;
+pub use laws::{
+    coefficients_have_the_values, one_table_or_fault, one_table_polynomial, rows_are_digits,
+    table_polynomials_are_outputs,
+};
 pub use lifting::lift;
 pub use reading::read_table;
 pub use small::is_small;

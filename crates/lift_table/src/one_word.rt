@@ -22,12 +22,12 @@ fn sum_of<F: Field>(_field: &F, values: &[u64]) -> u64
 }
 
 // Multiplies the value of each element with the element.
-fn raise<F: Field>(field: &F, values: &mut [u64])
-    requires long { length values.old ≤ 2 ^ F.degree field.now }
-    requires few { length values.old ≤ 256 }
-    requires elements { AreElements (F.degree field.now) values.old }
-    ensures at { (x : ℕ) → x < length values.old → slice_index values.new x ≡ F.product field.now (slice_index values.old x) x }
-    ensures elements { AreElements (F.degree field.now) values.new }
+fn raise<F: Field>(field: &F, values: &mut Vec<u64>)
+    requires long { length values.old.items ≤ 2 ^ F.degree field.now }
+    requires elements { AreElements (F.degree field.now) values.old.items }
+    ensures long { length values.new.items ≡ length values.old.items }
+    ensures at { (x : ℕ) → x < length values.old.items → slice_index values.new.items x ≡ F.product field.now (slice_index values.old.items x) x }
+    ensures elements { AreElements (F.degree field.now) values.new.items }
 {
     for x in 0..values.len() {
         values[x] = field.mul(values[x], x as u64);

@@ -1,4 +1,5 @@
-use Rattle.lift_table.proofs.GatherLemmas.{inside, pushed_long, pushed_at}
+use Rattle.std.proofs.Common.{◌+◌, ◌*◌}
+use Rattle.lift_table.proofs.GatherLemmas.{pushed_long, pushed_at}
 use Rattle.lift_table.proofs.gather.gather.Goals as goal
 
 pub loop-i-preserved : goal.loop-i-preserved

@@ -1,4 +1,4 @@
-use Rattle.std.proofs.Common.{◌≡◌, ℕ, arith}
+use Rattle.std.proofs.Common.{◌≡◌, ◌<◌, ◌≤◌, ◌+◌, ◌-◌, ◌^◌, ap, length, ℕ, arith}
 use Rattle.lift_table.proofs.OneWordLemmas.{no_steps, one_step, all_steps}
 use Rattle.lift_table.proofs.one_word.coefficients.Goals as goal
 
@@ -8,7 +8,15 @@ loop-step-init g c =
     c.in_ok-list.ensures.items c.in_ok-left.ensures.items c.requires.long c.requires.elements
 
 pub loop-step-preserved : goal.loop-step-preserved
-loop-step-preserved g c = ?
+loop-step-preserved g c =
+    let k = g.F.Ring.degree c.args.field.now in
+    let place : length c.args.values.now - 1 - c.loop-step.step ≡ 2 ^ k - 1 - c.loop-step.step = ap (λ n. n - 1 - c.loop-step.step) c.requires.long in
+    let within : c.loop-step.step < 2 ^ k - 1 = omega (arith, c.requires.long) in
+    one_step k (g.F.Ring.product c.args.field.now) (g.met.F.Ring.laws c.args.field.now) c.args.values.now c.loop-step.list.items c.loop-step.left.items c.raise.new.values.items
+    c.loop-step.step (length c.args.values.now - 1 - c.loop-step.step) c.sum_of.result place within c.loop-step.invariant ? c.sum_of.ensures.element c.raise.ensures.long c.raise.ensures.at c.raise.ensures.elements
 
 pub returns : goal.returns
-returns g c = ?
+returns g c =
+    let k = g.F.Ring.degree c.args.field.now in
+    let end : 2 ^ k ≤ c.loop-step.step + 1 = omega (arith, c.requires.long) in
+    all_steps k (g.F.Ring.product c.args.field.now) (g.met.F.Ring.laws c.args.field.now) c.args.values.now c.loop-step.list.items c.loop-step.left.items c.loop-step.step end c.loop-step.invariant

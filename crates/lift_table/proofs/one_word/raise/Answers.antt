@@ -10,11 +10,12 @@ pub loop-x-preserved : goal.loop-x-preserved
 loop-x-preserved g c =
     let inv = c.loop-x.invariant in
     let mul : ℕ → ℕ → ℕ = g.F.Ring.product c.args.field.now in
-    let room : c.loop-x.x < length c.loop-x.values = omega arith in
-    let here = c.mul.ensures.product ∙ ap (λ v. mul v c.loop-x.x) (inv.rest c.loop-x.x (omega arith)) in
+    let before = c.loop-x.values.items in
+    let room : c.loop-x.x < length before = omega arith in
+    let here : c.mul.result ≡ mul (get_or c.args.values.now.items c.loop-x.x 0) c.loop-x.x = c.mul.ensures.product ∙ ap (λ v. mul v c.loop-x.x) (inv.rest c.loop-x.x (omega arith)) in
     record {
-      long = length-set c.loop-x.values c.loop-x.x c.mul.result ∙ inv.long;
-      raised = set_more (λ j v. v ≡ mul (get_or c.args.values.now j 0) j) c.loop-x.values c.loop-x.x c.mul.result room inv.raised here;
-      rest = set_later c.loop-x.values c.args.values.now c.loop-x.x c.mul.result inv.rest;
-      elements = set_elements (2 ^ g.F.Ring.degree c.args.field.now) c.loop-x.values c.loop-x.x c.mul.result inv.elements c.mul.ensures.element;
+      long = length-set before c.loop-x.x c.mul.result ∙ inv.long;
+      raised = set_more (λ j v. v ≡ mul (get_or c.args.values.now.items j 0) j) before c.loop-x.x c.mul.result room inv.raised here;
+      rest = set_later before c.args.values.now.items c.loop-x.x c.mul.result inv.rest;
+      elements = set_elements (2 ^ g.F.Ring.degree c.args.field.now) before c.loop-x.x c.mul.result inv.elements c.mul.ensures.element;
     }
