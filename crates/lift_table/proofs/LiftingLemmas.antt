@@ -1,5 +1,5 @@
 -- Terms of tables.
-use Rattle.std.proofs.Common.{◌≡◌, ◌≢◌, ◌∙◌, ap, sym, refl, subst, inl, inr, ℕ, zero, suc, ◌+◌, ◌*◌, ◌-◌, ◌<◌, ◌≤◌, ◌^◌, List, [], ◌∷◌, length, get_or, set, take, drop, get_or-set_other, mul_comm, arith, Some}
+use Rattle.std.proofs.Common.{◌≡◌, ◌≢◌, ◌∙◌, ap, sym, refl, subst, inl, inr, ℕ, zero, suc, ◌+◌, ◌*◌, ◌-◌, ◌<◌, ◌≤◌, ◌^◌, List, [], ◌∷◌, length, get_or, set, take, drop, replicate, get_or-set_other, mul_comm, arith, Some}
 use Rattle.std.specs.Prelude.{bit_xor, slice_get}
 use Rattle.std.specs.List.{AllByRecursion}
 use Rattle.std.proofs.lemmas.List.{drop-set-lt}
@@ -8,7 +8,7 @@ use Rattle.std.specs.Int.Bits.{xor_assoc, xor_zero_l, xor_zero_r}
 use Rattle.gf_field.specs.Element.{AreElements}
 use Rattle.gf_field.specs.Polynomial.{sum_of_first}
 use Rattle.gf_field.specs.Power.{power}
-use Rattle.gf_field.specs.PowerLaws.{power_below}
+use Rattle.gf_field.specs.PowerLaws.{one_below}
 use Rattle.gf_field.specs.Ring.{IsRing}
 use Rattle.gf_field.specs.Field.{HasNoZeroDivisors}
 use Rattle.gf_field.specs.RingLaws.{distrib_left, mul_left_comm, mul_one, zero_mul}
@@ -56,6 +56,18 @@ pub record HasColumns (k : ℕ) (mul : ℕ → ℕ → ℕ) (w : ℕ) (exponents
   pub values : (p : Point) → IsPoint k p → value mul p new ≡ bit_xor (value mul p old) (mul (sum_at k mul columns (row_of k (take w p.words)) (get_or p.words w 0) count) (powers mul exponents p.words))
   pub words : (every : ℕ) → suc w ≤ every → IsZeros (drop every exponents) → AllByRecursion (IsOfWords every) old → AllByRecursion (IsOfWords every) new
 
+pub zeros_all : (n : ℕ) → IsZeros (replicate n 0)
+zeros_all zero = tt
+zeros_all (suc n) = (refl, zeros_all n)
+
+pub zeros_later : (m n : ℕ) → IsZeros (drop m (replicate n 0))
+zeros_later zero n = zeros_all n
+zeros_later (suc m) zero = tt
+zeros_later (suc m) (suc n) = zeros_later m n
+
+pub added_terms : (exponents : List ℕ) (m : Monomial) (c : ℕ) (old new : Terms) → m ≡ of_words exponents → new ≡ plus_term text_cmp old (m, c) → new ≡ plus_term text_cmp old (of_words exponents, c)
+added_terms exponents m c old new is added = added ∙ ap (λ (n : Monomial). plus_term text_cmp old (n, c)) is
+
 module _ (k : ℕ) (mul : ℕ → ℕ → ℕ) (ring : IsRing k mul) (field : HasNoZeroDivisors k mul) where
   f : IsField k mul
   f = field_of k mul ring field
@@ -78,8 +90,8 @@ module _ (k : ℕ) (mul : ℕ → ℕ → ℕ) (ring : IsRing k mul) (field : Ha
       sym (ap (λ n. bit_xor (value mul p ts) (mul n (powers mul exponents p.words))) none ∙ (ap (bit_xor (value mul p ts)) (zero_mul k mul ring (powers mul exponents p.words)) ∙ xor_zero_r (value mul p ts)))
 
   powers_below : (es ws : List ℕ) → powers mul es ws < 2 ^ k
-  powers_below [] ws = power_below k mul ring 0 0
-  powers_below (e ∷ es) [] = power_below k mul ring 0 0
+  powers_below [] ws = one_below k mul ring
+  powers_below (e ∷ es) [] = one_below k mul ring
   powers_below (e ∷ es) (w ∷ ws) = ring.closed (power mul w e) (powers mul es ws)
 
   -- one exponent in place of 0

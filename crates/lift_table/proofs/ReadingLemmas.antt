@@ -1,5 +1,5 @@
 -- The lines of a table, one after another.
-use Rattle.std.proofs.Common.{◌≡◌, ◌≢◌, ◌⊎◌, ◌∙◌, ap, sym, refl, subst, inl, inr, ℕ, zero, suc, ◌+◌, ◌*◌, ◌-◌, ◌<◌, ◌≤◌, ◌^◌, List, [], ◌∷◌, ◌++◌, length, drop, arith, Option, Some, None, Ok, Err, codes}
+use Rattle.std.proofs.Common.{◌≡◌, ◌≢◌, ◌⊎◌, ◌↔◌, ◌∙◌, ap, sym, refl, subst, inl, inr, ℕ, zero, suc, ◌+◌, ◌*◌, ◌-◌, ◌<◌, ◌≤◌, ◌^◌, List, [], ◌∷◌, ◌++◌, length, drop, arith, Option, Some, None, Result, Ok, Err, Bor, map, get_or, codes}
 use Rattle.std.specs.Prelude.{slice_get}
 use Rattle.std.proofs.lemmas.Bool.{cases_eq}
 use Rattle.std.proofs.lemmas.Option.{slice_get_within, slice_get_past}
@@ -9,12 +9,12 @@ use Rattle.lift_table.proofs.GatherLemmas.{pushed_long}
 use Rattle.lift_table.specs.declared.fault.TableFault.{TableFault}
 use Rattle.lift_table.specs.declared.fault.TableFault.TheVariants.{Syntax, TooLarge, OutOfMemory}
 use Rattle.lift_table.specs.TableText.{IsHead, IsNumber, IsFormed, IsNumberAt, IsRightTo, IsTable, IsSyntaxFault, IsTooLarge, LinesOutcome}
-use Rattle.lift_table.specs.private.Reading.{HeadOutcome, RowOutcome}
+use Rattle.lift_table.specs.private.Reading.{HeadOutcome, RowOutcome, TokenOutcome, TokensOutcome}
 
 -- a token stands for one number
 pub one_number : (token : List ℕ) (a b : ℕ) → IsHex token a → IsHex token b → a ≡ b
 one_number token a b h k =
-    let same : codes "0x" ++ h.0 ≡ codes "0x" ++ k.0 = sym h.1 ∙ k.1 in
+    let same : 48 ∷ 120 ∷ h.0 ≡ 48 ∷ 120 ∷ k.0 = sym h.1 ∙ k.1 in
     let digits : h.0 ≡ k.0 = cc same in
     h.3 ∙ (ap (value_of 16) digits ∙ sym k.3)
 
@@ -28,7 +28,7 @@ one_value line a b h k =
 -- the head is no number
 head_no_number : (line : List ℕ) (value : ℕ) → IsHead line → IsNumber line value → ⊥
 head_no_number line value head number =
-    let same : codes "gftable" ∷ codes "1" ∷ [] ≡ number.token ∷ [] = sym head ∙ number.alone in cc same
+    let same : suc (suc zero) ≡ suc zero = ap length (sym head ∙ number.alone) in omega arith
 
 one_line : {A : Type 0} (a b : A) → Some a ≡ Some b → a ≡ b
 one_line a b same = cc
@@ -119,7 +119,7 @@ module _ (k n : ℕ) (every : List (List ℕ)) where
             | inr new ↦
                 let here : row ≡ rows = new.0 ∙ so.long in
                 let P : ℕ → Type 0 = λ j. IsNumberAt every (j + 1) number in
-                subst P (sym here) (record { line = read.0; at = at.0; number = (let N : ℕ → Type 0 = IsNumber read.0 in subst N new.1 read.2) });
+                subst P (sym here) (record { line = read.0; at = at.0; number = (let N : ℕ → Type 0 = IsNumber read.0 in subst N new.1 read.2) })
           ];
         })
       where
@@ -201,3 +201,36 @@ module _ (k n : ℕ) (every : List (List ℕ)) where
           let found : (n < n) × ((value : ℕ) × IsNumber l value) = subst Q (sym next) (subst P (first_at every (n + 1) l ls is).0 formed) in
           let wrong : n < n = found.0 in
           absurd (omega arith)
+
+-- `0x` and digits are a number
+pub hex_of : (token digits : List ℕ) → token ≡ 48 ∷ 120 ∷ digits → AreDigits 16 digits ↔ ((value : ℕ) × IsHex token value)
+hex_of token digits is = ((λ are. (value_of 16 digits, (digits, is, are, refl))), λ found. back found.0 found.1)
+  where
+    back : (value : ℕ) → IsHex token value → AreDigits 16 digits
+    back value hex =
+        let same : 48 ∷ 120 ∷ hex.0 ≡ 48 ∷ 120 ∷ digits = sym hex.1 ∙ is in
+        let tail : hex.0 ≡ digits = cc same in
+        let P : List ℕ → Type 0 = AreDigits 16 in
+        subst P tail hex.2
+
+pub one_token : (k line : ℕ) (f : Bor (List ℕ) → List ℕ) (xs : List (Bor (List ℕ))) (d : Bor (List ℕ)) (r : Result ℕ TableFault) → length xs ≡ 1 → TokenOutcome k line (f (get_or xs 0 d)) r → TokensOutcome k line (map f xs) r
+one_token k line f [] d r long h = absurd (omega arith)
+one_token k line f (x ∷ y ∷ xs) d r long h = absurd (omega arith)
+one_token k line f (x ∷ []) d (Ok value) long h = ((f x, refl, h.0), h.1)
+one_token k line f (x ∷ []) d (Err (Syntax place)) long h =
+    (h.0, λ token value is hex. let same : token ≡ f x = cc in let P : List ℕ → Type 0 = λ t. IsHex t value in h.1 value (subst P same hex))
+one_token k line f (x ∷ []) d (Err (TooLarge place)) long h = (h.0, (f x, h.1.0, refl, h.1.1, h.1.2))
+one_token k line f (x ∷ []) d (Err OutOfMemory) long h = absurd h
+
+pub row_fault : (k line : ℕ) (every : List (List ℕ)) (text : List ℕ) (rest tokens : List (List ℕ)) → every ≡ text ∷ rest → tokens ≡ tokens_of text → (fault : TableFault) → TokensOutcome k line tokens (Err fault) → RowOutcome k line every (Err fault)
+row_fault k line every text rest tokens is are (Syntax place) h = (
+  h.0,
+  λ other after value first number.
+      let both : text ∷ rest ≡ other ∷ after = sym is ∙ first in
+      let same : text ≡ other = cc both in
+      h.1 number.token value (are ∙ (ap tokens_of same ∙ number.alone)) number.hex,
+)
+row_fault k line every text rest tokens is are (TooLarge place) h =
+    let found = h.1 in
+    (h.0, (text, rest, found.1, is, record { token = found.0; alone = sym are ∙ found.2; hex = found.3 }, found.4))
+row_fault k line every text rest tokens is are OutOfMemory h = absurd h

@@ -1,5 +1,5 @@
 -- The rows of inputs.
-use Rattle.std.proofs.Common.{◌≡◌, ◌∙◌, ap, sym, refl, subst, Some, ℕ, zero, suc, ◌+◌, ◌*◌, ◌<◌, ◌≤◌, ◌^◌, ◌/◌, ◌%◌, List, [], ◌∷◌, length, take, get_or, mul_assoc, arith}
+use Rattle.std.proofs.Common.{◌≡◌, ◌∙◌, ap, sym, refl, subst, Some, ℕ, zero, suc, ◌+◌, ◌-◌, ◌*◌, ◌<◌, ◌≤◌, ◌^◌, ◌/◌, ◌%◌, List, [], ◌∷◌, length, take, get_or, mul_assoc, arith}
 use Rattle.std.proofs.Math.Nat.{mul-add, mul-one, mul-zero, mul-suc, mul_comm, mul-le-mul_left, add-mul-mod_self_left, mod-eq_of_lt, mod-lt, mod-add-div, div-one, div-div-eq-div-mul, div-lt_iff_lt-mul}
 use Rattle.std.specs.List.{AllByRecursion}
 use Rattle.std.specs.Prelude.{slice_get}
@@ -33,7 +33,8 @@ pub row_below : (k : ℕ) (xs : List ℕ) → AllByRecursion (λ x. x < 2 ^ k) x
 row_below k [] elements = let one : 2 ^ (k * 0) ≡ 1 = ap (λ n. 2 ^ n) (mul-zero k) in omega (arith, one)
 row_below k (x ∷ xs) elements =
     let r = row_of k xs in
-    let below : r + 1 ≤ 2 ^ (k * length xs) = row_below k xs elements.1 in
+    let low : r < 2 ^ (k * length xs) = row_below k xs elements.1 in
+    let below : r + 1 ≤ 2 ^ (k * length xs) = omega arith in
     let scaled : 2 ^ k * (r + 1) ≤ 2 ^ k * 2 ^ (k * length xs) = mul-le-mul_left (2 ^ k) below in
     let spread_out : 2 ^ k * (r + 1) ≡ 2 ^ k * r + 2 ^ k * 1 = mul-add (2 ^ k) r 1 in
     let one : 2 ^ k * 1 ≡ 2 ^ k = mul-one (2 ^ k) in
@@ -90,3 +91,10 @@ row_of_digits k (suc words) row less =
     let turned : 2 ^ (k * suc words) ≡ 2 ^ (k * words) * 2 ^ k = sym (power_next k words) ∙ mul_comm (2 ^ k) (2 ^ (k * words)) in
     let smaller : row / 2 ^ k < 2 ^ (k * words) = (div-lt_iff_lt-mul {x = row} {y = 2 ^ (k * words)} (pow_pos k)).1 (subst (λ (n : ℕ). row < n) turned less) in
     ap (λ n. row % 2 ^ k + 2 ^ k * n) (row_of_digits k words (row / 2 ^ k) smaller) ∙ mod-add-div row (2 ^ k)
+
+-- a table of one word more
+pub rows_split : (k words : ℕ) → 1 ≤ words → 2 ^ (k * words) ≡ 2 ^ (k * (words - 1)) * 2 ^ k
+rows_split k zero some = absurd (omega arith)
+rows_split k (suc words) some =
+    let before : suc words - 1 ≡ words = omega arith in
+    sym (power_next k words) ∙ (mul_comm (2 ^ k) (2 ^ (k * words)) ∙ ap (λ n. 2 ^ (k * n) * 2 ^ k) (sym before))

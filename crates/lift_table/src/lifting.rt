@@ -10,6 +10,7 @@ ghost use Rattle.lift_table.specs.private.Lifting.{AddsTable, IsOfWords};
 
 use crate::gather::gather;
 use crate::one_word::columns;
+use crate::small::{elements_of, rows_of};
 use gf_field::Field;
 use poly_mixed::{Mono, Poly};
 use std::alloc::{AllocError, Global};
@@ -56,8 +57,8 @@ fn add_terms<F: Field>(
     if words == 0 {
         return add_term(alloc, field, exponents, table[0], sum);
     }
-    let n = 1 << (field.k() * (words - 1));
-    let count = 1 << field.k();
+    let n = rows_of(field, words - 1);
+    let count = elements_of(field);
     let columns = columns(alloc, field, table, n)?;
     for e in 0..count {
         let part = gather(alloc, &columns, count, e, n)?;

@@ -5,6 +5,7 @@ ghost use Rattle.gf_field.specs.Polynomial.{sum_of_first};
 ghost use Rattle.lift_table.specs.OneWord.{AreCoefficients, AreColumns};
 
 use crate::gather::gather;
+use crate::small::elements_of;
 use gf_field::Field;
 use std::alloc::{AllocError, Global};
 
@@ -66,7 +67,7 @@ pub(crate) fn columns<F: Field>(
     requires elements { AreElements (F.degree field.now) table.now }
     ensures { IfOk result (λ list. AreColumns (F.degree field.now) (F.product field.now) n table.now list.items) }
 {
-    let count = 1 << field.k();
+    let count = elements_of(field);
     let mut list = Vec::new(alloc);
     for row in 0..n {
         let values = gather(alloc, table, n, row, count)?;

@@ -1,5 +1,5 @@
 //! The text of a table.
-ghost use Rattle.std.specs.Prelude.{◌≡◌, ◌⊎◌, ◌↔◌, ◌≤◌, ◌<◌, ◌+◌, ◌*◌, ◌^◌, ◌∷◌, ℕ, [], codes, length, map, IfOk, IfErr, IsTrue, Ok, Err};
+ghost use Rattle.std.specs.Prelude.{◌≡◌, ◌⊎◌, ◌↔◌, ◌≤◌, ◌<◌, ◌+◌, ◌*◌, ◌^◌, ◌∷◌, ℕ, [], codes, length, map, IfOk, IfErr, IfNone, IfSome, IsTrue, List, Ok, Err};
 ghost use Rattle.std.specs.Str.Lines.{lines};
 ghost use Rattle.text_core.specs.Numbers.{AreDigits, IsDigit, IsHex};
 ghost use Rattle.lift_table.specs.Small.{IsSmall};
@@ -7,6 +7,7 @@ ghost use Rattle.lift_table.specs.TableText.{TableOutcome, IsHead};
 ghost use Rattle.lift_table.specs.private.Reading.{HeadOutcome, RowOutcome, TokenOutcome, TokensOutcome};
 
 use crate::fault::TableFault;
+use crate::small::two_to;
 use std::alloc::{AllocError, Global};
 use text_core::{next_line, read_hex, tokens};
 
@@ -16,7 +17,7 @@ pub fn read_table(alloc: Global, bytes: &[u8], k: u32, words: u32) -> Result<Vec
     ensures table { IfOk result (λ table. TableOutcome k (2 ^ (k * words)) bytes.now (Ok table.items)) }
     ensures fault { IfErr result (λ e. (e ≡ TableFault.OutOfMemory) ⊎ TableOutcome k (2 ^ (k * words)) bytes.now (Err e)) }
 {
-    let rows = 1 << (k * words);
+    let rows = two_to(k * words);
     let mut rest = match read_head(alloc, bytes) {
         Ok(rest) => rest,
         Err(fault) => return Err(fault),
@@ -110,7 +111,7 @@ fn number_of(token: &[u8], k: u32, line: u32) -> Result<u64, TableFault>
     requires { k ≤ 8 }
     ensures { TokenOutcome k line token.now result }
 {
-    match read_hex(token, (1 << k) - 1) {
+    match read_hex(token, u128::from(two_to(k) - 1)) {
         Some(value) => Ok(value as u64),
         None => {
             if is_hex(token) {
@@ -126,9 +127,20 @@ fn number_of(token: &[u8], k: u32, line: u32) -> Result<u64, TableFault>
 fn is_hex(token: &[u8]) -> bool
     ensures { IsTrue result ↔ ((value : ℕ) × IsHex token.now value) }
 {
+    match after_prefix(token) {
+        Some(digits) => are_digits(digits),
+        None => false,
+    }
+}
+
+// What follows `0x`.
+fn after_prefix(token: &[u8]) -> Option<&[u8]>
+    ensures some { IfSome result (λ digits. token.now ≡ 48 ∷ 120 ∷ digits.now) }
+    ensures none { IfNone result ((digits : List ℕ) → token.now ≡ 48 ∷ 120 ∷ digits → ⊥) }
+{
     match token {
-        [b'0', b'x', digits @ ..] => are_digits(digits),
-        _ => false,
+        [b'0', b'x', digits @ ..] => Some(digits),
+        _ => None,
     }
 }
 
