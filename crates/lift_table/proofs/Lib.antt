@@ -7,3 +7,5 @@ pub mod ReadingLemmas
 pub mod OneOutcomeLemmas
 pub mod PolynomialLemmas
 pub mod LiftingLemmas
+pub mod CircuitWordLemmas
+pub mod TableLemmas

@@ -5,6 +5,7 @@ use Rattle.std.specs.List.{AllByRecursion}
 use Rattle.std.specs.Prelude.{slice_get}
 use Rattle.std.proofs.lemmas.Nat.{pow_pos, pow-add, div-mul-add}
 use Rattle.lift_table.specs.Table.{row_of}
+use Rattle.lift_table.specs.private.Digits.{digits_of}
 
 -- 2^k * (a + b * c) is 2^k * a + (2^k * b) * c
 spread : (q a b c : ℕ) → q * (a + b * c) ≡ q * a + (q * b) * c
@@ -71,11 +72,6 @@ one_input k (x ∷ xs) (y ∷ ys) long first second same =
     let low : x ≡ y = sym (first_digit k x (row_of k xs) first.0) ∙ (ap (λ n. n % 2 ^ k) same ∙ first_digit k y (row_of k ys) second.0) in
     let high : row_of k xs ≡ row_of k ys = sym (later_digits k x (row_of k xs) first.0) ∙ (ap (λ n. n / 2 ^ k) same ∙ later_digits k y (row_of k ys) second.0) in
     λ i. low i ∷ one_input k xs ys (omega arith) first.1 second.1 high i
-
--- the input of a row
-abbrev pub digits_of : ℕ → ℕ → ℕ → List ℕ
-digits_of k zero row = []
-digits_of k (suc words) row = row % 2 ^ k ∷ digits_of k words (row / 2 ^ k)
 
 pub digits_long : (k words row : ℕ) → length (digits_of k words row) ≡ words
 digits_long k zero row = refl

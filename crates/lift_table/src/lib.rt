@@ -2,6 +2,7 @@
 //! No engine is used here: the polynomial comes by interpolation, word after word.
 #![tactic(auto)]
 
+mod circuit_words;
 mod fault;
 mod gather;
 mod laws;
@@ -9,6 +10,7 @@ mod lifting;
 mod one_word;
 mod reading;
 mod small;
+mod tabulating;
 mod writing;
 
 pub use fault::TableFault;
@@ -19,4 +21,5 @@ pub use laws::{
 pub use lifting::lift;
 pub use reading::read_table;
 pub use small::is_small;
+pub use tabulating::table;
 pub use writing::write_table;

@@ -1,4 +1,5 @@
-use Rattle.lift_table.proofs.RowLemmas.{digit_at, row_below, one_input, digits_of, digits_long, digits_below, row_of_digits}
+use Rattle.lift_table.specs.private.Digits.{digits_of}
+use Rattle.lift_table.proofs.RowLemmas.{digit_at, row_below, one_input, digits_long, digits_below, row_of_digits}
 use Rattle.lift_table.proofs.laws.rows_are_digits.Goals as goal
 
 pub returns : goal.returns
