@@ -20,4 +20,5 @@ pub mod FileLineLemmas
 pub mod RoseLemmas
 pub mod OutputLemmas
 pub mod SpecificationDetermined
+pub mod TableDetermined
 mod Examples

@@ -8,4 +8,5 @@ pub mod SettingSound
 pub mod NetlistOf
 pub mod Labelling
 pub mod SpecificationIn
+pub mod TableIn
 pub mod private
