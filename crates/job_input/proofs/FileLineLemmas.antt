@@ -37,7 +37,6 @@ use Rattle.job_input.specs.Labelling.{labels_of, word_label, word_labels}
 use Rattle.job_input.specs.NetlistOf.{CircuitIn, by_ending}
 use Rattle.job_input.specs.SettingOf.{BasesOf, BlocksHaveBases, SettingWith, SignedOf, SignedValue, WordBasis, basis_fault, feeds_within, place_within, text_fault}
 use Rattle.job_input.specs.SignedIn.{SignedIn}
-use Rattle.job_input.specs.TableIn.{TableIn}
 use Rattle.job_input.specs.SpecificationIn.{SpecificationIn}
 use Rattle.job_input.proofs.NetlistLineLemmas.{name_kept, netlist_keeps}
 
@@ -143,10 +142,6 @@ circuit_keeps held signature name fault names kept (inr (text, read, (other, is,
 pub specification_keeps : (held : Option Files) (labels : Labelling) (k : ℕ) (product : ℕ → ℕ → ℕ) (name : Word) (fault : Fault) → HasNoLineFeed name → SpecificationIn held labels k product name (Err fault) → KeepsToItsLine fault
 specification_keeps held labels k product name fault kept (inl is) = file_keeps held name fault kept is
 specification_keeps held labels k product name fault kept (inr (text, read, (other, is, same))) = same_line fault (faults.Specification other) same tt
-
-pub table_keeps : (held : Option Files) (k n : ℕ) (name : Word) (fault : Fault) → HasNoLineFeed name → TableIn held k n name (Err fault) → KeepsToItsLine fault
-table_keeps held k n name fault kept (inl is) = file_keeps held name fault kept is
-table_keeps held k n name fault kept (inr (text, read, (other, is, same))) = same_line fault (faults.Table other) same tt
 
 -- ---- the labels of the words
 

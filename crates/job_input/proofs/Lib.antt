@@ -20,5 +20,4 @@ pub mod FileLineLemmas
 pub mod RoseLemmas
 pub mod OutputLemmas
 pub mod SpecificationDetermined
-pub mod TableDetermined
 mod Examples

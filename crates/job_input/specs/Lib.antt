@@ -8,5 +8,4 @@ pub mod SettingSound
 pub mod NetlistOf
 pub mod Labelling
 pub mod SpecificationIn
-pub mod TableIn
 pub mod private

@@ -1,4 +1,4 @@
-use Rattle.job_input.proofs.FileLineLemmas.{circuit_keeps, signed_keeps, specification_keeps, table_keeps}
+use Rattle.job_input.proofs.FileLineLemmas.{circuit_keeps, signed_keeps, specification_keeps}
 use Rattle.job_input.proofs.laws.faults_keep_to_their_line.Goals as goal
 
 pub returns-clause-signature : goal.returns-clause-signature
@@ -9,6 +9,3 @@ returns-clause-netlist c = circuit_keeps
 
 pub returns-clause-specification : goal.returns-clause-specification
 returns-clause-specification c = specification_keeps
-
-pub returns-clause-table : goal.returns-clause-table
-returns-clause-table c = table_keeps
