@@ -2,8 +2,8 @@
 use Rattle.std.proofs.Common.{◌≡◌, ◌∙◌, ap, sym, inl, inr, refl, ℕ, ◌+◌, ◌*◌, if◌then◌else◌, ◌==◌, List, [], ◌∷◌, get_or, codes}
 use Rattle.text_core.specs.Numbers.{value_of}
 use Rattle.job_words.proofs.SpelledLemmas.{first_word, rest_of}
-use Rattle.job_words.specs.Operands.{Word, AreOptions, IsOverFile, IsOverNet, IsOverPair}
-use Rattle.job_words.specs.Command.{Action, Bits, Abstract, Check, Same, Iso, Lift, Table, Job, IsNamed, IsSpelled}
+use Rattle.job_words.specs.Operands.{Word, AreOptions, IsOverNet, IsOverPair}
+use Rattle.job_words.specs.Command.{Action, Bits, Abstract, Check, Same, Job, IsNamed, IsSpelled}
 
 -- what tells the names of commands apart: their first two letters
 abbrev key : List Word → ℕ
@@ -20,9 +20,6 @@ action_at key operands =
     if key == 25193 then Bits (first_word operands) (set_by (rest_of operands)) else
     if key == 25448 then Check (first_word operands) (first_word (rest_of operands)) (set_by (rest_of (rest_of operands))) else
     if key == 29537 then Same (first_word operands) (first_word (rest_of operands)) (set_by (rest_of (rest_of operands))) else
-    if key == 26995 then Iso (first_word operands) else
-    if key == 27753 then Lift (first_word operands) else
-    if key == 29793 then Table (first_word operands) else
     Abstract (first_word operands) (set_by (rest_of operands))
 
 -- the command of the words, where they spell one
@@ -53,23 +50,12 @@ over_pair_back name make words s n o t is made =
     let act : make n o t ≡ action_at (key (name ∷ [])) (n ∷ o ∷ over.options) = ap (make n o) (options_back over.options t over.set) ∙ sym (made (n ∷ o ∷ over.options)) in
     ap (λ (a : Action). record { signature = s; action = a }) act ∙ ap job_at (sym whole)
 
--- commands over a second file
-over_file_back : (name : Word) (make : Word → Action) (words : List Word) (s f : Word) → IsNamed name (λ rest. IsOverFile rest s f) words
-    → ((operands : List Word) → action_at (key (name ∷ [])) operands ≡ make (first_word operands))
-    → ◌≡◌ {A = Job} (record { signature = s; action = make f }) (job_at words)
-over_file_back name make words s f is made =
-    let whole : words ≡ name ∷ s ∷ f ∷ [] = is.words_are ∙ ap (λ (rest : List Word). name ∷ rest) is.follow.words_are in
-    ap (λ (a : Action). record { signature = s; action = a }) (sym (made (f ∷ []))) ∙ ap job_at (sym whole)
-
 -- each command, one line each
 back : (words : List Word) (s : Word) (a : Action) → IsSpelled words (record { signature = s; action = a }) → ◌≡◌ {A = Job} (record { signature = s; action = a }) (job_at words)
 back words s (Bits n t) is = over_net_back (codes "bits") Bits words s n t is (λ operands. refl)
 back words s (Abstract n t) is = over_net_back (codes "abstract") Abstract words s n t is (λ operands. refl)
 back words s (Check n o t) is = over_pair_back (codes "check") Check words s n o t is (λ operands. refl)
 back words s (Same n o t) is = over_pair_back (codes "same") Same words s n o t (record { rest = is.rest; words_are = is.words_are; follow = is.follow.pair }) (λ operands. refl)
-back words s (Iso other) is = over_file_back (codes "iso") Iso words s other is (λ operands. refl)
-back words s (Lift table) is = over_file_back (codes "lift") Lift words s table is (λ operands. refl)
-back words s (Table net) is = over_file_back (codes "table") Table words s net (record { rest = is.rest; words_are = is.words_are; follow = is.follow.file }) (λ operands. refl)
 
 pub one_job : (words : List Word) (job other : Job) → IsSpelled words job → IsSpelled words other → job ≡ other
 one_job words job other a b = back words job.signature job.action a ∙ sym (back words other.signature other.action b)

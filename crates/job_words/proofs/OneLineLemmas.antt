@@ -12,12 +12,9 @@ use Rattle.job_words.specs.FileFault.{file_text}
 use Rattle.job_words.specs.NetlistFault.{binding_text, place_text, netlist_text}
 use Rattle.job_words.specs.OneLine.{HasNoLineFeed, IsOneLine, KeepsToItsLine, repeated_of_binding, repeated_of_file, repeated_of_netlist, repeated_of_signature}
 use Rattle.job_words.specs.Operands.{Word}
-use Rattle.job_words.specs.SignatureFault.{second_signature_text, signature_text}
+use Rattle.job_words.specs.SignatureFault.{signature_text}
 use Rattle.job_words.specs.SpecificationFault.{specification_text}
 use Rattle.job_words.specs.StageFault.{stage_text, stage_fault_text}
-use Rattle.job_words.specs.TableTextFault.{table_text}
-use Rattle.job_words.specs.declared.table_text_fault.TableTextFault.{TableTextFault}
-use Rattle.job_words.specs.declared.table_text_fault.TableTextFault.TheVariants as table
 use Rattle.job_words.specs.declared.fault.Fault.{Fault}
 use Rattle.job_words.specs.declared.fault.Fault.TheVariants as faults
 use Rattle.job_words.specs.declared.file_fault.FileFault.{FileFault}
@@ -124,27 +121,6 @@ signature_clean (signature.NoOutputInBlock model) kept = kept_clean model kept.0
 signature_clean (signature.TwoOutputs line) kept = number_clean line
 signature_clean (signature.TooManyWords line) kept = number_clean line
 
-second_clean : (fault : SignatureFault) → AllByRecursion HasNoLineFeed (repeated_of_signature fault) → IsClean (second_signature_text fault)
-second_clean (signature.NoFedWord line) kept = number_clean line
-second_clean (signature.FeedTwice line) kept = number_clean line
-second_clean (signature.Syntax line) kept = number_clean line
-second_clean signature.Degree kept = refl
-second_clean signature.Modulus kept = refl
-second_clean signature.TowerPolynomial kept = refl
-second_clean (signature.Dependent line) kept = number_clean line
-second_clean (signature.Basis line) kept = number_clean line
-second_clean signature.Tower kept = refl
-second_clean (signature.Bits line) kept = number_clean line
-second_clean (signature.NameTwice line) kept = number_clean line
-second_clean signature.NoOutput kept = refl
-second_clean (signature.NoOutputInBlock model) kept = kept_clean model kept.0
-second_clean (signature.TwoOutputs line) kept = number_clean line
-second_clean (signature.TooManyWords line) kept = number_clean line
-
-table_clean : (fault : TableTextFault) → IsClean (table_text fault)
-table_clean (table.Syntax line) = number_clean line
-table_clean (table.TooLarge line) = number_clean line
-
 -- a bit of a word, and a text behind it
 bit_then : (word : Word) (place : ℕ) (rest : List ℕ) → HasNoLineFeed word → IsClean rest → IsClean (place_text word place rest)
 bit_then word place rest kept more = word_then word _ kept (number_then place (codes "]" ++ rest) more)
@@ -198,10 +174,6 @@ text_clean (faults.File fault) kept = file_clean fault kept
 text_clean (faults.Signature fault) kept = signature_clean fault kept
 text_clean (faults.Netlist name fault) kept = clean_then (netlist_text fault) (codes " in " ++ name) (netlist_clean fault kept.1) (kept_clean name kept.0)
 text_clean (faults.Specification fault) kept = specification_clean fault
-text_clean (faults.SecondSignature fault) kept = second_clean fault kept
-text_clean faults.Fields kept = refl
-text_clean faults.NotSmall kept = refl
-text_clean (faults.Table fault) kept = table_clean fault
 text_clean (faults.Stage fault) kept = stage_clean fault kept.0
 
 -- the line of a fault that repeats no line feed

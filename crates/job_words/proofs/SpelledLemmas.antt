@@ -1,7 +1,7 @@
 -- Where words spell no command.
 use Rattle.std.proofs.Common.{◌≡◌, ◌≢◌, ◌∙◌, ap, sym, subst, ℕ, List, [], ◌∷◌, get_or, codes}
-use Rattle.job_words.specs.Operands.{Word, AreOptions, IsNetlistName, IsOverFile, IsOverNet, IsOverOneNet, IsOverPair, IsOverTwoNets}
-use Rattle.job_words.specs.Command.{Action, Bits, Abstract, Check, Same, Iso, Lift, Table, Job, IsNamed, IsSpelled}
+use Rattle.job_words.specs.Operands.{Word, AreOptions, IsNetlistName, IsOverNet, IsOverPair, IsOverTwoNets}
+use Rattle.job_words.specs.Command.{Action, Bits, Abstract, Check, Same, Job, IsNamed, IsSpelled}
 
 -- the first word
 abbrev pub first_word : List Word → Word
@@ -25,18 +25,14 @@ letters m n C other same = absurd (other (ap (λ w. get_or w 0 0) same))
 
 -- where no operands follow, no command is spelled
 pub not_spelled : (name : Word) (rest : List Word) → (name ≡ codes "bits" → (s n : Word) (t : ℕ) → IsOverNet rest s n t → ⊥) → (name ≡ codes "abstract" → (s n : Word) (t : ℕ) → IsOverNet rest s n t → ⊥)
-    → (name ≡ codes "check" → (s n o : Word) (t : ℕ) → IsOverPair rest s n o t → ⊥) → (name ≡ codes "same" → (s n o : Word) (t : ℕ) → IsOverTwoNets rest s n o t → ⊥)
-    → (name ≡ codes "iso" → (s f : Word) → IsOverFile rest s f → ⊥) → (name ≡ codes "lift" → (s f : Word) → IsOverFile rest s f → ⊥) → (name ≡ codes "table" → (s n : Word) → IsOverOneNet rest s n → ⊥) → (job : Job) → IsSpelled (name ∷ rest) job → ⊥
-not_spelled name rest bits abstract check same iso lift table job is = by job.action is
+    → (name ≡ codes "check" → (s n o : Word) (t : ℕ) → IsOverPair rest s n o t → ⊥) → (name ≡ codes "same" → (s n o : Word) (t : ℕ) → IsOverTwoNets rest s n o t → ⊥) → (job : Job) → IsSpelled (name ∷ rest) job → ⊥
+not_spelled name rest bits abstract check same job is = by job.action is
   where
     by : (action : Action) → IsSpelled (name ∷ rest) (record { signature = job.signature; action = action }) → ⊥
     by (Bits net terms) is' = not_named name (codes "bits") rest (λ ws. IsOverNet ws job.signature net terms) (λ e f. bits e job.signature net terms f) is'
     by (Abstract net terms) is' = not_named name (codes "abstract") rest (λ ws. IsOverNet ws job.signature net terms) (λ e f. abstract e job.signature net terms f) is'
     by (Check net other terms) is' = not_named name (codes "check") rest (λ ws. IsOverPair ws job.signature net other terms) (λ e f. check e job.signature net other terms f) is'
     by (Same net other terms) is' = not_named name (codes "same") rest (λ ws. IsOverTwoNets ws job.signature net other terms) (λ e f. same e job.signature net other terms f) is'
-    by (Iso other) is' = not_named name (codes "iso") rest (λ ws. IsOverFile ws job.signature other) (λ e f. iso e job.signature other f) is'
-    by (Lift file) is' = not_named name (codes "lift") rest (λ ws. IsOverFile ws job.signature file) (λ e f. lift e job.signature file f) is'
-    by (Table net) is' = not_named name (codes "table") rest (λ ws. IsOverOneNet ws job.signature net) (λ e f. table e job.signature net f) is'
 
 -- operands without options that set a bound are none of a command
 pub not_over_net : (signature net : Word) (options : List Word) → ((t : ℕ) → AreOptions options t → ⊥) → (s n : Word) (t : ℕ) → IsOverNet (signature ∷ net ∷ options) s n t → ⊥
@@ -52,7 +48,3 @@ not_over_pair signature net other options none s n o t is =
 -- a second file that is no netlist
 pub not_second_net : (words : List Word) (s n o : Word) (t : ℕ) → IsOverPair words s n o t → (IsNetlistName o → ⊥) → (s' n' o' : Word) (t' : ℕ) → IsOverTwoNets words s' n' o' t' → ⊥
 not_second_net words s n o t is no_net s' n' o' t' other = no_net (subst IsNetlistName (ap (λ ws. first_word (rest_of (rest_of ws))) (sym other.pair.words_are ∙ is.words_are)) other.second)
-
--- a second file that is no netlist, where nothing stands behind it
-pub not_one_net : (words : List Word) (s n : Word) → IsOverFile words s n → (IsNetlistName n → ⊥) → (s' n' : Word) → IsOverOneNet words s' n' → ⊥
-not_one_net words s n is no_net s' n' other = no_net (subst IsNetlistName (ap (λ ws. first_word (rest_of ws)) (sym other.file.words_are ∙ is.words_are)) other.netlist)

@@ -3,7 +3,7 @@ use Rattle.std.specs.Prelude.{◌≡◌, ℕ, List, ◌∷◌, codes}
 use Rattle.job_words.specs.declared.command.Command.{Command}
 use Rattle.job_words.specs.declared.command.Task.{Task}
 use Rattle.job_words.specs.declared.command.Task.TheVariants as tasks
-use Rattle.job_words.specs.Operands.{Word, IsOverFile, IsOverNet, IsOverOneNet, IsOverPair, IsOverTwoNets}
+use Rattle.job_words.specs.Operands.{Word, IsOverNet, IsOverPair, IsOverTwoNets}
 
 -- what a command does over its signature
 pub data Action : Type 0 where
@@ -11,9 +11,6 @@ pub data Action : Type 0 where
   Abstract : (net : Word) (terms : ℕ) → Action
   Check : (net specification : Word) (terms : ℕ) → Action
   Same : (net other : Word) (terms : ℕ) → Action
-  Iso : (other : Word) → Action
-  Lift : (table : Word) → Action
-  Table : (net : Word) → Action
 
 -- a command with its operands
 pub record Job : Type 0 where
@@ -32,9 +29,6 @@ AreWordsOf words signature (Bits net terms) = IsNamed (codes "bits") (λ rest. I
 AreWordsOf words signature (Abstract net terms) = IsNamed (codes "abstract") (λ rest. IsOverNet rest signature net terms) words
 AreWordsOf words signature (Check net specification terms) = IsNamed (codes "check") (λ rest. IsOverPair rest signature net specification terms) words
 AreWordsOf words signature (Same net other terms) = IsNamed (codes "same") (λ rest. IsOverTwoNets rest signature net other terms) words
-AreWordsOf words signature (Iso other) = IsNamed (codes "iso") (λ rest. IsOverFile rest signature other) words
-AreWordsOf words signature (Lift table) = IsNamed (codes "lift") (λ rest. IsOverFile rest signature table) words
-AreWordsOf words signature (Table net) = IsNamed (codes "table") (λ rest. IsOverOneNet rest signature net) words
 
 -- the words spell the command
 abbrev pub IsSpelled : List Word → Job → Type 0
@@ -46,9 +40,6 @@ action_of (tasks.Bits words) = Bits words.net.now words.terms
 action_of (tasks.Abstract words) = Abstract words.net.now words.terms
 action_of (tasks.Check words) = Check words.net.now words.other.now words.terms
 action_of (tasks.Same words) = Same words.net.now words.other.now words.terms
-action_of (tasks.Iso other) = Iso other.now
-action_of (tasks.Lift table) = Lift table.now
-action_of (tasks.Table net) = Table net.now
 
 -- the command that the program's words gave
 abbrev pub job_of : Command → Job

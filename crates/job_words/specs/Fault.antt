@@ -3,10 +3,9 @@ use Rattle.std.specs.Prelude.{ℕ, List, ◌++◌, codes}
 use Rattle.job_words.specs.declared.fault.Fault.{Fault}
 use Rattle.job_words.specs.declared.fault.Fault.TheVariants as faults
 use Rattle.job_words.specs.FileFault.{file_text}
-use Rattle.job_words.specs.SignatureFault.{second_signature_text, signature_text}
+use Rattle.job_words.specs.SignatureFault.{signature_text}
 use Rattle.job_words.specs.NetlistFault.{netlist_text}
 use Rattle.job_words.specs.SpecificationFault.{specification_text}
-use Rattle.job_words.specs.TableTextFault.{table_text}
 use Rattle.job_words.specs.StageFault.{stage_fault_text}
 
 -- the number and the text of a fault
@@ -16,10 +15,6 @@ fault_text (faults.File fault) = file_text fault
 fault_text (faults.Signature fault) = signature_text fault
 fault_text (faults.Netlist file fault) = netlist_text fault ++ (codes " in " ++ file)
 fault_text (faults.Specification fault) = specification_text fault
-fault_text (faults.SecondSignature fault) = second_signature_text fault
-fault_text faults.Fields = codes "45: the fields do not fit"
-fault_text faults.NotSmall = codes "47: the signature is not small"
-fault_text (faults.Table fault) = table_text fault
 fault_text (faults.Stage fault) = stage_fault_text fault
 
 -- the line of a fault, with its LF
@@ -33,8 +28,4 @@ fault_status (faults.File fault) = 2
 fault_status (faults.Signature fault) = 2
 fault_status (faults.Netlist file fault) = 2
 fault_status (faults.Specification fault) = 2
-fault_status (faults.SecondSignature fault) = 2
-fault_status faults.Fields = 2
-fault_status faults.NotSmall = 2
-fault_status (faults.Table fault) = 2
 fault_status (faults.Stage fault) = 3

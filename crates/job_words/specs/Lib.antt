@@ -4,7 +4,6 @@ pub mod FileFault
 pub mod SignatureFault
 pub mod NetlistFault
 pub mod SpecificationFault
-pub mod TableTextFault
 pub mod StageFault
 pub mod Fault
 pub mod Stop

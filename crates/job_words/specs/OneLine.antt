@@ -57,7 +57,6 @@ repeated_of_netlist fault = []
 abbrev pub repeated : Fault → List Word
 repeated (faults.File fault) = repeated_of_file fault
 repeated (faults.Signature fault) = repeated_of_signature fault
-repeated (faults.SecondSignature fault) = repeated_of_signature fault
 repeated (faults.Netlist name fault) = name ∷ repeated_of_netlist fault
 repeated (faults.Stage fault) = fault.stage ∷ []
 repeated fault = []

@@ -61,14 +61,3 @@ pub record IsOverPair (words : List Word) (signature net other : Word) (terms : 
 pub record IsOverTwoNets (words : List Word) (signature net other : Word) (terms : ℕ) : Type 0 where
   pub pair : IsOverPair words signature net other terms
   pub second : IsNetlistName other
-
--- a signature and a second file, and nothing behind them
-pub record IsOverFile (words : List Word) (signature file : Word) : Type 0 where
-  pub words_are : words ≡ signature ∷ file ∷ []
-  pub signature_is : IsOperand signature
-  pub file_is : IsOperand file
-
--- the same where the second file is a netlist
-pub record IsOverOneNet (words : List Word) (signature net : Word) : Type 0 where
-  pub file : IsOverFile words signature net
-  pub netlist : IsNetlistName net

@@ -21,21 +21,3 @@ signature_text signature.NoOutput = codes "28: no output word"
 signature_text (signature.NoOutputInBlock model) = codes "28: no output word in block " ++ model
 signature_text (signature.TwoOutputs line) = codes "28: second output word at line " ++ decimal line
 signature_text (signature.TooManyWords line) = codes "29: ninth word at line " ++ decimal line
-
--- the same of the second of two signatures: its own faults, but those of feeds, say so
-abbrev pub second_signature_text : SignatureFault → List ℕ
-second_signature_text (signature.NoFedWord line) = codes "12: no fed word at line " ++ decimal line
-second_signature_text (signature.FeedTwice line) = codes "12: feed twice at line " ++ decimal line
-second_signature_text (signature.Syntax line) = codes "20: second signature line " ++ decimal line
-second_signature_text signature.Degree = codes "21: second modulus degree"
-second_signature_text signature.Modulus = codes "22: second the modulus is not irreducible"
-second_signature_text signature.TowerPolynomial = codes "22: second the tower polynomial is not irreducible"
-second_signature_text (signature.Dependent line) = codes "23: second dependent basis at line " ++ decimal line
-second_signature_text (signature.Basis line) = codes "24: second basis at line " ++ decimal line
-second_signature_text signature.Tower = codes "25: second tower"
-second_signature_text (signature.Bits line) = codes "26: second bits at line " ++ decimal line
-second_signature_text (signature.NameTwice line) = codes "27: second name twice at line " ++ decimal line
-second_signature_text signature.NoOutput = codes "28: second no output word"
-second_signature_text (signature.NoOutputInBlock model) = codes "28: second no output word in block " ++ model
-second_signature_text (signature.TwoOutputs line) = codes "28: second second output word at line " ++ decimal line
-second_signature_text (signature.TooManyWords line) = codes "29: second ninth word at line " ++ decimal line

@@ -2,7 +2,7 @@
 ghost use Rattle.std.specs.Prelude.{◌≡◌, ◌∷◌, map, string_bytes, IfSome, IfNone};
 ghost use Rattle.job_words.specs.Command.{IsSpelled, job_of};
 
-use crate::operands::{over_file, over_net, over_one_net, over_pair, over_two_nets};
+use crate::operands::{over_net, over_pair, over_two_nets};
 
 /// A command: the signature that it reads first, and what it does over it.
 #[derive(Clone, Copy, Debug)]
@@ -24,12 +24,6 @@ pub enum Task<'a> {
     Check(PairWords<'a>),
     /// `same`: says whether two netlists compute one function, or the input at which they are told apart.
     Same(PairWords<'a>),
-    /// `iso`: prints the isomorphism from the field of the signature of this file.
-    Iso(&'a str),
-    /// `lift`: prints the polynomial of the table of this file.
-    Lift(&'a str),
-    /// `table`: prints the table of the netlist of this file.
-    Table(&'a str),
 }
 
 /// The words of a command over one netlist.
@@ -94,27 +88,6 @@ fn read_command<'a>(name: &str, rest: &'a [String]) -> Option<Command<'a>>
             Some((signature, words)) => Some(Command {
                 signature,
                 task: Task::Same(words),
-            }),
-            None => None,
-        },
-        "iso" => match over_file(rest) {
-            Some((signature, other)) => Some(Command {
-                signature,
-                task: Task::Iso(other),
-            }),
-            None => None,
-        },
-        "lift" => match over_file(rest) {
-            Some((signature, table)) => Some(Command {
-                signature,
-                task: Task::Lift(table),
-            }),
-            None => None,
-        },
-        "table" => match over_one_net(rest) {
-            Some((signature, net)) => Some(Command {
-                signature,
-                task: Task::Table(net),
             }),
             None => None,
         },

@@ -4,10 +4,9 @@ ghost use Rattle.job_words.specs.Fault.{fault_line, fault_status};
 
 use crate::file_fault::{FileFault, file_text};
 use crate::netlist_fault::{NetlistFault, netlist_text};
-use crate::signature_fault::{SignatureFault, second_signature_text, signature_text};
+use crate::signature_fault::{SignatureFault, signature_text};
 use crate::specification_fault::{SpecificationFault, specification_text};
 use crate::stage_fault::{StageFault, stage_fault_text};
-use crate::table_text_fault::{TableTextFault, table_text};
 use net_core::Name;
 use std::alloc::{AllocError, Global};
 
@@ -24,14 +23,6 @@ pub enum Fault {
     Netlist { file: Name, fault: NetlistFault },
     /// The specification is refused.
     Specification(SpecificationFault),
-    /// The second of two signatures, or its field, is refused.
-    SecondSignature(SignatureFault),
-    /// The fields of two signatures do not fit.
-    Fields,
-    /// The signature has too many inputs for a table.
-    NotSmall,
-    /// The table is refused.
-    Table(TableTextFault),
     /// A stage has more terms than the bound.
     Stage(StageFault),
 }
@@ -45,11 +36,7 @@ pub fn status_of(fault: &Fault) -> u8
         | Fault::File(_)
         | Fault::Signature(_)
         | Fault::Netlist { .. }
-        | Fault::Specification(_)
-        | Fault::SecondSignature(_)
-        | Fault::Fields
-        | Fault::NotSmall
-        | Fault::Table(_) => 2,
+        | Fault::Specification(_) => 2,
         Fault::Stage(_) => 3,
     }
 }
@@ -66,12 +53,6 @@ pub fn write_fault(alloc: Global, fault: &Fault) -> Result<Vec<u8>, AllocError>
             line_in(alloc, netlist_text(alloc, fault)?.as_str(), file.as_str())
         }
         Fault::Specification(fault) => line_of(alloc, specification_text(alloc, fault)?.as_str()),
-        Fault::SecondSignature(fault) => {
-            line_of(alloc, second_signature_text(alloc, fault)?.as_str())
-        }
-        Fault::Fields => line_of(alloc, "45: the fields do not fit"),
-        Fault::NotSmall => line_of(alloc, "47: the signature is not small"),
-        Fault::Table(fault) => line_of(alloc, table_text(alloc, fault)?.as_str()),
         Fault::Stage(fault) => line_of(alloc, stage_fault_text(alloc, fault)?.as_str()),
     }
 }

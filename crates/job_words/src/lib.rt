@@ -12,7 +12,6 @@ mod signature_fault;
 mod specification_fault;
 mod stage_fault;
 mod stop;
-mod table_text_fault;
 
 pub use command::{Command, NetWords, PairWords, Task, read_words};
 pub use fault::{Fault, status_of, write_fault};
@@ -23,4 +22,3 @@ pub use signature_fault::SignatureFault;
 pub use specification_fault::SpecificationFault;
 pub use stage_fault::{StageFault, write_stage};
 pub use stop::Stop;
-pub use table_text_fault::TableTextFault;

@@ -1,6 +1,6 @@
 //! Operands and options: the words behind the name of a command.
 ghost use Rattle.std.specs.Prelude.{◌≡◌, [], ◌∷◌, ◌↔◌, map, string_bytes, IsTrue, IfSome, IfNone};
-ghost use Rattle.job_words.specs.Operands.{IsOperand, IsNetlistName, IsTermCount, AreOptions, IsOverFile, IsOverNet, IsOverOneNet, IsOverPair, IsOverTwoNets};
+ghost use Rattle.job_words.specs.Operands.{IsOperand, IsNetlistName, IsTermCount, AreOptions, IsOverNet, IsOverPair, IsOverTwoNets};
 
 use crate::command::{NetWords, PairWords};
 use text_core::read_decimal;
@@ -83,47 +83,6 @@ fn pair_with_options<'a>(
     }
     match read_options(options) {
         Some(terms) => Some((signature, PairWords { net, other, terms })),
-        None => None,
-    }
-}
-
-/// A signature and a second file.
-pub(crate) fn over_file<'a>(words: &'a [String]) -> Option<(&'a str, &'a str)>
-    ensures found { IfSome result (λ r. IsOverFile (map string_bytes words.now) r.0.now r.1.now) }
-    ensures none { IfNone result ((signature file : _) → IsOverFile (map string_bytes words.now) signature file → ⊥) }
-{
-    match words {
-        [signature, file] => two_files(signature.as_str(), file.as_str()),
-        _ => None,
-    }
-}
-
-// The same of two operands.
-fn two_files<'a>(signature: &'a str, file: &'a str) -> Option<(&'a str, &'a str)>
-    ensures found { IfSome result (λ r. IsOverFile (signature.now ∷ file.now ∷ []) r.0.now r.1.now) }
-    ensures none { IfNone result ((s f : _) → IsOverFile (signature.now ∷ file.now ∷ []) s f → ⊥) }
-{
-    if is_operand(signature) && is_operand(file) {
-        Some((signature, file))
-    } else {
-        None
-    }
-}
-
-/// A signature and a netlist.
-#[tactic(auto, using(crate::proofs::SpelledLemmas::not_one_net))]
-pub(crate) fn over_one_net<'a>(words: &'a [String]) -> Option<(&'a str, &'a str)>
-    ensures found { IfSome result (λ r. IsOverOneNet (map string_bytes words.now) r.0.now r.1.now) }
-    ensures none { IfNone result ((signature net : _) → IsOverOneNet (map string_bytes words.now) signature net → ⊥) }
-{
-    match over_file(words) {
-        Some((signature, net)) => {
-            if is_netlist_name(net) {
-                Some((signature, net))
-            } else {
-                None
-            }
-        }
         None => None,
     }
 }

@@ -1,6 +1,6 @@
 //! Why a signature is refused.
 ghost use Rattle.std.specs.Prelude.{◌≡◌, IfOk, string_bytes};
-ghost use Rattle.job_words.specs.SignatureFault.{second_signature_text as second_text_of, signature_text as text_of};
+ghost use Rattle.job_words.specs.SignatureFault.{signature_text as text_of};
 
 use net_core::Name;
 use std::alloc::{AllocError, Global};
@@ -69,43 +69,5 @@ pub(crate) fn signature_text(alloc: Global, fault: &SignatureFault) -> Result<St
             format!(in alloc; "28: second output word at line {line}")
         }
         SignatureFault::TooManyWords { line } => format!(in alloc; "29: ninth word at line {line}"),
-    }
-}
-
-/// The number and the text of a fault of the second of two signatures.
-pub(crate) fn second_signature_text(
-    alloc: Global,
-    fault: &SignatureFault,
-) -> Result<String, AllocError>
-    ensures { IfOk result (λ text. string_bytes text ≡ second_text_of fault.now) }
-{
-    match fault {
-        SignatureFault::NoFedWord { line } => format!(in alloc; "12: no fed word at line {line}"),
-        SignatureFault::FeedTwice { line } => format!(in alloc; "12: feed twice at line {line}"),
-        SignatureFault::Syntax { line } => format!(in alloc; "20: second signature line {line}"),
-        SignatureFault::Degree => format!(in alloc; "21: second modulus degree"),
-        SignatureFault::Modulus => format!(in alloc; "22: second the modulus is not irreducible"),
-        SignatureFault::TowerPolynomial => {
-            format!(in alloc; "22: second the tower polynomial is not irreducible")
-        }
-        SignatureFault::Dependent { line } => {
-            format!(in alloc; "23: second dependent basis at line {line}")
-        }
-        SignatureFault::Basis { line } => format!(in alloc; "24: second basis at line {line}"),
-        SignatureFault::Tower => format!(in alloc; "25: second tower"),
-        SignatureFault::Bits { line } => format!(in alloc; "26: second bits at line {line}"),
-        SignatureFault::NameTwice { line } => format!(in alloc;
-            "27: second name twice at line {line}"
-        ),
-        SignatureFault::NoOutput => format!(in alloc; "28: second no output word"),
-        SignatureFault::NoOutputInBlock { model } => {
-            format!(in alloc; "28: second no output word in block {}", model.as_str())
-        }
-        SignatureFault::TwoOutputs { line } => {
-            format!(in alloc; "28: second second output word at line {line}")
-        }
-        SignatureFault::TooManyWords { line } => format!(in alloc;
-            "29: second ninth word at line {line}"
-        ),
     }
 }

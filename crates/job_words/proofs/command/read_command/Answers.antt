@@ -10,9 +10,6 @@ returns-in-None-clause-none c =
     (λ e. letters (codes "abstract") (codes "bits") _ (λ d. absurd (omega arith)) (sym e ∙ named))
     (λ e. letters (codes "check") (codes "bits") _ (λ d. absurd (omega arith)) (sym e ∙ named))
     (λ e. letters (codes "same") (codes "bits") _ (λ d. absurd (omega arith)) (sym e ∙ named))
-    (λ e. letters (codes "iso") (codes "bits") _ (λ d. absurd (omega arith)) (sym e ∙ named))
-    (λ e. letters (codes "lift") (codes "bits") _ (λ d. absurd (omega arith)) (sym e ∙ named))
-    (λ e. letters (codes "table") (codes "bits") _ (λ d. absurd (omega arith)) (sym e ∙ named))
 
 pub returns-in-None-over_net-clause-none : goal.returns-in-None-over_net-clause-none
 returns-in-None-over_net-clause-none c =
@@ -22,9 +19,6 @@ returns-in-None-over_net-clause-none c =
     (λ e. c.in-None-over_net.ensures.none)
     (λ e. letters (codes "check") (codes "abstract") _ (λ d. absurd (omega arith)) (sym e ∙ named))
     (λ e. letters (codes "same") (codes "abstract") _ (λ d. absurd (omega arith)) (sym e ∙ named))
-    (λ e. letters (codes "iso") (codes "abstract") _ (λ d. absurd (omega arith)) (sym e ∙ named))
-    (λ e. letters (codes "lift") (codes "abstract") _ (λ d. absurd (omega arith)) (sym e ∙ named))
-    (λ e. letters (codes "table") (codes "abstract") _ (λ d. absurd (omega arith)) (sym e ∙ named))
 
 pub returns-in-None-over_pair-clause-none : goal.returns-in-None-over_pair-clause-none
 returns-in-None-over_pair-clause-none c =
@@ -34,9 +28,6 @@ returns-in-None-over_pair-clause-none c =
     (λ e. letters (codes "abstract") (codes "check") _ (λ d. absurd (omega arith)) (sym e ∙ named))
     (λ e. c.in-None-over_pair.ensures.none)
     (λ e. letters (codes "same") (codes "check") _ (λ d. absurd (omega arith)) (sym e ∙ named))
-    (λ e. letters (codes "iso") (codes "check") _ (λ d. absurd (omega arith)) (sym e ∙ named))
-    (λ e. letters (codes "lift") (codes "check") _ (λ d. absurd (omega arith)) (sym e ∙ named))
-    (λ e. letters (codes "table") (codes "check") _ (λ d. absurd (omega arith)) (sym e ∙ named))
 
 pub returns-in-None-over_two_nets-clause-none : goal.returns-in-None-over_two_nets-clause-none
 returns-in-None-over_two_nets-clause-none c =
@@ -46,42 +37,3 @@ returns-in-None-over_two_nets-clause-none c =
     (λ e. letters (codes "abstract") (codes "same") _ (λ d. absurd (omega arith)) (sym e ∙ named))
     (λ e. letters (codes "check") (codes "same") _ (λ d. absurd (omega arith)) (sym e ∙ named))
     (λ e. c.in-None-over_two_nets.ensures.none)
-    (λ e. letters (codes "iso") (codes "same") _ (λ d. absurd (omega arith)) (sym e ∙ named))
-    (λ e. letters (codes "lift") (codes "same") _ (λ d. absurd (omega arith)) (sym e ∙ named))
-    (λ e. letters (codes "table") (codes "same") _ (λ d. absurd (omega arith)) (sym e ∙ named))
-
-pub returns-in-None-over_file-clause-none : goal.returns-in-None-over_file-clause-none
-returns-in-None-over_file-clause-none c =
-    let named : c.args.name.now ≡ codes "iso" = search rules in
-    not_spelled c.args.name.now (map string_bytes c.args.rest.now)
-    (λ e. letters (codes "bits") (codes "iso") _ (λ d. absurd (omega arith)) (sym e ∙ named))
-    (λ e. letters (codes "abstract") (codes "iso") _ (λ d. absurd (omega arith)) (sym e ∙ named))
-    (λ e. letters (codes "check") (codes "iso") _ (λ d. absurd (omega arith)) (sym e ∙ named))
-    (λ e. letters (codes "same") (codes "iso") _ (λ d. absurd (omega arith)) (sym e ∙ named))
-    (λ e. c.in-None-over_file.ensures.none)
-    (λ e. letters (codes "lift") (codes "iso") _ (λ d. absurd (omega arith)) (sym e ∙ named))
-    (λ e. letters (codes "table") (codes "iso") _ (λ d. absurd (omega arith)) (sym e ∙ named))
-
-pub returns-in-None-over_file-2-clause-none : goal.returns-in-None-over_file-2-clause-none
-returns-in-None-over_file-2-clause-none c =
-    let named : c.args.name.now ≡ codes "lift" = search rules in
-    not_spelled c.args.name.now (map string_bytes c.args.rest.now)
-    (λ e. letters (codes "bits") (codes "lift") _ (λ d. absurd (omega arith)) (sym e ∙ named))
-    (λ e. letters (codes "abstract") (codes "lift") _ (λ d. absurd (omega arith)) (sym e ∙ named))
-    (λ e. letters (codes "check") (codes "lift") _ (λ d. absurd (omega arith)) (sym e ∙ named))
-    (λ e. letters (codes "same") (codes "lift") _ (λ d. absurd (omega arith)) (sym e ∙ named))
-    (λ e. letters (codes "iso") (codes "lift") _ (λ d. absurd (omega arith)) (sym e ∙ named))
-    (λ e. c.in-None-over_file-2.ensures.none)
-    (λ e. letters (codes "table") (codes "lift") _ (λ d. absurd (omega arith)) (sym e ∙ named))
-
-pub returns-in-None-over_one_net-clause-none : goal.returns-in-None-over_one_net-clause-none
-returns-in-None-over_one_net-clause-none c =
-    let named : c.args.name.now ≡ codes "table" = search rules in
-    not_spelled c.args.name.now (map string_bytes c.args.rest.now)
-    (λ e. letters (codes "bits") (codes "table") _ (λ d. absurd (omega arith)) (sym e ∙ named))
-    (λ e. letters (codes "abstract") (codes "table") _ (λ d. absurd (omega arith)) (sym e ∙ named))
-    (λ e. letters (codes "check") (codes "table") _ (λ d. absurd (omega arith)) (sym e ∙ named))
-    (λ e. letters (codes "same") (codes "table") _ (λ d. absurd (omega arith)) (sym e ∙ named))
-    (λ e. letters (codes "iso") (codes "table") _ (λ d. absurd (omega arith)) (sym e ∙ named))
-    (λ e. letters (codes "lift") (codes "table") _ (λ d. absurd (omega arith)) (sym e ∙ named))
-    (λ e. c.in-None-over_one_net.ensures.none)
