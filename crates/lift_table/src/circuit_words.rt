@@ -46,7 +46,7 @@ pub(crate) fn output_word<F: Field>(
     for w in 0..bound.words() {
         if is_output(bound.role(w)) {
             let nets = nets_of(alloc, circuit, w)?;
-            let basis = copied(field, &bases[w as usize]);
+            let basis = copied(alloc, field, &bases[w as usize])?;
             return Ok(CircuitWord {
                 role: Role::Output,
                 nets,
@@ -84,10 +84,11 @@ fn add_word<F: Field>(
     match circuit.bound().role(w) {
         Role::Input | Role::State | Role::Fed => {
             let nets = nets_of(alloc, circuit, w)?;
+            let basis = copied(alloc, field, basis)?;
             list.push(CircuitWord {
                 role: Role::Input,
                 nets,
-                basis: copied(field, basis),
+                basis,
             })?;
             Ok(())
         }
@@ -109,18 +110,17 @@ fn nets_of(alloc: Global, circuit: &Combinational, w: u32) -> Result<Vec<u32>, A
 }
 
 // The same basis anew.
-fn copied<F: Field>(field: &F, basis: &Basis) -> Basis
+fn copied<F: Field>(alloc: Global, field: &F, basis: &Basis) -> Result<Basis, AllocError>
     requires { IsOver (F.degree field.now) (F.product field.now) basis.now }
-    ensures elements { elements_of result ≡ elements_of basis.now }
-    ensures over { IsOver (F.degree field.now) (F.product field.now) result }
+    ensures elements { IfOk result (λ copy. elements_of copy ≡ elements_of basis.now) }
+    ensures over { IfOk result (λ copy. IsOver (F.degree field.now) (F.product field.now) copy) }
 {
-    let k = field.k() as usize;
-    let mut elements = [0; 64];
-    for i in 0..k {
-        elements[i] = basis.element(i as u32);
+    let mut list = Vec::new(alloc);
+    for i in 0..field.k() {
+        list.push(basis.element(i))?;
     }
-    match Basis::list(field, &elements[..k]) {
-        Ok(copy) => copy,
+    match Basis::list(field, &list) {
+        Ok(copy) => Ok(copy),
         Err(_) => unreachable!(),
     }
 }
