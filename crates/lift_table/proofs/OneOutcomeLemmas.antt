@@ -10,7 +10,7 @@ use Rattle.lift_table.specs.TableText.{IsNumber, IsFormed, IsNumberAt, IsRightTo
 use Rattle.lift_table.proofs.ReadingLemmas.{one_value}
 
 -- lists of one length whose elements are the same
-same_lists : (xs ys : List ℕ) → length xs ≡ length ys → ((i x y : ℕ) → slice_get xs i ≡ Some x → slice_get ys i ≡ Some y → x ≡ y) → xs ≡ ys
+pub same_lists : (xs ys : List ℕ) → length xs ≡ length ys → ((i x y : ℕ) → slice_get xs i ≡ Some x → slice_get ys i ≡ Some y → x ≡ y) → xs ≡ ys
 same_lists [] [] long same = refl
 same_lists [] (y ∷ ys) long same = absurd (omega arith)
 same_lists (x ∷ xs) [] long same = absurd (omega arith)

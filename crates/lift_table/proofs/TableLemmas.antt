@@ -3,7 +3,7 @@ use Rattle.std.proofs.Common.{◌≡◌, ◌∙◌, ap, sym, refl, subst, ℕ, z
 use Rattle.std.specs.Prelude.{slice_get}
 use Rattle.std.specs.List.{AllByRecursion}
 use Rattle.std.proofs.lemmas.List.{append_assoc, length-map}
-use Rattle.std.proofs.lemmas.Option.{get_or_from_slice_get}
+use Rattle.std.proofs.lemmas.Option.{get_or_from_slice_get, slice_get_within, slice_get-get_or}
 use Rattle.net_core.specs.Lists.{Has}
 use Rattle.net_core.specs.NetList.{NetList}
 use Rattle.net_core.specs.Sound.{IsSound}
@@ -15,7 +15,9 @@ use Rattle.gf_field.specs.Field.{HasNoZeroDivisors}
 use Rattle.gf_basis.specs.Basis.{IsBasis}
 use Rattle.gf_basis.specs.BasisParts.{elements_of}
 use Rattle.gf_basis.specs.declared.bases.Basis.{Basis}
+use Rattle.gf_field.specs.Element.{AreElements}
 use Rattle.circuit_model.proofs.BoundLemmas.{bound_well}
+use Rattle.circuit_model.proofs.OutLemmas.{some_out, one_out}
 use Rattle.circuit_model.specs.Bases.{AreBases, circuit_in}
 use Rattle.circuit_model.specs.Circuit.{Circuit, IsInput}
 use Rattle.circuit_model.specs.Flat.{circuit_of_parts, word_of}
@@ -27,6 +29,7 @@ use Rattle.circuit_model.specs.declared.circuit_word.CircuitWord.{CircuitWord}
 use Rattle.lift_table.specs.CircuitTable.{IsTableOf}
 use Rattle.lift_table.specs.Table.{row_of}
 use Rattle.lift_table.specs.private.Digits.{digits_of}
+use Rattle.lift_table.proofs.OneOutcomeLemmas.{same_lists}
 use Rattle.lift_table.proofs.RowLemmas.{row_below, one_input, digits_long, digits_below, row_of_digits}
 
 -- one digit more
@@ -89,3 +92,36 @@ table_of circuit table count words long outputs = record {
       let Q : ℕ → Type 0 = λ n. IsOut circuit xs n in
       subst Q value (subst P same (outputs row below));
 }
+
+module _ (circuit : Circuit) (well : IsWellFormed circuit) where
+  -- the input of a row
+  row_input : (row : ℕ) → IsInput circuit (digits_of circuit.k (length circuit.words) row)
+  row_input row = record {
+    long = digits_long circuit.k (length circuit.words) row;
+    elements = digits_elements circuit.k (length circuit.words) row (digits_of circuit.k (length circuit.words) row) refl;
+  }
+
+  -- its output is the value of the row
+  row_output : (table : List ℕ) (row e : ℕ) → IsTableOf circuit table → slice_get table row ≡ Some e → IsOut circuit (digits_of circuit.k (length circuit.words) row) e
+  row_output table row e is got =
+      let k = circuit.k in
+      let count = length circuit.words in
+      let within = slice_get_within table row e got in
+      let below : row < 2 ^ (k * count) = omega (arith, within, is.long) in
+      is.values (digits_of k count row) e (row_input row) (ap (slice_get table) (row_of_digits k count row below) ∙ got)
+
+  -- a circuit has one table at most
+  pub one_table : (table other : List ℕ) → IsTableOf circuit table → IsTableOf circuit other → table ≡ other
+  one_table table other a b =
+      same_lists table other (a.long ∙ sym b.long)
+      (λ row x y got there. one_out circuit (digits_of circuit.k (length circuit.words) row) x y well (row_output table row x a got) (row_output other row y b there))
+
+  -- whose values are elements
+  pub table_elements : (table : List ℕ) → IsTableOf circuit table → AreElements circuit.k table
+  table_elements table is row within =
+      let xs = digits_of circuit.k (length circuit.words) row in
+      let e = get_or table row 0 in
+      let out = row_output table row e is (slice_get-get_or table row 0 within) in
+      let found = some_out circuit xs well (row_input row) in
+      let same : found.0 ≡ e = one_out circuit xs found.0 e well found.1 out in
+      subst (λ (n : ℕ). n < 2 ^ circuit.k) same found.2

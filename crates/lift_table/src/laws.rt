@@ -2,6 +2,7 @@
 ghost use Rattle.std.specs.Prelude.{◌≡◌, ◌<◌, ◌*◌, ◌/◌, ◌%◌, ◌^◌, ℕ, List, Some, length, slice_get, take};
 ghost use Rattle.std.specs.List.{AllByRecursion};
 ghost use Rattle.text_core.specs.Outcome.{Determined};
+ghost use Rattle.gf_field.specs.Element.{AreElements};
 ghost use Rattle.gf_field.specs.Polynomial.{sum_of_first};
 ghost use Rattle.gf_field.specs.Power.{power};
 ghost use Rattle.poly_mixed.specs.Polynomial.{IsElement, IsPoint, Point, Terms, value};
@@ -37,6 +38,12 @@ pub fn coefficients_have_the_values<F: Field>(_field: &F)
 /// A table has at most one polynomial.
 pub fn one_table_polynomial<F: Field>(_field: &F)
     ensures { (words : ℕ) (table : List ℕ) (ts us : Terms) → IsPolynomialOfTable (F.degree _field.now) (F.product _field.now) words table ts → IsPolynomialOfTable (F.degree _field.now) (F.product _field.now) words table us → ts ≡ us }
+{}
+
+/// A well-formed circuit has at most one table, and its values are elements of the field.
+pub fn one_circuit_table()
+    ensures only { (circuit : Circuit) (table other : List ℕ) → IsWellFormed circuit → IsTableOf circuit table → IsTableOf circuit other → table ≡ other }
+    ensures elements { (circuit : Circuit) (table : List ℕ) → IsWellFormed circuit → IsTableOf circuit table → AreElements circuit.k table }
 {}
 
 /// The polynomial of a circuit's table has at each input the circuit's output.
