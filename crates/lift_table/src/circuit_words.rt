@@ -42,16 +42,25 @@ pub(crate) fn output_word<F: Field>(
     ensures word { IfOk result (λ word. word_of word ≡ (circuit_in (F.degree field.now) (F.product field.now) circuit.now bases.now).output) }
     ensures over { IfOk result (λ word. IsOver (F.degree field.now) (F.product field.now) word.basis) }
 {
+    let w = output_place(circuit);
+    let nets = nets_of(alloc, circuit, w)?;
+    let basis = copied(alloc, field, &bases[w as usize])?;
+    Ok(CircuitWord {
+        role: Role::Output,
+        nets,
+        basis,
+    })
+}
+
+// Where the output word stands among the words.
+fn output_place(circuit: &Combinational) -> u32
+    ensures within { result < length circuit.now.bound.words }
+    ensures output { (word : _) → slice_get circuit.now.bound.words result ≡ Some word → word.role ≡ Output }
+{
     let bound = circuit.bound();
     for w in 0..bound.words() {
         if is_output(bound.role(w)) {
-            let nets = nets_of(alloc, circuit, w)?;
-            let basis = copied(alloc, field, &bases[w as usize])?;
-            return Ok(CircuitWord {
-                role: Role::Output,
-                nets,
-                basis,
-            });
+            return w;
         }
     }
     unreachable!()
