@@ -1,5 +1,5 @@
 -- The words of a circuit out of those of its binding.
-use Rattle.std.proofs.Common.{◌≡◌, ◌≢◌, ◌∙◌, ap, sym, refl, subst, ℕ, zero, suc, ◌<◌, ◌≤◌, ◌+◌, true, false, cond, List, [], ◌∷◌, ◌++◌, length, map, drop, filter, Some, arith, append-nil, drop_of_length-le}
+use Rattle.std.proofs.Common.{◌≡◌, ◌≢◌, ◌∙◌, ap, sym, refl, subst, inl, inr, ◌⊎◌, ℕ, zero, suc, ◌<◌, ◌≤◌, ◌+◌, true, false, cond, List, [], ◌∷◌, ◌++◌, length, map, drop, filter, Some, arith, append-nil, drop_of_length-le}
 use Rattle.std.specs.Prelude.{slice_get}
 use Rattle.std.proofs.lemmas.List.{append_assoc}
 use Rattle.net_words.specs.BoundTo.{output_bits, output_bits_with}
@@ -7,7 +7,10 @@ use Rattle.net_words.specs.Roles.{same_role}
 use Rattle.net_words.specs.declared.bound.BoundWord.{BoundWord}
 use Rattle.net_words.specs.declared.word.Role.{Role}
 use Rattle.net_words.specs.declared.word.Role.TheVariants.{Input, State, Fed, Output}
+use Rattle.gf_basis.specs.BasisParts.{IsOver}
+use Rattle.circuit_model.specs.Flat.{AreOver}
 use Rattle.circuit_model.specs.Word.{Word}
+use Rattle.circuit_model.specs.declared.circuit_word.CircuitWord.{CircuitWord}
 use Rattle.circuit_model.specs.OfBinding.{word_with, words_of, output_basis, output_basis_with}
 
 pub some_at : {A : Type 0} (xs : List A) (i : ℕ) → i < length xs → (x : A) × (slice_get xs i ≡ Some x)
@@ -125,3 +128,25 @@ at_output (u ∷ us) (b ∷ bs) (suc w) word basis got at is one = by (at_output
     by later State role = step State role refl refl refl (later (let none : more u.role ≡ 0 = ap more role in omega (arith, none, total)))
     by later Fed role = step Fed role refl refl refl (later (let none : more u.role ≡ 0 = ap more role in omega (arith, none, total)))
     by later Output role = let adds : more u.role ≡ 1 = ap more role in absurd (none_there us (omega (arith, adds, total)) w word got is)
+
+-- the word that is added
+pub added_word : (r : Role) (word : BoundWord) (nets basis : List ℕ) → (r ≡ Input) ⊎ (r ≡ State) ⊎ (r ≡ Fed) → r ≡ word.role → nets ≡ word.nets
+    → ◌≡◌ {A = List Word} (record { role = Input; nets = nets; basis = basis } ∷ []) (word_with word.role word.nets basis)
+added_word r word nets basis is same are =
+    let here : ◌≡◌ {A = List Word} (record { role = Input; nets = nets; basis = basis } ∷ []) (word_with r nets basis) = elim is [
+      | inl e ↦ sym (ap (λ q. word_with q nets basis) e)
+      | inr other ↦ elim other [ inl e ↦ sym (ap (λ q. word_with q nets basis) e) | inr e ↦ sym (ap (λ q. word_with q nets basis) e) ]
+    ] in
+    here ∙ (λ i. word_with (same i) (are i) basis)
+
+appended_over : (k : ℕ) (mul : ℕ → ℕ → ℕ) (word : CircuitWord) → IsOver k mul word.basis → (ws : List CircuitWord) → AreOver k mul ws → AreOver k mul (ws ++ word ∷ [])
+appended_over k mul word here [] each w (zero, got) = let same : word ≡ w = cc got in (let Q : CircuitWord → Type 0 = λ v. IsOver k mul v.basis in subst Q same here)
+appended_over k mul word here [] each w (suc i, got) = absurd (cc got)
+appended_over k mul word here (v ∷ ws) each w (zero, got) = each w (0, got)
+appended_over k mul word here (v ∷ ws) each w (suc i, got) = appended_over k mul word here ws (λ u has. each u (suc has.0, has.1)) w (i, got)
+
+-- one word more over the field
+pub pushed_over : (k : ℕ) (mul : ℕ → ℕ → ℕ) (before after : List CircuitWord) (word : CircuitWord) → after ≡ before ++ word ∷ [] → AreOver k mul before → IsOver k mul word.basis → AreOver k mul after
+pushed_over k mul before after word is over here =
+    let P : List CircuitWord → Type 0 = AreOver k mul in
+    subst P (sym is) (appended_over k mul word here before over)

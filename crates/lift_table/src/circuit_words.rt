@@ -1,6 +1,7 @@
 //! The words of a circuit of one cycle with their bases, for the plain program that evaluates it.
 ghost use Rattle.std.specs.Prelude.{◌≡◌, ◌<◌, ◌++◌, ◌↔◌, ℕ, length, map, slice_get, Some, IfOk, IsTrue, OnOk};
 ghost use Rattle.gf_basis.specs.BasisParts.{elements_of, IsOver};
+ghost use Rattle.net_words.specs.OneCycle.{IsOneCycle};
 ghost use Rattle.net_words.specs.declared.word.Role.TheVariants.{Output};
 ghost use Rattle.circuit_model.specs.Bases.{AreBases, circuit_in};
 ghost use Rattle.circuit_model.specs.Flat.{AreOver, word_of};
@@ -56,6 +57,7 @@ pub(crate) fn output_word<F: Field>(
 fn output_place(circuit: &Combinational) -> u32
     ensures within { result < length circuit.now.bound.words }
     ensures output { (word : _) → slice_get circuit.now.bound.words result ≡ Some word → word.role ≡ Output }
+    ensures is_bound { IsOneCycle circuit.now.net circuit.now.bound }
 {
     let bound = circuit.bound();
     for w in 0..bound.words() {
