@@ -34,6 +34,7 @@ pub fn read_table(alloc: Global, bytes: &[u8], k: u32, words: u32) -> Result<Vec
     if rest.is_empty() {
         Ok(table)
     } else {
+        let (_surplus, _after) = next_line(rest);
         Err(TableFault::Syntax { line: rows + 2 })
     }
 }
