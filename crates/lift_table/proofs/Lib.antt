@@ -1,0 +1,11 @@
+pub mod SumLemmas
+pub mod GatherLemmas
+pub mod InterpolationLemmas
+pub mod OneWordLemmas
+pub mod RowLemmas
+pub mod ReadingLemmas
+pub mod OneOutcomeLemmas
+pub mod PolynomialLemmas
+pub mod LiftingLemmas
+pub mod CircuitWordLemmas
+pub mod TableLemmas

@@ -1,0 +1,58 @@
+use Rattle.std.proofs.Common.{◌≡◌, ◌<◌, ◌≤◌, ◌+◌, ◌-◌, ◌*◌, ◌^◌, suc, ap, sym, subst, ◌∙◌, length, List, set, drop, get_or, ℕ, arith}
+use Rattle.std.specs.List.{AllByRecursion}
+use Rattle.poly_mixed.specs.Uniqueness.{IsZeros}
+use Rattle.lift_table.specs.OneWord.{AreColumns}
+use Rattle.lift_table.specs.private.Lifting.{AddsTable, IsOfWords}
+use Rattle.lift_table.proofs.LiftingLemmas.{HasColumns, no_columns, one_column, all_columns}
+use Rattle.lift_table.proofs.RowLemmas.{rows_split}
+use Rattle.lift_table.proofs.lifting.+add_terms.Goals as goal
+
+pub columns-requires-clause-long : goal.columns-requires-clause-long
+columns-requires-clause-long g t c =
+    let k = g.F.Ring.degree c.args.field.now in
+    let some : 1 ≤ c.args.words = omega arith in
+    c.requires.long ∙ (rows_split k c.args.words some ∙ ap (λ n. n * 2 ^ k) (sym c.rows_of-n.ensures))
+
+pub loop-e-init : goal.loop-e-init
+loop-e-init g t c =
+    no_columns (g.F.Ring.degree c.args.field.now) (g.F.Ring.product c.args.field.now) (g.met.F.Ring.laws c.args.field.now) (g.met.F.Field.no_zero_divisors c.args.field.now)
+    (c.args.words - 1) c.args.exponents.now c.in_ok-columns.columns.items c.args.sum.now.terms c.requires.sum
+
+pub loop-e-preserved : goal.loop-e-preserved
+loop-e-preserved g t c =
+    let k = g.F.Ring.degree c.args.field.now in
+    let mul : ℕ → ℕ → ℕ = g.F.Ring.product c.args.field.now in
+    let w = c.args.words - 1 in
+    let few : w < 8 = omega (arith, c.requires.few) in
+    let within : w < c.args.words = omega arith in
+    let before = c.loop-e.sum.terms in
+    let new = c.add_terms.new.sum.terms in
+    let with_is : c.with_exponent-with.result ≡ set c.args.exponents.now w c.loop-e.e = c.with_exponent-with.ensures in
+    let part_is : c.deref-in-loop-e.result.now ≡ c.in_ok-part.part.items = c.deref-in-loop-e.ensures.value in
+    let P : List ℕ → Type 0 = λ es. AddsTable k mul w es c.deref-in-loop-e.result.now before new in
+    let Q : List ℕ → Type 0 = λ part. AddsTable k mul w (set c.args.exponents.now w c.loop-e.e) part before new in
+    let R : List ℕ → Type 0 = λ es. (every : ℕ) → w ≤ every → IsZeros (drop every es) → AllByRecursion (IsOfWords every) before → AllByRecursion (IsOfWords every) new in
+    one_column k mul (g.met.F.Ring.laws c.args.field.now) (g.met.F.Field.no_zero_divisors c.args.field.now)
+    w c.args.exponents.now c.in_ok-columns.columns.items c.in_ok-part.part.items c.loop-e.e c.args.sum.now.terms before new few c.told-exponents (c.requires.zeros w within) c.loop-e.invariant
+    (c.in_ok-part.ensures.long ∙ c.rows_of-n.ensures)
+    (λ i less.
+    c.in_ok-part.ensures.at i (subst (λ (n : ℕ). i < n) (sym c.rows_of-n.ensures) less)
+    ∙ (ap (λ (xs : List ℕ). get_or xs (i * c.elements_of-count.result + c.loop-e.e) 0) c.deref.ensures.value
+    ∙ ap (λ n. get_or c.in_ok-columns.columns.items (i * n + c.loop-e.e) 0) c.elements_of-count.ensures))
+    c.in_ok-add_terms.ensures.reduced (subst Q part_is (subst P with_is c.in_ok-add_terms.ensures.values)) (subst R with_is c.in_ok-add_terms.ensures.words)
+
+pub returns-clause-values : goal.returns-clause-values
+returns-clause-values g t c =
+    let k = g.F.Ring.degree c.args.field.now in
+    let mul : ℕ → ℕ → ℕ = g.F.Ring.product c.args.field.now in
+    let w = c.args.words - 1 in
+    let some : 1 ≤ c.args.words = omega arith in
+    let few : w < 8 = omega (arith, c.requires.few) in
+    let whole : suc w ≡ c.args.words = omega arith in
+    let count : c.loop-e.e ≡ 2 ^ k = omega (arith, c.elements_of-count.ensures) in
+    let P : ℕ → Type 0 = λ m. AddsTable k mul m c.args.exponents.now c.args.table.now c.args.sum.now.terms c.loop-e.sum.terms in
+    let Q : ℕ → Type 0 = λ n. AreColumns k mul n c.args.table.now c.in_ok-columns.columns.items in
+    let R : ℕ → Type 0 = λ m. HasColumns k mul w c.args.exponents.now c.in_ok-columns.columns.items m c.args.sum.now.terms c.loop-e.sum.terms in
+    subst P whole (all_columns k mul (g.met.F.Ring.laws c.args.field.now) (g.met.F.Field.no_zero_divisors c.args.field.now)
+    w c.args.exponents.now c.args.table.now c.in_ok-columns.columns.items c.args.sum.now.terms c.loop-e.sum.terms few (c.requires.long ∙ rows_split k c.args.words some) c.requires.elements
+    (subst Q c.rows_of-n.ensures c.in_ok-columns.ensures) (subst R count c.loop-e.invariant))

@@ -1,0 +1,14 @@
+-- Terms of tables, for the clauses of private functions. Source: this project's own.
+use Rattle.std.specs.Prelude.{◌≡◌, ℕ, List, [], bit_xor, drop, take}
+use Rattle.poly_mixed.specs.Monomial.{Monomial}
+use Rattle.poly_mixed.specs.Polynomial.{Terms, Point, IsPoint, powers, value}
+use Rattle.poly_mixed.specs.Uniqueness.{IsZeros}
+use Rattle.lift_table.specs.Table.{IsTableValue}
+
+-- new has at each point the value of old and the product of the table's value at the first words with these powers
+abbrev pub AddsTable : ℕ → (ℕ → ℕ → ℕ) → ℕ → List ℕ → List ℕ → Terms → Terms → Type 0
+AddsTable k mul words exponents table old new = (p : Point) (e : ℕ) → IsPoint k p → IsTableValue k table (take words p.words) e → value mul p new ≡ bit_xor (value mul p old) (mul e (powers mul exponents p.words))
+
+-- no word from this one on stands in the term, and no bit
+abbrev pub IsOfWords : ℕ → Monomial × ℕ → Type 0
+IsOfWords words t = IsZeros (drop words t.0.exponents) × (t.0.bits ≡ [])

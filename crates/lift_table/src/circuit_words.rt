@@ -1,0 +1,137 @@
+//! The words of a circuit of one cycle with their bases, for the plain program that evaluates it.
+ghost use Rattle.std.specs.Prelude.{◌≡◌, ◌<◌, ◌++◌, ◌↔◌, ℕ, length, map, slice_get, Some, IfOk, IsTrue, OnOk};
+ghost use Rattle.gf_basis.specs.BasisParts.{elements_of, IsOver};
+ghost use Rattle.net_words.specs.OneCycle.{IsOneCycle};
+ghost use Rattle.net_words.specs.declared.word.Role.TheVariants.{Output};
+ghost use Rattle.circuit_model.specs.Bases.{AreBases, circuit_in};
+ghost use Rattle.circuit_model.specs.Flat.{AreOver, word_of};
+ghost use Rattle.circuit_model.specs.OfBinding.{word_with};
+
+use circuit_model::CircuitWord;
+use gf_basis::Basis;
+use gf_field::Field;
+use net_words::{Combinational, Role};
+use std::alloc::{AllocError, Global};
+
+/// The input, state and fed words of a circuit, with their bases.
+pub(crate) fn circuit_words<F: Field>(
+    alloc: Global,
+    field: &F,
+    circuit: &Combinational,
+    bases: &[Basis],
+) -> Result<Vec<CircuitWord>, AllocError>
+    requires { AreBases (F.degree field.now) (F.product field.now) circuit.now bases.now }
+    ensures words { IfOk result (λ list. map word_of list.items ≡ (circuit_in (F.degree field.now) (F.product field.now) circuit.now bases.now).words) }
+    ensures over { IfOk result (λ list. AreOver (F.degree field.now) (F.product field.now) list.items) }
+{
+    let bound = circuit.bound();
+    let mut list = Vec::new(alloc);
+    for w in 0..bound.words() {
+        add_word(alloc, field, circuit, w, &bases[w as usize], &mut list)?;
+    }
+    Ok(list)
+}
+
+/// The output word of a circuit, with its basis.
+pub(crate) fn output_word<F: Field>(
+    alloc: Global,
+    field: &F,
+    circuit: &Combinational,
+    bases: &[Basis],
+) -> Result<CircuitWord, AllocError>
+    requires { AreBases (F.degree field.now) (F.product field.now) circuit.now bases.now }
+    ensures word { IfOk result (λ word. word_of word ≡ (circuit_in (F.degree field.now) (F.product field.now) circuit.now bases.now).output) }
+    ensures over { IfOk result (λ word. IsOver (F.degree field.now) (F.product field.now) word.basis) }
+{
+    let w = output_place(circuit);
+    let nets = nets_of(alloc, circuit, w)?;
+    let basis = copied(alloc, field, &bases[w as usize])?;
+    Ok(CircuitWord {
+        role: Role::Output,
+        nets,
+        basis,
+    })
+}
+
+// Where the output word stands among the words.
+fn output_place(circuit: &Combinational) -> u32
+    ensures within { result < length circuit.now.bound.words }
+    ensures output { (word : _) → slice_get circuit.now.bound.words result ≡ Some word → word.role ≡ Output }
+    ensures is_bound { IsOneCycle circuit.now.net circuit.now.bound }
+{
+    let bound = circuit.bound();
+    for w in 0..bound.words() {
+        if is_output(bound.role(w)) {
+            return w;
+        }
+    }
+    unreachable!()
+}
+
+// Whether a word is the output.
+fn is_output(role: Role) -> bool
+    ensures { IsTrue result ↔ (role ≡ Output) }
+{
+    match role {
+        Role::Output => true,
+        Role::Input | Role::State | Role::Fed => false,
+    }
+}
+
+// Adds the next word, unless it is the output word.
+fn add_word<F: Field>(
+    alloc: Global,
+    field: &F,
+    circuit: &Combinational,
+    w: u32,
+    basis: &Basis,
+    list: &mut Vec<CircuitWord>,
+) -> Result<(), AllocError>
+    requires word { w < length circuit.now.bound.words }
+    requires basis { IsOver (F.degree field.now) (F.product field.now) basis.now }
+    ensures added { OnOk result ((word : _) → slice_get circuit.now.bound.words w ≡ Some word → map word_of list.new.items ≡ map word_of list.old.items ++ word_with word.role word.nets (elements_of basis.now)) }
+    ensures over { OnOk result (AreOver (F.degree field.now) (F.product field.now) list.old.items → AreOver (F.degree field.now) (F.product field.now) list.new.items) }
+{
+    match circuit.bound().role(w) {
+        Role::Input | Role::State | Role::Fed => {
+            let nets = nets_of(alloc, circuit, w)?;
+            let basis = copied(alloc, field, basis)?;
+            list.push(CircuitWord {
+                role: Role::Input,
+                nets,
+                basis,
+            })?;
+            Ok(())
+        }
+        Role::Output => Ok(()),
+    }
+}
+
+// The nets of a word.
+fn nets_of(alloc: Global, circuit: &Combinational, w: u32) -> Result<Vec<u32>, AllocError>
+    requires { w < length circuit.now.bound.words }
+    ensures { IfOk result (λ nets. (word : _) → slice_get circuit.now.bound.words w ≡ Some word → nets.items ≡ word.nets) }
+{
+    let bound = circuit.bound();
+    let mut nets = Vec::new(alloc);
+    for place in 0..bound.k() {
+        nets.push(bound.net(w, place))?;
+    }
+    Ok(nets)
+}
+
+// The same basis anew.
+fn copied<F: Field>(alloc: Global, field: &F, basis: &Basis) -> Result<Basis, AllocError>
+    requires { IsOver (F.degree field.now) (F.product field.now) basis.now }
+    ensures elements { IfOk result (λ copy. elements_of copy ≡ elements_of basis.now) }
+    ensures over { IfOk result (λ copy. IsOver (F.degree field.now) (F.product field.now) copy) }
+{
+    let mut list = Vec::new(alloc);
+    for i in 0..field.k() {
+        list.push(basis.element(i))?;
+    }
+    match Basis::list(field, &list) {
+        Ok(copy) => Ok(copy),
+        Err(_) => unreachable!(),
+    }
+}

@@ -1,0 +1,52 @@
+//! Laws of tables. These functions do nothing: their contracts are proved of the definitions alone.
+ghost use Rattle.std.specs.Prelude.{◌≡◌, ◌<◌, ◌*◌, ◌/◌, ◌%◌, ◌^◌, ℕ, List, Some, length, slice_get, take};
+ghost use Rattle.std.specs.List.{AllByRecursion};
+ghost use Rattle.text_core.specs.Outcome.{Determined};
+ghost use Rattle.gf_field.specs.Element.{AreElements};
+ghost use Rattle.gf_field.specs.Polynomial.{sum_of_first};
+ghost use Rattle.gf_field.specs.Power.{power};
+ghost use Rattle.poly_mixed.specs.Polynomial.{IsElement, IsPoint, Point, Terms, value};
+ghost use Rattle.circuit_model.specs.Circuit.{Circuit};
+ghost use Rattle.circuit_model.specs.Out.{IsOut};
+ghost use Rattle.circuit_model.specs.WellFormed.{IsWellFormed};
+ghost use Rattle.lift_table.specs.CircuitTable.{IsTableOf};
+ghost use Rattle.lift_table.specs.OneWord.{coefficient_of};
+ghost use Rattle.lift_table.specs.Table.{row_of};
+ghost use Rattle.lift_table.specs.TablePolynomial.{IsPolynomialOfTable};
+ghost use Rattle.lift_table.specs.TableText.{TableOutcome};
+
+use gf_field::Field;
+
+/// Word w of an input is the row divided by 2^(k*w), modulo 2^k; each row below 2^(k*m) is that of one input of m words.
+pub fn rows_are_digits()
+    ensures digit { (k : ℕ) (xs : List ℕ) (w x : ℕ) → AllByRecursion (IsElement k) xs → slice_get xs w ≡ Some x → row_of k xs / 2 ^ (k * w) % 2 ^ k ≡ x }
+    ensures below { (k : ℕ) (xs : List ℕ) → AllByRecursion (IsElement k) xs → row_of k xs < 2 ^ (k * length xs) }
+    ensures some { (k words row : ℕ) → row < 2 ^ (k * words) → (xs : List ℕ) × (length xs ≡ words) × AllByRecursion (IsElement k) xs × (row_of k xs ≡ row) }
+    ensures only { (k : ℕ) (xs ys : List ℕ) → length xs ≡ length ys → AllByRecursion (IsElement k) xs → AllByRecursion (IsElement k) ys → row_of k xs ≡ row_of k ys → xs ≡ ys }
+{}
+
+/// At most one table or fault comes of a text.
+pub fn one_table_or_fault()
+    ensures { (k n : ℕ) (bytes : List ℕ) → Determined (TableOutcome k n bytes) }
+{}
+
+/// In one word the polynomial with the coefficients of a function has the function's values.
+pub fn coefficients_have_the_values<F: Field>(_field: &F)
+    ensures { (v : ℕ → ℕ) (x : ℕ) → ((y : ℕ) → y < 2 ^ F.degree _field.now → v y < 2 ^ F.degree _field.now) → x < 2 ^ F.degree _field.now → sum_of_first (2 ^ F.degree _field.now) (λ e. F.product _field.now (coefficient_of (F.degree _field.now) (F.product _field.now) v e) (power (F.product _field.now) x e)) ≡ v x }
+{}
+
+/// A table has at most one polynomial.
+pub fn one_table_polynomial<F: Field>(_field: &F)
+    ensures { (words : ℕ) (table : List ℕ) (ts us : Terms) → IsPolynomialOfTable (F.degree _field.now) (F.product _field.now) words table ts → IsPolynomialOfTable (F.degree _field.now) (F.product _field.now) words table us → ts ≡ us }
+{}
+
+/// A well-formed circuit has at most one table, and its values are elements of the field.
+pub fn one_circuit_table()
+    ensures only { (circuit : Circuit) (table other : List ℕ) → IsWellFormed circuit → IsTableOf circuit table → IsTableOf circuit other → table ≡ other }
+    ensures elements { (circuit : Circuit) (table : List ℕ) → IsWellFormed circuit → IsTableOf circuit table → AreElements circuit.k table }
+{}
+
+/// The polynomial of a circuit's table has at each input the circuit's output.
+pub fn table_polynomials_are_outputs()
+    ensures { (circuit : Circuit) (table : List ℕ) (ts : Terms) → IsWellFormed circuit → IsTableOf circuit table → IsPolynomialOfTable circuit.k circuit.product (length circuit.words) table ts → (p : Point) → IsPoint circuit.k p → IsOut circuit (take (length circuit.words) p.words) (value circuit.product p ts) }
+{}

@@ -1,0 +1,101 @@
+//! The polynomial of a table.
+ghost use Rattle.std.specs.Prelude.{◌≡◌, ◌+◌, ◌*◌, ◌<◌, ◌≤◌, ◌^◌, ℕ, length, drop, slice_index, slice_set, bit_xor, IfOk, OnOk};
+ghost use Rattle.std.specs.List.{AllByRecursion};
+ghost use Rattle.gf_field.specs.Element.{AreElements};
+ghost use Rattle.poly_mixed.specs.Polynomial.{IsElement, IsPoint, IsReduced, Point, powers, value};
+ghost use Rattle.poly_mixed.specs.Uniqueness.{IsZeros};
+ghost use Rattle.lift_table.specs.Small.{IsSmall};
+ghost use Rattle.lift_table.specs.TablePolynomial.{IsPolynomialOfTable};
+ghost use Rattle.lift_table.specs.private.Lifting.{AddsTable, IsOfWords};
+
+use crate::gather::gather;
+use crate::one_word::columns;
+use crate::small::{elements_of, rows_of};
+use gf_field::Field;
+use poly_mixed::{Mono, Poly};
+use std::alloc::{AllocError, Global};
+
+/// The one reduced polynomial of the function of a table of so many words, at most 8, with a row for each input, each value
+/// an element. It answers nothing but the polynomial and want of memory.
+pub fn lift<F: Field>(
+    alloc: Global,
+    field: &F,
+    words: u32,
+    table: &[u64],
+) -> Result<Poly, AllocError>
+    requires small { IsSmall (F.degree field.now) words }
+    requires few { words ≤ 8 }
+    requires long { length table.now ≡ 2 ^ (F.degree field.now * words) }
+    requires elements { AreElements (F.degree field.now) table.now }
+    ensures { IfOk result (λ poly. IsPolynomialOfTable (F.degree field.now) (F.product field.now) words table.now poly.terms) }
+{
+    let mut poly = Poly::zero(alloc);
+    add_terms(alloc, field, words, &[0; 8], table, &mut poly)?;
+    Ok(poly)
+}
+
+// Adds the product of the polynomial of a table of the first words with powers of the others.
+fn add_terms<F: Field>(
+    alloc: Global,
+    field: &F,
+    words: u32,
+    exponents: &[u64; 8],
+    table: &[u64],
+    sum: &mut Poly,
+) -> Result<(), AllocError>
+    requires small { IsSmall (F.degree field.now) words }
+    requires few { words ≤ 8 }
+    requires long { length table.now ≡ 2 ^ (F.degree field.now * words) }
+    requires elements { AreElements (F.degree field.now) table.now }
+    requires exponents { AllByRecursion (IsElement (F.degree field.now)) exponents.now }
+    requires zeros { (v : ℕ) → v < words → slice_index exponents.now v ≡ 0 }
+    requires sum { IsReduced (F.degree field.now) sum.old.terms }
+    ensures reduced { OnOk result (IsReduced (F.degree field.now) sum.new.terms) }
+    ensures values { OnOk result (AddsTable (F.degree field.now) (F.product field.now) words exponents.now table.now sum.old.terms sum.new.terms) }
+    ensures words { OnOk result ((all : ℕ) → words ≤ all → IsZeros (drop all exponents.now) → AllByRecursion (IsOfWords all) sum.old.terms → AllByRecursion (IsOfWords all) sum.new.terms) }
+{
+    if words == 0 {
+        return add_term(alloc, field, exponents, table[0], sum);
+    }
+    let n = rows_of(field, words - 1);
+    let count = elements_of(field);
+    let columns = columns(alloc, field, table, n)?;
+    for e in 0..count {
+        let part = gather(alloc, &columns, count, e, n)?;
+        let with = with_exponent(exponents, words - 1, e as u64);
+        add_terms(alloc, field, words - 1, &with, &part, sum)?;
+    }
+    Ok(())
+}
+
+// These exponents, with this one for a word.
+fn with_exponent(exponents: &[u64; 8], word: u32, exponent: u64) -> [u64; 8]
+    requires { word < 8 }
+    ensures { result ≡ slice_set exponents.now word exponent }
+{
+    let mut with = *exponents;
+    with[word as usize] = exponent;
+    with
+}
+
+// Adds a term of these exponents, or nothing for the coefficient 0.
+fn add_term<F: Field>(
+    alloc: Global,
+    _field: &F,
+    exponents: &[u64; 8],
+    coefficient: u64,
+    sum: &mut Poly,
+) -> Result<(), AllocError>
+    requires coefficient { IsElement (F.degree _field.now) coefficient }
+    requires exponents { AllByRecursion (IsElement (F.degree _field.now)) exponents.now }
+    requires sum { IsReduced (F.degree _field.now) sum.old.terms }
+    ensures reduced { OnOk result (IsReduced (F.degree _field.now) sum.new.terms) }
+    ensures values { OnOk result ((p : Point) → IsPoint (F.degree _field.now) p → value (F.product _field.now) p sum.new.terms ≡ bit_xor (value (F.product _field.now) p sum.old.terms) (F.product _field.now coefficient (powers (F.product _field.now) exponents.now p.words))) }
+    ensures words { OnOk result ((all : ℕ) → IsZeros (drop all exponents.now) → AllByRecursion (IsOfWords all) sum.old.terms → AllByRecursion (IsOfWords all) sum.new.terms) }
+{
+    if coefficient == 0 {
+        return Ok(());
+    }
+    let mono = Mono::new(alloc, &[], exponents)?;
+    sum.add_term(mono, coefficient)
+}

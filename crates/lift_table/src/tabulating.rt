@@ -1,0 +1,90 @@
+//! The table of a circuit's output.
+ghost use Rattle.std.specs.Prelude.{◌≡◌, ◌≤◌, ◌<◌, ◌^◌, ℕ, [], length, IfOk};
+ghost use Rattle.gf_basis.specs.BasisParts.{IsOver};
+ghost use Rattle.net_core.specs.Lists.{Has};
+ghost use Rattle.circuit_model.specs.Bases.{AreBases, circuit_in};
+ghost use Rattle.circuit_model.specs.Flat.{AreOver, circuit_of_parts};
+ghost use Rattle.circuit_model.specs.Out.{IsOut};
+ghost use Rattle.circuit_model.specs.WellFormed.{IsWellFormed};
+ghost use Rattle.lift_table.specs.CircuitTable.{IsTableOf};
+ghost use Rattle.lift_table.specs.Small.{IsSmall};
+ghost use Rattle.lift_table.specs.private.Digits.{digits_of};
+
+use crate::circuit_words::{circuit_words, output_word};
+use crate::small::{rows_of, two_to};
+use circuit_model::{CircuitWord, output};
+use gf_basis::Basis;
+use gf_field::Field;
+use net_core::Net;
+use net_words::Combinational;
+use std::alloc::{AllocError, Global};
+
+/// The output of a circuit at each input, by row; there is one basis of this field for each word of the binding, and each
+/// word has k bits. It answers nothing but the table and want of memory.
+pub fn table<F: Field>(
+    alloc: Global,
+    field: &F,
+    circuit: &Combinational,
+    bases: &[Basis],
+) -> Result<Vec<u64>, AllocError>
+    requires k { circuit.now.bound.k ≡ F.degree field.now }
+    requires bases { AreBases (F.degree field.now) (F.product field.now) circuit.now bases.now }
+    requires small { IsSmall (F.degree field.now) (length (circuit_in (F.degree field.now) (F.product field.now) circuit.now bases.now).words) }
+    ensures { IfOk result (λ table. IsTableOf (circuit_in (F.degree field.now) (F.product field.now) circuit.now bases.now) table.items) }
+{
+    let net = circuit.net();
+    let words = circuit_words(alloc, field, circuit, bases)?;
+    let to = output_word(alloc, field, circuit, bases)?;
+    let rows = rows_of(field, words.len() as u32);
+    let mut table = Vec::new(alloc);
+    for row in 0..rows {
+        let value = value_at(alloc, field, net, &words, &to, row)?;
+        table.push(value)?;
+    }
+    Ok(table)
+}
+
+// The output at the input of a row.
+fn value_at<F: Field>(
+    alloc: Global,
+    field: &F,
+    net: &Net,
+    words: &[CircuitWord],
+    to: &CircuitWord,
+    row: usize,
+) -> Result<u64, AllocError>
+    requires small { F.degree field.now ≤ 8 }
+    requires flat { net.now.latches ≡ [] }
+    requires over { AreOver (F.degree field.now) (F.product field.now) words.now }
+    requires over_output { IsOver (F.degree field.now) (F.product field.now) to.now.basis }
+    requires well { IsWellFormed (circuit_of_parts (F.degree field.now) (F.product field.now) net.now words.now to.now) }
+    ensures { IfOk result (λ e. IsOut (circuit_of_parts (F.degree field.now) (F.product field.now) net.now words.now to.now) (digits_of (F.degree field.now) (length words.now) row) e) }
+{
+    let xs = digits(alloc, field, words.len(), row)?;
+    match output(alloc, field, net, words, to, &xs)? {
+        Some(value) => Ok(value),
+        None => unreachable!(),
+    }
+}
+
+// The digits of a row in base `2^k`, the lowest one first.
+fn digits<F: Field>(
+    alloc: Global,
+    field: &F,
+    count: usize,
+    row: usize,
+) -> Result<Vec<u64>, AllocError>
+    requires { F.degree field.now ≤ 8 }
+    ensures digits { IfOk result (λ list. list.items ≡ digits_of (F.degree field.now) count row) }
+    ensures long { IfOk result (λ list. length list.items ≡ count) }
+    ensures elements { IfOk result (λ list. (x : ℕ) → Has list.items x → x < 2 ^ F.degree field.now) }
+{
+    let base = u64::from(two_to(field.k()));
+    let mut list = Vec::new(alloc);
+    let mut left = row as u64;
+    for _ in 0..count {
+        list.push(left % base)?;
+        left /= base;
+    }
+    Ok(list)
+}
