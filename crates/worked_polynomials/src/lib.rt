@@ -5,8 +5,6 @@
 #[cfg(test)]
 mod circuit_model_tests;
 #[cfg(test)]
-mod lift_table_tests;
-#[cfg(test)]
 mod poly_mixed_tests;
 #[cfg(test)]
 mod rato_reduce_net_tests;
