@@ -23,8 +23,8 @@ returns-in-Ok-clause-gives g c =
     after reply_of c.unrolled.result (SpecificationIn held (labels_of degree c.args.setting.now.signature.words) degree mul c.args.words.now.other.now) (λ spec. CheckUnrolled setting c.args.words.now.net.now c.args.netlist spec c.args.words.now.terms c.args.words.now.cycles) c.in-Ok.spec
     missed failed ⊥ ⊥ (subst P c.in_ok-labels.ensures c.in-Ok.ensures.gives) (λ m. absurd m) (λ f. absurd f) c.unrolled.ensures
 
-pub returns-clause-gives : goal.returns-clause-gives
-returns-clause-gives g c =
+pub returns-in-Err-clause-gives : goal.returns-in-Err-clause-gives
+returns-in-Err-clause-gives g c =
     let degree = g.F.Ring.degree c.args.field.now in
     let mul = g.F.Ring.product c.args.field.now in
     let held = g.S.Shelf.held c.args.shelf.now in
