@@ -21,5 +21,5 @@ pub use laws::{
 pub use lifting::lift;
 pub use reading::read_table;
 pub use small::is_small;
-pub use tabulating::table;
+pub use tabulating::{output_at, table};
 pub use writing::write_table;

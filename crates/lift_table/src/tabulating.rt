@@ -44,6 +44,31 @@ pub fn table<F: Field>(
     Ok(table)
 }
 
+/// The output of a circuit at an input, whose elements stand in the order of the input, state and fed words; there is one
+/// basis of this field for each word of the binding, and each word has k bits. It answers nothing but the output and want
+/// of memory.
+pub fn output_at<F: Field>(
+    alloc: Global,
+    field: &F,
+    circuit: &Combinational,
+    bases: &[Basis],
+    xs: &[u64],
+) -> Result<u64, AllocError>
+    requires k { circuit.now.bound.k ≡ F.degree field.now }
+    requires bases { AreBases (F.degree field.now) (F.product field.now) circuit.now bases.now }
+    requires long { length xs.now ≡ length (circuit_in (F.degree field.now) (F.product field.now) circuit.now bases.now).words }
+    requires elements { (x : ℕ) → Has xs.now x → x < 2 ^ F.degree field.now }
+    ensures { IfOk result (IsOut (circuit_in (F.degree field.now) (F.product field.now) circuit.now bases.now) xs.now) }
+{
+    let net = circuit.net();
+    let words = circuit_words(alloc, field, circuit, bases)?;
+    let to = output_word(alloc, field, circuit, bases)?;
+    match output(alloc, field, net, &words, &to, xs)? {
+        Some(value) => Ok(value),
+        None => unreachable!(),
+    }
+}
+
 // The output at the input of a row.
 fn value_at<F: Field>(
     alloc: Global,
