@@ -1,5 +1,5 @@
 -- The state of a check.
-use Rattle.std.proofs.Common.{◌≡◌, ◌∙◌, ap, sym, refl, subst, inl, inr, ℕ, ◌+◌, ◌<◌, ◌≤◌, zero, suc, List, [], ◌∷◌, ◌++◌, length, map, get_or, Result, Ok, Err, bit_xor, arith}
+use Rattle.std.proofs.Common.{◌≡◌, ◌∙◌, ap, sym, refl, subst, ℕ, ◌<◌, ◌≤◌, zero, suc, List, [], ◌∷◌, ◌++◌, length, map, get_or, Result, Ok, Err, bit_xor, arith}
 use Rattle.std.specs.List.{AllByRecursion}
 use Rattle.std.specs.Prelude.{IfErr, OnOk}
 use lib.Bits.{xor_assoc, xor_zero_l, xor_zero_r}
@@ -10,8 +10,8 @@ use Rattle.poly_mixed.specs.Labels.{Labelling}
 use Rattle.poly_mixed.specs.Polynomial.{Polynomial, Terms, Point, IsPoint, IsReduced, value}
 use Rattle.poly_mixed.specs.Steps.{Step}
 use Rattle.poly_mixed.specs.declared.steps.Generator.{Generator}
-use Rattle.cert_check.specs.Certificate.{Certificate, begun, with_pair, LinesOf}
-use Rattle.cert_check.specs.Running.{generator_value, products, output_value, running, dual_words}
+use Rattle.cert_check.specs.Certificate.{Certificate, with_pair}
+use Rattle.cert_check.specs.Running.{generator_value, products, output_value, dual_words}
 use Rattle.cert_check.specs.Fault.{refusal}
 use Rattle.cert_check.specs.Verdict.{Verdict, IsRunningSum, AsksAtMost, VerdictFrom}
 use Rattle.cert_check.specs.declared.line.Multiplier.{Multiplier}

@@ -1,5 +1,5 @@
 -- At most one outcome may come of a text.
-use Rattle.std.proofs.Common.{◌≡◌, ◌≢◌, ◌∙◌, ap, sym, refl, subst, inl, inr, ℕ, ◌+◌, ◌<◌, ◌≤◌, List, [], ◌∷◌, length, drop, Result, Ok, Err, arith}
+use Rattle.std.proofs.Common.{◌≡◌, ◌∙◌, ap, sym, refl, ℕ, ◌+◌, ◌<◌, ◌≤◌, List, [], ◌∷◌, length, drop, Result, Ok, Err, arith}
 use Rattle.std.specs.Prelude.{Option, Some, None}
 use Rattle.std.specs.Str.Lines.{lines}
 use Rattle.text_core.specs.Outcome.{Outcome, ◌>>=◌, Exactly, Within, Returns, Determined}
@@ -11,7 +11,7 @@ use Rattle.gf_basis.specs.declared.bases.Basis.{Basis}
 use Rattle.net_core.specs.NetList.{NetList}
 use Rattle.net_words.specs.Binding.{BoundNet}
 use Rattle.poly_mixed.specs.Labels.{Labelling}
-use Rattle.poly_mixed.specs.Polynomial.{Terms, IsPolynomialOf}
+use Rattle.poly_mixed.specs.Polynomial.{Terms}
 use Rattle.poly_mixed.specs.TextOutcome.{TextFault, TextOutcome}
 use Rattle.poly_mixed.proofs.FieldLaws.{field_of}
 use Rattle.poly_mixed.proofs.OneOutcome.{one_outcome}
@@ -20,9 +20,8 @@ use Rattle.poly_mixed.proofs.Uniqueness.{unique}
 use Rattle.cert_check.specs.Fault.{fault_at, no_end}
 use Rattle.cert_check.specs.Frame.{Frame, pair_of, share_of, end_of, frame_of, version_of, claim_text}
 use Rattle.cert_check.specs.Scan.{digits_first}
-use Rattle.cert_check.specs.Certificate.{Said, pairs, shares, ends, Certificate, begun, with_shared, with_pair, poly_fault, shared_by, after_hash, IsInWords, Refused, FirstLine, NoLine, PolynomialOf, MultiplierBy, MultiplierOf, InWords, ClaimOf, HeadOf, SaidBy, LineOf, AfterLine, LinesOf, CertificateBy, AsksNothing, CertificateOf}
-use Rattle.cert_check.specs.Running.{running}
-use Rattle.cert_check.specs.Verdict.{Verdict, valid, invalid, IsRunningSum, AsksAtMost, VerdictOn, Check}
+use Rattle.cert_check.specs.Certificate.{Said, pairs, shares, ends, Certificate, begun, with_shared, with_pair, poly_fault, shared_by, after_hash, Refused, FirstLine, NoLine, PolynomialOf, MultiplierBy, MultiplierOf, InWords, ClaimOf, HeadOf, SaidBy, LineOf, AfterLine, LinesOf, CertificateBy, AsksNothing, CertificateOf}
+use Rattle.cert_check.specs.Verdict.{valid, invalid, IsRunningSum, AsksAtMost, VerdictOn, Check}
 use Rattle.cert_check.specs.declared.fault.LineFault.{LineFault}
 use Rattle.cert_check.specs.declared.fault.LineFault.TheVariants.{Syntax}
 use Rattle.cert_check.specs.declared.fault.CertFault.{CertFault}

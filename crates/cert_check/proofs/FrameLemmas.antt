@@ -1,5 +1,5 @@
 -- The generators that lines name are there.
-use Rattle.std.proofs.Common.{◌≡◌, ap, sym, refl, subst, ◌∙◌, ℕ, suc, ◌<◌, ◌+◌, true, false, cond, ◌==◌, List, [], ◌∷◌, length, nat_lt, Some, None, codes, Result, Ok, Err, arith}
+use Rattle.std.proofs.Common.{◌≡◌, sym, refl, subst, ℕ, suc, ◌<◌, ◌+◌, true, false, cond, ◌==◌, List, [], ◌∷◌, length, nat_lt, Some, None, codes, Result, Ok, Err, arith}
 use Rattle.std.specs.Prelude.{Option, bytes_eq}
 use Rattle.std.specs.Option.{option_map}
 use Rattle.std.proofs.lemmas.Bool.{ltb-true}
@@ -11,7 +11,7 @@ use Rattle.poly_mixed.specs.declared.steps.Generator.{Generator}
 use Rattle.poly_mixed.specs.declared.steps.Generator.TheVariants.{Net, Bit}
 use Rattle.cert_check.specs.Driver.{is_driven}
 use Rattle.cert_check.specs.Scan.{is_blank, after_word, after_sign, digits_at, indexed_at}
-use Rattle.cert_check.specs.Frame.{Frame, pair_of, share_of, end_of, after_generator, net_named, bit_found, bit_named, after_number, let_named, paired, shared, after_or, ended, let_line, frame_of}
+use Rattle.cert_check.specs.Frame.{Frame, end_of, after_generator, net_named, bit_found, bit_named, let_named, paired, shared, after_or, ended, let_line, frame_of}
 use Rattle.cert_check.specs.declared.fault.LineFault.{LineFault}
 use Rattle.cert_check.specs.declared.fault.LineFault.TheVariants.{Syntax, NoSuchNet, NoSuchBit, NotDriven}
 use Rattle.cert_check.specs.private.Reading.{IsGenerator, HasGenerator}

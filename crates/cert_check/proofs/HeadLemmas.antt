@@ -1,12 +1,12 @@
 -- What comes of the first two lines.
-use Rattle.std.proofs.Common.{◌≡◌, ◌∙◌, ap, sym, refl, subst, inl, inr, ℕ, List, [], ◌∷◌, length, drop, Result, Ok, Err, arith}
+use Rattle.std.proofs.Common.{◌≡◌, sym, refl, subst, ℕ, List, [], ◌∷◌, length, drop, Ok, Err, arith}
 use Rattle.std.specs.Str.Lines.{lines}
 use Rattle.text_core.specs.Outcome.{Outcome, ◌>>=◌, Exactly, Returns, Fits}
 use Rattle.poly_mixed.specs.Labels.{Labelling}
 use Rattle.poly_mixed.specs.Polynomial.{Terms}
 use Rattle.cert_check.specs.Fault.{fault_at, no_end, line_refusal, refusal}
 use Rattle.cert_check.specs.Frame.{version_of}
-use Rattle.cert_check.specs.Certificate.{Refused, FirstLine, ClaimOf, HeadOf}
+use Rattle.cert_check.specs.Certificate.{FirstLine, ClaimOf, HeadOf}
 use Rattle.cert_check.specs.declared.fault.LineFault.{LineFault}
 use Rattle.cert_check.specs.declared.fault.CertFault.{CertFault}
 use Rattle.cert_check.proofs.StepLemmas.{at_line, cert_first, cert_after}

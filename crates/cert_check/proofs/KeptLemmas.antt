@@ -9,17 +9,14 @@ use Rattle.text_core.proofs.LineLemmas.{lines_at, lines_last}
 use Rattle.text_core.specs.Outcome.{Fits, MayRefuse}
 use Rattle.poly_mixed.specs.Labels.{Labelling}
 use Rattle.poly_mixed.specs.Polynomial.{Polynomial, Terms}
-use Rattle.poly_mixed.specs.Steps.{Step}
 use Rattle.poly_mixed.specs.TextOutcome.{TextFault, text_fault, no_polynomial, no_such_net, no_such_bit, TextOutcome}
 use Rattle.poly_mixed.specs.declared.fault.PolyFault.{PolyFault}
 use Rattle.poly_mixed.specs.declared.fault.PolyFault.TheVariants as poly
-use Rattle.poly_mixed.specs.declared.steps.Generator.{Generator}
 use Rattle.poly_mixed.proofs.OneOutcome.{one_outcome}
-use Rattle.cert_check.specs.Certificate.{Certificate, with_shared, with_pair, InWords}
+use Rattle.cert_check.specs.Certificate.{with_shared, with_pair, InWords}
 use Rattle.cert_check.specs.Fault.{line_refusal}
 use Rattle.cert_check.specs.declared.cert_pairs.Entry.{Entry}
 use Rattle.cert_check.specs.declared.fault.LineFault.{LineFault}
-use Rattle.cert_check.specs.declared.fault.LineFault.TheVariants as own
 use Rattle.cert_check.specs.declared.line.Multiplier.{Multiplier}
 use Rattle.cert_check.specs.declared.line.Multiplier.TheVariants.{Own, Shared}
 use Rattle.cert_check.specs.private.Kept.{terms_of, step_in, certificate_of, IsNumbered, AreEntries}

@@ -1,16 +1,15 @@
 -- What comes of one line, out of what its parts say.
-use Rattle.std.proofs.Common.{◌≡◌, ◌∙◌, ap, sym, refl, subst, inl, inr, ℕ, ◌<◌, List, length, Some, None, Result, Ok, Err, get_or}
-use Rattle.text_core.specs.Outcome.{Outcome, Exactly, Returns, Fits}
+use Rattle.std.proofs.Common.{◌≡◌, ◌∙◌, ap, sym, refl, inl, ℕ, List, length, Some, None, Result, Ok, Err}
+use Rattle.text_core.specs.Outcome.{Exactly, Returns, Fits}
 use Rattle.net_core.specs.NetList.{NetList}
 use Rattle.poly_mixed.specs.Labels.{Labelling}
 use Rattle.poly_mixed.specs.Polynomial.{Polynomial, Terms}
 use Rattle.poly_mixed.specs.declared.steps.Generator.{Generator}
 use Rattle.cert_check.specs.Fault.{line_refusal}
 use Rattle.cert_check.specs.Frame.{Frame, pair_of, share_of, end_of, frame_of}
-use Rattle.cert_check.specs.Certificate.{pairs, shares, ends, PolynomialOf, MultiplierOf, SaidBy, LineOf}
+use Rattle.cert_check.specs.Certificate.{pairs, shares, PolynomialOf, MultiplierOf, SaidBy, LineOf}
 use Rattle.cert_check.specs.declared.fault.LineFault.{LineFault}
 use Rattle.cert_check.specs.declared.line.Multiplier.{Multiplier}
-use Rattle.cert_check.specs.declared.line.Line.{Line}
 use Rattle.cert_check.specs.declared.line.Line.TheVariants.{Pair, Share}
 use Rattle.cert_check.specs.private.Reading.{multiplier_in, said_in}
 use Rattle.cert_check.proofs.StepLemmas.{line_after, line_first, line_returned}

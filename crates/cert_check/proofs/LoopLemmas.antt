@@ -1,10 +1,10 @@
 -- One more line of a certificate.
-use Rattle.std.proofs.Common.{◌≡◌, ◌∙◌, ap, sym, refl, subst, inl, inr, ℕ, ◌+◌, List, [], ◌∷◌, length, drop, Some, None, Result, Ok, Err, arith}
+use Rattle.std.proofs.Common.{◌≡◌, sym, refl, subst, inl, ℕ, ◌+◌, List, [], ◌∷◌, Some, None, Result, Ok, Err}
 use Rattle.text_core.specs.Outcome.{Outcome, ◌>>=◌, Within, Fits}
 use Rattle.net_core.specs.NetList.{NetList}
 use Rattle.poly_mixed.specs.Labels.{Labelling}
 use Rattle.cert_check.specs.Fault.{fault_at, no_end, line_refusal, refusal}
-use Rattle.cert_check.specs.Certificate.{Said, Certificate, with_shared, with_pair, NoLine, LineOf, AfterLine, LinesOf}
+use Rattle.cert_check.specs.Certificate.{Said, Certificate, with_pair, NoLine, LineOf, AfterLine, LinesOf}
 use Rattle.cert_check.specs.declared.fault.LineFault.{LineFault}
 use Rattle.cert_check.specs.declared.fault.CertFault.{CertFault}
 use Rattle.cert_check.specs.declared.line.Line.{Line}

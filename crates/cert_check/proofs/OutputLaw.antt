@@ -1,8 +1,7 @@
 -- A valid claim is the output.
-use Rattle.std.proofs.Common.{◌≡◌, ◌∙◌, ap, sym, refl, subst, ℕ, zero, suc, ◌<◌, List, [], ◌∷◌, length, map, take, Ok, bit_xor, arith}
+use Rattle.std.proofs.Common.{◌≡◌, ◌∙◌, ap, sym, refl, subst, ℕ, zero, suc, ◌<◌, List, [], ◌∷◌, length, map, take, bit_xor, arith}
 use Rattle.std.proofs.lemmas.List.{length-map}
 use Rattle.std.specs.List.{AllByRecursion}
-use Rattle.std.specs.Prelude.{not, filter}
 use lib.Bits.{xor_zero_r}
 use Rattle.gf_field.specs.XorLaws.{xor_same}
 use Rattle.gf_field.specs.Ring.{IsRing}
@@ -12,28 +11,24 @@ use Rattle.gf_basis.specs.declared.bases.Basis.{Basis}
 use Rattle.net_core.specs.Sound.{IsSound}
 use Rattle.net_words.specs.Binding.{BoundNet}
 use Rattle.net_words.specs.OneCycle.{IsOneCycle}
-use Rattle.net_words.specs.Roles.{same_role}
-use Rattle.net_words.specs.declared.word.Role.TheVariants.{Output}
 use Rattle.poly_mixed.specs.Labels.{Labelling, word_at}
 use Rattle.poly_mixed.specs.Polynomial.{Terms, Point, IsPoint, value}
 use Rattle.poly_mixed.specs.Steps.{Step}
 use Rattle.poly_mixed.specs.declared.steps.Generator.{Generator}
 use Rattle.poly_mixed.specs.declared.steps.Generator.TheVariants.{Net, Bit}
-use Rattle.poly_mixed.proofs.FieldLaws.{IsField, field_of}
+use Rattle.poly_mixed.proofs.FieldLaws.{field_of}
 use Rattle.poly_mixed.proofs.FirstWords.{first_point, first_taken, is_first_point, first_alone}
 use Rattle.poly_mixed.proofs.Roots.{independent}
 use Rattle.poly_mixed.proofs.Uniqueness.{unique}
 use Rattle.gf_field.specs.RootsLaws.{HasFewRoots-from_field}
 use Rattle.circuit_model.specs.Bases.{AreBases, circuit_in}
-use Rattle.circuit_model.specs.Circuit.{Circuit}
 use Rattle.circuit_model.specs.Out.{IsOut}
-use Rattle.circuit_model.specs.OfBinding.{words_of}
 use Rattle.circuit_model.proofs.OutLemmas.{one_out}
 use Rattle.circuit_model.proofs.BoundLemmas.{count_of}
 use Rattle.cert_check.specs.Labels.{NameWords}
 use Rattle.cert_check.specs.Certificate.{Certificate}
 use Rattle.cert_check.specs.Running.{dual_words, products, output_value}
-use Rattle.cert_check.specs.Verdict.{IsRunningSum, valid, AsksAtMost, Check}
+use Rattle.cert_check.specs.Verdict.{IsRunningSum, AsksAtMost}
 use Rattle.cert_check.specs.Output.{IsOutput, ProvesOutput}
 use Rattle.cert_check.specs.private.Reading.{IsGenerator}
 use Rattle.cert_check.proofs.SaidLemmas.{IsSaid, said_is}

@@ -1,5 +1,5 @@
 -- The pairs with one more line.
-use Rattle.std.proofs.Common.{◌≡◌, ◌∙◌, ap, sym, refl, subst, ℕ, ◌<◌, ◌≤◌, ◌+◌, ◌^◌, List, [], ◌∷◌, ◌++◌, length, Ok, arith}
+use Rattle.std.proofs.Common.{◌≡◌, sym, refl, subst, ℕ, ◌<◌, ◌≤◌, ◌+◌, ◌^◌, List, [], ◌∷◌, ◌++◌, length, Ok, arith}
 use Rattle.std.proofs.lemmas.List.{length-append}
 use Rattle.net_core.specs.NetList.{NetList}
 use Rattle.poly_mixed.specs.Labels.{Labelling}

@@ -1,16 +1,16 @@
 -- What holds of a certificate that a text says: its generators are there, and its claim is in words alone.
-use Rattle.std.proofs.Common.{◌≡◌, ◌∙◌, ap, sym, refl, subst, ℕ, ◌+◌, ◌≤◌, List, [], ◌∷◌, ◌++◌, length, drop, Result, Ok, Err}
+use Rattle.std.proofs.Common.{◌≡◌, ◌∙◌, ap, sym, refl, subst, ℕ, ◌+◌, ◌≤◌, List, [], ◌∷◌, ◌++◌, length, drop, Ok}
 use Rattle.std.specs.List.{AllByRecursion}
 use Rattle.std.specs.Str.Lines.{lines}
-use Rattle.text_core.specs.Outcome.{Outcome, ◌>>=◌}
+use Rattle.text_core.specs.Outcome.{Outcome}
 use Rattle.net_core.specs.NetList.{NetList}
 use Rattle.poly_mixed.specs.Labels.{Labelling}
 use Rattle.poly_mixed.specs.Polynomial.{Terms, IsReduced}
 use Rattle.poly_mixed.specs.Steps.{Step}
 use Rattle.poly_mixed.specs.declared.steps.Generator.{Generator}
 use Rattle.poly_mixed.proofs.ReadReduced.{read_reduced}
-use Rattle.cert_check.specs.Frame.{Frame, pair_of, share_of, end_of, frame_of}
-use Rattle.cert_check.specs.Certificate.{Said, pairs, shares, ends, Certificate, begun, with_shared, with_pair, NoLine, FirstLine, ClaimOf, SaidBy, LineOf, LinesOf, CertificateBy}
+use Rattle.cert_check.specs.Frame.{pair_of, share_of, end_of}
+use Rattle.cert_check.specs.Certificate.{pairs, shares, ends, Certificate, begun, with_shared, with_pair, NoLine, FirstLine, ClaimOf, LineOf, LinesOf, CertificateBy}
 use Rattle.cert_check.specs.declared.fault.CertFault.{CertFault}
 use Rattle.cert_check.specs.private.Reading.{IsGenerator}
 use Rattle.cert_check.proofs.FrameLemmas.{frame_generator}

@@ -1,5 +1,5 @@
 -- At a run's bits each generator is 0, so that a claim whose last running sum is empty is the output.
-use Rattle.std.proofs.Common.{◌≡◌, ◌∙◌, ap, sym, refl, subst, inl, inr, ℕ, zero, suc, ◌<◌, ◌≤◌, ◌+◌, ◌-◌, ◌*◌, ◌/◌, ◌%◌, ◌^◌, Bool, true, false, cond, ◌==◌, List, [], ◌∷◌, ◌++◌, length, map, take, get_or, Some, None, Ok, bit_xor, arith}
+use Rattle.std.proofs.Common.{◌≡◌, ◌∙◌, ap, sym, refl, subst, ℕ, zero, suc, ◌<◌, ◌+◌, ◌*◌, ◌%◌, ◌^◌, Bool, true, false, cond, ◌==◌, List, [], ◌∷◌, ◌++◌, length, map, take, get_or, Some, bit_xor, arith}
 use Rattle.std.specs.Prelude.{slice_get, Option, is_some}
 use Rattle.std.specs.Int.{bit_at}
 use Rattle.std.specs.List.{AllByRecursion, range_with_len, position_from}
@@ -10,12 +10,10 @@ use Rattle.std.proofs.lemmas.List.{length-map, length-take, get_or-take}
 use Rattle.std.proofs.lemmas.List.FromFn.{get_or-map-range_with_len}
 use Rattle.std.proofs.lemmas.Nat.Bits.{bit_at_lowest, bit_at-suc}
 use Rattle.std.proofs.lemmas.Option.{slice_get_within, get_or_from_slice_get}
-use lib.Bits.{xor_self, xor_zero_r}
-use Rattle.gf_field.specs.XorLaws.{xor_same}
+use lib.Bits.{xor_self}
 use Rattle.graph_core.proofs.ListLemmas.{get_below, get_front}
 use Rattle.gf_field.specs.Ring.{IsRing}
 use Rattle.gf_field.specs.Field.{HasNoZeroDivisors}
-use Rattle.gf_field.specs.Polynomial.{sum_of_first}
 use Rattle.gf_field.specs.Trace.{frobenius}
 use Rattle.irreducible.specs.Span.{combination}
 use Rattle.gf_basis.specs.Basis.{IsBasis, AreBits}
@@ -27,10 +25,9 @@ use Rattle.net_core.specs.GateValue.{GateValue}
 use Rattle.net_core.specs.NetList.{NetList, nets}
 use Rattle.net_core.specs.Lists.{Has, times}
 use Rattle.net_core.specs.Sound.{IsSound}
-use Rattle.net_core.specs.Value.{bit_of, index_of, IsConsistent}
+use Rattle.net_core.specs.Value.{bit_of, index_of}
 use Rattle.net_core.proofs.DriverLemmas.{times_some, from_map}
 use Rattle.net_words.specs.Binding.{BoundNet}
-use Rattle.net_words.specs.BoundTo.{output_bits}
 use Rattle.net_words.specs.OneCycle.{IsOneCycle}
 use Rattle.net_words.specs.Variables.{bits, others, variables}
 use Rattle.net_words.specs.declared.bound.BoundWord.{BoundWord}
@@ -39,15 +36,16 @@ use Rattle.net_words.specs.declared.word.Role.TheVariants.{Input, State, Fed, Ou
 use Rattle.net_words.proofs.RankLemmas.{variables_once}
 use Rattle.circuit_model.specs.Bases.{AreBases, circuit_in}
 use Rattle.circuit_model.specs.Circuit.{Circuit, IsInput}
-use Rattle.circuit_model.specs.OfBinding.{word_with, words_of, output_basis, HaveBases}
+use Rattle.circuit_model.specs.OfBinding.{word_with, words_of, HaveBases}
 use Rattle.circuit_model.specs.Out.{IsOut}
 use Rattle.circuit_model.specs.Run.{IsRun, IsCycle, IsFirst}
 use Rattle.circuit_model.specs.WellFormed.{IsWellFormed}
-use Rattle.circuit_model.specs.Word.{Word, HasElement, word_nets}
+use Rattle.circuit_model.specs.Word.{Word, word_nets}
 use Rattle.circuit_model.proofs.BoundLemmas.{bound_well, word_nets_of}
+use Rattle.circuit_model.proofs.JobLemmas.{job_of, first_elements}
 use Rattle.circuit_model.proofs.SomeRunLemmas.{some_run}
 use Rattle.circuit_model.proofs.WordLemmas.{index_small}
-use Rattle.poly_mixed.specs.Polynomial.{Terms, Point, IsPoint, IsElement, value}
+use Rattle.poly_mixed.specs.Polynomial.{Point, IsPoint, IsElement, value}
 use Rattle.poly_mixed.specs.Steps.{Step}
 use Rattle.poly_mixed.specs.Table.{index, table_bit}
 use Rattle.poly_mixed.specs.declared.steps.Generator.{Generator}
@@ -55,7 +53,7 @@ use Rattle.poly_mixed.specs.declared.steps.Generator.TheVariants.{Net, Bit}
 use Rattle.cert_check.specs.Driver.{driver, driver_position, is_driven}
 use Rattle.cert_check.specs.Running.{net_bit, rank_among, dual_form, dual_words, dual_at, driven_value, generator_value, products, output_value}
 use Rattle.cert_check.proofs.FormLemmas.{same_sum}
-use Rattle.cert_check.proofs.InsideLemmas.{out_below, input_below}
+use Rattle.cert_check.proofs.InsideLemmas.{input_below}
 use Rattle.cert_check.proofs.RankLemmas.{at_rank}
 use Rattle.cert_check.proofs.SumLemmas.{half}
 
@@ -220,7 +218,7 @@ module _ (k : ℕ) (mul : ℕ → ℕ → ℕ) (bound : BoundNet) (bases : List 
     }
 
     pub run : (run : List (List Bool)) × IsRun (circuit_in k mul bound bases) xs run
-    run = some_run (circuit_in k mul bound bases) xs well input
+    run = some_run (circuit_in k mul bound bases) xs (job_of (circuit_in k mul bound bases) well) input
 
     pub last : (v : List Bool) × (slice_get run.0 0 ≡ Some v)
     last = get_below run.0 0 (omega (arith, run.1.open_run.long))
@@ -228,7 +226,7 @@ module _ (k : ℕ) (mul : ℕ → ℕ → ℕ) (bound : BoundNet) (bases : List 
     abbrev pub v : List Bool
     v = last.0
 
-    cycle : IsCycle (circuit_in k mul bound bases) xs v
+    cycle : IsCycle (circuit_in k mul bound bases) xs 0 v
     cycle = run.1.open_run.each 0 last.0 last.1
 
     first : IsFirst (circuit_in k mul bound bases) xs v
@@ -266,7 +264,7 @@ module _ (k : ℕ) (mul : ℕ → ℕ → ℕ) (bound : BoundNet) (bases : List 
         let n = get_below word.nets i (omega (arith, low, (well.words word (w, is.word_at)).nets)) in
         let within : w < length (circuit_in k mul bound bases).words = slice_get_within (circuit_in k mul bound bases).words w word is.word_at in
         let x = get_below xs w (omega (arith, within, input.long)) in
-        let element = first.words w word x.0 is.word_at x.1 tt in
+        let element = first_elements (circuit_in k mul bound bases) xs v well cycle first w word x.0 is.word_at x.1 tt in
         let number : ℕ = index_of v word.nets in
         let P : List ℕ → Type 0 = λ elements. AreBits elements x.0 number in
         let are_bits : AreBits (elements_of is.basis) x.0 number = subst P is.word_is element.sum in

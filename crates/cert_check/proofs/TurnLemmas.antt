@@ -1,13 +1,13 @@
 -- A check, one line after another.
-use Rattle.std.proofs.Common.{◌≡◌, ◌∙◌, ap, sym, refl, subst, inl, inr, ℕ, ◌+◌, ◌<◌, ◌≤◌, List, [], ◌∷◌, length, drop, Some, None, Result, Ok, Err}
+use Rattle.std.proofs.Common.{◌≡◌, sym, refl, subst, inl, inr, ℕ, ◌+◌, ◌<◌, ◌≤◌, List, [], ◌∷◌, length, drop, Some, None, Result, Ok, Err}
 use Rattle.text_core.specs.Outcome.{Outcome, ◌>>=◌, Fits}
 use Rattle.gf_basis.specs.declared.bases.Basis.{Basis}
 use Rattle.net_words.specs.Binding.{BoundNet}
 use Rattle.poly_mixed.specs.Labels.{Labelling}
 use Rattle.poly_mixed.specs.Polynomial.{Terms}
 use Rattle.cert_check.specs.Fault.{fault_at, no_end, line_refusal, refusal}
-use Rattle.cert_check.specs.Certificate.{Certificate, begun, NoLine, LineOf, LinesOf, HeadOf, CertificateBy}
-use Rattle.cert_check.specs.Verdict.{Verdict, IsRunningSum, AsksAtMost, VerdictOn, VerdictFrom, VerdictAtEnd, Check}
+use Rattle.cert_check.specs.Certificate.{Certificate, begun, NoLine, LineOf, LinesOf, HeadOf}
+use Rattle.cert_check.specs.Verdict.{Verdict, IsRunningSum, AsksAtMost, VerdictOn, VerdictFrom, VerdictAtEnd}
 use Rattle.cert_check.specs.declared.fault.LineFault.{LineFault}
 use Rattle.cert_check.specs.declared.fault.CertFault.{CertFault}
 use Rattle.cert_check.specs.declared.fault.CertFault.TheVariants as cert
@@ -17,7 +17,6 @@ use Rattle.cert_check.specs.private.Kept.{with_line, IsKept, LineAsks}
 use Rattle.cert_check.specs.private.Reading.{said_in}
 use Rattle.cert_check.proofs.CheckLemmas.{IsAt}
 use Rattle.cert_check.proofs.LoopLemmas.{AsksAfter, line_fails, line_ends, line_more, line_refused, none_left}
-use Rattle.cert_check.proofs.StepLemmas.{cert_first}
 
 -- a fault of the rest is one of the whole
 pub cert_fails : {X Y A B : Type 0} (view : X → A) (view' : Y → B) (fault : CertFault) (rest : Outcome CertFault A) (whole : Outcome CertFault B) → ((f : CertFault) → rest (Err f) → whole (Err f)) → Fits refusal view (Err fault) rest → Fits refusal view' (Err fault) whole

@@ -1,5 +1,5 @@
 -- A text without `[` and `@` says a polynomial in words alone.
-use Rattle.std.proofs.Common.{◌≡◌, ◌≢◌, ◌∙◌, ap, sym, refl, subst, ℕ, zero, suc, true, false, cond, ◌&&◌, ◌==◌, List, [], ◌∷◌, ◌++◌, length, drop, nat_lt, Some, None, bit_xor}
+use Rattle.std.proofs.Common.{◌≡◌, ◌∙◌, ap, sym, refl, subst, ℕ, zero, suc, true, false, cond, ◌&&◌, ◌==◌, List, [], ◌∷◌, ◌++◌, length, drop, Some, None, bit_xor}
 use Rattle.std.specs.List.{AllByRecursion, list_all}
 use Rattle.std.specs.Prelude.{Option}
 use Rattle.std.proofs.lemmas.Bool.{ne_eqb, eqb-true}
@@ -9,10 +9,10 @@ use Rattle.poly_mixed.specs.Labels.{Labelling}
 use Rattle.poly_mixed.specs.Monomial.{Monomial, text_cmp}
 use Rattle.poly_mixed.specs.Polynomial.{Terms, Point, term_value, value, powers}
 use Rattle.poly_mixed.specs.Scan.{run, after, skip, name_of, index_of, closed_by, is_digit, is_hex_digit, is_letter, word_of}
-use Rattle.poly_mixed.specs.Sum.{with_coefficient, plus}
-use Rattle.poly_mixed.specs.Token.{Named, word, bit, net, Token, variable, hex, figures, plus_sign, times_sign, power_sign, Front, net_front, name_with, name_front, has_digits, number_front, sign_front, token_front, AreFront}
-use Rattle.poly_mixed.specs.Grammar.{Part, number, factor, IsFactor, IsPart, AreJoined, IsTerm, IsPolynomial}
-use Rattle.poly_mixed.specs.Said.{one, with_power, with_part, monomial_of, coefficient_of, added, with_term, sum_of}
+use Rattle.poly_mixed.specs.Sum.{plus}
+use Rattle.poly_mixed.specs.Token.{word, bit, net, Token, variable, hex, figures, plus_sign, times_sign, power_sign, Front, net_front, name_with, name_front, has_digits, number_front, sign_front, token_front, AreFront}
+use Rattle.poly_mixed.specs.Grammar.{Part, number, factor, IsPart, AreJoined, IsTerm}
+use Rattle.poly_mixed.specs.Said.{one, with_power, with_part, monomial_of, coefficient_of, added, sum_of}
 use Rattle.poly_mixed.specs.TextOutcome.{IsRead}
 use Rattle.poly_mixed.proofs.Sums.{all_plus}
 use Rattle.cert_check.specs.Certificate.{IsInWords}

@@ -15,7 +15,7 @@ use Rattle.poly_mixed.specs.declared.steps.Generator.{Generator}
 use Rattle.cert_check.specs.Scan.{is_blank, after_sign, digits_first}
 use Rattle.cert_check.specs.Frame.{Frame, pair_of, share_of, end_of, frame_of, version_of, claim_text}
 use Rattle.cert_check.specs.declared.fault.LineFault.{LineFault}
-use Rattle.cert_check.specs.declared.fault.LineFault.TheVariants.{Syntax, NoSuchNet, NoSuchBit, NotDriven, NoSuchLet, OutOfMemory}
+use Rattle.cert_check.specs.declared.fault.LineFault.TheVariants.{Syntax, NoSuchNet, NoSuchBit, NoSuchLet}
 use Rattle.cert_check.specs.declared.fault.CertFault.{CertFault}
 use Rattle.cert_check.specs.Fault.{fault_at, no_end}
 

@@ -3,7 +3,7 @@ use Rattle.std.specs.Prelude.{ℕ, Option, Some, None}
 use Rattle.cert_check.specs.declared.fault.LineFault.{LineFault}
 use Rattle.cert_check.specs.declared.fault.LineFault.TheVariants as line
 use Rattle.cert_check.specs.declared.fault.CertFault.{CertFault}
-use Rattle.cert_check.specs.declared.fault.CertFault.TheVariants.{Syntax, NoSuchNet, NoSuchBit, NotDriven, NoSuchLet, TooManyTerms, NoEnd, OutOfMemory}
+use Rattle.cert_check.specs.declared.fault.CertFault.TheVariants.{Syntax, NoSuchNet, NoSuchBit, NotDriven, NoSuchLet, NoEnd, OutOfMemory}
 
 -- the fault of the line with this number
 abbrev pub fault_at : ℕ → LineFault → CertFault

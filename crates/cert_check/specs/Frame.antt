@@ -1,7 +1,7 @@
 -- What a line of a certificate begins with, and the text of the polynomial that stands after it.
 -- At one line the first token with a fault decides.
 -- Source: this project's own, docs/FORMATS.md.
-use Rattle.std.specs.Prelude.{ℕ, ◌+◌, Bool, cond, List, [], ◌∷◌, length, nat_lt, ◌==◌, Option, Some, None, Result, Ok, Err, bytes_eq, codes}
+use Rattle.std.specs.Prelude.{ℕ, cond, List, nat_lt, ◌==◌, Option, Some, None, Result, Ok, Err, bytes_eq, codes}
 use Rattle.text_core.specs.Numbers.{value_of}
 use Rattle.net_core.specs.NetList.{NetList, nets}
 use Rattle.poly_mixed.specs.Labels.{Labelling, word_at}
@@ -9,7 +9,7 @@ use Rattle.poly_mixed.specs.Scan.{word_of}
 use Rattle.poly_mixed.specs.declared.steps.Generator.{Generator}
 use Rattle.poly_mixed.specs.declared.steps.Generator.TheVariants.{Net, Bit}
 use Rattle.cert_check.specs.Driver.{is_driven}
-use Rattle.cert_check.specs.Scan.{is_blank, after_word, after_first, after_sign, digits_at, indexed_at}
+use Rattle.cert_check.specs.Scan.{is_blank, after_word, after_sign, digits_at, indexed_at}
 use Rattle.cert_check.specs.declared.fault.LineFault.{LineFault}
 use Rattle.cert_check.specs.declared.fault.LineFault.TheVariants.{Syntax, NoSuchNet, NoSuchBit, NotDriven}
 

@@ -1,5 +1,5 @@
 -- Labels of a circuit's variables. Source: this project's own.
-use Rattle.std.specs.Prelude.{◌≡◌, ℕ, ◌<◌, not, filter, length}
+use Rattle.std.specs.Prelude.{◌≡◌, not, filter, length}
 use Rattle.std.specs.List.{AllByRecursion}
 use Rattle.net_words.specs.Binding.{Binding}
 use Rattle.net_words.specs.Roles.{same_role}

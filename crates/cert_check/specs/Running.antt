@@ -9,12 +9,12 @@ use Rattle.gf_field.specs.Trace.{frobenius}
 use Rattle.irreducible.specs.Span.{combination}
 use Rattle.gf_basis.specs.BasisParts.{elements_of, duals_of}
 use Rattle.gf_basis.specs.declared.bases.Basis.{Basis}
-use Rattle.net_core.specs.NetList.{NetList, nets}
+use Rattle.net_core.specs.NetList.{nets}
 use Rattle.net_core.specs.GateValue.{GateValue}
 use Rattle.net_words.specs.Binding.{BoundNet}
 use Rattle.net_words.specs.BoundTo.{output_bits}
 use Rattle.net_words.specs.Variables.{variables}
-use Rattle.poly_mixed.specs.Polynomial.{Terms, Point, value}
+use Rattle.poly_mixed.specs.Polynomial.{Point, value}
 use Rattle.poly_mixed.specs.Steps.{Step}
 use Rattle.poly_mixed.specs.Table.{index, table_value}
 use Rattle.poly_mixed.specs.declared.steps.Generator.{Generator}

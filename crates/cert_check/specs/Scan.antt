@@ -1,7 +1,6 @@
 -- Tokens of a line's frame: words, numbers, `W[i]` and signs, each as long as it can be, spaces and tabs before it.
 -- Source: this project's own, docs/FORMATS.md.
-use Rattle.std.specs.Prelude.{ℕ, Bool, false, ◌&&◌, ◌||◌, not, cond, List, [], ◌∷◌, length, drop, nat_lt, ◌==◌, Option, Some, None, bytes_eq}
-use Rattle.text_core.specs.Numbers.{value_of}
+use Rattle.std.specs.Prelude.{ℕ, Bool, false, ◌&&◌, cond, List, [], ◌∷◌, length, drop, nat_lt, ◌==◌, Option, Some, None, bytes_eq}
 use Rattle.poly_mixed.specs.Scan.{run, after, skip, name_of, index_of, is_digit, is_name_byte, is_letter}
 use Rattle.poly_mixed.specs.Token.{has_digits}
 

@@ -9,7 +9,7 @@ use Rattle.poly_mixed.specs.Polynomial.{Terms, IsReduced}
 use Rattle.poly_mixed.specs.declared.steps.Generator.{Generator}
 use Rattle.poly_mixed.specs.declared.steps.Generator.TheVariants.{Net, Bit}
 use Rattle.cert_check.specs.Certificate.{Said, pairs, shares, ends}
-use Rattle.cert_check.specs.Driver.{driver_position, is_driven}
+use Rattle.cert_check.specs.Driver.{is_driven}
 use Rattle.cert_check.specs.Frame.{Frame, pair_of, share_of, end_of}
 use Rattle.cert_check.specs.declared.fault.LineFault.{LineFault}
 use Rattle.cert_check.specs.declared.fault.LineFault.TheVariants as own

@@ -1,5 +1,5 @@
 -- Runs of bytes as the code scans them. Source: this project's own.
-use Rattle.std.specs.Prelude.{◌≡◌, ℕ, Bool, Option, None, Some, List}
+use Rattle.std.specs.Prelude.{ℕ, Bool, Option, None, Some, List}
 use denote.Ref.{Bor}
 use Rattle.text_core.specs.Lines.{is_blank}
 use Rattle.poly_mixed.specs.Scan.{is_digit, is_hex_digit, is_name_byte}

@@ -1,13 +1,13 @@
-use Rattle.std.proofs.Common.{◌≡◌, ◌∙◌, ap, sym, refl, subst, ℕ, ◌+◌, ◌≤◌, List, [], length, Result, None, Some, Ok, Err, arith, rules}
+use Rattle.std.proofs.Common.{◌≡◌, ◌∙◌, ap, sym, subst, ℕ, ◌+◌, ◌≤◌, length, Ok, Err, arith, rules}
 use Rattle.std.proofs.lemmas.Grind.{common_steps}
 use Rattle.std.specs.Prelude.{Option}
 use Rattle.std.specs.Str.Lines.{lines}
 use Rattle.std.proofs.lemmas.List.{length-map}
-use Rattle.text_core.specs.Outcome.{Outcome, Fits}
-use Rattle.poly_mixed.specs.Polynomial.{Polynomial, Terms}
-use Rattle.cert_check.specs.Fault.{fault_at, line_refusal, refusal}
-use Rattle.cert_check.specs.Certificate.{Certificate, begun, LineOf}
-use Rattle.cert_check.specs.Verdict.{Verdict, VerdictFrom, VerdictAtEnd, verdict_of}
+use Rattle.text_core.specs.Outcome.{Fits}
+use Rattle.poly_mixed.specs.Polynomial.{Polynomial}
+use Rattle.cert_check.specs.Fault.{line_refusal, refusal}
+use Rattle.cert_check.specs.Certificate.{begun, LineOf}
+use Rattle.cert_check.specs.Verdict.{VerdictFrom, VerdictAtEnd, verdict_of}
 use Rattle.cert_check.specs.declared.fault.CertFault.{CertFault}
 use Rattle.cert_check.specs.declared.line.Line.{Line}
 use Rattle.cert_check.specs.private.Kept.{terms_of}

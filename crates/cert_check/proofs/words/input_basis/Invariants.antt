@@ -1,4 +1,4 @@
-use Rattle.std.proofs.Common.{◌≡◌, map, length}
+use Rattle.std.proofs.Common.{◌≡◌, map}
 use Rattle.std.specs.Prelude.{slice_get}
 use Rattle.gf_basis.specs.BasisParts.{duals_of}
 use Rattle.circuit_model.specs.OfBinding.{words_of}

@@ -1,4 +1,4 @@
-use Rattle.std.proofs.Common.{◌≡◌, sym, subst}
+use Rattle.std.proofs.Common.{◌≡◌, subst}
 use Rattle.cert_check.specs.Certificate.{Certificate, with_shared}
 use Rattle.cert_check.specs.private.Kept.{certificate_of}
 use Rattle.cert_check.proofs.KeptLemmas.{share_added}
