@@ -1,4 +1,4 @@
-use Rattle.std.proofs.Common.{◌≡◌, ◌∙◌, ◌+◌, ap, sym, refl, subst, ℕ, List, Vec, map, string_bytes, get_or, Ok, Err}
+use Rattle.std.proofs.Common.{◌∙◌, ◌+◌, ap, sym, refl, subst, ℕ, List, Vec, map, string_bytes, Ok, Err}
 use Rattle.std.specs.declared.alloc.Global.{Global}
 use Rattle.text_core.specs.Outcome.{Within}
 use Rattle.job_words.specs.Stop.{GivesBy}
