@@ -1,5 +1,5 @@
 //! The values at which a netlist is to be evaluated.
-ghost use Rattle.std.specs.Prelude.{◌≡◌, ◌<◌, ◌^◌, map, string_bytes, IfSome, IfNone};
+ghost use Rattle.std.specs.Prelude.{◌≡◌, ◌+◌, ◌<◌, ◌^◌, map, string_bytes, IfSome, IfNone};
 ghost use Rattle.text_core.specs.Numbers.{IsHex};
 ghost use Rattle.text_core.specs.Outcome.{Within};
 ghost use Rattle.job_words.specs.Stop.{GivesBy};
@@ -7,7 +7,7 @@ ghost use Rattle.job_words.specs.declared.fault.Fault.TheVariants.{Value};
 ghost use Rattle.job_words.specs.declared.stop.Stop.TheVariants.{Refused};
 ghost use Rattle.gf_abs.specs.Values.{ElementsOf, ValuesOf};
 
-use gf_field::{Field, is_element};
+use gf_field::Field;
 use job_words::{Fault, Stop, ValueFault};
 use std::alloc::Global;
 use text_core::read_hex;
@@ -50,10 +50,19 @@ fn read_element<F: Field>(field: &F, value: &str) -> Option<u64>
     ensures found { IfSome result (λ x. IsHex value.now x × (x < 2 ^ F.degree field.now)) }
     ensures none { IfNone result ((x : _) → IsHex value.now x → x < 2 ^ F.degree field.now → ⊥) }
 {
-    match read_hex(value.as_bytes(), u128::from(u64::MAX)) {
-        Some(x) if is_element(field, x as u64) => Some(x as u64),
-        _ => None,
+    match read_hex(value.as_bytes(), greatest(field)) {
+        Some(x) => Some(x as u64),
+        None => None,
     }
+}
+
+// The greatest element of the field.
+fn greatest<F: Field>(field: &F) -> u128
+    ensures small { result < 18446744073709551616 }
+    ensures is { 1 + result ≡ 2 ^ F.degree field.now }
+{
+    let k = field.k();
+    (1u128 << k) - 1
 }
 
 // The refusal of values.
