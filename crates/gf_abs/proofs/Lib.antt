@@ -15,7 +15,6 @@ pub mod CheckDetermined
 pub mod SameDetermined
 pub mod EvalDetermined
 pub mod ElementLemmas
-pub mod PartLemmas
 pub mod AlikeLemmas
 pub mod SameLemmas
 pub mod AnswerDetermined

@@ -2,7 +2,6 @@
 //! `run` carries the contract of the whole; each command is a file of `commands`, and one line of the table `ActionAnswer`.
 #![tactic(auto)]
 
-mod circuit_parts;
 mod commands;
 mod cuts;
 mod differing;

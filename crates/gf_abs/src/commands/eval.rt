@@ -10,12 +10,10 @@ ghost use Rattle.gf_abs.specs.Reply.{reply_of};
 ghost use Rattle.gf_abs.specs.commands.Abstract.{taken_circuit};
 ghost use Rattle.gf_abs.specs.commands.Eval.{EvalReply, EvalAt, EvalOver, EvalAnswer};
 
-use crate::circuit_parts::{circuit_output, circuit_words};
 use crate::differing::add_word;
 use crate::output::Output;
 use crate::setting_labels::labels;
 use crate::values::read_values;
-use circuit_model::output;
 use gf_field::Field;
 use job_input::{BoundNetlist, Setting, read_netlist, unroll_netlist};
 use job_io::Shelf;
@@ -122,14 +120,6 @@ fn output_at<F: Field>(
     requires elements { (x : ℕ) → Has xs.now x → x < 2 ^ F.degree field.now }
     ensures { IfOk result (IsOut (taken_circuit (setting_value (F.degree field.now) (F.product field.now) setting.now) circuit.now) xs.now) }
 {
-    let bound = circuit.bound();
-    let net = circuit.net();
-    let _gates = net.gates();
-    let bases = setting.bases.as_slice();
-    let words = circuit_words(alloc, field, bound, bases)?;
-    let last = circuit_output(alloc, field, bound, bases)?;
-    match output(alloc, field, net, &words, &last, xs)? {
-        Some(element) => Ok(element),
-        None => unreachable!(),
-    }
+    let element = lift_table::output_at(alloc, field, circuit, setting.bases.as_slice(), xs)?;
+    Ok(element)
 }
