@@ -1,5 +1,7 @@
 //! Bytes that a line of the rows cannot have, written otherwise: `\xNN` is the byte with this number, `\\` is `\`, and `\-`
 //! is nothing.
+ghost use Rattle.std.specs.Prelude.{◌≤◌, length};
+
 use std::alloc::{AllocError, Global};
 
 /// The bytes that a part of a line stands for.
