@@ -5,7 +5,7 @@ use Rattle.job_io.specs.Shelf.{Files}
 use Rattle.job_words.specs.declared.fault.Fault.{Fault}
 use Rattle.job_words.specs.declared.fault.Fault.TheVariants.{Words, Signature}
 use Rattle.job_words.specs.Operands.{Word}
-use Rattle.job_words.specs.Command.{Action, Bits, Abstract, Check, Same, Job, IsSpelled}
+use Rattle.job_words.specs.Command.{Action, Bits, Abstract, Check, Same, Iso, Lift, Table, Job, IsSpelled}
 use Rattle.job_input.specs.SettingOf.{SignedValue, SettingWith}
 use Rattle.job_input.specs.SettingValue.{SettingValue}
 use Rattle.job_input.specs.SignedIn.{SignedIn}
@@ -14,6 +14,9 @@ use Rattle.gf_abs.specs.commands.Bits.{BitsAnswer}
 use Rattle.gf_abs.specs.commands.Abstract.{AbstractAnswer}
 use Rattle.gf_abs.specs.commands.Check.{CheckAnswer}
 use Rattle.gf_abs.specs.commands.Same.{SameAnswer}
+use Rattle.gf_abs.specs.commands.Iso.{IsoAnswer}
+use Rattle.gf_abs.specs.commands.Lift.{LiftAnswer}
+use Rattle.gf_abs.specs.commands.Table.{TableAnswer}
 
 -- the command of the words, or fault 01 where they spell none
 abbrev pub Spelled : List Word → Outcome Fault Job
@@ -26,6 +29,9 @@ ActionAnswer held setting (Bits net terms) = BitsAnswer held setting net terms
 ActionAnswer held setting (Abstract net terms) = AbstractAnswer held setting net terms
 ActionAnswer held setting (Check net specification terms) = CheckAnswer held setting net specification terms
 ActionAnswer held setting (Same net other terms) = SameAnswer held setting net other terms
+ActionAnswer held setting (Iso other) = IsoAnswer held setting other
+ActionAnswer held setting (Lift table) = LiftAnswer held setting table
+ActionAnswer held setting (Table net) = TableAnswer held setting net
 
 -- what comes of a command over a signature with its field: first the bases of its words
 abbrev pub SignedAnswer : Option Files → SignedValue → Action → Outcome Fault Reply

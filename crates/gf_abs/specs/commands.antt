@@ -2,3 +2,6 @@ pub mod Bits
 pub mod Abstract
 pub mod Check
 pub mod Same
+pub mod Lift
+pub mod Table
+pub mod Iso

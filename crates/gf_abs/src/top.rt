@@ -94,6 +94,9 @@ fn task_answer<F: Field, S: Shelf>(
         }
         Task::Check(words) => { commands::check::answer(alloc, field, setting, words, shelf) }
         Task::Same(words) => { commands::same::answer(alloc, field, setting, words, shelf) }
+        Task::Iso(file) => { commands::iso::answer(alloc, setting, file, shelf) }
+        Task::Lift(file) => { commands::lift::answer(alloc, field, setting, file, shelf) }
+        Task::Table(net) => { commands::table::answer(alloc, field, setting, net, shelf) }
     }
 }
 

@@ -1,0 +1,53 @@
+-- The command `iso`: the isomorphism from a tower to a field of polynomials over 0 and 1.
+-- Source: Lidl and Niederreiter, Finite Fields, chapter 2, theorem 2.5.
+use Rattle.std.specs.Prelude.{◌≡◌, ℕ, ◌^◌, List, [], length, Option, Ok, Err}
+use Rattle.text_core.specs.Outcome.{Outcome, ◌>>=◌, Within}
+use Rattle.job_io.specs.Shelf.{Files}
+use Rattle.net_signature.specs.Signature.{SignatureValue}
+use Rattle.gf_field.specs.Bit.{bit_mul}
+use Rattle.gf_field.specs.Quotient.{product}
+use Rattle.gf_tower.specs.FieldName.{IsFieldName}
+use Rattle.gf_basis.specs.Basis.{first_values}
+use Rattle.gf_iso.specs.Fits.{Fits}
+use Rattle.gf_iso.specs.Isomorphism.{IsIsoOf}
+use Rattle.lift_table.specs.TableText.{value_lines}
+use Rattle.job_words.specs.declared.fault.Fault.{Fault}
+use Rattle.job_words.specs.declared.fault.Fault.TheVariants.{File, SecondSignature, Fields}
+use Rattle.job_words.specs.Operands.{Word}
+use Rattle.job_input.specs.File.{Read}
+use Rattle.job_input.specs.SettingOf.{SettingOf}
+use Rattle.job_input.specs.SettingValue.{SettingValue}
+use Rattle.gf_abs.specs.Reply.{Reply}
+
+-- the first names a field of polynomials, the second a tower of one step, and they have as many elements, at most 2 to the 32
+pub record AreFitting (first second : SignatureValue) : Type 0 where
+  pub big : IsFieldName first.modulus first.tower first.upper
+  pub small : IsFieldName second.modulus second.tower second.upper
+  pub plain : first.tower ≡ []
+  pub one_step : second.upper ≡ []
+  pub fits : Fits big.degree small.degree (length second.tower)
+
+-- line i has the image of 2 to the i under the isomorphism that takes x and Y to the least roots
+pub record AreImages (first second : SignatureValue) (reply : Reply) : Type 0 where
+  pub fit : AreFitting first second
+  pub there : ℕ → ℕ
+  pub back : ℕ → ℕ
+  pub iso : IsIsoOf fit.small.degree second.modulus second.tower (product 1 fit.big.degree bit_mul first.modulus) there back
+  pub text : reply ≡ record { status = 0; text = value_lines (first_values fit.big.degree (λ i. there (2 ^ i))) }
+
+-- its reply over two signatures, or fault 45
+abbrev pub IsoReply : SignatureValue → SignatureValue → Outcome Fault Reply
+IsoReply first second (Ok reply) = AreImages first second reply
+IsoReply first second (Err fault) = (fault ≡ Fields) × (AreFitting first second → ⊥)
+
+-- the setting of the second signature's file, which is judged as the first
+abbrev pub SecondIn : Option Files → Word → Outcome Fault SettingValue
+SecondIn held file = do
+  text ← Within File (Read held file)
+  Within SecondSignature (SettingOf text)
+
+-- its answer, after its first signature was taken: its input is a second signature
+abbrev pub IsoAnswer : Option Files → SettingValue → Word → Outcome Fault Reply
+IsoAnswer held setting file = do
+  second ← SecondIn held file
+  IsoReply setting.signature second.signature
