@@ -110,10 +110,6 @@ fn faults(rt: HostRuntime) -> Result<(), Fail> {
             "module m; output z; nor (z, z\n);",
             "Arity { line: 2, inputs: 1 }",
         ),
-        (
-            "module m; output z; assign z = z; endmodule",
-            "Net(Loop { nets: Numbers { list: [0] }, label: Name { text: \"z\" } })",
-        ),
     ] {
         let found = outcome(alloc, text.as_bytes())?;
         assert_eq!(rt; found.as_str(), wanted, "at {text}");
