@@ -18,7 +18,9 @@ BOUND = rb' has C terms, bound C'
 LINES = {
     b'01': [rb'words'],
     b'03': [rb'cut C' + BOUND, rb'second cut C' + BOUND, rb'word T term C bit C' + BOUND, rb'word T sum C' + BOUND,
-            rb'specification term C factor C' + BOUND, rb'specification sum C' + BOUND],
+            rb'specification term C factor C' + BOUND, rb'specification sum C' + BOUND, rb'certificate line C' + BOUND,
+            rb'block T cut C' + BOUND, rb'block T word T term C bit C' + BOUND, rb'block T word T sum C' + BOUND,
+            rb'instance C term C factor C' + BOUND, rb'instance C sum C' + BOUND],
     b'10': [rb'F is absent'],
     b'11': [rb'F has more than 67108864 bytes'],
     b'12': [rb'no fed word at line C', rb'feed twice at line C'],
@@ -50,8 +52,37 @@ LINES = {
     b'41': [rb'unknown word at byte C'],
     b'42': [rb'number at byte C'],
     b'46': [rb'literal at line C in F', rb'defined twice at line C in F', rb'undefined at line C in F', rb'name twice at line C in F'],
+    b'43': [rb'the signature does not fit T'],
+    b'44': [rb'gate or latch at line C of the top', rb'no block T', rb'block T is no net', rb'block T has a latch', rb'block T does not bind',
+            rb'instance C word T', rb'output word', rb'loop through instance C', rb'the signature has a feed'],
+    b'45': [rb'the fields do not fit'],
+    b'47': [rb'the signature is not small'],
     b'48': [rb'C values for C words'],
     b'49': [rb'value C is too large'],
+    b'50': [rb'certificate line C'],
+    b'51': [rb'no such net at line C'],
+    b'52': [rb'no such bit at line C'],
+    b'53': [rb'no gate at line C'],
+    b'54': [rb'no end line'],
+    b'55': [rb'no such let at line C'],
+    b'56': [rb'table line C'],
+    b'57': [rb'value too large at line C'],
+}
+
+# What each command writes with status 0 or 1.
+NAME, ELEMENT = rb'[A-Za-z][A-Za-z0-9_]*', rb'0x[0-9a-f]+'
+POLYNOMIAL = NAME + rb' = [^\n]+\n'
+DIFFERENCE = rb'(' + NAME + rb' = ' + ELEMENT + rb'\n)*'
+CERTIFICATE = rb'gfcert 2\nclaim ' + POLYNOMIAL + rb'((let|net|bit) [^\n]+\n)*end\n'
+FORMS = {
+    'abstract': {0: POLYNOMIAL}, 'bits': {0: POLYNOMIAL}, 'eval': {0: NAME + rb' = ' + ELEMENT + rb'\n'},
+    'compose': {0: POLYNOMIAL}, 'lift': {0: POLYNOMIAL}, 'certify': {0: CERTIFICATE}, 'upgrade': {0: CERTIFICATE},
+    'check': {0: rb'accepted\n' + POLYNOMIAL,
+              1: rb'rejected\n' + POLYNOMIAL + DIFFERENCE + rb'netlist ' + ELEMENT + rb'\nspecification ' + ELEMENT + rb'\n'},
+    'same': {0: rb'same\n', 1: rb'differ\n' + DIFFERENCE + rb'first ' + ELEMENT + rb'\nsecond ' + ELEMENT + rb'\n'},
+    'verify': {0: rb'valid\n' + POLYNOMIAL, 1: rb'invalid\nremaining [0-9]+ terms\n'},
+    'make': {0: rb'\.model make\n([^\n]*\n)+\.end\n'}, 'table': {0: rb'gftable 1\n(' + ELEMENT + rb'\n)+'},
+    'iso': {0: rb'(' + ELEMENT + rb'\n)+'}, 'trial': {0: rb'modulus ' + ELEMENT + rb'\n([^\n]+\n){7}'},
 }
 
 
@@ -99,19 +130,19 @@ class Ended:
         file.seek(0)
         return file.read()
 
-    def wrong(self):
+    def wrong(self, command='abstract'):
         """What of the run is against docs/COMMANDS.md, whatever its files hold; None where nothing is."""
         if self.status is None:
             return 'over the limit'
-        if self.status not in (0, 2, 3):
-            return 'status %d' % self.status
         if self.error:
             return 'writes to standard error'
+        if self.status in FORMS[command]:
+            return None if re.fullmatch(FORMS[command][self.status], self.output) else 'no output of %s' % command
+        if self.status not in (2, 3):
+            return 'status %d' % self.status
         if self.output.count(b'\n') != 1 or not self.output.endswith(b'\n'):
             return 'not one line'
         fault = fault_of(self.output[:-1])
-        if self.status == 0:
-            return 'no polynomial' if fault or b' = ' not in self.output else None
         if fault is None:
             return 'no line of a fault'
         return None if (self.status == 3) == (fault == '03') else 'fault %s with status %d' % (fault, self.status)
@@ -130,6 +161,17 @@ class Runner:
 
     def run(self, words):
         return Ended([self.program] + words, self.limit, self.kept)
+
+
+# Operands of a command over files that are not there; other commands take two of these.
+SAMPLES = {'make': ['adder', 'none'], 'trial': ['0', '0x5'], 'check': ['none'] * 3, 'same': ['none'] * 3, 'verify': ['none'] * 3,
+           'upgrade': ['none'] * 3}
+
+
+def is_known(program, command):
+    """Whether the program knows a command: it does not answer the fault of words."""
+    words = [program, command] + SAMPLES.get(command, ['none'] * 2)
+    return subprocess.run(words, capture_output=True).stdout != b'fault 01: words\n'
 
 
 def program_of(words, usage):

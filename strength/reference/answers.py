@@ -2,22 +2,30 @@
 import itertools
 import re
 
+from . import certificates, isomorphisms
 from .aiger import read_aiger
 from .blif import read_blif
+from .composition import Composition
 from .fields import Fault
+from .makers import KINDS, make
 from .nets import Bound, Flat, Job
-from .polynomials import Bounded, Variables, cuts, expanded, in_words, interpolated, added
-from .signature import Signature, lines_of
+from .polynomials import Bounded, Variables, cuts, expanded, in_words, words_text
+from .signature import Signature
 from .specification import Spec
+from .tables import is_small, lifted, rows, table_values
 from .verilog import read_verilog
 
 WORDS = Fault(1, 'words')
 OPTIONS = {
     'bits': ('--terms', '--cycles'), 'abstract': ('--terms', '--cycles'), 'check': ('--terms', '--cycles'),
-    'same': ('--terms', '--cycles'), 'eval': ('--cycles',), 'table': ('--cycles',), 'lift': (),
+    'same': ('--terms', '--cycles'), 'eval': ('--cycles',), 'table': ('--cycles',), 'lift': (), 'iso': (), 'make': (),
+    'trial': ('--terms',), 'compose': ('--terms',), 'certify': ('--terms', '--cycles'), 'verify': ('--terms', '--cycles'),
+    'upgrade': ('--cycles',),
 }
-OPERANDS = {'bits': 2, 'abstract': 2, 'check': 3, 'same': 3, 'table': 2, 'lift': 2}
+OPERANDS = {'bits': 2, 'abstract': 2, 'check': 3, 'same': 3, 'table': 2, 'lift': 2, 'iso': 2, 'make': 2, 'trial': 2, 'compose': 2,
+            'certify': 2, 'verify': 3, 'upgrade': 3}
 LIMITS = {'--terms': (1, 262144), '--cycles': (0, 4096)}
+VERIFY = (1, 1048576)
 VALUE = re.compile(r'0x[0-9a-fA-F]{1,32}\Z')
 NUMBER = re.compile(r'(0|[1-9][0-9]*)\Z')
 
@@ -32,6 +40,10 @@ def answer(words, files):
 
 def run(words, files):
     command, operands, options = spelled(words)
+    if command == 'trial':
+        return answer_trial(operands, options)
+    if command == 'make':
+        operands = operands[::-1]
     signature = Signature(read(operands[0], files))
     if command in ('lift', 'table') and not is_small(signature):
         raise Fault(47, 'the signature is not small')
@@ -49,22 +61,35 @@ def spelled(words):
             raise WORDS
     elif len(operands) != OPERANDS[command]:
         raise WORDS
-    options = {'--terms': 65536, '--cycles': 0}
+    if not fits(command, operands):
+        raise WORDS
+    options = {'--terms': VERIFY[1] if command == 'verify' else 65536, '--cycles': 0}
     if len(rest) % 2 or len(set(rest[::2])) < len(rest[::2]):
         raise WORDS
     for name, value in zip(rest[::2], rest[1::2]):
         if name not in OPTIONS[command] or not NUMBER.match(value):
             raise WORDS
-        least, most = LIMITS[name]
+        least, most = VERIFY if (command, name) == ('verify', '--terms') else LIMITS[name]
         if not least <= int(value) <= most:
             raise WORDS
         options[name] = int(value)
     return command, operands, options
 
 
+def fits(command, operands):
+    """What else a command asks of its operands."""
+    if command == 'make':
+        return operands[0] in KINDS
+    if command == 'trial':
+        return bool(NUMBER.match(operands[0])) and int(operands[0]) < 1 << 64 and bool(VALUE.match(operands[1]))
+    return command != 'compose' or not operands[1].endswith(('.v', '.aag'))
+
+
 def read(name, files):
     if name not in files:
         raise Fault(10, name + ' is absent')
+    if len(files[name]) > 67108864:
+        raise Fault(11, name + ' has more than 67108864 bytes')
     return files[name]
 
 
@@ -101,15 +126,15 @@ def in_bits_text(flat, last):
 
 
 def abstracted(signature, job, options):
-    """The last cut and the line of the polynomial in words."""
+    """The unrolled net, its last cut, and the line of the polynomial in words."""
     flat = Flat(job)
     last = cuts(flat, Bounded(options['--terms']))
     polynomial = in_words(flat, last, Bounded(options['--terms']))
-    return flat, '%s = %s\n' % (called(signature), Variables(flat).text(polynomial))
+    return flat, last, '%s = %s\n' % (called(signature), Variables(flat).text(polynomial))
 
 
 def answer_abstract(signature, operands, options, files):
-    return 0, abstracted(signature, one_job(signature, operands, options, files), options)[1]
+    return 0, abstracted(signature, one_job(signature, operands, options, files), options)[2]
 
 
 def inputs_by_ones(field, words):
@@ -126,11 +151,15 @@ def element_at(field, word, w, ones):
     return total
 
 
-def difference(signature, left, right, names):
-    """Nothing where two functions agree everywhere, else the lines of the first input at which they differ."""
-    words = signature.top.inner
-    for ones in inputs_by_ones(signature.field, words):
-        xs = [element_at(signature.field, word, w, ones) for w, word in enumerate(words)]
+def difference(field, words, left, right, names, polynomials):
+    """Nothing where two functions agree everywhere, else the lines of the first input at which they differ. Where there
+    are many inputs, whether they agree, and where they differ first, is told by their polynomials in sets of bits."""
+    candidates = inputs_by_ones(field, words)
+    if field.k * len(words) > 12:
+        p, q = polynomials()
+        candidates = sorted((sorted(m) for m in set(p) | set(q) if p.get(m, 0) != q.get(m, 0)), key=lambda m: (len(m), m))
+    for ones in candidates:
+        xs = [element_at(field, word, w, ones) for w, word in enumerate(words)]
         a, b = left(xs), right(xs)
         if a != b:
             lines = ['%s = 0x%x' % (w.name.decode(), x) for w, x in zip(words, xs)]
@@ -138,12 +167,20 @@ def difference(signature, left, right, names):
     return None
 
 
+def by_rank(flat, last):
+    """The last cut in sets of ranks."""
+    rank = Variables(flat).rank
+    return {frozenset(rank[n] for n in m): c for m, c in last.items()}
+
+
 def answer_same(signature, operands, options, files):
     bounds = [bound_net(signature, name, files) for name in operands]
     jobs = [job_of(signature, bound, options) for bound in bounds]
+    last = []
     for job, prefix in zip(jobs, ('', 'second ')):
-        cuts(Flat(job), Bounded(options['--terms'], prefix))
-    told = difference(signature, jobs[0].output_at, jobs[1].output_at, ('first', 'second'))
+        flat = Flat(job)
+        last.append(by_rank(flat, cuts(flat, Bounded(options['--terms'], prefix))))
+    told = difference(signature.field, signature.top.inner, jobs[0].output_at, jobs[1].output_at, ('first', 'second'), lambda: last)
     return (1, 'differ\n' + told) if told else (0, 'same\n')
 
 
@@ -151,9 +188,10 @@ def answer_check(signature, operands, options, files):
     bound = bound_net(signature, operands[0], files)
     spec = Spec(read(operands[1], files), signature.field, signature.top.output.name, signature.top.inner)
     job = job_of(signature, bound, options)
-    flat, line = abstracted(signature, job, options)
-    expanded(flat, spec, Bounded(options['--terms']))
-    told = difference(signature, job.output_at, spec.value, ('netlist', 'specification'))
+    flat, last, line = abstracted(signature, job, options)
+    wanted = expanded(flat, spec, Bounded(options['--terms']))
+    told = difference(signature.field, signature.top.inner, job.output_at, spec.value, ('netlist', 'specification'),
+                      lambda: (by_rank(flat, last), wanted))
     return (1, 'rejected\n' + line + told) if told else (0, 'accepted\n' + line)
 
 
@@ -169,65 +207,79 @@ def answer_eval(signature, operands, options, files):
     return 0, '%s = 0x%x\n' % (called(signature), job_of(signature, bound, options).output_at(xs))
 
 
-def is_small(signature):
-    k = signature.field.k
-    return k <= 8 and k * len(signature.top.inner) <= 16
-
-
-def rows(signature):
-    k, m = signature.field.k, len(signature.top.inner)
-    for r in range(1 << (k * m)):
-        yield [(r >> (k * w)) & ((1 << k) - 1) for w in range(m)]
-
-
 def answer_table(signature, operands, options, files):
     job = one_job(signature, operands, options, files)
     return 0, 'gftable 1\n' + ''.join('0x%x\n' % job.output_at(xs) for xs in rows(signature))
 
 
-def table_values(signature, data):
-    lines, wanted = lines_of(data), 1 << (signature.field.k * len(signature.top.inner))
-    values = []
-    for number in range(1, max(len(lines), wanted + 1) + 1):
-        tokens = re.split(rb'[ \t]+', lines[number - 1].strip(b' \t')) if number <= len(lines) else []
-        good = tokens == [b'gftable', b'1'] if number == 1 else len(tokens) == 1 and re.match(rb'0x[0-9a-fA-F]+\Z', tokens[0])
-        if not good or number > wanted + 1:
-            raise Fault(56, 'table line %d' % number)
-        if number > 1:
-            values.append(int(tokens[0], 16))
-            if values[-1] >= signature.field.size:
-                raise Fault(57, 'value too large at line %d' % number)
-    return values
-
-
 def answer_lift(signature, operands, options, files):
-    field, words = signature.field, signature.top.inner
-    values = table_values(signature, read(operands[0], files))
-    terms = {(): {tuple(xs): v for xs, v in zip(rows(signature), values)}}
-    for w in range(len(words)):
-        terms = {e: t for done, function in terms.items() for e, t in one_more(field, done, function).items()}
-    polynomial = {}
-    for exponents, function in terms.items():
-        added(polynomial, (exponents, frozenset()), function[()])
-    return 0, '%s = %s\n' % (called(signature), table_text(words, polynomial))
+    polynomial = lifted(signature, table_values(signature, read(operands[0], files)))
+    return 0, '%s = %s\n' % (called(signature), words_text(signature.top.inner, polynomial))
 
 
-def one_more(field, done, function):
-    """The coefficients of one word more: functions of the words after it, by its exponent."""
-    found = {}
-    for rest in {xs[1:] for xs in function}:
-        for e, c in interpolated(field, lambda x: function[(x,) + rest]).items():
-            found.setdefault(done + (e,), {})[rest] = c
-    for part in found.values():
-        for rest in {xs[1:] for xs in function}:
-            part.setdefault(rest, 0)
-    return found
+def answer_iso(signature, operands, options, files):
+    try:
+        second = Signature(read(operands[0], files))
+    except Fault as fault:
+        raise Fault(fault.number, ('second ' if 20 <= fault.number < 30 else '') + fault.text)
+    return 0, ''.join('0x%x\n' % image for image in isomorphisms.images(signature, second))
 
 
-def table_text(words, polynomial):
-    parts = []
-    for exponents, _ in sorted(polynomial, key=lambda m: m[0], reverse=True):
-        c = polynomial[exponents, frozenset()]
-        named = [w.name.decode() + ('^%d' % e if e > 1 else '') for w, e in zip(words, exponents) if e]
-        parts.append('*'.join(named if c == 1 and named else ['0x%x' % c] + named))
-    return ' + '.join(parts) or '0'
+def answer_make(signature, operands, options, files):
+    return 0, make(operands[0], signature).text().decode()
+
+
+def trial_signature(modulus):
+    nets = [' '.join('%s%d' % (letter, i) for i in range(modulus.bit_length() - 1)) or 'none' for letter in 'abz']
+    roles = ('A input', 'B input', 'Z output')
+    return 'gfsig 1\nfield 0x%x\n' % modulus + ''.join('word %s poly %s\n' % pair for pair in zip(roles, nets))
+
+
+def answer_trial(operands, options):
+    number, modulus = int(operands[0]), int(operands[1], 16)
+    signature = Signature(trial_signature(modulus).encode())
+    k, made = signature.field.k, make('mastrovito', signature)
+    position, index = number % (k * k), number // (k * k) % 4
+    made.turn(position, index)
+    bound = Bound(signature.top, [], read_blif(made.text(), 'made'))
+    job = Job(signature.field, bound, 0)
+    flat = Flat(job)
+    last = cuts(flat, Bounded(options['--terms']))
+    terms = len(in_words(flat, last, Bounded(options['--terms'])))
+    spec = Spec(b'Z = A*B', signature.field, b'Z', signature.top.inner)
+    wanted = expanded(flat, spec, Bounded(options['--terms']))
+    told = difference(signature.field, signature.top.inner, job.output_at, spec.value, ('netlist', 'product'),
+                      lambda: (by_rank(flat, last), wanted))
+    head = (modulus, len(made.gates), position, index, terms)
+    return 0, 'modulus 0x%x\ngates %d\nchanged %d index %d\nterms %d\n' % head + told
+
+
+def answer_compose(signature, operands, options, files):
+    composition = Composition(read(operands[0], files), operands[0], signature)
+    polynomial = composition.polynomial(options['--terms'])
+    return 0, '%s = %s\n' % (called(signature), words_text(signature.top.inner, polynomial))
+
+
+def answer_certify(signature, operands, options, files):
+    flat = Flat(one_job(signature, operands, options, files))
+    return 0, certificates.written(flat, certificates.certified(flat, options['--terms']))
+
+
+def with_certificate(signature, operands, options, files):
+    """The unrolled net, and the text of the certificate, which is read before the cycles are laid out."""
+    bound = bound_net(signature, operands[0], files)
+    data = read(operands[1], files)
+    return Flat(job_of(signature, bound, options)), data
+
+
+def answer_verify(signature, operands, options, files):
+    flat, data = with_certificate(signature, operands, options, files)
+    claim, remaining = certificates.checked(data, flat, Bounded(options['--terms']))
+    if remaining:
+        return 1, 'invalid\nremaining %d terms\n' % remaining
+    return 0, 'valid\n%s = %s\n' % (called(signature), Variables(flat).text(claim))
+
+
+def answer_upgrade(signature, operands, options, files):
+    flat, data = with_certificate(signature, operands, options, files)
+    return 0, certificates.written(flat, certificates.Reader(data, flat).certificate)

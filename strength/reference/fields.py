@@ -1,4 +1,8 @@
 """Fields of 2^k elements as numbers, towers of one and two steps, and bases."""
+import sys
+
+# numbers of texts may have any length
+sys.set_int_max_str_digits(0)
 
 
 class Fault(Exception):
@@ -14,8 +18,11 @@ def degree(p):
 
 
 def remainder(a, b):
-    while degree(a) >= degree(b):
-        a ^= b << (degree(a) - degree(b))
+    width = b.bit_length()
+    over = a.bit_length() - width
+    while over >= 0:
+        a ^= b << over
+        over = a.bit_length() - width
     return a
 
 
@@ -43,6 +50,10 @@ def is_irreducible(p):
         if divisor(p, power ^ 2) != 1:
             return False
     return degree(p) >= 1
+
+
+def is_prime(n):
+    return n > 1 and all(n % d for d in range(2, n))
 
 
 class Prime:
@@ -76,6 +87,27 @@ class Over:
                 sums[d - self.m + i] ^= self.base.product(sums[d], c)
         return sum(c << (self.n * i) for i, c in enumerate(sums[:self.m]))
 
+    def is_reducible(self):
+        """Of degree 2 and 3 it is so where it has a root; else a divisor is looked for, or Rabin's test is made."""
+        if self.n * (self.m // 2) <= 12:
+            return self.has_divisor()
+        return not self.passes_rabin()
+
+    def passes_rabin(self):
+        """It divides Y^(q^m) + Y, and shares nothing with Y^(q^(m/p)) + Y for a prime p that divides m."""
+        y = 1 << self.n
+        power, shares = y, []
+        for d in range(1, self.m + 1):
+            for _ in range(self.n):
+                power = self.product(power, power)
+            if d < self.m and self.m % d == 0 and is_prime(self.m // d):
+                shares.append(power ^ y)
+        return power == y and all(self.has_inverse(a) for a in shares)
+
+    def has_inverse(self, a):
+        """Whether the products with it, as a matrix over 0 and 1, have full rank."""
+        return independent([self.product(a, 1 << i) for i in range(self.k)])
+
     def has_divisor(self):
         """A monic polynomial of degree 1 to half of its own divides it."""
         q = 1 << self.n
@@ -98,15 +130,34 @@ class Field:
     def __init__(self, quotient):
         self.quotient, self.k = quotient, quotient.k
         self.size = 1 << self.k
-        self.known = {}
+        self.known, self.mask = {}, None
 
     def mul(self, a, b):
+        if self.k > 10:
+            return self.quotient.product(a, b)
         if a < b:
             a, b = b, a
         found = self.known.get((a, b))
         if found is None:
             found = self.known[a, b] = self.quotient.product(a, b)
         return found
+
+    def square_often(self, a, times):
+        for _ in range(times):
+            a = self.mul(a, a)
+        return a
+
+    def trace(self, a):
+        """The sum of its k conjugates, which is additive: the bits of a mask are the traces of the powers of 2."""
+        if self.mask is None:
+            self.mask = sum(self.trace_by_squares(1 << i) << i for i in range(self.k))
+        return bin(a & self.mask).count('1') & 1
+
+    def trace_by_squares(self, a):
+        total = 0
+        for _ in range(self.k):
+            total, a = total ^ a, self.mul(a, a)
+        return total
 
     def power(self, a, e):
         result = 1
@@ -144,7 +195,7 @@ def step(base, coefficients):
     if len(coefficients) < 2 or base.k * len(coefficients) > 64 or any(c >> base.k for c in coefficients):
         raise Fault(25, 'tower')
     over = Over(base, list(coefficients))
-    if over.has_divisor():
+    if over.is_reducible():
         raise Fault(22, 'the tower polynomial is not irreducible')
     return over
 
@@ -182,14 +233,38 @@ def element_of(basis, bits):
     return element
 
 
+def solved(rows, wanted):
+    """The set of rows, as a number, whose sum is this one; the rows are independent, and there are enough."""
+    kept = []
+    for i, row in enumerate(rows):
+        mask = 1 << i
+        for lead, other, others in kept:
+            if row & lead:
+                row, mask = row ^ other, mask ^ others
+        kept.append((1 << degree(row), row, mask))
+    found = 0
+    for lead, row, mask in kept:
+        if wanted & lead:
+            wanted, found = wanted ^ row, found ^ mask
+    return found
+
+
 BITS = {}
 
 
 def bits_of(basis, element):
     """The bits of the one choice of basis elements with this sum."""
-    key = tuple(basis)
+    key, k = tuple(basis), len(basis)
+    if k > 10:
+        found = solved(basis, element)
+        return [(found >> i) & 1 for i in range(k)]
     if key not in BITS:
-        k = len(basis)
         BITS[key] = {element_of(basis, [(n >> i) & 1 for i in range(k)]): [(n >> i) & 1 for i in range(k)]
                      for n in range(1 << k)}
     return BITS[key][element]
+
+
+def dual_of(field, basis):
+    """The elements whose products with those of the basis have the trace 1 at their own place, and else 0."""
+    traces = [sum(field.trace(field.mul(a, b)) << j for j, b in enumerate(basis)) for a in basis]
+    return [element_of(basis, [(s >> i) & 1 for i in range(field.k)]) for s in (solved(traces, 1 << i) for i in range(field.k))]

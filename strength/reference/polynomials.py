@@ -2,7 +2,8 @@
 
 In words a monomial is a pair: a tuple of exponents, one a word, and a frozen set of ranks of bits.
 """
-from .fields import Fault, bits_of
+from .fields import Fault, bits_of, dual_of
+from .reading import Wrong
 
 
 def added(total, monomial, coefficient):
@@ -46,6 +47,12 @@ def interpolated(field, value):
     return found
 
 
+def falling(monomial):
+    """Rises where the list of exponents falls: of two monomials, the one that has the first bit in which they differ is first."""
+    exponents, bits = monomial
+    return [-e for e in exponents], sorted(bits) + [float('inf')]
+
+
 class Variables:
     """The order of variables: words, their bits, then all other nets by number; and how they are printed."""
 
@@ -57,12 +64,16 @@ class Variables:
         self.rank.update({n: len(nets) + i for i, n in enumerate(rest)})
         self.texts = ['%s[%d]' % (w.name.decode(), i) for w in flat.words for i in range(k)]
         self.texts += ['@%d' % n for n in rest]
+        self.others = set(rest)
+
+    def of_net(self, net):
+        """The rank of a net that is written by its number."""
+        if net not in self.others:
+            raise Wrong('net')
+        return self.rank[net]
 
     def text(self, polynomial):
-        def key(monomial):
-            exponents, bits = monomial
-            return tuple(exponents) + tuple(int(r in bits) for r in range(len(self.texts)))
-        ordered = sorted(polynomial, key=key, reverse=True)
+        ordered = sorted(polynomial, key=falling)
         return ' + '.join(self.term(m, polynomial[m]) for m in ordered) or '0'
 
     def term(self, monomial, c):
@@ -70,6 +81,16 @@ class Variables:
         parts = [w.name.decode() + ('^%d' % e if e > 1 else '') for w, e in zip(self.words, exponents) if e]
         parts += [self.texts[r] for r in sorted(bits)]
         return '*'.join(parts if c == 1 and parts else ['0x%x' % c] + parts)
+
+
+def words_text(words, polynomial):
+    """The text of a polynomial in words alone, from exponents to coefficients."""
+    parts = []
+    for exponents in sorted(polynomial, reverse=True):
+        c = polynomial[exponents]
+        named = [w.name.decode() + ('^%d' % e if e > 1 else '') for w, e in zip(words, exponents) if e]
+        parts.append('*'.join(named if c == 1 and named else ['0x%x' % c] + named))
+    return ' + '.join(parts) or '0'
 
 
 class Bounded:
@@ -83,8 +104,8 @@ class Bounded:
             raise Fault(3, '%s%s has %d terms, bound %d' % (self.prefix, stage, count, self.bound))
 
 
-def cuts(flat, bounded):
-    """The last cut: a polynomial in sets of nets."""
+def cuts(flat, bounded, recorded=lambda net, with_it: None):
+    """The last cut: a polynomial in sets of nets. Each net that stands in it when its gate is met is told, with its terms."""
     field, total = flat.field, {}
     for beta, n in zip(flat.output.elements, flat.nets[flat.output.name]):
         added(total, frozenset([n]), beta)
@@ -92,9 +113,11 @@ def cuts(flat, bounded):
     for t, p in enumerate(flat.net.elimination(), 1):
         gate = flat.net.gates[p]
         with_it = {m: c for m, c in total.items() if gate.out in m}
+        if with_it:
+            recorded(gate.out, with_it)
         for m in with_it:
             del total[m]
-        for s in table_sets(gate):
+        for s in table_sets(gate) if with_it else ():
             for m, c in with_it.items():
                 added(total, (m - {gate.out}) | s, c)
         bounded.check('cut %d' % t, len(total))
@@ -124,30 +147,38 @@ FORMS = {}
 def linear_form(field, elements, place):
     """Bit `place` of an element as a polynomial of the element."""
     key = (id(field), tuple(elements), place)
-    if key not in FORMS:
+    if key not in FORMS and field.k <= 8:
         FORMS[key] = interpolated(field, lambda x: bits_of(elements, x)[place])
+    if key not in FORMS:
+        for i, dual in enumerate(dual_of(field, elements)):
+            powers = [dual]
+            while len(powers) < field.k:
+                powers.append(field.mul(powers[-1], powers[-1]))
+            FORMS[key[:2] + (i,)] = {1 << j: c for j, c in enumerate(powers)}
     return FORMS[key]
 
 
-def in_words(flat, last, bounded):
-    """The polynomial in words, by the stages of each word in turn."""
+def in_words(flat, last, bounded, recorded=lambda w, rank, multiplier: None):
+    """The polynomial in words, by the stages of each word in turn. Each bit is told with what it is multiplied by."""
     rank = Variables(flat).rank
     zero = (0,) * len(flat.words)
     p = {(zero, frozenset(rank[n] for n in m)): c for m, c in last.items()}
     for w in range(len(flat.words)):
-        p = one_word(flat, p, w, bounded)
+        p = one_word(flat, p, w, bounded, recorded)
     return p
 
 
-def one_word(flat, p, w, bounded):
+def one_word(flat, p, w, bounded, recorded):
     field, word = flat.field, flat.words[w]
-    first, beyond = field.k * w, len(flat.words) * field.k
-    ordered = sorted(p, key=lambda m: m[0] + tuple(int(r in m[1]) for r in range(beyond)), reverse=True)
+    first = field.k * w
+    ordered = sorted(p, key=falling)
     total = {}
     for s, m in enumerate(ordered, 1):
         product = {0: p[m]}
         own = sorted(r for r in m[1] if first <= r < first + field.k)
         for j, r in enumerate(own, 1):
+            rest = (m[1] - set(own)) | set(own[j:])
+            recorded(w, r, {(m[0][:w] + (e,) + m[0][w + 1:], rest): c for e, c in product.items()})
             product = univariate_product(field, product, linear_form(field, word.elements, r - first))
             bounded.check('word %s term %d bit %d' % (word.name.decode(), s, j), len(product))
         for e, c in product.items():

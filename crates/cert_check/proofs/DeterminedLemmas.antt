@@ -6,7 +6,7 @@ use Rattle.text_core.specs.Outcome.{Outcome, ◌>>=◌, Exactly, Within, Returns
 use Rattle.text_core.proofs.DeterminedLemmas.{determined_returns, determined_bind}
 use Rattle.gf_field.specs.Ring.{IsRing}
 use Rattle.gf_field.specs.Field.{HasNoZeroDivisors}
-use Rattle.gf_field.specs.RootsLaws.{HasFewRoots-from_field}
+use Rattle.gf_field.specs.laws.RootsLaws.{HasFewRoots-from_field}
 use Rattle.gf_basis.specs.declared.bases.Basis.{Basis}
 use Rattle.net_core.specs.NetList.{NetList}
 use Rattle.net_words.specs.Binding.{BoundNet}

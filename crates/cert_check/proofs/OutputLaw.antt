@@ -3,7 +3,7 @@ use Rattle.std.proofs.Common.{◌≡◌, ◌∙◌, ap, sym, refl, subst, ℕ, z
 use Rattle.std.proofs.lemmas.List.{length-map}
 use Rattle.std.specs.List.{AllByRecursion}
 use lib.Bits.{xor_zero_r}
-use Rattle.gf_field.specs.XorLaws.{xor_same}
+use Rattle.gf_field.specs.laws.XorLaws.{xor_same}
 use Rattle.gf_field.specs.Ring.{IsRing}
 use Rattle.gf_field.specs.Field.{HasNoZeroDivisors}
 use Rattle.gf_basis.specs.BasisParts.{duals_of}
@@ -20,7 +20,7 @@ use Rattle.poly_mixed.proofs.FieldLaws.{field_of}
 use Rattle.poly_mixed.proofs.FirstWords.{first_point, first_taken, is_first_point, first_alone}
 use Rattle.poly_mixed.proofs.Roots.{independent}
 use Rattle.poly_mixed.proofs.Uniqueness.{unique}
-use Rattle.gf_field.specs.RootsLaws.{HasFewRoots-from_field}
+use Rattle.gf_field.specs.laws.RootsLaws.{HasFewRoots-from_field}
 use Rattle.circuit_model.specs.Bases.{AreBases, circuit_in}
 use Rattle.circuit_model.specs.Out.{IsOut}
 use Rattle.circuit_model.proofs.OutLemmas.{one_out}
@@ -32,7 +32,7 @@ use Rattle.cert_check.specs.Verdict.{IsRunningSum, AsksAtMost}
 use Rattle.cert_check.specs.Output.{IsOutput, ProvesOutput}
 use Rattle.cert_check.specs.private.Reading.{IsGenerator}
 use Rattle.cert_check.proofs.SaidLemmas.{IsSaid, said_is}
-use Rattle.poly_mixed.specs.Uniqueness.{InFirstWords}
+use Rattle.poly_mixed.specs.laws.Uniqueness.{InFirstWords}
 use Rattle.cert_check.proofs.SoundLemmas.{well, q, IsThere, products_zero, output_is}
 use Rattle.cert_check.proofs.WordsAloneLemmas.{blind_value}
 

@@ -18,7 +18,7 @@ use Rattle.gf_field.specs.Trace.{frobenius}
 use Rattle.irreducible.specs.Span.{combination}
 use Rattle.gf_basis.specs.Basis.{IsBasis, AreBits}
 use Rattle.gf_basis.specs.Dual.{linear_value}
-use Rattle.gf_basis.specs.BasisParts.{elements_of, duals_of, IsOver}
+use Rattle.gf_basis.specs.BasisParts.{elements_of, duals_of, IsBasisOver}
 use Rattle.gf_basis.specs.declared.bases.Basis.{Basis}
 use Rattle.gf_basis.proofs.BasisLaws.{linear_bit}
 use Rattle.net_core.specs.GateValue.{GateValue}
@@ -150,7 +150,7 @@ found net n some = found_from net n [] net.gates refl some
 -- ---- words with both bases
 
 -- word w of one list has a basis as its elements, and that of the other its dual
-record IsBoth (es ds : List Word) (bases : List Basis) (w : ℕ) : Type 0 where
+pub record IsBoth (es ds : List Word) (bases : List Basis) (w : ℕ) : Type 0 where
   pub basis : Basis
   pub word : Word
   pub dual : Word
@@ -179,7 +179,7 @@ by_role Fed ns b bs es ds zero less more = front_word es ds bs b ns
 by_role Fed ns b bs es ds (suc v) less more = next es ds (b ∷ bs) v (record { role = Input; nets = ns; basis = elements_of b }) (record { role = Input; nets = ns; basis = duals_of b }) (later es ds bs v b (more v (omega arith)))
 by_role Output ns b bs es ds v less more = later es ds bs v b (more v less)
 
-both : (words : List BoundWord) (bases : List Basis) (w : ℕ) → length bases ≡ length words → w < length (words_of words (map duals_of bases)) → IsBoth (words_of words (map elements_of bases)) (words_of words (map duals_of bases)) bases w
+pub both : (words : List BoundWord) (bases : List Basis) (w : ℕ) → length bases ≡ length words → w < length (words_of words (map duals_of bases)) → IsBoth (words_of words (map elements_of bases)) (words_of words (map duals_of bases)) bases w
 both [] bases w long less = absurd (omega arith)
 both (u ∷ us) [] w long less = absurd (omega arith)
 both (u ∷ us) (b ∷ bs) w long less = by_role u.role u.nets b bs (words_of us (map elements_of bs)) (words_of us (map duals_of bs)) w less (λ v low. both us bs v (omega arith) low)
@@ -259,7 +259,7 @@ module _ (k : ℕ) (mul : ℕ → ℕ → ℕ) (bound : BoundNet) (bases : List 
     bit_zero : (w i : ℕ) → w < length (dual_words bound bases) → i < k → generator_value k mul bound bases (Bit w i) q ≡ 0
     bit_zero w i less low =
         let is = both bound.bound.words bases w are.long less in
-        let over : IsOver k mul is.basis = are.each is.basis is.has in
+        let over : IsBasisOver k mul is.basis = are.each is.basis is.has in
         let word : Word = is.word in
         let n = get_below word.nets i (omega (arith, low, (well.words word (w, is.word_at)).nets)) in
         let within : w < length (circuit_in k mul bound bases).words = slice_get_within (circuit_in k mul bound bases).words w word is.word_at in

@@ -9,7 +9,7 @@ use Rattle.net_words.specs.Binding.{BoundNet}
 use Rattle.net_words.specs.OneCycle.{IsOneCycle}
 use Rattle.poly_mixed.specs.Labels.{Labelling}
 use Rattle.poly_mixed.specs.Polynomial.{Terms, Point, IsPoint, IsReduced, value}
-use Rattle.poly_mixed.specs.Uniqueness.{InFirstWords}
+use Rattle.poly_mixed.specs.laws.Uniqueness.{InFirstWords}
 use Rattle.circuit_model.specs.Bases.{AreBases, circuit_in}
 use Rattle.circuit_model.specs.Circuit.{Circuit}
 use Rattle.circuit_model.specs.Out.{IsOut}

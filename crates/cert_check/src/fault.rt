@@ -6,14 +6,20 @@ use poly_mixed::PolyFault;
 use std::alloc::{AllocError, AllocFailed};
 use thiserror::Error;
 
-/// What is wrong with a line.
+/// What is wrong with a line, or want of memory.
 #[derive(Clone, Copy, Debug, PartialEq, Eq)]
-pub(crate) enum LineFault {
+pub enum LineFault {
+    /// It is no line of its place.
     Syntax,
+    /// It names a net that there is not, or in a polynomial one that is not written by its number.
     NoSuchNet,
+    /// It names a bit of no input or state word, or a place that the word has not.
     NoSuchBit,
+    /// It names a net that no gate drives.
     NotDriven,
+    /// It has the number of a shared multiplier that does not stand before it.
     NoSuchLet,
+    /// Want of memory.
     OutOfMemory,
 }
 

@@ -1,6 +1,6 @@
 //! Generators as polynomials.
 ghost use Rattle.std.specs.Prelude.{◌≡◌, ◌<◌, ◌+◌, ◌*◌, bit_xor, map, option_map, slice_index, IfOk, IfSome};
-ghost use Rattle.gf_basis.specs.BasisParts.{duals_of, IsOver};
+ghost use Rattle.gf_basis.specs.BasisParts.{duals_of, IsBasisOver};
 ghost use Rattle.net_core.specs.NetList.{nets};
 ghost use Rattle.net_core.specs.Lists.{Has};
 ghost use Rattle.net_core.specs.Sound.{IsSound};
@@ -115,7 +115,7 @@ fn form_poly<F: Field>(
     word: u32,
     place: u32,
 ) -> Result<Poly, AllocError>
-    requires over { IsOver (F.degree field.now) (F.product field.now) basis.now }
+    requires over { IsBasisOver (F.degree field.now) (F.product field.now) basis.now }
     requires word { word < 8 }
     requires place { place < F.degree field.now }
     ensures { IfOk result (λ q. IsPolynomialOf (F.degree field.now) (F.product field.now) (λ p. dual_form (F.degree field.now) (F.product field.now) (slice_index (duals_of basis.now) place) (slice_index p.words word)) q.terms) }
@@ -137,7 +137,7 @@ fn bit_poly<F: Field>(
     word: u32,
     place: u32,
 ) -> Result<Poly, AllocError>
-    requires over { IsOver (F.degree field.now) (F.product field.now) basis.now }
+    requires over { IsBasisOver (F.degree field.now) (F.product field.now) basis.now }
     requires word { word < 8 }
     requires place { place < F.degree field.now }
     ensures { IfOk result (λ q. IsPolynomialOf (F.degree field.now) (F.product field.now) (λ p. bit_xor (bit_value (p.is_one (F.degree field.now * word + place))) (dual_form (F.degree field.now) (F.product field.now) (slice_index (duals_of basis.now) place) (slice_index p.words word))) q.terms) }

@@ -18,6 +18,6 @@ mod words;
 
 pub use cert_pairs::CertPairs;
 pub use checking::{CertVerdict, check};
-pub use fault::CertFault;
+pub use fault::{CertFault, LineFault};
 pub use laws::{one_certificate_or_fault, one_verdict_or_fault, valid_claims_are_outputs};
 pub use reading::pairs;

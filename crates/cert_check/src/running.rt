@@ -1,6 +1,6 @@
 //! The running sum of a certificate.
 ghost use Rattle.std.specs.Prelude.{◌≡◌, ◌<◌, ◌++◌, ℕ, bit_xor, length, slice_get, IfOk, OnOk, Some};
-ghost use Rattle.gf_basis.specs.BasisParts.{elements_of, IsOver};
+ghost use Rattle.gf_basis.specs.BasisParts.{elements_of, IsBasisOver};
 ghost use Rattle.irreducible.specs.Span.{combination};
 ghost use Rattle.net_core.specs.NetList.{nets};
 ghost use Rattle.net_core.specs.Lists.{Has};
@@ -58,7 +58,7 @@ fn word_poly<F: Field>(
     basis: &Basis,
     list: &[u32],
 ) -> Result<Poly, AllocError>
-    requires basis { IsOver (F.degree field.now) (F.product field.now) basis.now }
+    requires basis { IsBasisOver (F.degree field.now) (F.product field.now) basis.now }
     requires long { length list.now ≡ F.degree field.now }
     requires inside { (n : ℕ) → Has list.now n → n < nets circuit.now.net }
     ensures { IfOk result (λ q. IsPolynomialOf (F.degree field.now) (F.product field.now) (λ p. combination (elements_of basis.now) (index (net_bit (variables (nets circuit.now.net) circuit.now.bound.words) p) list.now)) q.terms) }

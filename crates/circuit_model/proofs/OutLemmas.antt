@@ -6,7 +6,7 @@ use Rattle.net_core.proofs.EvalLemmas.{index_agree}
 use Rattle.net_words.specs.Reach.{Draws, Reaches}
 use Rattle.graph_core.proofs.ListLemmas.{get_below}
 use Rattle.irreducible.specs.Span.{combination}
-use Rattle.irreducible.specs.SpanLaws.{combination_below}
+use Rattle.irreducible.specs.laws.SpanLaws.{combination_below}
 use Rattle.gf_field.specs.Element.{AreElements}
 use Rattle.circuit_model.specs.Word.{HasElement}
 use Rattle.circuit_model.specs.Circuit.{Circuit, IsInput}

@@ -2,7 +2,7 @@
 use Rattle.std.specs.Prelude.{ℕ, List, [], map}
 use Rattle.net_core.specs.NetList.{NetList}
 use Rattle.net_core.specs.Lists.{Has}
-use Rattle.gf_basis.specs.BasisParts.{elements_of, IsOver}
+use Rattle.gf_basis.specs.BasisParts.{elements_of, IsBasisOver}
 use Rattle.circuit_model.specs.declared.circuit_word.CircuitWord.{CircuitWord}
 use Rattle.circuit_model.specs.Word.{Word}
 use Rattle.circuit_model.specs.Circuit.{Circuit}
@@ -17,4 +17,4 @@ circuit_of_parts k product net words output = record { k = k; product = product;
 
 -- each word's basis is one of the field
 abbrev pub AreOver : ℕ → (ℕ → ℕ → ℕ) → List CircuitWord → Type 0
-AreOver k product words = (w : CircuitWord) → Has words w → IsOver k product w.basis
+AreOver k product words = (w : CircuitWord) → Has words w → IsBasisOver k product w.basis

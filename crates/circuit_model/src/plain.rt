@@ -2,7 +2,7 @@
 ghost use Rattle.std.specs.Prelude.{◌≡◌, ◌==◌, ◌≤◌, ◌<◌, ◌^◌, ◌↔◌, ℕ, [], Some, length, IfOk, IfSome, IsSome, IsTrue, slice_get, false};
 ghost use Rattle.std.specs.Int.{bit_at};
 ghost use Rattle.net_core.specs.Lists.{Has, times};
-ghost use Rattle.gf_basis.specs.BasisParts.{IsOver};
+ghost use Rattle.gf_basis.specs.BasisParts.{IsBasisOver};
 ghost use Rattle.circuit_model.specs.Word.{HasElement};
 ghost use Rattle.circuit_model.specs.WellFormed.{IsWellFormed};
 ghost use Rattle.circuit_model.specs.Out.{IsOut};
@@ -17,7 +17,7 @@ use std::alloc::{AllocError, Global};
 
 // The element of a word, if it has k nets.
 fn element<F: Field>(field: &F, bits: &[bool], word: &CircuitWord) -> Option<u64>
-    requires { IsOver (F.degree field.now) (F.product field.now) word.now.basis }
+    requires { IsBasisOver (F.degree field.now) (F.product field.now) word.now.basis }
     ensures element { IfSome result (λ e. HasElement bits.now (word_of word.now) e) }
     ensures some { length word.now.nets.items ≡ F.degree field.now → IsSome result }
 {
@@ -111,7 +111,7 @@ pub fn output<F: Field>(
 ) -> Result<Option<u64>, AllocError>
     requires flat { net.now.latches ≡ [] }
     requires over { AreOver (F.degree field.now) (F.product field.now) words.now }
-    requires over_output { IsOver (F.degree field.now) (F.product field.now) output.now.basis }
+    requires over_output { IsBasisOver (F.degree field.now) (F.product field.now) output.now.basis }
     requires long { length xs.now ≡ length words.now }
     requires elements { (x : ℕ) → Has xs.now x → x < 2 ^ F.degree field.now }
     ensures output { IfOk result (λ found. IfSome found (λ e. IsOut (circuit_of_parts (F.degree field.now) (F.product field.now) net.now words.now output.now) xs.now e)) }

@@ -1,14 +1,15 @@
 -- At most one answer comes of the words, where the shelf tells what it holds.
-use Rattle.std.proofs.Common.{◌≡◌, ◌⊎◌, ◌∙◌, ap, sym, inl, inr, ℕ, ◌<◌, List, length, Option, None, Some, Ok, Err, arith}
+use Rattle.std.proofs.Common.{◌≡◌, ◌⊎◌, ◌∙◌, ap, sym, inl, inr, ℕ, ◌*◌, ◌^◌, ◌<◌, List, length, Option, None, Some, Ok, Err, arith}
 use Rattle.std.specs.FinMap.{get}
-use Rattle.text_core.specs.Outcome.{Determined, Within}
+use Rattle.text_core.specs.Outcome.{Determined, Exactly, Within}
 use Rattle.job_io.specs.Shelf.{Files}
 use Rattle.net_flat.proofs.FlatDetermined.{determined_after, determined_within}
-use Rattle.job_words.specs.declared.fault.Fault.TheVariants.{File, Signature, Netlist, Specification, Value}
+use Rattle.job_words.specs.declared.fault.Fault.TheVariants.{File, Signature, SecondSignature, Netlist, Specification, Value}
+use Rattle.job_words.specs.declared.fault.Fault.TheVariants as faults
 use Rattle.job_words.specs.declared.file_fault.FileFault.{FileFault}
 use Rattle.job_words.specs.declared.file_fault.FileFault.TheVariants.{Absent, TooLong}
 use Rattle.job_words.specs.Operands.{Word}
-use Rattle.job_words.specs.Command.{Action, Bits, Abstract, Check, Same, Eval, Job}
+use Rattle.job_words.specs.Command.{Action, Bits, Abstract, Check, Same, Eval, Iso, Lift, Table, Job, Over}
 use Rattle.job_words.proofs.OneCommandLemmas.{one_job}
 use Rattle.job_input.specs.File.{Read}
 use Rattle.job_input.specs.Labelling.{labels_of}
@@ -17,23 +18,31 @@ use Rattle.job_input.specs.NetlistOf.{BoundNetOf, NetlistIn, by_ending}
 use Rattle.job_input.specs.SettingOf.{SignedOf, SignedValue, SettingWith}
 use Rattle.job_input.specs.SettingSound.{IsSoundSetting}
 use Rattle.job_input.specs.SettingValue.{SettingValue}
-use Rattle.job_input.specs.SignedIn.{SignedIn}
+use Rattle.job_input.specs.SignedIn.{SecondIn, SecondOf, SecondSignedIn, SignedIn}
 use Rattle.job_input.specs.SpecificationIn.{SpecificationOf, SpecificationIn}
+use Rattle.job_input.specs.TableIn.{TableIn, TableOf}
 use Rattle.net_words.specs.Binding.{BoundNet}
+use Rattle.net_words.proofs.BindDetermined.{determined_exactly}
 use Rattle.job_input.proofs.CycleLemmas.{circuit_determined}
 use Rattle.job_input.proofs.NetlistDetermined.{netlist_determined}
 use Rattle.job_input.proofs.SettingDetermined.{signed_determined, with_determined}
 use Rattle.job_input.proofs.SettingSoundLemmas.{setting_sound}
 use Rattle.job_input.proofs.SpecificationDetermined.{specification_determined}
+use Rattle.job_input.proofs.TableDetermined.{table_determined as table_text_determined}
 use Rattle.gf_abs.specs.Answer.{Spelled, ActionAnswer, SignedAnswer, JobAnswer, Answer}
 use Rattle.gf_abs.specs.commands.Bits.{BitsReply}
 use Rattle.gf_abs.specs.commands.Abstract.{AbstractReply}
 use Rattle.gf_abs.specs.commands.Check.{CheckReply, CheckUnrolled, CheckOver}
 use Rattle.gf_abs.specs.commands.Eval.{EvalAt, EvalOver, EvalReply}
+use Rattle.gf_abs.specs.commands.Iso.{IsoReply}
+use Rattle.gf_abs.specs.commands.Lift.{LiftOver, LiftReply, SmallEnough, table_words}
+use Rattle.gf_abs.specs.commands.Table.{TableOver, TableReply}
 use Rattle.gf_abs.specs.commands.Same.{SameReply, SameSecond, SameUnrolled, SameBeside}
 use Rattle.gf_abs.specs.Values.{ValuesOf}
 use Rattle.gf_abs.proofs.CheckDetermined.{check_determined}
 use Rattle.gf_abs.proofs.EvalDetermined.{eval_determined, values_determined}
+use Rattle.gf_abs.proofs.IsoLemmas.{iso_determined}
+use Rattle.gf_abs.proofs.TableLemmas.{lift_determined, small_determined, table_determined}
 use Rattle.gf_abs.proofs.ReplyDetermined.{bits_determined, abstract_determined}
 use Rattle.gf_abs.proofs.SameDetermined.{same_determined}
 
@@ -102,6 +111,16 @@ module _ (files : Files) where
       determined_after (Within File (Read (Some files) file)) (λ bytes. Within Specification (SpecificationOf labels setting.k setting.product bytes)) (file_determined file)
       (λ bytes read. determined_within Specification (SpecificationOf labels setting.k setting.product bytes) (specification_determined labels setting.k setting.product bytes))
 
+  second_in_determined : (name : Word) → Determined (SecondIn (Some files) name)
+  second_in_determined name =
+      determined_after (SecondSignedIn (Some files) name) SecondOf
+      (determined_after (Within File (Read (Some files) name)) (λ text. Within SecondSignature (SignedOf text)) (file_determined name) (λ text read. determined_within SecondSignature (SignedOf text) (signed_determined text)))
+      (λ signed taken. determined_after (Within SecondSignature (SettingWith signed)) (λ setting. Exactly setting.signature) (determined_within SecondSignature (SettingWith signed) (with_determined signed)) (λ setting with. determined_exactly setting.signature))
+
+  table_in_determined : (k n : ℕ) (name : Word) → Determined (TableIn (Some files) k n name)
+  table_in_determined k n name =
+      determined_after (Within File (Read (Some files) name)) (λ text. Within faults.Table (TableOf k n text)) (file_determined name) (λ text read. determined_within faults.Table (TableOf k n text) (table_text_determined k n text))
+
   action_determined : (setting : SettingValue) (action : Action) → IsSoundSetting setting → Determined (ActionAnswer (Some files) setting action)
   action_determined setting (Bits net terms cycles) sound =
       determined_after (CircuitIn (Some files) setting.signature net cycles) (λ circuit. BitsReply setting circuit terms) (file_circuit_determined setting net cycles)
@@ -126,6 +145,15 @@ module _ (files : Files) where
       determined_after (Within Value (ValuesOf setting.k count values)) (λ xs. EvalAt setting net netlist xs cycles) (determined_within Value (ValuesOf setting.k count values) (values_determined setting.k count values)) (λ xs are.
       determined_after (UnrolledIn net netlist cycles) (λ circuit. EvalReply setting circuit xs) (unrolled_determined net netlist cycles) (λ circuit of.
       eval_determined setting circuit xs sound (by_ending net taken.0) cycles (netlist, taken.2, of))))
+  action_determined setting (Iso other) sound =
+      determined_after (SecondIn (Some files) other) (λ second. IsoReply setting.signature second) (second_in_determined other) (λ second taken. iso_determined setting.signature second)
+  action_determined setting (Lift table) sound =
+      determined_after (SmallEnough setting) (λ u. LiftOver (Some files) setting table) (small_determined setting) (λ u small.
+      determined_after (TableIn (Some files) setting.k (2 ^ (setting.k * table_words setting)) table) (λ values. LiftReply setting values) (table_in_determined setting.k (2 ^ (setting.k * table_words setting)) table) (λ values taken. lift_determined setting sound values))
+  action_determined setting (Table net cycles) sound =
+      determined_after (SmallEnough setting) (λ u. TableOver (Some files) setting net cycles) (small_determined setting) (λ u small.
+      determined_after (CircuitIn (Some files) setting.signature net cycles) (λ circuit. TableReply setting circuit) (file_circuit_determined setting net cycles)
+      (λ circuit of. table_determined setting circuit sound (by_ending net of.1.0) cycles (of.0, of.1.2, of.2)))
 
   signed_answer_determined : (text : List ℕ) (signed : SignedValue) (action : Action) → SignedOf text (Ok signed) → Determined (SignedAnswer (Some files) signed action)
   signed_answer_determined text signed action is =
@@ -137,9 +165,9 @@ module _ (files : Files) where
       determined_after (Within File (Read (Some files) name)) (λ text. Within Signature (SignedOf text)) (file_determined name) (λ text read. determined_within Signature (SignedOf text) (signed_determined text))
 
   job_determined : (job : Job) → Determined (JobAnswer (Some files) job)
-  job_determined job =
-      determined_after (SignedIn (Some files) job.signature) (λ signed. SignedAnswer (Some files) signed job.action) (signed_in_determined job.signature)
-      (λ signed taken. signed_answer_determined taken.0 signed job.action taken.2)
+  job_determined (Over signature action) =
+      determined_after (SignedIn (Some files) signature) (λ signed. SignedAnswer (Some files) signed action) (signed_in_determined signature)
+      (λ signed taken. signed_answer_determined taken.0 signed action taken.2)
 
   pub answer_determined : (words : List Word) → Determined (Answer words (Some files))
   answer_determined words = determined_after (Spelled words) (λ job. JobAnswer (Some files) job) (spelled_determined words) (λ job is. job_determined job)

@@ -11,7 +11,7 @@ use Rattle.spec_expand.specs.SpecValue.{spec_at}
 use Rattle.spec_expand.specs.Specification.{SpecTerms}
 use Rattle.job_words.specs.Operands.{Word}
 use Rattle.job_words.specs.declared.fault.Fault.{Fault}
-use Rattle.job_words.specs.Command.{Check, Job}
+use Rattle.job_words.specs.Command.{Check, Job, Over}
 use Rattle.job_words.proofs.OneCommandLemmas.{one_job}
 use Rattle.job_input.specs.Labelling.{labels_of}
 use Rattle.job_input.specs.JobOf.{job_of}
@@ -60,7 +60,7 @@ replied_by setting circuit job spec bound reply behind (line, (ts, of_words, is_
   replied = exactly ∙ ap (λ l. check_reply (labels_of setting.k setting.signature.words) l found) is_line;
 }
 
-job_judges : (files : Files) (signature net specification : Word) (bound cycles : ℕ) (reply : Reply) → JobAnswer (Some files) (record { signature = signature; action = Check net specification bound cycles }) (Ok reply) → HeldJudged files signature net specification cycles reply
+job_judges : (files : Files) (signature net specification : Word) (bound cycles : ℕ) (reply : Reply) → JobAnswer (Some files) (Over signature (Check net specification bound cycles)) (Ok reply) → HeldJudged files signature net specification cycles reply
 job_judges files signature net specification bound cycles reply (signed, (text, read, is), (setting, are, (netlist, (bytes, read', taken), (spec, said, (circuit, of, came))))) =
     let behind = unrolled text (by_ending net bytes) cycles setting netlist circuit (signed, is, are) taken of in
     record {
@@ -84,7 +84,7 @@ module _ (files : Files) (words : List Word) (signature net specification : Word
   held_judged =
       let P : Job → Type 0 = λ job. JobAnswer (Some files) job (Ok reply) in
       let answer = answers.answer in
-      job_judges files signature net specification answers.bound cycles reply (subst P (one_job words answer.0 (record { signature = signature; action = Check net specification answers.bound cycles }) answer.1 answers.spelled) answer.2)
+      job_judges files signature net specification answers.bound cycles reply (subst P (one_job words answer.0 (Over signature (Check net specification answers.bound cycles)) answer.1 answers.spelled) answer.2)
 
   -- what was judged of these
   judged_for : (setting : SettingValue) (job : Circuit) (spec : SpecTerms) → AreHeldWith files signature net specification cycles setting job spec → Judged setting job spec reply

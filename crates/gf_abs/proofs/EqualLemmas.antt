@@ -9,7 +9,7 @@ use Rattle.poly_mixed.specs.Cofactor.{LacksBit}
 use Rattle.poly_mixed.specs.Labels.{AreLabels, bit_count}
 use Rattle.poly_mixed.specs.Polynomial.{Terms, IsReduced, value}
 use Rattle.poly_mixed.specs.Text.{text}
-use Rattle.poly_mixed.specs.TextLaw.{IsWritten}
+use Rattle.poly_mixed.specs.laws.TextLaw.{IsWritten}
 use Rattle.poly_mixed.proofs.FieldLaws.{field_of}
 use Rattle.poly_mixed.proofs.FirstWords.{first_point, first_taken, is_first_point, first_alone}
 use Rattle.poly_mixed.proofs.TextLaws.{one_text}
@@ -49,7 +49,7 @@ no_bits [] lacks = tt
 no_bits (t ∷ ts) lacks = (no_ranks t.0.bits (λ rank. (lacks rank).0), no_bits ts (λ rank. (lacks rank).1))
 
 -- so any labels name all of its bits
-all_named : (n : ℕ) (ts : Terms) → AllByRecursion (λ t. t.0.bits ≡ []) ts → AllByRecursion (λ t. AllByRecursion (λ r. r < n) t.0.bits) ts
+pub all_named : (n : ℕ) (ts : Terms) → AllByRecursion (λ t. t.0.bits ≡ []) ts → AllByRecursion (λ t. AllByRecursion (λ r. r < n) t.0.bits) ts
 all_named n [] none = tt
 all_named n (t ∷ ts) none = let P : List ℕ → Type 0 = λ rs. AllByRecursion (λ r. r < n) rs in (subst P (sym none.0) tt, all_named n ts none.1)
 

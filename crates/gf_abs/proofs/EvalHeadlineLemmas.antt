@@ -4,7 +4,7 @@ use Rattle.job_io.specs.Shelf.{Files}
 use Rattle.net_words.specs.Binding.{BoundNet}
 use Rattle.circuit_model.specs.Circuit.{Circuit}
 use Rattle.job_words.specs.Operands.{Word}
-use Rattle.job_words.specs.Command.{Eval, Job}
+use Rattle.job_words.specs.Command.{Eval, Job, Over}
 use Rattle.job_words.proofs.OneCommandLemmas.{one_job}
 use Rattle.job_input.specs.JobOf.{job_of}
 use Rattle.job_input.specs.Labelling.{labels_of}
@@ -40,7 +40,7 @@ element_of setting circuit job values xs reply behind are (e, out, same) =
       line = ap (λ (r : Reply). r.text) same;
     }
 
-job_gives : (files : Files) (signature net : Word) (values : List Word) (cycles : ℕ) (reply : Reply) → JobAnswer (Some files) (record { signature = signature; action = Eval net values cycles }) (Ok reply) → HeldElement files signature net values cycles reply
+job_gives : (files : Files) (signature net : Word) (values : List Word) (cycles : ℕ) (reply : Reply) → JobAnswer (Some files) (Over signature (Eval net values cycles)) (Ok reply) → HeldElement files signature net values cycles reply
 job_gives files signature net values cycles reply (signed, (text, read, is), (setting, are, (netlist, (bytes, read', taken), (xs, values_are, (circuit, of, came))))) =
     let behind = unrolled text (by_ending net bytes) cycles setting netlist circuit (signed, is, are) taken of in
     record {
@@ -54,7 +54,7 @@ pub eval_prints : (files : Files) (words : List Word) (signature net : Word) (va
 eval_prints files words signature net values cycles reply setting job is held =
     let P : Job → Type 0 = λ job. JobAnswer (Some files) job (Ok reply) in
     let answer = is.answer in
-    let found = job_gives files signature net values cycles reply (subst P (one_job words answer.0 (record { signature = signature; action = Eval net values cycles }) answer.1 is.spelled) answer.2) in
+    let found = job_gives files signature net values cycles reply (subst P (one_job words answer.0 (Over signature (Eval net values cycles)) answer.1 is.spelled) answer.2) in
     let same = one_setting files signature net net cycles found.setting setting found.job job found.held held in
     let Q : SettingValue → Type 0 = λ s. AreHeld files signature net cycles s found.job in
     let R : SettingValue → Type 0 = λ s. PrintsElement s found.job values reply in

@@ -12,7 +12,7 @@ use Rattle.spec_compare.specs.ValueAt.{at_ones}
 use Rattle.spec_compare.proofs.ComparedLemmas.{nets_long}
 use Rattle.spec_compare.proofs.SomeOnesLemmas.{as_value}
 use Rattle.job_words.specs.Operands.{Word}
-use Rattle.job_words.specs.Command.{Bits, Abstract, Job}
+use Rattle.job_words.specs.Command.{Bits, Abstract, Job, Over}
 use Rattle.job_words.proofs.OneCommandLemmas.{one_job}
 use Rattle.job_input.specs.CircuitOf.{CircuitOf}
 use Rattle.job_input.specs.File.{Read}
@@ -91,7 +91,7 @@ record HeldPrinted (files : Files) (signature net : Word) (cycles : ℕ) (reply 
   pub held : AreHeld files signature net cycles setting job
   pub printed : Printed setting job reply
 
-job_prints : (files : Files) (signature net : Word) (bound cycles : ℕ) (reply : Reply) → JobAnswer (Some files) (record { signature = signature; action = Abstract net bound cycles }) (Ok reply) → HeldPrinted files signature net cycles reply
+job_prints : (files : Files) (signature net : Word) (bound cycles : ℕ) (reply : Reply) → JobAnswer (Some files) (Over signature (Abstract net bound cycles)) (Ok reply) → HeldPrinted files signature net cycles reply
 job_prints files signature net bound cycles reply (signed, (text, read, is), (setting, are, (circuit, (netlist, (bytes, read', taken), of), came))) =
     let behind = unrolled text (by_ending net bytes) cycles setting netlist circuit (signed, is, are) taken of in
     record {
@@ -125,7 +125,7 @@ module _ (setting : SettingValue) (circuit : BoundNet) (job : Circuit) (behind :
             (one.output xs (value setting.product (at_ones ones) ts)).0 ((as_value c ts xs (value setting.product (at_ones ones) ts) ok is).0 (record { ones = ones; are = here; value_is = refl }));
       }
 
-job_prints_bits : (files : Files) (signature net : Word) (bound cycles : ℕ) (reply : Reply) → JobAnswer (Some files) (record { signature = signature; action = Bits net bound cycles }) (Ok reply) → PrintsHeldInBits files signature net cycles reply
+job_prints_bits : (files : Files) (signature net : Word) (bound cycles : ℕ) (reply : Reply) → JobAnswer (Some files) (Over signature (Bits net bound cycles)) (Ok reply) → PrintsHeldInBits files signature net cycles reply
 job_prints_bits files signature net bound cycles reply (signed, (text, read, is), (setting, are, (circuit, (netlist, (bytes, read', taken), of), came))) =
     let behind = unrolled text (by_ending net bytes) cycles setting netlist circuit (signed, is, are) taken of in
     record {
@@ -142,7 +142,7 @@ module _ (files : Files) (words : List Word) (signature net : Word) (cycles : �
   held_printed is =
       let P : Job → Type 0 = λ job. JobAnswer (Some files) job (Ok reply) in
       let answer = is.answer in
-      job_prints files signature net is.bound cycles reply (subst P (one_job words answer.0 (record { signature = signature; action = Abstract net is.bound cycles }) answer.1 is.spelled) answer.2)
+      job_prints files signature net is.bound cycles reply (subst P (one_job words answer.0 (Over signature (Abstract net is.bound cycles)) answer.1 is.spelled) answer.2)
 
   pub abstract_prints : AnswersAbstract files words signature net cycles reply → PrintsHeld files signature net cycles reply
   abstract_prints is =
@@ -154,10 +154,10 @@ module _ (files : Files) (words : List Word) (signature net : Word) (cycles : �
   bits_print is =
       let P : Job → Type 0 = λ job. JobAnswer (Some files) job (Ok reply) in
       let answer = is.answer in
-      job_prints_bits files signature net is.bound cycles reply (subst P (one_job words answer.0 (record { signature = signature; action = Bits net is.bound cycles }) answer.1 is.spelled) answer.2)
+      job_prints_bits files signature net is.bound cycles reply (subst P (one_job words answer.0 (Over signature (Bits net is.bound cycles)) answer.1 is.spelled) answer.2)
 
   -- what is printed is of this setting and job
-  printed_of : (setting : SettingValue) (job : Circuit) → AnswersAbstract files words signature net cycles reply → AreHeld files signature net cycles setting job → Printed setting job reply
+  pub printed_of : (setting : SettingValue) (job : Circuit) → AnswersAbstract files words signature net cycles reply → AreHeld files signature net cycles setting job → Printed setting job reply
   printed_of setting job is held =
       let found = held_printed is in
       let P : SettingValue → Type 0 = λ s. AreHeld files signature net cycles s found.job in

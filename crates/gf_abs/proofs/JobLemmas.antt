@@ -104,7 +104,7 @@ module _ (setting : SettingValue) (c job : Circuit) (one : IsOneWith c job) wher
   input_to : (xs : List ℕ) → IsInput c xs → IsInput job xs
   input_to xs is = let P : ℕ → Type 0 = λ k. (x : ℕ) → Has xs x → x < 2 ^ k in record { long = is.long ∙ long; elements = subst P one.alike.k is.elements }
 
-  input_from : (xs : List ℕ) → IsInput job xs → IsInput c xs
+  pub input_from : (xs : List ℕ) → IsInput job xs → IsInput c xs
   input_from xs is = let P : ℕ → Type 0 = λ k. (x : ℕ) → Has xs x → x < 2 ^ k in record { long = is.long ∙ sym long; elements = subst P (sym one.alike.k) is.elements }
 
   -- a specification has the same values

@@ -17,6 +17,10 @@ pub mod EvalDetermined
 pub mod ElementLemmas
 pub mod AlikeLemmas
 pub mod SameLemmas
+pub mod HexLemmas
+pub mod ReadBackLemmas
+pub mod TableLemmas
+pub mod IsoLemmas
 pub mod AnswerDetermined
 pub mod OneLineLemmas
 pub mod StatusLemmas
@@ -29,4 +33,6 @@ pub mod HeadlineLemmas
 pub mod SameHeadlineLemmas
 pub mod CheckHeadlineLemmas
 pub mod EvalHeadlineLemmas
+pub mod TableHeadlineLemmas
+pub mod IsoHeadlineLemmas
 mod Examples

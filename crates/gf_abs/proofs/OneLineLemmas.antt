@@ -10,7 +10,7 @@ use Rattle.poly_mixed.specs.declared.stage.Stage.{Stage}
 use Rattle.spec_expand.specs.Specification.{SpecTerms}
 use Rattle.spec_expand.specs.SpecListing.{spec_listing}
 use Rattle.stage_model.specs.Listing.{Joined, Earlier, Later, Listing}
-use Rattle.job_words.specs.Command.{Action, Bits, Abstract, Check, Same, Eval, IsSpelled, Job}
+use Rattle.job_words.specs.Command.{Action, Bits, Abstract, Check, Same, Eval, Iso, Lift, Table, Job, Over, IsSpelled}
 use Rattle.job_words.specs.Fault.{fault_line}
 use Rattle.job_words.specs.OneLine.{HasNoLineFeed, IsOneLine, KeepsToItsLine}
 use Rattle.job_words.specs.Operands.{IsOperand, Word}
@@ -23,7 +23,7 @@ use Rattle.job_input.specs.CircuitOf.{CircuitIn}
 use Rattle.job_input.specs.Labelling.{labels_of}
 use Rattle.job_input.specs.SettingOf.{SettingWith, SignedOf, SignedValue}
 use Rattle.job_input.specs.SettingValue.{SettingValue}
-use Rattle.job_input.proofs.FileLineLemmas.{HaveKeptNames, cycles_keep, labels_kept, netlist_file_keeps, operand_kept, setting_keeps, signed_keeps, specification_keeps}
+use Rattle.job_input.proofs.FileLineLemmas.{HaveKeptNames, cycles_keep, labels_kept, netlist_file_keeps, operand_kept, second_keeps, setting_keeps, signed_keeps, specification_keeps, table_keeps}
 use Rattle.job_input.proofs.SignedLemmas.{setting_names}
 use Rattle.gf_abs.specs.Answer.{ActionAnswer, Answer, JobAnswer, SignedAnswer}
 use Rattle.gf_abs.specs.Values.{ValuesOf}
@@ -42,13 +42,19 @@ AreKept (Abstract net terms cycles) = HasNoLineFeed net
 AreKept (Check net specification terms cycles) = HasNoLineFeed net × HasNoLineFeed specification
 AreKept (Same net other terms cycles) = HasNoLineFeed net × HasNoLineFeed other
 AreKept (Eval net values cycles) = HasNoLineFeed net
+AreKept (Iso other) = HasNoLineFeed other
+AreKept (Lift table) = HasNoLineFeed table
+AreKept (Table net cycles) = HasNoLineFeed net
 
-spelled_kept : (words : List Word) (signature : Word) (action : Action) → IsSpelled words (record { signature = signature; action = action }) → HasNoLineFeed signature × AreKept action
-spelled_kept words signature (Bits net terms cycles) is = (operand_kept signature is.follow.signature_is, operand_kept net is.follow.net_is)
-spelled_kept words signature (Abstract net terms cycles) is = (operand_kept signature is.follow.signature_is, operand_kept net is.follow.net_is)
-spelled_kept words signature (Check net specification terms cycles) is = (operand_kept signature is.follow.signature_is, (operand_kept net is.follow.net_is, operand_kept specification is.follow.other_is))
-spelled_kept words signature (Same net other terms cycles) is = (operand_kept signature is.follow.pair.signature_is, (operand_kept net is.follow.pair.net_is, operand_kept other is.follow.pair.other_is))
-spelled_kept words signature (Eval net values cycles) is = (operand_kept signature is.follow.signature_is, operand_kept net is.follow.net_is)
+spelled_kept : (words : List Word) (signature : Word) (action : Action) → IsSpelled words (Over signature action) → HasNoLineFeed signature × AreKept action
+spelled_kept words signature (Bits net terms cycles) is = (operand_kept signature is.follow.signature_is, operand_kept net is.follow.file_is)
+spelled_kept words signature (Abstract net terms cycles) is = (operand_kept signature is.follow.signature_is, operand_kept net is.follow.file_is)
+spelled_kept words signature (Check net specification terms cycles) is = (operand_kept signature is.follow.signature_is, (operand_kept net is.follow.file_is, operand_kept specification is.follow.other_is))
+spelled_kept words signature (Same net other terms cycles) is = (operand_kept signature is.follow.signature_is, (operand_kept net is.follow.file_is, operand_kept other is.follow.other_is))
+spelled_kept words signature (Eval net values cycles) is = (operand_kept signature is.follow.signature_is, operand_kept net is.follow.file_is)
+spelled_kept words signature (Iso other) is = (operand_kept signature is.follow.signature_is, operand_kept other is.follow.file_is)
+spelled_kept words signature (Lift table) is = (operand_kept signature is.follow.signature_is, operand_kept table is.follow.file_is)
+spelled_kept words signature (Table net cycles) is = (operand_kept signature is.follow.signature_is, operand_kept net is.follow.file_is)
 
 -- ---- stages
 
@@ -123,18 +129,26 @@ module _ (setting : SettingValue) (names : HaveNames setting.signature.words) wh
   action_kept held (Eval net values cycles) fault is (inr (netlist, taken, inl wrong)) = values_kept setting.k (length (labels_of setting.k setting.signature.words).words) values fault wrong
   action_kept held (Eval net values cycles) fault is (inr (netlist, taken, inr (xs, are, inl wrong))) = cycles_keep net netlist cycles fault is wrong
   action_kept held (Eval net values cycles) fault is (inr (netlist, taken, inr (xs, are, inr (circuit, of, never)))) = absurd never
+  action_kept held (Iso other) fault is (inl wrong) = second_keeps held other fault is wrong
+  action_kept held (Iso other) fault is (inr (second, taken, wrong)) = same_line fault faults.Fields wrong.0 tt
+  action_kept held (Lift table) fault is (inl wrong) = same_line fault faults.NotSmall wrong.0 tt
+  action_kept held (Lift table) fault is (inr (small, fits, inl wrong)) = table_keeps held setting.k _ table fault is wrong
+  action_kept held (Lift table) fault is (inr (small, fits, inr (values, taken, never))) = absurd never
+  action_kept held (Table net cycles) fault is (inl wrong) = same_line fault faults.NotSmall wrong.0 tt
+  action_kept held (Table net cycles) fault is (inr (small, fits, inl wrong)) = circuit_kept held net cycles fault is wrong
+  action_kept held (Table net cycles) fault is (inr (small, fits, inr (circuit, taken, never))) = absurd never
 
 signed_kept : (held : Option Files) (text : List ℕ) (signed : SignedValue) (action : Action) (fault : Fault) → SignedOf text (Ok signed) → AreKept action → SignedAnswer held signed action (Err fault) → KeepsToItsLine fault
 signed_kept held text signed action fault is kept (inl (other, wrong, same)) = same_line fault (faults.Signature other) same (setting_keeps signed other wrong)
 signed_kept held text signed action fault is kept (inr (setting, taken, wrong)) = action_kept setting (setting_names text setting (signed, is, taken)) held action fault kept wrong
 
-job_kept : (held : Option Files) (job : Job) (fault : Fault) → HasNoLineFeed job.signature → AreKept job.action → JobAnswer held job (Err fault) → KeepsToItsLine fault
-job_kept held job fault signature action (inl wrong) = signed_keeps held job.signature fault signature wrong
-job_kept held job fault signature action (inr (signed, (text, read, is), wrong)) = signed_kept held text signed job.action fault is action wrong
+job_kept : (held : Option Files) (signature : Word) (action : Action) (fault : Fault) → HasNoLineFeed signature → AreKept action → JobAnswer held (Over signature action) (Err fault) → KeepsToItsLine fault
+job_kept held signature action fault kept operands (inl wrong) = signed_keeps held signature fault kept wrong
+job_kept held signature action fault kept operands (inr (signed, (text, read, is), wrong)) = signed_kept held text signed action fault is operands wrong
 
 answer_kept : (words : List Word) (held : Option Files) (fault : Fault) → Answer words held (Err fault) → KeepsToItsLine fault
 answer_kept words held fault (inl (same, never)) = same_line fault faults.Words same tt
-answer_kept words held fault (inr (job, spelled, wrong)) = let kept = spelled_kept words job.signature job.action spelled in job_kept held job fault kept.0 kept.1 wrong
+answer_kept words held fault (inr (Over signature action, spelled, wrong)) = let kept = spelled_kept words signature action spelled in job_kept held signature action fault kept.0 kept.1 wrong
 
 -- the line of a fault that may come is one line
 pub answers_one_line : (words : List Word) (held : Option Files) (fault : Fault) → Answer words held (Err fault) → IsOneLine (fault_line fault)

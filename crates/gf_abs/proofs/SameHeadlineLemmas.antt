@@ -10,7 +10,7 @@ use Rattle.circuit_model.specs.WellFormed.{IsWellFormed}
 use Rattle.circuit_model.proofs.OnesLemmas.{alike_long}
 use Rattle.circuit_model.proofs.OutLemmas.{one_out, some_out}
 use Rattle.job_words.specs.Operands.{Word}
-use Rattle.job_words.specs.Command.{Same, Job}
+use Rattle.job_words.specs.Command.{Same, Job, Over}
 use Rattle.job_words.proofs.OneCommandLemmas.{one_job}
 use Rattle.job_input.specs.Labelling.{labels_of}
 use Rattle.job_input.specs.JobOf.{job_of}
@@ -47,7 +47,7 @@ record HeldCompared (files : Files) (signature net other : Word) (cycles : ℕ) 
 replied_by : (setting : SettingValue) (circuit other : BoundNet) (job second : Circuit) (bound : ℕ) (reply : Reply) → IsUnrolled setting circuit job → IsUnrolled setting other second → SameReply setting circuit other bound (Ok reply) → Compared setting job second reply
 replied_by setting circuit other job second bound reply behind beside (found, is, exactly) = record { circuit = circuit; other = other; behind = behind; beside = beside; found = found; is = is.0; replied = exactly }
 
-job_compares : (files : Files) (signature net other : Word) (bound cycles : ℕ) (reply : Reply) → JobAnswer (Some files) (record { signature = signature; action = Same net other bound cycles }) (Ok reply) → HeldCompared files signature net other cycles reply
+job_compares : (files : Files) (signature net other : Word) (bound cycles : ℕ) (reply : Reply) → JobAnswer (Some files) (Over signature (Same net other bound cycles)) (Ok reply) → HeldCompared files signature net other cycles reply
 job_compares files signature net other bound cycles reply (signed, (text, read, is), (setting, are, (netlist, (bytes, read', taken), (second, (bytes', read'', taken'), (circuit, of, (more, of', came)))))) =
     let behind = unrolled text (by_ending net bytes) cycles setting netlist circuit (signed, is, are) taken of in
     let beside = unrolled text (by_ending other bytes') cycles setting second more (signed, is, are) taken' of' in
@@ -65,7 +65,7 @@ module _ (files : Files) (words : List Word) (signature net other : Word) (cycle
   held_compared =
       let P : Job → Type 0 = λ job. JobAnswer (Some files) job (Ok reply) in
       let answer = answers.answer in
-      job_compares files signature net other answers.bound cycles reply (subst P (one_job words answer.0 (record { signature = signature; action = Same net other answers.bound cycles }) answer.1 answers.spelled) answer.2)
+      job_compares files signature net other answers.bound cycles reply (subst P (one_job words answer.0 (Over signature (Same net other answers.bound cycles)) answer.1 answers.spelled) answer.2)
 
   -- the comparison of these jobs
   compared_for : (setting : SettingValue) (job second : Circuit) → AreHeld files signature net cycles setting job → AreHeld files signature other cycles setting second → Compared setting job second reply

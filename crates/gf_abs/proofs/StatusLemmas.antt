@@ -3,7 +3,7 @@ use Rattle.std.proofs.Common.{◌≡◌, ◌⊎◌, ap, inl, inr, ℕ, List, Opt
 use Rattle.job_io.specs.Shelf.{Files}
 use Rattle.poly_mixed.specs.Labels.{Labelling}
 use Rattle.circuit_model.specs.Differing.{Difference}
-use Rattle.job_words.specs.Command.{Action, Bits, Abstract, Check, Same, Eval}
+use Rattle.job_words.specs.Command.{Action, Bits, Abstract, Check, Same, Eval, Iso, Lift, Table, Over}
 use Rattle.job_words.specs.Operands.{Word}
 use Rattle.job_input.specs.Labelling.{labels_of}
 use Rattle.job_input.specs.SettingValue.{SettingValue}
@@ -29,6 +29,9 @@ action_status held setting (Abstract net terms cycles) reply (circuit, taken, (t
 action_status held setting (Check net specification terms cycles) reply (netlist, taken, (spec, said, (circuit, of, (line, is, (found, judged, same))))) = check_status (labels_of setting.k setting.signature.words) line found reply same
 action_status held setting (Same net other terms cycles) reply (netlist, taken, (second, more, (circuit, of, (other', of', (found, compared, same))))) = same_status (labels_of setting.k setting.signature.words) found reply same
 action_status held setting (Eval net values cycles) reply (netlist, taken, (xs, are, (circuit, of, (e, out, same)))) = inl (ap (λ (r : Reply). r.status) same)
+action_status held setting (Iso other) reply (second, taken, images) = inl (ap (λ (r : Reply). r.status) images.text)
+action_status held setting (Lift table) reply (small, is, (values, taken, (ts, of, same))) = inl (ap (λ (r : Reply). r.status) same)
+action_status held setting (Table net cycles) reply (small, is, (circuit, taken, (table, of, same))) = inl (ap (λ (r : Reply). r.status) same)
 
 pub answer_status : (words : List Word) (held : Option Files) (reply : Reply) → Answer words held (Ok reply) → (reply.status ≡ 0) ⊎ (reply.status ≡ 1)
-answer_status words held reply (job, spelled, (signed, read, (setting, taken, is))) = action_status held setting job.action reply is
+answer_status words held reply (Over signature action, spelled, (signed, read, (setting, taken, is))) = action_status held setting action reply is

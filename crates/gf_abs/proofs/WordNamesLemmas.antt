@@ -6,7 +6,7 @@ use Rattle.net_words.specs.declared.word.WordText.{WordText}
 use Rattle.gf_basis.specs.declared.bases.Basis.{Basis}
 use Rattle.poly_mixed.specs.Polynomial.{Terms, value}
 use Rattle.poly_mixed.specs.Text.{HasWordNames}
-use Rattle.poly_mixed.specs.Uniqueness.{IsZeros, InFirstWords, InBits}
+use Rattle.poly_mixed.specs.laws.Uniqueness.{IsZeros, InFirstWords, InBits}
 use Rattle.poly_mixed.proofs.FieldLaws.{field_of}
 use Rattle.poly_mixed.proofs.FirstWords.{first_point, first_taken, is_first_point, first_alone}
 use Rattle.circuit_model.specs.Out.{IsOut}

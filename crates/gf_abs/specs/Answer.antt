@@ -5,7 +5,7 @@ use Rattle.job_io.specs.Shelf.{Files}
 use Rattle.job_words.specs.declared.fault.Fault.{Fault}
 use Rattle.job_words.specs.declared.fault.Fault.TheVariants.{Words, Signature}
 use Rattle.job_words.specs.Operands.{Word}
-use Rattle.job_words.specs.Command.{Action, Bits, Abstract, Check, Same, Eval, Job, IsSpelled}
+use Rattle.job_words.specs.Command.{Action, Bits, Abstract, Check, Same, Eval, Iso, Lift, Table, Job, Over, IsSpelled}
 use Rattle.job_input.specs.SettingOf.{SignedValue, SettingWith}
 use Rattle.job_input.specs.SettingValue.{SettingValue}
 use Rattle.job_input.specs.SignedIn.{SignedIn}
@@ -15,6 +15,9 @@ use Rattle.gf_abs.specs.commands.Abstract.{AbstractAnswer}
 use Rattle.gf_abs.specs.commands.Check.{CheckAnswer}
 use Rattle.gf_abs.specs.commands.Same.{SameAnswer}
 use Rattle.gf_abs.specs.commands.Eval.{EvalAnswer}
+use Rattle.gf_abs.specs.commands.Iso.{IsoAnswer}
+use Rattle.gf_abs.specs.commands.Lift.{LiftAnswer}
+use Rattle.gf_abs.specs.commands.Table.{TableAnswer}
 
 -- the command of the words, or fault 01 where they spell none
 abbrev pub Spelled : List Word → Outcome Fault Job
@@ -28,6 +31,9 @@ ActionAnswer held setting (Abstract net terms cycles) = AbstractAnswer held sett
 ActionAnswer held setting (Check net specification terms cycles) = CheckAnswer held setting net specification terms cycles
 ActionAnswer held setting (Same net other terms cycles) = SameAnswer held setting net other terms cycles
 ActionAnswer held setting (Eval net values cycles) = EvalAnswer held setting net values cycles
+ActionAnswer held setting (Iso other) = IsoAnswer held setting.signature other
+ActionAnswer held setting (Lift table) = LiftAnswer held setting table
+ActionAnswer held setting (Table net cycles) = TableAnswer held setting net cycles
 
 -- what comes of a command over a signature with its field: first the bases of its words
 abbrev pub SignedAnswer : Option Files → SignedValue → Action → Outcome Fault Reply
@@ -37,9 +43,9 @@ SignedAnswer held signed action = do
 
 -- what comes of a command: its signature is read and taken first
 abbrev pub JobAnswer : Option Files → Job → Outcome Fault Reply
-JobAnswer held job = do
-  signed ← SignedIn held job.signature
-  SignedAnswer held signed job.action
+JobAnswer held (Over signature action) = do
+  signed ← SignedIn held signature
+  SignedAnswer held signed action
 
 -- the answer to the words
 abbrev pub Answer : List Word → Option Files → Outcome Fault Reply

@@ -7,7 +7,7 @@ use Rattle.circuit_model.specs.Differing.{Difference, IsDifferingInput}
 use Rattle.circuit_model.specs.Out.{IsOut}
 use Rattle.spec_expand.specs.Specification.{SpecTerms}
 use Rattle.job_words.specs.Operands.{Word}
-use Rattle.job_words.specs.Command.{Check, IsSpelled}
+use Rattle.job_words.specs.Command.{Check, Over, IsSpelled}
 use Rattle.job_input.specs.Labelling.{labels_of}
 use Rattle.job_input.specs.SettingValue.{SettingValue}
 use Rattle.job_input.specs.SpecificationIn.{SpecificationIn}
@@ -21,7 +21,7 @@ use Rattle.gf_abs.specs.commands.Check.{IsSpecified}
 -- the first
 pub record AnswersCheck (files : Files) (words : List Word) (signature net specification : Word) (cycles : ℕ) (reply : Reply) : Type 0 where
   pub bound : ℕ
-  pub spelled : IsSpelled words (record { signature = signature; action = Check net specification bound cycles })
+  pub spelled : IsSpelled words (Over signature (Check net specification bound cycles))
   pub answer : Answer words (Some files) (Ok reply)
 
 -- the held files of these names give the setting, the job and the specification

@@ -3,7 +3,7 @@ use Rattle.std.specs.Prelude.{◌≡◌, ℕ, List, length, Some, Ok}
 use Rattle.job_io.specs.Shelf.{Files}
 use Rattle.circuit_model.specs.Circuit.{Circuit}
 use Rattle.circuit_model.specs.Out.{IsOut}
-use Rattle.job_words.specs.Command.{Eval, IsSpelled}
+use Rattle.job_words.specs.Command.{Eval, Over, IsSpelled}
 use Rattle.job_words.specs.Operands.{Word}
 use Rattle.job_input.specs.SettingValue.{SettingValue}
 use Rattle.gf_abs.specs.Answer.{Answer}
@@ -13,7 +13,7 @@ use Rattle.gf_abs.specs.commands.Eval.{element_line}
 
 -- to the words `eval SIGNATURE NET VALUE..` over the held files the program answers with this reply, over so many cycles after the first
 pub record AnswersEval (files : Files) (words : List Word) (signature net : Word) (values : List Word) (cycles : ℕ) (reply : Reply) : Type 0 where
-  pub spelled : IsSpelled words (record { signature = signature; action = Eval net values cycles })
+  pub spelled : IsSpelled words (Over signature (Eval net values cycles))
   pub answer : Answer words (Some files) (Ok reply)
 
 -- the values are elements, one for each word of the job, and the reply is the line of the output there

@@ -5,7 +5,7 @@ use Rattle.std.specs.List.{AllByRecursion}
 use Rattle.job_io.specs.Shelf.{Files}
 use Rattle.net_words.specs.Binding.{BoundNet}
 use Rattle.poly_mixed.specs.Polynomial.{Terms, Point, IsPoint, IsReduced, value}
-use Rattle.poly_mixed.specs.Uniqueness.{InBits, InFirstWords}
+use Rattle.poly_mixed.specs.laws.Uniqueness.{InBits, InFirstWords}
 use Rattle.circuit_model.specs.Circuit.{Circuit}
 use Rattle.circuit_model.specs.Differing.{Difference, IsDifferingInput}
 use Rattle.circuit_model.specs.Ones.{AreOnes}
@@ -14,7 +14,7 @@ use Rattle.stage_model.specs.First.{InFirstRanks}
 use Rattle.stage_model.specs.InputPoint.{input_of}
 use Rattle.spec_compare.specs.ValueAt.{at_ones}
 use Rattle.job_words.specs.Operands.{Word}
-use Rattle.job_words.specs.Command.{Bits, Abstract, Same, IsSpelled}
+use Rattle.job_words.specs.Command.{Bits, Abstract, Same, Over, IsSpelled}
 use Rattle.job_input.specs.CircuitOf.{CircuitOfText}
 use Rattle.job_input.specs.File.{Read}
 use Rattle.job_input.specs.JobOf.{IsJobOf}
@@ -45,19 +45,19 @@ pub record AreHeld (files : Files) (signature net : Word) (cycles : ℕ) (settin
 -- to the words `bits SIGNATURE NET` over the held files the program answers with this reply, over so many cycles after the first
 pub record AnswersBits (files : Files) (words : List Word) (signature net : Word) (cycles : ℕ) (reply : Reply) : Type 0 where
   pub bound : ℕ
-  pub spelled : IsSpelled words (record { signature = signature; action = Bits net bound cycles })
+  pub spelled : IsSpelled words (Over signature (Bits net bound cycles))
   pub answer : Answer words (Some files) (Ok reply)
 
 -- and to the words `abstract SIGNATURE NET` with this one
 pub record AnswersAbstract (files : Files) (words : List Word) (signature net : Word) (cycles : ℕ) (reply : Reply) : Type 0 where
   pub bound : ℕ
-  pub spelled : IsSpelled words (record { signature = signature; action = Abstract net bound cycles })
+  pub spelled : IsSpelled words (Over signature (Abstract net bound cycles))
   pub answer : Answer words (Some files) (Ok reply)
 
 -- and to the words `same SIGNATURE NET NET` with this one
 pub record AnswersSame (files : Files) (words : List Word) (signature net other : Word) (cycles : ℕ) (reply : Reply) : Type 0 where
   pub bound : ℕ
-  pub spelled : IsSpelled words (record { signature = signature; action = Same net other bound cycles })
+  pub spelled : IsSpelled words (Over signature (Same net other bound cycles))
   pub answer : Answer words (Some files) (Ok reply)
 
 -- no bit stands in the terms, and no word from the n-th on

@@ -8,4 +8,6 @@ pub mod Written
 pub mod Headline
 pub mod CheckHeadline
 pub mod EvalHeadline
+pub mod TableHeadline
+pub mod IsoHeadline
 pub mod private

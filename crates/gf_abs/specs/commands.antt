@@ -3,3 +3,6 @@ pub mod Abstract
 pub mod Check
 pub mod Same
 pub mod Eval
+pub mod Lift
+pub mod Table
+pub mod Iso

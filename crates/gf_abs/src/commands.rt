@@ -3,4 +3,7 @@ pub(crate) mod abstraction;
 pub(crate) mod bits;
 pub(crate) mod check;
 pub(crate) mod eval;
+pub(crate) mod iso;
+pub(crate) mod lift;
 pub(crate) mod same;
+pub(crate) mod table;

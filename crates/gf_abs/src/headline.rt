@@ -1,12 +1,15 @@
 //! What the program's answers say, for all words and held files. These functions do nothing: their contracts are proved of
 //! the definitions alone. `run` says that what it wrote is the answer.
-ghost use Rattle.std.specs.Prelude.{◌≡◌, ◌⊎◌, ◌↔◌, codes, ℕ, List, Option, Some, Ok, Err};
+ghost use Rattle.std.specs.Prelude.{◌≡◌, ◌⊎◌, ◌↔◌, ◌≤◌, codes, length, ℕ, List, Option, Some, Ok, Err};
 ghost use Rattle.text_core.specs.Outcome.{Determined};
 ghost use Rattle.job_io.specs.Shelf.{Files};
 ghost use Rattle.net_words.specs.Binding.{BoundNet};
 ghost use Rattle.poly_mixed.specs.Polynomial.{Terms};
 ghost use Rattle.circuit_model.specs.Circuit.{Circuit};
 ghost use Rattle.circuit_model.specs.WellFormed.{IsWellFormed};
+ghost use Rattle.gf_field.specs.Element.{AreElements};
+ghost use Rattle.lift_table.specs.TableText.{TableOutcome, table_text};
+ghost use Rattle.job_input.specs.File.{Read};
 ghost use Rattle.job_words.specs.Fault.{fault_line, fault_status};
 ghost use Rattle.job_words.specs.OneLine.{IsOneLine};
 ghost use Rattle.job_words.specs.Operands.{Word};
@@ -17,7 +20,9 @@ ghost use Rattle.gf_abs.specs.Answer.{Answer};
 ghost use Rattle.gf_abs.specs.CheckHeadline.{AnswersCheck, AreHeldWith, Computes, PrintsAcceptance, PrintsRejection};
 ghost use Rattle.gf_abs.specs.EvalHeadline.{AnswersEval, PrintsElement};
 ghost use Rattle.gf_abs.specs.Headline.{IsTaken, AreHeld, AnswersBits, AnswersAbstract, AnswersSame, PrintsHeld, PrintsHeldInBits, PrintsDifference, IsInItsWords, HasOutput, AreOneFunction};
+ghost use Rattle.gf_abs.specs.IsoHeadline.{AnswersIso, PrintsImages};
 ghost use Rattle.gf_abs.specs.Reply.{Reply, polynomial_line};
+ghost use Rattle.gf_abs.specs.TableHeadline.{AnswersLift, AnswersTable, IsHeldSetting, PrintsLifted, PrintsTable};
 ghost use Rattle.gf_abs.specs.commands.Abstract.{taken_circuit};
 
 /// Where the shelf tells what it holds, at most one answer or fault comes of the words.
@@ -100,4 +105,31 @@ pub fn check_prints_the_differing_input()
 /// state and fed word.
 pub fn eval_prints_the_output()
     ensures { (files : Files) (words : List Word) (signature net : Word) (values : List Word) (cycles : ℕ) (reply : Reply) (setting : SettingValue) (job : Circuit) → AnswersEval files words signature net values cycles reply → AreHeld files signature net cycles setting job → PrintsElement setting job values reply }
+{}
+
+/// `table` prints the table of the output: a row for each input, with the output there.
+pub fn table_prints_the_outputs()
+    ensures { (files : Files) (words : List Word) (signature net : Word) (cycles : ℕ) (reply : Reply) (setting : SettingValue) (job : Circuit) → AnswersTable files words signature net cycles reply → AreHeld files signature net cycles setting job → PrintsTable job reply }
+{}
+
+/// `lift` prints the one reduced polynomial of the function of the table in its file.
+pub fn lift_prints_the_polynomial()
+    ensures { (files : Files) (words : List Word) (signature table : Word) (reply : Reply) (setting : SettingValue) → AnswersLift files words signature table reply → IsHeldSetting files signature setting → PrintsLifted files setting table reply }
+{}
+
+/// A table that is written is read back as itself.
+pub fn written_tables_are_read_back()
+    ensures { (k : ℕ) (table : List ℕ) → k ≤ 64 → AreElements k table → TableOutcome k (length table) (table_text table) (Ok table) }
+{}
+
+/// Where `lift` reads what `table` printed of a netlist, it prints the same bytes as `abstract` on the netlist, where both print.
+pub fn tables_are_lifted_to_what_abstract_prints()
+    ensures { (files files' : Files) (words words' words'' : List Word) (signature signature' net table : Word) (cycles : ℕ) (reply tabled lifted : Reply) (setting : SettingValue) (job : Circuit) → AnswersAbstract files words signature net cycles reply → AnswersTable files words' signature net cycles tabled → AreHeld files signature net cycles setting job
+        → AnswersLift files' words'' signature' table lifted → IsHeldSetting files' signature' setting → Read (Some files') table (Ok tabled.text) → lifted.text ≡ reply.text }
+{}
+
+/// `iso` prints, with status 0, the images of the numbers 2^i of a tower under the isomorphism to a field of polynomials that
+/// takes x and Y to the least roots of their polynomials.
+pub fn iso_prints_the_images()
+    ensures { (files : Files) (words : List Word) (signature other : Word) (reply : Reply) → AnswersIso files words signature other reply → PrintsImages files signature other reply }
 {}

@@ -10,6 +10,7 @@ mod line;
 mod output;
 mod second_stages;
 mod setting_labels;
+mod small_setting;
 mod stages;
 mod top;
 mod values;
@@ -19,7 +20,9 @@ pub use headline::{
     abstract_prints_the_output, bits_print_the_output, bytes_are_the_only_text,
     check_accepts_exactly_if_equal, check_prints_the_differing_input, check_prints_the_output,
     each_fault_is_one_line, each_taken_circuit_is_well_formed,
-    equal_bytes_exactly_if_equal_functions, eval_prints_the_output, one_answer_or_fault,
-    same_exactly_if_equal_functions, same_prints_the_differing_input,
+    equal_bytes_exactly_if_equal_functions, eval_prints_the_output, iso_prints_the_images,
+    lift_prints_the_polynomial, one_answer_or_fault, same_exactly_if_equal_functions,
+    same_prints_the_differing_input, table_prints_the_outputs,
+    tables_are_lifted_to_what_abstract_prints, written_tables_are_read_back,
 };
 pub use top::{run, run_surely};

@@ -93,6 +93,9 @@ fn task_answer<F: Field, S: Shelf>(
         Task::Check(words) => { commands::check::answer(alloc, field, setting, words, shelf) }
         Task::Same(words) => { commands::same::answer(alloc, field, setting, words, shelf) }
         Task::Eval(words) => { commands::eval::answer(alloc, field, setting, words, shelf) }
+        Task::Iso(file) => { commands::iso::answer(alloc, setting, file, shelf) }
+        Task::Lift(file) => { commands::lift::answer(alloc, field, setting, file, shelf) }
+        Task::Table(words) => { commands::table::answer(alloc, field, setting, words, shelf) }
     }
 }
 

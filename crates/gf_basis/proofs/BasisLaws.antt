@@ -7,18 +7,18 @@ use Rattle.std.proofs.lemmas.List.{ext_get_or, get_or-take, length-take-le}
 use Rattle.std.proofs.lemmas.Nat.{pow_below}
 use Rattle.std.proofs.lemmas.Nat.Bits.{bit_at-pow_same, bit_at-pow_other}
 use native.Mathlib.Nat.{mod-eq_of_lt}
-use Rattle.gf_field.specs.XorLaws.{xor_same}
+use Rattle.gf_field.specs.laws.XorLaws.{xor_same}
 use Rattle.gf_field.specs.Ring.{IsRing}
 use Rattle.gf_field.specs.Field.{HasNoZeroDivisors}
 use Rattle.gf_field.specs.Element.{AreElements}
 use Rattle.gf_field.specs.Polynomial.{sum_of_first}
 use Rattle.gf_field.specs.Trace.{trace, frobenius}
-use Rattle.gf_field.specs.TraceLaws.{frobenius-mul, trace_is_sum}
-use Rattle.gf_field.specs.PigeonholeLaws.{FoundAt}
+use Rattle.gf_field.specs.laws.TraceLaws.{frobenius-mul, trace_is_sum}
+use Rattle.gf_field.specs.laws.PigeonholeLaws.{FoundAt}
 use Rattle.irreducible.specs.Span.{combination, IsIndependent}
 use Rattle.irreducible.specs.Matrix.{AreInverse}
-use Rattle.irreducible.specs.SpanLaws.{combination_zero, combination_below}
-use Rattle.irreducible.specs.AdditiveLaws.{IsAdditive-self, additive-combination}
+use Rattle.irreducible.specs.laws.SpanLaws.{combination_zero, combination_below}
+use Rattle.irreducible.specs.laws.AdditiveLaws.{IsAdditive-self, additive-combination}
 use Rattle.irreducible.proofs.InverseMatrixLaws.{sums_reach, sums_apart}
 use Rattle.gf_basis.specs.Basis.{AreBits, HasOnlyBits, IsBasis, AreIndependentLists}
 use Rattle.gf_basis.specs.Dual.{AreDual, linear_value}

@@ -10,15 +10,15 @@ use native.Mathlib.Nat.{mod-eq_of_lt}
 use Rattle.gf_field.specs.Ring.{IsRing}
 use Rattle.gf_field.specs.Field.{HasNoZeroDivisors}
 use Rattle.gf_field.specs.Element.{AreElements}
-use Rattle.gf_field.specs.RingLaws.{distrib_left, mul_one}
-use Rattle.gf_field.specs.FieldLaws.{HasInverse, inverse_of, IsFieldBySquares-from}
+use Rattle.gf_field.specs.laws.RingLaws.{distrib_left, mul_one}
+use Rattle.gf_field.specs.laws.FieldLaws.{HasInverse, inverse_of, IsFieldBySquares-from}
 use Rattle.gf_field.specs.Trace.{trace, IsTrace}
-use Rattle.gf_field.specs.TraceLaws.{trace-xor, trace_at_most_one, IsTrace-from_field}
-use Rattle.gf_field.specs.PigeonholeLaws.{FoundAt}
+use Rattle.gf_field.specs.laws.TraceLaws.{trace-xor, trace_at_most_one, IsTrace-from_field}
+use Rattle.gf_field.specs.laws.PigeonholeLaws.{FoundAt}
 use Rattle.irreducible.specs.Span.{combination, IsIndependent}
 use Rattle.irreducible.specs.Matrix.{IsSquare, AreInverse}
-use Rattle.irreducible.specs.SpanLaws.{combination_unit, combination_below}
-use Rattle.irreducible.specs.AdditiveLaws.{IsAdditive, IsAdditive-combination, additive_zero, additive-combination, combination-additive}
+use Rattle.irreducible.specs.laws.SpanLaws.{combination_unit, combination_below}
+use Rattle.irreducible.specs.laws.AdditiveLaws.{IsAdditive, IsAdditive-combination, additive_zero, additive-combination, combination-additive}
 use Rattle.irreducible.proofs.InverseMatrixLaws.{sums_reach}
 use Rattle.gf_basis.specs.TraceWord.{trace_word, AreCoordinates, IsTraceMatrix}
 

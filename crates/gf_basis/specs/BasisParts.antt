@@ -19,7 +19,7 @@ coordinates_of basis = take basis.count basis.coordinates
 
 -- the basis is one of the field of 2 to the k elements with this product, its dual is dual to it, and its coordinates
 -- are the traces of the dual's products
-pub record IsOver (k : ℕ) (mul : ℕ → ℕ → ℕ) (basis : Basis) : Type 0 where
+pub record IsBasisOver (k : ℕ) (mul : ℕ → ℕ → ℕ) (basis : Basis) : Type 0 where
   pub elements : IsBasis k (elements_of basis)
   pub dual : AreDual k mul (elements_of basis) (duals_of basis)
   pub coordinates : AreCoordinates mul k (duals_of basis) (coordinates_of basis)

@@ -39,12 +39,12 @@ pub enum BasisFault {
 }
 
 impl Basis {
-    ghost use Rattle.gf_basis.specs.BasisParts.{elements_of, duals_of, IsOver};
+    ghost use Rattle.gf_basis.specs.BasisParts.{elements_of, duals_of, IsBasisOver};
     ghost use Rattle.gf_basis.specs.BasisFault.{IsListFault, IsNormalFault, conjugates_of};
 
     /// The polynomial basis: element i is the number `2^i`.
     pub fn poly<F: Field>(field: &F) -> Basis
-        ensures over { IsOver (F.degree field.now) (F.product field.now) result }
+        ensures over { IsBasisOver (F.degree field.now) (F.product field.now) result }
         ensures elements { elements_of result ≡ first_values (F.degree field.now) (λ i. 2 ^ i) }
     {
         let k = field.k() as usize;
@@ -60,7 +60,7 @@ impl Basis {
     pub fn normal<F: Field>(field: &F, gamma: u64) -> Result<Basis, BasisFault>
         ensures accepted { IsOk result ↔ (gamma < 2 ^ F.degree field.now) × IsIndependent (conjugates_of (F.degree field.now) (F.product field.now) gamma) }
         ensures fault { IfErr result (λ fault. IsNormalFault (F.degree field.now) (F.product field.now) gamma fault) }
-        ensures over { IfOk result (λ basis. IsOver (F.degree field.now) (F.product field.now) basis) }
+        ensures over { IfOk result (λ basis. IsBasisOver (F.degree field.now) (F.product field.now) basis) }
         ensures elements { IfOk result (λ basis. elements_of basis ≡ conjugates_of (F.degree field.now) (F.product field.now) gamma) }
     {
         if !is_element(field, gamma) {
@@ -78,7 +78,7 @@ impl Basis {
     pub fn list<F: Field>(field: &F, elements: &[u64]) -> Result<Basis, BasisFault>
         ensures accepted { IsOk result ↔ IsBasisList (F.degree field.now) elements.now }
         ensures fault { IfErr result (λ fault. IsListFault (F.degree field.now) elements.now fault) }
-        ensures over { IfOk result (λ basis. IsOver (F.degree field.now) (F.product field.now) basis) }
+        ensures over { IfOk result (λ basis. IsBasisOver (F.degree field.now) (F.product field.now) basis) }
         ensures elements { IfOk result (λ basis. elements_of basis ≡ elements.now) }
     {
         if elements.len() != field.k() as usize {
@@ -128,7 +128,7 @@ impl Basis {
     /// The bits, below 2^k, whose element this is, in the field that the basis was made over; `element` is below 2^k.
     pub fn bits_of<F: Field>(&self, _field: &F, element: u64) -> u64
         requires element { element < 2 ^ F.degree _field.now }
-        requires over { IsOver (F.degree _field.now) (F.product _field.now) self.now }
+        requires over { IsBasisOver (F.degree _field.now) (F.product _field.now) self.now }
         ensures { AreBits (elements_of self.now) element result }
     {
         combined(&self.coordinates[..self.count as usize], element)
@@ -138,7 +138,7 @@ impl Basis {
     /// coefficient of the element squared j times, for j below k, and then come zeros.
     pub fn linear_of<F: Field>(&self, field: &F, i: u32) -> [u64; 64]
         requires place { i < F.degree field.now }
-        requires over { IsOver (F.degree field.now) (F.product field.now) self.now }
+        requires over { IsBasisOver (F.degree field.now) (F.product field.now) self.now }
         ensures squares { (j : ℕ) → j < F.degree field.now → slice_index result j ≡ frobenius_of (F.product field.now) j (slice_index (duals_of self.now) i) }
         ensures zeros { (j : ℕ) → F.degree field.now ≤ j → slice_index result j ≡ 0 }
         ensures bit { (x bits : ℕ) → AreBits (elements_of self.now) x bits → linear_value (F.degree field.now) (F.product field.now) result x ≡ bit_at bits i }
@@ -151,7 +151,7 @@ impl Basis {
         requires size { length elements.now ≡ F.degree field.now }
         requires inside { AreElements (F.degree field.now) elements.now }
         ensures found { IsSome result ↔ IsIndependent elements.now }
-        ensures over { IfSome result (λ basis. IsOver (F.degree field.now) (F.product field.now) basis) }
+        ensures over { IfSome result (λ basis. IsBasisOver (F.degree field.now) (F.product field.now) basis) }
         ensures elements { IfSome result (λ basis. elements_of basis ≡ elements.now) }
     {
         let mask = trace_mask(field);

@@ -4,7 +4,7 @@ use Rattle.std.proofs.Common.{◌≡◌, ℕ, zero, suc, ◌<◌, [], ◌∷◌,
 use Rattle.gf_field.specs.Bit.{bit_mul}
 use Rattle.gf_field.specs.Element.{IsFirstOutside}
 use Rattle.gf_field.specs.Modulus.{IsModulus, HasModulusDegree}
-use Rattle.gf_field.specs.ModulusLaws.{IsModulus-from_bounds, no_small_modulus}
+use Rattle.gf_field.specs.laws.ModulusLaws.{IsModulus-from_bounds, no_small_modulus}
 use Rattle.gf_field.specs.Polynomial.{coefficient, convolution}
 use Rattle.gf_field.specs.Quotient.{product}
 use Rattle.gf_field.specs.Power.{power}

@@ -7,14 +7,14 @@ use Rattle.std.proofs.Math.Nat.{add-mul-div_right, add-mul-mod_self_right}
 use native.Mathlib.Nat.{mod-eq_of_lt, div-one, mod-one, div-eq_of_lt}
 use Rattle.gf_field.specs.Bit.{bit_mul}
 use Rattle.gf_field.specs.Modulus.{IsModulus}
-use Rattle.gf_field.specs.Polynomial.{IsProduct}
+use Rattle.gf_field.specs.Polynomial.{IsProductModulo}
 use Rattle.gf_field.specs.Quotient.{product}
-use Rattle.gf_field.specs.XorLaws.{xor_cross}
-use Rattle.gf_field.specs.BitLaws.{IsRing-bit_mul, bit_cases}
-use Rattle.gf_field.specs.ModulusLaws.{IsMonic-from_modulus, IsRing-from_modulus}
-use Rattle.gf_field.specs.ProductLaws.{IsProduct_same}
+use Rattle.gf_field.specs.laws.XorLaws.{xor_cross}
+use Rattle.gf_field.specs.laws.BitLaws.{IsRing-bit_mul, bit_cases}
+use Rattle.gf_field.specs.laws.ModulusLaws.{IsMonic-from_modulus, IsRing-from_modulus}
+use Rattle.gf_field.specs.laws.ProductLaws.{IsProduct_same}
 use Rattle.gf_field.specs.private.ShiftAndAdd.{times_x, times_power, part}
-use Rattle.gf_field.proofs.ShiftAndAddLaws.{times_x_reduced, times_x_doubled, times_x_below, times_x-xor, part_none, part_below, part_next, part_end, IsProduct-part}
+use Rattle.gf_field.proofs.ShiftAndAddLaws.{times_x_reduced, times_x_doubled, times_x_below, times_x-xor, part_none, part_below, part_next, part_end, IsProductModulo-part}
 
 pub element_x : (d g a : ℕ) → IsModulus d g → times_x d g a < 2 ^ d
 element_x zero g a ok = absurd (omega (arith, ok.some))
@@ -40,12 +40,12 @@ pub part_whole : (d g a b : ℕ) → IsModulus d g → a < 2 ^ d → b < 2 ^ d �
 part_whole zero g a b ok ha hb = absurd (omega (arith, ok.some))
 part_whole (suc e) g a b ok ha hb = part_end e g ok a b ha hb
 
-pub part_product : (d g m u v : ℕ) → IsModulus d g → u < 2 ^ m → v < 2 ^ d → IsProduct 1 d bit_mul g u v (part d g m u v)
+pub part_product : (d g m u v : ℕ) → IsModulus d g → u < 2 ^ m → v < 2 ^ d → IsProductModulo 1 d bit_mul g u v (part d g m u v)
 part_product zero g m u v ok hu hv = absurd (omega (arith, ok.some))
-part_product (suc e) g m u v ok hu hv = IsProduct-part e g ok m u v hu hv
+part_product (suc e) g m u v ok hu hv = IsProductModulo-part e g ok m u v hu hv
 
 -- a product of the definition is the one that is computed
-pub part_same : (d g m u v w : ℕ) → IsModulus d g → u < 2 ^ m → v < 2 ^ d → IsProduct 1 d bit_mul g u v w → w ≡ part d g m u v
+pub part_same : (d g m u v w : ℕ) → IsModulus d g → u < 2 ^ m → v < 2 ^ d → IsProductModulo 1 d bit_mul g u v w → w ≡ part d g m u v
 part_same zero g m u v w ok hu hv is = absurd (omega (arith, ok.some))
 part_same (suc e) g m u v w ok hu hv is =
     IsProduct_same 1 bit_mul IsRing-bit_mul e g (IsMonic-from_modulus (suc e) g ok) u v w (part (suc e) g m u v) is (part_product (suc e) g m u v ok hu hv)

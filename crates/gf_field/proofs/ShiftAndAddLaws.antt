@@ -6,14 +6,14 @@ use mathlib.Core.Path.{fun_ext}
 use native.Mathlib.Nat.{mod-eq_of_lt, div-one}
 use Rattle.gf_field.specs.Modulus.{IsModulus}
 use Rattle.gf_field.specs.Bit.{bit_mul}
-use Rattle.gf_field.specs.Polynomial.{coefficient, IsProduct}
-use Rattle.gf_field.specs.ProductLaws.{IsProduct-reduced}
+use Rattle.gf_field.specs.Polynomial.{coefficient, IsProductModulo}
+use Rattle.gf_field.specs.laws.ProductLaws.{IsProductModulo-reduced}
 use Rattle.gf_field.specs.Quotient.{times, plus, rest, shift, step, reduced, packed, product}
-use Rattle.gf_field.specs.QuotientLaws.{EndsAt, AllBelow, step_ends, step_plus, reduced_below, reduced_ends}
-use Rattle.gf_field.specs.PackingLaws.{packed_extra, packed_none, coefficient_ends, coefficient_below, packed_xor, coefficient_xor, packed-coefficient, coefficient-packed, packed_below, coefficient_suc, coefficient_zero}
+use Rattle.gf_field.specs.laws.QuotientLaws.{EndsAt, AllBelow, step_ends, step_plus, reduced_below, reduced_ends}
+use Rattle.gf_field.specs.laws.PackingLaws.{packed_extra, packed_none, coefficient_ends, coefficient_below, packed_xor, coefficient_xor, packed-coefficient, coefficient-packed, packed_below, coefficient_suc, coefficient_zero}
 use Rattle.gf_field.specs.private.ShiftAndAdd.{times_x, part}
-use Rattle.gf_field.specs.BitLaws.{IsRing-bit_mul, bit_mul_below, bit_cases}
-use Rattle.gf_field.specs.ModulusLaws.{modulus_below, IsMonic-from_modulus}
+use Rattle.gf_field.specs.laws.BitLaws.{IsRing-bit_mul, bit_mul_below, bit_cases}
+use Rattle.gf_field.specs.laws.ModulusLaws.{modulus_below, IsMonic-from_modulus}
 
 one_times : (f : ℕ → ℕ) → AllBelow 1 f → times bit_mul 1 f ≡ f
 one_times f below = fun_ext (λ i. one-mul (f i % 2) ∙ mod-eq_of_lt (below i))
@@ -113,9 +113,9 @@ module _ (e g : ℕ) (ok : IsModulus (suc e) g) where
   part_end a b ha hb =
       ap₂ (λ x y. packed 1 (suc e) (reduced bit_mul e (coefficient 1 g) (suc e) (coefficient 1 x) (coefficient 1 y))) (sym (mod-eq_of_lt (rw one-mul ha))) (sym (mod-eq_of_lt (rw one-mul hb)))
 
-  pub IsProduct-part : (m u v : ℕ) → u < 2 ^ m → v < 2 ^ suc e → IsProduct 1 (suc e) bit_mul g u v (part (suc e) g m u v)
+  pub IsProductModulo-part : (m u v : ℕ) → u < 2 ^ m → v < 2 ^ suc e → IsProductModulo 1 (suc e) bit_mul g u v (part (suc e) g m u v)
   unfolding part
-  IsProduct-part m u v hu hv = IsProduct-reduced 1 bit_mul IsRing-bit_mul e g (IsMonic-from_modulus (suc e) g ok) m u v (coefficient_ends 1 m u (rw one-mul hu)) (rw one-mul hv)
+  IsProductModulo-part m u v hu hv = IsProductModulo-reduced 1 bit_mul IsRing-bit_mul e g (IsMonic-from_modulus (suc e) g ok) m u v (coefficient_ends 1 m u (rw one-mul hu)) (rw one-mul hv)
 
   pub times_x-xor : (a b : ℕ) → times_x (suc e) g (bit_xor a b) ≡ bit_xor (times_x (suc e) g a) (times_x (suc e) g b)
   unfolding times_x

@@ -11,12 +11,12 @@ use Rattle.std.proofs.Math.Pow.{mod-mod-pow}
 use native.Mathlib.Nat.{mod-eq_of_lt, div-one}
 use Rattle.gf_field.specs.Bit.{bit_mul}
 use Rattle.gf_field.specs.Modulus.{IsModulus}
-use Rattle.gf_field.specs.Polynomial.{IsProduct}
+use Rattle.gf_field.specs.Polynomial.{IsProductModulo}
 use Rattle.gf_field.specs.Quotient.{product}
 use Rattle.gf_field.specs.Table16.{AreMultiples}
-use Rattle.gf_field.specs.BitLaws.{IsRing-bit_mul, bit_cases}
-use Rattle.gf_field.specs.ModulusLaws.{IsMonic-from_modulus, IsRing-from_modulus}
-use Rattle.gf_field.specs.ProductLaws.{IsProduct-product}
+use Rattle.gf_field.specs.laws.BitLaws.{IsRing-bit_mul, bit_cases}
+use Rattle.gf_field.specs.laws.ModulusLaws.{IsMonic-from_modulus, IsRing-from_modulus}
+use Rattle.gf_field.specs.laws.ProductLaws.{IsProductModulo-product}
 use Rattle.gf_field.specs.private.ShiftAndAdd.{times_x, times_power, part, AreParts}
 use Rattle.gf_field.proofs.Copies.{zeros}
 use Rattle.gf_field.proofs.ShiftAndAddLaws.{times_x_reduced, times_x_doubled}
@@ -191,10 +191,10 @@ group_end d g b a s ok ha hb is =
     rounded : (d : ℕ) → 4 * ((d + 3) / 4 - 0) ≡ d + (4 * ((d + 3) / 4) - d)
     rounded d = omega arith
 
-pub remainder_is : (d g a b s : ℕ) → IsModulus d g → a < 2 ^ d → b < 2 ^ d → s ≡ product 1 d bit_mul g a b → IsProduct 1 d bit_mul g a b s
+pub remainder_is : (d g a b s : ℕ) → IsModulus d g → a < 2 ^ d → b < 2 ^ d → s ≡ product 1 d bit_mul g a b → IsProductModulo 1 d bit_mul g a b s
 remainder_is zero g a b s ok ha hb e = absurd (omega (arith, ok.some))
 remainder_is (suc e) g a b s ok ha hb is =
-    rw (is) (IsProduct-product 1 bit_mul IsRing-bit_mul e g (IsMonic-from_modulus (suc e) g ok) a b (rw one-mul ha) (rw one-mul hb))
+    rw (is) (IsProductModulo-product 1 bit_mul IsRing-bit_mul e g (IsMonic-from_modulus (suc e) g ok) a b (rw one-mul ha) (rw one-mul hb))
 
 -- ---- the lower part of a modulus
 pub lower : (d g : ℕ) → IsModulus d g → bit_and g (340282366920938463463374607431768211455 / 2 ^ (128 - d)) ≡ g % 2 ^ d

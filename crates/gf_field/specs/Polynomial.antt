@@ -42,7 +42,7 @@ pub record IsIrreducible (n : ℕ) (mul : ℕ → ℕ → ℕ) (g : ℕ) : Type 
   pub prime : (a b i j : ℕ) → IsDegree n i a → IsDegree n j b → 1 ≤ i → 1 ≤ j → IsTimes n mul a b g → ⊥
 
 -- w is the product of u and v modulo g, which has degree d: w has d coefficients, and u * v + w is a multiple of g
-pub record IsProduct (n d : ℕ) (mul : ℕ → ℕ → ℕ) (g u v w : ℕ) : Type 0 where
+pub record IsProductModulo (n d : ℕ) (mul : ℕ → ℕ → ℕ) (g u v w : ℕ) : Type 0 where
   pub short : w < 2 ^ (n * d)
   pub quotient : ℕ
   pub multiple : (i : ℕ) → bit_xor (convolution mul (coefficient n u) (coefficient n v) i) (coefficient n w i) ≡ convolution mul (coefficient n quotient) (coefficient n g) i

@@ -3,7 +3,7 @@
 use Rattle.std.specs.Prelude.{◌≡◌, ℕ, zero, suc, pred, ◌+◌, ◌*◌, ◌%◌, ◌^◌, ◌<◌, ◌≤◌, ◌↔◌, bit_xor}
 use Rattle.gf_field.specs.Ring.{IsRing}
 use Rattle.gf_field.specs.Field.{HasNoZeroDivisors}
-use Rattle.gf_field.specs.Polynomial.{coefficient, IsMonic, IsProduct, IsIrreducible}
+use Rattle.gf_field.specs.Polynomial.{coefficient, IsMonic, IsProductModulo, IsIrreducible}
 
 -- 0, as a polynomial
 abbrev pub none : ℕ → ℕ
@@ -54,7 +54,7 @@ product n d mul g u v =
 abbrev pub HasOnlyProduct : ℕ → (ℕ → ℕ → ℕ) → Type 0
 HasOnlyProduct n mul =
     (d g u v w : ℕ) → 1 ≤ d → IsMonic n d g → u < 2 ^ (n * d) → v < 2 ^ (n * d)
-    → IsProduct n d mul g u v w ↔ (w ≡ product n d mul g u v)
+    → IsProductModulo n d mul g u v w ↔ (w ≡ product n d mul g u v)
 
 -- the quotient by a monic polynomial is a ring
 abbrev pub HasQuotientRings : ℕ → (ℕ → ℕ → ℕ) → Type 0

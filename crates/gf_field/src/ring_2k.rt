@@ -2,7 +2,7 @@
 
 ghost use Rattle.std.specs.Prelude.{◌≡◌, ◌<◌, ◌^◌, ◌%◌, ◌↔◌, IsOk, IfOk, length};
 ghost use Rattle.gf_field.specs.Bit.{bit_mul};
-ghost use Rattle.gf_field.specs.Polynomial.{IsProduct};
+ghost use Rattle.gf_field.specs.Polynomial.{IsProductModulo};
 ghost use Rattle.gf_field.specs.Modulus.{IsModulus, HasModulusDegree};
 ghost use Rattle.gf_field.specs.Quotient.{product as quotient_product};
 ghost use Rattle.gf_field.specs.Table16.{entries_of};
@@ -74,7 +74,7 @@ impl Ring2k {
 
 impl Ring for Ring2k {
     ghost use Rattle.gf_field.specs.Ring2k.{modulus_of, degree_of};
-    ghost use Rattle.gf_field.specs.ModulusLaws.{IsRing-from_modulus};
+    ghost use Rattle.gf_field.specs.laws.ModulusLaws.{IsRing-from_modulus};
     ghost use Rattle.gf_field.specs.Table16.{AreMultiples, entries_of};
 
     type Times = Table16;
@@ -105,7 +105,7 @@ impl Ring for Ring2k {
         requires second { b < 2 ^ degree_of self.now }
         ensures product { result ≡ quotient_product 1 (degree_of self.now) bit_mul (modulus_of self.now) a b }
         ensures element { result < 2 ^ degree_of self.now }
-        ensures remainder { IsProduct 1 (degree_of self.now) bit_mul (modulus_of self.now) a b result }
+        ensures remainder { IsProductModulo 1 (degree_of self.now) bit_mul (modulus_of self.now) a b result }
     {
         self.by(&self.times(a), b)
     }

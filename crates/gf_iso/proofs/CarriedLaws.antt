@@ -5,15 +5,15 @@ use Rattle.std.specs.Int.Bits.{xor_self, xor_lt, xor_zero_l, xor_zero_r, xor_ass
 use native.Mathlib.Nat.{mod-eq_of_lt}
 use Rattle.std.proofs.lemmas.Nat.{pow_below}
 use mathlib.Core.Path.{fun_ext}
-use Rattle.gf_field.specs.XorLaws.{xor_cross}
+use Rattle.gf_field.specs.laws.XorLaws.{xor_cross}
 use Rattle.gf_field.specs.Ring.{IsRing}
 use Rattle.gf_field.specs.Power.{power}
 use Rattle.gf_field.specs.Polynomial.{coefficient, IsMonic}
 use Rattle.gf_field.specs.Quotient.{none, unit, plus, times, shift, rest, step, reduced, product}
-use Rattle.gf_field.specs.RingLaws.{distrib_left, mul_zero, zero_mul, mul_one, mul_left_comm}
-use Rattle.gf_field.specs.PackingLaws.{coefficient_one, shorten_xor, coefficient-packed, coefficient_below, coefficient_ends}
-use Rattle.gf_field.specs.QuotientLaws.{reduced_below, reduced_ends}
-use Rattle.gf_field.specs.QuotientRingLaws.{parts, product_below}
+use Rattle.gf_field.specs.laws.RingLaws.{distrib_left, mul_zero, zero_mul, mul_one, mul_left_comm}
+use Rattle.gf_field.specs.laws.PackingLaws.{coefficient_one, shorten_xor, coefficient-packed, coefficient_below, coefficient_ends}
+use Rattle.gf_field.specs.laws.QuotientLaws.{reduced_below, reduced_ends}
+use Rattle.gf_field.specs.laws.QuotientRingLaws.{parts, product_below}
 use Rattle.gf_iso.specs.Root.{value_at}
 
 -- f keeps sums, products and 1 of all numbers

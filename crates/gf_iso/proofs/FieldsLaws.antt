@@ -3,7 +3,7 @@ use Rattle.std.proofs.Common.{◌≡◌, ℕ, suc, refl, ◌<◌, ◌≤◌, ◌
 use Rattle.gf_field.specs.Bit.{bit_mul}
 use Rattle.gf_field.specs.Field.{HasNoZeroDivisors}
 use Rattle.gf_field.specs.Modulus.{IsModulus}
-use Rattle.gf_field.specs.ModulusLaws.{modulus_below}
+use Rattle.gf_field.specs.laws.ModulusLaws.{modulus_below}
 use Rattle.gf_field.specs.Quotient.{product}
 use Rattle.gf_tower.specs.Tower.{tower_polynomial}
 use Rattle.gf_tower.specs.Digits.{IsPackedList}

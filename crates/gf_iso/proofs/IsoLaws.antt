@@ -6,25 +6,25 @@ use Rattle.std.proofs.lemmas.Bool.{cases_lt}
 use Rattle.std.proofs.lemmas.Nat.{pow_below}
 use native.Mathlib.Nat.{mod-eq_of_lt}
 use mathlib.Core.Path.{fun_ext}
-use Rattle.gf_field.specs.XorLaws.{xor_same, xor_cross}
+use Rattle.gf_field.specs.laws.XorLaws.{xor_same, xor_cross}
 use Rattle.gf_field.specs.Ring.{IsRing}
 use Rattle.gf_field.specs.Bit.{bit_mul}
-use Rattle.gf_field.specs.BitLaws.{bit_cases}
+use Rattle.gf_field.specs.laws.BitLaws.{bit_cases}
 use Rattle.gf_field.specs.Field.{HasNoZeroDivisors}
 use Rattle.gf_field.specs.Power.{power}
-use Rattle.gf_field.specs.PowerLaws.{power_below}
-use Rattle.gf_field.specs.Polynomial.{coefficient, sum_of_first, IsProduct}
+use Rattle.gf_field.specs.laws.PowerLaws.{power_below}
+use Rattle.gf_field.specs.Polynomial.{coefficient, sum_of_first, IsProductModulo}
 use Rattle.gf_field.specs.Quotient.{rest}
-use Rattle.gf_field.specs.RingLaws.{zero_mul, square-xor}
-use Rattle.gf_field.specs.PackingLaws.{coefficient_below, coefficient_zero, coefficient_suc}
-use Rattle.gf_field.specs.PigeonholeLaws.{FoundAt}
+use Rattle.gf_field.specs.laws.RingLaws.{zero_mul, square-xor}
+use Rattle.gf_field.specs.laws.PackingLaws.{coefficient_below, coefficient_zero, coefficient_suc}
+use Rattle.gf_field.specs.laws.PigeonholeLaws.{FoundAt}
 use Rattle.gf_field.specs.Trace.{frobenius}
-use Rattle.gf_field.specs.TraceLaws.{frobenius-xor}
+use Rattle.gf_field.specs.laws.TraceLaws.{frobenius-xor}
 use Rattle.gf_tower.specs.FieldName.{tower_product}
 use Rattle.gf_tower.specs.Tower.{tower_polynomial}
 use Rattle.irreducible.specs.Span.{combination, InSpan, IsIndependent}
-use Rattle.irreducible.specs.SpanLaws.{combination-xor, combination_unit, combination_below}
-use Rattle.irreducible.specs.AdditiveLaws.{IsAdditive, combination-additive}
+use Rattle.irreducible.specs.laws.SpanLaws.{combination-xor, combination_unit, combination_below}
+use Rattle.irreducible.specs.laws.AdditiveLaws.{IsAdditive, combination-additive}
 use Rattle.irreducible.specs.Matrix.{IsKernel, IsLeastSolution, AreInverse}
 use Rattle.gf_iso.specs.Root.{value_at, IsLeastRoot}
 use Rattle.gf_iso.specs.Isomorphism.{IsHomomorphism, IsIsoOf}
@@ -186,10 +186,10 @@ module _ (k : ℕ) (big : ℕ → ℕ → ℕ) (ring : IsRing k big) where
             there_base : (u : ℕ) → u < 2 ^ n → combination rows u ≡ base_map big n s u
             there_base u l = there_is u (wide u l) ∙ tower_map_base n g c0 c1 tower k big ring double s hs.element hs.root t ht.element ht.root u l
 
-            short : (x : ℕ) → IsProduct 1 n bit_mul g 2 1 x → x < 2 ^ n
+            short : (x : ℕ) → IsProductModulo 1 n bit_mul g 2 1 x → x < 2 ^ n
             short x p = subst (λ m. x < 2 ^ m) (one-mul n) p.short
 
-            there_x : (x : ℕ) → IsProduct 1 n bit_mul g 2 1 x → combination rows x ≡ s
+            there_x : (x : ℕ) → IsProductModulo 1 n bit_mul g 2 1 x → combination rows x ≡ s
             there_x x p = there_base x (short x p) ∙ base_map_x k big ring s hs.element n g x tower.base hs.root p
 
             there_Y : combination rows (2 ^ n) ≡ t

@@ -7,20 +7,20 @@ use Rattle.std.specs.Int.Bits.{xor_self, xor_lt, xor_zero_l, xor_zero_r, xor_ass
 use Rattle.std.proofs.lemmas.Bool.{cases_eq}
 use Rattle.std.proofs.lemmas.Nat.{pow_below, shr_high, mod_low}
 use mathlib.Core.Path.{fun_ext}
-use Rattle.gf_field.specs.XorLaws.{xor_cancel, xor_same}
+use Rattle.gf_field.specs.laws.XorLaws.{xor_cancel, xor_same}
 use Rattle.gf_field.specs.Ring.{IsRing}
 use Rattle.gf_field.specs.Field.{HasNoZeroDivisors}
 use Rattle.gf_field.specs.Power.{power}
 use Rattle.gf_field.specs.Polynomial.{coefficient, IsMonic}
 use Rattle.gf_field.specs.Quotient.{none, unit, plus, times, shift, rest, step, reduced, product}
-use Rattle.gf_field.specs.QuotientLaws.{AllBelow}
-use Rattle.gf_field.specs.RingLaws.{mul_zero, zero_mul, mul_one, mul_left_comm}
-use Rattle.gf_field.specs.PackingLaws.{coefficient_one, coefficient_below, coefficient_zero, coefficient_suc}
-use Rattle.gf_field.specs.PigeonholeLaws.{FoundAt, find}
-use Rattle.gf_field.specs.QuotientRingLaws.{product_below, coefficient-product}
-use Rattle.gf_field.specs.FermatLaws.{power_same}
+use Rattle.gf_field.specs.laws.QuotientLaws.{AllBelow}
+use Rattle.gf_field.specs.laws.RingLaws.{mul_zero, zero_mul, mul_one, mul_left_comm}
+use Rattle.gf_field.specs.laws.PackingLaws.{coefficient_one, coefficient_below, coefficient_zero, coefficient_suc}
+use Rattle.gf_field.specs.laws.PigeonholeLaws.{FoundAt, find}
+use Rattle.gf_field.specs.laws.QuotientRingLaws.{product_below, coefficient-product}
+use Rattle.gf_field.specs.laws.FermatLaws.{power_same}
 use Rattle.gf_field.specs.Roots.{value, AllZero, AllElements}
-use Rattle.gf_field.specs.RootsLaws.{HasFewRoots-from_field}
+use Rattle.gf_field.specs.laws.RootsLaws.{HasFewRoots-from_field}
 use Rattle.gf_iso.specs.Root.{value_at}
 use Rattle.gf_iso.proofs.CarriedLaws.{IsCarried, value_at_below, val_shift, val_open, val_unit, val_step}
 

@@ -2,7 +2,7 @@
 use Rattle.std.proofs.Common.{◌≡◌, ◌≢◌, ℕ, sym, ◌∙◌, ap, ◌<◌, ◌≤◌, ◌^◌, ◌*◌, ◌/◌, ◌%◌, ◌⊎◌, inl, inr, arith, subst, one-mul, zero-mul, List, [], ◌∷◌}
 use Rattle.std.specs.Prelude.{bit_xor, Option, None, Some}
 use Rattle.std.specs.Int.Bits.{xor_zero_l, xor_zero_r, xor_assoc}
-use Rattle.gf_field.specs.BitLaws.{bit_cases}
+use Rattle.gf_field.specs.laws.BitLaws.{bit_cases}
 use Rattle.irreducible.specs.Span.{combination}
 use Rattle.gf_iso.specs.private.Search.{IsLeastOf, IsLesserOf}
 

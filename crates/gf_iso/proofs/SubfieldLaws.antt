@@ -6,19 +6,19 @@ use native.Mathlib.Nat.{mod-eq_of_lt}
 use mathlib.Core.Path.{fun_ext}
 use Rattle.gf_field.specs.Ring.{IsRing}
 use Rattle.gf_field.specs.Bit.{bit_mul}
-use Rattle.gf_field.specs.BitLaws.{bit_cases, bit_mul_below, IsRing-bit_mul}
+use Rattle.gf_field.specs.laws.BitLaws.{bit_cases, bit_mul_below, IsRing-bit_mul}
 use Rattle.gf_field.specs.Field.{HasNoZeroDivisors}
-use Rattle.gf_field.specs.ModulusLaws.{IsMonic-from_modulus, IsRing-from_modulus}
+use Rattle.gf_field.specs.laws.ModulusLaws.{IsMonic-from_modulus, IsRing-from_modulus}
 use Rattle.gf_field.specs.Power.{power}
-use Rattle.gf_field.specs.PowerLaws.{one_below}
+use Rattle.gf_field.specs.laws.PowerLaws.{one_below}
 use Rattle.gf_field.specs.Polynomial.{coefficient}
 use Rattle.gf_field.specs.Quotient.{product}
-use Rattle.gf_field.specs.RingLaws.{zero_mul}
-use Rattle.gf_field.specs.PackingLaws.{coefficient_below, self_below}
-use Rattle.gf_field.specs.PigeonholeLaws.{FoundAt}
-use Rattle.gf_field.specs.FermatLaws.{power_same}
+use Rattle.gf_field.specs.laws.RingLaws.{zero_mul}
+use Rattle.gf_field.specs.laws.PackingLaws.{coefficient_below, self_below}
+use Rattle.gf_field.specs.laws.PigeonholeLaws.{FoundAt}
+use Rattle.gf_field.specs.laws.FermatLaws.{power_same}
 use Rattle.gf_field.specs.Trace.{frobenius}
-use Rattle.gf_field.specs.TraceLaws.{frobenius-power}
+use Rattle.gf_field.specs.laws.TraceLaws.{frobenius-power}
 use Rattle.gf_iso.specs.Root.{value_at}
 use Rattle.gf_iso.specs.private.Fields.{IsBaseField}
 use Rattle.gf_iso.proofs.CarriedLaws.{IsCarried}

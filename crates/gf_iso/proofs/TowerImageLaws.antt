@@ -9,24 +9,24 @@ use native.Mathlib.Nat.{mod-eq_of_lt}
 use mathlib.Core.Path.{fun_ext}
 use Rattle.gf_field.specs.Ring.{IsRing}
 use Rattle.gf_field.specs.Bit.{bit_mul}
-use Rattle.gf_field.specs.BitLaws.{IsRing-bit_mul}
+use Rattle.gf_field.specs.laws.BitLaws.{IsRing-bit_mul}
 use Rattle.gf_field.specs.Field.{HasNoZeroDivisors}
-use Rattle.gf_field.specs.FieldLaws.{HasInverse, inverse_of, IsFieldBySquares-from}
-use Rattle.gf_field.specs.ModulusLaws.{IsMonic-from_modulus, IsRing-from_modulus}
+use Rattle.gf_field.specs.laws.FieldLaws.{HasInverse, inverse_of, IsFieldBySquares-from}
+use Rattle.gf_field.specs.laws.ModulusLaws.{IsMonic-from_modulus, IsRing-from_modulus}
 use Rattle.gf_field.specs.Power.{power}
-use Rattle.gf_field.specs.PowerLaws.{one_below}
-use Rattle.gf_field.specs.Polynomial.{coefficient, IsMonic, IsProduct}
+use Rattle.gf_field.specs.laws.PowerLaws.{one_below}
+use Rattle.gf_field.specs.Polynomial.{coefficient, IsMonic, IsProductModulo}
 use Rattle.gf_field.specs.Quotient.{unit, reduced, packed, product}
-use Rattle.gf_field.specs.QuotientLaws.{EndsAt, AllBelow, reduced_below, reduced_ends}
-use Rattle.gf_field.specs.RingLaws.{mul_zero, zero_mul, mul_one}
-use Rattle.gf_field.specs.PackingLaws.{coefficient_below, coefficient_zero, coefficient_suc, coefficient_one, coefficient-packed, coefficient_ends}
-use Rattle.gf_field.specs.ProductLaws.{IsProduct-reduced, IsProduct_same}
-use Rattle.gf_field.specs.PigeonholeLaws.{FoundAt}
-use Rattle.gf_field.specs.FermatLaws.{power_same}
+use Rattle.gf_field.specs.laws.QuotientLaws.{EndsAt, AllBelow, reduced_below, reduced_ends}
+use Rattle.gf_field.specs.laws.RingLaws.{mul_zero, zero_mul, mul_one}
+use Rattle.gf_field.specs.laws.PackingLaws.{coefficient_below, coefficient_zero, coefficient_suc, coefficient_one, coefficient-packed, coefficient_ends}
+use Rattle.gf_field.specs.laws.ProductLaws.{IsProductModulo-reduced, IsProduct_same}
+use Rattle.gf_field.specs.laws.PigeonholeLaws.{FoundAt}
+use Rattle.gf_field.specs.laws.FermatLaws.{power_same}
 use Rattle.gf_tower.specs.FieldName.{tower_product}
 use Rattle.gf_tower.specs.Tower.{polynomial_of, tower_polynomial}
 use Rattle.gf_tower.specs.Digits.{IsPackedList}
-use Rattle.gf_tower.specs.TowerLaws.{IsMonic-tower, IsRing-tower}
+use Rattle.gf_tower.specs.laws.TowerLaws.{IsMonic-tower, IsRing-tower}
 use Rattle.gf_field.specs.Element.{AreElements}
 use Rattle.gf_iso.specs.Root.{value_at}
 use Rattle.gf_iso.specs.private.Fields.{IsBaseField, IsTowerField, base_image, quadratic}
@@ -60,11 +60,11 @@ module _ (k : ℕ) (big : ℕ → ℕ → ℕ) (ring : IsRing k big) (s : ℕ) (
       (ap (λ f. value_at big (suc (suc e)) f s) (bits_same g) ∙ root)
 
   -- x goes to the root
-  pub base_map_x : (n g x : ℕ) → IsBaseField n g → value_at big (suc n) (coefficient 1 g) s ≡ 0 → IsProduct 1 n bit_mul g 2 1 x → base_map big n s x ≡ s
+  pub base_map_x : (n g x : ℕ) → IsBaseField n g → value_at big (suc n) (coefficient 1 g) s ≡ 0 → IsProductModulo 1 n bit_mul g 2 1 x → base_map big n s x ≡ s
   base_map_x zero g x base root p = absurd (let some : 1 ≤ 0 = base.modulus.some in omega arith)
   base_map_x (suc e) g x base root p =
       ap (λ f. value_at big (suc e) (λ i. f i % 2) s)
-      (ap (coefficient 1) (mod-eq_of_lt p.short ∙ IsProduct_same 1 bit_mul IsRing-bit_mul e g monic 2 1 x (packed 1 (suc e) class) p (IsProduct-reduced 1 bit_mul IsRing-bit_mul e g monic 2 2 1 two_ends one_below_top))
+      (ap (coefficient 1) (mod-eq_of_lt p.short ∙ IsProduct_same 1 bit_mul IsRing-bit_mul e g monic 2 1 x (packed 1 (suc e) class) p (IsProductModulo-reduced 1 bit_mul IsRing-bit_mul e g monic 2 2 1 two_ends one_below_top))
       ∙ fun_ext (coefficient-packed 1 (suc e) class class_below class_ends))
       ∙ val_reduced bit_mul k big ring (λ b. b % 2) (IsCarried-bit k big ring) s e (coefficient 1 g) monic.leading (ap (λ f. value_at big (suc (suc e)) f s) (bits_same g) ∙ root) 2 (coefficient 1 2) (coefficient 1 1)
       ∙ ap₂ big

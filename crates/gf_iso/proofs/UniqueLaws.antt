@@ -9,19 +9,19 @@ use native.Mathlib.Nat.{mod-eq_of_lt}
 use mathlib.Core.Path.{fun_ext}
 use Rattle.gf_field.specs.Ring.{IsRing}
 use Rattle.gf_field.specs.Bit.{bit_mul}
-use Rattle.gf_field.specs.BitLaws.{IsRing-bit_mul}
-use Rattle.gf_field.specs.ModulusLaws.{IsMonic-from_modulus}
-use Rattle.gf_field.specs.Polynomial.{coefficient, IsMonic, IsProduct}
+use Rattle.gf_field.specs.laws.BitLaws.{IsRing-bit_mul}
+use Rattle.gf_field.specs.laws.ModulusLaws.{IsMonic-from_modulus}
+use Rattle.gf_field.specs.Polynomial.{coefficient, IsMonic, IsProductModulo}
 use Rattle.gf_field.specs.Quotient.{none, plus, times, shift, rest, step, reduced, packed, product}
-use Rattle.gf_field.specs.DivisionLaws.{joined}
-use Rattle.gf_field.specs.RingLaws.{zero_mul, mul_zero}
-use Rattle.gf_field.specs.PackingLaws.{coefficient_below, coefficient_zero, coefficient_suc, coefficient_ends, packed-coefficient}
-use Rattle.gf_field.specs.ProductLaws.{IsProduct-product}
-use Rattle.gf_field.specs.QuotientRingLaws.{product_below, coefficient-product}
+use Rattle.gf_field.specs.laws.DivisionLaws.{joined}
+use Rattle.gf_field.specs.laws.RingLaws.{zero_mul, mul_zero}
+use Rattle.gf_field.specs.laws.PackingLaws.{coefficient_below, coefficient_zero, coefficient_suc, coefficient_ends, packed-coefficient}
+use Rattle.gf_field.specs.laws.ProductLaws.{IsProductModulo-product}
+use Rattle.gf_field.specs.laws.QuotientRingLaws.{product_below, coefficient-product}
 use Rattle.gf_tower.specs.FieldName.{tower_product}
 use Rattle.gf_tower.specs.Tower.{tower_polynomial}
 use Rattle.irreducible.specs.Span.{combination}
-use Rattle.irreducible.specs.AdditiveLaws.{IsAdditive, combination-additive}
+use Rattle.irreducible.specs.laws.AdditiveLaws.{IsAdditive, combination-additive}
 use Rattle.gf_iso.specs.Root.{IsLeastRoot}
 use Rattle.gf_iso.specs.Isomorphism.{IsHomomorphism, IsIsoOf, AreSame}
 use Rattle.gf_iso.specs.private.Fields.{IsTowerField}
@@ -174,11 +174,11 @@ module _ (n g c0 c1 : ℕ) (tower : IsTowerField n g c0 c1) (big : ℕ → ℕ �
           doubled : (i : ℕ) → 2 ^ i * 2 ≡ 2 ^ suc i
           doubled i = omega (arith, pow-suc 2 i)
 
-      is_x : (d : ℕ) → suc (suc d) ≡ n → IsProduct 1 n bit_mul g 2 1 2
-      is_x d e = subst (λ m. IsProduct 1 m bit_mul g 2 1 2) e
-          (subst (IsProduct 1 (suc (suc d)) bit_mul g 2 1)
+      is_x : (d : ℕ) → suc (suc d) ≡ n → IsProductModulo 1 n bit_mul g 2 1 2
+      is_x d e = subst (λ m. IsProductModulo 1 m bit_mul g 2 1 2) e
+          (subst (IsProductModulo 1 (suc (suc d)) bit_mul g 2 1)
           (times_x 1 bit_mul IsRing-bit_mul d g (monic d e) 1 (pow_below 0 (1 * suc d) (omega arith)))
-          (IsProduct-product 1 bit_mul IsRing-bit_mul (suc d) g (monic d e) 2 1 (pow_below 1 (1 * suc (suc d)) (omega arith)) (pow_below 0 (1 * suc (suc d)) (omega arith))))
+          (IsProductModulo-product 1 bit_mul IsRing-bit_mul (suc d) g (monic d e) 2 1 (pow_below 1 (1 * suc (suc d)) (omega arith)) (pow_below 0 (1 * suc (suc d)) (omega arith))))
 
       at_x : (d : ℕ) → suc (suc d) ≡ n → there 2 ≡ other_there 2
       at_x d e = least_same (n * 2) big (suc n) (coefficient 1 g) (there 2) (other_there 2) (first.base_root 2 (is_x d e)) (second.base_root 2 (is_x d e))

@@ -3,7 +3,7 @@ use Rattle.std.proofs.Common.{ℕ, sym, ◌∙◌, ap, ◌^◌, ◌*◌, ◌%◌
 use Rattle.std.specs.Int.Bits.{xor_mod}
 use Rattle.std.proofs.lemmas.Nat.{pow_below}
 use native.Mathlib.Nat.{mod-eq_of_lt}
-use Rattle.irreducible.specs.AdditiveLaws.{IsAdditive, combination-additive}
+use Rattle.irreducible.specs.laws.AdditiveLaws.{IsAdditive, combination-additive}
 use Rattle.gf_iso.specs.Isomorphism.{IsHomomorphism, HasSameWord}
 
 -- a map that keeps the sums of elements is additive, when numbers are cut to elements

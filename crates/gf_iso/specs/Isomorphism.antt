@@ -1,7 +1,7 @@
 -- Isomorphisms of fields (Lidl and Niederreiter, Finite Fields, chapter 1, section 2, and chapter 2, theorem 2.5).
 use Rattle.std.specs.Prelude.{◌≡◌, ℕ, suc, ◌<◌, ◌*◌, ◌^◌, List, length, slice_index, bit_xor}
 use Rattle.gf_field.specs.Bit.{bit_mul}
-use Rattle.gf_field.specs.Polynomial.{coefficient, IsProduct}
+use Rattle.gf_field.specs.Polynomial.{coefficient, IsProductModulo}
 use Rattle.gf_tower.specs.FieldName.{tower_product}
 use Rattle.gf_tower.specs.Tower.{tower_polynomial}
 use Rattle.irreducible.specs.Span.{combination}
@@ -26,7 +26,7 @@ pub record IsIsomorphism (k : ℕ) (first second : ℕ → ℕ → ℕ) (there b
 -- least root of the tower's polynomial with its coefficients carried over
 pub record IsIsoOf (n g : ℕ) (cs : List ℕ) (big : ℕ → ℕ → ℕ) (there back : ℕ → ℕ) : Type 0 where
   pub isomorphism : IsIsomorphism (n * length cs) (tower_product n g cs) big there back
-  pub base_root : (x : ℕ) → IsProduct 1 n bit_mul g 2 1 x → IsLeastRoot (n * length cs) big (suc n) (coefficient 1 g) (there x)
+  pub base_root : (x : ℕ) → IsProductModulo 1 n bit_mul g 2 1 x → IsLeastRoot (n * length cs) big (suc n) (coefficient 1 g) (there x)
   pub tower_root : IsLeastRoot (n * length cs) big (suc (length cs)) (λ i. there (coefficient n (tower_polynomial n cs) i)) (there (2 ^ n))
 
 -- two pairs of maps agree on the numbers below 2 to the k

@@ -6,8 +6,6 @@ mod isos;
 mod laws;
 mod matrices;
 mod roots;
-#[cfg(test)]
-mod tests;
 
 pub use isos::{Iso, IsoFault};
 pub use laws::{only_isomorphism, same_word};

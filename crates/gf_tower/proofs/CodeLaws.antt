@@ -9,9 +9,9 @@ use Rattle.gf_field.specs.Ring.{IsRing}
 use Rattle.gf_field.specs.Quotient.{product}
 use Rattle.gf_field.specs.Element.{AreElements}
 use Rattle.gf_tower.specs.Tower.{polynomial_of}
-use Rattle.gf_tower.specs.TowerLaws.{polynomial_below}
+use Rattle.gf_tower.specs.laws.TowerLaws.{polynomial_below}
 use Rattle.gf_tower.specs.Digits.{IsPacked, modulus_of, scaled, scaled_from, times_y, from_digit}
-use Rattle.gf_tower.specs.DigitsLaws.{scaled_below, scaled_start, scaled_step, scaled_end, scaled_element, times_y_is, times_y_element, from_digit_start, from_digit_element, from_digit_step, from_digit_end}
+use Rattle.gf_tower.specs.laws.DigitsLaws.{scaled_below, scaled_start, scaled_step, scaled_end, scaled_element, times_y_is, times_y_element, from_digit_start, from_digit_element, from_digit_step, from_digit_end}
 
 pub masked : (k x : ℕ) → k ≤ 64 → bit_and x (18446744073709551615 / 2 ^ (64 - k)) ≡ x % 2 ^ k
 masked k x h = ap (bit_and x) (ones_shr 64 (64 - k) (omega arith) ∙ ap (λ y. 2 ^ y - 1) (back k h)) ∙ and_mask x k

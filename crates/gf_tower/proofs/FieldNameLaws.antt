@@ -9,10 +9,10 @@ use Rattle.gf_field.specs.Modulus.{IsModulus, HasModulusDegree}
 use Rattle.gf_field.specs.Polynomial.{IsIrreducible}
 use Rattle.gf_field.specs.Quotient.{product}
 use Rattle.gf_field.proofs.FirstOutside.{first_clash}
-use Rattle.gf_field.specs.IrreducibleBitLaws.{field_by_modulus}
+use Rattle.gf_field.specs.laws.IrreducibleBitLaws.{field_by_modulus}
 use Rattle.gf_tower.specs.Tower.{IsLength, IsTowerList, tower_polynomial}
 use Rattle.gf_tower.specs.Digits.{IsPackedList}
-use Rattle.gf_tower.specs.TowerLaws.{field_by_polynomial}
+use Rattle.gf_tower.specs.laws.TowerLaws.{field_by_polynomial}
 use Rattle.gf_tower.specs.FieldName.{IsFieldModulus, IsFieldOver, IsFieldTower, IsFieldName, IsIrreducibleOver, tower_product}
 use Rattle.gf_tower.specs.FieldFault.{IsFieldFault, HasTower}
 use Rattle.gf_tower.specs.declared.any_field.FieldFault.{FieldFault}

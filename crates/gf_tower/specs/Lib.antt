@@ -5,6 +5,5 @@ pub mod FieldName
 pub mod FieldFault
 pub mod AnyField
 pub mod Digits
-pub mod DigitsLaws
-pub mod TowerLaws
 pub mod private
+pub mod laws

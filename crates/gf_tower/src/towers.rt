@@ -2,7 +2,7 @@
 
 ghost use Rattle.std.specs.Prelude.{◌≡◌, ◌<◌, ◌≤◌, ◌*◌, ◌/◌, ◌^◌, ◌↔◌, length, take, IsOk, IfOk, IfErr};
 ghost use Rattle.gf_field.specs.Element.{AreElements};
-ghost use Rattle.gf_field.specs.Polynomial.{IsProduct};
+ghost use Rattle.gf_field.specs.Polynomial.{IsProductModulo};
 ghost use Rattle.gf_field.specs.Quotient.{product as quotient_product};
 ghost use Rattle.gf_tower.specs.Tower.{IsTowerList, polynomial_of, tower_polynomial};
 ghost use Rattle.gf_tower.specs.Digits.{IsPackedList, modulus_of, scaled as scaled_of, times_y as times_y_of};
@@ -130,7 +130,7 @@ impl<F: Field> Tower<F> {
 
 impl<F: Field> Ring for Tower<F> {
     ghost use Rattle.gf_tower.specs.TowerParts.{base_of, coefficients_of, size_of};
-    ghost use Rattle.gf_tower.specs.TowerLaws.{IsRing-tower};
+    ghost use Rattle.gf_tower.specs.laws.TowerLaws.{IsRing-tower};
 
     type Times = u64;
 
@@ -160,7 +160,7 @@ impl<F: Field> Ring for Tower<F> {
         requires second { b < 2 ^ (F.degree (base_of self.now) * size_of self.now) }
         ensures product { result ≡ quotient_product (F.degree (base_of self.now)) (size_of self.now) (F.product (base_of self.now)) (tower_polynomial (F.degree (base_of self.now)) (coefficients_of self.now)) a b }
         ensures element { result < 2 ^ (F.degree (base_of self.now) * size_of self.now) }
-        ensures remainder { IsProduct (F.degree (base_of self.now)) (size_of self.now) (F.product (base_of self.now)) (tower_polynomial (F.degree (base_of self.now)) (coefficients_of self.now)) a b result }
+        ensures remainder { IsProductModulo (F.degree (base_of self.now)) (size_of self.now) (F.product (base_of self.now)) (tower_polynomial (F.degree (base_of self.now)) (coefficients_of self.now)) a b result }
     {
         let n = self.base.k();
         let mask = u64::MAX >> (64 - n);

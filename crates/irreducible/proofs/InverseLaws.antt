@@ -4,7 +4,7 @@ use Rattle.std.proofs.lemmas.Nat.Bits.{ones_shr}
 use Rattle.gf_field.specs.Ring.{IsRing}
 use Rattle.gf_field.specs.Field.{HasNoZeroDivisors}
 use Rattle.gf_field.specs.Power.{power}
-use Rattle.gf_field.specs.FermatLaws.{power_all}
+use Rattle.gf_field.specs.laws.FermatLaws.{power_all}
 
 largest : (k : ℕ) → k ≤ 64 → 18446744073709551615 / 2 ^ (64 - k) ≡ 2 ^ k - 1
 largest k h = ones_shr 64 (64 - k) (omega arith) ∙ ap (λ x. 2 ^ x - 1) (back k h)

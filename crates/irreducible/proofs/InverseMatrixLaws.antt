@@ -6,12 +6,12 @@ use Rattle.std.proofs.lemmas.Bool.{cases_lt}
 use Rattle.std.proofs.lemmas.Nat.{pow_below}
 use Rattle.std.proofs.lemmas.Nat.Bits.{same_from_bits, bit_at_above}
 use native.Mathlib.Nat.{mod-eq_of_lt}
-use Rattle.gf_field.specs.XorLaws.{xor_same, xor_cancel}
-use Rattle.gf_field.specs.PigeonholeLaws.{FoundAt}
+use Rattle.gf_field.specs.laws.XorLaws.{xor_same, xor_cancel}
+use Rattle.gf_field.specs.laws.PigeonholeLaws.{FoundAt}
 use Rattle.irreducible.specs.Span.{combination, InSpan, IsIndependent}
-use Rattle.irreducible.specs.SpanLaws.{span_all, combination-xor, combination_below, reaches, IsIndependent-from_rank, rank-from_independent}
-use Rattle.irreducible.specs.AdditiveLaws.{IsAdditive-self, IsAdditive-combination, additive-combination}
-use Rattle.irreducible.specs.Pivots.{IsTop, IsReduced, IsRankSoFar, AreChoices}
+use Rattle.irreducible.specs.laws.SpanLaws.{span_all, combination-xor, combination_below, reaches, IsIndependent-from_rank, rank-from_independent}
+use Rattle.irreducible.specs.laws.AdditiveLaws.{IsAdditive-self, IsAdditive-combination, additive-combination}
+use Rattle.irreducible.specs.Pivots.{IsTop, IsCleared, IsRankSoFar, AreChoices}
 use Rattle.irreducible.specs.Matrix.{IsSquare, AreInverse}
 use Rattle.irreducible.proofs.PivotLaws.{rank_end}
 use Rattle.irreducible.proofs.MatrixLaws.{choices_make, choices_short}
@@ -43,7 +43,7 @@ module _ (rows sums choices : List ℕ) (square : IsSquare rows) (r : ℕ) (k : 
   sums_below : (used : ℕ) → combination sums used < 2 ^ length rows
   sums_below used = combination_below sums (length rows) used (λ t l. rw (sym (a.makes t)) (combination_below rows (length rows) (slice_index choices t) square))
 
-  unit_cleared : (i left used : ℕ) → i < length rows → IsReduced sums (2 ^ i) left used 0 → left ≡ 0
+  unit_cleared : (i left used : ℕ) → i < length rows → IsCleared sums (2 ^ i) left used 0 → left ≡ 0
   unit_cleared i left used h d = same_from_bits left 0 (λ t. elim (cases_lt t (length rows)) [
     | inl less ↦ d.cleared t (omega arith) (top_pivot t less) ∙ sym (bit_at_above 0 t t (pow_pos t) (omega arith))
     | inr more ↦ bit_at_above left (length rows) t small more ∙ sym (bit_at_above 0 t t (pow_pos t) (omega arith))
@@ -52,7 +52,7 @@ module _ (rows sums choices : List ℕ) (square : IsSquare rows) (r : ℕ) (k : 
       small : left < 2 ^ length rows
       small = rw (sym (ap (bit_xor (2 ^ i)) d.within ∙ xor_cancel (2 ^ i) left)) (xor_lt (length rows) (2 ^ i) (combination sums used) (pow_below i (length rows) h) (sums_below used))
 
-  pub inverse_row : (i left used : ℕ) → i < length rows → IsReduced sums (2 ^ i) left used 0 → combination rows (combination choices used) ≡ 2 ^ i
+  pub inverse_row : (i left used : ℕ) → i < length rows → IsCleared sums (2 ^ i) left used 0 → combination rows (combination choices used) ≡ 2 ^ i
   inverse_row i left used h d = choices_make rows sums choices a same used ∙ d.within ∙ ap (bit_xor (2 ^ i)) (unit_cleared i left used h d) ∙ xor_zero_r (2 ^ i)
 
   pub inverse_short : (used : ℕ) → combination choices used < 2 ^ length rows

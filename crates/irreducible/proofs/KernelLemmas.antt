@@ -8,11 +8,11 @@ use Rattle.std.proofs.lemmas.Nat.{pow_below, shr_split}
 use Rattle.std.proofs.lemmas.Nat.Bits.{bit_at_xor, bit_at_above}
 use native.Mathlib.Nat.{div-eq_of_lt-le, div-eq_of_lt, div-one}
 use Rattle.gf_field.proofs.Copies.{zeros}
-use Rattle.gf_field.specs.BitLaws.{bit_cases}
-use Rattle.gf_field.specs.XorLaws.{xor_cancel, xor_same}
+use Rattle.gf_field.specs.laws.BitLaws.{bit_cases}
+use Rattle.gf_field.specs.laws.XorLaws.{xor_cancel, xor_same}
 use Rattle.irreducible.specs.Span.{combination, InSpan}
-use Rattle.irreducible.specs.SpanLaws.{combination_zero, combination-xor, combination_unit, combination_below, span_zero, span_xor, span_item, span_all, span_trans}
-use Rattle.irreducible.specs.Pivots.{IsTop, ByTop, IsReduced, IsRankSoFar, IsKernelSoFar, AreChoices}
+use Rattle.irreducible.specs.laws.SpanLaws.{combination_zero, combination-xor, combination_unit, combination_below, span_zero, span_xor, span_item, span_all, span_trans}
+use Rattle.irreducible.specs.Pivots.{IsTop, ByTop, IsCleared, IsRankSoFar, IsKernelSoFar, AreChoices}
 use Rattle.irreducible.specs.Matrix.{IsSquare, IsKernel, IsLeastSolution}
 use Rattle.irreducible.proofs.PivotLaws.{top_bit, top_xor}
 use Rattle.irreducible.proofs.MatrixLaws.{choices_make, choices_short}
@@ -47,7 +47,7 @@ tops_cancel m w x h k = smaller (bit_xor w x / 2 ^ m) (bit_xor w x % 2 ^ m) (bit
 
 -- ---- a word whose row is no sum of earlier ones
 -- what an elimination leaves of a sum of the rows so far is 0
-pub nothing_left : (rows pivots : List ℕ) (i r w left used t : ℕ) (k : IsRankSoFar rows pivots i r) → IsReduced pivots w left used 0 → IsTop t left → InSpan k.basis w → ⊥
+pub nothing_left : (rows pivots : List ℕ) (i r w left used t : ℕ) (k : IsRankSoFar rows pivots i r) → IsCleared pivots w left used 0 → IsTop t left → InSpan k.basis w → ⊥
 nothing_left rows pivots i r w left used t k d top inside =
     clash (sym (top_bit t left top) ∙ d.cleared t (omega arith) (k.complete left t left_in top))
   where
@@ -92,7 +92,7 @@ kernel_start rows = record {
   complete = λ v t h z top. absurd (not-suc-le-zero h);
 }
 
-pub kernel_kept : (rows pivots vectors : List ℕ) (i r left used t : ℕ) (k : IsRankSoFar rows pivots i r) → IsReduced pivots (get_or rows i 0) left used 0 → IsTop t left → IsKernelSoFar rows vectors i → IsKernelSoFar rows vectors (i + 1)
+pub kernel_kept : (rows pivots vectors : List ℕ) (i r left used t : ℕ) (k : IsRankSoFar rows pivots i r) → IsCleared pivots (get_or rows i 0) left used 0 → IsTop t left → IsKernelSoFar rows vectors i → IsKernelSoFar rows vectors (i + 1)
 kernel_kept rows pivots vectors i r left used t k d top so_far = record {
   zero_sum = so_far.zero_sum;
   tops = so_far.tops;
@@ -108,7 +108,7 @@ kernel_kept rows pivots vectors i r left used t k d top so_far = record {
         let p : InSpan k.basis (combination rows (bit_xor v (2 ^ i))) = first_rows rows k.basis i (bit_xor v (2 ^ i)) (tops_cancel i v (2 ^ i) high (power_top i)) k.spans in
         record { choice = p.choice; is = p.is ∙ combination-xor rows v (2 ^ i) ∙ ap₂ bit_xor z (combination_unit rows i) ∙ xor_zero_l (get_or rows i 0) }
 
-pub kernel_more : (rows pivots choices vectors : List ℕ) (i left used : ℕ) → AreChoices rows pivots choices → length choices ≡ length pivots → IsReduced pivots (get_or rows i 0) left used 0 → left ≡ 0 → i < length vectors
+pub kernel_more : (rows pivots choices vectors : List ℕ) (i left used : ℕ) → AreChoices rows pivots choices → length choices ≡ length pivots → IsCleared pivots (get_or rows i 0) left used 0 → left ≡ 0 → i < length vectors
     → ((t : ℕ) → get_or choices t 0 < 2 ^ i) → IsKernelSoFar rows vectors i → IsKernelSoFar rows (set vectors i (bit_xor (2 ^ i) (combination choices used))) (i + 1)
 kernel_more rows pivots choices vectors i left used a same d none room low so_far = record {
   zero_sum = λ t. elim (cases_eq t i) [
@@ -267,7 +267,7 @@ less_by_top t a x top low =
     ordered : (q r a p s b d : ℕ) → q * d + r ≡ a → p * d + s ≡ b → r < d → p ≡ suc q → a ≤ b
     ordered q r a p s b d e f l is = let g : suc q * d + s ≡ b = rw (is) at f in let h : suc q * d ≡ q * d + d = suc-mul q d in omega arith
 
-module _ (rows pivots choices vectors : List ℕ) (r : ℕ) (k : IsRankSoFar rows pivots (length rows) r) (a : AreChoices rows pivots choices) (same : length choices ≡ length pivots) (kernel : IsKernelSoFar rows vectors (length rows)) (w left used : ℕ) (d : IsReduced pivots w left used 0) where
+module _ (rows pivots choices vectors : List ℕ) (r : ℕ) (k : IsRankSoFar rows pivots (length rows) r) (a : AreChoices rows pivots choices) (same : length choices ≡ length pivots) (kernel : IsKernelSoFar rows vectors (length rows)) (w left used : ℕ) (d : IsCleared pivots w left used 0) where
   -- what is left tells that there is no solution
   pub no_solution : left < 2 ^ 64 → left ≢ 0 → InSpan rows w → ⊥
   no_solution small ne p =
@@ -278,7 +278,7 @@ module _ (rows pivots choices vectors : List ℕ) (r : ℕ) (k : IsRankSoFar row
     pub solution : combination rows (combination choices used) ≡ w
     solution = choices_make rows pivots choices a same used ∙ d.within ∙ ap (bit_xor w) none ∙ xor_zero_r w
 
-    pub least_solution : (v taken : ℕ) → IsReduced vectors (combination choices used) v taken 0 → IsLeastSolution rows w v
+    pub least_solution : (v taken : ℕ) → IsCleared vectors (combination choices used) v taken 0 → IsLeastSolution rows w v
     least_solution v taken f = record {
       word = below;
       solves = v_solves;

@@ -7,12 +7,12 @@ use Rattle.std.proofs.Math.Seq.{drop-length}
 use Rattle.std.proofs.lemmas.Bool.{cases_eq}
 use Rattle.std.proofs.lemmas.Nat.{pow_below}
 use Rattle.std.proofs.lemmas.Nat.Bits.{shr_and_one}
-use Rattle.gf_field.specs.BitLaws.{bit_cases}
-use Rattle.gf_field.specs.XorLaws.{xor_cancel}
+use Rattle.gf_field.specs.laws.BitLaws.{bit_cases}
+use Rattle.gf_field.specs.laws.XorLaws.{xor_cancel}
 use Rattle.irreducible.specs.Span.{combination}
-use Rattle.irreducible.specs.SpanLaws.{combination-xor, combination_zero, combination_unit, combination_below, combination-short}
-use Rattle.irreducible.specs.AdditiveLaws.{IsAdditive-combination, additive-combination}
-use Rattle.irreducible.specs.Pivots.{IsReduced, AreChoices}
+use Rattle.irreducible.specs.laws.SpanLaws.{combination-xor, combination_zero, combination_unit, combination_below, combination-short}
+use Rattle.irreducible.specs.laws.AdditiveLaws.{IsAdditive-combination, additive-combination}
+use Rattle.irreducible.specs.Pivots.{IsCleared, AreChoices}
 
 -- ---- the sum of chosen rows
 abbrev pub Rest : List ℕ → ℕ → ℕ → ℕ → Type 0
@@ -56,7 +56,7 @@ choices_make rows sums choices a same used =
 pub choices_short : (rows sums choices : List ℕ) → AreChoices rows sums choices → (used : ℕ) → combination choices used < 2 ^ length rows
 choices_short rows sums choices a used = combination_below choices (length rows) used (λ t l. a.below t)
 
-module _ (rows sums choices : List ℕ) (i left used t : ℕ) (a : AreChoices rows sums choices) (same : length choices ≡ length sums) (d : IsReduced sums (get_or rows i 0) left used 0) (h : i < length rows) (room : t < length sums) where
+module _ (rows sums choices : List ℕ) (i left used t : ℕ) (a : AreChoices rows sums choices) (same : length choices ≡ length sums) (d : IsCleared sums (get_or rows i 0) left used 0) (h : i < length rows) (room : t < length sums) where
   next_choice : ℕ
   next_choice = bit_xor (2 ^ i) (combination choices used)
 

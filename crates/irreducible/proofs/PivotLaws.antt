@@ -8,10 +8,10 @@ use Rattle.std.proofs.lemmas.Nat.{shr_split}
 use Rattle.std.proofs.lemmas.Nat.Bits.{bit_at_xor, bit_at_above}
 use native.Mathlib.Nat.{div-eq_of_lt-le, div-eq_of_lt}
 use Rattle.gf_field.proofs.Copies.{zeros}
-use Rattle.gf_field.specs.XorLaws.{xor_cancel}
+use Rattle.gf_field.specs.laws.XorLaws.{xor_cancel}
 use Rattle.irreducible.specs.Span.{combination, InSpan, IsRank}
-use Rattle.irreducible.specs.SpanLaws.{combination_zero, combination-xor, combination_unit, span_zero, span_xor, span_first, span_rest, span_split, IsSplit, independent_more, independent_nil, span_item, span_all, span_trans}
-use Rattle.irreducible.specs.Pivots.{IsTop, ByTop, IsReduced, IsRankSoFar}
+use Rattle.irreducible.specs.laws.SpanLaws.{combination_zero, combination-xor, combination_unit, span_zero, span_xor, span_first, span_rest, span_split, IsSplit, independent_more, independent_nil, span_item, span_all, span_trans}
+use Rattle.irreducible.specs.Pivots.{IsTop, ByTop, IsCleared, IsRankSoFar}
 
 -- ---- highest bits
 pub top_bit : (t w : ℕ) → IsTop t w → bit_at w t ≡ 1
@@ -31,13 +31,13 @@ top_xor t a b h k = record { low = whole (bit_xor a b / 2 ^ t) (bit_xor a b % 2 
     whole q r x p e o = let f : 1 * p + r ≡ x = rw (o) at e in omega arith
 
 -- ---- one row reduced
-pub reduced_start : (pivots : List ℕ) (row i : ℕ) → row < 2 ^ i → IsReduced pivots row row 0 i
+pub reduced_start : (pivots : List ℕ) (row i : ℕ) → row < 2 ^ i → IsCleared pivots row row 0 i
 reduced_start pivots row i h = record { within = combination_zero pivots ∙ sym (xor_self row); cleared = λ t le p. bit_at_above row i t h le }
 
-pub reduced_kept : (pivots : List ℕ) (row left used i : ℕ) → IsReduced pivots row left used (suc i) → bit_at left i ≡ 0 → IsReduced pivots row left used i
+pub reduced_kept : (pivots : List ℕ) (row left used i : ℕ) → IsCleared pivots row left used (suc i) → bit_at left i ≡ 0 → IsCleared pivots row left used i
 reduced_kept pivots row left used i r z = record { within = r.within; cleared = λ t le p. elim (cases_eq t i) [ inl e ↦ ap (bit_at left) e ∙ z | inr ne ↦ r.cleared t (omega arith) p ] }
 
-pub reduced_more : (pivots : List ℕ) (row left used i : ℕ) → ByTop pivots → IsReduced pivots row left used (suc i) → bit_at left i ≡ 1 → IsReduced pivots row (bit_xor left (slice_index pivots i)) (bit_xor used (2 ^ i)) i
+pub reduced_more : (pivots : List ℕ) (row left used i : ℕ) → ByTop pivots → IsCleared pivots row left used (suc i) → bit_at left i ≡ 1 → IsCleared pivots row (bit_xor left (slice_index pivots i)) (bit_xor used (2 ^ i)) i
 reduced_more pivots row left used i tops r o = record {
   within = combination-xor pivots used (2 ^ i) ∙ ap₂ bit_xor r.within (combination_unit pivots i) ∙ xor_assoc row left (slice_index pivots i);
   cleared = λ t le p. bit_at_xor left (slice_index pivots i) t ∙ elim (cases_eq t i) [
@@ -69,10 +69,10 @@ rank_start rows pivots none = record {
     clash : (w t : ℕ) → w ≡ 0 → IsTop t w → ⊥
     clash w t e h = omega (arith, h.low, pow_pos t)
 
-row_in : (rows pivots : List ℕ) (i r left used : ℕ) (k : IsRankSoFar rows pivots i r) → IsReduced pivots (get_or rows i 0) left used 0 → InSpan k.basis (bit_xor (get_or rows i 0) left)
+row_in : (rows pivots : List ℕ) (i r left used : ℕ) (k : IsRankSoFar rows pivots i r) → IsCleared pivots (get_or rows i 0) left used 0 → InSpan k.basis (bit_xor (get_or rows i 0) left)
 row_in rows pivots i r left used k d = span_trans pivots k.basis (bit_xor (get_or rows i 0) left) (λ t l. k.pivots_in t) (record { choice = used; is = d.within })
 
-pub rank_kept : (rows pivots : List ℕ) (i r left used : ℕ) → IsRankSoFar rows pivots i r → IsReduced pivots (get_or rows i 0) left used 0 → left ≡ 0 → IsRankSoFar rows pivots (suc i) r
+pub rank_kept : (rows pivots : List ℕ) (i r left used : ℕ) → IsRankSoFar rows pivots i r → IsCleared pivots (get_or rows i 0) left used 0 → left ≡ 0 → IsRankSoFar rows pivots (suc i) r
 rank_kept rows pivots i r left used k d z = record {
   basis = k.basis;
   count = k.count;
@@ -87,7 +87,7 @@ rank_kept rows pivots i r left used k d z = record {
   complete = k.complete;
 }
 
-module _ (rows pivots : List ℕ) (i r left used t : ℕ) (k : IsRankSoFar rows pivots i r) (d : IsReduced pivots (get_or rows i 0) left used 0) (top : IsTop t left) (room : t < length pivots) where
+module _ (rows pivots : List ℕ) (i r left used t : ℕ) (k : IsRankSoFar rows pivots i r) (d : IsCleared pivots (get_or rows i 0) left used 0) (top : IsTop t left) (room : t < length pivots) where
   next_basis : List ℕ
   next_basis = left ∷ k.basis
 

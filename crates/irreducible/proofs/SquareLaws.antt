@@ -4,16 +4,16 @@ use Rattle.std.specs.Prelude.{bit_xor}
 use Rattle.std.specs.Int.Bits.{xor_self, xor_zero_r, xor_shifted}
 use Rattle.std.proofs.lemmas.Nat.{shr_split}
 use native.Mathlib.Nat.{mod-eq_of_lt}
-use Rattle.gf_field.specs.XorLaws.{xor_same, xor_cross}
-use Rattle.gf_field.specs.BitLaws.{bit_cases}
+use Rattle.gf_field.specs.laws.XorLaws.{xor_same, xor_cross}
+use Rattle.gf_field.specs.laws.BitLaws.{bit_cases}
 use Rattle.gf_field.specs.Ring.{IsRing}
-use Rattle.gf_field.specs.RingLaws.{mul_zero, mul_one, square-xor}
-use Rattle.gf_field.specs.PowerLaws.{one_below}
-use Rattle.gf_field.specs.FieldLaws.{IsFieldBySquares, HasNoZeroDivisors-by_squares, IsFieldBySquares-from}
+use Rattle.gf_field.specs.laws.RingLaws.{mul_zero, mul_one, square-xor}
+use Rattle.gf_field.specs.laws.PowerLaws.{one_below}
+use Rattle.gf_field.specs.laws.FieldLaws.{IsFieldBySquares, HasNoZeroDivisors-by_squares, IsFieldBySquares-from}
 use Rattle.irreducible.specs.Span.{combination, IsIndependent, IsRank}
-use Rattle.irreducible.specs.SpanLaws.{IsIndependent-from_rank, rank-from_independent}
+use Rattle.irreducible.specs.laws.SpanLaws.{IsIndependent-from_rank, rank-from_independent}
 use Rattle.gf_field.specs.Field.{HasNoZeroDivisors}
-use Rattle.irreducible.specs.AdditiveLaws.{IsAdditive, IsAdditive-double, combination-additive}
+use Rattle.irreducible.specs.laws.AdditiveLaws.{IsAdditive, IsAdditive-double, combination-additive}
 
 module _ (k : ℕ) (mul : ℕ → ℕ → ℕ) (ring : IsRing k mul) where
   square : ℕ → ℕ

@@ -2,6 +2,5 @@ pub mod Span
 pub mod Matrix
 pub mod BitMatrix
 pub mod Pivots
-pub mod SpanLaws
-pub mod AdditiveLaws
 pub mod Proved
+pub mod laws

@@ -14,7 +14,7 @@ abbrev pub ByTop : List ℕ → Type 0
 ByTop pivots = (t : ℕ) → (slice_index pivots t ≡ 0) ⊎ IsTop t (slice_index pivots t)
 
 -- `left` is the row without the sum of the pivots that `used` chooses, and has a 0 at each pivot's place from i on
-pub record IsReduced (pivots : List ℕ) (row left used i : ℕ) : Type 0 where
+pub record IsCleared (pivots : List ℕ) (row left used i : ℕ) : Type 0 where
   pub within : combination pivots used ≡ bit_xor row left
   pub cleared : (t : ℕ) → i ≤ t → IsTop t (slice_index pivots t) → bit_at left t ≡ 0
 

@@ -2,7 +2,7 @@
 
 ghost use Rattle.std.specs.Prelude.{◌≡◌, ◌<◌, ◌≤◌, ◌^◌, length};
 ghost use Rattle.irreducible.specs.Span.{combination, IsRank};
-ghost use Rattle.irreducible.specs.Pivots.{ByTop, IsReduced, IsRankSoFar, IsKernelSoFar, AreChoices};
+ghost use Rattle.irreducible.specs.Pivots.{ByTop, IsCleared, IsRankSoFar, IsKernelSoFar, AreChoices};
 
 /// What is left of a row, and which pivots were taken away, bit t for the pivot at place t.
 #[derive(Drop)]
@@ -38,7 +38,7 @@ pub fn combined(rows: &[u64], choice: u64) -> u64
 /// What is left of a row when the pivots are taken away.
 pub fn reduced(sums: &[u64; 64], row: u64) -> Reduction
     requires { ByTop sums.now }
-    ensures { IsReduced sums.now row result.left result.used 0 }
+    ensures { IsCleared sums.now row result.left result.used 0 }
 {
     let mut left = row;
     let mut used = 0;

@@ -6,7 +6,7 @@ use Rattle.text_core.specs.Outcome.{Outcome, ◌>>=◌, Exactly}
 use Rattle.net_core.specs.Lists.{Has}
 use Rattle.net_core.proofs.DriverLemmas.{Has_cases}
 use Rattle.net_words.specs.declared.word.WordText.{WordText}
-use Rattle.gf_basis.specs.BasisParts.{elements_of, IsOver}
+use Rattle.gf_basis.specs.BasisParts.{elements_of, IsBasisOver}
 use Rattle.gf_basis.specs.declared.bases.Basis.{Basis}
 use Rattle.job_words.specs.declared.signature_fault.SignatureFault.{SignatureFault}
 use Rattle.job_input.specs.SettingOf.{WordBasis, BasesOf}
@@ -44,11 +44,11 @@ module _ (k : ℕ) (product : ℕ → ℕ → ℕ) where
       subst P (sym (drop_of_length-le words past)) ([], refl, sym (append-nil so_far))
 
   -- one basis more
-  pub over_push : (old new : List Basis) (basis : Basis) → new ≡ old ++ basis ∷ [] → AreBasesOver k product old → IsOver k product basis → AreBasesOver k product new
+  pub over_push : (old new : List Basis) (basis : Basis) → new ≡ old ++ basis ∷ [] → AreBasesOver k product old → IsBasisOver k product basis → AreBasesOver k product new
   over_push old new basis new_is all one =
       let P : List Basis → Type 0 = λ xs. AreBasesOver k product xs in
       subst P (sym new_is) (λ x has. elim (Has_cases old (basis ∷ []) x has) [ inl before ↦ all x before | inr last ↦ only x last ])
     where
-      only : (x : Basis) → Has (basis ∷ []) x → IsOver k product x
-      only x (zero, got) = let same : basis ≡ x = cc in subst (IsOver k product) same one
+      only : (x : Basis) → Has (basis ∷ []) x → IsBasisOver k product x
+      only x (zero, got) = let same : basis ≡ x = cc in subst (IsBasisOver k product) same one
       only x (suc i, got) = absurd (cc)

@@ -39,8 +39,9 @@ use Rattle.job_input.specs.Labelling.{labels_of, word_label, word_labels}
 use Rattle.job_input.specs.NetlistOf.{NetlistIn, by_ending}
 use Rattle.job_input.specs.CircuitOf.{CircuitOf, UnrolledIn}
 use Rattle.job_input.specs.SettingOf.{BasesOf, BlocksHaveBases, SettingWith, SignedOf, SignedValue, WordBasis, basis_fault, feeds_within, place_within, text_fault}
-use Rattle.job_input.specs.SignedIn.{SignedIn}
+use Rattle.job_input.specs.SignedIn.{SecondIn, SignedIn}
 use Rattle.job_input.specs.SpecificationIn.{SpecificationIn}
+use Rattle.job_input.specs.TableIn.{TableIn}
 use Rattle.job_input.proofs.NetlistLineLemmas.{name_kept, netlist_keeps}
 
 -- an operand has no line feed
@@ -138,6 +139,12 @@ pub signed_keeps : (held : Option Files) (name : Word) (fault : Fault) → HasNo
 signed_keeps held name fault kept (inl is) = file_keeps held name fault kept is
 signed_keeps held name fault kept (inr (text, read, (other, is, same))) = same_line fault (faults.Signature other) same (signature_keeps text other is)
 
+pub second_keeps : (held : Option Files) (name : Word) (fault : Fault) → HasNoLineFeed name → SecondIn held name (Err fault) → KeepsToItsLine fault
+second_keeps held name fault kept (inl (inl is)) = file_keeps held name fault kept is
+second_keeps held name fault kept (inl (inr (text, read, (other, is, same)))) = same_line fault (faults.SecondSignature other) same (signature_keeps text other is)
+second_keeps held name fault kept (inr (signed, taken, inl (other, is, same))) = same_line fault (faults.SecondSignature other) same (setting_keeps signed other is)
+second_keeps held name fault kept (inr (signed, taken, inr (setting, is, never))) = absurd never
+
 pub netlist_file_keeps : (held : Option Files) (signature : SignatureValue) (name : Word) (fault : Fault) → HaveNames signature.words → HasNoLineFeed name → NetlistIn held signature name (Err fault) → KeepsToItsLine fault
 netlist_file_keeps held signature name fault names kept (inl is) = file_keeps held name fault kept is
 netlist_file_keeps held signature name fault names kept (inr (text, read, (other, is, same))) = same_line fault (faults.Netlist name other) same (kept, netlist_keeps signature (by_ending name text) other names is)
@@ -153,6 +160,10 @@ cycles_keep name netlist cycles fault kept (other, is, same) = same_line fault (
 pub specification_keeps : (held : Option Files) (labels : Labelling) (k : ℕ) (product : ℕ → ℕ → ℕ) (name : Word) (fault : Fault) → HasNoLineFeed name → SpecificationIn held labels k product name (Err fault) → KeepsToItsLine fault
 specification_keeps held labels k product name fault kept (inl is) = file_keeps held name fault kept is
 specification_keeps held labels k product name fault kept (inr (text, read, (other, is, same))) = same_line fault (faults.Specification other) same tt
+
+pub table_keeps : (held : Option Files) (k n : ℕ) (name : Word) (fault : Fault) → HasNoLineFeed name → TableIn held k n name (Err fault) → KeepsToItsLine fault
+table_keeps held k n name fault kept (inl is) = file_keeps held name fault kept is
+table_keeps held k n name fault kept (inr (text, read, (other, is, same))) = same_line fault (faults.Table other) same tt
 
 -- ---- the labels of the words
 

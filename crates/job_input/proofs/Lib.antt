@@ -22,4 +22,7 @@ pub mod FileLineLemmas
 pub mod RoseLemmas
 pub mod OutputLemmas
 pub mod SpecificationDetermined
+pub mod SecondLemmas
+pub mod TableDetermined
 mod Examples
+mod BlockExamples

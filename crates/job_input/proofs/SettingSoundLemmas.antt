@@ -10,12 +10,12 @@ use Rattle.gf_field.specs.Quotient.{product as quotient_product}
 use Rattle.gf_field.specs.Ring.{IsRing}
 use Rattle.gf_field.specs.Field.{HasNoZeroDivisors}
 use Rattle.gf_field.specs.Trace.{frobenius}
-use Rattle.gf_field.specs.ModulusLaws.{IsRing-from_modulus}
-use Rattle.gf_field.specs.IrreducibleBitLaws.{field_by_modulus}
+use Rattle.gf_field.specs.laws.ModulusLaws.{IsRing-from_modulus}
+use Rattle.gf_field.specs.laws.IrreducibleBitLaws.{field_by_modulus}
 use Rattle.gf_tower.specs.Tower.{polynomial_of}
 use Rattle.gf_tower.specs.Digits.{IsPackedList}
 use Rattle.gf_tower.specs.FieldName.{IsFieldModulus, IsFieldTower, IsFieldUpper}
-use Rattle.gf_tower.specs.TowerLaws.{IsRing-tower, field_by_polynomial}
+use Rattle.gf_tower.specs.laws.TowerLaws.{IsRing-tower, field_by_polynomial}
 use Rattle.gf_basis.specs.Basis.{IsBasis, first_values}
 use Rattle.gf_basis.specs.BasisFault.{conjugates_of}
 use Rattle.gf_basis.proofs.BasisLaws.{IsBasis-from_independent}

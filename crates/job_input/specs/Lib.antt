@@ -10,4 +10,5 @@ pub mod CircuitOf
 pub mod JobOf
 pub mod Labelling
 pub mod SpecificationIn
+pub mod TableIn
 pub mod private

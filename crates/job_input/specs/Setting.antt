@@ -19,12 +19,13 @@ use Rattle.gf_tower.specs.Tower.{tower_polynomial}
 use Rattle.gf_tower.specs.TowerParts.{base_of, coefficients_of, size_of}
 use Rattle.gf_tower.specs.declared.any_field.AnyField.{AnyField}
 use Rattle.gf_tower.specs.declared.any_field.AnyField.TheVariants.{Base, Tower, Upper}
-use Rattle.gf_basis.specs.BasisParts.{elements_of, IsOver}
+use Rattle.gf_basis.specs.BasisParts.{elements_of, IsBasisOver}
 use Rattle.gf_basis.specs.declared.bases.Basis.{Basis}
 use Rattle.job_input.specs.declared.setting.Setting.{Setting}
 use Rattle.job_input.specs.declared.signed.Signed.{Signed}
 use Rattle.job_input.specs.FieldOf.{FieldValue}
-use Rattle.job_words.specs.declared.fault.Fault.TheVariants.{Signature}
+use Rattle.job_words.specs.declared.fault.Fault.{Fault}
+use Rattle.job_words.specs.declared.fault.Fault.TheVariants.{Signature, SecondSignature}
 use Rattle.job_words.specs.declared.signature_fault.SignatureFault.{SignatureFault}
 use Rattle.job_words.specs.declared.stop.Stop.{Stop}
 use Rattle.job_words.specs.declared.stop.Stop.TheVariants as stops
@@ -70,7 +71,7 @@ setting_value k product setting = record { signature = setting.signature; k = k;
 
 -- each basis is one of the field of 2 to the k elements with this product
 abbrev pub AreBasesOver : ℕ → (ℕ → ℕ → ℕ) → List Basis → Type 0
-AreBasesOver k product bases = (basis : Basis) → Has bases basis → IsOver k product basis
+AreBasesOver k product bases = (basis : Basis) → Has bases basis → IsBasisOver k product basis
 
 -- why no output comes after a fault of a signature's text
 abbrev pub text_stop : SigFault → Stop
@@ -82,6 +83,17 @@ text_stop (TwoOutputs line) = stops.Refused (Signature (text_fault (TwoOutputs l
 text_stop (TooManyWords line) = stops.Refused (Signature (text_fault (TooManyWords line)))
 text_stop (NoOutput block) = stops.Refused (Signature (text_fault (NoOutput block)))
 text_stop OutOfMemory = stops.OutOfMemory
+
+-- the fault of a first signature as one of a second
+abbrev pub second_fault : Fault → Fault
+second_fault (Signature fault) = SecondSignature fault
+second_fault fault = fault
+
+-- why no output comes after a second signature
+abbrev pub second_stop : Stop → Stop
+second_stop (stops.Refused fault) = stops.Refused (second_fault fault)
+second_stop stops.Outside = stops.Outside
+second_stop stops.OutOfMemory = stops.OutOfMemory
 
 -- what each word is to the netlist
 abbrev pub roles_of : List WordText → List Role

@@ -14,8 +14,9 @@ ghost use Rattle.job_input.specs.NetlistOf.{BoundNetOf, NetlistIn, NetlistText};
 ghost use Rattle.job_input.specs.SettingOf.{SettingOf};
 ghost use Rattle.job_input.specs.SettingSound.{IsSoundSetting};
 ghost use Rattle.job_input.specs.SettingValue.{SettingValue};
-ghost use Rattle.job_input.specs.SignedIn.{SignedIn};
+ghost use Rattle.job_input.specs.SignedIn.{SecondIn, SignedIn};
 ghost use Rattle.job_input.specs.SpecificationIn.{SpecificationIn, SpecificationOf};
+ghost use Rattle.job_input.specs.TableIn.{TableIn, TableOf};
 
 /// At most one setting or fault comes of a signature's text.
 pub fn one_setting_or_fault()
@@ -42,11 +43,19 @@ pub fn one_specification_or_fault()
     ensures { (labels : Labelling) (k : ℕ) (product : ℕ → ℕ → ℕ) (text : List ℕ) → Determined (SpecificationOf labels k product text) }
 {}
 
+/// At most one table, or one fault, comes of the text of a table.
+pub fn one_table_file_or_fault()
+    ensures { (k n : ℕ) (text : List ℕ) → Determined (TableOf k n text) }
+{}
+
 /// What a fault of a job's files repeats of words and files has no line feed, where the file's name has none: a signature's
-/// fault, a netlist's under words that have names, that of unrolling it, and a specification's.
+/// fault, that of a second signature, a netlist's under words that have names, that of unrolling it, a specification's, and a
+/// table's.
 pub fn faults_keep_to_their_line()
     ensures signature { (held : Option Files) (name : Word) (fault : Fault) → HasNoLineFeed name → SignedIn held name (Err fault) → KeepsToItsLine fault }
+    ensures second { (held : Option Files) (name : Word) (fault : Fault) → HasNoLineFeed name → SecondIn held name (Err fault) → KeepsToItsLine fault }
     ensures netlist { (held : Option Files) (signature : SignatureValue) (name : Word) (fault : Fault) → HaveNames signature.words → HasNoLineFeed name → NetlistIn held signature name (Err fault) → KeepsToItsLine fault }
     ensures unrolled { (name : Word) (netlist : BoundNet) (cycles : ℕ) (fault : Fault) → HasNoLineFeed name → UnrolledIn name netlist cycles (Err fault) → KeepsToItsLine fault }
     ensures specification { (held : Option Files) (labels : Labelling) (k : ℕ) (product : ℕ → ℕ → ℕ) (name : Word) (fault : Fault) → HasNoLineFeed name → SpecificationIn held labels k product name (Err fault) → KeepsToItsLine fault }
+    ensures table { (held : Option Files) (k n : ℕ) (name : Word) (fault : Fault) → HasNoLineFeed name → TableIn held k n name (Err fault) → KeepsToItsLine fault }
 {}

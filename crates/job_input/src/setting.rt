@@ -1,7 +1,7 @@
 //! The setting of a job: a signature, and over its field the bases of its words.
 ghost use Rattle.std.specs.Prelude.{◌≡◌, Ok, Err, IfOk, IfErr};
 ghost use Rattle.text_core.specs.Outcome.{Returns, Within};
-ghost use Rattle.gf_basis.specs.BasisParts.{IsOver, elements_of};
+ghost use Rattle.gf_basis.specs.BasisParts.{IsBasisOver, elements_of};
 ghost use Rattle.job_words.specs.Stop.{GivesBy};
 ghost use Rattle.job_words.specs.declared.fault.Fault.TheVariants.{Signature};
 ghost use Rattle.job_input.specs.SettingOf.{BasisOf, WordBasis, BasesOf, BlocksHaveBases, feeds_within, place_within, SettingWith, basis_fault as fault_of_basis};
@@ -105,7 +105,7 @@ fn is_within(k: u32, source: &Source) -> bool
 // The basis of a word: first its number of bits counts.
 fn word_basis<F: Field>(field: &F, word: &WordText) -> Result<Basis, Stop>
     ensures gives { GivesBy elements_of result (Within Signature (WordBasis (F.degree field.now) (F.product field.now) word.now)) ⊥ ⊥ }
-    ensures over { IfOk result (λ basis. IsOver (F.degree field.now) (F.product field.now) basis) }
+    ensures over { IfOk result (λ basis. IsBasisOver (F.degree field.now) (F.product field.now) basis) }
 {
     let line = word.line;
     if word.role != Role::Fed && word.nets.as_slice().len() != field.k() as usize {
@@ -121,7 +121,7 @@ fn word_basis<F: Field>(field: &F, word: &WordText) -> Result<Basis, Stop>
 fn basis_of<F: Field>(field: &F, text: &BasisText) -> Result<Basis, BasisFault>
     ensures ok { IfOk result (λ basis. BasisOf (F.degree field.now) (F.product field.now) text.now (Ok (elements_of basis))) }
     ensures fault { IfErr result (λ fault. BasisOf (F.degree field.now) (F.product field.now) text.now (Err fault)) }
-    ensures over { IfOk result (λ basis. IsOver (F.degree field.now) (F.product field.now) basis) }
+    ensures over { IfOk result (λ basis. IsBasisOver (F.degree field.now) (F.product field.now) basis) }
 {
     match text {
         BasisText::Poly => Ok(Basis::poly(field)),

@@ -3,14 +3,17 @@ use Rattle.std.proofs.Common.{◌≡◌, ◌≢◌, ℕ, zero, suc, ◌<◌, ◌
 use Rattle.std.specs.Fmt.{digits}
 use Rattle.text_core.specs.Numbers.{IsDigit}
 use Rattle.poly_mixed.specs.declared.stage.Stage.TheVariants as stages
-use Rattle.job_words.specs.Command.{Bits, Abstract, Same, IsSpelled}
+use Rattle.job_words.specs.Command.{Bits, Abstract, Same, Iso, Over, IsSpelled}
 use Rattle.job_words.specs.Fault.{fault_line, fault_status}
 use Rattle.job_words.specs.OneLine.{IsOneLine, repeated}
-use Rattle.job_words.specs.Operands.{AreOptions, IsOperand, IsNetlistName, IsOverNet, is_aiger, is_verilog}
+use Rattle.job_words.specs.Operands.{IsOperand, is_aiger, is_verilog}
+use Rattle.job_words.specs.Options.{AreStageOptions}
+use Rattle.job_words.specs.Shapes.{IsOverFile}
 use Rattle.job_words.specs.StageFault.{stage_text}
 use Rattle.job_words.specs.declared.fault.Fault.{Fault}
 use Rattle.job_words.specs.declared.fault.Fault.TheVariants as faults
 use Rattle.job_words.specs.declared.netlist_fault.NetlistFault.TheVariants as netlist
+use Rattle.job_words.specs.declared.signature_fault.SignatureFault.TheVariants as signature
 use Rattle.job_words.proofs.OneLineLemmas.{clean_kept}
 
 -- the line where the net y of n.blif has two drivers
@@ -32,6 +35,10 @@ over = faults.Stage (record { stage = codes "word A term 1 bit 2"; terms = 70000
 line_of_too_many : fault_line over ≡ codes "fault 03: word A term 1 bit 2 has 70000 terms, bound 65536\n"
 unfolding digits
 line_of_too_many = refl
+
+-- where the modulus of a second signature has a factor, its fault has the word before its text
+line_of_second : fault_line (faults.SecondSignature signature.Modulus) ≡ codes "fault 22: second the modulus is not irreducible\n"
+line_of_second = refl
 
 -- it ends with the status 3
 status_of_too_many : fault_status over ≡ 3
@@ -56,39 +63,44 @@ operand_n = record { not_empty = λ e. absurd (cc); no_option = refl; plain = pl
     plain zero d h = (omega arith, λ e. absurd (omega arith))
     plain (suc k) d h = absurd (omega arith)
 
-no_options : AreOptions [] 65536 0
+no_options : AreStageOptions [] 65536 0
 no_options = record { of_terms = []; of_cycles = []; words_are = inl refl; terms_set = inl (refl, refl); cycles_set = inl (refl, refl) }
 
-over_net : IsOverNet (codes "s" ∷ codes "n" ∷ []) (codes "s") (codes "n") 65536 0
-over_net = record { options = []; words_are = refl; signature_is = operand_s; net_is = operand_n; netlist = tt; set = no_options }
-
 -- `bits s n` is the command `bits` with the signature s, the netlist n, the bound 65,536 and no cycle but the first
-spelled_bits : IsSpelled (codes "bits" ∷ codes "s" ∷ codes "n" ∷ []) (record { signature = codes "s"; action = Bits (codes "n") 65536 0 })
-spelled_bits = record { rest = codes "s" ∷ codes "n" ∷ []; words_are = refl; follow = over_net }
+spelled_bits : IsSpelled (codes "bits" ∷ codes "s" ∷ codes "n" ∷ []) (Over (codes "s") (Bits (codes "n") 65536 0))
+spelled_bits = record {
+  rest = codes "s" ∷ codes "n" ∷ [];
+  words_are = refl;
+  follow = record { rest = []; words_are = refl; signature_is = operand_s; file_is = operand_n; follow = no_options };
+}
 
 -- `same s n n` is the command `same` with the netlist n twice
-spelled_same : IsSpelled (codes "same" ∷ codes "s" ∷ codes "n" ∷ codes "n" ∷ []) (record { signature = codes "s"; action = Same (codes "n") (codes "n") 65536 0 })
+spelled_same : IsSpelled (codes "same" ∷ codes "s" ∷ codes "n" ∷ codes "n" ∷ []) (Over (codes "s") (Same (codes "n") (codes "n") 65536 0))
 spelled_same = record {
   rest = codes "s" ∷ codes "n" ∷ codes "n" ∷ [];
   words_are = refl;
-  follow = record {
-    pair = record { options = []; words_are = refl; signature_is = operand_s; net_is = operand_n; netlist = tt; other_is = operand_n; set = no_options };
-    second = tt;
-  };
+  follow = record { rest = []; words_are = refl; signature_is = operand_s; file_is = operand_n; other_is = operand_n; follow = no_options };
+}
+
+-- `iso s n` is the command `iso` with the signatures s and n
+spelled_iso : IsSpelled (codes "iso" ∷ codes "s" ∷ codes "n" ∷ []) (Over (codes "s") (Iso (codes "n")))
+spelled_iso = record {
+  rest = codes "s" ∷ codes "n" ∷ [];
+  words_are = refl;
+  follow = record { rest = []; words_are = refl; signature_is = operand_s; file_is = operand_n; follow = refl };
 }
 
 -- `abstract s n --cycles 3 --terms 10` sets the bound 10 and 3 cycles
-spelled_abstract : IsSpelled (codes "abstract" ∷ codes "s" ∷ codes "n" ∷ codes "--cycles" ∷ codes "3" ∷ codes "--terms" ∷ codes "10" ∷ []) (record { signature = codes "s"; action = Abstract (codes "n") 10 3 })
+spelled_abstract : IsSpelled (codes "abstract" ∷ codes "s" ∷ codes "n" ∷ codes "--cycles" ∷ codes "3" ∷ codes "--terms" ∷ codes "10" ∷ []) (Over (codes "s") (Abstract (codes "n") 10 3))
 spelled_abstract = record {
   rest = codes "s" ∷ codes "n" ∷ codes "--cycles" ∷ codes "3" ∷ codes "--terms" ∷ codes "10" ∷ [];
   words_are = refl;
   follow = record {
-    options = codes "--cycles" ∷ codes "3" ∷ codes "--terms" ∷ codes "10" ∷ [];
+    rest = codes "--cycles" ∷ codes "3" ∷ codes "--terms" ∷ codes "10" ∷ [];
     words_are = refl;
     signature_is = operand_s;
-    net_is = operand_n;
-    netlist = tt;
-    set = record {
+    file_is = operand_n;
+    follow = record {
       of_terms = codes "--terms" ∷ codes "10" ∷ [];
       of_cycles = codes "--cycles" ∷ codes "3" ∷ [];
       words_are = inr refl;

@@ -4,8 +4,10 @@ use Rattle.text_core.specs.Numbers.{value_of}
 use Rattle.job_words.proofs.OptionLemmas.{Shape, Neither, Terms, Cycles, TermsFirst, CyclesFirst, shape}
 use Rattle.job_words.proofs.SpelledLemmas.{first_word, rest_of}
 use Rattle.job_words.proofs.ValueLemmas.{values_back, cycles_back}
-use Rattle.job_words.specs.Operands.{Word, AreOptions, IsOverNet, IsOverPair, IsOverValues}
-use Rattle.job_words.specs.Command.{Action, Bits, Abstract, Check, Same, Eval, Job, IsNamed, IsSpelled}
+use Rattle.job_words.specs.Operands.{Word}
+use Rattle.job_words.specs.Options.{AreNone, AreOptions, AreStageOptions, IsCyclesOption}
+use Rattle.job_words.specs.Shapes.{IsOverFile, IsOverFiles, AreValues}
+use Rattle.job_words.specs.Command.{Action, Bits, Abstract, Check, Same, Eval, Iso, Lift, Table, Job, Over, IsNamed, IsSpelled}
 use Rattle.job_words.specs.private.OptionPlace.{before_options, from_options}
 
 -- what tells the names of commands apart: their first two letters
@@ -20,8 +22,8 @@ set_by letter other (name ∷ rest) =
     if get_or (first_word (rest_of rest)) 2 0 == letter then value_of 10 (first_word (rest_of (rest_of rest))) else other
 
 -- the bound that options set, and the number of cycles
-abbrev terms_by : List Word → ℕ
-terms_by = set_by 116 65536
+abbrev terms_by : ℕ → List Word → ℕ
+terms_by default = set_by 116 default
 
 abbrev cycles_by : List Word → ℕ
 cycles_by = set_by 99 0
@@ -29,67 +31,69 @@ cycles_by = set_by 99 0
 -- what the command of this key does over these operands, which stand behind the signature
 abbrev action_at : ℕ → List Word → Action
 action_at key operands =
-    if key == 25193 then Bits (first_word operands) (terms_by (rest_of operands)) (cycles_by (rest_of operands)) else
-    if key == 25448 then Check (first_word operands) (first_word (rest_of operands)) (terms_by (rest_of (rest_of operands))) (cycles_by (rest_of (rest_of operands))) else
-    if key == 29537 then Same (first_word operands) (first_word (rest_of operands)) (terms_by (rest_of (rest_of operands))) (cycles_by (rest_of (rest_of operands))) else
+    if key == 25193 then Bits (first_word operands) (terms_by 65536 (rest_of operands)) (cycles_by (rest_of operands)) else
+    if key == 25448 then Check (first_word operands) (first_word (rest_of operands)) (terms_by 65536 (rest_of (rest_of operands))) (cycles_by (rest_of (rest_of operands))) else
+    if key == 29537 then Same (first_word operands) (first_word (rest_of operands)) (terms_by 65536 (rest_of (rest_of operands))) (cycles_by (rest_of (rest_of operands))) else
     if key == 25974 then Eval (first_word operands) (before_options (rest_of operands)) (cycles_by (from_options (rest_of operands))) else
-    Abstract (first_word operands) (terms_by (rest_of operands)) (cycles_by (rest_of operands))
+    if key == 26995 then Iso (first_word operands) else
+    if key == 27753 then Lift (first_word operands) else
+    if key == 29793 then Table (first_word operands) (cycles_by (rest_of operands)) else
+    Abstract (first_word operands) (terms_by 65536 (rest_of operands)) (cycles_by (rest_of operands))
 
 -- the command of the words, where they spell one
 abbrev job_at : List Word → Job
-job_at words = record { signature = first_word (rest_of words); action = action_at (key words) (rest_of (rest_of words)) }
+job_at words = Over (first_word (rest_of words)) (action_at (key words) (rest_of (rest_of words)))
 
 -- the numbers that options set
-options_back : (options : List Word) (t c : ℕ) → AreOptions options t c → (t ≡ terms_by options) × (c ≡ cycles_by options)
-options_back options t c is = by (shape options t c is)
+options_back : (limit default : ℕ) (options : List Word) (t c : ℕ) → AreOptions limit default options t c → (t ≡ terms_by default options) × (c ≡ cycles_by options)
+options_back limit default options t c is = by (shape limit default options t c is)
   where
-    by : Shape options t c → (t ≡ terms_by options) × (c ≡ cycles_by options)
-    by (Neither e st sc) = (st ∙ ap terms_by (sym e), sc ∙ ap cycles_by (sym e))
-    by (Terms x e tx sc) = (tx.decimal.1 ∙ ap terms_by (sym e), sc ∙ ap cycles_by (sym e))
-    by (Cycles y e st cy) = (st ∙ ap terms_by (sym e), cy.decimal.1 ∙ ap cycles_by (sym e))
-    by (TermsFirst x y e tx cy) = (tx.decimal.1 ∙ ap terms_by (sym e), cy.decimal.1 ∙ ap cycles_by (sym e))
-    by (CyclesFirst y x e tx cy) = (tx.decimal.1 ∙ ap terms_by (sym e), cy.decimal.1 ∙ ap cycles_by (sym e))
+    by : Shape limit default options t c → (t ≡ terms_by default options) × (c ≡ cycles_by options)
+    by (Neither e st sc) = (st ∙ ap (terms_by default) (sym e), sc ∙ ap cycles_by (sym e))
+    by (Terms x e tx sc) = (tx.decimal.1 ∙ ap (terms_by default) (sym e), sc ∙ ap cycles_by (sym e))
+    by (Cycles y e st cy) = (st ∙ ap (terms_by default) (sym e), cy.decimal.1 ∙ ap cycles_by (sym e))
+    by (TermsFirst x y e tx cy) = (tx.decimal.1 ∙ ap (terms_by default) (sym e), cy.decimal.1 ∙ ap cycles_by (sym e))
+    by (CyclesFirst y x e tx cy) = (tx.decimal.1 ∙ ap (terms_by default) (sym e), cy.decimal.1 ∙ ap cycles_by (sym e))
 
--- commands over a netlist with options
-over_net_back : (name : Word) (make : Word → ℕ → ℕ → Action) (words : List Word) (s n : Word) (t c : ℕ) → IsNamed name (λ rest. IsOverNet rest s n t c) words
-    → ((operands : List Word) → action_at (key (name ∷ [])) operands ≡ make (first_word operands) (terms_by (rest_of operands)) (cycles_by (rest_of operands)))
-    → ◌≡◌ {A = Job} (record { signature = s; action = make n t c }) (job_at words)
-over_net_back name make words s n t c is made =
-    let over = is.follow in
-    let (same_t, same_c) = options_back over.options t c over.set in
-    let whole : words ≡ name ∷ s ∷ n ∷ over.options = is.words_are ∙ ap (λ (rest : List Word). name ∷ rest) over.words_are in
-    let act : make n t c ≡ action_at (key (name ∷ [])) (n ∷ over.options) = (λ i. make n (same_t i) (same_c i)) ∙ sym (made (n ∷ over.options)) in
-    ap (λ (a : Action). record { signature = s; action = a }) act ∙ ap job_at (sym whole)
+-- ---- commands over a signature and a file, by what follows
 
--- commands over a netlist and a second file with options
-over_pair_back : (name : Word) (make : Word → Word → ℕ → ℕ → Action) (words : List Word) (s n o : Word) (t c : ℕ) → IsNamed name (λ rest. IsOverPair rest s n o t c) words
-    → ((operands : List Word) → action_at (key (name ∷ [])) operands ≡ make (first_word operands) (first_word (rest_of operands)) (terms_by (rest_of (rest_of operands))) (cycles_by (rest_of (rest_of operands))))
-    → ◌≡◌ {A = Job} (record { signature = s; action = make n o t c }) (job_at words)
-over_pair_back name make words s n o t c is made =
-    let over = is.follow in
-    let (same_t, same_c) = options_back over.options t c over.set in
-    let whole : words ≡ name ∷ s ∷ n ∷ o ∷ over.options = is.words_are ∙ ap (λ (rest : List Word). name ∷ rest) over.words_are in
-    let act : make n o t c ≡ action_at (key (name ∷ [])) (n ∷ o ∷ over.options) = (λ i. make n o (same_t i) (same_c i)) ∙ sym (made (n ∷ o ∷ over.options)) in
-    ap (λ (a : Action). record { signature = s; action = a }) act ∙ ap job_at (sym whole)
+module _ (name : Word) (words : List Word) (s n : Word) (act : Action) (Follow : List Word → Type 0) (is : IsNamed name (λ rest. IsOverFile Follow rest s n) words) where
+  file_back : action_at (key (name ∷ [])) (n ∷ is.follow.rest) ≡ act → ◌≡◌ {A = Job} (Over s act) (job_at words)
+  file_back made =
+      let over = is.follow in
+      let whole : words ≡ name ∷ s ∷ n ∷ over.rest = is.words_are ∙ ap (λ (rest : List Word). name ∷ rest) over.words_are in
+      ap (λ (a : Action). Over s a) (sym made) ∙ ap job_at (sym whole)
 
--- commands over a netlist and values
-over_values_back : (words : List Word) (s n : Word) (vs : List Word) (c : ℕ) → IsNamed (codes "eval") (λ rest. IsOverValues rest s n vs c) words
-    → ◌≡◌ {A = Job} (record { signature = s; action = Eval n vs c }) (job_at words)
-over_values_back words s n vs c is =
-    let over = is.follow in
-    let (same_vs, options) = values_back over.rest vs c over.follow in
-    let same_c : c ≡ cycles_by (from_options over.rest) = cycles_back over.follow.options c over.follow.set cycles_by refl (λ y. refl) ∙ ap cycles_by (sym options) in
-    let whole : words ≡ codes "eval" ∷ s ∷ n ∷ over.rest = is.words_are ∙ ap (λ (rest : List Word). codes "eval" ∷ rest) over.words_are in
-    let act : Eval n vs c ≡ Eval n (before_options over.rest) (cycles_by (from_options over.rest)) = (λ i. Eval n (sym same_vs i) (same_c i)) in
-    ap (λ (a : Action). record { signature = s; action = a }) act ∙ ap job_at (sym whole)
+module _ (name : Word) (words : List Word) (s n o : Word) (act : Action) (Follow : List Word → Type 0) (is : IsNamed name (λ rest. IsOverFiles Follow rest s n o) words) where
+  files_back : action_at (key (name ∷ [])) (n ∷ o ∷ is.follow.rest) ≡ act → ◌≡◌ {A = Job} (Over s act) (job_at words)
+  files_back made =
+      let over = is.follow in
+      let whole : words ≡ name ∷ s ∷ n ∷ o ∷ over.rest = is.words_are ∙ ap (λ (rest : List Word). name ∷ rest) over.words_are in
+      ap (λ (a : Action). Over s a) (sym made) ∙ ap job_at (sym whole)
+
+-- what options set, in what a command does
+set_back : (make : ℕ → ℕ → Action) (options : List Word) (t c : ℕ) → AreStageOptions options t c → make (terms_by 65536 options) (cycles_by options) ≡ make t c
+set_back make options t c is = let (same_t, same_c) = options_back 262144 65536 options t c is in (λ i. make (sym same_t i) (sym same_c i))
+
+cycles_set : (options : List Word) (c : ℕ) → IsCyclesOption options c → cycles_by options ≡ c
+cycles_set options c is = sym (cycles_back options c is cycles_by refl (λ y. refl))
+
+values_set : (n : Word) (rest vs : List Word) (c : ℕ) → AreValues rest vs c → ◌≡◌ {A = Action} (Eval n (before_options rest) (cycles_by (from_options rest))) (Eval n vs c)
+values_set n rest vs c is =
+    let (same_vs, options) = values_back rest vs c is in
+    let same_c : cycles_by (from_options rest) ≡ c = ap cycles_by options ∙ cycles_set is.options c is.set in
+    (λ i. Eval n (same_vs i) (same_c i))
 
 -- each command, one line each
-back : (words : List Word) (s : Word) (a : Action) → IsSpelled words (record { signature = s; action = a }) → ◌≡◌ {A = Job} (record { signature = s; action = a }) (job_at words)
-back words s (Bits n t c) is = over_net_back (codes "bits") Bits words s n t c is (λ operands. refl)
-back words s (Abstract n t c) is = over_net_back (codes "abstract") Abstract words s n t c is (λ operands. refl)
-back words s (Check n o t c) is = over_pair_back (codes "check") Check words s n o t c is (λ operands. refl)
-back words s (Same n o t c) is = over_pair_back (codes "same") Same words s n o t c (record { rest = is.rest; words_are = is.words_are; follow = is.follow.pair }) (λ operands. refl)
-back words s (Eval n vs c) is = over_values_back words s n vs c is
+back : (words : List Word) (job : Job) → IsSpelled words job → job ≡ job_at words
+back words (Over s (Bits n t c)) is = file_back (codes "bits") words s n (Bits n t c) (λ rest. AreStageOptions rest t c) is (set_back (Bits n) is.follow.rest t c is.follow.follow)
+back words (Over s (Abstract n t c)) is = file_back (codes "abstract") words s n (Abstract n t c) (λ rest. AreStageOptions rest t c) is (set_back (Abstract n) is.follow.rest t c is.follow.follow)
+back words (Over s (Check n o t c)) is = files_back (codes "check") words s n o (Check n o t c) (λ rest. AreStageOptions rest t c) is (set_back (Check n o) is.follow.rest t c is.follow.follow)
+back words (Over s (Same n o t c)) is = files_back (codes "same") words s n o (Same n o t c) (λ rest. AreStageOptions rest t c) is (set_back (Same n o) is.follow.rest t c is.follow.follow)
+back words (Over s (Eval n vs c)) is = file_back (codes "eval") words s n (Eval n vs c) (λ rest. AreValues rest vs c) is (values_set n is.follow.rest vs c is.follow.follow)
+back words (Over s (Iso o)) is = file_back (codes "iso") words s o (Iso o) AreNone is refl
+back words (Over s (Lift f)) is = file_back (codes "lift") words s f (Lift f) AreNone is refl
+back words (Over s (Table n c)) is = file_back (codes "table") words s n (Table n c) (λ rest. IsCyclesOption rest c) is (ap (Table n) (cycles_set is.follow.rest c is.follow.follow))
 
 pub one_job : (words : List Word) (job other : Job) → IsSpelled words job → IsSpelled words other → job ≡ other
-one_job words job other a b = back words job.signature job.action a ∙ sym (back words other.signature other.action b)
+one_job words job other a b = back words job a ∙ sym (back words other b)

@@ -10,12 +10,24 @@ use Rattle.poly_mixed.specs.declared.stage.Stage.TheVariants as stages
 use Rattle.job_words.specs.Fault.{fault_line, fault_text}
 use Rattle.job_words.specs.FileFault.{file_text}
 use Rattle.job_words.specs.NetlistFault.{binding_text, place_text, netlist_text}
-use Rattle.job_words.specs.OneLine.{HasNoLineFeed, IsOneLine, KeepsToItsLine, repeated_of_binding, repeated_of_file, repeated_of_netlist, repeated_of_signature}
+use Rattle.job_words.specs.OneLine.{HasNoLineFeed, IsOneLine, KeepsToItsLine, repeated_of_binding, repeated_of_composition, repeated_of_file, repeated_of_netlist, repeated_of_signature}
 use Rattle.job_words.specs.Operands.{Word}
-use Rattle.job_words.specs.SignatureFault.{signature_text}
+use Rattle.job_words.specs.SignatureFault.{second_signature_text, second_word, signature_number, signature_text, signature_words}
 use Rattle.job_words.specs.SpecificationFault.{specification_text}
 use Rattle.job_words.specs.StageFault.{stage_text, stage_fault_text}
+use Rattle.job_words.specs.TableTextFault.{table_text}
+use Rattle.job_words.specs.CertificateFault.{certificate_text}
+use Rattle.job_words.specs.CompositionFault.{composition_text}
+use Rattle.job_words.specs.Kind.{kind_name}
 use Rattle.job_words.specs.ValueFault.{value_text}
+use Rattle.job_words.specs.declared.certificate_fault.CertificateFault.{CertificateFault}
+use Rattle.job_words.specs.declared.certificate_fault.CertificateFault.TheVariants as certificate
+use Rattle.job_words.specs.declared.composition_fault.CompositionFault.{CompositionFault}
+use Rattle.job_words.specs.declared.composition_fault.CompositionFault.TheVariants as composition
+use Rattle.job_words.specs.declared.kind.Kind.{Kind}
+use Rattle.job_words.specs.declared.kind.Kind.TheVariants as kinds
+use Rattle.job_words.specs.declared.table_text_fault.TableTextFault.{TableTextFault}
+use Rattle.job_words.specs.declared.table_text_fault.TableTextFault.TheVariants as table
 use Rattle.job_words.specs.declared.fault.Fault.{Fault}
 use Rattle.job_words.specs.declared.fault.Fault.TheVariants as faults
 use Rattle.job_words.specs.declared.file_fault.FileFault.{FileFault}
@@ -107,22 +119,94 @@ file_clean : (fault : FileFault) → AllByRecursion HasNoLineFeed (repeated_of_f
 file_clean (file.Absent name) kept = word_then name (codes " is absent") kept.0 refl
 file_clean (file.TooLong name) kept = word_then name (codes " has more than 67108864 bytes") kept.0 refl
 
+words_clean : (fault : SignatureFault) → AllByRecursion HasNoLineFeed (repeated_of_signature fault) → IsClean (signature_words fault)
+words_clean (signature.NoFedWord line) kept = number_clean line
+words_clean (signature.FeedTwice line) kept = number_clean line
+words_clean (signature.Syntax line) kept = number_clean line
+words_clean signature.Degree kept = refl
+words_clean signature.Modulus kept = refl
+words_clean signature.TowerPolynomial kept = refl
+words_clean (signature.Dependent line) kept = number_clean line
+words_clean (signature.Basis line) kept = number_clean line
+words_clean signature.Tower kept = refl
+words_clean (signature.Bits line) kept = number_clean line
+words_clean (signature.NameTwice line) kept = number_clean line
+words_clean signature.NoOutput kept = refl
+words_clean (signature.NoOutputInBlock model) kept = kept_clean model kept.0
+words_clean (signature.TwoOutputs line) kept = number_clean line
+words_clean (signature.TooManyWords line) kept = number_clean line
+
+number_of_signature : (fault : SignatureFault) → IsClean (signature_number fault)
+number_of_signature (signature.NoFedWord line) = refl
+number_of_signature (signature.FeedTwice line) = refl
+number_of_signature (signature.Syntax line) = refl
+number_of_signature signature.Degree = refl
+number_of_signature signature.Modulus = refl
+number_of_signature signature.TowerPolynomial = refl
+number_of_signature (signature.Dependent line) = refl
+number_of_signature (signature.Basis line) = refl
+number_of_signature signature.Tower = refl
+number_of_signature (signature.Bits line) = refl
+number_of_signature (signature.NameTwice line) = refl
+number_of_signature signature.NoOutput = refl
+number_of_signature (signature.NoOutputInBlock model) = refl
+number_of_signature (signature.TwoOutputs line) = refl
+number_of_signature (signature.TooManyWords line) = refl
+
+second_of_signature : (fault : SignatureFault) → IsClean (second_word fault)
+second_of_signature (signature.NoFedWord line) = refl
+second_of_signature (signature.FeedTwice line) = refl
+second_of_signature (signature.Syntax line) = refl
+second_of_signature signature.Degree = refl
+second_of_signature signature.Modulus = refl
+second_of_signature signature.TowerPolynomial = refl
+second_of_signature (signature.Dependent line) = refl
+second_of_signature (signature.Basis line) = refl
+second_of_signature signature.Tower = refl
+second_of_signature (signature.Bits line) = refl
+second_of_signature (signature.NameTwice line) = refl
+second_of_signature signature.NoOutput = refl
+second_of_signature (signature.NoOutputInBlock model) = refl
+second_of_signature (signature.TwoOutputs line) = refl
+second_of_signature (signature.TooManyWords line) = refl
+
 signature_clean : (fault : SignatureFault) → AllByRecursion HasNoLineFeed (repeated_of_signature fault) → IsClean (signature_text fault)
-signature_clean (signature.NoFedWord line) kept = number_clean line
-signature_clean (signature.FeedTwice line) kept = number_clean line
-signature_clean (signature.Syntax line) kept = number_clean line
-signature_clean signature.Degree kept = refl
-signature_clean signature.Modulus kept = refl
-signature_clean signature.TowerPolynomial kept = refl
-signature_clean (signature.Dependent line) kept = number_clean line
-signature_clean (signature.Basis line) kept = number_clean line
-signature_clean signature.Tower kept = refl
-signature_clean (signature.Bits line) kept = number_clean line
-signature_clean (signature.NameTwice line) kept = number_clean line
-signature_clean signature.NoOutput kept = refl
-signature_clean (signature.NoOutputInBlock model) kept = kept_clean model kept.0
-signature_clean (signature.TwoOutputs line) kept = number_clean line
-signature_clean (signature.TooManyWords line) kept = number_clean line
+signature_clean fault kept = clean_then (signature_number fault) _ (number_of_signature fault) (clean_then (codes ": ") (signature_words fault) refl (words_clean fault kept))
+
+second_clean : (fault : SignatureFault) → AllByRecursion HasNoLineFeed (repeated_of_signature fault) → IsClean (second_signature_text fault)
+second_clean fault kept = clean_then (signature_number fault) _ (number_of_signature fault) (clean_then (codes ": ") (second_word fault ++ signature_words fault) refl (clean_then (second_word fault) (signature_words fault) (second_of_signature fault) (words_clean fault kept)))
+
+table_clean : (fault : TableTextFault) → IsClean (table_text fault)
+table_clean (table.Syntax line) = number_clean line
+table_clean (table.TooLarge line) = number_clean line
+
+certificate_clean : (fault : CertificateFault) → IsClean (certificate_text fault)
+certificate_clean (certificate.Syntax line) = number_clean line
+certificate_clean (certificate.NoSuchNet line) = number_clean line
+certificate_clean (certificate.NoSuchBit line) = number_clean line
+certificate_clean (certificate.NotDriven line) = number_clean line
+certificate_clean certificate.NoEnd = refl
+certificate_clean (certificate.NoSuchLet line) = number_clean line
+
+kind_clean : (kind : Kind) → IsClean (kind_name kind)
+kind_clean kinds.Mastrovito = refl
+kind_clean kinds.Montgomery = refl
+kind_clean kinds.Composite = refl
+kind_clean kinds.Normal = refl
+kind_clean kinds.Adder = refl
+kind_clean kinds.Squarer = refl
+kind_clean kinds.Digit = refl
+
+composition_clean : (fault : CompositionFault) → AllByRecursion HasNoLineFeed (repeated_of_composition fault) → IsClean (composition_text fault)
+composition_clean composition.FedInTop kept = refl
+composition_clean (composition.GateInTop line) kept = number_then line (codes " of the top") refl
+composition_clean (composition.NoBlock model) kept = kept_clean model kept.0
+composition_clean (composition.BlockNet model) kept = word_then model (codes " is no net") kept.0 refl
+composition_clean (composition.BlockLatch model) kept = word_then model (codes " has a latch") kept.0 refl
+composition_clean (composition.BlockBind model) kept = word_then model (codes " does not bind") kept.0 refl
+composition_clean (composition.NotWords instance word) kept = number_then instance (codes " word " ++ word) (kept_clean word kept.0)
+composition_clean composition.OutputNotWords kept = refl
+composition_clean (composition.InstanceLoop instance) kept = number_clean instance
 
 -- a bit of a word, and a text behind it
 bit_then : (word : Word) (place : ℕ) (rest : List ℕ) → HasNoLineFeed word → IsClean rest → IsClean (place_text word place rest)
@@ -183,6 +267,13 @@ text_clean (faults.Signature fault) kept = signature_clean fault kept
 text_clean (faults.Netlist name fault) kept = clean_then (netlist_text fault) (codes " in " ++ name) (netlist_clean fault kept.1) (kept_clean name kept.0)
 text_clean (faults.Specification fault) kept = specification_clean fault
 text_clean (faults.Value fault) kept = value_clean fault
+text_clean (faults.SecondSignature fault) kept = second_clean fault kept
+text_clean faults.Fields kept = refl
+text_clean faults.NotSmall kept = refl
+text_clean (faults.Table fault) kept = table_clean fault
+text_clean (faults.Certificate fault) kept = certificate_clean fault
+text_clean (faults.Form kind) kept = clean_then (codes "43: the signature does not fit ") (kind_name kind) refl (kind_clean kind)
+text_clean (faults.Composition fault) kept = composition_clean fault kept
 text_clean (faults.Stage fault) kept = stage_clean fault kept.0
 
 -- the line of a fault that repeats no line feed

@@ -1,27 +1,28 @@
 -- The shapes of options.
-use Rattle.std.proofs.Common.{◌≡◌, ◌≢◌, ◌⊎◌, ◌∙◌, ap, sym, subst, inl, inr, refl, ℕ, ◌<◌, List, [], ◌∷◌, ◌++◌, length, map, codes, Option, None, Some, arith}
+use Rattle.std.proofs.Common.{◌≡◌, ◌≢◌, ◌⊎◌, ◌∙◌, ap, sym, subst, inl, inr, refl, ℕ, suc, ◌<◌, ◌≤◌, List, [], ◌∷◌, ◌++◌, length, map, codes, Option, None, Some, arith}
 use Rattle.std.specs.Prelude.{IfSome}
 use Rattle.std.proofs.lemmas.List.{length-map}
-use Rattle.job_words.specs.Operands.{Word, AreOptions, IsTermsOption, IsCyclesOption, IsTermCount, IsCycleCount}
+use Rattle.job_words.specs.Operands.{Word}
+use Rattle.job_words.specs.Options.{AreOptions, IsTermsOption, IsCyclesOption, IsTermCount, IsCycleCount}
 use Rattle.job_words.proofs.SpelledLemmas.{first_word, rest_of}
 
 -- which options stand, in which order
-pub data Shape (words : List Word) (t c : ℕ) : Type 0 where
-  Neither : words ≡ [] → t ≡ 65536 → c ≡ 0 → Shape words t c
-  Terms : (x : Word) → words ≡ codes "--terms" ∷ x ∷ [] → IsTermCount x t → c ≡ 0 → Shape words t c
-  Cycles : (y : Word) → words ≡ codes "--cycles" ∷ y ∷ [] → t ≡ 65536 → IsCycleCount y c → Shape words t c
-  TermsFirst : (x y : Word) → words ≡ codes "--terms" ∷ x ∷ codes "--cycles" ∷ y ∷ [] → IsTermCount x t → IsCycleCount y c → Shape words t c
-  CyclesFirst : (y x : Word) → words ≡ codes "--cycles" ∷ y ∷ codes "--terms" ∷ x ∷ [] → IsTermCount x t → IsCycleCount y c → Shape words t c
+pub data Shape (limit default : ℕ) (words : List Word) (t c : ℕ) : Type 0 where
+  Neither : words ≡ [] → t ≡ default → c ≡ 0 → Shape limit default words t c
+  Terms : (x : Word) → words ≡ codes "--terms" ∷ x ∷ [] → IsTermCount limit x t → c ≡ 0 → Shape limit default words t c
+  Cycles : (y : Word) → words ≡ codes "--cycles" ∷ y ∷ [] → t ≡ default → IsCycleCount y c → Shape limit default words t c
+  TermsFirst : (x y : Word) → words ≡ codes "--terms" ∷ x ∷ codes "--cycles" ∷ y ∷ [] → IsTermCount limit x t → IsCycleCount y c → Shape limit default words t c
+  CyclesFirst : (y x : Word) → words ≡ codes "--cycles" ∷ y ∷ codes "--terms" ∷ x ∷ [] → IsTermCount limit x t → IsCycleCount y c → Shape limit default words t c
 
 -- both lists of words in either order
 joined : (words a b xs ys : List Word) → (words ≡ a ++ b) ⊎ (words ≡ b ++ a) → a ≡ xs → b ≡ ys → (words ≡ xs ++ ys) ⊎ (words ≡ ys ++ xs)
 joined words a b xs ys (inl e) p q = inl (e ∙ (λ i. p i ++ q i))
 joined words a b xs ys (inr e) p q = inr (e ∙ (λ i. q i ++ p i))
 
-pub shape : (words : List Word) (t c : ℕ) → AreOptions words t c → Shape words t c
-shape words t c is = by is.of_terms is.of_cycles is.words_are is.terms_set is.cycles_set
+pub shape : (limit default : ℕ) → (words : List Word) (t c : ℕ) → AreOptions limit default words t c → Shape limit default words t c
+shape limit default words t c is = by is.of_terms is.of_cycles is.words_are is.terms_set is.cycles_set
   where
-    two : (x y : Word) → (words ≡ codes "--terms" ∷ x ∷ codes "--cycles" ∷ y ∷ []) ⊎ (words ≡ codes "--cycles" ∷ y ∷ codes "--terms" ∷ x ∷ []) → IsTermCount x t → IsCycleCount y c → Shape words t c
+    two : (x y : Word) → (words ≡ codes "--terms" ∷ x ∷ codes "--cycles" ∷ y ∷ []) ⊎ (words ≡ codes "--cycles" ∷ y ∷ codes "--terms" ∷ x ∷ []) → IsTermCount limit x t → IsCycleCount y c → Shape limit default words t c
     two x y (inl e) tx cy = TermsFirst x y e tx cy
     two x y (inr e) tx cy = CyclesFirst y x e tx cy
 
@@ -29,7 +30,7 @@ shape words t c is = by is.of_terms is.of_cycles is.words_are is.terms_set is.cy
     either xs (inl e) = e
     either xs (inr e) = e
 
-    by : (a b : List Word) → (words ≡ a ++ b) ⊎ (words ≡ b ++ a) → IsTermsOption a t → IsCyclesOption b c → Shape words t c
+    by : (a b : List Word) → (words ≡ a ++ b) ⊎ (words ≡ b ++ a) → IsTermsOption limit default a t → IsCyclesOption b c → Shape limit default words t c
     by a b e (inl (p, st)) (inl (q, sc)) = Neither (either [] (joined words a b [] [] e p q)) st sc
     by a b e (inr (x, p, tx)) (inl (q, sc)) = Terms x (either (codes "--terms" ∷ x ∷ []) (joined words a b (codes "--terms" ∷ x ∷ []) [] e p q)) tx sc
     by a b e (inl (p, st)) (inr (y, q, cy)) = Cycles y (either (codes "--cycles" ∷ y ∷ []) (joined words a b [] (codes "--cycles" ∷ y ∷ []) e p q)) st cy
@@ -47,10 +48,10 @@ abbrev fourth_word : List Word → Word
 fourth_word words = first_word (rest_of (rest_of (rest_of words)))
 
 -- how long options are
-pub lengths : (words : List Word) (t c : ℕ) → AreOptions words t c → (length words ≡ 0) ⊎ (length words ≡ 2) ⊎ (length words ≡ 4)
-lengths words t c is = by (shape words t c is)
+pub lengths : (limit default : ℕ) → (words : List Word) (t c : ℕ) → AreOptions limit default words t c → (length words ≡ 0) ⊎ (length words ≡ 2) ⊎ (length words ≡ 4)
+lengths limit default words t c is = by (shape limit default words t c is)
   where
-    by : Shape words t c → (length words ≡ 0) ⊎ (length words ≡ 2) ⊎ (length words ≡ 4)
+    by : Shape limit default words t c → (length words ≡ 0) ⊎ (length words ≡ 2) ⊎ (length words ≡ 4)
     by (Neither e st sc) = inl (ap (λ (ws : List Word). length ws) e)
     by (Terms x e tx sc) = inr (inl (ap (λ (ws : List Word). length ws) e))
     by (Cycles y e st cy) = inr (inl (ap (λ (ws : List Word). length ws) e))
@@ -58,67 +59,76 @@ lengths words t c is = by (shape words t c is)
     by (CyclesFirst y x e tx cy) = inr (inr (ap (λ (ws : List Word). length ws) e))
 
 -- one option with a number that is none of its kind
-pub not_one : (name number : Word) → (name ≡ codes "--terms" → (t : ℕ) → IsTermCount number t → ⊥) → (name ≡ codes "--cycles" → (c : ℕ) → IsCycleCount number c → ⊥) → (t c : ℕ) → AreOptions (name ∷ number ∷ []) t c → ⊥
-not_one name number terms cycles t c is = by (shape (name ∷ number ∷ []) t c is)
+pub not_one : (limit default : ℕ) → (name number : Word) → (name ≡ codes "--terms" → (t : ℕ) → IsTermCount limit number t → ⊥) → (name ≡ codes "--cycles" → (c : ℕ) → IsCycleCount number c → ⊥) → (t c : ℕ) → AreOptions limit default (name ∷ number ∷ []) t c → ⊥
+not_one limit default name number terms cycles t c is = by (shape limit default (name ∷ number ∷ []) t c is)
   where
-    by : Shape (name ∷ number ∷ []) t c → ⊥
+    by : Shape limit default (name ∷ number ∷ []) t c → ⊥
     by (Neither e st sc) = let long : 2 ≡ 0 = ap (λ (ws : List Word). length ws) e in absurd (omega (arith, long))
-    by (Terms x e tx sc) = let P : Word → Type 0 = λ w. IsTermCount w t in terms (ap first_word e) t (subst P (sym (ap second_word e)) tx)
+    by (Terms x e tx sc) = let P : Word → Type 0 = λ w. IsTermCount limit w t in terms (ap first_word e) t (subst P (sym (ap second_word e)) tx)
     by (Cycles y e st cy) = let P : Word → Type 0 = λ w. IsCycleCount w c in cycles (ap first_word e) c (subst P (sym (ap second_word e)) cy)
     by (TermsFirst x y e tx cy) = let long : 2 ≡ 4 = ap (λ (ws : List Word). length ws) e in absurd (omega (arith, long))
     by (CyclesFirst y x e tx cy) = let long : 2 ≡ 4 = ap (λ (ws : List Word). length ws) e in absurd (omega (arith, long))
 
 -- two options
-pub not_two : (name x other y : Word) → (name ≡ codes "--terms" → other ≡ codes "--cycles" → (t c : ℕ) → IsTermCount x t → IsCycleCount y c → ⊥) → (name ≡ codes "--cycles" → other ≡ codes "--terms" → (t c : ℕ) → IsTermCount y t → IsCycleCount x c → ⊥)
-    → (t c : ℕ) → AreOptions (name ∷ x ∷ other ∷ y ∷ []) t c → ⊥
-not_two name x other y terms cycles t c is = by (shape (name ∷ x ∷ other ∷ y ∷ []) t c is)
+pub not_two : (limit default : ℕ) → (name x other y : Word) → (name ≡ codes "--terms" → other ≡ codes "--cycles" → (t c : ℕ) → IsTermCount limit x t → IsCycleCount y c → ⊥) → (name ≡ codes "--cycles" → other ≡ codes "--terms" → (t c : ℕ) → IsTermCount limit y t → IsCycleCount x c → ⊥)
+    → (t c : ℕ) → AreOptions limit default (name ∷ x ∷ other ∷ y ∷ []) t c → ⊥
+not_two limit default name x other y terms cycles t c is = by (shape limit default (name ∷ x ∷ other ∷ y ∷ []) t c is)
   where
-    by : Shape (name ∷ x ∷ other ∷ y ∷ []) t c → ⊥
+    by : Shape limit default (name ∷ x ∷ other ∷ y ∷ []) t c → ⊥
     by (Neither e st sc) = let long : 4 ≡ 0 = ap (λ (ws : List Word). length ws) e in absurd (omega (arith, long))
     by (Terms x' e tx sc) = let long : 4 ≡ 2 = ap (λ (ws : List Word). length ws) e in absurd (omega (arith, long))
     by (Cycles y' e st cy) = let long : 4 ≡ 2 = ap (λ (ws : List Word). length ws) e in absurd (omega (arith, long))
     by (TermsFirst x' y' e tx cy) =
-        let P : Word → Type 0 = λ w. IsTermCount w t in
+        let P : Word → Type 0 = λ w. IsTermCount limit w t in
         let Q : Word → Type 0 = λ w. IsCycleCount w c in
         terms (ap first_word e) (ap third_word e) t c (subst P (sym (ap second_word e)) tx) (subst Q (sym (ap fourth_word e)) cy)
     by (CyclesFirst y' x' e tx cy) =
-        let P : Word → Type 0 = λ w. IsTermCount w t in
+        let P : Word → Type 0 = λ w. IsTermCount limit w t in
         let Q : Word → Type 0 = λ w. IsCycleCount w c in
         cycles (ap first_word e) (ap third_word e) t c (subst P (sym (ap fourth_word e)) tx) (subst Q (sym (ap second_word e)) cy)
 
 -- ---- options that are set
 
-pub of_terms_alone : (name number : Word) (t : ℕ) → name ≡ codes "--terms" → IsTermCount number t → AreOptions (name ∷ number ∷ []) t 0
-of_terms_alone name number t e is = record { of_terms = name ∷ number ∷ []; of_cycles = []; words_are = inl refl; terms_set = inr (number, (λ i. e i ∷ number ∷ []), is); cycles_set = inl (refl, refl) }
+pub of_terms_alone : (limit default : ℕ) → (name number : Word) (t : ℕ) → name ≡ codes "--terms" → IsTermCount limit number t → AreOptions limit default (name ∷ number ∷ []) t 0
+of_terms_alone limit default name number t e is = record { of_terms = name ∷ number ∷ []; of_cycles = []; words_are = inl refl; terms_set = inr (number, (λ i. e i ∷ number ∷ []), is); cycles_set = inl (refl, refl) }
 
-pub of_cycles_alone : (name number : Word) (c : ℕ) → name ≡ codes "--cycles" → IsCycleCount number c → AreOptions (name ∷ number ∷ []) 65536 c
-of_cycles_alone name number c e is = record { of_terms = []; of_cycles = name ∷ number ∷ []; words_are = inl refl; terms_set = inl (refl, refl); cycles_set = inr (number, (λ i. e i ∷ number ∷ []), is) }
+pub of_cycles_alone : (limit default : ℕ) → (name number : Word) (c : ℕ) → name ≡ codes "--cycles" → IsCycleCount number c → AreOptions limit default (name ∷ number ∷ []) default c
+of_cycles_alone limit default name number c e is = record { of_terms = []; of_cycles = name ∷ number ∷ []; words_are = inl refl; terms_set = inl (refl, refl); cycles_set = inr (number, (λ i. e i ∷ number ∷ []), is) }
 
-pub terms_then_cycles : (name x other y : Word) (t c : ℕ) → name ≡ codes "--terms" → other ≡ codes "--cycles" → IsTermCount x t → IsCycleCount y c → AreOptions (name ∷ x ∷ other ∷ y ∷ []) t c
-terms_then_cycles name x other y t c e f tx cy = record { of_terms = name ∷ x ∷ []; of_cycles = other ∷ y ∷ []; words_are = inl refl; terms_set = inr (x, (λ i. e i ∷ x ∷ []), tx); cycles_set = inr (y, (λ i. f i ∷ y ∷ []), cy) }
+pub terms_then_cycles : (limit default : ℕ) → (name x other y : Word) (t c : ℕ) → name ≡ codes "--terms" → other ≡ codes "--cycles" → IsTermCount limit x t → IsCycleCount y c → AreOptions limit default (name ∷ x ∷ other ∷ y ∷ []) t c
+terms_then_cycles limit default name x other y t c e f tx cy = record { of_terms = name ∷ x ∷ []; of_cycles = other ∷ y ∷ []; words_are = inl refl; terms_set = inr (x, (λ i. e i ∷ x ∷ []), tx); cycles_set = inr (y, (λ i. f i ∷ y ∷ []), cy) }
 
-pub cycles_then_terms : (name x other y : Word) (t c : ℕ) → name ≡ codes "--cycles" → other ≡ codes "--terms" → IsTermCount y t → IsCycleCount x c → AreOptions (name ∷ x ∷ other ∷ y ∷ []) t c
-cycles_then_terms name x other y t c e f ty cx = record { of_terms = other ∷ y ∷ []; of_cycles = name ∷ x ∷ []; words_are = inr refl; terms_set = inr (y, (λ i. f i ∷ y ∷ []), ty); cycles_set = inr (x, (λ i. e i ∷ x ∷ []), cx) }
+pub cycles_then_terms : (limit default : ℕ) → (name x other y : Word) (t c : ℕ) → name ≡ codes "--cycles" → other ≡ codes "--terms" → IsTermCount limit y t → IsCycleCount x c → AreOptions limit default (name ∷ x ∷ other ∷ y ∷ []) t c
+cycles_then_terms limit default name x other y t c e f ty cx = record { of_terms = other ∷ y ∷ []; of_cycles = name ∷ x ∷ []; words_are = inr refl; terms_set = inr (y, (λ i. f i ∷ y ∷ []), ty); cycles_set = inr (x, (λ i. e i ∷ x ∷ []), cx) }
 
 -- the two numbers of two options
-pub terms_first_found : (name x other y : Word) (r : Option (ℕ × ℕ)) → name ≡ codes "--terms" → other ≡ codes "--cycles" → IfSome r (λ r. IsTermCount x r.0 × IsCycleCount y r.1) → IfSome r (λ r. AreOptions (name ∷ x ∷ other ∷ y ∷ []) r.0 r.1)
-terms_first_found name x other y (Some r) e f is = terms_then_cycles name x other y r.0 r.1 e f is.0 is.1
-terms_first_found name x other y None e f is = tt
+pub terms_first_found : (limit default : ℕ) → (name x other y : Word) (r : Option (ℕ × ℕ)) → name ≡ codes "--terms" → other ≡ codes "--cycles" → IfSome r (λ r. IsTermCount limit x r.0 × IsCycleCount y r.1) → IfSome r (λ r. AreOptions limit default (name ∷ x ∷ other ∷ y ∷ []) r.0 r.1)
+terms_first_found limit default name x other y (Some r) e f is = terms_then_cycles limit default name x other y r.0 r.1 e f is.0 is.1
+terms_first_found limit default name x other y None e f is = tt
 
-pub cycles_first_found : (name x other y : Word) (r : Option (ℕ × ℕ)) → name ≡ codes "--cycles" → other ≡ codes "--terms" → IfSome r (λ r. IsTermCount y r.0 × IsCycleCount x r.1) → IfSome r (λ r. AreOptions (name ∷ x ∷ other ∷ y ∷ []) r.0 r.1)
-cycles_first_found name x other y (Some r) e f is = cycles_then_terms name x other y r.0 r.1 e f is.0 is.1
-cycles_first_found name x other y None e f is = tt
+pub cycles_first_found : (limit default : ℕ) → (name x other y : Word) (r : Option (ℕ × ℕ)) → name ≡ codes "--cycles" → other ≡ codes "--terms" → IfSome r (λ r. IsTermCount limit y r.0 × IsCycleCount x r.1) → IfSome r (λ r. AreOptions limit default (name ∷ x ∷ other ∷ y ∷ []) r.0 r.1)
+cycles_first_found limit default name x other y (Some r) e f is = cycles_then_terms limit default name x other y r.0 r.1 e f is.0 is.1
+cycles_first_found limit default name x other y None e f is = tt
 
 -- ---- of the words of a program
 
--- no words
-pub none_set : {A : Type 0} (f : A → Word) (xs : List A) → length xs < 1 → AreOptions (map f xs) 65536 0
-none_set f [] short = record { of_terms = []; of_cycles = []; words_are = inl refl; terms_set = inl (refl, refl); cycles_set = inl (refl, refl) }
-none_set f (x ∷ xs) short = absurd (omega arith)
+-- none, and some
+pub no_words : {A : Type 0} (f : A → Word) (xs : List A) → length xs < 1 → map f xs ≡ []
+no_words f [] short = refl
+no_words f (x ∷ xs) short = absurd (omega arith)
+
+pub some_words : {A : Type 0} (f : A → Word) (xs : List A) → 1 ≤ length xs → map f xs ≡ [] → ⊥
+some_words f [] long none = omega arith
+some_words f (x ∷ xs) long none = let same : suc (length (map f xs)) ≡ 0 = ap (λ (ws : List Word). length ws) none in omega (arith, same)
+
+-- no options
+pub none_set : (limit default : ℕ) → {A : Type 0} (f : A → Word) (xs : List A) → length xs < 1 → AreOptions limit default (map f xs) default 0
+none_set limit default f [] short = record { of_terms = []; of_cycles = []; words_are = inl refl; terms_set = inl (refl, refl); cycles_set = inl (refl, refl) }
+none_set limit default f (x ∷ xs) short = absurd (omega arith)
 
 -- a number of words that no options have
-pub not_so_long : {A : Type 0} (f : A → Word) (xs : List A) → length xs ≢ 0 → length xs ≢ 2 → length xs ≢ 4 → (t c : ℕ) → AreOptions (map f xs) t c → ⊥
-not_so_long f xs none two four t c is = by (lengths (map f xs) t c is)
+pub not_so_long : (limit default : ℕ) → {A : Type 0} (f : A → Word) (xs : List A) → length xs ≢ 0 → length xs ≢ 2 → length xs ≢ 4 → (t c : ℕ) → AreOptions limit default (map f xs) t c → ⊥
+not_so_long limit default f xs none two four t c is = by (lengths limit default (map f xs) t c is)
   where
     same : length (map f xs) ≡ length xs
     same = length-map xs f

@@ -6,7 +6,9 @@ use Rattle.std.proofs.lemmas.Bool.{cases_lt}
 use Rattle.std.proofs.lemmas.List.{drop-map, get_or-map, length-drop, length-map, take-append-drop, take-map, take_all}
 use Rattle.std.proofs.lemmas.List.Elements.{All-from_get_or}
 use Rattle.text_core.specs.Numbers.{IsDigit, IsHex, digit_value, value_of}
-use Rattle.job_words.specs.Operands.{Word, AreValues, IsValue, IsCyclesOption}
+use Rattle.job_words.specs.Operands.{Word, IsValue}
+use Rattle.job_words.specs.Options.{IsCyclesOption}
+use Rattle.job_words.specs.Shapes.{AreValues}
 use Rattle.job_words.specs.private.OptionPlace.{begins_options, before_options, from_options}
 
 -- a value begins with 0, and so no option

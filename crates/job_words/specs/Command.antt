@@ -3,7 +3,9 @@ use Rattle.std.specs.Prelude.{◌≡◌, ℕ, List, ◌∷◌, codes, map, strin
 use Rattle.job_words.specs.declared.command.Command.{Command}
 use Rattle.job_words.specs.declared.command.Task.{Task}
 use Rattle.job_words.specs.declared.command.Task.TheVariants as tasks
-use Rattle.job_words.specs.Operands.{Word, IsOverNet, IsOverPair, IsOverTwoNets, IsOverValues}
+use Rattle.job_words.specs.Operands.{Word}
+use Rattle.job_words.specs.Options.{AreNone, AreStageOptions, IsCyclesOption}
+use Rattle.job_words.specs.Shapes.{IsOverFile, IsOverFiles, AreValues}
 
 -- what a command does over its signature
 pub data Action : Type 0 where
@@ -12,29 +14,45 @@ pub data Action : Type 0 where
   Check : (net specification : Word) (terms cycles : ℕ) → Action
   Same : (net other : Word) (terms cycles : ℕ) → Action
   Eval : (net : Word) (values : List Word) (cycles : ℕ) → Action
+  Iso : (other : Word) → Action
+  Lift : (table : Word) → Action
+  Table : (net : Word) (cycles : ℕ) → Action
 
--- a command with its operands
-pub record Job : Type 0 where
-  pub signature : Word
-  pub action : Action
+-- a command with its operands: what it does over the signature of this file
+pub data Job : Type 0 where
+  Over : (signature : Word) (action : Action) → Job
+
+-- its name
+abbrev pub name_of : Action → Word
+name_of (Bits net terms cycles) = codes "bits"
+name_of (Abstract net terms cycles) = codes "abstract"
+name_of (Check net specification terms cycles) = codes "check"
+name_of (Same net other terms cycles) = codes "same"
+name_of (Eval net values cycles) = codes "eval"
+name_of (Iso other) = codes "iso"
+name_of (Lift table) = codes "lift"
+name_of (Table net cycles) = codes "table"
+
+-- the words that follow its name
+abbrev pub AreOperandsOf : List Word → Word → Action → Type 0
+AreOperandsOf words signature (Bits net terms cycles) = IsOverFile (λ rest. AreStageOptions rest terms cycles) words signature net
+AreOperandsOf words signature (Abstract net terms cycles) = IsOverFile (λ rest. AreStageOptions rest terms cycles) words signature net
+AreOperandsOf words signature (Check net specification terms cycles) = IsOverFiles (λ rest. AreStageOptions rest terms cycles) words signature net specification
+AreOperandsOf words signature (Same net other terms cycles) = IsOverFiles (λ rest. AreStageOptions rest terms cycles) words signature net other
+AreOperandsOf words signature (Eval net values cycles) = IsOverFile (λ rest. AreValues rest values cycles) words signature net
+AreOperandsOf words signature (Iso other) = IsOverFile AreNone words signature other
+AreOperandsOf words signature (Lift table) = IsOverFile AreNone words signature table
+AreOperandsOf words signature (Table net cycles) = IsOverFile (λ rest. IsCyclesOption rest cycles) words signature net
 
 -- the words are the name of a command and what follows it
-pub record IsNamed (name : Word) (follows : List Word → Type 0) (words : List Word) : Type 0 where
+pub record IsNamed (name : Word) (Follow : List Word → Type 0) (words : List Word) : Type 0 where
   pub rest : List Word
   pub words_are : words ≡ name ∷ rest
-  pub follow : follows rest
-
--- the words of a command over this signature
-abbrev pub AreWordsOf : List Word → Word → Action → Type 0
-AreWordsOf words signature (Bits net terms cycles) = IsNamed (codes "bits") (λ rest. IsOverNet rest signature net terms cycles) words
-AreWordsOf words signature (Abstract net terms cycles) = IsNamed (codes "abstract") (λ rest. IsOverNet rest signature net terms cycles) words
-AreWordsOf words signature (Check net specification terms cycles) = IsNamed (codes "check") (λ rest. IsOverPair rest signature net specification terms cycles) words
-AreWordsOf words signature (Same net other terms cycles) = IsNamed (codes "same") (λ rest. IsOverTwoNets rest signature net other terms cycles) words
-AreWordsOf words signature (Eval net values cycles) = IsNamed (codes "eval") (λ rest. IsOverValues rest signature net values cycles) words
+  pub follow : Follow rest
 
 -- the words spell the command
 abbrev pub IsSpelled : List Word → Job → Type 0
-IsSpelled words job = AreWordsOf words job.signature job.action
+IsSpelled words (Over signature action) = IsNamed (name_of action) (λ rest. AreOperandsOf rest signature action) words
 
 -- what the program's task is, by its operands
 abbrev pub action_of : Task → Action
@@ -43,7 +61,10 @@ action_of (tasks.Abstract words) = Abstract words.net.now words.terms words.cycl
 action_of (tasks.Check words) = Check words.net.now words.other.now words.terms words.cycles
 action_of (tasks.Same words) = Same words.net.now words.other.now words.terms words.cycles
 action_of (tasks.Eval words) = Eval words.net.now (map string_bytes words.values.now) words.cycles
+action_of (tasks.Iso other) = Iso other.now
+action_of (tasks.Lift table) = Lift table.now
+action_of (tasks.Table words) = Table words.net.now words.cycles
 
 -- the command that the program's words gave
 abbrev pub job_of : Command → Job
-job_of command = record { signature = command.signature.now; action = action_of command.task }
+job_of command = Over command.signature.now (action_of command.task)

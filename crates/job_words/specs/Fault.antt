@@ -3,10 +3,14 @@ use Rattle.std.specs.Prelude.{ℕ, List, ◌++◌, codes}
 use Rattle.job_words.specs.declared.fault.Fault.{Fault}
 use Rattle.job_words.specs.declared.fault.Fault.TheVariants as faults
 use Rattle.job_words.specs.FileFault.{file_text}
-use Rattle.job_words.specs.SignatureFault.{signature_text}
+use Rattle.job_words.specs.SignatureFault.{second_signature_text, signature_text}
 use Rattle.job_words.specs.NetlistFault.{netlist_text}
 use Rattle.job_words.specs.SpecificationFault.{specification_text}
 use Rattle.job_words.specs.ValueFault.{value_text}
+use Rattle.job_words.specs.TableTextFault.{table_text}
+use Rattle.job_words.specs.CertificateFault.{certificate_text}
+use Rattle.job_words.specs.CompositionFault.{composition_text}
+use Rattle.job_words.specs.Kind.{kind_name}
 use Rattle.job_words.specs.StageFault.{stage_fault_text}
 
 -- the number and the text of a fault
@@ -17,6 +21,13 @@ fault_text (faults.Signature fault) = signature_text fault
 fault_text (faults.Netlist file fault) = netlist_text fault ++ (codes " in " ++ file)
 fault_text (faults.Specification fault) = specification_text fault
 fault_text (faults.Value fault) = value_text fault
+fault_text (faults.SecondSignature fault) = second_signature_text fault
+fault_text faults.Fields = codes "45: the fields do not fit"
+fault_text faults.NotSmall = codes "47: the signature is not small"
+fault_text (faults.Table fault) = table_text fault
+fault_text (faults.Certificate fault) = certificate_text fault
+fault_text (faults.Form kind) = codes "43: the signature does not fit " ++ kind_name kind
+fault_text (faults.Composition fault) = composition_text fault
 fault_text (faults.Stage fault) = stage_fault_text fault
 
 -- the line of a fault, with its LF
@@ -31,4 +42,11 @@ fault_status (faults.Signature fault) = 2
 fault_status (faults.Netlist file fault) = 2
 fault_status (faults.Specification fault) = 2
 fault_status (faults.Value fault) = 2
+fault_status (faults.SecondSignature fault) = 2
+fault_status faults.Fields = 2
+fault_status faults.NotSmall = 2
+fault_status (faults.Table fault) = 2
+fault_status (faults.Certificate fault) = 2
+fault_status (faults.Form kind) = 2
+fault_status (faults.Composition fault) = 2
 fault_status (faults.Stage fault) = 3

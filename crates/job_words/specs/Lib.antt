@@ -1,10 +1,16 @@
 pub mod Operands
+pub mod Options
+pub mod Shapes
+pub mod Kind
 pub mod Command
 pub mod FileFault
 pub mod SignatureFault
 pub mod NetlistFault
 pub mod SpecificationFault
 pub mod ValueFault
+pub mod TableTextFault
+pub mod CertificateFault
+pub mod CompositionFault
 pub mod StageFault
 pub mod Fault
 pub mod Stop

@@ -4,6 +4,8 @@ use Rattle.std.specs.List.{AllByRecursion}
 use Rattle.job_words.specs.Operands.{Word}
 use Rattle.job_words.specs.declared.fault.Fault.{Fault}
 use Rattle.job_words.specs.declared.fault.Fault.TheVariants as faults
+use Rattle.job_words.specs.declared.composition_fault.CompositionFault.{CompositionFault}
+use Rattle.job_words.specs.declared.composition_fault.CompositionFault.TheVariants as composition
 use Rattle.job_words.specs.declared.file_fault.FileFault.{FileFault}
 use Rattle.job_words.specs.declared.file_fault.FileFault.TheVariants as file
 use Rattle.job_words.specs.declared.netlist_fault.BindingFault.{BindingFault}
@@ -53,11 +55,22 @@ repeated_of_netlist (netlist.Loop count label) = label ∷ []
 repeated_of_netlist (netlist.Binding fault) = repeated_of_binding fault
 repeated_of_netlist fault = []
 
+-- what a composition's fault repeats of the netlist and the signature
+abbrev pub repeated_of_composition : CompositionFault → List Word
+repeated_of_composition (composition.NoBlock model) = model ∷ []
+repeated_of_composition (composition.BlockNet model) = model ∷ []
+repeated_of_composition (composition.BlockLatch model) = model ∷ []
+repeated_of_composition (composition.BlockBind model) = model ∷ []
+repeated_of_composition (composition.NotWords instance word) = word ∷ []
+repeated_of_composition fault = []
+
 -- what a fault repeats of words and files: all else in its line is the program's own
 abbrev pub repeated : Fault → List Word
 repeated (faults.File fault) = repeated_of_file fault
 repeated (faults.Signature fault) = repeated_of_signature fault
 repeated (faults.Netlist name fault) = name ∷ repeated_of_netlist fault
+repeated (faults.SecondSignature fault) = repeated_of_signature fault
+repeated (faults.Composition fault) = repeated_of_composition fault
 repeated (faults.Stage fault) = fault.stage ∷ []
 repeated fault = []
 

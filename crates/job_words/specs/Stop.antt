@@ -3,7 +3,7 @@ use Rattle.std.specs.Prelude.{ℕ, List, Vec, Result, Ok, Err}
 use Rattle.std.specs.declared.alloc.Global.{Global}
 use Rattle.text_core.specs.Outcome.{Outcome}
 use Rattle.job_words.specs.declared.fault.Fault.{Fault}
-use Rattle.job_words.specs.declared.fault.Fault.TheVariants.{Words, File, Signature, Netlist, Specification, Value, Stage}
+use Rattle.job_words.specs.declared.fault.Fault.TheVariants.{Words, File, Signature, Netlist, Specification, Value, SecondSignature, Fields, NotSmall, Table, Certificate, Form, Composition, Stage}
 use Rattle.job_words.specs.declared.stop.Stop.{Stop}
 use Rattle.job_words.specs.declared.stop.Stop.TheVariants.{Refused, Outside, OutOfMemory}
 
@@ -15,6 +15,13 @@ IsMiss (Signature fault) = ⊥
 IsMiss (Netlist file fault) = ⊥
 IsMiss (Specification fault) = ⊥
 IsMiss (Value fault) = ⊥
+IsMiss (SecondSignature fault) = ⊥
+IsMiss Fields = ⊥
+IsMiss NotSmall = ⊥
+IsMiss (Table fault) = ⊥
+IsMiss (Certificate fault) = ⊥
+IsMiss (Form kind) = ⊥
+IsMiss (Composition fault) = ⊥
 IsMiss (Stage fault) = ⊥
 
 -- The value, as view shows it, or the fault is one that may come. A fault of a missing file has its cause, and so has a failure of the outside.

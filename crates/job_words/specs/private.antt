@@ -1,1 +1,3 @@
 pub mod OptionPlace
+pub mod Rest
+pub mod Groups

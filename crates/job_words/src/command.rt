@@ -1,9 +1,10 @@
 //! The commands, and the words that spell them.
-ghost use Rattle.std.specs.Prelude.{◌≡◌, ◌∷◌, map, string_bytes, IfSome, IfNone};
-ghost use Rattle.job_words.specs.Command.{IsSpelled, job_of};
+ghost use Rattle.std.specs.Prelude.{◌∷◌, map, string_bytes, IfSome, IfNone};
+ghost use Rattle.job_words.specs.Command.{Over, IsSpelled, action_of, job_of};
+ghost use Rattle.job_words.specs.private.Groups.{IsOfTables};
 
-use crate::operands::{over_net, over_pair, over_two_nets, over_values};
-use crate::words::{EvalWords, NetWords, PairWords};
+use crate::shapes::{over_cycles, over_file, over_net, over_pair, over_values};
+use crate::words::{CycleWords, EvalWords, NetWords, PairWords};
 
 /// A command: the signature that it reads first, and what it does over it.
 #[derive(Clone, Copy, Debug)]
@@ -27,6 +28,12 @@ pub enum Task<'a> {
     Same(PairWords<'a>),
     /// `eval`: prints the output word's element where the input words have these.
     Eval(EvalWords<'a>),
+    /// `iso`: prints the isomorphism from the tower of the signature of this file.
+    Iso(&'a str),
+    /// `lift`: prints the polynomial of the table of this file.
+    Lift(&'a str),
+    /// `table`: prints the output word's element at every input.
+    Table(CycleWords<'a>),
 }
 
 /// The command that the words spell.
@@ -35,50 +42,60 @@ pub fn read_words<'a>(words: &'a [String]) -> Option<Command<'a>>
     ensures none { IfNone result ((job : _) → IsSpelled (map string_bytes words.now) job → ⊥) }
 {
     match words {
-        [name, rest @ ..] => read_command(name.as_str(), rest),
+        [name, rest @ ..] => match read_task(name.as_str(), rest) {
+            Some((signature, task)) => Some(Command { signature, task }),
+            None => None,
+        },
         [] => None,
     }
 }
 
-// The command of this name with these words behind it.
-fn read_command<'a>(name: &str, rest: &'a [String]) -> Option<Command<'a>>
-    ensures found { IfSome result (λ command. IsSpelled (name.now ∷ map string_bytes rest.now) (job_of command)) }
+// The signature and the task of a command of this name with these words behind it.
+fn read_task<'a>(name: &str, rest: &'a [String]) -> Option<(&'a str, Task<'a>)>
+    ensures found { IfSome result (λ r. IsSpelled (name.now ∷ map string_bytes rest.now) (Over r.0.now (action_of r.1))) }
     ensures none { IfNone result ((job : _) → IsSpelled (name.now ∷ map string_bytes rest.now) job → ⊥) }
 {
     match name {
         "bits" => match over_net(rest) {
-            Some((signature, words)) => Some(Command {
-                signature,
-                task: Task::Bits(words),
-            }),
+            Some((signature, words)) => Some((signature, Task::Bits(words))),
             None => None,
         },
         "abstract" => match over_net(rest) {
-            Some((signature, words)) => Some(Command {
-                signature,
-                task: Task::Abstract(words),
-            }),
+            Some((signature, words)) => Some((signature, Task::Abstract(words))),
             None => None,
         },
         "check" => match over_pair(rest) {
-            Some((signature, words)) => Some(Command {
-                signature,
-                task: Task::Check(words),
-            }),
+            Some((signature, words)) => Some((signature, Task::Check(words))),
             None => None,
         },
-        "same" => match over_two_nets(rest) {
-            Some((signature, words)) => Some(Command {
-                signature,
-                task: Task::Same(words),
-            }),
+        "same" => match over_pair(rest) {
+            Some((signature, words)) => Some((signature, Task::Same(words))),
             None => None,
         },
         "eval" => match over_values(rest) {
-            Some((signature, words)) => Some(Command {
-                signature,
-                task: Task::Eval(words),
-            }),
+            Some((signature, words)) => Some((signature, Task::Eval(words))),
+            None => None,
+        },
+        _ => table_task(name, rest),
+    }
+}
+
+// The same of a command of tables and isomorphisms.
+fn table_task<'a>(name: &str, rest: &'a [String]) -> Option<(&'a str, Task<'a>)>
+    ensures found { IfSome result (λ r. IsSpelled (name.now ∷ map string_bytes rest.now) (Over r.0.now (action_of r.1))) }
+    ensures none { IfNone result ((job : _) → IsOfTables job → IsSpelled (name.now ∷ map string_bytes rest.now) job → ⊥) }
+{
+    match name {
+        "iso" => match over_file(rest) {
+            Some((signature, other)) => Some((signature, Task::Iso(other))),
+            None => None,
+        },
+        "lift" => match over_file(rest) {
+            Some((signature, table)) => Some((signature, Task::Lift(table))),
+            None => None,
+        },
+        "table" => match over_cycles(rest) {
+            Some((signature, words)) => Some((signature, Task::Table(words))),
             None => None,
         },
         _ => None,

@@ -1,12 +1,17 @@
 //! Why an input is refused: the faults of all parts, each under its owner, and their lines.
-ghost use Rattle.std.specs.Prelude.{◌≡◌, ◌++◌, IfOk, codes};
+ghost use Rattle.std.specs.Prelude.{◌≡◌, ◌++◌, IfOk, codes, string_bytes};
 ghost use Rattle.job_words.specs.Fault.{fault_line, fault_status};
+ghost use Rattle.job_words.specs.Kind.{kind_name as name_of};
 
+use crate::certificate_fault::{CertificateFault, certificate_text};
+use crate::composition_fault::{CompositionFault, composition_text};
 use crate::file_fault::{FileFault, file_text};
+use crate::kind::{Kind, kind_name};
 use crate::netlist_fault::{NetlistFault, netlist_text};
-use crate::signature_fault::{SignatureFault, signature_text};
+use crate::signature_fault::{SignatureFault, second_signature_text, signature_text};
 use crate::specification_fault::{SpecificationFault, specification_text};
 use crate::stage_fault::{StageFault, stage_fault_text};
+use crate::table_text_fault::{TableTextFault, table_text};
 use crate::value_fault::{ValueFault, value_text};
 use net_core::Name;
 use std::alloc::{AllocError, Global};
@@ -26,6 +31,20 @@ pub enum Fault {
     Specification(SpecificationFault),
     /// The values at which a netlist is to be evaluated are refused.
     Value(ValueFault),
+    /// The second of two signatures, or its field, is refused.
+    SecondSignature(SignatureFault),
+    /// The fields of two signatures do not fit.
+    Fields,
+    /// The signature has too many inputs for a table.
+    NotSmall,
+    /// The table is refused.
+    Table(TableTextFault),
+    /// The certificate is refused.
+    Certificate(CertificateFault),
+    /// The signature has not the form of this kind of netlists.
+    Form(Kind),
+    /// The design can't be composed of its blocks.
+    Composition(CompositionFault),
     /// A stage has more terms than the bound.
     Stage(StageFault),
 }
@@ -40,7 +59,14 @@ pub fn status_of(fault: &Fault) -> u8
         | Fault::Signature(_)
         | Fault::Netlist { .. }
         | Fault::Specification(_)
-        | Fault::Value(_) => 2,
+        | Fault::Value(_)
+        | Fault::SecondSignature(_)
+        | Fault::Fields
+        | Fault::NotSmall
+        | Fault::Table(_)
+        | Fault::Certificate(_)
+        | Fault::Form(_)
+        | Fault::Composition(_) => 2,
         Fault::Stage(_) => 3,
     }
 }
@@ -58,8 +84,25 @@ pub fn write_fault(alloc: Global, fault: &Fault) -> Result<Vec<u8>, AllocError>
         }
         Fault::Specification(fault) => line_of(alloc, specification_text(alloc, fault)?.as_str()),
         Fault::Value(fault) => line_of(alloc, value_text(alloc, fault)?.as_str()),
+        Fault::SecondSignature(fault) => {
+            line_of(alloc, second_signature_text(alloc, fault)?.as_str())
+        }
+        Fault::Fields => line_of(alloc, "45: the fields do not fit"),
+        Fault::NotSmall => line_of(alloc, "47: the signature is not small"),
+        Fault::Table(fault) => line_of(alloc, table_text(alloc, fault)?.as_str()),
+        Fault::Certificate(fault) => line_of(alloc, certificate_text(alloc, fault)?.as_str()),
+        Fault::Form(kind) => line_of(alloc, form_text(alloc, *kind)?.as_str()),
+        Fault::Composition(fault) => line_of(alloc, composition_text(alloc, fault)?.as_str()),
         Fault::Stage(fault) => line_of(alloc, stage_fault_text(alloc, fault)?.as_str()),
     }
+}
+
+// The number and the text of a form that does not fit.
+fn form_text(alloc: Global, kind: Kind) -> Result<String, AllocError>
+    ensures { IfOk result (λ text. string_bytes text ≡ codes "43: the signature does not fit " ++ name_of kind) }
+{
+    let name = kind_name(kind);
+    format!(in alloc; "43: the signature does not fit {name}")
 }
 
 // The line of a number and a text.

@@ -1,45 +1,57 @@
 //! Options: what stands behind the operands of a command.
 ghost use Rattle.std.specs.Prelude.{◌≡◌, ◌≤◌, [], ◌∷◌, map, string_bytes, IfSome, IfNone};
-ghost use Rattle.job_words.specs.Operands.{IsTermCount, IsCycleCount, IsCyclesOption, AreOptions};
+ghost use Rattle.job_words.specs.Options.{AreNone, IsTermCount, IsCycleCount, IsCyclesOption, AreOptions};
 
 use text_core::read_decimal;
 
-const TERMS: u32 = 65_536;
-
 const CYCLES: u32 = 0;
 
-/// The bound on terms and the number of cycles that the options set.
-pub(crate) fn read_options(options: &[String]) -> Option<(u32, u32)>
-    ensures found { IfSome result (λ r. AreOptions (map string_bytes options.now) r.0 r.1) }
-    ensures none { IfNone result ((terms cycles : _) → AreOptions (map string_bytes options.now) terms cycles → ⊥) }
+/// Nothing, where there are no options.
+pub(crate) fn read_nothing(options: &[String]) -> Option<()>
+    ensures found { IfSome result (λ u. AreNone (map string_bytes options.now)) }
+    ensures none { IfNone result (AreNone (map string_bytes options.now) → ⊥) }
+{
+    match options {
+        [] => Some(()),
+        _ => None,
+    }
+}
+
+/// The bound on terms, which has this limit and stands by default at this number, and the number of cycles that the options
+/// set.
+pub(crate) fn read_options(options: &[String], limit: u32, default: u32) -> Option<(u32, u32)>
+    ensures found { IfSome result (λ r. AreOptions limit default (map string_bytes options.now) r.0 r.1) }
+    ensures none { IfNone result ((terms cycles : _) → AreOptions limit default (map string_bytes options.now) terms cycles → ⊥) }
     ensures few { IfSome result (λ r. r.1 ≤ 4096) }
 {
     match options {
-        [] => Some((TERMS, CYCLES)),
-        [name, number] => of_option(name.as_str(), number.as_str()),
+        [] => Some((default, CYCLES)),
+        [name, number] => of_option(name.as_str(), number.as_str(), limit, default),
         [name, number, other, second] => of_two(
             name.as_str(),
             number.as_str(),
             other.as_str(),
             second.as_str(),
+            limit,
+            default,
         ),
         _ => None,
     }
 }
 
 // The same of one option with its number.
-fn of_option(name: &str, number: &str) -> Option<(u32, u32)>
-    ensures found { IfSome result (λ r. AreOptions (name.now ∷ number.now ∷ []) r.0 r.1) }
-    ensures none { IfNone result ((terms cycles : _) → AreOptions (name.now ∷ number.now ∷ []) terms cycles → ⊥) }
+fn of_option(name: &str, number: &str, limit: u32, default: u32) -> Option<(u32, u32)>
+    ensures found { IfSome result (λ r. AreOptions limit default (name.now ∷ number.now ∷ []) r.0 r.1) }
+    ensures none { IfNone result ((terms cycles : _) → AreOptions limit default (name.now ∷ number.now ∷ []) terms cycles → ⊥) }
     ensures few { IfSome result (λ r. r.1 ≤ 4096) }
 {
     match name {
-        "--terms" => match term_count(number) {
+        "--terms" => match term_count(number, limit) {
             Some(terms) => Some((terms, CYCLES)),
             None => None,
         },
         "--cycles" => match cycle_count(number) {
-            Some(cycles) => Some((TERMS, cycles)),
+            Some(cycles) => Some((default, cycles)),
             None => None,
         },
         _ => None,
@@ -47,27 +59,34 @@ fn of_option(name: &str, number: &str) -> Option<(u32, u32)>
 }
 
 // The same of two options with their numbers.
-fn of_two(name: &str, number: &str, other: &str, second: &str) -> Option<(u32, u32)>
-    ensures found { IfSome result (λ r. AreOptions (name.now ∷ number.now ∷ other.now ∷ second.now ∷ []) r.0 r.1) }
-    ensures none { IfNone result ((terms cycles : _) → AreOptions (name.now ∷ number.now ∷ other.now ∷ second.now ∷ []) terms cycles → ⊥) }
+fn of_two(
+    name: &str,
+    number: &str,
+    other: &str,
+    second: &str,
+    limit: u32,
+    default: u32,
+) -> Option<(u32, u32)>
+    ensures found { IfSome result (λ r. AreOptions limit default (name.now ∷ number.now ∷ other.now ∷ second.now ∷ []) r.0 r.1) }
+    ensures none { IfNone result ((terms cycles : _) → AreOptions limit default (name.now ∷ number.now ∷ other.now ∷ second.now ∷ []) terms cycles → ⊥) }
     ensures few { IfSome result (λ r. r.1 ≤ 4096) }
 {
     if name == "--terms" && other == "--cycles" {
-        both(number, second)
+        both(number, second, limit)
     } else if name == "--cycles" && other == "--terms" {
-        both(second, number)
+        both(second, number, limit)
     } else {
         None
     }
 }
 
 // The two numbers.
-fn both(terms: &str, cycles: &str) -> Option<(u32, u32)>
-    ensures found { IfSome result (λ r. IsTermCount terms.now r.0 × IsCycleCount cycles.now r.1) }
-    ensures none { IfNone result ((t c : _) → IsTermCount terms.now t → IsCycleCount cycles.now c → ⊥) }
+fn both(terms: &str, cycles: &str, limit: u32) -> Option<(u32, u32)>
+    ensures found { IfSome result (λ r. IsTermCount limit terms.now r.0 × IsCycleCount cycles.now r.1) }
+    ensures none { IfNone result ((t c : _) → IsTermCount limit terms.now t → IsCycleCount cycles.now c → ⊥) }
     ensures few { IfSome result (λ r. r.1 ≤ 4096) }
 {
-    match (term_count(terms), cycle_count(cycles)) {
+    match (term_count(terms, limit), cycle_count(cycles)) {
         (Some(terms), Some(cycles)) => Some((terms, cycles)),
         _ => None,
     }
@@ -99,15 +118,15 @@ fn of_cycles(name: &str, number: &str) -> Option<u32>
 }
 
 // A number of terms.
-fn term_count(number: &str) -> Option<u32>
-    ensures found { IfSome result (λ terms. IsTermCount number.now terms) }
-    ensures none { IfNone result ((terms : _) → IsTermCount number.now terms → ⊥) }
+fn term_count(number: &str, limit: u32) -> Option<u32>
+    ensures found { IfSome result (λ terms. IsTermCount limit number.now terms) }
+    ensures none { IfNone result ((terms : _) → IsTermCount limit number.now terms → ⊥) }
 {
     let digits = number.as_bytes();
     if digits.starts_with(b"0") {
         return None;
     }
-    match read_decimal(digits, 262_144) {
+    match read_decimal(digits, u128::from(limit)) {
         Some(terms) if terms > 0 => Some(terms as u32),
         _ => None,
     }

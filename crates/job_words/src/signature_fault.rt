@@ -1,6 +1,6 @@
 //! Why a signature is refused.
-ghost use Rattle.std.specs.Prelude.{◌≡◌, IfOk, string_bytes};
-ghost use Rattle.job_words.specs.SignatureFault.{signature_text as text_of};
+ghost use Rattle.std.specs.Prelude.{◌≡◌, ◌++◌, IfOk, codes, string_bytes};
+ghost use Rattle.job_words.specs.SignatureFault.{signature_number as number_of, signature_words as words_of, second_word as second_of, signature_text as text_of, second_signature_text as second_text_of};
 
 use net_core::Name;
 use std::alloc::{AllocError, Global};
@@ -45,29 +45,84 @@ pub enum SignatureFault {
 pub(crate) fn signature_text(alloc: Global, fault: &SignatureFault) -> Result<String, AllocError>
     ensures { IfOk result (λ text. string_bytes text ≡ text_of fault.now) }
 {
+    let words = signature_words(alloc, fault)?;
+    joined(alloc, number(fault), "", words.as_str())
+}
+
+/// The number and the text of a fault of the second of two signatures.
+pub(crate) fn second_signature_text(
+    alloc: Global,
+    fault: &SignatureFault,
+) -> Result<String, AllocError>
+    ensures { IfOk result (λ text. string_bytes text ≡ second_text_of fault.now) }
+{
+    let words = signature_words(alloc, fault)?;
+    joined(alloc, number(fault), second(fault), words.as_str())
+}
+
+// A number and a text.
+fn joined(alloc: Global, number: &str, before: &str, words: &str) -> Result<String, AllocError>
+    ensures { IfOk result (λ text. string_bytes text ≡ number.now ++ (codes ": " ++ (before.now ++ words.now))) }
+{
+    format!(in alloc; "{number}: {before}{words}")
+}
+
+// The number of a signature's fault.
+fn number(fault: &SignatureFault) -> &'static str
+    ensures { result.now ≡ number_of fault.now }
+{
     match fault {
-        SignatureFault::NoFedWord { line } => format!(in alloc; "12: no fed word at line {line}"),
-        SignatureFault::FeedTwice { line } => format!(in alloc; "12: feed twice at line {line}"),
-        SignatureFault::Syntax { line } => format!(in alloc; "20: signature line {line}"),
-        SignatureFault::Degree => format!(in alloc; "21: modulus degree"),
-        SignatureFault::Modulus => format!(in alloc; "22: the modulus is not irreducible"),
+        SignatureFault::NoFedWord { .. } | SignatureFault::FeedTwice { .. } => "12",
+        SignatureFault::Syntax { .. } => "20",
+        SignatureFault::Degree => "21",
+        SignatureFault::Modulus | SignatureFault::TowerPolynomial => "22",
+        SignatureFault::Dependent { .. } => "23",
+        SignatureFault::Basis { .. } => "24",
+        SignatureFault::Tower => "25",
+        SignatureFault::Bits { .. } => "26",
+        SignatureFault::NameTwice { .. } => "27",
+        SignatureFault::NoOutput
+        | SignatureFault::NoOutputInBlock { .. }
+        | SignatureFault::TwoOutputs { .. } => "28",
+        SignatureFault::TooManyWords { .. } => "29",
+    }
+}
+
+// The word before those of a fault of the second of two signatures.
+fn second(fault: &SignatureFault) -> &'static str
+    ensures { result.now ≡ second_of fault.now }
+{
+    match fault {
+        SignatureFault::NoFedWord { .. } | SignatureFault::FeedTwice { .. } => "",
+        _ => "second ",
+    }
+}
+
+// The words of a signature's fault.
+fn signature_words(alloc: Global, fault: &SignatureFault) -> Result<String, AllocError>
+    ensures { IfOk result (λ text. string_bytes text ≡ words_of fault.now) }
+{
+    match fault {
+        SignatureFault::NoFedWord { line } => format!(in alloc; "no fed word at line {line}"),
+        SignatureFault::FeedTwice { line } => format!(in alloc; "feed twice at line {line}"),
+        SignatureFault::Syntax { line } => format!(in alloc; "signature line {line}"),
+        SignatureFault::Degree => format!(in alloc; "modulus degree"),
+        SignatureFault::Modulus => format!(in alloc; "the modulus is not irreducible"),
         SignatureFault::TowerPolynomial => {
-            format!(in alloc; "22: the tower polynomial is not irreducible")
+            format!(in alloc; "the tower polynomial is not irreducible")
         }
-        SignatureFault::Dependent { line } => {
-            format!(in alloc; "23: dependent basis at line {line}")
-        }
-        SignatureFault::Basis { line } => format!(in alloc; "24: basis at line {line}"),
-        SignatureFault::Tower => format!(in alloc; "25: tower"),
-        SignatureFault::Bits { line } => format!(in alloc; "26: bits at line {line}"),
-        SignatureFault::NameTwice { line } => format!(in alloc; "27: name twice at line {line}"),
-        SignatureFault::NoOutput => format!(in alloc; "28: no output word"),
+        SignatureFault::Dependent { line } => format!(in alloc; "dependent basis at line {line}"),
+        SignatureFault::Basis { line } => format!(in alloc; "basis at line {line}"),
+        SignatureFault::Tower => format!(in alloc; "tower"),
+        SignatureFault::Bits { line } => format!(in alloc; "bits at line {line}"),
+        SignatureFault::NameTwice { line } => format!(in alloc; "name twice at line {line}"),
+        SignatureFault::NoOutput => format!(in alloc; "no output word"),
         SignatureFault::NoOutputInBlock { model } => {
-            format!(in alloc; "28: no output word in block {}", model.as_str())
+            format!(in alloc; "no output word in block {}", model.as_str())
         }
         SignatureFault::TwoOutputs { line } => {
-            format!(in alloc; "28: second output word at line {line}")
+            format!(in alloc; "second output word at line {line}")
         }
-        SignatureFault::TooManyWords { line } => format!(in alloc; "29: ninth word at line {line}"),
+        SignatureFault::TooManyWords { line } => format!(in alloc; "ninth word at line {line}"),
     }
 }

@@ -4,7 +4,7 @@ ghost use Rattle.std.specs.Prelude.{◌≤◌};
 /// The words of a command over one netlist.
 #[derive(Clone, Copy, Debug)]
 pub struct NetWords<'a> {
-    /// The name of the netlist's file, which is read as BLIF, or as ASCII AIGER where it ends in `.aag`.
+    /// The name of the netlist's file, whose ending tells its form.
     pub net: &'a str,
     /// The most terms that a stage may have, 1 to 262,144.
     pub terms: u32,
@@ -13,10 +13,20 @@ pub struct NetWords<'a> {
     ghost few: { cycles ≤ 4096 },
 }
 
+/// The words of a command over one netlist that has no stages.
+#[derive(Clone, Copy, Debug)]
+pub struct CycleWords<'a> {
+    /// The name of the netlist's file, whose ending tells its form.
+    pub net: &'a str,
+    /// How many cycles come after the first, 0 to 4,096.
+    pub cycles: u32,
+    ghost few: { cycles ≤ 4096 },
+}
+
 /// The words of a command over a netlist and a second file.
 #[derive(Clone, Copy, Debug)]
 pub struct PairWords<'a> {
-    /// The name of the netlist's file, which is read as BLIF, or as ASCII AIGER where it ends in `.aag`.
+    /// The name of the netlist's file, whose ending tells its form.
     pub net: &'a str,
     /// The name of the second file.
     pub other: &'a str,
@@ -30,7 +40,7 @@ pub struct PairWords<'a> {
 /// The words of a command over a netlist and values.
 #[derive(Clone, Copy, Debug)]
 pub struct EvalWords<'a> {
-    /// The name of the netlist's file, which is read as BLIF, or as ASCII AIGER where it ends in `.aag`.
+    /// The name of the netlist's file, whose ending tells its form.
     pub net: &'a str,
     /// The values, each `0x` and 1 to 32 hexadecimal digits.
     pub values: &'a [String],

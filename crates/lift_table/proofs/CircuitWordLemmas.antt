@@ -7,7 +7,7 @@ use Rattle.net_words.specs.Roles.{same_role}
 use Rattle.net_words.specs.declared.bound.BoundWord.{BoundWord}
 use Rattle.net_words.specs.declared.word.Role.{Role}
 use Rattle.net_words.specs.declared.word.Role.TheVariants.{Input, State, Fed, Output}
-use Rattle.gf_basis.specs.BasisParts.{IsOver}
+use Rattle.gf_basis.specs.BasisParts.{IsBasisOver}
 use Rattle.circuit_model.specs.Flat.{AreOver}
 use Rattle.circuit_model.specs.Word.{Word}
 use Rattle.circuit_model.specs.declared.circuit_word.CircuitWord.{CircuitWord}
@@ -139,14 +139,14 @@ added_word r word nets basis is same are =
     ] in
     here ∙ (λ i. word_with (same i) (are i) basis)
 
-appended_over : (k : ℕ) (mul : ℕ → ℕ → ℕ) (word : CircuitWord) → IsOver k mul word.basis → (ws : List CircuitWord) → AreOver k mul ws → AreOver k mul (ws ++ word ∷ [])
-appended_over k mul word here [] each w (zero, got) = let same : word ≡ w = cc got in (let Q : CircuitWord → Type 0 = λ v. IsOver k mul v.basis in subst Q same here)
+appended_over : (k : ℕ) (mul : ℕ → ℕ → ℕ) (word : CircuitWord) → IsBasisOver k mul word.basis → (ws : List CircuitWord) → AreOver k mul ws → AreOver k mul (ws ++ word ∷ [])
+appended_over k mul word here [] each w (zero, got) = let same : word ≡ w = cc got in (let Q : CircuitWord → Type 0 = λ v. IsBasisOver k mul v.basis in subst Q same here)
 appended_over k mul word here [] each w (suc i, got) = absurd (cc got)
 appended_over k mul word here (v ∷ ws) each w (zero, got) = each w (0, got)
 appended_over k mul word here (v ∷ ws) each w (suc i, got) = appended_over k mul word here ws (λ u has. each u (suc has.0, has.1)) w (i, got)
 
 -- one word more over the field
-pub pushed_over : (k : ℕ) (mul : ℕ → ℕ → ℕ) (before after : List CircuitWord) (word : CircuitWord) → after ≡ before ++ word ∷ [] → AreOver k mul before → IsOver k mul word.basis → AreOver k mul after
+pub pushed_over : (k : ℕ) (mul : ℕ → ℕ → ℕ) (before after : List CircuitWord) (word : CircuitWord) → after ≡ before ++ word ∷ [] → AreOver k mul before → IsBasisOver k mul word.basis → AreOver k mul after
 pushed_over k mul before after word is over here =
     let P : List CircuitWord → Type 0 = AreOver k mul in
     subst P (sym is) (appended_over k mul word here before over)

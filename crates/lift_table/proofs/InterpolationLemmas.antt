@@ -5,14 +5,14 @@ use Rattle.std.proofs.Math.Nat.{pow-suc}
 use Rattle.std.proofs.lemmas.Nat.{pow_pos}
 use Rattle.std.proofs.lemmas.Bool.{cases_eq}
 use Rattle.std.specs.Int.Bits.{xor_assoc, xor_comm, xor_self, xor_zero_l, xor_zero_r, xor_lt}
-use Rattle.gf_field.specs.XorLaws.{xor_cancel, xor_same}
+use Rattle.gf_field.specs.laws.XorLaws.{xor_cancel, xor_same}
 use Rattle.gf_field.specs.Ring.{IsRing}
 use Rattle.gf_field.specs.Field.{HasNoZeroDivisors}
-use Rattle.gf_field.specs.FermatLaws.{power_same}
+use Rattle.gf_field.specs.laws.FermatLaws.{power_same}
 use Rattle.gf_field.specs.Power.{power}
-use Rattle.gf_field.specs.PowerLaws.{one_below, power_below}
+use Rattle.gf_field.specs.laws.PowerLaws.{one_below, power_below}
 use Rattle.gf_field.specs.Polynomial.{sum_of_first}
-use Rattle.gf_field.specs.RingLaws.{distrib_left, mul_zero, zero_mul, mul_one, mul_left_comm}
+use Rattle.gf_field.specs.laws.RingLaws.{distrib_left, mul_zero, zero_mul, mul_one, mul_left_comm}
 use Rattle.lift_table.specs.OneWord.{coefficient_of}
 use Rattle.lift_table.proofs.SumLemmas.{sum_same, sum_zero, sum_open, sum_swap, sum_scale, sum_scale_right}
 

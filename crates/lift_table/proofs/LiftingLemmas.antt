@@ -8,14 +8,14 @@ use Rattle.std.specs.Int.Bits.{xor_assoc, xor_zero_l, xor_zero_r}
 use Rattle.gf_field.specs.Element.{AreElements}
 use Rattle.gf_field.specs.Polynomial.{sum_of_first}
 use Rattle.gf_field.specs.Power.{power}
-use Rattle.gf_field.specs.PowerLaws.{one_below}
+use Rattle.gf_field.specs.laws.PowerLaws.{one_below}
 use Rattle.gf_field.specs.Ring.{IsRing}
 use Rattle.gf_field.specs.Field.{HasNoZeroDivisors}
-use Rattle.gf_field.specs.RingLaws.{distrib_left, mul_left_comm, mul_one, zero_mul}
+use Rattle.gf_field.specs.laws.RingLaws.{distrib_left, mul_left_comm, mul_one, zero_mul}
 use Rattle.poly_mixed.specs.Monomial.{Monomial, text_cmp}
 use Rattle.poly_mixed.specs.Polynomial.{Terms, Point, IsPoint, IsTerm, IsMonomial, IsElement, IsReduced, powers, value}
 use Rattle.poly_mixed.specs.Sum.{plus, plus_term}
-use Rattle.poly_mixed.specs.Uniqueness.{IsZeros, InFirstWords}
+use Rattle.poly_mixed.specs.laws.Uniqueness.{IsZeros, InFirstWords}
 use Rattle.poly_mixed.proofs.FieldLaws.{IsField, field_of}
 use Rattle.poly_mixed.proofs.Terms.{all_plus_term}
 use Rattle.poly_mixed.proofs.Values.{value-plus, reduced_plus, powers_element}

@@ -2,9 +2,9 @@
 use Rattle.std.proofs.Common.{◌≡◌, ℕ, zero, suc, ◌<◌, ◌^◌, sym, refl, ◌∙◌, ap, arith}
 use Rattle.std.specs.Prelude.{bit_xor}
 use Rattle.std.specs.Int.Bits.{xor_assoc, xor_comm, xor_zero_l, xor_zero_r, xor_lt}
-use Rattle.gf_field.specs.XorLaws.{xor_cross}
+use Rattle.gf_field.specs.laws.XorLaws.{xor_cross}
 use Rattle.gf_field.specs.Ring.{IsRing}
-use Rattle.gf_field.specs.RingLaws.{mul_zero}
+use Rattle.gf_field.specs.laws.RingLaws.{mul_zero}
 use Rattle.gf_field.specs.Polynomial.{sum_of_first}
 
 pub sum_same : (m : ℕ) (f g : ℕ → ℕ) → ((i : ℕ) → i < m → f i ≡ g i) → sum_of_first m f ≡ sum_of_first m g

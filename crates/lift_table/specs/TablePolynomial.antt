@@ -2,7 +2,7 @@
 use Rattle.std.specs.Prelude.{◌≡◌, ℕ, List, [], take}
 use Rattle.std.specs.List.{AllByRecursion}
 use Rattle.poly_mixed.specs.Polynomial.{Terms, Point, IsPoint, IsReduced, value}
-use Rattle.poly_mixed.specs.Uniqueness.{InFirstWords}
+use Rattle.poly_mixed.specs.laws.Uniqueness.{InFirstWords}
 use Rattle.lift_table.specs.Table.{IsTableValue}
 
 -- reduced, in the first words alone, without bits, and with the value of the table's function at each input

@@ -1,6 +1,6 @@
 //! The words of a circuit of one cycle with their bases, for the plain program that evaluates it.
 ghost use Rattle.std.specs.Prelude.{◌≡◌, ◌<◌, ◌++◌, ◌↔◌, ℕ, length, map, slice_get, Some, IfOk, IsTrue, OnOk};
-ghost use Rattle.gf_basis.specs.BasisParts.{elements_of, IsOver};
+ghost use Rattle.gf_basis.specs.BasisParts.{elements_of, IsBasisOver};
 ghost use Rattle.net_words.specs.OneCycle.{IsOneCycle};
 ghost use Rattle.net_words.specs.declared.word.Role.TheVariants.{Output};
 ghost use Rattle.circuit_model.specs.Bases.{AreBases, circuit_in};
@@ -41,7 +41,7 @@ pub(crate) fn output_word<F: Field>(
 ) -> Result<CircuitWord, AllocError>
     requires { AreBases (F.degree field.now) (F.product field.now) circuit.now bases.now }
     ensures word { IfOk result (λ word. word_of word ≡ (circuit_in (F.degree field.now) (F.product field.now) circuit.now bases.now).output) }
-    ensures over { IfOk result (λ word. IsOver (F.degree field.now) (F.product field.now) word.basis) }
+    ensures over { IfOk result (λ word. IsBasisOver (F.degree field.now) (F.product field.now) word.basis) }
 {
     let w = output_place(circuit);
     let nets = nets_of(alloc, circuit, w)?;
@@ -88,7 +88,7 @@ fn add_word<F: Field>(
     list: &mut Vec<CircuitWord>,
 ) -> Result<(), AllocError>
     requires word { w < length circuit.now.bound.words }
-    requires basis { IsOver (F.degree field.now) (F.product field.now) basis.now }
+    requires basis { IsBasisOver (F.degree field.now) (F.product field.now) basis.now }
     ensures added { OnOk result ((word : _) → slice_get circuit.now.bound.words w ≡ Some word → map word_of list.new.items ≡ map word_of list.old.items ++ word_with word.role word.nets (elements_of basis.now)) }
     ensures over { OnOk result (AreOver (F.degree field.now) (F.product field.now) list.old.items → AreOver (F.degree field.now) (F.product field.now) list.new.items) }
 {
@@ -122,9 +122,9 @@ fn nets_of(alloc: Global, circuit: &Combinational, w: u32) -> Result<Vec<u32>, A
 
 // The same basis anew.
 fn copied<F: Field>(alloc: Global, field: &F, basis: &Basis) -> Result<Basis, AllocError>
-    requires { IsOver (F.degree field.now) (F.product field.now) basis.now }
+    requires { IsBasisOver (F.degree field.now) (F.product field.now) basis.now }
     ensures elements { IfOk result (λ copy. elements_of copy ≡ elements_of basis.now) }
-    ensures over { IfOk result (λ copy. IsOver (F.degree field.now) (F.product field.now) copy) }
+    ensures over { IfOk result (λ copy. IsBasisOver (F.degree field.now) (F.product field.now) copy) }
 {
     let mut list = Vec::new(alloc);
     for i in 0..field.k() {

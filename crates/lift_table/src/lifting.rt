@@ -3,7 +3,7 @@ ghost use Rattle.std.specs.Prelude.{◌≡◌, ◌+◌, ◌*◌, ◌<◌, ◌≤
 ghost use Rattle.std.specs.List.{AllByRecursion};
 ghost use Rattle.gf_field.specs.Element.{AreElements};
 ghost use Rattle.poly_mixed.specs.Polynomial.{IsElement, IsPoint, IsReduced, Point, powers, value};
-ghost use Rattle.poly_mixed.specs.Uniqueness.{IsZeros};
+ghost use Rattle.poly_mixed.specs.laws.Uniqueness.{IsZeros};
 ghost use Rattle.lift_table.specs.Small.{IsSmall};
 ghost use Rattle.lift_table.specs.TablePolynomial.{IsPolynomialOfTable};
 ghost use Rattle.lift_table.specs.private.Lifting.{AddsTable, IsOfWords};

@@ -1,6 +1,6 @@
 //! The table of a circuit's output.
 ghost use Rattle.std.specs.Prelude.{◌≡◌, ◌≤◌, ◌<◌, ◌^◌, ℕ, [], length, IfOk};
-ghost use Rattle.gf_basis.specs.BasisParts.{IsOver};
+ghost use Rattle.gf_basis.specs.BasisParts.{IsBasisOver};
 ghost use Rattle.net_core.specs.Lists.{Has};
 ghost use Rattle.circuit_model.specs.Bases.{AreBases, circuit_in};
 ghost use Rattle.circuit_model.specs.Flat.{AreOver, circuit_of_parts};
@@ -81,7 +81,7 @@ fn value_at<F: Field>(
     requires small { F.degree field.now ≤ 8 }
     requires flat { net.now.latches ≡ [] }
     requires over { AreOver (F.degree field.now) (F.product field.now) words.now }
-    requires over_output { IsOver (F.degree field.now) (F.product field.now) to.now.basis }
+    requires over_output { IsBasisOver (F.degree field.now) (F.product field.now) to.now.basis }
     requires well { IsWellFormed (circuit_of_parts (F.degree field.now) (F.product field.now) net.now words.now to.now) }
     ensures { IfOk result (λ e. IsOut (circuit_of_parts (F.degree field.now) (F.product field.now) net.now words.now to.now) (digits_of (F.degree field.now) (length words.now) row) e) }
 {

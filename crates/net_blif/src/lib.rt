@@ -19,8 +19,6 @@ mod read;
 mod reader;
 mod statement;
 mod table;
-#[cfg(test)]
-mod tests;
 mod token;
 mod token_list;
 mod top;

@@ -6,8 +6,6 @@ mod flat_fault;
 mod laws;
 mod place;
 mod scope;
-#[cfg(test)]
-mod tests;
 mod walk;
 mod walker;
 

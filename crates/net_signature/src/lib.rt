@@ -16,8 +16,6 @@ mod lines;
 mod reader;
 mod seen;
 mod signature;
-#[cfg(test)]
-mod tests;
 mod version;
 mod word_line;
 mod words;

@@ -21,8 +21,6 @@ mod sign;
 mod stack;
 mod table;
 mod target;
-#[cfg(test)]
-mod tests;
 mod words;
 
 pub use assign::read_assignment;

@@ -9,7 +9,7 @@ use Rattle.net_core.specs.Lists.{Has}
 use Rattle.net_core.specs.NetList.{NetList, LabelValue, is_named, number_from, number_of}
 use Rattle.net_core.proofs.DriverLemmas.{Has_map}
 use Rattle.net_words.specs.Binding.{Binding}
-use Rattle.net_words.specs.BoundTo.{IsFeed}
+use Rattle.net_words.specs.BoundTo.{IsBoundFeed}
 use Rattle.net_words.specs.Feeds.{AreFeeds, FeedsOf, IsSource, bound_feed, fed_nets, free_net, is_fed, is_free}
 use Rattle.net_words.specs.Roles.{in_word, stands_in}
 use Rattle.net_words.specs.declared.binding.BindFault.{BindFault}
@@ -106,7 +106,7 @@ module _ (net : NetList) (k : ℕ) (words : List BoundWord) (feeds : List FeedTe
       added.each i f (subst P added.whole_is at)
 
   -- what is bound is a feed
-  pub feed_is : (binding : Binding) → binding.k ≡ k → binding.words ≡ words → (f : Feed) → Has found f → IsFeed net binding f
+  pub feed_is : (binding : Binding) → binding.k ≡ k → binding.words ≡ words → (f : Feed) → Has found f → IsBoundFeed net binding f
   feed_is binding same_k same_words f has =
       let text = of_text has.0 f has.1 in
       let P : ℕ → Type 0 = λ j. IsSource j (map (λ (w : BoundWord). w.role) binding.words) f.source in

@@ -35,7 +35,7 @@ StandsOn net Fed n = ⊥
 StandsOn net Output n = n < nets net
 
 -- a feed's net is a primary input in no input word, and its source is a constant or a bit of a fed word
-pub record IsFeed (net : NetList) (binding : Binding) (feed : Feed) : Type 0 where
+pub record IsBoundFeed (net : NetList) (binding : Binding) (feed : Feed) : Type 0 where
   pub input : Has net.inputs feed.net
   pub unheld : in_word Input binding.words feed.net ≡ false
   pub source : IsSource binding.k (map (λ word. word.role) binding.words) feed.source
@@ -48,7 +48,7 @@ pub record IsBoundTo (net : NetList) (binding : Binding) : Type 0 where
   pub count : binding.nets ≡ nets net
   pub once : (n : ℕ) → times n (bits binding.words) ≤ 1
   pub places : (word : BoundWord) (n : ℕ) → Has binding.words word → Has word.nets n → StandsOn net word.role n
-  pub feeds : (feed : Feed) → Has binding.feeds feed → IsFeed net binding feed
+  pub feeds : (feed : Feed) → Has binding.feeds feed → IsBoundFeed net binding feed
   pub apart : (i j : ℕ) (f g : Feed) → slice_get binding.feeds i ≡ Some f → slice_get binding.feeds j ≡ Some g → f.net ≡ g.net → f.cycle ≡ g.cycle → i ≡ j
   pub starts : (l : LatchValue) → Has net.latches l → (Has (bits binding.words) l.out → ⊥) → l.start ≢ Unknown
   pub covered : (n : ℕ) → Has net.inputs n → (Has (bits binding.words) n → ⊥) → (Has (fed_nets binding.feeds) n → ⊥) → Reaches net n (output_bits binding.words) → ⊥

@@ -3,19 +3,13 @@
 #![tactic(auto)]
 
 mod binding;
-#[cfg(test)]
-mod binding_tests;
 mod bound;
 mod combinational;
 mod feed;
-#[cfg(test)]
-mod feed_tests;
 mod feeds;
 mod laws;
 mod marks;
 mod order;
-#[cfg(test)]
-mod rank_tests;
 mod rebinding;
 mod variables;
 mod word;

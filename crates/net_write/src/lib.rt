@@ -5,8 +5,6 @@ mod laws;
 mod lines;
 mod plain;
 mod rows;
-#[cfg(test)]
-mod tests;
 mod write;
 
 pub use laws::written_net_is_read_back;

@@ -12,7 +12,7 @@ use Rattle.poly_mixed.specs.Polynomial.{Terms, Point, IsPoint, IsTerm, IsMap, Is
 use Rattle.poly_mixed.specs.Monomial.{has_bit}
 use Rattle.poly_mixed.specs.Cofactor.{LacksBit, without_bit, lacking, cofactors, at_bit, IsSubstituted}
 use Rattle.poly_mixed.proofs.OneBit.{order_stays}
-use Rattle.gf_field.specs.XorLaws.{xor_swap}
+use Rattle.gf_field.specs.laws.XorLaws.{xor_swap}
 use Rattle.std.specs.Map.{keys_of}
 use Rattle.poly_mixed.proofs.Products.{value_element}
 

@@ -5,7 +5,7 @@ use Rattle.std.proofs.lemmas.Bool.{cases_eq}
 use Rattle.gf_field.specs.Ring.{IsRing}
 use Rattle.gf_field.specs.Field.{HasNoZeroDivisors}
 use Rattle.gf_field.specs.Power.{power}
-use Rattle.gf_field.specs.FermatLaws.{power_same}
+use Rattle.gf_field.specs.laws.FermatLaws.{power_same}
 use Rattle.poly_mixed.specs.Polynomial.{IsElement}
 
 pub record IsField (k : ℕ) (mul : ℕ → ℕ → ℕ) : Type 0 where

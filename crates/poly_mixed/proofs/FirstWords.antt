@@ -6,7 +6,7 @@ use Rattle.std.specs.List.{AllByRecursion, list_all, filter}
 use Rattle.gf_field.specs.Power.{power}
 use Rattle.poly_mixed.specs.Monomial.{Monomial}
 use Rattle.poly_mixed.specs.Polynomial.{Terms, Point, IsPoint, IsTerm, IsReduced, IsElement, powers, term_value, value}
-use Rattle.poly_mixed.specs.Uniqueness.{IsZeros, InFirstWords, Unique}
+use Rattle.poly_mixed.specs.laws.Uniqueness.{IsZeros, InFirstWords, Unique}
 use Rattle.poly_mixed.proofs.FieldLaws.{IsField}
 use Rattle.poly_mixed.proofs.Filtered.{filter_reduced}
 use Rattle.poly_mixed.proofs.Uniqueness.{zero_powers}

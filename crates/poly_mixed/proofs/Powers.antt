@@ -8,7 +8,7 @@ use Rattle.gf_field.specs.Power.{power}
 use Rattle.poly_mixed.specs.Monomial.{Monomial}
 use Rattle.poly_mixed.specs.Polynomial.{Polynomial, Terms, Point, IsPoint, IsElement, IsMonomial, IsPolynomialOf, powers, term_value}
 use Rattle.poly_mixed.specs.Sum.{with_coefficient}
-use Rattle.poly_mixed.specs.Uniqueness.{IsZeros}
+use Rattle.poly_mixed.specs.laws.Uniqueness.{IsZeros}
 use Rattle.poly_mixed.proofs.FieldLaws.{IsField}
 use Rattle.poly_mixed.proofs.Products.{one_term}
 use Rattle.poly_mixed.proofs.Simple.{no_ranks_rise, reduced_nothing, zeros8}

@@ -9,7 +9,7 @@ use Rattle.poly_mixed.proofs.Independent.{IsPower, power_value, IsIndependent}
 use Rattle.gf_field.specs.Power.{power}
 use Rattle.gf_field.specs.Roots.{value, HasFewRoots}
 use Rattle.poly_mixed.specs.Sum.{xor_sum}
-use Rattle.gf_field.specs.XorLaws.{xor_swap}
+use Rattle.gf_field.specs.laws.XorLaws.{xor_swap}
 use Rattle.poly_mixed.proofs.Values.{zero_element, one_element, power_element, product_by_zero}
 
 -- c more at the power e

@@ -17,7 +17,7 @@ use Rattle.poly_mixed.specs.Monomial.{Monomial, text_cmp}
 use Rattle.poly_mixed.specs.Polynomial.{Polynomial, Terms, Point, IsPoint, IsMonomial, IsReduced, term_value, value}
 use Rattle.poly_mixed.specs.Sum.{with_coefficient}
 use Rattle.poly_mixed.specs.Table.{index, table_bit}
-use Rattle.poly_mixed.specs.Uniqueness.{IsZeros}
+use Rattle.poly_mixed.specs.laws.Uniqueness.{IsZeros}
 use Rattle.poly_mixed.specs.Polynomial.{IsPolynomialOf}
 use Rattle.poly_mixed.proofs.Values.{one_element, zero_element, product_zero}
 use Rattle.poly_mixed.proofs.Products.{one_term, value_element}

@@ -9,7 +9,7 @@ use Rattle.poly_mixed.specs.Said.{one, added}
 use Rattle.poly_mixed.specs.private.Reading.{done, exponent_in, next_at, step_at, term_at, read_on, reading}
 use Rattle.poly_mixed.specs.Scan.{skip}
 use Rattle.poly_mixed.specs.Text.{joined, term_text, text, HasNames}
-use Rattle.poly_mixed.specs.TextLaw.{IsWritten, ReadsBack, OneText}
+use Rattle.poly_mixed.specs.laws.TextLaw.{IsWritten, ReadsBack, OneText}
 use Rattle.poly_mixed.specs.declared.fault.PolyFault.{PolyFault}
 use Rattle.poly_mixed.proofs.Chain.{Leads, turn, term_lead}
 use Rattle.poly_mixed.proofs.ReadBack.{factors, factors_chain, term_written, total, total_is}

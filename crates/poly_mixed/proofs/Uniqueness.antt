@@ -17,10 +17,10 @@ use Rattle.poly_mixed.specs.Monomial.{Monomial, exponents_cmp, ranks_cmp, text_c
 use Rattle.poly_mixed.specs.Polynomial.{Terms, Point, IsPoint, IsTerm, IsReduced, coefficient, powers, value}
 use Rattle.gf_field.specs.Power.{power}
 use Rattle.poly_mixed.specs.Sum.{xor_sum, plus}
-use Rattle.gf_field.specs.XorLaws.{xor_same}
+use Rattle.gf_field.specs.laws.XorLaws.{xor_same}
 use Rattle.poly_mixed.proofs.Sums.{all_plus}
 use Rattle.poly_mixed.proofs.Subsets.{is_in, subset, whole}
-use Rattle.poly_mixed.specs.Uniqueness.{IsZeros, InBits, UniqueInBits, Unique, OneSize}
+use Rattle.poly_mixed.specs.laws.Uniqueness.{IsZeros, InBits, UniqueInBits, Unique, OneSize}
 use Rattle.poly_mixed.proofs.Independent.{IsIndependent}
 use Rattle.poly_mixed.proofs.Words.{word_value, IsWordTerm, no_word_terms}
 use Rattle.poly_mixed.proofs.Values.{value-plus, reduced_plus, coefficient-plus, same_map, one_element, zero_element}

@@ -5,7 +5,6 @@ pub mod Sum
 pub mod Product
 pub mod Cofactor
 pub mod Table
-pub mod Uniqueness
 pub mod Order
 pub mod Steps
 pub mod Labels
@@ -16,5 +15,5 @@ pub mod Token
 pub mod Grammar
 pub mod Said
 pub mod TextOutcome
-pub mod TextLaw
 pub mod private
+pub mod laws

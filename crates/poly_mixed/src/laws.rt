@@ -4,8 +4,8 @@ ghost use Rattle.std.specs.Prelude.{ℕ, List};
 ghost use Rattle.text_core.specs.Outcome.{Determined};
 ghost use Rattle.poly_mixed.specs.Labels.{Labelling};
 ghost use Rattle.poly_mixed.specs.TextOutcome.{TextOutcome};
-ghost use Rattle.poly_mixed.specs.TextLaw.{ReadsBack, OneText};
-ghost use Rattle.poly_mixed.specs.Uniqueness.{Unique, UniqueInBits, OneSize};
+ghost use Rattle.poly_mixed.specs.laws.TextLaw.{ReadsBack, OneText};
+ghost use Rattle.poly_mixed.specs.laws.Uniqueness.{Unique, UniqueInBits, OneSize};
 
 use gf_field::Field;
 

@@ -25,7 +25,7 @@ use Rattle.circuit_model.specs.Word.{Word, HasElement}
 use Rattle.stage_model.specs.Variables.{rank_in, point_bit}
 use Rattle.stage_model.specs.Cut.{IsAmongFirst, IsSettled, IsCut}
 use Rattle.stage_model.specs.Stage.{IsOfStage}
-use Rattle.rato_reduce.specs.GatePoint.{gate_bit, with_gate, HasGatePutIn}
+use Rattle.rato_reduce.specs.GatePoint.{gate_bit_at, with_gate, HasGatePutIn}
 use Rattle.rato_reduce.proofs.RankLemmas.{rank_apart}
 use Rattle.net_core.proofs.EvalLemmas.{not_self, not_later}
 
@@ -83,10 +83,10 @@ module _ (net : NetList) (sound : IsSound net) (variables : List ℕ) (stands : 
   moved p g = with_gate variables g p
 
   at_other : (p : Point) (g : GateValue) (n : ℕ) → n < nets net → g.out < nets net → n ≢ g.out → point_bit variables (moved p g) n ≡ point_bit variables p n
-  at_other p g n less out apart = ap (λ b. cond b (gate_bit variables g p) (point_bit variables p n)) (ne_eqb (rank_in variables n) (rank_in variables g.out) (rank_apart variables n g.out (stands n less) (stands g.out out) apart))
+  at_other p g n less out apart = ap (λ b. cond b (gate_bit_at variables g p) (point_bit variables p n)) (ne_eqb (rank_in variables n) (rank_in variables g.out) (rank_apart variables n g.out (stands n less) (stands g.out out) apart))
 
-  at_out : (p : Point) (g : GateValue) → point_bit variables (moved p g) g.out ≡ gate_bit variables g p
-  at_out p g = ap (λ b. cond b (gate_bit variables g p) (point_bit variables p g.out)) (eq-eqb (rank_in variables g.out) (rank_in variables g.out) refl)
+  at_out : (p : Point) (g : GateValue) → point_bit variables (moved p g) g.out ≡ gate_bit_at variables g p
+  at_out p g = ap (λ b. cond b (gate_bit_at variables g p) (point_bit variables p g.out)) (eq-eqb (rank_in variables g.out) (rank_in variables g.out) refl)
 
   module _ (levels : Levels) (are : AreLevels net levels) (order : List ℕ) (is : IsOrder net levels (reverse order)) (t position : ℕ) (g : GateValue) (at : slice_get order t ≡ Some position) (gate : slice_get net.gates position ≡ Some g) where
     has_gate : Has net.gates g

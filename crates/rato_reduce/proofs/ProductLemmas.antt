@@ -8,7 +8,7 @@ use Rattle.poly_mixed.specs.Monomial.{Monomial, text_cmp}
 use Rattle.poly_mixed.specs.Polynomial.{Terms, Point, IsPoint, IsElement, IsTerm, IsPolynomialOf, IsReduced, powers, term_value, value}
 use Rattle.poly_mixed.specs.Product.{with_rank, union}
 use Rattle.poly_mixed.specs.Table.{differ, index, subset_parity, table_bit}
-use Rattle.poly_mixed.specs.Uniqueness.{IsZeros}
+use Rattle.poly_mixed.specs.laws.Uniqueness.{IsZeros}
 use Rattle.poly_mixed.specs.Sum.{with_coefficient, xor_sum, plus_term, plus}
 use Rattle.poly_mixed.proofs.FieldLaws.{IsField}
 use Rattle.poly_mixed.proofs.Products.{rising-union, and_assoc, value_element}

@@ -8,12 +8,12 @@ use Rattle.poly_mixed.specs.Table.{index}
 use Rattle.stage_model.specs.Variables.{rank_in, point_bit}
 
 -- the bit of the gate's table that the point's bits of its inputs choose
-abbrev pub gate_bit : List ℕ → GateValue → Point → Bool
-gate_bit variables gate p = bit_at gate.table (index (point_bit variables p) gate.inputs) == 1
+abbrev pub gate_bit_at : List ℕ → GateValue → Point → Bool
+gate_bit_at variables gate p = bit_at gate.table (index (point_bit variables p) gate.inputs) == 1
 
 -- the point with that bit at the gate's output
 abbrev pub with_gate : List ℕ → GateValue → Point → Point
-with_gate variables gate p = at_bit p (rank_in variables gate.out) (gate_bit variables gate p)
+with_gate variables gate p = at_bit p (rank_in variables gate.out) (gate_bit_at variables gate p)
 
 module _ (k : ℕ) (mul : ℕ → ℕ → ℕ) (variables : List ℕ) (gate : GateValue) where
   -- new has at each point the value of old with the gate's bit at its output
@@ -22,4 +22,4 @@ module _ (k : ℕ) (mul : ℕ → ℕ → ℕ) (variables : List ℕ) (gate : Ga
 
   -- new has at each point the value of old and that of the cofactor where the gate's bit is 1
   abbrev pub AddsWhereGate : Terms → Terms → Terms → Type 0
-  AddsWhereGate cofactor old new = (p : Point) → IsPoint k p → value mul p new ≡ bit_xor (value mul p old) (mul (cond (gate_bit variables gate p) 1 0) (value mul p cofactor))
+  AddsWhereGate cofactor old new = (p : Point) → IsPoint k p → value mul p new ≡ bit_xor (value mul p old) (mul (cond (gate_bit_at variables gate p) 1 0) (value mul p cofactor))

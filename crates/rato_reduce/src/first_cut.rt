@@ -1,7 +1,7 @@
 //! The output word as a polynomial in the bits of its nets.
 ghost use Rattle.std.specs.Prelude.{◌≡◌, ◌<◌, ℕ, ◌++◌, cond, bit_xor, length, slice_get, IfOk, OnOk, Some};
 ghost use Rattle.irreducible.specs.Span.{combination};
-ghost use Rattle.gf_basis.specs.BasisParts.{elements_of, IsOver};
+ghost use Rattle.gf_basis.specs.BasisParts.{elements_of, IsBasisOver};
 ghost use Rattle.net_core.specs.NetList.{nets};
 ghost use Rattle.net_core.specs.Order.{IsElimination};
 ghost use Rattle.net_core.specs.Lists.{Has};
@@ -100,7 +100,7 @@ pub fn first_cut<F: Field>(
     list: &[u32],
     places: Vec<u32>,
 ) -> Result<Cut, AllocError>
-    requires basis { IsOver (F.degree field.now) (F.product field.now) basis.now }
+    requires basis { IsBasisOver (F.degree field.now) (F.product field.now) basis.now }
     requires long { length list.now ≡ F.degree field.now }
     requires inside { (n : ℕ) → Has list.now n → n < nets circuit.now.net }
     ensures { IfOk result (λ q. IsPolynomialOf (F.degree field.now) (F.product field.now) (λ p. combination (elements_of basis.now) (index (point_bit (variables (nets circuit.now.net) circuit.now.bound.words) p) list.now)) q.terms) }

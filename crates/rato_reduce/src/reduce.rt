@@ -1,6 +1,6 @@
 //! The elimination of all gates.
 ghost use Rattle.std.specs.Prelude.{◌≡◌, ◌+◌, ◌<◌, ◌≤◌, length, IfOk, IfErr, OnOk};
-ghost use Rattle.gf_basis.specs.BasisParts.{elements_of, IsOver};
+ghost use Rattle.gf_basis.specs.BasisParts.{elements_of, IsBasisOver};
 ghost use Rattle.net_core.specs.Order.{IsElimination};
 ghost use Rattle.stage_model.specs.Cut.{BoundCut};
 ghost use Rattle.stage_model.specs.Listing.{AreAllWithin, IsRefusal, cut_listing};
@@ -57,7 +57,7 @@ pub fn reduce_bits<F: Field, T: Steps>(
     steps: &mut T,
 ) -> Result<Poly, ReduceFault>
     requires bits { circuit.now.bound.k ≡ F.degree field.now }
-    requires basis { IsOver (F.degree field.now) (F.product field.now) output.now }
+    requires basis { IsBasisOver (F.degree field.now) (F.product field.now) output.now }
     ensures last { IfOk result (λ q. IsOfStage (F.degree field.now) (F.product field.now) (BoundCut circuit.now (elements_of output.now) (length circuit.now.net.gates)) q.terms) }
     ensures within { OnOk result (AreAllWithin (F.degree field.now) (F.product field.now) (cut_listing (length circuit.now.net.gates + 1) (BoundCut circuit.now (elements_of output.now))) bound) }
     ensures fault { IfErr result (IsRefusal (F.degree field.now) (F.product field.now) (cut_listing (length circuit.now.net.gates + 1) (BoundCut circuit.now (elements_of output.now))) bound) }

@@ -9,11 +9,11 @@ use Rattle.std.proofs.Math.Nat.{mul-suc, mul-le-mul_left}
 use Rattle.std.proofs.lemmas.Bool.{cases_lt}
 use Rattle.std.proofs.lemmas.List.{length-append}
 use Rattle.graph_core.specs.Graph.{Has}
-use Rattle.gf_field.specs.XorLaws.{xor_same}
+use Rattle.gf_field.specs.laws.XorLaws.{xor_same}
 use Rattle.poly_mixed.specs.Monomial.{Monomial, has_bit, text_cmp}
 use Rattle.poly_mixed.specs.Polynomial.{Terms, Point, IsPoint, IsReduced, IsTerm, coefficient, value}
 use Rattle.poly_mixed.specs.Cofactor.{LacksBit}
-use Rattle.poly_mixed.specs.Uniqueness.{IsZeros}
+use Rattle.poly_mixed.specs.laws.Uniqueness.{IsZeros}
 use Rattle.poly_mixed.specs.Sum.{plus}
 use Rattle.poly_mixed.proofs.FieldLaws.{IsField, field_of}
 use Rattle.poly_mixed.proofs.Sums.{all_plus}

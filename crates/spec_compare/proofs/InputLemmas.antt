@@ -12,7 +12,7 @@ use Rattle.std.proofs.lemmas.Option.{slice_get_within}
 use Rattle.graph_core.specs.Graph.{Has}
 use Rattle.graph_core.proofs.ListLemmas.{get_below}
 use Rattle.irreducible.specs.Span.{combination}
-use Rattle.irreducible.specs.SpanLaws.{combination_below}
+use Rattle.irreducible.specs.laws.SpanLaws.{combination_below}
 use Rattle.net_words.proofs.MemberLemmas.{stands_has}
 use Rattle.gf_basis.specs.Basis.{AreBits}
 use Rattle.circuit_model.specs.Word.{Word}

@@ -13,7 +13,7 @@ use Rattle.net_words.specs.declared.word.Role.{Role}
 use Rattle.gf_field.specs.Ring.{IsRing}
 use Rattle.gf_field.specs.Field.{HasNoZeroDivisors}
 use Rattle.gf_basis.specs.Basis.{IsBasis}
-use Rattle.gf_basis.specs.BasisParts.{elements_of, IsOver}
+use Rattle.gf_basis.specs.BasisParts.{elements_of, IsBasisOver}
 use Rattle.gf_basis.specs.declared.bases.Basis.{Basis}
 use Rattle.circuit_model.specs.WellFormed.{IsWellFormed}
 use Rattle.circuit_model.specs.OfBinding.{HaveBases, word_with, words_of}
@@ -45,7 +45,7 @@ module _ (k : ℕ) (mul : ℕ → ℕ → ℕ) (b : BoundNet) (bases : List Basi
     at_base : slice_get bases v ≡ Some basis
     at_base = got_read bases v basis (omega (arith, are.long)) read
 
-    pub is_over : IsOver k mul basis
+    pub is_over : IsBasisOver k mul basis
     is_over = are.each basis (v, at_base)
 
     module _ (binding : Binding) (same : binding ≡ b.bound) (role : Role) (role_is : (word : BoundWord) → slice_get binding.words v ≡ Some word → role ≡ word.role) (ones list : List ℕ)

@@ -3,7 +3,7 @@ use Rattle.std.specs.Prelude.{◌≡◌, ℕ, ◌≤◌, List, [], ◌∷◌, le
 use Rattle.std.specs.List.{list_any}
 use Rattle.poly_mixed.specs.Polynomial.{Terms, Point, IsReduced, value}
 use Rattle.poly_mixed.specs.Cofactor.{LacksBit}
-use Rattle.poly_mixed.specs.Uniqueness.{InBits}
+use Rattle.poly_mixed.specs.laws.Uniqueness.{InBits}
 use Rattle.circuit_model.specs.Word.{word_nets}
 use Rattle.circuit_model.specs.Circuit.{Circuit}
 use Rattle.circuit_model.specs.Ones.{AreOnes}

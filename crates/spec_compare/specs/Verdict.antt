@@ -1,7 +1,7 @@
 -- What a comparison of two polynomials in input and state bits answers. Source: this project's own.
 use Rattle.std.specs.Prelude.{◌≡◌, ℕ, List, length, take, drop, Option, None, Some}
 use Rattle.poly_mixed.specs.Polynomial.{Terms}
-use Rattle.poly_mixed.specs.Uniqueness.{IsZeros}
+use Rattle.poly_mixed.specs.laws.Uniqueness.{IsZeros}
 use Rattle.circuit_model.specs.Circuit.{Circuit}
 use Rattle.spec_compare.specs.declared.verdict.Verdict.{Verdict}
 use Rattle.spec_compare.specs.declared.verdict.Verdict.TheVariants.{Same, Differ}

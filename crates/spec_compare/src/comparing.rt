@@ -1,11 +1,11 @@
 //! The comparison of two polynomials in input and state bits.
 ghost use Rattle.std.specs.Prelude.{◌≡◌, ◌≤◌, ◌<◌, ◌+◌, ◌++◌, ℕ, List, length, take, drop, map, IfOk, OnOk, []};
 ghost use Rattle.std.specs.List.{AllByRecursion};
-ghost use Rattle.gf_basis.specs.BasisParts.{elements_of, IsOver};
+ghost use Rattle.gf_basis.specs.BasisParts.{elements_of, IsBasisOver};
 ghost use Rattle.net_core.specs.Sound.{IsSound};
 ghost use Rattle.net_words.specs.OneCycle.{IsOneCycle};
 ghost use Rattle.poly_mixed.specs.Polynomial.{IsReduced, value};
-ghost use Rattle.poly_mixed.specs.Uniqueness.{IsZeros};
+ghost use Rattle.poly_mixed.specs.laws.Uniqueness.{IsZeros};
 ghost use Rattle.circuit_model.specs.OfBinding.{word_with};
 ghost use Rattle.circuit_model.specs.Bases.{AreBases, circuit_in};
 ghost use Rattle.spec_compare.specs.private.First.{IsSumOf};
@@ -38,7 +38,7 @@ fn add_element<F: Field>(
     ones: &[u32],
     list: &mut Vec<u64>,
 ) -> Result<(), AllocError>
-    requires over { IsOver (F.degree field.now) (F.product field.now) basis.now }
+    requires over { IsBasisOver (F.degree field.now) (F.product field.now) basis.now }
     requires few { (nets : List ℕ) → length list.old.items + length (word_with role nets (elements_of basis.now)) ≤ 8 }
     ensures { OnOk result ((nets : List ℕ) → list.new.items ≡ list.old.items ++ inputs_from (F.degree field.now) ones.now (length list.old.items) (word_with role nets (elements_of basis.now))) }
 {

@@ -5,10 +5,10 @@ use lib.Bits.{xor_zero_l, xor_zero_r, xor_assoc}
 use Rattle.std.specs.List.Sorted.{IsStrictlySortedBy}
 use Rattle.std.proofs.lemmas.Option.{slice_get-get_or, get_or_from_slice_get, slice_get_within}
 use Rattle.gf_field.specs.Ring.{IsRing}
-use Rattle.gf_field.specs.RingLaws.{mul_zero}
+use Rattle.gf_field.specs.laws.RingLaws.{mul_zero}
 use Rattle.gf_field.specs.Power.{power}
 use Rattle.gf_field.specs.Trace.{frobenius}
-use Rattle.gf_field.specs.TraceLaws.{frobenius-xor, frobenius-power}
+use Rattle.gf_field.specs.laws.TraceLaws.{frobenius-xor, frobenius-power}
 use Rattle.gf_basis.specs.Basis.{first_values, IsBasis, AreBits}
 use Rattle.irreducible.specs.Span.{combination}
 use Rattle.graph_core.proofs.ListLemmas.{get_below}

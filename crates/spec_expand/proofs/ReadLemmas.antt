@@ -5,7 +5,7 @@ use Rattle.std.specs.Option.{option_map}
 use Rattle.std.proofs.Math.ListN.{drop_of_length-le}
 use Rattle.std.proofs.lemmas.Bool.Decides.{nat_tests}
 use Rattle.gf_field.specs.Ring.{IsRing}
-use Rattle.gf_field.specs.PowerLaws.{one_below}
+use Rattle.gf_field.specs.laws.PowerLaws.{one_below}
 use Rattle.poly_mixed.specs.Labels.{Labelling}
 use Rattle.poly_mixed.specs.Scan.{run, word_of}
 use Rattle.poly_mixed.proofs.Texts.{all_more}

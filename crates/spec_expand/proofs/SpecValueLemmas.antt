@@ -7,7 +7,7 @@ use Rattle.std.proofs.lemmas.Bool.{eq-eqb}
 use Rattle.std.proofs.lemmas.Bool.Decides.{nat_tests}
 use Rattle.gf_field.specs.Ring.{IsRing}
 use Rattle.gf_field.specs.Power.{power}
-use Rattle.gf_field.specs.PowerLaws.{power-add, power_below, one_below}
+use Rattle.gf_field.specs.laws.PowerLaws.{power-add, power_below, one_below}
 use Rattle.spec_expand.specs.Specification.{SpecTerms}
 use Rattle.spec_expand.specs.SpecValue.{powers_at, spec_at, ones_of, factors_with, factors_of, product_at}
 

@@ -1,7 +1,7 @@
 -- A function of the input as a polynomial in input and state bits. Source: this project's own.
 use Rattle.std.specs.Prelude.{◌≡◌, ℕ, List, length}
 use Rattle.poly_mixed.specs.Polynomial.{Terms, Point, IsPoint, IsReduced, value}
-use Rattle.poly_mixed.specs.Uniqueness.{InBits}
+use Rattle.poly_mixed.specs.laws.Uniqueness.{InBits}
 use Rattle.circuit_model.specs.Word.{word_nets}
 use Rattle.circuit_model.specs.Circuit.{Circuit, IsInput}
 use Rattle.stage_model.specs.First.{InFirstRanks}

@@ -2,7 +2,7 @@
 ghost use Rattle.std.specs.Prelude.{◌≡◌, ◌<◌, ◌≤◌, ◌+◌, ◌^◌, length, take, slice_get, Some, IfOk, IfErr, OnOk};
 ghost use Rattle.net_core.specs.Sound.{IsSound};
 ghost use Rattle.net_words.specs.OneCycle.{IsOneCycle};
-ghost use Rattle.gf_basis.specs.BasisParts.{elements_of, IsOver};
+ghost use Rattle.gf_basis.specs.BasisParts.{elements_of, IsBasisOver};
 ghost use Rattle.circuit_model.specs.Word.{Word};
 ghost use Rattle.stage_model.specs.Listing.{AreAllWithin, IsRefusal};
 ghost use Rattle.circuit_model.specs.Bases.{AreBases, circuit_in};
@@ -58,7 +58,7 @@ fn basis_of<'a, F: Field>(
     requires setting { IsSetting (F.degree _field.now) (F.product _field.now) _circuit.now bases.now places.now }
     requires word { word < length (circuit_in (F.degree _field.now) (F.product _field.now) _circuit.now bases.now).words }
     ensures own { (w : Word) × (slice_get (circuit_in (F.degree _field.now) (F.product _field.now) _circuit.now bases.now).words word ≡ Some w) × (w.basis ≡ elements_of result.now) }
-    ensures over { IsOver (F.degree _field.now) (F.product _field.now) result.now }
+    ensures over { IsBasisOver (F.degree _field.now) (F.product _field.now) result.now }
 {
     let place = place_at(places, word);
     &bases[place as usize]

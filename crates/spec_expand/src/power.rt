@@ -3,7 +3,7 @@ ghost use Rattle.std.specs.Prelude.{◌≡◌, ◌<◌, ◌≤◌, ◌+◌, ◌*
 ghost use Rattle.irreducible.specs.Span.{combination};
 ghost use Rattle.gf_field.specs.Trace.{frobenius as frobenius_of};
 ghost use Rattle.gf_basis.specs.Basis.{first_values};
-ghost use Rattle.gf_basis.specs.BasisParts.{elements_of, IsOver};
+ghost use Rattle.gf_basis.specs.BasisParts.{elements_of, IsBasisOver};
 ghost use Rattle.poly_mixed.specs.Polynomial.{IsPolynomialOf};
 ghost use Rattle.poly_mixed.specs.Table.{index};
 
@@ -20,7 +20,7 @@ pub(crate) fn power_of_word<F: Field>(
     word: u32,
     j: u32,
 ) -> Result<Poly, AllocError>
-    requires over { IsOver (F.degree field.now) (F.product field.now) basis.now }
+    requires over { IsBasisOver (F.degree field.now) (F.product field.now) basis.now }
     requires word { word < 8 }
     ensures { IfOk result (λ q. IsPolynomialOf (F.degree field.now) (F.product field.now) (λ p. frobenius_of (F.product field.now) j (combination (elements_of basis.now) (index p.is_one (first_values (F.degree field.now) (λ i. F.degree field.now * word + i))))) q.terms) }
 {

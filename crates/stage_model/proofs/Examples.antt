@@ -6,7 +6,7 @@ use Rattle.std.specs.List.{list_all, AllByRecursion}
 use Rattle.std.specs.List.Sorted.{IsStrictlySortedBy}
 use Rattle.gf_field.specs.Bit.{bit_mul}
 use Rattle.gf_field.specs.Power.{power}
-use Rattle.gf_field.specs.BitLaws.{IsRing-bit_mul}
+use Rattle.gf_field.specs.laws.BitLaws.{IsRing-bit_mul}
 use Rattle.net_core.specs.GateValue.{GateValue}
 use Rattle.net_core.specs.Lists.{Has}
 use Rattle.net_core.specs.Sound.{sources}

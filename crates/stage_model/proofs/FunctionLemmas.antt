@@ -5,7 +5,7 @@ use Rattle.gf_field.specs.Ring.{IsRing}
 use Rattle.gf_field.specs.Field.{HasNoZeroDivisors}
 use Rattle.poly_mixed.specs.Cofactor.{at_bit}
 use Rattle.poly_mixed.specs.Polynomial.{Terms, Point, IsPolynomialOf, value}
-use Rattle.poly_mixed.specs.Uniqueness.{InFirstWords}
+use Rattle.poly_mixed.specs.laws.Uniqueness.{InFirstWords}
 use Rattle.poly_mixed.proofs.FieldLaws.{field_of}
 use Rattle.poly_mixed.proofs.FirstWords.{first_words, first_point, is_first_point, first_alone}
 use Rattle.stage_model.specs.Stage.{IsOfStage}

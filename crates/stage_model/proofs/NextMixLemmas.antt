@@ -21,7 +21,7 @@ use Rattle.poly_mixed.specs.Cofactor.{LacksBit, at_bit}
 use Rattle.stage_model.specs.Variables.{point_bits, variables_of}
 use Rattle.stage_model.specs.Mix.{IsMixedInput, IsMix}
 use Rattle.stage_model.specs.Stage.{IsOfStage}
-use Rattle.stage_model.specs.WordStage.{with_word, IsRead, IsSum}
+use Rattle.stage_model.specs.WordStage.{with_word, IsRead, IsTermSum}
 use Rattle.stage_model.proofs.PointLemmas.{point_bits_at, same_word}
 use Rattle.stage_model.proofs.MixLemmas.{one_mix}
 use Rattle.stage_model.proofs.SizeLemmas.{lacks}
@@ -139,7 +139,7 @@ module _ (c : Circuit) (well : IsWellFormed c) where
     pub next_mix : (e : ℕ) → IsMix c w p' e ↔ IsMix c (suc w) p e
     next_mix e = ((λ mix. record { xs = mix.xs; mixed = forth mix.xs mix.mixed; output = mix.output }), λ mix. record { xs = mix.xs; mixed = back mix.xs mix.mixed; output = mix.output })
 
-  pub all_terms : (w : ℕ) (ts : Terms) (p : Point) (e : ℕ) → IsPoint c.k p → w < length c.words → IsOfStage c.k c.product (IsMix c w) ts → IsSum c w (length ts) p e ↔ IsMix c (suc w) p e
+  pub all_terms : (w : ℕ) (ts : Terms) (p : Point) (e : ℕ) → IsPoint c.k p → w < length c.words → IsOfStage c.k c.product (IsMix c w) ts → IsTermSum c w (length ts) p e ↔ IsMix c (suc w) p e
   all_terms w ts p e at less is = (
     (λ sum.
         let same = one_terms c well w sum.terms ts sum.before is in

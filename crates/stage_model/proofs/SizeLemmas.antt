@@ -3,11 +3,11 @@ use Rattle.std.proofs.Common.{◌≡◌, ◌∙◌, ap, sym, refl, subst, inl, i
 use Rattle.std.proofs.lemmas.Bool.{cases_order}
 use Rattle.gf_field.specs.Ring.{IsRing}
 use Rattle.gf_field.specs.Field.{HasNoZeroDivisors}
-use Rattle.gf_field.specs.RootsLaws.{HasFewRoots-from_field}
+use Rattle.gf_field.specs.laws.RootsLaws.{HasFewRoots-from_field}
 use Rattle.poly_mixed.specs.Monomial.{has_bit}
 use Rattle.poly_mixed.specs.Polynomial.{IsPoint, Terms, Point, value}
 use Rattle.poly_mixed.specs.Cofactor.{LacksBit, at_bit, lacking}
-use Rattle.poly_mixed.specs.Uniqueness.{InBits, Unique}
+use Rattle.poly_mixed.specs.laws.Uniqueness.{InBits, Unique}
 use Rattle.poly_mixed.proofs.FieldLaws.{field_of}
 use Rattle.poly_mixed.proofs.Roots.{independent}
 use Rattle.poly_mixed.proofs.Uniqueness.{unique}

@@ -10,7 +10,7 @@ use Rattle.poly_mixed.specs.declared.stage.Stage.TheVariants.{Cut, WordProduct, 
 use Rattle.stage_model.specs.Cut.{CutOf}
 use Rattle.stage_model.specs.Mix.{IsMix}
 use Rattle.stage_model.specs.Stage.{IsOfStage, IsWithin}
-use Rattle.stage_model.specs.WordStage.{word_bits, IsTermOf, IsProduct, IsSum}
+use Rattle.stage_model.specs.WordStage.{word_bits, IsTermOf, IsTermProduct, IsTermSum}
 use Rattle.stage_model.specs.Listing.{is_first_cut, cut_of, is_earlier_cut, cut_listing, AreAllWithin, IsOver}
 use Rattle.stage_model.specs.WordListing.{HasProduct, HasSum, IsEarlier, word_listing, is_word_stage, word_stage_of, is_earlier_word_stage}
 use Rattle.stage_model.specs.CircuitListing.{circuit_cuts, circuit_stages}
@@ -58,23 +58,23 @@ module _ (c : Circuit) (well : IsWellFormed c) (bound : ℕ) where
   Over stage = IsOverBound c.k c.product stage bound
 
   abbrev ProductFine : ℕ → ℕ → ℕ → Type 0
-  ProductFine w s j = HasProduct c w s j → Fine (IsProduct c w s j)
+  ProductFine w s j = HasProduct c w s j → Fine (IsTermProduct c w s j)
 
   -- the stages of term s of word w are within the bound
   record TermFine (w s : ℕ) : Type 0 where
     pub products : (j : ℕ) → ProductFine w s j
-    pub sum : HasSum c w s → Fine (IsSum c w s)
+    pub sum : HasSum c w s → Fine (IsTermSum c w s)
 
   -- product j is the first over the bound
   record ProductOver (w s j : ℕ) : Type 0 where
     pub has : HasProduct c w s j
-    pub over : Over (IsProduct c w s j)
+    pub over : Over (IsTermProduct c w s j)
     pub before : (i : ℕ) → i < j → ProductFine w s i
 
   -- the products are within it, and the sum is over it
   record SumOver (w s : ℕ) : Type 0 where
     pub has : HasSum c w s
-    pub over : Over (IsSum c w s)
+    pub over : Over (IsTermSum c w s)
     pub before : (i : ℕ) → ProductFine w s i
 
   abbrev TermOver : ℕ → ℕ → Type 0
@@ -94,22 +94,22 @@ module _ (c : Circuit) (well : IsWellFormed c) (bound : ℕ) where
         let less = subst P (one_term_of c well w s has.term term has.is_term is) has.bits in
         absurd (omega arith)
 
-    one_product : (j : ℕ) → ProductFine w s j ⊎ (HasProduct c w s j × Over (IsProduct c w s j))
+    one_product : (j : ℕ) → ProductFine w s j ⊎ (HasProduct c w s j × Over (IsTermProduct c w s j))
     one_product zero = inl (λ has. absurd (omega (arith, has.some)))
     one_product (suc j) =
         elim (cases_lt j products) [
           | inl less ↦
               let has : HasProduct c w s (suc j) = record { word = low; term = term; is_term = is; some = omega arith; bits = less } in
-              elim (size_of c.k c.product (IsProduct c w s (suc j)) bound (product_polynomial c well w s (suc j) low term is)) [ inl fine ↦ inl (λ any. fine) | inr over ↦ inr (has, over) ]
+              elim (size_of c.k c.product (IsTermProduct c w s (suc j)) bound (product_polynomial c well w s (suc j) low term is)) [ inl fine ↦ inl (λ any. fine) | inr over ↦ inr (has, over) ]
           | inr past ↦ inl (past_products (suc j) (omega arith))
         ]
 
     term_decided : TermFine w s ⊎ TermOver w s
     term_decided =
-        elim (search (suc products) (ProductFine w s) (λ j. HasProduct c w s j × Over (IsProduct c w s j)) (λ j less. one_product j)) [
+        elim (search (suc products) (ProductFine w s) (λ j. HasProduct c w s j × Over (IsTermProduct c w s j)) (λ j less. one_product j)) [
           | inl all ↦
               let fine : (j : ℕ) → ProductFine w s j = λ j. elim (cases_lt j (suc products)) [ inl less ↦ all j less | inr past ↦ past_products j (omega arith) ] in
-              elim (size_of c.k c.product (IsSum c w s) bound (sum_polynomial c well w s low is.terms is.before)) [
+              elim (size_of c.k c.product (IsTermSum c w s) bound (sum_polynomial c well w s low is.terms is.before)) [
                 | inl sum ↦ inl (record { products = fine; sum = λ has. sum })
                 | inr over ↦ inr (inr (record { has = has_sum; over = over; before = fine }))
               ]
@@ -181,7 +181,7 @@ module _ (c : Circuit) (well : IsWellFormed c) (bound : ℕ) where
         subst P (sym e) (subst Q (sym f) (tie is))
 
     abbrev SumFine : ℕ → ℕ → Type 0
-    SumFine v r = HasSum c v r → Fine (IsSum c v r)
+    SumFine v r = HasSum c v r → Fine (IsTermSum c v r)
 
     sum_before : (v r : ℕ) → IsEarlier v r w s ⊥ → SumFine v r
     sum_before v r (inl low) = (words v low r).sum

@@ -19,7 +19,7 @@ use Rattle.stage_model.specs.Variables.{rank_in, point_bits, variables_of}
 use Rattle.stage_model.specs.Cut.{CutOf}
 use Rattle.stage_model.specs.Mix.{IsMix}
 use Rattle.stage_model.specs.Stage.{IsOfStage}
-use Rattle.stage_model.specs.WordStage.{is_of_word, first_bits, with_word, IsRead, IsTermOf, IsProduct, IsSum}
+use Rattle.stage_model.specs.WordStage.{is_of_word, first_bits, with_word, IsRead, IsTermOf, IsTermProduct, IsTermSum}
 use Rattle.stage_model.specs.WordListing.{is_word_stage, word_stage_of}
 use Rattle.stage_model.specs.Listing.{Joined, Earlier, Later, is_first_cut, cut_of}
 use Rattle.stage_model.specs.CircuitListing.{circuit_stages}
@@ -112,7 +112,7 @@ module _ (c : Circuit) (well : IsWellFormed c) where
     product_ranks : ℕ
     product_ranks = ranks_below (first_bits c.k w j term).0.bits
 
-    product_looks : LooksAtFirst c.k (IsProduct c w s j) 8 product_ranks
+    product_looks : LooksAtFirst c.k (IsTermProduct c w s j) 8 product_ranks
     unfolding product_ranks
     product_looks = record {
       some = λ p at. some_product c well w s j p at low term is_term;
@@ -124,14 +124,14 @@ module _ (c : Circuit) (well : IsWellFormed c) where
           record { term = term; is_term = is_term; d = is.d; read = read_alone w product_ranks p q is.d same (omega (arith, low, well.few)) is.read; element = sym moved ∙ here };
     }
 
-    pub product_polynomial : (ts : Terms) × IsOfStage c.k c.product (IsProduct c w s j) ts
-    product_polynomial = of_first c.k c.product well.ring well.no_zero_divisors 8 product_ranks (IsProduct c w s j) (omega arith) product_looks
+    pub product_polynomial : (ts : Terms) × IsOfStage c.k c.product (IsTermProduct c w s j) ts
+    product_polynomial = of_first c.k c.product well.ring well.no_zero_divisors 8 product_ranks (IsTermProduct c w s j) (omega arith) product_looks
 
   module _ (w s : ℕ) (low : w < length c.words) (terms : Terms) (before : IsOfStage c.k c.product (IsMix c w) terms) where
     sum_ranks : ℕ
     sum_ranks = terms_below (take s terms)
 
-    sum_looks : LooksAtFirst c.k (IsSum c w s) 8 sum_ranks
+    sum_looks : LooksAtFirst c.k (IsTermSum c w s) 8 sum_ranks
     unfolding sum_ranks
     sum_looks = record {
       some = λ p at. some_sum c well w s p at low terms before;
@@ -143,8 +143,8 @@ module _ (c : Circuit) (well : IsWellFormed c) where
           record { terms = terms; before = before; d = is.d; read = read_alone w sum_ranks p q is.d same (omega (arith, low, well.few)) is.read; element = sym moved ∙ here };
     }
 
-    pub sum_polynomial : (ts : Terms) × IsOfStage c.k c.product (IsSum c w s) ts
-    sum_polynomial = of_first c.k c.product well.ring well.no_zero_divisors 8 sum_ranks (IsSum c w s) (omega arith) sum_looks
+    pub sum_polynomial : (ts : Terms) × IsOfStage c.k c.product (IsTermSum c w s) ts
+    sum_polynomial = of_first c.k c.product well.ring well.no_zero_divisors 8 sum_ranks (IsTermSum c w s) (omega arith) sum_looks
 
   word_stage_polynomial : (name : Stage) → is_word_stage c name → (ts : Terms) × IsOfStage c.k c.product (word_stage_of c name) ts
   word_stage_polynomial (WordProduct w s j) is = product_polynomial w s j is.word is.term is.is_term

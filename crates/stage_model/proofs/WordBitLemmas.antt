@@ -9,7 +9,7 @@ use Rattle.poly_mixed.proofs.Values.{power_element}
 use Rattle.gf_field.specs.Power.{power}
 use Rattle.gf_field.specs.Polynomial.{sum_of_first}
 use Rattle.gf_field.specs.Trace.{frobenius}
-use Rattle.gf_field.specs.TraceLaws.{frobenius-power}
+use Rattle.gf_field.specs.laws.TraceLaws.{frobenius-power}
 use Rattle.gf_basis.specs.Dual.{linear_value}
 use Rattle.std.proofs.lemmas.Option.{get_or_from_slice_get}
 use Rattle.graph_core.proofs.ListLemmas.{get_below}

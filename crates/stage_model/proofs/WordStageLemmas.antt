@@ -13,7 +13,7 @@ use Rattle.poly_mixed.proofs.FieldLaws.{IsField, field_of}
 use Rattle.poly_mixed.proofs.Products.{term_value_element, value_element}
 use Rattle.stage_model.specs.Mix.{IsMix}
 use Rattle.stage_model.specs.Stage.{IsOfStage}
-use Rattle.stage_model.specs.WordStage.{first_bits, with_word, IsRead, IsTermOf, IsProduct, IsSum}
+use Rattle.stage_model.specs.WordStage.{first_bits, with_word, IsRead, IsTermOf, IsTermProduct, IsTermSum}
 use Rattle.stage_model.proofs.SortLemmas.{all_in}
 use Rattle.stage_model.proofs.MixLemmas.{one_mix}
 use Rattle.stage_model.proofs.SizeLemmas.{same_terms}
@@ -73,7 +73,7 @@ module _ (c : Circuit) (well : IsWellFormed c) where
   field : IsField c.k c.product
   field = field_of c.k c.product well.ring well.no_zero_divisors
 
-  pub some_product : (w s j : ℕ) (p : Point) → IsPoint c.k p → w < length c.words → (t : Monomial × ℕ) → IsTermOf c w s t → (e : ℕ) × IsProduct c w s j p e × (e < 2 ^ c.k)
+  pub some_product : (w s j : ℕ) (p : Point) → IsPoint c.k p → w < length c.words → (t : Monomial × ℕ) → IsTermOf c w s t → (e : ℕ) × IsTermProduct c w s j p e × (e < 2 ^ c.k)
   some_product w s j p at less t is =
       let read = some_read w p at less in
       let element : IsElement c.k t.1 = (term_in (IsTerm c.k) is.terms is.place t is.before.reduced.terms is.at).element in (
@@ -82,13 +82,13 @@ module _ (c : Circuit) (well : IsWellFormed c) where
         term_value_element field (with_word c.k w read.0 p) (with_point c.k c.k w read.0 p at) (first_bits c.k w j t) element,
       )
 
-  pub one_product : (w s j : ℕ) (p : Point) (x y : ℕ) → IsPoint c.k p → IsProduct c w s j p x → IsProduct c w s j p y → x ≡ y
+  pub one_product : (w s j : ℕ) (p : Point) (x y : ℕ) → IsPoint c.k p → IsTermProduct c w s j p x → IsTermProduct c w s j p y → x ≡ y
   one_product w s j p x y at a b =
       let t = one_term_of w s a.term b.term a.is_term b.is_term in
       let d = one_read w p a.d b.d at a.read b.read in
       sym a.element ∙ ((λ i. term_value c.product (with_word c.k w (d i) p) (first_bits c.k w j (t i))) ∙ b.element)
 
-  pub some_sum : (w s : ℕ) (p : Point) → IsPoint c.k p → w < length c.words → (ts : Terms) → IsOfStage c.k c.product (IsMix c w) ts → (e : ℕ) × IsSum c w s p e × (e < 2 ^ c.k)
+  pub some_sum : (w s : ℕ) (p : Point) → IsPoint c.k p → w < length c.words → (ts : Terms) → IsOfStage c.k c.product (IsMix c w) ts → (e : ℕ) × IsTermSum c w s p e × (e < 2 ^ c.k)
   some_sum w s p at less ts is =
       let read = some_read w p at less in (
         value c.product (with_word c.k w read.0 p) (take s ts),
@@ -96,7 +96,7 @@ module _ (c : Circuit) (well : IsWellFormed c) where
         value_element field (with_word c.k w read.0 p) (with_point c.k c.k w read.0 p at) (take s ts) (all_taken (IsTerm c.k) s ts is.reduced.terms),
       )
 
-  pub one_sum : (w s : ℕ) (p : Point) (x y : ℕ) → IsPoint c.k p → IsSum c w s p x → IsSum c w s p y → x ≡ y
+  pub one_sum : (w s : ℕ) (p : Point) (x y : ℕ) → IsPoint c.k p → IsTermSum c w s p x → IsTermSum c w s p y → x ≡ y
   one_sum w s p x y at a b =
       let ts = one_terms w a.terms b.terms a.before b.before in
       let d = one_read w p a.d b.d at a.read b.read in

@@ -1,7 +1,7 @@
 -- The output of a circuit as a polynomial in the bits of its words. Source: Lv, Kalla, Enescu, IEEE TCAD 2013.
 use Rattle.std.specs.Prelude.{ℕ, List, length}
 use Rattle.poly_mixed.specs.Polynomial.{Terms, Point, IsPoint, IsReduced, value}
-use Rattle.poly_mixed.specs.Uniqueness.{InBits}
+use Rattle.poly_mixed.specs.laws.Uniqueness.{InBits}
 use Rattle.circuit_model.specs.Word.{word_nets}
 use Rattle.circuit_model.specs.Circuit.{Circuit, IsInput}
 use Rattle.circuit_model.specs.Out.{IsOut}

@@ -1,7 +1,7 @@
 -- The output of a circuit as a polynomial in its words. Source: Pruss, Kalla, Enescu, DAC 2014.
 use Rattle.std.specs.Prelude.{length}
 use Rattle.poly_mixed.specs.Polynomial.{Terms, Point, IsPoint, IsReduced, value}
-use Rattle.poly_mixed.specs.Uniqueness.{InFirstWords}
+use Rattle.poly_mixed.specs.laws.Uniqueness.{InFirstWords}
 use Rattle.circuit_model.specs.Circuit.{Circuit}
 use Rattle.circuit_model.specs.Out.{IsOut}
 use Rattle.stage_model.specs.First.{InFirstRanks}

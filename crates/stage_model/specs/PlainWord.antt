@@ -10,7 +10,7 @@ use Rattle.circuit_model.specs.Flat.{circuit_of_parts}
 use Rattle.circuit_model.specs.WellFormed.{IsWellFormed}
 use Rattle.stage_model.specs.Mix.{IsMix}
 use Rattle.stage_model.specs.Stage.{IsOfStage}
-use Rattle.stage_model.specs.WordStage.{word_bits, first_bits, with_word, IsProduct, IsSum}
+use Rattle.stage_model.specs.WordStage.{word_bits, first_bits, with_word, IsTermProduct, IsTermSum}
 
 module _ (k : ℕ) (mul : ℕ → ℕ → ℕ) (elements : List ℕ) (word : ℕ) where
   -- at each point where the word's element has these bits, the polynomial's value is h of them
@@ -46,8 +46,8 @@ pub record HasBitAt (k count : ℕ) (terms : Terms) (word s j : ℕ) : Type 0 wh
 
 -- a polynomial of the product stage of each well-formed circuit with these words whose mix of the words before has these terms
 abbrev pub IsProductStage : ℕ → (ℕ → ℕ → ℕ) → List CircuitWord → Terms → ℕ → ℕ → ℕ → Terms → Type 0
-IsProductStage k mul words terms w s j ts = (net : NetList) (output : CircuitWord) → IsWellFormed (circuit_of_parts k mul net words output) → IsOfStage k mul (IsMix (circuit_of_parts k mul net words output) w) terms → IsOfStage k mul (IsProduct (circuit_of_parts k mul net words output) w s j) ts
+IsProductStage k mul words terms w s j ts = (net : NetList) (output : CircuitWord) → IsWellFormed (circuit_of_parts k mul net words output) → IsOfStage k mul (IsMix (circuit_of_parts k mul net words output) w) terms → IsOfStage k mul (IsTermProduct (circuit_of_parts k mul net words output) w s j) ts
 
 -- the same for the sum stage
 abbrev pub IsSumStage : ℕ → (ℕ → ℕ → ℕ) → List CircuitWord → Terms → ℕ → ℕ → Terms → Type 0
-IsSumStage k mul words terms w s ts = (net : NetList) (output : CircuitWord) → IsWellFormed (circuit_of_parts k mul net words output) → IsOfStage k mul (IsMix (circuit_of_parts k mul net words output) w) terms → IsOfStage k mul (IsSum (circuit_of_parts k mul net words output) w s) ts
+IsSumStage k mul words terms w s ts = (net : NetList) (output : CircuitWord) → IsWellFormed (circuit_of_parts k mul net words output) → IsOfStage k mul (IsMix (circuit_of_parts k mul net words output) w) terms → IsOfStage k mul (IsTermSum (circuit_of_parts k mul net words output) w s) ts

@@ -8,14 +8,14 @@ use Rattle.circuit_model.specs.Circuit.{Circuit}
 use Rattle.stage_model.specs.Cut.{CutOf}
 use Rattle.stage_model.specs.Stage.{HasSize, IsWithin}
 use Rattle.stage_model.specs.Listing.{Nothing}
-use Rattle.stage_model.specs.WordStage.{IsProduct, IsSum}
+use Rattle.stage_model.specs.WordStage.{IsTermProduct, IsTermSum}
 pub use Rattle.stage_model.specs.WordListing.{HasProduct, HasSum, IsEarlier}
 
 -- the stage of a name
 abbrev pub StageOf : Circuit → Stage → Point → ℕ → Type 0
 StageOf circuit (Cut t) = CutOf circuit t
-StageOf circuit (WordProduct w s j) = IsProduct circuit w s j
-StageOf circuit (WordSum w s) = IsSum circuit w s
+StageOf circuit (WordProduct w s j) = IsTermProduct circuit w s j
+StageOf circuit (WordSum w s) = IsTermSum circuit w s
 StageOf circuit (SpecProduct s j) = Nothing
 StageOf circuit (SpecSum s) = Nothing
 StageOf circuit (InstanceProduct i s j) = Nothing

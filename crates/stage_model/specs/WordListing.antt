@@ -5,7 +5,7 @@ use Rattle.poly_mixed.specs.Polynomial.{Point}
 use Rattle.poly_mixed.specs.declared.stage.Stage.{Stage}
 use Rattle.poly_mixed.specs.declared.stage.Stage.TheVariants.{Cut, WordProduct, WordSum, SpecProduct, SpecSum, InstanceProduct, InstanceSum}
 use Rattle.circuit_model.specs.Circuit.{Circuit}
-use Rattle.stage_model.specs.WordStage.{word_bits, IsTermOf, IsProduct, IsSum}
+use Rattle.stage_model.specs.WordStage.{word_bits, IsTermOf, IsTermProduct, IsTermSum}
 use Rattle.stage_model.specs.Listing.{Listing, Nothing}
 
 -- word w exists, term s of the polynomial in which it is replaced exists, and the term has a j-th bit of the word
@@ -35,8 +35,8 @@ is_word_stage circuit (InstanceSum i s) = ⊥
 -- the product or sum stage of a name
 abbrev pub word_stage_of : Circuit → Stage → Point → ℕ → Type 0
 word_stage_of circuit (Cut t) = Nothing
-word_stage_of circuit (WordProduct w s j) = IsProduct circuit w s j
-word_stage_of circuit (WordSum w s) = IsSum circuit w s
+word_stage_of circuit (WordProduct w s j) = IsTermProduct circuit w s j
+word_stage_of circuit (WordSum w s) = IsTermSum circuit w s
 word_stage_of circuit (SpecProduct s j) = Nothing
 word_stage_of circuit (SpecSum s) = Nothing
 word_stage_of circuit (InstanceProduct i s j) = Nothing

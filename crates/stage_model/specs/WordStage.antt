@@ -44,7 +44,7 @@ pub record IsTermOf (circuit : Circuit) (w s : ℕ) (term : Monomial × ℕ) : T
 
 -- the product stage: the term's coefficient and words, its bits of other words, and the first j of its bits of word w,
 -- multiplied, where these are read from the word
-pub record IsProduct (circuit : Circuit) (w s j : ℕ) (p : Point) (e : ℕ) : Type 0 where
+pub record IsTermProduct (circuit : Circuit) (w s j : ℕ) (p : Point) (e : ℕ) : Type 0 where
   pub term : Monomial × ℕ
   pub is_term : IsTermOf circuit w s term
   pub d : ℕ
@@ -52,7 +52,7 @@ pub record IsProduct (circuit : Circuit) (w s j : ℕ) (p : Point) (e : ℕ) : T
   pub element : term_value circuit.product (with_word circuit.k w d p) (first_bits circuit.k w j term) ≡ e
 
 -- the sum stage: the sum of the first s terms, where all bits of word w are read from the word
-pub record IsSum (circuit : Circuit) (w s : ℕ) (p : Point) (e : ℕ) : Type 0 where
+pub record IsTermSum (circuit : Circuit) (w s : ℕ) (p : Point) (e : ℕ) : Type 0 where
   pub terms : Terms
   pub before : IsOfStage circuit.k circuit.product (IsMix circuit w) terms
   pub d : ℕ

@@ -1,6 +1,6 @@
 //! The polynomial and the size of a cut out of its values at all bits.
 ghost use Rattle.std.specs.Prelude.{◌≡◌, ◌≤◌, ◌<◌, ◌↔◌, ◌∷◌, ◌++◌, [], length, IfOk, IfSome, IsSome};
-ghost use Rattle.gf_basis.specs.BasisParts.{IsOver};
+ghost use Rattle.gf_basis.specs.BasisParts.{IsBasisOver};
 ghost use Rattle.circuit_model.specs.Flat.{circuit_of_parts, word_of};
 ghost use Rattle.poly_mixed.specs.Polynomial.{IsReduced};
 ghost use Rattle.stage_model.specs.Variables.{variables_of};
@@ -58,7 +58,7 @@ fn poly_after<F: Field>(
     bits: &[bool],
 ) -> Result<Poly, AllocError>
     requires cut { cut ≤ length net.now.gates }
-    requires over { IsOver (F.degree field.now) (F.product field.now) output.now.basis }
+    requires over { IsBasisOver (F.degree field.now) (F.product field.now) output.now.basis }
     requires nets { length output.now.nets.items ≡ F.degree field.now }
     requires each { HasEachNet net.now variables.now }
     requires few { length bits.now ≤ length variables.now }
@@ -90,7 +90,7 @@ pub fn cut_poly<F: Field>(
     cut: u32,
 ) -> Result<Option<Poly>, AllocError>
     requires cut { cut ≤ length net.now.gates }
-    requires over { IsOver (F.degree field.now) (F.product field.now) output.now.basis }
+    requires over { IsBasisOver (F.degree field.now) (F.product field.now) output.now.basis }
     requires nets { length output.now.nets.items ≡ F.degree field.now }
     ensures tiny { IfOk result (λ found. IsSome found ↔ (length (variables_of (circuit_of_parts (F.degree field.now) (F.product field.now) net.now words.now output.now)) ≤ 20)) }
     ensures cut { IfOk result (λ found. IfSome found (λ q. IsOfStage (F.degree field.now) (F.product field.now) (CutOf (circuit_of_parts (F.degree field.now) (F.product field.now) net.now words.now output.now) cut) q.terms)) }
@@ -115,7 +115,7 @@ pub fn cut_size<F: Field>(
     cut: u32,
 ) -> Result<Option<usize>, AllocError>
     requires cut { cut ≤ length net.now.gates }
-    requires over { IsOver (F.degree field.now) (F.product field.now) output.now.basis }
+    requires over { IsBasisOver (F.degree field.now) (F.product field.now) output.now.basis }
     requires nets { length output.now.nets.items ≡ F.degree field.now }
     ensures tiny { IfOk result (λ found. IsSome found ↔ (length (variables_of (circuit_of_parts (F.degree field.now) (F.product field.now) net.now words.now output.now)) ≤ 20)) }
     ensures size { IfOk result (λ found. IfSome found (λ n. HasSize (F.degree field.now) (F.product field.now) (CutOf (circuit_of_parts (F.degree field.now) (F.product field.now) net.now words.now output.now) cut) n)) }

@@ -1,7 +1,7 @@
 //! The value of a cut at a point, gate by gate.
 ghost use Rattle.std.specs.Prelude.{◌≡◌, ◌≤◌, ◌<◌, ◌^◌, ℕ, List, length, IfOk, false, slice_index_or};
 ghost use Rattle.net_core.specs.NetList.{nets};
-ghost use Rattle.gf_basis.specs.BasisParts.{IsOver};
+ghost use Rattle.gf_basis.specs.BasisParts.{IsBasisOver};
 ghost use Rattle.circuit_model.specs.Flat.{circuit_of_parts, word_of};
 ghost use Rattle.poly_mixed.specs.Polynomial.{point};
 ghost use Rattle.stage_model.specs.Variables.{point_bits};
@@ -48,7 +48,7 @@ pub fn cut_value<F: Field>(
     bits: &[bool],
 ) -> Result<u64, AllocError>
     requires cut { cut ≤ length net.now.gates }
-    requires over { IsOver (F.degree field.now) (F.product field.now) output.now.basis }
+    requires over { IsBasisOver (F.degree field.now) (F.product field.now) output.now.basis }
     requires nets { length output.now.nets.items ≡ F.degree field.now }
     ensures cut { IfOk result (λ e. (ws : List ℕ) → IsCut net.now variables.now (word_of output.now) cut (point ws bits.now) e) }
     ensures element { IfOk result (λ e. e < 2 ^ F.degree field.now) }
@@ -72,7 +72,7 @@ pub fn cut_at<F: Field>(
     bits: &[bool],
 ) -> Result<u64, AllocError>
     requires cut { cut ≤ length net.now.gates }
-    requires over { IsOver (F.degree field.now) (F.product field.now) output.now.basis }
+    requires over { IsBasisOver (F.degree field.now) (F.product field.now) output.now.basis }
     requires nets { length output.now.nets.items ≡ F.degree field.now }
     ensures cut { IfOk result (λ e. (ws : List ℕ) → CutOf (circuit_of_parts (F.degree field.now) (F.product field.now) net.now words.now output.now) cut (point ws bits.now) e) }
     ensures element { IfOk result (λ e. e < 2 ^ F.degree field.now) }

@@ -4,7 +4,7 @@ ghost use Rattle.std.specs.Prelude.{◌⊎◌, ◌≤◌, length, ℕ};
 ghost use Rattle.gf_field.specs.Ring.{IsRing};
 ghost use Rattle.gf_field.specs.Field.{HasNoZeroDivisors};
 ghost use Rattle.poly_mixed.specs.Polynomial.{Terms, Point, IsPolynomialOf};
-ghost use Rattle.poly_mixed.specs.Uniqueness.{InFirstWords};
+ghost use Rattle.poly_mixed.specs.laws.Uniqueness.{InFirstWords};
 ghost use Rattle.poly_mixed.specs.declared.stage.Stage.{Stage};
 ghost use Rattle.circuit_model.specs.Circuit.{Circuit};
 ghost use Rattle.circuit_model.specs.WellFormed.{IsWellFormed};

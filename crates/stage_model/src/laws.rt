@@ -6,7 +6,7 @@ ghost use Rattle.gf_field.specs.Ring.{IsRing};
 ghost use Rattle.gf_field.specs.Field.{HasNoZeroDivisors};
 ghost use Rattle.poly_mixed.specs.Polynomial.{Terms, Point};
 ghost use Rattle.poly_mixed.specs.Cofactor.{LacksBit};
-ghost use Rattle.poly_mixed.specs.Uniqueness.{InBits};
+ghost use Rattle.poly_mixed.specs.laws.Uniqueness.{InBits};
 ghost use Rattle.circuit_model.specs.Word.{Word, HasElement, word_nets};
 ghost use Rattle.circuit_model.specs.Circuit.{Circuit, IsInput};
 ghost use Rattle.circuit_model.specs.WellFormed.{IsWellFormed};

@@ -1,6 +1,6 @@
 //! The bits of a word as polynomials in the word.
 ghost use Rattle.std.specs.Prelude.{◌<◌, IfOk};
-ghost use Rattle.gf_basis.specs.BasisParts.{IsOver, elements_of};
+ghost use Rattle.gf_basis.specs.BasisParts.{IsBasisOver, elements_of};
 ghost use Rattle.stage_model.specs.PlainWord.{IsBitOf};
 
 use gf_basis::Basis;
@@ -17,7 +17,7 @@ pub fn bit_poly<F: Field>(
     word: u32,
     place: u32,
 ) -> Result<Poly, AllocError>
-    requires over { IsOver (F.degree field.now) (F.product field.now) basis.now }
+    requires over { IsBasisOver (F.degree field.now) (F.product field.now) basis.now }
     requires word { word < 8 }
     requires place { place < F.degree field.now }
     ensures { IfOk result (λ q. IsBitOf (F.degree field.now) (F.product field.now) (elements_of basis.now) word place q.terms) }

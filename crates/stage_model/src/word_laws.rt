@@ -14,7 +14,7 @@ ghost use Rattle.circuit_model.specs.WellFormed.{IsWellFormed};
 ghost use Rattle.stage_model.specs.Variables.{rank_in, variables_of};
 ghost use Rattle.stage_model.specs.Mix.{IsMix};
 ghost use Rattle.stage_model.specs.Stage.{IsOfStage};
-ghost use Rattle.stage_model.specs.WordStage.{IsSum};
+ghost use Rattle.stage_model.specs.WordStage.{IsTermSum};
 ghost use Rattle.stage_model.specs.CutSteps.{AreCutSteps};
 ghost use Rattle.stage_model.specs.WordSteps.{AreWordSteps};
 
@@ -30,7 +30,7 @@ pub fn mix_in_later_bits()
 
 /// The sum of all terms of the polynomial in which a word is replaced is the mix of one word more.
 pub fn sum_of_all_terms()
-    ensures { (circuit : Circuit) (w : ℕ) (ts : Terms) (p : Point) (e : ℕ) → IsWellFormed circuit → IsPoint circuit.k p → w < length circuit.words → IsOfStage circuit.k circuit.product (IsMix circuit w) ts → IsSum circuit w (length ts) p e ↔ IsMix circuit (w + 1) p e }
+    ensures { (circuit : Circuit) (w : ℕ) (ts : Terms) (p : Point) (e : ℕ) → IsWellFormed circuit → IsPoint circuit.k p → w < length circuit.words → IsOfStage circuit.k circuit.product (IsMix circuit w) ts → IsTermSum circuit w (length ts) p e ↔ IsMix circuit (w + 1) p e }
 {}
 
 /// The pairs of the first eliminations in a sound net are the only ones.

@@ -1,6 +1,6 @@
 //! Stages of a word as polynomials, out of the terms of the polynomial in which the word is replaced.
 ghost use Rattle.std.specs.Prelude.{◌≡◌, ◌≤◌, ◌<◌, length, IfOk};
-ghost use Rattle.gf_basis.specs.BasisParts.{IsOver, elements_of};
+ghost use Rattle.gf_basis.specs.BasisParts.{IsBasisOver, elements_of};
 ghost use Rattle.poly_mixed.specs.Polynomial.{IsTerm};
 ghost use Rattle.stage_model.specs.WordStage.{word_bits};
 ghost use Rattle.std.specs.List.{AllByRecursion};
@@ -22,7 +22,7 @@ pub fn product_poly<F: Field>(
     term: &Term,
     count: usize,
 ) -> Result<Poly, AllocError>
-    requires over { IsOver (F.degree field.now) (F.product field.now) basis.now }
+    requires over { IsBasisOver (F.degree field.now) (F.product field.now) basis.now }
     requires word { word < 8 }
     requires term { IsTerm (F.degree field.now) term.now }
     requires count { count ≤ length (word_bits (F.degree field.now) word term.now) }
@@ -60,7 +60,7 @@ fn whole_poly<F: Field>(
     word: u32,
     term: &Term,
 ) -> Result<Poly, AllocError>
-    requires over { IsOver (F.degree field.now) (F.product field.now) basis.now }
+    requires over { IsBasisOver (F.degree field.now) (F.product field.now) basis.now }
     requires word { word < 8 }
     requires term { IsTerm (F.degree field.now) term.now }
     ensures { IfOk result (λ q. IsTermRead (F.degree field.now) (F.product field.now) (elements_of basis.now) word term.now q.terms) }
@@ -79,7 +79,7 @@ pub fn sum_poly<F: Field>(
     terms: &[Term],
     count: usize,
 ) -> Result<Poly, AllocError>
-    requires over { IsOver (F.degree field.now) (F.product field.now) basis.now }
+    requires over { IsBasisOver (F.degree field.now) (F.product field.now) basis.now }
     requires word { word < 8 }
     requires terms { AllByRecursion (IsTerm (F.degree field.now)) terms.now }
     requires count { count ≤ length terms.now }

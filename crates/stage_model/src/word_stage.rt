@@ -1,6 +1,6 @@
 //! The stages of words, out of the polynomial in which the word is replaced.
 ghost use Rattle.std.specs.Prelude.{◌≤◌, ◌<◌, ◌↔◌, length, IfOk, IfSome, IsSome};
-ghost use Rattle.gf_basis.specs.BasisParts.{IsOver, elements_of};
+ghost use Rattle.gf_basis.specs.BasisParts.{IsBasisOver, elements_of};
 ghost use Rattle.poly_mixed.specs.Polynomial.{IsReduced, IsTerm};
 ghost use Rattle.circuit_model.specs.Flat.{AreOver};
 ghost use Rattle.stage_model.specs.WordStage.{word_bits};
@@ -22,7 +22,7 @@ fn product_if<F: Field>(
     term: &Term,
     bit: u32,
 ) -> Result<Option<Poly>, AllocError>
-    requires over { IsOver (F.degree field.now) (F.product field.now) basis.now }
+    requires over { IsBasisOver (F.degree field.now) (F.product field.now) basis.now }
     requires word { word < 8 }
     requires term { IsTerm (F.degree field.now) term.now }
     ensures has { IfOk result (λ found. IsSome found ↔ ((1 ≤ bit) × (bit ≤ length (word_bits (F.degree field.now) word term.now)))) }

@@ -12,8 +12,6 @@ mod marks;
 mod places;
 mod plan;
 mod sources;
-#[cfg(test)]
-mod tests;
 mod unrolling;
 mod words;
 

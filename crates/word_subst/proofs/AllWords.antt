@@ -15,7 +15,7 @@ use Rattle.poly_mixed.specs.declared.stage.Stage.{Stage}
 use Rattle.poly_mixed.specs.declared.stage.Stage.TheVariants.{Cut, WordProduct, WordSum, SpecProduct, SpecSum, InstanceProduct, InstanceSum}
 use Rattle.stage_model.specs.Mix.{IsMix}
 use Rattle.stage_model.specs.Stage.{IsOfStage, IsWithin}
-use Rattle.stage_model.specs.WordStage.{word_bits, IsTermOf, IsProduct, IsSum}
+use Rattle.stage_model.specs.WordStage.{word_bits, IsTermOf, IsTermProduct, IsTermSum}
 use Rattle.stage_model.specs.WordSteps.{AreWordStepsTo}
 use Rattle.stage_model.specs.Listing.{IsOver, AreAllWithin, IsRefusal}
 use Rattle.stage_model.specs.WordListing.{HasProduct, HasSum, is_word_stage, word_stage_of, is_earlier_word_stage, IsEarlier, word_listing}
@@ -29,8 +29,8 @@ use Rattle.word_subst.proofs.Lifted.{lift_product, lift_sum, word_steps, size_of
 
 -- the stages of the first w words are within the bound
 pub record AreWithinTo (c : Circuit) (w bound : ℕ) : Type 0 where
-  pub products : (v s j : ℕ) → v < w → HasProduct c v s j → IsWithin c.k c.product (IsProduct c v s j) bound
-  pub sums : (v s : ℕ) → v < w → HasSum c v s → IsWithin c.k c.product (IsSum c v s) bound
+  pub products : (v s j : ℕ) → v < w → HasProduct c v s j → IsWithin c.k c.product (IsTermProduct c v s j) bound
+  pub sums : (v s : ℕ) → v < w → HasSum c v s → IsWithin c.k c.product (IsTermSum c v s) bound
 
 -- where the recorder tells its pairs, it holds what it held and then those of the first w words
 pub record IsRecordedTo (c : Circuit) (w : ℕ) (old new : Option (List Step)) : Type 0 where
@@ -71,7 +71,7 @@ module _ (c : Circuit) (well : IsWellFormed c) (w : ℕ) (word : Word) (at_word 
     products = λ v s j less has. elim (cases_order v w) [
       | inl same ↦
           let P : ℕ → Type 0 = λ i. HasProduct c i s j in
-          let Q : ℕ → Type 0 = λ i. IsWithin c.k c.product (IsProduct c i s j) bound in
+          let Q : ℕ → Type 0 = λ i. IsWithin c.k c.product (IsTermProduct c i s j) bound in
           let here = subst P same has in
           subst Q (sym same) (products_to c well w word at_word elements basis terms before bound (length terms) s j own (number_within c well w word at_word elements basis terms before s here.term here.is_term) here)
       | inr other ↦ elim other [ inl low ↦ all.products v s j low has | inr high ↦ absurd (omega arith) ]
@@ -79,7 +79,7 @@ module _ (c : Circuit) (well : IsWellFormed c) (w : ℕ) (word : Word) (at_word 
     sums = λ v s less has. elim (cases_order v w) [
       | inl same ↦
           let P : ℕ → Type 0 = λ i. HasSum c i s in
-          let Q : ℕ → Type 0 = λ i. IsWithin c.k c.product (IsSum c i s) bound in
+          let Q : ℕ → Type 0 = λ i. IsWithin c.k c.product (IsTermSum c i s) bound in
           let here = subst P same has in
           subst Q (sym same) (sums_to c well w word at_word elements basis terms before bound (length terms) s own (number_within c well w word at_word elements basis terms before s here.term here.is_term) here)
       | inr other ↦ elim other [ inl low ↦ all.sums v s low has | inr high ↦ absurd (omega arith) ]
@@ -99,28 +99,28 @@ module _ (c : Circuit) (well : IsWellFormed c) (w : ℕ) (word : Word) (at_word 
   module _ (all : AreWithinTo c w bound) where
     -- the stages before term s of the word
     module _ (s : ℕ) (t : Monomial × ℕ) (reached : IsReached c.k c.product elements w terms bound s t) where
-      product_before : (v r i : ℕ) → HasProduct c v r i → (v < w) ⊎ ((v ≡ w) × (r < s)) → IsWithin c.k c.product (IsProduct c v r i) bound
+      product_before : (v r i : ℕ) → HasProduct c v r i → (v < w) ⊎ ((v ≡ w) × (r < s)) → IsWithin c.k c.product (IsTermProduct c v r i) bound
       product_before v r i has (inl less) = all.products v r i less has
       product_before v r i has (inr same) =
           let P : ℕ → Type 0 = λ n. HasProduct c n r i in
-          let Q : ℕ → Type 0 = λ n. IsWithin c.k c.product (IsProduct c n r i) bound in
+          let Q : ℕ → Type 0 = λ n. IsWithin c.k c.product (IsTermProduct c n r i) bound in
           subst Q (sym same.0) (products_to c well w word at_word elements basis terms before bound reached.place r i reached.before (omega (arith, reached.number, same.1)) (subst P same.0 has))
 
-      sum_before : (v r : ℕ) → HasSum c v r → (v < w) ⊎ ((v ≡ w) × (r < s)) → IsWithin c.k c.product (IsSum c v r) bound
+      sum_before : (v r : ℕ) → HasSum c v r → (v < w) ⊎ ((v ≡ w) × (r < s)) → IsWithin c.k c.product (IsTermSum c v r) bound
       sum_before v r has (inl less) = all.sums v r less has
       sum_before v r has (inr same) =
           let P : ℕ → Type 0 = λ n. HasSum c n r in
-          let Q : ℕ → Type 0 = λ n. IsWithin c.k c.product (IsSum c n r) bound in
+          let Q : ℕ → Type 0 = λ n. IsWithin c.k c.product (IsTermSum c n r) bound in
           subst Q (sym same.0) (sums_to c well w word at_word elements basis terms before bound reached.place r reached.before (omega (arith, reached.number, same.1)) (subst P same.0 has))
 
       is_term : IsTermOf c w s t
       is_term = record { terms = terms; before = before; place = reached.place; number = reached.number; at = reached.at }
 
       -- a product of this term
-      own_product : (v r i : ℕ) → HasWithin c.k c.product elements w (product_at c.k c.product w t i) bound → v ≡ w → r ≡ s → IsWithin c.k c.product (IsProduct c v r i) bound
+      own_product : (v r i : ℕ) → HasWithin c.k c.product elements w (product_at c.k c.product w t i) bound → v ≡ w → r ≡ s → IsWithin c.k c.product (IsTermProduct c v r i) bound
       own_product v r i has first second =
-          let P : ℕ → Type 0 = λ n. IsWithin c.k c.product (IsProduct c n r i) bound in
-          let Q : ℕ → Type 0 = λ n. IsWithin c.k c.product (IsProduct c w n i) bound in
+          let P : ℕ → Type 0 = λ n. IsWithin c.k c.product (IsTermProduct c n r i) bound in
+          let Q : ℕ → Type 0 = λ n. IsWithin c.k c.product (IsTermProduct c w n i) bound in
           subst P (sym first) (subst Q (sym second) (product_within c well w word at_word elements basis terms before bound reached.place s i t reached.number reached.at has))
 
       -- it has its bits
@@ -166,7 +166,7 @@ module _ (c : Circuit) (well : IsWellFormed c) (w : ℕ) (word : Word) (at_word 
       product_over : (j n : ℕ) → IsProductOver c.k c.product elements w t bound j n → IsOver c.k c.product (word_listing c) bound (WordProduct w s j) n
       product_over j n over = record {
         listed = record { word = slice_get_within c.words w word at_word; term = t; is_term = is_term; some = over.some; bits = over.bits };
-        size = size_of c well w word at_word elements basis terms before (IsProduct c w s j) (product_at c.k c.product w t j) bound n (λ ts is. lift_product c well w word at_word elements basis terms before reached.place s j t ts reached.number reached.at is) over.over;
+        size = size_of c well w word at_word elements basis terms before (IsTermProduct c w s j) (product_at c.k c.product w t j) bound n (λ ts is. lift_product c well w word at_word elements basis terms before reached.place s j t ts reached.number reached.at is) over.over;
         over = over.over.over;
         before = before_product j n over;
       }
@@ -174,7 +174,7 @@ module _ (c : Circuit) (well : IsWellFormed c) (w : ℕ) (word : Word) (at_word 
       sum_over : (n : ℕ) → IsTermWithin c.k c.product elements w t bound → HasOver c.k c.product elements w (sum_at c.k c.product w terms s) bound n → IsOver c.k c.product (word_listing c) bound (WordSum w s) n
       sum_over n term over = record {
         listed = record { word = slice_get_within c.words w word at_word; term = t; is_term = is_term };
-        size = size_of c well w word at_word elements basis terms before (IsSum c w s) (sum_at c.k c.product w terms s) bound n (λ ts is. lift_sum c well w word at_word elements basis terms before s ts is) over;
+        size = size_of c well w word at_word elements basis terms before (IsTermSum c w s) (sum_at c.k c.product w terms s) bound n (λ ts is. lift_sum c well w word at_word elements basis terms before s ts is) over;
         over = over.over;
         before = before_sum term;
       }

@@ -11,7 +11,7 @@ use Rattle.poly_mixed.specs.Polynomial.{Terms, Point}
 use Rattle.poly_mixed.specs.Steps.{Step}
 use Rattle.stage_model.specs.Mix.{IsMix}
 use Rattle.stage_model.specs.Stage.{IsOfStage, HasSize, IsWithin}
-use Rattle.stage_model.specs.WordStage.{IsRead, IsTermOf, IsProduct, IsSum}
+use Rattle.stage_model.specs.WordStage.{IsRead, IsTermOf, IsTermProduct, IsTermSum}
 use Rattle.stage_model.specs.WordSteps.{IsMultiplier, IsStepOf, AreStepsOfTerms, AreStepsOfWord}
 use Rattle.stage_model.specs.WordListing.{HasProduct, HasSum}
 use Rattle.stage_model.specs.PlainWord.{IsReading, IsSumOf}
@@ -35,7 +35,7 @@ module _ (c : Circuit) (well : IsWellFormed c) (w : ℕ) (word : Word) (at_word 
   inside : w < length c.words
   inside = slice_get_within c.words w word at_word
 
-  pub lift_product : (place s j : ℕ) (t : Monomial × ℕ) (ts : Terms) → place + 1 ≡ s → slice_get terms place ≡ Some t → IsReading c.k c.product elements w (product_at c.k c.product w t j) ts → IsOfStage c.k c.product (IsProduct c w s j) ts
+  pub lift_product : (place s j : ℕ) (t : Monomial × ℕ) (ts : Terms) → place + 1 ≡ s → slice_get terms place ≡ Some t → IsReading c.k c.product elements w (product_at c.k c.product w t j) ts → IsOfStage c.k c.product (IsTermProduct c w s j) ts
   lift_product place s j t ts number at is = record {
     reduced = is.reduced;
     values = λ p at_p.
@@ -43,7 +43,7 @@ module _ (c : Circuit) (well : IsWellFormed c) (w : ℕ) (word : Word) (at_word 
         record { term = t; is_term = record { terms = terms; before = before; place = place; number = number; at = at }; d = read.0; read = read.1; element = sym (is.values p read.0 at_p (read_bits p read.0 read.1)) };
   }
 
-  pub lift_sum : (s : ℕ) (ts : Terms) → IsReading c.k c.product elements w (sum_at c.k c.product w terms s) ts → IsOfStage c.k c.product (IsSum c w s) ts
+  pub lift_sum : (s : ℕ) (ts : Terms) → IsReading c.k c.product elements w (sum_at c.k c.product w terms s) ts → IsOfStage c.k c.product (IsTermSum c w s) ts
   lift_sum s ts is = record {
     reduced = is.reduced;
     values = λ p at_p.
@@ -85,14 +85,14 @@ module _ (c : Circuit) (well : IsWellFormed c) (w : ℕ) (word : Word) (at_word 
   pub size_of : (stage : Point → ℕ → Type 0) (h : ℕ → Point → ℕ) (bound n : ℕ) → ((ts : Terms) → IsReading c.k c.product elements w h ts → IsOfStage c.k c.product stage ts) → HasOver c.k c.product elements w h bound n → HasSize c.k c.product stage n
   size_of stage h bound n lift has = record { terms = has.terms; is = lift has.terms has.is; size = has.size }
 
-  pub product_within : (bound place s j : ℕ) (t : Monomial × ℕ) → place + 1 ≡ s → slice_get terms place ≡ Some t → HasWithin c.k c.product elements w (product_at c.k c.product w t j) bound → IsWithin c.k c.product (IsProduct c w s j) bound
-  product_within bound place s j t number at has = within_of (IsProduct c w s j) (product_at c.k c.product w t j) bound (λ ts is. lift_product place s j t ts number at is) has
+  pub product_within : (bound place s j : ℕ) (t : Monomial × ℕ) → place + 1 ≡ s → slice_get terms place ≡ Some t → HasWithin c.k c.product elements w (product_at c.k c.product w t j) bound → IsWithin c.k c.product (IsTermProduct c w s j) bound
+  product_within bound place s j t number at has = within_of (IsTermProduct c w s j) (product_at c.k c.product w t j) bound (λ ts is. lift_product place s j t ts number at is) has
 
-  pub sum_within : (bound s : ℕ) → HasWithin c.k c.product elements w (sum_at c.k c.product w terms s) bound → IsWithin c.k c.product (IsSum c w s) bound
-  sum_within bound s has = within_of (IsSum c w s) (sum_at c.k c.product w terms s) bound (λ ts is. lift_sum s ts is) has
+  pub sum_within : (bound s : ℕ) → HasWithin c.k c.product elements w (sum_at c.k c.product w terms s) bound → IsWithin c.k c.product (IsTermSum c w s) bound
+  sum_within bound s has = within_of (IsTermSum c w s) (sum_at c.k c.product w terms s) bound (λ ts is. lift_sum s ts is) has
 
   -- the stages of the first n terms
-  pub products_to : (bound n s j : ℕ) → AreTermsWithin c.k c.product elements w terms n bound → s ≤ n → HasProduct c w s j → IsWithin c.k c.product (IsProduct c w s j) bound
+  pub products_to : (bound n s j : ℕ) → AreTermsWithin c.k c.product elements w terms n bound → s ≤ n → HasProduct c w s j → IsWithin c.k c.product (IsTermProduct c w s j) bound
   products_to bound n s j all most has =
       let at = term_here s has.term has.is_term in
       product_within bound has.is_term.place s j has.term has.is_term.number at (all.products has.is_term.place has.term (less has.is_term.place has.is_term.number) at j has.some has.bits)
@@ -100,7 +100,7 @@ module _ (c : Circuit) (well : IsWellFormed c) (w : ℕ) (word : Word) (at_word 
       less : (place : ℕ) → place + 1 ≡ s → place < n
       less place number = omega (arith, most, number)
 
-  pub sums_to : (bound n s : ℕ) → AreTermsWithin c.k c.product elements w terms n bound → s ≤ n → HasSum c w s → IsWithin c.k c.product (IsSum c w s) bound
+  pub sums_to : (bound n s : ℕ) → AreTermsWithin c.k c.product elements w terms n bound → s ≤ n → HasSum c w s → IsWithin c.k c.product (IsTermSum c w s) bound
   sums_to bound n s all most has = sum_within bound s (all.sums s (some has.is_term.place has.is_term.number) most)
     where
       some : (place : ℕ) → place + 1 ≡ s → 1 ≤ s

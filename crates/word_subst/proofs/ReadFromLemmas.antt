@@ -7,7 +7,7 @@ use Rattle.std.proofs.lemmas.Bool.{cases_lt, cases_order, eqb-false, false≢tru
 use Rattle.std.proofs.lemmas.Nat.Bits.{bit_at-lt}
 use Rattle.std.proofs.lemmas.List.{take_more}
 use Rattle.gf_field.specs.Power.{power}
-use Rattle.gf_field.specs.XorLaws.{xor_swap}
+use Rattle.gf_field.specs.laws.XorLaws.{xor_swap}
 use Rattle.std.specs.declared.cmp.Ordering.{Ordering}
 use Rattle.std.specs.declared.cmp.Ordering.TheVariants.{Less, Equal, Greater}
 use Rattle.std.specs.Ordering.{eq_by_cmp, is_eq}

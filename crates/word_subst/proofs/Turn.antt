@@ -11,7 +11,7 @@ use Rattle.net_words.specs.OneCycle.{IsOneCycle}
 use Rattle.gf_field.specs.Ring.{IsRing}
 use Rattle.gf_field.specs.Field.{HasNoZeroDivisors}
 use Rattle.gf_basis.specs.Basis.{IsBasis}
-use Rattle.gf_basis.specs.BasisParts.{elements_of, IsOver}
+use Rattle.gf_basis.specs.BasisParts.{elements_of, IsBasisOver}
 use Rattle.gf_basis.specs.declared.bases.Basis.{Basis}
 use Rattle.circuit_model.specs.Word.{Word}
 use Rattle.circuit_model.specs.WellFormed.{IsWellFormed}
@@ -63,5 +63,5 @@ module _ (k : ℕ) (mul : ℕ → ℕ → ℕ) (b : BoundNet) (bases : List Basi
         none : (i : ℕ) → 0 + i ≡ i
         none i = omega arith
 
-    pub is_over : (basis : Basis) → basis ≡ get_or bases v basis → IsOver k mul basis
+    pub is_over : (basis : Basis) → basis ≡ get_or bases v basis → IsBasisOver k mul basis
     is_over basis got = are.each basis (v, got_read bases v basis inside got)

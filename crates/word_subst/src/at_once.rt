@@ -2,7 +2,7 @@
 //! linear forms are multiplied with sums of terms in place of one term after another.
 ghost use Rattle.std.specs.Prelude.{◌≡◌, ◌≢◌, ◌<◌, ◌≤◌, ◌+◌, ◌*◌, ◌^◌, ◌++◌, ◌∷◌, [], not, map, length, slice_index, if◌then◌else◌, IfOk, IfSome, IsTrue, OnOk};
 ghost use Rattle.std.specs.List.{AllByRecursion, filter};
-ghost use Rattle.gf_basis.specs.BasisParts.{IsOver, elements_of};
+ghost use Rattle.gf_basis.specs.BasisParts.{IsBasisOver, elements_of};
 ghost use Rattle.poly_mixed.specs.Monomial.{has_bit};
 ghost use Rattle.poly_mixed.specs.Polynomial.{IsReduced, IsTerm};
 ghost use Rattle.word_subst.specs.Univariate.{IsUnivariate};
@@ -232,7 +232,7 @@ fn read_all<F: Field>(
     rest: &Mono,
     _bound: u32,
 ) -> Result<Poly, AllocError>
-    requires over { IsOver (F.degree field.now) (F.product field.now) basis.now }
+    requires over { IsBasisOver (F.degree field.now) (F.product field.now) basis.now }
     requires word { word < 8 }
     requires terms { IsReduced (F.degree field.now) terms.now }
     requires rest { AllByRecursion (λ t. rest_of (F.degree field.now) word t.0 ≡ rest.now) terms.now }
@@ -257,7 +257,7 @@ pub fn at_once<F: Field>(
     bits: &Poly,
     bound: u32,
 ) -> Result<Option<Poly>, AllocError>
-    requires over { IsOver (F.degree field.now) (F.product field.now) basis.now }
+    requires over { IsBasisOver (F.degree field.now) (F.product field.now) basis.now }
     requires word { word < 8 }
     requires bits { IsReduced (F.degree field.now) bits.now.terms }
     ensures { IfOk result (λ o. IfSome o (λ q. IsReadAtOnce (F.degree field.now) (F.product field.now) (elements_of basis.now) word bits.now.terms bound q.terms)) }

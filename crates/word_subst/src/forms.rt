@@ -1,6 +1,6 @@
 //! The bits of a word as polynomials in the word.
 ghost use Rattle.std.specs.Prelude.{◌≡◌, ◌<◌, ◌++◌, ◌^◌, [], IfOk, OnOk};
-ghost use Rattle.gf_basis.specs.BasisParts.{IsOver, elements_of};
+ghost use Rattle.gf_basis.specs.BasisParts.{IsBasisOver, elements_of};
 ghost use Rattle.poly_mixed.specs.Sum.{with_coefficient};
 ghost use Rattle.word_subst.specs.Forms.{IsForm, AreForms};
 
@@ -26,7 +26,7 @@ fn form<F: Field>(
     basis: &Basis,
     place: u32,
 ) -> Result<Univariate, AllocError>
-    requires over { IsOver (F.degree field.now) (F.product field.now) basis.now }
+    requires over { IsBasisOver (F.degree field.now) (F.product field.now) basis.now }
     requires place { place < F.degree field.now }
     ensures { IfOk result (IsForm (F.degree field.now) (F.product field.now) (elements_of basis.now) place) }
 {
@@ -44,7 +44,7 @@ pub fn forms<F: Field>(
     field: &F,
     basis: &Basis,
 ) -> Result<Vec<Univariate>, AllocError>
-    requires over { IsOver (F.degree field.now) (F.product field.now) basis.now }
+    requires over { IsBasisOver (F.degree field.now) (F.product field.now) basis.now }
     ensures { IfOk result (λ v. AreForms (F.degree field.now) (F.product field.now) (elements_of basis.now) v.items) }
 {
     let mut list = Vec::new(alloc);

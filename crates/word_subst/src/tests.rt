@@ -1,6 +1,6 @@
 //! Words in place of bits over the fields of 2, 4 and 2^64 elements, worked by hand.
 ghost use Rattle.std.specs.Prelude.{Some, map, IfOk};
-ghost use Rattle.gf_basis.specs.BasisParts.{IsOver};
+ghost use Rattle.gf_basis.specs.BasisParts.{IsBasisOver};
 ghost use Rattle.poly_mixed.specs.Polynomial.{IsReduced};
 
 use crate::word::one_word;
@@ -114,7 +114,7 @@ fn replaced<F: Field, T: Steps>(
     bound: u32,
     steps: &mut T,
 ) -> Result<Poly, ReduceFault>
-    requires over { IsOver (F.degree field.now) (F.product field.now) basis.now }
+    requires over { IsBasisOver (F.degree field.now) (F.product field.now) basis.now }
     requires bits { IsReduced (F.degree field.now) bits.now.terms }
     ensures { IfOk result (λ q. IsReduced (F.degree field.now) q.terms) }
 {

@@ -3,7 +3,7 @@ ghost use Rattle.std.specs.Prelude.{◌≡◌, ◌≢◌, ◌<◌, ◌≤◌, �
 ghost use Rattle.std.specs.List.{AllByRecursion};
 ghost use Rattle.std.specs.List.Sorted.{IsStrictlySortedBy};
 ghost use Rattle.std.specs.Map.{keys_of};
-ghost use Rattle.gf_basis.specs.BasisParts.{IsOver, elements_of};
+ghost use Rattle.gf_basis.specs.BasisParts.{IsBasisOver, elements_of};
 ghost use Rattle.poly_mixed.specs.Monomial.{text_cmp};
 ghost use Rattle.poly_mixed.specs.Polynomial.{IsReduced, IsTerm};
 ghost use Rattle.stage_model.specs.WordStage.{word_bits};
@@ -80,7 +80,7 @@ fn term_by_term<F: Field, T: Steps>(
     bound: u32,
     steps: &mut T,
 ) -> Result<Poly, ReduceFault>
-    requires over { IsOver (F.degree field.now) (F.product field.now) basis.now }
+    requires over { IsBasisOver (F.degree field.now) (F.product field.now) basis.now }
     requires word { word < 8 }
     requires bits { IsReduced (F.degree field.now) bits.now.terms }
     requires few { length bits.now.terms < 2 ^ 32 }
@@ -129,7 +129,7 @@ pub fn one_word<F: Field, T: Steps>(
     bound: u32,
     steps: &mut T,
 ) -> Result<Poly, ReduceFault>
-    requires over { IsOver (F.degree field.now) (F.product field.now) basis.now }
+    requires over { IsBasisOver (F.degree field.now) (F.product field.now) basis.now }
     requires word { word < 8 }
     requires bits { IsReduced (F.degree field.now) bits.now.terms }
     requires few { length bits.now.terms < 2 ^ 32 }

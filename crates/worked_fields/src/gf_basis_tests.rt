@@ -1,6 +1,6 @@
 //! Bases whose duals, bits and linear forms come from outside.
 
-ghost use Rattle.gf_basis.specs.BasisParts.{IsOver};
+ghost use Rattle.gf_basis.specs.BasisParts.{IsBasisOver};
 
 use gf_basis::{Basis, BasisFault};
 use gf_field::{Field, Ring, Ring2k, is_element};
@@ -15,7 +15,7 @@ fn field(rt: &impl Abort, modulus: u128) -> Proved<Ring2k> {
 
 // the bits of an element, from which the element comes back
 fn bits<F: Field>(rt: &impl Abort, field: &F, basis: &Basis, element: u64) -> u64
-    requires { IsOver (F.degree field.now) (F.product field.now) basis.now }
+    requires { IsBasisOver (F.degree field.now) (F.product field.now) basis.now }
 {
     assert!(rt; is_element(field, element));
     let bits = basis.bits_of(field, element);
@@ -24,14 +24,14 @@ fn bits<F: Field>(rt: &impl Abort, field: &F, basis: &Basis, element: u64) -> u6
 }
 
 fn dual<F: Field>(rt: &impl Abort, field: &F, basis: &Basis, i: u32) -> u64
-    requires { IsOver (F.degree field.now) (F.product field.now) basis.now }
+    requires { IsBasisOver (F.degree field.now) (F.product field.now) basis.now }
 {
     assert!(rt; i < field.k());
     basis.dual(i)
 }
 
 fn element<F: Field>(rt: &impl Abort, field: &F, basis: &Basis, i: u32) -> u64
-    requires { IsOver (F.degree field.now) (F.product field.now) basis.now }
+    requires { IsBasisOver (F.degree field.now) (F.product field.now) basis.now }
 {
     assert!(rt; i < field.k());
     basis.element(i)

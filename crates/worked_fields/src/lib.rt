@@ -1,4 +1,4 @@
-//! Tests alone: rings, fields, matrices, towers and bases, whose values come from outside.
+//! Tests alone: rings, fields, matrices, towers, isomorphisms and bases, whose values come from outside.
 //! They stand in a crate of their own, since a crate with tests is proved twice.
 #![tactic(auto)]
 
@@ -6,6 +6,8 @@
 mod gf_basis_tests;
 #[cfg(test)]
 mod gf_field_tests;
+#[cfg(test)]
+mod gf_iso_tests;
 #[cfg(test)]
 mod gf_tower_tests;
 #[cfg(test)]

@@ -1,71 +1,30 @@
 //! Circuits over the field of 4 elements, worked by hand.
-ghost use Rattle.std.specs.Prelude.{◌≡◌, ◌<◌, IfOk, length};
-ghost use Rattle.net_core.specs.NetList.{nets};
-ghost use Rattle.gf_basis.specs.BasisParts.{IsOver};
+ghost use Rattle.std.specs.Prelude.{IfOk};
+ghost use Rattle.gf_basis.specs.BasisParts.{IsBasisOver};
 
+use crate::circuits::{field, multiplier, net};
 use circuit_model::{CircuitWord, output};
 use gf_basis::Basis;
-use gf_field::{Field, Ring2k, is_element};
-use irreducible::Proved;
-use net_core::{Net, NetFault, NetMaker};
+use gf_field::{Field, is_element};
+use net_core::Net;
 use net_words::Role;
 use std::alloc::{AllocError, Global};
 use std::process::Abort;
 use std::test::Fail;
 
-// The field of 4 elements, whose element 2 is a root of x^2 + x + 1.
-fn field(rt: &impl Abort) -> Proved<Ring2k> {
-    let ring = Ring2k::new(0x7).expect(rt, "a modulus");
-    Proved::new(ring).ok().expect(rt, "a field")
-}
-
-// A maker with nets that have these labels, numbered from 0.
-fn with_labels(alloc: Global, labels: &[&str]) -> Result<NetMaker, NetFault>
-    ensures { IfOk result (λ maker. nets maker ≡ length labels.now) }
-{
-    let mut maker = NetMaker::new(alloc);
-    for label in labels {
-        maker.fresh(label)?;
-    }
-    Ok(maker)
-}
-
-// Nets 0 and 1 are the first factor, 2 and 3 the second, 4 and 5 the product, 6 to 9 the products of bits.
-fn multiplier(alloc: Global) -> Result<Net, NetFault> {
-    let labels = [
-        "a0", "a1", "b0", "b1", "z0", "z1", "p0", "p1", "p2", "p3", "t",
-    ];
-    let mut maker = with_labels(alloc, &labels)?;
-    maker.input(0)?;
-    maker.input(1)?;
-    maker.input(2)?;
-    maker.input(3)?;
-    maker.gate(6, &[0, 2], 8)?;
-    maker.gate(7, &[0, 3], 8)?;
-    maker.gate(8, &[1, 2], 8)?;
-    maker.gate(9, &[1, 3], 8)?;
-    maker.gate(4, &[6, 9], 6)?;
-    maker.gate(10, &[7, 8], 6)?;
-    maker.gate(5, &[10, 9], 6)?;
-    maker.finish()
-}
-
 // Nets 0 and 1 are a factor and 2 and 3 another, which nothing reads; 5 is 1. Net 4 drives 6, which leads nowhere.
-fn wires(alloc: Global) -> Result<Net, NetFault> {
-    let mut maker = with_labels(alloc, &["a0", "a1", "b0", "b1", "u", "one", "t"])?;
-    maker.input(0)?;
-    maker.input(1)?;
-    maker.input(2)?;
-    maker.input(3)?;
-    maker.input(4)?;
-    maker.gate(5, &[], 1)?;
-    maker.gate(6, &[4], 2)?;
-    maker.finish()
+fn wires(rt: &impl Abort, alloc: Global) -> Net {
+    let text = b"\
+        .model wires\n\
+        .inputs a0 a1 b0 b1 u\n\
+        .names one\n1\n\
+        .names u t\n1 1\n";
+    net(rt, alloc, text)
 }
 
 // An input word with the polynomial basis.
 fn word<F: Field>(alloc: Global, field: &F, nets: &[u32]) -> Result<CircuitWord, AllocError>
-    ensures { IfOk result (λ w. IsOver (F.degree field.now) (F.product field.now) w.basis) }
+    ensures { IfOk result (λ w. IsBasisOver (F.degree field.now) (F.product field.now) w.basis) }
 {
     Ok(CircuitWord {
         role: Role::Input,
@@ -83,7 +42,7 @@ fn output_with<F: Field>(
     basis: Basis,
     xs: [u64; 2],
 ) -> Result<Option<u64>, AllocError>
-    requires { IsOver (F.degree field.now) (F.product field.now) basis }
+    requires { IsBasisOver (F.degree field.now) (F.product field.now) basis }
 {
     let [x, y] = xs;
     let first = word(alloc, field, nets[0])?;
@@ -120,7 +79,7 @@ fn output_at<F: Field>(
 fn products_of_4_elements(rt: HostRuntime) -> Result<(), Fail> {
     let alloc = rt.alloc();
     let field = field(&rt);
-    let net = multiplier(alloc)?;
+    let net = multiplier(&rt, alloc);
     let table = [0, 0, 0, 0, 0, 1, 2, 3, 0, 2, 3, 1, 0, 3, 1, 2];
     for (i, product) in table.iter().enumerate() {
         let xs = [i as u64 / 4, i as u64 % 4];
@@ -135,7 +94,7 @@ fn products_of_4_elements(rt: HostRuntime) -> Result<(), Fail> {
 fn words_that_do_not_fit(rt: HostRuntime) -> Result<(), Fail> {
     let alloc = rt.alloc();
     let field = field(&rt);
-    let net = multiplier(alloc)?;
+    let net = multiplier(&rt, alloc);
     let gate = output_at(alloc, &field, &net, [&[0, 1], &[2, 9], &[4, 5]], [0, 3])?;
     assert_eq!(rt; gate, None);
     let twice = output_at(alloc, &field, &net, [&[0, 1], &[1, 3], &[4, 5]], [2, 2])?;
@@ -150,7 +109,7 @@ fn words_that_do_not_fit(rt: HostRuntime) -> Result<(), Fail> {
 fn an_input_and_a_constant(rt: HostRuntime) -> Result<(), Fail> {
     let alloc = rt.alloc();
     let field = field(&rt);
-    let net = wires(alloc)?;
+    let net = wires(&rt, alloc);
     for (x, element) in [2, 3, 2, 3].iter().enumerate() {
         let found = output_at(
             alloc,
@@ -169,7 +128,7 @@ fn an_input_and_a_constant(rt: HostRuntime) -> Result<(), Fail> {
 fn another_basis(rt: HostRuntime) -> Result<(), Fail> {
     let alloc = rt.alloc();
     let field = field(&rt);
-    let net = wires(alloc)?;
+    let net = wires(&rt, alloc);
     for (x, element) in [0, 2, 3, 1].iter().enumerate() {
         let basis = match Basis::normal(&field, 2) {
             Ok(basis) => basis,

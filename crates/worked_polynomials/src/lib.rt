@@ -5,6 +5,10 @@
 #[cfg(test)]
 mod circuit_model_tests;
 #[cfg(test)]
+mod circuits;
+#[cfg(test)]
+mod job_plain_tests;
+#[cfg(test)]
 mod poly_mixed_tests;
 #[cfg(test)]
 mod rato_reduce_net_tests;

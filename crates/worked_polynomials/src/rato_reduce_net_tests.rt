@@ -1,76 +1,63 @@
 //! Small nets over the field of 4 elements, with sizes of cuts and values worked by hand, beside the plain programs.
+use crate::circuits::{field, net};
 use crate::rato_reduce_plain_tests::{compare, compare_one, word};
-use crate::rato_reduce_tests::{circuit, field, with_names};
-use net_core::{Net, NetFault};
+use crate::rato_reduce_tests::circuit;
+use net_core::Net;
 use net_words::Role;
 use std::alloc::Global;
 use std::process::Abort;
 use std::test::Fail;
 
 // A net and a constant: net 2 is 1.
-fn wires(rt: &impl Abort, alloc: Global) -> Result<Net, NetFault> {
-    let mut maker = with_names(rt, alloc, &["a0", "a1", "one"])?;
-    maker.input(0)?;
-    maker.input(1)?;
-    maker.gate(2, &[], 1)?;
-    maker.finish()
+fn wires(rt: &impl Abort, alloc: Global) -> Net {
+    net(rt, alloc, b".model wires\n.inputs a0 a1\n.names one\n1\n")
 }
 
 // Net 2 is net 0, net 3 its negation, and net 4 is 0.
-fn copies(rt: &impl Abort, alloc: Global) -> Result<Net, NetFault> {
-    let mut maker = with_names(rt, alloc, &["a0", "a1", "w", "z0", "z1"])?;
-    maker.input(0)?;
-    maker.input(1)?;
-    maker.gate(2, &[0], 2)?;
-    maker.gate(3, &[2], 1)?;
-    maker.gate(4, &[], 0)?;
-    maker.finish()
+fn copies(rt: &impl Abort, alloc: Global) -> Net {
+    let text = b".model copies\n.inputs a0 a1\n.names a0 w\n1 1\n.names w z0\n0 1\n.names z1\n";
+    net(rt, alloc, text)
 }
 
 // Net 2 is net 0 and itself, net 3 is what two of its inputs are, and two of them are net 1.
-fn twice(rt: &impl Abort, alloc: Global) -> Result<Net, NetFault> {
-    let mut maker = with_names(rt, alloc, &["a0", "a1", "z0", "z1"])?;
-    maker.input(0)?;
-    maker.input(1)?;
-    maker.gate(2, &[0, 0], 8)?;
-    maker.gate(3, &[1, 0, 1], 0xe8)?;
-    maker.finish()
+fn twice(rt: &impl Abort, alloc: Global) -> Net {
+    let text = b"\
+        .model twice\n\
+        .inputs a0 a1\n\
+        .names a0 a0 z0\n11 1\n\
+        .names a1 a0 a1 z1\n11- 1\n1-1 1\n-11 1\n";
+    net(rt, alloc, text)
 }
 
 // Net 2 is the disjunction of the inputs, and net 3, which leads nowhere, their sum.
-fn disjunction(rt: &impl Abort, alloc: Global) -> Result<Net, NetFault> {
-    let mut maker = with_names(rt, alloc, &["a0", "a1", "z", "u"])?;
-    maker.input(0)?;
-    maker.input(1)?;
-    maker.gate(2, &[0, 1], 14)?;
-    maker.gate(3, &[0, 1], 6)?;
-    maker.finish()
+fn disjunction(rt: &impl Abort, alloc: Global) -> Net {
+    let text = b"\
+        .model disjunction\n\
+        .inputs a0 a1\n\
+        .names a0 a1 z\n1- 1\n-1 1\n\
+        .names a0 a1 u\n10 1\n01 1\n";
+    net(rt, alloc, text)
 }
 
 // Net 6 has six inputs, in an order of its own, and a table in which no input goes without effect; net 7 is the sum of
 // net 6 and an input.
-fn six(rt: &impl Abort, alloc: Global) -> Result<Net, NetFault> {
-    let names = ["a0", "a1", "b0", "b1", "c0", "c1", "z0", "z1"];
-    let mut maker = with_names(rt, alloc, &names)?;
-    maker.input(0)?;
-    maker.input(1)?;
-    maker.input(2)?;
-    maker.input(3)?;
-    maker.input(4)?;
-    maker.input(5)?;
-    maker.gate(6, &[3, 0, 5, 1, 4, 2], 0x8000_0000_0100_1000)?;
-    maker.gate(7, &[6, 1], 6)?;
-    maker.finish()
+fn six(rt: &impl Abort, alloc: Global) -> Net {
+    let text = b"\
+        .model six\n\
+        .inputs a0 a1 b0 b1 c0 c1\n\
+        .names b1 a0 c1 a1 c0 b0 z0\n001100 1\n000110 1\n111111 1\n\
+        .names z0 a1 z1\n10 1\n01 1\n";
+    net(rt, alloc, text)
 }
 
 // Net 2 has six inputs, which are two nets in turn, and net 3 has one of them twice and net 2 four times.
-fn six_of_two(rt: &impl Abort, alloc: Global) -> Result<Net, NetFault> {
-    let mut maker = with_names(rt, alloc, &["a0", "a1", "z0", "z1"])?;
-    maker.input(0)?;
-    maker.input(1)?;
-    maker.gate(2, &[0, 1, 1, 0, 1, 0], 0x8000_0000_0000_0001)?;
-    maker.gate(3, &[2, 1, 2, 2, 1, 2], 0x7fff_ffff_ffff_fffe)?;
-    maker.finish()
+fn six_of_two(rt: &impl Abort, alloc: Global) -> Net {
+    let text = b"\
+        .model six_of_two\n\
+        .inputs a0 a1\n\
+        .names a0 a1 a1 a0 a1 a0 z0\n000000 1\n111111 1\n\
+        .names z0 a1 z0 z0 a1 z0 z1\n000000 0\n111111 0\n";
+    net(rt, alloc, text)
 }
 
 // An output bit that is an input, and one that is 1.
@@ -79,7 +66,7 @@ fn an_input_and_a_constant(rt: HostRuntime) -> Result<(), Fail> {
     let alloc = rt.alloc();
     let field = field(&rt);
     let text = b"gfsig 1\nfield 0x7\nword A input poly a0 a1\nword Z output poly a0 one\n";
-    let circuit = circuit(&rt, alloc, wires(&rt, alloc)?, text);
+    let circuit = circuit(&rt, alloc, wires(&rt, alloc), text);
     compare_one(&rt, alloc, &field, &circuit, &[0, 2], &[2, 2], [2, 3, 2, 3])?;
     Ok(())
 }
@@ -90,7 +77,7 @@ fn wires_and_zero(rt: HostRuntime) -> Result<(), Fail> {
     let alloc = rt.alloc();
     let field = field(&rt);
     let text = b"gfsig 1\nfield 0x7\nword A input poly a0 a1\nword Z output poly z0 z1\n";
-    let circuit = circuit(&rt, alloc, copies(&rt, alloc)?, text);
+    let circuit = circuit(&rt, alloc, copies(&rt, alloc), text);
     compare_one(
         &rt,
         alloc,
@@ -109,7 +96,7 @@ fn a_net_twice(rt: HostRuntime) -> Result<(), Fail> {
     let alloc = rt.alloc();
     let field = field(&rt);
     let text = b"gfsig 1\nfield 0x7\nword A input poly a0 a1\nword Z output poly z0 z1\n";
-    let circuit = circuit(&rt, alloc, twice(&rt, alloc)?, text);
+    let circuit = circuit(&rt, alloc, twice(&rt, alloc), text);
     compare_one(
         &rt,
         alloc,
@@ -128,7 +115,7 @@ fn one_net_for_both_bits(rt: HostRuntime) -> Result<(), Fail> {
     let alloc = rt.alloc();
     let field = field(&rt);
     let text = b"gfsig 1\nfield 0x7\nword A input poly a0 a1\nword Z output poly z z\n";
-    let circuit = circuit(&rt, alloc, disjunction(&rt, alloc)?, text);
+    let circuit = circuit(&rt, alloc, disjunction(&rt, alloc), text);
     compare_one(
         &rt,
         alloc,
@@ -147,7 +134,7 @@ fn a_gate_that_reaches_no_output(rt: HostRuntime) -> Result<(), Fail> {
     let alloc = rt.alloc();
     let field = field(&rt);
     let text = b"gfsig 1\nfield 0x7\nword A input poly a0 a1\nword Z output poly z a1\n";
-    let circuit = circuit(&rt, alloc, disjunction(&rt, alloc)?, text);
+    let circuit = circuit(&rt, alloc, disjunction(&rt, alloc), text);
     compare_one(
         &rt,
         alloc,
@@ -166,7 +153,7 @@ fn six_inputs_of_two_nets(rt: HostRuntime) -> Result<(), Fail> {
     let alloc = rt.alloc();
     let field = field(&rt);
     let text = b"gfsig 1\nfield 0x7\nword A input poly a0 a1\nword Z output poly z0 z1\n";
-    let circuit = circuit(&rt, alloc, six_of_two(&rt, alloc)?, text);
+    let circuit = circuit(&rt, alloc, six_of_two(&rt, alloc), text);
     compare_one(
         &rt,
         alloc,
@@ -186,7 +173,7 @@ fn six_inputs(rt: HostRuntime) -> Result<(), Fail> {
     let field = field(&rt);
     let text =
         b"gfsig 1\nfield 0x7\nword A input poly a0 a1\nword B input poly b0 b1\nword C input poly c0 c1\nword Z output poly z0 z1\n";
-    let circuit = circuit(&rt, alloc, six(&rt, alloc)?, text);
+    let circuit = circuit(&rt, alloc, six(&rt, alloc), text);
     let first = word(&rt, alloc, &field, Role::Input, &[0, 1])?;
     let second = word(&rt, alloc, &field, Role::Input, &[2, 3])?;
     let third = word(&rt, alloc, &field, Role::Input, &[4, 5])?;

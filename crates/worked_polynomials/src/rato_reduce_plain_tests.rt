@@ -1,7 +1,7 @@
 //! The elimination beside the plain programs: each cut's size with each bound up to the largest, and the output at each
 //! input.
 ghost use Rattle.std.specs.Prelude.{◌≡◌, length, IfOk};
-ghost use Rattle.gf_basis.specs.BasisParts.{IsOver};
+ghost use Rattle.gf_basis.specs.BasisParts.{IsBasisOver};
 ghost use Rattle.circuit_model.specs.Flat.{AreOver};
 
 use crate::rato_reduce_tests::{outcome, over, reduced};
@@ -23,7 +23,7 @@ pub(crate) fn word<F: Field>(
     role: Role,
     nets: &[u32],
 ) -> Result<CircuitWord, AllocError>
-    ensures over { IfOk result (λ w. IsOver (F.degree field.now) (F.product field.now) w.basis) }
+    ensures over { IfOk result (λ w. IsBasisOver (F.degree field.now) (F.product field.now) w.basis) }
     ensures nets { IfOk result (λ w. length w.nets.items ≡ F.degree field.now) }
 {
     assert_eq!(rt; nets.len(), field.k() as usize);
@@ -44,7 +44,7 @@ fn size<F: Field>(
     output: &CircuitWord,
     cut: usize,
 ) -> Result<usize, AllocError>
-    requires over { IsOver (F.degree field.now) (F.product field.now) output.now.basis }
+    requires over { IsBasisOver (F.degree field.now) (F.product field.now) output.now.basis }
     requires nets { length output.now.nets.items ≡ F.degree field.now }
 {
     assert!(rt; cut <= net.gates().len() && cut < 10);
@@ -61,7 +61,7 @@ fn sizes<F: Field>(
     words: &[CircuitWord],
     output: &CircuitWord,
 ) -> Result<Vec<usize>, AllocError>
-    requires over { IsOver (F.degree field.now) (F.product field.now) output.now.basis }
+    requires over { IsBasisOver (F.degree field.now) (F.product field.now) output.now.basis }
     requires nets { length output.now.nets.items ≡ F.degree field.now }
 {
     let mut list = Vec::new(alloc);
@@ -95,7 +95,7 @@ fn plain_output<F: Field>(
     xs: &[u64],
 ) -> Result<Option<u64>, AllocError>
     requires words { AreOver (F.degree field.now) (F.product field.now) words.now }
-    requires over { IsOver (F.degree field.now) (F.product field.now) to.now.basis }
+    requires over { IsBasisOver (F.degree field.now) (F.product field.now) to.now.basis }
 {
     assert_eq!(rt; xs.len(), words.len());
     assert_eq!(rt; first_outside(field, xs), None);
@@ -143,7 +143,7 @@ fn compare_values<F: Field>(
     values: [u64; 4],
 ) -> Result<(), ReduceFault>
     requires words { AreOver (F.degree field.now) (F.product field.now) words.now }
-    requires over { IsOver (F.degree field.now) (F.product field.now) to.now.basis }
+    requires over { IsBasisOver (F.degree field.now) (F.product field.now) to.now.basis }
 {
     assert!(rt; is_element(field, 0) && words.len() <= 3);
     let poly = reduced(rt, alloc, field, circuit, u32::MAX, &mut NoSteps)?;

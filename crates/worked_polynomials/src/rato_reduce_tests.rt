@@ -1,15 +1,14 @@
 //! A multiplier over the field of 4 elements, worked by hand: what the elimination records, where it stops, and values.
-ghost use Rattle.std.specs.Prelude.{◌≡◌, ◌≤◌, ℕ, [], Some, map, length, filter, All, IfOk, IsTrue, ◌↔◌};
-ghost use Rattle.net_core.specs.NetList.{nets};
+ghost use Rattle.std.specs.Prelude.{◌≡◌, ℕ, [], Some, map, length, filter, All, IfOk, IsTrue, ◌↔◌};
 ghost use Rattle.net_words.specs.Binding.{AreWords};
 ghost use Rattle.net_words.specs.Feeds.{AreFeeds};
 ghost use Rattle.net_words.specs.Roles.{is_output as is_output_word, input_count as count_inputs};
 ghost use Rattle.poly_mixed.specs.Polynomial.{IsReduced};
 
+use crate::circuits::{field, multiplier};
 use gf_basis::Basis;
-use gf_field::{Field, Ring2k, is_element};
-use irreducible::Proved;
-use net_core::{Net, NetFault, NetMaker};
+use gf_field::{Field, is_element};
+use net_core::Net;
 use net_signature::read_signature;
 use net_words::{Combinational, Role, WordText, bind};
 use poly_mixed::{Generator, NoSteps, Poly, ReduceFault, Stage, Steps, Term};
@@ -56,49 +55,6 @@ impl Steps for Recorder {
         self.steps.push(Recorded { generator, terms })?;
         Ok(())
     }
-}
-
-// The field of 4 elements, whose element 2 is a root of x^2 + x + 1.
-pub(crate) fn field(rt: &impl Abort) -> Proved<Ring2k> {
-    let ring = Ring2k::new(0x7).expect(rt, "a modulus");
-    Proved::new(ring).ok().expect(rt, "a field")
-}
-
-// A maker with nets of these names, numbered from 0.
-pub(crate) fn with_names(
-    rt: &impl Abort,
-    alloc: Global,
-    names: &[&str],
-) -> Result<NetMaker, NetFault>
-    ensures { IfOk result (λ maker. length names.now ≤ nets maker) }
-{
-    let mut maker = NetMaker::new(alloc);
-    for (i, name) in names.iter().enumerate() {
-        assert!(rt; name.len() >= 1 && name.len() <= 255);
-        let number = maker.net(name)?;
-        assert_eq!(rt; number as usize, i);
-    }
-    Ok(maker)
-}
-
-// Nets 0 and 1 are the first factor, 2 and 3 the second, 4 and 5 the product, 6 to 9 the products of bits.
-fn multiplier(rt: &impl Abort, alloc: Global) -> Result<Net, NetFault> {
-    let names = [
-        "a0", "a1", "b0", "b1", "z0", "z1", "p0", "p1", "p2", "p3", "t",
-    ];
-    let mut maker = with_names(rt, alloc, &names)?;
-    maker.input(0)?;
-    maker.input(1)?;
-    maker.input(2)?;
-    maker.input(3)?;
-    maker.gate(6, &[0, 2], 8)?;
-    maker.gate(7, &[0, 3], 8)?;
-    maker.gate(8, &[1, 2], 8)?;
-    maker.gate(9, &[1, 3], 8)?;
-    maker.gate(4, &[6, 9], 6)?;
-    maker.gate(10, &[7, 8], 6)?;
-    maker.gate(5, &[10, 9], 6)?;
-    maker.finish()
 }
 
 // Whether words can be bound.
@@ -157,10 +113,10 @@ pub(crate) fn circuit(rt: &impl Abort, alloc: Global, net: Net, text: &[u8]) -> 
 }
 
 // The multiplier with its words.
-fn multiplier_circuit(rt: &impl Abort, alloc: Global) -> Result<Combinational, NetFault> {
+fn multiplier_circuit(rt: &impl Abort, alloc: Global) -> Combinational {
     let text =
         b"gfsig 1\nfield 0x7\nword A input poly a0 a1\nword B input poly b0 b1\nword Z output poly z0 z1\n";
-    Ok(circuit(rt, alloc, multiplier(rt, alloc)?, text))
+    circuit(rt, alloc, multiplier(rt, alloc), text)
 }
 
 // What the elimination answers.
@@ -222,7 +178,7 @@ pub(crate) fn value_at<F: Field>(
 fn steps(rt: HostRuntime) -> Result<(), Fail> {
     let alloc = rt.alloc();
     let field = field(&rt);
-    let circuit = multiplier_circuit(&rt, alloc)?;
+    let circuit = multiplier_circuit(&rt, alloc);
     let mut recorder = Recorder {
         alloc,
         steps: Vec::new(alloc),
@@ -242,7 +198,7 @@ fn steps(rt: HostRuntime) -> Result<(), Fail> {
 fn bounds(rt: HostRuntime) -> Result<(), Fail> {
     let alloc = rt.alloc();
     let field = field(&rt);
-    let circuit = multiplier_circuit(&rt, alloc)?;
+    let circuit = multiplier_circuit(&rt, alloc);
     assert_eq!(rt; outcome(&rt, alloc, &field, &circuit, 0), over(0, 2));
     assert_eq!(rt; outcome(&rt, alloc, &field, &circuit, 1), over(0, 2));
     assert_eq!(rt; outcome(&rt, alloc, &field, &circuit, 2), over(1, 3));
@@ -255,7 +211,7 @@ fn bounds(rt: HostRuntime) -> Result<(), Fail> {
 fn products_of_4_elements(rt: HostRuntime) -> Result<(), Fail> {
     let alloc = rt.alloc();
     let field = field(&rt);
-    let circuit = multiplier_circuit(&rt, alloc)?;
+    let circuit = multiplier_circuit(&rt, alloc);
     let table = [0, 0, 0, 0, 0, 1, 2, 3, 0, 2, 3, 1, 0, 3, 1, 2];
     for (number, product) in table.iter().enumerate() {
         let found = value_at(&rt, alloc, &field, &circuit, number)?;

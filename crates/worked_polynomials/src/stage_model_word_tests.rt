@@ -1,23 +1,18 @@
 //! A conjunction over the field of 4 elements, whose word is replaced bit by bit.
-ghost use Rattle.net_core.specs.NetList.{nets};
-
-use crate::stage_model_tests::{field, with_labels, word};
+use crate::circuits::{field, net};
+use crate::stage_model_tests::word;
 use gf_field::Field;
-use net_core::{Net, NetFault};
+use net_core::Net;
 use net_words::Role;
 use stage_model::{cut_poly, word_product, word_sum};
 use std::alloc::{AllocError, Global};
+use std::process::Abort;
 use std::test::Fail;
 
 // Nets 0 and 1 are the word, 2 and 3 the output: the product of both bits, and 0.
-fn conjunction(alloc: Global) -> Result<Net, NetFault> {
-    let labels = ["a0", "a1", "z0", "z1"];
-    let mut maker = with_labels(alloc, &labels)?;
-    maker.input(0)?;
-    maker.input(1)?;
-    maker.gate(2, &[0, 1], 8)?;
-    maker.gate(3, &[], 0)?;
-    maker.finish()
+fn conjunction(rt: &impl Abort, alloc: Global) -> Net {
+    let text = b".model conjunction\n.inputs a0 a1\n.names a0 a1 z0\n11 1\n.names z1\n";
+    net(rt, alloc, text)
 }
 
 // The sizes of the product stage and of the sum stage of a term; none where there is no such stage.
@@ -49,7 +44,7 @@ fn sizes<F: Field>(
 fn sizes_of_word_stages(rt: HostRuntime) -> Result<(), Fail> {
     let alloc = rt.alloc();
     let field = field(&rt);
-    let net = conjunction(alloc)?;
+    let net = conjunction(&rt, alloc);
     let first = sizes(alloc, &field, &net, 1, 1)?;
     assert_eq!(rt; first, (Some(2), Some(3)));
     let second = sizes(alloc, &field, &net, 1, 2)?;

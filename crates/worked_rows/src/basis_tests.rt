@@ -1,5 +1,5 @@
 //! Bases of a tower.
-ghost use Rattle.gf_basis.specs.BasisParts.{IsOver};
+ghost use Rattle.gf_basis.specs.BasisParts.{IsBasisOver};
 
 use gf_basis::Basis;
 use gf_field::{Field, Ring, is_element};
@@ -8,7 +8,7 @@ use std::process::Abort;
 
 // Whether an element comes back from its bits.
 fn comes_back<F: Field>(rt: &impl Abort, field: &F, basis: &Basis, x: u64) -> bool
-    requires { IsOver (F.degree field.now) (F.product field.now) basis.now }
+    requires { IsBasisOver (F.degree field.now) (F.product field.now) basis.now }
 {
     assert!(rt; is_element(field, x));
     basis.element_of(basis.bits_of(field, x)) == x
@@ -16,7 +16,7 @@ fn comes_back<F: Field>(rt: &impl Abort, field: &F, basis: &Basis, x: u64) -> bo
 
 // Of 16 elements, how many come back from their bits.
 fn coming_back<F: Field>(rt: &impl Abort, field: &F, basis: &Basis) -> u32
-    requires { IsOver (F.degree field.now) (F.product field.now) basis.now }
+    requires { IsBasisOver (F.degree field.now) (F.product field.now) basis.now }
 {
     let mut count: u32 = 0;
     for x in 0..16 {
@@ -40,7 +40,7 @@ fn normal_elements<F: Field>(field: &F) -> u32 {
 
 // The least element whose conjugates are a basis.
 fn normal_basis<F: Field>(rt: &impl Abort, field: &F) -> Basis
-    ensures { IsOver (F.degree field.now) (F.product field.now) result }
+    ensures { IsBasisOver (F.degree field.now) (F.product field.now) result }
 {
     for gamma in 0..16 {
         if let Ok(basis) = Basis::normal(field, gamma) {

@@ -1,7 +1,7 @@
 //! Words in place of bits beside the plain programs: each stage's size with each bound up to the largest, and the output
 //! at each input.
 ghost use Rattle.std.specs.Prelude.{◌≡◌, ◌≤◌, length, IfOk};
-ghost use Rattle.gf_basis.specs.BasisParts.{IsOver};
+ghost use Rattle.gf_basis.specs.BasisParts.{IsBasisOver};
 ghost use Rattle.poly_mixed.specs.Polynomial.{IsReduced};
 ghost use Rattle.circuit_model.specs.Flat.{AreOver};
 ghost use Rattle.job_input.specs.Setting.{AreBasesOver};
@@ -224,7 +224,7 @@ pub fn plain_output<F: Field>(
     xs: &[u64],
 ) -> Result<Option<u64>, AllocError>
     requires words { AreOver (F.degree field.now) (F.product field.now) words.now }
-    requires over { IsOver (F.degree field.now) (F.product field.now) to.now.basis }
+    requires over { IsBasisOver (F.degree field.now) (F.product field.now) to.now.basis }
 {
     assert_eq!(rt; xs.len(), words.len());
     assert_eq!(rt; first_outside(field, xs), None);

@@ -1,7 +1,7 @@
 //! Words in place of bits over fields of 2, 4 and 8 elements and over a tower of 16, one word and two, beside the plain
 //! programs. The last number of each case is the size of its largest stage.
 ghost use Rattle.std.specs.Prelude.{IfOk};
-ghost use Rattle.gf_basis.specs.BasisParts.{IsOver};
+ghost use Rattle.gf_basis.specs.BasisParts.{IsBasisOver};
 ghost use Rattle.circuit_model.specs.Flat.{AreOver};
 ghost use Rattle.job_input.specs.Setting.{AreBasesOver, AreSaid};
 
@@ -28,8 +28,8 @@ fn anew<F: Field>(
     field: &F,
     basis: &Basis,
 ) -> Result<Basis, AllocError>
-    requires { IsOver (F.degree field.now) (F.product field.now) basis.now }
-    ensures { IfOk result (λ made. IsOver (F.degree field.now) (F.product field.now) made) }
+    requires { IsBasisOver (F.degree field.now) (F.product field.now) basis.now }
+    ensures { IfOk result (λ made. IsBasisOver (F.degree field.now) (F.product field.now) made) }
 {
     let mut elements = Vec::new(alloc);
     for i in 0..field.k() {
@@ -48,7 +48,7 @@ fn word<F: Field>(
     w: u32,
 ) -> Result<CircuitWord, AllocError>
     requires { AreBasesOver (F.degree field.now) (F.product field.now) bases.now }
-    ensures { IfOk result (λ made. IsOver (F.degree field.now) (F.product field.now) made.basis) }
+    ensures { IfOk result (λ made. IsBasisOver (F.degree field.now) (F.product field.now) made.basis) }
 {
     let bound = circuit.bound();
     assert!(rt; w < bound.words());
@@ -100,7 +100,7 @@ fn compare_values<F: Field>(
 ) -> Result<(), Fail>
     requires bases { AreBasesOver (F.degree field.now) (F.product field.now) bases.now }
     requires words { AreOver (F.degree field.now) (F.product field.now) words.now }
-    requires over { IsOver (F.degree field.now) (F.product field.now) to.now.basis }
+    requires over { IsBasisOver (F.degree field.now) (F.product field.now) to.now.basis }
 {
     assert!(rt; field.k() <= 4 && words.len() <= 2);
     let poly = poly_in_words(rt, alloc, field, circuit, bases, u32::MAX)?;

@@ -13,6 +13,13 @@ statuses (faults.Signature fault) = inl refl
 statuses (faults.Netlist file fault) = inl refl
 statuses (faults.Specification fault) = inl refl
 statuses (faults.Value fault) = inl refl
+statuses (faults.SecondSignature fault) = inl refl
+statuses faults.Fields = inl refl
+statuses faults.NotSmall = inl refl
+statuses (faults.Table fault) = inl refl
+statuses (faults.Certificate fault) = inl refl
+statuses (faults.Form kind) = inl refl
+statuses (faults.Composition fault) = inl refl
 statuses (faults.Stage fault) = inr refl
 
 pub returns-clause-reply : goal.returns-clause-reply

@@ -1,4 +1,4 @@
-use Rattle.gf_field.specs.RingLaws.{square-xor}
+use Rattle.gf_field.specs.laws.RingLaws.{square-xor}
 use Rattle.gf_field.proofs.laws.additive_squares.Goals as goal
 
 pub returns : goal.returns

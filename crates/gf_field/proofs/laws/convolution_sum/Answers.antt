@@ -1,4 +1,4 @@
-use Rattle.gf_field.specs.ConvolutionLaws.{IsSumOverPairs-convolution}
+use Rattle.gf_field.specs.laws.ConvolutionLaws.{IsSumOverPairs-convolution}
 use Rattle.gf_field.proofs.laws.convolution_sum.Goals as goal
 
 pub returns : goal.returns

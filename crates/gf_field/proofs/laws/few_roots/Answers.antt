@@ -1,4 +1,4 @@
-use Rattle.gf_field.specs.RootsLaws.{HasFewRoots-from_field}
+use Rattle.gf_field.specs.laws.RootsLaws.{HasFewRoots-from_field}
 use Rattle.gf_field.proofs.laws.few_roots.Goals as goal
 
 pub returns : goal.returns

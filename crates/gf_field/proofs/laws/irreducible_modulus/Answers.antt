@@ -1,4 +1,4 @@
-use Rattle.gf_field.specs.IrreducibleBitLaws.{field_by_modulus}
+use Rattle.gf_field.specs.laws.IrreducibleBitLaws.{field_by_modulus}
 use Rattle.gf_field.proofs.laws.irreducible_modulus.Goals as goal
 
 pub returns : goal.returns

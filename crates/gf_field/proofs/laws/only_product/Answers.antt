@@ -1,4 +1,4 @@
-use Rattle.gf_field.specs.ProductLaws.{HasOnlyProduct-from_ring}
+use Rattle.gf_field.specs.laws.ProductLaws.{HasOnlyProduct-from_ring}
 use Rattle.gf_field.proofs.laws.only_product.Goals as goal
 
 pub returns : goal.returns

@@ -1,8 +1,8 @@
 use Rattle.std.proofs.Common.{one-mul}
 use Rattle.gf_field.specs.Bit.{bit_mul}
-use Rattle.gf_field.specs.BitLaws.{IsRing-bit_mul}
-use Rattle.gf_field.specs.ModulusLaws.{IsMonic-from_modulus}
-use Rattle.gf_field.specs.ProductLaws.{HasOnlyProduct-from_ring}
+use Rattle.gf_field.specs.laws.BitLaws.{IsRing-bit_mul}
+use Rattle.gf_field.specs.laws.ModulusLaws.{IsMonic-from_modulus}
+use Rattle.gf_field.specs.laws.ProductLaws.{HasOnlyProduct-from_ring}
 use Rattle.gf_field.proofs.laws.only_remainder.Goals as goal
 
 pub returns : goal.returns

@@ -1,4 +1,4 @@
-use Rattle.gf_field.specs.FermatLaws.{power_same}
+use Rattle.gf_field.specs.laws.FermatLaws.{power_same}
 use Rattle.gf_field.proofs.laws.own_power.Goals as goal
 
 pub returns : goal.returns

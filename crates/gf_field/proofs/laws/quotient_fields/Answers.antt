@@ -1,4 +1,4 @@
-use Rattle.gf_field.specs.IrreducibleLaws.{HasQuotientFields-from_field}
+use Rattle.gf_field.specs.laws.IrreducibleLaws.{HasQuotientFields-from_field}
 use Rattle.gf_field.proofs.laws.quotient_fields.Goals as goal
 
 pub returns : goal.returns

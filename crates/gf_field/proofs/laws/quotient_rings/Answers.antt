@@ -1,4 +1,4 @@
-use Rattle.gf_field.specs.QuotientRingLaws.{HasQuotientRings-from_ring}
+use Rattle.gf_field.specs.laws.QuotientRingLaws.{HasQuotientRings-from_ring}
 use Rattle.gf_field.proofs.laws.quotient_rings.Goals as goal
 
 pub returns : goal.returns

@@ -1,4 +1,4 @@
-use Rattle.gf_field.specs.RootsLaws.{HasRootsUpToDegree-from_field}
+use Rattle.gf_field.specs.laws.RootsLaws.{HasRootsUpToDegree-from_field}
 use Rattle.gf_field.proofs.laws.roots_up_to_degree.Goals as goal
 
 pub returns : goal.returns

@@ -1,4 +1,4 @@
-use Rattle.gf_field.specs.TraceLaws.{IsTrace-from_field}
+use Rattle.gf_field.specs.laws.TraceLaws.{IsTrace-from_field}
 use Rattle.gf_field.proofs.laws.trace_onto_bits.Goals as goal
 
 pub returns : goal.returns

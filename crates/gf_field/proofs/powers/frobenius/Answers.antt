@@ -1,6 +1,6 @@
 use Rattle.std.proofs.Common.{refl}
 use Rattle.gf_field.specs.Trace.{frobenius}
-use Rattle.gf_field.specs.TraceLaws.{frobenius_next}
+use Rattle.gf_field.specs.laws.TraceLaws.{frobenius_next}
 use Rattle.gf_field.proofs.powers.frobenius.Goals as goal
 
 pub loop-init : goal.loop-init

@@ -2,7 +2,7 @@ use Rattle.std.proofs.Common.{◌≡◌, sym, ◌∙◌, ap, arith}
 use Rattle.gf_field.proofs.powers.power.Goals as goal
 use Rattle.gf_field.proofs.powers.power.Goals.{then-left-eq1, else-left-eq1}
 use Rattle.gf_field.specs.Power.{power}
-use Rattle.gf_field.specs.PowerLaws.{one_below, power_below, power_half, power_odd}
+use Rattle.gf_field.specs.laws.PowerLaws.{one_below, power_below, power_half, power_odd}
 
 pub loop-left-init : goal.loop-left-init
 loop-left-init g c = record {

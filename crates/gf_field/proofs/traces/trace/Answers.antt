@@ -1,6 +1,6 @@
 use Rattle.std.proofs.Common.{◌≡◌, ◌∙◌, refl, arith, pow_pos, ap}
 use Rattle.gf_field.specs.Trace.{frobenius, trace}
-use Rattle.gf_field.specs.TraceLaws.{frobenius_next, trace_next, trace_at_most_one}
+use Rattle.gf_field.specs.laws.TraceLaws.{frobenius_next, trace_next, trace_at_most_one}
 use Rattle.gf_field.proofs.traces.trace.Goals as goal
 
 pub loop-init : goal.loop-init

@@ -1,4 +1,4 @@
-use Rattle.gf_tower.specs.TowerLaws.{field_by_polynomial}
+use Rattle.gf_tower.specs.laws.TowerLaws.{field_by_polynomial}
 use Rattle.gf_tower.proofs.laws.irreducible_tower.Goals as goal
 
 pub returns : goal.returns

@@ -1,7 +1,7 @@
 use Rattle.std.proofs.Common.{◌≡◌, suc, ◌-◌, ◌∙◌, sym, subst, arith}
 use Rattle.std.proofs.lemmas.Nat.{one_shl}
 use Rattle.std.proofs.lemmas.Nat.Bits.{shr_and_one}
-use Rattle.irreducible.specs.Pivots.{IsReduced}
+use Rattle.irreducible.specs.Pivots.{IsCleared}
 use Rattle.irreducible.proofs.PivotLaws.{reduced_start, reduced_more}
 use Rattle.irreducible.proofs.elimination.reduced.Goals as goal
 
@@ -13,5 +13,5 @@ loop-place-preserved-then-left-place-eq1 c =
     let same : suc (c.loop-place.place - 1) ≡ c.loop-place.place = omega arith in
     rw (one_shl (c.loop-place.place - 1) 64 (omega arith))
     (reduced_more c.args.sums.now c.args.row c.loop-place.left c.loop-place.used (c.loop-place.place - 1) c.requires
-    (subst (λ i. IsReduced c.args.sums.now c.args.row c.loop-place.left c.loop-place.used i) (sym same) c.loop-place.invariant)
+    (subst (λ i. IsCleared c.args.sums.now c.args.row c.loop-place.left c.loop-place.used i) (sym same) c.loop-place.invariant)
     (sym (shr_and_one c.loop-place.left (c.loop-place.place - 1)) ∙ c.if-left-place-eq1.true))

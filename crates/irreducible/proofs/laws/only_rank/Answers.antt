@@ -1,6 +1,6 @@
 use Rattle.std.proofs.Common.{ℕ, ◌∙◌, sym, List, length, ◌≤◌, le_antisymm}
 use Rattle.irreducible.specs.Span.{combination, InSpan, IsRank}
-use Rattle.irreducible.specs.SpanLaws.{independent-le}
+use Rattle.irreducible.specs.laws.SpanLaws.{independent-le}
 use Rattle.irreducible.proofs.laws.only_rank.Goals as goal
 
 no_more : (rows : List ℕ) (r s : ℕ) (p : IsRank rows r) (q : IsRank rows s) → length p.basis ≤ length q.basis

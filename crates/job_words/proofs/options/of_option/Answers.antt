@@ -5,9 +5,9 @@ use Rattle.job_words.proofs.options.of_option.Goals as goal
 pub returns-in-Some-clause-found : goal.returns-in-Some-clause-found
 returns-in-Some-clause-found c =
     let named : c.args.name.now ≡ codes "--terms" = search rules in
-    of_terms_alone c.args.name.now c.args.number.now c.in-Some.terms named c.in-Some.ensures.found
+    of_terms_alone c.args.limit c.args.default c.args.name.now c.args.number.now c.in-Some.terms named c.in-Some.ensures.found
 
 pub returns-in-Some-cycle_count-clause-found : goal.returns-in-Some-cycle_count-clause-found
 returns-in-Some-cycle_count-clause-found c =
     let named : c.args.name.now ≡ codes "--cycles" = search rules in
-    of_cycles_alone c.args.name.now c.args.number.now c.in-Some-cycle_count.cycles named c.in-Some-cycle_count.ensures.found
+    of_cycles_alone c.args.limit c.args.default c.args.name.now c.args.number.now c.in-Some-cycle_count.cycles named c.in-Some-cycle_count.ensures.found

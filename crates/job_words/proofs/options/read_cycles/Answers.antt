@@ -1,6 +1,7 @@
 use Rattle.std.proofs.Common.{◌≡◌, ◌∷◌, [], List, ℕ, map, subst, sym, ◌∙◌, string_bytes, arith}
 use Rattle.std.specs.Prelude.{IfNone}
-use Rattle.job_words.specs.Operands.{IsCyclesOption, Word}
+use Rattle.job_words.specs.Operands.{Word}
+use Rattle.job_words.specs.Options.{IsCyclesOption}
 use Rattle.job_words.proofs.WordLemmas.{two_whole}
 use Rattle.job_words.proofs.options.read_cycles.Goals as goal
 

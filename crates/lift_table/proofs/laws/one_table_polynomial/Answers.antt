@@ -1,5 +1,5 @@
 use Rattle.std.proofs.Common.{take}
-use Rattle.gf_field.specs.RootsLaws.{HasFewRoots-from_field}
+use Rattle.gf_field.specs.laws.RootsLaws.{HasFewRoots-from_field}
 use Rattle.poly_mixed.specs.Polynomial.{value}
 use Rattle.lift_table.specs.Table.{row_of}
 use Rattle.poly_mixed.proofs.FieldLaws.{field_of}

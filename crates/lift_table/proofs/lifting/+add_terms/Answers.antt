@@ -1,6 +1,6 @@
 use Rattle.std.proofs.Common.{◌≡◌, ◌<◌, ◌≤◌, ◌+◌, ◌-◌, ◌*◌, ◌^◌, suc, ap, sym, subst, ◌∙◌, length, List, set, drop, get_or, ℕ, arith}
 use Rattle.std.specs.List.{AllByRecursion}
-use Rattle.poly_mixed.specs.Uniqueness.{IsZeros}
+use Rattle.poly_mixed.specs.laws.Uniqueness.{IsZeros}
 use Rattle.lift_table.specs.OneWord.{AreColumns}
 use Rattle.lift_table.specs.private.Lifting.{AddsTable, IsOfWords}
 use Rattle.lift_table.proofs.LiftingLemmas.{HasColumns, no_columns, one_column, all_columns}

@@ -1,7 +1,7 @@
 use Rattle.std.proofs.Common.{◌≤◌, replicate, subst, List, ℕ, drop, []}
 use Rattle.std.specs.List.{AllByRecursion}
 use Rattle.poly_mixed.specs.Polynomial.{Terms}
-use Rattle.poly_mixed.specs.Uniqueness.{IsZeros}
+use Rattle.poly_mixed.specs.laws.Uniqueness.{IsZeros}
 use Rattle.lift_table.specs.private.Lifting.{AddsTable, IsOfWords}
 use Rattle.lift_table.proofs.LiftingLemmas.{polynomial, zeros_all, zeros_later}
 use Rattle.lift_table.proofs.lifting.lift.Goals as goal

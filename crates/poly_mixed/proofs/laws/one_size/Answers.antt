@@ -1,4 +1,4 @@
-use Rattle.gf_field.specs.RootsLaws.{HasFewRoots-from_field}
+use Rattle.gf_field.specs.laws.RootsLaws.{HasFewRoots-from_field}
 use Rattle.poly_mixed.proofs.FieldLaws.{field_of}
 use Rattle.poly_mixed.proofs.Roots.{independent}
 use Rattle.poly_mixed.proofs.Uniqueness.{unique, one_size}

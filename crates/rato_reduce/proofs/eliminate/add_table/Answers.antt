@@ -7,7 +7,7 @@ use Rattle.net_words.specs.Variables.{variables}
 use Rattle.poly_mixed.specs.Polynomial.{Terms, IsReduced, value}
 use Rattle.poly_mixed.specs.Table.{index, subset_parity, table_bit}
 use Rattle.stage_model.specs.Variables.{rank_in}
-use Rattle.rato_reduce.specs.GatePoint.{gate_bit}
+use Rattle.rato_reduce.specs.GatePoint.{gate_bit_at}
 use Rattle.rato_reduce.proofs.Inside.{few_inputs}
 use Rattle.rato_reduce.proofs.ProductLemmas.{all_product_terms, all_products_over, reduced_more, put_table, table_parity}
 use Rattle.rato_reduce.proofs.eliminate.add_table.Goals as goal
@@ -43,5 +43,5 @@ returns-clause-values g c =
     (λ bit. ap (λ (t : ℕ). table_bit t (index bit c.deref.result.now)) (sym c.table.ensures.table) ∙ c.exclusive_form.ensures bit c.deref.result.now (omega arith)) in
     on_ok_weaker c.add_all_products.result (λ e p at.
     ap (λ (ts : Terms). value mul p ts) e
-    ∙ put_table f c.args.cut.now.terms c.args.part.now c.deref-2.result.now (gate_bit order gate p) p at c.requires.cut.terms c.requires.part.0 c.requires.part.1
+    ∙ put_table f c.args.cut.now.terms c.args.part.now c.deref-2.result.now (gate_bit_at order gate p) p at c.requires.cut.terms c.requires.part.0 c.requires.part.1
     (table_parity p.is_one gate.table c.exclusive_form.result (rank_in order) gate.inputs c.deref.result.now c.deref-2.result.now ranks sets (law p.is_one))) c.add_all_products.ensures

@@ -19,7 +19,7 @@ use Rattle.poly_mixed.proofs.Values.{value-plus}
 use Rattle.stage_model.specs.Variables.{rank_in}
 use Rattle.stage_model.specs.CutSteps.{AreStepsAt}
 use Rattle.rato_reduce.specs.CutTerms.{IsBitTerm}
-use Rattle.rato_reduce.specs.GatePoint.{gate_bit}
+use Rattle.rato_reduce.specs.GatePoint.{gate_bit_at}
 use Rattle.rato_reduce.proofs.Inside.{out_below}
 use Rattle.rato_reduce.proofs.PutIn.{put_in, put_nothing}
 use Rattle.rato_reduce.proofs.eliminate.eliminate.Goals as goal
@@ -56,8 +56,8 @@ returns-then-is_empty-clause-values g c p at =
     let nothing : cofactors c.rank-rank.result old ≡ [] = none_of_absent c.rank-rank.result old (c.in_ok-part.ensures.stands.1 empty) in
     let rank : c.rank-rank.result ≡ rank_in order gate.out = c.rank-rank.ensures ∙ ap (rank_in order) c.out.ensures in
     ap (λ (ts : Terms). value mul p ts) c.in_ok-part.ensures.left
-    ∙ put_nothing mul c.rank-rank.result old (cofactors c.rank-rank.result old) (gate_bit order gate p) p nothing (λ q. value-cofactors mul q c.rank-rank.result old)
-    ∙ ap (λ r. value mul (at_bit p r (gate_bit order gate p)) old) rank
+    ∙ put_nothing mul c.rank-rank.result old (cofactors c.rank-rank.result old) (gate_bit_at order gate p) p nothing (λ q. value-cofactors mul q c.rank-rank.result old)
+    ∙ ap (λ r. value mul (at_bit p r (gate_bit_at order gate p)) old) rank
 
 pub returns-then-is_empty-clause-steps : goal.returns-then-is_empty-clause-steps
 returns-then-is_empty-clause-steps g c =
@@ -94,9 +94,9 @@ returns-clause-values g c =
     let over = c.in_ok-part.ensures.terms degree c.requires.cut in
     let rank : c.rank-rank.result ≡ rank_in order gate.out = c.rank-rank.ensures ∙ ap (rank_in order) c.out.ensures in
     on_ok_weaker c.add_table.result (λ adds p at.
-    put_in f c.rank-rank.result old part c.add_table.new.cut.terms (gate_bit order gate) c.requires.cut (part_value f c.rank-rank.result old part over c.in_ok-part.ensures.part)
-    (λ q is. adds q is ∙ (λ i. bit_xor (value mul q (c.in_ok-part.ensures.left i)) (mul (cond (gate_bit order gate q) 1 0) (value mul q (c.deref-2.ensures.value i))))) p at
-    ∙ ap (λ r. value mul (at_bit p r (gate_bit order gate p)) old) rank) c.add_table.ensures.values
+    put_in f c.rank-rank.result old part c.add_table.new.cut.terms (gate_bit_at order gate) c.requires.cut (part_value f c.rank-rank.result old part over c.in_ok-part.ensures.part)
+    (λ q is. adds q is ∙ (λ i. bit_xor (value mul q (c.in_ok-part.ensures.left i)) (mul (cond (gate_bit_at order gate q) 1 0) (value mul q (c.deref-2.ensures.value i))))) p at
+    ∙ ap (λ r. value mul (at_bit p r (gate_bit_at order gate p)) old) rank) c.add_table.ensures.values
 
 pub returns-clause-steps : goal.returns-clause-steps
 returns-clause-steps g c =

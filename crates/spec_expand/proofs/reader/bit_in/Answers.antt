@@ -1,5 +1,5 @@
 use Rattle.std.proofs.Common.{arith}
-use Rattle.gf_field.specs.PowerLaws.{one_below}
+use Rattle.gf_field.specs.laws.PowerLaws.{one_below}
 use Rattle.spec_expand.proofs.reader.bit_in.Goals as goal
 
 pub returns-then-n-le1-clause-element : goal.returns-then-n-le1-clause-element

@@ -1,6 +1,6 @@
 use Rattle.std.proofs.Common.{◌≡◌, length, arith}
 use Rattle.std.proofs.lemmas.List.{length-take-le}
-use Rattle.irreducible.specs.SpanLaws.{combination_below}
+use Rattle.irreducible.specs.laws.SpanLaws.{combination_below}
 use Rattle.gf_basis.specs.BasisParts.{elements_of}
 use Rattle.gf_basis.proofs.bases.Basis.element_of.Goals as goal
 

@@ -2,7 +2,7 @@ use Rattle.std.proofs.Common.{◌≡◌, ◌<◌, ◌^◌, ◌∙◌, refl, sym,
 use Rattle.std.proofs.lemmas.Nat.{one_shl, pow_below}
 use Rattle.std.proofs.lemmas.List.{get_or-take}
 use Rattle.irreducible.specs.Span.{combination}
-use Rattle.irreducible.specs.SpanLaws.{combination_below}
+use Rattle.irreducible.specs.laws.SpanLaws.{combination_below}
 use Rattle.irreducible.specs.BitMatrix.{rows_of}
 use Rattle.irreducible.proofs.MatrixLaws.{set_more}
 use Rattle.gf_basis.specs.Basis.{IsBasis}

@@ -1,5 +1,5 @@
 use Rattle.gf_tower.proofs.CodeLaws.{top_element, is_times_y, element_times_y}
-use Rattle.gf_tower.specs.TowerLaws.{IsPacked-list}
+use Rattle.gf_tower.specs.laws.TowerLaws.{IsPacked-list}
 use Rattle.gf_tower.proofs.towers.Tower.times_y.Goals as goal
 
 pub scaled-requires-clause-first : goal.scaled-requires-clause-first

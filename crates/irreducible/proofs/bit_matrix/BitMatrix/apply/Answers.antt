@@ -1,6 +1,6 @@
 use Rattle.std.proofs.Common.{length}
 use Rattle.irreducible.specs.BitMatrix.{rows_of}
-use Rattle.irreducible.specs.SpanLaws.{combination_below}
+use Rattle.irreducible.specs.laws.SpanLaws.{combination_below}
 use Rattle.irreducible.proofs.bit_matrix.BitMatrix.apply.Goals as goal
 
 pub returns-clause-word : goal.returns-clause-word

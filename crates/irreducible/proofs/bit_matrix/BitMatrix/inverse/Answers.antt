@@ -2,7 +2,7 @@ use Rattle.std.proofs.Common.{◌≡◌, ℕ, ◌<◌, ◌^◌, ◌∙◌, refl,
 use Rattle.std.proofs.lemmas.List.{length-take-le, get_or-take}
 use Rattle.std.proofs.lemmas.Nat.{one_shl}
 use Rattle.irreducible.specs.Span.{combination}
-use Rattle.irreducible.specs.Pivots.{IsReduced}
+use Rattle.irreducible.specs.Pivots.{IsCleared}
 use Rattle.irreducible.specs.BitMatrix.{rows_of}
 use Rattle.irreducible.proofs.MatrixLaws.{set_more}
 use Rattle.irreducible.proofs.InverseMatrixLaws.{full_rank, rank_full, inverse_row, inverse_short, AreInverse-from_rows}
@@ -21,7 +21,7 @@ returns-clause-found c =
 pub loop-i-preserved : goal.loop-i-preserved
 loop-i-preserved c =
     let count : length (rows_of c.args.self.now) ≡ c.args.self.now.count = length-take-le _ _ (omega (arith, c.args.self.now.few)) in
-    let unit : IsReduced c.eliminated-pivots.result.sums (2 ^ c.loop-i.i) c.reduced.result.left c.reduced.result.used 0 = rw (one_shl c.loop-i.i 64 (omega (arith, c.args.self.now.few))) at c.reduced.ensures in
+    let unit : IsCleared c.eliminated-pivots.result.sums (2 ^ c.loop-i.i) c.reduced.result.left c.reduced.result.used 0 = rw (one_shl c.loop-i.i 64 (omega (arith, c.args.self.now.few))) at c.reduced.ensures in
     record {
       whole = length-set c.loop-i.rows c.loop-i.i c.combined.result ∙ c.loop-i.invariant.whole;
       undo = set_more (λ j x. combination (rows_of c.args.self.now) x ≡ 2 ^ j) c.loop-i.rows c.loop-i.i c.combined.result (omega arith) c.loop-i.invariant.undo

@@ -1,0 +1,3 @@
+pub mod OneCertificate
+pub mod Named
+pub mod Accepted

@@ -1,0 +1,27 @@
+-- That the certificate of a circuit can be written with its labels. Source: this project's own.
+use Rattle.std.specs.Prelude.{◌≡◌, ℕ, List, []}
+use Rattle.std.specs.List.{AllByRecursion}
+use Rattle.gf_field.specs.Field.{HasNoZeroDivisors}
+use Rattle.gf_field.specs.Ring.{IsRing}
+use Rattle.gf_basis.specs.declared.bases.Basis.{Basis}
+use Rattle.net_core.specs.Sound.{IsSound}
+use Rattle.net_words.specs.Binding.{BoundNet}
+use Rattle.net_words.specs.OneCycle.{IsOneCycle}
+use Rattle.poly_mixed.specs.Labels.{Labelling}
+use Rattle.poly_mixed.specs.Polynomial.{Terms}
+use Rattle.poly_mixed.specs.Steps.{Step}
+use Rattle.circuit_model.specs.Bases.{AreBases}
+use Rattle.cert_make.specs.CircuitLabels.{NameVariables}
+use Rattle.cert_make.specs.Recorded.{IsCertificateOf}
+use Rattle.cert_make.specs.Writable.{IsWritable, IsOfNet, HaveNumbers}
+
+-- the claim in words alone and the pairs, whose generators the net has, can be written
+pub record IsWritableCertificate (k : ℕ) (bound : BoundNet) (labels : Labelling) (claim : Terms) (pairs : List Step) : Type 0 where
+  pub writable : IsWritable labels k claim pairs
+  pub no_bits : AllByRecursion (λ t. t.0.bits ≡ []) claim
+  pub generators : AllByRecursion (λ s. IsOfNet bound.net labels s.0) pairs
+
+-- the labels of a circuit name all that stands in its certificate
+abbrev pub IsNamed : Type 0
+IsNamed = (k : ℕ) (mul : ℕ → ℕ → ℕ) (bound : BoundNet) (bases : List Basis) (labels : Labelling) (claim : Terms) (pairs : List Step) → IsRing k mul → HasNoZeroDivisors k mul → IsSound bound.net → IsOneCycle bound.net bound.bound → bound.bound.k ≡ k → AreBases k mul bound bases → HaveNumbers k bound.net labels → NameVariables bound labels
+    → IsCertificateOf k mul bound bases claim pairs → IsWritableCertificate k bound labels claim pairs

@@ -1,0 +1,9 @@
+pub mod SameLemmas
+pub mod MarkLemmas
+pub mod SharingLemmas
+pub mod WrittenLemmas
+pub mod NamedLemmas
+pub mod BytesLemmas
+pub mod FrameReadLemmas
+pub mod ReadBackLemmas
+pub mod UpgradeLemmas

@@ -1,0 +1,60 @@
+//! How multipliers are written: a shared one by its number, after a `let` line at its first pair.
+ghost use Rattle.std.specs.Prelude.{◌≡◌, ◌+◌, ◌<◌, ◌++◌, ◌^◌, ℕ, List, IfOk, OnOk};
+ghost use Rattle.cert_make.specs.CertText.{text_of_lines};
+ghost use Rattle.cert_make.specs.declared.marks.Mark.TheVariants.{Often};
+ghost use Rattle.cert_make.specs.private.TextSharing.{mark_at, lets_by, written_by, count_by, mark_by};
+
+use crate::lines::{add_let, number_text};
+use crate::marks::{Mark, Marks};
+use crate::text_key::TextKey;
+use std::alloc::{AllocError, Global};
+
+/// What is known of the multipliers' texts, and how many have a number.
+#[derive(Drop)]
+pub(crate) struct Sharing {
+    pub(crate) marks: Marks,
+    pub(crate) count: u64,
+}
+
+impl Sharing {
+    // Writes the `let` line of a text, and gives it the next number, which stands for it.
+    fn share(
+        &mut self,
+        alloc: Global,
+        out: &mut Vec<u8>,
+        text: TextKey,
+    ) -> Result<Vec<u8>, AllocError>
+        requires { self.old.count + 1 < 2 ^ 64 }
+        ensures lines { OnOk result (out.new.items ≡ out.old.items ++ text_of_lines (lets_by (Some Often) self.old.count text)) }
+        ensures written { IfOk result (λ v. v.items ≡ written_by (Some Often) self.old.count text) }
+        ensures count { OnOk result (self.new.count ≡ self.old.count + 1) }
+        ensures marks { OnOk result ((q : List ℕ) → mark_at self.new.marks q ≡ mark_by (Some Often) self.old.count text q (mark_at self.old.marks q)) }
+    {
+        let number = self.count;
+        add_let(alloc, out, number, text.bytes())?;
+        self.marks.give(text, number)?;
+        self.count += 1;
+        number_text(alloc, number)
+    }
+
+    /// How the multiplier of this text is written, after its `let` line where it is due. After want of memory it is not
+    /// used again.
+    pub(crate) fn multiplier(
+        &mut self,
+        alloc: Global,
+        out: &mut Vec<u8>,
+        text: TextKey,
+    ) -> Result<Vec<u8>, AllocError>
+        requires { self.old.count + 1 < 2 ^ 64 }
+        ensures lines { OnOk result (out.new.items ≡ out.old.items ++ text_of_lines (lets_by (mark_at self.old.marks text) self.old.count text)) }
+        ensures written { IfOk result (λ v. v.items ≡ written_by (mark_at self.old.marks text) self.old.count text) }
+        ensures count { OnOk result (self.new.count ≡ count_by (mark_at self.old.marks text) self.old.count) }
+        ensures marks { OnOk result ((q : List ℕ) → mark_at self.new.marks q ≡ mark_by (mark_at self.old.marks text) self.old.count text q (mark_at self.old.marks q)) }
+    {
+        match self.marks.at(&text) {
+            Some(Mark::Often) => self.share(alloc, out, text),
+            Some(Mark::Number(number)) => number_text(alloc, number),
+            Some(Mark::Once) | None => Ok(text.into_bytes()),
+        }
+    }
+}

@@ -1,0 +1,18 @@
+use Rattle.std.proofs.Common.{◌*◌, ◌^◌, ℕ, List, subst}
+use Rattle.text_core.specs.Outcome.{Within}
+use Rattle.job_io.specs.Counts.{Rose}
+use Rattle.job_words.specs.declared.fault.Fault.TheVariants.{File, Table}
+use Rattle.job_words.specs.Stop.{bytes_of, GivesBy}
+use Rattle.job_words.proofs.StepLemmas.{after}
+use Rattle.job_input.specs.File.{Read}
+use Rattle.job_input.specs.TableIn.{TableOf}
+use Rattle.job_input.proofs.table_file.read_table_file.Goals as goal
+
+pub returns-clause-gives : goal.returns-clause-gives
+returns-clause-gives g c =
+    let n = 2 ^ (c.args.k * c.args.words) in
+    let missed = Rose (g.S.Shelf.misses c.args.shelf.now) (g.S.Shelf.misses c.read_file.new.shelf) in
+    let failed = Rose (g.S.Shelf.faults c.args.shelf.now) (g.S.Shelf.faults c.read_file.new.shelf) in
+    let P : List ℕ → Type 0 = λ text. GivesBy bytes_of c.table_of.result (Within Table (TableOf c.args.k n text)) ⊥ ⊥ in
+    after bytes_of c.table_of.result (Within File (Read (g.S.Shelf.held c.args.shelf.now) c.args.file.now)) (λ text. Within Table (TableOf c.args.k n text)) c.in-Ok.text.items
+    missed failed ⊥ ⊥ c.in-Ok.ensures.gives (λ m. absurd m) (λ f. absurd f) (subst P c.deref.ensures.value c.table_of.ensures)

@@ -1,0 +1,10 @@
+use Rattle.net_core.specs.Levelled.{AreRight}
+use Rattle.net_core.specs.Value.{HasSourceBits}
+use Rattle.job_plain.proofs.settle.set_gates.Given as goal
+
+abbrev pub invariant-loop-position : goal.invariant-loop-position
+invariant-loop-position l =
+    record {
+      right : AreRight l.net l.order l.position-index l.bits.items;
+      sources : HasSourceBits l.net l.initial.bits.items l.bits.items;
+    }

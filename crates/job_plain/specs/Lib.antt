@@ -1,0 +1,2 @@
+pub mod JobOfParts
+pub mod private

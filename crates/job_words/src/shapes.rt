@@ -1,0 +1,162 @@
+//! The shapes of words behind the name of a command: files, and what follows them.
+ghost use Rattle.std.specs.Prelude.{◌≡◌, ◌∷◌, ◌≤◌, map, string_bytes, IfSome, IfNone};
+ghost use Rattle.job_words.specs.Options.{AreNone, AreStageOptions, IsCyclesOption};
+ghost use Rattle.job_words.specs.Shapes.{IsOverFile, IsOverFiles, AreValues};
+ghost use Rattle.job_words.specs.private.Rest.{Anything, IsRest};
+
+use crate::operands::{is_operand, read_values};
+use crate::options::{read_cycles, read_nothing, read_options};
+use crate::words::{CycleWords, EvalWords, NetWords, PairWords};
+
+// The greatest bound on the terms of a stage.
+const STAGE_LIMIT: u32 = 262_144;
+
+// The bound on the terms of a stage where no option sets it.
+const STAGE_TERMS: u32 = 65_536;
+
+/// A signature and a second file.
+pub(crate) fn over_file<'a>(words: &'a [String]) -> Option<(&'a str, &'a str)>
+    ensures found { IfSome result (λ r. IsOverFile AreNone (map string_bytes words.now) r.0.now r.1.now) }
+    ensures none { IfNone result ((signature file : _) → IsOverFile AreNone (map string_bytes words.now) signature file → ⊥) }
+{
+    match file_and_rest(words) {
+        Some((signature, file, rest)) => match read_nothing(rest) {
+            Some(()) => Some((signature, file)),
+            None => None,
+        },
+        None => None,
+    }
+}
+
+/// A signature, and a netlist with the options of stages and cycles.
+pub(crate) fn over_net<'a>(words: &'a [String]) -> Option<(&'a str, NetWords<'a>)>
+    ensures found { IfSome result (λ r. IsOverFile (λ rest. AreStageOptions rest r.1.terms r.1.cycles) (map string_bytes words.now) r.0.now r.1.net.now) }
+    ensures none { IfNone result ((signature net terms cycles : _) → IsOverFile (λ rest. AreStageOptions rest terms cycles) (map string_bytes words.now) signature net → ⊥) }
+{
+    match file_and_rest(words) {
+        Some((signature, net, rest)) => match read_options(rest, STAGE_LIMIT, STAGE_TERMS) {
+            Some((terms, cycles)) => Some((signature, NetWords { net, terms, cycles })),
+            None => None,
+        },
+        None => None,
+    }
+}
+
+/// A signature, and a netlist with the option of cycles.
+pub(crate) fn over_cycles<'a>(words: &'a [String]) -> Option<(&'a str, CycleWords<'a>)>
+    ensures found { IfSome result (λ r. IsOverFile (λ rest. IsCyclesOption rest r.1.cycles) (map string_bytes words.now) r.0.now r.1.net.now) }
+    ensures none { IfNone result ((signature net cycles : _) → IsOverFile (λ rest. IsCyclesOption rest cycles) (map string_bytes words.now) signature net → ⊥) }
+{
+    match file_and_rest(words) {
+        Some((signature, net, rest)) => match read_cycles(rest) {
+            Some(cycles) => Some((signature, CycleWords { net, cycles })),
+            None => None,
+        },
+        None => None,
+    }
+}
+
+/// A signature, and a netlist with values and the option of cycles.
+pub(crate) fn over_values<'a>(words: &'a [String]) -> Option<(&'a str, EvalWords<'a>)>
+    ensures found { IfSome result (λ r. IsOverFile (λ rest. AreValues rest (map string_bytes r.1.values.now) r.1.cycles) (map string_bytes words.now) r.0.now r.1.net.now) }
+    ensures none { IfNone result ((signature net values cycles : _) → IsOverFile (λ rest. AreValues rest values cycles) (map string_bytes words.now) signature net → ⊥) }
+{
+    match file_and_rest(words) {
+        Some((signature, net, rest)) => match read_values(rest) {
+            Some((values, cycles)) => Some((
+                signature,
+                EvalWords {
+                    net,
+                    values,
+                    cycles,
+                },
+            )),
+            None => None,
+        },
+        None => None,
+    }
+}
+
+/// A signature, and a netlist and another file with the options of stages and cycles.
+pub(crate) fn over_pair<'a>(words: &'a [String]) -> Option<(&'a str, PairWords<'a>)>
+    ensures found { IfSome result (λ r. IsOverFiles (λ rest. AreStageOptions rest r.1.terms r.1.cycles) (map string_bytes words.now) r.0.now r.1.net.now r.1.other.now) }
+    ensures none { IfNone result ((signature net other terms cycles : _) → IsOverFiles (λ rest. AreStageOptions rest terms cycles) (map string_bytes words.now) signature net other → ⊥) }
+{
+    match files_and_rest(words) {
+        Some((signature, net, other, rest)) => {
+            match read_options(rest, STAGE_LIMIT, STAGE_TERMS) {
+                Some((terms, cycles)) => Some((
+                    signature,
+                    PairWords {
+                        net,
+                        other,
+                        terms,
+                        cycles,
+                    },
+                )),
+                None => None,
+            }
+        }
+        None => None,
+    }
+}
+
+// A signature and a file, and what follows them.
+fn file_and_rest<'a>(words: &'a [String]) -> Option<(&'a str, &'a str, &'a [String])>
+    ensures found { IfSome result (λ r. IsOverFile (IsRest (map string_bytes r.2.now)) (map string_bytes words.now) r.0.now r.1.now) }
+    ensures none { IfNone result ((signature file : _) → IsOverFile Anything (map string_bytes words.now) signature file → ⊥) }
+{
+    match words {
+        [signature, file, rest @ ..] => are_file(signature.as_str(), file.as_str(), rest),
+        _ => None,
+    }
+}
+
+// The same of two words and what follows them.
+fn are_file<'a>(
+    signature: &'a str,
+    file: &'a str,
+    rest: &'a [String],
+) -> Option<(&'a str, &'a str, &'a [String])>
+    ensures found { IfSome result (λ r. IsOverFile (IsRest (map string_bytes r.2.now)) (signature.now ∷ file.now ∷ map string_bytes rest.now) r.0.now r.1.now) }
+    ensures none { IfNone result ((s f : _) → IsOverFile Anything (signature.now ∷ file.now ∷ map string_bytes rest.now) s f → ⊥) }
+{
+    if is_operand(signature) && is_operand(file) {
+        Some((signature, file, rest))
+    } else {
+        None
+    }
+}
+
+// A signature and two files, and what follows them.
+fn files_and_rest<'a>(words: &'a [String]) -> Option<(&'a str, &'a str, &'a str, &'a [String])>
+    ensures found { IfSome result (λ r. IsOverFiles (IsRest (map string_bytes r.3.now)) (map string_bytes words.now) r.0.now r.1.now r.2.now) }
+    ensures none { IfNone result ((signature file other : _) → IsOverFiles Anything (map string_bytes words.now) signature file other → ⊥) }
+{
+    match words {
+        [signature, file, other, rest @ ..] => are_files(
+            signature.as_str(),
+            file.as_str(),
+            other.as_str(),
+            rest,
+        ),
+        _ => None,
+    }
+}
+
+// The same of three words and what follows them.
+fn are_files<'a>(
+    signature: &'a str,
+    file: &'a str,
+    other: &'a str,
+    rest: &'a [String],
+) -> Option<(&'a str, &'a str, &'a str, &'a [String])>
+    ensures found { IfSome result (λ r. IsOverFiles (IsRest (map string_bytes r.3.now)) (signature.now ∷ file.now ∷ other.now ∷ map string_bytes rest.now) r.0.now r.1.now r.2.now) }
+    ensures none { IfNone result ((s f o : _) → IsOverFiles Anything (signature.now ∷ file.now ∷ other.now ∷ map string_bytes rest.now) s f o → ⊥) }
+{
+    if is_operand(signature) && is_operand(file) && is_operand(other) {
+        Some((signature, file, other, rest))
+    } else {
+        None
+    }
+}

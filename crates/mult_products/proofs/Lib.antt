@@ -1,0 +1,10 @@
+pub mod BitLemmas
+pub mod SumLemmas
+pub mod IndeterminateLemmas
+pub mod ProductBitLemmas
+pub mod HalvingLemmas
+pub mod MontgomeryLemmas
+pub mod ReductionLemmas
+pub mod TowerLemmas
+pub mod PairLemmas
+pub mod TowerBitLemmas

@@ -1,0 +1,5 @@
+pub mod Indeterminate
+pub mod ProductBits
+pub mod InversePower
+pub mod TowerProduct
+pub mod private

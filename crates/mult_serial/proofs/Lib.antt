@@ -1,0 +1,5 @@
+pub mod SumLemmas
+pub mod ChosenLemmas
+pub mod NormalLemmas
+pub mod DigitLemmas
+pub mod Examples

@@ -1,0 +1,3 @@
+pub mod Chosen
+pub mod NormalRegisters
+pub mod DigitRegisters

@@ -1,0 +1,71 @@
+//! Isomorphisms whose images come from outside.
+use gf_field::{Ring, Ring2k, is_element};
+use gf_iso::{Iso, IsoFault};
+use gf_tower::{AnyField, Tower};
+use irreducible::Proved;
+use std::process::Abort;
+
+fn field(rt: &impl Abort, modulus: u128) -> Proved<Ring2k> {
+    match AnyField::new(modulus, &[], &[]) {
+        Ok(AnyField::Base(field)) => field,
+        _ => panic!(rt; "no field"),
+    }
+}
+
+fn tower(rt: &impl Abort, modulus: u128, coefficients: &[u64]) -> Proved<Tower<Proved<Ring2k>>> {
+    match AnyField::new(modulus, coefficients, &[]) {
+        Ok(AnyField::Tower(field)) => field,
+        _ => panic!(rt; "no tower"),
+    }
+}
+
+// the image of 2^i for each place i
+fn images(rt: &impl Abort, big: u128, modulus: u128, coefficients: &[u64], want: &[u64]) {
+    let big = field(rt, big);
+    let iso = Iso::find(&big, &tower(rt, modulus, coefficients)).expect(rt, "an isomorphism");
+    assert!(rt; want.len() == big.k() as usize);
+    for (i, image) in want.iter().enumerate() {
+        let unit = 1 << i;
+        assert!(rt; is_element(&big, unit));
+        assert_eq!(rt; iso.to_big(unit), *image);
+        assert!(rt; is_element(&big, *image));
+        assert_eq!(rt; iso.to_tower(*image), unit);
+    }
+}
+
+fn is_unfit(rt: &impl Abort, big: u128, modulus: u128, coefficients: &[u64]) -> bool {
+    match Iso::find(&field(rt, big), &tower(rt, modulus, coefficients)) {
+        Ok(_) => false,
+        Err(IsoFault::Unfit) => true,
+    }
+}
+
+#[test]
+fn least_roots(rt: HostRuntime) {
+    images(&rt, 0x13, 0x7, &[0x2, 0x1], &[0x1, 0x6, 0x2, 0xc]);
+    images(&rt, 0x7, 0x2, &[0x1, 0x1], &[0x1, 0x2]);
+    images(&rt, 0x7, 0x3, &[0x1, 0x1], &[0x1, 0x2]);
+    images(
+        &rt,
+        0x43,
+        0xb,
+        &[0x1, 0x2],
+        &[0x1, 0xe, 0x17, 0x14, 0x1d, 0x20],
+    );
+    images(
+        &rt,
+        0x11b,
+        0x13,
+        &[0x9, 0x1],
+        &[0x1, 0x5c, 0xe0, 0x50, 0x1e, 0xb2, 0xb5, 0x3a],
+    );
+}
+
+#[test]
+fn refusals(rt: HostRuntime) {
+    assert!(rt; !is_unfit(&rt, 0x13, 0x7, &[0x2, 0x1]));
+    assert!(rt; is_unfit(&rt, 0x7, 0x7, &[0x2, 0x1]));
+    assert!(rt; is_unfit(&rt, 0x11b, 0x7, &[0x2, 0x1]));
+    // degree 3 over GF(4), whatever the field
+    assert!(rt; is_unfit(&rt, 0x43, 0x7, &[0x2, 0x0, 0x0]));
+}

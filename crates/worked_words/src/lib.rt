@@ -1,0 +1,12 @@
+//! Tests alone: words and feeds bound to nets, and nets unrolled, worked by hand.
+//! They stand in a crate of their own, since a crate with tests is proved twice.
+#![tactic(auto)]
+
+#[cfg(test)]
+mod binding_tests;
+#[cfg(test)]
+mod feed_tests;
+#[cfg(test)]
+mod rank_tests;
+#[cfg(test)]
+mod unroll_tests;
