@@ -5,9 +5,9 @@ use Rattle.job_words.proofs.OptionLemmas.{Shape, Neither, Terms, Cycles, TermsFi
 use Rattle.job_words.proofs.SpelledLemmas.{first_word, rest_of}
 use Rattle.job_words.proofs.ValueLemmas.{values_back, cycles_back}
 use Rattle.job_words.specs.Operands.{Word}
-use Rattle.job_words.specs.Options.{AreNone, AreOptions, AreStageOptions, IsCyclesOption}
+use Rattle.job_words.specs.Options.{AreNone, AreOptions, AreStageOptions, AreSumOptions, IsCyclesOption}
 use Rattle.job_words.specs.Shapes.{IsOverFile, IsOverFiles, AreValues}
-use Rattle.job_words.specs.Command.{Action, Bits, Abstract, Check, Same, Eval, Iso, Lift, Table, Job, Over, IsNamed, IsSpelled}
+use Rattle.job_words.specs.Command.{Action, Bits, Abstract, Check, Same, Eval, Iso, Lift, Table, Certify, Verify, Upgrade, Job, Over, IsNamed, IsSpelled}
 use Rattle.job_words.specs.private.OptionPlace.{before_options, from_options}
 
 -- what tells the names of commands apart: their first two letters
@@ -38,6 +38,9 @@ action_at key operands =
     if key == 26995 then Iso (first_word operands) else
     if key == 27753 then Lift (first_word operands) else
     if key == 29793 then Table (first_word operands) (cycles_by (rest_of operands)) else
+    if key == 25445 then Certify (first_word operands) (terms_by 65536 (rest_of operands)) (cycles_by (rest_of operands)) else
+    if key == 30309 then Verify (first_word operands) (first_word (rest_of operands)) (terms_by 1048576 (rest_of (rest_of operands))) (cycles_by (rest_of (rest_of operands))) else
+    if key == 30064 then Upgrade (first_word operands) (first_word (rest_of operands)) (cycles_by (rest_of (rest_of operands))) else
     Abstract (first_word operands) (terms_by 65536 (rest_of operands)) (cycles_by (rest_of operands))
 
 -- the command of the words, where they spell one
@@ -75,6 +78,9 @@ module _ (name : Word) (words : List Word) (s n o : Word) (act : Action) (Follow
 set_back : (make : ℕ → ℕ → Action) (options : List Word) (t c : ℕ) → AreStageOptions options t c → make (terms_by 65536 options) (cycles_by options) ≡ make t c
 set_back make options t c is = let (same_t, same_c) = options_back 262144 65536 options t c is in (λ i. make (sym same_t i) (sym same_c i))
 
+sum_set_back : (make : ℕ → ℕ → Action) (options : List Word) (t c : ℕ) → AreSumOptions options t c → make (terms_by 1048576 options) (cycles_by options) ≡ make t c
+sum_set_back make options t c is = let (same_t, same_c) = options_back 1048576 1048576 options t c is in (λ i. make (sym same_t i) (sym same_c i))
+
 cycles_set : (options : List Word) (c : ℕ) → IsCyclesOption options c → cycles_by options ≡ c
 cycles_set options c is = sym (cycles_back options c is cycles_by refl (λ y. refl))
 
@@ -94,6 +100,9 @@ back words (Over s (Eval n vs c)) is = file_back (codes "eval") words s n (Eval 
 back words (Over s (Iso o)) is = file_back (codes "iso") words s o (Iso o) AreNone is refl
 back words (Over s (Lift f)) is = file_back (codes "lift") words s f (Lift f) AreNone is refl
 back words (Over s (Table n c)) is = file_back (codes "table") words s n (Table n c) (λ rest. IsCyclesOption rest c) is (ap (Table n) (cycles_set is.follow.rest c is.follow.follow))
+back words (Over s (Certify n t c)) is = file_back (codes "certify") words s n (Certify n t c) (λ rest. AreStageOptions rest t c) is (set_back (Certify n) is.follow.rest t c is.follow.follow)
+back words (Over s (Verify n o t c)) is = files_back (codes "verify") words s n o (Verify n o t c) (λ rest. AreSumOptions rest t c) is (sum_set_back (Verify n o) is.follow.rest t c is.follow.follow)
+back words (Over s (Upgrade n o c)) is = files_back (codes "upgrade") words s n o (Upgrade n o c) (λ rest. IsCyclesOption rest c) is (ap (Upgrade n o) (cycles_set is.follow.rest c is.follow.follow))
 
 pub one_job : (words : List Word) (job other : Job) → IsSpelled words job → IsSpelled words other → job ≡ other
 one_job words job other a b = back words job a ∙ sym (back words other b)

@@ -4,7 +4,7 @@ use Rattle.job_words.specs.declared.command.Command.{Command}
 use Rattle.job_words.specs.declared.command.Task.{Task}
 use Rattle.job_words.specs.declared.command.Task.TheVariants as tasks
 use Rattle.job_words.specs.Operands.{Word}
-use Rattle.job_words.specs.Options.{AreNone, AreStageOptions, IsCyclesOption}
+use Rattle.job_words.specs.Options.{AreNone, AreStageOptions, AreSumOptions, IsCyclesOption}
 use Rattle.job_words.specs.Shapes.{IsOverFile, IsOverFiles, AreValues}
 
 -- what a command does over its signature
@@ -17,6 +17,9 @@ pub data Action : Type 0 where
   Iso : (other : Word) → Action
   Lift : (table : Word) → Action
   Table : (net : Word) (cycles : ℕ) → Action
+  Certify : (net : Word) (terms cycles : ℕ) → Action
+  Verify : (net certificate : Word) (terms cycles : ℕ) → Action
+  Upgrade : (net certificate : Word) (cycles : ℕ) → Action
 
 -- a command with its operands: what it does over the signature of this file
 pub data Job : Type 0 where
@@ -32,6 +35,9 @@ name_of (Eval net values cycles) = codes "eval"
 name_of (Iso other) = codes "iso"
 name_of (Lift table) = codes "lift"
 name_of (Table net cycles) = codes "table"
+name_of (Certify net terms cycles) = codes "certify"
+name_of (Verify net certificate terms cycles) = codes "verify"
+name_of (Upgrade net certificate cycles) = codes "upgrade"
 
 -- the words that follow its name
 abbrev pub AreOperandsOf : List Word → Word → Action → Type 0
@@ -43,6 +49,9 @@ AreOperandsOf words signature (Eval net values cycles) = IsOverFile (λ rest. Ar
 AreOperandsOf words signature (Iso other) = IsOverFile AreNone words signature other
 AreOperandsOf words signature (Lift table) = IsOverFile AreNone words signature table
 AreOperandsOf words signature (Table net cycles) = IsOverFile (λ rest. IsCyclesOption rest cycles) words signature net
+AreOperandsOf words signature (Certify net terms cycles) = IsOverFile (λ rest. AreStageOptions rest terms cycles) words signature net
+AreOperandsOf words signature (Verify net certificate terms cycles) = IsOverFiles (λ rest. AreSumOptions rest terms cycles) words signature net certificate
+AreOperandsOf words signature (Upgrade net certificate cycles) = IsOverFiles (λ rest. IsCyclesOption rest cycles) words signature net certificate
 
 -- the words are the name of a command and what follows it
 pub record IsNamed (name : Word) (Follow : List Word → Type 0) (words : List Word) : Type 0 where
@@ -64,6 +73,9 @@ action_of (tasks.Eval words) = Eval words.net.now (map string_bytes words.values
 action_of (tasks.Iso other) = Iso other.now
 action_of (tasks.Lift table) = Lift table.now
 action_of (tasks.Table words) = Table words.net.now words.cycles
+action_of (tasks.Certify words) = Certify words.net.now words.terms words.cycles
+action_of (tasks.Verify words) = Verify words.net.now words.other.now words.terms words.cycles
+action_of (tasks.Upgrade words) = Upgrade words.net.now words.other.now words.cycles
 
 -- the command that the program's words gave
 abbrev pub job_of : Command → Job

@@ -45,3 +45,7 @@ pub record AreOptions (limit default : ℕ) (words : List Word) (terms cycles : 
 -- the bound on the terms of a stage, 1 to 262,144 and by default 65,536, and the number of cycles
 abbrev pub AreStageOptions : List Word → ℕ → ℕ → Type 0
 AreStageOptions = AreOptions 262144 65536
+
+-- the bound on the terms of a running sum, 1 to 1,048,576 and by default 1,048,576, and the number of cycles
+abbrev pub AreSumOptions : List Word → ℕ → ℕ → Type 0
+AreSumOptions = AreOptions 1048576 1048576

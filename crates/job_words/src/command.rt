@@ -1,10 +1,12 @@
 //! The commands, and the words that spell them.
 ghost use Rattle.std.specs.Prelude.{◌∷◌, map, string_bytes, IfSome, IfNone};
 ghost use Rattle.job_words.specs.Command.{Over, IsSpelled, action_of, job_of};
-ghost use Rattle.job_words.specs.private.Groups.{IsOfTables};
+ghost use Rattle.job_words.specs.private.Groups.{IsLater, IsOfTables};
 
-use crate::shapes::{over_cycles, over_file, over_net, over_pair, over_values};
-use crate::words::{CycleWords, EvalWords, NetWords, PairWords};
+use crate::shapes::{
+    over_certificate, over_cycles, over_file, over_files, over_net, over_pair, over_values,
+};
+use crate::words::{CyclePairWords, CycleWords, EvalWords, NetWords, PairWords};
 
 /// A command: the signature that it reads first, and what it does over it.
 #[derive(Clone, Copy, Debug)]
@@ -34,6 +36,12 @@ pub enum Task<'a> {
     Lift(&'a str),
     /// `table`: prints the output word's element at every input.
     Table(CycleWords<'a>),
+    /// `certify`: prints the output word's polynomial in the input words, with each step that leads to it.
+    Certify(NetWords<'a>),
+    /// `verify`: says whether a certificate shows its claim. The bound is one on its running sums.
+    Verify(PairWords<'a>),
+    /// `upgrade`: prints the same certificate in the newest version.
+    Upgrade(CyclePairWords<'a>),
 }
 
 /// The command that the words spell.
@@ -74,6 +82,28 @@ fn read_task<'a>(name: &str, rest: &'a [String]) -> Option<(&'a str, Task<'a>)>
         },
         "eval" => match over_values(rest) {
             Some((signature, words)) => Some((signature, Task::Eval(words))),
+            None => None,
+        },
+        _ => certificate_task(name, rest),
+    }
+}
+
+// The same of a command of certificates, or else of tables and isomorphisms.
+fn certificate_task<'a>(name: &str, rest: &'a [String]) -> Option<(&'a str, Task<'a>)>
+    ensures found { IfSome result (λ r. IsSpelled (name.now ∷ map string_bytes rest.now) (Over r.0.now (action_of r.1))) }
+    ensures none { IfNone result ((job : _) → IsLater job → IsSpelled (name.now ∷ map string_bytes rest.now) job → ⊥) }
+{
+    match name {
+        "certify" => match over_net(rest) {
+            Some((signature, words)) => Some((signature, Task::Certify(words))),
+            None => None,
+        },
+        "verify" => match over_certificate(rest) {
+            Some((signature, words)) => Some((signature, Task::Verify(words))),
+            None => None,
+        },
+        "upgrade" => match over_files(rest) {
+            Some((signature, words)) => Some((signature, Task::Upgrade(words))),
             None => None,
         },
         _ => table_task(name, rest),

@@ -35,4 +35,4 @@ pub use stage_fault::{StageFault, write_stage};
 pub use stop::Stop;
 pub use table_text_fault::TableTextFault;
 pub use value_fault::ValueFault;
-pub use words::{CycleWords, EvalWords, NetWords, PairWords};
+pub use words::{CyclePairWords, CycleWords, EvalWords, NetWords, PairWords};

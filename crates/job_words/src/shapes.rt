@@ -1,18 +1,21 @@
 //! The shapes of words behind the name of a command: files, and what follows them.
 ghost use Rattle.std.specs.Prelude.{◌≡◌, ◌∷◌, ◌≤◌, map, string_bytes, IfSome, IfNone};
-ghost use Rattle.job_words.specs.Options.{AreNone, AreStageOptions, IsCyclesOption};
+ghost use Rattle.job_words.specs.Options.{AreNone, AreOptions, AreStageOptions, AreSumOptions, IsCyclesOption};
 ghost use Rattle.job_words.specs.Shapes.{IsOverFile, IsOverFiles, AreValues};
 ghost use Rattle.job_words.specs.private.Rest.{Anything, IsRest};
 
 use crate::operands::{is_operand, read_values};
 use crate::options::{read_cycles, read_nothing, read_options};
-use crate::words::{CycleWords, EvalWords, NetWords, PairWords};
+use crate::words::{CyclePairWords, CycleWords, EvalWords, NetWords, PairWords};
 
 // The greatest bound on the terms of a stage.
 const STAGE_LIMIT: u32 = 262_144;
 
 // The bound on the terms of a stage where no option sets it.
 const STAGE_TERMS: u32 = 65_536;
+
+// The greatest bound on the terms of a running sum, which stands where no option sets it.
+const SUM_LIMIT: u32 = 1_048_576;
 
 /// A signature and a second file.
 pub(crate) fn over_file<'a>(words: &'a [String]) -> Option<(&'a str, &'a str)>
@@ -82,21 +85,53 @@ pub(crate) fn over_pair<'a>(words: &'a [String]) -> Option<(&'a str, PairWords<'
     ensures found { IfSome result (λ r. IsOverFiles (λ rest. AreStageOptions rest r.1.terms r.1.cycles) (map string_bytes words.now) r.0.now r.1.net.now r.1.other.now) }
     ensures none { IfNone result ((signature net other terms cycles : _) → IsOverFiles (λ rest. AreStageOptions rest terms cycles) (map string_bytes words.now) signature net other → ⊥) }
 {
+    pair_within(words, STAGE_LIMIT, STAGE_TERMS)
+}
+
+/// A signature, and a netlist and a certificate with the options of running sums and cycles.
+pub(crate) fn over_certificate<'a>(words: &'a [String]) -> Option<(&'a str, PairWords<'a>)>
+    ensures found { IfSome result (λ r. IsOverFiles (λ rest. AreSumOptions rest r.1.terms r.1.cycles) (map string_bytes words.now) r.0.now r.1.net.now r.1.other.now) }
+    ensures none { IfNone result ((signature net other terms cycles : _) → IsOverFiles (λ rest. AreSumOptions rest terms cycles) (map string_bytes words.now) signature net other → ⊥) }
+{
+    pair_within(words, SUM_LIMIT, SUM_LIMIT)
+}
+
+// The same with a bound on terms of this limit, which stands by default at this number.
+fn pair_within<'a>(
+    words: &'a [String],
+    limit: u32,
+    default: u32,
+) -> Option<(&'a str, PairWords<'a>)>
+    ensures found { IfSome result (λ r. IsOverFiles (λ rest. AreOptions limit default rest r.1.terms r.1.cycles) (map string_bytes words.now) r.0.now r.1.net.now r.1.other.now) }
+    ensures none { IfNone result ((signature net other terms cycles : _) → IsOverFiles (λ rest. AreOptions limit default rest terms cycles) (map string_bytes words.now) signature net other → ⊥) }
+{
     match files_and_rest(words) {
-        Some((signature, net, other, rest)) => {
-            match read_options(rest, STAGE_LIMIT, STAGE_TERMS) {
-                Some((terms, cycles)) => Some((
-                    signature,
-                    PairWords {
-                        net,
-                        other,
-                        terms,
-                        cycles,
-                    },
-                )),
-                None => None,
-            }
-        }
+        Some((signature, net, other, rest)) => match read_options(rest, limit, default) {
+            Some((terms, cycles)) => Some((
+                signature,
+                PairWords {
+                    net,
+                    other,
+                    terms,
+                    cycles,
+                },
+            )),
+            None => None,
+        },
+        None => None,
+    }
+}
+
+/// A signature, and a netlist and another file with the option of cycles.
+pub(crate) fn over_files<'a>(words: &'a [String]) -> Option<(&'a str, CyclePairWords<'a>)>
+    ensures found { IfSome result (λ r. IsOverFiles (λ rest. IsCyclesOption rest r.1.cycles) (map string_bytes words.now) r.0.now r.1.net.now r.1.other.now) }
+    ensures none { IfNone result ((signature net other cycles : _) → IsOverFiles (λ rest. IsCyclesOption rest cycles) (map string_bytes words.now) signature net other → ⊥) }
+{
+    match files_and_rest(words) {
+        Some((signature, net, other, rest)) => match read_cycles(rest) {
+            Some(cycles) => Some((signature, CyclePairWords { net, other, cycles })),
+            None => None,
+        },
         None => None,
     }
 }

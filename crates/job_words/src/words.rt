@@ -30,8 +30,20 @@ pub struct PairWords<'a> {
     pub net: &'a str,
     /// The name of the second file.
     pub other: &'a str,
-    /// The most terms that a stage may have, 1 to 262,144.
+    /// The most terms that a stage, or the running sum of a certificate, may have.
     pub terms: u32,
+    /// How many cycles come after the first, 0 to 4,096.
+    pub cycles: u32,
+    ghost few: { cycles ≤ 4096 },
+}
+
+/// The words of a command over a netlist and a second file that has no stages.
+#[derive(Clone, Copy, Debug)]
+pub struct CyclePairWords<'a> {
+    /// The name of the netlist's file, whose ending tells its form.
+    pub net: &'a str,
+    /// The name of the second file.
+    pub other: &'a str,
     /// How many cycles come after the first, 0 to 4,096.
     pub cycles: u32,
     ghost few: { cycles ≤ 4096 },

@@ -1,6 +1,6 @@
 -- Groups of commands, each of which is read by a function of its own: for the clauses of private functions.
 -- Source: this project's own.
-use Rattle.job_words.specs.Command.{Action, Bits, Abstract, Check, Same, Eval, Iso, Lift, Table, Job, Over}
+use Rattle.job_words.specs.Command.{Action, Bits, Abstract, Check, Same, Eval, Iso, Lift, Table, Certify, Verify, Upgrade, Job, Over}
 
 -- a command of tables or isomorphisms
 abbrev pub IsTableAction : Action → Type 0
@@ -12,6 +12,26 @@ IsTableAction (Eval net values cycles) = ⊥
 IsTableAction (Iso other) = Unit {0}
 IsTableAction (Lift table) = Unit {0}
 IsTableAction (Table net cycles) = Unit {0}
+IsTableAction (Certify net terms cycles) = ⊥
+IsTableAction (Verify net certificate terms cycles) = ⊥
+IsTableAction (Upgrade net certificate cycles) = ⊥
 
 abbrev pub IsOfTables : Job → Type 0
 IsOfTables (Over signature action) = IsTableAction action
+
+-- a command of certificates, or of tables or isomorphisms
+abbrev pub IsLaterAction : Action → Type 0
+IsLaterAction (Bits net terms cycles) = ⊥
+IsLaterAction (Abstract net terms cycles) = ⊥
+IsLaterAction (Check net specification terms cycles) = ⊥
+IsLaterAction (Same net other terms cycles) = ⊥
+IsLaterAction (Eval net values cycles) = ⊥
+IsLaterAction (Iso other) = Unit {0}
+IsLaterAction (Lift table) = Unit {0}
+IsLaterAction (Table net cycles) = Unit {0}
+IsLaterAction (Certify net terms cycles) = Unit {0}
+IsLaterAction (Verify net certificate terms cycles) = Unit {0}
+IsLaterAction (Upgrade net certificate cycles) = Unit {0}
+
+abbrev pub IsLater : Job → Type 0
+IsLater (Over signature action) = IsLaterAction action
