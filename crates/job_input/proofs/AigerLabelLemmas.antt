@@ -1,5 +1,5 @@
 -- The labels of a net in ASCII AIGER have no line feed, nor has what its faults repeat.
-use Rattle.std.proofs.Common.{◌≡◌, ap, inl, inr, refl, subst, sym, ℕ, ◌+◌, ◌-◌, ◌^◌, ◌==◌, Bool, true, false, cond, not, ◌&&◌, List, [], ◌∷◌, ◌++◌, length, drop, Option, None, Some, Result, Ok, Err}
+use Rattle.std.proofs.Common.{◌≡◌, inl, inr, refl, subst, sym, ℕ, ◌+◌, ◌-◌, ◌^◌, ◌==◌, Bool, true, false, cond, not, ◌&&◌, List, [], ◌∷◌, ◌++◌, length, drop, Option, None, Some, Result, Ok, Err}
 use Rattle.std.specs.Prelude.{codes, is_some, nat_eq, nat_le, nat_lt, unwrap_or}
 use Rattle.std.specs.Fmt.{decimal}
 use Rattle.std.specs.List.{AllByRecursion, list_all, list_any}
@@ -14,14 +14,14 @@ use Rattle.net_core.specs.declared.fault.NetFault.{NetFault}
 use Rattle.net_core.specs.declared.fault.NetFault.TheVariants as nets_faults
 use Rattle.net_aiger.specs.AigerNet.{AigerNet, Settles}
 use Rattle.net_aiger.specs.Checks.{apart, is_known, known, own}
-use Rattle.net_aiger.specs.Lines.{and_line, before_space, counts, define, ends, first_other, fits, header_from, header_with, input_line, is_complete, is_header, is_port_name, is_shown, latch_of, left_number, left_out, lines_read, named, number_line, one_line, output_line, port_of, section_line, symbol_line, text_read, with_latch, within}
+use Rattle.net_aiger.specs.Lines.{and_line, before_space, counts, define, ends, first_other, fits, header_from, header_with, input_line, is_complete, is_header, is_port_name, is_shown, latch_of, left_number, left_out, lines_read, named, number_line, one_line, output_line, port_of, symbol_line, text_read, with_latch, within}
 use Rattle.net_aiger.specs.Nets.{and_gate, and_made, ands_made, fresh_latch, gated, is_plain, labelled, latch_made, latch_on, latched, latches_made, literal_gate, net_made, output_made, outputs_made, variable_made, variables_made, with_output}
 use Rattle.net_aiger.specs.Numbers.{number_of, numbers_of, words_of}
 use Rattle.net_aiger.specs.Reading.{Name, Reading, default_name, driven, net_of, port_name, ports_of, stands, start, variable_net}
 use Rattle.net_aiger.specs.Steps.{◌>>=◌}
 use Rattle.net_aiger.specs.declared.fault.AigerFault.{AigerFault}
 use Rattle.net_aiger.specs.declared.fault.AigerFault.TheVariants as aigers
-use Rattle.job_words.proofs.OneLineLemmas.{IsClean, clean_kept, number_clean}
+use Rattle.job_words.proofs.OneLineLemmas.{IsClean, number_clean}
 use Rattle.job_input.proofs.LabelFaultLemmas.{NetKeeps, HasCleanLabels, finish_keeps}
 
 -- ---- names

@@ -1,6 +1,6 @@
 -- The labels of the nets of a walk have no line feed, and a limit that stops the walk repeats nothing.
 use Rattle.std.proofs.Common.{◌≡◌, ◌⊎◌, ◌∙◌, inl, inr, refl, subst, ℕ, zero, suc, ◌≤◌, ◌^◌, ◌+◌, Bool, true, false, cond, List, [], ◌∷◌, ◌++◌, map, length, Option, None, Some, Result, Ok, Err, arith}
-use Rattle.std.specs.Prelude.{All, codes, flat_map, nat_le}
+use Rattle.std.specs.Prelude.{codes, flat_map, nat_le}
 use Rattle.std.specs.Fmt.{decimal}
 use Rattle.std.specs.List.{AllByRecursion}
 use Rattle.std.specs.Option.{option_map_or}

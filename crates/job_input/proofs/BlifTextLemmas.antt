@@ -1,15 +1,14 @@
 -- The names of a text in BLIF print, and so do the words that its faults repeat.
-use Rattle.std.proofs.Common.{◌≡◌, sym, refl, subst, inl, inr, ℕ, zero, suc, ◌≤◌, Bool, true, false, cond, not, List, [], ◌∷◌, ◌++◌, map, length, Option, None, Some, Result, Ok, Err, arith}
-use Rattle.std.specs.Prelude.{All, IfSome, IsTrue, is_some, nat_lt, slice_get}
+use Rattle.std.proofs.Common.{◌≡◌, sym, subst, inl, inr, ℕ, zero, suc, Bool, true, false, cond, not, List, [], ◌∷◌, ◌++◌, map, length, Option, None, Some, Result, Ok, Err, arith}
+use Rattle.std.specs.Prelude.{All, IfSome, IsTrue, is_some, nat_lt}
 use Rattle.std.specs.List.{AllByRecursion, list_all}
-use Rattle.std.specs.Option.{option_map_or}
 use Rattle.std.proofs.lemmas.List.Elements.{All-weaker, recursion_from_All}
 use Rattle.text_core.specs.Lines.{IsPrinting, tokens_of}
 use Rattle.net_blif.specs.Chains.{WalkEnds, graph_of, leads_on}
 use Rattle.net_blif.specs.Connection.{formal_of}
 use Rattle.net_blif.specs.Cover.{CoverValue, begun, gate_of}
 use Rattle.net_blif.specs.Design.{ModelValue, items_of, model_named, name_of}
-use Rattle.net_blif.specs.Instances.{connection_fault, fault_on, first_found, formals_of, inputs_of, instance_fault, instances_fault, is_among, missing_fault, model_fault, or_else, refused}
+use Rattle.net_blif.specs.Instances.{connection_fault, first_found, formals_of, inputs_of, instance_fault, instances_fault, is_among, missing_fault, model_fault, or_else, refused}
 use Rattle.net_blif.specs.Item.{HasPrintingNames}
 use Rattle.net_blif.specs.Latch.{start_of}
 use Rattle.net_blif.specs.Lines.{Numbered, lines_of}

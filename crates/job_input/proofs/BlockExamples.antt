@@ -1,5 +1,5 @@
 -- A small worked example of the definitions of specs/, which the check computes: the bases of blocks.
-use Rattle.std.proofs.Common.{◌≡◌, ◌≢◌, inl, inr, ℕ, [], ◌∷◌, List, codes, refl, sym, Err}
+use Rattle.std.proofs.Common.{inl, inr, ℕ, [], ◌∷◌, codes, refl, Err}
 use Rattle.net_words.specs.declared.word.BasisText.TheVariants.{Poly}
 use Rattle.net_words.specs.declared.word.Role.TheVariants.{Input, Output}
 use Rattle.net_words.specs.declared.word.WordText.{WordText}

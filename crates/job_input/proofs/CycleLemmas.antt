@@ -1,15 +1,13 @@
 -- All cycles of a netlist as one circuit.
-use Rattle.std.proofs.Common.{◌≡◌, ◌∙◌, ap, sym, refl, subst, inl, inr, ℕ, suc, ◌⊎◌, ◌^◌, Bool, ◌<◌, ◌≤◌, ◌*◌, List, [], ◌∷◌, length, map, take, drop, true, false, cond, Result, Ok, Err, arith}
+use Rattle.std.proofs.Common.{◌≡◌, ◌∙◌, ap, sym, refl, subst, inl, inr, ℕ, suc, ◌⊎◌, ◌^◌, Bool, ◌<◌, ◌≤◌, List, [], ◌∷◌, length, map, drop, true, false, cond, Result, Ok, Err, arith}
 use Rattle.std.specs.Prelude.{IfOk}
 use Rattle.std.proofs.lemmas.Bool.{cases_lt}
-use Rattle.std.specs.List.{list_any}
 use Rattle.text_core.specs.Outcome.{Determined}
-use Rattle.net_core.specs.NetList.{NetList, nets}
-use Rattle.net_words.specs.Binding.{Binding, BoundNet}
-use Rattle.net_words.specs.Rebind.{rebinding, rebound}
+use Rattle.net_core.specs.NetList.{nets}
+use Rattle.net_words.specs.Binding.{BoundNet}
+use Rattle.net_words.specs.Rebind.{rebound}
 use Rattle.net_words.specs.declared.bound.BoundWord.{BoundWord}
 use Rattle.unroll.specs.Unrolled.{in_one_cycle, is_flat, unrolled, unrolled_nets}
-use Rattle.job_words.specs.declared.netlist_fault.NetlistFault.{NetlistFault}
 use Rattle.job_words.specs.declared.netlist_fault.NetlistFault.TheVariants.{TooManyNets, TooManyGates}
 use Rattle.job_words.specs.declared.stop.Stop.{Stop}
 use Rattle.job_input.specs.CircuitOf.{CircuitOf, all_cycles}

@@ -16,7 +16,7 @@ use Rattle.gf_tower.specs.declared.any_field.AnyField.TheVariants.{Base, Tower, 
 use Rattle.gf_tower.proofs.FieldNameLaws.{degree_unique, fault_clash}
 use Rattle.gf_tower.proofs.FieldFaultLaws.{one_field_fault}
 use Rattle.net_flat.proofs.FlatDetermined.{determined_within}
-use Rattle.job_input.specs.FieldOf.{FieldValue, base_field, tower_field, upper_field, field_of, FieldOrFault, field_fault, FieldOf}
+use Rattle.job_input.specs.FieldOf.{FieldValue, base_field, field_of, FieldOrFault, field_fault, FieldOf}
 use Rattle.job_input.specs.Setting.{any_degree, any_product}
 
 -- ---- the field that is made

@@ -1,11 +1,10 @@
 -- What the faults of a job's files repeat has no line feed.
-use Rattle.std.proofs.Common.{◌≡◌, inl, inr, refl, subst, sym, ℕ, suc, ◌≤◌, Bool, true, false, List, [], ◌∷◌, ◌++◌, Option, None, Some, Result, Ok, Err, arith}
+use Rattle.std.proofs.Common.{◌≡◌, inl, inr, refl, subst, sym, ℕ, suc, ◌≤◌, Bool, true, false, List, [], ◌∷◌, ◌++◌, Option, None, Some, Result, Err, arith}
 use Rattle.std.specs.Prelude.{◌≢◌, slice_get, if◌then◌else◌}
 use Rattle.std.specs.List.{AllByRecursion}
 use Rattle.std.proofs.lemmas.List.Elements.{All-weaker}
 use Rattle.text_core.specs.Outcome.{Within}
 use Rattle.job_io.specs.Shelf.{Files}
-use Rattle.net_core.specs.Lists.{Has}
 use Rattle.gf_basis.specs.declared.bases.BasisFault.{BasisFault}
 use Rattle.gf_basis.specs.declared.bases.BasisFault.TheVariants as bases
 use Rattle.gf_tower.specs.declared.any_field.FieldFault.{FieldFault}
@@ -22,7 +21,6 @@ use Rattle.net_words.specs.declared.word.Role.{Role}
 use Rattle.net_words.specs.declared.word.Role.TheVariants.{Input, State, Fed, Output}
 use Rattle.net_words.specs.declared.word.WordText.{WordText}
 use Rattle.poly_mixed.specs.Labels.{Labelling}
-use Rattle.spec_expand.specs.Specification.{SpecTerms}
 use Rattle.net_words.specs.Binding.{BoundNet}
 use Rattle.job_words.specs.declared.netlist_fault.NetlistFault.{NetlistFault}
 use Rattle.job_words.specs.OneLine.{HasNoLineFeed, KeepsToItsLine, repeated_of_file, repeated_of_netlist, repeated_of_signature}
@@ -55,7 +53,7 @@ read_keeps : (held : Option Files) (name : Word) (fault : FileFault) → HasNoLi
 read_keeps held name (file.Absent other) kept is = let P : Word → Type 0 = HasNoLineFeed in (subst P (sym is.0) kept, tt)
 read_keeps held name (file.TooLong other) kept is = let P : Word → Type 0 = HasNoLineFeed in (subst P (sym is.0) kept, tt)
 
-file_keeps : (held : Option Files) (name : Word) (fault : Fault) → HasNoLineFeed name → Within faults.File (Read held name) (Err fault) → KeepsToItsLine fault
+pub file_keeps : (held : Option Files) (name : Word) (fault : Fault) → HasNoLineFeed name → Within faults.File (Read held name) (Err fault) → KeepsToItsLine fault
 file_keeps held name fault kept (other, is, same) = same_line fault (faults.File other) same (read_keeps held name other kept is)
 
 plain_kept : (token : Word) → IsNetToken token → HasNoLineFeed token

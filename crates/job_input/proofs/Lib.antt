@@ -10,6 +10,7 @@ pub mod NetlistLemmas
 pub mod NetlistDetermined
 pub mod RoleLemmas
 pub mod LabelLemmas
+pub mod CircuitLabelLemmas
 pub mod CircuitLemmas
 pub mod CycleLemmas
 pub mod LabelFaultLemmas

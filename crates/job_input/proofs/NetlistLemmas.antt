@@ -39,7 +39,6 @@ use Rattle.net_verilog.specs.declared.fault.VerilogFault.{VerilogFault}
 use Rattle.net_verilog.specs.declared.fault.VerilogFault.TheVariants as verilogs
 use Rattle.job_input.specs.NetlistOf.{Aiger, Blif, BoundNetOf, NetOf, NetlistText, Verilog, WordsBound, of_binding, of_text, word_name}
 use Rattle.job_input.specs.private.NetlistReading.{FitsNetlist, IsNamed, IsNetlistRefusal, aiger_refusal, text_refusal, net_refusal, model_refusal, verilog_refusal}
-use Rattle.job_words.specs.declared.netlist_fault.NetlistFault.{NetlistFault}
 use Rattle.job_words.specs.declared.netlist_fault.NetlistFault.TheVariants as netlist
 use Rattle.job_input.specs.declared.netlist.Refusal.{Refusal}
 use Rattle.job_input.specs.declared.netlist.Refusal.TheVariants.{Fault, OutOfMemory}

@@ -1,10 +1,9 @@
 -- What the fault of a netlist repeats has no line feed.
-use Rattle.std.proofs.Common.{◌≡◌, inl, inr, refl, subst, sym, ℕ, ◌<◌, ◌≤◌, List, [], ◌∷◌, get_or, length, Option, None, Some, Ok, Err, arith}
-use Rattle.std.specs.Prelude.{All, slice_get}
-use Rattle.std.specs.Char.{IsAsciiAlphanumeric}
+use Rattle.std.proofs.Common.{◌≡◌, inl, inr, refl, subst, sym, ℕ, List, [], get_or, Option, None, Some, Ok, Err, arith}
+use Rattle.std.specs.Prelude.{slice_get}
 use Rattle.std.specs.List.{AllByRecursion}
 use Rattle.std.specs.Option.{option_map_or}
-use Rattle.std.proofs.lemmas.List.Elements.{All-from_get_or, All-weaker}
+use Rattle.std.proofs.lemmas.List.Elements.{All-from_get_or}
 use Rattle.text_core.specs.Names.{IsName, IsNameByte}
 use Rattle.net_core.specs.NetList.{NetList, text_of}
 use Rattle.net_core.specs.declared.fault.NetFault.{NetFault}
@@ -23,7 +22,6 @@ use Rattle.net_flat.specs.declared.flat_fault.FlatFault.{FlatFault}
 use Rattle.net_flat.specs.declared.flat_fault.FlatFault.TheVariants as flats
 use Rattle.net_signature.specs.Signature.{SignatureValue}
 use Rattle.net_signature.specs.WordNames.{HaveNames}
-use Rattle.net_words.specs.Binding.{Binding}
 use Rattle.net_words.specs.declared.binding.BindFault.{BindFault}
 use Rattle.net_words.specs.declared.binding.BindFault.TheVariants as binds
 use Rattle.net_words.specs.declared.feed.FeedText.{FeedText}

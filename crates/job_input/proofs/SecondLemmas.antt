@@ -1,17 +1,16 @@
 -- The second of two signatures: its faults are those of a first one under their own name.
-use Rattle.std.proofs.Common.{◌≡◌, inl, inr, refl, sym, subst, Option, Result, Ok, Err}
+use Rattle.std.proofs.Common.{inl, inr, refl, sym, subst, Option, Ok, Err}
 use Rattle.text_core.specs.Outcome.{Within}
 use Rattle.job_io.specs.Shelf.{Files}
 use Rattle.net_signature.specs.Signature.{SignatureValue}
 use Rattle.job_words.specs.Operands.{Word}
 use Rattle.job_words.specs.Stop.{GivesBy, IsMiss}
 use Rattle.job_words.specs.declared.fault.Fault.{Fault}
-use Rattle.job_words.specs.declared.fault.Fault.TheVariants.{File, Signature, SecondSignature}
+use Rattle.job_words.specs.declared.fault.Fault.TheVariants.{Signature}
 use Rattle.job_words.specs.declared.stop.Stop.{Stop}
 use Rattle.job_words.specs.declared.stop.Stop.TheVariants as stops
-use Rattle.job_input.specs.File.{Read}
 use Rattle.job_input.specs.Setting.{second_fault, second_stop}
-use Rattle.job_input.specs.SettingOf.{SettingWith, SignedOf, SignedValue}
+use Rattle.job_input.specs.SettingOf.{SettingWith, SignedValue}
 use Rattle.job_input.specs.SettingValue.{SettingValue}
 use Rattle.job_input.specs.SignedIn.{SecondOf, SecondSignedIn, SignedIn}
 

@@ -8,7 +8,7 @@ use Rattle.net_words.specs.declared.word.WordText.{WordText}
 use Rattle.net_signature.specs.Signature.{SignatureValue, Sig}
 use Rattle.net_signature.proofs.FeedLemmas.{feeds_are}
 use Rattle.net_signature.proofs.NamesLemmas.{sig_names, sig_counts}
-use Rattle.job_input.specs.SettingOf.{feeds_within, HasWidth, BasesOf, SettingOf}
+use Rattle.job_input.specs.SettingOf.{HasWidth, BasesOf, SettingOf}
 use Rattle.job_input.specs.Setting.{AreSaid}
 use Rattle.job_input.specs.SettingValue.{SettingValue}
 use Rattle.job_input.proofs.FieldLemmas.{field_some, field_most}

@@ -1,5 +1,5 @@
 -- The labels of a net in structural Verilog have no line feed, nor has what its faults repeat.
-use Rattle.std.proofs.Common.{◌≡◌, inl, inr, refl, subst, sym, ℕ, ◌<◌, ◌≤◌, List, [], ◌∷◌, Ok, Err, arith}
+use Rattle.std.proofs.Common.{inl, inr, subst, sym, ℕ, List, [], ◌∷◌, Ok, Err}
 use Rattle.std.specs.List.{AllByRecursion}
 use Rattle.text_core.specs.Lines.{IsPrinting}
 use Rattle.net_core.specs.NetList.{LabelValue, NetList}
@@ -10,7 +10,6 @@ use Rattle.net_verilog.specs.Tokens.{tokens_of}
 use Rattle.net_verilog.specs.declared.fault.VerilogFault.{VerilogFault}
 use Rattle.net_verilog.specs.declared.fault.VerilogFault.TheVariants as verilogs
 use Rattle.verilog_reader.specs.Modules.{Module, VerilogNet}
-use Rattle.verilog_reader.proofs.GrowLemmas.{HavePrintingLabels}
 use Rattle.verilog_reader.proofs.PrintLemmas.{FaultPrints, IsLimit}
 use Rattle.verilog_reader.proofs.TextLemmas.{module_keeps, tokens_print}
 use Rattle.job_words.proofs.OneLineLemmas.{IsClean, kept_clean}

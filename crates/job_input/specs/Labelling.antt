@@ -1,5 +1,8 @@
 -- The labels with which a job's polynomials are printed. Source: this project's own, docs/FORMATS.md.
 use Rattle.std.specs.Prelude.{ℕ, ◌<◌, List, [], ◌∷◌, ◌++◌, length, map}
+use Rattle.net_core.specs.NetList.{nets}
+use Rattle.net_words.specs.Binding.{BoundNet}
+use Rattle.net_words.specs.Variables.{bits, others}
 use Rattle.net_words.specs.declared.word.Role.{Role}
 use Rattle.net_words.specs.declared.word.Role.TheVariants.{Input, State, Fed, Output}
 use Rattle.net_words.specs.declared.word.WordText.{WordText}
@@ -32,6 +35,10 @@ output_name (word ∷ words) = name_with word.role word.name (output_name words)
 -- the labels of polynomials in words and their bits, which need no names of other nets
 abbrev pub labels_of : ℕ → List WordText → Labelling
 labels_of k words = record { output = output_name words; words = word_labels k words; nets = [] }
+
+-- the labels of polynomials in all variables of a circuit: the words, their bits, and then its other nets by number
+abbrev pub circuit_labels : ℕ → List WordText → BoundNet → Labelling
+circuit_labels k words circuit = record { output = output_name words; words = word_labels k words; nets = others (nets circuit.net) (bits circuit.bound.words) }
 
 -- a word that adds a label has a new name, and there are fewer than 8 before it
 abbrev pub IsNewLabel : Role → List ℕ → List (List ℕ × ℕ) → Type 0

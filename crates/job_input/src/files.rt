@@ -13,8 +13,8 @@ use std::alloc::Global;
 
 const LIMIT: u32 = 67_108_864;
 
-/// The bytes of a file, at most 67,108,864.
-pub(crate) fn read_file<S: Shelf>(alloc: Global, shelf: &mut S, name: &str) -> Result<Vec<u8>, Stop>
+/// The bytes of a file, at most 67,108,864, or its fault.
+pub fn read_file<S: Shelf>(alloc: Global, shelf: &mut S, name: &str) -> Result<Vec<u8>, Stop>
     ensures held { S.held shelf.new ≡ S.held shelf.old }
     ensures never_fall { (S.faults shelf.old ≤ S.faults shelf.new) × (S.misses shelf.old ≤ S.misses shelf.new) }
     ensures gives { GivesBy bytes_of result (Within File (Read (S.held shelf.old) name.now))

@@ -1,6 +1,6 @@
 //! Laws of settings, circuits and specifications. These functions do nothing: their contracts are proved of the definitions alone.
 ghost use Rattle.std.specs.Prelude.{List, ℕ, Option, Ok, Err};
-ghost use Rattle.text_core.specs.Outcome.{Determined};
+ghost use Rattle.text_core.specs.Outcome.{Determined, Within};
 ghost use Rattle.job_io.specs.Shelf.{Files};
 ghost use Rattle.net_words.specs.Binding.{BoundNet};
 ghost use Rattle.net_signature.specs.Signature.{SignatureValue};
@@ -9,7 +9,9 @@ ghost use Rattle.poly_mixed.specs.Labels.{Labelling};
 ghost use Rattle.job_words.specs.OneLine.{HasNoLineFeed, KeepsToItsLine};
 ghost use Rattle.job_words.specs.Operands.{Word};
 ghost use Rattle.job_words.specs.declared.fault.Fault.{Fault};
+ghost use Rattle.job_words.specs.declared.fault.Fault.TheVariants.{File};
 ghost use Rattle.job_input.specs.CircuitOf.{CircuitOf, UnrolledIn};
+ghost use Rattle.job_input.specs.File.{Read};
 ghost use Rattle.job_input.specs.NetlistOf.{BoundNetOf, NetlistIn, NetlistText};
 ghost use Rattle.job_input.specs.SettingOf.{SettingOf};
 ghost use Rattle.job_input.specs.SettingSound.{IsSoundSetting};
@@ -49,8 +51,8 @@ pub fn one_table_file_or_fault()
 {}
 
 /// What a fault of a job's files repeats of words and files has no line feed, where the file's name has none: a signature's
-/// fault, that of a second signature, a netlist's under words that have names, that of unrolling it, a specification's, and a
-/// table's.
+/// fault, that of a second signature, a netlist's under words that have names, that of unrolling it, a specification's, a
+/// table's, and that of a file alone.
 pub fn faults_keep_to_their_line()
     ensures signature { (held : Option Files) (name : Word) (fault : Fault) → HasNoLineFeed name → SignedIn held name (Err fault) → KeepsToItsLine fault }
     ensures second { (held : Option Files) (name : Word) (fault : Fault) → HasNoLineFeed name → SecondIn held name (Err fault) → KeepsToItsLine fault }
@@ -58,4 +60,5 @@ pub fn faults_keep_to_their_line()
     ensures unrolled { (name : Word) (netlist : BoundNet) (cycles : ℕ) (fault : Fault) → HasNoLineFeed name → UnrolledIn name netlist cycles (Err fault) → KeepsToItsLine fault }
     ensures specification { (held : Option Files) (labels : Labelling) (k : ℕ) (product : ℕ → ℕ → ℕ) (name : Word) (fault : Fault) → HasNoLineFeed name → SpecificationIn held labels k product name (Err fault) → KeepsToItsLine fault }
     ensures table { (held : Option Files) (k n : ℕ) (name : Word) (fault : Fault) → HasNoLineFeed name → TableIn held k n name (Err fault) → KeepsToItsLine fault }
+    ensures file { (held : Option Files) (name : Word) (fault : Fault) → HasNoLineFeed name → Within File (Read held name) (Err fault) → KeepsToItsLine fault }
 {}

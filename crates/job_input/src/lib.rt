@@ -5,6 +5,7 @@
 
 mod bound;
 mod circuit;
+mod circuit_labels;
 mod cycles;
 mod files;
 mod labels;
@@ -19,6 +20,8 @@ mod table_file;
 
 pub use bound::BoundNetlist;
 pub use circuit::{read_circuit, read_netlist, unroll_netlist};
+pub use circuit_labels::circuit_labels_for;
+pub use files::read_file;
 pub use labels::labels_for;
 pub use laws::{
     each_setting_is_sound, faults_keep_to_their_line, one_circuit_or_fault, one_netlist_or_fault,

@@ -1,4 +1,4 @@
-use Rattle.job_input.proofs.FileLineLemmas.{cycles_keep, netlist_file_keeps, second_keeps, signed_keeps, specification_keeps, table_keeps}
+use Rattle.job_input.proofs.FileLineLemmas.{cycles_keep, file_keeps, netlist_file_keeps, second_keeps, signed_keeps, specification_keeps, table_keeps}
 use Rattle.job_input.proofs.laws.faults_keep_to_their_line.Goals as goal
 
 pub returns-clause-signature : goal.returns-clause-signature
@@ -18,3 +18,6 @@ returns-clause-specification c = specification_keeps
 
 pub returns-clause-table : goal.returns-clause-table
 returns-clause-table c = table_keeps
+
+pub returns-clause-file : goal.returns-clause-file
+returns-clause-file c = file_keeps
