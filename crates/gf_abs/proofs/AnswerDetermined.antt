@@ -9,7 +9,7 @@ use Rattle.job_words.specs.declared.fault.Fault.TheVariants as faults
 use Rattle.job_words.specs.declared.file_fault.FileFault.{FileFault}
 use Rattle.job_words.specs.declared.file_fault.FileFault.TheVariants.{Absent, TooLong}
 use Rattle.job_words.specs.Operands.{Word}
-use Rattle.job_words.specs.Command.{Action, Bits, Abstract, Check, Same, Eval, Iso, Lift, Table, Job, Over}
+use Rattle.job_words.specs.Command.{Action, Bits, Abstract, Check, Same, Eval, Iso, Lift, Table, Certify, Verify, Upgrade, Job, Over}
 use Rattle.job_words.proofs.OneCommandLemmas.{one_job}
 use Rattle.job_input.specs.File.{Read}
 use Rattle.job_input.specs.Labelling.{labels_of}
@@ -37,8 +37,14 @@ use Rattle.gf_abs.specs.commands.Eval.{EvalAt, EvalOver, EvalReply}
 use Rattle.gf_abs.specs.commands.Iso.{IsoReply}
 use Rattle.gf_abs.specs.commands.Lift.{LiftOver, LiftReply, SmallEnough, table_words}
 use Rattle.gf_abs.specs.commands.Table.{TableOver, TableReply}
+use Rattle.gf_abs.specs.Certificates.{CertifiedBy, CertifiedIn, CertifiedOver}
+use Rattle.gf_abs.specs.commands.Certify.{CertifyReply}
+use Rattle.gf_abs.specs.commands.Upgrade.{UpgradeReply}
+use Rattle.gf_abs.specs.commands.Verify.{VerifyReply}
 use Rattle.gf_abs.specs.commands.Same.{SameReply, SameSecond, SameUnrolled, SameBeside}
 use Rattle.gf_abs.specs.Values.{ValuesOf}
+use Rattle.gf_abs.proofs.CertificateDetermined.{upgrade_determined, verify_determined}
+use Rattle.gf_abs.proofs.CertifyLemmas.{certify_determined}
 use Rattle.gf_abs.proofs.CheckDetermined.{check_determined}
 use Rattle.gf_abs.proofs.EvalDetermined.{eval_determined, values_determined}
 use Rattle.gf_abs.proofs.IsoLemmas.{iso_determined}
@@ -121,6 +127,12 @@ module _ (files : Files) where
   table_in_determined k n name =
       determined_after (Within File (Read (Some files) name)) (λ text. Within faults.Table (TableOf k n text)) (file_determined name) (λ text read. determined_within faults.Table (TableOf k n text) (table_text_determined k n text))
 
+  certified_determined : (setting : SettingValue) (net file : Word) (cycles : ℕ) → Determined (CertifiedIn (Some files) setting.signature net file cycles)
+  certified_determined setting net file cycles =
+      determined_after (NetlistIn (Some files) setting.signature net) (λ netlist. CertifiedOver (Some files) net netlist file cycles) (file_netlist_determined setting net) (λ netlist taken.
+      determined_after (Within File (Read (Some files) file)) (λ bytes. CertifiedBy net netlist cycles bytes) (file_determined file) (λ bytes read.
+      determined_after (UnrolledIn net netlist cycles) (λ circuit. Exactly (circuit, bytes)) (unrolled_determined net netlist cycles) (λ circuit of. determined_exactly (circuit, bytes))))
+
   action_determined : (setting : SettingValue) (action : Action) → IsSoundSetting setting → Determined (ActionAnswer (Some files) setting action)
   action_determined setting (Bits net terms cycles) sound =
       determined_after (CircuitIn (Some files) setting.signature net cycles) (λ circuit. BitsReply setting circuit terms) (file_circuit_determined setting net cycles)
@@ -154,6 +166,13 @@ module _ (files : Files) where
       determined_after (SmallEnough setting) (λ u. TableOver (Some files) setting net cycles) (small_determined setting) (λ u small.
       determined_after (CircuitIn (Some files) setting.signature net cycles) (λ circuit. TableReply setting circuit) (file_circuit_determined setting net cycles)
       (λ circuit of. table_determined setting circuit sound (by_ending net of.1.0) cycles (of.0, of.1.2, of.2)))
+  action_determined setting (Certify net terms cycles) sound =
+      determined_after (CircuitIn (Some files) setting.signature net cycles) (λ circuit. CertifyReply setting circuit terms) (file_circuit_determined setting net cycles)
+      (λ circuit of. certify_determined setting circuit sound (by_ending net of.1.0) cycles (of.0, of.1.2, of.2) terms)
+  action_determined setting (Verify net certificate terms cycles) sound =
+      determined_after (CertifiedIn (Some files) setting.signature net certificate cycles) (λ certified. VerifyReply setting terms certified) (certified_determined setting net certificate cycles) (λ certified of. verify_determined setting sound terms certified)
+  action_determined setting (Upgrade net certificate cycles) sound =
+      determined_after (CertifiedIn (Some files) setting.signature net certificate cycles) (λ certified. UpgradeReply setting certified) (certified_determined setting net certificate cycles) (λ certified of. upgrade_determined setting certified)
 
   signed_answer_determined : (text : List ℕ) (signed : SignedValue) (action : Action) → SignedOf text (Ok signed) → Determined (SignedAnswer (Some files) signed action)
   signed_answer_determined text signed action is =

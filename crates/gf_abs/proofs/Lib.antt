@@ -20,6 +20,12 @@ pub mod SameLemmas
 pub mod HexLemmas
 pub mod ReadBackLemmas
 pub mod TableLemmas
+pub mod CertificateLabelLemmas
+pub mod CertifiedLemmas
+pub mod RecordedLemmas
+pub mod VerdictLemmas
+pub mod CertifyLemmas
+pub mod CertificateDetermined
 pub mod IsoLemmas
 pub mod AnswerDetermined
 pub mod OneLineLemmas
@@ -35,4 +41,5 @@ pub mod CheckHeadlineLemmas
 pub mod EvalHeadlineLemmas
 pub mod TableHeadlineLemmas
 pub mod IsoHeadlineLemmas
+pub mod CertificateHeadlineLemmas
 mod Examples

@@ -3,16 +3,12 @@ use Rattle.std.proofs.Common.{◌≡◌, ◌∙◌, ap, sym, refl, subst, inl, i
 use Rattle.std.specs.Prelude.{slice_get, ◌==◌, ◌||◌}
 use Rattle.std.specs.List.{AllByRecursion, list_any}
 use Rattle.std.proofs.lemmas.Bool.{cases_lt, true≢false, eq-eqb}
-use Rattle.std.proofs.lemmas.List.{length-map, length-append}
+use Rattle.std.proofs.lemmas.List.{length-map}
 use Rattle.net_core.specs.Lists.{Has}
 use Rattle.net_core.specs.Sound.{IsSound}
 use Rattle.net_core.proofs.DriverLemmas.{All_has, from_map}
 use Rattle.net_words.specs.Binding.{BoundNet}
 use Rattle.net_words.specs.OneCycle.{IsOneCycle}
-use Rattle.net_words.specs.Variables.{bits, bits_with}
-use Rattle.net_words.specs.declared.bound.BoundWord.{BoundWord}
-use Rattle.net_words.specs.declared.word.Role.{Role}
-use Rattle.net_words.specs.declared.word.Role.TheVariants.{Input, State, Fed, Output}
 use Rattle.net_words.specs.declared.word.WordText.{WordText}
 use Rattle.gf_field.specs.Ring.{IsRing}
 use Rattle.gf_field.specs.Field.{HasNoZeroDivisors}
@@ -32,36 +28,9 @@ use Rattle.stage_model.specs.Stage.{IsOfStage}
 use Rattle.stage_model.proofs.BlindLemmas.{in_words}
 use Rattle.stage_model.proofs.BoundLemmas.{bound_cut}
 use Rattle.job_input.specs.Setting.{HaveRoles}
-use Rattle.job_input.specs.Labelling.{word_label, word_labels, labels_of}
+use Rattle.job_input.specs.Labelling.{word_labels, labels_of}
 use Rattle.job_input.specs.Setting.{elements_of_each, AreBasesOver}
-
--- the bits of the words, counted by their nets and by their labels
-count_with : (r : Role) (name nets : List ℕ) (k : ℕ) → length nets ≡ k → (ls : List (List ℕ × ℕ)) → length (bits_with r nets) + bit_count ls ≡ bit_count (word_label r name k ++ ls)
-count_with Input name nets k long ls = ap (λ n. n + bit_count ls) long
-count_with State name nets k long ls = ap (λ n. n + bit_count ls) long
-count_with Fed name nets k long ls = ap (λ n. n + bit_count ls) long
-count_with Output name nets k long ls = omega arith
-
-counted : (k : ℕ) (bound : List BoundWord) (words : List WordText) → ((word : BoundWord) → Has bound word → length word.nets ≡ k) → HaveRoles words bound → length (bits bound) ≡ bit_count (word_labels k words)
-counted k [] [] each same = refl
-counted k [] (w ∷ ws) each same = absurd (cc)
-counted k (b ∷ bs) [] each same = absurd (cc)
-counted k (b ∷ bs) (w ∷ ws) each same =
-    length-append (bits_with b.role b.nets) (bits bs)
-    ∙ (ap (λ n. length (bits_with b.role b.nets) + n) (counted k bs ws (λ u has. each u (suc has.0, has.1)) (ap rest same))
-    ∙ (ap (λ r. length (bits_with r b.nets) + bit_count (word_labels k ws)) head
-    ∙ count_with w.role w.name b.nets k (each b (0, refl)) (word_labels k ws)))
-  where
-    rest : List Role → List Role
-    rest [] = []
-    rest (r ∷ rs) = rs
-
-    first : List Role → Role
-    first [] = Output
-    first (r ∷ rs) = r
-
-    head : b.role ≡ w.role
-    head = ap first same
+use Rattle.job_input.proofs.CircuitLabelLemmas.{counted}
 
 -- a rank that stands in no term stands in no list of ranks of a term
 stands : (rank : ℕ) (rs : List ℕ) (k : ℕ) → slice_get rs k ≡ Some rank → list_any (λ r. r == rank) rs ≡ true

@@ -1,7 +1,7 @@
 -- Each fault that may come is one line.
-use Rattle.std.proofs.Common.{◌≡◌, inl, inr, refl, subst, sym, ℕ, List, length, Option, Ok, Err}
+use Rattle.std.proofs.Common.{◌≡◌, inl, inr, refl, subst, sym, ℕ, List, length, Option, Some, Ok, Err}
 use Rattle.text_core.specs.Outcome.{Within}
-use Rattle.std.specs.Prelude.{codes}
+use Rattle.std.specs.Prelude.{codes, decimal}
 use Rattle.job_io.specs.Shelf.{Files}
 use Rattle.net_words.specs.Binding.{BoundNet}
 use Rattle.net_signature.specs.WordNames.{HaveNames}
@@ -10,7 +10,10 @@ use Rattle.poly_mixed.specs.declared.stage.Stage.{Stage}
 use Rattle.spec_expand.specs.Specification.{SpecTerms}
 use Rattle.spec_expand.specs.SpecListing.{spec_listing}
 use Rattle.stage_model.specs.Listing.{Joined, Earlier, Later, Listing}
-use Rattle.job_words.specs.Command.{Action, Bits, Abstract, Check, Same, Eval, Iso, Lift, Table, Job, Over, IsSpelled}
+use Rattle.cert_check.specs.declared.fault.CertFault.{CertFault}
+use Rattle.cert_check.specs.declared.fault.CertFault.TheVariants as text
+use Rattle.job_words.specs.declared.certificate_fault.CertificateFault.TheVariants as certificate
+use Rattle.job_words.specs.Command.{Action, Bits, Abstract, Check, Same, Eval, Iso, Lift, Table, Certify, Verify, Upgrade, Job, Over, IsSpelled}
 use Rattle.job_words.specs.Fault.{fault_line}
 use Rattle.job_words.specs.OneLine.{HasNoLineFeed, IsOneLine, KeepsToItsLine}
 use Rattle.job_words.specs.Operands.{IsOperand, Word}
@@ -18,20 +21,24 @@ use Rattle.job_words.specs.StageFault.{stage_text}
 use Rattle.job_words.specs.declared.fault.Fault.{Fault}
 use Rattle.job_words.specs.declared.fault.Fault.TheVariants as faults
 use Rattle.job_words.specs.declared.stage_fault.StageFault.{StageFault}
-use Rattle.job_words.proofs.OneLineLemmas.{before_kept, one_line, stage_kept}
+use Rattle.job_words.proofs.OneLineLemmas.{before_kept, clean_kept, number_clean, one_line, stage_kept}
 use Rattle.job_input.specs.CircuitOf.{CircuitIn}
 use Rattle.job_input.specs.Labelling.{labels_of}
 use Rattle.job_input.specs.SettingOf.{SettingWith, SignedOf, SignedValue}
 use Rattle.job_input.specs.SettingValue.{SettingValue}
-use Rattle.job_input.proofs.FileLineLemmas.{HaveKeptNames, cycles_keep, labels_kept, netlist_file_keeps, operand_kept, second_keeps, setting_keeps, signed_keeps, specification_keeps, table_keeps}
+use Rattle.job_input.proofs.FileLineLemmas.{HaveKeptNames, cycles_keep, file_keeps, labels_kept, netlist_file_keeps, operand_kept, second_keeps, setting_keeps, signed_keeps, specification_keeps, table_keeps}
 use Rattle.job_input.proofs.SignedLemmas.{setting_names}
 use Rattle.gf_abs.specs.Answer.{ActionAnswer, Answer, JobAnswer, SignedAnswer}
 use Rattle.gf_abs.specs.Values.{ValuesOf}
 use Rattle.gf_abs.specs.Staged.{IsStageOver, Staged, either_net_text, either_text}
 use Rattle.gf_abs.specs.commands.Abstract.{AbstractReply, abstract_stages, taken_circuit}
 use Rattle.gf_abs.specs.commands.Bits.{BitsReply, bits_stages}
+use Rattle.gf_abs.specs.Certificates.{CertifiedIn, certificate_labels, sum_fault, sum_name, text_fault}
+use Rattle.gf_abs.specs.commands.Certify.{CertifyReply}
 use Rattle.gf_abs.specs.commands.Check.{CheckReply}
 use Rattle.gf_abs.specs.commands.Same.{SameReply, same_stages}
+use Rattle.gf_abs.specs.commands.Upgrade.{UpgradeReply}
+use Rattle.gf_abs.specs.commands.Verify.{VerifyReply}
 
 -- ---- what the words of a command name
 
@@ -45,6 +52,9 @@ AreKept (Eval net values cycles) = HasNoLineFeed net
 AreKept (Iso other) = HasNoLineFeed other
 AreKept (Lift table) = HasNoLineFeed table
 AreKept (Table net cycles) = HasNoLineFeed net
+AreKept (Certify net terms cycles) = HasNoLineFeed net
+AreKept (Verify net certificate terms cycles) = HasNoLineFeed net × HasNoLineFeed certificate
+AreKept (Upgrade net certificate cycles) = HasNoLineFeed net × HasNoLineFeed certificate
 
 spelled_kept : (words : List Word) (signature : Word) (action : Action) → IsSpelled words (Over signature action) → HasNoLineFeed signature × AreKept action
 spelled_kept words signature (Bits net terms cycles) is = (operand_kept signature is.follow.signature_is, operand_kept net is.follow.file_is)
@@ -55,6 +65,9 @@ spelled_kept words signature (Eval net values cycles) is = (operand_kept signatu
 spelled_kept words signature (Iso other) is = (operand_kept signature is.follow.signature_is, operand_kept other is.follow.file_is)
 spelled_kept words signature (Lift table) is = (operand_kept signature is.follow.signature_is, operand_kept table is.follow.file_is)
 spelled_kept words signature (Table net cycles) is = (operand_kept signature is.follow.signature_is, operand_kept net is.follow.file_is)
+spelled_kept words signature (Certify net terms cycles) is = (operand_kept signature is.follow.signature_is, operand_kept net is.follow.file_is)
+spelled_kept words signature (Verify net certificate terms cycles) is = (operand_kept signature is.follow.signature_is, (operand_kept net is.follow.file_is, operand_kept certificate is.follow.other_is))
+spelled_kept words signature (Upgrade net certificate cycles) is = (operand_kept signature is.follow.signature_is, (operand_kept net is.follow.file_is, operand_kept certificate is.follow.other_is))
 
 -- ---- stages
 
@@ -76,6 +89,34 @@ module _ (labels : Labelling) (names : HaveKeptNames labels.words) where
   net_kept : (stage : Joined Stage Stage) → HasNoLineFeed (either_net_text labels stage)
   net_kept (Earlier stage) = one_kept stage
   net_kept (Later stage) = before_kept (codes "second ") (stage_text labels stage) refl (one_kept stage)
+
+-- ---- certificates
+
+some_line : (fault other : Fault) → ◌≡◌ {A = Option Fault} (Some other) (Some fault) → KeepsToItsLine other → KeepsToItsLine fault
+some_line fault other same keeps = let equal : fault ≡ other = cc in same_line fault other equal keeps
+
+-- a fault of a certificate's text repeats nothing
+text_kept : (found : CertFault) (fault : Fault) → text_fault found ≡ Some fault → KeepsToItsLine fault
+text_kept (text.Syntax line) fault same = some_line fault (faults.Certificate (certificate.Syntax line)) same tt
+text_kept (text.NoSuchNet line) fault same = some_line fault (faults.Certificate (certificate.NoSuchNet line)) same tt
+text_kept (text.NoSuchBit line) fault same = some_line fault (faults.Certificate (certificate.NoSuchBit line)) same tt
+text_kept (text.NotDriven line) fault same = some_line fault (faults.Certificate (certificate.NotDriven line)) same tt
+text_kept (text.NoSuchLet line) fault same = some_line fault (faults.Certificate (certificate.NoSuchLet line)) same tt
+text_kept text.NoEnd fault same = some_line fault (faults.Certificate certificate.NoEnd) same tt
+text_kept (text.TooManyTerms line terms) fault same = absurd (cc)
+text_kept text.OutOfMemory fault same = absurd (cc)
+
+-- a running sum is called by its line's number
+sum_kept : (bound : ℕ) (found : CertFault) (fault : Fault) → sum_fault bound found ≡ Some fault → KeepsToItsLine fault
+sum_kept bound (text.TooManyTerms line terms) fault same =
+    some_line fault (faults.Stage (record { stage = sum_name line; terms = terms; bound = bound })) same (before_kept (codes "certificate line ") (decimal line) refl (clean_kept (decimal line) (number_clean line)), tt)
+sum_kept bound (text.Syntax line) fault same = text_kept (text.Syntax line) fault same
+sum_kept bound (text.NoSuchNet line) fault same = text_kept (text.NoSuchNet line) fault same
+sum_kept bound (text.NoSuchBit line) fault same = text_kept (text.NoSuchBit line) fault same
+sum_kept bound (text.NotDriven line) fault same = text_kept (text.NotDriven line) fault same
+sum_kept bound (text.NoSuchLet line) fault same = text_kept (text.NoSuchLet line) fault same
+sum_kept bound text.NoEnd fault same = text_kept text.NoEnd fault same
+sum_kept bound text.OutOfMemory fault same = absurd (cc)
 
 -- ---- the reply of each command
 
@@ -101,11 +142,29 @@ module _ (setting : SettingValue) (names : HaveNames setting.signature.words) wh
   check_kept circuit spec bound fault (inr (line, of, inl (stage, over, same))) = over_kept setting.k setting.product (spec_listing (taken_circuit setting circuit) spec) (stage_text (labels_of setting.k setting.signature.words)) bound fault (one_kept (labels_of setting.k setting.signature.words) kept) stage over same
   check_kept circuit spec bound fault (inr (line, of, inr (found, is, never))) = absurd never
 
+  certify_kept : (circuit : BoundNet) (bound : ℕ) (fault : Fault) → CertifyReply setting circuit bound (Err fault) → KeepsToItsLine fault
+  certify_kept circuit bound fault (inl (stage, over, same)) = over_kept setting.k setting.product (abstract_stages setting circuit) (either_text (certificate_labels setting circuit)) bound fault (either_kept (certificate_labels setting circuit) kept) stage over same
+  certify_kept circuit bound fault (inr (t, of, never)) = absurd never
+
+  verify_kept : (bound : ℕ) (certified : BoundNet × List ℕ) (fault : Fault) → VerifyReply setting bound certified (Err fault) → KeepsToItsLine fault
+  verify_kept bound certified fault (inl (bases, duals, found, is, same)) = sum_kept bound found fault same
+  verify_kept bound certified fault (inr (verdict, of, never)) = absurd never
+
+  upgrade_kept : (certified : BoundNet × List ℕ) (fault : Fault) → UpgradeReply setting certified (Err fault) → KeepsToItsLine fault
+  upgrade_kept certified fault (inl (found, is, same)) = text_kept found fault same
+  upgrade_kept certified fault (inr (t, of, never)) = absurd never
+
   -- ---- the answer of each command
 
   circuit_kept : (held : Option Files) (net : Word) (cycles : ℕ) (fault : Fault) → HasNoLineFeed net → CircuitIn held setting.signature net cycles (Err fault) → KeepsToItsLine fault
   circuit_kept held net cycles fault is (inl wrong) = netlist_file_keeps held setting.signature net fault names is wrong
   circuit_kept held net cycles fault is (inr (netlist, taken, wrong)) = cycles_keep net netlist cycles fault is wrong
+
+  certified_kept : (held : Option Files) (net file : Word) (cycles : ℕ) (fault : Fault) → HasNoLineFeed net → HasNoLineFeed file → CertifiedIn held setting.signature net file cycles (Err fault) → KeepsToItsLine fault
+  certified_kept held net file cycles fault is also (inl wrong) = netlist_file_keeps held setting.signature net fault names is wrong
+  certified_kept held net file cycles fault is also (inr (netlist, taken, inl wrong)) = file_keeps held file fault also wrong
+  certified_kept held net file cycles fault is also (inr (netlist, taken, inr (bytes, read, inl wrong))) = cycles_keep net netlist cycles fault is wrong
+  certified_kept held net file cycles fault is also (inr (netlist, taken, inr (bytes, read, inr (circuit, of, never)))) = absurd never
 
   -- faults of values repeat nothing
   values_kept : (k count : ℕ) (values : List Word) (fault : Fault) → Within faults.Value (ValuesOf k count values) (Err fault) → KeepsToItsLine fault
@@ -137,6 +196,12 @@ module _ (setting : SettingValue) (names : HaveNames setting.signature.words) wh
   action_kept held (Table net cycles) fault is (inl wrong) = same_line fault faults.NotSmall wrong.0 tt
   action_kept held (Table net cycles) fault is (inr (small, fits, inl wrong)) = circuit_kept held net cycles fault is wrong
   action_kept held (Table net cycles) fault is (inr (small, fits, inr (circuit, taken, never))) = absurd never
+  action_kept held (Certify net terms cycles) fault is (inl wrong) = circuit_kept held net cycles fault is wrong
+  action_kept held (Certify net terms cycles) fault is (inr (circuit, taken, wrong)) = certify_kept circuit terms fault wrong
+  action_kept held (Verify net file terms cycles) fault is (inl wrong) = certified_kept held net file cycles fault is.0 is.1 wrong
+  action_kept held (Verify net file terms cycles) fault is (inr (certified, taken, wrong)) = verify_kept terms certified fault wrong
+  action_kept held (Upgrade net file cycles) fault is (inl wrong) = certified_kept held net file cycles fault is.0 is.1 wrong
+  action_kept held (Upgrade net file cycles) fault is (inr (certified, taken, wrong)) = upgrade_kept certified fault wrong
 
 signed_kept : (held : Option Files) (text : List ℕ) (signed : SignedValue) (action : Action) (fault : Fault) → SignedOf text (Ok signed) → AreKept action → SignedAnswer held signed action (Err fault) → KeepsToItsLine fault
 signed_kept held text signed action fault is kept (inl (other, wrong, same)) = same_line fault (faults.Signature other) same (setting_keeps signed other wrong)

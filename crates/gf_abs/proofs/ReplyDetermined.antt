@@ -52,6 +52,12 @@ module _ (setting : SettingValue) (circuit : BoundNet) (bound : ℕ) (sound : Is
       same_terms setting.k setting.product sound.ring sound.field (IsCut circuit.net order output (length circuit.net.gates))
       (λ p x y at first other. one_cut_of circuit.net (circuit_sound setting circuit sound text cycles is) order output (length circuit.net.gates) p x y first other) ts us a b
 
+  pub stages_ordered : IsOrdered (abstract_stages setting circuit)
+  stages_ordered = both_ordered setting.k setting.product (bits_stages setting circuit) (word_listing (taken_circuit setting circuit)) cuts_one_order (words_ordered (taken_circuit setting circuit))
+
+  pub stages_sizes : HaveOneSize setting.k setting.product (abstract_stages setting circuit)
+  stages_sizes = both_sizes setting.k setting.product (bits_stages setting circuit) (word_listing (taken_circuit setting circuit)) cuts_one_size (words_sizes (taken_circuit setting circuit) well)
+
   one_in_words : (ts us : Terms) → IsInWords setting circuit ts → IsInWords setting circuit us → ts ≡ us
   one_in_words ts us a b =
       let whole = taken_circuit setting circuit in
@@ -65,10 +71,8 @@ module _ (setting : SettingValue) (circuit : BoundNet) (bound : ℕ) (sound : Is
 
   pub words_determined : Determined (Within faults.Stage (AbstractOf setting circuit bound))
   words_determined =
-      let cuts = bits_stages setting circuit in
-      let words = word_listing (taken_circuit setting circuit) in
-      determined_within faults.Stage (AbstractOf setting circuit bound) (staged_determined setting.k setting.product (abstract_stages setting circuit) (either_text (labels_of setting.k setting.signature.words)) bound (IsInWords setting circuit) one_in_words
-      (both_ordered setting.k setting.product cuts words cuts_one_order (words_ordered (taken_circuit setting circuit))) (both_sizes setting.k setting.product cuts words cuts_one_size (words_sizes (taken_circuit setting circuit) well)))
+      determined_within faults.Stage (AbstractOf setting circuit bound)
+      (staged_determined setting.k setting.product (abstract_stages setting circuit) (either_text (labels_of setting.k setting.signature.words)) bound (IsInWords setting circuit) one_in_words stages_ordered stages_sizes)
 
   pub abstract_determined : Determined (AbstractReply setting circuit bound)
   abstract_determined = determined_bind (Within faults.Stage (AbstractOf setting circuit bound)) (λ ts. Exactly (prints setting ts)) words_determined (λ ts. determined_exactly (prints setting ts))

@@ -3,7 +3,8 @@ use Rattle.std.proofs.Common.{◌≡◌, ◌⊎◌, ap, inl, inr, ℕ, List, Opt
 use Rattle.job_io.specs.Shelf.{Files}
 use Rattle.poly_mixed.specs.Labels.{Labelling}
 use Rattle.circuit_model.specs.Differing.{Difference}
-use Rattle.job_words.specs.Command.{Action, Bits, Abstract, Check, Same, Eval, Iso, Lift, Table, Over}
+use Rattle.cert_check.specs.Verdict.{Verdict, valid, invalid}
+use Rattle.job_words.specs.Command.{Action, Bits, Abstract, Check, Same, Eval, Iso, Lift, Table, Certify, Verify, Upgrade, Over}
 use Rattle.job_words.specs.Operands.{Word}
 use Rattle.job_input.specs.Labelling.{labels_of}
 use Rattle.job_input.specs.SettingValue.{SettingValue}
@@ -11,6 +12,7 @@ use Rattle.gf_abs.specs.Answer.{ActionAnswer, Answer}
 use Rattle.gf_abs.specs.Reply.{Reply}
 use Rattle.gf_abs.specs.commands.Check.{check_reply}
 use Rattle.gf_abs.specs.commands.Same.{same_reply}
+use Rattle.gf_abs.specs.commands.Verify.{verify_reply}
 
 abbrev IsZeroOrOne : Reply → Type 0
 IsZeroOrOne reply = (reply.status ≡ 0) ⊎ (reply.status ≡ 1)
@@ -23,6 +25,10 @@ check_status : (labels : Labelling) (line : List ℕ) (found : Option Difference
 check_status labels line None reply same = inl (ap (λ (r : Reply). r.status) same)
 check_status labels line (Some found) reply same = inr (ap (λ (r : Reply). r.status) same)
 
+verify_status : (labels : Labelling) (verdict : Verdict) (reply : Reply) → reply ≡ verify_reply labels verdict → IsZeroOrOne reply
+verify_status labels (valid claim) reply same = inl (ap (λ (r : Reply). r.status) same)
+verify_status labels (invalid remaining) reply same = inr (ap (λ (r : Reply). r.status) same)
+
 action_status : (held : Option Files) (setting : SettingValue) (action : Action) (reply : Reply) → ActionAnswer held setting action (Ok reply) → IsZeroOrOne reply
 action_status held setting (Bits net terms cycles) reply (circuit, taken, (ts, is, same)) = inl (ap (λ (r : Reply). r.status) same)
 action_status held setting (Abstract net terms cycles) reply (circuit, taken, (ts, is, same)) = inl (ap (λ (r : Reply). r.status) same)
@@ -32,6 +38,9 @@ action_status held setting (Eval net values cycles) reply (netlist, taken, (xs, 
 action_status held setting (Iso other) reply (second, taken, images) = inl (ap (λ (r : Reply). r.status) images.text)
 action_status held setting (Lift table) reply (small, is, (values, taken, (ts, of, same))) = inl (ap (λ (r : Reply). r.status) same)
 action_status held setting (Table net cycles) reply (small, is, (circuit, taken, (table, of, same))) = inl (ap (λ (r : Reply). r.status) same)
+action_status held setting (Certify net terms cycles) reply (circuit, taken, (t, is, same)) = inl (ap (λ (r : Reply). r.status) same)
+action_status held setting (Verify net file terms cycles) reply (certified, taken, (verdict, is, same)) = verify_status (labels_of setting.k setting.signature.words) verdict reply same
+action_status held setting (Upgrade net file cycles) reply (certified, taken, (t, is, same)) = inl (ap (λ (r : Reply). r.status) same)
 
 pub answer_status : (words : List Word) (held : Option Files) (reply : Reply) → Answer words held (Ok reply) → (reply.status ≡ 0) ⊎ (reply.status ≡ 1)
 answer_status words held reply (Over signature action, spelled, (signed, read, (setting, taken, is))) = action_status held setting action reply is

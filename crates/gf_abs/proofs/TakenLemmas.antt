@@ -1,6 +1,6 @@
 -- The circuit of all cycles of texts that are taken is well-formed, and has no latches.
-use Rattle.std.proofs.Common.{◌≡◌, ◌∙◌, ap, sym, subst, List, ℕ, [], length, Ok}
-use Rattle.net_core.specs.NetList.{NetList}
+use Rattle.std.proofs.Common.{◌≡◌, ◌∙◌, ap, sym, subst, List, ℕ, ◌≤◌, ◌^◌, [], length, Ok}
+use Rattle.net_core.specs.NetList.{NetList, nets}
 use Rattle.net_core.specs.Sound.{IsSound}
 use Rattle.net_words.specs.Bind.{BindingOf, bits_of}
 use Rattle.net_words.specs.Binding.{Binding, BoundNet}
@@ -62,7 +62,7 @@ module _ (setting : SettingValue) (circuit : BoundNet) (sound : IsSoundSetting s
   pub bases_long : length setting.bases ≡ length circuit.bound.words
   bases_long = sound.long ∙ sym (roles_long setting.signature.words circuit.bound.words circuit_roles)
 
-  one_cycle : IsSound circuit.net × IsOneCycle circuit.net circuit.bound
+  pub one_cycle : IsSound circuit.net × IsOneCycle circuit.net circuit.bound
   one_cycle =
       let P : BoundNet → Type 0 = λ c. IsSound c.net × IsOneCycle c.net c.bound in
       subst P (sym is.2.0) (unrolled_one_cycle is.0 cycles (record { few = is.2.1; small = is.2.2 }) (netlist_sound setting.signature text is.0 is.1) (netlist_bound_to setting is.0 sound text is.1))
@@ -73,7 +73,12 @@ module _ (setting : SettingValue) (circuit : BoundNet) (sound : IsSoundSetting s
   pub circuit_flat : circuit.net.latches ≡ []
   circuit_flat = one_cycle.1.flat.latches
 
+  pub circuit_bits : circuit.bound.k ≡ setting.k
+  circuit_bits = keeps.bits ∙ netlist_bits setting is.0 sound text is.1
+
+  pub circuit_few : nets circuit.net ≤ 2 ^ 20
+  circuit_few = let P : BoundNet → Type 0 = λ c. nets c.net ≤ 2 ^ 20 in subst P (sym is.2.0) is.2.1
+
   pub circuit_well : IsWellFormed (taken_circuit setting circuit)
   circuit_well =
-      let bits : circuit.bound.k ≡ setting.k = keeps.bits ∙ netlist_bits setting is.0 sound text is.1 in
-      bound_well setting.k setting.product circuit setting.bases one_cycle.1 bits (record { long = bases_long; each = sound.each }) sound.ring sound.field circuit_sound
+      bound_well setting.k setting.product circuit setting.bases one_cycle.1 circuit_bits (record { long = bases_long; each = sound.each }) sound.ring sound.field circuit_sound

@@ -5,7 +5,7 @@ use Rattle.job_io.specs.Shelf.{Files}
 use Rattle.job_words.specs.declared.fault.Fault.{Fault}
 use Rattle.job_words.specs.declared.fault.Fault.TheVariants.{Words, Signature}
 use Rattle.job_words.specs.Operands.{Word}
-use Rattle.job_words.specs.Command.{Action, Bits, Abstract, Check, Same, Eval, Iso, Lift, Table, Job, Over, IsSpelled}
+use Rattle.job_words.specs.Command.{Action, Bits, Abstract, Check, Same, Eval, Iso, Lift, Table, Certify, Verify, Upgrade, Job, Over, IsSpelled}
 use Rattle.job_input.specs.SettingOf.{SignedValue, SettingWith}
 use Rattle.job_input.specs.SettingValue.{SettingValue}
 use Rattle.job_input.specs.SignedIn.{SignedIn}
@@ -18,6 +18,9 @@ use Rattle.gf_abs.specs.commands.Eval.{EvalAnswer}
 use Rattle.gf_abs.specs.commands.Iso.{IsoAnswer}
 use Rattle.gf_abs.specs.commands.Lift.{LiftAnswer}
 use Rattle.gf_abs.specs.commands.Table.{TableAnswer}
+use Rattle.gf_abs.specs.commands.Certify.{CertifyAnswer}
+use Rattle.gf_abs.specs.commands.Verify.{VerifyAnswer}
+use Rattle.gf_abs.specs.commands.Upgrade.{UpgradeAnswer}
 
 -- the command of the words, or fault 01 where they spell none
 abbrev pub Spelled : List Word → Outcome Fault Job
@@ -34,6 +37,9 @@ ActionAnswer held setting (Eval net values cycles) = EvalAnswer held setting net
 ActionAnswer held setting (Iso other) = IsoAnswer held setting.signature other
 ActionAnswer held setting (Lift table) = LiftAnswer held setting table
 ActionAnswer held setting (Table net cycles) = TableAnswer held setting net cycles
+ActionAnswer held setting (Certify net terms cycles) = CertifyAnswer held setting net terms cycles
+ActionAnswer held setting (Verify net certificate terms cycles) = VerifyAnswer held setting net certificate terms cycles
+ActionAnswer held setting (Upgrade net certificate cycles) = UpgradeAnswer held setting net certificate cycles
 
 -- what comes of a command over a signature with its field: first the bases of its words
 abbrev pub SignedAnswer : Option Files → SignedValue → Action → Outcome Fault Reply

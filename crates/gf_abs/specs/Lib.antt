@@ -2,6 +2,7 @@ pub mod Reply
 pub mod Staged
 pub mod DifferingLines
 pub mod Values
+pub mod Certificates
 pub mod commands
 pub mod Answer
 pub mod Written
@@ -10,4 +11,5 @@ pub mod CheckHeadline
 pub mod EvalHeadline
 pub mod TableHeadline
 pub mod IsoHeadline
+pub mod CertificateHeadline
 pub mod private

@@ -6,3 +6,6 @@ pub mod Eval
 pub mod Lift
 pub mod Table
 pub mod Iso
+pub mod Certify
+pub mod Verify
+pub mod Upgrade

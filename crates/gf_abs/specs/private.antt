@@ -1,1 +1,2 @@
 pub mod StageStop
+pub mod CertificateStop

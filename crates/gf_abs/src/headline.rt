@@ -1,6 +1,6 @@
 //! What the program's answers say, for all words and held files. These functions do nothing: their contracts are proved of
 //! the definitions alone. `run` says that what it wrote is the answer.
-ghost use Rattle.std.specs.Prelude.{◌≡◌, ◌⊎◌, ◌↔◌, ◌≤◌, codes, length, ℕ, List, Option, Some, Ok, Err};
+ghost use Rattle.std.specs.Prelude.{◌≡◌, ◌⊎◌, ◌↔◌, ◌≤◌, ◌*◌, codes, length, ℕ, List, Option, Some, Ok, Err};
 ghost use Rattle.text_core.specs.Outcome.{Determined};
 ghost use Rattle.job_io.specs.Shelf.{Files};
 ghost use Rattle.net_words.specs.Binding.{BoundNet};
@@ -10,6 +10,7 @@ ghost use Rattle.circuit_model.specs.WellFormed.{IsWellFormed};
 ghost use Rattle.gf_field.specs.Element.{AreElements};
 ghost use Rattle.lift_table.specs.TableText.{TableOutcome, table_text};
 ghost use Rattle.job_input.specs.File.{Read};
+ghost use Rattle.job_words.specs.Command.{Over, Verify, IsSpelled};
 ghost use Rattle.job_words.specs.Fault.{fault_line, fault_status};
 ghost use Rattle.job_words.specs.OneLine.{IsOneLine};
 ghost use Rattle.job_words.specs.Operands.{Word};
@@ -17,6 +18,7 @@ ghost use Rattle.job_words.specs.declared.fault.Fault.{Fault};
 ghost use Rattle.job_input.specs.SettingValue.{SettingValue};
 ghost use Rattle.spec_expand.specs.Specification.{SpecTerms};
 ghost use Rattle.gf_abs.specs.Answer.{Answer};
+ghost use Rattle.gf_abs.specs.CertificateHeadline.{AnswersCertify, AnswersUpgrade, AnswersVerify, HoldOneJob, IsAccepted, PrintsProof};
 ghost use Rattle.gf_abs.specs.CheckHeadline.{AnswersCheck, AreHeldWith, Computes, PrintsAcceptance, PrintsRejection};
 ghost use Rattle.gf_abs.specs.EvalHeadline.{AnswersEval, PrintsElement};
 ghost use Rattle.gf_abs.specs.Headline.{IsTaken, AreHeld, AnswersBits, AnswersAbstract, AnswersSame, PrintsHeld, PrintsHeldInBits, PrintsDifference, IsInItsWords, HasOutput, AreOneFunction};
@@ -132,4 +134,25 @@ pub fn tables_are_lifted_to_what_abstract_prints()
 /// takes x and Y to the least roots of their polynomials.
 pub fn iso_prints_the_images()
     ensures { (files : Files) (words : List Word) (signature other : Word) (reply : Reply) → AnswersIso files words signature other reply → PrintsImages files signature other reply }
+{}
+
+/// Where `verify` answers with status 0, it prints that its certificate is valid, and a claim that is the polynomial of the output
+/// of the job in the files: reduced, in the job's words alone, and at each point with the output word's element at the point's
+/// elements. So it is, whatever the text of the certificate.
+pub fn verify_proves_the_output()
+    ensures { (files : Files) (words : List Word) (signature net certificate : Word) (cycles : ℕ) (reply : Reply) (setting : SettingValue) (job : Circuit) → AnswersVerify files words signature net certificate cycles reply → AreHeld files signature net cycles setting job → reply.status ≡ 0 → PrintsProof setting job reply }
+{}
+
+/// What `certify` prints under a bound on the terms of stages is accepted by `verify`, over the same signature and netlist, under each
+/// bound that is at least four times as large, where it is a file: it has at most 67,108,864 bytes.
+pub fn what_certify_prints_is_accepted()
+    ensures { (files others : Files) (words more : List Word) (signature net certificate : Word) (bound most cycles : ℕ) (reply : Reply) → AnswersCertify files words signature net bound cycles reply → HoldOneJob files others signature net → Read (Some others) certificate (Ok reply.text) → 4 * bound ≤ most
+        → IsSpelled more (Over signature (Verify net certificate most cycles)) → IsAccepted others more }
+{}
+
+/// What `upgrade` prints has the reply of the certificate itself, over the same signature and netlist and whatever the bounds, where
+/// `verify` gives both a reply: the same verdict, with the same claim or as many terms that are left.
+pub fn upgrade_keeps_the_reply()
+    ensures { (files others : Files) (words before after : List Word) (signature net certificate upgraded : Word) (cycles : ℕ) (reply first second : Reply) → AnswersUpgrade files words signature net certificate cycles reply → HoldOneJob files others signature net → Read (Some others) upgraded (Ok reply.text)
+        → AnswersVerify files before signature net certificate cycles first → AnswersVerify others after signature net upgraded cycles second → first ≡ second }
 {}

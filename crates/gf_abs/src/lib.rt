@@ -2,6 +2,7 @@
 //! `run` carries the contract of the whole; each command is a file of `commands`, and one line of the table `ActionAnswer`.
 #![tactic(auto)]
 
+mod certificates;
 mod commands;
 mod cuts;
 mod differing;
@@ -23,6 +24,7 @@ pub use headline::{
     equal_bytes_exactly_if_equal_functions, eval_prints_the_output, iso_prints_the_images,
     lift_prints_the_polynomial, one_answer_or_fault, same_exactly_if_equal_functions,
     same_prints_the_differing_input, table_prints_the_outputs,
-    tables_are_lifted_to_what_abstract_prints, written_tables_are_read_back,
+    tables_are_lifted_to_what_abstract_prints, upgrade_keeps_the_reply, verify_proves_the_output,
+    what_certify_prints_is_accepted, written_tables_are_read_back,
 };
 pub use top::{run, run_surely};

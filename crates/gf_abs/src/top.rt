@@ -96,6 +96,9 @@ fn task_answer<F: Field, S: Shelf>(
         Task::Iso(file) => { commands::iso::answer(alloc, setting, file, shelf) }
         Task::Lift(file) => { commands::lift::answer(alloc, field, setting, file, shelf) }
         Task::Table(words) => { commands::table::answer(alloc, field, setting, words, shelf) }
+        Task::Certify(words) => { commands::certify::answer(alloc, field, setting, words, shelf) }
+        Task::Verify(words) => { commands::verify::answer(alloc, field, setting, words, shelf) }
+        Task::Upgrade(words) => { commands::upgrade::answer(alloc, field, setting, words, shelf) }
     }
 }
 

@@ -5,6 +5,7 @@ ghost use Rattle.stage_model.specs.Listing.{AreAllWithin, IsRefusal};
 ghost use Rattle.stage_model.specs.Mix.{IsMix};
 ghost use Rattle.stage_model.specs.Stage.{IsOfStage};
 ghost use Rattle.stage_model.specs.WordListing.{word_listing};
+ghost use Rattle.word_subst.specs.Recorded.{IsRecorded};
 ghost use Rattle.job_input.specs.Labelling.{labels_of};
 ghost use Rattle.job_input.specs.Setting.{setting_value, IsReady, IsTakenFor};
 ghost use Rattle.gf_abs.specs.commands.Abstract.{taken_circuit, IsInWords};
@@ -12,19 +13,20 @@ ghost use Rattle.gf_abs.specs.commands.Abstract.{taken_circuit, IsInWords};
 use gf_field::Field;
 use job_input::Setting;
 use net_words::Combinational;
-use poly_mixed::{NoSteps, Poly, ReduceFault};
+use poly_mixed::{Poly, ReduceFault, Steps};
 use std::alloc::Global;
 use word_subst::to_words;
 
 /// The polynomial of a circuit's output in its words, out of that in their bits, or the first stage of words of more than
-/// `bound` terms.
-pub(crate) fn in_words<F: Field>(
+/// `bound` terms. The recorder gets the steps of the replacement.
+pub(crate) fn in_words<F: Field, T: Steps>(
     alloc: Global,
     field: &F,
     setting: &Setting,
     circuit: &Combinational,
     bits: Poly,
     bound: u32,
+    steps: &mut T,
 ) -> Result<Poly, ReduceFault>
     requires ready { IsReady (F.degree field.now) (F.product field.now) setting.now }
     requires taken { IsTakenFor (F.degree field.now) setting.now circuit.now }
@@ -34,11 +36,12 @@ pub(crate) fn in_words<F: Field>(
     ensures named { IfOk result (λ poly. HasNames (labels_of (F.degree field.now) setting.now.signature.words) poly.terms) }
     ensures words_named { IfOk result (λ poly. HasWordNames (labels_of (F.degree field.now) setting.now.signature.words) poly.terms) }
     ensures within { OnOk result (AreAllWithin (F.degree field.now) (F.product field.now) (word_listing (taken_circuit (setting_value (F.degree field.now) (F.product field.now) setting.now) circuit.now)) bound) }
+    ensures steps { OnOk result (IsRecorded (taken_circuit (setting_value (F.degree field.now) (F.product field.now) setting.now) circuit.now) (T.steps steps.old) (T.steps steps.new)) }
     ensures fault { IfErr result (IsRefusal (F.degree field.now) (F.product field.now) (word_listing (taken_circuit (setting_value (F.degree field.now) (F.product field.now) setting.now) circuit.now)) bound) }
 {
     let _gates = circuit.net().gates();
     let bases = setting.bases.as_slice();
-    match to_words(alloc, field, circuit, bases, bits, bound, &mut NoSteps) {
+    match to_words(alloc, field, circuit, bases, bits, bound, steps) {
         Ok(poly) => Ok(poly),
         Err(fault) => Err(fault),
     }

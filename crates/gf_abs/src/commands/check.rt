@@ -28,7 +28,7 @@ use job_input::{BoundNetlist, Setting, read_netlist, read_specification, unroll_
 use job_io::Shelf;
 use job_words::{PairWords, Stop};
 use net_words::Combinational;
-use poly_mixed::{Labels, Poly};
+use poly_mixed::{Labels, NoSteps, Poly};
 use spec_compare::{Verdict, compare};
 use spec_expand::{Spec, expand};
 use std::alloc::{AllocError, Global};
@@ -145,12 +145,12 @@ fn print_words<F: Field>(
     ensures well { IfOk result (λ printed. IsWellFormed (taken_circuit (setting_value (F.degree field.now) (F.product field.now) setting.now) circuit.now)) }
     ensures output { IfOk result (λ printed. IsOutputInBits (taken_circuit (setting_value (F.degree field.now) (F.product field.now) setting.now) circuit.now) printed.bits.terms) }
 {
-    let bits = match last_cut(alloc, field, setting, circuit, bound) {
+    let bits = match last_cut(alloc, field, setting, circuit, bound, &mut NoSteps) {
         Ok(bits) => bits,
         Err(fault) => return Err(stage_stop(alloc, labels, fault, bound)),
     };
     let copy = copied(alloc, field, &bits)?;
-    let poly = match in_words(alloc, field, setting, circuit, copy, bound) {
+    let poly = match in_words(alloc, field, setting, circuit, copy, bound, &mut NoSteps) {
         Ok(poly) => poly,
         Err(fault) => return Err(stage_stop(alloc, labels, fault, bound)),
     };

@@ -21,7 +21,7 @@ use job_input::{BoundNetlist, Setting, labels_for, read_netlist, unroll_netlist}
 use job_io::Shelf;
 use job_words::{PairWords, Stop};
 use net_words::Combinational;
-use poly_mixed::Labels;
+use poly_mixed::{Labels, NoSteps};
 use spec_compare::{Verdict, compare};
 use std::alloc::{AllocError, Global};
 
@@ -147,11 +147,11 @@ fn verdict<F: Field>(
     requires labels { labels.now ≡ labels_of (F.degree field.now) setting.now.signature.words }
     ensures { GivesBy (comparison_of (length labels.now.words)) result (Within Stage (SameOf (setting_value (F.degree field.now) (F.product field.now) setting.now) circuit.now other.now bound)) ⊥ ⊥ }
 {
-    let left = match last_cut(alloc, field, setting, circuit, bound) {
+    let left = match last_cut(alloc, field, setting, circuit, bound, &mut NoSteps) {
         Ok(left) => left,
         Err(fault) => return Err(stage_stop(alloc, labels, fault, bound)),
     };
-    let right = match last_cut(alloc, field, setting, other, bound) {
+    let right = match last_cut(alloc, field, setting, other, bound, &mut NoSteps) {
         Ok(right) => right,
         Err(fault) => return Err(second_stage_stop(alloc, labels, fault, bound)),
     };
