@@ -1,8 +1,9 @@
 -- The terms of a cut in the order of their keys, and the polynomial that they are. Source: this project's own.
-use Rattle.std.specs.Prelude.{◌≡◌, ◌≢◌, ℕ, Bool, false, nat_le, List, [], ◌∷◌, ◌++◌, map}
+use Rattle.std.specs.Prelude.{◌≡◌, ◌≢◌, ℕ, ◌-◌, Bool, false, nat_le, List, [], ◌∷◌, ◌++◌, map, length, slice_get}
 use Rattle.std.specs.List.{AllByRecursion}
 use Rattle.std.specs.List.Sorted.{IsStrictlySortedBy}
 use Rattle.std.specs.Map.{keys_of}
+use Rattle.std.specs.Option.{option_map_or}
 use Rattle.std.specs.Ordering.{nat_cmp}
 use Rattle.poly_mixed.specs.Monomial.{Monomial, text_cmp}
 use Rattle.poly_mixed.specs.Polynomial.{Terms}
@@ -43,10 +44,9 @@ pub record AreEntries (places : List ℕ) (entries : List (CutKey × ℕ)) : Typ
   pub sorted : IsStrictlySortedBy key_cmp (keys_of entries)
   pub each : AllByRecursion (IsEntry places) entries
 
--- the first entry's first place is not behind this one
-abbrev pub begins_up_to : ℕ → List (CutKey × ℕ) → Bool
-begins_up_to place [] = false
-begins_up_to place (e ∷ es) = nat_le e.0.first place
+-- the last entry's first place is not behind this one
+abbrev pub ends_up_to : ℕ → List (CutKey × ℕ) → Bool
+ends_up_to place es = option_map_or (λ e. nat_le e.0.first place) (slice_get es (length es - 1)) false
 
 -- the products of a term and of each of these sets of bits
 abbrev pub products : Monomial × ℕ → List (List ℕ) → Terms

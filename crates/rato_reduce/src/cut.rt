@@ -1,5 +1,5 @@
 //! The polynomial of a cut.
-ghost use Rattle.std.specs.Prelude.{◌≡◌, ◌≢◌, ℕ, List, ◌++◌, ◌∷◌, [], length, map, false, IfOk, IfSome, IfNone, OnOk, OnErr, ◌↔◌};
+ghost use Rattle.std.specs.Prelude.{◌≡◌, ◌≢◌, ℕ, List, ◌++◌, ◌∷◌, [], length, map, reverse, false, IfOk, IfSome, IfNone, OnOk, OnErr, ◌↔◌};
 ghost use Rattle.std.specs.List.{AllByRecursion};
 ghost use Rattle.std.specs.List.Sorted.{IsStrictlySortedBy};
 ghost use Rattle.std.specs.Ordering.{nat_cmp};
@@ -8,7 +8,7 @@ ghost use Rattle.poly_mixed.specs.Monomial.{text_cmp};
 ghost use Rattle.poly_mixed.specs.Polynomial.{IsMap, IsReduced, IsTerm};
 ghost use Rattle.poly_mixed.specs.Sum.{plus, plus_term};
 ghost use Rattle.rato_reduce.specs.CutKey.{key_cmp};
-ghost use Rattle.rato_reduce.specs.CutTerms.{of_bits, term_of, begins_up_to, products, AreEntries, IsBitTerm};
+ghost use Rattle.rato_reduce.specs.CutTerms.{of_bits, term_of, ends_up_to, products, AreEntries, IsBitTerm};
 
 use crate::bit_term::BitTerm;
 use crate::key::{Key, place_of};
@@ -19,8 +19,8 @@ use std::collections::BTreeMap;
 use std::collections::btree_map::Entry;
 use std::marker::Model;
 
-/// A polynomial in bits, whose terms stand in the order in which nets are eliminated: those with a net come first once
-/// each net of an earlier place is gone. `places` has the place of each rank. The places decide how long a call takes
+/// A polynomial in bits, whose terms stand against the order in which nets are eliminated: those with a net come last
+/// once each net of an earlier place is gone. `places` has the place of each rank. The places decide how long a call takes
 /// and nothing else.
 #[derive(Drop)]
 pub struct Cut {
@@ -91,18 +91,18 @@ impl Cut {
         ensures stands { IfOk result (λ part. LacksBit rank self.old.terms ↔ (part.items ≡ [])) }
     {
         let place = place_of(self.places.as_slice(), rank);
-        let front = take_up_to(self.alloc, &mut self.map, place)?;
-        self.split(&front, rank)
+        let taken = take_up_to(self.alloc, &mut self.map, place)?;
+        self.split(&taken, rank)
     }
 
     // The terms with the bit, without it; adds the others.
-    fn split(&mut self, front: &[BitTerm], rank: u32) -> Result<Vec<BitTerm>, AllocError>
-        requires { AllByRecursion IsBitTerm front.now }
-        ensures left { OnOk result (self.new.terms ≡ plus text_cmp self.old.terms (lacking rank front.now)) }
-        ensures part { IfOk result (λ part. part.items ≡ cofactors rank front.now) }
+    fn split(&mut self, terms: &[BitTerm], rank: u32) -> Result<Vec<BitTerm>, AllocError>
+        requires { AllByRecursion IsBitTerm terms.now }
+        ensures left { OnOk result (self.new.terms ≡ plus text_cmp self.old.terms (lacking rank terms.now)) }
+        ensures part { IfOk result (λ part. part.items ≡ cofactors rank terms.now) }
     {
         let mut part = Vec::new(self.alloc);
-        for term in front {
+        for term in terms {
             self.sort_out(term, rank, &mut part)?;
         }
         Ok(part)
@@ -164,40 +164,41 @@ fn add_to(entries: &mut BTreeMap<Key, u64>, key: Key, c: u64) -> Result<(), Allo
     Ok(())
 }
 
-// Whether there is an entry whose first place is not behind this one.
-fn begins_up_to(entries: &BTreeMap<Key, u64>, place: u32) -> bool
-    ensures { result ≡ begins_up_to place entries.now.entries }
+// Whether the last entry's first place is not behind this one.
+fn ends_up_to(entries: &BTreeMap<Key, u64>, place: u32) -> bool
+    ensures { result ≡ ends_up_to place entries.now.entries }
 {
-    match entries.first_key_value() {
+    match entries.last_key_value() {
         Some((key, _)) => key.first() <= place,
         None => false,
     }
 }
 
-// Takes the first entry, if its first place is not behind this one.
+// Takes the last entry, if its first place is not behind this one.
 fn pop_up_to(entries: &mut BTreeMap<Key, u64>, place: u32) -> Option<(Key, u64)>
-    ensures some { IfSome result (λ e. entries.old.entries ≡ e ∷ entries.new.entries) }
-    ensures none { IfNone result ((entries.new.entries ≡ entries.old.entries) × (begins_up_to place entries.old.entries ≡ false)) }
+    ensures some { IfSome result (λ e. entries.old.entries ≡ entries.new.entries ++ e ∷ []) }
+    ensures none { IfNone result ((entries.new.entries ≡ entries.old.entries) × (ends_up_to place entries.old.entries ≡ false)) }
 {
-    if !begins_up_to(entries, place) {
+    if !ends_up_to(entries, place) {
         return None;
     }
-    entries.pop_first()
+    entries.pop_last()
 }
 
-// Takes the entries from the front on whose first place is not behind this one, as terms.
+// Takes the entries from the last on backwards whose first place is not behind this one, as terms in the order in which
+// they are taken.
 fn take_up_to(
     alloc: Global,
     entries: &mut BTreeMap<Key, u64>,
     place: u32,
 ) -> Result<Vec<BitTerm>, AllocError>
-    ensures all { IfOk result (λ front. map term_of entries.old.entries ≡ front.items ++ map term_of entries.new.entries) }
-    ensures rest { OnOk result (begins_up_to place entries.new.entries ≡ false) }
+    ensures all { IfOk result (λ taken. map term_of entries.old.entries ≡ map term_of entries.new.entries ++ reverse taken.items) }
+    ensures rest { OnOk result (ends_up_to place entries.new.entries ≡ false) }
     ensures entries { (places : List ℕ) → AreEntries places entries.old.entries → AreEntries places entries.new.entries }
 {
-    let mut front = Vec::new(alloc);
+    let mut taken = Vec::new(alloc);
     while let Some((key, c)) = pop_up_to(entries, place) {
-        front.push(BitTerm::new(key.into_bits(), c))?;
+        taken.push(BitTerm::new(key.into_bits(), c))?;
     }
-    Ok(front)
+    Ok(taken)
 }

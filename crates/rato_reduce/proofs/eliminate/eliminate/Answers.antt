@@ -1,5 +1,5 @@
 use Rattle.poly_mixed.proofs.FieldLaws.{field_of, IsField}
-use Rattle.std.proofs.Common.{◌≡◌, ◌<◌, ℕ, Bool, true, false, List, [], ◌∷◌, length, cond, bit_xor, ◌==◌, sym, ap, subst, ◌∙◌, refl, arith}
+use Rattle.std.proofs.Common.{◌≡◌, ◌<◌, ℕ, true, false, List, [], ◌∷◌, length, cond, bit_xor, ◌==◌, sym, ap, subst, ◌∙◌, refl, arith}
 use lib.Bits.{xor_zero_l}
 use Rattle.std.specs.List.{AllByRecursion}
 use Rattle.std.proofs.lemmas.Bool.{eqb-true}
@@ -9,7 +9,7 @@ use Rattle.net_words.specs.Variables.{variables}
 use Rattle.poly_mixed.specs.Monomial.{text_cmp}
 use Rattle.poly_mixed.specs.Polynomial.{Terms, Point, IsPoint, IsTerm, IsReduced, value}
 use Rattle.poly_mixed.specs.Sum.{plus}
-use Rattle.poly_mixed.specs.Cofactor.{at_bit, cofactors, lacking, LacksBit, IsCofactor}
+use Rattle.poly_mixed.specs.Cofactor.{at_bit, cofactors, LacksBit, IsCofactor}
 use Rattle.poly_mixed.specs.Steps.{Tells}
 use Rattle.poly_mixed.specs.declared.steps.Generator.TheVariants.{Net}
 use Rattle.poly_mixed.proofs.Cofactors.{reduced_lacking, reduced_cofactors, value-cofactors, none_of_absent}

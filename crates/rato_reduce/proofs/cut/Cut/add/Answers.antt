@@ -1,10 +1,8 @@
-use Rattle.std.proofs.Common.{◌≡◌, List, ℕ, map, refl, sym, ◌∙◌, ap, subst}
-use Rattle.std.specs.List.Sorted.{IsStrictlySortedBy}
-use Rattle.std.specs.Ordering.{nat_cmp}
-use Rattle.poly_mixed.specs.Monomial.{Monomial, text_cmp}
+use Rattle.std.proofs.Common.{◌≡◌, List, ℕ, refl, sym, ◌∙◌, ap, subst}
+use Rattle.poly_mixed.specs.Monomial.{text_cmp}
 use Rattle.poly_mixed.specs.Sum.{plus_term}
 use Rattle.rato_reduce.specs.CutKey.{CutKey, key_of}
-use Rattle.rato_reduce.specs.CutTerms.{CutPolynomial, IsEntry, AreEntries, cut_polynomial, of_bits, term_of}
+use Rattle.rato_reduce.specs.CutTerms.{CutPolynomial, IsEntry, AreEntries, cut_polynomial, of_bits}
 use Rattle.rato_reduce.proofs.CutLemmas.{entries_more, terms_more}
 use Rattle.rato_reduce.proofs.cut.Cut.add.Goals as goal
 

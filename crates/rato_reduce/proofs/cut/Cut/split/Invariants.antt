@@ -8,7 +8,7 @@ use Rattle.rato_reduce.proofs.cut.Cut.split.Given as goal
 
 abbrev pub invariant-loop-term : goal.invariant-loop-term
 invariant-loop-term l = record {
-  each : AllByRecursion IsBitTerm (drop l.term-index l.front);
-  left : plus text_cmp l.self.terms (lacking l.rank (drop l.term-index l.front)) ≡ plus text_cmp l.initial.self.terms (lacking l.rank l.front);
-  part : l.part.items ++ cofactors l.rank (drop l.term-index l.front) ≡ cofactors l.rank l.front;
+  each : AllByRecursion IsBitTerm (drop l.term-index l.terms);
+  left : plus text_cmp l.self.terms (lacking l.rank (drop l.term-index l.terms)) ≡ plus text_cmp l.initial.self.terms (lacking l.rank l.terms);
+  part : l.part.items ++ cofactors l.rank (drop l.term-index l.terms) ≡ cofactors l.rank l.terms;
 }
