@@ -23,7 +23,10 @@ use Rattle.poly_mixed.proofs.Ranks.{from_less}
 use Rattle.poly_mixed.proofs.Sums.{at, at_additive, found_is_sum, xor_sum-plus}
 use Rattle.poly_mixed.proofs.Values.{same_map, one_map}
 use Rattle.rato_reduce.specs.CutKey.{CutKey, place_at, first_from, key_cmp}
-use Rattle.rato_reduce.specs.CutTerms.{IsBitTerm, term_of, IsEntry, AreEntries, ends_up_to, products, all_products}
+use Rattle.rato_reduce.specs.CutTerms.{of_bits, IsBitTerm, term_of, IsEntry, AreEntries, ends_up_to, IsTaken, products, all_products}
+use Rattle.poly_mixed.specs.Product.{with_rank}
+use Rattle.poly_mixed.specs.Table.{table_bit}
+use Rattle.rato_reduce.specs.Monomials.{monomials}
 use Rattle.rato_reduce.proofs.CutLemmas.{coefficient_sum, sum_map_is, nothing_map, all_unit}
 use Rattle.rato_reduce.proofs.ProductLemmas.{plus_append, sum_append}
 
@@ -295,30 +298,43 @@ drop_read [] i x less is = absurd (omega arith)
 drop_read (y ∷ ys) zero x less is = ap (λ z. z ∷ ys) (sym is)
 drop_read (y ∷ ys) (suc i) x less is = let up : suc i + 1 ≡ suc (i + 1) = omega arith in drop_read ys i x (omega arith) is ∙ ap (λ n. x ∷ drop n (y ∷ ys)) (sym up)
 
-pub take_step : (taken more whole : Terms) (before after : List (CutKey × ℕ)) (e : CutKey × ℕ) (t : Monomial × ℕ) → map term_of before ++ reverse taken ≡ whole → before ≡ after ++ e ∷ [] → t ≡ term_of e → more ≡ taken ++ t ∷ []
-    → map term_of after ++ reverse more ≡ whole
-take_step taken more whole before after e t so_far are is longer =
-    ap (λ us. map term_of after ++ reverse us) longer
-    ∙ ap (λ us. map term_of after ++ us) (reverse-append taken (t ∷ []))
-    ∙ sym (append_assoc (map term_of after) (t ∷ []) (reverse taken))
-    ∙ ap (λ u. (map term_of after ++ u ∷ []) ++ reverse taken) is
-    ∙ ap (λ us. us ++ reverse taken) (sym (map-append term_of after (e ∷ [])))
-    ∙ ap (λ es. map term_of es ++ reverse taken) (sym are)
-    ∙ so_far
+-- one entry more was taken
+pub take_step : (rank : ℕ) (whole before after : List (CutKey × ℕ)) (part others new_part new_others : Terms) (e : CutKey × ℕ) → IsTaken rank whole before part others → before ≡ after ++ e ∷ []
+    → new_part ≡ part ++ cofactors rank (term_of e ∷ []) → new_others ≡ others ++ lacking rank (term_of e ∷ []) → IsTaken rank whole after new_part new_others
+take_step rank whole before after part others new_part new_others e so_far are part_is others_are = record {
+  taken = so_far.taken ++ term_of e ∷ [];
+  all =
+      so_far.all
+      ∙ ap (λ es. map term_of es ++ reverse so_far.taken) are
+      ∙ ap (λ us. us ++ reverse so_far.taken) (map-append term_of after (e ∷ []))
+      ∙ append_assoc (map term_of after) (term_of e ∷ []) (reverse so_far.taken)
+      ∙ ap (λ us. map term_of after ++ us) (sym (reverse-append so_far.taken (term_of e ∷ [])));
+  part_is = part_is ∙ ap (λ us. us ++ cofactors rank (term_of e ∷ [])) so_far.part_is ∙ sym (cofactors_append rank so_far.taken (term_of e ∷ []));
+  others_are = others_are ∙ ap (λ us. us ++ lacking rank (term_of e ∷ [])) so_far.others_are ∙ sym (lacking_append rank so_far.taken (term_of e ∷ []));
+}
 
-pub step_left : (bit : ℕ) (old new goal : Terms) (t : Monomial × ℕ) (rest ts : Terms) → rest ≡ t ∷ ts → plus text_cmp old (lacking bit rest) ≡ goal → new ≡ plus text_cmp old (lacking bit (t ∷ [])) → plus text_cmp new (lacking bit ts) ≡ goal
-step_left bit old new goal t rest ts next so_far step =
-    ap (λ us. plus text_cmp us (lacking bit ts)) step
-    ∙ sym (plus_append old (lacking bit (t ∷ [])) (lacking bit ts))
-    ∙ ap (plus text_cmp old) (sym (lacking_append bit (t ∷ []) ts) ∙ ap (lacking bit) (sym next))
-    ∙ so_far
+pub nothing_taken : (rank : ℕ) (entries : List (CutKey × ℕ)) (part others : Terms) → part ≡ [] → others ≡ [] → IsTaken rank entries entries part others
+nothing_taken rank entries part others none nothing = record { taken = []; all = sym (append-nil (map term_of entries)); part_is = none; others_are = nothing }
 
-pub step_part : (bit : ℕ) (old new goal : Terms) (t : Monomial × ℕ) (rest ts : Terms) → rest ≡ t ∷ ts → old ++ cofactors bit rest ≡ goal → new ≡ old ++ cofactors bit (t ∷ []) → new ++ cofactors bit ts ≡ goal
-step_part bit old new goal t rest ts next so_far step =
-    ap (λ us. us ++ cofactors bit ts) step
-    ∙ append_assoc old (cofactors bit (t ∷ [])) (cofactors bit ts)
-    ∙ ap (λ us. old ++ us) (sym (cofactors_append bit (t ∷ []) ts) ∙ ap (cofactors bit) (sym next))
-    ∙ so_far
+pub step_terms : (old new goal : Terms) (t : Monomial × ℕ) (rest ts : Terms) → rest ≡ t ∷ ts → plus text_cmp old rest ≡ goal → new ≡ plus text_cmp old (t ∷ []) → plus text_cmp new ts ≡ goal
+step_terms old new goal t rest ts next so_far step = ap (λ us. plus text_cmp us ts) step ∙ ap (plus text_cmp old) (sym next) ∙ so_far
+
+-- the products of a term and the form of a table of one bit
+pub line_products : (form rank : ℕ) (t : Monomial × ℕ)
+    → products t (monomials form [] (rank ∷ []) 0 1) ≡ cond (table_bit form 0) ((of_bits t.0.bits, t.1) ∷ []) [] ++ cond (table_bit form 1) ((of_bits (with_rank t.0.bits rank), t.1) ∷ []) []
+line_products form rank t =
+    elim (table_bit form 0) as (λ a. products t (cond a ([] ∷ []) [] ++ cond (table_bit form 1) ((rank ∷ []) ∷ []) []) ≡ cond a ((of_bits t.0.bits, t.1) ∷ []) [] ++ cond (table_bit form 1) ((of_bits (with_rank t.0.bits rank), t.1) ∷ []) []) [
+      | true ↦ elim (table_bit form 1) as (λ b. products t (([] ∷ []) ++ cond b ((rank ∷ []) ∷ []) []) ≡ ((of_bits t.0.bits, t.1) ∷ []) ++ cond b ((of_bits (with_rank t.0.bits rank), t.1) ∷ []) []) [ true ↦ refl | false ↦ refl ]
+      | false ↦ elim (table_bit form 1) as (λ b. products t (cond b ((rank ∷ []) ∷ []) []) ≡ cond b ((of_bits (with_rank t.0.bits rank), t.1) ∷ []) []) [ true ↦ refl | false ↦ refl ]
+    ]
+
+pub line_added : (old mid new : Terms) (form rank : ℕ) (t : Monomial × ℕ) → mid ≡ plus text_cmp old (cond (table_bit form 0) ((of_bits t.0.bits, t.1) ∷ []) []) → new ≡ plus text_cmp mid (cond (table_bit form 1) ((of_bits (with_rank t.0.bits rank), t.1) ∷ []) [])
+    → new ≡ plus text_cmp old (products t (monomials form [] (rank ∷ []) 0 1))
+line_added old mid new form rank t first second =
+    second
+    ∙ ap (λ us. plus text_cmp us (cond (table_bit form 1) ((of_bits (with_rank t.0.bits rank), t.1) ∷ []) [])) first
+    ∙ sym (plus_append old (cond (table_bit form 0) ((of_bits t.0.bits, t.1) ∷ []) []) (cond (table_bit form 1) ((of_bits (with_rank t.0.bits rank), t.1) ∷ []) []))
+    ∙ ap (plus text_cmp old) (sym (line_products form rank t))
 
 pub step_products : (old new goal : Terms) (t : Monomial × ℕ) (rest ts : Terms) (sets : List (List ℕ)) → rest ≡ t ∷ ts → plus text_cmp old (all_products rest sets) ≡ goal → new ≡ plus text_cmp old (products t sets)
     → plus text_cmp new (all_products ts sets) ≡ goal

@@ -1,5 +1,5 @@
 -- The terms of a cut in the order of their keys, and the polynomial that they are. Source: this project's own.
-use Rattle.std.specs.Prelude.{◌≡◌, ◌≢◌, ℕ, ◌-◌, Bool, false, nat_le, List, [], ◌∷◌, ◌++◌, map, length, slice_get}
+use Rattle.std.specs.Prelude.{◌≡◌, ◌≢◌, ℕ, ◌-◌, Bool, false, nat_le, List, [], ◌∷◌, ◌++◌, map, reverse, length, slice_get}
 use Rattle.std.specs.List.{AllByRecursion}
 use Rattle.std.specs.List.Sorted.{IsStrictlySortedBy}
 use Rattle.std.specs.Map.{keys_of}
@@ -7,6 +7,7 @@ use Rattle.std.specs.Option.{option_map_or}
 use Rattle.std.specs.Ordering.{nat_cmp}
 use Rattle.poly_mixed.specs.Monomial.{Monomial, text_cmp}
 use Rattle.poly_mixed.specs.Polynomial.{Terms}
+use Rattle.poly_mixed.specs.Cofactor.{cofactors, lacking}
 use Rattle.poly_mixed.specs.Product.{union}
 use Rattle.poly_mixed.specs.Sum.{plus}
 use Rattle.rato_reduce.specs.CutKey.{CutKey, key_of, key_cmp}
@@ -47,6 +48,14 @@ pub record AreEntries (places : List ℕ) (entries : List (CutKey × ℕ)) : Typ
 -- the last entry's first place is not behind this one
 abbrev pub ends_up_to : ℕ → List (CutKey × ℕ) → Bool
 ends_up_to place es = option_map_or (λ e. nat_le e.0.first place) (slice_get es (length es - 1)) false
+
+-- what is left when entries were taken from the end on: the part has their terms with the bit, without it, and there are
+-- the others
+pub record IsTaken (rank : ℕ) (old new : List (CutKey × ℕ)) (part others : Terms) : Type 0 where
+  pub taken : Terms
+  pub all : map term_of old ≡ map term_of new ++ reverse taken
+  pub part_is : part ≡ cofactors rank taken
+  pub others_are : others ≡ lacking rank taken
 
 -- the products of a term and of each of these sets of bits
 abbrev pub products : Monomial × ℕ → List (List ℕ) → Terms

@@ -1,5 +1,5 @@
 //! The polynomial of a cut.
-ghost use Rattle.std.specs.Prelude.{◌≡◌, ◌≢◌, ℕ, List, ◌++◌, ◌∷◌, [], length, map, reverse, false, IfOk, IfSome, IfNone, OnOk, OnErr, ◌↔◌};
+ghost use Rattle.std.specs.Prelude.{◌≡◌, ◌≢◌, ◌<◌, ℕ, List, ◌++◌, ◌∷◌, [], length, false, IfOk, IfSome, IfNone, OnOk, OnErr, ◌↔◌, if◌then◌else◌};
 ghost use Rattle.std.specs.List.{AllByRecursion};
 ghost use Rattle.std.specs.List.Sorted.{IsStrictlySortedBy};
 ghost use Rattle.std.specs.Ordering.{nat_cmp};
@@ -8,7 +8,10 @@ ghost use Rattle.poly_mixed.specs.Monomial.{text_cmp};
 ghost use Rattle.poly_mixed.specs.Polynomial.{IsMap, IsReduced, IsTerm};
 ghost use Rattle.poly_mixed.specs.Sum.{plus, plus_term};
 ghost use Rattle.rato_reduce.specs.CutKey.{key_cmp};
-ghost use Rattle.rato_reduce.specs.CutTerms.{of_bits, term_of, ends_up_to, products, AreEntries, IsBitTerm};
+ghost use Rattle.poly_mixed.specs.Product.{with_rank};
+ghost use Rattle.poly_mixed.specs.Table.{table_bit};
+ghost use Rattle.rato_reduce.specs.CutTerms.{of_bits, term_of, ends_up_to, products, AreEntries, IsBitTerm, IsTaken};
+ghost use Rattle.rato_reduce.specs.Monomials.{monomials};
 
 use crate::bit_term::BitTerm;
 use crate::key::{Key, place_of};
@@ -81,52 +84,66 @@ impl Cut {
         Ok(())
     }
 
-    /// Takes out the terms with the bit, and gives them without it. It takes the time of the terms whose first place is
-    /// not behind that of the bit. After want of memory it is not used again.
-    pub fn take_with(&mut self, rank: u32) -> Result<Vec<BitTerm>, AllocError>
-        ensures left { OnOk result (self.new.terms ≡ lacking rank self.old.terms) }
-        ensures part { IfOk result (λ part. plus text_cmp [] part.items ≡ cofactors rank self.old.terms) }
-        ensures each { IfOk result (λ part. AllByRecursion IsBitTerm part.items) }
-        ensures terms { (k : ℕ) → IsReduced k self.old.terms → IfOk result (λ part. AllByRecursion (IsTerm k) part.items) }
-        ensures stands { IfOk result (λ part. LacksBit rank self.old.terms ↔ (part.items ≡ [])) }
-    {
-        let place = place_of(self.places.as_slice(), rank);
-        let taken = take_up_to(self.alloc, &mut self.map, place)?;
-        self.split(&taken, rank)
-    }
-
-    // The terms with the bit, without it; adds the others.
-    fn split(&mut self, terms: &[BitTerm], rank: u32) -> Result<Vec<BitTerm>, AllocError>
-        requires { AllByRecursion IsBitTerm terms.now }
-        ensures left { OnOk result (self.new.terms ≡ plus text_cmp self.old.terms (lacking rank terms.now)) }
-        ensures part { IfOk result (λ part. part.items ≡ cofactors rank terms.now) }
-    {
-        let mut part = Vec::new(self.alloc);
-        for term in terms {
-            self.sort_out(term, rank, &mut part)?;
-        }
-        Ok(part)
-    }
-
-    // Puts a term with the bit into the part, without the bit, and adds one that lacks it.
-    fn sort_out(
-        &mut self,
-        term: &BitTerm,
-        rank: u32,
-        part: &mut Vec<BitTerm>,
-    ) -> Result<(), AllocError>
+    /// Adds the products of a term and of the sum of 1, if the form of a table of one bit has it, and of that bit, if the form
+    /// has it. After want of memory it is not used again.
+    pub fn add_line(&mut self, term: &BitTerm, form: u64, rank: u32) -> Result<(), AllocError>
         requires { IsBitTerm term.now }
-        ensures left { OnOk result (self.new.terms ≡ plus text_cmp self.old.terms (lacking rank (term.now ∷ []))) }
-        ensures part { OnOk result (part.new.items ≡ part.old.items ++ cofactors rank (term.now ∷ [])) }
+        ensures { OnOk result (self.new.terms ≡ plus text_cmp self.old.terms (products term.now (monomials form [] (rank ∷ []) 0 1))) }
     {
-        if !term.bits().has(rank) {
+        let one = has_place(form, 0);
+        let bit = has_place(form, 1);
+        self.add_same(term, one)?;
+        self.add_with(term, rank, bit)
+    }
+
+    // Adds a term, if it is to be added.
+    fn add_same(&mut self, term: &BitTerm, added: bool) -> Result<(), AllocError>
+        requires { IsBitTerm term.now }
+        ensures { OnOk result (self.new.terms ≡ plus text_cmp self.old.terms (if added then (of_bits term.now.0.bits, term.now.1) ∷ [] else [])) }
+    {
+        if added {
             let bits = term.bits().copied()?;
             self.add(bits, term.coefficient())?;
-            return Ok(());
         }
-        let bits = term.bits().without(rank)?;
-        part.push(BitTerm::new(bits, term.coefficient()))?;
         Ok(())
+    }
+
+    // Adds a term times a bit, if it is to be added.
+    fn add_with(&mut self, term: &BitTerm, rank: u32, added: bool) -> Result<(), AllocError>
+        requires { IsBitTerm term.now }
+        ensures { OnOk result (self.new.terms ≡ plus text_cmp self.old.terms (if added then (of_bits (with_rank term.now.0.bits rank), term.now.1) ∷ [] else [])) }
+    {
+        if added {
+            let bits = term.bits().with(rank)?;
+            self.add(bits, term.coefficient())?;
+        }
+        Ok(())
+    }
+
+    // Adds terms.
+    fn add_all(&mut self, terms: &[BitTerm]) -> Result<(), AllocError>
+        requires { AllByRecursion IsBitTerm terms.now }
+        ensures { OnOk result (self.new.terms ≡ plus text_cmp self.old.terms terms.now) }
+    {
+        for term in terms {
+            self.add_same(term, true)?;
+        }
+        Ok(())
+    }
+
+    /// Takes out the terms with the bit, and puts them, without it, in place of what `part` held. It takes the time of the
+    /// terms whose first place is not behind that of the bit. After want of memory neither is used again.
+    pub fn take_with(&mut self, rank: u32, part: &mut Vec<BitTerm>) -> Result<(), AllocError>
+        ensures left { OnOk result (self.new.terms ≡ lacking rank self.old.terms) }
+        ensures part { OnOk result (plus text_cmp [] part.new.items ≡ cofactors rank self.old.terms) }
+        ensures each { OnOk result (AllByRecursion IsBitTerm part.new.items) }
+        ensures terms { (k : ℕ) → IsReduced k self.old.terms → OnOk result (AllByRecursion (IsTerm k) part.new.items) }
+        ensures stands { OnOk result (LacksBit rank self.old.terms ↔ (part.new.items ≡ [])) }
+    {
+        part.clear();
+        let place = place_of(self.places.as_slice(), rank);
+        let others = take_up_to(self.alloc, &mut self.map, place, rank, part)?;
+        self.add_all(&others)
     }
 
     /// The same polynomial, in the order of a text.
@@ -140,6 +157,14 @@ impl Cut {
         }
         Ok(sum)
     }
+}
+
+// Whether the form of a table has a place.
+fn has_place(form: u64, place: u32) -> bool
+    requires { place < 64 }
+    ensures { result ≡ table_bit form place }
+{
+    (form >> place) & 1 == 1
 }
 
 // Adds an entry to a map; the sum of two coefficients that is 0 leaves no entry.
@@ -185,20 +210,44 @@ fn pop_up_to(entries: &mut BTreeMap<Key, u64>, place: u32) -> Option<(Key, u64)>
     entries.pop_last()
 }
 
-// Takes the entries from the last on backwards whose first place is not behind this one, as terms in the order in which
-// they are taken.
+// Puts the term of an entry into the part, without the bit, if it has the bit, and else into the others.
+fn sort_out(
+    key: Key,
+    c: u64,
+    rank: u32,
+    part: &mut Vec<BitTerm>,
+    others: &mut Vec<BitTerm>,
+) -> Result<(), AllocError>
+    ensures part { OnOk result (part.new.items ≡ part.old.items ++ cofactors rank (term_of (key, c) ∷ [])) }
+    ensures others { OnOk result (others.new.items ≡ others.old.items ++ lacking rank (term_of (key, c) ∷ [])) }
+{
+    let bits = key.into_bits();
+    if !bits.has(rank) {
+        others.push(BitTerm::new(bits, c))?;
+        return Ok(());
+    }
+    let rest = bits.without(rank)?;
+    part.push(BitTerm::new(rest, c))?;
+    Ok(())
+}
+
+// Takes the entries from the last on backwards whose first place is not behind this one: their terms with the bit are added
+// to the part, without it, and the others are given.
 fn take_up_to(
     alloc: Global,
     entries: &mut BTreeMap<Key, u64>,
     place: u32,
+    rank: u32,
+    part: &mut Vec<BitTerm>,
 ) -> Result<Vec<BitTerm>, AllocError>
-    ensures all { IfOk result (λ taken. map term_of entries.old.entries ≡ map term_of entries.new.entries ++ reverse taken.items) }
+    requires { part.old.items ≡ [] }
+    ensures taken { IfOk result (λ others. IsTaken rank entries.old.entries entries.new.entries part.new.items others.items) }
     ensures rest { OnOk result (ends_up_to place entries.new.entries ≡ false) }
     ensures entries { (places : List ℕ) → AreEntries places entries.old.entries → AreEntries places entries.new.entries }
 {
-    let mut taken = Vec::new(alloc);
+    let mut others = Vec::new(alloc);
     while let Some((key, c)) = pop_up_to(entries, place) {
-        taken.push(BitTerm::new(key.into_bits(), c))?;
+        sort_out(key, c, rank, part, &mut others)?;
     }
-    Ok(taken)
+    Ok(others)
 }
