@@ -114,7 +114,7 @@ lacking_of_sum bit q us all =
 
 -- ---- the entries behind the place of a bit lack it
 
-least_first : (places : List ℕ) (least : ℕ) (rs : List ℕ) → first_from places least rs ≤ least
+pub least_first : (places : List ℕ) (least : ℕ) (rs : List ℕ) → first_from places least rs ≤ least
 least_first places least [] = omega arith
 least_first places least (r ∷ rs) =
     let place = place_at places r in
@@ -182,7 +182,7 @@ rest_lacks places rank (e ∷ es) are behind =
     let P : ℕ → Type 0 = λ n. option_map_or (λ f. nat_le f.0.first (place_at places rank)) (slice_get (e ∷ es) n) false ≡ false in
     all_lack places rank (e ∷ es) are.each (all_behind (place_at places rank) (length es) e es refl are.sorted (subst P last behind))
 
-all_before : {A : Type 0} (P : A → Type 0) (xs : List A) (x : A) → AllByRecursion P (xs ++ x ∷ []) → AllByRecursion P xs
+pub all_before : {A : Type 0} (P : A → Type 0) (xs : List A) (x : A) → AllByRecursion P (xs ++ x ∷ []) → AllByRecursion P xs
 all_before P [] x all = tt
 all_before P (y ∷ ys) x all = (all.0, all_before P ys x all.1)
 

@@ -30,6 +30,10 @@ hash_from start (r ∷ rs) = hash_from (bit_xor start r * 11400714819323198485 %
 abbrev pub key_of : List ℕ → List ℕ → CutKey
 key_of places bits = record { first = first_from places 4294967295 bits; hash = hash_from 0 bits; bits = bits }
 
+-- the key of no bits: it stands before all others
+abbrev pub no_bits : CutKey
+no_bits = record { first = 4294967295; hash = 0; bits = [] }
+
 -- by the first place from the last to the first, then by the hash, then by the bits
 abbrev pub key_cmp : CutKey → CutKey → Ordering
 key_cmp = then_cmp (on (λ k. k.first) (flip_args nat_cmp)) (then_cmp (on (λ k. k.hash) nat_cmp) (on (λ k. k.bits) (slice_cmp nat_cmp)))

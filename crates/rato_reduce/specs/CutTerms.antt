@@ -1,5 +1,6 @@
 -- The terms of a cut in the order of their keys, and the polynomial that they are. Source: this project's own.
 use Rattle.std.specs.Prelude.{◌≡◌, ◌≢◌, ℕ, ◌-◌, Bool, false, nat_le, List, [], ◌∷◌, ◌++◌, map, reverse, length, slice_get}
+use Rattle.std.specs.declared.cmp.Ordering.TheVariants.{Less}
 use Rattle.std.specs.List.{AllByRecursion}
 use Rattle.std.specs.List.Sorted.{IsStrictlySortedBy}
 use Rattle.std.specs.Map.{keys_of}
@@ -9,8 +10,8 @@ use Rattle.poly_mixed.specs.Monomial.{Monomial, text_cmp}
 use Rattle.poly_mixed.specs.Polynomial.{Terms}
 use Rattle.poly_mixed.specs.Cofactor.{cofactors, lacking}
 use Rattle.poly_mixed.specs.Product.{union}
-use Rattle.poly_mixed.specs.Sum.{plus}
-use Rattle.rato_reduce.specs.CutKey.{CutKey, key_of, key_cmp}
+use Rattle.poly_mixed.specs.Sum.{plus, with_coefficient}
+use Rattle.rato_reduce.specs.CutKey.{CutKey, key_of, no_bits, key_cmp}
 
 -- what a `Cut` is: a polynomial
 pub record CutPolynomial : Type 0 where
@@ -44,6 +45,15 @@ pub record IsEntry (places : List ℕ) (e : CutKey × ℕ) : Type 0 where
 pub record AreEntries (places : List ℕ) (entries : List (CutKey × ℕ)) : Type 0 where
   pub sorted : IsStrictlySortedBy key_cmp (keys_of entries)
   pub each : AllByRecursion (IsEntry places) entries
+
+-- the entries with a term without bits before them, unless its coefficient is 0
+abbrev pub with_constant : ℕ → List (CutKey × ℕ) → List (CutKey × ℕ)
+with_constant c entries = with_coefficient no_bits c entries
+
+-- entries of terms with bits, in the order of their keys
+pub record AreBitEntries (places : List ℕ) (entries : List (CutKey × ℕ)) : Type 0 where
+  pub are : AreEntries places entries
+  pub bits : AllByRecursion (λ e. key_cmp no_bits e.0 ≡ Less) entries
 
 -- the last entry's first place is not behind this one
 abbrev pub ends_up_to : ℕ → List (CutKey × ℕ) → Bool

@@ -6,11 +6,11 @@ ghost use Rattle.std.specs.Ordering.{nat_cmp};
 ghost use Rattle.poly_mixed.specs.Cofactor.{cofactors, lacking, LacksBit};
 ghost use Rattle.poly_mixed.specs.Monomial.{text_cmp};
 ghost use Rattle.poly_mixed.specs.Polynomial.{IsMap, IsReduced, IsTerm};
-ghost use Rattle.poly_mixed.specs.Sum.{plus, plus_term};
+ghost use Rattle.poly_mixed.specs.Sum.{plus, plus_term, with_coefficient};
 ghost use Rattle.rato_reduce.specs.CutKey.{key_cmp};
 ghost use Rattle.poly_mixed.specs.Product.{with_rank};
 ghost use Rattle.poly_mixed.specs.Table.{table_bit};
-ghost use Rattle.rato_reduce.specs.CutTerms.{of_bits, term_of, ends_up_to, products, AreEntries, IsBitTerm, IsTaken};
+ghost use Rattle.rato_reduce.specs.CutTerms.{of_bits, term_of, ends_up_to, products, AreBitEntries, IsBitTerm, IsTaken};
 ghost use Rattle.rato_reduce.specs.Monomials.{monomials};
 
 use crate::bit_term::BitTerm;
@@ -24,22 +24,23 @@ use std::marker::Model;
 
 /// A polynomial in bits, whose terms stand against the order in which nets are eliminated: those with a net come last
 /// once each net of an earlier place is gone. `places` has the place of each rank. The places decide how long a call takes
-/// and nothing else.
+/// and nothing else. The term without bits is kept apart: an inverter adds it each time.
 #[derive(Drop)]
 pub struct Cut {
+    constant: u64,
     map: BTreeMap<Key, u64>,
     places: Vec<u32>,
     alloc: Global,
 }
 
 impl Model for Cut {
-    ghost use Rattle.rato_reduce.specs.CutTerms.{CutPolynomial, cut_polynomial, AreEntries};
+    ghost use Rattle.rato_reduce.specs.CutTerms.{CutPolynomial, cut_polynomial, with_constant, AreBitEntries};
 
     ghost Value = { CutPolynomial };
 
-    ghost view = { λ c. cut_polynomial c.map.entries };
+    ghost view = { λ c. cut_polynomial (with_constant c.constant c.map.entries) };
 
-    ghost invariant = { λ c. AreEntries c.places.items c.map.entries };
+    ghost invariant = { λ c. AreBitEntries c.places.items c.map.entries };
 }
 
 impl Cut {
@@ -48,6 +49,7 @@ impl Cut {
         ensures { result.terms ≡ [] }
     {
         Cut {
+            constant: 0,
             map: BTreeMap::new(alloc),
             places,
             alloc,
@@ -58,7 +60,8 @@ impl Cut {
     pub fn len(&self) -> usize
         ensures { result ≡ length self.now.terms }
     {
-        self.map.len()
+        let bits = self.map.len();
+        if self.constant == 0 { bits } else { bits + 1 }
     }
 
     /// Adds a term of rising bits. After want of memory it is not used again.
@@ -67,9 +70,21 @@ impl Cut {
         requires some { c ≢ 0 }
         ensures { OnOk result (self.new.terms ≡ plus_term text_cmp self.old.terms (of_bits bits, c)) }
     {
+        if bits.is_empty() {
+            self.add_constant(c);
+            return Ok(());
+        }
         let key = Key::new(self.places.as_slice(), bits);
         add_to(&mut self.map, key, c)?;
         Ok(())
+    }
+
+    // Adds a term without bits.
+    fn add_constant(&mut self, c: u64)
+        requires { c ≢ 0 }
+        ensures { self.new.terms ≡ plus_term text_cmp self.old.terms (of_bits [], c) }
+    {
+        self.constant ^= c;
     }
 
     /// Adds the products of a term and of each of these sets of bits. After want of memory it is not used again.
@@ -101,11 +116,15 @@ impl Cut {
         requires { IsBitTerm term.now }
         ensures { OnOk result (self.new.terms ≡ plus text_cmp self.old.terms (if added then (of_bits term.now.0.bits, term.now.1) ∷ [] else [])) }
     {
-        if added {
-            let bits = term.bits().copied()?;
-            self.add(bits, term.coefficient())?;
+        if !added {
+            return Ok(());
         }
-        Ok(())
+        if term.bits().is_empty() {
+            self.add_constant(term.coefficient());
+            return Ok(());
+        }
+        let bits = term.bits().copied()?;
+        self.add(bits, term.coefficient())
     }
 
     // Adds a term times a bit, if it is to be added.
@@ -150,13 +169,25 @@ impl Cut {
     pub fn to_poly(&self) -> Result<Poly, AllocError>
         ensures { IfOk result (λ q. q.terms ≡ self.now.terms) }
     {
-        let mut sum = Poly::zero(self.alloc);
+        let mut sum = constant_poly(self.alloc, self.constant)?;
         for (key, c) in &self.map {
             let mono = Mono::new(self.alloc, key.bits().as_slice(), &[0; 8])?;
             sum.add_term(mono, *c)?;
         }
         Ok(sum)
     }
+}
+
+// The polynomial of a term without bits, which has none where the coefficient is 0.
+fn constant_poly(alloc: Global, c: u64) -> Result<Poly, AllocError>
+    ensures { IfOk result (λ q. q.terms ≡ with_coefficient (of_bits []) c []) }
+{
+    let mut sum = Poly::zero(alloc);
+    if c != 0 {
+        let mono = Mono::new(alloc, &[], &[0; 8])?;
+        sum.add_term(mono, c)?;
+    }
+    Ok(sum)
 }
 
 // Whether the form of a table has a place.
@@ -243,7 +274,7 @@ fn take_up_to(
     requires { part.old.items ≡ [] }
     ensures taken { IfOk result (λ others. IsTaken rank entries.old.entries entries.new.entries part.new.items others.items) }
     ensures rest { OnOk result (ends_up_to place entries.new.entries ≡ false) }
-    ensures entries { (places : List ℕ) → AreEntries places entries.old.entries → AreEntries places entries.new.entries }
+    ensures entries { (places : List ℕ) → AreBitEntries places entries.old.entries → AreBitEntries places entries.new.entries }
 {
     let mut others = Vec::new(alloc);
     while let Some((key, c)) = pop_up_to(entries, place) {
