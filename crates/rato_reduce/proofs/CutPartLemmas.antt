@@ -1,5 +1,5 @@
 -- The terms of a cut with a bit, and those without it.
-use Rattle.std.proofs.Common.{◌≡◌, ℕ, zero, suc, ◌+◌, ◌<◌, ◌≤◌, ◌-◌, length, drop, get_or, slice_get, reverse, true, false, cond, not, nat_le, nat_lt, nat_eq, List, [], ◌∷◌, ◌++◌, map, bit_xor, refl, sym, ◌∙◌, ap, subst, arith, append-nil, ◌||◌}
+use Rattle.std.proofs.Common.{◌≡◌, ℕ, zero, suc, ◌+◌, ◌<◌, ◌≤◌, ◌-◌, length, drop, get_or, slice_get, reverse, Bool, true, false, cond, not, nat_le, nat_lt, nat_eq, List, [], ◌∷◌, ◌++◌, map, bit_xor, refl, sym, ◌∙◌, ap, subst, arith, append-nil, ◌||◌}
 use lib.Bits.{xor_zero_l, xor_zero_r, xor_comm}
 use Rattle.std.specs.declared.cmp.Ordering.TheVariants.{Less, Equal, Greater}
 use Rattle.std.specs.Cmp.Lexicographic.{slice_cmp}
@@ -24,7 +24,7 @@ use Rattle.poly_mixed.proofs.Sums.{at, at_additive, found_is_sum, xor_sum-plus}
 use Rattle.poly_mixed.proofs.Values.{same_map, one_map}
 use Rattle.rato_reduce.specs.CutKey.{CutKey, place_at, first_from, key_cmp}
 use Rattle.rato_reduce.specs.CutTerms.{of_bits, IsBitTerm, term_of, IsEntry, AreEntries, ends_up_to, IsTaken, products, all_products}
-use Rattle.poly_mixed.specs.Product.{with_rank}
+use Rattle.poly_mixed.specs.Product.{union, with_rank}
 use Rattle.poly_mixed.specs.Table.{table_bit}
 use Rattle.rato_reduce.specs.Monomials.{monomials}
 use Rattle.rato_reduce.proofs.CutLemmas.{coefficient_sum, sum_map_is, nothing_map, all_unit}
@@ -335,6 +335,42 @@ line_added old mid new form rank t first second =
     ∙ ap (λ us. plus text_cmp us (cond (table_bit form 1) ((of_bits (with_rank t.0.bits rank), t.1) ∷ []) [])) first
     ∙ sym (plus_append old (cond (table_bit form 0) ((of_bits t.0.bits, t.1) ∷ []) []) (cond (table_bit form 1) ((of_bits (with_rank t.0.bits rank), t.1) ∷ []) []))
     ∙ ap (plus text_cmp old) (sym (line_products form rank t))
+
+products_append : (t : Monomial × ℕ) (ms ns : List (List ℕ)) → products t (ms ++ ns) ≡ products t ms ++ products t ns
+products_append t [] ns = refl
+products_append t (m ∷ ms) ns = ap (λ us. (of_bits (union t.0.bits m), t.1) ∷ us) (products_append t ms ns)
+
+-- the product of a term and of a set, if it is to be added
+abbrev chosen_product : Bool → List ℕ → Monomial × ℕ → Terms
+chosen_product b n t = cond b ((of_bits (union t.0.bits n), t.1) ∷ []) []
+
+one_set : (b : Bool) (n : List ℕ) (t : Monomial × ℕ) → products t (cond b (n ∷ []) []) ≡ chosen_product b n t
+one_set b n t = elim b as (λ v. products t (cond v (n ∷ []) []) ≡ cond v ((of_bits (union t.0.bits n), t.1) ∷ []) []) [ true ↦ refl | false ↦ refl ]
+
+two_sets : (a b : Bool) (m n : List ℕ) (t : Monomial × ℕ) → products t (cond a (m ∷ []) [] ++ cond b (n ∷ []) []) ≡ chosen_product a m t ++ chosen_product b n t
+two_sets a b m n t = products_append t (cond a (m ∷ []) []) (cond b (n ∷ []) []) ∙ (λ i. one_set a m t i ++ one_set b n t i)
+
+-- the products of a term and the form of a table of two bits
+pub pair_products : (form first second : ℕ) (t : Monomial × ℕ)
+    → products t (monomials form [] (first ∷ second ∷ []) 0 1)
+    ≡ (chosen_product (table_bit form 0) [] t ++ chosen_product (table_bit form 2) (second ∷ []) t) ++ (chosen_product (table_bit form 1) (first ∷ []) t ++ chosen_product (table_bit form 3) (with_rank (first ∷ []) second) t)
+pair_products form first second t =
+    products_append t (monomials form [] (second ∷ []) 0 2) (monomials form (first ∷ []) (second ∷ []) 1 2)
+    ∙ (λ i. two_sets (table_bit form 0) (table_bit form 2) [] (second ∷ []) t i ++ two_sets (table_bit form 1) (table_bit form 3) (first ∷ []) (with_rank (first ∷ []) second) t i)
+
+pub pair_added : (old one high low new : Terms) (form first second : ℕ) (t : Monomial × ℕ) → one ≡ plus text_cmp old (chosen_product (table_bit form 0) [] t) → high ≡ plus text_cmp one (chosen_product (table_bit form 2) (second ∷ []) t)
+    → low ≡ plus text_cmp high (chosen_product (table_bit form 1) (first ∷ []) t) → new ≡ plus text_cmp low (chosen_product (table_bit form 3) (with_rank (first ∷ []) second) t)
+    → new ≡ plus text_cmp old (products t (monomials form [] (first ∷ second ∷ []) 0 1))
+pair_added old one high low new form first second t one_is high_is low_is new_is =
+    let a = chosen_product (table_bit form 0) [] t in
+    let b = chosen_product (table_bit form 2) (second ∷ []) t in
+    let c = chosen_product (table_bit form 1) (first ∷ []) t in
+    let d = chosen_product (table_bit form 3) (with_rank (first ∷ []) second) t in
+    new_is
+    ∙ ap (λ us. plus text_cmp us d) (low_is ∙ ap (λ us. plus text_cmp us c) (high_is ∙ ap (λ us. plus text_cmp us b) one_is ∙ sym (plus_append old a b)))
+    ∙ sym (plus_append (plus text_cmp old (a ++ b)) c d)
+    ∙ sym (plus_append old (a ++ b) (c ++ d))
+    ∙ ap (plus text_cmp old) (sym (pair_products form first second t))
 
 pub step_products : (old new goal : Terms) (t : Monomial × ℕ) (rest ts : Terms) (sets : List (List ℕ)) → rest ≡ t ∷ ts → plus text_cmp old (all_products rest sets) ≡ goal → new ≡ plus text_cmp old (products t sets)
     → plus text_cmp new (all_products ts sets) ≡ goal

@@ -8,7 +8,7 @@ ghost use Rattle.poly_mixed.specs.Monomial.{text_cmp};
 ghost use Rattle.poly_mixed.specs.Polynomial.{IsMap, IsReduced, IsTerm};
 ghost use Rattle.poly_mixed.specs.Sum.{plus, plus_term, with_coefficient};
 ghost use Rattle.rato_reduce.specs.CutKey.{key_cmp};
-ghost use Rattle.poly_mixed.specs.Product.{with_rank};
+ghost use Rattle.poly_mixed.specs.Product.{union, with_rank};
 ghost use Rattle.poly_mixed.specs.Table.{table_bit};
 ghost use Rattle.rato_reduce.specs.CutTerms.{of_bits, term_of, ends_up_to, products, AreBitEntries, IsBitTerm, IsTaken};
 ghost use Rattle.rato_reduce.specs.Monomials.{monomials};
@@ -109,6 +109,42 @@ impl Cut {
         let bit = has_place(form, 1);
         self.add_same(term, one)?;
         self.add_with(term, rank, bit)
+    }
+
+    /// Adds the products of a term and of the sum of 1, two bits and the product of both, each if the form of a table of two
+    /// bits has it. After want of memory it is not used again.
+    pub fn add_pair(
+        &mut self,
+        term: &BitTerm,
+        form: u64,
+        first: u32,
+        second: u32,
+        both: &Ranks,
+    ) -> Result<(), AllocError>
+        requires term { IsBitTerm term.now }
+        requires both { both.now ≡ with_rank (first ∷ []) second }
+        ensures { OnOk result (self.new.terms ≡ plus text_cmp self.old.terms (products term.now (monomials form [] (first ∷ second ∷ []) 0 1))) }
+    {
+        let one = has_place(form, 0);
+        let low = has_place(form, 1);
+        let high = has_place(form, 2);
+        let all = has_place(form, 3);
+        self.add_same(term, one)?;
+        self.add_with(term, second, high)?;
+        self.add_with(term, first, low)?;
+        self.add_union(term, both, all)
+    }
+
+    // Adds a term times bits, if it is to be added.
+    fn add_union(&mut self, term: &BitTerm, set: &Ranks, added: bool) -> Result<(), AllocError>
+        requires { IsBitTerm term.now }
+        ensures { OnOk result (self.new.terms ≡ plus text_cmp self.old.terms (if added then (of_bits (union term.now.0.bits set.now), term.now.1) ∷ [] else [])) }
+    {
+        if added {
+            let bits = term.bits().union(set)?;
+            self.add(bits, term.coefficient())?;
+        }
+        Ok(())
     }
 
     // Adds a term, if it is to be added.

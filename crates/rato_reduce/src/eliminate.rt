@@ -51,7 +51,28 @@ fn add_all_lines(cut: &mut Cut, part: &[BitTerm], form: u64, rank: u32) -> Resul
     Ok(())
 }
 
-// Adds the products of the terms and of the form of a table at the inputs of a gate. A form of one bit is no list of sets.
+// Adds the products of each of the terms and of the form of a table of two bits.
+fn add_all_pairs(
+    alloc: Global,
+    cut: &mut Cut,
+    part: &[BitTerm],
+    form: u64,
+    first: u32,
+    second: u32,
+) -> Result<(), AllocError>
+    requires { AllByRecursion IsBitTerm part.now }
+    ensures { OnOk result (cut.new.terms ≡ plus text_cmp cut.old.terms (all_products part.now (monomials form [] (first ∷ second ∷ []) 0 1))) }
+{
+    let one = Ranks::none(alloc).with(first)?;
+    let both = one.with(second)?;
+    for term in part {
+        cut.add_pair(term, form, first, second, &both)?;
+    }
+    Ok(())
+}
+
+// Adds the products of the terms and of the form of a table at the inputs of a gate. Forms of one bit and of two make no list
+// of sets.
 fn add_form(
     alloc: Global,
     circuit: &Combinational,
@@ -69,6 +90,11 @@ fn add_form(
     if inputs.len() == 1 {
         let rank = rank(circuit, inputs[0]);
         return add_all_lines(cut, part, form, rank);
+    }
+    if inputs.len() == 2 {
+        let first = rank(circuit, inputs[0]);
+        let second = rank(circuit, inputs[1]);
+        return add_all_pairs(alloc, cut, part, form, first, second);
     }
     let ranks = input_ranks(alloc, circuit, gate)?;
     let sets = monomials_of(alloc, form, &ranks)?;
