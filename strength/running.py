@@ -98,6 +98,8 @@ PATTERNS = {number: [pattern_of(text) for text in texts] for number, texts in LI
 def fault_of(line):
     """The number of the fault whose line this is, without its LF; none where it is no fault's line."""
     number, text = line[6:8], line[10:]
+    # of the second signature of `iso`
+    text = text.removeprefix(b'second ') if b'20' <= number < b'30' else text
     if line[:6] == b'fault ' and line[8:10] == b': ' and number in PATTERNS:
         if any(pattern.fullmatch(text) for pattern in PATTERNS[number]):
             return number.decode()
@@ -113,9 +115,11 @@ class Timed:
         late = []
         timer = threading.Timer(limit, lambda: (late.append(1), os.killpg(child.pid, signal.SIGKILL)))
         timer.start()
-        _, status, usage = os.wait4(child.pid, 0)
+        try:
+            _, status, usage = os.wait4(child.pid, 0)
+        finally:
+            timer.cancel()
         self.seconds = time.perf_counter() - begun
-        timer.cancel()
         child.returncode = os.waitstatus_to_exitcode(status)
         self.status = None if late else child.returncode
         self.mebibytes = usage.ru_maxrss / 1024
