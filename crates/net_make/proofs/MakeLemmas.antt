@@ -21,7 +21,7 @@ use Rattle.net_make.specs.Ports.{inputs_of, outer_names, outputs_of, role_nets, 
 use Rattle.net_make.specs.Prefix.{prefix_of}
 use Rattle.net_make.proofs.MostLemmas.{are_names, prefix_fits}
 
-range_low : (a k n : ℕ) → Has (range_with_len a k) n → (a ≤ n) × (n < a + k)
+pub range_low : (a k n : ℕ) → Has (range_with_len a k) n → (a ≤ n) × (n < a + k)
 range_low a k n has = let place = got_range a k has.0 n has.1 in (omega (arith, place.0), omega (arith, place.0, place.1))
 
 cond_low : (b : Bool) (a k n : ℕ) → Has (cond b (range_with_len a k) []) n → (a ≤ n) × (n < a + k)
