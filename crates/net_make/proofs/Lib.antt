@@ -9,3 +9,4 @@ pub mod FormLemmas
 pub mod MadeLemmas
 pub mod RunLemmas
 pub mod PolyLemmas
+pub mod Examples

@@ -1,5 +1,5 @@
 -- What made nets compute with the words of a signature.
-use Rattle.std.proofs.Common.{◌≡◌, ◌≢◌, ◌⊎◌, ◌∙◌, ap, sym, refl, subst, inl, inr, ℕ, zero, suc, ◌<◌, ◌≤◌, ◌+◌, ◌^◌, Bool, true, false, not, cond, List, [], ◌∷◌, ◌++◌, length, map, filter, take, drop, Option, None, Some, Result, Ok, append-nil, arith}
+use Rattle.std.proofs.Common.{◌≡◌, ◌⊎◌, ◌∙◌, ap, sym, refl, subst, inl, ℕ, zero, suc, ◌<◌, ◌≤◌, ◌^◌, Bool, true, false, not, cond, List, [], ◌∷◌, ◌++◌, length, map, filter, take, drop, None, Some, Result, Ok, append-nil, arith}
 use Rattle.std.specs.Prelude.{slice_get}
 use Rattle.net_core.specs.Lists.{Has}
 use Rattle.net_core.specs.NetList.{NetList}
@@ -7,10 +7,8 @@ use Rattle.net_core.specs.Sound.{IsSound}
 use Rattle.net_core.specs.Value.{IsConsistent, index_of}
 use Rattle.net_words.specs.Bind.{BindingOf}
 use Rattle.net_words.specs.Binding.{AreWords, Binding}
-use Rattle.net_words.specs.BoundTo.{output_bits}
 use Rattle.net_words.specs.Feeds.{AreFeeds}
-use Rattle.net_words.specs.declared.feed.FeedText.{FeedText}
-use Rattle.net_words.specs.Roles.{is_output, same_role}
+use Rattle.net_words.specs.Roles.{is_output}
 use Rattle.net_words.specs.declared.word.Role.{Role}
 use Rattle.net_words.specs.declared.word.Role.TheVariants.{Input, Fed, Output}
 use Rattle.net_words.specs.declared.word.WordText.{WordText}
@@ -20,9 +18,9 @@ use Rattle.gf_field.specs.Field.{HasNoZeroDivisors}
 use Rattle.gf_basis.specs.Basis.{AreBits, IsBasis}
 use Rattle.circuit_model.specs.Circuit.{Circuit, IsInput}
 use Rattle.circuit_model.specs.Job.{IsJob}
-use Rattle.circuit_model.specs.JobOfBinding.{job_with, job_words_of}
-use Rattle.circuit_model.specs.OfBinding.{output_basis, output_word}
-use Rattle.circuit_model.specs.Out.{IsOut, Ends}
+use Rattle.circuit_model.specs.JobOfBinding.{job_with}
+use Rattle.circuit_model.specs.OfBinding.{output_basis}
+use Rattle.circuit_model.specs.Out.{IsOut}
 use Rattle.circuit_model.specs.Run.{IsInputWord, HaveElements}
 use Rattle.circuit_model.specs.Word.{Word, HasElement}
 use Rattle.circuit_model.proofs.OutLemmas.{job_some_out}
@@ -31,7 +29,7 @@ use Rattle.net_plan.proofs.LabelLemmas.{map_long}
 use Rattle.net_plan.proofs.SoundLemmas.{all_has}
 use Rattle.net_make.specs.BindingOfMade.{binding_of}
 use Rattle.net_make.specs.Computes.{ComputesOfOne, ComputesOfTwo}
-use Rattle.net_make.specs.Form.{all_of, AllWide, HasWords, lists_of, role_count, same_bases}
+use Rattle.net_make.specs.Form.{all_of, AllWide, HasWords, lists_of, same_bases}
 use Rattle.net_make.specs.Ports.{numbered, role_nets}
 use Rattle.net_make.proofs.FormLemmas.{basis_is, job_words, lists_long, lists_wide, nets_of_lists, output_nets, words_one_of}
 
@@ -106,7 +104,7 @@ module _ (k : ℕ) (product : ℕ → ℕ → ℕ) (ring : IsRing k product) (fi
   job_is : (count : ℕ) → count ≤ 7 → HasWords Input count words → BindingOf net words [] (Ok (binding_of net words [])) → IsJob job
   job_is count few has binds =
       taken_job k product (record { net = net; bound = binding_of net words [] }) words [] (same_bases basis words) cycles ring field sound
-        (are_words Input count k words some most few has wide) (no_feeds k (map (λ (w : WordText). w.role) words)) binds (map_long (λ (w : WordText). basis) words) (all_same words)
+      (are_words Input count k words some most few has wide) (no_feeds k (map (λ (w : WordText). w.role) words)) binds (map_long (λ (w : WordText). basis) words) (all_same words)
 
   out_word : (count : ℕ) → HasWords Input count words → job.output ≡ record { role = Output; nets = role_nets Output 0 words; basis = basis }
   out_word count has =
@@ -149,10 +147,10 @@ module _ (k : ℕ) (product : ℕ → ℕ → ℕ) (ring : IsRing k product) (fi
       let right : drop k (role_nets Input 0 words) ≡ lists.1 = ap (drop k) nets ∙ drop_first lists.0 lists.1 k long in
       let are : job.words ≡ word_on lists.0 ∷ word_on lists.1 ∷ [] = words_on 2 has ∙ ap (λ (ls : List (List ℕ)). map word_on ls) lists.2 in
       let out : (a b : ℕ) → a < 2 ^ k → b < 2 ^ k → IsOut job (a ∷ b ∷ []) (f a b) = λ a b low high. out_by job (a ∷ b ∷ []) (f a b) (job_is 2 (omega arith) has binds) (input a b low high are)
-            (λ bits consistent inputs e is. each bits consistent a b e low high
-              (subst (λ (v : List ℕ). AreBits basis a (index_of bits v)) (sym left) (on lists.0 bits a (inputs 0 (word_on lists.0) a (ap (λ (ws : List Word). slice_get ws 0) are) refl (role lists.0))))
-              (subst (λ (v : List ℕ). AreBits basis b (index_of bits v)) (sym right) (on lists.1 bits b (inputs 1 (word_on lists.1) b (ap (λ (ws : List Word). slice_get ws 1) are) refl (role lists.1))))
-              (output_bits_are 2 bits e has is)) in
+      (λ bits consistent inputs e is. each bits consistent a b e low high
+      (subst (λ (v : List ℕ). AreBits basis a (index_of bits v)) (sym left) (on lists.0 bits a (inputs 0 (word_on lists.0) a (ap (λ (ws : List Word). slice_get ws 0) are) refl (role lists.0))))
+      (subst (λ (v : List ℕ). AreBits basis b (index_of bits v)) (sym right) (on lists.1 bits b (inputs 1 (word_on lists.1) b (ap (λ (ws : List Word). slice_get ws 1) are) refl (role lists.1))))
+      (output_bits_are 2 bits e has is)) in
       record {
         binding = binding_of net words [];
         binds = binds;
@@ -182,9 +180,9 @@ module _ (k : ℕ) (product : ℕ → ℕ → ℕ) (ring : IsRing k product) (fi
       let nets : role_nets Input 0 words ≡ lists.0 = (lists_are 1 has).1 ∙ (ap all_of lists.1 ∙ append-nil lists.0) in
       let are : job.words ≡ word_on lists.0 ∷ [] = words_on 1 has ∙ ap (λ (ls : List (List ℕ)). map word_on ls) lists.1 in
       let out : (a : ℕ) → a < 2 ^ k → IsOut job (a ∷ []) (f a) = λ a low. out_by job (a ∷ []) (f a) (job_is 1 (omega arith) has binds) (input a low are)
-            (λ bits consistent inputs e is. each bits consistent a e low
-              (subst (λ (v : List ℕ). AreBits basis a (index_of bits v)) (sym nets) (on lists.0 bits a (inputs 0 (word_on lists.0) a (ap (λ (ws : List Word). slice_get ws 0) are) refl (role lists.0))))
-              (output_bits_are 1 bits e has is)) in
+      (λ bits consistent inputs e is. each bits consistent a e low
+      (subst (λ (v : List ℕ). AreBits basis a (index_of bits v)) (sym nets) (on lists.0 bits a (inputs 0 (word_on lists.0) a (ap (λ (ws : List Word). slice_get ws 0) are) refl (role lists.0))))
+      (output_bits_are 1 bits e has is)) in
       record {
         binding = binding_of net words [];
         binds = binds;
