@@ -6,3 +6,5 @@ pub mod PolyLemmas
 pub mod MastrovitoLemmas
 pub mod SquarerLemmas
 pub mod AdderLemmas
+pub mod ComputeLemmas
+pub mod FormLemmas

@@ -24,6 +24,14 @@ use Rattle.mult_gen.proofs.ChainLemmas.{chains_before, chains_made, chains_next,
 use Rattle.mult_gen.proofs.PolyLemmas.{index_is}
 use Rattle.mult_gen.proofs.ProductLemmas.{product_value, products_made, rows_next}
 
+-- a list has no more nets than there are products
+pub products_few : (outer k g l : ℕ) → k ≤ 64 → length (added_products k g outer l) ≤ 4096
+products_few outer k g l few =
+    omega (arith, gathered_few (λ i. added_row k g (outer + i * k) i l k) k (k * 1) (λ i low. gathered_few (λ j. where_so (bit_at (x_to k g (i + j)) l == 1) (outer + i * k + j)) k 1 (λ j high. where_few (bit_at (x_to k g (i + j)) l == 1) (outer + i * k + j))), square_few k few, one k)
+  where
+    one : (n : ℕ) → n * (n * 1) ≡ n * n
+    one n = ap (λ m. n * m) (omega arith)
+
 module _ (outer k g : ℕ) (a b z : List ℕ) (few : k ≤ 64) (a_long : length a ≡ k) (b_long : length b ≡ k) (z_long : length z ≡ k) where
   start : Plan
   start = products k a b (begun outer)
@@ -63,13 +71,6 @@ module _ (outer k g : ℕ) (a b z : List ℕ) (few : k ≤ 64) (a_long : length 
       let is : outer + row.0 * k + place.0 ≡ n = where_has (bit_at (x_to k g (row.0 + place.0)) l == 1) (outer + row.0 * k + place.0) n place.2 in
       (omega (arith, is), omega (arith, is, place_below k row.0 place.0 row.1 place.1))
 
-  pub list_few : (l : ℕ) → length (added_products k g outer l) ≤ 4096
-  list_few l =
-      omega (arith, gathered_few (λ i. added_row k g (outer + i * k) i l k) k (k * 1) (λ i low. gathered_few (λ j. where_so (bit_at (x_to k g (i + j)) l == 1) (outer + i * k + j)) k 1 (λ j high. where_few (bit_at (x_to k g (i + j)) l == 1) (outer + i * k + j))), square_few k few, one k)
-    where
-      one : (n : ℕ) → n * (n * 1) ≡ n * n
-      one n = ap (λ m. n * m) (omega arith)
-
   -- the plan drives z from the factors
   pub mastrovito_made : (sources : List ℕ) → ((i : ℕ) → i < k → Has sources (slice_index a i)) → ((j : ℕ) → j < k → Has sources (slice_index b j)) → ((l : ℕ) → l < k → slice_index z l < outer) → IsWellMade outer sources z (mastrovito_plan outer k g a b z)
   mastrovito_made sources first second low =
@@ -82,4 +83,4 @@ module _ (outer k g : ℕ) (a b z : List ℕ) (few : k ≤ 64) (a_long : length 
   -- and has few nets
   pub mastrovito_few : (mastrovito_plan outer k g a b z).next ≤ outer + 270000
   mastrovito_few =
-      omega (arith, chains_next k z (added_products k g outer) (products k a b (begun outer)) k 4097 (λ l less. omega (arith, list_few l)), start_next, square_few k few, mul_few k 4097 64 4097 few (omega arith))
+      omega (arith, chains_next k z (added_products k g outer) (products k a b (begun outer)) k 4097 (λ l less. omega (arith, products_few outer k g l few)), start_next, square_few k few, mul_few k 4097 64 4097 few (omega arith))

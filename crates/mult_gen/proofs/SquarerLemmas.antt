@@ -23,6 +23,10 @@ use Rattle.mult_gen.proofs.BoundLemmas.{mul_few}
 use Rattle.mult_gen.proofs.ChainLemmas.{chains_made, chains_next, chains_value, gathered_all, gathered_few, where_few, where_has}
 use Rattle.mult_gen.proofs.PolyLemmas.{index_is}
 
+-- a list has no more nets than there are bits
+pub bits_few : (k g : ℕ) (a : List ℕ) (l : ℕ) → k ≤ 64 → length (added_bits k g a l) ≤ 64
+bits_few k g a l few = omega (arith, gathered_few (λ i. where_so (bit_at (x_to k g (2 * i)) l == 1) (slice_index a i)) k 1 (λ i low. where_few (bit_at (x_to k g (2 * i)) l == 1) (slice_index a i)), few)
+
 module _ (outer k g : ℕ) (a z : List ℕ) (few : k ≤ 64) (a_long : length a ≡ k) (z_long : length z ≡ k) where
   -- the exclusive or of the bits that add to a bit
   list_parity : (bits : List Bool) (l : ℕ) → parity bits (added_bits k g a l) ≡ sum_of_first k (λ i. bit_at (index_of bits a) i * bit_at (x_to k g (2 * i)) l)
@@ -49,9 +53,6 @@ module _ (outer k g : ℕ) (a z : List ℕ) (few : k ≤ 64) (a_long : length a 
           (λ l n less has. let row = gathered_has (λ i. where_so (bit_at (x_to k g (2 * i)) l == 1) (slice_index a i)) k n has in
             subst Q (where_has (bit_at (x_to k g (2 * row.0)) l == 1) (slice_index a row.0) n row.2) (inl (first row.0 row.1))))
 
-  pub bits_few : (l : ℕ) → length (added_bits k g a l) ≤ 64
-  bits_few l = omega (arith, gathered_few (λ i. where_so (bit_at (x_to k g (2 * i)) l == 1) (slice_index a i)) k 1 (λ i low. where_few (bit_at (x_to k g (2 * i)) l == 1) (slice_index a i)), few)
-
   -- and has few nets
   pub squarer_few : (squarer_plan outer k g a z).next ≤ outer + 5000
-  squarer_few = omega (arith, chains_next k z (added_bits k g a) (begun outer) k 65 (λ l less. omega (arith, bits_few l)), mul_few k 65 64 65 few (omega arith))
+  squarer_few = omega (arith, chains_next k z (added_bits k g a) (begun outer) k 65 (λ l less. omega (arith, bits_few k g a l few)), mul_few k 65 64 65 few (omega arith))
