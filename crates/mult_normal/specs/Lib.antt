@@ -1,0 +1,5 @@
+pub mod Coordinates
+pub mod NormalPlan
+pub mod NormalNet
+pub mod NormalForm
+pub mod private
