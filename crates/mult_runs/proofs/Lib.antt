@@ -1,0 +1,4 @@
+pub mod BitLemmas
+pub mod RunLemmas
+pub mod NormalRunLemmas
+pub mod DigitRunLemmas
