@@ -148,6 +148,7 @@ module _ (c : Circuit) (x width : ℕ) (nets : DigitNets) (well : IsJob c) (unit
           ∙ ap₂ c.product a_is b_starts
 
   pub digit_nets_multiply : Multiplies c
+  unfolding fed_word
   digit_nets_multiply a b below_a below_b =
       let out = job_some_out c (a ∷ b ∷ []) well (two_elements c a b (ap length are.words) below_a below_b) in
       let is = out.1 in
