@@ -1,6 +1,5 @@
 -- Bits of nets by place, and the elements that they make.
-use Rattle.std.proofs.Common.{◌≡◌, ◌∙◌, ap, ap₂, sym, refl, subst, ℕ, zero, suc, ◌<◌, ◌+◌, ◌*◌, ◌^◌, Bool, true, false, List, [], ◌∷◌, length, get_or, Some, cond, arith}
-use Rattle.std.specs.Prelude.{slice_get}
+use Rattle.std.proofs.Common.{◌≡◌, ◌∙◌, ap, ap₂, sym, refl, ℕ, ◌+◌, ◌*◌, ◌^◌, Bool, true, false, List, [], ◌∷◌, length, get_or, cond}
 use Rattle.net_core.specs.Value.{bit_of, index_of}
 use Rattle.gf_field.specs.Ring.{IsRing}
 use Rattle.gf_basis.specs.Basis.{first_values}

@@ -7,27 +7,25 @@ use Rattle.gf_field.specs.Power.{power}
 use Rattle.net_core.specs.Lists.{Has}
 use Rattle.net_core.specs.Value.{bit_of, index_of}
 use Rattle.net_core.specs.declared.latch.Start.{Start}
-use Rattle.net_core.specs.declared.latch.Start.TheVariants.{Zero}
 use Rattle.net_words.specs.declared.word.Role.TheVariants.{Fed, Input}
 use Rattle.gf_basis.specs.Basis.{AreBits, HasOnlyBits}
 use Rattle.irreducible.specs.Span.{combination}
 use Rattle.circuit_model.specs.declared.circuit_feed.FeedSource.{FeedSource}
 use Rattle.circuit_model.specs.declared.circuit_feed.FeedSource.TheVariants.{Bit}
-use Rattle.circuit_model.specs.Circuit.{Circuit, IsInput, IsInNoWord}
-use Rattle.circuit_model.specs.Feeds.{source_at}
+use Rattle.circuit_model.specs.Circuit.{Circuit, IsInNoWord}
 use Rattle.circuit_model.specs.Job.{IsJob}
 use Rattle.circuit_model.specs.Out.{IsOut}
 use Rattle.circuit_model.specs.Run.{HasSource, IsRun, IsStart}
 use Rattle.circuit_model.specs.Word.{Word, HasElement}
 use Rattle.circuit_model.proofs.OutLemmas.{job_some_out}
 use Rattle.circuit_model.proofs.WordLemmas.{same_bits}
-use Rattle.mult_serial.specs.Chosen.{chosen, number_of_bits}
+use Rattle.mult_serial.specs.Chosen.{chosen}
 use Rattle.mult_serial.specs.DigitRegisters.{AreDigitRegisters, HasUnitPowers, digit_step_sum, power_element}
 use Rattle.mult_serial.proofs.ChosenLemmas.{number_again}
 use Rattle.mult_serial.proofs.SumLemmas.{sum_same}
 use Rattle.mult_serial.proofs.DigitLemmas.{digit_products}
 use Rattle.mult_serial.proofs.NormalLemmas.{first_values_length}
-use Rattle.mult_runs.specs.Held.{bit_at_place, net_at, IsHeld, IsHeldFromZero, Multiplies}
+use Rattle.mult_runs.specs.Held.{bit_at_place, net_at, Multiplies}
 use Rattle.mult_runs.specs.DigitNets.{DigitNets, AreDigitNets, unit_basis}
 use Rattle.mult_runs.proofs.BitLemmas.{power_of_bits, power_of_nets}
 use Rattle.mult_runs.proofs.RunLemmas.{row, cycle_at, first_row, held, last_row, two_elements}

@@ -2,3 +2,4 @@ pub mod BitLemmas
 pub mod RunLemmas
 pub mod NormalRunLemmas
 pub mod DigitRunLemmas
+mod Examples

@@ -1,12 +1,12 @@
 -- Runs of nets that multiply in a normal basis.
-use Rattle.std.proofs.Common.{◌≡◌, ◌∙◌, ap, ap₂, sym, refl, subst, ℕ, zero, suc, ◌<◌, ◌≤◌, ◌^◌, ◌-◌, Bool, List, [], ◌∷◌, length, Some, arith}
+use Rattle.std.proofs.Common.{◌≡◌, ◌∙◌, ap, ap₂, sym, refl, subst, ℕ, zero, suc, ◌<◌, ◌^◌, ◌-◌, Bool, List, [], ◌∷◌, length, Some, arith}
 use Rattle.std.specs.Prelude.{slice_get}
 use Rattle.net_core.specs.Value.{bit_of, index_of}
 use Rattle.net_words.specs.declared.word.Role.TheVariants.{State}
-use Rattle.gf_basis.specs.Basis.{AreBits, IsBasis}
+use Rattle.gf_basis.specs.Basis.{IsBasis}
 use Rattle.gf_basis.specs.BasisFault.{conjugates_of}
 use Rattle.irreducible.specs.Span.{combination}
-use Rattle.circuit_model.specs.Circuit.{Circuit, IsInput}
+use Rattle.circuit_model.specs.Circuit.{Circuit}
 use Rattle.circuit_model.specs.Job.{IsJob}
 use Rattle.circuit_model.specs.Out.{IsOut}
 use Rattle.circuit_model.specs.Run.{IsRun}

@@ -1,10 +1,10 @@
 -- Runs of jobs, cycle by cycle.
 use Rattle.std.proofs.Common.{◌≡◌, ◌∙◌, ap, sym, refl, subst, ℕ, zero, suc, ◌<◌, ◌≤◌, ◌+◌, ◌^◌, Bool, List, [], ◌∷◌, length, get_or, Some, arith}
 use Rattle.std.specs.Prelude.{slice_get}
-use Rattle.net_core.specs.Value.{bit_of, IsConsistent}
+use Rattle.net_core.specs.Value.{bit_of}
 use Rattle.net_core.specs.Lists.{Has}
 use Rattle.circuit_model.specs.Circuit.{Circuit, IsInput}
-use Rattle.circuit_model.specs.Run.{IsCycle, IsFirst, IsNext, IsOpenRun, IsRun}
+use Rattle.circuit_model.specs.Run.{IsCycle, IsFirst, IsNext, IsOpenRun}
 use Rattle.circuit_model.specs.Out.{Ends}
 use Rattle.mult_runs.specs.Held.{IsHeld}
 

@@ -1,13 +1,12 @@
 -- Nets that multiply digit by digit, the highest digit first. Source: L. Song and K. K. Parhi, Low-energy digit-serial/parallel
 -- finite field multipliers, Journal of VLSI Signal Processing 19 (1998).
 use Rattle.std.specs.Prelude.{◌≡◌, ℕ, suc, ◌+◌, ◌-◌, ◌*◌, ◌<◌, ◌^◌, Bool, List, [], ◌∷◌}
-use Rattle.net_core.specs.Value.{bit_of, IsConsistent}
+use Rattle.net_core.specs.Value.{IsConsistent}
 use Rattle.net_words.specs.declared.word.Role.TheVariants.{Fed, Input}
 use Rattle.gf_basis.specs.Basis.{first_values}
 use Rattle.circuit_model.specs.declared.circuit_feed.FeedSource.TheVariants.{Bit}
 use Rattle.circuit_model.specs.Circuit.{Circuit, IsFed, IsInNoWord}
 use Rattle.circuit_model.specs.Feeds.{source_at}
-use Rattle.circuit_model.specs.Word.{Word}
 use Rattle.mult_serial.specs.Chosen.{chosen}
 use Rattle.mult_serial.specs.DigitRegisters.{digit_step_sum}
 use Rattle.mult_runs.specs.Held.{bit_at_place, net_at, IsHeldFromZero}

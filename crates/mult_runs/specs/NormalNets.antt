@@ -5,7 +5,6 @@ use Rattle.net_core.specs.Value.{bit_of, IsConsistent}
 use Rattle.net_words.specs.declared.word.Role.TheVariants.{State}
 use Rattle.gf_basis.specs.BasisFault.{conjugates_of}
 use Rattle.circuit_model.specs.Circuit.{Circuit}
-use Rattle.circuit_model.specs.Word.{Word}
 use Rattle.mult_serial.specs.Chosen.{chosen}
 use Rattle.mult_serial.specs.NormalRegisters.{last_coordinate_sum}
 use Rattle.mult_runs.specs.Held.{bit_at_place, net_at, IsHeld}
