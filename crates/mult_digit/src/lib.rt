@@ -1,0 +1,3 @@
+//! A multiplier that takes one factor digit by digit.
+#![tactic(auto)]
+

@@ -1,0 +1,4 @@
+//! A multiplier in a normal basis, bit by bit.
+#![tactic(auto)]
+
+mod products;
