@@ -1,1 +1,3 @@
+pub mod CoordinateLemmas
 pub mod ProductLemmas
+pub mod ShapeLemmas
