@@ -1,5 +1,5 @@
 -- The gates of products and of sums are well made.
-use Rattle.std.proofs.Common.{◌≡◌, ◌⊎◌, ◌∙◌, refl, sym, subst, inl, inr, ℕ, zero, suc, ◌<◌, ◌≤◌, ◌+◌, ◌*◌, mul-suc, mul-le-mul_left, Bool, true, false, cond, List, [], ◌∷◌, ◌++◌, length, length-append, None, Some, arith}
+use Rattle.std.proofs.Common.{◌≡◌, ◌⊎◌, ◌∙◌, ap, ap₂, refl, sym, subst, inl, inr, ℕ, zero, suc, ◌<◌, ◌≤◌, ◌+◌, ◌*◌, mul-suc, mul-le-mul_left, Bool, true, false, cond, List, [], ◌∷◌, ◌++◌, length, length-append, None, Some, arith}
 use Rattle.std.specs.Prelude.{slice_get, ◌==◌}
 use Rattle.std.specs.Int.{bit_at}
 use Rattle.std.proofs.lemmas.List.{length_push}
@@ -65,6 +65,27 @@ module _ (n k : ℕ) (mul : ℕ → ℕ → ℕ) (x width : ℕ) (z : List ℕ) 
       placed e j within less is =
           let room : k * suc e ≤ k * width = mul-le-mul_left k within in
           (omega (arith, is), omega (arith, is, room, mul-suc k e))
+
+-- the bits of z, and then the products
+pub summands_from : (n k k' long : ℕ) (mul : ℕ → ℕ → ℕ) (x width : ℕ) (z : List ℕ) (l : ℕ) (none held all : List ℕ) → none ≡ [] → long ≡ k → k' ≡ k
+    → held ≡ none ++ gathered long (λ i. where_so (bit_at (power mul x (i + width)) l == 1) (net_at z i))
+    → all ≡ held ++ gathered width (λ e. gathered k' (λ j. where_so (bit_at (power mul x (e + j)) l == 1) (product_net n k' e j)))
+    → all ≡ summands n k mul x width z l
+summands_from n k k' long mul x width z l none held all empty long_is k_is held_is all_is =
+    all_is
+    ∙ ap₂ ◌++◌
+    (held_is ∙ ap₂ (λ xs m. xs ++ gathered m (λ i. where_so (bit_at (power mul x (i + width)) l == 1) (net_at z i))) empty long_is)
+    (ap (λ m. gathered width (λ e. gathered m (λ j. where_so (bit_at (power mul x (e + j)) l == 1) (product_net n m e j)))) k_is)
+
+pub summands_low : (n k : ℕ) (mul : ℕ → ℕ → ℕ) (x width : ℕ) (z : List ℕ) (l : ℕ) (all : List ℕ) → k ≤ 64 → width ≤ 64 → all ≡ summands n k mul x width z l → length all ≤ 4160
+summands_low n k mul x width z l all small narrow is =
+    let products : k * width ≤ k * 64 = mul-le-mul_left k narrow in
+    omega (arith, ap (λ xs. length xs) is, summands_few n k mul x width z l, products)
+
+-- one more chain needs so many nets at most
+pub sum_grows : (list items : List ℕ) (old new : Sums) → list ≡ items → length items ≤ 4160 → new ≡ with_sum list old → new.plan.next ≤ old.plan.next + 4161
+sum_grows list items old new same few is =
+    omega (arith, ap (λ xs. length xs) same, ap (λ (s : Sums). s.plan.next) is, (chain_grows None list old.plan).1)
 
 -- ---- well made
 module _ (outer : ℕ) (sources : List ℕ) (k : ℕ) (mul : ℕ → ℕ → ℕ) (x : ℕ) (d b z : List ℕ)

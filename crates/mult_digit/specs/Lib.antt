@@ -1,1 +1,2 @@
 pub mod DigitPlan
+pub mod private
