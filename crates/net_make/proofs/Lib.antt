@@ -1,0 +1,5 @@
+pub mod FrontLemmas
+pub mod OuterLemmas
+pub mod MostLemmas
+pub mod PortLemmas
+pub mod MakeLemmas

@@ -1,0 +1,4 @@
+pub mod Ports
+pub mod Prefix
+pub mod MakerNames
+pub mod Made
