@@ -1,2 +1,4 @@
 pub mod Coordinates
 pub mod NormalPlan
+pub mod NormalNet
+pub mod NormalForm

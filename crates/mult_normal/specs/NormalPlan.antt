@@ -1,10 +1,9 @@
 -- The gates and latches of a multiplier in a normal basis. Source: J. L. Massey and J. K. Omura, Computational method and
 -- apparatus for finite field arithmetic, US patent 4,587,627 (1986).
-use Rattle.std.specs.Prelude.{ℕ, zero, suc, Bool, true, false, List, [], ◌∷◌, ◌++◌, map, None}
-use Rattle.std.specs.List.{range_with_len}
+use Rattle.std.specs.Prelude.{ℕ, zero, suc, Bool, true, false, List, [], ◌∷◌, ◌++◌, None}
 use Rattle.net_core.specs.LatchValue.{LatchValue}
 use Rattle.net_core.specs.declared.latch.Start.TheVariants.{Zero, Unknown}
-use Rattle.net_plan.specs.Plan.{Plan, begun, each, with_and, with_chain, chain_net}
+use Rattle.net_plan.specs.Plan.{Plan, begun, each, gathered, with_and, with_chain, chain_net}
 use Rattle.mult_runs.specs.Held.{net_at}
 use Rattle.mult_runs.specs.NormalNets.{place_before}
 
@@ -36,7 +35,7 @@ sum_net products = chain_net None products.nets products.plan
 
 -- what turns a word of k bits by one place in each cycle
 abbrev pub turning : ℕ → List ℕ → List LatchValue
-turning k a = map (λ i. record { next = net_at a (place_before k i); out = net_at a i; start = Unknown }) (range_with_len 0 k)
+turning k a = gathered k (λ i. record { next = net_at a (place_before k i); out = net_at a i; start = Unknown } ∷ [])
 
 -- the net before the one at a place, and another one before the first
 abbrev pub moved_from : ℕ → List ℕ → ℕ → ℕ
@@ -45,8 +44,8 @@ moved_from first z (suc i) = net_at z i
 
 -- what moves a word of k bits on by one place in each cycle, and takes a net at its first place
 abbrev pub moving : ℕ → ℕ → List ℕ → List LatchValue
-moving k first z = map (λ i. record { next = moved_from first z i; out = net_at z i; start = Zero }) (range_with_len 0 k)
+moving k first z = gathered k (λ i. record { next = moved_from first z i; out = net_at z i; start = Zero } ∷ [])
 
--- the latches of both factors and of the product, which takes the sum
+-- the latches of both factors, and of the product, which takes the sum
 abbrev pub normal_latches : ℕ → ℕ → List ℕ → List ℕ → List ℕ → List LatchValue
 normal_latches k sum a b z = turning k a ++ turning k b ++ moving k sum z
