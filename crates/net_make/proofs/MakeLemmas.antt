@@ -1,15 +1,14 @@
 -- Plans over the nets of a signature's words are nets.
-use Rattle.std.proofs.Common.{◌≡◌, ◌⊎◌, ◌∙◌, ap, sym, refl, subst, inl, inr, ℕ, zero, suc, ◌<◌, ◌≤◌, ◌+◌, ◌^◌, Bool, true, false, cond, List, [], ◌∷◌, ◌++◌, length, map, Option, None, Some, arith}
-use Rattle.std.specs.Prelude.{slice_get}
+use Rattle.std.proofs.Common.{◌≡◌, ◌∙◌, ap, sym, refl, subst, inl, inr, ℕ, zero, suc, ◌<◌, ◌≤◌, ◌+◌, Bool, true, false, cond, List, [], ◌∷◌, ◌++◌, length, map, Some, arith}
 use Rattle.std.specs.List.{range_with_len}
 use Rattle.net_core.specs.LatchValue.{LatchValue}
 use Rattle.net_core.specs.Lists.{Has, times}
-use Rattle.net_core.specs.NetList.{LabelValue, NetList}
-use Rattle.net_core.proofs.DriverLemmas.{Has_cases, from_map, one_here, none_here, times_append}
+use Rattle.net_core.specs.NetList.{NetList}
+use Rattle.net_core.proofs.DriverLemmas.{Has_cases, from_map, one_here, none_here}
 use Rattle.graph_core.proofs.GraphLemmas.{nat_eq_or}
 use Rattle.net_words.specs.Roles.{same_role}
 use Rattle.net_words.specs.declared.word.Role.{Role}
-use Rattle.net_words.specs.declared.word.Role.TheVariants.{Input, State, Fed, Output}
+use Rattle.net_words.specs.declared.word.Role.TheVariants.{Input, Output}
 use Rattle.net_words.specs.declared.word.WordText.{WordText}
 use Rattle.net_plan.specs.Plan.{Plan}
 use Rattle.net_plan.specs.MadeNet.{made_net, names_in, outer_net}
@@ -21,7 +20,7 @@ use Rattle.net_make.specs.Ports.{inputs_of, outer_names, outputs_of, role_nets, 
 use Rattle.net_make.specs.Prefix.{prefix_of}
 use Rattle.net_make.proofs.MostLemmas.{are_names, prefix_fits}
 
-range_low : (a k n : ℕ) → Has (range_with_len a k) n → (a ≤ n) × (n < a + k)
+pub range_low : (a k n : ℕ) → Has (range_with_len a k) n → (a ≤ n) × (n < a + k)
 range_low a k n has = let place = got_range a k has.0 n has.1 in (omega (arith, place.0), omega (arith, place.0, place.1))
 
 cond_low : (b : Bool) (a k n : ℕ) → Has (cond b (range_with_len a k) []) n → (a ≤ n) × (n < a + k)
