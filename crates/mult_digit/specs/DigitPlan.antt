@@ -1,7 +1,6 @@
 -- The gates and latches of a multiplier that takes one factor digit by digit. Source: L. Song and K. K. Parhi, Low-energy
 -- digit-serial/parallel finite field multipliers, Journal of VLSI Signal Processing 19 (1998).
-use Rattle.std.specs.Prelude.{ℕ, ◌+◌, ◌*◌, ◌==◌, List, [], ◌∷◌, ◌++◌, length, map, None}
-use Rattle.std.specs.List.{range_with_len}
+use Rattle.std.specs.Prelude.{ℕ, ◌+◌, ◌*◌, ◌==◌, List, [], ◌∷◌, ◌++◌, length, None}
 use Rattle.std.specs.Int.{bit_at}
 use Rattle.gf_field.specs.Power.{power}
 use Rattle.net_core.specs.LatchValue.{LatchValue}
@@ -43,4 +42,4 @@ sums_from n k mul x d b z = each k (λ l. with_sum (summands n k mul x (length d
 
 -- the latches of the product, which takes the sums
 abbrev pub digit_latches : ℕ → List ℕ → List ℕ → List LatchValue
-digit_latches k sums z = map (λ l. record { next = net_at sums l; out = net_at z l; start = Zero }) (range_with_len 0 k)
+digit_latches k sums z = gathered k (λ l. record { next = net_at sums l; out = net_at z l; start = Zero } ∷ [])

@@ -1,31 +1,11 @@
 //! The signatures that a multiplier in a normal basis fits.
-ghost use Rattle.std.specs.Prelude.{◌≡◌, ◌≤◌, ◌↔◌, ◌∷◌, [], All, IsTrue, IfSome, Some, ℕ, length};
+ghost use Rattle.std.specs.Prelude.{◌≡◌, ◌≤◌, ◌↔◌, All, IsTrue, IfSome, Some, ℕ, length};
 ghost use Rattle.net_words.specs.declared.word.BasisText.TheVariants.{Normal};
-ghost use Rattle.mult_normal.specs.NormalForm.{AreNormalRoles, roles_of};
+ghost use Rattle.mult_normal.specs.private.But.{IsNormalBut};
 
+use net_make::has_words;
+use net_signature::Signature;
 use net_words::{BasisText, Role, WordText};
-
-// Whether these are two state words and the output word.
-fn are_normal(a: Role, b: Role, c: Role) -> bool
-    ensures { IsTrue result ↔ AreNormalRoles (a ∷ b ∷ c ∷ []) }
-{
-    match (a, b, c) {
-        (Role::State, Role::State, Role::Output) => true,
-        (Role::State, Role::Output, Role::State) => true,
-        (Role::Output, Role::State, Role::State) => true,
-        _ => false,
-    }
-}
-
-/// Whether the words are two state words and the output word, in any order.
-pub(crate) fn have_roles(words: &[WordText]) -> bool
-    ensures { IsTrue result ↔ AreNormalRoles (roles_of words.now) }
-{
-    match words {
-        [a, b, c] => are_normal(a.role, b.role, c.role),
-        _ => false,
-    }
-}
 
 // Whether the basis is the normal basis of an element.
 fn is_normal(basis: &BasisText, gamma: u64) -> bool
@@ -55,8 +35,8 @@ fn are_all_normal(words: &[WordText], gamma: u64) -> bool
     words.iter().all(|word| is_normal(&word.basis, gamma))
 }
 
-/// Whether all words have the normal basis of one element; there is a word.
-pub(crate) fn have_common_basis(words: &[WordText]) -> bool
+// Whether all words have the normal basis of one element; there is a word.
+fn have_common_basis(words: &[WordText]) -> bool
     requires { 1 ≤ length words.now }
     ensures { IsTrue result ↔ (gamma : ℕ) × All (λ word. word.basis ≡ Normal gamma) words.now }
 {
@@ -64,4 +44,14 @@ pub(crate) fn have_common_basis(words: &[WordText]) -> bool
         Some(gamma) => are_all_normal(words, gamma),
         None => false,
     }
+}
+
+/// Whether a signature has the form, but for the names of its nets.
+pub(crate) fn has_form(signature: &Signature) -> bool
+    ensures { IsTrue result ↔ IsNormalBut signature.now }
+{
+    signature.feeds().is_empty()
+        && signature.blocks().is_empty()
+        && has_words(signature.words(), Role::State, 2)
+        && have_common_basis(signature.words())
 }

@@ -5,3 +5,5 @@ mod form;
 mod held;
 mod maker;
 mod products;
+
+pub use maker::normal_serial;
