@@ -1,0 +1,4 @@
+pub mod NamedWord
+pub mod Hierarchy
+pub mod Feeds
+pub mod Values
