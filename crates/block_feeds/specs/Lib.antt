@@ -2,3 +2,4 @@ pub mod NamedWord
 pub mod Hierarchy
 pub mod Feeds
 pub mod Values
+pub mod Given

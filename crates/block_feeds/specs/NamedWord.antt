@@ -1,5 +1,5 @@
 -- Words of a text: the names of their nets, and their bases. Source: this project's own.
-use Rattle.std.specs.Prelude.{ℕ, not, List, [], ◌∷◌, Option, None, Some}
+use Rattle.std.specs.Prelude.{ℕ, not, List, [], ◌∷◌}
 use Rattle.std.specs.List.{filter}
 use Rattle.net_words.specs.Roles.{same_role}
 use Rattle.net_words.specs.declared.word.Role.{Role}

@@ -1,0 +1,5 @@
+pub mod NamesLemmas
+pub mod InputsLemmas
+pub mod PlaceLemmas
+pub mod InstanceLemmas
+pub mod OutputLemmas
