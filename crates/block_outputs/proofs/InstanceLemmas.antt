@@ -70,7 +70,7 @@ module _ (k : ℕ) (mul : ℕ → ℕ → ℕ) (ring : IsRing k mul) (field : Ha
         latches = none;
         feeds = binding_unfed net words binding bound;
         named = all_from (λ (word : BoundWord). length word.nets ≡ binding.k) binding.words (λ word has.
-        wide named word has (All_has (HasWidth binding.k) binding.words word is.parts.each has));
+            wide named word has (All_has (HasWidth binding.k) binding.words word is.parts.each has));
       }
     where
       wide : AreBound net words binding.words → (word : BoundWord) → Has binding.words word → HasWidth binding.k word → length word.nets ≡ binding.k

@@ -79,18 +79,16 @@ same_place h whole bits i nets others basis more a b =
 
 -- ---- a list of values
 
-module _ (P : ℕ → ℕ → Type 0) where
-  listed : (items : List Item) (n : ℕ) → ((i : ℕ) (item : Item) → slice_get items i ≡ Some item → (e : ℕ) × P (n + i) e) → (es : List ℕ) × (length es ≡ length items) × ((i e : ℕ) → slice_get es i ≡ Some e → P (n + i) e)
-  listed [] n each = ([], refl, λ i e got. absurd (cc))
-  listed (item ∷ items) n each =
-      let one = each 0 item refl in
-      let up : (i : ℕ) → n + suc i ≡ suc n + i = λ i. omega arith in
-      let more = listed items (suc n) (λ i it got. let found = each (suc i) it got in let Q : ℕ → Type 0 = λ m. P m found.0 in (found.0, subst Q (up i) found.1)) in
-      (one.0 ∷ more.0, ap suc more.1, read one.0 one.1 more.0 up more.2)
-    where
-      read : (e : ℕ) → P (n + 0) e → (es : List ℕ) → ((i : ℕ) → n + suc i ≡ suc n + i) → ((i e : ℕ) → slice_get es i ≡ Some e → P (suc n + i) e) → (i x : ℕ) → slice_get (e ∷ es) i ≡ Some x → P (n + i) x
-      read e is es up rest zero x got = let same : e ≡ x = cc in let Q : ℕ → Type 0 = P (n + 0) in subst Q same is
-      read e is es up rest (suc i) x got = let Q : ℕ → Type 0 = λ m. P m x in subst Q (sym (up i)) (rest i x got)
+read_value : (P : ℕ → ℕ → Type 0) (e : ℕ) (es : List ℕ) → P 0 e → ((i x : ℕ) → slice_get es i ≡ Some x → P (suc i) x) → (i x : ℕ) → slice_get (e ∷ es) i ≡ Some x → P i x
+read_value P e es is rest zero x got = let same : e ≡ x = cc in let Q : ℕ → Type 0 = P 0 in subst Q same is
+read_value P e es is rest (suc i) x got = rest i x got
+
+listed : (items : List Item) (P : ℕ → ℕ → Type 0) → ((i : ℕ) (item : Item) → slice_get items i ≡ Some item → (e : ℕ) × P i e) → (es : List ℕ) × (length es ≡ length items) × ((i e : ℕ) → slice_get es i ≡ Some e → P i e)
+listed [] P each = ([], refl, λ i e got. absurd (cc))
+listed (item ∷ items) P each =
+    let one = each 0 item refl in
+    let more = listed items (λ i. P (suc i)) (λ i it got. each (suc i) it got) in
+    (one.0 ∷ more.0, ap suc more.1, read_value P one.0 more.0 one.1 more.2)
 
 -- ---- one list of bits as a run
 
@@ -146,15 +144,15 @@ module _ (k : ℕ) (mul : ℕ → ℕ → ℕ) (ring : IsRing k mul) (field : Ha
   abbrev IsHeld : ℕ → ℕ → Type 0
   IsHeld i e = (nets : List Token) (basis : List ℕ) → IsOutputOf h i nets basis → element_at whole bits nets basis ≡ e
 
-  some_held : (i : ℕ) (item : Item) → slice_get (instances_of h.design) i ≡ Some item → (e : ℕ) × IsHeld (0 + i) e
+  some_held : (i : ℕ) (item : Item) → slice_get (instances_of h.design) i ≡ Some item → (e : ℕ) × IsHeld i e
   some_held i item got =
       let found = given.outputs i item got in
       (element_at whole bits found.0 found.1, λ nets basis is. same_place h whole bits i nets found.0 basis found.1 is found.2)
 
-  all_held : (es : List ℕ) × (length es ≡ length (instances_of h.design)) × ((i e : ℕ) → slice_get es i ≡ Some e → IsHeld (0 + i) e)
-  all_held = listed IsHeld (instances_of h.design) 0 some_held
+  all_held : (es : List ℕ) × (length es ≡ length (instances_of h.design)) × ((i e : ℕ) → slice_get es i ≡ Some e → IsHeld i e)
+  all_held = listed (instances_of h.design) IsHeld some_held
 
-  module _ (es : List ℕ) (long : length es ≡ length (instances_of h.design)) (are : (i e : ℕ) → slice_get es i ≡ Some e → IsHeld (0 + i) e) where
+  module _ (es : List ℕ) (long : length es ≡ length (instances_of h.design)) (are : (i e : ℕ) → slice_get es i ≡ Some e → IsHeld i e) where
     -- what stands on nets of the top holds the value of the feed
     pub feed_held : (feed : Feeder) (nets : List Token) (basis : List ℕ) → StandsOn h feed nets basis → element_at whole bits nets basis ≡ feed_value k mul h xs es feed
     feed_held (InputWord w) nets basis is = held w nets basis is

@@ -1,6 +1,7 @@
 -- The factors that are left of a term: digit by digit and word by word.
 use Rattle.std.proofs.Common.{◌≡◌, ◌≢◌, ◌∙◌, ap, sym, refl, subst, ℕ, zero, suc, ◌<◌, ◌≤◌, ◌+◌, ◌-◌, ◌*◌, ◌/◌, ◌%◌, ◌^◌, ◌==◌, Bool, true, false, cond, List, [], ◌∷◌, ◌++◌, length, drop, Some, arith, add-one}
 use Rattle.std.specs.Prelude.{slice_get}
+use Rattle.std.proofs.lemmas.Bool.{eq-eqb, ne_eqb}
 use Rattle.poly_mixed.specs.laws.Uniqueness.{IsZeros}
 use Rattle.spec_expand.specs.SpecValue.{ones_of, factors_with, factors_of}
 use Rattle.spec_expand.proofs.SpecValueLemmas.{factors_few}
@@ -61,15 +62,15 @@ module _ (word j left : ℕ) (less : j < 64) (es : List ℕ) where
   down : 64 - j ≡ suc (64 - (j + 1))
   down = omega (arith, less)
 
-  pub digit_is_one : (left % 2 == 1) ≡ true → digits_left word j left es ≡ (word, 2 ^ j) ∷ digits_left word (j + 1) (left / 2) es
+  pub digit_is_one : left % 2 ≡ 1 → digits_left word j left es ≡ (word, 2 ^ j) ∷ digits_left word (j + 1) (left / 2) es
   digit_is_one one =
       ap (λ n. factors_with word (ones_of n j left) ++ words_left (word + 1) es) down
-      ∙ ap (λ b. factors_with word (cond b (j ∷ ones_of (64 - (j + 1)) (j + 1) (left / 2)) (ones_of (64 - (j + 1)) (j + 1) (left / 2))) ++ words_left (word + 1) es) one
+      ∙ ap (λ b. factors_with word (cond b (j ∷ ones_of (64 - (j + 1)) (j + 1) (left / 2)) (ones_of (64 - (j + 1)) (j + 1) (left / 2))) ++ words_left (word + 1) es) (eq-eqb (left % 2) 1 one)
 
-  pub digit_is_zero : (left % 2 == 1) ≡ false → digits_left word j left es ≡ digits_left word (j + 1) (left / 2) es
+  pub digit_is_zero : left % 2 ≢ 1 → digits_left word j left es ≡ digits_left word (j + 1) (left / 2) es
   digit_is_zero none =
       ap (λ n. factors_with word (ones_of n j left) ++ words_left (word + 1) es) down
-      ∙ ap (λ b. factors_with word (cond b (j ∷ ones_of (64 - (j + 1)) (j + 1) (left / 2)) (ones_of (64 - (j + 1)) (j + 1) (left / 2))) ++ words_left (word + 1) es) none
+      ∙ ap (λ b. factors_with word (cond b (j ∷ ones_of (64 - (j + 1)) (j + 1) (left / 2)) (ones_of (64 - (j + 1)) (j + 1) (left / 2))) ++ words_left (word + 1) es) (ne_eqb (left % 2) 1 none)
 
 -- ---- words
 

@@ -3,13 +3,15 @@ use Rattle.std.proofs.Common.{◌≡◌, ◌∙◌, ap, ap₂, sym, refl, subst,
 use Rattle.std.specs.Prelude.{slice_get, slice_index}
 use Rattle.std.specs.List.{AllByRecursion}
 use Rattle.std.proofs.lemmas.Bool.{cases_order}
+use Rattle.std.proofs.Math.Pow.{pow_mono}
 use Rattle.std.proofs.lemmas.Nat.{pow_pos}
 use Rattle.std.proofs.lemmas.Option.{slice_get_within}
 use lib.Bits.{xor_assoc, xor_comm, xor_lt}
 use Rattle.gf_field.specs.Ring.{IsRing}
 use Rattle.gf_field.specs.Field.{HasNoZeroDivisors}
 use Rattle.gf_field.specs.Power.{power}
-use Rattle.poly_mixed.specs.Polynomial.{value, IsPoint, IsPolynomialOf, IsReduced, Point, Terms}
+use Rattle.poly_mixed.specs.Monomial.{Monomial}
+use Rattle.poly_mixed.specs.Polynomial.{value, IsPoint, IsPolynomialOf, IsReduced, IsTerm, Point, Terms}
 use Rattle.poly_mixed.specs.Product.{IsProduct}
 use Rattle.poly_mixed.specs.declared.stage.ReduceFault.{ReduceFault}
 use Rattle.poly_mixed.specs.declared.stage.ReduceFault.TheVariants.{TooManyTerms, OutOfMemory}
@@ -17,14 +19,35 @@ use Rattle.poly_mixed.specs.declared.stage.Stage.{Stage}
 use Rattle.poly_mixed.specs.declared.stage.Stage.TheVariants.{Cut, WordProduct, WordSum, SpecProduct, SpecSum, InstanceProduct, InstanceSum}
 use Rattle.poly_mixed.proofs.FieldLaws.{field_of}
 use Rattle.poly_mixed.proofs.Simple.{reduced_nothing}
+use Rattle.stage_model.specs.First.{InFirstRanks}
 use Rattle.stage_model.specs.Stage.{HasSize, IsOfStage, IsWithin}
 use Rattle.stage_model.specs.Listing.{AreAllWithin, IsOver, IsRefusal}
 use Rattle.spec_expand.specs.Specification.{SpecTerms}
 use Rattle.spec_expand.specs.SpecListing.{HasFactor}
 use Rattle.spec_expand.specs.SpecValue.{factors_of, powers_at, product_at, spec_at}
 use Rattle.spec_expand.proofs.SpecValueLemmas.{product_all, product_more, product_none, terms_taken}
+use Rattle.instance_poly.specs.Instance.{block_term, block_terms, point_of, powers_from}
 use Rattle.instance_poly.specs.InstanceListing.{instance_listing, instance_stage_of, is_earlier_instance_stage, is_instance_stage, IsAtFeeds, IsInstanceProduct}
 use Rattle.instance_poly.specs.private.Reached.{AreProductsWithin, AreTermsWithin, HasWithin, IsFeedPower, IsOverAt, IsProductOver, IsReached, IsSummed, IsTermRefusal}
+use Rattle.instance_poly.proofs.ValueLemmas.{terms_value}
+
+-- ---- a block's terms
+
+pub mapped_term : (ts : Terms) (i : ℕ) (t : Monomial × ℕ) → slice_get ts i ≡ Some t → slice_get (block_terms ts) i ≡ Some (block_term t)
+mapped_term [] i t got = absurd (cc)
+mapped_term (u ∷ ts) zero t got = let same : u ≡ t = cc in ap (λ v. Some (block_term v)) same
+mapped_term (u ∷ ts) (suc i) t got = mapped_term ts i t got
+
+pub mapped_long : (ts : Terms) → length (block_terms ts) ≡ length ts
+mapped_long [] = refl
+mapped_long (t ∷ ts) = ap suc (mapped_long ts)
+
+pub small_exponents : (k : ℕ) {mul : ℕ → ℕ → ℕ} (t : Monomial × ℕ) → IsRing k mul → IsTerm k t → AllByRecursion (λ (p : ℕ × ℕ). p.1 < 2 ^ 64) (block_term t).1
+small_exponents k t ring is = from 0 t.0.exponents is.monomial.exponents
+  where
+    from : (n : ℕ) (es : List ℕ) → AllByRecursion (λ e. e < 2 ^ k) es → AllByRecursion (λ (p : ℕ × ℕ). p.1 < 2 ^ 64) (powers_from n es)
+    from n [] all = tt
+    from n (e ∷ es) all = (omega (arith, all.0, pow_mono {i = k} {j = 64} ring.small), from (n + 1) es all.1)
 
 module _ (k : ℕ) (mul : ℕ → ℕ → ℕ) (feeds : Point → List ℕ) where
   -- ---- one function of the feeds
@@ -38,6 +61,19 @@ module _ (k : ℕ) (mul : ℕ → ℕ → ℕ) (feeds : Point → List ℕ) wher
 
   pub within_of : (h : List ℕ → ℕ) (ts : Terms) (bound : ℕ) → IsPolynomialOf k mul (λ p. h (feeds p)) ts → length ts ≤ bound → HasWithin k mul feeds h bound
   within_of h ts bound is low = record { size = length ts; has = has_size h ts (length ts) is refl; within = low }
+
+  taken_past : (fs : List (ℕ × ℕ)) (n : ℕ) → length fs ≤ n → take n fs ≡ take (length fs) fs
+  taken_past [] zero low = refl
+  taken_past [] (suc n) low = refl
+  taken_past (f ∷ fs) zero low = absurd (omega (arith, low))
+  taken_past (f ∷ fs) (suc n) low = ap (λ gs. f ∷ gs) (taken_past fs n (omega (arith, low)))
+
+  -- the product with all factors is reached
+  pub all_reached : (t : ℕ × List (ℕ × ℕ)) (bound n : ℕ) (ts : Terms) → length (factors_of t.1) ≤ n → IsReached k mul feeds t bound n ts → IsReached k mul feeds t bound (length (factors_of t.1)) ts
+  all_reached t bound n ts last reached = record {
+    is = record { reduced = reached.is.reduced; values = λ p at. reached.is.values p at ∙ ap (λ fs. mul t.0 (powers_at mul (feeds p) fs)) (taken_past (factors_of t.1) n last) };
+    within = λ j some most. reached.within j some (omega (arith, most, last));
+  }
 
   module _ (ring : IsRing k mul) (field : HasNoZeroDivisors k mul) where
     -- ---- products and sums
@@ -226,6 +262,12 @@ module _ (k : ℕ) (mul : ℕ → ℕ → ℕ) (feeds : Point → List ℕ) wher
       all_within instance s ts last summed (WordSum w r) listed = absurd listed
       all_within instance s ts last summed (SpecProduct r i) listed = absurd listed
       all_within instance s ts last summed (SpecSum r) listed = absurd listed
+
+    -- the sum of all terms is the block's polynomial at the values of the feeds
+    pub all_polynomial : (block : Terms) (bound s : ℕ) (ts : Terms) → length block ≤ s → AllByRecursion (IsTerm k) block → InFirstRanks 0 block → IsSummed k mul feeds (block_terms block) bound s ts → IsPolynomialOf k mul (λ p. value mul (point_of (feeds p)) block) ts
+    all_polynomial block bound s ts last all lacks summed =
+        let whole = all_summed (block_terms block) bound s ts (omega (arith, last, mapped_long block)) summed in
+        record { reduced = whole.reduced; values = λ p at. whole.values p at ∙ terms_value k mul (feeds p) block all lacks }
 
 -- ---- values of stages
 

@@ -9,7 +9,7 @@ pub copied-requires : goal.copied-requires
 copied-requires g c =
     let k : ℕ = g.F.Ring.degree c.args.field.now in
     let got = got_read c.args.feeds.now c.args.word c.index-feeds-word.result c.requires.word c.index-feeds-word.is in
-    feed_reduced k (map (λ f. f.now.terms) c.args.feeds.now) c.args.word c.index-feeds-word.result.now.terms c.requires.feeds (fed (λ f. f.now.terms) c.args.feeds.now c.args.word c.index-feeds-word.result got)
+    record { over = feed_reduced k (map (λ f. f.now.terms) c.args.feeds.now) c.args.word c.index-feeds-word.result.now.terms c.requires.feeds (fed (λ f. f.now.terms) c.args.feeds.now c.args.word c.index-feeds-word.result got) }
 
 pub returns : goal.returns
 returns g c =
