@@ -89,7 +89,8 @@ input_named net (n ∷ ns) [] j w are got = absurd are
 input_named net (n ∷ ns) (v ∷ ws) zero w are got =
     let same : v ≡ w = cc in
     let P : Word → Type 0 = λ u. (u.role ≡ Input) × HaveNumbers net n.nets u.nets × (u.basis ≡ n.basis) in
-    (n, refl, subst P same (are.0, are.1, are.2))
+    let moved = subst P same (are.0, are.1, are.2) in
+    (n, refl, moved.0, moved.1, moved.2)
 input_named net (n ∷ ns) (v ∷ ws) (suc j) w are got = input_named net ns ws j w are.3 got
 
 pub named_input : (net : NetList) (ns : List NamedWord) (ws : List Word) (j : ℕ) (n : NamedWord) → AreInputs net ns ws → slice_get ns j ≡ Some n → (w : Word) × (slice_get ws j ≡ Some w) × (w.role ≡ Input) × HaveNumbers net n.nets w.nets × (w.basis ≡ n.basis)
@@ -99,7 +100,8 @@ named_input net (m ∷ ns) [] j n are got = absurd are
 named_input net (m ∷ ns) (v ∷ ws) zero n are got =
     let same : m ≡ n = cc in
     let P : NamedWord → Type 0 = λ u. (v.role ≡ Input) × HaveNumbers net u.nets v.nets × (v.basis ≡ u.basis) in
-    (v, refl, subst P same (are.0, are.1, are.2))
+    let moved = subst P same (are.0, are.1, are.2) in
+    (v, refl, moved.0, moved.1, moved.2)
 named_input net (m ∷ ns) (v ∷ ws) (suc j) n are got = named_input net ns ws j n are.3 got
 
 pub inputs_long : (net : NetList) (ns : List NamedWord) (ws : List Word) → AreInputs net ns ws → length ws ≡ length ns

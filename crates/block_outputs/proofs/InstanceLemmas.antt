@@ -35,7 +35,7 @@ use Rattle.block_outputs.proofs.NamesLemmas.{binding_named, binding_unfed, AreBo
 
 -- a net is the net list of its model's walk
 flat_of : (design : List ModelValue) (model : ℕ) (net : NetList) → Flattens design model (Ok net) → (flat : Flat) × (walked nothing (walk_of design model) ≡ Ok flat) × (net ≡ net_list flat) × IsSound (net_list flat)
-flat_of design model net (flat, e, same, sound) = (flat, sym e, same, sound)
+flat_of design model net (flat, e, rest) = (flat, sym e, rest.0, rest.1)
 
 no_feeds : (k : ℕ) (roles : List Role) → AreFeeds k roles []
 no_feeds k roles = record { sources = λ feed has. let got = has.1 in absurd (cc); apart = λ i j f g at_i at_j same_net same_cycle. absurd (cc) }

@@ -66,7 +66,7 @@ nets_named : (net : NetList) (word : ℕ) (role : Role) (taken before : List ℕ
 nets_named net word role taken before [] whole is = ([], ap (λ (m : List ℕ × List ℕ). m.0) is ∙ sym (append-nil before), tt)
 nets_named net word role taken before (name ∷ names) whole (n, got, rest) =
     let more = nets_named net word role (taken_with role n taken) (before ++ n ∷ []) names whole rest in
-    (n ∷ more.0, more.1 ∙ append_assoc before (n ∷ []) more.0, place_number net word (length before) taken role (number_of net name) n got, more.2)
+    (n ∷ more.0, more.1 ∙ append_assoc before (n ∷ []) more.0, (place_number net word (length before) taken role (number_of net name) n got, more.2))
 
 names_of : (role : Role) (names : List (List ℕ)) → role ≢ Fed → names_with role names ≡ names
 names_of Input names other = refl
@@ -82,7 +82,7 @@ words_named net taken before (word ∷ words) whole unfed (list, own, rest) =
     let P : List ℕ → Type 0 = HaveNumbers net (names_with word.role word.nets) in
     let Q : List (List ℕ) → Type 0 = λ names. HaveNumbers net names list.0 in
     let here : HaveNumbers net word.nets list.0 = subst Q (names_of word.role word.nets unfed.0) (subst P (sym one.1) one.2) in
-    (bound_word word list.0 ∷ more.0, more.1 ∙ append_assoc before (bound_word word list.0 ∷ []) more.0, refl, here, more.2)
+    (bound_word word list.0 ∷ more.0, more.1 ∙ append_assoc before (bound_word word list.0 ∷ []) more.0, (refl, here, more.2))
 
 -- what comes of binding words to a net list, where nothing is fed
 pub binding_named : (net : NetList) (words : List WordText) (binding : Binding) → AreUnfed words → BindingOf net words [] (Ok binding) → AreBound net words binding.words
