@@ -3,3 +3,4 @@ pub mod Hierarchy
 pub mod Feeds
 pub mod Values
 pub mod Given
+pub mod Wiring

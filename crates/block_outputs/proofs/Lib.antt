@@ -3,3 +3,4 @@ pub mod InputsLemmas
 pub mod PlaceLemmas
 pub mod InstanceLemmas
 pub mod OutputLemmas
+pub mod OneValueLemmas

@@ -4,4 +4,4 @@
 
 mod laws;
 
-pub use laws::output_is_the_value_of_its_feed;
+pub use laws::{instances_have_one_value_each, output_is_the_value_of_its_feed};
