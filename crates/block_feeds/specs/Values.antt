@@ -14,7 +14,6 @@ use Rattle.circuit_model.specs.Circuit.{Circuit}
 use Rattle.circuit_model.specs.OfBinding.{circuit_with}
 use Rattle.circuit_model.specs.Out.{IsOut}
 use Rattle.block_feeds.specs.Hierarchy.{bases_at, block_of, Hierarchy}
-use Rattle.block_feeds.specs.Feeds.{AreFeedsOf}
 use Rattle.block_feeds.specs.declared.feeder.Feeder.{Feeder}
 use Rattle.block_feeds.specs.declared.feeder.Feeder.TheVariants.{InputWord, OutputOf}
 
@@ -47,8 +46,8 @@ module _ (k : ℕ) (mul : ℕ → ℕ → ℕ) (h : Hierarchy) where
   feed_value xs es (InputWord w) = slice_index xs w
   feed_value xs es (OutputOf i) = slice_index es i
 
-  -- the values of all instances where the top's input words have the elements xs: each is its block's output at the values of what
-  -- feeds the instance
-  pub record AreInstanceValues (xs es : List ℕ) : Type 0 where
+  -- the values of all instances where the top's input words have the elements xs and row i is what feeds instance i: each is its
+  -- block's output at the values of what feeds the instance
+  pub record AreInstanceValues (rows : List (List Feeder)) (xs es : List ℕ) : Type 0 where
     pub long : length es ≡ length (instances_of h.design)
-    pub each : (i e : ℕ) (item : Item) (feeds : List Feeder) (circuit : Circuit) → slice_get es i ≡ Some e → slice_get (instances_of h.design) i ≡ Some item → AreFeedsOf h i feeds → IsBlockOf item circuit → IsOut circuit (map (feed_value xs es) feeds) e
+    pub each : (i e : ℕ) (item : Item) (feeds : List Feeder) (circuit : Circuit) → slice_get es i ≡ Some e → slice_get (instances_of h.design) i ≡ Some item → slice_get rows i ≡ Some feeds → IsBlockOf item circuit → IsOut circuit (map (feed_value xs es) feeds) e

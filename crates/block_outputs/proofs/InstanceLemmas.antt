@@ -51,9 +51,10 @@ bound_unfed net (w ∷ ws) (c ∷ bs) zero b bound unfed got = let same : c ≡ 
 bound_unfed net (w ∷ ws) (c ∷ bs) (suc i) b bound unfed got = bound_unfed net ws bs i b bound.2 unfed.1 got
 
 -- what is known of the circuit of a model
-pub record AreFacts (k : ℕ) (alone : Flat) (words : List WordText) (bases : List (List ℕ)) (circuit : Circuit) : Type 0 where
+pub record AreFacts (k : ℕ) (mul : ℕ → ℕ → ℕ) (alone : Flat) (words : List WordText) (bases : List (List ℕ)) (circuit : Circuit) : Type 0 where
   pub well : IsWellFormed circuit
   pub bits : circuit.k ≡ k
+  pub product : circuit.product ≡ mul
   pub net : circuit.net ≡ net_list alone
   pub latches : circuit.net.latches ≡ []
   pub cycles : circuit.cycles ≡ 0
@@ -77,7 +78,7 @@ module _ (k : ℕ) (mul : ℕ → ℕ → ℕ) (ring : IsRing k mul) (field : Ha
       wide named word has (inl long) = long
       wide named word has (inr fed) = absurd (bound_unfed net words binding.words has.0 word named based.unfed has.1 fed.0)
 
-  facts_with : (alone : Flat) (net : NetList) (binding : Binding) → net ≡ net_list alone → IsSound (net_list alone) → net.latches ≡ [] → BindingOf net words [] (Ok binding) → AreFacts k alone words bases (circuit_with k mul (record { net = net; bound = binding }) bases)
+  facts_with : (alone : Flat) (net : NetList) (binding : Binding) → net ≡ net_list alone → IsSound (net_list alone) → net.latches ≡ [] → BindingOf net words [] (Ok binding) → AreFacts k mul alone words bases (circuit_with k mul (record { net = net; bound = binding }) bases)
   facts_with alone net binding same sound none bound =
       let P : NetList → Type 0 = IsSound in
       let sound_net : IsSound net = subst P (sym same) sound in
@@ -87,6 +88,7 @@ module _ (k : ℕ) (mul : ℕ → ℕ → ℕ) (ring : IsRing k mul) (field : Ha
       record {
         well = taken_well k mul (record { net = net; bound = binding }) words [] bases ring field sound_net based.words_are (no_feeds k (map (λ word. word.role) words)) bound (flat_binding net binding sound_net none bound) based.long based.each;
         bits = refl;
+        product = refl;
         net = same;
         latches = none;
         cycles = refl;
@@ -96,8 +98,8 @@ module _ (k : ℕ) (mul : ℕ → ℕ → ℕ) (ring : IsRing k mul) (field : Ha
       }
 
   -- the facts of the circuit of a model
-  pub facts_of : (circuit : Circuit) → IsCircuitOf k mul h model words bases circuit → (alone : Flat) × (walked nothing (walk_of h.design model) ≡ Ok alone) × AreFacts k alone words bases circuit
+  pub facts_of : (circuit : Circuit) → IsCircuitOf k mul h model words bases circuit → (alone : Flat) × (walked nothing (walk_of h.design model) ≡ Ok alone) × AreFacts k mul alone words bases circuit
   facts_of circuit is =
       let flat = flat_of h.design model is.net is.flat in
-      let P : Circuit → Type 0 = AreFacts k flat.0 words bases in
+      let P : Circuit → Type 0 = AreFacts k mul flat.0 words bases in
       (flat.0, flat.1, subst P is.is (facts_with flat.0 is.net is.binding flat.2 flat.3 is.latches is.bound))

@@ -40,7 +40,7 @@ module _ (k : ℕ) (mul : ℕ → ℕ → ℕ) (h : Hierarchy) (xs es others : L
   same_values (InputWord w ∷ feeds) same = ap (λ vs. slice_index xs w ∷ vs) (same_values feeds same)
   same_values (OutputOf i ∷ feeds) same = ap₂ (λ v vs. v ∷ vs) (same i (zero, refl)) (same_values feeds (λ j has. same j (suc has.0, has.1)))
 
-  module _ (ring : IsRing k mul) (field : HasNoZeroDivisors k mul) (given : IsGiven k h) (rows : List (List Feeder)) (fed : AreAllFeeds h rows) (blocks : HaveBlocks k mul h) (a : AreInstanceValues k mul h xs es) (b : AreInstanceValues k mul h xs others) where
+  module _ (ring : IsRing k mul) (field : HasNoZeroDivisors k mul) (given : IsGiven k h) (rows : List (List Feeder)) (fed : AreAllFeeds h rows) (blocks : HaveBlocks k mul h) (a : AreInstanceValues k mul h rows xs es) (b : AreInstanceValues k mul h rows xs others) where
     -- an instance has one value where those that feed it have
     own_value : (i x y : ℕ) → ((j : ℕ) → HasEdge (feeding_graph rows) i j → slice_index es j ≡ slice_index others j) → slice_get es i ≡ Some x → slice_get others i ≡ Some y → x ≡ y
     own_value i x y earlier at_x at_y =
@@ -49,8 +49,8 @@ module _ (k : ℕ) (mul : ℕ → ℕ → ℕ) (h : Hierarchy) (xs es others : L
         let block = blocks i item.0 item.1 in
         let is = block.1 in
         let facts = facts_of k mul ring field h is.model is.block.words (bases_at h (is.number + 1)) (given.blocks is.number is.block is.found) block.0 is.is in
-        let first = a.each i x item.0 row.0 block.0 at_x item.1 (fed.each i row.0 row.1) is in
-        let second = b.each i y item.0 row.0 block.0 at_y item.1 (fed.each i row.0 row.1) is in
+        let first = a.each i x item.0 row.0 block.0 at_x item.1 row.1 is in
+        let second = b.each i y item.0 row.0 block.0 at_y item.1 row.1 is in
         let P : ℕ → List ℕ → Type 0 = λ j js. Has js j in
         let same : map (feed_value k mul h xs es) row.0 ≡ map (feed_value k mul h xs others) row.0 = same_values row.0 (λ j has. earlier j (subst (P j) (sym (row_edges rows i row.0 row.1)) has)) in
         let Q : List ℕ → Type 0 = λ ys. IsOut block.0 ys y in

@@ -35,6 +35,7 @@ use Rattle.block_feeds.specs.Given.{HaveBasesOf, IsGiven}
 use Rattle.block_feeds.specs.Hierarchy.{actuals_of, bases_at, block_of, top_words, Hierarchy, IsInstance}
 use Rattle.block_feeds.specs.NamedWord.{inputs_among, named_words, outputs_among, NamedWord}
 use Rattle.block_feeds.specs.Values.{feed_value, AreInstanceValues, IsBlockOf, IsTop}
+use Rattle.block_feeds.specs.Wiring.{AreAllFeeds}
 use Rattle.block_feeds.specs.declared.feeder.Feeder.{Feeder}
 use Rattle.block_feeds.specs.declared.feeder.Feeder.TheVariants.{InputWord, OutputOf}
 use Rattle.block_outputs.proofs.InputsLemmas.{input_named, inputs_long, named_input, AreInputs}
@@ -181,7 +182,7 @@ module _ (k : ℕ) (mul : ℕ → ℕ → ℕ) (ring : IsRing k mul) (field : Ha
           let Q : Item → Type 0 = λ it. Fits h it word feed in
           subst Q (sym same.0) (fed.each j word feed (subst P same.1 at_word) at_feed)
 
-      module _ (alone : Flat) (facts : AreFacts k alone block.block.words (bases_at h (block.number + 1)) circuit) (part : List Bool) (is : IsPart whole alone (i + 1) (connections_in item) bits part) (part_consistent : IsConsistent (net_list alone) part) where
+      module _ (alone : Flat) (facts : AreFacts k mul alone block.block.words (bases_at h (block.number + 1)) circuit) (part : List Bool) (is : IsPart whole alone (i + 1) (connections_in item) bits part) (part_consistent : IsConsistent (net_list alone) part) where
         -- a word of the block holds what its feed gives
         word_value : (j : ℕ) (w : Word) (feed : Feeder) → slice_get circuit.words j ≡ Some w → slice_get feeds j ≡ Some feed → combination w.basis (index_of part w.nets) ≡ feed_value k mul h xs es feed
         word_value j w feed at_word at_feed =
@@ -250,17 +251,17 @@ module _ (k : ℕ) (mul : ℕ → ℕ → ℕ) (ring : IsRing k mul) (field : Ha
           let parts = instance_part h.design i block.model item whole found.0 given.depth walk at block.model_is found.1 bits consistent in
           block_out found.0 found.2 parts.0 parts.1 parts.2
 
-    pub are_values : AreInstanceValues k mul h xs es
-    are_values = record { long = long; each = λ i e item feeds circuit value at fed block. instance_out i e item feeds circuit value at fed block }
+    pub are_values : (rows : List (List Feeder)) → AreAllFeeds h rows → AreInstanceValues k mul h rows xs es
+    are_values rows all = record { long = long; each = λ i e item feeds circuit value at row block. instance_out i e item feeds circuit value at (all.each i feeds row) block }
 
-  pub some_values : (feed : Feeder) (nets : List Token) (basis : List ℕ) → StandsOn h feed nets basis → (es : List ℕ) × AreInstanceValues k mul h xs es × (element_at whole bits nets basis ≡ feed_value k mul h xs es feed)
-  some_values feed nets basis is =
+  pub some_values : (rows : List (List Feeder)) → AreAllFeeds h rows → (feed : Feeder) (nets : List Token) (basis : List ℕ) → StandsOn h feed nets basis → (es : List ℕ) × AreInstanceValues k mul h rows xs es × (element_at whole bits nets basis ≡ feed_value k mul h xs es feed)
+  some_values rows all feed nets basis is =
       let found = all_held in
-      (found.0, are_values found.0 found.1 found.2, feed_held found.0 found.1 found.2 feed nets basis is)
+      (found.0, are_values found.0 found.1 found.2 rows all, feed_held found.0 found.1 found.2 feed nets basis is)
 
-module _ (k : ℕ) (mul : ℕ → ℕ → ℕ) (ring : IsRing k mul) (field : HasNoZeroDivisors k mul) (h : Hierarchy) (given : IsGiven k h) where
+module _ (k : ℕ) (mul : ℕ → ℕ → ℕ) (ring : IsRing k mul) (field : HasNoZeroDivisors k mul) (h : Hierarchy) (given : IsGiven k h) (rows : List (List Feeder)) (all : AreAllFeeds h rows) where
   -- the law
-  pub output_value : (top : Circuit) (feed : Feeder) (xs : List ℕ) (e : ℕ) → IsTop k mul h top → FeedsOutput h feed → IsOut top xs e → (es : List ℕ) × AreInstanceValues k mul h xs es × (feed_value k mul h xs es feed ≡ e)
+  pub output_value : (top : Circuit) (feed : Feeder) (xs : List ℕ) (e : ℕ) → IsTop k mul h top → FeedsOutput h feed → IsOut top xs e → (es : List ℕ) × AreInstanceValues k mul h rows xs es × (feed_value k mul h xs es feed ≡ e)
   output_value top feed xs e is fed out =
       let found = facts_of k mul ring field h 0 h.words (bases_at h 0) given.top top is in
       let whole : Flat = found.0 in
@@ -277,7 +278,7 @@ module _ (k : ℕ) (mul : ℕ → ℕ → ℕ) (ring : IsRing k mul) (field : Ha
       let index : index_of bits named.0.nets ≡ index_of bits (numbers_in whole nets) = named_index whole bits word.word.nets named.0.nets named.3 ∙ ap (λ ns. index_of bits (numbers_in whole ns)) word.nets_are in
       let based : named.0.basis ≡ basis = named.4 ∙ word.basis_is in
       sym (λ m. combination (based m) (index m)) ∙ element.sum.is ∙ sym (get_or_from_slice_get xs w read.0 0 read.1)) in
-      let values = some_values k mul ring field h given xs whole found.1 bits consistent held feed fed.word.nets fed.word.basis fed.stands in
+      let values = some_values k mul ring field h given xs whole found.1 bits consistent held rows all feed fed.word.nets fed.word.basis fed.stands in
       let index : index_of bits top.output.nets ≡ index_of bits (numbers_in whole fed.word.nets) = named_index whole bits fed.word.nets top.output.nets (facts.output fed.word fed.output) in
       let based : top.output.basis ≡ fed.word.basis = facts.basis fed.word fed.output in
       (values.0, values.1, sym values.2 ∙ sym (λ m. combination (based m) (index m)) ∙ out.ends.element.sum.is)
