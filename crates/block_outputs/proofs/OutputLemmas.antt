@@ -49,7 +49,7 @@ element_at whole bits nets basis = combination basis (index_of bits (numbers_in 
 
 -- ---- an instance has one block
 
-same_words : (h : Hierarchy) (i : ℕ) (item other : Item) (words more : List NamedWord) → IsInstance h i item words → IsInstance h i other more → (item ≡ other) × (words ≡ more)
+pub same_words : (h : Hierarchy) (i : ℕ) (item other : Item) (words more : List NamedWord) → IsInstance h i item words → IsInstance h i other more → (item ≡ other) × (words ≡ more)
 same_words h i item other words more a b =
     let at_a : slice_get (instances_of h.design) i ≡ Some item = a.at in
     let at_b : slice_get (instances_of h.design) i ≡ Some other = b.at in
