@@ -42,7 +42,7 @@ number_at (suc n) a less =
       | inr other ↦ elim other [ inl low ↦ front_at (first_numbers n) n a a (number_at n a low) | inr high ↦ absurd (omega (arith, less, high)) ]
     ]
 
-read_number : (n i a : ℕ) → slice_get (first_numbers n) i ≡ Some a → a ≡ i
+pub read_number : (n i a : ℕ) → slice_get (first_numbers n) i ≡ Some a → a ≡ i
 read_number n i a got =
     let less : i < n = omega (arith, slice_get_within (first_numbers n) i a got, numbers_long n) in
     let here : slice_get (first_numbers n) i ≡ Some i = number_at n i less in

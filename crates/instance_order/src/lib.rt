@@ -2,7 +2,9 @@
 //! in this order, where each leads to those that feed it.
 #![tactic(auto)]
 
+mod laws;
 mod levels;
 mod order;
 
+pub use laws::level_orders_are_arranged;
 pub use order::level_order;
