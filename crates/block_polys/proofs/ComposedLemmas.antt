@@ -43,7 +43,7 @@ use Rattle.block_outputs.proofs.OutputLemmas.{output_value, same_words}
 use Rattle.block_polys.specs.InstancePolys.{feed_at, poly_at, AreInstancePolys}
 use Rattle.block_polys.proofs.PointLemmas.{is_point_of, mapped_elements, mapped_long, mapped_same, taken_elements, taken_front, taken_long, value_at, word_element}
 
-reduced_at : (k : ℕ) (polys : List Terms) (i : ℕ) (poly : Terms) → AreReduced k polys → slice_get polys i ≡ Some poly → IsReduced k poly
+pub reduced_at : (k : ℕ) (polys : List Terms) (i : ℕ) (poly : Terms) → AreReduced k polys → slice_get polys i ≡ Some poly → IsReduced k poly
 reduced_at k [] i poly all got = absurd (cc)
 reduced_at k (ts ∷ polys) zero poly all got = let same : ts ≡ poly = cc in let P : Terms → Type 0 = IsReduced k in subst P same all.0
 reduced_at k (ts ∷ polys) (suc i) poly all got = reduced_at k polys i poly all.1 got

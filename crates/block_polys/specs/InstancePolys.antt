@@ -27,3 +27,7 @@ pub record AreInstancePolys (k : ℕ) (mul : ℕ → ℕ → ℕ) (h : Hierarchy
   pub reduced : AreReduced k polys
   pub each : (i : ℕ) (poly : Terms) (item : Item) (feeds : List Feeder) (circuit : Circuit) → slice_get polys i ≡ Some poly → slice_get (instances_of h.design) i ≡ Some item → slice_get rows i ≡ Some feeds → IsBlockOf k mul h item circuit
       → (block : Terms) × IsOutputInWords circuit block × IsPolynomialOf k mul (λ p. value mul (point_of (map (feed_at mul polys p) feeds)) block) poly
+
+-- each instance has the polynomial in words of its block's output
+abbrev pub HaveBlockPolys : ℕ → (ℕ → ℕ → ℕ) → Hierarchy → List Terms → Type 0
+HaveBlockPolys k mul h blocks = (i : ℕ) (block : Terms) (item : Item) (circuit : Circuit) → slice_get blocks i ≡ Some block → slice_get (instances_of h.design) i ≡ Some item → IsBlockOf k mul h item circuit → IsOutputInWords circuit block

@@ -4,4 +4,4 @@
 
 mod laws;
 
-pub use laws::composed_polynomial_is_the_output;
+pub use laws::{composed_polynomial_is_the_output, instances_in_order_are_composed};
