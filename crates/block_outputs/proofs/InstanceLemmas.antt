@@ -7,7 +7,7 @@ use Rattle.net_core.specs.Lists.{Has}
 use Rattle.net_core.specs.NetList.{NetList}
 use Rattle.net_core.specs.Sound.{IsSound}
 use Rattle.net_words.specs.Bind.{BindingOf}
-use Rattle.net_words.specs.Binding.{Binding, BoundNet, HasWidth}
+use Rattle.net_words.specs.Binding.{AreWords, Binding, HasWidth}
 use Rattle.net_words.specs.BoundTo.{output_bits, IsBoundTo}
 use Rattle.net_words.specs.Feeds.{AreFeeds}
 use Rattle.net_words.specs.OneCycle.{IsFlat}
@@ -34,10 +34,10 @@ use Rattle.block_outputs.proofs.InputsLemmas.{inputs_are, output_basis_is, outpu
 use Rattle.block_outputs.proofs.NamesLemmas.{binding_named, binding_unfed, AreBound, AreUnfed, HaveNumbers}
 
 -- a net is the net list of its model's walk
-flat_of : (design : List ModelValue) (model : ℕ) (net : NetList) → Flattens design model (Ok net) → (flat : Flat) × (walked nothing (walk_of design model) ≡ Ok flat) × (net ≡ net_list flat) × IsSound (net_list flat)
+pub flat_of : (design : List ModelValue) (model : ℕ) (net : NetList) → Flattens design model (Ok net) → (flat : Flat) × (walked nothing (walk_of design model) ≡ Ok flat) × (net ≡ net_list flat) × IsSound (net_list flat)
 flat_of design model net (flat, e, rest) = (flat, sym e, rest.0, rest.1)
 
-no_feeds : (k : ℕ) (roles : List Role) → AreFeeds k roles []
+pub no_feeds : (k : ℕ) (roles : List Role) → AreFeeds k roles []
 no_feeds k roles = record { sources = λ feed has. let got = has.1 in absurd (cc); apart = λ i j f g at_i at_j same_net same_cycle. absurd (cc) }
 
 all_from : {X : Type 0} (P : X → Type 0) (xs : List X) → ((x : X) → Has xs x → P x) → All P xs
@@ -49,6 +49,22 @@ bound_unfed net [] (c ∷ bs) i b bound unfed got = absurd bound
 bound_unfed net (w ∷ ws) [] i b bound unfed got = absurd bound
 bound_unfed net (w ∷ ws) (c ∷ bs) zero b bound unfed got = let same : c ≡ b = cc in λ fed. unfed.0 (sym bound.0 ∙ ap (λ (u : BoundWord). u.role) same ∙ fed)
 bound_unfed net (w ∷ ws) (c ∷ bs) (suc i) b bound unfed got = bound_unfed net ws bs i b bound.2 unfed.1 got
+
+-- where nothing is fed and there are no latches, what is bound is of one cycle
+pub flat_binding : (k : ℕ) (words : List WordText) → AreWords k words → AreUnfed words → (net : NetList) (binding : Binding) → IsSound net → net.latches ≡ [] → BindingOf net words [] (Ok binding) → IsFlat net binding
+flat_binding k words words_are unfed net binding sound none bound =
+    let is : IsBoundTo net binding = bound_to net k words [] binding sound words_are (no_feeds k (map (λ word. word.role) words)) bound in
+    let named : AreBound net words binding.words = binding_named net words binding unfed bound in
+    record {
+      latches = none;
+      feeds = binding_unfed net words binding bound;
+      named = all_from (λ (word : BoundWord). length word.nets ≡ binding.k) binding.words (λ word has.
+          wide named word has (All_has (HasWidth binding.k) binding.words word is.parts.each has));
+    }
+  where
+    wide : AreBound net words binding.words → (word : BoundWord) → Has binding.words word → HasWidth binding.k word → length word.nets ≡ binding.k
+    wide named word has (inl long) = long
+    wide named word has (inr fed) = absurd (bound_unfed net words binding.words has.0 word named unfed has.1 fed.0)
 
 -- what is known of the circuit of a model
 pub record AreFacts (k : ℕ) (mul : ℕ → ℕ → ℕ) (alone : Flat) (words : List WordText) (bases : List (List ℕ)) (circuit : Circuit) : Type 0 where
@@ -63,21 +79,6 @@ pub record AreFacts (k : ℕ) (mul : ℕ → ℕ → ℕ) (alone : Flat) (words 
   pub basis : (word : NamedWord) → outputs_among (named_words words bases) ≡ word ∷ [] → circuit.output.basis ≡ word.basis
 
 module _ (k : ℕ) (mul : ℕ → ℕ → ℕ) (ring : IsRing k mul) (field : HasNoZeroDivisors k mul) (h : Hierarchy) (model : ℕ) (words : List WordText) (bases : List (List ℕ)) (based : HaveBasesOf k words bases) where
-  flat_binding : (net : NetList) (binding : Binding) → IsSound net → net.latches ≡ [] → BindingOf net words [] (Ok binding) → IsFlat net binding
-  flat_binding net binding sound none bound =
-      let is : IsBoundTo net binding = bound_to net k words [] binding sound based.words_are (no_feeds k (map (λ word. word.role) words)) bound in
-      let named : AreBound net words binding.words = binding_named net words binding based.unfed bound in
-      record {
-        latches = none;
-        feeds = binding_unfed net words binding bound;
-        named = all_from (λ (word : BoundWord). length word.nets ≡ binding.k) binding.words (λ word has.
-            wide named word has (All_has (HasWidth binding.k) binding.words word is.parts.each has));
-      }
-    where
-      wide : AreBound net words binding.words → (word : BoundWord) → Has binding.words word → HasWidth binding.k word → length word.nets ≡ binding.k
-      wide named word has (inl long) = long
-      wide named word has (inr fed) = absurd (bound_unfed net words binding.words has.0 word named based.unfed has.1 fed.0)
-
   facts_with : (alone : Flat) (net : NetList) (binding : Binding) → net ≡ net_list alone → IsSound (net_list alone) → net.latches ≡ [] → BindingOf net words [] (Ok binding) → AreFacts k mul alone words bases (circuit_with k mul (record { net = net; bound = binding }) bases)
   facts_with alone net binding same sound none bound =
       let P : NetList → Type 0 = IsSound in
@@ -86,7 +87,7 @@ module _ (k : ℕ) (mul : ℕ → ℕ → ℕ) (ring : IsRing k mul) (field : Ha
       let Q : NetList → Type 0 = λ n. AreBound n words binding.words in
       let named_alone : AreBound (net_list alone) words binding.words = subst Q same named in
       record {
-        well = taken_well k mul (record { net = net; bound = binding }) words [] bases ring field sound_net based.words_are (no_feeds k (map (λ word. word.role) words)) bound (flat_binding net binding sound_net none bound) based.long based.each;
+        well = taken_well k mul (record { net = net; bound = binding }) words [] bases ring field sound_net based.words_are (no_feeds k (map (λ word. word.role) words)) bound (flat_binding k words based.words_are based.unfed net binding sound_net none bound) based.long based.each;
         bits = refl;
         product = refl;
         net = same;
