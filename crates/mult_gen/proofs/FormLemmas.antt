@@ -1,7 +1,5 @@
 -- Forms of signatures.
-use Rattle.std.proofs.Common.{◌≡◌, ◌∙◌, ap, sym, subst, ℕ, ◌<◌, ◌≤◌, ◌+◌, ◌*◌, ◌^◌, List, [], length, map, Some, Option, arith}
-use Rattle.std.specs.Prelude.{IsSome}
-use Rattle.net_signature.specs.Signature.{SignatureValue}
+use Rattle.std.proofs.Common.{◌≡◌, sym, subst, ℕ, ◌<◌, ◌≤◌, ◌^◌, List, [], length, map, arith}
 use Rattle.net_words.specs.declared.feed.FeedText.{FeedText}
 use Rattle.net_words.specs.declared.word.Role.TheVariants.{Input}
 use Rattle.net_words.specs.declared.word.WordText.{WordText}
@@ -9,7 +7,6 @@ use Rattle.net_make.specs.Form.{AllWide, HasWords}
 use Rattle.net_make.specs.MakerNames.{AreMakerNames}
 use Rattle.net_make.specs.Ports.{outer_names}
 use Rattle.net_make.proofs.FormLemmas.{names_long}
-use Rattle.mult_gen.specs.Form.{HasPorts}
 use Rattle.mult_gen.proofs.BoundLemmas.{mul_few}
 use Rattle.mult_gen.proofs.PlanLemmas.{outer_are}
 

@@ -1,6 +1,6 @@
 -- The multiplier computes the product.
-use Rattle.std.proofs.Common.{◌≡◌, ◌⊎◌, ◌∙◌, ap, ap₂, sym, refl, subst, inl, inr, ℕ, zero, suc, ◌<◌, ◌≤◌, ◌+◌, ◌*◌, ◌^◌, Bool, List, [], ◌∷◌, length, take, drop, arith}
-use Rattle.std.specs.Prelude.{slice_index, ◌==◌, bit_xor}
+use Rattle.std.proofs.Common.{◌≡◌, ◌∙◌, ap, ap₂, sym, subst, inr, ℕ, ◌<◌, ◌≤◌, ◌+◌, ◌*◌, ◌^◌, Bool, List, [], length, arith}
+use Rattle.std.specs.Prelude.{slice_index, ◌==◌}
 use Rattle.std.specs.Int.{bit_at}
 use Rattle.std.proofs.lemmas.Nat.Bits.{bit_at-lt}
 use Rattle.gf_field.specs.Bit.{bit_mul}
@@ -11,14 +11,14 @@ use Rattle.net_core.specs.Lists.{Has}
 use Rattle.net_core.specs.Value.{index_of}
 use Rattle.mult_products.specs.ProductBits.{x_to, HasProductBits}
 use Rattle.mult_products.proofs.SumLemmas.{sum_same}
-use Rattle.net_plan.specs.Plan.{Plan, begun, each, gathered, where_so, with_chain}
-use Rattle.net_plan.specs.PlanShape.{IsWellMade, CanRead}
-use Rattle.net_plan.specs.PlanValue.{Agrees, bit_at_net, parity}
+use Rattle.net_plan.specs.Plan.{Plan, begun, where_so}
+use Rattle.net_plan.specs.PlanShape.{IsWellMade}
+use Rattle.net_plan.specs.PlanValue.{Agrees, parity}
 use Rattle.net_plan.proofs.EachLemmas.{gathered_has}
 use Rattle.net_plan.proofs.ShapeLemmas.{begun_made}
 use Rattle.net_plan.proofs.ValueLemmas.{gathered_parity, where_parity}
 use Rattle.net_make.proofs.PolyLemmas.{index_bit, index_low}
-use Rattle.mult_gen.specs.Chains.{added_products, added_row, chains, mastrovito_plan, product_row, products}
+use Rattle.mult_gen.specs.Chains.{added_products, added_row, mastrovito_plan, products}
 use Rattle.mult_gen.proofs.BoundLemmas.{mul_few, place_below, square_few}
 use Rattle.mult_gen.proofs.ChainLemmas.{chains_before, chains_made, chains_next, chains_value, gathered_all, gathered_few, where_few, where_has}
 use Rattle.mult_gen.proofs.PolyLemmas.{index_is}
@@ -49,7 +49,7 @@ module _ (outer k g : ℕ) (a b z : List ℕ) (few : k ≤ 64) (a_long : length 
       one i j low high =
           where_parity bits (bit_at (x_to k g (i + j)) l) (outer + i * k + j) (bit_at-lt (x_to k g (i + j)) l)
           ∙ ap (λ n. n * bit_at (x_to k g (i + j)) l) (product_value bits k a b (begun outer) i j agrees low high
-            ∙ ap₂ (λ x y. x * y) (sym (index_bit bits a i (omega (arith, low, a_long)))) (sym (index_bit bits b j (omega (arith, high, b_long)))))
+          ∙ ap₂ (λ x y. x * y) (sym (index_bit bits a i (omega (arith, low, a_long)))) (sym (index_bit bits b j (omega (arith, high, b_long)))))
 
       row : (i : ℕ) → i < k → parity bits (added_row k g (outer + i * k) i l k) ≡ sum_of_first k (λ j. bit_at (index_of bits a) i * bit_at (index_of bits b) j * bit_at (x_to k g (i + j)) l)
       row i low =
@@ -61,8 +61,8 @@ module _ (outer k g : ℕ) (a b z : List ℕ) (few : k ≤ 64) (a_long : length 
   mastrovito_product bits ring by_bits agrees =
       let before : Agrees bits (products k a b (begun outer)) = chains_before k z (added_products k g outer) (products k a b (begun outer)) bits agrees in
       index_is bits z k (product 1 k bit_mul g (index_of bits a) (index_of bits b)) z_long (ring.closed (index_of bits a) (index_of bits b))
-        (λ l less. chains_value k z (added_products k g outer) (products k a b (begun outer)) bits l agrees less
-          ∙ (list_parity bits l before ∙ sym (by_bits (index_of bits a) (index_of bits b) l (omega (arith, index_low bits a, ap (λ n. 2 ^ n) a_long)) (omega (arith, index_low bits b, ap (λ n. 2 ^ n) b_long)))))
+      (λ l less. chains_value k z (added_products k g outer) (products k a b (begun outer)) bits l agrees less
+      ∙ (list_parity bits l before ∙ sym (by_bits (index_of bits a) (index_of bits b) l (omega (arith, index_low bits a, ap (λ n. 2 ^ n) a_long)) (omega (arith, index_low bits b, ap (λ n. 2 ^ n) b_long)))))
 
   list_has : (l n : ℕ) → Has (added_products k g outer l) n → (outer ≤ n) × (n < outer + k * k)
   list_has l n has =
@@ -76,9 +76,9 @@ module _ (outer k g : ℕ) (a b z : List ℕ) (few : k ≤ 64) (a_long : length 
   mastrovito_made sources first second low =
       let P : List ℕ → Type 0 = λ targets. IsWellMade outer sources targets (mastrovito_plan outer k g a b z) in
       subst P (gathered_all z k z_long)
-        (chains_made k z (added_products k g outer) (products k a b (begun outer)) outer sources
-          (products_made outer sources [] k a b (begun outer) (begun_made outer sources) first second) low
-          (λ l n less has. let place = list_has l n has in inr (place.0, omega (arith, place.1, start_next))))
+      (chains_made k z (added_products k g outer) (products k a b (begun outer)) outer sources
+      (products_made outer sources [] k a b (begun outer) (begun_made outer sources) first second) low
+      (λ l n less has. let place = list_has l n has in inr (place.0, omega (arith, place.1, start_next))))
 
   -- and has few nets
   pub mastrovito_few : (mastrovito_plan outer k g a b z).next ≤ outer + 270000

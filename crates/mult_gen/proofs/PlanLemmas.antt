@@ -1,11 +1,11 @@
 -- Plans over the nets of input words and an output word.
-use Rattle.std.proofs.Common.{◌≡◌, ◌⊎◌, ◌∙◌, ap, sym, refl, subst, inl, inr, ℕ, zero, suc, ◌<◌, ◌≤◌, ◌+◌, ◌*◌, ◌^◌, Bool, List, [], ◌∷◌, ◌++◌, length, map, take, drop, get_or, Some, None, append-nil, arith}
-use Rattle.std.specs.Prelude.{slice_index, slice_get}
+use Rattle.std.proofs.Common.{◌≡◌, ◌∙◌, ap, sym, refl, subst, inl, inr, ℕ, zero, suc, ◌<◌, ◌≤◌, ◌+◌, ◌*◌, ◌^◌, Bool, List, [], ◌∷◌, ◌++◌, length, take, drop, append-nil, arith}
+use Rattle.std.specs.Prelude.{slice_index}
 use Rattle.std.proofs.Math.Nat.{mul-le-mul_right}
 use Rattle.net_core.specs.Lists.{Has, times}
 use Rattle.net_core.proofs.DriverLemmas.{Has_left, Has_right}
 use Rattle.net_core.specs.Value.{IsConsistent}
-use Rattle.net_words.specs.declared.word.Role.TheVariants.{Input, State, Fed, Output}
+use Rattle.net_words.specs.declared.word.Role.TheVariants.{Input, State, Output}
 use Rattle.net_words.specs.declared.word.WordText.{WordText}
 use Rattle.net_plan.specs.Plan.{Plan}
 use Rattle.net_plan.specs.PlanShape.{IsWellMade}
@@ -13,7 +13,7 @@ use Rattle.net_plan.specs.PlanValue.{Agrees}
 use Rattle.net_plan.specs.Makeable.{driven_outside}
 use Rattle.net_plan.proofs.LabelLemmas.{append_long}
 use Rattle.net_make.specs.BindingOfMade.{AreHeld}
-use Rattle.net_make.specs.Form.{AllWide, HasWords, role_count}
+use Rattle.net_make.specs.Form.{AllWide, HasWords}
 use Rattle.net_make.specs.Made.{IsPlanFor, made_of}
 use Rattle.net_make.specs.Ports.{inputs_of, outer_names, role_nets, word_names}
 use Rattle.net_make.proofs.FormLemmas.{names_long, nets_long, no_nets, roles_once, words_one_of}

@@ -55,11 +55,7 @@ fn plan_of(alloc: Global, k: u32, signature: &Signature) -> Result<PlanMaker, Al
 /// its text's values, with no feed or block; their nets are different and have plain names of at most 128 bytes. Else it is
 /// `Unfit`. It is the sum in any basis of the field.
 /// The field is the signature's, and each word has as many nets as its degree.
-pub fn adder<F: Field>(
-    alloc: Global,
-    field: &F,
-    signature: &Signature,
-) -> Result<Net, MakeFault>
+pub fn adder<F: Field>(alloc: Global, field: &F, signature: &Signature) -> Result<Net, MakeFault>
     requires wide { AllWide (F.degree field.now) signature.now.words }
     ensures made { IfOk result (λ net. net ≡ made_adder (F.degree field.now) signature.now.words) }
     ensures plain { IfOk result (λ net. HasPlainNames net) }

@@ -76,6 +76,13 @@ pub(crate) fn net_of(
     ensures { IfOk result (λ net. net ≡ made_of signature.now.words [] [] plan.now) }
 {
     let latches: Vec<Latch> = Vec::new(alloc);
-    let net = make(alloc, maker, signature.words(), signature.feeds(), &latches, plan)?;
+    let net = make(
+        alloc,
+        maker,
+        signature.words(),
+        signature.feeds(),
+        &latches,
+        plan,
+    )?;
     Ok(net)
 }

@@ -1,6 +1,5 @@
-use Rattle.std.proofs.Common.{rules, ◌≡◌, ◌∙◌, ℕ, List, [], ap, sym, subst, take, drop}
+use Rattle.std.proofs.Common.{◌≡◌, ◌∙◌, [], ap, sym, subst, take, drop}
 use Rattle.std.specs.Prelude.{bit_xor}
-use Rattle.gf_basis.specs.Basis.{IsBasis}
 use Rattle.net_core.specs.NetList.{NetList}
 use Rattle.net_write.specs.Plain.{HasPlainNames}
 use Rattle.net_plan.specs.Plan.{Plan}

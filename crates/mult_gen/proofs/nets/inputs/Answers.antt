@@ -1,4 +1,4 @@
-use Rattle.std.proofs.Common.{rules, ◌∙◌, ℕ, List, length, ap, arith}
+use Rattle.std.proofs.Common.{◌∙◌, ℕ, List, length, ap, arith}
 use Rattle.net_words.specs.declared.word.Role.TheVariants.{Input}
 use Rattle.net_make.specs.Ports.{role_nets}
 use Rattle.mult_gen.proofs.PlanLemmas.{inputs_long, list_few}

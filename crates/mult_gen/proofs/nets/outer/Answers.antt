@@ -1,4 +1,4 @@
-use Rattle.std.proofs.Common.{rules, ap, arith}
+use Rattle.std.proofs.Common.{arith}
 use Rattle.mult_gen.proofs.PlanLemmas.{list_few}
 use Rattle.mult_gen.proofs.nets.outer.Goals as goal
 

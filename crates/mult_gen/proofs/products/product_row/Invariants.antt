@@ -1,7 +1,5 @@
 -- The products so far.
 use Rattle.std.proofs.Common.{◌≡◌, ◌+◌}
-use Rattle.net_core.specs.GateValue.{GateValue}
-use Rattle.net_plan.specs.Plan.{Plan}
 use Rattle.mult_gen.specs.Chains.{product_row}
 use Rattle.mult_gen.proofs.products.product_row.Given as goal
 

@@ -1,4 +1,4 @@
-use Rattle.std.proofs.Common.{rules, ◌≡◌, ◌≤◌, ℕ, List, Some, length, ap, sym, ◌∙◌, arith}
+use Rattle.std.proofs.Common.{◌≡◌, ℕ, List, Some, length, ap, ◌∙◌, arith}
 use Rattle.gf_field.specs.Ring2k.{modulus_of}
 use Rattle.irreducible.specs.Proved.{ring_of}
 use Rattle.net_plan.specs.Plan.{Plan}

@@ -1,4 +1,4 @@
-use Rattle.std.proofs.Common.{rules, ◌≡◌, ◌∙◌, ◌^◌, ℕ, List, [], ap, sym, subst}
+use Rattle.std.proofs.Common.{◌≡◌, ◌∙◌, ◌^◌, ℕ, [], ap, sym, subst}
 use Rattle.gf_field.specs.Bit.{bit_mul}
 use Rattle.gf_field.specs.Quotient.{product}
 use Rattle.gf_field.specs.Ring2k.{degree_of, modulus_of}
