@@ -1,0 +1,2 @@
+//! Montgomery's multiplier as a netlist.
+#![tactic(auto)]
