@@ -1,0 +1,4 @@
+pub mod Plan
+pub mod PlanValue
+pub mod PlanShape
+pub mod MadeNet
