@@ -1,0 +1,5 @@
+pub mod EachLemmas
+pub mod ValueLemmas
+pub mod ShapeLemmas
+pub mod LabelLemmas
+pub mod SoundLemmas

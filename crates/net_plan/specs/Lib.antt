@@ -2,3 +2,4 @@ pub mod Plan
 pub mod PlanValue
 pub mod PlanShape
 pub mod MadeNet
+pub mod Makeable

@@ -64,12 +64,12 @@ abbrev pub chain_net : Option ℕ → List ℕ → Plan → ℕ
 chain_net target list plan = unwrap_or target (plan.next + between list)
 
 -- the step for 0, for 1, .., n of them
-pub each : {S : Type 0} → ℕ → (ℕ → S → S) → S → S
+abbrev pub each : {S : Type 0} → ℕ → (ℕ → S → S) → S → S
 each zero step start = start
 each (suc n) step start = step n (each n step start)
 
 -- the lists for 0, for 1, .., one after the other, n of them
-pub gathered : {A : Type 0} → ℕ → (ℕ → List A) → List A
+abbrev pub gathered : {A : Type 0} → ℕ → (ℕ → List A) → List A
 gathered zero f = []
 gathered (suc n) f = gathered n f ++ f n
 

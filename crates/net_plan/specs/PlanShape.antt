@@ -4,6 +4,10 @@ use Rattle.net_core.specs.GateValue.{GateValue}
 use Rattle.net_core.specs.Lists.{Has, times}
 use Rattle.net_plan.specs.Plan.{Plan}
 
+-- inner nets so many more have numbers of 32 bits
+abbrev pub HasRoom : Plan → ℕ → Type 0
+HasRoom plan more = plan.next + more < 2 ^ 32
+
 -- the nets that the gates drive
 abbrev pub outs : Plan → List ℕ
 outs plan = map (λ (g : GateValue). g.out) plan.gates
@@ -20,6 +24,11 @@ ReadsBefore outer sources plan g = (n : ℕ) → Has g.inputs n → Has sources 
 abbrev pub targets_with : List ℕ → Option ℕ → List ℕ
 targets_with targets None = targets
 targets_with targets (Some n) = targets ++ n ∷ []
+
+-- the given net is an outer one
+abbrev pub IsTarget : ℕ → Option ℕ → Type 0
+IsTarget outer None = Unit {0}
+IsTarget outer (Some n) = n < outer
 
 -- Outer nets are those below `outer`. Of them the gates drive the targets; each inner net is driven once.
 pub record IsWellMade (outer : ℕ) (sources targets : List ℕ) (plan : Plan) : Type 0 where

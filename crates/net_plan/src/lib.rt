@@ -1,2 +1,7 @@
-//! Nets of gates in the making, whose inner nets are numbered and named by the gates that drive them.
+//! Nets in the making, whose inner nets are numbered and named by the gates that drive them.
 #![tactic(auto)]
+
+mod plan_maker;
+mod planned_gate;
+
+pub use plan_maker::PlanMaker;
