@@ -44,13 +44,7 @@ module _ (bits : List Bool) (k g : ℕ) where
       first : bit_at_net bits (slice_index sum 0) ≡ x % 2
       first = bit_in_row bits sum x 0 have (omega (arith, less, long)) ∙ bit_at_lowest x
 
-      added : Row
-      added = with_driven (with_xor None (slice_index sum (j + 1)) (slice_index sum 0) row.plan) row
-
-      plain : Row
-      plain = with_net (slice_index sum (j + 1)) row
-
-      by : (c : ℕ) → c < 2 → bit_at g (j + 1) ≡ c → Agrees bits (if c == 1 then with_driven (with_xor None (slice_index sum (j + 1)) (slice_index sum 0) row.plan) row else with_net (slice_index sum (j + 1)) row).plan → IsRowOf bits before (suc j) (halved g x) (if c == 1 then with_driven (with_xor None (slice_index sum (j + 1)) (slice_index sum 0) row.plan) row else with_net (slice_index sum (j + 1)) row)
+      by : (c : ℕ) → c < 2 → bit_at g (j + 1) ≡ c → Agrees bits (if c == 1 then with_xor None (slice_index sum (j + 1)) (slice_index sum 0) row.plan else row.plan) → IsRowOf bits before (suc j) (halved g x) (record { plan = if c == 1 then with_xor None (slice_index sum (j + 1)) (slice_index sum 0) row.plan else row.plan; nets = row.nets ++ (if c == 1 then row.plan.next else slice_index sum (j + 1)) ∷ [] })
       by zero low is agrees =
           row_push bits before j (halved g x) (slice_index sum (j + 1)) row (with_net (slice_index sum (j + 1)) row) refl (kept agrees)
           (later ∙ sym (next ∙ ap (λ c. bit_xor (bit_at x (j + 1)) (x % 2 * c)) is ∙ ap (bit_xor (bit_at x (j + 1))) (no_times (x % 2)) ∙ xor_zero_r (bit_at x (j + 1))))
@@ -71,7 +65,7 @@ module _ (bits : List Bool) (k g : ℕ) where
   moved_before : (j : ℕ) (sum : List ℕ) (row : Row) → Agrees bits (moved_step g sum j row).plan → Agrees bits row.plan
   moved_before j sum row = by (bit_at g (j + 1) == 1)
     where
-      by : (t : Bool) → Agrees bits (if t then with_driven (with_xor None (slice_index sum (j + 1)) (slice_index sum 0) row.plan) row else with_net (slice_index sum (j + 1)) row).plan → Agrees bits row.plan
+      by : (t : Bool) → Agrees bits (if t then with_xor None (slice_index sum (j + 1)) (slice_index sum 0) row.plan else row.plan) → Agrees bits row.plan
       by true agrees = agrees_before bits None (slice_index sum (j + 1) ∷ slice_index sum 0 ∷ []) 6 row.plan agrees
       by false agrees = agrees
 

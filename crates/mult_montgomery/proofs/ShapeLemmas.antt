@@ -1,5 +1,7 @@
 -- The gates read what is driven before, and drive each net once; how many inner nets there are.
-use Rattle.std.proofs.Common.{◌≡◌, ne_eqb, ℕ, zero, suc, refl, sym, ◌∙◌, ap, ◌<◌, ◌≤◌, ◌^◌, ◌+◌, ◌*◌, ◌-◌, ◌⊎◌, inl, inr, arith, List, [], ◌∷◌, ◌++◌, length, Bool, true, false, None, Some, subst, take}
+use Rattle.std.proofs.Math.Nat.{suc-mul}
+use Rattle.std.proofs.lemmas.List.{take_more}
+use Rattle.std.proofs.Common.{◌≡◌, ne_eqb, take_all, ℕ, zero, suc, refl, sym, ◌∙◌, ap, ◌<◌, ◌≤◌, ◌^◌, ◌+◌, ◌*◌, ◌-◌, ◌⊎◌, inl, inr, arith, List, [], ◌∷◌, ◌++◌, length, Bool, true, false, None, Some, subst, take}
 use Rattle.std.specs.Prelude.{slice_get, slice_index, ◌==◌, if◌then◌else◌}
 use Rattle.std.specs.Int.{bit_at}
 use Rattle.graph_core.proofs.ListLemmas.{got_push, length-push, got_at}
@@ -11,6 +13,10 @@ use Rattle.net_plan.proofs.ShapeLemmas.{begun_made, can_read_more, and_made, xor
 use Rattle.mult_montgomery.specs.Row.{Row, begun_row, with_net, with_driven, and_row, xor_row}
 use Rattle.mult_montgomery.specs.Montgomery.{moved_step, divided_row, summed_row, round, rounds, buffered, montgomery_plan}
 use Rattle.mult_montgomery.proofs.RoundLemmas.{summed_later}
+
+take-zero : (z : List ℕ) → take 0 z ≡ []
+take-zero [] = refl
+take-zero (n ∷ z) = refl
 
 module _ (outer : ℕ) (sources : List ℕ) where
   -- the nets may be read by gates after the plan
@@ -85,7 +91,7 @@ module _ (outer : ℕ) (sources : List ℕ) where
       later : CanRead outer sources row.plan (slice_index sum (j + 1))
       later = readable_at sum row.plan (j + 1) reads (omega (arith, less))
 
-      by : (t : Bool) → IsMadeRow start (suc j) (suc j) (if t then with_driven (with_xor None (slice_index sum (j + 1)) (slice_index sum 0) row.plan) row else with_net (slice_index sum (j + 1)) row)
+      by : (t : Bool) → IsMadeRow start (suc j) (suc j) (record { plan = if t then with_xor None (slice_index sum (j + 1)) (slice_index sum 0) row.plan else row.plan; nets = row.nets ++ (if t then row.plan.next else slice_index sum (j + 1)) ∷ [] })
       by true = driven_made start j j row (with_xor None (slice_index sum (j + 1)) (slice_index sum 0) row.plan) is (xor_made outer sources [] None (slice_index sum (j + 1)) (slice_index sum 0) row.plan is.made tt later (readable_at sum row.plan 0 reads (omega (arith, less)))) refl
       by false = net_made start j j (slice_index sum (j + 1)) row is later
 
@@ -152,6 +158,24 @@ module _ (outer : ℕ) (sources : List ℕ) where
     montgomery_made z long_z below =
         let row = rounds outer k g a b in
         let all = each_keeps (λ j plan. IsWellMade outer sources (take j z) plan × (plan.next ≡ row.plan.next)) (λ j. with_buffer (Some (slice_index z j)) (slice_index row.nets j)) row.plan k
-              (rounds_made.made, refl)
-              (λ j plan less kept. ?) in
-        ?
+              (subst (λ ts. IsWellMade outer sources ts row.plan) (sym (take-zero z)) rounds_made.made, refl)
+              (λ j plan less kept. (more j plan less kept.0 kept.1, kept.1)) in
+        subst (λ ts. IsWellMade outer sources ts (montgomery_plan outer k g a b z)) (take_all k z (omega (arith, long_z))) all.0
+      where
+        more : (j : ℕ) (plan : Plan) → j < k → IsWellMade outer sources (take j z) plan → plan.next ≡ (rounds outer k g a b).plan.next → IsWellMade outer sources (take (suc j) z) (with_buffer (Some (slice_index z j)) (slice_index (rounds outer k g a b).nets j) plan)
+        more j plan less made next =
+            let row = rounds outer k g a b in
+            let long : length row.nets ≡ k = rounds_made.long (omega (arith, some)) in
+            let one_more : suc j ≡ j + 1 = omega arith in
+            let within : j < length z = omega (arith, less, long_z) in
+            let reads : CanRead outer sources plan (slice_index row.nets j) = can_read_more outer sources row.plan plan (slice_index row.nets j) (omega (arith, next)) (readable_at row.nets row.plan j rounds_made.reads (omega (arith, less, long))) in
+            let target : slice_index z j < outer = below (slice_index z j) (j, got_at z j (slice_index z j) 0 within refl) in
+            subst (λ ts. IsWellMade outer sources ts (with_buffer (Some (slice_index z j)) (slice_index row.nets j) plan)) (sym (ap (λ l. take l z) one_more ∙ take_more z j 0 within))
+            (buffer_made outer sources (take j z) (Some (slice_index z j)) (slice_index row.nets j) plan made target reads)
+
+    -- there are at most 3 k^2 inner nets
+    pub montgomery_next : (z : List ℕ) → (montgomery_plan outer k g a b z).next ≤ outer + k * (3 * k)
+    montgomery_next z =
+        let row = rounds outer k g a b in
+        let same = each_keeps (λ j plan. plan.next ≡ row.plan.next) (λ j. with_buffer (Some (slice_index z j)) (slice_index row.nets j)) row.plan k refl (λ j plan less kept. kept) in
+        omega (arith, same, rounds_made.high)

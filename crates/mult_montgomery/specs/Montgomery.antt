@@ -5,12 +5,17 @@ use Rattle.std.specs.Int.{bit_at}
 use Rattle.net_plan.specs.Plan.{Plan, begun, with_buffer, with_xor, each}
 use Rattle.mult_montgomery.specs.Row.{Row, begun_row, with_net, with_driven, and_row, xor_row}
 
--- place j of the sum divided by x: place j + 1, to which place 0 is added where coefficient j + 1 of the modulus g is 1
+-- the gates after place j of the sum divided by x: one more where coefficient j + 1 of the modulus g is 1
+abbrev pub moved_plan : (g : ℕ) → List ℕ → ℕ → Plan → Plan
+moved_plan g sum j plan = if bit_at g (j + 1) == 1 then with_xor None (slice_index sum (j + 1)) (slice_index sum 0) plan else plan
+
+-- the net of place j: that gate, which adds place 0 to place j + 1, or place j + 1 itself
+abbrev pub moved_net : (g : ℕ) → List ℕ → ℕ → Plan → ℕ
+moved_net g sum j plan = if bit_at g (j + 1) == 1 then plan.next else slice_index sum (j + 1)
+
+-- one more place of the sum divided by x
 abbrev pub moved_step : (g : ℕ) → List ℕ → ℕ → Row → Row
-moved_step g sum j row =
-    if bit_at g (j + 1) == 1
-    then with_driven (with_xor None (slice_index sum (j + 1)) (slice_index sum 0) row.plan) row
-    else with_net (slice_index sum (j + 1)) row
+moved_step g sum j row = record { plan = moved_plan g sum j row.plan; nets = row.nets ++ moved_net g sum j row.plan ∷ [] }
 
 -- the sum divided by x: the last place is place 0 itself
 abbrev pub divided_row : (k g : ℕ) → Row → Row
@@ -27,9 +32,13 @@ summed_row k a b i before =
 abbrev pub round : (k g : ℕ) → List ℕ → List ℕ → ℕ → Row → Row
 round k g a b i before = divided_row k g (summed_row k a b i before)
 
--- the rounds, over outer nets numbered below `outer`
+-- all rounds, after the gates of a plan
+abbrev pub rounds_from : (k g : ℕ) → List ℕ → List ℕ → Plan → Row
+rounds_from k g a b plan = each k (round k g a b) (begun_row plan)
+
+-- all rounds, over outer nets numbered below `outer`
 abbrev pub rounds : (outer k g : ℕ) → List ℕ → List ℕ → Row
-rounds outer k g a b = each k (round k g a b) (begun_row (begun outer))
+rounds outer k g a b = rounds_from k g a b (begun outer)
 
 -- buffers from the row to the nets of the product
 abbrev pub buffered : (k : ℕ) → List ℕ → Row → Plan

@@ -1,2 +1,6 @@
-//! Montgomery's multiplier as a netlist.
+//! Montgomery's multiplier as a netlist: after each coefficient of the first factor the sum is divided by x, so that no
+//! product is longer than an element.
 #![tactic(auto)]
+
+mod rounds;
+mod rows;
