@@ -17,9 +17,9 @@ use Rattle.net_plan.specs.Plan.{Plan, each, begun, with_xor, with_buffer}
 use Rattle.net_plan.specs.PlanValue.{Agrees, bit_at_net}
 use Rattle.net_plan.proofs.EachLemmas.{each_keeps}
 use Rattle.net_plan.proofs.ValueLemmas.{agrees_before, xor_value, buffer_value}
-use Rattle.mult_montgomery.specs.Row.{Row, begun_row, with_net, with_driven, and_row, xor_row}
-use Rattle.mult_montgomery.specs.Montgomery.{moved_step, divided_row, summed_row, round, rounds, buffered, montgomery_plan}
-use Rattle.mult_montgomery.proofs.RowLemmas.{HaveBits, IsRowOf, bit_in_row, row_push, and_row_bits, xor_row_bits, xor_row_before}
+use Rattle.net_rows.specs.Row.{Row, begun_row, row_by, and_row, xor_row}
+use Rattle.mult_montgomery.specs.Montgomery.{moved_plan, moved_net, divided_row, summed_row, round, rounds, buffered, montgomery_plan}
+use Rattle.net_rows.proofs.RowLemmas.{HaveBits, IsRowOf, value_in_row, have_none, row_push, row_values, row_before, and_row_bits, xor_row_bits, xor_row_before}
 
 bit_below : (a i : ℕ) → bit_at a i < 2
 bit_below a i = omega arith
@@ -29,9 +29,16 @@ pub summed_later : (k : ℕ) (a b : List ℕ) (i : ℕ) (row : Row) → (i ≡ 0
 summed_later k a b i row some = ap (λ t. if t then and_row k (slice_index a i) b row.plan else xor_row k row.nets (and_row k (slice_index a i) b row.plan).nets (and_row k (slice_index a i) b row.plan).plan) (ne_eqb i 0 some)
 
 module _ (bits : List Bool) (k g : ℕ) where
-  -- one more place of the sum divided by x
-  moved_bits : (x j : ℕ) (sum : List ℕ) (before : Plan) (row : Row) → length sum ≡ k → HaveBits bits sum x → suc j < k → (Agrees bits row.plan → IsRowOf bits before j (halved g x) row) → Agrees bits (moved_step g sum j row).plan → IsRowOf bits before (suc j) (halved g x) (moved_step g sum j row)
-  moved_bits x j sum before row long have less kept = by (bit_at g (j + 1)) (bit_below g (j + 1)) refl
+  moved_before : (sum : List ℕ) (j : ℕ) (p : Plan) → Agrees bits (moved_plan g sum j p) → Agrees bits p
+  moved_before sum j p = by (bit_at g (j + 1) == 1)
+    where
+      by : (t : Bool) → Agrees bits (if t then with_xor None (slice_index sum (j + 1)) (slice_index sum 0) p else p) → Agrees bits p
+      by true agrees = agrees_before bits None (slice_index sum (j + 1) ∷ slice_index sum 0 ∷ []) 6 p agrees
+      by false agrees = agrees
+
+  -- a place of the sum divided by x
+  moved_bit : (x : ℕ) (sum : List ℕ) → length sum ≡ k → HaveBits bits sum x → (j : ℕ) (p : Plan) → suc j < k → Agrees bits (moved_plan g sum j p) → bit_at_net bits (moved_net g sum j p) ≡ bit_at (halved g x) j
+  moved_bit x sum long have j p less = by (bit_at g (j + 1)) (bit_below g (j + 1)) refl
     where
       next : bit_at (halved g x) j ≡ bit_xor (bit_at x (j + 1)) (x % 2 * bit_at g (j + 1))
       next =
@@ -39,55 +46,35 @@ module _ (bits : List Bool) (k g : ℕ) where
           bit_at-halved g x j ∙ ap (λ i. bit_xor (bit_at x i) (x % 2 * bit_at g i)) same
 
       later : bit_at_net bits (slice_index sum (j + 1)) ≡ bit_at x (j + 1)
-      later = bit_in_row bits sum x (j + 1) have (omega (arith, less, long))
+      later = value_in_row bits sum (bit_at x) (j + 1) have (omega (arith, less, long))
 
       first : bit_at_net bits (slice_index sum 0) ≡ x % 2
-      first = bit_in_row bits sum x 0 have (omega (arith, less, long)) ∙ bit_at_lowest x
+      first = value_in_row bits sum (bit_at x) 0 have (omega (arith, less, long)) ∙ bit_at_lowest x
 
-      by : (c : ℕ) → c < 2 → bit_at g (j + 1) ≡ c → Agrees bits (if c == 1 then with_xor None (slice_index sum (j + 1)) (slice_index sum 0) row.plan else row.plan) → IsRowOf bits before (suc j) (halved g x) (record { plan = if c == 1 then with_xor None (slice_index sum (j + 1)) (slice_index sum 0) row.plan else row.plan; nets = row.nets ++ (if c == 1 then row.plan.next else slice_index sum (j + 1)) ∷ [] })
-      by zero low is agrees =
-          row_push bits before j (halved g x) (slice_index sum (j + 1)) row (with_net (slice_index sum (j + 1)) row) refl (kept agrees)
-          (later ∙ sym (next ∙ ap (λ c. bit_xor (bit_at x (j + 1)) (x % 2 * c)) is ∙ ap (bit_xor (bit_at x (j + 1))) (no_times (x % 2)) ∙ xor_zero_r (bit_at x (j + 1))))
+      by : (c : ℕ) → c < 2 → bit_at g (j + 1) ≡ c → Agrees bits (if c == 1 then with_xor None (slice_index sum (j + 1)) (slice_index sum 0) p else p) → bit_at_net bits (if c == 1 then p.next else slice_index sum (j + 1)) ≡ bit_at (halved g x) j
+      by zero low is agrees = later ∙ sym (next ∙ ap (λ c. bit_xor (bit_at x (j + 1)) (x % 2 * c)) is ∙ ap (bit_xor (bit_at x (j + 1))) (no_times (x % 2)) ∙ xor_zero_r (bit_at x (j + 1)))
         where
           no_times : (t : ℕ) → t * 0 ≡ 0
           no_times t = omega arith
       by (suc zero) low is agrees =
-          row_push bits before j (halved g x) row.plan.next row (with_driven (with_xor None (slice_index sum (j + 1)) (slice_index sum 0) row.plan) row) refl
-          (kept (agrees_before bits None (slice_index sum (j + 1) ∷ slice_index sum 0 ∷ []) 6 row.plan agrees))
-          (xor_value bits None (slice_index sum (j + 1)) (slice_index sum 0) row.plan agrees
+          xor_value bits None (slice_index sum (j + 1)) (slice_index sum 0) p agrees
           ∙ ap₂ bit_xor later first
-          ∙ sym (next ∙ ap (λ c. bit_xor (bit_at x (j + 1)) (x % 2 * c)) is ∙ ap (bit_xor (bit_at x (j + 1))) (one_times (x % 2))))
+          ∙ sym (next ∙ ap (λ c. bit_xor (bit_at x (j + 1)) (x % 2 * c)) is ∙ ap (bit_xor (bit_at x (j + 1))) (one_times (x % 2)))
         where
           one_times : (t : ℕ) → t * 1 ≡ t
           one_times t = omega arith
       by (suc (suc c)) low is agrees = absurd (omega (arith, low))
 
-  moved_before : (j : ℕ) (sum : List ℕ) (row : Row) → Agrees bits (moved_step g sum j row).plan → Agrees bits row.plan
-  moved_before j sum row = by (bit_at g (j + 1) == 1)
-    where
-      by : (t : Bool) → Agrees bits (if t then with_xor None (slice_index sum (j + 1)) (slice_index sum 0) row.plan else row.plan) → Agrees bits row.plan
-      by true agrees = agrees_before bits None (slice_index sum (j + 1) ∷ slice_index sum 0 ∷ []) 6 row.plan agrees
-      by false agrees = agrees
-
   divided_before : (sum : Row) → Agrees bits (divided_row k g sum).plan → Agrees bits sum.plan
-  divided_before sum =
-      each_keeps (λ j row. Agrees bits row.plan → Agrees bits sum.plan) (moved_step g sum.nets) (begun_row sum.plan) (k - 1)
-      (λ agrees. agrees)
-      (λ j row less kept agrees. kept (moved_before j sum.nets row agrees))
+  divided_before sum = row_before bits (moved_plan g sum.nets) (moved_net g sum.nets) (k - 1) sum.plan (moved_before sum.nets)
 
   -- the sum divided by x
-  divided_bits : (x : ℕ) (sum : Row) → IsModulus k g → x < 2 ^ k → length sum.nets ≡ k → HaveBits bits sum.nets x → Agrees bits (divided_row k g sum).plan → IsRowOf bits sum.plan k (halved g x) (divided_row k g sum)
+  divided_bits : (x : ℕ) (sum : Row) → IsModulus k g → x < 2 ^ k → length sum.nets ≡ k → HaveBits bits sum.nets x → Agrees bits (divided_row k g sum).plan → IsRowOf bits sum.plan k (bit_at (halved g x)) (divided_row k g sum)
   divided_bits x sum ok below long have agrees =
-      let moved = each_keeps (λ j row. Agrees bits row.plan → IsRowOf bits sum.plan j (halved g x) row) (moved_step g sum.nets) (begun_row sum.plan) (k - 1)
-            (λ agrees. record { before = agrees; long = refl; have = none })
-            (λ j row less kept. moved_bits x j sum.nets sum.plan row long have (omega (arith, less)) kept) agrees in
-      let one_more : suc (k - 1) ≡ k = omega (arith, ok.some) in
-      let P : ℕ → Type 0 = λ l. IsRowOf bits sum.plan l (halved g x) (divided_row k g sum) in
-      subst P one_more (row_push bits sum.plan (k - 1) (halved g x) (slice_index sum.nets 0) (each (k - 1) (moved_step g sum.nets) (begun_row sum.plan)) (divided_row k g sum) refl moved last)
+      let moved = row_values bits (moved_plan g sum.nets) (moved_net g sum.nets) (k - 1) sum.plan (moved_before sum.nets) (bit_at (halved g x)) (λ j p less. moved_bit x sum.nets long have j p (omega (arith, less))) agrees in
+      let P : ℕ → Type 0 = λ l. IsRowOf bits sum.plan l (bit_at (halved g x)) (divided_row k g sum) in
+      subst P one_more (row_push bits sum.plan (k - 1) (bit_at (halved g x)) (slice_index sum.nets 0) (row_by (k - 1) (moved_plan g sum.nets) (moved_net g sum.nets) sum.plan) (divided_row k g sum) refl moved last)
     where
-      none : HaveBits bits [] (halved g x)
-      none j n got = absurd (cc)
-
       one_times : (t : ℕ) → t * 1 ≡ t
       one_times t = omega arith
 
@@ -96,7 +83,7 @@ module _ (bits : List Bool) (k g : ℕ) where
 
       last : bit_at_net bits (slice_index sum.nets 0) ≡ bit_at (halved g x) (k - 1)
       last =
-          bit_in_row bits sum.nets x 0 have (omega (arith, long, ok.some))
+          value_in_row bits sum.nets (bit_at x) 0 have (omega (arith, long, ok.some))
           ∙ bit_at_lowest x
           ∙ sym (bit_at-halved g x (k - 1) ∙ ap (λ i. bit_xor (bit_at x i) (x % 2 * bit_at g i)) one_more ∙ ap₂ (λ u v. bit_xor u (x % 2 * v)) (bit_at_above x k k below (omega arith)) (top_bit k g ok) ∙ xor_zero_l (x % 2 * 1) ∙ one_times (x % 2))
 
@@ -106,19 +93,19 @@ module _ (bits : List Bool) (k g : ℕ) where
       pub long : 0 < i → length row.nets ≡ k
       pub have : HaveBits bits row.nets (running_sum g x y i)
 
-    summed_bits : (i : ℕ) (row : Row) → i < k → (Agrees bits row.plan → IsSum i row) → Agrees bits (summed_row k a b i row).plan → IsRowOf bits row.plan k (bit_xor (running_sum g x y i) (bit_at x i * y)) (summed_row k a b i row)
+    summed_bits : (i : ℕ) (row : Row) → i < k → (Agrees bits row.plan → IsSum i row) → Agrees bits (summed_row k a b i row).plan → IsRowOf bits row.plan k (bit_at (bit_xor (running_sum g x y i) (bit_at x i * y))) (summed_row k a b i row)
     unfolding running_sum
     summed_bits zero row less kept agrees =
-        let P : ℕ → Type 0 = λ s. IsRowOf bits row.plan k s (and_row k (slice_index a 0) b row.plan) in
+        let P : ℕ → Type 0 = λ s. IsRowOf bits row.plan k (bit_at s) (and_row k (slice_index a 0) b row.plan) in
         subst P (sym (xor_zero_l (bit_at x 0 * y)))
-        (and_row_bits bits k (slice_index a 0) (bit_at x 0) y b row.plan (bit_below x 0) (bit_in_row bits a x 0 have_a (omega (arith, less, long_a))) long_b have_b agrees)
+        (and_row_bits bits k (slice_index a 0) (bit_at x 0) y b row.plan (bit_below x 0) (value_in_row bits a (bit_at x) 0 have_a (omega (arith, less, long_a))) long_b have_b agrees)
     summed_bits (suc i) row less kept agrees' =
         let later = summed_later k a b (suc i) row (λ none. absurd (omega (arith, none))) in
         let agrees = subst (λ (sum : Row). Agrees bits sum.plan) later agrees' in
-        let P : Row → Type 0 = λ sum. IsRowOf bits row.plan k (bit_xor (running_sum g x y (suc i)) (bit_at x (suc i) * y)) sum in
+        let P : Row → Type 0 = λ sum. IsRowOf bits row.plan k (bit_at (bit_xor (running_sum g x y (suc i)) (bit_at x (suc i) * y))) sum in
         subst P (sym later) (
         let products = and_row k (slice_index a (suc i)) b row.plan in
-        let anded = and_row_bits bits k (slice_index a (suc i)) (bit_at x (suc i)) y b row.plan (bit_below x (suc i)) (bit_in_row bits a x (suc i) have_a (omega (arith, less, long_a))) long_b have_b (xor_row_before bits k row.nets products.nets products.plan agrees) in
+        let anded = and_row_bits bits k (slice_index a (suc i)) (bit_at x (suc i)) y b row.plan (bit_below x (suc i)) (value_in_row bits a (bit_at x) (suc i) have_a (omega (arith, less, long_a))) long_b have_b (xor_row_before bits k row.nets products.nets products.plan agrees) in
         let before = kept anded.before in
         let added = xor_row_bits bits k (running_sum g x y (suc i)) (bit_at x (suc i) * y) row.nets products.nets products.plan (before.long (omega arith)) anded.long before.have anded.have agrees in
         record { before = anded.before; long = added.long; have = added.have })
@@ -135,11 +122,8 @@ module _ (bits : List Bool) (k g : ℕ) where
     rounds_bits : (outer : ℕ) → Agrees bits (rounds outer k g a b).plan → IsSum k (rounds outer k g a b)
     rounds_bits outer =
         each_keeps (λ i row. Agrees bits row.plan → IsSum i row) (round k g a b) (begun_row (begun outer)) k
-        (λ agrees. record { long = λ some. absurd (omega (arith, some)); have = none })
+        (λ agrees. record { long = λ some. absurd (omega (arith, some)); have = have_none bits (bit_at (running_sum g x y 0)) })
         (λ i row less kept. round_bits i row less kept)
-      where
-        none : HaveBits bits [] (running_sum g x y 0)
-        none j n got = absurd (cc)
 
   buffered_bits : (z : List ℕ) (row : Row) → Agrees bits (buffered k z row) → Agrees bits row.plan × ((l : ℕ) → l < k → bit_at_net bits (slice_index z l) ≡ bit_at_net bits (slice_index row.nets l))
   buffered_bits z row agrees =
@@ -160,4 +144,4 @@ montgomery_bits bits outer k g ok odd x y r x_below y_below inverse a b z long_a
     let through = buffered_bits bits k g z (rounds outer k g a b) agrees in
     let sum = rounds_bits bits k g ok odd x y x_below y_below a b long_a long_b have_a have_b outer through.0 in
     let long : length (rounds outer k g a b).nets ≡ k = sum.long (omega (arith, ok.some)) in
-    through.1 l less ∙ bit_in_row bits (rounds outer k g a b).nets (running_sum g x y k) l sum.have (omega (arith, less, long)) ∙ ap (λ v. bit_at v l) (montgomery k g ok odd x y r x_below y_below inverse)
+    through.1 l less ∙ value_in_row bits (rounds outer k g a b).nets (bit_at (running_sum g x y k)) l sum.have (omega (arith, less, long)) ∙ ap (λ v. bit_at v l) (montgomery k g ok odd x y r x_below y_below inverse)

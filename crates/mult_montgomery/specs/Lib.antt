@@ -1,3 +1,1 @@
-pub mod Row
 pub mod Montgomery
-pub mod private

@@ -3,7 +3,7 @@
 use Rattle.std.specs.Prelude.{◌≡◌, ℕ, ◌+◌, ◌-◌, ◌==◌, List, [], ◌∷◌, ◌++◌, None, Some, slice_index, if◌then◌else◌}
 use Rattle.std.specs.Int.{bit_at}
 use Rattle.net_plan.specs.Plan.{Plan, begun, with_buffer, with_xor, each}
-use Rattle.mult_montgomery.specs.Row.{Row, begun_row, with_net, with_driven, and_row, xor_row}
+use Rattle.net_rows.specs.Row.{Row, begun_row, with_net, row_by, and_row, xor_row}
 
 -- the gates after place j of the sum divided by x: one more where coefficient j + 1 of the modulus g is 1
 abbrev pub moved_plan : (g : ℕ) → List ℕ → ℕ → Plan → Plan
@@ -13,13 +13,9 @@ moved_plan g sum j plan = if bit_at g (j + 1) == 1 then with_xor None (slice_ind
 abbrev pub moved_net : (g : ℕ) → List ℕ → ℕ → Plan → ℕ
 moved_net g sum j plan = if bit_at g (j + 1) == 1 then plan.next else slice_index sum (j + 1)
 
--- one more place of the sum divided by x
-abbrev pub moved_step : (g : ℕ) → List ℕ → ℕ → Row → Row
-moved_step g sum j row = record { plan = moved_plan g sum j row.plan; nets = row.nets ++ moved_net g sum j row.plan ∷ [] }
-
 -- the sum divided by x: the last place is place 0 itself
 abbrev pub divided_row : (k g : ℕ) → Row → Row
-divided_row k g sum = with_net (slice_index sum.nets 0) (each (k - 1) (moved_step g sum.nets) (begun_row sum.plan))
+divided_row k g sum = with_net (slice_index sum.nets 0) (row_by (k - 1) (moved_plan g sum.nets) (moved_net g sum.nets) sum.plan)
 
 -- the products of coefficient i of the first factor, to which the row before is added; the first ones stand alone
 abbrev pub summed_row : (k : ℕ) → List ℕ → List ℕ → ℕ → Row → Row

@@ -3,4 +3,3 @@
 #![tactic(auto)]
 
 mod rounds;
-mod rows;

@@ -1,8 +1,7 @@
 use Rattle.std.proofs.Common.{◌≡◌, ◌+◌, ◌*◌, ◌≤◌, ◌<◌, length}
 use Rattle.net_plan.specs.Plan.{each}
-use Rattle.mult_montgomery.specs.Row.{begun_row}
 use Rattle.mult_montgomery.specs.Montgomery.{round as round_of}
-use Rattle.mult_montgomery.specs.private.RowOf.{row_of}
+use Rattle.net_rows.specs.Row.{begun_row, row_of}
 use Rattle.mult_montgomery.proofs.rounds.rounds.Given as goal
 
 abbrev pub invariant-loop-i : goal.invariant-loop-i

@@ -1,13 +1,13 @@
 //! Rows of gates, one for each place.
 ghost use Rattle.std.specs.Prelude.{◌≡◌, ◌+◌, ◌≤◌, IfOk, OnOk, length};
 ghost use Rattle.net_plan.specs.PlanShape.{HasRoom};
-ghost use Rattle.mult_montgomery.specs.Row.{and_row as and_row_of, xor_row as xor_row_of};
+ghost use Rattle.net_rows.specs.Row.{and_row as and_row_of, xor_row as xor_row_of};
 
 use net_plan::PlanMaker;
 use std::alloc::{AllocError, Global};
 
-// Place by place: the net `a` and the net of the row.
-pub(crate) fn and_row(
+/// Place by place: the net `a` and the net of the row.
+pub fn and_row(
     alloc: Global,
     plan: &mut PlanMaker,
     a: u32,
@@ -27,8 +27,8 @@ pub(crate) fn and_row(
     Ok(nets)
 }
 
-// Place by place: one net or the other, but not both.
-pub(crate) fn xor_row(
+/// Place by place: one net or the other, but not both.
+pub fn xor_row(
     alloc: Global,
     plan: &mut PlanMaker,
     first: &[u32],

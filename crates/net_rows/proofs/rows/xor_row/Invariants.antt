@@ -1,7 +1,7 @@
 use Rattle.std.proofs.Common.{◌≡◌, ◌+◌, length}
-use Rattle.mult_montgomery.specs.Row.{xor_row as xor_row_of}
-use Rattle.mult_montgomery.specs.private.RowOf.{row_of}
-use Rattle.mult_montgomery.proofs.rows.xor_row.Given as goal
+use Rattle.net_rows.specs.Row.{xor_row as xor_row_of}
+use Rattle.net_rows.specs.Row.{row_of}
+use Rattle.net_rows.proofs.rows.xor_row.Given as goal
 
 abbrev pub invariant-loop-j : goal.invariant-loop-j
 invariant-loop-j l =
