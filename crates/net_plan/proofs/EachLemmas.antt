@@ -1,10 +1,10 @@
 -- Steps one after another, and lists one after another.
-use Rattle.std.proofs.Common.{◌≡◌, ◌⊎◌, ◌∙◌, ap, sym, refl, inl, inr, ℕ, zero, suc, ◌<◌, ◌≤◌, ◌+◌, List, [], ◌∷◌, ◌++◌, length, Option, None, Some, arith}
-use Rattle.std.specs.Prelude.{slice_get}
+use Rattle.std.proofs.Common.{◌≡◌, ◌∙◌, ap, refl, inl, inr, ℕ, zero, suc, ◌<◌, ◌≤◌, Bool, List, None, Some, arith}
 use Rattle.net_core.specs.Lists.{Has}
 use Rattle.graph_core.proofs.GraphLemmas.{nat_eq_or}
 use Rattle.net_core.proofs.DriverLemmas.{Has_cases}
-use Rattle.net_plan.specs.Plan.{each, gathered}
+use Rattle.net_plan.specs.Plan.{Plan, each, gathered}
+use Rattle.net_plan.specs.PlanValue.{Agrees}
 
 -- what holds at first and is kept by each step holds after all
 pub each_keeps : {S : Type 0} (P : ℕ → S → Type 0) (step : ℕ → S → S) (start : S) (n : ℕ) → P 0 start → ((i : ℕ) (s : S) → i < n → P i s → P (suc i) (step i s)) → P n (each n step start)
@@ -33,3 +33,7 @@ gathered_has f (suc n) x has =
       | inl before ↦ let found = gathered_has f n x before in (found.0, omega (arith, found.1), found.2)
       | inr here ↦ (n, omega arith, here)
     ]
+
+-- what agrees with all gates agrees with those of the first steps
+pub agrees_each : (bits : List Bool) (step : ℕ → Plan → Plan) (start : Plan) (i n : ℕ) → ((j : ℕ) (plan : Plan) → Agrees bits (step j plan) → Agrees bits plan) → i ≤ n → Agrees bits (each n step start) → Agrees bits (each i step start)
+agrees_each bits step start i n before less = each_leads (λ p q. Agrees bits q → Agrees bits p) step start i n (λ p agrees. agrees) (λ p q r first second agrees. first (second agrees)) before less

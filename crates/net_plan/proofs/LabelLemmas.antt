@@ -1,20 +1,17 @@
 -- What the nets of a plan are called.
-use Rattle.std.proofs.Common.{◌≡◌, ◌≢◌, ◌⊎◌, ◌∙◌, ap, sym, refl, subst, inl, inr, ℕ, zero, suc, ◌<◌, ◌≤◌, ◌+◌, ◌-◌, ◌^◌, Bool, true, false, ◌&&◌, cond, List, [], ◌∷◌, ◌++◌, length, map, Option, None, Some, arith}
+use Rattle.std.proofs.Common.{◌≡◌, ◌⊎◌, ◌∙◌, ap, sym, refl, subst, inl, inr, ℕ, zero, suc, ◌<◌, ◌≤◌, ◌+◌, ◌^◌, Bool, true, false, ◌&&◌, List, [], ◌∷◌, ◌++◌, length, map, Option, None, Some, arith}
 use Rattle.std.specs.Prelude.{slice_get}
 use Rattle.std.specs.List.{range_with_len}
 use Rattle.std.specs.Option.{option_map_or}
 use Rattle.std.specs.Str.{bytes_eq}
 use Rattle.std.proofs.lemmas.Slice.Eq.{bytes_eq-Decides}
 use Rattle.std.specs.Fmt.{decimal}
-use Rattle.std.proofs.lemmas.Fmt.{decimal_injective, decimal_nonempty, length-decimal-le}
-use Rattle.graph_core.proofs.ListLemmas.{get_below}
+use Rattle.std.proofs.lemmas.Fmt.{decimal_injective, length-decimal-le}
 use Rattle.net_core.specs.Inside.{IsNetName}
-use Rattle.net_core.specs.Lists.{Has}
 use Rattle.net_core.specs.NetList.{LabelValue, is_named, number_from}
 use Rattle.net_core.proofs.DriverLemmas.{from_map}
 use Rattle.net_core.proofs.PlaceLemmas.{first_at}
-use Rattle.net_plan.specs.Plan.{Plan}
-use Rattle.net_plan.specs.MadeNet.{named, inner_name, labels_of}
+use Rattle.net_plan.specs.MadeNet.{named, inner_name, labels_with}
 use Rattle.net_plan.specs.Makeable.{AreNames, IsPrefix}
 
 -- an element of two lists, one after the other, is in the first or that far in the second
@@ -40,45 +37,45 @@ pub append_long : {X : Type 0} (xs ys : List X) → length (xs ++ ys) ≡ length
 append_long [] ys = omega arith
 append_long (x ∷ xs) ys = omega (arith, append_long xs ys)
 
-append_same : (p xs ys : List ℕ) → p ++ xs ≡ p ++ ys → xs ≡ ys
+pub append_same : (p xs ys : List ℕ) → p ++ xs ≡ p ++ ys → xs ≡ ys
 append_same [] xs ys same = same
 append_same (b ∷ p) xs ys same = append_same p xs ys (tails same)
   where
     tails : {v w : List ℕ} → b ∷ v ≡ b ∷ w → v ≡ w
     tails e = cc
 
-both : (a b : Bool) → (a && b) ≡ true → (a ≡ true) × (b ≡ true)
+pub both : (a b : Bool) → (a && b) ≡ true → (a ≡ true) × (b ≡ true)
 both true b e = (refl, e)
 both false b e = absurd (cc)
 
-module _ (names : List (List ℕ)) (prefix : List ℕ) (plan : Plan) (are : AreNames names) (is : IsPrefix names prefix) (from : length names ≤ plan.next) (few : plan.next ≤ 2 ^ 20) where
-  pub labels_long : length (labels_of names prefix plan) ≡ plan.next
-  labels_long = omega (arith, append_long (map named names) (map (λ i. named (inner_name prefix i)) (range_with_len 0 (plan.next - length names))), map_long named names, map_long (λ i. named (inner_name prefix i)) (range_with_len 0 (plan.next - length names)), range_long 0 (plan.next - length names), from)
+module _ (names : List (List ℕ)) (prefix : List ℕ) (count : ℕ) (are : AreNames names) (is : IsPrefix names prefix) (few : length names + count ≤ 2 ^ 20) where
+  pub labels_long : length (labels_with names prefix count) ≡ length names + count
+  labels_long = omega (arith, append_long (map named names) (map (λ i. named (inner_name prefix i)) (range_with_len 0 count)), map_long named names, map_long (λ i. named (inner_name prefix i)) (range_with_len 0 count), range_long 0 count)
 
   -- a label is that of an outer net, or of the inner net so far after them
-  pub label_is : (n : ℕ) (label : LabelValue) → slice_get (labels_of names prefix plan) n ≡ Some label →
-      ((name : List ℕ) × (slice_get names n ≡ Some name) × (label ≡ named name)) ⊎ ((i : ℕ) × (i < 2 ^ 20) × (n ≡ length names + i) × (label ≡ named (inner_name prefix i)))
+  pub label_is : (n : ℕ) (label : LabelValue) → slice_get (labels_with names prefix count) n ≡ Some label →
+      ((name : List ℕ) × (slice_get names n ≡ Some name) × (label ≡ named name)) ⊎ ((i : ℕ) × (i < count) × (n ≡ length names + i) × (label ≡ named (inner_name prefix i)))
   label_is n label got =
-      elim (got_append (map named names) (map (λ i. named (inner_name prefix i)) (range_with_len 0 (plan.next - length names))) n label got) [
+      elim (got_append (map named names) (map (λ i. named (inner_name prefix i)) (range_with_len 0 count)) n label got) [
         | inl w ↦ let found = from_map named names n label w.1 in inl (found.0, found.1, sym found.2)
         | inr w ↦
-            let found = from_map (λ i. named (inner_name prefix i)) (range_with_len 0 (plan.next - length names)) w.0 label w.2 in
-            let place = got_range 0 (plan.next - length names) w.0 found.0 found.1 in
-            inr (found.0, omega (arith, place.0, place.1, few, from), omega (arith, place.0, w.1, map_long named names), sym found.2)
+            let found = from_map (λ i. named (inner_name prefix i)) (range_with_len 0 count) w.0 label w.2 in
+            let place = got_range 0 count w.0 found.0 found.1 in
+            inr (found.0, omega (arith, place.0, place.1), omega (arith, place.0, w.1, map_long named names), sym found.2)
       ]
 
   inner_named : (i : ℕ) → i < 2 ^ 20 → IsNetName (inner_name prefix i)
   inner_named i less = (omega (arith, append_long prefix (decimal i), is.some), omega (arith, append_long prefix (decimal i), is.short, length-decimal-le 7 i (omega arith) (omega (arith, less)) (omega (arith, less))))
 
-  pub label_named : (n : ℕ) (label : LabelValue) → slice_get (labels_of names prefix plan) n ≡ Some label → (label.named ≡ true) × IsNetName label.text
+  pub label_named : (n : ℕ) (label : LabelValue) → slice_get (labels_with names prefix count) n ≡ Some label → (label.named ≡ true) × IsNetName label.text
   label_named n label got =
       elim (label_is n label got) [
         | inl w ↦ let P : LabelValue → Type 0 = λ l. (l.named ≡ true) × IsNetName l.text in subst P (sym w.2) (refl, are.each w.0 (n, w.1))
-        | inr w ↦ let P : LabelValue → Type 0 = λ l. (l.named ≡ true) × IsNetName l.text in subst P (sym w.3) (refl, inner_named w.0 w.1)
+        | inr w ↦ let P : LabelValue → Type 0 = λ l. (l.named ≡ true) × IsNetName l.text in subst P (sym w.3) (refl, inner_named w.0 (omega (arith, w.1, few)))
       ]
 
   -- two nets of one text are one
-  pub labels_apart : (n m : ℕ) (x y : LabelValue) → slice_get (labels_of names prefix plan) n ≡ Some x → slice_get (labels_of names prefix plan) m ≡ Some y → x.text ≡ y.text → n ≡ m
+  pub labels_apart : (n m : ℕ) (x y : LabelValue) → slice_get (labels_with names prefix count) n ≡ Some x → slice_get (labels_with names prefix count) m ≡ Some y → x.text ≡ y.text → n ≡ m
   labels_apart n m x y first second same =
       elim (label_is n x first) [
         | inl v ↦ elim (label_is m y second) [
@@ -95,7 +92,7 @@ module _ (names : List (List ℕ)) (prefix : List ℕ) (plan : Plan) (are : AreN
               absurd (is.fresh w.0 (decimal v.0) (m, w.1) e)
           | inr w ↦
               let e : prefix ++ decimal v.0 ≡ prefix ++ decimal w.0 = sym (ap (λ (l : LabelValue). l.text) v.3) ∙ (same ∙ ap (λ (l : LabelValue). l.text) w.3) in
-              let i : v.0 ≡ w.0 = decimal_injective v.0 w.0 (omega (arith, v.1)) (omega (arith, w.1)) (append_same prefix (decimal v.0) (decimal w.0) e) in
+              let i : v.0 ≡ w.0 = decimal_injective v.0 w.0 (omega (arith, v.1, few)) (omega (arith, w.1, few)) (append_same prefix (decimal v.0) (decimal w.0) e) in
               omega (arith, v.2, w.2, i)
         ]
       ]
@@ -107,16 +104,16 @@ module _ (names : List (List ℕ)) (prefix : List ℕ) (plan : Plan) (are : AreN
       let P : LabelValue → Type 0 = λ x. (x.named && bytes_eq label.text x.text) ≡ true in
       subst P (sym same) (rw (named, (bytes_eq-Decides label.text label.text).1 refl) refl)
 
-  missed_by : (n k : ℕ) (label : LabelValue) (at : Option LabelValue) → slice_get (labels_of names prefix plan) n ≡ Some label → slice_get (labels_of names prefix plan) k ≡ at → k < n → option_map_or (is_named label.text) at false ≡ true → ⊥
+  missed_by : (n k : ℕ) (label : LabelValue) (at : Option LabelValue) → slice_get (labels_with names prefix count) n ≡ Some label → slice_get (labels_with names prefix count) k ≡ at → k < n → option_map_or (is_named label.text) at false ≡ true → ⊥
   missed_by n k label None got is less hit = absurd (cc)
   missed_by n k label (Some l) got is less hit =
       let parts = both l.named (bytes_eq label.text l.text) hit in
       omega (arith, less, labels_apart n k label l got is ((bytes_eq-Decides label.text l.text).0 parts.1))
 
   -- a net is found by what it is called
-  pub label_found : (n : ℕ) (label : LabelValue) → slice_get (labels_of names prefix plan) n ≡ Some label → number_from 0 (labels_of names prefix plan) label.text ≡ Some n
+  pub label_found : (n : ℕ) (label : LabelValue) → slice_get (labels_with names prefix count) n ≡ Some label → number_from 0 (labels_with names prefix count) label.text ≡ Some n
   label_found n label got =
-      first_at 0 (labels_of names prefix plan) label.text n
-        (hit_by n label (slice_get (labels_of names prefix plan) n) got (label_named n label got).0)
-        (λ k less hit. missed_by n k label (slice_get (labels_of names prefix plan) k) got refl less hit)
+      first_at 0 (labels_with names prefix count) label.text n
+      (hit_by n label (slice_get (labels_with names prefix count) n) got (label_named n label got).0)
+      (λ k less hit. missed_by n k label (slice_get (labels_with names prefix count) k) got refl less hit)
       ∙ ap Some (omega arith)

@@ -1,10 +1,10 @@
 -- Gates of a plan drive each net once, and read no net that is driven later.
-use Rattle.std.proofs.Common.{◌≡◌, ◌≢◌, ◌⊎◌, ◌∙◌, ap, sym, refl, subst, inl, inr, ℕ, zero, suc, ◌<◌, ◌≤◌, ◌+◌, ◌^◌, cond, List, [], ◌∷◌, ◌++◌, length, map, Option, None, Some, unwrap_or, arith}
-use Rattle.std.specs.Prelude.{slice_get, ◌==◌}
+use Rattle.std.proofs.Common.{◌≡◌, ◌∙◌, ap, refl, subst, inl, inr, ℕ, zero, suc, ◌<◌, ◌≤◌, ◌+◌, ◌^◌, cond, List, [], ◌∷◌, ◌++◌, length, map, Option, None, Some, arith}
+use Rattle.std.specs.Prelude.{◌==◌}
 use Rattle.graph_core.proofs.GraphLemmas.{nat_eq_or}
 use Rattle.net_core.specs.GateValue.{GateValue}
 use Rattle.net_core.specs.Lists.{Has, times}
-use Rattle.net_core.proofs.DriverLemmas.{Has_cases, Has_left, none_here, one_here, times_append}
+use Rattle.net_core.proofs.DriverLemmas.{Has_cases, none_here, one_here, times_append}
 use Rattle.net_plan.specs.Plan.{Plan, begun, driven_by, next_after, with_gate, with_zero, with_buffer, with_and, with_xor, with_links, with_chain, between, chain_net}
 use Rattle.net_plan.specs.PlanShape.{outs, CanRead, ReadsBefore, targets_with, IsTarget, IsWellMade}
 

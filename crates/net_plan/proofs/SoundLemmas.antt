@@ -1,6 +1,6 @@
 -- The net list of a plan is sound.
-use Rattle.std.proofs.Common.{◌≡◌, ◌≢◌, ◌⊎◌, ◌∙◌, ap, sym, refl, subst, inl, inr, ℕ, zero, suc, ◌<◌, ◌≤◌, ◌+◌, ◌^◌, Bool, true, false, cond, List, [], ◌∷◌, ◌++◌, length, map, get_or, Option, None, Some, arith}
-use Rattle.std.specs.Prelude.{slice_get, All, ◌==◌, nat_lt}
+use Rattle.std.proofs.Common.{◌≡◌, ◌≢◌, ◌⊎◌, ◌∙◌, ap, refl, subst, inl, inr, ℕ, zero, suc, ◌<◌, ◌≤◌, ◌+◌, ◌-◌, ◌^◌, cond, List, [], ◌∷◌, length, map, get_or, Some, arith}
+use Rattle.std.specs.Prelude.{All, ◌==◌, nat_lt}
 use Rattle.std.proofs.lemmas.Bool.Decides.{nat_tests}
 use Rattle.std.proofs.lemmas.Option.{slice_get-get_or}
 use Rattle.graph_core.specs.Walk.{IsChain, IsCycleBy}
@@ -9,12 +9,12 @@ use Rattle.net_core.specs.LatchValue.{LatchValue}
 use Rattle.net_core.specs.Lists.{Has, times}
 use Rattle.net_core.specs.NetList.{NetList, nets}
 use Rattle.net_core.specs.Inside.{IsInside, GateIsInside, LatchIsInside}
-use Rattle.net_core.specs.Sound.{IsSound, HasOneDriverEach, Needs, HasCycle, sources, driven, drivers}
+use Rattle.net_core.specs.Sound.{IsSound, HasOneDriverEach, Needs, drivers}
 use Rattle.net_core.proofs.DriverLemmas.{times_append, times_get, times_some, Has_map, Has_left, Has_right}
 use Rattle.net_plan.specs.Plan.{Plan}
-use Rattle.net_plan.specs.PlanShape.{outs, IsWellMade}
-use Rattle.net_plan.specs.MadeNet.{made_net, labels_of}
-use Rattle.net_plan.specs.Makeable.{AreNames, IsPrefix, IsMakeable, driven_outside}
+use Rattle.net_plan.specs.PlanShape.{outs}
+use Rattle.net_plan.specs.MadeNet.{made_net}
+use Rattle.net_plan.specs.Makeable.{IsMakeable, driven_outside}
 use Rattle.net_plan.proofs.LabelLemmas.{labels_long, label_named, label_found}
 
 pub all_has : {X : Type 0} (P : X → Type 0) (xs : List X) → ((x : X) → Has xs x → P x) → All P xs
@@ -53,8 +53,11 @@ module _ (names : List (List ℕ)) (prefix : List ℕ) (inputs outputs : List �
   abbrev outside : List ℕ
   outside = driven_outside inputs latches
 
+  few_labels : length names + (plan.next - length names) ≤ 2 ^ 20
+  few_labels = omega (arith, fits.few, fits.made.from)
+
   pub nets_are : nets net ≡ plan.next
-  nets_are = labels_long names prefix plan fits.names_fit fits.prefix_fits fits.made.from (omega (arith, fits.few))
+  nets_are = omega (arith, labels_long names prefix (plan.next - length names) fits.names_fit fits.prefix_fits few_labels, fits.made.from)
 
   out_low : (g : GateValue) → Has plan.gates g → g.out < plan.next
   out_low g has =
@@ -74,7 +77,7 @@ module _ (names : List (List ℕ)) (prefix : List ℕ) (inputs outputs : List �
   latch_inside : (l : LatchValue) → Has latches l → LatchIsInside (nets net) l
   latch_inside l has = (omega (arith, fits.nexts_low l has, nets_are), omega (arith, fits.driven_low l.out (Has_right inputs (map (λ (x : LatchValue). x.out) latches) l.out (Has_map (λ (x : LatchValue). x.out) latches l has)), fits.made.from, nets_are))
 
-  inside : IsInside net
+  pub inside : IsInside net
   inside = record {
     few_nets = omega (arith, nets_are, fits.few);
     few_gates = omega (arith, fits.made.count, fits.few);
@@ -82,7 +85,7 @@ module _ (names : List (List ℕ)) (prefix : List ℕ) (inputs outputs : List �
     outputs = all_has (λ n. n < nets net) outputs (λ n has. omega (arith, fits.outputs_low n has, nets_are));
     gates = all_has (GateIsInside (nets net)) plan.gates gate_inside;
     latches = all_has (LatchIsInside (nets net)) latches latch_inside;
-    names = λ n label got is. ((label_named names prefix plan fits.names_fit fits.prefix_fits fits.made.from (omega (arith, fits.few)) n label got).1, label_found names prefix plan fits.names_fit fits.prefix_fits fits.made.from (omega (arith, fits.few)) n label got);
+    names = λ n label got is. ((label_named names prefix (plan.next - length names) fits.names_fit fits.prefix_fits few_labels n label got).1, label_found names prefix (plan.next - length names) fits.names_fit fits.prefix_fits few_labels n label got);
   }
 
   no_source : (n : ℕ) → length names ≤ n → times n outside ≡ 0

@@ -1,14 +1,13 @@
 -- The bits of nets that gates of a plan drive.
-use Rattle.std.proofs.Common.{◌≡◌, ◌∙◌, ap, sym, refl, ℕ, zero, suc, ◌<◌, ◌+◌, ◌*◌, Bool, true, false, cond, List, [], ◌∷◌, ◌++◌, length, Option, None, Some, unwrap_or, arith}
+use Rattle.std.proofs.Common.{◌≡◌, ◌∙◌, ap, sym, refl, ℕ, zero, suc, ◌<◌, ◌+◌, ◌*◌, Bool, true, false, cond, List, [], ◌∷◌, ◌++◌, length, Option, None, unwrap_or, arith}
 use Rattle.std.specs.Prelude.{bit_xor, ◌==◌}
 use Rattle.std.specs.Int.{bit_at}
 use Rattle.std.specs.Int.Bits.{xor_assoc, xor_zero_r}
 use Rattle.gf_field.specs.Polynomial.{sum_of_first}
 use Rattle.net_core.specs.GateValue.{GateValue}
-use Rattle.net_core.specs.Lists.{Has}
-use Rattle.net_core.specs.Value.{bit_of, index_of, IsRight}
+use Rattle.net_core.specs.Value.{bit_of, IsRight}
 use Rattle.net_core.proofs.DriverLemmas.{Has_left, Has_right}
-use Rattle.net_plan.specs.Plan.{Plan, driven_by, with_gate, with_zero, with_buffer, with_and, with_xor, with_links, with_chain, between, chain_net, gathered, where_so}
+use Rattle.net_plan.specs.Plan.{Plan, driven_by, with_gate, with_zero, with_buffer, with_and, with_xor, with_links, with_chain, chain_net, gathered, where_so}
 use Rattle.net_plan.specs.PlanValue.{Agrees, bit_at_net, parity}
 
 -- the gate that was added last

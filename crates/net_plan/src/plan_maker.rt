@@ -41,6 +41,13 @@ impl PlanMaker {
         self.next
     }
 
+    // The gates so far.
+    pub(crate) fn gates(&self) -> &[PlannedGate]
+        ensures { result.now ≡ self.now.gates }
+    {
+        &self.gates
+    }
+
     /// A gate that is 1 where both nets are drives the next inner net, whose number it gives.
     pub fn and(&mut self, a: u32, b: u32) -> Result<u32, AllocError>
         requires room { HasRoom self.old 1 }

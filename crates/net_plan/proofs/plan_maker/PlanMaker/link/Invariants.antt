@@ -11,4 +11,4 @@ abbrev pub invariant-loop-net : goal.invariant-loop-net
 invariant-loop-net l =
     (l.self.next ≡ l.fn.self.next + l.net-index)
     × ((target : Option ℕ) → with_links target l.fn.a l.fn.b l.fn.rest (plan_of l.fn.self.next l.fn.self.gates)
-        ≡ with_links target l.total l.last (drop l.net-index l.fn.rest) (plan_of l.self.next l.self.gates))
+    ≡ with_links target l.total l.last (drop l.net-index l.fn.rest) (plan_of l.self.next l.self.gates))
