@@ -36,6 +36,19 @@ have_push bits nets n f have last j m got = elim (got_push nets n j m got) [
   | inr here ↦ ap (bit_at_net bits) here.1 ∙ last ∙ ap f (sym here.0)
 ]
 
+-- more nets, whose values stand at the places after
+pub have_append : (bits : List Bool) (xs ys : List ℕ) (f : ℕ → ℕ) → HaveValues bits xs f → HaveValues bits ys (λ l. f (length xs + l)) → HaveValues bits (xs ++ ys) f
+have_append bits [] ys f first second j n got = second j n got ∙ ap f (none j)
+  where
+    none : (j : ℕ) → 0 + j ≡ j
+    none j = omega arith
+have_append bits (x ∷ xs) ys f first second zero n got = first zero n got
+have_append bits (x ∷ xs) ys f first second (suc j) n got =
+    have_append bits xs ys (λ l. f (suc l)) (λ l net at. first (suc l) net at) (λ l net at. second l net at ∙ ap f (moved (length xs) l)) j n got
+  where
+    moved : (k l : ℕ) → suc k + l ≡ suc (k + l)
+    moved k l = omega arith
+
 -- a row of one net more
 pub row_push : (bits : List Bool) (plan : Plan) (j : ℕ) (f : ℕ → ℕ) (n : ℕ) (row after : Row) → after.nets ≡ row.nets ++ n ∷ [] → IsRowOf bits plan j f row → bit_at_net bits n ≡ f j → IsRowOf bits plan (suc j) f after
 row_push bits plan j f n row after is row_of last = record {

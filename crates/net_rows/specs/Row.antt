@@ -19,6 +19,10 @@ begun_row plan = record { plan = plan; nets = [] }
 abbrev pub with_net : ℕ → Row → Row
 with_net n row = record { plan = row.plan; nets = row.nets ++ n ∷ [] }
 
+-- the row whose nets come after these
+abbrev pub with_nets : List ℕ → Row → Row
+with_nets nets row = record { plan = row.plan; nets = nets ++ row.nets }
+
 -- place by place, k places: gates are added, and a net is taken that depends on the gates before
 abbrev pub row_by : ℕ → (ℕ → Plan → Plan) → (ℕ → Plan → ℕ) → Plan → Row
 row_by k after net plan = each k (λ j row. record { plan = after j row.plan; nets = row.nets ++ net j row.plan ∷ [] }) (begun_row plan)

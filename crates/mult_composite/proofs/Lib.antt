@@ -1,0 +1,3 @@
+pub mod PlaceLemmas
+pub mod ProductLemmas
+pub mod SumLemmas

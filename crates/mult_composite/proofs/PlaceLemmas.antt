@@ -1,0 +1,45 @@
+-- Places that are counted coefficient by coefficient.
+use Rattle.std.proofs.Math.Nat.{suc-mul}
+use Rattle.std.proofs.Common.{◌≡◌, ℕ, zero, suc, refl, sym, ◌∙◌, ap, ap₂, ◌<◌, ◌≤◌, ◌^◌, ◌+◌, ◌*◌, ◌-◌, ◌/◌, ◌%◌, arith, mul_comm}
+use Rattle.std.specs.Prelude.{bit_xor}
+use Rattle.std.specs.Int.{bit_at}
+use Rattle.std.proofs.lemmas.Nat.{div-mul-add, mod-mul-add, div-add-mod', div_below, mod_below, shr-shr, field_of, mod-pow-add}
+use Rattle.gf_field.specs.Polynomial.{coefficient, sum_of_first}
+use Rattle.mult_products.proofs.SumLemmas.{sum_same}
+use Rattle.mult_products.proofs.TowerLemmas.{sum_split}
+
+-- a sum over all places is one over the coefficients and then over the bits
+pub sum_flat : (m n : ℕ) (f : ℕ → ℕ → ℕ) → sum_of_first (m * n) (λ q. f (q / n) (q % n)) ≡ sum_of_first m (λ i. sum_of_first n (λ j. f i j))
+sum_flat zero n f = ap (λ l. sum_of_first l (λ q. f (q / n) (q % n))) (none n)
+  where
+    none : (n : ℕ) → 0 * n ≡ 0
+    none n = omega arith
+sum_flat (suc m) n f =
+    ap (λ l. sum_of_first l (λ q. f (q / n) (q % n))) (suc-mul m n)
+    ∙ sum_split (m * n) n (λ q. f (q / n) (q % n))
+    ∙ ap₂ bit_xor (sum_flat m n f) (sum_same n (λ j. f ((m * n + j) / n) ((m * n + j) % n)) (λ j. f m j) (λ j less. ap₂ f (div-mul-add m n j less) (mod-mul-add m n j less)))
+
+-- the low bits of a number
+low_bit : (v n l : ℕ) → l < n → bit_at (v % 2 ^ n) l ≡ bit_at v l
+low_bit v n l less =
+    ap (λ e. bit_at (v % 2 ^ e) l) (split n l less)
+    ∙ ap (λ w. w % 2) (field_of v (n - l - 1 + 1) l)
+    ∙ ap (λ w. w % 2) (mod-pow-add (v / 2 ^ l) (n - l - 1) 1)
+    ∙ even (v / 2 ^ l / 2 % 2 ^ (n - l - 1)) (v / 2 ^ l)
+  where
+    split : (n l : ℕ) → l < n → n ≡ n - l - 1 + 1 + l
+    split n l less = omega arith
+
+    even : (u w : ℕ) → (u * 2 + w % 2) % 2 ≡ w % 2
+    even u w = omega arith
+
+-- a bit of a coefficient
+pub coefficient_bit : (n x i l : ℕ) → l < n → bit_at (coefficient n x i) l ≡ bit_at x (n * i + l)
+coefficient_bit n x i l less = low_bit (x / 2 ^ (n * i)) n l less ∙ ap (λ w. w % 2) (shr-shr x (n * i) l)
+
+-- a place of a word of m coefficients
+pub place_below : (n m i l : ℕ) → i < m → l < n → n * i + l < n * m
+place_below n m i l hi hl = ?
+
+pub place_is : (n p : ℕ) → n * (p / n) + p % n ≡ p
+place_is n p = ap (λ u. u + p % n) (mul_comm n (p / n)) ∙ div-add-mod' p n

@@ -1,0 +1,3 @@
+//! The multiplier of a tower as a netlist: the products of all coefficients, their sums by place, and the reduction of the
+//! high places.
+#![tactic(auto)]
