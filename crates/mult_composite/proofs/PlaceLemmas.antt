@@ -1,5 +1,5 @@
 -- Places that are counted coefficient by coefficient.
-use Rattle.std.proofs.Math.Nat.{suc-mul}
+use Rattle.std.proofs.Math.Nat.{suc-mul, mul-suc, mul-le-mul_left}
 use Rattle.std.proofs.Common.{◌≡◌, ℕ, zero, suc, refl, sym, ◌∙◌, ap, ap₂, ◌<◌, ◌≤◌, ◌^◌, ◌+◌, ◌*◌, ◌-◌, ◌/◌, ◌%◌, arith, mul_comm}
 use Rattle.std.specs.Prelude.{bit_xor}
 use Rattle.std.specs.Int.{bit_at}
@@ -39,7 +39,9 @@ coefficient_bit n x i l less = low_bit (x / 2 ^ (n * i)) n l less ∙ ap (λ w. 
 
 -- a place of a word of m coefficients
 pub place_below : (n m i l : ℕ) → i < m → l < n → n * i + l < n * m
-place_below n m i l hi hl = ?
+place_below n m i l hi hl =
+    let whole : n * suc i ≤ n * m = mul-le-mul_left n (omega (arith, hi)) in
+    omega (arith, whole, hl, mul-suc n i)
 
 pub place_is : (n p : ℕ) → n * (p / n) + p % n ≡ p
 place_is n p = ap (λ u. u + p % n) (mul_comm n (p / n)) ∙ div-add-mod' p n

@@ -1,6 +1,6 @@
 -- The bits of the products of coefficients.
 use Rattle.std.proofs.Math.Nat.{suc-mul}
-use Rattle.std.proofs.Common.{◌≡◌, ℕ, zero, suc, refl, sym, ◌∙◌, ap, ap₂, ◌<◌, ◌≤◌, ◌^◌, ◌+◌, ◌*◌, ◌-◌, ◌/◌, ◌%◌, ◌⊎◌, inl, inr, arith, List, [], ◌∷◌, ◌++◌, length, Bool, None, Some, subst}
+use Rattle.std.proofs.Common.{◌≡◌, ℕ, zero, suc, refl, sym, ◌∙◌, ap, ap₂, ◌<◌, ◌≤◌, ◌^◌, ◌+◌, ◌*◌, ◌-◌, ◌/◌, ◌%◌, ◌⊎◌, inl, inr, arith, List, [], ◌∷◌, ◌++◌, length, length-append, Bool, None, Some, subst}
 use Rattle.std.specs.Prelude.{bit_xor, slice_get, slice_index, ◌==◌}
 use Rattle.std.specs.Int.{bit_at}
 use Rattle.std.proofs.lemmas.Bool.{cases_lt}
@@ -25,6 +25,10 @@ use Rattle.mult_composite.proofs.PlaceLemmas.{sum_flat, coefficient_bit, place_b
 
 bit_below : (a i : ℕ) → bit_at a i < 2
 bit_below a i = omega arith
+
+-- bit p % n of the product of coefficients p / n / m of x and p / n % m of y
+abbrev pub product_value : (n g m x y : ℕ) → ℕ → ℕ
+product_value n g m x y p = bit_at (product 1 n bit_mul g (coefficient n x (p / n / m)) (coefficient n y (p / n % m))) (p % n)
 
 module _ (bits : List Bool) (n g m x y : ℕ) (ok : IsModulus n g) (a b : List ℕ) (long_a : length a ≡ n * m) (long_b : length b ≡ n * m) (have_a : HaveBits bits a x) (have_b : HaveBits bits b y) where
   abbrev mul : ℕ → ℕ → ℕ
@@ -86,32 +90,28 @@ module _ (bits : List Bool) (n g m x y : ℕ) (ok : IsModulus n g) (a b : List �
       let values = row_values bits after net n start before (bit_at (mul (coefficient n x i) (coefficient n y j))) (λ l p less agrees. chain_value bits None (list l) p agrees ∙ added_parity i j l plan are) agrees in
       record { before = are.before; long = values.long; have = values.have }
 
-  -- bit p % n of the product of coefficients (p / n) / m and (p / n) % m
-  abbrev pub product_value : ℕ → ℕ
-  product_value p = bit_at (mul (coefficient n x (p / n / m)) (coefficient n y (p / n % m))) (p % n)
-
-  pub all_values : (plan : Plan) → 1 ≤ m → Agrees bits (all_products n g m a b plan).plan → IsRowOf bits plan (m * m * n) product_value (all_products n g m a b plan)
+  pub all_values : (plan : Plan) → 1 ≤ m → Agrees bits (all_products n g m a b plan).plan → IsRowOf bits plan (m * m * n) (product_value n g m x y) (all_products n g m a b plan)
   all_values plan some =
-      each_keeps (λ q row. Agrees bits row.plan → IsRowOf bits plan (q * n) product_value row) (λ q row. with_nets row.nets (coefficient_product n g a b (q / m) (q % m) row.plan)) (begun_row plan) (m * m)
-      (λ agrees. record { before = agrees; long = sym (none n); have = have_none bits product_value })
+      each_keeps (λ q row. Agrees bits row.plan → IsRowOf bits plan (q * n) (product_value n g m x y) row) (λ q row. with_nets row.nets (coefficient_product n g a b (q / m) (q % m) row.plan)) (begun_row plan) (m * m)
+      (λ agrees. record { before = agrees; long = sym (none n); have = have_none bits (product_value n g m x y) })
       (λ q row less kept agrees. more q row less kept (product_values (q / m) (q % m) row.plan (div_below q m m some less) (mod_below q m some) agrees))
     where
       none : (n : ℕ) → 0 * n ≡ 0
       none n = omega arith
 
-      more : (q : ℕ) (row : Row) → q < m * m → (Agrees bits row.plan → IsRowOf bits plan (q * n) product_value row) → IsRowOf bits row.plan n (bit_at (mul (coefficient n x (q / m)) (coefficient n y (q % m)))) (coefficient_product n g a b (q / m) (q % m) row.plan) → IsRowOf bits plan (suc q * n) product_value (with_nets row.nets (coefficient_product n g a b (q / m) (q % m) row.plan))
+      more : (q : ℕ) (row : Row) → q < m * m → (Agrees bits row.plan → IsRowOf bits plan (q * n) (product_value n g m x y) row) → IsRowOf bits row.plan n (bit_at (mul (coefficient n x (q / m)) (coefficient n y (q % m)))) (coefficient_product n g a b (q / m) (q % m) row.plan) → IsRowOf bits plan (suc q * n) (product_value n g m x y) (with_nets row.nets (coefficient_product n g a b (q / m) (q % m) row.plan))
       more q row less kept is =
           let before = kept is.before in
           record {
             before = before.before;
-            long = length_append row.nets (coefficient_product n g a b (q / m) (q % m) row.plan).nets ∙ ap₂ (λ u v. u + v) before.long is.long ∙ sym (suc-mul q n);
-            have = have_append bits row.nets (coefficient_product n g a b (q / m) (q % m) row.plan).nets product_value before.have (λ l net got. is.have l net got ∙ sym (later l (omega (arith, within l net got, is.long))));
+            long = length-append row.nets (coefficient_product n g a b (q / m) (q % m) row.plan).nets ∙ ap₂ (λ u v. u + v) before.long is.long ∙ sym (suc-mul q n);
+            have = have_append bits row.nets (coefficient_product n g a b (q / m) (q % m) row.plan).nets (product_value n g m x y) before.have (λ l net got. is.have l net got ∙ sym (later l (omega (arith, within l net got, is.long))));
           }
         where
           within : (l net : ℕ) → slice_get (coefficient_product n g a b (q / m) (q % m) row.plan).nets l ≡ Some net → l < length (coefficient_product n g a b (q / m) (q % m) row.plan).nets
           within l net got = slice_get_within (coefficient_product n g a b (q / m) (q % m) row.plan).nets l net got
 
-          later : (l : ℕ) → l < n → product_value (length row.nets + l) ≡ bit_at (mul (coefficient n x (q / m)) (coefficient n y (q % m))) l
+          later : (l : ℕ) → l < n → (product_value n g m x y) (length row.nets + l) ≡ bit_at (mul (coefficient n x (q / m)) (coefficient n y (q % m))) l
           later l low =
-              ap (λ k. product_value (k + l)) (kept is.before).long
+              ap (λ k. (product_value n g m x y) (k + l)) (kept is.before).long
               ∙ ap₂ (λ u v. bit_at (mul (coefficient n x (u / m)) (coefficient n y (u % m))) v) (div-mul-add q n l low) (mod-mul-add q n l low)
