@@ -1,3 +1,4 @@
 pub mod PlaceLemmas
 pub mod ProductLemmas
 pub mod SumLemmas
+pub mod ShapeLemmas

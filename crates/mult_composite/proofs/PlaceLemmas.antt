@@ -1,5 +1,5 @@
 -- Places that are counted coefficient by coefficient.
-use Rattle.std.proofs.Math.Nat.{suc-mul, mul-suc, mul-le-mul_left}
+use Rattle.std.proofs.Math.Nat.{suc-mul, mul-suc, add-mul, mul-le-mul_left, mul-le-mul_right}
 use Rattle.std.proofs.Common.{◌≡◌, ℕ, zero, suc, refl, sym, ◌∙◌, ap, ap₂, ◌<◌, ◌≤◌, ◌^◌, ◌+◌, ◌*◌, ◌-◌, ◌/◌, ◌%◌, arith, mul_comm}
 use Rattle.std.specs.Prelude.{bit_xor}
 use Rattle.std.specs.Int.{bit_at}
@@ -45,3 +45,24 @@ place_below n m i l hi hl =
 
 pub place_is : (n p : ℕ) → n * (p / n) + p % n ≡ p
 place_is n p = ap (λ u. u + p % n) (mul_comm n (p / n)) ∙ div-add-mod' p n
+
+-- a place of the products of all coefficients
+pub pair_place : (n m i j l : ℕ) → i < m → j < m → l < n → (i * m + j) * n + l < m * m * n
+pair_place n m i j l hi hj hl =
+    let row : suc i * m ≤ m * m = mul-le-mul_right m (omega (arith, hi)) in
+    let place : i * m + j < m * m = omega (arith, row, hj, suc-mul i m) in
+    let whole : suc (i * m + j) * n ≤ m * m * n = mul-le-mul_right n (omega (arith, place)) in
+    omega (arith, whole, hl, suc-mul (i * m + j) n)
+
+-- a place of the sums of pairs
+pub sum_place : (n c d l : ℕ) → d < c → l < n → d * n + l < c * n
+sum_place n c d l hd hl =
+    let whole : suc d * n ≤ c * n = mul-le-mul_right n (omega (arith, hd)) in
+    omega (arith, whole, hl, suc-mul d n)
+
+-- a place of the sums for m and more
+pub high_place : (n m q : ℕ) → 2 ≤ m → q < (m - 1) * n → m * n + q < (2 * m - 1) * n
+high_place n m q some less =
+    let both : m + (m - 1) ≡ 2 * m - 1 = omega (arith, some) in
+    let whole : (2 * m - 1) * n ≡ m * n + (m - 1) * n = ap (λ c. c * n) (sym both) ∙ add-mul m (m - 1) n in
+    omega (arith, whole, less)

@@ -20,7 +20,7 @@ use Rattle.net_plan.proofs.ValueLemmas.{chain_before, chain_value, gathered_pari
 use Rattle.net_rows.specs.Row.{Row, row_by}
 use Rattle.net_rows.proofs.RowLemmas.{HaveValues, HaveBits, IsRowOf, value_in_row, row_values, row_before}
 use Rattle.mult_composite.specs.Composite.{all_products, added_pairs, pair_sums, added_sums, reduced_sums, composite_plan}
-use Rattle.mult_composite.proofs.PlaceLemmas.{sum_flat, coefficient_bit, place_is}
+use Rattle.mult_composite.proofs.PlaceLemmas.{sum_flat, coefficient_bit, pair_place, place_is, sum_place}
 use Rattle.mult_composite.proofs.ProductLemmas.{product_value, all_values}
 
 bit_below : (a i : ℕ) → bit_at a i < 2
@@ -33,16 +33,9 @@ module _ (bits : List Bool) (n g m x y : ℕ) (ok : IsModulus n g) where
   module _ (products : List ℕ) (long : length products ≡ m * m * n) (have : HaveValues bits products (product_value n g m x y)) where
     product_at : (i j l : ℕ) → i < m → j < m → l < n → bit_at_net bits (slice_index products ((i * m + j) * n + l)) ≡ bit_at (mul (coefficient n x i) (coefficient n y j)) l
     product_at i j l hi hj hl =
-        value_in_row bits products (product_value n g m x y) ((i * m + j) * n + l) have (omega (arith, within, long))
+        value_in_row bits products (product_value n g m x y) ((i * m + j) * n + l) have (omega (arith, pair_place n m i j l hi hj hl, long))
         ∙ ap₂ (λ u v. bit_at (mul (coefficient n x (u / m)) (coefficient n y (u % m))) v) (div-mul-add (i * m + j) n l hl) (mod-mul-add (i * m + j) n l hl)
         ∙ ap₂ (λ u v. bit_at (mul (coefficient n x u) (coefficient n y v)) l) (div-mul-add i m j hj) (mod-mul-add i m j hj)
-      where
-        within : (i * m + j) * n + l < m * m * n
-        within =
-            let row : suc i * m ≤ m * m = mul-le-mul_right m (omega (arith, hi)) in
-            let place : i * m + j < m * m = omega (arith, row, hj, suc-mul i m) in
-            let whole : suc (i * m + j) * n ≤ m * m * n = mul-le-mul_right n (omega (arith, place)) in
-            omega (arith, whole, hl, suc-mul (i * m + j) n)
 
     -- the pairs with a sum
     pairs_parity : (d l : ℕ) → l < n → parity bits (added_pairs n m products d l) ≡ pair_bit n g m x y d l
@@ -79,8 +72,7 @@ module _ (bits : List Bool) (n g m x y : ℕ) (ok : IsModulus n g) where
     module _ (sums : List ℕ) (long : length sums ≡ (2 * m - 1) * n) (have : HaveValues bits sums sum_value) where
       sum_at : (d l : ℕ) → d < 2 * m - 1 → l < n → bit_at_net bits (slice_index sums (d * n + l)) ≡ pair_bit n g m x y d l
       sum_at d l hd hl =
-          let whole : suc d * n ≤ (2 * m - 1) * n = mul-le-mul_right n (omega (arith, hd)) in
-          value_in_row bits sums sum_value (d * n + l) have (omega (arith, whole, hl, suc-mul d n, long))
+          value_in_row bits sums sum_value (d * n + l) have (omega (arith, sum_place n (2 * m - 1) d l hd hl, long))
           ∙ ap₂ (λ u v. pair_bit n g m x y u v) (div-mul-add d n l hl) (mod-mul-add d n l hl)
 
       high_at : (q : ℕ) → q < (m - 1) * n → bit_at_net bits (slice_index sums (m * n + q)) ≡ pair_bit n g m x y (m + q / n) (q % n)

@@ -1,14 +1,20 @@
 -- The gates of rows are well made, and their nets may be read by gates after them.
 use Rattle.std.proofs.Math.Nat.{suc-mul}
-use Rattle.std.proofs.Common.{◌≡◌, ℕ, zero, suc, refl, sym, ◌∙◌, ap, ◌<◌, ◌≤◌, ◌+◌, ◌*◌, ◌⊎◌, inl, inr, arith, List, [], ◌∷◌, ◌++◌, length, None, Some, subst}
+use Rattle.std.proofs.lemmas.List.{take_more}
+use Rattle.std.proofs.Common.{◌≡◌, ℕ, zero, suc, refl, sym, ◌∙◌, ap, ◌<◌, ◌≤◌, ◌+◌, ◌*◌, ◌⊎◌, inl, inr, arith, List, [], ◌∷◌, ◌++◌, length, None, Some, subst, take, take_all}
 use Rattle.std.specs.Prelude.{slice_get, slice_index}
 use Rattle.graph_core.proofs.ListLemmas.{got_push, length-push, got_at}
 use Rattle.net_core.specs.Lists.{Has}
-use Rattle.net_plan.specs.Plan.{Plan, each, with_and, with_xor}
+use Rattle.net_core.proofs.DriverLemmas.{Has_cases}
+use Rattle.net_plan.specs.Plan.{Plan, each, with_and, with_xor, with_chain, chain_net}
 use Rattle.net_plan.specs.PlanShape.{CanRead, IsWellMade}
 use Rattle.net_plan.proofs.EachLemmas.{each_keeps}
-use Rattle.net_plan.proofs.ShapeLemmas.{can_read_more, and_made, xor_made}
+use Rattle.net_plan.proofs.ShapeLemmas.{can_read_more, and_made, xor_made, chain_made, chain_grows, chain_read}
 use Rattle.net_rows.specs.Row.{Row, begun_row, with_net, row_by, next_net, and_row, xor_row}
+
+take-zero : (z : List ℕ) → take 0 z ≡ []
+take-zero [] = refl
+take-zero (n ∷ z) = refl
 
 module _ (outer : ℕ) (sources : List ℕ) where
   -- the nets may be read by gates after the plan
@@ -78,6 +84,45 @@ module _ (outer : ℕ) (sources : List ℕ) where
   -- a gate that drives the next inner net
   pub gate_step : (p after : Plan) → IsWellMade outer sources [] p → IsWellMade outer sources [] after → after.next ≡ suc p.next → IsMadeStep 1 p after p.next
   gate_step p after before made next = record { made = made; reads = inr (before.from, omega (arith, next)); low = omega (arith, next); high = omega (arith, next) }
+
+  -- a chain that drives an inner net
+  pub chain_step : (most : ℕ) (list : List ℕ) (p : Plan) → IsWellMade outer sources [] p → AreReadable list p → length list ≤ most → IsMadeStep (most + 1) p (with_chain None list p) (chain_net None list p)
+  chain_step most list p made reads few =
+      let grows = chain_grows None list p in
+      record {
+        made = chain_made outer sources [] None list p made tt reads;
+        reads = chain_read outer sources [] list p made;
+        low = grows.0;
+        high = omega (arith, grows.1, few);
+      }
+
+  pub readable_append : (xs ys : List ℕ) (plan : Plan) → AreReadable xs plan → AreReadable ys plan → AreReadable (xs ++ ys) plan
+  readable_append xs ys plan first second n has = elim (Has_cases xs ys n has) [
+    | inl left ↦ first n left
+    | inr right ↦ second n right
+  ]
+
+  -- what drives the outer nets z, one after another
+  pub record IsMadeOutput (start most : ℕ) (targets : List ℕ) (plan : Plan) : Type 0 where
+    pub made : IsWellMade outer sources targets plan
+    pub low : start ≤ plan.next
+    pub high : plan.next ≤ start + most
+
+  pub outputs_made : (step : ℕ → Plan → Plan) (z : List ℕ) (c k : ℕ) (start : Plan) → length z ≡ k → IsWellMade outer sources [] start → ((q : ℕ) (p : Plan) → q < k → start.next ≤ p.next → IsWellMade outer sources (take q z) p → IsMadeOutput p.next c (take q z ++ slice_index z q ∷ []) (step q p)) → IsMadeOutput start.next (k * c) z (each k step start)
+  outputs_made step z c k start long made each_made =
+      let all = each_keeps (λ q p. IsMadeOutput start.next (q * c) (take q z) p) step start k
+            (record { made = subst (λ ts. IsWellMade outer sources ts start) (sym (take-zero z)) made; low = omega arith; high = omega arith })
+            (λ q p less is. more q p less is (each_made q p less is.low is.made)) in
+      subst (λ ts. IsMadeOutput start.next (k * c) ts (each k step start)) (take_all k z (omega (arith, long))) all
+    where
+      more : (q : ℕ) (p : Plan) → q < k → IsMadeOutput start.next (q * c) (take q z) p → IsMadeOutput p.next c (take q z ++ slice_index z q ∷ []) (step q p) → IsMadeOutput start.next (suc q * c) (take (suc q) z) (step q p)
+      more q p less before here =
+          let one_more : suc q ≡ q + 1 = omega arith in
+          record {
+            made = subst (λ ts. IsWellMade outer sources ts (step q p)) (sym (ap (λ l. take l z) one_more ∙ take_more z q 0 (omega (arith, less, long)))) here.made;
+            low = omega (arith, before.low, here.low);
+            high = omega (arith, before.high, here.high, suc-mul q c);
+          }
 
   pub and_row_made : (k a : ℕ) (nets : List ℕ) (plan : Plan) → IsWellMade outer sources [] plan → CanRead outer sources plan a → AreReadable nets plan → length nets ≡ k → IsMadeRow plan.next (k * 1) k (and_row k a nets plan)
   and_row_made k a nets plan made first reads long =
