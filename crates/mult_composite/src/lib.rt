@@ -1,3 +1,8 @@
 //! The multiplier of a tower as a netlist: the products of all coefficients, their sums by place, and the reduction of the
 //! high places.
 #![tactic(auto)]
+
+mod lists;
+mod powers;
+mod products;
+mod sums;
