@@ -2,3 +2,4 @@ pub mod PlaceLemmas
 pub mod ProductLemmas
 pub mod SumLemmas
 pub mod ShapeLemmas
+pub mod RoomLemmas

@@ -2,7 +2,9 @@
 //! high places.
 #![tactic(auto)]
 
+mod chains;
 mod lists;
+mod places;
 mod powers;
 mod products;
 mod sums;

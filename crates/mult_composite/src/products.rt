@@ -5,8 +5,10 @@ ghost use Rattle.irreducible.specs.Proved.{ring_of};
 ghost use Rattle.net_plan.specs.PlanShape.{HasRoom};
 ghost use Rattle.mult_composite.specs.Composite.{bit_products as bit_products_of, coefficient_product as coefficient_product_of, all_products as all_products_of};
 
+use crate::chains::sum_of;
 use crate::lists::added_products;
-use gf_field::{Ring, Ring2k};
+use crate::places::place;
+use gf_field::Ring2k;
 use irreducible::Proved;
 use net_plan::PlanMaker;
 use std::alloc::{AllocError, Global};
@@ -22,15 +24,18 @@ fn bit_products(
 ) -> Result<(), AllocError>
     requires some { 1 ≤ n }
     requires small { n ≤ 32 }
+    requires places { (i < 64) × (j < 64) }
     requires first { n * i + n ≤ length a.now }
     requires second { n * j + n ≤ length b.now }
-    requires few { (length a.now ≤ 64) × (length b.now ≤ 64) }
     requires room { HasRoom plan.old (2 ^ 10) }
     ensures made { OnOk result (plan.new ≡ bit_products_of n a.now b.now i j plan.old) }
-    ensures next { OnOk result (plan.new.next ≡ plan.old.next + n * n) }
+    ensures next { OnOk result (plan.new.next ≤ plan.old.next + 2 ^ 10) }
 {
-    for q in 0..n * n {
-        plan.and(a[n * i + q / n], b[n * j + q % n])?;
+    let count = n * n;
+    for q in 0..count {
+        let first = place(n, i, q / n);
+        let second = place(n, j, q % n);
+        plan.and(a[first], b[second])?;
     }
     Ok(())
 }
@@ -40,28 +45,30 @@ fn coefficient_product(
     alloc: Global,
     plan: &mut PlanMaker,
     base: &Proved<Ring2k>,
+    n: usize,
     a: &[u32],
     b: &[u32],
     i: usize,
     j: usize,
     nets: &mut Vec<u32>,
 ) -> Result<(), AllocError>
-    requires small { degree_of (ring_of base.now) ≤ 32 }
-    requires first { degree_of (ring_of base.now) * i + degree_of (ring_of base.now) ≤ length a.now }
-    requires second { degree_of (ring_of base.now) * j + degree_of (ring_of base.now) ≤ length b.now }
-    requires few { (length a.now ≤ 64) × (length b.now ≤ 64) }
+    requires degree { n ≡ degree_of (ring_of base.now) }
+    requires some { 1 ≤ n }
+    requires small { n ≤ 32 }
+    requires places { (i < 64) × (j < 64) }
+    requires first { n * i + n ≤ length a.now }
+    requires second { n * j + n ≤ length b.now }
     requires room { HasRoom plan.old (2 ^ 16) }
-    ensures made { OnOk result (plan.new ≡ (coefficient_product_of (degree_of (ring_of base.now)) (modulus_of (ring_of base.now)) a.now b.now i j plan.old).plan) }
-    ensures nets { OnOk result (nets.new.items ≡ nets.old.items ++ (coefficient_product_of (degree_of (ring_of base.now)) (modulus_of (ring_of base.now)) a.now b.now i j plan.old).nets) }
-    ensures long { OnOk result (length nets.new.items ≡ length nets.old.items + degree_of (ring_of base.now)) }
+    ensures made { OnOk result (plan.new ≡ (coefficient_product_of n (modulus_of (ring_of base.now)) a.now b.now i j plan.old).plan) }
+    ensures nets { OnOk result (nets.new.items ≡ nets.old.items ++ (coefficient_product_of n (modulus_of (ring_of base.now)) a.now b.now i j plan.old).nets) }
+    ensures long { OnOk result (length nets.new.items ≡ length nets.old.items + n) }
     ensures next { OnOk result (plan.new.next ≤ plan.old.next + 2 ^ 16) }
 {
-    let n = base.k() as usize;
     let first = plan.next();
     bit_products(plan, n, a, b, i, j)?;
     for l in 0..n {
-        let list = added_products(alloc, base, first, l)?;
-        let net = plan.chain(list.as_slice())?;
+        let list = added_products(alloc, base, n, first, l)?;
+        let net = sum_of(plan, list.as_slice())?;
         nets.push(net)?;
     }
     Ok(())
@@ -72,24 +79,26 @@ pub(crate) fn all_products(
     alloc: Global,
     plan: &mut PlanMaker,
     base: &Proved<Ring2k>,
+    n: usize,
     m: usize,
     a: &[u32],
     b: &[u32],
 ) -> Result<Vec<u32>, AllocError>
-    requires small { degree_of (ring_of base.now) ≤ 32 }
-    requires some { (1 ≤ m) × (m ≤ 64) }
-    requires first { length a.now ≡ degree_of (ring_of base.now) * m }
-    requires second { length b.now ≡ degree_of (ring_of base.now) * m }
-    requires few { degree_of (ring_of base.now) * m ≤ 64 }
+    requires degree { n ≡ degree_of (ring_of base.now) }
+    requires some { (1 ≤ n) × (1 ≤ m) }
+    requires small { (n ≤ 32) × (m ≤ 64) }
+    requires first { length a.now ≡ n * m }
+    requires second { length b.now ≡ n * m }
     requires room { HasRoom plan.old (2 ^ 28) }
-    ensures made { OnOk result (plan.new ≡ (all_products_of (degree_of (ring_of base.now)) (modulus_of (ring_of base.now)) m a.now b.now plan.old).plan) }
-    ensures nets { IfOk result (λ nets. nets.items ≡ (all_products_of (degree_of (ring_of base.now)) (modulus_of (ring_of base.now)) m a.now b.now plan.old).nets) }
-    ensures long { IfOk result (λ nets. length nets.items ≡ m * m * degree_of (ring_of base.now)) }
+    ensures made { OnOk result (plan.new ≡ (all_products_of n (modulus_of (ring_of base.now)) m a.now b.now plan.old).plan) }
+    ensures nets { IfOk result (λ nets. nets.items ≡ (all_products_of n (modulus_of (ring_of base.now)) m a.now b.now plan.old).nets) }
+    ensures long { IfOk result (λ nets. length nets.items ≡ m * m * n) }
     ensures next { OnOk result (plan.new.next ≤ plan.old.next + 2 ^ 28) }
 {
     let mut nets = Vec::new(alloc);
-    for q in 0..m * m {
-        coefficient_product(alloc, plan, base, a, b, q / m, q % m, &mut nets)?;
+    let count = m * m;
+    for q in 0..count {
+        coefficient_product(alloc, plan, base, n, a, b, q / m, q % m, &mut nets)?;
     }
     Ok(nets)
 }

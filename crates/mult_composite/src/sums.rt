@@ -9,8 +9,9 @@ ghost use Rattle.net_rows.specs.Row.{row_of};
 ghost use Rattle.mult_composite.specs.Composite.{pair_sums as pair_sums_of, reduced_sums as reduced_sums_of};
 ghost use Rattle.mult_composite.specs.private.HighPowers.{AreHighPowers};
 
+use crate::chains::{sum_into, sum_of};
 use crate::lists::{added_pairs, added_sums};
-use gf_field::{Ring, Ring2k};
+use gf_field::Ring2k;
 use irreducible::Proved;
 use net_plan::PlanMaker;
 use std::alloc::{AllocError, Global};
@@ -33,9 +34,10 @@ pub(crate) fn pair_sums(
     ensures next { OnOk result (plan.new.next ≤ plan.old.next + 2 ^ 19) }
 {
     let mut nets = Vec::new(alloc);
-    for p in 0..(2 * m - 1) * n {
+    let count = (2 * m - 1) * n;
+    for p in 0..count {
         let list = added_pairs(alloc, n, m, products, p / n, p % n)?;
-        let net = plan.chain(list.as_slice())?;
+        let net = sum_of(plan, list.as_slice())?;
         nets.push(net)?;
     }
     Ok(nets)
@@ -46,20 +48,24 @@ pub(crate) fn reduced_sums(
     alloc: Global,
     plan: &mut PlanMaker,
     base: &Proved<Ring2k>,
+    n: usize,
+    m: usize,
     powers: &[u64],
     z: &[u32],
     sums: &[u32],
 ) -> Result<(), AllocError>
-    requires small { degree_of (ring_of base.now) * (length powers.now + 1) ≤ 64 }
-    requires targets { length z.now ≡ (length powers.now + 1) * degree_of (ring_of base.now) }
-    requires long { length sums.now ≡ (2 * length powers.now + 1) * degree_of (ring_of base.now) }
+    requires degree { n ≡ degree_of (ring_of base.now) }
+    requires some { (1 ≤ n) × (2 ≤ m) }
+    requires small { (n ≤ 32) × (m ≤ 64) × (n * m ≤ 64) }
+    requires powers { length powers.now ≡ m - 1 }
+    requires targets { length z.now ≡ m * n }
+    requires long { length sums.now ≡ (2 * m - 1) * n }
     requires room { HasRoom plan.old (2 ^ 17) }
-    ensures { OnOk result ((t : ℕ) → AreHighPowers (degree_of (ring_of base.now)) (length powers.now + 1) (product 1 (degree_of (ring_of base.now)) bit_mul (modulus_of (ring_of base.now))) t powers.now → plan.new ≡ reduced_sums_of (degree_of (ring_of base.now)) (modulus_of (ring_of base.now)) (length powers.now + 1) t z.now (row_of plan.old sums.now)) }
+    ensures { OnOk result ((t : ℕ) → AreHighPowers n m (product 1 n bit_mul (modulus_of (ring_of base.now))) t powers.now → plan.new ≡ reduced_sums_of n (modulus_of (ring_of base.now)) m t z.now (row_of plan.old sums.now)) }
 {
-    let n = base.k() as usize;
     for p in 0..z.len() {
-        let list = added_sums(alloc, base, powers, sums, p / n, p % n)?;
-        plan.chain_into(z[p], list.as_slice())?;
+        let list = added_sums(alloc, base, n, m, powers, sums, p / n, p % n)?;
+        sum_into(plan, z[p], list.as_slice())?;
     }
     Ok(())
 }

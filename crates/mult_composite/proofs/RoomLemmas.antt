@@ -1,0 +1,44 @@
+-- How many nets there are, and other bounds.
+use Rattle.std.proofs.Math.Nat.{suc-mul, add-mul, mul-le-mul_left, mul-le-mul_right}
+use Rattle.std.proofs.Common.{◌≡◌, ◌∙◌, ℕ, suc, ap, sym, ◌<◌, ◌≤◌, ◌+◌, ◌*◌, ◌-◌, ◌^◌, ◌/◌, ◌%◌, List, ◌++◌, ◌∷◌, arith, mul_comm}
+use Rattle.std.specs.Prelude.{bit_and}
+use Rattle.std.proofs.lemmas.Nat.{and_mask}
+use Rattle.std.proofs.lemmas.Nat.Bits.{ones_shr}
+use Rattle.net_plan.specs.Plan.{gathered}
+
+pub mul_few : (a b c d : ℕ) → a ≤ c → b ≤ d → a * b ≤ c * d
+mul_few a b c d first second = omega (arith, mul-le-mul_left a second, mul-le-mul_right d first)
+
+pub square_few : (n : ℕ) → n ≤ 32 → n * n ≤ 1024
+square_few n small = mul_few n n 32 32 small small
+
+pub pairs_few : (m : ℕ) → m ≤ 64 → m * m ≤ 4096
+pairs_few m small = mul_few m m 64 64 small small
+
+pub group_few : (i n : ℕ) → i ≤ 4096 → n ≤ 64 → i * n ≤ 262144
+group_few i n first second = mul_few i n 4096 64 first second
+
+pub sums_few : (n m : ℕ) → n ≤ 32 → m ≤ 64 → (2 * m - 1) * n ≤ 4064
+sums_few n m small few = mul_few (2 * m - 1) n 127 32 (omega arith) small
+
+pub high_few : (n m : ℕ) → n * m ≤ 64 → (m - 1) * n ≤ 64
+high_few n m small = omega (arith, mul-le-mul_right n less, mul_comm n m, small)
+  where
+    less : m - 1 ≤ m
+    less = omega arith
+
+pub all_few : (n m : ℕ) → n ≤ 32 → m ≤ 64 → m * m * n ≤ 131072
+all_few n m small few = mul_few (m * m) n 4096 32 (pairs_few m few) small
+
+-- the low bits
+pub masked : (v n : ℕ) → n ≤ 64 → bit_and v (18446744073709551615 / 2 ^ (64 - n)) ≡ v % 2 ^ n
+masked v n small = ap (bit_and v) (ones_shr 64 (64 - n) (omega arith) ∙ ap (λ e. 2 ^ e - 1) back) ∙ and_mask v n
+  where
+    back : 64 - (64 - n) ≡ n
+    back = omega arith
+
+-- one more list
+pub gathered_more : (f : ℕ → List ℕ) (q : ℕ) (list new more : List ℕ) → list ≡ gathered q f → new ≡ list ++ more → more ≡ f q → new ≡ gathered (q + 1) f
+gathered_more f q list new more before is here =
+    let one_more : suc q ≡ q + 1 = omega arith in
+    is ∙ ap (λ l. l ++ more) before ∙ ap (λ l. gathered q f ++ l) here ∙ ap (λ k. gathered k f) one_more
