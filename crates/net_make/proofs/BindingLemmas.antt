@@ -1,17 +1,16 @@
 -- Words bind to a made net.
-use Rattle.std.proofs.Common.{◌≡◌, ◌≢◌, ◌⊎◌, ◌∙◌, ap, sym, refl, subst, inl, inr, ℕ, zero, suc, ◌<◌, ◌≤◌, ◌+◌, ◌-◌, ◌^◌, Bool, true, false, ◌&&◌, not, cond, List, [], ◌∷◌, ◌++◌, length, map, Option, None, Some, Result, Ok, Err, append-nil, arith}
+use Rattle.std.proofs.Common.{◌≡◌, ◌≢◌, ◌⊎◌, ◌∙◌, ap, sym, refl, subst, inl, inr, ℕ, zero, suc, ◌<◌, ◌≤◌, ◌+◌, Bool, true, false, ◌&&◌, not, cond, List, [], ◌∷◌, ◌++◌, length, map, None, Some, Result, Ok, append-nil, arith}
 use Rattle.std.specs.Prelude.{slice_get, ◌==◌, ◌||◌}
-use Rattle.std.specs.List.{range_with_len, list_any}
+use Rattle.std.specs.List.{range_with_len}
 use Rattle.std.proofs.lemmas.Bool.Decides.{nat_tests}
 use Rattle.std.proofs.lemmas.List.{append_assoc}
-use Rattle.std.proofs.lemmas.Option.{slice_get-map}
 use Rattle.graph_core.proofs.ListLemmas.{get_front}
 use Rattle.net_core.specs.LatchValue.{LatchValue}
 use Rattle.net_core.specs.Lists.{Has}
-use Rattle.net_core.specs.NetList.{LabelValue, NetList, nets, number_of}
+use Rattle.net_core.specs.NetList.{NetList, number_of}
 use Rattle.net_core.proofs.DriverLemmas.{Has_cases, Has_left, Has_right, from_map}
 use Rattle.graph_core.proofs.GraphLemmas.{nat_eq_or}
-use Rattle.net_words.specs.Bind.{is_latch, with_role, names_with, place_net, taken_with, NetsOf, bound_word, BoundOf, is_used, is_uncovered, is_unknown, IsCovered, started, BindingOf}
+use Rattle.net_words.specs.Bind.{is_latch, with_role, names_with, place_net, taken_with, NetsOf, bound_word, BoundOf, is_used, is_uncovered, is_unknown, started, BindingOf}
 use Rattle.net_words.specs.Feeds.{FeedsOf, is_fed}
 use Rattle.net_words.specs.Roles.{same_role, stands_in, in_word}
 use Rattle.net_words.specs.declared.binding.BindFault.{BindFault}
@@ -24,7 +23,6 @@ use Rattle.net_words.specs.declared.word.WordText.{WordText}
 use Rattle.net_words.proofs.MemberLemmas.{any_has, stands_has, has_stands}
 use Rattle.net_make.specs.BindingOfMade.{AreHeld, binding_of}
 use Rattle.net_make.specs.Ports.{numbered, role_nets, word_names}
-use Rattle.net_plan.proofs.LabelLemmas.{append_long}
 
 not_stands : (list : List ℕ) (n : ℕ) → (Has list n → ⊥) → stands_in list n ≡ false
 not_stands list n none = elim (stands_in list n) as (λ b. stands_in list n ≡ b → b ≡ false) [ true ↦ λ e. absurd (none (stands_has list n e)) | false ↦ λ e. refl ] refl
@@ -141,13 +139,14 @@ bound_from net [] m taken before found low fed suits = (taken, ap (λ (v : List 
 bound_from net (word ∷ words) m taken before found low fed suits =
     let long : ℕ = length word.nets in
     let own = by_role net (length before) word.role word.nets m taken (found_front net m word.nets (word_names words) found) low (fed word (0, refl))
-                (λ n from less other. word_suits net m word.role word.nets n from less other
-                  (λ k has. suits.0 k (Has_left (cond (same_role word.role Input) (range_with_len m (length word.nets)) []) (role_nets Input (m + length word.nets) words) k has))
-                  (λ k has. suits.1 k (Has_left (cond (same_role word.role State) (range_with_len m (length word.nets)) []) (role_nets State (m + length word.nets) words) k has))) in
+    (λ n from less other. word_suits net m word.role word.nets n from less other
+    (λ k has. suits.0 k (Has_left (cond (same_role word.role Input) (range_with_len m (length word.nets)) []) (role_nets Input (m + length word.nets) words) k has))
+    (λ k has. suits.1 k (Has_left (cond (same_role word.role State) (range_with_len m (length word.nets)) []) (role_nets State (m + length word.nets) words) k has))) in
     let bound : BoundWord = bound_word word (range_with_len m (length word.nets)) in
-    let rest = bound_from net words (m + length word.nets) own.0 (before ++ bound ∷ []) (found_back net m word.nets (word_names words) found) own.1 (λ w has. fed w (suc has.0, has.1))
-                ((λ n has. suits.0 n (has_after word.role Input (range_with_len m (length word.nets)) (role_nets Input (m + length word.nets) words) n has)),
-                 (λ n has. suits.1 n (has_after word.role State (range_with_len m (length word.nets)) (role_nets State (m + length word.nets) words) n has))) in
+    let rest = bound_from net words (m + length word.nets) own.0 (before ++ bound ∷ []) (found_back net m word.nets (word_names words) found) own.1 (λ w has. fed w (suc has.0, has.1)) (
+      (λ n has. suits.0 n (has_after word.role Input (range_with_len m (length word.nets)) (role_nets Input (m + length word.nets) words) n has)),
+      (λ n has. suits.1 n (has_after word.role State (range_with_len m (length word.nets)) (role_nets State (m + length word.nets) words) n has)),
+    ) in
     let whole : before ++ bound ∷ [] ++ numbered (m + length word.nets) words ≡ before ++ (bound ∷ numbered (m + length word.nets) words) = append_assoc before (bound ∷ []) (numbered (m + length word.nets) words) in
     let P : List BoundWord → Type 0 = λ v. BoundOf net own.0 (before ++ bound ∷ []) words (Ok (v, rest.0)) in
     (rest.0, ((range_with_len m (length word.nets), own.0), own.2, subst P whole rest.1))
@@ -197,6 +196,16 @@ covered_by net bound feeds each n =
 -- the words bind to their nets, where these are found by their names, and the feeds to theirs
 pub words_bind : (net : NetList) (words : List WordText) (feeds : List FeedText) (fed : List Feed) → FoundFrom net 0 (word_names words) → ((n : ℕ) → Has (role_nets Input 0 words) n → Has net.inputs n) → AreHeld words net.latches → FeedsOf net (numbered 0 words) [] feeds (Ok fed) → ((n : ℕ) → Has net.inputs n → Has (role_nets Input 0 words) n ⊎ (is_fed fed n ≡ true)) → BindingOf net words feeds (Ok (binding_of net words fed))
 words_bind net words feeds fed found inputs held feeding covered =
-    let bound = bound_from net words 0 [] [] found (λ n has. absurd (let got = has.1 in cc)) held.fed (inputs, held.states) in
-    ((numbered 0 words, bound.0), bound.1, (fed, feeding, (tt, (λ n less. covered_by net (numbered 0 words) fed (λ m has. elim (covered m has) [ inl w ↦ inl (in_word_numbered Input 0 words m w) | inr w ↦ inr w ]) n),
-      (tt, sym (started_all (numbered 0 words) net.latches (λ l has unknown. in_word_numbered State 0 words l.out (held.starts l has unknown))), refl))))
+    let bound = bound_from net words 0 [] [] found (λ n has. absurd (let got = has.1 in cc)) held.fed (inputs, held.states) in (
+      (numbered 0 words, bound.0),
+      bound.1,
+      (
+        fed,
+        feeding,
+        (
+          tt,
+          (λ n less. covered_by net (numbered 0 words) fed (λ m has. elim (covered m has) [ inl w ↦ inl (in_word_numbered Input 0 words m w) | inr w ↦ inr w ]) n),
+          (tt, sym (started_all (numbered 0 words) net.latches (λ l has unknown. in_word_numbered State 0 words l.out (held.starts l has unknown))), refl),
+        ),
+      ),
+    )

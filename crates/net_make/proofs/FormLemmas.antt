@@ -1,17 +1,15 @@
 -- Words of one role and one output word: their nets and the words of their job.
-use Rattle.std.proofs.Common.{◌≡◌, ◌≢◌, ◌⊎◌, ◌∙◌, ap, sym, refl, subst, inl, inr, ℕ, zero, suc, ◌<◌, ◌≤◌, ◌+◌, ◌*◌, Bool, true, false, cond, List, [], ◌∷◌, ◌++◌, length, map, filter, take, drop, Option, None, Some, append-nil, arith}
-use Rattle.std.specs.Prelude.{slice_get}
+use Rattle.std.proofs.Common.{◌≡◌, ◌≢◌, ◌⊎◌, ◌∙◌, ap, sym, refl, subst, inl, inr, ℕ, zero, suc, ◌<◌, ◌≤◌, ◌+◌, ◌*◌, Bool, true, false, cond, List, [], ◌∷◌, ◌++◌, length, map, filter, arith}
 use Rattle.std.specs.List.{range_with_len}
 use Rattle.net_core.specs.Lists.{Has, times}
 use Rattle.net_core.proofs.DriverLemmas.{times_append, times_some}
 use Rattle.net_words.specs.BoundTo.{output_bits, output_bits_with}
 use Rattle.net_words.specs.Roles.{is_output, same_role}
-use Rattle.net_words.specs.declared.bound.BoundWord.{BoundWord}
 use Rattle.net_words.specs.declared.word.Role.{Role}
 use Rattle.net_words.specs.declared.word.Role.TheVariants.{Input, State, Fed, Output}
 use Rattle.net_words.specs.declared.word.WordText.{WordText}
 use Rattle.circuit_model.specs.JobOfBinding.{job_word_with, job_words_of}
-use Rattle.circuit_model.specs.OfBinding.{output_basis, output_basis_with, output_word}
+use Rattle.circuit_model.specs.OfBinding.{output_basis, output_basis_with}
 use Rattle.circuit_model.specs.Word.{Word}
 use Rattle.net_plan.proofs.LabelLemmas.{append_long, range_long}
 use Rattle.net_make.proofs.OrderLemmas.{below_or}
@@ -178,9 +176,9 @@ pub no_nets : (role other : Role) (m : ℕ) (words : List WordText) → other �
 no_nets role other m [] apart none one = refl
 no_nets role other m (word ∷ words) apart none one =
     let miss : same_role word.role other ≡ false = elim (one word (0, refl)) [
-          | inl is ↦ ap (λ r. same_role r other) is ∙ not_same role other (λ e. apart (sym e))
-          | inr is ↦ ap (λ r. same_role r other) is ∙ not_same Output other (λ e. none (sym e))
-        ] in
+      | inl is ↦ ap (λ r. same_role r other) is ∙ not_same role other (λ e. apart (sym e))
+      | inr is ↦ ap (λ r. same_role r other) is ∙ not_same Output other (λ e. none (sym e))
+    ] in
     rw miss (no_nets role other (m + length word.nets) words apart none (rest_of role word words one))
 
 -- how many nets the words of a role have
@@ -216,13 +214,25 @@ roles_once role m (word ∷ words) n apart one low high =
     let total = append_long word.nets (word_names words) in
     let split : (r : Role) → times n (role_nets r m (word ∷ words)) ≡ times n (cond (same_role word.role r) (range_with_len m (length word.nets)) []) + times n (role_nets r (m + length word.nets) words) = λ r. times_append n (cond (same_role word.role r) (range_with_len m (length word.nets)) []) (role_nets r (m + length word.nets) words) in
     let first : times n (cond (same_role word.role role) (range_with_len m (length word.nets)) []) + times n (cond (same_role word.role Output) (range_with_len m (length word.nets)) []) ≡ times n (range_with_len m (length word.nets)) = elim (one word (0, refl)) [
-          | inl is ↦ let h = own_role role Output word is apart in rw (h.0, h.1) (omega arith)
-          | inr is ↦ let h = output_first role word is apart in rw (h.0, h.1) (omega arith)
-        ] in
+      | inl is ↦ let h = own_role role Output word is apart in rw (h.0, h.1) (omega arith)
+      | inr is ↦ let h = output_first role word is apart in rw (h.0, h.1) (omega arith)
+    ] in
     elim (below_or n (m + length word.nets)) [
-      | inl less ↦ omega (arith, split role, split Output, first, times_range m (length word.nets) n low less,
-          times_none n (role_nets role (m + length word.nets) words) (λ has. omega (arith, (role_low role (m + length word.nets) words n has).0, less)),
-          times_none n (role_nets Output (m + length word.nets) words) (λ has. omega (arith, (role_low Output (m + length word.nets) words n has).0, less)))
-      | inr more ↦ omega (arith, split role, split Output, first, times_none n (range_with_len m (length word.nets)) (λ has. omega (arith, (range_low m (length word.nets) n has).1, more)),
-          roles_once role (m + length word.nets) words n apart (rest_of role word words one) more (omega (arith, high, total)))
+      | inl less ↦ omega (
+        arith,
+        split role,
+        split Output,
+        first,
+        times_range m (length word.nets) n low less,
+        times_none n (role_nets role (m + length word.nets) words) (λ has. omega (arith, (role_low role (m + length word.nets) words n has).0, less)),
+        times_none n (role_nets Output (m + length word.nets) words) (λ has. omega (arith, (role_low Output (m + length word.nets) words n has).0, less)),
+      )
+      | inr more ↦ omega (
+        arith,
+        split role,
+        split Output,
+        first,
+        times_none n (range_with_len m (length word.nets)) (λ has. omega (arith, (range_low m (length word.nets) n has).1, more)),
+        roles_once role (m + length word.nets) words n apart (rest_of role word words one) more (omega (arith, high, total)),
+      )
     ]

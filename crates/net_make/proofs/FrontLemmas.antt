@@ -1,6 +1,6 @@
 -- Fronts of lists.
-use Rattle.std.proofs.Common.{◌≡◌, ◌∙◌, ap, sym, refl, ℕ, zero, suc, ◌<◌, ◌≤◌, ◌+◌, List, [], ◌∷◌, ◌++◌, length, take, drop, get_or, map, append-nil, arith}
-use Rattle.std.proofs.lemmas.List.{append_assoc, map-append}
+use Rattle.std.proofs.Common.{◌≡◌, ◌∙◌, ap, sym, refl, ℕ, zero, suc, ◌<◌, ◌≤◌, ◌+◌, List, [], ◌∷◌, ◌++◌, length, take, drop, get_or, append-nil, arith}
+use Rattle.std.proofs.lemmas.List.{append_assoc}
 use Rattle.net_words.specs.declared.word.WordText.{WordText}
 use Rattle.net_plan.proofs.LabelLemmas.{append_long}
 use Rattle.net_make.specs.Ports.{word_names}

@@ -7,3 +7,6 @@ pub mod MakeLemmas
 pub mod BindingLemmas
 pub mod FormLemmas
 pub mod MadeLemmas
+pub mod RunLemmas
+pub mod PolyLemmas
+pub mod Examples

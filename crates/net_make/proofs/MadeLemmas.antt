@@ -1,15 +1,14 @@
 -- Names of a made net are plain, and its words bind.
-use Rattle.std.proofs.Common.{◌≡◌, ◌≢◌, ◌⊎◌, ◌∙◌, ap, sym, refl, subst, inl, inr, ℕ, zero, suc, ◌<◌, ◌≤◌, ◌+◌, ◌-◌, ◌/◌, ◌%◌, ◌^◌, Bool, true, false, cond, List, [], ◌∷◌, ◌++◌, length, map, Option, None, Some, Ok, All, get_or, arith}
+use Rattle.std.proofs.Common.{◌≡◌, ◌∙◌, ap, sym, refl, subst, inl, inr, ℕ, zero, suc, ◌<◌, ◌≤◌, ◌+◌, ◌-◌, ◌/◌, ◌%◌, ◌^◌, Bool, true, false, cond, List, [], ◌∷◌, ◌++◌, length, map, None, Some, Ok, arith}
 use Rattle.std.specs.Prelude.{slice_get, codes, ◌==◌, nat_lt}
 use Rattle.std.specs.List.{range_with_len, repeat}
 use Rattle.std.specs.Fmt.{decimal, digits, digits_onto, digit_glyph}
-use Rattle.std.proofs.lemmas.Option.{slice_get-map, slice_get-get_or}
 use Rattle.std.proofs.lemmas.Bool.Decides.{nat_tests}
 use Rattle.graph_core.proofs.GraphLemmas.{All_has}
 use Rattle.graph_core.proofs.ListLemmas.{get_front}
 use Rattle.net_core.specs.LatchValue.{LatchValue}
 use Rattle.net_core.specs.Lists.{Has}
-use Rattle.net_core.specs.NetList.{LabelValue, NetList, nets, number_of}
+use Rattle.net_core.specs.NetList.{LabelValue, NetList}
 use Rattle.net_core.specs.Sound.{IsSound}
 use Rattle.net_core.proofs.DriverLemmas.{Has_cases, Has_left}
 use Rattle.net_words.specs.Bind.{BindingOf}
@@ -21,7 +20,7 @@ use Rattle.net_words.specs.declared.word.WordText.{WordText}
 use Rattle.net_write.specs.Plain.{HasPlainNames, IsPlainByte, IsPlainName}
 use Rattle.net_plan.specs.Plan.{Plan}
 use Rattle.net_plan.specs.MadeNet.{named, inner_name, labels_with}
-use Rattle.net_plan.proofs.LabelLemmas.{label_found, label_is, append_long}
+use Rattle.net_plan.proofs.LabelLemmas.{label_found, label_is}
 use Rattle.net_plan.proofs.SoundLemmas.{sound, all_has}
 use Rattle.net_make.specs.BindingOfMade.{AreHeld, binding_of}
 use Rattle.net_make.specs.Made.{made_of, IsPlanFor}
@@ -119,4 +118,4 @@ module _ (words : List WordText) (fed : List (List ℕ)) (latches : List LatchVa
   pub made_binds : (feeds : List FeedText) (bound : List Feed) → AreHeld words latches → FeedsOf net (numbered 0 words) [] feeds (Ok bound) → ((n : ℕ) → Has (range_with_len (length (word_names words)) (length fed)) n → is_fed bound n ≡ true) → BindingOf net words feeds (Ok (binding_of net words bound))
   made_binds feeds bound held feeding each =
       words_bind net words feeds bound (found_front net 0 (word_names words) fed outer_found) (λ n has. Has_left (role_nets Input 0 words) (range_with_len (length (word_names words)) (length fed)) n has) held feeding
-        (λ n has. elim (Has_cases (role_nets Input 0 words) (range_with_len (length (word_names words)) (length fed)) n has) [ inl w ↦ inl w | inr w ↦ inr (each n w) ])
+      (λ n has. elim (Has_cases (role_nets Input 0 words) (range_with_len (length (word_names words)) (length fed)) n has) [ inl w ↦ inl w | inr w ↦ inr (each n w) ])

@@ -1,15 +1,16 @@
 -- The most of the bytes `w` that names begin with.
-use Rattle.std.proofs.Common.{◌≡◌, ◌⊎◌, ◌∙◌, ap, sym, refl, subst, inl, inr, ℕ, zero, suc, ◌<◌, ◌≤◌, ◌+◌, max, List, [], ◌∷◌, ◌++◌, length, Bool, true, false, Some, cond, drop, get_or, arith}
-use Rattle.std.specs.Prelude.{slice_get, codes, ◌==◌}
+use Rattle.std.proofs.Common.{◌≡◌, ◌∙◌, ap, refl, inl, inr, ℕ, zero, suc, ◌<◌, ◌≤◌, ◌+◌, max, List, [], ◌∷◌, ◌++◌, length, Bool, true, false, cond, drop, get_or, arith}
+use Rattle.std.specs.Prelude.{codes, ◌==◌}
 use Rattle.std.specs.List.{repeat}
-use Rattle.std.proofs.lemmas.Bool.Decides.{nat_tests}
 use Rattle.net_core.specs.Lists.{Has}
 use Rattle.net_plan.specs.Makeable.{AreNames, IsPrefix}
 use Rattle.net_make.specs.MakerNames.{AreMakerNames, IsMakerName}
 use Rattle.net_make.specs.Prefix.{leading, most_leading, prefix_of}
 use Rattle.net_words.specs.declared.word.WordText.{WordText}
 use Rattle.net_make.specs.Ports.{word_names}
+use Rattle.std.proofs.lemmas.Bool.{eqb-true}
 use Rattle.net_make.proofs.FrontLemmas.{drop_more}
+use Rattle.net_make.proofs.OrderLemmas.{below_or}
 use Rattle.net_make.proofs.OuterLemmas.{is_net_name}
 
 pub most_append : (xs ys : List (List ℕ)) → most_leading (xs ++ ys) ≡ max (most_leading xs) (most_leading ys)
@@ -58,3 +59,31 @@ pub most_words_step : (words : List WordText) (i : ℕ) (word : WordText) (befor
 most_words_step words i word before after count less is counted more all =
     let rest : most_leading (word_names (drop i words)) ≡ max (most_leading word.nets) (most_leading (word_names (drop (i + 1) words))) = ap (λ (ws : List WordText). most_leading (word_names ws)) (drop_more words i word less is) ∙ most_append word.nets (word_names (drop (i + 1) words)) in
     omega (arith, rest, counted, more, all)
+
+-- a name that begins with so many bytes `w` is those and a rest
+leading_split : (m : ℕ) (name : List ℕ) → m ≤ leading name → (rest : List ℕ) × (name ≡ repeat m (codes "w") ++ rest)
+leading_split zero name less = (name, refl)
+leading_split (suc m) [] less = absurd (omega arith)
+leading_split (suc m) (byte ∷ bytes) less = by (leading_split m bytes) (byte == 119) refl less
+  where
+    by : (m ≤ leading bytes → (rest : List ℕ) × (bytes ≡ repeat m (codes "w") ++ rest)) → (b : Bool) → (byte == 119) ≡ b → suc m ≤ cond b (suc (leading bytes)) 0 → (rest : List ℕ) × (byte ∷ bytes ≡ repeat (suc m) (codes "w") ++ rest)
+    by later true is low =
+        let same : byte ≡ 119 = eqb-true byte 119 is in
+        let rest = later (omega (arith, low)) in
+        (rest.0, ap (λ b. b ∷ bytes) same ∙ ap (λ (v : List ℕ). 119 ∷ v) rest.1)
+    by later false is low = absurd (omega (arith, low))
+
+most_some : (names : List (List ℕ)) → 1 ≤ most_leading names → (name : List ℕ) × Has names name × (leading name ≡ most_leading names)
+most_some [] some = absurd (omega arith)
+most_some (name ∷ names) some =
+    elim (below_or (leading name) (most_leading names)) [
+      | inl less ↦ let rest = most_some names (omega (arith, less)) in (rest.0, (suc rest.1.0, rest.1.1), omega (arith, rest.2, less))
+      | inr more ↦ (name, (0, refl), omega (arith, more))
+    ]
+
+-- some name begins with each shorter text
+pub prefix_needed : (names : List (List ℕ)) (m : ℕ) → 1 ≤ m → m ≤ most_leading names → (name : List ℕ) × (rest : List ℕ) × Has names name × (name ≡ repeat m (codes "w") ++ rest)
+prefix_needed names m some low =
+    let found = most_some names (omega (arith, some, low)) in
+    let rest = leading_split m found.0 (omega (arith, low, found.2)) in
+    (found.0, rest.0, found.1, rest.1)

@@ -1,21 +1,19 @@
 -- Names of outer nets, one after another.
-use Rattle.std.proofs.Common.{◌≡◌, ◌≢◌, ◌⊎◌, ◌∙◌, ap, sym, refl, subst, inl, inr, ℕ, zero, suc, ◌<◌, ◌≤◌, ◌+◌, Bool, true, false, ◌&&◌, cond, List, [], ◌∷◌, ◌++◌, length, map, Option, None, Some, arith}
+use Rattle.std.proofs.Common.{◌≡◌, ◌≢◌, ◌∙◌, ap, sym, refl, subst, inl, inr, ℕ, zero, suc, ◌<◌, ◌+◌, Bool, true, false, ◌&&◌, cond, List, [], ◌∷◌, ◌++◌, length, map, Option, None, Some, arith}
 use Rattle.std.specs.Prelude.{slice_get, ◌==◌, is_some}
-use Rattle.std.specs.Option.{option_map_or}
 use Rattle.std.specs.Str.{bytes_eq}
 use Rattle.std.proofs.lemmas.Bool.Decides.{nat_tests}
-use Rattle.std.proofs.lemmas.List.{append_assoc, map-append}
+use Rattle.std.proofs.lemmas.List.{map-append}
 use Rattle.std.proofs.lemmas.Slice.Eq.{bytes_eq-Decides}
-use Rattle.graph_core.proofs.ListLemmas.{got_push, get_front, get_here, get_below}
+use Rattle.graph_core.proofs.ListLemmas.{got_push, get_front, get_here}
 use Rattle.net_core.specs.Lists.{Has}
 use Rattle.net_core.specs.Inside.{IsNetName}
-use Rattle.net_core.specs.NetList.{LabelValue, NetList, empty, is_named, nets, number_from, number_of, with_name, with_label}
-use Rattle.net_core.proofs.DriverLemmas.{Has_left, from_map}
+use Rattle.net_core.specs.NetList.{LabelValue, NetList, empty, nets, number_from, number_of, with_name, with_label}
+use Rattle.net_core.proofs.DriverLemmas.{Has_left}
 use Rattle.net_core.proofs.NameLemmas.{number_below, number_new}
-use Rattle.net_core.proofs.PlaceLemmas.{none_at}
 use Rattle.net_plan.specs.MadeNet.{named, outer_net}
-use Rattle.net_plan.proofs.LabelLemmas.{both, map_long}
-use Rattle.net_make.specs.MakerNames.{AreApart, AreMade, AreMakerNames, IsMakerName}
+use Rattle.net_plan.proofs.LabelLemmas.{map_long}
+use Rattle.net_make.specs.MakerNames.{AreMade, AreMakerNames, IsMakerName}
 
 pub is_net_name : (name : List ℕ) → IsMakerName name → IsNetName name
 is_net_name name is = (is.some, omega (arith, is.most))
@@ -70,9 +68,10 @@ names_more ns name are is other = record {
 
 -- the last of such names is one, and none of those before
 pub names_last : (ns : List (List ℕ)) (name : List ℕ) → AreMakerNames (ns ++ name ∷ []) → IsMakerName name × (Has ns name → ⊥)
-names_last ns name are =
-    (are.each name (length ns, get_here ns name []),
-     λ has. omega (arith, are.apart has.0 (length ns) name (get_front ns (name ∷ []) has.0 name has.1) (get_here ns name []), below ns has.0 name has.1))
+names_last ns name are = (
+  are.each name (length ns, get_here ns name []),
+  λ has. omega (arith, are.apart has.0 (length ns) name (get_front ns (name ∷ []) has.0 name has.1) (get_here ns name []), below ns has.0 name has.1),
+)
   where
     below : (xs : List (List ℕ)) (k : ℕ) (x : List ℕ) → slice_get xs k ≡ Some x → k < length xs
     below [] k x got = absurd (cc)

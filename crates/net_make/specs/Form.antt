@@ -1,5 +1,5 @@
 -- Forms of the words of a signature that makers ask for. Source: this project's own, docs/FORMATS.md.
-use Rattle.std.specs.Prelude.{◌≡◌, ℕ, suc, ◌+◌, List, [], ◌∷◌, ◌++◌, length, map, filter, if◌then◌else◌}
+use Rattle.std.specs.Prelude.{◌≡◌, ℕ, suc, ◌+◌, List, [], ◌∷◌, ◌++◌, length, map, filter, All, if◌then◌else◌}
 use Rattle.std.specs.List.{range_with_len}
 use Rattle.net_core.specs.Lists.{Has}
 use Rattle.net_words.specs.Roles.{is_output, same_role}
@@ -20,11 +20,12 @@ pub record HasWords (role : Role) (count : ℕ) (words : List WordText) : Type 0
 
 -- each word has the basis of powers
 abbrev pub AllPoly : List WordText → Type 0
-AllPoly words = (word : WordText) → Has words word → word.basis ≡ Poly
+AllPoly words = All (λ word. word.basis ≡ Poly) words
 
--- the bases of all words have one text by value
+-- the bases of all words are the first one's by their texts' values
 abbrev pub AllAlike : List WordText → Type 0
-AllAlike words = (word other : WordText) → Has words word → Has words other → word.basis ≡ other.basis
+AllAlike [] = Unit {0}
+AllAlike (first ∷ words) = All (λ word. first.basis ≡ word.basis) words
 
 -- each word has k nets
 abbrev pub AllWide : ℕ → List WordText → Type 0

@@ -33,6 +33,15 @@ pub fn make(
     push_range(&mut inputs, count, feeds.len())?;
     let outputs = role_nets(alloc, words, Role::Output)?;
     let outer = count + feeds.len() as u32;
-    let net = finish(alloc, maker, outer, prefix.as_str(), &inputs, &outputs, latches, plan)?;
+    let net = finish(
+        alloc,
+        maker,
+        outer,
+        prefix.as_str(),
+        &inputs,
+        &outputs,
+        latches,
+        plan,
+    )?;
     Ok(net)
 }

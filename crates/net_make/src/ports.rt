@@ -8,7 +8,7 @@ use net_words::{Role, WordText};
 use std::alloc::{AllocError, Global};
 
 // Whether two roles are one.
-fn is_same(role: Role, other: Role) -> bool
+pub(crate) fn is_same(role: Role, other: Role) -> bool
     ensures { result ≡ same_role role other }
 {
     match (role, other) {

@@ -68,7 +68,11 @@ fn most_in_feeds(feeds: &[FeedText]) -> usize
 
 /// The prefix of the names of inner nets: `w` as often as needed so that no name of the words' nets and of the fed nets begins
 /// with it. It answers nothing but the prefix and want of memory.
-pub fn prefix_for(alloc: Global, words: &[WordText], feeds: &[FeedText]) -> Result<String, AllocError>
+pub fn prefix_for(
+    alloc: Global,
+    words: &[WordText],
+    feeds: &[FeedText],
+) -> Result<String, AllocError>
     requires { AreMakerNames (outer_names words.now (map (λ feed. feed.net) feeds.now)) }
     ensures { IfOk result (λ text. string_bytes text ≡ prefix_of (outer_names words.now (map (λ feed. feed.net) feeds.now))) }
 {

@@ -1,4 +1,4 @@
-use Rattle.std.proofs.Common.{rules, ◌≡◌, ◌∙◌, ℕ, List, length, map, sym}
+use Rattle.std.proofs.Common.{◌≡◌, ◌∙◌, ℕ, List, length, map, sym}
 use Rattle.net_words.specs.declared.feed.FeedText.{FeedText}
 use Rattle.net_plan.proofs.LabelLemmas.{map_long}
 use Rattle.net_make.specs.Ports.{inputs_of, outer_names, outputs_of}

@@ -1,4 +1,4 @@
-use Rattle.std.proofs.Common.{rules, ◌∙◌, ◌++◌, ◌∷◌, [], ◌+◌, List, ℕ, true, arith, ap, sym, subst, map, take, drop}
+use Rattle.std.proofs.Common.{◌∙◌, ◌++◌, ◌∷◌, [], ◌+◌, List, ℕ, true, arith, ap, sym, subst, map, take, drop}
 use Rattle.std.proofs.lemmas.List.{map-append}
 use Rattle.net_words.specs.declared.feed.FeedText.{FeedText}
 use Rattle.net_make.specs.MakerNames.{AreMade}

@@ -1,4 +1,4 @@
-use Rattle.std.proofs.Common.{rules, ◌∙◌}
+use Rattle.std.proofs.Common.{◌∙◌}
 use Rattle.net_make.proofs.OuterLemmas.{named_once, same_count}
 use Rattle.net_make.proofs.outer.add_name.Goals as goal
 

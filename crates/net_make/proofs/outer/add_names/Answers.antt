@@ -1,4 +1,4 @@
-use Rattle.std.proofs.Common.{rules, ◌∙◌, ◌++◌, ◌∷◌, [], ◌+◌, List, ℕ, ap, sym, take, drop}
+use Rattle.std.proofs.Common.{◌∙◌, ◌++◌, ◌∷◌, [], ◌+◌, List, ℕ, ap, sym, take, drop}
 use Rattle.net_make.proofs.FrontLemmas.{joined, split_at}
 use Rattle.net_make.proofs.OuterLemmas.{refuse_all}
 use Rattle.net_make.proofs.outer.add_names.Goals as goal

@@ -1,5 +1,5 @@
 -- Nets of the names before were made.
-use Rattle.std.proofs.Common.{◌≡◌, ◌+◌, ◌++◌, List, ℕ, true, length, drop, take}
+use Rattle.std.proofs.Common.{◌≡◌, ◌+◌, ◌++◌, List, ℕ, true, take}
 use Rattle.net_make.specs.MakerNames.{AreMade}
 use Rattle.net_make.proofs.outer.add_names.Given as goal
 

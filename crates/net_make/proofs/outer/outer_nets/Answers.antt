@@ -1,4 +1,4 @@
-use Rattle.std.proofs.Common.{rules, List, ℕ, map, refl, sym, ◌∙◌, ap}
+use Rattle.std.proofs.Common.{List, ℕ, map, refl}
 use Rattle.net_words.specs.declared.feed.FeedText.{FeedText}
 use Rattle.net_make.specs.Ports.{outer_names, word_names}
 use Rattle.net_make.proofs.OuterLemmas.{refuse_all}

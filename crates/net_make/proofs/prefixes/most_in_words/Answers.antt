@@ -1,5 +1,5 @@
 use Rattle.net_make.proofs.MostLemmas.{most_words_step}
-use Rattle.std.proofs.Common.{ap, sym, ◌∙◌}
+use Rattle.std.proofs.Common.{ap, ◌∙◌}
 use Rattle.net_make.specs.Prefix.{most_leading}
 use Rattle.net_make.proofs.prefixes.most_in_words.Goals as goal
 

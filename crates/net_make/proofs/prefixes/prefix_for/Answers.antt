@@ -1,4 +1,4 @@
-use Rattle.std.proofs.Common.{rules, ◌≡◌, ◌+◌, ℕ, suc, max, List, map, arith, subst}
+use Rattle.std.proofs.Common.{◌≡◌, ◌+◌, ℕ, suc, List, map, arith, subst}
 use Rattle.std.specs.Prelude.{IfOk, string_bytes, codes}
 use Rattle.std.specs.List.{repeat}
 use Rattle.net_words.specs.declared.feed.FeedText.{FeedText}
