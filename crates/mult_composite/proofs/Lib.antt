@@ -3,3 +3,4 @@ pub mod ProductLemmas
 pub mod SumLemmas
 pub mod ShapeLemmas
 pub mod RoomLemmas
+pub mod ListLemmas

@@ -66,3 +66,9 @@ high_place n m q some less =
     let both : m + (m - 1) ≡ 2 * m - 1 = omega (arith, some) in
     let whole : (2 * m - 1) * n ≡ m * n + (m - 1) * n = ap (λ c. c * n) (sym both) ∙ add-mul m (m - 1) n in
     omega (arith, whole, less)
+
+-- a pair of two places of m
+pub square_place : (m i j : ℕ) → i < m → j < m → i * m + j < m * m
+square_place m i j hi hj =
+    let row : suc i * m ≤ m * m = mul-le-mul_right m (omega (arith, hi)) in
+    omega (arith, row, hj, suc-mul i m)

@@ -1,10 +1,9 @@
 -- How many nets there are, and other bounds.
 use Rattle.std.proofs.Math.Nat.{suc-mul, add-mul, mul-le-mul_left, mul-le-mul_right}
-use Rattle.std.proofs.Common.{◌≡◌, ◌∙◌, ℕ, suc, ap, sym, ◌<◌, ◌≤◌, ◌+◌, ◌*◌, ◌-◌, ◌^◌, ◌/◌, ◌%◌, List, ◌++◌, ◌∷◌, arith, mul_comm}
+use Rattle.std.proofs.Common.{◌≡◌, ◌∙◌, ℕ, suc, ap, sym, ◌<◌, ◌≤◌, ◌+◌, ◌*◌, ◌-◌, ◌^◌, ◌/◌, ◌%◌, arith, mul_comm}
 use Rattle.std.specs.Prelude.{bit_and}
-use Rattle.std.proofs.lemmas.Nat.{and_mask}
+use Rattle.std.proofs.lemmas.Nat.{and_mask, pow_below}
 use Rattle.std.proofs.lemmas.Nat.Bits.{ones_shr}
-use Rattle.net_plan.specs.Plan.{gathered}
 
 pub mul_few : (a b c d : ℕ) → a ≤ c → b ≤ d → a * b ≤ c * d
 mul_few a b c d first second = omega (arith, mul-le-mul_left a second, mul-le-mul_right d first)
@@ -37,8 +36,19 @@ masked v n small = ap (bit_and v) (ones_shr 64 (64 - n) (omega arith) ∙ ap (λ
     back : 64 - (64 - n) ≡ n
     back = omega arith
 
--- one more list
-pub gathered_more : (f : ℕ → List ℕ) (q : ℕ) (list new more : List ℕ) → list ≡ gathered q f → new ≡ list ++ more → more ≡ f q → new ≡ gathered (q + 1) f
-gathered_more f q list new more before is here =
-    let one_more : suc q ≡ q + 1 = omega arith in
-    is ∙ ap (λ l. l ++ more) before ∙ ap (λ l. gathered q f ++ l) here ∙ ap (λ k. gathered k f) one_more
+-- a coefficient of a word fits it
+pub wide_few : (n m e : ℕ) → e < m → n * m ≤ 64 → n ≤ 64
+wide_few n m e less small = omega (arith, mul-le-mul_left n some, one, small)
+  where
+    some : 1 ≤ m
+    some = omega (arith, less)
+
+    one : n * 1 ≡ n
+    one = omega arith
+
+-- Y is an element of the tower
+pub y_below : (n m y d s : ℕ) → y ≡ 2 ^ n → n ≡ d → m ≡ s → 1 ≤ n → 2 ≤ m → y < 2 ^ (d * s)
+y_below n m y d s is degree size some two = rw (is, sym degree, sym size) (pow_below n (n * m) (omega (arith, mul-le-mul_left n two, double, some)))
+  where
+    double : n * 2 ≡ n + n
+    double = omega arith

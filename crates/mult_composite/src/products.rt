@@ -7,71 +7,76 @@ ghost use Rattle.mult_composite.specs.Composite.{bit_products as bit_products_of
 
 use crate::chains::sum_of;
 use crate::lists::added_products;
-use crate::places::place;
+use crate::places::{bit_of, group_of, square, word_place};
 use gf_field::Ring2k;
 use irreducible::Proved;
 use net_plan::PlanMaker;
 use std::alloc::{AllocError, Global};
 
-// The products of the bits of coefficient i of a word and those of coefficient j of another.
+// The products of the bits of coefficient i of a word and those of coefficient j of another, of m coefficients each.
 fn bit_products(
     plan: &mut PlanMaker,
     n: usize,
+    m: usize,
     a: &[u32],
     b: &[u32],
     i: usize,
     j: usize,
 ) -> Result<(), AllocError>
     requires some { 1 ≤ n }
-    requires small { n ≤ 32 }
-    requires places { (i < 64) × (j < 64) }
-    requires first { n * i + n ≤ length a.now }
-    requires second { n * j + n ≤ length b.now }
+    requires low { n ≤ 32 }
+    requires small { n * m ≤ 64 }
+    requires first { i < m }
+    requires second { j < m }
+    requires long_first { length a.now ≡ n * m }
+    requires long_second { length b.now ≡ n * m }
     requires room { HasRoom plan.old (2 ^ 10) }
     ensures made { OnOk result (plan.new ≡ bit_products_of n a.now b.now i j plan.old) }
     ensures next { OnOk result (plan.new.next ≤ plan.old.next + 2 ^ 10) }
 {
-    let count = n * n;
+    let count = square(n);
     for q in 0..count {
-        let first = place(n, i, q / n);
-        let second = place(n, j, q % n);
+        let first = word_place(n, m, i, group_of(n, n, q));
+        let second = word_place(n, m, j, bit_of(n, q));
         plan.and(a[first], b[second])?;
     }
     Ok(())
 }
 
-// The product of coefficient i of a word and coefficient j of another: a net for each bit, after the nets before.
+// The product of coefficient i of a word and coefficient j of another: a net for each bit.
 fn coefficient_product(
     alloc: Global,
     plan: &mut PlanMaker,
     base: &Proved<Ring2k>,
     n: usize,
+    m: usize,
     a: &[u32],
     b: &[u32],
     i: usize,
     j: usize,
-    nets: &mut Vec<u32>,
-) -> Result<(), AllocError>
+) -> Result<Vec<u32>, AllocError>
     requires degree { n ≡ degree_of (ring_of base.now) }
     requires some { 1 ≤ n }
-    requires small { n ≤ 32 }
-    requires places { (i < 64) × (j < 64) }
-    requires first { n * i + n ≤ length a.now }
-    requires second { n * j + n ≤ length b.now }
+    requires low { n ≤ 32 }
+    requires small { n * m ≤ 64 }
+    requires first { i < m }
+    requires second { j < m }
+    requires long_first { length a.now ≡ n * m }
+    requires long_second { length b.now ≡ n * m }
     requires room { HasRoom plan.old (2 ^ 16) }
     ensures made { OnOk result (plan.new ≡ (coefficient_product_of n (modulus_of (ring_of base.now)) a.now b.now i j plan.old).plan) }
-    ensures nets { OnOk result (nets.new.items ≡ nets.old.items ++ (coefficient_product_of n (modulus_of (ring_of base.now)) a.now b.now i j plan.old).nets) }
-    ensures long { OnOk result (length nets.new.items ≡ length nets.old.items + n) }
+    ensures nets { IfOk result (λ nets. nets.items ≡ (coefficient_product_of n (modulus_of (ring_of base.now)) a.now b.now i j plan.old).nets) }
     ensures next { OnOk result (plan.new.next ≤ plan.old.next + 2 ^ 16) }
 {
     let first = plan.next();
-    bit_products(plan, n, a, b, i, j)?;
+    bit_products(plan, n, m, a, b, i, j)?;
+    let mut nets = Vec::new(alloc);
     for l in 0..n {
         let list = added_products(alloc, base, n, first, l)?;
         let net = sum_of(plan, list.as_slice())?;
         nets.push(net)?;
     }
-    Ok(())
+    Ok(nets)
 }
 
 // The products of each coefficient of `a` and each of `b`, m coefficients each.
@@ -85,20 +90,25 @@ pub(crate) fn all_products(
     b: &[u32],
 ) -> Result<Vec<u32>, AllocError>
     requires degree { n ≡ degree_of (ring_of base.now) }
-    requires some { (1 ≤ n) × (1 ≤ m) }
-    requires small { (n ≤ 32) × (m ≤ 64) }
-    requires first { length a.now ≡ n * m }
-    requires second { length b.now ≡ n * m }
+    requires some { 1 ≤ n }
+    requires one { 1 ≤ m }
+    requires low { n ≤ 32 }
+    requires few { m ≤ 64 }
+    requires small { n * m ≤ 64 }
+    requires long_first { length a.now ≡ n * m }
+    requires long_second { length b.now ≡ n * m }
     requires room { HasRoom plan.old (2 ^ 28) }
     ensures made { OnOk result (plan.new ≡ (all_products_of n (modulus_of (ring_of base.now)) m a.now b.now plan.old).plan) }
     ensures nets { IfOk result (λ nets. nets.items ≡ (all_products_of n (modulus_of (ring_of base.now)) m a.now b.now plan.old).nets) }
-    ensures long { IfOk result (λ nets. length nets.items ≡ m * m * n) }
     ensures next { OnOk result (plan.new.next ≤ plan.old.next + 2 ^ 28) }
 {
     let mut nets = Vec::new(alloc);
-    let count = m * m;
+    let count = square(m);
     for q in 0..count {
-        coefficient_product(alloc, plan, base, n, a, b, q / m, q % m, &mut nets)?;
+        let i = group_of(m, m, q);
+        let j = bit_of(m, q);
+        let more = coefficient_product(alloc, plan, base, n, m, a, b, i, j)?;
+        nets.extend_from_slice(more.as_slice())?;
     }
     Ok(nets)
 }

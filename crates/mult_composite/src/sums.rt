@@ -11,6 +11,7 @@ ghost use Rattle.mult_composite.specs.private.HighPowers.{AreHighPowers};
 
 use crate::chains::{sum_into, sum_of};
 use crate::lists::{added_pairs, added_sums};
+use crate::places::{bit_of, group_of, sum_count};
 use gf_field::Ring2k;
 use irreducible::Proved;
 use net_plan::PlanMaker;
@@ -24,8 +25,10 @@ pub(crate) fn pair_sums(
     m: usize,
     products: &[u32],
 ) -> Result<Vec<u32>, AllocError>
-    requires some { (1 ≤ n) × (1 ≤ m) }
-    requires small { (n ≤ 32) × (m ≤ 64) }
+    requires some { 1 ≤ n }
+    requires one { 1 ≤ m }
+    requires low { n ≤ 32 }
+    requires few { m ≤ 64 }
     requires long { length products.now ≡ m * m * n }
     requires room { HasRoom plan.old (2 ^ 19) }
     ensures made { OnOk result (plan.new ≡ (pair_sums_of n m (row_of plan.old products.now)).plan) }
@@ -34,9 +37,10 @@ pub(crate) fn pair_sums(
     ensures next { OnOk result (plan.new.next ≤ plan.old.next + 2 ^ 19) }
 {
     let mut nets = Vec::new(alloc);
-    let count = (2 * m - 1) * n;
+    let count = sum_count(n, m);
     for p in 0..count {
-        let list = added_pairs(alloc, n, m, products, p / n, p % n)?;
+        let d = group_of(n, 2 * m - 1, p);
+        let list = added_pairs(alloc, n, m, products, d, bit_of(n, p))?;
         let net = sum_of(plan, list.as_slice())?;
         nets.push(net)?;
     }
@@ -55,16 +59,21 @@ pub(crate) fn reduced_sums(
     sums: &[u32],
 ) -> Result<(), AllocError>
     requires degree { n ≡ degree_of (ring_of base.now) }
-    requires some { (1 ≤ n) × (2 ≤ m) }
-    requires small { (n ≤ 32) × (m ≤ 64) × (n * m ≤ 64) }
+    requires some { 1 ≤ n }
+    requires two { 2 ≤ m }
+    requires low { n ≤ 32 }
+    requires few { m ≤ 64 }
+    requires small { n * m ≤ 64 }
     requires powers { length powers.now ≡ m - 1 }
     requires targets { length z.now ≡ m * n }
+    requires count { length z.now ≤ 64 }
     requires long { length sums.now ≡ (2 * m - 1) * n }
     requires room { HasRoom plan.old (2 ^ 17) }
     ensures { OnOk result ((t : ℕ) → AreHighPowers n m (product 1 n bit_mul (modulus_of (ring_of base.now))) t powers.now → plan.new ≡ reduced_sums_of n (modulus_of (ring_of base.now)) m t z.now (row_of plan.old sums.now)) }
 {
     for p in 0..z.len() {
-        let list = added_sums(alloc, base, n, m, powers, sums, p / n, p % n)?;
+        let e = group_of(n, m, p);
+        let list = added_sums(alloc, base, n, m, powers, sums, e, bit_of(n, p))?;
         sum_into(plan, z[p], list.as_slice())?;
     }
     Ok(())

@@ -1,3 +1,4 @@
 pub mod RoundLemmas
 pub mod ShapeLemmas
 pub mod RoomLemmas
+pub mod MadeLemmas
