@@ -80,7 +80,7 @@ module _ (k g : ℕ) (ok : IsModulus k g) (words : List WordText) (has : HasWord
   pub fits : IsPlanFor words [] [] (outputs_in words) (plan_of_words k g words)
   fits =
       plan_for 2 k words has wide (plan_of_words k g words)
-      (montgomery_made (outer_of words) (inputs_in words) k g ok.some a b long_a long_b in_a in_b (outputs_in words) (outputs_long 2 k words has wide) (λ n there. (role_low Output 0 words n there).1))
+      (montgomery_made (outer_of words) (inputs_in words) k g ok.some a b long_a long_b in_a in_b (outputs_in words) (outputs_long 2 k words has wide) (λ n there. omega (arith, (role_low Output 0 words n there).1)))
       few
 
   module _ (names : AreMakerNames (outer_names words [])) where

@@ -2,4 +2,7 @@
 //! product is longer than an element.
 #![tactic(auto)]
 
+mod multiplier;
 mod rounds;
+
+pub use multiplier::montgomery;
