@@ -4,3 +4,4 @@ pub mod SumLemmas
 pub mod ShapeLemmas
 pub mod RoomLemmas
 pub mod ListLemmas
+pub mod MadeLemmas

@@ -1,5 +1,6 @@
 -- Lists that loops make.
-use Rattle.std.proofs.Common.{◌≡◌, ◌∙◌, ℕ, zero, suc, refl, sym, ap, ap₂, ◌<◌, ◌≤◌, ◌+◌, ◌*◌, ◌-◌, ◌/◌, ◌%◌, ◌⊎◌, inl, inr, List, [], ◌∷◌, ◌++◌, length, arith}
+use Rattle.std.proofs.Common.{◌≡◌, ◌∙◌, ℕ, zero, suc, refl, sym, ap, ap₂, ◌<◌, ◌≤◌, ◌+◌, ◌*◌, ◌-◌, ◌/◌, ◌%◌, ◌⊎◌, inl, inr, List, [], ◌∷◌, ◌++◌, length, length-append, None, arith}
+use Rattle.std.proofs.Math.Nat.{suc-mul}
 use Rattle.std.specs.Prelude.{slice_index, ◌==◌}
 use Rattle.std.specs.Int.{bit_at}
 use Rattle.std.proofs.lemmas.Bool.{cases_lt}
@@ -12,8 +13,10 @@ use Rattle.gf_field.specs.Polynomial.{coefficient}
 use Rattle.gf_field.specs.Quotient.{product}
 use Rattle.mult_products.specs.ProductBits.{x_to}
 use Rattle.mult_products.specs.TowerProduct.{factor_bit, Y_to}
-use Rattle.net_plan.specs.Plan.{gathered, where_so}
-use Rattle.mult_composite.specs.Composite.{added_sums}
+use Rattle.net_plan.specs.Plan.{Plan, begun, chain_net, gathered, where_so, with_chain}
+use Rattle.net_plan.proofs.EachLemmas.{each_keeps}
+use Rattle.net_rows.specs.Row.{Row, begun_row, row_by, row_of, with_nets}
+use Rattle.mult_composite.specs.Composite.{added_products, added_sums, all_products, bit_products, coefficient_product, composite_plan, pair_sums, reduced_sums}
 use Rattle.mult_composite.specs.private.HighPowers.{powers_from}
 
 -- one more list
@@ -52,3 +55,28 @@ sums_done n g m t powers sums e l q list some is done high =
     (λ q. where_so (factor_bit n g m t (m + q / n) e (q % n) l == 1) (slice_index sums (m * n + q)))
     (λ q less. ap (λ y. where_so (bit_at (product 1 n bit_mul g (x_to n g (q % n)) (coefficient n y e)) l == 1) (slice_index sums (m * n + q)))
     (ap (λ list. slice_index list (q / n)) high ∙ singles_at (m - 1) (λ i. Y_to n m (product 1 n bit_mul g) t (m + i)) (q / n) (div_below q n (m - 1) some less))))
+
+-- how many nets a row has
+row_long : (k : ℕ) (after : ℕ → Plan → Plan) (net : ℕ → Plan → ℕ) (plan : Plan) → length (row_by k after net plan).nets ≡ k
+row_long k after net plan =
+    each_keeps (λ j (row : Row). length row.nets ≡ j) (λ j row. record { plan = after j row.plan; nets = row.nets ++ net j row.plan ∷ [] }) (begun_row plan) k refl
+    (λ j row less long. length-push row.nets (net j row.plan) ∙ omega (arith, long))
+
+-- how many nets the products have
+pub all_long : (n g m : ℕ) (a b : List ℕ) (plan : Plan) → length (all_products n g m a b plan).nets ≡ m * m * n
+all_long n g m a b plan =
+    each_keeps (λ q (row : Row). length row.nets ≡ q * n) (λ q row. with_nets row.nets (coefficient_product n g a b (q / m) (q % m) row.plan)) (begun_row plan) (m * m) (sym (none n))
+    (λ q row less long. length-append row.nets (coefficient_product n g a b (q / m) (q % m) row.plan).nets ∙ ap₂ (λ u v. u + v) long (one (q / m) (q % m) row.plan) ∙ sym (suc-mul q n))
+  where
+    none : (k : ℕ) → 0 * k ≡ 0
+    none k = omega arith
+
+    one : (i j : ℕ) (p : Plan) → length (coefficient_product n g a b i j p).nets ≡ n
+    one i j p = row_long n (λ l. with_chain None (added_products n g p.next l)) (λ l so_far. chain_net None (added_products n g p.next l) so_far) (bit_products n a b i j p)
+
+-- the whole plan, step by step
+pub plan_done : (outer n g m t : ℕ) (a b z : List ℕ) (first second third last : Plan) (products sums : List ℕ) → first ≡ begun outer → second ≡ (all_products n g m a b first).plan → products ≡ (all_products n g m a b first).nets → third ≡ (pair_sums n m (row_of second products)).plan → sums ≡ (pair_sums n m (row_of second products)).nets → last ≡ reduced_sums n g m t z (row_of third sums) → last ≡ composite_plan outer n g m t a b z
+plan_done outer n g m t a b z first second third last products sums start is_products products_are is_sums sums_are is =
+    let made : row_of second products ≡ all_products n g m a b (begun outer) = ap₂ row_of is_products products_are ∙ ap (all_products n g m a b) start in
+    let summed : row_of third sums ≡ pair_sums n m (all_products n g m a b (begun outer)) = ap₂ row_of is_sums sums_are ∙ ap (pair_sums n m) made in
+    is ∙ ap (reduced_sums n g m t z) summed

@@ -52,3 +52,16 @@ y_below n m y d s is degree size some two = rw (is, sym degree, sym size) (pow_b
   where
     double : n * 2 ≡ n + n
     double = omega arith
+
+-- the degrees of a tower that fits a word, and of the field below
+pub low_few : (n m : ℕ) → 2 ≤ m → n * m ≤ 64 → n ≤ 32
+low_few n m two small = omega (arith, mul-le-mul_left n two, double, small)
+  where
+    double : n * 2 ≡ n + n
+    double = omega arith
+
+pub size_few : (n m : ℕ) → 1 ≤ n → n * m ≤ 64 → m ≤ 64
+size_few n m some small = omega (arith, mul-le-mul_right m some, one, small)
+  where
+    one : 1 * m ≡ m
+    one = omega arith

@@ -3,8 +3,13 @@
 #![tactic(auto)]
 
 mod chains;
+mod form;
 mod lists;
+mod multiplier;
 mod places;
 mod powers;
 mod products;
+mod sizes;
 mod sums;
+
+pub use multiplier::composite;

@@ -58,7 +58,8 @@ pub(crate) fn high_powers(
     requires low { n ≤ 32 }
     requires two { 2 ≤ m }
     requires few { m ≤ 64 }
-    ensures { IfOk result (λ powers. AreHighPowers n m (product 1 n bit_mul (modulus_of (ring_of (base_of tower.now)))) (tower_polynomial n (coefficients_of tower.now)) powers.items) }
+    ensures long { IfOk result (λ powers. length powers.items ≡ m - 1) }
+    ensures powers { IfOk result (λ powers. AreHighPowers n m (product 1 n bit_mul (modulus_of (ring_of (base_of tower.now)))) (tower_polynomial n (coefficients_of tower.now)) powers.items) }
 {
     let mut powers = Vec::new(alloc);
     let y = y_of(n);
