@@ -1,0 +1,19 @@
+//! Makers of netlists that multiply, square and add in a field of 2^k elements, and one changed gate.
+#![tactic(auto)]
+
+mod adders;
+mod fault;
+mod form;
+mod lists;
+mod multiplier;
+mod mutation;
+mod nets;
+mod powers;
+mod products;
+mod squarers;
+
+pub use adders::adder;
+pub use fault::MakeFault;
+pub use multiplier::mastrovito;
+pub use mutation::mutate;
+pub use squarers::squarer;
