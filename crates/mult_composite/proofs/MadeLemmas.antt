@@ -9,7 +9,12 @@ use Rattle.gf_field.specs.Field.{HasNoZeroDivisors}
 use Rattle.gf_field.specs.Modulus.{IsModulus}
 use Rattle.gf_field.specs.Quotient.{product}
 use Rattle.gf_field.specs.Ring.{IsRing}
+use Rattle.gf_field.specs.laws.ModulusLaws.{IsRing-from_modulus}
+use Rattle.gf_tower.specs.Tower.{tower_polynomial}
+use Rattle.gf_tower.specs.Digits.{IsPackedList}
+use Rattle.gf_tower.specs.laws.TowerLaws.{IsRing-tower}
 use Rattle.gf_basis.specs.Basis.{AreBits, first_values}
+use Rattle.mult_products.proofs.TowerBitLemmas.{tower_bits}
 use Rattle.mult_products.specs.TowerProduct.{HasTowerBits}
 use Rattle.net_core.specs.Lists.{Has}
 use Rattle.net_core.specs.Sound.{IsSound}
@@ -36,7 +41,7 @@ use Rattle.mult_gen.specs.Form.{inputs_in, outer_of, outputs_in}
 use Rattle.mult_gen.proofs.PlanLemmas.{agrees_of, drop_long, held, outputs_long, plan_for, take_long}
 use Rattle.mult_gen.proofs.PolyLemmas.{index_is, powers_basis}
 use Rattle.mult_composite.specs.Form.{made_composite, plan_of_words}
-use Rattle.mult_composite.proofs.RoomLemmas.{mul_few}
+use Rattle.mult_composite.proofs.RoomLemmas.{low_few, mul_few, size_few}
 use Rattle.mult_composite.proofs.ShapeLemmas.{composite_made}
 use Rattle.mult_composite.proofs.SumLemmas.{composite_bits}
 
@@ -137,3 +142,39 @@ module _ (n g m t : ℕ) (ok : IsModulus n g) (two : 2 ≤ m) (low : n ≤ 32) (
             let value = composite_bits bits n g m x y ok t tower two x_low y_low (outer_of words) a b (outputs_in words) long_a long_b have_a have_b (agrees_of words (plan_of_words n g m t words) bits consistent) in
             poly_element (n * m) e (index_of bits (outputs_in words)) e_is
             ∙ index_is bits (outputs_in words) (n * m) (product n m (product 1 n bit_mul g) t x y) long_z (ring.closed x y) (λ l less. value l (omega (arith, less, mul_comm n m)))
+
+-- the same over a tower of these degrees
+module _ (n d m s g low : ℕ) (cs : List ℕ) (is_degree : n ≡ d) (is_size : m ≡ s) (ok : IsModulus d g) (list : IsPackedList d s low cs) (words : List WordText) (has : HasWords Input 2 words) (wide : AllWide (n * m) words) where
+  abbrev t : ℕ
+  t = tower_polynomial n cs
+
+  modulus : IsModulus n g
+  modulus = let P : ℕ → Type 0 = λ k. IsModulus k g in subst P (sym is_degree) ok
+
+  packed : IsPackedList n m low cs
+  packed =
+      let P : ℕ → Type 0 = λ k. IsPackedList k m low cs in
+      let Q : ℕ → Type 0 = λ l. IsPackedList d l low cs in
+      subst P (sym is_degree) (subst Q (sym is_size) list)
+
+  low_n : n ≤ 32
+  low_n = low_few n m packed.two packed.small
+
+  few_m : m ≤ 64
+  few_m = size_few n m modulus.some packed.small
+
+  pub tower_fits : IsPlanFor words [] [] (outputs_in words) (plan_of_words n g m (tower_polynomial n cs) words)
+  tower_fits = fits n g m t modulus packed.two low_n few_m packed.small words has wide
+
+  module _ (names : AreMakerNames (outer_names words [])) where
+    pub tower_sound : IsSound (made_composite n g m (tower_polynomial n cs) words)
+    tower_sound = sound n g m t modulus packed.two low_n few_m packed.small words has wide names
+
+    pub tower_plain : HasPlainNames (made_composite n g m (tower_polynomial n cs) words)
+    tower_plain = plain n g m t modulus packed.two low_n few_m packed.small words has wide names
+
+    pub tower_computes : HasNoZeroDivisors (d * s) (product d s (product 1 d bit_mul g) (tower_polynomial d cs)) → ComputesOfTwo (n * m) (product n m (product 1 n bit_mul g) (tower_polynomial n cs)) (made_composite n g m (tower_polynomial n cs) words) words (first_values (n * m) (λ i. 2 ^ i)) 0 (product n m (product 1 n bit_mul g) (tower_polynomial n cs))
+    tower_computes field =
+        let P : ℕ → Type 0 = λ k. HasNoZeroDivisors (k * m) (product k m (product 1 k bit_mul g) (tower_polynomial k cs)) in
+        let Q : ℕ → Type 0 = λ l. HasNoZeroDivisors (d * l) (product d l (product 1 d bit_mul g) (tower_polynomial d cs)) in
+        computes n g m t modulus packed.two low_n few_m packed.small words has wide names (tower_bits n g modulus m low cs packed) (IsRing-tower n m low cs packed (product 1 n bit_mul g) (IsRing-from_modulus n g modulus)) (subst P (sym is_degree) (subst Q (sym is_size) field))
