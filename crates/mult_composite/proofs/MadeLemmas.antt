@@ -1,8 +1,6 @@
 -- The multiplier over the words of a signature.
-use Rattle.std.proofs.Common.{◌≡◌, ◌∙◌, ap, sym, refl, subst, ℕ, suc, ◌<◌, ◌≤◌, ◌+◌, ◌*◌, ◌-◌, ◌^◌, Bool, List, [], ◌∷◌, ◌++◌, length, take, drop, Some, None, Ok, arith, mul_comm, mul_assoc}
+use Rattle.std.proofs.Common.{◌≡◌, ◌∙◌, ap, sym, refl, subst, ℕ, ◌<◌, ◌≤◌, ◌+◌, ◌*◌, ◌-◌, ◌^◌, Bool, List, [], length, take, drop, arith, mul_comm, mul_assoc}
 use Rattle.std.proofs.Math.Nat.{mul-add}
-use Rattle.std.specs.Prelude.{slice_get, slice_index}
-use Rattle.std.specs.Int.{bit_at}
 use Rattle.std.proofs.lemmas.Option.{slice_get_within, get_or_from_slice_get}
 use Rattle.gf_field.specs.Bit.{bit_mul}
 use Rattle.gf_field.specs.Field.{HasNoZeroDivisors}

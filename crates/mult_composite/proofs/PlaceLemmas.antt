@@ -1,9 +1,9 @@
 -- Places that are counted coefficient by coefficient.
 use Rattle.std.proofs.Math.Nat.{suc-mul, mul-suc, add-mul, mul-le-mul_left, mul-le-mul_right}
-use Rattle.std.proofs.Common.{◌≡◌, ℕ, zero, suc, refl, sym, ◌∙◌, ap, ap₂, ◌<◌, ◌≤◌, ◌^◌, ◌+◌, ◌*◌, ◌-◌, ◌/◌, ◌%◌, arith, mul_comm}
+use Rattle.std.proofs.Common.{◌≡◌, ℕ, zero, suc, sym, ◌∙◌, ap, ap₂, ◌<◌, ◌≤◌, ◌^◌, ◌+◌, ◌*◌, ◌-◌, ◌/◌, ◌%◌, arith, mul_comm}
 use Rattle.std.specs.Prelude.{bit_xor}
 use Rattle.std.specs.Int.{bit_at}
-use Rattle.std.proofs.lemmas.Nat.{div-mul-add, mod-mul-add, div-add-mod', div_below, mod_below, shr-shr, field_of, mod-pow-add}
+use Rattle.std.proofs.lemmas.Nat.{div-mul-add, mod-mul-add, div-add-mod', shr-shr, field_of, mod-pow-add}
 use Rattle.gf_field.specs.Polynomial.{coefficient, sum_of_first}
 use Rattle.mult_products.proofs.SumLemmas.{sum_same}
 use Rattle.mult_products.proofs.TowerLemmas.{sum_split}

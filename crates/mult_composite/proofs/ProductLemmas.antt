@@ -1,25 +1,25 @@
 -- The bits of the products of coefficients.
 use Rattle.std.proofs.Math.Nat.{suc-mul}
-use Rattle.std.proofs.Common.{◌≡◌, ℕ, zero, suc, refl, sym, ◌∙◌, ap, ap₂, ◌<◌, ◌≤◌, ◌^◌, ◌+◌, ◌*◌, ◌-◌, ◌/◌, ◌%◌, ◌⊎◌, inl, inr, arith, List, [], ◌∷◌, ◌++◌, length, length-append, Bool, None, Some, subst}
-use Rattle.std.specs.Prelude.{bit_xor, slice_get, slice_index, ◌==◌}
+use Rattle.std.proofs.Common.{◌≡◌, ℕ, suc, sym, ◌∙◌, ap, ap₂, ◌<◌, ◌≤◌, ◌+◌, ◌*◌, ◌/◌, ◌%◌, inl, inr, arith, List, [], ◌∷◌, length, length-append, Bool, None, Some}
+use Rattle.std.specs.Prelude.{slice_get, slice_index, ◌==◌}
 use Rattle.std.specs.Int.{bit_at}
 use Rattle.std.proofs.lemmas.Bool.{cases_lt}
 use Rattle.std.proofs.lemmas.Option.{slice_get_within}
 use Rattle.std.proofs.lemmas.Nat.{div-mul-add, mod-mul-add, div_below, mod_below}
 use Rattle.gf_field.specs.Bit.{bit_mul}
 use Rattle.gf_field.specs.Modulus.{IsModulus}
-use Rattle.gf_field.specs.Polynomial.{coefficient, sum_of_first}
+use Rattle.gf_field.specs.Polynomial.{coefficient}
 use Rattle.gf_field.specs.Quotient.{product}
 use Rattle.gf_field.specs.laws.PackingLaws.{coefficient_below}
 use Rattle.mult_products.specs.ProductBits.{x_to}
 use Rattle.mult_products.proofs.SumLemmas.{sum_same}
 use Rattle.mult_products.proofs.ProductBitLemmas.{product_bits}
-use Rattle.net_plan.specs.Plan.{Plan, each, with_and, with_chain, chain_net, gathered, where_so}
+use Rattle.net_plan.specs.Plan.{Plan, with_and, with_chain, chain_net, where_so}
 use Rattle.net_plan.specs.PlanValue.{Agrees, bit_at_net, parity}
 use Rattle.net_plan.proofs.EachLemmas.{each_keeps}
 use Rattle.net_plan.proofs.ValueLemmas.{agrees_before, and_value, chain_before, chain_value, gathered_parity, where_parity}
-use Rattle.net_rows.specs.Row.{Row, begun_row, row_by, with_nets}
-use Rattle.net_rows.proofs.RowLemmas.{HaveValues, HaveBits, IsRowOf, value_in_row, have_none, have_append, row_values, row_before}
+use Rattle.net_rows.specs.Row.{Row, begun_row, with_nets}
+use Rattle.net_rows.proofs.RowLemmas.{HaveBits, IsRowOf, value_in_row, have_none, have_append, row_values, row_before}
 use Rattle.mult_composite.specs.Composite.{bit_products, added_products, coefficient_product, all_products}
 use Rattle.mult_composite.proofs.PlaceLemmas.{sum_flat, coefficient_bit, place_below}
 
@@ -49,8 +49,8 @@ module _ (bits : List Bool) (n g m x y : ℕ) (ok : IsModulus n g) (a b : List �
   bit_products_values : (i j : ℕ) (plan : Plan) → i < m → j < m → Agrees bits (bit_products n a b i j plan) → AreProducts i j (n * n) plan (bit_products n a b i j plan)
   bit_products_values i j plan hi hj agrees =
       let all = each_keeps (λ q p. (p.next ≡ plan.next + q) × (Agrees bits p → AreProducts i j q plan p)) (λ q. with_and None (slice_index a (n * i + q / n)) (slice_index b (n * j + q % n))) plan (n * n)
-            (omega arith, λ agrees. record { before = agrees; values = λ p less. absurd (omega (arith, less)) })
-            (λ q p less is. (omega (arith, is.0), more q p less is.0 is.1)) in
+      (omega arith, λ agrees. record { before = agrees; values = λ p less. absurd (omega (arith, less)) })
+      (λ q p less is. (omega (arith, is.0), more q p less is.0 is.1)) in
       all.1 agrees
     where
       more : (q : ℕ) (p : Plan) → q < n * n → p.next ≡ plan.next + q → (Agrees bits p → AreProducts i j q plan p) → Agrees bits (with_and None (slice_index a (n * i + q / n)) (slice_index b (n * j + q % n)) p) → AreProducts i j (suc q) plan (with_and None (slice_index a (n * i + q / n)) (slice_index b (n * j + q % n)) p)

@@ -1,7 +1,7 @@
 -- The gates of the multiplier read what is driven before, and drive each net once.
 use Rattle.std.proofs.Math.Nat.{suc-mul}
-use Rattle.std.proofs.Common.{◌≡◌, ℕ, zero, suc, refl, sym, ◌∙◌, ap, ap₂, ◌<◌, ◌≤◌, ◌+◌, ◌*◌, ◌-◌, ◌/◌, ◌%◌, ◌⊎◌, inl, inr, arith, List, [], ◌∷◌, ◌++◌, length, length-append, Bool, true, false, None, Some, subst, take}
-use Rattle.std.specs.Prelude.{slice_get, slice_index, ◌==◌, if◌then◌else◌}
+use Rattle.std.proofs.Common.{◌≡◌, ℕ, zero, suc, refl, sym, ◌∙◌, ap₂, ◌<◌, ◌≤◌, ◌+◌, ◌*◌, ◌-◌, ◌/◌, ◌%◌, inl, inr, arith, List, [], ◌∷◌, ◌++◌, length, length-append, Bool, true, false, None, Some, subst, take}
+use Rattle.std.specs.Prelude.{slice_index, ◌==◌}
 use Rattle.std.specs.Int.{bit_at}
 use Rattle.std.proofs.lemmas.Nat.{div_below, mod_below}
 use Rattle.graph_core.proofs.ListLemmas.{got_at}
@@ -9,12 +9,12 @@ use Rattle.net_core.specs.Lists.{Has}
 use Rattle.mult_products.specs.ProductBits.{x_to}
 use Rattle.mult_products.specs.TowerProduct.{adds_to, factor_bit}
 use Rattle.mult_products.proofs.PairLemmas.{adds_cases}
-use Rattle.net_plan.specs.Plan.{Plan, each, begun, with_and, with_chain, chain_net, gathered, where_so}
+use Rattle.net_plan.specs.Plan.{Plan, begun, with_and, with_chain, chain_net, gathered, where_so}
 use Rattle.net_plan.specs.PlanShape.{CanRead, IsWellMade}
 use Rattle.net_plan.proofs.EachLemmas.{each_keeps, gathered_has}
-use Rattle.net_plan.proofs.ShapeLemmas.{begun_made, can_read_more, and_made, chain_made, chain_grows}
-use Rattle.net_rows.specs.Row.{Row, begun_row, row_by, with_nets}
-use Rattle.net_rows.proofs.RowShapeLemmas.{AreReadable, IsMadeRow, IsMadeOutput, readable_at, readable_more, readable_none, readable_append, none_made, row_made, chain_step, outputs_made}
+use Rattle.net_plan.proofs.ShapeLemmas.{begun_made, and_made, chain_made, chain_grows}
+use Rattle.net_rows.specs.Row.{Row, begun_row, with_nets}
+use Rattle.net_rows.proofs.RowShapeLemmas.{AreReadable, IsMadeRow, IsMadeOutput, readable_at, readable_more, readable_none, readable_append, row_made, chain_step, outputs_made}
 use Rattle.mult_composite.specs.Composite.{bit_products, added_products, coefficient_product, all_products, added_pairs, pair_sums, added_sums, reduced_sums, composite_plan}
 use Rattle.mult_composite.proofs.PlaceLemmas.{place_below, pair_place, sum_place, high_place}
 
@@ -60,9 +60,9 @@ module _ (outer : ℕ) (sources : List ℕ) (n g m : ℕ) (some_n : 1 ≤ n) (so
       let start = bit_products n a b i j plan in
       let before = bit_products_made i j plan hi hj made in
       let row = row_made outer sources (λ l. with_chain None (added_products n g plan.next l)) (λ l so_far. chain_net None (added_products n g plan.next l) so_far) (n * n + 1) n start before.0
-            (λ l p less low made_p. chain_step outer sources (n * n) (added_products n g plan.next l) p made_p
-            (gathered_reads (n * n) (λ q. bit_at (x_to n g (q / n + q % n)) l == 1) (λ q. plan.next + q) p (λ q small so. inr (omega (arith, made.from), omega (arith, small, low, before.1))))
-            (gathered_few (n * n) (λ q. bit_at (x_to n g (q / n + q % n)) l == 1) (λ q. plan.next + q))) in
+      (λ l p less low made_p. chain_step outer sources (n * n) (added_products n g plan.next l) p made_p
+      (gathered_reads (n * n) (λ q. bit_at (x_to n g (q / n + q % n)) l == 1) (λ q. plan.next + q) p (λ q small so. inr (omega (arith, made.from), omega (arith, small, low, before.1))))
+      (gathered_few (n * n) (λ q. bit_at (x_to n g (q / n + q % n)) l == 1) (λ q. plan.next + q))) in
       record {
         made = row.made;
         reads = row.reads;
@@ -94,9 +94,9 @@ module _ (outer : ℕ) (sources : List ℕ) (n g m : ℕ) (some_n : 1 ≤ n) (so
   sums_made : (start most : ℕ) (products : Row) → IsMadeRow outer sources start most (m * m * n) products → IsMadeRow outer sources start (most + (2 * m - 1) * n * (m + 1)) ((2 * m - 1) * n) (pair_sums n m products)
   sums_made start most products is =
       let row = row_made outer sources (λ p. with_chain None (added_pairs n m products.nets (p / n) (p % n))) (λ p so_far. chain_net None (added_pairs n m products.nets (p / n) (p % n)) so_far) (m + 1) ((2 * m - 1) * n) products.plan is.made
-            (λ p plan less low made. chain_step outer sources m (added_pairs n m products.nets (p / n) (p % n)) plan made
-            (gathered_reads m (λ i. adds_to m (p / n) i) (λ i. slice_index products.nets ((i * m + (p / n - i)) * n + p % n)) plan (λ i less_i so. read plan (p / n) (p % n) i (mod_below p n some_n) low less_i so))
-            (gathered_few m (λ i. adds_to m (p / n) i) (λ i. slice_index products.nets ((i * m + (p / n - i)) * n + p % n)))) in
+      (λ p plan less low made. chain_step outer sources m (added_pairs n m products.nets (p / n) (p % n)) plan made
+      (gathered_reads m (λ i. adds_to m (p / n) i) (λ i. slice_index products.nets ((i * m + (p / n - i)) * n + p % n)) plan (λ i less_i so. read plan (p / n) (p % n) i (mod_below p n some_n) low less_i so))
+      (gathered_few m (λ i. adds_to m (p / n) i) (λ i. slice_index products.nets ((i * m + (p / n - i)) * n + p % n)))) in
       record {
         made = row.made;
         reads = row.reads;
@@ -116,7 +116,7 @@ module _ (outer : ℕ) (sources : List ℕ) (n g m : ℕ) (some_n : 1 ≤ n) (so
   reduced_made : (t start most : ℕ) (z : List ℕ) (sums : Row) → length z ≡ m * n → ((net : ℕ) → Has z net → net < outer) → IsMadeRow outer sources start most ((2 * m - 1) * n) sums → IsMadeOutput outer sources start (most + m * n * ((m - 1) * n + 2)) z (reduced_sums n g m t z sums)
   reduced_made t start most z sums long_z below is =
       let out = outputs_made outer sources (λ p. with_chain (Some (slice_index z p)) (added_sums n g m t sums.nets (p / n) (p % n))) z ((m - 1) * n + 2) (m * n) sums.plan long_z is.made
-            (λ q p less low made. step q p less low made) in
+      (λ q p less low made. step q p less low made) in
       record { made = out.made; low = omega (arith, out.low, is.low); high = omega (arith, out.high, is.high) }
     where
       step : (q : ℕ) (p : Plan) → q < m * n → sums.plan.next ≤ p.next → IsWellMade outer sources (take q z) p → IsMadeOutput outer sources p.next ((m - 1) * n + 2) (take q z ++ slice_index z q ∷ []) (with_chain (Some (slice_index z q)) (added_sums n g m t sums.nets (q / n) (q % n)) p)

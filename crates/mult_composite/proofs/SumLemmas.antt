@@ -1,23 +1,23 @@
 -- The bits of the sums of products of coefficients, and those of the product.
-use Rattle.std.proofs.Common.{◌≡◌, ℕ, zero, suc, refl, sym, ◌∙◌, ap, ap₂, ◌<◌, ◌≤◌, ◌^◌, ◌+◌, ◌*◌, ◌-◌, ◌/◌, ◌%◌, ◌⊎◌, inl, inr, arith, List, [], ◌∷◌, ◌++◌, length, Bool, true, false, None, Some, subst}
-use Rattle.std.proofs.Math.Nat.{suc-mul, mul-le-mul_right, add-mul}
-use Rattle.std.specs.Prelude.{bit_xor, slice_get, slice_index, ◌==◌, if◌then◌else◌}
+use Rattle.std.proofs.Common.{◌≡◌, ℕ, suc, sym, ◌∙◌, ap, ap₂, ◌<◌, ◌≤◌, ◌^◌, ◌+◌, ◌*◌, ◌-◌, ◌/◌, ◌%◌, inl, inr, arith, List, length, Bool, None, Some}
+use Rattle.std.proofs.Math.Nat.{add-mul}
+use Rattle.std.specs.Prelude.{bit_xor, slice_index, ◌==◌, if◌then◌else◌}
 use Rattle.std.specs.Int.{bit_at}
 use Rattle.std.specs.Int.Bits.{xor_zero_r}
 use Rattle.std.proofs.lemmas.Bool.{cases_lt}
 use Rattle.std.proofs.lemmas.Nat.{div-mul-add, mod-mul-add, div-add-mod', div_below, mod_below}
 use Rattle.gf_field.specs.Bit.{bit_mul}
 use Rattle.gf_field.specs.Modulus.{IsModulus}
-use Rattle.gf_field.specs.Polynomial.{coefficient, sum_of_first}
+use Rattle.gf_field.specs.Polynomial.{coefficient}
 use Rattle.gf_field.specs.Quotient.{product}
 use Rattle.mult_products.specs.TowerProduct.{HasTowerBits, adds_to, pair_bit, factor_bit}
 use Rattle.mult_products.proofs.SumLemmas.{sum_same}
 use Rattle.mult_products.proofs.PairLemmas.{adds_cases}
-use Rattle.net_plan.specs.Plan.{Plan, each, begun, with_chain, chain_net, gathered, where_so}
+use Rattle.net_plan.specs.Plan.{Plan, begun, with_chain, chain_net, where_so}
 use Rattle.net_plan.specs.PlanValue.{Agrees, bit_at_net, parity}
 use Rattle.net_plan.proofs.EachLemmas.{each_keeps}
 use Rattle.net_plan.proofs.ValueLemmas.{chain_before, chain_value, gathered_parity, where_parity}
-use Rattle.net_rows.specs.Row.{Row, row_by}
+use Rattle.net_rows.specs.Row.{Row}
 use Rattle.net_rows.proofs.RowLemmas.{HaveValues, HaveBits, IsRowOf, value_in_row, row_values, row_before}
 use Rattle.mult_composite.specs.Composite.{all_products, added_pairs, pair_sums, added_sums, reduced_sums, composite_plan}
 use Rattle.mult_composite.proofs.PlaceLemmas.{sum_flat, coefficient_bit, pair_place, place_is, sum_place}
@@ -99,21 +99,24 @@ module _ (bits : List Bool) (n g m x y : ℕ) (ok : IsModulus n g) where
     reduced_values : (z : List ℕ) (before : Plan) (sums : Row) → (Agrees bits sums.plan → IsRowOf bits before ((2 * m - 1) * n) sum_value sums) → Agrees bits (reduced_sums n g m t z sums) → (p : ℕ) → p < m * n → bit_at_net bits (slice_index z p) ≡ bit_at (mul_tower x y) p
     reduced_values z start sums is agrees =
         let all = each_keeps (λ q plan. Agrees bits plan → Agrees bits sums.plan × ((p : ℕ) → p < q → bit_at_net bits (slice_index z p) ≡ bit_at (mul_tower x y) p)) (λ p. with_chain (Some (slice_index z p)) (added_sums n g m t sums.nets (p / n) (p % n))) sums.plan (m * n)
-              (λ agrees. (agrees, λ p less. absurd (omega (arith, less))))
-              (λ q plan less kept agrees. more q plan less (kept (chain_before bits (Some (slice_index z q)) (added_sums n g m t sums.nets (q / n) (q % n)) plan agrees)) (chain_value bits (Some (slice_index z q)) (added_sums n g m t sums.nets (q / n) (q % n)) plan agrees)) in
+        (λ agrees. (agrees, λ p less. absurd (omega (arith, less))))
+        (λ q plan less kept agrees. more q plan less (kept (chain_before bits (Some (slice_index z q)) (added_sums n g m t sums.nets (q / n) (q % n)) plan agrees)) (chain_value bits (Some (slice_index z q)) (added_sums n g m t sums.nets (q / n) (q % n)) plan agrees)) in
         (all agrees).1
       where
         more : (q : ℕ) (plan : Plan) → q < m * n → Agrees bits sums.plan × ((p : ℕ) → p < q → bit_at_net bits (slice_index z p) ≡ bit_at (mul_tower x y) p) → bit_at_net bits (slice_index z q) ≡ parity bits (added_sums n g m t sums.nets (q / n) (q % n)) → Agrees bits sums.plan × ((p : ℕ) → p < suc q → bit_at_net bits (slice_index z p) ≡ bit_at (mul_tower x y) p)
-        more q plan less before here = (before.0, λ p below. elim (cases_lt p q) [
-          | inl earlier ↦ before.1 p earlier
-          | inr last ↦
-              let same : p ≡ q = omega (arith, below, last) in
-              ap (λ r. bit_at_net bits (slice_index z r)) same
-              ∙ here
-              ∙ added_parity sums.nets (is before.0).long (is before.0).have (q / n) (q % n) (div_below q n m ok.some less) (mod_below q n ok.some)
-              ∙ coefficient_bit n (mul_tower x y) (q / n) (q % n) (mod_below q n ok.some)
-              ∙ ap (bit_at (mul_tower x y)) (place_is n q ∙ sym same)
-        ])
+        more q plan less before here = (
+          before.0,
+          λ p below. elim (cases_lt p q) [
+            | inl earlier ↦ before.1 p earlier
+            | inr last ↦
+                let same : p ≡ q = omega (arith, below, last) in
+                ap (λ r. bit_at_net bits (slice_index z r)) same
+                ∙ here
+                ∙ added_parity sums.nets (is before.0).long (is before.0).have (q / n) (q % n) (div_below q n m ok.some less) (mod_below q n ok.some)
+                ∙ coefficient_bit n (mul_tower x y) (q / n) (q % n) (mod_below q n ok.some)
+                ∙ ap (bit_at (mul_tower x y)) (place_is n q ∙ sym same)
+          ],
+        )
 
     -- Place p of the product has its bit.
     pub composite_bits : (outer : ℕ) (a b z : List ℕ) → length a ≡ n * m → length b ≡ n * m → HaveBits bits a x → HaveBits bits b y → Agrees bits (composite_plan outer n g m t a b z) → (p : ℕ) → p < m * n → bit_at_net bits (slice_index z p) ≡ bit_at (mul_tower x y) p

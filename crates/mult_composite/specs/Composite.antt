@@ -2,7 +2,7 @@
 -- modulus g, and m that of the tower, which has the polynomial t. Place p of a word is bit p % n of coefficient p / n.
 -- Source: Mastrovito, VLSI Architectures for Computations in Galois Fields, Linköping, 1991; Paar, Efficient VLSI
 -- Architectures for Bit-Parallel Computation in Galois Fields, Essen, 1994.
-use Rattle.std.specs.Prelude.{ℕ, ◌+◌, ◌*◌, ◌-◌, ◌/◌, ◌%◌, ◌==◌, List, ◌∷◌, ◌++◌, length, None, Some, slice_index}
+use Rattle.std.specs.Prelude.{ℕ, ◌+◌, ◌*◌, ◌-◌, ◌/◌, ◌%◌, ◌==◌, List, ◌∷◌, None, Some, slice_index}
 use Rattle.std.specs.Int.{bit_at}
 use Rattle.mult_products.specs.ProductBits.{x_to}
 use Rattle.mult_products.specs.TowerProduct.{adds_to, factor_bit}

@@ -10,7 +10,10 @@ ghost use Rattle.mult_composite.specs.Composite.{added_products as added_product
 ghost use Rattle.mult_composite.specs.private.HighPowers.{AreHighPowers};
 
 use crate::chains::push_where;
-use crate::places::{adds_to, bit_of, coefficient_of, group_of, has_bit, high_count, high_place, pair_place, square, sum_place};
+use crate::places::{
+    adds_to, bit_of, coefficient_of, group_of, has_bit, high_count, high_place, pair_place, square,
+    sum_place,
+};
 use crate::powers::{factor, x_power};
 use gf_field::Ring2k;
 use irreducible::Proved;

@@ -1,7 +1,5 @@
 -- The multiplier over the words of a signature.
-use Rattle.std.proofs.Common.{◌≡◌, ◌≢◌, ◌∙◌, ap, sym, refl, subst, ℕ, suc, ◌<◌, ◌≤◌, ◌+◌, ◌*◌, ◌^◌, ◌%◌, Bool, List, [], ◌∷◌, ◌++◌, length, take, drop, Some, None, Ok, arith}
-use Rattle.std.specs.Prelude.{slice_get, slice_index}
-use Rattle.std.specs.Int.{bit_at}
+use Rattle.std.proofs.Common.{◌≡◌, ◌≢◌, ◌∙◌, ap, sym, refl, subst, ℕ, ◌<◌, ◌≤◌, ◌+◌, ◌*◌, ◌^◌, Bool, List, [], length, take, drop, arith}
 use Rattle.std.proofs.lemmas.Option.{slice_get_within, get_or_from_slice_get}
 use Rattle.gf_field.specs.Bit.{bit_mul}
 use Rattle.gf_field.specs.Field.{HasNoZeroDivisors}
@@ -17,7 +15,6 @@ use Rattle.net_core.proofs.DriverLemmas.{Has_left, Has_right}
 use Rattle.net_write.specs.Plain.{HasPlainNames}
 use Rattle.net_words.specs.declared.word.Role.TheVariants.{Input, Output}
 use Rattle.net_words.specs.declared.word.WordText.{WordText}
-use Rattle.net_plan.specs.Plan.{Plan}
 use Rattle.net_plan.specs.PlanValue.{bit_at_net}
 use Rattle.net_make.specs.Computes.{ComputesOfTwo}
 use Rattle.net_make.specs.Form.{AllWide, HasWords}

@@ -1,6 +1,6 @@
 -- The bits after a round, and after all.
-use Rattle.std.proofs.Common.{◌≡◌, ne_eqb, ℕ, zero, suc, refl, sym, ◌∙◌, ap, ap₂, ◌<◌, ◌≤◌, ◌^◌, ◌+◌, ◌*◌, ◌/◌, ◌%◌, ◌-◌, ◌⊎◌, inl, inr, arith, one-mul, List, [], ◌∷◌, ◌++◌, length, Bool, true, false, None, Some, subst}
-use Rattle.std.specs.Prelude.{bit_xor, slice_get, slice_index, ◌==◌, if◌then◌else◌}
+use Rattle.std.proofs.Common.{◌≡◌, ne_eqb, ℕ, zero, suc, refl, sym, ◌∙◌, ap, ap₂, ◌<◌, ◌^◌, ◌+◌, ◌*◌, ◌%◌, ◌-◌, inl, inr, arith, List, [], ◌∷◌, length, Bool, true, false, None, Some, subst}
+use Rattle.std.specs.Prelude.{bit_xor, slice_index, ◌==◌, if◌then◌else◌}
 use Rattle.std.specs.Int.{bit_at}
 use Rattle.std.specs.Int.Bits.{xor_zero_l, xor_zero_r, xor_lt}
 use Rattle.std.proofs.lemmas.Nat.Bits.{bit_at_above, bit_at_lowest}
@@ -13,7 +13,7 @@ use Rattle.mult_products.proofs.BitLemmas.{times_below}
 use Rattle.mult_products.proofs.HalvingLemmas.{bit_at-halved, top_bit}
 use Rattle.mult_products.proofs.MontgomeryLemmas.{running_below, montgomery}
 use Rattle.mult_products.specs.ProductBits.{x_to}
-use Rattle.net_plan.specs.Plan.{Plan, each, begun, with_xor, with_buffer}
+use Rattle.net_plan.specs.Plan.{Plan, begun, with_xor, with_buffer}
 use Rattle.net_plan.specs.PlanValue.{Agrees, bit_at_net}
 use Rattle.net_plan.proofs.EachLemmas.{each_keeps}
 use Rattle.net_plan.proofs.ValueLemmas.{agrees_before, xor_value, buffer_value}
@@ -128,15 +128,18 @@ module _ (bits : List Bool) (k g : ℕ) where
   buffered_bits : (z : List ℕ) (row : Row) → Agrees bits (buffered k z row) → Agrees bits row.plan × ((l : ℕ) → l < k → bit_at_net bits (slice_index z l) ≡ bit_at_net bits (slice_index row.nets l))
   buffered_bits z row agrees =
       let all = each_keeps (λ j plan. Agrees bits plan → Agrees bits row.plan × ((l : ℕ) → l < j → bit_at_net bits (slice_index z l) ≡ bit_at_net bits (slice_index row.nets l))) (λ j. with_buffer (Some (slice_index z j)) (slice_index row.nets j)) row.plan k
-            (λ agrees. (agrees, λ l less. absurd (omega (arith, less))))
-            (λ j plan less kept agrees. more j plan (kept (agrees_before bits (Some (slice_index z j)) (slice_index row.nets j ∷ []) 2 plan agrees)) (buffer_value bits (Some (slice_index z j)) (slice_index row.nets j) plan agrees)) in
+      (λ agrees. (agrees, λ l less. absurd (omega (arith, less))))
+      (λ j plan less kept agrees. more j plan (kept (agrees_before bits (Some (slice_index z j)) (slice_index row.nets j ∷ []) 2 plan agrees)) (buffer_value bits (Some (slice_index z j)) (slice_index row.nets j) plan agrees)) in
       all agrees
     where
       more : (j : ℕ) (plan : Plan) → Agrees bits row.plan × ((l : ℕ) → l < j → bit_at_net bits (slice_index z l) ≡ bit_at_net bits (slice_index row.nets l)) → bit_at_net bits (slice_index z j) ≡ bit_at_net bits (slice_index row.nets j) → Agrees bits row.plan × ((l : ℕ) → l < suc j → bit_at_net bits (slice_index z l) ≡ bit_at_net bits (slice_index row.nets l))
-      more j plan before here = (before.0, λ l less. elim (cases_lt l j) [
-        | inl earlier ↦ before.1 l earlier
-        | inr last ↦ let same : l ≡ j = omega (arith, less, last) in rw same here
-      ])
+      more j plan before here = (
+        before.0,
+        λ l less. elim (cases_lt l j) [
+          | inl earlier ↦ before.1 l earlier
+          | inr last ↦ let same : l ≡ j = omega (arith, less, last) in rw same here
+        ],
+      )
 
 -- Bit l of the nets of the product is that of the factors' product and the inverse.
 pub montgomery_bits : (bits : List Bool) (outer k g : ℕ) → IsModulus k g → g % 2 ≡ 1 → (x y r : ℕ) → x < 2 ^ k → y < 2 ^ k → product 1 k bit_mul g r (x_to k g k) ≡ 1 → (a b z : List ℕ) → length a ≡ k → length b ≡ k → HaveBits bits a x → HaveBits bits b y → Agrees bits (montgomery_plan outer k g a b z) → (l : ℕ) → l < k → bit_at_net bits (slice_index z l) ≡ bit_at (product 1 k bit_mul g (product 1 k bit_mul g x y) r) l

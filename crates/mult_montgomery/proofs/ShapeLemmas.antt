@@ -1,18 +1,18 @@
 -- The gates read what is driven before, and drive each net once; how many inner nets there are.
 use Rattle.std.proofs.Math.Nat.{suc-mul}
 use Rattle.std.proofs.lemmas.List.{take_more}
-use Rattle.std.proofs.Common.{◌≡◌, ne_eqb, take_all, ℕ, zero, suc, refl, sym, ◌∙◌, ap, ◌<◌, ◌≤◌, ◌^◌, ◌+◌, ◌*◌, ◌-◌, ◌⊎◌, inl, inr, arith, List, [], ◌∷◌, ◌++◌, length, Bool, true, false, None, Some, subst, take}
-use Rattle.std.specs.Prelude.{slice_get, slice_index, ◌==◌, if◌then◌else◌}
+use Rattle.std.proofs.Common.{◌≡◌, take_all, ℕ, zero, suc, refl, sym, ◌∙◌, ap, ◌<◌, ◌≤◌, ◌+◌, ◌*◌, ◌-◌, inl, arith, List, [], ◌∷◌, length, Bool, true, false, None, Some, subst, take}
+use Rattle.std.specs.Prelude.{slice_index, ◌==◌, if◌then◌else◌}
 use Rattle.std.specs.Int.{bit_at}
-use Rattle.graph_core.proofs.ListLemmas.{got_push, length-push, got_at}
+use Rattle.graph_core.proofs.ListLemmas.{got_at}
 use Rattle.net_core.specs.Lists.{Has}
-use Rattle.net_plan.specs.Plan.{Plan, each, begun, with_and, with_xor, with_buffer}
+use Rattle.net_plan.specs.Plan.{Plan, begun, with_xor, with_buffer}
 use Rattle.net_plan.specs.PlanShape.{CanRead, IsWellMade}
 use Rattle.net_plan.proofs.EachLemmas.{each_keeps}
-use Rattle.net_plan.proofs.ShapeLemmas.{begun_made, can_read_more, and_made, xor_made, buffer_made}
+use Rattle.net_plan.proofs.ShapeLemmas.{begun_made, can_read_more, xor_made, buffer_made}
 use Rattle.net_rows.specs.Row.{Row, begun_row, row_by, and_row, xor_row}
 use Rattle.net_rows.proofs.RowShapeLemmas.{AreReadable, IsMadeRow, IsMadeStep, readable_at, readable_more, readable_none, net_made, row_made, gate_step, and_row_made, xor_row_made}
-use Rattle.mult_montgomery.specs.Montgomery.{moved_plan, moved_net, divided_row, summed_row, round, rounds, buffered, montgomery_plan}
+use Rattle.mult_montgomery.specs.Montgomery.{moved_plan, moved_net, divided_row, summed_row, round, rounds, montgomery_plan}
 use Rattle.mult_montgomery.proofs.RoundLemmas.{summed_later}
 
 take-zero : (z : List ℕ) → take 0 z ≡ []
@@ -92,8 +92,8 @@ module _ (outer : ℕ) (sources : List ℕ) where
     montgomery_made z long_z below =
         let row = rounds outer k g a b in
         let all = each_keeps (λ j plan. IsWellMade outer sources (take j z) plan × (plan.next ≡ row.plan.next)) (λ j. with_buffer (Some (slice_index z j)) (slice_index row.nets j)) row.plan k
-              (subst (λ ts. IsWellMade outer sources ts row.plan) (sym (take-zero z)) rounds_made.made, refl)
-              (λ j plan less kept. (more j plan less kept.0 kept.1, kept.1)) in
+        (subst (λ ts. IsWellMade outer sources ts row.plan) (sym (take-zero z)) rounds_made.made, refl)
+        (λ j plan less kept. (more j plan less kept.0 kept.1, kept.1)) in
         subst (λ ts. IsWellMade outer sources ts (montgomery_plan outer k g a b z)) (take_all k z (omega (arith, long_z))) all.0
       where
         more : (j : ℕ) (plan : Plan) → j < k → IsWellMade outer sources (take j z) plan → plan.next ≡ (rounds outer k g a b).plan.next → IsWellMade outer sources (take (suc j) z) (with_buffer (Some (slice_index z j)) (slice_index (rounds outer k g a b).nets j) plan)

@@ -1,6 +1,6 @@
 -- Signatures of which the multiplier is made, the net that is made, and what it computes.
 -- Source: Koç and Acar, Montgomery multiplication in GF(2^k), Designs, Codes and Cryptography 14, 1998.
-use Rattle.std.specs.Prelude.{◌≡◌, ◌≢◌, ℕ, List, [], take, drop}
+use Rattle.std.specs.Prelude.{◌≢◌, ℕ, List, [], take, drop}
 use Rattle.gf_field.specs.Bit.{bit_mul}
 use Rattle.gf_field.specs.Quotient.{product}
 use Rattle.net_core.specs.NetList.{NetList}

@@ -1,6 +1,6 @@
 -- The gates of a multiplier that divides by x after each coefficient of the first factor.
 -- Source: Koç and Acar, Montgomery multiplication in GF(2^k), Designs, Codes and Cryptography 14, 1998.
-use Rattle.std.specs.Prelude.{◌≡◌, ℕ, ◌+◌, ◌-◌, ◌==◌, List, [], ◌∷◌, ◌++◌, None, Some, slice_index, if◌then◌else◌}
+use Rattle.std.specs.Prelude.{ℕ, ◌+◌, ◌-◌, ◌==◌, List, None, Some, slice_index, if◌then◌else◌}
 use Rattle.std.specs.Int.{bit_at}
 use Rattle.net_plan.specs.Plan.{Plan, begun, with_buffer, with_xor, each}
 use Rattle.net_rows.specs.Row.{Row, begun_row, with_net, row_by, and_row, xor_row}

@@ -67,7 +67,14 @@ fn plan_of(
     let outputs = outputs(alloc, words, k, 2)?;
     let (a, b) = inputs.as_slice().split_at(k as usize);
     let first = outer(words, k, 2);
-    let plan = gates(alloc, ring.ring().modulus(), first, a, b, outputs.as_slice())?;
+    let plan = gates(
+        alloc,
+        ring.ring().modulus(),
+        first,
+        a,
+        b,
+        outputs.as_slice(),
+    )?;
     Ok(plan)
 }
 

@@ -1,7 +1,5 @@
 -- How many nets the words have.
-use Rattle.std.proofs.Common.{◌≡◌, ℕ, ◌<◌, ◌≤◌, ◌*◌, List, [], length, map, subst, sym, arith}
-use Rattle.net_core.specs.LatchValue.{LatchValue}
-use Rattle.net_core.specs.NetList.{NetList}
+use Rattle.std.proofs.Common.{◌≡◌, ℕ, ◌≤◌, List, [], length, map, subst, sym, arith}
 use Rattle.net_words.specs.declared.feed.FeedText.{FeedText}
 use Rattle.net_words.specs.declared.word.Role.TheVariants.{Input}
 use Rattle.net_words.specs.declared.word.WordText.{WordText}

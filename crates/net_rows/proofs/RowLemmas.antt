@@ -1,10 +1,10 @@
 -- The bits of rows.
-use Rattle.std.proofs.Common.{◌≡◌, ℕ, zero, suc, refl, sym, ◌∙◌, ap, ap₂, ◌<◌, ◌≤◌, ◌^◌, ◌+◌, ◌*◌, ◌⊎◌, inl, inr, arith, List, [], ◌∷◌, ◌++◌, length, Bool, None, Some, subst}
+use Rattle.std.proofs.Common.{◌≡◌, ℕ, zero, suc, refl, sym, ◌∙◌, ap, ap₂, ◌<◌, ◌+◌, ◌*◌, inl, inr, arith, List, [], ◌∷◌, ◌++◌, length, Bool, None, Some, subst}
 use Rattle.std.specs.Prelude.{bit_xor, slice_get, slice_index}
 use Rattle.std.specs.Int.{bit_at}
 use Rattle.graph_core.proofs.ListLemmas.{got_push, length-push, got_at}
 use Rattle.mult_products.proofs.BitLemmas.{bit_at-sum, bit_at-times}
-use Rattle.net_plan.specs.Plan.{Plan, each, with_and, with_xor}
+use Rattle.net_plan.specs.Plan.{Plan, with_and, with_xor}
 use Rattle.net_plan.specs.PlanValue.{Agrees, bit_at_net}
 use Rattle.net_plan.proofs.EachLemmas.{each_keeps}
 use Rattle.net_plan.proofs.ValueLemmas.{agrees_before, and_value, xor_value}

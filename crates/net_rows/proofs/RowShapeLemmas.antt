@@ -1,8 +1,8 @@
 -- The gates of rows are well made, and their nets may be read by gates after them.
 use Rattle.std.proofs.Math.Nat.{suc-mul}
 use Rattle.std.proofs.lemmas.List.{take_more}
-use Rattle.std.proofs.Common.{◌≡◌, ℕ, zero, suc, refl, sym, ◌∙◌, ap, ◌<◌, ◌≤◌, ◌+◌, ◌*◌, ◌⊎◌, inl, inr, arith, List, [], ◌∷◌, ◌++◌, length, None, Some, subst, take, take_all}
-use Rattle.std.specs.Prelude.{slice_get, slice_index}
+use Rattle.std.proofs.Common.{◌≡◌, ℕ, suc, refl, sym, ◌∙◌, ap, ◌<◌, ◌≤◌, ◌+◌, ◌*◌, inl, inr, arith, List, [], ◌∷◌, ◌++◌, length, None, Some, subst, take, take_all}
+use Rattle.std.specs.Prelude.{slice_index}
 use Rattle.graph_core.proofs.ListLemmas.{got_push, length-push, got_at}
 use Rattle.net_core.specs.Lists.{Has}
 use Rattle.net_core.proofs.DriverLemmas.{Has_cases}
@@ -111,8 +111,8 @@ module _ (outer : ℕ) (sources : List ℕ) where
   pub outputs_made : (step : ℕ → Plan → Plan) (z : List ℕ) (c k : ℕ) (start : Plan) → length z ≡ k → IsWellMade outer sources [] start → ((q : ℕ) (p : Plan) → q < k → start.next ≤ p.next → IsWellMade outer sources (take q z) p → IsMadeOutput p.next c (take q z ++ slice_index z q ∷ []) (step q p)) → IsMadeOutput start.next (k * c) z (each k step start)
   outputs_made step z c k start long made each_made =
       let all = each_keeps (λ q p. IsMadeOutput start.next (q * c) (take q z) p) step start k
-            (record { made = subst (λ ts. IsWellMade outer sources ts start) (sym (take-zero z)) made; low = omega arith; high = omega arith })
-            (λ q p less is. more q p less is (each_made q p less is.low is.made)) in
+      (record { made = subst (λ ts. IsWellMade outer sources ts start) (sym (take-zero z)) made; low = omega arith; high = omega arith })
+      (λ q p less is. more q p less is (each_made q p less is.low is.made)) in
       subst (λ ts. IsMadeOutput start.next (k * c) ts (each k step start)) (take_all k z (omega (arith, long))) all
     where
       more : (q : ℕ) (p : Plan) → q < k → IsMadeOutput start.next (q * c) (take q z) p → IsMadeOutput p.next c (take q z ++ slice_index z q ∷ []) (step q p) → IsMadeOutput start.next (suc q * c) (take (suc q) z) (step q p)

@@ -1,4 +1,4 @@
-use Rattle.std.proofs.Common.{arith, None, Some, length, ap}
+use Rattle.std.proofs.Common.{arith, None, ap}
 use Rattle.net_plan.specs.Plan.{Plan}
 use Rattle.net_plan.proofs.ShapeLemmas.{chain_grows}
 use Rattle.mult_composite.proofs.chains.sum_of.Goals as goal

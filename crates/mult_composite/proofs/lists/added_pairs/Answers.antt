@@ -9,9 +9,8 @@ pub loop-i-preserved : goal.loop-i-preserved
 loop-i-preserved c =
     let m = c.args.m in
     let n = c.args.n in
-    let d = c.args.d in
-    (
+    let d = c.args.d in (
       gathered_more (λ i. where_so (adds_to m d i) (slice_index c.args.products.now ((i * m + (d - i)) * n + c.args.l))) c.loop-i.i c.loop-i.list.items c.push_pair.new.list.items
-      (where_so (adds_to m d c.loop-i.i) (slice_index c.args.products.now ((c.loop-i.i * m + (d - c.loop-i.i)) * n + c.args.l))) c.loop-i.invariant.0 c.in_ok-push_pair.ensures.list refl,
-      omega (arith, c.in_ok-push_pair.ensures.few, c.loop-i.invariant.1)
+          (where_so (adds_to m d c.loop-i.i) (slice_index c.args.products.now ((c.loop-i.i * m + (d - c.loop-i.i)) * n + c.args.l))) c.loop-i.invariant.0 c.in_ok-push_pair.ensures.list refl,
+      omega (arith, c.in_ok-push_pair.ensures.few, c.loop-i.invariant.1),
     )

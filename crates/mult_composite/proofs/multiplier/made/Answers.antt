@@ -1,4 +1,4 @@
-use Rattle.std.proofs.Common.{◌∙◌, ◌^◌, ◌*◌, ◌≡◌, ap, sym, subst, List, [], ℕ}
+use Rattle.std.proofs.Common.{◌∙◌, ◌^◌, ◌*◌, ap, sym, subst, List, [], ℕ}
 use Rattle.gf_field.specs.Bit.{bit_mul}
 use Rattle.gf_field.specs.Quotient.{product}
 use Rattle.gf_field.specs.Ring2k.{degree_of, modulus_of}

@@ -1,4 +1,4 @@
-use Rattle.std.proofs.Common.{arith, ◌≤◌, ◌∙◌, ◌*◌, ◌+◌, ◌≡◌, ◌^◌, ◌/◌, ◌%◌, ap, mod-lt, pow_pos}
+use Rattle.std.proofs.Common.{arith, ◌≤◌, ◌∙◌, ◌*◌, ◌≡◌, ◌^◌, ◌/◌, ◌%◌, ap, mod-lt, pow_pos}
 use Rattle.mult_composite.proofs.RoomLemmas.{masked, wide_few}
 use Rattle.mult_composite.proofs.places.coefficient_of.Goals as goal
 

@@ -1,5 +1,4 @@
 use Rattle.std.proofs.Common.{arith}
-use Rattle.std.proofs.Common.{◌*◌, ◌≤◌}
 use Rattle.mult_composite.proofs.PlaceLemmas.{sum_place}
 use Rattle.mult_composite.proofs.RoomLemmas.{mul_few}
 use Rattle.mult_composite.proofs.places.sum_place.Goals as goal

@@ -1,4 +1,4 @@
-use Rattle.std.proofs.Common.{◌≡◌, ◌≤◌, ◌+◌, ◌*◌, None, length}
+use Rattle.std.proofs.Common.{◌≡◌, ◌≤◌, ◌+◌, ◌*◌, None}
 use Rattle.gf_field.specs.Ring2k.{modulus_of}
 use Rattle.irreducible.specs.Proved.{ring_of}
 use Rattle.net_plan.specs.Plan.{with_chain, chain_net}

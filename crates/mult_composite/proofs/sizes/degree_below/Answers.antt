@@ -1,4 +1,4 @@
-use Rattle.std.proofs.Common.{◌≡◌, ◌≤◌, ◌*◌, ◌∙◌, ap, arith}
+use Rattle.std.proofs.Common.{◌≡◌, ◌≤◌, ◌∙◌, ap, arith}
 use Rattle.gf_field.specs.Ring2k.{degree_of}
 use Rattle.irreducible.specs.Proved.{ring_of}
 use Rattle.gf_tower.specs.TowerParts.{base_of}

@@ -1,4 +1,4 @@
-use Rattle.std.proofs.Common.{◌∙◌, ◌^◌, ◌≡◌, ap, sym, subst, List, [], ℕ}
+use Rattle.std.proofs.Common.{◌∙◌, ◌^◌, ap, sym, subst, List, [], ℕ}
 use Rattle.gf_field.specs.Bit.{bit_mul}
 use Rattle.gf_field.specs.Quotient.{product}
 use Rattle.gf_field.specs.Ring2k.{degree_of, modulus_of}
@@ -11,8 +11,7 @@ use Rattle.net_write.specs.Plain.{HasPlainNames}
 use Rattle.net_make.specs.Computes.{ComputesOfTwo}
 use Rattle.net_make.specs.Made.{made_of, IsPlanFor}
 use Rattle.mult_gen.specs.Form.{outputs_in}
-use Rattle.mult_products.specs.InversePower.{IsInversePower}
-use Rattle.mult_montgomery.specs.Form.{made_montgomery, montgomery_product}
+use Rattle.mult_montgomery.specs.Form.{montgomery_product}
 use Rattle.mult_montgomery.proofs.MadeLemmas.{fits, sound, plain, computes}
 use Rattle.mult_montgomery.proofs.multiplier.made.Goals as goal
 

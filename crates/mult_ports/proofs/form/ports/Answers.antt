@@ -1,4 +1,4 @@
-use Rattle.std.proofs.Common.{rules, ◌∙◌, subst, List}
+use Rattle.std.proofs.Common.{◌∙◌, subst, List}
 use Rattle.net_words.specs.declared.word.Role.TheVariants.{Input}
 use Rattle.net_words.specs.declared.word.WordText.{WordText}
 use Rattle.net_make.specs.Form.{HasWords}

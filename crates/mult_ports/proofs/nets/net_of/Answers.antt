@@ -1,4 +1,4 @@
-use Rattle.std.proofs.Common.{◌≡◌, ◌∙◌, ℕ, List, [], map, sym, ap, ap₂, subst}
+use Rattle.std.proofs.Common.{◌≡◌, ◌∙◌, ℕ, List, [], map, sym, ap, subst}
 use Rattle.net_core.specs.LatchValue.{LatchValue}
 use Rattle.net_plan.specs.MadeNet.{outer_net}
 use Rattle.net_make.specs.Made.{made_of, IsPlanFor}

@@ -1,5 +1,4 @@
-use Rattle.std.proofs.Common.{arith, ap, length, ◌∙◌}
-use Rattle.mult_gen.proofs.PlanLemmas.{inputs_long, outputs_long}
+use Rattle.std.proofs.Common.{arith}
 use Rattle.mult_ports.proofs.CountLemmas.{words_few}
 use Rattle.mult_ports.proofs.nets.outer.Goals as goal
 
