@@ -5,3 +5,4 @@ pub mod ShapeLemmas
 pub mod RoomLemmas
 pub mod ListLemmas
 pub mod MadeLemmas
+pub mod Examples

@@ -46,7 +46,7 @@ pub(crate) fn added_products(
     Ok(list)
 }
 
-// The net of bit l of the product of coefficients i and d - i, where these are two places of m.
+// Adds the net of bit l of the product of coefficients i and d - i, where these are two places of m.
 fn push_pair(
     list: &mut Vec<u32>,
     n: usize,

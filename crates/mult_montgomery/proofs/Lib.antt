@@ -2,3 +2,4 @@ pub mod RoundLemmas
 pub mod ShapeLemmas
 pub mod RoomLemmas
 pub mod MadeLemmas
+pub mod Examples
