@@ -1,7 +1,6 @@
-use Rattle.std.proofs.Common.{◌≡◌, ◌+◌, drop, subst, [], ◌∷◌, ap, ◌∙◌}
+use Rattle.std.proofs.Common.{◌+◌, drop, subst, [], ◌∷◌}
 use Rattle.std.specs.List.{AllByRecursion}
 use Rattle.poly_mixed.specs.Polynomial.{Terms}
-use Rattle.poly_mixed.specs.Product.{with_rank}
 use Rattle.rato_reduce.specs.CutTerms.{IsBitTerm}
 use Rattle.rato_reduce.specs.Monomials.{monomials}
 use Rattle.rato_reduce.proofs.CutPartLemmas.{drop_read, step_products}

@@ -1,4 +1,4 @@
-use Rattle.std.proofs.Common.{◌≡◌, ◌∙◌, ap, [], ◌∷◌, cond}
+use Rattle.std.proofs.Common.{◌∙◌, ap, [], ◌∷◌, cond}
 use Rattle.std.proofs.lemmas.Result.{on_ok_weaker}
 use Rattle.poly_mixed.specs.Monomial.{text_cmp}
 use Rattle.poly_mixed.specs.Product.{union, with_rank}
