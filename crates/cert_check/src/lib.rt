@@ -9,6 +9,7 @@ mod fault;
 mod frame;
 mod generator;
 mod head;
+mod last;
 mod laws;
 mod line;
 mod reading;
