@@ -8,14 +8,14 @@ use crate::generator::generator_poly;
 use gf_basis::Basis;
 use gf_field::Field;
 use net_words::Combinational;
-use poly_mixed::{Generator, Poly};
+use poly_mixed::{Generator, Term};
 use std::alloc::{AllocError, Global};
 
 // A generator with its polynomial, once one was made.
 #[derive(Drop)]
 pub(crate) struct LastGenerator {
     generator: Option<Generator>,
-    poly: Poly,
+    terms: Vec<Term>,
 }
 
 // Whether two generators are the same.
@@ -41,7 +41,7 @@ impl LastGenerator {
     {
         LastGenerator {
             generator: None,
-            poly: Poly::zero(alloc),
+            terms: Vec::new(alloc),
         }
     }
 
@@ -55,11 +55,11 @@ impl LastGenerator {
         }
     }
 
-    // Its polynomial.
-    pub(crate) fn poly(&self) -> &Poly
-        ensures { result.now ≡ self.now.poly }
+    // The terms of its polynomial.
+    pub(crate) fn terms(&self) -> &[Term]
+        ensures { result.now ≡ self.now.terms.items }
     {
-        &self.poly
+        self.terms.as_slice()
     }
 
     // Puts a generator in its place, whose polynomial is made unless it is the same one.
@@ -82,7 +82,8 @@ impl LastGenerator {
         if self.is(generator) {
             return Ok(());
         }
-        self.poly = generator_poly(alloc, field, circuit, bases, drivers, generator)?;
+        let poly = generator_poly(alloc, field, circuit, bases, drivers, generator)?;
+        self.terms = poly.terms(alloc)?;
         self.generator = Some(generator);
         Ok(())
     }

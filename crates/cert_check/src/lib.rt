@@ -12,6 +12,8 @@ mod head;
 mod last;
 mod laws;
 mod line;
+mod monomial;
+mod multiple;
 mod reading;
 mod running;
 mod scan;

@@ -17,6 +17,7 @@ ghost use Rattle.cert_check.specs.private.Kept.{IsGeneratorOf, IsLast};
 
 use crate::generator::rank;
 use crate::last::LastGenerator;
+use crate::multiple::add_products;
 use crate::words::output_basis;
 use gf_basis::Basis;
 use gf_field::Field;
@@ -130,6 +131,6 @@ pub(crate) fn add_product<F: Field>(
     ensures values { OnOk result ((p : Point) → IsPoint (F.degree field.now) p → value (F.product field.now) p sum.new.terms ≡ bit_xor (value (F.product field.now) p sum.old.terms) (F.product field.now (generator_value (F.degree field.now) (F.product field.now) circuit.now bases.now generator p) (value (F.product field.now) p multiplier.now.terms))) }
 {
     last.make(alloc, field, circuit, bases, drivers, generator)?;
-    let product = last.poly().mul(alloc, field, multiplier)?;
-    sum.add_into(field, &product)
+    let factor = multiplier.terms(alloc)?;
+    add_products(alloc, field, &factor, last.terms(), sum)
 }

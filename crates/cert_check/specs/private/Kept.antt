@@ -64,7 +64,7 @@ IsGeneratorOf k bound bases (Bit w i) = (w < length (dual_words bound bases)) ×
 
 -- where a generator was the last, its polynomial is held
 abbrev pub IsLast : ℕ → (ℕ → ℕ → ℕ) → BoundNet → List Basis → LastGenerator → Type 0
-IsLast k mul bound bases last = (g : Generator) → last.generator ≡ Some g → IsPolynomialOf k mul (generator_value k mul bound bases g) last.poly.terms
+IsLast k mul bound bases last = (g : Generator) → last.generator ≡ Some g → IsPolynomialOf k mul (generator_value k mul bound bases g) last.terms.items
 
 -- a generator and a multiplier that there are
 abbrev pub IsLineOf : ℕ → BoundNet → List Basis → ℕ → Line → Type 0
