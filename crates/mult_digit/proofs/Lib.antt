@@ -1,3 +1,6 @@
+pub mod LatchLemmas
+pub mod PlanForLemmas
 pub mod PowerLemmas
 pub mod ShapeLemmas
 pub mod ValueLemmas
+pub mod WordLemmas

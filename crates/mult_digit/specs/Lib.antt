@@ -1,2 +1,4 @@
 pub mod DigitPlan
+pub mod DigitForm
+pub mod DigitNet
 pub mod private

@@ -1,5 +1,5 @@
 -- Coordinates in a basis are its bits.
-use Rattle.std.proofs.Common.{◌≡◌, ◌∙◌, ap, ap₂, sym, refl, ℕ, ◌<◌, ◌-◌, ◌/◌, ◌%◌, ◌^◌}
+use Rattle.std.proofs.Common.{◌≡◌, ◌∙◌, ap, ap₂, sym, ℕ, ◌<◌, ◌-◌, ◌/◌, ◌%◌, ◌^◌}
 use Rattle.std.specs.Prelude.{◌==◌, slice_index}
 use Rattle.gf_field.specs.Ring.{IsRing}
 use Rattle.gf_field.specs.Field.{HasNoZeroDivisors}

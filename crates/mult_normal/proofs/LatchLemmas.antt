@@ -1,6 +1,5 @@
 -- The latches of a multiplier in a normal basis: their outputs, and which they are.
-use Rattle.std.proofs.Common.{◌≡◌, ◌⊎◌, ◌∙◌, ap, ap₂, sym, refl, subst, inl, inr, ℕ, zero, suc, ◌<◌, ◌+◌, Bool, true, false, List, [], ◌∷◌, ◌++◌, length, map, Some, arith}
-use Rattle.std.specs.Prelude.{slice_get}
+use Rattle.std.proofs.Common.{◌≡◌, ◌⊎◌, ◌∙◌, ap, ap₂, sym, refl, inl, inr, ℕ, zero, suc, ◌<◌, ◌+◌, List, [], ◌∷◌, ◌++◌, length, map, Some, arith}
 use Rattle.std.proofs.lemmas.List.{append_assoc, map-append}
 use Rattle.graph_core.proofs.GraphLemmas.{nat_eq_or}
 use Rattle.net_core.specs.LatchValue.{LatchValue}

@@ -6,3 +6,4 @@ pub mod PlanForLemmas
 pub mod ProductLemmas
 pub mod ShapeLemmas
 pub mod WordLemmas
+mod Examples

@@ -1,14 +1,13 @@
 -- The plan is one for the words, and the words are held by its latches.
-use Rattle.std.proofs.Common.{◌≡◌, ◌≢◌, ◌⊎◌, ◌∙◌, ap, ap₂, sym, refl, subst, inl, inr, ℕ, zero, suc, ◌<◌, ◌≤◌, ◌+◌, ◌*◌, ◌^◌, Bool, true, false, List, [], ◌∷◌, ◌++◌, length, map, length-append, None, Some, arith}
+use Rattle.std.proofs.Common.{◌≡◌, ◌∙◌, ap, ap₂, sym, subst, inl, inr, ℕ, zero, suc, ◌<◌, ◌≤◌, ◌+◌, ◌*◌, ◌^◌, Bool, true, false, List, [], ◌++◌, length, map, length-append, None, arith}
 use Rattle.net_core.specs.LatchValue.{LatchValue}
 use Rattle.net_core.specs.Lists.{Has, times}
-use Rattle.net_core.proofs.DriverLemmas.{Has_cases, Has_left, Has_map, Has_right, times_append}
+use Rattle.net_core.proofs.DriverLemmas.{Has_cases, Has_left, Has_map, times_append}
 use Rattle.net_words.specs.Bind.{is_unknown}
-use Rattle.net_words.specs.declared.word.Role.{Role}
 use Rattle.net_words.specs.declared.word.Role.TheVariants.{State, Fed, Output}
 use Rattle.net_words.specs.declared.word.WordText.{WordText}
-use Rattle.net_plan.specs.Plan.{Plan, with_chain}
-use Rattle.net_plan.specs.PlanShape.{CanRead, IsWellMade}
+use Rattle.net_plan.specs.Plan.{Plan}
+use Rattle.net_plan.specs.PlanShape.{IsWellMade}
 use Rattle.net_plan.specs.Makeable.{driven_outside}
 use Rattle.net_plan.proofs.LabelLemmas.{map_long}
 use Rattle.net_plan.proofs.ShapeLemmas.{chain_grows}
@@ -22,9 +21,9 @@ use Rattle.mult_runs.specs.Held.{net_at}
 use Rattle.mult_runs.specs.NormalNets.{place_before}
 use Rattle.mult_normal.specs.NormalNet.{first_factor, product_nets, second_factor}
 use Rattle.mult_normal.specs.NormalPlan.{Products, moved_from, normal_latches, products_from, sum_net, summed}
-use Rattle.mult_normal.proofs.LatchLemmas.{each_move, first_turn, latch_cases, latch_outs, move, second_turn, turn}
+use Rattle.mult_normal.proofs.LatchLemmas.{latch_cases, latch_outs}
 use Rattle.mult_normal.proofs.ShapeLemmas.{AreFew, rows_few, square_few, sum_made, sum_read}
-use Rattle.mult_normal.proofs.WordLemmas.{all_long, both, first_long, first_state, has_place, no_inputs, one, outer_is, outputs_long, product_place, second_long, second_state, state_other, states_long}
+use Rattle.mult_normal.proofs.WordLemmas.{all_long, both, first_long, first_state, no_inputs, one, outer_is, outputs_long, product_place, second_long, second_state, state_other, states_long}
 
 before_low : (k i : ℕ) → i < k → place_before k i < k
 before_low k zero less = omega (arith, less)
@@ -164,25 +163,25 @@ module _ (k : ℕ) (counts : ℕ → ℕ → Bool) (words : List WordText) (has 
   module _ (count last : ℕ) (a b z : List ℕ) (plan : Plan) (list : List LatchValue) (counted : count ≡ length (word_names words)) (a_is : a ≡ first_factor k words) (b_is : b ≡ second_factor k words) (z_is : z ≡ product_nets words)
       (plan_is : plan ≡ summed (products_from count k counts a b)) (last_is : last ≡ sum_net (products_from count k counts a b)) (list_is : list ≡ normal_latches (length a) last a b z)
     where
-    same_products : products_from count k counts a b ≡ products
-    same_products = ap (λ n. products_from n k counts a b) counted ∙ ap₂ (λ x y. products_from (length (word_names words)) k counts x y) a_is b_is
+      same_products : products_from count k counts a b ≡ products
+      same_products = ap (λ n. products_from n k counts a b) counted ∙ ap₂ (λ x y. products_from (length (word_names words)) k counts x y) a_is b_is
 
-    pub same_plan : plan ≡ summed products
-    same_plan = plan_is ∙ ap summed same_products
+      pub same_plan : plan ≡ summed products
+      same_plan = plan_is ∙ ap summed same_products
 
-    pub same_latches : list ≡ latches
-    same_latches =
-        list_is
-        ∙ (ap (λ n. normal_latches n last a b z) (ap (λ xs. length xs) a_is ∙ first_long k words has wide)
-        ∙ (ap (λ s. normal_latches k s a b z) (last_is ∙ ap sum_net same_products)
-        ∙ (ap₂ (λ x y. normal_latches k (sum_net products) x y z) a_is b_is
-        ∙ ap (normal_latches k (sum_net products) (first_factor k words) (second_factor k words)) z_is)))
+      pub same_latches : list ≡ latches
+      same_latches =
+          list_is
+          ∙ (ap (λ n. normal_latches n last a b z) (ap (λ xs. length xs) a_is ∙ first_long k words has wide)
+          ∙ (ap (λ s. normal_latches k s a b z) (last_is ∙ ap sum_net same_products)
+          ∙ (ap₂ (λ x y. normal_latches k (sum_net products) x y z) a_is b_is
+          ∙ ap (normal_latches k (sum_net products) (first_factor k words) (second_factor k words)) z_is)))
 
-    pub plan_for_at : IsPlanFor words [] list [] plan
-    plan_for_at =
-        let P : Plan → Type 0 = λ p. IsPlanFor words [] list [] p in
-        let Q : List LatchValue → Type 0 = λ ls. IsPlanFor words [] ls [] (summed products) in
-        subst P (sym same_plan) (subst Q (sym same_latches) plan_for)
+      pub plan_for_at : IsPlanFor words [] list [] plan
+      plan_for_at =
+          let P : Plan → Type 0 = λ p. IsPlanFor words [] list [] p in
+          let Q : List LatchValue → Type 0 = λ ls. IsPlanFor words [] ls [] (summed products) in
+          subst P (sym same_plan) (subst Q (sym same_latches) plan_for)
 
-    pub made_at : made_of words [] list plan ≡ made_of words [] latches (summed products)
-    made_at = ap₂ (made_of words []) same_latches same_plan
+      pub made_at : made_of words [] list plan ≡ made_of words [] latches (summed products)
+      made_at = ap₂ (made_of words []) same_latches same_plan

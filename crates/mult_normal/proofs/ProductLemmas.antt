@@ -1,10 +1,10 @@
 -- What the nets of products and of their sum have in bits that agree with the gates.
-use Rattle.std.proofs.Common.{◌≡◌, ◌∙◌, ap, sym, refl, ℕ, zero, suc, ◌<◌, ◌*◌, Bool, true, false, cond, List, [], ◌∷◌, ◌++◌, None, arith}
+use Rattle.std.proofs.Common.{◌≡◌, ◌∙◌, ap, sym, refl, ℕ, zero, suc, ◌<◌, ◌*◌, Bool, true, false, cond, List, [], ◌∷◌, None, arith}
 use Rattle.std.specs.Prelude.{bit_xor, ◌==◌, ◌&&◌}
 use Rattle.std.specs.Int.Bits.{xor_assoc, xor_zero_l, xor_zero_r}
 use Rattle.gf_field.specs.Polynomial.{sum_of_first}
 use Rattle.net_core.specs.Value.{bit_of}
-use Rattle.net_plan.specs.Plan.{Plan, begun, each, with_and, with_chain}
+use Rattle.net_plan.specs.Plan.{begun, each}
 use Rattle.net_plan.specs.PlanValue.{Agrees, bit_at_net, parity}
 use Rattle.net_plan.proofs.ValueLemmas.{agrees_before, and_value, chain_before, chain_value, parity_append}
 use Rattle.mult_serial.specs.Chosen.{chosen}

@@ -1,10 +1,9 @@
 -- The gates of products and of their sum are well made.
-use Rattle.std.proofs.Common.{◌≡◌, ◌⊎◌, subst, inl, inr, ℕ, zero, suc, ◌<◌, ◌≤◌, ◌+◌, ◌*◌, mul-suc, mul-le-mul_left, ◌^◌, Bool, true, false, List, [], ◌∷◌, ◌++◌, length, None, Some, arith}
-use Rattle.std.specs.Prelude.{slice_get}
+use Rattle.std.proofs.Common.{◌≡◌, ◌⊎◌, subst, inl, inr, ℕ, zero, suc, ◌<◌, ◌≤◌, ◌+◌, ◌*◌, mul-suc, mul-le-mul_left, ◌^◌, Bool, true, false, List, [], ◌∷◌, length, None, arith}
 use Rattle.std.proofs.lemmas.List.{length_push}
 use Rattle.net_core.specs.Lists.{Has}
 use Rattle.net_core.proofs.DriverLemmas.{Has_cases}
-use Rattle.net_plan.specs.Plan.{Plan, begun, each}
+use Rattle.net_plan.specs.Plan.{begun, each}
 use Rattle.net_plan.specs.PlanShape.{CanRead, IsWellMade}
 use Rattle.net_plan.proofs.EachLemmas.{each_keeps}
 use Rattle.net_plan.proofs.ShapeLemmas.{begun_made, and_made, can_read_more, chain_made, chain_read}

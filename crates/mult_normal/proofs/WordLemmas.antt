@@ -1,14 +1,13 @@
 -- The nets of two state words and of the output word.
-use Rattle.std.proofs.Common.{◌≡◌, ◌≢◌, ◌⊎◌, ◌∙◌, ap, ap₂, sym, refl, subst, inl, inr, ℕ, zero, suc, ◌<◌, ◌≤◌, ◌+◌, ◌*◌, ◌^◌, List, [], ◌∷◌, ◌++◌, length, map, take, drop, append-nil, Some, arith}
+use Rattle.std.proofs.Common.{◌≡◌, ◌≢◌, ◌∙◌, ap, ap₂, sym, refl, subst, ℕ, zero, suc, ◌<◌, ◌≤◌, ◌+◌, ◌*◌, ◌^◌, List, [], ◌∷◌, ◌++◌, length, take, drop, append-nil, arith}
 use Rattle.std.specs.Prelude.{slice_get}
 use Rattle.std.proofs.Math.Seq.{take-append_seam}
 use Rattle.std.proofs.lemmas.List.{length-take-le, take-append-drop, length-append}
-use Rattle.net_core.specs.Lists.{Has, times}
+use Rattle.net_core.specs.Lists.{Has}
 use Rattle.net_core.proofs.DriverLemmas.{Has_left, Has_right}
-use Rattle.net_words.specs.declared.word.Role.{Role}
 use Rattle.net_words.specs.declared.word.Role.TheVariants.{Input, State, Output}
 use Rattle.net_words.specs.declared.word.WordText.{WordText}
-use Rattle.net_make.specs.Form.{all_of, AllWide, HasWords, lists_of, role_count}
+use Rattle.net_make.specs.Form.{all_of, AllWide, HasWords, lists_of}
 use Rattle.net_make.specs.Ports.{inputs_of, outer_names, role_nets, word_names}
 use Rattle.net_make.proofs.FormLemmas.{OneOf, lists_long, lists_wide, names_long, nets_long, nets_of_lists, no_nets, words_one_of}
 use Rattle.mult_runs.specs.Held.{net_at}
@@ -74,8 +73,7 @@ module _ (k : ℕ) (words : List WordText) (has : HasWords State 2 words) (wide 
   factors =
       let lists = two_lists (lists_of 0 words) (lists_long State 0 words state_other one ∙ has.others) in
       let nets : role_nets State 0 words ≡ lists.0 ++ lists.1 = nets_of_lists State 0 words state_other one ∙ (ap all_of lists.2 ∙ ap (λ v. lists.0 ++ v) (append-nil lists.1)) in
-      let long : length lists.0 ≡ k = lists_wide k 0 words wide lists.0 (0, ap (λ ls. slice_get ls 0) lists.2) in
-      (
+      let long : length lists.0 ≡ k = lists_wide k 0 words wide lists.0 (0, ap (λ ls. slice_get ls 0) lists.2) in (
         lists.0,
         lists.1,
         lists.2,

@@ -1,6 +1,6 @@
 -- The net list of a multiplier in a normal basis over the words of a signature. Source: J. L. Massey and J. K. Omura,
 -- Computational method and apparatus for finite field arithmetic, US patent 4,587,627 (1986); docs/FORMATS.md.
-use Rattle.std.specs.Prelude.{ℕ, List, [], drop, length, map, take}
+use Rattle.std.specs.Prelude.{ℕ, List, [], drop, length, take}
 use Rattle.net_core.specs.LatchValue.{LatchValue}
 use Rattle.net_core.specs.NetList.{NetList}
 use Rattle.net_words.specs.declared.word.Role.TheVariants.{State, Output}

@@ -1,4 +1,4 @@
-use Rattle.std.proofs.Common.{◌≡◌, ◌∙◌, ap, refl, sym, subst}
+use Rattle.std.proofs.Common.{◌∙◌, ap, refl, sym, subst}
 use Rattle.std.specs.Prelude.{is_some}
 use Rattle.net_core.specs.NetList.{NetList}
 use Rattle.net_write.specs.Plain.{HasPlainNames}

@@ -10,8 +10,10 @@ sum-requires g c =
     let counts : ℕ → ℕ → Bool = counts_in (g.F.Ring.degree c.args.field.now) (g.F.Ring.product c.args.field.now) c.args.basis.now in
     let P : Products → Type 0 = λ s. AreFew c.args.first (g.F.Ring.degree c.args.field.now * g.F.Ring.degree c.args.field.now) s in
     let made : c.add_rows.new.self ≡ each (g.F.Ring.degree c.args.field.now) (with_row (g.F.Ring.degree c.args.field.now) counts c.args.a.now c.args.b.now) (record { plan = begun c.args.first; nets = [] }) =
-        c.in_ok-add_rows.ensures ∙ ap (each (g.F.Ring.degree c.args.field.now) (with_row (g.F.Ring.degree c.args.field.now) counts c.args.a.now c.args.b.now)) c.new-products.ensures in
-    record { room =
-        room_for_sum c.args.first (g.F.Ring.degree c.args.field.now * g.F.Ring.degree c.args.field.now) c.add_rows.new.self c.requires.room
-        (square_few (g.F.Ring.degree c.args.field.now) (g.met.F.Ring.laws c.args.field.now).small)
-        (subst P (sym made) (rows_few (g.F.Ring.degree c.args.field.now) counts c.args.a.now c.args.b.now c.args.first (g.F.Ring.degree c.args.field.now))) }
+    c.in_ok-add_rows.ensures ∙ ap (each (g.F.Ring.degree c.args.field.now) (with_row (g.F.Ring.degree c.args.field.now) counts c.args.a.now c.args.b.now)) c.new-products.ensures in
+    record {
+      room =
+          room_for_sum c.args.first (g.F.Ring.degree c.args.field.now * g.F.Ring.degree c.args.field.now) c.add_rows.new.self c.requires.room
+          (square_few (g.F.Ring.degree c.args.field.now) (g.met.F.Ring.laws c.args.field.now).small)
+          (subst P (sym made) (rows_few (g.F.Ring.degree c.args.field.now) counts c.args.a.now c.args.b.now c.args.first (g.F.Ring.degree c.args.field.now)));
+    }
