@@ -1,3 +1,6 @@
+pub mod BindingLemmas
+pub mod FeedLemmas
+pub mod JobLemmas
 pub mod LatchLemmas
 pub mod PlanForLemmas
 pub mod PowerLemmas

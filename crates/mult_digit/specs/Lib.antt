@@ -1,4 +1,5 @@
 pub mod DigitPlan
 pub mod DigitForm
 pub mod DigitNet
+pub mod ComputesFed
 pub mod private
