@@ -1,7 +1,10 @@
 pub mod BindingLemmas
 pub mod FeedLemmas
+pub mod FinalLemmas
+pub mod FormLemmas
 pub mod JobLemmas
 pub mod LatchLemmas
+pub mod MakerLemmas
 pub mod PlanForLemmas
 pub mod PowerLemmas
 pub mod ShapeLemmas

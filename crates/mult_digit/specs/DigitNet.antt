@@ -19,7 +19,11 @@ fed_nets width words = range_with_len (length (word_names words)) width
 abbrev pub digit_sums_of : ℕ → (ℕ → ℕ → ℕ) → ℕ → ℕ → List WordText → Sums
 digit_sums_of k mul x width words = sums_from (length (word_names words) + width) k mul x (fed_nets width words) (role_nets Input 0 words) (role_nets Output 0 words)
 
--- the net list
+-- the net list over fed nets of these names
+abbrev pub net_over : ℕ → (ℕ → ℕ → ℕ) → ℕ → ℕ → List WordText → List (List ℕ) → NetList
+net_over k mul x width words fed =
+    made_of words fed (digit_latches k (digit_sums_of k mul x width words).nets (role_nets Output 0 words)) (digit_sums_of k mul x width words).plan
+
+-- the net list, where the lines of the first cycle feed the nets of a digit
 abbrev pub digit_net : ℕ → (ℕ → ℕ → ℕ) → ℕ → ℕ → List WordText → List FeedText → NetList
-digit_net k mul x width words feeds =
-    made_of words (digit_names width feeds) (digit_latches k (digit_sums_of k mul x width words).nets (role_nets Output 0 words)) (digit_sums_of k mul x width words).plan
+digit_net k mul x width words feeds = net_over k mul x width words (digit_names width feeds)
