@@ -1,21 +1,17 @@
 -- The feeds of digits bind to the nets of a digit, each to its own.
-use Rattle.std.proofs.Common.{◌≡◌, ◌≢◌, ◌⊎◌, ◌∙◌, ap, ap₂, sym, refl, subst, inl, inr, ℕ, zero, suc, ◌<◌, ◌≤◌, ◌+◌, ◌-◌, ◌*◌, ◌/◌, ◌%◌, mul-suc, mul-le-mul_left, Bool, true, false, cond, List, [], ◌∷◌, ◌++◌, length, map, take, get_or, append-nil, Option, None, Some, Result, Ok, arith}
-use Rattle.std.specs.Prelude.{slice_get, ◌==◌, ◌&&◌, not}
+use Rattle.std.proofs.Common.{◌≡◌, ◌∙◌, ap, ap₂, sym, refl, subst, ℕ, zero, suc, ◌<◌, ◌≤◌, ◌+◌, ◌-◌, ◌*◌, ◌/◌, ◌%◌, mul-suc, mul-le-mul_left, Bool, true, false, cond, List, [], ◌∷◌, ◌++◌, append-nil, Some, Ok, arith}
+use Rattle.std.specs.Prelude.{slice_get, ◌==◌, ◌&&◌}
 use Rattle.std.proofs.Math.Nat.{div-add-mod, mod-lt, div-lt_iff_lt-mul}
 use Rattle.std.proofs.lemmas.Bool.Decides.{nat_tests}
-use Rattle.std.proofs.lemmas.List.{append_assoc, get_or-take, length-take-le}
-use Rattle.std.proofs.lemmas.Option.{slice_get-get_or, get_or_from_slice_get}
-use Rattle.net_core.specs.Lists.{Has}
+use Rattle.std.proofs.lemmas.List.{append_assoc}
 use Rattle.net_core.specs.NetList.{NetList, number_of}
 use Rattle.net_words.specs.Feeds.{FeedsOf, bound_feed, free_net, is_free}
 use Rattle.net_words.specs.declared.bound.BoundWord.{BoundWord}
 use Rattle.net_words.specs.declared.feed.Feed.{Feed}
 use Rattle.net_words.specs.declared.feed.FeedText.{FeedText}
 use Rattle.circuit_model.specs.declared.circuit_feed.CircuitFeed.{CircuitFeed}
-use Rattle.circuit_model.specs.declared.circuit_feed.FeedSource.{FeedSource}
 use Rattle.circuit_model.specs.Feeds.{source_at}
 use Rattle.circuit_model.proofs.FeedLemmas.{eq_of}
-use Rattle.mult_digit.specs.DigitForm.{AreDigitFeeds, digit_names, fed_names}
 
 -- ---- lines one after another
 -- the feeds of lines, where line i feeds the net with this number
@@ -53,9 +49,9 @@ feeds_bind net words number i before (feed ∷ feeds) each =
     let free : is_free net words (number i) ≡ true = ap (λ n. is_free net words (number n)) (sym e) ∙ here.1 in
     let step : free_net net words feed.line (number_of net feed.net) ≡ Ok (number i) = ap (free_net net words feed.line) named ∙ rw free refl in
     let rest = feeds_bind net words number (suc i) (before ++ bound_feed feed (number i) ∷ []) feeds (λ j g got.
-        let f : i + suc j ≡ suc i + j = omega arith in
-        let later = each (suc j) g got in
-        (later.0 ∙ ap (λ n. Some (number n)) f, ap (λ n. is_free net words (number n)) (sym f) ∙ later.1)) in
+    let f : i + suc j ≡ suc i + j = omega arith in
+    let later = each (suc j) g got in
+    (later.0 ∙ ap (λ n. Some (number n)) f, ap (λ n. is_free net words (number n)) (sym f) ∙ later.1)) in
     let whole : before ++ bound_feed feed (number i) ∷ [] ++ bound_from number (suc i) feeds ≡ before ++ bound_feed feed (number i) ∷ bound_from number (suc i) feeds = append_assoc before (bound_feed feed (number i) ∷ []) (bound_from number (suc i) feeds) in
     let P : List Feed → Type 0 = λ v. FeedsOf net words (before ++ bound_feed feed (number i) ∷ []) feeds (Ok v) in
     (number i, sym step, subst P whole rest)

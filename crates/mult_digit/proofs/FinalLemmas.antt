@@ -1,5 +1,5 @@
 -- The net for a signature that has the form.
-use Rattle.std.proofs.Common.{◌≡◌, ◌∙◌, ap, ap₂, sym, refl, subst, ℕ, ◌<◌, ◌≤◌, ◌+◌, ◌^◌, List, [], length, map, take, length-append, Option, None, Some, IfSome, arith}
+use Rattle.std.proofs.Common.{◌≡◌, ◌∙◌, ap, ap₂, sym, refl, subst, ℕ, ◌≤◌, ◌^◌, List, [], length, take, length-append, Option, None, Some, IfSome, arith}
 use Rattle.std.specs.Prelude.{IsSome}
 use Rattle.std.proofs.lemmas.List.{length-take-le, take-map}
 use Rattle.gf_field.specs.Bit.{bit_mul}
@@ -49,46 +49,46 @@ few_names k words front are wide small narrow =
 module _ (k : ℕ) (mul : ℕ → ℕ → ℕ) (ring : IsRing k mul) (field : HasNoZeroDivisors k mul) (x : ℕ) (units : HasUnitPowers k mul x) (width : ℕ) (signature : SignatureValue) (is : IsFront k width signature) (wide : AllUnfedWide k signature.words)
     (words : List WordText) (words_are : words ≡ signature.words) (feeds front : List FeedText) (feeds_are : feeds ≡ signature.feeds) (front_is : front ≡ take width feeds)
   where
-  pub width_low : width ≤ length feeds
-  width_low = let low = factor_low width is.feeds.count k ring.some is.feeds.whole in omega (arith, low, is.feeds.long, ap (λ fs. length fs) feeds_are)
+    pub width_low : width ≤ length feeds
+    width_low = let low = factor_low width is.feeds.count k ring.some is.feeds.whole in omega (arith, low, is.feeds.long, ap (λ fs. length fs) feeds_are)
 
-  pub front_long : length front ≡ width
-  front_long = ap (λ fs. length fs) front_is ∙ length-take-le width feeds width_low
+    pub front_long : length front ≡ width
+    front_long = ap (λ fs. length fs) front_is ∙ length-take-le width feeds width_low
 
-  pub front_low : length front ≤ k
-  front_low = let low = factor_low width is.feeds.count k ring.some is.feeds.whole in omega (arith, low, front_long)
+    pub front_low : length front ≤ k
+    front_low = let low = factor_low width is.feeds.count k ring.some is.feeds.whole in omega (arith, low, front_long)
 
-  front_names : fed_names front ≡ digit_names width signature.feeds
-  front_names = ap fed_names front_is ∙ (sym (take-map (λ (f : FeedText). f.net) width feeds) ∙ ap (λ fs. take width (fed_names fs)) feeds_are)
+    front_names : fed_names front ≡ digit_names width signature.feeds
+    front_names = ap fed_names front_is ∙ (sym (take-map (λ (f : FeedText). f.net) width feeds) ∙ ap (λ fs. take width (fed_names fs)) feeds_are)
 
-  outer_same : outer_names words (fed_names front) ≡ outer_names signature.words (digit_names width signature.feeds)
-  outer_same = ap₂ outer_names words_are front_names
+    outer_same : outer_names words (fed_names front) ≡ outer_names signature.words (digit_names width signature.feeds)
+    outer_same = ap₂ outer_names words_are front_names
 
-  pub form_from : AreMakerNames (outer_names words (fed_names front)) → HasDigitForm k signature
-  form_from names = record { tower = is.tower; upper = is.upper; blocks = is.blocks; words = is.words; width = width; feeds = is.feeds; names = subst AreMakerNames outer_same names }
+    pub form_from : AreMakerNames (outer_names words (fed_names front)) → HasDigitForm k signature
+    form_from names = record { tower = is.tower; upper = is.upper; blocks = is.blocks; words = is.words; width = width; feeds = is.feeds; names = subst AreMakerNames outer_same names }
 
-  pub names_from : HasDigitForm k signature → AreMakerNames (outer_names words (fed_names front))
-  names_from form =
-      let same : form.width ≡ width = one_width k form.width width signature.feeds ring.some form.feeds is.feeds in
-      subst AreMakerNames (sym outer_same) (subst (λ (w : ℕ). AreMakerNames (outer_names signature.words (digit_names w signature.feeds))) same form.names)
+    pub names_from : HasDigitForm k signature → AreMakerNames (outer_names words (fed_names front))
+    names_from form =
+        let same : form.width ≡ width = one_width k form.width width signature.feeds ring.some form.feeds is.feeds in
+        subst AreMakerNames (sym outer_same) (subst (λ (w : ℕ). AreMakerNames (outer_names signature.words (digit_names w signature.feeds))) same form.names)
 
-  module _ (names : AreMakerNames (outer_names words (fed_names front))) (net : NetList) (net_is : net ≡ net_over k mul x (length front) words (fed_names front)) where
-    net_same : net ≡ digit_net k mul x width signature.words signature.feeds
-    net_same =
-        net_is
-        ∙ (ap (λ w. net_over k mul x w words (fed_names front)) front_long
-        ∙ ap₂ (net_over k mul x width) words_are front_names)
+    module _ (names : AreMakerNames (outer_names words (fed_names front))) (net : NetList) (net_is : net ≡ net_over k mul x (length front) words (fed_names front)) where
+      net_same : net ≡ digit_net k mul x width signature.words signature.feeds
+      net_same =
+          net_is
+          ∙ (ap (λ w. net_over k mul x w words (fed_names front)) front_long
+          ∙ ap₂ (net_over k mul x width) words_are front_names)
 
-    pub digit_made : IsDigitNet k mul x signature net
-    unfolding form_from
-    digit_made = record {
-      form = form_from names;
-      is = net_same;
-      product = subst (λ (n : NetList). ComputesFed k mul n signature.words signature.feeds (unit_basis k) is.feeds.count mul) (sym net_same)
-          (computes k mul ring field x units width signature.words signature.feeds is.words wide is.feeds (subst AreMakerNames outer_same names));
-    }
+      pub digit_made : IsDigitNet k mul x signature net
+      unfolding form_from
+      digit_made = record {
+        form = form_from names;
+        is = net_same;
+        product = subst (λ (n : NetList). ComputesFed k mul n signature.words signature.feeds (unit_basis k) is.feeds.count mul) (sym net_same)
+            (computes k mul ring field x units width signature.words signature.feeds is.words wide is.feeds (subst AreMakerNames outer_same names));
+      }
 
-    pub digit_plain : HasPlainNames net
-    digit_plain = subst HasPlainNames (sym net_same)
-        (made_plain signature.words (digit_names width signature.feeds) (digit_latches k (digit_sums_of k mul x width signature.words).nets (role_nets Output 0 signature.words)) [] (digit_sums_of k mul x width signature.words).plan
-        (subst AreMakerNames outer_same names) (fits k mul x width signature.words signature.feeds is.words wide ring.some ring.small is.feeds (subst AreMakerNames outer_same names)))
+      pub digit_plain : HasPlainNames net
+      digit_plain = subst HasPlainNames (sym net_same)
+          (made_plain signature.words (digit_names width signature.feeds) (digit_latches k (digit_sums_of k mul x width signature.words).nets (role_nets Output 0 signature.words)) [] (digit_sums_of k mul x width signature.words).plan
+          (subst AreMakerNames outer_same names) (fits k mul x width signature.words signature.feeds is.words wide ring.some ring.small is.feeds (subst AreMakerNames outer_same names)))

@@ -1,5 +1,5 @@
 -- How feeds of digits are recognized.
-use Rattle.std.proofs.Common.{◌≡◌, ◌≢◌, ◌⊎◌, ◌∙◌, ap, ap₂, sym, refl, subst, inl, inr, ℕ, zero, suc, ◌<◌, ◌≤◌, ◌+◌, ◌-◌, ◌*◌, ◌/◌, ◌%◌, ◌↔◌, Bool, true, false, List, [], ◌∷◌, length, map, get_or, Some, arith}
+use Rattle.std.proofs.Common.{◌≡◌, ◌∙◌, ap, sym, subst, inl, inr, ℕ, suc, ◌<◌, ◌≤◌, ◌+◌, ◌-◌, ◌*◌, ◌/◌, ◌%◌, ◌↔◌, Bool, true, false, List, [], length, get_or, Some, arith}
 use Rattle.std.specs.Prelude.{slice_get, IsTrue}
 use Rattle.std.proofs.Math.Nat.{div-add-mod, div-eq_of_lt, mul-mod_right}
 use Rattle.std.proofs.lemmas.Nat.{div-mul-add}
@@ -23,8 +23,7 @@ line_is k width feeds i feed item other name p q r all got here there named insi
     let same : item ≡ feed = here ∙ get_or_from_slice_get feeds i feed item got in
     let name_is : name ≡ get_or (fed_names feeds) (i % width) [] = named ∙ (ap (λ (f : FeedText). f.net) there ∙ sym (get_or-map (λ (f : FeedText). f.net) feeds (i % width) other [] inside)) in
     let more : i / width + 1 ≡ suc (i / width) = omega arith in
-    let place : ◌≡◌ {A = Source} (Bit 0 (k - width * (i / width + 1) + i % width)) (Bit 0 (k - width * suc (i / width) + i % width)) = ap (λ n. Bit 0 (k - width * n + i % width)) more in
-    (
+    let place : ◌≡◌ {A = Source} (Bit 0 (k - width * (i / width + 1) + i % width)) (Bit 0 (k - width * suc (i / width) + i % width)) = ap (λ n. Bit 0 (k - width * n + i % width)) more in (
       (λ yes'. let parts = both.0 yes' in record {
         cycle = ap (λ (f : FeedText). f.cycle) (sym same) ∙ cycle.0 parts.0;
         source = ap (λ (f : FeedText). f.source) (sym same) ∙ (source.0 parts.1 ∙ place);

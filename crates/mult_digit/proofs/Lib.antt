@@ -10,3 +10,4 @@ pub mod PowerLemmas
 pub mod ShapeLemmas
 pub mod ValueLemmas
 pub mod WordLemmas
+mod Examples

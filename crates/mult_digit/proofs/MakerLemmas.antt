@@ -1,15 +1,14 @@
 -- The parts of the net by equations.
-use Rattle.std.proofs.Common.{◌≡◌, ◌∙◌, ap, ap₂, sym, refl, subst, ℕ, zero, suc, ◌≤◌, ◌+◌, ◌^◌, List, [], ◌∷◌, length, arith}
+use Rattle.std.proofs.Common.{◌≡◌, ◌∙◌, ap, ap₂, sym, refl, subst, ℕ, ◌≤◌, ◌+◌, List, [], ◌∷◌, length, arith}
 use Rattle.std.specs.List.{range_with_len}
 use Rattle.std.proofs.lemmas.List.FromFn.{length-range_with_len}
 use Rattle.net_core.specs.LatchValue.{LatchValue}
-use Rattle.net_core.specs.Lists.{Has}
-use Rattle.net_words.specs.declared.word.Role.TheVariants.{Input, Fed, Output}
+use Rattle.net_words.specs.declared.word.Role.TheVariants.{Input, Output}
 use Rattle.net_words.specs.declared.word.WordText.{WordText}
 use Rattle.net_plan.specs.Plan.{Plan}
 use Rattle.net_make.specs.Made.{IsPlanFor, made_of}
 use Rattle.net_make.specs.Ports.{role_nets, word_names}
-use Rattle.mult_digit.specs.DigitForm.{AllUnfedWide, AreDigitWords, IsPolyWord}
+use Rattle.mult_digit.specs.DigitForm.{AllUnfedWide, AreDigitWords}
 use Rattle.mult_digit.specs.DigitNet.{digit_sums_of, fed_nets, net_over}
 use Rattle.mult_digit.specs.DigitPlan.{Sums, digit_latches, products_from, summands, sums_from}
 use Rattle.mult_digit.specs.private.Words.{DigitWordsBy}
@@ -53,26 +52,26 @@ module _ (k : ℕ) (mul : ℕ → ℕ → ℕ) (x width : ℕ) (words : List Wor
       (plan_is : plan ≡ (sums_from (first + width) k mul root d b z).plan) (sums_is : sums_list ≡ (sums_from (first + width) k mul root d b z).nets) (list_is : list ≡ digit_latches (length z) sums_list z)
       (fed : List (List ℕ)) (fed_long : length fed ≡ width)
     where
-    same_sums : sums_from (first + width) k mul root d b z ≡ digit_sums_of k mul x width words
-    same_sums =
-        ap₂ (λ n y. sums_from (n + width) k mul y d b z) first_is root_is
-        ∙ (ap (λ v. sums_from (length (word_names words) + width) k mul x v b z) (d_is ∙ ap (λ n. range_with_len n width) first_is)
-        ∙ ap₂ (λ v w. sums_from (length (word_names words) + width) k mul x (fed_nets width words) v w) b_is z_is)
+      same_sums : sums_from (first + width) k mul root d b z ≡ digit_sums_of k mul x width words
+      same_sums =
+          ap₂ (λ n y. sums_from (n + width) k mul y d b z) first_is root_is
+          ∙ (ap (λ v. sums_from (length (word_names words) + width) k mul x v b z) (d_is ∙ ap (λ n. range_with_len n width) first_is)
+          ∙ ap₂ (λ v w. sums_from (length (word_names words) + width) k mul x (fed_nets width words) v w) b_is z_is)
 
-    same_plan : plan ≡ (digit_sums_of k mul x width words).plan
-    same_plan = plan_is ∙ ap (λ (s : Sums). s.plan) same_sums
+      same_plan : plan ≡ (digit_sums_of k mul x width words).plan
+      same_plan = plan_is ∙ ap (λ (s : Sums). s.plan) same_sums
 
-    same_latches : list ≡ digit_latches k (digit_sums_of k mul x width words).nets (role_nets Output 0 words)
-    same_latches =
-        list_is
-        ∙ (ap (λ n. digit_latches n sums_list z) (ap (λ xs. length xs) z_is ∙ output_long k words are wide)
-        ∙ ap₂ (digit_latches k) (sums_is ∙ ap (λ (s : Sums). s.nets) same_sums) z_is)
+      same_latches : list ≡ digit_latches k (digit_sums_of k mul x width words).nets (role_nets Output 0 words)
+      same_latches =
+          list_is
+          ∙ (ap (λ n. digit_latches n sums_list z) (ap (λ xs. length xs) z_is ∙ output_long k words are wide)
+          ∙ ap₂ (digit_latches k) (sums_is ∙ ap (λ (s : Sums). s.nets) same_sums) z_is)
 
-    pub plan_for_at : IsPlanFor words fed list [] plan
-    plan_for_at =
-        let P : Plan → Type 0 = λ p. IsPlanFor words fed list [] p in
-        let Q : List LatchValue → Type 0 = λ ls. IsPlanFor words fed ls [] (digit_sums_of k mul x width words).plan in
-        subst P (sym same_plan) (subst Q (sym same_latches) (plan_for k mul x width words are wide small narrow fed fed_long))
+      pub plan_for_at : IsPlanFor words fed list [] plan
+      plan_for_at =
+          let P : Plan → Type 0 = λ p. IsPlanFor words fed list [] p in
+          let Q : List LatchValue → Type 0 = λ ls. IsPlanFor words fed ls [] (digit_sums_of k mul x width words).plan in
+          subst P (sym same_plan) (subst Q (sym same_latches) (plan_for k mul x width words are wide small narrow fed fed_long))
 
-    pub made_at : made_of words fed list plan ≡ net_over k mul x width words fed
-    made_at = ap₂ (made_of words fed) same_latches same_plan
+      pub made_at : made_of words fed list plan ≡ net_over k mul x width words fed
+      made_at = ap₂ (made_of words fed) same_latches same_plan

@@ -1,12 +1,12 @@
 -- The plan is one for the words and the fed nets, and the words are held by its latches.
-use Rattle.std.proofs.Common.{◌≡◌, ◌⊎◌, ◌∙◌, ap, ap₂, sym, refl, subst, inl, inr, ℕ, zero, suc, ◌<◌, ◌≤◌, ◌+◌, ◌*◌, ◌^◌, Bool, true, false, List, [], ◌∷◌, ◌++◌, length, map, length-append, mul-le-mul_left, arith}
+use Rattle.std.proofs.Common.{◌≡◌, ◌∙◌, ap, ap₂, sym, subst, inl, inr, ℕ, suc, ◌<◌, ◌≤◌, ◌+◌, ◌*◌, ◌^◌, true, false, List, [], ◌++◌, length, map, length-append, mul-le-mul_left, arith}
 use Rattle.std.specs.List.{range_with_len}
 use Rattle.std.proofs.lemmas.List.FromFn.{length-range_with_len}
 use Rattle.net_core.specs.LatchValue.{LatchValue}
 use Rattle.net_core.specs.Lists.{Has, times}
 use Rattle.net_core.proofs.DriverLemmas.{Has_cases, Has_left, Has_map, Has_right, times_append, times_some}
 use Rattle.net_words.specs.Bind.{is_unknown}
-use Rattle.net_words.specs.declared.word.Role.TheVariants.{Input, State, Output}
+use Rattle.net_words.specs.declared.word.Role.TheVariants.{Input, Output}
 use Rattle.net_words.specs.declared.word.WordText.{WordText}
 use Rattle.net_plan.specs.PlanShape.{CanRead, IsWellMade}
 use Rattle.net_plan.specs.Makeable.{driven_outside}
@@ -22,7 +22,7 @@ use Rattle.mult_digit.specs.DigitNet.{digit_sums_of, fed_nets}
 use Rattle.mult_digit.specs.DigitPlan.{Sums, digit_latches}
 use Rattle.mult_digit.proofs.LatchLemmas.{latch_is, latch_outs}
 use Rattle.mult_digit.proofs.ShapeLemmas.{AreMade, sums_made}
-use Rattle.mult_digit.proofs.WordLemmas.{fed_nets_are_unfed, has_place, has_range, input_at, input_long, input_nets, names_long, no_states, output_at, output_long, output_nets_are, range_at}
+use Rattle.mult_digit.proofs.WordLemmas.{fed_nets_are_unfed, has_place, has_range, input_at, input_nets, names_long, no_states, output_at, output_long, output_nets_are, range_at}
 
 module _ (k : ℕ) (mul : ℕ → ℕ → ℕ) (x width : ℕ) (words : List WordText) (are : AreDigitWords words) (wide : AllUnfedWide k words) (small : k ≤ 64) (narrow : width ≤ k) (fed : List (List ℕ)) (fed_long : length fed ≡ width) where
   abbrev sums : Sums

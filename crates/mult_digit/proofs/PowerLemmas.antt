@@ -1,5 +1,5 @@
 -- Powers one after another.
-use Rattle.std.proofs.Common.{◌≡◌, ◌∙◌, ap, refl, ℕ, zero, suc, ◌<◌, ◌≤◌, ◌+◌, ◌^◌, pow-suc, arith}
+use Rattle.std.proofs.Common.{◌≡◌, ◌∙◌, ap, ℕ, zero, suc, ◌<◌, ◌≤◌, ◌+◌, ◌^◌, pow-suc, arith}
 use Rattle.gf_field.specs.Power.{power}
 
 pub one_below : (k one : ℕ) → one ≡ 1 → 1 ≤ k → one < 2 ^ k

@@ -1,17 +1,17 @@
 -- The gates of products and of sums are well made.
-use Rattle.std.proofs.Common.{◌≡◌, ◌⊎◌, ◌∙◌, ap, ap₂, refl, sym, subst, inl, inr, ℕ, zero, suc, ◌<◌, ◌≤◌, ◌+◌, ◌*◌, mul-suc, mul-le-mul_left, Bool, true, false, cond, List, [], ◌∷◌, ◌++◌, length, length-append, None, Some, arith}
-use Rattle.std.specs.Prelude.{slice_get, ◌==◌}
+use Rattle.std.proofs.Common.{◌≡◌, ◌⊎◌, ◌∙◌, ap, ap₂, refl, subst, inl, inr, ℕ, zero, suc, ◌<◌, ◌≤◌, ◌+◌, ◌*◌, mul-suc, mul-le-mul_left, Bool, true, false, List, [], ◌∷◌, ◌++◌, length, length-append, None, arith}
+use Rattle.std.specs.Prelude.{◌==◌}
 use Rattle.std.specs.Int.{bit_at}
 use Rattle.std.proofs.lemmas.List.{length_push}
 use Rattle.gf_field.specs.Power.{power}
 use Rattle.net_core.specs.Lists.{Has}
 use Rattle.net_core.proofs.DriverLemmas.{Has_cases}
-use Rattle.net_plan.specs.Plan.{Plan, begun, each, gathered, where_so, with_and, with_chain, chain_net}
+use Rattle.net_plan.specs.Plan.{begun, each, gathered, where_so, with_and, with_chain, chain_net}
 use Rattle.net_plan.specs.PlanShape.{CanRead, IsWellMade}
 use Rattle.net_plan.proofs.EachLemmas.{each_keeps, gathered_has}
 use Rattle.net_plan.proofs.ShapeLemmas.{begun_made, and_made, can_read_more, chain_made, chain_grows, chain_read}
 use Rattle.mult_runs.specs.Held.{net_at}
-use Rattle.mult_digit.specs.DigitPlan.{Sums, product_net, products_from, summands, sums_from, with_row, with_sum}
+use Rattle.mult_digit.specs.DigitPlan.{Sums, product_net, products_from, summands, with_row, with_sum}
 use Rattle.mult_digit.proofs.ValueLemmas.{rows_next}
 
 -- ---- lists one after the other
@@ -91,54 +91,54 @@ sum_grows list items old new same few is =
 module _ (outer : ℕ) (sources : List ℕ) (k : ℕ) (mul : ℕ → ℕ → ℕ) (x : ℕ) (d b z : List ℕ)
     (d_reads : (e : ℕ) → e < length d → Has sources (net_at d e)) (b_reads : (j : ℕ) → j < k → Has sources (net_at b j)) (z_reads : (i : ℕ) → i < k → Has sources (net_at z i))
   where
-  pub products_made : IsWellMade outer sources [] (products_from outer k d b)
-  products_made = each_keeps (λ e. IsWellMade outer sources []) (with_row k d b) (begun outer) (length d) (begun_made outer sources)
-      (λ e plan within made. each_keeps (λ j. IsWellMade outer sources []) (λ j. with_and None (net_at d e) (net_at b j)) plan k made
-      (λ j before less is. and_made outer sources [] None (net_at d e) (net_at b j) before is tt (inl (d_reads e within)) (inl (b_reads j less))))
+    pub products_made : IsWellMade outer sources [] (products_from outer k d b)
+    products_made = each_keeps (λ e. IsWellMade outer sources []) (with_row k d b) (begun outer) (length d) (begun_made outer sources)
+        (λ e plan within made. each_keeps (λ j. IsWellMade outer sources []) (λ j. with_and None (net_at d e) (net_at b j)) plan k made
+        (λ j before less is. and_made outer sources [] None (net_at d e) (net_at b j) before is tt (inl (d_reads e within)) (inl (b_reads j less))))
 
-  -- the gates are well made, a gate may read each sum and product, and there are few
-  pub record AreMade (l : ℕ) (sums : Sums) : Type 0 where
-    pub made : IsWellMade outer sources [] sums.plan
-    pub read : (n : ℕ) → Has sums.nets n → CanRead outer sources sums.plan n
-    pub grown : outer + k * length d ≤ sums.plan.next
-    pub few : sums.plan.next ≤ outer + k * length d + suc (k + k * length d) * l
-    pub count : length sums.nets ≡ l
+    -- the gates are well made, a gate may read each sum and product, and there are few
+    pub record AreMade (l : ℕ) (sums : Sums) : Type 0 where
+      pub made : IsWellMade outer sources [] sums.plan
+      pub read : (n : ℕ) → Has sums.nets n → CanRead outer sources sums.plan n
+      pub grown : outer + k * length d ≤ sums.plan.next
+      pub few : sums.plan.next ≤ outer + k * length d + suc (k + k * length d) * l
+      pub count : length sums.nets ≡ l
 
-  sum_made : (l : ℕ) (sums : Sums) → AreMade l sums → AreMade (suc l) (with_sum (summands outer k mul x (length d) z l) sums)
-  sum_made l sums are = record {
-    made = chain_made outer sources [] None (summands outer k mul x (length d) z l) sums.plan are.made tt reads;
-    read = λ n has. by n (Has_cases sums.nets (chain_net None (summands outer k mul x (length d) z l) sums.plan ∷ []) n has);
-    grown = omega (arith, are.grown, grows.0);
-    few = omega (arith, are.few, grows.1, summands_few outer k mul x (length d) z l, mul-suc (suc (k + k * length d)) l);
-    count = omega (arith, are.count, length_push sums.nets (chain_net None (summands outer k mul x (length d) z l) sums.plan));
-  }
-    where
-      grows : (sums.plan.next ≤ (with_chain None (summands outer k mul x (length d) z l) sums.plan).next) × ((with_chain None (summands outer k mul x (length d) z l) sums.plan).next ≤ suc (sums.plan.next + length (summands outer k mul x (length d) z l)))
-      grows = chain_grows None (summands outer k mul x (length d) z l) sums.plan
+    sum_made : (l : ℕ) (sums : Sums) → AreMade l sums → AreMade (suc l) (with_sum (summands outer k mul x (length d) z l) sums)
+    sum_made l sums are = record {
+      made = chain_made outer sources [] None (summands outer k mul x (length d) z l) sums.plan are.made tt reads;
+      read = λ n has. by n (Has_cases sums.nets (chain_net None (summands outer k mul x (length d) z l) sums.plan ∷ []) n has);
+      grown = omega (arith, are.grown, grows.0);
+      few = omega (arith, are.few, grows.1, summands_few outer k mul x (length d) z l, mul-suc (suc (k + k * length d)) l);
+      count = omega (arith, are.count, length_push sums.nets (chain_net None (summands outer k mul x (length d) z l) sums.plan));
+    }
+      where
+        grows : (sums.plan.next ≤ (with_chain None (summands outer k mul x (length d) z l) sums.plan).next) × ((with_chain None (summands outer k mul x (length d) z l) sums.plan).next ≤ suc (sums.plan.next + length (summands outer k mul x (length d) z l)))
+        grows = chain_grows None (summands outer k mul x (length d) z l) sums.plan
 
-      reads : (n : ℕ) → Has (summands outer k mul x (length d) z l) n → CanRead outer sources sums.plan n
-      reads n has = elim (summands_are outer k mul x (length d) z l n has) [
-        | inl held ↦ inl (subst (λ (m : ℕ). Has sources m) held.2 (z_reads held.0 held.1))
-        | inr product ↦ inr (product.0, omega (arith, product.1, are.grown))
-      ]
+        reads : (n : ℕ) → Has (summands outer k mul x (length d) z l) n → CanRead outer sources sums.plan n
+        reads n has = elim (summands_are outer k mul x (length d) z l n has) [
+          | inl held ↦ inl (subst (λ (m : ℕ). Has sources m) held.2 (z_reads held.0 held.1))
+          | inr product ↦ inr (product.0, omega (arith, product.1, are.grown))
+        ]
 
-      by : (n : ℕ) → Has sums.nets n ⊎ Has (chain_net None (summands outer k mul x (length d) z l) sums.plan ∷ []) n → CanRead outer sources (with_chain None (summands outer k mul x (length d) z l) sums.plan) n
-      by n (inl before) = can_read_more outer sources sums.plan (with_chain None (summands outer k mul x (length d) z l) sums.plan) n grows.0 (are.read n before)
-      by n (inr (zero, got)) =
-          let same : chain_net None (summands outer k mul x (length d) z l) sums.plan ≡ n = cc in
-          subst (λ (m : ℕ). CanRead outer sources (with_chain None (summands outer k mul x (length d) z l) sums.plan) m) same (chain_read outer sources [] (summands outer k mul x (length d) z l) sums.plan are.made)
-      by n (inr (suc i, got)) = absurd (cc)
+        by : (n : ℕ) → Has sums.nets n ⊎ Has (chain_net None (summands outer k mul x (length d) z l) sums.plan ∷ []) n → CanRead outer sources (with_chain None (summands outer k mul x (length d) z l) sums.plan) n
+        by n (inl before) = can_read_more outer sources sums.plan (with_chain None (summands outer k mul x (length d) z l) sums.plan) n grows.0 (are.read n before)
+        by n (inr (zero, got)) =
+            let same : chain_net None (summands outer k mul x (length d) z l) sums.plan ≡ n = cc in
+            subst (λ (m : ℕ). CanRead outer sources (with_chain None (summands outer k mul x (length d) z l) sums.plan) m) same (chain_read outer sources [] (summands outer k mul x (length d) z l) sums.plan are.made)
+        by n (inr (suc i, got)) = absurd (cc)
 
-  pub sums_made : (m : ℕ) → AreMade m (each m (λ l. with_sum (summands outer k mul x (length d) z l)) (record { plan = products_from outer k d b; nets = [] }))
-  sums_made m = each_keeps AreMade (λ l. with_sum (summands outer k mul x (length d) z l)) (record { plan = products_from outer k d b; nets = [] }) m
-      (record {
-        made = products_made;
-        read = λ n has. absurd (nothing n has);
-        grown = omega (arith, rows_next k d b outer (length d));
-        few = omega (arith, rows_next k d b outer (length d));
-        count = refl;
-      })
-      (λ l sums less are. sum_made l sums are)
-    where
-      nothing : (n : ℕ) → Has [] n → ⊥
-      nothing n (i, got) = cc
+    pub sums_made : (m : ℕ) → AreMade m (each m (λ l. with_sum (summands outer k mul x (length d) z l)) (record { plan = products_from outer k d b; nets = [] }))
+    sums_made m = each_keeps AreMade (λ l. with_sum (summands outer k mul x (length d) z l)) (record { plan = products_from outer k d b; nets = [] }) m
+        (record {
+          made = products_made;
+          read = λ n has. absurd (nothing n has);
+          grown = omega (arith, rows_next k d b outer (length d));
+          few = omega (arith, rows_next k d b outer (length d));
+          count = refl;
+        })
+        (λ l sums less are. sum_made l sums are)
+      where
+        nothing : (n : ℕ) → Has [] n → ⊥
+        nothing n (i, got) = cc

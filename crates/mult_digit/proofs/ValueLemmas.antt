@@ -8,7 +8,7 @@ use Rattle.graph_core.proofs.GraphLemmas.{nat_eq_or}
 use Rattle.gf_field.specs.Polynomial.{sum_of_first}
 use Rattle.gf_field.specs.Power.{power}
 use Rattle.net_core.specs.Value.{bit_of}
-use Rattle.net_plan.specs.Plan.{Plan, begun, each, gathered, where_so, with_and, with_chain, chain_net}
+use Rattle.net_plan.specs.Plan.{Plan, begun, each, gathered, where_so, with_and, chain_net}
 use Rattle.net_plan.specs.PlanValue.{Agrees, bit_at_net, parity}
 use Rattle.net_plan.proofs.ValueLemmas.{agrees_before, and_value, chain_before, chain_value, parity_append, gathered_parity, where_parity}
 use Rattle.mult_serial.specs.Chosen.{chosen}

@@ -1,16 +1,14 @@
 -- The nets of a fed word, an input word and the output word.
-use Rattle.std.proofs.Common.{◌≡◌, ◌≢◌, ◌⊎◌, ◌∙◌, ap, ap₂, sym, refl, subst, inl, inr, ℕ, zero, suc, ◌<◌, ◌≤◌, ◌+◌, ◌*◌, List, [], ◌∷◌, ◌++◌, length, length-append, append-nil, map, ◌↔◌, Some, arith}
+use Rattle.std.proofs.Common.{◌≡◌, ◌≢◌, ◌⊎◌, ◌∙◌, ap, sym, refl, subst, inl, inr, ℕ, zero, suc, ◌<◌, ◌≤◌, ◌+◌, List, [], ◌∷◌, ◌++◌, length, length-append, append-nil, map, ◌↔◌, Some, arith}
 use Rattle.std.specs.Prelude.{slice_get}
 use Rattle.std.specs.List.{range_with_len}
 use Rattle.std.proofs.lemmas.List.FromFn.{get_or-range_with_len, length-range_with_len}
-use Rattle.net_core.specs.Lists.{Has, times}
+use Rattle.net_core.specs.Lists.{Has}
 use Rattle.net_words.specs.Binding.{AreWords}
 use Rattle.net_words.specs.Variables.{bits}
-use Rattle.net_words.specs.declared.word.Role.{Role}
 use Rattle.net_words.specs.declared.word.Role.TheVariants.{Input, State, Fed, Output}
 use Rattle.net_words.specs.declared.word.WordText.{WordText}
 use Rattle.circuit_model.specs.JobOfBinding.{job_words_of}
-use Rattle.circuit_model.specs.Word.{Word}
 use Rattle.net_plan.proofs.SoundLemmas.{all_has}
 use Rattle.net_make.specs.Form.{role_count, same_bases}
 use Rattle.net_make.specs.Ports.{numbered, role_nets, word_names}

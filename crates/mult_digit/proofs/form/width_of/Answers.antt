@@ -1,6 +1,4 @@
-use Rattle.std.proofs.Common.{◌∙◌, sym, arith, subst, ℕ, inl, inr}
-use Rattle.graph_core.proofs.GraphLemmas.{nat_eq_or}
-use Rattle.mult_digit.specs.DigitForm.{AreDigitFeeds}
+use Rattle.std.proofs.Common.{arith}
 use Rattle.mult_digit.proofs.BindingLemmas.{factor_low}
 use Rattle.mult_digit.proofs.FormLemmas.{not_now}
 use Rattle.mult_digit.proofs.form.width_of.Goals as goal

@@ -1,4 +1,4 @@
-use Rattle.std.proofs.Common.{◌≡◌, ◌∙◌, ap, sym, refl, length, [], ℕ, arith}
+use Rattle.std.proofs.Common.{◌∙◌, ap, sym, length, []}
 use Rattle.gf_field.specs.Bit.{bit_mul}
 use Rattle.gf_field.specs.Quotient.{product}
 use Rattle.gf_field.specs.Ring2k.{degree_of, modulus_of}
@@ -40,12 +40,14 @@ latches-requires c =
     (length c.args.front.now) c.args.words.now c.requires.words c.requires.wide c.args.ring.now.ring.fits.small c.requires.narrow c.deref-5.result.now c.in_ok-z.z.items c.deref-5.ensures.value c.in_ok-z.ensures)
 
 pub make-requires-clause-fits : goal.make-requires-clause-fits
-make-requires-clause-fits c = ([],
-    plan_for_at (degree_of (ring_of c.args.ring.now)) (product 1 (degree_of (ring_of c.args.ring.now)) bit_mul (modulus_of (ring_of c.args.ring.now))) (x_of (degree_of (ring_of c.args.ring.now)) (modulus_of (ring_of c.args.ring.now)))
-    (length c.args.front.now) c.args.words.now c.requires.words c.requires.wide c.args.ring.now.ring.fits.small c.requires.narrow
-    c.count_of-first.result c.indeterminate-x.result c.deref.result.now c.deref-2.result.now c.deref-3.result.now c.deref-4.result.now c.in_ok-plan.plan c.deref-6.result.now
-    c.count_of-first.ensures c.indeterminate-x.ensures.is (c.deref.ensures.value ∙ c.in_ok-d.ensures) (c.deref-2.ensures.value ∙ c.in_ok-b.ensures) (c.deref-3.ensures.value ∙ c.in_ok-z.ensures)
-    c.in_ok-plan.ensures.plan (c.deref-4.ensures.value ∙ c.in_ok-plan.ensures.nets) (c.deref-6.ensures.value ∙ (c.in_ok-list.ensures ∙ ap (λ zs. digit_latches (length zs) c.deref-4.result.now zs) (c.deref-5.ensures.value ∙ sym c.deref-3.ensures.value))) (fed_names c.args.front.now) (map_long (λ (f : FeedText). f.net) c.args.front.now))
+make-requires-clause-fits c = (
+  [],
+  plan_for_at (degree_of (ring_of c.args.ring.now)) (product 1 (degree_of (ring_of c.args.ring.now)) bit_mul (modulus_of (ring_of c.args.ring.now))) (x_of (degree_of (ring_of c.args.ring.now)) (modulus_of (ring_of c.args.ring.now)))
+      (length c.args.front.now) c.args.words.now c.requires.words c.requires.wide c.args.ring.now.ring.fits.small c.requires.narrow
+      c.count_of-first.result c.indeterminate-x.result c.deref.result.now c.deref-2.result.now c.deref-3.result.now c.deref-4.result.now c.in_ok-plan.plan c.deref-6.result.now
+      c.count_of-first.ensures c.indeterminate-x.ensures.is (c.deref.ensures.value ∙ c.in_ok-d.ensures) (c.deref-2.ensures.value ∙ c.in_ok-b.ensures) (c.deref-3.ensures.value ∙ c.in_ok-z.ensures)
+      c.in_ok-plan.ensures.plan (c.deref-4.ensures.value ∙ c.in_ok-plan.ensures.nets) (c.deref-6.ensures.value ∙ (c.in_ok-list.ensures ∙ ap (λ zs. digit_latches (length zs) c.deref-4.result.now zs) (c.deref-5.ensures.value ∙ sym c.deref-3.ensures.value))) (fed_names c.args.front.now) (map_long (λ (f : FeedText). f.net) c.args.front.now),
+)
 
 pub returns : goal.returns
 returns c =

@@ -1,4 +1,4 @@
-use Rattle.std.proofs.Common.{◌≡◌, ℕ, ◌<◌, ◌^◌, ◌∙◌, ap, refl, arith, length-set, length}
+use Rattle.std.proofs.Common.{◌≡◌, ℕ, ◌<◌, ◌∙◌, arith, length-set, length}
 use Rattle.std.proofs.Math.ListN.{length-replicate}
 use Rattle.gf_field.specs.Power.{power}
 use Rattle.irreducible.proofs.MatrixLaws.{set_more}

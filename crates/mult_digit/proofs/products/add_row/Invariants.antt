@@ -1,6 +1,6 @@
 -- The row is made up to a place.
 use Rattle.std.proofs.Common.{◌≡◌, ◌+◌, None}
-use Rattle.net_plan.specs.Plan.{Plan, each, with_and}
+use Rattle.net_plan.specs.Plan.{each, with_and}
 use Rattle.mult_runs.specs.Held.{net_at}
 use Rattle.mult_digit.proofs.products.add_row.Given as goal
 

@@ -1,4 +1,4 @@
-use Rattle.std.proofs.Common.{rules, arith, ◌≤◌}
+use Rattle.std.proofs.Common.{rules, arith}
 use Rattle.mult_digit.proofs.ShapeLemmas.{sum_grows}
 use Rattle.mult_digit.proofs.sums.SumMaker.add_sums.Goals as goal
 
