@@ -17,6 +17,7 @@ mod multiple;
 mod reading;
 mod running;
 mod scan;
+mod subsets;
 mod words;
 
 pub use cert_pairs::CertPairs;

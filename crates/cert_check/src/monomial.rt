@@ -20,7 +20,7 @@ fn place_of(bits: &[u32], r: u32) -> usize
 }
 
 // Puts a rank among rising ones.
-fn add_rank(bits: &mut Vec<u32>, r: u32) -> Result<(), AllocError>
+pub(crate) fn add_rank(bits: &mut Vec<u32>, r: u32) -> Result<(), AllocError>
     ensures { OnOk result (bits.new.items ≡ with_rank bits.old.items r) }
 {
     let i = place_of(bits.as_slice(), r);
