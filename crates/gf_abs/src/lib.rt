@@ -8,6 +8,7 @@ mod cuts;
 mod differing;
 mod headline;
 mod line;
+mod named_fields;
 mod output;
 mod second_stages;
 mod setting_labels;

@@ -1,0 +1,208 @@
+//! The command `make`: a netlist of a kind that is made for a signature.
+ghost use Rattle.std.specs.Prelude.{◌≡◌, [], map, IfOk, IsErrOf};
+ghost use Rattle.gf_field.specs.Ring2k.{degree_of, modulus_of};
+ghost use Rattle.gf_tower.specs.TowerParts.{base_of, coefficients_of};
+ghost use Rattle.irreducible.specs.Proved.{ring_of};
+ghost use Rattle.job_input.specs.Setting.{IsReady, setting_value};
+ghost use Rattle.job_words.specs.Stop.{GivesBy};
+ghost use Rattle.job_words.specs.declared.kind.Kind.TheVariants.{Adder, Composite, Normal};
+ghost use Rattle.net_words.specs.Binding.{AreWords};
+ghost use Rattle.net_words.specs.Feeds.{AreFeeds};
+ghost use Rattle.net_write.specs.Plain.{HasPlainNames};
+ghost use Rattle.gf_abs.specs.Reply.{reply_of};
+ghost use Rattle.gf_abs.specs.commands.Make.{MadeOf, MakeAnswer};
+ghost use Rattle.gf_abs.specs.private.Making.{HasRingForm, IsOfRing, made_stop as stop_of_made, ring_net};
+
+use crate::named_fields::{base_field, tower_field};
+use crate::output::Output;
+use gf_field::{Field, Ring, Ring2k};
+use gf_tower::Tower;
+use irreducible::Proved;
+use job_input::Setting;
+use job_words::{Fault, Kind, Stop};
+use mult_composite::composite;
+use mult_digit::digit_serial;
+use mult_gen::{adder, mastrovito, squarer};
+use mult_montgomery::montgomery;
+use mult_normal::normal_serial;
+use net_core::Net;
+use net_make::MakeFault;
+use net_signature::Signature;
+use net_write::write_blif;
+use std::alloc::Global;
+
+/// What the command answers over a setting.
+pub(crate) fn answer<F: Field>(
+    alloc: Global,
+    field: &F,
+    setting: &Setting,
+    kind: Kind,
+) -> Result<Output, Stop>
+    requires ready { IsReady (F.degree field.now) (F.product field.now) setting.now }
+    ensures { GivesBy reply_of result (MakeAnswer (setting_value (F.degree field.now) (F.product field.now) setting.now) kind) ⊥ ⊥ }
+{
+    match made(alloc, field, setting, kind) {
+        Ok(net) => {
+            let text = write_blif(alloc, &net)?;
+            Ok(Output { status: 0, text })
+        }
+        Err(stop) => Err(stop),
+    }
+}
+
+// The net of a kind.
+fn made<F: Field>(alloc: Global, field: &F, setting: &Setting, kind: Kind) -> Result<Net, Stop>
+    requires ready { IsReady (F.degree field.now) (F.product field.now) setting.now }
+    ensures gives { GivesBy (λ net. net) result (MadeOf (setting_value (F.degree field.now) (F.product field.now) setting.now) kind) ⊥ ⊥ }
+    ensures plain { IfOk result (λ net. HasPlainNames net) }
+{
+    match kind {
+        Kind::Mastrovito | Kind::Montgomery | Kind::Squarer | Kind::Digit => {
+            over_base(alloc, field, setting, kind)
+        }
+        Kind::Composite => over_tower(alloc, field, setting),
+        Kind::Normal => in_normal_basis(alloc, field, setting),
+        Kind::Adder => in_any_basis(alloc, field, setting),
+    }
+}
+
+// The net of a kind that asks for a field without a tower.
+fn over_base<F: Field>(
+    alloc: Global,
+    field: &F,
+    setting: &Setting,
+    kind: Kind,
+) -> Result<Net, Stop>
+    requires ready { IsReady (F.degree field.now) (F.product field.now) setting.now }
+    requires base { IsOfRing kind }
+    ensures gives { GivesBy (λ net. net) result (MadeOf (setting_value (F.degree field.now) (F.product field.now) setting.now) kind) ⊥ ⊥ }
+    ensures plain { IfOk result (λ net. HasPlainNames net) }
+{
+    match base_field(&setting.signature) {
+        Some(ring) => beside_ring(alloc, field, &ring, setting, kind),
+        None => Err(Stop::Refused(Fault::Form(kind))),
+    }
+}
+
+// The same beside the field, whose degree is that of the setting.
+fn beside_ring<F: Field>(
+    alloc: Global,
+    field: &F,
+    ring: &Proved<Ring2k>,
+    setting: &Setting,
+    kind: Kind,
+) -> Result<Net, Stop>
+    requires ready { IsReady (F.degree field.now) (F.product field.now) setting.now }
+    requires base { IsOfRing kind }
+    requires modulus { modulus_of (ring_of ring.now) ≡ setting.now.signature.modulus }
+    requires no_tower { setting.now.signature.tower ≡ [] }
+    ensures gives { GivesBy (λ net. net) result (MadeOf (setting_value (F.degree field.now) (F.product field.now) setting.now) kind) ⊥ ⊥ }
+    ensures plain { IfOk result (λ net. HasPlainNames net) }
+{
+    if ring.k() != field.k() {
+        return Err(Stop::Refused(Fault::Form(kind)));
+    }
+    match over_ring(alloc, ring, &setting.signature, kind) {
+        Ok(net) => Ok(net),
+        Err(fault) => Err(made_stop(kind, fault)),
+    }
+}
+
+// The net of a kind over a field without a tower.
+fn over_ring(
+    alloc: Global,
+    ring: &Proved<Ring2k>,
+    signature: &Signature,
+    kind: Kind,
+) -> Result<Net, MakeFault>
+    requires modulus { modulus_of (ring_of ring.now) ≡ signature.now.modulus }
+    requires words { AreWords (degree_of (ring_of ring.now)) signature.now.words }
+    requires feeds { AreFeeds (degree_of (ring_of ring.now)) (map (λ word. word.role) signature.now.words) signature.now.feeds }
+    ensures form { IfOk result (λ net. HasRingForm kind signature.now) }
+    ensures made { IfOk result (λ net. net ≡ ring_net kind (degree_of (ring_of ring.now)) signature.now) }
+    ensures plain { IfOk result (λ net. HasPlainNames net) }
+    ensures unfit { IsErrOf result MakeFault.Unfit → HasRingForm kind signature.now → ⊥ }
+{
+    match kind {
+        Kind::Mastrovito => mastrovito(alloc, ring, signature),
+        Kind::Montgomery => montgomery(alloc, ring, signature),
+        Kind::Squarer => squarer(alloc, ring, signature),
+        Kind::Digit => digit_serial(alloc, ring, signature),
+        Kind::Composite | Kind::Normal | Kind::Adder => Err(MakeFault::Unfit),
+    }
+}
+
+// A multiplier in a tower of one step.
+fn over_tower<F: Field>(alloc: Global, field: &F, setting: &Setting) -> Result<Net, Stop>
+    requires ready { IsReady (F.degree field.now) (F.product field.now) setting.now }
+    ensures gives { GivesBy (λ net. net) result (MadeOf (setting_value (F.degree field.now) (F.product field.now) setting.now) Composite) ⊥ ⊥ }
+    ensures plain { IfOk result (λ net. HasPlainNames net) }
+{
+    match tower_field(&setting.signature) {
+        Some(tower) => beside_tower(alloc, field, &tower, setting),
+        None => Err(Stop::Refused(Fault::Form(Kind::Composite))),
+    }
+}
+
+// The same beside the tower, whose degree is that of the setting.
+fn beside_tower<F: Field>(
+    alloc: Global,
+    field: &F,
+    tower: &Proved<Tower<Proved<Ring2k>>>,
+    setting: &Setting,
+) -> Result<Net, Stop>
+    requires ready { IsReady (F.degree field.now) (F.product field.now) setting.now }
+    requires modulus { modulus_of (ring_of (base_of (ring_of tower.now))) ≡ setting.now.signature.modulus }
+    requires tower { coefficients_of (ring_of tower.now) ≡ setting.now.signature.tower }
+    requires one_step { setting.now.signature.upper ≡ [] }
+    ensures gives { GivesBy (λ net. net) result (MadeOf (setting_value (F.degree field.now) (F.product field.now) setting.now) Composite) ⊥ ⊥ }
+    ensures plain { IfOk result (λ net. HasPlainNames net) }
+{
+    let kind = Kind::Composite;
+    if tower.k() != field.k() {
+        return Err(Stop::Refused(Fault::Form(kind)));
+    }
+    match composite(alloc, tower, &setting.signature) {
+        Ok(net) => Ok(net),
+        Err(fault) => Err(made_stop(kind, fault)),
+    }
+}
+
+// A multiplier in a normal basis.
+fn in_normal_basis<F: Field>(alloc: Global, field: &F, setting: &Setting) -> Result<Net, Stop>
+    requires ready { IsReady (F.degree field.now) (F.product field.now) setting.now }
+    ensures gives { GivesBy (λ net. net) result (MadeOf (setting_value (F.degree field.now) (F.product field.now) setting.now) Normal) ⊥ ⊥ }
+    ensures plain { IfOk result (λ net. HasPlainNames net) }
+{
+    let kind = Kind::Normal;
+    let basis = match setting.bases.as_slice() {
+        [basis, ..] => basis,
+        [] => return Err(Stop::Refused(Fault::Form(kind))),
+    };
+    match normal_serial(alloc, field, basis, &setting.signature) {
+        Ok(net) => Ok(net),
+        Err(fault) => Err(made_stop(kind, fault)),
+    }
+}
+
+// An adder.
+fn in_any_basis<F: Field>(alloc: Global, field: &F, setting: &Setting) -> Result<Net, Stop>
+    requires ready { IsReady (F.degree field.now) (F.product field.now) setting.now }
+    ensures gives { GivesBy (λ net. net) result (MadeOf (setting_value (F.degree field.now) (F.product field.now) setting.now) Adder) ⊥ ⊥ }
+    ensures plain { IfOk result (λ net. HasPlainNames net) }
+{
+    match adder(alloc, field, &setting.signature) {
+        Ok(net) => Ok(net),
+        Err(fault) => Err(made_stop(Kind::Adder, fault)),
+    }
+}
+
+// Why no output comes where no net of a kind is made.
+fn made_stop(kind: Kind, fault: MakeFault) -> Stop
+    ensures { result ≡ stop_of_made kind fault }
+{
+    match fault {
+        MakeFault::Unfit => Stop::Refused(Fault::Form(kind)),
+        MakeFault::OutOfMemory => Stop::OutOfMemory,
+    }
+}

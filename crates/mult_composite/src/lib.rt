@@ -1,0 +1,6 @@
+//! STUB.
+#![tactic(auto)]
+
+mod composite;
+
+pub use composite::composite;

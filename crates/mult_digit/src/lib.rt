@@ -1,0 +1,6 @@
+//! STUB.
+#![tactic(auto)]
+
+mod digit;
+
+pub use digit::digit_serial;

@@ -1,0 +1,3 @@
+pub mod Mastrovito
+pub mod Squarer
+pub mod Adder

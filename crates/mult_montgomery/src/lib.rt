@@ -1,0 +1,6 @@
+//! STUB.
+#![tactic(auto)]
+
+mod montgomery;
+
+pub use montgomery::montgomery;

@@ -1,0 +1,6 @@
+//! STUB.
+#![tactic(auto)]
+
+mod normal;
+
+pub use normal::normal_serial;

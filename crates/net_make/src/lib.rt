@@ -1,0 +1,6 @@
+//! STUB. What makers share.
+#![tactic(auto)]
+
+mod fault;
+
+pub use fault::MakeFault;
