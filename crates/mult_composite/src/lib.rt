@@ -1,6 +1,6 @@
 //! STUB.
 #![tactic(auto)]
 
-mod composite;
+mod composite_net;
 
-pub use composite::composite;
+pub use composite_net::composite;

@@ -1,10 +1,10 @@
 //! STUB.
 #![tactic(auto)]
 
-mod adder;
-mod mastrovito;
-mod squarer;
+mod adder_net;
+mod mastrovito_net;
+mod squarer_net;
 
-pub use adder::adder;
-pub use mastrovito::mastrovito;
-pub use squarer::squarer;
+pub use adder_net::adder;
+pub use mastrovito_net::mastrovito;
+pub use squarer_net::squarer;

@@ -1,6 +1,6 @@
 //! STUB.
 #![tactic(auto)]
 
-mod montgomery;
+mod montgomery_net;
 
-pub use montgomery::montgomery;
+pub use montgomery_net::montgomery;
