@@ -1,6 +1,0 @@
-//! STUB. What makers share.
-#![tactic(auto)]
-
-mod fault;
-
-pub use fault::MakeFault;
