@@ -1,10 +1,12 @@
 -- STUB.
-use Rattle.std.specs.Prelude.{ℕ}
+use Rattle.std.specs.Prelude.{◌≡◌, ◌≢◌, ℕ, List, []}
+use Rattle.gf_basis.specs.declared.bases.Basis.{Basis}
 use Rattle.net_core.specs.NetList.{NetList, empty}
+use Rattle.net_words.specs.declared.word.WordText.{WordText}
 use Rattle.net_signature.specs.Signature.{SignatureValue}
 
-unfoldable pub IsDigitForm : SignatureValue → Type 0
-IsDigitForm signature = ⊥
+pub record HasDigitForm (signature : SignatureValue) : Type 0 where
+  pub blocks : signature.blocks ≡ []
 
-unfoldable pub digit_net : ℕ → SignatureValue → NetList
-digit_net k signature = empty
+unfoldable pub made_digit : (k g : ℕ) → SignatureValue → NetList
+made_digit k g signature = empty

@@ -1,6 +1,6 @@
 //! STUB.
 #![tactic(auto)]
 
-mod digit;
+mod digit_net;
 
-pub use digit::digit_serial;
+pub use digit_net::digit_serial;

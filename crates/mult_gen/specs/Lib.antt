@@ -1,3 +1,2 @@
-pub mod Mastrovito
-pub mod Squarer
-pub mod Adder
+pub mod Chains
+pub mod Form

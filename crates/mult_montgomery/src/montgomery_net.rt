@@ -1,30 +1,27 @@
 //! STUB.
-ghost use Rattle.std.specs.Prelude.{◌≡◌, map, IfOk, IsErrOf};
+ghost use Rattle.std.specs.Prelude.{◌≡◌, ◌≢◌, ◌↔◌, IfOk, IfSome, IsSome};
 ghost use Rattle.gf_field.specs.Ring2k.{degree_of, modulus_of};
 ghost use Rattle.irreducible.specs.Proved.{ring_of};
 ghost use Rattle.net_words.specs.Binding.{AreWords};
 ghost use Rattle.net_words.specs.Feeds.{AreFeeds};
 ghost use Rattle.net_write.specs.Plain.{HasPlainNames};
-ghost use Rattle.mult_montgomery.specs.Montgomery.{IsMontgomeryForm, montgomery_net};
+ghost use Rattle.mult_montgomery.specs.Montgomery.{HasMontgomeryForm, made_montgomery};
 
 use gf_field::{Ring, Ring2k};
 use irreducible::Proved;
 use net_core::Net;
-use net_make::MakeFault;
 use net_signature::Signature;
-use std::alloc::Global;
+use std::alloc::{AllocError, Global};
 
 /// STUB.
-pub fn montgomery(_alloc: Global, ring: &Proved<Ring2k>, signature: &Signature) -> Result<Net, MakeFault>
+pub fn montgomery(_alloc: Global, ring: &Proved<Ring2k>, signature: &Signature) -> Result<Option<Net>, AllocError>
     requires modulus { modulus_of (ring_of ring.now) ≡ signature.now.modulus }
     requires words { AreWords (degree_of (ring_of ring.now)) signature.now.words }
-    requires feeds { AreFeeds (degree_of (ring_of ring.now)) (map (λ word. word.role) signature.now.words) signature.now.feeds }
-    ensures form { IfOk result (λ net. IsMontgomeryForm signature.now) }
-    ensures made { IfOk result (λ net. net ≡ montgomery_net (degree_of (ring_of ring.now)) signature.now) }
-    ensures plain { IfOk result (λ net. HasPlainNames net) }
-    ensures unfit { IsErrOf result MakeFault.Unfit → IsMontgomeryForm signature.now → ⊥ }
+    ensures fits { IfOk result (λ found. IsSome found ↔ HasMontgomeryForm signature.now) }
+    ensures made { IfOk result (λ found. IfSome found (λ net. net ≡ made_montgomery (degree_of (ring_of ring.now)) (modulus_of (ring_of ring.now)) signature.now.words)) }
+    ensures names { IfOk result (λ found. IfSome found (λ net. HasPlainNames net)) }
 {
     let _k = ring.k();
     let _words = signature.words();
-    Err(MakeFault::OutOfMemory)
+    Err(AllocError)
 }

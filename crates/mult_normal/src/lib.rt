@@ -1,6 +1,6 @@
 //! STUB.
 #![tactic(auto)]
 
-mod normal;
+mod normal_maker;
 
-pub use normal::normal_serial;
+pub use normal_maker::normal_serial;

@@ -1,0 +1,95 @@
+-- Plans over the nets of input words and an output word.
+use Rattle.std.proofs.Common.{◌≡◌, ◌⊎◌, ◌∙◌, ap, sym, refl, subst, inl, inr, ℕ, zero, suc, ◌<◌, ◌≤◌, ◌+◌, ◌*◌, ◌^◌, Bool, List, [], ◌∷◌, ◌++◌, length, map, take, drop, get_or, Some, None, append-nil, arith}
+use Rattle.std.specs.Prelude.{slice_index, slice_get}
+use Rattle.std.proofs.Math.Nat.{mul-le-mul_right}
+use Rattle.net_core.specs.Lists.{Has, times}
+use Rattle.net_core.proofs.DriverLemmas.{Has_left, Has_right}
+use Rattle.net_core.specs.Value.{IsConsistent}
+use Rattle.net_words.specs.declared.word.Role.TheVariants.{Input, State, Fed, Output}
+use Rattle.net_words.specs.declared.word.WordText.{WordText}
+use Rattle.net_plan.specs.Plan.{Plan}
+use Rattle.net_plan.specs.PlanShape.{IsWellMade}
+use Rattle.net_plan.specs.PlanValue.{Agrees}
+use Rattle.net_plan.specs.Makeable.{driven_outside}
+use Rattle.net_plan.proofs.LabelLemmas.{append_long}
+use Rattle.net_make.specs.BindingOfMade.{AreHeld}
+use Rattle.net_make.specs.Form.{AllWide, HasWords, role_count}
+use Rattle.net_make.specs.Made.{IsPlanFor, made_of}
+use Rattle.net_make.specs.Ports.{inputs_of, outer_names, role_nets, word_names}
+use Rattle.net_make.proofs.FormLemmas.{nets_long, no_nets, roles_once, words_one_of}
+use Rattle.net_make.proofs.FrontLemmas.{take_drop}
+use Rattle.net_make.proofs.MakeLemmas.{role_low}
+use Rattle.mult_gen.specs.Form.{inputs_in, outer_of, outputs_in}
+use Rattle.mult_gen.proofs.ChainLemmas.{index_has}
+
+sources_are : (words : List WordText) → driven_outside (inputs_of words []) [] ≡ inputs_in words
+sources_are words = append-nil (inputs_in words ++ []) ∙ append-nil (inputs_in words)
+
+outer_are : (words : List WordText) → length (outer_names words []) ≡ outer_of words
+outer_are words = ap (λ (v : List (List ℕ)). length v) (append-nil (word_names words))
+
+module _ (count k : ℕ) (words : List WordText) (has : HasWords Input count words) (wide : AllWide k words) where
+  pub inputs_long : length (inputs_in words) ≡ count * k
+  inputs_long = nets_long Input k 0 words wide ∙ ap (λ n. n * k) has.others
+
+  pub outputs_long : length (outputs_in words) ≡ k
+  outputs_long = nets_long Output k 0 words wide ∙ (ap (λ n. n * k) has.output ∙ omega arith)
+
+  -- the nets of the output word are outer ones
+  pub output_low : (l : ℕ) → l < k → slice_index (outputs_in words) l < outer_of words
+  output_low l less = omega (arith, (role_low Output 0 words (slice_index (outputs_in words) l) (index_has (outputs_in words) l (omega (arith, less, outputs_long)))).1)
+
+  -- a plan whose sources are the inputs and whose targets are the output word
+  pub plan_for : (plan : Plan) → IsWellMade (outer_of words) (inputs_in words) (outputs_in words) plan → plan.next + k ≤ 2 ^ 20 → IsPlanFor words [] [] (outputs_in words) plan
+  plan_for plan made few =
+      let P : ℕ → Type 0 = λ n. IsWellMade n (driven_outside (inputs_of words []) []) (outputs_in words) plan in
+      let Q : List ℕ → Type 0 = λ s. IsWellMade (outer_of words) s (outputs_in words) plan in
+      record {
+        shape = subst P (sym (outer_are words)) (subst Q (sym (sources_are words)) made);
+        once = λ n less. ap (λ (s : List ℕ). times n s + times n (outputs_in words)) (sources_are words) ∙ roles_once Input 0 words n (λ e. absurd (cc)) (words_one_of Input count words (λ e. absurd (cc)) has) (omega arith) (omega (arith, less, outer_are words));
+        nexts = λ l h. absurd (let got = h.1 in cc);
+        latch_outs = λ l h. absurd (let got = h.1 in cc);
+        few = omega (arith, few, outputs_long);
+      }
+
+  -- nothing is held or fed
+  pub held : AreHeld words []
+  held =
+      let one = words_one_of Input count words (λ e. absurd (cc)) has in
+      record {
+        fed = λ word h is. absurd (elim (one word h) [ inl w ↦ cc | inr w ↦ cc ]);
+        states = λ n h. let none : role_nets State 0 words ≡ [] = no_nets Input State 0 words (λ e. absurd (cc)) (λ e. absurd (cc)) one in let P : List ℕ → Type 0 = λ v. Has v n in absurd (let got = (subst P none h).1 in cc);
+        starts = λ l h. absurd (let got = h.1 in cc);
+      }
+
+  pub take_long : 1 ≤ count → length (take k (inputs_in words)) ≡ k
+  take_long some = take_is (inputs_in words) k (omega (arith, inputs_long, some, times_some count k some))
+    where
+      take_is : (xs : List ℕ) (n : ℕ) → n ≤ length xs → length (take n xs) ≡ n
+      take_is [] zero less = refl
+      take_is (x ∷ xs) zero less = refl
+      take_is [] (suc n) less = absurd (omega arith)
+      take_is (x ∷ xs) (suc n) less = ap suc (take_is xs n (omega (arith, less)))
+
+      times_some : (c n : ℕ) → 1 ≤ c → n ≤ c * n
+      times_some c n some = omega (arith, mul-le-mul_right n some)
+
+  -- the first k and the others are inputs
+  pub take_has : (i : ℕ) → 1 ≤ count → i < k → Has (inputs_in words) (slice_index (take k (inputs_in words)) i)
+  take_has i some less =
+      let P : List ℕ → Type 0 = λ v. Has v (slice_index (take k (inputs_in words)) i) in
+      subst P (sym (take_drop (inputs_in words) k)) (Has_left (take k (inputs_in words)) (drop k (inputs_in words)) (slice_index (take k (inputs_in words)) i) (index_has (take k (inputs_in words)) i (omega (arith, less, take_long some))))
+
+  pub drop_has : (i : ℕ) → i < length (drop k (inputs_in words)) → Has (inputs_in words) (slice_index (drop k (inputs_in words)) i)
+  drop_has i less =
+      let P : List ℕ → Type 0 = λ v. Has v (slice_index (drop k (inputs_in words)) i) in
+      subst P (sym (take_drop (inputs_in words) k)) (Has_right (take k (inputs_in words)) (drop k (inputs_in words)) (slice_index (drop k (inputs_in words)) i) (index_has (drop k (inputs_in words)) i less))
+
+-- the nets of the second of two words
+pub drop_long : (k : ℕ) (words : List WordText) → HasWords Input 2 words → AllWide k words → length (drop k (inputs_in words)) ≡ k
+drop_long k words has wide =
+    omega (arith, inputs_long 2 k words has wide, take_long 2 k words has wide (omega arith), ap (λ (v : List ℕ). length v) (take_drop (inputs_in words) k), append_long (take k (inputs_in words)) (drop k (inputs_in words)))
+
+-- what agrees with a net agrees with its plan
+pub agrees_of : (words : List WordText) (plan : Plan) (bits : List Bool) → IsConsistent (made_of words [] [] plan) bits → Agrees bits plan
+agrees_of words plan bits consistent g has = consistent.gates g has

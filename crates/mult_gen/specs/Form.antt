@@ -1,0 +1,53 @@
+-- Forms of signatures, and the nets that are made of them. Source: this project's own, docs/FORMATS.md.
+use Rattle.std.specs.Prelude.{◌≡◌, ℕ, List, [], length, take, drop, map}
+use Rattle.net_core.specs.NetList.{NetList}
+use Rattle.net_words.specs.declared.word.Role.TheVariants.{Input, Output}
+use Rattle.net_words.specs.declared.word.WordText.{WordText}
+use Rattle.net_signature.specs.Signature.{SignatureValue}
+use Rattle.net_plan.specs.Plan.{Plan}
+use Rattle.net_make.specs.Form.{AllAlike, AllPoly, HasWords}
+use Rattle.net_make.specs.Made.{made_of}
+use Rattle.net_make.specs.MakerNames.{AreMakerNames}
+use Rattle.net_make.specs.Ports.{outer_names, role_nets, word_names}
+use Rattle.mult_gen.specs.Chains.{adder_plan, mastrovito_plan, squarer_plan}
+
+-- one output word and so many inputs, on different nets with plain names of at most 128 bytes; no feed and no block
+pub record HasPorts (count : ℕ) (signature : SignatureValue) : Type 0 where
+  pub blocks : signature.blocks ≡ []
+  pub feeds : signature.feeds ≡ []
+  pub words : HasWords Input count signature.words
+  pub names : AreMakerNames (outer_names signature.words [])
+
+-- so many inputs in the basis of powers of a field without a tower
+pub record HasPolyForm (count : ℕ) (signature : SignatureValue) : Type 0 where
+  pub tower : signature.tower ≡ []
+  pub bases : AllPoly signature.words
+  pub ports : HasPorts count signature
+
+-- two inputs and the output in one basis
+pub record HasAdderForm (signature : SignatureValue) : Type 0 where
+  pub bases : AllAlike signature.words
+  pub ports : HasPorts 2 signature
+
+-- how many nets the words have
+abbrev pub outer_of : List WordText → ℕ
+outer_of words = length (word_names words)
+
+-- the nets of the inputs, k for each, and of the output
+abbrev pub inputs_in : List WordText → List ℕ
+inputs_in words = role_nets Input 0 words
+
+abbrev pub outputs_in : List WordText → List ℕ
+outputs_in words = role_nets Output 0 words
+
+-- the multiplier modulo g, of degree k
+abbrev pub made_mastrovito : (k g : ℕ) → List WordText → NetList
+made_mastrovito k g words = made_of words [] [] (mastrovito_plan (outer_of words) k g (take k (inputs_in words)) (drop k (inputs_in words)) (outputs_in words))
+
+-- the squarer modulo g, of degree k
+abbrev pub made_squarer : (k g : ℕ) → List WordText → NetList
+made_squarer k g words = made_of words [] [] (squarer_plan (outer_of words) k g (inputs_in words) (outputs_in words))
+
+-- the adder of words of k bits
+abbrev pub made_adder : ℕ → List WordText → NetList
+made_adder k words = made_of words [] [] (adder_plan (outer_of words) k (take k (inputs_in words)) (drop k (inputs_in words)) (outputs_in words))

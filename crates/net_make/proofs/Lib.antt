@@ -1,0 +1,12 @@
+pub mod OrderLemmas
+pub mod FrontLemmas
+pub mod OuterLemmas
+pub mod MostLemmas
+pub mod PortLemmas
+pub mod MakeLemmas
+pub mod BindingLemmas
+pub mod FormLemmas
+pub mod MadeLemmas
+pub mod RunLemmas
+pub mod PolyLemmas
+pub mod Examples

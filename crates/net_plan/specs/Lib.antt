@@ -1,0 +1,5 @@
+pub mod Plan
+pub mod PlanValue
+pub mod PlanShape
+pub mod MadeNet
+pub mod Makeable
