@@ -5,6 +5,8 @@ use Rattle.std.specs.Fmt.{digits, digits_onto, digit_glyph}
 use Rattle.std.proofs.Math.Nat.{add-mul, pow-succ'}
 use Rattle.std.proofs.lemmas.Bool.{cases_lt, eqb-true, le-leb, lt-ltb}
 use Rattle.std.proofs.lemmas.Bool.Decides.{nat_tests}
+use Rattle.std.specs.List.{AllByRecursion}
+use Rattle.net_write.specs.Plain.{IsPlainByte}
 use Rattle.text_core.specs.Numbers.{IsDigit, IsHex, digit_value, value_of}
 use Rattle.poly_mixed.specs.Text.{hex_text}
 
@@ -100,15 +102,57 @@ digits_are : (n : ℕ) → n < 16 ^ 64 → AreOnto n [] (digits 16 false n)
 unfolding digits
 digits_are n less = onto 63 n [] less none_yet
 
--- a number below 2 to the 64 is read back
-pub hex_back : (n : ℕ) → n < 2 ^ 64 → IsHex (hex_text n) n
-hex_back n less =
-    let are = digits_are n (omega (arith, less)) in
+-- a number is read back
+pub hex_wide : (n : ℕ) → n < 16 ^ 64 → IsHex (hex_text n) n
+hex_wide n less =
+    let are = digits_are n less in
     let longer = are.longer in
     (digits 16 false n, refl, (omega (arith, longer), are.each), (let value = are.value in omega (arith, value)))
 
--- each of its bytes prints, and is neither a blank nor a line feed
+-- as one below 2 to the 64
+pub hex_back : (n : ℕ) → n < 2 ^ 64 → IsHex (hex_text n) n
+hex_back n less = hex_wide n (omega (arith, less))
+
+-- each of its bytes is a digit or the letter before them
+pub hex_wide_bytes : (n : ℕ) → n < 16 ^ 64 → (i : ℕ) → i < length (hex_text n) → (48 ≤ get_or (hex_text n) i 0) × (get_or (hex_text n) i 0 ≤ 120)
+hex_wide_bytes n less zero within = (omega arith, omega arith)
+hex_wide_bytes n less (suc zero) within = (omega arith, omega arith)
+hex_wide_bytes n less (suc (suc i)) within = let are = (digits_are n less).bytes i (omega arith) in (are.0, let most = are.1 in omega (arith, most))
+
+-- so it prints, and is neither a blank nor a line feed
 pub hex_bytes : (n : ℕ) → n < 2 ^ 64 → (i : ℕ) → i < length (hex_text n) → (48 ≤ get_or (hex_text n) i 0) × (get_or (hex_text n) i 0 ≤ 120)
-hex_bytes n less zero within = (omega arith, omega arith)
-hex_bytes n less (suc zero) within = (omega arith, omega arith)
-hex_bytes n less (suc (suc i)) within = let are = (digits_are n (omega (arith, less))).bytes i (omega arith) in (are.0, let most = are.1 in omega (arith, most))
+hex_bytes n less = hex_wide_bytes n (omega (arith, less))
+
+-- ---- as a field of a line
+
+all_at : (P : ℕ → Type 0) (xs : List ℕ) → ((i : ℕ) → i < length xs → P (get_or xs i 0)) → AllByRecursion P xs
+all_at P [] each = tt
+all_at P (x ∷ xs) each = (each 0 (omega arith), all_at P xs (λ i less. each (suc i) (omega (arith, less))))
+
+plain_digit : (b : ℕ) → IsDigit 16 b → IsPlainByte b
+plain_digit b (inl (least, most), small) = (omega (arith, least), omega (arith, most), (λ e. omega (arith, e, least)), (λ e. omega (arith, e, most)))
+plain_digit b (inr (inl (least, most)), small) = (omega (arith, least), omega (arith, most), (λ e. omega (arith, e, least)), (λ e. omega (arith, e, most)))
+plain_digit b (inr (inr (least, most)), small) = (omega (arith, least), omega (arith, most), (λ e. omega (arith, e, least)), (λ e. omega (arith, e, least)))
+
+zero_x : AllByRecursion IsPlainByte (codes "0x")
+zero_x = ((omega arith, omega arith, (λ e. omega (arith, e)), (λ e. omega (arith, e))), ((omega arith, omega arith, (λ e. omega (arith, e)), (λ e. omega (arith, e))), tt))
+
+plain_behind : (xs ys : List ℕ) → AllByRecursion IsPlainByte xs → AllByRecursion IsPlainByte ys → AllByRecursion IsPlainByte (xs ++ ys)
+plain_behind [] ys h k = k
+plain_behind (x ∷ xs) ys h k = (h.0, plain_behind xs ys h.1 k)
+
+pub hex_plain : (n : ℕ) → n < 16 ^ 64 → AllByRecursion IsPlainByte (hex_text n)
+hex_plain n less = plain_behind (codes "0x") (digits 16 false n) zero_x (all_at IsPlainByte (digits 16 false n) (λ i within. plain_digit (get_or (digits 16 false n) i 0) ((digits_are n less).each i within)))
+
+digits_short : (k n : ℕ) (rest : List ℕ) → length (digits_onto k 16 false n rest) ≤ k + length rest
+digits_short zero n rest = omega arith
+digits_short (suc k) n rest =
+    let more = digits_short k (n / 16) (with_last n rest) in
+    elim (n / 16 == 0) as (λ b. length (cond b (with_last n rest) (digits_onto k 16 false (n / 16) (with_last n rest))) ≤ suc k + length rest) [
+      | true ↦ omega arith
+      | false ↦ omega (arith, more)
+    ]
+
+pub hex_short : (n : ℕ) → length (hex_text n) ≤ 66
+unfolding digits
+hex_short n = let short = digits_short 64 n [] in omega (arith, short)

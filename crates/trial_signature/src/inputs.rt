@@ -57,7 +57,8 @@ fn add_word(
 {
     text.extend_from_slice(head.as_bytes())?;
     add_nets(alloc, text, letter, k)?;
-    text.push(b'\n')
+    text.push(b'\n')?;
+    Ok(())
 }
 
 // Appends the names of nets, each behind a space.

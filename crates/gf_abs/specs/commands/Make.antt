@@ -1,17 +1,20 @@
 -- The command `make`: a netlist of a kind that is made for a signature. Sources: of each kind's netlist, those of its maker.
-use Rattle.std.specs.Prelude.{◌≡◌, ℕ, ◌*◌, ◌/◌, List, [], ◌∷◌, length, Option, Ok, Err}
+use Rattle.std.specs.Prelude.{◌≡◌, ℕ, ◌*◌, ◌/◌, ◌<◌, ◌^◌, List, [], ◌∷◌, length, Ok, Err}
 use Rattle.text_core.specs.Outcome.{Outcome, ◌>>=◌, Exactly}
+use Rattle.irreducible.specs.Span.{IsIndependent}
+use Rattle.gf_basis.specs.BasisFault.{conjugates_of}
+use Rattle.gf_tower.specs.FieldName.{IsFieldModulus, IsFieldTower}
 use Rattle.net_core.specs.NetList.{NetList}
 use Rattle.net_signature.specs.Signature.{SignatureValue}
+use Rattle.net_words.specs.declared.word.BasisText.{BasisText}
+use Rattle.net_words.specs.declared.word.BasisText.TheVariants as basis
+use Rattle.net_words.specs.declared.word.WordText.{WordText}
 use Rattle.net_write.specs.Written.{written}
-use Rattle.gf_tower.specs.FieldName.{IsFieldModulus, IsFieldTower}
-use Rattle.mult_gen.specs.Mastrovito.{IsMastrovitoForm, mastrovito_net}
-use Rattle.mult_gen.specs.Squarer.{IsSquarerForm, squarer_net}
-use Rattle.mult_gen.specs.Adder.{IsAdderForm, adder_net}
-use Rattle.mult_montgomery.specs.Montgomery.{IsMontgomeryForm, montgomery_net}
-use Rattle.mult_composite.specs.Composite.{IsCompositeForm, composite_net}
-use Rattle.mult_normal.specs.Normal.{IsNormalForm, normal_net}
-use Rattle.mult_digit.specs.Digit.{IsDigitForm, digit_net}
+use Rattle.mult_gen.specs.Form.{HasAdderForm, HasPolyForm, made_adder, made_mastrovito, made_squarer}
+use Rattle.mult_montgomery.specs.Montgomery.{HasMontgomeryForm, made_montgomery}
+use Rattle.mult_composite.specs.Composite.{HasCompositeForm, made_composite}
+use Rattle.mult_normal.specs.Normal.{HasNormalForm, made_normal}
+use Rattle.mult_digit.specs.Digit.{HasDigitForm, made_digit}
 use Rattle.job_words.specs.declared.kind.Kind.{Kind}
 use Rattle.job_words.specs.declared.kind.Kind.TheVariants.{Mastrovito, Montgomery, Composite, Normal, Adder, Squarer, Digit}
 use Rattle.job_words.specs.declared.fault.Fault.{Fault}
@@ -37,30 +40,45 @@ pub record IsOverTower (HasForm : SignatureValue → Type 0) (setting : SettingV
   pub one_step : setting.signature.upper ≡ []
   pub form : HasForm setting.signature
 
--- the elements of the first word's basis
-abbrev pub first_basis : List (List ℕ) → List ℕ
-first_basis [] = []
-first_basis (basis ∷ bases) = basis
+-- the element of a normal basis, and that of the first word's
+abbrev pub element_of : BasisText → ℕ
+element_of basis.Poly = 0
+element_of (basis.Normal gamma) = gamma
+element_of (basis.Elements list) = 0
+
+abbrev pub first_element : List WordText → ℕ
+first_element [] = 0
+first_element (word ∷ words) = element_of word.basis
+
+-- the normal basis of the first word
+abbrev pub first_conjugates : SettingValue → List ℕ
+first_conjugates setting = conjugates_of setting.k setting.product (first_element setting.signature.words)
+
+-- the words are in a normal basis, and the signature has the form
+pub record IsInNormalBasis (HasForm : SignatureValue → Type 0) (setting : SettingValue) : Type 0 where
+  pub element : first_element setting.signature.words < 2 ^ setting.k
+  pub independent : IsIndependent (first_conjugates setting)
+  pub form : HasForm setting.signature
 
 -- the setting has the form of a kind
 abbrev pub HasFormOf : SettingValue → Kind → Type 0
-HasFormOf setting Mastrovito = IsOverBase IsMastrovitoForm setting
-HasFormOf setting Montgomery = IsOverBase IsMontgomeryForm setting
-HasFormOf setting Composite = IsOverTower IsCompositeForm setting
-HasFormOf setting Normal = IsNormalForm setting.signature
-HasFormOf setting Adder = IsAdderForm setting.signature
-HasFormOf setting Squarer = IsOverBase IsSquarerForm setting
-HasFormOf setting Digit = IsOverBase IsDigitForm setting
+HasFormOf setting Mastrovito = IsOverBase (HasPolyForm 2) setting
+HasFormOf setting Montgomery = IsOverBase HasMontgomeryForm setting
+HasFormOf setting Composite = IsOverTower HasCompositeForm setting
+HasFormOf setting Normal = IsInNormalBasis HasNormalForm setting
+HasFormOf setting Adder = HasAdderForm setting.signature
+HasFormOf setting Squarer = IsOverBase (HasPolyForm 1) setting
+HasFormOf setting Digit = IsOverBase HasDigitForm setting
 
 -- the net list of a kind over a setting of its form
 abbrev pub made : SettingValue → Kind → NetList
-made setting Mastrovito = mastrovito_net setting.k setting.signature
-made setting Montgomery = montgomery_net setting.k setting.signature
-made setting Composite = composite_net (base_degree setting) setting.signature
-made setting Normal = normal_net setting.k setting.product (first_basis setting.bases) setting.signature
-made setting Adder = adder_net setting.k setting.signature
-made setting Squarer = squarer_net setting.k setting.signature
-made setting Digit = digit_net setting.k setting.signature
+made setting Mastrovito = made_mastrovito setting.k setting.signature.modulus setting.signature.words
+made setting Montgomery = made_montgomery setting.k setting.signature.modulus setting.signature.words
+made setting Composite = made_composite (base_degree setting) setting.signature.modulus (length setting.signature.tower) setting.signature.tower setting.signature.words
+made setting Normal = made_normal setting.k setting.product (first_conjugates setting) setting.signature.words
+made setting Adder = made_adder setting.k setting.signature.words
+made setting Squarer = made_squarer setting.k setting.signature.modulus setting.signature.words
+made setting Digit = made_digit setting.k setting.signature.modulus setting.signature
 
 -- this net list, or fault 43 where the form is not met
 abbrev pub MadeOf : SettingValue → Kind → Outcome Fault NetList

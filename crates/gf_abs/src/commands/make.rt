@@ -1,5 +1,9 @@
 //! The command `make`: a netlist of a kind that is made for a signature.
-ghost use Rattle.std.specs.Prelude.{◌≡◌, [], map, IfOk, IsErrOf};
+ghost use Rattle.std.specs.Prelude.{◌≡◌, ◌↔◌, ℕ, ◌<◌, ◌^◌, [], map, IfNone, IfOk, IfSome, IsSome};
+ghost use Rattle.gf_basis.specs.BasisFault.{conjugates_of};
+ghost use Rattle.gf_basis.specs.BasisParts.{IsBasisOver, elements_of};
+ghost use Rattle.irreducible.specs.Span.{IsIndependent};
+ghost use Rattle.net_words.specs.declared.word.BasisText.TheVariants as text_basis;
 ghost use Rattle.gf_field.specs.Ring2k.{degree_of, modulus_of};
 ghost use Rattle.gf_tower.specs.TowerParts.{base_of, coefficients_of};
 ghost use Rattle.irreducible.specs.Proved.{ring_of};
@@ -11,10 +15,11 @@ ghost use Rattle.net_words.specs.Feeds.{AreFeeds};
 ghost use Rattle.net_write.specs.Plain.{HasPlainNames};
 ghost use Rattle.gf_abs.specs.Reply.{reply_of};
 ghost use Rattle.gf_abs.specs.commands.Make.{MadeOf, MakeAnswer};
-ghost use Rattle.gf_abs.specs.private.Making.{HasRingForm, IsOfRing, made_stop as stop_of_made, ring_net};
+ghost use Rattle.gf_abs.specs.private.Making.{FirstIsNormal, HasRingForm, IsOfRing, ring_net};
 
 use crate::named_fields::{base_field, tower_field};
 use crate::output::Output;
+use gf_basis::Basis;
 use gf_field::{Field, Ring, Ring2k};
 use gf_tower::Tower;
 use irreducible::Proved;
@@ -26,10 +31,10 @@ use mult_gen::{adder, mastrovito, squarer};
 use mult_montgomery::montgomery;
 use mult_normal::normal_serial;
 use net_core::Net;
-use net_make::MakeFault;
 use net_signature::Signature;
+use net_words::{BasisText, WordText};
 use net_write::write_blif;
-use std::alloc::Global;
+use std::alloc::{AllocError, Global};
 
 /// What the command answers over a setting.
 pub(crate) fn answer<F: Field>(
@@ -102,9 +107,9 @@ fn beside_ring<F: Field>(
     if ring.k() != field.k() {
         return Err(Stop::Refused(Fault::Form(kind)));
     }
-    match over_ring(alloc, ring, &setting.signature, kind) {
-        Ok(net) => Ok(net),
-        Err(fault) => Err(made_stop(kind, fault)),
+    match over_ring(alloc, ring, &setting.signature, kind)? {
+        Some(net) => Ok(net),
+        None => Err(Stop::Refused(Fault::Form(kind))),
     }
 }
 
@@ -114,21 +119,20 @@ fn over_ring(
     ring: &Proved<Ring2k>,
     signature: &Signature,
     kind: Kind,
-) -> Result<Net, MakeFault>
+) -> Result<Option<Net>, AllocError>
     requires modulus { modulus_of (ring_of ring.now) ≡ signature.now.modulus }
     requires words { AreWords (degree_of (ring_of ring.now)) signature.now.words }
     requires feeds { AreFeeds (degree_of (ring_of ring.now)) (map (λ word. word.role) signature.now.words) signature.now.feeds }
-    ensures form { IfOk result (λ net. HasRingForm kind signature.now) }
-    ensures made { IfOk result (λ net. net ≡ ring_net kind (degree_of (ring_of ring.now)) signature.now) }
-    ensures plain { IfOk result (λ net. HasPlainNames net) }
-    ensures unfit { IsErrOf result MakeFault.Unfit → HasRingForm kind signature.now → ⊥ }
+    ensures fits { IfOk result (λ found. IsSome found ↔ HasRingForm kind signature.now) }
+    ensures made { IfOk result (λ found. IfSome found (λ net. net ≡ ring_net kind (degree_of (ring_of ring.now)) (modulus_of (ring_of ring.now)) signature.now)) }
+    ensures names { IfOk result (λ found. IfSome found (λ net. HasPlainNames net)) }
 {
     match kind {
         Kind::Mastrovito => mastrovito(alloc, ring, signature),
         Kind::Montgomery => montgomery(alloc, ring, signature),
         Kind::Squarer => squarer(alloc, ring, signature),
         Kind::Digit => digit_serial(alloc, ring, signature),
-        Kind::Composite | Kind::Normal | Kind::Adder => Err(MakeFault::Unfit),
+        Kind::Composite | Kind::Normal | Kind::Adder => Ok(None),
     }
 }
 
@@ -158,13 +162,12 @@ fn beside_tower<F: Field>(
     ensures gives { GivesBy (λ net. net) result (MadeOf (setting_value (F.degree field.now) (F.product field.now) setting.now) Composite) ⊥ ⊥ }
     ensures plain { IfOk result (λ net. HasPlainNames net) }
 {
-    let kind = Kind::Composite;
     if tower.k() != field.k() {
-        return Err(Stop::Refused(Fault::Form(kind)));
+        return Err(Stop::Refused(Fault::Form(Kind::Composite)));
     }
-    match composite(alloc, tower, &setting.signature) {
-        Ok(net) => Ok(net),
-        Err(fault) => Err(made_stop(kind, fault)),
+    match composite(alloc, tower, &setting.signature)? {
+        Some(net) => Ok(net),
+        None => Err(Stop::Refused(Fault::Form(Kind::Composite))),
     }
 }
 
@@ -174,14 +177,72 @@ fn in_normal_basis<F: Field>(alloc: Global, field: &F, setting: &Setting) -> Res
     ensures gives { GivesBy (λ net. net) result (MadeOf (setting_value (F.degree field.now) (F.product field.now) setting.now) Normal) ⊥ ⊥ }
     ensures plain { IfOk result (λ net. HasPlainNames net) }
 {
-    let kind = Kind::Normal;
-    let basis = match setting.bases.as_slice() {
-        [basis, ..] => basis,
-        [] => return Err(Stop::Refused(Fault::Form(kind))),
-    };
-    match normal_serial(alloc, field, basis, &setting.signature) {
-        Ok(net) => Ok(net),
-        Err(fault) => Err(made_stop(kind, fault)),
+    match first_element(setting.signature.words()) {
+        Some(gamma) => in_basis_of(alloc, field, setting, gamma),
+        None => Err(Stop::Refused(Fault::Form(Kind::Normal))),
+    }
+}
+
+// The element whose normal basis the first word is in.
+fn first_element(words: &[WordText]) -> Option<u64>
+    ensures some { IfSome result (λ gamma. FirstIsNormal words.now gamma) }
+    ensures none { IfNone result ((gamma : ℕ) → FirstIsNormal words.now gamma → ⊥) }
+{
+    match words {
+        [word, ..] => element_of(&word.basis),
+        [] => None,
+    }
+}
+
+// The element of a normal basis.
+fn element_of(text: &BasisText) -> Option<u64>
+    ensures some { IfSome result (λ gamma. text.now ≡ text_basis.Normal gamma) }
+    ensures none { IfNone result ((gamma : ℕ) → text.now ≡ text_basis.Normal gamma → ⊥) }
+{
+    match text {
+        BasisText::Normal { gamma } => Some(*gamma),
+        _ => None,
+    }
+}
+
+// The same multiplier in the normal basis of this element.
+fn in_basis_of<F: Field>(
+    alloc: Global,
+    field: &F,
+    setting: &Setting,
+    gamma: u64,
+) -> Result<Net, Stop>
+    requires ready { IsReady (F.degree field.now) (F.product field.now) setting.now }
+    requires first { FirstIsNormal setting.now.signature.words gamma }
+    ensures gives { GivesBy (λ net. net) result (MadeOf (setting_value (F.degree field.now) (F.product field.now) setting.now) Normal) ⊥ ⊥ }
+    ensures plain { IfOk result (λ net. HasPlainNames net) }
+{
+    match Basis::normal(field, gamma) {
+        Ok(basis) => beside_basis(alloc, field, setting, gamma, &basis),
+        Err(_) => Err(Stop::Refused(Fault::Form(Kind::Normal))),
+    }
+}
+
+// The same beside the basis.
+fn beside_basis<F: Field>(
+    alloc: Global,
+    field: &F,
+    setting: &Setting,
+    _gamma: u64,
+    basis: &Basis,
+) -> Result<Net, Stop>
+    requires ready { IsReady (F.degree field.now) (F.product field.now) setting.now }
+    requires first { FirstIsNormal setting.now.signature.words _gamma }
+    requires over { IsBasisOver (F.degree field.now) (F.product field.now) basis.now }
+    requires small { _gamma < 2 ^ F.degree field.now }
+    requires independent { IsIndependent (conjugates_of (F.degree field.now) (F.product field.now) _gamma) }
+    requires elements { elements_of basis.now ≡ conjugates_of (F.degree field.now) (F.product field.now) _gamma }
+    ensures gives { GivesBy (λ net. net) result (MadeOf (setting_value (F.degree field.now) (F.product field.now) setting.now) Normal) ⊥ ⊥ }
+    ensures plain { IfOk result (λ net. HasPlainNames net) }
+{
+    match normal_serial(alloc, field, basis, &setting.signature)? {
+        Some(net) => Ok(net),
+        None => Err(Stop::Refused(Fault::Form(Kind::Normal))),
     }
 }
 
@@ -191,18 +252,8 @@ fn in_any_basis<F: Field>(alloc: Global, field: &F, setting: &Setting) -> Result
     ensures gives { GivesBy (λ net. net) result (MadeOf (setting_value (F.degree field.now) (F.product field.now) setting.now) Adder) ⊥ ⊥ }
     ensures plain { IfOk result (λ net. HasPlainNames net) }
 {
-    match adder(alloc, field, &setting.signature) {
-        Ok(net) => Ok(net),
-        Err(fault) => Err(made_stop(Kind::Adder, fault)),
-    }
-}
-
-// Why no output comes where no net of a kind is made.
-fn made_stop(kind: Kind, fault: MakeFault) -> Stop
-    ensures { result ≡ stop_of_made kind fault }
-{
-    match fault {
-        MakeFault::Unfit => Stop::Refused(Fault::Form(kind)),
-        MakeFault::OutOfMemory => Stop::OutOfMemory,
+    match adder(alloc, field, &setting.signature)? {
+        Some(net) => Ok(net),
+        None => Err(Stop::Refused(Fault::Form(Kind::Adder))),
     }
 }
