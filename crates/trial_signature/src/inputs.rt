@@ -1,6 +1,7 @@
 //! Two input words and an output word.
-ghost use Rattle.std.specs.Prelude.{◌≡◌, ◌≤◌, ◌<◌, ◌^◌, ◌++◌, length, IfOk, OnOk};
+ghost use Rattle.std.specs.Prelude.{◌≡◌, ◌≤◌, ◌<◌, ◌^◌, ◌++◌, ◌∷◌, [], codes, length, IfOk, OnOk};
 ghost use Rattle.net_signature.specs.declared.fault.SigFault.{SigFault};
+ghost use Rattle.poly_mixed.specs.Text.{hex_text};
 ghost use Rattle.trial_signature.specs.TwoInputs.{two_inputs as signature_of_two};
 ghost use Rattle.trial_signature.specs.private.TwoInputsText.{spaced_names, two_inputs_text, word_text};
 
@@ -36,12 +37,20 @@ fn text_of(alloc: Global, k: u32, modulus: u128) -> Result<Vec<u8>, AllocError>
     requires most { k ≤ 64 }
     ensures { IfOk result (λ text. text.items ≡ two_inputs_text k modulus) }
 {
-    let mut text = Vec::new(alloc);
-    let field = format!(in alloc; "gfsig 1\nfield 0x{modulus:x}\n")?;
-    text.extend_from_slice(field.as_bytes())?;
+    let mut text = head_of(alloc, modulus)?;
     add_word(alloc, &mut text, "word A input poly", "a", k)?;
     add_word(alloc, &mut text, "word B input poly", "b", k)?;
     add_word(alloc, &mut text, "word Z output poly", "z", k)?;
+    Ok(text)
+}
+
+// Its first two lines.
+fn head_of(alloc: Global, modulus: u128) -> Result<Vec<u8>, AllocError>
+    ensures { IfOk result (λ text. text.items ≡ codes "gfsig 1\nfield " ++ (hex_text modulus ++ 10 ∷ [])) }
+{
+    let mut text = Vec::new(alloc);
+    let lines = format!(in alloc; "gfsig 1\nfield 0x{modulus:x}\n")?;
+    text.extend_from_slice(lines.as_bytes())?;
     Ok(text)
 }
 
