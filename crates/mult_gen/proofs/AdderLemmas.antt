@@ -1,13 +1,12 @@
 -- The adder computes the sum.
-use Rattle.std.proofs.Common.{◌≡◌, ◌⊎◌, ◌∙◌, ap, ap₂, sym, refl, subst, inl, inr, ℕ, zero, suc, ◌<◌, ◌≤◌, ◌+◌, ◌*◌, ◌^◌, Bool, List, [], ◌∷◌, ◌++◌, length, Some, arith}
+use Rattle.std.proofs.Common.{◌≡◌, ◌∙◌, ap, ap₂, sym, refl, subst, inl, ℕ, zero, suc, ◌<◌, ◌≤◌, ◌^◌, Bool, List, [], ◌∷◌, length, Some, arith}
 use Rattle.std.specs.Prelude.{slice_index, bit_xor}
-use Rattle.std.specs.Int.{bit_at}
 use Rattle.std.specs.Int.Bits.{xor_lt}
 use Rattle.mult_products.proofs.BitLemmas.{bit_at-sum}
 use Rattle.net_core.specs.Lists.{Has}
 use Rattle.net_core.specs.Value.{index_of}
-use Rattle.net_plan.specs.Plan.{Plan, begun, each, gathered, with_xor}
-use Rattle.net_plan.specs.PlanShape.{IsWellMade, CanRead}
+use Rattle.net_plan.specs.Plan.{begun, each, gathered, with_xor}
+use Rattle.net_plan.specs.PlanShape.{IsWellMade}
 use Rattle.net_plan.specs.PlanValue.{Agrees, bit_at_net}
 use Rattle.net_plan.proofs.EachLemmas.{agrees_each}
 use Rattle.net_plan.proofs.ShapeLemmas.{begun_made, xor_made}
@@ -21,16 +20,16 @@ module _ (outer k : ℕ) (a b z : List ℕ) (a_long : length a ≡ k) (b_long : 
   bit_sum : (bits : List Bool) (i : ℕ) → Agrees bits (adder_plan outer k a b z) → i < k → bit_at_net bits (slice_index z i) ≡ bit_xor (bit_at_net bits (slice_index a i)) (bit_at_net bits (slice_index b i))
   bit_sum bits i agrees less =
       xor_value bits (Some (slice_index z i)) (slice_index a i) (slice_index b i) (each i (λ i. with_xor (Some (slice_index z i)) (slice_index a i) (slice_index b i)) (begun outer))
-        (agrees_each bits (λ i. with_xor (Some (slice_index z i)) (slice_index a i) (slice_index b i)) (begun outer) (suc i) k (λ i p. agrees_before bits (Some (slice_index z i)) (slice_index a i ∷ slice_index b i ∷ []) 6 p) less agrees)
+      (agrees_each bits (λ i. with_xor (Some (slice_index z i)) (slice_index a i) (slice_index b i)) (begun outer) (suc i) k (λ i p. agrees_before bits (Some (slice_index z i)) (slice_index a i ∷ slice_index b i ∷ []) 6 p) less agrees)
 
   -- the bits of z are those of the exclusive or
   pub adder_sum : (bits : List Bool) → Agrees bits (adder_plan outer k a b z) → index_of bits z ≡ bit_xor (index_of bits a) (index_of bits b)
   adder_sum bits agrees =
       index_is bits z k (bit_xor (index_of bits a) (index_of bits b)) z_long
-        (xor_lt k (index_of bits a) (index_of bits b) (omega (arith, index_low bits a, ap (λ n. 2 ^ n) a_long)) (omega (arith, index_low bits b, ap (λ n. 2 ^ n) b_long)))
-        (λ l less. bit_sum bits l agrees less
-          ∙ (ap₂ bit_xor (sym (index_bit bits a l (omega (arith, less, a_long)))) (sym (index_bit bits b l (omega (arith, less, b_long))))
-          ∙ sym (bit_at-sum (index_of bits a) (index_of bits b) l)))
+      (xor_lt k (index_of bits a) (index_of bits b) (omega (arith, index_low bits a, ap (λ n. 2 ^ n) a_long)) (omega (arith, index_low bits b, ap (λ n. 2 ^ n) b_long)))
+      (λ l less. bit_sum bits l agrees less
+      ∙ (ap₂ bit_xor (sym (index_bit bits a l (omega (arith, less, a_long)))) (sym (index_bit bits b l (omega (arith, less, b_long))))
+      ∙ sym (bit_at-sum (index_of bits a) (index_of bits b) l)))
 
   pub adder_next : (n : ℕ) → (each n (λ i. with_xor (Some (slice_index z i)) (slice_index a i) (slice_index b i)) (begun outer)).next ≡ outer
   adder_next zero = refl

@@ -1,11 +1,11 @@
 -- Chains into the bits of a word.
-use Rattle.std.proofs.Common.{◌≡◌, ◌⊎◌, ◌∙◌, ap, sym, refl, subst, inl, inr, ℕ, zero, suc, ◌<◌, ◌≤◌, ◌+◌, ◌*◌, Bool, true, false, cond, List, [], ◌∷◌, ◌++◌, length, take, None, Some, arith}
-use Rattle.std.specs.Prelude.{slice_index, slice_get}
+use Rattle.std.proofs.Common.{◌≡◌, ◌∙◌, ap, sym, refl, ℕ, zero, suc, ◌<◌, ◌≤◌, ◌+◌, ◌*◌, Bool, true, false, List, [], ◌∷◌, ◌++◌, length, take, None, Some, arith}
+use Rattle.std.specs.Prelude.{slice_index}
 use Rattle.net_core.specs.Lists.{Has}
 use Rattle.net_plan.specs.Plan.{Plan, each, gathered, where_so, with_chain}
 use Rattle.net_plan.specs.PlanShape.{IsWellMade, CanRead}
 use Rattle.net_plan.specs.PlanValue.{Agrees, bit_at_net, parity}
-use Rattle.net_plan.proofs.EachLemmas.{agrees_each, each_keeps, each_leads, gathered_has}
+use Rattle.net_plan.proofs.EachLemmas.{agrees_each}
 use Rattle.net_plan.proofs.LabelLemmas.{append_long}
 use Rattle.net_plan.proofs.ShapeLemmas.{chain_made, chain_grows, can_read_more}
 use Rattle.net_plan.proofs.ValueLemmas.{chain_before, chain_value}
@@ -20,7 +20,7 @@ module _ (k : ℕ) (z : List ℕ) (lists : ℕ → List ℕ) (plan : Plan) where
   pub chains_value : (bits : List Bool) (l : ℕ) → Agrees bits (chains k z lists plan) → l < k → bit_at_net bits (slice_index z l) ≡ parity bits (lists l)
   chains_value bits l agrees less =
       chain_value bits (Some (slice_index z l)) (lists l) (each l (λ l. with_chain (Some (slice_index z l)) (lists l)) plan)
-        (agrees_each bits (λ l. with_chain (Some (slice_index z l)) (lists l)) plan (suc l) k (λ l p. chain_before bits (Some (slice_index z l)) (lists l) p) less agrees)
+      (agrees_each bits (λ l. with_chain (Some (slice_index z l)) (lists l)) plan (suc l) k (λ l p. chain_before bits (Some (slice_index z l)) (lists l) p) less agrees)
 
   more_next : (n : ℕ) → plan.next ≤ (each n (λ l. with_chain (Some (slice_index z l)) (lists l)) plan).next
   more_next zero = omega arith
@@ -34,7 +34,7 @@ module _ (k : ℕ) (z : List ℕ) (lists : ℕ → List ℕ) (plan : Plan) where
       by zero less = made
       by (suc n) less =
           chain_made outer sources (gathered n (λ l. slice_index z l ∷ [])) (Some (slice_index z n)) (lists n) (each n (λ l. with_chain (Some (slice_index z l)) (lists l)) plan) (by n (omega (arith, less))) (low n (omega (arith, less)))
-            (λ m has. can_read_more outer sources plan (each n (λ l. with_chain (Some (slice_index z l)) (lists l)) plan) m (more_next n) (reads n m (omega (arith, less)) has))
+          (λ m has. can_read_more outer sources plan (each n (λ l. with_chain (Some (slice_index z l)) (lists l)) plan) m (more_next n) (reads n m (omega (arith, less)) has))
 
   -- a chain has fewer gates than its list has nets, and one
   pub chains_next : (n m : ℕ) → ((l : ℕ) → l < n → length (lists l) < m) → (each n (λ l. with_chain (Some (slice_index z l)) (lists l)) plan).next ≤ plan.next + n * m

@@ -6,3 +6,6 @@ pub mod PolyLemmas
 pub mod MastrovitoLemmas
 pub mod SquarerLemmas
 pub mod AdderLemmas
+pub mod ComputeLemmas
+pub mod FormLemmas
+pub mod Examples

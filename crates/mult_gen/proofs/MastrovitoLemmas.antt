@@ -1,6 +1,6 @@
 -- The multiplier computes the product.
-use Rattle.std.proofs.Common.{◌≡◌, ◌⊎◌, ◌∙◌, ap, ap₂, sym, refl, subst, inl, inr, ℕ, zero, suc, ◌<◌, ◌≤◌, ◌+◌, ◌*◌, ◌^◌, Bool, List, [], ◌∷◌, length, take, drop, arith}
-use Rattle.std.specs.Prelude.{slice_index, ◌==◌, bit_xor}
+use Rattle.std.proofs.Common.{◌≡◌, ◌∙◌, ap, ap₂, sym, subst, inr, ℕ, ◌<◌, ◌≤◌, ◌+◌, ◌*◌, ◌^◌, Bool, List, [], length, arith}
+use Rattle.std.specs.Prelude.{slice_index, ◌==◌}
 use Rattle.std.specs.Int.{bit_at}
 use Rattle.std.proofs.lemmas.Nat.Bits.{bit_at-lt}
 use Rattle.gf_field.specs.Bit.{bit_mul}
@@ -11,18 +11,26 @@ use Rattle.net_core.specs.Lists.{Has}
 use Rattle.net_core.specs.Value.{index_of}
 use Rattle.mult_products.specs.ProductBits.{x_to, HasProductBits}
 use Rattle.mult_products.proofs.SumLemmas.{sum_same}
-use Rattle.net_plan.specs.Plan.{Plan, begun, each, gathered, where_so, with_chain}
-use Rattle.net_plan.specs.PlanShape.{IsWellMade, CanRead}
-use Rattle.net_plan.specs.PlanValue.{Agrees, bit_at_net, parity}
+use Rattle.net_plan.specs.Plan.{Plan, begun, where_so}
+use Rattle.net_plan.specs.PlanShape.{IsWellMade}
+use Rattle.net_plan.specs.PlanValue.{Agrees, parity}
 use Rattle.net_plan.proofs.EachLemmas.{gathered_has}
 use Rattle.net_plan.proofs.ShapeLemmas.{begun_made}
 use Rattle.net_plan.proofs.ValueLemmas.{gathered_parity, where_parity}
 use Rattle.net_make.proofs.PolyLemmas.{index_bit, index_low}
-use Rattle.mult_gen.specs.Chains.{added_products, added_row, chains, mastrovito_plan, product_row, products}
+use Rattle.mult_gen.specs.Chains.{added_products, added_row, mastrovito_plan, products}
 use Rattle.mult_gen.proofs.BoundLemmas.{mul_few, place_below, square_few}
 use Rattle.mult_gen.proofs.ChainLemmas.{chains_before, chains_made, chains_next, chains_value, gathered_all, gathered_few, where_few, where_has}
 use Rattle.mult_gen.proofs.PolyLemmas.{index_is}
 use Rattle.mult_gen.proofs.ProductLemmas.{product_value, products_made, rows_next}
+
+-- a list has no more nets than there are products
+pub products_few : (outer k g l : ℕ) → k ≤ 64 → length (added_products k g outer l) ≤ 4096
+products_few outer k g l few =
+    omega (arith, gathered_few (λ i. added_row k g (outer + i * k) i l k) k (k * 1) (λ i low. gathered_few (λ j. where_so (bit_at (x_to k g (i + j)) l == 1) (outer + i * k + j)) k 1 (λ j high. where_few (bit_at (x_to k g (i + j)) l == 1) (outer + i * k + j))), square_few k few, one k)
+  where
+    one : (n : ℕ) → n * (n * 1) ≡ n * n
+    one n = ap (λ m. n * m) (omega arith)
 
 module _ (outer k g : ℕ) (a b z : List ℕ) (few : k ≤ 64) (a_long : length a ≡ k) (b_long : length b ≡ k) (z_long : length z ≡ k) where
   start : Plan
@@ -41,7 +49,7 @@ module _ (outer k g : ℕ) (a b z : List ℕ) (few : k ≤ 64) (a_long : length 
       one i j low high =
           where_parity bits (bit_at (x_to k g (i + j)) l) (outer + i * k + j) (bit_at-lt (x_to k g (i + j)) l)
           ∙ ap (λ n. n * bit_at (x_to k g (i + j)) l) (product_value bits k a b (begun outer) i j agrees low high
-            ∙ ap₂ (λ x y. x * y) (sym (index_bit bits a i (omega (arith, low, a_long)))) (sym (index_bit bits b j (omega (arith, high, b_long)))))
+          ∙ ap₂ (λ x y. x * y) (sym (index_bit bits a i (omega (arith, low, a_long)))) (sym (index_bit bits b j (omega (arith, high, b_long)))))
 
       row : (i : ℕ) → i < k → parity bits (added_row k g (outer + i * k) i l k) ≡ sum_of_first k (λ j. bit_at (index_of bits a) i * bit_at (index_of bits b) j * bit_at (x_to k g (i + j)) l)
       row i low =
@@ -53,8 +61,8 @@ module _ (outer k g : ℕ) (a b z : List ℕ) (few : k ≤ 64) (a_long : length 
   mastrovito_product bits ring by_bits agrees =
       let before : Agrees bits (products k a b (begun outer)) = chains_before k z (added_products k g outer) (products k a b (begun outer)) bits agrees in
       index_is bits z k (product 1 k bit_mul g (index_of bits a) (index_of bits b)) z_long (ring.closed (index_of bits a) (index_of bits b))
-        (λ l less. chains_value k z (added_products k g outer) (products k a b (begun outer)) bits l agrees less
-          ∙ (list_parity bits l before ∙ sym (by_bits (index_of bits a) (index_of bits b) l (omega (arith, index_low bits a, ap (λ n. 2 ^ n) a_long)) (omega (arith, index_low bits b, ap (λ n. 2 ^ n) b_long)))))
+      (λ l less. chains_value k z (added_products k g outer) (products k a b (begun outer)) bits l agrees less
+      ∙ (list_parity bits l before ∙ sym (by_bits (index_of bits a) (index_of bits b) l (omega (arith, index_low bits a, ap (λ n. 2 ^ n) a_long)) (omega (arith, index_low bits b, ap (λ n. 2 ^ n) b_long)))))
 
   list_has : (l n : ℕ) → Has (added_products k g outer l) n → (outer ≤ n) × (n < outer + k * k)
   list_has l n has =
@@ -63,23 +71,16 @@ module _ (outer k g : ℕ) (a b z : List ℕ) (few : k ≤ 64) (a_long : length 
       let is : outer + row.0 * k + place.0 ≡ n = where_has (bit_at (x_to k g (row.0 + place.0)) l == 1) (outer + row.0 * k + place.0) n place.2 in
       (omega (arith, is), omega (arith, is, place_below k row.0 place.0 row.1 place.1))
 
-  pub list_few : (l : ℕ) → length (added_products k g outer l) ≤ 4096
-  list_few l =
-      omega (arith, gathered_few (λ i. added_row k g (outer + i * k) i l k) k (k * 1) (λ i low. gathered_few (λ j. where_so (bit_at (x_to k g (i + j)) l == 1) (outer + i * k + j)) k 1 (λ j high. where_few (bit_at (x_to k g (i + j)) l == 1) (outer + i * k + j))), square_few k few, one k)
-    where
-      one : (n : ℕ) → n * (n * 1) ≡ n * n
-      one n = ap (λ m. n * m) (omega arith)
-
   -- the plan drives z from the factors
   pub mastrovito_made : (sources : List ℕ) → ((i : ℕ) → i < k → Has sources (slice_index a i)) → ((j : ℕ) → j < k → Has sources (slice_index b j)) → ((l : ℕ) → l < k → slice_index z l < outer) → IsWellMade outer sources z (mastrovito_plan outer k g a b z)
   mastrovito_made sources first second low =
       let P : List ℕ → Type 0 = λ targets. IsWellMade outer sources targets (mastrovito_plan outer k g a b z) in
       subst P (gathered_all z k z_long)
-        (chains_made k z (added_products k g outer) (products k a b (begun outer)) outer sources
-          (products_made outer sources [] k a b (begun outer) (begun_made outer sources) first second) low
-          (λ l n less has. let place = list_has l n has in inr (place.0, omega (arith, place.1, start_next))))
+      (chains_made k z (added_products k g outer) (products k a b (begun outer)) outer sources
+      (products_made outer sources [] k a b (begun outer) (begun_made outer sources) first second) low
+      (λ l n less has. let place = list_has l n has in inr (place.0, omega (arith, place.1, start_next))))
 
   -- and has few nets
   pub mastrovito_few : (mastrovito_plan outer k g a b z).next ≤ outer + 270000
   mastrovito_few =
-      omega (arith, chains_next k z (added_products k g outer) (products k a b (begun outer)) k 4097 (λ l less. omega (arith, list_few l)), start_next, square_few k few, mul_few k 4097 64 4097 few (omega arith))
+      omega (arith, chains_next k z (added_products k g outer) (products k a b (begun outer)) k 4097 (λ l less. omega (arith, products_few outer k g l few)), start_next, square_few k few, mul_few k 4097 64 4097 few (omega arith))

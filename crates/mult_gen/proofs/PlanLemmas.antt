@@ -1,11 +1,11 @@
 -- Plans over the nets of input words and an output word.
-use Rattle.std.proofs.Common.{◌≡◌, ◌⊎◌, ◌∙◌, ap, sym, refl, subst, inl, inr, ℕ, zero, suc, ◌<◌, ◌≤◌, ◌+◌, ◌*◌, ◌^◌, Bool, List, [], ◌∷◌, ◌++◌, length, map, take, drop, get_or, Some, None, append-nil, arith}
-use Rattle.std.specs.Prelude.{slice_index, slice_get}
+use Rattle.std.proofs.Common.{◌≡◌, ◌∙◌, ap, sym, refl, subst, inl, inr, ℕ, zero, suc, ◌<◌, ◌≤◌, ◌+◌, ◌*◌, ◌^◌, Bool, List, [], ◌∷◌, ◌++◌, length, take, drop, append-nil, arith}
+use Rattle.std.specs.Prelude.{slice_index}
 use Rattle.std.proofs.Math.Nat.{mul-le-mul_right}
 use Rattle.net_core.specs.Lists.{Has, times}
 use Rattle.net_core.proofs.DriverLemmas.{Has_left, Has_right}
 use Rattle.net_core.specs.Value.{IsConsistent}
-use Rattle.net_words.specs.declared.word.Role.TheVariants.{Input, State, Fed, Output}
+use Rattle.net_words.specs.declared.word.Role.TheVariants.{Input, State, Output}
 use Rattle.net_words.specs.declared.word.WordText.{WordText}
 use Rattle.net_plan.specs.Plan.{Plan}
 use Rattle.net_plan.specs.PlanShape.{IsWellMade}
@@ -13,19 +13,20 @@ use Rattle.net_plan.specs.PlanValue.{Agrees}
 use Rattle.net_plan.specs.Makeable.{driven_outside}
 use Rattle.net_plan.proofs.LabelLemmas.{append_long}
 use Rattle.net_make.specs.BindingOfMade.{AreHeld}
-use Rattle.net_make.specs.Form.{AllWide, HasWords, role_count}
+use Rattle.net_make.specs.Form.{AllWide, HasWords}
 use Rattle.net_make.specs.Made.{IsPlanFor, made_of}
 use Rattle.net_make.specs.Ports.{inputs_of, outer_names, role_nets, word_names}
-use Rattle.net_make.proofs.FormLemmas.{nets_long, no_nets, roles_once, words_one_of}
+use Rattle.net_make.proofs.FormLemmas.{names_long, nets_long, no_nets, roles_once, words_one_of}
 use Rattle.net_make.proofs.FrontLemmas.{take_drop}
 use Rattle.net_make.proofs.MakeLemmas.{role_low}
 use Rattle.mult_gen.specs.Form.{inputs_in, outer_of, outputs_in}
+use Rattle.mult_gen.proofs.BoundLemmas.{mul_few}
 use Rattle.mult_gen.proofs.ChainLemmas.{index_has}
 
-sources_are : (words : List WordText) → driven_outside (inputs_of words []) [] ≡ inputs_in words
+pub sources_are : (words : List WordText) → driven_outside (inputs_of words []) [] ≡ inputs_in words
 sources_are words = append-nil (inputs_in words ++ []) ∙ append-nil (inputs_in words)
 
-outer_are : (words : List WordText) → length (outer_names words []) ≡ outer_of words
+pub outer_are : (words : List WordText) → length (outer_names words []) ≡ outer_of words
 outer_are words = ap (λ (v : List (List ℕ)). length v) (append-nil (word_names words))
 
 module _ (count k : ℕ) (words : List WordText) (has : HasWords Input count words) (wide : AllWide k words) where
@@ -84,6 +85,13 @@ module _ (count k : ℕ) (words : List WordText) (has : HasWords Input count wor
   drop_has i less =
       let P : List ℕ → Type 0 = λ v. Has v (slice_index (drop k (inputs_in words)) i) in
       subst P (sym (take_drop (inputs_in words) k)) (Has_right (take k (inputs_in words)) (drop k (inputs_in words)) (slice_index (drop k (inputs_in words)) i) (index_has (drop k (inputs_in words)) i less))
+
+-- how many outer nets there are
+pub outer_few : (k count : ℕ) (words : List WordText) → k ≤ 64 → count ≤ 2 → HasWords Input count words → AllWide k words → outer_of words ≤ 192
+outer_few k count words few small has wide = omega (arith, names_long k words wide, has.all, mul_few (length words) k 3 64 (omega (arith, has.all, small)) few)
+
+pub list_few : (k count : ℕ) (words list : List WordText) → list ≡ words → k ≤ 64 → count ≤ 2 → HasWords Input count words → AllWide k words → length (word_names list) ≤ 192
+list_few k count words list same few small has wide = let P : List WordText → Type 0 = λ v. length (word_names v) ≤ 192 in subst P (sym same) (outer_few k count words few small has wide)
 
 -- the nets of the second of two words
 pub drop_long : (k : ℕ) (words : List WordText) → HasWords Input 2 words → AllWide k words → length (drop k (inputs_in words)) ≡ k

@@ -1,12 +1,12 @@
 -- The products of the bits of two words.
-use Rattle.std.proofs.Common.{◌≡◌, ◌⊎◌, ◌∙◌, ap, sym, refl, subst, inl, inr, ℕ, zero, suc, ◌<◌, ◌≤◌, ◌+◌, ◌*◌, Bool, List, [], ◌∷◌, ◌++◌, length, None, Some, arith}
+use Rattle.std.proofs.Common.{◌≡◌, ◌∙◌, ap, sym, inl, ℕ, zero, suc, ◌<◌, ◌+◌, ◌*◌, Bool, List, [], ◌∷◌, None, arith}
 use Rattle.std.specs.Prelude.{slice_index}
 use Rattle.net_core.specs.Lists.{Has}
-use Rattle.net_plan.specs.Plan.{Plan, begun, each, with_and}
-use Rattle.net_plan.specs.PlanShape.{IsWellMade, CanRead}
+use Rattle.net_plan.specs.Plan.{Plan, each, with_and}
+use Rattle.net_plan.specs.PlanShape.{IsWellMade}
 use Rattle.net_plan.specs.PlanValue.{Agrees, bit_at_net}
 use Rattle.net_plan.proofs.EachLemmas.{agrees_each, each_keeps}
-use Rattle.net_plan.proofs.ShapeLemmas.{and_made, can_read_more, begun_made}
+use Rattle.net_plan.proofs.ShapeLemmas.{and_made}
 use Rattle.net_plan.proofs.ValueLemmas.{agrees_before, and_value}
 use Rattle.mult_gen.specs.Chains.{product_row, products}
 
@@ -41,10 +41,10 @@ product_value bits k a b plan i j agrees low high =
 row_made : (outer : ℕ) (sources targets : List ℕ) (n x : ℕ) (b : List ℕ) (plan : Plan) → IsWellMade outer sources targets plan → Has sources x → ((j : ℕ) → j < n → Has sources (slice_index b j)) → IsWellMade outer sources targets (product_row n x b plan)
 row_made outer sources targets n x b plan made first others =
     each_keeps (λ j p. IsWellMade outer sources targets p) (λ j. with_and None x (slice_index b j)) plan n made
-      (λ j p less m. and_made outer sources targets None x (slice_index b j) p m tt (inl first) (inl (others j less)))
+    (λ j p less m. and_made outer sources targets None x (slice_index b j) p m tt (inl first) (inl (others j less)))
 
 -- the products drive inner nets alone
 pub products_made : (outer : ℕ) (sources targets : List ℕ) (k : ℕ) (a b : List ℕ) (plan : Plan) → IsWellMade outer sources targets plan → ((i : ℕ) → i < k → Has sources (slice_index a i)) → ((j : ℕ) → j < k → Has sources (slice_index b j)) → IsWellMade outer sources targets (products k a b plan)
 products_made outer sources targets k a b plan made first second =
     each_keeps (λ i p. IsWellMade outer sources targets p) (λ i. product_row k (slice_index a i) b) plan k made
-      (λ i p less m. row_made outer sources targets k (slice_index a i) b p m (first i less) second)
+    (λ i p less m. row_made outer sources targets k (slice_index a i) b p m (first i less) second)

@@ -1,10 +1,9 @@
 -- Forms of signatures, and the nets that are made of them. Source: this project's own, docs/FORMATS.md.
-use Rattle.std.specs.Prelude.{◌≡◌, ℕ, List, [], length, take, drop, map}
+use Rattle.std.specs.Prelude.{◌≡◌, ℕ, List, [], length, take, drop}
 use Rattle.net_core.specs.NetList.{NetList}
 use Rattle.net_words.specs.declared.word.Role.TheVariants.{Input, Output}
 use Rattle.net_words.specs.declared.word.WordText.{WordText}
 use Rattle.net_signature.specs.Signature.{SignatureValue}
-use Rattle.net_plan.specs.Plan.{Plan}
 use Rattle.net_make.specs.Form.{AllAlike, AllPoly, HasWords}
 use Rattle.net_make.specs.Made.{made_of}
 use Rattle.net_make.specs.MakerNames.{AreMakerNames}

@@ -1,10 +1,19 @@
 //! STUB. Makers of netlists that multiply, square and add in a field of 2^k elements, and one changed gate.
 #![tactic(auto)]
 
-mod adder_net;
-mod mastrovito_net;
-mod squarer_net;
+mod adders;
+mod fault;
+mod form;
+mod lists;
+mod multiplier;
+mod mutation;
+mod nets;
+mod powers;
+mod products;
+mod squarers;
 
-pub use adder_net::adder;
-pub use mastrovito_net::mastrovito;
-pub use squarer_net::squarer;
+pub use adders::adder;
+pub use fault::MakeFault;
+pub use multiplier::mastrovito;
+pub use mutation::mutate;
+pub use squarers::squarer;

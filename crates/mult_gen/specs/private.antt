@@ -1,0 +1,2 @@
+-- Words that only clauses of private functions cite.
+pub mod Powers

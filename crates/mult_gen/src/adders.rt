@@ -1,0 +1,77 @@
+//! Adders.
+ghost use Rattle.std.specs.Prelude.{◌≡◌, ◌≤◌, ◌<◌, ◌^◌, List, ℕ, IfOk, OnOk, IsErrOf, bit_xor, drop, length, take};
+ghost use Rattle.gf_basis.specs.Basis.{IsBasis};
+ghost use Rattle.net_words.specs.declared.word.Role.TheVariants.{Input};
+ghost use Rattle.net_write.specs.Plain.{HasPlainNames};
+ghost use Rattle.net_make.specs.Computes.{ComputesOfTwo};
+ghost use Rattle.net_make.specs.Form.{AllWide, HasWords};
+ghost use Rattle.mult_gen.specs.Chains.{adder_plan};
+ghost use Rattle.mult_gen.specs.Form.{HasAdderForm, inputs_in, made_adder, outer_of, outputs_in};
+
+use crate::fault::MakeFault;
+use crate::form::ports;
+use crate::nets::{inputs, net_of, outer, outputs};
+use gf_field::Field;
+use net_core::Net;
+use net_make::all_alike;
+use net_plan::PlanMaker;
+use net_signature::Signature;
+use std::alloc::{AllocError, Global};
+
+// The gates of the adder of the words on these nets.
+fn gates(
+    alloc: Global,
+    outer: u32,
+    a: &[u32],
+    b: &[u32],
+    z: &[u32],
+) -> Result<PlanMaker, AllocError>
+    requires first { length a.now ≡ length z.now }
+    requires second { length b.now ≡ length z.now }
+    ensures { IfOk result (λ plan. plan ≡ adder_plan outer (length z.now) a.now b.now z.now) }
+{
+    let mut plan = PlanMaker::new(alloc, outer);
+    for i in 0..z.len() {
+        plan.xor_into(z[i], a[i], b[i])?;
+    }
+    Ok(plan)
+}
+
+// The gates of the adder of the words.
+fn plan_of(alloc: Global, k: u32, signature: &Signature) -> Result<PlanMaker, AllocError>
+    requires words { HasWords Input 2 signature.now.words }
+    requires wide { AllWide k signature.now.words }
+    requires small { k ≤ 64 }
+    ensures { IfOk result (λ plan. plan ≡ adder_plan (outer_of signature.now.words) k (take k (inputs_in signature.now.words)) (drop k (inputs_in signature.now.words)) (outputs_in signature.now.words)) }
+{
+    let inputs = inputs(alloc, signature, k, 2)?;
+    let outputs = outputs(alloc, signature, k, 2)?;
+    let (a, b) = inputs.split_at(k as usize);
+    let plan = gates(alloc, outer(signature, k, 2), a, b, &outputs)?;
+    Ok(plan)
+}
+
+/// A netlist of the sum A + B: an exclusive or gate for each bit. Words are two inputs and the output, all in one basis by
+/// its text's values, with no feed or block; their nets are different and have plain names of at most 128 bytes. Else it is
+/// `Unfit`. It is the sum in any basis of the field.
+/// The field is the signature's, and each word has as many nets as its degree.
+pub fn adder<F: Field>(alloc: Global, field: &F, signature: &Signature) -> Result<Net, MakeFault>
+    requires wide { AllWide (F.degree field.now) signature.now.words }
+    ensures made { IfOk result (λ net. net ≡ made_adder (F.degree field.now) signature.now.words) }
+    ensures plain { IfOk result (λ net. HasPlainNames net) }
+    ensures computes { IfOk result (λ net. (basis : List ℕ) → IsBasis (F.degree field.now) basis → ComputesOfTwo (F.degree field.now) (F.product field.now) net signature.now.words basis 0 bit_xor) }
+    ensures form { OnOk result (HasAdderForm signature.now) }
+    ensures unfit { IsErrOf result MakeFault.Unfit → HasAdderForm signature.now → ⊥ }
+{
+    if !all_alike(signature.words()) {
+        return Err(MakeFault::Unfit);
+    }
+    let k = field.k();
+    let maker = match ports(alloc, signature, k, 2) {
+        Ok(maker) => maker,
+        Err(fault) => return Err(fault),
+    };
+    let plan = plan_of(alloc, k, signature)?;
+    let net = net_of(alloc, maker, signature, 2, &plan)?;
+    Ok(net)
+}

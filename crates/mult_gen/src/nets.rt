@@ -1,0 +1,88 @@
+//! The nets of the words of a signature, and the net of a plan over them.
+ghost use Rattle.std.specs.Prelude.{◌≡◌, ◌≤◌, ◌*◌, ◌^◌, [], List, ℕ, IfOk, length, map};
+ghost use Rattle.net_plan.specs.MadeNet.{outer_net};
+ghost use Rattle.net_words.specs.declared.word.Role.TheVariants.{Input};
+ghost use Rattle.net_make.specs.Form.{AllWide, HasWords};
+ghost use Rattle.net_make.specs.Made.{made_of, IsPlanFor};
+ghost use Rattle.net_make.specs.Ports.{outer_names};
+ghost use Rattle.mult_gen.specs.Form.{HasPorts, inputs_in, outer_of, outputs_in};
+
+use net_core::{Latch, Net, NetMaker};
+use net_make::{count_of, make, role_nets};
+use net_plan::PlanMaker;
+use net_signature::Signature;
+use net_words::Role;
+use std::alloc::{AllocError, Global};
+
+/// How many nets the words have.
+pub(crate) fn outer(signature: &Signature, _k: u32, _count: usize) -> u32
+    requires words { HasWords Input _count signature.now.words }
+    requires wide { AllWide _k signature.now.words }
+    requires small { _k ≤ 64 }
+    requires few { _count ≤ 2 }
+    ensures count { result ≡ outer_of signature.now.words }
+    ensures few { result ≤ 2 ^ 16 }
+{
+    count_of(signature.words())
+}
+
+/// The nets of the inputs.
+pub(crate) fn inputs(
+    alloc: Global,
+    signature: &Signature,
+    _k: u32,
+    _count: usize,
+) -> Result<Vec<u32>, AllocError>
+    requires words { HasWords Input _count signature.now.words }
+    requires wide { AllWide _k signature.now.words }
+    requires small { _k ≤ 64 }
+    requires few { _count ≤ 2 }
+    ensures nets { IfOk result (λ list. list.items ≡ inputs_in signature.now.words) }
+    ensures long { IfOk result (λ list. length list.items ≡ _count * _k) }
+{
+    let list = role_nets(alloc, signature.words(), Role::Input)?;
+    Ok(list)
+}
+
+/// The nets of the output word.
+pub(crate) fn outputs(
+    alloc: Global,
+    signature: &Signature,
+    _k: u32,
+    _count: usize,
+) -> Result<Vec<u32>, AllocError>
+    requires words { HasWords Input _count signature.now.words }
+    requires wide { AllWide _k signature.now.words }
+    requires small { _k ≤ 64 }
+    requires few { _count ≤ 2 }
+    ensures nets { IfOk result (λ list. list.items ≡ outputs_in signature.now.words) }
+    ensures long { IfOk result (λ list. length list.items ≡ _k) }
+{
+    let list = role_nets(alloc, signature.words(), Role::Output)?;
+    Ok(list)
+}
+
+/// The net of the gates of a plan, without latches.
+pub(crate) fn net_of(
+    alloc: Global,
+    maker: NetMaker,
+    signature: &Signature,
+    _count: usize,
+    plan: &PlanMaker,
+) -> Result<Net, AllocError>
+    requires maker { maker ≡ outer_net (outer_names signature.now.words []) }
+    requires ports { HasPorts _count signature.now }
+    requires fits { (targets : List ℕ) × IsPlanFor signature.now.words [] [] targets plan.now }
+    ensures { IfOk result (λ net. net ≡ made_of signature.now.words [] [] plan.now) }
+{
+    let latches: Vec<Latch> = Vec::new(alloc);
+    let net = make(
+        alloc,
+        maker,
+        signature.words(),
+        signature.feeds(),
+        &latches,
+        plan,
+    )?;
+    Ok(net)
+}
