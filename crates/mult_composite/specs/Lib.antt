@@ -1,1 +1,1 @@
-pub mod Composite
+pub mod Form

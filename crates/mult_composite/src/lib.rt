@@ -1,6 +1,6 @@
 //! STUB.
 #![tactic(auto)]
 
-mod composite_net;
+mod multiplier;
 
-pub use composite_net::composite;
+pub use multiplier::composite;

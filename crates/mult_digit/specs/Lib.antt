@@ -1,1 +1,2 @@
-pub mod Digit
+pub mod DigitForm
+pub mod DigitNet

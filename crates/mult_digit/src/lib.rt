@@ -1,6 +1,6 @@
 //! STUB.
 #![tactic(auto)]
 
-mod digit_net;
+mod maker;
 
-pub use digit_net::digit_serial;
+pub use maker::digit_serial;

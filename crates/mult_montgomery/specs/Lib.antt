@@ -1,1 +1,1 @@
-pub mod Montgomery
+pub mod Form

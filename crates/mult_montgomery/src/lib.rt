@@ -1,6 +1,6 @@
 //! STUB.
 #![tactic(auto)]
 
-mod montgomery_net;
+mod multiplier;
 
-pub use montgomery_net::montgomery;
+pub use multiplier::montgomery;

@@ -1,1 +1,5 @@
-pub mod Normal
+pub mod Coordinates
+pub mod NormalPlan
+pub mod NormalNet
+pub mod NormalForm
+pub mod private

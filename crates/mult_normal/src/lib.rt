@@ -1,6 +1,9 @@
-//! STUB.
+//! A multiplier in a normal basis, bit by bit.
 #![tactic(auto)]
 
-mod normal_maker;
+mod form;
+mod held;
+mod maker;
+mod products;
 
-pub use normal_maker::normal_serial;
+pub use maker::normal_serial;

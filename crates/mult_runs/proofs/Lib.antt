@@ -1,0 +1,5 @@
+pub mod BitLemmas
+pub mod RunLemmas
+pub mod NormalRunLemmas
+pub mod DigitRunLemmas
+mod Examples
