@@ -175,7 +175,7 @@ module _ (files : Files) where
       determined_after (CertifiedIn (Some files) setting.signature net certificate cycles) (λ certified. VerifyReply setting terms certified) (certified_determined setting net certificate cycles) (λ certified of. verify_determined setting sound terms certified)
   action_determined setting (Upgrade net certificate cycles) sound =
       determined_after (CertifiedIn (Some files) setting.signature net certificate cycles) (λ certified. UpgradeReply setting certified) (certified_determined setting net certificate cycles) (λ certified of. upgrade_determined setting certified)
-  action_determined setting (Make kind) sound = make_determined setting kind
+  action_determined setting (Make kind) sound = make_determined setting sound kind
 
   signed_answer_determined : (text : List ℕ) (signed : SignedValue) (action : Action) → SignedOf text (Ok signed) → Determined (SignedAnswer (Some files) signed action)
   signed_answer_determined text signed action is =

@@ -1,20 +1,31 @@
 -- The command `make`: a netlist of a kind that is made for a signature. Sources: of each kind's netlist, those of its maker.
-use Rattle.std.specs.Prelude.{◌≡◌, ℕ, ◌*◌, ◌/◌, ◌<◌, ◌^◌, List, [], ◌∷◌, length, Ok, Err}
+use Rattle.std.specs.Prelude.{◌≡◌, ℕ, ◌-◌, ◌*◌, ◌/◌, ◌<◌, ◌^◌, List, [], ◌∷◌, length, Ok, Err}
 use Rattle.text_core.specs.Outcome.{Outcome, ◌>>=◌, Exactly}
 use Rattle.irreducible.specs.Span.{IsIndependent}
 use Rattle.gf_basis.specs.BasisFault.{conjugates_of}
+use Rattle.gf_basis.specs.BasisParts.{IsBasisOver, elements_of}
+use Rattle.gf_basis.specs.declared.bases.Basis.{Basis}
+use Rattle.gf_field.specs.Bit.{bit_mul}
+use Rattle.gf_field.specs.Quotient.{product}
 use Rattle.gf_tower.specs.FieldName.{IsFieldModulus, IsFieldTower}
+use Rattle.gf_tower.specs.Tower.{tower_polynomial}
 use Rattle.net_core.specs.NetList.{NetList}
 use Rattle.net_signature.specs.Signature.{SignatureValue}
+use Rattle.net_words.specs.declared.feed.FeedText.{FeedText}
+use Rattle.net_words.specs.declared.feed.Source.{Source}
+use Rattle.net_words.specs.declared.feed.Source.TheVariants as source
 use Rattle.net_words.specs.declared.word.BasisText.{BasisText}
 use Rattle.net_words.specs.declared.word.BasisText.TheVariants as basis
 use Rattle.net_words.specs.declared.word.WordText.{WordText}
 use Rattle.net_write.specs.Written.{written}
+use Rattle.mult_products.specs.Indeterminate.{x_of}
 use Rattle.mult_gen.specs.Form.{HasAdderForm, HasPolyForm, made_adder, made_mastrovito, made_squarer}
-use Rattle.mult_montgomery.specs.Montgomery.{HasMontgomeryForm, made_montgomery}
-use Rattle.mult_composite.specs.Composite.{HasCompositeForm, made_composite}
-use Rattle.mult_normal.specs.Normal.{HasNormalForm, made_normal}
-use Rattle.mult_digit.specs.Digit.{HasDigitForm, made_digit}
+use Rattle.mult_montgomery.specs.Form.{HasMontgomeryForm, made_montgomery}
+use Rattle.mult_composite.specs.Form.{HasCompositeForm, made_composite}
+use Rattle.mult_normal.specs.NormalForm.{HasNormalForm}
+use Rattle.mult_normal.specs.NormalNet.{normal_net}
+use Rattle.mult_digit.specs.DigitForm.{HasDigitForm}
+use Rattle.mult_digit.specs.DigitNet.{digit_net}
 use Rattle.job_words.specs.declared.kind.Kind.{Kind}
 use Rattle.job_words.specs.declared.kind.Kind.TheVariants.{Mastrovito, Montgomery, Composite, Normal, Adder, Squarer, Digit}
 use Rattle.job_words.specs.declared.fault.Fault.{Fault}
@@ -68,21 +79,42 @@ HasFormOf setting Composite = IsOverTower HasCompositeForm setting
 HasFormOf setting Normal = IsInNormalBasis HasNormalForm setting
 HasFormOf setting Adder = HasAdderForm setting.signature
 HasFormOf setting Squarer = IsOverBase (HasPolyForm 1) setting
-HasFormOf setting Digit = IsOverBase HasDigitForm setting
+HasFormOf setting Digit = IsOverBase (HasDigitForm setting.k) setting
 
--- the net list of a kind over a setting of its form
-abbrev pub made : SettingValue → Kind → NetList
-made setting Mastrovito = made_mastrovito setting.k setting.signature.modulus setting.signature.words
-made setting Montgomery = made_montgomery setting.k setting.signature.modulus setting.signature.words
-made setting Composite = made_composite (base_degree setting) setting.signature.modulus (length setting.signature.tower) setting.signature.tower setting.signature.words
-made setting Normal = made_normal setting.k setting.product (first_conjugates setting) setting.signature.words
-made setting Adder = made_adder setting.k setting.signature.words
-made setting Squarer = made_squarer setting.k setting.signature.modulus setting.signature.words
-made setting Digit = made_digit setting.k setting.signature.modulus setting.signature
+-- the net list is the multiplier in the normal basis of the words
+pub record IsMadeNormal (setting : SettingValue) (net : NetList) : Type 0 where
+  pub basis : Basis
+  pub over : IsBasisOver setting.k setting.product basis
+  pub elements : elements_of basis ≡ first_conjugates setting
+  pub net_is : net ≡ normal_net setting.k setting.product basis setting.signature.words
+
+-- the place that the first feed feeds: the lowest of the highest digit
+abbrev pub place_in : Source → ℕ
+place_in source.Zero = 0
+place_in source.One = 0
+place_in (source.Bit word place) = place
+
+abbrev pub first_place : List FeedText → ℕ
+first_place [] = 0
+first_place (feed ∷ feeds) = place_in feed.source
+
+-- how many bits a digit has
+abbrev pub digit_width : SettingValue → ℕ
+digit_width setting = setting.k - first_place setting.signature.feeds
+
+-- the net list is that of a kind over a setting of its form
+abbrev pub IsMade : SettingValue → Kind → NetList → Type 0
+IsMade setting Mastrovito net = net ≡ made_mastrovito setting.k setting.signature.modulus setting.signature.words
+IsMade setting Montgomery net = net ≡ made_montgomery setting.k setting.signature.modulus setting.signature.words
+IsMade setting Composite net = net ≡ made_composite (base_degree setting) setting.signature.modulus (length setting.signature.tower) (tower_polynomial (base_degree setting) setting.signature.tower) setting.signature.words
+IsMade setting Normal net = IsMadeNormal setting net
+IsMade setting Adder net = net ≡ made_adder setting.k setting.signature.words
+IsMade setting Squarer net = net ≡ made_squarer setting.k setting.signature.modulus setting.signature.words
+IsMade setting Digit net = net ≡ digit_net setting.k (product 1 setting.k bit_mul setting.signature.modulus) (x_of setting.k setting.signature.modulus) (digit_width setting) setting.signature.words setting.signature.feeds
 
 -- this net list, or fault 43 where the form is not met
 abbrev pub MadeOf : SettingValue → Kind → Outcome Fault NetList
-MadeOf setting kind (Ok net) = HasFormOf setting kind × (net ≡ made setting kind)
+MadeOf setting kind (Ok net) = HasFormOf setting kind × IsMade setting kind net
 MadeOf setting kind (Err fault) = (fault ≡ Form kind) × (HasFormOf setting kind → ⊥)
 
 -- its answer, after its signature was taken: the net list in BLIF

@@ -1,5 +1,5 @@
 //! The command `make`: a netlist of a kind that is made for a signature.
-ghost use Rattle.std.specs.Prelude.{◌≡◌, ◌↔◌, ℕ, ◌<◌, ◌^◌, [], map, IfNone, IfOk, IfSome, IsSome};
+ghost use Rattle.std.specs.Prelude.{◌≡◌, ◌≢◌, ◌↔◌, ℕ, ◌<◌, ◌^◌, [], All, IfNone, IfOk, IfSome, IsErrOf, IsTrue, OnOk};
 ghost use Rattle.gf_basis.specs.BasisFault.{conjugates_of};
 ghost use Rattle.gf_basis.specs.BasisParts.{IsBasisOver, elements_of};
 ghost use Rattle.irreducible.specs.Span.{IsIndependent};
@@ -9,13 +9,12 @@ ghost use Rattle.gf_tower.specs.TowerParts.{base_of, coefficients_of};
 ghost use Rattle.irreducible.specs.Proved.{ring_of};
 ghost use Rattle.job_input.specs.Setting.{IsReady, setting_value};
 ghost use Rattle.job_words.specs.Stop.{GivesBy};
-ghost use Rattle.job_words.specs.declared.kind.Kind.TheVariants.{Adder, Composite, Normal};
-ghost use Rattle.net_words.specs.Binding.{AreWords};
-ghost use Rattle.net_words.specs.Feeds.{AreFeeds};
+ghost use Rattle.job_words.specs.declared.kind.Kind.TheVariants.{Adder, Composite, Digit, Normal};
+ghost use Rattle.net_make.specs.Form.{AllWide};
 ghost use Rattle.net_write.specs.Plain.{HasPlainNames};
 ghost use Rattle.gf_abs.specs.Reply.{reply_of};
 ghost use Rattle.gf_abs.specs.commands.Make.{MadeOf, MakeAnswer};
-ghost use Rattle.gf_abs.specs.private.Making.{FirstIsNormal, HasRingForm, IsOfRing, ring_net};
+ghost use Rattle.gf_abs.specs.private.Making.{FirstIsNormal, HasRingForm, IsOfRing, IsRingNet, IsUnfed};
 
 use crate::named_fields::{base_field, tower_field};
 use crate::output::Output;
@@ -27,14 +26,14 @@ use job_input::Setting;
 use job_words::{Fault, Kind, Stop};
 use mult_composite::composite;
 use mult_digit::digit_serial;
-use mult_gen::{adder, mastrovito, squarer};
+use mult_gen::{MakeFault, adder, mastrovito, squarer};
 use mult_montgomery::montgomery;
 use mult_normal::normal_serial;
 use net_core::Net;
 use net_signature::Signature;
-use net_words::{BasisText, WordText};
+use net_words::{BasisText, Role, WordText};
 use net_write::write_blif;
-use std::alloc::{AllocError, Global};
+use std::alloc::Global;
 
 /// What the command answers over a setting.
 pub(crate) fn answer<F: Field>(
@@ -61,13 +60,39 @@ fn made<F: Field>(alloc: Global, field: &F, setting: &Setting, kind: Kind) -> Re
     ensures gives { GivesBy (λ net. net) result (MadeOf (setting_value (F.degree field.now) (F.product field.now) setting.now) kind) ⊥ ⊥ }
     ensures plain { IfOk result (λ net. HasPlainNames net) }
 {
+    if let Kind::Digit = kind {
+        return in_digits(alloc, field, setting);
+    }
+    if all_unfed(setting.signature.words()) {
+        unfed(alloc, field, setting, kind)
+    } else {
+        Err(Stop::Refused(Fault::Form(kind)))
+    }
+}
+
+// Whether no word is fed.
+fn all_unfed(words: &[WordText]) -> bool
+    ensures { IsTrue result ↔ All (λ word. word.role ≢ Role.Fed) words.now }
+{
+    words.iter().all(|word| word.role != Role::Fed)
+}
+
+// The net of a kind without feeds, where no word is fed.
+fn unfed<F: Field>(alloc: Global, field: &F, setting: &Setting, kind: Kind) -> Result<Net, Stop>
+    requires ready { IsReady (F.degree field.now) (F.product field.now) setting.now }
+    requires wide { AllWide (F.degree field.now) setting.now.signature.words }
+    requires unfed { IsUnfed kind }
+    ensures gives { GivesBy (λ net. net) result (MadeOf (setting_value (F.degree field.now) (F.product field.now) setting.now) kind) ⊥ ⊥ }
+    ensures plain { IfOk result (λ net. HasPlainNames net) }
+{
     match kind {
-        Kind::Mastrovito | Kind::Montgomery | Kind::Squarer | Kind::Digit => {
+        Kind::Mastrovito | Kind::Montgomery | Kind::Squarer => {
             over_base(alloc, field, setting, kind)
         }
         Kind::Composite => over_tower(alloc, field, setting),
         Kind::Normal => in_normal_basis(alloc, field, setting),
         Kind::Adder => in_any_basis(alloc, field, setting),
+        Kind::Digit => Err(Stop::Refused(Fault::Form(kind))),
     }
 }
 
@@ -78,7 +103,7 @@ fn over_base<F: Field>(
     setting: &Setting,
     kind: Kind,
 ) -> Result<Net, Stop>
-    requires ready { IsReady (F.degree field.now) (F.product field.now) setting.now }
+    requires wide { AllWide (F.degree field.now) setting.now.signature.words }
     requires base { IsOfRing kind }
     ensures gives { GivesBy (λ net. net) result (MadeOf (setting_value (F.degree field.now) (F.product field.now) setting.now) kind) ⊥ ⊥ }
     ensures plain { IfOk result (λ net. HasPlainNames net) }
@@ -97,7 +122,7 @@ fn beside_ring<F: Field>(
     setting: &Setting,
     kind: Kind,
 ) -> Result<Net, Stop>
-    requires ready { IsReady (F.degree field.now) (F.product field.now) setting.now }
+    requires wide { AllWide (F.degree field.now) setting.now.signature.words }
     requires base { IsOfRing kind }
     requires modulus { modulus_of (ring_of ring.now) ≡ setting.now.signature.modulus }
     requires no_tower { setting.now.signature.tower ≡ [] }
@@ -107,9 +132,10 @@ fn beside_ring<F: Field>(
     if ring.k() != field.k() {
         return Err(Stop::Refused(Fault::Form(kind)));
     }
-    match over_ring(alloc, ring, &setting.signature, kind)? {
-        Some(net) => Ok(net),
-        None => Err(Stop::Refused(Fault::Form(kind))),
+    match over_ring(alloc, ring, &setting.signature, kind) {
+        Ok(net) => Ok(net),
+        Err(MakeFault::Unfit) => Err(Stop::Refused(Fault::Form(kind))),
+        Err(MakeFault::OutOfMemory) => Err(Stop::OutOfMemory),
     }
 }
 
@@ -119,26 +145,26 @@ fn over_ring(
     ring: &Proved<Ring2k>,
     signature: &Signature,
     kind: Kind,
-) -> Result<Option<Net>, AllocError>
+) -> Result<Net, MakeFault>
+    requires base { IsOfRing kind }
     requires modulus { modulus_of (ring_of ring.now) ≡ signature.now.modulus }
-    requires words { AreWords (degree_of (ring_of ring.now)) signature.now.words }
-    requires feeds { AreFeeds (degree_of (ring_of ring.now)) (map (λ word. word.role) signature.now.words) signature.now.feeds }
-    ensures fits { IfOk result (λ found. IsSome found ↔ HasRingForm kind signature.now) }
-    ensures made { IfOk result (λ found. IfSome found (λ net. net ≡ ring_net kind (degree_of (ring_of ring.now)) (modulus_of (ring_of ring.now)) signature.now)) }
-    ensures names { IfOk result (λ found. IfSome found (λ net. HasPlainNames net)) }
+    requires wide { AllWide (degree_of (ring_of ring.now)) signature.now.words }
+    ensures made { IfOk result (λ net. IsRingNet kind (degree_of (ring_of ring.now)) (modulus_of (ring_of ring.now)) signature.now net) }
+    ensures plain { IfOk result (λ net. HasPlainNames net) }
+    ensures form { OnOk result (HasRingForm kind signature.now) }
+    ensures unfit { IsErrOf result MakeFault.Unfit → HasRingForm kind signature.now → ⊥ }
 {
     match kind {
         Kind::Mastrovito => mastrovito(alloc, ring, signature),
         Kind::Montgomery => montgomery(alloc, ring, signature),
         Kind::Squarer => squarer(alloc, ring, signature),
-        Kind::Digit => digit_serial(alloc, ring, signature),
-        Kind::Composite | Kind::Normal | Kind::Adder => Ok(None),
+        Kind::Composite | Kind::Normal | Kind::Adder | Kind::Digit => Err(MakeFault::Unfit),
     }
 }
 
 // A multiplier in a tower of one step.
 fn over_tower<F: Field>(alloc: Global, field: &F, setting: &Setting) -> Result<Net, Stop>
-    requires ready { IsReady (F.degree field.now) (F.product field.now) setting.now }
+    requires wide { AllWide (F.degree field.now) setting.now.signature.words }
     ensures gives { GivesBy (λ net. net) result (MadeOf (setting_value (F.degree field.now) (F.product field.now) setting.now) Composite) ⊥ ⊥ }
     ensures plain { IfOk result (λ net. HasPlainNames net) }
 {
@@ -155,7 +181,7 @@ fn beside_tower<F: Field>(
     tower: &Proved<Tower<Proved<Ring2k>>>,
     setting: &Setting,
 ) -> Result<Net, Stop>
-    requires ready { IsReady (F.degree field.now) (F.product field.now) setting.now }
+    requires wide { AllWide (F.degree field.now) setting.now.signature.words }
     requires modulus { modulus_of (ring_of (base_of (ring_of tower.now))) ≡ setting.now.signature.modulus }
     requires tower { coefficients_of (ring_of tower.now) ≡ setting.now.signature.tower }
     requires one_step { setting.now.signature.upper ≡ [] }
@@ -165,15 +191,17 @@ fn beside_tower<F: Field>(
     if tower.k() != field.k() {
         return Err(Stop::Refused(Fault::Form(Kind::Composite)));
     }
-    match composite(alloc, tower, &setting.signature)? {
-        Some(net) => Ok(net),
-        None => Err(Stop::Refused(Fault::Form(Kind::Composite))),
+    match composite(alloc, tower, &setting.signature) {
+        Ok(net) => Ok(net),
+        Err(MakeFault::Unfit) => Err(Stop::Refused(Fault::Form(Kind::Composite))),
+        Err(MakeFault::OutOfMemory) => Err(Stop::OutOfMemory),
     }
 }
 
 // A multiplier in a normal basis.
 fn in_normal_basis<F: Field>(alloc: Global, field: &F, setting: &Setting) -> Result<Net, Stop>
     requires ready { IsReady (F.degree field.now) (F.product field.now) setting.now }
+    requires wide { AllWide (F.degree field.now) setting.now.signature.words }
     ensures gives { GivesBy (λ net. net) result (MadeOf (setting_value (F.degree field.now) (F.product field.now) setting.now) Normal) ⊥ ⊥ }
     ensures plain { IfOk result (λ net. HasPlainNames net) }
 {
@@ -213,6 +241,7 @@ fn in_basis_of<F: Field>(
     gamma: u64,
 ) -> Result<Net, Stop>
     requires ready { IsReady (F.degree field.now) (F.product field.now) setting.now }
+    requires wide { AllWide (F.degree field.now) setting.now.signature.words }
     requires first { FirstIsNormal setting.now.signature.words gamma }
     ensures gives { GivesBy (λ net. net) result (MadeOf (setting_value (F.degree field.now) (F.product field.now) setting.now) Normal) ⊥ ⊥ }
     ensures plain { IfOk result (λ net. HasPlainNames net) }
@@ -232,6 +261,7 @@ fn beside_basis<F: Field>(
     basis: &Basis,
 ) -> Result<Net, Stop>
     requires ready { IsReady (F.degree field.now) (F.product field.now) setting.now }
+    requires wide { AllWide (F.degree field.now) setting.now.signature.words }
     requires first { FirstIsNormal setting.now.signature.words _gamma }
     requires over { IsBasisOver (F.degree field.now) (F.product field.now) basis.now }
     requires small { _gamma < 2 ^ F.degree field.now }
@@ -248,12 +278,47 @@ fn beside_basis<F: Field>(
 
 // An adder.
 fn in_any_basis<F: Field>(alloc: Global, field: &F, setting: &Setting) -> Result<Net, Stop>
-    requires ready { IsReady (F.degree field.now) (F.product field.now) setting.now }
+    requires wide { AllWide (F.degree field.now) setting.now.signature.words }
     ensures gives { GivesBy (λ net. net) result (MadeOf (setting_value (F.degree field.now) (F.product field.now) setting.now) Adder) ⊥ ⊥ }
     ensures plain { IfOk result (λ net. HasPlainNames net) }
 {
-    match adder(alloc, field, &setting.signature)? {
+    match adder(alloc, field, &setting.signature) {
+        Ok(net) => Ok(net),
+        Err(MakeFault::Unfit) => Err(Stop::Refused(Fault::Form(Kind::Adder))),
+        Err(MakeFault::OutOfMemory) => Err(Stop::OutOfMemory),
+    }
+}
+
+// A multiplier that is fed digit by digit.
+fn in_digits<F: Field>(alloc: Global, field: &F, setting: &Setting) -> Result<Net, Stop>
+    requires ready { IsReady (F.degree field.now) (F.product field.now) setting.now }
+    ensures gives { GivesBy (λ net. net) result (MadeOf (setting_value (F.degree field.now) (F.product field.now) setting.now) Digit) ⊥ ⊥ }
+    ensures plain { IfOk result (λ net. HasPlainNames net) }
+{
+    match base_field(&setting.signature) {
+        Some(ring) => beside_digits(alloc, field, &ring, setting),
+        None => Err(Stop::Refused(Fault::Form(Kind::Digit))),
+    }
+}
+
+// The same beside the field, whose degree is that of the setting.
+fn beside_digits<F: Field>(
+    alloc: Global,
+    field: &F,
+    ring: &Proved<Ring2k>,
+    setting: &Setting,
+) -> Result<Net, Stop>
+    requires ready { IsReady (F.degree field.now) (F.product field.now) setting.now }
+    requires modulus { modulus_of (ring_of ring.now) ≡ setting.now.signature.modulus }
+    requires no_tower { setting.now.signature.tower ≡ [] }
+    ensures gives { GivesBy (λ net. net) result (MadeOf (setting_value (F.degree field.now) (F.product field.now) setting.now) Digit) ⊥ ⊥ }
+    ensures plain { IfOk result (λ net. HasPlainNames net) }
+{
+    if ring.k() != field.k() {
+        return Err(Stop::Refused(Fault::Form(Kind::Digit)));
+    }
+    match digit_serial(alloc, ring, &setting.signature)? {
         Some(net) => Ok(net),
-        None => Err(Stop::Refused(Fault::Form(Kind::Adder))),
+        None => Err(Stop::Refused(Fault::Form(Kind::Digit))),
     }
 }
