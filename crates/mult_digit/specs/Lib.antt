@@ -1,2 +1,0 @@
-pub mod DigitForm
-pub mod DigitNet

@@ -1,6 +1,0 @@
-//! STUB.
-#![tactic(auto)]
-
-mod maker;
-
-pub use maker::digit_serial;

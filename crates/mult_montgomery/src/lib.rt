@@ -1,6 +1,0 @@
-//! STUB.
-#![tactic(auto)]
-
-mod multiplier;
-
-pub use multiplier::montgomery;
