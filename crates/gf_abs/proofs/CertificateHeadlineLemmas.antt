@@ -1,18 +1,15 @@
 -- What the answers of `certify`, `verify` and `upgrade` say, out of what comes of their steps.
-use Rattle.std.proofs.Common.{◌≡◌, ◌∙◌, ap, refl, sym, subst, ℕ, zero, suc, ◌+◌, ◌*◌, ◌^◌, ◌<◌, ◌≤◌, List, [], ◌∷◌, ◌++◌, length, map, Some, Result, Ok, codes, arith}
+use Rattle.std.proofs.Common.{◌≡◌, ◌∙◌, ap, refl, sym, subst, ℕ, ◌*◌, ◌^◌, ◌<◌, ◌≤◌, List, [], ◌∷◌, ◌++◌, length, Some, Result, Ok, codes, arith}
 use Rattle.std.proofs.lemmas.List.{length-append}
 use Rattle.job_io.specs.Shelf.{Files}
 use Rattle.net_core.specs.NetList.{nets}
 use Rattle.net_core.specs.Sound.{IsSound}
 use Rattle.net_words.specs.Binding.{BoundNet}
 use Rattle.net_words.specs.OneCycle.{IsOneCycle}
-use Rattle.gf_basis.specs.BasisParts.{elements_of}
-use Rattle.gf_basis.specs.declared.bases.Basis.{Basis}
 use Rattle.poly_mixed.specs.Labels.{Labelling}
 use Rattle.poly_mixed.specs.Polynomial.{Terms}
 use Rattle.poly_mixed.specs.Steps.{Step}
 use Rattle.poly_mixed.specs.Text.{text}
-use Rattle.circuit_model.specs.Bases.{circuit_in}
 use Rattle.circuit_model.specs.Circuit.{Circuit}
 use Rattle.circuit_model.specs.OfBinding.{circuit_with}
 use Rattle.stage_model.specs.CircuitListing.{circuit_stages}
@@ -50,14 +47,13 @@ use Rattle.job_input.proofs.SettingSoundLemmas.{setting_sound}
 use Rattle.job_input.proofs.SignedLemmas.{setting_names}
 use Rattle.gf_abs.specs.Answer.{JobAnswer}
 use Rattle.gf_abs.specs.CertificateHeadline.{AnswersCertify, AnswersUpgrade, AnswersVerify, HoldOneJob, IsAccepted, PrintsProof}
-use Rattle.gf_abs.specs.Certificates.{HaveDuals, certificate_labels}
-use Rattle.gf_abs.specs.Headline.{AreHeld, HasOutput, IsInItsWords}
-use Rattle.gf_abs.specs.Reply.{Reply, polynomial_line}
+use Rattle.gf_abs.specs.Certificates.{certificate_labels}
+use Rattle.gf_abs.specs.Headline.{AreHeld}
+use Rattle.gf_abs.specs.Reply.{Reply}
 use Rattle.gf_abs.specs.commands.Abstract.{abstract_stages, taken_circuit}
-use Rattle.gf_abs.specs.commands.Bits.{bits_stages}
 use Rattle.gf_abs.specs.commands.Certify.{IsCertificateText}
 use Rattle.gf_abs.specs.commands.Upgrade.{UpgradeReply}
-use Rattle.gf_abs.specs.commands.Verify.{VerdictOf, VerifyReply, verify_reply}
+use Rattle.gf_abs.specs.commands.Verify.{VerdictOf, verify_reply}
 use Rattle.gf_abs.proofs.AnswerDetermined.{read_determined}
 use Rattle.gf_abs.proofs.CertificateLabelLemmas.{has_numbers, names_variables, names_words}
 use Rattle.gf_abs.proofs.HeadlineLemmas.{IsUnrolled, held_job, one_held, one_setting, unrolled}
@@ -78,13 +74,16 @@ module _ (net : Word) (bytes text : List ℕ) (cycles : ℕ) (setting : SettingV
 
   abbrev of_labels : Labelling
   of_labels = certificate_labels setting circuit
+
   of_cycle : IsSound circuit.net × IsOneCycle circuit.net circuit.bound
   of_cycle = one_cycle setting circuit of_sound (by_ending net text) cycles of.is_circuit
 
   of_bits : circuit.bound.k ≡ setting.k
   of_bits = circuit_bits setting circuit of_sound (by_ending net text) cycles of.is_circuit
+
   of_roles : HaveRoles setting.signature.words circuit.bound.words
   of_roles = circuit_roles setting circuit of_sound (by_ending net text) cycles of.is_circuit
+
   of_names : NameWords circuit.bound of_labels
   of_names = names_words setting.k setting.signature.words circuit of_sound.words (setting_names bytes setting of.is_setting) of_cycle.0 of_cycle.1 of_bits of_roles
 

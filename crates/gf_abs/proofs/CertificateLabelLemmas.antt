@@ -1,5 +1,5 @@
 -- The labels of a circuit's certificates name all variables of the circuit.
-use Rattle.std.proofs.Common.{◌≡◌, ◌≢◌, ◌∙◌, ap, sym, refl, subst, ℕ, zero, suc, ◌<◌, ◌≤◌, ◌+◌, ◌^◌, Bool, true, false, not, cond, List, [], ◌∷◌, ◌++◌, length, filter, map, arith}
+use Rattle.std.proofs.Common.{◌≡◌, ◌∙◌, ap, sym, refl, subst, ℕ, zero, suc, ◌<◌, ◌≤◌, ◌+◌, ◌^◌, Bool, true, false, not, cond, List, [], ◌∷◌, ◌++◌, length, filter, arith}
 use Rattle.std.specs.List.{AllByRecursion, range_with_len}
 use Rattle.std.proofs.lemmas.List.{length-append}
 use Rattle.net_core.specs.NetList.{nets}
@@ -15,11 +15,11 @@ use Rattle.net_words.specs.declared.word.Role.TheVariants.{Input, State, Fed, Ou
 use Rattle.net_words.specs.declared.word.WordText.{WordText}
 use Rattle.net_words.proofs.RankLemmas.{variables_long}
 use Rattle.net_signature.specs.WordNames.{HaveNames}
-use Rattle.poly_mixed.specs.Labels.{AreDifferent, AreLabels, Differs, Labelling, bit_count}
+use Rattle.poly_mixed.specs.Labels.{AreDifferent, Differs, Labelling, bit_count}
 use Rattle.cert_check.specs.Labels.{NameWords}
 use Rattle.cert_make.specs.CircuitLabels.{NameVariables}
 use Rattle.cert_make.specs.Writable.{HaveNumbers}
-use Rattle.job_input.specs.Labelling.{circuit_labels, labels_of, word_label, word_labels}
+use Rattle.job_input.specs.Labelling.{circuit_labels, word_label, word_labels}
 use Rattle.job_input.specs.Setting.{HaveRoles}
 use Rattle.job_input.proofs.CircuitLabelLemmas.{counted}
 use Rattle.job_input.proofs.LabelLemmas.{labels_long}

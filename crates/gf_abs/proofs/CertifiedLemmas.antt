@@ -11,7 +11,6 @@ use Rattle.cert_check.specs.declared.fault.CertFault.TheVariants as text
 use Rattle.cert_make.specs.Upgrade.{UpgradeOf}
 use Rattle.job_words.specs.Stop.{GivesBy, IsMiss}
 use Rattle.job_words.specs.declared.fault.Fault.{Fault}
-use Rattle.job_words.specs.declared.fault.Fault.TheVariants as faults
 use Rattle.job_words.specs.declared.stop.Stop.{Stop}
 use Rattle.job_words.specs.declared.stop.Stop.TheVariants as stops
 use Rattle.job_input.specs.Setting.{IsReady, IsTakenFor}

@@ -1,5 +1,5 @@
 -- A circuit has one certificate, and at most one reply comes of `certify`.
-use Rattle.std.proofs.Common.{◌≡◌, ◌∙◌, ap, sym, subst, ℕ, List, length, map, Ok}
+use Rattle.std.proofs.Common.{◌≡◌, ◌∙◌, sym, subst, ℕ, List, length, map, Ok}
 use Rattle.text_core.specs.Outcome.{Determined, Exactly, Within}
 use Rattle.text_core.proofs.DeterminedLemmas.{determined_bind}
 use Rattle.net_core.specs.NetList.{nets}

@@ -3,10 +3,10 @@ use Rattle.std.proofs.Common.{◌≡◌, ◌⊎◌, ◌∙◌, ap, sym, refl, su
 use Rattle.job_io.specs.Shelf.{Files}
 use Rattle.net_words.specs.Binding.{BoundNet}
 use Rattle.poly_mixed.specs.Polynomial.{Terms}
-use Rattle.circuit_model.specs.Circuit.{Circuit, IsInput}
+use Rattle.circuit_model.specs.Circuit.{Circuit}
 use Rattle.circuit_model.specs.Differing.{Difference, AreSame}
 use Rattle.circuit_model.specs.Out.{IsOut}
-use Rattle.circuit_model.proofs.OutLemmas.{one_out, some_out}
+use Rattle.circuit_model.proofs.OutLemmas.{some_out}
 use Rattle.spec_expand.specs.SpecValue.{spec_at}
 use Rattle.spec_expand.specs.Specification.{SpecTerms}
 use Rattle.job_words.specs.Operands.{Word}
@@ -21,10 +21,10 @@ use Rattle.job_input.specs.SpecificationIn.{SpecificationIn}
 use Rattle.gf_abs.specs.Answer.{JobAnswer}
 use Rattle.gf_abs.specs.CheckHeadline.{AnswersCheck, AreHeldWith, Computes, PrintsAcceptance, PrintsRejection}
 use Rattle.gf_abs.specs.DifferingLines.{differing_lines}
-use Rattle.gf_abs.specs.Headline.{IsTaken, AreHeld, IsPrinted}
+use Rattle.gf_abs.specs.Headline.{IsTaken, IsPrinted}
 use Rattle.gf_abs.specs.Reply.{Reply, prints, polynomial_line}
 use Rattle.gf_abs.specs.commands.Abstract.{taken_circuit, AbstractReply}
-use Rattle.gf_abs.specs.commands.Check.{IsSpecified, IsJudged, WordsLine, CheckReply, check_reply}
+use Rattle.gf_abs.specs.commands.Check.{IsSpecified, IsJudged, CheckReply, check_reply}
 use Rattle.gf_abs.proofs.AnswerDetermined.{said_determined}
 use Rattle.gf_abs.proofs.EqualLemmas.{well, printed}
 use Rattle.gf_abs.proofs.HeadlineLemmas.{IsUnrolled, held_job, one_held, one_setting, unrolled}

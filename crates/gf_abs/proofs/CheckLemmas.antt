@@ -1,5 +1,5 @@
 -- What the comparison of a circuit with its specification stands on.
-use Rattle.std.proofs.Common.{◌≡◌, ◌∙◌, ap, sym, subst, ℕ, ◌↔◌, List, Option, length}
+use Rattle.std.proofs.Common.{◌≡◌, ◌∙◌, ap, sym, subst, ℕ, ◌↔◌, List, length}
 use Rattle.net_words.specs.Binding.{BoundNet}
 use Rattle.gf_basis.specs.declared.bases.Basis.{Basis}
 use Rattle.poly_mixed.specs.Labels.{Labelling}

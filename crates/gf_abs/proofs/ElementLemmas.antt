@@ -6,7 +6,7 @@ use Rattle.text_core.specs.Outcome.{Outcome, ◌>>=◌, Exactly}
 use Rattle.net_core.specs.Lists.{Has}
 use Rattle.job_words.specs.Operands.{Word}
 use Rattle.job_words.specs.declared.value_fault.ValueFault.{ValueFault}
-use Rattle.gf_abs.specs.Values.{ElementOf, ElementsOf, HaveCount, ValuesOf}
+use Rattle.gf_abs.specs.Values.{ElementOf, ElementsOf, ValuesOf}
 
 -- the elements so far, and behind them those of the values that are left
 abbrev pub Rest : (k place : ℕ) → List ℕ → List Word → Outcome ValueFault (List ℕ)

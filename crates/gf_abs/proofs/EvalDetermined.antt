@@ -1,5 +1,5 @@
 -- At most one reply or fault comes of `eval` for a setting, a circuit and values.
-use Rattle.std.proofs.Common.{◌≡◌, ◌∙◌, ap, sym, refl, ℕ, ◌+◌, List, [], ◌∷◌, ◌++◌, drop, codes, Result, Ok, Err}
+use Rattle.std.proofs.Common.{◌≡◌, ◌∙◌, ap, sym, refl, ℕ, ◌+◌, List, [], ◌∷◌, drop, Ok, Err}
 use Rattle.text_core.specs.Numbers.{IsHex, value_of}
 use Rattle.text_core.specs.Outcome.{Determined, Exactly, ◌>>=◌}
 use Rattle.text_core.proofs.DeterminedLemmas.{determined_bind}
@@ -11,7 +11,6 @@ use Rattle.job_input.specs.CircuitOf.{CircuitOfText}
 use Rattle.job_input.specs.NetlistOf.{NetlistText}
 use Rattle.job_input.specs.SettingSound.{IsSoundSetting}
 use Rattle.job_input.specs.SettingValue.{SettingValue}
-use Rattle.gf_abs.specs.Reply.{Reply}
 use Rattle.gf_abs.specs.Values.{ElementOf, ElementsOf, HaveCount, ValuesOf}
 use Rattle.gf_abs.specs.commands.Abstract.{taken_circuit}
 use Rattle.gf_abs.specs.commands.Eval.{EvalReply, element_line}

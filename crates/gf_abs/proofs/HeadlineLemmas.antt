@@ -1,11 +1,10 @@
 -- What the program's answers say, out of what comes of their steps.
 use Rattle.std.proofs.Common.{◌≡◌, ◌∙◌, ap, refl, sym, subst, ℕ, ◌*◌, List, length, Some, Result, Ok, ◌↔◌}
 use Rattle.job_io.specs.Shelf.{Files}
-use Rattle.net_core.specs.Lists.{Has}
 use Rattle.net_words.specs.Binding.{BoundNet}
 use Rattle.poly_mixed.specs.Polynomial.{Terms, value}
 use Rattle.circuit_model.specs.Circuit.{Circuit}
-use Rattle.circuit_model.specs.Word.{Word as CircuitWord, word_nets}
+use Rattle.circuit_model.specs.Word.{word_nets}
 use Rattle.circuit_model.proofs.OnesLemmas.{alike_back, alike_ones}
 use Rattle.stage_model.specs.First.{InFirstRanks}
 use Rattle.spec_compare.specs.ValueAt.{at_ones}
@@ -16,7 +15,7 @@ use Rattle.job_words.specs.Command.{Bits, Abstract, Job, Over}
 use Rattle.job_words.proofs.OneCommandLemmas.{one_job}
 use Rattle.job_input.specs.CircuitOf.{CircuitOf}
 use Rattle.job_input.specs.File.{Read}
-use Rattle.job_input.specs.JobOf.{IsJobOf, job_of}
+use Rattle.job_input.specs.JobOf.{job_of}
 use Rattle.job_input.specs.NetlistOf.{BoundNetOf, NetlistText, by_ending}
 use Rattle.job_input.specs.SettingOf.{SettingOf}
 use Rattle.job_input.specs.SettingValue.{SettingValue}

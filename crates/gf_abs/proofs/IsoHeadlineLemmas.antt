@@ -1,10 +1,9 @@
 -- What the answers of `iso` say, out of what comes of its steps.
-use Rattle.std.proofs.Common.{◌≡◌, ap, subst, List, Some, Ok}
+use Rattle.std.proofs.Common.{ap, subst, List, Some, Ok}
 use Rattle.job_io.specs.Shelf.{Files}
 use Rattle.job_words.specs.Command.{Iso, Job, Over}
 use Rattle.job_words.specs.Operands.{Word}
 use Rattle.job_words.proofs.OneCommandLemmas.{one_job}
-use Rattle.job_input.specs.SettingValue.{SettingValue}
 use Rattle.net_signature.specs.Signature.{SignatureValue}
 use Rattle.gf_abs.specs.Answer.{JobAnswer}
 use Rattle.gf_abs.specs.IsoHeadline.{AnswersIso, PrintsImages}

@@ -1,5 +1,5 @@
 -- Fields that fit, the lines of an isomorphism's images, and that there is one reply of `iso`.
-use Rattle.std.proofs.Common.{◌≡◌, ◌∙◌, ap, sym, refl, subst, inl, inr, ℕ, zero, suc, ◌+◌, ◌*◌, ◌^◌, ◌<◌, ◌≤◌, List, [], ◌∷◌, ◌++◌, length, Ok, Err, arith}
+use Rattle.std.proofs.Common.{◌≡◌, ◌∙◌, ap, sym, refl, subst, inl, inr, ℕ, zero, suc, ◌+◌, ◌*◌, ◌^◌, ◌<◌, List, [], ◌∷◌, ◌++◌, length, Ok, Err, arith}
 use Rattle.std.proofs.lemmas.List.{append_assoc}
 use Rattle.std.proofs.lemmas.Nat.{pow_below}
 use Rattle.text_core.specs.Outcome.{Determined}
@@ -15,14 +15,13 @@ use Rattle.gf_iso.specs.Fits.{Fits}
 use Rattle.gf_iso.specs.Isomorphism.{AreSame, HasOnlyIso, IsIsoOf}
 use Rattle.gf_iso.proofs.FieldsLaws.{only_for}
 use Rattle.gf_tower.specs.Digits.{IsPackedList}
-use Rattle.gf_tower.specs.FieldName.{IsFieldModulus, IsFieldName, IsFieldTower, tower_product}
+use Rattle.gf_tower.specs.FieldName.{IsFieldModulus, IsFieldName, IsFieldTower}
 use Rattle.gf_tower.specs.Tower.{polynomial_of, tower_polynomial}
 use Rattle.gf_tower.specs.laws.TowerLaws.{field_by_polynomial}
 use Rattle.gf_tower.proofs.FieldNameLaws.{degree_unique}
 use Rattle.lift_table.specs.TableText.{value_lines}
 use Rattle.poly_mixed.specs.Text.{hex_text}
-use Rattle.gf_abs.specs.Reply.{Reply}
-use Rattle.gf_abs.specs.commands.Iso.{AreFitting, AreImages, IsoReply}
+use Rattle.gf_abs.specs.commands.Iso.{AreFitting, IsoReply}
 
 -- ---- fields that fit
 

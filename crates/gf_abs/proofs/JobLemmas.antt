@@ -1,11 +1,11 @@
 -- What is said of the circuit of all cycles is said of the job.
-use Rattle.std.proofs.Common.{◌≡◌, ◌∙◌, ap, sym, refl, subst, ℕ, ◌*◌, ◌<◌, ◌^◌, List, [], ◌∷◌, ◌++◌, length, map, take, Ok, ◌↔◌}
+use Rattle.std.proofs.Common.{◌≡◌, ◌∙◌, ap, sym, refl, subst, ℕ, ◌<◌, ◌^◌, List, [], ◌∷◌, ◌++◌, length, map, take, Ok, ◌↔◌}
 use Rattle.net_core.specs.Lists.{Has}
 use Rattle.net_words.specs.Binding.{BoundNet}
 use Rattle.net_words.specs.declared.bound.BoundWord.{BoundWord}
 use Rattle.net_words.specs.declared.word.Role.{Role}
 use Rattle.net_words.specs.declared.word.Role.TheVariants.{Input, State, Fed, Output}
-use Rattle.poly_mixed.specs.Polynomial.{Terms, Point, value}
+use Rattle.poly_mixed.specs.Polynomial.{Terms, value}
 use Rattle.circuit_model.specs.Alike.{AreAlike}
 use Rattle.circuit_model.specs.Circuit.{Circuit, IsInput}
 use Rattle.circuit_model.specs.Differing.{IsDifferingInput}

@@ -13,10 +13,10 @@ use Rattle.stage_model.specs.Listing.{Joined, Earlier, Later, Listing}
 use Rattle.cert_check.specs.declared.fault.CertFault.{CertFault}
 use Rattle.cert_check.specs.declared.fault.CertFault.TheVariants as text
 use Rattle.job_words.specs.declared.certificate_fault.CertificateFault.TheVariants as certificate
-use Rattle.job_words.specs.Command.{Action, Bits, Abstract, Check, Same, Eval, Iso, Lift, Table, Certify, Verify, Upgrade, Make, Job, Over, Trial, IsSpelled}
+use Rattle.job_words.specs.Command.{Action, Bits, Abstract, Check, Same, Eval, Iso, Lift, Table, Certify, Verify, Upgrade, Make, Over, Trial, IsSpelled}
 use Rattle.job_words.specs.Fault.{fault_line}
 use Rattle.job_words.specs.OneLine.{HasNoLineFeed, IsOneLine, KeepsToItsLine}
-use Rattle.job_words.specs.Operands.{IsOperand, Word}
+use Rattle.job_words.specs.Operands.{Word}
 use Rattle.job_words.specs.StageFault.{stage_text}
 use Rattle.job_words.specs.declared.fault.Fault.{Fault}
 use Rattle.job_words.specs.declared.fault.Fault.TheVariants as faults
@@ -24,13 +24,13 @@ use Rattle.job_words.specs.declared.stage_fault.StageFault.{StageFault}
 use Rattle.job_words.proofs.OneLineLemmas.{before_kept, clean_kept, number_clean, one_line, stage_kept}
 use Rattle.job_input.specs.CircuitOf.{CircuitIn}
 use Rattle.job_input.specs.Labelling.{labels_of}
-use Rattle.job_input.specs.SettingOf.{SettingWith, SignedOf, SignedValue}
+use Rattle.job_input.specs.SettingOf.{SignedOf, SignedValue}
 use Rattle.job_input.specs.SettingValue.{SettingValue}
 use Rattle.job_input.proofs.FileLineLemmas.{HaveKeptNames, cycles_keep, file_keeps, labels_kept, netlist_file_keeps, operand_kept, second_keeps, setting_keeps, signed_keeps, specification_keeps, table_keeps}
 use Rattle.job_input.proofs.SignedLemmas.{setting_names}
 use Rattle.gf_abs.specs.Answer.{ActionAnswer, Answer, JobAnswer, SignedAnswer}
 use Rattle.gf_abs.specs.Values.{ValuesOf}
-use Rattle.gf_abs.specs.Staged.{IsStageOver, Staged, either_net_text, either_text}
+use Rattle.gf_abs.specs.Staged.{IsStageOver, either_net_text, either_text}
 use Rattle.gf_abs.specs.commands.Abstract.{AbstractReply, abstract_stages, taken_circuit}
 use Rattle.gf_abs.specs.commands.Bits.{BitsReply, bits_stages}
 use Rattle.gf_abs.specs.Certificates.{CertifiedIn, certificate_labels, sum_fault, sum_name, text_fault}

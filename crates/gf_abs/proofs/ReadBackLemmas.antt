@@ -1,17 +1,16 @@
 -- A table as it is written, read back.
-use Rattle.std.proofs.Common.{◌≡◌, ◌∙◌, ap, sym, refl, subst, inl, inr, ℕ, zero, suc, ◌+◌, ◌-◌, ◌<◌, ◌≤◌, ◌^◌, ◌==◌, Bool, true, false, cond, Option, List, [], ◌∷◌, ◌++◌, length, map, take, drop, get_or, codes, None, Some, Ok, arith, append_assoc, add-one, pow_mono, lt_of_lt_of_le}
+use Rattle.std.proofs.Common.{◌≡◌, ◌∙◌, ap, sym, refl, subst, inl, inr, ℕ, zero, suc, ◌+◌, ◌-◌, ◌<◌, ◌≤◌, ◌^◌, ◌==◌, Bool, false, cond, Option, List, [], ◌∷◌, ◌++◌, length, map, take, drop, get_or, codes, None, Some, Ok, arith, pow_mono, lt_of_lt_of_le}
 use Rattle.std.specs.Prelude.{All, filter, nat_lt, slice_get}
-use Rattle.std.specs.List.{slice_split}
 use Rattle.std.specs.Str.Lines.{lines, strip_carriage_return}
 use Rattle.std.proofs.lemmas.Bool.{cases_lt, lt-ltb}
 use Rattle.std.proofs.lemmas.Bool.Decides.{nat_tests}
 use Rattle.std.proofs.lemmas.List.Splits.{slice_split_none}
 use Rattle.std.proofs.lemmas.Option.{same_Some}
-use Rattle.text_core.specs.Lines.{is_blank, tokens_of}
+use Rattle.text_core.specs.Lines.{is_blank}
 use Rattle.text_core.proofs.LineLemmas.{lines_at}
 use Rattle.gf_field.specs.Element.{AreElements}
 use Rattle.poly_mixed.specs.Text.{hex_text}
-use Rattle.lift_table.specs.TableText.{IsFormed, IsNumber, IsNumberAt, IsRightTo, IsTable, TableOutcome, table_text, value_lines}
+use Rattle.lift_table.specs.TableText.{IsFormed, IsNumber, IsNumberAt, IsTable, TableOutcome, table_text, value_lines}
 use Rattle.lift_table.proofs.ReadingLemmas.{one_value}
 use Rattle.gf_abs.proofs.HexLemmas.{hex_back, hex_bytes}
 

@@ -1,14 +1,11 @@
 -- What the commands over certificates stand on, of the circuit of a setting.
-use Rattle.std.proofs.Common.{◌≡◌, ◌∙◌, ap, refl, sym, subst, ℕ, ◌≤◌, ◌<◌, ◌+◌, ◌^◌, List, [], length, map, Option, Some, Ok}
-use Rattle.std.specs.List.{AllByRecursion}
+use Rattle.std.proofs.Common.{◌≡◌, refl, subst, ℕ, ◌≤◌, ◌+◌, ◌^◌, List, [], length, Some, Ok}
 use Rattle.net_core.specs.NetList.{nets}
 use Rattle.net_words.specs.Binding.{BoundNet}
-use Rattle.gf_basis.specs.declared.bases.Basis.{Basis}
 use Rattle.poly_mixed.specs.Labels.{Labelling, bit_count}
 use Rattle.poly_mixed.specs.Polynomial.{Terms}
 use Rattle.poly_mixed.specs.Steps.{Step, Tells}
 use Rattle.poly_mixed.specs.laws.Uniqueness.{InFirstWords}
-use Rattle.circuit_model.specs.Bases.{AreBases}
 use Rattle.circuit_model.specs.OfBinding.{output_basis}
 use Rattle.rato_reduce.specs.Recorded.{IsRecorded as AreCutsRecorded}
 use Rattle.word_subst.specs.Recorded.{IsRecorded as AreWordsRecorded}

@@ -1,5 +1,5 @@
 -- At most one reply or fault comes of each command for a setting and a circuit.
-use Rattle.std.proofs.Common.{◌≡◌, ℕ, ◌+◌, List, length, Ok}
+use Rattle.std.proofs.Common.{◌≡◌, ℕ, ◌+◌, length, Ok}
 use Rattle.text_core.specs.Outcome.{Determined, Exactly, Within}
 use Rattle.text_core.proofs.DeterminedLemmas.{determined_bind}
 use Rattle.net_core.specs.NetList.{nets}

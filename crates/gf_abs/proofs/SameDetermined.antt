@@ -1,5 +1,5 @@
 -- At most one reply or fault comes of `same` for a setting and two circuits.
-use Rattle.std.proofs.Common.{◌≡◌, ℕ, List, Option, Ok}
+use Rattle.std.proofs.Common.{◌≡◌, ℕ, Option, Ok}
 use Rattle.text_core.specs.Outcome.{Determined, Exactly, Within}
 use Rattle.text_core.proofs.DeterminedLemmas.{determined_bind}
 use Rattle.net_flat.proofs.FlatDetermined.{determined_within}

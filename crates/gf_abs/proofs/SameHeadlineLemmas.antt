@@ -1,12 +1,11 @@
 -- What the answers of `same` say, out of what comes of its steps.
-use Rattle.std.proofs.Common.{◌≡◌, ◌⊎◌, ◌∙◌, ap, sym, refl, subst, inl, inr, ℕ, List, Option, None, Some, Ok, ◌↔◌, codes, arith}
+use Rattle.std.proofs.Common.{◌≡◌, ◌⊎◌, ◌∙◌, ap, sym, subst, inl, inr, ℕ, List, Option, None, Some, Ok, ◌↔◌, codes, arith}
 use Rattle.job_io.specs.Shelf.{Files}
 use Rattle.net_words.specs.Binding.{BoundNet}
 use Rattle.circuit_model.specs.Alike.{AreAlike}
 use Rattle.circuit_model.specs.Circuit.{Circuit, IsInput}
 use Rattle.circuit_model.specs.Differing.{Difference, AreSame}
 use Rattle.circuit_model.specs.Out.{IsOut}
-use Rattle.circuit_model.specs.WellFormed.{IsWellFormed}
 use Rattle.circuit_model.proofs.OnesLemmas.{alike_long}
 use Rattle.circuit_model.proofs.OutLemmas.{one_out, some_out}
 use Rattle.job_words.specs.Operands.{Word}

@@ -1,5 +1,5 @@
 -- What the comparison of two circuits of one setting stands on.
-use Rattle.std.proofs.Common.{◌≡◌, ◌∙◌, ap, sym, subst, ℕ, List, Option, map, length}
+use Rattle.std.proofs.Common.{◌≡◌, ◌∙◌, sym, subst, ℕ, List, length}
 use Rattle.std.proofs.lemmas.List.{length-map}
 use Rattle.net_words.specs.Binding.{BoundNet}
 use Rattle.gf_basis.specs.BasisParts.{elements_of}

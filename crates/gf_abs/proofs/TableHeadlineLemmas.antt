@@ -1,12 +1,10 @@
 -- What the answers of `table` and `lift` say, out of what comes of their steps.
-use Rattle.std.proofs.Common.{◌≡◌, ◌∙◌, ap, sym, subst, ℕ, ◌*◌, ◌^◌, ◌≤◌, List, length, Some, Result, Ok, arith}
+use Rattle.std.proofs.Common.{◌≡◌, ◌∙◌, ap, sym, subst, ℕ, ◌*◌, ◌^◌, List, length, Some, Result, Ok}
 use Rattle.std.specs.Str.Lines.{lines}
 use Rattle.job_io.specs.Shelf.{Files}
-use Rattle.net_core.specs.Lists.{Has}
 use Rattle.net_words.specs.Binding.{BoundNet}
 use Rattle.poly_mixed.specs.Polynomial.{Terms}
-use Rattle.circuit_model.specs.Circuit.{Circuit, IsInput}
-use Rattle.circuit_model.specs.Out.{IsOut}
+use Rattle.circuit_model.specs.Circuit.{Circuit}
 use Rattle.lift_table.specs.CircuitTable.{IsTableOf}
 use Rattle.lift_table.specs.Table.{IsTableValue}
 use Rattle.lift_table.specs.TablePolynomial.{IsPolynomialOfTable}

@@ -1,14 +1,10 @@
 -- Tables that were read, and that there is one reply of `lift` and of `table`.
-use Rattle.std.proofs.Common.{◌≡◌, ◌∙◌, ap, sym, refl, subst, ℕ, suc, ◌+◌, ◌*◌, ◌^◌, ◌<◌, List, length, get_or, Ok, Err, arith}
+use Rattle.std.proofs.Common.{◌≡◌, ◌∙◌, ap, sym, refl, ℕ, ◌+◌, List, get_or, Ok, Err, arith}
 use Rattle.std.proofs.lemmas.Option.{slice_get-get_or}
 use Rattle.text_core.specs.Outcome.{Determined}
 use Rattle.net_words.specs.Binding.{BoundNet}
 use Rattle.gf_field.specs.Element.{AreElements}
 use Rattle.poly_mixed.specs.Polynomial.{Terms}
-use Rattle.poly_mixed.specs.Labels.{Labelling, bit_count}
-use Rattle.poly_mixed.specs.Text.{HasNames}
-use Rattle.poly_mixed.proofs.FieldLaws.{field_of}
-use Rattle.lift_table.specs.CircuitTable.{IsTableOf}
 use Rattle.lift_table.specs.TablePolynomial.{IsPolynomialOfTable}
 use Rattle.lift_table.specs.TableText.{IsTable, table_text}
 use Rattle.lift_table.proofs.PolynomialLemmas.{same_value}
@@ -18,7 +14,7 @@ use Rattle.job_input.specs.CircuitOf.{CircuitOfText}
 use Rattle.job_input.specs.NetlistOf.{NetlistText}
 use Rattle.job_input.specs.SettingSound.{IsSoundSetting}
 use Rattle.job_input.specs.SettingValue.{SettingValue}
-use Rattle.gf_abs.specs.Reply.{Reply, prints}
+use Rattle.gf_abs.specs.Reply.{prints}
 use Rattle.gf_abs.specs.commands.Abstract.{taken_circuit}
 use Rattle.gf_abs.specs.commands.Lift.{LiftReply, SmallEnough, table_words}
 use Rattle.gf_abs.specs.commands.Table.{TableReply}

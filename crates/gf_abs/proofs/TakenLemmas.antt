@@ -13,7 +13,7 @@ use Rattle.net_words.proofs.BoundLemmas.{bound_to, first_long}
 use Rattle.circuit_model.specs.OfBinding.{HaveBases}
 use Rattle.circuit_model.specs.WellFormed.{IsWellFormed}
 use Rattle.circuit_model.proofs.BoundLemmas.{bound_well}
-use Rattle.job_input.specs.CircuitOf.{CircuitOfText, all_cycles}
+use Rattle.job_input.specs.CircuitOf.{CircuitOfText}
 use Rattle.job_input.specs.NetlistOf.{BoundNetOf, NetlistText}
 use Rattle.job_input.specs.Setting.{HaveRoles}
 use Rattle.job_input.specs.SettingSound.{IsSoundSetting}

@@ -1,7 +1,7 @@
 -- A verdict is that of the setting: of its bases alone, since a basis has one dual.
-use Rattle.std.proofs.Common.{◌≡◌, ◌∙◌, ap, sym, refl, subst, inl, inr, ℕ, zero, suc, ◌<◌, ◌≤◌, ◌+◌, ◌*◌, bit_xor, slice_index, slice_get, List, [], ◌∷◌, length, drop, map, Option, None, Some, Result, Ok, Err}
+use Rattle.std.proofs.Common.{◌≡◌, ◌∙◌, ap, sym, refl, subst, inl, inr, ℕ, suc, ◌+◌, ◌*◌, bit_xor, slice_index, slice_get, List, [], ◌∷◌, drop, map, Option, Some, Result, Ok, Err}
 use Rattle.std.specs.Str.Lines.{lines}
-use Rattle.text_core.specs.Outcome.{Outcome, ◌>>=◌, Determined}
+use Rattle.text_core.specs.Outcome.{Outcome, Determined}
 use Rattle.gf_field.specs.Field.{HasNoZeroDivisors}
 use Rattle.gf_field.specs.Ring.{IsRing}
 use Rattle.gf_basis.specs.BasisParts.{elements_of, duals_of, IsBasisOver}

@@ -1,6 +1,5 @@
 -- The labels of a job name each word that stands in a printed polynomial.
-use Rattle.std.proofs.Common.{◌≡◌, ◌∙◌, sym, subst, ℕ, zero, suc, List, [], ◌∷◌, length, drop, take}
-use Rattle.std.specs.List.{AllByRecursion}
+use Rattle.std.proofs.Common.{subst, ℕ, zero, suc, List, [], ◌∷◌, length, drop}
 use Rattle.net_words.specs.Binding.{BoundNet}
 use Rattle.net_words.specs.declared.word.WordText.{WordText}
 use Rattle.gf_basis.specs.declared.bases.Basis.{Basis}

@@ -1,6 +1,6 @@
 -- The command `iso`: the isomorphism from a tower to a field of polynomials over 0 and 1.
 -- Source: Lidl and Niederreiter, Finite Fields, chapter 2, theorem 2.5.
-use Rattle.std.specs.Prelude.{◌≡◌, ℕ, ◌^◌, List, [], length, Option, Ok, Err}
+use Rattle.std.specs.Prelude.{◌≡◌, ℕ, ◌^◌, [], length, Option, Ok, Err}
 use Rattle.text_core.specs.Outcome.{Outcome, ◌>>=◌}
 use Rattle.job_io.specs.Shelf.{Files}
 use Rattle.net_signature.specs.Signature.{SignatureValue}

@@ -1,5 +1,5 @@
 -- The command `same`: whether two netlists compute one function, or the input at which they are told apart. Source: this project's own.
-use Rattle.std.specs.Prelude.{ℕ, List, ◌++◌, codes, Option, None, Some}
+use Rattle.std.specs.Prelude.{ℕ, ◌++◌, codes, Option, None, Some}
 use Rattle.text_core.specs.Outcome.{Outcome, ◌>>=◌, Exactly, Within}
 use Rattle.job_io.specs.Shelf.{Files}
 use Rattle.net_words.specs.Binding.{BoundNet}

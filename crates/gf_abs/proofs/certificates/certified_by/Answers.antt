@@ -1,4 +1,3 @@
-use Rattle.std.proofs.Common.{refl}
 use Rattle.text_core.specs.Outcome.{Exactly}
 use Rattle.net_words.specs.Binding.{BoundNet}
 use Rattle.job_words.proofs.StepLemmas.{stops}

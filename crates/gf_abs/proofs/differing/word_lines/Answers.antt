@@ -1,4 +1,4 @@
-use Rattle.std.proofs.Common.{◌≡◌, ◌∙◌, ◌<◌, sym, refl, length, get_or, arith}
+use Rattle.std.proofs.Common.{◌∙◌, sym, refl, get_or, arith}
 use Rattle.gf_abs.proofs.DifferingLineLemmas.{one_more, all_lines, lines_taken}
 use Rattle.gf_abs.proofs.differing.word_lines.Goals as goal
 

@@ -1,4 +1,4 @@
-use Rattle.std.proofs.Common.{subst, List, ℕ, Ok, Err}
+use Rattle.std.proofs.Common.{subst, Ok, Err}
 use Rattle.job_io.specs.Counts.{Rose}
 use Rattle.poly_mixed.specs.Labels.{Labelling}
 use Rattle.spec_expand.specs.Specification.{SpecTerms}

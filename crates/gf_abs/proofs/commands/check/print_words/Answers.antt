@@ -1,4 +1,4 @@
-use Rattle.std.proofs.Common.{◌≡◌, ◌≤◌, ◌∙◌, ◌++◌, ℕ, List, ap, sym, subst, codes, length, arith}
+use Rattle.std.proofs.Common.{◌≡◌, ◌≤◌, ◌∙◌, ◌++◌, ap, sym, subst, codes, length, arith}
 use Rattle.text_core.specs.Outcome.{Exactly, Within}
 use Rattle.poly_mixed.specs.Labels.{Labelling}
 use Rattle.poly_mixed.specs.Polynomial.{Terms}

@@ -1,10 +1,10 @@
-use Rattle.std.proofs.Common.{◌≡◌, ◌∙◌, ◌^◌, ◌≤◌, ap, sym, refl, subst, ℕ, List, ◌<◌, false, arith}
+use Rattle.std.proofs.Common.{◌∙◌, ◌^◌, ap, sym, refl, subst, ℕ, List, arith}
 use Rattle.gf_basis.specs.Basis.{first_values}
 use Rattle.gf_field.specs.Bit.{bit_mul}
 use Rattle.gf_field.specs.Quotient.{product}
 use Rattle.gf_field.specs.Ring2k.{degree_of, modulus_of}
 use Rattle.gf_iso.specs.Isomorphism.{IsIsoOf}
-use Rattle.gf_iso.specs.IsoParts.{back_of, size_of, there_of}
+use Rattle.gf_iso.specs.IsoParts.{back_of, there_of}
 use Rattle.gf_tower.specs.TowerParts.{base_of, coefficients_of}
 use Rattle.irreducible.specs.Proved.{ring_of}
 use Rattle.lift_table.specs.TableText.{value_lines}

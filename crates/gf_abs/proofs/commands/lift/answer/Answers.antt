@@ -1,4 +1,4 @@
-use Rattle.std.proofs.Common.{◌≡◌, subst, inl, refl, true, false, ◌<◌, length, rules}
+use Rattle.std.proofs.Common.{◌≡◌, subst, inl, refl, true, false, length, rules}
 use Rattle.job_io.specs.Counts.{Rose}
 use Rattle.job_words.proofs.StepLemmas.{after}
 use Rattle.lift_table.specs.Small.{IsSmall}

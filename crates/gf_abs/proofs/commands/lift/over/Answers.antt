@@ -1,4 +1,4 @@
-use Rattle.std.proofs.Common.{◌≡◌, ◌∙◌, ◌*◌, ◌^◌, ap, sym, subst, ℕ, List, Vec, length, Ok, Err}
+use Rattle.std.proofs.Common.{◌∙◌, ◌*◌, ◌^◌, ap, sym, subst, ℕ, List, Vec, length, Ok, Err}
 use Rattle.std.specs.declared.alloc.Global.{Global}
 use Rattle.job_io.specs.Counts.{Rose}
 use Rattle.gf_field.specs.Element.{AreElements}

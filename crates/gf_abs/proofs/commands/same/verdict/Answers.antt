@@ -1,4 +1,4 @@
-use Rattle.std.proofs.Common.{◌≡◌, ◌∙◌, ap, sym, subst, length, ℕ}
+use Rattle.std.proofs.Common.{◌≡◌, ap, subst, length}
 use Rattle.poly_mixed.specs.Labels.{Labelling}
 use Rattle.stage_model.proofs.ListingLemmas.{both_within}
 use Rattle.spec_compare.specs.Verdict.{comparison_of}

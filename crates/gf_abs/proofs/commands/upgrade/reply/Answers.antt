@@ -1,4 +1,4 @@
-use Rattle.std.proofs.Common.{◌≡◌, ◌≤◌, ◌^◌, ◌∙◌, ℕ, List, Vec, Ok, Err, ap, refl, sym, subst, length, arith}
+use Rattle.std.proofs.Common.{◌≤◌, ◌^◌, ℕ, List, Vec, Ok, refl, sym, subst, length, arith}
 use Rattle.std.specs.declared.alloc.Global.{Global}
 use Rattle.text_core.specs.Outcome.{Exactly, MayRefuse}
 use Rattle.net_core.specs.NetList.{NetList, nets}
@@ -11,7 +11,6 @@ use Rattle.job_words.specs.Stop.{bytes_of}
 use Rattle.job_words.proofs.StepLemmas.{stops}
 use Rattle.job_input.specs.Setting.{setting_value}
 use Rattle.job_input.specs.SettingValue.{SettingValue}
-use Rattle.gf_abs.specs.Certificates.{certificate_labels}
 use Rattle.gf_abs.specs.Reply.{reply_of}
 use Rattle.gf_abs.specs.commands.Upgrade.{UpgradedOf}
 use Rattle.gf_abs.proofs.CertifiedLemmas.{upgrade_stopped}

@@ -1,4 +1,4 @@
-use Rattle.std.proofs.Common.{◌≡◌, ◌∙◌, ◌≤◌, ℕ, List, Ok, Err, ap, sym, subst, length}
+use Rattle.std.proofs.Common.{◌∙◌, ◌≤◌, ℕ, List, Ok, Err, ap, sym, subst, length}
 use Rattle.text_core.specs.Outcome.{Exactly}
 use Rattle.poly_mixed.specs.Labels.{Labelling}
 use Rattle.cert_check.specs.Verdict.{verdict_of}

@@ -1,4 +1,4 @@
-use Rattle.std.proofs.Common.{◌≡◌, ◌∙◌, ℕ, List, Ok, ap, sym, subst, length}
+use Rattle.std.proofs.Common.{List, Ok, sym, subst}
 use Rattle.text_core.specs.Outcome.{MayRefuse}
 use Rattle.net_core.specs.NetList.{NetList}
 use Rattle.net_core.specs.Sound.{IsSound}
