@@ -98,31 +98,41 @@ PATTERNS = {number: [pattern_of(text) for text in texts] for number, texts in LI
 def fault_of(line):
     """The number of the fault whose line this is, without its LF; none where it is no fault's line."""
     number, text = line[6:8], line[10:]
+    # of the second signature of `iso`
+    text = text.removeprefix(b'second ') if b'20' <= number < b'30' else text
     if line[:6] == b'fault ' and line[8:10] == b': ' and number in PATTERNS:
         if any(pattern.fullmatch(text) for pattern in PATTERNS[number]):
             return number.decode()
     return None
 
 
-class Ended:
-    """What a run did: its status (None over the limit), what it wrote, seconds, MiB at most."""
+class Timed:
+    """A run of a command: its status (None over the limit), seconds, MiB at most."""
 
-    def __init__(self, words, limit, kept):
-        out, err = kept
-        for file in kept:
-            file.seek(0)
-            file.truncate()
+    def __init__(self, words, limit, out, err=None):
         begun = time.perf_counter()
         child = subprocess.Popen(words, stdin=subprocess.DEVNULL, stdout=out, stderr=err, start_new_session=True)
         late = []
         timer = threading.Timer(limit, lambda: (late.append(1), os.killpg(child.pid, signal.SIGKILL)))
         timer.start()
-        _, status, usage = os.wait4(child.pid, 0)
+        try:
+            _, status, usage = os.wait4(child.pid, 0)
+        finally:
+            timer.cancel()
         self.seconds = time.perf_counter() - begun
-        timer.cancel()
         child.returncode = os.waitstatus_to_exitcode(status)
         self.status = None if late else child.returncode
         self.mebibytes = usage.ru_maxrss / 1024
+
+
+class Ended(Timed):
+    """What a run of the program did, and what it wrote."""
+
+    def __init__(self, words, limit, kept):
+        for file in kept:
+            file.seek(0)
+            file.truncate()
+        super().__init__(words, limit, *kept)
         self.output, self.error = (self.read(file) for file in kept)
 
     @staticmethod

@@ -1,23 +1,21 @@
 -- The terms of a cut, in the order of their keys and in that of a text.
-use Rattle.std.proofs.Common.{◌≡◌, ◌≢◌, ℕ, suc, ◌+◌, ◌≤◌, Bool, true, false, cond, not, nat_le, List, [], ◌∷◌, ◌++◌, map, length, bit_xor, refl, sym, ◌∙◌, ap, subst, arith}
-use lib.Bits.{xor_zero_l, xor_assoc, xor_comm}
+use Rattle.std.proofs.Common.{◌≡◌, ◌≢◌, ℕ, List, [], ◌∷◌, map, bit_xor, refl, sym, ◌∙◌, ap}
+use lib.Bits.{xor_zero_l}
 use Rattle.std.specs.declared.cmp.Ordering.{Ordering}
 use Rattle.std.specs.declared.cmp.Ordering.TheVariants.{Less, Equal, Greater}
-use Rattle.std.specs.Cmp.{IsTotalOrder, tied_itself}
 use Rattle.std.specs.Cmp.Lexicographic.{slice_cmp}
 use Rattle.std.specs.FinMap.{nat_cmp-IsAntisymmetric, slice_cmp-IsAntisymmetric}
 use Rattle.std.specs.List.{AllByRecursion}
 use Rattle.std.specs.List.Sorted.{IsStrictlySortedBy}
-use Rattle.std.specs.Map.{keys_of}
-use Rattle.std.specs.Ordering.{nat_cmp, ordering_then, match_ordering, eq_by_cmp, is_eq}
+use Rattle.std.specs.Ordering.{nat_cmp, ordering_then}
 use Rattle.poly_mixed.specs.Monomial.{Monomial, text_cmp, text_cmp_total}
 use Rattle.poly_mixed.specs.Polynomial.{Terms, IsMap, coefficient}
-use Rattle.poly_mixed.specs.Sum.{with_coefficient, xor_sum, plus_term, plus}
+use Rattle.poly_mixed.specs.Sum.{xor_sum, plus_term, plus}
 use Rattle.poly_mixed.proofs.Monomials.{text_cmp-same}
 use Rattle.poly_mixed.proofs.Sums.{IsAdditive, at, at_additive, found_is_sum, sorted-plus, sorted-plus_term, all_plus, xor_sum-plus, xor_sum-plus_term}
 use Rattle.poly_mixed.proofs.Terms.{all_plus_term}
 use Rattle.poly_mixed.proofs.Values.{map_plus, one_map, same_map}
-use Rattle.rato_reduce.specs.CutKey.{CutKey, key_of, key_cmp, key_cmp_total}
+use Rattle.rato_reduce.specs.CutKey.{CutKey, key_cmp, key_cmp_total}
 use Rattle.rato_reduce.specs.CutTerms.{of_bits, IsBitTerm, term_of, cut_polynomial, IsEntry, AreEntries}
 
 -- ---- keys
@@ -30,9 +28,9 @@ both_equal Greater s e = cc
 -- keys that the order does not tell apart are one
 pub key_cmp-same : (x y : CutKey) → key_cmp x y ≡ Equal → x ≡ y
 key_cmp-same x y e =
-    let outer = both_equal (nat_cmp x.first y.first) (ordering_then (nat_cmp x.hash y.hash) (slice_cmp nat_cmp x.bits y.bits)) e in
+    let outer = both_equal (nat_cmp y.first x.first) (ordering_then (nat_cmp x.hash y.hash) (slice_cmp nat_cmp x.bits y.bits)) e in
     let inner = both_equal (nat_cmp x.hash y.hash) (slice_cmp nat_cmp x.bits y.bits) outer.1 in
-    let first : x.first ≡ y.first = nat_cmp-IsAntisymmetric x.first y.first outer.0 in
+    let first : x.first ≡ y.first = sym (nat_cmp-IsAntisymmetric y.first x.first outer.0) in
     let hash : x.hash ≡ y.hash = nat_cmp-IsAntisymmetric x.hash y.hash inner.0 in
     let bits : x.bits ≡ y.bits = slice_cmp-IsAntisymmetric nat_cmp-IsAntisymmetric x.bits y.bits inner.1 in
     λ i. record { first = first i; hash = hash i; bits = bits i }

@@ -1,15 +1,16 @@
 -- The terms of a cut with a bit, and those without it.
-use Rattle.std.proofs.Common.{◌≡◌, ◌≢◌, ℕ, zero, suc, ◌+◌, ◌<◌, ◌≤◌, length, drop, get_or, Bool, true, false, cond, not, nat_le, nat_lt, nat_eq, List, [], ◌∷◌, ◌++◌, map, bit_xor, refl, sym, ◌∙◌, ap, subst, arith, append-nil, Some, None, ◌||◌}
-use lib.Bits.{xor_zero_l, xor_zero_r, xor_assoc, xor_comm}
-use Rattle.std.specs.declared.cmp.Ordering.{Ordering}
+use Rattle.std.proofs.Common.{◌≡◌, ℕ, zero, suc, ◌+◌, ◌<◌, ◌≤◌, ◌-◌, length, drop, get_or, slice_get, reverse, Bool, true, false, cond, not, nat_le, nat_lt, nat_eq, List, [], ◌∷◌, ◌++◌, map, bit_xor, refl, sym, ◌∙◌, ap, subst, arith, append-nil, ◌||◌}
+use lib.Bits.{xor_zero_l, xor_zero_r, xor_comm}
 use Rattle.std.specs.declared.cmp.Ordering.TheVariants.{Less, Equal, Greater}
 use Rattle.std.specs.Cmp.Lexicographic.{slice_cmp}
 use Rattle.std.specs.FinMap.{nat_cmp-IsAntisymmetric}
-use Rattle.std.specs.List.{AllByRecursion, filter, list_any}
+use Rattle.std.specs.List.{AllByRecursion, list_any}
 use Rattle.std.specs.List.Sorted.{IsStrictlySortedBy}
 use Rattle.std.specs.Map.{keys_of}
 use Rattle.std.specs.Ordering.{nat_cmp, ordering_then, is_eq}
-use Rattle.std.proofs.lemmas.List.{append_assoc}
+use Rattle.std.specs.Option.{option_map_or}
+use Rattle.std.proofs.lemmas.List.{append_assoc, map-append, reverse-append}
+use mathlib.Core.List.{reverse-cons}
 use Rattle.std.proofs.lemmas.Bool.{eqb-true, leb-false, ltb-true, ltb-false}
 use Rattle.poly_mixed.specs.Monomial.{Monomial, has_bit, text_cmp, text_cmp_total}
 use Rattle.poly_mixed.specs.Polynomial.{Terms, IsMap, IsTerm, coefficient}
@@ -21,9 +22,12 @@ use Rattle.poly_mixed.proofs.OneBit.{is_cofactor}
 use Rattle.poly_mixed.proofs.Ranks.{from_less}
 use Rattle.poly_mixed.proofs.Sums.{at, at_additive, found_is_sum, xor_sum-plus}
 use Rattle.poly_mixed.proofs.Values.{same_map, one_map}
-use Rattle.rato_reduce.specs.CutKey.{CutKey, place_at, first_from, key_of, key_cmp}
-use Rattle.rato_reduce.specs.CutTerms.{of_bits, IsBitTerm, term_of, cut_polynomial, IsEntry, AreEntries, begins_up_to, products, all_products}
-use Rattle.rato_reduce.proofs.CutLemmas.{coefficient_sum, sum_map_is, nothing_map, entry_terms, cut_is_map, all_unit}
+use Rattle.rato_reduce.specs.CutKey.{CutKey, place_at, first_from, key_cmp}
+use Rattle.rato_reduce.specs.CutTerms.{of_bits, IsBitTerm, term_of, IsEntry, AreEntries, ends_up_to, IsTaken, products, all_products}
+use Rattle.poly_mixed.specs.Product.{union, with_rank}
+use Rattle.poly_mixed.specs.Table.{table_bit}
+use Rattle.rato_reduce.specs.Monomials.{monomials}
+use Rattle.rato_reduce.proofs.CutLemmas.{coefficient_sum, sum_map_is, nothing_map, all_unit}
 use Rattle.rato_reduce.proofs.ProductLemmas.{plus_append, sum_append}
 
 -- ---- the terms without the bit
@@ -110,7 +114,7 @@ lacking_of_sum bit q us all =
 
 -- ---- the entries behind the place of a bit lack it
 
-least_first : (places : List ℕ) (least : ℕ) (rs : List ℕ) → first_from places least rs ≤ least
+pub least_first : (places : List ℕ) (least : ℕ) (rs : List ℕ) → first_from places least rs ≤ least
 least_first places least [] = omega arith
 least_first places least (r ∷ rs) =
     let place = place_at places r in
@@ -136,12 +140,12 @@ member_first places least rank (r ∷ rs) has =
     lower : (a b : ℕ) → cond (nat_lt a b) a b ≤ a
     lower a b = elim (nat_lt a b) as (λ v. nat_lt a b ≡ v → cond v a b ≤ a) [ true ↦ λ e. omega arith | false ↦ λ e. ltb-false a b e ] refl
 
-first_rises : (x y : CutKey) → key_cmp x y ≡ Less → x.first ≤ y.first
-first_rises x y less =
+first_falls : (x y : CutKey) → key_cmp x y ≡ Less → y.first ≤ x.first
+first_falls x y less =
     let rest = ordering_then (nat_cmp x.hash y.hash) (slice_cmp nat_cmp x.bits y.bits) in
-    elim (nat_cmp x.first y.first) as (λ r. nat_cmp x.first y.first ≡ r → ordering_then r rest ≡ Less → x.first ≤ y.first) [
-      | Less ↦ λ e _. let l = from_less x.first y.first e in omega arith
-      | Equal ↦ λ e _. let same = nat_cmp-IsAntisymmetric x.first y.first e in omega arith
+    elim (nat_cmp y.first x.first) as (λ r. nat_cmp y.first x.first ≡ r → ordering_then r rest ≡ Less → y.first ≤ x.first) [
+      | Less ↦ λ e _. let l = from_less y.first x.first e in omega arith
+      | Equal ↦ λ e _. let same = nat_cmp-IsAntisymmetric y.first x.first e in omega arith
       | Greater ↦ λ e h. let bad : Greater ≡ Less = h in cc
     ] refl less
 
@@ -155,24 +159,44 @@ behind_lacks places rank e is behind =
       | false ↦ λ e. refl
     ] refl
 
-all_behind : (places : List ℕ) (rank : ℕ) (e : CutKey × ℕ) (es : List (CutKey × ℕ)) → AllByRecursion (IsEntry places) es → place_at places rank < e.0.first → AllByRecursion (λ y. key_cmp e.0 y ≡ Less) (keys_of es) → LacksBit rank (map term_of es)
-all_behind places rank e [] each behind less = tt
-all_behind places rank e (f ∷ es) each behind less =
-    let up = first_rises e.0 f.0 less.0 in
-    (behind_lacks places rank f each.0 (omega arith), all_behind places rank e es each.1 behind less.1)
-
-pub rest_lacks : (places : List ℕ) (rank : ℕ) (es : List (CutKey × ℕ)) → AreEntries places es → begins_up_to (place_at places rank) es ≡ false → LacksBit rank (map term_of es)
+-- the first places of the entries are behind this one, if that of the last is
+all_behind : (place n : ℕ) (e : CutKey × ℕ) (es : List (CutKey × ℕ)) → n ≡ length es → IsStrictlySortedBy key_cmp (keys_of (e ∷ es)) → option_map_or (λ f. nat_le f.0.first place) (slice_get (e ∷ es) n) false ≡ false
+    → (place < e.0.first) × AllByRecursion (λ f. place < f.0.first) es
 unfolding IsStrictlySortedBy
+all_behind place zero e [] long sorted behind = (leb-false e.0.first place behind, tt)
+all_behind place (suc n) e [] long sorted behind = absurd (omega arith)
+all_behind place zero e (f ∷ es) long sorted behind = absurd (omega arith)
+all_behind place (suc n) e (f ∷ es) long sorted behind =
+    let rest = all_behind place n f es (omega arith) sorted.1 behind in
+    let falls = first_falls e.0 f.0 sorted.0.0 in
+    (omega arith, rest)
+
+all_lack : (places : List ℕ) (rank : ℕ) (es : List (CutKey × ℕ)) → AllByRecursion (IsEntry places) es → AllByRecursion (λ f. place_at places rank < f.0.first) es → LacksBit rank (map term_of es)
+all_lack places rank [] each behind = tt
+all_lack places rank (e ∷ es) each behind = (behind_lacks places rank e each.0 behind.0, all_lack places rank es each.1 behind.1)
+
+pub rest_lacks : (places : List ℕ) (rank : ℕ) (es : List (CutKey × ℕ)) → AreEntries places es → ends_up_to (place_at places rank) es ≡ false → LacksBit rank (map term_of es)
 rest_lacks places rank [] are behind = tt
 rest_lacks places rank (e ∷ es) are behind =
-    let first : place_at places rank < e.0.first = leb-false e.0.first (place_at places rank) behind in
-    (behind_lacks places rank e are.each.0 first, all_behind places rank e es are.each.1 first are.sorted.0)
+    let last : length (e ∷ es) - 1 ≡ length es = omega arith in
+    let P : ℕ → Type 0 = λ n. option_map_or (λ f. nat_le f.0.first (place_at places rank)) (slice_get (e ∷ es) n) false ≡ false in
+    all_lack places rank (e ∷ es) are.each (all_behind (place_at places rank) (length es) e es refl are.sorted (subst P last behind))
 
-pub entries_rest : (places : List ℕ) (e : CutKey × ℕ) (es : List (CutKey × ℕ)) → AreEntries places (e ∷ es) → AreEntries places es
+pub all_before : {A : Type 0} (P : A → Type 0) (xs : List A) (x : A) → AllByRecursion P (xs ++ x ∷ []) → AllByRecursion P xs
+all_before P [] x all = tt
+all_before P (y ∷ ys) x all = (all.0, all_before P ys x all.1)
+
+sorted_before : (es : List (CutKey × ℕ)) (e : CutKey × ℕ) → IsStrictlySortedBy key_cmp (keys_of (es ++ e ∷ [])) → IsStrictlySortedBy key_cmp (keys_of es)
 unfolding IsStrictlySortedBy
-entries_rest places e es are = record { sorted = are.sorted.1; each = are.each.1 }
+sorted_before [] e sorted = tt
+sorted_before (f ∷ es) e sorted =
+    let P : CutKey → Type 0 = λ y. key_cmp f.0 y ≡ Less in
+    (all_before P (keys_of es) e.0 (let Q : List CutKey → Type 0 = AllByRecursion P in subst Q (map-append (λ (t : CutKey × ℕ). t.0) es (e ∷ [])) sorted.0), sorted_before es e sorted.1)
 
--- ---- the front of the entries was taken, its terms without the bit were put back
+pub entries_rest : (places : List ℕ) (e : CutKey × ℕ) (es : List (CutKey × ℕ)) → AreEntries places (es ++ e ∷ []) → AreEntries places es
+entries_rest places e es are = record { sorted = sorted_before es e are.sorted; each = all_before (IsEntry places) es e are.each }
+
+-- ---- the end of the entries was taken, its terms without the bit were put back
 
 lacking_append : (bit : ℕ) (ts us : Terms) → lacking bit (ts ++ us) ≡ lacking bit ts ++ lacking bit us
 lacking_append bit [] us = refl
@@ -192,7 +216,42 @@ all_end : (P : Monomial × ℕ → Type 0) (ts us : Terms) → AllByRecursion P 
 all_end P [] us all = all
 all_end P (t ∷ ts) us all = all_end P ts us all.1
 
--- whole are the terms of all entries, front those taken, rest those of the entries behind
+sum_reversed : (f : Monomial × ℕ → ℕ) (ts : Terms) → xor_sum f (reverse ts) ≡ xor_sum f ts
+sum_reversed f [] = refl
+sum_reversed f (t ∷ ts) =
+    ap (xor_sum f) (reverse-cons t ts)
+    ∙ sum_append f (reverse ts) (t ∷ [])
+    ∙ (λ i. bit_xor (sum_reversed f ts i) (xor_zero_r (f t) i))
+    ∙ xor_comm (xor_sum f ts) (f t)
+
+all_reversed : (P : Monomial × ℕ → Type 0) (ts : Terms) → AllByRecursion P (reverse ts) → AllByRecursion P ts
+all_reversed P [] all = tt
+all_reversed P (t ∷ ts) all =
+    let Q : Terms → Type 0 = AllByRecursion P in
+    let both = subst Q (reverse-cons t ts) all in
+    ((all_end P (reverse ts) (t ∷ []) both).0, all_reversed P ts (all_front P (reverse ts) (t ∷ []) both))
+
+-- what was taken from the end, the last first, before the rest: the same terms
+pub all_taken : (P : Monomial × ℕ → Type 0) (taken rest : Terms) → AllByRecursion P (rest ++ reverse taken) → AllByRecursion P (taken ++ rest)
+all_taken P taken rest all = all_both P taken rest (all_reversed P taken (all_end P rest (reverse taken) all)) (all_front P rest (reverse taken) all)
+  where
+    all_both : (P : Monomial × ℕ → Type 0) (ts us : Terms) → AllByRecursion P ts → AllByRecursion P us → AllByRecursion P (ts ++ us)
+    all_both P [] us all more = more
+    all_both P (t ∷ ts) us all more = (all.0, all_both P ts us all.1 more)
+
+pub sum_taken : (taken rest : Terms) → AllByRecursion IsBitTerm (rest ++ reverse taken) → plus text_cmp [] (taken ++ rest) ≡ plus text_cmp [] (rest ++ reverse taken)
+sum_taken taken rest each =
+    let other = all_taken IsBitTerm taken rest each in
+    same_map (plus text_cmp [] (taken ++ rest)) (plus text_cmp [] (rest ++ reverse taken)) (sum_map_is [] (taken ++ rest) nothing_map other) (sum_map_is [] (rest ++ reverse taken) nothing_map each)
+    (λ q.
+    coefficient_sum (taken ++ rest) q
+    ∙ sum_append (at text_cmp q) taken rest
+    ∙ xor_comm (xor_sum (at text_cmp q) taken) (xor_sum (at text_cmp q) rest)
+    ∙ ap (bit_xor (xor_sum (at text_cmp q) rest)) (sym (sum_reversed (at text_cmp q) taken))
+    ∙ sym (sum_append (at text_cmp q) rest (reverse taken))
+    ∙ sym (coefficient_sum (rest ++ reverse taken) q))
+
+-- whole are the terms of all entries, front those taken, rest those of the others
 module _ (bit : ℕ) (whole front rest : Terms) (are : whole ≡ front ++ rest) (each : AllByRecursion IsBitTerm whole) (lacks : LacksBit bit rest) where
   both : AllByRecursion IsBitTerm (front ++ rest)
   both = (let P : Terms → Type 0 = AllByRecursion IsBitTerm in subst P are each)
@@ -239,28 +298,79 @@ drop_read [] i x less is = absurd (omega arith)
 drop_read (y ∷ ys) zero x less is = ap (λ z. z ∷ ys) (sym is)
 drop_read (y ∷ ys) (suc i) x less is = let up : suc i + 1 ≡ suc (i + 1) = omega arith in drop_read ys i x (omega arith) is ∙ ap (λ n. x ∷ drop n (y ∷ ys)) (sym up)
 
-pub take_step : (front more whole : Terms) (before after : List (CutKey × ℕ)) (e : CutKey × ℕ) (t : Monomial × ℕ) → front ++ map term_of before ≡ whole → before ≡ e ∷ after → t ≡ term_of e → more ≡ front ++ t ∷ []
-    → more ++ map term_of after ≡ whole
-take_step front more whole before after e t so_far are is longer =
-    ap (λ us. us ++ map term_of after) longer
-    ∙ append_assoc front (t ∷ []) (map term_of after)
-    ∙ ap (λ u. front ++ u ∷ map term_of after) is
-    ∙ ap (λ es. front ++ map term_of es) (sym are)
-    ∙ so_far
+-- one entry more was taken
+pub take_step : (rank : ℕ) (whole before after : List (CutKey × ℕ)) (part others new_part new_others : Terms) (e : CutKey × ℕ) → IsTaken rank whole before part others → before ≡ after ++ e ∷ []
+    → new_part ≡ part ++ cofactors rank (term_of e ∷ []) → new_others ≡ others ++ lacking rank (term_of e ∷ []) → IsTaken rank whole after new_part new_others
+take_step rank whole before after part others new_part new_others e so_far are part_is others_are = record {
+  taken = so_far.taken ++ term_of e ∷ [];
+  all =
+      so_far.all
+      ∙ ap (λ es. map term_of es ++ reverse so_far.taken) are
+      ∙ ap (λ us. us ++ reverse so_far.taken) (map-append term_of after (e ∷ []))
+      ∙ append_assoc (map term_of after) (term_of e ∷ []) (reverse so_far.taken)
+      ∙ ap (λ us. map term_of after ++ us) (sym (reverse-append so_far.taken (term_of e ∷ [])));
+  part_is = part_is ∙ ap (λ us. us ++ cofactors rank (term_of e ∷ [])) so_far.part_is ∙ sym (cofactors_append rank so_far.taken (term_of e ∷ []));
+  others_are = others_are ∙ ap (λ us. us ++ lacking rank (term_of e ∷ [])) so_far.others_are ∙ sym (lacking_append rank so_far.taken (term_of e ∷ []));
+}
 
-pub step_left : (bit : ℕ) (old new goal : Terms) (t : Monomial × ℕ) (rest ts : Terms) → rest ≡ t ∷ ts → plus text_cmp old (lacking bit rest) ≡ goal → new ≡ plus text_cmp old (lacking bit (t ∷ [])) → plus text_cmp new (lacking bit ts) ≡ goal
-step_left bit old new goal t rest ts next so_far step =
-    ap (λ us. plus text_cmp us (lacking bit ts)) step
-    ∙ sym (plus_append old (lacking bit (t ∷ [])) (lacking bit ts))
-    ∙ ap (plus text_cmp old) (sym (lacking_append bit (t ∷ []) ts) ∙ ap (lacking bit) (sym next))
-    ∙ so_far
+pub nothing_taken : (rank : ℕ) (entries : List (CutKey × ℕ)) (part others : Terms) → part ≡ [] → others ≡ [] → IsTaken rank entries entries part others
+nothing_taken rank entries part others none nothing = record { taken = []; all = sym (append-nil (map term_of entries)); part_is = none; others_are = nothing }
 
-pub step_part : (bit : ℕ) (old new goal : Terms) (t : Monomial × ℕ) (rest ts : Terms) → rest ≡ t ∷ ts → old ++ cofactors bit rest ≡ goal → new ≡ old ++ cofactors bit (t ∷ []) → new ++ cofactors bit ts ≡ goal
-step_part bit old new goal t rest ts next so_far step =
-    ap (λ us. us ++ cofactors bit ts) step
-    ∙ append_assoc old (cofactors bit (t ∷ [])) (cofactors bit ts)
-    ∙ ap (λ us. old ++ us) (sym (cofactors_append bit (t ∷ []) ts) ∙ ap (cofactors bit) (sym next))
-    ∙ so_far
+pub step_terms : (old new goal : Terms) (t : Monomial × ℕ) (rest ts : Terms) → rest ≡ t ∷ ts → plus text_cmp old rest ≡ goal → new ≡ plus text_cmp old (t ∷ []) → plus text_cmp new ts ≡ goal
+step_terms old new goal t rest ts next so_far step = ap (λ us. plus text_cmp us ts) step ∙ ap (plus text_cmp old) (sym next) ∙ so_far
+
+-- the products of a term and the form of a table of one bit
+pub line_products : (form rank : ℕ) (t : Monomial × ℕ)
+    → products t (monomials form [] (rank ∷ []) 0 1) ≡ cond (table_bit form 0) ((of_bits t.0.bits, t.1) ∷ []) [] ++ cond (table_bit form 1) ((of_bits (with_rank t.0.bits rank), t.1) ∷ []) []
+line_products form rank t =
+    elim (table_bit form 0) as (λ a. products t (cond a ([] ∷ []) [] ++ cond (table_bit form 1) ((rank ∷ []) ∷ []) []) ≡ cond a ((of_bits t.0.bits, t.1) ∷ []) [] ++ cond (table_bit form 1) ((of_bits (with_rank t.0.bits rank), t.1) ∷ []) []) [
+      | true ↦ elim (table_bit form 1) as (λ b. products t (([] ∷ []) ++ cond b ((rank ∷ []) ∷ []) []) ≡ ((of_bits t.0.bits, t.1) ∷ []) ++ cond b ((of_bits (with_rank t.0.bits rank), t.1) ∷ []) []) [ true ↦ refl | false ↦ refl ]
+      | false ↦ elim (table_bit form 1) as (λ b. products t (cond b ((rank ∷ []) ∷ []) []) ≡ cond b ((of_bits (with_rank t.0.bits rank), t.1) ∷ []) []) [ true ↦ refl | false ↦ refl ]
+    ]
+
+pub line_added : (old mid new : Terms) (form rank : ℕ) (t : Monomial × ℕ) → mid ≡ plus text_cmp old (cond (table_bit form 0) ((of_bits t.0.bits, t.1) ∷ []) []) → new ≡ plus text_cmp mid (cond (table_bit form 1) ((of_bits (with_rank t.0.bits rank), t.1) ∷ []) [])
+    → new ≡ plus text_cmp old (products t (monomials form [] (rank ∷ []) 0 1))
+line_added old mid new form rank t first second =
+    second
+    ∙ ap (λ us. plus text_cmp us (cond (table_bit form 1) ((of_bits (with_rank t.0.bits rank), t.1) ∷ []) [])) first
+    ∙ sym (plus_append old (cond (table_bit form 0) ((of_bits t.0.bits, t.1) ∷ []) []) (cond (table_bit form 1) ((of_bits (with_rank t.0.bits rank), t.1) ∷ []) []))
+    ∙ ap (plus text_cmp old) (sym (line_products form rank t))
+
+products_append : (t : Monomial × ℕ) (ms ns : List (List ℕ)) → products t (ms ++ ns) ≡ products t ms ++ products t ns
+products_append t [] ns = refl
+products_append t (m ∷ ms) ns = ap (λ us. (of_bits (union t.0.bits m), t.1) ∷ us) (products_append t ms ns)
+
+-- the product of a term and of a set, if it is to be added
+abbrev chosen_product : Bool → List ℕ → Monomial × ℕ → Terms
+chosen_product b n t = cond b ((of_bits (union t.0.bits n), t.1) ∷ []) []
+
+one_set : (b : Bool) (n : List ℕ) (t : Monomial × ℕ) → products t (cond b (n ∷ []) []) ≡ chosen_product b n t
+one_set b n t = elim b as (λ v. products t (cond v (n ∷ []) []) ≡ cond v ((of_bits (union t.0.bits n), t.1) ∷ []) []) [ true ↦ refl | false ↦ refl ]
+
+two_sets : (a b : Bool) (m n : List ℕ) (t : Monomial × ℕ) → products t (cond a (m ∷ []) [] ++ cond b (n ∷ []) []) ≡ chosen_product a m t ++ chosen_product b n t
+two_sets a b m n t = products_append t (cond a (m ∷ []) []) (cond b (n ∷ []) []) ∙ (λ i. one_set a m t i ++ one_set b n t i)
+
+-- the products of a term and the form of a table of two bits
+pub pair_products : (form first second : ℕ) (t : Monomial × ℕ)
+    → products t (monomials form [] (first ∷ second ∷ []) 0 1)
+    ≡ (chosen_product (table_bit form 0) [] t ++ chosen_product (table_bit form 2) (second ∷ []) t) ++ (chosen_product (table_bit form 1) (first ∷ []) t ++ chosen_product (table_bit form 3) (with_rank (first ∷ []) second) t)
+pair_products form first second t =
+    products_append t (monomials form [] (second ∷ []) 0 2) (monomials form (first ∷ []) (second ∷ []) 1 2)
+    ∙ (λ i. two_sets (table_bit form 0) (table_bit form 2) [] (second ∷ []) t i ++ two_sets (table_bit form 1) (table_bit form 3) (first ∷ []) (with_rank (first ∷ []) second) t i)
+
+pub pair_added : (old one high low new : Terms) (form first second : ℕ) (t : Monomial × ℕ) → one ≡ plus text_cmp old (chosen_product (table_bit form 0) [] t) → high ≡ plus text_cmp one (chosen_product (table_bit form 2) (second ∷ []) t)
+    → low ≡ plus text_cmp high (chosen_product (table_bit form 1) (first ∷ []) t) → new ≡ plus text_cmp low (chosen_product (table_bit form 3) (with_rank (first ∷ []) second) t)
+    → new ≡ plus text_cmp old (products t (monomials form [] (first ∷ second ∷ []) 0 1))
+pair_added old one high low new form first second t one_is high_is low_is new_is =
+    let a = chosen_product (table_bit form 0) [] t in
+    let b = chosen_product (table_bit form 2) (second ∷ []) t in
+    let c = chosen_product (table_bit form 1) (first ∷ []) t in
+    let d = chosen_product (table_bit form 3) (with_rank (first ∷ []) second) t in
+    new_is
+    ∙ ap (λ us. plus text_cmp us d) (low_is ∙ ap (λ us. plus text_cmp us c) (high_is ∙ ap (λ us. plus text_cmp us b) one_is ∙ sym (plus_append old a b)))
+    ∙ sym (plus_append (plus text_cmp old (a ++ b)) c d)
+    ∙ sym (plus_append old (a ++ b) (c ++ d))
+    ∙ ap (plus text_cmp old) (sym (pair_products form first second t))
 
 pub step_products : (old new goal : Terms) (t : Monomial × ℕ) (rest ts : Terms) (sets : List (List ℕ)) → rest ≡ t ∷ ts → plus text_cmp old (all_products rest sets) ≡ goal → new ≡ plus text_cmp old (products t sets)
     → plus text_cmp new (all_products ts sets) ≡ goal

@@ -19,7 +19,7 @@ use Rattle.net_core.proofs.ExistLemmas.{sound_levels}
 use Rattle.net_core.proofs.LawLemmas.{levels_only}
 use Rattle.net_core.proofs.LevelLemmas.{nat_eq_or}
 use Rattle.net_core.proofs.OrderLemmas.{before_all}
-use Rattle.poly_mixed.specs.Polynomial.{Terms, Point, IsReduced, value}
+use Rattle.poly_mixed.specs.Polynomial.{Terms, Point, IsReduced}
 use Rattle.poly_mixed.specs.Table.{index}
 use Rattle.circuit_model.specs.Word.{Word, HasElement}
 use Rattle.stage_model.specs.Variables.{rank_in, point_bit}

@@ -10,4 +10,5 @@ mod Turn
 mod CutLemmas
 mod CutSizeLemmas
 mod CutPartLemmas
+mod ConstantLemmas
 mod ProductLemmas

@@ -1,5 +1,5 @@
 -- The pairs of the eliminations so far, and what a recorder has told of them.
-use Rattle.std.proofs.Common.{◌≡◌, ℕ, suc, ◌+◌, List, [], ◌++◌, Option, Some, refl}
+use Rattle.std.proofs.Common.{◌≡◌, ℕ, suc, List, [], ◌++◌, Option, Some, refl}
 use Rattle.std.specs.Prelude.{slice_get}
 use Rattle.net_core.specs.GateValue.{GateValue}
 use Rattle.net_core.specs.NetList.{NetList}

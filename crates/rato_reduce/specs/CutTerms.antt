@@ -1,14 +1,17 @@
 -- The terms of a cut in the order of their keys, and the polynomial that they are. Source: this project's own.
-use Rattle.std.specs.Prelude.{◌≡◌, ◌≢◌, ℕ, Bool, false, nat_le, List, [], ◌∷◌, ◌++◌, map}
+use Rattle.std.specs.Prelude.{◌≡◌, ◌≢◌, ℕ, ◌-◌, Bool, false, nat_le, List, [], ◌∷◌, ◌++◌, map, reverse, length, slice_get}
+use Rattle.std.specs.declared.cmp.Ordering.TheVariants.{Less}
 use Rattle.std.specs.List.{AllByRecursion}
 use Rattle.std.specs.List.Sorted.{IsStrictlySortedBy}
 use Rattle.std.specs.Map.{keys_of}
+use Rattle.std.specs.Option.{option_map_or}
 use Rattle.std.specs.Ordering.{nat_cmp}
 use Rattle.poly_mixed.specs.Monomial.{Monomial, text_cmp}
 use Rattle.poly_mixed.specs.Polynomial.{Terms}
+use Rattle.poly_mixed.specs.Cofactor.{cofactors, lacking}
 use Rattle.poly_mixed.specs.Product.{union}
-use Rattle.poly_mixed.specs.Sum.{plus}
-use Rattle.rato_reduce.specs.CutKey.{CutKey, key_of, key_cmp}
+use Rattle.poly_mixed.specs.Sum.{plus, with_coefficient}
+use Rattle.rato_reduce.specs.CutKey.{CutKey, key_of, no_bits, key_cmp}
 
 -- what a `Cut` is: a polynomial
 pub record CutPolynomial : Type 0 where
@@ -43,10 +46,26 @@ pub record AreEntries (places : List ℕ) (entries : List (CutKey × ℕ)) : Typ
   pub sorted : IsStrictlySortedBy key_cmp (keys_of entries)
   pub each : AllByRecursion (IsEntry places) entries
 
--- the first entry's first place is not behind this one
-abbrev pub begins_up_to : ℕ → List (CutKey × ℕ) → Bool
-begins_up_to place [] = false
-begins_up_to place (e ∷ es) = nat_le e.0.first place
+-- the entries with a term without bits before them, unless its coefficient is 0
+abbrev pub with_constant : ℕ → List (CutKey × ℕ) → List (CutKey × ℕ)
+with_constant c entries = with_coefficient no_bits c entries
+
+-- entries of terms with bits, in the order of their keys
+pub record AreBitEntries (places : List ℕ) (entries : List (CutKey × ℕ)) : Type 0 where
+  pub are : AreEntries places entries
+  pub bits : AllByRecursion (λ e. key_cmp no_bits e.0 ≡ Less) entries
+
+-- the last entry's first place is not behind this one
+abbrev pub ends_up_to : ℕ → List (CutKey × ℕ) → Bool
+ends_up_to place es = option_map_or (λ e. nat_le e.0.first place) (slice_get es (length es - 1)) false
+
+-- what is left when entries were taken from the end on: the part has their terms with the bit, without it, and there are
+-- the others
+pub record IsTaken (rank : ℕ) (old new : List (CutKey × ℕ)) (part others : Terms) : Type 0 where
+  pub taken : Terms
+  pub all : map term_of old ≡ map term_of new ++ reverse taken
+  pub part_is : part ≡ cofactors rank taken
+  pub others_are : others ≡ lacking rank taken
 
 -- the products of a term and of each of these sets of bits
 abbrev pub products : Monomial × ℕ → List (List ℕ) → Terms

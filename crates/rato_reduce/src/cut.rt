@@ -1,14 +1,17 @@
 //! The polynomial of a cut.
-ghost use Rattle.std.specs.Prelude.{◌≡◌, ◌≢◌, ℕ, List, ◌++◌, ◌∷◌, [], length, map, false, IfOk, IfSome, IfNone, OnOk, OnErr, ◌↔◌};
+ghost use Rattle.std.specs.Prelude.{◌≡◌, ◌≢◌, ◌<◌, ℕ, List, ◌++◌, ◌∷◌, [], length, false, IfOk, IfSome, IfNone, OnOk, OnErr, ◌↔◌, if◌then◌else◌};
 ghost use Rattle.std.specs.List.{AllByRecursion};
 ghost use Rattle.std.specs.List.Sorted.{IsStrictlySortedBy};
 ghost use Rattle.std.specs.Ordering.{nat_cmp};
 ghost use Rattle.poly_mixed.specs.Cofactor.{cofactors, lacking, LacksBit};
 ghost use Rattle.poly_mixed.specs.Monomial.{text_cmp};
 ghost use Rattle.poly_mixed.specs.Polynomial.{IsMap, IsReduced, IsTerm};
-ghost use Rattle.poly_mixed.specs.Sum.{plus, plus_term};
+ghost use Rattle.poly_mixed.specs.Sum.{plus, plus_term, with_coefficient};
 ghost use Rattle.rato_reduce.specs.CutKey.{key_cmp};
-ghost use Rattle.rato_reduce.specs.CutTerms.{of_bits, term_of, begins_up_to, products, AreEntries, IsBitTerm};
+ghost use Rattle.poly_mixed.specs.Product.{union, with_rank};
+ghost use Rattle.poly_mixed.specs.Table.{table_bit};
+ghost use Rattle.rato_reduce.specs.CutTerms.{of_bits, term_of, ends_up_to, products, AreBitEntries, IsBitTerm, IsTaken};
+ghost use Rattle.rato_reduce.specs.Monomials.{monomials};
 
 use crate::bit_term::BitTerm;
 use crate::key::{Key, place_of};
@@ -19,24 +22,25 @@ use std::collections::BTreeMap;
 use std::collections::btree_map::Entry;
 use std::marker::Model;
 
-/// A polynomial in bits, whose terms stand in the order in which nets are eliminated: those with a net come first once
-/// each net of an earlier place is gone. `places` has the place of each rank. The places decide how long a call takes
-/// and nothing else.
+/// A polynomial in bits, whose terms stand against the order in which nets are eliminated: those with a net come last
+/// once each net of an earlier place is gone. `places` has the place of each rank. The places decide how long a call takes
+/// and nothing else. The term without bits is kept apart: an inverter adds it each time.
 #[derive(Drop)]
 pub struct Cut {
+    constant: u64,
     map: BTreeMap<Key, u64>,
     places: Vec<u32>,
     alloc: Global,
 }
 
 impl Model for Cut {
-    ghost use Rattle.rato_reduce.specs.CutTerms.{CutPolynomial, cut_polynomial, AreEntries};
+    ghost use Rattle.rato_reduce.specs.CutTerms.{CutPolynomial, cut_polynomial, with_constant, AreBitEntries};
 
     ghost Value = { CutPolynomial };
 
-    ghost view = { λ c. cut_polynomial c.map.entries };
+    ghost view = { λ c. cut_polynomial (with_constant c.constant c.map.entries) };
 
-    ghost invariant = { λ c. AreEntries c.places.items c.map.entries };
+    ghost invariant = { λ c. AreBitEntries c.places.items c.map.entries };
 }
 
 impl Cut {
@@ -45,6 +49,7 @@ impl Cut {
         ensures { result.terms ≡ [] }
     {
         Cut {
+            constant: 0,
             map: BTreeMap::new(alloc),
             places,
             alloc,
@@ -55,7 +60,8 @@ impl Cut {
     pub fn len(&self) -> usize
         ensures { result ≡ length self.now.terms }
     {
-        self.map.len()
+        let bits = self.map.len();
+        if self.constant == 0 { bits } else { bits + 1 }
     }
 
     /// Adds a term of rising bits. After want of memory it is not used again.
@@ -64,9 +70,21 @@ impl Cut {
         requires some { c ≢ 0 }
         ensures { OnOk result (self.new.terms ≡ plus_term text_cmp self.old.terms (of_bits bits, c)) }
     {
+        if bits.is_empty() {
+            self.add_constant(c);
+            return Ok(());
+        }
         let key = Key::new(self.places.as_slice(), bits);
         add_to(&mut self.map, key, c)?;
         Ok(())
+    }
+
+    // Adds a term without bits.
+    fn add_constant(&mut self, c: u64)
+        requires { c ≢ 0 }
+        ensures { self.new.terms ≡ plus_term text_cmp self.old.terms (of_bits [], c) }
+    {
+        self.constant ^= c;
     }
 
     /// Adds the products of a term and of each of these sets of bits. After want of memory it is not used again.
@@ -81,65 +99,139 @@ impl Cut {
         Ok(())
     }
 
-    /// Takes out the terms with the bit, and gives them without it. It takes the time of the terms whose first place is
-    /// not behind that of the bit. After want of memory it is not used again.
-    pub fn take_with(&mut self, rank: u32) -> Result<Vec<BitTerm>, AllocError>
-        ensures left { OnOk result (self.new.terms ≡ lacking rank self.old.terms) }
-        ensures part { IfOk result (λ part. plus text_cmp [] part.items ≡ cofactors rank self.old.terms) }
-        ensures each { IfOk result (λ part. AllByRecursion IsBitTerm part.items) }
-        ensures terms { (k : ℕ) → IsReduced k self.old.terms → IfOk result (λ part. AllByRecursion (IsTerm k) part.items) }
-        ensures stands { IfOk result (λ part. LacksBit rank self.old.terms ↔ (part.items ≡ [])) }
+    /// Adds the products of a term and of the sum of 1, if the form of a table of one bit has it, and of that bit, if the form
+    /// has it. After want of memory it is not used again.
+    pub fn add_line(&mut self, term: &BitTerm, form: u64, rank: u32) -> Result<(), AllocError>
+        requires { IsBitTerm term.now }
+        ensures { OnOk result (self.new.terms ≡ plus text_cmp self.old.terms (products term.now (monomials form [] (rank ∷ []) 0 1))) }
     {
-        let place = place_of(self.places.as_slice(), rank);
-        let front = take_up_to(self.alloc, &mut self.map, place)?;
-        self.split(&front, rank)
+        let one = has_place(form, 0);
+        let bit = has_place(form, 1);
+        self.add_same(term, one)?;
+        self.add_with(term, rank, bit)
     }
 
-    // The terms with the bit, without it; adds the others.
-    fn split(&mut self, front: &[BitTerm], rank: u32) -> Result<Vec<BitTerm>, AllocError>
-        requires { AllByRecursion IsBitTerm front.now }
-        ensures left { OnOk result (self.new.terms ≡ plus text_cmp self.old.terms (lacking rank front.now)) }
-        ensures part { IfOk result (λ part. part.items ≡ cofactors rank front.now) }
-    {
-        let mut part = Vec::new(self.alloc);
-        for term in front {
-            self.sort_out(term, rank, &mut part)?;
-        }
-        Ok(part)
-    }
-
-    // Puts a term with the bit into the part, without the bit, and adds one that lacks it.
-    fn sort_out(
+    /// Adds the products of a term and of the sum of 1, two bits and the product of both, each if the form of a table of two
+    /// bits has it. After want of memory it is not used again.
+    pub fn add_pair(
         &mut self,
         term: &BitTerm,
-        rank: u32,
-        part: &mut Vec<BitTerm>,
+        form: u64,
+        first: u32,
+        second: u32,
+        both: &Ranks,
     ) -> Result<(), AllocError>
-        requires { IsBitTerm term.now }
-        ensures left { OnOk result (self.new.terms ≡ plus text_cmp self.old.terms (lacking rank (term.now ∷ []))) }
-        ensures part { OnOk result (part.new.items ≡ part.old.items ++ cofactors rank (term.now ∷ [])) }
+        requires term { IsBitTerm term.now }
+        requires both { both.now ≡ with_rank (first ∷ []) second }
+        ensures { OnOk result (self.new.terms ≡ plus text_cmp self.old.terms (products term.now (monomials form [] (first ∷ second ∷ []) 0 1))) }
     {
-        if !term.bits().has(rank) {
-            let bits = term.bits().copied()?;
+        let one = has_place(form, 0);
+        let low = has_place(form, 1);
+        let high = has_place(form, 2);
+        let all = has_place(form, 3);
+        self.add_same(term, one)?;
+        self.add_with(term, second, high)?;
+        self.add_with(term, first, low)?;
+        self.add_union(term, both, all)
+    }
+
+    // Adds a term times bits, if it is to be added.
+    fn add_union(&mut self, term: &BitTerm, set: &Ranks, added: bool) -> Result<(), AllocError>
+        requires { IsBitTerm term.now }
+        ensures { OnOk result (self.new.terms ≡ plus text_cmp self.old.terms (if added then (of_bits (union term.now.0.bits set.now), term.now.1) ∷ [] else [])) }
+    {
+        if added {
+            let bits = term.bits().union(set)?;
             self.add(bits, term.coefficient())?;
+        }
+        Ok(())
+    }
+
+    // Adds a term, if it is to be added.
+    fn add_same(&mut self, term: &BitTerm, added: bool) -> Result<(), AllocError>
+        requires { IsBitTerm term.now }
+        ensures { OnOk result (self.new.terms ≡ plus text_cmp self.old.terms (if added then (of_bits term.now.0.bits, term.now.1) ∷ [] else [])) }
+    {
+        if !added {
             return Ok(());
         }
-        let bits = term.bits().without(rank)?;
-        part.push(BitTerm::new(bits, term.coefficient()))?;
+        if term.bits().is_empty() {
+            self.add_constant(term.coefficient());
+            return Ok(());
+        }
+        let bits = term.bits().copied()?;
+        self.add(bits, term.coefficient())
+    }
+
+    // Adds a term times a bit, if it is to be added.
+    fn add_with(&mut self, term: &BitTerm, rank: u32, added: bool) -> Result<(), AllocError>
+        requires { IsBitTerm term.now }
+        ensures { OnOk result (self.new.terms ≡ plus text_cmp self.old.terms (if added then (of_bits (with_rank term.now.0.bits rank), term.now.1) ∷ [] else [])) }
+    {
+        if added {
+            let bits = term.bits().with(rank)?;
+            self.add(bits, term.coefficient())?;
+        }
         Ok(())
+    }
+
+    // Adds terms.
+    fn add_all(&mut self, terms: &[BitTerm]) -> Result<(), AllocError>
+        requires { AllByRecursion IsBitTerm terms.now }
+        ensures { OnOk result (self.new.terms ≡ plus text_cmp self.old.terms terms.now) }
+    {
+        for term in terms {
+            self.add_same(term, true)?;
+        }
+        Ok(())
+    }
+
+    /// Takes out the terms with the bit, and puts them, without it, in place of what `part` held. It takes the time of the
+    /// terms whose first place is not behind that of the bit. After want of memory neither is used again.
+    pub fn take_with(&mut self, rank: u32, part: &mut Vec<BitTerm>) -> Result<(), AllocError>
+        ensures left { OnOk result (self.new.terms ≡ lacking rank self.old.terms) }
+        ensures part { OnOk result (plus text_cmp [] part.new.items ≡ cofactors rank self.old.terms) }
+        ensures each { OnOk result (AllByRecursion IsBitTerm part.new.items) }
+        ensures terms { (k : ℕ) → IsReduced k self.old.terms → OnOk result (AllByRecursion (IsTerm k) part.new.items) }
+        ensures stands { OnOk result (LacksBit rank self.old.terms ↔ (part.new.items ≡ [])) }
+    {
+        part.clear();
+        let place = place_of(self.places.as_slice(), rank);
+        let others = take_up_to(self.alloc, &mut self.map, place, rank, part)?;
+        self.add_all(&others)
     }
 
     /// The same polynomial, in the order of a text.
     pub fn to_poly(&self) -> Result<Poly, AllocError>
         ensures { IfOk result (λ q. q.terms ≡ self.now.terms) }
     {
-        let mut sum = Poly::zero(self.alloc);
+        let mut sum = constant_poly(self.alloc, self.constant)?;
         for (key, c) in &self.map {
             let mono = Mono::new(self.alloc, key.bits().as_slice(), &[0; 8])?;
             sum.add_term(mono, *c)?;
         }
         Ok(sum)
     }
+}
+
+// The polynomial of a term without bits, which has none where the coefficient is 0.
+fn constant_poly(alloc: Global, c: u64) -> Result<Poly, AllocError>
+    ensures { IfOk result (λ q. q.terms ≡ with_coefficient (of_bits []) c []) }
+{
+    let mut sum = Poly::zero(alloc);
+    if c != 0 {
+        let mono = Mono::new(alloc, &[], &[0; 8])?;
+        sum.add_term(mono, c)?;
+    }
+    Ok(sum)
+}
+
+// Whether the form of a table has a place.
+fn has_place(form: u64, place: u32) -> bool
+    requires { place < 64 }
+    ensures { result ≡ table_bit form place }
+{
+    (form >> place) & 1 == 1
 }
 
 // Adds an entry to a map; the sum of two coefficients that is 0 leaves no entry.
@@ -164,40 +256,65 @@ fn add_to(entries: &mut BTreeMap<Key, u64>, key: Key, c: u64) -> Result<(), Allo
     Ok(())
 }
 
-// Whether there is an entry whose first place is not behind this one.
-fn begins_up_to(entries: &BTreeMap<Key, u64>, place: u32) -> bool
-    ensures { result ≡ begins_up_to place entries.now.entries }
+// Whether the last entry's first place is not behind this one.
+fn ends_up_to(entries: &BTreeMap<Key, u64>, place: u32) -> bool
+    ensures { result ≡ ends_up_to place entries.now.entries }
 {
-    match entries.first_key_value() {
+    match entries.last_key_value() {
         Some((key, _)) => key.first() <= place,
         None => false,
     }
 }
 
-// Takes the first entry, if its first place is not behind this one.
+// Takes the last entry, if its first place is not behind this one.
 fn pop_up_to(entries: &mut BTreeMap<Key, u64>, place: u32) -> Option<(Key, u64)>
-    ensures some { IfSome result (λ e. entries.old.entries ≡ e ∷ entries.new.entries) }
-    ensures none { IfNone result ((entries.new.entries ≡ entries.old.entries) × (begins_up_to place entries.old.entries ≡ false)) }
+    ensures some { IfSome result (λ e. entries.old.entries ≡ entries.new.entries ++ e ∷ []) }
+    ensures none { IfNone result ((entries.new.entries ≡ entries.old.entries) × (ends_up_to place entries.old.entries ≡ false)) }
 {
-    if !begins_up_to(entries, place) {
+    if !ends_up_to(entries, place) {
         return None;
     }
-    entries.pop_first()
+    entries.pop_last()
 }
 
-// Takes the entries from the front on whose first place is not behind this one, as terms.
+// Puts the term of an entry into the part, without the bit, if it has the bit, and else into the others.
+fn sort_out(
+    key: Key,
+    c: u64,
+    rank: u32,
+    part: &mut Vec<BitTerm>,
+    others: &mut Vec<BitTerm>,
+) -> Result<(), AllocError>
+    ensures part { OnOk result (part.new.items ≡ part.old.items ++ cofactors rank (term_of (key, c) ∷ [])) }
+    ensures others { OnOk result (others.new.items ≡ others.old.items ++ lacking rank (term_of (key, c) ∷ [])) }
+{
+    let bits = key.into_bits();
+    if !bits.has(rank) {
+        others.push(BitTerm::new(bits, c))?;
+        return Ok(());
+    }
+    let rest = bits.without(rank)?;
+    part.push(BitTerm::new(rest, c))?;
+    Ok(())
+}
+
+// Takes the entries from the last on backwards whose first place is not behind this one: their terms with the bit are added
+// to the part, without it, and the others are given.
 fn take_up_to(
     alloc: Global,
     entries: &mut BTreeMap<Key, u64>,
     place: u32,
+    rank: u32,
+    part: &mut Vec<BitTerm>,
 ) -> Result<Vec<BitTerm>, AllocError>
-    ensures all { IfOk result (λ front. map term_of entries.old.entries ≡ front.items ++ map term_of entries.new.entries) }
-    ensures rest { OnOk result (begins_up_to place entries.new.entries ≡ false) }
-    ensures entries { (places : List ℕ) → AreEntries places entries.old.entries → AreEntries places entries.new.entries }
+    requires { part.old.items ≡ [] }
+    ensures taken { IfOk result (λ others. IsTaken rank entries.old.entries entries.new.entries part.new.items others.items) }
+    ensures rest { OnOk result (ends_up_to place entries.new.entries ≡ false) }
+    ensures entries { (places : List ℕ) → AreBitEntries places entries.old.entries → AreBitEntries places entries.new.entries }
 {
-    let mut front = Vec::new(alloc);
+    let mut others = Vec::new(alloc);
     while let Some((key, c)) = pop_up_to(entries, place) {
-        front.push(BitTerm::new(key.into_bits(), c))?;
+        sort_out(key, c, rank, part, &mut others)?;
     }
-    Ok(front)
+    Ok(others)
 }

@@ -14,11 +14,12 @@ ghost use Rattle.stage_model.specs.Variables.{rank_in};
 ghost use Rattle.stage_model.specs.CutSteps.{AreStepsAt};
 ghost use Rattle.rato_reduce.specs.CutTerms.{all_products, IsBitTerm};
 ghost use Rattle.rato_reduce.specs.GatePoint.{HasGatePutIn, AddsWhereGate};
+ghost use Rattle.rato_reduce.specs.Monomials.{monomials};
 
 use crate::bit_term::{BitTerm, poly_of};
 use crate::cut::Cut;
 use crate::first_cut::rank;
-use crate::monomials::monomials;
+use crate::monomials::monomials as monomials_of;
 use crate::ranks::Ranks;
 use gf_field::Field;
 use net_core::Gate;
@@ -39,6 +40,67 @@ fn input_ranks(alloc: Global, circuit: &Combinational, gate: &Gate) -> Result<Ve
     Ok(list)
 }
 
+// Adds the products of each of the terms and of the form of a table of one bit.
+fn add_all_lines(cut: &mut Cut, part: &[BitTerm], form: u64, rank: u32) -> Result<(), AllocError>
+    requires { AllByRecursion IsBitTerm part.now }
+    ensures { OnOk result (cut.new.terms ≡ plus text_cmp cut.old.terms (all_products part.now (monomials form [] (rank ∷ []) 0 1))) }
+{
+    for term in part {
+        cut.add_line(term, form, rank)?;
+    }
+    Ok(())
+}
+
+// Adds the products of each of the terms and of the form of a table of two bits.
+fn add_all_pairs(
+    alloc: Global,
+    cut: &mut Cut,
+    part: &[BitTerm],
+    form: u64,
+    first: u32,
+    second: u32,
+) -> Result<(), AllocError>
+    requires { AllByRecursion IsBitTerm part.now }
+    ensures { OnOk result (cut.new.terms ≡ plus text_cmp cut.old.terms (all_products part.now (monomials form [] (first ∷ second ∷ []) 0 1))) }
+{
+    let one = Ranks::none(alloc).with(first)?;
+    let both = one.with(second)?;
+    for term in part {
+        cut.add_pair(term, form, first, second, &both)?;
+    }
+    Ok(())
+}
+
+// Adds the products of the terms and of the form of a table at the inputs of a gate. Forms of one bit and of two make no list
+// of sets.
+fn add_form(
+    alloc: Global,
+    circuit: &Combinational,
+    gate: &Gate,
+    form: u64,
+    part: &[BitTerm],
+    cut: &mut Cut,
+) -> Result<(), AllocError>
+    requires sound { IsSound circuit.now.net }
+    requires gate { Has circuit.now.net.gates gate.now }
+    requires part { AllByRecursion IsBitTerm part.now }
+    ensures { OnOk result (cut.new.terms ≡ plus text_cmp cut.old.terms (all_products part.now (monomials form [] (map (rank_in (variables (nets circuit.now.net) circuit.now.bound.words)) gate.now.inputs) 0 1))) }
+{
+    let inputs = gate.inputs();
+    if inputs.len() == 1 {
+        let rank = rank(circuit, inputs[0]);
+        return add_all_lines(cut, part, form, rank);
+    }
+    if inputs.len() == 2 {
+        let first = rank(circuit, inputs[0]);
+        let second = rank(circuit, inputs[1]);
+        return add_all_pairs(alloc, cut, part, form, first, second);
+    }
+    let ranks = input_ranks(alloc, circuit, gate)?;
+    let sets = monomials_of(alloc, form, &ranks)?;
+    add_all_products(cut, part, &sets)
+}
+
 // Adds the products of the terms and of the polynomial of the gate's table.
 fn add_table<F: Field>(
     alloc: Global,
@@ -55,9 +117,8 @@ fn add_table<F: Field>(
     ensures reduced { OnOk result (IsReduced (F.degree _field.now) cut.new.terms) }
     ensures values { OnOk result (AddsWhereGate (F.degree _field.now) (F.product _field.now) (variables (nets circuit.now.net) circuit.now.bound.words) gate.now part.now cut.old.terms cut.new.terms) }
 {
-    let ranks = input_ranks(alloc, circuit, gate)?;
-    let sets = monomials(alloc, exclusive_form(gate.table()), &ranks)?;
-    add_all_products(cut, part, &sets)
+    let form = exclusive_form(gate.table());
+    add_form(alloc, circuit, gate, form, part, cut)
 }
 
 // Adds the products of each of the terms and of each of these sets of bits.
@@ -89,13 +150,14 @@ fn tell<T: Steps>(
 }
 
 /// Puts a gate's table in place of its output, and hands the pair of the net and its cofactor to the recorder where the
-/// net stands in the polynomial.
+/// net stands in the polynomial. `part` is room for the terms with the net, whatever it holds.
 pub fn eliminate<F: Field, T: Steps>(
     alloc: Global,
     field: &F,
     circuit: &Combinational,
     gate: &Gate,
     cut: &mut Cut,
+    part: &mut Vec<BitTerm>,
     steps: &mut T,
 ) -> Result<(), AllocError>
     requires sound { IsSound circuit.now.net }
@@ -106,10 +168,10 @@ pub fn eliminate<F: Field, T: Steps>(
     ensures steps { OnOk result ((made : List Step) × AreStepsAt (F.degree field.now) (rank_in (variables (nets circuit.now.net) circuit.now.bound.words) gate.now.out) gate.now.out cut.old.terms made × Tells (T.steps steps.old) (T.steps steps.new) made) }
 {
     let rank = rank(circuit, gate.out());
-    let part = cut.take_with(rank)?;
+    cut.take_with(rank, part)?;
     if part.is_empty() {
         return Ok(());
     }
-    tell(alloc, gate.out(), &part, steps)?;
-    add_table(alloc, field, circuit, gate, &part, cut)
+    tell(alloc, gate.out(), part, steps)?;
+    add_table(alloc, field, circuit, gate, part, cut)
 }

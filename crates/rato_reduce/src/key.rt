@@ -115,7 +115,7 @@ impl Ord for Key {
     ghost matches_eq = { λ x y. refl };
 
     fn cmp(&self, other: &Key) -> Ordering {
-        match self.first.cmp(&other.first) {
+        match other.first.cmp(&self.first) {
             Ordering::Equal => {}
             decided => return decided,
         }

@@ -69,9 +69,10 @@ pub fn reduce_bits<F: Field, T: Steps>(
     let places = places(alloc, circuit, &order)?;
     let mut cut = first_cut(alloc, field, circuit, output, &list, places)?;
     check_size(&cut, bound, 0)?;
+    let mut part = Vec::new(alloc);
     for t in 0..order.len() {
         let gate = &net.gates()[order[t] as usize];
-        eliminate(alloc, field, circuit, gate, &mut cut, steps)?;
+        eliminate(alloc, field, circuit, gate, &mut cut, &mut part, steps)?;
         check_size(&cut, bound, t as u32 + 1)?;
     }
     let poly = cut.to_poly()?;

@@ -14,7 +14,7 @@ use Rattle.poly_mixed.proofs.Values.{power_element, product_zero}
 use Rattle.stage_model.proofs.WordBitLemmas.{part_value, next_part}
 use Rattle.word_subst.specs.Univariate.{Powers, IsPower, IsUnivariate, value_of, power_value}
 use Rattle.word_subst.specs.Merge.{IsBefore}
-use Rattle.word_subst.specs.Forms.{IsForm}
+use Rattle.word_subst.specs.Forms.{IsForm, IsLinear}
 use Rattle.word_subst.proofs.Univariates.{all_append, xor_sum-append, univariate_append, one_power, no_powers}
 
 -- ---- one form
@@ -24,6 +24,7 @@ module _ (k : ℕ) (mul : ℕ → ℕ → ℕ) (linear : List ℕ) where
   pub record IsPartForm (j : ℕ) (us : Powers) : Type 0 where
     pub univariate : IsUnivariate k us
     pub below : AllByRecursion (λ t. t.0 < 2 ^ j) us
+    pub is_linear : IsLinear k us
     pub values : (x : ℕ) → IsElement k x → value_of mul x us ≡ part_value mul linear x j
 
 before_power : (us : Powers) (e c : ℕ) → AllByRecursion (λ t. t.0 < e) us → IsBefore us ((e, c) ∷ [])
@@ -48,6 +49,7 @@ module _ {k : ℕ} {mul : ℕ → ℕ → ℕ} (f : IsField k mul) (linear : Lis
       none_more none = subst (IsPartForm k mul linear (j + 1)) (sym (append-nil old)) (record {
         univariate = is.univariate;
         below = below_next old j is.below;
+        is_linear = is.is_linear;
         values = λ x at. sym (next_part mul linear x j ∙ (ap (bit_xor (part_value mul linear x j)) (ap (λ n. mul n (power mul x (2 ^ j))) (sym c_is ∙ none) ∙ product_zero f (power mul x (2 ^ j)) (power_element f x (2 ^ j) at)) ∙ (xor_zero_r (part_value mul linear x j) ∙ sym (is.values x at))));
       })
 
@@ -55,6 +57,7 @@ module _ {k : ℕ} {mul : ℕ → ℕ → ℕ} (f : IsField k mul) (linear : Lis
       one_more at = record {
         univariate = univariate_append k old ((2 ^ j, c) ∷ []) is.univariate (one_power k (2 ^ j, c) at) (before_power old (2 ^ j) c is.below);
         below = all_append (λ t. t.0 < 2 ^ (j + 1)) old ((2 ^ j, c) ∷ []) (below_next old j is.below) (pow_below j (j + 1) (omega arith), tt);
+        is_linear = all_append (λ t. (i : ℕ) × (i < k) × (t.0 ≡ 2 ^ i)) old ((2 ^ j, c) ∷ []) is.is_linear ((j, less, refl), tt);
         values = λ x at'.
             xor_sum-append (power_value mul x) old ((2 ^ j, c) ∷ [])
             ∙ ((λ i. bit_xor (is.values x at' i) (xor_zero_r (power_value mul x (2 ^ j, c)) i))
@@ -63,7 +66,7 @@ module _ {k : ℕ} {mul : ℕ → ℕ → ℕ} (f : IsField k mul) (linear : Lis
 
 -- no powers yet
 pub no_power : (k : ℕ) (mul : ℕ → ℕ → ℕ) (linear : List ℕ) → IsPartForm k mul linear 0 []
-no_power k mul linear = record { univariate = no_powers k; below = tt; values = λ x at. refl }
+no_power k mul linear = record { univariate = no_powers k; below = tt; is_linear = tt; values = λ x at. refl }
 
 -- ---- the forms of the first places
 

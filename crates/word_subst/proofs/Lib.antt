@@ -20,3 +20,6 @@ mod GatheredPowersLemmas
 mod SomeProductsLemmas
 mod ReadFromLemmas
 mod ReadAtOnceLemmas
+mod LinearLemmas
+mod WholeLemmas
+mod WholeReadLemmas

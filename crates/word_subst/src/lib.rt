@@ -17,6 +17,7 @@ mod term;
 #[cfg(test)]
 mod tests;
 mod univariate;
+mod whole;
 mod word;
 mod words;
 

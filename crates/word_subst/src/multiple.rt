@@ -22,8 +22,8 @@ fn sum_exponent(k: u32, a: u64, b: u64) -> u64
     if a <= top - b { a + b } else { a - (top - b) }
 }
 
-// The product of an element, by its table, and another.
-fn product_by<F: Field>(field: &F, _c: u64, table: &F::Times, d: u64) -> u64
+/// The product of an element, by its table, and another.
+pub fn product_by<F: Field>(field: &F, _c: u64, table: &F::Times, d: u64) -> u64
     requires c { IsElement (F.degree field.now) _c }
     requires table { F.is_table field.now table.now _c }
     requires d { IsElement (F.degree field.now) d }

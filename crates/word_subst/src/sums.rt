@@ -63,8 +63,8 @@ fn add_to<F: Field>(
     }
 }
 
-// Adds each power of the word times a monomial without it.
-fn add_spread(
+/// Adds each power of the word times a monomial without it.
+pub fn add_spread(
     alloc: Global,
     poly: &mut Poly,
     word: u32,

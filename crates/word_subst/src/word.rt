@@ -25,6 +25,7 @@ use crate::sums::Sums;
 use crate::tell::tell;
 use crate::term::{add_term, follow_term};
 use crate::univariate::Univariate;
+use crate::whole::whole;
 use gf_basis::Basis;
 use gf_field::Field;
 use poly_mixed::{Poly, ReduceFault, Stage, Steps, Term};
@@ -141,6 +142,9 @@ pub fn one_word<F: Field, T: Steps>(
 {
     if !steps.tells() {
         if let Some(poly) = at_once(alloc, field, basis, word, bits, bound)? {
+            return Ok(poly);
+        }
+        if let Some(poly) = whole(alloc, field, basis, word, bits, bound)? {
             return Ok(poly);
         }
     }

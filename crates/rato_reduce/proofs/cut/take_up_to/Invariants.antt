@@ -1,11 +1,11 @@
-use Rattle.std.proofs.Common.{◌≡◌, ◌++◌, ℕ, List, map, length}
-use Rattle.rato_reduce.specs.CutTerms.{term_of, AreEntries}
+use Rattle.std.proofs.Common.{ℕ, List, length}
+use Rattle.rato_reduce.specs.CutTerms.{AreBitEntries, IsTaken}
 use Rattle.rato_reduce.proofs.cut.take_up_to.Given as goal
 
 abbrev pub invariant-loop-key : goal.invariant-loop-key
 invariant-loop-key l = record {
-  all : l.front.items ++ map term_of l.entries.entries ≡ map term_of l.initial.entries.entries;
-  entries : (places : List ℕ) → AreEntries places l.initial.entries.entries → AreEntries places l.entries.entries;
+  taken : IsTaken l.rank l.initial.entries.entries l.entries.entries l.part.items l.others.items;
+  entries : (places : List ℕ) → AreBitEntries places l.initial.entries.entries → AreBitEntries places l.entries.entries;
 }
 
 abbrev pub decreases-loop-key : goal.decreases-loop-key

@@ -1,4 +1,4 @@
-use Rattle.std.proofs.Common.{◌≡◌, ◌+◌, drop, subst, ◌∷◌}
+use Rattle.std.proofs.Common.{◌+◌, drop, subst}
 use Rattle.std.specs.List.{AllByRecursion}
 use Rattle.poly_mixed.specs.Polynomial.{Terms}
 use Rattle.rato_reduce.specs.CutTerms.{IsBitTerm}

@@ -1,4 +1,4 @@
-use Rattle.std.proofs.Common.{◌≡◌, ℕ, ◌+◌, ◌-◌, ◌*◌, ◌^◌, ◌≤◌, List, length, take, drop, subst, sym, arith, rules, false, ◌==◌}
+use Rattle.std.proofs.Common.{◌≡◌, ℕ, ◌-◌, ◌*◌, ◌^◌, ◌≤◌, List, length, take, drop, subst, sym, arith, rules, false, ◌==◌}
 use Rattle.std.proofs.lemmas.Bool.{eqb-false}
 use Rattle.poly_mixed.proofs.Simple.{rest_long, half_within}
 use Rattle.rato_reduce.proofs.monomials.+add_monomials.Goals as goal

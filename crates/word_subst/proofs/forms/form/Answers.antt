@@ -25,5 +25,6 @@ returns g c =
     let last : c.loop-j.j ≡ k = omega (arith, c.loop-j-test.false, c.loop-j.auto.j-end, c.k-j-end.ensures) in
     record {
       univariate = c.loop-j.invariant.univariate;
+      linear = c.loop-j.invariant.is_linear;
       values = λ x d at bits. c.loop-j.invariant.values x at ∙ (ap (part_value mul c.linear_of-linear.result x) last ∙ (whole_value k mul c.linear_of-linear.result x (g.met.F.Ring.laws c.args.field.now) at ∙ c.linear_of-linear.ensures.bit x d bits));
     }

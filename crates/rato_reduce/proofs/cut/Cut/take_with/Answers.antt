@@ -1,15 +1,17 @@
-use Rattle.std.proofs.Common.{◌≡◌, ℕ, Bool, false, List, [], map, sym, ◌∙◌, ap, subst}
-use Rattle.std.proofs.lemmas.Result.{on_ok_weaker, IfOk-weaker}
+use Rattle.std.proofs.Common.{◌≡◌, ℕ, false, List, [], ◌++◌, map, reverse, refl, sym, ◌∙◌, ap, subst}
+use Rattle.std.proofs.lemmas.Result.{on_ok_weaker}
 use Rattle.std.specs.List.{AllByRecursion}
-use Rattle.poly_mixed.specs.Monomial.{text_cmp, has_bit}
-use Rattle.poly_mixed.specs.Polynomial.{Terms, IsReduced, IsTerm}
+use Rattle.poly_mixed.specs.Monomial.{Monomial, text_cmp, has_bit}
+use Rattle.poly_mixed.specs.Polynomial.{Terms, IsTerm}
 use Rattle.poly_mixed.specs.Cofactor.{cofactors, lacking, LacksBit}
 use Rattle.poly_mixed.specs.Sum.{plus}
+use Rattle.poly_mixed.proofs.Cofactors.{lacking_all}
 use Rattle.rato_reduce.specs.CutKey.{CutKey, place_at}
-use Rattle.rato_reduce.specs.CutTerms.{CutPolynomial, IsBitTerm, AreEntries, term_of, begins_up_to}
+use Rattle.rato_reduce.specs.CutTerms.{CutPolynomial, IsBitTerm, AreEntries, with_constant, term_of, ends_up_to}
 use Rattle.rato_reduce.proofs.CutLemmas.{entry_terms}
+use Rattle.rato_reduce.proofs.ConstantLemmas.{constant_entries, constant_taken, constant_lacks}
 use Rattle.rato_reduce.proofs.CutSizeLemmas.{all_back, entries_apart}
-use Rattle.rato_reduce.proofs.CutPartLemmas.{rest_lacks, front_terms, put_back, part_is, part_over, none_without, without_none, cofactor_terms}
+use Rattle.rato_reduce.proofs.CutPartLemmas.{rest_lacks, front_terms, put_back, part_is, part_over, none_without, without_none, cofactor_terms, all_taken, sum_taken}
 use Rattle.rato_reduce.proofs.cut.Cut.take_with.Goals as goal
 
 pub invariant_of-self : goal.invariant_of-self
@@ -18,75 +20,106 @@ invariant_of-self c = c.take_up_to.ensures.entries c.self.inside.places.items c.
 pub invariant_of-self-2 : goal.invariant_of-self-2
 invariant_of-self-2 c = c.take_up_to.ensures.entries c.self.inside.places.items c.self.invariant
 
--- the terms of all entries
-abbrev whole : (c : goal.After-drop-front) → Terms
-whole c = map term_of c.self.inside.map.entries
+-- the terms of the entries that are taken
+abbrev taken : (c : goal.After-drop-others) → Terms
+taken c = c.in_ok-others.ensures.taken.taken
 
 -- those of the entries that stay
-abbrev rest : (c : goal.After-drop-front) → Terms
-rest c = map term_of c.take_up_to.new.entries.entries
+abbrev rest : (c : goal.After-drop-others) → Terms
+rest c = map term_of (with_constant c.self.inside.constant c.take_up_to.new.entries.entries)
 
-each : (c : goal.After-drop-front) → AllByRecursion IsBitTerm (whole c)
-each c = entry_terms c.self.inside.places.items c.self.inside.map.entries c.self.invariant.each
+-- all entries, with the term without bits
+abbrev entries : (c : goal.After-drop-others) → List (CutKey × ℕ)
+entries c = with_constant c.self.inside.constant c.self.inside.map.entries
 
-lacks : (c : goal.After-drop-front) → LacksBit c.args.rank (rest c)
+are_entries : (c : goal.After-drop-others) → AreEntries c.self.inside.places.items (entries c)
+are_entries c = constant_entries c.self.inside.places.items c.self.inside.constant c.self.inside.map.entries c.self.invariant
+
+all_entries : (c : goal.After-drop-others) → map term_of (entries c) ≡ rest c ++ reverse (taken c)
+all_entries c = constant_taken c.self.inside.constant c.self.inside.map.entries c.take_up_to.new.entries.entries (taken c) c.in_ok-others.ensures.taken.all
+
+-- both
+abbrev whole : (c : goal.After-drop-others) → Terms
+whole c = taken c ++ rest c
+
+-- what holds of the terms of all entries holds of both
+of_both : (c : goal.After-drop-others) (P : Monomial × ℕ → Type 0) → AllByRecursion P (map term_of (entries c)) → AllByRecursion P (whole c)
+of_both c P all = (let Q : Terms → Type 0 = AllByRecursion P in all_taken P (taken c) (rest c) (subst Q (all_entries c) all))
+
+entry_each : (c : goal.After-drop-others) → AllByRecursion IsBitTerm (map term_of (entries c))
+entry_each c = entry_terms c.self.inside.places.items (entries c) (are_entries c).each
+
+each : (c : goal.After-drop-others) → AllByRecursion IsBitTerm (whole c)
+each c = of_both c IsBitTerm (entry_each c)
+
+lacks : (c : goal.After-drop-others) → LacksBit c.args.rank (rest c)
 lacks c =
     let places : c.as_slice.result.now ≡ c.self.inside.places.items = c.as_slice.ensures.value in
     let place : c.place_of-place.result ≡ place_at c.self.inside.places.items c.args.rank = c.place_of-place.ensures ∙ ap (λ ps. place_at ps c.args.rank) places in
-    let P : ℕ → Type 0 = λ n. begins_up_to n c.take_up_to.new.entries.entries ≡ false in
-    rest_lacks c.self.inside.places.items c.args.rank c.take_up_to.new.entries.entries (c.take_up_to.ensures.entries c.self.inside.places.items c.self.invariant) (subst P place c.in_ok-front.ensures.rest)
+    let P : ℕ → Type 0 = λ n. ends_up_to n c.take_up_to.new.entries.entries ≡ false in
+    constant_lacks c.self.inside.constant c.args.rank c.take_up_to.new.entries.entries
+    (rest_lacks c.self.inside.places.items c.args.rank c.take_up_to.new.entries.entries (c.take_up_to.ensures.entries c.self.inside.places.items c.self.invariant).are (subst P place c.in_ok-others.ensures.rest))
 
-view : (c : goal.After-drop-front) → plus text_cmp [] (whole c) ≡ c.args.self.now.terms
-view c = ap (λ (q : CutPolynomial). q.terms) c.self.view_is
+entry_view : (c : goal.After-drop-others) → plus text_cmp [] (map term_of (entries c)) ≡ c.args.self.now.terms
+entry_view c = ap (λ (q : CutPolynomial). q.terms) c.self.view_is
 
-split-front : (c : goal.After-drop-front) → c.deref.result.now ≡ c.in_ok-front.front.items
-split-front c = c.deref.ensures.value
-
-pub split-requires : goal.split-requires
-split-requires c =
+view : (c : goal.After-drop-others) → plus text_cmp [] (whole c) ≡ c.args.self.now.terms
+view c =
     let P : Terms → Type 0 = AllByRecursion IsBitTerm in
-    let all = entry_terms c.self.inside.places.items c.self.inside.map.entries c.self.invariant.each in
+    sum_taken (taken c) (rest c) (subst P (all_entries c) (entry_each c)) ∙ ap (plus text_cmp []) (sym (all_entries c)) ∙ entry_view c
+
+-- what holds of the terms of the polynomial holds of both
+of_terms : (c : goal.After-drop-others) (P : Monomial × ℕ → Type 0) → AllByRecursion P c.args.self.now.terms → AllByRecursion P (whole c)
+of_terms c P all =
+    let Q : Terms → Type 0 = AllByRecursion P in
+    of_both c P (all_back P (map term_of (entries c)) (entries_apart c.self.inside.places.items (entries c) (are_entries c)) (subst Q (sym (entry_view c)) all))
+
+pub add_all-requires : goal.add_all-requires
+add_all-requires c =
+    let P : Terms → Type 0 = AllByRecursion IsBitTerm in
+    let front = c.in_ok-others.ensures.taken.taken in
+    let behind = map term_of c.take_up_to.new.entries.entries in
+    let all = entry_terms c.self.inside.places.items c.self.inside.map.entries c.self.invariant.are.each in
+    let both = all_taken IsBitTerm front behind (subst P c.in_ok-others.ensures.taken.all all) in
     let places : c.as_slice.result.now ≡ c.self.inside.places.items = c.as_slice.ensures.value in
     let place : c.place_of-place.result ≡ place_at c.self.inside.places.items c.args.rank = c.place_of-place.ensures ∙ ap (λ ps. place_at ps c.args.rank) places in
-    let Q : ℕ → Type 0 = λ n. begins_up_to n c.take_up_to.new.entries.entries ≡ false in
-    let behind = rest_lacks c.self.inside.places.items c.args.rank c.take_up_to.new.entries.entries (c.take_up_to.ensures.entries c.self.inside.places.items c.self.invariant) (subst Q place c.in_ok-front.ensures.rest) in
-    subst P (sym c.deref.ensures.value) (front_terms c.args.rank (map term_of c.self.inside.map.entries) c.in_ok-front.front.items (map term_of c.take_up_to.new.entries.entries) c.in_ok-front.ensures.all all behind)
+    let Q : ℕ → Type 0 = λ n. ends_up_to n c.take_up_to.new.entries.entries ≡ false in
+    let without = rest_lacks c.self.inside.places.items c.args.rank c.take_up_to.new.entries.entries (c.take_up_to.ensures.entries c.self.inside.places.items c.self.invariant).are (subst Q place c.in_ok-others.ensures.rest) in
+    let terms = front_terms c.args.rank (front ++ behind) front behind refl both without in
+    subst P (sym (c.deref.ensures.value ∙ c.in_ok-others.ensures.taken.others_are)) (lacking_all IsBitTerm c.args.rank front terms)
 
 pub returns-clause-left : goal.returns-clause-left
 returns-clause-left c =
-    on_ok_weaker c.split.result (λ e.
+    on_ok_weaker c.add_all.result (λ e.
     e
-    ∙ ap (λ (ts : Terms). plus text_cmp (plus text_cmp [] (rest c)) (lacking c.args.rank ts)) (split-front c)
-    ∙ put_back c.args.rank (whole c) c.in_ok-front.front.items (rest c) c.in_ok-front.ensures.all (each c) (lacks c)
-    ∙ ap (lacking c.args.rank) (view c)) c.split.ensures.left
+    ∙ ap (plus text_cmp (plus text_cmp [] (rest c))) (c.deref.ensures.value ∙ c.in_ok-others.ensures.taken.others_are)
+    ∙ put_back c.args.rank (whole c) (taken c) (rest c) refl (each c) (lacks c)
+    ∙ ap (lacking c.args.rank) (view c)) c.add_all.ensures
 
 pub returns-clause-part : goal.returns-clause-part
 returns-clause-part c =
-    IfOk-weaker c.split.result _ _ (λ part e.
-    ap (plus text_cmp []) (e ∙ ap (cofactors c.args.rank) (split-front c))
-    ∙ part_is c.args.rank (whole c) c.in_ok-front.front.items (rest c) c.in_ok-front.ensures.all (each c) (lacks c)
-    ∙ ap (cofactors c.args.rank) (view c)) c.split.ensures.part
+    on_ok_weaker c.add_all.result (λ e.
+    ap (plus text_cmp []) c.in_ok-others.ensures.taken.part_is
+    ∙ part_is c.args.rank (whole c) (taken c) (rest c) refl (each c) (lacks c)
+    ∙ ap (cofactors c.args.rank) (view c)) c.add_all.ensures
 
 pub returns-clause-each : goal.returns-clause-each
 returns-clause-each c =
     let P : Terms → Type 0 = AllByRecursion IsBitTerm in
-    let front = front_terms c.args.rank (whole c) c.in_ok-front.front.items (rest c) c.in_ok-front.ensures.all (each c) (lacks c) in
-    IfOk-weaker c.split.result _ _ (λ part e. subst P (sym (e ∙ ap (cofactors c.args.rank) (split-front c))) (cofactor_terms c.args.rank c.in_ok-front.front.items front)) c.split.ensures.part
+    let front = front_terms c.args.rank (whole c) (taken c) (rest c) refl (each c) (lacks c) in
+    on_ok_weaker c.add_all.result (λ e. subst P (sym c.in_ok-others.ensures.taken.part_is) (cofactor_terms c.args.rank (taken c) front)) c.add_all.ensures
 
 pub returns-clause-terms : goal.returns-clause-terms
 returns-clause-terms c k reduced =
     let P : Terms → Type 0 = AllByRecursion (IsTerm k) in
-    let Q : Terms → Type 0 = IsReduced k in
-    let over = all_back (IsTerm k) (whole c) (entries_apart c.self.inside.places.items c.self.inside.map.entries c.self.invariant) (subst P (sym (view c)) reduced.terms) in
-    IfOk-weaker c.split.result _ _ (λ part e.
-    subst P (sym (e ∙ ap (cofactors c.args.rank) (split-front c))) (part_over c.args.rank (whole c) c.in_ok-front.front.items (rest c) c.in_ok-front.ensures.all (each c) (lacks c) k over)) c.split.ensures.part
+    let over = of_terms c (IsTerm k) reduced.terms in
+    on_ok_weaker c.add_all.result (λ e. subst P (sym c.in_ok-others.ensures.taken.part_is) (part_over c.args.rank (whole c) (taken c) (rest c) refl (each c) (lacks c) k over)) c.add_all.ensures
 
 pub returns-clause-stands : goal.returns-clause-stands
 returns-clause-stands c =
     let L : Terms → Type 0 = LacksBit c.args.rank in
-    IfOk-weaker c.split.result _ _ (λ part e.
-    let is = e ∙ ap (cofactors c.args.rank) (split-front c) in (
-      (λ none. is ∙ none_without c.args.rank (whole c) c.in_ok-front.front.items (rest c) c.in_ok-front.ensures.all (each c) (lacks c)
-          (all_back (λ t. has_bit c.args.rank t.0 ≡ false) (whole c) (entries_apart c.self.inside.places.items c.self.inside.map.entries c.self.invariant) (subst L (sym (view c)) none))),
-      (λ empty. subst L (view c) (without_none c.args.rank (whole c) c.in_ok-front.front.items (rest c) c.in_ok-front.ensures.all (each c) (lacks c) (sym is ∙ empty))),
-    )) c.split.ensures.part
+    let is = c.in_ok-others.ensures.taken.part_is in
+    on_ok_weaker c.add_all.result (λ e. (
+      (λ none. is ∙ none_without c.args.rank (whole c) (taken c) (rest c) refl (each c) (lacks c) (of_terms c (λ t. has_bit c.args.rank t.0 ≡ false) none)),
+      (λ empty. subst L (view c) (without_none c.args.rank (whole c) (taken c) (rest c) refl (each c) (lacks c) (sym is ∙ empty))),
+    )) c.add_all.ensures

@@ -1,0 +1,6 @@
+pub mod NamedWord
+pub mod Hierarchy
+pub mod Feeds
+pub mod Values
+pub mod Given
+pub mod Wiring

@@ -1,0 +1,3 @@
+pub mod PointLemmas
+pub mod ComposedLemmas
+pub mod OrderedLemmas

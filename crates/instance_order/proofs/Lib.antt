@@ -1,0 +1,4 @@
+pub mod LevelLemmas
+pub mod KeyLemmas
+pub mod AfterLemmas
+mod Examples

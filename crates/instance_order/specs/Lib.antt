@@ -1,0 +1,2 @@
+pub mod LevelOrder
+pub mod private

@@ -1,0 +1,31 @@
+-- A block's polynomial at what feeds an instance of the block. Source: Pruss, Kalla, Enescu, DAC 2014.
+use Rattle.std.specs.Prelude.{ℕ, ◌+◌, ◌-◌, List, [], ◌∷◌, ◌++◌, length, map, replicate}
+use Rattle.std.specs.List.{AllByRecursion}
+use Rattle.poly_mixed.specs.Monomial.{Monomial}
+use Rattle.poly_mixed.specs.Polynomial.{point, value, IsReduced, Point, Terms}
+use Rattle.spec_expand.specs.Specification.{SpecTerms}
+
+-- each word with its exponent, words being numbered from n
+abbrev pub powers_from : ℕ → List ℕ → List (ℕ × ℕ)
+powers_from n [] = []
+powers_from n (e ∷ es) = (n, e) ∷ powers_from (n + 1) es
+
+-- a term of a block's polynomial in words: its coefficient, and the powers of the block's words
+abbrev pub block_term : Monomial × ℕ → ℕ × List (ℕ × ℕ)
+block_term t = (t.1, powers_from 0 t.0.exponents)
+
+-- the terms of a block's polynomial, in the order of a text
+abbrev pub block_terms : Terms → SpecTerms
+block_terms ts = map block_term ts
+
+-- the values of what feeds an instance at a point, feeds being polynomials
+abbrev pub feed_values : (ℕ → ℕ → ℕ) → List Terms → Point → List ℕ
+feed_values mul feeds p = map (value mul p) feeds
+
+-- each feed is a reduced polynomial over the field
+abbrev pub AreReduced : ℕ → List Terms → Type 0
+AreReduced k feeds = AllByRecursion (IsReduced k) feeds
+
+-- the point of a block's words: these elements, 0 for the words that the block does not have, and no bit
+abbrev pub point_of : List ℕ → Point
+point_of xs = point (xs ++ replicate (8 - length xs) 0) []

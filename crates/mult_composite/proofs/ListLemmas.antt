@@ -1,0 +1,82 @@
+-- Lists that loops make.
+use Rattle.std.proofs.Common.{◌≡◌, ◌∙◌, ℕ, zero, suc, refl, sym, ap, ap₂, ◌<◌, ◌≤◌, ◌+◌, ◌*◌, ◌-◌, ◌/◌, ◌%◌, inl, inr, List, [], ◌∷◌, ◌++◌, length, length-append, None, arith}
+use Rattle.std.proofs.Math.Nat.{suc-mul}
+use Rattle.std.specs.Prelude.{slice_index, ◌==◌}
+use Rattle.std.specs.Int.{bit_at}
+use Rattle.std.proofs.lemmas.Bool.{cases_lt}
+use Rattle.std.proofs.lemmas.List.{get_or_append_left}
+use Rattle.std.proofs.Math.Seq.{get_or-append_seam}
+use Rattle.std.proofs.lemmas.Nat.{div_below}
+use Rattle.graph_core.proofs.ListLemmas.{length-push}
+use Rattle.gf_field.specs.Bit.{bit_mul}
+use Rattle.gf_field.specs.Polynomial.{coefficient}
+use Rattle.gf_field.specs.Quotient.{product}
+use Rattle.mult_products.specs.ProductBits.{x_to}
+use Rattle.mult_products.specs.TowerProduct.{factor_bit, Y_to}
+use Rattle.net_plan.specs.Plan.{Plan, begun, chain_net, gathered, where_so, with_chain}
+use Rattle.net_plan.proofs.EachLemmas.{each_keeps}
+use Rattle.net_rows.specs.Row.{Row, begun_row, row_by, row_of, with_nets}
+use Rattle.mult_composite.specs.Composite.{added_products, added_sums, all_products, bit_products, coefficient_product, composite_plan, pair_sums, reduced_sums}
+use Rattle.mult_composite.specs.private.HighPowers.{powers_from}
+
+-- one more list
+pub gathered_more : (f : ℕ → List ℕ) (q : ℕ) (list new more : List ℕ) → list ≡ gathered q f → new ≡ list ++ more → more ≡ f q → new ≡ gathered (q + 1) f
+gathered_more f q list new more before is here =
+    let one_more : suc q ≡ q + 1 = omega arith in
+    is ∙ ap (λ l. l ++ more) before ∙ ap (λ l. gathered q f ++ l) here ∙ ap (λ k. gathered k f) one_more
+
+-- the same lists in the same order
+gathered_same : (n : ℕ) (f h : ℕ → List ℕ) → ((q : ℕ) → q < n → f q ≡ h q) → gathered n f ≡ gathered n h
+gathered_same zero f h same = refl
+gathered_same (suc n) f h same = ap₂ (λ u v. u ++ v) (gathered_same n f h (λ q less. same q (omega arith))) (same n (omega arith))
+
+singles_long : (k : ℕ) (f : ℕ → ℕ) → length (gathered k (λ i. f i ∷ [])) ≡ k
+singles_long zero f = refl
+singles_long (suc k) f = length-push (gathered k (λ i. f i ∷ [])) (f k) ∙ omega (arith, singles_long k f)
+
+-- place i of a list of single values
+singles_at : (k : ℕ) (f : ℕ → ℕ) (i : ℕ) → i < k → slice_index (gathered k (λ i. f i ∷ [])) i ≡ f i
+singles_at zero f i less = absurd (omega arith)
+singles_at (suc k) f i less = elim (cases_lt i k) [
+  | inl earlier ↦ get_or_append_left (gathered k (λ i. f i ∷ [])) (f k ∷ []) 0 i (omega (arith, earlier, singles_long k f)) ∙ singles_at k f i earlier
+  | inr last ↦
+      let same : i ≡ k = omega (arith, less, last) in
+      let long : k ≡ length (gathered k (λ i. f i ∷ [])) = sym (singles_long k f) in
+      ap (λ j. slice_index (gathered k (λ i. f i ∷ []) ++ f k ∷ []) j) (same ∙ long) ∙ get_or-append_seam (gathered k (λ i. f i ∷ [])) (f k) [] 0 ∙ ap f (sym same)
+]
+
+-- what adds to a bit, where the list of powers is that of Y
+pub sums_done : (n g m t : ℕ) (powers sums : List ℕ) (e l q : ℕ) (list : List ℕ) → 1 ≤ n → list ≡ slice_index sums (e * n + l) ∷ gathered q (λ q. where_so (bit_at (product 1 n bit_mul g (x_to n g (q % n)) (coefficient n (slice_index powers (q / n)) e)) l == 1) (slice_index sums (m * n + q))) → q ≡ (m - 1) * n → powers ≡ powers_from n m (product 1 n bit_mul g) t (m - 1) → list ≡ added_sums n g m t sums e l
+sums_done n g m t powers sums e l q list some is done high =
+    is
+    ∙ ap (λ k. slice_index sums (e * n + l) ∷ gathered k (λ q. where_so (bit_at (product 1 n bit_mul g (x_to n g (q % n)) (coefficient n (slice_index powers (q / n)) e)) l == 1) (slice_index sums (m * n + q)))) done
+    ∙ ap (λ list. slice_index sums (e * n + l) ∷ list) (gathered_same ((m - 1) * n)
+    (λ q. where_so (bit_at (product 1 n bit_mul g (x_to n g (q % n)) (coefficient n (slice_index powers (q / n)) e)) l == 1) (slice_index sums (m * n + q)))
+    (λ q. where_so (factor_bit n g m t (m + q / n) e (q % n) l == 1) (slice_index sums (m * n + q)))
+    (λ q less. ap (λ y. where_so (bit_at (product 1 n bit_mul g (x_to n g (q % n)) (coefficient n y e)) l == 1) (slice_index sums (m * n + q)))
+    (ap (λ list. slice_index list (q / n)) high ∙ singles_at (m - 1) (λ i. Y_to n m (product 1 n bit_mul g) t (m + i)) (q / n) (div_below q n (m - 1) some less))))
+
+-- how many nets a row has
+row_long : (k : ℕ) (after : ℕ → Plan → Plan) (net : ℕ → Plan → ℕ) (plan : Plan) → length (row_by k after net plan).nets ≡ k
+row_long k after net plan =
+    each_keeps (λ j (row : Row). length row.nets ≡ j) (λ j row. record { plan = after j row.plan; nets = row.nets ++ net j row.plan ∷ [] }) (begun_row plan) k refl
+    (λ j row less long. length-push row.nets (net j row.plan) ∙ omega (arith, long))
+
+-- how many nets the products have
+pub all_long : (n g m : ℕ) (a b : List ℕ) (plan : Plan) → length (all_products n g m a b plan).nets ≡ m * m * n
+all_long n g m a b plan =
+    each_keeps (λ q (row : Row). length row.nets ≡ q * n) (λ q row. with_nets row.nets (coefficient_product n g a b (q / m) (q % m) row.plan)) (begun_row plan) (m * m) (sym (none n))
+    (λ q row less long. length-append row.nets (coefficient_product n g a b (q / m) (q % m) row.plan).nets ∙ ap₂ (λ u v. u + v) long (one (q / m) (q % m) row.plan) ∙ sym (suc-mul q n))
+  where
+    none : (k : ℕ) → 0 * k ≡ 0
+    none k = omega arith
+
+    one : (i j : ℕ) (p : Plan) → length (coefficient_product n g a b i j p).nets ≡ n
+    one i j p = row_long n (λ l. with_chain None (added_products n g p.next l)) (λ l so_far. chain_net None (added_products n g p.next l) so_far) (bit_products n a b i j p)
+
+-- the whole plan, step by step
+pub plan_done : (outer n g m t : ℕ) (a b z : List ℕ) (first second third last : Plan) (products sums : List ℕ) → first ≡ begun outer → second ≡ (all_products n g m a b first).plan → products ≡ (all_products n g m a b first).nets → third ≡ (pair_sums n m (row_of second products)).plan → sums ≡ (pair_sums n m (row_of second products)).nets → last ≡ reduced_sums n g m t z (row_of third sums) → last ≡ composite_plan outer n g m t a b z
+plan_done outer n g m t a b z first second third last products sums start is_products products_are is_sums sums_are is =
+    let made : row_of second products ≡ all_products n g m a b (begun outer) = ap₂ row_of is_products products_are ∙ ap (all_products n g m a b) start in
+    let summed : row_of third sums ≡ pair_sums n m (all_products n g m a b (begun outer)) = ap₂ row_of is_sums sums_are ∙ ap (pair_sums n m) made in
+    is ∙ ap (reduced_sums n g m t z) summed

@@ -1,0 +1,117 @@
+-- The bits of the products of coefficients.
+use Rattle.std.proofs.Math.Nat.{suc-mul}
+use Rattle.std.proofs.Common.{◌≡◌, ℕ, suc, sym, ◌∙◌, ap, ap₂, ◌<◌, ◌≤◌, ◌+◌, ◌*◌, ◌/◌, ◌%◌, inl, inr, arith, List, [], ◌∷◌, length, length-append, Bool, None, Some}
+use Rattle.std.specs.Prelude.{slice_get, slice_index, ◌==◌}
+use Rattle.std.specs.Int.{bit_at}
+use Rattle.std.proofs.lemmas.Bool.{cases_lt}
+use Rattle.std.proofs.lemmas.Option.{slice_get_within}
+use Rattle.std.proofs.lemmas.Nat.{div-mul-add, mod-mul-add, div_below, mod_below}
+use Rattle.gf_field.specs.Bit.{bit_mul}
+use Rattle.gf_field.specs.Modulus.{IsModulus}
+use Rattle.gf_field.specs.Polynomial.{coefficient}
+use Rattle.gf_field.specs.Quotient.{product}
+use Rattle.gf_field.specs.laws.PackingLaws.{coefficient_below}
+use Rattle.mult_products.specs.ProductBits.{x_to}
+use Rattle.mult_products.proofs.SumLemmas.{sum_same}
+use Rattle.mult_products.proofs.ProductBitLemmas.{product_bits}
+use Rattle.net_plan.specs.Plan.{Plan, with_and, with_chain, chain_net, where_so}
+use Rattle.net_plan.specs.PlanValue.{Agrees, bit_at_net, parity}
+use Rattle.net_plan.proofs.EachLemmas.{each_keeps}
+use Rattle.net_plan.proofs.ValueLemmas.{agrees_before, and_value, chain_before, chain_value, gathered_parity, where_parity}
+use Rattle.net_rows.specs.Row.{Row, begun_row, with_nets}
+use Rattle.net_rows.proofs.RowLemmas.{HaveBits, IsRowOf, value_in_row, have_none, have_append, row_values, row_before}
+use Rattle.mult_composite.specs.Composite.{bit_products, added_products, coefficient_product, all_products}
+use Rattle.mult_composite.proofs.PlaceLemmas.{sum_flat, coefficient_bit, place_below}
+
+bit_below : (a i : ℕ) → bit_at a i < 2
+bit_below a i = omega arith
+
+-- bit p % n of the product of coefficients p / n / m of x and p / n % m of y
+abbrev pub product_value : (n g m x y : ℕ) → ℕ → ℕ
+product_value n g m x y p = bit_at (product 1 n bit_mul g (coefficient n x (p / n / m)) (coefficient n y (p / n % m))) (p % n)
+
+module _ (bits : List Bool) (n g m x y : ℕ) (ok : IsModulus n g) (a b : List ℕ) (long_a : length a ≡ n * m) (long_b : length b ≡ n * m) (have_a : HaveBits bits a x) (have_b : HaveBits bits b y) where
+  abbrev mul : ℕ → ℕ → ℕ
+  mul = product 1 n bit_mul g
+
+  bit_in : (nets : List ℕ) (v i l : ℕ) → length nets ≡ n * m → HaveBits bits nets v → i < m → l < n → bit_at_net bits (slice_index nets (n * i + l)) ≡ bit_at (coefficient n v i) l
+  bit_in nets v i l long have hi hl =
+      value_in_row bits nets (bit_at v) (n * i + l) have (omega (arith, place_below n m i l hi hl, long)) ∙ sym (coefficient_bit n v i l hl)
+
+  -- the nets of the products of bits
+  pub record AreProducts (i j q : ℕ) (plan after : Plan) : Type 0 where
+    pub before : Agrees bits plan
+    pub values : (p : ℕ) → p < q → bit_at_net bits (plan.next + p) ≡ bit_at (coefficient n x i) (p / n) * bit_at (coefficient n y j) (p % n)
+
+  bit_products_next : (i j : ℕ) (plan : Plan) → (bit_products n a b i j plan).next ≡ plan.next + n * n
+  bit_products_next i j plan = each_keeps (λ q p. p.next ≡ plan.next + q) (λ q. with_and None (slice_index a (n * i + q / n)) (slice_index b (n * j + q % n))) plan (n * n) (omega arith) (λ q p less is. omega (arith, is))
+
+  bit_products_values : (i j : ℕ) (plan : Plan) → i < m → j < m → Agrees bits (bit_products n a b i j plan) → AreProducts i j (n * n) plan (bit_products n a b i j plan)
+  bit_products_values i j plan hi hj agrees =
+      let all = each_keeps (λ q p. (p.next ≡ plan.next + q) × (Agrees bits p → AreProducts i j q plan p)) (λ q. with_and None (slice_index a (n * i + q / n)) (slice_index b (n * j + q % n))) plan (n * n)
+      (omega arith, λ agrees. record { before = agrees; values = λ p less. absurd (omega (arith, less)) })
+      (λ q p less is. (omega (arith, is.0), more q p less is.0 is.1)) in
+      all.1 agrees
+    where
+      more : (q : ℕ) (p : Plan) → q < n * n → p.next ≡ plan.next + q → (Agrees bits p → AreProducts i j q plan p) → Agrees bits (with_and None (slice_index a (n * i + q / n)) (slice_index b (n * j + q % n)) p) → AreProducts i j (suc q) plan (with_and None (slice_index a (n * i + q / n)) (slice_index b (n * j + q % n)) p)
+      more q p less next kept agrees =
+          let before = kept (agrees_before bits None (slice_index a (n * i + q / n) ∷ slice_index b (n * j + q % n) ∷ []) 8 p agrees) in
+          record {
+            before = before.before;
+            values = λ l below. elim (cases_lt l q) [
+              | inl earlier ↦ before.values l earlier
+              | inr last ↦
+                  let same : l ≡ q = omega (arith, below, last) in
+                  let here : p.next ≡ plan.next + l = omega (arith, next, same) in
+                  ap (bit_at_net bits) (sym here)
+                  ∙ and_value bits None (slice_index a (n * i + q / n)) (slice_index b (n * j + q % n)) p agrees
+                  ∙ ap₂ (λ u v. u * v) (bit_in a x i (q / n) long_a have_a hi (div_below q n n ok.some less)) (bit_in b y j (q % n) long_b have_b hj (mod_below q n ok.some))
+                  ∙ ap (λ r. bit_at (coefficient n x i) (r / n) * bit_at (coefficient n y j) (r % n)) (sym same)
+            ];
+          }
+
+  -- those that add to a bit
+  added_parity : (i j l : ℕ) (plan : Plan) → AreProducts i j (n * n) plan (bit_products n a b i j plan) → parity bits (added_products n g plan.next l) ≡ bit_at (mul (coefficient n x i) (coefficient n y j)) l
+  added_parity i j l plan are =
+      gathered_parity bits (λ q. where_so (bit_at (x_to n g (q / n + q % n)) l == 1) (plan.next + q)) (n * n)
+      ∙ sum_same (n * n) (λ q. parity bits (where_so (bit_at (x_to n g (q / n + q % n)) l == 1) (plan.next + q))) (λ q. bit_at (coefficient n x i) (q / n) * bit_at (coefficient n y j) (q % n) * bit_at (x_to n g (q / n + q % n)) l)
+      (λ q less. where_parity bits (bit_at (x_to n g (q / n + q % n)) l) (plan.next + q) (bit_below (x_to n g (q / n + q % n)) l) ∙ ap (λ v. v * bit_at (x_to n g (q / n + q % n)) l) (are.values q less))
+      ∙ sum_flat n n (λ u v. bit_at (coefficient n x i) u * bit_at (coefficient n y j) v * bit_at (x_to n g (u + v)) l)
+      ∙ sym (product_bits n g ok (coefficient n x i) (coefficient n y j) l (coefficient_below n x i) (coefficient_below n y j))
+
+  product_values : (i j : ℕ) (plan : Plan) → i < m → j < m → Agrees bits (coefficient_product n g a b i j plan).plan → IsRowOf bits plan n (bit_at (mul (coefficient n x i) (coefficient n y j))) (coefficient_product n g a b i j plan)
+  product_values i j plan hi hj agrees =
+      let list : ℕ → List ℕ = λ l. added_products n g plan.next l in
+      let start : Plan = bit_products n a b i j plan in
+      let after : ℕ → Plan → Plan = λ l. with_chain None (added_products n g plan.next l) in
+      let net : ℕ → Plan → ℕ = λ l p. chain_net None (added_products n g plan.next l) p in
+      let before : (l : ℕ) (p : Plan) → Agrees bits (after l p) → Agrees bits p = λ l p. chain_before bits None (list l) p in
+      let are = bit_products_values i j plan hi hj (row_before bits after net n start before agrees) in
+      let values = row_values bits after net n start before (bit_at (mul (coefficient n x i) (coefficient n y j))) (λ l p less agrees. chain_value bits None (list l) p agrees ∙ added_parity i j l plan are) agrees in
+      record { before = are.before; long = values.long; have = values.have }
+
+  pub all_values : (plan : Plan) → 1 ≤ m → Agrees bits (all_products n g m a b plan).plan → IsRowOf bits plan (m * m * n) (product_value n g m x y) (all_products n g m a b plan)
+  all_values plan some =
+      each_keeps (λ q row. Agrees bits row.plan → IsRowOf bits plan (q * n) (product_value n g m x y) row) (λ q row. with_nets row.nets (coefficient_product n g a b (q / m) (q % m) row.plan)) (begun_row plan) (m * m)
+      (λ agrees. record { before = agrees; long = sym (none n); have = have_none bits (product_value n g m x y) })
+      (λ q row less kept agrees. more q row less kept (product_values (q / m) (q % m) row.plan (div_below q m m some less) (mod_below q m some) agrees))
+    where
+      none : (n : ℕ) → 0 * n ≡ 0
+      none n = omega arith
+
+      more : (q : ℕ) (row : Row) → q < m * m → (Agrees bits row.plan → IsRowOf bits plan (q * n) (product_value n g m x y) row) → IsRowOf bits row.plan n (bit_at (mul (coefficient n x (q / m)) (coefficient n y (q % m)))) (coefficient_product n g a b (q / m) (q % m) row.plan) → IsRowOf bits plan (suc q * n) (product_value n g m x y) (with_nets row.nets (coefficient_product n g a b (q / m) (q % m) row.plan))
+      more q row less kept is =
+          let before = kept is.before in
+          record {
+            before = before.before;
+            long = length-append row.nets (coefficient_product n g a b (q / m) (q % m) row.plan).nets ∙ ap₂ (λ u v. u + v) before.long is.long ∙ sym (suc-mul q n);
+            have = have_append bits row.nets (coefficient_product n g a b (q / m) (q % m) row.plan).nets (product_value n g m x y) before.have (λ l net got. is.have l net got ∙ sym (later l (omega (arith, within l net got, is.long))));
+          }
+        where
+          within : (l net : ℕ) → slice_get (coefficient_product n g a b (q / m) (q % m) row.plan).nets l ≡ Some net → l < length (coefficient_product n g a b (q / m) (q % m) row.plan).nets
+          within l net got = slice_get_within (coefficient_product n g a b (q / m) (q % m) row.plan).nets l net got
+
+          later : (l : ℕ) → l < n → (product_value n g m x y) (length row.nets + l) ≡ bit_at (mul (coefficient n x (q / m)) (coefficient n y (q % m))) l
+          later l low =
+              ap (λ k. (product_value n g m x y) (k + l)) (kept is.before).long
+              ∙ ap₂ (λ u v. bit_at (mul (coefficient n x (u / m)) (coefficient n y (u % m))) v) (div-mul-add q n l low) (mod-mul-add q n l low)

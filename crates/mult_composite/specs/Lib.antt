@@ -1,0 +1,3 @@
+pub mod Composite
+pub mod Form
+pub mod private

@@ -1,0 +1,39 @@
+//! Chains of nets, and how many inner nets they make.
+ghost use Rattle.std.specs.Prelude.{◌≡◌, ◌+◌, ◌≤◌, ◌++◌, None, Some, IfOk, OnOk, length};
+ghost use Rattle.net_plan.specs.Plan.{chain_net, where_so, with_chain};
+ghost use Rattle.net_plan.specs.PlanShape.{HasRoom};
+
+use net_plan::PlanMaker;
+use std::alloc::AllocError;
+
+// A chain of the nets drives the next inner net after those between.
+pub(crate) fn sum_of(plan: &mut PlanMaker, list: &[u32]) -> Result<u32, AllocError>
+    requires room { HasRoom plan.old (length list.now + 1) }
+    ensures net { IfOk result (λ n. n ≡ chain_net None list.now plan.old) }
+    ensures made { OnOk result (plan.new ≡ with_chain None list.now plan.old) }
+    ensures next { OnOk result (plan.new.next ≤ plan.old.next + (length list.now + 1)) }
+{
+    let net = plan.chain(list)?;
+    Ok(net)
+}
+
+// A chain of the nets drives an outer net.
+pub(crate) fn sum_into(plan: &mut PlanMaker, out: u32, list: &[u32]) -> Result<(), AllocError>
+    requires room { HasRoom plan.old (length list.now + 1) }
+    ensures made { OnOk result (plan.new ≡ with_chain (Some out) list.now plan.old) }
+    ensures next { OnOk result (plan.new.next ≤ plan.old.next + (length list.now + 1)) }
+{
+    plan.chain_into(out, list)?;
+    Ok(())
+}
+
+// Adds the net where it is chosen.
+pub(crate) fn push_where(list: &mut Vec<u32>, so: bool, net: u32) -> Result<(), AllocError>
+    ensures list { OnOk result (list.new.items ≡ list.old.items ++ where_so so net) }
+    ensures few { OnOk result (length list.new.items ≤ length list.old.items + 1) }
+{
+    if so {
+        list.push(net)?;
+    }
+    Ok(())
+}

@@ -1,0 +1,37 @@
+//! What the multiplier asks of a signature.
+ghost use Rattle.std.specs.Prelude.{◌≡◌, ◌≤◌, [], IfOk, OnOk, IsErrOf};
+ghost use Rattle.net_plan.specs.MadeNet.{outer_net};
+ghost use Rattle.net_make.specs.Form.{AllWide};
+ghost use Rattle.net_make.specs.Ports.{outer_names};
+ghost use Rattle.mult_composite.specs.Form.{HasCompositeForm};
+
+use mult_gen::MakeFault;
+use mult_ports::ports;
+use net_core::NetMaker;
+use net_make::all_poly;
+use net_signature::Signature;
+use std::alloc::Global;
+
+// The nets of the words, where the signature has the form.
+pub(crate) fn composite_ports(
+    alloc: Global,
+    signature: &Signature,
+    k: u32,
+) -> Result<NetMaker, MakeFault>
+    requires wide { AllWide k signature.now.words }
+    requires small { k ≤ 64 }
+    ensures maker { IfOk result (λ maker. maker ≡ outer_net (outer_names signature.now.words [])) }
+    ensures form { OnOk result (HasCompositeForm signature.now) }
+    ensures unfit { IsErrOf result MakeFault.Unfit → HasCompositeForm signature.now → ⊥ }
+{
+    if signature.tower().is_empty() {
+        return Err(MakeFault::Unfit);
+    }
+    if !signature.upper().is_empty() || !all_poly(signature.words()) {
+        return Err(MakeFault::Unfit);
+    }
+    match ports(alloc, signature, k, 2) {
+        Ok(maker) => Ok(maker),
+        Err(fault) => Err(fault),
+    }
+}

@@ -1,0 +1,163 @@
+//! The multiplier.
+ghost use Rattle.std.specs.Prelude.{◌≡◌, ◌*◌, ◌-◌, ◌≤◌, ◌^◌, ℕ, [], IfOk, OnOk, IsErrOf, length};
+ghost use Rattle.gf_field.specs.Bit.{bit_mul};
+ghost use Rattle.gf_field.specs.Quotient.{product};
+ghost use Rattle.gf_field.specs.Ring2k.{degree_of, modulus_of};
+ghost use Rattle.gf_basis.specs.Basis.{first_values};
+ghost use Rattle.gf_tower.specs.Tower.{tower_polynomial};
+ghost use Rattle.gf_tower.specs.TowerParts.{base_of, coefficients_of, size_of};
+ghost use Rattle.irreducible.specs.Proved.{ring_of};
+ghost use Rattle.net_core.specs.Sound.{IsSound};
+ghost use Rattle.net_plan.specs.MadeNet.{outer_net};
+ghost use Rattle.net_words.specs.declared.word.Role.TheVariants.{Input};
+ghost use Rattle.net_write.specs.Plain.{HasPlainNames};
+ghost use Rattle.net_make.specs.Computes.{ComputesOfTwo};
+ghost use Rattle.net_make.specs.Form.{AllWide, HasWords};
+ghost use Rattle.net_make.specs.MakerNames.{AreMakerNames};
+ghost use Rattle.net_make.specs.Ports.{outer_names};
+ghost use Rattle.mult_composite.specs.Composite.{composite_plan};
+ghost use Rattle.mult_composite.specs.Form.{HasCompositeForm, made_composite, plan_of_words};
+ghost use Rattle.mult_composite.specs.private.HighPowers.{AreHighPowers};
+
+use crate::form::composite_ports;
+use crate::powers::high_powers;
+use crate::products::all_products;
+use crate::sizes::{degree_below, size};
+use crate::sums::{pair_sums, reduced_sums};
+use gf_field::Ring2k;
+use gf_tower::Tower;
+use irreducible::Proved;
+use mult_gen::MakeFault;
+use mult_ports::{inputs, net_of, outer, outputs};
+use net_core::{Net, NetMaker};
+use net_plan::PlanMaker;
+use net_signature::Signature;
+use net_words::WordText;
+use std::alloc::{AllocError, Global};
+
+// The gates over nets of the factors and of the product.
+fn gates(
+    alloc: Global,
+    base: &Proved<Ring2k>,
+    n: usize,
+    m: usize,
+    powers: &[u64],
+    outer: u32,
+    a: &[u32],
+    b: &[u32],
+    z: &[u32],
+) -> Result<PlanMaker, AllocError>
+    requires degree { n ≡ degree_of (ring_of base.now) }
+    requires some { 1 ≤ n }
+    requires two { 2 ≤ m }
+    requires low { n ≤ 32 }
+    requires few { m ≤ 64 }
+    requires small { n * m ≤ 64 }
+    requires powers { length powers.now ≡ m - 1 }
+    requires first { length a.now ≡ n * m }
+    requires second { length b.now ≡ n * m }
+    requires targets { length z.now ≡ m * n }
+    requires count { length z.now ≤ 64 }
+    requires room { outer ≤ 192 }
+    ensures { IfOk result (λ plan. (t : ℕ) → AreHighPowers n m (product 1 n bit_mul (modulus_of (ring_of base.now))) t powers.now → plan ≡ composite_plan outer n (modulus_of (ring_of base.now)) m t a.now b.now z.now) }
+{
+    let mut plan = PlanMaker::new(alloc, outer);
+    let products = all_products(alloc, &mut plan, base, n, m, a, b)?;
+    let product_nets = products.as_slice();
+    let sums = pair_sums(alloc, &mut plan, n, m, product_nets)?;
+    let sum_nets = sums.as_slice();
+    reduced_sums(alloc, &mut plan, base, n, m, powers, z, sum_nets)?;
+    Ok(plan)
+}
+
+// The gates over the nets of the words.
+fn plan_of(
+    alloc: Global,
+    tower: &Tower<Proved<Ring2k>>,
+    n: usize,
+    m: usize,
+    words: &[WordText],
+) -> Result<PlanMaker, AllocError>
+    requires degree { n ≡ degree_of (ring_of (base_of tower.now)) }
+    requires size { m ≡ size_of tower.now }
+    requires some { 1 ≤ n }
+    requires two { 2 ≤ m }
+    requires low { n ≤ 32 }
+    requires few { m ≤ 64 }
+    requires small { n * m ≤ 64 }
+    requires words { HasWords Input 2 words.now }
+    requires wide { AllWide (n * m) words.now }
+    ensures { IfOk result (λ plan. plan ≡ plan_of_words n (modulus_of (ring_of (base_of tower.now))) m (tower_polynomial n (coefficients_of tower.now)) words.now) }
+{
+    let k = n * m;
+    let inputs = inputs(alloc, words, k as u32, 2)?;
+    let outputs = outputs(alloc, words, k as u32, 2)?;
+    let (a, b) = inputs.as_slice().split_at(k);
+    let first = outer(words, k as u32, 2);
+    let powers = high_powers(alloc, tower, n, m)?;
+    let power_list = powers.as_slice();
+    let z = outputs.as_slice();
+    let plan = gates(alloc, tower.base(), n, m, power_list, first, a, b, z)?;
+    Ok(plan)
+}
+
+// The net over the nets of the words.
+fn made(
+    alloc: Global,
+    tower: &Proved<Tower<Proved<Ring2k>>>,
+    n: usize,
+    m: usize,
+    maker: NetMaker,
+    words: &[WordText],
+) -> Result<Net, AllocError>
+    requires degree { n ≡ degree_of (ring_of (base_of (ring_of tower.now))) }
+    requires size { m ≡ size_of (ring_of tower.now) }
+    requires some { 1 ≤ n }
+    requires two { 2 ≤ m }
+    requires low { n ≤ 32 }
+    requires few { m ≤ 64 }
+    requires small { n * m ≤ 64 }
+    requires words { HasWords Input 2 words.now }
+    requires wide { AllWide (n * m) words.now }
+    requires names { AreMakerNames (outer_names words.now []) }
+    requires maker { maker ≡ outer_net (outer_names words.now []) }
+    ensures made { IfOk result (λ net. net ≡ made_composite n (modulus_of (ring_of (base_of (ring_of tower.now)))) m (tower_polynomial n (coefficients_of (ring_of tower.now))) words.now) }
+    ensures sound { IfOk result (λ net. IsSound net) }
+    ensures plain { IfOk result (λ net. HasPlainNames net) }
+    ensures computes { IfOk result (λ net. ComputesOfTwo (n * m) (product n m (product 1 n bit_mul (modulus_of (ring_of (base_of (ring_of tower.now))))) (tower_polynomial n (coefficients_of (ring_of tower.now)))) net words.now (first_values (n * m) (λ i. 2 ^ i)) 0 (product n m (product 1 n bit_mul (modulus_of (ring_of (base_of (ring_of tower.now))))) (tower_polynomial n (coefficients_of (ring_of tower.now))))) }
+{
+    let plan = plan_of(alloc, tower.ring(), n, m, words)?;
+    let net = net_of(alloc, maker, words, &plan)?;
+    Ok(net)
+}
+
+/// A netlist of the product A * B in a tower: the products of each coefficient of A and each of B, their sums by place, and
+/// for each bit of the product what reaches it. The words are two inputs and the output, all by `poly`, over a field with
+/// one tower, without feeds and blocks; their nets are different and have plain names of at most 128 bytes. Else it is
+/// `Unfit`. The field is the signature's, and each word has as many nets as its degree.
+/// Source: Paar, Efficient VLSI Architectures for Bit-Parallel Computation in Galois Fields, Essen, 1994.
+pub fn composite(
+    alloc: Global,
+    tower: &Proved<Tower<Proved<Ring2k>>>,
+    signature: &Signature,
+) -> Result<Net, MakeFault>
+    requires modulus { modulus_of (ring_of (base_of (ring_of tower.now))) ≡ signature.now.modulus }
+    requires tower { coefficients_of (ring_of tower.now) ≡ signature.now.tower }
+    requires wide { AllWide (degree_of (ring_of (base_of (ring_of tower.now))) * size_of (ring_of tower.now)) signature.now.words }
+    ensures made { IfOk result (λ net. net ≡ made_composite (degree_of (ring_of (base_of (ring_of tower.now)))) (modulus_of (ring_of (base_of (ring_of tower.now)))) (size_of (ring_of tower.now)) (tower_polynomial (degree_of (ring_of (base_of (ring_of tower.now)))) (coefficients_of (ring_of tower.now))) signature.now.words) }
+    ensures sound { IfOk result (λ net. IsSound net) }
+    ensures plain { IfOk result (λ net. HasPlainNames net) }
+    ensures computes { IfOk result (λ net. ComputesOfTwo (degree_of (ring_of (base_of (ring_of tower.now))) * size_of (ring_of tower.now)) (product (degree_of (ring_of (base_of (ring_of tower.now)))) (size_of (ring_of tower.now)) (product 1 (degree_of (ring_of (base_of (ring_of tower.now)))) bit_mul (modulus_of (ring_of (base_of (ring_of tower.now))))) (tower_polynomial (degree_of (ring_of (base_of (ring_of tower.now)))) (coefficients_of (ring_of tower.now)))) net signature.now.words (first_values (degree_of (ring_of (base_of (ring_of tower.now))) * size_of (ring_of tower.now)) (λ i. 2 ^ i)) 0 (product (degree_of (ring_of (base_of (ring_of tower.now)))) (size_of (ring_of tower.now)) (product 1 (degree_of (ring_of (base_of (ring_of tower.now)))) bit_mul (modulus_of (ring_of (base_of (ring_of tower.now))))) (tower_polynomial (degree_of (ring_of (base_of (ring_of tower.now)))) (coefficients_of (ring_of tower.now))))) }
+    ensures form { OnOk result (HasCompositeForm signature.now) }
+    ensures unfit { IsErrOf result MakeFault.Unfit → HasCompositeForm signature.now → ⊥ }
+{
+    let n = degree_below(tower.ring());
+    let m = size(tower.ring());
+    let k = n * m;
+    let maker = match composite_ports(alloc, signature, k as u32) {
+        Ok(maker) => maker,
+        Err(fault) => return Err(fault),
+    };
+    let net = made(alloc, tower, n, m, maker, signature.words())?;
+    Ok(net)
+}

@@ -1,0 +1,93 @@
+//! Powers of x and of Y.
+ghost use Rattle.std.specs.Prelude.{◌≡◌, ◌*◌, ◌-◌, ◌/◌, ◌%◌, ◌<◌, ◌≤◌, ◌^◌, IfOk, length, slice_index};
+ghost use Rattle.gf_field.specs.Polynomial.{coefficient};
+ghost use Rattle.gf_field.specs.Bit.{bit_mul};
+ghost use Rattle.gf_field.specs.Quotient.{product};
+ghost use Rattle.gf_field.specs.Ring2k.{degree_of, modulus_of};
+ghost use Rattle.irreducible.specs.Proved.{ring_of};
+ghost use Rattle.gf_tower.specs.Tower.{tower_polynomial};
+ghost use Rattle.gf_tower.specs.TowerParts.{base_of, coefficients_of, size_of};
+ghost use Rattle.mult_products.specs.Indeterminate.{x_of};
+ghost use Rattle.mult_products.specs.ProductBits.{x_to};
+ghost use Rattle.mult_composite.specs.private.HighPowers.{AreHighPowers};
+
+use crate::places::{coefficient_of, group_of};
+use gf_field::{Ring, Ring2k, power};
+use gf_tower::Tower;
+use irreducible::Proved;
+use std::alloc::{AllocError, Global};
+
+// The element x.
+fn indeterminate(base: &Proved<Ring2k>) -> u64
+    ensures is { result ≡ x_of (degree_of (ring_of base.now)) (modulus_of (ring_of base.now)) }
+    ensures element { result < 2 ^ degree_of (ring_of base.now) }
+{
+    if base.k() == 1 {
+        (base.ring().modulus() % 2) as u64
+    } else {
+        2
+    }
+}
+
+// x to the i.
+pub(crate) fn x_power(base: &Proved<Ring2k>, i: usize) -> u64
+    ensures power { result ≡ x_to (degree_of (ring_of base.now)) (modulus_of (ring_of base.now)) i }
+    ensures element { result < 2 ^ degree_of (ring_of base.now) }
+{
+    power(base, indeterminate(base), i as u64)
+}
+
+// The element Y.
+fn y_of(n: usize) -> u64
+    requires { n ≤ 32 }
+    ensures { result ≡ 2 ^ n }
+{
+    1 << n
+}
+
+// Y to the m, to the m + 1, .. and to the 2 * m - 2.
+pub(crate) fn high_powers(
+    alloc: Global,
+    tower: &Tower<Proved<Ring2k>>,
+    n: usize,
+    m: usize,
+) -> Result<Vec<u64>, AllocError>
+    requires degree { n ≡ degree_of (ring_of (base_of tower.now)) }
+    requires size { m ≡ size_of tower.now }
+    requires some { 1 ≤ n }
+    requires low { n ≤ 32 }
+    requires two { 2 ≤ m }
+    requires few { m ≤ 64 }
+    ensures long { IfOk result (λ powers. length powers.items ≡ m - 1) }
+    ensures powers { IfOk result (λ powers. AreHighPowers n m (product 1 n bit_mul (modulus_of (ring_of (base_of tower.now)))) (tower_polynomial n (coefficients_of tower.now)) powers.items) }
+{
+    let mut powers = Vec::new(alloc);
+    let y = y_of(n);
+    for i in 0..m - 1 {
+        let element = power(tower, y, (m + i) as u64);
+        powers.push(element)?;
+    }
+    Ok(powers)
+}
+
+// Coefficient e of the power of Y that place q, counted from coefficient m, is in, times the power of x that it is.
+pub(crate) fn factor(
+    base: &Proved<Ring2k>,
+    n: usize,
+    m: usize,
+    powers: &[u64],
+    e: usize,
+    q: usize,
+) -> u64
+    requires degree { n ≡ degree_of (ring_of base.now) }
+    requires some { 1 ≤ n }
+    requires coefficient { e < m }
+    requires place { q < (m - 1) * n }
+    requires small { n * m ≤ 64 }
+    requires long { length powers.now ≡ m - 1 }
+    ensures { result ≡ product 1 n bit_mul (modulus_of (ring_of base.now)) (x_to n (modulus_of (ring_of base.now)) (q % n)) (coefficient n (slice_index powers.now (q / n)) e) }
+{
+    let place = group_of(n, m - 1, q);
+    let digit = coefficient_of(n, m, powers[place], e);
+    base.mul(x_power(base, q % n), digit)
+}

@@ -1,0 +1,5 @@
+pub mod RoundLemmas
+pub mod ShapeLemmas
+pub mod RoomLemmas
+pub mod MadeLemmas
+pub mod Examples

@@ -1,0 +1,24 @@
+use Rattle.std.proofs.Common.{◌∙◌, ap, [], ◌∷◌, cond}
+use Rattle.std.proofs.lemmas.Result.{on_ok_weaker}
+use Rattle.poly_mixed.specs.Monomial.{text_cmp}
+use Rattle.poly_mixed.specs.Product.{union, with_rank}
+use Rattle.poly_mixed.specs.Sum.{plus}
+use Rattle.rato_reduce.specs.CutTerms.{of_bits}
+use Rattle.rato_reduce.proofs.CutPartLemmas.{pair_added}
+use Rattle.rato_reduce.proofs.cut.Cut.add_pair.Goals as goal
+
+pub returns : goal.returns
+returns c =
+    let t = c.args.term.now in
+    let old = c.args.self.now.terms in
+    let one = c.add_same.new.self.terms in
+    let high = c.add_with.new.self.terms in
+    let low = c.add_with-2.new.self.terms in
+    on_ok_weaker c.add_union.result (λ e.
+    pair_added old one high low c.add_union.new.self.terms c.args.form c.args.first c.args.second t
+    (c.in_ok-add_same.ensures ∙ ap (λ b. plus text_cmp old (cond b ((of_bits t.0.bits, t.1) ∷ []) [])) c.has_place-one.ensures)
+    (c.in_ok-add_with.ensures ∙ ap (λ b. plus text_cmp one (cond b ((of_bits (with_rank t.0.bits c.args.second), t.1) ∷ []) [])) c.has_place-high.ensures)
+    (c.in_ok-add_with-2.ensures ∙ ap (λ b. plus text_cmp high (cond b ((of_bits (with_rank t.0.bits c.args.first), t.1) ∷ []) [])) c.has_place-low.ensures)
+    (e
+    ∙ ap (λ rs. plus text_cmp low (cond c.has_place-all.result ((of_bits (union t.0.bits rs), t.1) ∷ []) [])) c.requires.both
+    ∙ ap (λ b. plus text_cmp low (cond b ((of_bits (union t.0.bits (with_rank (c.args.first ∷ []) c.args.second)), t.1) ∷ []) [])) c.has_place-all.ensures)) c.add_union.ensures
