@@ -1,0 +1,94 @@
+-- The net for a signature that has the form.
+use Rattle.std.proofs.Common.{◌≡◌, ◌∙◌, ap, ap₂, sym, refl, subst, ℕ, ◌≤◌, ◌^◌, List, [], length, take, length-append, Option, None, Some, IfSome, arith}
+use Rattle.std.specs.Prelude.{IsSome}
+use Rattle.std.proofs.lemmas.List.{length-take-le, take-map}
+use Rattle.gf_field.specs.Bit.{bit_mul}
+use Rattle.gf_field.specs.Field.{HasNoZeroDivisors}
+use Rattle.gf_field.specs.Modulus.{IsModulus}
+use Rattle.gf_field.specs.Quotient.{product}
+use Rattle.gf_field.specs.Ring.{IsRing}
+use Rattle.net_core.specs.NetList.{NetList}
+use Rattle.net_words.specs.declared.feed.FeedText.{FeedText}
+use Rattle.net_words.specs.declared.word.Role.TheVariants.{Output}
+use Rattle.net_words.specs.declared.word.WordText.{WordText}
+use Rattle.net_signature.specs.Signature.{SignatureValue}
+use Rattle.net_write.specs.Plain.{HasPlainNames}
+use Rattle.net_plan.proofs.LabelLemmas.{map_long}
+use Rattle.net_make.specs.MakerNames.{AreMakerNames}
+use Rattle.net_make.specs.Ports.{outer_names, role_nets, word_names}
+use Rattle.net_make.proofs.MadeLemmas.{made_plain}
+use Rattle.mult_products.specs.Indeterminate.{x_of}
+use Rattle.mult_products.proofs.IndeterminateLemmas.{power_x}
+use Rattle.mult_serial.specs.DigitRegisters.{HasUnitPowers}
+use Rattle.mult_runs.specs.DigitNets.{unit_basis}
+use Rattle.mult_digit.specs.ComputesFed.{ComputesFed}
+use Rattle.mult_digit.specs.DigitForm.{AllUnfedWide, AreDigitWords, HasDigitForm, digit_names, fed_names}
+use Rattle.mult_digit.specs.DigitNet.{digit_net, digit_sums_of, net_over}
+use Rattle.mult_digit.specs.DigitPlan.{digit_latches}
+use Rattle.mult_digit.specs.IsDigitNet.{IsDigitNet}
+use Rattle.mult_digit.specs.private.Front.{IsFront}
+use Rattle.mult_digit.proofs.BindingLemmas.{factor_low, fits}
+use Rattle.mult_digit.proofs.FormLemmas.{one_width}
+use Rattle.mult_digit.proofs.JobLemmas.{computes}
+use Rattle.mult_digit.proofs.WordLemmas.{names_long}
+
+-- what holds of a net with names that fit
+pub some_fits : (found : Option NetList) (N : Type 0) (P Q : NetList → Type 0) → (IsSome found → N) → ((net : NetList) → N → P net → Q net) → IfSome found P → IfSome found Q
+some_fits None N P Q names each is = tt
+some_fits (Some net) N P Q names each is = each net (names refl) is
+
+-- the powers of x below the degree
+pub unit_powers : (k g : ℕ) → IsModulus k g → HasUnitPowers k (product 1 k bit_mul g) (x_of k g)
+unit_powers k g modulus i less = power_x k g i modulus less
+
+-- there is room for the names
+pub few_names : (k : ℕ) (words : List WordText) (front : List FeedText) → AreDigitWords words → AllUnfedWide k words → k ≤ 64 → length front ≤ k → length (outer_names words (fed_names front)) ≤ 2 ^ 20
+few_names k words front are wide small narrow =
+    omega (arith, length-append (word_names words) (fed_names front), names_long k words are wide, map_long (λ (f : FeedText). f.net) front, small, narrow)
+
+module _ (k : ℕ) (mul : ℕ → ℕ → ℕ) (ring : IsRing k mul) (field : HasNoZeroDivisors k mul) (x : ℕ) (units : HasUnitPowers k mul x) (width : ℕ) (signature : SignatureValue) (is : IsFront k width signature) (wide : AllUnfedWide k signature.words)
+    (words : List WordText) (words_are : words ≡ signature.words) (feeds front : List FeedText) (feeds_are : feeds ≡ signature.feeds) (front_is : front ≡ take width feeds)
+  where
+    pub width_low : width ≤ length feeds
+    width_low = let low = factor_low width is.feeds.count k ring.some is.feeds.whole in omega (arith, low, is.feeds.long, ap (λ fs. length fs) feeds_are)
+
+    pub front_long : length front ≡ width
+    front_long = ap (λ fs. length fs) front_is ∙ length-take-le width feeds width_low
+
+    pub front_low : length front ≤ k
+    front_low = let low = factor_low width is.feeds.count k ring.some is.feeds.whole in omega (arith, low, front_long)
+
+    front_names : fed_names front ≡ digit_names width signature.feeds
+    front_names = ap fed_names front_is ∙ (sym (take-map (λ (f : FeedText). f.net) width feeds) ∙ ap (λ fs. take width (fed_names fs)) feeds_are)
+
+    outer_same : outer_names words (fed_names front) ≡ outer_names signature.words (digit_names width signature.feeds)
+    outer_same = ap₂ outer_names words_are front_names
+
+    pub form_from : AreMakerNames (outer_names words (fed_names front)) → HasDigitForm k signature
+    form_from names = record { tower = is.tower; upper = is.upper; blocks = is.blocks; words = is.words; width = width; feeds = is.feeds; names = subst AreMakerNames outer_same names }
+
+    pub names_from : HasDigitForm k signature → AreMakerNames (outer_names words (fed_names front))
+    names_from form =
+        let same : form.width ≡ width = one_width k form.width width signature.feeds ring.some form.feeds is.feeds in
+        subst AreMakerNames (sym outer_same) (subst (λ (w : ℕ). AreMakerNames (outer_names signature.words (digit_names w signature.feeds))) same form.names)
+
+    module _ (names : AreMakerNames (outer_names words (fed_names front))) (net : NetList) (net_is : net ≡ net_over k mul x (length front) words (fed_names front)) where
+      net_same : net ≡ digit_net k mul x width signature.words signature.feeds
+      net_same =
+          net_is
+          ∙ (ap (λ w. net_over k mul x w words (fed_names front)) front_long
+          ∙ ap₂ (net_over k mul x width) words_are front_names)
+
+      pub digit_made : IsDigitNet k mul x signature net
+      unfolding form_from
+      digit_made = record {
+        form = form_from names;
+        is = net_same;
+        product = subst (λ (n : NetList). ComputesFed k mul n signature.words signature.feeds (unit_basis k) is.feeds.count mul) (sym net_same)
+            (computes k mul ring field x units width signature.words signature.feeds is.words wide is.feeds (subst AreMakerNames outer_same names));
+      }
+
+      pub digit_plain : HasPlainNames net
+      digit_plain = subst HasPlainNames (sym net_same)
+          (made_plain signature.words (digit_names width signature.feeds) (digit_latches k (digit_sums_of k mul x width signature.words).nets (role_nets Output 0 signature.words)) [] (digit_sums_of k mul x width signature.words).plan
+          (subst AreMakerNames outer_same names) (fits k mul x width signature.words signature.feeds is.words wide ring.some ring.small is.feeds (subst AreMakerNames outer_same names)))

@@ -1,0 +1,131 @@
+//! The multiplier.
+ghost use Rattle.std.specs.Prelude.{◌≡◌, ◌↔◌, ◌≤◌, ◌<◌, ◌^◌, IfOk, IfSome, IsSome, length, take};
+ghost use Rattle.gf_field.specs.Ring2k.{degree_of, modulus_of};
+ghost use Rattle.gf_field.specs.Bit.{bit_mul};
+ghost use Rattle.gf_field.specs.Quotient.{product};
+ghost use Rattle.irreducible.specs.Proved.{ring_of};
+ghost use Rattle.net_core.specs.Sound.{IsSound};
+ghost use Rattle.net_write.specs.Plain.{HasPlainNames};
+ghost use Rattle.net_plan.specs.MadeNet.{outer_net};
+ghost use Rattle.net_make.specs.Made.{made_of};
+ghost use Rattle.net_make.specs.MakerNames.{AreMakerNames};
+ghost use Rattle.net_make.specs.Ports.{outer_names};
+ghost use Rattle.mult_products.specs.Indeterminate.{x_of};
+ghost use Rattle.mult_digit.specs.DigitForm.{AllUnfedWide, AreDigitWords, HasDigitForm, fed_names};
+ghost use Rattle.mult_digit.specs.DigitNet.{net_over};
+ghost use Rattle.mult_digit.specs.IsDigitNet.{IsDigitNet};
+ghost use Rattle.mult_digit.specs.private.Front.{IsFront};
+
+use crate::form::{are_words, width_of};
+use crate::held::{digit_nets, latches};
+use crate::sums::digit_sums;
+use gf_field::{Ring, Ring2k};
+use irreducible::Proved;
+use net_core::{Net, NetMaker};
+use net_make::{count_of, make, outer_nets, role_nets};
+use net_signature::Signature;
+use net_words::{FeedText, Role, WordText};
+use std::alloc::{AllocError, Global};
+
+// The element x.
+fn indeterminate(ring: &Proved<Ring2k>) -> u64
+    ensures is { result ≡ x_of (degree_of (ring_of ring.now)) (modulus_of (ring_of ring.now)) }
+    ensures element { result < 2 ^ degree_of (ring_of ring.now) }
+{
+    if ring.k() == 1 {
+        (ring.ring().modulus() % 2) as u64
+    } else {
+        2
+    }
+}
+
+// The net over these words and the nets that the lines of the first cycle feed; all these nets were made.
+fn made(
+    alloc: Global,
+    ring: &Proved<Ring2k>,
+    maker: NetMaker,
+    words: &[WordText],
+    front: &[FeedText],
+) -> Result<Net, AllocError>
+    requires words { AreDigitWords words.now }
+    requires wide { AllUnfedWide (degree_of (ring_of ring.now)) words.now }
+    requires narrow { length front.now ≤ degree_of (ring_of ring.now) }
+    requires names { AreMakerNames (outer_names words.now (fed_names front.now)) }
+    requires maker { maker ≡ outer_net (outer_names words.now (fed_names front.now)) }
+    ensures { IfOk result (λ net. net ≡ net_over (degree_of (ring_of ring.now)) (product 1 (degree_of (ring_of ring.now)) bit_mul (modulus_of (ring_of ring.now))) (x_of (degree_of (ring_of ring.now)) (modulus_of (ring_of ring.now))) (length front.now) words.now (fed_names front.now)) }
+{
+    let first = count_of(words);
+    let width = front.len() as u32;
+    let d = digit_nets(alloc, first, width)?;
+    let b = role_nets(alloc, words, Role::Input)?;
+    let z = role_nets(alloc, words, Role::Output)?;
+    let x = indeterminate(ring);
+    let (plan, sums) = digit_sums(alloc, ring, x, first + width, &d, &b, &z)?;
+    let list = latches(alloc, &sums, &z)?;
+    let net = make(alloc, maker, words, front, &list, &plan)?;
+    Ok(net)
+}
+
+// The number of bits of a digit, where the signature has the form but for the names of its nets.
+fn digit_width(k: u32, signature: &Signature) -> Option<u32>
+    requires some { 1 ≤ k }
+    requires few { k ≤ 64 }
+    ensures some { IfSome result (λ width. IsFront k width signature.now) }
+    ensures none { HasDigitForm k signature.now → IsSome result }
+{
+    if !signature.tower().is_empty() || !signature.upper().is_empty() {
+        return None;
+    }
+    if !signature.blocks().is_empty() || !are_words(signature.words()) {
+        return None;
+    }
+    width_of(k, signature.feeds())
+}
+
+// The net over these words and the nets that the lines of the first cycle feed; none where the names of these nets do not
+// fit.
+fn over(
+    alloc: Global,
+    ring: &Proved<Ring2k>,
+    words: &[WordText],
+    front: &[FeedText],
+) -> Result<Option<Net>, AllocError>
+    requires words { AreDigitWords words.now }
+    requires wide { AllUnfedWide (degree_of (ring_of ring.now)) words.now }
+    requires narrow { length front.now ≤ degree_of (ring_of ring.now) }
+    ensures names { IfOk result (λ found. IsSome found ↔ AreMakerNames (outer_names words.now (fed_names front.now))) }
+    ensures made { IfOk result (λ found. IfSome found (λ net. net ≡ net_over (degree_of (ring_of ring.now)) (product 1 (degree_of (ring_of ring.now)) bit_mul (modulus_of (ring_of ring.now))) (x_of (degree_of (ring_of ring.now)) (modulus_of (ring_of ring.now))) (length front.now) words.now (fed_names front.now))) }
+{
+    match outer_nets(alloc, words, front)? {
+        Some(maker) => {
+            let net = made(alloc, ring, maker, words, front)?;
+            Ok(Some(net))
+        }
+        None => Ok(None),
+    }
+}
+
+/// The multiplier that takes its first factor digit by digit, the highest digit first: `A * B` stands in the output word after
+/// k / D cycles, where digits have D bits. A is the signature's fed word and B its input word. It gives none exactly where the
+/// signature has not the form, and answers nothing but this and want of memory. Each word that is not fed has as many nets as
+/// the field has bits.
+pub fn digit_serial(
+    alloc: Global,
+    ring: &Proved<Ring2k>,
+    signature: &Signature,
+) -> Result<Option<Net>, AllocError>
+    requires { AllUnfedWide (degree_of (ring_of ring.now)) signature.now.words }
+    ensures form { IfOk result (λ found. IsSome found ↔ HasDigitForm (degree_of (ring_of ring.now)) signature.now) }
+    ensures made { IfOk result (λ found. IfSome found (λ net. IsDigitNet (degree_of (ring_of ring.now)) (product 1 (degree_of (ring_of ring.now)) bit_mul (modulus_of (ring_of ring.now))) (x_of (degree_of (ring_of ring.now)) (modulus_of (ring_of ring.now))) signature.now net)) }
+    ensures sound { IfOk result (λ found. IfSome found (λ net. IsSound net)) }
+    ensures names { IfOk result (λ found. IfSome found (λ net. HasPlainNames net)) }
+{
+    match digit_width(ring.k(), signature) {
+        Some(width) => {
+            let front = &signature.feeds()[..width as usize];
+            let net = over(alloc, ring, signature.words(), front)?;
+            Ok(net)
+        }
+        None => Ok(None),
+    }
+}

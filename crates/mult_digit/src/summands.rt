@@ -1,0 +1,119 @@
+//! The nets whose sum a bit of the product takes.
+ghost use Rattle.std.specs.Prelude.{◌≡◌, ◌==◌, ◌+◌, ◌*◌, ◌++◌, ◌<◌, ◌≤◌, ◌^◌, OnOk, IfOk, length};
+ghost use Rattle.std.specs.Int.{bit_at};
+ghost use Rattle.gf_field.specs.Power.{power};
+ghost use Rattle.net_plan.specs.Plan.{gathered, where_so};
+ghost use Rattle.mult_runs.specs.Held.{net_at};
+ghost use Rattle.mult_digit.specs.DigitPlan.{product_net, summands as summands_of};
+ghost use Rattle.mult_digit.specs.private.Powers.{ArePowers};
+
+use crate::powers::has_bit;
+use gf_field::Ring;
+use std::alloc::{AllocError, Global};
+
+// The net, where the condition holds.
+fn push_where(list: &mut Vec<u32>, so: bool, net: u32) -> Result<(), AllocError>
+    ensures { OnOk result (list.new.items ≡ list.old.items ++ where_so so net) }
+{
+    if so {
+        list.push(net)?;
+    }
+    Ok(())
+}
+
+// The bits i of z for which bit l of x^(i + D) is 1.
+fn add_registers<R: Ring>(
+    ring: &R,
+    x: u64,
+    powers: &[u64; 128],
+    width: u32,
+    z: &[u32],
+    l: u32,
+    list: &mut Vec<u32>,
+) -> Result<(), AllocError>
+    requires powers { ArePowers (R.product ring.now) x powers.now }
+    requires width { width ≤ 64 }
+    requires few { length z.now ≤ 64 }
+    requires place { l < 64 }
+    ensures { OnOk result (list.new.items ≡ list.old.items ++ gathered (length z.now) (λ i. where_so (bit_at (power (R.product ring.now) x (i + width)) l == 1) (net_at z.now i))) }
+{
+    for i in 0..z.len() {
+        let so = has_bit(ring, x, powers, i as u32 + width, l);
+        push_where(list, so, z[i])?;
+    }
+    Ok(())
+}
+
+// The products of bits e and j for which bit l of x^(e + j) is 1.
+fn add_row<R: Ring>(
+    ring: &R,
+    x: u64,
+    powers: &[u64; 128],
+    first: u32,
+    k: u32,
+    e: u32,
+    l: u32,
+    list: &mut Vec<u32>,
+) -> Result<(), AllocError>
+    requires powers { ArePowers (R.product ring.now) x powers.now }
+    requires first { first ≤ 1024 }
+    requires few { k ≤ 64 }
+    requires row { e < 64 }
+    requires place { l < 64 }
+    ensures { OnOk result (list.new.items ≡ list.old.items ++ gathered k (λ j. where_so (bit_at (power (R.product ring.now) x (e + j)) l == 1) (product_net first k e j))) }
+{
+    for j in 0..k {
+        let so = has_bit(ring, x, powers, e + j, l);
+        push_where(list, so, first + k * e + j)?;
+    }
+    Ok(())
+}
+
+// The products of all bits e and j for which bit l of x^(e + j) is 1.
+fn add_products<R: Ring>(
+    ring: &R,
+    x: u64,
+    powers: &[u64; 128],
+    first: u32,
+    k: u32,
+    width: u32,
+    l: u32,
+    list: &mut Vec<u32>,
+) -> Result<(), AllocError>
+    requires powers { ArePowers (R.product ring.now) x powers.now }
+    requires first { first ≤ 1024 }
+    requires few { k ≤ 64 }
+    requires width { width ≤ 64 }
+    requires place { l < 64 }
+    ensures { OnOk result (list.new.items ≡ list.old.items ++ gathered width (λ e. gathered k (λ j. where_so (bit_at (power (R.product ring.now) x (e + j)) l == 1) (product_net first k e j)))) }
+{
+    for e in 0..width {
+        add_row(ring, x, powers, first, k, e, l, list)?;
+    }
+    Ok(())
+}
+
+/// The nets whose sum bit l of the product takes, where products are numbered from `first` and digits have `width` bits.
+pub(crate) fn summands<R: Ring>(
+    alloc: Global,
+    ring: &R,
+    x: u64,
+    powers: &[u64; 128],
+    first: u32,
+    width: u32,
+    z: &[u32],
+    l: u32,
+) -> Result<Vec<u32>, AllocError>
+    requires powers { ArePowers (R.product ring.now) x powers.now }
+    requires first { first ≤ 1024 }
+    requires z_long { length z.now ≡ R.degree ring.now }
+    requires width { width ≤ 64 }
+    requires place { l < 64 }
+    ensures few { IfOk result (λ list. length list.items ≤ 4160) }
+    ensures are { IfOk result (λ list. list.items ≡ summands_of first (R.degree ring.now) (R.product ring.now) x width z.now l) }
+{
+    let mut list = Vec::new(alloc);
+    add_registers(ring, x, powers, width, z, l, &mut list)?;
+    add_products(ring, x, powers, first, ring.k(), width, l, &mut list)?;
+    Ok(list)
+}
