@@ -14,6 +14,8 @@ use Rattle.net_make.proofs.FormLemmas.{words_one_of}
 use Rattle.net_signature.specs.Signature.{SignatureValue}
 use Rattle.net_words.specs.Binding.{AreWords}
 use Rattle.net_words.specs.declared.feed.FeedText.{FeedText}
+use Rattle.net_words.specs.declared.feed.Source.{Source}
+use Rattle.net_words.specs.declared.feed.Source.TheVariants as source
 use Rattle.net_words.specs.declared.word.BasisText.TheVariants as basis
 use Rattle.net_words.specs.declared.word.Role.{Role}
 use Rattle.net_words.specs.declared.word.Role.TheVariants as role
@@ -43,11 +45,12 @@ use Rattle.mult_normal.specs.NormalPlan.{normal_latches, products_from, sum_net,
 use Rattle.mult_normal.proofs.CoordinateLemmas.{coordinates_are, counts_are}
 use Rattle.mult_digit.specs.DigitForm.{AllUnfedWide, HasDigitForm}
 use Rattle.mult_digit.specs.DigitNet.{digit_net}
+use Rattle.mult_digit.specs.IsDigitNet.{IsDigitNet}
 use Rattle.job_words.specs.declared.kind.Kind.{Kind}
 use Rattle.job_words.specs.declared.kind.Kind.TheVariants.{Mastrovito, Montgomery, Composite, Normal, Adder, Squarer, Digit}
 use Rattle.job_input.specs.SettingSound.{IsSoundSetting}
 use Rattle.job_input.specs.SettingValue.{SettingValue}
-use Rattle.gf_abs.specs.commands.Make.{HasFormOf, IsMade, IsMadeNormal, IsOverBase, MadeOf, MakeAnswer, base_degree, digit_width, element_of, first_conjugates, first_element, first_place, place_in}
+use Rattle.gf_abs.specs.commands.Make.{HasFormOf, IsMade, IsMadeNormal, IsOverBase, MadeOf, MakeAnswer, base_degree, element_of, first_conjugates, first_element}
 use Rattle.gf_abs.specs.private.Making.{FirstIsNormal, HasRingForm, IsOfRing, IsRingNet, IsUnfed}
 use Rattle.gf_abs.proofs.IsoLemmas.{field_modulus, field_tower}
 
@@ -71,6 +74,44 @@ module _ (k : ℕ) (mul : ℕ → ℕ → ℕ) (ring : IsRing k mul) (field : Ha
       let n = length (word_names words) in
       ap (λ (counts : ℕ → ℕ → Bool). made_of words [] (normal_latches k (sum_net (products_from n k counts a b)) a b z) (summed (products_from n k counts a b))) (λ t i j. same_counts i j t)
 
+-- ---- one width of digits
+
+-- the place that a source stands for, and the first of feeds
+place_in : Source → ℕ
+place_in source.Zero = 0
+place_in source.One = 0
+place_in (source.Bit word place) = place
+
+first_place : List FeedText → ℕ
+unfolding place_in
+first_place [] = 0
+first_place (feed ∷ feeds) = place_in feed.source
+
+first_of : (k width : ℕ) (feeds : List FeedText) → width ≤ k → ((feed : FeedText) → slice_get feeds 0 ≡ Some feed → place_in feed.source ≡ k - width) → 1 ≤ length feeds → k - first_place feeds ≡ width
+unfolding place_in first_place
+first_of k width [] most is some = absurd (omega (arith, some))
+first_of k width (feed ∷ feeds) most is some = let place = is feed refl in omega (arith, place, most)
+
+-- a digit is no wider than the word
+width_low : (k width count : ℕ) → k ≡ width * count → 1 ≤ k → width ≤ k
+width_low k width zero whole some = absurd (let none : width * 0 ≡ 0 = mul_comm width 0 ∙ zero-mul width in omega (arith, some, whole, none))
+width_low k width (suc count) whole some =
+    let more : 1 * width ≤ suc count * width = mul-le-mul_right {m = 1} {n = suc count} width (omega arith) in
+    omega (arith, whole, mul_comm width (suc count), more, one-mul width)
+
+digits_width : (k : ℕ) (signature : SignatureValue) → 1 ≤ k → (form : HasDigitForm k signature) → k - first_place signature.feeds ≡ form.width
+unfolding place_in
+digits_width k signature some form =
+    let feeds = form.feeds in
+    let low = width_low k form.width feeds.count feeds.whole some in
+    first_of k form.width signature.feeds low (λ feed at.
+    ap place_in (feeds.each 0 feed at).source ∙ (let none : 0 / form.width ≡ 0 = zero-div form.width in let rest : 0 % form.width ≡ 0 = zero-mod form.width in
+    (λ i. k - form.width * suc (none i) + rest i) ∙ (let once : form.width * 1 ≡ form.width = mul_comm form.width 1 ∙ one-mul form.width in omega (arith, once)))) (omega (arith, feeds.long, some))
+
+same_digits : (k : ℕ) (mul : ℕ → ℕ → ℕ) (x : ℕ) (signature : SignatureValue) → 1 ≤ k → (a b : NetList) → IsDigitNet k mul x signature a → IsDigitNet k mul x signature b → a ≡ b
+same_digits k mul x signature some a b h g =
+    h.is ∙ ap (λ width. digit_net k mul x width signature.words signature.feeds) (sym (digits_width k signature some h.form) ∙ digits_width k signature some g.form) ∙ sym g.is
+
 -- ---- one answer
 
 one_made : (setting : SettingValue) → IsSoundSetting setting → (kind : Kind) (a b : NetList) → IsMade setting kind a → IsMade setting kind b → a ≡ b
@@ -80,7 +121,7 @@ one_made setting sound Composite a b h g = h ∙ sym g
 one_made setting sound Normal a b h g = h.net_is ∙ same_normal setting.k setting.product sound.ring sound.field h.basis g.basis h.over g.over (h.elements ∙ sym g.elements) setting.signature.words ∙ sym g.net_is
 one_made setting sound Adder a b h g = h ∙ sym g
 one_made setting sound Squarer a b h g = h ∙ sym g
-one_made setting sound Digit a b h g = h ∙ sym g
+one_made setting sound Digit a b h g = same_digits setting.k (product 1 setting.k bit_mul setting.signature.modulus) (x_of setting.k setting.signature.modulus) setting.signature sound.ring.some a b h g
 
 made_determined : (setting : SettingValue) → IsSoundSetting setting → (kind : Kind) → Determined (MadeOf setting kind)
 made_determined setting sound kind (Ok a) (Ok b) h g = ap Ok (one_made setting sound kind a b h.1 g.1)
@@ -177,26 +218,6 @@ ring_made setting Digit base net is = absurd base
 pub no_base : (setting : SettingValue) (kind : Kind) → IsOfRing kind → ((d : ℕ) → IsFieldModulus d setting.signature.modulus → setting.signature.tower ≡ [] → ⊥) → HasFormOf setting kind → ⊥
 no_base setting kind base none form = let is = of_ring_form setting kind base form in none setting.k is.modulus is.no_tower
 
--- the width of digits
-first_of : (k width : ℕ) (feeds : List FeedText) → width ≤ k → ((feed : FeedText) → slice_get feeds 0 ≡ Some feed → place_in feed.source ≡ k - width) → 1 ≤ length feeds → k - first_place feeds ≡ width
-first_of k width [] most is some = absurd (omega (arith, some))
-first_of k width (feed ∷ feeds) most is some = let place = is feed refl in omega (arith, place, most)
-
--- a digit is no wider than the word
-width_low : (k width count : ℕ) → k ≡ width * count → 1 ≤ k → width ≤ k
-width_low k width zero whole some = absurd (let none : width * 0 ≡ 0 = mul_comm width 0 ∙ zero-mul width in omega (arith, some, whole, none))
-width_low k width (suc count) whole some =
-    let more : 1 * width ≤ suc count * width = mul-le-mul_right {m = 1} {n = suc count} width (omega arith) in
-    omega (arith, whole, mul_comm width (suc count), more, one-mul width)
-
-pub digits_width : (k : ℕ) (signature : SignatureValue) → 1 ≤ k → (form : HasDigitForm k signature) → k - first_place signature.feeds ≡ form.width
-digits_width k signature some form =
-    let feeds = form.feeds in
-    let low = width_low k form.width feeds.count feeds.whole some in
-    first_of k form.width signature.feeds low (λ feed at.
-    ap place_in (feeds.each 0 feed at).source ∙ (let none : 0 / form.width ≡ 0 = zero-div form.width in let rest : 0 % form.width ≡ 0 = zero-mod form.width in
-    (λ i. k - form.width * suc (none i) + rest i) ∙ (let once : form.width * 1 ≡ form.width = mul_comm form.width 1 ∙ one-mul form.width in omega (arith, once)))) (omega (arith, feeds.long, some))
-
 -- the field of a degree and a modulus
 module _ (setting : SettingValue) (k g : ℕ) (fits : IsModulus k g) (field : HasNoZeroDivisors k (product 1 k bit_mul g)) (same : g ≡ setting.signature.modulus) (no_tower : setting.signature.tower ≡ []) where
   other_field : (HasForm : SignatureValue → Type 0) → (k ≡ setting.k → ⊥) → IsOverBase HasForm setting → ⊥
@@ -234,10 +255,11 @@ module _ (setting : SettingValue) (k g : ℕ) (fits : IsModulus k g) (field : Ha
   pub digits_form : k ≡ setting.k → HasDigitForm k setting.signature → HasFormOf setting Digit
   digits_form degree form = let P : ℕ → Type 0 = λ d. HasDigitForm d setting.signature in same_field (HasDigitForm setting.k) degree (subst P degree form)
 
-  pub digits_net : k ≡ setting.k → (form : HasDigitForm k setting.signature) → (net : NetList) → net ≡ digit_net k (product 1 k bit_mul g) (x_of k g) form.width setting.signature.words setting.signature.feeds → IsMade setting Digit net
-  digits_net degree form net is =
-      let width : form.width ≡ digit_width setting = sym (digits_width k setting.signature fits.some form) ∙ ap (λ n. n - first_place setting.signature.feeds) degree in
-      is ∙ (λ i. digit_net (degree i) (product 1 (degree i) bit_mul (same i)) (x_of (degree i) (same i)) (width i) setting.signature.words setting.signature.feeds)
+  pub digits_net : k ≡ setting.k → (net : NetList) → IsDigitNet k (product 1 k bit_mul g) (x_of k g) setting.signature net → IsMade setting Digit net
+  digits_net degree net is =
+      let P : ℕ → Type 0 = λ d. IsDigitNet d (product 1 d bit_mul g) (x_of d g) setting.signature net in
+      let Q : ℕ → Type 0 = λ x. IsDigitNet setting.k (product 1 setting.k bit_mul x) (x_of setting.k x) setting.signature net in
+      subst Q same (subst P degree is)
 
   pub no_digits : k ≡ setting.k → (HasDigitForm k setting.signature → ⊥) → HasFormOf setting Digit → ⊥
   no_digits degree none form = let P : ℕ → Type 0 = λ d. HasDigitForm d setting.signature in none (subst P (sym degree) form.form)

@@ -1,5 +1,5 @@
 -- The command `make`: a netlist of a kind that is made for a signature. Sources: of each kind's netlist, those of its maker.
-use Rattle.std.specs.Prelude.{◌≡◌, ℕ, ◌-◌, ◌*◌, ◌/◌, ◌<◌, ◌^◌, List, [], ◌∷◌, length, Ok, Err}
+use Rattle.std.specs.Prelude.{◌≡◌, ℕ, ◌*◌, ◌/◌, ◌<◌, ◌^◌, List, [], ◌∷◌, length, Ok, Err}
 use Rattle.text_core.specs.Outcome.{Outcome, ◌>>=◌, Exactly}
 use Rattle.irreducible.specs.Span.{IsIndependent}
 use Rattle.gf_basis.specs.BasisFault.{conjugates_of}
@@ -11,9 +11,6 @@ use Rattle.gf_tower.specs.FieldName.{IsFieldModulus, IsFieldTower}
 use Rattle.gf_tower.specs.Tower.{tower_polynomial}
 use Rattle.net_core.specs.NetList.{NetList}
 use Rattle.net_signature.specs.Signature.{SignatureValue}
-use Rattle.net_words.specs.declared.feed.FeedText.{FeedText}
-use Rattle.net_words.specs.declared.feed.Source.{Source}
-use Rattle.net_words.specs.declared.feed.Source.TheVariants as source
 use Rattle.net_words.specs.declared.word.BasisText.{BasisText}
 use Rattle.net_words.specs.declared.word.BasisText.TheVariants as basis
 use Rattle.net_words.specs.declared.word.WordText.{WordText}
@@ -25,7 +22,7 @@ use Rattle.mult_composite.specs.Form.{HasCompositeForm, made_composite}
 use Rattle.mult_normal.specs.NormalForm.{HasNormalForm}
 use Rattle.mult_normal.specs.NormalNet.{normal_net}
 use Rattle.mult_digit.specs.DigitForm.{HasDigitForm}
-use Rattle.mult_digit.specs.DigitNet.{digit_net}
+use Rattle.mult_digit.specs.IsDigitNet.{IsDigitNet}
 use Rattle.job_words.specs.declared.kind.Kind.{Kind}
 use Rattle.job_words.specs.declared.kind.Kind.TheVariants.{Mastrovito, Montgomery, Composite, Normal, Adder, Squarer, Digit}
 use Rattle.job_words.specs.declared.fault.Fault.{Fault}
@@ -88,20 +85,6 @@ pub record IsMadeNormal (setting : SettingValue) (net : NetList) : Type 0 where
   pub elements : elements_of basis ≡ first_conjugates setting
   pub net_is : net ≡ normal_net setting.k setting.product basis setting.signature.words
 
--- the place that the first feed feeds: the lowest of the highest digit
-abbrev pub place_in : Source → ℕ
-place_in source.Zero = 0
-place_in source.One = 0
-place_in (source.Bit word place) = place
-
-abbrev pub first_place : List FeedText → ℕ
-first_place [] = 0
-first_place (feed ∷ feeds) = place_in feed.source
-
--- how many bits a digit has
-abbrev pub digit_width : SettingValue → ℕ
-digit_width setting = setting.k - first_place setting.signature.feeds
-
 -- the net list is that of a kind over a setting of its form
 abbrev pub IsMade : SettingValue → Kind → NetList → Type 0
 IsMade setting Mastrovito net = net ≡ made_mastrovito setting.k setting.signature.modulus setting.signature.words
@@ -110,7 +93,7 @@ IsMade setting Composite net = net ≡ made_composite (base_degree setting) sett
 IsMade setting Normal net = IsMadeNormal setting net
 IsMade setting Adder net = net ≡ made_adder setting.k setting.signature.words
 IsMade setting Squarer net = net ≡ made_squarer setting.k setting.signature.modulus setting.signature.words
-IsMade setting Digit net = net ≡ digit_net setting.k (product 1 setting.k bit_mul setting.signature.modulus) (x_of setting.k setting.signature.modulus) (digit_width setting) setting.signature.words setting.signature.feeds
+IsMade setting Digit net = IsDigitNet setting.k (product 1 setting.k bit_mul setting.signature.modulus) (x_of setting.k setting.signature.modulus) setting.signature net
 
 -- this net list, or fault 43 where the form is not met
 abbrev pub MadeOf : SettingValue → Kind → Outcome Fault NetList
