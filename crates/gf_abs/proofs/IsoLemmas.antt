@@ -26,11 +26,11 @@ use Rattle.gf_abs.specs.commands.Iso.{AreFitting, IsoReply}
 -- ---- fields that fit
 
 -- a modulus whose quotient has no zero divisors names a field
-field_modulus : (k g : ℕ) → IsModulus k g → HasNoZeroDivisors k (product 1 k bit_mul g) → IsFieldModulus k g
+pub field_modulus : (k g : ℕ) → IsModulus k g → HasNoZeroDivisors k (product 1 k bit_mul g) → IsFieldModulus k g
 field_modulus k g modulus field = record { modulus = modulus; irreducible = (field_by_modulus k g modulus).0 field }
 
 -- and so do coefficients of a tower over it
-field_tower : (n g m low : ℕ) (cs : List ℕ) → IsModulus n g → HasNoZeroDivisors n (product 1 n bit_mul g) → IsPackedList n m low cs → HasNoZeroDivisors (n * m) (product n m (product 1 n bit_mul g) (tower_polynomial n cs)) → IsFieldTower n g cs
+pub field_tower : (n g m low : ℕ) (cs : List ℕ) → IsModulus n g → HasNoZeroDivisors n (product 1 n bit_mul g) → IsPackedList n m low cs → HasNoZeroDivisors (n * m) (product n m (product 1 n bit_mul g) (tower_polynomial n cs)) → IsFieldTower n g cs
 field_tower n g m low cs modulus base packs field =
     let mul = product 1 n bit_mul g in
     let P : ℕ → Type 0 = λ l. HasNoZeroDivisors (n * l) (product n l mul (tower_polynomial n cs)) in

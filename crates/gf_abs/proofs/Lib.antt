@@ -27,6 +27,8 @@ pub mod VerdictLemmas
 pub mod CertifyLemmas
 pub mod CertificateDetermined
 pub mod IsoLemmas
+pub mod MakeLemmas
+pub mod TrialLemmas
 pub mod AnswerDetermined
 pub mod OneLineLemmas
 pub mod StatusLemmas
@@ -41,5 +43,7 @@ pub mod CheckHeadlineLemmas
 pub mod EvalHeadlineLemmas
 pub mod TableHeadlineLemmas
 pub mod IsoHeadlineLemmas
+pub mod MadeLemmas
+pub mod MakeHeadlineLemmas
 pub mod CertificateHeadlineLemmas
 mod Examples

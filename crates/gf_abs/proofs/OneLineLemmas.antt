@@ -13,7 +13,7 @@ use Rattle.stage_model.specs.Listing.{Joined, Earlier, Later, Listing}
 use Rattle.cert_check.specs.declared.fault.CertFault.{CertFault}
 use Rattle.cert_check.specs.declared.fault.CertFault.TheVariants as text
 use Rattle.job_words.specs.declared.certificate_fault.CertificateFault.TheVariants as certificate
-use Rattle.job_words.specs.Command.{Action, Bits, Abstract, Check, Same, Eval, Iso, Lift, Table, Certify, Verify, Upgrade, Over, IsSpelled}
+use Rattle.job_words.specs.Command.{Action, Bits, Abstract, Check, Same, Eval, Iso, Lift, Table, Certify, Verify, Upgrade, Make, Over, Trial, IsSpelled}
 use Rattle.job_words.specs.Fault.{fault_line}
 use Rattle.job_words.specs.OneLine.{HasNoLineFeed, IsOneLine, KeepsToItsLine}
 use Rattle.job_words.specs.Operands.{Word}
@@ -39,6 +39,7 @@ use Rattle.gf_abs.specs.commands.Check.{CheckReply}
 use Rattle.gf_abs.specs.commands.Same.{SameReply, same_stages}
 use Rattle.gf_abs.specs.commands.Upgrade.{UpgradeReply}
 use Rattle.gf_abs.specs.commands.Verify.{VerifyReply}
+use Rattle.gf_abs.proofs.TrialLemmas.{trial_kept}
 
 -- ---- what the words of a command name
 
@@ -55,6 +56,7 @@ AreKept (Table net cycles) = HasNoLineFeed net
 AreKept (Certify net terms cycles) = HasNoLineFeed net
 AreKept (Verify net certificate terms cycles) = HasNoLineFeed net × HasNoLineFeed certificate
 AreKept (Upgrade net certificate cycles) = HasNoLineFeed net × HasNoLineFeed certificate
+AreKept (Make kind) = Unit {0}
 
 spelled_kept : (words : List Word) (signature : Word) (action : Action) → IsSpelled words (Over signature action) → HasNoLineFeed signature × AreKept action
 spelled_kept words signature (Bits net terms cycles) is = (operand_kept signature is.follow.signature_is, operand_kept net is.follow.file_is)
@@ -68,6 +70,7 @@ spelled_kept words signature (Table net cycles) is = (operand_kept signature is.
 spelled_kept words signature (Certify net terms cycles) is = (operand_kept signature is.follow.signature_is, operand_kept net is.follow.file_is)
 spelled_kept words signature (Verify net certificate terms cycles) is = (operand_kept signature is.follow.signature_is, (operand_kept net is.follow.file_is, operand_kept certificate is.follow.other_is))
 spelled_kept words signature (Upgrade net certificate cycles) is = (operand_kept signature is.follow.signature_is, (operand_kept net is.follow.file_is, operand_kept certificate is.follow.other_is))
+spelled_kept words signature (Make kind) is = (operand_kept signature is.follow.signature_is, tt)
 
 -- ---- stages
 
@@ -202,6 +205,8 @@ module _ (setting : SettingValue) (names : HaveNames setting.signature.words) wh
   action_kept held (Verify net file terms cycles) fault is (inr (certified, taken, wrong)) = verify_kept terms certified fault wrong
   action_kept held (Upgrade net file cycles) fault is (inl wrong) = certified_kept held net file cycles fault is.0 is.1 wrong
   action_kept held (Upgrade net file cycles) fault is (inr (certified, taken, wrong)) = upgrade_kept certified fault wrong
+  action_kept held (Make kind) fault is (inl wrong) = same_line fault (faults.Form kind) wrong.0 tt
+  action_kept held (Make kind) fault is (inr (net, made, never)) = absurd never
 
 signed_kept : (held : Option Files) (text : List ℕ) (signed : SignedValue) (action : Action) (fault : Fault) → SignedOf text (Ok signed) → AreKept action → SignedAnswer held signed action (Err fault) → KeepsToItsLine fault
 signed_kept held text signed action fault is kept (inl (other, wrong, same)) = same_line fault (faults.Signature other) same (setting_keeps signed other wrong)
@@ -214,6 +219,7 @@ job_kept held signature action fault kept operands (inr (signed, (text, read, is
 answer_kept : (words : List Word) (held : Option Files) (fault : Fault) → Answer words held (Err fault) → KeepsToItsLine fault
 answer_kept words held fault (inl (same, never)) = same_line fault faults.Words same tt
 answer_kept words held fault (inr (Over signature action, spelled, wrong)) = let kept = spelled_kept words signature action spelled in job_kept held signature action fault kept.0 kept.1 wrong
+answer_kept words held fault (inr (Trial number modulus terms, spelled, wrong)) = trial_kept number modulus terms fault wrong
 
 -- the line of a fault that may come is one line
 pub answers_one_line : (words : List Word) (held : Option Files) (fault : Fault) → Answer words held (Err fault) → IsOneLine (fault_line fault)

@@ -11,5 +11,6 @@ pub mod CheckHeadline
 pub mod EvalHeadline
 pub mod TableHeadline
 pub mod IsoHeadline
+pub mod MakeHeadline
 pub mod CertificateHeadline
 pub mod private

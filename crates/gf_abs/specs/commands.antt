@@ -9,3 +9,5 @@ pub mod Iso
 pub mod Certify
 pub mod Verify
 pub mod Upgrade
+pub mod Make
+pub mod Trial

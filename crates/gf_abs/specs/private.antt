@@ -1,2 +1,3 @@
 pub mod StageStop
 pub mod CertificateStop
+pub mod Making

@@ -15,6 +15,7 @@ ghost use Rattle.job_words.specs.Fault.{fault_line, fault_status};
 ghost use Rattle.job_words.specs.OneLine.{IsOneLine};
 ghost use Rattle.job_words.specs.Operands.{Word};
 ghost use Rattle.job_words.specs.declared.fault.Fault.{Fault};
+ghost use Rattle.job_words.specs.declared.kind.Kind.{Kind};
 ghost use Rattle.job_input.specs.SettingValue.{SettingValue};
 ghost use Rattle.spec_expand.specs.Specification.{SpecTerms};
 ghost use Rattle.gf_abs.specs.Answer.{Answer};
@@ -23,6 +24,7 @@ ghost use Rattle.gf_abs.specs.CheckHeadline.{AnswersCheck, AreHeldWith, Computes
 ghost use Rattle.gf_abs.specs.EvalHeadline.{AnswersEval, PrintsElement};
 ghost use Rattle.gf_abs.specs.Headline.{IsTaken, AreHeld, AnswersBits, AnswersAbstract, AnswersSame, PrintsHeld, PrintsHeldInBits, PrintsDifference, IsInItsWords, HasOutput, AreOneFunction};
 ghost use Rattle.gf_abs.specs.IsoHeadline.{AnswersIso, PrintsImages};
+ghost use Rattle.gf_abs.specs.MakeHeadline.{AnswersMake, HoldKind, HoldMade};
 ghost use Rattle.gf_abs.specs.Reply.{Reply, polynomial_line};
 ghost use Rattle.gf_abs.specs.TableHeadline.{AnswersLift, AnswersTable, IsHeldSetting, PrintsLifted, PrintsTable};
 ghost use Rattle.gf_abs.specs.commands.Abstract.{taken_circuit};
@@ -155,4 +157,11 @@ pub fn what_certify_prints_is_accepted()
 pub fn upgrade_keeps_the_reply()
     ensures { (files others : Files) (words before after : List Word) (signature net certificate upgraded : Word) (cycles : ℕ) (reply first second : Reply) → AnswersUpgrade files words signature net certificate cycles reply → HoldOneJob files others signature net → Read (Some others) upgraded (Ok reply.text)
         → AnswersVerify files before signature net certificate cycles first → AnswersVerify others after signature net upgraded cycles second → first ≡ second }
+{}
+
+/// What `make` prints is read back as a netlist that binds to its signature, and the job of both, over the cycles of its kind, computes
+/// at every input what the kind does: the product of the two words, the product times the inverse of x to the k, the sum, or the
+/// square.
+pub fn what_make_prints_computes()
+    ensures { (files others : Files) (words : List Word) (kind : Kind) (signature net : Word) (reply : Reply) → AnswersMake files words kind signature reply → HoldMade files others signature net reply.text → HoldKind others signature net kind }
 {}

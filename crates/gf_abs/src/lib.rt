@@ -8,6 +8,7 @@ mod cuts;
 mod differing;
 mod headline;
 mod line;
+mod named_fields;
 mod output;
 mod second_stages;
 mod setting_labels;
@@ -25,6 +26,6 @@ pub use headline::{
     lift_prints_the_polynomial, one_answer_or_fault, same_exactly_if_equal_functions,
     same_prints_the_differing_input, table_prints_the_outputs,
     tables_are_lifted_to_what_abstract_prints, upgrade_keeps_the_reply, verify_proves_the_output,
-    what_certify_prints_is_accepted, written_tables_are_read_back,
+    what_certify_prints_is_accepted, what_make_prints_computes, written_tables_are_read_back,
 };
 pub use top::{run, run_surely};

@@ -1,8 +1,11 @@
 -- The commands, and the words that spell them. Source: this project's own, docs/COMMANDS.md.
 use Rattle.std.specs.Prelude.{◌≡◌, ℕ, List, ◌∷◌, codes, map, string_bytes}
 use Rattle.job_words.specs.declared.command.Command.{Command}
+use Rattle.job_words.specs.declared.command.Command.TheVariants as commands
 use Rattle.job_words.specs.declared.command.Task.{Task}
 use Rattle.job_words.specs.declared.command.Task.TheVariants as tasks
+use Rattle.job_words.specs.declared.kind.Kind.{Kind}
+use Rattle.job_words.specs.MadeWords.{AreTrialWords, IsOfKind}
 use Rattle.job_words.specs.Operands.{Word}
 use Rattle.job_words.specs.Options.{AreNone, AreStageOptions, AreSumOptions, IsCyclesOption}
 use Rattle.job_words.specs.Shapes.{IsOverFile, IsOverFiles, AreValues}
@@ -20,10 +23,12 @@ pub data Action : Type 0 where
   Certify : (net : Word) (terms cycles : ℕ) → Action
   Verify : (net certificate : Word) (terms cycles : ℕ) → Action
   Upgrade : (net certificate : Word) (cycles : ℕ) → Action
+  Make : (kind : Kind) → Action
 
--- a command with its operands: what it does over the signature of this file
+-- a command with its operands: what it does over the signature of this file, or a trial of a number and a modulus
 pub data Job : Type 0 where
   Over : (signature : Word) (action : Action) → Job
+  Trial : (number modulus terms : ℕ) → Job
 
 -- its name
 abbrev pub name_of : Action → Word
@@ -38,6 +43,7 @@ name_of (Table net cycles) = codes "table"
 name_of (Certify net terms cycles) = codes "certify"
 name_of (Verify net certificate terms cycles) = codes "verify"
 name_of (Upgrade net certificate cycles) = codes "upgrade"
+name_of (Make kind) = codes "make"
 
 -- the words that follow its name
 abbrev pub AreOperandsOf : List Word → Word → Action → Type 0
@@ -52,6 +58,7 @@ AreOperandsOf words signature (Table net cycles) = IsOverFile (λ rest. IsCycles
 AreOperandsOf words signature (Certify net terms cycles) = IsOverFile (λ rest. AreStageOptions rest terms cycles) words signature net
 AreOperandsOf words signature (Verify net certificate terms cycles) = IsOverFiles (λ rest. AreSumOptions rest terms cycles) words signature net certificate
 AreOperandsOf words signature (Upgrade net certificate cycles) = IsOverFiles (λ rest. IsCyclesOption rest cycles) words signature net certificate
+AreOperandsOf words signature (Make kind) = IsOfKind words signature kind
 
 -- the words are the name of a command and what follows it
 pub record IsNamed (name : Word) (Follow : List Word → Type 0) (words : List Word) : Type 0 where
@@ -62,6 +69,7 @@ pub record IsNamed (name : Word) (Follow : List Word → Type 0) (words : List W
 -- the words spell the command
 abbrev pub IsSpelled : List Word → Job → Type 0
 IsSpelled words (Over signature action) = IsNamed (name_of action) (λ rest. AreOperandsOf rest signature action) words
+IsSpelled words (Trial number modulus terms) = IsNamed (codes "trial") (λ rest. AreTrialWords rest number modulus terms) words
 
 -- what the program's task is, by its operands
 abbrev pub action_of : Task → Action
@@ -76,7 +84,9 @@ action_of (tasks.Table words) = Table words.net.now words.cycles
 action_of (tasks.Certify words) = Certify words.net.now words.terms words.cycles
 action_of (tasks.Verify words) = Verify words.net.now words.other.now words.terms words.cycles
 action_of (tasks.Upgrade words) = Upgrade words.net.now words.other.now words.cycles
+action_of (tasks.Make kind) = Make kind
 
 -- the command that the program's words gave
 abbrev pub job_of : Command → Job
-job_of command = Over command.signature.now (action_of command.task)
+job_of (commands.Over signature task) = Over signature.now (action_of task)
+job_of (commands.Trial words) = Trial words.number words.modulus words.terms

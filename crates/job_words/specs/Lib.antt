@@ -2,6 +2,7 @@ pub mod Operands
 pub mod Options
 pub mod Shapes
 pub mod Kind
+pub mod MadeWords
 pub mod Command
 pub mod FileFault
 pub mod SignatureFault

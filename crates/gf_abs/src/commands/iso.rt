@@ -13,6 +13,7 @@ ghost use Rattle.poly_mixed.specs.Text.{hex_text};
 ghost use Rattle.gf_abs.specs.Reply.{reply_of};
 ghost use Rattle.gf_abs.specs.commands.Iso.{IsoReply, IsoAnswer};
 
+use crate::named_fields::{base_field, tower_field};
 use crate::output::Output;
 use gf_field::{Ring, Ring2k};
 use gf_iso::Iso;
@@ -90,37 +91,6 @@ fn between(
             Ok(Output { status: 0, text })
         }
         Err(_) => Err(Stop::Refused(Fault::Fields)),
-    }
-}
-
-// The field of a signature without a tower.
-fn base_field(signature: &Signature) -> Option<Proved<Ring2k>>
-    ensures modulus { IfSome result (λ field. modulus_of (ring_of field) ≡ signature.now.modulus) }
-    ensures no_tower { IfSome result (λ field. signature.now.tower ≡ []) }
-    ensures none { IfNone result ((d : ℕ) → IsFieldModulus d signature.now.modulus → signature.now.tower ≡ [] → ⊥) }
-{
-    if !signature.tower().is_empty() {
-        return None;
-    }
-    match AnyField::new(signature.modulus(), &[], &[]) {
-        Ok(AnyField::Base(field)) => Some(field),
-        _ => None,
-    }
-}
-
-// The tower of a signature with one tower step.
-fn tower_field(signature: &Signature) -> Option<Proved<Tower<Proved<Ring2k>>>>
-    ensures modulus { IfSome result (λ field. modulus_of (ring_of (base_of (ring_of field))) ≡ signature.now.modulus) }
-    ensures tower { IfSome result (λ field. coefficients_of (ring_of field) ≡ signature.now.tower) }
-    ensures one_step { IfSome result (λ field. signature.now.upper ≡ []) }
-    ensures none { IfNone result ((d : ℕ) → IsFieldModulus d signature.now.modulus → IsFieldTower d signature.now.modulus signature.now.tower → signature.now.upper ≡ [] → ⊥) }
-{
-    if !signature.upper().is_empty() {
-        return None;
-    }
-    match AnyField::new(signature.modulus(), signature.tower(), &[]) {
-        Ok(AnyField::Tower(field)) => Some(field),
-        _ => None,
     }
 }
 
