@@ -42,6 +42,7 @@ pub mod CheckHeadlineLemmas
 pub mod EvalHeadlineLemmas
 pub mod TableHeadlineLemmas
 pub mod IsoHeadlineLemmas
+pub mod SettingFieldLemmas
 pub mod MadeLemmas
 pub mod MakeHeadlineLemmas
 pub mod CertificateHeadlineLemmas

@@ -31,9 +31,9 @@ use Rattle.job_input.specs.SettingValue.{SettingValue}
 use Rattle.job_input.proofs.NetlistLemmas.{net_sound}
 use Rattle.gf_abs.specs.Answer.{JobAnswer}
 use Rattle.gf_abs.specs.Headline.{AreHeld}
-use Rattle.gf_abs.specs.MakeHeadline.{AnswersMake, ComputesKind, HoldKind, HoldMade, IsBlifName, made_cycles}
+use Rattle.gf_abs.specs.MakeHeadline.{AnswersMake, ComputesKind, HoldKind, HoldMade, IsBlifName}
 use Rattle.gf_abs.specs.Reply.{Reply}
-use Rattle.gf_abs.specs.commands.Make.{HasFormOf, made}
+use Rattle.gf_abs.specs.commands.Make.{IsMade}
 use Rattle.gf_abs.proofs.AnswerDetermined.{read_determined}
 use Rattle.gf_abs.proofs.MadeLemmas.{IsMadeRight, made_right}
 
@@ -71,29 +71,29 @@ blif_text net text name = (λ i. if name.no_aiger i then Aiger text else (if is_
 
 module _ (files others : Files) (signature net : Word) (kind : Kind) (reply : Reply) where
   job_makes : JobAnswer (Some files) (Over signature (Make kind)) (Ok reply) → HoldMade files others signature net reply.text → HoldKind others signature net kind
-  job_makes (signed, (text, read, is), (setting, are, (list, (form, same_list), printed))) hold =
+  job_makes (signed, (text, read, is), (setting, are, (list, (form, is_made), printed))) hold =
       let same_bytes : text ≡ hold.bytes = one_text text hold.bytes (read_determined files signature (Ok text) (Ok hold.bytes) read hold.signature_read) in
       let S : List ℕ → Type 0 = λ bytes. SettingOf bytes (Ok setting) in
-      let is_setting : SettingOf hold.bytes (Ok setting) = subst S same_bytes (signed, is, are) in
-      let right : IsMadeRight setting kind = made_right setting text (signed, is, are) kind form in
-      let net_list = made setting kind in
-      let back = read_back net_list right.sound right.plain in
-      let again : NetOf (Blif (written net_list)) (Ok back.other) = back.is_net in
-      let alike = bound_alike net_list back.other right.sound (net_sound (Blif (written net_list)) back.other again) right.plain back.plain back.same setting.signature.words setting.signature.feeds right.binding right.binds in
+      let right : IsMadeRight setting kind list = made_right setting text (signed, is, are) kind list form is_made in
+      let back = read_back list right.sound right.plain in
+      let again : NetOf (Blif (written list)) (Ok back.other) = back.is_net in
+      let alike = bound_alike list back.other right.sound (net_sound (Blif (written list)) back.other again) right.plain back.plain back.same setting.signature.words setting.signature.feeds right.binding right.binds in
       let second : BoundNet = record { net = back.other; bound = alike.binding } in
-      let print : reply.text ≡ written net_list = ap (λ (r : Reply). r.text) printed ∙ ap written same_list in
+      let print : reply.text ≡ written list = ap (λ (r : Reply). r.text) printed in
       let N : NetlistText → Type 0 = λ t. BoundNetOf setting.signature t (Ok second) in
       record {
         setting = setting;
-        job = job_of setting second (made_cycles setting kind);
+        cycles = right.cycles;
+        are_cycles = right.are_cycles;
+        job = job_of setting second right.cycles;
         held = record {
           bytes = hold.bytes;
           signature_read = hold.signature_too;
           text = reply.text;
           net_read = hold.net_read;
-          is_job = record { is_setting = is_setting; bound = second; is_bound = subst N (ap Blif (sym print) ∙ sym (blif_text net reply.text hold.name)) (back.other, again, (alike.binding, alike.bound, refl)); is_job = refl };
+          is_job = record { is_setting = subst S same_bytes (signed, is, are); bound = second; is_bound = subst N (ap Blif (sym print) ∙ sym (blif_text net reply.text hold.name)) (back.other, again, (alike.binding, alike.bound, refl)); is_job = refl };
         };
-        computes = kept setting (record { net = net_list; bound = right.binding }) second (made_cycles setting kind) alike.outputs kind right.computes;
+        computes = kept setting (record { net = list; bound = right.binding }) second right.cycles alike.outputs kind right.computes;
       }
     where
       one_text : (a b : List ℕ) → ◌≡◌ {A = Result (List ℕ) FileFault} (Ok a) (Ok b) → a ≡ b

@@ -148,7 +148,7 @@ words_wide k words are word has unfed = elim (All_has (λ (w : WordText). (lengt
   | inr fed ↦ absurd (unfed fed)
 ]
 
-all_has : {A : Type 0} (P : A → Type 0) (xs : List A) → ((x : A) → Has xs x → P x) → All P xs
+pub all_has : {A : Type 0} (P : A → Type 0) (xs : List A) → ((x : A) → Has xs x → P x) → All P xs
 all_has P [] each k d less = absurd (omega (arith, less))
 all_has P (x ∷ xs) each zero d less = each x (0, refl)
 all_has P (x ∷ xs) each (suc k) d less = all_has P xs (λ y has. each y (suc has.0, has.1)) k d (omega (arith, less))
@@ -303,7 +303,7 @@ module _ (setting : SettingValue) (n g m low : ℕ) (cs : List ℕ) (base : IsMo
 
 -- ---- normal bases
 
-first_is : (words : List WordText) (gamma : ℕ) → FirstIsNormal words gamma → first_element words ≡ gamma
+pub first_is : (words : List WordText) (gamma : ℕ) → FirstIsNormal words gamma → first_element words ≡ gamma
 first_is [] gamma is = absurd is
 first_is (word ∷ words) gamma is = ap element_of is
 

@@ -1,10 +1,10 @@
 -- What the netlists that `make` prints compute. Sources: of each kind's netlist, those of its maker.
-use Rattle.std.specs.Prelude.{◌≡◌, ℕ, ◌<◌, ◌/◌, ◌^◌, ◌==◌, false, List, [], ◌∷◌, filter, length, bit_xor, Some, Ok}
+use Rattle.std.specs.Prelude.{◌≡◌, ℕ, ◌*◌, ◌<◌, ◌^◌, false, List, [], ◌∷◌, bit_xor, Some, Ok}
 use Rattle.job_io.specs.Shelf.{Files}
 use Rattle.circuit_model.specs.Circuit.{Circuit}
 use Rattle.circuit_model.specs.Out.{IsOut}
 use Rattle.mult_products.specs.InversePower.{IsInversePower}
-use Rattle.net_signature.specs.Signature.{SignatureValue}
+use Rattle.mult_digit.specs.DigitForm.{AreDigitFeeds}
 use Rattle.job_words.specs.Command.{Make, Over, IsSpelled}
 use Rattle.job_words.specs.Operands.{Word, is_aiger, is_verilog}
 use Rattle.job_words.specs.declared.kind.Kind.{Kind}
@@ -57,23 +57,21 @@ ComputesKind setting Adder job = HasOutputOfTwo job bit_xor
 ComputesKind setting Squarer job = HasOutputOfOne job (λ a. setting.product a a)
 ComputesKind setting Digit job = HasOutputOfTwo job setting.product
 
--- how many bits are fed in each cycle
-abbrev pub digit_width : SignatureValue → ℕ
-digit_width signature = length (filter (λ feed. feed.cycle == 0) signature.feeds)
-
--- after how many cycles it does
-abbrev pub made_cycles : SettingValue → Kind → ℕ
-made_cycles setting Mastrovito = 0
-made_cycles setting Montgomery = 0
-made_cycles setting Composite = 0
-made_cycles setting Normal = setting.k
-made_cycles setting Adder = 0
-made_cycles setting Squarer = 0
-made_cycles setting Digit = setting.k / digit_width setting.signature
+-- after so many cycles a job of each kind computes this; where it is fed digits, after one for each digit
+abbrev pub AreCyclesOf : SettingValue → Kind → ℕ → Type 0
+AreCyclesOf setting Mastrovito cycles = cycles ≡ 0
+AreCyclesOf setting Montgomery cycles = cycles ≡ 0
+AreCyclesOf setting Composite cycles = cycles ≡ 0
+AreCyclesOf setting Normal cycles = cycles ≡ setting.k
+AreCyclesOf setting Adder cycles = cycles ≡ 0
+AreCyclesOf setting Squarer cycles = cycles ≡ 0
+AreCyclesOf setting Digit cycles = (width : ℕ) × AreDigitFeeds setting.k width setting.signature.feeds × (setting.k ≡ width * cycles)
 
 -- the held files give a job over these cycles, which computes what its kind does
 pub record HoldKind (files : Files) (signature net : Word) (kind : Kind) : Type 0 where
   pub setting : SettingValue
+  pub cycles : ℕ
+  pub are_cycles : AreCyclesOf setting kind cycles
   pub job : Circuit
-  pub held : AreHeld files signature net (made_cycles setting kind) setting job
+  pub held : AreHeld files signature net cycles setting job
   pub computes : ComputesKind setting kind job
