@@ -28,7 +28,6 @@ pub mod CertifyLemmas
 pub mod CertificateDetermined
 pub mod IsoLemmas
 pub mod MakeLemmas
-pub mod TrialLemmas
 pub mod AnswerDetermined
 pub mod OneLineLemmas
 pub mod StatusLemmas

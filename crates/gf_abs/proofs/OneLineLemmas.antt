@@ -13,7 +13,7 @@ use Rattle.stage_model.specs.Listing.{Joined, Earlier, Later, Listing}
 use Rattle.cert_check.specs.declared.fault.CertFault.{CertFault}
 use Rattle.cert_check.specs.declared.fault.CertFault.TheVariants as text
 use Rattle.job_words.specs.declared.certificate_fault.CertificateFault.TheVariants as certificate
-use Rattle.job_words.specs.Command.{Action, Bits, Abstract, Check, Same, Eval, Iso, Lift, Table, Certify, Verify, Upgrade, Make, Over, Trial, IsSpelled}
+use Rattle.job_words.specs.Command.{Action, Bits, Abstract, Check, Same, Eval, Iso, Lift, Table, Certify, Verify, Upgrade, Make, Over, IsSpelled}
 use Rattle.job_words.specs.Fault.{fault_line}
 use Rattle.job_words.specs.OneLine.{HasNoLineFeed, IsOneLine, KeepsToItsLine}
 use Rattle.job_words.specs.Operands.{Word}
@@ -39,7 +39,6 @@ use Rattle.gf_abs.specs.commands.Check.{CheckReply}
 use Rattle.gf_abs.specs.commands.Same.{SameReply, same_stages}
 use Rattle.gf_abs.specs.commands.Upgrade.{UpgradeReply}
 use Rattle.gf_abs.specs.commands.Verify.{VerifyReply}
-use Rattle.gf_abs.proofs.TrialLemmas.{trial_kept}
 
 -- ---- what the words of a command name
 
@@ -219,7 +218,6 @@ job_kept held signature action fault kept operands (inr (signed, (text, read, is
 answer_kept : (words : List Word) (held : Option Files) (fault : Fault) → Answer words held (Err fault) → KeepsToItsLine fault
 answer_kept words held fault (inl (same, never)) = same_line fault faults.Words same tt
 answer_kept words held fault (inr (Over signature action, spelled, wrong)) = let kept = spelled_kept words signature action spelled in job_kept held signature action fault kept.0 kept.1 wrong
-answer_kept words held fault (inr (Trial number modulus terms, spelled, wrong)) = trial_kept number modulus terms fault wrong
 
 -- the line of a fault that may come is one line
 pub answers_one_line : (words : List Word) (held : Option Files) (fault : Fault) → Answer words held (Err fault) → IsOneLine (fault_line fault)

@@ -10,4 +10,3 @@ pub mod Certify
 pub mod Verify
 pub mod Upgrade
 pub mod Make
-pub mod Trial
