@@ -3,6 +3,8 @@
 
 mod circuit;
 mod fault;
+mod laws;
 
 pub use circuit::block_circuit;
 pub use fault::BlockFault;
+pub use laws::blocks_have_one_circuit;

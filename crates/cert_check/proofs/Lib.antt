@@ -11,6 +11,7 @@ pub mod WordsLemmas
 pub mod BasisLemmas
 pub mod FormLemmas
 pub mod SumLemmas
+pub mod SubsetLemmas
 pub mod WordsAloneLemmas
 pub mod SaidLemmas
 pub mod SoundLemmas

@@ -12,7 +12,7 @@ use Rattle.gf_basis.specs.declared.bases.Basis.{Basis}
 use Rattle.graph_core.proofs.ListLemmas.{get_below}
 use Rattle.net_words.specs.Binding.{BoundNet}
 use Rattle.circuit_model.specs.Word.{Word}
-use Rattle.cert_check.specs.Running.{rank_among, net_bit, bit_value, dual_form, dual_at, dual_words, generator_value}
+use Rattle.cert_check.specs.Running.{rank_among, bit_value, dual_form, dual_at, dual_words, generator_value}
 
 low : (b : Bool) (m r : ℕ) → (cond b 1 0 + 2 * m) % 2 * r ≡ cond b r 0
 low true m r = let one : (1 + 2 * m) % 2 ≡ 1 = omega arith in ap (λ c. c * r) one ∙ (let e : 1 * r ≡ r = omega arith in e)
@@ -41,21 +41,12 @@ pub index_map : (bit : ℕ → Bool) (rank : ℕ → ℕ) (ns : List ℕ) → in
 index_map bit rank [] = refl
 index_map bit rank (n ∷ ns) = ap (λ i. cond (bit (rank n)) 1 0 + 2 * i) (index_map bit rank ns)
 
--- a table over the ranks of nets
-table_over : (k : ℕ) (mul : ℕ → ℕ → ℕ) (order inputs ranks : List ℕ) (table other : ℕ) (ts : Terms) → ranks ≡ map (rank_among order) inputs → other ≡ table
-    → IsPolynomialOf k mul (λ p. table_value other ranks p.is_one) ts → IsPolynomialOf k mul (λ p. table_value table inputs (net_bit order p)) ts
-table_over k mul order inputs ranks table other ts are same is = record {
-  reduced = is.reduced;
-  values = λ p at.
-      is.values p at
-      ∙ ((λ i. cond (table_bit (same i) (index p.is_one (are i))) 1 0)
-      ∙ ap (λ n. cond (table_bit table n) 1 0) (index_map p.is_one (rank_among order) inputs));
-}
-
-pub gate_comes : {E : Type 0} (k : ℕ) (mul : ℕ → ℕ → ℕ) (order inputs ranks : List ℕ) (table other : ℕ) (r : Result Polynomial E) → ranks ≡ map (rank_among order) inputs → other ≡ table
-    → IfOk r (λ q. IsPolynomialOf k mul (λ p. table_value other ranks p.is_one) q.terms) → IfOk r (λ q. IsPolynomialOf k mul (λ p. table_value table inputs (net_bit order p)) q.terms)
-gate_comes k mul order inputs ranks table other (Ok q) are same is = table_over k mul order inputs ranks table other q.terms are same is
-gate_comes k mul order inputs ranks table other (Err e) are same is = tt
+-- a table over the ranks of nets, which is added
+pub table_added : (bit : ℕ → Bool) (order inputs ranks : List ℕ) (table other old new : ℕ) → ranks ≡ map (rank_among order) inputs → other ≡ table → new ≡ bit_xor old (table_value other ranks bit) → new ≡ bit_xor old (table_value table inputs (λ n. bit (rank_among order n)))
+table_added bit order inputs ranks table other old new are same is =
+    is
+    ∙ ap (bit_xor old) ((λ i. cond (table_bit (same i) (index bit (are i))) 1 0)
+    ∙ ap (λ n. cond (table_bit table n) 1 0) (index_map bit (rank_among order) inputs))
 
 -- the generator of a bit, with the basis of its word
 bit_generator : (k : ℕ) (mul : ℕ → ℕ → ℕ) (bound : BoundNet) (bases : List Basis) (w i : ℕ) (basis : Basis) (g : Generator) (ts : Terms) → w < length (dual_words bound bases) → ((x : Word) → slice_get (dual_words bound bases) w ≡ Some x → x.basis ≡ duals_of basis) → g ≡ Bit w i

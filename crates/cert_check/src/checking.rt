@@ -10,11 +10,12 @@ ghost use Rattle.cert_check.specs.Certificate.{Certificate, begun, with_pair, Li
 ghost use Rattle.cert_check.specs.Verdict.{IsRunningSum, AsksAtMost, VerdictAtEnd, VerdictFrom, Check, verdict_of};
 ghost use Rattle.cert_check.specs.declared.fault.CertFault.TheVariants.{TooManyTerms};
 ghost use Rattle.cert_check.specs.private.Reading.{AreDrivers, IsLine, IsMultiplier, multiplier_in, said_in};
-ghost use Rattle.cert_check.specs.private.Kept.{terms_of, with_line, IsGeneratorOf, IsLineOf, IsKept, LineAsks};
+ghost use Rattle.cert_check.specs.private.Kept.{terms_of, with_line, IsGeneratorOf, IsLast, IsLineOf, IsKept, LineAsks};
 
 use crate::drivers::drivers;
 use crate::fault::{CertFault, LineFault, at_line};
 use crate::head::read_head;
+use crate::last::LastGenerator;
 use crate::line::{Line, Multiplier, read_line};
 use crate::running::{add_product, first_sum};
 use gf_basis::Basis;
@@ -33,12 +34,13 @@ pub enum CertVerdict {
     Invalid { remaining: u64 },
 }
 
-// The claim, the shared multipliers and the running sum.
+// The claim, the shared multipliers, the running sum and the last generator.
 #[derive(Drop)]
 struct Checking {
     claim: Poly,
     shared: Vec<Poly>,
     sum: Poly,
+    last: LastGenerator,
 }
 
 // Refuses a sum of more terms than the bound after the line of this number.
@@ -70,11 +72,13 @@ impl Checking {
         requires bases { AreBases (F.degree field.now) (F.product field.now) circuit.now bases.now }
         requires drivers { AreDrivers circuit.now.net drivers.now }
         requires kept { (c : Certificate) × IsKept (F.degree field.now) (F.product field.now) circuit.now bases.now bound c self.old.claim.terms (terms_of self.old.shared.items) self.old.sum.terms }
+        requires last { IsLast (F.degree field.now) (F.product field.now) circuit.now bases.now self.old.last }
         requires generator { IsGeneratorOf (F.degree field.now) circuit.now bases.now generator }
         requires multiplier { IsMultiplier (F.degree field.now) (length self.old.shared.items) multiplier.now }
         ensures asks { (c : Certificate) → IsKept (F.degree field.now) (F.product field.now) circuit.now bases.now bound c self.old.claim.terms (terms_of self.old.shared.items) self.old.sum.terms → Fits refusal (λ u. tt) result (AsksAtMost (F.degree field.now) (F.product field.now) circuit.now bases.now bound number (with_pair c generator (multiplier_in c.shared multiplier.now))) }
         ensures kept { (c : Certificate) → IsKept (F.degree field.now) (F.product field.now) circuit.now bases.now bound c self.old.claim.terms (terms_of self.old.shared.items) self.old.sum.terms → OnOk result (IsKept (F.degree field.now) (F.product field.now) circuit.now bases.now bound (with_pair c generator (multiplier_in c.shared multiplier.now)) self.new.claim.terms (terms_of self.new.shared.items) self.new.sum.terms) }
         ensures few { OnOk result (length self.new.shared.items ≤ length self.old.shared.items) }
+        ensures last { OnOk result (IsLast (F.degree field.now) (F.product field.now) circuit.now bases.now self.new.last) }
     {
         let factor = multiplier.among(self.shared.as_slice());
         add_product(
@@ -85,6 +89,7 @@ impl Checking {
             drivers,
             generator,
             factor,
+            &mut self.last,
             &mut self.sum,
         )?;
         check_size(&self.sum, number, bound)
@@ -105,10 +110,12 @@ impl Checking {
         requires bases { AreBases (F.degree field.now) (F.product field.now) circuit.now bases.now }
         requires drivers { AreDrivers circuit.now.net drivers.now }
         requires kept { (c : Certificate) × IsKept (F.degree field.now) (F.product field.now) circuit.now bases.now bound c self.old.claim.terms (terms_of self.old.shared.items) self.old.sum.terms }
+        requires last { IsLast (F.degree field.now) (F.product field.now) circuit.now bases.now self.old.last }
         requires line { IsLineOf (F.degree field.now) circuit.now bases.now (length self.old.shared.items) line }
         ensures asks { (c : Certificate) → IsKept (F.degree field.now) (F.product field.now) circuit.now bases.now bound c self.old.claim.terms (terms_of self.old.shared.items) self.old.sum.terms → Fits refusal (λ u. tt) result (LineAsks (F.degree field.now) (F.product field.now) circuit.now bases.now bound number c line) }
         ensures kept { (c : Certificate) → IsKept (F.degree field.now) (F.product field.now) circuit.now bases.now bound c self.old.claim.terms (terms_of self.old.shared.items) self.old.sum.terms → OnOk result (IsKept (F.degree field.now) (F.product field.now) circuit.now bases.now bound (with_line c line) self.new.claim.terms (terms_of self.new.shared.items) self.new.sum.terms) }
         ensures few { OnOk result (length self.new.shared.items ≤ length self.old.shared.items + 1) }
+        ensures last { OnOk result (IsLast (F.degree field.now) (F.product field.now) circuit.now bases.now self.new.last) }
     {
         match line {
             Line::Pair(generator, multiplier) => self.add_pair(
@@ -194,6 +201,7 @@ fn verdict_from<F: Field>(
         claim,
         shared: Vec::new(alloc),
         sum,
+        last: LastGenerator::none(alloc),
     };
     let mut rest = bytes;
     let mut number: u32 = 3;

@@ -1,11 +1,11 @@
 //! Generators as polynomials.
-ghost use Rattle.std.specs.Prelude.{◌≡◌, ◌<◌, ◌+◌, ◌*◌, bit_xor, map, option_map, slice_index, IfOk, IfSome};
+ghost use Rattle.std.specs.Prelude.{◌≡◌, ◌<◌, ◌+◌, ◌*◌, bit_xor, map, option_map, slice_index, IfOk, IfSome, OnOk};
 ghost use Rattle.gf_basis.specs.BasisParts.{duals_of, IsBasisOver};
 ghost use Rattle.net_core.specs.NetList.{nets};
 ghost use Rattle.net_core.specs.Lists.{Has};
 ghost use Rattle.net_core.specs.Sound.{IsSound};
 ghost use Rattle.net_words.specs.Variables.{variables};
-ghost use Rattle.poly_mixed.specs.Polynomial.{IsPolynomialOf};
+ghost use Rattle.poly_mixed.specs.Polynomial.{IsPoint, IsPolynomialOf, IsReduced, Point, value};
 ghost use Rattle.poly_mixed.specs.Table.{table_value};
 ghost use Rattle.circuit_model.specs.Bases.{AreBases};
 ghost use Rattle.cert_check.specs.Driver.{driver as driver_of};
@@ -13,12 +13,13 @@ ghost use Rattle.cert_check.specs.Running.{rank_among, net_bit, bit_value, drive
 ghost use Rattle.cert_check.specs.private.Reading.{AreDrivers};
 ghost use Rattle.cert_check.specs.private.Kept.{IsGeneratorOf};
 
+use crate::subsets::add_table;
 use crate::words::input_basis;
 use gf_basis::Basis;
 use gf_field::Field;
 use net_core::{Gate, Net};
 use net_words::Combinational;
-use poly_mixed::{Generator, Poly, scaled_bit, scaled_power, table_poly};
+use poly_mixed::{Generator, Poly, scaled_bit, scaled_power};
 use std::alloc::{AllocError, Global};
 
 /// The place of a net among the variables.
@@ -43,19 +44,23 @@ fn input_ranks(alloc: Global, circuit: &Combinational, gate: &Gate) -> Result<Ve
     Ok(list)
 }
 
-// The polynomial of a gate's table over its inputs.
-fn gate_poly<F: Field>(
+// Adds the polynomial of a gate's table over its inputs.
+fn add_gate<F: Field>(
     alloc: Global,
     field: &F,
     circuit: &Combinational,
     gate: &Gate,
-) -> Result<Poly, AllocError>
+    sum: &mut Poly,
+) -> Result<(), AllocError>
     requires sound { IsSound circuit.now.net }
     requires gate { Has circuit.now.net.gates gate.now }
-    ensures { IfOk result (λ q. IsPolynomialOf (F.degree field.now) (F.product field.now) (λ p. table_value gate.now.table gate.now.inputs (net_bit (variables (nets circuit.now.net) circuit.now.bound.words) p)) q.terms) }
+    requires sum { IsReduced (F.degree field.now) sum.old.terms }
+    ensures reduced { OnOk result (IsReduced (F.degree field.now) sum.new.terms) }
+    ensures values { OnOk result ((p : Point) → IsPoint (F.degree field.now) p → value (F.product field.now) p sum.new.terms ≡ bit_xor (value (F.product field.now) p sum.old.terms) (table_value gate.now.table gate.now.inputs (net_bit (variables (nets circuit.now.net) circuit.now.bound.words) p))) }
 {
     let ranks = input_ranks(alloc, circuit, gate)?;
-    table_poly(alloc, field, &ranks, gate.table())
+    add_table(alloc, field, &ranks, gate.table(), sum)?;
+    Ok(())
 }
 
 // The gate that drives a net.
@@ -71,21 +76,24 @@ fn driver<'a>(net: &'a Net, drivers: &[Option<u32>], n: u32) -> Option<&'a Gate>
     }
 }
 
-// What the gate that drives a net makes of its inputs.
-fn driven_poly<F: Field>(
+// Adds what the gate that drives a net makes of its inputs.
+fn add_driven<F: Field>(
     alloc: Global,
     field: &F,
     circuit: &Combinational,
     drivers: &[Option<u32>],
     n: u32,
-) -> Result<Poly, AllocError>
+    sum: &mut Poly,
+) -> Result<(), AllocError>
     requires net { n < nets circuit.now.net }
     requires drivers { AreDrivers circuit.now.net drivers.now }
-    ensures { IfOk result (λ q. IsPolynomialOf (F.degree field.now) (F.product field.now) (λ p. driven_value (variables (nets circuit.now.net) circuit.now.bound.words) p (driver_of circuit.now.net n)) q.terms) }
+    requires sum { IsReduced (F.degree field.now) sum.old.terms }
+    ensures reduced { OnOk result (IsReduced (F.degree field.now) sum.new.terms) }
+    ensures values { OnOk result ((p : Point) → IsPoint (F.degree field.now) p → value (F.product field.now) p sum.new.terms ≡ bit_xor (value (F.product field.now) p sum.old.terms) (driven_value (variables (nets circuit.now.net) circuit.now.bound.words) p (driver_of circuit.now.net n))) }
 {
     match driver(circuit.net(), drivers, n) {
-        Some(gate) => gate_poly(alloc, field, circuit, gate),
-        None => Ok(Poly::zero(alloc)),
+        Some(gate) => add_gate(alloc, field, circuit, gate, sum),
+        None => Ok(()),
     }
 }
 
@@ -101,9 +109,8 @@ fn net_poly<F: Field>(
     requires drivers { AreDrivers circuit.now.net drivers.now }
     ensures { IfOk result (λ q. IsPolynomialOf (F.degree field.now) (F.product field.now) (λ p. bit_xor (bit_value (net_bit (variables (nets circuit.now.net) circuit.now.bound.words) p n)) (driven_value (variables (nets circuit.now.net) circuit.now.bound.words) p (driver_of circuit.now.net n))) q.terms) }
 {
-    let driven = driven_poly(alloc, field, circuit, drivers, n)?;
     let mut sum = scaled_bit(alloc, field, 1, rank(circuit, n))?;
-    sum.add_into(field, &driven)?;
+    add_driven(alloc, field, circuit, drivers, n, &mut sum)?;
     Ok(sum)
 }
 

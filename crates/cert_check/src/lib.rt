@@ -9,11 +9,15 @@ mod fault;
 mod frame;
 mod generator;
 mod head;
+mod last;
 mod laws;
 mod line;
+mod monomial;
+mod multiple;
 mod reading;
 mod running;
 mod scan;
+mod subsets;
 mod words;
 
 pub use cert_pairs::CertPairs;

@@ -1,7 +1,8 @@
 -- Forms of signatures, and the nets that are made of them. Source: this project's own, docs/FORMATS.md.
-use Rattle.std.specs.Prelude.{◌≡◌, ℕ, List, [], length, take, drop}
+use Rattle.std.specs.Prelude.{◌≡◌, ◌≢◌, ℕ, List, [], length, take, drop}
+use Rattle.net_core.specs.Lists.{Has}
 use Rattle.net_core.specs.NetList.{NetList}
-use Rattle.net_words.specs.declared.word.Role.TheVariants.{Input, Output}
+use Rattle.net_words.specs.declared.word.Role.TheVariants.{Input, Fed, Output}
 use Rattle.net_words.specs.declared.word.WordText.{WordText}
 use Rattle.net_signature.specs.Signature.{SignatureValue}
 use Rattle.net_make.specs.Form.{AllAlike, AllPoly, HasWords}
@@ -9,6 +10,10 @@ use Rattle.net_make.specs.Made.{made_of}
 use Rattle.net_make.specs.MakerNames.{AreMakerNames}
 use Rattle.net_make.specs.Ports.{outer_names, role_nets, word_names}
 use Rattle.mult_gen.specs.Chains.{adder_plan, mastrovito_plan, squarer_plan}
+
+-- each word that is not fed has k nets
+abbrev pub AreWide : ℕ → List WordText → Type 0
+AreWide k words = (word : WordText) → Has words word → word.role ≢ Fed → length word.nets ≡ k
 
 -- one output word and so many inputs, on different nets with plain names of at most 128 bytes; no feed and no block
 pub record HasPorts (count : ℕ) (signature : SignatureValue) : Type 0 where

@@ -6,7 +6,7 @@ ghost use Rattle.net_write.specs.Plain.{HasPlainNames};
 ghost use Rattle.net_make.specs.Computes.{ComputesOfTwo};
 ghost use Rattle.net_make.specs.Form.{AllWide, HasWords};
 ghost use Rattle.mult_gen.specs.Chains.{adder_plan};
-ghost use Rattle.mult_gen.specs.Form.{HasAdderForm, inputs_in, made_adder, outer_of, outputs_in};
+ghost use Rattle.mult_gen.specs.Form.{AreWide, HasAdderForm, inputs_in, made_adder, outer_of, outputs_in};
 
 use crate::fault::MakeFault;
 use crate::form::ports;
@@ -54,9 +54,9 @@ fn plan_of(alloc: Global, k: u32, signature: &Signature) -> Result<PlanMaker, Al
 /// A netlist of the sum A + B: an exclusive or gate for each bit. Words are two inputs and the output, all in one basis by
 /// its text's values, with no feed or block; their nets are different and have plain names of at most 128 bytes. Else it is
 /// `Unfit`. It is the sum in any basis of the field.
-/// The field is the signature's, and each word has as many nets as its degree.
+/// The field is the signature's, and each word that is not fed has as many nets as its degree.
 pub fn adder<F: Field>(alloc: Global, field: &F, signature: &Signature) -> Result<Net, MakeFault>
-    requires wide { AllWide (F.degree field.now) signature.now.words }
+    requires wide { AreWide (F.degree field.now) signature.now.words }
     ensures made { IfOk result (λ net. net ≡ made_adder (F.degree field.now) signature.now.words) }
     ensures plain { IfOk result (λ net. HasPlainNames net) }
     ensures computes { IfOk result (λ net. (basis : List ℕ) → IsBasis (F.degree field.now) basis → ComputesOfTwo (F.degree field.now) (F.product field.now) net signature.now.words basis 0 bit_xor) }

@@ -3,7 +3,7 @@ ghost use Rattle.std.specs.Prelude.{◌≡◌, ◌≤◌, ◌<◌, [], IfOk, OnO
 ghost use Rattle.net_plan.specs.MadeNet.{outer_net};
 ghost use Rattle.net_make.specs.Form.{AllWide};
 ghost use Rattle.net_make.specs.Ports.{outer_names};
-ghost use Rattle.mult_gen.specs.Form.{HasPolyForm, HasPorts};
+ghost use Rattle.mult_gen.specs.Form.{AreWide, HasPolyForm, HasPorts};
 
 use crate::fault::MakeFault;
 use net_core::NetMaker;
@@ -27,11 +27,12 @@ pub(crate) fn ports(
     _k: u32,
     count: usize,
 ) -> Result<NetMaker, MakeFault>
-    requires wide { AllWide _k signature.now.words }
+    requires wide { AreWide _k signature.now.words }
     requires small { _k ≤ 64 }
     requires few { count < 8 }
     ensures maker { IfOk result (λ maker. maker ≡ outer_net (outer_names signature.now.words [])) }
     ensures form { OnOk result (HasPorts count signature.now) }
+    ensures wide { OnOk result (AllWide _k signature.now.words) }
     ensures unfit { IsErrOf result MakeFault.Unfit → HasPorts count signature.now → ⊥ }
 {
     if !is_plain(signature) {
@@ -53,11 +54,12 @@ pub(crate) fn poly_ports(
     k: u32,
     count: usize,
 ) -> Result<NetMaker, MakeFault>
-    requires wide { AllWide k signature.now.words }
+    requires wide { AreWide k signature.now.words }
     requires small { k ≤ 64 }
     requires few { count < 8 }
     ensures maker { IfOk result (λ maker. maker ≡ outer_net (outer_names signature.now.words [])) }
     ensures form { OnOk result (HasPolyForm count signature.now) }
+    ensures wide { OnOk result (AllWide k signature.now.words) }
     ensures unfit { IsErrOf result MakeFault.Unfit → HasPolyForm count signature.now → ⊥ }
 {
     if !signature.tower().is_empty() || !all_poly(signature.words()) {

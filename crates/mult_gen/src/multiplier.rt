@@ -13,7 +13,7 @@ ghost use Rattle.net_plan.specs.Plan.{with_chain};
 ghost use Rattle.net_plan.specs.PlanShape.{HasRoom};
 ghost use Rattle.mult_gen.specs.Chains.{added_products as added_products_of, mastrovito_plan};
 ghost use Rattle.mult_gen.specs.private.Powers.{ArePowers};
-ghost use Rattle.mult_gen.specs.Form.{HasPolyForm, inputs_in, made_mastrovito, outer_of, outputs_in};
+ghost use Rattle.mult_gen.specs.Form.{AreWide, HasPolyForm, inputs_in, made_mastrovito, outer_of, outputs_in};
 
 use crate::fault::MakeFault;
 use crate::form::poly_ports;
@@ -101,7 +101,7 @@ fn plan_of(
 /// A netlist of the product A * B: the products of each bit of A and each of B, and for each bit of the product a chain of
 /// those that reach it. Words are two inputs and the output, all by `poly`, with no tower, feed or block; their nets are
 /// different and have plain names of at most 128 bytes. Else it is `Unfit`.
-/// The field is the signature's, and each word has as many nets as its degree.
+/// The field is the signature's, and each word that is not fed has as many nets as its degree.
 /// Source: Mastrovito, VLSI Architectures for Computations in Galois Fields, Linköping, 1991.
 pub fn mastrovito(
     alloc: Global,
@@ -109,7 +109,7 @@ pub fn mastrovito(
     signature: &Signature,
 ) -> Result<Net, MakeFault>
     requires field { modulus_of (ring_of ring.now) ≡ signature.now.modulus }
-    requires wide { AllWide (degree_of (ring_of ring.now)) signature.now.words }
+    requires wide { AreWide (degree_of (ring_of ring.now)) signature.now.words }
     ensures made { IfOk result (λ net. net ≡ made_mastrovito (degree_of (ring_of ring.now)) (modulus_of (ring_of ring.now)) signature.now.words) }
     ensures plain { IfOk result (λ net. HasPlainNames net) }
     ensures computes { IfOk result (λ net. ComputesOfTwo (degree_of (ring_of ring.now)) (product 1 (degree_of (ring_of ring.now)) bit_mul (modulus_of (ring_of ring.now))) net signature.now.words (first_values (degree_of (ring_of ring.now)) (λ i. 2 ^ i)) 0 (product 1 (degree_of (ring_of ring.now)) bit_mul (modulus_of (ring_of ring.now)))) }

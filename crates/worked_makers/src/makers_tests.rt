@@ -1,14 +1,15 @@
 //! Signatures with the netlists that are made for them.
-ghost use Rattle.std.specs.Prelude.{◌≡◌, ◌↔◌, All, IsTrue, IfOk, length};
+ghost use Rattle.std.specs.Prelude.{All, IsTrue, IfOk};
 ghost use Rattle.net_write.specs.Plain.{HasPlainNames};
-ghost use Rattle.net_make.specs.Form.{AllWide};
+ghost use Rattle.mult_gen.specs.Form.{AreWide};
+ghost use Rattle.worked_makers.specs.Wide.{IsWide};
 
 use gf_field::{Ring, Ring2k};
 use irreducible::Proved;
 use mult_gen::{MakeFault, adder, mastrovito, squarer};
 use net_core::Net;
 use net_signature::{Signature, read_signature};
-use net_words::WordText;
+use net_words::{Role, WordText};
 use net_write::write_blif;
 use std::alloc::Global;
 use std::test::Fail;
@@ -21,23 +22,23 @@ enum Kind {
     Squarer,
 }
 
-// Whether a word has k nets.
+// Whether a word has k nets, or is fed.
 fn is_wide(word: &WordText, k: u32) -> bool
-    ensures { IsTrue result ↔ (length word.now.nets ≡ k) }
+    ensures { IsTrue result → IsWide k word.now }
 {
-    word.nets.as_slice().len() == k as usize
+    word.role == Role::Fed || word.nets.as_slice().len() == k as usize
 }
 
-// Whether all words have k nets.
+// Whether all words have k nets, or are fed.
 fn all_wide(words: &[WordText], k: u32) -> bool
-    ensures { IsTrue result → All (λ word. length word.nets ≡ k) words.now }
+    ensures { IsTrue result → All (IsWide k) words.now }
 {
     words.iter().all(|word| is_wide(word, k))
 }
 
-// Whether each word has k nets.
+// Whether each word that is not fed has k nets.
 fn are_wide(words: &[WordText], k: u32) -> bool
-    ensures { IsTrue result → AllWide k words.now }
+    ensures { IsTrue result → AreWide k words.now }
 {
     let wide = all_wide(words, k);
     wide
@@ -131,6 +132,10 @@ fn multipliers(rt: HostRuntime) -> Result<(), Fail> {
         ),
         (
             "gfsig 1\nfield 0x7\nword A state poly a0 a1\nword B input poly b0 b1\nword Z output poly z0 z1\n",
+            "unfit",
+        ),
+        (
+            "gfsig 2\nfield 0x7\nword A fed poly\nword B input poly b0 b1\nword Z output poly z0 z1\nfeed d 0 A[1]\nfeed d 1 A[0]\n",
             "unfit",
         ),
     ] {

@@ -1,17 +1,18 @@
 -- What the code keeps of a certificate. Source: this project's own.
-use Rattle.std.specs.Prelude.{◌≡◌, ℕ, ◌<◌, ◌≤◌, ◌+◌, ◌^◌, List, length, map}
+use Rattle.std.specs.Prelude.{◌≡◌, ℕ, ◌<◌, ◌≤◌, ◌+◌, ◌^◌, List, length, map, Some}
 use Rattle.std.specs.List.{AllByRecursion}
 use Rattle.gf_basis.specs.declared.bases.Basis.{Basis}
 use Rattle.net_words.specs.Binding.{BoundNet}
 use Rattle.text_core.specs.Outcome.{Outcome, Exactly}
-use Rattle.poly_mixed.specs.Polynomial.{Polynomial, Terms, IsReduced}
+use Rattle.poly_mixed.specs.Polynomial.{Polynomial, Terms, IsReduced, IsPolynomialOf}
 use Rattle.poly_mixed.specs.Steps.{Step}
 use Rattle.poly_mixed.specs.declared.steps.Generator.{Generator}
 use Rattle.cert_check.specs.Certificate.{Certificate, with_shared, with_pair}
 use Rattle.cert_check.specs.declared.cert_pairs.Entry.{Entry}
-use Rattle.cert_check.specs.Running.{dual_words}
+use Rattle.cert_check.specs.Running.{dual_words, generator_value}
 use Rattle.cert_check.specs.Verdict.{IsRunningSum, AsksAtMost}
 use Rattle.cert_check.specs.declared.fault.CertFault.{CertFault}
+use Rattle.cert_check.specs.declared.last.LastGenerator.{LastGenerator}
 use Rattle.cert_check.specs.declared.line.Multiplier.{Multiplier}
 use Rattle.cert_check.specs.declared.line.Multiplier.TheVariants as multiplier
 use Rattle.net_core.specs.NetList.{nets}
@@ -60,6 +61,10 @@ IsLineIn c (line.Share p) = Unit {0}
 abbrev pub IsGeneratorOf : ℕ → BoundNet → List Basis → Generator → Type 0
 IsGeneratorOf k bound bases (Net n) = n < nets bound.net
 IsGeneratorOf k bound bases (Bit w i) = (w < length (dual_words bound bases)) × (w < 8) × (i < k)
+
+-- where a generator was the last, its polynomial is held
+abbrev pub IsLast : ℕ → (ℕ → ℕ → ℕ) → BoundNet → List Basis → LastGenerator → Type 0
+IsLast k mul bound bases last = (g : Generator) → last.generator ≡ Some g → IsPolynomialOf k mul (generator_value k mul bound bases g) last.terms.items
 
 -- a generator and a multiplier that there are
 abbrev pub IsLineOf : ℕ → BoundNet → List Basis → ℕ → Line → Type 0

@@ -77,6 +77,7 @@ turns-preserved g c =
     record {
       at = turn_more k mul c.args.circuit.now c.args.bases.now c.args.labels.now c.args.bound c.args.version whole c.turns.number (lines c.turns.rest.now) (lines c.next_line.result.1.now) c.next_line.result.0.now c.turns.checking.claim.terms (terms_of c.turns.checking.shared.items) c.turns.checking.sum.terms c.next_line.ensures.lines at c.in-Some.line
           c.add.new.self.claim.terms (terms_of c.add.new.self.shared.items) c.add.new.self.sum.terms fits (c.in-Ok-add.ensures.asks at.certificate at.kept) (c.in-Ok-add.ensures.kept at.certificate at.kept);
+      last = c.in-Ok-add.ensures.last;
       long = omega (arith, c.turns.invariant.long, c.next_line.ensures.shorter);
       shared = omega (arith, c.turns.invariant.shared, c.in-Ok-add.ensures.few);
     }

@@ -11,19 +11,20 @@ use Rattle.net_make.specs.Computes.{ComputesOfTwo}
 use Rattle.net_make.specs.Made.{made_of, IsPlanFor}
 use Rattle.net_make.proofs.MadeLemmas.{made_plain}
 use Rattle.mult_gen.specs.Form.{made_mastrovito, outputs_in}
+use Rattle.mult_gen.proofs.FormLemmas.{wide_of}
 use Rattle.mult_gen.proofs.ComputeLemmas.{mastrovito_computes, mastrovito_fits}
 use Rattle.mult_gen.proofs.multiplier.mastrovito.Goals as goal
 
 pub net_of-requires-clause-fits : goal.net_of-requires-clause-fits
 net_of-requires-clause-fits c =
     let P : Plan → Type 0 = λ plan. IsPlanFor c.args.signature.now.words [] [] (outputs_in c.args.signature.now.words) plan in
-    (outputs_in c.args.signature.now.words, subst P (sym c.in_ok-plan.ensures) (mastrovito_fits (degree_of (ring_of c.args.ring.now)) (modulus_of (ring_of c.args.ring.now)) c.args.ring.now.ring.fits.small c.args.signature.now.words c.in-Ok.ensures.form.ports.words c.requires.wide))
+    (outputs_in c.args.signature.now.words, subst P (sym c.in_ok-plan.ensures) (mastrovito_fits (degree_of (ring_of c.args.ring.now)) (modulus_of (ring_of c.args.ring.now)) c.args.ring.now.ring.fits.small c.args.signature.now.words c.in-Ok.ensures.form.ports.words (wide_of (degree_of (ring_of c.args.ring.now)) 2 c.args.signature.now.words c.in-Ok.ensures.form.ports.words c.requires.wide)))
 
 pub returns-clause-plain : goal.returns-clause-plain
 returns-clause-plain c =
     let P : NetList → Type 0 = λ net. HasPlainNames net in
     let Q : Plan → Type 0 = λ plan. IsPlanFor c.args.signature.now.words [] [] (outputs_in c.args.signature.now.words) plan in
-    let fits = subst Q (sym c.in_ok-plan.ensures) (mastrovito_fits (degree_of (ring_of c.args.ring.now)) (modulus_of (ring_of c.args.ring.now)) c.args.ring.now.ring.fits.small c.args.signature.now.words c.in-Ok.ensures.form.ports.words c.requires.wide) in
+    let fits = subst Q (sym c.in_ok-plan.ensures) (mastrovito_fits (degree_of (ring_of c.args.ring.now)) (modulus_of (ring_of c.args.ring.now)) c.args.ring.now.ring.fits.small c.args.signature.now.words c.in-Ok.ensures.form.ports.words (wide_of (degree_of (ring_of c.args.ring.now)) 2 c.args.signature.now.words c.in-Ok.ensures.form.ports.words c.requires.wide)) in
     subst P (sym c.in_ok-net.ensures) (made_plain c.args.signature.now.words [] [] (outputs_in c.args.signature.now.words) c.in_ok-plan.plan c.in-Ok.ensures.form.ports.names fits)
 
 pub returns-clause-computes : goal.returns-clause-computes
@@ -31,4 +32,4 @@ returns-clause-computes c =
     let mul : ℕ → ℕ → ℕ = product 1 (degree_of (ring_of c.args.ring.now)) bit_mul (modulus_of (ring_of c.args.ring.now)) in
     let made : c.in_ok-net.net ≡ made_mastrovito (degree_of (ring_of c.args.ring.now)) (modulus_of (ring_of c.args.ring.now)) c.args.signature.now.words = c.in_ok-net.ensures ∙ ap (λ (plan : Plan). made_of c.args.signature.now.words [] [] plan) c.in_ok-plan.ensures in
     let P : NetList → Type 0 = λ net. ComputesOfTwo (degree_of (ring_of c.args.ring.now)) mul net c.args.signature.now.words (first_values (degree_of (ring_of c.args.ring.now)) (λ i. 2 ^ i)) 0 mul in
-    subst P (sym made) (mastrovito_computes (degree_of (ring_of c.args.ring.now)) (modulus_of (ring_of c.args.ring.now)) c.args.ring.now.ring.fits c.args.ring.now.no_zero_divisors c.args.signature.now.words c.in-Ok.ensures.form.ports.words c.requires.wide c.in-Ok.ensures.form.ports.names)
+    subst P (sym made) (mastrovito_computes (degree_of (ring_of c.args.ring.now)) (modulus_of (ring_of c.args.ring.now)) c.args.ring.now.ring.fits c.args.ring.now.no_zero_divisors c.args.signature.now.words c.in-Ok.ensures.form.ports.words (wide_of (degree_of (ring_of c.args.ring.now)) 2 c.args.signature.now.words c.in-Ok.ensures.form.ports.words c.requires.wide) c.in-Ok.ensures.form.ports.names)

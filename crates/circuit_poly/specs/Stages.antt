@@ -1,0 +1,33 @@
+-- All stages of a circuit with bound words: its cuts, and then those of its words. Source: this project's own.
+use Rattle.std.specs.Prelude.{ℕ, List, map}
+use Rattle.net_words.specs.Binding.{BoundNet}
+use Rattle.gf_basis.specs.BasisParts.{elements_of}
+use Rattle.gf_basis.specs.declared.bases.Basis.{Basis}
+use Rattle.poly_mixed.specs.declared.stage.ReduceFault.{ReduceFault}
+use Rattle.poly_mixed.specs.declared.stage.ReduceFault.TheVariants.{TooManyTerms, OutOfMemory}
+use Rattle.poly_mixed.specs.declared.stage.Stage.{Stage}
+use Rattle.poly_mixed.specs.declared.stage.Stage.TheVariants.{Cut, WordProduct, WordSum, SpecProduct, SpecSum, InstanceProduct, InstanceSum}
+use Rattle.circuit_model.specs.Bases.{circuit_in}
+use Rattle.circuit_model.specs.OfBinding.{output_basis}
+use Rattle.stage_model.specs.CircuitListing.{bound_cuts}
+use Rattle.stage_model.specs.Listing.{followed_by, IsOver, Joined, Earlier, Later, Listing}
+use Rattle.stage_model.specs.WordListing.{word_listing}
+
+-- the cuts, and then the stages of words
+abbrev pub stages_in : ℕ → (ℕ → ℕ → ℕ) → BoundNet → List Basis → Listing (Joined Stage Stage)
+stages_in k mul bound bases = followed_by (bound_cuts bound (output_basis bound.bound.words (map elements_of bases))) (word_listing (circuit_in k mul bound bases))
+
+-- a cut is one of the first stages, and all others are later ones
+abbrev pub joined : Stage → Joined Stage Stage
+joined (Cut t) = Earlier (Cut t)
+joined (WordProduct w s j) = Later (WordProduct w s j)
+joined (WordSum w s) = Later (WordSum w s)
+joined (SpecProduct s j) = Later (SpecProduct s j)
+joined (SpecSum s) = Later (SpecSum s)
+joined (InstanceProduct i s j) = Later (InstanceProduct i s j)
+joined (InstanceSum i s) = Later (InstanceSum i s)
+
+-- the first stage over the bound, with its size; want of memory is free
+abbrev pub IsFirstRefusal : ℕ → (ℕ → ℕ → ℕ) → Listing (Joined Stage Stage) → ℕ → ReduceFault → Type 0
+IsFirstRefusal k mul listing bound (TooManyTerms stage n) = IsOver k mul listing bound (joined stage) n
+IsFirstRefusal k mul listing bound OutOfMemory = Unit {0}
