@@ -98,6 +98,8 @@ PATTERNS = {number: [pattern_of(text) for text in texts] for number, texts in LI
 def fault_of(line):
     """The number of the fault whose line this is, without its LF; none where it is no fault's line."""
     number, text = line[6:8], line[10:]
+    # of the second signature of `iso`
+    text = text.removeprefix(b'second ') if b'20' <= number < b'30' else text
     if line[:6] == b'fault ' and line[8:10] == b': ' and number in PATTERNS:
         if any(pattern.fullmatch(text) for pattern in PATTERNS[number]):
             return number.decode()
