@@ -115,9 +115,11 @@ class Timed:
         late = []
         timer = threading.Timer(limit, lambda: (late.append(1), os.killpg(child.pid, signal.SIGKILL)))
         timer.start()
-        _, status, usage = os.wait4(child.pid, 0)
+        try:
+            _, status, usage = os.wait4(child.pid, 0)
+        finally:
+            timer.cancel()
         self.seconds = time.perf_counter() - begun
-        timer.cancel()
         child.returncode = os.waitstatus_to_exitcode(status)
         self.status = None if late else child.returncode
         self.mebibytes = usage.ru_maxrss / 1024
