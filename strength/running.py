@@ -104,14 +104,10 @@ def fault_of(line):
     return None
 
 
-class Ended:
-    """What a run did: its status (None over the limit), what it wrote, seconds, MiB at most."""
+class Timed:
+    """A run of a command: its status (None over the limit), seconds, MiB at most."""
 
-    def __init__(self, words, limit, kept):
-        out, err = kept
-        for file in kept:
-            file.seek(0)
-            file.truncate()
+    def __init__(self, words, limit, out, err=None):
         begun = time.perf_counter()
         child = subprocess.Popen(words, stdin=subprocess.DEVNULL, stdout=out, stderr=err, start_new_session=True)
         late = []
@@ -123,6 +119,16 @@ class Ended:
         child.returncode = os.waitstatus_to_exitcode(status)
         self.status = None if late else child.returncode
         self.mebibytes = usage.ru_maxrss / 1024
+
+
+class Ended(Timed):
+    """What a run of the program did, and what it wrote."""
+
+    def __init__(self, words, limit, kept):
+        for file in kept:
+            file.seek(0)
+            file.truncate()
+        super().__init__(words, limit, *kept)
         self.output, self.error = (self.read(file) for file in kept)
 
     @staticmethod

@@ -2,7 +2,7 @@
 from .blif import Design
 from .fields import Fault
 from .nets import Bound, Flat, Job
-from .polynomials import Bounded, added, cuts, in_words, raised
+from .polynomials import Bounded, added, cuts, in_words, product_by, raised
 
 
 def refused(text):
@@ -154,11 +154,7 @@ class Composition:
 
 
 def multiplied(field, p, q):
-    product = {}
-    for e, a in p.items():
-        for f, b in q.items():
-            added(product, tuple(raised(field, x, y) for x, y in zip(e, f)), field.mul(a, b))
-    return product
+    return product_by(field, p, q, lambda e, f: tuple(raised(field, x, y) for x, y in zip(e, f)))
 
 
 def conjugate(field, p, j):

@@ -28,15 +28,20 @@ def element(big, x, number):
     return total
 
 
+def cleared(kept, value, argument):
+    """A value with its argument, after those that are kept took away their leading bits."""
+    for lead, other, of in kept:
+        if value & lead:
+            value, argument = value ^ other, argument ^ of
+    return value, argument
+
+
 def subfield(big, n):
     """A basis of the elements that n squares leave as they are."""
     # the kernel of a -> a^(2^n) + a, by elimination of pairs of a value and its argument
     kept, kernel = [], []
     for i in range(big.k):
-        value, argument = big.square_often(1 << i, n) ^ (1 << i), 1 << i
-        for lead, other, of in kept:
-            if value & lead:
-                value, argument = value ^ other, argument ^ of
+        value, argument = cleared(kept, big.square_often(1 << i, n) ^ (1 << i), 1 << i)
         if value:
             kept.append((1 << (value.bit_length() - 1), value, argument))
         else:
@@ -60,15 +65,10 @@ def least_of_two(big, c1, c0):
     """The least root of Y^2 + c1*Y + c0: squaring and multiplying add up bit by bit."""
     rows = [(big.mul(1 << i, 1 << i) ^ big.mul(c1, 1 << i), 1 << i) for i in range(big.k)]
     kept = []
-    for value, argument in rows:
-        for lead, other, of in kept:
-            if value & lead:
-                value, argument = value ^ other, argument ^ of
+    for row in rows:
+        value, argument = cleared(kept, *row)
         if value:
             kept.append((1 << (value.bit_length() - 1), value, argument))
-    found, wanted = 0, c0
-    for lead, value, argument in kept:
-        if wanted & lead:
-            wanted, found = wanted ^ value, found ^ argument
+    wanted, found = cleared(kept, c0, 0)
     assert wanted == 0
     return min(found, found ^ c1)

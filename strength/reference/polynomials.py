@@ -187,12 +187,17 @@ def one_word(flat, p, w, bounded, recorded):
     return total
 
 
-def bits_product(field, p, q):
+def product_by(field, p, q, joined):
+    """The product of two polynomials, by what two monomials multiply to."""
     product = {}
     for s, a in p.items():
         for t, b in q.items():
-            added(product, s | t, field.mul(a, b))
+            added(product, joined(s, t), field.mul(a, b))
     return product
+
+
+def bits_product(field, p, q):
+    return product_by(field, p, q, frozenset.union)
 
 
 def expanded(flat, spec, bounded):
