@@ -23,6 +23,16 @@ const FILES: &[(&str, &str)] = &[
     ),
     ("bare", "gfsig 1\nfield 0x3\nword Z output poly z\n"),
     ("one", ".model one\n.outputs z\n.names z\n1\n.end\n"),
+    ("ab", "Z = A*B"),
+    (
+        "t",
+        "gftable 1\n0x0\n0x0\n0x0\n0x0\n0x0\n0x1\n0x2\n0x3\n0x0\n0x2\n0x3\n0x1\n0x0\n0x3\n0x1\n0x2\n",
+    ),
+    ("big", "gfsig 1\nfield 0x13\nword Z output poly z0 z1 z2 z3\n"),
+    (
+        "tower",
+        "gfsig 1\nfield 0x7\ntower 0x2 0x1\nword Z output poly z0 z1 z2 z3\n",
+    ),
 ];
 
 const PRODUCT: &str = "Z = A[0]*B[0] + 0x2*A[0]*B[1] + 0x2*A[1]*B[0] + 0x3*A[1]*B[1]\n";
@@ -43,6 +53,69 @@ fn failures_outside(rt: HostRuntime) -> Result<(), Fail> {
         let (status, bytes) = answer(alloc, words, files_of(alloc, FILES)?, reads, writes, room)?;
         assert_eq!(rt; bytes.as_slice(), text.as_bytes());
         assert_eq!(rt; status, 4);
+    }
+    Ok(())
+}
+
+// Each read of each command fails in turn, and then its first write.
+#[test]
+fn failures_of_each_command(rt: HostRuntime) -> Result<(), Fail> {
+    let alloc = rt.alloc();
+    for (words, reads) in [
+        (["abstract", "s4", "mul"].as_slice(), 2),
+        (&["bits", "s4", "mul"], 2),
+        (&["check", "s4", "mul", "ab"], 3),
+        (&["same", "s4", "mul", "mul"], 3),
+        (&["eval", "s4", "mul", "0x2", "0x3"], 2),
+        (&["table", "s4", "mul"], 2),
+        (&["lift", "s4", "t"], 2),
+        (&["iso", "big", "tower"], 2),
+    ] {
+        for read in 1..=reads {
+            let files = files_of(alloc, FILES)?;
+            let (status, bytes) = answer(alloc, words, files, &[read], &[], 1000)?;
+            assert!(rt; bytes.is_empty(), "at {words:?} and read {read}");
+            assert_eq!(rt; status, 4, "at {words:?} and read {read}");
+        }
+        let (status, bytes) = answer(alloc, words, files_of(alloc, FILES)?, &[], &[1], 1000)?;
+        assert!(rt; bytes.is_empty(), "at {words:?}");
+        assert_eq!(rt; status, 4, "at {words:?}");
+    }
+    Ok(())
+}
+
+// What a sink of this room takes of a text.
+fn part(text: &[u8], room: usize) -> &[u8] {
+    if room < text.len() {
+        &text[..room]
+    } else {
+        text
+    }
+}
+
+// Sinks of room 0 to 8, and the text of each command or its beginning.
+#[test]
+fn sinks_of_little_room(rt: HostRuntime) -> Result<(), Fail> {
+    let alloc = rt.alloc();
+    for (words, text) in [
+        (["abstract", "s4", "mul"].as_slice(), "Z = A*B\n"),
+        (&["bits", "s4", "mul"], PRODUCT),
+        (&["check", "s4", "mul", "ab"], "accepted\nZ = A*B\n"),
+        (&["same", "s4", "mul", "mul"], "same\n"),
+        (&["eval", "s4", "mul", "0x2", "0x3"], "Z = 0x1\n"),
+        (&["table", "s4", "mul"], "gftable 1\n"),
+        (&["lift", "s4", "t"], "Z = A*B\n"),
+        (&["iso", "big", "tower"], "0x1\n0x6\n0x2\n0xc\n"),
+        (&["iso", "big"], "fault 01: words\n"),
+    ] {
+        for room in 0..=8 {
+            let files = files_of(alloc, FILES)?;
+            let (status, bytes) = answer(alloc, words, files, &[], &[], room)?;
+            let taken = part(text.as_bytes(), room);
+            assert_eq!(rt; bytes.as_slice(), taken, "at {words:?} and room {room}");
+            let wanted = if room < text.len() { 4 } else { 0 };
+            assert_eq!(rt; status, wanted, "at {words:?} and room {room}");
+        }
     }
     Ok(())
 }
