@@ -28,7 +28,10 @@ const FILES: &[(&str, &str)] = &[
         "t",
         "gftable 1\n0x0\n0x0\n0x0\n0x0\n0x0\n0x1\n0x2\n0x3\n0x0\n0x2\n0x3\n0x1\n0x0\n0x3\n0x1\n0x2\n",
     ),
-    ("big", "gfsig 1\nfield 0x13\nword Z output poly z0 z1 z2 z3\n"),
+    (
+        "big",
+        "gfsig 1\nfield 0x13\nword Z output poly z0 z1 z2 z3\n",
+    ),
     (
         "tower",
         "gfsig 1\nfield 0x7\ntower 0x2 0x1\nword Z output poly z0 z1 z2 z3\n",

@@ -35,10 +35,7 @@ fn net(rt: &impl Abort, alloc: Global, text: &[u8]) -> Net {
 }
 
 // The feeds of these nets, cycles and sources.
-fn feeds_of(
-    alloc: Global,
-    rows: &[(&str, u32, Source)],
-) -> Result<Vec<FeedText>, AllocError> {
+fn feeds_of(alloc: Global, rows: &[(&str, u32, Source)]) -> Result<Vec<FeedText>, AllocError> {
     let mut feeds = Vec::new(alloc);
     for &(net, cycle, source) in rows {
         feeds.push(FeedText {
@@ -75,9 +72,7 @@ fn are_feeds(words: &[WordText], k: usize, feeds: &[FeedText]) -> bool
     match feeds {
         [] => true,
         [feed, rest @ ..] => {
-            has_source(words, k, feed.source)
-                && is_apart(feed, rest)
-                && are_feeds(words, k, rest)
+            has_source(words, k, feed.source) && is_apart(feed, rest) && are_feeds(words, k, rest)
         }
     }
 }
