@@ -97,12 +97,7 @@ fn unfed<F: Field>(alloc: Global, field: &F, setting: &Setting, kind: Kind) -> R
 }
 
 // The net of a kind that asks for a field without a tower.
-fn over_base<F: Field>(
-    alloc: Global,
-    field: &F,
-    setting: &Setting,
-    kind: Kind,
-) -> Result<Net, Stop>
+fn over_base<F: Field>(alloc: Global, field: &F, setting: &Setting, kind: Kind) -> Result<Net, Stop>
     requires wide { AllWide (F.degree field.now) setting.now.signature.words }
     requires base { IsOfRing kind }
     ensures gives { GivesBy (λ net. net) result (MadeOf (setting_value (F.degree field.now) (F.product field.now) setting.now) kind) ⊥ ⊥ }

@@ -21,8 +21,7 @@ returns-in-Some-clause-gives g c =
     let signature = c.args.setting.now.signature in
     let P : Option NetList → Type 0 = λ found. IsSome found ↔ HasNormalForm signature in
     let Q : Option NetList → Type 0 = λ found. IfSome found (λ net. net ≡ normal_net k product c.args.basis.now signature.words) in
-    let form : HasNormalForm signature = (subst P c.in-Some.is c.in_ok-net.ensures.form).0 refl in
-    (
+    let form : HasNormalForm signature = (subst P c.in-Some.is c.in_ok-net.ensures.form).0 refl in (
       normal_form setting c.args._gamma c.requires.first c.requires.small c.requires.independent form,
       made_normal setting c.args._gamma c.requires.first c.args.basis.now c.requires.over c.requires.elements c.in-Some.net (subst Q c.in-Some.is c.in_ok-net.ensures.made),
     )

@@ -22,8 +22,7 @@ returns-in-Some-clause-gives g c =
     let degree : k ≡ setting.k = omega (arith, c.if-k.false, c.k.ensures, c.k-2.ensures) in
     let P : Option NetList → Type 0 = λ found. IsSome found ↔ HasDigitForm k signature in
     let Q : Option NetList → Type 0 = λ found. IfSome found (λ net. IsDigitNet k (product 1 k bit_mul modulus) (x_of k modulus) signature net) in
-    let form : HasDigitForm k signature = (subst P c.in-Some.is c.in_ok-net.ensures.form).0 refl in
-    (
+    let form : HasDigitForm k signature = (subst P c.in-Some.is c.in_ok-net.ensures.form).0 refl in (
       digits_form setting k modulus ring.ring.fits ring.no_zero_divisors c.requires.modulus c.requires.no_tower degree form,
       digits_net setting k modulus ring.ring.fits ring.no_zero_divisors c.requires.modulus c.requires.no_tower degree c.in-Some.net (subst Q c.in-Some.is c.in_ok-net.ensures.made),
     )

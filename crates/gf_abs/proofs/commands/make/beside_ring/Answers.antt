@@ -11,8 +11,7 @@ returns-in-Ok-clause-gives g c =
     let ring = c.args.ring.now in
     let k = degree_of (ring_of ring) in
     let modulus = modulus_of (ring_of ring) in
-    let degree : k ≡ setting.k = omega (arith, c.if-k.false, c.k.ensures, c.k-2.ensures) in
-    (
+    let degree : k ≡ setting.k = omega (arith, c.if-k.false, c.k.ensures, c.k-2.ensures) in (
       over_ring_form setting k modulus ring.ring.fits ring.no_zero_divisors c.requires.modulus c.requires.no_tower c.args.kind c.requires.base degree c.in-Ok.ensures.form,
       over_ring_net setting k modulus ring.ring.fits ring.no_zero_divisors c.requires.modulus c.requires.no_tower c.args.kind c.requires.base degree c.in-Ok.net c.in-Ok.ensures.made,
     )

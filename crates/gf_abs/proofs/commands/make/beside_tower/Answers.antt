@@ -15,8 +15,7 @@ returns-in-Ok-clause-gives g c =
     let modulus = modulus_of (ring_of base) in
     let m = size_of (ring_of tower) in
     let cs = coefficients_of (ring_of tower) in
-    let whole : n * m ≡ setting.k = omega (arith, c.if-k.false, c.k.ensures, c.k-2.ensures) in
-    (
+    let whole : n * m ≡ setting.k = omega (arith, c.if-k.false, c.k.ensures, c.k-2.ensures) in (
       over_tower_form setting n modulus m tower.ring.low cs base.ring.fits tower.ring.fits base.no_zero_divisors tower.no_zero_divisors c.requires.modulus c.requires.tower c.requires.one_step whole c.in-Ok.ensures.form,
       over_tower_net setting n modulus m tower.ring.low cs base.ring.fits tower.ring.fits base.no_zero_divisors tower.no_zero_divisors c.requires.modulus c.requires.tower c.requires.one_step whole c.in-Ok.net c.in-Ok.ensures.made,
     )

@@ -22,3 +22,9 @@ returns-in-Squarer-clause-form c = let P : Kind → Type 0 = λ kind. OnOk c.squ
 
 pub returns-in-Squarer-clause-unfit : goal.returns-in-Squarer-clause-unfit
 returns-in-Squarer-clause-unfit c = let P : Kind → Type 0 = λ kind. IsErrOf c.squarer.result faults.Unfit → HasRingForm kind c.args.signature.now → ⊥ in subst P (sym c.in-Squarer.is) c.squarer.ensures.unfit
+
+pub mastrovito-requires-clause-wide : goal.mastrovito-requires-clause-wide
+mastrovito-requires-clause-wide c = λ word has unfed. c.requires.wide word has
+
+pub squarer-requires-clause-wide : goal.squarer-requires-clause-wide
+squarer-requires-clause-wide c = λ word has unfed. c.requires.wide word has
