@@ -4,6 +4,7 @@ pub mod LineLemmas
 pub mod HeadLemmas
 pub mod LoopLemmas
 pub mod CheckLemmas
+pub mod EndLemmas
 pub mod RankLemmas
 pub mod InsideLemmas
 pub mod OutputLemmas
@@ -11,6 +12,9 @@ pub mod WordsLemmas
 pub mod BasisLemmas
 pub mod FormLemmas
 pub mod SumLemmas
+pub mod PlaceLemmas
+pub mod HeldLemmas
+pub mod RowLemmas
 pub mod SubsetLemmas
 pub mod WordsAloneLemmas
 pub mod SaidLemmas

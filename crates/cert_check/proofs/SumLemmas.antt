@@ -1,9 +1,9 @@
 -- Sums of basis elements, place by place, and tables over ranks.
 use Rattle.std.proofs.Common.{◌≡◌, ℕ, zero, suc, ◌<◌, ◌+◌, ◌*◌, ◌/◌, ◌%◌, Bool, true, false, cond, List, [], ◌∷◌, length, map, get_or, take, bit_xor, refl, sym, ap, subst, ◌∙◌, arith, Some, Result, Ok, Err}
-use Rattle.std.specs.Prelude.{IfOk, slice_get, slice_index}
+use Rattle.std.specs.Prelude.{IfOk, Option, slice_get, slice_index}
 use lib.Bits.{xor_zero_l, xor_zero_r, xor_assoc}
 use Rattle.irreducible.specs.Span.{combination}
-use Rattle.poly_mixed.specs.Polynomial.{Polynomial, Terms, IsPolynomialOf}
+use Rattle.poly_mixed.specs.Polynomial.{Terms}
 use Rattle.poly_mixed.specs.Table.{index, table_bit, table_value}
 use Rattle.poly_mixed.specs.declared.steps.Generator.{Generator}
 use Rattle.poly_mixed.specs.declared.steps.Generator.TheVariants.{Bit}
@@ -13,6 +13,9 @@ use Rattle.graph_core.proofs.ListLemmas.{get_below}
 use Rattle.net_words.specs.Binding.{BoundNet}
 use Rattle.circuit_model.specs.Word.{Word}
 use Rattle.cert_check.specs.Running.{rank_among, bit_value, dual_form, dual_at, dual_words, generator_value}
+use Rattle.cert_check.specs.declared.form.Form.{Form}
+use Rattle.cert_check.specs.declared.generator.Split.{Split}
+use Rattle.cert_check.specs.private.Held.{IsSplit}
 
 low : (b : Bool) (m r : ℕ) → (cond b 1 0 + 2 * m) % 2 * r ≡ cond b r 0
 low true m r = let one : (1 + 2 * m) % 2 ≡ 1 = omega arith in ap (λ c. c * r) one ∙ (let e : 1 * r ≡ r = omega arith in e)
@@ -49,18 +52,19 @@ table_added bit order inputs ranks table other old new are same is =
     ∙ ap (λ n. cond (table_bit table n) 1 0) (index_map bit (rank_among order) inputs))
 
 -- the generator of a bit, with the basis of its word
-bit_generator : (k : ℕ) (mul : ℕ → ℕ → ℕ) (bound : BoundNet) (bases : List Basis) (w i : ℕ) (basis : Basis) (g : Generator) (ts : Terms) → w < length (dual_words bound bases) → ((x : Word) → slice_get (dual_words bound bases) w ≡ Some x → x.basis ≡ duals_of basis) → g ≡ Bit w i
-    → IsPolynomialOf k mul (λ p. bit_xor (bit_value (p.is_one (k * w + i))) (dual_form k mul (slice_index (duals_of basis) i) (slice_index p.words w))) ts → IsPolynomialOf k mul (generator_value k mul bound bases g) ts
-bit_generator k mul bound bases w i basis g ts less own same is =
+bit_generator : (k : ℕ) (mul : ℕ → ℕ → ℕ) (bound : BoundNet) (bases : List Basis) (w i : ℕ) (basis : Basis) (g : Generator) (near : Terms) (form : Option Form) → w < length (dual_words bound bases) → ((x : Word) → slice_get (dual_words bound bases) w ≡ Some x → x.basis ≡ duals_of basis) → g ≡ Bit w i
+    → IsSplit k mul (λ p. bit_xor (bit_value (p.is_one (k * w + i))) (dual_form k mul (slice_index (duals_of basis) i) (slice_index p.words w))) near form → IsSplit k mul (generator_value k mul bound bases g) near form
+bit_generator k mul bound bases w i basis g near form less own same is =
     let found = get_below (dual_words bound bases) w less in
     let dual : dual_at (slice_get (dual_words bound bases) w) i ≡ slice_index (duals_of basis) i = ap (λ o. dual_at o i) found.1 ∙ ap (λ ds. slice_index ds i) (own found.0 found.1) in
-    let P : Generator → Type 0 = λ h. IsPolynomialOf k mul (generator_value k mul bound bases h) ts in
+    let P : Generator → Type 0 = λ h. IsSplit k mul (generator_value k mul bound bases h) near form in
     subst P (sym same) (record {
       reduced = is.reduced;
+      is_form = is.is_form;
       values = λ p at. is.values p at ∙ ap (λ d. bit_xor (bit_value (p.is_one (k * w + i))) (dual_form k mul d (slice_index p.words w))) (sym dual);
     })
 
-pub bit_comes : {E : Type 0} (k : ℕ) (mul : ℕ → ℕ → ℕ) (bound : BoundNet) (bases : List Basis) (w i : ℕ) (basis : Basis) (g : Generator) (r : Result Polynomial E) → w < length (dual_words bound bases) → ((x : Word) → slice_get (dual_words bound bases) w ≡ Some x → x.basis ≡ duals_of basis) → g ≡ Bit w i
-    → IfOk r (λ q. IsPolynomialOf k mul (λ p. bit_xor (bit_value (p.is_one (k * w + i))) (dual_form k mul (slice_index (duals_of basis) i) (slice_index p.words w))) q.terms) → IfOk r (λ q. IsPolynomialOf k mul (generator_value k mul bound bases g) q.terms)
-bit_comes k mul bound bases w i basis g (Ok q) less own same is = bit_generator k mul bound bases w i basis g q.terms less own same is
+pub bit_comes : {E : Type 0} (k : ℕ) (mul : ℕ → ℕ → ℕ) (bound : BoundNet) (bases : List Basis) (w i : ℕ) (basis : Basis) (g : Generator) (r : Result Split E) → w < length (dual_words bound bases) → ((x : Word) → slice_get (dual_words bound bases) w ≡ Some x → x.basis ≡ duals_of basis) → g ≡ Bit w i
+    → IfOk r (λ s. IsSplit k mul (λ p. bit_xor (bit_value (p.is_one (k * w + i))) (dual_form k mul (slice_index (duals_of basis) i) (slice_index p.words w))) s.near.terms s.form) → IfOk r (λ s. IsSplit k mul (generator_value k mul bound bases g) s.near.terms s.form)
+bit_comes k mul bound bases w i basis g (Ok s) less own same is = bit_generator k mul bound bases w i basis g s.near.terms s.form less own same is
 bit_comes k mul bound bases w i basis g (Err e) less own same is = tt

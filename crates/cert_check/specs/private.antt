@@ -1,3 +1,4 @@
 pub mod Scanning
 pub mod Reading
+pub mod Held
 pub mod Kept

@@ -10,7 +10,8 @@ ghost use Rattle.cert_check.specs.Certificate.{Certificate, begun, with_pair, Li
 ghost use Rattle.cert_check.specs.Verdict.{IsRunningSum, AsksAtMost, VerdictAtEnd, VerdictFrom, Check, verdict_of};
 ghost use Rattle.cert_check.specs.declared.fault.CertFault.TheVariants.{TooManyTerms};
 ghost use Rattle.cert_check.specs.private.Reading.{AreDrivers, IsLine, IsMultiplier, multiplier_in, said_in};
-ghost use Rattle.cert_check.specs.private.Kept.{terms_of, with_line, IsGeneratorOf, IsLast, IsLineOf, IsKept, LineAsks};
+ghost use Rattle.cert_check.specs.private.Held.{whole, IsHeld, IsLast, IsSettled};
+ghost use Rattle.cert_check.specs.private.Kept.{terms_of, with_line, IsGeneratorOf, IsLineOf, IsKept, LineAsks};
 
 use crate::drivers::drivers;
 use crate::fault::{CertFault, LineFault, at_line};
@@ -18,6 +19,7 @@ use crate::head::read_head;
 use crate::last::LastGenerator;
 use crate::line::{Line, Multiplier, read_line};
 use crate::running::{add_product, first_sum};
+use crate::running_sum::RunningSum;
 use gf_basis::Basis;
 use gf_field::Field;
 use net_words::Combinational;
@@ -39,7 +41,7 @@ pub enum CertVerdict {
 struct Checking {
     claim: Poly,
     shared: Vec<Poly>,
-    sum: Poly,
+    sum: RunningSum,
     last: LastGenerator,
 }
 
@@ -53,6 +55,21 @@ fn check_size(sum: &Poly, line: u32, bound: u32) -> Result<(), CertFault>
         return Err(CertFault::TooManyTerms { line, terms });
     }
     Ok(())
+}
+
+// The same of a running sum that is settled.
+fn check_sum(sum: &RunningSum, k: u32, line: u32, bound: u32) -> Result<(), CertFault>
+    requires { IsSettled k bound sum.now }
+    ensures within { OnOk result (length (whole k sum.now) ≤ bound) }
+    ensures over { IfErr result (λ fault. (fault ≡ TooManyTerms line (length (whole k sum.now))) × (bound < length (whole k sum.now))) }
+{
+    match sum.over(k, bound) {
+        Some(terms) => Err(CertFault::TooManyTerms {
+            line,
+            terms: terms as u64,
+        }),
+        None => Ok(()),
+    }
 }
 
 impl Checking {
@@ -71,13 +88,15 @@ impl Checking {
     ) -> Result<(), CertFault>
         requires bases { AreBases (F.degree field.now) (F.product field.now) circuit.now bases.now }
         requires drivers { AreDrivers circuit.now.net drivers.now }
-        requires kept { (c : Certificate) × IsKept (F.degree field.now) (F.product field.now) circuit.now bases.now bound c self.old.claim.terms (terms_of self.old.shared.items) self.old.sum.terms }
+        requires kept { (c : Certificate) × IsKept (F.degree field.now) (F.product field.now) circuit.now bases.now bound c self.old.claim.terms (terms_of self.old.shared.items) (whole (F.degree field.now) self.old.sum) }
+        requires held { IsHeld (F.degree field.now) self.old.sum }
         requires last { IsLast (F.degree field.now) (F.product field.now) circuit.now bases.now self.old.last }
         requires generator { IsGeneratorOf (F.degree field.now) circuit.now bases.now generator }
         requires multiplier { IsMultiplier (F.degree field.now) (length self.old.shared.items) multiplier.now }
-        ensures asks { (c : Certificate) → IsKept (F.degree field.now) (F.product field.now) circuit.now bases.now bound c self.old.claim.terms (terms_of self.old.shared.items) self.old.sum.terms → Fits refusal (λ u. tt) result (AsksAtMost (F.degree field.now) (F.product field.now) circuit.now bases.now bound number (with_pair c generator (multiplier_in c.shared multiplier.now))) }
-        ensures kept { (c : Certificate) → IsKept (F.degree field.now) (F.product field.now) circuit.now bases.now bound c self.old.claim.terms (terms_of self.old.shared.items) self.old.sum.terms → OnOk result (IsKept (F.degree field.now) (F.product field.now) circuit.now bases.now bound (with_pair c generator (multiplier_in c.shared multiplier.now)) self.new.claim.terms (terms_of self.new.shared.items) self.new.sum.terms) }
+        ensures asks { (c : Certificate) → IsKept (F.degree field.now) (F.product field.now) circuit.now bases.now bound c self.old.claim.terms (terms_of self.old.shared.items) (whole (F.degree field.now) self.old.sum) → Fits refusal (λ u. tt) result (AsksAtMost (F.degree field.now) (F.product field.now) circuit.now bases.now bound number (with_pair c generator (multiplier_in c.shared multiplier.now))) }
+        ensures kept { (c : Certificate) → IsKept (F.degree field.now) (F.product field.now) circuit.now bases.now bound c self.old.claim.terms (terms_of self.old.shared.items) (whole (F.degree field.now) self.old.sum) → OnOk result (IsKept (F.degree field.now) (F.product field.now) circuit.now bases.now bound (with_pair c generator (multiplier_in c.shared multiplier.now)) self.new.claim.terms (terms_of self.new.shared.items) (whole (F.degree field.now) self.new.sum)) }
         ensures few { OnOk result (length self.new.shared.items ≤ length self.old.shared.items) }
+        ensures held { OnOk result (IsHeld (F.degree field.now) self.new.sum) }
         ensures last { OnOk result (IsLast (F.degree field.now) (F.product field.now) circuit.now bases.now self.new.last) }
     {
         let factor = multiplier.among(self.shared.as_slice());
@@ -92,7 +111,8 @@ impl Checking {
             &mut self.last,
             &mut self.sum,
         )?;
-        check_size(&self.sum, number, bound)
+        self.sum.settle(alloc, field, bound)?;
+        check_sum(&self.sum, field.k(), number, bound)
     }
 
     // Adds what a line says, and compares the sum with the bound after a pair.
@@ -109,12 +129,14 @@ impl Checking {
     ) -> Result<(), CertFault>
         requires bases { AreBases (F.degree field.now) (F.product field.now) circuit.now bases.now }
         requires drivers { AreDrivers circuit.now.net drivers.now }
-        requires kept { (c : Certificate) × IsKept (F.degree field.now) (F.product field.now) circuit.now bases.now bound c self.old.claim.terms (terms_of self.old.shared.items) self.old.sum.terms }
+        requires kept { (c : Certificate) × IsKept (F.degree field.now) (F.product field.now) circuit.now bases.now bound c self.old.claim.terms (terms_of self.old.shared.items) (whole (F.degree field.now) self.old.sum) }
+        requires held { IsHeld (F.degree field.now) self.old.sum }
         requires last { IsLast (F.degree field.now) (F.product field.now) circuit.now bases.now self.old.last }
         requires line { IsLineOf (F.degree field.now) circuit.now bases.now (length self.old.shared.items) line }
-        ensures asks { (c : Certificate) → IsKept (F.degree field.now) (F.product field.now) circuit.now bases.now bound c self.old.claim.terms (terms_of self.old.shared.items) self.old.sum.terms → Fits refusal (λ u. tt) result (LineAsks (F.degree field.now) (F.product field.now) circuit.now bases.now bound number c line) }
-        ensures kept { (c : Certificate) → IsKept (F.degree field.now) (F.product field.now) circuit.now bases.now bound c self.old.claim.terms (terms_of self.old.shared.items) self.old.sum.terms → OnOk result (IsKept (F.degree field.now) (F.product field.now) circuit.now bases.now bound (with_line c line) self.new.claim.terms (terms_of self.new.shared.items) self.new.sum.terms) }
+        ensures asks { (c : Certificate) → IsKept (F.degree field.now) (F.product field.now) circuit.now bases.now bound c self.old.claim.terms (terms_of self.old.shared.items) (whole (F.degree field.now) self.old.sum) → Fits refusal (λ u. tt) result (LineAsks (F.degree field.now) (F.product field.now) circuit.now bases.now bound number c line) }
+        ensures kept { (c : Certificate) → IsKept (F.degree field.now) (F.product field.now) circuit.now bases.now bound c self.old.claim.terms (terms_of self.old.shared.items) (whole (F.degree field.now) self.old.sum) → OnOk result (IsKept (F.degree field.now) (F.product field.now) circuit.now bases.now bound (with_line c line) self.new.claim.terms (terms_of self.new.shared.items) (whole (F.degree field.now) self.new.sum)) }
         ensures few { OnOk result (length self.new.shared.items ≤ length self.old.shared.items + 1) }
+        ensures held { OnOk result (IsHeld (F.degree field.now) self.new.sum) }
         ensures last { OnOk result (IsLast (F.degree field.now) (F.product field.now) circuit.now bases.now self.new.last) }
     {
         match line {
@@ -137,10 +159,19 @@ impl Checking {
     }
 
     // The verdict, where nothing follows; the next line would have this number.
-    fn ended(self, number: u32, rest: &[u8]) -> Result<CertVerdict, CertFault>
-        ensures { (k : _) (mul : _) (bound : _) (bases : _) (most : _) (c : Certificate) → IsKept k mul bound bases most c self.claim.terms (terms_of self.shared.items) self.sum.terms → Fits refusal verdict_of result (VerdictAtEnd k mul bound bases number (lines rest.now) c) }
+    fn ended(
+        mut self,
+        alloc: Global,
+        k: u32,
+        number: u32,
+        rest: &[u8],
+    ) -> Result<CertVerdict, CertFault>
+        requires k_in { (1 ≤ k) × (k ≤ 64) }
+        requires held { IsHeld k self.sum }
+        ensures { (mul : _) (bound : _) (bases : _) (most : _) (c : Certificate) → IsKept k mul bound bases most c self.claim.terms (terms_of self.shared.items) (whole k self.sum) → Fits refusal verdict_of result (VerdictAtEnd k mul bound bases number (lines rest.now) c) }
     {
         if rest.is_empty() {
+            self.sum.flush(alloc, k)?;
             let remaining = self.sum.len() as u64;
             if remaining == 0 {
                 Ok(CertVerdict::Valid(self.claim))
@@ -197,10 +228,11 @@ fn verdict_from<F: Field>(
     ensures { Fits refusal verdict_of result (VerdictFrom (F.degree field.now) (F.product field.now) circuit.now bases.now labels.now bound version (lines bytes.now) 3 (begun claim.terms)) }
 {
     let _words = labels.words();
+    let held = RunningSum::new(alloc, sum);
     let mut checking = Checking {
         claim,
         shared: Vec::new(alloc),
-        sum,
+        sum: held,
         last: LastGenerator::none(alloc),
     };
     let mut rest = bytes;
@@ -214,7 +246,7 @@ fn verdict_from<F: Field>(
         };
         let line = match said {
             Some(line) => line,
-            None => return checking.ended(number + 1, more),
+            None => return checking.ended(alloc, field.k(), number + 1, more),
         };
         match checking.add(alloc, field, circuit, bases, drivers, number, bound, line) {
             Ok(()) => {}

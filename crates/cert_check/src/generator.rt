@@ -11,15 +11,17 @@ ghost use Rattle.circuit_model.specs.Bases.{AreBases};
 ghost use Rattle.cert_check.specs.Driver.{driver as driver_of};
 ghost use Rattle.cert_check.specs.Running.{rank_among, net_bit, bit_value, driven_value, dual_form, generator_value};
 ghost use Rattle.cert_check.specs.private.Reading.{AreDrivers};
+ghost use Rattle.cert_check.specs.private.Held.{IsSplit};
 ghost use Rattle.cert_check.specs.private.Kept.{IsGeneratorOf};
 
+use crate::form::{Form, form_of};
 use crate::subsets::add_table;
 use crate::words::input_basis;
 use gf_basis::Basis;
 use gf_field::Field;
 use net_core::{Gate, Net};
 use net_words::Combinational;
-use poly_mixed::{Generator, Poly, scaled_bit, scaled_power};
+use poly_mixed::{Generator, Poly, scaled_bit};
 use std::alloc::{AllocError, Global};
 
 /// The place of a net among the variables.
@@ -114,66 +116,69 @@ fn net_poly<F: Field>(
     Ok(sum)
 }
 
-// The linear form of a bit of a word, 0 to 7, in the word: the trace of the product with an element of the dual basis.
-fn form_poly<F: Field>(
+/// A polynomial and a form, whose sum is a generator.
+#[derive(Drop)]
+pub(crate) struct Split {
+    pub(crate) near: Poly,
+    pub(crate) form: Option<Form>,
+}
+
+// A bit of a word, and the linear form that reads it from the word.
+fn bit_split<F: Field>(
     alloc: Global,
     field: &F,
     basis: &Basis,
     word: u32,
     place: u32,
-) -> Result<Poly, AllocError>
+) -> Result<Split, AllocError>
     requires over { IsBasisOver (F.degree field.now) (F.product field.now) basis.now }
     requires word { word < 8 }
     requires place { place < F.degree field.now }
-    ensures { IfOk result (λ q. IsPolynomialOf (F.degree field.now) (F.product field.now) (λ p. dual_form (F.degree field.now) (F.product field.now) (slice_index (duals_of basis.now) place) (slice_index p.words word)) q.terms) }
+    ensures { IfOk result (λ s. IsSplit (F.degree field.now) (F.product field.now) (λ p. bit_xor (bit_value (p.is_one (F.degree field.now * word + place))) (dual_form (F.degree field.now) (F.product field.now) (slice_index (duals_of basis.now) place) (slice_index p.words word))) s.near.terms s.form) }
 {
-    let linear = basis.linear_of(field, place);
-    let mut sum = Poly::zero(alloc);
-    for j in 0..field.k() {
-        let part = scaled_power(alloc, field, linear[j as usize], word as usize, 1 << j)?;
-        sum.add_into(field, &part)?;
-    }
-    Ok(sum)
+    let near = scaled_bit(alloc, field, 1, field.k() * word + place)?;
+    let form = form_of(field, basis, word, place);
+    Ok(Split {
+        near,
+        form: Some(form),
+    })
 }
 
-// A bit of a word plus the linear form that reads it from the word.
-fn bit_poly<F: Field>(
+// A net plus what its gate makes of its inputs.
+fn net_split<F: Field>(
     alloc: Global,
     field: &F,
-    basis: &Basis,
-    word: u32,
-    place: u32,
-) -> Result<Poly, AllocError>
-    requires over { IsBasisOver (F.degree field.now) (F.product field.now) basis.now }
-    requires word { word < 8 }
-    requires place { place < F.degree field.now }
-    ensures { IfOk result (λ q. IsPolynomialOf (F.degree field.now) (F.product field.now) (λ p. bit_xor (bit_value (p.is_one (F.degree field.now * word + place))) (dual_form (F.degree field.now) (F.product field.now) (slice_index (duals_of basis.now) place) (slice_index p.words word))) q.terms) }
+    circuit: &Combinational,
+    drivers: &[Option<u32>],
+    n: u32,
+) -> Result<Split, AllocError>
+    requires net { n < nets circuit.now.net }
+    requires drivers { AreDrivers circuit.now.net drivers.now }
+    ensures { IfOk result (λ s. IsSplit (F.degree field.now) (F.product field.now) (λ p. bit_xor (bit_value (net_bit (variables (nets circuit.now.net) circuit.now.bound.words) p n)) (driven_value (variables (nets circuit.now.net) circuit.now.bound.words) p (driver_of circuit.now.net n))) s.near.terms s.form) }
 {
-    let form = form_poly(alloc, field, basis, word, place)?;
-    let mut sum = scaled_bit(alloc, field, 1, field.k() * word + place)?;
-    sum.add_into(field, &form)?;
-    Ok(sum)
+    let near = net_poly(alloc, field, circuit, drivers, n)?;
+    Ok(Split { near, form: None })
 }
 
-/// The polynomial of a generator: a net, or a bit of an input or state word.
-pub(crate) fn generator_poly<F: Field>(
+/// A generator: a net, or a bit of an input or state word.
+pub(crate) fn generator_split<F: Field>(
     alloc: Global,
     field: &F,
     circuit: &Combinational,
     bases: &[Basis],
     drivers: &[Option<u32>],
     generator: Generator,
-) -> Result<Poly, AllocError>
+) -> Result<Split, AllocError>
     requires bases { AreBases (F.degree field.now) (F.product field.now) circuit.now bases.now }
     requires drivers { AreDrivers circuit.now.net drivers.now }
     requires generator { IsGeneratorOf (F.degree field.now) circuit.now bases.now generator }
-    ensures { IfOk result (λ q. IsPolynomialOf (F.degree field.now) (F.product field.now) (generator_value (F.degree field.now) (F.product field.now) circuit.now bases.now generator) q.terms) }
+    ensures { IfOk result (λ s. IsSplit (F.degree field.now) (F.product field.now) (generator_value (F.degree field.now) (F.product field.now) circuit.now bases.now generator) s.near.terms s.form) }
 {
     match generator {
-        Generator::Net(n) => net_poly(alloc, field, circuit, drivers, n),
+        Generator::Net(n) => net_split(alloc, field, circuit, drivers, n),
         Generator::Bit { word, place } => {
             let basis = input_basis(circuit.bound(), bases, word);
-            bit_poly(alloc, field, basis, word, place)
+            bit_split(alloc, field, basis, word, place)
         }
     }
 }

@@ -1,21 +1,24 @@
-//! The polynomial of the last generator: lines with the same generator mostly follow each other.
+//! The last generator, as a polynomial and a form: lines with the same generator mostly follow each other.
 ghost use Rattle.std.specs.Prelude.{◌≡◌, IsTrue, None, OnOk, Some};
 ghost use Rattle.circuit_model.specs.Bases.{AreBases};
 ghost use Rattle.cert_check.specs.private.Reading.{AreDrivers};
-ghost use Rattle.cert_check.specs.private.Kept.{IsGeneratorOf, IsLast};
+ghost use Rattle.cert_check.specs.private.Held.{IsLast};
+ghost use Rattle.cert_check.specs.private.Kept.{IsGeneratorOf};
 
-use crate::generator::generator_poly;
+use crate::form::Form;
+use crate::generator::generator_split;
 use gf_basis::Basis;
 use gf_field::Field;
 use net_words::Combinational;
 use poly_mixed::{Generator, Term};
 use std::alloc::{AllocError, Global};
 
-// A generator with its polynomial, once one was made.
+// A generator with its polynomial and its form, once they were made.
 #[derive(Drop)]
 pub(crate) struct LastGenerator {
     generator: Option<Generator>,
     terms: Vec<Term>,
+    form: Option<Form>,
 }
 
 // Whether two generators are the same.
@@ -42,6 +45,7 @@ impl LastGenerator {
         LastGenerator {
             generator: None,
             terms: Vec::new(alloc),
+            form: None,
         }
     }
 
@@ -62,7 +66,14 @@ impl LastGenerator {
         self.terms.as_slice()
     }
 
-    // Puts a generator in its place, whose polynomial is made unless it is the same one.
+    // Its form.
+    pub(crate) fn form(&self) -> &Option<Form>
+        ensures { result.now ≡ self.now.form }
+    {
+        &self.form
+    }
+
+    // Puts a generator in its place, whose polynomial and form are made unless it is the same one.
     pub(crate) fn make<F: Field>(
         &mut self,
         alloc: Global,
@@ -82,8 +93,9 @@ impl LastGenerator {
         if self.is(generator) {
             return Ok(());
         }
-        let poly = generator_poly(alloc, field, circuit, bases, drivers, generator)?;
-        self.terms = poly.terms(alloc)?;
+        let split = generator_split(alloc, field, circuit, bases, drivers, generator)?;
+        self.terms = split.near.terms(alloc)?;
+        self.form = split.form;
         self.generator = Some(generator);
         Ok(())
     }

@@ -8,8 +8,8 @@ use gf_field::Field;
 use poly_mixed::{Poly, Term};
 use std::alloc::{AllocError, Global};
 
-// The product of the element that a table is of and another element.
-fn product_by<F: Field>(field: &F, _c: u64, table: &F::Times, d: u64) -> u64
+/// The product of the element that a table is of and another element.
+pub(crate) fn product_by<F: Field>(field: &F, _c: u64, table: &F::Times, d: u64) -> u64
     requires c { IsElement (F.degree field.now) _c }
     requires table { F.is_table field.now table.now _c }
     requires d { IsElement (F.degree field.now) d }

@@ -13,11 +13,12 @@ ghost use Rattle.cert_check.specs.Certificate.{begun};
 ghost use Rattle.cert_check.specs.Running.{net_bit, generator_value, output_value};
 ghost use Rattle.cert_check.specs.Verdict.{IsRunningSum};
 ghost use Rattle.cert_check.specs.private.Reading.{AreDrivers};
-ghost use Rattle.cert_check.specs.private.Kept.{IsGeneratorOf, IsLast};
+ghost use Rattle.cert_check.specs.private.Held.{whole, IsHeld, IsLast};
+ghost use Rattle.cert_check.specs.private.Kept.{IsGeneratorOf};
 
 use crate::generator::rank;
 use crate::last::LastGenerator;
-use crate::multiple::add_products;
+use crate::running_sum::RunningSum;
 use crate::words::output_basis;
 use gf_basis::Basis;
 use gf_field::Field;
@@ -118,19 +119,20 @@ pub(crate) fn add_product<F: Field>(
     generator: Generator,
     multiplier: &Poly,
     last: &mut LastGenerator,
-    sum: &mut Poly,
+    sum: &mut RunningSum,
 ) -> Result<(), AllocError>
     requires bases { AreBases (F.degree field.now) (F.product field.now) circuit.now bases.now }
     requires drivers { AreDrivers circuit.now.net drivers.now }
     requires generator { IsGeneratorOf (F.degree field.now) circuit.now bases.now generator }
     requires multiplier { IsReduced (F.degree field.now) multiplier.now.terms }
     requires last { IsLast (F.degree field.now) (F.product field.now) circuit.now bases.now last.old }
-    requires sum { IsReduced (F.degree field.now) sum.old.terms }
+    requires held { IsHeld (F.degree field.now) sum.old }
     ensures last { OnOk result (IsLast (F.degree field.now) (F.product field.now) circuit.now bases.now last.new) }
-    ensures reduced { OnOk result (IsReduced (F.degree field.now) sum.new.terms) }
-    ensures values { OnOk result ((p : Point) → IsPoint (F.degree field.now) p → value (F.product field.now) p sum.new.terms ≡ bit_xor (value (F.product field.now) p sum.old.terms) (F.product field.now (generator_value (F.degree field.now) (F.product field.now) circuit.now bases.now generator p) (value (F.product field.now) p multiplier.now.terms))) }
+    ensures held { OnOk result (IsHeld (F.degree field.now) sum.new) }
+    ensures reduced { OnOk result (IsReduced (F.degree field.now) (whole (F.degree field.now) sum.new)) }
+    ensures values { OnOk result ((p : Point) → IsPoint (F.degree field.now) p → value (F.product field.now) p (whole (F.degree field.now) sum.new) ≡ bit_xor (value (F.product field.now) p (whole (F.degree field.now) sum.old)) (F.product field.now (generator_value (F.degree field.now) (F.product field.now) circuit.now bases.now generator p) (value (F.product field.now) p multiplier.now.terms))) }
 {
     last.make(alloc, field, circuit, bases, drivers, generator)?;
     let factor = multiplier.terms(alloc)?;
-    add_products(alloc, field, &factor, last.terms(), sum)
+    sum.add_product(alloc, field, &factor, last.terms(), last.form())
 }

@@ -2,6 +2,7 @@ pub mod SameLemmas
 pub mod MarkLemmas
 pub mod SharingLemmas
 pub mod WrittenLemmas
+pub mod CopyLemmas
 pub mod NamedLemmas
 pub mod BytesLemmas
 pub mod FrameReadLemmas

@@ -22,17 +22,17 @@ impl Sharing {
         &mut self,
         alloc: Global,
         out: &mut Vec<u8>,
-        text: TextKey,
+        text: &TextKey,
     ) -> Result<Vec<u8>, AllocError>
         requires { self.old.count + 1 < 2 ^ 64 }
-        ensures lines { OnOk result (out.new.items ≡ out.old.items ++ text_of_lines (lets_by (Some Often) self.old.count text)) }
-        ensures written { IfOk result (λ v. v.items ≡ written_by (Some Often) self.old.count text) }
+        ensures lines { OnOk result (out.new.items ≡ out.old.items ++ text_of_lines (lets_by (Some Often) self.old.count text.now)) }
+        ensures written { IfOk result (λ v. v.items ≡ written_by (Some Often) self.old.count text.now) }
         ensures count { OnOk result (self.new.count ≡ self.old.count + 1) }
-        ensures marks { OnOk result ((q : List ℕ) → mark_at self.new.marks q ≡ mark_by (Some Often) self.old.count text q (mark_at self.old.marks q)) }
+        ensures marks { OnOk result ((q : List ℕ) → mark_at self.new.marks q ≡ mark_by (Some Often) self.old.count text.now q (mark_at self.old.marks q)) }
     {
         let number = self.count;
         add_let(alloc, out, number, text.bytes())?;
-        self.marks.give(text, number)?;
+        self.marks.give(text.copied(alloc)?, number)?;
         self.count += 1;
         number_text(alloc, number)
     }
@@ -43,18 +43,18 @@ impl Sharing {
         &mut self,
         alloc: Global,
         out: &mut Vec<u8>,
-        text: TextKey,
+        text: &TextKey,
     ) -> Result<Vec<u8>, AllocError>
         requires { self.old.count + 1 < 2 ^ 64 }
-        ensures lines { OnOk result (out.new.items ≡ out.old.items ++ text_of_lines (lets_by (mark_at self.old.marks text) self.old.count text)) }
-        ensures written { IfOk result (λ v. v.items ≡ written_by (mark_at self.old.marks text) self.old.count text) }
-        ensures count { OnOk result (self.new.count ≡ count_by (mark_at self.old.marks text) self.old.count) }
-        ensures marks { OnOk result ((q : List ℕ) → mark_at self.new.marks q ≡ mark_by (mark_at self.old.marks text) self.old.count text q (mark_at self.old.marks q)) }
+        ensures lines { OnOk result (out.new.items ≡ out.old.items ++ text_of_lines (lets_by (mark_at self.old.marks text.now) self.old.count text.now)) }
+        ensures written { IfOk result (λ v. v.items ≡ written_by (mark_at self.old.marks text.now) self.old.count text.now) }
+        ensures count { OnOk result (self.new.count ≡ count_by (mark_at self.old.marks text.now) self.old.count) }
+        ensures marks { OnOk result ((q : List ℕ) → mark_at self.new.marks q ≡ mark_by (mark_at self.old.marks text.now) self.old.count text.now q (mark_at self.old.marks q)) }
     {
-        match self.marks.at(&text) {
+        match self.marks.at(text) {
             Some(Mark::Often) => self.share(alloc, out, text),
             Some(Mark::Number(number)) => number_text(alloc, number),
-            Some(Mark::Once) | None => Ok(text.into_bytes()),
+            Some(Mark::Once) | None => Vec::from_slice(alloc, text.bytes()),
         }
     }
 }

@@ -1,9 +1,10 @@
 //! Texts as keys of a map.
-ghost use Rattle.std.specs.Prelude.{◌≡◌, refl};
+ghost use Rattle.std.specs.Prelude.{◌≡◌, refl, IfOk};
 ghost use Rattle.std.specs.Cmp.{partial_order_from_total, partial_equiv_from_equiv, eq_by_cmp_equiv};
 ghost use Rattle.std.specs.Ordering.{eq_by_cmp, as_partial_cmp};
 ghost use Rattle.cert_make.specs.private.TextSharing.{bytes_cmp, bytes_cmp_total};
 
+use std::alloc::{AllocError, Global};
 use std::cmp::Ordering;
 use std::marker::Model;
 
@@ -36,11 +37,12 @@ impl TextKey {
         self.bytes.as_slice()
     }
 
-    /// Its bytes, of a key that is let go.
-    pub(crate) fn into_bytes(self) -> Vec<u8>
-        ensures { result.items ≡ self }
+    /// Another key of the same bytes.
+    pub(crate) fn copied(&self, alloc: Global) -> Result<TextKey, AllocError>
+        ensures { IfOk result (λ t. t ≡ self.now) }
     {
-        self.bytes
+        let bytes = Vec::from_slice(alloc, self.bytes.as_slice())?;
+        Ok(TextKey { bytes })
     }
 }
 

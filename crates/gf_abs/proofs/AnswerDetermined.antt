@@ -9,7 +9,7 @@ use Rattle.job_words.specs.declared.fault.Fault.TheVariants as faults
 use Rattle.job_words.specs.declared.file_fault.FileFault.{FileFault}
 use Rattle.job_words.specs.declared.file_fault.FileFault.TheVariants.{Absent, TooLong}
 use Rattle.job_words.specs.Operands.{Word}
-use Rattle.job_words.specs.Command.{Action, Bits, Abstract, Check, Same, Eval, Iso, Lift, Table, Certify, Verify, Upgrade, Make, Job, Over}
+use Rattle.job_words.specs.Command.{Action, Bits, Abstract, Check, Same, Eval, Iso, Lift, Table, Certify, Verify, Upgrade, Make, Job, Over, Trial}
 use Rattle.job_words.proofs.OneCommandLemmas.{one_job}
 use Rattle.job_input.specs.File.{Read}
 use Rattle.job_input.specs.Labelling.{labels_of}
@@ -49,6 +49,7 @@ use Rattle.gf_abs.proofs.CheckDetermined.{check_determined}
 use Rattle.gf_abs.proofs.EvalDetermined.{eval_determined, values_determined}
 use Rattle.gf_abs.proofs.IsoLemmas.{iso_determined}
 use Rattle.gf_abs.proofs.MakeLemmas.{make_determined}
+use Rattle.gf_abs.proofs.TrialLemmas.{trial_determined}
 use Rattle.gf_abs.proofs.TableLemmas.{lift_determined, small_determined, table_determined}
 use Rattle.gf_abs.proofs.ReplyDetermined.{bits_determined, abstract_determined}
 use Rattle.gf_abs.proofs.SameDetermined.{same_determined}
@@ -189,6 +190,7 @@ module _ (files : Files) where
   job_determined (Over signature action) =
       determined_after (SignedIn (Some files) signature) (λ signed. SignedAnswer (Some files) signed action) (signed_in_determined signature)
       (λ signed taken. signed_answer_determined taken.0 signed action taken.2)
+  job_determined (Trial number modulus terms) = trial_determined number modulus terms
 
   pub answer_determined : (words : List Word) → Determined (Answer words (Some files))
   answer_determined words = determined_after (Spelled words) (λ job. JobAnswer (Some files) job) (spelled_determined words) (λ job is. job_determined job)

@@ -36,22 +36,9 @@ use Rattle.gf_abs.specs.Reply.{Reply, polynomial_line}
 use Rattle.gf_abs.specs.commands.Abstract.{AbstractReply, taken_circuit}
 use Rattle.gf_abs.specs.commands.Bits.{BitsReply}
 use Rattle.gf_abs.proofs.EqualLabels.{are_labels, few_bits}
+use Rattle.gf_abs.proofs.PrintedLemmas.{all_named, words_alone, words_values}
 use Rattle.gf_abs.proofs.TakenLemmas.{bases_long, circuit_flat, circuit_roles, circuit_well}
-use Rattle.gf_abs.proofs.WordsLemmas.{as_many}
-
--- a polynomial in which no bit stands has no bits
-no_ranks : (rs : List ℕ) → ((rank : ℕ) → list_any (λ r. nat_eq r rank) rs ≡ false) → rs ≡ []
-no_ranks [] lacks = refl
-no_ranks (r ∷ rs) lacks = let found : true ≡ false = sym (ap (λ b. b || list_any (λ q. nat_eq q r) rs) (eq-eqb r r refl)) ∙ lacks r in absurd (cc)
-
-no_bits : (ts : Terms) → ((rank : ℕ) → LacksBit rank ts) → AllByRecursion (λ t. t.0.bits ≡ []) ts
-no_bits [] lacks = tt
-no_bits (t ∷ ts) lacks = (no_ranks t.0.bits (λ rank. (lacks rank).0), no_bits ts (λ rank. (lacks rank).1))
-
--- so any labels name all of its bits
-pub all_named : (n : ℕ) (ts : Terms) → AllByRecursion (λ t. t.0.bits ≡ []) ts → AllByRecursion (λ t. AllByRecursion (λ r. r < n) t.0.bits) ts
-all_named n [] none = tt
-all_named n (t ∷ ts) none = let P : List ℕ → Type 0 = λ rs. AllByRecursion (λ r. r < n) rs in (subst P (sym none.0) tt, all_named n ts none.1)
+use Rattle.job_input.proofs.CountLemmas.{as_many}
 
 module _ (setting : SettingValue) (circuit : BoundNet) (taken : IsTaken setting circuit) where
   abbrev pub whole : Circuit
@@ -74,31 +61,15 @@ module _ (setting : SettingValue) (circuit : BoundNet) (taken : IsTaken setting 
   labels : AreLabels (labels_of setting.k setting.signature.words)
   labels = are_labels setting.k setting.signature.words sound.words (setting_names taken.signature setting taken.is_setting)
 
-  -- a polynomial of the output stands in words alone
-  alone : (ts : Terms) → IsReduced setting.k ts → HasOutput setting whole ts → AllByRecursion (λ t. AllByRecursion (λ e. e ≡ 0) (drop (length whole.words) t.0.exponents)) ts
-  alone ts reduced values =
-      let f = field_of setting.k setting.product sound.ring sound.field in
-      let n = length whole.words in
-      first_alone f (is_unique setting.k setting.product sound.ring sound.field) n ts reduced
-      (λ p at.
-      let P : List ℕ → Type 0 = λ xs. IsOut whole xs (value setting.product (first_point n p) ts) in
-      one_out whole (input_of whole p) (value setting.product (first_point n p) ts) (value setting.product p ts) well
-      (subst P (first_taken n p.words) (values (first_point n p) (is_first_point f n p at))) (values p at))
-
   -- what comes of `abstract` is the output's polynomial
   pub printed : (bound : ℕ) (reply : Reply) → AbstractReply setting circuit bound (Ok reply) → IsPrinted setting whole reply
-  printed bound reply (ts, found, exactly) =
-      let is = found.0 in
-      let n = length whole.words in
-      let values : HasOutput setting whole ts = λ p at. (mix_all whole well p (value setting.product p ts) at).0 (is.values p at) in
-      let lacks : (rank : ℕ) → LacksBit rank ts = λ rank. mix_lacks whole well n rank ts (λ i j low high less. absurd (omega arith)) is in
-      record {
-        polynomial = ts;
-        status = ap (λ (r : Reply). r.status) exactly;
-        line = ap (λ (r : Reply). r.text) exactly;
-        in_words = record { reduced = is.reduced; words = record { bits = no_bits ts lacks; words = alone ts is.reduced values } };
-        values = values;
-      }
+  printed bound reply (ts, found, exactly) = record {
+    polynomial = ts;
+    status = ap (λ (r : Reply). r.status) exactly;
+    line = ap (λ (r : Reply). r.text) exactly;
+    in_words = words_alone setting circuit sound.ring sound.field well ts found.0;
+    values = words_values setting circuit sound.ring sound.field well ts found.0;
+  }
 
   -- what comes of `bits` is the output's polynomial in bits
   pub in_bits : (bound : ℕ) (reply : Reply) → (is : BitsReply setting circuit bound (Ok reply)) → IsOutputInBits whole is.0

@@ -1,6 +1,5 @@
 pub mod NamedLemmas
 pub mod StageLemmas
-pub mod WordsLemmas
 pub mod WordNamesLemmas
 pub mod RefusalLemmas
 pub mod SameRefusalLemmas
@@ -8,6 +7,7 @@ pub mod DifferingLineLemmas
 pub mod UnrollingLemmas
 pub mod TakenLemmas
 pub mod StagedDetermined
+pub mod CircuitDetermined
 pub mod ReplyDetermined
 pub mod SpecStageLemmas
 pub mod CheckLemmas
@@ -28,11 +28,13 @@ pub mod CertifyLemmas
 pub mod CertificateDetermined
 pub mod IsoLemmas
 pub mod MakeLemmas
+pub mod TrialLemmas
 pub mod AnswerDetermined
 pub mod OneLineLemmas
 pub mod StatusLemmas
 pub mod CompleteLemmas
 pub mod EqualLabels
+pub mod PrintedLemmas
 pub mod EqualLemmas
 pub mod EqualFunctions
 pub mod JobLemmas
@@ -47,3 +49,4 @@ pub mod MadeLemmas
 pub mod MakeHeadlineLemmas
 pub mod CertificateHeadlineLemmas
 mod Examples
+pub mod TrialHeadlineLemmas

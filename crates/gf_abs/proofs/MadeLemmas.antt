@@ -61,8 +61,7 @@ use Rattle.job_input.specs.SettingValue.{SettingValue}
 use Rattle.job_input.proofs.SettingSoundLemmas.{setting_sound}
 use Rattle.gf_abs.specs.MakeHeadline.{AreCyclesOf, ComputesKind, HasOutputOfOne, HasOutputOfTwo}
 use Rattle.gf_abs.specs.commands.Make.{HasFormOf, IsMade, IsOverBase, base_degree}
-use Rattle.gf_abs.specs.private.Making.{IsUnfed}
-use Rattle.gf_abs.proofs.MakeLemmas.{all_has, first_is, form_first, form_unfed, unfed_wide, words_wide}
+use Rattle.gf_abs.proofs.MakeLemmas.{IsUnfed, all_has, first_is, form_first, form_unfed, unfed_wide, words_wide}
 use Rattle.gf_abs.proofs.SettingFieldLemmas.{IsNamed, base_product, bases_of, first_basis, named_by, tower_product}
 
 -- the net list of a kind is sound and plainly named, the words bind to it, and its job computes what the kind does

@@ -43,7 +43,8 @@ use Rattle.mult_normal.specs.NormalForm.{HasNormalForm}
 use Rattle.mult_normal.specs.NormalNet.{first_factor, normal_net, product_nets, second_factor}
 use Rattle.mult_normal.specs.NormalPlan.{normal_latches, products_from, sum_net, summed}
 use Rattle.mult_normal.proofs.CoordinateLemmas.{coordinates_are, counts_are}
-use Rattle.mult_digit.specs.DigitForm.{AllUnfedWide, HasDigitForm}
+use Rattle.mult_gen.specs.Form.{AreWide}
+use Rattle.mult_digit.specs.DigitForm.{HasDigitForm}
 use Rattle.mult_digit.specs.DigitNet.{digit_net}
 use Rattle.mult_digit.specs.IsDigitNet.{IsDigitNet}
 use Rattle.job_words.specs.declared.kind.Kind.{Kind}
@@ -51,7 +52,7 @@ use Rattle.job_words.specs.declared.kind.Kind.TheVariants.{Mastrovito, Montgomer
 use Rattle.job_input.specs.SettingSound.{IsSoundSetting}
 use Rattle.job_input.specs.SettingValue.{SettingValue}
 use Rattle.gf_abs.specs.commands.Make.{HasFormOf, IsMade, IsMadeNormal, IsOverBase, MadeOf, MakeAnswer, base_degree, element_of, first_conjugates, first_element}
-use Rattle.gf_abs.specs.private.Making.{FirstIsNormal, HasRingForm, IsOfRing, IsRingNet, IsUnfed}
+use Rattle.gf_abs.specs.private.Making.{FirstIsNormal, HasRingForm, IsOfRing, IsRingNet}
 use Rattle.gf_abs.proofs.IsoLemmas.{field_modulus, field_tower}
 
 -- ---- one multiplier in a normal basis
@@ -142,7 +143,7 @@ unfed_wide k words are unfed word has = elim (All_has (λ (w : WordText). (lengt
   | inr fed ↦ absurd (All_has (λ (w : WordText). w.role ≢ role.Fed) words word unfed has fed)
 ]
 
-pub words_wide : (k : ℕ) (words : List WordText) → AreWords k words → AllUnfedWide k words
+pub words_wide : (k : ℕ) (words : List WordText) → AreWords k words → AreWide k words
 words_wide k words are word has unfed = elim (All_has (λ (w : WordText). (length w.nets ≡ k) ⊎ (w.role ≡ role.Fed)) words word are.each has) [
   | inl wide ↦ wide
   | inr fed ↦ absurd (unfed fed)
@@ -174,6 +175,16 @@ state_other e = absurd (cc)
 
 unfed_words : (what : Role) (count : ℕ) (words : List WordText) → what ≢ role.Fed → what ≢ role.Output → HasWords what count words → All (λ (word : WordText). word.role ≢ role.Fed) words
 unfed_words what count words unfed other has = all_has (λ (word : WordText). word.role ≢ role.Fed) words (λ word at. apart what role.Output unfed output_unfed word.role (words_one_of what count words other has word at))
+
+-- the kind has no feeds
+abbrev pub IsUnfed : Kind → Type 0
+IsUnfed Mastrovito = Unit {0}
+IsUnfed Montgomery = Unit {0}
+IsUnfed Composite = Unit {0}
+IsUnfed Normal = Unit {0}
+IsUnfed Adder = Unit {0}
+IsUnfed Squarer = Unit {0}
+IsUnfed Digit = ⊥
 
 -- a signature of these forms has no fed word
 pub form_unfed : (setting : SettingValue) (kind : Kind) → IsUnfed kind → HasFormOf setting kind → All (λ (word : WordText). word.role ≢ role.Fed) setting.signature.words
@@ -336,13 +347,3 @@ module _ (setting : SettingValue) (gamma : ℕ) (first : FirstIsNormal setting.s
 
   pub made_normal : (own : Basis) → IsBasisOver setting.k setting.product own → elements_of own ≡ conjugates_of setting.k setting.product gamma → (net : NetList) → net ≡ normal_net setting.k setting.product own setting.signature.words → IsMade setting Normal net
   made_normal own over same net is = record { basis = own; over = over; elements = same ∙ same_conjugates; net_is = is }
-
--- each kind but one has no feeds
-pub unfed_kind : (kind : Kind) → kind ≢ Digit → IsUnfed kind
-unfed_kind Mastrovito other = tt
-unfed_kind Montgomery other = tt
-unfed_kind Composite other = tt
-unfed_kind Normal other = tt
-unfed_kind Adder other = tt
-unfed_kind Squarer other = tt
-unfed_kind Digit other = absurd (other refl)

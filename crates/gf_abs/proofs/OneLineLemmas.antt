@@ -1,5 +1,5 @@
 -- Each fault that may come is one line.
-use Rattle.std.proofs.Common.{◌≡◌, inl, inr, refl, subst, sym, ℕ, List, length, Option, Some, Ok, Err}
+use Rattle.std.proofs.Common.{◌≡◌, inl, inr, refl, subst, sym, ℕ, List, [], length, Option, Some, Ok, Err, arith}
 use Rattle.text_core.specs.Outcome.{Within}
 use Rattle.std.specs.Prelude.{codes, decimal}
 use Rattle.job_io.specs.Shelf.{Files}
@@ -13,21 +13,25 @@ use Rattle.stage_model.specs.Listing.{Joined, Earlier, Later, Listing}
 use Rattle.cert_check.specs.declared.fault.CertFault.{CertFault}
 use Rattle.cert_check.specs.declared.fault.CertFault.TheVariants as text
 use Rattle.job_words.specs.declared.certificate_fault.CertificateFault.TheVariants as certificate
-use Rattle.job_words.specs.Command.{Action, Bits, Abstract, Check, Same, Eval, Iso, Lift, Table, Certify, Verify, Upgrade, Make, Over, IsSpelled}
+use Rattle.job_words.specs.Command.{Action, Bits, Abstract, Check, Same, Eval, Iso, Lift, Table, Certify, Verify, Upgrade, Make, Over, Trial, IsSpelled}
 use Rattle.job_words.specs.Fault.{fault_line}
 use Rattle.job_words.specs.OneLine.{HasNoLineFeed, IsOneLine, KeepsToItsLine}
 use Rattle.job_words.specs.Operands.{Word}
 use Rattle.job_words.specs.StageFault.{stage_text}
 use Rattle.job_words.specs.declared.fault.Fault.{Fault}
 use Rattle.job_words.specs.declared.fault.Fault.TheVariants as faults
+use Rattle.job_words.specs.declared.signature_fault.SignatureFault.{SignatureFault}
 use Rattle.job_words.specs.declared.stage_fault.StageFault.{StageFault}
 use Rattle.job_words.proofs.OneLineLemmas.{before_kept, clean_kept, number_clean, one_line, stage_kept}
 use Rattle.job_input.specs.CircuitOf.{CircuitIn}
 use Rattle.job_input.specs.Labelling.{labels_of}
 use Rattle.job_input.specs.SettingOf.{SignedOf, SignedValue}
 use Rattle.job_input.specs.SettingValue.{SettingValue}
-use Rattle.job_input.proofs.FileLineLemmas.{HaveKeptNames, cycles_keep, file_keeps, labels_kept, netlist_file_keeps, operand_kept, second_keeps, setting_keeps, signed_keeps, specification_keeps, table_keeps}
+use Rattle.job_input.proofs.FileLineLemmas.{HaveKeptNames, cycles_keep, field_keeps, file_keeps, labels_kept, netlist_file_keeps, operand_kept, second_keeps, setting_keeps, signed_keeps, specification_keeps, table_keeps}
+use Rattle.job_input.proofs.FieldLemmas.{field_most, field_some}
 use Rattle.job_input.proofs.SignedLemmas.{setting_names}
+use Rattle.trial_job.specs.Trial.{product_terms, trial_circuit, trial_setting}
+use Rattle.trial_job.proofs.SettingLemmas.{trial_said}
 use Rattle.gf_abs.specs.Answer.{ActionAnswer, Answer, JobAnswer, SignedAnswer}
 use Rattle.gf_abs.specs.Values.{ValuesOf}
 use Rattle.gf_abs.specs.Staged.{IsStageOver, either_net_text, either_text}
@@ -37,6 +41,7 @@ use Rattle.gf_abs.specs.Certificates.{CertifiedIn, certificate_labels, sum_fault
 use Rattle.gf_abs.specs.commands.Certify.{CertifyReply}
 use Rattle.gf_abs.specs.commands.Check.{CheckReply}
 use Rattle.gf_abs.specs.commands.Same.{SameReply, same_stages}
+use Rattle.gf_abs.specs.commands.Trial.{TrialAnswer, TrialReply}
 use Rattle.gf_abs.specs.commands.Upgrade.{UpgradeReply}
 use Rattle.gf_abs.specs.commands.Verify.{VerifyReply}
 
@@ -144,6 +149,12 @@ module _ (setting : SettingValue) (names : HaveNames setting.signature.words) wh
   check_kept circuit spec bound fault (inr (line, of, inl (stage, over, same))) = over_kept setting.k setting.product (spec_listing (taken_circuit setting circuit) spec) (stage_text (labels_of setting.k setting.signature.words)) bound fault (one_kept (labels_of setting.k setting.signature.words) kept) stage over same
   check_kept circuit spec bound fault (inr (line, of, inr (found, is, never))) = absurd never
 
+  trial_reply_kept : (circuit : BoundNet) (spec : SpecTerms) (number bound : ℕ) (fault : Fault) → TrialReply setting circuit spec number bound (Err fault) → KeepsToItsLine fault
+  trial_reply_kept circuit spec number bound fault (inl (inl (stage, over, same))) = over_kept setting.k setting.product (abstract_stages setting circuit) (either_text (labels_of setting.k setting.signature.words)) bound fault (either_kept (labels_of setting.k setting.signature.words) kept) stage over same
+  trial_reply_kept circuit spec number bound fault (inl (inr (ts, of, never))) = absurd never
+  trial_reply_kept circuit spec number bound fault (inr (terms, of, inl (stage, over, same))) = over_kept setting.k setting.product (spec_listing (taken_circuit setting circuit) spec) (stage_text (labels_of setting.k setting.signature.words)) bound fault (one_kept (labels_of setting.k setting.signature.words) kept) stage over same
+  trial_reply_kept circuit spec number bound fault (inr (terms, of, inr (found, is, never))) = absurd never
+
   certify_kept : (circuit : BoundNet) (bound : ℕ) (fault : Fault) → CertifyReply setting circuit bound (Err fault) → KeepsToItsLine fault
   certify_kept circuit bound fault (inl (stage, over, same)) = over_kept setting.k setting.product (abstract_stages setting circuit) (either_text (certificate_labels setting circuit)) bound fault (either_kept (certificate_labels setting circuit) kept) stage over same
   certify_kept circuit bound fault (inr (t, of, never)) = absurd never
@@ -215,9 +226,19 @@ job_kept : (held : Option Files) (signature : Word) (action : Action) (fault : F
 job_kept held signature action fault kept operands (inl wrong) = signed_keeps held signature fault kept wrong
 job_kept held signature action fault kept operands (inr (signed, (text, read, is), wrong)) = signed_kept held text signed action fault is operands wrong
 
+-- a trial reads no file
+trial_kept : (number modulus bound : ℕ) (fault : Fault) → TrialAnswer number modulus bound (Err fault) → KeepsToItsLine fault
+trial_kept number modulus bound fault (inl (found, (reason, is, why), same)) =
+    let P : SignatureFault → Type 0 = λ f. KeepsToItsLine (faults.Signature f) in
+    same_line fault (faults.Signature found) same (subst P (sym why) (field_keeps reason))
+trial_kept number modulus bound fault (inr (field, named, wrong)) =
+    let said = trial_said field.k 0 (field_some modulus [] [] field named) (field_most modulus [] [] field named) (omega arith) in
+    trial_reply_kept (trial_setting field.k modulus) said.names (trial_circuit field.k modulus number) product_terms number bound fault wrong
+
 answer_kept : (words : List Word) (held : Option Files) (fault : Fault) → Answer words held (Err fault) → KeepsToItsLine fault
 answer_kept words held fault (inl (same, never)) = same_line fault faults.Words same tt
 answer_kept words held fault (inr (Over signature action, spelled, wrong)) = let kept = spelled_kept words signature action spelled in job_kept held signature action fault kept.0 kept.1 wrong
+answer_kept words held fault (inr (Trial number modulus terms, spelled, wrong)) = trial_kept number modulus terms fault wrong
 
 -- the line of a fault that may come is one line
 pub answers_one_line : (words : List Word) (held : Option Files) (fault : Fault) → Answer words held (Err fault) → IsOneLine (fault_line fault)

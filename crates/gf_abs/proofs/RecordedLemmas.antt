@@ -23,7 +23,7 @@ use Rattle.gf_abs.specs.Certificates.{HaveDuals}
 use Rattle.gf_abs.specs.commands.Abstract.{IsInWords, taken_circuit}
 use Rattle.gf_abs.specs.private.CertificateStop.{IsNamedVerdict}
 use Rattle.gf_abs.proofs.CertificateLabelLemmas.{has_numbers, names_variables, names_words}
-use Rattle.gf_abs.proofs.EqualLemmas.{all_named}
+use Rattle.gf_abs.proofs.PrintedLemmas.{all_named}
 use Rattle.gf_abs.proofs.SameLemmas.{bases_are, count}
 use Rattle.gf_abs.proofs.StageLemmas.{IsJob}
 

@@ -1,36 +1,17 @@
 -- At most one reply or fault comes of each command for a setting and a circuit.
-use Rattle.std.proofs.Common.{◌≡◌, ℕ, ◌+◌, length, Ok}
-use Rattle.text_core.specs.Outcome.{Determined, Exactly, Within}
-use Rattle.text_core.proofs.DeterminedLemmas.{determined_bind}
-use Rattle.net_core.specs.NetList.{nets}
-use Rattle.net_flat.proofs.FlatDetermined.{determined_within}
+use Rattle.std.proofs.Common.{ℕ, Ok}
+use Rattle.text_core.specs.Outcome.{Determined, Within}
 use Rattle.net_words.specs.Binding.{BoundNet}
-use Rattle.net_words.specs.Variables.{variables}
-use Rattle.net_words.proofs.BindDetermined.{determined_exactly}
-use Rattle.poly_mixed.specs.Polynomial.{Terms}
-use Rattle.circuit_model.specs.OfBinding.{output_word, output_basis}
 use Rattle.circuit_model.specs.WellFormed.{IsWellFormed}
-use Rattle.stage_model.specs.Cut.{IsCut, BoundCut}
-use Rattle.stage_model.specs.Mix.{IsMix}
-use Rattle.stage_model.specs.WordListing.{word_listing}
-use Rattle.stage_model.proofs.CutLemmas.{one_cut_of}
-use Rattle.stage_model.proofs.CutListingLemmas.{cuts_ordered, net_cuts_sizes}
-use Rattle.stage_model.proofs.ListingLemmas.{IsOrdered, HaveOneSize, both_ordered, both_sizes}
-use Rattle.stage_model.proofs.MixLemmas.{one_mix}
-use Rattle.stage_model.proofs.SizeLemmas.{same_terms}
-use Rattle.stage_model.proofs.WordListingLemmas.{words_ordered, words_sizes}
+use Rattle.stage_model.proofs.ListingLemmas.{IsOrdered, HaveOneSize}
 use Rattle.job_words.specs.declared.fault.Fault.TheVariants as faults
-use Rattle.job_words.specs.StageFault.{stage_text}
-use Rattle.job_input.specs.Labelling.{labels_of}
 use Rattle.job_input.specs.CircuitOf.{CircuitOfText}
 use Rattle.job_input.specs.NetlistOf.{NetlistText}
 use Rattle.job_input.specs.SettingSound.{IsSoundSetting}
 use Rattle.job_input.specs.SettingValue.{SettingValue}
-use Rattle.gf_abs.specs.Reply.{prints}
-use Rattle.gf_abs.specs.Staged.{either_text}
-use Rattle.gf_abs.specs.commands.Bits.{bits_stages, IsLastCut, BitsOf, BitsReply}
-use Rattle.gf_abs.specs.commands.Abstract.{taken_circuit, abstract_stages, IsInWords, AbstractOf, AbstractReply}
-use Rattle.gf_abs.proofs.StagedDetermined.{staged_determined}
+use Rattle.gf_abs.specs.commands.Bits.{bits_stages, BitsReply}
+use Rattle.gf_abs.specs.commands.Abstract.{taken_circuit, abstract_stages, AbstractOf, AbstractReply}
+use Rattle.gf_abs.proofs.CircuitDetermined as circuits
 use Rattle.gf_abs.proofs.TakenLemmas.{circuit_sound, circuit_well}
 
 module _ (setting : SettingValue) (circuit : BoundNet) (bound : ℕ) (sound : IsSoundSetting setting) (text : NetlistText) (cycles : ℕ) (is : CircuitOfText setting.signature text cycles (Ok circuit)) where
@@ -38,41 +19,22 @@ module _ (setting : SettingValue) (circuit : BoundNet) (bound : ℕ) (sound : Is
   well = circuit_well setting circuit sound text cycles is
 
   pub cuts_one_order : IsOrdered (bits_stages setting circuit)
-  cuts_one_order = cuts_ordered (length circuit.net.gates + 1) (BoundCut circuit (output_basis circuit.bound.words setting.bases))
+  cuts_one_order = circuits.cuts_one_order setting circuit bound sound.ring sound.field (circuit_sound setting circuit sound text cycles is) well
 
   pub cuts_one_size : HaveOneSize setting.k setting.product (bits_stages setting circuit)
-  cuts_one_size =
-      net_cuts_sizes setting.k setting.product circuit.net (variables (nets circuit.net) circuit.bound.words) (output_word circuit.bound.words (output_basis circuit.bound.words setting.bases)) (length circuit.net.gates + 1)
-      sound.ring sound.field (circuit_sound setting circuit sound text cycles is)
-
-  one_last_cut : (ts us : Terms) → IsLastCut setting circuit ts → IsLastCut setting circuit us → ts ≡ us
-  one_last_cut ts us a b =
-      let order = variables (nets circuit.net) circuit.bound.words in
-      let output = output_word circuit.bound.words (output_basis circuit.bound.words setting.bases) in
-      same_terms setting.k setting.product sound.ring sound.field (IsCut circuit.net order output (length circuit.net.gates))
-      (λ p x y at first other. one_cut_of circuit.net (circuit_sound setting circuit sound text cycles is) order output (length circuit.net.gates) p x y first other) ts us a b
+  cuts_one_size = circuits.cuts_one_size setting circuit bound sound.ring sound.field (circuit_sound setting circuit sound text cycles is) well
 
   pub stages_ordered : IsOrdered (abstract_stages setting circuit)
-  stages_ordered = both_ordered setting.k setting.product (bits_stages setting circuit) (word_listing (taken_circuit setting circuit)) cuts_one_order (words_ordered (taken_circuit setting circuit))
+  stages_ordered = circuits.stages_ordered setting circuit bound sound.ring sound.field (circuit_sound setting circuit sound text cycles is) well
 
   pub stages_sizes : HaveOneSize setting.k setting.product (abstract_stages setting circuit)
-  stages_sizes = both_sizes setting.k setting.product (bits_stages setting circuit) (word_listing (taken_circuit setting circuit)) cuts_one_size (words_sizes (taken_circuit setting circuit) well)
-
-  one_in_words : (ts us : Terms) → IsInWords setting circuit ts → IsInWords setting circuit us → ts ≡ us
-  one_in_words ts us a b =
-      let whole = taken_circuit setting circuit in
-      same_terms setting.k setting.product sound.ring sound.field (IsMix whole (length whole.words)) (λ p x y at first other. one_mix whole well (length whole.words) p x y first other) ts us a b
+  stages_sizes = circuits.stages_sizes setting circuit bound sound.ring sound.field (circuit_sound setting circuit sound text cycles is) well
 
   pub bits_determined : Determined (BitsReply setting circuit bound)
-  bits_determined =
-      determined_bind (Within faults.Stage (BitsOf setting circuit bound)) (λ ts. Exactly (prints setting ts))
-      (determined_within faults.Stage (BitsOf setting circuit bound) (staged_determined setting.k setting.product (bits_stages setting circuit) (stage_text (labels_of setting.k setting.signature.words)) bound (IsLastCut setting circuit) one_last_cut cuts_one_order cuts_one_size))
-      (λ ts. determined_exactly (prints setting ts))
+  bits_determined = circuits.bits_determined setting circuit bound sound.ring sound.field (circuit_sound setting circuit sound text cycles is) well
 
   pub words_determined : Determined (Within faults.Stage (AbstractOf setting circuit bound))
-  words_determined =
-      determined_within faults.Stage (AbstractOf setting circuit bound)
-      (staged_determined setting.k setting.product (abstract_stages setting circuit) (either_text (labels_of setting.k setting.signature.words)) bound (IsInWords setting circuit) one_in_words stages_ordered stages_sizes)
+  words_determined = circuits.words_determined setting circuit bound sound.ring sound.field (circuit_sound setting circuit sound text cycles is) well
 
   pub abstract_determined : Determined (AbstractReply setting circuit bound)
-  abstract_determined = determined_bind (Within faults.Stage (AbstractOf setting circuit bound)) (λ ts. Exactly (prints setting ts)) words_determined (λ ts. determined_exactly (prints setting ts))
+  abstract_determined = circuits.abstract_determined setting circuit bound sound.ring sound.field (circuit_sound setting circuit sound text cycles is) well

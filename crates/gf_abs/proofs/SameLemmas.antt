@@ -21,7 +21,7 @@ use Rattle.job_input.specs.declared.setting.Setting.{Setting}
 use Rattle.gf_abs.specs.commands.Abstract.{taken_circuit}
 use Rattle.gf_abs.specs.commands.Same.{AreCompared}
 use Rattle.gf_abs.proofs.AlikeLemmas.{alike}
-use Rattle.gf_abs.proofs.WordsLemmas.{as_many}
+use Rattle.job_input.proofs.CountLemmas.{as_many}
 
 module _ (k : ℕ) (mul : ℕ → ℕ → ℕ) (setting : Setting) (ready : IsReady k mul setting) where
   -- a circuit has as many input and state words as labels

@@ -4,7 +4,7 @@ use Rattle.job_io.specs.Shelf.{Files}
 use Rattle.poly_mixed.specs.Labels.{Labelling}
 use Rattle.circuit_model.specs.Differing.{Difference}
 use Rattle.cert_check.specs.Verdict.{Verdict, valid, invalid}
-use Rattle.job_words.specs.Command.{Action, Bits, Abstract, Check, Same, Eval, Iso, Lift, Table, Certify, Verify, Upgrade, Make, Over}
+use Rattle.job_words.specs.Command.{Action, Bits, Abstract, Check, Same, Eval, Iso, Lift, Table, Certify, Verify, Upgrade, Make, Over, Trial}
 use Rattle.job_words.specs.Operands.{Word}
 use Rattle.job_input.specs.Labelling.{labels_of}
 use Rattle.job_input.specs.SettingValue.{SettingValue}
@@ -13,6 +13,7 @@ use Rattle.gf_abs.specs.Reply.{Reply}
 use Rattle.gf_abs.specs.commands.Check.{check_reply}
 use Rattle.gf_abs.specs.commands.Same.{same_reply}
 use Rattle.gf_abs.specs.commands.Verify.{verify_reply}
+use Rattle.gf_abs.proofs.TrialLemmas.{trial_status}
 
 abbrev IsZeroOrOne : Reply → Type 0
 IsZeroOrOne reply = (reply.status ≡ 0) ⊎ (reply.status ≡ 1)
@@ -45,3 +46,4 @@ action_status held setting (Make kind) reply (net, is, same) = inl (ap (λ (r : 
 
 pub answer_status : (words : List Word) (held : Option Files) (reply : Reply) → Answer words held (Ok reply) → (reply.status ≡ 0) ⊎ (reply.status ≡ 1)
 answer_status words held reply (Over signature action, spelled, (signed, read, (setting, taken, is))) = action_status held setting action reply is
+answer_status words held reply (Trial number modulus terms, spelled, is) = trial_status number modulus terms reply is

@@ -23,7 +23,7 @@ use Rattle.circuit_model.specs.OfBinding.{output_basis}
 use Rattle.job_input.specs.Labelling.{labels_of}
 use Rattle.job_input.specs.Setting.{HaveRoles, elements_of_each}
 use Rattle.gf_abs.proofs.StageLemmas.{IsJob, whole, well, based}
-use Rattle.gf_abs.proofs.WordsLemmas.{as_many}
+use Rattle.job_input.proofs.CountLemmas.{as_many}
 
 none_later : (n : ℕ) (es : List ℕ) → IsZeros es → IsZeros (drop n es)
 none_later zero es none = none

@@ -5,7 +5,7 @@ use Rattle.job_io.specs.Shelf.{Files}
 use Rattle.job_words.specs.declared.fault.Fault.{Fault}
 use Rattle.job_words.specs.declared.fault.Fault.TheVariants.{Words, Signature}
 use Rattle.job_words.specs.Operands.{Word}
-use Rattle.job_words.specs.Command.{Action, Bits, Abstract, Check, Same, Eval, Iso, Lift, Table, Certify, Verify, Upgrade, Make, Job, Over, IsSpelled}
+use Rattle.job_words.specs.Command.{Action, Bits, Abstract, Check, Same, Eval, Iso, Lift, Table, Certify, Verify, Upgrade, Make, Job, Over, Trial, IsSpelled}
 use Rattle.job_input.specs.SettingOf.{SignedValue, SettingWith}
 use Rattle.job_input.specs.SettingValue.{SettingValue}
 use Rattle.job_input.specs.SignedIn.{SignedIn}
@@ -22,6 +22,7 @@ use Rattle.gf_abs.specs.commands.Certify.{CertifyAnswer}
 use Rattle.gf_abs.specs.commands.Verify.{VerifyAnswer}
 use Rattle.gf_abs.specs.commands.Upgrade.{UpgradeAnswer}
 use Rattle.gf_abs.specs.commands.Make.{MakeAnswer}
+use Rattle.gf_abs.specs.commands.Trial.{TrialAnswer}
 
 -- the command of the words, or fault 01 where they spell none
 abbrev pub Spelled : List Word → Outcome Fault Job
@@ -49,11 +50,12 @@ SignedAnswer held signed action = do
   setting ← Within Signature (SettingWith signed)
   ActionAnswer held setting action
 
--- what comes of a command: its signature is read and taken first
+-- what comes of a command: its signature is read and taken first, but for a trial, which reads no file
 abbrev pub JobAnswer : Option Files → Job → Outcome Fault Reply
 JobAnswer held (Over signature action) = do
   signed ← SignedIn held signature
   SignedAnswer held signed action
+JobAnswer held (Trial number modulus terms) = TrialAnswer number modulus terms
 
 -- the answer to the words
 abbrev pub Answer : List Word → Option Files → Outcome Fault Reply

@@ -12,5 +12,6 @@ pub mod EvalHeadline
 pub mod TableHeadline
 pub mod IsoHeadline
 pub mod MakeHeadline
+pub mod TrialHeadline
 pub mod CertificateHeadline
 pub mod private

@@ -10,3 +10,4 @@ pub mod Certify
 pub mod Verify
 pub mod Upgrade
 pub mod Make
+pub mod Trial

@@ -9,5 +9,6 @@ pub(crate) mod lift;
 pub(crate) mod make;
 pub(crate) mod same;
 pub(crate) mod table;
+pub(crate) mod trial;
 pub(crate) mod upgrade;
 pub(crate) mod verify;

@@ -27,6 +27,7 @@ ghost use Rattle.gf_abs.specs.IsoHeadline.{AnswersIso, PrintsImages};
 ghost use Rattle.gf_abs.specs.MakeHeadline.{AnswersMake, HoldKind, HoldMade};
 ghost use Rattle.gf_abs.specs.Reply.{Reply, polynomial_line};
 ghost use Rattle.gf_abs.specs.TableHeadline.{AnswersLift, AnswersTable, IsHeldSetting, PrintsLifted, PrintsTable};
+ghost use Rattle.gf_abs.specs.TrialHeadline.{AnswersTrial, IsTrialFault, PrintsTrial, RefusesTrial};
 ghost use Rattle.gf_abs.specs.commands.Abstract.{taken_circuit};
 
 /// Where the shelf tells what it holds, at most one answer or fault comes of the words.
@@ -164,4 +165,13 @@ pub fn upgrade_keeps_the_reply()
 /// square.
 pub fn what_make_prints_computes()
     ensures { (files others : Files) (words : List Word) (kind : Kind) (signature net : Word) (reply : Reply) → AnswersMake files words kind signature reply → HoldMade files others signature net reply.text → HoldKind others signature net kind }
+{}
+
+/// `trial` prints, with status 0, two factors at which the multiplier that it turned gives another element than their product, with
+/// both, and the number of terms of the multiplier's polynomial in words. Of all such factors they are those with the fewest bits
+/// that are 1, and among several those whose rising list of ranks is lexicographically first. It is refused for its modulus, as a
+/// signature would be, or for a stage of too many terms alone.
+pub fn trial_prints_the_differing_input()
+    ensures prints { (held : Option Files) (words : List Word) (number modulus : ℕ) (reply : Reply) → AnswersTrial held words number modulus reply → PrintsTrial number modulus reply }
+    ensures faults { (held : Option Files) (words : List Word) (number modulus : ℕ) (fault : Fault) → RefusesTrial held words number modulus fault → IsTrialFault modulus fault }
 {}

@@ -25,7 +25,8 @@ pub use headline::{
     equal_bytes_exactly_if_equal_functions, eval_prints_the_output, iso_prints_the_images,
     lift_prints_the_polynomial, one_answer_or_fault, same_exactly_if_equal_functions,
     same_prints_the_differing_input, table_prints_the_outputs,
-    tables_are_lifted_to_what_abstract_prints, upgrade_keeps_the_reply, verify_proves_the_output,
-    what_certify_prints_is_accepted, what_make_prints_computes, written_tables_are_read_back,
+    tables_are_lifted_to_what_abstract_prints, trial_prints_the_differing_input,
+    upgrade_keeps_the_reply, verify_proves_the_output, what_certify_prints_is_accepted,
+    what_make_prints_computes, written_tables_are_read_back,
 };
 pub use top::{run, run_surely};

@@ -3,7 +3,7 @@ ghost use Rattle.std.specs.Prelude.{◌≡◌, ◌⊎◌, ◌≤◌, Some, map, 
 ghost use Rattle.std.specs.Io.KnownBytes.{Keeps};
 ghost use Rattle.job_io.specs.Counts.{Rose};
 ghost use Rattle.job_io.specs.SureShelf.{sure_files, sure_misses};
-ghost use Rattle.job_words.specs.Command.{action_of, job_of};
+ghost use Rattle.job_words.specs.Command.{Over, action_of, job_of};
 ghost use Rattle.job_words.specs.Stop.{GivesBy};
 ghost use Rattle.job_input.specs.Setting.{setting_value, AreSaid, IsReady};
 ghost use Rattle.gf_abs.specs.Answer.{ActionAnswer, SignedAnswer, JobAnswer, Answer};
@@ -33,21 +33,39 @@ fn answer<S: Shelf>(alloc: Global, words: &[String], shelf: &mut S) -> Result<Ou
     }
 }
 
-// The output of a command, whose field is matched here and nowhere else.
+// The output of a command.
 fn job_answer<S: Shelf>(alloc: Global, command: &Command, shelf: &mut S) -> Result<Output, Stop>
     ensures held { S.held shelf.new ≡ S.held shelf.old }
     ensures never_fall { (S.faults shelf.old ≤ S.faults shelf.new) × (S.misses shelf.old ≤ S.misses shelf.new) }
     ensures gives { GivesBy reply_of result (JobAnswer (S.held shelf.old) (job_of command.now))
         (Rose (S.misses shelf.old) (S.misses shelf.new)) (Rose (S.faults shelf.old) (S.faults shelf.new)) }
 {
-    let Signed { signature, field } = match read_signed(alloc, shelf, command.signature) {
+    match command {
+        Command::Over { signature, task } => over_signature(alloc, signature, task, shelf),
+        Command::Trial(words) => commands::trial::answer(alloc, words),
+    }
+}
+
+// The output of a task over the signature of a file, whose field is matched here and nowhere else.
+fn over_signature<S: Shelf>(
+    alloc: Global,
+    file: &str,
+    task: &Task,
+    shelf: &mut S,
+) -> Result<Output, Stop>
+    ensures held { S.held shelf.new ≡ S.held shelf.old }
+    ensures never_fall { (S.faults shelf.old ≤ S.faults shelf.new) × (S.misses shelf.old ≤ S.misses shelf.new) }
+    ensures gives { GivesBy reply_of result (JobAnswer (S.held shelf.old) (Over file.now (action_of task.now)))
+        (Rose (S.misses shelf.old) (S.misses shelf.new)) (Rose (S.faults shelf.old) (S.faults shelf.new)) }
+{
+    let Signed { signature, field } = match read_signed(alloc, shelf, file) {
         Ok(signed) => signed,
         Err(stop) => return Err(stop),
     };
     match field {
-        AnyField::Base(field) => signed_answer(alloc, &field, signature, &command.task, shelf),
-        AnyField::Tower(field) => signed_answer(alloc, &field, signature, &command.task, shelf),
-        AnyField::Upper(field) => signed_answer(alloc, &field, signature, &command.task, shelf),
+        AnyField::Base(field) => signed_answer(alloc, &field, signature, task, shelf),
+        AnyField::Tower(field) => signed_answer(alloc, &field, signature, task, shelf),
+        AnyField::Upper(field) => signed_answer(alloc, &field, signature, task, shelf),
     }
 }
 

@@ -75,7 +75,7 @@ text_keeps text (texts.NoOutput None) is = tt
 text_keeps text (texts.NoOutput (Some model)) is = (plain_kept model (model_is_token text model is), tt)
 text_keeps text texts.OutOfMemory is = tt
 
-field_keeps : (fault : FieldFault) → RepeatsKept (field_fault fault)
+pub field_keeps : (fault : FieldFault) → RepeatsKept (field_fault fault)
 field_keeps fields.BadDegree = tt
 field_keeps fields.NotIrreducible = tt
 field_keeps fields.BadLength = tt

@@ -1,5 +1,6 @@
 pub mod FieldLemmas
 pub mod SignedLemmas
+pub mod BlockWordLemmas
 pub mod SettingWords
 pub mod SettingSoundLemmas
 pub mod SettingDetermined
@@ -7,8 +8,10 @@ pub mod BasesLemmas
 pub mod JudgeLemmas
 pub mod PlaceLemmas
 pub mod NetlistLemmas
+pub mod HierarchyLemmas
 pub mod NetlistDetermined
 pub mod RoleLemmas
+pub mod CountLemmas
 pub mod LabelLemmas
 pub mod CircuitLabelLemmas
 pub mod CircuitLemmas

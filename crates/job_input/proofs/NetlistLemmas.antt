@@ -3,6 +3,7 @@ use Rattle.std.proofs.Common.{◌≡◌, ◌⊎◌, inl, inr, sym, refl, subst, 
 use Rattle.std.specs.Prelude.{All}
 use Rattle.std.proofs.lemmas.List.{length-append}
 use Rattle.std.proofs.lemmas.Option.{slice_get-get_or}
+use Rattle.text_core.specs.Outcome.{Outcome, ◌>>=◌, Within}
 use Rattle.net_core.specs.NetList.{NetList, nets, number_of}
 use Rattle.net_core.specs.Inside.{IsInside, LatchIsInside}
 use Rattle.net_core.specs.LatchValue.{LatchValue}
@@ -37,8 +38,9 @@ use Rattle.net_signature.specs.Signature.{SignatureValue}
 use Rattle.verilog_reader.specs.Modules.{VerilogNet}
 use Rattle.net_verilog.specs.declared.fault.VerilogFault.{VerilogFault}
 use Rattle.net_verilog.specs.declared.fault.VerilogFault.TheVariants as verilogs
-use Rattle.job_input.specs.NetlistOf.{Aiger, Blif, BoundNetOf, NetOf, NetlistText, Verilog, WordsBound, of_binding, of_text, word_name}
+use Rattle.job_input.specs.NetlistOf.{Aiger, Blif, BoundNetOf, NetOf, NetlistText, Verilog, WordsBound, of_binding, of_model, of_text, word_name}
 use Rattle.job_input.specs.private.NetlistReading.{FitsNetlist, IsNamed, IsNetlistRefusal, aiger_refusal, text_refusal, net_refusal, model_refusal, verilog_refusal}
+use Rattle.job_words.specs.declared.netlist_fault.NetlistFault.{NetlistFault}
 use Rattle.job_words.specs.declared.netlist_fault.NetlistFault.TheVariants as netlist
 use Rattle.job_input.specs.declared.netlist.Refusal.{Refusal}
 use Rattle.job_input.specs.declared.netlist.Refusal.TheVariants.{Fault, OutOfMemory}
@@ -164,17 +166,17 @@ net_sound (Verilog text) net (listed, is_made, made) = let P : NetList → Type 
 net_sound (Aiger text) net (reading, is_read, (_, _, (_, _, (listed, is_made, made)))) = let P : NetList → Type 0 = λ n. IsSound n in subst P (sym made.0) made.1
 
 -- what comes of a text that is refused
-pub text_refused : (text : List ℕ) (fault : BlifFault) → (fault ≡ texts.OutOfMemory) ⊎ BlifDesign text (Err fault) → FitsNetlist {A = NetList} (Err (text_refusal fault)) (NetOf (Blif text))
-text_refused text fault why = by fault why
+pub text_stops : {B : Type 0} (second : List ModelValue → Outcome NetlistFault B) (text : List ℕ) (fault : BlifFault) → (fault ≡ texts.OutOfMemory) ⊎ BlifDesign text (Err fault) → FitsNetlist {A = B} (Err (text_refusal fault)) (Within of_text (BlifDesign text) >>= second)
+text_stops {B = B} second text fault why = by fault why
   where
-    none : (fault : BlifFault) → BlifDesign text (Err fault) → NetOf (Blif text) (Err (of_text fault))
+    none : (fault : BlifFault) → BlifDesign text (Err fault) → (Within of_text (BlifDesign text) >>= second) (Err (of_text fault))
     none fault refused = inl (fault, refused, refl)
 
     wanting : (fault : BlifFault) (C : Type 0) → (fault ≡ texts.OutOfMemory → C) → (BlifDesign text (Err fault) → C) → (fault ≡ texts.OutOfMemory) ⊎ BlifDesign text (Err fault) → C
     wanting fault C f g (inl is) = f is
     wanting fault C f g (inr is) = g is
 
-    by : (fault : BlifFault) → (fault ≡ texts.OutOfMemory) ⊎ BlifDesign text (Err fault) → FitsNetlist {A = NetList} (Err (text_refusal fault)) (NetOf (Blif text))
+    by : (fault : BlifFault) → (fault ≡ texts.OutOfMemory) ⊎ BlifDesign text (Err fault) → FitsNetlist {A = B} (Err (text_refusal fault)) (Within of_text (BlifDesign text) >>= second)
     by texts.NoModel why = wanting texts.NoModel _ (λ e. absurd (cc)) (none texts.NoModel) why
     by (texts.Syntax line) why = wanting (texts.Syntax line) _ (λ e. absurd (cc)) (none (texts.Syntax line)) why
     by (texts.LeftOut line word) why = wanting (texts.LeftOut line word) _ (λ e. absurd (cc)) (none (texts.LeftOut line word)) why
@@ -187,6 +189,37 @@ text_refused text fault why = by fault why
     by (texts.Recursive model) why = wanting (texts.Recursive model) _ (λ e. absurd (cc)) (none (texts.Recursive model)) why
     by texts.TooDeep why = wanting texts.TooDeep _ (λ e. absurd (cc)) (none texts.TooDeep) why
     by texts.OutOfMemory why = tt
+
+-- a text in BLIF that is refused
+pub text_refused : (text : List ℕ) (fault : BlifFault) → (fault ≡ texts.OutOfMemory) ⊎ BlifDesign text (Err fault) → FitsNetlist {A = NetList} (Err (text_refusal fault)) (NetOf (Blif text))
+text_refused text fault why = text_stops (λ design. Within of_model (Flattens design 0)) text fault why
+
+-- a first model whose net is refused
+module _ {B : Type 0} (second : NetList → Outcome NetlistFault B) (design : List ModelValue) where
+  net_stops : (fault : NetFault) → (flat_faults.Net fault ≡ flat_faults.OutOfMemory) ⊎ Flattens design 0 (Err (flat_faults.Net fault)) → FitsNetlist {A = B} (Err (net_refusal fault)) (Within of_model (Flattens design 0) >>= second)
+  net_stops fault (inl e) = absurd (cc)
+  net_stops net_faults.TooManyNets (inr is) = inl (flat_faults.Net net_faults.TooManyNets, is, refl)
+  net_stops net_faults.TooManyGates (inr is) = inl (flat_faults.Net net_faults.TooManyGates, is, refl)
+  net_stops (net_faults.DrivenTwice n label) (inr is) = inl (flat_faults.Net (net_faults.DrivenTwice n label), is, refl)
+  net_stops (net_faults.Undriven n label) (inr is) = inl (flat_faults.Net (net_faults.Undriven n label), is, refl)
+  net_stops (net_faults.Loop loop label) (inr is) = inl (flat_faults.Net (net_faults.Loop loop label), is, refl)
+  net_stops net_faults.OutOfMemory (inr is) = tt
+
+  pub model_stops : (fault : FlatFault) → (fault ≡ flat_faults.OutOfMemory) ⊎ Flattens design 0 (Err fault) → FitsNetlist {A = B} (Err (model_refusal fault)) (Within of_model (Flattens design 0) >>= second)
+  model_stops (flat_faults.Net fault) why = net_stops fault why
+  model_stops flat_faults.TooManyInstances (inl e) = absurd (cc)
+  model_stops flat_faults.TooManyInstances (inr is) = inl (flat_faults.TooManyInstances, is, refl)
+  model_stops flat_faults.OutOfMemory why = tt
+
+-- one step of a netlist after another
+pub step_stops : {A B : Type 0} (first : Outcome NetlistFault A) (second : A → Outcome NetlistFault B) (refusal : Refusal) → FitsNetlist {A = A} (Err refusal) first → FitsNetlist {A = B} (Err refusal) (first >>= second)
+step_stops first second (Fault fault) is = inl is
+step_stops first second OutOfMemory is = tt
+
+pub step_after : {A B : Type 0} (first : Outcome NetlistFault A) (second : A → Outcome NetlistFault B) (a : A) (result : Result B Refusal) → first (Ok a) → FitsNetlist result (second a) → FitsNetlist result (first >>= second)
+step_after first second a (Ok b) one then = (a, one, then)
+step_after first second a (Err (Fault fault)) one then = inr (a, one, then)
+step_after first second a (Err OutOfMemory) one then = tt
 
 module _ (text : List ℕ) (design : List ModelValue) (read : BlifDesign text (Ok design)) where
   net_refused : (fault : NetFault) → (flat_faults.Net fault ≡ flat_faults.OutOfMemory) ⊎ Flattens design 0 (Err (flat_faults.Net fault)) → FitsNetlist {A = NetList} (Err (net_refusal fault)) (NetOf (Blif text))

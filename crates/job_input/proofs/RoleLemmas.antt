@@ -31,7 +31,7 @@ bound_roles net taken before (word ∷ words) more (list, own, rest) =
     ∙ (ap (λ rs. rs ++ text_roles words) (one_more before (bound_word word list.0))
     ∙ append_assoc (roles before) (word.role ∷ []) (text_roles words))
 
-binding_roles : (net : NetList) (words : List WordText) (feeds : List FeedText) (binding : Binding) → BindingOf net words feeds (Ok binding) → HaveRoles words binding.words
+pub binding_roles : (net : NetList) (words : List WordText) (feeds : List FeedText) (binding : Binding) → BindingOf net words feeds (Ok binding) → HaveRoles words binding.words
 unfolding roles text_roles
 binding_roles net words feeds binding (bound, is, rest) =
     ap (λ (b : Binding). roles b.words) rest.2.2.2 ∙ bound_roles net [] [] words bound is

@@ -5,11 +5,14 @@ use Rattle.net_words.specs.Binding.{AreWords}
 use Rattle.net_words.specs.Feeds.{AreFeeds}
 use Rattle.net_words.specs.Roles.{is_output, input_count}
 use Rattle.net_words.specs.declared.word.WordText.{WordText}
+use Rattle.net_core.specs.Lists.{Has}
+use Rattle.net_signature.specs.Body.{BlockValue}
 use Rattle.net_signature.specs.Signature.{SignatureValue, Sig}
 use Rattle.net_signature.proofs.FeedLemmas.{feeds_are}
 use Rattle.net_signature.proofs.NamesLemmas.{sig_names, sig_counts}
-use Rattle.job_input.specs.SettingOf.{HasWidth, BasesOf, SettingOf}
-use Rattle.job_input.specs.Setting.{AreSaid}
+use Rattle.job_input.proofs.BlockWordLemmas.{sig_blocks}
+use Rattle.job_input.specs.SettingOf.{HasWidth, BasesOf, BlocksHaveBases, SettingOf}
+use Rattle.job_input.specs.Setting.{AreBlockWords, AreSaid, CanBindBlock}
 use Rattle.job_input.specs.SettingValue.{SettingValue}
 use Rattle.job_input.proofs.FieldLemmas.{field_some, field_most}
 use Rattle.job_input.proofs.PlaceLemmas.{places_below}
@@ -43,11 +46,21 @@ bases_words k product some most words bases output others are =
 pub bases_long : (k : ℕ) (product : ℕ → ℕ → ℕ) (words : List WordText) (bases : List (List ℕ)) → BasesOf k product words (Ok bases) → length bases ≡ length words
 bases_long k product words bases are = as_many k product words bases are
 
+-- so can the words of each block
+pub block_binds : (k : ℕ) (product : ℕ → ℕ → ℕ) → 1 ≤ k → k ≤ 64 → (blocks : List BlockValue) → BlocksHaveBases k product blocks (Ok tt) → ((block : BlockValue) → Has blocks block → AreBlockWords block.words) → (block : BlockValue) → Has blocks block → CanBindBlock k block.words
+block_binds k product some most [] have said block has = let got = has.1 in absurd (cc)
+block_binds k product some most (first ∷ blocks) (bases, are, rest) said block (zero, got) =
+    let P : BlockValue → Type 0 = λ b. CanBindBlock k b.words in
+    let same : first ≡ block = cc in
+    let own = said first (0, refl) in
+    subst P same (record { words_are = bases_words k product some most first.words bases own.output own.others are; unfed = own.unfed; names = own.names })
+block_binds k product some most (first ∷ blocks) (bases, are, rest) said block (suc i, got) = block_binds k product some most blocks rest (λ b h. said b (suc h.0, h.1)) block (i, got)
+
 -- the words and feeds of a signature's text
 pub text_said : (bytes : List ℕ) (said : SignatureValue) → Sig bytes (Ok said) → AreSaid said
 text_said bytes said ok =
     let counts = sig_counts bytes said ok in
-    record { output = counts.0; others = counts.1; names = sig_names bytes said ok; feeds = λ k within. feeds_are bytes said k ok (places_below k said.feeds within) }
+    record { output = counts.0; others = counts.1; names = sig_names bytes said ok; feeds = λ k within. feeds_are bytes said k ok (places_below k said.feeds within); blocks = sig_blocks bytes said ok }
 
 pub setting_words : (bytes : List ℕ) (value : SettingValue) → SettingOf bytes (Ok value) → AreWords value.k value.signature.words
 setting_words bytes value is =

@@ -6,6 +6,7 @@ pub mod SignedIn
 pub mod Setting
 pub mod SettingSound
 pub mod NetlistOf
+pub mod HierarchyIn
 pub mod CircuitOf
 pub mod JobOf
 pub mod Labelling

@@ -1,12 +1,14 @@
 -- What a `Setting` is made of, and the stops of its making. Source: this project's own.
-use Rattle.std.specs.Prelude.{◌≡◌, ℕ, ◌*◌, ◌≤◌, List, filter, length, map, Result, Ok}
+use Rattle.std.specs.Prelude.{◌≡◌, ◌≢◌, ℕ, ◌*◌, ◌≤◌, List, filter, length, map, Result, Ok}
 use Rattle.net_core.specs.Lists.{Has}
 use Rattle.net_words.specs.Binding.{AreWords, BoundNet}
 use Rattle.net_words.specs.Feeds.{AreFeeds}
 use Rattle.net_words.specs.Roles.{is_output, input_count}
 use Rattle.net_words.specs.declared.bound.BoundWord.{BoundWord}
 use Rattle.net_words.specs.declared.word.Role.{Role}
+use Rattle.net_words.specs.declared.word.Role.TheVariants.{Fed}
 use Rattle.net_words.specs.declared.word.WordText.{WordText}
+use Rattle.net_signature.specs.Body.{BlockValue}
 use Rattle.net_signature.specs.Signature.{SignatureValue}
 use Rattle.net_signature.specs.WordNames.{HaveNames}
 use Rattle.net_signature.specs.declared.fault.SigFault.{SigFault}
@@ -99,22 +101,38 @@ second_stop stops.OutOfMemory = stops.OutOfMemory
 abbrev pub roles_of : List WordText → List Role
 roles_of words = map (λ word. word.role) words
 
+-- one word of a block is the output, at most eight are others, they have names, no two the same, and none is fed
+pub record AreBlockWords (words : List WordText) : Type 0 where
+  pub output : length (filter is_output words) ≡ 1
+  pub others : input_count words ≤ 8
+  pub names : HaveNames words
+  pub unfed : (word : WordText) → Has words word → word.role ≢ Fed
+
 -- What is known of each signature: one word is the output, at most eight are others, they have names, no two the same, and
--- the feeds can be bound where their places are below k.
+-- the feeds can be bound where their places are below k; and so it is with the words of each block, none of which is fed.
 pub record AreSaid (signature : SignatureValue) : Type 0 where
   pub output : length (filter is_output signature.words) ≡ 1
   pub others : input_count signature.words ≤ 8
   pub names : HaveNames signature.words
   pub feeds : (k : ℕ) → ◌≡◌ {A = Result (Unit {0}) SignatureFault} (Ok tt) (feeds_within k signature.feeds) → AreFeeds k (roles_of signature.words) signature.feeds
+  pub blocks : (block : BlockValue) → Has signature.blocks block → AreBlockWords block.words
+
+-- the words of a block can be bound, none of them is fed, and they have names, no two the same
+pub record CanBindBlock (k : ℕ) (words : List WordText) : Type 0 where
+  pub words_are : AreWords k words
+  pub unfed : (word : WordText) → Has words word → word.role ≢ Fed
+  pub names : HaveNames words
 
 -- what is known of each setting over a field: its bases are over the field, one for each word; its words have k nets each
--- or are fed, one is the output, and at most eight are others; they have names, no two the same; and its feeds can be bound
+-- or are fed, one is the output, and at most eight are others; they have names, no two the same; its feeds can be bound; and so can the
+-- words of each block
 pub record IsReady (k : ℕ) (product : ℕ → ℕ → ℕ) (setting : Setting) : Type 0 where
   pub over : AreBasesOver k product setting.bases.items
   pub long : length setting.bases.items ≡ length setting.signature.words
   pub words : AreWords k setting.signature.words
   pub names : HaveNames setting.signature.words
   pub feeds : AreFeeds k (roles_of setting.signature.words) setting.signature.feeds
+  pub blocks : (block : BlockValue) → Has setting.signature.blocks block → CanBindBlock k block.words
 
 -- the bound words are as many as these, and have their roles
 abbrev pub HaveRoles : List WordText → List BoundWord → Type 0

@@ -3,11 +3,13 @@
 //! Each file is read, and then its text is taken; the first fault counts.
 #![tactic(auto)]
 
+mod base;
 mod bound;
 mod circuit;
 mod circuit_labels;
 mod cycles;
 mod files;
+mod hierarchy;
 mod labels;
 mod laws;
 mod netlist;
@@ -18,10 +20,12 @@ mod signed;
 mod specification;
 mod table_file;
 
+pub use base::base_field;
 pub use bound::BoundNetlist;
 pub use circuit::{read_circuit, read_netlist, unroll_netlist};
 pub use circuit_labels::circuit_labels_for;
 pub use files::read_file;
+pub use hierarchy::read_hierarchy;
 pub use labels::labels_for;
 pub use laws::{
     each_setting_is_sound, faults_keep_to_their_line, one_circuit_or_fault, one_netlist_or_fault,
@@ -29,7 +33,7 @@ pub use laws::{
 };
 pub use output::output_basis;
 pub use second::read_second;
-pub use setting::{Setting, setting_over};
+pub use setting::{Setting, bases_of, setting_over};
 pub use signed::{Signed, read_signed};
 pub use specification::read_specification;
 pub use table_file::read_table_file;

@@ -46,8 +46,8 @@ pub(crate) fn bound_net(
     }
 }
 
-// The net with the words and feeds that are bound to it.
-fn bound_to(
+/// The net with the words and feeds that are bound to it.
+pub(crate) fn bound_to(
     alloc: Global,
     words: &[WordText],
     feeds: &[FeedText],
@@ -165,8 +165,8 @@ fn blif_net(alloc: Global, text: &[u8]) -> Result<Net, Refusal>
     }
 }
 
-// The refusal of a netlist's text.
-fn text_fault(fault: BlifFault) -> Refusal
+/// The refusal of a netlist's text.
+pub(crate) fn text_fault(fault: BlifFault) -> Refusal
     ensures { result ≡ text_refusal fault }
 {
     match fault {
@@ -187,8 +187,8 @@ fn text_fault(fault: BlifFault) -> Refusal
     }
 }
 
-// The refusal of a model's net.
-fn model_fault(fault: FlatFault) -> Refusal
+/// The refusal of a model's net.
+pub(crate) fn model_fault(fault: FlatFault) -> Refusal
     ensures { result ≡ model_refusal fault }
 {
     match fault {

@@ -51,8 +51,8 @@ pub fn setting_over<F: Field>(
     }
 }
 
-// The bases of words, line by line.
-fn bases_of<F: Field>(alloc: Global, field: &F, words: &[WordText]) -> Result<Vec<Basis>, Stop>
+/// The bases of words, line by line, or the first fault.
+pub fn bases_of<F: Field>(alloc: Global, field: &F, words: &[WordText]) -> Result<Vec<Basis>, Stop>
     ensures gives { GivesBy (λ bases. elements_of_each bases.items) result (Within Signature (BasesOf (F.degree field.now) (F.product field.now) words.now)) ⊥ ⊥ }
     ensures over { IfOk result (λ bases. AreBasesOver (F.degree field.now) (F.product field.now) bases.items) }
 {

@@ -83,8 +83,8 @@ pub(crate) fn refused(fault: SignatureFault) -> Stop
     Stop::Refused(Fault::Signature(fault))
 }
 
-// The fault of a signature's field.
-fn field_fault(fault: FieldFault) -> SignatureFault
+/// The fault of a signature's field.
+pub(crate) fn field_fault(fault: FieldFault) -> SignatureFault
     ensures { result ≡ fault_of_field fault }
 {
     match fault {

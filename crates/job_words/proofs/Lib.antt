@@ -2,6 +2,7 @@ pub mod WordLemmas
 pub mod SpelledLemmas
 pub mod OptionLemmas
 pub mod ValueLemmas
+pub mod MadeWordsLemmas
 pub mod OneCommandLemmas
 pub mod StepLemmas
 pub mod OneLineLemmas

@@ -1,5 +1,5 @@
 -- Words spell one command at most: each command's words give back what it does over them.
-use Rattle.std.proofs.Common.{◌≡◌, ◌≢◌, ◌⊎◌, ◌∙◌, ap, subst, sym, inl, inr, refl, ℕ, ◌+◌, ◌*◌, if◌then◌else◌, ◌==◌, Bool, true, false, List, [], ◌∷◌, ◌++◌, get_or, codes}
+use Rattle.std.proofs.Common.{◌≡◌, ◌≢◌, ◌⊎◌, ◌∙◌, ap, subst, sym, inl, inr, refl, ℕ, ◌+◌, ◌*◌, if◌then◌else◌, ◌==◌, Bool, true, false, drop, List, [], ◌∷◌, ◌++◌, get_or, codes}
 use Rattle.text_core.specs.Numbers.{value_of}
 use Rattle.job_words.proofs.OptionLemmas.{Shape, Neither, Terms, Cycles, TermsFirst, CyclesFirst, shape}
 use Rattle.job_words.proofs.SpelledLemmas.{first_word, rest_of}
@@ -8,10 +8,10 @@ use Rattle.job_words.specs.Operands.{Word}
 use Rattle.job_words.specs.declared.kind.Kind.{Kind}
 use Rattle.job_words.specs.declared.kind.Kind.TheVariants as kinds
 use Rattle.job_words.specs.Kind.{kind_name}
-use Rattle.job_words.specs.MadeWords.{IsOfKind}
-use Rattle.job_words.specs.Options.{AreNone, AreOptions, AreStageOptions, AreSumOptions, IsCyclesOption}
+use Rattle.job_words.specs.MadeWords.{AreTrialWords, IsOfKind}
+use Rattle.job_words.specs.Options.{AreNone, AreOptions, AreStageOptions, AreSumOptions, IsCyclesOption, IsTermsOption}
 use Rattle.job_words.specs.Shapes.{IsOverFile, IsOverFiles, AreValues}
-use Rattle.job_words.specs.Command.{Action, Bits, Abstract, Check, Same, Eval, Iso, Lift, Table, Certify, Verify, Upgrade, Make, Job, Over, IsNamed, IsSpelled}
+use Rattle.job_words.specs.Command.{Action, Bits, Abstract, Check, Same, Eval, Iso, Lift, Table, Certify, Verify, Upgrade, Make, Job, Over, Trial, IsNamed, IsSpelled}
 use Rattle.job_words.specs.private.OptionPlace.{before_options, from_options}
 
 -- what tells the names of commands apart, and those of kinds: their first two letters
@@ -52,7 +52,7 @@ action_at key operands =
 
 -- whether the command of this key has its signature as the first word behind its name
 abbrev is_signature_first : ℕ → Bool
-is_signature_first key = if key == 28001 then false else true
+is_signature_first key = if key == 28001 then false else if key == 29810 then false else true
 
 -- the kind whose name has this key
 abbrev kind_at : ℕ → Kind
@@ -65,16 +65,18 @@ kind_at key =
     if key == 29553 then kinds.Squarer else
     kinds.Digit
 
--- the command that makes a netlist
-abbrev made_at : List Word → Job
-made_at operands = Over (first_word (rest_of operands)) (Make (kind_at (name_key (first_word operands))))
+-- the command of this key that makes a netlist
+abbrev made_at : ℕ → List Word → Job
+made_at key operands =
+    if key == 28001 then Over (first_word (rest_of operands)) (Make (kind_at (name_key (first_word operands)))) else
+    Trial (value_of 10 (first_word operands)) (value_of 16 (drop 2 (first_word (rest_of operands)))) (terms_by 65536 (rest_of (rest_of operands)))
 
 -- the command of the words, where they spell one
 abbrev job_at : List Word → Job
 job_at words =
     if is_signature_first (key words)
     then Over (first_word (rest_of words)) (action_at (key words) (rest_of (rest_of words)))
-    else made_at (rest_of words)
+    else made_at (key words) (rest_of words)
 
 -- the numbers that options set
 options_back : (limit default : ℕ) (options : List Word) (t c : ℕ) → AreOptions limit default options t c → (t ≡ terms_by default options) × (c ≡ cycles_by options)
@@ -94,14 +96,14 @@ module _ (name : Word) (words : List Word) (s n : Word) (act : Action) (Follow :
   file_back made =
       let over = is.follow in
       let whole : words ≡ name ∷ s ∷ n ∷ over.rest = is.words_are ∙ ap (λ (rest : List Word). name ∷ rest) over.words_are in
-      ap (λ (a : Action). Over s a) (sym made) ∙ (λ i. if sym first i then Over s (action_at (key (name ∷ [])) (n ∷ over.rest)) else made_at (s ∷ n ∷ over.rest)) ∙ ap job_at (sym whole)
+      ap (λ (a : Action). Over s a) (sym made) ∙ (λ i. if sym first i then Over s (action_at (key (name ∷ [])) (n ∷ over.rest)) else made_at (key (name ∷ [])) (s ∷ n ∷ over.rest)) ∙ ap job_at (sym whole)
 
 module _ (name : Word) (words : List Word) (s n o : Word) (act : Action) (Follow : List Word → Type 0) (first : is_signature_first (key (name ∷ [])) ≡ true) (is : IsNamed name (λ rest. IsOverFiles Follow rest s n o) words) where
   files_back : action_at (key (name ∷ [])) (n ∷ o ∷ is.follow.rest) ≡ act → ◌≡◌ {A = Job} (Over s act) (job_at words)
   files_back made =
       let over = is.follow in
       let whole : words ≡ name ∷ s ∷ n ∷ o ∷ over.rest = is.words_are ∙ ap (λ (rest : List Word). name ∷ rest) over.words_are in
-      ap (λ (a : Action). Over s a) (sym made) ∙ (λ i. if sym first i then Over s (action_at (key (name ∷ [])) (n ∷ o ∷ over.rest)) else made_at (s ∷ n ∷ o ∷ over.rest)) ∙ ap job_at (sym whole)
+      ap (λ (a : Action). Over s a) (sym made) ∙ (λ i. if sym first i then Over s (action_at (key (name ∷ [])) (n ∷ o ∷ over.rest)) else made_at (key (name ∷ [])) (s ∷ n ∷ o ∷ over.rest)) ∙ ap job_at (sym whole)
 
 -- what options set, in what a command does
 set_back : (make : ℕ → ℕ → Action) (options : List Word) (t c : ℕ) → AreStageOptions options t c → make (terms_by 65536 options) (cycles_by options) ≡ make t c
@@ -136,6 +138,17 @@ make_back words s kind is =
     let whole : words ≡ codes "make" ∷ kind_name kind ∷ s ∷ [] = is.words_are ∙ ap (λ (rest : List Word). codes "make" ∷ rest) is.follow.words_are in
     ap (λ (k : Kind). Over s (Make k)) (kind_back kind) ∙ ap job_at (sym whole)
 
+trial_terms : (options : List Word) (t : ℕ) → IsTermsOption 262144 65536 options t → t ≡ terms_by 65536 options
+trial_terms options t (inl (e, set)) = set ∙ ap (terms_by 65536) (sym e)
+trial_terms options t (inr (y, e, is)) = is.decimal.1 ∙ ap (terms_by 65536) (sym e)
+
+trial_back : (words : List Word) (n m t : ℕ) → IsNamed (codes "trial") (λ rest. AreTrialWords rest n m t) words → ◌≡◌ {A = Job} (Trial n m t) (job_at words)
+trial_back words n m t is =
+    let are = is.follow in
+    let whole : words ≡ codes "trial" ∷ are.first ∷ are.second ∷ are.options = is.words_are ∙ ap (λ (rest : List Word). codes "trial" ∷ rest) are.words_are in
+    let value : m ≡ value_of 16 (drop 2 are.second) = are.modulus_is.hex.3 ∙ ap (λ (w : Word). value_of 16 (drop 2 w)) (sym are.modulus_is.hex.1) in
+    (λ i. Trial (are.number_is.decimal.1 i) (value i) (trial_terms are.options t are.set i)) ∙ ap job_at (sym whole)
+
 -- each command, one line each
 back : (words : List Word) (job : Job) → IsSpelled words job → job ≡ job_at words
 back words (Over s (Bits n t c)) is = file_back (codes "bits") words s n (Bits n t c) (λ rest. AreStageOptions rest t c) refl is (set_back (Bits n) is.follow.rest t c is.follow.follow)
@@ -150,6 +163,7 @@ back words (Over s (Certify n t c)) is = file_back (codes "certify") words s n (
 back words (Over s (Verify n o t c)) is = files_back (codes "verify") words s n o (Verify n o t c) (λ rest. AreSumOptions rest t c) refl is (sum_set_back (Verify n o) is.follow.rest t c is.follow.follow)
 back words (Over s (Upgrade n o c)) is = files_back (codes "upgrade") words s n o (Upgrade n o c) (λ rest. IsCyclesOption rest c) refl is (ap (Upgrade n o) (cycles_set is.follow.rest c is.follow.follow))
 back words (Over s (Make kind)) is = make_back words s kind is
+back words (Trial n m t) is = trial_back words n m t is
 
 pub one_job : (words : List Word) (job other : Job) → IsSpelled words job → IsSpelled words other → job ≡ other
 one_job words job other a b = back words job a ∙ sym (back words other b)

@@ -1,10 +1,11 @@
 -- The commands, and the words that spell them. Source: this project's own, docs/COMMANDS.md.
 use Rattle.std.specs.Prelude.{◌≡◌, ℕ, List, ◌∷◌, codes, map, string_bytes}
 use Rattle.job_words.specs.declared.command.Command.{Command}
+use Rattle.job_words.specs.declared.command.Command.TheVariants as commands
 use Rattle.job_words.specs.declared.command.Task.{Task}
 use Rattle.job_words.specs.declared.command.Task.TheVariants as tasks
 use Rattle.job_words.specs.declared.kind.Kind.{Kind}
-use Rattle.job_words.specs.MadeWords.{IsOfKind}
+use Rattle.job_words.specs.MadeWords.{AreTrialWords, IsOfKind}
 use Rattle.job_words.specs.Operands.{Word}
 use Rattle.job_words.specs.Options.{AreNone, AreStageOptions, AreSumOptions, IsCyclesOption}
 use Rattle.job_words.specs.Shapes.{IsOverFile, IsOverFiles, AreValues}
@@ -24,9 +25,10 @@ pub data Action : Type 0 where
   Upgrade : (net certificate : Word) (cycles : ℕ) → Action
   Make : (kind : Kind) → Action
 
--- a command with its operands: what it does over the signature of this file
+-- a command with its operands: what it does over the signature of this file, or a trial of a number and a modulus
 pub data Job : Type 0 where
   Over : (signature : Word) (action : Action) → Job
+  Trial : (number modulus terms : ℕ) → Job
 
 -- its name
 abbrev pub name_of : Action → Word
@@ -67,6 +69,7 @@ pub record IsNamed (name : Word) (Follow : List Word → Type 0) (words : List W
 -- the words spell the command
 abbrev pub IsSpelled : List Word → Job → Type 0
 IsSpelled words (Over signature action) = IsNamed (name_of action) (λ rest. AreOperandsOf rest signature action) words
+IsSpelled words (Trial number modulus terms) = IsNamed (codes "trial") (λ rest. AreTrialWords rest number modulus terms) words
 
 -- what the program's task is, by its operands
 abbrev pub action_of : Task → Action
@@ -85,4 +88,5 @@ action_of (tasks.Make kind) = Make kind
 
 -- the command that the program's words gave
 abbrev pub job_of : Command → Job
-job_of command = Over command.signature.now (action_of command.task)
+job_of (commands.Over signature task) = Over signature.now (action_of task)
+job_of (commands.Trial words) = Trial words.number words.modulus words.terms

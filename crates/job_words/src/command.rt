@@ -1,22 +1,22 @@
 //! The commands, and the words that spell them.
 ghost use Rattle.std.specs.Prelude.{◌∷◌, map, string_bytes, IfSome, IfNone};
-ghost use Rattle.job_words.specs.Command.{Over, IsSpelled, action_of, job_of};
-ghost use Rattle.job_words.specs.private.Groups.{IsLater, IsOfTables};
+ghost use Rattle.job_words.specs.Command.{Over, Trial, IsSpelled, action_of, job_of};
+ghost use Rattle.job_words.specs.private.Groups.{IsLater, IsOfTables, IsOverSignature};
 
 use crate::kind::Kind;
-use crate::made_words::of_kind;
+use crate::made_words::{TrialWords, of_kind, of_numbers};
 use crate::shapes::{
     over_certificate, over_cycles, over_file, over_files, over_net, over_pair, over_values,
 };
 use crate::words::{CyclePairWords, CycleWords, EvalWords, NetWords, PairWords};
 
-/// A command: the signature that it reads first, and what it does over it.
+/// A command.
 #[derive(Clone, Copy, Debug)]
-pub struct Command<'a> {
-    /// The name of the signature's file.
-    pub signature: &'a str,
-    /// What it does.
-    pub task: Task<'a>,
+pub enum Command<'a> {
+    /// What a task does over the signature of this file, which is read first.
+    Over { signature: &'a str, task: Task<'a> },
+    /// `trial`: makes a multiplier, turns over one gate, and prints the input at which it is told apart from the product.
+    Trial(TrialWords),
 }
 
 /// What a command does over its signature.
@@ -54,18 +54,40 @@ pub fn read_words<'a>(words: &'a [String]) -> Option<Command<'a>>
     ensures none { IfNone result ((job : _) → IsSpelled (map string_bytes words.now) job → ⊥) }
 {
     match words {
-        [name, rest @ ..] => match read_task(name.as_str(), rest) {
-            Some((signature, task)) => Some(Command { signature, task }),
+        [name, rest @ ..] => read_command(name.as_str(), rest),
+        [] => None,
+    }
+}
+
+// The command of this name with these words behind it.
+fn read_command<'a>(name: &str, rest: &'a [String]) -> Option<Command<'a>>
+    ensures found { IfSome result (λ command. IsSpelled (name.now ∷ map string_bytes rest.now) (job_of command)) }
+    ensures none { IfNone result ((job : _) → IsSpelled (name.now ∷ map string_bytes rest.now) job → ⊥) }
+{
+    match read_task(name, rest) {
+        Some((signature, task)) => Some(Command::Over { signature, task }),
+        None => match read_trial(name, rest) {
+            Some(words) => Some(Command::Trial(words)),
             None => None,
         },
-        [] => None,
+    }
+}
+
+// The words of a trial, where this is the name of its command.
+fn read_trial(name: &str, rest: &[String]) -> Option<TrialWords>
+    ensures found { IfSome result (λ trial. IsSpelled (name.now ∷ map string_bytes rest.now) (Trial trial.number trial.modulus trial.terms)) }
+    ensures none { IfNone result ((number modulus terms : _) → IsSpelled (name.now ∷ map string_bytes rest.now) (Trial number modulus terms) → ⊥) }
+{
+    match name {
+        "trial" => of_numbers(rest),
+        _ => None,
     }
 }
 
 // The signature and the task of a command of this name with these words behind it.
 fn read_task<'a>(name: &str, rest: &'a [String]) -> Option<(&'a str, Task<'a>)>
     ensures found { IfSome result (λ r. IsSpelled (name.now ∷ map string_bytes rest.now) (Over r.0.now (action_of r.1))) }
-    ensures none { IfNone result ((job : _) → IsSpelled (name.now ∷ map string_bytes rest.now) job → ⊥) }
+    ensures none { IfNone result ((job : _) → IsOverSignature job → IsSpelled (name.now ∷ map string_bytes rest.now) job → ⊥) }
 {
     match name {
         "bits" => match over_net(rest) {

@@ -29,6 +29,7 @@ pub use fault::{Fault, status_of, write_fault};
 pub use file_fault::FileFault;
 pub use kind::Kind;
 pub use laws::each_fault_is_one_line;
+pub use made_words::TrialWords;
 pub use netlist_fault::{BindingFault, NetlistFault};
 pub use signature_fault::SignatureFault;
 pub use specification_fault::SpecificationFault;

@@ -1,10 +1,23 @@
-//! The words of the command that makes netlists.
+//! The words of the commands that make netlists.
 ghost use Rattle.std.specs.Prelude.{◌≡◌, ◌∷◌, [], map, string_bytes, IfSome, IfNone};
 ghost use Rattle.job_words.specs.Kind.{kind_name as name_of};
-ghost use Rattle.job_words.specs.MadeWords.{IsOfKind};
+ghost use Rattle.job_words.specs.MadeWords.{AreTrialWords, IsOfKind, IsTrialNumber, IsValueOf};
 
 use crate::kind::Kind;
 use crate::operands::is_operand;
+use crate::options::read_terms;
+use text_core::{read_decimal, read_hex};
+
+/// The words of a trial.
+#[derive(Clone, Copy, Debug)]
+pub struct TrialWords {
+    /// The number that tells which gate is turned over, and where.
+    pub number: u64,
+    /// The modulus of the field, bit i of which is the coefficient of x^i.
+    pub modulus: u128,
+    /// The most terms that a stage may have, 1 to 262,144.
+    pub terms: u32,
+}
 
 /// A kind and a signature.
 pub(crate) fn of_kind<'a>(words: &'a [String]) -> Option<(&'a str, Kind)>
@@ -46,4 +59,72 @@ fn read_kind(name: &str) -> Option<Kind>
         "digit" => Some(Kind::Digit),
         _ => None,
     }
+}
+
+/// A number and a modulus with the option of terms behind them.
+pub(crate) fn of_numbers(words: &[String]) -> Option<TrialWords>
+    ensures found { IfSome result (λ trial. AreTrialWords (map string_bytes words.now) trial.number trial.modulus trial.terms) }
+    ensures none { IfNone result ((number modulus terms : _) → AreTrialWords (map string_bytes words.now) number modulus terms → ⊥) }
+{
+    match words {
+        [number, modulus, options @ ..] => {
+            of_two_numbers(number.as_str(), modulus.as_str(), options)
+        }
+        _ => None,
+    }
+}
+
+// The same of two words and the options behind them.
+fn of_two_numbers(number: &str, modulus: &str, options: &[String]) -> Option<TrialWords>
+    ensures found { IfSome result (λ trial. AreTrialWords (number.now ∷ modulus.now ∷ map string_bytes options.now) trial.number trial.modulus trial.terms) }
+    ensures none { IfNone result ((n m t : _) → AreTrialWords (number.now ∷ modulus.now ∷ map string_bytes options.now) n m t → ⊥) }
+{
+    match two_numbers(number, modulus) {
+        Some((number, modulus)) => match read_terms(options) {
+            Some(terms) => Some(TrialWords {
+                number,
+                modulus,
+                terms,
+            }),
+            None => None,
+        },
+        None => None,
+    }
+}
+
+// The two numbers themselves.
+fn two_numbers(number: &str, modulus: &str) -> Option<(u64, u128)>
+    ensures found { IfSome result (λ r. IsTrialNumber number.now r.0 × IsValueOf modulus.now r.1) }
+    ensures none { IfNone result ((n m : _) → IsTrialNumber number.now n → IsValueOf modulus.now m → ⊥) }
+{
+    match (trial_number(number), value_of(modulus)) {
+        (Some(number), Some(modulus)) => Some((number, modulus)),
+        _ => None,
+    }
+}
+
+// The number of a trial.
+fn trial_number(word: &str) -> Option<u64>
+    ensures found { IfSome result (λ number. IsTrialNumber word.now number) }
+    ensures none { IfNone result ((number : _) → IsTrialNumber word.now number → ⊥) }
+{
+    let digits = word.as_bytes();
+    if digits.len() != 1 && digits.starts_with(b"0") {
+        return None;
+    }
+    match read_decimal(digits, u128::from(u64::MAX)) {
+        Some(number) => Some(number as u64),
+        None => None,
+    }
+}
+
+// The number that a value stands for.
+fn value_of(word: &str) -> Option<u128>
+    ensures found { IfSome result (λ value. IsValueOf word.now value) }
+    ensures none { IfNone result ((value : _) → IsValueOf word.now value → ⊥) }
+{
+    if word.len() > 34 {
+        return None;
+    }
+    read_hex(word.as_bytes(), u128::MAX)
 }

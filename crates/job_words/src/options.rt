@@ -1,6 +1,6 @@
 //! Options: what stands behind the operands of a command.
 ghost use Rattle.std.specs.Prelude.{◌≡◌, ◌≤◌, [], ◌∷◌, map, string_bytes, IfSome, IfNone};
-ghost use Rattle.job_words.specs.Options.{AreNone, IsTermCount, IsCycleCount, IsCyclesOption, AreOptions};
+ghost use Rattle.job_words.specs.Options.{AreNone, IsTermCount, IsTermsOption, IsCycleCount, IsCyclesOption, AreOptions};
 
 use text_core::read_decimal;
 
@@ -113,6 +113,29 @@ fn of_cycles(name: &str, number: &str) -> Option<u32>
 {
     match name {
         "--cycles" => cycle_count(number),
+        _ => None,
+    }
+}
+
+/// The bound on the terms of a stage that the options set, where there is no other option.
+pub(crate) fn read_terms(options: &[String]) -> Option<u32>
+    ensures found { IfSome result (λ terms. IsTermsOption 262144 65536 (map string_bytes options.now) terms) }
+    ensures none { IfNone result ((terms : _) → IsTermsOption 262144 65536 (map string_bytes options.now) terms → ⊥) }
+{
+    match options {
+        [] => Some(65_536),
+        [name, number] => of_terms(name.as_str(), number.as_str()),
+        _ => None,
+    }
+}
+
+// The same of one option with its number.
+fn of_terms(name: &str, number: &str) -> Option<u32>
+    ensures found { IfSome result (λ terms. IsTermsOption 262144 65536 (name.now ∷ number.now ∷ []) terms) }
+    ensures none { IfNone result ((terms : _) → IsTermsOption 262144 65536 (name.now ∷ number.now ∷ []) terms → ⊥) }
+{
+    match name {
+        "--terms" => term_count(number, 262_144),
         _ => None,
     }
 }

@@ -3,10 +3,10 @@ ghost use Rattle.std.specs.Prelude.{◌≡◌, ◌≤◌, [], IfOk, OnOk, IsErrO
 ghost use Rattle.net_plan.specs.MadeNet.{outer_net};
 ghost use Rattle.net_make.specs.Form.{AllWide};
 ghost use Rattle.net_make.specs.Ports.{outer_names};
+ghost use Rattle.mult_gen.specs.Form.{AreWide};
 ghost use Rattle.mult_composite.specs.Form.{HasCompositeForm};
 
-use mult_gen::MakeFault;
-use mult_ports::ports;
+use mult_gen::{MakeFault, ports};
 use net_core::NetMaker;
 use net_make::all_poly;
 use net_signature::Signature;
@@ -18,10 +18,11 @@ pub(crate) fn composite_ports(
     signature: &Signature,
     k: u32,
 ) -> Result<NetMaker, MakeFault>
-    requires wide { AllWide k signature.now.words }
+    requires wide { AreWide k signature.now.words }
     requires small { k ≤ 64 }
     ensures maker { IfOk result (λ maker. maker ≡ outer_net (outer_names signature.now.words [])) }
     ensures form { OnOk result (HasCompositeForm signature.now) }
+    ensures wide { OnOk result (AllWide k signature.now.words) }
     ensures unfit { IsErrOf result MakeFault.Unfit → HasCompositeForm signature.now → ⊥ }
 {
     if signature.tower().is_empty() {

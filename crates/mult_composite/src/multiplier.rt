@@ -13,8 +13,8 @@ ghost use Rattle.net_words.specs.declared.word.Role.TheVariants.{Input};
 ghost use Rattle.net_write.specs.Plain.{HasPlainNames};
 ghost use Rattle.net_make.specs.Computes.{ComputesOfTwo};
 ghost use Rattle.net_make.specs.Form.{AllWide, HasWords};
-ghost use Rattle.net_make.specs.MakerNames.{AreMakerNames};
 ghost use Rattle.net_make.specs.Ports.{outer_names};
+ghost use Rattle.mult_gen.specs.Form.{AreWide, HasPorts};
 ghost use Rattle.mult_composite.specs.Composite.{composite_plan};
 ghost use Rattle.mult_composite.specs.Form.{HasCompositeForm, made_composite, plan_of_words};
 ghost use Rattle.mult_composite.specs.private.HighPowers.{AreHighPowers};
@@ -27,12 +27,10 @@ use crate::sums::{pair_sums, reduced_sums};
 use gf_field::Ring2k;
 use gf_tower::Tower;
 use irreducible::Proved;
-use mult_gen::MakeFault;
-use mult_ports::{inputs, net_of, outer, outputs};
+use mult_gen::{MakeFault, inputs, net_of, outer, outputs};
 use net_core::{Net, NetMaker};
 use net_plan::PlanMaker;
 use net_signature::Signature;
-use net_words::WordText;
 use std::alloc::{AllocError, Global};
 
 // The gates over nets of the factors and of the product.
@@ -76,7 +74,7 @@ fn plan_of(
     tower: &Tower<Proved<Ring2k>>,
     n: usize,
     m: usize,
-    words: &[WordText],
+    signature: &Signature,
 ) -> Result<PlanMaker, AllocError>
     requires degree { n ≡ degree_of (ring_of (base_of tower.now)) }
     requires size { m ≡ size_of tower.now }
@@ -85,15 +83,15 @@ fn plan_of(
     requires low { n ≤ 32 }
     requires few { m ≤ 64 }
     requires small { n * m ≤ 64 }
-    requires words { HasWords Input 2 words.now }
-    requires wide { AllWide (n * m) words.now }
-    ensures { IfOk result (λ plan. plan ≡ plan_of_words n (modulus_of (ring_of (base_of tower.now))) m (tower_polynomial n (coefficients_of tower.now)) words.now) }
+    requires words { HasWords Input 2 signature.now.words }
+    requires wide { AllWide (n * m) signature.now.words }
+    ensures { IfOk result (λ plan. plan ≡ plan_of_words n (modulus_of (ring_of (base_of tower.now))) m (tower_polynomial n (coefficients_of tower.now)) signature.now.words) }
 {
     let k = n * m;
-    let inputs = inputs(alloc, words, k as u32, 2)?;
-    let outputs = outputs(alloc, words, k as u32, 2)?;
+    let inputs = inputs(alloc, signature, k as u32, 2)?;
+    let outputs = outputs(alloc, signature, k as u32, 2)?;
     let (a, b) = inputs.as_slice().split_at(k);
-    let first = outer(words, k as u32, 2);
+    let first = outer(signature, k as u32, 2);
     let powers = high_powers(alloc, tower, n, m)?;
     let power_list = powers.as_slice();
     let z = outputs.as_slice();
@@ -108,7 +106,7 @@ fn made(
     n: usize,
     m: usize,
     maker: NetMaker,
-    words: &[WordText],
+    signature: &Signature,
 ) -> Result<Net, AllocError>
     requires degree { n ≡ degree_of (ring_of (base_of (ring_of tower.now))) }
     requires size { m ≡ size_of (ring_of tower.now) }
@@ -117,24 +115,24 @@ fn made(
     requires low { n ≤ 32 }
     requires few { m ≤ 64 }
     requires small { n * m ≤ 64 }
-    requires words { HasWords Input 2 words.now }
-    requires wide { AllWide (n * m) words.now }
-    requires names { AreMakerNames (outer_names words.now []) }
-    requires maker { maker ≡ outer_net (outer_names words.now []) }
-    ensures made { IfOk result (λ net. net ≡ made_composite n (modulus_of (ring_of (base_of (ring_of tower.now)))) m (tower_polynomial n (coefficients_of (ring_of tower.now))) words.now) }
+    requires ports { HasPorts 2 signature.now }
+    requires wide { AllWide (n * m) signature.now.words }
+    requires maker { maker ≡ outer_net (outer_names signature.now.words []) }
+    ensures made { IfOk result (λ net. net ≡ made_composite n (modulus_of (ring_of (base_of (ring_of tower.now)))) m (tower_polynomial n (coefficients_of (ring_of tower.now))) signature.now.words) }
     ensures sound { IfOk result (λ net. IsSound net) }
     ensures plain { IfOk result (λ net. HasPlainNames net) }
-    ensures computes { IfOk result (λ net. ComputesOfTwo (n * m) (product n m (product 1 n bit_mul (modulus_of (ring_of (base_of (ring_of tower.now))))) (tower_polynomial n (coefficients_of (ring_of tower.now)))) net words.now (first_values (n * m) (λ i. 2 ^ i)) 0 (product n m (product 1 n bit_mul (modulus_of (ring_of (base_of (ring_of tower.now))))) (tower_polynomial n (coefficients_of (ring_of tower.now))))) }
+    ensures computes { IfOk result (λ net. ComputesOfTwo (n * m) (product n m (product 1 n bit_mul (modulus_of (ring_of (base_of (ring_of tower.now))))) (tower_polynomial n (coefficients_of (ring_of tower.now)))) net signature.now.words (first_values (n * m) (λ i. 2 ^ i)) 0 (product n m (product 1 n bit_mul (modulus_of (ring_of (base_of (ring_of tower.now))))) (tower_polynomial n (coefficients_of (ring_of tower.now))))) }
 {
-    let plan = plan_of(alloc, tower.ring(), n, m, words)?;
-    let net = net_of(alloc, maker, words, &plan)?;
+    let plan = plan_of(alloc, tower.ring(), n, m, signature)?;
+    let net = net_of(alloc, maker, signature, 2, &plan)?;
     Ok(net)
 }
 
 /// A netlist of the product A * B in a tower: the products of each coefficient of A and each of B, their sums by place, and
 /// for each bit of the product what reaches it. The words are two inputs and the output, all by `poly`, over a field with
 /// one tower, without feeds and blocks; their nets are different and have plain names of at most 128 bytes. Else it is
-/// `Unfit`. The field is the signature's, and each word has as many nets as its degree.
+/// `Unfit`. The field is the signature's, and each word that is not fed has as many
+/// nets as its degree.
 /// Source: Paar, Efficient VLSI Architectures for Bit-Parallel Computation in Galois Fields, Essen, 1994.
 pub fn composite(
     alloc: Global,
@@ -143,7 +141,7 @@ pub fn composite(
 ) -> Result<Net, MakeFault>
     requires modulus { modulus_of (ring_of (base_of (ring_of tower.now))) ≡ signature.now.modulus }
     requires tower { coefficients_of (ring_of tower.now) ≡ signature.now.tower }
-    requires wide { AllWide (degree_of (ring_of (base_of (ring_of tower.now))) * size_of (ring_of tower.now)) signature.now.words }
+    requires wide { AreWide (degree_of (ring_of (base_of (ring_of tower.now))) * size_of (ring_of tower.now)) signature.now.words }
     ensures made { IfOk result (λ net. net ≡ made_composite (degree_of (ring_of (base_of (ring_of tower.now)))) (modulus_of (ring_of (base_of (ring_of tower.now)))) (size_of (ring_of tower.now)) (tower_polynomial (degree_of (ring_of (base_of (ring_of tower.now)))) (coefficients_of (ring_of tower.now))) signature.now.words) }
     ensures sound { IfOk result (λ net. IsSound net) }
     ensures plain { IfOk result (λ net. HasPlainNames net) }
@@ -158,6 +156,6 @@ pub fn composite(
         Ok(maker) => maker,
         Err(fault) => return Err(fault),
     };
-    let net = made(alloc, tower, n, m, maker, signature.words())?;
+    let net = made(alloc, tower, n, m, maker, signature)?;
     Ok(net)
 }

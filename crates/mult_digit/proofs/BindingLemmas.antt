@@ -26,7 +26,8 @@ use Rattle.net_make.specs.Made.{IsPlanFor}
 use Rattle.net_make.specs.Ports.{inputs_of, numbered, outer_names, role_nets, word_names}
 use Rattle.net_make.proofs.MadeLemmas.{fed_found, made_binds}
 use Rattle.net_make.proofs.MakeLemmas.{range_low}
-use Rattle.mult_digit.specs.DigitForm.{AllUnfedWide, AreDigitFeeds, AreDigitWords, IsDigitFeed, digit_names, fed_names}
+use Rattle.mult_gen.specs.Form.{AreWide}
+use Rattle.mult_digit.specs.DigitForm.{AreDigitFeeds, AreDigitWords, IsDigitFeed, digit_names, fed_names}
 use Rattle.mult_digit.specs.DigitNet.{digit_net, digit_sums_of}
 use Rattle.mult_digit.specs.DigitPlan.{digit_latches}
 use Rattle.mult_digit.proofs.FeedLemmas.{bound_from, feeds_bind, get_bound, place_low}
@@ -38,7 +39,7 @@ pub factor_low : (width count k : ℕ) → 1 ≤ k → k ≡ width * count → w
 factor_low width zero k some whole = absurd (omega (arith, some, whole))
 factor_low width (suc count) k some whole = omega (arith, whole, mul-suc width count)
 
-module _ (k : ℕ) (mul : ℕ → ℕ → ℕ) (x width : ℕ) (words : List WordText) (feeds : List FeedText) (are : AreDigitWords words) (wide : AllUnfedWide k words) (some : 1 ≤ k) (small : k ≤ 64)
+module _ (k : ℕ) (mul : ℕ → ℕ → ℕ) (x width : ℕ) (words : List WordText) (feeds : List FeedText) (are : AreDigitWords words) (wide : AreWide k words) (some : 1 ≤ k) (small : k ≤ 64)
     (fed_are : AreDigitFeeds k width feeds) (names : AreMakerNames (outer_names words (digit_names width feeds)))
   where
     abbrev net : NetList

@@ -1,6 +1,5 @@
 -- The net for a signature that has the form.
-use Rattle.std.proofs.Common.{◌≡◌, ◌∙◌, ap, ap₂, sym, refl, subst, ℕ, ◌≤◌, ◌^◌, List, [], length, take, length-append, Option, None, Some, IfSome, arith}
-use Rattle.std.specs.Prelude.{IsSome}
+use Rattle.std.proofs.Common.{◌≡◌, ◌∙◌, ap, ap₂, sym, subst, ℕ, ◌≤◌, ◌^◌, List, [], length, take, length-append, arith}
 use Rattle.std.proofs.lemmas.List.{length-take-le, take-map}
 use Rattle.gf_field.specs.Bit.{bit_mul}
 use Rattle.gf_field.specs.Field.{HasNoZeroDivisors}
@@ -21,8 +20,9 @@ use Rattle.mult_products.specs.Indeterminate.{x_of}
 use Rattle.mult_products.proofs.IndeterminateLemmas.{power_x}
 use Rattle.mult_serial.specs.DigitRegisters.{HasUnitPowers}
 use Rattle.mult_runs.specs.DigitNets.{unit_basis}
+use Rattle.mult_gen.specs.Form.{AreWide}
 use Rattle.mult_digit.specs.ComputesFed.{ComputesFed}
-use Rattle.mult_digit.specs.DigitForm.{AllUnfedWide, AreDigitWords, HasDigitForm, digit_names, fed_names}
+use Rattle.mult_digit.specs.DigitForm.{AreDigitWords, HasDigitForm, digit_names, fed_names}
 use Rattle.mult_digit.specs.DigitNet.{digit_net, digit_sums_of, net_over}
 use Rattle.mult_digit.specs.DigitPlan.{digit_latches}
 use Rattle.mult_digit.specs.IsDigitNet.{IsDigitNet}
@@ -32,21 +32,16 @@ use Rattle.mult_digit.proofs.FormLemmas.{one_width}
 use Rattle.mult_digit.proofs.JobLemmas.{computes}
 use Rattle.mult_digit.proofs.WordLemmas.{names_long}
 
--- what holds of a net with names that fit
-pub some_fits : (found : Option NetList) (N : Type 0) (P Q : NetList → Type 0) → (IsSome found → N) → ((net : NetList) → N → P net → Q net) → IfSome found P → IfSome found Q
-some_fits None N P Q names each is = tt
-some_fits (Some net) N P Q names each is = each net (names refl) is
-
 -- the powers of x below the degree
 pub unit_powers : (k g : ℕ) → IsModulus k g → HasUnitPowers k (product 1 k bit_mul g) (x_of k g)
 unit_powers k g modulus i less = power_x k g i modulus less
 
 -- there is room for the names
-pub few_names : (k : ℕ) (words : List WordText) (front : List FeedText) → AreDigitWords words → AllUnfedWide k words → k ≤ 64 → length front ≤ k → length (outer_names words (fed_names front)) ≤ 2 ^ 20
+pub few_names : (k : ℕ) (words : List WordText) (front : List FeedText) → AreDigitWords words → AreWide k words → k ≤ 64 → length front ≤ k → length (outer_names words (fed_names front)) ≤ 2 ^ 20
 few_names k words front are wide small narrow =
     omega (arith, length-append (word_names words) (fed_names front), names_long k words are wide, map_long (λ (f : FeedText). f.net) front, small, narrow)
 
-module _ (k : ℕ) (mul : ℕ → ℕ → ℕ) (ring : IsRing k mul) (field : HasNoZeroDivisors k mul) (x : ℕ) (units : HasUnitPowers k mul x) (width : ℕ) (signature : SignatureValue) (is : IsFront k width signature) (wide : AllUnfedWide k signature.words)
+module _ (k : ℕ) (mul : ℕ → ℕ → ℕ) (ring : IsRing k mul) (field : HasNoZeroDivisors k mul) (x : ℕ) (units : HasUnitPowers k mul x) (width : ℕ) (signature : SignatureValue) (is : IsFront k width signature) (wide : AreWide k signature.words)
     (words : List WordText) (words_are : words ≡ signature.words) (feeds front : List FeedText) (feeds_are : feeds ≡ signature.feeds) (front_is : front ≡ take width feeds)
   where
     pub width_low : width ≤ length feeds

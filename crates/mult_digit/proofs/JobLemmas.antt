@@ -46,8 +46,9 @@ use Rattle.mult_serial.specs.DigitRegisters.{HasUnitPowers, digit_step_sum}
 use Rattle.mult_runs.specs.DigitNets.{AreDigitNets, DigitNets, unit_basis}
 use Rattle.mult_runs.specs.Held.{bit_at_place, net_at, Multiplies}
 use Rattle.mult_runs.proofs.DigitRunLemmas.{digit_nets_multiply}
+use Rattle.mult_gen.specs.Form.{AreWide}
 use Rattle.mult_digit.specs.ComputesFed.{ComputesFed}
-use Rattle.mult_digit.specs.DigitForm.{AllUnfedWide, AreDigitFeeds, AreDigitWords, digit_names, fed_names}
+use Rattle.mult_digit.specs.DigitForm.{AreDigitFeeds, AreDigitWords, digit_names, fed_names}
 use Rattle.mult_digit.specs.DigitNet.{digit_net, digit_sums_of, fed_nets}
 use Rattle.mult_digit.specs.DigitPlan.{digit_latches}
 use Rattle.mult_digit.proofs.BindingLemmas.{binds, fits, name_at}
@@ -73,7 +74,7 @@ units_basis : (k : ℕ) → IsBasis k (unit_basis k)
 units_basis k = IsBasis-from_independent k (unit_basis k) (length-first_values k (λ i. 2 ^ i)) (AreElements-units k) (IsIndependent-powers k)
 
 module _ (k : ℕ) (mul : ℕ → ℕ → ℕ) (ring : IsRing k mul) (field : HasNoZeroDivisors k mul) (x : ℕ) (units : HasUnitPowers k mul x) (width : ℕ)
-    (words : List WordText) (feeds : List FeedText) (are : AreDigitWords words) (wide : AllUnfedWide k words) (fed_are : AreDigitFeeds k width feeds) (names : AreMakerNames (outer_names words (digit_names width feeds)))
+    (words : List WordText) (feeds : List FeedText) (are : AreDigitWords words) (wide : AreWide k words) (fed_are : AreDigitFeeds k width feeds) (names : AreMakerNames (outer_names words (digit_names width feeds)))
   where
     abbrev net : NetList
     net = digit_net k mul x width words feeds

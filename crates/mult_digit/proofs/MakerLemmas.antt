@@ -8,7 +8,8 @@ use Rattle.net_words.specs.declared.word.WordText.{WordText}
 use Rattle.net_plan.specs.Plan.{Plan}
 use Rattle.net_make.specs.Made.{IsPlanFor, made_of}
 use Rattle.net_make.specs.Ports.{role_nets, word_names}
-use Rattle.mult_digit.specs.DigitForm.{AllUnfedWide, AreDigitWords}
+use Rattle.mult_gen.specs.Form.{AreWide}
+use Rattle.mult_digit.specs.DigitForm.{AreDigitWords}
 use Rattle.mult_digit.specs.DigitNet.{digit_sums_of, fed_nets, net_over}
 use Rattle.mult_digit.specs.DigitPlan.{Sums, digit_latches, products_from, summands, sums_from}
 use Rattle.mult_digit.specs.private.Words.{DigitWordsBy}
@@ -27,7 +28,7 @@ words_by (a ∷ b ∷ z ∷ c ∷ more) is = absurd is
 pub by_words : (words : List WordText) → AreDigitWords words → DigitWordsBy words
 by_words words are = subst DigitWordsBy (sym are.are) (are.fed, are.none, are.input, are.output)
 
-module _ (k : ℕ) (mul : ℕ → ℕ → ℕ) (x width : ℕ) (words : List WordText) (are : AreDigitWords words) (wide : AllUnfedWide k words) (small : k ≤ 64) (narrow : width ≤ k) where
+module _ (k : ℕ) (mul : ℕ → ℕ → ℕ) (x width : ℕ) (words : List WordText) (are : AreDigitWords words) (wide : AreWide k words) (small : k ≤ 64) (narrow : width ≤ k) where
   pub first_low : (first : ℕ) → first ≡ length (word_names words) → first + width ≤ 1024
   first_low first is = omega (arith, is, names_long k words are wide, small, narrow)
 

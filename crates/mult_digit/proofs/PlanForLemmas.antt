@@ -17,14 +17,15 @@ use Rattle.net_make.specs.Ports.{inputs_of, outer_names, role_nets, word_names}
 use Rattle.net_make.proofs.MakeLemmas.{range_low, role_low, times_range}
 use Rattle.net_make.proofs.OrderLemmas.{below_or}
 use Rattle.mult_runs.specs.Held.{net_at}
-use Rattle.mult_digit.specs.DigitForm.{AllUnfedWide, AreDigitWords}
+use Rattle.mult_gen.specs.Form.{AreWide}
+use Rattle.mult_digit.specs.DigitForm.{AreDigitWords}
 use Rattle.mult_digit.specs.DigitNet.{digit_sums_of, fed_nets}
 use Rattle.mult_digit.specs.DigitPlan.{Sums, digit_latches}
 use Rattle.mult_digit.proofs.LatchLemmas.{latch_is, latch_outs}
 use Rattle.mult_digit.proofs.ShapeLemmas.{AreMade, sums_made}
 use Rattle.mult_digit.proofs.WordLemmas.{fed_nets_are_unfed, has_place, has_range, input_at, input_nets, names_long, no_states, output_at, output_long, output_nets_are, range_at}
 
-module _ (k : ℕ) (mul : ℕ → ℕ → ℕ) (x width : ℕ) (words : List WordText) (are : AreDigitWords words) (wide : AllUnfedWide k words) (small : k ≤ 64) (narrow : width ≤ k) (fed : List (List ℕ)) (fed_long : length fed ≡ width) where
+module _ (k : ℕ) (mul : ℕ → ℕ → ℕ) (x width : ℕ) (words : List WordText) (are : AreDigitWords words) (wide : AreWide k words) (small : k ≤ 64) (narrow : width ≤ k) (fed : List (List ℕ)) (fed_long : length fed ≡ width) where
   abbrev sums : Sums
   sums = digit_sums_of k mul x width words
 

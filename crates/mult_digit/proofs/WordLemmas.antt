@@ -13,7 +13,8 @@ use Rattle.net_plan.proofs.SoundLemmas.{all_has}
 use Rattle.net_make.specs.Form.{role_count, same_bases}
 use Rattle.net_make.specs.Ports.{numbered, role_nets, word_names}
 use Rattle.mult_runs.specs.Held.{net_at}
-use Rattle.mult_digit.specs.DigitForm.{AreDigitWords, AllUnfedWide}
+use Rattle.mult_gen.specs.Form.{AreWide}
+use Rattle.mult_digit.specs.DigitForm.{AreDigitWords}
 
 -- a net of a range by its place
 pub range_at : (a n i : ℕ) → i < n → net_at (range_with_len a n) i ≡ a + i
@@ -69,7 +70,7 @@ module _ (k : ℕ) (a b z : WordText) (fed : a.role ≡ Fed) (none : a.nets ≡ 
       each w (suc (suc zero), got) = let same : z ≡ w = cc in inl (ap (λ (v : WordText). length v.nets) (sym same) ∙ z_long)
       each w (suc (suc (suc i)), got) = absurd (cc)
 
-module _ (k : ℕ) (words : List WordText) (are : AreDigitWords words) (wide : AllUnfedWide k words) where
+module _ (k : ℕ) (words : List WordText) (are : AreDigitWords words) (wide : AreWide k words) where
   in_words : (i : ℕ) (word : WordText) → slice_get (are.a ∷ are.b ∷ are.z ∷ []) i ≡ Some word → Has words word
   in_words i word got = subst (λ (ws : List WordText). Has ws word) (sym are.are) (i, got)
 

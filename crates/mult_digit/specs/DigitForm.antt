@@ -1,6 +1,5 @@
 -- The signatures that a multiplier digit by digit fits. Source: this project's own, docs/FORMATS.md.
-use Rattle.std.specs.Prelude.{◌≡◌, ◌≢◌, ℕ, suc, ◌+◌, ◌-◌, ◌*◌, ◌/◌, ◌%◌, ◌≤◌, List, [], ◌∷◌, length, map, take, get_or, Some, slice_get}
-use Rattle.net_core.specs.Lists.{Has}
+use Rattle.std.specs.Prelude.{◌≡◌, ℕ, suc, ◌+◌, ◌-◌, ◌*◌, ◌/◌, ◌%◌, ◌≤◌, List, [], ◌∷◌, length, map, take, get_or, Some, slice_get}
 use Rattle.net_words.specs.declared.feed.FeedText.{FeedText}
 use Rattle.net_words.specs.declared.feed.Source.TheVariants.{Bit}
 use Rattle.net_words.specs.declared.word.BasisText.TheVariants.{Poly}
@@ -23,10 +22,6 @@ digit_names width feeds = take width (fed_names feeds)
 pub record IsPolyWord (kind : Role) (word : WordText) : Type 0 where
   pub role : word.role ≡ kind
   pub basis : word.basis ≡ Poly
-
--- each word that is not fed has k nets
-abbrev pub AllUnfedWide : ℕ → List WordText → Type 0
-AllUnfedWide k words = (word : WordText) → Has words word → word.role ≢ Fed → length word.nets ≡ k
 
 -- A fed word, which has no nets, an input word and the output word, in this order.
 pub record AreDigitWords (words : List WordText) : Type 0 where

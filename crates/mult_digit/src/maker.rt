@@ -1,5 +1,5 @@
 //! The multiplier.
-ghost use Rattle.std.specs.Prelude.{◌≡◌, ◌↔◌, ◌≤◌, ◌<◌, ◌^◌, IfOk, IfSome, IsSome, length, take};
+ghost use Rattle.std.specs.Prelude.{◌≡◌, ◌≤◌, ◌<◌, ◌^◌, IfOk, OnOk, IsErrOf, IfSome, IsSome, length};
 ghost use Rattle.gf_field.specs.Ring2k.{degree_of, modulus_of};
 ghost use Rattle.gf_field.specs.Bit.{bit_mul};
 ghost use Rattle.gf_field.specs.Quotient.{product};
@@ -11,7 +11,8 @@ ghost use Rattle.net_make.specs.Made.{made_of};
 ghost use Rattle.net_make.specs.MakerNames.{AreMakerNames};
 ghost use Rattle.net_make.specs.Ports.{outer_names};
 ghost use Rattle.mult_products.specs.Indeterminate.{x_of};
-ghost use Rattle.mult_digit.specs.DigitForm.{AllUnfedWide, AreDigitWords, HasDigitForm, fed_names};
+ghost use Rattle.mult_gen.specs.Form.{AreWide};
+ghost use Rattle.mult_digit.specs.DigitForm.{AreDigitWords, HasDigitForm, fed_names};
 ghost use Rattle.mult_digit.specs.DigitNet.{net_over};
 ghost use Rattle.mult_digit.specs.IsDigitNet.{IsDigitNet};
 ghost use Rattle.mult_digit.specs.private.Front.{IsFront};
@@ -21,6 +22,7 @@ use crate::held::{digit_nets, latches};
 use crate::sums::digit_sums;
 use gf_field::{Ring, Ring2k};
 use irreducible::Proved;
+use mult_gen::MakeFault;
 use net_core::{Net, NetMaker};
 use net_make::{count_of, make, outer_nets, role_nets};
 use net_signature::Signature;
@@ -48,7 +50,7 @@ fn made(
     front: &[FeedText],
 ) -> Result<Net, AllocError>
     requires words { AreDigitWords words.now }
-    requires wide { AllUnfedWide (degree_of (ring_of ring.now)) words.now }
+    requires wide { AreWide (degree_of (ring_of ring.now)) words.now }
     requires narrow { length front.now ≤ degree_of (ring_of ring.now) }
     requires names { AreMakerNames (outer_names words.now (fed_names front.now)) }
     requires maker { maker ≡ outer_net (outer_names words.now (fed_names front.now)) }
@@ -82,50 +84,53 @@ fn digit_width(k: u32, signature: &Signature) -> Option<u32>
     width_of(k, signature.feeds())
 }
 
-// The net over these words and the nets that the lines of the first cycle feed; none where the names of these nets do not
-// fit.
+// The net over these words and the nets that the lines of the first cycle feed, where the names of these nets fit.
 fn over(
     alloc: Global,
     ring: &Proved<Ring2k>,
     words: &[WordText],
     front: &[FeedText],
-) -> Result<Option<Net>, AllocError>
+) -> Result<Net, MakeFault>
     requires words { AreDigitWords words.now }
-    requires wide { AllUnfedWide (degree_of (ring_of ring.now)) words.now }
+    requires wide { AreWide (degree_of (ring_of ring.now)) words.now }
     requires narrow { length front.now ≤ degree_of (ring_of ring.now) }
-    ensures names { IfOk result (λ found. IsSome found ↔ AreMakerNames (outer_names words.now (fed_names front.now))) }
-    ensures made { IfOk result (λ found. IfSome found (λ net. net ≡ net_over (degree_of (ring_of ring.now)) (product 1 (degree_of (ring_of ring.now)) bit_mul (modulus_of (ring_of ring.now))) (x_of (degree_of (ring_of ring.now)) (modulus_of (ring_of ring.now))) (length front.now) words.now (fed_names front.now))) }
+    ensures made { IfOk result (λ net. net ≡ net_over (degree_of (ring_of ring.now)) (product 1 (degree_of (ring_of ring.now)) bit_mul (modulus_of (ring_of ring.now))) (x_of (degree_of (ring_of ring.now)) (modulus_of (ring_of ring.now))) (length front.now) words.now (fed_names front.now)) }
+    ensures names { OnOk result (AreMakerNames (outer_names words.now (fed_names front.now))) }
+    ensures unfit { IsErrOf result MakeFault.Unfit → AreMakerNames (outer_names words.now (fed_names front.now)) → ⊥ }
 {
     match outer_nets(alloc, words, front)? {
         Some(maker) => {
             let net = made(alloc, ring, maker, words, front)?;
-            Ok(Some(net))
+            Ok(net)
         }
-        None => Ok(None),
+        None => Err(MakeFault::Unfit),
     }
 }
 
 /// The multiplier that takes its first factor digit by digit, the highest digit first: `A * B` stands in the output word after
-/// k / D cycles, where digits have D bits. A is the signature's fed word and B its input word. It gives none exactly where the
-/// signature has not the form, and answers nothing but this and want of memory. Each word that is not fed has as many nets as
-/// the field has bits.
+/// k / D cycles, where digits have D bits. The words are A, which is fed and has no nets, the input B and the output, all by
+/// `poly`, over a field without a tower, with feeds of the digits and no block; their nets and the fed ones are different and
+/// have plain names of at most 128 bytes. Else it is `Unfit`.
+/// The field is the signature's, and each word that is not fed has as many nets as its degree.
 pub fn digit_serial(
     alloc: Global,
     ring: &Proved<Ring2k>,
     signature: &Signature,
-) -> Result<Option<Net>, AllocError>
-    requires { AllUnfedWide (degree_of (ring_of ring.now)) signature.now.words }
-    ensures form { IfOk result (λ found. IsSome found ↔ HasDigitForm (degree_of (ring_of ring.now)) signature.now) }
-    ensures made { IfOk result (λ found. IfSome found (λ net. IsDigitNet (degree_of (ring_of ring.now)) (product 1 (degree_of (ring_of ring.now)) bit_mul (modulus_of (ring_of ring.now))) (x_of (degree_of (ring_of ring.now)) (modulus_of (ring_of ring.now))) signature.now net)) }
-    ensures sound { IfOk result (λ found. IfSome found (λ net. IsSound net)) }
-    ensures names { IfOk result (λ found. IfSome found (λ net. HasPlainNames net)) }
+) -> Result<Net, MakeFault>
+    requires wide { AreWide (degree_of (ring_of ring.now)) signature.now.words }
+    ensures made { IfOk result (λ net. IsDigitNet (degree_of (ring_of ring.now)) (product 1 (degree_of (ring_of ring.now)) bit_mul (modulus_of (ring_of ring.now))) (x_of (degree_of (ring_of ring.now)) (modulus_of (ring_of ring.now))) signature.now net) }
+    ensures sound { IfOk result (λ net. IsSound net) }
+    ensures plain { IfOk result (λ net. HasPlainNames net) }
+    ensures form { OnOk result (HasDigitForm (degree_of (ring_of ring.now)) signature.now) }
+    ensures unfit { IsErrOf result MakeFault.Unfit → HasDigitForm (degree_of (ring_of ring.now)) signature.now → ⊥ }
 {
-    match digit_width(ring.k(), signature) {
-        Some(width) => {
-            let front = &signature.feeds()[..width as usize];
-            let net = over(alloc, ring, signature.words(), front)?;
-            Ok(net)
-        }
-        None => Ok(None),
+    let width = match digit_width(ring.k(), signature) {
+        Some(width) => width,
+        None => return Err(MakeFault::Unfit),
+    };
+    let front = &signature.feeds()[..width as usize];
+    match over(alloc, ring, signature.words(), front) {
+        Ok(net) => Ok(net),
+        Err(fault) => Err(fault),
     }
 }

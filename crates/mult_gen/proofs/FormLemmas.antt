@@ -1,7 +1,7 @@
 -- Forms of signatures.
 use Rattle.std.proofs.Common.{◌≡◌, inl, inr, sym, subst, ℕ, ◌<◌, ◌≤◌, ◌^◌, List, [], length, map, arith}
 use Rattle.net_words.specs.declared.feed.FeedText.{FeedText}
-use Rattle.net_words.specs.declared.word.Role.TheVariants.{Input}
+use Rattle.net_words.specs.declared.word.Role.TheVariants.{Input, State}
 use Rattle.net_words.specs.declared.word.WordText.{WordText}
 use Rattle.net_make.specs.Form.{AllWide, HasWords}
 use Rattle.net_make.specs.Ports.{outer_names}
@@ -21,3 +21,8 @@ names_few words list fs k count same none has wide small few =
 pub wide_of : (k count : ℕ) (words : List WordText) → HasWords Input count words → AreWide k words → AllWide k words
 wide_of k count words has wide word there =
     wide word there (λ fed. elim (words_one_of Input count words (λ e. absurd (cc)) has word there) [ inl w ↦ absurd (cc) | inr w ↦ absurd (cc) ])
+
+-- so have states and the output word
+pub states_wide : (k count : ℕ) (words : List WordText) → HasWords State count words → AreWide k words → AllWide k words
+states_wide k count words has wide word there =
+    wide word there (λ fed. elim (words_one_of State count words (λ e. absurd (cc)) has word there) [ inl w ↦ absurd (cc) | inr w ↦ absurd (cc) ])

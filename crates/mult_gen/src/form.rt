@@ -21,7 +21,7 @@ fn is_plain(signature: &Signature) -> bool
 
 /// The nets of the words, if one is the output word, `count` others are inputs, nothing is fed, there is no block, and the
 /// nets are different and have plain names of at most 128 bytes.
-pub(crate) fn ports(
+pub fn ports(
     alloc: Global,
     signature: &Signature,
     _k: u32,
@@ -48,7 +48,7 @@ pub(crate) fn ports(
 }
 
 /// The nets of the words, where also each has the basis of powers and there is no tower.
-pub(crate) fn poly_ports(
+pub fn poly_ports(
     alloc: Global,
     signature: &Signature,
     k: u32,

@@ -1,4 +1,5 @@
-//! Makers of netlists that multiply, square and add in a field of 2^k elements, and one changed gate.
+//! Makers of netlists that multiply, square and add in a field of 2^k elements, and one changed gate; what makers ask of the
+//! words of a signature, and the nets of these words.
 #![tactic(auto)]
 
 mod adders;
@@ -14,6 +15,8 @@ mod squarers;
 
 pub use adders::adder;
 pub use fault::MakeFault;
+pub use form::{poly_ports, ports};
 pub use multiplier::mastrovito;
 pub use mutation::mutate;
+pub use nets::{inputs, net_of, outer, outputs};
 pub use squarers::squarer;

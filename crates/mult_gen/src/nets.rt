@@ -1,5 +1,5 @@
 //! The nets of the words of a signature, and the net of a plan over them.
-ghost use Rattle.std.specs.Prelude.{◌≡◌, ◌≤◌, ◌*◌, ◌^◌, [], List, ℕ, IfOk, length, map};
+ghost use Rattle.std.specs.Prelude.{◌≡◌, ◌≤◌, ◌*◌, [], List, ℕ, IfOk, length};
 ghost use Rattle.net_plan.specs.MadeNet.{outer_net};
 ghost use Rattle.net_words.specs.declared.word.Role.TheVariants.{Input};
 ghost use Rattle.net_make.specs.Form.{AllWide, HasWords};
@@ -15,19 +15,19 @@ use net_words::Role;
 use std::alloc::{AllocError, Global};
 
 /// How many nets the words have.
-pub(crate) fn outer(signature: &Signature, _k: u32, _count: usize) -> u32
+pub fn outer(signature: &Signature, _k: u32, _count: usize) -> u32
     requires words { HasWords Input _count signature.now.words }
     requires wide { AllWide _k signature.now.words }
     requires small { _k ≤ 64 }
     requires few { _count ≤ 2 }
     ensures count { result ≡ outer_of signature.now.words }
-    ensures few { result ≤ 2 ^ 16 }
+    ensures few { result ≤ 192 }
 {
     count_of(signature.words())
 }
 
 /// The nets of the inputs.
-pub(crate) fn inputs(
+pub fn inputs(
     alloc: Global,
     signature: &Signature,
     _k: u32,
@@ -45,7 +45,7 @@ pub(crate) fn inputs(
 }
 
 /// The nets of the output word.
-pub(crate) fn outputs(
+pub fn outputs(
     alloc: Global,
     signature: &Signature,
     _k: u32,
@@ -63,7 +63,7 @@ pub(crate) fn outputs(
 }
 
 /// The net of the gates of a plan, without latches.
-pub(crate) fn net_of(
+pub fn net_of(
     alloc: Global,
     maker: NetMaker,
     signature: &Signature,

@@ -11,8 +11,8 @@ ghost use Rattle.net_words.specs.declared.word.Role.TheVariants.{Input};
 ghost use Rattle.net_write.specs.Plain.{HasPlainNames};
 ghost use Rattle.net_make.specs.Computes.{ComputesOfTwo};
 ghost use Rattle.net_make.specs.Form.{AllWide, HasWords};
-ghost use Rattle.net_make.specs.MakerNames.{AreMakerNames};
 ghost use Rattle.net_make.specs.Ports.{outer_names};
+ghost use Rattle.mult_gen.specs.Form.{AreWide, HasPorts};
 ghost use Rattle.mult_products.specs.InversePower.{IsInversePower};
 ghost use Rattle.mult_montgomery.specs.Form.{HasMontgomeryForm, made_montgomery, montgomery_product, plan_of_words};
 ghost use Rattle.mult_montgomery.specs.Montgomery.{montgomery_plan};
@@ -20,12 +20,10 @@ ghost use Rattle.mult_montgomery.specs.Montgomery.{montgomery_plan};
 use crate::rounds::{buffered, rounds};
 use gf_field::{Ring, Ring2k};
 use irreducible::Proved;
-use mult_gen::MakeFault;
-use mult_ports::{inputs, net_of, outer, outputs, poly_ports};
+use mult_gen::{MakeFault, inputs, net_of, outer, outputs, poly_ports};
 use net_core::{Net, NetMaker};
 use net_plan::PlanMaker;
 use net_signature::Signature;
-use net_words::WordText;
 use std::alloc::{AllocError, Global};
 
 // The gates over nets of the factors and of the product.
@@ -54,19 +52,19 @@ fn gates(
 fn plan_of(
     alloc: Global,
     ring: &Proved<Ring2k>,
-    words: &[WordText],
+    signature: &Signature,
 ) -> Result<PlanMaker, AllocError>
-    requires words { HasWords Input 2 words.now }
-    requires wide { AllWide (degree_of (ring_of ring.now)) words.now }
+    requires words { HasWords Input 2 signature.now.words }
+    requires wide { AllWide (degree_of (ring_of ring.now)) signature.now.words }
     requires some { 1 ≤ degree_of (ring_of ring.now) }
     requires small { degree_of (ring_of ring.now) ≤ 64 }
-    ensures { IfOk result (λ plan. plan ≡ plan_of_words (degree_of (ring_of ring.now)) (modulus_of (ring_of ring.now)) words.now) }
+    ensures { IfOk result (λ plan. plan ≡ plan_of_words (degree_of (ring_of ring.now)) (modulus_of (ring_of ring.now)) signature.now.words) }
 {
     let k = ring.k();
-    let inputs = inputs(alloc, words, k, 2)?;
-    let outputs = outputs(alloc, words, k, 2)?;
+    let inputs = inputs(alloc, signature, k, 2)?;
+    let outputs = outputs(alloc, signature, k, 2)?;
     let (a, b) = inputs.as_slice().split_at(k as usize);
-    let first = outer(words, k, 2);
+    let first = outer(signature, k, 2);
     let plan = gates(
         alloc,
         ring.ring().modulus(),
@@ -83,27 +81,27 @@ fn made(
     alloc: Global,
     ring: &Proved<Ring2k>,
     maker: NetMaker,
-    words: &[WordText],
+    signature: &Signature,
 ) -> Result<Net, AllocError>
-    requires words { HasWords Input 2 words.now }
-    requires wide { AllWide (degree_of (ring_of ring.now)) words.now }
-    requires names { AreMakerNames (outer_names words.now []) }
-    requires maker { maker ≡ outer_net (outer_names words.now []) }
+    requires ports { HasPorts 2 signature.now }
+    requires wide { AllWide (degree_of (ring_of ring.now)) signature.now.words }
+    requires maker { maker ≡ outer_net (outer_names signature.now.words []) }
     requires modulus { modulus_of (ring_of ring.now) ≢ 2 }
-    ensures made { IfOk result (λ net. net ≡ made_montgomery (degree_of (ring_of ring.now)) (modulus_of (ring_of ring.now)) words.now) }
+    ensures made { IfOk result (λ net. net ≡ made_montgomery (degree_of (ring_of ring.now)) (modulus_of (ring_of ring.now)) signature.now.words) }
     ensures sound { IfOk result (λ net. IsSound net) }
     ensures plain { IfOk result (λ net. HasPlainNames net) }
-    ensures computes { IfOk result (λ net. (r : ℕ) → IsInversePower (degree_of (ring_of ring.now)) (modulus_of (ring_of ring.now)) r → ComputesOfTwo (degree_of (ring_of ring.now)) (product 1 (degree_of (ring_of ring.now)) bit_mul (modulus_of (ring_of ring.now))) net words.now (first_values (degree_of (ring_of ring.now)) (λ i. 2 ^ i)) 0 (montgomery_product (degree_of (ring_of ring.now)) (modulus_of (ring_of ring.now)) r)) }
+    ensures computes { IfOk result (λ net. (r : ℕ) → IsInversePower (degree_of (ring_of ring.now)) (modulus_of (ring_of ring.now)) r → ComputesOfTwo (degree_of (ring_of ring.now)) (product 1 (degree_of (ring_of ring.now)) bit_mul (modulus_of (ring_of ring.now))) net signature.now.words (first_values (degree_of (ring_of ring.now)) (λ i. 2 ^ i)) 0 (montgomery_product (degree_of (ring_of ring.now)) (modulus_of (ring_of ring.now)) r)) }
 {
-    let plan = plan_of(alloc, ring, words)?;
-    let net = net_of(alloc, maker, words, &plan)?;
+    let plan = plan_of(alloc, ring, signature)?;
+    let net = net_of(alloc, maker, signature, 2, &plan)?;
     Ok(net)
 }
 
 /// A netlist of Montgomery's product: A * B times the inverse of x^k. After each coefficient of A, which adds B, the sum is
 /// divided by x. The words are two inputs and the output, all by `poly`, over a field without a tower whose modulus is not
 /// x, without feeds and blocks; their nets are different and have plain names of at most 128 bytes. Else it is `Unfit`.
-/// The field is the signature's, and each word has as many nets as its degree.
+/// The field is the signature's, and each word that is not fed has as many nets as its
+/// degree.
 /// Source: Koç and Acar, Montgomery multiplication in GF(2^k), Designs, Codes and Cryptography 14, 1998.
 pub fn montgomery(
     alloc: Global,
@@ -111,7 +109,7 @@ pub fn montgomery(
     signature: &Signature,
 ) -> Result<Net, MakeFault>
     requires field { modulus_of (ring_of ring.now) ≡ signature.now.modulus }
-    requires wide { AllWide (degree_of (ring_of ring.now)) signature.now.words }
+    requires wide { AreWide (degree_of (ring_of ring.now)) signature.now.words }
     ensures made { IfOk result (λ net. net ≡ made_montgomery (degree_of (ring_of ring.now)) (modulus_of (ring_of ring.now)) signature.now.words) }
     ensures sound { IfOk result (λ net. IsSound net) }
     ensures plain { IfOk result (λ net. HasPlainNames net) }
@@ -126,6 +124,6 @@ pub fn montgomery(
         Ok(maker) => maker,
         Err(fault) => return Err(fault),
     };
-    let net = made(alloc, ring, maker, signature.words())?;
+    let net = made(alloc, ring, maker, signature)?;
     Ok(net)
 }

@@ -1,15 +1,16 @@
 //! The multiplier.
-ghost use Rattle.std.specs.Prelude.{◌≡◌, ◌↔◌, ◌+◌, ◌*◌, ◌≤◌, ◌^◌, [], ℕ, IfOk, IfSome, IsSome, length};
+ghost use Rattle.std.specs.Prelude.{◌≡◌, ◌≤◌, [], IfOk, OnOk, IsErrOf};
 ghost use Rattle.gf_basis.specs.BasisFault.{conjugates_of};
 ghost use Rattle.gf_basis.specs.BasisParts.{elements_of, IsBasisOver};
 ghost use Rattle.net_plan.specs.MadeNet.{outer_net};
 ghost use Rattle.net_make.specs.MakerNames.{AreMakerNames};
-ghost use Rattle.net_make.specs.Ports.{outer_names, word_names};
+ghost use Rattle.net_make.specs.Ports.{outer_names};
 ghost use Rattle.net_make.specs.Computes.{ComputesOfTwo};
 ghost use Rattle.net_make.specs.Form.{AllWide, HasWords};
 ghost use Rattle.net_core.specs.Sound.{IsSound};
 ghost use Rattle.net_words.specs.declared.word.Role.TheVariants.{State};
 ghost use Rattle.net_write.specs.Plain.{HasPlainNames};
+ghost use Rattle.mult_gen.specs.Form.{AreWide};
 ghost use Rattle.mult_normal.specs.NormalForm.{HasNormalForm};
 ghost use Rattle.mult_normal.specs.NormalNet.{first_factor, normal_net, product_nets, second_factor};
 
@@ -18,6 +19,7 @@ use crate::held::latches;
 use crate::products::last_sum;
 use gf_basis::Basis;
 use gf_field::Field;
+use mult_gen::MakeFault;
 use net_core::{Net, NetMaker};
 use net_make::{count_of, make, outer_nets, role_nets};
 use net_signature::Signature;
@@ -72,43 +74,47 @@ fn made<F: Field>(
     assembled(alloc, field, basis, maker, words, a, b, &outputs)
 }
 
-// The nets of the words, by name; none where the signature has not the form. Each word has so many nets.
-fn outer_for(alloc: Global, k: u32, signature: &Signature) -> Result<Option<NetMaker>, AllocError>
+// The nets of the words, by name, where the signature has the form.
+fn outer_for(alloc: Global, k: u32, signature: &Signature) -> Result<NetMaker, MakeFault>
     requires few { k ≤ 64 }
-    requires bits { AllWide k signature.now.words }
-    ensures form { IfOk result (λ found. IsSome found ↔ HasNormalForm signature.now) }
-    ensures made { IfOk result (λ found. IfSome found (λ maker. maker ≡ outer_net (outer_names signature.now.words []))) }
+    requires wide { AreWide k signature.now.words }
+    ensures maker { IfOk result (λ maker. maker ≡ outer_net (outer_names signature.now.words [])) }
+    ensures form { OnOk result (HasNormalForm signature.now) }
+    ensures unfit { IsErrOf result MakeFault.Unfit → HasNormalForm signature.now → ⊥ }
 {
     if !has_form(signature) {
-        return Ok(None);
+        return Err(MakeFault::Unfit);
     }
-    let maker = outer_nets(alloc, signature.words(), &[])?;
-    Ok(maker)
+    match outer_nets(alloc, signature.words(), &[])? {
+        Some(maker) => Ok(maker),
+        None => Err(MakeFault::Unfit),
+    }
 }
 
 /// The multiplier bit by bit in a normal basis, whose factors are the signature's state words: `A * B` stands in the output
-/// word after k cycles. It gives none exactly where the signature has not the form, and answers nothing but this and want of
-/// memory. Each word has as many nets as the field has bits; where the signature has the form, the basis is that of its words.
+/// word after k cycles. The words are two states and the output, all in the normal basis of one element, without feeds and
+/// blocks; their nets are different and have plain names of at most 128 bytes. Else it is `Unfit`. Each word that is not fed
+/// has as many nets as the field has bits; where the signature has the form, the basis is that of its words.
 pub fn normal_serial<F: Field>(
     alloc: Global,
     field: &F,
     basis: &Basis,
     signature: &Signature,
-) -> Result<Option<Net>, AllocError>
+) -> Result<Net, MakeFault>
     requires over { IsBasisOver (F.degree field.now) (F.product field.now) basis.now }
-    requires bits { AllWide (F.degree field.now) signature.now.words }
+    requires wide { AreWide (F.degree field.now) signature.now.words }
     requires basis { (form : HasNormalForm signature.now) → elements_of basis.now ≡ conjugates_of (F.degree field.now) (F.product field.now) form.gamma }
-    ensures form { IfOk result (λ found. IsSome found ↔ HasNormalForm signature.now) }
-    ensures made { IfOk result (λ found. IfSome found (λ net. net ≡ normal_net (F.degree field.now) (F.product field.now) basis.now signature.now.words)) }
-    ensures sound { IfOk result (λ found. IfSome found (λ net. IsSound net)) }
-    ensures names { IfOk result (λ found. IfSome found (λ net. HasPlainNames net)) }
-    ensures product { IfOk result (λ found. IfSome found (λ net. ComputesOfTwo (F.degree field.now) (F.product field.now) net signature.now.words (elements_of basis.now) (F.degree field.now) (F.product field.now))) }
+    ensures made { IfOk result (λ net. net ≡ normal_net (F.degree field.now) (F.product field.now) basis.now signature.now.words) }
+    ensures sound { IfOk result (λ net. IsSound net) }
+    ensures plain { IfOk result (λ net. HasPlainNames net) }
+    ensures computes { IfOk result (λ net. ComputesOfTwo (F.degree field.now) (F.product field.now) net signature.now.words (elements_of basis.now) (F.degree field.now) (F.product field.now)) }
+    ensures form { OnOk result (HasNormalForm signature.now) }
+    ensures unfit { IsErrOf result MakeFault.Unfit → HasNormalForm signature.now → ⊥ }
 {
-    match outer_for(alloc, field.k(), signature)? {
-        Some(maker) => {
-            let net = made(alloc, field, basis, maker, signature.words())?;
-            Ok(Some(net))
-        }
-        None => Ok(None),
-    }
+    let maker = match outer_for(alloc, field.k(), signature) {
+        Ok(maker) => maker,
+        Err(fault) => return Err(fault),
+    };
+    let net = made(alloc, field, basis, maker, signature.words())?;
+    Ok(net)
 }

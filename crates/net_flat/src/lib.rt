@@ -4,6 +4,7 @@
 mod flat;
 mod flat_fault;
 mod laws;
+mod namer;
 mod place;
 mod scope;
 mod walk;

@@ -1,7 +1,6 @@
 //! The walk over the lines of models.
-ghost use Rattle.std.specs.Prelude.{◌≡◌, ◌⊎◌, ◌<◌, ℕ, Ok, Some, None, IfOk, IfErr, OnOk};
-ghost use Rattle.net_core.specs.Inside.{IsNetName};
-ghost use Rattle.net_core.specs.NetList.{empty, nets, number_of};
+ghost use Rattle.std.specs.Prelude.{◌≡◌, ◌⊎◌, ℕ, Ok, Some, None, IfOk, IfErr, OnOk};
+ghost use Rattle.net_core.specs.NetList.{empty};
 ghost use Rattle.net_blif.specs.Statement.{IsToken};
 ghost use Rattle.net_blif.specs.Table.{numbers_in};
 ghost use Rattle.net_flat.specs.Steps.{Mention};
@@ -9,6 +8,7 @@ ghost use Rattle.net_flat.specs.private.LocalWalk.{AreInside, InTop, Inside, IsF
 ghost use Rattle.net_flat.specs.private.WalkerState.{state_of};
 
 use crate::FlatFault;
+use crate::namer::Namer;
 use crate::scope::Scope;
 use net_blif::{Table, text_of};
 use net_core::{NetFault, NetMaker};
@@ -20,7 +20,7 @@ use std::alloc::Global;
 pub struct Walker {
     pub alloc: Global,
     pub key: u64,
-    pub maker: NetMaker,
+    pub maker: Namer,
     pub instances: u32,
     pub scope: Scope,
     pub inputs: Vec<u32>,
@@ -36,24 +36,10 @@ pub fn fault_of(fault: NetFault) -> FlatFault
     }
 }
 
-// The number of the net of a name of the chosen model, which is made if it is new.
-fn mention_top(maker: &mut NetMaker, name: &str) -> Result<u32, FlatFault>
-    requires { IsNetName name.now }
-    ensures number { IfOk result (λ n. number_of maker.new name.now ≡ Some n) }
-    ensures within { IfOk result (λ n. n < nets maker.new) }
-    ensures made { (i : ℕ) → OnOk result (local_step (state_with maker.old i InTop) (Mention name.now) ≡ Ok (state_with maker.new i InTop)) }
-    ensures fault { (i : ℕ) → IfErr result (IsFaultOf (local_step (state_with maker.old i InTop) (Mention name.now))) }
-{
-    match maker.net(name) {
-        Ok(number) => Ok(number),
-        Err(fault) => Err(fault_of(fault)),
-    }
-}
-
 // The number of the net of a new name in an instance with this prefix, which is made.
 fn add_inside(
     alloc: Global,
-    maker: &mut NetMaker,
+    maker: &mut Namer,
     prefix: &str,
     numbers: &mut Table,
     name: &str,
@@ -75,7 +61,7 @@ fn add_inside(
 // The number of the net of a name in an instance with this prefix, which is made if it is new.
 fn mention_inside(
     alloc: Global,
-    maker: &mut NetMaker,
+    maker: &mut Namer,
     prefix: &str,
     numbers: &mut Table,
     name: &str,
@@ -98,7 +84,7 @@ impl Walker {
         Walker {
             alloc,
             key,
-            maker: NetMaker::keyed(alloc, key),
+            maker: Namer::keyed(alloc, key),
             instances: 0,
             scope: Scope {
                 is_top: true,
@@ -113,7 +99,7 @@ impl Walker {
     pub fn into_maker(self) -> NetMaker
         ensures { result ≡ (state_of self).net }
     {
-        self.maker
+        self.maker.into_maker()
     }
 
     /// The number of the net of a name, which is made if it is new.
@@ -127,16 +113,15 @@ impl Walker {
         ensures kept { self.new.inputs.items ≡ self.old.inputs.items }
         ensures fault { IfErr result (IsFaultOf (local_step (state_of self.old) (Mention name.now))) }
     {
-        let text = text_of(name);
         if self.scope.is_top {
-            mention_top(&mut self.maker, text)
+            self.maker.mention(name)
         } else {
             mention_inside(
                 self.alloc,
                 &mut self.maker,
                 &self.scope.prefix,
                 &mut self.scope.numbers,
-                text,
+                text_of(name),
             )
         }
     }

@@ -1,5 +1,5 @@
 -- The term without bits beside the entries of terms with bits.
-use Rattle.std.proofs.Common.{◌≡◌, ◌≢◌, ℕ, ◌+◌, ◌≤◌, ◌<◌, ◌==◌, true, false, cond, List, [], ◌∷◌, ◌++◌, map, reverse, length, bit_xor, refl, sym, ◌∙◌, ap, arith}
+use Rattle.std.proofs.Common.{◌≡◌, ◌≢◌, ◌⊎◌, inl, inr, subst, ℕ, ◌+◌, ◌≤◌, ◌<◌, ◌==◌, true, false, cond, List, [], ◌∷◌, ◌++◌, map, reverse, length, bit_xor, refl, sym, ◌∙◌, ap, arith}
 use lib.Bits.{xor_zero_l}
 use Rattle.std.proofs.lemmas.Bool.{eqb-true, eqb-false, ne_eqb}
 use Rattle.std.specs.declared.cmp.Ordering.TheVariants.{Less, Equal, Greater}
@@ -122,3 +122,8 @@ constant_lacks k rank es lacks = elim (k == 0) as (λ b. LacksBit rank (map term
 
 pub constant_first : (k : ℕ) (es : List (CutKey × ℕ)) → plus text_cmp (with_coefficient (of_bits []) k []) (map term_of es) ≡ plus text_cmp [] (map term_of (with_constant k es))
 constant_first k es = elim (k == 0) as (λ b. plus text_cmp (cond b [] ((of_bits [], k) ∷ [])) (map term_of es) ≡ plus text_cmp [] (map term_of (cond b es ((no_bits, k) ∷ es)))) [ true ↦ refl | false ↦ refl ]
+
+-- after want of memory the entries are as they were, or there are none
+pub kept_entries : (places : List ℕ) (old new : List (CutKey × ℕ)) → AreBitEntries places old → (new ≡ old) ⊎ (new ≡ []) → AreBitEntries places new
+kept_entries places old new are (inl same) = let P : List (CutKey × ℕ) → Type 0 = AreBitEntries places in subst P (sym same) are
+kept_entries places old new are (inr none) = let P : List (CutKey × ℕ) → Type 0 = AreBitEntries places in subst P (sym none) (no_entries places)

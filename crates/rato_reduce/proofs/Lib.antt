@@ -12,3 +12,5 @@ mod CutSizeLemmas
 mod CutPartLemmas
 mod ConstantLemmas
 mod ProductLemmas
+mod EntryLemmas
+mod RetainedLemmas

@@ -3,3 +3,4 @@ pub mod Recorded
 pub mod CutKey
 pub mod CutTerms
 pub mod Monomials
+pub mod EntryList

@@ -1,25 +1,23 @@
 //! The polynomial of a cut.
-ghost use Rattle.std.specs.Prelude.{◌≡◌, ◌≢◌, ◌<◌, ℕ, List, ◌++◌, ◌∷◌, [], length, false, IfOk, IfSome, IfNone, OnOk, OnErr, ◌↔◌, if◌then◌else◌};
+ghost use Rattle.std.specs.Prelude.{◌≡◌, ◌≢◌, ◌<◌, ℕ, List, ◌++◌, ◌∷◌, [], length, false, IfOk, OnOk, ◌↔◌, if◌then◌else◌};
 ghost use Rattle.std.specs.List.{AllByRecursion};
 ghost use Rattle.std.specs.List.Sorted.{IsStrictlySortedBy};
 ghost use Rattle.std.specs.Ordering.{nat_cmp};
 ghost use Rattle.poly_mixed.specs.Cofactor.{cofactors, lacking, LacksBit};
 ghost use Rattle.poly_mixed.specs.Monomial.{text_cmp};
-ghost use Rattle.poly_mixed.specs.Polynomial.{IsMap, IsReduced, IsTerm};
+ghost use Rattle.poly_mixed.specs.Polynomial.{IsReduced, IsTerm};
 ghost use Rattle.poly_mixed.specs.Sum.{plus, plus_term, with_coefficient};
-ghost use Rattle.rato_reduce.specs.CutKey.{key_cmp};
 ghost use Rattle.poly_mixed.specs.Product.{union, with_rank};
 ghost use Rattle.poly_mixed.specs.Table.{table_bit};
 ghost use Rattle.rato_reduce.specs.CutTerms.{of_bits, term_of, ends_up_to, products, AreBitEntries, IsBitTerm, IsTaken};
 ghost use Rattle.rato_reduce.specs.Monomials.{monomials};
 
 use crate::bit_term::BitTerm;
+use crate::entries::Entries;
 use crate::key::{Key, place_of};
 use crate::ranks::Ranks;
 use poly_mixed::{Mono, Poly};
 use std::alloc::{AllocError, Global};
-use std::collections::BTreeMap;
-use std::collections::btree_map::Entry;
 use std::marker::Model;
 
 /// A polynomial in bits, whose terms stand against the order in which nets are eliminated: those with a net come last
@@ -28,7 +26,7 @@ use std::marker::Model;
 #[derive(Drop)]
 pub struct Cut {
     constant: u64,
-    map: BTreeMap<Key, u64>,
+    map: Entries,
     places: Vec<u32>,
     alloc: Global,
 }
@@ -50,7 +48,7 @@ impl Cut {
     {
         Cut {
             constant: 0,
-            map: BTreeMap::new(alloc),
+            map: Entries::new(alloc),
             places,
             alloc,
         }
@@ -75,7 +73,7 @@ impl Cut {
             return Ok(());
         }
         let key = Key::new(self.places.as_slice(), bits);
-        add_to(&mut self.map, key, c)?;
+        self.map.add(key, c)?;
         Ok(())
     }
 
@@ -206,10 +204,7 @@ impl Cut {
         ensures { IfOk result (λ q. q.terms ≡ self.now.terms) }
     {
         let mut sum = constant_poly(self.alloc, self.constant)?;
-        for (key, c) in &self.map {
-            let mono = Mono::new(self.alloc, key.bits().as_slice(), &[0; 8])?;
-            sum.add_term(mono, *c)?;
-        }
+        self.map.add_terms(self.alloc, &mut sum)?;
         Ok(sum)
     }
 }
@@ -234,49 +229,6 @@ fn has_place(form: u64, place: u32) -> bool
     (form >> place) & 1 == 1
 }
 
-// Adds an entry to a map; the sum of two coefficients that is 0 leaves no entry.
-fn add_to(entries: &mut BTreeMap<Key, u64>, key: Key, c: u64) -> Result<(), AllocError>
-    requires { c ≢ 0 }
-    ensures added { OnOk result (entries.new.entries ≡ plus_term key_cmp entries.old.entries (key, c)) }
-    ensures unchanged { OnErr result (entries.new.entries ≡ entries.old.entries) }
-{
-    match entries.entry(key)? {
-        Entry::Vacant(entry) => {
-            entry.insert(c);
-        }
-        Entry::Occupied(mut entry) => {
-            let sum = *entry.get() ^ c;
-            if sum == 0 {
-                entry.remove();
-            } else {
-                entry.insert(sum);
-            }
-        }
-    }
-    Ok(())
-}
-
-// Whether the last entry's first place is not behind this one.
-fn ends_up_to(entries: &BTreeMap<Key, u64>, place: u32) -> bool
-    ensures { result ≡ ends_up_to place entries.now.entries }
-{
-    match entries.last_key_value() {
-        Some((key, _)) => key.first() <= place,
-        None => false,
-    }
-}
-
-// Takes the last entry, if its first place is not behind this one.
-fn pop_up_to(entries: &mut BTreeMap<Key, u64>, place: u32) -> Option<(Key, u64)>
-    ensures some { IfSome result (λ e. entries.old.entries ≡ entries.new.entries ++ e ∷ []) }
-    ensures none { IfNone result ((entries.new.entries ≡ entries.old.entries) × (ends_up_to place entries.old.entries ≡ false)) }
-{
-    if !ends_up_to(entries, place) {
-        return None;
-    }
-    entries.pop_last()
-}
-
 // Puts the term of an entry into the part, without the bit, if it has the bit, and else into the others.
 fn sort_out(
     key: Key,
@@ -293,7 +245,7 @@ fn sort_out(
         others.push(BitTerm::new(bits, c))?;
         return Ok(());
     }
-    let rest = bits.without(rank)?;
+    let rest = bits.without(rank);
     part.push(BitTerm::new(rest, c))?;
     Ok(())
 }
@@ -302,7 +254,7 @@ fn sort_out(
 // to the part, without it, and the others are given.
 fn take_up_to(
     alloc: Global,
-    entries: &mut BTreeMap<Key, u64>,
+    entries: &mut Entries,
     place: u32,
     rank: u32,
     part: &mut Vec<BitTerm>,
@@ -313,7 +265,7 @@ fn take_up_to(
     ensures entries { (places : List ℕ) → AreBitEntries places entries.old.entries → AreBitEntries places entries.new.entries }
 {
     let mut others = Vec::new(alloc);
-    while let Some((key, c)) = pop_up_to(entries, place) {
+    while let Some((key, c)) = entries.pop_up_to(place) {
         sort_out(key, c, rank, part, &mut others)?;
     }
     Ok(others)

@@ -5,6 +5,7 @@
 mod bit_term;
 mod cut;
 mod eliminate;
+mod entries;
 mod first_cut;
 mod key;
 mod monomials;

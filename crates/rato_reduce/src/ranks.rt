@@ -83,17 +83,12 @@ impl Ranks {
         Ok(Ranks { items })
     }
 
-    /// All but this one.
-    pub fn without(&self, rank: u32) -> Result<Ranks, AllocError>
-        ensures { IfOk result (λ r. r ≡ filter (λ r. not (nat_eq r rank)) self.now) }
+    /// All but this one, in the place of these.
+    pub fn without(mut self, rank: u32) -> Ranks
+        ensures { result ≡ filter (λ r. not (nat_eq r rank)) self }
     {
-        let mut items = SmallVec::with_capacity(*self.items.allocator(), self.items.len())?;
-        for r in self.items.as_slice() {
-            if *r != rank {
-                items.push(*r)?;
-            }
-        }
-        Ok(Ranks { items })
+        self.items.retain(|r| *r != rank);
+        self
     }
 }
 

@@ -1,11 +1,9 @@
 -- Names that may be those of bits, and the places where they are cut.
 use Rattle.std.proofs.Common.{◌≡◌, ◌⊎◌, ◌∙◌, ap, sym, refl, subst, inl, inr, ℕ, zero, suc, ◌+◌, ◌-◌, ◌<◌, ◌≤◌, Bool, true, false, List, [], ◌∷◌, ◌++◌, length, take, drop, decimal, length-append, Option, None, Some, arith}
-use Rattle.std.specs.Prelude.{nat_lt}
-use Rattle.std.proofs.lemmas.Bool.{ltb-true, ltb-false}
 use Rattle.text_core.specs.Numbers.{IsDecimal, value_of}
 use Rattle.net_verilog.specs.Declarations.{Declarations, Range, bit_name, range_of}
 use Rattle.verilog_reader.specs.Declares.{HasShortNames, Meets}
-use Rattle.verilog_reader.specs.private.Meets.{AreShort, Decides, HasScalar, IsBit, IsBitAt, IsFound, IsMet}
+use Rattle.verilog_reader.specs.private.Meets.{AreShort, Decides, HasScalar, IsBit, IsBitAt, IsCutOf, IsFound, IsMet, IsNoBit}
 use Rattle.verilog_reader.proofs.NumeralLemmas.{printed_value}
 use Rattle.verilog_reader.proofs.NameLemmas.{front, longer, name_split, same_vector}
 
@@ -76,18 +74,16 @@ module _ (declared : Declarations) (name before : List ℕ) (cut : ℕ) (inside 
       decided true above below same = (low, high, index, ap (range_of declared) (sym is) ∙ range, above, below, same ∙ ap (λ b. bit_name b index) is)
       decided false above below differs = λ bit. (let k = known bit in differs (k.4 ∙ ap (bit_name before) (sym (same_index bit))))
 
-up_to : (i j : ℕ) → j < i + 1 → (j < i) ⊎ (j ≡ i)
-up_to i j less = by (nat_lt j i) refl
-  where
-    by : (b : Bool) → nat_lt j i ≡ b → (j < i) ⊎ (j ≡ i)
-    by true is = inl (ltb-true j i is)
-    by false is = inr (omega (arith, ltb-false j i is, less))
+at_cut : (name : List ℕ) (cut k : ℕ) (declared : Declarations) → IsCutOf name cut → k ≤ length name → IsBitAt declared name k → k ≡ cut
+at_cut name cut k declared is inside (low, high, i, range, above, below, same) = sym (taken_length k name inside) ∙ is (take k name) i same
 
-pub no_cut_more : (declared : Declarations) (name : List ℕ) (cut : ℕ) → ((k : ℕ) → k < cut → IsBitAt declared name k → ⊥) → (IsBitAt declared name cut → ⊥) → (k : ℕ) → k < cut + 1 → IsBitAt declared name k → ⊥
-no_cut_more declared name cut before here k less bit = elim (up_to cut k less) [
-  | inl earlier ↦ before k earlier bit
-  | inr same ↦ (let P : ℕ → Type 0 = λ j. IsBitAt declared name j in here (subst P same bit))
-]
+-- only what stands before the last `[` can be the name of a vector
+pub bit_at_cut : (declared : Declarations) (name : List ℕ) (cut : ℕ) → cut < length name → IsCutOf name cut → (r : Bool) → Decides r (IsBitAt declared name cut) → Decides r (IsBit declared name)
+bit_at_cut declared name cut inside is true bit = (cut, inside, bit)
+bit_at_cut declared name cut inside is false none = λ (bit : IsBit declared name). (let P : ℕ → Type 0 = λ k. IsBitAt declared name k in none (subst P (at_cut name cut bit.0 declared is (omega (arith, bit.1)) bit.2) bit.2))
+
+pub bit_nowhere : (declared : Declarations) (name : List ℕ) → IsNoBit name → IsBit declared name → ⊥
+bit_nowhere declared name none (k, inside, (low, high, i, range, above, below, same)) = none (take k name) i same
 
 module _ (declared : Declarations) (name : List ℕ) where
   bit_meets : IsBit declared name → Meets declared None name
@@ -109,7 +105,7 @@ module _ (declared : Declarations) (name : List ℕ) where
     short_names : AreShort name low (1 + high) → HasShortNames name (Some (low, high))
     short_names short net (i, above, below, is) = omega (arith, ap length is, short i above (omega (arith, below)))
 
-    scalar_meets : HasScalar declared name low (1 + high) → Meets declared (Some (low, high)) name
+    pub scalar_meets : HasScalar declared name low (1 + high) → Meets declared (Some (low, high)) name
     scalar_meets (i, above, below, is) = (bit_name name i, None, bit_name name i, is, (λ e. omega (arith, ap length e, longer name i)), refl, (i, above, omega (arith, below), refl))
 
     meets_scalar : Meets declared (Some (low, high)) name → HasScalar declared name low (1 + high)

@@ -1,9 +1,13 @@
--- What is found of the bits of a vector, one after another.
-use Rattle.std.proofs.Common.{◌≡◌, ◌⊎◌, ◌∙◌, ap, sym, refl, subst, inl, inr, ℕ, ◌+◌, ◌<◌, ◌≤◌, ◌||◌, Bool, true, false, List, length, Option, None, Some, arith}
-use Rattle.std.specs.Prelude.{nat_lt, if◌then◌else◌}
+-- What is found of the bits of a vector.
+use Rattle.std.proofs.Common.{◌≡◌, ◌∙◌, ap, sym, refl, subst, ℕ, zero, suc, ◌+◌, ◌-◌, ◌/◌, ◌%◌, ◌^◌, ◌<◌, ◌≤◌, Bool, true, false, List, [], ◌∷◌, ◌++◌, length, decimal, length-append, Option, None, Some, arith}
+use Rattle.std.specs.Prelude.{nat_lt, slice_get}
 use Rattle.std.proofs.lemmas.Bool.{ltb-true, ltb-false}
+use Rattle.std.proofs.lemmas.Fmt.{decimal_by_steps, decimal_step, length-decimal-le}
+use Rattle.net_core.specs.Lists.{Has}
 use Rattle.net_verilog.specs.Declarations.{Declarations, Range, bit_name, range_of}
-use Rattle.verilog_reader.specs.private.Meets.{AreShort, HasScalar, IsFound, bit_state, is_scalar}
+use Rattle.verilog_reader.specs.private.Listed.{IsEach}
+use Rattle.verilog_reader.specs.private.Meets.{AreShort, Decides, HasScalar, IsFound, is_scalar}
+use Rattle.verilog_reader.proofs.NameLemmas.{name_split}
 
 pub scalar_is : (range : Option Range) → is_scalar range ≡ true → range ≡ Some None
 scalar_is None is = absurd (cc)
@@ -15,56 +19,66 @@ is_no_scalar None is same = absurd (cc)
 is_no_scalar (Some None) is same = absurd (cc)
 is_no_scalar (Some (Some r)) is same = absurd (cc)
 
-up_to : (i j : ℕ) → j < 1 + i → (j < i) ⊎ (j ≡ i)
-up_to i j less = by (nat_lt j i) refl
+-- a number with more digits is larger
+decimal_rises : (i j : ℕ) → i ≤ j → j < 2 ^ 64 → length (decimal i) ≤ length (decimal j)
+decimal_rises i j below small = decimal_by_steps Rises one more j small i below (omega (arith, below, small))
   where
-    by : (b : Bool) → nat_lt j i ≡ b → (j < i) ⊎ (j ≡ i)
-    by true is = inl (ltb-true j i is)
-    by false is = inr (omega (arith, ltb-false j i is, less))
+    Rises : ℕ → List ℕ → Type 0
+    Rises n ds = (i : ℕ) → i ≤ n → i < 2 ^ 64 → length (decimal i) ≤ length ds
 
-module _ (declared : Declarations) (name : List ℕ) where
-  -- a bit with a short name
-  short_bit : (i : ℕ) (here : Bool) → bit_state declared name i ≡ Some here → (length (bit_name name i) ≤ 255) × (is_scalar (range_of declared (bit_name name i)) ≡ here)
-  short_bit i here is = by (nat_lt 255 (length (bit_name name i))) refl is
-    where
-      by : (b : Bool) → nat_lt 255 (length (bit_name name i)) ≡ b → (if b then None else Some (is_scalar (range_of declared (bit_name name i)))) ≡ Some here → (length (bit_name name i) ≤ 255) × (is_scalar (range_of declared (bit_name name i)) ≡ here)
-      by true long is = absurd (cc)
-      by false long is = (omega (arith, ltb-false 255 (length (bit_name name i)) long), cc)
+    one : (n : ℕ) → n < 10 → Rises n ((48 + n) ∷ [])
+    one n few i below small = length-decimal-le 1 i (omega arith) (omega (arith, few, below)) small
 
-  long_bit : (i : ℕ) → bit_state declared name i ≡ None → 255 < length (bit_name name i)
-  long_bit i is = by (nat_lt 255 (length (bit_name name i))) refl is
-    where
-      by : (b : Bool) → nat_lt 255 (length (bit_name name i)) ≡ b → (if b then None else Some (is_scalar (range_of declared (bit_name name i)))) ≡ None → 255 < length (bit_name name i)
-      by true long is = ltb-true 255 (length (bit_name name i)) long
-      by false long is = absurd (cc)
+    more : (n : ℕ) (ds : List ℕ) → 10 ≤ n → Rises (n / 10) ds → Rises n (ds ++ ((48 + n % 10) ∷ []))
+    more n ds many rises i below small = by (nat_lt i 10) refl
+      where
+        by : (b : Bool) → nat_lt i 10 ≡ b → length (decimal i) ≤ length (ds ++ ((48 + n % 10) ∷ []))
+        by true is = omega (arith, length-decimal-le 1 i (omega arith) (omega (arith, ltb-true i 10 is)) small, length-append ds ((48 + n % 10) ∷ []))
+        by false is = omega (arith, rises (i / 10) (omega (arith, below)) (omega (arith, small)), ap length (decimal_step i (ltb-false i 10 is) small), length-append (decimal (i / 10)) ((48 + i % 10) ∷ []), length-append ds ((48 + n % 10) ∷ []))
 
-  pub found_first : (low : ℕ) → IsFound declared name low low (Some false)
-  found_first low = ((λ i a b. absurd (omega (arith, a, b))), (λ h. absurd (omega (arith, h.1, h.2))))
+bit_length : (name : List ℕ) (i : ℕ) → length (bit_name name i) ≡ length name + (2 + length (decimal i))
+bit_length name i = omega (arith, ap length (name_split name i), length-append name (91 ∷ (decimal i ++ 93 ∷ [])), length-append (decimal i) (93 ∷ []))
 
-  pub found_none : (low i end : ℕ) → low ≤ i → i < end → bit_state declared name i ≡ None → IsFound declared name low end None
-  found_none low i end above below is = λ short. absurd (omega (arith, short i above below, long_bit i is))
+-- no index before a place of a list is inside a range and that of a declared scalar
+abbrev pub IsNoneBefore : Declarations → List ℕ → ℕ → ℕ → List ℕ → ℕ → Type 0
+IsNoneBefore declared name low high list end = (place i : ℕ) → place < end → slice_get list place ≡ Some i → low ≤ i → i ≤ high → range_of declared (bit_name name i) ≡ Some None → ⊥
 
-  more_short : (low i : ℕ) → AreShort name low i → length (bit_name name i) ≤ 255 → AreShort name low (1 + i)
-  more_short low i short one j above below = elim (up_to i j below) [ inl less ↦ short j above less | inr same ↦ (let e : length (bit_name name j) ≡ length (bit_name name i) = ap (λ k. length (bit_name name k)) same in omega (arith, e, one)) ]
+placed : (xs : List ℕ) (place i : ℕ) → slice_get xs place ≡ Some i → place < length xs
+placed [] place i got = absurd (cc)
+placed (x ∷ xs) zero i got = omega arith
+placed (x ∷ xs) (suc place) i got = omega (arith, placed xs place i got)
 
-  pub found_more : (low i : ℕ) (met here : Bool) → low ≤ i → IsFound declared name low i (Some met) → bit_state declared name i ≡ Some here → IsFound declared name low (1 + i) (Some (met || here))
-  found_more low i true here above (short, (j, a, b, is)) state = (more_short low i short (short_bit i here state).0, (j, a, omega (arith, b), is))
-  found_more low i false true above (short, never) state = (more_short low i short (short_bit i true state).0, (i, above, omega arith, scalar_is (range_of declared (bit_name name i)) (short_bit i true state).1))
-  found_more low i false false above (short, never) state = (more_short low i short (short_bit i false state).0, no_more)
-    where
-      no_more : HasScalar declared name low (1 + i) → ⊥
-      no_more (j, a, b, is) = elim (up_to i j b) [ inl less ↦ never (j, a, less, is) | inr same ↦ is_no_scalar (range_of declared (bit_name name i)) (short_bit i false state).1 (ap (λ k. range_of declared (bit_name name k)) (sym same) ∙ is) ]
+module _ (declared : Declarations) (name : List ℕ) (low high : ℕ) where
+  all_short : high ≤ 65535 → length (bit_name name high) ≤ 255 → AreShort name low (1 + high)
+  all_short small short i above below = omega (arith, short, bit_length name i, bit_length name high, decimal_rises i high (omega (arith, below)) (omega (arith, small)))
 
-  vacuous : (low end : ℕ) (met : Bool) → met ≡ false → end ≤ low → IsFound declared name low end (Some met)
-  vacuous low end true is none = absurd (cc)
-  vacuous low end false is none = ((λ j a b. absurd (omega (arith, a, b, none))), (λ h. absurd (omega (arith, h.1, h.2, none))))
+  pub found_long : low ≤ high → nat_lt 255 (length (bit_name name high)) ≡ true → IsFound declared name low (1 + high) None
+  found_long some long = λ short. absurd (omega (arith, short high some (omega arith), ltb-true 255 (length (bit_name name high)) long))
 
-  not_met : (low i : ℕ) (met : Bool) → i ≡ low → IsFound declared name low i (Some met) → met ≡ false
-  not_met low i true same (short, (j, a, b, is)) = absurd (omega (arith, a, b, same))
-  not_met low i false same found = refl
+  pub found_short : high ≤ 65535 → nat_lt 255 (length (bit_name name high)) ≡ false → (met : Bool) → Decides met (HasScalar declared name low (1 + high)) → IsFound declared name low (1 + high) (Some met)
+  found_short small short true has = (all_short small (omega (arith, ltb-false 255 (length (bit_name name high)) short)), has)
+  found_short small short false none = (all_short small (omega (arith, ltb-false 255 (length (bit_name name high)) short)), none)
 
-  pub found_last : (low i end : ℕ) (met : Bool) → IsFound declared name low i (Some met) → end ≤ i → (i ≡ low) ⊎ (i ≤ end) → IsFound declared name low end (Some met)
-  found_last low i end met found beyond within = elim within [
-    | inl same ↦ vacuous low end met (not_met low i met same found) (omega (arith, same, beyond))
-    | inr less ↦ (let P : ℕ → Type 0 = λ e. IsFound declared name low e (Some met) in let same : i ≡ end = omega (arith, beyond, less) in subst P same found)
-  ]
+  pub found_empty : high < low → IsFound declared name low (1 + high) (Some false)
+  found_empty none = ((λ i above below. absurd (omega (arith, above, below, none))), (λ h. absurd (omega (arith, h.1, h.2, none))))
+
+  module _ (list : List ℕ) where
+    pub none_first : IsNoneBefore declared name low high list 0
+    none_first place i before = absurd (omega (arith, before))
+
+    pub none_more : (k i : ℕ) → slice_get list k ≡ Some i → (low ≤ i → i ≤ high → range_of declared (bit_name name i) ≡ Some None → ⊥) → IsNoneBefore declared name low high list k → IsNoneBefore declared name low high list (k + 1)
+    none_more k i got here none place j before at = by (nat_lt place k) refl
+      where
+        by : (b : Bool) → nat_lt place k ≡ b → low ≤ j → j ≤ high → range_of declared (bit_name name j) ≡ Some None → ⊥
+        by true is = none place j (ltb-true place k is) at
+        by false is =
+            let same : place ≡ k = omega (arith, ltb-false place k is, before) in
+            let both : ◌≡◌ {A = Option ℕ} (Some i) (Some j) = sym got ∙ ap (slice_get list) (sym same) ∙ at in
+            let e : i ≡ j = cc in
+            let P : ℕ → Type 0 = λ n. low ≤ n → n ≤ high → range_of declared (bit_name name n) ≡ Some None → ⊥ in
+            subst P e here
+
+    pub none_listed : IsEach declared name list → high ≤ 4294967295 → (k : ℕ) → length list ≤ k → IsNoneBefore declared name low high list k → HasScalar declared name low (1 + high) → ⊥
+    none_listed each small k all none (i, above, below, is) =
+        let has = each i (omega (arith, below, small)) is in
+        none has.0 i (omega (arith, placed list has.0 i has.1, all)) has.1 above (omega (arith, below)) is

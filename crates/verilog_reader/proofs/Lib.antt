@@ -2,6 +2,9 @@ mod FoundLemmas
 mod NumeralLemmas
 mod NameLemmas
 mod CutLemmas
+mod OpenLemmas
+mod ScalarLemmas
+mod ScopeLemmas
 mod PortLemmas
 mod ReadDetermined
 mod ItemLemmas

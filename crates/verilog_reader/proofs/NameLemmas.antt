@@ -6,11 +6,11 @@ use Rattle.verilog_reader.proofs.NumeralLemmas.{NoOpen, digits_no_open}
 pub name_split : (name : List ℕ) (i : ℕ) → bit_name name i ≡ name ++ 91 ∷ (decimal i ++ 93 ∷ [])
 name_split name i = append_assoc (name ++ codes "[") (decimal i) (codes "]") ∙ append_assoc name (codes "[") (decimal i ++ codes "]")
 
-has_open : (xs rest : List ℕ) → NoOpen (xs ++ 91 ∷ rest) → ⊥
+pub has_open : (xs rest : List ℕ) → NoOpen (xs ++ 91 ∷ rest) → ⊥
 has_open [] rest none = none.0 refl
 has_open (x ∷ xs) rest none = has_open xs rest none.1
 
-same_before : (v w x y : List ℕ) → NoOpen x → NoOpen y → v ++ 91 ∷ x ≡ w ++ 91 ∷ y → v ≡ w
+pub same_before : (v w x y : List ℕ) → NoOpen x → NoOpen y → v ++ 91 ∷ x ≡ w ++ 91 ∷ y → v ≡ w
 same_before [] [] x y one other same = refl
 same_before [] (b ∷ w) x y one other same =
     let tail : x ≡ w ++ 91 ∷ y = cc in
@@ -23,7 +23,7 @@ same_before (a ∷ v) (b ∷ w) x y one other same =
     let tail : v ++ 91 ∷ x ≡ w ++ 91 ∷ y = cc in
     λ i. head i ∷ same_before v w x y one other tail i
 
-closed : (xs : List ℕ) → NoOpen xs → NoOpen (xs ++ 93 ∷ [])
+pub closed : (xs : List ℕ) → NoOpen xs → NoOpen (xs ++ 93 ∷ [])
 closed [] none = ((λ e. absurd (omega (arith, e))), tt)
 closed (x ∷ xs) none = (none.0, closed xs none.1)
 

@@ -2,15 +2,32 @@
 ghost use Rattle.std.specs.Prelude.{◌≡◌, ◌≤◌, ◌<◌, ℕ, List, Some, IfOk, length, IfSome, IfNone, true};
 ghost use Rattle.text_core.specs.Lines.{IsPrinting};
 ghost use Rattle.net_verilog.specs.Declarations.{bit_name as bit_that, range_of as range_that};
-ghost use Rattle.verilog_reader.specs.private.Meets.{Decides, IsBit, IsBitAt};
+ghost use Rattle.verilog_reader.specs.private.Meets.{Decides, IsBit, IsBitAt, IsCutOf, IsNoBit};
 
 use crate::bits::range_of;
-use net_verilog::{Table, bit_name, text_of};
+use crate::scope::Scope;
+use net_verilog::{bit_name, text_of};
 use std::alloc::{AllocError, Global};
 use text_core::read_decimal;
 
-// The index that stands between a `[` at a place and the `]` at the end.
-fn index_at(name: &[u8], cut: usize) -> Option<u32>
+/// The place of the last `[`.
+pub fn last_open(name: &[u8]) -> Option<usize>
+    ensures inside { IfSome result (λ cut. cut < length name.now) }
+    ensures some { IfSome result (λ cut. IsCutOf name.now cut) }
+    ensures none { IfNone result (IsNoBit name.now) }
+{
+    let mut cut = name.len();
+    while cut > 0 {
+        cut -= 1;
+        if name[cut] == b'[' {
+            return Some(cut);
+        }
+    }
+    None
+}
+
+/// The index that stands between a `[` at a place and the `]` at the end.
+pub fn index_at(name: &[u8], cut: usize) -> Option<u32>
     requires { cut < length name.now }
     ensures { (before : List ℕ) → (i : ℕ) → i ≤ 4294967295 → length before ≡ cut → name.now ≡ bit_that before i → result ≡ Some i }
 {
@@ -33,7 +50,7 @@ fn is_open_at(name: &[u8], cut: usize) -> bool
 }
 
 // The range of a declared vector.
-fn vector_range(declared: &Table, name: &str) -> Option<(u32, u32)>
+fn vector_range(declared: &Scope, name: &str) -> Option<(u32, u32)>
     ensures some { IfSome result (λ r. range_that declared.now name.now ≡ Some (Some r)) }
     ensures none { IfNone result ((r : ℕ × ℕ) → range_that declared.now name.now ≡ Some (Some r) → ⊥) }
 {
@@ -52,7 +69,7 @@ fn is_bit_of(alloc: Global, before: &str, index: u32, name: &str) -> Result<bool
 }
 
 // Whether a name is that of a bit of the declared vector before a place in it.
-fn is_bit_at(alloc: Global, declared: &Table, name: &str, cut: usize) -> Result<bool, AllocError>
+fn is_bit_at(alloc: Global, declared: &Scope, name: &str, cut: usize) -> Result<bool, AllocError>
     requires inside { cut < length name.now }
     requires prints { IsPrinting name.now }
     ensures { IfOk result (λ r. Decides r (IsBitAt declared.now name.now cut)) }
@@ -75,14 +92,15 @@ fn is_bit_at(alloc: Global, declared: &Table, name: &str, cut: usize) -> Result<
 }
 
 /// Whether a name is that of a bit of some declared vector.
-pub fn is_bit(alloc: Global, declared: &Table, name: &str) -> Result<bool, AllocError>
+pub fn is_bit(alloc: Global, declared: &Scope, name: &str) -> Result<bool, AllocError>
     requires { IsPrinting name.now }
     ensures { IfOk result (λ r. Decides r (IsBit declared.now name.now)) }
 {
-    for cut in 0..name.len() {
-        if is_bit_at(alloc, declared, name, cut)? {
-            return Ok(true);
+    match last_open(name.as_bytes()) {
+        Some(cut) => {
+            let is = is_bit_at(alloc, declared, name, cut)?;
+            Ok(is)
         }
+        None => Ok(false),
     }
-    Ok(false)
 }

@@ -9,7 +9,8 @@ ghost use Rattle.verilog_reader.specs.private.Meets.{IsMet};
 
 use crate::bits::bits_found;
 use crate::cuts::is_bit;
-use net_verilog::{Declared, Direction, Table, VerilogFault};
+use crate::scope::Scope;
+use net_verilog::{Declared, Direction, VerilogFault};
 use std::alloc::{AllocError, Global};
 
 fn is_directed(direction: Direction) -> bool
@@ -56,7 +57,7 @@ fn is_against(earlier: Option<Declared>, range: Option<(u32, u32)>, direction: D
 // Whether another declared name makes a net of the same name, where the names of the nets are short.
 fn meets(
     alloc: Global,
-    declared: &Table,
+    declared: &Scope,
     name: &str,
     range: Option<(u32, u32)>,
 ) -> Result<Option<bool>, AllocError>
@@ -81,7 +82,7 @@ fn meets(
 /// has another range or a second direction, or another declared name makes a net of the same name, it is `Redeclared`.
 pub fn declare(
     alloc: Global,
-    declared: &mut Table,
+    declared: &mut Scope,
     range: Option<(u32, u32)>,
     direction: Direction,
     line: u32,

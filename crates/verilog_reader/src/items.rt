@@ -6,6 +6,7 @@ ghost use Rattle.verilog_reader.specs.Items.{Item, Items, ReadsAssignments, Read
 use crate::instance_list::read_instances;
 use crate::names::read_names;
 use crate::ranges::read_declared_range;
+use crate::scope::Scope;
 use crate::starts::{ItemStart, is_endmodule, item_fault, item_start};
 use net_core::NetMaker;
 use net_verilog::{Cursor, Direction, GateKind, Sign, Table, VerilogFault, read_assignments, take};
@@ -15,7 +16,7 @@ use std::alloc::Global;
 fn read_declaration<'a>(
     alloc: Global,
     maker: &mut NetMaker,
-    declared: &mut Table,
+    declared: &mut Scope,
     direction: Direction,
     place: &Cursor<'a>,
 ) -> Result<Cursor<'a>, VerilogFault>
@@ -84,7 +85,7 @@ fn read_gates<'a>(
 pub fn read_item<'a>(
     alloc: Global,
     maker: &mut NetMaker,
-    declared: &mut Table,
+    declared: &mut Scope,
     place: &Cursor<'a>,
 ) -> Result<Cursor<'a>, VerilogFault>
     ensures made { IfOk result (λ after. Item (declared.old, maker.old) (left place.now) (Ok ((declared.new, maker.new), left after))) }
@@ -96,8 +97,8 @@ pub fn read_item<'a>(
         ItemStart::Declaration(direction) => {
             read_declaration(alloc, maker, declared, direction, &after)
         }
-        ItemStart::Assignments => read_assign(alloc, maker, declared, &after),
-        ItemStart::Instances(kind) => read_gates(alloc, maker, declared, kind, &after),
+        ItemStart::Assignments => read_assign(alloc, maker, declared.table(), &after),
+        ItemStart::Instances(kind) => read_gates(alloc, maker, declared.table(), kind, &after),
         ItemStart::Other => Err(item_fault(alloc, &token)),
     }
 }
@@ -106,7 +107,7 @@ pub fn read_item<'a>(
 pub fn read_items<'a>(
     alloc: Global,
     maker: &mut NetMaker,
-    declared: &mut Table,
+    declared: &mut Scope,
     place: &Cursor<'a>,
 ) -> Result<Cursor<'a>, VerilogFault>
     ensures made { IfOk result (λ after. Items (declared.old, maker.old) (left place.now) (Ok ((declared.new, maker.new), left after))) }

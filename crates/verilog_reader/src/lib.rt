@@ -14,6 +14,8 @@ mod port_list;
 mod ports;
 mod ranges;
 mod read;
+mod scalars;
+mod scope;
 mod starts;
 
 pub use bits::{bits_found, range_of};
@@ -27,3 +29,5 @@ pub use laws::{
 pub use names::{read_name, read_names};
 pub use ports::make_ports;
 pub use read::read_verilog;
+pub use scalars::Scalars;
+pub use scope::Scope;

@@ -7,9 +7,10 @@ ghost use Rattle.verilog_reader.specs.Modules.{Module, module_taken, nothing_mor
 
 use crate::items::read_items;
 use crate::port_list::read_port_list;
+use crate::scope::Scope;
 use crate::starts::is_module;
 use net_core::NetMaker;
-use net_verilog::{Cursor, Sign, Table, VerilogFault, is_end, read_identifier, take, wrong};
+use net_verilog::{Cursor, Sign, VerilogFault, is_end, read_identifier, take, wrong};
 use std::alloc::Global;
 
 // Reads `module`: the place after it.
@@ -42,7 +43,7 @@ fn check_end(alloc: Global, place: &Cursor<'_>) -> Result<(), VerilogFault>
 pub fn read_module(
     alloc: Global,
     maker: &mut NetMaker,
-    declared: &mut Table,
+    declared: &mut Scope,
     place: &Cursor<'_>,
 ) -> Result<(), VerilogFault>
     requires net { maker.old ≡ empty }

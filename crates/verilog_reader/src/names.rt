@@ -7,15 +7,16 @@ ghost use Rattle.verilog_reader.specs.Declares.{ReadsName};
 
 use crate::declaring::declare;
 use crate::ports::make_ports;
+use crate::scope::Scope;
 use net_core::NetMaker;
-use net_verilog::{Cursor, Direction, Sign, Table, VerilogFault, is_sign, read_identifier};
+use net_verilog::{Cursor, Direction, Sign, VerilogFault, is_sign, read_identifier};
 use std::alloc::Global;
 
 /// Reads a name, declares it and makes its ports: the place after it.
 pub fn read_name<'a>(
     alloc: Global,
     maker: &mut NetMaker,
-    declared: &mut Table,
+    declared: &mut Scope,
     range: Option<(u32, u32)>,
     direction: Direction,
     place: &Cursor<'a>,
@@ -43,7 +44,7 @@ pub fn read_name<'a>(
 pub fn read_names<'a>(
     alloc: Global,
     maker: &mut NetMaker,
-    declared: &mut Table,
+    declared: &mut Scope,
     range: Option<(u32, u32)>,
     direction: Direction,
     place: &Cursor<'a>,

@@ -9,9 +9,10 @@ ghost use Rattle.verilog_reader.specs.Modules.{DeclaredPorts, PortList, PortsAft
 use crate::names::read_name;
 use crate::plain_ports::read_plain_ports;
 use crate::ranges::read_wire_range;
+use crate::scope::Scope;
 use crate::starts::{item_start, port_direction};
 use net_core::NetMaker;
-use net_verilog::{Cursor, Direction, Sign, Table, VerilogFault, is_sign, take};
+use net_verilog::{Cursor, Direction, Sign, VerilogFault, is_sign, take};
 use std::alloc::Global;
 
 // The direction and the range of names of a list of ports.
@@ -47,7 +48,7 @@ fn read_head<'a>(
 fn read_port<'a>(
     alloc: Global,
     maker: &mut NetMaker,
-    declared: &mut Table,
+    declared: &mut Scope,
     before: Head,
     place: &Cursor<'a>,
 ) -> Result<(Head, Cursor<'a>), VerilogFault>
@@ -71,7 +72,7 @@ fn read_port<'a>(
 fn read_ports<'a>(
     alloc: Global,
     maker: &mut NetMaker,
-    declared: &mut Table,
+    declared: &mut Scope,
     place: &Cursor<'a>,
 ) -> Result<(Head, Cursor<'a>), VerilogFault>
     ensures made { IfOk result (λ r. Several ReadsPort ((Wire, None), (declared.old, maker.old)) (left place.now) (Ok (((r.0.direction, r.0.range), (declared.new, maker.new)), left r.1))) }
@@ -101,7 +102,7 @@ fn read_ports<'a>(
 fn read_declared_ports<'a>(
     alloc: Global,
     maker: &mut NetMaker,
-    declared: &mut Table,
+    declared: &mut Scope,
     place: &Cursor<'a>,
 ) -> Result<Cursor<'a>, VerilogFault>
     ensures made { IfOk result (λ after. DeclaredPorts (declared.old, maker.old) (left place.now) (Ok ((declared.new, maker.new), left after))) }
@@ -121,7 +122,7 @@ fn read_declared_ports<'a>(
 fn read_ports_from<'a>(
     alloc: Global,
     maker: &mut NetMaker,
-    declared: &mut Table,
+    declared: &mut Scope,
     start: Option<Direction>,
     place: &Cursor<'a>,
 ) -> Result<Cursor<'a>, VerilogFault>
@@ -138,7 +139,7 @@ fn read_ports_from<'a>(
 fn read_ports_after<'a>(
     alloc: Global,
     maker: &mut NetMaker,
-    declared: &mut Table,
+    declared: &mut Scope,
     place: &Cursor<'a>,
 ) -> Result<Cursor<'a>, VerilogFault>
     ensures made { IfOk result (λ after. PortsAfter (declared.old, maker.old) (left place.now) (Ok ((declared.new, maker.new), left after))) }
@@ -164,7 +165,7 @@ fn read_ports_after<'a>(
 pub fn read_port_list<'a>(
     alloc: Global,
     maker: &mut NetMaker,
-    declared: &mut Table,
+    declared: &mut Scope,
     place: &Cursor<'a>,
 ) -> Result<Cursor<'a>, VerilogFault>
     ensures made { IfOk result (λ after. PortList (declared.old, maker.old) (left place.now) (Ok ((declared.new, maker.new), left after))) }

@@ -4,8 +4,9 @@ ghost use Rattle.net_verilog.specs.Tokens.{tokens_of};
 ghost use Rattle.verilog_reader.specs.Modules.{Module, VerilogNet};
 
 use crate::module::read_module;
+use crate::scope::Scope;
 use net_core::{Net, NetFault, NetMaker};
-use net_verilog::{Cursor, Table, VerilogFault};
+use net_verilog::{Cursor, VerilogFault};
 use std::alloc::Global;
 use std::hash::{DefaultHasher, Hasher};
 
@@ -24,7 +25,7 @@ fn read_text(alloc: Global, bytes: &[u8]) -> Result<NetMaker, VerilogFault>
 {
     let key = key_of(bytes);
     let mut maker = NetMaker::keyed(alloc, key);
-    let mut declared = Table::new(alloc, key);
+    let mut declared = Scope::new(alloc, key);
     match read_module(alloc, &mut maker, &mut declared, &Cursor::new(bytes)) {
         Ok(()) => Ok(maker),
         Err(fault) => Err(fault),

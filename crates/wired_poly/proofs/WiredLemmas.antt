@@ -1,13 +1,9 @@
 -- Wired tops.
-use Rattle.std.proofs.Common.{◌≡◌, ◌≢◌, ◌∙◌, ap, sym, refl, subst, inl, inr, ℕ, zero, suc, ◌<◌, ◌≤◌, ◌+◌, ◌-◌, ◌^◌, All, List, [], ◌∷◌, ◌++◌, length, map, take, get_or, set, replicate, drop, Some, arith, add-one, append-nil}
+use Rattle.std.proofs.Common.{◌≡◌, ◌∙◌, ap, sym, refl, subst, ℕ, zero, suc, ◌<◌, ◌+◌, ◌-◌, List, [], ◌∷◌, ◌++◌, length, map, take, set, replicate, Some, arith, add-one}
 use Rattle.std.specs.Prelude.{slice_get}
-use Rattle.std.proofs.lemmas.Option.{slice_get-get_or, slice_get_within}
 use Rattle.graph_core.specs.Arranged.{IsArranged}
-use Rattle.graph_core.specs.Cycle.{IsCycleOf}
-use Rattle.graph_core.specs.Graph.{edges, Graph, Has, HasEdge, IsCycle, IsInside}
-use Rattle.graph_core.proofs.CycleLemmas.{from_map}
-use Rattle.graph_core.proofs.ListLemmas.{get_below}
-use Rattle.poly_mixed.specs.Polynomial.{value, IsPolynomialOf, IsReduced, Point, Terms}
+use Rattle.graph_core.specs.Graph.{edges, Graph, Has, HasEdge, IsInside}
+use Rattle.poly_mixed.specs.Polynomial.{IsReduced, Terms}
 use Rattle.poly_mixed.specs.declared.stage.ReduceFault.{ReduceFault}
 use Rattle.poly_mixed.specs.declared.stage.ReduceFault.TheVariants as stages
 use Rattle.instance_poly.specs.Instance.{AreReduced}
@@ -17,8 +13,8 @@ use Rattle.block_feeds.specs.declared.feeder.Feeder.TheVariants.{InputWord, Outp
 use Rattle.instance_order.specs.LevelOrder.{first_numbers, IsLevelOrder}
 use Rattle.instance_order.proofs.AfterLemmas.{level_arranged}
 use Rattle.instance_polys.specs.Instances.{IsReady, IsRefused}
-use Rattle.instance_polys.specs.Words.{feed_terms, AreWordPolys, IsFeedAmong}
-use Rattle.wired_poly.specs.Wired.{stage_fault_of, IsStageOver, IsTaken, IsWired, IsWiredFault}
+use Rattle.instance_polys.specs.Words.{AreWordPolys, IsFeedAmong}
+use Rattle.wired_poly.specs.Wired.{IsStageFault, IsTaken, IsWired}
 use Rattle.wired_poly.specs.private.Rows.{instance_of}
 
 -- ---- rows
@@ -98,12 +94,16 @@ edges_of [] i b has = let got = has.1 in absurd (cc)
 edges_of (row ∷ rows) zero b has = (row, refl, has)
 edges_of (row ∷ rows) (suc i) b has = edges_of rows i b has
 
+-- where each feed is a word or an instance, the graph leads to instances
+pub graph_inside : (count : ℕ) (rows : List (List Feeder)) → ((i j : ℕ) (feeds : List Feeder) (feed : Feeder) → slice_get rows i ≡ Some feeds → slice_get feeds j ≡ Some feed → IsFeedAmong count (length rows) feed) → IsInside (feeding_graph rows)
+graph_inside count rows among a b edge =
+    let found = edges_of rows a b edge in
+    let less = among_instances count (length rows) found.0 (λ j feed got. among a j found.0 feed found.1 got) found.2.0 b found.2.1 in
+    omega (arith, less, mapped_long instances_among rows)
+
 module _ (k : ℕ) (count : ℕ) (blocks : List Terms) (rows : List (List Feeder)) (output : Feeder) (wired : IsWired k count blocks rows output) where
-  pub inside : IsInside (feeding_graph rows)
-  inside a b edge =
-      let found = edges_of rows a b edge in
-      let less = among_instances count (length rows) found.0 (λ j feed got. wired.feeds_are a j found.0 feed found.1 got) found.2.0 b found.2.1 in
-      omega (arith, less, mapped_long instances_among rows)
+  inside : IsInside (feeding_graph rows)
+  inside = graph_inside count rows wired.feeds_are
 
   -- the order by level is one in which the instances can be taken
   pub ready : (words : List Terms) (order : List ℕ) → AreReduced k words → length words ≡ count → IsLevelOrder (feeding_graph rows) order → IsReady k words blocks rows order
@@ -130,13 +130,9 @@ words_reduced k mul words are = from words (λ w ts got. (are w ts got).reduced)
     from [] each = tt
     from (t ∷ ws) each = (each 0 t refl, from ws (λ w ts got. each (suc w) ts got))
 
--- ---- cycles
-
-pub cycle_first : (graph : Graph) (cycle : List ℕ) → IsCycle graph cycle → (a : ℕ) × (slice_get cycle 0 ≡ Some a)
-cycle_first graph [] is = absurd is
-cycle_first graph (a ∷ rest) is = (a, refl)
+-- ---- stages
 
 -- a stage over the bound as a fault of the top
-pub stage_refused : (k : ℕ) (mul : ℕ → ℕ → ℕ) (count : ℕ) (blocks : List Terms) (rows : List (List Feeder)) (bound : ℕ) (words : List Terms) (order : List ℕ) (fault : ReduceFault) → IsTaken k mul count blocks rows bound words order → IsRefused k mul words blocks rows bound order fault → IsWiredFault k mul count blocks rows bound (stage_fault_of fault)
+pub stage_refused : (k : ℕ) (mul : ℕ → ℕ → ℕ) (count : ℕ) (blocks : List Terms) (rows : List (List Feeder)) (bound : ℕ) (words : List Terms) (order : List ℕ) (fault : ReduceFault) → IsTaken k mul count blocks rows bound words order → IsRefused k mul words blocks rows bound order fault → IsStageFault k mul count blocks rows bound fault
 stage_refused k mul count blocks rows bound words order (stages.TooManyTerms stage n) taken refused = record { words = words; order = order; taken = taken; refused = refused }
 stage_refused k mul count blocks rows bound words order stages.OutOfMemory taken refused = tt

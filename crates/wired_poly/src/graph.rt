@@ -1,11 +1,14 @@
 //! Which instances feed each other.
-ghost use Rattle.std.specs.Prelude.{◌≡◌, ◌<◌, ◌^◌, ◌++◌, ℕ, All, IfOk, OnOk, length, map, slice_get, Some};
+ghost use Rattle.std.specs.Prelude.{◌≡◌, ◌<◌, ◌^◌, ◌++◌, ℕ, All, IfErr, IfOk, OnOk, length, map, slice_get, Some};
+ghost use Rattle.graph_core.specs.Fault.{IsCycleFault};
+ghost use Rattle.instance_order.specs.LevelOrder.{first_numbers, IsLevelOrder};
 ghost use Rattle.block_feeds.specs.Wiring.{feeding_graph as graph_of, instances_among};
 ghost use Rattle.block_feeds.specs.declared.feeder.Feeder.{Feeder as FeederValue};
 ghost use Rattle.wired_poly.specs.private.Rows.{instance_of};
 
 use block_feeds::Feeder;
-use graph_core::Graph;
+use graph_core::{CycleFault, Graph};
+use instance_order::level_order;
 use std::alloc::{AllocError, Global};
 
 // Adds a feed that is an instance.
@@ -39,8 +42,8 @@ fn row_of(alloc: Global, feeds: &[Feeder]) -> Result<Vec<u32>, AllocError>
     Ok(row)
 }
 
-/// The graph in which each instance leads to those that feed it.
-pub(crate) fn feeding_graph(alloc: Global, rows: &[Vec<Feeder>]) -> Result<Graph, AllocError>
+// The graph in which each instance leads to those that feed it.
+fn feeding_graph(alloc: Global, rows: &[Vec<Feeder>]) -> Result<Graph, AllocError>
     requires few { length rows.now < 2 ^ 32 }
     requires inside { (i : ℕ) (row : _) → slice_get rows.now i ≡ Some row → All (λ a. a < length rows.now) (instances_among row.items) }
     ensures { IfOk result (λ graph. graph ≡ graph_of (map (λ row. row.items) rows.now)) }
@@ -51,4 +54,20 @@ pub(crate) fn feeding_graph(alloc: Global, rows: &[Vec<Feeder>]) -> Result<Graph
         graph.set_edges(i as u32, &row)?;
     }
     Ok(graph)
+}
+
+/// The instances of a wired top by rising level and number, where row i is what feeds instance i; or the ring of instances that feed
+/// each other which a walk over all of them finds.
+pub fn wired_order(alloc: Global, rows: &[Vec<Feeder>]) -> Result<Vec<u32>, CycleFault>
+    requires few { length rows.now < 2 ^ 32 }
+    requires inside { (i : ℕ) (row : _) → slice_get rows.now i ≡ Some row → All (λ a. a < length rows.now) (instances_among row.items) }
+    ensures order { IfOk result (λ order. IsLevelOrder (graph_of (map (λ row. row.items) rows.now)) order.items) }
+    ensures ring { IfErr result (λ fault. IsCycleFault (graph_of (map (λ row. row.items) rows.now)) (first_numbers (length rows.now)) fault) }
+{
+    let graph = feeding_graph(alloc, rows)?;
+    let order = match level_order(alloc, &graph) {
+        Ok(order) => order,
+        Err(fault) => return Err(fault),
+    };
+    Ok(order)
 }

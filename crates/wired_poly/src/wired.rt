@@ -1,40 +1,17 @@
 //! The polynomial of a wired top.
 ghost use Rattle.std.specs.Prelude.{◌≡◌, ◌<◌, ◌^◌, ℕ, All, IfErr, IfOk, length, map, slice_get, Some};
-ghost use Rattle.graph_core.specs.Fault.{IsCycleFault};
 ghost use Rattle.poly_mixed.specs.Polynomial.{value, IsPolynomialOf};
 ghost use Rattle.instance_poly.specs.Instance.{AreReduced};
 ghost use Rattle.block_feeds.specs.Wiring.{feeding_graph as graph_of};
-ghost use Rattle.instance_order.specs.LevelOrder.{first_numbers};
+ghost use Rattle.instance_order.specs.LevelOrder.{IsLevelOrder};
 ghost use Rattle.instance_polys.specs.Words.{feed_terms, IsFeedAmong};
-ghost use Rattle.wired_poly.specs.Wired.{stage_fault_of, IsRing, IsWired, IsWiredFault, IsWiredPoly};
+ghost use Rattle.wired_poly.specs.Wired.{IsStageFault, IsWired, IsWiredPoly};
 
-use crate::WiredFault;
-use crate::graph::feeding_graph;
 use block_feeds::Feeder;
 use gf_field::Field;
-use graph_core::CycleFault;
-use instance_order::level_order;
 use instance_polys::{instance_polys, word_polys};
 use poly_mixed::{Poly, ReduceFault};
 use std::alloc::{AllocError, Global};
-
-// The fault of a stage.
-fn stage_fault(fault: ReduceFault) -> WiredFault
-    ensures { result ≡ stage_fault_of fault }
-{
-    match fault {
-        ReduceFault::TooManyTerms { stage, terms } => WiredFault::TooManyTerms { stage, terms },
-        ReduceFault::OutOfMemory => WiredFault::OutOfMemory,
-    }
-}
-
-// The first point of a cycle.
-fn first_point(points: &[u32]) -> u32
-    requires { (a : ℕ) × (slice_get points.now 0 ≡ Some a) }
-    ensures { slice_get points.now 0 ≡ Some result }
-{
-    points[0]
-}
 
 // The polynomial of a feed.
 fn feed_poly<'a>(words: &'a [Poly], polys: &'a [Poly], feed: Feeder) -> &'a Poly
@@ -66,39 +43,30 @@ fn copied<F: Field>(
     Ok(copy)
 }
 
-/// The polynomial in its words of a top that only wires instances of blocks, or the first of these: instances that feed each
-/// other in a ring; a stage over the bound.
+/// The polynomial in its words of a top that only wires instances of blocks, or the first stage over the bound.
 ///
 /// The top has `count` input words. Each instance has the polynomial of its block in words, and a row of feeds, one for each of
-/// these words in their order. The instances are taken by rising level and number; the stages name them by their numbers
-/// from 1.
+/// these words in their order. The order has the instances by rising level and number, in which they are taken; the stages
+/// name them by their numbers from 1.
 pub fn wired_poly<F: Field>(
     alloc: Global,
     field: &F,
     count: usize,
     blocks: &[&Poly],
     rows: &[Vec<Feeder>],
+    order: &[u32],
     output: Feeder,
     bound: u32,
-) -> Result<Poly, WiredFault>
-    requires { IsWired (F.degree field.now) count (map (λ f. f.now.terms) blocks.now) (map (λ row. row.items) rows.now) output }
+) -> Result<Poly, ReduceFault>
+    requires wired { IsWired (F.degree field.now) count (map (λ f. f.now.terms) blocks.now) (map (λ row. row.items) rows.now) output }
+    requires order { IsLevelOrder (graph_of (map (λ row. row.items) rows.now)) order.now }
     ensures poly { IfOk result (λ q. IsWiredPoly (F.degree field.now) (F.product field.now) count (map (λ f. f.now.terms) blocks.now) (map (λ row. row.items) rows.now) bound output q.terms) }
-    ensures fault { IfErr result (IsWiredFault (F.degree field.now) (F.product field.now) count (map (λ f. f.now.terms) blocks.now) (map (λ row. row.items) rows.now) bound) }
+    ensures fault { IfErr result (IsStageFault (F.degree field.now) (F.product field.now) count (map (λ f. f.now.terms) blocks.now) (map (λ row. row.items) rows.now) bound) }
 {
     let words = word_polys(alloc, field, count)?;
-    let graph = feeding_graph(alloc, rows)?;
-    let order = match level_order(alloc, &graph) {
-        Ok(order) => order,
-        Err(CycleFault::Cycle { points }) => {
-            return Err(WiredFault::Ring {
-                instance: first_point(&points),
-            });
-        }
-        Err(CycleFault::OutOfMemory) => return Err(WiredFault::OutOfMemory),
-    };
-    let polys = match instance_polys(alloc, field, &words, blocks, rows, &order, bound) {
+    let polys = match instance_polys(alloc, field, &words, blocks, rows, order, bound) {
         Ok(polys) => polys,
-        Err(fault) => return Err(stage_fault(fault)),
+        Err(fault) => return Err(fault),
     };
     let poly = copied(alloc, field, &words, &polys, output)?;
     Ok(poly)

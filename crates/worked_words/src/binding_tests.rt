@@ -88,7 +88,7 @@ pub(crate) fn can_be_bound(words: &[WordText], feeds: &[FeedText]) -> bool
 }
 
 // How many nets the first word has that is not fed.
-fn width(words: &[WordText]) -> usize {
+pub(crate) fn width(words: &[WordText]) -> usize {
     for word in words {
         if word.role != Role::Fed {
             return word.nets.as_slice().len();
@@ -97,7 +97,7 @@ fn width(words: &[WordText]) -> usize {
     0
 }
 
-fn are_words(words: &[WordText], k: usize) -> bool
+pub(crate) fn are_words(words: &[WordText], k: usize) -> bool
     ensures { IsTrue result → AreWords k words.now }
 {
     if words.len() < 1 || words.len() > 9 {
@@ -152,7 +152,7 @@ fn are_feeds(words: &[WordText], k: usize, feeds: &[FeedText]) -> bool
     }
 }
 
-fn has_source(words: &[WordText], k: usize, source: Source) -> bool
+pub(crate) fn has_source(words: &[WordText], k: usize, source: Source) -> bool
     ensures { IsTrue result → IsSource k (map (λ word. word.role) words.now) source }
 {
     match source {

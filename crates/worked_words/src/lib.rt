@@ -1,4 +1,4 @@
-//! Tests alone: words and feeds bound to nets, and nets unrolled, worked by hand.
+//! Tests alone: words and feeds bound to nets, and nets unrolled, worked by hand and beside the plain program of jobs.
 //! They stand in a crate of their own, since a crate with tests is proved twice.
 #![tactic(auto)]
 
@@ -6,6 +6,8 @@
 mod binding_tests;
 #[cfg(test)]
 mod feed_tests;
+#[cfg(test)]
+mod job_tests;
 #[cfg(test)]
 mod rank_tests;
 #[cfg(test)]

@@ -9,10 +9,9 @@ use Rattle.poly_mixed.specs.Steps.{Step}
 use Rattle.poly_mixed.specs.declared.steps.Generator.{Generator}
 use Rattle.cert_check.specs.Certificate.{Certificate, with_shared, with_pair}
 use Rattle.cert_check.specs.declared.cert_pairs.Entry.{Entry}
-use Rattle.cert_check.specs.Running.{dual_words, generator_value}
+use Rattle.cert_check.specs.Running.{dual_words}
 use Rattle.cert_check.specs.Verdict.{IsRunningSum, AsksAtMost}
 use Rattle.cert_check.specs.declared.fault.CertFault.{CertFault}
-use Rattle.cert_check.specs.declared.last.LastGenerator.{LastGenerator}
 use Rattle.cert_check.specs.declared.line.Multiplier.{Multiplier}
 use Rattle.cert_check.specs.declared.line.Multiplier.TheVariants as multiplier
 use Rattle.net_core.specs.NetList.{nets}
@@ -61,10 +60,6 @@ IsLineIn c (line.Share p) = Unit {0}
 abbrev pub IsGeneratorOf : ℕ → BoundNet → List Basis → Generator → Type 0
 IsGeneratorOf k bound bases (Net n) = n < nets bound.net
 IsGeneratorOf k bound bases (Bit w i) = (w < length (dual_words bound bases)) × (w < 8) × (i < k)
-
--- where a generator was the last, its polynomial is held
-abbrev pub IsLast : ℕ → (ℕ → ℕ → ℕ) → BoundNet → List Basis → LastGenerator → Type 0
-IsLast k mul bound bases last = (g : Generator) → last.generator ≡ Some g → IsPolynomialOf k mul (generator_value k mul bound bases g) last.terms.items
 
 -- a generator and a multiplier that there are
 abbrev pub IsLineOf : ℕ → BoundNet → List Basis → ℕ → Line → Type 0

@@ -1,5 +1,5 @@
 -- Sharing as the code finds it: multipliers are the same where their texts are. Source: this project's own.
-use Rattle.std.specs.Prelude.{length, ◌≡◌, ℕ, ◌+◌, ◌==◌, cond, codes, decimal, List, [], ◌∷◌, ◌++◌, nat_lt, Option, Some, None}
+use Rattle.std.specs.Prelude.{length, ◌≡◌, ℕ, ◌+◌, ◌==◌, cond, codes, decimal, List, [], ◌∷◌, ◌++◌, map, nat_lt, Option, Some, None}
 use Rattle.std.specs.List.{AllByRecursion}
 use Rattle.std.specs.Option.{option_map}
 use Rattle.std.specs.BTreeMap.{get}
@@ -36,6 +36,10 @@ mark_at marks q = get bytes_cmp marks.map q
 abbrev pub seen_again : Option Mark → Mark
 seen_again None = Once
 seen_again (Some mark) = Often
+
+-- the texts of the multipliers of pairs
+abbrev pub texts : Labelling → List Step → List (List ℕ)
+texts labels pairs = map (λ (s : Step). text labels s.1) pairs
 
 -- how many of the pairs have a multiplier with this text
 abbrev pub text_uses : Labelling → List Step → List ℕ → ℕ

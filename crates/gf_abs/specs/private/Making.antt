@@ -40,16 +40,6 @@ IsRingNet Adder k modulus signature net = ⊥
 IsRingNet Squarer k modulus signature net = net ≡ made_squarer k modulus signature.words
 IsRingNet Digit k modulus signature net = ⊥
 
--- the kind has no feeds
-abbrev pub IsUnfed : Kind → Type 0
-IsUnfed Mastrovito = Unit {0}
-IsUnfed Montgomery = Unit {0}
-IsUnfed Composite = Unit {0}
-IsUnfed Normal = Unit {0}
-IsUnfed Adder = Unit {0}
-IsUnfed Squarer = Unit {0}
-IsUnfed Digit = ⊥
-
 -- the first word is in the normal basis of this element
 abbrev pub FirstIsNormal : List WordText → ℕ → Type 0
 FirstIsNormal [] gamma = ⊥

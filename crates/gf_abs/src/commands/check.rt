@@ -158,8 +158,8 @@ fn print_words<F: Field>(
     Ok(Printed { bits, line })
 }
 
-// A copy of a polynomial.
-fn copied<F: Field>(alloc: Global, field: &F, poly: &Poly) -> Result<Poly, AllocError>
+/// A copy of a polynomial.
+pub(crate) fn copied<F: Field>(alloc: Global, field: &F, poly: &Poly) -> Result<Poly, AllocError>
     requires { IsReduced (F.degree field.now) poly.now.terms }
     ensures { IfOk result (λ copy. copy.terms ≡ poly.now.terms) }
 {
@@ -205,8 +205,8 @@ fn beside<F: Field>(
     }
 }
 
-// The verdict on the output and the specification, or the first stage of the specification of more than `bound` terms.
-fn verdict<F: Field>(
+/// The verdict on the output and the specification, or the first stage of the specification of more than `bound` terms.
+pub(crate) fn verdict<F: Field>(
     alloc: Global,
     field: &F,
     setting: &Setting,

@@ -1,5 +1,5 @@
 //! The command `make`: a netlist of a kind that is made for a signature.
-ghost use Rattle.std.specs.Prelude.{◌≡◌, ◌≢◌, ◌↔◌, ℕ, ◌<◌, ◌^◌, [], All, IfNone, IfOk, IfSome, IsErrOf, IsTrue, OnOk};
+ghost use Rattle.std.specs.Prelude.{◌≡◌, ℕ, ◌<◌, ◌^◌, [], IfNone, IfOk, IfSome, IsErrOf, OnOk};
 ghost use Rattle.gf_basis.specs.BasisFault.{conjugates_of};
 ghost use Rattle.gf_basis.specs.BasisParts.{IsBasisOver, elements_of};
 ghost use Rattle.irreducible.specs.Span.{IsIndependent};
@@ -10,11 +10,11 @@ ghost use Rattle.irreducible.specs.Proved.{ring_of};
 ghost use Rattle.job_input.specs.Setting.{IsReady, setting_value};
 ghost use Rattle.job_words.specs.Stop.{GivesBy};
 ghost use Rattle.job_words.specs.declared.kind.Kind.TheVariants.{Adder, Composite, Digit, Normal};
-ghost use Rattle.net_make.specs.Form.{AllWide};
+ghost use Rattle.mult_gen.specs.Form.{AreWide};
 ghost use Rattle.net_write.specs.Plain.{HasPlainNames};
 ghost use Rattle.gf_abs.specs.Reply.{reply_of};
 ghost use Rattle.gf_abs.specs.commands.Make.{MadeOf, MakeAnswer};
-ghost use Rattle.gf_abs.specs.private.Making.{FirstIsNormal, HasRingForm, IsOfRing, IsRingNet, IsUnfed};
+ghost use Rattle.gf_abs.specs.private.Making.{FirstIsNormal, HasRingForm, IsOfRing, IsRingNet};
 
 use crate::named_fields::{base_field, tower_field};
 use crate::output::Output;
@@ -31,7 +31,7 @@ use mult_montgomery::montgomery;
 use mult_normal::normal_serial;
 use net_core::Net;
 use net_signature::Signature;
-use net_words::{BasisText, Role, WordText};
+use net_words::{BasisText, WordText};
 use net_write::write_blif;
 use std::alloc::Global;
 
@@ -60,31 +60,6 @@ fn made<F: Field>(alloc: Global, field: &F, setting: &Setting, kind: Kind) -> Re
     ensures gives { GivesBy (λ net. net) result (MadeOf (setting_value (F.degree field.now) (F.product field.now) setting.now) kind) ⊥ ⊥ }
     ensures plain { IfOk result (λ net. HasPlainNames net) }
 {
-    if let Kind::Digit = kind {
-        return in_digits(alloc, field, setting);
-    }
-    if all_unfed(setting.signature.words()) {
-        unfed(alloc, field, setting, kind)
-    } else {
-        Err(Stop::Refused(Fault::Form(kind)))
-    }
-}
-
-// Whether no word is fed.
-fn all_unfed(words: &[WordText]) -> bool
-    ensures { IsTrue result ↔ All (λ word. word.role ≢ Role.Fed) words.now }
-{
-    words.iter().all(|word| word.role != Role::Fed)
-}
-
-// The net of a kind without feeds, where no word is fed.
-fn unfed<F: Field>(alloc: Global, field: &F, setting: &Setting, kind: Kind) -> Result<Net, Stop>
-    requires ready { IsReady (F.degree field.now) (F.product field.now) setting.now }
-    requires wide { AllWide (F.degree field.now) setting.now.signature.words }
-    requires unfed { IsUnfed kind }
-    ensures gives { GivesBy (λ net. net) result (MadeOf (setting_value (F.degree field.now) (F.product field.now) setting.now) kind) ⊥ ⊥ }
-    ensures plain { IfOk result (λ net. HasPlainNames net) }
-{
     match kind {
         Kind::Mastrovito | Kind::Montgomery | Kind::Squarer => {
             over_base(alloc, field, setting, kind)
@@ -92,13 +67,13 @@ fn unfed<F: Field>(alloc: Global, field: &F, setting: &Setting, kind: Kind) -> R
         Kind::Composite => over_tower(alloc, field, setting),
         Kind::Normal => in_normal_basis(alloc, field, setting),
         Kind::Adder => in_any_basis(alloc, field, setting),
-        Kind::Digit => Err(Stop::Refused(Fault::Form(kind))),
+        Kind::Digit => in_digits(alloc, field, setting),
     }
 }
 
 // The net of a kind that asks for a field without a tower.
 fn over_base<F: Field>(alloc: Global, field: &F, setting: &Setting, kind: Kind) -> Result<Net, Stop>
-    requires wide { AllWide (F.degree field.now) setting.now.signature.words }
+    requires wide { AreWide (F.degree field.now) setting.now.signature.words }
     requires base { IsOfRing kind }
     ensures gives { GivesBy (λ net. net) result (MadeOf (setting_value (F.degree field.now) (F.product field.now) setting.now) kind) ⊥ ⊥ }
     ensures plain { IfOk result (λ net. HasPlainNames net) }
@@ -117,7 +92,7 @@ fn beside_ring<F: Field>(
     setting: &Setting,
     kind: Kind,
 ) -> Result<Net, Stop>
-    requires wide { AllWide (F.degree field.now) setting.now.signature.words }
+    requires wide { AreWide (F.degree field.now) setting.now.signature.words }
     requires base { IsOfRing kind }
     requires modulus { modulus_of (ring_of ring.now) ≡ setting.now.signature.modulus }
     requires no_tower { setting.now.signature.tower ≡ [] }
@@ -143,7 +118,7 @@ fn over_ring(
 ) -> Result<Net, MakeFault>
     requires base { IsOfRing kind }
     requires modulus { modulus_of (ring_of ring.now) ≡ signature.now.modulus }
-    requires wide { AllWide (degree_of (ring_of ring.now)) signature.now.words }
+    requires wide { AreWide (degree_of (ring_of ring.now)) signature.now.words }
     ensures made { IfOk result (λ net. IsRingNet kind (degree_of (ring_of ring.now)) (modulus_of (ring_of ring.now)) signature.now net) }
     ensures plain { IfOk result (λ net. HasPlainNames net) }
     ensures form { OnOk result (HasRingForm kind signature.now) }
@@ -159,7 +134,7 @@ fn over_ring(
 
 // A multiplier in a tower of one step.
 fn over_tower<F: Field>(alloc: Global, field: &F, setting: &Setting) -> Result<Net, Stop>
-    requires wide { AllWide (F.degree field.now) setting.now.signature.words }
+    requires wide { AreWide (F.degree field.now) setting.now.signature.words }
     ensures gives { GivesBy (λ net. net) result (MadeOf (setting_value (F.degree field.now) (F.product field.now) setting.now) Composite) ⊥ ⊥ }
     ensures plain { IfOk result (λ net. HasPlainNames net) }
 {
@@ -176,7 +151,7 @@ fn beside_tower<F: Field>(
     tower: &Proved<Tower<Proved<Ring2k>>>,
     setting: &Setting,
 ) -> Result<Net, Stop>
-    requires wide { AllWide (F.degree field.now) setting.now.signature.words }
+    requires wide { AreWide (F.degree field.now) setting.now.signature.words }
     requires modulus { modulus_of (ring_of (base_of (ring_of tower.now))) ≡ setting.now.signature.modulus }
     requires tower { coefficients_of (ring_of tower.now) ≡ setting.now.signature.tower }
     requires one_step { setting.now.signature.upper ≡ [] }
@@ -196,7 +171,7 @@ fn beside_tower<F: Field>(
 // A multiplier in a normal basis.
 fn in_normal_basis<F: Field>(alloc: Global, field: &F, setting: &Setting) -> Result<Net, Stop>
     requires ready { IsReady (F.degree field.now) (F.product field.now) setting.now }
-    requires wide { AllWide (F.degree field.now) setting.now.signature.words }
+    requires wide { AreWide (F.degree field.now) setting.now.signature.words }
     ensures gives { GivesBy (λ net. net) result (MadeOf (setting_value (F.degree field.now) (F.product field.now) setting.now) Normal) ⊥ ⊥ }
     ensures plain { IfOk result (λ net. HasPlainNames net) }
 {
@@ -236,7 +211,7 @@ fn in_basis_of<F: Field>(
     gamma: u64,
 ) -> Result<Net, Stop>
     requires ready { IsReady (F.degree field.now) (F.product field.now) setting.now }
-    requires wide { AllWide (F.degree field.now) setting.now.signature.words }
+    requires wide { AreWide (F.degree field.now) setting.now.signature.words }
     requires first { FirstIsNormal setting.now.signature.words gamma }
     ensures gives { GivesBy (λ net. net) result (MadeOf (setting_value (F.degree field.now) (F.product field.now) setting.now) Normal) ⊥ ⊥ }
     ensures plain { IfOk result (λ net. HasPlainNames net) }
@@ -256,7 +231,7 @@ fn beside_basis<F: Field>(
     basis: &Basis,
 ) -> Result<Net, Stop>
     requires ready { IsReady (F.degree field.now) (F.product field.now) setting.now }
-    requires wide { AllWide (F.degree field.now) setting.now.signature.words }
+    requires wide { AreWide (F.degree field.now) setting.now.signature.words }
     requires first { FirstIsNormal setting.now.signature.words _gamma }
     requires over { IsBasisOver (F.degree field.now) (F.product field.now) basis.now }
     requires small { _gamma < 2 ^ F.degree field.now }
@@ -265,15 +240,16 @@ fn beside_basis<F: Field>(
     ensures gives { GivesBy (λ net. net) result (MadeOf (setting_value (F.degree field.now) (F.product field.now) setting.now) Normal) ⊥ ⊥ }
     ensures plain { IfOk result (λ net. HasPlainNames net) }
 {
-    match normal_serial(alloc, field, basis, &setting.signature)? {
-        Some(net) => Ok(net),
-        None => Err(Stop::Refused(Fault::Form(Kind::Normal))),
+    match normal_serial(alloc, field, basis, &setting.signature) {
+        Ok(net) => Ok(net),
+        Err(MakeFault::Unfit) => Err(Stop::Refused(Fault::Form(Kind::Normal))),
+        Err(MakeFault::OutOfMemory) => Err(Stop::OutOfMemory),
     }
 }
 
 // An adder.
 fn in_any_basis<F: Field>(alloc: Global, field: &F, setting: &Setting) -> Result<Net, Stop>
-    requires wide { AllWide (F.degree field.now) setting.now.signature.words }
+    requires wide { AreWide (F.degree field.now) setting.now.signature.words }
     ensures gives { GivesBy (λ net. net) result (MadeOf (setting_value (F.degree field.now) (F.product field.now) setting.now) Adder) ⊥ ⊥ }
     ensures plain { IfOk result (λ net. HasPlainNames net) }
 {
@@ -312,8 +288,9 @@ fn beside_digits<F: Field>(
     if ring.k() != field.k() {
         return Err(Stop::Refused(Fault::Form(Kind::Digit)));
     }
-    match digit_serial(alloc, ring, &setting.signature)? {
-        Some(net) => Ok(net),
-        None => Err(Stop::Refused(Fault::Form(Kind::Digit))),
+    match digit_serial(alloc, ring, &setting.signature) {
+        Ok(net) => Ok(net),
+        Err(MakeFault::Unfit) => Err(Stop::Refused(Fault::Form(Kind::Digit))),
+        Err(MakeFault::OutOfMemory) => Err(Stop::OutOfMemory),
     }
 }

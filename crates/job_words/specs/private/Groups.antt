@@ -1,6 +1,6 @@
 -- Groups of commands, each of which is read by a function of its own: for the clauses of private functions.
 -- Source: this project's own.
-use Rattle.job_words.specs.Command.{Action, Bits, Abstract, Check, Same, Eval, Iso, Lift, Table, Certify, Verify, Upgrade, Make, Job, Over}
+use Rattle.job_words.specs.Command.{Action, Bits, Abstract, Check, Same, Eval, Iso, Lift, Table, Certify, Verify, Upgrade, Make, Job, Over, Trial}
 
 -- a command of tables or isomorphisms
 abbrev pub IsTableAction : Action → Type 0
@@ -19,6 +19,7 @@ IsTableAction (Make kind) = ⊥
 
 abbrev pub IsOfTables : Job → Type 0
 IsOfTables (Over signature action) = IsTableAction action
+IsOfTables (Trial number modulus terms) = ⊥
 
 -- a command of certificates, or of tables or isomorphisms
 abbrev pub IsLaterAction : Action → Type 0
@@ -37,3 +38,9 @@ IsLaterAction (Make kind) = ⊥
 
 abbrev pub IsLater : Job → Type 0
 IsLater (Over signature action) = IsLaterAction action
+IsLater (Trial number modulus terms) = ⊥
+
+-- any command over a signature
+abbrev pub IsOverSignature : Job → Type 0
+IsOverSignature (Over signature action) = Unit {0}
+IsOverSignature (Trial number modulus terms) = ⊥

@@ -1,15 +1,11 @@
 -- Names that make one net: words of this crate's code. Source: this project's own.
-use Rattle.std.specs.Prelude.{◌≡◌, ℕ, ◌<◌, ◌≤◌, nat_lt, Bool, true, false, List, take, length, Option, None, Some, if◌then◌else◌}
+use Rattle.std.specs.Prelude.{◌≡◌, ℕ, ◌<◌, ◌≤◌, Bool, true, false, List, take, length, Option, None, Some}
 use Rattle.net_verilog.specs.Declarations.{Declarations, Range, bit_name, range_of}
 use Rattle.verilog_reader.specs.Declares.{HasShortNames, Meets}
 
 abbrev pub is_scalar : Option Range → Bool
 is_scalar (Some None) = true
 is_scalar range = false
-
--- None where the name of a bit is too long, else whether it is that of a declared scalar
-abbrev pub bit_state : Declarations → List ℕ → ℕ → Option Bool
-bit_state declared name i = if nat_lt 255 (length (bit_name name i)) then None else Some (is_scalar (range_of declared (bit_name name i)))
 
 -- a bit of these indexes has the name of a declared scalar
 abbrev pub HasScalar : Declarations → List ℕ → ℕ → ℕ → Type 0
@@ -24,6 +20,14 @@ abbrev pub IsFound : Declarations → List ℕ → ℕ → ℕ → Option Bool �
 IsFound declared name low end None = ¬ AreShort name low end
 IsFound declared name low end (Some true) = AreShort name low end × HasScalar declared name low end
 IsFound declared name low end (Some false) = AreShort name low end × ¬ HasScalar declared name low end
+
+-- if a name is that of a bit, its `[` is at this place
+abbrev pub IsCutOf : List ℕ → ℕ → Type 0
+IsCutOf name cut = (before : List ℕ) (i : ℕ) → name ≡ bit_name before i → length before ≡ cut
+
+-- a name is that of no bit
+abbrev pub IsNoBit : List ℕ → Type 0
+IsNoBit name = (before : List ℕ) (i : ℕ) → name ≡ bit_name before i → ⊥
 
 -- a name is that of a bit of the declared vector before a place in it
 abbrev pub IsBitAt : Declarations → List ℕ → ℕ → Type 0

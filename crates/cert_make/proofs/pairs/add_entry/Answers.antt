@@ -16,14 +16,14 @@ returns-clause-lines c = λ k pairs shares is has.
     let labels : Labelling = c.args.labels.now in
     let before : Sharing = c.args.sharing.now in
     let s : Step = pair_of c.args.entry.now in
-    let told : c.new.result ≡ text labels s.1 = c.new.ensures ∙ c.in_ok-text.ensures ∙ ap (text labels) c.as_slice.ensures.value in
+    let told : c.args.told.now ≡ text labels s.1 = c.requires.told in
     let generator : List ℕ = text_of_generator labels s.0 in
     let written : List ℕ = multiplier_text labels pairs (shares_with pairs shares s.1) s.1 in
-    let known = mark_at before.marks c.new.result in
-    let lets : lets_by known before.count c.new.result ≡ let_lines labels pairs shares s.1 = ap (λ t. lets_by (mark_at before.marks t) before.count t) told ∙ pair_lets labels k pairs shares before is s has in
-    let stands : c.as_slice-2.result.now ≡ written = c.as_slice-2.ensures.value ∙ c.in_ok-multiplier.ensures.written ∙ ap (λ t. written_by (mark_at before.marks t) before.count t) told ∙ pair_written labels k pairs shares before is s has in
-    on_ok c.add_pair.result (c.add_pair.new.out.items ≡ c.multiplier.new.out.items ++ text_of_lines (line_of generator c.as_slice-2.result.now ∷ [])) (c.add_pair.new.out.items ≡ c.args.out.now.items ++ text_of_lines (lines_at labels pairs shares s))
-    (λ adds. lines_then c.args.out.now.items c.multiplier.new.out.items c.add_pair.new.out.items (lets_by known before.count c.new.result) (line_of generator c.as_slice-2.result.now) (let_lines labels pairs shares s.1) (line_of generator written) lets (ap (line_of generator) stands) c.in_ok-multiplier.ensures.lines adds)
+    let known = mark_at before.marks c.args.told.now in
+    let lets : lets_by known before.count c.args.told.now ≡ let_lines labels pairs shares s.1 = ap (λ t. lets_by (mark_at before.marks t) before.count t) told ∙ pair_lets labels k pairs shares before is s has in
+    let stands : c.as_slice.result.now ≡ written = c.as_slice.ensures.value ∙ c.in_ok-multiplier.ensures.written ∙ ap (λ t. written_by (mark_at before.marks t) before.count t) told ∙ pair_written labels k pairs shares before is s has in
+    on_ok c.add_pair.result (c.add_pair.new.out.items ≡ c.multiplier.new.out.items ++ text_of_lines (line_of generator c.as_slice.result.now ∷ [])) (c.add_pair.new.out.items ≡ c.args.out.now.items ++ text_of_lines (lines_at labels pairs shares s))
+    (λ adds. lines_then c.args.out.now.items c.multiplier.new.out.items c.add_pair.new.out.items (lets_by known before.count c.args.told.now) (line_of generator c.as_slice.result.now) (let_lines labels pairs shares s.1) (line_of generator written) lets (ap (line_of generator) stands) c.in_ok-multiplier.ensures.lines adds)
     c.add_pair.ensures
 
 pub returns-clause-sharing : goal.returns-clause-sharing
@@ -31,7 +31,7 @@ returns-clause-sharing c = λ k pairs shares is has.
     let labels : Labelling = c.args.labels.now in
     let before : Sharing = c.args.sharing.now in
     let s : Step = pair_of c.args.entry.now in
-    let told : c.new.result ≡ text labels s.1 = c.new.ensures ∙ c.in_ok-text.ensures ∙ ap (text labels) c.as_slice.ensures.value in
+    let told : c.args.told.now ≡ text labels s.1 = c.requires.told in
     let after : Sharing = c.multiplier.new.self in
     let C : List ℕ → Type 0 = λ t. after.count ≡ count_by (mark_at before.marks t) before.count in
     let M : List ℕ → Type 0 = λ t. (q : List ℕ) → mark_at after.marks q ≡ mark_by (mark_at before.marks t) before.count t q (mark_at before.marks q) in

@@ -2,7 +2,7 @@ use Rattle.std.proofs.Common.{◌∙◌, sym, inl, inr, refl}
 use Rattle.std.proofs.lemmas.List.{length-map}
 use Rattle.gf_basis.specs.BasisParts.{elements_of}
 use Rattle.job_input.specs.Setting.{elements_of_each}
-use Rattle.job_input.proofs.SettingWords.{bases_words, bases_long}
+use Rattle.job_input.proofs.SettingWords.{bases_words, bases_long, block_binds}
 use Rattle.job_input.proofs.setting.setting_over.Goals as goal
 
 pub returns-in-Ok-judge_feeds-clause-ready : goal.returns-in-Ok-judge_feeds-clause-ready
@@ -19,6 +19,7 @@ returns-in-Ok-judge_feeds-clause-ready g c =
       words = bases_words k product ring.some ring.small words (elements_of_each bases) c.requires.said.output c.requires.said.others are;
       names = c.requires.said.names;
       feeds = c.requires.said.feeds k (rw (c.k.ensures, c.feeds.ensures) at c.in-Ok-judge_feeds.ensures);
+      blocks = λ block has. block_binds k product ring.some ring.small c.args.signature.blocks (rw c.blocks-2.ensures at c.in-Ok-judge_blocks.ensures) c.requires.said.blocks block has;
     }
 
 pub returns-in-Err-judge_feeds-clause-gives : goal.returns-in-Err-judge_feeds-clause-gives

@@ -1,27 +1,38 @@
-use Rattle.std.proofs.Common.{◌∙◌, ap, refl, sym, subst}
-use Rattle.std.specs.Prelude.{is_some}
+use Rattle.std.proofs.Common.{◌∙◌, ap, sym, subst, List}
 use Rattle.net_core.specs.NetList.{NetList}
+use Rattle.net_words.specs.declared.word.WordText.{WordText}
 use Rattle.net_write.specs.Plain.{HasPlainNames}
 use Rattle.gf_basis.specs.BasisParts.{elements_of}
 use Rattle.net_make.specs.Computes.{ComputesOfTwo}
+use Rattle.net_make.specs.Form.{AllWide}
+use Rattle.mult_gen.proofs.FormLemmas.{states_wide}
 use Rattle.mult_normal.specs.NormalForm.{HasNormalForm}
 use Rattle.mult_normal.specs.NormalNet.{normal_net}
 use Rattle.mult_normal.proofs.FormLemmas.{plain, computes_form}
 use Rattle.mult_normal.proofs.maker.normal_serial.Goals as goal
 
-pub returns-in_ok-net-in-Some-clause-form : goal.returns-in_ok-net-in-Some-clause-form
-returns-in_ok-net-in-Some-clause-form g c = (λ e. c.in_ok-maker.ensures.form.0 (ap is_some c.in-Some.is), λ form. refl)
+pub made-requires-clause-bits : goal.made-requires-clause-bits
+made-requires-clause-bits g c =
+    let k = g.F.Ring.degree c.args.field.now in
+    let P : List WordText → Type 0 = λ words. AllWide k words in
+    subst P (sym c.words.ensures) (states_wide k 2 c.args.signature.now.words c.in-Ok.ensures.form.words c.requires.wide)
 
-pub returns-in_ok-net-in-Some-clause-names : goal.returns-in_ok-net-in-Some-clause-names
-returns-in_ok-net-in-Some-clause-names g c =
-    let form : HasNormalForm c.args.signature.now = c.in_ok-maker.ensures.form.0 (ap is_some c.in-Some.is) in
+pub returns-clause-plain : goal.returns-clause-plain
+returns-clause-plain g c =
+    let k = g.F.Ring.degree c.args.field.now in
+    let mul = g.F.Ring.product c.args.field.now in
+    let signature = c.args.signature.now in
+    let form : HasNormalForm signature = c.in-Ok.ensures.form in
     let P : NetList → Type 0 = λ net. HasPlainNames net in
-    subst P (sym (c.in_ok-net-in-Some.ensures ∙ ap (normal_net (g.F.Ring.degree c.args.field.now) (g.F.Ring.product c.args.field.now) c.args.basis.now) c.words.ensures))
-    (plain (g.F.Ring.degree c.args.field.now) (g.F.Ring.product c.args.field.now) (g.met.F.Ring.laws c.args.field.now) (g.met.F.Field.no_zero_divisors c.args.field.now) c.args.basis.now c.requires.over c.args.signature.now form c.requires.bits)
+    subst P (sym (c.in_ok-net.ensures ∙ ap (normal_net k mul c.args.basis.now) c.words.ensures))
+    (plain k mul (g.met.F.Ring.laws c.args.field.now) (g.met.F.Field.no_zero_divisors c.args.field.now) c.args.basis.now c.requires.over signature form (states_wide k 2 signature.words form.words c.requires.wide))
 
-pub returns-in_ok-net-in-Some-clause-product : goal.returns-in_ok-net-in-Some-clause-product
-returns-in_ok-net-in-Some-clause-product g c =
-    let form : HasNormalForm c.args.signature.now = c.in_ok-maker.ensures.form.0 (ap is_some c.in-Some.is) in
-    let P : NetList → Type 0 = λ net. ComputesOfTwo (g.F.Ring.degree c.args.field.now) (g.F.Ring.product c.args.field.now) net c.args.signature.now.words (elements_of c.args.basis.now) (g.F.Ring.degree c.args.field.now) (g.F.Ring.product c.args.field.now) in
-    subst P (sym (c.in_ok-net-in-Some.ensures ∙ ap (normal_net (g.F.Ring.degree c.args.field.now) (g.F.Ring.product c.args.field.now) c.args.basis.now) c.words.ensures))
-    (computes_form (g.F.Ring.degree c.args.field.now) (g.F.Ring.product c.args.field.now) (g.met.F.Ring.laws c.args.field.now) (g.met.F.Field.no_zero_divisors c.args.field.now) c.args.basis.now c.requires.over c.args.signature.now form c.requires.bits (c.requires.basis form))
+pub returns-clause-computes : goal.returns-clause-computes
+returns-clause-computes g c =
+    let k = g.F.Ring.degree c.args.field.now in
+    let mul = g.F.Ring.product c.args.field.now in
+    let signature = c.args.signature.now in
+    let form : HasNormalForm signature = c.in-Ok.ensures.form in
+    let P : NetList → Type 0 = λ net. ComputesOfTwo k mul net signature.words (elements_of c.args.basis.now) k mul in
+    subst P (sym (c.in_ok-net.ensures ∙ ap (normal_net k mul c.args.basis.now) c.words.ensures))
+    (computes_form k mul (g.met.F.Ring.laws c.args.field.now) (g.met.F.Field.no_zero_divisors c.args.field.now) c.args.basis.now c.requires.over signature form (states_wide k 2 signature.words form.words c.requires.wide) (c.requires.basis form))

@@ -1,5 +1,8 @@
+use Rattle.mult_gen.proofs.FormLemmas.{states_wide}
 use Rattle.mult_normal.proofs.WordLemmas.{outer_few}
 use Rattle.mult_normal.proofs.maker.outer_for.Goals as goal
 
 pub outer_nets-requires : goal.outer_nets-requires
-outer_nets-requires c = outer_few c.args.k c.args.signature.now.words (c.has_form.ensures.0 c.if-not-has_form.false).2 c.requires.bits c.requires.few c.words.result.now c.words.ensures
+outer_nets-requires c =
+    let has = (c.has_form.ensures.0 c.if-not-has_form.false).2 in
+    outer_few c.args.k c.args.signature.now.words has (states_wide c.args.k 2 c.args.signature.now.words has c.requires.wide) c.requires.few c.words.result.now c.words.ensures

@@ -12,7 +12,7 @@ pub loop-key-preserved : goal.loop-key-preserved
 loop-key-preserved c =
     let e : CutKey × ℕ = (c.in-Some.key, c.in-Some.c) in
     let before = c.loop-key.entries.entries in
-    let after = c.pop_up_to.new.entries.entries in
+    let after = c.pop_up_to.new.self.entries in
     let are : before ≡ after ++ e ∷ [] = c.in-Some.ensures.some in
     record {
       taken = take_step c.args.rank _ before after c.loop-key.part.items c.loop-key.others.items c.sort_out.new.part.items c.sort_out.new.others.items e c.loop-key.invariant.taken are c.in_ok-sort_out.ensures.part c.in_ok-sort_out.ensures.others;
@@ -22,7 +22,7 @@ loop-key-preserved c =
 pub returns-in_err-sort_out-clause-entries : goal.returns-in_err-sort_out-clause-entries
 returns-in_err-sort_out-clause-entries c places held =
     let e : CutKey × ℕ = (c.in-Some.key, c.in-Some.c) in
-    let after = c.pop_up_to.new.entries.entries in
+    let after = c.pop_up_to.new.self.entries in
     let are : c.loop-key.entries.entries ≡ after ++ e ∷ [] = c.in-Some.ensures.some in
     let P : List (CutKey × ℕ) → Type 0 = AreBitEntries places in
     bit_entries_rest places e after (subst P are (c.loop-key.invariant.entries places held))

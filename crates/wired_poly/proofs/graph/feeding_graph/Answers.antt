@@ -1,4 +1,4 @@
-use Rattle.std.proofs.Common.{◌≡◌, ◌∙◌, ap, length, map}
+use Rattle.std.proofs.Common.{◌∙◌, ap, length, map}
 use Rattle.graph_core.proofs.ListLemmas.{got_read}
 use Rattle.block_feeds.specs.Wiring.{instances_among}
 use Rattle.wired_poly.proofs.WiredLemmas.{graph_more, mapped_at}

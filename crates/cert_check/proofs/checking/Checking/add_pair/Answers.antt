@@ -1,7 +1,11 @@
-use Rattle.std.proofs.Common.{◌≡◌, ◌∙◌, ap, sym, subst, ℕ, List, length}
+use Rattle.std.proofs.Common.{◌≡◌, ◌∙◌, ◌<◌, ◌≤◌, ap, sym, subst, ℕ, List, length, OnOk}
+use Rattle.std.specs.Prelude.{IfErr}
 use Rattle.std.proofs.lemmas.List.{length-map}
 use Rattle.poly_mixed.specs.Polynomial.{Polynomial, Terms, IsReduced}
-use Rattle.cert_check.specs.private.Kept.{terms_of, IsNumbered}
+use Rattle.cert_check.specs.Certificate.{with_pair}
+use Rattle.cert_check.specs.declared.fault.CertFault.TheVariants.{TooManyTerms}
+use Rattle.cert_check.specs.private.Held.{whole}
+use Rattle.cert_check.specs.private.Kept.{terms_of, IsKept, IsNumbered}
 use Rattle.cert_check.specs.private.Reading.{multiplier_in, IsMultiplier}
 use Rattle.cert_check.proofs.CheckLemmas.{pair_asks, pair_kept, multiplier_reduced, numbered}
 use Rattle.cert_check.proofs.checking.Checking.add_pair.Goals as goal
@@ -24,16 +28,31 @@ add_product-requires-clause-multiplier g c =
 
 pub returns-clause-asks : goal.returns-clause-asks
 returns-clause-asks g c d kept =
+    let k : ℕ = g.F.Ring.degree c.args.field.now in
     let shared = c.args.self.now.shared.items in
     let m = c.args.multiplier.now in
+    let most : ℕ = c.args.bound in
+    let n : ℕ = c.args.number in
+    let new : Terms = whole k c.add_product.new.sum in
     let terms : c.among-factor.result.now.terms ≡ multiplier_in (terms_of shared) m = c.among-factor.ensures ∙ ap (λ (xs : List Polynomial). multiplier_in (terms_of xs) m) c.as_slice.ensures.value in
-    pair_asks (g.F.Ring.degree c.args.field.now) (g.F.Ring.product c.args.field.now) c.args.circuit.now c.args.bases.now c.args.number c.args.bound d c.args.generator m c.among-factor.result.now.terms c.args.self.now.claim.terms (terms_of shared) c.args.self.now.sum.terms c.add_product.new.sum.terms c.check_size.result kept terms
-    c.in_ok-add_product.ensures.reduced c.in_ok-add_product.ensures.values c.check_size.ensures.within c.check_size.ensures.over
+    let same : whole c.k.result c.settle.new.self ≡ new = ap (λ j. whole j c.settle.new.self) c.k.ensures ∙ c.in_ok-settle.ensures.same in
+    let W : Terms → Type 0 = λ ts. OnOk c.check_sum.result (length ts ≤ most) in
+    let O : Terms → Type 0 = λ ts. IfErr c.check_sum.result (λ fault. (fault ≡ TooManyTerms n (length ts)) × (most < length ts)) in
+    pair_asks k (g.F.Ring.product c.args.field.now) c.args.circuit.now c.args.bases.now n most d c.args.generator m c.among-factor.result.now.terms c.args.self.now.claim.terms (terms_of shared) (whole k c.args.self.now.sum) new c.check_sum.result kept terms
+    c.in_ok-add_product.ensures.reduced c.in_ok-add_product.ensures.values (subst W same c.check_sum.ensures.within) (subst O same c.check_sum.ensures.over)
 
 pub returns-clause-kept : goal.returns-clause-kept
 returns-clause-kept g c d kept =
+    let k : ℕ = g.F.Ring.degree c.args.field.now in
+    let mul : ℕ → ℕ → ℕ = g.F.Ring.product c.args.field.now in
     let shared = c.args.self.now.shared.items in
     let m = c.args.multiplier.now in
+    let most : ℕ = c.args.bound in
+    let new : Terms = whole k c.add_product.new.sum in
     let terms : c.among-factor.result.now.terms ≡ multiplier_in (terms_of shared) m = c.among-factor.ensures ∙ ap (λ (xs : List Polynomial). multiplier_in (terms_of xs) m) c.as_slice.ensures.value in
-    pair_kept (g.F.Ring.degree c.args.field.now) (g.F.Ring.product c.args.field.now) c.args.circuit.now c.args.bases.now c.args.bound d c.args.generator m c.among-factor.result.now.terms c.args.self.now.claim.terms (terms_of shared) c.args.self.now.sum.terms c.add_product.new.sum.terms c.check_size.result kept terms
-    c.in_ok-add_product.ensures.reduced c.in_ok-add_product.ensures.values c.check_size.ensures.within
+    let same : whole c.k.result c.settle.new.self ≡ new = ap (λ j. whole j c.settle.new.self) c.k.ensures ∙ c.in_ok-settle.ensures.same in
+    let W : Terms → Type 0 = λ ts. OnOk c.check_sum.result (length ts ≤ most) in
+    let K : Terms → Type 0 = λ ts. OnOk c.check_sum.result (IsKept k mul c.args.circuit.now c.args.bases.now most (with_pair d c.args.generator (multiplier_in d.shared m)) c.args.self.now.claim.terms (terms_of shared) ts) in
+    subst K (sym c.in_ok-settle.ensures.same)
+    (pair_kept k mul c.args.circuit.now c.args.bases.now most d c.args.generator m c.among-factor.result.now.terms c.args.self.now.claim.terms (terms_of shared) (whole k c.args.self.now.sum) new c.check_sum.result kept terms
+    c.in_ok-add_product.ensures.reduced c.in_ok-add_product.ensures.values (subst W same c.check_sum.ensures.within))

@@ -26,7 +26,7 @@ use Rattle.gf_abs.specs.private.StageStop.{IsNamed, IsStageStop}
 use Rattle.gf_abs.proofs.RefusalLemmas.{earlier_refused, later_refused, cuts_named, words_named}
 use Rattle.gf_abs.proofs.StageLemmas.{IsJob, whole, based, few, no_words, terms_named}
 use Rattle.gf_abs.proofs.WordNamesLemmas.{mix_words_named}
-use Rattle.gf_abs.proofs.WordsLemmas.{as_many}
+use Rattle.job_input.proofs.CountLemmas.{as_many}
 use Rattle.gf_abs.proofs.commands.abstraction.reply.Goals as goal
 
 pub stage_stop-requires : goal.stage_stop-requires

@@ -4,7 +4,7 @@ use Rattle.gf_basis.specs.BasisParts.{elements_of}
 use Rattle.gf_basis.specs.declared.bases.Basis.{Basis}
 use Rattle.circuit_model.specs.OfBinding.{words_of}
 use Rattle.job_input.specs.Setting.{elements_of_each}
-use Rattle.gf_abs.proofs.WordsLemmas.{as_many}
+use Rattle.job_input.proofs.CountLemmas.{as_many}
 use Rattle.gf_abs.proofs.commands.eval.output_at.Goals as goal
 
 pub output_at-requires-clause-long : goal.output_at-requires-clause-long

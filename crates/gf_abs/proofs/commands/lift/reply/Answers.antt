@@ -2,7 +2,7 @@ use Rattle.std.proofs.Common.{◌∙◌, ap, subst, ℕ, ◌+◌, List, ◌++◌
 use Rattle.poly_mixed.specs.Labels.{Labelling, bit_count}
 use Rattle.poly_mixed.specs.Text.{text}
 use Rattle.lift_table.specs.TablePolynomial.{IsPolynomialOfTable}
-use Rattle.gf_abs.proofs.EqualLemmas.{all_named}
+use Rattle.gf_abs.proofs.PrintedLemmas.{all_named}
 use Rattle.gf_abs.proofs.commands.lift.reply.Goals as goal
 
 pub polynomial_line-requires-clause-named : goal.polynomial_line-requires-clause-named

@@ -1,0 +1,5 @@
+pub mod GivenLemmas
+pub mod BlockLemmas
+pub mod StageLemmas
+pub mod ComposeLemmas
+pub mod ReadyLemmas

@@ -1,0 +1,164 @@
+-- What comes of a top that only wires instances of blocks: the polynomial of its output in words, or the first refusal.
+-- Source: Pruss, Kalla, Enescu, DAC 2014; the refusals and their order are this project's own.
+use Rattle.std.specs.Prelude.{◌≡◌, ℕ, ◌+◌, List, Option, None, Some, Ok, Err, length, map, slice_get}
+use Rattle.text_core.specs.Outcome.{MayRefuse, Outcome, ◌>>=◌, Within}
+use Rattle.graph_core.specs.Cycle.{IsCycleOf}
+use Rattle.net_core.specs.Lists.{Has}
+use Rattle.net_core.specs.NetList.{NetList}
+use Rattle.net_words.specs.Bind.{BindingOf}
+use Rattle.net_words.specs.Binding.{AreWords, Binding}
+use Rattle.net_words.specs.declared.word.WordText.{WordText}
+use Rattle.net_signature.specs.Body.{BlockValue}
+use Rattle.net_signature.specs.Signature.{SignatureValue}
+use Rattle.net_blif.specs.Design.{ModelValue}
+use Rattle.net_blif.specs.Statement.{Token}
+use Rattle.net_flat.specs.Flat.{Flattens}
+use Rattle.gf_basis.specs.BasisParts.{elements_of, IsBasisOver}
+use Rattle.gf_basis.specs.declared.bases.Basis.{Basis}
+use Rattle.poly_mixed.specs.Polynomial.{Terms}
+use Rattle.poly_mixed.specs.declared.stage.Stage.{Stage}
+use Rattle.circuit_model.specs.Circuit.{Circuit}
+use Rattle.stage_model.specs.Listing.{Earlier, Later}
+use Rattle.stage_model.specs.OutputInWords.{IsOutputInWords}
+use Rattle.circuit_poly.specs.Stages.{joined}
+use Rattle.instance_order.specs.LevelOrder.{first_numbers}
+use Rattle.block_feeds.specs.Hierarchy.{Hierarchy}
+use Rattle.block_feeds.specs.Values.{IsTop}
+use Rattle.block_feeds.specs.Wiring.{feeding_graph, IsWithoutRing}
+use Rattle.block_feeds.specs.declared.feeder.Feeder.{Feeder}
+use Rattle.block_plan.specs.Plan.{UsesOf}
+use Rattle.block_plan.specs.Planned.{CanAllBind}
+use Rattle.block_plan.specs.declared.fault.PlanFault.{PlanFault}
+use Rattle.block_plan.specs.declared.fault.PlanFault.TheVariants as plans
+use Rattle.block_wiring.specs.Answer.{AreWired}
+use Rattle.block_wiring.specs.Refusal.{IsWiringFault}
+use Rattle.block_wiring.specs.declared.fault.WiringFault.{WiringFault}
+use Rattle.block_wiring.specs.declared.fault.WiringFault.TheVariants as wirings
+use Rattle.block_stages.specs.CompositionStages.{IsCompositionWithin, IsFirstOfComposition}
+use Rattle.block_compose.specs.declared.fault.ComposeFault.{ComposeFault}
+use Rattle.block_compose.specs.declared.fault.ComposeFault.TheVariants.{FedInTop, GateInTop, NoBlock, BlockNet, BlockLatch, BlockBind, NotWords, OutputNotWords, InstanceLoop, TooManyTerms, OutOfMemory}
+
+-- a design with the words and blocks of a signature, and with lists of bases by their elements
+abbrev pub hierarchy_of : List ModelValue → SignatureValue → List (List Basis) → Hierarchy
+hierarchy_of design signature bases = record { design = design; words = signature.words; blocks = signature.blocks; bases = map (map elements_of) bases }
+
+-- ---- what is given
+
+-- list n has one basis of the field for each of these words
+pub record HasBases (k : ℕ) (mul : ℕ → ℕ → ℕ) (bases : List (List Basis)) (n : ℕ) (words : List WordText) : Type 0 where
+  pub list : List Basis
+  pub at : slice_get bases n ≡ Some list
+  pub long : length list ≡ length words
+  pub each : (basis : Basis) → Has list basis → IsBasisOver k mul basis
+
+-- the flattened top binds to the signature; its words, and those of each block, can be bound, where each that is not fed has k nets and none
+-- of a block is fed; and all have their bases of this field
+pub record IsComposable (k : ℕ) (mul : ℕ → ℕ → ℕ) (design : List ModelValue) (signature : SignatureValue) (bases : List (List Basis)) : Type 0 where
+  pub net : NetList
+  pub flat : Flattens design 0 (Ok net)
+  pub binding : Binding
+  pub bound : BindingOf net signature.words signature.feeds (Ok binding)
+  pub words_are : AreWords k signature.words
+  pub blocks_are : CanAllBind k signature.blocks
+  pub top : HasBases k mul bases 0 signature.words
+  pub blocks : (number : ℕ) (block : BlockValue) → slice_get signature.blocks number ≡ Some block → HasBases k mul bases (number + 1) block.words
+
+-- ---- the steps
+
+-- a refusal of the blocks as one of the composition
+abbrev pub plan_fault : PlanFault → ComposeFault
+plan_fault plans.FedInTop = FedInTop
+plan_fault (plans.GateInTop line) = GateInTop line
+plan_fault (plans.NoBlock model) = NoBlock model
+plan_fault (plans.BlockNet model) = BlockNet model
+plan_fault (plans.BlockLatch model) = BlockLatch model
+plan_fault (plans.BlockBind model) = BlockBind model
+plan_fault plans.OutOfMemory = OutOfMemory
+
+-- what feeds each instance and the output word, or the first word that nothing fits
+abbrev pub WiringOf : Hierarchy → Outcome WiringFault (List (List Feeder) × Feeder)
+WiringOf h (Ok wiring) = AreWired h wiring.0 wiring.1
+WiringOf h (Err (wirings.NotWords instance word)) = IsWiringFault h (wirings.NotWords instance word)
+WiringOf h (Err wirings.OutputNotWords) = IsWiringFault h wirings.OutputNotWords
+WiringOf h (Err wirings.OutOfMemory) = ⊥
+
+-- a refusal of the wiring as one of the composition
+abbrev pub wiring_fault : WiringFault → ComposeFault
+wiring_fault (wirings.NotWords instance word) = NotWords instance word
+wiring_fault wirings.OutputNotWords = OutputNotWords
+wiring_fault wirings.OutOfMemory = OutOfMemory
+
+-- the ring that the walk over all instances finds begins with the instance of this number, from 1
+pub record IsRingThrough (rows : List (List Feeder)) (number : ℕ) : Type 0 where
+  pub cycle : List ℕ
+  pub is : IsCycleOf (feeding_graph rows) (first_numbers (length rows)) cycle
+  pub instance : ℕ
+  pub first : slice_get cycle 0 ≡ Some instance
+  pub number_is : number ≡ instance + 1
+
+-- no instances feed each other in a ring, or the first of a ring is refused
+abbrev pub HasNoRing : List (List Feeder) → Outcome ComposeFault (Unit {0})
+HasNoRing rows (Ok u) = IsWithoutRing rows
+HasNoRing rows (Err (InstanceLoop number)) = IsRingThrough rows number
+HasNoRing rows (Err FedInTop) = ⊥
+HasNoRing rows (Err (GateInTop line)) = ⊥
+HasNoRing rows (Err (NoBlock model)) = ⊥
+HasNoRing rows (Err (BlockNet model)) = ⊥
+HasNoRing rows (Err (BlockLatch model)) = ⊥
+HasNoRing rows (Err (BlockBind model)) = ⊥
+HasNoRing rows (Err (NotWords instance word)) = ⊥
+HasNoRing rows (Err OutputNotWords) = ⊥
+HasNoRing rows (Err (TooManyTerms block stage terms)) = ⊥
+HasNoRing rows (Err OutOfMemory) = ⊥
+
+module _ (k : ℕ) (mul : ℕ → ℕ → ℕ) (h : Hierarchy) (rows : List (List Feeder)) (bound : ℕ) where
+  -- these are the terms of the output of the flat top in its words, and no stage is over the bound
+  pub record IsComposed (ts : Terms) : Type 0 where
+    pub top : Circuit
+    pub top_is : IsTop k mul h top
+    pub output : IsOutputInWords top ts
+    pub within : IsCompositionWithin k mul h rows bound
+
+  -- the stage of the block of this model is the first over the bound
+  pub record IsBlockOver (model : Token) (stage : Stage) (terms : ℕ) : Type 0 where
+    pub number : ℕ
+    pub block : BlockValue
+    pub found : slice_get h.blocks number ≡ Some block
+    pub model_is : model ≡ block.model
+    pub over : IsFirstOfComposition k mul h rows bound (Earlier (number, joined stage)) terms
+
+  -- the polynomial in words, where no stage is over the bound, or the first that is, of a block or of an instance
+  abbrev pub StagesOf : Outcome ComposeFault Terms
+  StagesOf (Ok ts) = IsComposed ts
+  StagesOf (Err (TooManyTerms (Some model) stage terms)) = IsBlockOver model stage terms
+  StagesOf (Err (TooManyTerms None stage terms)) = IsFirstOfComposition k mul h rows bound (Later stage) terms
+  StagesOf (Err FedInTop) = ⊥
+  StagesOf (Err (GateInTop line)) = ⊥
+  StagesOf (Err (NoBlock model)) = ⊥
+  StagesOf (Err (BlockNet model)) = ⊥
+  StagesOf (Err (BlockLatch model)) = ⊥
+  StagesOf (Err (BlockBind model)) = ⊥
+  StagesOf (Err (NotWords instance word)) = ⊥
+  StagesOf (Err OutputNotWords) = ⊥
+  StagesOf (Err (InstanceLoop number)) = ⊥
+  StagesOf (Err OutOfMemory) = ⊥
+
+-- ---- the whole
+
+-- What comes of a top: first the blocks of its instances, then its wiring, then whether instances feed each other in a ring, and
+-- then the stages.
+abbrev pub Composes : ℕ → (ℕ → ℕ → ℕ) → List ModelValue → SignatureValue → List (List Basis) → ℕ → Outcome ComposeFault Terms
+Composes k mul design signature bases bound = do
+  uses ← Within plan_fault (UsesOf design signature)
+  wiring ← Within wiring_fault (WiringOf (hierarchy_of design signature bases))
+  ringless ← HasNoRing wiring.0
+  StagesOf k mul (hierarchy_of design signature bases) wiring.0 bound
+
+-- the refusal of a composition; want of memory is none
+abbrev pub refusal : ComposeFault → Option ComposeFault
+refusal OutOfMemory = None
+refusal fault = Some fault
+
+-- the fault is one that may come, or want of memory
+abbrev pub MayFault : {A : Type 0} → Outcome ComposeFault A → ComposeFault → Type 0
+MayFault outcome fault = MayRefuse outcome (refusal fault)

@@ -1,0 +1,71 @@
+//! The stages of a composition.
+ghost use Rattle.std.specs.Prelude.{◌≡◌, ◌+◌, length, map, Ok, IfErr, IfOk};
+ghost use Rattle.block_feeds.specs.Wiring.{feeding_graph};
+ghost use Rattle.block_plan.specs.Planned.{IsPlanned};
+ghost use Rattle.block_plan.specs.Structure.{IsUnfed};
+ghost use Rattle.block_wiring.specs.Answer.{AreWired};
+ghost use Rattle.instance_order.specs.LevelOrder.{IsLevelOrder};
+ghost use Rattle.block_compose.specs.Composed.{hierarchy_of, IsComposable, MayFault, StagesOf};
+
+use crate::ComposeFault;
+use crate::blocks::{block_polys, polys_of};
+use crate::faults::of_stage;
+use block_plan::BlockPlan;
+use block_wiring::Wiring;
+use gf_basis::Basis;
+use gf_field::Field;
+use net_blif::Design;
+use net_signature::Signature;
+use poly_mixed::Poly;
+use std::alloc::Global;
+use wired_poly::wired_poly;
+
+/// The polynomial of a top whose instances have blocks, are wired, and stand in an order by level; or the first stage over the bound.
+pub(crate) fn compose_stages<F: Field>(
+    alloc: Global,
+    field: &F,
+    _design: &Design,
+    signature: &Signature,
+    bases: &[Vec<Basis>],
+    plan: &BlockPlan,
+    wiring: &Wiring,
+    order: &[u32],
+    bound: u32,
+) -> Result<Poly, ComposeFault>
+    requires given { IsComposable (F.degree field.now) (F.product field.now) _design.now signature.now (map (λ list. list.items) bases.now) }
+    requires planned { IsPlanned _design.now signature.now plan.now.numbers.items plan.now.circuits.items }
+    requires wired { AreWired (hierarchy_of _design.now signature.now (map (λ list. list.items) bases.now)) (map (λ row. row.items) wiring.now.rows.items) wiring.now.output }
+    requires order { IsLevelOrder (feeding_graph (map (λ row. row.items) wiring.now.rows.items)) order.now }
+    ensures poly { IfOk result (λ poly. StagesOf (F.degree field.now) (F.product field.now) (hierarchy_of _design.now signature.now (map (λ list. list.items) bases.now)) (map (λ row. row.items) wiring.now.rows.items) bound (Ok poly.terms)) }
+    ensures fault { IfErr result (MayFault (StagesOf (F.degree field.now) (F.product field.now) (hierarchy_of _design.now signature.now (map (λ list. list.items) bases.now)) (map (λ row. row.items) wiring.now.rows.items) bound)) }
+{
+    let _count = _design.models();
+    let polys = match block_polys(
+        alloc,
+        field,
+        signature.blocks(),
+        &plan.circuits,
+        bases,
+        &plan.numbers,
+        bound,
+    ) {
+        Ok(polys) => polys,
+        Err(fault) => return Err(fault),
+    };
+    let list = polys_of(alloc, &polys, &plan.numbers)?;
+    // all words but the output word
+    let count = signature.words().len() - 1;
+    match wired_poly(
+        alloc,
+        field,
+        count,
+        &list,
+        &wiring.rows,
+        order,
+        wiring.output,
+        bound,
+    ) {
+        Ok(poly) => Ok(poly),
+        Err(fault) => Err(of_stage(fault)),
+    }
+}

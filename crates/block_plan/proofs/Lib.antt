@@ -1,0 +1,4 @@
+pub mod ListLemmas
+pub mod BlockLemmas
+pub mod FoundLemmas
+pub mod CircuitLemmas

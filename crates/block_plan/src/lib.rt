@@ -1,0 +1,13 @@
+//! What a top that only wires instances of blocks uses: the block of each instance, and the circuit of each block that an
+//! instance uses, or the first reason why there is none.
+#![tactic(auto)]
+
+mod circuits;
+mod fault;
+mod plan;
+mod structure;
+mod table;
+mod uses;
+
+pub use fault::PlanFault;
+pub use plan::{BlockPlan, plan_blocks};

@@ -1,0 +1,52 @@
+//! The numbers of blocks by their names.
+ghost use Rattle.std.specs.Prelude.{◌≡◌, ◌<◌, ◌^◌, ℕ, List, is_some, length, take, Some, IfOk, if◌then◌else◌};
+ghost use Rattle.std.specs.Str.{bytes_eq};
+ghost use Rattle.indexmap.specs.IndexMap.{get_by_text};
+ghost use Rattle.block_feeds.specs.Hierarchy.{block_from};
+
+use indexmap::IndexMap;
+use net_core::KeyedHash;
+use net_signature::Block;
+use std::alloc::{AllocError, Global};
+
+/// The number of each block by its name.
+pub(crate) type Numbers = IndexMap<String, u32, KeyedHash>;
+
+/// The number of a name.
+pub(crate) fn number_of(numbers: &Numbers, name: &str) -> Option<u32>
+    ensures { result ≡ get_by_text numbers.now name.now }
+{
+    numbers.get(name).copied()
+}
+
+// With this number for the name, unless it has one.
+fn with_number(
+    alloc: Global,
+    numbers: Numbers,
+    name: &str,
+    number: u32,
+) -> Result<Numbers, AllocError>
+    ensures { IfOk result (λ after. (q : List ℕ) → get_by_text after q
+        ≡ (if is_some (get_by_text numbers name.now) then get_by_text numbers q
+        else (if bytes_eq name.now q then Some number else get_by_text numbers q))) }
+{
+    if numbers.get(name).is_some() {
+        return Ok(numbers);
+    }
+    let mut after = numbers;
+    let key = String::from_str(alloc, name)?;
+    after.insert(key, number)?;
+    Ok(after)
+}
+
+/// The numbers of blocks, by a hash with this key.
+pub(crate) fn numbers_of(alloc: Global, key: u64, blocks: &[Block]) -> Result<Numbers, AllocError>
+    requires { length blocks.now < 2 ^ 32 }
+    ensures { IfOk result (λ numbers. (name : List ℕ) → get_by_text numbers name ≡ block_from 0 blocks.now name) }
+{
+    let mut numbers = IndexMap::with_hasher(alloc, KeyedHash::new(key));
+    for i in 0..blocks.len() {
+        numbers = with_number(alloc, numbers, blocks[i].model(), i as u32)?;
+    }
+    Ok(numbers)
+}

@@ -1,0 +1,3 @@
+pub mod InstanceStages
+pub mod BlockStages
+pub mod CompositionStages

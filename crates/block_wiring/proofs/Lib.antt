@@ -1,0 +1,12 @@
+pub mod ListLemmas
+pub mod NamesLemmas
+pub mod WordsLemmas
+pub mod LinkedLemmas
+pub mod RowLemmas
+pub mod StepLemmas
+pub mod PlainLemmas
+pub mod WiringLemmas
+pub mod InstancedLemmas
+pub mod WholeLemmas
+pub mod OneAnswerLemmas
+mod Examples

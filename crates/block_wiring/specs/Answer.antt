@@ -1,0 +1,31 @@
+-- A wired top. Source: Pruss, Kalla, Enescu, DAC 2014.
+use Rattle.std.specs.Global.{Global}
+use Rattle.std.specs.Prelude.{◌≡◌, ℕ, ◌<◌, List, Some, Vec, length, map, slice_get}
+use Rattle.net_blif.specs.Statement.{Token}
+use Rattle.net_blif.specs.Top.{instances_of}
+use Rattle.net_blif.specs.declared.item.Item.{Item}
+use Rattle.block_feeds.specs.Feeds.{FeedsOutput, IsOutputOf}
+use Rattle.block_feeds.specs.Hierarchy.{top_words, Hierarchy}
+use Rattle.block_feeds.specs.NamedWord.{inputs_among}
+use Rattle.block_feeds.specs.Wiring.{AreAllFeeds}
+use Rattle.block_feeds.specs.declared.feeder.Feeder.{Feeder}
+use Rattle.block_feeds.specs.declared.feeder.Feeder.TheVariants.{InputWord, OutputOf}
+use Rattle.block_wiring.specs.Refusal.{AreAllFed}
+
+-- the rows of feeds
+abbrev pub rows_in : List (Vec Feeder Global) → List (List Feeder)
+rows_in rows = map (λ row. row.items) rows
+
+-- the feed is one of the input words of the top or of its instances
+abbrev pub IsFeedIn : Hierarchy → Feeder → Type 0
+IsFeedIn h (InputWord w) = w < length (inputs_among (top_words h))
+IsFeedIn h (OutputOf i) = i < length (instances_of h.design)
+
+-- row i is what feeds instance i, the output word has a feed, no word is refused, and each instance has an output
+pub record AreWired (h : Hierarchy) (rows : List (List Feeder)) (output : Feeder) : Type 0 where
+  pub feeds : AreAllFeeds h rows
+  pub feeds_output : FeedsOutput h output
+  pub accepted : AreAllFed h
+  pub outputs : (i : ℕ) (item : Item) → slice_get (instances_of h.design) i ≡ Some item → (nets : List Token) × (basis : List ℕ) × IsOutputOf h i nets basis
+  pub among : (i j : ℕ) (feeds : List Feeder) (feed : Feeder) → slice_get rows i ≡ Some feeds → slice_get feeds j ≡ Some feed → IsFeedIn h feed
+  pub among_output : IsFeedIn h output

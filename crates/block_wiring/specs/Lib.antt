@@ -1,0 +1,4 @@
+pub mod Instanced
+pub mod Refusal
+pub mod Answer
+pub mod private

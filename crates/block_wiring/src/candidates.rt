@@ -1,0 +1,128 @@
+//! What may feed words, found by the names of their nets.
+ghost use Rattle.std.specs.Prelude.{◌≡◌, ◌<◌, ◌≤◌, ℕ, IfNone, IfOk, IfSome, Some, length, slice_get, true};
+ghost use Rattle.block_feeds.specs.declared.feeder.Feeder.{Feeder as FeederValue};
+ghost use Rattle.net_core.specs.Lists.{Has};
+ghost use Rattle.net_blif.specs.Table.{numbers_in};
+ghost use Rattle.gf_basis.specs.BasisParts.{elements_of};
+ghost use Rattle.block_wiring.specs.private.Linked.{is_on, AreLinked};
+ghost use Rattle.block_wiring.specs.private.Plain.{CandidateValue, HaveSize};
+
+use crate::candidate::Candidate;
+use crate::named::Named;
+use crate::nets::Nets;
+use block_feeds::Feeder;
+use gf_basis::Basis;
+use net_blif::Table;
+use std::alloc::{AllocError, Global};
+use std::marker::Model;
+
+/// What may feed words. Contracts see the list of it. A table has the first candidate whose nets begin with a name, and
+/// each candidate leads to the next one whose nets begin with the same name.
+#[derive(Drop)]
+pub(crate) struct Candidates<'a> {
+    list: Vec<Candidate<'a>>,
+    firsts: Table,
+    next: Vec<Option<u32>>,
+}
+
+impl<'a> Model for Candidates<'a> {
+    ghost use Rattle.std.specs.Prelude.{List};
+    ghost use Rattle.net_blif.specs.Table.{numbers_in};
+    ghost use Rattle.block_wiring.specs.private.Linked.{AreLinked};
+    ghost use Rattle.block_wiring.specs.private.Plain.{CandidateValue};
+
+    ghost Value = { List CandidateValue };
+
+    ghost view = { λ candidates. candidates.list.items };
+
+    ghost invariant = { λ candidates. AreLinked candidates.list.items (numbers_in candidates.firsts) candidates.next.items };
+}
+
+impl<'a> Candidates<'a> {
+    /// These candidates. Names are hashed with the key.
+    pub fn new(
+        alloc: Global,
+        key: u64,
+        list: Vec<Candidate<'a>>,
+    ) -> Result<Candidates<'a>, AllocError>
+        ensures { IfOk result (λ candidates. candidates ≡ list.entry.items) }
+    {
+        let (firsts, next) = linked(alloc, key, &list)?;
+        Ok(Candidates { list, firsts, next })
+    }
+
+    /// A candidate on these nets and with this basis; none exactly where there is none. All bases have `size` elements.
+    pub fn find(&self, nets: &Nets<'_>, basis: &Basis, size: u32) -> Option<Feeder>
+        requires own { HaveSize size self.now }
+        requires other { length (elements_of basis.now) ≡ size }
+        ensures some { IfSome result (λ feed. Has self.now (record { feed = feed; nets = nets.now; basis = elements_of basis.now })) }
+        ensures none { IfNone result ((c : CandidateValue) → Has self.now c → is_on nets.now (elements_of basis.now) c ≡ true → ⊥) }
+    {
+        find(&self.list, &self.firsts, &self.next, nets, basis, size)
+    }
+
+    /// What feeds a word that stands on these nets; none exactly where nothing does.
+    pub fn feed_for(&self, nets: &Nets<'_>, word: &Named<'_>) -> Option<Feeder>
+        requires { (k : ℕ) × (k ≤ 64) × (length word.now.nets ≡ k) × (length word.now.basis ≡ k) × HaveSize k self.now }
+        ensures some { IfSome result (λ feed. Has self.now (record { feed = feed; nets = nets.now; basis = word.now.basis })) }
+        ensures none { IfNone result ((feed : FeederValue) → Has self.now (record { feed = feed; nets = nets.now; basis = word.now.basis }) → ⊥) }
+    {
+        self.find(nets, word.basis(), word.nets().len() as u32)
+    }
+}
+
+// The candidate of a place.
+fn candidate_at<'b, 'a>(list: &'b [Candidate<'a>], place: u32) -> &'b Candidate<'a>
+    requires { place < length list.now }
+    ensures { slice_get list.now place ≡ Some result.now }
+{
+    &list[place as usize]
+}
+
+// The first candidate of each name, and for each candidate the next one of the same name.
+fn linked(
+    alloc: Global,
+    key: u64,
+    list: &[Candidate<'_>],
+) -> Result<(Table, Vec<Option<u32>>), AllocError>
+    ensures { IfOk result (λ r. AreLinked list.now (numbers_in r.0) r.1.items) }
+{
+    // the candidates are in memory, so their count is below 2^32
+    let Ok(count) = u32::try_from(list.len()) else {
+        return Err(AllocError);
+    };
+    let mut firsts = Table::new(alloc, key);
+    let mut next = vec![in alloc; None; list.len()]?;
+    for place in (0..count).rev() {
+        let name = candidate_at(list, place).first();
+        next[place as usize] = firsts.get(name);
+        firsts.insert(name, place)?;
+    }
+    Ok((firsts, next))
+}
+
+// A candidate on these nets and with this basis; none exactly where there is none.
+fn find(
+    list: &[Candidate<'_>],
+    firsts: &Table,
+    next: &[Option<u32>],
+    nets: &Nets<'_>,
+    basis: &Basis,
+    size: u32,
+) -> Option<Feeder>
+    requires linked { AreLinked list.now (numbers_in firsts.now) next.now }
+    requires own { HaveSize size list.now }
+    requires other { length (elements_of basis.now) ≡ size }
+    ensures some { IfSome result (λ feed. Has list.now (record { feed = feed; nets = nets.now; basis = elements_of basis.now })) }
+    ensures none { IfNone result ((c : CandidateValue) → Has list.now c → is_on nets.now (elements_of basis.now) c ≡ true → ⊥) }
+{
+    let mut at = firsts.get(nets.first());
+    while let Some(place) = at {
+        let candidate = candidate_at(list, place);
+        if candidate.is_on(nets, basis, size) {
+            return Some(candidate.feed());
+        }
+        at = next[place as usize];
+    }
+    None
+}

@@ -1,0 +1,14 @@
+//! Laws of wirings. These functions do nothing: their contracts are proved of the definitions alone.
+ghost use Rattle.std.specs.Prelude.{◌≡◌, ◌≢◌, List};
+ghost use Rattle.block_feeds.specs.Hierarchy.{Hierarchy};
+ghost use Rattle.block_feeds.specs.declared.feeder.Feeder.{Feeder};
+ghost use Rattle.block_wiring.specs.Answer.{AreWired};
+ghost use Rattle.block_wiring.specs.Refusal.{IsWiringFault};
+ghost use Rattle.block_wiring.specs.declared.fault.WiringFault.{WiringFault};
+ghost use Rattle.block_wiring.specs.declared.fault.WiringFault.TheVariants.{OutOfMemory};
+
+/// A top is wired or refused, and has one refusal at most; want of memory aside.
+pub fn wiring_has_one_answer()
+    ensures refusals { (h : Hierarchy) (a b : WiringFault) → IsWiringFault h a → IsWiringFault h b → a ≢ OutOfMemory → b ≢ OutOfMemory → a ≡ b }
+    ensures apart { (h : Hierarchy) (rows : List (List Feeder)) (output : Feeder) (fault : WiringFault) → AreWired h rows output → IsWiringFault h fault → fault ≡ OutOfMemory }
+{}

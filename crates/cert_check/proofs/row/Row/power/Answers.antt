@@ -1,0 +1,5 @@
+use Rattle.poly_mixed.proofs.Simple.{no_ranks_rise}
+use Rattle.cert_check.proofs.row.Row.power.Goals as goal
+
+pub new-requires : goal.new-requires
+new-requires c = no_ranks_rise

@@ -1,0 +1,28 @@
+//! A field of polynomials over 0 and 1.
+ghost use Rattle.std.specs.Prelude.{◌≡◌, [], IfOk};
+ghost use Rattle.text_core.specs.Outcome.{Within};
+ghost use Rattle.gf_field.specs.Ring2k.{degree_of, modulus_of};
+ghost use Rattle.irreducible.specs.Proved.{ring_of};
+ghost use Rattle.job_words.specs.Stop.{GivesBy};
+ghost use Rattle.job_words.specs.declared.fault.Fault.TheVariants.{Signature};
+ghost use Rattle.job_input.specs.FieldOf.{FieldOf, base_field as field_of_base};
+
+use crate::signed::{field_fault, refused};
+use gf_field::Ring2k;
+use gf_tower::AnyField;
+use irreducible::Proved;
+use job_words::Stop;
+
+/// The field of the polynomials modulo this one, bit i of which is the coefficient of x^i, or the refusal of a signature that
+/// names it.
+pub fn base_field(modulus: u128) -> Result<Proved<Ring2k>, Stop>
+    ensures gives { GivesBy (λ ring. field_of_base (degree_of (ring_of ring)) (modulus_of (ring_of ring))) result (Within Signature (FieldOf modulus [] [])) ⊥ ⊥ }
+    ensures modulus { IfOk result (λ ring. modulus_of (ring_of ring) ≡ modulus) }
+{
+    match AnyField::new(modulus, &[], &[]) {
+        Ok(AnyField::Base(ring)) => Ok(ring),
+        Ok(AnyField::Tower(_)) => unreachable!(),
+        Ok(AnyField::Upper(_)) => unreachable!(),
+        Err(fault) => Err(refused(field_fault(fault))),
+    }
+}

@@ -1,0 +1,178 @@
+//! A net list in the making and the name that was mentioned last.
+ghost use Rattle.std.specs.Prelude.{◌≡◌, ◌⊎◌, ◌<◌, ◌≤◌, ◌^◌, ◌++◌, ◌∷◌, [], ℕ, Ok, Some, All, IfOk, IfErr, IfSome, OnOk, IsErrOf, IsTrue, ◌↔◌, length, false};
+ghost use Rattle.net_core.specs.Inside.{HasNoMoreGates, IsFull, IsNetName};
+ghost use Rattle.net_core.specs.NetList.{empty, nets, number_of, with_gate, with_label, with_latch};
+ghost use Rattle.net_blif.specs.Statement.{IsToken};
+ghost use Rattle.net_flat.specs.Steps.{Mention};
+ghost use Rattle.net_flat.specs.private.LocalWalk.{InTop, IsFaultOf, local_step, state_with};
+
+use crate::FlatFault;
+use crate::walker::fault_of;
+use net_blif::text_of;
+use net_core::{NetFault, NetMaker, Start};
+use std::alloc::{AllocError, Global};
+use std::marker::Model;
+
+/// A net list in the making, which contracts see as the net list that was made so far. The name of the chosen model that
+/// was mentioned last is kept with its number: a gate often reads what was driven just before, and such a name is not
+/// looked up.
+#[derive(Drop)]
+pub struct Namer {
+    maker: NetMaker,
+    last: Vec<u8>,
+    number: Option<u32>,
+}
+
+impl Model for Namer {
+    ghost use Rattle.std.specs.Prelude.{◌≡◌, Some, IfSome};
+    ghost use Rattle.net_core.specs.NetList.{NetList, number_of};
+
+    ghost Value = { NetList };
+
+    ghost view = { λ m. m.maker };
+
+    ghost invariant = { λ m. IfSome m.number (λ n. number_of m.maker m.last.items ≡ Some n) };
+}
+
+// The number of the net of a name of the chosen model, which is made if it is new.
+fn mention_in(maker: &mut NetMaker, name: &str) -> Result<u32, FlatFault>
+    requires { IsNetName name.now }
+    ensures number { IfOk result (λ n. number_of maker.new name.now ≡ Some n) }
+    ensures made { (i : ℕ) → OnOk result (local_step (state_with maker.old i InTop) (Mention name.now) ≡ Ok (state_with maker.new i InTop)) }
+    ensures fault { (i : ℕ) → IfErr result (IsFaultOf (local_step (state_with maker.old i InTop) (Mention name.now))) }
+{
+    match maker.net(name) {
+        Ok(number) => Ok(number),
+        Err(fault) => Err(fault_of(fault)),
+    }
+}
+
+// Whether two names are the same.
+fn is_same(name: &[u8], other: &[u8]) -> bool
+    ensures { IsTrue result ↔ (name.now ≡ other.now) }
+{
+    name == other
+}
+
+impl Namer {
+    /// A net list with nothing in it, which looks names up by a hash with this key. It takes no memory.
+    pub fn keyed(alloc: Global, key: u64) -> Namer
+        ensures { result ≡ empty }
+    {
+        Namer {
+            maker: NetMaker::keyed(alloc, key),
+            last: Vec::new(alloc),
+            number: None,
+        }
+    }
+
+    /// The net list.
+    pub fn into_maker(self) -> NetMaker
+        ensures { result ≡ self }
+    {
+        self.maker
+    }
+
+    // The number of the net of a name, if it was mentioned last.
+    fn known(&self, name: &[u8]) -> Option<u32>
+        ensures { IfSome result (λ n. number_of self.now name.now ≡ Some n) }
+    {
+        if is_same(&self.last, name) {
+            self.number
+        } else {
+            None
+        }
+    }
+
+    // Keeps the name that was mentioned last.
+    fn keep(&mut self, name: &[u8], number: u32) -> Result<(), AllocError>
+        requires { number_of self.old name.now ≡ Some number }
+        ensures { self.new ≡ self.old }
+    {
+        self.number = None;
+        self.last.clear();
+        self.last.extend_from_slice(name)?;
+        self.number = Some(number);
+        Ok(())
+    }
+
+    // The number of the net of a name that is looked up, and made if it is new.
+    fn look_up(&mut self, name: &[u8]) -> Result<u32, FlatFault>
+        requires { IsToken name.now }
+        ensures number { IfOk result (λ n. number_of self.new name.now ≡ Some n) }
+        ensures made { (i : ℕ) → OnOk result (local_step (state_with self.old i InTop) (Mention name.now) ≡ Ok (state_with self.new i InTop)) }
+        ensures fault { (i : ℕ) → IfErr result (IsFaultOf (local_step (state_with self.old i InTop) (Mention name.now))) }
+    {
+        self.number = None;
+        mention_in(&mut self.maker, text_of(name))
+    }
+
+    /// The number of the net of a name of the chosen model, which is made if it is new.
+    pub fn mention(&mut self, name: &[u8]) -> Result<u32, FlatFault>
+        requires { IsToken name.now }
+        ensures number { IfOk result (λ n. number_of self.new name.now ≡ Some n) }
+        ensures made { (i : ℕ) → OnOk result (local_step (state_with self.old i InTop) (Mention name.now) ≡ Ok (state_with self.new i InTop)) }
+        ensures fault { (i : ℕ) → IfErr result (IsFaultOf (local_step (state_with self.old i InTop) (Mention name.now))) }
+    {
+        if let Some(number) = self.known(name) {
+            return Ok(number);
+        }
+        let number = self.look_up(name)?;
+        self.keep(name, number)?;
+        Ok(number)
+    }
+
+    /// The number of a new net that no name finds; the label is for messages.
+    pub fn fresh(&mut self, label: &str) -> Result<u32, NetFault>
+        ensures number { IfOk result (λ n. n ≡ nets self.old) }
+        ensures made { OnOk result (self.new ≡ with_label self.old label.now false) }
+        ensures room { OnOk result (IsFull self.old → ⊥) }
+        ensures full { IsErrOf result NetFault.TooManyNets → IsFull self.old }
+        ensures only { IfErr result (λ fault. (fault ≡ NetFault.TooManyNets) ⊎ (fault ≡ NetFault.OutOfMemory)) }
+    {
+        self.number = None;
+        self.maker.fresh(label)
+    }
+
+    /// Makes a net that there is a primary input, after those before.
+    pub fn input(&mut self, net: u32) -> Result<(), AllocError>
+        requires { net < nets self.old }
+        ensures made { OnOk result (self.new ≡ record self.old { inputs = self.old.inputs ++ net ∷ [] }) }
+    {
+        self.maker.input(net)
+    }
+
+    /// Makes a net that there is an output, after those before.
+    pub fn output(&mut self, net: u32) -> Result<(), AllocError>
+        requires { net < nets self.old }
+        ensures made { OnOk result (self.new ≡ record self.old { outputs = self.old.outputs ++ net ∷ [] }) }
+    {
+        self.maker.output(net)
+    }
+
+    /// Adds a gate that drives the net `out`, after those before.
+    pub fn gate(&mut self, out: u32, inputs: &[u32], table: u64) -> Result<(), NetFault>
+        requires few { length inputs.now ≤ 6 }
+        requires out { out < nets self.old }
+        requires inputs { All (λ n. n < nets self.old) inputs.now }
+        requires table { table < 2 ^ (2 ^ length inputs.now) }
+        ensures made { OnOk result (self.new ≡ with_gate self.old (record { out = out; inputs = inputs.now; table = table })) }
+        ensures room { OnOk result (HasNoMoreGates self.old → ⊥) }
+        ensures full { IsErrOf result NetFault.TooManyGates → HasNoMoreGates self.old }
+        ensures only { IfErr result (λ fault. (fault ≡ NetFault.TooManyGates) ⊎ (fault ≡ NetFault.OutOfMemory)) }
+    {
+        self.maker.gate(out, inputs, table)
+    }
+
+    /// Adds a latch that drives the net `out`, after those before.
+    pub fn latch(&mut self, next: u32, out: u32, start: Start) -> Result<(), NetFault>
+        requires next { next < nets self.old }
+        requires out { out < nets self.old }
+        ensures made { OnOk result (self.new ≡ with_latch self.old (record { next = next; out = out; start = start })) }
+        ensures room { OnOk result (HasNoMoreGates self.old → ⊥) }
+        ensures full { IsErrOf result NetFault.TooManyGates → HasNoMoreGates self.old }
+        ensures only { IfErr result (λ fault. (fault ≡ NetFault.TooManyGates) ⊎ (fault ≡ NetFault.OutOfMemory)) }
+    {
+        self.maker.latch(next, out, start)
+    }
+}

@@ -1,0 +1,2 @@
+pub mod TwoInputs
+pub mod private
