@@ -5,8 +5,6 @@
 mod comparing;
 mod first;
 mod laws;
-#[cfg(test)]
-mod tests;
 mod verdict;
 
 pub use comparing::compare;

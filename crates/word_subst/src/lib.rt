@@ -14,8 +14,6 @@ mod size;
 mod sums;
 mod tell;
 mod term;
-#[cfg(test)]
-mod tests;
 mod univariate;
 mod whole;
 mod word;
