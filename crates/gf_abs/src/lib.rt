@@ -2,8 +2,10 @@
 //! `run` carries the contract of the whole; each command is a file of `commands`, and one line of the table `ActionAnswer`.
 #![tactic(auto)]
 
+mod block_bases;
 mod certificates;
 mod commands;
+mod composition;
 mod cuts;
 mod differing;
 mod headline;
