@@ -3,7 +3,7 @@ use Rattle.std.proofs.Common.{◌≡◌, ◌≢◌, ◌⊎◌, ◌∙◌, ap, sy
 use Rattle.std.specs.Prelude.{slice_get}
 use Rattle.text_core.specs.Outcome.{Determined}
 use Rattle.graph_core.specs.Cycle.{IsGrounded}
-use Rattle.graph_core.specs.Graph.{Graph, IsCycle}
+use Rattle.graph_core.specs.Graph.{IsCycle}
 use Rattle.graph_core.proofs.GroundLemmas.{grounded_no_cycle}
 use Rattle.graph_core.proofs.LawLemmas.{is_cycle, is_only}
 use Rattle.net_signature.specs.Body.{BlockValue}

@@ -1,5 +1,5 @@
 -- At most one list of blocks with their circuits, or one refusal, comes of a top.
-use Rattle.std.proofs.Common.{◌≡◌, ◌≢◌, ◌∙◌, ap, sym, refl, subst, ℕ, List, [], Some, Result, Ok, Err}
+use Rattle.std.proofs.Common.{◌≡◌, ◌≢◌, ◌∙◌, ap, sym, refl, subst, ℕ, List, [], Some, Ok, Err}
 use Rattle.std.specs.Prelude.{slice_get}
 use Rattle.text_core.specs.Outcome.{Determined, ◌>>=◌}
 use Rattle.text_core.proofs.DeterminedLemmas.{determined_bind}

@@ -6,9 +6,9 @@ use Rattle.graph_core.proofs.GraphLemmas.{same_lists}
 use Rattle.graph_core.proofs.ListLemmas.{get_below}
 use Rattle.net_core.specs.Order.{IsBefore}
 use Rattle.net_blif.specs.declared.item.Item.{Item}
-use Rattle.block_feeds.specs.Feeds.{AreFeedsOf, Fits, FeedsOutput}
-use Rattle.block_feeds.specs.Hierarchy.{Hierarchy, IsInstance}
-use Rattle.block_feeds.specs.NamedWord.{inputs_among, NamedWord}
+use Rattle.block_feeds.specs.Feeds.{AreFeedsOf, Fits}
+use Rattle.block_feeds.specs.Hierarchy.{Hierarchy}
+use Rattle.block_feeds.specs.NamedWord.{inputs_among}
 use Rattle.block_feeds.specs.declared.feeder.Feeder.{Feeder}
 use Rattle.block_wiring.specs.Answer.{AreWired, IsEarlierFeed, IsFirstFit}
 use Rattle.block_wiring.specs.Refusal.{IsFirstRefused, IsWiringFault}

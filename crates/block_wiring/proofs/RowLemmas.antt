@@ -1,5 +1,5 @@
 -- Rows of feeds, word by word and instance by instance.
-use Rattle.std.proofs.Common.{◌≡◌, ◌≢◌, ◌∙◌, ap, sym, refl, subst, ℕ, zero, suc, ◌<◌, ◌≤◌, ◌+◌, Bool, true, false, ◌⊎◌, inl, inr, not, if◌then◌else◌, List, [], ◌∷◌, ◌++◌, length, take, Option, None, Some, arith, append-nil, take_all}
+use Rattle.std.proofs.Common.{◌≡◌, ◌≢◌, ◌∙◌, ap, sym, refl, subst, ℕ, ◌<◌, ◌≤◌, ◌+◌, true, false, ◌⊎◌, inl, inr, not, if◌then◌else◌, List, [], ◌∷◌, ◌++◌, length, take, None, Some, arith, append-nil, take_all}
 use Rattle.std.specs.Prelude.{slice_get}
 use Rattle.std.proofs.lemmas.Option.{slice_get_within}
 use Rattle.graph_core.proofs.ListLemmas.{get_below, got_push, length-push}
@@ -11,7 +11,7 @@ use Rattle.net_blif.specs.Statement.{Token}
 use Rattle.block_feeds.specs.NamedWord.{inputs_among, outputs_among, NamedWord}
 use Rattle.block_feeds.specs.declared.feeder.Feeder.{Feeder}
 use Rattle.block_wiring.specs.private.Names.{actual_by, actuals_by}
-use Rattle.block_wiring.specs.private.Plain.{candidates_of, AreFedBefore, AreRows, CandidateValue, ComesOf, IsBadOutput, IsFedMore, IsFirstFor, IsFoundFor, IsPlainFault, IsRefusedBy, IsRefusedFirst, IsRefusedInOrder, IsRow, IsRowFault, PlacedValue}
+use Rattle.block_wiring.specs.private.Plain.{candidates_of, AreFedBefore, AreRows, CandidateValue, IsBadOutput, IsFedMore, IsFirstFor, IsFoundFor, IsPlainFault, IsRefusedBy, IsRefusedFirst, IsRefusedInOrder, IsRow, IsRowFault, PlacedValue}
 use Rattle.block_wiring.specs.declared.fault.WiringFault.{WiringFault}
 use Rattle.block_wiring.specs.declared.fault.WiringFault.TheVariants.{NotWords, OutputNotWords, OutOfMemory}
 use Rattle.block_wiring.specs.private.Words.{is_mixed}

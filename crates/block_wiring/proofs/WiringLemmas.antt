@@ -1,5 +1,5 @@
 -- A wired top.
-use Rattle.std.proofs.Common.{◌≡◌, ◌≢◌, ◌∙◌, ap, sym, refl, subst, ℕ, zero, suc, ◌<◌, ◌≤◌, ◌+◌, Bool, true, false, ◌⊎◌, inl, inr, not, if◌then◌else◌, List, [], ◌∷◌, ◌++◌, length, map, take, filter, Option, None, Some, arith, take_all}
+use Rattle.std.proofs.Common.{◌≡◌, ◌∙◌, ap, sym, refl, subst, ℕ, zero, suc, ◌<◌, Bool, true, false, inl, inr, if◌then◌else◌, List, [], ◌∷◌, length, take, Option, None, Some, arith, take_all}
 use Rattle.std.specs.Prelude.{slice_get}
 use Rattle.std.proofs.lemmas.Option.{slice_get_within}
 use Rattle.graph_core.proofs.ListLemmas.{get_below}
@@ -11,7 +11,7 @@ use Rattle.net_blif.specs.Statement.{Token}
 use Rattle.net_blif.specs.Top.{connections_in, instances_of}
 use Rattle.net_blif.specs.declared.item.Item.{Item}
 use Rattle.block_feeds.specs.Feeds.{AreFeedsOf, Fits, FeedsOutput, IsOutputOf, StandsOn}
-use Rattle.block_feeds.specs.Hierarchy.{actuals_of, top_words, Hierarchy, IsInstance}
+use Rattle.block_feeds.specs.Hierarchy.{top_words, Hierarchy, IsInstance}
 use Rattle.block_feeds.specs.NamedWord.{inputs_among, outputs_among, NamedWord}
 use Rattle.block_feeds.specs.declared.feeder.Feeder.{Feeder}
 use Rattle.block_feeds.specs.declared.feeder.Feeder.TheVariants.{InputWord, OutputOf}
@@ -19,8 +19,8 @@ use Rattle.block_wiring.specs.Answer.{AreWired, IsEarlierFeed, IsFeedIn, IsFirst
 use Rattle.block_wiring.specs.Refusal.{AreAllFed, IsFirstRefused, IsRefusedAt, IsRefusedWord, IsWiringFault}
 use Rattle.block_wiring.specs.declared.fault.WiringFault.{WiringFault}
 use Rattle.block_wiring.specs.declared.fault.WiringFault.TheVariants.{NotWords, OutputNotWords, OutOfMemory}
-use Rattle.block_wiring.specs.private.Names.{actual_by, actuals_by}
-use Rattle.block_wiring.specs.private.Plain.{candidates_of, AreAccepted, AreRows, ArePlainlyWired, CandidateValue, HaveOutputs, IsFirstFor, IsFirstOutput, IsFoundFor, IsOutputFeed, IsPlainFault, IsRefusedBy, IsRefusedInOrder, IsRow, PlacedValue}
+use Rattle.block_wiring.specs.private.Names.{actuals_by}
+use Rattle.block_wiring.specs.private.Plain.{candidates_of, AreAccepted, ArePlainlyWired, CandidateValue, HaveOutputs, IsFirstFor, IsFirstOutput, IsFoundFor, IsOutputFeed, IsPlainFault, IsRefusedBy, IsRefusedInOrder, IsRow, PlacedValue}
 use Rattle.block_wiring.proofs.FirstLemmas.{none_earlier}
 use Rattle.block_wiring.proofs.NamesLemmas.{unconnected}
 use Rattle.block_wiring.proofs.PlainLemmas.{actuals_same, fits_found, found_fits, placed_at, refused_word, stands, stood, word_refused, ArePlain}

@@ -1,5 +1,5 @@
-use Rattle.std.proofs.Common.{◌≡◌, ◌∙◌, ◌<◌, ap, sym, subst, ℕ, length, Option, None, Some, arith}
-use Rattle.std.specs.Prelude.{slice_get, slice_index_or}
+use Rattle.std.proofs.Common.{◌∙◌, ◌<◌, ap, sym, subst, ℕ, length, Option, None, arith}
+use Rattle.std.specs.Prelude.{slice_index_or}
 use Rattle.std.proofs.lemmas.Option.{slice_get-get_or, slice_get_within}
 use Rattle.net_blif.specs.Table.{numbers_in, Numbers}
 use Rattle.gf_basis.specs.BasisParts.{elements_of}
