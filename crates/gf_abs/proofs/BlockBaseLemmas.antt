@@ -87,7 +87,7 @@ module _ (k : ℕ) (product : ℕ → ℕ → ℕ) where
     where
       own : (other : BlockValue) → slice_get blocks i ≡ Some other → HasBases k product (old ++ list ∷ []) (i + 1) other.words
       own other got =
-          let same : block ≡ other = is ∙ get_or_from_slice_get blocks i d other got in
+          let same : block ≡ other = is ∙ get_or_from_slice_get blocks i other d got in
           let Q : BlockValue → Type 0 = λ b. HasBases k product (old ++ list ∷ []) (i + 1) b.words in
           let R : ℕ → Type 0 = λ n. slice_get (old ++ list ∷ []) n ≡ Some list in
           subst Q same (one_list (old ++ list ∷ []) (i + 1) block.words list (subst R to.long (last_at old list)) (sym (length-map list elements_of) ∙ bases_long k product block.words (map elements_of list) are) over)

@@ -54,5 +54,6 @@ pub mod SettingFieldLemmas
 pub mod MadeLemmas
 pub mod MakeHeadlineLemmas
 pub mod CertificateHeadlineLemmas
+pub mod ComposeHeadlineLemmas
 mod Examples
 pub mod TrialHeadlineLemmas

@@ -66,7 +66,7 @@ module _ (setting : SettingValue) (first second : BoundNet) (cycles : ℕ) (outp
 
 -- ---- from the files
 
-blif_text : (net : Word) (text : List ℕ) → IsBlifName net → by_ending net text ≡ Blif text
+pub blif_text : (net : Word) (text : List ℕ) → IsBlifName net → by_ending net text ≡ Blif text
 blif_text net text name = (λ i. if name.no_aiger i then Aiger text else (if is_verilog net then Verilog text else Blif text)) ∙ (λ i. if name.no_verilog i then Verilog text else Blif text)
 
 module _ (files others : Files) (signature net : Word) (kind : Kind) (reply : Reply) where

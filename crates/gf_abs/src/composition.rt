@@ -57,15 +57,26 @@ pub(crate) fn composition_stop<F: Field>(
             refused(CompositionFault::InstanceLoop { instance })
         }
         ComposeFault::TooManyTerms {
-            block: Some(model),
+            block,
             stage,
             terms,
-        } => block_over(alloc, field.k(), blocks, model.as_str(), stage, terms, bound),
-        ComposeFault::TooManyTerms {
-            block: None,
-            stage,
-            terms,
-        } => stage_stop(alloc, labels, ReduceFault::TooManyTerms { stage, terms }, bound),
+        } => match block {
+            Some(model) => block_over(
+                alloc,
+                field.k(),
+                blocks,
+                model.as_str(),
+                stage,
+                terms,
+                bound,
+            ),
+            None => stage_stop(
+                alloc,
+                labels,
+                ReduceFault::TooManyTerms { stage, terms },
+                bound,
+            ),
+        },
         ComposeFault::OutOfMemory => Stop::OutOfMemory,
     }
 }

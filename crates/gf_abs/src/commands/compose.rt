@@ -81,8 +81,6 @@ fn reply<F: Field>(
             let text = polynomial_line(alloc, &poly, &labels)?;
             Ok(Output { status: 0, text })
         }
-        Err(fault) => Err(composition_stop(
-            alloc, field, setting, &labels, design, fault, bound,
-        )),
+        Err(fault) => Err(composition_stop(alloc, field, setting, &labels, design, fault, bound)),
     }
 }
