@@ -2,9 +2,10 @@
 use Rattle.std.proofs.Common.{◌≡◌, ◌∙◌, ap, sym, refl, subst, inl, inr, ℕ, zero, suc, ◌+◌, Bool, true, false, cond, List, [], ◌∷◌, length, Option, None, Some, Ok, Err, arith}
 use Rattle.std.specs.Prelude.{slice_get}
 use Rattle.std.specs.Str.{bytes_eq}
+use Rattle.std.proofs.lemmas.Slice.Eq.{bytes_eq-Decides}
 use Rattle.text_core.specs.Outcome.{Outcome, Within}
 use Rattle.net_core.specs.Lists.{Has}
-use Rattle.net_blif.specs.Design.{ModelValue}
+use Rattle.net_blif.specs.Design.{model_from, model_named, ModelValue}
 use Rattle.net_blif.specs.Statement.{Token}
 use Rattle.net_blif.specs.Top.{model_in}
 use Rattle.net_signature.specs.Body.{BlockValue}
@@ -80,6 +81,25 @@ module _ (setting : SettingValue) (design : List ModelValue) (bound : ℕ) where
     compose_stops (TooManyTerms block stage terms) stop may is = refuses (TooManyTerms block stage terms) stop may is
     compose_stops OutOfMemory stop may is = let P : Stop → Type 0 = λ s. GivesBy view (Err s) (Within (compose_fault setting design bound) outcome) ⊥ ⊥ in subst P (sym is) tt
 
+-- ---- the models of a design
+
+model_is : (n : ℕ) (models : List ModelValue) (name : Token) (number : ℕ) → model_from n models name ≡ Some number → (i : ℕ) × (model : ModelValue) × (number ≡ n + i) × (slice_get models i ≡ Some model) × (name ≡ model.name)
+model_is n [] name number named = absurd (cc)
+model_is n (model ∷ models) name number named = by (λ later. model_is (n + 1) models name number later) (bytes_eq name model.name) refl named
+  where
+    by : (model_from (n + 1) models name ≡ Some number → (i : ℕ) × (other : ModelValue) × (number ≡ (n + 1) + i) × (slice_get models i ≡ Some other) × (name ≡ other.name)) → (b : Bool) → bytes_eq name model.name ≡ b → cond b (Some n) (model_from (n + 1) models name) ≡ Some number
+        → (i : ℕ) × (other : ModelValue) × (number ≡ n + i) × (slice_get (model ∷ models) i ≡ Some other) × (name ≡ other.name)
+    by rest true hit e = let same : n ≡ number = cc in (zero, model, omega (arith, same), refl, (bytes_eq-Decides name model.name).0 hit)
+    by rest false miss e = let found = rest e in (suc found.0, found.1, omega (arith, found.2), found.3, found.4)
+
+-- the model of a name has it
+pub found_model : (models : List ModelValue) (name : Token) (number : ℕ) → model_named models name ≡ Some number → (model : ModelValue) × (slice_get models number ≡ Some model) × (name ≡ model.name)
+found_model models name number named =
+    let found = model_is 0 models name number named in
+    let P : ℕ → Type 0 = λ i. slice_get models i ≡ Some found.1 in
+    let same : found.0 ≡ number = omega (arith, found.2) in
+    (found.1, subst P same found.3, found.4)
+
 -- ---- the words of a block
 
 words_from : (n : ℕ) (blocks : List BlockValue) (model : Token) (number : ℕ) (block : BlockValue) → block_from n blocks model ≡ Some number → (i : ℕ) → number ≡ n + i → slice_get blocks i ≡ Some block → words_in blocks model ≡ block.words
@@ -94,7 +114,7 @@ words_from n (b ∷ bs) model number block named i is got = by (λ later j same 
 
 -- the words of a model are those of its block
 pub words_found : (blocks : List BlockValue) (model : Token) (number : ℕ) (block : BlockValue) → block_from 0 blocks model ≡ Some number → slice_get blocks number ≡ Some block → words_in blocks model ≡ block.words
-words_found blocks model number block named got = words_from 0 blocks model number block named number refl got
+words_found blocks model number block named got = words_from 0 blocks model number block named number (omega arith) got
 
 -- ---- the word of a stage
 
