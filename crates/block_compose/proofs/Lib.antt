@@ -3,3 +3,5 @@ pub mod BlockLemmas
 pub mod StageLemmas
 pub mod ComposeLemmas
 pub mod ReadyLemmas
+pub mod StepsDetermined
+pub mod CompositionDetermined

@@ -145,14 +145,18 @@ module _ (k : ℕ) (mul : ℕ → ℕ → ℕ) (h : Hierarchy) (rows : List (Lis
 
 -- ---- the whole
 
--- What comes of a top: first the blocks of its instances, then its wiring, then whether instances feed each other in a ring, and
--- then the stages.
-abbrev pub Composes : ℕ → (ℕ → ℕ → ℕ) → List ModelValue → SignatureValue → List (List Basis) → ℕ → Outcome ComposeFault Terms
-Composes k mul design signature bases bound = do
-  uses ← Within plan_fault (UsesOf design signature)
-  wiring ← Within wiring_fault (WiringOf (hierarchy_of design signature bases))
+-- What comes of the top of a hierarchy, whose words and blocks are those of the signature: first the blocks of its instances, then
+-- its wiring, then whether instances feed each other in a ring, and then the stages.
+abbrev pub ComposesIn : ℕ → (ℕ → ℕ → ℕ) → SignatureValue → Hierarchy → ℕ → Outcome ComposeFault Terms
+ComposesIn k mul signature h bound = do
+  uses ← Within plan_fault (UsesOf h.design signature)
+  wiring ← Within wiring_fault (WiringOf h)
   ringless ← HasNoRing wiring.0
-  StagesOf k mul (hierarchy_of design signature bases) wiring.0 bound
+  StagesOf k mul h wiring.0 bound
+
+-- What comes of a top with lists of bases.
+abbrev pub Composes : ℕ → (ℕ → ℕ → ℕ) → List ModelValue → SignatureValue → List (List Basis) → ℕ → Outcome ComposeFault Terms
+Composes k mul design signature bases bound = ComposesIn k mul signature (hierarchy_of design signature bases) bound
 
 -- the refusal of a composition; want of memory is none
 abbrev pub refusal : ComposeFault → Option ComposeFault

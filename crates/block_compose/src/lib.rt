@@ -7,8 +7,10 @@ mod blocks;
 mod composition;
 mod fault;
 mod faults;
+mod laws;
 mod stages;
 
 pub use bases::BlockBases;
 pub use composition::compose;
 pub use fault::ComposeFault;
+pub use laws::composition_is_one;

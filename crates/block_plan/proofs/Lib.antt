@@ -2,3 +2,5 @@ pub mod ListLemmas
 pub mod BlockLemmas
 pub mod FoundLemmas
 pub mod CircuitLemmas
+pub mod ForEachDetermined
+pub mod PlanDetermined

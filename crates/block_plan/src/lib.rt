@@ -4,10 +4,12 @@
 
 mod circuits;
 mod fault;
+mod laws;
 mod plan;
 mod structure;
 mod table;
 mod uses;
 
 pub use fault::PlanFault;
+pub use laws::one_plan_or_refusal;
 pub use plan::{BlockPlan, plan_blocks};

@@ -1,21 +1,18 @@
 -- Small worked examples of the definitions of specs/, which the check computes: a top whose input word stands on net `a` and whose output
 -- word stands on net `z`, with one instance of the block `m`, whose words stand on `x` and `y`. All words have one bit.
-use Rattle.std.proofs.Common.{◌≡◌, ◌≢◌, ℕ, zero, suc, ◌⊎◌, inl, inr, List, [], ◌∷◌, Option, None, Some, refl, arith}
-use Rattle.std.specs.Prelude.{slice_get}
-use Rattle.net_core.specs.Lists.{Has}
+use Rattle.std.proofs.Common.{inl, List, [], ◌∷◌, refl, arith}
 use Rattle.net_words.specs.declared.word.BasisText.TheVariants.{Poly}
 use Rattle.net_words.specs.declared.word.Role.{Role}
 use Rattle.net_words.specs.declared.word.Role.TheVariants.{Input, Output}
 use Rattle.net_words.specs.declared.word.WordText.{WordText}
 use Rattle.net_blif.specs.Statement.{Token}
-use Rattle.net_blif.specs.declared.item.Item.{Item}
 use Rattle.net_blif.specs.declared.item.Item.TheVariants.{Instance}
 use Rattle.block_feeds.specs.Feeds.{Fits}
 use Rattle.block_feeds.specs.Hierarchy.{Hierarchy, IsInstance}
 use Rattle.block_feeds.specs.NamedWord.{NamedWord}
-use Rattle.block_feeds.specs.declared.feeder.Feeder.TheVariants.{InputWord, OutputOf}
+use Rattle.block_feeds.specs.declared.feeder.Feeder.TheVariants.{InputWord}
 use Rattle.block_wiring.specs.Answer.{IsFeedIn}
-use Rattle.block_wiring.specs.Refusal.{HasNoOutputBit, IsInputOf, IsRefusedAt, IsRefusedWord}
+use Rattle.block_wiring.specs.Refusal.{IsInputOf, IsRefusedAt}
 
 -- names of one byte
 abbrev a : Token

@@ -1,5 +1,5 @@
 -- Instances, words and bases as they are given.
-use Rattle.std.proofs.Common.{◌≡◌, ◌≢◌, ◌∙◌, ap, sym, refl, subst, ℕ, zero, suc, ◌<◌, ◌≤◌, ◌+◌, Bool, true, false, ◌⊎◌, inl, inr, not, List, [], ◌∷◌, ◌++◌, length, map, filter, All, Option, None, Some, if◌then◌else◌, arith, Global, Vec}
+use Rattle.std.proofs.Common.{◌≡◌, ◌≢◌, ◌∙◌, ap, sym, refl, subst, ℕ, zero, suc, ◌<◌, ◌≤◌, ◌+◌, Bool, true, false, ◌⊎◌, inl, inr, List, [], ◌∷◌, length, map, filter, All, Some, if◌then◌else◌, arith, Global, Vec}
 use Rattle.std.specs.Prelude.{slice_get}
 use Rattle.std.specs.List.{AllByRecursion}
 use Rattle.std.specs.Option.{option_map, unwrap_or}
@@ -7,9 +7,7 @@ use Rattle.std.specs.Str.{bytes_eq}
 use Rattle.std.proofs.lemmas.Option.{get_or_from_slice_get, slice_get-map, slice_get_within}
 use Rattle.graph_core.proofs.ListLemmas.{get_below}
 use Rattle.net_core.specs.Lists.{Has}
-use Rattle.net_words.specs.Binding.{AreWords}
 use Rattle.net_words.specs.Roles.{is_output, same_role}
-use Rattle.net_words.specs.declared.word.Role.{Role}
 use Rattle.net_words.specs.declared.word.Role.TheVariants.{Fed, Output}
 use Rattle.net_words.specs.declared.word.WordText.{WordText}
 use Rattle.net_blif.specs.Design.{ModelValue}
@@ -17,12 +15,11 @@ use Rattle.net_blif.specs.Statement.{Token}
 use Rattle.net_blif.specs.Top.{connections_in, instances_of, model_in}
 use Rattle.net_blif.specs.declared.item.Item.{Item}
 use Rattle.net_signature.specs.Body.{BlockValue}
-use Rattle.gf_basis.specs.Basis.{IsBasis}
 use Rattle.gf_basis.specs.BasisParts.{elements_of}
 use Rattle.gf_basis.specs.declared.bases.Basis.{Basis}
 use Rattle.block_feeds.specs.Given.{HaveBasesOf}
 use Rattle.block_feeds.specs.Hierarchy.{bases_at, block_from, block_of, top_words, Hierarchy, IsInstance}
-use Rattle.block_feeds.specs.NamedWord.{inputs_among, named_words, outputs_among, NamedWord}
+use Rattle.block_feeds.specs.NamedWord.{named_words, outputs_among, NamedWord}
 use Rattle.block_wiring.specs.Instanced.{elements_in, hierarchy, IsInstanced}
 use Rattle.block_wiring.specs.private.Plain.{ArePlaced, AreSized, HaveOutputs, HaveWords, IsListed, PlacedValue}
 use Rattle.block_wiring.specs.private.Words.{AreOf}

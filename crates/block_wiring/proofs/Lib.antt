@@ -5,6 +5,7 @@ pub mod LinkedLemmas
 pub mod RowLemmas
 pub mod StepLemmas
 pub mod PlainLemmas
+pub mod FirstLemmas
 pub mod WiringLemmas
 pub mod InstancedLemmas
 pub mod WholeLemmas

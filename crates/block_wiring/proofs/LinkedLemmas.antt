@@ -1,5 +1,5 @@
 -- Candidates found by their first names.
-use Rattle.std.proofs.Common.{◌≡◌, ◌≢◌, ◌∙◌, ap, sym, refl, subst, ℕ, zero, suc, ◌<◌, ◌≤◌, ◌+◌, ◌-◌, Bool, true, false, ◌&&◌, ◌⊎◌, inl, inr, List, [], ◌∷◌, length, drop, set, Option, None, Some, if◌then◌else◌, arith, add-one, drop_of_length-le}
+use Rattle.std.proofs.Common.{◌≡◌, ◌∙◌, ap, sym, refl, subst, ℕ, zero, suc, ◌<◌, ◌≤◌, ◌+◌, ◌-◌, Bool, true, false, ◌&&◌, ◌⊎◌, inl, inr, List, [], ◌∷◌, length, drop, set, Option, None, Some, if◌then◌else◌, arith, add-one, drop_of_length-le}
 use Rattle.std.specs.Prelude.{slice_get, ◌==◌}
 use Rattle.std.proofs.lemmas.List.{length-set}
 use Rattle.std.proofs.lemmas.Option.{slice_get_within}
@@ -13,7 +13,7 @@ use Rattle.net_blif.specs.Table.{no_numbers, with_number, Numbers}
 use Rattle.block_feeds.specs.declared.feeder.Feeder.{Feeder}
 use Rattle.block_wiring.specs.private.Linked.{first_from, is_on, same_elements, AreLinked, LeadOn}
 use Rattle.block_wiring.specs.private.Names.{first_of, same_names}
-use Rattle.block_wiring.specs.private.Plain.{CandidateValue}
+use Rattle.block_wiring.specs.private.Plain.{CandidateValue, IsFirstOn}
 use Rattle.block_wiring.proofs.ListLemmas.{dropped_at, got_dropped, lt_or_le}
 use Rattle.block_wiring.proofs.NamesLemmas.{same_itself, same_means}
 
@@ -134,7 +134,7 @@ elements_mean (x ∷ xs) (y ∷ ys) e = parts (x == y) refl e (elements_mean xs 
     parts false is more given = absurd (cc)
 
 -- a candidate on these nets and with this basis
-pub found_on : (nets : List Token) (basis : List ℕ) (d : CandidateValue) (feed : Feeder) → feed ≡ d.feed → is_on nets basis d ≡ true → d ≡ record { feed = feed; nets = nets; basis = basis }
+found_on : (nets : List Token) (basis : List ℕ) (d : CandidateValue) (feed : Feeder) → feed ≡ d.feed → is_on nets basis d ≡ true → d ≡ record { feed = feed; nets = nets; basis = basis }
 found_on nets basis d feed same on = parts (same_names d.nets nets) refl on
   where
     parts : (b : Bool) → same_names d.nets nets ≡ b → (b && same_elements d.basis basis) ≡ true → d ≡ record { feed = feed; nets = nets; basis = basis }
@@ -156,6 +156,29 @@ module _ (cs : List CandidateValue) (nets : List Token) (basis : List ℕ) where
       let found = first_some state.start (drop state.start cs) (first_of nets) p (sym state.at_is) in
       (found.candidate, ap (slice_get cs) found.place ∙ sym (got_dropped state.start cs found.j) ∙ found.at, found.named)
 
+  -- no candidate before that of the search is on these nets
+  search_before : (p : ℕ) → IsSearch cs nets basis (Some p) → (q : ℕ) (d : CandidateValue) → q < p → slice_get cs q ≡ Some d → is_on nets basis d ≡ true → ⊥
+  search_before p state q d less found on = cases (lt_or_le q state.start)
+    where
+      found_first : IsFirstOf state.start (drop state.start cs) (first_of nets) p
+      found_first = first_some state.start (drop state.start cs) (first_of nets) p (sym state.at_is)
+
+      cases : (q < state.start) ⊎ (state.start ≤ q) → ⊥
+      cases (inl early) = state.before q d early found on
+      cases (inr late) =
+          let i : ℕ = q - state.start in
+          let place : q ≡ state.start + i = omega (arith, late) in
+          found_first.first i d (omega (arith, place, found_first.place, less)) (got_dropped state.start cs i ∙ ap (slice_get cs) (sym place) ∙ found) (on_named nets basis d on)
+
+  -- the candidate of the search is the first on these nets, if it is on them
+  pub search_found : (p : ℕ) (c : CandidateValue) (feed : Feeder) → IsSearch cs nets basis (Some p) → slice_get cs p ≡ Some c → feed ≡ c.feed → is_on nets basis c ≡ true → IsFirstOn cs nets basis feed
+  search_found p c feed state got same on =
+      record {
+        place = p;
+        at = got ∙ ap Some (found_on nets basis c feed same on);
+        before = λ q other less found. search_before p state q (record { feed = other; nets = nets; basis = basis }) less found (on_itself nets basis other);
+      }
+
   -- one candidate more is not on these nets
   pub search_on : (firsts : Numbers) (next : List (Option ℕ)) (p : ℕ) (c : CandidateValue) (at : Option ℕ) → AreLinked cs firsts next → IsSearch cs nets basis (Some p) → slice_get cs p ≡ Some c → is_on nets basis c ≡ false → slice_get next p ≡ Some at
       → IsSearch cs nets basis at × (left_after (length cs) at < left_after (length cs) (Some p))
@@ -170,11 +193,8 @@ module _ (cs : List CandidateValue) (nets : List Token) (basis : List ℕ) where
       (record { start = p + 1; at_is = at_named; before = before }, smaller at at_named)
     where
       before : (q : ℕ) (d : CandidateValue) → q < p + 1 → slice_get cs q ≡ Some d → is_on nets basis d ≡ true → ⊥
-      before q d less found on = cases (lt_or_le q state.start)
+      before q d less found on = cases (lt_or_le q p)
         where
-          found_first : IsFirstOf state.start (drop state.start cs) (first_of nets) p
-          found_first = first_some state.start (drop state.start cs) (first_of nets) p (sym state.at_is)
-
           here : q ≡ p → ⊥
           here e =
               let P : ℕ → Type 0 = λ m. slice_get cs m ≡ Some d in
@@ -183,13 +203,9 @@ module _ (cs : List CandidateValue) (nets : List Token) (basis : List ℕ) where
               let both : true ≡ false = sym on ∙ ap (is_on nets basis) (sym same) ∙ off in
               absurd (cc)
 
-          later : (i : ℕ) → q ≡ state.start + i → (i < found_first.j) ⊎ (found_first.j ≤ i) → ⊥
-          later i e (inl early) = found_first.first i d early (got_dropped state.start cs i ∙ ap (slice_get cs) (sym e) ∙ found) (on_named nets basis d on)
-          later i e (inr late) = here (omega (arith, late, e, found_first.place, less))
-
-          cases : (q < state.start) ⊎ (state.start ≤ q) → ⊥
-          cases (inl early) = state.before q d early found on
-          cases (inr late) = later (q - state.start) (omega (arith, late)) (lt_or_le (q - state.start) found_first.j)
+          cases : (q < p) ⊎ (p ≤ q) → ⊥
+          cases (inl early) = search_before p state q d early found on
+          cases (inr late) = here (omega (arith, late, less))
 
       smaller : (found : Option ℕ) → found ≡ first_from (p + 1) (drop (p + 1) cs) (first_of nets) → left_after (length cs) found < left_after (length cs) (Some p)
       smaller None is = omega (arith, slice_get_within cs p c got)

@@ -1,17 +1,17 @@
 -- Names, and what they are connected to.
-use Rattle.std.proofs.Common.{◌≡◌, ◌≢◌, ◌∙◌, ap, sym, refl, subst, ℕ, zero, suc, ◌<◌, ◌≤◌, ◌+◌, ◌-◌, Bool, true, false, ◌&&◌, List, [], ◌∷◌, ◌++◌, length, map, filter, take, drop, Option, None, Some, if◌then◌else◌, arith, add-one}
+use Rattle.std.proofs.Common.{◌≡◌, ◌∙◌, ap, sym, refl, ℕ, zero, suc, ◌+◌, Bool, true, false, ◌&&◌, List, [], ◌∷◌, ◌++◌, map, filter, take, drop, Option, None, Some, if◌then◌else◌, arith, add-one}
 use Rattle.std.specs.Prelude.{slice_get}
 use Rattle.std.specs.Option.{option_and_then, option_map}
 use Rattle.std.specs.Str.{bytes_eq}
 use Rattle.std.proofs.lemmas.Slice.Eq.{bytes_eq-Decides}
 use Rattle.net_core.specs.Lists.{Has}
 use Rattle.net_blif.specs.Connection.{actual_of, formal_of}
-use Rattle.net_blif.specs.Instances.{first_found, or_else}
+use Rattle.net_blif.specs.Instances.{or_else}
 use Rattle.net_blif.specs.Statement.{Token}
-use Rattle.net_blif.specs.Top.{actual_at, connections_in, is_instance}
+use Rattle.net_blif.specs.Top.{connections_in, is_instance}
 use Rattle.net_blif.specs.declared.item.Item.{Item}
 use Rattle.net_blif.specs.declared.item.Item.TheVariants.{Inputs, Outputs, Gate, Latch, Instance}
-use Rattle.block_wiring.specs.private.Names.{actual_by, actuals_by, connections_of, first_of, place_from, same_names}
+use Rattle.block_wiring.specs.private.Names.{actual_by, actuals_by, connections_of, place_from, same_names}
 
 -- ---- the same names
 

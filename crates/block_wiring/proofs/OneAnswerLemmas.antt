@@ -1,13 +1,22 @@
 -- A top has one answer.
-use Rattle.std.proofs.Common.{◌≡◌, ◌≢◌, ◌∙◌, ap, sym, refl, subst, ℕ, ◌<◌, ◌≤◌, ◌+◌, ◌⊎◌, inl, inr, List, arith}
+use Rattle.std.proofs.Common.{◌≡◌, ◌≢◌, ◌∙◌, ap, sym, refl, subst, ℕ, ◌<◌, ◌≤◌, ◌+◌, ◌⊎◌, inl, inr, List, length, Some, arith}
+use Rattle.std.specs.Prelude.{slice_get}
+use Rattle.std.proofs.lemmas.Option.{slice_get_within}
+use Rattle.graph_core.proofs.GraphLemmas.{same_lists}
+use Rattle.graph_core.proofs.ListLemmas.{get_below}
 use Rattle.net_core.specs.Order.{IsBefore}
+use Rattle.net_blif.specs.declared.item.Item.{Item}
+use Rattle.block_feeds.specs.Feeds.{AreFeedsOf, Fits}
 use Rattle.block_feeds.specs.Hierarchy.{Hierarchy}
+use Rattle.block_feeds.specs.NamedWord.{inputs_among}
 use Rattle.block_feeds.specs.declared.feeder.Feeder.{Feeder}
-use Rattle.block_wiring.specs.Answer.{AreWired}
+use Rattle.block_wiring.specs.Answer.{AreWired, IsEarlierFeed, IsFirstFit}
 use Rattle.block_wiring.specs.Refusal.{IsFirstRefused, IsWiringFault}
 use Rattle.block_wiring.specs.declared.fault.WiringFault.{WiringFault}
 use Rattle.block_wiring.specs.declared.fault.WiringFault.TheVariants.{NotWords, OutputNotWords, OutOfMemory}
+use Rattle.block_wiring.proofs.FirstLemmas.{feeds_in_order}
 use Rattle.block_wiring.proofs.ListLemmas.{lt_or_le}
+use Rattle.block_wiring.proofs.PlainLemmas.{same_words}
 
 -- one of two places is before the other, or they are the same
 in_order : (i w j v : ℕ) → IsBefore i w j v ⊎ (IsBefore j v i w ⊎ ((i ≡ j) × (w ≡ v)))
@@ -44,3 +53,46 @@ pub wired_apart : (h : Hierarchy) (rows : List (List Feeder)) (output : Feeder) 
 wired_apart h rows output (NotWords n w) wired is = absurd (wired.accepted is.0 w is.2.here)
 wired_apart h rows output OutputNotWords wired is = absurd (is.1 output wired.feeds_output)
 wired_apart h rows output OutOfMemory wired is = refl
+
+-- ---- a top is wired in one way
+
+-- of two feeds of which neither is earlier each is the other
+same_feed : (f g : Feeder) → (IsEarlierFeed f g → ⊥) → (IsEarlierFeed g f → ⊥) → f ≡ g
+same_feed f g not_before not_after = cases (feeds_in_order f g)
+  where
+    cases : IsEarlierFeed f g ⊎ (IsEarlierFeed g f ⊎ (f ≡ g)) → f ≡ g
+    cases (inl before) = absurd (not_before before)
+    cases (inr (inl after)) = absurd (not_after after)
+    cases (inr (inr same)) = same
+
+module _ (h : Hierarchy) (rows more : List (List Feeder)) (output other : Feeder) (one : AreWired h rows output) (two : AreWired h more other) where
+  same_row : (i : ℕ) (row next : List Feeder) → slice_get rows i ≡ Some row → slice_get more i ≡ Some next → row ≡ next
+  same_row i row next at there = same_lists row next (first.long ∙ ap (λ ws. length (inputs_among ws)) same.1 ∙ sym second.long) each
+    where
+      first : AreFeedsOf h i row
+      first = one.feeds.each i row at
+
+      second : AreFeedsOf h i next
+      second = two.feeds.each i next there
+
+      same : (first.item ≡ second.item) × (first.words ≡ second.words)
+      same = same_words h i first.item second.item first.words second.words first.instance second.instance
+
+      -- the feeds of one word
+      each : (j : ℕ) (f g : Feeder) → slice_get row j ≡ Some f → slice_get next j ≡ Some g → f ≡ g
+      each j f g at_f at_g =
+          let word = get_below (inputs_among first.words) j (omega (arith, first.long, slice_get_within row j f at_f)) in
+          let here : slice_get (inputs_among second.words) j ≡ Some word.0 = sym (ap (λ ws. slice_get (inputs_among ws) j) same.1) ∙ word.1 in
+          let P : Item → Type 0 = λ item. Fits h item word.0 g in
+          let Q : Item → Type 0 = λ item. IsFirstFit h item word.0 g in
+          let fits_f : Fits h first.item word.0 f = first.each j word.0 f word.1 at_f in
+          let fits_g : Fits h first.item word.0 g = subst P (sym same.0) (second.each j word.0 g here at_g) in
+          let first_f : IsFirstFit h first.item word.0 f = one.first i row first.item first.words at first.instance j word.0 f word.1 at_f in
+          let first_g : IsFirstFit h first.item word.0 g = subst Q (sym same.0) (two.first i next second.item second.words there second.instance j word.0 g here at_g) in
+          same_feed f g (λ before. first_g f before fits_f) (λ after. first_f g after fits_g)
+
+  pub one_wiring : (rows ≡ more) × (output ≡ other)
+  one_wiring = (
+    same_lists rows more (one.feeds.long ∙ sym two.feeds.long) same_row,
+    same_feed output other (λ before. two.first_output output before one.feeds_output) (λ after. one.first_output other after two.feeds_output),
+  )

@@ -1,5 +1,5 @@
 -- Instances by their connections and words alone are the instances of a top.
-use Rattle.std.proofs.Common.{◌≡◌, ◌≢◌, ◌∙◌, ap, sym, refl, subst, ℕ, zero, suc, ◌<◌, ◌≤◌, ◌+◌, Bool, true, false, ◌⊎◌, inl, inr, not, List, [], ◌∷◌, ◌++◌, length, map, Option, None, Some, arith}
+use Rattle.std.proofs.Common.{◌≡◌, ◌∙◌, ap, sym, refl, subst, ℕ, zero, suc, ◌<◌, ◌+◌, ◌⊎◌, inl, inr, not, List, [], ◌∷◌, ◌++◌, length, Option, None, Some, arith}
 use Rattle.std.specs.Prelude.{slice_get}
 use Rattle.std.specs.Option.{option_and_then, option_map, option_map_or}
 use Rattle.std.proofs.lemmas.Option.{slice_get_within}
@@ -94,7 +94,7 @@ pub record IsOutputBy (n : ℕ) (connections : List Token) (outputs : List Named
   pub actuals : actuals_by connections word.nets ≡ Some nets
   pub is : c ≡ record { feed = OutputOf n; nets = nets; basis = word.basis }
 
-output_one : (n : ℕ) (connections : List Token) (outputs : List NamedWord) (c : CandidateValue) → Has (output_by n connections outputs) c → IsOutputBy n connections outputs c
+pub output_one : (n : ℕ) (connections : List Token) (outputs : List NamedWord) (c : CandidateValue) → Has (output_by n connections outputs) c → IsOutputBy n connections outputs c
 output_one n connections [] c has = let got = has.1 in absurd (cc)
 output_one n connections (word ∷ []) c has = parts (actuals_by connections word.nets) refl has
   where
@@ -117,7 +117,7 @@ pub record IsOutputAmong (n : ℕ) (placed : List PlacedValue) (c : CandidateVal
   pub at : slice_get placed j ≡ Some instance
   pub by : IsOutputBy (n + j) instance.connections (outputs_among instance.words) c
 
-output_among : (n : ℕ) (placed : List PlacedValue) (c : CandidateValue) → Has (output_candidates n placed) c → IsOutputAmong n placed c
+pub output_among : (n : ℕ) (placed : List PlacedValue) (c : CandidateValue) → Has (output_candidates n placed) c → IsOutputAmong n placed c
 output_among n [] c has = let got = has.1 in absurd (cc)
 output_among n (x ∷ placed) c has = cases (has_either (output_by n x.connections (outputs_among x.words)) (output_candidates (n + 1) placed) c has) (output_among (n + 1) placed c)
   where

@@ -1,5 +1,5 @@
 -- Rows of feeds, word by word and instance by instance.
-use Rattle.std.proofs.Common.{◌≡◌, ◌≢◌, ◌∙◌, ap, sym, refl, subst, ℕ, zero, suc, ◌<◌, ◌≤◌, ◌+◌, Bool, true, false, ◌⊎◌, inl, inr, not, if◌then◌else◌, List, [], ◌∷◌, ◌++◌, length, take, Option, None, Some, arith, append-nil, take_all}
+use Rattle.std.proofs.Common.{◌≡◌, ◌≢◌, ◌∙◌, ap, sym, refl, subst, ℕ, ◌<◌, ◌≤◌, ◌+◌, true, false, ◌⊎◌, inl, inr, not, if◌then◌else◌, List, [], ◌∷◌, ◌++◌, length, take, None, Some, arith, append-nil, take_all}
 use Rattle.std.specs.Prelude.{slice_get}
 use Rattle.std.proofs.lemmas.Option.{slice_get_within}
 use Rattle.graph_core.proofs.ListLemmas.{get_below, got_push, length-push}
@@ -11,7 +11,7 @@ use Rattle.net_blif.specs.Statement.{Token}
 use Rattle.block_feeds.specs.NamedWord.{inputs_among, outputs_among, NamedWord}
 use Rattle.block_feeds.specs.declared.feeder.Feeder.{Feeder}
 use Rattle.block_wiring.specs.private.Names.{actual_by, actuals_by}
-use Rattle.block_wiring.specs.private.Plain.{candidates_of, AreFedBefore, AreRows, CandidateValue, ComesOf, IsBadOutput, IsFedMore, IsFoundFor, IsPlainFault, IsRefusedBy, IsRefusedFirst, IsRefusedInOrder, IsRow, IsRowFault, PlacedValue}
+use Rattle.block_wiring.specs.private.Plain.{candidates_of, AreFedBefore, AreRows, CandidateValue, IsBadOutput, IsFedMore, IsFirstFor, IsFoundFor, IsPlainFault, IsRefusedBy, IsRefusedFirst, IsRefusedInOrder, IsRow, IsRowFault, PlacedValue}
 use Rattle.block_wiring.specs.declared.fault.WiringFault.{WiringFault}
 use Rattle.block_wiring.specs.declared.fault.WiringFault.TheVariants.{NotWords, OutputNotWords, OutOfMemory}
 use Rattle.block_wiring.specs.private.Words.{is_mixed}
@@ -50,12 +50,16 @@ inputs_of_other word other = by_role word.role refl
     by_role Output is = absurd (other is)
 
 module _ (cs : List CandidateValue) (placed : PlacedValue) where
+  -- what is found first is found
+  pub first_found : (word : NamedWord) (feed : Feeder) → IsFirstFor cs placed word feed → IsFoundFor cs placed word feed
+  first_found word feed is = record { nets = is.nets; actuals = is.actuals; has = (is.first.place, is.first.at) }
+
   -- a word that is fed is not refused
   pub fed_accepted : (word : NamedWord) (old new : List Feeder) → IsFedMore cs placed word old new → IsRefusedBy cs placed word → ⊥
   fed_accepted word old new (inl fed) (inl refused) = fed.1 refused.1
   fed_accepted word old new (inl fed) (inr refused) = refused.0 fed.0
   fed_accepted word old new (inr fed) (inl refused) = fed.0 refused.0
-  fed_accepted word old new (inr fed) (inr refused) = let found = fed.1 in refused.1 found.0 found.1
+  fed_accepted word old new (inr fed) (inr refused) = let found = fed.1 in refused.1 found.0 (first_found word found.0 found.1)
 
   -- before the first word
   pub row_none : AreFedBefore cs placed 0 []
@@ -78,7 +82,7 @@ module _ (cs : List CandidateValue) (placed : PlacedValue) where
   -- one word more
   pub row_more : (w : ℕ) (word : NamedWord) (row new : List Feeder) → slice_get placed.words w ≡ Some word → AreFedBefore cs placed w row → IsFedMore cs placed word row new → AreFedBefore cs placed (w + 1) new
   row_more w word row new at before (inl fed) =
-      let P : List NamedWord → List Feeder → Type 0 = λ ws fs. (length fs ≡ length ws) × ((j : ℕ) (x : NamedWord) (feed : Feeder) → slice_get ws j ≡ Some x → slice_get fs j ≡ Some feed → IsFoundFor cs placed x feed) in
+      let P : List NamedWord → List Feeder → Type 0 = λ ws fs. (length fs ≡ length ws) × ((j : ℕ) (x : NamedWord) (feed : Feeder) → slice_get ws j ≡ Some x → slice_get fs j ≡ Some feed → IsFirstFor cs placed x feed) in
       let words_are : inputs_among (take (w + 1) placed.words) ≡ inputs_among (take w placed.words) = inputs_more placed.words w word at ∙ ap (λ ws. inputs_among (take w placed.words) ++ ws) (inputs_of_output word fed.0) ∙ append-nil (inputs_among (take w placed.words)) in
       let Q : List Feeder → Type 0 = P (inputs_among (take w placed.words)) in
       let R : List NamedWord → Type 0 = λ ws. P ws new in
@@ -87,7 +91,7 @@ module _ (cs : List CandidateValue) (placed : PlacedValue) where
   row_more w word row new at before (inr fed) =
       let found = fed.1 in
       let words_are : inputs_among (take (w + 1) placed.words) ≡ inputs_among (take w placed.words) ++ word ∷ [] = inputs_more placed.words w word at ∙ ap (λ ws. inputs_among (take w placed.words) ++ ws) (inputs_of_other word fed.0) in
-      let P : List NamedWord → List Feeder → Type 0 = λ ws fs. (length fs ≡ length ws) × ((j : ℕ) (x : NamedWord) (feed : Feeder) → slice_get ws j ≡ Some x → slice_get fs j ≡ Some feed → IsFoundFor cs placed x feed) in
+      let P : List NamedWord → List Feeder → Type 0 = λ ws fs. (length fs ≡ length ws) × ((j : ℕ) (x : NamedWord) (feed : Feeder) → slice_get ws j ≡ Some x → slice_get fs j ≡ Some feed → IsFirstFor cs placed x feed) in
       let Q : List Feeder → Type 0 = P (inputs_among (take w placed.words) ++ word ∷ []) in
       let R : List NamedWord → Type 0 = λ ws. P ws new in
       let all : P (inputs_among (take (w + 1) placed.words)) new = subst R (sym words_are) (subst Q (sym found.2) (long (inputs_among (take w placed.words)) before.long, each (inputs_among (take w placed.words)) before.long before.each found.0 found.1)) in
@@ -96,18 +100,18 @@ module _ (cs : List CandidateValue) (placed : PlacedValue) where
       long : (ws : List NamedWord) → length row ≡ length ws → (length (row ++ (fed.1).0 ∷ []) ≡ length (ws ++ word ∷ []))
       long ws is = length-push row (fed.1).0 ∙ ap (λ n. n + 1) is ∙ sym (length-push ws word)
 
-      each : (ws : List NamedWord) → length row ≡ length ws → ((j : ℕ) (x : NamedWord) (feed : Feeder) → slice_get ws j ≡ Some x → slice_get row j ≡ Some feed → IsFoundFor cs placed x feed)
-          → (last : Feeder) → IsFoundFor cs placed word last
-          → (j : ℕ) (x : NamedWord) (feed : Feeder) → slice_get (ws ++ word ∷ []) j ≡ Some x → slice_get (row ++ last ∷ []) j ≡ Some feed → IsFoundFor cs placed x feed
+      each : (ws : List NamedWord) → length row ≡ length ws → ((j : ℕ) (x : NamedWord) (feed : Feeder) → slice_get ws j ≡ Some x → slice_get row j ≡ Some feed → IsFirstFor cs placed x feed)
+          → (last : Feeder) → IsFirstFor cs placed word last
+          → (j : ℕ) (x : NamedWord) (feed : Feeder) → slice_get (ws ++ word ∷ []) j ≡ Some x → slice_get (row ++ last ∷ []) j ≡ Some feed → IsFirstFor cs placed x feed
       each ws is old last new_found j x feed at_j got = cases (got_push ws word j x at_j) (got_push row last j feed got)
         where
-          cases : ((slice_get ws j ≡ Some x) × (j < length ws)) ⊎ ((j ≡ length ws) × (x ≡ word)) → ((slice_get row j ≡ Some feed) × (j < length row)) ⊎ ((j ≡ length row) × (feed ≡ last)) → IsFoundFor cs placed x feed
+          cases : ((slice_get ws j ≡ Some x) × (j < length ws)) ⊎ ((j ≡ length ws) × (x ≡ word)) → ((slice_get row j ≡ Some feed) × (j < length row)) ⊎ ((j ≡ length row) × (feed ≡ last)) → IsFirstFor cs placed x feed
           cases (inl a) (inl b) = old j x feed a.0 b.0
           cases (inl a) (inr b) = absurd (omega (arith, a.1, b.0, is))
           cases (inr a) (inl b) = absurd (omega (arith, a.0, b.1, is))
           cases (inr a) (inr b) =
-              let S : Feeder → Type 0 = λ f. IsFoundFor cs placed word f in
-              let T : NamedWord → Type 0 = λ y. IsFoundFor cs placed y feed in
+              let S : Feeder → Type 0 = λ f. IsFirstFor cs placed word f in
+              let T : NamedWord → Type 0 = λ y. IsFirstFor cs placed y feed in
               subst T (sym a.1) (subst S (sym b.1) new_found)
 
   -- all words

@@ -1,14 +1,12 @@
 -- Loops over lists, one element after another.
-use Rattle.std.proofs.Common.{◌≡◌, ◌≢◌, ◌∙◌, ap, sym, refl, subst, ℕ, zero, suc, ◌<◌, ◌≤◌, ◌+◌, Bool, true, false, ◌&&◌, ◌||◌, ◌⊎◌, inl, inr, not, List, [], ◌∷◌, ◌++◌, length, take, drop, filter, map, get_or, Option, None, Some, if◌then◌else◌, arith, add-one, take_all, append-nil, append_assoc, length-append, drop_of_length-le, Global, Vec}
+use Rattle.std.proofs.Common.{◌≡◌, ◌≢◌, ◌∙◌, ap, sym, refl, subst, ℕ, zero, suc, ◌<◌, ◌≤◌, ◌+◌, Bool, true, false, ◌&&◌, ◌||◌, ◌⊎◌, inl, inr, List, [], ◌∷◌, ◌++◌, length, take, drop, map, Some, if◌then◌else◌, arith, add-one, take_all, append-nil, append_assoc, length-append, drop_of_length-le, Global, Vec}
 use Rattle.std.specs.Prelude.{slice_get, is_some, ◌==◌}
 use Rattle.std.proofs.Math.Path.{fun_ext}
 use Rattle.std.specs.List.{list_any}
 use Rattle.std.specs.Str.{bytes_eq}
 use Rattle.std.proofs.lemmas.List.Elements.{filter-append}
 use Rattle.std.proofs.lemmas.List.Folds.{list_any-append}
-use Rattle.std.proofs.lemmas.Option.{slice_get-get_or, slice_get_within}
-use Rattle.graph_core.proofs.ListLemmas.{get_below, get_front, get_here, got_push, length-push}
-use Rattle.net_core.specs.Lists.{Has}
+use Rattle.graph_core.proofs.ListLemmas.{get_front, get_here, got_push, length-push}
 use Rattle.net_words.specs.Roles.{same_role}
 use Rattle.net_words.specs.declared.word.Role.TheVariants.{Output}
 use Rattle.net_words.specs.declared.word.WordText.{WordText}
@@ -20,13 +18,12 @@ use Rattle.net_signature.specs.Body.{BlockValue}
 use Rattle.gf_basis.specs.BasisParts.{elements_of}
 use Rattle.gf_basis.specs.declared.bases.Basis.{Basis}
 use Rattle.block_feeds.specs.NamedWord.{inputs_among, named_words, outputs_among, NamedWord}
-use Rattle.block_feeds.specs.declared.feeder.Feeder.TheVariants.{InputWord, OutputOf}
+use Rattle.block_feeds.specs.declared.feeder.Feeder.TheVariants.{InputWord}
 use Rattle.block_wiring.specs.private.Linked.{same_elements}
 use Rattle.block_wiring.specs.private.Names.{place_from, same_names}
 use Rattle.block_wiring.specs.private.Plain.{output_by, output_candidates, word_candidates, ArePlaced, CandidateValue, HaveWords, PlacedValue}
-use Rattle.block_wiring.specs.private.Words.{in_some, is_mixed, some_in, Knows}
-use Rattle.block_wiring.proofs.ListLemmas.{dropped_at, got_taken, taken_long, taken_more}
-use Rattle.block_wiring.proofs.NamesLemmas.{same_itself}
+use Rattle.block_wiring.specs.private.Words.{in_some, is_mixed, Knows}
+use Rattle.block_wiring.proofs.ListLemmas.{dropped_at, taken_long, taken_more}
 use Rattle.block_wiring.proofs.WordsLemmas.{inputs_more}
 
 -- ---- lists

@@ -1,5 +1,5 @@
 -- A top with all that is given.
-use Rattle.std.proofs.Common.{◌≡◌, ◌∙◌, ap, sym, subst, ℕ, List, length, map, Some, Global, Vec}
+use Rattle.std.proofs.Common.{◌≡◌, ◌∙◌, ap, sym, subst, ℕ, List, map, Some, Global, Vec}
 use Rattle.std.specs.Prelude.{slice_get}
 use Rattle.net_words.specs.declared.word.WordText.{WordText}
 use Rattle.net_blif.specs.Design.{ModelValue}
@@ -8,7 +8,7 @@ use Rattle.net_blif.specs.Top.{connections_in, instances_of}
 use Rattle.net_signature.specs.Body.{BlockValue}
 use Rattle.gf_basis.specs.BasisParts.{elements_of}
 use Rattle.gf_basis.specs.declared.bases.Basis.{Basis}
-use Rattle.block_feeds.specs.Hierarchy.{bases_at, top_words, Hierarchy}
+use Rattle.block_feeds.specs.Hierarchy.{top_words, Hierarchy}
 use Rattle.block_feeds.specs.NamedWord.{named_words, NamedWord}
 use Rattle.block_feeds.specs.declared.feeder.Feeder.{Feeder}
 use Rattle.block_wiring.specs.Answer.{AreWired}

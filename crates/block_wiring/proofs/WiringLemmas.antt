@@ -1,5 +1,5 @@
 -- A wired top.
-use Rattle.std.proofs.Common.{◌≡◌, ◌≢◌, ◌∙◌, ap, sym, refl, subst, ℕ, zero, suc, ◌<◌, ◌≤◌, ◌+◌, Bool, true, false, ◌⊎◌, inl, inr, not, if◌then◌else◌, List, [], ◌∷◌, ◌++◌, length, map, take, filter, Option, None, Some, arith, take_all}
+use Rattle.std.proofs.Common.{◌≡◌, ◌∙◌, ap, sym, refl, subst, ℕ, zero, suc, ◌<◌, Bool, true, false, inl, inr, if◌then◌else◌, List, [], ◌∷◌, length, take, Option, None, Some, arith, take_all}
 use Rattle.std.specs.Prelude.{slice_get}
 use Rattle.std.proofs.lemmas.Option.{slice_get_within}
 use Rattle.graph_core.proofs.ListLemmas.{get_below}
@@ -11,19 +11,20 @@ use Rattle.net_blif.specs.Statement.{Token}
 use Rattle.net_blif.specs.Top.{connections_in, instances_of}
 use Rattle.net_blif.specs.declared.item.Item.{Item}
 use Rattle.block_feeds.specs.Feeds.{AreFeedsOf, Fits, FeedsOutput, IsOutputOf, StandsOn}
-use Rattle.block_feeds.specs.Hierarchy.{actuals_of, top_words, Hierarchy, IsInstance}
+use Rattle.block_feeds.specs.Hierarchy.{top_words, Hierarchy, IsInstance}
 use Rattle.block_feeds.specs.NamedWord.{inputs_among, outputs_among, NamedWord}
 use Rattle.block_feeds.specs.declared.feeder.Feeder.{Feeder}
 use Rattle.block_feeds.specs.declared.feeder.Feeder.TheVariants.{InputWord, OutputOf}
-use Rattle.block_wiring.specs.Answer.{AreWired, IsFeedIn}
+use Rattle.block_wiring.specs.Answer.{AreWired, IsEarlierFeed, IsFeedIn, IsFirstFit}
 use Rattle.block_wiring.specs.Refusal.{AreAllFed, IsFirstRefused, IsRefusedAt, IsRefusedWord, IsWiringFault}
 use Rattle.block_wiring.specs.declared.fault.WiringFault.{WiringFault}
 use Rattle.block_wiring.specs.declared.fault.WiringFault.TheVariants.{NotWords, OutputNotWords, OutOfMemory}
-use Rattle.block_wiring.specs.private.Names.{actual_by, actuals_by}
-use Rattle.block_wiring.specs.private.Plain.{candidates_of, AreAccepted, AreRows, ArePlainlyWired, CandidateValue, HaveOutputs, IsFoundFor, IsOutputFeed, IsPlainFault, IsRefusedBy, IsRefusedInOrder, IsRow, PlacedValue}
+use Rattle.block_wiring.specs.private.Names.{actuals_by}
+use Rattle.block_wiring.specs.private.Plain.{candidates_of, AreAccepted, ArePlainlyWired, CandidateValue, HaveOutputs, IsFirstFor, IsFirstOutput, IsFoundFor, IsOutputFeed, IsPlainFault, IsRefusedBy, IsRefusedInOrder, IsRow, PlacedValue}
+use Rattle.block_wiring.proofs.FirstLemmas.{none_earlier}
 use Rattle.block_wiring.proofs.NamesLemmas.{unconnected}
-use Rattle.block_wiring.proofs.PlainLemmas.{actuals_same, found_fits, placed_at, refused_word, stands, stood, word_refused, ArePlain}
-use Rattle.block_wiring.proofs.RowLemmas.{rows_accepted}
+use Rattle.block_wiring.proofs.PlainLemmas.{actuals_same, fits_found, found_fits, placed_at, refused_word, stands, stood, word_refused, ArePlain}
+use Rattle.block_wiring.proofs.RowLemmas.{first_found, rows_accepted}
 use Rattle.block_wiring.proofs.WordsLemmas.{output_role}
 
 -- ---- lists
@@ -124,19 +125,50 @@ module _ (h : Hierarchy) (top : List NamedWord) (placed : List PlacedValue) (are
 
   -- ---- rows
 
+  all_inputs : (instance : PlacedValue) → inputs_among (take (length instance.words) instance.words) ≡ inputs_among instance.words
+  all_inputs instance = ap inputs_among (take_all (length instance.words) instance.words (omega arith))
+
+  -- each input word of an instance has its feed in the row
+  each_found : (instance : PlacedValue) (row : List Feeder) → IsRow cs instance row → (j : ℕ) (word : NamedWord) (feed : Feeder) → slice_get (inputs_among instance.words) j ≡ Some word → slice_get row j ≡ Some feed → IsFirstFor cs instance word feed
+  each_found instance row is =
+      let P : List NamedWord → Type 0 = λ ws. (j : ℕ) (word : NamedWord) (feed : Feeder) → slice_get ws j ≡ Some word → slice_get row j ≡ Some feed → IsFirstFor cs instance word feed in
+      subst P (all_inputs instance) is.each
+
   row_feeds : (i : ℕ) (instance : PlacedValue) (row : List Feeder) → slice_get placed i ≡ Some instance → IsRow cs instance row → AreFeedsOf h i row
   row_feeds i instance row at is =
       let known = are.each i instance at in
-      let words_are : inputs_among (take (length instance.words) instance.words) ≡ inputs_among instance.words = ap inputs_among (take_all (length instance.words) instance.words (omega arith)) in
-      let P : List NamedWord → Type 0 = λ ws. (j : ℕ) (word : NamedWord) (feed : Feeder) → slice_get ws j ≡ Some word → slice_get row j ≡ Some feed → IsFoundFor cs instance word feed in
-      let each : P (inputs_among instance.words) = subst P words_are is.each in
       record {
         item = known.0;
         words = instance.words;
         instance = known.1;
-        long = is.long ∙ ap length words_are;
-        each = λ j word feed at_j got. found_fits h top placed are i instance known.0 known.2 word feed (each j word feed at_j got);
+        long = is.long ∙ ap length (all_inputs instance);
+        each = λ j word feed at_j got. found_fits h top placed are i instance known.0 known.2 word feed (first_found cs instance word feed (each_found instance row is j word feed at_j got));
       }
+
+  -- ---- the first feeds
+
+  -- what is found first is the first that fits
+  first_fit : (i : ℕ) (instance : PlacedValue) (item : Item) (word : NamedWord) (feed : Feeder) → connections_in item ≡ instance.connections → IsFirstFor cs instance word feed → IsFirstFit h item word feed
+  first_fit i instance item word feed same first other early fit =
+      let found : IsFoundFor cs instance word other = fits_found h top placed are i instance item same word other fit in
+      let mine : actuals_by instance.connections word.nets ≡ Some first.nets = first.actuals in
+      let theirs : actuals_by instance.connections word.nets ≡ Some found.nets = found.actuals in
+      let nets : found.nets ≡ first.nets = cc in
+      let P : List Token → Type 0 = λ ns. Has cs (record { feed = other; nets = ns; basis = word.basis }) in
+      none_earlier top placed first.nets word.basis feed other first.first early (subst P nets found.has)
+
+  -- so it is with the output word of the top
+  output_found : (feed : Feeder) → IsFirstOutput cs top feed → IsOutputFeed cs top feed
+  output_found feed is = record { word = is.word; one = is.one; has = (is.first.place, is.first.at) }
+
+  first_output : (feed other : Feeder) → IsFirstOutput cs top feed → IsEarlierFeed other feed → FeedsOutput h other → ⊥
+  first_output feed other first early feeds =
+      let found : IsOutputFeed cs top other = stands_output other feeds in
+      let mine : outputs_among top ≡ first.word ∷ [] = first.one in
+      let theirs : outputs_among top ≡ found.word ∷ [] = found.one in
+      let same : found.word ≡ first.word = cc in
+      let P : NamedWord → Type 0 = λ w. Has cs (record { feed = other; nets = w.nets; basis = w.basis }) in
+      none_earlier top placed first.word.nets first.word.basis feed other first.first early (subst P same found.has)
 
   -- the output of an instance whose words are not refused
   output_with : (i : ℕ) (instance : PlacedValue) → slice_get placed i ≡ Some instance → (word : NamedWord) → outputs_among instance.words ≡ word ∷ [] → AreAccepted cs placed → (nets : List Token) × (basis : List ℕ) × IsOutputOf h i nets basis
@@ -158,7 +190,7 @@ module _ (h : Hierarchy) (top : List NamedWord) (placed : List PlacedValue) (are
   pub plainly_wired : (rows : List (List Feeder)) (output : Feeder) → HaveOutputs placed → ArePlainlyWired top placed rows output → AreWired h rows output
   plainly_wired rows output outputs wired =
       let accepted : AreAccepted cs placed = rows_accepted cs placed rows wired.rows_are in
-      let feeds_output : FeedsOutput h output = output_stands output wired.output_is in
+      let feeds_output : FeedsOutput h output = output_stands output (output_found output wired.output_is) in
       record {
         feeds = record { long = wired.rows_are.long ∙ are.long; each = each };
         feeds_output = feeds_output;
@@ -166,6 +198,8 @@ module _ (h : Hierarchy) (top : List NamedWord) (placed : List PlacedValue) (are
         outputs = λ i item at. let found = get_below placed i (omega (arith, are.long, slice_get_within (instances_of h.design) i item at)) in output_of i found.0 found.1 (outputs i found.0 found.1) accepted;
         among = among;
         among_output = stands_among h output feeds_output.word.nets feeds_output.word.basis feeds_output.stands;
+        first = first;
+        first_output = λ other early feeds. first_output output other wired.output_is early feeds;
       }
     where
       each : (i : ℕ) (feeds : List Feeder) → slice_get rows i ≡ Some feeds → AreFeedsOf h i feeds
@@ -179,3 +213,9 @@ module _ (h : Hierarchy) (top : List NamedWord) (placed : List PlacedValue) (are
           let word = get_below (inputs_among row.words) j (omega (arith, row.long, slice_get_within feeds j feed got)) in
           let fit : Fits h row.item word.0 feed = row.each j word.0 feed word.1 got in
           stands_among h feed fit.nets (word.0).basis fit.stands
+
+      first : (i : ℕ) (feeds : List Feeder) (item : Item) (words : List NamedWord) → slice_get rows i ≡ Some feeds → IsInstance h i item words → (j : ℕ) (word : NamedWord) (feed : Feeder) → slice_get (inputs_among words) j ≡ Some word → slice_get feeds j ≡ Some feed → IsFirstFit h item word feed
+      first i feeds item words at is j word feed at_j got =
+          let found = placed_at h top placed are i item words is in
+          let here : slice_get (inputs_among (found.0).words) j ≡ Some word = ap (λ ws. slice_get (inputs_among ws) j) found.2 ∙ at_j in
+          first_fit i found.0 item word feed found.3 (each_found found.0 feeds (wired.rows_are.each i found.0 feeds found.1 at) j word feed here got)

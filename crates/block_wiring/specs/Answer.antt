@@ -4,9 +4,9 @@ use Rattle.std.specs.Prelude.{◌≡◌, ℕ, ◌<◌, List, Some, Vec, length, 
 use Rattle.net_blif.specs.Statement.{Token}
 use Rattle.net_blif.specs.Top.{instances_of}
 use Rattle.net_blif.specs.declared.item.Item.{Item}
-use Rattle.block_feeds.specs.Feeds.{FeedsOutput, IsOutputOf}
-use Rattle.block_feeds.specs.Hierarchy.{top_words, Hierarchy}
-use Rattle.block_feeds.specs.NamedWord.{inputs_among}
+use Rattle.block_feeds.specs.Feeds.{Fits, FeedsOutput, IsOutputOf}
+use Rattle.block_feeds.specs.Hierarchy.{top_words, Hierarchy, IsInstance}
+use Rattle.block_feeds.specs.NamedWord.{inputs_among, NamedWord}
 use Rattle.block_feeds.specs.Wiring.{AreAllFeeds}
 use Rattle.block_feeds.specs.declared.feeder.Feeder.{Feeder}
 use Rattle.block_feeds.specs.declared.feeder.Feeder.TheVariants.{InputWord, OutputOf}
@@ -21,7 +21,19 @@ abbrev pub IsFeedIn : Hierarchy → Feeder → Type 0
 IsFeedIn h (InputWord w) = w < length (inputs_among (top_words h))
 IsFeedIn h (OutputOf i) = i < length (instances_of h.design)
 
--- row i is what feeds instance i, the output word has a feed, no word is refused, and each instance has an output
+-- the order of feeds: the input words of the top in their order, and then the outputs of the instances by number
+abbrev pub IsEarlierFeed : Feeder → Feeder → Type 0
+IsEarlierFeed (InputWord w) (InputWord v) = w < v
+IsEarlierFeed (InputWord w) (OutputOf i) = Unit {0}
+IsEarlierFeed (OutputOf i) (InputWord w) = ⊥
+IsEarlierFeed (OutputOf i) (OutputOf j) = i < j
+
+-- no earlier feed fits the word of an instance
+abbrev pub IsFirstFit : Hierarchy → Item → NamedWord → Feeder → Type 0
+IsFirstFit h item word feed = (other : Feeder) → IsEarlierFeed other feed → Fits h item word other → ⊥
+
+-- row i is what feeds instance i, the output word has a feed, no word is refused, and each instance has an output; where more than one feed
+-- fits a word, the word has the first of them
 pub record AreWired (h : Hierarchy) (rows : List (List Feeder)) (output : Feeder) : Type 0 where
   pub feeds : AreAllFeeds h rows
   pub feeds_output : FeedsOutput h output
@@ -29,3 +41,5 @@ pub record AreWired (h : Hierarchy) (rows : List (List Feeder)) (output : Feeder
   pub outputs : (i : ℕ) (item : Item) → slice_get (instances_of h.design) i ≡ Some item → (nets : List Token) × (basis : List ℕ) × IsOutputOf h i nets basis
   pub among : (i j : ℕ) (feeds : List Feeder) (feed : Feeder) → slice_get rows i ≡ Some feeds → slice_get feeds j ≡ Some feed → IsFeedIn h feed
   pub among_output : IsFeedIn h output
+  pub first : (i : ℕ) (feeds : List Feeder) (item : Item) (words : List NamedWord) → slice_get rows i ≡ Some feeds → IsInstance h i item words → (j : ℕ) (word : NamedWord) (feed : Feeder) → slice_get (inputs_among words) j ≡ Some word → slice_get feeds j ≡ Some feed → IsFirstFit h item word feed
+  pub first_output : (other : Feeder) → IsEarlierFeed other output → FeedsOutput h other → ⊥

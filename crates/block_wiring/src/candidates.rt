@@ -5,7 +5,7 @@ ghost use Rattle.net_core.specs.Lists.{Has};
 ghost use Rattle.net_blif.specs.Table.{numbers_in};
 ghost use Rattle.gf_basis.specs.BasisParts.{elements_of};
 ghost use Rattle.block_wiring.specs.private.Linked.{is_on, AreLinked};
-ghost use Rattle.block_wiring.specs.private.Plain.{CandidateValue, HaveSize};
+ghost use Rattle.block_wiring.specs.private.Plain.{CandidateValue, HaveSize, IsFirstOn};
 
 use crate::candidate::Candidate;
 use crate::named::Named;
@@ -51,20 +51,20 @@ impl<'a> Candidates<'a> {
         Ok(Candidates { list, firsts, next })
     }
 
-    /// A candidate on these nets and with this basis; none exactly where there is none. All bases have `size` elements.
+    /// The first candidate on these nets and with this basis; none exactly where there is none. All bases have `size` elements.
     pub fn find(&self, nets: &Nets<'_>, basis: &Basis, size: u32) -> Option<Feeder>
         requires own { HaveSize size self.now }
         requires other { length (elements_of basis.now) ≡ size }
-        ensures some { IfSome result (λ feed. Has self.now (record { feed = feed; nets = nets.now; basis = elements_of basis.now })) }
+        ensures some { IfSome result (λ feed. IsFirstOn self.now nets.now (elements_of basis.now) feed) }
         ensures none { IfNone result ((c : CandidateValue) → Has self.now c → is_on nets.now (elements_of basis.now) c ≡ true → ⊥) }
     {
         find(&self.list, &self.firsts, &self.next, nets, basis, size)
     }
 
-    /// What feeds a word that stands on these nets; none exactly where nothing does.
+    /// The first that feeds a word that stands on these nets; none exactly where nothing does.
     pub fn feed_for(&self, nets: &Nets<'_>, word: &Named<'_>) -> Option<Feeder>
         requires { (k : ℕ) × (k ≤ 64) × (length word.now.nets ≡ k) × (length word.now.basis ≡ k) × HaveSize k self.now }
-        ensures some { IfSome result (λ feed. Has self.now (record { feed = feed; nets = nets.now; basis = word.now.basis })) }
+        ensures some { IfSome result (λ feed. IsFirstOn self.now nets.now word.now.basis feed) }
         ensures none { IfNone result ((feed : FeederValue) → Has self.now (record { feed = feed; nets = nets.now; basis = word.now.basis }) → ⊥) }
     {
         self.find(nets, word.basis(), word.nets().len() as u32)
@@ -101,7 +101,7 @@ fn linked(
     Ok((firsts, next))
 }
 
-// A candidate on these nets and with this basis; none exactly where there is none.
+// The first candidate on these nets and with this basis; none exactly where there is none.
 fn find(
     list: &[Candidate<'_>],
     firsts: &Table,
@@ -113,7 +113,7 @@ fn find(
     requires linked { AreLinked list.now (numbers_in firsts.now) next.now }
     requires own { HaveSize size list.now }
     requires other { length (elements_of basis.now) ≡ size }
-    ensures some { IfSome result (λ feed. Has list.now (record { feed = feed; nets = nets.now; basis = elements_of basis.now })) }
+    ensures some { IfSome result (λ feed. IsFirstOn list.now nets.now (elements_of basis.now) feed) }
     ensures none { IfNone result ((c : CandidateValue) → Has list.now c → is_on nets.now (elements_of basis.now) c ≡ true → ⊥) }
 {
     let mut at = firsts.get(nets.first());

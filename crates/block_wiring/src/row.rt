@@ -2,7 +2,7 @@
 ghost use Rattle.std.specs.Prelude.{◌≡◌, ◌<◌, ◌+◌, ◌^◌, ℕ, [], ◌∷◌, false, true, IfErr, IfNone, IfOk, IfSome, length, map, slice_get, Some};
 ghost use Rattle.block_feeds.specs.NamedWord.{outputs_among, NamedWord};
 ghost use Rattle.block_feeds.specs.declared.feeder.Feeder.{Feeder as FeederValue};
-ghost use Rattle.block_wiring.specs.private.Plain.{AreRows, AreSized, ComesOf, HaveSize, IsBadOutput, IsFoundFor, IsRefusedFirst, IsRow, IsRowFault, PlacedValue};
+ghost use Rattle.block_wiring.specs.private.Plain.{AreRows, AreSized, ComesOf, HaveSize, IsBadOutput, IsFirstFor, IsFoundFor, IsRefusedFirst, IsRow, IsRowFault, PlacedValue};
 ghost use Rattle.block_wiring.specs.private.Words.{AreOf};
 
 use crate::candidates::Candidates;
@@ -11,11 +11,11 @@ use crate::placed::Placed;
 use block_feeds::Feeder;
 use std::alloc::{AllocError, Global};
 
-// What feeds a word of an instance, if anything does.
+// The first that feeds a word of an instance, if anything does.
 fn feed_of(candidates: &Candidates<'_>, placed: &Placed<'_, '_, '_>, word: usize) -> Option<Feeder>
     requires word { word < length placed.now.words }
     requires sized { (k : ℕ) × AreOf k placed.now.words × HaveSize k candidates.now }
-    ensures some { IfSome result (λ feed. (at : NamedWord) → slice_get placed.now.words word ≡ Some at → IsFoundFor candidates.now placed.now at feed) }
+    ensures some { IfSome result (λ feed. (at : NamedWord) → slice_get placed.now.words word ≡ Some at → IsFirstFor candidates.now placed.now at feed) }
     ensures none { IfNone result ((at : NamedWord) (feed : FeederValue) → slice_get placed.now.words word ≡ Some at → IsFoundFor candidates.now placed.now at feed → ⊥) }
 {
     match placed.nets(word) {

@@ -4,7 +4,7 @@ ghost use Rattle.block_feeds.specs.declared.feeder.Feeder.{Feeder as FeederValue
 ghost use Rattle.block_wiring.specs.Answer.{rows_in, AreWired};
 ghost use Rattle.block_wiring.specs.Instanced.{hierarchy, IsInstanced};
 ghost use Rattle.block_wiring.specs.Refusal.{IsWiringFault};
-ghost use Rattle.block_wiring.specs.private.Plain.{candidates_of, AreSized, ArePlainlyWired, HaveSize, IsOutputFeed, IsPlainFault};
+ghost use Rattle.block_wiring.specs.private.Plain.{candidates_of, AreSized, ArePlainlyWired, HaveSize, IsFirstOutput, IsOutputFeed, IsPlainFault};
 ghost use Rattle.block_wiring.specs.private.Words.{AreOf};
 
 use crate::answer::Wiring;
@@ -23,14 +23,14 @@ use net_signature::Block;
 use net_words::WordText;
 use std::alloc::{AllocError, Global};
 
-// What feeds the output word of the top, if anything does.
+// The first that feeds the output word of the top, if anything does.
 fn output_feed(
     alloc: Global,
     candidates: &Candidates<'_>,
     top: &[Named<'_>],
 ) -> Result<Option<Feeder>, AllocError>
     requires { (k : ℕ) × AreOf k top.now × HaveSize k candidates.now }
-    ensures some { IfOk result (λ r. IfSome r (λ feed. IsOutputFeed candidates.now top.now feed)) }
+    ensures some { IfOk result (λ r. IfSome r (λ feed. IsFirstOutput candidates.now top.now feed)) }
     ensures none { IfOk result (λ r. IfNone r ((feed : FeederValue) → IsOutputFeed candidates.now top.now feed → ⊥)) }
 {
     let word = word_at(top, output_place(top));
@@ -63,7 +63,8 @@ fn plain_wiring<'a>(
 /// is not connected or is an input of the block; the top's output word, where no feed fits it.
 ///
 /// A feed is an input word of the top or the output word of an instance. It fits where its nets are, place by place, those that
-/// the instance connects to the word's, and both have the same basis.
+/// the instance connects to the word's, and both have the same basis. Where more than one fits, the first is taken: the input
+/// words of the top come first, in their order, and then the outputs of the instances by number.
 ///
 /// The top has these words; list 0 of the bases is the top's, and list b + 1 that of block b. Each instance has the block of its
 /// number in `numbers`.

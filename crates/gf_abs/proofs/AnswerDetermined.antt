@@ -9,11 +9,12 @@ use Rattle.job_words.specs.declared.fault.Fault.TheVariants as faults
 use Rattle.job_words.specs.declared.file_fault.FileFault.{FileFault}
 use Rattle.job_words.specs.declared.file_fault.FileFault.TheVariants.{Absent, TooLong}
 use Rattle.job_words.specs.Operands.{Word}
-use Rattle.job_words.specs.Command.{Action, Bits, Abstract, Check, Same, Eval, Iso, Lift, Table, Certify, Verify, Upgrade, Make, Job, Over, Trial}
+use Rattle.job_words.specs.Command.{Action, Bits, Abstract, Check, Same, Eval, Iso, Lift, Table, Certify, Verify, Upgrade, Make, Compose, Job, Over, Trial}
 use Rattle.job_words.proofs.OneCommandLemmas.{one_job}
 use Rattle.job_input.specs.File.{Read}
 use Rattle.job_input.specs.Labelling.{labels_of}
 use Rattle.job_input.specs.CircuitOf.{CircuitIn, CircuitOf, UnrolledIn}
+use Rattle.job_input.specs.HierarchyIn.{HierarchyIn, HierarchyOf}
 use Rattle.job_input.specs.NetlistOf.{BoundNetOf, NetlistIn, by_ending}
 use Rattle.job_input.specs.SettingOf.{SignedOf, SignedValue, SettingWith}
 use Rattle.job_input.specs.SettingSound.{IsSoundSetting}
@@ -33,6 +34,7 @@ use Rattle.gf_abs.specs.Answer.{Spelled, ActionAnswer, SignedAnswer, JobAnswer, 
 use Rattle.gf_abs.specs.commands.Bits.{BitsReply}
 use Rattle.gf_abs.specs.commands.Abstract.{AbstractReply}
 use Rattle.gf_abs.specs.commands.Check.{CheckReply, CheckUnrolled, CheckOver}
+use Rattle.gf_abs.specs.commands.Compose.{ComposeAnswer, ComposeOver}
 use Rattle.gf_abs.specs.commands.Eval.{EvalAt, EvalOver, EvalReply}
 use Rattle.gf_abs.specs.commands.Iso.{IsoReply}
 use Rattle.gf_abs.specs.commands.Lift.{LiftOver, LiftReply, SmallEnough, table_words}
@@ -43,9 +45,12 @@ use Rattle.gf_abs.specs.commands.Upgrade.{UpgradeReply}
 use Rattle.gf_abs.specs.commands.Verify.{VerifyReply}
 use Rattle.gf_abs.specs.commands.Same.{SameReply, SameSecond, SameUnrolled, SameBeside}
 use Rattle.gf_abs.specs.Values.{ValuesOf}
+use Rattle.gf_abs.proofs.BlockSettingLemmas.{setting_blocks, CanBindBlocks}
 use Rattle.gf_abs.proofs.CertificateDetermined.{upgrade_determined, verify_determined}
 use Rattle.gf_abs.proofs.CertifyLemmas.{certify_determined}
 use Rattle.gf_abs.proofs.CheckDetermined.{check_determined}
+use Rattle.gf_abs.proofs.ComposeDetermined.{compose_determined, hierarchy_determined}
+use Rattle.gf_abs.proofs.ComposeLineLemmas.{hierarchy_right}
 use Rattle.gf_abs.proofs.EvalDetermined.{eval_determined, values_determined}
 use Rattle.gf_abs.proofs.IsoLemmas.{iso_determined}
 use Rattle.gf_abs.proofs.MakeLemmas.{make_determined}
@@ -135,52 +140,63 @@ module _ (files : Files) where
       determined_after (Within File (Read (Some files) file)) (λ bytes. CertifiedBy net netlist cycles bytes) (file_determined file) (λ bytes read.
       determined_after (UnrolledIn net netlist cycles) (λ circuit. Exactly (circuit, bytes)) (unrolled_determined net netlist cycles) (λ circuit of. determined_exactly (circuit, bytes))))
 
-  action_determined : (setting : SettingValue) (action : Action) → IsSoundSetting setting → Determined (ActionAnswer (Some files) setting action)
-  action_determined setting (Bits net terms cycles) sound =
+  file_hierarchy_determined : (setting : SettingValue) (net : Word) → Determined (HierarchyIn (Some files) setting.signature net)
+  file_hierarchy_determined setting net =
+      determined_after (Within File (Read (Some files) net)) (λ text. Within (Netlist net) (HierarchyOf setting.signature text)) (file_determined net)
+      (λ text read. determined_within (Netlist net) (HierarchyOf setting.signature text) (hierarchy_determined setting.signature text))
+
+  composed_determined : (setting : SettingValue) (net : Word) (terms : ℕ) → IsSoundSetting setting → CanBindBlocks setting → Determined (ComposeAnswer (Some files) setting net terms)
+  composed_determined setting net terms sound blocks =
+      determined_after (HierarchyIn (Some files) setting.signature net) (λ design. ComposeOver setting design terms) (file_hierarchy_determined setting net)
+      (λ design taken. compose_determined setting sound blocks design (hierarchy_right setting.signature taken.0 design taken.2) terms)
+
+  action_determined : (setting : SettingValue) (action : Action) → IsSoundSetting setting → CanBindBlocks setting → Determined (ActionAnswer (Some files) setting action)
+  action_determined setting (Bits net terms cycles) sound blocks =
       determined_after (CircuitIn (Some files) setting.signature net cycles) (λ circuit. BitsReply setting circuit terms) (file_circuit_determined setting net cycles)
       (λ circuit of. bits_determined setting circuit terms sound (by_ending net of.1.0) cycles (of.0, of.1.2, of.2))
-  action_determined setting (Abstract net terms cycles) sound =
+  action_determined setting (Abstract net terms cycles) sound blocks =
       determined_after (CircuitIn (Some files) setting.signature net cycles) (λ circuit. AbstractReply setting circuit terms) (file_circuit_determined setting net cycles)
       (λ circuit of. abstract_determined setting circuit terms sound (by_ending net of.1.0) cycles (of.0, of.1.2, of.2))
-  action_determined setting (Check net file terms cycles) sound =
+  action_determined setting (Check net file terms cycles) sound blocks =
       determined_after (NetlistIn (Some files) setting.signature net) (λ netlist. CheckOver (Some files) setting net netlist file terms cycles) (file_netlist_determined setting net) (λ netlist taken.
       determined_after (SpecificationIn (Some files) (labels_of setting.k setting.signature.words) setting.k setting.product file) (λ spec. CheckUnrolled setting net netlist spec terms cycles) (said_determined setting file) (λ spec said.
       determined_after (UnrolledIn net netlist cycles) (λ circuit. CheckReply setting circuit spec terms) (unrolled_determined net netlist cycles) (λ circuit of.
       check_determined setting circuit spec terms sound (by_ending net taken.0) cycles (netlist, taken.2, of))))
-  action_determined setting (Same net other terms cycles) sound =
+  action_determined setting (Same net other terms cycles) sound blocks =
       determined_after (NetlistIn (Some files) setting.signature net) (λ netlist. SameBeside (Some files) setting net netlist other terms cycles) (file_netlist_determined setting net) (λ netlist taken.
       determined_after (NetlistIn (Some files) setting.signature other) (λ second. SameUnrolled setting net netlist other second terms cycles) (file_netlist_determined setting other) (λ second taken'.
       determined_after (UnrolledIn net netlist cycles) (λ circuit. SameSecond setting circuit other second terms cycles) (unrolled_determined net netlist cycles) (λ circuit of.
       determined_after (UnrolledIn other second cycles) (λ more. SameReply setting circuit more terms) (unrolled_determined other second cycles) (λ more of'.
       same_determined setting circuit more terms sound (by_ending net taken.0) cycles (netlist, taken.2, of) (by_ending other taken'.0) cycles (second, taken'.2, of')))))
-  action_determined setting (Eval net values cycles) sound =
+  action_determined setting (Eval net values cycles) sound blocks =
       let count = length (labels_of setting.k setting.signature.words).words in
       determined_after (NetlistIn (Some files) setting.signature net) (λ netlist. EvalOver setting net netlist values cycles) (file_netlist_determined setting net) (λ netlist taken.
       determined_after (Within Value (ValuesOf setting.k count values)) (λ xs. EvalAt setting net netlist xs cycles) (determined_within Value (ValuesOf setting.k count values) (values_determined setting.k count values)) (λ xs are.
       determined_after (UnrolledIn net netlist cycles) (λ circuit. EvalReply setting circuit xs) (unrolled_determined net netlist cycles) (λ circuit of.
       eval_determined setting circuit xs sound (by_ending net taken.0) cycles (netlist, taken.2, of))))
-  action_determined setting (Iso other) sound =
+  action_determined setting (Iso other) sound blocks =
       determined_after (SecondIn (Some files) other) (λ second. IsoReply setting.signature second) (second_in_determined other) (λ second taken. iso_determined setting.signature second)
-  action_determined setting (Lift table) sound =
+  action_determined setting (Lift table) sound blocks =
       determined_after (SmallEnough setting) (λ u. LiftOver (Some files) setting table) (small_determined setting) (λ u small.
       determined_after (TableIn (Some files) setting.k (2 ^ (setting.k * table_words setting)) table) (λ values. LiftReply setting values) (table_in_determined setting.k (2 ^ (setting.k * table_words setting)) table) (λ values taken. lift_determined setting sound values))
-  action_determined setting (Table net cycles) sound =
+  action_determined setting (Table net cycles) sound blocks =
       determined_after (SmallEnough setting) (λ u. TableOver (Some files) setting net cycles) (small_determined setting) (λ u small.
       determined_after (CircuitIn (Some files) setting.signature net cycles) (λ circuit. TableReply setting circuit) (file_circuit_determined setting net cycles)
       (λ circuit of. table_determined setting circuit sound (by_ending net of.1.0) cycles (of.0, of.1.2, of.2)))
-  action_determined setting (Certify net terms cycles) sound =
+  action_determined setting (Certify net terms cycles) sound blocks =
       determined_after (CircuitIn (Some files) setting.signature net cycles) (λ circuit. CertifyReply setting circuit terms) (file_circuit_determined setting net cycles)
       (λ circuit of. certify_determined setting circuit sound (by_ending net of.1.0) cycles (of.0, of.1.2, of.2) terms)
-  action_determined setting (Verify net certificate terms cycles) sound =
+  action_determined setting (Verify net certificate terms cycles) sound blocks =
       determined_after (CertifiedIn (Some files) setting.signature net certificate cycles) (λ certified. VerifyReply setting terms certified) (certified_determined setting net certificate cycles) (λ certified of. verify_determined setting sound terms certified)
-  action_determined setting (Upgrade net certificate cycles) sound =
+  action_determined setting (Upgrade net certificate cycles) sound blocks =
       determined_after (CertifiedIn (Some files) setting.signature net certificate cycles) (λ certified. UpgradeReply setting certified) (certified_determined setting net certificate cycles) (λ certified of. upgrade_determined setting certified)
-  action_determined setting (Make kind) sound = make_determined setting sound kind
+  action_determined setting (Make kind) sound blocks = make_determined setting sound kind
+  action_determined setting (Compose net terms) sound blocks = composed_determined setting net terms sound blocks
 
   signed_answer_determined : (text : List ℕ) (signed : SignedValue) (action : Action) → SignedOf text (Ok signed) → Determined (SignedAnswer (Some files) signed action)
   signed_answer_determined text signed action is =
       determined_after (Within Signature (SettingWith signed)) (λ setting. ActionAnswer (Some files) setting action) (determined_within Signature (SettingWith signed) (with_determined signed))
-      (λ setting taken. action_determined setting action (setting_sound text setting (signed, is, taken)))
+      (λ setting taken. action_determined setting action (setting_sound text setting (signed, is, taken)) (setting_blocks text setting (signed, is, taken)))
 
   signed_in_determined : (name : Word) → Determined (SignedIn (Some files) name)
   signed_in_determined name =

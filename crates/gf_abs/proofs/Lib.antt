@@ -29,6 +29,12 @@ pub mod CertificateDetermined
 pub mod IsoLemmas
 pub mod MakeLemmas
 pub mod TrialLemmas
+pub mod BlockSettingLemmas
+pub mod BlockBaseLemmas
+pub mod ComposeStopLemmas
+pub mod ComposeLemmas
+pub mod ComposeLineLemmas
+pub mod ComposeDetermined
 pub mod AnswerDetermined
 pub mod OneLineLemmas
 pub mod StatusLemmas
@@ -48,5 +54,6 @@ pub mod SettingFieldLemmas
 pub mod MadeLemmas
 pub mod MakeHeadlineLemmas
 pub mod CertificateHeadlineLemmas
+pub mod ComposeHeadlineLemmas
 mod Examples
 pub mod TrialHeadlineLemmas

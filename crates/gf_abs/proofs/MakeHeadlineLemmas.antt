@@ -18,7 +18,7 @@ use Rattle.net_write.specs.SameByName.{IsSameByName}
 use Rattle.net_write.specs.Written.{written}
 use Rattle.net_write.proofs.RoundTrip.{is_flat, is_read, is_same}
 use Rattle.job_words.specs.Command.{Job, Make, Over}
-use Rattle.job_words.specs.Operands.{Word, is_aiger, is_verilog}
+use Rattle.job_words.specs.Operands.{Word, IsBlifName, is_aiger, is_verilog}
 use Rattle.job_words.specs.declared.file_fault.FileFault.{FileFault}
 use Rattle.job_words.specs.declared.kind.Kind.{Kind}
 use Rattle.job_words.specs.declared.kind.Kind.TheVariants.{Mastrovito, Montgomery, Composite, Normal, Adder, Squarer, Digit}
@@ -31,7 +31,7 @@ use Rattle.job_input.specs.SettingValue.{SettingValue}
 use Rattle.job_input.proofs.NetlistLemmas.{net_sound}
 use Rattle.gf_abs.specs.Answer.{JobAnswer}
 use Rattle.gf_abs.specs.Headline.{AreHeld}
-use Rattle.gf_abs.specs.MakeHeadline.{AnswersMake, ComputesKind, HoldKind, HoldMade, IsBlifName}
+use Rattle.gf_abs.specs.MakeHeadline.{AnswersMake, ComputesKind, HoldKind, HoldMade}
 use Rattle.gf_abs.specs.Reply.{Reply}
 use Rattle.gf_abs.specs.commands.Make.{IsMade}
 use Rattle.gf_abs.proofs.AnswerDetermined.{read_determined}
@@ -66,7 +66,7 @@ module _ (setting : SettingValue) (first second : BoundNet) (cycles : ℕ) (outp
 
 -- ---- from the files
 
-blif_text : (net : Word) (text : List ℕ) → IsBlifName net → by_ending net text ≡ Blif text
+pub blif_text : (net : Word) (text : List ℕ) → IsBlifName net → by_ending net text ≡ Blif text
 blif_text net text name = (λ i. if name.no_aiger i then Aiger text else (if is_verilog net then Verilog text else Blif text)) ∙ (λ i. if name.no_verilog i then Verilog text else Blif text)
 
 module _ (files others : Files) (signature net : Word) (kind : Kind) (reply : Reply) where

@@ -13,7 +13,7 @@ use Rattle.stage_model.specs.Listing.{Joined, Earlier, Later, Listing}
 use Rattle.cert_check.specs.declared.fault.CertFault.{CertFault}
 use Rattle.cert_check.specs.declared.fault.CertFault.TheVariants as text
 use Rattle.job_words.specs.declared.certificate_fault.CertificateFault.TheVariants as certificate
-use Rattle.job_words.specs.Command.{Action, Bits, Abstract, Check, Same, Eval, Iso, Lift, Table, Certify, Verify, Upgrade, Make, Over, Trial, IsSpelled}
+use Rattle.job_words.specs.Command.{Action, Bits, Abstract, Check, Same, Eval, Iso, Lift, Table, Certify, Verify, Upgrade, Make, Compose, Over, Trial, IsSpelled}
 use Rattle.job_words.specs.Fault.{fault_line}
 use Rattle.job_words.specs.OneLine.{HasNoLineFeed, IsOneLine, KeepsToItsLine}
 use Rattle.job_words.specs.Operands.{Word}
@@ -44,6 +44,8 @@ use Rattle.gf_abs.specs.commands.Same.{SameReply, same_stages}
 use Rattle.gf_abs.specs.commands.Trial.{TrialAnswer, TrialReply}
 use Rattle.gf_abs.specs.commands.Upgrade.{UpgradeReply}
 use Rattle.gf_abs.specs.commands.Verify.{VerifyReply}
+use Rattle.gf_abs.proofs.BlockSettingLemmas.{setting_blocks, HaveBlockNames}
+use Rattle.gf_abs.proofs.ComposeLineLemmas.{compose_kept}
 
 -- ---- what the words of a command name
 
@@ -61,6 +63,7 @@ AreKept (Certify net terms cycles) = HasNoLineFeed net
 AreKept (Verify net certificate terms cycles) = HasNoLineFeed net × HasNoLineFeed certificate
 AreKept (Upgrade net certificate cycles) = HasNoLineFeed net × HasNoLineFeed certificate
 AreKept (Make kind) = Unit {0}
+AreKept (Compose net terms) = HasNoLineFeed net
 
 spelled_kept : (words : List Word) (signature : Word) (action : Action) → IsSpelled words (Over signature action) → HasNoLineFeed signature × AreKept action
 spelled_kept words signature (Bits net terms cycles) is = (operand_kept signature is.follow.signature_is, operand_kept net is.follow.file_is)
@@ -75,6 +78,7 @@ spelled_kept words signature (Certify net terms cycles) is = (operand_kept signa
 spelled_kept words signature (Verify net certificate terms cycles) is = (operand_kept signature is.follow.signature_is, (operand_kept net is.follow.file_is, operand_kept certificate is.follow.other_is))
 spelled_kept words signature (Upgrade net certificate cycles) is = (operand_kept signature is.follow.signature_is, (operand_kept net is.follow.file_is, operand_kept certificate is.follow.other_is))
 spelled_kept words signature (Make kind) is = (operand_kept signature is.follow.signature_is, tt)
+spelled_kept words signature (Compose net terms) is = (operand_kept signature is.follow.files.signature_is, operand_kept net is.follow.files.file_is)
 
 -- ---- stages
 
@@ -183,44 +187,46 @@ module _ (setting : SettingValue) (names : HaveNames setting.signature.words) wh
   values_kept : (k count : ℕ) (values : List Word) (fault : Fault) → Within faults.Value (ValuesOf k count values) (Err fault) → KeepsToItsLine fault
   values_kept k count values fault (other, wrong, same) = same_line fault (faults.Value other) same tt
 
-  action_kept : (held : Option Files) (action : Action) (fault : Fault) → AreKept action → ActionAnswer held setting action (Err fault) → KeepsToItsLine fault
-  action_kept held (Bits net terms cycles) fault is (inl wrong) = circuit_kept held net cycles fault is wrong
-  action_kept held (Bits net terms cycles) fault is (inr (circuit, taken, wrong)) = bits_kept circuit terms fault wrong
-  action_kept held (Abstract net terms cycles) fault is (inl wrong) = circuit_kept held net cycles fault is wrong
-  action_kept held (Abstract net terms cycles) fault is (inr (circuit, taken, wrong)) = abstract_kept circuit terms fault wrong
-  action_kept held (Check net specification terms cycles) fault is (inl wrong) = netlist_file_keeps held setting.signature net fault names is.0 wrong
-  action_kept held (Check net specification terms cycles) fault is (inr (netlist, taken, inl wrong)) = specification_keeps held (labels_of setting.k setting.signature.words) setting.k setting.product specification fault is.1 wrong
-  action_kept held (Check net specification terms cycles) fault is (inr (netlist, taken, inr (spec, said, inl wrong))) = cycles_keep net netlist cycles fault is.0 wrong
-  action_kept held (Check net specification terms cycles) fault is (inr (netlist, taken, inr (spec, said, inr (circuit, of, wrong)))) = check_kept circuit spec terms fault wrong
-  action_kept held (Same net other terms cycles) fault is (inl wrong) = netlist_file_keeps held setting.signature net fault names is.0 wrong
-  action_kept held (Same net other terms cycles) fault is (inr (netlist, taken, inl wrong)) = netlist_file_keeps held setting.signature other fault names is.1 wrong
-  action_kept held (Same net other terms cycles) fault is (inr (netlist, taken, inr (second, more, inl wrong))) = cycles_keep net netlist cycles fault is.0 wrong
-  action_kept held (Same net other terms cycles) fault is (inr (netlist, taken, inr (second, more, inr (circuit, of, inl wrong)))) = cycles_keep other second cycles fault is.1 wrong
-  action_kept held (Same net other terms cycles) fault is (inr (netlist, taken, inr (second, more, inr (circuit, of, inr (beside, of', wrong))))) = same_kept circuit beside terms fault wrong
-  action_kept held (Eval net values cycles) fault is (inl wrong) = netlist_file_keeps held setting.signature net fault names is wrong
-  action_kept held (Eval net values cycles) fault is (inr (netlist, taken, inl wrong)) = values_kept setting.k (length (labels_of setting.k setting.signature.words).words) values fault wrong
-  action_kept held (Eval net values cycles) fault is (inr (netlist, taken, inr (xs, are, inl wrong))) = cycles_keep net netlist cycles fault is wrong
-  action_kept held (Eval net values cycles) fault is (inr (netlist, taken, inr (xs, are, inr (circuit, of, never)))) = absurd never
-  action_kept held (Iso other) fault is (inl wrong) = second_keeps held other fault is wrong
-  action_kept held (Iso other) fault is (inr (second, taken, wrong)) = same_line fault faults.Fields wrong.0 tt
-  action_kept held (Lift table) fault is (inl wrong) = same_line fault faults.NotSmall wrong.0 tt
-  action_kept held (Lift table) fault is (inr (small, fits, inl wrong)) = table_keeps held setting.k _ table fault is wrong
-  action_kept held (Lift table) fault is (inr (small, fits, inr (values, taken, never))) = absurd never
-  action_kept held (Table net cycles) fault is (inl wrong) = same_line fault faults.NotSmall wrong.0 tt
-  action_kept held (Table net cycles) fault is (inr (small, fits, inl wrong)) = circuit_kept held net cycles fault is wrong
-  action_kept held (Table net cycles) fault is (inr (small, fits, inr (circuit, taken, never))) = absurd never
-  action_kept held (Certify net terms cycles) fault is (inl wrong) = circuit_kept held net cycles fault is wrong
-  action_kept held (Certify net terms cycles) fault is (inr (circuit, taken, wrong)) = certify_kept circuit terms fault wrong
-  action_kept held (Verify net file terms cycles) fault is (inl wrong) = certified_kept held net file cycles fault is.0 is.1 wrong
-  action_kept held (Verify net file terms cycles) fault is (inr (certified, taken, wrong)) = verify_kept terms certified fault wrong
-  action_kept held (Upgrade net file cycles) fault is (inl wrong) = certified_kept held net file cycles fault is.0 is.1 wrong
-  action_kept held (Upgrade net file cycles) fault is (inr (certified, taken, wrong)) = upgrade_kept certified fault wrong
-  action_kept held (Make kind) fault is (inl wrong) = same_line fault (faults.Form kind) wrong.0 tt
-  action_kept held (Make kind) fault is (inr (net, made, never)) = absurd never
+  module _ (block_names : HaveBlockNames setting.signature) where
+    action_kept : (held : Option Files) (action : Action) (fault : Fault) → AreKept action → ActionAnswer held setting action (Err fault) → KeepsToItsLine fault
+    action_kept held (Bits net terms cycles) fault is (inl wrong) = circuit_kept held net cycles fault is wrong
+    action_kept held (Bits net terms cycles) fault is (inr (circuit, taken, wrong)) = bits_kept circuit terms fault wrong
+    action_kept held (Abstract net terms cycles) fault is (inl wrong) = circuit_kept held net cycles fault is wrong
+    action_kept held (Abstract net terms cycles) fault is (inr (circuit, taken, wrong)) = abstract_kept circuit terms fault wrong
+    action_kept held (Check net specification terms cycles) fault is (inl wrong) = netlist_file_keeps held setting.signature net fault names is.0 wrong
+    action_kept held (Check net specification terms cycles) fault is (inr (netlist, taken, inl wrong)) = specification_keeps held (labels_of setting.k setting.signature.words) setting.k setting.product specification fault is.1 wrong
+    action_kept held (Check net specification terms cycles) fault is (inr (netlist, taken, inr (spec, said, inl wrong))) = cycles_keep net netlist cycles fault is.0 wrong
+    action_kept held (Check net specification terms cycles) fault is (inr (netlist, taken, inr (spec, said, inr (circuit, of, wrong)))) = check_kept circuit spec terms fault wrong
+    action_kept held (Same net other terms cycles) fault is (inl wrong) = netlist_file_keeps held setting.signature net fault names is.0 wrong
+    action_kept held (Same net other terms cycles) fault is (inr (netlist, taken, inl wrong)) = netlist_file_keeps held setting.signature other fault names is.1 wrong
+    action_kept held (Same net other terms cycles) fault is (inr (netlist, taken, inr (second, more, inl wrong))) = cycles_keep net netlist cycles fault is.0 wrong
+    action_kept held (Same net other terms cycles) fault is (inr (netlist, taken, inr (second, more, inr (circuit, of, inl wrong)))) = cycles_keep other second cycles fault is.1 wrong
+    action_kept held (Same net other terms cycles) fault is (inr (netlist, taken, inr (second, more, inr (circuit, of, inr (beside, of', wrong))))) = same_kept circuit beside terms fault wrong
+    action_kept held (Eval net values cycles) fault is (inl wrong) = netlist_file_keeps held setting.signature net fault names is wrong
+    action_kept held (Eval net values cycles) fault is (inr (netlist, taken, inl wrong)) = values_kept setting.k (length (labels_of setting.k setting.signature.words).words) values fault wrong
+    action_kept held (Eval net values cycles) fault is (inr (netlist, taken, inr (xs, are, inl wrong))) = cycles_keep net netlist cycles fault is wrong
+    action_kept held (Eval net values cycles) fault is (inr (netlist, taken, inr (xs, are, inr (circuit, of, never)))) = absurd never
+    action_kept held (Iso other) fault is (inl wrong) = second_keeps held other fault is wrong
+    action_kept held (Iso other) fault is (inr (second, taken, wrong)) = same_line fault faults.Fields wrong.0 tt
+    action_kept held (Lift table) fault is (inl wrong) = same_line fault faults.NotSmall wrong.0 tt
+    action_kept held (Lift table) fault is (inr (small, fits, inl wrong)) = table_keeps held setting.k _ table fault is wrong
+    action_kept held (Lift table) fault is (inr (small, fits, inr (values, taken, never))) = absurd never
+    action_kept held (Table net cycles) fault is (inl wrong) = same_line fault faults.NotSmall wrong.0 tt
+    action_kept held (Table net cycles) fault is (inr (small, fits, inl wrong)) = circuit_kept held net cycles fault is wrong
+    action_kept held (Table net cycles) fault is (inr (small, fits, inr (circuit, taken, never))) = absurd never
+    action_kept held (Certify net terms cycles) fault is (inl wrong) = circuit_kept held net cycles fault is wrong
+    action_kept held (Certify net terms cycles) fault is (inr (circuit, taken, wrong)) = certify_kept circuit terms fault wrong
+    action_kept held (Verify net file terms cycles) fault is (inl wrong) = certified_kept held net file cycles fault is.0 is.1 wrong
+    action_kept held (Verify net file terms cycles) fault is (inr (certified, taken, wrong)) = verify_kept terms certified fault wrong
+    action_kept held (Upgrade net file cycles) fault is (inl wrong) = certified_kept held net file cycles fault is.0 is.1 wrong
+    action_kept held (Upgrade net file cycles) fault is (inr (certified, taken, wrong)) = upgrade_kept certified fault wrong
+    action_kept held (Make kind) fault is (inl wrong) = same_line fault (faults.Form kind) wrong.0 tt
+    action_kept held (Make kind) fault is (inr (net, made, never)) = absurd never
+    action_kept held (Compose net terms) fault is wrong = compose_kept held setting net terms fault names block_names is wrong
 
 signed_kept : (held : Option Files) (text : List ℕ) (signed : SignedValue) (action : Action) (fault : Fault) → SignedOf text (Ok signed) → AreKept action → SignedAnswer held signed action (Err fault) → KeepsToItsLine fault
 signed_kept held text signed action fault is kept (inl (other, wrong, same)) = same_line fault (faults.Signature other) same (setting_keeps signed other wrong)
-signed_kept held text signed action fault is kept (inr (setting, taken, wrong)) = action_kept setting (setting_names text setting (signed, is, taken)) held action fault kept wrong
+signed_kept held text signed action fault is kept (inr (setting, taken, wrong)) = action_kept setting (setting_names text setting (signed, is, taken)) (λ block has. (setting_blocks text setting (signed, is, taken) block has).names) held action fault kept wrong
 
 job_kept : (held : Option Files) (signature : Word) (action : Action) (fault : Fault) → HasNoLineFeed signature → AreKept action → JobAnswer held (Over signature action) (Err fault) → KeepsToItsLine fault
 job_kept held signature action fault kept operands (inl wrong) = signed_keeps held signature fault kept wrong

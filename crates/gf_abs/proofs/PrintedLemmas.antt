@@ -27,7 +27,7 @@ no_ranks : (rs : List ℕ) → ((rank : ℕ) → list_any (λ r. nat_eq r rank) 
 no_ranks [] lacks = refl
 no_ranks (r ∷ rs) lacks = let found : true ≡ false = sym (ap (λ b. b || list_any (λ q. nat_eq q r) rs) (eq-eqb r r refl)) ∙ lacks r in absurd (cc)
 
-no_bits : (ts : Terms) → ((rank : ℕ) → LacksBit rank ts) → AllByRecursion (λ t. t.0.bits ≡ []) ts
+pub no_bits : (ts : Terms) → ((rank : ℕ) → LacksBit rank ts) → AllByRecursion (λ t. t.0.bits ≡ []) ts
 no_bits [] lacks = tt
 no_bits (t ∷ ts) lacks = (no_ranks t.0.bits (λ rank. (lacks rank).0), no_bits ts (λ rank. (lacks rank).1))
 

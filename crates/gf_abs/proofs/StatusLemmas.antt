@@ -4,7 +4,7 @@ use Rattle.job_io.specs.Shelf.{Files}
 use Rattle.poly_mixed.specs.Labels.{Labelling}
 use Rattle.circuit_model.specs.Differing.{Difference}
 use Rattle.cert_check.specs.Verdict.{Verdict, valid, invalid}
-use Rattle.job_words.specs.Command.{Action, Bits, Abstract, Check, Same, Eval, Iso, Lift, Table, Certify, Verify, Upgrade, Make, Over, Trial}
+use Rattle.job_words.specs.Command.{Action, Bits, Abstract, Check, Same, Eval, Iso, Lift, Table, Certify, Verify, Upgrade, Make, Compose, Over, Trial}
 use Rattle.job_words.specs.Operands.{Word}
 use Rattle.job_input.specs.Labelling.{labels_of}
 use Rattle.job_input.specs.SettingValue.{SettingValue}
@@ -43,6 +43,7 @@ action_status held setting (Certify net terms cycles) reply (circuit, taken, (t,
 action_status held setting (Verify net file terms cycles) reply (certified, taken, (verdict, is, same)) = verify_status (labels_of setting.k setting.signature.words) verdict reply same
 action_status held setting (Upgrade net file cycles) reply (certified, taken, (t, is, same)) = inl (ap (λ (r : Reply). r.status) same)
 action_status held setting (Make kind) reply (net, is, same) = inl (ap (λ (r : Reply). r.status) same)
+action_status held setting (Compose net terms) reply (design, taken, (lists, are, (ts, is, same))) = inl (ap (λ (r : Reply). r.status) same)
 
 pub answer_status : (words : List Word) (held : Option Files) (reply : Reply) → Answer words held (Ok reply) → (reply.status ≡ 0) ⊎ (reply.status ≡ 1)
 answer_status words held reply (Over signature action, spelled, (signed, read, (setting, taken, is))) = action_status held setting action reply is

@@ -31,7 +31,7 @@ netlist_sound signature text netlist (net, is_net, (bound, is, same)) =
     let Q : BoundNet → Type 0 = λ c. IsSound c.net in
     subst Q (sym same) (net_sound text net is_net)
 
-netlist_bound : (signature : SignatureValue) (text : NetlistText) (netlist : BoundNet) → BoundNetOf signature text (Ok netlist) → BindingOf netlist.net signature.words signature.feeds (Ok netlist.bound)
+pub netlist_bound : (signature : SignatureValue) (text : NetlistText) (netlist : BoundNet) → BoundNetOf signature text (Ok netlist) → BindingOf netlist.net signature.words signature.feeds (Ok netlist.bound)
 netlist_bound signature text netlist (net, is_net, (bound, is, same)) =
     let P : BoundNet → Type 0 = λ c. BindingOf c.net signature.words signature.feeds (Ok c.bound) in
     subst P (sym same) is

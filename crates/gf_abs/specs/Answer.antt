@@ -5,7 +5,7 @@ use Rattle.job_io.specs.Shelf.{Files}
 use Rattle.job_words.specs.declared.fault.Fault.{Fault}
 use Rattle.job_words.specs.declared.fault.Fault.TheVariants.{Words, Signature}
 use Rattle.job_words.specs.Operands.{Word}
-use Rattle.job_words.specs.Command.{Action, Bits, Abstract, Check, Same, Eval, Iso, Lift, Table, Certify, Verify, Upgrade, Make, Job, Over, Trial, IsSpelled}
+use Rattle.job_words.specs.Command.{Action, Bits, Abstract, Check, Same, Eval, Iso, Lift, Table, Certify, Verify, Upgrade, Make, Compose, Job, Over, Trial, IsSpelled}
 use Rattle.job_input.specs.SettingOf.{SignedValue, SettingWith}
 use Rattle.job_input.specs.SettingValue.{SettingValue}
 use Rattle.job_input.specs.SignedIn.{SignedIn}
@@ -22,6 +22,7 @@ use Rattle.gf_abs.specs.commands.Certify.{CertifyAnswer}
 use Rattle.gf_abs.specs.commands.Verify.{VerifyAnswer}
 use Rattle.gf_abs.specs.commands.Upgrade.{UpgradeAnswer}
 use Rattle.gf_abs.specs.commands.Make.{MakeAnswer}
+use Rattle.gf_abs.specs.commands.Compose.{ComposeAnswer}
 use Rattle.gf_abs.specs.commands.Trial.{TrialAnswer}
 
 -- the command of the words, or fault 01 where they spell none
@@ -43,6 +44,7 @@ ActionAnswer held setting (Certify net terms cycles) = CertifyAnswer held settin
 ActionAnswer held setting (Verify net certificate terms cycles) = VerifyAnswer held setting net certificate terms cycles
 ActionAnswer held setting (Upgrade net certificate cycles) = UpgradeAnswer held setting net certificate cycles
 ActionAnswer held setting (Make kind) = MakeAnswer setting kind
+ActionAnswer held setting (Compose net terms) = ComposeAnswer held setting net terms
 
 -- what comes of a command over a signature with its field: first the bases of its words
 abbrev pub SignedAnswer : Option Files → SignedValue → Action → Outcome Fault Reply

@@ -8,6 +8,7 @@ pub mod Answer
 pub mod Written
 pub mod Headline
 pub mod CheckHeadline
+pub mod ComposeHeadline
 pub mod EvalHeadline
 pub mod TableHeadline
 pub mod IsoHeadline

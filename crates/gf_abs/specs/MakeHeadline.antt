@@ -1,12 +1,12 @@
 -- What the netlists that `make` prints compute. Sources: of each kind's netlist, those of its maker.
-use Rattle.std.specs.Prelude.{◌≡◌, ℕ, ◌*◌, ◌<◌, ◌^◌, false, List, [], ◌∷◌, bit_xor, Some, Ok}
+use Rattle.std.specs.Prelude.{◌≡◌, ℕ, ◌*◌, ◌<◌, ◌^◌, List, [], ◌∷◌, bit_xor, Some, Ok}
 use Rattle.job_io.specs.Shelf.{Files}
 use Rattle.circuit_model.specs.Circuit.{Circuit}
 use Rattle.circuit_model.specs.Out.{IsOut}
 use Rattle.mult_products.specs.InversePower.{IsInversePower}
 use Rattle.mult_digit.specs.DigitForm.{AreDigitFeeds}
 use Rattle.job_words.specs.Command.{Make, Over, IsSpelled}
-use Rattle.job_words.specs.Operands.{Word, is_aiger, is_verilog}
+use Rattle.job_words.specs.Operands.{Word, IsBlifName}
 use Rattle.job_words.specs.declared.kind.Kind.{Kind}
 use Rattle.job_words.specs.declared.kind.Kind.TheVariants.{Mastrovito, Montgomery, Composite, Normal, Adder, Squarer, Digit}
 use Rattle.job_input.specs.File.{Read}
@@ -19,11 +19,6 @@ use Rattle.gf_abs.specs.Reply.{Reply}
 pub record AnswersMake (files : Files) (words : List Word) (kind : Kind) (signature : Word) (reply : Reply) : Type 0 where
   pub spelled : IsSpelled words (Over signature (Make kind))
   pub answer : Answer words (Some files) (Ok reply)
-
--- the name ends as that of a netlist in BLIF
-pub record IsBlifName (net : Word) : Type 0 where
-  pub no_verilog : is_verilog net ≡ false
-  pub no_aiger : is_aiger net ≡ false
 
 -- Both hold the same signature, and the second holds the text as a netlist in BLIF.
 pub record HoldMade (files others : Files) (signature net : Word) (text : List ℕ) : Type 0 where

@@ -1,6 +1,7 @@
 pub mod Bits
 pub mod Abstract
 pub mod Check
+pub mod Compose
 pub mod Same
 pub mod Eval
 pub mod Lift

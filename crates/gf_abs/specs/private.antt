@@ -1,3 +1,4 @@
 pub mod StageStop
+pub mod Composing
 pub mod CertificateStop
 pub mod Making

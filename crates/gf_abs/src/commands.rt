@@ -3,6 +3,7 @@ pub(crate) mod abstraction;
 pub(crate) mod bits;
 pub(crate) mod certify;
 pub(crate) mod check;
+pub(crate) mod compose;
 pub(crate) mod eval;
 pub(crate) mod iso;
 pub(crate) mod lift;

@@ -21,6 +21,7 @@ ghost use Rattle.spec_expand.specs.Specification.{SpecTerms};
 ghost use Rattle.gf_abs.specs.Answer.{Answer};
 ghost use Rattle.gf_abs.specs.CertificateHeadline.{AnswersCertify, AnswersUpgrade, AnswersVerify, HoldOneJob, IsAccepted, PrintsProof};
 ghost use Rattle.gf_abs.specs.CheckHeadline.{AnswersCheck, AreHeldWith, Computes, PrintsAcceptance, PrintsRejection};
+ghost use Rattle.gf_abs.specs.ComposeHeadline.{AnswersCompose};
 ghost use Rattle.gf_abs.specs.EvalHeadline.{AnswersEval, PrintsElement};
 ghost use Rattle.gf_abs.specs.Headline.{IsTaken, AreHeld, AnswersBits, AnswersAbstract, AnswersSame, PrintsHeld, PrintsHeldInBits, PrintsDifference, IsInItsWords, HasOutput, AreOneFunction};
 ghost use Rattle.gf_abs.specs.IsoHeadline.{AnswersIso, PrintsImages};
@@ -165,6 +166,14 @@ pub fn upgrade_keeps_the_reply()
 /// square.
 pub fn what_make_prints_computes()
     ensures { (files others : Files) (words : List Word) (kind : Kind) (signature net : Word) (reply : Reply) → AnswersMake files words kind signature reply → HoldMade files others signature net reply.text → HoldKind others signature net kind }
+{}
+
+/// What `compose` prints from the polynomials of blocks is the polynomial of the output of the whole netlist, flattened: it is reduced, no bit and
+/// no other word stands in it, and at each point it has the output word's element at the point's elements. So where `abstract` prints of the
+/// same files, it prints the same bytes.
+pub fn compose_prints_the_output()
+    ensures prints { (files : Files) (words : List Word) (signature net : Word) (reply : Reply) → AnswersCompose files words signature net reply → PrintsHeld files signature net 0 reply }
+    ensures same { (files : Files) (words words' : List Word) (signature net : Word) (reply reply' : Reply) → AnswersCompose files words signature net reply → AnswersAbstract files words' signature net 0 reply' → reply.text ≡ reply'.text }
 {}
 
 /// `trial` prints, with status 0, two factors at which the multiplier that it turned gives another element than their product, with

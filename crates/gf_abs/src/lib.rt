@@ -2,8 +2,10 @@
 //! `run` carries the contract of the whole; each command is a file of `commands`, and one line of the table `ActionAnswer`.
 #![tactic(auto)]
 
+mod block_bases;
 mod certificates;
 mod commands;
+mod composition;
 mod cuts;
 mod differing;
 mod headline;
@@ -21,7 +23,7 @@ mod words;
 pub use headline::{
     abstract_prints_the_output, bits_print_the_output, bytes_are_the_only_text,
     check_accepts_exactly_if_equal, check_prints_the_differing_input, check_prints_the_output,
-    each_fault_is_one_line, each_taken_circuit_is_well_formed,
+    compose_prints_the_output, each_fault_is_one_line, each_taken_circuit_is_well_formed,
     equal_bytes_exactly_if_equal_functions, eval_prints_the_output, iso_prints_the_images,
     lift_prints_the_polynomial, one_answer_or_fault, same_exactly_if_equal_functions,
     same_prints_the_differing_input, table_prints_the_outputs,

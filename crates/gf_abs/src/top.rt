@@ -118,6 +118,7 @@ fn task_answer<F: Field, S: Shelf>(
         Task::Verify(words) => { commands::verify::answer(alloc, field, setting, words, shelf) }
         Task::Upgrade(words) => { commands::upgrade::answer(alloc, field, setting, words, shelf) }
         Task::Make(kind) => commands::make::answer(alloc, field, setting, *kind),
+        Task::Compose(words) => { commands::compose::answer(alloc, field, setting, words, shelf) }
     }
 }
 

@@ -95,7 +95,7 @@ module _ (k : ℕ) (product : ℕ → ℕ → ℕ) (ring : IsRing k product) whe
   first_or_rest first rest basis one others (zero, got) = let same : first ≡ basis = cc in subst (IsBasis k) same one
   first_or_rest first rest basis one others (suc i, got) = others (i, got)
 
-  bases_sound : (words : List WordText) (bases : List (List ℕ)) → BasesOf k product words (Ok bases) → (basis : List ℕ) → Has bases basis → IsBasis k basis
+  pub bases_sound : (words : List WordText) (bases : List (List ℕ)) → BasesOf k product words (Ok bases) → (basis : List ℕ) → Has bases basis → IsBasis k basis
   bases_sound [] bases ok basis has = let P : List (List ℕ) → Type 0 = λ xs. Has xs basis in nothing (subst P ok has)
     where
       nothing : Has [] basis → IsBasis k basis

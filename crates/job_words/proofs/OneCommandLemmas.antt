@@ -10,8 +10,8 @@ use Rattle.job_words.specs.declared.kind.Kind.TheVariants as kinds
 use Rattle.job_words.specs.Kind.{kind_name}
 use Rattle.job_words.specs.MadeWords.{AreTrialWords, IsOfKind}
 use Rattle.job_words.specs.Options.{AreNone, AreOptions, AreStageOptions, AreSumOptions, IsCyclesOption, IsTermsOption}
-use Rattle.job_words.specs.Shapes.{IsOverFile, IsOverFiles, AreValues}
-use Rattle.job_words.specs.Command.{Action, Bits, Abstract, Check, Same, Eval, Iso, Lift, Table, Certify, Verify, Upgrade, Make, Job, Over, Trial, IsNamed, IsSpelled}
+use Rattle.job_words.specs.Shapes.{IsOverBlif, IsOverFile, IsOverFiles, AreValues}
+use Rattle.job_words.specs.Command.{Action, Bits, Abstract, Check, Same, Eval, Iso, Lift, Table, Certify, Verify, Upgrade, Make, Compose, Job, Over, Trial, IsNamed, IsSpelled}
 use Rattle.job_words.specs.private.OptionPlace.{before_options, from_options}
 
 -- what tells the names of commands apart, and those of kinds: their first two letters
@@ -47,6 +47,7 @@ action_at key operands =
     if key == 29793 then Table (first_word operands) (cycles_by (rest_of operands)) else
     if key == 25445 then Certify (first_word operands) (terms_by 65536 (rest_of operands)) (cycles_by (rest_of operands)) else
     if key == 30309 then Verify (first_word operands) (first_word (rest_of operands)) (terms_by 1048576 (rest_of (rest_of operands))) (cycles_by (rest_of (rest_of operands))) else
+    if key == 25455 then Compose (first_word operands) (terms_by 65536 (rest_of operands)) else
     if key == 30064 then Upgrade (first_word operands) (first_word (rest_of operands)) (cycles_by (rest_of (rest_of operands))) else
     Abstract (first_word operands) (terms_by 65536 (rest_of operands)) (cycles_by (rest_of operands))
 
@@ -138,16 +139,24 @@ make_back words s kind is =
     let whole : words ≡ codes "make" ∷ kind_name kind ∷ s ∷ [] = is.words_are ∙ ap (λ (rest : List Word). codes "make" ∷ rest) is.follow.words_are in
     ap (λ (k : Kind). Over s (Make k)) (kind_back kind) ∙ ap job_at (sym whole)
 
-trial_terms : (options : List Word) (t : ℕ) → IsTermsOption 262144 65536 options t → t ≡ terms_by 65536 options
-trial_terms options t (inl (e, set)) = set ∙ ap (terms_by 65536) (sym e)
-trial_terms options t (inr (y, e, is)) = is.decimal.1 ∙ ap (terms_by 65536) (sym e)
+terms_back : (options : List Word) (t : ℕ) → IsTermsOption 262144 65536 options t → t ≡ terms_by 65536 options
+terms_back options t (inl (e, set)) = set ∙ ap (terms_by 65536) (sym e)
+terms_back options t (inr (y, e, is)) = is.decimal.1 ∙ ap (terms_by 65536) (sym e)
 
 trial_back : (words : List Word) (n m t : ℕ) → IsNamed (codes "trial") (λ rest. AreTrialWords rest n m t) words → ◌≡◌ {A = Job} (Trial n m t) (job_at words)
 trial_back words n m t is =
     let are = is.follow in
     let whole : words ≡ codes "trial" ∷ are.first ∷ are.second ∷ are.options = is.words_are ∙ ap (λ (rest : List Word). codes "trial" ∷ rest) are.words_are in
     let value : m ≡ value_of 16 (drop 2 are.second) = are.modulus_is.hex.3 ∙ ap (λ (w : Word). value_of 16 (drop 2 w)) (sym are.modulus_is.hex.1) in
-    (λ i. Trial (are.number_is.decimal.1 i) (value i) (trial_terms are.options t are.set i)) ∙ ap job_at (sym whole)
+    (λ i. Trial (are.number_is.decimal.1 i) (value i) (terms_back are.options t are.set i)) ∙ ap job_at (sym whole)
+
+-- ---- the command over a netlist in BLIF
+
+compose_back : (words : List Word) (s n : Word) (t : ℕ) → IsNamed (codes "compose") (λ rest. IsOverBlif (λ options. IsTermsOption 262144 65536 options t) rest s n) words → ◌≡◌ {A = Job} (Over s (Compose n t)) (job_at words)
+compose_back words s n t is =
+    let files = is.follow.files in
+    let named : IsNamed (codes "compose") (λ rest. IsOverFile (λ options. IsTermsOption 262144 65536 options t) rest s n) words = record { rest = is.rest; words_are = is.words_are; follow = files } in
+    file_back (codes "compose") words s n (Compose n t) (λ options. IsTermsOption 262144 65536 options t) refl named (ap (Compose n) (sym (terms_back files.rest t files.follow)))
 
 -- each command, one line each
 back : (words : List Word) (job : Job) → IsSpelled words job → job ≡ job_at words
@@ -163,6 +172,7 @@ back words (Over s (Certify n t c)) is = file_back (codes "certify") words s n (
 back words (Over s (Verify n o t c)) is = files_back (codes "verify") words s n o (Verify n o t c) (λ rest. AreSumOptions rest t c) refl is (sum_set_back (Verify n o) is.follow.rest t c is.follow.follow)
 back words (Over s (Upgrade n o c)) is = files_back (codes "upgrade") words s n o (Upgrade n o c) (λ rest. IsCyclesOption rest c) refl is (ap (Upgrade n o) (cycles_set is.follow.rest c is.follow.follow))
 back words (Over s (Make kind)) is = make_back words s kind is
+back words (Over s (Compose n t)) is = compose_back words s n t is
 back words (Trial n m t) is = trial_back words n m t is
 
 pub one_job : (words : List Word) (job other : Job) → IsSpelled words job → IsSpelled words other → job ≡ other

@@ -7,8 +7,8 @@ use Rattle.job_words.specs.declared.command.Task.TheVariants as tasks
 use Rattle.job_words.specs.declared.kind.Kind.{Kind}
 use Rattle.job_words.specs.MadeWords.{AreTrialWords, IsOfKind}
 use Rattle.job_words.specs.Operands.{Word}
-use Rattle.job_words.specs.Options.{AreNone, AreStageOptions, AreSumOptions, IsCyclesOption}
-use Rattle.job_words.specs.Shapes.{IsOverFile, IsOverFiles, AreValues}
+use Rattle.job_words.specs.Options.{AreNone, AreStageOptions, AreSumOptions, IsCyclesOption, IsTermsOption}
+use Rattle.job_words.specs.Shapes.{IsOverBlif, IsOverFile, IsOverFiles, AreValues}
 
 -- what a command does over its signature
 pub data Action : Type 0 where
@@ -24,6 +24,7 @@ pub data Action : Type 0 where
   Verify : (net certificate : Word) (terms cycles : ℕ) → Action
   Upgrade : (net certificate : Word) (cycles : ℕ) → Action
   Make : (kind : Kind) → Action
+  Compose : (net : Word) (terms : ℕ) → Action
 
 -- a command with its operands: what it does over the signature of this file, or a trial of a number and a modulus
 pub data Job : Type 0 where
@@ -44,6 +45,7 @@ name_of (Certify net terms cycles) = codes "certify"
 name_of (Verify net certificate terms cycles) = codes "verify"
 name_of (Upgrade net certificate cycles) = codes "upgrade"
 name_of (Make kind) = codes "make"
+name_of (Compose net terms) = codes "compose"
 
 -- the words that follow its name
 abbrev pub AreOperandsOf : List Word → Word → Action → Type 0
@@ -59,6 +61,7 @@ AreOperandsOf words signature (Certify net terms cycles) = IsOverFile (λ rest. 
 AreOperandsOf words signature (Verify net certificate terms cycles) = IsOverFiles (λ rest. AreSumOptions rest terms cycles) words signature net certificate
 AreOperandsOf words signature (Upgrade net certificate cycles) = IsOverFiles (λ rest. IsCyclesOption rest cycles) words signature net certificate
 AreOperandsOf words signature (Make kind) = IsOfKind words signature kind
+AreOperandsOf words signature (Compose net terms) = IsOverBlif (λ rest. IsTermsOption 262144 65536 rest terms) words signature net
 
 -- the words are the name of a command and what follows it
 pub record IsNamed (name : Word) (Follow : List Word → Type 0) (words : List Word) : Type 0 where
@@ -85,6 +88,7 @@ action_of (tasks.Certify words) = Certify words.net.now words.terms words.cycles
 action_of (tasks.Verify words) = Verify words.net.now words.other.now words.terms words.cycles
 action_of (tasks.Upgrade words) = Upgrade words.net.now words.other.now words.cycles
 action_of (tasks.Make kind) = Make kind
+action_of (tasks.Compose words) = Compose words.net.now words.terms
 
 -- the command that the program's words gave
 abbrev pub job_of : Command → Job

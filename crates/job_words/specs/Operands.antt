@@ -24,6 +24,11 @@ is_verilog word = ends_with nat_eq word (codes ".v")
 abbrev pub is_aiger : Word → Bool
 is_aiger word = ends_with nat_eq word (codes ".aag")
 
+-- a netlist that ends in neither
+pub record IsBlifName (word : Word) : Type 0 where
+  pub no_verilog : is_verilog word ≡ false
+  pub no_aiger : is_aiger word ≡ false
+
 -- `0x` and 1 to 32 hexadecimal digits
 pub record IsValue (word : Word) : Type 0 where
   pub number : ℕ

@@ -1,6 +1,6 @@
 -- The shapes of words behind the name of a command: files, and what follows them. Source: this project's own, docs/COMMANDS.md.
 use Rattle.std.specs.Prelude.{◌≡◌, ℕ, List, ◌∷◌, ◌++◌, All}
-use Rattle.job_words.specs.Operands.{Word, IsOperand, IsValue}
+use Rattle.job_words.specs.Operands.{Word, IsBlifName, IsOperand, IsValue}
 use Rattle.job_words.specs.Options.{IsCyclesOption}
 
 -- a signature and a second file, and what follows them
@@ -10,6 +10,11 @@ pub record IsOverFile (Follow : List Word → Type 0) (words : List Word) (signa
   pub signature_is : IsOperand signature
   pub file_is : IsOperand file
   pub follow : Follow rest
+
+-- a signature and a netlist in BLIF, and what follows them
+pub record IsOverBlif (Follow : List Word → Type 0) (words : List Word) (signature net : Word) : Type 0 where
+  pub files : IsOverFile Follow words signature net
+  pub in_blif : IsBlifName net
 
 -- a signature and two files, and what follows them
 pub record IsOverFiles (Follow : List Word → Type 0) (words : List Word) (signature file other : Word) : Type 0 where

@@ -4,6 +4,7 @@ use Rattle.std.specs.Fmt.{decimal}
 use Rattle.poly_mixed.specs.Labels.{Labelling, word_at}
 use Rattle.poly_mixed.specs.declared.stage.Stage.{Stage}
 use Rattle.poly_mixed.specs.declared.stage.Stage.TheVariants as stages
+use Rattle.job_words.specs.Operands.{Word}
 use Rattle.job_words.specs.declared.stage_fault.StageFault.{StageFault}
 
 -- what a stage is called, where these are the labels of the words
@@ -15,6 +16,10 @@ stage_text labels (stages.SpecProduct term factor) = codes "specification term "
 stage_text labels (stages.SpecSum term) = codes "specification sum " ++ decimal term
 stage_text labels (stages.InstanceProduct instance term factor) = codes "instance " ++ (decimal instance ++ (codes " term " ++ (decimal term ++ (codes " factor " ++ decimal factor))))
 stage_text labels (stages.InstanceSum instance term) = codes "instance " ++ (decimal instance ++ (codes " sum " ++ decimal term))
+
+-- what a stage of the block of this model is called, where these are the labels of the block's words
+abbrev pub block_stage_text : Word → Labelling → Stage → List ℕ
+block_stage_text model labels stage = codes "block " ++ (model ++ (codes " " ++ stage_text labels stage))
 
 -- a stage of a word is one of so many words
 abbrev pub HasItsWord : ℕ → Stage → Type 0

@@ -6,9 +6,10 @@ ghost use Rattle.job_words.specs.private.Groups.{IsLater, IsOfTables, IsOverSign
 use crate::kind::Kind;
 use crate::made_words::{TrialWords, of_kind, of_numbers};
 use crate::shapes::{
-    over_certificate, over_cycles, over_file, over_files, over_net, over_pair, over_values,
+    over_blif, over_certificate, over_cycles, over_file, over_files, over_net, over_pair,
+    over_values,
 };
-use crate::words::{CyclePairWords, CycleWords, EvalWords, NetWords, PairWords};
+use crate::words::{ComposeWords, CyclePairWords, CycleWords, EvalWords, NetWords, PairWords};
 
 /// A command.
 #[derive(Clone, Copy, Debug)]
@@ -46,6 +47,8 @@ pub enum Task<'a> {
     Upgrade(CyclePairWords<'a>),
     /// `make`: prints a netlist of this kind.
     Make(Kind),
+    /// `compose`: prints what a top that wires instances of blocks computes, in its words, from the polynomials of the blocks.
+    Compose(ComposeWords<'a>),
 }
 
 /// The command that the words spell.
@@ -112,6 +115,10 @@ fn read_task<'a>(name: &str, rest: &'a [String]) -> Option<(&'a str, Task<'a>)>
         },
         "make" => match of_kind(rest) {
             Some((signature, kind)) => Some((signature, Task::Make(kind))),
+            None => None,
+        },
+        "compose" => match over_blif(rest) {
+            Some((signature, words)) => Some((signature, Task::Compose(words))),
             None => None,
         },
         _ => certificate_task(name, rest),

@@ -1,6 +1,6 @@
 //! Operands: words that stand for files and for values.
 ghost use Rattle.std.specs.Prelude.{◌≡◌, ◌≤◌, ◌↔◌, All, drop, length, map, take, string_bytes, IsTrue, IfSome, IfNone};
-ghost use Rattle.job_words.specs.Operands.{IsOperand, IsValue};
+ghost use Rattle.job_words.specs.Operands.{IsBlifName, IsOperand, IsValue};
 ghost use Rattle.job_words.specs.Shapes.{AreValues};
 ghost use Rattle.job_words.specs.private.OptionPlace.{begins_options as begins, before_options, from_options};
 
@@ -71,4 +71,12 @@ pub(crate) fn is_operand(word: &str) -> bool
     !word.is_empty()
         && !word.starts_with("--")
         && word.as_bytes().iter().all(|&b| b >= 0x20 && b != 0x7f)
+}
+
+/// Whether a netlist of this name is in BLIF.
+pub(crate) fn is_blif(net: &str) -> bool
+    ensures { IsTrue result ↔ IsBlifName net.now }
+{
+    let bytes = net.as_bytes();
+    !bytes.ends_with(b".v") && !bytes.ends_with(b".aag")
 }

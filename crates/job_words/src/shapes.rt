@@ -1,12 +1,12 @@
 //! The shapes of words behind the name of a command: files, and what follows them.
 ghost use Rattle.std.specs.Prelude.{◌≡◌, ◌∷◌, ◌≤◌, map, string_bytes, IfSome, IfNone};
-ghost use Rattle.job_words.specs.Options.{AreNone, AreOptions, AreStageOptions, AreSumOptions, IsCyclesOption};
-ghost use Rattle.job_words.specs.Shapes.{IsOverFile, IsOverFiles, AreValues};
+ghost use Rattle.job_words.specs.Options.{AreNone, AreOptions, AreStageOptions, AreSumOptions, IsCyclesOption, IsTermsOption};
+ghost use Rattle.job_words.specs.Shapes.{IsOverBlif, IsOverFile, IsOverFiles, AreValues};
 ghost use Rattle.job_words.specs.private.Rest.{Anything, IsRest};
 
-use crate::operands::{is_operand, read_values};
-use crate::options::{read_cycles, read_nothing, read_options};
-use crate::words::{CyclePairWords, CycleWords, EvalWords, NetWords, PairWords};
+use crate::operands::{is_blif, is_operand, read_values};
+use crate::options::{read_cycles, read_nothing, read_options, read_terms};
+use crate::words::{ComposeWords, CyclePairWords, CycleWords, EvalWords, NetWords, PairWords};
 
 // The greatest bound on the terms of a stage.
 const STAGE_LIMIT: u32 = 262_144;
@@ -53,6 +53,37 @@ pub(crate) fn over_cycles<'a>(words: &'a [String]) -> Option<(&'a str, CycleWord
     match file_and_rest(words) {
         Some((signature, net, rest)) => match read_cycles(rest) {
             Some(cycles) => Some((signature, CycleWords { net, cycles })),
+            None => None,
+        },
+        None => None,
+    }
+}
+
+/// A signature, and a netlist in BLIF with the option of terms.
+pub(crate) fn over_blif<'a>(words: &'a [String]) -> Option<(&'a str, ComposeWords<'a>)>
+    ensures found { IfSome result (λ r. IsOverBlif (λ rest. IsTermsOption 262144 65536 rest r.1.terms) (map string_bytes words.now) r.0.now r.1.net.now) }
+    ensures none { IfNone result ((signature net terms : _) → IsOverBlif (λ rest. IsTermsOption 262144 65536 rest terms) (map string_bytes words.now) signature net → ⊥) }
+{
+    match over_terms(words) {
+        Some((signature, words)) => {
+            if is_blif(words.net) {
+                Some((signature, words))
+            } else {
+                None
+            }
+        }
+        None => None,
+    }
+}
+
+// The same with a netlist of any form.
+fn over_terms<'a>(words: &'a [String]) -> Option<(&'a str, ComposeWords<'a>)>
+    ensures found { IfSome result (λ r. IsOverFile (λ rest. IsTermsOption 262144 65536 rest r.1.terms) (map string_bytes words.now) r.0.now r.1.net.now) }
+    ensures none { IfNone result ((signature net terms : _) → IsOverFile (λ rest. IsTermsOption 262144 65536 rest terms) (map string_bytes words.now) signature net → ⊥) }
+{
+    match file_and_rest(words) {
+        Some((signature, net, rest)) => match read_terms(rest) {
+            Some(terms) => Some((signature, ComposeWords { net, terms })),
             None => None,
         },
         None => None,

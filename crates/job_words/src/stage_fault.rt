@@ -1,7 +1,7 @@
 //! The stage that has more terms than the bound, and what stages are called.
 ghost use Rattle.std.specs.Prelude.{◌≡◌, ◌++◌, IfOk, codes, length, string_bytes};
 ghost use Rattle.std.specs.Fmt.{decimal};
-ghost use Rattle.job_words.specs.StageFault.{stage_text, stage_fault_text as text_of, HasItsWord};
+ghost use Rattle.job_words.specs.StageFault.{block_stage_text, stage_text, stage_fault_text as text_of, HasItsWord};
 
 use net_core::Name;
 use poly_mixed::{Labels, Stage};
@@ -60,4 +60,26 @@ pub fn write_stage(alloc: Global, labels: &Labels, stage: Stage) -> Result<Strin
             format!(in alloc; "instance {instance} sum {term}")
         }
     }
+}
+
+/// What a stage of the block of this model is called, where these are the labels of the block's words. A stage of a word is one of a
+/// word with a label.
+pub fn write_block_stage(
+    alloc: Global,
+    model: &str,
+    labels: &Labels,
+    stage: Stage,
+) -> Result<String, AllocError>
+    requires { HasItsWord (length labels.now.words) stage }
+    ensures { IfOk result (λ text. string_bytes text ≡ block_stage_text model.now labels.now stage) }
+{
+    let stage = write_stage(alloc, labels, stage)?;
+    block_text(alloc, model, stage.as_str())
+}
+
+// The same, of the stage's own name.
+fn block_text(alloc: Global, model: &str, stage: &str) -> Result<String, AllocError>
+    ensures { IfOk result (λ text. string_bytes text ≡ codes "block " ++ (model.now ++ (codes " " ++ stage.now))) }
+{
+    format!(in alloc; "block {model} {stage}")
 }

@@ -60,3 +60,12 @@ pub struct EvalWords<'a> {
     pub cycles: u32,
     ghost few: { cycles ≤ 4096 },
 }
+
+/// The words of a command over one netlist in BLIF that has stages and no cycles.
+#[derive(Clone, Copy, Debug)]
+pub struct ComposeWords<'a> {
+    /// The name of the netlist's file.
+    pub net: &'a str,
+    /// The most terms that a stage may have, 1 to 262,144.
+    pub terms: u32,
+}

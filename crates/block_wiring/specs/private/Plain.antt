@@ -57,6 +57,18 @@ pub record IsFoundFor (candidates : List CandidateValue) (placed : PlacedValue) 
   pub actuals : actuals_by placed.connections word.nets ≡ Some nets
   pub has : Has candidates (record { feed = feed; nets = nets; basis = word.basis })
 
+-- the feed is that of the first candidate on these nets and with this basis
+pub record IsFirstOn (candidates : List CandidateValue) (nets : List Token) (basis : List ℕ) (feed : Feeder) : Type 0 where
+  pub place : ℕ
+  pub at : slice_get candidates place ≡ Some (record { feed = feed; nets = nets; basis = basis })
+  pub before : (q : ℕ) (other : Feeder) → q < place → slice_get candidates q ≡ Some (record { feed = other; nets = nets; basis = basis }) → ⊥
+
+-- the feed is that of the first candidate on the nets that the instance connects to the word, with the word's basis
+pub record IsFirstFor (candidates : List CandidateValue) (placed : PlacedValue) (word : NamedWord) (feed : Feeder) : Type 0 where
+  pub nets : List Token
+  pub actuals : actuals_by placed.connections word.nets ≡ Some nets
+  pub first : IsFirstOn candidates nets word.basis feed
+
 -- a bit of the output word is not connected, or an input
 pub record IsBadOutput (placed : PlacedValue) (word : NamedWord) : Type 0 where
   pub net : Token
@@ -71,7 +83,7 @@ IsRefusedBy candidates placed word = ((word.role ≡ Output) × IsBadOutput plac
 abbrev pub IsFedMore : List CandidateValue → PlacedValue → NamedWord → List Feeder → List Feeder → Type 0
 IsFedMore candidates placed word old new =
     ((word.role ≡ Output) × (IsBadOutput placed word → ⊥) × (new ≡ old))
-    ⊎ ((word.role ≢ Output) × ((feed : Feeder) × IsFoundFor candidates placed word feed × (new ≡ old ++ feed ∷ [])))
+    ⊎ ((word.role ≢ Output) × ((feed : Feeder) × IsFirstFor candidates placed word feed × (new ≡ old ++ feed ∷ [])))
 
 -- what comes of one word: it is fed, or it is refused
 abbrev pub ComesOf : List CandidateValue → PlacedValue → NamedWord → Bool → List Feeder → List Feeder → Type 0
@@ -81,7 +93,7 @@ ComesOf candidates placed word false old new = IsRefusedBy candidates placed wor
 -- the row has the feeds of the input words among the first w words, of which none is refused
 pub record AreFedBefore (candidates : List CandidateValue) (placed : PlacedValue) (w : ℕ) (row : List Feeder) : Type 0 where
   pub long : length row ≡ length (inputs_among (take w placed.words))
-  pub each : (j : ℕ) (word : NamedWord) (feed : Feeder) → slice_get (inputs_among (take w placed.words)) j ≡ Some word → slice_get row j ≡ Some feed → IsFoundFor candidates placed word feed
+  pub each : (j : ℕ) (word : NamedWord) (feed : Feeder) → slice_get (inputs_among (take w placed.words)) j ≡ Some word → slice_get row j ≡ Some feed → IsFirstFor candidates placed word feed
   pub accepted : (v : ℕ) (word : NamedWord) → v < w → slice_get placed.words v ≡ Some word → IsRefusedBy candidates placed word → ⊥
 
 -- the row of an instance
@@ -145,6 +157,12 @@ pub record IsOutputFeed (candidates : List CandidateValue) (top : List NamedWord
   pub one : outputs_among top ≡ word ∷ []
   pub has : Has candidates (record { feed = feed; nets = word.nets; basis = word.basis })
 
+-- the output word of the top has this feed, the first that it can have
+pub record IsFirstOutput (candidates : List CandidateValue) (top : List NamedWord) (feed : Feeder) : Type 0 where
+  pub word : NamedWord
+  pub one : outputs_among top ≡ word ∷ []
+  pub first : IsFirstOn candidates word.nets word.basis feed
+
 -- no word of an instance is refused
 abbrev pub AreAccepted : List CandidateValue → List PlacedValue → Type 0
 AreAccepted candidates placed = (i : ℕ) (instance : PlacedValue) → slice_get placed i ≡ Some instance → (v : ℕ) (word : NamedWord) → slice_get instance.words v ≡ Some word → IsRefusedBy candidates instance word → ⊥
@@ -152,7 +170,7 @@ AreAccepted candidates placed = (i : ℕ) (instance : PlacedValue) → slice_get
 -- what feeds the instances, and the output word of the top
 pub record ArePlainlyWired (top : List NamedWord) (placed : List PlacedValue) (rows : List (List Feeder)) (output : Feeder) : Type 0 where
   pub rows_are : AreRows (candidates_of top placed) placed rows
-  pub output_is : IsOutputFeed (candidates_of top placed) top output
+  pub output_is : IsFirstOutput (candidates_of top placed) top output
 
 -- why there is no wiring; want of memory is free
 abbrev pub IsPlainFault : List NamedWord → List PlacedValue → WiringFault → Type 0

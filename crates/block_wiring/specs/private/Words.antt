@@ -1,5 +1,5 @@
 -- Words of blocks, step by step. Source: this project's own.
-use Rattle.std.specs.Prelude.{◌≡◌, ℕ, ◌≤◌, ◌<◌, ◌^◌, ◌||◌, Bool, List, [], ◌∷◌, length, is_some}
+use Rattle.std.specs.Prelude.{◌≡◌, ℕ, ◌≤◌, Bool, List, length, is_some}
 use Rattle.std.specs.List.{list_any}
 use Rattle.net_core.specs.Lists.{Has}
 use Rattle.net_blif.specs.Instances.{is_among}

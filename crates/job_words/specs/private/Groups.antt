@@ -1,6 +1,6 @@
 -- Groups of commands, each of which is read by a function of its own: for the clauses of private functions.
 -- Source: this project's own.
-use Rattle.job_words.specs.Command.{Action, Bits, Abstract, Check, Same, Eval, Iso, Lift, Table, Certify, Verify, Upgrade, Make, Job, Over, Trial}
+use Rattle.job_words.specs.Command.{Action, Bits, Abstract, Check, Same, Eval, Iso, Lift, Table, Certify, Verify, Upgrade, Make, Compose, Job, Over, Trial}
 
 -- a command of tables or isomorphisms
 abbrev pub IsTableAction : Action → Type 0
@@ -16,6 +16,7 @@ IsTableAction (Certify net terms cycles) = ⊥
 IsTableAction (Verify net certificate terms cycles) = ⊥
 IsTableAction (Upgrade net certificate cycles) = ⊥
 IsTableAction (Make kind) = ⊥
+IsTableAction (Compose net terms) = ⊥
 
 abbrev pub IsOfTables : Job → Type 0
 IsOfTables (Over signature action) = IsTableAction action
@@ -35,6 +36,7 @@ IsLaterAction (Certify net terms cycles) = Unit {0}
 IsLaterAction (Verify net certificate terms cycles) = Unit {0}
 IsLaterAction (Upgrade net certificate cycles) = Unit {0}
 IsLaterAction (Make kind) = ⊥
+IsLaterAction (Compose net terms) = ⊥
 
 abbrev pub IsLater : Job → Type 0
 IsLater (Over signature action) = IsLaterAction action

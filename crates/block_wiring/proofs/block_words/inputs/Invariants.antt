@@ -1,4 +1,4 @@
-use Rattle.std.proofs.Common.{◌≡◌, take}
+use Rattle.std.proofs.Common.{take}
 use Rattle.net_blif.specs.Table.{numbers_in}
 use Rattle.block_feeds.specs.NamedWord.{inputs_among}
 use Rattle.block_wiring.specs.private.Words.{in_some, Knows}

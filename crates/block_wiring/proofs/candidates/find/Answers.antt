@@ -1,10 +1,10 @@
-use Rattle.std.proofs.Common.{◌≡◌, ◌∙◌, ◌<◌, ap, sym, subst, ℕ, length, Option, None, Some, arith}
-use Rattle.std.specs.Prelude.{slice_get, slice_index_or}
+use Rattle.std.proofs.Common.{◌∙◌, ◌<◌, ap, sym, subst, ℕ, length, Option, None, arith}
+use Rattle.std.specs.Prelude.{slice_index_or}
 use Rattle.std.proofs.lemmas.Option.{slice_get-get_or, slice_get_within}
 use Rattle.net_blif.specs.Table.{numbers_in, Numbers}
 use Rattle.gf_basis.specs.BasisParts.{elements_of}
 use Rattle.block_wiring.specs.private.Linked.{first_from}
-use Rattle.block_wiring.proofs.LinkedLemmas.{found_on, left_after, search_at, search_end, search_on, IsSearch}
+use Rattle.block_wiring.proofs.LinkedLemmas.{left_after, search_at, search_end, search_found, search_on, IsSearch}
 use Rattle.block_wiring.proofs.candidates.find.Goals as goal
 
 pub loop-at-init : goal.loop-at-init
@@ -22,7 +22,8 @@ candidate_at-candidate-requires c =
 
 pub returns-then-is_on-clause-some : goal.returns-then-is_on-clause-some
 returns-then-is_on-clause-some c =
-    (c.in-Some.place, c.candidate_at-candidate.ensures ∙ ap Some (found_on c.args.nets.now (elements_of c.args.basis.now) c.candidate_at-candidate.result.now c.feed.result c.feed.ensures (sym c.is_on.ensures ∙ c.if-is_on.true)))
+    let P : Option ℕ → Type 0 = λ o. IsSearch c.args.list.now c.args.nets.now (elements_of c.args.basis.now) o in
+    search_found c.args.list.now c.args.nets.now (elements_of c.args.basis.now) c.in-Some.place c.candidate_at-candidate.result.now c.feed.result (subst P c.in-Some.is c.loop-at.invariant) c.candidate_at-candidate.ensures c.feed.ensures (sym c.is_on.ensures ∙ c.if-is_on.true)
 
 pub bounds-next-place : goal.bounds-next-place
 bounds-next-place c = omega (arith, c.requires.linked.lead_on.long, slice_get_within c.args.list.now c.in-Some.place c.candidate_at-candidate.result.now c.candidate_at-candidate.ensures)

@@ -1,4 +1,4 @@
-use Rattle.std.proofs.Common.{◌+◌, not, length, take, arith}
+use Rattle.std.proofs.Common.{◌+◌, not, take, arith}
 use Rattle.net_words.specs.Roles.{same_role}
 use Rattle.net_words.specs.declared.word.Role.TheVariants.{Output}
 use Rattle.block_feeds.specs.NamedWord.{NamedWord}

@@ -1,4 +1,4 @@
-use Rattle.std.proofs.Common.{◌≡◌, ◌∙◌, sym, List, ℕ, Bool, true, false, map, length, arith, Bor}
+use Rattle.std.proofs.Common.{◌≡◌, ◌∙◌, sym, List, ℕ, true, false, map, arith, Bor}
 use Rattle.std.specs.Str.{bytes_eq}
 use Rattle.block_wiring.specs.private.Names.{same_names}
 use Rattle.block_wiring.proofs.ListLemmas.{mapped_long, was_false, was_true}

@@ -1,4 +1,4 @@
-use Rattle.std.proofs.Common.{◌≡◌, ◌≢◌, ◌∙◌, ap, sym, subst, inr, true, false, Some}
+use Rattle.std.proofs.Common.{◌≡◌, ◌∙◌, ap, sym, inr, true, false, Some}
 use Rattle.std.specs.Prelude.{slice_get}
 use Rattle.net_words.specs.Roles.{same_role}
 use Rattle.net_words.specs.declared.word.Role.TheVariants.{Output}

@@ -1,20 +1,20 @@
-use Rattle.std.proofs.Common.{◌≡◌, ap, sym, subst, Some}
+use Rattle.std.proofs.Common.{◌≡◌, sym, subst, Some}
 use Rattle.std.specs.Prelude.{slice_get}
 use Rattle.std.proofs.lemmas.Option.{IfSome_then}
 use Rattle.net_core.specs.Lists.{Has}
 use Rattle.block_feeds.specs.NamedWord.{NamedWord}
 use Rattle.block_wiring.specs.private.Names.{actuals_by}
-use Rattle.block_wiring.specs.private.Plain.{CandidateValue}
+use Rattle.block_wiring.specs.private.Plain.{CandidateValue, IsFirstOn}
 use Rattle.block_wiring.proofs.ListLemmas.{none_then}
 use Rattle.block_wiring.proofs.row.feed_of.Goals as goal
 
 pub returns-in-Some-clause-some : goal.returns-in-Some-clause-some
 returns-in-Some-clause-some c =
-    IfSome_then c.feed_for.result c.feed_for.ensures.some (λ feed has at got.
+    IfSome_then c.feed_for.result c.feed_for.ensures.some (λ feed first at got.
     let here : slice_get c.args.placed.now.words c.args.word ≡ Some c.word.result.now = c.word.ensures in
     let same : c.word.result.now ≡ at = cc in
-    let P : NamedWord → Type 0 = λ w. Has c.args.candidates.now (record { feed = feed; nets = c.in-Some.nets.now; basis = w.basis }) in
-    record { nets = c.in-Some.nets.now; actuals = c.in-Some.ensures.some at got; has = subst P same has })
+    let P : NamedWord → Type 0 = λ w. IsFirstOn c.args.candidates.now c.in-Some.nets.now w.basis feed in
+    record { nets = c.in-Some.nets.now; actuals = c.in-Some.ensures.some at got; first = subst P same first })
 
 pub returns-in-Some-clause-none : goal.returns-in-Some-clause-none
 returns-in-Some-clause-none c =

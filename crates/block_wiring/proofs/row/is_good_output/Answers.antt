@@ -1,4 +1,4 @@
-use Rattle.std.proofs.Common.{◌≡◌, ◌∙◌, ap, sym}
+use Rattle.std.proofs.Common.{◌∙◌, ap, sym}
 use Rattle.block_wiring.specs.private.Words.{is_mixed}
 use Rattle.block_wiring.proofs.RowLemmas.{good_output, loose_output, mixed_output}
 use Rattle.block_wiring.proofs.row.is_good_output.Goals as goal

@@ -1,4 +1,4 @@
-use Rattle.std.proofs.Common.{◌≡◌, subst, ℕ, Bool, true, false, arith}
+use Rattle.std.proofs.Common.{subst, Bool, arith}
 use Rattle.graph_core.proofs.ListLemmas.{get_below}
 use Rattle.block_wiring.specs.private.Plain.{ComesOf}
 use Rattle.block_wiring.proofs.RowLemmas.{row_more, row_refused}

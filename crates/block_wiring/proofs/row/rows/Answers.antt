@@ -1,4 +1,4 @@
-use Rattle.std.proofs.Common.{◌≡◌, ◌∙◌, ap, subst, refl, ℕ, Global, Vec, List, Result, map}
+use Rattle.std.proofs.Common.{◌∙◌, ap, subst, refl, ℕ, Global, Vec, List, Result, map}
 use Rattle.std.specs.Prelude.{IfErr, IfOk}
 use Rattle.graph_core.proofs.ListLemmas.{got_read}
 use Rattle.block_feeds.specs.declared.feeder.Feeder.{Feeder}

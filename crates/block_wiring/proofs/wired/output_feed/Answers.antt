@@ -1,10 +1,22 @@
-use Rattle.std.proofs.Common.{◌≡◌, ◌∙◌, ap, sym, subst, [], ◌∷◌, Some}
+use Rattle.std.proofs.Common.{◌≡◌, ◌∙◌, ap, sym, subst, List, [], ◌∷◌, Some}
 use Rattle.std.specs.Prelude.{slice_get}
+use Rattle.std.proofs.lemmas.Option.{IfSome_then}
 use Rattle.net_core.specs.Lists.{Has}
+use Rattle.net_blif.specs.Statement.{Token}
 use Rattle.block_feeds.specs.NamedWord.{outputs_among, NamedWord}
-use Rattle.block_wiring.specs.private.Plain.{CandidateValue}
+use Rattle.block_wiring.specs.private.Plain.{CandidateValue, IsFirstOn}
 use Rattle.block_wiring.proofs.ListLemmas.{none_then}
 use Rattle.block_wiring.proofs.wired.output_feed.Goals as goal
+
+pub returns-clause-some : goal.returns-clause-some
+returns-clause-some c =
+    IfSome_then c.feed_for.result c.feed_for.ensures.some (λ feed first.
+    let at : slice_get c.args.top.now c.output_place.result ≡ Some c.output_place.ensures.0 = c.output_place.ensures.1 in
+    let here : slice_get c.args.top.now c.output_place.result ≡ Some c.word_at-word.result.now = c.word_at-word.ensures in
+    let same : c.output_place.ensures.0 ≡ c.word_at-word.result.now = cc in
+    let one : outputs_among c.args.top.now ≡ c.word_at-word.result.now ∷ [] = c.output_place.ensures.2 ∙ ap (λ (w : NamedWord). w ∷ []) same in
+    let P : List Token → Type 0 = λ nets. IsFirstOn c.args.candidates.now nets c.word_at-word.result.now.basis feed in
+    record { word = c.word_at-word.result.now; one = one; first = subst P (c.in_ok-nets.ensures ∙ c.nets.ensures) first })
 
 pub returns-clause-none : goal.returns-clause-none
 returns-clause-none c =

@@ -1,4 +1,4 @@
-use Rattle.std.proofs.Common.{◌≡◌, sym, subst, List, Option, Global, Vec, map}
+use Rattle.std.proofs.Common.{sym, subst, List, Option, Global, Vec, map}
 use Rattle.std.specs.Prelude.{IfNone}
 use Rattle.block_feeds.specs.declared.feeder.Feeder.{Feeder}
 use Rattle.block_wiring.specs.private.Plain.{AreAccepted, CandidateValue, HaveSize, IsOutputFeed}

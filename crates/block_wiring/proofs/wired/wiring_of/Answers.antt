@@ -1,4 +1,4 @@
-use Rattle.std.proofs.Common.{rules, ◌≡◌, ◌∙◌, ap, sym, subst, ℕ, List, length, map, filter, arith}
+use Rattle.std.proofs.Common.{rules, ◌∙◌, ap, sym, subst, ℕ, List, length, map, filter, arith}
 use Rattle.std.proofs.lemmas.Option.{slice_get_within}
 use Rattle.graph_core.proofs.ListLemmas.{got_read}
 use Rattle.net_blif.specs.Statement.{Token}

@@ -2,13 +2,14 @@ use Rattle.std.proofs.Common.{sym, subst, List, ℕ}
 use Rattle.std.proofs.lemmas.Option.{IfSome_then}
 use Rattle.net_core.specs.Lists.{Has}
 use Rattle.gf_basis.specs.BasisParts.{elements_of}
+use Rattle.block_wiring.specs.private.Plain.{IsFirstOn}
 use Rattle.block_wiring.proofs.LinkedLemmas.{on_itself}
 use Rattle.block_wiring.proofs.ListLemmas.{none_then}
 use Rattle.block_wiring.proofs.candidates.Candidates.feed_for.Goals as goal
 
 pub returns-clause-some : goal.returns-clause-some
 returns-clause-some c =
-    IfSome_then c.find.result c.find.ensures.some (λ feed has. let P : List ℕ → Type 0 = λ b. Has c.args.self.now (record { feed = feed; nets = c.args.nets.now; basis = b }) in subst P c.basis.ensures has)
+    IfSome_then c.find.result c.find.ensures.some (λ feed first. let P : List ℕ → Type 0 = λ b. IsFirstOn c.args.self.now c.args.nets.now b feed in subst P c.basis.ensures first)
 
 pub returns-clause-none : goal.returns-clause-none
 returns-clause-none c =

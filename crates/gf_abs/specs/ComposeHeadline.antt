@@ -1,0 +1,13 @@
+-- What the answers of `compose` say. Source: this project's own.
+use Rattle.std.specs.Prelude.{ℕ, List, Some, Ok}
+use Rattle.job_io.specs.Shelf.{Files}
+use Rattle.job_words.specs.Command.{Compose, Over, IsSpelled}
+use Rattle.job_words.specs.Operands.{Word}
+use Rattle.gf_abs.specs.Answer.{Answer}
+use Rattle.gf_abs.specs.Reply.{Reply}
+
+-- to the words `compose SIGNATURE NET` over the held files the program answers with this reply
+pub record AnswersCompose (files : Files) (words : List Word) (signature net : Word) (reply : Reply) : Type 0 where
+  pub bound : ℕ
+  pub spelled : IsSpelled words (Over signature (Compose net bound))
+  pub answer : Answer words (Some files) (Ok reply)

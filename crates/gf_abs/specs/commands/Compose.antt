@@ -1,0 +1,106 @@
+-- The command `compose`: the output word's polynomial in the input words, from the polynomials of blocks. Source: Pruss, Kalla, Enescu,
+-- DAC 2014; the refusals, the stages and the bound on their terms are this project's own.
+use Rattle.std.specs.Prelude.{ℕ, ◌-◌, List, [], ◌∷◌, ◌++◌, Option, None, Some, slice_get, if◌then◌else◌}
+use Rattle.std.specs.Option.{option_map_or}
+use Rattle.std.specs.Str.{bytes_eq}
+use Rattle.text_core.specs.Outcome.{Outcome, ◌>>=◌, Exactly, Within}
+use Rattle.job_io.specs.Shelf.{Files}
+use Rattle.net_blif.specs.Design.{ModelValue}
+use Rattle.net_blif.specs.Statement.{Token}
+use Rattle.net_blif.specs.Top.{instances_of, model_in}
+use Rattle.net_blif.specs.declared.item.Item.{Item}
+use Rattle.net_signature.specs.Body.{BlockValue}
+use Rattle.net_signature.specs.Signature.{SignatureValue}
+use Rattle.net_words.specs.declared.word.WordText.{WordText}
+use Rattle.poly_mixed.specs.Polynomial.{Terms}
+use Rattle.poly_mixed.specs.declared.stage.Stage.{Stage}
+use Rattle.block_feeds.specs.Hierarchy.{Hierarchy}
+use Rattle.block_compose.specs.Composed.{ComposesIn}
+use Rattle.block_compose.specs.declared.fault.ComposeFault.{ComposeFault}
+use Rattle.block_compose.specs.declared.fault.ComposeFault.TheVariants.{FedInTop, GateInTop, NoBlock, BlockNet, BlockLatch, BlockBind, NotWords, OutputNotWords, InstanceLoop, TooManyTerms, OutOfMemory}
+use Rattle.job_words.specs.StageFault.{block_stage_text, stage_text}
+use Rattle.job_words.specs.declared.composition_fault.CompositionFault.TheVariants as composition
+use Rattle.job_words.specs.declared.fault.Fault.{Fault}
+use Rattle.job_words.specs.declared.fault.Fault.TheVariants as faults
+use Rattle.job_words.specs.declared.signature_fault.SignatureFault.{SignatureFault}
+use Rattle.job_words.specs.Operands.{Word}
+use Rattle.job_input.specs.HierarchyIn.{HierarchyIn}
+use Rattle.job_input.specs.Labelling.{labels_of}
+use Rattle.job_input.specs.NetlistOf.{word_name}
+use Rattle.job_input.specs.SettingOf.{BasesOf}
+use Rattle.job_input.specs.SettingValue.{SettingValue}
+use Rattle.gf_abs.specs.Reply.{Reply, prints}
+
+-- ---- bases
+
+-- these lists of bases, and behind them one for the words of each block
+abbrev pub WithBlocks : ℕ → (ℕ → ℕ → ℕ) → List (List (List ℕ)) → List BlockValue → Outcome SignatureFault (List (List (List ℕ)))
+WithBlocks k product lists [] = Exactly lists
+WithBlocks k product lists (block ∷ blocks) = do
+  bases ← BasesOf k product block.words
+  WithBlocks k product (lists ++ bases ∷ []) blocks
+
+-- the bases of the words of the top, and then those of the words of each block: there are such, since the signature was taken
+abbrev pub ListsOf : ℕ → (ℕ → ℕ → ℕ) → SignatureValue → Outcome Fault (List (List (List ℕ)))
+ListsOf k product signature = do
+  top ← Within faults.Signature (BasesOf k product signature.words)
+  Within faults.Signature (WithBlocks k product (top ∷ []) signature.blocks)
+
+-- the models with the words and the blocks of a signature, and with these bases
+abbrev pub hierarchy_with : SettingValue → List ModelValue → List (List (List ℕ)) → Hierarchy
+hierarchy_with setting design lists = record { design = design; words = setting.signature.words; blocks = setting.signature.blocks; bases = lists }
+
+-- ---- refusals
+
+-- the words of the block of this model; none where no block is of it
+abbrev pub words_in : List BlockValue → Token → List WordText
+words_in [] model = []
+words_in (block ∷ blocks) model = if bytes_eq model block.model then block.words else words_in blocks model
+
+-- the name of the model of instance n, from 1
+abbrev pub instance_model : List ModelValue → ℕ → Token
+instance_model design n = option_map_or (λ (item : Item). model_in item) (slice_get (instances_of design) (n - 1)) []
+
+-- what a stage of the block of this model is called, or, where no model is given, one of an instance
+abbrev pub stage_called : SettingValue → Option Token → Stage → List ℕ
+stage_called setting None stage = stage_text (labels_of setting.k setting.signature.words) stage
+stage_called setting (Some model) stage = block_stage_text model (labels_of setting.k (words_in setting.signature.blocks model)) stage
+
+module _ (setting : SettingValue) (design : List ModelValue) (bound : ℕ) where
+  -- The refusal of a composition as a fault. Want of memory comes of no composition: what stands for it is never met.
+  abbrev pub compose_fault : ComposeFault → Fault
+  compose_fault FedInTop = faults.Composition composition.FedInTop
+  compose_fault (GateInTop line) = faults.Composition (composition.GateInTop line)
+  compose_fault (NoBlock model) = faults.Composition (composition.NoBlock model)
+  compose_fault (BlockNet model) = faults.Composition (composition.BlockNet model)
+  compose_fault (BlockLatch model) = faults.Composition (composition.BlockLatch model)
+  compose_fault (BlockBind model) = faults.Composition (composition.BlockBind model)
+  compose_fault (NotWords instance word) = faults.Composition (composition.NotWords instance (word_name (words_in setting.signature.blocks (instance_model design instance)) word))
+  compose_fault OutputNotWords = faults.Composition composition.OutputNotWords
+  compose_fault (InstanceLoop instance) = faults.Composition (composition.InstanceLoop instance)
+  compose_fault (TooManyTerms block stage terms) = faults.Stage (record { stage = stage_called setting block stage; terms = terms; bound = bound })
+  compose_fault OutOfMemory = faults.Composition composition.FedInTop
+
+-- ---- the answer
+
+-- the polynomial in words of a top with these bases, or the first refusal or stage of more than `bound` terms
+abbrev pub ComposeOf : SettingValue → List ModelValue → List (List (List ℕ)) → ℕ → Outcome Fault Terms
+ComposeOf setting design lists bound = Within (compose_fault setting design bound) (ComposesIn setting.k setting.product setting.signature (hierarchy_with setting design lists) bound)
+
+-- its reply
+abbrev pub ComposeReply : SettingValue → List ModelValue → List (List (List ℕ)) → ℕ → Outcome Fault Reply
+ComposeReply setting design lists bound = do
+  ts ← ComposeOf setting design lists bound
+  Exactly (prints setting ts)
+
+-- its reply over the models of a netlist
+abbrev pub ComposeOver : SettingValue → List ModelValue → ℕ → Outcome Fault Reply
+ComposeOver setting design bound = do
+  lists ← ListsOf setting.k setting.product setting.signature
+  ComposeReply setting design lists bound
+
+-- its answer, after its signature was taken: its input is a hierarchical netlist, to whose first model the words bind
+abbrev pub ComposeAnswer : Option Files → SettingValue → Word → ℕ → Outcome Fault Reply
+ComposeAnswer held setting net terms = do
+  design ← HierarchyIn held setting.signature net
+  ComposeOver setting design terms
