@@ -18,10 +18,7 @@ use std::process::Abort;
 use std::test::Fail;
 
 // Files by name, of their texts.
-fn files_of(
-    alloc: Global,
-    files: &[(&str, &str)],
-) -> Result<Vec<(String, Vec<u8>)>, AllocError> {
+fn files_of(alloc: Global, files: &[(&str, &str)]) -> Result<Vec<(String, Vec<u8>)>, AllocError> {
     let mut pairs = Vec::new(alloc);
     for (name, text) in files {
         pairs.push((
@@ -90,9 +87,14 @@ fn composed<F: Field>(
 #[test]
 fn a_product_with_its_factor(rt: HostRuntime) -> Result<(), Fail> {
     let alloc = rt.alloc();
-    let signature = "gfsig 1\nfield 0x7\nword A input poly a0 a1\nword B input poly b0 b1\nword Z output poly z0 z1\nblock m\nword X input poly x0 x1\nword Y input poly y0 y1\nword P output poly p0 p1\n";
-    let top = ".model top\n.inputs a0 a1 b0 b1\n.outputs z0 z1\n.subckt m x0=a0 x1=a1 y0=b0 y1=b1 p0=t0 p1=t1\n.subckt m x0=t0 x1=t1 y0=a0 y1=a1 p0=z0 p1=z1\n.model m\n.inputs x0 x1 y0 y1\n.outputs p0 p1\n.names x0 x1 y0 y1 p0\n101- 1\n01-1 1\n1110 1\n1101 1\n.names x0 x1 y0 y1 p1\n10-1 1\n0110 1\n0101 1\n111- 1\n";
-    let mut shelf = MemShelf::new(files_of(alloc, &[("s", signature), ("net", top)])?, Vec::new(alloc));
+    let signature =
+        "gfsig 1\nfield 0x7\nword A input poly a0 a1\nword B input poly b0 b1\nword Z output poly z0 z1\nblock m\nword X input poly x0 x1\nword Y input poly y0 y1\nword P output poly p0 p1\n";
+    let top =
+        ".model top\n.inputs a0 a1 b0 b1\n.outputs z0 z1\n.subckt m x0=a0 x1=a1 y0=b0 y1=b1 p0=t0 p1=t1\n.subckt m x0=t0 x1=t1 y0=a0 y1=a1 p0=z0 p1=z1\n.model m\n.inputs x0 x1 y0 y1\n.outputs p0 p1\n.names x0 x1 y0 y1 p0\n101- 1\n01-1 1\n1110 1\n1101 1\n.names x0 x1 y0 y1 p1\n10-1 1\n0110 1\n0101 1\n111- 1\n";
+    let mut shelf = MemShelf::new(
+        files_of(alloc, &[("s", signature), ("net", top)])?,
+        Vec::new(alloc),
+    );
     let signed = match read_signed(alloc, &mut shelf, "s") {
         Ok(signed) => signed,
         Err(_) => panic!(rt; "no signature"),
