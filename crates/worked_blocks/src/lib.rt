@@ -3,4 +3,4 @@
 #![tactic(auto)]
 
 #[cfg(test)]
-mod compose_tests;
+mod block_compose_tests;

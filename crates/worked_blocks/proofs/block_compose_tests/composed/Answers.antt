@@ -1,5 +1,5 @@
 use Rattle.block_compose.proofs.GivenLemmas.{none_fed}
-use Rattle.worked_blocks.proofs.compose_tests.composed.Goals as goal
+use Rattle.worked_blocks.proofs.block_compose_tests.composed.Goals as goal
 
 pub compose-requires : goal.compose-requires
 compose-requires g c =
