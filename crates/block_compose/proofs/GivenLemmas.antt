@@ -77,7 +77,7 @@ no_lines (feed ∷ feeds) e = absurd (cc)
 role_unfed : (r : Role) → same_role r Fed ≡ false → r ≢ Fed
 role_unfed r other fed = let P : Role → Type 0 = λ s. same_role s Fed ≡ false in let both : true ≡ false = subst P fed other in absurd (cc)
 
-none_fed : (words : List WordText) → ((i : ℕ) (word : WordText) → slice_get words i ≡ Some word → word.role ≢ Fed) → AllByRecursion (λ (word : WordText). word.role ≢ Fed) words
+pub none_fed : (words : List WordText) → ((i : ℕ) (word : WordText) → slice_get words i ≡ Some word → word.role ≢ Fed) → AllByRecursion (λ (word : WordText). word.role ≢ Fed) words
 none_fed [] each = tt
 none_fed (word ∷ words) each = (each 0 word refl, none_fed words (λ i w got. each (suc i) w got))
 

@@ -5,3 +5,4 @@ pub mod ComposeLemmas
 pub mod ReadyLemmas
 pub mod StepsDetermined
 pub mod CompositionDetermined
+mod Examples

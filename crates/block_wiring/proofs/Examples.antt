@@ -10,8 +10,8 @@ use Rattle.net_blif.specs.declared.item.Item.TheVariants.{Instance}
 use Rattle.block_feeds.specs.Feeds.{Fits}
 use Rattle.block_feeds.specs.Hierarchy.{Hierarchy, IsInstance}
 use Rattle.block_feeds.specs.NamedWord.{NamedWord}
-use Rattle.block_feeds.specs.declared.feeder.Feeder.TheVariants.{InputWord}
-use Rattle.block_wiring.specs.Answer.{IsFeedIn}
+use Rattle.block_feeds.specs.declared.feeder.Feeder.TheVariants.{InputWord, OutputOf}
+use Rattle.block_wiring.specs.Answer.{IsEarlierFeed, IsFeedIn, IsFirstFit}
 use Rattle.block_wiring.specs.Refusal.{IsInputOf, IsRefusedAt}
 
 -- names of one byte
@@ -62,6 +62,17 @@ instance_of_m connections = record { at = refl; number = 0; named = refl; block 
 -- the input word of the top fits x
 a_fits_x : Fits (top whole) (Instance 4 m whole) input_x (InputWord 0)
 a_fits_x = record { nets = a ∷ []; actuals = refl; stands = record { word = record { role = Input; nets = a ∷ []; basis = 1 ∷ [] }; at = refl; nets_are = refl; basis_is = refl } }
+
+-- no earlier feed fits it: the input words of the top come first
+a_is_first : IsFirstFit (top whole) (Instance 4 m whole) input_x (InputWord 0)
+a_is_first (InputWord w) early fit = absurd (omega (arith, early))
+a_is_first (OutputOf i) early fit = early
+
+words_before_outputs : IsEarlierFeed (InputWord 3) (OutputOf 0)
+words_before_outputs = tt
+
+outputs_by_number : IsEarlierFeed (OutputOf 0) (OutputOf 2)
+outputs_by_number = omega arith
 
 -- it is one of the top's one input word and one instance
 a_is_among : IsFeedIn (top whole) (InputWord 0)
