@@ -3,14 +3,14 @@
 //!     text NAME           a text that rows can name; its lines follow, each behind `|`
 //!     row NAME            a row: its files, and then its calls
 //!     file F TEXT         the file F holds the text
-//!     change F N          line N of the file F is what follows behind `|`
+//!     change F N          line N of the file F is what follows
 //!     words W W ..        a call
 //!     keep F              what the call answers is the file F of the calls after it
 //!     status N            its status; its lines follow, each behind `|`
 //!     ends N LENGTH       its status, and how many bytes it prints; its last lines follow, each behind `|`
 //!
 //! The name of a row has no space in it. A line behind `|` ends with a line feed, one behind `:` does not; the line of a
-//! change is behind `:`.
+//! change is behind `:`, and where several lines take its place, those before the last are behind `|`.
 use crate::call::answer;
 use crate::escapes::plain;
 use crate::files::{Files, changed};
