@@ -1,5 +1,5 @@
 -- The blocks of a signature whose setting was taken.
-use Rattle.std.proofs.Common.{◌≡◌, sym, subst, List, Ok}
+use Rattle.std.proofs.Common.{sym, subst, ℕ, List, Ok}
 use Rattle.net_core.specs.Lists.{Has}
 use Rattle.net_signature.specs.Body.{BlockValue}
 use Rattle.net_signature.specs.Signature.{Sig, SignatureValue}

@@ -1,7 +1,8 @@
 -- At most one reply or fault comes of `compose`.
-use Rattle.std.proofs.Common.{◌≡◌, ◌∙◌, ap, sym, refl, subst, ℕ, suc, ◌+◌, List, [], ◌∷◌, ◌++◌, length, Some, Ok, arith}
+use Rattle.std.proofs.Common.{◌≡◌, ◌∙◌, ap, sym, refl, subst, ℕ, zero, suc, ◌+◌, List, [], ◌∷◌, ◌++◌, length, Some, Ok, arith}
 use Rattle.std.specs.Prelude.{slice_get}
 use Rattle.std.specs.Option.{unwrap_or}
+use Rattle.std.proofs.lemmas.List.{length-append}
 use Rattle.std.proofs.lemmas.Option.{slice_get_within}
 use Rattle.text_core.specs.Outcome.{◌>>=◌, Determined, Exactly, Within}
 use Rattle.text_core.proofs.DeterminedLemmas.{determined_bind}
@@ -101,7 +102,7 @@ module _ (k : ℕ) (product : ℕ → ℕ → ℕ) where
 
   list_at : (lists all : List (List (List ℕ))) (blocks : List BlockValue) (number : ℕ) (block : BlockValue) → WithBlocks k product lists blocks (Ok all) → slice_get blocks number ≡ Some block → HasListAt all (length lists + number) block
   list_at lists all [] number block is found = absurd (cc)
-  list_at lists all (b ∷ blocks) 0 block (bases, are, rest) found =
+  list_at lists all (b ∷ blocks) zero block (bases, are, rest) found =
       let same : b ≡ block = cc in
       let P : BlockValue → Type 0 = HasListAt all (length lists + 0) in
       let Q : ℕ → Type 0 = λ n. slice_get all n ≡ Some bases in
@@ -114,8 +115,7 @@ module _ (k : ℕ) (product : ℕ → ℕ → ℕ) where
       subst P (longer lists bases number) (list_at (lists ++ bases ∷ []) all blocks number block rest found)
     where
       longer : (xs : List (List (List ℕ))) (x : List (List ℕ)) (n : ℕ) → length (xs ++ x ∷ []) + n ≡ length xs + suc n
-      longer [] x n = omega arith
-      longer (y ∷ xs) x n = ap suc (longer xs x n)
+      longer xs x n = let long : length (xs ++ x ∷ []) ≡ length xs + 1 = length-append xs (x ∷ []) in omega (arith, long)
 
 -- ---- the composition
 

@@ -1,5 +1,5 @@
 -- Each fault of `compose` is one line.
-use Rattle.std.proofs.Common.{◌≡◌, ◌∙◌, ap, sym, refl, subst, inl, inr, ℕ, ◌+◌, Bool, true, false, cond, List, [], ◌∷◌, ◌++◌, codes, Option, None, Some, Result, Ok, Err, arith}
+use Rattle.std.proofs.Common.{◌≡◌, ◌∙◌, ap, sym, refl, subst, inl, inr, ℕ, suc, ◌+◌, Bool, true, false, cond, List, [], ◌∷◌, ◌++◌, codes, Option, None, Some, Result, Ok, Err, arith}
 use Rattle.std.specs.Prelude.{slice_get}
 use Rattle.std.specs.List.{AllByRecursion}
 use Rattle.std.specs.Option.{option_map_or}
@@ -103,11 +103,8 @@ named_prints n (model ∷ models) name m e prints = by (λ later. named_prints (
 -- the words of a model's block have names, or there are none
 words_named : (blocks : List BlockValue) → ((block : BlockValue) → Has blocks block → HaveNames block.words) → (model : Token) → HaveNames (words_in blocks model)
 words_named [] each model = record { names = λ word has. absurd (let got = has.1 in cc); apart = λ i j u v at other same. absurd (cc) }
-words_named (block ∷ blocks) each model = by (bytes_eq model block.model) (words_named blocks (λ other has. each other (has.0 + 1, more has)) model)
+words_named (block ∷ blocks) each model = by (bytes_eq model block.model) (words_named blocks (λ other has. each other (suc has.0, has.1)) model)
   where
-    more : {other : BlockValue} → (has : Has blocks other) → slice_get (block ∷ blocks) (has.0 + 1) ≡ Some other
-    more (i, got) = got
-
     by : (b : Bool) → HaveNames (words_in blocks model) → HaveNames (cond b block.words (words_in blocks model))
     by true rest = each block (0, refl)
     by false rest = rest

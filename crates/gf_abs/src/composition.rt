@@ -10,7 +10,7 @@ ghost use Rattle.job_words.specs.declared.fault.Fault.TheVariants.{Composition a
 ghost use Rattle.job_input.specs.Labelling.{labels_of, word_labels};
 ghost use Rattle.job_input.specs.NetlistOf.{word_name as name_of_word};
 ghost use Rattle.job_input.specs.Setting.{IsReady, setting_value};
-ghost use Rattle.gf_abs.specs.commands.Compose.{instance_model as model_of_instance, words_in as words_of_model};
+ghost use Rattle.gf_abs.specs.commands.Compose.{instance_model as model_of_instance, stage_called, words_in as words_of_model};
 ghost use Rattle.gf_abs.specs.private.Composing.{HasNamedStage, IsComposeStop, IsStageIn};
 ghost use Rattle.gf_abs.specs.private.StageStop.{stage_fault, IsRefusalOf};
 
@@ -60,24 +60,37 @@ pub(crate) fn composition_stop<F: Field>(
             block,
             stage,
             terms,
-        } => match block {
-            Some(model) => block_over(
-                alloc,
-                field.k(),
-                blocks,
-                model.as_str(),
-                stage,
-                terms,
-                bound,
-            ),
-            None => stage_stop(
-                alloc,
-                labels,
-                ReduceFault::TooManyTerms { stage, terms },
-                bound,
-            ),
-        },
+        } => stage_over(alloc, field, setting, labels, block, stage, terms, bound),
         ComposeFault::OutOfMemory => Stop::OutOfMemory,
+    }
+}
+
+// The refusal of a stage of the block of this model, or, where none is given, of an instance.
+fn stage_over<F: Field>(
+    alloc: Global,
+    field: &F,
+    setting: &Setting,
+    labels: &Labels,
+    block: Option<Name>,
+    stage: Stage,
+    terms: u64,
+    bound: u32,
+) -> Stop
+    requires ready { IsReady (F.degree field.now) (F.product field.now) setting.now }
+    requires labels { labels.now ≡ labels_of (F.degree field.now) setting.now.signature.words }
+    requires named { HasNamedStage (F.degree field.now) setting.now.signature.words setting.now.signature.blocks (ComposeFault.TooManyTerms block stage terms) }
+    ensures { IsRefusalOf (stage_fault (stage_called (setting_value (F.degree field.now) (F.product field.now) setting.now) block stage) terms bound) result }
+{
+    let blocks = setting.signature.blocks();
+    match block {
+        Some(model) => {
+            let model = model.as_str();
+            block_over(alloc, field.k(), blocks, model, stage, terms, bound)
+        }
+        None => {
+            let fault = ReduceFault::TooManyTerms { stage, terms };
+            stage_stop(alloc, labels, fault, bound)
+        }
     }
 }
 
