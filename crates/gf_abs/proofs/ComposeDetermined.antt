@@ -1,5 +1,5 @@
 -- At most one reply or fault comes of `compose`.
-use Rattle.std.proofs.Common.{◌≡◌, ◌∙◌, ap, sym, refl, subst, ℕ, zero, suc, ◌+◌, List, [], ◌∷◌, ◌++◌, length, Some, Ok, arith}
+use Rattle.std.proofs.Common.{◌≡◌, ap, sym, refl, subst, ℕ, zero, suc, ◌+◌, List, [], ◌∷◌, ◌++◌, length, Some, Ok, arith}
 use Rattle.std.specs.Prelude.{slice_get}
 use Rattle.std.specs.Option.{unwrap_or}
 use Rattle.std.proofs.lemmas.List.{length-append}
@@ -7,15 +7,10 @@ use Rattle.std.proofs.lemmas.Option.{slice_get_within}
 use Rattle.text_core.specs.Outcome.{◌>>=◌, Determined, Exactly, Within}
 use Rattle.text_core.proofs.DeterminedLemmas.{determined_bind}
 use Rattle.graph_core.proofs.ListLemmas.{get_below}
-use Rattle.gf_field.specs.Field.{HasNoZeroDivisors}
-use Rattle.gf_field.specs.Ring.{IsRing}
-use Rattle.gf_basis.specs.Basis.{IsBasis}
-use Rattle.net_core.specs.Lists.{Has}
 use Rattle.net_core.specs.NetList.{NetList}
 use Rattle.net_blif.specs.Design.{ModelValue}
 use Rattle.net_blif.specs.Models.{AreRight, BlifDesign}
 use Rattle.net_blif.specs.Top.{instances_of}
-use Rattle.net_blif.specs.declared.item.Item.{Item}
 use Rattle.net_blif.proofs.OutcomeLemmas.{determined_design}
 use Rattle.net_flat.specs.Flat.{Flattens}
 use Rattle.net_flat.proofs.FlatDetermined.{determined_after, determined_within, flattens_once}
@@ -26,7 +21,7 @@ use Rattle.net_words.specs.Binding.{Binding, BoundNet}
 use Rattle.net_words.specs.declared.binding.BindFault.{BindFault}
 use Rattle.net_words.proofs.BindDetermined.{binding_determined, determined_exactly}
 use Rattle.circuit_model.specs.OfBinding.{circuit_with}
-use Rattle.block_feeds.specs.Given.{HaveBasesOf, IsGiven}
+use Rattle.block_feeds.specs.Given.{HaveBasesOf}
 use Rattle.block_feeds.specs.Hierarchy.{bases_at, Hierarchy}
 use Rattle.block_feeds.specs.Wiring.{HaveBlocks}
 use Rattle.block_plan.specs.ForEach.{AreValues}

@@ -8,7 +8,7 @@ use Rattle.net_blif.specs.Design.{ModelValue}
 use Rattle.net_flat.specs.Flat.{Flattens}
 use Rattle.net_flat.proofs.FlatDetermined.{flattens_once}
 use Rattle.net_words.specs.Bind.{BindingOf}
-use Rattle.net_words.specs.Binding.{Binding, BoundNet}
+use Rattle.net_words.specs.Binding.{BoundNet}
 use Rattle.net_words.specs.OneCycle.{IsFlat}
 use Rattle.net_words.specs.declared.feed.FeedText.{FeedText}
 use Rattle.net_words.proofs.BindDetermined.{binding_determined}
@@ -29,7 +29,7 @@ use Rattle.job_words.proofs.OneCommandLemmas.{one_job}
 use Rattle.job_input.specs.CircuitOf.{all_cycles, CircuitOf}
 use Rattle.job_input.specs.HierarchyIn.{HierarchyOf}
 use Rattle.job_input.specs.JobOf.{job_of}
-use Rattle.job_input.specs.NetlistOf.{Blif, BoundNetOf, by_ending, NetlistText}
+use Rattle.job_input.specs.NetlistOf.{Blif, BoundNetOf, NetlistText}
 use Rattle.job_input.specs.SettingOf.{BasesOf, SettingOf, SettingWith, SignedValue}
 use Rattle.job_input.specs.SettingSound.{IsSoundSetting}
 use Rattle.job_input.specs.SettingValue.{SettingValue}

@@ -1,5 +1,5 @@
 -- What is known of a top over a setting, and of the polynomial that it is composed to.
-use Rattle.std.proofs.Common.{◌≡◌, ◌≢◌, ◌∙◌, ap, refl, subst, ℕ, suc, ◌+◌, List, [], ◌∷◌, length, map, Some, Ok, arith}
+use Rattle.std.proofs.Common.{◌≡◌, ◌≢◌, ◌∙◌, ap, refl, subst, ℕ, suc, ◌+◌, List, [], ◌∷◌, length, Some, Ok, arith}
 use Rattle.std.specs.Prelude.{slice_get}
 use Rattle.std.specs.List.{AllByRecursion}
 use Rattle.std.proofs.lemmas.List.{length-map}

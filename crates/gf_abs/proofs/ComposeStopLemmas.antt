@@ -1,10 +1,9 @@
 -- Why no output comes where a composition is refused: what its fault says, and the word of its stage.
-use Rattle.std.proofs.Common.{◌≡◌, ◌∙◌, ap, sym, refl, subst, inl, inr, ℕ, zero, suc, ◌+◌, Bool, true, false, cond, List, [], ◌∷◌, length, Option, None, Some, Ok, Err, arith}
+use Rattle.std.proofs.Common.{◌≡◌, ◌∙◌, ap, sym, refl, subst, inl, inr, ℕ, zero, suc, ◌+◌, Bool, true, false, cond, List, [], ◌∷◌, length, Option, None, Some, Err, arith}
 use Rattle.std.specs.Prelude.{slice_get}
 use Rattle.std.specs.Str.{bytes_eq}
 use Rattle.std.proofs.lemmas.Slice.Eq.{bytes_eq-Decides}
 use Rattle.text_core.specs.Outcome.{Outcome, Within}
-use Rattle.net_core.specs.Lists.{Has}
 use Rattle.net_blif.specs.Design.{model_from, model_named, ModelValue}
 use Rattle.net_blif.specs.Statement.{Token}
 use Rattle.net_blif.specs.Top.{model_in}

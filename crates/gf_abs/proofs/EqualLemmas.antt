@@ -1,27 +1,19 @@
 -- What a printed polynomial says of its circuit.
-use Rattle.std.proofs.Common.{◌≡◌, ◌∙◌, ap, sym, refl, subst, ℕ, ◌<◌, ◌+◌, true, false, ◌||◌, ◌↔◌, List, [], ◌∷◌, ◌++◌, length, drop, codes, Ok, arith}
-use Rattle.std.specs.Prelude.{nat_eq}
-use Rattle.std.specs.List.{AllByRecursion, list_any}
-use Rattle.std.proofs.lemmas.Bool.{eq-eqb}
+use Rattle.std.proofs.Common.{◌≡◌, ◌∙◌, ap, sym, refl, subst, ℕ, ◌+◌, ◌↔◌, ◌++◌, length, drop, codes, Ok}
+use Rattle.std.specs.List.{AllByRecursion}
 use Rattle.std.proofs.lemmas.List.{append_cancel_left, append_cancel_right}
 use Rattle.net_words.specs.Binding.{BoundNet}
-use Rattle.poly_mixed.specs.Cofactor.{LacksBit}
 use Rattle.poly_mixed.specs.Labels.{AreLabels, bit_count}
 use Rattle.poly_mixed.specs.Polynomial.{Terms, IsReduced, value}
 use Rattle.poly_mixed.specs.Text.{text}
 use Rattle.poly_mixed.specs.laws.TextLaw.{IsWritten}
-use Rattle.poly_mixed.proofs.FieldLaws.{field_of}
-use Rattle.poly_mixed.proofs.FirstWords.{first_point, first_taken, is_first_point, first_alone}
 use Rattle.poly_mixed.proofs.TextLaws.{one_text}
 use Rattle.circuit_model.specs.Circuit.{Circuit}
 use Rattle.circuit_model.specs.OfBinding.{output_basis}
-use Rattle.circuit_model.specs.Out.{IsOut}
 use Rattle.circuit_model.specs.WellFormed.{IsWellFormed}
 use Rattle.circuit_model.proofs.OutLemmas.{one_out}
 use Rattle.stage_model.specs.InputPoint.{input_of}
 use Rattle.stage_model.specs.OutputInBits.{IsOutputInBits}
-use Rattle.stage_model.proofs.MixLemmas.{mix_all}
-use Rattle.stage_model.proofs.NextMixLemmas.{mix_lacks}
 use Rattle.stage_model.proofs.OutputInBitsLemmas.{last_is_output, same_stage}
 use Rattle.stage_model.proofs.SizeLemmas.{is_unique}
 use Rattle.job_input.specs.Labelling.{word_labels, labels_of}

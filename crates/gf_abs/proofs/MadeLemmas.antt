@@ -1,5 +1,5 @@
 -- What makers promise of their net lists, over the settings of texts.
-use Rattle.std.proofs.Common.{◌≡◌, ◌∙◌, ap, sym, refl, subst, inl, inr, ℕ, zero, suc, ◌*◌, ◌<◌, ◌≤◌, ◌^◌, List, [], ◌∷◌, length, take, drop, Option, Some, Ok, arith}
+use Rattle.std.proofs.Common.{◌≡◌, ◌∙◌, ap, sym, refl, subst, ℕ, zero, suc, ◌*◌, ◌<◌, ◌≤◌, ◌^◌, List, [], ◌∷◌, length, take, drop, Option, Some, Ok, arith}
 use Rattle.std.specs.Prelude.{bit_xor, slice_get}
 use Rattle.graph_core.proofs.GraphLemmas.{All_has}
 use Rattle.net_core.specs.Lists.{Has}
@@ -22,7 +22,6 @@ use Rattle.gf_basis.specs.BasisFault.{conjugates_of}
 use Rattle.gf_basis.specs.BasisParts.{elements_of}
 use Rattle.gf_field.specs.Bit.{bit_mul}
 use Rattle.gf_field.specs.Field.{HasNoZeroDivisors}
-use Rattle.gf_field.specs.Modulus.{IsModulus}
 use Rattle.gf_field.specs.Quotient.{product}
 use Rattle.irreducible.specs.Span.{IsIndependent}
 use Rattle.gf_field.specs.laws.IrreducibleBitLaws.{field_by_modulus}
@@ -33,11 +32,11 @@ use Rattle.gf_tower.specs.laws.TowerLaws.{field_by_polynomial}
 use Rattle.mult_products.specs.Indeterminate.{x_of}
 use Rattle.mult_products.proofs.MontgomeryLemmas.{last_coefficient, one_inverse_power}
 use Rattle.mult_gen.specs.Chains.{adder_plan, mastrovito_plan, squarer_plan}
-use Rattle.mult_gen.specs.Form.{HasAdderForm, HasPolyForm, inputs_in, made_adder, made_mastrovito, made_squarer, outer_of, outputs_in}
+use Rattle.mult_gen.specs.Form.{HasPolyForm, inputs_in, made_adder, made_mastrovito, made_squarer, outer_of, outputs_in}
 use Rattle.mult_gen.proofs.ComputeLemmas.{adder_computes, adder_fits, mastrovito_computes, mastrovito_fits, squarer_computes, squarer_fits}
 use Rattle.mult_montgomery.specs.Form.{HasMontgomeryForm, made_montgomery}
 use Rattle.mult_montgomery.proofs.MadeLemmas as montgomery
-use Rattle.mult_composite.specs.Form.{HasCompositeForm, made_composite}
+use Rattle.mult_composite.specs.Form.{made_composite}
 use Rattle.mult_composite.proofs.MadeLemmas as composite
 use Rattle.mult_normal.specs.Coordinates.{counts_in}
 use Rattle.mult_normal.specs.NormalNet.{latches_of, normal_net, normal_products}
@@ -46,9 +45,8 @@ use Rattle.mult_normal.proofs.FormLemmas as normal
 use Rattle.mult_normal.proofs.PlanForLemmas as normal_plan
 use Rattle.mult_runs.specs.DigitNets.{unit_basis}
 use Rattle.mult_digit.specs.DigitForm.{AreDigitWords, HasDigitForm, digit_names}
-use Rattle.mult_digit.specs.DigitNet.{digit_net, digit_sums_of}
+use Rattle.mult_digit.specs.DigitNet.{digit_sums_of}
 use Rattle.mult_digit.specs.DigitPlan.{digit_latches}
-use Rattle.mult_digit.specs.IsDigitNet.{IsDigitNet}
 use Rattle.mult_digit.proofs.FinalLemmas.{unit_powers}
 use Rattle.mult_digit.proofs.JobLemmas as digit
 use Rattle.mult_digit.proofs.BindingLemmas as digit_binds

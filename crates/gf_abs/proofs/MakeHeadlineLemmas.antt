@@ -1,7 +1,6 @@
 -- What `make` prints is read back, is bound to its signature, and computes what its kind does.
-use Rattle.std.proofs.Common.{◌≡◌, ◌∙◌, ap, sym, refl, subst, ℕ, false, List, Option, Some, Result, Ok, Err, if◌then◌else◌}
+use Rattle.std.proofs.Common.{◌≡◌, ◌∙◌, ap, sym, refl, subst, ℕ, List, Some, Result, Ok, if◌then◌else◌}
 use Rattle.job_io.specs.Shelf.{Files}
-use Rattle.circuit_model.specs.Circuit.{Circuit}
 use Rattle.circuit_model.specs.JobOfBinding.{job_with}
 use Rattle.circuit_model.specs.Out.{IsOut}
 use Rattle.net_blif.specs.Design.{ModelValue}
@@ -9,31 +8,26 @@ use Rattle.net_blif.specs.Models.{BlifDesign}
 use Rattle.net_core.specs.NetList.{NetList}
 use Rattle.net_core.specs.Sound.{IsSound}
 use Rattle.net_flat.specs.Flat.{Flattens}
-use Rattle.net_renumbered.specs.SameJob.{IsBoundAlike}
 use Rattle.net_renumbered.proofs.LawLemmas.{bound_alike}
-use Rattle.net_words.specs.Bind.{BindingOf}
-use Rattle.net_words.specs.Binding.{Binding, BoundNet}
+use Rattle.net_words.specs.Binding.{BoundNet}
 use Rattle.net_write.specs.Plain.{HasPlainNames}
 use Rattle.net_write.specs.SameByName.{IsSameByName}
 use Rattle.net_write.specs.Written.{written}
 use Rattle.net_write.proofs.RoundTrip.{is_flat, is_read, is_same}
 use Rattle.job_words.specs.Command.{Job, Make, Over}
-use Rattle.job_words.specs.Operands.{Word, IsBlifName, is_aiger, is_verilog}
+use Rattle.job_words.specs.Operands.{Word, IsBlifName, is_verilog}
 use Rattle.job_words.specs.declared.file_fault.FileFault.{FileFault}
 use Rattle.job_words.specs.declared.kind.Kind.{Kind}
 use Rattle.job_words.specs.declared.kind.Kind.TheVariants.{Mastrovito, Montgomery, Composite, Normal, Adder, Squarer, Digit}
 use Rattle.job_words.proofs.OneCommandLemmas.{one_job}
-use Rattle.job_input.specs.File.{Read}
-use Rattle.job_input.specs.JobOf.{IsJobOf, job_of}
+use Rattle.job_input.specs.JobOf.{job_of}
 use Rattle.job_input.specs.NetlistOf.{Aiger, BoundNetOf, Blif, NetOf, NetlistText, Verilog, by_ending}
 use Rattle.job_input.specs.SettingOf.{SettingOf}
 use Rattle.job_input.specs.SettingValue.{SettingValue}
 use Rattle.job_input.proofs.NetlistLemmas.{net_sound}
 use Rattle.gf_abs.specs.Answer.{JobAnswer}
-use Rattle.gf_abs.specs.Headline.{AreHeld}
 use Rattle.gf_abs.specs.MakeHeadline.{AnswersMake, ComputesKind, HoldKind, HoldMade}
 use Rattle.gf_abs.specs.Reply.{Reply}
-use Rattle.gf_abs.specs.commands.Make.{IsMade}
 use Rattle.gf_abs.proofs.AnswerDetermined.{read_determined}
 use Rattle.gf_abs.proofs.MadeLemmas.{IsMadeRight, made_right}
 

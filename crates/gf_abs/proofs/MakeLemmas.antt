@@ -1,6 +1,6 @@
 -- The net lists of kinds over fields of their forms, and that there is one answer of `make`.
-use Rattle.std.proofs.Common.{◌≡◌, ◌≢◌, ◌∙◌, ap, sym, refl, subst, inl, inr, ◌⊎◌, ℕ, zero, suc, ◌+◌, ◌-◌, ◌*◌, ◌/◌, ◌%◌, ◌^◌, ◌<◌, ◌≤◌, List, [], ◌∷◌, length, None, Some, Ok, Err, arith}
-use Rattle.std.specs.Prelude.{All, ◌==◌, Bool, slice_get, slice_index}
+use Rattle.std.proofs.Common.{◌≡◌, ◌≢◌, ◌∙◌, ap, sym, refl, subst, inl, inr, ◌⊎◌, ℕ, zero, suc, ◌+◌, ◌-◌, ◌*◌, ◌/◌, ◌%◌, ◌^◌, ◌<◌, ◌≤◌, List, [], ◌∷◌, length, Some, Ok, Err, arith}
+use Rattle.std.specs.Prelude.{All, Bool, slice_get, slice_index}
 use Rattle.std.proofs.Math.Nat.{mul_comm, mul-div_right, mul-le-mul_right, one-mul, zero-div, zero-mod, zero-mul}
 use Rattle.text_core.specs.Outcome.{Determined, Exactly}
 use Rattle.graph_core.proofs.GraphLemmas.{All_has}
@@ -51,7 +51,7 @@ use Rattle.job_words.specs.declared.kind.Kind.{Kind}
 use Rattle.job_words.specs.declared.kind.Kind.TheVariants.{Mastrovito, Montgomery, Composite, Normal, Adder, Squarer, Digit}
 use Rattle.job_input.specs.SettingSound.{IsSoundSetting}
 use Rattle.job_input.specs.SettingValue.{SettingValue}
-use Rattle.gf_abs.specs.commands.Make.{HasFormOf, IsMade, IsMadeNormal, IsOverBase, MadeOf, MakeAnswer, base_degree, element_of, first_conjugates, first_element}
+use Rattle.gf_abs.specs.commands.Make.{HasFormOf, IsMade, IsOverBase, MadeOf, MakeAnswer, base_degree, element_of, first_conjugates, first_element}
 use Rattle.gf_abs.specs.private.Making.{FirstIsNormal, HasRingForm, IsOfRing, IsRingNet}
 use Rattle.gf_abs.proofs.IsoLemmas.{field_modulus, field_tower}
 

@@ -1,13 +1,10 @@
 -- The field and the bases of a setting, as its signature names them.
-use Rattle.std.proofs.Common.{◌≡◌, ◌∙◌, ap, sym, refl, subst, ℕ, suc, ◌*◌, ◌^◌, List, [], ◌∷◌, length, map, Ok}
+use Rattle.std.proofs.Common.{◌≡◌, ◌∙◌, ap, sym, refl, subst, ℕ, suc, ◌*◌, List, [], ◌∷◌, length, Ok}
 use Rattle.net_core.specs.Lists.{Has}
 use Rattle.net_make.specs.Form.{same_bases}
-use Rattle.net_signature.specs.Signature.{SignatureValue}
 use Rattle.net_words.specs.declared.word.BasisText.{BasisText}
 use Rattle.net_words.specs.declared.word.BasisText.TheVariants.{Poly, Normal, Elements}
 use Rattle.net_words.specs.declared.word.WordText.{WordText}
-use Rattle.gf_basis.specs.Basis.{first_values}
-use Rattle.gf_basis.specs.BasisFault.{conjugates_of}
 use Rattle.gf_field.specs.Bit.{bit_mul}
 use Rattle.gf_field.specs.Quotient.{product}
 use Rattle.gf_tower.specs.FieldName.{IsFieldModulus, IsFieldName}

@@ -1,5 +1,5 @@
 -- What comes of a trial: at most one reply or fault, and an input at which its circuit and the product are told apart.
-use Rattle.std.proofs.Common.{◌≡◌, ◌⊎◌, ◌∙◌, ap, sym, subst, inl, ℕ, ◌≤◌, [], ◌∷◌, length, Option, Some, Result, Ok, Err, IsErr, IsErrAnd}
+use Rattle.std.proofs.Common.{◌≡◌, ◌⊎◌, ◌∙◌, ap, sym, subst, inl, ℕ, [], ◌∷◌, length, Option, Some, Result, Ok, Err, IsErr, IsErrAnd}
 use Rattle.text_core.specs.Outcome.{Determined, Exactly, Outcome, Within}
 use Rattle.text_core.proofs.DeterminedLemmas.{determined_bind}
 use Rattle.gf_field.specs.Bit.{bit_mul}

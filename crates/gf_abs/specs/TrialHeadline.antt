@@ -6,7 +6,7 @@ use Rattle.gf_tower.specs.FieldName.{IsFieldModulus}
 use Rattle.job_io.specs.Shelf.{Files}
 use Rattle.poly_mixed.specs.Polynomial.{Terms}
 use Rattle.circuit_model.specs.Circuit.{Circuit}
-use Rattle.circuit_model.specs.Differing.{Difference, IsDifferingInput}
+use Rattle.circuit_model.specs.Differing.{IsDifferingInput}
 use Rattle.circuit_model.specs.Out.{IsOut}
 use Rattle.mult_turned.specs.Turned.{turned_product}
 use Rattle.job_words.specs.Command.{Trial, IsSpelled}

@@ -9,7 +9,7 @@ use Rattle.gf_basis.specs.declared.bases.Basis.{Basis}
 use Rattle.poly_mixed.specs.declared.stage.Stage.{Stage}
 use Rattle.block_compose.specs.Composed.{HasBases}
 use Rattle.block_compose.specs.declared.fault.ComposeFault.{ComposeFault}
-use Rattle.block_compose.specs.declared.fault.ComposeFault.TheVariants.{FedInTop, GateInTop, NoBlock, BlockNet, BlockLatch, BlockBind, NotWords, OutputNotWords, InstanceLoop, TooManyTerms, OutOfMemory}
+use Rattle.block_compose.specs.declared.fault.ComposeFault.TheVariants.{TooManyTerms, OutOfMemory}
 use Rattle.job_words.specs.StageFault.{HasItsWord}
 use Rattle.job_words.specs.declared.stop.Stop.{Stop}
 use Rattle.job_words.specs.declared.stop.Stop.TheVariants as stops

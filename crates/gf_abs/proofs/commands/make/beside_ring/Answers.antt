@@ -1,4 +1,4 @@
-use Rattle.std.proofs.Common.{◌≡◌, ap, refl, ℕ, Err, arith}
+use Rattle.std.proofs.Common.{◌≡◌, ap, refl, Err, arith}
 use Rattle.irreducible.specs.Proved.{ring_of}
 use Rattle.gf_field.specs.Ring2k.{degree_of, modulus_of}
 use Rattle.job_input.specs.Setting.{setting_value}

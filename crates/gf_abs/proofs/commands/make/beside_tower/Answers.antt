@@ -1,4 +1,4 @@
-use Rattle.std.proofs.Common.{◌≡◌, ◌*◌, ℕ, arith}
+use Rattle.std.proofs.Common.{◌≡◌, ◌*◌, arith}
 use Rattle.irreducible.specs.Proved.{ring_of}
 use Rattle.gf_field.specs.Ring2k.{degree_of, modulus_of}
 use Rattle.gf_tower.specs.TowerParts.{base_of, coefficients_of, size_of}

@@ -1,4 +1,4 @@
-use Rattle.std.proofs.Common.{◌≡◌, ◌∙◌, ap, sym, subst, ℕ}
+use Rattle.std.proofs.Common.{◌∙◌, ap, sym, subst}
 use Rattle.gf_field.specs.Bit.{bit_mul}
 use Rattle.gf_field.specs.Quotient.{product}
 use Rattle.gf_field.specs.Ring2k.{degree_of, modulus_of}
@@ -13,7 +13,7 @@ use Rattle.job_words.specs.Stop.{GivesBy}
 use Rattle.job_input.specs.Labelling.{labels_of}
 use Rattle.job_input.specs.Setting.{setting_value}
 use Rattle.job_input.specs.SettingValue.{SettingValue}
-use Rattle.trial_job.specs.Trial.{product_terms, trial_circuit, trial_setting}
+use Rattle.trial_job.specs.Trial.{product_terms, trial_circuit}
 use Rattle.gf_abs.specs.Reply.{reply_of}
 use Rattle.gf_abs.specs.commands.Abstract.{taken_circuit}
 use Rattle.gf_abs.specs.commands.Check.{IsSpecified}
