@@ -82,7 +82,7 @@ class Lexer:
             token.kind = token.text.decode()
         elif token.kind in ('word', 'escaped'):
             token.name = found[1] if token.kind == 'escaped' else token.text
-            token.kind = 'id' if len(token.name) <= 255 else 'wrong'
+            token.kind = 'id' if len(token.name) <= 255 else 'long'
         elif token.kind == 'sign':
             token.kind = token.text.decode()
         elif token.kind == 'number':
@@ -171,7 +171,7 @@ class Reader:
             self.instance(kind)
             while self.met(','):
                 self.instance(kind)
-        elif kind in ('id', 'module'):
+        elif kind in ('id', 'long', 'module'):
             raise self.fault(31, self.token.text.decode('latin-1'))
         else:
             raise self.wrong()
