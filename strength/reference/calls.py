@@ -1,7 +1,8 @@
 """Random calls of the commands that make, compose, certify and tabulate: their words and the texts of their files."""
 from .answers import answer
 from .cases import TOWERS, Case, Design
-from .fields import field_of, is_irreducible
+from .fields import is_irreducible
+from .hierarchies import compose
 
 
 def nets(letter, k):
@@ -134,68 +135,6 @@ def verify(random):
 def upgrade(random):
     files, words, options = certificate(random)
     return ['upgrade'] + words + options, files
-
-
-class Hierarchy:
-    """A top of instances of one or two blocks with one or two input words."""
-
-    def __init__(self, random):
-        self.random = random
-        self.p = random.choice([7, 7, 0xb, 3])
-        self.k = self.p.bit_length() - 1
-        self.field = field_of(self.p, [], [])
-        self.blocks = [self.block('blk%d' % i, random.randint(1, 2)) for i in range(random.randint(1, 2))]
-        self.top_words = ['A', 'B'][:random.randint(1, 2)]
-
-    def block(self, name, words):
-        """A model: random tables over all of its inputs, or sums and products of bits."""
-        random, k = self.random, self.k
-        ports = ['%s%d' % (w, i) for w in 'ab'[:words] for i in range(k)]
-        lines = ['.model ' + name, '.inputs ' + ' '.join(ports), '.outputs ' + nets('z', k)]
-        for i in range(k):
-            inputs = random.sample(ports, min(len(ports), random.randint(1, 3)))
-            lines.append('.names %s z%d' % (' '.join(inputs), i))
-            table = random.getrandbits(1 << len(inputs))
-            lines += [''.join(str((r >> j) & 1) for j in range(len(inputs))) + ' 1' for r in range(1 << len(inputs)) if (table >> r) & 1]
-        return name, words, lines + ['.end']
-
-    def basis(self):
-        return 'poly' if self.random.random() < 0.97 else 'list:' + ','.join('0x%x' % (1 << i) for i in reversed(range(self.k)))
-
-    def texts(self):
-        random, k = self.random, self.k
-        known = [nets(w.lower(), k).split(' ') for w in self.top_words]
-        lines, count = [], random.randint(1, 4)
-        outs = [['z%d' % j if i == count - 1 else 't%d_%d' % (i, j) for j in range(k)] for i in range(count)]
-        for i in range(count):
-            name, words, _ = random.choice(self.blocks)
-            pool = known if random.random() < 0.97 else known + outs
-            pairs = []
-            for w in 'ab'[:words]:
-                source = random.choice(pool)
-                source = source if random.random() < 0.97 else source[::-1]
-                pairs += ['%s%d=%s' % (w, j, source[j]) for j in range(k)]
-            pairs += ['z%d=%s' % (j, outs[i][j]) for j in range(k)]
-            lines.append('.subckt %s %s' % (name, ' '.join(pairs)))
-            known = known + [outs[i]]
-        if random.random() < 0.3:
-            random.shuffle(lines)
-        top = ['.model top', '.inputs ' + ' '.join(nets(w.lower(), k) for w in self.top_words), '.outputs ' + nets('z', k)]
-        return self.signature(), '\n'.join(top + lines + ['.end'] + [l for b in self.blocks for l in b[2]]) + '\n'
-
-    def signature(self):
-        lines = ['gfsig 1', 'field 0x%x' % self.p]
-        for model, words in [(None, len(self.top_words))] + [(b[0], b[1]) for b in self.blocks]:
-            lines += ['block ' + model] if model else []
-            lines += ['word %s input %s %s' % (w, self.basis(), nets(w.lower(), self.k)) for w in 'AB'[:words]]
-            lines.append('word Z output %s %s' % (self.basis(), nets('z', self.k)))
-        return '\n'.join(lines) + '\n'
-
-
-def compose(random):
-    signature, netlist = Hierarchy(random).texts()
-    words = ['compose', 'sig', 'net'] + (['--terms', str(random.randint(1, 20))] if random.random() < 0.4 else [])
-    return words, {'sig': signature, 'net': netlist}
 
 
 CALLS = {'trial': trial, 'make': make, 'iso': iso, 'lift': lift, 'certify': certify, 'verify': verify, 'upgrade': upgrade, 'compose': compose}
