@@ -4,20 +4,22 @@
 //!     row NAME            a row: its files, and then its calls
 //!     file F TEXT         the file F holds the text
 //!     change F N          line N of the file F is what follows behind `|`
-//!     reads N N ..        the numbers of the reads that fail
-//!     writes N N ..       the numbers of the writes that fail
-//!     room N              how many bytes the output takes
 //!     words W W ..        a call
 //!     keep F              what the call answers is the file F of the calls after it
 //!     status N            its status; its lines follow, each behind `|`
 //!     ends N LENGTH       its status, and how many bytes it prints; its last lines follow, each behind `|`
 //!
+//! and what fails outside in the calls after it, up to the next line of the kind or the next row:
+//!
+//!     reads N N ..        the numbers of the reads that fail
+//!     writes N N ..       the numbers of the writes that fail
+//!     room N              how many bytes the output takes
+//!
+//! Of each call the reads and the writes are counted from 1. Where no such line holds, none of them fails, and the output
+//! takes 4,000,000 bytes.
+//!
 //! The name of a row has no space in it. A line behind `|` ends with a line feed, one behind `:` does not; the line of a
 //! change is behind `:`.
-//!
-//! Lines `reads`, `writes` and `room` hold for the calls after them, up to the next line of the kind or the next row. Of
-//! each call the reads and the writes are counted from 1. Where no such line holds, none of them fails, and the output
-//! takes 4,000,000 bytes.
 use crate::call::answer;
 use crate::escapes::plain;
 use crate::files::{Files, changed};
