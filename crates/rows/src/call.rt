@@ -1,13 +1,18 @@
 //! One call of the program.
 use crate::files::Files;
+use crate::outside::Outside;
 use gf_abs::run;
-use job_io::{MemShelf, MemSink};
 use std::alloc::{AllocError, Global};
 
 /// What the program answers to words, over files in memory.
-pub fn answer(alloc: Global, words: &[String], files: &Files) -> Result<(u8, Vec<u8>), AllocError> {
-    let mut shelf = MemShelf::new(files.copied(alloc)?, Vec::new(alloc));
-    let mut sink = MemSink::new(alloc, Vec::new(alloc), 4_000_000)?;
+pub fn answer(
+    alloc: Global,
+    words: &[String],
+    files: &Files,
+    outside: &Outside,
+) -> Result<(u8, Vec<u8>), AllocError> {
+    let mut shelf = outside.shelf(alloc, files)?;
+    let mut sink = outside.sink(alloc)?;
     let status = run(alloc, words, &mut shelf, &mut sink);
     Ok((status, sink.bytes().to_vec(alloc)?))
 }

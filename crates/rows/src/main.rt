@@ -5,6 +5,7 @@
 mod call;
 mod escapes;
 mod files;
+mod outside;
 mod reader;
 
 use job_io::{FileShelf, Shelf};

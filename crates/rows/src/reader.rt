@@ -9,11 +9,21 @@
 //!     status N            its status; its lines follow, each behind `|`
 //!     ends N LENGTH       its status, and how many bytes it prints; its last lines follow, each behind `|`
 //!
+//! and what fails outside in the calls after it, up to the next line of the kind or the next row:
+//!
+//!     reads N N ..        the numbers of the reads that fail
+//!     writes N N ..       the numbers of the writes that fail
+//!     room N              how many bytes the output takes
+//!
+//! Of each call the reads and the writes are counted from 1. Where no such line holds, none of them fails, and the output
+//! takes 4,000,000 bytes.
+//!
 //! The name of a row has no space in it. A line behind `|` ends with a line feed, one behind `:` does not; the line of a
 //! change is behind `:`, and where several lines take its place, those before the last are behind `|`.
 use crate::call::answer;
 use crate::escapes::plain;
 use crate::files::{Files, changed};
+use crate::outside::Outside;
 use std::alloc::{AllocError, Global};
 use std::mem;
 
@@ -31,6 +41,7 @@ enum Target {
 pub struct Reader {
     texts: Files,
     files: Files,
+    outside: Outside,
     row: String,
     target: Target,
     lines: Vec<u8>,
@@ -48,6 +59,7 @@ impl Reader {
         Reader {
             texts: Files::new(alloc),
             files: Files::new(alloc),
+            outside: Outside::new(alloc),
             row: String::new(alloc),
             target: Target::Nothing,
             lines: Vec::new(alloc),
@@ -106,7 +118,7 @@ impl Reader {
         wanted: &[u8],
         length: Option<u32>,
     ) -> anyhow::Result<()> {
-        let (status, text) = answer(alloc, &self.words, &self.files)?;
+        let (status, text) = answer(alloc, &self.words, &self.files, &self.outside)?;
         self.calls = self.calls.wrapping_add(1);
         if status != self.status || !is_wanted(&text, wanted, length) {
             self.differ = self.differ.wrapping_add(1);
@@ -127,7 +139,7 @@ impl Reader {
         }
         match parts.as_slice() {
             [word, name] if word.as_str() == "text" => self.target = Target::Text(name.clone()?),
-            [word, name] if word.as_str() == "row" => self.begin_row(name)?,
+            [word, name] if word.as_str() == "row" => self.begin_row(alloc, name)?,
             [word, file, text] if word.as_str() == "file" => {
                 let bytes = self.texts.get(text).to_vec(alloc)?;
                 self.files.put(file.clone()?, bytes)?;
@@ -145,14 +157,15 @@ impl Reader {
                 self.status = status.parse().unwrap_or(255);
                 self.target = Target::Answer(Some(length.parse().unwrap_or(0)));
             }
-            _ => {}
+            parts => self.outside.take(alloc, parts)?,
         }
         Ok(())
     }
 
-    // A row begins, with no files.
-    fn begin_row(&mut self, name: &String) -> Result<(), AllocError> {
+    // A row begins, with no files, and nothing that fails.
+    fn begin_row(&mut self, alloc: Global, name: &String) -> Result<(), AllocError> {
         self.files.clear();
+        self.outside = Outside::new(alloc);
         self.row = name.clone()?;
         self.rows = self.rows.wrapping_add(1);
         Ok(())

@@ -1,5 +1,5 @@
-//! Tests alone: what fails outside, files too long to be kept, and the engines beside the plain programs. Calls with their
-//! files and answers are rows of the program `rows`.
+//! Tests alone: a run that nothing outside can fail, files too long to be kept, and the engines beside the plain programs.
+//! Calls with their files and answers, and with what fails outside, are rows of the program `rows`.
 #![tactic(auto)]
 
 #[cfg(test)]
