@@ -72,17 +72,28 @@ fn orders(rt: HostRuntime) -> Result<(), Fail> {
 }
 
 #[test]
-fn cycles(rt: HostRuntime) -> Result<(), Fail> {
+fn cycle_of_one_point(rt: HostRuntime) -> Result<(), Fail> {
     let alloc = rt.alloc();
-    // a cycle of one point
     let one = graph_of(alloc, 2, &[(0, &[1]), (1, &[1])])?;
     assert_eq!(rt; cycle(alloc, &one, &[0])?.as_slice(), [1].as_slice());
-    // of two, found from another point, which leads to a point in no cycle first
+    Ok(())
+}
+
+// It is found from another point, which leads to a point in no cycle first.
+#[test]
+fn cycle_of_two_points(rt: HostRuntime) -> Result<(), Fail> {
+    let alloc = rt.alloc();
     let two = graph_of(alloc, 4, &[(0, &[3, 1]), (1, &[2]), (2, &[3, 1])])?;
     assert_eq!(rt; cycle(alloc, &two, &[3, 0])?.as_slice(), [1, 2].as_slice());
     assert_eq!(rt; cycle(alloc, &two, &[2])?.as_slice(), [2, 1].as_slice());
     assert_eq!(rt; cycle(alloc, &two, &[3])?.as_slice(), [].as_slice());
-    // of five, where a second cycle is not named
+    Ok(())
+}
+
+// A second cycle is not named.
+#[test]
+fn cycle_of_five_points(rt: HostRuntime) -> Result<(), Fail> {
+    let alloc = rt.alloc();
     let five = graph_of(
         alloc,
         7,

@@ -1,4 +1,4 @@
-//! Tests alone: signatures, BLIF with its flattening and writing, and the parts of Verilog, worked by hand.
+//! Tests alone: what is read of signatures and of BLIF, its flattening and writing, worked by hand; faults are tried by rows.
 //! They stand in a crate of their own, since a crate with tests is proved twice.
 #![tactic(auto)]
 
@@ -8,7 +8,5 @@ mod net_blif_tests;
 mod net_flat_tests;
 #[cfg(test)]
 mod net_signature_tests;
-#[cfg(test)]
-mod net_verilog_tests;
 #[cfg(test)]
 mod net_write_tests;

@@ -1,4 +1,4 @@
-//! Texts with their designs; faults are tried with their nets, in the crate above.
+//! Texts with their designs; faults are tried by rows.
 use net_blif::read_blif;
 use std::alloc::Global;
 use std::test::Fail;
