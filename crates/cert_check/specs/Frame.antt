@@ -31,7 +31,7 @@ abbrev pub bit_found : Labelling → Option ℕ → ℕ → List ℕ → Result 
 bit_found labels None place rest = Err NoSuchBit
 bit_found labels (Some word) place rest = cond (nat_lt place (word_at labels.words word).1) (after_generator (Bit word place) (after_sign 58 rest)) (Err NoSuchBit)
 
--- `W[i] :` after `bit`: a bit of an input or state word
+-- `W[i] :` after `bit`: a bit of an input, state or fed word
 abbrev pub bit_named : Labelling → Option (List ℕ × List ℕ × List ℕ) → Result (Generator × List ℕ) LineFault
 bit_named labels None = Err Syntax
 bit_named labels (Some found) = bit_found labels (word_of labels.words found.0) (value_of 10 found.1) found.2

@@ -45,12 +45,12 @@ driven_value vars p (Some g) = table_value g.table g.inputs (net_bit vars p)
 abbrev pub dual_form : ℕ → (ℕ → ℕ → ℕ) → ℕ → ℕ → ℕ
 dual_form k mul d x = sum_of_first k (λ j. mul (frobenius mul j d) (frobenius mul j x))
 
--- element i of the dual basis of an input or state word
+-- element i of the dual basis of an input, state or fed word
 abbrev pub dual_at : Option Word → ℕ → ℕ
 dual_at None i = 0
 dual_at (Some word) i = slice_index word.basis i
 
--- the input and state words with the dual bases in place of the bases
+-- the input, state and fed words with the dual bases in place of the bases
 abbrev pub dual_words : BoundNet → List Basis → List Word
 dual_words bound bases = words_of bound.bound.words (map duals_of bases)
 

@@ -13,7 +13,7 @@ pub enum LineFault {
     Syntax,
     /// It names a net that there is not, or in a polynomial one that is not written by its number.
     NoSuchNet,
-    /// It names a bit of no input or state word, or a place that the word has not.
+    /// It names a bit of no input, state or fed word, or a place that the word has not.
     NoSuchBit,
     /// It names a net that no gate drives.
     NotDriven,
@@ -32,7 +32,7 @@ pub enum CertFault {
     /// The line names a net that there is not, or in a polynomial one that is not written by its number.
     #[error("no such net at line {line}")]
     NoSuchNet { line: u32 },
-    /// The line names a bit of no input or state word, or a place that the word has not.
+    /// The line names a bit of no input, state or fed word, or a place that the word has not.
     #[error("no such bit at line {line}")]
     NoSuchBit { line: u32 },
     /// The line names a net that no gate drives.

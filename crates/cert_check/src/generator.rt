@@ -160,7 +160,7 @@ fn net_split<F: Field>(
     Ok(Split { near, form: None })
 }
 
-/// A generator: a net, or a bit of an input or state word.
+/// A generator: a net, or a bit of an input, state or fed word.
 pub(crate) fn generator_split<F: Field>(
     alloc: Global,
     field: &F,

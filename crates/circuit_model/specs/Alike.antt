@@ -3,7 +3,7 @@ use Rattle.std.specs.Prelude.{◌≡◌, ℕ, List, map}
 use Rattle.circuit_model.specs.Word.{Word}
 use Rattle.circuit_model.specs.Circuit.{Circuit}
 
--- the bases of the input and state words
+-- the bases of the input, state and fed words
 abbrev pub bases_of : Circuit → List (List ℕ)
 bases_of circuit = map (λ (w : Word). w.basis) circuit.words
 

@@ -111,7 +111,7 @@ fn over(
 /// k / D cycles, where digits have D bits. The words are A, which is fed and has no nets, the input B and the output, all by
 /// `poly`, over a field without a tower, with feeds of the digits and no block; their nets and the fed ones are different and
 /// have plain names of at most 128 bytes. Else it is `Unfit`.
-/// The field is the signature's, and each word that is not fed has as many nets as its degree.
+/// The degree of the field is that of the signature, and each word that is not fed has as many nets as this degree.
 pub fn digit_serial(
     alloc: Global,
     ring: &Proved<Ring2k>,

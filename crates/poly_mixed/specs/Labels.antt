@@ -4,7 +4,7 @@ use Rattle.std.specs.Prelude.{◌≢◌, ℕ, ◌+◌, ◌-◌, ◌<◌, ◌≤�
 use Rattle.std.specs.List.{AllByRecursion}
 use Rattle.text_core.specs.Names.{IsName}
 
--- the output word's name, each input and state word with its number of bits, and the numbers of the other nets
+-- the output word's name, each input, state and fed word with its number of bits, and the numbers of the other nets
 pub record Labelling : Type 0 where
   pub output : List ℕ
   pub words : List (List ℕ × ℕ)

@@ -10,7 +10,7 @@ ghost use Rattle.text_core.specs.Names.{IsName};
 use std::alloc::{AllocError, Global};
 use std::marker::Model;
 
-// An input or state word with its number of bits.
+// An input, state or fed word with its number of bits.
 #[derive(Drop)]
 struct LabelledWord {
     name: String,
@@ -60,7 +60,7 @@ impl Labels {
         })
     }
 
-    /// The next input or state word, of 1 to 64 bits; all words, at most 8, come before the first net.
+    /// The next input, state or fed word, of 1 to 64 bits; all words, at most 8, come before the first net.
     /// After want of memory the labels are not used again.
     pub fn word(&mut self, name: &str, bits: u32) -> Result<(), AllocError>
         requires name { IsName name.now }
@@ -99,7 +99,7 @@ impl Labels {
         let _ = &self.words;
     }
 
-    /// How many input and state words there are.
+    /// How many input, state and fed words there are.
     pub fn words(&self) -> u32
         ensures value { result ≡ length self.now.words }
         ensures few { result ≤ 8 }

@@ -5,7 +5,7 @@ ghost use Rattle.poly_mixed.specs.Steps.{Step, Tells};
 use crate::Poly;
 use std::alloc::AllocError;
 
-/// What is replaced: a net, by its number, or the bit at a place of an input or state word.
+/// What is replaced: a net, by its number, or the bit at a place of an input, state or fed word.
 #[derive(Clone, Copy, Debug, PartialEq, Eq)]
 pub enum Generator {
     Net(u32),

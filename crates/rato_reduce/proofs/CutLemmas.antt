@@ -15,8 +15,8 @@ use Rattle.poly_mixed.proofs.Monomials.{text_cmp-same}
 use Rattle.poly_mixed.proofs.Sums.{IsAdditive, at, at_additive, found_is_sum, sorted-plus, sorted-plus_term, all_plus, xor_sum-plus, xor_sum-plus_term}
 use Rattle.poly_mixed.proofs.Terms.{all_plus_term}
 use Rattle.poly_mixed.proofs.Values.{map_plus, one_map, same_map}
-use Rattle.rato_reduce.specs.CutKey.{CutKey, key_cmp, key_cmp_total}
-use Rattle.rato_reduce.specs.CutTerms.{of_bits, IsBitTerm, term_of, cut_polynomial, IsEntry, AreEntries}
+use Rattle.rato_reduce.specs.private.CutKey.{CutKey, key_cmp, key_cmp_total}
+use Rattle.rato_reduce.specs.private.CutTerms.{of_bits, IsBitTerm, term_of, cut_polynomial, IsEntry, AreEntries}
 
 -- ---- keys
 

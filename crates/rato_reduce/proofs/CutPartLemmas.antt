@@ -22,8 +22,8 @@ use Rattle.poly_mixed.proofs.OneBit.{is_cofactor}
 use Rattle.poly_mixed.proofs.Ranks.{from_less}
 use Rattle.poly_mixed.proofs.Sums.{at, at_additive, found_is_sum, xor_sum-plus}
 use Rattle.poly_mixed.proofs.Values.{same_map, one_map}
-use Rattle.rato_reduce.specs.CutKey.{CutKey, place_at, first_from, key_cmp}
-use Rattle.rato_reduce.specs.CutTerms.{of_bits, IsBitTerm, term_of, IsEntry, AreEntries, ends_up_to, IsTaken, products, all_products}
+use Rattle.rato_reduce.specs.private.CutKey.{CutKey, place_at, first_from, key_cmp}
+use Rattle.rato_reduce.specs.private.CutTerms.{of_bits, IsBitTerm, term_of, IsEntry, AreEntries, ends_up_to, IsTaken, products, all_products}
 use Rattle.poly_mixed.specs.Product.{union, with_rank}
 use Rattle.poly_mixed.specs.Table.{table_bit}
 use Rattle.rato_reduce.specs.Monomials.{monomials}

@@ -12,8 +12,8 @@ use Rattle.poly_mixed.specs.Polynomial.{Terms}
 use Rattle.poly_mixed.specs.Sum.{with_coefficient, plus_term, plus}
 use Rattle.poly_mixed.proofs.Monomials.{text_cmp-same}
 use Rattle.poly_mixed.proofs.Terms.{all_plus_term}
-use Rattle.rato_reduce.specs.CutKey.{CutKey, key_of, key_cmp, key_cmp_total}
-use Rattle.rato_reduce.specs.CutTerms.{of_bits, term_of, cut_polynomial, IsEntry, AreEntries}
+use Rattle.rato_reduce.specs.private.CutKey.{CutKey, key_of, key_cmp, key_cmp_total}
+use Rattle.rato_reduce.specs.private.CutTerms.{of_bits, term_of, cut_polynomial, IsEntry, AreEntries}
 
 abbrev IsApart : Monomial → Terms → Type 0
 IsApart m ts = AllByRecursion (λ t. text_cmp m t.0 ≢ Equal) ts

@@ -2,9 +2,9 @@
 use Rattle.std.proofs.Common.{◌≡◌, ◌≢◌, ◌⊎◌, inl, inr, ℕ, false, List, [], ◌∷◌, ◌++◌, length, Option, None, Some, refl, sym, ◌∙◌, arith}
 use Rattle.std.specs.Prelude.{IfSome, nat_le}
 use Rattle.std.specs.Option.{option_map_or}
-use Rattle.rato_reduce.specs.CutKey.{CutKey}
-use Rattle.rato_reduce.specs.CutTerms.{ends_up_to}
-use Rattle.rato_reduce.specs.EntryList.{only_or}
+use Rattle.rato_reduce.specs.private.CutKey.{CutKey}
+use Rattle.rato_reduce.specs.private.CutTerms.{ends_up_to}
+use Rattle.rato_reduce.specs.private.EntryList.{only_or}
 
 -- what `Entries` keep
 abbrev pub IsOnly : Option (CutKey × ℕ) → List (CutKey × ℕ) → Type 0

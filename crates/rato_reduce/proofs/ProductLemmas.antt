@@ -15,7 +15,7 @@ use Rattle.poly_mixed.proofs.Sums.{all_plus}
 use Rattle.poly_mixed.proofs.Values.{value-plus, reduced_plus, product_zero}
 use Rattle.poly_mixed.proofs.Simple.{one_rank_rises, one_simple, bits_monomial, single}
 use lib.Bits.{xor_lt}
-use Rattle.rato_reduce.specs.CutTerms.{of_bits, IsBitTerm, products, all_products}
+use Rattle.rato_reduce.specs.private.CutTerms.{of_bits, IsBitTerm, products, all_products}
 use Rattle.rato_reduce.specs.Monomials.{monomials}
 use Rattle.rato_reduce.proofs.CutLemmas.{sum_map_is}
 use Rattle.rato_reduce.proofs.PutIn.{index_map}

@@ -3,7 +3,7 @@ ghost use Rattle.std.specs.Prelude.{◌≡◌, ◌≢◌, [], IfOk};
 ghost use Rattle.std.specs.List.{AllByRecursion};
 ghost use Rattle.poly_mixed.specs.Monomial.{text_cmp};
 ghost use Rattle.poly_mixed.specs.Sum.{plus};
-ghost use Rattle.rato_reduce.specs.CutTerms.{of_bits, IsBitTerm};
+ghost use Rattle.rato_reduce.specs.private.CutTerms.{of_bits, IsBitTerm};
 
 use crate::ranks::Ranks;
 use poly_mixed::{Mono, Poly};
@@ -20,7 +20,7 @@ pub struct BitTerm {
 impl Model for BitTerm {
     ghost use Rattle.std.specs.Prelude.{ℕ};
     ghost use Rattle.poly_mixed.specs.Monomial.{Monomial};
-    ghost use Rattle.rato_reduce.specs.CutTerms.{of_bits};
+    ghost use Rattle.rato_reduce.specs.private.CutTerms.{of_bits};
 
     ghost Value = { Monomial × ℕ };
 

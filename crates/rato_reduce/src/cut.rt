@@ -9,7 +9,7 @@ ghost use Rattle.poly_mixed.specs.Polynomial.{IsReduced, IsTerm};
 ghost use Rattle.poly_mixed.specs.Sum.{plus, plus_term, with_coefficient};
 ghost use Rattle.poly_mixed.specs.Product.{union, with_rank};
 ghost use Rattle.poly_mixed.specs.Table.{table_bit};
-ghost use Rattle.rato_reduce.specs.CutTerms.{of_bits, term_of, ends_up_to, products, AreBitEntries, IsBitTerm, IsTaken};
+ghost use Rattle.rato_reduce.specs.private.CutTerms.{of_bits, term_of, ends_up_to, products, AreBitEntries, IsBitTerm, IsTaken};
 ghost use Rattle.rato_reduce.specs.Monomials.{monomials};
 
 use crate::bit_term::BitTerm;
@@ -32,7 +32,7 @@ pub struct Cut {
 }
 
 impl Model for Cut {
-    ghost use Rattle.rato_reduce.specs.CutTerms.{CutPolynomial, cut_polynomial, with_constant, AreBitEntries};
+    ghost use Rattle.rato_reduce.specs.private.CutTerms.{CutPolynomial, cut_polynomial, with_constant, AreBitEntries};
 
     ghost Value = { CutPolynomial };
 

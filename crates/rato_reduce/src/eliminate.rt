@@ -12,7 +12,7 @@ ghost use Rattle.poly_mixed.specs.Sum.{plus};
 ghost use Rattle.poly_mixed.specs.declared.steps.Generator.TheVariants.{Net};
 ghost use Rattle.stage_model.specs.Variables.{rank_in};
 ghost use Rattle.stage_model.specs.CutSteps.{AreStepsAt};
-ghost use Rattle.rato_reduce.specs.CutTerms.{all_products, IsBitTerm};
+ghost use Rattle.rato_reduce.specs.private.CutTerms.{all_products, IsBitTerm};
 ghost use Rattle.rato_reduce.specs.GatePoint.{HasGatePutIn, AddsWhereGate};
 ghost use Rattle.rato_reduce.specs.Monomials.{monomials};
 

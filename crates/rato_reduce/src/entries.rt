@@ -4,9 +4,9 @@ ghost use Rattle.std.specs.List.{AllByRecursion};
 ghost use Rattle.std.specs.Option.{option_map_or};
 ghost use Rattle.poly_mixed.specs.Monomial.{text_cmp};
 ghost use Rattle.poly_mixed.specs.Sum.{plus, plus_term};
-ghost use Rattle.rato_reduce.specs.CutKey.{key_cmp};
-ghost use Rattle.rato_reduce.specs.CutTerms.{ends_up_to, term_of, IsBitTerm};
-ghost use Rattle.rato_reduce.specs.EntryList.{only_or};
+ghost use Rattle.rato_reduce.specs.private.CutKey.{key_cmp};
+ghost use Rattle.rato_reduce.specs.private.CutTerms.{ends_up_to, term_of, IsBitTerm};
+ghost use Rattle.rato_reduce.specs.private.EntryList.{only_or};
 
 use crate::key::Key;
 use poly_mixed::{Mono, Poly};
@@ -25,7 +25,7 @@ pub struct Entries {
 
 impl Model for Entries {
     ghost use Rattle.std.specs.Prelude.{◌≡◌, ◌≢◌, [], IfSome};
-    ghost use Rattle.rato_reduce.specs.EntryList.{EntryList, entry_list};
+    ghost use Rattle.rato_reduce.specs.private.EntryList.{EntryList, entry_list};
 
     ghost Value = { EntryList };
 

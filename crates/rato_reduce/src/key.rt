@@ -2,7 +2,7 @@
 ghost use Rattle.std.specs.Prelude.{◌≡◌, refl};
 ghost use Rattle.std.specs.Cmp.{partial_order_from_total, partial_equiv_from_equiv, eq_by_cmp_equiv};
 ghost use Rattle.std.specs.Ordering.{eq_by_cmp, as_partial_cmp};
-ghost use Rattle.rato_reduce.specs.CutKey.{CutKey, place_at, first_from, hash_from, key_of, key_cmp, key_cmp_total};
+ghost use Rattle.rato_reduce.specs.private.CutKey.{CutKey, place_at, first_from, hash_from, key_of, key_cmp, key_cmp_total};
 
 use crate::ranks::Ranks;
 use std::cmp::Ordering;
@@ -17,7 +17,7 @@ pub struct Key {
 }
 
 impl Model for Key {
-    ghost use Rattle.rato_reduce.specs.CutKey.{CutKey};
+    ghost use Rattle.rato_reduce.specs.private.CutKey.{CutKey};
 
     ghost Value = { CutKey };
 

@@ -1,4 +1,4 @@
--- The value of a polynomial in input and state bits at an input. Source: this project's own.
+-- The value of a polynomial in input, state and fed bits at an input. Source: this project's own.
 use Rattle.std.specs.Prelude.{◌≡◌, ℕ, ◌≤◌, List, [], ◌∷◌, length, nat_eq}
 use Rattle.std.specs.List.{list_any}
 use Rattle.poly_mixed.specs.Polynomial.{Terms, Point, IsReduced, value}
@@ -18,7 +18,7 @@ pub record IsValueAt (circuit : Circuit) (ts : Terms) (xs : List ℕ) (e : ℕ) 
   pub are : AreOnes circuit xs ones
   pub value_is : value circuit.product (at_ones ones) ts ≡ e
 
--- a reduced polynomial in the bits of the input and state words alone: no word stands in it and no bit of another net
+-- a reduced polynomial in the bits of the input, state and fed words alone: no word stands in it and no bit of another net
 pub record IsInInputBits (circuit : Circuit) (ts : Terms) : Type 0 where
   pub reduced : IsReduced circuit.k ts
   pub bits : InBits ts

@@ -1,4 +1,4 @@
--- What a comparison of two polynomials in input and state bits answers. Source: this project's own.
+-- What a comparison of two polynomials in input, state and fed bits answers. Source: this project's own.
 use Rattle.std.specs.Prelude.{◌≡◌, ℕ, List, length, take, drop, Option, None, Some}
 use Rattle.poly_mixed.specs.Polynomial.{Terms}
 use Rattle.poly_mixed.specs.laws.Uniqueness.{IsZeros}

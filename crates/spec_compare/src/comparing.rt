@@ -1,4 +1,4 @@
-//! The comparison of two polynomials in input and state bits.
+//! The comparison of two polynomials in input, state and fed bits.
 ghost use Rattle.std.specs.Prelude.{◌≡◌, ◌≤◌, ◌<◌, ◌+◌, ◌++◌, ℕ, List, length, take, drop, map, IfOk, OnOk, []};
 ghost use Rattle.std.specs.List.{AllByRecursion};
 ghost use Rattle.gf_basis.specs.BasisParts.{elements_of, IsBasisOver};
@@ -109,7 +109,7 @@ fn sum_of<F: Field>(alloc: Global, field: &F, left: &Poly, right: &Poly) -> Resu
     Ok(sum)
 }
 
-/// Whether two polynomials in the bits of a circuit's input and state words have equal values at every input.
+/// Whether two polynomials in the bits of a circuit's input, state and fed words have equal values at every input.
 ///
 /// There is one basis of this field for each word of the binding, and each word has k bits. Where the values differ
 /// somewhere, the input is the one with the fewest bits that are 1 among those, and of several the one whose rising list of

@@ -27,8 +27,8 @@ pub fn output_as_value()
     ensures { (circuit : Circuit) (ts : Terms) (xs : List ℕ) (e : ℕ) → IsWellFormed circuit → IsOutputInBits circuit ts → IsValueAt circuit ts xs e ↔ IsOut circuit xs e }
 {}
 
-/// The polynomial of a circuit's output stands in the bits of its input and state words, and in those of each circuit over the
-/// same words.
+/// The polynomial of a circuit's output stands in the bits of its input, state and fed words, and in those of each circuit
+/// over the same words.
 pub fn output_in_input_bits()
     ensures own { (circuit : Circuit) (ts : Terms) → IsOutputInBits circuit ts → IsInInputBits circuit ts }
     ensures other { (circuit other : Circuit) (ts : Terms) → IsWellFormed circuit → IsWellFormed other → AreAlike circuit other → IsInInputBits circuit ts → IsInInputBits other ts }

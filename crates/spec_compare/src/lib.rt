@@ -1,4 +1,4 @@
-//! The comparison of two polynomials in the bits of a circuit's input and state words: the same values at every input, or
+//! The comparison of two polynomials in the bits of a circuit's input, state and fed words: the same values at every input, or
 //! the first input at which they differ.
 #![tactic(auto)]
 

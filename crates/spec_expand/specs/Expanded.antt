@@ -1,4 +1,4 @@
--- A function of the input as a polynomial in input and state bits. Source: this project's own.
+-- A function of the input as a polynomial in input, state and fed bits. Source: this project's own.
 use Rattle.std.specs.Prelude.{◌≡◌, ℕ, List, length}
 use Rattle.poly_mixed.specs.Polynomial.{Terms, Point, IsPoint, IsReduced, value}
 use Rattle.poly_mixed.specs.laws.Uniqueness.{InBits}
@@ -7,7 +7,7 @@ use Rattle.circuit_model.specs.Circuit.{Circuit, IsInput}
 use Rattle.stage_model.specs.First.{InFirstRanks}
 use Rattle.stage_model.specs.InputPoint.{IsAtInput}
 
--- reduced, in the bits of input and state words alone, and wherever these are the bits of an input, the function's value there
+-- reduced, in the bits of input, state and fed words alone, and wherever these are the bits of an input, the function's value there
 pub record IsExpansion (circuit : Circuit) (h : List ℕ → ℕ) (ts : Terms) : Type 0 where
   pub reduced : IsReduced circuit.k ts
   pub bits_alone : InBits ts

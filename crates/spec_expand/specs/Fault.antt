@@ -30,7 +30,7 @@ ends_in_power [] = false
 ends_in_power (t ∷ []) = is_power t
 ends_in_power (t ∷ u ∷ ts) = ends_in_power (u ∷ ts)
 
--- the left name is the output word's, the others are those of input and state words
+-- the left name is the output word's, the others are those of input, state and fed words
 abbrev pub is_known : Labelling → List Token → List ℕ → Bool
 is_known l [] n = bytes_eq n l.output
 is_known l (t ∷ before) n = is_some (word_of l.words n)

@@ -1,4 +1,4 @@
--- The stages of a specification over input and state bits as a listing. Source: this project's own.
+-- The stages of a specification over input, state and fed bits as a listing. Source: this project's own.
 use Rattle.std.specs.Prelude.{◌≡◌, ◌⊎◌, ℕ, ◌+◌, ◌<◌, ◌≤◌, List, Some, length, take, slice_get}
 use Rattle.poly_mixed.specs.Polynomial.{Point}
 use Rattle.poly_mixed.specs.declared.stage.Stage.{Stage}
@@ -61,6 +61,6 @@ is_earlier_spec_stage (SpecSum r) (SpecProduct s j) = r < s
 is_earlier_spec_stage (SpecSum r) (SpecSum s) = r < s
 is_earlier_spec_stage name other = ⊥
 
--- the stages of a specification over the bits of a circuit's input and state words
+-- the stages of a specification over the bits of a circuit's input, state and fed words
 abbrev pub spec_listing : Circuit → SpecTerms → Listing Stage
 spec_listing circuit spec = record { is_listed = is_spec_stage spec; stage_of = spec_stage_of circuit spec; comes_before = is_earlier_spec_stage }

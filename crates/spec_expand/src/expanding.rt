@@ -1,4 +1,4 @@
-//! A specification as a polynomial in the bits of input and state words.
+//! A specification as a polynomial in the bits of input, state and fed words.
 ghost use Rattle.std.specs.Prelude.{◌≡◌, ◌<◌, ◌≤◌, ◌+◌, ◌^◌, length, take, slice_get, Some, IfOk, IfErr, OnOk};
 ghost use Rattle.net_core.specs.Sound.{IsSound};
 ghost use Rattle.net_words.specs.OneCycle.{IsOneCycle};
@@ -39,7 +39,7 @@ fn kept(circuit: &Combinational)
     let _gates = net.gates();
 }
 
-// The number of an input or state word among all words.
+// The number of an input, state or fed word among all words.
 fn place_at(places: &[u32], word: u32) -> u32
     requires { word < length places.now }
     ensures { slice_get places.now word ≡ Some result }
@@ -47,7 +47,7 @@ fn place_at(places: &[u32], word: u32) -> u32
     places[word as usize]
 }
 
-// The basis of an input or state word.
+// The basis of an input, state or fed word.
 fn basis_of<'a, F: Field>(
     _field: &F,
     _circuit: &Combinational,
@@ -181,10 +181,11 @@ fn one_term<F: Field>(
     Ok(reached.poly)
 }
 
-/// The polynomial of a specification in the bits of a circuit's input and state words, or the first stage over the bound.
+/// The polynomial of a specification in the bits of a circuit's input, state and fed words, or the first stage over the
+/// bound.
 ///
 /// There is one basis of this field for each word of the binding, and each word has k bits. Each coefficient is an element
-/// of the field, and each word is one of the circuit's input and state words. The factors of a term are, for each pair in
+/// of the field, and each word is one of the circuit's input, state and fed words. The factors of a term are, for each pair in
 /// order and each binary one j of its exponent from the lowest, the word to the power 2^j; a term has its products with its
 /// first factors as stages, and then the sum of the terms up to it. `TooManyTerms` comes exactly at the first stage of more
 /// than `bound` terms, with that number.

@@ -11,7 +11,7 @@ pub enum SpecFault {
     /// A token with which no specification goes on, bytes that are no token, or the end of a text that is none.
     #[error("syntax at byte {place}")]
     Syntax { place: u32 },
-    /// A name on the left that is not the output word's, or one on the right of no input or state word.
+    /// A name on the left that is not the output word's, or one on the right of no input, state or fed word.
     #[error("unknown word at byte {place}")]
     UnknownWord { place: u32 },
     /// A number out of its range.

@@ -50,7 +50,7 @@ impl Reading {
         Ok(())
     }
 
-    // A name: the output word's on the left, and else an input or state word's.
+    // A name: the output word's on the left, and else an input, state or fed word's.
     fn name(&self, labels: &Labels, next: Next, name: &[u8], place: u32) -> Result<Next, SpecFault>
         ensures { IsStep (name_read labels.now next (progress next self.now.terms.items self.now.coefficient self.now.powers.items) name.now place) self.now.terms.items self.now.coefficient self.now.powers.items result }
     {
@@ -274,8 +274,8 @@ fn white_at(bytes: &[u8], at: usize) -> usize
 /// The specification that a text says, or the fault of its first token that has one.
 ///
 /// The text has at most 67,108,864 bytes. Words are numbered as in the labels. The left name is the output word's, the
-/// others are those of input and state words; a hexadecimal number is an element of the field, a decimal one as a factor is
-/// 0 or 1, an exponent is below 2^64. Places are bytes from 0; at the end of the text it is the text's length.
+/// others are those of input, state and fed words; a hexadecimal number is an element of the field, a decimal one as a
+/// factor is 0 or 1, an exponent is below 2^64. Places are bytes from 0; at the end of the text it is the text's length.
 pub fn read_spec<F: Field>(
     alloc: Global,
     field: &F,

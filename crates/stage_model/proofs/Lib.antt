@@ -13,7 +13,6 @@ pub mod ListingLemmas
 pub mod CutListingLemmas
 pub mod WordListingLemmas
 pub mod CircuitListingLemmas
-pub mod StageListLemmas
 pub mod PlaceLemmas
 pub mod NextMixLemmas
 pub mod StepLemmas

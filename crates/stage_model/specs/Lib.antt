@@ -11,7 +11,6 @@ pub mod WordStage
 pub mod Listing
 pub mod WordListing
 pub mod CircuitListing
-pub mod StageList
 pub mod WordSteps
 pub mod PlainWord
 pub mod private

@@ -8,7 +8,7 @@ use Rattle.circuit_model.specs.Out.{IsOut}
 use Rattle.stage_model.specs.First.{InFirstRanks}
 use Rattle.stage_model.specs.InputPoint.{IsAtInput}
 
--- reduced, in the bits of input and state words alone, and wherever these are the bits of an input, the output's value there
+-- reduced, in the bits of input, state and fed words alone, and wherever these are the bits of an input, the output's value there
 pub record IsOutputInBits (circuit : Circuit) (ts : Terms) : Type 0 where
   pub reduced : IsReduced circuit.k ts
   pub bits_alone : InBits ts

@@ -7,7 +7,7 @@ use Rattle.circuit_model.specs.Out.{IsOut}
 use Rattle.stage_model.specs.First.{InFirstRanks}
 use Rattle.stage_model.specs.InputPoint.{input_of}
 
--- reduced, in the input and state words alone, without bits, and at each input, by its point, the output's value
+-- reduced, in the input, state and fed words alone, without bits, and at each input, by its point, the output's value
 pub record IsOutputInWords (circuit : Circuit) (ts : Terms) : Type 0 where
   pub reduced : IsReduced circuit.k ts
   pub words_alone : InFirstWords (length circuit.words) ts

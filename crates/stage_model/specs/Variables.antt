@@ -7,7 +7,7 @@ use Rattle.poly_mixed.specs.Polynomial.{Point}
 use Rattle.circuit_model.specs.Word.{word_nets}
 use Rattle.circuit_model.specs.Circuit.{Circuit}
 
--- the nets of the input and state words in the order of the signature and by place, and then all other nets by number
+-- the nets of the input, state and fed words in the order of the signature and by place, and then all other nets by number
 abbrev pub variables_of : Circuit → List ℕ
 variables_of circuit = word_nets circuit.words ++ others (nets circuit.net) (word_nets circuit.words)
 

@@ -28,8 +28,8 @@ fn kept(circuit: &Combinational)
 
 /// The polynomial of the output in words: that of the mix of all words.
 ///
-/// `bits` is that of the mix of no words, in the bits of input and state words alone, and has fewer than 2^32 terms; there
-/// is one basis of this field for each word of the binding, and each word has k bits. The words are replaced one by one in
+/// `bits` is that of the mix of no words, in the bits of input, state and fed words alone, and has fewer than 2^32 terms;
+/// there is one basis of this field for each word of the binding, and each word has k bits. The words are replaced one by one in
 /// the order of the signature, each word's terms in the order of a text and each term's bits of the word by rising place.
 /// For each of these bits the recorder gets one pair: the bit, and the product before it with the term's later bits of the
 /// word. `TooManyTerms` comes exactly at the first stage of words of more than `bound` terms, with that number.

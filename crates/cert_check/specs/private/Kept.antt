@@ -56,7 +56,7 @@ abbrev pub IsLineIn : Certificate → Line → Type 0
 IsLineIn c (line.Pair g m) = IsNumbered (length c.shared) m × (length c.pairs + 1 < 2 ^ 32)
 IsLineIn c (line.Share p) = Unit {0}
 
--- a net, or a bit of an input or state word, of which there are at most 8
+-- a net, or a bit of an input, state or fed word, of which there are at most 8
 abbrev pub IsGeneratorOf : ℕ → BoundNet → List Basis → Generator → Type 0
 IsGeneratorOf k bound bases (Net n) = n < nets bound.net
 IsGeneratorOf k bound bases (Bit w i) = (w < length (dual_words bound bases)) × (w < 8) × (i < k)

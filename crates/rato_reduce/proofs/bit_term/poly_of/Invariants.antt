@@ -2,7 +2,7 @@ use Rattle.std.proofs.Common.{◌≡◌, [], drop}
 use Rattle.std.specs.List.{AllByRecursion}
 use Rattle.poly_mixed.specs.Monomial.{text_cmp}
 use Rattle.poly_mixed.specs.Sum.{plus}
-use Rattle.rato_reduce.specs.CutTerms.{IsBitTerm}
+use Rattle.rato_reduce.specs.private.CutTerms.{IsBitTerm}
 use Rattle.rato_reduce.proofs.bit_term.poly_of.Given as goal
 
 abbrev pub invariant-loop-term : goal.invariant-loop-term

@@ -1,6 +1,6 @@
 use Rattle.std.proofs.Common.{◌≡◌, ℕ, List, [], ◌∷◌, ◌++◌, sym, subst}
-use Rattle.rato_reduce.specs.CutKey.{CutKey}
-use Rattle.rato_reduce.specs.CutTerms.{AreBitEntries}
+use Rattle.rato_reduce.specs.private.CutKey.{CutKey}
+use Rattle.rato_reduce.specs.private.CutTerms.{AreBitEntries}
 use Rattle.rato_reduce.proofs.CutPartLemmas.{take_step, nothing_taken}
 use Rattle.rato_reduce.proofs.ConstantLemmas.{bit_entries_rest}
 use Rattle.rato_reduce.proofs.cut.take_up_to.Goals as goal

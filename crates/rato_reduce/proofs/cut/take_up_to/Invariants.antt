@@ -1,5 +1,5 @@
 use Rattle.std.proofs.Common.{ℕ, List, length}
-use Rattle.rato_reduce.specs.CutTerms.{AreBitEntries, IsTaken}
+use Rattle.rato_reduce.specs.private.CutTerms.{AreBitEntries, IsTaken}
 use Rattle.rato_reduce.proofs.cut.take_up_to.Given as goal
 
 abbrev pub invariant-loop-key : goal.invariant-loop-key

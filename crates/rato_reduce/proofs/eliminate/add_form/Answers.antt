@@ -5,7 +5,7 @@ use Rattle.net_words.specs.Variables.{variables}
 use Rattle.poly_mixed.specs.Monomial.{text_cmp}
 use Rattle.poly_mixed.specs.Sum.{plus}
 use Rattle.stage_model.specs.Variables.{rank_in}
-use Rattle.rato_reduce.specs.CutTerms.{all_products}
+use Rattle.rato_reduce.specs.private.CutTerms.{all_products}
 use Rattle.rato_reduce.specs.Monomials.{monomials}
 use Rattle.rato_reduce.proofs.eliminate.add_form.Goals as goal
 

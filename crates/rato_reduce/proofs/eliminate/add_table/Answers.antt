@@ -8,7 +8,7 @@ use Rattle.poly_mixed.specs.Polynomial.{Terms, IsReduced, value}
 use Rattle.poly_mixed.specs.Table.{index, subset_parity, table_bit}
 use Rattle.stage_model.specs.Variables.{rank_in}
 use Rattle.rato_reduce.specs.GatePoint.{gate_bit_at}
-use Rattle.rato_reduce.specs.CutTerms.{all_products}
+use Rattle.rato_reduce.specs.private.CutTerms.{all_products}
 use Rattle.rato_reduce.specs.Monomials.{monomials}
 use Rattle.rato_reduce.proofs.Inside.{few_inputs}
 use Rattle.rato_reduce.proofs.ProductLemmas.{all_product_terms, all_products_over, reduced_more, put_table, table_parity}

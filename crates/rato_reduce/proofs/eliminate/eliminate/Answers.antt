@@ -18,7 +18,7 @@ use Rattle.poly_mixed.proofs.Recorders.{tells_none}
 use Rattle.poly_mixed.proofs.Values.{value-plus}
 use Rattle.stage_model.specs.Variables.{rank_in}
 use Rattle.stage_model.specs.CutSteps.{AreStepsAt}
-use Rattle.rato_reduce.specs.CutTerms.{IsBitTerm}
+use Rattle.rato_reduce.specs.private.CutTerms.{IsBitTerm}
 use Rattle.rato_reduce.specs.GatePoint.{gate_bit_at}
 use Rattle.rato_reduce.proofs.Inside.{out_below}
 use Rattle.rato_reduce.proofs.PutIn.{put_in, put_nothing}

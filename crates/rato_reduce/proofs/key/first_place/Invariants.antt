@@ -1,5 +1,5 @@
 use Rattle.std.proofs.Common.{◌≡◌, drop}
-use Rattle.rato_reduce.specs.CutKey.{first_from}
+use Rattle.rato_reduce.specs.private.CutKey.{first_from}
 use Rattle.rato_reduce.proofs.key.first_place.Given as goal
 
 abbrev pub invariant-loop-rank : goal.invariant-loop-rank

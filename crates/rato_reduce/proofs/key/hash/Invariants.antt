@@ -1,5 +1,5 @@
 use Rattle.std.proofs.Common.{◌≡◌, drop}
-use Rattle.rato_reduce.specs.CutKey.{hash_from}
+use Rattle.rato_reduce.specs.private.CutKey.{hash_from}
 use Rattle.rato_reduce.proofs.key.hash.Given as goal
 
 abbrev pub invariant-loop-rank : goal.invariant-loop-rank

@@ -3,8 +3,8 @@ use Rattle.std.proofs.lemmas.Bool.{eqb-true, eqb-false}
 use Rattle.std.specs.declared.cmp.Ordering.TheVariants.{Less}
 use Rattle.poly_mixed.specs.Monomial.{text_cmp}
 use Rattle.poly_mixed.specs.Sum.{plus_term}
-use Rattle.rato_reduce.specs.CutKey.{CutKey, key_of, no_bits, key_cmp}
-use Rattle.rato_reduce.specs.CutTerms.{CutPolynomial, IsEntry, AreBitEntries, cut_polynomial, with_constant, of_bits}
+use Rattle.rato_reduce.specs.private.CutKey.{CutKey, key_of, no_bits, key_cmp}
+use Rattle.rato_reduce.specs.private.CutTerms.{CutPolynomial, IsEntry, AreBitEntries, cut_polynomial, with_constant, of_bits}
 use Rattle.rato_reduce.proofs.ConstantLemmas.{before_bits, bit_entries_more, bit_terms_more, kept_entries}
 use Rattle.rato_reduce.proofs.cut.Cut.add.Goals as goal
 

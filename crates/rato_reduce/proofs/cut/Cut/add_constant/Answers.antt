@@ -1,7 +1,7 @@
 use Rattle.std.proofs.Common.{[], ◌∙◌, ap}
 use Rattle.poly_mixed.specs.Monomial.{text_cmp}
 use Rattle.poly_mixed.specs.Sum.{plus_term}
-use Rattle.rato_reduce.specs.CutTerms.{CutPolynomial, of_bits}
+use Rattle.rato_reduce.specs.private.CutTerms.{CutPolynomial, of_bits}
 use Rattle.rato_reduce.proofs.ConstantLemmas.{constant_terms_more}
 use Rattle.rato_reduce.proofs.cut.Cut.add_constant.Goals as goal
 

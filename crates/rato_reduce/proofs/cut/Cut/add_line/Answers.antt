@@ -3,7 +3,7 @@ use Rattle.std.proofs.lemmas.Result.{on_ok_weaker}
 use Rattle.poly_mixed.specs.Monomial.{text_cmp}
 use Rattle.poly_mixed.specs.Product.{with_rank}
 use Rattle.poly_mixed.specs.Sum.{plus}
-use Rattle.rato_reduce.specs.CutTerms.{of_bits}
+use Rattle.rato_reduce.specs.private.CutTerms.{of_bits}
 use Rattle.rato_reduce.proofs.CutPartLemmas.{line_added}
 use Rattle.rato_reduce.proofs.cut.Cut.add_line.Goals as goal
 

@@ -1,7 +1,7 @@
 use Rattle.std.proofs.Common.{◌≡◌, drop}
 use Rattle.poly_mixed.specs.Monomial.{text_cmp}
 use Rattle.poly_mixed.specs.Sum.{plus}
-use Rattle.rato_reduce.specs.CutTerms.{products}
+use Rattle.rato_reduce.specs.private.CutTerms.{products}
 use Rattle.rato_reduce.proofs.cut.Cut.add_products.Given as goal
 
 abbrev pub invariant-loop-set : goal.invariant-loop-set

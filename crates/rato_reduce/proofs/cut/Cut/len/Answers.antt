@@ -1,6 +1,6 @@
 use Rattle.std.proofs.Common.{◌+◌, cond, length, sym, ◌∙◌, ap}
 use Rattle.std.proofs.lemmas.Bool.{eq-eqb, ne_eqb}
-use Rattle.rato_reduce.specs.CutTerms.{CutPolynomial}
+use Rattle.rato_reduce.specs.private.CutTerms.{CutPolynomial}
 use Rattle.rato_reduce.proofs.ConstantLemmas.{constant_size}
 use Rattle.rato_reduce.proofs.cut.Cut.len.Goals as goal
 

@@ -6,8 +6,8 @@ use Rattle.poly_mixed.specs.Polynomial.{Terms, IsTerm}
 use Rattle.poly_mixed.specs.Cofactor.{cofactors, lacking, LacksBit}
 use Rattle.poly_mixed.specs.Sum.{plus}
 use Rattle.poly_mixed.proofs.Cofactors.{lacking_all}
-use Rattle.rato_reduce.specs.CutKey.{CutKey, place_at}
-use Rattle.rato_reduce.specs.CutTerms.{CutPolynomial, IsBitTerm, AreEntries, with_constant, term_of, ends_up_to}
+use Rattle.rato_reduce.specs.private.CutKey.{CutKey, place_at}
+use Rattle.rato_reduce.specs.private.CutTerms.{CutPolynomial, IsBitTerm, AreEntries, with_constant, term_of, ends_up_to}
 use Rattle.rato_reduce.proofs.CutLemmas.{entry_terms}
 use Rattle.rato_reduce.proofs.ConstantLemmas.{constant_entries, constant_taken, constant_lacks}
 use Rattle.rato_reduce.proofs.CutSizeLemmas.{all_back, entries_apart}

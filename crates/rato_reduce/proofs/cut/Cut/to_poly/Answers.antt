@@ -1,7 +1,7 @@
 use Rattle.std.proofs.Common.{map, ◌∙◌, ap}
 use Rattle.poly_mixed.specs.Monomial.{text_cmp}
 use Rattle.poly_mixed.specs.Sum.{plus}
-use Rattle.rato_reduce.specs.CutTerms.{CutPolynomial, term_of}
+use Rattle.rato_reduce.specs.private.CutTerms.{CutPolynomial, term_of}
 use Rattle.rato_reduce.proofs.CutLemmas.{entry_terms}
 use Rattle.rato_reduce.proofs.ConstantLemmas.{constant_first}
 use Rattle.rato_reduce.proofs.cut.Cut.to_poly.Goals as goal

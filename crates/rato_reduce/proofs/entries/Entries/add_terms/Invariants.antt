@@ -2,7 +2,7 @@ use Rattle.std.proofs.Common.{◌≡◌, map}
 use Rattle.std.specs.List.{AllByRecursion}
 use Rattle.poly_mixed.specs.Monomial.{text_cmp}
 use Rattle.poly_mixed.specs.Sum.{plus}
-use Rattle.rato_reduce.specs.CutTerms.{term_of, IsBitTerm}
+use Rattle.rato_reduce.specs.private.CutTerms.{term_of, IsBitTerm}
 use Rattle.rato_reduce.proofs.entries.Entries.add_terms.Given as goal
 
 abbrev pub invariant-loop-key : goal.invariant-loop-key

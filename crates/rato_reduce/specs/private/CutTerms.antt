@@ -11,7 +11,7 @@ use Rattle.poly_mixed.specs.Polynomial.{Terms}
 use Rattle.poly_mixed.specs.Cofactor.{cofactors, lacking}
 use Rattle.poly_mixed.specs.Product.{union}
 use Rattle.poly_mixed.specs.Sum.{plus, with_coefficient}
-use Rattle.rato_reduce.specs.CutKey.{CutKey, key_of, no_bits, key_cmp}
+use Rattle.rato_reduce.specs.private.CutKey.{CutKey, key_of, no_bits, key_cmp}
 
 -- what a `Cut` is: a polynomial
 pub record CutPolynomial : Type 0 where

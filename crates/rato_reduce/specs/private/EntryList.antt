@@ -1,7 +1,7 @@
 -- The entries of a cut where one of them may stand beside the map. Source: this project's own.
 use Rattle.std.specs.Prelude.{ℕ, List, [], ◌∷◌, Option}
 use Rattle.std.specs.Option.{option_map_or}
-use Rattle.rato_reduce.specs.CutKey.{CutKey}
+use Rattle.rato_reduce.specs.private.CutKey.{CutKey}
 
 -- what `Entries` are: a list of keys with their coefficients
 pub record EntryList : Type 0 where

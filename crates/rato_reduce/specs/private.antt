@@ -1,0 +1,3 @@
+pub mod CutKey
+pub mod CutTerms
+pub mod EntryList
