@@ -91,9 +91,18 @@ def sequential(random):
     return case, {'sig': case.signature(), name: getattr(design, form)()}, ['sig', name], options
 
 
+# A sum of more terms takes the reference minutes.
+MOST = 300
+
+
+def bound(random, small):
+    """The option that bounds the terms: up to `small` now and then."""
+    return ['--terms', str(random.randint(1, small) if random.random() < 0.3 else MOST)]
+
+
 def certify(random):
     _, files, words, options = sequential(random)
-    return ['certify'] + words + options + (['--terms', str(random.randint(1, 12))] if random.random() < 0.3 else []), files
+    return ['certify'] + words + options + bound(random, 12), files
 
 
 def certificate(random):
@@ -101,7 +110,7 @@ def certificate(random):
     while True:
         _, files, words, options = sequential(random)
         held = {n: t.encode('latin-1') for n, t in files.items()}
-        status, text = answer(['certify'] + words + options, held)
+        status, text = answer(['certify'] + words + options + ['--terms', str(MOST)], held)
         if status == 0:
             break
     if random.random() < 0.5:
@@ -129,7 +138,7 @@ def unshared(text):
 
 def verify(random):
     files, words, options = certificate(random)
-    return ['verify'] + words + options + (['--terms', str(random.randint(1, 30))] if random.random() < 0.3 else []), files
+    return ['verify'] + words + options + bound(random, 30), files
 
 
 def upgrade(random):
