@@ -47,13 +47,13 @@ impl Certificate {
 
     /// The text in version 2 of a claim and the recorded pairs, whose variables all have names in the labels; each
     /// polynomial is reduced. A multiplier of at least two pairs stands in a `let` line directly before the first of them.
-    pub fn write(&self, claim: &Poly, labels: &Labels) -> Result<Vec<u8>, AllocError>
+    pub fn write(&self, alloc: Global, claim: &Poly, labels: &Labels) -> Result<Vec<u8>, AllocError>
         requires { (k : ℕ) × IsWritable labels.now k claim.now.terms self.now }
         ensures { IfOk result (λ v. v.items ≡ cert_text labels.now claim.now.terms self.now) }
     {
-        let mut out = Vec::from_slice(self.alloc, b"gfcert 2\n")?;
-        add_claim(self.alloc, &mut out, claim, labels)?;
-        add_pairs(self.alloc, &mut out, labels, self.entries.as_slice())?;
+        let mut out = Vec::from_slice(alloc, b"gfcert 2\n")?;
+        add_claim(alloc, &mut out, claim, labels)?;
+        add_pairs(alloc, &mut out, labels, self.entries.as_slice())?;
         Ok(out)
     }
 }

@@ -42,6 +42,6 @@ pub fn upgrade(
         Err(fault) => return Err(fault),
     };
     let certificate = recorded(alloc, &pairs)?;
-    let text = certificate.write(pairs.claim(), labels)?;
+    let text = certificate.write(alloc, pairs.claim(), labels)?;
     Ok(text)
 }

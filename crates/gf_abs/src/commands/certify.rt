@@ -71,6 +71,6 @@ fn reply<F: Field>(
         Ok(claim) => claim,
         Err(fault) => return Err(stage_stop(alloc, &labels, fault, bound)),
     };
-    let text = certificate.write(&claim, &labels)?;
+    let text = certificate.write(alloc, &claim, &labels)?;
     Ok(Output { status: 0, text })
 }
