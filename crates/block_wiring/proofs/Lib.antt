@@ -1,6 +1,7 @@
 pub mod ListLemmas
 pub mod NamesLemmas
 pub mod WordsLemmas
+pub mod KeyLemmas
 pub mod LinkedLemmas
 pub mod RowLemmas
 pub mod StepLemmas

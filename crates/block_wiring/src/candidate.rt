@@ -1,12 +1,13 @@
 //! What may feed a word.
-ghost use Rattle.std.specs.Prelude.{◌≡◌, ◌≤◌, length};
+ghost use Rattle.std.specs.Prelude.{◌≡◌, ◌≤◌, IfOk, length, string_bytes};
 ghost use Rattle.gf_basis.specs.BasisParts.{elements_of};
-ghost use Rattle.block_wiring.specs.private.Linked.{is_on, same_elements as are_same_elements};
-ghost use Rattle.block_wiring.specs.private.Names.{first_of};
+ghost use Rattle.block_wiring.specs.private.Linked.{is_on, its_key, same_elements as are_same_elements};
 
+use crate::key::key_of;
 use crate::nets::Nets;
 use block_feeds::Feeder;
 use gf_basis::Basis;
+use std::alloc::{AllocError, Global};
 use std::marker::Model;
 
 /// An input word of a top, or the output word of an instance, with the nets of the top on which it stands, and its basis. Contracts
@@ -42,11 +43,13 @@ impl<'a> Candidate<'a> {
         self.feed
     }
 
-    /// The name of its first net; the empty one where there is none.
-    pub fn first(&self) -> &'a str
-        ensures { result.now ≡ first_of self.now.nets }
+    /// The key of its nets and its basis, which has `size` elements.
+    pub fn key(&self, alloc: Global, size: u32) -> Result<String, AllocError>
+        requires { length self.now.basis ≡ size }
+        ensures { IfOk result (λ key. string_bytes key ≡ its_key self.now) }
     {
-        self.nets.first()
+        let key = key_of(alloc, &self.nets, self.basis, size)?;
+        Ok(key)
     }
 
     /// Whether it stands on these nets and has the same basis, where both bases have `size` elements.

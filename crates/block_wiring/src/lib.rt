@@ -9,6 +9,7 @@ mod candidates;
 mod connections;
 mod fault;
 mod instances;
+mod key;
 mod laws;
 mod listing;
 mod named;

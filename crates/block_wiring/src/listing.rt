@@ -3,7 +3,7 @@ ghost use Rattle.std.specs.Prelude.{◌≡◌, ◌<◌, ◌≤◌, ◌+◌, ◌^
 ghost use Rattle.gf_basis.specs.BasisParts.{elements_of};
 ghost use Rattle.net_signature.specs.Body.{BlockValue};
 ghost use Rattle.block_feeds.specs.NamedWord.{inputs_among, named_words, outputs_among, NamedWord};
-ghost use Rattle.block_wiring.specs.private.Plain.{candidates_of, output_by, output_candidates, word_candidates, ArePlaced, HaveOutputs, HaveWords, IsListed};
+ghost use Rattle.block_wiring.specs.private.Plain.{candidates_of, output_by, output_candidates, word_candidates, ArePlaced, HaveOutputs, HaveSize, HaveWords, IsListed};
 
 use crate::block_words::BlockWords;
 use crate::candidate::Candidate;
@@ -162,13 +162,15 @@ fn add_outputs<'a>(
     Ok(())
 }
 
-/// What may feed a word: the input words of the top, and the output words of instances.
+/// What may feed a word: the input words of the top, and the output words of instances. Their bases have `size` elements.
 pub(crate) fn all_candidates<'a>(
     alloc: Global,
     key: u64,
     top: &[Named<'a>],
     placed: &[Placed<'_, '_, 'a>],
+    size: u32,
 ) -> Result<Candidates<'a>, AllocError>
+    requires sized { HaveSize size (candidates_of top.now placed.now) }
     requires top { length top.now ≤ 9 }
     requires few { length placed.now < 2 ^ 32 }
     requires outputs { HaveOutputs placed.now }
@@ -177,5 +179,5 @@ pub(crate) fn all_candidates<'a>(
     let mut list = Vec::new(alloc);
     add_words(alloc, &mut list, top)?;
     add_outputs(alloc, &mut list, placed)?;
-    Candidates::new(alloc, key, list)
+    Candidates::new(alloc, key, list, size)
 }

@@ -1,6 +1,7 @@
 //! Names of nets.
-ghost use Rattle.std.specs.Prelude.{◌≡◌, ◌<◌, ◌++◌, ◌∷◌, [], IfOk, OnOk, Some, length, map, slice_get};
-ghost use Rattle.block_wiring.specs.private.Names.{first_of, same_names};
+ghost use Rattle.std.specs.Prelude.{◌≡◌, ◌<◌, ◌++◌, ◌∷◌, [], IfOk, OnOk, Some, length, map, slice_get, string_bytes};
+ghost use Rattle.block_wiring.specs.private.Keys.{spaced};
+ghost use Rattle.block_wiring.specs.private.Names.{same_names};
 
 use net_core::Name;
 use std::alloc::{AllocError, Global};
@@ -65,11 +66,12 @@ impl<'a> Nets<'a> {
         Ok(nets)
     }
 
-    /// The first name; the empty one where there is none.
-    pub fn first(&self) -> &'a str
-        ensures { result.now ≡ first_of self.now }
+    /// Adds the names to a text, a space behind each.
+    pub fn add_to(&self, text: &mut String) -> Result<(), AllocError>
+        ensures { OnOk result (string_bytes text.new ≡ string_bytes text.old ++ spaced self.now) }
     {
-        first(&self.list)
+        add_names(text, &self.list)?;
+        Ok(())
     }
 
     /// Whether these are the same names, place by place.
@@ -99,14 +101,23 @@ fn copied<'a>(alloc: Global, names: &[&'a str]) -> Result<Nets<'a>, AllocError>
     Ok(nets)
 }
 
-// The first name; the empty one where there is none.
-fn first<'a>(names: &[&'a str]) -> &'a str
-    ensures { result.now ≡ first_of (map (λ name. name.now) names.now) }
+// Adds a name and a space to a text.
+fn add_name(text: &mut String, name: &str) -> Result<(), AllocError>
+    ensures { OnOk result (string_bytes text.new ≡ string_bytes text.old ++ (name.now ++ 32 ∷ [])) }
 {
-    match names {
-        [] => "",
-        [name, ..] => name,
+    text.push_str(name)?;
+    text.push(' ')?;
+    Ok(())
+}
+
+// Adds names to a text, a space behind each.
+fn add_names(text: &mut String, names: &[&str]) -> Result<(), AllocError>
+    ensures { OnOk result (string_bytes text.new ≡ string_bytes text.old ++ spaced (map (λ name. name.now) names.now)) }
+{
+    for place in 0..names.len() {
+        add_name(text, name_at(names, place))?;
     }
+    Ok(())
 }
 
 // Whether names are the same, place by place.

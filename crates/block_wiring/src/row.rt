@@ -12,15 +12,23 @@ use block_feeds::Feeder;
 use std::alloc::{AllocError, Global};
 
 // The first that feeds a word of an instance, if anything does.
-fn feed_of(candidates: &Candidates<'_>, placed: &Placed<'_, '_, '_>, word: usize) -> Option<Feeder>
+fn feed_of(
+    alloc: Global,
+    candidates: &Candidates<'_>,
+    placed: &Placed<'_, '_, '_>,
+    word: usize,
+) -> Result<Option<Feeder>, AllocError>
     requires word { word < length placed.now.words }
     requires sized { (k : ℕ) × AreOf k placed.now.words × HaveSize k candidates.now }
-    ensures some { IfSome result (λ feed. (at : NamedWord) → slice_get placed.now.words word ≡ Some at → IsFirstFor candidates.now placed.now at feed) }
-    ensures none { IfNone result ((at : NamedWord) (feed : FeederValue) → slice_get placed.now.words word ≡ Some at → IsFoundFor candidates.now placed.now at feed → ⊥) }
+    ensures some { IfOk result (λ r. IfSome r (λ feed. (at : NamedWord) → slice_get placed.now.words word ≡ Some at → IsFirstFor candidates.now placed.now at feed)) }
+    ensures none { IfOk result (λ r. IfNone r ((at : NamedWord) (feed : FeederValue) → slice_get placed.now.words word ≡ Some at → IsFoundFor candidates.now placed.now at feed → ⊥)) }
 {
     match placed.nets(word) {
-        Some(nets) => candidates.feed_for(nets, placed.word(word)),
-        None => None,
+        Some(nets) => {
+            let feed = candidates.feed_for(alloc, nets, placed.word(word))?;
+            Ok(feed)
+        }
+        None => Ok(None),
     }
 }
 
@@ -42,6 +50,7 @@ fn is_good_output(placed: &Placed<'_, '_, '_>, word: usize) -> bool
 
 // One word more: its feed is added to the row, if it is no output word. Answers whether it is not refused.
 fn add_word(
+    alloc: Global,
     row: &mut Vec<Feeder>,
     candidates: &Candidates<'_>,
     placed: &Placed<'_, '_, '_>,
@@ -54,7 +63,8 @@ fn add_word(
     if placed.word(word).is_output() {
         return Ok(is_good_output(placed, word));
     }
-    match feed_of(candidates, placed, word) {
+    let feed = feed_of(alloc, candidates, placed, word)?;
+    match feed {
         Some(feed) => {
             row.push(feed)?;
             Ok(true)
@@ -75,7 +85,7 @@ fn row_of(
 {
     let mut row = Vec::new(alloc);
     for word in 0..placed.count() {
-        let fed = add_word(&mut row, candidates, placed, word)?;
+        let fed = add_word(alloc, &mut row, candidates, placed, word)?;
         if !fed {
             return Ok(Err(word as u32));
         }

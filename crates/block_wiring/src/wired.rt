@@ -35,7 +35,16 @@ fn output_feed(
 {
     let word = word_at(top, output_place(top));
     let nets = Nets::of(alloc, word.nets())?;
-    Ok(candidates.feed_for(&nets, word))
+    let feed = candidates.feed_for(alloc, &nets, word)?;
+    Ok(feed)
+}
+
+// How many bits the words of the top have.
+fn size_of(top: &[Named<'_>]) -> u32
+    requires { (k : ℕ) × AreOf k top.now }
+    ensures { (k : ℕ) → AreOf k top.now → result ≡ k }
+{
+    word_at(top, output_place(top)).nets().len() as u32
 }
 
 // What feeds the words of instances and the output word of the top.
@@ -50,7 +59,7 @@ fn plain_wiring<'a>(
     ensures wired { IfOk result (λ wiring. ArePlainlyWired top.now placed.now (rows_in wiring.rows.items) wiring.output) }
     ensures fault { IfErr result (IsPlainFault top.now placed.now) }
 {
-    let candidates = all_candidates(alloc, key, top, placed)?;
+    let candidates = all_candidates(alloc, key, top, placed, size_of(top))?;
     let rows = rows(alloc, &candidates, placed)?;
     let Some(output) = output_feed(alloc, &candidates, top)? else {
         return Err(WiringFault::OutputNotWords);

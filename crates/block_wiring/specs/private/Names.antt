@@ -9,11 +9,6 @@ use Rattle.net_blif.specs.Top.{actual_at}
 use Rattle.net_blif.specs.declared.item.Item.{Item}
 use Rattle.net_blif.specs.declared.item.Item.TheVariants.{Instance}
 
--- the first name, and the empty one where there is none
-abbrev pub first_of : List Token → Token
-first_of [] = []
-first_of (name ∷ names) = name
-
 -- the names are the same, place by place
 abbrev pub same_names : List Token → List Token → Bool
 same_names [] [] = true

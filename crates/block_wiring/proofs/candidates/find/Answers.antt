@@ -1,18 +1,12 @@
-use Rattle.std.proofs.Common.{◌∙◌, ◌<◌, ap, sym, subst, ℕ, length, Option, None, arith}
+use Rattle.std.proofs.Common.{◌∙◌, ◌<◌, sym, subst, ℕ, length, Option, None, arith}
 use Rattle.std.specs.Prelude.{slice_index_or}
 use Rattle.std.proofs.lemmas.Option.{slice_get-get_or, slice_get_within}
-use Rattle.net_blif.specs.Table.{numbers_in, Numbers}
 use Rattle.gf_basis.specs.BasisParts.{elements_of}
-use Rattle.block_wiring.specs.private.Linked.{first_from}
 use Rattle.block_wiring.proofs.LinkedLemmas.{left_after, search_at, search_end, search_found, search_on, IsSearch}
 use Rattle.block_wiring.proofs.candidates.find.Goals as goal
 
 pub loop-at-init : goal.loop-at-init
-loop-at-init c = record {
-  start = 0;
-  at_is = c.get-at.ensures ∙ ap (λ (f : Numbers). f c.first.result.now) c.requires.linked.firsts_are ∙ ap (first_from 0 c.args.list.now) c.first.ensures;
-  before = λ q d less got on. absurd (omega (arith, less));
-}
+loop-at-init c = record { start = 0; at_is = c.requires.first; before = λ q d less got on. absurd (omega (arith, less)) }
 
 pub candidate_at-candidate-requires : goal.candidate_at-candidate-requires
 candidate_at-candidate-requires c =
@@ -26,22 +20,22 @@ returns-then-is_on-clause-some c =
     search_found c.args.list.now c.args.nets.now (elements_of c.args.basis.now) c.in-Some.place c.candidate_at-candidate.result.now c.feed.result (subst P c.in-Some.is c.loop-at.invariant) c.candidate_at-candidate.ensures c.feed.ensures (sym c.is_on.ensures ∙ c.if-is_on.true)
 
 pub bounds-next-place : goal.bounds-next-place
-bounds-next-place c = omega (arith, c.requires.linked.lead_on.long, slice_get_within c.args.list.now c.in-Some.place c.candidate_at-candidate.result.now c.candidate_at-candidate.ensures)
+bounds-next-place c = omega (arith, c.requires.leads.long, slice_get_within c.args.list.now c.in-Some.place c.candidate_at-candidate.result.now c.candidate_at-candidate.ensures)
 
 pub loop-at-smaller : goal.loop-at-smaller
 loop-at-smaller c =
     let P : Option ℕ → Type 0 = λ o. IsSearch c.args.list.now c.args.nets.now (elements_of c.args.basis.now) o in
-    let less : c.in-Some.place < length c.args.next.now = omega (arith, c.requires.linked.lead_on.long, slice_get_within c.args.list.now c.in-Some.place c.candidate_at-candidate.result.now c.candidate_at-candidate.ensures) in
+    let less : c.in-Some.place < length c.args.next.now = omega (arith, c.requires.leads.long, slice_get_within c.args.list.now c.in-Some.place c.candidate_at-candidate.result.now c.candidate_at-candidate.ensures) in
     let at : Option ℕ = slice_index_or c.args.next.now c.in-Some.place None in
     let Q : Option ℕ → Type 0 = λ o. left_after (length c.args.list.now) at < left_after (length c.args.list.now) o in
-    subst Q (sym c.in-Some.is) ((search_on c.args.list.now c.args.nets.now (elements_of c.args.basis.now) (numbers_in c.args.firsts.now) c.args.next.now c.in-Some.place c.candidate_at-candidate.result.now at c.requires.linked (subst P c.in-Some.is c.loop-at.invariant) c.candidate_at-candidate.ensures (sym c.is_on.ensures ∙ c.if-is_on.false) (slice_get-get_or c.args.next.now c.in-Some.place None less)).1)
+    subst Q (sym c.in-Some.is) ((search_on c.args.list.now c.args.nets.now (elements_of c.args.basis.now) c.args.next.now c.in-Some.place c.candidate_at-candidate.result.now at c.requires.leads (subst P c.in-Some.is c.loop-at.invariant) c.candidate_at-candidate.ensures (sym c.is_on.ensures ∙ c.if-is_on.false) (slice_get-get_or c.args.next.now c.in-Some.place None less)).1)
 
 pub loop-at-preserved : goal.loop-at-preserved
 loop-at-preserved c =
     let P : Option ℕ → Type 0 = λ o. IsSearch c.args.list.now c.args.nets.now (elements_of c.args.basis.now) o in
-    let less : c.in-Some.place < length c.args.next.now = omega (arith, c.requires.linked.lead_on.long, slice_get_within c.args.list.now c.in-Some.place c.candidate_at-candidate.result.now c.candidate_at-candidate.ensures) in
+    let less : c.in-Some.place < length c.args.next.now = omega (arith, c.requires.leads.long, slice_get_within c.args.list.now c.in-Some.place c.candidate_at-candidate.result.now c.candidate_at-candidate.ensures) in
     let at : Option ℕ = slice_index_or c.args.next.now c.in-Some.place None in
-    (search_on c.args.list.now c.args.nets.now (elements_of c.args.basis.now) (numbers_in c.args.firsts.now) c.args.next.now c.in-Some.place c.candidate_at-candidate.result.now at c.requires.linked (subst P c.in-Some.is c.loop-at.invariant) c.candidate_at-candidate.ensures (sym c.is_on.ensures ∙ c.if-is_on.false) (slice_get-get_or c.args.next.now c.in-Some.place None less)).0
+    (search_on c.args.list.now c.args.nets.now (elements_of c.args.basis.now) c.args.next.now c.in-Some.place c.candidate_at-candidate.result.now at c.requires.leads (subst P c.in-Some.is c.loop-at.invariant) c.candidate_at-candidate.ensures (sym c.is_on.ensures ∙ c.if-is_on.false) (slice_get-get_or c.args.next.now c.in-Some.place None less)).0
 
 pub returns-clause-none : goal.returns-clause-none
 returns-clause-none c =

@@ -1,8 +1,10 @@
-use Rattle.std.proofs.Common.{◌≡◌, ◌∙◌, ap, sym, inr, true, false, Some}
-use Rattle.std.specs.Prelude.{slice_get}
+use Rattle.std.proofs.Common.{◌≡◌, ◌∙◌, ap, sym, subst, inr, true, false, Option, Some}
+use Rattle.std.specs.Prelude.{slice_get, IfNone}
 use Rattle.net_words.specs.Roles.{same_role}
 use Rattle.net_words.specs.declared.word.Role.TheVariants.{Output}
 use Rattle.block_feeds.specs.NamedWord.{NamedWord}
+use Rattle.block_feeds.specs.declared.feeder.Feeder.{Feeder}
+use Rattle.block_wiring.specs.private.Plain.{IsFoundFor}
 use Rattle.block_wiring.proofs.WordsLemmas.{other_role, output_is}
 use Rattle.block_wiring.proofs.row.add_word.Goals as goal
 
@@ -18,4 +20,6 @@ returns-in-None c = λ at got.
     let here : slice_get c.args.placed.now.words c.args.word ≡ Some c.word.result.now = c.word.ensures in
     let same : c.word.result.now ≡ at = cc in
     let role : same_role at.role Output ≡ false = ap (λ (w : NamedWord). same_role w.role Output) (sym same) ∙ sym c.is_output.ensures ∙ c.if-is_output.false in
-    inr (other_role at.role role, λ feed found. c.in-None.ensures.none at feed got found)
+    let P : Option Feeder → Type 0 = λ o. IfNone o ((w : NamedWord) (feed : Feeder) → slice_get c.args.placed.now.words c.args.word ≡ Some w → IsFoundFor c.args.candidates.now c.args.placed.now w feed → ⊥) in
+    let none = subst P c.in-None.is c.in_ok-feed.ensures.none in
+    inr (other_role at.role role, λ feed found. none at feed got found)

@@ -8,17 +8,17 @@ use Rattle.block_wiring.specs.private.Plain.{CandidateValue, IsFirstOn}
 use Rattle.block_wiring.proofs.ListLemmas.{none_then}
 use Rattle.block_wiring.proofs.row.feed_of.Goals as goal
 
-pub returns-in-Some-clause-some : goal.returns-in-Some-clause-some
-returns-in-Some-clause-some c =
-    IfSome_then c.feed_for.result c.feed_for.ensures.some (λ feed first at got.
+pub returns-in_ok-feed-in-Some-clause-some : goal.returns-in_ok-feed-in-Some-clause-some
+returns-in_ok-feed-in-Some-clause-some c =
+    IfSome_then c.in_ok-feed-in-Some.feed c.in_ok-feed-in-Some.ensures.some (λ feed first at got.
     let here : slice_get c.args.placed.now.words c.args.word ≡ Some c.word.result.now = c.word.ensures in
     let same : c.word.result.now ≡ at = cc in
     let P : NamedWord → Type 0 = λ w. IsFirstOn c.args.candidates.now c.in-Some.nets.now w.basis feed in
     record { nets = c.in-Some.nets.now; actuals = c.in-Some.ensures.some at got; first = subst P same first })
 
-pub returns-in-Some-clause-none : goal.returns-in-Some-clause-none
-returns-in-Some-clause-none c =
-    none_then c.feed_for.result c.feed_for.ensures.none (λ none at feed got found.
+pub returns-in_ok-feed-in-Some-clause-none : goal.returns-in_ok-feed-in-Some-clause-none
+returns-in_ok-feed-in-Some-clause-none c =
+    none_then c.in_ok-feed-in-Some.feed c.in_ok-feed-in-Some.ensures.none (λ none at feed got found.
     let here : slice_get c.args.placed.now.words c.args.word ≡ Some c.word.result.now = c.word.ensures in
     let same : c.word.result.now ≡ at = cc in
     let mine : actuals_by c.args.placed.now.connections at.nets ≡ Some c.in-Some.nets.now = c.in-Some.ensures.some at got in

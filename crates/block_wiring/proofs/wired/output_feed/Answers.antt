@@ -10,7 +10,7 @@ use Rattle.block_wiring.proofs.wired.output_feed.Goals as goal
 
 pub returns-clause-some : goal.returns-clause-some
 returns-clause-some c =
-    IfSome_then c.feed_for.result c.feed_for.ensures.some (λ feed first.
+    IfSome_then c.in_ok-feed.feed c.in_ok-feed.ensures.some (λ feed first.
     let at : slice_get c.args.top.now c.output_place.result ≡ Some c.output_place.ensures.0 = c.output_place.ensures.1 in
     let here : slice_get c.args.top.now c.output_place.result ≡ Some c.word_at-word.result.now = c.word_at-word.ensures in
     let same : c.output_place.ensures.0 ≡ c.word_at-word.result.now = cc in
@@ -20,7 +20,7 @@ returns-clause-some c =
 
 pub returns-clause-none : goal.returns-clause-none
 returns-clause-none c =
-    none_then c.feed_for.result c.feed_for.ensures.none (λ none feed is.
+    none_then c.in_ok-feed.feed c.in_ok-feed.ensures.none (λ none feed is.
     let at : slice_get c.args.top.now c.output_place.result ≡ Some c.output_place.ensures.0 = c.output_place.ensures.1 in
     let one : outputs_among c.args.top.now ≡ c.output_place.ensures.0 ∷ [] = c.output_place.ensures.2 in
     let here : slice_get c.args.top.now c.output_place.result ≡ Some c.word_at-word.result.now = c.word_at-word.ensures in

@@ -1,10 +1,15 @@
-use Rattle.std.proofs.Common.{sym, subst, List, Option, Global, Vec, map}
+use Rattle.std.proofs.Common.{sym, subst, ℕ, List, Option, Global, Vec, map}
 use Rattle.std.specs.Prelude.{IfNone}
 use Rattle.block_feeds.specs.declared.feeder.Feeder.{Feeder}
-use Rattle.block_wiring.specs.private.Plain.{AreAccepted, CandidateValue, HaveSize, IsOutputFeed}
+use Rattle.block_wiring.specs.private.Plain.{candidates_of, AreAccepted, CandidateValue, HaveSize, IsOutputFeed}
 use Rattle.block_wiring.proofs.PlainLemmas.{candidates_sized}
 use Rattle.block_wiring.proofs.RowLemmas.{rows_accepted}
 use Rattle.block_wiring.proofs.wired.plain_wiring.Goals as goal
+
+pub all_candidates-requires-clause-sized : goal.all_candidates-requires-clause-sized
+all_candidates-requires-clause-sized c =
+    let P : ℕ → Type 0 = λ n. HaveSize n (candidates_of c.args.top.now c.args.placed.now) in
+    subst P (sym (c.size_of.ensures c.requires.sized.0 c.requires.sized.1)) (candidates_sized c.requires.sized.0 c.args.top.now c.args.placed.now c.requires.sized.1 c.requires.sized.2)
 
 pub rows-requires-clause-sized : goal.rows-requires-clause-sized
 rows-requires-clause-sized c =
