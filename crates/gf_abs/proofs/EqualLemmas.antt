@@ -50,7 +50,7 @@ module _ (setting : SettingValue) (circuit : BoundNet) (taken : IsTaken setting 
   count =
       as_many setting.k circuit.bound.words setting.signature.words setting.bases (sound.long ∙ sym (roles_long setting.signature.words circuit.bound.words roles)) roles
 
-  labels : AreLabels (labels_of setting.k setting.signature.words)
+  pub labels : AreLabels (labels_of setting.k setting.signature.words)
   labels = are_labels setting.k setting.signature.words sound.words (setting_names taken.signature setting taken.is_setting)
 
   -- what comes of `abstract` is the output's polynomial
@@ -86,11 +86,14 @@ module _ (setting : SettingValue) (circuit : BoundNet) (taken : IsTaken setting 
       }
 
   -- equal lines are of equal polynomials
-  pub one_line : (ts us : Terms) → IsInItsWords setting whole ts → IsInItsWords setting whole us → polynomial_line setting ts ≡ polynomial_line setting us → ts ≡ us
-  one_line ts us a b same =
+  pub one_written : (ts us : Terms) → IsWritten (labels_of setting.k setting.signature.words) setting.k ts → IsWritten (labels_of setting.k setting.signature.words) setting.k us → polynomial_line setting ts ≡ polynomial_line setting us → ts ≡ us
+  one_written ts us a b same =
       let l = labels_of setting.k setting.signature.words in
       let behind = append_cancel_left (codes " = ") (text l ts ++ codes "\n") (text l us ++ codes "\n") (append_cancel_left l.output (codes " = " ++ (text l ts ++ codes "\n")) (codes " = " ++ (text l us ++ codes "\n")) same) in
-      one_text l setting.k ts us (written ts a) (written us b) (append_cancel_right (text l ts) (text l us) (codes "\n") behind)
+      one_text l setting.k ts us a b (append_cancel_right (text l ts) (text l us) (codes "\n") behind)
+
+  pub one_line : (ts us : Terms) → IsInItsWords setting whole ts → IsInItsWords setting whole us → polynomial_line setting ts ≡ polynomial_line setting us → ts ≡ us
+  one_line ts us a b same = one_written ts us (written ts a) (written us b) same
 
   -- the output has one polynomial
   pub one_polynomial : (ts us : Terms) → IsReduced setting.k ts → IsReduced setting.k us → HasOutput setting whole ts → HasOutput setting whole us → ts ≡ us

@@ -1,17 +1,11 @@
 -- What the program's answers say, out of what comes of their steps.
-use Rattle.std.proofs.Common.{◌≡◌, ◌∙◌, ap, refl, sym, subst, ℕ, ◌*◌, List, length, Some, Result, Ok, ◌↔◌}
+use Rattle.std.proofs.Common.{◌≡◌, ◌∙◌, ap, refl, sym, subst, ℕ, List, Some, Result, Ok, ◌↔◌}
 use Rattle.job_io.specs.Shelf.{Files}
 use Rattle.net_words.specs.Binding.{BoundNet}
-use Rattle.poly_mixed.specs.Polynomial.{Terms, value}
+use Rattle.poly_mixed.specs.Polynomial.{Terms}
 use Rattle.circuit_model.specs.Circuit.{Circuit}
-use Rattle.circuit_model.specs.Word.{word_nets}
-use Rattle.circuit_model.proofs.OnesLemmas.{alike_back, alike_ones}
-use Rattle.stage_model.specs.First.{InFirstRanks}
-use Rattle.spec_compare.specs.ValueAt.{at_ones}
-use Rattle.spec_compare.proofs.ComparedLemmas.{nets_long}
-use Rattle.spec_compare.proofs.SomeOnesLemmas.{as_value}
 use Rattle.job_words.specs.Operands.{Word}
-use Rattle.job_words.specs.Command.{Bits, Abstract, Job, Over}
+use Rattle.job_words.specs.Command.{Abstract, Job, Over}
 use Rattle.job_words.proofs.OneCommandLemmas.{one_job}
 use Rattle.job_input.specs.CircuitOf.{CircuitOf}
 use Rattle.job_input.specs.File.{Read}
@@ -23,14 +17,13 @@ use Rattle.job_input.proofs.NetlistDetermined.{netlist_determined}
 use Rattle.job_input.proofs.SettingDetermined.{setting_determined}
 use Rattle.job_input.proofs.SettingSoundLemmas.{setting_sound}
 use Rattle.gf_abs.specs.Answer.{JobAnswer}
-use Rattle.gf_abs.specs.Headline.{IsTaken, AreHeld, AnswersBits, AnswersAbstract, IsInItsWords, HasOutput, IsPrinted, IsPrintedInBits, AreOneFunction, PrintsHeld, PrintsHeldInBits}
+use Rattle.gf_abs.specs.Headline.{IsTaken, AreHeld, AnswersAbstract, IsInItsWords, HasOutput, IsPrinted, AreOneFunction, PrintsHeld}
 use Rattle.gf_abs.specs.Reply.{Reply, polynomial_line}
 use Rattle.gf_abs.specs.commands.Abstract.{taken_circuit}
-use Rattle.gf_abs.specs.commands.Bits.{BitsReply}
 use Rattle.gf_abs.proofs.AnswerDetermined.{read_determined}
 use Rattle.gf_abs.proofs.EqualFunctions.{equal_bytes}
-use Rattle.gf_abs.proofs.EqualLemmas.{in_bits, only_text, printed, well}
-use Rattle.gf_abs.proofs.JobLemmas.{IsOneWith, both_one, long, output_from, output_to, printed_to, with_job, words_from}
+use Rattle.gf_abs.proofs.EqualLemmas.{only_text, printed}
+use Rattle.gf_abs.proofs.JobLemmas.{IsOneWith, both_one, output_from, output_to, printed_to, with_job, words_from}
 
 -- ---- the circuit behind a job
 
@@ -100,40 +93,6 @@ job_prints files signature net bound cycles reply (signed, (text, read, is), (se
       printed = record { circuit = circuit; behind = behind; is = printed setting circuit behind.taken bound reply came };
     }
 
--- ---- what `bits` prints
-
-module _ (setting : SettingValue) (circuit : BoundNet) (job : Circuit) (behind : IsUnrolled setting circuit job) (bound : ℕ) (reply : Reply) (came : BitsReply setting circuit bound (Ok reply)) where
-  printed_bits : IsPrintedInBits setting job reply
-  printed_bits =
-      let c : Circuit = taken_circuit setting circuit in
-      let one = behind.one in
-      let ts = came.0 in
-      let is = in_bits setting circuit behind.taken bound reply came in
-      let ok = well setting circuit behind.taken in
-      let many : length (word_nets c.words) ≡ setting.k * length job.words = nets_long setting.k c.words (λ w has. (ok.words w has).nets) ∙ ap (λ n. setting.k * n) (long setting c job one) in
-      let P : ℕ → Type 0 = λ n. InFirstRanks n ts in
-      record {
-        polynomial = ts;
-        status = ap (λ (r : Reply). r.status) came.2;
-        line = ap (λ (r : Reply). r.text) came.2;
-        reduced = is.reduced;
-        bits_alone = is.bits_alone;
-        words_alone = subst P many is.words_alone;
-        values = λ xs ones are.
-            let here = alike_ones job c (alike_back c job one.alike) xs ones are in
-            (one.output xs (value setting.product (at_ones ones) ts)).0 ((as_value c ts xs (value setting.product (at_ones ones) ts) ok is).0 (record { ones = ones; are = here; value_is = refl }));
-      }
-
-job_prints_bits : (files : Files) (signature net : Word) (bound cycles : ℕ) (reply : Reply) → JobAnswer (Some files) (Over signature (Bits net bound cycles)) (Ok reply) → PrintsHeldInBits files signature net cycles reply
-job_prints_bits files signature net bound cycles reply (signed, (text, read, is), (setting, are, (circuit, (netlist, (bytes, read', taken), of), came))) =
-    let behind = unrolled text (by_ending net bytes) cycles setting netlist circuit (signed, is, are) taken of in
-    record {
-      setting = setting;
-      job = job_of setting netlist cycles;
-      held = held_job files signature net cycles setting netlist text bytes read read' (signed, is, are) taken;
-      printed = printed_bits setting circuit (job_of setting netlist cycles) behind bound reply came;
-    }
-
 -- ---- the answers
 
 module _ (files : Files) (words : List Word) (signature net : Word) (cycles : ℕ) (reply : Reply) where
@@ -148,12 +107,6 @@ module _ (files : Files) (words : List Word) (signature net : Word) (cycles : �
       let found = held_printed is in
       let p = found.printed in
       record { setting = found.setting; job = found.job; held = found.held; printed = printed_to found.setting (taken_circuit found.setting p.circuit) found.job p.behind.one reply p.is }
-
-  pub bits_print : AnswersBits files words signature net cycles reply → PrintsHeldInBits files signature net cycles reply
-  bits_print is =
-      let P : Job → Type 0 = λ job. JobAnswer (Some files) job (Ok reply) in
-      let answer = is.answer in
-      job_prints_bits files signature net is.bound cycles reply (subst P (one_job words answer.0 (Over signature (Bits net is.bound cycles)) answer.1 is.spelled) answer.2)
 
   -- what is printed is of this setting and job
   pub printed_of : (setting : SettingValue) (job : Circuit) → AnswersAbstract files words signature net cycles reply → AreHeld files signature net cycles setting job → Printed setting job reply

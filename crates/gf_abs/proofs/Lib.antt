@@ -45,6 +45,8 @@ pub mod EqualLemmas
 pub mod EqualFunctions
 pub mod JobLemmas
 pub mod HeadlineLemmas
+pub mod BitPolynomialLemmas
+pub mod BitsHeadlineLemmas
 pub mod SameHeadlineLemmas
 pub mod CheckHeadlineLemmas
 pub mod EvalHeadlineLemmas
@@ -54,6 +56,7 @@ pub mod SettingFieldLemmas
 pub mod MadeLemmas
 pub mod MakeHeadlineLemmas
 pub mod CertificateHeadlineLemmas
+pub mod LastSumLemmas
 pub mod ComposeHeadlineLemmas
 mod Examples
 pub mod TrialHeadlineLemmas

@@ -1,14 +1,23 @@
 -- What the answers of `certify`, `verify` and `upgrade` say of the job in the files. Source: Pruss, Kalla, Enescu, Word-Level
 -- Abstraction from Bit-Level Circuits Using Gröbner Bases, DAC 2014; certificates are this project's own.
-use Rattle.std.specs.Prelude.{◌≡◌, ℕ, List, ◌++◌, codes, Some, Ok}
+use Rattle.std.specs.Prelude.{◌≡◌, ◌≢◌, ℕ, List, [], ◌++◌, codes, length, Some, Ok}
+use Rattle.std.specs.Fmt.{decimal}
 use Rattle.job_io.specs.Shelf.{Files}
+use Rattle.gf_basis.specs.declared.bases.Basis.{Basis}
+use Rattle.net_words.specs.Binding.{BoundNet}
 use Rattle.poly_mixed.specs.Polynomial.{Terms}
 use Rattle.circuit_model.specs.Circuit.{Circuit}
+use Rattle.cert_check.specs.Certificate.{Certificate, CertificateBy}
+use Rattle.cert_check.specs.Verdict.{AsksAtMost, IsRunningSum}
 use Rattle.job_words.specs.Command.{Certify, Upgrade, Verify, Over, IsSpelled}
 use Rattle.job_words.specs.Operands.{Word}
+use Rattle.job_input.specs.CircuitOf.{CircuitOfText}
 use Rattle.job_input.specs.File.{Read}
+use Rattle.job_input.specs.NetlistOf.{by_ending}
+use Rattle.job_input.specs.SettingOf.{SettingOf}
 use Rattle.job_input.specs.SettingValue.{SettingValue}
 use Rattle.gf_abs.specs.Answer.{Answer}
+use Rattle.gf_abs.specs.Certificates.{HaveDuals, certificate_labels}
 use Rattle.gf_abs.specs.Headline.{HasOutput, IsInItsWords}
 use Rattle.gf_abs.specs.Reply.{Reply, polynomial_line}
 
@@ -50,3 +59,45 @@ pub record IsAccepted (files : Files) (words : List Word) : Type 0 where
   pub reply : Reply
   pub answer : Answer words (Some files) (Ok reply)
   pub status : reply.status ≡ 0
+
+-- to the words over the held files the program answers `invalid`
+pub record IsRejected (files : Files) (words : List Word) : Type 0 where
+  pub reply : Reply
+  pub answer : Answer words (Some files) (Ok reply)
+  pub status : reply.status ≡ 1
+
+-- the reply that so many terms are left of the last running sum
+abbrev pub terms_left : Terms → Reply
+terms_left sum = record { status = 1; text = codes "invalid\nremaining " ++ (decimal (length sum) ++ codes " terms\n") }
+
+-- the held files of these names give the setting, the circuit of so many cycles after the first, and the text of a certificate
+pub record HoldCertificate (files : Files) (signature net certificate : Word) (cycles : ℕ) (setting : SettingValue) (circuit : BoundNet) (text : List ℕ) : Type 0 where
+  pub bytes : List ℕ
+  pub signature_read : Read (Some files) signature (Ok bytes)
+  pub is_setting : SettingOf bytes (Ok setting)
+  pub netlist : List ℕ
+  pub net_read : Read (Some files) net (Ok netlist)
+  pub is_circuit : CircuitOfText setting.signature (by_ending net netlist) cycles (Ok circuit)
+  pub certificate_read : Read (Some files) certificate (Ok text)
+
+-- the text is read whole as a certificate, where no running sum has more than `bound` terms, and the last one is this polynomial
+pub record HasLastSum (setting : SettingValue) (circuit : BoundNet) (bound : ℕ) (text : List ℕ) (sum : Terms) : Type 0 where
+  pub bases : List Basis
+  pub duals : HaveDuals setting circuit bases
+  pub said : Certificate
+  pub read : CertificateBy setting.k circuit.net (certificate_labels setting circuit) (AsksAtMost setting.k setting.product circuit bases bound) text (Ok said)
+  pub last : IsRunningSum setting.k setting.product circuit bases said sum
+
+-- the certificate in the held files has this last running sum
+pub record HoldLastSum (files : Files) (signature net certificate : Word) (bound cycles : ℕ) (sum : Terms) : Type 0 where
+  pub setting : SettingValue
+  pub circuit : BoundNet
+  pub text : List ℕ
+  pub held : HoldCertificate files signature net certificate cycles setting circuit text
+  pub is : HasLastSum setting circuit bound text sum
+
+-- it has a last running sum with terms
+pub record HoldTermsLeft (files : Files) (signature net certificate : Word) (bound cycles : ℕ) : Type 0 where
+  pub sum : Terms
+  pub is : HoldLastSum files signature net certificate bound cycles sum
+  pub some : sum ≢ []

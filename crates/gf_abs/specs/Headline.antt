@@ -70,6 +70,12 @@ pub record IsInItsWords (setting : SettingValue) (job : Circuit) (ts : Terms) : 
   pub reduced : IsReduced setting.k ts
   pub words : StandsInWords (length job.words) ts
 
+-- a reduced polynomial in the bits of the job's input, state and fed words alone
+pub record IsInItsBits (setting : SettingValue) (job : Circuit) (ts : Terms) : Type 0 where
+  pub reduced : IsReduced setting.k ts
+  pub bits_alone : InBits ts
+  pub words_alone : InFirstRanks (setting.k * length job.words) ts
+
 -- at each point the value is the output word's element at the point's elements
 abbrev pub HasOutput : SettingValue → Circuit → Terms → Type 0
 HasOutput setting job ts = (p : Point) → IsPoint setting.k p → IsOut job (input_of job p) (value setting.product p ts)
@@ -91,9 +97,7 @@ pub record IsPrintedInBits (setting : SettingValue) (job : Circuit) (reply : Rep
   pub polynomial : Terms
   pub status : reply.status ≡ 0
   pub line : reply.text ≡ polynomial_line setting polynomial
-  pub reduced : IsReduced setting.k polynomial
-  pub bits_alone : InBits polynomial
-  pub words_alone : InFirstRanks (setting.k * length job.words) polynomial
+  pub in_bits : IsInItsBits setting job polynomial
   pub values : HasOutputInBits setting job polynomial
 
 -- the held files give a setting and a job whose output the reply prints in words

@@ -1,6 +1,6 @@
 //! What the program's answers say, for all words and held files. These functions do nothing: their contracts are proved of
 //! the definitions alone. `run` says that what it wrote is the answer.
-ghost use Rattle.std.specs.Prelude.{◌≡◌, ◌⊎◌, ◌↔◌, ◌≤◌, ◌*◌, codes, length, ℕ, List, Option, Some, Ok, Err};
+ghost use Rattle.std.specs.Prelude.{◌≡◌, ◌≢◌, ◌⊎◌, ◌↔◌, ◌≤◌, ◌*◌, [], codes, length, ℕ, List, Option, Some, Ok, Err};
 ghost use Rattle.text_core.specs.Outcome.{Determined};
 ghost use Rattle.job_io.specs.Shelf.{Files};
 ghost use Rattle.net_words.specs.Binding.{BoundNet};
@@ -19,11 +19,11 @@ ghost use Rattle.job_words.specs.declared.kind.Kind.{Kind};
 ghost use Rattle.job_input.specs.SettingValue.{SettingValue};
 ghost use Rattle.spec_expand.specs.Specification.{SpecTerms};
 ghost use Rattle.gf_abs.specs.Answer.{Answer};
-ghost use Rattle.gf_abs.specs.CertificateHeadline.{AnswersCertify, AnswersUpgrade, AnswersVerify, HoldOneJob, IsAccepted, PrintsProof};
+ghost use Rattle.gf_abs.specs.CertificateHeadline.{AnswersCertify, AnswersUpgrade, AnswersVerify, HoldLastSum, HoldOneJob, HoldTermsLeft, IsAccepted, IsRejected, PrintsProof, terms_left};
 ghost use Rattle.gf_abs.specs.CheckHeadline.{AnswersCheck, AreHeldWith, Computes, PrintsAcceptance, PrintsRejection};
 ghost use Rattle.gf_abs.specs.ComposeHeadline.{AnswersCompose};
 ghost use Rattle.gf_abs.specs.EvalHeadline.{AnswersEval, PrintsElement};
-ghost use Rattle.gf_abs.specs.Headline.{IsTaken, AreHeld, AnswersBits, AnswersAbstract, AnswersSame, PrintsHeld, PrintsHeldInBits, PrintsDifference, IsInItsWords, HasOutput, AreOneFunction};
+ghost use Rattle.gf_abs.specs.Headline.{IsTaken, AreHeld, AnswersBits, AnswersAbstract, AnswersSame, PrintsHeld, PrintsHeldInBits, PrintsDifference, IsInItsBits, IsInItsWords, HasOutput, HasOutputInBits, AreOneFunction};
 ghost use Rattle.gf_abs.specs.IsoHeadline.{AnswersIso, PrintsImages};
 ghost use Rattle.gf_abs.specs.MakeHeadline.{AnswersMake, HoldKind, HoldMade};
 ghost use Rattle.gf_abs.specs.Reply.{Reply, polynomial_line};
@@ -60,6 +60,18 @@ pub fn abstract_prints_the_output()
 /// wherever these are the bits of an input it has the output's value there.
 pub fn bits_print_the_output()
     ensures { (files : Files) (words : List Word) (signature net : Word) (cycles : ℕ) (reply : Reply) → AnswersBits files words signature net cycles reply → PrintsHeldInBits files signature net cycles reply }
+{}
+
+/// The bytes that `bits` prints are the line of no other polynomial: of the reduced polynomials in the bits of the job's words
+/// alone, they are that of exactly those that have the output's value at all bits of each input.
+pub fn bits_are_the_only_line()
+    ensures { (files : Files) (words : List Word) (signature net : Word) (cycles : ℕ) (reply : Reply) (setting : SettingValue) (job : Circuit) (ts : Terms) → AnswersBits files words signature net cycles reply → AreHeld files signature net cycles setting job → IsInItsBits setting job ts → reply.text ≡ polynomial_line setting ts ↔ HasOutputInBits setting job ts }
+{}
+
+/// Two runs of `bits` over one signature and two netlists, whatever the bounds on terms and the cycles of each, print equal bytes
+/// exactly if the outputs are equal at every input.
+pub fn equal_bits_exactly_if_equal_functions()
+    ensures { (files files' : Files) (words words' : List Word) (signature signature' net net' : Word) (cycles cycles' : ℕ) (reply reply' : Reply) (setting : SettingValue) (job other : Circuit) → AnswersBits files words signature net cycles reply → AnswersBits files' words' signature' net' cycles' reply' → AreHeld files signature net cycles setting job → AreHeld files' signature' net' cycles' setting other → reply.text ≡ reply'.text ↔ AreOneFunction job other }
 {}
 
 /// The printed bytes are the text of no other polynomial: of the reduced polynomials in the job's words alone, it is
@@ -145,6 +157,15 @@ pub fn iso_prints_the_images()
 /// elements. So it is, whatever the text of the certificate.
 pub fn verify_proves_the_output()
     ensures { (files : Files) (words : List Word) (signature net certificate : Word) (cycles : ℕ) (reply : Reply) (setting : SettingValue) (job : Circuit) → AnswersVerify files words signature net certificate cycles reply → AreHeld files signature net cycles setting job → reply.status ≡ 0 → PrintsProof setting job reply }
+{}
+
+/// `verify` answers with status 0 exactly if the certificate in the held files is read whole, no running sum of it has more terms
+/// than the bound of the words, and the last one is empty; and with status 1 exactly if all this is so but that the last one has
+/// terms: then it prints how many.
+pub fn verify_answers_by_the_last_sum()
+    ensures valid { (files : Files) (words : List Word) (signature net certificate : Word) (bound cycles : ℕ) → IsSpelled words (Over signature (Verify net certificate bound cycles)) → IsAccepted files words ↔ HoldLastSum files signature net certificate bound cycles [] }
+    ensures invalid { (files : Files) (words : List Word) (signature net certificate : Word) (bound cycles : ℕ) → IsSpelled words (Over signature (Verify net certificate bound cycles)) → IsRejected files words ↔ HoldTermsLeft files signature net certificate bound cycles }
+    ensures text { (files : Files) (words : List Word) (signature net certificate : Word) (bound cycles : ℕ) (sum : Terms) → IsSpelled words (Over signature (Verify net certificate bound cycles)) → HoldLastSum files signature net certificate bound cycles sum → sum ≢ [] → Answer words (Some files) (Ok (terms_left sum)) }
 {}
 
 /// What `certify` prints under a bound on the terms of stages is accepted by `verify`, over the same signature and netlist, under each

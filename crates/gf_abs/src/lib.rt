@@ -21,14 +21,15 @@ mod values;
 mod words;
 
 pub use headline::{
-    abstract_prints_the_output, bits_print_the_output, bytes_are_the_only_text,
-    check_accepts_exactly_if_equal, check_prints_the_differing_input, check_prints_the_output,
-    compose_prints_the_output, each_fault_is_one_line, each_taken_circuit_is_well_formed,
+    abstract_prints_the_output, bits_are_the_only_line, bits_print_the_output,
+    bytes_are_the_only_text, check_accepts_exactly_if_equal, check_prints_the_differing_input,
+    check_prints_the_output, compose_prints_the_output, each_fault_is_one_line,
+    each_taken_circuit_is_well_formed, equal_bits_exactly_if_equal_functions,
     equal_bytes_exactly_if_equal_functions, eval_prints_the_output, iso_prints_the_images,
     lift_prints_the_polynomial, one_answer_or_fault, same_exactly_if_equal_functions,
     same_prints_the_differing_input, table_prints_the_outputs,
     tables_are_lifted_to_what_abstract_prints, trial_prints_the_differing_input,
-    upgrade_keeps_the_reply, verify_proves_the_output, what_certify_prints_is_accepted,
-    what_make_prints_computes, written_tables_are_read_back,
+    upgrade_keeps_the_reply, verify_answers_by_the_last_sum, verify_proves_the_output,
+    what_certify_prints_is_accepted, what_make_prints_computes, written_tables_are_read_back,
 };
 pub use top::{run, run_surely};

@@ -1,4 +1,4 @@
-use Rattle.gf_abs.proofs.HeadlineLemmas.{bits_print}
+use Rattle.gf_abs.proofs.BitsHeadlineLemmas.{bits_print}
 use Rattle.gf_abs.proofs.headline.bits_print_the_output.Goals as goal
 
 pub returns : goal.returns
