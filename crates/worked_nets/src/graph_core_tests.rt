@@ -3,7 +3,6 @@ ghost use Rattle.std.specs.Prelude.{◌<◌, All, IsTrue};
 
 use graph_core::{CycleFault, Graph, arrange};
 use std::alloc::{AllocError, Global};
-use std::test::Fail;
 
 // Whether the points are below the count.
 fn are_below(points: &[u32], count: usize) -> bool
@@ -29,90 +28,79 @@ fn graph_of(alloc: Global, points: u32, edges: &[(u32, &[u32])]) -> Result<Graph
     Ok(graph)
 }
 
-// The order or the cycle, of roots that are points.
-fn answer(alloc: Global, graph: &Graph, roots: &[u32]) -> Result<Vec<u32>, CycleFault> {
-    if are_below(roots, graph.points()) {
-        arrange(alloc, graph, roots)
-    } else {
-        Ok(Vec::new(alloc))
+// Whether the order, or the cycle, has these points.
+fn is_answer(answer: &Result<Vec<u32>, CycleFault>, is_cycle: bool, wanted: &[u32]) -> bool {
+    match answer {
+        Ok(order) => !is_cycle && order.as_slice() == wanted,
+        Err(CycleFault::Cycle { points }) => is_cycle && points.as_slice() == wanted,
+        Err(CycleFault::OutOfMemory) => false,
     }
 }
 
-// The cycle that a walk from these roots finds; no points where there is none.
-fn cycle(alloc: Global, graph: &Graph, roots: &[u32]) -> Result<Vec<u32>, CycleFault> {
-    match answer(alloc, graph, roots) {
-        Ok(_) => Ok(Vec::new(alloc)),
-        Err(CycleFault::Cycle { points }) => Ok(points),
-        Err(CycleFault::OutOfMemory) => Err(CycleFault::OutOfMemory),
+// Whether a walk over the graph of these points and edges gives this order or cycle.
+fn walks(
+    alloc: Global,
+    points: u32,
+    edges: &[(u32, &[u32])],
+    roots: &[u32],
+    is_cycle: bool,
+    wanted: &[u32],
+) -> Result<bool, AllocError> {
+    let graph = graph_of(alloc, points, edges)?;
+    if !are_below(roots, graph.points()) {
+        return Ok(false);
     }
+    Ok(is_answer(&arrange(alloc, &graph, roots), is_cycle, wanted))
 }
 
-#[test]
-fn orders(rt: HostRuntime) -> Result<(), Fail> {
-    let alloc = rt.alloc();
-    let graph = graph_of(
-        alloc,
-        5,
-        &[(0, &[1, 2]), (1, &[3]), (2, &[3, 1]), (4, &[4])],
-    )?;
-    assert_eq!(rt; graph.points(), 5);
-    assert_eq!(rt;
-        answer(alloc, &graph, &[0])?.as_slice(),
-        [3, 1, 2, 0].as_slice()
-    );
-    assert_eq!(rt;
-        answer(alloc, &graph, &[2, 2, 0])?.as_slice(),
-        [3, 1, 2, 0].as_slice()
-    );
-    assert_eq!(rt; answer(alloc, &graph, &[])?.as_slice(), [].as_slice());
-    if graph.points() > 0 {
-        assert_eq!(rt; graph.edges(0), [1, 2].as_slice());
-    }
-    Ok(())
-}
+const ORDERED: &[(u32, &[u32])] = &[(0, &[1, 2]), (1, &[3]), (2, &[3, 1]), (4, &[4])];
 
-#[test]
-fn cycle_of_one_point(rt: HostRuntime) -> Result<(), Fail> {
-    let alloc = rt.alloc();
-    let one = graph_of(alloc, 2, &[(0, &[1]), (1, &[1])])?;
-    assert_eq!(rt; cycle(alloc, &one, &[0])?.as_slice(), [1].as_slice());
-    Ok(())
-}
+const ONE: &[(u32, &[u32])] = &[(0, &[1]), (1, &[1])];
 
-// It is found from another point, which leads to a point in no cycle first.
-#[test]
-fn cycle_of_two_points(rt: HostRuntime) -> Result<(), Fail> {
-    let alloc = rt.alloc();
-    let two = graph_of(alloc, 4, &[(0, &[3, 1]), (1, &[2]), (2, &[3, 1])])?;
-    assert_eq!(rt; cycle(alloc, &two, &[3, 0])?.as_slice(), [1, 2].as_slice());
-    assert_eq!(rt; cycle(alloc, &two, &[2])?.as_slice(), [2, 1].as_slice());
-    assert_eq!(rt; cycle(alloc, &two, &[3])?.as_slice(), [].as_slice());
-    Ok(())
-}
+// The cycle is found from another point, which leads to a point in no cycle first.
+const TWO: &[(u32, &[u32])] = &[(0, &[3, 1]), (1, &[2]), (2, &[3, 1])];
 
 // A second cycle is not named.
+const FIVE: &[(u32, &[u32])] = &[
+    (6, &[5, 3]),
+    (0, &[1]),
+    (1, &[5, 2, 0]),
+    (2, &[3]),
+    (3, &[5, 4]),
+    (4, &[0]),
+];
+
+// The points and edges of a graph, the roots, whether there is a cycle, and the order or the cycle.
+static WALKS: [(u32, &[(u32, &[u32])], &[u32], bool, &[u32]); 9] = [
+    (5, ORDERED, &[0], false, &[3, 1, 2, 0]),
+    (5, ORDERED, &[2, 2, 0], false, &[3, 1, 2, 0]),
+    (5, ORDERED, &[], false, &[]),
+    (2, ONE, &[0], true, &[1]),
+    (4, TWO, &[3, 0], true, &[1, 2]),
+    (4, TWO, &[2], true, &[2, 1]),
+    (4, TWO, &[3], false, &[3]),
+    (7, FIVE, &[5, 6], true, &[3, 4, 0, 1, 2]),
+    (7, FIVE, &[1], true, &[1, 2, 3, 4, 0]),
+];
+
 #[test]
-fn cycle_of_five_points(rt: HostRuntime) -> Result<(), Fail> {
-    let alloc = rt.alloc();
-    let five = graph_of(
-        alloc,
-        7,
-        &[
-            (6, &[5, 3]),
-            (0, &[1]),
-            (1, &[5, 2, 0]),
-            (2, &[3]),
-            (3, &[5, 4]),
-            (4, &[0]),
-        ],
-    )?;
-    assert_eq!(rt;
-        cycle(alloc, &five, &[5, 6])?.as_slice(),
-        [3, 4, 0, 1, 2].as_slice()
-    );
-    assert_eq!(rt;
-        cycle(alloc, &five, &[1])?.as_slice(),
-        [1, 2, 3, 4, 0].as_slice()
-    );
-    Ok(())
+fn orders_and_cycles(rt: HostRuntime) {
+    for (points, edges, roots, is_cycle, wanted) in &WALKS {
+        let found = walks(rt.alloc(), *points, edges, roots, *is_cycle, wanted);
+        assert!(rt; found == Ok(true), "at {points} points from {roots:?}");
+    }
+}
+
+// Whether a graph has its points and edges.
+fn has_edges(alloc: Global) -> Result<bool, AllocError> {
+    let graph = graph_of(alloc, 5, ORDERED)?;
+    if graph.points() != 5 {
+        return Ok(false);
+    }
+    Ok(graph.edges(0) == [1, 2].as_slice())
+}
+
+#[test]
+fn edges_of_a_graph(rt: HostRuntime) {
+    assert!(rt; has_edges(rt.alloc()) == Ok(true));
 }

@@ -7,4 +7,6 @@ mod graph_core_tests;
 #[cfg(test)]
 mod net_core_tests;
 #[cfg(test)]
+mod net_fault_tests;
+#[cfg(test)]
 mod text_core_tests;

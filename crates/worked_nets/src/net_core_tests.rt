@@ -1,15 +1,13 @@
 //! Nets, the lists that loops are named by, orders and values, worked by hand.
-ghost use Rattle.std.specs.Prelude.{◌≡◌, IfOk, OnOk, length};
+ghost use Rattle.std.specs.Prelude.{◌≡◌, IfOk, length};
 ghost use Rattle.net_core.specs.NetList.{nets};
 
 use net_core::{Latch, Name, Names, Net, NetFault, NetMaker, Numbers, Start, eval, order};
 use std::alloc::{AllocError, Global};
-use std::test::Fail;
+use std::process::Abort;
 
-const MAX: u32 = 1 << 20;
-
-// A maker with nets that have these labels, numbered from 0.
-fn with_labels(alloc: Global, labels: &[&str]) -> Result<NetMaker, NetFault>
+/// A maker with nets that have these labels, numbered from 0.
+pub(crate) fn with_labels(alloc: Global, labels: &[&str]) -> Result<NetMaker, NetFault>
     ensures { IfOk result (λ maker. nets maker ≡ length labels.now) }
 {
     let mut maker = NetMaker::new(alloc);
@@ -17,23 +15,6 @@ fn with_labels(alloc: Global, labels: &[&str]) -> Result<NetMaker, NetFault>
         maker.fresh(label)?;
     }
     Ok(maker)
-}
-
-// What the fault says: its kind, its label and its nets.
-fn shown(alloc: Global, outcome: Result<Net, NetFault>) -> Result<String, AllocError> {
-    match outcome {
-        Ok(net) => format!(in alloc; "{} nets", net.nets()),
-        Err(NetFault::DrivenTwice { net, label }) => {
-            format!(in alloc; "{net} {} twice", label.as_str())
-        }
-        Err(NetFault::Undriven { net, label }) => {
-            format!(in alloc; "{net} {} undriven", label.as_str())
-        }
-        Err(NetFault::Loop { nets, label }) => {
-            format!(in alloc; "{:?} through {}", nets.as_slice(), label.as_str())
-        }
-        Err(fault) => format!(in alloc; "{fault}"),
-    }
 }
 
 // The values of all nets, where the net has no latches and the inputs are as many as the values.
@@ -50,35 +31,39 @@ fn values(alloc: Global, net: &Net, bits: &[bool]) -> Result<Vec<bool>, AllocErr
     }
 }
 
-#[test]
-fn cycle_of_two_found_from_its_second_net(rt: HostRuntime) -> Result<(), Fail> {
-    let alloc = rt.alloc();
-    let mut maker = with_labels(alloc, &["x", "y"])?;
-    maker.gate(1, &[0], 2)?;
-    maker.gate(0, &[1], 2)?;
-    assert_eq!(rt; shown(alloc, maker.finish())?.as_str(), "[1, 0] through y");
-    Ok(())
+fn latched(alloc: Global) -> Result<Net, NetFault> {
+    let mut maker = with_labels(alloc, &["a", "l"])?;
+    add_latch(&mut maker)?;
+    maker.finish()
 }
 
-// A latch drives its output and not its next.
-#[test]
-fn latches(rt: HostRuntime) -> Result<(), Fail> {
-    let mut maker = with_labels(rt.alloc(), &["a", "l"])?;
+fn add_latch(maker: &mut NetMaker) -> Result<(), NetFault>
+    requires { nets maker.old ≡ 2 }
+{
     maker.input(0)?;
     maker.latch(0, 1, Start::One)?;
     maker.output(1)?;
-    let net = maker.finish()?;
-    assert_eq!(rt; net.outputs(), [1].as_slice());
-    assert_eq!(rt; net.latches().len(), 1);
+    Ok(())
+}
+
+// Whether the net has the latch alone, and its output.
+fn has_latch(net: &Net) -> bool {
     let started = Latch {
         next: 0,
         out: 1,
         start: Start::One,
     };
-    for latch in net.latches() {
-        assert!(rt; *latch == started);
+    match net.latches() {
+        [latch] => *latch == started && net.outputs() == [1].as_slice(),
+        _ => false,
     }
-    Ok(())
+}
+
+// A latch drives its output and not its next.
+#[test]
+fn latches(rt: HostRuntime) {
+    let net = latched(rt.alloc()).ok().expect(&rt, "a net");
+    assert!(rt; has_latch(&net));
 }
 
 // Gates 0 and 3 have level 3, gate 1 has level 1 and no inputs, gate 2 has level 2.
@@ -86,48 +71,57 @@ fn levelled(alloc: Global) -> Result<Net, NetFault> {
     let mut maker = with_labels(alloc, &["a", "b", "one", "xor", "and", "same"])?;
     maker.input(1)?;
     maker.input(0)?;
-    maker.gate(4, &[0, 3], 4)?;
-    maker.gate(2, &[], 1)?;
-    maker.gate(3, &[1, 2], 6)?;
-    maker.gate(5, &[3, 3], 8)?;
+    add_gates(&mut maker)?;
     maker.finish()
 }
 
-#[test]
-fn order_and_values(rt: HostRuntime) -> Result<(), Fail> {
-    let alloc = rt.alloc();
-    let net = levelled(alloc)?;
-    assert_eq!(rt; order(alloc, &net)?.as_slice(), [1, 2, 0, 3].as_slice());
-    for (bits, wanted) in [
-        // b is 0 and a is 1: xor is 1, and the first gate has bit 1 + 2 * 1 of 4
-        (
-            [false, true].as_slice(),
-            [true, false, true, true, false, true].as_slice(),
-        ),
-        // b is 1 and a is 0: xor is 0
-        (&[true, false], &[false, true, true, false, false, false]),
-    ] {
-        let found = values(alloc, &net, bits)?;
-        assert_eq!(rt; found.as_slice(), wanted, "at {bits:?}");
-    }
-    Ok(())
+fn add_gates(maker: &mut NetMaker) -> Result<(), NetFault>
+    requires { nets maker.old ≡ 6 }
+{
+    maker.gate(4, &[0, 3], 4)?;
+    maker.gate(2, &[], 1)?;
+    maker.gate(3, &[1, 2], 6)?;
+    maker.gate(5, &[3, 3], 8)
 }
 
+fn sure_levelled(rt: &impl Abort, alloc: Global) -> Net {
+    levelled(alloc).ok().expect(rt, "a net")
+}
+
+fn has_order(rt: &impl Abort, alloc: Global, wanted: &[u32]) -> bool {
+    let net = sure_levelled(rt, alloc);
+    let found = order(alloc, &net).ok().expect(rt, "memory");
+    found.as_slice() == wanted
+}
+
+fn has_values(rt: &impl Abort, alloc: Global, net: &Net, bits: &[bool], wanted: &[bool]) -> bool {
+    let found = values(alloc, net, bits).ok().expect(rt, "memory");
+    found.as_slice() == wanted
+}
+
+static VALUES: [(&[bool], &[bool]); 2] = [
+    // b is 0 and a is 1: xor is 1, and the first gate has bit 1 + 2 * 1 of 4
+    (&[false, true], &[true, false, true, true, false, true]),
+    // b is 1 and a is 0: xor is 0
+    (&[true, false], &[false, true, true, false, false, false]),
+];
+
 #[test]
-fn a_gate_whose_table_is_turned(rt: HostRuntime) -> Result<(), Fail> {
+fn order_and_values(rt: HostRuntime) {
     let alloc = rt.alloc();
-    let mut net = levelled(alloc)?;
-    if let Some(gate) = net.gates().first() {
-        assert_eq!(rt; (gate.out(), gate.table()), (4, 4));
-        assert_eq!(rt; gate.inputs(), [0, 3].as_slice());
+    assert!(rt; has_order(&rt, alloc, &[1, 2, 0, 3]));
+    for (bits, wanted) in &VALUES {
+        let net = sure_levelled(&rt, alloc);
+        assert!(rt; has_values(&rt, alloc, &net, bits, wanted), "at {bits:?}");
     }
-    turn_first(&mut net);
-    let bits = values(alloc, &net, &[true, false])?;
-    assert_eq!(rt;
-        bits.as_slice(),
-        [false, true, true, false, true, false].as_slice()
-    );
-    Ok(())
+}
+
+// Whether the first gate is the one that was added first.
+fn has_first(net: &Net) -> bool {
+    match net.gates() {
+        [gate, ..] => { gate.out() == 4 && gate.table() == 4 && gate.inputs() == [0, 3].as_slice() }
+        [] => false,
+    }
 }
 
 // Turns over bit 0 of the first gate's table.
@@ -137,93 +131,74 @@ fn turn_first(net: &mut Net) {
     }
 }
 
-#[test]
-fn numbers_of_nets(rt: HostRuntime) -> Result<(), Fail> {
-    let alloc = rt.alloc();
-    let mut maker = NetMaker::new(alloc);
-    let numbers = [
-        maker.net("a")?,
-        maker.fresh("b")?,
-        maker.net("b")?,
-        maker.net("a")?,
-        maker.fresh("a")?,
-    ];
-    assert_eq!(rt; numbers.as_slice(), [0, 1, 2, 0, 3].as_slice());
-    assert_eq!(rt; shown(alloc, maker.finish())?.as_str(), "0 a undriven");
-    Ok(())
+// Whether the values are these once it is turned.
+fn has_turned_values(rt: &impl Abort, alloc: Global, bits: &[bool], wanted: &[bool]) -> bool {
+    let mut net = sure_levelled(rt, alloc);
+    turn_first(&mut net);
+    has_values(rt, alloc, &net, bits, wanted)
 }
 
 #[test]
-fn names(rt: HostRuntime) -> Result<(), Fail> {
+fn a_gate_whose_table_is_turned(rt: HostRuntime) {
     let alloc = rt.alloc();
-    let name = Name::new(alloc, "a name")?;
-    assert_eq!(rt; name.as_str(), "a name");
+    assert!(rt; has_first(&sure_levelled(&rt, alloc)));
+    let wanted = [false, true, true, false, true, false];
+    assert!(rt; has_turned_values(&rt, alloc, &[true, false], &wanted));
+}
+
+fn keeps_name(alloc: Global, text: &str) -> Result<bool, AllocError> {
+    Ok(Name::new(alloc, text)?.as_str() == text)
+}
+
+fn keeps_names(alloc: Global) -> Result<bool, AllocError> {
     let mut list = Vec::new(alloc);
-    list.push(name)?;
-    let names = Names::new(list);
-    assert_eq!(rt; names.as_slice().len(), 1);
+    list.push(Name::new(alloc, "a name")?)?;
+    Ok(Names::new(list).as_slice().len() == 1)
+}
+
+fn keeps_numbers(alloc: Global) -> Result<bool, AllocError> {
     let numbers = Numbers::new([3u64, 5].to_vec(alloc)?);
-    assert_eq!(rt; numbers.as_slice(), [3, 5].as_slice());
-    Ok(())
+    Ok(numbers.as_slice() == [3, 5].as_slice())
+}
+
+#[test]
+fn names(rt: HostRuntime) {
+    assert!(rt; keeps_name(rt.alloc(), "a name") == Ok(true));
+    assert!(rt; keeps_names(rt.alloc()) == Ok(true));
+    assert!(rt; keeps_numbers(rt.alloc()) == Ok(true));
 }
 
 // A net in which a net is named `a` and another has the label `b`.
 fn named(alloc: Global) -> Result<Net, NetFault> {
     let mut maker = NetMaker::new(alloc);
+    add_named(&mut maker)?;
+    maker.finish()
+}
+
+fn add_named(maker: &mut NetMaker) -> Result<(), NetFault> {
     let a = maker.net("a")?;
     let b = maker.fresh("b")?;
     let c = maker.net("c")?;
     maker.input(c)?;
     maker.input(b)?;
     maker.input(a)?;
-    maker.finish()
+    Ok(())
+}
+
+fn finds_names(net: &Net) -> bool {
+    net.find("a") == Some(0)
+        && net.find("b").is_none()
+        && net.find("c") == Some(2)
+        && net.find("").is_none()
+        && has_label(net)
+}
+
+fn has_label(net: &Net) -> bool {
+    net.nets() > 1 && net.label(1) == "b"
 }
 
 #[test]
-fn finds_named_nets_alone(rt: HostRuntime) -> Result<(), Fail> {
-    let net = named(rt.alloc())?;
-    assert_eq!(rt; net.find("a"), Some(0));
-    assert_eq!(rt; net.find("b"), None);
-    assert_eq!(rt; net.find("c"), Some(2));
-    assert_eq!(rt; net.find(""), None);
-    if net.nets() > 1 {
-        assert_eq!(rt; net.label(1), "b");
-    }
-    Ok(())
-}
-
-// Adds as many gates from net 0 to net 1 as a net list may have.
-fn fill(maker: &mut NetMaker) -> Result<(), NetFault>
-    requires { nets maker.old ≡ 2 }
-    ensures { OnOk result (nets maker.new ≡ 2) }
-{
-    for _ in 0..MAX {
-        maker.gate(1, &[0], 2)?;
-    }
-    Ok(())
-}
-
-#[test]
-fn limit_of_nets(rt: HostRuntime) -> Result<(), Fail> {
-    let alloc = rt.alloc();
-    let mut maker = NetMaker::new(alloc);
-    for _ in 0..MAX {
-        maker.fresh("n")?;
-    }
-    assert!(rt; matches!(maker.fresh("n"), Err(NetFault::TooManyNets)));
-    assert!(rt; matches!(maker.net("n"), Err(NetFault::TooManyNets)));
-    assert_eq!(rt; shown(alloc, maker.finish())?.as_str(), "0 n undriven");
-    Ok(())
-}
-
-#[test]
-fn limit_of_gates(rt: HostRuntime) -> Result<(), Fail> {
-    let alloc = rt.alloc();
-    let mut maker = with_labels(alloc, &["x", "y"])?;
-    maker.input(0)?;
-    fill(&mut maker)?;
-    assert!(rt; matches!(maker.gate(1, &[0], 2), Err(NetFault::TooManyGates)));
-    assert!(rt; matches!(maker.latch(0, 1, Start::Zero), Err(NetFault::TooManyGates)));
-    assert_eq!(rt; shown(alloc, maker.finish())?.as_str(), "1 y twice");
-    Ok(())
+fn finds_named_nets_alone(rt: HostRuntime) {
+    let net = named(rt.alloc()).ok().expect(&rt, "a net");
+    assert!(rt; finds_names(&net));
 }

@@ -1,37 +1,42 @@
 //! Texts with their designs; faults are tried by rows.
-use net_blif::read_blif;
-use std::alloc::Global;
-use std::test::Fail;
+use net_blif::{Design, read_blif};
 
-#[test]
-fn models(rt: HostRuntime) -> Result<(), Fail> {
-    let alloc = rt.alloc();
-    let design = read_blif(alloc, b".model top\n.model b\n.names z\n1\n.end\n")?;
-    assert_eq!(rt; design.models(), 2);
-    assert_eq!(rt; design.name(1), "b");
-    assert_eq!(rt; design.model("b"), Some(1));
-    assert_eq!(rt; design.model("c"), None);
-    assert_eq!(rt; design.gate_line(), None);
-    assert_eq!(rt; design.instances(), 0);
-    Ok(())
+fn has_models(design: &Design) -> bool {
+    design.models() == 2
+        && design.name(1) == "b"
+        && design.model("b") == Some(1)
+        && design.model("c").is_none()
 }
 
 #[test]
-fn instances(rt: HostRuntime) -> Result<(), Fail> {
-    let alloc = rt.alloc();
-    let design = read_blif(
-        alloc,
-        b".model top\n.inputs x\n.subckt b a=x z=y=z\n.subckt c\n.latch x q\n.model b\n.inputs a\n.outputs z\n.names a z\n.model c\n.end\n",
-    )?;
-    assert_eq!(rt; design.gate_line(), Some(5));
-    assert_eq!(rt; design.instances(), 2);
-    if design.instances() == 2 {
-        assert_eq!(rt; design.instance_model(0), 1);
-        assert_eq!(rt; design.instance_model(1), 2);
-        assert_eq!(rt; design.actual(0, "a"), Some("x"));
-        assert_eq!(rt; design.actual(0, "z"), Some("y=z"));
-        assert_eq!(rt; design.actual(0, "q"), None);
-        assert_eq!(rt; design.actual(1, "a"), None);
-    }
-    Ok(())
+fn models(rt: HostRuntime) {
+    let text = b".model top\n.model b\n.names z\n1\n.end\n";
+    let design = read_blif(rt.alloc(), text).ok().expect(&rt, "a design");
+    assert!(rt; has_models(&design));
+    assert!(rt; design.gate_line().is_none());
+    assert!(rt; design.instances() == 0);
+}
+
+fn has_instances(design: &Design) -> bool {
+    design.gate_line() == Some(5)
+        && design.instances() == 2
+        && design.instance_model(0) == 1
+        && design.instance_model(1) == 2
+}
+
+fn has_actuals(design: &Design) -> bool {
+    design.instances() == 2
+        && design.actual(0, "a") == Some("x")
+        && design.actual(0, "z") == Some("y=z")
+        && design.actual(0, "q").is_none()
+        && design.actual(1, "a").is_none()
+}
+
+#[test]
+fn instances(rt: HostRuntime) {
+    let text =
+        b".model top\n.inputs x\n.subckt b a=x z=y=z\n.subckt c\n.latch x q\n.model b\n.inputs a\n.outputs z\n.names a z\n.model c\n.end\n";
+    let design = read_blif(rt.alloc(), text).ok().expect(&rt, "a design");
+    assert!(rt; has_instances(&design));
+    assert!(rt; has_actuals(&design));
 }

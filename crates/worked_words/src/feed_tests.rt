@@ -1,120 +1,108 @@
 //! Feeds that are taken and refused, and bindings of nets in one cycle.
-use crate::binding_tests::{can_be_bound, conjunction, fed_outcome, feeds_of, latches, words_of};
-use net_core::{Net, NetFault};
-use net_words::{Combinational, Source, bind, rebind};
-use std::alloc::{AllocError, Global};
-use std::test::Fail;
+use crate::binding_tests::check;
+use crate::bindings::one_cycle;
+use crate::small_nets::{conjunction, latches};
+use net_core::Net;
+use net_words::Source;
+use std::alloc::Global;
+use std::process::Abort;
+
+const BIT: Source = Source::Bit { word: 0, place: 0 };
+
+// Words, a feed, and what comes of them.
+static FREE_INPUTS: [(&str, &[(u32, &str, u32, Source)], &str); 9] = [
+    ("F0; I1 b; O2 z", &[(6, "a", 0, BIT)], "3 words, 1 feeds"),
+    (
+        "F0 x y; I1 b; O2 z",
+        &[(6, "a", 0, BIT)],
+        "3 words, 1 feeds",
+    ),
+    (
+        "I0 b; O1 z",
+        &[(6, "a", 0, Source::One)],
+        "2 words, 1 feeds",
+    ),
+    ("I0 b; O1 z", &[(6, "a", 0, BIT)], "no words"),
+    (
+        "I0 b; O1 z",
+        &[(6, "x", 0, Source::Zero)],
+        "feed at line 6 is no free input",
+    ),
+    (
+        "I0 b; O1 z",
+        &[(7, "z", 0, Source::Zero)],
+        "feed at line 7 is no free input",
+    ),
+    (
+        "I0 b; O1 z",
+        &[(8, "b", 0, Source::Zero)],
+        "feed at line 8 is no free input",
+    ),
+    (
+        "I0 b; O1 z",
+        &[(9, "c", 0, Source::Zero)],
+        "input 0 is in no word",
+    ),
+    (
+        "I0 z; O1 z",
+        &[(9, "x", 0, Source::Zero)],
+        "place 0 of word 0 is no input",
+    ),
+];
 
 #[test]
-fn feeds_of_free_inputs(rt: HostRuntime) -> Result<(), Fail> {
-    let alloc = rt.alloc();
-    let net = conjunction(alloc)?;
-    let bit = Source::Bit { word: 0, place: 0 };
-    for (text, line, name, source, outcome_is) in [
-        (
-            b"F0; I1 b; O2 z".as_slice(),
-            6,
-            "a",
-            bit,
-            "3 words, 1 feeds",
-        ),
-        (b"F0 x y; I1 b; O2 z", 6, "a", bit, "3 words, 1 feeds"),
-        (b"I0 b; O1 z", 6, "a", Source::One, "2 words, 1 feeds"),
-        (b"I0 b; O1 z", 6, "a", bit, "no words"),
-        (
-            b"I0 b; O1 z",
-            6,
-            "x",
-            Source::Zero,
-            "feed at line 6 is no free input",
-        ),
-        (
-            b"I0 b; O1 z",
-            7,
-            "z",
-            Source::Zero,
-            "feed at line 7 is no free input",
-        ),
-        (
-            b"I0 b; O1 z",
-            8,
-            "b",
-            Source::Zero,
-            "feed at line 8 is no free input",
-        ),
-        (b"I0 b; O1 z", 9, "c", Source::Zero, "input 0 is in no word"),
-        (
-            b"I0 z; O1 z",
-            9,
-            "x",
-            Source::Zero,
-            "place 0 of word 0 is no input",
-        ),
-    ] {
-        assert_eq!(rt;
-            fed_outcome(alloc, &net, text, &[(line, name, source)])?.as_str(),
-            outcome_is,
-            "at {text:?} and {name}"
-        );
-    }
-    Ok(())
+fn feeds_of_free_inputs(rt: HostRuntime) {
+    check(&rt, rt.alloc(), &conjunction(&rt, rt.alloc()), &FREE_INPUTS);
 }
+
+static BEFORE_STARTS: [(&str, &[(u32, &str, u32, Source)], &str); 3] = [
+    (
+        "I0 a; O1 z",
+        &[(6, "q", 0, Source::One)],
+        "feed at line 6 is no free input",
+    ),
+    (
+        "S0 q; O1 z",
+        &[(6, "a", 0, Source::One)],
+        "2 words, 1 feeds",
+    ),
+    (
+        "S0 r; O1 z",
+        &[(6, "a", 0, Source::One)],
+        "latch 1 has no start",
+    ),
+];
 
 #[test]
-fn feeds_before_starts(rt: HostRuntime) -> Result<(), Fail> {
-    let alloc = rt.alloc();
-    let net = latches(alloc)?;
-    for (text, name, outcome_is) in [
-        (
-            b"I0 a; O1 z".as_slice(),
-            "q",
-            "feed at line 6 is no free input",
-        ),
-        (b"S0 q; O1 z", "a", "2 words, 1 feeds"),
-        (b"S0 r; O1 z", "a", "latch 1 has no start"),
-    ] {
-        assert_eq!(rt;
-            fed_outcome(alloc, &net, text, &[(6, name, Source::One)])?.as_str(),
-            outcome_is,
-            "at {text:?} and {name}"
-        );
-    }
-    Ok(())
+fn feeds_before_starts(rt: HostRuntime) {
+    check(&rt, rt.alloc(), &latches(&rt, rt.alloc()), &BEFORE_STARTS);
 }
 
-// Whether the words of a text and a feed make a net of one cycle; none where they can't be bound.
 fn is_one_cycle(
+    rt: &impl Abort,
     alloc: Global,
     net: Net,
-    text: &[u8],
-    rows: &[(u32, &str, Source)],
-) -> Result<Option<bool>, AllocError> {
-    let words = words_of(alloc, text)?;
-    let feeds = feeds_of(alloc, rows)?;
-    if !can_be_bound(&words, &feeds) {
-        return Ok(None);
-    }
-    match bind(alloc, &words, &feeds, &net) {
-        Ok(bound) => Ok(Some(Combinational::new(net, bound).is_ok())),
-        Err(_fault) => Ok(None),
-    }
+    text: &str,
+    rows: &[(u32, &str, u32, Source)],
+) -> bool {
+    one_cycle(rt, alloc, net, text, rows).is_some()
 }
 
+static CYCLES: [(&str, &[(u32, &str, u32, Source)], bool); 3] = [
+    ("I0 a; I1 b; O2 z", &[], true),
+    ("I0 b; O1 z", &[(6, "a", 0, Source::One)], false),
+    ("F0; I1 a; I2 b; O3 z", &[], false),
+];
+
 #[test]
-fn one_cycle(rt: HostRuntime) -> Result<(), Fail> {
-    let alloc = rt.alloc();
-    let none = [].as_slice();
-    let fed = [(6, "a", Source::One)].as_slice();
-    for (text, rows, is) in [
-        (b"I0 a; I1 b; O2 z".as_slice(), none, Some(true)),
-        (b"I0 b; O1 z", fed, Some(false)),
-        (b"F0; I1 a; I2 b; O3 z", none, Some(false)),
-        (b"I0 a; O1 z", none, None),
-    ] {
-        let net = conjunction(alloc)?;
-        assert!(rt; is_one_cycle(alloc, net, text, rows)? == is, "at {text:?}");
+fn nets_in_one_cycle(rt: HostRuntime) {
+    for (text, rows, is) in &CYCLES {
+        let net = conjunction(&rt, rt.alloc());
+        assert!(rt;
+            is_one_cycle(&rt, rt.alloc(), net, text, rows) == *is,
+            "at {text}"
+        );
     }
-    let net = latches(alloc)?;
-    assert!(rt; is_one_cycle(alloc, net, b"I0 a; S1 q; O2 z", none)? == Some(false));
-    Ok(())
+    let net = latches(&rt, rt.alloc());
+    assert!(rt; !is_one_cycle(&rt, rt.alloc(), net, "I0 a; S1 q; O2 z", &[]));
 }

@@ -5,10 +5,22 @@
 #[cfg(test)]
 mod binding_tests;
 #[cfg(test)]
+mod bindings;
+#[cfg(test)]
 mod feed_tests;
+#[cfg(test)]
+mod fitting;
 #[cfg(test)]
 mod job_tests;
 #[cfg(test)]
+mod jobs;
+#[cfg(test)]
+mod plain_jobs;
+#[cfg(test)]
 mod rank_tests;
+#[cfg(test)]
+mod short_texts;
+#[cfg(test)]
+mod small_nets;
 #[cfg(test)]
 mod unroll_tests;

@@ -1,28 +1,50 @@
 //! The order of variables of a circuit.
-use crate::binding_tests::{can_be_bound, words_of};
+ghost use Rattle.std.specs.Prelude.{◌<◌, ◌≤◌, IfOk};
+ghost use Rattle.net_core.specs.NetList.{nets};
+
+use crate::bindings::one_cycle;
 use net_core::{Net, NetFault, NetMaker};
-use net_words::{Combinational, WordText, bind};
+use net_words::Combinational;
 use std::alloc::Global;
-use std::test::Fail;
+use std::process::Abort;
 
 // A multiplier in GF(4): z0 = a0 b0 + a1 b1 and z1 = a0 b1 + a1 b0 + a1 b1, whose nets are numbered from z0 to t.
 fn multiplier(alloc: Global) -> Result<Net, NetFault> {
     let mut maker = NetMaker::new(alloc);
-    add_nets(&mut maker)?;
+    for name in &NETS {
+        let _net = number_of(&mut maker, name)?;
+    }
     add_inputs(&mut maker)?;
-    add_products(&mut maker)?;
-    add_sums(&mut maker)?;
+    for (out, a, b, is_sum) in &GATES {
+        add_gate(&mut maker, out, a, b, *is_sum)?;
+    }
     maker.finish()
 }
 
-fn add_nets(maker: &mut NetMaker) -> Result<(), NetFault> {
-    for name in [
-        "z0", "z1", "p0", "a0", "a1", "p1", "b0", "b1", "p2", "p3", "t",
-    ] {
-        let _net = maker.net(name)?;
+// The number of the net of a short name.
+fn number_of(maker: &mut NetMaker, name: &str) -> Result<u32, NetFault>
+    ensures within { IfOk result (λ n. n < nets maker.new) }
+    ensures grows { nets maker.old ≤ nets maker.new }
+{
+    if name.is_empty() || name.len() > 255 {
+        return Err(NetFault::TooManyNets);
     }
-    Ok(())
+    maker.net(name)
 }
+
+static NETS: [&str; 11] = [
+    "z0", "z1", "p0", "a0", "a1", "p1", "b0", "b1", "p2", "p3", "t",
+];
+
+static GATES: [(&str, &str, &str, bool); 7] = [
+    ("p0", "a0", "b0", false),
+    ("p1", "a0", "b1", false),
+    ("p2", "a1", "b0", false),
+    ("p3", "a1", "b1", false),
+    ("z0", "p0", "p3", true),
+    ("t", "p1", "p2", true),
+    ("z1", "t", "p3", true),
+];
 
 fn add_inputs(maker: &mut NetMaker) -> Result<(), NetFault> {
     for name in ["a0", "a1", "b0", "b1"] {
@@ -32,67 +54,40 @@ fn add_inputs(maker: &mut NetMaker) -> Result<(), NetFault> {
     Ok(())
 }
 
-fn add_products(maker: &mut NetMaker) -> Result<(), NetFault> {
-    for (out, a, b) in [
-        ("p0", "a0", "b0"),
-        ("p1", "a0", "b1"),
-        ("p2", "a1", "b0"),
-        ("p3", "a1", "b1"),
-    ] {
-        let out = maker.net(out)?;
-        let a = maker.net(a)?;
-        let b = maker.net(b)?;
-        maker.gate(out, &[a, b], 8)?;
+fn add_gate(
+    maker: &mut NetMaker,
+    out: &str,
+    a: &str,
+    b: &str,
+    is_sum: bool,
+) -> Result<(), NetFault> {
+    let out = number_of(maker, out)?;
+    let a = number_of(maker, a)?;
+    let b = number_of(maker, b)?;
+    if is_sum {
+        maker.gate(out, &[a, b], 6)
+    } else {
+        maker.gate(out, &[a, b], 8)
     }
-    Ok(())
 }
 
-fn add_sums(maker: &mut NetMaker) -> Result<(), NetFault> {
-    for (out, a, b) in [("z0", "p0", "p3"), ("t", "p1", "p2"), ("z1", "t", "p3")] {
-        let out = maker.net(out)?;
-        let a = maker.net(a)?;
-        let b = maker.net(b)?;
-        maker.gate(out, &[a, b], 6)?;
-    }
-    Ok(())
+fn circuit(rt: &impl Abort, alloc: Global) -> Combinational {
+    let net = multiplier(alloc).ok().expect(rt, "a net");
+    one_cycle(rt, alloc, net, "I0 a0 a1; O1 z0 z1; I2 b0 b1", &[]).expect(rt, "a circuit")
 }
 
-// The net with the words that can be bound to it.
-fn circuit(alloc: Global, words: &[WordText], net: Net) -> Option<Combinational> {
-    if !can_be_bound(words, &[]) {
-        return None;
-    }
-    match bind(alloc, words, &[], &net) {
-        Ok(bound) => Combinational::new(net, bound).ok(),
-        Err(_fault) => None,
-    }
-}
+// The nets by their ranks.
+static RANKED: [u32; 11] = [3, 4, 6, 7, 0, 1, 2, 5, 8, 9, 10];
 
 #[test]
-fn ranks(rt: HostRuntime) -> Result<(), Fail> {
-    let alloc = rt.alloc();
-    let words = words_of(alloc, b"I0 a0 a1; O1 z0 z1; I2 b0 b1")?;
-    let net = multiplier(alloc)?;
-    let Some(circuit) = circuit(alloc, &words, net) else {
-        panic!(rt; "not bound");
-    };
-    assert_eq!(rt; circuit.net().nets(), 11);
-    assert_eq!(rt; circuit.bound().words(), 3);
-    for (rank, net) in [
-        (0, 3),
-        (1, 4),
-        (2, 6),
-        (3, 7),
-        (4, 0),
-        (5, 1),
-        (6, 2),
-        (7, 5),
-        (8, 8),
-        (9, 9),
-        (10, 10),
-    ] {
-        assert_eq!(rt; circuit.net_of(rank), net, "at rank {rank}");
-        assert_eq!(rt; circuit.rank_of(net), rank, "at net {net}");
+fn ranks(rt: HostRuntime) {
+    let circuit = circuit(&rt, rt.alloc());
+    assert!(rt; circuit.net().nets() == 11 && circuit.bound().words() == 3);
+    for rank in 0..11 {
+        let net = RANKED[rank as usize];
+        assert!(rt;
+            circuit.net_of(rank) == net && circuit.rank_of(net) == rank,
+            "at rank {rank}"
+        );
     }
-    Ok(())
 }

@@ -1,5 +1,5 @@
 use Rattle.std.proofs.Common.{length}
-use Rattle.worked_words.proofs.job_tests.+is_apart.Given as goal
+use Rattle.worked_words.proofs.fitting.+is_apart.Given as goal
 
 abbrev pub decreases-is_apart : goal.decreases-is_apart
 decreases-is_apart l = length l.others.now

@@ -1,4 +1,0 @@
-use Rattle.worked_readers.proofs.net_write_tests.written.Goals as goal
-
-pub write_blif-requires : goal.write_blif-requires
-write_blif-requires c = c.plain_names.ensures.0 c.if-not-plain_names.false
