@@ -50,7 +50,8 @@ impl NameSet {
 
 // The fault of the port whose line is two behind its number. The count of lines in memory is below 2^32.
 fn name_twice(port: usize) -> AigerFault
-    ensures { (result ≡ AigerFault.OutOfMemory) ⊎ (result ≡ AigerFault.NameTwice (port + 2)) }
+    ensures either { (result ≡ AigerFault.OutOfMemory) ⊎ (result ≡ AigerFault.NameTwice (port + 2)) }
+    ensures told { port < 4294967294 → result ≡ AigerFault.NameTwice (port + 2) }
 {
     match u32::try_from(port) {
         Ok(port) if port < 0xffff_fffe => AigerFault::NameTwice { line: port + 2 },

@@ -1,5 +1,5 @@
 //! Lines, one after another.
-ghost use Rattle.std.specs.Prelude.{◌≡◌, ◌⊎◌, ◌++◌, ◌∷◌, [], Ok, Err, IfErr, OnOk};
+ghost use Rattle.std.specs.Prelude.{◌≡◌, ◌⊎◌, ◌++◌, ◌∷◌, [], nat_le, Ok, Err, IfErr, OnOk, length};
 ghost use Rattle.net_aiger.specs.Lines.{and_line as and_says, define as defines, input_line as input_says, latch_of as latch_that, number_line as numbers_say, one_line as line_says, output_line as output_says, section_line as section_says, start_of as start_that, with_latch};
 ghost use Rattle.net_aiger.specs.Numbers.{numbers_of, words_of};
 
@@ -47,6 +47,13 @@ fn latch_of(numbers: &[u32]) -> Option<LatchLine>
 }
 
 impl Reader {
+    // Whether a further net would have no number. The count of lines in memory is below 2^32.
+    fn is_full(&self) -> bool
+        ensures { result ≡ nat_le 4294967295 (length self.now.defined) }
+    {
+        self.defined.len() >= 0xffff_ffff
+    }
+
     // Defines a literal on a line that uses two others.
     fn define(&mut self, line: u32, literal: u32, left: u32, right: u32) -> Result<(), AigerFault>
         ensures made { OnOk result (defines line literal left right self.old ≡ Ok self.new) }
@@ -58,7 +65,7 @@ impl Reader {
         if self.defined.contains(&literal) {
             return Err(AigerFault::DefinedTwice { line });
         }
-        if self.defined.len() >= 0xffff_ffff {
+        if self.is_full() {
             return Err(AigerFault::OutOfMemory);
         }
         self.defined.insert(literal)?;

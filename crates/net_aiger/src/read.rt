@@ -3,6 +3,7 @@ ghost use Rattle.std.specs.Prelude.{◌≡◌, ◌⊎◌, ◌≤◌, Ok, Err, tr
 ghost use Rattle.std.specs.Str.Lines.{lines};
 ghost use Rattle.net_aiger.specs.AigerNet.{AigerNet};
 ghost use Rattle.net_aiger.specs.Lines.{is_complete, lines_read, text_read};
+ghost use Rattle.net_aiger.specs.private.Key.{key_of as key_that};
 
 use crate::AigerFault;
 use crate::header::read_header;
@@ -14,7 +15,9 @@ use std::hash::{DefaultHasher, Hasher};
 use text_core::next_line;
 
 // The key of a text, which is not known before the text is.
-fn key_of(text: &[u8]) -> u64 {
+fn key_of(text: &[u8]) -> u64
+    ensures { result ≡ key_that text.now }
+{
     let mut state = DefaultHasher::new();
     state.write(text);
     state.finish()
