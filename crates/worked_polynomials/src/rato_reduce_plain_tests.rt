@@ -1,121 +1,72 @@
-//! The elimination beside the plain programs: each cut's size with each bound up to the largest, and the output at each
-//! input.
+//! The elimination beside the plain programs: each cut's size with each bound, and the output at each input.
 ghost use Rattle.std.specs.Prelude.{◌≡◌, length, IfOk};
 ghost use Rattle.gf_basis.specs.BasisParts.{IsBasisOver};
+ghost use Rattle.poly_mixed.specs.Polynomial.{IsReduced};
 ghost use Rattle.circuit_model.specs.Flat.{AreOver};
 
-use crate::rato_reduce_tests::{outcome, over, reduced};
-use circuit_model::{CircuitWord, output};
-use gf_basis::Basis;
-use gf_field::{Field, first_outside, is_element};
+use crate::circuits::output_at;
+use crate::rato_reduce_tests::reduced;
+use circuit_model::CircuitWord;
+use gf_field::{Field, is_element};
 use net_core::Net;
-use net_words::{Combinational, Role};
-use poly_mixed::{NoSteps, ReduceFault};
+use net_words::Combinational;
+use poly_mixed::{NoSteps, Poly, ReduceFault, Stage};
 use stage_model::cut_size;
 use std::alloc::{AllocError, Global};
 use std::process::Abort;
 
-// A word with the polynomial basis.
-pub(crate) fn word<F: Field>(
-    rt: &impl Abort,
-    alloc: Global,
-    field: &F,
-    role: Role,
-    nets: &[u32],
-) -> Result<CircuitWord, AllocError>
-    ensures over { IfOk result (λ w. IsBasisOver (F.degree field.now) (F.product field.now) w.basis) }
-    ensures nets { IfOk result (λ w. length w.nets.items ≡ F.degree field.now) }
-{
-    assert_eq!(rt; nets.len(), field.k() as usize);
-    Ok(CircuitWord {
-        role,
-        nets: nets.to_vec(alloc)?,
-        basis: Basis::poly(field),
-    })
-}
-
-// The size of a cut by the plain program.
-fn size<F: Field>(
-    rt: &impl Abort,
+// Whether the plain program gives these sizes of all cuts.
+fn have_sizes<F: Field>(
     alloc: Global,
     field: &F,
     net: &Net,
     words: &[CircuitWord],
     output: &CircuitWord,
-    cut: usize,
-) -> Result<usize, AllocError>
+    sizes: &[usize],
+) -> Result<bool, AllocError>
     requires over { IsBasisOver (F.degree field.now) (F.product field.now) output.now.basis }
     requires nets { length output.now.nets.items ≡ F.degree field.now }
 {
-    assert!(rt; cut <= net.gates().len() && cut < 10);
-    let size = cut_size(alloc, field, net, words, output, cut as u32)?;
-    Ok(size.expect(rt, "few variables"))
-}
-
-// The sizes of all cuts by the plain program.
-fn sizes<F: Field>(
-    rt: &impl Abort,
-    alloc: Global,
-    field: &F,
-    net: &Net,
-    words: &[CircuitWord],
-    output: &CircuitWord,
-) -> Result<Vec<usize>, AllocError>
-    requires over { IsBasisOver (F.degree field.now) (F.product field.now) output.now.basis }
-    requires nets { length output.now.nets.items ≡ F.degree field.now }
-{
-    let mut list = Vec::new(alloc);
-    for cut in 0..=net.gates().len() {
-        list.push(size(rt, alloc, field, net, words, output, cut)?)?;
+    if sizes.len() > 10 || sizes.len() != net.gates().len() + 1 {
+        return Ok(false);
     }
-    Ok(list)
-}
-
-// What the elimination has to answer: the size of the last cut, or the first cut over the bound.
-fn plain_outcome(rt: &impl Abort, sizes: &[usize], bound: u32) -> Result<usize, ReduceFault> {
-    assert!(rt; sizes.len() <= 10);
-    let mut last = 0;
     for (cut, size) in sizes.iter().enumerate() {
-        last = *size;
-        if last > bound as usize {
-            return over(cut as u32, last as u64);
+        if cut_size(alloc, field, net, words, output, cut as u32)? != Some(*size) {
+            return Ok(false);
         }
     }
-    Ok(last)
+    Ok(true)
 }
 
-// The output at these elements by the plain program.
-fn plain_output<F: Field>(
-    rt: &impl Abort,
-    alloc: Global,
-    field: &F,
-    circuit: &Combinational,
-    words: &[CircuitWord],
-    to: &CircuitWord,
-    xs: &[u64],
-) -> Result<Option<u64>, AllocError>
-    requires words { AreOver (F.degree field.now) (F.product field.now) words.now }
-    requires over { IsBasisOver (F.degree field.now) (F.product field.now) to.now.basis }
-{
-    assert_eq!(rt; xs.len(), words.len());
-    assert_eq!(rt; first_outside(field, xs), None);
-    output(alloc, field, circuit.net(), words, to, xs)
+// The first cut over a bound, and its size; none where all are within.
+fn first_over(sizes: &[usize], bound: u32) -> Option<(usize, usize)> {
+    for (cut, size) in sizes.iter().enumerate() {
+        if *size > bound as usize {
+            return Some((cut, *size));
+        }
+    }
+    None
 }
 
-// Compares the outcomes at each bound up to the largest cut with those of the plain program.
-fn compare_sizes<F: Field>(
+// Whether the elimination answers with this bound as the cuts of these sizes have it: the last one, or the first over it.
+fn has_outcome<F: Field>(
     rt: &impl Abort,
     alloc: Global,
     field: &F,
     circuit: &Combinational,
     sizes: &[usize],
-) {
-    let largest = sizes.iter().copied().max().expect(rt, "a first cut");
-    assert!(rt; largest <= 64);
-    for bound in 0..=largest as u32 {
-        let plain = plain_outcome(rt, sizes, bound);
-        let found = outcome(rt, alloc, field, circuit, bound);
-        assert_eq!(rt; found, plain, "at bound {bound}");
+    bound: u32,
+) -> bool {
+    let over = first_over(sizes, bound);
+    match reduced(rt, alloc, field, circuit, bound, &mut NoSteps) {
+        Ok(poly) => over.is_none() && sizes.last() == Some(&poly.len()),
+        Err(
+            ReduceFault::TooManyTerms {
+                stage: Stage::Cut(cut),
+                terms,
+            },
+        ) => over == Some((cut as usize, terms as usize)),
+        Err(_) => false,
     }
 }
 
@@ -131,66 +82,121 @@ fn low_bits(number: u64) -> [bool; 6] {
     ]
 }
 
-// Compares the values of the last cut at each input with the outputs of the plain program, and the first of them with
-// these.
-fn compare_values<F: Field>(
+// The value where the bits are those of a number.
+fn value<F: Field>(field: &F, poly: &Poly, number: u64) -> Option<u64>
+    requires { IsReduced (F.degree field.now) poly.now.terms }
+{
+    if is_element(field, 0) {
+        Some(poly.value(field, &[0; 8], &low_bits(number)))
+    } else {
+        None
+    }
+}
+
+// The output by the plain program where the bits are those of a number, two for each of at most three words.
+fn plain_output<F: Field>(
+    alloc: Global,
+    field: &F,
+    net: &Net,
+    words: &[CircuitWord],
+    to: &CircuitWord,
+    number: u64,
+) -> Result<Option<u64>, AllocError>
+    requires words { AreOver (F.degree field.now) (F.product field.now) words.now }
+    requires over { IsBasisOver (F.degree field.now) (F.product field.now) to.now.basis }
+{
+    if words.len() > 3 {
+        return Ok(None);
+    }
+    let xs = [number % 4, number / 4 % 4, number / 16 % 4];
+    output_at(alloc, field, net, words, to, &xs[..words.len()])
+}
+
+// Whether a polynomial has the values of the plain program's outputs at each input, and the first of them are these.
+fn are_values<F: Field>(
+    alloc: Global,
+    field: &F,
+    net: &Net,
+    words: &[CircuitWord],
+    to: &CircuitWord,
+    poly: &Poly,
+    values: &[u64; 4],
+) -> Result<bool, AllocError>
+    requires words { AreOver (F.degree field.now) (F.product field.now) words.now }
+    requires over { IsBasisOver (F.degree field.now) (F.product field.now) to.now.basis }
+    requires poly { IsReduced (F.degree field.now) poly.now.terms }
+{
+    for number in 0..1u64 << (2 * words.len().min(3)) {
+        let found = value(field, poly, number);
+        if number < 4 && found != Some(values[number as usize]) {
+            return Ok(false);
+        }
+        if found != plain_output(alloc, field, net, words, to, number)? {
+            return Ok(false);
+        }
+    }
+    Ok(true)
+}
+
+// Whether the last cut has them.
+fn has_values<F: Field>(
     rt: &impl Abort,
     alloc: Global,
     field: &F,
     circuit: &Combinational,
     words: &[CircuitWord],
     to: &CircuitWord,
-    values: [u64; 4],
-) -> Result<(), ReduceFault>
+    values: &[u64; 4],
+) -> bool
     requires words { AreOver (F.degree field.now) (F.product field.now) words.now }
     requires over { IsBasisOver (F.degree field.now) (F.product field.now) to.now.basis }
 {
-    assert!(rt; is_element(field, 0) && words.len() <= 3);
-    let poly = reduced(rt, alloc, field, circuit, u32::MAX, &mut NoSteps)?;
-    for number in 0..1u64 << (2 * words.len()) {
-        let xs = [number % 4, number / 4 % 4, number / 16 % 4];
-        let plain = plain_output(rt, alloc, field, circuit, words, to, &xs[..words.len()])?;
-        let found = poly.value(field, &[0; 8], &low_bits(number));
-        assert_eq!(rt; Some(found), plain, "at {number}");
-        if number < 4 {
-            assert_eq!(rt; found, values[number as usize], "at {number}");
+    match reduced(rt, alloc, field, circuit, u32::MAX, &mut NoSteps) {
+        Ok(poly) => {
+            matches!(
+                are_values(alloc, field, circuit.net(), words, to, &poly, values),
+                Ok(true)
+            )
+        }
+        Err(_) => false,
+    }
+}
+
+// Whether the elimination's outcomes are those of these sizes, with each bound up to the largest in the tests.
+fn has_outcomes<F: Field>(
+    rt: &impl Abort,
+    alloc: Global,
+    field: &F,
+    circuit: &Combinational,
+    sizes: &[usize],
+) -> bool {
+    for bound in 0..=18 {
+        if !has_outcome(rt, alloc, field, circuit, sizes, bound) {
+            return false;
         }
     }
-    Ok(())
+    true
 }
 
 // Compares the elimination with the plain programs, and their answers with these: the sizes of the cuts, and the outputs
 // where the first word has the elements 0 to 3 and the others are 0.
-pub(crate) fn compare<F: Field>(
+pub(crate) fn agrees<F: Field>(
     rt: &impl Abort,
     alloc: Global,
     field: &F,
     circuit: &Combinational,
     words: &[CircuitWord],
-    output: &[u32],
-    wanted: &[usize],
-    values: [u64; 4],
-) -> Result<(), ReduceFault>
+    to: &CircuitWord,
+    sizes: &[usize],
+    values: &[u64; 4],
+) -> bool
     requires words { AreOver (F.degree field.now) (F.product field.now) words.now }
+    requires over { IsBasisOver (F.degree field.now) (F.product field.now) to.now.basis }
+    requires nets { length to.now.nets.items ≡ F.degree field.now }
 {
-    let to = word(rt, alloc, field, Role::Output, output)?;
-    let sizes = sizes(rt, alloc, field, circuit.net(), words, &to)?;
-    assert_eq!(rt; sizes.as_slice(), wanted);
-    compare_sizes(rt, alloc, field, circuit, &sizes);
-    compare_values(rt, alloc, field, circuit, words, &to, values)
-}
-
-// The same where the word A has the nets 0 and 1, and is the only input word.
-pub(crate) fn compare_one<F: Field>(
-    rt: &impl Abort,
-    alloc: Global,
-    field: &F,
-    circuit: &Combinational,
-    output: &[u32],
-    wanted: &[usize],
-    values: [u64; 4],
-) -> Result<(), ReduceFault> {
-    let first = word(rt, alloc, field, Role::Input, &[0, 1])?;
-    let words = [first];
-    compare(rt, alloc, field, circuit, &words, output, wanted, values)
+    matches!(
+        have_sizes(alloc, field, circuit.net(), words, to, sizes),
+        Ok(true)
+    ) && has_outcomes(rt, alloc, field, circuit, sizes)
+        && has_values(rt, alloc, field, circuit, words, to, values)
 }

@@ -1,21 +1,21 @@
-//! A multiplier over the field of 4 elements, worked by hand: what the elimination records, where it stops, and values.
-ghost use Rattle.std.specs.Prelude.{◌≡◌, ℕ, [], Some, map, length, filter, All, IfOk, IsTrue, ◌↔◌};
+//! The elimination over the field of 4 elements: its circuits, its answers, and the steps that it records for a multiplier.
+ghost use Rattle.std.specs.Prelude.{◌≡◌, ℕ, [], Some, map, length, filter, All, IfOk, IfSome, IsTrue, ◌↔◌};
 ghost use Rattle.net_words.specs.Binding.{AreWords};
 ghost use Rattle.net_words.specs.Feeds.{AreFeeds};
+ghost use Rattle.net_words.specs.OneCycle.{IsFlat, IsOneCycle};
 ghost use Rattle.net_words.specs.Roles.{is_output as is_output_word, input_count as count_inputs};
 ghost use Rattle.poly_mixed.specs.Polynomial.{IsReduced};
 
-use crate::circuits::{field, multiplier};
+use crate::circuits::{MULTIPLIER, field, net};
 use gf_basis::Basis;
-use gf_field::{Field, is_element};
+use gf_field::Field;
 use net_core::Net;
 use net_signature::read_signature;
-use net_words::{Combinational, Role, WordText, bind};
-use poly_mixed::{Generator, NoSteps, Poly, ReduceFault, Stage, Steps, Term};
+use net_words::{Bound, Combinational, Role, WordText, bind};
+use poly_mixed::{Generator, Poly, ReduceFault, Steps, Term};
 use rato_reduce::reduce_bits;
 use std::alloc::{AllocError, Global};
 use std::process::Abort;
-use std::test::Fail;
 
 // A step: a generator and the terms of its multiplier.
 #[derive(Drop)]
@@ -98,25 +98,41 @@ fn have_nets(words: &[WordText], k: usize) -> bool
     words.iter().all(|word| word.nets.as_slice().len() == k)
 }
 
-// The net with the words of a signature's text.
-pub(crate) fn circuit(rt: &impl Abort, alloc: Global, net: Net, text: &[u8]) -> Combinational {
-    assert!(rt; text.len() < 200);
-    let signature = read_signature(alloc, text).ok().expect(rt, "a signature");
-    assert!(rt; can_be_bound(signature.words()));
-    let bound = match bind(alloc, signature.words(), &[], &net) {
-        Ok(bound) => bound,
-        Err(_) => panic!(rt; "no bound words"),
-    };
+// Words on a net.
+fn bound_words(alloc: Global, net: &Net, words: &[WordText]) -> Option<Bound>
+    ensures { IfSome result (λ bound. IsFlat net.now bound → IsOneCycle net.now bound) }
+{
+    if !can_be_bound(words) {
+        return None;
+    }
+    bind(alloc, words, &[], net).ok()
+}
+
+// The words of a signature's text on a net.
+fn bound(alloc: Global, net: &Net, text: &[u8]) -> Option<Bound>
+    ensures { IfSome result (λ bound. IsFlat net.now bound → IsOneCycle net.now bound) }
+{
+    if text.len() >= 200 {
+        return None;
+    }
+    match read_signature(alloc, text) {
+        Ok(signature) => bound_words(alloc, net, signature.words()),
+        Err(_) => None,
+    }
+}
+
+// The net of a model with the words of a signature's text.
+pub(crate) fn circuit(
+    rt: &impl Abort,
+    alloc: Global,
+    model: &[u8],
+    signature: &[u8],
+) -> Combinational {
+    let net = net(rt, alloc, model);
+    let bound = bound(alloc, &net, signature).expect(rt, "bound words");
     Combinational::new(net, bound)
         .ok()
         .expect(rt, "a net without latches")
-}
-
-// The multiplier with its words.
-fn multiplier_circuit(rt: &impl Abort, alloc: Global) -> Combinational {
-    let text =
-        b"gfsig 1\nfield 0x7\nword A input poly a0 a1\nword B input poly b0 b1\nword Z output poly z0 z1\n";
-    circuit(rt, alloc, multiplier(rt, alloc), text)
 }
 
 // What the elimination answers.
@@ -130,92 +146,50 @@ pub(crate) fn reduced<F: Field, T: Steps>(
 ) -> Result<Poly, ReduceFault>
     ensures { IfOk result (λ q. IsReduced (F.degree field.now) q.terms) }
 {
-    assert_eq!(rt; circuit.bound().k(), field.k());
+    assert!(rt; circuit.bound().k() == field.k());
     reduce_bits(alloc, field, circuit, &Basis::poly(field), bound, steps)
 }
 
-// How many terms the last cut has, or the refusal.
-pub(crate) fn outcome<F: Field>(
-    rt: &impl Abort,
-    alloc: Global,
-    field: &F,
-    circuit: &Combinational,
-    bound: u32,
-) -> Result<usize, ReduceFault> {
-    let poly = reduced(rt, alloc, field, circuit, bound, &mut NoSteps)?;
-    Ok(poly.len())
-}
-
-// The refusal of a cut.
-pub(crate) fn over(cut: u32, terms: u64) -> Result<usize, ReduceFault> {
-    Err(ReduceFault::TooManyTerms {
-        stage: Stage::Cut(cut),
-        terms,
-    })
-}
-
-// The output's element where the first four ranks have the bits of a number, lowest first.
-pub(crate) fn value_at<F: Field>(
-    rt: &impl Abort,
-    alloc: Global,
-    field: &F,
-    circuit: &Combinational,
-    number: usize,
-) -> Result<u64, ReduceFault> {
-    assert!(rt; is_element(field, 0));
-    let poly = reduced(rt, alloc, field, circuit, u32::MAX, &mut NoSteps)?;
-    let bits = [
-        number % 2 == 1,
-        number / 2 % 2 == 1,
-        number / 4 % 2 == 1,
-        number / 8 % 2 == 1,
-    ];
-    Ok(poly.value(field, &[0; 8], &bits))
+// Whether these are the steps: nets, each with a constant.
+fn are_steps(steps: &[Recorded], wanted: &[(u32, u64)]) -> bool {
+    for (step, (net, constant)) in steps.iter().zip(wanted.iter()) {
+        if step.generator != Generator::Net(*net) || step.constant() != Some(*constant) {
+            return false;
+        }
+    }
+    steps.len() == wanted.len()
 }
 
 // The output's nets, then t, then z0, and then one product of bits after another give way, each with a constant.
-#[test]
-fn steps(rt: HostRuntime) -> Result<(), Fail> {
-    let alloc = rt.alloc();
-    let field = field(&rt);
-    let circuit = multiplier_circuit(&rt, alloc);
+static STEPS: [(u32, u64); 7] = [(5, 2), (10, 2), (4, 1), (9, 3), (8, 2), (7, 2), (6, 1)];
+
+// What is recorded of the elimination of a circuit.
+fn steps_of<F: Field>(
+    rt: &impl Abort,
+    alloc: Global,
+    field: &F,
+    circuit: &Combinational,
+) -> Result<Recorder, ReduceFault> {
     let mut recorder = Recorder {
         alloc,
         steps: Vec::new(alloc),
     };
-    reduced(&rt, alloc, &field, &circuit, 4, &mut recorder)?;
-    let pairs = [(5, 2), (10, 2), (4, 1), (9, 3), (8, 2), (7, 2), (6, 1)];
-    assert_eq!(rt; recorder.steps.len(), pairs.len());
-    for (step, (net, constant)) in recorder.steps.iter().zip(pairs.iter()) {
-        assert_eq!(rt; step.generator, Generator::Net(*net));
-        assert_eq!(rt; step.constant(), Some(*constant), "at net {net}");
-    }
-    Ok(())
+    reduced(rt, alloc, field, circuit, 4, &mut recorder)?;
+    Ok(recorder)
 }
 
-// The cuts have 2, 3, 4, 4, 4, 4, 4 and 4 terms.
-#[test]
-fn bounds(rt: HostRuntime) -> Result<(), Fail> {
-    let alloc = rt.alloc();
-    let field = field(&rt);
-    let circuit = multiplier_circuit(&rt, alloc);
-    assert_eq!(rt; outcome(&rt, alloc, &field, &circuit, 0), over(0, 2));
-    assert_eq!(rt; outcome(&rt, alloc, &field, &circuit, 1), over(0, 2));
-    assert_eq!(rt; outcome(&rt, alloc, &field, &circuit, 2), over(1, 3));
-    assert_eq!(rt; outcome(&rt, alloc, &field, &circuit, 3), over(2, 4));
-    assert_eq!(rt; outcome(&rt, alloc, &field, &circuit, 4), Ok(4));
-    Ok(())
+// Whether the steps of a circuit are those of the table.
+fn has_steps(rt: &impl Abort, alloc: Global, circuit: &Combinational) -> bool {
+    match steps_of(rt, alloc, &field(rt), circuit) {
+        Ok(recorder) => are_steps(&recorder.steps, &STEPS),
+        Err(_) => false,
+    }
 }
 
 #[test]
-fn products_of_4_elements(rt: HostRuntime) -> Result<(), Fail> {
-    let alloc = rt.alloc();
-    let field = field(&rt);
-    let circuit = multiplier_circuit(&rt, alloc);
-    let table = [0, 0, 0, 0, 0, 1, 2, 3, 0, 2, 3, 1, 0, 3, 1, 2];
-    for (number, product) in table.iter().enumerate() {
-        let found = value_at(&rt, alloc, &field, &circuit, number)?;
-        assert_eq!(rt; found, *product, "at {number}");
-    }
-    Ok(())
+fn steps(rt: HostRuntime) {
+    let signature =
+        b"gfsig 1\nfield 0x7\nword A input poly a0 a1\nword B input poly b0 b1\nword Z output poly z0 z1\n";
+    let circuit = circuit(&rt, rt.alloc(), MULTIPLIER, signature);
+    assert!(rt; has_steps(&rt, rt.alloc(), &circuit));
 }

@@ -1,57 +1,109 @@
 //! A conjunction over the field of 4 elements, whose word is replaced bit by bit.
-use crate::circuits::{field, net};
-use crate::stage_model_tests::word;
+ghost use Rattle.std.specs.Prelude.{◌≡◌, ◌≤◌, length};
+ghost use Rattle.gf_basis.specs.BasisParts.{IsBasisOver};
+ghost use Rattle.poly_mixed.specs.Polynomial.{IsReduced};
+ghost use Rattle.circuit_model.specs.Flat.{AreOver};
+
+use crate::circuits::{field, net, word};
+use circuit_model::CircuitWord;
 use gf_field::Field;
 use net_core::Net;
 use net_words::Role;
+use poly_mixed::Poly;
 use stage_model::{cut_poly, word_product, word_sum};
 use std::alloc::{AllocError, Global};
-use std::process::Abort;
-use std::test::Fail;
 
 // Nets 0 and 1 are the word, 2 and 3 the output: the product of both bits, and 0.
-fn conjunction(rt: &impl Abort, alloc: Global) -> Net {
-    let text = b".model conjunction\n.inputs a0 a1\n.names a0 a1 z0\n11 1\n.names z1\n";
-    net(rt, alloc, text)
-}
+const CONJUNCTION: &[u8] = b".model conjunction\n.inputs a0 a1\n.names a0 a1 z0\n11 1\n.names z1\n";
 
-// The sizes of the product stage and of the sum stage of a term; none where there is no such stage.
-fn sizes<F: Field>(
-    alloc: Global,
-    field: &F,
-    net: &Net,
-    term: u32,
-    bit: u32,
-) -> Result<(Option<usize>, Option<usize>), AllocError> {
-    let words = [word(alloc, field, Role::Input, &[0, 1])?];
-    let output = word(alloc, field, Role::Output, &[2, 3])?;
-    if net.gates().len() == 2 && output.nets.len() == field.k() as usize {
-        match cut_poly(alloc, field, net, &words, &output, 2)? {
-            Some(before) => {
-                let product = word_product(alloc, field, &words, &before, 0, term, bit)?;
-                let sum = word_sum(alloc, field, &words, &before, 0, term)?;
-                Ok((product.map(|p| p.len()), sum.map(|p| p.len())))
-            }
-            None => Ok((None, None)),
-        }
-    } else {
-        Ok((None, None))
+// The number of a term and a place, and the sizes of the product stage and of the sum stage; none where there is no such
+// stage. The conjunction of both bits is A^3 + 3 A^2 + 2 A: the first bit has 2 terms, and both 3.
+static SIZES: [(u32, u32, Option<usize>, Option<usize>); 4] = [
+    (1, 1, Some(2), Some(3)),
+    (1, 2, Some(3), Some(3)),
+    (1, 3, None, Some(3)),
+    (2, 1, None, None),
+];
+
+// How many terms there are.
+fn size(poly: &Option<Poly>) -> Option<usize> {
+    match poly {
+        Some(poly) => Some(poly.len()),
+        None => None,
     }
 }
 
-// The conjunction of both bits is A^3 + 3 A^2 + 2 A: the first bit has 2 terms, and both 3.
+// Whether the stages of a term and a place have these sizes.
+fn have_sizes<F: Field>(
+    alloc: Global,
+    field: &F,
+    words: &[CircuitWord],
+    before: &Poly,
+    row: &(u32, u32, Option<usize>, Option<usize>),
+) -> Result<bool, AllocError>
+    requires over { AreOver (F.degree field.now) (F.product field.now) words.now }
+    requires few { length words.now ≤ 8 }
+    requires before { IsReduced (F.degree field.now) before.now.terms }
+{
+    let (term, bit, product, sum) = *row;
+    let of_product = word_product(alloc, field, words, before, 0, term, bit)?;
+    let of_sum = word_sum(alloc, field, words, before, 0, term)?;
+    Ok(size(&of_product) == product && size(&of_sum) == sum)
+}
+
+// Whether the stages of a polynomial have the sizes of the table.
+fn are_sizes<F: Field>(
+    alloc: Global,
+    field: &F,
+    words: &[CircuitWord],
+    before: &Poly,
+) -> Result<bool, AllocError>
+    requires over { AreOver (F.degree field.now) (F.product field.now) words.now }
+    requires few { length words.now ≤ 8 }
+    requires before { IsReduced (F.degree field.now) before.now.terms }
+{
+    for row in &SIZES {
+        if !have_sizes(alloc, field, words, before, row)? {
+            return Ok(false);
+        }
+    }
+    Ok(true)
+}
+
+// Whether those of the last cut have.
+fn of_last_cut<F: Field>(
+    alloc: Global,
+    field: &F,
+    net: &Net,
+    words: &[CircuitWord],
+    to: &CircuitWord,
+) -> Result<bool, AllocError>
+    requires words { AreOver (F.degree field.now) (F.product field.now) words.now }
+    requires few { length words.now ≤ 8 }
+    requires over { IsBasisOver (F.degree field.now) (F.product field.now) to.now.basis }
+    requires nets { length to.now.nets.items ≡ F.degree field.now }
+{
+    if net.gates().len() != 2 {
+        return Ok(false);
+    }
+    match cut_poly(alloc, field, net, words, to, 2)? {
+        Some(before) => are_sizes(alloc, field, words, &before),
+        None => Ok(false),
+    }
+}
+
+// The same of the conjunction.
+fn of_conjunction<F: Field>(alloc: Global, field: &F, net: &Net) -> Result<bool, AllocError> {
+    if field.k() != 2 {
+        return Ok(false);
+    }
+    let word_a = word(alloc, field, Role::Input, &[0, 1])?;
+    let to = word(alloc, field, Role::Output, &[2, 3])?;
+    of_last_cut(alloc, field, net, &[word_a], &to)
+}
+
 #[test]
-fn sizes_of_word_stages(rt: HostRuntime) -> Result<(), Fail> {
-    let alloc = rt.alloc();
-    let field = field(&rt);
-    let net = conjunction(&rt, alloc);
-    let first = sizes(alloc, &field, &net, 1, 1)?;
-    assert_eq!(rt; first, (Some(2), Some(3)));
-    let second = sizes(alloc, &field, &net, 1, 2)?;
-    assert_eq!(rt; second, (Some(3), Some(3)));
-    let third = sizes(alloc, &field, &net, 1, 3)?;
-    assert_eq!(rt; third, (None, Some(3)));
-    let beyond = sizes(alloc, &field, &net, 2, 1)?;
-    assert_eq!(rt; beyond, (None, None));
-    Ok(())
+fn sizes_of_word_stages(rt: HostRuntime) {
+    let net = net(&rt, rt.alloc(), CONJUNCTION);
+    assert!(rt; matches!(of_conjunction(rt.alloc(), &field(&rt), &net), Ok(true)));
 }

@@ -1,75 +1,82 @@
 //! Bits that are replaced and taken out.
-use super::common::field;
-use gf_field::{Field, is_element};
-use poly_mixed::{Generator, NoSteps, Poly, Steps, constant, scaled_bit, table_poly};
+ghost use Rattle.poly_mixed.specs.Polynomial.{IsReduced};
+
+use super::common::{has_text, read};
+use crate::circuits::field;
+use gf_field::Field;
+use poly_mixed::{Generator, NoSteps, Poly, Steps, table_poly};
 use std::alloc::{AllocError, Global};
 use std::process::Abort;
-use std::test::Fail;
 
-// bit 0 times bit 1, with the exclusive or of bits 2 and 3 in place of bit 1
+// the exclusive or of bits 2 and 3 in place of bit 1
+fn replace<F: Field>(alloc: Global, field: &F, poly: &mut Poly) -> Result<(), AllocError>
+    requires { IsReduced (F.degree field.now) poly.old.terms }
+{
+    let by = table_poly(alloc, field, &[2, 3], 0b0110)?;
+    poly.substitute_bit(field, 1, &by)
+}
+
+// the same in bit 0 times bit 1
 fn replaced<F: Field>(alloc: Global, field: &F) -> Result<Poly, AllocError> {
     let mut poly = table_poly(alloc, field, &[0, 1], 0b1000)?;
-    let by = table_poly(alloc, field, &[2, 3], 0b0110)?;
-    poly.substitute_bit(field, 1, &by)?;
+    replace(alloc, field, &mut poly)?;
     Ok(poly)
 }
 
-#[test]
-fn a_bit_is_replaced(rt: HostRuntime) -> Result<(), Fail> {
-    let alloc = rt.alloc();
-    let field = field(&rt, 0x7);
-    let poly = replaced(alloc, &field)?;
-    assert_eq!(rt; poly.len(), 2);
-    assert!(rt; !poly.has(1));
-    assert!(rt; poly.has(3));
-    Ok(())
+// whether the terms with bit 3 are these without it; nothing is recorded
+fn has_cofactor(rt: &impl Abort, alloc: Global, poly: &Poly, text: &[u8]) -> bool {
+    match poly.cofactor(alloc, 3) {
+        Ok(part) => {
+            NoSteps.step(Generator::Net(3), &part).is_ok() && has_text(rt, alloc, &part, text)
+        }
+        Err(_) => false,
+    }
 }
 
 #[test]
-fn a_cofactor(rt: HostRuntime) -> Result<(), Fail> {
+fn a_bit_is_replaced(rt: HostRuntime) {
     let alloc = rt.alloc();
-    let field = field(&rt, 0x7);
-    let part = replaced(alloc, &field)?.cofactor(alloc, 3)?;
-    let terms = part.terms(alloc)?;
-    assert_eq!(rt; terms.len(), 1);
-    assert_eq!(rt; terms[0].mono().bits(), [0].as_slice());
-    NoSteps.step(Generator::Net(3), &part)?;
-    Ok(())
+    let is_replaced = match replaced(alloc, &field(&rt)) {
+        Ok(poly) => {
+            poly.len() == 2
+                && !poly.has(1)
+                && poly.has(3)
+                && has_cofactor(&rt, alloc, &poly, b"A[0]")
+        }
+        Err(_) => false,
+    };
+    assert!(rt; is_replaced);
 }
 
-// bit 1 and a constant, each times 2
-fn bit_and_constant<F: Field>(
+// whether a bit taken out leaves these two polynomials: the terms with it, and the others
+fn leaves(
     rt: &impl Abort,
     alloc: Global,
-    field: &F,
-) -> Result<Poly, AllocError> {
-    assert!(rt; is_element(field, 2));
-    let mut poly = scaled_bit(alloc, field, 2, 1)?;
-    let rest = constant(alloc, field, 2)?;
-    poly.add_into(field, &rest)?;
-    Ok(poly)
+    poly: &mut Poly,
+    bit: u32,
+    taken: &[u8],
+    left: &[u8],
+) -> bool {
+    match poly.take_cofactor(alloc, bit) {
+        Ok(part) => {
+            !poly.has(bit) && has_text(rt, alloc, &part, taken) && has_text(rt, alloc, poly, left)
+        }
+        Err(_) => false,
+    }
 }
 
-#[test]
-fn the_terms_with_a_bit_are_taken_out(rt: HostRuntime) -> Result<(), Fail> {
-    let alloc = rt.alloc();
-    let field = field(&rt, 0x7);
-    let mut poly = bit_and_constant(&rt, alloc, &field)?;
-    let part = poly.take_cofactor(alloc, 1)?.terms(alloc)?;
-    assert_eq!(rt; part.len(), 1);
-    assert!(rt; part[0].mono().bits().is_empty());
-    assert_eq!(rt; poly.terms(alloc)?.len(), 1);
-    assert!(rt; !poly.has(1));
-    Ok(())
+// the same of twice bit 1, and 2
+fn takes(rt: &impl Abort, alloc: Global, bit: u32, taken: &[u8], left: &[u8]) -> bool {
+    match read(rt, alloc, &field(rt), b"0x2*A[1] + 0x2") {
+        Some(mut poly) => leaves(rt, alloc, &mut poly, bit, taken, left),
+        None => false,
+    }
 }
 
+// the second bit stands nowhere
 #[test]
-fn a_bit_that_stands_nowhere_is_taken_out(rt: HostRuntime) -> Result<(), Fail> {
+fn the_terms_with_a_bit_are_taken_out(rt: HostRuntime) {
     let alloc = rt.alloc();
-    let field = field(&rt, 0x7);
-    let mut poly = bit_and_constant(&rt, alloc, &field)?;
-    let none = poly.take_cofactor(alloc, 2)?;
-    assert!(rt; none.terms(alloc)?.is_empty());
-    assert_eq!(rt; poly.terms(alloc)?.len(), 2);
-    Ok(())
+    assert!(rt; takes(&rt, alloc, 1, b"0x2", b"0x2"));
+    assert!(rt; takes(&rt, alloc, 2, b"0", b"0x2*A[1] + 0x2"));
 }

@@ -1,93 +1,73 @@
 //! Polynomials of tables of gates, and their exclusive-or forms.
-use super::common::field;
+use super::common::has_text;
+use crate::circuits::field;
 use gf_field::Field;
-use poly_mixed::{Term, exclusive_form, table_poly};
-use std::alloc::{AllocError, Global};
+use poly_mixed::{exclusive_form, table_poly};
+use std::alloc::Global;
 use std::process::Abort;
-use std::test::Fail;
 
-// the terms of the polynomial of a table
-fn table_terms<F: Field>(
+// whether the polynomial of a table has this text
+fn has_polynomial<F: Field>(
     rt: &impl Abort,
     alloc: Global,
     field: &F,
     ranks: &[u32],
     table: u64,
-) -> Result<Vec<Term>, AllocError> {
-    assert!(rt; ranks.len() <= 6);
-    table_poly(alloc, field, ranks, table)?.terms(alloc)
+    text: &[u8],
+) -> bool {
+    if ranks.len() > 6 {
+        return false;
+    }
+    match table_poly(alloc, field, ranks, table) {
+        Ok(poly) => has_text(rt, alloc, &poly, text),
+        Err(_) => false,
+    }
 }
 
-// the polynomial of a table has so many terms
-fn has_terms<F: Field>(
-    rt: &impl Abort,
-    alloc: Global,
-    field: &F,
-    ranks: &[u32],
-    table: u64,
-    want: usize,
-) -> Result<(), AllocError> {
-    assert_eq!(rt; table_terms(rt, alloc, field, ranks, table)?.len(), want);
-    Ok(())
-}
+// one rank twice, ranks in falling order, and none
+static TABLES: [(&[u32], u64, &[u8]); 5] = [
+    (&[3, 3], 0b1000, b"B[1]"),
+    (&[3, 3], 0b0110, b"0"),
+    (&[5, 2], 0b0010, b"B[0]*@12 + @12"),
+    (&[4, 0], 0b1000, b"A[0]*@9"),
+    (&[], 1, b"0x1"),
+];
 
 #[test]
-fn one_rank_twice(rt: HostRuntime) -> Result<(), Fail> {
-    let alloc = rt.alloc();
-    let field = field(&rt, 0x7);
-    let twice = table_terms(&rt, alloc, &field, &[3, 3], 0b1000)?;
-    assert_eq!(rt; twice.len(), 1);
-    assert_eq!(rt; twice[0].mono().bits(), [3].as_slice());
-    has_terms(&rt, alloc, &field, &[3, 3], 0b0110, 0)?;
-    Ok(())
+fn polynomials_of_tables(rt: HostRuntime) {
+    for (ranks, table, text) in &TABLES {
+        assert!(rt; has_polynomial(&rt, rt.alloc(), &field(&rt), ranks, *table, text));
+    }
 }
 
+// where six bits are 0
 #[test]
-fn ranks_in_falling_order(rt: HostRuntime) -> Result<(), Fail> {
-    let alloc = rt.alloc();
-    let field = field(&rt, 0x7);
-    let back = table_terms(&rt, alloc, &field, &[5, 2], 0b0010)?;
-    assert_eq!(rt; back.len(), 2);
-    assert_eq!(rt; back[0].mono().bits(), [2, 5].as_slice());
-    assert_eq!(rt; back[1].mono().bits(), [5].as_slice());
-    assert_eq!(rt; back[1].coefficient(), 1);
-    Ok(())
+fn a_table_of_six_ranks(rt: HostRuntime) {
+    let has_64_terms = match table_poly(rt.alloc(), &field(&rt), &[0, 1, 2, 3, 4, 5], 1) {
+        Ok(poly) => poly.len() == 64,
+        Err(_) => false,
+    };
+    assert!(rt; has_64_terms);
 }
 
-#[test]
-fn no_rank_and_six_ranks(rt: HostRuntime) -> Result<(), Fail> {
-    let alloc = rt.alloc();
-    let field = field(&rt, 0x7);
-    has_terms(&rt, alloc, &field, &[0, 1, 2, 3, 4, 5], 1, 64)?;
-    has_terms(&rt, alloc, &field, &[], 1, 1)?;
-    Ok(())
-}
-
-// functions of the first of six inputs, and their forms by hand
-
-#[test]
-fn forms_of_one_input(rt: HostRuntime) {
-    // the constants: nothing, and the empty product
-    assert_eq!(rt; exclusive_form(0), 0);
-    assert_eq!(rt; exclusive_form(u64::MAX), 1);
-    // a, and its negation
-    assert_eq!(rt; exclusive_form(0xaaaa_aaaa_aaaa_aaaa), 0b10);
-    assert_eq!(rt; exclusive_form(0x5555_5555_5555_5555), 0b11);
-}
+// functions of the first of six inputs, and their forms by hand: the constants, nothing and the empty product; a and its
+// negation; a and b, a or b, exactly one of them; the majority of three; all six, and none of them
+static FORMS: [(u64, u64); 10] = [
+    (0, 0),
+    (u64::MAX, 1),
+    (0xaaaa_aaaa_aaaa_aaaa, 0b10),
+    (0x5555_5555_5555_5555, 0b11),
+    (0x8888_8888_8888_8888, 0b1000),
+    (0xeeee_eeee_eeee_eeee, 0b1110),
+    (0x6666_6666_6666_6666, 0b0110),
+    (0xe8e8_e8e8_e8e8_e8e8, 0b0110_1000),
+    (1 << 63, 1 << 63),
+    (1, u64::MAX),
+];
 
 #[test]
-fn forms_of_two_inputs(rt: HostRuntime) {
-    // a and b, a or b, exactly one of them
-    assert_eq!(rt; exclusive_form(0x8888_8888_8888_8888), 0b1000);
-    assert_eq!(rt; exclusive_form(0xeeee_eeee_eeee_eeee), 0b1110);
-    assert_eq!(rt; exclusive_form(0x6666_6666_6666_6666), 0b0110);
-}
-
-#[test]
-fn forms_of_more_inputs(rt: HostRuntime) {
-    // the majority of three
-    assert_eq!(rt; exclusive_form(0xe8e8_e8e8_e8e8_e8e8), 0b0110_1000);
-    // all six, and none of them
-    assert_eq!(rt; exclusive_form(1 << 63), 1 << 63);
-    assert_eq!(rt; exclusive_form(1), u64::MAX);
+fn forms_of_tables(rt: HostRuntime) {
+    for (table, form) in &FORMS {
+        assert!(rt; exclusive_form(*table) == *form, "table {table}");
+    }
 }

@@ -1,69 +1,59 @@
-//! Values at points, and sums that vanish.
-use super::common::field;
+//! Values at points.
+ghost use Rattle.std.specs.Prelude.{IfOk, OnOk};
+ghost use Rattle.poly_mixed.specs.Polynomial.{IsElement, IsReduced};
+
+use crate::circuits::field_of;
 use gf_field::{Field, is_element};
-use poly_mixed::{Poly, constant, scaled_bit, scaled_power};
+use poly_mixed::{Poly, scaled_bit, scaled_power};
 use std::alloc::{AllocError, Global};
-use std::process::Abort;
-use std::test::Fail;
 
-// the value of c times word 7 to the power 3 plus c times bit 1, at one point
-fn value_at<F: Field>(
-    rt: &impl Abort,
-    alloc: Global,
-    field: &F,
-    c: u64,
-    x: u64,
-    bit: bool,
-) -> Result<u64, AllocError> {
-    assert!(rt; is_element(field, 3));
-    assert!(rt; is_element(field, c));
-    assert!(rt; is_element(field, x));
-    assert!(rt; is_element(field, 0));
+// c times bit 1 added to a polynomial
+fn add_bit<F: Field>(alloc: Global, field: &F, c: u64, sum: &mut Poly) -> Result<(), AllocError>
+    requires c { IsElement (F.degree field.now) c }
+    requires over { IsReduced (F.degree field.now) sum.old.terms }
+    ensures { OnOk result (IsReduced (F.degree field.now) sum.new.terms) }
+{
+    let bit = scaled_bit(alloc, field, c, 1)?;
+    sum.add_into(field, &bit)
+}
+
+// c times word 7 to the power 3 plus c times bit 1
+fn sum_of<F: Field>(alloc: Global, field: &F, c: u64) -> Result<Poly, AllocError>
+    requires three { IsElement (F.degree field.now) 3 }
+    requires c { IsElement (F.degree field.now) c }
+    ensures { IfOk result (λ q. IsReduced (F.degree field.now) q.terms) }
+{
     let mut sum = scaled_power(alloc, field, c, 7, 3)?;
-    let bits = scaled_bit(alloc, field, c, 1)?;
-    sum.add_into(field, &bits)?;
-    Ok(sum.value(field, &[0, 0, 0, 0, 0, 0, 0, x], &[false, bit]))
+    add_bit(alloc, field, c, &mut sum)?;
+    Ok(sum)
 }
 
-// over sixteen elements this is the value
-fn has_value(
-    rt: &impl Abort,
-    alloc: Global,
-    c: u64,
-    x: u64,
-    bit: bool,
-    want: u64,
-) -> Result<(), AllocError> {
-    let field = field(rt, 0x13);
-    assert_eq!(rt; value_at(rt, alloc, &field, c, x, bit)?, want);
-    Ok(())
+// whether it has this value at a point
+fn has_value<F: Field>(alloc: Global, field: &F, c: u64, x: u64, bit: bool, want: u64) -> bool {
+    if !is_element(field, 3) || !is_element(field, c) || !is_element(field, x) {
+        return false;
+    }
+    match sum_of(alloc, field, c) {
+        Ok(sum) => sum.value(field, &[0, 0, 0, 0, 0, 0, 0, x], &[false, bit]) == want,
+        Err(_) => false,
+    }
 }
 
-#[test]
-fn values(rt: HostRuntime) -> Result<(), Fail> {
-    let alloc = rt.alloc();
-    has_value(&rt, alloc, 1, 2, false, 8)?;
-    has_value(&rt, alloc, 1, 2, true, 9)?;
-    has_value(&rt, alloc, 2, 2, false, 3)?;
-    has_value(&rt, alloc, 2, 0, true, 2)?;
-    has_value(&rt, alloc, 0, 5, true, 0)?;
-    Ok(())
-}
-
-// the size of a constant added to itself
-fn cancelled<F: Field>(rt: &impl Abort, alloc: Global, field: &F) -> Result<usize, AllocError> {
-    assert!(rt; is_element(field, 1));
-    let one = constant(alloc, field, 1)?;
-    let mut sum = constant(alloc, field, 1)?;
-    sum.add_into(field, &one)?;
-    Ok(sum.len())
-}
+// over sixteen elements
+static VALUES: [(u64, u64, bool, u64); 5] = [
+    (1, 2, false, 8),
+    (1, 2, true, 9),
+    (2, 2, false, 3),
+    (2, 0, true, 2),
+    (0, 5, true, 0),
+];
 
 #[test]
-fn a_sum_of_0_leaves_no_term(rt: HostRuntime) -> Result<(), Fail> {
-    let alloc = rt.alloc();
-    let field = field(&rt, 0x7);
-    assert_eq!(rt; cancelled(&rt, alloc, &field)?, 0);
-    assert_eq!(rt; Poly::zero(alloc).len(), 0);
-    Ok(())
+fn values(rt: HostRuntime) {
+    for (c, x, bit, want) in &VALUES {
+        assert!(rt;
+            has_value(rt.alloc(), &field_of(&rt, 0x13), *c, *x, *bit, *want),
+            "{c} at {x}"
+        );
+    }
 }
