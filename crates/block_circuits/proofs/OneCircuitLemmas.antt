@@ -1,9 +1,9 @@
 -- A model with words and bases has one circuit at most.
-use Rattle.std.proofs.Common.{◌≡◌, ◌∙◌, ap, sym, refl, subst, ℕ, ◌+◌, List, [], map, Ok, Some}
+use Rattle.std.proofs.Common.{◌≡◌, ◌∙◌, sym, refl, subst, ℕ, ◌+◌, List, [], map, Ok, Some}
 use Rattle.std.specs.Prelude.{slice_get}
 use Rattle.net_core.specs.NetList.{NetList}
 use Rattle.net_words.specs.Bind.{BindingOf}
-use Rattle.net_words.specs.Binding.{Binding, BoundNet}
+use Rattle.net_words.specs.Binding.{BoundNet}
 use Rattle.net_words.specs.declared.word.WordText.{WordText}
 use Rattle.net_words.proofs.BindDetermined.{binding_determined}
 use Rattle.net_signature.specs.Body.{BlockValue}

@@ -1,9 +1,8 @@
 -- Faults of flattening and binding as those of a block.
-use Rattle.std.proofs.Common.{◌≡◌, ◌⊎◌, inl, inr, sym, subst, ℕ, List, [], Ok, Err}
-use Rattle.text_core.specs.Outcome.{Fits}
+use Rattle.std.proofs.Common.{◌≡◌, ◌⊎◌, inl, inr, ℕ, List, [], Ok, Err}
 use Rattle.net_core.specs.NetList.{NetList}
 use Rattle.net_words.specs.Bind.{BindingOf}
-use Rattle.net_words.specs.BindReading.{refusal, FitsBinding}
+use Rattle.net_words.specs.BindReading.{FitsBinding}
 use Rattle.net_words.specs.Binding.{Binding}
 use Rattle.net_words.specs.declared.binding.BindFault.{BindFault}
 use Rattle.net_words.specs.declared.binding.BindFault.TheVariants as binds
@@ -12,8 +11,7 @@ use Rattle.net_blif.specs.Design.{ModelValue}
 use Rattle.net_flat.specs.Flat.{Flattens}
 use Rattle.net_flat.specs.declared.flat_fault.FlatFault.{FlatFault}
 use Rattle.net_flat.specs.declared.flat_fault.FlatFault.TheVariants as flats
-use Rattle.block_circuits.specs.Block.{IsBlockFault, IsNotBound}
-use Rattle.block_circuits.specs.declared.fault.BlockFault.{BlockFault}
+use Rattle.block_circuits.specs.Block.{IsBlockFault}
 use Rattle.block_circuits.specs.private.Refusals.{bind_refusal_of, flat_refusal_of}
 
 module _ (design : List ModelValue) (model : ℕ) (words : List WordText) where

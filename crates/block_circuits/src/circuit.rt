@@ -3,7 +3,6 @@ ghost use Rattle.std.specs.Prelude.{◌≡◌, ◌≢◌, ℕ, [], Ok, IfErr, If
 ghost use Rattle.std.specs.List.{AllByRecursion};
 ghost use Rattle.net_core.specs.Sound.{IsSound};
 ghost use Rattle.net_flat.specs.Flat.{Flattens};
-ghost use Rattle.net_words.specs.Bind.{BindingOf};
 ghost use Rattle.net_words.specs.Binding.{AreWords};
 ghost use Rattle.net_words.specs.declared.word.Role.TheVariants.{Fed};
 ghost use Rattle.block_circuits.specs.Block.{IsBlockCircuit, IsBlockFault};

@@ -1,8 +1,7 @@
 //! The stages of a composition.
-ghost use Rattle.std.specs.Prelude.{◌≡◌, ◌+◌, length, map, Ok, IfErr, IfOk};
+ghost use Rattle.std.specs.Prelude.{map, Ok, IfErr, IfOk};
 ghost use Rattle.block_feeds.specs.Wiring.{feeding_graph};
 ghost use Rattle.block_plan.specs.Planned.{IsPlanned};
-ghost use Rattle.block_plan.specs.Structure.{IsUnfed};
 ghost use Rattle.block_wiring.specs.Answer.{AreWired};
 ghost use Rattle.instance_order.specs.LevelOrder.{IsLevelOrder};
 ghost use Rattle.block_compose.specs.Composed.{hierarchy_of, IsComposable, MayFault, StagesOf};

@@ -1,5 +1,5 @@
 -- The circuit of a model, flattened alone.
-use Rattle.std.proofs.Common.{◌≡◌, ◌≢◌, ◌∙◌, ap, sym, refl, subst, inl, inr, ⊎_elim, ℕ, zero, suc, ◌<◌, ◌+◌, ◌^◌, ◌⊎◌, List, [], ◌∷◌, length, map, get_or, All, Ok, Some, arith}
+use Rattle.std.proofs.Common.{◌≡◌, ◌≢◌, ◌∙◌, ap, sym, refl, subst, inl, inr, ℕ, zero, suc, List, [], ◌∷◌, length, map, get_or, All, Ok, Some}
 use Rattle.std.specs.Prelude.{slice_get}
 use Rattle.std.proofs.lemmas.Option.{slice_get-get_or}
 use Rattle.graph_core.proofs.GraphLemmas.{All_has}
@@ -8,11 +8,10 @@ use Rattle.net_core.specs.NetList.{NetList}
 use Rattle.net_core.specs.Sound.{IsSound}
 use Rattle.net_words.specs.Bind.{BindingOf}
 use Rattle.net_words.specs.Binding.{AreWords, Binding, HasWidth}
-use Rattle.net_words.specs.BoundTo.{output_bits, IsBoundTo}
+use Rattle.net_words.specs.BoundTo.{IsBoundTo}
 use Rattle.net_words.specs.Feeds.{AreFeeds}
 use Rattle.net_words.specs.OneCycle.{IsFlat}
 use Rattle.net_words.specs.declared.bound.BoundWord.{BoundWord}
-use Rattle.net_words.specs.declared.feed.FeedText.{FeedText}
 use Rattle.net_words.specs.declared.word.Role.{Role}
 use Rattle.net_words.specs.declared.word.Role.TheVariants.{Fed}
 use Rattle.net_words.specs.declared.word.WordText.{WordText}
@@ -23,7 +22,7 @@ use Rattle.net_flat.specs.Walk.{walk_of}
 use Rattle.gf_field.specs.Field.{HasNoZeroDivisors}
 use Rattle.gf_field.specs.Ring.{IsRing}
 use Rattle.circuit_model.specs.Circuit.{Circuit}
-use Rattle.circuit_model.specs.OfBinding.{circuit_with, output_basis}
+use Rattle.circuit_model.specs.OfBinding.{circuit_with}
 use Rattle.circuit_model.specs.WellFormed.{IsWellFormed}
 use Rattle.circuit_model.proofs.TakenLemmas.{taken_well}
 use Rattle.block_feeds.specs.Given.{HaveBasesOf}

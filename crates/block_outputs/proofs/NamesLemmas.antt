@@ -1,7 +1,6 @@
 -- Bound words stand on the nets of their names.
-use Rattle.std.proofs.Common.{◌≡◌, ◌≢◌, ◌∙◌, ap, sym, refl, subst, ℕ, zero, suc, ◌+◌, Bool, true, false, not, if◌then◌else◌, List, [], ◌∷◌, ◌++◌, length, Option, None, Some, Result, Ok, Err, append-nil, append_assoc, arith}
+use Rattle.std.proofs.Common.{◌≡◌, ◌≢◌, ◌∙◌, ap, sym, refl, subst, ℕ, suc, ◌+◌, Bool, true, false, not, if◌then◌else◌, List, [], ◌∷◌, ◌++◌, length, Option, None, Some, Ok, Err, append-nil, append_assoc}
 use Rattle.std.specs.List.{AllByRecursion}
-use Rattle.text_core.specs.Outcome.{Returns}
 use Rattle.net_core.specs.NetList.{number_of, NetList}
 use Rattle.net_words.specs.Bind.{bound_word, is_latch, names_with, place_net, taken_with, with_role, BindingOf, BoundOf, NetsOf}
 use Rattle.net_words.specs.Binding.{Binding}
@@ -9,7 +8,6 @@ use Rattle.net_words.specs.Roles.{stands_in}
 use Rattle.net_words.specs.declared.binding.BindFault.{BindFault}
 use Rattle.net_words.specs.declared.binding.BindFault.TheVariants.{NotInput, NotLatch, NetTwice}
 use Rattle.net_words.specs.declared.bound.BoundWord.{BoundWord}
-use Rattle.net_words.specs.declared.feed.Feed.{Feed}
 use Rattle.net_words.specs.declared.word.Role.{Role}
 use Rattle.net_words.specs.declared.word.Role.TheVariants.{Input, State, Fed, Output}
 use Rattle.net_words.specs.declared.word.WordText.{WordText}

@@ -1,17 +1,15 @@
 -- Instances that do not feed each other in a ring have one value each.
-use Rattle.std.proofs.Common.{◌≡◌, ◌∙◌, ap, ap₂, sym, refl, subst, inl, inr, ℕ, zero, suc, ◌<◌, ◌+◌, List, [], ◌∷◌, length, map, Some, arith}
+use Rattle.std.proofs.Common.{◌≡◌, ◌∙◌, ap, ap₂, sym, refl, subst, inl, inr, ℕ, zero, suc, ◌+◌, List, [], ◌∷◌, length, map, Some, arith}
 use Rattle.std.specs.Prelude.{slice_get, slice_index}
-use Rattle.std.specs.Option.{unwrap_or}
 use Rattle.std.proofs.lemmas.Bool.{cases_lt}
 use Rattle.std.proofs.lemmas.List.{get_or_past}
 use Rattle.std.proofs.lemmas.Option.{get_or_from_slice_get, slice_get_within}
 use Rattle.graph_core.proofs.ListLemmas.{get_below}
 use Rattle.graph_core.specs.Cycle.{grounded, IsGrounded}
-use Rattle.graph_core.specs.Graph.{edges, Graph, Has, HasEdge}
+use Rattle.graph_core.specs.Graph.{edges, Has, HasEdge}
 use Rattle.net_blif.specs.Top.{instances_of}
 use Rattle.gf_field.specs.Field.{HasNoZeroDivisors}
 use Rattle.gf_field.specs.Ring.{IsRing}
-use Rattle.circuit_model.specs.Circuit.{Circuit}
 use Rattle.circuit_model.specs.Out.{IsOut}
 use Rattle.circuit_model.proofs.OutLemmas.{one_out}
 use Rattle.block_feeds.specs.Given.{IsGiven}

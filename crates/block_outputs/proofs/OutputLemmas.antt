@@ -1,5 +1,5 @@
 -- The output of each instance is that of its block, and the output of the top is the value of what feeds it.
-use Rattle.std.proofs.Common.{◌≡◌, ◌≢◌, ◌∙◌, ap, sym, refl, subst, inl, inr, ℕ, zero, suc, ◌<◌, ◌+◌, ◌^◌, Bool, List, [], ◌∷◌, ◌++◌, length, map, get_or, Ok, Option, None, Some, arith, add-one}
+use Rattle.std.proofs.Common.{◌≡◌, ◌∙◌, ap, sym, refl, subst, ℕ, zero, suc, ◌<◌, ◌+◌, ◌^◌, Bool, List, [], ◌∷◌, length, map, Ok, Some, arith, add-one}
 use Rattle.std.specs.Prelude.{slice_get, slice_index}
 use Rattle.std.proofs.lemmas.Option.{get_or_from_slice_get, slice_get_within}
 use Rattle.graph_core.proofs.CycleLemmas.{from_map}
@@ -12,7 +12,6 @@ use Rattle.net_core.specs.NetList.{NetList}
 use Rattle.net_core.specs.Value.{index_of, IsConsistent}
 use Rattle.net_words.specs.declared.word.Role.{Role}
 use Rattle.net_words.specs.declared.word.Role.TheVariants.{Input, State}
-use Rattle.net_signature.specs.Body.{BlockValue}
 use Rattle.net_blif.specs.Statement.{Token}
 use Rattle.net_blif.specs.Top.{connections_in, instances_of, model_in}
 use Rattle.net_blif.specs.declared.item.Item.{Item}
@@ -23,24 +22,23 @@ use Rattle.flat_parts.proofs.PartLemmas.{instance_part}
 use Rattle.gf_field.specs.Field.{HasNoZeroDivisors}
 use Rattle.gf_field.specs.Ring.{IsRing}
 use Rattle.circuit_model.specs.declared.circuit_feed.CircuitFeed.{CircuitFeed}
-use Rattle.circuit_model.specs.Circuit.{Circuit, IsFed, IsInput}
+use Rattle.circuit_model.specs.Circuit.{Circuit, IsInput}
 use Rattle.circuit_model.specs.Feeds.{fed_nets}
 use Rattle.circuit_model.specs.Out.{Ends, IsOut}
-use Rattle.circuit_model.specs.Run.{HaveElements, IsCycle, IsFirst, IsInputWord, IsOpenRun, IsStateWord}
+use Rattle.circuit_model.specs.Run.{HaveElements, IsCycle, IsFirst, IsInputWord, IsOpenRun}
 use Rattle.circuit_model.specs.Word.{HasElement, Word}
 use Rattle.circuit_model.proofs.OutLemmas.{open_out}
 use Rattle.circuit_model.proofs.WordLemmas.{index_small}
 use Rattle.block_feeds.specs.Feeds.{AreFeedsOf, FeedsOutput, Fits, IsInputWord as IsTopWord, IsOutputOf, StandsOn}
-use Rattle.block_feeds.specs.Given.{HaveBasesOf, IsGiven}
+use Rattle.block_feeds.specs.Given.{IsGiven}
 use Rattle.block_feeds.specs.Hierarchy.{actuals_of, bases_at, block_of, top_words, Hierarchy, IsInstance}
 use Rattle.block_feeds.specs.NamedWord.{inputs_among, named_words, outputs_among, NamedWord}
 use Rattle.block_feeds.specs.Values.{feed_value, AreInstanceValues, IsBlockOf, IsTop}
 use Rattle.block_feeds.specs.Wiring.{AreAllFeeds}
 use Rattle.block_feeds.specs.declared.feeder.Feeder.{Feeder}
 use Rattle.block_feeds.specs.declared.feeder.Feeder.TheVariants.{InputWord, OutputOf}
-use Rattle.block_outputs.proofs.InputsLemmas.{input_named, inputs_long, named_input, AreInputs}
+use Rattle.block_outputs.proofs.InputsLemmas.{input_named, inputs_long, named_input}
 use Rattle.block_outputs.proofs.InstanceLemmas.{facts_of, AreFacts}
-use Rattle.block_outputs.proofs.NamesLemmas.{HaveNumbers}
 use Rattle.block_outputs.proofs.PlaceLemmas.{connected_index, named_index, numbers_in}
 
 -- the element that names of the top hold in a list of bits of the whole, in a basis

@@ -1,13 +1,11 @@
 -- The bits of names of the top, and of formals in an instance.
-use Rattle.std.proofs.Common.{◌≡◌, ◌∙◌, ap, sym, refl, subst, ℕ, zero, suc, ◌+◌, ◌*◌, Bool, if◌then◌else◌, List, [], ◌∷◌, ◌++◌, length, map, Option, None, Some, arith}
-use Rattle.std.specs.Prelude.{slice_get}
+use Rattle.std.proofs.Common.{◌≡◌, ◌∙◌, ap, sym, refl, ℕ, ◌+◌, ◌*◌, Bool, if◌then◌else◌, List, [], ◌∷◌, map, Option, None, Some}
 use Rattle.std.specs.Option.{option_and_then, option_map}
-use Rattle.net_core.specs.NetList.{number_of}
 use Rattle.net_core.specs.Value.{bit_of, index_of}
 use Rattle.net_blif.specs.Statement.{Token}
 use Rattle.net_blif.specs.Top.{actual_in, connections_in}
 use Rattle.net_blif.specs.declared.item.Item.{Item}
-use Rattle.net_flat.specs.Paths.{inner, path_in, top, At}
+use Rattle.net_flat.specs.Paths.{top, At}
 use Rattle.net_flat.specs.Flat.{net_list, number, Flat}
 use Rattle.flat_parts.specs.Part.{IsPart}
 use Rattle.flat_parts.proofs.PartLemmas.{connected_net, named_bit, named_number}

@@ -1,5 +1,5 @@
 //! The blocks and the models of instances.
-ghost use Rattle.std.specs.Prelude.{◌≡◌, ◌<◌, ◌^◌, ℕ, List, true, filter, length, Ok, Some, IfErr, IfOk, OnOk};
+ghost use Rattle.std.specs.Prelude.{◌≡◌, ◌<◌, ◌^◌, ℕ, List, true, length, Ok, Some, IfErr, IfOk, OnOk};
 ghost use Rattle.indexmap.specs.IndexMap.{get_by_text};
 ghost use Rattle.net_blif.specs.Design.{model_named};
 ghost use Rattle.net_blif.specs.Item.{IsSoundItem};

@@ -1,7 +1,6 @@
 -- The values of instances' polynomials are the instances' values, and so the composed polynomial is the output.
-use Rattle.std.proofs.Common.{◌≡◌, ◌∙◌, ap, ap₂, sym, refl, subst, ℕ, zero, suc, ◌<◌, ◌≤◌, ◌+◌, ◌^◌, List, [], ◌∷◌, ◌++◌, length, map, take, get_or, Ok, Some, arith}
-use Rattle.std.specs.Prelude.{slice_get, slice_index}
-use Rattle.std.specs.List.{AllByRecursion}
+use Rattle.std.proofs.Common.{◌≡◌, ◌∙◌, ap, sym, refl, subst, ℕ, zero, suc, ◌<◌, ◌≤◌, ◌+◌, ◌^◌, List, [], ◌∷◌, length, map, take, Some, arith}
+use Rattle.std.specs.Prelude.{slice_get}
 use Rattle.std.proofs.lemmas.List.{get_or-take}
 use Rattle.std.proofs.lemmas.Nat.{pow_pos}
 use Rattle.std.proofs.lemmas.Option.{slice_get_within}
@@ -15,7 +14,7 @@ use Rattle.net_flat.specs.Flat.{net_list}
 use Rattle.gf_field.specs.Field.{HasNoZeroDivisors}
 use Rattle.gf_field.specs.Ring.{IsRing}
 use Rattle.gf_field.specs.laws.RootsLaws.{HasFewRoots-from_field}
-use Rattle.poly_mixed.specs.Polynomial.{value, IsElement, IsPoint, IsPolynomialOf, IsReduced, Point, Terms}
+use Rattle.poly_mixed.specs.Polynomial.{value, IsPoint, IsPolynomialOf, IsReduced, Point, Terms}
 use Rattle.poly_mixed.proofs.FieldLaws.{field_of}
 use Rattle.poly_mixed.proofs.Products.{value_element}
 use Rattle.poly_mixed.proofs.Roots.{independent}
@@ -37,7 +36,7 @@ use Rattle.block_feeds.specs.Wiring.{AreAllFeeds, HaveBlocks, IsWithoutRing}
 use Rattle.block_feeds.specs.declared.feeder.Feeder.{Feeder}
 use Rattle.block_feeds.specs.declared.feeder.Feeder.TheVariants.{InputWord, OutputOf}
 use Rattle.block_outputs.proofs.InputsLemmas.{inputs_long}
-use Rattle.block_outputs.proofs.InstanceLemmas.{facts_of, AreFacts}
+use Rattle.block_outputs.proofs.InstanceLemmas.{facts_of}
 use Rattle.block_outputs.proofs.OneValueLemmas.{one_list}
 use Rattle.block_outputs.proofs.OutputLemmas.{output_value, same_words}
 use Rattle.block_polys.specs.InstancePolys.{feed_at, poly_at, AreInstancePolys}

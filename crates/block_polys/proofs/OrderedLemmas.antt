@@ -1,5 +1,5 @@
 -- Instances that got their polynomials in an order have polynomials at what feeds them.
-use Rattle.std.proofs.Common.{◌≡◌, ◌∙◌, ap, sym, refl, subst, ℕ, zero, suc, ◌<◌, List, [], ◌∷◌, length, map, Some, arith}
+use Rattle.std.proofs.Common.{◌≡◌, ◌∙◌, ap, sym, refl, subst, ℕ, suc, ◌<◌, List, [], ◌∷◌, length, map, Some, arith}
 use Rattle.std.specs.Prelude.{slice_get, slice_index}
 use Rattle.std.specs.Option.{unwrap_or}
 use Rattle.std.proofs.lemmas.Option.{slice_get_within}
@@ -11,7 +11,7 @@ use Rattle.gf_field.specs.Ring.{IsRing}
 use Rattle.poly_mixed.specs.Polynomial.{value, IsPoint, IsPolynomialOf, IsReduced, Point, Terms}
 use Rattle.circuit_model.specs.Circuit.{Circuit}
 use Rattle.stage_model.specs.OutputInWords.{IsOutputInWords}
-use Rattle.instance_poly.specs.Instance.{point_of, AreReduced}
+use Rattle.instance_poly.specs.Instance.{point_of}
 use Rattle.block_feeds.specs.Feeds.{FeedsOutput, StandsOn}
 use Rattle.block_feeds.specs.Given.{IsGiven}
 use Rattle.block_feeds.specs.Hierarchy.{top_words, Hierarchy}
@@ -22,7 +22,7 @@ use Rattle.block_feeds.specs.declared.feeder.Feeder.{Feeder}
 use Rattle.block_feeds.specs.declared.feeder.Feeder.TheVariants.{InputWord, OutputOf}
 use Rattle.instance_polys.specs.Instances.{AreDone, IsReady}
 use Rattle.instance_polys.specs.Words.{feed_terms, values_of, AreWordPolys, IsFeedAmong}
-use Rattle.block_polys.specs.InstancePolys.{feed_at, poly_at, AreInstancePolys, HaveBlockPolys}
+use Rattle.block_polys.specs.InstancePolys.{feed_at, AreInstancePolys, HaveBlockPolys}
 use Rattle.block_polys.proofs.ComposedLemmas.{composed_output, reduced_at}
 
 mapped_twice : {A : Type 0} (f : A → Terms) (g : Terms → ℕ) (h : A → ℕ) (xs : List A) → ((j : ℕ) (x : A) → slice_get xs j ≡ Some x → g (f x) ≡ h x) → map g (map f xs) ≡ map h xs

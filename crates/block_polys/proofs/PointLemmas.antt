@@ -1,6 +1,6 @@
 -- Points and lists of elements.
-use Rattle.std.proofs.Common.{◌≡◌, ◌∙◌, ap, ap₂, sym, refl, subst, ℕ, zero, suc, ◌<◌, ◌≤◌, ◌+◌, ◌-◌, ◌^◌, List, [], ◌∷◌, ◌++◌, length, map, take, get_or, replicate, Some, arith, length-append}
-use Rattle.std.specs.Prelude.{slice_get, slice_index}
+use Rattle.std.proofs.Common.{◌≡◌, ap, ap₂, refl, subst, ℕ, zero, suc, ◌<◌, ◌≤◌, ◌+◌, ◌-◌, ◌^◌, List, [], ◌∷◌, ◌++◌, length, map, take, get_or, replicate, Some, arith, length-append}
+use Rattle.std.specs.Prelude.{slice_get}
 use Rattle.std.specs.List.{AllByRecursion}
 use Rattle.std.proofs.Math.ListN.{length-replicate}
 use Rattle.std.proofs.lemmas.Nat.{pow_pos}

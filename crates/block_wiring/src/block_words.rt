@@ -5,7 +5,7 @@ ghost use Rattle.net_blif.specs.Instances.{is_among};
 ghost use Rattle.net_blif.specs.Statement.{Token};
 ghost use Rattle.net_blif.specs.Table.{numbers_in};
 ghost use Rattle.block_feeds.specs.NamedWord.{inputs_among, outputs_among, NamedWord};
-ghost use Rattle.block_wiring.specs.private.Words.{in_some, is_mixed as are_mixed, some_in, Knows};
+ghost use Rattle.block_wiring.specs.private.Words.{in_some, is_mixed as are_mixed, Knows};
 
 use crate::named::{Named, word_at};
 use crate::nets::net_at;

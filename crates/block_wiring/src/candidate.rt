@@ -1,5 +1,5 @@
 //! What may feed a word.
-ghost use Rattle.std.specs.Prelude.{◌≡◌, ◌≤◌, IfOk, length, string_bytes};
+ghost use Rattle.std.specs.Prelude.{◌≡◌, IfOk, length, string_bytes};
 ghost use Rattle.gf_basis.specs.BasisParts.{elements_of};
 ghost use Rattle.block_wiring.specs.private.Linked.{is_on, its_key, same_elements as are_same_elements};
 

@@ -1,7 +1,6 @@
 //! The words of blocks, the instances, and what may feed them.
 ghost use Rattle.std.specs.Prelude.{◌≡◌, ◌<◌, ◌≤◌, ◌+◌, ◌^◌, ◌++◌, ℕ, [], ◌∷◌, IfOk, OnOk, length, map, slice_get, Some};
 ghost use Rattle.gf_basis.specs.BasisParts.{elements_of};
-ghost use Rattle.net_signature.specs.Body.{BlockValue};
 ghost use Rattle.block_feeds.specs.NamedWord.{inputs_among, named_words, outputs_among, NamedWord};
 ghost use Rattle.block_wiring.specs.private.Plain.{candidates_of, output_by, output_candidates, word_candidates, ArePlaced, HaveOutputs, HaveSize, HaveWords, IsListed};
 

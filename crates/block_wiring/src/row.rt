@@ -2,7 +2,7 @@
 ghost use Rattle.std.specs.Prelude.{◌≡◌, ◌<◌, ◌+◌, ◌^◌, ℕ, [], ◌∷◌, false, true, IfErr, IfNone, IfOk, IfSome, length, map, slice_get, Some};
 ghost use Rattle.block_feeds.specs.NamedWord.{outputs_among, NamedWord};
 ghost use Rattle.block_feeds.specs.declared.feeder.Feeder.{Feeder as FeederValue};
-ghost use Rattle.block_wiring.specs.private.Plain.{AreRows, AreSized, ComesOf, HaveSize, IsBadOutput, IsFirstFor, IsFoundFor, IsRefusedFirst, IsRow, IsRowFault, PlacedValue};
+ghost use Rattle.block_wiring.specs.private.Plain.{AreRows, AreSized, ComesOf, HaveSize, IsBadOutput, IsFirstFor, IsFoundFor, IsRefusedFirst, IsRow, IsRowFault};
 ghost use Rattle.block_wiring.specs.private.Words.{AreOf};
 
 use crate::candidates::Candidates;

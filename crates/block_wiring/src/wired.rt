@@ -1,10 +1,10 @@
 //! The wiring of a top.
-ghost use Rattle.std.specs.Prelude.{◌≡◌, ◌<◌, ◌≤◌, ◌^◌, ℕ, IfErr, IfNone, IfOk, IfSome, length, map};
+ghost use Rattle.std.specs.Prelude.{◌≡◌, ◌<◌, ◌^◌, ℕ, IfErr, IfNone, IfOk, IfSome, length};
 ghost use Rattle.block_feeds.specs.declared.feeder.Feeder.{Feeder as FeederValue};
 ghost use Rattle.block_wiring.specs.Answer.{rows_in, AreWired};
 ghost use Rattle.block_wiring.specs.Instanced.{hierarchy, IsInstanced};
 ghost use Rattle.block_wiring.specs.Refusal.{IsWiringFault};
-ghost use Rattle.block_wiring.specs.private.Plain.{candidates_of, AreSized, ArePlainlyWired, HaveSize, IsFirstOutput, IsOutputFeed, IsPlainFault};
+ghost use Rattle.block_wiring.specs.private.Plain.{AreSized, ArePlainlyWired, HaveSize, IsFirstOutput, IsOutputFeed, IsPlainFault};
 ghost use Rattle.block_wiring.specs.private.Words.{AreOf};
 
 use crate::answer::Wiring;

@@ -1,7 +1,7 @@
 -- The polynomial that a running sum holds: its size and its values.
-use Rattle.std.proofs.Common.{◌≡◌, ◌≢◌, ◌∙◌, ap, sym, refl, subst, ℕ, zero, suc, ◌<◌, ◌≤◌, ◌+◌, ◌*◌, ◌^◌, ◌==◌, Bool, true, false, cond, List, [], ◌∷◌, length, bit_xor, Result, Ok, Err, OnOk, arith}
+use Rattle.std.proofs.Common.{◌≡◌, ◌∙◌, ap, sym, refl, subst, ℕ, zero, suc, ◌<◌, ◌≤◌, ◌+◌, ◌*◌, ◌^◌, ◌==◌, true, false, cond, List, [], ◌∷◌, length, bit_xor, Result, Ok, Err, OnOk, arith}
 use Rattle.std.specs.Prelude.{Option, slice_index}
-use lib.Bits.{xor_assoc, xor_self, xor_zero_l, xor_zero_r}
+use lib.Bits.{xor_assoc, xor_self, xor_zero_r}
 use Rattle.std.proofs.lemmas.Bool.{eqb-true, eqb-false}
 use Rattle.std.proofs.lemmas.Nat.{pow_below}
 use Rattle.std.specs.List.{list_all}

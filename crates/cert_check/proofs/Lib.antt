@@ -9,7 +9,6 @@ pub mod RankLemmas
 pub mod InsideLemmas
 pub mod OutputLemmas
 pub mod WordsLemmas
-pub mod BasisLemmas
 pub mod FormLemmas
 pub mod SumLemmas
 pub mod PlaceLemmas

@@ -1,17 +1,15 @@
 -- Lists in which one entry is changed, and terms that are added one by one.
-use Rattle.std.proofs.Common.{◌≡◌, ◌≢◌, ◌∙◌, ap, sym, refl, subst, inl, inr, ℕ, zero, suc, ◌<◌, ◌≤◌, ◌+◌, ◌^◌, ◌==◌, Bool, true, false, cond, ◌*◌, ◌%◌, List, [], ◌∷◌, ◌++◌, length, take, drop, take_all, append-nil, drop_of_length-le, bit_xor, arith}
+use Rattle.std.proofs.Common.{◌≡◌, ◌≢◌, ◌∙◌, ap, sym, refl, subst, inl, inr, ℕ, zero, suc, ◌<◌, ◌≤◌, ◌+◌, ◌^◌, true, ◌*◌, ◌%◌, List, [], ◌∷◌, ◌++◌, length, take, drop, take_all, append-nil, drop_of_length-le, bit_xor, arith}
 use Rattle.std.specs.Prelude.{slice_index, slice_set, replicate}
 use Rattle.std.specs.List.{AllByRecursion}
-use Rattle.std.proofs.lemmas.Bool.{cases_eq, ne_eqb}
+use Rattle.std.proofs.lemmas.Bool.{cases_eq}
 use Rattle.std.proofs.lemmas.Nat.{one_shl, pow_below, pow_pos}
 use Rattle.std.specs.declared.cmp.Ordering.{Ordering}
 use Rattle.std.specs.declared.cmp.Ordering.TheVariants.{Less, Equal, Greater}
 use Rattle.std.specs.Ordering.{eq_by_cmp, is_eq}
 use Rattle.poly_mixed.specs.Monomial.{Monomial, text_cmp}
-use Rattle.poly_mixed.specs.Polynomial.{Terms}
-use Rattle.poly_mixed.specs.Sum.{plus_term}
 use Rattle.poly_mixed.proofs.Monomials.{text_cmp-same}
-use Rattle.cert_check.specs.private.Held.{power_of, with_term}
+use Rattle.cert_check.specs.private.Held.{power_of}
 
 pub put_long : (xs : List ℕ) (i x : ℕ) → length (slice_set xs i x) ≡ length xs
 put_long [] i x = refl

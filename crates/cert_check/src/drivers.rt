@@ -1,5 +1,5 @@
 //! The gates that drive nets.
-ghost use Rattle.std.specs.Prelude.{◌≡◌, ◌<◌, ◌≤◌, length, drop, is_some, slice_set, get_or, IfOk, None, Some};
+ghost use Rattle.std.specs.Prelude.{◌≡◌, ◌<◌, length, is_some, slice_set, get_or, IfOk, None, Some};
 ghost use Rattle.net_core.specs.NetList.{nets};
 ghost use Rattle.cert_check.specs.private.Reading.{AreDrivers};
 

@@ -1,5 +1,5 @@
 //! The first two lines of a certificate.
-ghost use Rattle.std.specs.Prelude.{◌≡◌, ◌<◌, ◌≤◌, length, drop, IfOk, IfSome, IfNone, ◌∷◌, []};
+ghost use Rattle.std.specs.Prelude.{◌≡◌, ◌<◌, ◌≤◌, length, drop, IfOk};
 ghost use Rattle.std.specs.Str.Lines.{lines};
 ghost use Rattle.text_core.specs.Outcome.{Fits, Returns};
 ghost use Rattle.poly_mixed.specs.Polynomial.{IsReduced};

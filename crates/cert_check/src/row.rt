@@ -1,7 +1,7 @@
 //! Rows: a monomial times a sum of repeated squares of a word.
 ghost use Rattle.std.specs.Prelude.{◌≡◌, ℕ, ◌<◌, ◌≤◌, ◌^◌, bit_xor, length, replicate, slice_index, IfOk, OnOk};
 ghost use Rattle.gf_basis.specs.Dual.{linear_value};
-ghost use Rattle.poly_mixed.specs.Polynomial.{IsElement, IsMonomial, IsPoint, Point, term_value};
+ghost use Rattle.poly_mixed.specs.Polynomial.{IsElement, IsPoint, Point, term_value};
 ghost use Rattle.cert_check.specs.private.Held.{power_of, row_term, row_value, with_first, with_term, IsForm, IsRow};
 
 use crate::form::Form;

@@ -1,5 +1,5 @@
 //! Tokens at the front of a line.
-ghost use Rattle.std.specs.Prelude.{◌≡◌, ◌≤◌, ◌+◌, ◌*◌, ◌^◌, length, drop, MatchOption};
+ghost use Rattle.std.specs.Prelude.{◌≡◌, ◌≤◌, ◌+◌, ◌*◌, ◌^◌, length, MatchOption};
 ghost use Rattle.text_core.specs.Numbers.{value_of, digit_value};
 ghost use Rattle.poly_mixed.specs.Scan.{run, after as after_run, skip as skipped, name_of as name_in_front, index_of};
 ghost use Rattle.cert_check.specs.Scan.{is_blank as is_blank_text, after_word as after_this_word, after_first as after_this_byte, after_sign as after_this_sign, is_hex as is_hex_text, digits_first as digits_in_front, digits_in, digits_at as digits_of, indexed_in, indexed_at as indexed_of};

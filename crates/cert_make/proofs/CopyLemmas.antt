@@ -1,12 +1,12 @@
 -- The texts of multipliers, one by one.
-use Rattle.std.proofs.Common.{◌≡◌, ◌∙◌, ap, sym, refl, subst, ℕ, zero, suc, ◌<◌, ◌≤◌, ◌+◌, ◌==◌, ◌&&◌, Bool, true, false, cond, not, List, [], ◌∷◌, ◌++◌, length, map, take, get_or, take_all, Some, arith, add-one}
-use Rattle.std.specs.Prelude.{codes, replicate, slice_get}
+use Rattle.std.proofs.Common.{◌≡◌, ◌∙◌, ap, sym, refl, subst, ℕ, zero, suc, ◌<◌, ◌≤◌, ◌+◌, ◌==◌, ◌&&◌, true, false, cond, not, List, [], ◌∷◌, ◌++◌, length, take, get_or, take_all, arith, add-one}
+use Rattle.std.specs.Prelude.{codes, replicate}
 use Rattle.std.proofs.lemmas.List.{map-append, length-map}
 use Rattle.poly_mixed.specs.Labels.{Labelling}
 use Rattle.poly_mixed.specs.Monomial.{Monomial}
 use Rattle.poly_mixed.specs.Polynomial.{Terms}
 use Rattle.poly_mixed.specs.Steps.{Step}
-use Rattle.poly_mixed.specs.Text.{text, hex_text, power_texts, powers_texts, variable_texts, factor_texts, joined, is_none}
+use Rattle.poly_mixed.specs.Text.{text, hex_text, powers_texts, variable_texts, factor_texts, joined, is_none}
 use Rattle.cert_make.specs.declared.certificate.Entry.{Entry}
 use Rattle.cert_make.specs.private.Kept.{pair_of, pairs_of}
 use Rattle.cert_make.specs.private.TextSharing.{texts}

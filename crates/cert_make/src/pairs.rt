@@ -1,5 +1,5 @@
 //! The lines of pairs, with a `let` line before the first pair of each shared multiplier.
-ghost use Rattle.std.specs.Prelude.{◌≡◌, ◌+◌, ◌<◌, ◌≤◌, ◌^◌, ◌++◌, ◌∷◌, ℕ, [], List, length, IfOk, OnOk};
+ghost use Rattle.std.specs.Prelude.{◌≡◌, ◌+◌, ◌<◌, ◌≤◌, ◌^◌, ◌++◌, ℕ, [], List, IfOk, OnOk};
 ghost use Rattle.std.specs.List.{AllByRecursion};
 ghost use Rattle.net_core.specs.Lists.{Has};
 ghost use Rattle.poly_mixed.specs.Labels.{Labelling};

@@ -19,10 +19,10 @@ use Rattle.net_core.proofs.ExistLemmas.{sound_levels}
 use Rattle.net_words.specs.Reach.{Draws}
 use Rattle.graph_core.proofs.ListLemmas.{get_below}
 use Rattle.circuit_model.specs.Word.{Word, IsInputWord, IsStateWord, word_nets}
-use Rattle.circuit_model.specs.Circuit.{Circuit, IsInNoWord, IsFed, IsFree, IsInput}
-use Rattle.circuit_model.specs.Feeds.{fed_nets, source_at}
+use Rattle.circuit_model.specs.Circuit.{Circuit, IsInNoWord, IsFree, IsInput}
+use Rattle.circuit_model.specs.Feeds.{fed_nets}
 use Rattle.circuit_model.specs.Job.{IsJob}
-use Rattle.circuit_model.specs.Run.{HaveElements, HasSource, IsCycle, IsFirst, IsNext, IsOpenRun}
+use Rattle.circuit_model.specs.Run.{HaveElements, IsCycle, IsFirst, IsNext, IsOpenRun}
 use Rattle.circuit_model.proofs.GivenLemmas.{has_or}
 use Rattle.circuit_model.proofs.WordLemmas.{same_bits}
 use Rattle.circuit_model.proofs.SourceLemmas.{latch_outs, find_word, role_input, role_state, same_start, element_at}

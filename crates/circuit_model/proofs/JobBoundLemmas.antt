@@ -1,8 +1,7 @@
 -- The job of words and feeds that are bound to a net list is one.
-use Rattle.std.proofs.Common.{◌≡◌, ◌⊎◌, ◌∙◌, ap, sym, refl, subst, inl, inr, ℕ, zero, suc, ◌<◌, ◌≤◌, ◌&&◌, Bool, true, false, List, [], ◌∷◌, ◌++◌, length, map, take, Some, cond, arith}
+use Rattle.std.proofs.Common.{◌≡◌, ◌⊎◌, ◌∙◌, ap, sym, refl, subst, inl, inr, ℕ, zero, suc, ◌<◌, ◌≤◌, ◌&&◌, true, false, List, [], ◌∷◌, ◌++◌, length, map, take, Some, cond, arith}
 use Rattle.std.specs.Prelude.{filter, not, slice_get}
 use Rattle.std.proofs.lemmas.Bool.{true≢false}
-use Rattle.net_core.specs.LatchValue.{LatchValue}
 use Rattle.net_core.specs.NetList.{NetList, nets}
 use Rattle.net_core.specs.Sound.{IsSound}
 use Rattle.net_core.specs.Lists.{Has, times}
@@ -29,7 +28,7 @@ use Rattle.circuit_model.specs.Word.{Word, IsFedWord, word_nets}
 use Rattle.circuit_model.specs.OfBinding.{output_basis, HaveBases}
 use Rattle.circuit_model.specs.JobOfBinding.{job_word_with, job_words_of, inner_number, inner_source, job_feed, job_with}
 use Rattle.circuit_model.specs.Job.{IsJob, IsJobWord, IsFeed, IsSource, net_count}
-use Rattle.circuit_model.proofs.BoundLemmas.{only_one, none_at, word_has, IsOutputWord, find_output}
+use Rattle.circuit_model.proofs.BoundLemmas.{only_one, none_at, IsOutputWord, find_output}
 use Rattle.circuit_model.proofs.SourceLemmas.{find_word, role_input}
 
 nets_with : (r : Role) (ns basis : List ℕ) (ws : List Word) (rest : List ℕ) → word_nets ws ≡ rest → word_nets (job_word_with r ns basis ++ ws) ≡ bits_with r ns ++ rest

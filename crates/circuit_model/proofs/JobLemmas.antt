@@ -1,5 +1,5 @@
 -- A well-formed circuit is a job to which nothing is fed, and whose words all stand on nets.
-use Rattle.std.proofs.Common.{◌≡◌, ◌≢◌, ◌∙◌, sym, refl, subst, ℕ, ◌↔◌, Bool, List, [], length, arith}
+use Rattle.std.proofs.Common.{◌≡◌, ◌≢◌, ◌∙◌, sym, refl, subst, ℕ, ◌↔◌, Bool, List, [], arith}
 use Rattle.net_core.specs.Lists.{Has}
 use Rattle.net_words.specs.BoundTo.{StandsOn}
 use Rattle.net_words.specs.declared.word.Role.{Role}

@@ -11,6 +11,7 @@ pub mod DifferingLemmas
 pub mod OneRunLemmas
 pub mod OnesLemmas
 pub mod OutLemmas
+pub mod OutputBasisLemmas
 pub mod PlainLemmas
 pub mod SliceLemmas
 pub mod SomeRunLemmas

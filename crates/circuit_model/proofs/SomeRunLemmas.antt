@@ -14,7 +14,7 @@ use Rattle.circuit_model.specs.declared.circuit_feed.FeedSource.{FeedSource}
 use Rattle.circuit_model.specs.declared.circuit_feed.FeedSource.TheVariants.{Constant}
 use Rattle.circuit_model.specs.Feeds.{source_at}
 use Rattle.circuit_model.specs.Word.{Word, word_nets, IsInputWord, IsStateWord}
-use Rattle.circuit_model.specs.Circuit.{Circuit, IsInNoWord, IsFed, IsFree, IsInput}
+use Rattle.circuit_model.specs.Circuit.{Circuit, IsInNoWord, IsFed, IsInput}
 use Rattle.circuit_model.specs.Job.{IsJob, IsJobWord, net_count}
 use Rattle.circuit_model.specs.Run.{HasSource, IsCycle, IsFirst, IsNext, HasZeros, IsStart, IsRun}
 use Rattle.circuit_model.proofs.GivenLemmas.{Pairs, keys, given, given_not, given_has, bits_by, bits_long, bits_at}

@@ -1,13 +1,13 @@
 //! The polynomial of a circuit in its words.
-ghost use Rattle.std.specs.Prelude.{◌≡◌, ◌≤◌, IfErr, IfOk, OnOk};
+ghost use Rattle.std.specs.Prelude.{◌≡◌, IfErr, IfOk, OnOk};
 ghost use Rattle.circuit_model.specs.Bases.{circuit_in, AreBases};
 ghost use Rattle.stage_model.specs.Listing.{AreAllWithin};
 ghost use Rattle.stage_model.specs.OutputInWords.{IsOutputInWords};
 ghost use Rattle.circuit_poly.specs.Stages.{stages_in, IsFirstRefusal};
 
+use circuit_model::output_basis;
 use gf_basis::Basis;
 use gf_field::Field;
-use job_input::output_basis;
 use net_words::Combinational;
 use poly_mixed::{NoSteps, Poly, ReduceFault};
 use rato_reduce::reduce_bits;

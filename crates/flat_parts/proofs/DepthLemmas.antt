@@ -6,7 +6,7 @@ use Rattle.std.specs.Option.{option_map, option_map_or}
 use Rattle.std.proofs.lemmas.Option.{slice_get-map}
 use Rattle.graph_core.specs.Graph.{edges}
 use Rattle.net_blif.specs.Design.{ModelValue, items_of, model_named}
-use Rattle.net_blif.specs.Chains.{graph_of, leads_on, models_in, row_of, AreWithinDepth}
+use Rattle.net_blif.specs.Chains.{graph_of, leads_on, row_of, AreWithinDepth}
 use Rattle.net_blif.specs.Top.{instances_of, is_instance, model_in}
 use Rattle.net_blif.specs.declared.fault.BlifFault.{BlifFault}
 use Rattle.net_blif.specs.declared.fault.BlifFault.TheVariants.{TooDeep}
@@ -14,7 +14,7 @@ use Rattle.net_blif.specs.declared.item.Item.{Item}
 use Rattle.net_blif.specs.declared.item.Item.TheVariants as items
 use Rattle.net_flat.specs.Paths.{inner, Path, Scope}
 use Rattle.net_flat.specs.Steps.{Step}
-use Rattle.net_flat.specs.Walk.{body_in, lines_in, next_number, steps_in, walk_within}
+use Rattle.net_flat.specs.Walk.{lines_in, steps_in, walk_within}
 use Rattle.flat_parts.proofs.LiftLemmas.{walk_some}
 
 module _ (design : List ModelValue) where

@@ -1,5 +1,5 @@
 -- Small worked examples of the definitions of specs/, which the check computes.
-use Rattle.std.proofs.Common.{◌≡◌, List, [], ◌∷◌, codes, refl}
+use Rattle.std.proofs.Common.{◌≡◌, [], ◌∷◌, codes, refl}
 use Rattle.net_flat.specs.Paths.{At}
 use Rattle.flat_parts.specs.Part.{path_in_whole}
 

@@ -1,5 +1,5 @@
 -- The walk over the top has that of an instance in it.
-use Rattle.std.proofs.Common.{◌≡◌, ◌∙◌, ap, sym, refl, subst, append_assoc, ℕ, zero, suc, ◌+◌, List, [], ◌∷◌, ◌++◌, filter, Option, Some, arith}
+use Rattle.std.proofs.Common.{◌≡◌, ◌∙◌, ap, sym, subst, append_assoc, ℕ, zero, suc, ◌+◌, List, [], ◌∷◌, ◌++◌, filter, Some, arith}
 use Rattle.std.specs.Prelude.{slice_get}
 use Rattle.std.specs.Option.{option_map_or}
 use Rattle.net_blif.specs.Design.{ModelValue, model_named}
@@ -8,7 +8,7 @@ use Rattle.net_blif.specs.declared.item.Item.{Item}
 use Rattle.net_blif.specs.declared.item.Item.TheVariants as items
 use Rattle.net_flat.specs.Paths.{inner, Path, Scope}
 use Rattle.net_flat.specs.Steps.{Step}
-use Rattle.net_flat.specs.Walk.{body_in, lines_in, next_number, steps_in}
+use Rattle.net_flat.specs.Walk.{lines_in, steps_in}
 
 -- steps that stand in others
 pub record StandIn (part steps : List (Step Path)) : Type 0 where

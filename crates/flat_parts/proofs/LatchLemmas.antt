@@ -1,25 +1,22 @@
 -- A whole of instances without latches has none.
-use Rattle.std.proofs.Common.{◌≡◌, ◌∙◌, ap, sym, refl, subst, ℕ, zero, suc, ◌+◌, ◌≤◌, ◌^◌, Bool, true, false, cond, List, [], ◌∷◌, ◌++◌, map, filter, flat_map, length, Option, None, Some, Result, Ok, Err, arith}
+use Rattle.std.proofs.Common.{◌≡◌, ◌∙◌, ap, sym, refl, ℕ, suc, ◌+◌, ◌^◌, Bool, true, false, cond, List, [], ◌∷◌, ◌++◌, map, filter, flat_map, length, Option, None, Some, Ok, Err, arith}
 use Rattle.std.specs.Prelude.{nat_le, slice_get}
 use Rattle.std.specs.Option.{option_map_or}
 use Rattle.std.proofs.lemmas.List.{length-append}
-use Rattle.net_core.specs.LatchValue.{LatchValue}
 use Rattle.net_core.specs.declared.fault.NetFault.TheVariants as faults
 use Rattle.net_blif.specs.Statement.{Token}
-use Rattle.net_blif.specs.Connection.{actual_of}
 use Rattle.net_blif.specs.Design.{ModelValue, items_of, model_named}
-use Rattle.net_blif.specs.Instances.{first_found, or_else}
+use Rattle.net_blif.specs.Instances.{first_found}
 use Rattle.net_blif.specs.Top.{connections_in, gate_line, instances_of, is_instance, line_in, model_in}
 use Rattle.net_blif.specs.Chains.{AreWithinDepth}
 use Rattle.net_blif.specs.declared.item.Item.{Item}
 use Rattle.net_blif.specs.declared.item.Item.TheVariants as items
 use Rattle.net_flat.specs.Paths.{inner, path_in, top, Path, Scope}
-use Rattle.net_flat.specs.Steps.{actual_steps, along, input_steps, output_steps, steps_of, Step, Mention, Input, Output, Gate, Latch, Enter}
-use Rattle.net_flat.specs.Walk.{body_in, is_top, lines_in, next_number, steps_in, walk_of, walk_within}
-use Rattle.net_flat.specs.Flat.{after_step, gate_on, nothing, number, on_value, walked, was_mentioned, Flat}
-use Rattle.net_flat.specs.declared.flat_fault.FlatFault.{FlatFault}
-use Rattle.net_flat.specs.declared.flat_fault.FlatFault.TheVariants.{Net, TooManyInstances}
-use Rattle.flat_parts.proofs.LiftLemmas.{lifted, lifted_step, start_aligned, walk_lifted, walk_some}
+use Rattle.net_flat.specs.Steps.{actual_steps, along, input_steps, output_steps, Step, Mention, Input, Output, Gate, Latch, Enter}
+use Rattle.net_flat.specs.Walk.{is_top, lines_in, steps_in, walk_of, walk_within}
+use Rattle.net_flat.specs.Flat.{after_step, nothing, number, walked, was_mentioned, Flat}
+use Rattle.net_flat.specs.declared.flat_fault.FlatFault.TheVariants.{Net}
+use Rattle.flat_parts.proofs.LiftLemmas.{lifted, start_aligned, walk_lifted, walk_some}
 use Rattle.flat_parts.proofs.DepthLemmas.{shallow_instance}
 use Rattle.flat_parts.proofs.GrownLemmas.{after_first, latch_made, gate_made, enter_made, same_of, with_net}
 

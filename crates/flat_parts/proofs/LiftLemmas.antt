@@ -1,15 +1,14 @@
 -- The walk over a model inside an instance, step by step the walk over the model by itself.
-use Rattle.std.proofs.Common.{◌≡◌, ◌∙◌, ap, sym, refl, subst, append_assoc, ℕ, zero, suc, Bool, true, false, cond, List, [], ◌∷◌, ◌++◌, map, flat_map, Option, None, Some}
+use Rattle.std.proofs.Common.{◌≡◌, ◌∙◌, ap, sym, refl, append_assoc, ℕ, zero, suc, Bool, true, false, cond, List, [], ◌∷◌, ◌++◌, map, flat_map, Option, None, Some}
 use Rattle.std.specs.Option.{option_map_or}
 use Rattle.std.specs.Str.{bytes_eq}
-use Rattle.net_core.specs.declared.latch.Start.{Start}
 use Rattle.net_blif.specs.Statement.{Token}
 use Rattle.net_blif.specs.Connection.{actual_of, formal_of}
 use Rattle.net_blif.specs.Design.{ModelValue, items_of, model_named}
 use Rattle.net_blif.specs.declared.item.Item.{Item}
 use Rattle.net_blif.specs.declared.item.Item.TheVariants as items
 use Rattle.net_flat.specs.Paths.{connected, inner, path_among, path_in, top, At, Path, Scope}
-use Rattle.net_flat.specs.Steps.{actual_steps, along, gate_steps, input_steps, latch_steps, output_steps, steps_of, Step, Mention, Input, Output, Gate, Latch, Enter}
+use Rattle.net_flat.specs.Steps.{actual_steps, along, input_steps, output_steps, steps_of, Step, Mention, Input, Output, Gate, Latch, Enter}
 use Rattle.net_flat.specs.Walk.{body_in, is_top, lines_in, next_number, steps_in, walk_within}
 use Rattle.flat_parts.specs.Part.{path_in_whole}
 

@@ -1,5 +1,5 @@
 -- Bits that are consistent with the whole, restricted to an instance.
-use Rattle.std.proofs.Common.{◌≡◌, ◌∙◌, ap, sym, refl, subst, ℕ, ◌+◌, ◌*◌, Bool, true, false, cond, ◌==◌, List, [], ◌∷◌, ◌++◌, map, length, Option, None, Some, Result, Ok, arith}
+use Rattle.std.proofs.Common.{◌≡◌, ◌∙◌, ap, sym, refl, subst, ℕ, ◌+◌, ◌*◌, Bool, true, false, cond, ◌==◌, List, [], ◌∷◌, ◌++◌, map, Option, None, Some, Ok, arith}
 use Rattle.std.specs.Prelude.{is_some, unwrap_or, slice_get}
 use Rattle.std.specs.Int.{bit_at}
 use Rattle.std.specs.Option.{option_map, option_map_or}
@@ -15,7 +15,7 @@ use Rattle.net_blif.specs.Connection.{actual_of, formal_of}
 use Rattle.net_blif.specs.Design.{ModelValue, items_of, model_named}
 use Rattle.net_blif.specs.Chains.{AreWithinDepth}
 use Rattle.net_blif.specs.Instances.{first_found, or_else}
-use Rattle.net_blif.specs.Top.{actual_at, actual_in, connections_in, instances_of, model_in}
+use Rattle.net_blif.specs.Top.{actual_at, connections_in, instances_of, model_in}
 use Rattle.net_blif.specs.declared.item.Item.{Item}
 use Rattle.net_flat.specs.Paths.{connected, inner, label_of, path_among, path_in, top, At, Path}
 use Rattle.net_flat.specs.Steps.{Step}
@@ -29,7 +29,7 @@ use Rattle.flat_parts.proofs.DepthLemmas.{shallow_instance}
 use Rattle.flat_parts.proofs.InWalkLemmas.{body_stands, StandIn}
 use Rattle.flat_parts.proofs.GrownLemmas.{between, place_path, walk_grown}
 use Rattle.flat_parts.proofs.NamedLemmas.{walk_named}
-use Rattle.flat_parts.proofs.SideLemmas.{later_beside, nothing_beside, walks_beside, AreBeside, IsOfBoth}
+use Rattle.flat_parts.proofs.SideLemmas.{later_beside, nothing_beside, walks_beside, AreBeside}
 
 is_mentioned : (flat : Flat) (path : Path) → was_mentioned flat path ≡ true → IsMentioned flat path
 is_mentioned flat path e = by (place flat path) refl e

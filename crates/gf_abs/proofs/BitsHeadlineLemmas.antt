@@ -16,6 +16,7 @@ use Rattle.circuit_model.proofs.OnesLemmas.{alike_back, alike_ones}
 use Rattle.circuit_model.proofs.OutLemmas.{one_out}
 use Rattle.stage_model.specs.First.{InFirstRanks}
 use Rattle.spec_compare.specs.ValueAt.{at_ones, IsInInputBits}
+use Rattle.spec_compare.proofs.BitPolynomialLemmas.{same_in_bits}
 use Rattle.spec_compare.proofs.ComparedLemmas.{nets_long}
 use Rattle.spec_compare.proofs.SomeOnesLemmas.{as_value, some_ones, the_ones}
 use Rattle.job_words.specs.Operands.{Word}
@@ -32,7 +33,6 @@ use Rattle.gf_abs.specs.Reply.{Reply, polynomial_line}
 use Rattle.gf_abs.specs.commands.Abstract.{taken_circuit}
 use Rattle.gf_abs.specs.commands.Bits.{BitsReply}
 use Rattle.gf_abs.proofs.AlikeLemmas.{alike}
-use Rattle.gf_abs.proofs.BitPolynomialLemmas.{same_in_bits}
 use Rattle.gf_abs.proofs.EqualLabels.{few_bits}
 use Rattle.gf_abs.proofs.EqualLemmas.{count, in_bits, labels, one_written, roles, sound, well}
 use Rattle.gf_abs.proofs.HeadlineLemmas.{IsUnrolled, held_job, one_held, one_setting, unrolled}

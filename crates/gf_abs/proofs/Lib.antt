@@ -45,7 +45,6 @@ pub mod EqualLemmas
 pub mod EqualFunctions
 pub mod JobLemmas
 pub mod HeadlineLemmas
-pub mod BitPolynomialLemmas
 pub mod BitsHeadlineLemmas
 pub mod SameHeadlineLemmas
 pub mod CheckHeadlineLemmas

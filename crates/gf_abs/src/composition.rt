@@ -11,7 +11,7 @@ ghost use Rattle.job_input.specs.Labelling.{labels_of, word_labels};
 ghost use Rattle.job_input.specs.NetlistOf.{word_name as name_of_word};
 ghost use Rattle.job_input.specs.Setting.{IsReady, setting_value};
 ghost use Rattle.gf_abs.specs.commands.Compose.{instance_model as model_of_instance, stage_called, words_in as words_of_model};
-ghost use Rattle.gf_abs.specs.private.Composing.{HasNamedStage, IsComposeStop, IsStageIn};
+ghost use Rattle.gf_abs.specs.private.Composing.{HasNamedStage, IsComposeStop};
 ghost use Rattle.gf_abs.specs.private.StageStop.{stage_fault, IsRefusalOf};
 
 use crate::stages::stage_stop;

@@ -1,5 +1,5 @@
 //! The polynomial of a circuit's output in the bits of its words.
-ghost use Rattle.std.specs.Prelude.{◌≡◌, ◌≤◌, length, IfOk, IfErr, OnOk};
+ghost use Rattle.std.specs.Prelude.{◌≤◌, length, IfOk, IfErr, OnOk};
 ghost use Rattle.circuit_model.specs.WellFormed.{IsWellFormed};
 ghost use Rattle.stage_model.specs.Listing.{AreAllWithin, IsRefusal};
 ghost use Rattle.stage_model.specs.Mix.{IsMix};
@@ -11,8 +11,9 @@ ghost use Rattle.job_input.specs.Setting.{elements_of_each, setting_value, IsRea
 ghost use Rattle.gf_abs.specs.commands.Abstract.{taken_circuit};
 ghost use Rattle.gf_abs.specs.commands.Bits.{bits_stages};
 
+use circuit_model::output_basis;
 use gf_field::Field;
-use job_input::{Setting, output_basis};
+use job_input::Setting;
 use net_words::Combinational;
 use poly_mixed::{Poly, ReduceFault, Steps};
 use rato_reduce::reduce_bits;

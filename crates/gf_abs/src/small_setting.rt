@@ -1,5 +1,5 @@
 //! Whether a signature is small enough for tables.
-ghost use Rattle.std.specs.Prelude.{◌≡◌, ◌↔◌, length, IsTrue};
+ghost use Rattle.std.specs.Prelude.{◌↔◌, length, IsTrue};
 ghost use Rattle.lift_table.specs.Small.{IsSmall};
 
 use gf_field::Field;

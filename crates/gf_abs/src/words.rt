@@ -1,5 +1,5 @@
 //! The polynomial of a circuit's output in its words.
-ghost use Rattle.std.specs.Prelude.{◌≡◌, ◌<◌, ◌^◌, length, IfOk, IfErr, OnOk};
+ghost use Rattle.std.specs.Prelude.{◌<◌, ◌^◌, length, IfOk, IfErr, OnOk};
 ghost use Rattle.poly_mixed.specs.Text.{HasNames, HasWordNames};
 ghost use Rattle.stage_model.specs.Listing.{AreAllWithin, IsRefusal};
 ghost use Rattle.stage_model.specs.Mix.{IsMix};

@@ -1,6 +1,6 @@
 //! Parities of the bits that numbers share with a mask.
 
-ghost use Rattle.std.specs.Prelude.{◌≡◌, ◌<◌, ◌≤◌, ◌^◌, length};
+ghost use Rattle.std.specs.Prelude.{◌≡◌, ◌<◌, ◌≤◌, length};
 ghost use Rattle.gf_basis.specs.TraceWord.{parity as parity_of, parity_word};
 
 /// Whether the number of bits that are set in both is odd, as 0 or 1.

@@ -1,17 +1,16 @@
 -- Products of polynomials over 0 and 1 by groups of bits.
-use Rattle.std.proofs.Common.{◌≡◌, ℕ, zero, suc, refl, sym, ◌∙◌, ap, ap₂, ◌<◌, ◌≤◌, ◌^◌, ◌+◌, ◌*◌, ◌/◌, ◌%◌, ◌⊎◌, inl, inr, arith, one-mul, zero-mul, add-one, pow-suc, pow_pos, shr-shr, one-add, mod-lt, add_comm, mul_comm, mul_assoc}
+use Rattle.std.proofs.Common.{◌≡◌, ℕ, zero, suc, refl, sym, ◌∙◌, ap, ap₂, ◌<◌, ◌^◌, ◌+◌, ◌*◌, ◌/◌, ◌%◌, ◌⊎◌, inl, inr, arith, one-mul, zero-mul, add-one, pow-suc, pow_pos, shr-shr, one-add, mod-lt, add_comm, mul_comm, mul_assoc}
 use Rattle.std.specs.Prelude.{bit_xor}
 use Rattle.std.specs.Int.Bits.{xor_assoc, xor_self, xor_zero_l, xor_zero_r, xor_mod}
 use Rattle.std.proofs.lemmas.Nat.{shl-shr, shr_split, shr_below, mod-pow-add}
 use Rattle.std.proofs.Math.Nat.{add-mul-div_right, add-mul-mod_self_right}
-use native.Mathlib.Nat.{mod-eq_of_lt, div-one, mod-one, div-eq_of_lt}
+use native.Mathlib.Nat.{mod-eq_of_lt, div-one}
 use Rattle.gf_field.specs.Bit.{bit_mul}
 use Rattle.gf_field.specs.Modulus.{IsModulus}
 use Rattle.gf_field.specs.Polynomial.{IsProductModulo}
 use Rattle.gf_field.specs.Quotient.{product}
-use Rattle.gf_field.specs.laws.XorLaws.{xor_cross}
 use Rattle.gf_field.specs.laws.BitLaws.{IsRing-bit_mul, bit_cases}
-use Rattle.gf_field.specs.laws.ModulusLaws.{IsMonic-from_modulus, IsRing-from_modulus}
+use Rattle.gf_field.specs.laws.ModulusLaws.{IsMonic-from_modulus}
 use Rattle.gf_field.specs.laws.ProductLaws.{IsProduct_same}
 use Rattle.gf_field.specs.private.ShiftAndAdd.{times_x, times_power, part}
 use Rattle.gf_field.proofs.ShiftAndAddLaws.{times_x_reduced, times_x_doubled, times_x_below, times_x-xor, part_none, part_below, part_next, part_end, IsProductModulo-part}

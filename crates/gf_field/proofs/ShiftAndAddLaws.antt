@@ -1,9 +1,9 @@
 -- What each bit of a product of polynomials over 0 and 1 adds.
-use Rattle.std.proofs.Common.{◌≡◌, ℕ, zero, suc, sym, ◌∙◌, ap, ap₂, ◌<◌, ◌^◌, ◌*◌, ◌/◌, ◌%◌, ◌⊎◌, inl, inr, arith, one-mul, zero-mul, sub-eq-zero_of_le, shr-shr, add-one, pow_pos, add-zero, subst}
+use Rattle.std.proofs.Common.{◌≡◌, ℕ, zero, suc, sym, ◌∙◌, ap, ap₂, ◌<◌, ◌^◌, ◌*◌, ◌/◌, ◌%◌, ◌⊎◌, inl, inr, arith, one-mul, zero-mul, pow_pos, add-zero, subst}
 use Rattle.std.specs.Prelude.{bit_xor}
-use Rattle.std.specs.Int.Bits.{xor_zero_l, xor_zero_r, xor_lt, xor_comm}
+use Rattle.std.specs.Int.Bits.{xor_zero_r, xor_lt}
 use mathlib.Core.Path.{fun_ext}
-use native.Mathlib.Nat.{mod-eq_of_lt, div-one}
+use native.Mathlib.Nat.{mod-eq_of_lt}
 use Rattle.gf_field.specs.Modulus.{IsModulus}
 use Rattle.gf_field.specs.Bit.{bit_mul}
 use Rattle.gf_field.specs.Polynomial.{coefficient, IsProductModulo}

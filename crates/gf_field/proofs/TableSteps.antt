@@ -1,5 +1,5 @@
 -- The steps of products by tables, in the terms that the code computes.
-use Rattle.std.proofs.Common.{◌≡◌, ◌≢◌, ℕ, zero, suc, refl, sym, ◌∙◌, ap, ap₂, ◌<◌, ◌≤◌, ◌^◌, ◌+◌, ◌-◌, ◌*◌, ◌/◌, ◌%◌, inl, inr, arith, pow_mono, lt_of_lt_of_le, shr-shr, one-mul, zero-mul, mod-lt, pow_pos, mul_assoc, pow-add, bit_and, subst, List, length, replicate, get_or, set, get_or-set_other, length-set}
+use Rattle.std.proofs.Common.{◌≡◌, ◌≢◌, ℕ, zero, suc, sym, ◌∙◌, ap, ap₂, ◌<◌, ◌≤◌, ◌^◌, ◌+◌, ◌-◌, ◌*◌, ◌/◌, ◌%◌, inl, inr, arith, pow_mono, lt_of_lt_of_le, shr-shr, one-mul, zero-mul, mod-lt, pow_pos, mul_assoc, pow-add, bit_and, subst, List, length, replicate, get_or, set, get_or-set_other, length-set}
 use Rattle.std.proofs.lemmas.List.{get_or-set_same}
 use Rattle.std.proofs.Math.Nat.{mul-lt-mul_of_pos_right}
 use Rattle.std.specs.Prelude.{bit_xor}
@@ -20,7 +20,7 @@ use Rattle.gf_field.specs.laws.ProductLaws.{IsProductModulo-product}
 use Rattle.gf_field.specs.private.ShiftAndAdd.{times_x, times_power, part, AreParts}
 use Rattle.gf_field.proofs.Copies.{zeros}
 use Rattle.gf_field.proofs.ShiftAndAddLaws.{times_x_reduced, times_x_doubled}
-use Rattle.gf_field.proofs.PartLaws.{element_x, x_zero, part_zero, part_start, part_suc, part_element, part_longer, part_product, part_same, part_split, part_whole, power_steps}
+use Rattle.gf_field.proofs.PartLaws.{element_x, x_zero, part_zero, part_start, part_suc, part_longer, part_product, part_same, part_split, part_whole, power_steps}
 
 pub below_64 : (d g a : ℕ) → IsModulus d g → a < 2 ^ d → a < 2 ^ 64
 below_64 d g a ok h = lt_of_lt_of_le h (pow_mono ok.small)

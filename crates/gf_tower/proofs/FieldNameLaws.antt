@@ -13,7 +13,7 @@ use Rattle.gf_field.specs.laws.IrreducibleBitLaws.{field_by_modulus}
 use Rattle.gf_tower.specs.Tower.{IsLength, IsTowerList, tower_polynomial}
 use Rattle.gf_tower.specs.Digits.{IsPackedList}
 use Rattle.gf_tower.specs.laws.TowerLaws.{field_by_polynomial}
-use Rattle.gf_tower.specs.FieldName.{IsFieldModulus, IsFieldOver, IsFieldTower, IsFieldName, IsIrreducibleOver, tower_product}
+use Rattle.gf_tower.specs.FieldName.{IsFieldModulus, IsFieldOver, IsFieldName, IsIrreducibleOver, tower_product}
 use Rattle.gf_tower.specs.FieldFault.{IsFieldFault, HasTower}
 use Rattle.gf_tower.specs.declared.any_field.FieldFault.{FieldFault}
 use Rattle.gf_tower.specs.declared.any_field.FieldFault.TheVariants.{BadDegree, NotIrreducible, BadLength, BadCoefficient, TowerNotIrreducible, UpperBadLength, UpperBadCoefficient, UpperNotIrreducible}

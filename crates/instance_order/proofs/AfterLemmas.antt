@@ -1,5 +1,5 @@
 -- What the walk's order says of all points, and what the order by level says of edges.
-use Rattle.std.proofs.Common.{◌≡◌, ◌∙◌, ap, sym, subst, inl, inr, ◌⊎◌, ℕ, zero, suc, ◌<◌, ◌≤◌, ◌+◌, ◌-◌, max, List, [], ◌∷◌, length, Some, arith}
+use Rattle.std.proofs.Common.{◌≡◌, ◌∙◌, ap, subst, inl, inr, ℕ, zero, suc, ◌<◌, ◌≤◌, ◌+◌, ◌-◌, max, List, [], ◌∷◌, length, Some, arith}
 use Rattle.std.specs.Prelude.{slice_get, slice_index}
 use Rattle.std.proofs.lemmas.Bool.{cases_order}
 use Rattle.std.proofs.lemmas.Option.{get_or_from_slice_get, slice_get_within}
@@ -7,7 +7,7 @@ use Rattle.graph_core.specs.Arranged.{IsArranged}
 use Rattle.graph_core.specs.Graph.{edges, Graph, Has, HasEdge, IsInside}
 use Rattle.graph_core.proofs.ListLemmas.{get_below}
 use Rattle.net_core.specs.Order.{IsBefore}
-use Rattle.instance_order.specs.LevelOrder.{first_numbers, level_from, level_over, AreLevels, IsLevelOrder, IsOrderBy}
+use Rattle.instance_order.specs.LevelOrder.{first_numbers, level_from, level_over, IsLevelOrder, IsOrderBy}
 use Rattle.instance_order.proofs.LevelLemmas.{number_at, numbers_long, read_number}
 
 -- where all points are roots, all stand in the order

@@ -1,5 +1,5 @@
 -- A worked example, which the check computes.
-use Rattle.std.proofs.Common.{◌≡◌, refl, ℕ, List, [], ◌∷◌}
+use Rattle.std.proofs.Common.{◌≡◌, refl, [], ◌∷◌}
 use Rattle.instance_order.specs.LevelOrder.{first_numbers, level_over}
 
 -- a point that leads to points of the levels 1 and 3 has level 4, and one that leads nowhere has level 1

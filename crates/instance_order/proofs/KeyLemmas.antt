@@ -1,11 +1,10 @@
 -- Sorted levels and numbers give the order: the points are seen as gates without inputs, each of which drives the net of its number.
-use Rattle.std.proofs.Common.{◌≡◌, ◌∙◌, ap, sym, refl, subst, ℕ, zero, suc, ◌<◌, ◌+◌, List, [], ◌∷◌, ◌++◌, length, get_or, map, None, Some, unwrap_or, arith, add-one}
+use Rattle.std.proofs.Common.{◌≡◌, ◌∙◌, ap, sym, refl, subst, ℕ, zero, suc, ◌+◌, List, [], ◌∷◌, length, map, Some, arith}
 use Rattle.std.specs.Prelude.{slice_get, slice_index}
 use Rattle.std.specs.List.Sorted.{IsPermutation, IsSorted}
 use Rattle.std.specs.Ordering.{nat_cmp, ordering_then}
 use Rattle.std.proofs.lemmas.Option.{get_or_from_slice_get, slice_get_within}
 use Rattle.graph_core.proofs.ListLemmas.{get_below}
-use Rattle.graph_core.specs.Graph.{Has}
 use Rattle.net_core.specs.GateValue.{GateValue}
 use Rattle.net_core.specs.Level.{Levels}
 use Rattle.net_core.specs.NetList.{NetList}

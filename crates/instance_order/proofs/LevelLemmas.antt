@@ -2,10 +2,9 @@
 use Rattle.std.proofs.Common.{◌≡◌, ◌≢◌, ◌∙◌, ap, sym, refl, subst, inl, inr, ◌⊎◌, ℕ, zero, suc, ◌<◌, ◌≤◌, ◌+◌, max, All, List, [], ◌∷◌, ◌++◌, length, drop, get_or, set, replicate, Some, arith, add-one}
 use Rattle.std.specs.Prelude.{slice_get, slice_index}
 use Rattle.std.proofs.lemmas.Bool.{cases_order}
-use Rattle.std.proofs.lemmas.Option.{slice_get-get_or, slice_get_within, get_or_from_slice_get}
+use Rattle.std.proofs.lemmas.Option.{slice_get-get_or, slice_get_within}
 use Rattle.graph_core.specs.Arranged.{IsArranged}
-use Rattle.graph_core.specs.Graph.{edges, Graph, Has, HasEdge}
-use Rattle.graph_core.proofs.GraphLemmas.{All_has}
+use Rattle.graph_core.specs.Graph.{edges, Graph, Has}
 use Rattle.graph_core.proofs.ListLemmas.{get_below, get_set_other, get_set_same}
 use Rattle.instance_order.specs.LevelOrder.{first_numbers, level_from, level_over, AreLevels}
 

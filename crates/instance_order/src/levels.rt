@@ -1,5 +1,5 @@
 //! Levels of points.
-ghost use Rattle.std.specs.Prelude.{◌≡◌, ◌<◌, ◌≤◌, ◌+◌, ◌^◌, ℕ, length, All, IfOk, slice_get, Some};
+ghost use Rattle.std.specs.Prelude.{◌≡◌, ◌<◌, ◌≤◌, ◌+◌, ◌^◌, ℕ, length, All, IfOk};
 ghost use Rattle.graph_core.specs.Arranged.{IsArranged};
 ghost use Rattle.graph_core.specs.Graph.{Has};
 ghost use Rattle.instance_order.specs.LevelOrder.{level_over as level_of, AreLevels};

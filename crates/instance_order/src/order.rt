@@ -1,7 +1,7 @@
 //! The order of points by level and number.
-ghost use Rattle.std.specs.Prelude.{◌≡◌, ◌<◌, ◌^◌, ℕ, All, IfErr, IfOk, length, map};
+ghost use Rattle.std.specs.Prelude.{◌≡◌, ◌<◌, ◌^◌, All, IfErr, IfOk, length, map};
 ghost use Rattle.graph_core.specs.Fault.{IsCycleFault};
-ghost use Rattle.instance_order.specs.LevelOrder.{first_numbers, AreLevels, IsLevelOrder, IsOrderBy};
+ghost use Rattle.instance_order.specs.LevelOrder.{first_numbers, IsLevelOrder, IsOrderBy};
 ghost use Rattle.instance_order.specs.private.Keys.{AreKeys};
 
 use crate::levels::levels;

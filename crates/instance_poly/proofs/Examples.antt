@@ -1,5 +1,5 @@
 -- Worked examples, which the check computes.
-use Rattle.std.proofs.Common.{◌≡◌, refl, ℕ, ◌^◌, List, [], ◌∷◌}
+use Rattle.std.proofs.Common.{◌≡◌, refl, ◌^◌, [], ◌∷◌}
 use Rattle.spec_expand.specs.SpecValue.{factors_of}
 use Rattle.instance_poly.specs.Instance.{block_term, point_of}
 

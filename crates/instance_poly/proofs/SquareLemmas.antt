@@ -1,9 +1,9 @@
 -- The square of a sum is the sum of the squares.
-use Rattle.std.proofs.Common.{◌≡◌, ◌∙◌, ap, ap₂, sym, refl, subst, ℕ, zero, suc, ◌≤◌, ◌+◌, ◌^◌, ◌==◌, Bool, true, false, cond, List, [], ◌∷◌, ◌++◌, length, take, bit_xor, Some, arith, add-one}
+use Rattle.std.proofs.Common.{◌≡◌, ◌∙◌, ap, ap₂, sym, refl, subst, ℕ, zero, suc, ◌≤◌, ◌+◌, ◌==◌, true, false, cond, [], ◌∷◌, ◌++◌, length, take, bit_xor, Some, arith, add-one}
 use Rattle.std.specs.Prelude.{slice_get}
 use Rattle.std.specs.List.{list_all, AllByRecursion}
 use Rattle.std.proofs.lemmas.Bool.{eqb-true, eqb-false}
-use lib.Bits.{xor_zero_l, xor_zero_r, xor_assoc, xor_comm}
+use lib.Bits.{xor_zero_r, xor_assoc, xor_comm}
 use Rattle.gf_field.specs.Ring.{IsRing}
 use Rattle.gf_field.specs.Field.{HasNoZeroDivisors}
 use Rattle.gf_field.specs.laws.RingLaws.{mul_zero, square-xor}

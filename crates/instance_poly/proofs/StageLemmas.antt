@@ -1,6 +1,6 @@
 -- Functions of the feeds as stages: their polynomials, their sizes, and the stages of an instance in their order.
-use Rattle.std.proofs.Common.{◌≡◌, ◌∙◌, ap, ap₂, sym, refl, subst, inl, inr, ◌⊎◌, ℕ, zero, suc, ◌+◌, ◌<◌, ◌≤◌, ◌^◌, ◌*◌, List, [], ◌∷◌, ◌++◌, length, take, map, Some, bit_xor, arith}
-use Rattle.std.specs.Prelude.{slice_get, slice_index}
+use Rattle.std.proofs.Common.{◌≡◌, ◌∙◌, ap, ap₂, sym, refl, subst, inl, inr, ℕ, zero, suc, ◌+◌, ◌<◌, ◌≤◌, ◌^◌, List, [], ◌∷◌, ◌++◌, length, take, Some, bit_xor, arith}
+use Rattle.std.specs.Prelude.{slice_get}
 use Rattle.std.specs.List.{AllByRecursion}
 use Rattle.std.proofs.lemmas.Bool.{cases_order}
 use Rattle.std.proofs.Math.Pow.{pow_mono}
@@ -9,7 +9,6 @@ use Rattle.std.proofs.lemmas.Option.{slice_get_within}
 use lib.Bits.{xor_assoc, xor_comm, xor_lt}
 use Rattle.gf_field.specs.Ring.{IsRing}
 use Rattle.gf_field.specs.Field.{HasNoZeroDivisors}
-use Rattle.gf_field.specs.Power.{power}
 use Rattle.poly_mixed.specs.Monomial.{Monomial}
 use Rattle.poly_mixed.specs.Polynomial.{value, IsPoint, IsPolynomialOf, IsReduced, IsTerm, Point, Terms}
 use Rattle.poly_mixed.specs.Product.{IsProduct}
@@ -28,7 +27,7 @@ use Rattle.spec_expand.specs.SpecValue.{factors_of, powers_at, product_at, spec_
 use Rattle.spec_expand.proofs.SpecValueLemmas.{product_all, product_more, product_none, terms_taken}
 use Rattle.instance_poly.specs.Instance.{block_term, block_terms, point_of, powers_from}
 use Rattle.instance_poly.specs.InstanceListing.{instance_listing, instance_stage_of, is_earlier_instance_stage, is_instance_stage, IsAtFeeds, IsInstanceProduct}
-use Rattle.instance_poly.specs.private.Reached.{AreProductsWithin, AreTermsWithin, HasWithin, IsFeedPower, IsOverAt, IsProductOver, IsReached, IsSummed, IsTermRefusal}
+use Rattle.instance_poly.specs.private.Reached.{AreProductsWithin, HasWithin, IsFeedPower, IsProductOver, IsReached, IsSummed, IsTermRefusal}
 use Rattle.instance_poly.proofs.ValueLemmas.{terms_value}
 
 -- ---- a block's terms

@@ -1,17 +1,14 @@
 -- The sum of a block's terms is the value of its polynomial.
-use Rattle.std.proofs.Common.{◌≡◌, ◌∙◌, ap, ap₂, sym, refl, subst, ℕ, zero, suc, ◌<◌, ◌≤◌, ◌+◌, ◌-◌, ◌^◌, ◌||◌, length-append, Bool, true, false, cond, nat_eq, List, [], ◌∷◌, ◌++◌, length, drop, get_or, map, replicate, bit_xor, arith, add-one}
-use Rattle.std.specs.Prelude.{slice_index}
+use Rattle.std.proofs.Common.{◌≡◌, ◌∙◌, ap, ap₂, sym, refl, ℕ, zero, suc, ◌<◌, ◌≤◌, ◌+◌, ◌-◌, ◌||◌, length-append, true, false, cond, nat_eq, List, [], ◌∷◌, ◌++◌, length, drop, get_or, replicate, bit_xor, arith, add-one}
 use Rattle.std.proofs.Math.ListN.{length-replicate}
 use Rattle.std.specs.List.{list_all, AllByRecursion}
 use Rattle.std.proofs.lemmas.Bool.{eq-eqb}
-use Rattle.std.proofs.lemmas.List.{get_or_past}
 use Rattle.gf_field.specs.Power.{power}
 use Rattle.poly_mixed.specs.Monomial.{has_bit, Monomial}
-use Rattle.poly_mixed.specs.Cofactor.{LacksBit}
-use Rattle.poly_mixed.specs.Polynomial.{point, powers, term_value, value, IsTerm, Point, Terms}
+use Rattle.poly_mixed.specs.Polynomial.{powers, term_value, value, IsTerm, Terms}
 use Rattle.stage_model.specs.First.{InFirstRanks}
 use Rattle.spec_expand.specs.SpecValue.{powers_at, spec_at}
-use Rattle.instance_poly.specs.Instance.{block_term, block_terms, point_of, powers_from}
+use Rattle.instance_poly.specs.Instance.{block_terms, point_of, powers_from}
 
 -- zeros at the end of a list are read past its end too
 padded : (xs : List ℕ) (n i : ℕ) → get_or (xs ++ replicate n 0) i 0 ≡ get_or xs i 0

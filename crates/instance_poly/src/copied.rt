@@ -1,5 +1,5 @@
 //! Another polynomial that has the same values.
-ghost use Rattle.std.specs.Prelude.{◌≡◌, IfOk};
+ghost use Rattle.std.specs.Prelude.{IfOk};
 ghost use Rattle.poly_mixed.specs.Polynomial.{IsPolynomialOf, IsReduced, value};
 
 use gf_field::Field;

@@ -1,7 +1,6 @@
 //! The product of a block's term with its factors at the polynomials of what feeds an instance.
-ghost use Rattle.std.specs.Prelude.{◌≡◌, ◌≢◌, ◌<◌, ◌+◌, ◌/◌, ◌^◌, drop, length, map, slice_get, slice_index, [], Some, IfErr, IfOk, OnOk};
-ghost use Rattle.gf_field.specs.Power.{power as power_of};
-ghost use Rattle.poly_mixed.specs.Polynomial.{IsPolynomialOf, IsReduced, IsTerm};
+ghost use Rattle.std.specs.Prelude.{◌≡◌, ◌≢◌, ◌<◌, ◌+◌, ◌/◌, ◌^◌, drop, length, map, slice_get, slice_index, Some, IfErr, IfOk, OnOk};
+ghost use Rattle.poly_mixed.specs.Polynomial.{IsTerm};
 ghost use Rattle.poly_mixed.specs.laws.Uniqueness.{IsZeros};
 ghost use Rattle.spec_expand.specs.SpecValue.{factors_of};
 ghost use Rattle.instance_poly.specs.Instance.{block_term, feed_values, AreReduced};

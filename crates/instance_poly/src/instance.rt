@@ -1,5 +1,5 @@
 //! The polynomial of an instance.
-ghost use Rattle.std.specs.Prelude.{◌≡◌, ◌<◌, ◌^◌, length, map, IfErr, IfOk, OnOk};
+ghost use Rattle.std.specs.Prelude.{◌<◌, ◌^◌, length, map, IfErr, IfOk, OnOk};
 ghost use Rattle.poly_mixed.specs.Polynomial.{IsPolynomialOf, IsReduced, value};
 ghost use Rattle.poly_mixed.specs.laws.Uniqueness.{InFirstWords};
 ghost use Rattle.stage_model.specs.First.{InFirstRanks};

@@ -1,5 +1,5 @@
 //! The square of a polynomial. In a field of 2^k elements the square of a sum is the sum of the squares.
-ghost use Rattle.std.specs.Prelude.{◌≡◌, IfOk};
+ghost use Rattle.std.specs.Prelude.{IfOk};
 ghost use Rattle.poly_mixed.specs.Polynomial.{IsPolynomialOf, IsReduced, IsTerm, term_value, value};
 ghost use Rattle.instance_poly.specs.private.Square.{square_of};
 

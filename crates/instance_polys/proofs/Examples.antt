@@ -1,5 +1,5 @@
 -- A worked example, which the check computes.
-use Rattle.std.proofs.Common.{◌≡◌, refl, ℕ, List, [], ◌∷◌, map}
+use Rattle.std.proofs.Common.{◌≡◌, refl, [], ◌∷◌, map}
 use Rattle.poly_mixed.specs.Polynomial.{Terms}
 use Rattle.block_feeds.specs.declared.feeder.Feeder.TheVariants.{InputWord, OutputOf}
 use Rattle.instance_polys.specs.Words.{feed_terms}

@@ -3,19 +3,16 @@ use Rattle.std.proofs.Common.{◌≡◌, ◌≢◌, ◌∙◌, ap, ap₂, sym, r
 use Rattle.std.specs.Prelude.{slice_get, slice_index}
 use Rattle.std.specs.Option.{unwrap_or}
 use Rattle.std.specs.List.{AllByRecursion}
-use Rattle.std.proofs.lemmas.Option.{slice_get_within}
-use Rattle.graph_core.proofs.ListLemmas.{get_below, get_set_other}
 use Rattle.graph_core.specs.Graph.{Has}
-use Rattle.gf_field.specs.Field.{HasNoZeroDivisors}
 use Rattle.gf_field.specs.Power.{power}
 use Rattle.gf_field.specs.Ring.{IsRing}
 use Rattle.gf_field.specs.laws.PowerLaws.{power-one}
-use Rattle.poly_mixed.specs.Polynomial.{IsElement, IsPoint, IsPolynomialOf, IsReduced, Point, Terms}
+use Rattle.poly_mixed.specs.Polynomial.{IsElement, IsPolynomialOf, IsReduced, Terms}
 use Rattle.instance_poly.specs.Instance.{AreReduced}
 use Rattle.block_feeds.specs.Wiring.{instances_among}
 use Rattle.block_feeds.specs.declared.feeder.Feeder.{Feeder}
 use Rattle.block_feeds.specs.declared.feeder.Feeder.TheVariants.{InputWord, OutputOf}
-use Rattle.instance_polys.specs.Words.{feed_terms, AreWordPolys, IsFeedAmong}
+use Rattle.instance_polys.specs.Words.{feed_terms, AreWordPolys}
 
 -- ---- words
 

@@ -7,7 +7,7 @@ use Rattle.graph_core.proofs.ListLemmas.{get_below, get_set_other, get_set_same}
 use Rattle.graph_core.specs.Graph.{Has}
 use Rattle.gf_field.specs.Field.{HasNoZeroDivisors}
 use Rattle.gf_field.specs.Ring.{IsRing}
-use Rattle.poly_mixed.specs.Polynomial.{value, IsPolynomialOf, IsReduced, Point, Terms}
+use Rattle.poly_mixed.specs.Polynomial.{value, IsPolynomialOf, IsReduced, Terms}
 use Rattle.poly_mixed.specs.declared.stage.ReduceFault.{ReduceFault}
 use Rattle.poly_mixed.specs.declared.stage.ReduceFault.TheVariants.{TooManyTerms, OutOfMemory}
 use Rattle.poly_mixed.proofs.FieldLaws.{field_of}
@@ -18,7 +18,7 @@ use Rattle.instance_poly.specs.InstanceListing.{instance_listing}
 use Rattle.block_feeds.specs.Wiring.{instances_among}
 use Rattle.block_feeds.specs.declared.feeder.Feeder.{Feeder}
 use Rattle.instance_polys.specs.Words.{feed_terms, values_of}
-use Rattle.instance_polys.specs.Instances.{AreDone, IsDone, IsFirstOver, IsReady, IsRefused}
+use Rattle.instance_polys.specs.Instances.{AreDone, IsDone, IsReady, IsRefused}
 use Rattle.instance_polys.proofs.FeedLemmas.{feeds_kept}
 
 nothing_long : (n : ℕ) → length (replicate {A = Terms} n []) ≡ n

@@ -1,5 +1,5 @@
 //! The polynomials of instances.
-ghost use Rattle.std.specs.Prelude.{◌≡◌, ◌<◌, ◌+◌, ◌^◌, ℕ, [], length, map, replicate, slice_get, Some, IfErr, IfOk, OnOk};
+ghost use Rattle.std.specs.Prelude.{◌≡◌, ◌<◌, ◌+◌, ℕ, [], length, map, replicate, slice_get, Some, IfErr, IfOk, OnOk};
 ghost use Rattle.poly_mixed.specs.Polynomial.{IsPolynomialOf, value};
 ghost use Rattle.stage_model.specs.Listing.{AreAllWithin, IsRefusal};
 ghost use Rattle.instance_poly.specs.Instance.{block_terms, point_of, AreReduced};

@@ -1,19 +1,18 @@
 -- The words that a matrix takes to 0, from an elimination of its rows, and the least word that it takes to another.
-use Rattle.std.proofs.Common.{◌≡◌, ◌≢◌, ℕ, zero, suc, refl, sym, ◌∙◌, ap, ap₂, ◌<◌, ◌≤◌, ◌^◌, ◌+◌, ◌*◌, ◌/◌, ◌%◌, ◌⊎◌, inl, inr, arith, pow_pos, pow-suc, pow_mono, List, [], ◌∷◌, length, get_or, set, lt_of_lt_of_le, get_or-set_same, get_or-set_other, replicate, one-mul, zero-mul, add-zero, add-suc, add-one, one-add, mod-lt, not-suc-le-zero, shr-shr, subst, suc-mul}
-use Rattle.std.specs.Prelude.{bit_xor, slice_index}
+use Rattle.std.proofs.Common.{◌≡◌, ◌≢◌, ℕ, zero, suc, refl, sym, ◌∙◌, ap, ap₂, ◌<◌, ◌≤◌, ◌^◌, ◌+◌, ◌*◌, ◌/◌, ◌%◌, ◌⊎◌, inl, inr, arith, pow_pos, pow-suc, pow_mono, List, [], ◌∷◌, length, get_or, set, lt_of_lt_of_le, get_or-set_same, get_or-set_other, replicate, one-mul, zero-mul, add-zero, add-one, one-add, mod-lt, not-suc-le-zero, shr-shr, subst, suc-mul}
+use Rattle.std.specs.Prelude.{bit_xor}
 use Rattle.std.specs.Int.{bit_at}
 use Rattle.std.specs.Int.Bits.{xor_self, xor_lt, xor_shr, xor_zero_l, xor_zero_r, xor_assoc, xor_comm, xor_shifted}
 use Rattle.std.proofs.lemmas.Bool.{cases_eq, cases_lt}
 use Rattle.std.proofs.lemmas.Nat.{pow_below, shr_split}
-use Rattle.std.proofs.lemmas.Nat.Bits.{bit_at_xor, bit_at_above}
-use native.Mathlib.Nat.{div-eq_of_lt-le, div-eq_of_lt, div-one}
+use native.Mathlib.Nat.{div-eq_of_lt-le, div-one}
 use Rattle.gf_field.proofs.Copies.{zeros}
 use Rattle.gf_field.specs.laws.BitLaws.{bit_cases}
 use Rattle.gf_field.specs.laws.XorLaws.{xor_cancel, xor_same}
 use Rattle.irreducible.specs.Span.{combination, InSpan}
-use Rattle.irreducible.specs.laws.SpanLaws.{combination_zero, combination-xor, combination_unit, combination_below, span_zero, span_xor, span_item, span_all, span_trans}
-use Rattle.irreducible.specs.Pivots.{IsTop, ByTop, IsCleared, IsRankSoFar, IsKernelSoFar, AreChoices}
-use Rattle.irreducible.specs.Matrix.{IsSquare, IsKernel, IsLeastSolution}
+use Rattle.irreducible.specs.laws.SpanLaws.{combination_zero, combination-xor, combination_unit, combination_below, span_zero, span_xor, span_item, span_trans}
+use Rattle.irreducible.specs.Pivots.{IsTop, IsCleared, IsRankSoFar, IsKernelSoFar, AreChoices}
+use Rattle.irreducible.specs.Matrix.{IsKernel, IsLeastSolution}
 use Rattle.irreducible.proofs.PivotLaws.{top_bit, top_xor}
 use Rattle.irreducible.proofs.MatrixLaws.{choices_make, choices_short}
 

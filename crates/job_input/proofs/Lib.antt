@@ -24,7 +24,6 @@ pub mod VerilogLabelLemmas
 pub mod NetlistLineLemmas
 pub mod FileLineLemmas
 pub mod RoseLemmas
-pub mod OutputLemmas
 pub mod SpecificationDetermined
 pub mod SecondLemmas
 pub mod TableDetermined

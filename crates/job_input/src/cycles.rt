@@ -1,5 +1,5 @@
 //! All cycles of a netlist as one circuit.
-ghost use Rattle.std.specs.Prelude.{◌≡◌, ◌≤◌};
+ghost use Rattle.std.specs.Prelude.{◌≤◌};
 ghost use Rattle.job_input.specs.CircuitOf.{CircuitOf};
 ghost use Rattle.job_input.specs.private.NetlistReading.{FitsNetlist};
 

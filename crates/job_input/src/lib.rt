@@ -13,7 +13,6 @@ mod hierarchy;
 mod labels;
 mod laws;
 mod netlist;
-mod output;
 mod second;
 mod setting;
 mod signed;
@@ -31,7 +30,6 @@ pub use laws::{
     each_setting_is_sound, faults_keep_to_their_line, one_circuit_or_fault, one_netlist_or_fault,
     one_setting_or_fault, one_specification_or_fault, one_table_file_or_fault,
 };
-pub use output::output_basis;
 pub use second::read_second;
 pub use setting::{Setting, bases_of, setting_over};
 pub use signed::{Signed, read_signed};

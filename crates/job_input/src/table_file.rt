@@ -1,9 +1,8 @@
 //! The table of a file.
-ghost use Rattle.std.specs.Prelude.{◌≡◌, ◌≤◌, ◌*◌, ◌^◌, length, IfOk};
+ghost use Rattle.std.specs.Prelude.{◌≡◌, ◌≤◌, ◌*◌, ◌^◌};
 ghost use Rattle.text_core.specs.Outcome.{Within};
 ghost use Rattle.job_io.specs.Counts.{Rose};
 ghost use Rattle.lift_table.specs.Small.{IsSmall};
-ghost use Rattle.lift_table.specs.TableText.{TableOutcome};
 ghost use Rattle.job_words.specs.Stop.{bytes_of, GivesBy};
 ghost use Rattle.job_words.specs.declared.fault.Fault.TheVariants.{Table};
 ghost use Rattle.job_input.specs.TableIn.{TableOf, TableIn};

@@ -1,10 +1,9 @@
 -- The bits that the plain program finds for feeds.
-use Rattle.std.proofs.Common.{◌≡◌, ◌∙◌, ap, sym, refl, subst, ℕ, ◌<◌, ◌≤◌, ◌+◌, ◌^◌, ◌&&◌, Bool, true, false, List, [], ◌∷◌, length, drop, get_or, map, Some, cond, arith}
+use Rattle.std.proofs.Common.{◌≡◌, ◌∙◌, ap, sym, subst, ℕ, ◌<◌, ◌≤◌, ◌+◌, ◌^◌, ◌&&◌, Bool, true, false, List, ◌∷◌, length, drop, get_or, map, Some, cond}
 use Rattle.std.specs.Prelude.{slice_get, ◌==◌}
 use Rattle.std.specs.Int.{bit_at}
 use Rattle.std.proofs.lemmas.List.{drop_more}
 use Rattle.std.proofs.lemmas.Nat.Bits.{bit_at_above}
-use Rattle.net_core.specs.Lists.{Has}
 use Rattle.net_core.specs.Value.{bit_of}
 use Rattle.net_core.proofs.DriverLemmas.{from_map}
 use Rattle.gf_basis.specs.Basis.{AreBits}
@@ -13,7 +12,7 @@ use Rattle.circuit_model.specs.declared.circuit_feed.CircuitFeed.{CircuitFeed}
 use Rattle.circuit_model.specs.declared.circuit_feed.FeedSource.TheVariants.{Bit}
 use Rattle.circuit_model.specs.declared.circuit_word.CircuitWord.{CircuitWord}
 use Rattle.circuit_model.specs.Word.{Word}
-use Rattle.circuit_model.specs.Feeds.{fed_nets, source_at}
+use Rattle.circuit_model.specs.Feeds.{source_at}
 use Rattle.circuit_model.specs.Run.{HasSource}
 use Rattle.circuit_model.specs.Flat.{word_of}
 use Rattle.job_plain.specs.private.Cycle.{HasItsSource, AreFed}

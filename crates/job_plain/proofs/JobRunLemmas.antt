@@ -1,5 +1,5 @@
 -- The bits that the plain program finds cycle by cycle are a run of the job, and where the job is one it finds them.
-use Rattle.std.proofs.Common.{◌≡◌, ◌≢◌, ◌⊎◌, ◌∙◌, ap, sym, refl, subst, inl, inr, ℕ, zero, suc, ◌<◌, ◌+◌, ◌^◌, Bool, true, false, List, [], ◌∷◌, ◌++◌, length, map, Option, None, Some, IfSome, arith}
+use Rattle.std.proofs.Common.{◌≡◌, ◌⊎◌, ◌∙◌, ap, sym, refl, subst, inl, inr, ℕ, zero, suc, ◌<◌, ◌+◌, ◌^◌, Bool, true, false, List, [], ◌∷◌, ◌++◌, length, map, Option, None, Some, IfSome, arith}
 use Rattle.std.specs.Prelude.{slice_get, ◌==◌}
 use Rattle.std.specs.Int.{bit_at}
 use Rattle.std.proofs.lemmas.List.{length-map}
@@ -11,21 +11,19 @@ use Rattle.net_core.specs.Value.{bit_of, IsConsistent}
 use Rattle.net_core.proofs.DriverLemmas.{from_map}
 use Rattle.net_words.specs.BoundTo.{StandsOn}
 use Rattle.net_words.specs.declared.word.Role.{Role}
-use Rattle.net_words.specs.declared.word.Role.TheVariants.{Input, State}
 use Rattle.gf_basis.specs.Basis.{AreBits, HasOnlyBits}
 use Rattle.gf_basis.specs.BasisParts.{elements_of}
 use Rattle.circuit_model.specs.declared.circuit_feed.CircuitFeed.{CircuitFeed}
 use Rattle.circuit_model.specs.declared.circuit_feed.FeedSource.{FeedSource}
 use Rattle.circuit_model.specs.declared.circuit_word.CircuitWord.{CircuitWord}
-use Rattle.circuit_model.specs.Feeds.{source_at}
 use Rattle.circuit_model.specs.Word.{Word, HasElement}
-use Rattle.circuit_model.specs.Circuit.{Circuit, IsInput, IsFree}
-use Rattle.circuit_model.specs.Job.{IsJob, IsFeed, IsJobWord, net_count}
-use Rattle.circuit_model.specs.Run.{HaveElements, HasSource, IsInputWord, IsStateWord, IsCycle, IsFirst, IsNext, HasZeros, IsRun}
+use Rattle.circuit_model.specs.Circuit.{Circuit, IsInput}
+use Rattle.circuit_model.specs.Job.{IsJob, IsJobWord, net_count}
+use Rattle.circuit_model.specs.Run.{HaveElements, HasSource, IsInputWord, IsStateWord, IsCycle, IsFirst, IsNext, HasZeros}
 use Rattle.circuit_model.specs.Out.{IsOut}
 use Rattle.circuit_model.specs.Flat.{word_of}
 use Rattle.job_plain.specs.JobOfParts.{job_of_parts}
-use Rattle.circuit_model.specs.private.Found.{IsBitIn, IsOnce}
+use Rattle.circuit_model.specs.private.Found.{IsBitIn}
 use Rattle.job_plain.specs.private.Cycle.{HaveInputs, HaveStarts, HaveNexts, HaveAsked, IsAsked, AreFed, AreOnlyFed, IsReached}
 use Rattle.circuit_model.proofs.BitLemmas.{mapped, index_is}
 use Rattle.circuit_model.proofs.FeedLemmas.{same_source, source_none, source_of_fed}

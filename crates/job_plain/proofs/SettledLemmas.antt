@@ -1,5 +1,5 @@
 -- Gates that get their values one after another keep the bits of primary inputs and of latches.
-use Rattle.std.proofs.Common.{◌≡◌, ◌∙◌, sym, subst, ℕ, Bool, List}
+use Rattle.std.proofs.Common.{◌∙◌, sym, subst, ℕ, Bool, List}
 use Rattle.std.proofs.Math.ListN.{set}
 use Rattle.net_core.specs.GateValue.{GateValue}
 use Rattle.net_core.specs.NetList.{NetList}
@@ -8,7 +8,7 @@ use Rattle.net_core.specs.Sound.{IsSound}
 use Rattle.net_core.specs.Level.{Levels}
 use Rattle.net_core.specs.Levelled.{AllHaveLevels}
 use Rattle.net_core.specs.Order.{IsOrder, IsLevelOrder}
-use Rattle.net_core.specs.Value.{bit_of, HasSourceBits}
+use Rattle.net_core.specs.Value.{HasSourceBits}
 use Rattle.net_core.proofs.DriverLemmas.{source_no_gate}
 use Rattle.net_core.proofs.EvalLemmas.{bit_set_other}
 use Rattle.net_core.proofs.ExistLemmas.{sound_levels}

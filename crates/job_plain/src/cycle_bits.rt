@@ -2,7 +2,7 @@
 ghost use Rattle.std.specs.Prelude.{◌≡◌, ◌<◌, ◌^◌, ℕ, length, IfOk};
 ghost use Rattle.net_core.specs.Lists.{Has};
 ghost use Rattle.net_core.specs.NetList.{nets};
-ghost use Rattle.net_core.specs.Value.{bit_of, IsConsistent};
+ghost use Rattle.net_core.specs.Value.{IsConsistent};
 ghost use Rattle.circuit_model.specs.Run.{IsStart};
 ghost use Rattle.circuit_model.specs.Flat.{AreOver};
 ghost use Rattle.job_plain.specs.private.Cycle.{AreKept, HaveInputs, HaveNexts, HaveStarts, IsInputBit, IsStartBit};

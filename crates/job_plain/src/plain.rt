@@ -1,5 +1,5 @@
 //! The output of a job, cycle by cycle and gate by gate.
-ghost use Rattle.std.specs.Prelude.{◌≡◌, ◌<◌, ◌+◌, ◌^◌, true, false, ℕ, [], length, IfOk, IfSome, IsSome, IsTrue};
+ghost use Rattle.std.specs.Prelude.{◌≡◌, ◌<◌, ◌+◌, ◌^◌, true, false, ℕ, length, IfOk, IfSome, IsSome, IsTrue};
 ghost use Rattle.net_core.specs.Lists.{Has};
 ghost use Rattle.gf_basis.specs.BasisParts.{IsBasisOver};
 ghost use Rattle.circuit_model.specs.Job.{IsJob};

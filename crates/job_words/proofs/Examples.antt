@@ -8,7 +8,6 @@ use Rattle.job_words.specs.Fault.{fault_line, fault_status}
 use Rattle.job_words.specs.OneLine.{IsOneLine, repeated}
 use Rattle.job_words.specs.Operands.{IsOperand, is_aiger, is_verilog}
 use Rattle.job_words.specs.Options.{AreStageOptions}
-use Rattle.job_words.specs.Shapes.{IsOverFile}
 use Rattle.job_words.specs.StageFault.{stage_text}
 use Rattle.job_words.specs.declared.fault.Fault.{Fault}
 use Rattle.job_words.specs.declared.fault.Fault.TheVariants as faults

@@ -1,5 +1,5 @@
 -- The words of commands that make netlists, read off a list of words.
-use Rattle.std.proofs.Common.{◌≡◌, ap, sym, subst, ℕ, ◌≤◌, List, [], ◌∷◌, length, codes, Option, None, Some}
+use Rattle.std.proofs.Common.{ap, sym, subst, ℕ, ◌≤◌, List, ◌∷◌, codes, Option, None, Some}
 use Rattle.std.specs.Prelude.{IfNone}
 use Rattle.text_core.specs.Numbers.{IsHex}
 use Rattle.job_words.proofs.SpelledLemmas.{first_word, rest_of}

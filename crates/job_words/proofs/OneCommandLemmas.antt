@@ -1,5 +1,5 @@
 -- Words spell one command at most: each command's words give back what it does over them.
-use Rattle.std.proofs.Common.{◌≡◌, ◌≢◌, ◌⊎◌, ◌∙◌, ap, subst, sym, inl, inr, refl, ℕ, ◌+◌, ◌*◌, if◌then◌else◌, ◌==◌, Bool, true, false, drop, List, [], ◌∷◌, ◌++◌, get_or, codes}
+use Rattle.std.proofs.Common.{◌≡◌, ◌∙◌, ap, sym, inl, inr, refl, ℕ, ◌+◌, ◌*◌, if◌then◌else◌, ◌==◌, Bool, true, false, drop, List, [], ◌∷◌, get_or, codes}
 use Rattle.text_core.specs.Numbers.{value_of}
 use Rattle.job_words.proofs.OptionLemmas.{Shape, Neither, Terms, Cycles, TermsFirst, CyclesFirst, shape}
 use Rattle.job_words.proofs.SpelledLemmas.{first_word, rest_of}

@@ -1,5 +1,5 @@
 -- What follows the files of a command.
-use Rattle.std.proofs.Common.{◌≡◌, ◌∙◌, ap, sym, subst, List, [], ◌∷◌}
+use Rattle.std.proofs.Common.{◌∙◌, ap, sym, subst, List, [], ◌∷◌}
 use Rattle.job_words.specs.Operands.{Word}
 use Rattle.job_words.specs.Shapes.{IsOverFile, IsOverFiles}
 use Rattle.job_words.specs.private.Rest.{Anything, IsRest}

@@ -1,5 +1,5 @@
 //! Options: what stands behind the operands of a command.
-ghost use Rattle.std.specs.Prelude.{◌≡◌, ◌≤◌, [], ◌∷◌, map, string_bytes, IfSome, IfNone};
+ghost use Rattle.std.specs.Prelude.{◌≤◌, [], ◌∷◌, map, string_bytes, IfSome, IfNone};
 ghost use Rattle.job_words.specs.Options.{AreNone, IsTermCount, IsTermsOption, IsCycleCount, IsCyclesOption, AreOptions};
 
 use text_core::read_decimal;

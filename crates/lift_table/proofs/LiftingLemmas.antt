@@ -1,6 +1,6 @@
 -- Terms of tables.
-use Rattle.std.proofs.Common.{◌≡◌, ◌≢◌, ◌∙◌, ap, sym, refl, subst, inl, inr, ℕ, zero, suc, ◌+◌, ◌*◌, ◌-◌, ◌<◌, ◌≤◌, ◌^◌, List, [], ◌∷◌, length, get_or, set, take, drop, replicate, get_or-set_other, mul_comm, arith, Some}
-use Rattle.std.specs.Prelude.{bit_xor, slice_get}
+use Rattle.std.proofs.Common.{◌≡◌, ◌≢◌, ◌∙◌, ap, sym, refl, subst, ℕ, zero, suc, ◌+◌, ◌*◌, ◌-◌, ◌<◌, ◌≤◌, ◌^◌, List, [], ◌∷◌, length, get_or, set, take, drop, replicate, get_or-set_other, mul_comm, arith, Some}
+use Rattle.std.specs.Prelude.{bit_xor}
 use Rattle.std.specs.List.{AllByRecursion}
 use Rattle.std.proofs.lemmas.List.{drop-set-lt}
 use Rattle.std.proofs.lemmas.Option.{get_or_from_slice_get, slice_get-get_or}
@@ -13,13 +13,13 @@ use Rattle.gf_field.specs.Ring.{IsRing}
 use Rattle.gf_field.specs.Field.{HasNoZeroDivisors}
 use Rattle.gf_field.specs.laws.RingLaws.{distrib_left, mul_left_comm, mul_one, zero_mul}
 use Rattle.poly_mixed.specs.Monomial.{Monomial, text_cmp}
-use Rattle.poly_mixed.specs.Polynomial.{Terms, Point, IsPoint, IsTerm, IsMonomial, IsElement, IsReduced, powers, value}
-use Rattle.poly_mixed.specs.Sum.{plus, plus_term}
+use Rattle.poly_mixed.specs.Polynomial.{Terms, Point, IsPoint, IsTerm, IsElement, IsReduced, powers, value}
+use Rattle.poly_mixed.specs.Sum.{plus_term}
 use Rattle.poly_mixed.specs.laws.Uniqueness.{IsZeros, InFirstWords}
 use Rattle.poly_mixed.proofs.FieldLaws.{IsField, field_of}
 use Rattle.poly_mixed.proofs.Terms.{all_plus_term}
-use Rattle.poly_mixed.proofs.Values.{value-plus, reduced_plus, powers_element}
-use Rattle.poly_mixed.proofs.Products.{one_term, value_element}
+use Rattle.poly_mixed.proofs.Values.{value-plus, reduced_plus}
+use Rattle.poly_mixed.proofs.Products.{one_term}
 use Rattle.poly_mixed.proofs.Simple.{no_ranks_rise}
 use Rattle.poly_mixed.proofs.Uniqueness.{zero_powers}
 use Rattle.lift_table.specs.OneWord.{coefficient_of, AreColumns}

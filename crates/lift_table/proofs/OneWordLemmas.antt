@@ -1,5 +1,5 @@
 -- The coefficients in one word, one after another, from the highest one down.
-use Rattle.std.proofs.Common.{◌≡◌, ◌≢◌, ◌∙◌, ap, sym, refl, subst, inl, inr, ℕ, zero, suc, ◌+◌, ◌*◌, ◌-◌, ◌<◌, ◌≤◌, ◌^◌, List, [], ◌∷◌, ◌++◌, length, get_or, set, length-set, length-append, get_or-set_same, get_or-set_other, arith}
+use Rattle.std.proofs.Common.{◌≡◌, ◌≢◌, ◌∙◌, ap, sym, refl, subst, inl, inr, ℕ, zero, suc, ◌+◌, ◌*◌, ◌-◌, ◌<◌, ◌≤◌, ◌^◌, List, ◌++◌, length, get_or, set, length-set, length-append, get_or-set_same, get_or-set_other, arith}
 use Rattle.std.specs.Prelude.{bit_xor}
 use Rattle.std.proofs.Math.ListN.{get_or-append}
 use Rattle.std.proofs.Math.Nat.{add-mul}
@@ -11,7 +11,7 @@ use Rattle.gf_field.specs.Polynomial.{sum_of_first}
 use Rattle.gf_field.specs.Power.{power}
 use Rattle.gf_field.specs.Ring.{IsRing}
 use Rattle.gf_field.specs.laws.RingLaws.{mul_one}
-use Rattle.lift_table.specs.OneWord.{coefficient_of, AreCoefficients, AreColumns}
+use Rattle.lift_table.specs.OneWord.{coefficient_of, AreCoefficients}
 use Rattle.lift_table.proofs.SumLemmas.{sum_same}
 use Rattle.lift_table.proofs.GatherLemmas.{inside}
 

@@ -1,15 +1,14 @@
 -- The lines of a table, one after another.
-use Rattle.std.proofs.Common.{◌≡◌, ◌≢◌, ◌⊎◌, ◌↔◌, ◌∙◌, ap, sym, refl, subst, inl, inr, ℕ, zero, suc, ◌+◌, ◌*◌, ◌-◌, ◌<◌, ◌≤◌, ◌^◌, List, [], ◌∷◌, ◌++◌, length, drop, arith, Option, Some, None, Result, Ok, Err, Bor, map, get_or, codes}
+use Rattle.std.proofs.Common.{◌≡◌, ◌⊎◌, ◌↔◌, ◌∙◌, ap, sym, refl, subst, inl, inr, ℕ, zero, suc, ◌+◌, ◌-◌, ◌<◌, ◌≤◌, ◌^◌, List, [], ◌∷◌, ◌++◌, length, drop, arith, Option, Some, None, Result, Ok, Err, Bor, map, get_or}
 use Rattle.std.specs.Prelude.{slice_get}
 use Rattle.std.specs.Str.Lines.{lines}
 use Rattle.std.proofs.lemmas.Bool.{cases_eq}
-use Rattle.std.proofs.lemmas.Option.{slice_get_within, slice_get_past}
 use Rattle.text_core.specs.Lines.{tokens_of}
 use Rattle.text_core.specs.Numbers.{IsHex, AreDigits, value_of}
 use Rattle.lift_table.proofs.GatherLemmas.{pushed_long}
 use Rattle.lift_table.specs.declared.fault.TableFault.{TableFault}
 use Rattle.lift_table.specs.declared.fault.TableFault.TheVariants.{Syntax, TooLarge, OutOfMemory}
-use Rattle.lift_table.specs.TableText.{IsHead, IsNumber, IsFormed, IsNumberAt, IsRightTo, IsTable, IsSyntaxFault, IsTooLarge, LinesOutcome}
+use Rattle.lift_table.specs.TableText.{IsHead, IsNumber, IsFormed, IsNumberAt, IsRightTo, LinesOutcome}
 use Rattle.lift_table.specs.private.Reading.{HeadOutcome, RowOutcome, TokenOutcome, TokensOutcome}
 
 -- a token stands for one number

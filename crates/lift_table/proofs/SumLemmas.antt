@@ -1,7 +1,7 @@
 -- Sums of values of functions over a ring.
 use Rattle.std.proofs.Common.{◌≡◌, ℕ, zero, suc, ◌<◌, ◌^◌, sym, refl, ◌∙◌, ap, arith}
 use Rattle.std.specs.Prelude.{bit_xor}
-use Rattle.std.specs.Int.Bits.{xor_assoc, xor_comm, xor_zero_l, xor_zero_r, xor_lt}
+use Rattle.std.specs.Int.Bits.{xor_assoc, xor_comm, xor_zero_l, xor_lt}
 use Rattle.gf_field.specs.laws.XorLaws.{xor_cross}
 use Rattle.gf_field.specs.Ring.{IsRing}
 use Rattle.gf_field.specs.laws.RingLaws.{mul_zero}

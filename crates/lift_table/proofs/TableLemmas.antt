@@ -5,7 +5,6 @@ use Rattle.std.specs.List.{AllByRecursion}
 use Rattle.std.proofs.lemmas.List.{append_assoc, length-map}
 use Rattle.std.proofs.lemmas.Option.{get_or_from_slice_get, slice_get_within, slice_get-get_or}
 use Rattle.net_core.specs.Lists.{Has}
-use Rattle.net_core.specs.NetList.{NetList}
 use Rattle.net_core.specs.Sound.{IsSound}
 use Rattle.net_core.proofs.DriverLemmas.{from_map}
 use Rattle.net_words.specs.Binding.{BoundNet}
@@ -24,7 +23,6 @@ use Rattle.circuit_model.specs.Flat.{circuit_of_parts, word_of}
 use Rattle.circuit_model.specs.OfBinding.{HaveBases}
 use Rattle.circuit_model.specs.Out.{IsOut}
 use Rattle.circuit_model.specs.WellFormed.{IsWellFormed}
-use Rattle.circuit_model.specs.Word.{Word}
 use Rattle.circuit_model.specs.declared.circuit_word.CircuitWord.{CircuitWord}
 use Rattle.lift_table.specs.CircuitTable.{IsTableOf}
 use Rattle.lift_table.specs.Table.{row_of}

@@ -1,5 +1,5 @@
 //! The words of a circuit of one cycle with their bases, for the plain program that evaluates it.
-ghost use Rattle.std.specs.Prelude.{◌≡◌, ◌<◌, ◌++◌, ◌↔◌, ℕ, length, map, slice_get, Some, IfOk, IsTrue, OnOk};
+ghost use Rattle.std.specs.Prelude.{◌≡◌, ◌<◌, ◌++◌, ◌↔◌, length, map, slice_get, Some, IfOk, IsTrue, OnOk};
 ghost use Rattle.gf_basis.specs.BasisParts.{elements_of, IsBasisOver};
 ghost use Rattle.net_words.specs.OneCycle.{IsOneCycle};
 ghost use Rattle.net_words.specs.declared.word.Role.TheVariants.{Output};

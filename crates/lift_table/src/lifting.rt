@@ -1,5 +1,5 @@
 //! The polynomial of a table.
-ghost use Rattle.std.specs.Prelude.{◌≡◌, ◌+◌, ◌*◌, ◌<◌, ◌≤◌, ◌^◌, ℕ, length, drop, slice_index, slice_set, bit_xor, IfOk, OnOk};
+ghost use Rattle.std.specs.Prelude.{◌≡◌, ◌*◌, ◌<◌, ◌≤◌, ◌^◌, ℕ, length, drop, slice_index, slice_set, bit_xor, IfOk, OnOk};
 ghost use Rattle.std.specs.List.{AllByRecursion};
 ghost use Rattle.gf_field.specs.Element.{AreElements};
 ghost use Rattle.poly_mixed.specs.Polynomial.{IsElement, IsPoint, IsReduced, Point, powers, value};

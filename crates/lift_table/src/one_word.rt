@@ -1,5 +1,5 @@
 //! Interpolation in one word.
-ghost use Rattle.std.specs.Prelude.{◌≡◌, ◌+◌, ◌*◌, ◌<◌, ◌≤◌, ◌^◌, ℕ, length, slice_index, IfOk};
+ghost use Rattle.std.specs.Prelude.{◌≡◌, ◌*◌, ◌<◌, ◌≤◌, ◌^◌, ℕ, length, slice_index, IfOk};
 ghost use Rattle.gf_field.specs.Element.{AreElements};
 ghost use Rattle.gf_field.specs.Polynomial.{sum_of_first};
 ghost use Rattle.lift_table.specs.OneWord.{AreCoefficients, AreColumns};

@@ -1,5 +1,5 @@
 //! The text of a table.
-ghost use Rattle.std.specs.Prelude.{◌≡◌, ◌⊎◌, ◌↔◌, ◌≤◌, ◌<◌, ◌+◌, ◌*◌, ◌^◌, ◌∷◌, ℕ, [], codes, length, map, IfOk, IfErr, IfNone, IfSome, IsTrue, List, Ok, Err};
+ghost use Rattle.std.specs.Prelude.{◌≡◌, ◌⊎◌, ◌↔◌, ◌≤◌, ◌<◌, ◌+◌, ◌*◌, ◌^◌, ◌∷◌, ℕ, [], codes, map, IfOk, IfErr, IfNone, IfSome, IsTrue, List, Ok, Err};
 ghost use Rattle.std.specs.Str.Lines.{lines};
 ghost use Rattle.text_core.specs.Numbers.{AreDigits, IsDigit, IsHex};
 ghost use Rattle.lift_table.specs.Small.{IsSmall};

@@ -1,5 +1,5 @@
 //! How a table is written.
-ghost use Rattle.std.specs.Prelude.{◌≡◌, ◌++◌, ◌∷◌, [], IfOk, OnOk, take};
+ghost use Rattle.std.specs.Prelude.{◌≡◌, ◌++◌, ◌∷◌, [], IfOk, OnOk};
 ghost use Rattle.poly_mixed.specs.Text.{hex_text};
 ghost use Rattle.lift_table.specs.TableText.{table_text};
 

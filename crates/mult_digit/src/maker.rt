@@ -7,7 +7,6 @@ ghost use Rattle.irreducible.specs.Proved.{ring_of};
 ghost use Rattle.net_core.specs.Sound.{IsSound};
 ghost use Rattle.net_write.specs.Plain.{HasPlainNames};
 ghost use Rattle.net_plan.specs.MadeNet.{outer_net};
-ghost use Rattle.net_make.specs.Made.{made_of};
 ghost use Rattle.net_make.specs.MakerNames.{AreMakerNames};
 ghost use Rattle.net_make.specs.Ports.{outer_names};
 ghost use Rattle.mult_products.specs.Indeterminate.{x_of};

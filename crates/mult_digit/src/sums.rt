@@ -1,5 +1,5 @@
 //! The sums that the product takes.
-ghost use Rattle.std.specs.Prelude.{◌≡◌, ◌+◌, ◌*◌, ◌<◌, ◌≤◌, ◌^◌, [], ℕ, OnOk, IfOk, length};
+ghost use Rattle.std.specs.Prelude.{◌≡◌, ◌+◌, ◌<◌, ◌≤◌, ◌^◌, OnOk, IfOk, length};
 ghost use Rattle.net_plan.specs.Plan.{each};
 ghost use Rattle.net_plan.specs.PlanShape.{HasRoom};
 ghost use Rattle.mult_digit.specs.DigitPlan.{summands as summands_of, sums_from, with_sum};

@@ -1,5 +1,5 @@
 //! The ports of a net that is made for a signature.
-ghost use Rattle.std.specs.Prelude.{◌≡◌, ◌≤◌, ◌<◌, [], IfOk, OnOk, IsErrOf, IsTrue, ◌↔◌};
+ghost use Rattle.std.specs.Prelude.{◌≡◌, ◌≤◌, ◌<◌, [], Some, None, IfOk, IfErr, OnOk, IsErrOf, IsTrue, ◌↔◌};
 ghost use Rattle.net_plan.specs.MadeNet.{outer_net};
 ghost use Rattle.net_make.specs.Form.{AllWide};
 ghost use Rattle.net_make.specs.Ports.{outer_names};
@@ -17,6 +17,17 @@ fn is_plain(signature: &Signature) -> bool
     ensures { IsTrue result ↔ (signature.now.blocks ≡ []) × (signature.now.feeds ≡ []) }
 {
     signature.blocks().is_empty() && signature.feeds().is_empty()
+}
+
+// The nets; a signature that has none is unfit.
+fn or_unfit(maker: Option<NetMaker>) -> Result<NetMaker, MakeFault>
+    ensures made { IfOk result (λ found. maker ≡ Some found) }
+    ensures unfit { IfErr result (λ fault. (fault ≡ MakeFault.Unfit) × (maker ≡ None)) }
+{
+    match maker {
+        Some(maker) => Ok(maker),
+        None => Err(MakeFault::Unfit),
+    }
 }
 
 /// The nets of the words, if one is the output word, `count` others are inputs, nothing is fed, there is no block, and the
@@ -41,10 +52,7 @@ pub fn ports(
     if !has_words(signature.words(), Role::Input, count) {
         return Err(MakeFault::Unfit);
     }
-    match outer_nets(alloc, signature.words(), signature.feeds())? {
-        Some(maker) => Ok(maker),
-        None => Err(MakeFault::Unfit),
-    }
+    or_unfit(outer_nets(alloc, signature.words(), signature.feeds())?)
 }
 
 /// The nets of the words, where also each has the basis of powers and there is no tower.

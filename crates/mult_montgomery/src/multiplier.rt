@@ -1,5 +1,5 @@
 //! The multiplier.
-ghost use Rattle.std.specs.Prelude.{◌≡◌, ◌≢◌, ◌≤◌, ◌^◌, ℕ, [], IfOk, OnOk, IsErrOf, drop, length, take};
+ghost use Rattle.std.specs.Prelude.{◌≡◌, ◌≢◌, ◌≤◌, ◌^◌, ℕ, [], IfOk, OnOk, IsErrOf, length};
 ghost use Rattle.gf_field.specs.Bit.{bit_mul};
 ghost use Rattle.gf_field.specs.Quotient.{product};
 ghost use Rattle.gf_field.specs.Ring2k.{degree_of, modulus_of};

@@ -1,6 +1,6 @@
 //! The products of bits of which the last coordinate is a sum.
-ghost use Rattle.std.specs.Prelude.{◌≡◌, ◌+◌, ◌*◌, ◌<◌, ◌≤◌, ◌^◌, ℕ, [], true, IfOk, OnOk, length};
-ghost use Rattle.gf_basis.specs.BasisParts.{elements_of, IsBasisOver};
+ghost use Rattle.std.specs.Prelude.{◌≡◌, ◌+◌, ◌<◌, ◌≤◌, [], IfOk, OnOk, length};
+ghost use Rattle.gf_basis.specs.BasisParts.{IsBasisOver};
 ghost use Rattle.mult_normal.specs.Coordinates.{counts_in};
 ghost use Rattle.mult_normal.specs.NormalPlan.{products_from, sum_net, summed, with_product, with_row};
 ghost use Rattle.net_plan.specs.Plan.{begun, each};

@@ -1,9 +1,9 @@
 -- The bits of numbers, and sums of bits times numbers.
-use Rattle.std.proofs.Common.{◌≡◌, ℕ, zero, suc, refl, sym, ◌∙◌, ap, ap₂, ◌<◌, ◌^◌, ◌+◌, ◌*◌, ◌/◌, ◌%◌, ◌⊎◌, inl, inr, arith, one-mul, zero-mul, pow_pos}
+use Rattle.std.proofs.Common.{◌≡◌, ℕ, refl, sym, ◌∙◌, ap, ap₂, ◌<◌, ◌^◌, ◌*◌, ◌/◌, ◌%◌, ◌⊎◌, inl, inr, arith, one-mul, zero-mul, pow_pos}
 use Rattle.std.specs.Prelude.{bit_xor}
 use Rattle.std.specs.Int.{bit_at}
-use Rattle.std.specs.Int.Bits.{xor_mod, xor_shr, xor_self, xor_lt, xor_zero_l, xor_zero_r}
-use Rattle.std.proofs.lemmas.Nat.Bits.{bit_at-zero, bit_at-suc}
+use Rattle.std.specs.Int.Bits.{xor_mod, xor_shr, xor_self}
+use Rattle.std.proofs.lemmas.Nat.Bits.{bit_at-zero}
 use Rattle.gf_field.specs.laws.BitLaws.{bit_cases}
 
 -- the bit of a sum

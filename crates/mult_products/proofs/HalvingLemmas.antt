@@ -1,14 +1,12 @@
 -- Division by x.
-use Rattle.std.proofs.Common.{◌≡◌, ◌≢◌, ℕ, zero, suc, refl, sym, ◌∙◌, ap, ap₂, ◌<◌, ◌≤◌, ◌^◌, ◌+◌, ◌*◌, ◌/◌, ◌%◌, ◌⊎◌, inl, inr, arith, one-mul, zero-mul, pow_pos, pow-suc, subst}
+use Rattle.std.proofs.Common.{◌≡◌, ℕ, zero, suc, refl, sym, ◌∙◌, ap, ap₂, ◌<◌, ◌^◌, ◌*◌, ◌/◌, ◌%◌, inl, inr, arith, one-mul, zero-mul, pow_pos, pow-suc}
 use Rattle.std.specs.Prelude.{bit_xor}
 use Rattle.std.specs.Int.{bit_at}
-use Rattle.std.specs.Int.Bits.{xor_self, xor_zero_l, xor_zero_r, xor_assoc, xor_lt, xor_mod}
-use Rattle.std.proofs.lemmas.Nat.{pow_below}
+use Rattle.std.specs.Int.Bits.{xor_self, xor_zero_l, xor_zero_r, xor_assoc, xor_lt}
 use Rattle.std.proofs.lemmas.Nat.Bits.{bit_at-suc, bit_at_above, bit_at_lowest}
 use Rattle.gf_field.specs.Bit.{bit_mul}
 use Rattle.gf_field.specs.Modulus.{IsModulus}
 use Rattle.gf_field.specs.Quotient.{product}
-use Rattle.gf_field.specs.private.ShiftAndAdd.{times_x}
 use Rattle.gf_field.specs.laws.BitLaws.{bit_cases}
 use Rattle.gf_field.specs.laws.ModulusLaws.{modulus_below, IsMonic-from_modulus}
 use Rattle.gf_field.proofs.ShiftAndAddLaws.{times_x_reduced, times_x_doubled}

@@ -1,23 +1,18 @@
 -- Products by x, and its powers.
-use Rattle.std.proofs.Common.{◌≡◌, ◌≢◌, ℕ, zero, suc, refl, sym, ◌∙◌, ap, ap₂, ◌<◌, ◌≤◌, ◌^◌, ◌+◌, ◌*◌, ◌/◌, ◌%◌, ◌⊎◌, inl, inr, arith, one-mul, zero-mul, pow_pos, pow-suc, pow_mono, lt_of_lt_of_le, subst}
+use Rattle.std.proofs.Common.{◌≡◌, ℕ, zero, suc, refl, sym, ◌∙◌, ap, ap₂, ◌<◌, ◌≤◌, ◌^◌, ◌*◌, ◌/◌, ◌%◌, ◌⊎◌, inl, inr, arith, one-mul, zero-mul, pow-suc, subst}
 use Rattle.std.specs.Prelude.{bit_xor}
-use Rattle.std.specs.Int.{bit_at}
 use Rattle.std.specs.Int.Bits.{xor_self, xor_zero_l, xor_zero_r}
 use Rattle.std.proofs.lemmas.Nat.{pow_below}
 use Rattle.std.proofs.lemmas.Nat.Bits.{bit_at-pow_other}
-use native.Mathlib.Nat.{mod-eq_of_lt}
-use Rattle.gf_field.specs.Ring.{IsRing}
 use Rattle.gf_field.specs.Bit.{bit_mul}
-use Rattle.gf_field.specs.Field.{HasNoZeroDivisors}
 use Rattle.gf_field.specs.Modulus.{IsModulus}
 use Rattle.gf_field.specs.Power.{power}
 use Rattle.gf_field.specs.Polynomial.{IsProductModulo}
 use Rattle.gf_field.specs.Quotient.{product}
 use Rattle.gf_field.specs.private.ShiftAndAdd.{times_x, part}
 use Rattle.gf_field.specs.laws.BitLaws.{bit_cases}
-use Rattle.gf_field.specs.laws.RingLaws.{mul_zero}
 use Rattle.gf_field.specs.laws.ModulusLaws.{modulus_below, modulus_above, IsRing-from_modulus}
-use Rattle.gf_field.proofs.ShiftAndAddLaws.{times_x_reduced, times_x_doubled, times_x-xor}
+use Rattle.gf_field.proofs.ShiftAndAddLaws.{times_x_reduced, times_x_doubled}
 use Rattle.gf_field.proofs.PartLaws.{x-xor, part_start, part_suc, part_whole, part_product}
 use Rattle.mult_products.specs.Indeterminate.{x_of}
 

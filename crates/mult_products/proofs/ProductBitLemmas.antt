@@ -1,6 +1,5 @@
 -- The bits of a product are sums over the bits of its factors.
-use Rattle.std.proofs.Common.{◌≡◌, ℕ, zero, suc, refl, sym, ◌∙◌, ap, ap₂, ◌<◌, ◌^◌, ◌+◌, ◌*◌, ◌%◌, arith, mul_assoc}
-use Rattle.std.specs.Prelude.{bit_xor}
+use Rattle.std.proofs.Common.{◌≡◌, ℕ, sym, ◌∙◌, ap, ◌<◌, ◌^◌, ◌+◌, ◌*◌, arith, mul_assoc}
 use Rattle.std.specs.Int.{bit_at}
 use native.Mathlib.Nat.{mod-eq_of_lt}
 use Rattle.gf_field.specs.Ring.{IsRing}
@@ -13,7 +12,7 @@ use Rattle.gf_field.specs.laws.PowerLaws.{power-add}
 use Rattle.gf_field.specs.laws.ModulusLaws.{IsRing-from_modulus}
 use Rattle.mult_products.specs.Indeterminate.{x_of}
 use Rattle.mult_products.proofs.BitLemmas.{bit_at-times}
-use Rattle.mult_products.proofs.SumLemmas.{sum_same, sum_of_bits, sum_mul, mul_sum, sum_square, times_mul, mul_times, times_square, times-sum_of_first, bit_at-sum_of_first}
+use Rattle.mult_products.proofs.SumLemmas.{sum_same, sum_of_bits, sum_mul, sum_square, times_mul, times_square, times-sum_of_first, bit_at-sum_of_first}
 use Rattle.mult_products.proofs.IndeterminateLemmas.{power_x}
 
 bit_below : (a i : ℕ) → bit_at a i < 2

@@ -1,11 +1,11 @@
 -- The bits of the coefficients of a product in a tower.
-use Rattle.std.proofs.Common.{◌≡◌, ℕ, zero, suc, refl, sym, ◌∙◌, ap, ap₂, ◌<◌, ◌^◌, ◌+◌, ◌*◌, ◌-◌, List, arith}
+use Rattle.std.proofs.Common.{◌≡◌, ℕ, ◌∙◌, ap, ap₂, ◌<◌, ◌^◌, ◌+◌, ◌*◌, ◌-◌, List, arith}
 use Rattle.std.specs.Prelude.{bit_xor}
 use Rattle.std.specs.Int.{bit_at}
 use Rattle.gf_field.specs.Ring.{IsRing}
 use Rattle.gf_field.specs.Bit.{bit_mul}
 use Rattle.gf_field.specs.Modulus.{IsModulus}
-use Rattle.gf_field.specs.Polynomial.{coefficient, convolution, sum_of_first}
+use Rattle.gf_field.specs.Polynomial.{coefficient, sum_of_first}
 use Rattle.gf_field.specs.Quotient.{product}
 use Rattle.gf_field.specs.laws.DivisionLaws.{convolution_below}
 use Rattle.gf_field.specs.laws.PackingLaws.{coefficient_ends}

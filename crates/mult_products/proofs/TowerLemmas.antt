@@ -1,8 +1,7 @@
 -- The coefficients of a product in a tower, by the coefficients of its factors and those of the powers of Y.
-use Rattle.std.proofs.Common.{◌≡◌, ℕ, zero, suc, refl, sym, ◌∙◌, ap, ap₂, ◌<◌, ◌≤◌, ◌^◌, ◌+◌, ◌*◌, ◌-◌, inl, inr, arith, pow_pos, mul-suc, add-suc, add-zero, subst, List}
+use Rattle.std.proofs.Common.{◌≡◌, ℕ, zero, suc, refl, sym, ◌∙◌, ap, ap₂, ◌<◌, ◌≤◌, ◌^◌, ◌+◌, ◌*◌, ◌-◌, arith, pow_pos, mul-suc, add-suc, add-zero, subst, List}
 use Rattle.std.specs.Prelude.{bit_xor}
-use Rattle.std.specs.Int.{bit_at}
-use Rattle.std.specs.Int.Bits.{xor_self, xor_zero_l, xor_zero_r, xor_assoc}
+use Rattle.std.specs.Int.Bits.{xor_zero_r, xor_assoc}
 use Rattle.std.proofs.lemmas.Nat.{pow_below, shr_high, mod_low}
 use mathlib.Core.Path.{fun_ext}
 use Rattle.gf_field.specs.Ring.{IsRing}
@@ -18,7 +17,7 @@ use Rattle.gf_tower.specs.Tower.{tower_polynomial}
 use Rattle.gf_tower.specs.Digits.{IsPackedList}
 use Rattle.gf_tower.specs.laws.TowerLaws.{IsMonic-tower}
 use Rattle.mult_products.specs.TowerProduct.{HasTowerCoefficients}
-use Rattle.mult_products.proofs.SumLemmas.{sum_same, sum_none}
+use Rattle.mult_products.proofs.SumLemmas.{sum_same}
 use Rattle.mult_products.proofs.ReductionLemmas.{stepped, reduced_shift, reduced_sum, reduced_nothing, step_none, product_sum_of_powers}
 
 -- the sum of m and l values

@@ -1,10 +1,10 @@
 -- Names stay what they were while gates and latches are made.
-use Rattle.std.proofs.Common.{◌≡◌, ◌∙◌, ap, sym, refl, subst, ℕ, suc, ◌<◌, ◌≤◌, ◌+◌, Bool, true, false, cond, List, [], ◌∷◌, ◌++◌, length, get_or, drop, Option, None, Some, Ok, arith, drop-cons, add-one}
+use Rattle.std.proofs.Common.{◌≡◌, ◌∙◌, ap, sym, refl, subst, ℕ, ◌<◌, ◌+◌, Bool, true, false, cond, List, [], ◌∷◌, ◌++◌, length, get_or, drop, Option, None, Some, Ok, drop-cons, add-one}
 use Rattle.std.specs.Fmt.{decimal}
-use Rattle.net_core.specs.NetList.{LabelValue, NetList, nets}
+use Rattle.net_core.specs.NetList.{NetList, nets}
 use Rattle.net_aiger.specs.Checks.{own}
 use Rattle.net_aiger.specs.Nets.{and_gate, and_made, ands_made, fresh_latch, gated, is_plain, labelled, latch_made, latch_on, latched, latches_made, literal_gate, output_made, with_output}
-use Rattle.net_aiger.specs.Reading.{Name, Reading, driven, net_of, port_name, variable_net}
+use Rattle.net_aiger.specs.Reading.{Name, Reading, net_of, port_name, variable_net}
 use Rattle.net_aiger.specs.Steps.{◌>>=◌}
 use Rattle.net_aiger.specs.declared.reading.AndLine.{AndLine}
 use Rattle.net_aiger.specs.declared.reading.LatchLine.{LatchLine}

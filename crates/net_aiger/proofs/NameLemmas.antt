@@ -1,8 +1,8 @@
 -- Names that are given.
-use Rattle.std.proofs.Common.{◌≡◌, ◌∙◌, ap, sym, refl, subst, ℕ, zero, suc, ◌<◌, ◌≤◌, ◌+◌, ◌^◌, ◌||◌, ◌&&◌, Bool, true, false, cond, not, List, [], ◌∷◌, ◌++◌, length, map, get_or, Option, None, Some, Result, Ok, Err, arith}
-use Rattle.std.specs.Prelude.{All, IfOk, is_some, nat_eq, nat_le, string_bytes}
+use Rattle.std.proofs.Common.{◌≡◌, ◌∙◌, ap, sym, refl, subst, ℕ, zero, suc, ◌<◌, ◌+◌, ◌^◌, ◌||◌, ◌&&◌, Bool, true, false, cond, List, [], ◌∷◌, ◌++◌, length, map, get_or, None, Some, Result, Ok, Err, arith}
+use Rattle.std.specs.Prelude.{All, IfOk, nat_eq, nat_le, string_bytes}
 use Rattle.std.specs.Fmt.{decimal}
-use Rattle.std.specs.List.{list_all, list_any}
+use Rattle.std.specs.List.{list_any}
 use Rattle.std.specs.Map.{lookup}
 use Rattle.std.specs.Str.{bytes_eq}
 use Rattle.std.specs.String.{string_eq}
@@ -12,10 +12,8 @@ use Rattle.std.proofs.lemmas.Fmt.{length-decimal-le}
 use Rattle.std.proofs.lemmas.List.{length-append}
 use Rattle.std.proofs.lemmas.List.Elements.{All-append}
 use Rattle.net_core.specs.Inside.{IsNetName}
-use Rattle.net_aiger.specs.Lines.{is_port_name, is_shown, named}
+use Rattle.net_aiger.specs.Lines.{is_port_name, named}
 use Rattle.net_aiger.specs.Reading.{Name, Reading}
-use Rattle.net_aiger.specs.declared.fault.AigerFault.{AigerFault}
-use Rattle.net_aiger.specs.declared.fault.AigerFault.TheVariants.{Syntax}
 
 -- a set of names is asked by their bytes
 pub added_same : {Z : Type 0} (keys : List (String Z)) (text : String Z) (name : Name) → string_bytes text ≡ name → list_any (string_eq text) keys ≡ list_any (bytes_eq name) (map string_bytes keys)

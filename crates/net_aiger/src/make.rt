@@ -1,5 +1,5 @@
 //! The net list of what was read.
-ghost use Rattle.std.specs.Prelude.{◌≡◌, ◌⊎◌, ◌<◌, ◌≤◌, ◌+◌, ◌^◌, [], Ok, None, true, false, All, IfOk, IfErr, IfSome, OnOk, drop, length};
+ghost use Rattle.std.specs.Prelude.{◌≡◌, ◌<◌, ◌≤◌, ◌+◌, ◌^◌, [], Ok, None, true, false, All, IfOk, IfErr, OnOk, length};
 ghost use Rattle.net_core.specs.Inside.{IsNetName};
 ghost use Rattle.net_core.specs.NetList.{empty, nets, number_of};
 ghost use Rattle.net_aiger.specs.Checks.{apart, own};

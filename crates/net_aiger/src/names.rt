@@ -1,5 +1,5 @@
 //! Names of inputs, latches and outputs.
-ghost use Rattle.std.specs.Prelude.{◌≡◌, ◌⊎◌, ◌+◌, ◌++◌, ◌∷◌, [], nat_eq, None, Some, Ok, Err, IfErr, IfSome, IfNone, OnOk, All, ◌<◌, drop, length};
+ghost use Rattle.std.specs.Prelude.{◌≡◌, ◌⊎◌, ◌+◌, ◌++◌, ◌∷◌, [], nat_eq, None, Some, Ok, Err, IfErr, IfSome, IfNone, OnOk, All, ◌<◌, drop};
 ghost use Rattle.std.specs.List.{list_all};
 ghost use Rattle.std.specs.Map.{lookup};
 ghost use Rattle.net_core.specs.Inside.{IsNetName};

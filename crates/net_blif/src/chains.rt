@@ -1,7 +1,7 @@
 //! Models inside models.
 ghost use Rattle.std.specs.Prelude.{◌≡◌, ◌⊎◌, ◌<◌, ◌++◌, ◌∷◌, [], Ok, Err, All, IfOk, IfErr, OnOk, Some, ℕ, false, length, slice_get, slice_index_or};
 ghost use Rattle.std.specs.List.{list_any};
-ghost use Rattle.net_blif.specs.Chains.{graph_of, leads_on, models_in, row_of, AreWithinDepth, WalkEnds};
+ghost use Rattle.net_blif.specs.Chains.{graph_of, models_in, row_of, AreWithinDepth, WalkEnds};
 ghost use Rattle.net_blif.specs.Item.{IsSoundItem};
 ghost use Rattle.net_blif.specs.private.Leading.{LeadOn, LeadTo};
 ghost use Rattle.graph_core.specs.Cycle.{IsCycleOf};

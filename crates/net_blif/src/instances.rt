@@ -1,5 +1,5 @@
 //! What is wrong with instances.
-ghost use Rattle.std.specs.Prelude.{◌≡◌, ◌<◌, ◌∷◌, [], None, Some, All, IfOk, IfErr, OnOk, ℕ, length, map, slice_get};
+ghost use Rattle.std.specs.Prelude.{◌≡◌, ◌<◌, ◌∷◌, [], None, Some, All, IfOk, IfErr, OnOk, length, map};
 ghost use Rattle.net_blif.specs.Item.{IsSoundItem};
 ghost use Rattle.net_blif.specs.Statement.{IsToken};
 ghost use Rattle.net_blif.specs.Design.{ModelValue, items_of};

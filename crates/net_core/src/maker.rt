@@ -1,5 +1,5 @@
 //! Net lists in the making.
-ghost use Rattle.std.specs.Prelude.{◌≡◌, ◌⊎◌, ◌<◌, ◌≤◌, ◌+◌, ◌^◌, ◌++◌, ◌∷◌, [], ℕ, None, Some, IfOk, IfErr, IfSome, OnOk, OnErr, IsErrOf, All, length, slice_get, true, false};
+ghost use Rattle.std.specs.Prelude.{◌≡◌, ◌⊎◌, ◌<◌, ◌≤◌, ◌+◌, ◌^◌, ◌++◌, ◌∷◌, [], None, Some, IfOk, IfErr, IfSome, OnOk, OnErr, IsErrOf, All, length, slice_get, false};
 ghost use Rattle.net_core.specs.NetList.{empty, nets, number_of, text_of, with_name, with_label, with_gate, with_latch};
 ghost use Rattle.net_core.specs.Inside.{IsNetName, IsFull, HasNoMoreGates, IsInside};
 ghost use Rattle.net_core.specs.Turned.{turned};

@@ -1,5 +1,5 @@
 //! The names of nets.
-ghost use Rattle.std.specs.Prelude.{◌≡◌, ◌<◌, ◌≤◌, ◌+◌, ◌^◌, None, true, OnOk, length};
+ghost use Rattle.std.specs.Prelude.{◌≡◌, ◌<◌, ◌≤◌, ◌+◌, ◌^◌, None, true, OnOk};
 ghost use Rattle.net_core.specs.Inside.{IsNetName};
 ghost use Rattle.net_core.specs.NetList.{nets, number_of, with_label};
 ghost use Rattle.net_plan.specs.MadeNet.{names_in, outer_net, with_inner};

@@ -1,12 +1,11 @@
 -- The jobs of words and feeds that are bound to both net lists.
-use Rattle.std.proofs.Common.{◌≡◌, ◌∙◌, ap, sym, refl, subst, inl, inr, ℕ, zero, suc, ◌<◌, not, Bool, true, false, List, [], ◌∷◌, ◌++◌, length, map, filter, take, cond, Option, Some}
-use Rattle.std.specs.Prelude.{slice_get}
+use Rattle.std.proofs.Common.{◌≡◌, ◌∙◌, ap, sym, refl, subst, inl, inr, ℕ, zero, suc, ◌<◌, not, true, false, List, [], ◌∷◌, ◌++◌, length, map, filter, take, cond}
 use Rattle.graph_core.proofs.CycleLemmas.{from_map}
 use Rattle.net_core.specs.Inside.{IsInside}
 use Rattle.net_core.specs.Lists.{Has}
 use Rattle.net_core.specs.NetList.{NetList, nets}
 use Rattle.net_core.proofs.DriverLemmas.{Has_cases}
-use Rattle.net_words.specs.Binding.{Binding, BoundNet}
+use Rattle.net_words.specs.Binding.{Binding}
 use Rattle.net_words.specs.BoundTo.{output_bits, output_bits_with}
 use Rattle.net_words.specs.Roles.{same_role}
 use Rattle.net_words.specs.declared.bound.BoundWord.{BoundWord}
@@ -22,12 +21,11 @@ use Rattle.circuit_model.specs.OfBinding.{output_basis, output_basis_with, outpu
 use Rattle.circuit_model.specs.Out.{IsOut}
 use Rattle.circuit_model.specs.Word.{Word}
 use Rattle.circuit_model.specs.declared.circuit_feed.CircuitFeed.{CircuitFeed}
-use Rattle.circuit_model.specs.declared.circuit_feed.FeedSource.{FeedSource}
-use Rattle.circuit_model.specs.declared.circuit_feed.FeedSource.TheVariants.{Constant, Bit as BitOf}
+use Rattle.circuit_model.specs.declared.circuit_feed.FeedSource.TheVariants.{Bit as BitOf}
 use Rattle.net_renumbered.specs.Renumbering.{IsBindingUnder, IsRenumbering, feed_under, word_under}
 use Rattle.net_renumbered.proofs.BindingLemmas.{alone}
 use Rattle.net_renumbered.proofs.JobUnder.{job_feed_under, job_word_under}
-use Rattle.net_renumbered.proofs.ListLemmas.{map_both, map_join}
+use Rattle.net_renumbered.proofs.ListLemmas.{map_join}
 use Rattle.net_renumbered.proofs.MemberLemmas.{AreNets, FeedNets, StandOnNets}
 use Rattle.net_renumbered.proofs.RunLemmas.{out_there}
 

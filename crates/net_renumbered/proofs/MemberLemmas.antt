@@ -1,5 +1,5 @@
 -- What stands in lists and words, under new numbers.
-use Rattle.std.proofs.Common.{◌≡◌, ◌∙◌, ap, sym, refl, ℕ, ◌<◌, ◌==◌, ◌&&◌, ◌||◌, not, Bool, List, [], ◌∷◌, map}
+use Rattle.std.proofs.Common.{◌≡◌, ◌∙◌, ap, ℕ, ◌<◌, ◌==◌, ◌&&◌, ◌||◌, not, List, map}
 use Rattle.std.specs.List.{list_any}
 use Rattle.graph_core.proofs.GraphLemmas.{All_has}
 use Rattle.net_core.specs.GateValue.{GateValue}
@@ -13,7 +13,7 @@ use Rattle.net_words.specs.Roles.{in_word, same_role, stands_in}
 use Rattle.net_words.specs.declared.bound.BoundWord.{BoundWord}
 use Rattle.net_words.specs.declared.feed.Feed.{Feed}
 use Rattle.net_words.specs.declared.word.Role.{Role}
-use Rattle.net_words.specs.declared.word.Role.TheVariants.{Input, State, Fed, Output}
+use Rattle.net_words.specs.declared.word.Role.TheVariants.{Input, Output}
 use Rattle.net_renumbered.specs.Renumbering.{IsRenumbering, feed_under, gate_under, latch_under, word_under}
 use Rattle.net_renumbered.proofs.ListLemmas.{any_under, equal_under}
 

@@ -1,6 +1,6 @@
 -- Nets with the same names are the same but for their numbers.
-use Rattle.std.proofs.Common.{◌≡◌, ◌∙◌, ap, sym, refl, subst, inl, inr, ℕ, zero, suc, ◌+◌, ◌<◌, ◌&&◌, Bool, true, false, cond, List, [], ◌∷◌, ◌++◌, length, map, Option, None, Some, arith}
-use Rattle.std.specs.Prelude.{All, slice_get, unwrap_or}
+use Rattle.std.proofs.Common.{◌≡◌, ◌∙◌, ap, sym, refl, subst, inl, inr, ℕ, zero, suc, ◌+◌, ◌<◌, ◌&&◌, Bool, true, false, cond, List, [], ◌∷◌, ◌++◌, map, Option, None, Some, arith}
+use Rattle.std.specs.Prelude.{slice_get, unwrap_or}
 use Rattle.std.specs.Option.{option_map}
 use Rattle.std.specs.Str.{bytes_eq}
 use Rattle.std.proofs.lemmas.Slice.Eq.{bytes_eq-Decides}
@@ -9,7 +9,7 @@ use Rattle.graph_core.proofs.ListLemmas.{get_below}
 use Rattle.net_core.specs.GateValue.{GateValue}
 use Rattle.net_core.specs.Inside.{GateIsInside, IsInside, LatchIsInside}
 use Rattle.net_core.specs.LatchValue.{LatchValue}
-use Rattle.net_core.specs.Lists.{Has, times}
+use Rattle.net_core.specs.Lists.{Has}
 use Rattle.net_core.specs.NetList.{LabelValue, NetList, is_named, nets, number_from, number_of, text_of}
 use Rattle.net_core.specs.Sound.{IsSound, driven, sources}
 use Rattle.net_core.proofs.DriverLemmas.{All_has, Has_cases, times_some}

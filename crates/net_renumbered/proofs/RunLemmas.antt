@@ -1,5 +1,5 @@
 -- A run over one net list gives a run over the other.
-use Rattle.std.proofs.Common.{◌≡◌, ◌∙◌, ap, sym, refl, subst, ℕ, zero, suc, ◌+◌, ◌*◌, ◌<◌, ◌==◌, ◌&&◌, Bool, true, false, List, [], ◌∷◌, ◌++◌, length, map, Option, None, Some, if◌then◌else◌, inl, inr, arith}
+use Rattle.std.proofs.Common.{◌≡◌, ◌∙◌, ap, sym, refl, subst, ℕ, zero, suc, ◌+◌, ◌*◌, ◌<◌, ◌==◌, ◌&&◌, Bool, false, List, [], ◌∷◌, ◌++◌, length, map, Option, Some, if◌then◌else◌, inl, inr, arith}
 use Rattle.std.specs.Prelude.{slice_get, unwrap_or}
 use Rattle.std.specs.Int.{bit_at}
 use Rattle.std.specs.Option.{option_map}
@@ -12,15 +12,13 @@ use Rattle.net_core.specs.Inside.{GateIsInside, IsInside, LatchIsInside}
 use Rattle.net_core.specs.LatchValue.{LatchValue}
 use Rattle.net_core.specs.Lists.{Has}
 use Rattle.net_core.specs.NetList.{NetList, nets}
-use Rattle.net_core.specs.Value.{IsConsistent, IsRight, bit_of, index_of}
-use Rattle.net_core.specs.declared.latch.Start.{Start}
+use Rattle.net_core.specs.Value.{IsConsistent, bit_of, index_of}
 use Rattle.net_core.proofs.DriverLemmas.{Has_cases, Has_map}
-use Rattle.net_words.specs.declared.word.Role.{Role}
 use Rattle.gf_basis.specs.Basis.{AreBits}
-use Rattle.circuit_model.specs.Circuit.{Circuit, IsFed, IsFree, IsInNoWord, IsInput}
-use Rattle.circuit_model.specs.Feeds.{fed_nets, source_at}
-use Rattle.circuit_model.specs.Out.{Ends, IsOut}
-use Rattle.circuit_model.specs.Run.{HasSource, HasZeros, HaveElements, IsCycle, IsFirst, IsInputWord, IsNext, IsOpenRun, IsRun, IsStart, IsStateWord}
+use Rattle.circuit_model.specs.Circuit.{Circuit, IsFed, IsInNoWord}
+use Rattle.circuit_model.specs.Feeds.{source_at}
+use Rattle.circuit_model.specs.Out.{IsOut}
+use Rattle.circuit_model.specs.Run.{HasSource, HasZeros, HaveElements, IsCycle, IsFirst, IsInputWord, IsNext, IsRun, IsStart, IsStateWord}
 use Rattle.circuit_model.specs.Word.{HasElement, Word, word_nets}
 use Rattle.circuit_model.specs.declared.circuit_feed.CircuitFeed.{CircuitFeed}
 use Rattle.circuit_model.specs.declared.circuit_feed.FeedSource.{FeedSource}

@@ -1,6 +1,6 @@
 -- Net lists that are the same but for the numbers of their nets, and words and feeds that are bound to them. Source: this
 -- project's own.
-use Rattle.std.specs.Prelude.{◌≡◌, ℕ, ◌<◌, List, Option, map}
+use Rattle.std.specs.Prelude.{◌≡◌, ℕ, ◌<◌, List, map}
 use Rattle.std.specs.Option.{option_map}
 use Rattle.net_core.specs.GateValue.{GateValue}
 use Rattle.net_core.specs.LatchValue.{LatchValue}

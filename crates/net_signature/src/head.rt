@@ -1,5 +1,5 @@
 //! The lines of a signature before its words: the version, the field and the towers.
-ghost use Rattle.std.specs.Prelude.{◌≡◌, ◌≤◌, ◌↔◌, ◌&&◌, [], ◌∷◌, map, IfOk, IfErr, IsTrue};
+ghost use Rattle.std.specs.Prelude.{◌≡◌, ◌↔◌, ◌&&◌, [], ◌∷◌, map, IfOk, IfErr, IsTrue};
 ghost use Rattle.net_signature.specs.Statement.{SaysVersion, SaysField, SaysTower};
 ghost use Rattle.net_signature.specs.Outcomes.{OrSyntax, Says, Next, tower_comes as comes_tower, begins_tower as begins_a_tower};
 ghost use Rattle.net_signature.specs.Signature.{TowerIf};

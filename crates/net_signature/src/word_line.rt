@@ -1,5 +1,5 @@
 //! The line of a word.
-ghost use Rattle.std.specs.Prelude.{◌≡◌, ◌∷◌, ◌↔◌, map, codes, length, All, IsTrue, IfSome, IfNone};
+ghost use Rattle.std.specs.Prelude.{◌≡◌, ◌∷◌, ◌↔◌, map, codes, All, IsTrue, IfSome, IfNone};
 ghost use Rattle.text_core.specs.Names.{IsName};
 ghost use Rattle.net_signature.specs.Statement.{SaysRole, SaysWord, IsNetToken, IsNetCount};
 ghost use Rattle.net_signature.specs.Outcomes.{OrSyntax};

@@ -1,9 +1,9 @@
 -- Decimal digits.
-use Rattle.std.proofs.Common.{◌≡◌, ap, refl, inl, inr, ℕ, zero, suc, ◌<◌, ◌≤◌, ◌&&◌, Bool, true, false, List, [], ◌∷◌, length, get_or, None, Some, arith}
-use Rattle.std.specs.Prelude.{nat_le, nat_lt, if◌then◌else◌}
+use Rattle.std.proofs.Common.{◌≡◌, ap, refl, inl, ℕ, zero, suc, ◌<◌, ◌≤◌, ◌&&◌, Bool, true, false, List, [], ◌∷◌, length, get_or, None, Some, arith}
+use Rattle.std.specs.Prelude.{nat_le, if◌then◌else◌}
 use Rattle.std.specs.List.{list_all}
-use Rattle.std.proofs.lemmas.Bool.{le-leb, leb-true, lt-ltb, ltb-true, le-ltb}
-use Rattle.text_core.specs.Numbers.{IsDecimal, IsDigit, digit_value, value_of}
+use Rattle.std.proofs.lemmas.Bool.{le-leb, leb-true, lt-ltb, ltb-true}
+use Rattle.text_core.specs.Numbers.{IsDecimal, IsDigit, value_of}
 use Rattle.net_verilog.specs.Bytes.{is_digit}
 use Rattle.net_verilog.specs.Words.{is_decimal}
 use Rattle.net_verilog.specs.private.Decimals.{short}

@@ -1,15 +1,14 @@
 -- At most one outcome comes of an expression.
-use Rattle.std.proofs.Common.{◌≡◌, ◌∙◌, ap, inl, inr, sym, refl, subst, ℕ, ◌+◌, ◌-◌, ◌<◌, ◌≤◌, Bool, true, false, List, [], ◌∷◌, Option, None, Some, Result, Ok, Err, arith}
+use Rattle.std.proofs.Common.{◌≡◌, ◌∙◌, ap, inl, inr, sym, refl, subst, ℕ, ◌-◌, ◌<◌, ◌≤◌, Bool, true, false, List, [], ◌∷◌, Option, None, Some, Ok, Err, arith}
 use Rattle.std.specs.Prelude.{nat_le, unwrap_or, if◌then◌else◌}
 use Rattle.text_core.specs.Outcome.{Determined}
 use Rattle.net_core.specs.NetList.{NetList}
-use Rattle.net_core.specs.declared.fault.NetFault.{NetFault}
 use Rattle.net_verilog.specs.Tokens.{TokenValue}
 use Rattle.net_verilog.specs.Words.{start_of, next_of, wrong}
 use Rattle.net_verilog.specs.Targets.{Answer, target_of}
-use Rattle.net_verilog.specs.Tree.{Tree, IsWell, level, looseness, nesting, Spells, Cut, InGroup, InNot, InRight, AreWell, allowed, depth, Begins}
+use Rattle.net_verilog.specs.Tree.{Tree, looseness, Spells, Cut, InGroup, InNot, InRight, AreWell, depth, Begins}
 use Rattle.net_verilog.specs.Made.{on_value, Making, made, opened, settled}
-use Rattle.net_verilog.specs.Expression.{Expression, Read, binding, binding_at, close_fault, continues, goes_on, group_fault, open_fault, operand_fault, start_fault, target_fault}
+use Rattle.net_verilog.specs.Expression.{Expression, binding, binding_at, close_fault, continues, goes_on, group_fault, open_fault, operand_fault, start_fault, target_fault}
 use Rattle.net_verilog.specs.Declarations.{Declarations}
 use Rattle.net_verilog.specs.private.Steps.{count_open}
 use Rattle.net_verilog.specs.private.Standing.{allows}
@@ -25,7 +24,7 @@ use Rattle.net_verilog.specs.declared.fault.VerilogFault.{VerilogFault}
 use Rattle.net_verilog.specs.declared.fault.VerilogFault.TheVariants as faults
 use Rattle.net_verilog.proofs.StandLemmas.{level_few}
 use Rattle.net_verilog.proofs.OpenLemmas.{allowed_seen, depth_counted, group_parts}
-use Rattle.net_verilog.proofs.SpotLemmas.{Out, Spot, Want, Have, Move, Leads, open_move, start_move, target_move, want, next_move, here_move, move, one_end, stepped, stopped}
+use Rattle.net_verilog.proofs.SpotLemmas.{Out, Want, Have, Leads, open_move, start_move, target_move, next_move, move, one_end, stepped, stopped}
 use Rattle.net_verilog.proofs.ReadLemmas.{Goes, Settles, after_left, opens, read_tree}
 
 -- the machine ends so from a place, where what is open before it was made so

@@ -1,5 +1,5 @@
 -- Inputs and instances, as their readers' goals want them.
-use Rattle.std.proofs.Common.{◌≡◌, ◌⊎◌, ◌∙◌, ap, inl, inr, sym, refl, ℕ, List, [], ◌∷◌, ◌++◌, Result, Ok, Err}
+use Rattle.std.proofs.Common.{◌≡◌, ◌⊎◌, ◌∙◌, ap, inl, inr, sym, ℕ, List, [], ◌∷◌, ◌++◌, Result, Ok, Err}
 use Rattle.text_core.specs.Outcome.{◌>>=◌, Exactly, Returns}
 use Rattle.net_core.specs.NetList.{NetList}
 use Rattle.net_verilog.specs.Tokens.{TokenValue}

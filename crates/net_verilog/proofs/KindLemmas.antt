@@ -1,10 +1,9 @@
 -- What kinds of tokens are not.
-use Rattle.std.proofs.Common.{◌≡◌, ◌∙◌, ap, sym, refl, subst, ℕ, Bool, true, false, List, [], ◌∷◌, Option, None, Some}
-use Rattle.net_verilog.specs.Tokens.{TokenValue, is_end}
+use Rattle.std.proofs.Common.{◌≡◌, ◌∙◌, sym, refl, ℕ, true, false, List, Some}
+use Rattle.net_verilog.specs.Tokens.{is_end}
 use Rattle.net_verilog.specs.Words.{start_kind}
 use Rattle.net_verilog.specs.Targets.{name_kind, decimal_kind}
 use Rattle.net_verilog.specs.private.Places.{is_wrong}
-use Rattle.net_verilog.specs.declared.operator.Start.{Start}
 use Rattle.net_verilog.specs.declared.operator.Start.TheVariants as starts
 use Rattle.net_verilog.specs.declared.kind.Kind.{Kind}
 use Rattle.net_verilog.specs.declared.kind.Kind.TheVariants as kinds

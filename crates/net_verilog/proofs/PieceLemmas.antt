@@ -1,14 +1,14 @@
 -- All tokens print but for the bytes that no token has.
-use Rattle.std.proofs.Common.{◌≡◌, ◌∙◌, ap, sym, refl, subst, ℕ, zero, suc, ◌+◌, ◌<◌, ◌≤◌, Bool, true, false, cond, List, [], ◌∷◌, length, take, get_or, Option, None, Some, arith}
+use Rattle.std.proofs.Common.{◌≡◌, sym, refl, subst, ℕ, zero, suc, ◌+◌, ◌<◌, ◌≤◌, Bool, true, false, cond, List, [], ◌∷◌, length, take, get_or, Option, None, Some, arith}
 use Rattle.std.specs.Prelude.{◌==◌, ◌||◌, take_while}
 use Rattle.std.proofs.lemmas.Bool.{eqb-true}
 use Rattle.std.proofs.lemmas.Grind.{common_steps}
 use Rattle.std.proofs.lemmas.List.Sums.{take_while-cons}
 use Rattle.text_core.specs.Lines.{IsPrinting}
-use Rattle.net_verilog.specs.Bytes.{is_white, is_letter, is_digit, class_has, run, begins, after_pair}
+use Rattle.net_verilog.specs.Bytes.{is_white, is_letter, is_digit, class_has, run, after_pair}
 use Rattle.net_verilog.specs.Tokens.{Piece, piece, one_or_two, sign_kind, sign_piece, closed_piece, slash_piece, open_piece, escaped_piece, is_skipped, backquote_piece}
 use Rattle.net_verilog.specs.private.Places.{is_wrong}
-use Rattle.net_verilog.specs.declared.piece.Class.TheVariants.{WordByte, NameByte, NumberByte, Printing, NoLineFeed}
+use Rattle.net_verilog.specs.declared.piece.Class.TheVariants.{WordByte, NameByte, NumberByte, Printing}
 use Rattle.net_verilog.specs.declared.kind.Kind.{Kind}
 use Rattle.net_verilog.specs.declared.kind.Kind.TheVariants as kinds
 

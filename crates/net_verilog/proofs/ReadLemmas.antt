@@ -1,17 +1,17 @@
 -- All that may come of an expression is the end of the machine that reads it: trees.
-use Rattle.std.proofs.Common.{◌≡◌, ◌∙◌, ap, sym, refl, subst, ℕ, ◌+◌, ◌-◌, ◌<◌, ◌≤◌, Bool, true, false, List, [], ◌∷◌, Option, None, Some, Result, Ok, Err, max, arith}
-use Rattle.std.specs.Prelude.{nat_le, is_some, if◌then◌else◌}
+use Rattle.std.proofs.Common.{◌≡◌, ◌∙◌, ap, sym, refl, subst, ℕ, ◌+◌, ◌-◌, ◌<◌, ◌≤◌, Bool, true, false, List, [], ◌∷◌, None, Some, Ok, Err, max, arith}
+use Rattle.std.specs.Prelude.{nat_le, if◌then◌else◌}
 use Rattle.std.proofs.lemmas.Bool.{le-leb, lt-leb}
 use Rattle.net_core.specs.NetList.{NetList}
 use Rattle.net_core.specs.declared.fault.NetFault.{NetFault}
 use Rattle.net_verilog.specs.Tokens.{TokenValue}
-use Rattle.net_verilog.specs.Words.{is_keyword, literal_of, number_start, start_kind, start_of, next_of, wrong}
-use Rattle.net_verilog.specs.Targets.{Answer, name_kind, named, target_of}
+use Rattle.net_verilog.specs.Words.{is_keyword, start_kind, start_of, next_of}
+use Rattle.net_verilog.specs.Targets.{name_kind, named, target_of}
 use Rattle.net_verilog.specs.Tree.{Tree, Net, Literal, Group, Not, Binary, IsWell, level, looseness, nesting, Spells}
 use Rattle.net_verilog.specs.Made.{on_value, Making, mentioned, made, settled}
-use Rattle.net_verilog.specs.Expression.{Read, binding, binding_at}
+use Rattle.net_verilog.specs.Expression.{binding, binding_at}
 use Rattle.net_verilog.specs.Declarations.{Declarations}
-use Rattle.net_verilog.specs.private.Steps.{Reduced, count_open, reduced}
+use Rattle.net_verilog.specs.private.Steps.{count_open, reduced}
 use Rattle.net_verilog.specs.private.Standing.{allows}
 use Rattle.net_verilog.specs.declared.kind.Kind.{Kind}
 use Rattle.net_verilog.specs.declared.kind.Kind.TheVariants as kinds
@@ -20,14 +20,11 @@ use Rattle.net_verilog.specs.declared.operator.Driver.{Driver}
 use Rattle.net_verilog.specs.declared.operator.Driver.TheVariants as drivers
 use Rattle.net_verilog.specs.declared.operator.Frame.{Frame}
 use Rattle.net_verilog.specs.declared.operator.Frame.TheVariants as frames
-use Rattle.net_verilog.specs.declared.operator.Start.{Start}
 use Rattle.net_verilog.specs.declared.operator.Start.TheVariants as starts
-use Rattle.net_verilog.specs.declared.operator.Next.{Next}
 use Rattle.net_verilog.specs.declared.operator.Next.TheVariants as nexts
-use Rattle.net_verilog.specs.declared.fault.VerilogFault.{VerilogFault}
 use Rattle.net_verilog.specs.declared.fault.VerilogFault.TheVariants as faults
 use Rattle.net_verilog.proofs.StandLemmas.{level_few, loose_some}
-use Rattle.net_verilog.proofs.SpotLemmas.{Out, Spot, Want, Have, Move, Leads, after, mention_move, target_move, open_move, start_move, want, left_move, next_move, here_move, reduced_move, move, stepped, stopped, moved_alike}
+use Rattle.net_verilog.proofs.SpotLemmas.{Out, Spot, Want, Have, Leads, after, mention_move, target_move, open_move, start_move, want, left_move, next_move, reduced_move, move, stepped, stopped, moved_alike}
 
 -- the machine ends so, where the net list or the refusal of an operand is this
 abbrev pub Goes : Declarations → List Frame → List TokenValue → Making Driver → Out → Type 0

@@ -1,12 +1,11 @@
 -- A machine that reads expressions, one operand, operator or sign a move: all outcomes of an expression are its end.
-use Rattle.std.proofs.Common.{◌≡◌, ◌∙◌, ap, sym, refl, subst, ℕ, zero, suc, ◌+◌, ◌<◌, ◌≤◌, Bool, true, false, List, [], ◌∷◌, Option, None, Some, Result, Ok, Err, arith}
+use Rattle.std.proofs.Common.{◌≡◌, ◌∙◌, ap, sym, ℕ, zero, suc, Bool, List, [], ◌∷◌, Option, None, Some, Result, Ok, Err}
 use Rattle.std.specs.Prelude.{nat_le, unwrap_or, if◌then◌else◌}
 use Rattle.net_core.specs.NetList.{NetList}
 use Rattle.net_core.specs.declared.fault.NetFault.{NetFault}
 use Rattle.net_verilog.specs.Tokens.{TokenValue}
 use Rattle.net_verilog.specs.Words.{start_of, next_of, wrong}
 use Rattle.net_verilog.specs.Targets.{Answer, target_of}
-use Rattle.net_verilog.specs.Tree.{looseness}
 use Rattle.net_verilog.specs.Made.{mentioned, settled}
 use Rattle.net_verilog.specs.Expression.{Read, binding_at}
 use Rattle.net_verilog.specs.Declarations.{Declarations}

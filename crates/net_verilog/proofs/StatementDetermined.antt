@@ -1,12 +1,11 @@
 -- At most one outcome comes of assignments and of instances.
-use Rattle.std.proofs.Common.{◌≡◌, ◌∙◌, ap, sym, ℕ, List, [], ◌∷◌, ◌++◌, Result, Ok, Err}
-use Rattle.text_core.specs.Outcome.{Determined, Exactly, Returns, ◌>>=◌}
+use Rattle.std.proofs.Common.{ℕ, List, [], ◌∷◌, ◌++◌}
+use Rattle.text_core.specs.Outcome.{Determined, ◌>>=◌}
 use Rattle.text_core.proofs.DeterminedLemmas.{determined_bind, determined_returns}
 use Rattle.net_core.specs.NetList.{NetList}
 use Rattle.net_verilog.specs.Tokens.{TokenValue}
 use Rattle.net_verilog.specs.Targets.{target_of}
 use Rattle.net_verilog.specs.Made.{driven, mentioned, settled}
-use Rattle.net_verilog.specs.Expression.{Expression}
 use Rattle.net_verilog.specs.Parts.{taken}
 use Rattle.net_verilog.specs.Assigns.{Assigns, net_fault}
 use Rattle.net_verilog.specs.Several.{Several}

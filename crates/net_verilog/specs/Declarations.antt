@@ -1,5 +1,5 @@
 -- Declared names: each with its range, or none. Source: IEEE Std 1364-2005, section 3.3, in the profile of docs/FORMATS.md.
-use Rattle.std.specs.Prelude.{◌≡◌, ℕ, ◌≤◌, ◌||◌, List, [], ◌∷◌, ◌++◌, codes, decimal, length, Option, None, Some, Bool, true, false, if◌then◌else◌}
+use Rattle.std.specs.Prelude.{◌≡◌, ℕ, ◌≤◌, ◌||◌, List, [], ◌∷◌, ◌++◌, codes, decimal, Option, None, Some, Bool, true, false, if◌then◌else◌}
 use Rattle.std.specs.Option.{option_map}
 use Rattle.std.specs.Str.{bytes_eq}
 use Rattle.net_verilog.specs.declared.declared.Declared.{Declared}

@@ -1,6 +1,5 @@
 -- Targets: a declared scalar, or a declared vector with an index. Source: IEEE Std 1364-2005, in the profile of docs/FORMATS.md.
 use Rattle.std.specs.Prelude.{◌≡◌, ℕ, ◌≤◌, ◌&&◌, ◌||◌, ◌==◌, nat_le, nat_lt, Bool, true, false, List, [], ◌∷◌, drop, length, Option, None, Some, Result, Ok, Err, if◌then◌else◌}
-use Rattle.std.specs.Str.{bytes_eq}
 use Rattle.text_core.specs.Numbers.{value_of}
 use Rattle.net_verilog.specs.Tokens.{TokenValue}
 use Rattle.net_verilog.specs.Words.{is_decimal, is_keyword, wrong}

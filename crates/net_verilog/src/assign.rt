@@ -1,6 +1,5 @@
 //! Assignments.
-ghost use Rattle.std.specs.Prelude.{◌≡◌, ◌⊎◌, ◌<◌, ◌≤◌, Ok, Err, IfOk, IfErr, OnOk, length};
-ghost use Rattle.net_core.specs.NetList.{nets};
+ghost use Rattle.std.specs.Prelude.{◌≡◌, ◌⊎◌, ◌<◌, Ok, Err, IfOk, IfErr, length};
 ghost use Rattle.net_verilog.specs.Assigns.{Assigns};
 ghost use Rattle.net_verilog.specs.private.Places.{left};
 

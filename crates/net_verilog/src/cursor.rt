@@ -1,5 +1,5 @@
 //! The tokens of a text, one after another.
-ghost use Rattle.std.specs.Prelude.{◌≡◌, ◌≤◌, ◌<◌, ◌+◌, ◌∷◌, [], ℕ, List, Bool, false, length};
+ghost use Rattle.std.specs.Prelude.{◌≡◌, ◌≤◌, ◌<◌, ◌+◌, ◌∷◌, [], ℕ, false, length};
 ghost use Rattle.net_verilog.specs.Tokens.{tokens_from, tokens_of, is_end, unless_end};
 
 use crate::Kind;

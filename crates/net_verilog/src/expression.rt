@@ -1,12 +1,12 @@
 //! The reader of expressions.
-ghost use Rattle.std.specs.Prelude.{◌≡◌, ◌⊎◌, ◌<◌, ◌≤◌, ◌∷◌, [], ℕ, List, None, Some, Ok, Err, IfOk, IfErr, IfSome, IfNone, OnOk, length, drop};
+ghost use Rattle.std.specs.Prelude.{◌≡◌, ◌⊎◌, ◌<◌, ◌≤◌, ◌∷◌, [], List, None, Some, Ok, Err, IfOk, IfErr, IfSome, IfNone, OnOk, length, drop};
 ghost use Rattle.net_core.specs.NetList.{NetList, nets};
 ghost use Rattle.net_verilog.specs.Tokens.{TokenValue};
 ghost use Rattle.net_verilog.specs.Declarations.{Declarations};
 ghost use Rattle.net_verilog.specs.Tree.{looseness as looseness_of};
 ghost use Rattle.net_verilog.specs.Expression.{Expression};
 ghost use Rattle.net_verilog.specs.private.Gates.{IsDriverOn, IsLastOn, IsStackOn};
-ghost use Rattle.net_verilog.specs.private.Places.{left, value_of};
+ghost use Rattle.net_verilog.specs.private.Places.{left};
 ghost use Rattle.net_verilog.specs.private.Standing.{Holding, Met, Standing, allows};
 
 use crate::gates::{mentioned, settle};

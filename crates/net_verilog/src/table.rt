@@ -1,5 +1,5 @@
 //! Declared names.
-ghost use Rattle.std.specs.Prelude.{◌≡◌, ℕ, ◌≤◌, List, Some, OnOk, length, string_bytes};
+ghost use Rattle.std.specs.Prelude.{◌≡◌, ℕ, ◌≤◌, Some, OnOk, length};
 ghost use Rattle.net_verilog.specs.Declarations.{bit_name, declared_as, put, undeclared};
 ghost use Rattle.net_verilog.specs.Targets.{HasNetNames};
 

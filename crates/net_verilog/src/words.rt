@@ -1,5 +1,5 @@
 //! What words and numbers are.
-ghost use Rattle.std.specs.Prelude.{◌≡◌, ◌⊎◌, IfOk, IfErr};
+ghost use Rattle.std.specs.Prelude.{◌≡◌, ◌⊎◌};
 ghost use Rattle.std.specs.List.{list_all};
 ghost use Rattle.net_verilog.specs.Bytes.{is_digit as digit_is};
 ghost use Rattle.net_verilog.specs.Words.{bit_of as bit_that, is_base as base_is, is_decimal as decimal_is, is_keyword as keyword_is, literal_of as literal_that, next_kind, start_of as start_that, wrong as wrong_token};

@@ -6,7 +6,7 @@ ghost use Rattle.net_words.specs.Binding.{AreWords};
 ghost use Rattle.net_words.specs.Bind.{is_latch, is_used, is_uncovered as is_uncovered_net, with_role, names_with, place_net, taken_with, NetsOf, BoundOf, IsCovered, started, BindingOf, bits_of as bits_of_words, is_unknown as is_unknown_start};
 ghost use Rattle.net_words.specs.BindReading.{AreMarks, FitsBinding};
 ghost use Rattle.net_words.specs.BoundTo.{IsBoundTo};
-ghost use Rattle.net_words.specs.Feeds.{AreFeeds, FeedsOf, is_fed};
+ghost use Rattle.net_words.specs.Feeds.{AreFeeds, is_fed};
 ghost use Rattle.net_words.specs.OneCycle.{IsFlat, IsOneCycle};
 ghost use Rattle.net_words.specs.Roles.{stands_in, in_word as is_in_word, same_role as is_same_role};
 ghost use Rattle.net_words.specs.declared.binding.BindFault.TheVariants.{OutOfMemory};

@@ -1,7 +1,7 @@
 -- The exclusive-or form of a table: six steps, each of which is its own inverse.
-use Rattle.std.proofs.Common.{◌≡◌, ◌≢◌, ℕ, zero, suc, ◌+◌, ◌-◌, ◌*◌, ◌/◌, ◌%◌, ◌^◌, ◌<◌, ◌≤◌, Bool, true, false, cond, not, ◌&&◌, ◌==◌, List, [], ◌∷◌, length, bit_and, bit_xor, min, inl, inr, refl, sym, ◌∙◌, ap, subst, arith, pow-suc, mul_assoc, mul_comm, mul-add, add_assoc, mul-one}
+use Rattle.std.proofs.Common.{◌≡◌, ℕ, zero, suc, ◌+◌, ◌-◌, ◌*◌, ◌/◌, ◌%◌, ◌^◌, ◌<◌, ◌≤◌, Bool, true, false, cond, ◌&&◌, ◌==◌, List, [], ◌∷◌, length, bit_and, bit_xor, min, inl, inr, refl, sym, ◌∙◌, ap, subst, arith, pow-suc, mul_assoc, mul_comm, mul-add, add_assoc, mul-one}
 use Rattle.std.specs.Int.{bit_at}
-use Rattle.std.proofs.lemmas.Bool.{eq-eqb, eqb-true, and_parts, cases_lt, cases_eq}
+use Rattle.std.proofs.lemmas.Bool.{eqb-true, and_parts, cases_lt, cases_eq}
 use Rattle.std.proofs.lemmas.Nat.{div-mul-add, pow_pos, pow-add}
 use Rattle.std.proofs.Math.Nat.{pow-le-pow_right}
 use Rattle.std.proofs.lemmas.Nat.Bits.{bit_at_xor, bit_at_and, bit_at-lt, bit_at_cat_low, bit_at_cat_high}

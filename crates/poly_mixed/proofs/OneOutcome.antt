@@ -1,5 +1,5 @@
 -- A text is one polynomial or has one fault.
-use Rattle.std.proofs.Common.{◌≡◌, ◌⊎◌, ◌∙◌, ap, sym, refl, subst, inl, inr, ℕ, List, [], ◌∷◌, ◌++◌, Option, Some, None, Result, Ok, Err}
+use Rattle.std.proofs.Common.{◌≡◌, ◌⊎◌, ◌∙◌, ap, sym, refl, subst, inl, inr, ℕ, List, [], ◌∷◌, ◌++◌, Some, None, Result, Ok, Err}
 use Rattle.std.proofs.lemmas.List.{append_assoc}
 use Rattle.std.specs.List.{AllByRecursion}
 use Rattle.poly_mixed.specs.Labels.{Labelling}
@@ -8,7 +8,7 @@ use Rattle.poly_mixed.specs.Scan.{skip}
 use Rattle.poly_mixed.specs.Token.{Token, Front, token_front, AreFront}
 use Rattle.poly_mixed.specs.Grammar.{Part, IsPolynomial, IsBeginning}
 use Rattle.poly_mixed.specs.Said.{sum_of}
-use Rattle.poly_mixed.specs.TextOutcome.{TextFault, no_polynomial, name_fault, IsSoFar, IsRefusedAt, IsRefused, IsRead, TextOutcome}
+use Rattle.poly_mixed.specs.TextOutcome.{TextFault, name_fault, IsSoFar, IsRefusedAt, IsRefused, IsRead, TextOutcome}
 use Rattle.poly_mixed.proofs.Machine.{one_polynomial}
 
 some_is : {A : Type 0} (x y : A) → Some x ≡ Some y → x ≡ y

@@ -4,7 +4,7 @@ use Rattle.std.specs.Prelude.{bytes_eq}
 use Rattle.std.specs.Option.{option_and_then}
 use Rattle.std.specs.List.{AllByRecursion}
 use Rattle.std.proofs.lemmas.Bool.{ltb-true, and_parts}
-use Rattle.std.proofs.lemmas.List.{append_assoc, length-drop}
+use Rattle.std.proofs.lemmas.List.{length-drop}
 use Rattle.text_core.specs.Lines.{is_blank}
 use Rattle.text_core.specs.Numbers.{value_of}
 use Rattle.poly_mixed.specs.Labels.{Labelling, AreLabels}
@@ -13,10 +13,10 @@ use Rattle.poly_mixed.specs.Polynomial.{Terms}
 use Rattle.poly_mixed.specs.Product.{with_rank}
 use Rattle.poly_mixed.specs.Scan.{run, skip, word_of, bit_of}
 use Rattle.poly_mixed.specs.Token.{Named, word, bit, net, Token, variable, hex, figures, plus_sign, times_sign, power_sign, Front, token_front, AreFront}
-use Rattle.poly_mixed.specs.Grammar.{Part, number, factor, variables, IsPolynomial, IsBeginning}
+use Rattle.poly_mixed.specs.Grammar.{Part, number, factor, variables}
 use Rattle.poly_mixed.specs.Said.{net_rank, one, with_power, with_bit_of, with_part, monomial_of, coefficient_of, added, with_term, sum_of}
 use Rattle.poly_mixed.specs.TextOutcome.{TextFault, no_polynomial, no_such_net, no_such_bit, or_else, name_fault, IsSoFar, IsRefusedAt, IsRefused, IsRead}
-use Rattle.poly_mixed.specs.private.Reading.{Scanned, Progress, done, more, net_found, bit_found, word_found, exponent_at, with_exponent, with_variable, next_at, after_factor, factor_at, after_zero, term_at, advanced, read_on, reading}
+use Rattle.poly_mixed.specs.private.Reading.{Scanned, Progress, done, more, net_found, bit_found, word_found, exponent_at, with_exponent, with_variable, next_at, after_factor, after_zero, read_on, reading}
 use Rattle.poly_mixed.specs.declared.fault.PolyFault.{PolyFault}
 use Rattle.poly_mixed.specs.declared.fault.PolyFault.TheVariants.{Syntax, NoSuchNet, NoSuchBit, OutOfMemory}
 use Rattle.poly_mixed.specs.declared.variables.Variable.{Variable}

@@ -1,19 +1,17 @@
 -- A polynomial that was read is reduced.
-use Rattle.std.proofs.Common.{◌≡◌, ◌≢◌, ◌⊎◌, ℕ, zero, suc, ◌<◌, ◌≤◌, ◌^◌, Bool, true, false, cond, List, [], ◌∷◌, ◌++◌, length, ◌==◌, Option, Some, None, Result, Ok, Err, slice_set, inl, inr, refl, sym, ◌∙◌, ap, subst, arith}
+use Rattle.std.proofs.Common.{◌≡◌, ◌≢◌, ℕ, zero, suc, ◌<◌, ◌≤◌, ◌^◌, true, false, cond, List, [], ◌∷◌, length, ◌==◌, Option, Some, None, slice_set, inl, inr, refl, sym, ◌∙◌, ap, subst, arith}
 use lib.Bits.{xor_lt}
-use Rattle.std.specs.Prelude.{IfOk, IfErr}
 use Rattle.std.specs.List.{AllByRecursion}
 use Rattle.std.specs.List.Sorted.{IsStrictlySortedBy}
-use Rattle.std.specs.Ordering.{nat_cmp}
 use Rattle.std.proofs.Math.Nat.{pow-le-pow_right}
 use Rattle.std.proofs.lemmas.Bool.{eqb-false}
-use Rattle.poly_mixed.specs.Labels.{Labelling, AreLabels}
+use Rattle.poly_mixed.specs.Labels.{Labelling}
 use Rattle.poly_mixed.specs.Monomial.{Monomial, text_cmp}
-use Rattle.poly_mixed.specs.Polynomial.{Polynomial, Terms, IsElement, IsMap, IsMonomial, IsTerm, IsReduced}
+use Rattle.poly_mixed.specs.Polynomial.{Terms, IsElement, IsMonomial, IsTerm, IsReduced}
 use Rattle.poly_mixed.specs.Scan.{word_of, bit_of}
-use Rattle.poly_mixed.specs.Sum.{with_coefficient, plus}
-use Rattle.poly_mixed.specs.Token.{Named, word, bit, net, Token}
-use Rattle.poly_mixed.specs.Grammar.{Part, number, factor, IsFactor, IsPart, AreJoined, IsTerm as IsTermOf, IsPolynomial}
+use Rattle.poly_mixed.specs.Sum.{plus}
+use Rattle.poly_mixed.specs.Token.{word, bit, net, Token}
+use Rattle.poly_mixed.specs.Grammar.{Part, number, factor, IsPart, AreJoined, IsTerm as IsTermOf}
 use Rattle.poly_mixed.specs.Said.{net_rank, one, with_power, with_bit_of, with_part, monomial_of, coefficient_of, added, with_term, sum_of}
 use Rattle.poly_mixed.specs.TextOutcome.{IsRead}
 use Rattle.poly_mixed.proofs.Products.{rising-with_rank}

@@ -1,5 +1,5 @@
 -- What a call that reads a text gives.
-use Rattle.std.proofs.Common.{◌≡◌, ℕ, ◌≤◌, List, Option, Some, None, Result, Ok, Err, subst}
+use Rattle.std.proofs.Common.{◌≡◌, ℕ, ◌≤◌, List, Result, Ok, Err, subst}
 use Rattle.std.specs.Prelude.{IfOk, IfErr}
 use Rattle.text_core.specs.Outcome.{Fits}
 use Rattle.poly_mixed.specs.Labels.{Labelling, AreLabels}

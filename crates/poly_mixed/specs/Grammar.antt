@@ -1,6 +1,6 @@
 -- The grammar of the text of a polynomial: terms joined by `+`, each of parts joined by `*`, a coefficient first.
 -- Source: this project's own, docs/FORMATS.md.
-use Rattle.std.specs.Prelude.{◌≡◌, ◌⊎◌, ℕ, ◌<◌, ◌≤◌, ◌^◌, List, [], ◌∷◌, ◌++◌, codes}
+use Rattle.std.specs.Prelude.{◌≡◌, ◌⊎◌, ℕ, ◌<◌, ◌^◌, List, [], ◌∷◌, ◌++◌, codes}
 use Rattle.std.specs.List.{AllByRecursion}
 use Rattle.text_core.specs.Numbers.{value_of}
 use Rattle.poly_mixed.specs.Labels.{AreDifferent}

@@ -1,13 +1,13 @@
 -- What may come of reading the text of a polynomial: the polynomial, or the fault of its first token that has one.
 -- At one token, that no polynomial goes on with it comes before a name that the labels do not have.
 -- Source: this project's own, docs/FORMATS.md.
-use Rattle.std.specs.Prelude.{◌≡◌, ◌⊎◌, ℕ, Bool, true, false, cond, List, [], ◌∷◌, ◌++◌, Option, None, Some, Ok, Err}
+use Rattle.std.specs.Prelude.{◌≡◌, ◌⊎◌, ℕ, List, [], ◌∷◌, ◌++◌, Option, None, Some, Ok, Err}
 use Rattle.std.specs.List.{AllByRecursion}
 use Rattle.text_core.specs.Outcome.{Outcome}
 use Rattle.poly_mixed.specs.Labels.{Labelling}
 use Rattle.poly_mixed.specs.Polynomial.{Terms}
 use Rattle.poly_mixed.specs.Scan.{skip, word_of, bit_of}
-use Rattle.poly_mixed.specs.Token.{Named, word, bit, net, Token, variable, Front, token_front, AreFront}
+use Rattle.poly_mixed.specs.Token.{word, bit, net, Token, variable, Front, token_front, AreFront}
 use Rattle.poly_mixed.specs.Grammar.{Part, IsPolynomial, IsBeginning}
 use Rattle.poly_mixed.specs.Said.{net_rank, sum_of}
 use Rattle.poly_mixed.specs.declared.fault.PolyFault.{PolyFault}

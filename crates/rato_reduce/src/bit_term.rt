@@ -1,5 +1,5 @@
 //! Terms without words.
-ghost use Rattle.std.specs.Prelude.{◌≡◌, ◌≢◌, [], IfOk};
+ghost use Rattle.std.specs.Prelude.{◌≡◌, [], IfOk};
 ghost use Rattle.std.specs.List.{AllByRecursion};
 ghost use Rattle.poly_mixed.specs.Monomial.{text_cmp};
 ghost use Rattle.poly_mixed.specs.Sum.{plus};

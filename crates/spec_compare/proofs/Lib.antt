@@ -5,4 +5,5 @@ pub mod TurnLemmas
 pub mod SomeOnesLemmas
 pub mod ComparedLemmas
 pub mod OutputLemmas
+pub mod BitPolynomialLemmas
 mod Examples

@@ -1,5 +1,5 @@
 //! The term whose bits come first, and the input of its bits.
-ghost use Rattle.std.specs.Prelude.{◌≡◌, ◌<◌, ◌≤◌, ◌+◌, ◌^◌, ℕ, length, nat_eq, false, slice_index_or, IfSome, MatchOption, []};
+ghost use Rattle.std.specs.Prelude.{◌≡◌, ◌<◌, ◌≤◌, ◌+◌, ◌^◌, ℕ, length, nat_eq, false, slice_index_or, MatchOption, []};
 ghost use Rattle.std.specs.List.{AllByRecursion, list_any};
 ghost use Rattle.circuit_model.specs.Ones.{ones_cmp};
 ghost use Rattle.spec_compare.specs.private.First.{IsFirstTerm, IsFirstTo, number_at};

@@ -1,16 +1,16 @@
 -- The computed token at the front of a text is the one that stands there.
 use Rattle.std.proofs.Common.{◌≡◌, ◌∙◌, ap, sym, refl, subst, inl, inr, ℕ, zero, suc, ◌+◌, ◌-◌, ◌<◌, ◌≤◌, Bool, true, false, cond, ◌&&◌, List, [], ◌∷◌, ◌++◌, length, take, drop, codes, get_or, nat_lt, ◌==◌, Option, Some, None, arith}
-use Rattle.std.specs.Prelude.{slice_index, EachIndex}
+use Rattle.std.specs.Prelude.{slice_index}
 use Rattle.std.proofs.lemmas.Bool.{lt-ltb, eq-eqb}
 use Rattle.std.proofs.lemmas.Bool.Decides.{nat_tests}
 use Rattle.std.specs.Char.{IsAsciiAlphabetic}
 use Rattle.text_core.specs.Names.{IsName, IsNameByte}
-use Rattle.text_core.specs.Numbers.{value_of, IsDigit, AreDigits, IsHex, IsDecimal}
+use Rattle.text_core.specs.Numbers.{value_of, IsDigit, AreDigits, IsDecimal}
 use Rattle.poly_mixed.specs.Scan.{run, name_of, is_digit, is_hex_digit, is_letter, is_name_byte}
 use Rattle.poly_mixed.proofs.Runs.{Passes}
 use Rattle.poly_mixed.proofs.Spelled.{letter}
 use Rattle.spec_expand.specs.Token.{Token, name, hex, decimal, equals, plus, times, power, IsSpelling, IsFront, HasNoFront}
-use Rattle.spec_expand.specs.private.Scanning.{hex_run, number_front, word_front, any_front, front_of}
+use Rattle.spec_expand.specs.private.Scanning.{hex_run, number_front, front_of}
 use Rattle.spec_expand.proofs.RunLemmas.{run_yes, run_within, run_pass, take_run, run_long, each_passes, passes_each, take_taken, taken_long, taken_short, taken_pass, length_taken, digit_range, range_digit, digit_is, hex_is, is_hex, letter_is, letter_byte, is_name, name_is}
 use Rattle.spec_expand.proofs.TokenLemmas.{decimal_digit}
 use Rattle.spec_expand.proofs.TextTokens.{nothing}

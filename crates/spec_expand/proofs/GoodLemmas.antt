@@ -1,21 +1,20 @@
 -- A token that was taken has no fault, and what may come of a text is what its tokens are read as.
-use Rattle.std.proofs.Common.{◌≡◌, ◌≢◌, ◌∙◌, ap, sym, refl, subst, inl, inr, ◌⊎◌, ℕ, zero, suc, ◌^◌, Bool, true, false, cond, List, [], ◌∷◌, ◌++◌, nat_lt, nat_le, bytes_eq, Option, Some, None, Result, Ok, Err, append_assoc, append-nil}
+use Rattle.std.proofs.Common.{◌≡◌, ◌∙◌, ap, sym, refl, subst, inl, inr, ◌⊎◌, ℕ, ◌^◌, Bool, true, false, cond, List, [], ◌∷◌, ◌++◌, nat_lt, nat_le, Some, Ok, Err, append_assoc, append-nil}
 use Rattle.gf_field.specs.Ring.{IsRing}
 use Rattle.poly_mixed.specs.Labels.{Labelling}
-use Rattle.poly_mixed.specs.Scan.{word_of}
-use Rattle.spec_expand.specs.Token.{Token, name, hex, decimal, equals, plus, times, power}
+use Rattle.spec_expand.specs.Token.{Token, decimal}
 use Rattle.spec_expand.specs.Tokens.{Stop, ended, stuck, AreTokens, plain}
 use Rattle.spec_expand.specs.Grammar.{Factor, IsBeginning, IsSpec}
 use Rattle.spec_expand.specs.Specification.{SpecTerms}
-use Rattle.spec_expand.specs.Fault.{is_some, is_power, ends_in_power, is_known, is_in_range, is_named, HasNoFault, AreGood, IsFaulty, IsUnfit, IsCutOff, IsRead, MayCome, SpecOutcome}
+use Rattle.spec_expand.specs.Fault.{is_some, is_power, ends_in_power, is_known, is_in_range, is_named, HasNoFault, AreGood, IsFaulty, IsCutOff, IsRead, MayCome, SpecOutcome}
 use Rattle.spec_expand.specs.declared.fault.SpecFault.{SpecFault}
-use Rattle.spec_expand.specs.declared.fault.SpecFault.TheVariants.{Syntax, UnknownWord, BadNumber, OutOfMemory}
+use Rattle.spec_expand.specs.declared.fault.SpecFault.TheVariants.{Syntax}
 use Rattle.spec_expand.specs.declared.reader.Next.{Next}
 use Rattle.spec_expand.specs.declared.reader.Next.TheVariants.{Output, Assign, Factor as AtFactor, AfterNumber, AfterName, Exponent}
 use Rattle.spec_expand.specs.private.Progress.{Progress, Read, start, closed, token_read, tokens_read, stop_read, end_read}
 use Rattle.spec_expand.proofs.Moves.{Shape, Move, reads_output, reads_sign, reads_word, reads_element, reads_bit, reads_power, reads_exponent, times_number, times_name, plus_number, plus_name, Refused, unfit, unknown, large, wrong, shape, go, known_at, fits_at, at_left, at_sign, at_factor, at_number, at_name, at_power, moves, refused, move_goes}
 use Rattle.spec_expand.proofs.WalkLemmas.{walk, IsAfter, no_beginning, walk_more, no_spec}
-use Rattle.spec_expand.proofs.SaidLemmas.{Says, IsOpen, IsFull, IsNamed, IsEnded, says_start, says_more, begins, move_starts, number_ended, name_ended, name_goes, hex_goes, decimal_goes}
+use Rattle.spec_expand.proofs.SaidLemmas.{Says, IsEnded, says_start, says_more, begins, move_starts, number_ended, name_ended, name_goes, hex_goes, decimal_goes}
 use Rattle.spec_expand.proofs.OneOutcome.{Placed, plain_both}
 
 abbrev is_raised : Shape → Bool

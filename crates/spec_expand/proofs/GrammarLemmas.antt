@@ -1,5 +1,5 @@
 -- A list of tokens is one specification at most.
-use Rattle.std.proofs.Common.{◌≡◌, ◌≢◌, ◌∙◌, ap, sym, refl, subst, inl, inr, ◌⊎◌, ℕ, List, [], ◌∷◌, ◌++◌}
+use Rattle.std.proofs.Common.{◌≡◌, ◌≢◌, ◌∙◌, ap, sym, refl, subst, inl, inr, ℕ, List, [], ◌∷◌, ◌++◌}
 use Rattle.std.specs.List.{AllByRecursion}
 use Rattle.spec_expand.specs.Token.{Token, name, hex, decimal, equals, plus, times, power}
 use Rattle.spec_expand.specs.Grammar.{Factor, number, power_of, IsFactor, AreJoined, IsTerm, IsSpec}

@@ -1,11 +1,11 @@
 -- A text is one specification or has one fault.
-use Rattle.std.proofs.Common.{◌≡◌, ◌≢◌, ◌∙◌, ap, sym, refl, subst, inl, inr, ◌⊎◌, ℕ, Bool, true, false, List, [], ◌∷◌, ◌++◌, Result, Ok, Err}
+use Rattle.std.proofs.Common.{◌≡◌, ◌∙◌, ap, sym, refl, subst, inl, inr, ◌⊎◌, ℕ, Bool, true, false, List, [], ◌∷◌, ◌++◌, Result, Ok, Err}
 use Rattle.poly_mixed.specs.Labels.{Labelling}
 use Rattle.spec_expand.specs.declared.fault.SpecFault.{SpecFault}
 use Rattle.spec_expand.specs.declared.fault.SpecFault.TheVariants.{Syntax, UnknownWord, BadNumber, OutOfMemory}
 use Rattle.spec_expand.specs.Token.{Token, name, hex, decimal, equals, plus, times, power}
-use Rattle.spec_expand.specs.Tokens.{Stop, ended, stuck, AreTokens, plain}
-use Rattle.spec_expand.specs.Grammar.{Factor, IsSpec, IsBeginning}
+use Rattle.spec_expand.specs.Tokens.{Stop, ended, stuck, plain}
+use Rattle.spec_expand.specs.Grammar.{IsBeginning}
 use Rattle.spec_expand.specs.Specification.{SpecTerms, terms_of}
 use Rattle.spec_expand.specs.Fault.{is_named, is_in_range, HasNoFault, AreGood, IsFaulty, IsUnfit, IsCutOff, IsRead, MayCome, SpecOutcome, IsOfText}
 use Rattle.spec_expand.proofs.TextTokens.{one_tokens}

@@ -1,27 +1,26 @@
 -- A power of a word in its bits.
-use Rattle.std.proofs.Common.{◌≡◌, ◌∙◌, ap, sym, refl, subst, ℕ, zero, suc, ◌<◌, ◌≤◌, ◌+◌, ◌-◌, ◌*◌, ◌/◌, ◌%◌, ◌^◌, Bool, true, false, cond, List, [], ◌∷◌, length, take, get_or, bit_xor, Some, arith}
+use Rattle.std.proofs.Common.{◌≡◌, ◌∙◌, ap, sym, refl, subst, ℕ, zero, suc, ◌<◌, ◌+◌, ◌-◌, ◌*◌, ◌/◌, ◌%◌, ◌^◌, Bool, true, false, cond, List, [], ◌∷◌, length, take, get_or, bit_xor, Some, arith}
 use Rattle.std.specs.Prelude.{slice_get, slice_index}
 use lib.Bits.{xor_zero_l, xor_zero_r, xor_assoc}
 use Rattle.std.specs.List.Sorted.{IsStrictlySortedBy}
-use Rattle.std.proofs.lemmas.Option.{slice_get-get_or, get_or_from_slice_get, slice_get_within}
+use Rattle.std.proofs.lemmas.Option.{get_or_from_slice_get, slice_get_within}
 use Rattle.gf_field.specs.Ring.{IsRing}
 use Rattle.gf_field.specs.laws.RingLaws.{mul_zero}
 use Rattle.gf_field.specs.Power.{power}
 use Rattle.gf_field.specs.Trace.{frobenius}
 use Rattle.gf_field.specs.laws.TraceLaws.{frobenius-xor, frobenius-power}
-use Rattle.gf_basis.specs.Basis.{first_values, IsBasis, AreBits}
+use Rattle.gf_basis.specs.Basis.{first_values}
 use Rattle.irreducible.specs.Span.{combination}
 use Rattle.graph_core.proofs.ListLemmas.{get_below}
 use Rattle.net_core.specs.NetList.{nets}
 use Rattle.net_core.specs.Value.{bit_of, index_of}
-use Rattle.net_core.specs.Lists.{Has}
 use Rattle.poly_mixed.specs.Table.{index}
 use Rattle.poly_mixed.specs.Polynomial.{Terms, Point, IsPoint, IsReduced, IsPolynomialOf, value}
 use Rattle.circuit_model.specs.Word.{Word, HasElement}
 use Rattle.circuit_model.specs.Circuit.{Circuit, IsInput}
-use Rattle.circuit_model.specs.WellFormed.{IsWellFormed, IsWord}
+use Rattle.circuit_model.specs.WellFormed.{IsWellFormed}
 use Rattle.circuit_model.proofs.SourceLemmas.{source_inside, stands_source}
-use Rattle.stage_model.specs.Variables.{rank_in, point_bits, variables_of}
+use Rattle.stage_model.specs.Variables.{point_bits, variables_of}
 use Rattle.stage_model.specs.InputPoint.{IsAtInput}
 use Rattle.stage_model.proofs.PointLemmas.{point_bits_at}
 use Rattle.stage_model.proofs.PlaceLemmas.{place_rank}

@@ -1,12 +1,12 @@
 -- What was read of a specification so far, as closed terms, closed factors and a part of a factor; and the specifications
 -- that begin so.
-use Rattle.std.proofs.Common.{◌≡◌, ◌∙◌, ap, sym, refl, subst, inl, inr, ◌⊎◌, ℕ, List, [], ◌∷◌, ◌++◌, Option, Some, None, append_assoc, append-nil}
+use Rattle.std.proofs.Common.{◌≡◌, ◌∙◌, ap, sym, refl, subst, ℕ, List, [], ◌∷◌, ◌++◌, append_assoc, append-nil}
 use Rattle.gf_field.specs.Ring.{IsRing}
 use Rattle.poly_mixed.specs.Labels.{Labelling}
 use Rattle.poly_mixed.specs.Scan.{word_of}
-use Rattle.spec_expand.specs.Token.{Token, name, hex, decimal, equals, plus, times, power}
+use Rattle.spec_expand.specs.Token.{Token, name, equals, plus, times}
 use Rattle.spec_expand.specs.Grammar.{Factor, number, power_of, IsFactor, AreJoined, IsTerm, IsSpec, IsBeginning}
-use Rattle.spec_expand.specs.Specification.{SpecTerms, coefficient_of, pair_of, pairs_of, terms_of}
+use Rattle.spec_expand.specs.Specification.{coefficient_of, pair_of, pairs_of, terms_of}
 
 -- parts, each with a sign after it
 unfoldable pub AreClosed : {A : Type 0} → Token → (List Token → A → Type 0) → List Token → List A → Type 0

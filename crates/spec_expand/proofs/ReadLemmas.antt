@@ -1,5 +1,5 @@
 -- What a reader keeps, from place to place of a text.
-use Rattle.std.proofs.Common.{◌≡◌, ◌∙◌, ap, sym, refl, subst, inl, inr, ℕ, zero, suc, ◌+◌, ◌<◌, ◌≤◌, ◌^◌, Bool, true, false, cond, List, [], ◌∷◌, ◌++◌, length, take, drop, nat_lt, bytes_eq, Option, Some, None, Result, Ok, Err, arith, length-drop, length-append}
+use Rattle.std.proofs.Common.{◌≡◌, ◌∙◌, ap, sym, refl, subst, ℕ, suc, ◌+◌, ◌<◌, ◌≤◌, ◌^◌, true, false, cond, List, [], ◌∷◌, ◌++◌, length, take, drop, nat_lt, bytes_eq, Option, Some, None, Result, Ok, Err, arith, length-drop, length-append}
 use Rattle.std.specs.List.{AllByRecursion}
 use Rattle.std.specs.Option.{option_map}
 use Rattle.std.proofs.Math.ListN.{drop_of_length-le}
@@ -9,7 +9,7 @@ use Rattle.gf_field.specs.laws.PowerLaws.{one_below}
 use Rattle.poly_mixed.specs.Labels.{Labelling}
 use Rattle.poly_mixed.specs.Scan.{run, word_of}
 use Rattle.poly_mixed.proofs.Texts.{all_more}
-use Rattle.spec_expand.specs.Token.{Token, IsWhite, AreWhite, IsFront, HasNoFront}
+use Rattle.spec_expand.specs.Token.{Token, AreWhite, IsFront, HasNoFront}
 use Rattle.spec_expand.specs.Tokens.{Stop, ended, stuck, AreTokens}
 use Rattle.spec_expand.specs.Specification.{SpecTerms, IsTermOver, IsOverWords}
 use Rattle.spec_expand.specs.Fault.{SpecOutcome}
@@ -19,7 +19,7 @@ use Rattle.spec_expand.specs.declared.reader.Next.{Next}
 use Rattle.spec_expand.specs.declared.reader.Next.TheVariants.{Output, Assign, Factor, AfterNumber, AfterName, Exponent}
 use Rattle.spec_expand.specs.declared.scan.Scanned.{Scanned}
 use Rattle.spec_expand.specs.private.Scanning.{is_white, front_of, IsSeen, IsSeenAs, IsSeenAt}
-use Rattle.spec_expand.specs.private.Progress.{Progress, Read, progress, start, closed, to_next, with_power, with_number, next_term, token_read, tokens_read, end_read, IsSaid, IsShort}
+use Rattle.spec_expand.specs.private.Progress.{Progress, Read, progress, start, closed, token_read, tokens_read, end_read, IsSaid, IsShort}
 use Rattle.spec_expand.proofs.Moves.{Move, reads_output, reads_sign, reads_word, reads_element, reads_bit, reads_power, reads_exponent, times_number, times_name, plus_number, plus_name, moves}
 use Rattle.spec_expand.proofs.GoodLemmas.{text_may}
 use Rattle.spec_expand.proofs.FrontLemmas.{front_some, front_none}

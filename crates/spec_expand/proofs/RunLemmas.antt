@@ -1,5 +1,5 @@
 -- Runs of bytes at the front of a text, and what their bytes are.
-use Rattle.std.proofs.Common.{◌≡◌, ◌∙◌, ap, sym, refl, subst, inl, inr, ◌⊎◌, ℕ, zero, suc, ◌+◌, ◌<◌, ◌≤◌, Bool, true, false, cond, List, [], ◌∷◌, length, take, drop, arith}
+use Rattle.std.proofs.Common.{◌≡◌, ◌∙◌, ap, sym, refl, subst, inl, inr, ℕ, zero, suc, ◌+◌, ◌<◌, ◌≤◌, Bool, true, false, cond, List, [], ◌∷◌, length, take, arith}
 use Rattle.std.specs.Prelude.{slice_index, EachIndex}
 use Rattle.std.proofs.lemmas.Bool.{cases_lt}
 use Rattle.std.proofs.lemmas.Bool.Decides.{nat_tests}
@@ -9,7 +9,7 @@ use Rattle.std.specs.Char.{IsAsciiAlphabetic}
 use Rattle.text_core.specs.Names.{IsNameByte}
 use Rattle.text_core.specs.Numbers.{digit_value, IsDigit, IsHexDigit}
 use Rattle.poly_mixed.specs.Scan.{run, is_digit, is_hex_digit, is_letter, is_name_byte}
-use Rattle.poly_mixed.proofs.Runs.{Passes, Stops}
+use Rattle.poly_mixed.proofs.Runs.{Passes}
 
 module _ (q : ℕ → Bool) where
   pub run_yes : (b : ℕ) (bs : List ℕ) → q b ≡ true → run q (b ∷ bs) ≡ b ∷ run q bs

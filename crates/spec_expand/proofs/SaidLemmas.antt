@@ -1,16 +1,15 @@
 -- What was read says what its tokens say, and each token that was taken is without a fault.
-use Rattle.std.proofs.Common.{◌≡◌, ◌∙◌, ap, sym, refl, subst, inl, inr, ◌⊎◌, ℕ, zero, suc, ◌^◌, Bool, true, false, cond, List, [], ◌∷◌, ◌++◌, nat_lt, nat_le, bytes_eq, Option, Some, None, append_assoc, append-nil}
+use Rattle.std.proofs.Common.{◌≡◌, ◌∙◌, ap, sym, refl, subst, inl, inr, ℕ, ◌^◌, List, [], ◌∷◌, ◌++◌, Some, append-nil}
 use Rattle.gf_field.specs.Ring.{IsRing}
 use Rattle.poly_mixed.specs.Labels.{Labelling}
 use Rattle.poly_mixed.specs.Scan.{word_of}
 use Rattle.spec_expand.specs.Token.{Token, name, hex, decimal, equals, plus, times, power}
 use Rattle.spec_expand.specs.Grammar.{Factor, number, power_of, IsFactor, IsSpec, IsBeginning}
 use Rattle.spec_expand.specs.Specification.{SpecTerms, coefficient_of, pair_of, pairs_of, terms_of}
-use Rattle.spec_expand.specs.Fault.{is_some, ends_in_power, is_known, is_in_range, is_named, HasNoFault, AreGood}
 use Rattle.spec_expand.specs.declared.reader.Next.{Next}
 use Rattle.spec_expand.specs.declared.reader.Next.TheVariants.{Output, Assign, Factor as AtFactor, AfterNumber, AfterName, Exponent}
-use Rattle.spec_expand.specs.private.Progress.{Progress, progress, start, closed, to_next, with_power, with_number, next_term}
-use Rattle.spec_expand.proofs.Moves.{Move, reads_output, reads_sign, reads_word, reads_element, reads_bit, reads_power, reads_exponent, times_number, times_name, plus_number, plus_name, Shape, go, shape, known_at, fits_at, at_left, at_sign, at_factor, at_number, at_name, at_power}
+use Rattle.spec_expand.specs.private.Progress.{Progress, progress, start, closed, to_next, with_power, next_term}
+use Rattle.spec_expand.proofs.Moves.{Move, reads_output, reads_sign, reads_word, reads_element, reads_bit, reads_power, reads_exponent, times_number, times_name, plus_number, plus_name, Shape, go, shape}
 use Rattle.spec_expand.proofs.PrefixLemmas.{IsPrefix, first_prefix, prefix_more, prefix_times, prefix_plus, prefix_spec, prefix_begins, pairs_more, terms_more, coefficient_power, coefficient_number}
 
 module _ (l : Labelling) (k : ℕ) (mul : ℕ → ℕ → ℕ) (ring : IsRing k mul) where

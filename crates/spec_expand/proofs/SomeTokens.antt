@@ -1,11 +1,9 @@
 -- Each text has tokens; white bytes before a text move its tokens.
-use Rattle.std.proofs.Common.{◌≡◌, ◌∙◌, ap, sym, refl, subst, inl, inr, ℕ, zero, suc, ◌+◌, ◌-◌, ◌<◌, ◌≤◌, Bool, true, false, List, [], ◌∷◌, length, take, drop, Option, Some, None, arith, length-drop}
-use Rattle.std.specs.Prelude.{slice_index, EachIndex}
+use Rattle.std.proofs.Common.{◌≡◌, ◌∙◌, ap, sym, refl, subst, inl, inr, ℕ, zero, suc, ◌+◌, ◌-◌, ◌<◌, ◌≤◌, true, List, [], ◌∷◌, length, take, drop, Option, Some, None, arith, length-drop}
 use Rattle.std.proofs.lemmas.Bool.{cases_lt}
 use Rattle.std.proofs.lemmas.Grind.{common_steps}
 use Rattle.poly_mixed.specs.Scan.{run}
-use Rattle.poly_mixed.proofs.Runs.{Passes}
-use Rattle.spec_expand.specs.Token.{Token, name, IsWhite, AreWhite, IsFront, HasNoFront, IsSpelling}
+use Rattle.spec_expand.specs.Token.{Token, IsWhite, AreWhite, IsFront, HasNoFront}
 use Rattle.spec_expand.specs.Tokens.{Stop, ended, stuck, AreTokens}
 use Rattle.spec_expand.specs.private.Scanning.{is_white, front_of}
 use Rattle.spec_expand.proofs.RunLemmas.{run_within, run_pass, take_run, run_ends, each_passes, passes_each}

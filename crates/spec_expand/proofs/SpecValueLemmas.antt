@@ -1,5 +1,5 @@
 -- The values of products with one factor more, and of all factors.
-use Rattle.std.proofs.Common.{◌≡◌, ◌≢◌, ◌∙◌, ap, sym, refl, subst, ℕ, zero, suc, ◌<◌, ◌≤◌, ◌+◌, ◌-◌, ◌*◌, ◌/◌, ◌%◌, ◌^◌, Bool, true, false, cond, List, [], ◌∷◌, ◌++◌, length, take, drop, bit_xor, Some, ◌==◌, arith, add-one, mul_assoc, mul_comm, append_assoc, append-nil, length-append}
+use Rattle.std.proofs.Common.{◌≡◌, ◌≢◌, ◌∙◌, ap, sym, refl, subst, ℕ, zero, suc, ◌<◌, ◌≤◌, ◌+◌, ◌-◌, ◌*◌, ◌/◌, ◌%◌, ◌^◌, Bool, true, false, cond, List, [], ◌∷◌, ◌++◌, length, take, drop, Some, ◌==◌, arith, add-one, mul_assoc, mul_comm, append_assoc, append-nil, length-append}
 use Rattle.std.specs.Prelude.{slice_get, slice_index}
 use Rattle.std.specs.List.{AllByRecursion}
 use Rattle.std.proofs.Math.Nat.{pow-succ', add-mul}
@@ -7,9 +7,9 @@ use Rattle.std.proofs.lemmas.Bool.{eq-eqb}
 use Rattle.std.proofs.lemmas.Bool.Decides.{nat_tests}
 use Rattle.gf_field.specs.Ring.{IsRing}
 use Rattle.gf_field.specs.Power.{power}
-use Rattle.gf_field.specs.laws.PowerLaws.{power-add, power_below, one_below}
+use Rattle.gf_field.specs.laws.PowerLaws.{power-add, one_below}
 use Rattle.spec_expand.specs.Specification.{SpecTerms}
-use Rattle.spec_expand.specs.SpecValue.{powers_at, spec_at, ones_of, factors_with, factors_of, product_at}
+use Rattle.spec_expand.specs.SpecValue.{powers_at, ones_of, factors_with, factors_of, product_at}
 
 -- ---- lists of factors
 

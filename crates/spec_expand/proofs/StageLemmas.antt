@@ -1,11 +1,10 @@
 -- Functions of the input as stages: their polynomials, their sizes, and the stages of a specification in their order.
-use Rattle.std.proofs.Common.{◌≡◌, ◌∙◌, ap, sym, refl, subst, inl, inr, ◌⊎◌, ℕ, zero, suc, ◌+◌, ◌<◌, ◌≤◌, ◌^◌, ◌*◌, Bool, false, List, [], ◌∷◌, ◌++◌, length, take, Some, bit_xor, Result, Ok, Err, arith, length-append}
+use Rattle.std.proofs.Common.{◌≡◌, ◌∙◌, ap, sym, refl, subst, inl, inr, ℕ, zero, suc, ◌+◌, ◌<◌, ◌≤◌, ◌^◌, false, List, [], ◌∷◌, ◌++◌, length, take, Some, bit_xor, arith}
 use Rattle.std.specs.Prelude.{slice_get, slice_index}
 use Rattle.std.specs.List.{AllByRecursion}
 use Rattle.std.proofs.lemmas.Bool.{cases_order}
 use Rattle.std.proofs.lemmas.Option.{slice_get_within}
 use lib.Bits.{xor_assoc, xor_comm}
-use Rattle.gf_field.specs.Ring.{IsRing}
 use Rattle.gf_field.specs.Power.{power}
 use Rattle.poly_mixed.specs.Polynomial.{Terms, Point, IsPoint, IsReduced, IsPolynomialOf, value}
 use Rattle.poly_mixed.specs.Product.{IsProduct}
@@ -15,7 +14,6 @@ use Rattle.poly_mixed.specs.declared.stage.Stage.{Stage}
 use Rattle.poly_mixed.specs.declared.stage.Stage.TheVariants.{Cut, WordProduct, WordSum, SpecProduct, SpecSum, InstanceProduct, InstanceSum}
 use Rattle.poly_mixed.proofs.FieldLaws.{field_of}
 use Rattle.poly_mixed.proofs.Simple.{reduced_nothing}
-use Rattle.circuit_model.specs.Word.{Word, word_nets}
 use Rattle.circuit_model.specs.Circuit.{Circuit, IsInput}
 use Rattle.circuit_model.specs.WellFormed.{IsWellFormed}
 use Rattle.stage_model.specs.InputPoint.{IsAtInput}
@@ -29,7 +27,7 @@ use Rattle.spec_expand.specs.Specification.{SpecTerms, IsTermOver}
 use Rattle.spec_expand.specs.SpecValue.{powers_at, spec_at, factors_of, product_at}
 use Rattle.spec_expand.specs.SpecListing.{IsAtPoint, IsSpecProduct, HasFactor, is_spec_stage, spec_stage_of, is_earlier_spec_stage, spec_listing}
 use Rattle.spec_expand.specs.Expanded.{IsExpansion}
-use Rattle.spec_expand.specs.private.Expanding.{IsOfInput, HasWithin, AreProductsWithin, IsReached, IsProductOver, IsOverAt, IsTermRefusal, AreTermsWithin, IsSummed}
+use Rattle.spec_expand.specs.private.Expanding.{IsOfInput, HasWithin, AreProductsWithin, IsReached, IsProductOver, IsTermRefusal, IsSummed}
 use Rattle.spec_expand.proofs.SpecValueLemmas.{product_more, product_none, product_all, terms_taken}
 
 module _ (c : Circuit) (well : IsWellFormed c) where

@@ -1,6 +1,5 @@
 -- A text has one list of tokens.
-use Rattle.std.proofs.Common.{◌≡◌, ◌≢◌, ◌∙◌, ap, sym, refl, subst, inl, inr, ◌⊎◌, ℕ, zero, suc, ◌<◌, ◌≤◌, ◌+◌, List, [], ◌∷◌, ◌++◌, length, take, drop, get_or, arith}
-use Rattle.std.specs.Prelude.{slice_index, EachIndex}
+use Rattle.std.proofs.Common.{◌≡◌, ◌∙◌, ap, sym, refl, subst, inl, inr, ℕ, zero, suc, ◌<◌, ◌≤◌, ◌+◌, List, [], ◌∷◌, length, take, drop, get_or, arith}
 use Rattle.std.proofs.lemmas.Bool.{cases_order}
 use Rattle.text_core.specs.Names.{IsName}
 use Rattle.spec_expand.specs.Token.{Token, name, hex, decimal, equals, plus, times, power, IsSpelling, IsWhite, AreWhite, IsFront, HasNoFront}

@@ -1,9 +1,9 @@
 -- Bytes spell one token at most, and one token stands in front of a text at most.
-use Rattle.std.proofs.Common.{◌≡◌, ◌≢◌, ◌∙◌, ap, sym, refl, subst, inl, inr, ◌⊎◌, ℕ, zero, suc, ◌<◌, ◌≤◌, Bool, true, false, cond, List, [], ◌∷◌, ◌++◌, length, take, drop, codes, nat_lt, ◌==◌, arith}
-use Rattle.std.proofs.lemmas.Bool.{cases_lt, cases_order, ne_eqb, lt-ltb, le-ltb}
+use Rattle.std.proofs.Common.{◌≡◌, ◌≢◌, ◌∙◌, ap, sym, refl, subst, inl, inr, ◌⊎◌, ℕ, ◌<◌, ◌≤◌, cond, List, [], ◌∷◌, length, take, drop, nat_lt, ◌==◌, arith}
+use Rattle.std.proofs.lemmas.Bool.{cases_order, ne_eqb, lt-ltb, le-ltb}
 use Rattle.std.proofs.lemmas.Bool.Decides.{nat_tests}
 use Rattle.text_core.specs.Names.{IsName}
-use Rattle.text_core.specs.Numbers.{value_of, digit_value, IsDigit, AreDigits, IsHex, IsDecimal}
+use Rattle.text_core.specs.Numbers.{value_of, digit_value, IsDigit}
 use Rattle.spec_expand.specs.Token.{Token, name, hex, decimal, equals, plus, times, power, IsSpelling, IsFront}
 
 -- what the first two bytes say of a token

@@ -1,6 +1,6 @@
 -- The grammar as a walk from token to token: each specification is walked to its end.
-use Rattle.std.proofs.Common.{◌≡◌, ◌∙◌, ap, sym, refl, subst, inl, inr, ◌⊎◌, ℕ, List, [], ◌∷◌, ◌++◌, Option, Some, None, append_assoc}
-use Rattle.spec_expand.specs.Token.{Token, name, hex, decimal, equals, plus, times, power}
+use Rattle.std.proofs.Common.{◌≡◌, ◌∙◌, ap, sym, refl, subst, inl, inr, ℕ, List, [], ◌∷◌, ◌++◌, Option, Some, None, append_assoc}
+use Rattle.spec_expand.specs.Token.{Token, name, equals, plus, times}
 use Rattle.spec_expand.specs.Grammar.{Factor, number, power_of, IsFactor, AreJoined, IsTerm, IsSpec, IsBeginning}
 use Rattle.spec_expand.proofs.Moves.{Shape, at_left, at_sign, at_factor, at_number, at_name, at_power, go}
 

@@ -1,5 +1,5 @@
 -- The value of a specification at an input. Source: this project's own.
-use Rattle.std.specs.Prelude.{ℕ, zero, suc, ◌+◌, ◌*◌, ◌^◌, ◌/◌, ◌%◌, Bool, cond, List, [], ◌∷◌, ◌++◌, length, take, slice_index, bit_xor, ◌==◌}
+use Rattle.std.specs.Prelude.{ℕ, zero, suc, ◌+◌, ◌^◌, ◌/◌, ◌%◌, cond, List, [], ◌∷◌, ◌++◌, take, slice_index, bit_xor, ◌==◌}
 use Rattle.gf_field.specs.Power.{power}
 use Rattle.spec_expand.specs.Specification.{SpecTerms}
 

@@ -1,5 +1,5 @@
 //! A specification as a polynomial in the bits of input, state and fed words.
-ghost use Rattle.std.specs.Prelude.{◌≡◌, ◌<◌, ◌≤◌, ◌+◌, ◌^◌, length, take, slice_get, Some, IfOk, IfErr, OnOk};
+ghost use Rattle.std.specs.Prelude.{◌≡◌, ◌<◌, ◌+◌, ◌^◌, length, take, slice_get, Some, IfOk, IfErr, OnOk};
 ghost use Rattle.net_core.specs.Sound.{IsSound};
 ghost use Rattle.net_words.specs.OneCycle.{IsOneCycle};
 ghost use Rattle.gf_basis.specs.BasisParts.{elements_of, IsBasisOver};

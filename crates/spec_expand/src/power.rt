@@ -1,5 +1,5 @@
 //! A power of a word in its bits.
-ghost use Rattle.std.specs.Prelude.{◌≡◌, ◌<◌, ◌≤◌, ◌+◌, ◌*◌, ℕ, length, IfOk};
+ghost use Rattle.std.specs.Prelude.{◌<◌, ◌+◌, ◌*◌, IfOk};
 ghost use Rattle.irreducible.specs.Span.{combination};
 ghost use Rattle.gf_field.specs.Trace.{frobenius as frobenius_of};
 ghost use Rattle.gf_basis.specs.Basis.{first_values};

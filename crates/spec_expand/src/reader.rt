@@ -1,5 +1,5 @@
 //! A specification from its text.
-ghost use Rattle.std.specs.Prelude.{◌≡◌, ◌≤◌, ◌<◌, ◌+◌, ◌^◌, ℕ, List, [], length, drop, OnOk, IfOk, IfSome, Option, bytes_eq, nat_lt, nat_le};
+ghost use Rattle.std.specs.Prelude.{◌≡◌, ◌≤◌, ◌<◌, ◌+◌, ◌^◌, ℕ, [], length, drop, OnOk, IfOk, IfSome, Option, bytes_eq, nat_lt, nat_le};
 ghost use Rattle.poly_mixed.specs.Scan.{run, word_of as number_of_word, IsValue};
 ghost use Rattle.spec_expand.specs.Token.{Token};
 ghost use Rattle.spec_expand.specs.declared.reader.Next.{Next};

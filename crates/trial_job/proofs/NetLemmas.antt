@@ -1,5 +1,5 @@
 -- The net of a trial: its gate is there, it is sound, its words bind to it, and nothing is left to unroll.
-use Rattle.std.proofs.Common.{◌≡◌, ◌∙◌, ap, sym, refl, subst, inl, inr, ℕ, zero, suc, codes, ◌<◌, ◌≤◌, ◌+◌, ◌*◌, ◌/◌, ◌%◌, ◌^◌, List, [], length, take, drop, Option, Some, Result, Ok, Err, arith}
+use Rattle.std.proofs.Common.{◌≡◌, ◌∙◌, ap, sym, refl, inl, inr, ℕ, zero, suc, codes, ◌<◌, ◌≤◌, ◌+◌, ◌*◌, ◌/◌, ◌%◌, ◌^◌, [], length, take, drop, Option, Some, Result, Ok, Err, arith}
 use Rattle.std.specs.Prelude.{slice_get, slice_index}
 use Rattle.std.specs.List.{range_with_len}
 use Rattle.std.proofs.Math.Nat.{mul-pos}
@@ -22,11 +22,10 @@ use Rattle.net_words.specs.declared.word.Role.TheVariants.{Input, Output}
 use Rattle.net_words.specs.declared.word.WordText.{WordText}
 use Rattle.net_words.proofs.BindDetermined.{binding_determined}
 use Rattle.net_make.specs.BindingOfMade.{binding_of}
-use Rattle.net_make.specs.Form.{AllPoly, AllWide, HasWords}
+use Rattle.net_make.specs.Form.{AllPoly, HasWords}
 use Rattle.net_plan.proofs.SoundLemmas.{all_has}
 use Rattle.net_make.specs.Made.{IsPlanFor}
-use Rattle.net_make.specs.MakerNames.{AreMakerNames}
-use Rattle.net_make.specs.Ports.{outer_names, word_names}
+use Rattle.net_make.specs.Ports.{word_names}
 use Rattle.net_make.proofs.BindingLemmas.{found_front, words_bind}
 use Rattle.net_make.proofs.MadeLemmas.{made_sound, outer_found}
 use Rattle.net_plan.specs.Plan.{Plan}

@@ -17,7 +17,7 @@ use Rattle.net_words.specs.Feeds.{AreFeeds}
 use Rattle.net_words.specs.OneCycle.{IsOneCycle}
 use Rattle.net_words.specs.declared.word.Role.TheVariants.{Fed}
 use Rattle.net_words.proofs.BoundLemmas.{bound_to}
-use Rattle.circuit_model.specs.OfBinding.{HaveBases, circuit_with}
+use Rattle.circuit_model.specs.OfBinding.{circuit_with}
 use Rattle.circuit_model.specs.Out.{IsOut}
 use Rattle.circuit_model.specs.WellFormed.{IsWellFormed}
 use Rattle.circuit_model.proofs.BoundLemmas.{bound_well}

@@ -1,5 +1,5 @@
 -- The text of a trial's specification says the product of its two words.
-use Rattle.std.proofs.Common.{◌≡◌, refl, ℕ, List, [], ◌∷◌, codes, Result, Ok, Err, arith}
+use Rattle.std.proofs.Common.{◌≡◌, refl, ℕ, List, [], ◌∷◌, codes, Result, Ok, Err}
 use Rattle.gf_field.specs.Ring.{IsRing}
 use Rattle.job_input.specs.Labelling.{labels_of}
 use Rattle.poly_mixed.specs.Labels.{Labelling}

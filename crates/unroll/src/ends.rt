@@ -1,5 +1,5 @@
 //! The primary inputs and the outputs of the unrolled net.
-ghost use Rattle.std.specs.Prelude.{◌≡◌, ◌<◌, ◌≤◌, ◌+◌, [], ◌∷◌, ◌++◌, not, length, map, filter, OnOk};
+ghost use Rattle.std.specs.Prelude.{◌≡◌, ◌<◌, ◌+◌, [], ◌∷◌, not, map, filter, OnOk};
 ghost use Rattle.std.specs.List.{range_with_len};
 ghost use Rattle.net_core.specs.NetList.{nets};
 ghost use Rattle.net_words.specs.Feeds.{is_fed};

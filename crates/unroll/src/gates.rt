@@ -1,12 +1,11 @@
 //! The gates of all cycles.
-ghost use Rattle.std.specs.Prelude.{◌≡◌, ◌<◌, ◌≤◌, ◌+◌, ◌^◌, ◌++◌, [], ◌∷◌, not, length, map, filter, All, OnOk, take};
-ghost use Rattle.net_core.specs.GateValue.{GateValue};
+ghost use Rattle.std.specs.Prelude.{◌≡◌, ◌<◌, ◌≤◌, ◌+◌, [], ◌∷◌, not, length, map, filter, All, OnOk, take};
 ghost use Rattle.net_core.specs.Inside.{GateIsInside};
-ghost use Rattle.net_core.specs.NetList.{nets, with_gate};
+ghost use Rattle.net_core.specs.NetList.{nets};
 ghost use Rattle.net_core.specs.declared.fault.NetFault.TheVariants as faults;
 ghost use Rattle.net_words.specs.BoundTo.{IsBoundTo};
 ghost use Rattle.net_words.specs.Feeds.{IsSource, is_fed};
-ghost use Rattle.unroll.specs.Gates.{buffer, constant, feeding_gate, first_gates, gate_at, gates_to, input_gate, is_held, latch_gate, next_gates, source_gate, start_bit as start_bit_of, start_gate};
+ghost use Rattle.unroll.specs.Gates.{buffer, constant, feeding_gate, gate_at, input_gate, is_held, latch_gate, source_gate, start_bit as start_bit_of, start_gate};
 ghost use Rattle.unroll.specs.Places.{net_at};
 ghost use Rattle.unroll.specs.private.Plan.{HasRoom, net_count, with_gates};
 

@@ -2,7 +2,7 @@
 ghost use Rattle.std.specs.Prelude.{◌≡◌, ◌<◌, ◌≤◌, ◌+◌, ◌^◌, [], ◌∷◌, ◌++◌, Some, codes, false, length, map, slice_get, string_bytes, IfOk, OnOk};
 ghost use Rattle.std.specs.List.{range_with_len};
 ghost use Rattle.std.specs.Fmt.{decimal};
-ghost use Rattle.net_core.specs.NetList.{nets, text_of};
+ghost use Rattle.net_core.specs.NetList.{nets};
 ghost use Rattle.unroll.specs.Nets.{bit_label as bit_label_of, fed_labels, labels_to, unnamed};
 ghost use Rattle.unroll.specs.Places.{fed_bits};
 ghost use Rattle.unroll.specs.private.Plan.{with_labels};

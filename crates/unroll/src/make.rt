@@ -6,7 +6,6 @@ ghost use Rattle.net_words.specs.BoundTo.{IsBoundTo};
 ghost use Rattle.net_words.specs.Feeds.{is_fed};
 ghost use Rattle.unroll.specs.Gates.{gates_to, is_held};
 ghost use Rattle.unroll.specs.Nets.{all_cycles};
-ghost use Rattle.unroll.specs.private.Plan.{net_count};
 
 use crate::gates::memory;
 use crate::places::net_count as count_nets;

@@ -1,9 +1,9 @@
 //! Marks of nets.
-ghost use Rattle.std.specs.Prelude.{◌≡◌, ◌<◌, ◌||◌, ◌==◌, ℕ, Some, false, length, slice_get, slice_index_or, IfOk, OnOk};
+ghost use Rattle.std.specs.Prelude.{◌≡◌, ◌<◌, ◌||◌, ◌==◌, ℕ, Some, false, length, slice_get, IfOk, OnOk};
 ghost use Rattle.net_core.specs.NetList.{nets};
 ghost use Rattle.net_words.specs.Binding.{IsBinding};
 ghost use Rattle.net_words.specs.Feeds.{is_fed};
-ghost use Rattle.net_words.specs.Roles.{in_word, same_role, stands_in};
+ghost use Rattle.net_words.specs.Roles.{in_word, stands_in};
 ghost use Rattle.net_words.specs.declared.word.Role.TheVariants.{State};
 ghost use Rattle.unroll.specs.private.Plan.{AreMarks, mark_at, marks_with};
 

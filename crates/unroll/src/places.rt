@@ -1,7 +1,6 @@
 //! Where the bits of fed words begin.
-ghost use Rattle.std.specs.Prelude.{◌≡◌, ◌<◌, ◌+◌, ◌*◌, ◌≤◌, ◌^◌, Some, length, slice_get, IfOk};
+ghost use Rattle.std.specs.Prelude.{◌≡◌, ◌<◌, ◌+◌, ◌*◌, ◌≤◌, ◌^◌, IfOk};
 ghost use Rattle.net_core.specs.NetList.{nets};
-ghost use Rattle.net_words.specs.Binding.{IsBinding};
 ghost use Rattle.unroll.specs.Places.{fed_bits as fed_bits_of, fed_count as fed_count_of};
 ghost use Rattle.unroll.specs.private.Plan.{AreFirstBits, net_count as net_count_of};
 

@@ -1,12 +1,12 @@
 //! What the cycles of a net are laid out by.
-ghost use Rattle.std.specs.Prelude.{◌≡◌, ◌<◌, ◌≤◌, ◌+◌, ◌^◌, length, map, IfOk, take};
+ghost use Rattle.std.specs.Prelude.{◌≡◌, ◌<◌, ◌≤◌, ◌+◌, ◌^◌};
 ghost use Rattle.net_core.specs.NetList.{nets};
 ghost use Rattle.net_core.specs.Sound.{IsSound};
 ghost use Rattle.net_words.specs.Feeds.{is_fed as is_fed_net};
 ghost use Rattle.net_words.specs.Roles.{in_word};
 ghost use Rattle.net_words.specs.declared.word.Role.TheVariants.{State};
 ghost use Rattle.unroll.specs.Gates.{bit_net as bit_net_of};
-ghost use Rattle.unroll.specs.Places.{cycle_nets, net_at as net_at_of};
+ghost use Rattle.unroll.specs.Places.{net_at as net_at_of};
 ghost use Rattle.unroll.specs.Sources.{source_at};
 ghost use Rattle.unroll.specs.private.Plan.{AreFirstBits, AreMarks, AreSources, IsBit, net_count};
 

@@ -1,5 +1,5 @@
 -- The last `[` of a name.
-use Rattle.std.proofs.Common.{◌≡◌, ◌∙◌, ap, sym, refl, subst, ℕ, zero, suc, ◌+◌, ◌≤◌, List, [], ◌∷◌, ◌++◌, length, take, drop, decimal, Option, None, Some, arith}
+use Rattle.std.proofs.Common.{◌≡◌, ◌∙◌, ap, sym, subst, ℕ, zero, suc, ◌+◌, ◌≤◌, List, [], ◌∷◌, ◌++◌, length, take, drop, decimal, Option, None, Some, arith}
 use Rattle.std.specs.Prelude.{slice_get}
 use Rattle.net_core.specs.Lists.{Has}
 use Rattle.net_verilog.specs.Declarations.{bit_name}

@@ -1,5 +1,5 @@
 //! Modules.
-ghost use Rattle.std.specs.Prelude.{◌≡◌, ◌⊎◌, Ok, Err, IfOk, IfErr, OnOk, length};
+ghost use Rattle.std.specs.Prelude.{◌≡◌, ◌⊎◌, Ok, Err, IfOk, IfErr, OnOk};
 ghost use Rattle.net_core.specs.NetList.{NetList, empty};
 ghost use Rattle.net_verilog.specs.Declarations.{undeclared};
 ghost use Rattle.net_verilog.specs.private.Places.{left};

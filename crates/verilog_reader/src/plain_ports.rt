@@ -1,5 +1,5 @@
 //! Plain lists of ports.
-ghost use Rattle.std.specs.Prelude.{◌≡◌, ◌⊎◌, ◌<◌, Ok, Err, IfOk, IfErr, length};
+ghost use Rattle.std.specs.Prelude.{◌≡◌, ◌⊎◌, ◌<◌, Ok, Err, IfOk, IfErr};
 ghost use Rattle.net_verilog.specs.Several.{Several};
 ghost use Rattle.net_verilog.specs.private.Places.{left};
 ghost use Rattle.verilog_reader.specs.Items.{State};

@@ -1,5 +1,5 @@
 //! What items begin with.
-ghost use Rattle.std.specs.Prelude.{◌≡◌, ◌⊎◌, true};
+ghost use Rattle.std.specs.Prelude.{◌≡◌, ◌⊎◌};
 ghost use Rattle.net_verilog.specs.private.Places.{Prints, value_of};
 ghost use Rattle.net_verilog.specs.Instances.{gate_of as gate_that};
 ghost use Rattle.verilog_reader.specs.Items.{gate_start as gate_start_that, is_endmodule as endmodule_is, is_module as module_is, is_wire as wire_is, item_fault as fault_that, item_start as start_that, word_start as word_that};

@@ -3,7 +3,6 @@ ghost use Rattle.std.specs.Prelude.{◌≡◌, ◌<◌, ◌^◌, ◌++◌, ℕ, 
 ghost use Rattle.graph_core.specs.Fault.{IsCycleFault};
 ghost use Rattle.instance_order.specs.LevelOrder.{first_numbers, IsLevelOrder};
 ghost use Rattle.block_feeds.specs.Wiring.{feeding_graph as graph_of, instances_among};
-ghost use Rattle.block_feeds.specs.declared.feeder.Feeder.{Feeder as FeederValue};
 ghost use Rattle.wired_poly.specs.private.Rows.{instance_of};
 
 use block_feeds::Feeder;

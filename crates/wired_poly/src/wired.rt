@@ -1,5 +1,5 @@
 //! The polynomial of a wired top.
-ghost use Rattle.std.specs.Prelude.{◌≡◌, ◌<◌, ◌^◌, ℕ, All, IfErr, IfOk, length, map, slice_get, Some};
+ghost use Rattle.std.specs.Prelude.{◌≡◌, ◌<◌, IfErr, IfOk, length, map};
 ghost use Rattle.poly_mixed.specs.Polynomial.{value, IsPolynomialOf};
 ghost use Rattle.instance_poly.specs.Instance.{AreReduced};
 ghost use Rattle.block_feeds.specs.Wiring.{feeding_graph as graph_of};

@@ -6,7 +6,7 @@ ghost use Rattle.gf_basis.specs.BasisParts.{IsBasisOver, elements_of};
 ghost use Rattle.poly_mixed.specs.Monomial.{has_bit};
 ghost use Rattle.poly_mixed.specs.Polynomial.{IsReduced, IsTerm};
 ghost use Rattle.word_subst.specs.Univariate.{IsUnivariate};
-ghost use Rattle.word_subst.specs.Forms.{IsForm, AreForms};
+ghost use Rattle.word_subst.specs.Forms.{AreForms};
 ghost use Rattle.word_subst.specs.Rest.{rest_of};
 ghost use Rattle.word_subst.specs.AtOnce.{IsReadFrom, IsSumOfPowers, IsPlusProduct, IsReadAtOnce};
 

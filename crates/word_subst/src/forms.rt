@@ -1,5 +1,5 @@
 //! The bits of a word as polynomials in the word.
-ghost use Rattle.std.specs.Prelude.{◌≡◌, ◌<◌, ◌++◌, ◌^◌, [], IfOk, OnOk};
+ghost use Rattle.std.specs.Prelude.{◌≡◌, ◌<◌, ◌++◌, [], IfOk, OnOk};
 ghost use Rattle.gf_basis.specs.BasisParts.{IsBasisOver, elements_of};
 ghost use Rattle.poly_mixed.specs.Sum.{with_coefficient};
 ghost use Rattle.word_subst.specs.Forms.{IsForm, AreForms};

@@ -1,5 +1,5 @@
 //! Multiples of polynomials in one word: all products of coefficients are made here.
-ghost use Rattle.std.specs.Prelude.{◌≡◌, ◌≢◌, ◌<◌, ◌≤◌, ◌+◌, ◌^◌, take, map, length, get_or, IfOk};
+ghost use Rattle.std.specs.Prelude.{◌≡◌, ◌<◌, ◌≤◌, ◌+◌, ◌^◌, take, length, get_or, IfOk};
 ghost use Rattle.std.specs.List.{AllByRecursion};
 ghost use Rattle.poly_mixed.specs.Product.{add_exponent};
 ghost use Rattle.poly_mixed.specs.Polynomial.{IsElement};

@@ -1,12 +1,12 @@
 //! The sum of a word's terms, read from the word: a polynomial in the word for each monomial in other words and bits.
-ghost use Rattle.std.specs.Prelude.{◌≡◌, ◌≢◌, ◌<◌, ◌≤◌, ◌^◌, ◌++◌, [], length, IfOk, OnOk, OnErr};
+ghost use Rattle.std.specs.Prelude.{◌≡◌, ◌≢◌, ◌<◌, ◌^◌, [], IfOk, OnOk, OnErr};
 ghost use Rattle.std.specs.List.{AllByRecursion};
 ghost use Rattle.std.specs.List.Sorted.{IsStrictlySortedBy};
 ghost use Rattle.std.specs.Map.{keys_of};
 ghost use Rattle.poly_mixed.specs.Monomial.{text_cmp};
 ghost use Rattle.poly_mixed.specs.Sum.{plus};
 ghost use Rattle.word_subst.specs.Univariate.{IsUnivariate};
-ghost use Rattle.word_subst.specs.Spread.{total, spread, all_terms, with_exponent, IsGroup, IsRest, IsAdded, AddsGroup};
+ghost use Rattle.word_subst.specs.Spread.{total, spread, all_terms, IsGroup, IsRest, IsAdded, AddsGroup};
 
 use crate::univariate::Univariate;
 use gf_field::Field;

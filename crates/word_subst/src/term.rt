@@ -1,5 +1,5 @@
 //! One term with all its bits of the word read from the word.
-ghost use Rattle.std.specs.Prelude.{◌≡◌, ◌≢◌, ◌<◌, ◌^◌, length, slice_index, IfErr, OnOk};
+ghost use Rattle.std.specs.Prelude.{◌≡◌, ◌≢◌, ◌<◌, ◌^◌, slice_index, IfErr, OnOk};
 ghost use Rattle.std.specs.List.{AllByRecursion};
 ghost use Rattle.std.specs.List.Sorted.{IsStrictlySortedBy};
 ghost use Rattle.std.specs.Map.{keys_of};
@@ -11,7 +11,6 @@ ghost use Rattle.word_subst.specs.Forms.{AreForms};
 ghost use Rattle.word_subst.specs.Prefix.{AreProducts};
 ghost use Rattle.word_subst.specs.Spread.{total, IsGroup};
 ghost use Rattle.word_subst.specs.Rest.{AddsTerm};
-ghost use Rattle.word_subst.specs.Read.{IsTermWithin};
 ghost use Rattle.word_subst.specs.ReadRefusal.{IsTermRefusal};
 
 use crate::multiple::scaled;

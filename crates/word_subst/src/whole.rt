@@ -1,6 +1,6 @@
 //! A word whose bits stand in a polynomial in one sum alone, each times its basis element: that sum is the word. No linear
 //! form is multiplied there, and no stage is counted where none can be over the bound.
-ghost use Rattle.std.specs.Prelude.{◌≡◌, ◌≢◌, ◌<◌, ◌≤◌, ◌*◌, ◌++◌, ◌∷◌, [], map, false, length, IfOk, IfSome, IsTrue, OnOk};
+ghost use Rattle.std.specs.Prelude.{◌≡◌, ◌≢◌, ◌<◌, ◌≤◌, ◌*◌, ◌∷◌, [], map, false, IfOk, IfSome, IsTrue};
 ghost use Rattle.std.specs.List.{AllByRecursion};
 ghost use Rattle.gf_basis.specs.BasisParts.{IsBasisOver, elements_of};
 ghost use Rattle.poly_mixed.specs.Monomial.{text_cmp};
@@ -8,8 +8,7 @@ ghost use Rattle.poly_mixed.specs.Polynomial.{IsElement, IsReduced, IsTerm};
 ghost use Rattle.poly_mixed.specs.Sum.{plus};
 ghost use Rattle.stage_model.specs.WordStage.{is_of_word};
 ghost use Rattle.word_subst.specs.AtOnce.{IsReadAtOnce};
-ghost use Rattle.word_subst.specs.Forms.{AreForms};
-ghost use Rattle.word_subst.specs.Spread.{all_terms, spread};
+ghost use Rattle.word_subst.specs.Spread.{all_terms};
 ghost use Rattle.word_subst.specs.Whole.{IsPart, times_bits, times_word as word_times, with_first};
 
 use crate::forms::forms;

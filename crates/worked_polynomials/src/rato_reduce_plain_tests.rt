@@ -1,5 +1,5 @@
 //! The elimination beside the plain programs: each cut's size with each bound, and the output at each input.
-ghost use Rattle.std.specs.Prelude.{◌≡◌, length, IfOk};
+ghost use Rattle.std.specs.Prelude.{◌≡◌, length};
 ghost use Rattle.gf_basis.specs.BasisParts.{IsBasisOver};
 ghost use Rattle.poly_mixed.specs.Polynomial.{IsReduced};
 ghost use Rattle.circuit_model.specs.Flat.{AreOver};

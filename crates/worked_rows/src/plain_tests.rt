@@ -6,10 +6,9 @@ ghost use Rattle.poly_mixed.specs.Polynomial.{IsReduced};
 ghost use Rattle.circuit_model.specs.Flat.{AreOver};
 ghost use Rattle.job_input.specs.Setting.{AreBasesOver};
 
-use circuit_model::{CircuitWord, output};
+use circuit_model::{CircuitWord, output, output_basis};
 use gf_basis::Basis;
 use gf_field::{Field, first_outside, is_element};
-use job_input::output_basis;
 use net_words::Combinational;
 use poly_mixed::{NoSteps, Poly, ReduceFault, Stage, Term, constant, scaled_bit, scaled_power};
 use rato_reduce::reduce_bits;

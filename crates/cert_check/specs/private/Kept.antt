@@ -1,10 +1,10 @@
 -- What the code keeps of a certificate. Source: this project's own.
-use Rattle.std.specs.Prelude.{◌≡◌, ℕ, ◌<◌, ◌≤◌, ◌+◌, ◌^◌, List, length, map, Some}
+use Rattle.std.specs.Prelude.{◌≡◌, ℕ, ◌<◌, ◌≤◌, ◌+◌, ◌^◌, List, length, map}
 use Rattle.std.specs.List.{AllByRecursion}
 use Rattle.gf_basis.specs.declared.bases.Basis.{Basis}
 use Rattle.net_words.specs.Binding.{BoundNet}
 use Rattle.text_core.specs.Outcome.{Outcome, Exactly}
-use Rattle.poly_mixed.specs.Polynomial.{Polynomial, Terms, IsReduced, IsPolynomialOf}
+use Rattle.poly_mixed.specs.Polynomial.{Polynomial, Terms, IsReduced}
 use Rattle.poly_mixed.specs.Steps.{Step}
 use Rattle.poly_mixed.specs.declared.steps.Generator.{Generator}
 use Rattle.cert_check.specs.Certificate.{Certificate, with_shared, with_pair}

@@ -1,5 +1,5 @@
 //! The command `compose`: the output word's polynomial in the input words, from the polynomials of blocks.
-ghost use Rattle.std.specs.Prelude.{◌≡◌, ◌≤◌, map, Ok, IfOk};
+ghost use Rattle.std.specs.Prelude.{◌≡◌, ◌≤◌, map, Ok};
 ghost use Rattle.job_io.specs.Counts.{Rose};
 ghost use Rattle.gf_basis.specs.BasisParts.{elements_of};
 ghost use Rattle.job_words.specs.Stop.{GivesBy};

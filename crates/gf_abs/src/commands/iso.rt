@@ -1,9 +1,8 @@
 //! The command `iso`: the isomorphism from a tower to a field of polynomials over 0 and 1.
-ghost use Rattle.std.specs.Prelude.{◌≡◌, ◌≤◌, ◌++◌, ◌∷◌, ◌^◌, ℕ, [], IfOk, IfNone, IfSome, OnOk};
+ghost use Rattle.std.specs.Prelude.{◌≡◌, ◌≤◌, ◌++◌, ◌∷◌, ◌^◌, [], IfOk, OnOk};
 ghost use Rattle.gf_basis.specs.Basis.{first_values};
 ghost use Rattle.gf_field.specs.Ring2k.{modulus_of};
 ghost use Rattle.gf_iso.specs.IsoParts.{size_of, there_of};
-ghost use Rattle.gf_tower.specs.FieldName.{IsFieldModulus, IsFieldTower};
 ghost use Rattle.gf_tower.specs.TowerParts.{base_of, coefficients_of};
 ghost use Rattle.irreducible.specs.Proved.{ring_of};
 ghost use Rattle.job_io.specs.Counts.{Rose};

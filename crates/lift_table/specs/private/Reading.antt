@@ -1,5 +1,5 @@
 -- What a line of a table says, for the clauses of private functions. Source: this project's own.
-use Rattle.std.specs.Prelude.{◌≡◌, ◌⊎◌, ℕ, ◌<◌, ◌≤◌, ◌^◌, List, [], ◌∷◌, Ok, Err}
+use Rattle.std.specs.Prelude.{◌≡◌, ℕ, ◌<◌, ◌≤◌, ◌^◌, List, [], ◌∷◌, Ok, Err}
 use Rattle.text_core.specs.Numbers.{IsHex}
 use Rattle.text_core.specs.Outcome.{Outcome}
 use Rattle.lift_table.specs.TableText.{IsHead, IsNumber}

@@ -1,5 +1,5 @@
 -- The entries of a map of texts: words of this crate's code. Source: this project's own.
-use Rattle.std.specs.Prelude.{ℕ, List, map, string_bytes}
+use Rattle.std.specs.Prelude.{List, map, string_bytes}
 use Rattle.std.specs.declared.string.String.{String}
 use Rattle.net_verilog.specs.Declarations.{Declarations}
 use Rattle.net_verilog.specs.declared.declared.Declared.{Declared}

@@ -1,4 +1,4 @@
-use Rattle.std.proofs.Common.{◌≡◌, sym, subst}
+use Rattle.std.proofs.Common.{sym, subst}
 use Rattle.std.proofs.lemmas.Bool.{false≢true}
 use Rattle.block_circuits.specs.Block.{IsBlockFault}
 use Rattle.block_circuits.specs.declared.fault.BlockFault.{BlockFault}

@@ -1,5 +1,4 @@
-use Rattle.std.proofs.Common.{◌∙◌, ap}
-use Rattle.poly_mixed.specs.Monomial.{Monomial}
+use Rattle.std.proofs.Common.{◌∙◌}
 use Rattle.cert_check.proofs.RowLemmas.{row_made}
 use Rattle.cert_check.proofs.running_sum.row_of.Goals as goal
 

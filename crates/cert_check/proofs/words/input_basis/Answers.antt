@@ -2,7 +2,7 @@ use Rattle.std.proofs.Common.{◌≡◌, ◌≢◌, ◌+◌, sym, refl, ap, inl,
 use Rattle.std.specs.Prelude.{slice_get}
 use Rattle.std.proofs.lemmas.Option.{slice_get_read}
 use Rattle.net_words.specs.declared.word.Role.TheVariants.{Output}
-use Rattle.cert_check.proofs.BasisLemmas.{some_at, is_role, not_role}
+use Rattle.circuit_model.proofs.OutputBasisLemmas.{some_at, is_role, not_role}
 use Rattle.cert_check.proofs.WordsLemmas.{words_from, at_input, past_input, past_output, past_all}
 use Rattle.cert_check.proofs.words.input_basis.Goals as goal
 

@@ -1,5 +1,4 @@
-use Rattle.std.proofs.Common.{rules, ◌≡◌, ◌∙◌, ◌≤◌, ap, sym, refl, subst, ℕ, List, length, map, arith}
-use Rattle.net_core.specs.Lists.{Has}
+use Rattle.std.proofs.Common.{◌≡◌, ◌∙◌, ◌≤◌, ap, sym, subst, ℕ, List, length, map, arith}
 use Rattle.net_core.specs.NetList.{NetList}
 use Rattle.net_core.specs.Sound.{IsSound}
 use Rattle.net_words.specs.Binding.{Binding, BoundNet}

@@ -1,7 +1,7 @@
-use Rattle.std.proofs.Common.{rules, ◌≡◌, ◌∙◌, ◌<◌, ◌≤◌, ◌+◌, All, sym, ap, subst, refl, ℕ, List, Some, length, set, arith}
+use Rattle.std.proofs.Common.{◌≡◌, ◌∙◌, ◌<◌, ◌≤◌, All, sym, ap, subst, refl, ℕ, List, Some, length, set, arith}
 use Rattle.std.specs.Prelude.{slice_get, slice_index}
 use Rattle.std.proofs.lemmas.Option.{slice_get-get_or}
-use Rattle.graph_core.specs.Graph.{edges, Graph, Has}
+use Rattle.graph_core.specs.Graph.{edges, Graph}
 use Rattle.instance_order.specs.LevelOrder.{level_over}
 use Rattle.instance_order.proofs.LevelLemmas.{all_from, all_levels, one_level}
 use Rattle.instance_order.proofs.levels.levels.Goals as goal

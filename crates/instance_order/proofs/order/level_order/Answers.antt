@@ -1,4 +1,4 @@
-use Rattle.std.proofs.Common.{rules, ◌≡◌, ◌∙◌, ◌<◌, All, sym, ap, subst, ℕ, List, length, arith}
+use Rattle.std.proofs.Common.{◌≡◌, ◌∙◌, ◌<◌, All, sym, ap, subst, ℕ, List, length}
 use Rattle.graph_core.specs.Arranged.{IsArranged}
 use Rattle.graph_core.specs.Graph.{Graph, Has}
 use Rattle.instance_order.specs.LevelOrder.{first_numbers}

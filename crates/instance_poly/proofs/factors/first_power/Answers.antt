@@ -1,7 +1,5 @@
-use Rattle.std.proofs.Common.{◌≡◌, ℕ, List, Some, map}
-use Rattle.std.specs.Prelude.{slice_get}
+use Rattle.std.proofs.Common.{ℕ, map}
 use Rattle.graph_core.proofs.ListLemmas.{got_read}
-use Rattle.poly_mixed.specs.Polynomial.{Terms}
 use Rattle.instance_poly.proofs.PowerLemmas.{fed, feed_reduced, power_first}
 use Rattle.instance_poly.proofs.factors.first_power.Goals as goal
 

@@ -1,4 +1,4 @@
-use Rattle.std.proofs.Common.{rules, ◌≡◌, ◌∙◌, ap, sym, subst, ℕ, List, ◌+◌, ◌/◌, ◌^◌, arith}
+use Rattle.std.proofs.Common.{◌∙◌, ℕ, List, ◌+◌, ◌/◌, ◌^◌}
 use Rattle.spec_expand.specs.SpecValue.{factors_of}
 use Rattle.instance_poly.specs.Instance.{block_term}
 use Rattle.instance_poly.specs.private.Reached.{digits_left}

@@ -1,10 +1,8 @@
-use Rattle.std.proofs.Common.{rules, ◌≡◌, ◌≤◌, ◌<◌, ◌+◌, ◌^◌, ◌∙◌, ap, sym, subst, ℕ, List, length, map, arith}
-use Rattle.std.proofs.lemmas.Option.{slice_get_within}
+use Rattle.std.proofs.Common.{rules, ◌≤◌, ◌<◌, ◌+◌, ◌∙◌, ap, sym, subst, ℕ, List, length, map, arith}
 use Rattle.poly_mixed.specs.Polynomial.{Point}
 use Rattle.poly_mixed.specs.declared.stage.ReduceFault.{ReduceFault}
 use Rattle.poly_mixed.specs.declared.stage.ReduceFault.TheVariants.{TooManyTerms}
 use Rattle.poly_mixed.specs.declared.stage.Stage.TheVariants.{InstanceProduct}
-use Rattle.spec_expand.specs.SpecValue.{factors_of}
 use Rattle.instance_poly.specs.Instance.{block_term, feed_values}
 use Rattle.instance_poly.specs.private.Reached.{IsTermRefusal}
 use Rattle.instance_poly.proofs.StageLemmas.{reached_more, product_refused}

@@ -1,8 +1,6 @@
-use Rattle.std.proofs.Common.{rules, ◌≡◌, ◌∙◌, ap, sym, refl, subst, ℕ, List, [], ◌<◌, ◌≤◌, ◌+◌, ◌^◌, drop, length, map, take, arith}
-use Rattle.poly_mixed.specs.Polynomial.{Point}
+use Rattle.std.proofs.Common.{◌≡◌, ◌∙◌, ℕ, List, [], ◌≤◌, drop, length, map, arith}
 use Rattle.spec_expand.specs.SpecValue.{factors_of}
 use Rattle.instance_poly.specs.Instance.{block_term, feed_values}
-use Rattle.instance_poly.specs.private.Reached.{IsReached}
 use Rattle.instance_poly.proofs.LeftLemmas.{few_factors, none_left, words_end}
 use Rattle.instance_poly.proofs.StageLemmas.{all_reached}
 use Rattle.instance_poly.proofs.factors.one_term.Goals as goal

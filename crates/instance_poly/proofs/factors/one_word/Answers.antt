@@ -1,7 +1,7 @@
-use Rattle.std.proofs.Common.{rules, ◌≡◌, ◌≢◌, ◌∙◌, ap, sym, subst, ℕ, List, Some, ◌<◌, ◌+◌, drop, length, map, arith}
+use Rattle.std.proofs.Common.{◌≡◌, ◌∙◌, ap, sym, ℕ, List, Some, length, arith}
 use Rattle.std.specs.Prelude.{slice_get}
 use Rattle.std.proofs.lemmas.Option.{slice_get-get_or}
-use Rattle.instance_poly.proofs.LeftLemmas.{no_power, word_begins, word_ends, zeros_at}
+use Rattle.instance_poly.proofs.LeftLemmas.{word_begins, zeros_at}
 use Rattle.instance_poly.proofs.factors.one_word.Goals as goal
 
 pub first_power-requires-clause-word : goal.first_power-requires-clause-word

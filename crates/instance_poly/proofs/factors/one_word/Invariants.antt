@@ -1,4 +1,4 @@
-use Rattle.std.proofs.Common.{◌≡◌, ◌≢◌, ◌+◌, drop, map}
+use Rattle.std.proofs.Common.{◌≡◌, ◌≢◌, drop, map}
 use Rattle.spec_expand.specs.SpecValue.{factors_of}
 use Rattle.instance_poly.specs.Instance.{block_term, feed_values}
 use Rattle.instance_poly.specs.private.Reached.{digits_left, IsFeedPower, IsReached}

@@ -1,4 +1,4 @@
-use Rattle.std.proofs.Common.{rules, ◌≡◌, ◌∙◌, ◌<◌, ◌≤◌, ◌+◌, ◌^◌, sym, ap, subst, ℕ, List, [], Some, length, map, arith}
+use Rattle.std.proofs.Common.{rules, ◌≡◌, ◌∙◌, ◌<◌, ◌≤◌, ◌+◌, sym, ap, subst, ℕ, List, Some, length, map, arith}
 use Rattle.std.specs.Prelude.{slice_get}
 use Rattle.graph_core.proofs.ListLemmas.{got_read}
 use Rattle.poly_mixed.specs.Monomial.{Monomial}
@@ -7,12 +7,10 @@ use Rattle.poly_mixed.specs.declared.stage.ReduceFault.{ReduceFault}
 use Rattle.poly_mixed.specs.declared.stage.ReduceFault.TheVariants.{TooManyTerms}
 use Rattle.poly_mixed.specs.declared.stage.Stage.TheVariants.{InstanceSum}
 use Rattle.stage_model.specs.Listing.{IsRefusal}
-use Rattle.spec_expand.specs.Specification.{SpecTerms}
 use Rattle.instance_poly.specs.Instance.{block_term, block_terms, feed_values}
 use Rattle.instance_poly.specs.InstanceListing.{instance_listing}
-use Rattle.instance_poly.specs.private.Reached.{IsSummed}
 use Rattle.instance_poly.proofs.SquareLemmas.{term_of_all}
-use Rattle.instance_poly.proofs.StageLemmas.{all_polynomial, all_within, mapped_long, mapped_term, nothing_summed, small_exponents, sum_refused, summed_more, term_refused}
+use Rattle.instance_poly.proofs.StageLemmas.{all_polynomial, all_within, mapped_long, mapped_term, small_exponents, sum_refused, summed_more, term_refused}
 use Rattle.instance_poly.proofs.instance.instance_poly.Goals as goal
 
 pub returns-in_err-product-clause-fault : goal.returns-in_err-product-clause-fault

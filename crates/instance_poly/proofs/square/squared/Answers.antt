@@ -1,9 +1,9 @@
-use Rattle.std.proofs.Common.{◌≡◌, ◌∙◌, ap, sym, subst, ℕ, Some, length, arith}
+use Rattle.std.proofs.Common.{◌≡◌, subst, ℕ, Some, arith}
 use Rattle.std.specs.Prelude.{slice_get}
 use Rattle.graph_core.proofs.ListLemmas.{got_read}
 use Rattle.poly_mixed.specs.Monomial.{Monomial}
 use Rattle.poly_mixed.specs.Polynomial.{Terms}
-use Rattle.instance_poly.proofs.SquareLemmas.{squares_none, squares_more, squares_all, term_of_all}
+use Rattle.instance_poly.proofs.SquareLemmas.{squares_none, squares_more}
 use Rattle.instance_poly.proofs.square.squared.Goals as goal
 
 pub loop-i-init : goal.loop-i-init

@@ -1,4 +1,4 @@
-use Rattle.std.proofs.Common.{rules, ◌≡◌, ◌∙◌, ◌<◌, ◌≤◌, ◌+◌, ◌^◌, sym, ap, subst, ℕ, List, [], Some, length, map, set, replicate, arith}
+use Rattle.std.proofs.Common.{rules, ◌≡◌, ◌∙◌, ◌<◌, ◌+◌, sym, ap, subst, ℕ, List, Some, length, map, set, arith}
 use Rattle.std.specs.Prelude.{slice_get, slice_index}
 use Rattle.std.proofs.lemmas.List.{map-set}
 use Rattle.std.proofs.lemmas.Option.{slice_get-get_or}
@@ -10,7 +10,7 @@ use Rattle.instance_poly.specs.Instance.{block_terms, point_of}
 use Rattle.instance_poly.specs.InstanceListing.{instance_listing}
 use Rattle.block_feeds.specs.declared.feeder.Feeder.{Feeder}
 use Rattle.instance_polys.specs.Words.{values_of, IsBlockFor, IsFeedAmong}
-use Rattle.instance_polys.specs.Instances.{AreDone, IsReady, IsRefused}
+use Rattle.instance_polys.specs.Instances.{IsReady, IsRefused}
 use Rattle.instance_polys.proofs.FeedLemmas.{mapped_at, mapped_long}
 use Rattle.instance_polys.proofs.OrderLemmas.{none_done, one_done, refused}
 use Rattle.instance_polys.proofs.instances.instance_polys.Goals as goal

@@ -1,4 +1,3 @@
-use Rattle.std.proofs.Common.{ℕ}
 use Rattle.gf_field.specs.laws.PowerLaws.{one_below}
 use Rattle.instance_polys.proofs.FeedLemmas.{word_itself}
 use Rattle.instance_polys.proofs.words.word_poly.Goals as goal

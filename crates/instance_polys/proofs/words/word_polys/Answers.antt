@@ -1,4 +1,4 @@
-use Rattle.std.proofs.Common.{rules, ◌≡◌, ◌∙◌, ap, sym, ℕ, map, length, arith}
+use Rattle.std.proofs.Common.{rules, ◌∙◌, ap, ℕ, map}
 use Rattle.instance_polys.proofs.FeedLemmas.{mapped_long, mapped_more, words_more}
 use Rattle.instance_polys.proofs.words.word_polys.Goals as goal
 

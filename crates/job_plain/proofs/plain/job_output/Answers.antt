@@ -1,4 +1,4 @@
-use Rattle.std.proofs.Common.{◌≡◌, sym, ap, ◌∙◌, is_some}
+use Rattle.std.proofs.Common.{sym, ap, ◌∙◌, is_some}
 use Rattle.job_plain.proofs.CyclesLemmas.{without_cycles}
 use Rattle.job_plain.proofs.plain.job_output.Goals as goal
 

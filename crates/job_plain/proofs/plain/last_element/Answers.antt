@@ -1,4 +1,3 @@
-use Rattle.std.proofs.Common.{ℕ}
 use Rattle.circuit_model.specs.Word.{HasElement}
 use Rattle.circuit_model.specs.Out.{IsOut}
 use Rattle.circuit_model.specs.Flat.{word_of}

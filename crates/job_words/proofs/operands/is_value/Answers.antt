@@ -1,6 +1,5 @@
-use Rattle.std.proofs.Common.{◌≡◌, ◌↔◌, IsTrue, IfSome, IfNone, ℕ, ◌≤◌, List, arith, rules}
+use Rattle.std.proofs.Common.{◌↔◌, IsTrue, arith, rules}
 use Rattle.std.specs.Prelude.{IsSome}
-use Rattle.text_core.specs.Numbers.{IsHex}
 use Rattle.job_words.proofs.ValueLemmas.{value_iff}
 use Rattle.job_words.proofs.operands.is_value.Goals as goal
 

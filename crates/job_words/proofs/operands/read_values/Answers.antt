@@ -1,4 +1,4 @@
-use Rattle.std.proofs.Common.{◌≡◌, IsTrue, false, true, string_bytes, rules}
+use Rattle.std.proofs.Common.{◌≡◌, false, true, string_bytes, rules}
 use Rattle.job_words.proofs.ValueLemmas.{are_read, no_cycles, not_values}
 use Rattle.job_words.proofs.operands.read_values.Goals as goal
 

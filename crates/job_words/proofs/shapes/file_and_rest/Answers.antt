@@ -1,5 +1,5 @@
 use Rattle.std.proofs.Common.{◌≡◌, ◌∷◌, List, map, drop, take, length, ◌-◌, subst, sym, ◌∙◌, string_bytes, arith}
-use Rattle.std.specs.Prelude.{IfNone, IfSome}
+use Rattle.std.specs.Prelude.{IfNone}
 use Rattle.job_words.specs.Operands.{Word}
 use Rattle.job_words.specs.Shapes.{IsOverFile}
 use Rattle.job_words.specs.private.Rest.{Anything}

@@ -1,9 +1,8 @@
-use Rattle.std.proofs.Common.{◌≡◌, ◌∙◌, ◌++◌, ◌∷◌, [], ap, sym, inl, inr, subst, map, List, ℕ, Some}
+use Rattle.std.proofs.Common.{◌∙◌, ◌++◌, ◌∷◌, [], ap, map, List, ℕ}
 use Rattle.std.specs.Prelude.{slice_get}
 use Rattle.std.proofs.lemmas.List.{map-append}
-use Rattle.net_core.specs.Lists.{Has}
 use Rattle.net_words.specs.Binding.{Binding}
-use Rattle.gf_basis.specs.BasisParts.{elements_of, IsBasisOver}
+use Rattle.gf_basis.specs.BasisParts.{elements_of}
 use Rattle.circuit_model.specs.Flat.{word_of}
 use Rattle.circuit_model.specs.Word.{Word}
 use Rattle.circuit_model.specs.declared.circuit_word.CircuitWord.{CircuitWord}

@@ -1,4 +1,4 @@
-use Rattle.std.proofs.Common.{◌≡◌, ℕ, take, Some}
+use Rattle.std.proofs.Common.{◌≡◌, take, Some}
 use Rattle.std.specs.Prelude.{slice_get}
 use Rattle.net_words.specs.declared.bound.BoundWord.{BoundWord}
 use Rattle.lift_table.proofs.circuit_words.nets_of.Given as goal

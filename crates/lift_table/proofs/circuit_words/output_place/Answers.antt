@@ -1,9 +1,8 @@
-use Rattle.std.proofs.Common.{◌≡◌, ◌<◌, ◌∙◌, ap, sym, inl, inr, true, false, length, Some, ℕ, arith}
+use Rattle.std.proofs.Common.{◌≡◌, ◌∙◌, ap, sym, inl, inr, true, false, length, Some, arith}
 use Rattle.std.specs.Prelude.{slice_get}
 use Rattle.std.proofs.lemmas.Bool.{cases_eq}
 use Rattle.std.proofs.lemmas.Option.{slice_get_within}
 use Rattle.net_words.specs.Binding.{Binding}
-use Rattle.net_words.specs.declared.bound.BoundWord.{BoundWord}
 use Rattle.lift_table.proofs.CircuitWordLemmas.{outputs, none_counted}
 use Rattle.lift_table.proofs.circuit_words.output_place.Goals as goal
 

@@ -1,4 +1,4 @@
-use Rattle.std.proofs.Common.{◌≡◌, ◌<◌, ◌≤◌, ◌+◌, ◌-◌, ◌*◌, ◌^◌, suc, ap, sym, subst, ◌∙◌, length, List, set, drop, get_or, ℕ, arith}
+use Rattle.std.proofs.Common.{◌≡◌, ◌<◌, ◌≤◌, ◌+◌, ◌-◌, ◌*◌, ◌^◌, suc, ap, sym, subst, ◌∙◌, List, set, drop, get_or, ℕ, arith}
 use Rattle.std.specs.List.{AllByRecursion}
 use Rattle.poly_mixed.specs.laws.Uniqueness.{IsZeros}
 use Rattle.lift_table.specs.OneWord.{AreColumns}

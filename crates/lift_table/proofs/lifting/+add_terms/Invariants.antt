@@ -1,4 +1,4 @@
-use Rattle.std.proofs.Common.{ℕ, ◌-◌}
+use Rattle.std.proofs.Common.{◌-◌}
 use Rattle.lift_table.proofs.LiftingLemmas.{HasColumns}
 use Rattle.lift_table.proofs.lifting.+add_terms.Given as goal
 

@@ -1,4 +1,4 @@
-use Rattle.std.proofs.Common.{◌≤◌, replicate, subst, List, ℕ, drop, []}
+use Rattle.std.proofs.Common.{◌≤◌, replicate, subst, ℕ, drop}
 use Rattle.std.specs.List.{AllByRecursion}
 use Rattle.poly_mixed.specs.Polynomial.{Terms}
 use Rattle.poly_mixed.specs.laws.Uniqueness.{IsZeros}

@@ -1,4 +1,4 @@
-use Rattle.std.proofs.Common.{◌≡◌, ◌<◌, ◌+◌, ◌*◌, ◌^◌, ap, sym, subst, ◌∙◌, List, ◌++◌, get_or, ℕ, arith}
+use Rattle.std.proofs.Common.{◌+◌, ap, subst, ◌∙◌, List, ◌++◌, ℕ, arith}
 use Rattle.lift_table.specs.OneWord.{AreCoefficients}
 use Rattle.lift_table.proofs.OneWordLemmas.{one_column}
 use Rattle.lift_table.proofs.one_word.columns.Goals as goal

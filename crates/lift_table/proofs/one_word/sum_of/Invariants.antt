@@ -1,4 +1,4 @@
-use Rattle.std.proofs.Common.{◌≡◌, ◌<◌, ◌^◌, ℕ, get_or}
+use Rattle.std.proofs.Common.{◌≡◌, ◌<◌, ◌^◌, get_or}
 use Rattle.gf_field.specs.Polynomial.{sum_of_first}
 use Rattle.lift_table.proofs.one_word.sum_of.Given as goal
 

@@ -1,4 +1,3 @@
-use Rattle.std.proofs.Common.{◌∙◌}
 use Rattle.lift_table.proofs.ReadingLemmas.{hex_of}
 use Rattle.lift_table.proofs.reading.is_hex.Goals as goal
 

@@ -1,4 +1,4 @@
-use Rattle.std.proofs.Common.{rules, ◌≡◌, ◌≤◌, ◌<◌, ◌^◌, refl, inl, inr, ℕ, arith}
+use Rattle.std.proofs.Common.{rules, ◌≤◌, ◌^◌, refl, inl, inr, ℕ, arith}
 use Rattle.std.proofs.lemmas.Bool.{cases_lt}
 use Rattle.text_core.specs.Numbers.{IsHex}
 use Rattle.lift_table.proofs.reading.number_of.Goals as goal

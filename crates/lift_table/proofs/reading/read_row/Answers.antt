@@ -1,6 +1,5 @@
-use Rattle.std.proofs.Common.{◌≡◌, ◌∙◌, ap, inr, map, Bor, List, ℕ}
+use Rattle.std.proofs.Common.{◌∙◌, ap, inr, map, Bor, List, ℕ}
 use Rattle.std.specs.Str.Lines.{lines}
-use Rattle.text_core.specs.Lines.{tokens_of}
 use Rattle.lift_table.proofs.ReadingLemmas.{row_fault}
 use Rattle.lift_table.proofs.reading.read_row.Goals as goal
 

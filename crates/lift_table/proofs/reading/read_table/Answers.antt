@@ -1,4 +1,4 @@
-use Rattle.std.proofs.Common.{◌≡◌, ◌≤◌, ◌<◌, ◌+◌, ◌*◌, ◌^◌, ◌∙◌, ◌∷◌, [], length, ap, refl, sym, subst, inl, inr, List, ℕ, arith}
+use Rattle.std.proofs.Common.{◌≡◌, ◌<◌, ◌+◌, ◌*◌, ◌^◌, ◌∙◌, ◌∷◌, [], length, ap, refl, sym, subst, inl, inr, List, ℕ, arith}
 use Rattle.std.specs.Str.Lines.{lines}
 use Rattle.std.proofs.lemmas.Bool.{eqb-true}
 use Rattle.lift_table.proofs.ReadingLemmas.{IsReadTo, after_head, no_head, one_row, no_row, at_end, too_many, empty_lines}

@@ -1,4 +1,4 @@
-use Rattle.std.proofs.Common.{◌≡◌, ◌≤◌, ◌<◌, ◌+◌, ◌-◌, ◌/◌, ◌%◌, ◌^◌, ◌∙◌, ◌++◌, ap, arith}
+use Rattle.std.proofs.Common.{◌≡◌, ◌+◌, ◌-◌, ◌/◌, ◌%◌, ◌^◌, ◌∙◌, ◌++◌, ap}
 use Rattle.lift_table.specs.private.Digits.{digits_of}
 use Rattle.lift_table.proofs.GatherLemmas.{pushed_long}
 use Rattle.lift_table.proofs.TableLemmas.{digit_more, digits_end, digits_elements}

@@ -1,5 +1,4 @@
-use Rattle.std.proofs.Common.{◌≡◌, ◌<◌, ◌-◌, ◌++◌, ◌^◌, ℕ, length}
-use Rattle.net_core.specs.Lists.{Has}
+use Rattle.std.proofs.Common.{◌≡◌, ◌-◌, ◌++◌, length}
 use Rattle.lift_table.specs.private.Digits.{digits_of}
 use Rattle.lift_table.proofs.tabulating.digits.Given as goal
 

@@ -1,4 +1,4 @@
-use Rattle.std.proofs.Common.{◌≡◌, ◌++◌, take, drop}
+use Rattle.std.proofs.Common.{◌≡◌, ◌++◌, drop}
 use Rattle.lift_table.specs.TableText.{table_text, value_lines}
 use Rattle.lift_table.proofs.writing.write_table.Given as goal
 

@@ -1,4 +1,4 @@
-use Rattle.net_aiger.proofs.MakeLemmas.{label_fault, new_label, new_number, was_labelled}
+use Rattle.net_aiger.proofs.MakeLemmas.{new_number}
 use Rattle.net_aiger.proofs.make.add_named.Goals as goal
 
 pub returns-clause-number : goal.returns-clause-number

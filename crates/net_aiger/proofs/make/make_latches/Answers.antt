@@ -1,4 +1,4 @@
-use Rattle.std.proofs.Common.{rules, ◌≡◌, refl}
+use Rattle.std.proofs.Common.{rules, refl}
 use Rattle.net_aiger.specs.Nets.{latch_made, latches_made}
 use Rattle.net_aiger.specs.Reading.{net_of}
 use Rattle.net_aiger.specs.private.Making.{IsFaultOf}

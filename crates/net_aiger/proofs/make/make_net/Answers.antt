@@ -1,6 +1,5 @@
-use Rattle.net_core.specs.NetList.{NetList}
 use Rattle.net_aiger.specs.Reading.{driven}
-use Rattle.std.proofs.Common.{drop, subst, sym, ◌≡◌, List, ℕ}
+use Rattle.std.proofs.Common.{drop, subst, sym, List, ℕ}
 use Rattle.net_aiger.specs.private.Making.{Awaits}
 use Rattle.net_aiger.proofs.KeepLemmas.{ands_keep, awaits_kept, latches_keep}
 use Rattle.net_aiger.proofs.make.make_net.Goals as goal

@@ -1,7 +1,7 @@
-use Rattle.std.proofs.Common.{rules, ◌≡◌, ◌∷◌, ◌+◌, subst, refl, arith, drop, List, ℕ}
+use Rattle.std.proofs.Common.{rules, ◌+◌, refl, arith, drop}
 use Rattle.net_aiger.specs.Nets.{output_made, outputs_made}
 use Rattle.net_aiger.specs.Checks.{own}
-use Rattle.net_aiger.specs.private.Making.{Awaits, IsFaultOf}
+use Rattle.net_aiger.specs.private.Making.{IsFaultOf}
 use Rattle.net_aiger.proofs.AwaitLemmas.{name_is_new}
 use Rattle.net_aiger.proofs.KeepLemmas.{awaited_at, output_awaits}
 use Rattle.net_aiger.proofs.MakeLemmas.{fault_next, made_next}

@@ -1,5 +1,5 @@
-use Rattle.std.proofs.Common.{rules, ◌≡◌, sym, ◌∙◌, Err, Ok}
-use Rattle.net_aiger.proofs.ReadLemmas.{Comes, is_net, not_apart, not_known, not_made, not_read, not_sound}
+use Rattle.std.proofs.Common.{rules, sym}
+use Rattle.net_aiger.proofs.ReadLemmas.{Comes, not_apart, not_known, not_made, not_read, not_sound}
 use Rattle.net_aiger.proofs.read.read_aiger.Goals as goal
 
 pub returns-in_err-reader-clause-fault : goal.returns-in_err-reader-clause-fault

@@ -1,4 +1,4 @@
-use Rattle.std.proofs.Common.{rules, ◌≡◌, ◌⊎◌, ◌∙◌, true, false, arith, Err, length}
+use Rattle.std.proofs.Common.{rules, ◌≡◌, ◌⊎◌, ◌∙◌, true, false, arith, Err}
 use Rattle.std.specs.Str.Lines.{lines}
 use Rattle.net_aiger.specs.Lines.{ends, lines_read}
 use Rattle.net_aiger.specs.declared.fault.AigerFault.TheVariants.{OutOfMemory}

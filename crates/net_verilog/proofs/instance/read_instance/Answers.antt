@@ -1,4 +1,4 @@
-use Rattle.std.proofs.Common.{rules, ◌≡◌, ◌⊎◌, ap, inl, inr, sym, refl, subst, ℕ, List, Ok, Err}
+use Rattle.std.proofs.Common.{rules, ◌≡◌, ◌⊎◌, inl, inr, sym, refl, subst, ℕ, List, Ok, Err}
 use Rattle.net_verilog.specs.Made.{mentioned}
 use Rattle.net_verilog.specs.Instances.{placed}
 use Rattle.net_verilog.specs.declared.fault.VerilogFault.TheVariants as faults

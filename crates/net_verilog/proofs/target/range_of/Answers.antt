@@ -1,4 +1,4 @@
-use Rattle.std.proofs.Common.{◌≡◌, ◌∙◌, ap, sym, None, Some}
+use Rattle.std.proofs.Common.{ap, sym, Some}
 use Rattle.std.specs.Option.{option_map}
 use Rattle.net_verilog.specs.declared.declared.Declared.{Declared}
 use Rattle.net_verilog.proofs.TableLemmas.{bits_named}

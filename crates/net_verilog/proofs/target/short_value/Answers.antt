@@ -1,4 +1,4 @@
-use Rattle.net_verilog.proofs.DecimalLemmas.{short_found, short_none}
+use Rattle.net_verilog.proofs.DecimalLemmas.{short_none}
 use Rattle.net_verilog.proofs.target.short_value.Goals as goal
 
 pub returns-in-None : goal.returns-in-None

@@ -1,4 +1,4 @@
-use Rattle.std.proofs.Common.{rules, ◌≡◌, ◌∙◌, ◌<◌, ◌≤◌, ◌+◌, ◌^◌, sym, ap, subst, ℕ, List, [], Some, length, arith}
+use Rattle.std.proofs.Common.{rules, ◌≡◌, ◌∙◌, ◌<◌, ◌≤◌, ◌+◌, sym, ap, subst, ℕ, List, Some, length, arith}
 use Rattle.std.specs.Prelude.{slice_get}
 use Rattle.graph_core.proofs.ListLemmas.{got_read}
 use Rattle.poly_mixed.specs.Polynomial.{Terms}

@@ -1,4 +1,4 @@
-use Rattle.std.proofs.Common.{◌≡◌, ◌∙◌, ◌<◌, ◌≤◌, ◌^◌, refl, sym, ap, subst, ℕ, List, length, take, arith}
+use Rattle.std.proofs.Common.{◌≡◌, ◌∙◌, ◌≤◌, refl, ap, subst, ℕ, List, length, arith}
 use Rattle.std.proofs.lemmas.List.{take_all}
 use Rattle.net_words.specs.Binding.{BoundNet}
 use Rattle.gf_basis.specs.declared.bases.Basis.{Basis}

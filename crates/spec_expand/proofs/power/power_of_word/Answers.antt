@@ -1,4 +1,4 @@
-use Rattle.std.proofs.Common.{◌≡◌, ◌∙◌, ap, sym, ℕ, List, ◌<◌, ◌+◌, ◌*◌, arith}
+use Rattle.std.proofs.Common.{◌∙◌, ap, ℕ, ◌+◌, ◌*◌, arith}
 use Rattle.gf_basis.specs.BasisParts.{elements_of}
 use Rattle.gf_field.specs.Trace.{frobenius}
 use Rattle.spec_expand.proofs.PowerLemmas.{first_sum, next_sum, last_sum}

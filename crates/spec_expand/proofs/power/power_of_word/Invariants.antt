@@ -1,6 +1,5 @@
-use Rattle.std.proofs.Common.{◌≡◌}
 use Rattle.gf_basis.specs.BasisParts.{elements_of}
-use Rattle.poly_mixed.specs.Polynomial.{Point, IsPoint, IsReduced, IsPolynomialOf}
+use Rattle.poly_mixed.specs.Polynomial.{IsPolynomialOf}
 use Rattle.spec_expand.proofs.PowerLemmas.{first_power}
 use Rattle.spec_expand.proofs.power.power_of_word.Given as goal
 

@@ -1,4 +1,4 @@
-use Rattle.std.proofs.Common.{◌≡◌, ◌∙◌, ◌≤◌, ◌-◌, ap, sym, subst, ℕ, List, [], length, take, drop, Ok, arith}
+use Rattle.std.proofs.Common.{◌-◌, sym, subst, ℕ, List, [], length, take, drop, Ok, arith}
 use Rattle.text_core.proofs.LineLemmas.{rest_of}
 use Rattle.poly_mixed.specs.Labels.{Labelling}
 use Rattle.spec_expand.specs.Specification.{SpecTerms, IsOverWords}

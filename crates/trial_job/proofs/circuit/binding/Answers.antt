@@ -1,4 +1,4 @@
-use Rattle.std.proofs.Common.{◌≡◌, ◌∙◌, ap, sym, subst, List, [], ℕ, map, Ok, Err}
+use Rattle.std.proofs.Common.{◌≡◌, ◌∙◌, ap, sym, subst, List, [], map, Ok, Err}
 use Rattle.gf_field.specs.Ring2k.{degree_of, modulus_of}
 use Rattle.irreducible.specs.Proved.{ring_of}
 use Rattle.net_core.specs.NetList.{NetList}

@@ -1,4 +1,4 @@
-use Rattle.std.proofs.Common.{◌≡◌, ◌∙◌, ap, sym, subst, ℕ, ◌<◌, ◌^◌, length, Err}
+use Rattle.std.proofs.Common.{◌≡◌, ◌∙◌, ap, sym, subst, ◌<◌, ◌^◌, length, Err}
 use Rattle.gf_field.specs.Ring2k.{degree_of, modulus_of}
 use Rattle.irreducible.specs.Proved.{ring_of}
 use Rattle.job_input.specs.Setting.{IsTakenFor}

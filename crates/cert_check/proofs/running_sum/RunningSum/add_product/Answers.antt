@@ -1,4 +1,4 @@
-use Rattle.std.proofs.Common.{◌≡◌, ◌∙◌, ap, sym, subst, ℕ, Some, None, bit_xor, OnOk}
+use Rattle.std.proofs.Common.{◌≡◌, ◌∙◌, ap, sym, subst, ℕ, bit_xor, OnOk}
 use Rattle.std.specs.Prelude.{Option}
 use Rattle.poly_mixed.specs.Polynomial.{Point, IsPoint, value}
 use Rattle.cert_check.specs.declared.form.Form.{Form}

@@ -1,5 +1,4 @@
-use Rattle.std.proofs.Common.{◌≡◌, sym, subst, List, Some}
-use Rattle.std.specs.Prelude.{IfSome, Option}
+use Rattle.std.proofs.Common.{sym, subst, List}
 use Rattle.poly_mixed.specs.Monomial.{Monomial}
 use Rattle.cert_check.specs.declared.row.Row.{Row}
 use Rattle.cert_check.specs.private.Held.{IsRowAt}

@@ -1,5 +1,5 @@
-use Rattle.std.proofs.Common.{◌≡◌, ◌∙◌, ap, sym, ℕ, Some, [], drop, bit_xor, drop_of_length-le, arith}
-use Rattle.poly_mixed.specs.Polynomial.{Terms, value}
+use Rattle.std.proofs.Common.{◌≡◌, ◌∙◌, ℕ, Some, [], drop, drop_of_length-le, arith}
+use Rattle.poly_mixed.specs.Polynomial.{Terms}
 use Rattle.cert_check.specs.private.Held.{form_value, rows_value}
 use Rattle.cert_check.proofs.RowLemmas.{nothing_kept}
 use Rattle.cert_check.proofs.running_sum.RunningSum.keep_all.Goals as goal

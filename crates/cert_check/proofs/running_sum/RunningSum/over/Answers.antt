@@ -1,4 +1,4 @@
-use Rattle.std.proofs.Common.{◌≡◌, ◌∙◌, rules, length, arith}
+use Rattle.std.proofs.Common.{◌≡◌, rules, length, arith}
 use Rattle.std.proofs.lemmas.Grind.{common_steps}
 use Rattle.cert_check.proofs.HeldLemmas.{whole_within}
 use Rattle.cert_check.proofs.running_sum.RunningSum.over.Goals as goal

@@ -1,4 +1,4 @@
-use Rattle.std.proofs.Common.{◌^◌, mod-lt, pow_pos, subst}
+use Rattle.std.proofs.Common.{mod-lt, pow_pos, subst}
 use Rattle.gf_field.specs.Table16.{entries_of}
 use Rattle.gf_field.specs.private.ShiftAndAdd.{AreParts}
 use Rattle.gf_field.specs.laws.ModulusLaws.{IsModulus-from_log, no_small_modulus, no_large_modulus}

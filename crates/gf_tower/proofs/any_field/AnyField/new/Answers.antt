@@ -1,4 +1,4 @@
-use Rattle.std.proofs.Common.{rules, ◌≡◌, subst, ap, ◌∙◌, refl, inl, inr, ◌*◌, ◌<◌, length}
+use Rattle.std.proofs.Common.{rules, ◌≡◌, subst, ap, ◌∙◌, refl, inl, inr, ◌<◌, length}
 use Rattle.gf_field.specs.Bit.{bit_mul}
 use Rattle.gf_field.specs.Quotient.{product}
 use Rattle.gf_field.specs.Ring2k.{degree_of, modulus_of}

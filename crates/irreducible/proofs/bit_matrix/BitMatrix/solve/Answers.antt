@@ -1,4 +1,4 @@
-use Rattle.std.proofs.Common.{◌≡◌, ◌≢◌, ◌<◌, ◌^◌, arith, refl, length}
+use Rattle.std.proofs.Common.{arith, refl}
 use Rattle.irreducible.specs.Span.{combination}
 use Rattle.irreducible.specs.BitMatrix.{rows_of}
 use Rattle.irreducible.proofs.KernelLemmas.{no_solution, solution, least_solution}

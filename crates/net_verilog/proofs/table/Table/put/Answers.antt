@@ -1,6 +1,5 @@
-use Rattle.std.proofs.Common.{◌≡◌, ◌∙◌, ap, sym, subst, ℕ, ◌≤◌, List, Some, length}
-use Rattle.std.specs.Prelude.{string_bytes}
-use Rattle.net_verilog.specs.Declarations.{Declarations, bit_name, put}
+use Rattle.std.proofs.Common.{◌≡◌, ◌∙◌, ap, sym, subst}
+use Rattle.net_verilog.specs.Declarations.{Declarations, put}
 use Rattle.net_verilog.specs.Targets.{HasNetNames}
 use Rattle.net_verilog.specs.private.Entries.{named_entries}
 use Rattle.net_verilog.proofs.TableLemmas.{inserted, names_kept}

@@ -1,4 +1,4 @@
-use Rattle.std.proofs.Common.{rules, ◌^◌, ℕ, nat_lt, nat_le}
+use Rattle.std.proofs.Common.{rules, ◌^◌, nat_lt, nat_le}
 use Rattle.spec_expand.specs.declared.reader.Next.TheVariants.{Factor, Exponent}
 use Rattle.spec_expand.specs.private.Progress.{progress, fitting, number_read, exponent_read, IsStep}
 use Rattle.spec_expand.proofs.reader.Reading.decimal.Goals as goal

@@ -1,5 +1,5 @@
-use Rattle.std.proofs.Common.{◌≡◌, ◌∙◌, ap, List, ℕ, [], ◌∷◌, ◌++◌}
-use Rattle.verilog_reader.specs.private.Listed.{list_at, put_list}
+use Rattle.std.proofs.Common.{◌∙◌, ap, List, ℕ, [], ◌∷◌, ◌++◌}
+use Rattle.verilog_reader.specs.private.Listed.{put_list}
 use Rattle.verilog_reader.proofs.ScalarLemmas.{all_kept, one_added}
 use Rattle.verilog_reader.proofs.scalars.Scalars.add.Goals as goal
 

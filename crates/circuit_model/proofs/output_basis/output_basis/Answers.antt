@@ -1,11 +1,11 @@
-use Rattle.std.proofs.Common.{◌≡◌, ◌≢◌, sym, ◌∙◌, arith}
+use Rattle.std.proofs.Common.{◌≡◌, ◌≢◌, sym, refl, length, ◌∙◌, arith}
 use Rattle.net_words.specs.declared.word.Role.TheVariants.{Output}
-use Rattle.job_input.proofs.LabelLemmas.{read_at}
-use Rattle.job_input.proofs.OutputLemmas.{some_at, at_output, past_other, past_count, is_role, not_role}
-use Rattle.job_input.proofs.output.output_basis.Goals as goal
+use Rattle.std.proofs.lemmas.Option.{slice_get_read}
+use Rattle.circuit_model.proofs.OutputBasisLemmas.{some_at, at_output, past_other, past_count, is_role, not_role}
+use Rattle.circuit_model.proofs.output_basis.output_basis.Goals as goal
 
 pub returns-then-is_output-clause-among : goal.returns-then-is_output-clause-among
-returns-then-is_output-clause-among c = (c.loop-w.w, read_at c.args.bases.now c.loop-w.w c.index-bases-w.result (omega (arith, c.requires.long)) c.index-bases-w.is)
+returns-then-is_output-clause-among c = (c.loop-w.w, slice_get_read c.args.bases.now (length c.args.bases.now) c.loop-w.w c.index-bases-w.result refl (omega (arith, c.requires.long)) c.index-bases-w.is)
 
 pub returns-then-is_output-clause-basis : goal.returns-then-is_output-clause-basis
 returns-then-is_output-clause-basis c =
@@ -13,7 +13,7 @@ returns-then-is_output-clause-basis c =
     let w = c.loop-w.w in
     let word = some_at words w (omega arith) in
     let role : word.0.role ≡ Output = sym (c.role.ensures word.0 word.1) ∙ is_role c.role.result (sym c.is_output.ensures ∙ c.if-is_output.true) in
-    let at = read_at c.args.bases.now w c.index-bases-w.result (omega (arith, c.requires.long)) c.index-bases-w.is in
+    let at = slice_get_read c.args.bases.now (length c.args.bases.now) w c.index-bases-w.result refl (omega (arith, c.requires.long)) c.index-bases-w.is in
     sym (at_output words c.args.bases.now w word.0 c.index-bases-w.result word.1 at role) ∙ c.loop-w.invariant.basis
 
 pub loop-w-preserved : goal.loop-w-preserved

@@ -1,13 +1,13 @@
-use Rattle.std.proofs.Common.{◌≡◌, drop, length, filter}
+use Rattle.std.proofs.Common.{◌≡◌, drop, length, map, filter}
 use Rattle.net_words.specs.Roles.{same_role}
 use Rattle.net_words.specs.declared.word.Role.TheVariants.{Output}
 use Rattle.circuit_model.specs.OfBinding.{output_basis}
-use Rattle.job_input.specs.Setting.{elements_of_each}
-use Rattle.job_input.proofs.output.output_basis.Given as goal
+use Rattle.gf_basis.specs.BasisParts.{elements_of}
+use Rattle.circuit_model.proofs.output_basis.output_basis.Given as goal
 
 abbrev pub invariant-loop-w : goal.invariant-loop-w
 invariant-loop-w l =
     record {
-      basis : output_basis (drop l.w l.bound.words) (drop l.w (elements_of_each l.bases)) ≡ output_basis l.bound.words (elements_of_each l.bases);
+      basis : output_basis (drop l.w l.bound.words) (drop l.w (map elements_of l.bases)) ≡ output_basis l.bound.words (map elements_of l.bases);
       one : length (filter (λ word. same_role word.role Output) (drop l.w l.bound.words)) ≡ 1;
     }
