@@ -37,9 +37,13 @@ pub mod Recorders
 pub mod Machine
 pub mod MachineMeans
 pub mod OneOutcome
-pub mod ReadTokens
+pub mod FrontLemmas
+pub mod ReadFactorLemmas
+pub mod ReadTermLemmas
 pub mod Tracks
-pub mod ReadOutcome
+pub mod ReadPlaceLemmas
+pub mod ReadPartLemmas
+pub mod ReadTurnLemmas
 pub mod ReadReduced
 pub mod ReadResult
 pub mod TextLaws

@@ -8,7 +8,8 @@ use Rattle.poly_mixed.specs.TextOutcome.{text_fault, TextOutcome}
 use Rattle.poly_mixed.specs.private.Reading.{reading, IsSaid}
 use Rattle.poly_mixed.specs.declared.fault.PolyFault.{PolyFault}
 use Rattle.poly_mixed.specs.declared.fault.PolyFault.TheVariants.{Syntax, NoSuchNet, NoSuchBit, OutOfMemory}
-use Rattle.poly_mixed.proofs.ReadOutcome.{MayCome, reading_comes}
+use Rattle.poly_mixed.proofs.ReadPlaceLemmas.{MayCome}
+use Rattle.poly_mixed.proofs.ReadTurnLemmas.{reading_comes}
 use Rattle.poly_mixed.proofs.ReadReduced.{read_reduced}
 
 module _ (l : Labelling) (k : ℕ) (bytes : List ℕ) (some : 1 ≤ k) (are : AreLabels l) where

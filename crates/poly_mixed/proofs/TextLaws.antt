@@ -15,7 +15,8 @@ use Rattle.poly_mixed.proofs.Chain.{Leads, turn, term_lead}
 use Rattle.poly_mixed.proofs.ReadBack.{factors, factors_chain, term_written, total, total_is}
 use Rattle.poly_mixed.proofs.Runs.{skip_none, skip_space}
 use Rattle.poly_mixed.proofs.Scanned.{IsEnd}
-use Rattle.poly_mixed.proofs.ReadOutcome.{MayCome, reading_comes}
+use Rattle.poly_mixed.proofs.ReadPlaceLemmas.{MayCome}
+use Rattle.poly_mixed.proofs.ReadTurnLemmas.{reading_comes}
 
 -- the terms after a first one
 abbrev rest_text : Labelling → Terms → List ℕ
