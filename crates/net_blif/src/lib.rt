@@ -17,6 +17,7 @@ mod model_list;
 mod open_model;
 mod read;
 mod reader;
+mod spelling;
 mod statement;
 mod table;
 mod token;

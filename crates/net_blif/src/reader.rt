@@ -12,7 +12,8 @@ ghost use Rattle.net_blif.specs.Models.{in_model, with_cover_row, with_items, mo
 use crate::BlifFault;
 use crate::model_list::ModelList;
 use crate::open_model::OpenModel;
-use crate::statement::{Statement, read_statement, start_of, words};
+use crate::spelling::{read_statement, words};
+use crate::statement::{Statement, start_of};
 use crate::token::Token;
 use net_core::{Name, Start};
 use std::alloc::{AllocError, Global};

@@ -1,17 +1,13 @@
-//! What a line says.
-ghost use Rattle.std.specs.Prelude.{◌≡◌, ◌↔◌, ◌<◌, ◌∷◌, [], All, IsTrue, IfOk, IfSome, IfNone, Some, None, if◌then◌else◌};
-ghost use Rattle.text_core.specs.Lines.{tokens_of};
-ghost use Rattle.net_blif.specs.Statement.{IsToken, is_cell as cell_is, is_dotted as dotted, is_kind as kind_is, is_latch_end as latch_end_is, is_start as start_is};
+//! Statements, and what may stand in them.
+ghost use Rattle.std.specs.Prelude.{◌≡◌};
+ghost use Rattle.net_blif.specs.Statement.{is_cell as cell_is, is_dotted as dotted, is_kind as kind_is, is_latch_end as latch_end_is, is_start as start_is};
 ghost use Rattle.net_blif.specs.Latch.{start_of as start_that, start_said};
-ghost use Rattle.net_blif.specs.Spelling.{bit_of as bit_that, cover_of, dotted_of, end_of, instance_of, latch_of, model_of, row_of, statement_of};
 ghost use Rattle.std.specs.List.{list_all};
 ghost use Rattle.net_blif.specs.Connection.{is_connection as connection_is};
 
 use crate::connection::is_connection;
 use crate::token::{Token, Tokens};
 use net_core::Start;
-use std::alloc::{AllocError, Global};
-use text_core::is_printing;
 
 /// A statement. `Cover` is `.names`, `Row` a row of its cover, and `Other` begins with a word that is not read.
 /// The `rest` of a latch is its kind, control and start, as far as they are there; each connection of an instance
@@ -46,56 +42,8 @@ pub enum Statement<'a> {
     },
 }
 
-// Whether a token has 1 to 255 bytes that print.
-fn is_token(token: &[u8]) -> bool
-    ensures { IsTrue result ↔ IsToken token.now }
-{
-    !token.is_empty() && token.len() <= 255 && is_printing(token)
-}
-
-// What stands between the spaces and tabs of a line.
-fn all_words<'a>(alloc: Global, line: &'a [u8]) -> Result<Vec<Token<'a>>, AllocError>
-    ensures { IfOk result (λ words. words.items ≡ tokens_of line.now) }
-{
-    line.split(|&b| b == b' ' || b == b'\t')
-        .filter(|token| !token.is_empty())
-        .map(|token| Token::new(token))
-        .collect(alloc)
-}
-
-// Whether each has 1 to 255 bytes that print.
-fn are_tokens(words: &[Token<'_>]) -> bool
-    ensures { IsTrue result ↔ All IsToken words.now }
-{
-    words.iter().all(|word| is_token(word.bytes()))
-}
-
-/// The tokens of a line, if each has 1 to 255 bytes and all of them print.
-pub fn words<'a>(alloc: Global, line: &'a [u8]) -> Result<Option<Vec<Token<'a>>>, AllocError>
-    ensures found { IfOk result (λ found. IfSome found (λ words. (words.items ≡ tokens_of line.now) × All IsToken words.items)) }
-    ensures none { IfOk result (λ found. IfNone found (All IsToken (tokens_of line.now) → ⊥)) }
-{
-    let words = all_words(alloc, line)?;
-    if !are_tokens(&words) {
-        return Ok(None);
-    }
-    Ok(Some(words))
-}
-
-// The bit that a token says.
-fn bit_of(token: &[u8]) -> Option<bool>
-    ensures { result ≡ bit_that token.now }
-{
-    if token == b"1".as_slice() {
-        Some(true)
-    } else if token == b"0".as_slice() {
-        Some(false)
-    } else {
-        None
-    }
-}
-
-fn is_dotted(word: &[u8]) -> bool
+/// Whether a word begins with `.`.
+pub fn is_dotted(word: &[u8]) -> bool
     ensures { result ≡ dotted word.now }
 {
     match word {
@@ -104,34 +52,11 @@ fn is_dotted(word: &[u8]) -> bool
     }
 }
 
-fn is_pattern(word: &[u8]) -> bool
+/// Whether each byte of a word is a cell of a row.
+pub fn is_pattern(word: &[u8]) -> bool
     ensures { result ≡ list_all cell_is word.now }
 {
     word.iter().all(|b| *b == b'0' || *b == b'1' || *b == b'-')
-}
-
-// What the words after `.model` say.
-fn model<'a>(rest: &'a [Token<'a>]) -> Option<Statement<'a>>
-    ensures { result ≡ model_of rest.now }
-{
-    match rest {
-        [] => Some(Statement::Model(Token::new(&[]))),
-        [name] => Some(Statement::Model(Token::new(name.bytes()))),
-        _ => None,
-    }
-}
-
-// What the words after `.names` say.
-fn cover<'a>(rest: &'a [Token<'a>]) -> Option<Statement<'a>>
-    ensures { result ≡ cover_of rest.now }
-{
-    match rest {
-        [inputs @ .., out] => Some(Statement::Cover {
-            inputs: Tokens::new(inputs),
-            out: Token::new(out.bytes()),
-        }),
-        [] => None,
-    }
 }
 
 // Whether a token is the kind of a latch's clock.
@@ -155,8 +80,8 @@ fn is_start(token: &[u8]) -> bool
         || token == b"3".as_slice()
 }
 
-// Whether these words may stand behind the nets of a latch.
-fn is_latch_end(rest: &[Token<'_>]) -> bool
+/// Whether these words may stand behind the nets of a latch.
+pub fn is_latch_end(rest: &[Token<'_>]) -> bool
     ensures { result ≡ latch_end_is rest.now }
 {
     match rest {
@@ -166,30 +91,6 @@ fn is_latch_end(rest: &[Token<'_>]) -> bool
         [kind, _, start] => is_kind(kind.bytes()) && is_start(start.bytes()),
         _ => false,
     }
-}
-
-// What the words after `.latch` say.
-fn latch<'a>(rest: &'a [Token<'a>]) -> Option<Statement<'a>>
-    ensures { result ≡ latch_of rest.now }
-{
-    match rest {
-        [next, out, more @ ..] => latch_on(next.bytes(), out.bytes(), more),
-        _ => None,
-    }
-}
-
-// What the nets of a latch and the words behind them say.
-fn latch_on<'a>(next: &'a [u8], out: &'a [u8], rest: &'a [Token<'a>]) -> Option<Statement<'a>>
-    ensures { result ≡ latch_of (next.now ∷ out.now ∷ rest.now) }
-{
-    if !is_latch_end(rest) {
-        return None;
-    }
-    Some(Statement::Latch {
-        next: Token::new(next),
-        out: Token::new(out),
-        rest: Tokens::new(rest),
-    })
 }
 
 // The start that a token says.
@@ -216,141 +117,9 @@ pub fn start_of(rest: &[Token<'_>]) -> Start
     }
 }
 
-// Whether each token is a connection.
-fn are_connections(tokens: &[Token<'_>]) -> bool
+/// Whether each token is a connection.
+pub fn are_connections(tokens: &[Token<'_>]) -> bool
     ensures { result ≡ list_all connection_is tokens.now }
 {
     tokens.iter().all(|token| is_connection(token.bytes()))
-}
-
-// What the words after `.subckt` say.
-fn instance<'a>(rest: &'a [Token<'a>]) -> Option<Statement<'a>>
-    ensures { result ≡ instance_of rest.now }
-{
-    match rest {
-        [model, connections @ ..] => instance_on(model.bytes(), connections),
-        [] => None,
-    }
-}
-
-// What the model of an instance and its connections say.
-fn instance_on<'a>(model: &'a [u8], connections: &'a [Token<'a>]) -> Option<Statement<'a>>
-    ensures { result ≡ instance_of (model.now ∷ connections.now) }
-{
-    if !are_connections(connections) {
-        return None;
-    }
-    Some(Statement::Instance {
-        model: Token::new(model),
-        connections: Tokens::new(connections),
-    })
-}
-
-// What the words after `.end` say.
-fn end<'a>(rest: &'a [Token<'a>]) -> Option<Statement<'a>>
-    ensures { result ≡ end_of rest.now }
-{
-    match rest {
-        [] => Some(Statement::End),
-        _ => None,
-    }
-}
-
-// What a line of this first word and these others says.
-fn dotted_statement<'a>(word: &'a [u8], rest: &'a [Token<'a>]) -> Option<Statement<'a>>
-    ensures { result ≡ dotted_of word.now rest.now }
-{
-    if word == b".model".as_slice() {
-        return model(rest);
-    }
-    if word == b".inputs".as_slice() {
-        return Some(Statement::Inputs(Tokens::new(rest)));
-    }
-    if word == b".outputs".as_slice() {
-        return Some(Statement::Outputs(Tokens::new(rest)));
-    }
-    if word == b".clock".as_slice() {
-        return Some(Statement::Clock(Tokens::new(rest)));
-    }
-    if word == b".names".as_slice() {
-        return cover(rest);
-    }
-    if word == b".latch".as_slice() {
-        return latch(rest);
-    }
-    if word == b".subckt".as_slice() {
-        return instance(rest);
-    }
-    if word == b".end".as_slice() {
-        return end(rest);
-    }
-    Some(Statement::Other {
-        word: Token::new(word),
-        rest: Tokens::new(rest),
-    })
-}
-
-// What a row's pattern and output say.
-fn row_statement<'a>(pattern: &'a [u8], output: &[u8]) -> Option<Statement<'a>>
-    ensures { result ≡ row_of (pattern.now ∷ output.now ∷ []) }
-{
-    if !is_pattern(pattern) {
-        return None;
-    }
-    match bit_of(output) {
-        Some(output) => Some(Statement::Row {
-            pattern: Token::new(pattern),
-            output,
-        }),
-        None => None,
-    }
-}
-
-// What an output alone says.
-fn lone_row<'a>(output: &'a [u8]) -> Option<Statement<'a>>
-    ensures { result ≡ row_of (output.now ∷ []) }
-{
-    match bit_of(output) {
-        Some(output) => Some(Statement::Row {
-            pattern: Token::new(&[]),
-            output,
-        }),
-        None => None,
-    }
-}
-
-// What a line that does not begin with `.` says.
-fn row<'a>(words: &'a [Token<'a>]) -> Option<Statement<'a>>
-    ensures { result ≡ row_of words.now }
-{
-    match words {
-        [output] => lone_row(output.bytes()),
-        [pattern, output] => row_statement(pattern.bytes(), output.bytes()),
-        _ => None,
-    }
-}
-
-/// The statement that the words of a line spell, if there is one.
-pub fn read_statement<'a>(words: &'a [Token<'a>]) -> Option<Statement<'a>>
-    ensures { result ≡ statement_of words.now }
-{
-    match words {
-        [] => None,
-        [word, rest @ ..] => first_statement(words, word.bytes(), rest),
-    }
-}
-
-// What the words say, of which this is the first and these are the others.
-fn first_statement<'a>(
-    words: &'a [Token<'a>],
-    word: &'a [u8],
-    rest: &'a [Token<'a>],
-) -> Option<Statement<'a>>
-    ensures { result ≡ (if dotted word.now then dotted_of word.now rest.now else row_of words.now) }
-{
-    if is_dotted(word) {
-        dotted_statement(word, rest)
-    } else {
-        row(words)
-    }
 }

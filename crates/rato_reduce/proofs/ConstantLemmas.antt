@@ -17,7 +17,7 @@ use Rattle.rato_reduce.specs.private.CutKey.{CutKey, key_of, no_bits, key_cmp, k
 use Rattle.rato_reduce.specs.private.CutTerms.{of_bits, term_of, cut_polynomial, with_constant, IsEntry, AreEntries, AreBitEntries}
 use Rattle.rato_reduce.proofs.CutLemmas.{entries_more, terms_more}
 use Rattle.rato_reduce.proofs.CutSizeLemmas.{cut_size}
-use Rattle.rato_reduce.proofs.CutPartLemmas.{least_first, entries_rest, all_before}
+use Rattle.rato_reduce.proofs.CutBitLemmas.{least_first, entries_rest, all_before}
 
 -- ---- the key of no bits stands before the others
 

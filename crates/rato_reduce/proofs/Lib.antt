@@ -9,6 +9,7 @@ mod Recorded
 mod Turn
 mod CutLemmas
 mod CutSizeLemmas
+mod CutBitLemmas
 mod CutPartLemmas
 mod ConstantLemmas
 mod ProductLemmas

@@ -11,7 +11,8 @@ use Rattle.rato_reduce.specs.private.CutTerms.{CutPolynomial, IsBitTerm, AreEntr
 use Rattle.rato_reduce.proofs.CutLemmas.{entry_terms}
 use Rattle.rato_reduce.proofs.ConstantLemmas.{constant_entries, constant_taken, constant_lacks}
 use Rattle.rato_reduce.proofs.CutSizeLemmas.{all_back, entries_apart}
-use Rattle.rato_reduce.proofs.CutPartLemmas.{rest_lacks, front_terms, put_back, part_is, part_over, none_without, without_none, cofactor_terms, all_taken, sum_taken}
+use Rattle.rato_reduce.proofs.CutBitLemmas.{rest_lacks, cofactor_terms}
+use Rattle.rato_reduce.proofs.CutPartLemmas.{front_terms, put_back, part_is, part_over, none_without, without_none, all_taken, sum_taken}
 use Rattle.rato_reduce.proofs.cut.Cut.take_with.Goals as goal
 
 pub invariant_of-self : goal.invariant_of-self

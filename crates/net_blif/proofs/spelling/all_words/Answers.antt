@@ -6,7 +6,7 @@ use Rattle.std.proofs.lemmas.Iterator.Consumers.{YieldsList-from_filter}
 use Rattle.std.proofs.lemmas.Iterator.Splits.{YieldsList-from_slice_split}
 use Rattle.text_core.specs.Lines.{is_blank, tokens_of}
 use Rattle.net_blif.specs.Statement.{Token}
-use Rattle.net_blif.proofs.statement.all_words.Goals as goal
+use Rattle.net_blif.proofs.spelling.all_words.Goals as goal
 
 pub returns : goal.returns
 returns c =

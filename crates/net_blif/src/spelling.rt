@@ -1,0 +1,239 @@
+//! How a line is read: its words, and the statement that they spell.
+ghost use Rattle.std.specs.Prelude.{◌≡◌, ◌↔◌, ◌∷◌, [], All, IsTrue, IfOk, IfSome, IfNone, if◌then◌else◌};
+ghost use Rattle.text_core.specs.Lines.{tokens_of};
+ghost use Rattle.net_blif.specs.Statement.{IsToken, is_dotted as dotted};
+ghost use Rattle.net_blif.specs.Spelling.{bit_of as bit_that, cover_of, dotted_of, end_of, instance_of, latch_of, model_of, row_of, statement_of};
+
+use crate::statement::{Statement, are_connections, is_dotted, is_latch_end, is_pattern};
+use crate::token::{Token, Tokens};
+use std::alloc::{AllocError, Global};
+use text_core::is_printing;
+
+// Whether a token has 1 to 255 bytes that print.
+fn is_token(token: &[u8]) -> bool
+    ensures { IsTrue result ↔ IsToken token.now }
+{
+    !token.is_empty() && token.len() <= 255 && is_printing(token)
+}
+
+// What stands between the spaces and tabs of a line.
+fn all_words<'a>(alloc: Global, line: &'a [u8]) -> Result<Vec<Token<'a>>, AllocError>
+    ensures { IfOk result (λ words. words.items ≡ tokens_of line.now) }
+{
+    line.split(|&b| b == b' ' || b == b'\t')
+        .filter(|token| !token.is_empty())
+        .map(|token| Token::new(token))
+        .collect(alloc)
+}
+
+// Whether each has 1 to 255 bytes that print.
+fn are_tokens(words: &[Token<'_>]) -> bool
+    ensures { IsTrue result ↔ All IsToken words.now }
+{
+    words.iter().all(|word| is_token(word.bytes()))
+}
+
+/// The tokens of a line, if each has 1 to 255 bytes and all of them print.
+pub fn words<'a>(alloc: Global, line: &'a [u8]) -> Result<Option<Vec<Token<'a>>>, AllocError>
+    ensures found { IfOk result (λ found. IfSome found (λ words. (words.items ≡ tokens_of line.now) × All IsToken words.items)) }
+    ensures none { IfOk result (λ found. IfNone found (All IsToken (tokens_of line.now) → ⊥)) }
+{
+    let words = all_words(alloc, line)?;
+    if !are_tokens(&words) {
+        return Ok(None);
+    }
+    Ok(Some(words))
+}
+
+// The bit that a token says.
+fn bit_of(token: &[u8]) -> Option<bool>
+    ensures { result ≡ bit_that token.now }
+{
+    if token == b"1".as_slice() {
+        Some(true)
+    } else if token == b"0".as_slice() {
+        Some(false)
+    } else {
+        None
+    }
+}
+
+// What the words after `.model` say.
+fn model<'a>(rest: &'a [Token<'a>]) -> Option<Statement<'a>>
+    ensures { result ≡ model_of rest.now }
+{
+    match rest {
+        [] => Some(Statement::Model(Token::new(&[]))),
+        [name] => Some(Statement::Model(Token::new(name.bytes()))),
+        _ => None,
+    }
+}
+
+// What the words after `.names` say.
+fn cover<'a>(rest: &'a [Token<'a>]) -> Option<Statement<'a>>
+    ensures { result ≡ cover_of rest.now }
+{
+    match rest {
+        [inputs @ .., out] => Some(Statement::Cover {
+            inputs: Tokens::new(inputs),
+            out: Token::new(out.bytes()),
+        }),
+        [] => None,
+    }
+}
+
+// What the words after `.latch` say.
+fn latch<'a>(rest: &'a [Token<'a>]) -> Option<Statement<'a>>
+    ensures { result ≡ latch_of rest.now }
+{
+    match rest {
+        [next, out, more @ ..] => latch_on(next.bytes(), out.bytes(), more),
+        _ => None,
+    }
+}
+
+// What the nets of a latch and the words behind them say.
+fn latch_on<'a>(next: &'a [u8], out: &'a [u8], rest: &'a [Token<'a>]) -> Option<Statement<'a>>
+    ensures { result ≡ latch_of (next.now ∷ out.now ∷ rest.now) }
+{
+    if !is_latch_end(rest) {
+        return None;
+    }
+    Some(Statement::Latch {
+        next: Token::new(next),
+        out: Token::new(out),
+        rest: Tokens::new(rest),
+    })
+}
+
+// What the words after `.subckt` say.
+fn instance<'a>(rest: &'a [Token<'a>]) -> Option<Statement<'a>>
+    ensures { result ≡ instance_of rest.now }
+{
+    match rest {
+        [model, connections @ ..] => instance_on(model.bytes(), connections),
+        [] => None,
+    }
+}
+
+// What the model of an instance and its connections say.
+fn instance_on<'a>(model: &'a [u8], connections: &'a [Token<'a>]) -> Option<Statement<'a>>
+    ensures { result ≡ instance_of (model.now ∷ connections.now) }
+{
+    if !are_connections(connections) {
+        return None;
+    }
+    Some(Statement::Instance {
+        model: Token::new(model),
+        connections: Tokens::new(connections),
+    })
+}
+
+// What the words after `.end` say.
+fn end<'a>(rest: &'a [Token<'a>]) -> Option<Statement<'a>>
+    ensures { result ≡ end_of rest.now }
+{
+    match rest {
+        [] => Some(Statement::End),
+        _ => None,
+    }
+}
+
+// What a line of this first word and these others says.
+fn dotted_statement<'a>(word: &'a [u8], rest: &'a [Token<'a>]) -> Option<Statement<'a>>
+    ensures { result ≡ dotted_of word.now rest.now }
+{
+    if word == b".model".as_slice() {
+        return model(rest);
+    }
+    if word == b".inputs".as_slice() {
+        return Some(Statement::Inputs(Tokens::new(rest)));
+    }
+    if word == b".outputs".as_slice() {
+        return Some(Statement::Outputs(Tokens::new(rest)));
+    }
+    if word == b".clock".as_slice() {
+        return Some(Statement::Clock(Tokens::new(rest)));
+    }
+    if word == b".names".as_slice() {
+        return cover(rest);
+    }
+    if word == b".latch".as_slice() {
+        return latch(rest);
+    }
+    if word == b".subckt".as_slice() {
+        return instance(rest);
+    }
+    if word == b".end".as_slice() {
+        return end(rest);
+    }
+    Some(Statement::Other {
+        word: Token::new(word),
+        rest: Tokens::new(rest),
+    })
+}
+
+// What a row's pattern and output say.
+fn row_statement<'a>(pattern: &'a [u8], output: &[u8]) -> Option<Statement<'a>>
+    ensures { result ≡ row_of (pattern.now ∷ output.now ∷ []) }
+{
+    if !is_pattern(pattern) {
+        return None;
+    }
+    match bit_of(output) {
+        Some(output) => Some(Statement::Row {
+            pattern: Token::new(pattern),
+            output,
+        }),
+        None => None,
+    }
+}
+
+// What an output alone says.
+fn lone_row<'a>(output: &'a [u8]) -> Option<Statement<'a>>
+    ensures { result ≡ row_of (output.now ∷ []) }
+{
+    match bit_of(output) {
+        Some(output) => Some(Statement::Row {
+            pattern: Token::new(&[]),
+            output,
+        }),
+        None => None,
+    }
+}
+
+// What a line that does not begin with `.` says.
+fn row<'a>(words: &'a [Token<'a>]) -> Option<Statement<'a>>
+    ensures { result ≡ row_of words.now }
+{
+    match words {
+        [output] => lone_row(output.bytes()),
+        [pattern, output] => row_statement(pattern.bytes(), output.bytes()),
+        _ => None,
+    }
+}
+
+/// The statement that the words of a line spell, if there is one.
+pub fn read_statement<'a>(words: &'a [Token<'a>]) -> Option<Statement<'a>>
+    ensures { result ≡ statement_of words.now }
+{
+    match words {
+        [] => None,
+        [word, rest @ ..] => first_statement(words, word.bytes(), rest),
+    }
+}
+
+// What the words say, of which this is the first and these are the others.
+fn first_statement<'a>(
+    words: &'a [Token<'a>],
+    word: &'a [u8],
+    rest: &'a [Token<'a>],
+) -> Option<Statement<'a>>
+    ensures { result ≡ (if dotted word.now then dotted_of word.now rest.now else row_of words.now) }
+{
+    if is_dotted(word) {
+        dotted_statement(word, rest)
+    } else {
+        row(words)
+    }
+}
