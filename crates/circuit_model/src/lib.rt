@@ -7,7 +7,7 @@ mod circuit_feed;
 mod circuit_word;
 mod laws;
 mod net_bits;
-mod output_basis;
+mod output_word;
 mod plain;
 
 pub use circuit_feed::{CircuitFeed, FeedSource};
@@ -18,5 +18,5 @@ pub use laws::{
     taken_circuits_are_well_formed, well_formed_circuits_are_jobs,
 };
 pub use net_bits::number_of_bits;
-pub use output_basis::{is_output, output_basis};
+pub use output_word::{is_output, output_basis};
 pub use plain::output;

@@ -3,7 +3,7 @@ use Rattle.net_words.specs.Roles.{same_role}
 use Rattle.net_words.specs.declared.word.Role.TheVariants.{Output}
 use Rattle.circuit_model.specs.OfBinding.{output_basis}
 use Rattle.gf_basis.specs.BasisParts.{elements_of}
-use Rattle.circuit_model.proofs.output_basis.output_basis.Given as goal
+use Rattle.circuit_model.proofs.output_word.output_basis.Given as goal
 
 abbrev pub invariant-loop-w : goal.invariant-loop-w
 invariant-loop-w l =

@@ -2,7 +2,7 @@ use Rattle.std.proofs.Common.{◌≡◌, ◌≢◌, sym, refl, length, ◌∙◌
 use Rattle.net_words.specs.declared.word.Role.TheVariants.{Output}
 use Rattle.std.proofs.lemmas.Option.{slice_get_read}
 use Rattle.circuit_model.proofs.OutputBasisLemmas.{some_at, at_output, past_other, past_count, is_role, not_role}
-use Rattle.circuit_model.proofs.output_basis.output_basis.Goals as goal
+use Rattle.circuit_model.proofs.output_word.output_basis.Goals as goal
 
 pub returns-then-is_output-clause-among : goal.returns-then-is_output-clause-among
 returns-then-is_output-clause-among c = (c.loop-w.w, slice_get_read c.args.bases.now (length c.args.bases.now) c.loop-w.w c.index-bases-w.result refl (omega (arith, c.requires.long)) c.index-bases-w.is)
