@@ -19,6 +19,7 @@ ghost use Rattle.cert_check.specs.private.Kept.{IsGeneratorOf};
 use crate::generator::rank;
 use crate::last::LastGenerator;
 use crate::running_sum::RunningSum;
+use circuit_model::output_basis;
 use gf_basis::Basis;
 use gf_field::Field;
 use net_words::{Bound, Combinational, Role};
