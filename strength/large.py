@@ -1,20 +1,26 @@
-"""The cases of strength/sizes: a signature, a netlist, and what is known of the answer."""
+"""Cases of strength/sizes, what files of any size are made of, and the cases of `abstract` over signatures and BLIF."""
 
 FULL = 67108864
 NETS = 1048576
 MANY = 1000000
 
 SIGNATURE = b'gfsig 1\nfield 0x3\nword A input poly a\nword Z output poly z\n'
+TWO_BITS = b'gfsig 1\nfield 0x7\nword A input poly a0 a1\nword Z output poly z0 z1\n'
 CONSTANT = b'gfsig 1\nfield 0x3\nword Z output poly z\n'
 WIRE = b'.model m\n.inputs a\n.outputs z\n.names a z\n1 1\n'
 
 
 class Case:
-    """A case: its name, functions that give the pieces of its files, the status and the line."""
+    """A case: its name, the words of its call, functions that give the pieces of its files by name, the status and the text."""
 
-    def __init__(self, name, signature, netlist, status, line):
-        self.name, self.status, self.line = name, status, line
-        self.signature, self.netlist = pieces_of(signature), pieces_of(netlist)
+    def __init__(self, name, call, files, status, text):
+        self.name, self.words, self.status, self.text = name, call.split(' '), status, text
+        self.files = {file: pieces_of(source) for file, source in files.items()}
+
+
+def abstract(name, signature, netlist, status, line):
+    """A case of `abstract` over a signature S and a netlist F in BLIF."""
+    return Case(name, 'abstract S F', {'S': signature, 'F': netlist}, status, line + '\n')
 
 
 def pieces_of(source):
@@ -41,15 +47,19 @@ def times(head, piece, tail=b''):
     return filled(head, piece, len(head) + len(tail) + count * len(piece), tail)
 
 
-def chain(nets, begins=b'.inputs a\n.names a n0\n1 1\n', more=b''):
-    """A chain of inverters: nets n0 up to z, the given number of them."""
+def chain(nets, begins=b'.inputs a\n.names a n0\n1 1\n', more=b'', last=b'z'):
+    """A chain of inverters: nets n0 up to the last, the given number of them."""
     def pieces():
-        yield b'.model m\n.outputs z\n' + begins
+        yield b'.model m\n.outputs ' + last + b'\n' + begins
         for i in range(1, nets - 1):
             yield b'.names n%d n%d\n0 1\n' % (i - 1, i)
-        yield b'.names n%d z\n0 1\n' % (nets - 2)
+        yield b'.names n%d %s\n0 1\n' % (nets - 2, last)
         yield more
     return pieces
+
+
+# two inputs, and the second output 0
+DEEP = b'.outputs z1\n.names z1\n.inputs a0 a1\n.names a0 n0\n0 1\n'
 
 
 def ring(nets):
@@ -97,12 +107,13 @@ def wide_netlist():
         yield b'.inputs i%d\n' % i
 
 
-def numbered(head, form, count):
-    """Lines, or other pieces, with the numbers from 0."""
+def numbered(head, form, count, tail=b''):
+    """Lines, or other pieces, with the numbers from 0, between a head and a tail."""
     def pieces():
         yield head
         for i in range(count):
             yield form % i
+        yield tail
     return pieces
 
 
@@ -121,58 +132,55 @@ FIELD = b'gfsig 1\nfield 0x3\n'
 WORDS = b'word A input poly a\nword Z output poly z\n'
 
 LIMITS = [
-    Case('net of 255 bytes', *names_of(255), 0, 'Z = A'),
-    Case('net of 256 bytes in the signature', *names_of(256), 2, 'fault 20: signature line 3'),
-    Case('net of 256 bytes in the netlist', SIGNATURE, names_of(256)[1], 2, 'fault 30: netlist line 2 in F'),
-    Case('word of 255 bytes', word_of(255), WIRE, 0, 'Z = ' + 'A' * 255),
-    Case('word of 256 bytes', word_of(256), WIRE, 2, 'fault 20: signature line 3'),
-    Case('1,048,576 nets', SIGNATURE, chain(NETS - 1), 0, 'Z = A'),
-    Case('1,048,577 nets', SIGNATURE, chain(NETS), 2, 'fault 38: too many nets in F'),
-    Case('1,048,576 gates', CONSTANT, chain(NETS, b'.names n0\n'), 0, 'Z = 0x1'),
-    Case('1,048,577 gates', CONSTANT, chain(NETS, b'.names n0\n', b'.names z\n'), 2, 'fault 38: too many gates in F'),
-    Case('1,000,000 inverters', SIGNATURE, chain(MANY, b'.inputs a\n.names a n0\n0 1\n'), 0, 'Z = A'),
-    Case('ring of 1,000,000 gates', SIGNATURE, ring(MANY), 2, 'fault 36: loop of 1000000 nets through n0 in F'),
-    Case('1,048,575 primary inputs', SIGNATURE, inputs(NETS - 1), 0, 'Z = A'),
-    Case('1,048,576 primary inputs', SIGNATURE, inputs(NETS), 2, 'fault 38: too many nets in F'),
-    Case('1,048,512 primary inputs, 512 in words', wide_signature, wide_netlist, 0, 'Z = A'),
-    Case('netlist of 67,108,864 bytes', SIGNATURE, filled(WIRE, b'# abcdef\n'), 0, 'Z = A'),
-    Case('netlist of 67,108,865 bytes', SIGNATURE, filled(WIRE, b'# abcdef\n', FULL + 1), 2, 'fault 11: F has more than 67108864 bytes'),
-    Case('signature of 67,108,864 bytes', filled(SIGNATURE, b'# abcdef\n'), WIRE, 0, 'Z = A'),
-    Case('signature of 67,108,865 bytes', filled(SIGNATURE, b'# abcdef\n', FULL + 1), WIRE, 2, 'fault 11: S has more than 67108864 bytes'),
+    abstract('net of 255 bytes', *names_of(255), 0, 'Z = A'),
+    abstract('net of 256 bytes in the signature', *names_of(256), 2, 'fault 20: signature line 3'),
+    abstract('net of 256 bytes in the netlist', SIGNATURE, names_of(256)[1], 2, 'fault 30: netlist line 2 in F'),
+    abstract('word of 255 bytes', word_of(255), WIRE, 0, 'Z = ' + 'A' * 255),
+    abstract('word of 256 bytes', word_of(256), WIRE, 2, 'fault 20: signature line 3'),
+    abstract('1,048,576 nets', SIGNATURE, chain(NETS - 1), 0, 'Z = A'),
+    abstract('1,048,577 nets', SIGNATURE, chain(NETS), 2, 'fault 38: too many nets in F'),
+    abstract('1,048,576 gates', CONSTANT, chain(NETS, b'.names n0\n'), 0, 'Z = 0x1'),
+    abstract('1,048,577 gates', CONSTANT, chain(NETS, b'.names n0\n', b'.names z\n'), 2, 'fault 38: too many gates in F'),
+    abstract('1,000,000 inverters', SIGNATURE, chain(MANY, b'.inputs a\n.names a n0\n0 1\n'), 0, 'Z = A'),
+    abstract('100,000 inverters over GF(4)', TWO_BITS, chain(100000, DEEP, last=b'z0'), 0, 'Z = 0x2*A^2 + 0x3*A'),
+    abstract('ring of 1,000,000 gates', SIGNATURE, ring(MANY), 2, 'fault 36: loop of 1000000 nets through n0 in F'),
+    abstract('1,048,575 primary inputs', SIGNATURE, inputs(NETS - 1), 0, 'Z = A'),
+    abstract('1,048,576 primary inputs', SIGNATURE, inputs(NETS), 2, 'fault 38: too many nets in F'),
+    abstract('1,048,512 primary inputs, 512 in words', wide_signature, wide_netlist, 0, 'Z = A'),
 ]
 
 SIGNATURES = [
-    Case('signature: nothing but LF', filled(b'', b'\n'), WIRE, 2, 'fault 20: signature line 67108865'),
-    Case('signature: one token', filled(b'', b'a'), WIRE, 2, 'fault 20: signature line 1'),
-    Case('signature: one line of spaces', filled(b'', b' '), WIRE, 2, 'fault 20: signature line 2'),
-    Case('signature: one line of short tokens', filled(b'', b'a '), WIRE, 2, 'fault 20: signature line 1'),
-    Case('signature: one word of nets', filled(FIELD + b'word A input poly', b' a'), WIRE, 2, 'fault 28: no output word'),
-    Case('signature: one word of nets, and the output', filled(FIELD + b'word A input poly', b' a', FULL, b'\nword Z output poly z\n'), WIRE, 2, 'fault 26: bits at line 3'),
-    Case('signature: one basis of numbers', filled(FIELD + b'word A input list:0x1', b',0x1', FULL - 1, b' a\nword Z output poly z\n'), WIRE, 2, 'fault 24: basis at line 3'),
-    Case('signature: one number', filled(b'gfsig 1\nfield 0x', b'0', FULL, b'3\n' + WORDS), WIRE, 0, 'Z = A'),
-    Case('signature: one tower of numbers', times(b'gfsig 1\nfield 0x3\ntower', b' 0x1', b'\n' + WORDS), WIRE, 2, 'fault 25: tower'),
-    Case('signature: lines of words', filled(FIELD, b'word A input poly a\n'), WIRE, 2, 'fault 27: name twice at line 4'),
+    abstract('signature: nothing but LF', filled(b'', b'\n'), WIRE, 2, 'fault 20: signature line 67108865'),
+    abstract('signature: one token', filled(b'', b'a'), WIRE, 2, 'fault 20: signature line 1'),
+    abstract('signature: one line of spaces', filled(b'', b' '), WIRE, 2, 'fault 20: signature line 2'),
+    abstract('signature: one line of short tokens', filled(b'', b'a '), WIRE, 2, 'fault 20: signature line 1'),
+    abstract('signature: one word of nets', filled(FIELD + b'word A input poly', b' a'), WIRE, 2, 'fault 28: no output word'),
+    abstract('signature: one word of nets, and the output', filled(FIELD + b'word A input poly', b' a', FULL, b'\nword Z output poly z\n'), WIRE, 2, 'fault 26: bits at line 3'),
+    abstract('signature: one basis of numbers', filled(FIELD + b'word A input list:0x1', b',0x1', FULL - 1, b' a\nword Z output poly z\n'), WIRE, 2, 'fault 24: basis at line 3'),
+    abstract('signature: one number', filled(b'gfsig 1\nfield 0x', b'0', FULL, b'3\n' + WORDS), WIRE, 0, 'Z = A'),
+    abstract('signature: one tower of numbers', times(b'gfsig 1\nfield 0x3\ntower', b' 0x1', b'\n' + WORDS), WIRE, 2, 'fault 25: tower'),
+    abstract('signature: lines of words', filled(FIELD, b'word A input poly a\n'), WIRE, 2, 'fault 27: name twice at line 4'),
 ]
 
 NETLISTS = [
-    Case('nothing but LF', SIGNATURE, filled(b'', b'\n'), 2, 'fault 32: no model in F'),
-    Case('one token', SIGNATURE, filled(b'', b'a'), 2, 'fault 32: no model in F'),
-    Case('one statement', SIGNATURE, filled(b'.', b'a'), 2, 'fault 32: no model in F'),
-    Case('one line of short tokens', SIGNATURE, filled(b'', b'a '), 2, 'fault 32: no model in F'),
-    Case('one line of spaces', SIGNATURE, filled(b'', b' '), 2, 'fault 32: no model in F'),
-    Case('one line of nets', SIGNATURE, filled(b'.model m\n.inputs', b' a'), 2, 'fault 34: net a is driven twice in F'),
-    Case('one line of outputs', SIGNATURE, filled(WIRE + b'.outputs', b' z'), 0, 'Z = A'),
-    Case('one gate of many inputs', SIGNATURE, filled(WIRE + b'.names', b' a'), 2, 'fault 37: 33554405 inputs at line 6 in F'),
-    Case('joined lines', SIGNATURE, filled(WIRE, b'\\\n'), 0, 'Z = A'),
-    Case('joined lines of nets', SIGNATURE, times(WIRE + b'.outputs \\\n', b'z\\\n'), 0, 'Z = A'),
-    Case('empty gates', SIGNATURE, times(WIRE, b'.names\n'), 2, 'fault 30: netlist line 6 in F'),
-    Case('gates without inputs', SIGNATURE, times(WIRE, b'.names z\n'), 2, 'fault 38: too many gates in F'),
-    Case('gates of six inputs', SIGNATURE, times(WIRE, b'.names a a a a a a z\n'), 2, 'fault 38: too many gates in F'),
-    Case('statements of no nets', SIGNATURE, times(WIRE, b'.inputs\n'), 0, 'Z = A'),
-    Case('a cover of equal rows', SIGNATURE, times(WIRE, b'1 1\n'), 0, 'Z = A'),
-    Case('a cover of rows of six inputs', SIGNATURE, times(WIRE + b'.names a a a a a a y\n', b'1----- 1\n'), 0, 'Z = A'),
-    Case('1,000,000 other models', SIGNATURE, numbered(WIRE, b'.model m%d\n', MANY), 0, 'Z = A'),
-    Case('models of one name', SIGNATURE, times(WIRE, b'.model\n'), 2, 'fault 32: model twice at line 7 in F'),
+    abstract('nothing but LF', SIGNATURE, filled(b'', b'\n'), 2, 'fault 32: no model in F'),
+    abstract('one token', SIGNATURE, filled(b'', b'a'), 2, 'fault 32: no model in F'),
+    abstract('one statement', SIGNATURE, filled(b'.', b'a'), 2, 'fault 32: no model in F'),
+    abstract('one line of short tokens', SIGNATURE, filled(b'', b'a '), 2, 'fault 32: no model in F'),
+    abstract('one line of spaces', SIGNATURE, filled(b'', b' '), 2, 'fault 32: no model in F'),
+    abstract('one line of nets', SIGNATURE, filled(b'.model m\n.inputs', b' a'), 2, 'fault 34: net a is driven twice in F'),
+    abstract('one line of outputs', SIGNATURE, filled(WIRE + b'.outputs', b' z'), 0, 'Z = A'),
+    abstract('one gate of many inputs', SIGNATURE, filled(WIRE + b'.names', b' a'), 2, 'fault 37: 33554405 inputs at line 6 in F'),
+    abstract('joined lines', SIGNATURE, filled(WIRE, b'\\\n'), 0, 'Z = A'),
+    abstract('joined lines of nets', SIGNATURE, times(WIRE + b'.outputs \\\n', b'z\\\n'), 0, 'Z = A'),
+    abstract('empty gates', SIGNATURE, times(WIRE, b'.names\n'), 2, 'fault 30: netlist line 6 in F'),
+    abstract('gates without inputs', SIGNATURE, times(WIRE, b'.names z\n'), 2, 'fault 38: too many gates in F'),
+    abstract('gates of six inputs', SIGNATURE, times(WIRE, b'.names a a a a a a z\n'), 2, 'fault 38: too many gates in F'),
+    abstract('statements of no nets', SIGNATURE, times(WIRE, b'.inputs\n'), 0, 'Z = A'),
+    abstract('a cover of equal rows', SIGNATURE, times(WIRE, b'1 1\n'), 0, 'Z = A'),
+    abstract('a cover of rows of six inputs', SIGNATURE, times(WIRE + b'.names a a a a a a y\n', b'1----- 1\n'), 0, 'Z = A'),
+    abstract('1,000,000 other models', SIGNATURE, numbered(WIRE, b'.model m%d\n', MANY), 0, 'Z = A'),
+    abstract('models of one name', SIGNATURE, times(WIRE, b'.model\n'), 2, 'fault 32: model twice at line 7 in F'),
 ]
 
-CASES = LIMITS + SIGNATURES + NETLISTS
+ABSTRACT = LIMITS + SIGNATURES + NETLISTS
