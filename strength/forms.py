@@ -1,6 +1,10 @@
-"""Cases of strength/sizes over netlists in Verilog and ASCII AIGER, specifications, certificates and tables."""
+"""Cases of strength/sizes over hierarchies, netlists in Verilog and ASCII AIGER, specifications, certificates and tables."""
 from full import FORMS
 from large import FULL, NETS, SIGNATURE, WIRE, Case, filled, numbered, times
+
+
+def hierarchy(name, command, text, status, line):
+    return Case('%s: %s' % (command, name), command + ' BLOCK HIER', {'BLOCK': FORMS['BLOCK'][0], 'HIER': text}, status, line + '\n')
 
 
 def verilog(name, text, status, line):
@@ -21,6 +25,30 @@ def certificate(name, text, status, line):
 
 def table(name, text, status, line):
     return Case('table: ' + name, 'lift S TABLE', {'S': SIGNATURE, 'TABLE': text}, status, line + '\n')
+
+
+def instances(count):
+    """The given number of instances of a model without ports."""
+    return filled(WIRE, b'.subckt e\n', len(WIRE) + 10 * count + len(EMPTY), EMPTY)
+
+
+def row_of(count):
+    """The given number of instances, one after the other, of the wire m from a to z."""
+    def pieces():
+        yield b'.model top\n.inputs a\n.outputs z\n.subckt m a=a z=n1\n'
+        for i in range(1, count - 1):
+            yield b'.subckt m a=n%d z=n%d\n' % (i, i + 1)
+        yield b'.subckt m a=n%d z=z\n.end\n' % (count - 1) + WIRE
+    return pieces
+
+
+def nested(count):
+    """The given number of models, of which each has an instance of the next one; the last is a wire."""
+    def pieces():
+        for i in range(1, count):
+            yield b'.model m%d\n.inputs a\n.outputs z\n.subckt m%d a=a z=z\n.end\n' % (i, i + 1)
+        yield WIRE.replace(b'model m', b'model m%d' % count)
+    return pieces
 
 
 def inverters(count):
@@ -46,11 +74,22 @@ def negations(count):
     return pieces
 
 
+EMPTY = b'.end\n.model e\n.end\n'
 ASSIGNED = b'module m(input a, output z);\n  assign z = a'
 WIRED = FORMS['F.aag'][0]
 CLAIM, PAIRS = b'gfcert 2\nclaim Z = A', b'\nlet 0 : 0x1\nnet 1 : #0\nbit A[0] : #0\n'
 VALID = 'valid\nZ = A'
 ACCEPTED = 'accepted\nZ = A'
+
+HIERARCHIES = [
+    hierarchy('1,048,576 instances', 'abstract', instances(1048576), 0, 'Z = A'),
+    hierarchy('1,048,577 instances', 'abstract', instances(1048577), 2, 'fault 38: too many instances in HIER'),
+    hierarchy('64 models deep', 'abstract', nested(64), 0, 'Z = A'),
+    hierarchy('65 models deep', 'abstract', nested(65), 2, 'fault 32: more than 64 models deep in HIER'),
+    hierarchy('1,048,575 instances, one behind the other', 'abstract', row_of(1048575), 0, 'Z = A'),
+    hierarchy('1,048,575 instances, one behind the other', 'compose', row_of(1048575), 0, 'Z = A'),
+    hierarchy('1,048,576 instances, one behind the other', 'compose', row_of(1048576), 2, 'fault 38: too many nets in HIER'),
+]
 
 VERILOG = [
     verilog('1,048,576 nets', inverters(NETS - 1), 0, 'Z = A + 0x1'),
@@ -99,4 +138,4 @@ TABLES = [
     table('lines of rows', times(b'gftable 1\n', b'0x0\n'), 2, 'fault 56: table line 4'),
 ]
 
-OTHERS = VERILOG + AIGER + SPECIFICATIONS + CERTIFICATES + TABLES
+OTHERS = HIERARCHIES + VERILOG + AIGER + SPECIFICATIONS + CERTIFICATES + TABLES
