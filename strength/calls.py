@@ -22,8 +22,8 @@ FILES = {
             'net 7 : #0\nnet 6 : #1\nbit A[0] : B[0]\nbit A[0] : 0x2*B[1]\nbit A[1] : 0x2*B[0]\nbit A[1] : 0x3*B[1]\n'
             'bit B[0] : A\nbit B[1] : 0x2*A\nend\n',
     # the same pairs in version 1
-    'cert1': 'gfcert 1\nclaim Z = A*B\nnet 5 : 0x2\nnet 10 : 0x2\nnet 4 : 0x1\nnet 9 : 0x3\nnet 8 : 0x2\nnet 7 : 0x2\nnet 6 : 0x1\n'
-             'bit A[0] : B[0]\nbit A[0] : 0x2*B[1]\nbit A[1] : 0x2*B[0]\nbit A[1] : 0x3*B[1]\nbit B[0] : A\nbit B[1] : 0x2*A\nend\n',
+    'gfcert1': 'gfcert 1\nclaim Z = A*B\nnet 5 : 0x2\nnet 10 : 0x2\nnet 4 : 0x1\nnet 9 : 0x3\nnet 8 : 0x2\nnet 7 : 0x2\nnet 6 : 0x1\n'
+               'bit A[0] : B[0]\nbit A[0] : 0x2*B[1]\nbit A[1] : 0x2*B[0]\nbit A[1] : 0x3*B[1]\nbit B[0] : A\nbit B[1] : 0x2*A\nend\n',
     's4h': S4 + 'block mul\n' + words_of(S4),
     'hier': '.model top\n.inputs a0 a1 b0 b1\n.outputs z0 z1\n.subckt mul a0=a0 a1=a1 b0=b0 b1=b1 z0=t0 z1=t1\n'
             '.subckt mul a0=t0 a1=t1 b0=a0 b1=a1 z0=z0 z1=z1\n.end\n' + MUL,
@@ -51,7 +51,7 @@ CALLS = [
     'bits sv m.v', 'abstract sv m.v', 'abstract s2 m.aag', 'check sv m.v spec', 'same s2 m.aag m.aag', 'eval s2 m.aag 0x1 0x1',
     'abstract sd d --cycles 2', 'abstract sh h', 'compose sh h', 'certify sw w', 'verify sw w c', 'upgrade sw w c', 'table sw w',
     'lift sw t', 'iso b16 t16', 'make mastrovito s4', 'make digit sd', 'trial 3 0x7',
-    'certify s4 mul', 'verify s4 mul cert', 'verify s4 mul cert1', 'same s4 mul mulor', 'same s4 mul mul', 'abstract s4h hier',
+    'certify s4 mul', 'verify s4 mul cert', 'verify s4 mul gfcert1', 'same s4 mul mulor', 'same s4 mul mul', 'abstract s4h hier',
     'compose s4h hier', 'compose s4f frob',
 ]
 
