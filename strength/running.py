@@ -107,22 +107,29 @@ def fault_of(line):
 
 
 class Timed:
-    """A run of a command: its status (None over the limit), seconds, MiB at most."""
+    """A run of a command: its status (None over the limit), seconds, those of a processor, MiB at most."""
 
-    def __init__(self, words, limit, out, err=None):
+    def __init__(self, words, limit, out, err=None, patience=1):
         begun = time.perf_counter()
         child = subprocess.Popen(words, stdin=subprocess.DEVNULL, stdout=out, stderr=err, start_new_session=True)
+        # of a processor no more than the limit, and in all so many times longer
+        resource.prlimit(child.pid, resource.RLIMIT_CPU, (limit, limit + 1))
         late = []
-        timer = threading.Timer(limit, lambda: (late.append(1), os.killpg(child.pid, signal.SIGKILL)))
+        timer = threading.Timer(patience * limit, lambda: (late.append(1), os.killpg(child.pid, signal.SIGKILL)))
         timer.start()
         try:
             _, status, usage = os.wait4(child.pid, 0)
         finally:
             timer.cancel()
         self.seconds = time.perf_counter() - begun
+        self.processor = usage.ru_utime + usage.ru_stime
         child.returncode = os.waitstatus_to_exitcode(status)
-        self.status = None if late else child.returncode
+        self.status = None if late or child.returncode == -signal.SIGXCPU else child.returncode
         self.mebibytes = usage.ru_maxrss / 1024
+
+
+# Other work on the machine may make a run take so many times longer than on a processor of its own.
+PATIENCE = 60
 
 
 class Ended(Timed):
@@ -132,7 +139,7 @@ class Ended(Timed):
         for file in kept:
             file.seek(0)
             file.truncate()
-        super().__init__(words, limit, *kept)
+        super().__init__(words, limit, *kept, patience=PATIENCE)
         self.output, self.error = (self.read(file) for file in kept)
 
     @staticmethod
@@ -201,6 +208,14 @@ def with_number(words, option, number):
     if words[-2:-1] == [option] and words[-1].isdecimal():
         return words[:-2], int(words[-1])
     return words, number
+
+
+def with_word(words, option):
+    """The words without an option and the word behind it, and that word, or an empty one where the option is not there."""
+    if option in words[:-1]:
+        at = words.index(option)
+        return words[:at] + words[at + 2:], words[at + 1]
+    return words, ''
 
 
 def bound_memory(gibibytes):
