@@ -119,8 +119,8 @@ SPECIFICATIONS = [
     specification('one name', filled(b'', b'a'), 2, 'fault 41: unknown word at byte 0'),
     specification('one number', filled(b'Z = A*0x', b'0', FULL, b'1'), 0, ACCEPTED),
     specification('one exponent', filled(b'Z = A^', b'0', FULL, b'1'), 0, ACCEPTED),
-    specification('one term', times(b'Z=A', b'*A'), 0, ACCEPTED),
-    specification('terms', times(b'Z=A', b'+A+A'), 0, ACCEPTED),
+    specification('one term of 4,000,001 factors', filled(b'Z=A', b'*A', 8000003), 0, ACCEPTED),
+    specification('4,000,001 terms', filled(b'Z=A', b'+A', 8000003), 0, ACCEPTED),
 ]
 
 CERTIFICATES = [
