@@ -128,7 +128,7 @@ CERTIFICATES = [
     certificate('one token', filled(b'', b'a'), 2, 'fault 50: certificate line 1'),
     certificate('one claim', times(CLAIM, b'+A+A', PAIRS + b'end\n'), 0, VALID),
     certificate('lines of pairs', times(CLAIM + PAIRS, b'net 1 : 0\n', b'end\n'), 0, VALID),
-    certificate('lines of shared multipliers', numbered(CLAIM + b'\n', b'let %d : 0x1\n', 3500000, b'net 1 : #7\nbit A[0] : #8\nend\n'), 0, VALID),
+    certificate('1,000,000 shared multipliers', numbered(CLAIM + b'\n', b'let %d : 0x1\n', 1000000, b'net 1 : #7\nbit A[0] : #8\nend\n'), 0, VALID),
     certificate('no end line', times(CLAIM + PAIRS, b'bit A[0] : 0\n'), 2, 'fault 54: no end line'),
 ]
 
