@@ -78,9 +78,8 @@ plan_fault plans.OutOfMemory = OutOfMemory
 -- what feeds each instance and the output word, or the first word that nothing fits
 abbrev pub WiringOf : Hierarchy → Outcome WiringFault (List (List Feeder) × Feeder)
 WiringOf h (Ok wiring) = AreWired h wiring.0 wiring.1
-WiringOf h (Err (wirings.NotWords instance word)) = IsWiringFault h (wirings.NotWords instance word)
-WiringOf h (Err wirings.OutputNotWords) = IsWiringFault h wirings.OutputNotWords
 WiringOf h (Err wirings.OutOfMemory) = ⊥
+WiringOf h (Err fault) = IsWiringFault h fault
 
 -- a refusal of the wiring as one of the composition
 abbrev pub wiring_fault : WiringFault → ComposeFault
@@ -100,16 +99,7 @@ pub record IsRingThrough (rows : List (List Feeder)) (number : ℕ) : Type 0 whe
 abbrev pub HasNoRing : List (List Feeder) → Outcome ComposeFault (Unit {0})
 HasNoRing rows (Ok u) = IsWithoutRing rows
 HasNoRing rows (Err (InstanceLoop number)) = IsRingThrough rows number
-HasNoRing rows (Err FedInTop) = ⊥
-HasNoRing rows (Err (GateInTop line)) = ⊥
-HasNoRing rows (Err (NoBlock model)) = ⊥
-HasNoRing rows (Err (BlockNet model)) = ⊥
-HasNoRing rows (Err (BlockLatch model)) = ⊥
-HasNoRing rows (Err (BlockBind model)) = ⊥
-HasNoRing rows (Err (NotWords instance word)) = ⊥
-HasNoRing rows (Err OutputNotWords) = ⊥
-HasNoRing rows (Err (TooManyTerms block stage terms)) = ⊥
-HasNoRing rows (Err OutOfMemory) = ⊥
+HasNoRing rows (Err fault) = ⊥
 
 module _ (k : ℕ) (mul : ℕ → ℕ → ℕ) (h : Hierarchy) (rows : List (List Feeder)) (bound : ℕ) where
   -- these are the terms of the output of the flat top in its words, and no stage is over the bound
@@ -132,16 +122,7 @@ module _ (k : ℕ) (mul : ℕ → ℕ → ℕ) (h : Hierarchy) (rows : List (Lis
   StagesOf (Ok ts) = IsComposed ts
   StagesOf (Err (TooManyTerms (Some model) stage terms)) = IsBlockOver model stage terms
   StagesOf (Err (TooManyTerms None stage terms)) = IsFirstOfComposition k mul h rows bound (Later stage) terms
-  StagesOf (Err FedInTop) = ⊥
-  StagesOf (Err (GateInTop line)) = ⊥
-  StagesOf (Err (NoBlock model)) = ⊥
-  StagesOf (Err (BlockNet model)) = ⊥
-  StagesOf (Err (BlockLatch model)) = ⊥
-  StagesOf (Err (BlockBind model)) = ⊥
-  StagesOf (Err (NotWords instance word)) = ⊥
-  StagesOf (Err OutputNotWords) = ⊥
-  StagesOf (Err (InstanceLoop number)) = ⊥
-  StagesOf (Err OutOfMemory) = ⊥
+  StagesOf (Err fault) = ⊥
 
 -- ---- the whole
 

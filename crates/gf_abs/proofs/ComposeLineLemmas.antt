@@ -151,10 +151,7 @@ module _ (setting : SettingValue) (design : List ModelValue) (bound : ℕ) (prin
   use_kept item (plans.BlockNet name) is = (used_kept item is.number is.model is.block name is.is_block is.name_is, tt)
   use_kept item (plans.BlockLatch name) is = (used_kept item is.number is.model is.block name is.is_block is.name_is, tt)
   use_kept item (plans.BlockBind name) is = (used_kept item is.number is.model is.block name is.is_block is.name_is, tt)
-  use_kept item plans.FedInTop is = absurd is
-  use_kept item (plans.GateInTop line) is = absurd is
-  use_kept item (plans.NoBlock name) is = absurd is
-  use_kept item plans.OutOfMemory is = absurd is
+  use_kept item fault is = absurd is
 
   same_plan : (fault other : PlanFault) → fault ≡ other → Keeps (plan_fault other) → Keeps (plan_fault fault)
   same_plan fault other same keeps = let P : PlanFault → Type 0 = λ f. Keeps (plan_fault f) in subst P (sym same) keeps
@@ -186,16 +183,7 @@ module _ (setting : SettingValue) (design : List ModelValue) (bound : ℕ) (prin
 
   ring_kept : (rows : List (List Feeder)) (fault : ComposeFault) → HasNoRing rows (Err fault) → Keeps fault
   ring_kept rows (InstanceLoop instance) is = tt
-  ring_kept rows FedInTop is = absurd is
-  ring_kept rows (GateInTop line) is = absurd is
-  ring_kept rows (NoBlock model) is = absurd is
-  ring_kept rows (BlockNet model) is = absurd is
-  ring_kept rows (BlockLatch model) is = absurd is
-  ring_kept rows (BlockBind model) is = absurd is
-  ring_kept rows (NotWords instance word) is = absurd is
-  ring_kept rows OutputNotWords is = absurd is
-  ring_kept rows (TooManyTerms block stage terms) is = absurd is
-  ring_kept rows OutOfMemory is = absurd is
+  ring_kept rows fault is = absurd is
 
   module _ (lists : List (List (List ℕ))) where
     abbrev h : Hierarchy
@@ -212,16 +200,7 @@ module _ (setting : SettingValue) (design : List ModelValue) (bound : ℕ) (prin
           tt,
         )
     stages_kept rows (TooManyTerms None stage terms) is = (stage_kept (labels_of setting.k setting.signature.words) stage (labels_kept setting.k setting.signature.words names), tt)
-    stages_kept rows FedInTop is = absurd is
-    stages_kept rows (GateInTop line) is = absurd is
-    stages_kept rows (NoBlock model) is = absurd is
-    stages_kept rows (BlockNet model) is = absurd is
-    stages_kept rows (BlockLatch model) is = absurd is
-    stages_kept rows (BlockBind model) is = absurd is
-    stages_kept rows (NotWords instance word) is = absurd is
-    stages_kept rows OutputNotWords is = absurd is
-    stages_kept rows (InstanceLoop instance) is = absurd is
-    stages_kept rows OutOfMemory is = absurd is
+    stages_kept rows fault is = absurd is
 
     composed_kept : (fault : ComposeFault) → ComposesIn setting.k setting.product setting.signature h bound (Err fault) → Keeps fault
     composed_kept fault (inl (other, is, same)) = same_keeps fault (plan_fault other) same (plan_kept other is)
