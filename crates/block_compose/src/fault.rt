@@ -30,7 +30,7 @@ pub enum ComposeFault {
         stage: Stage,
         terms: u64,
     },
-    /// Want of memory.
+    /// Want of memory. Where the blocks or the wiring wanted it, their own fault says so.
     #[error("out of memory")]
     OutOfMemory,
 }
