@@ -43,7 +43,7 @@ use Rattle.wired_poly.specs.Wired.{IsStageFault, IsWiredPoly}
 use Rattle.wired_poly.proofs.WiredLemmas.{among_instances, graph_inside}
 use Rattle.block_plan.specs.ForEach.{AreValues}
 use Rattle.block_plan.specs.Plan.{UsesOf}
-use Rattle.block_plan.specs.Planned as plan
+use Rattle.block_plan.specs.Planned as planned
 use Rattle.block_plan.specs.Planned.{AreKept}
 use Rattle.block_plan.specs.Uses.{BlockUse, UseOf}
 use Rattle.block_plan.specs.declared.fault.PlanFault.{PlanFault}
@@ -59,8 +59,9 @@ use Rattle.block_stages.specs.InstanceStages.{instance_stages}
 use Rattle.block_stages.proofs.JoinLemmas.{bound_stages_over, bound_stages_within}
 use Rattle.block_stages.proofs.StageLemmas.{all_done, refused_first}
 use Rattle.block_stages.proofs.UsedLemmas.{block_over, blocks_within}
-use Rattle.block_compose.specs.Composed.{hierarchy_of, plan_fault, refusal, wiring_fault, Composes, HasNoRing, IsBlockOver, IsComposed, MayFault, StagesOf}
+use Rattle.block_compose.specs.Composed.{hierarchy_of, refusal, Composes, HasNoRing, IsBlockOver, IsComposed, MayFault, StagesOf}
 use Rattle.block_compose.specs.declared.fault.ComposeFault.{ComposeFault}
+use Rattle.block_compose.specs.declared.fault.ComposeFault.TheVariants.{Plan, Wiring}
 use Rattle.block_compose.specs.private.Blocks.{block_fault_of, instance_fault_of, ArePolys, HasPoly, IsBlockPoly, IsFirstBlockOver}
 use Rattle.block_compose.proofs.GivenLemmas.{have_blocks, mapped_at, mapped_long}
 use Rattle.block_compose.proofs.StageLemmas.{number_at, one_kept, wired_output}
@@ -131,20 +132,14 @@ module _ (k : ℕ) (mul : ℕ → ℕ → ℕ) (design : List ModelValue) (signa
   abbrev Whole : ComposeFault → Type 0
   Whole = MayFault (Composes k mul design signature bases bound)
 
-  pub plan_refused : (fault : PlanFault) → plan.MayFault (UsesOf design signature) fault → Whole (plan_fault fault)
-  plan_refused plans.FedInTop is = inl (plans.FedInTop, is, refl)
-  plan_refused (plans.GateInTop line) is = inl (plans.GateInTop line, is, refl)
-  plan_refused (plans.NoBlock model) is = inl (plans.NoBlock model, is, refl)
-  plan_refused (plans.BlockNet model) is = inl (plans.BlockNet model, is, refl)
-  plan_refused (plans.BlockLatch model) is = inl (plans.BlockLatch model, is, refl)
-  plan_refused (plans.BlockBind model) is = inl (plans.BlockBind model, is, refl)
+  pub plan_refused : (fault : PlanFault) → planned.MayFault (UsesOf design signature) fault → Whole (Plan fault)
   plan_refused plans.OutOfMemory is = tt
+  plan_refused fault is = inl (fault, is, refl)
 
   module _ (uses : List BlockUse) (are : UsesOf design signature (Ok uses)) where
-    pub wiring_refused : (fault : WiringFault) → IsWiringFault h fault → Whole (wiring_fault fault)
-    wiring_refused (wirings.NotWords instance word) is = inr (uses, are, inl (wirings.NotWords instance word, is, refl))
-    wiring_refused wirings.OutputNotWords is = inr (uses, are, inl (wirings.OutputNotWords, is, refl))
+    pub wiring_refused : (fault : WiringFault) → IsWiringFault h fault → Whole (Wiring fault)
     wiring_refused wirings.OutOfMemory is = tt
+    wiring_refused fault is = inr (uses, are, inl (fault, is, refl))
 
     module _ (rows : List (List Feeder)) (output : Feeder) (wired : AreWired h rows output) where
       pub ring_refused : (fault : ComposeFault) → MayFault (HasNoRing rows) fault → Whole fault

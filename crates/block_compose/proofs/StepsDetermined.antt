@@ -35,7 +35,7 @@ use Rattle.block_wiring.specs.declared.fault.WiringFault.TheVariants as wirings
 use Rattle.block_wiring.proofs.OneAnswerLemmas.{one_refusal, one_wiring, wired_apart}
 use Rattle.block_compose.specs.Composed.{HasNoRing, IsBlockOver, IsComposed, IsRingThrough, StagesOf, WiringOf}
 use Rattle.block_compose.specs.declared.fault.ComposeFault.{ComposeFault}
-use Rattle.block_compose.specs.declared.fault.ComposeFault.TheVariants.{FedInTop, GateInTop, NoBlock, BlockNet, BlockLatch, BlockBind, NotWords, OutputNotWords, InstanceLoop, TooManyTerms, OutOfMemory}
+use Rattle.block_compose.specs.declared.fault.ComposeFault.TheVariants.{InstanceLoop, TooManyTerms}
 use Rattle.block_compose.proofs.ComposeLemmas.{ring_first}
 
 -- ---- the wiring
@@ -63,16 +63,7 @@ module _ (h : Hierarchy) where
 module _ (rows : List (List Feeder)) where
   ring_of : (fault : ComposeFault) → HasNoRing rows (Err fault) → (number : ℕ) × IsRingThrough rows number × (fault ≡ InstanceLoop number)
   ring_of (InstanceLoop number) is = (number, is, refl)
-  ring_of FedInTop is = absurd is
-  ring_of (GateInTop line) is = absurd is
-  ring_of (NoBlock model) is = absurd is
-  ring_of (BlockNet model) is = absurd is
-  ring_of (BlockLatch model) is = absurd is
-  ring_of (BlockBind model) is = absurd is
-  ring_of (NotWords instance word) is = absurd is
-  ring_of OutputNotWords is = absurd is
-  ring_of (TooManyTerms block stage terms) is = absurd is
-  ring_of OutOfMemory is = absurd is
+  ring_of fault is = absurd is
 
   one_number : (m n : ℕ) → IsRingThrough rows m → IsRingThrough rows n → m ≡ n
   one_number m n a b =
@@ -147,16 +138,7 @@ module _ (k : ℕ) (mul : ℕ → ℕ → ℕ) (h : Hierarchy) (rows : List (Lis
   over_of : (fault : ComposeFault) → StagesOf k mul h rows bound (Err fault) → IsOfBlock fault ⊎ IsOfInstance fault
   over_of (TooManyTerms (Some model) stage terms) is = inl (record { model = model; stage = stage; terms = terms; is = is; fault_is = refl })
   over_of (TooManyTerms None stage terms) is = inr (record { stage = stage; terms = terms; is = is; fault_is = refl })
-  over_of FedInTop is = absurd is
-  over_of (GateInTop line) is = absurd is
-  over_of (NoBlock model) is = absurd is
-  over_of (BlockNet model) is = absurd is
-  over_of (BlockLatch model) is = absurd is
-  over_of (BlockBind model) is = absurd is
-  over_of (NotWords instance word) is = absurd is
-  over_of OutputNotWords is = absurd is
-  over_of (InstanceLoop number) is = absurd is
-  over_of OutOfMemory is = absurd is
+  over_of fault is = absurd is
 
   module _ (ring : IsRing k mul) (field : HasNoZeroDivisors k mul) (given : IsGiven k h) (all : AreAllFeeds h rows) (have : HaveBlocks k mul h) (free : IsWithoutRing rows) where
     same_first : (a b : Joined BlockStage Stage) (m n : ℕ) → IsFirstOfComposition k mul h rows bound a m → IsFirstOfComposition k mul h rows bound b n → (a ≡ b) × (m ≡ n)

@@ -117,10 +117,7 @@ module _ (design : List ModelValue) (blocks : List BlockValue) (item : Item) whe
   reason_of (plans.BlockNet name) is = record { reason = NoNet; name = name; is = is; some = λ e. cc; fault_is = refl }
   reason_of (plans.BlockLatch name) is = record { reason = HasLatch; name = name; is = is; some = λ e. cc; fault_is = refl }
   reason_of (plans.BlockBind name) is = record { reason = NotBound; name = name; is = is; some = λ e. cc; fault_is = refl }
-  reason_of plans.FedInTop is = absurd is
-  reason_of (plans.GateInTop line) is = absurd is
-  reason_of (plans.NoBlock name) is = absurd is
-  reason_of plans.OutOfMemory is = absurd is
+  reason_of fault is = absurd is
 
   -- the reason is one of the block at this model
   module _ (n m : ℕ) (block : BlockValue) (at : IsBlockAt design blocks item n m block) (reason : BlockFault) (name : Token) (is : IsRefused design blocks item reason name) where

@@ -1,5 +1,5 @@
 -- What is known of a circuit beside a certificate, and the stops of a certificate.
-use Rattle.std.proofs.Common.{◌≡◌, refl, sym, subst, ℕ, List, Option, None, Some, Result, Ok, Err}
+use Rattle.std.proofs.Common.{◌≡◌, sym, subst, ℕ, List, Some, Result, Ok, Err}
 use Rattle.std.specs.Prelude.{IfOk}
 use Rattle.text_core.specs.Outcome.{Outcome, MayRefuse}
 use Rattle.gf_basis.specs.declared.bases.Basis.{Basis}
@@ -9,10 +9,9 @@ use Rattle.cert_check.specs.Verdict.{Check, verdict_of}
 use Rattle.cert_check.specs.declared.fault.CertFault.{CertFault}
 use Rattle.cert_check.specs.declared.fault.CertFault.TheVariants as text
 use Rattle.cert_make.specs.Upgrade.{UpgradeOf}
-use Rattle.job_words.specs.Stop.{GivesBy, IsMiss}
+use Rattle.job_words.specs.Stop.{GivesBy}
 use Rattle.job_words.specs.declared.fault.Fault.{Fault}
 use Rattle.job_words.specs.declared.stop.Stop.{Stop}
-use Rattle.job_words.specs.declared.stop.Stop.TheVariants as stops
 use Rattle.job_input.specs.Setting.{IsReady, IsTakenFor}
 use Rattle.job_input.specs.declared.setting.Setting.{Setting}
 use Rattle.job_input.specs.SettingValue.{SettingValue}
@@ -20,37 +19,14 @@ use Rattle.gf_abs.specs.Certificates.{HaveDuals, certificate_labels, sum_fault, 
 use Rattle.gf_abs.specs.commands.Upgrade.{UpgradedOf}
 use Rattle.gf_abs.specs.commands.Verify.{VerdictOf}
 use Rattle.gf_abs.specs.declared.certificates.Certified.{Certified}
-use Rattle.gf_abs.specs.private.CertificateStop.{IsStopOf}
-use Rattle.gf_abs.specs.private.StageStop.{IsRefusalOf}
+use Rattle.gf_abs.specs.private.StageStop.{IsStopOf}
+use Rattle.gf_abs.proofs.RefusalLemmas.{stopped, IsNoMiss}
 
 -- what is taken for a setting as a netlist is still taken for it as a circuit
 pub still_taken : (setting : Setting) (netlist : BoundNet) (result : Result Certified Stop) → IfOk result (λ certified. (k : ℕ) (other : Setting) → IsTakenFor k other netlist → IsTakenFor k other certified.circuit)
     → ((k : ℕ) (product : ℕ → ℕ → ℕ) → IsReady k product setting → IsTakenFor k setting netlist) → IfOk result (λ certified. (k : ℕ) (product : ℕ → ℕ → ℕ) → IsReady k product setting → IsTakenFor k setting certified.circuit)
 still_taken setting netlist (Ok certified) keeps taken = λ k product ready. keeps k setting (taken k product ready)
 still_taken setting netlist (Err stop) keeps taken = tt
-
--- ---- stops
-
--- no fault of a certificate is that of a missing file
-abbrev IsNoMiss : Option Fault → Type 0
-IsNoMiss None = Unit {0}
-IsNoMiss (Some fault) = IsMiss fault → ⊥
-
-module _ {X A : Type 0} (view : X → A) (outcome : Outcome Fault A) where
-  refused_for : (fault : Fault) (stop : Stop) → (IsMiss fault → ⊥) → outcome (Err fault) → IsRefusalOf fault stop → GivesBy view (Err stop) outcome ⊥ ⊥
-  refused_for fault (stops.Refused refused) other may same =
-      let P : Fault → Type 0 = λ f. outcome (Err f) in
-      let Q : Fault → Type 0 = IsMiss in
-      (subst P (sym same) may, λ miss. other (subst Q same miss))
-  refused_for fault stops.Outside other may same = absurd same
-  refused_for fault stops.OutOfMemory other may same = tt
-
-  -- a stop of a fault that may come is one that may come
-  pub stopped : (fault : Option Fault) (stop : Stop) → IsNoMiss fault → ((f : Fault) → fault ≡ Some f → outcome (Err f)) → IsStopOf fault stop → GivesBy view (Err stop) outcome ⊥ ⊥
-  stopped (Some fault) stop other may is = refused_for fault stop other (may fault refl) is
-  stopped None stop other may same =
-      let P : Stop → Type 0 = λ s. GivesBy view (Err s) outcome ⊥ ⊥ in
-      subst P (sym same) tt
 
 -- ---- faults of certificates
 

@@ -6,8 +6,8 @@ ghost use Rattle.job_input.specs.Labelling.{circuit_labels};
 ghost use Rattle.job_input.specs.Setting.{IsReady, IsTakenFor};
 ghost use Rattle.job_input.specs.declared.setting.Setting.{Setting as SettingOfJob};
 ghost use Rattle.gf_abs.specs.Certificates.{CertifiedBy, CertifiedIn, CertifiedOver, sum_fault, sum_name as name_of_sum, text_fault};
-ghost use Rattle.gf_abs.specs.private.CertificateStop.{certified_of, IsStopOf};
-ghost use Rattle.gf_abs.specs.private.StageStop.{stage_fault, IsRefusalOf};
+ghost use Rattle.gf_abs.specs.private.CertificateStop.{certified_of};
+ghost use Rattle.gf_abs.specs.private.StageStop.{stage_fault, IsRefusalOf, IsStopOf};
 
 use cert_check::CertFault;
 use gf_field::Field;

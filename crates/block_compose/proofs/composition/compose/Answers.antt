@@ -11,8 +11,7 @@ use Rattle.instance_order.specs.LevelOrder.{IsLevelOrder}
 use Rattle.block_wiring.specs.Answer.{AreWired}
 use Rattle.block_wiring.specs.Instanced.{hierarchy, IsInstanced}
 use Rattle.block_wiring.specs.Refusal.{IsWiringFault}
-use Rattle.block_compose.specs.Composed.{hierarchy_of, Composes, HasNoRing, MayFault, StagesOf}
-use Rattle.block_compose.specs.declared.fault.ComposeFault.{ComposeFault}
+use Rattle.block_compose.specs.Composed.{hierarchy_of, HasNoRing, MayFault, StagesOf}
 use Rattle.block_compose.proofs.ComposeLemmas.{composed, hierarchy_is, no_ring, plan_refused, ring_refused, rows_few, rows_inside, stage_refused, wiring_refused}
 use Rattle.block_compose.proofs.ReadyLemmas.{instanced}
 use Rattle.block_compose.proofs.composition.compose.Goals as goal
@@ -24,9 +23,7 @@ returns-in-Err-clause-refusal g c =
     let design : List ModelValue = c.args.design.now in
     let signature : SignatureValue = c.args.signature.now in
     let bases : List (List Basis) = c.args.bases.now in
-    let h : Hierarchy = hierarchy_of design signature bases in
-    let P : ComposeFault → Type 0 = MayFault (Composes k mul design signature bases c.args.bound) in
-    subst P (sym c.of_plan.ensures) (plan_refused k mul design signature bases c.args.bound c.in-Err.fault c.in-Err.ensures.fault)
+    plan_refused k mul design signature bases c.args.bound c.in-Err.fault c.in-Err.ensures.fault
 
 pub wiring_of-requires : goal.wiring_of-requires
 wiring_of-requires g c =
@@ -53,9 +50,8 @@ returns-in-Err-wiring_of-clause-refusal g c =
     let bases : List (List Basis) = c.args.bases.now in
     let h : Hierarchy = hierarchy_of design signature bases in
     let same : hierarchy design c.words.result.now c.blocks-2.result.now c.lists-lists.result.now ≡ h = hierarchy_is design signature c.words.result.now c.blocks-2.result.now c.lists-lists.result.now bases c.words.ensures c.blocks-2.ensures c.lists-lists.ensures in
-    let P : ComposeFault → Type 0 = MayFault (Composes k mul design signature bases c.args.bound) in
-    let Q : Hierarchy → Type 0 = λ top. IsWiringFault top c.in-Err-wiring_of.fault in
-    subst P (sym c.of_wiring.ensures) (wiring_refused k mul design signature bases c.args.bound c.in-Ok.ensures.planned.uses c.in-Ok.ensures.planned.are c.in-Err-wiring_of.fault (subst Q same c.in-Err-wiring_of.ensures.refused))
+    let P : Hierarchy → Type 0 = λ top. IsWiringFault top c.in-Err-wiring_of.fault in
+    wiring_refused k mul design signature bases c.args.bound c.in-Ok.ensures.planned.uses c.in-Ok.ensures.planned.are c.in-Err-wiring_of.fault (subst P same c.in-Err-wiring_of.ensures.refused)
 
 pub wired_order-requires-clause-few : goal.wired_order-requires-clause-few
 wired_order-requires-clause-few g c =
