@@ -60,6 +60,7 @@ impl Combinational {
     pub fn bound(&self) -> &Bound
         ensures bound { result.now ≡ self.now.bound }
         ensures flat { self.now.net.latches ≡ [] }
+        ensures sound { IsSound self.now.net }
         ensures is_bound { IsOneCycle self.now.net self.now.bound }
     {
         &self.bound
@@ -70,6 +71,7 @@ impl Combinational {
     pub fn rank_of(&self, net: u32) -> u32
         ensures ranked { net < nets self.now.net → IsRanked (variables (nets self.now.net) self.now.bound.words) result net }
         ensures within { net < nets self.now.net → result < nets self.now.net }
+        ensures is_bound { IsOneCycle self.now.net self.now.bound }
     {
         self.bound.rank_of(net)
     }

@@ -23,7 +23,6 @@ pub fn rank(circuit: &Combinational, net: u32) -> u32
     requires { net < nets circuit.now.net }
     ensures { result ≡ rank_in (variables (nets circuit.now.net) circuit.now.bound.words) net }
 {
-    let _bound = circuit.bound();
     circuit.rank_of(net)
 }
 
