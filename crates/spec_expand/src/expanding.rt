@@ -13,12 +13,11 @@ ghost use Rattle.spec_expand.specs.private.Expanding.{IsSetting, IsReached, IsTe
 use crate::ones::ones;
 use crate::places::word_places;
 use crate::power::power_of_word;
-use crate::size::check_size;
 use crate::{Spec, SpecTerm};
 use gf_basis::Basis;
 use gf_field::Field;
 use net_words::Combinational;
-use poly_mixed::{Poly, ReduceFault, Stage, constant};
+use poly_mixed::{Poly, ReduceFault, Stage, check_size, constant};
 use std::alloc::Global;
 
 // The product of a term's coefficient and its first factors, and how many these are.

@@ -10,7 +10,6 @@ mod places;
 mod power;
 mod reader;
 mod scan;
-mod size;
 mod spec;
 
 pub use expanding::expand;

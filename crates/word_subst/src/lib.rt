@@ -10,7 +10,6 @@ mod places;
 mod product;
 mod products;
 mod rest;
-mod size;
 mod sums;
 mod tell;
 mod term;

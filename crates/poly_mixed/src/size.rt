@@ -1,7 +1,7 @@
 //! The bound on the size of a stage.
 ghost use Rattle.std.specs.Prelude.{◌≡◌, ◌<◌, ◌≤◌, IfErr, OnOk};
 
-use poly_mixed::{ReduceFault, Stage};
+use crate::{ReduceFault, Stage};
 
 /// Refuses a stage of more terms than the bound.
 pub fn check_size(terms: usize, bound: u32, stage: Stage) -> Result<(), ReduceFault>
