@@ -11,9 +11,9 @@ ghost use Rattle.spec_expand.specs.Expanded.{IsExpansion};
 ghost use Rattle.spec_expand.specs.private.Expanding.{IsSetting, IsReached, IsTermRefusal};
 
 use crate::ones::ones;
-use crate::places::word_places;
 use crate::power::power_of_word;
 use crate::{Spec, SpecTerm};
+use circuit_model::word_places;
 use gf_basis::Basis;
 use gf_field::Field;
 use net_words::Combinational;

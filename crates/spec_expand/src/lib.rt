@@ -6,7 +6,6 @@ mod expanding;
 mod fault;
 mod laws;
 mod ones;
-mod places;
 mod power;
 mod reader;
 mod scan;

@@ -6,7 +6,6 @@ mod at_once;
 mod forms;
 mod laws;
 mod multiple;
-mod places;
 mod product;
 mod products;
 mod rest;

@@ -7,8 +7,8 @@ ghost use Rattle.stage_model.specs.WordListing.{word_listing};
 ghost use Rattle.circuit_model.specs.Bases.{AreBases, circuit_in};
 ghost use Rattle.word_subst.specs.Recorded.{IsRecorded};
 
-use crate::places::word_places;
 use crate::word::one_word;
+use circuit_model::word_places;
 use gf_basis::Basis;
 use gf_field::Field;
 use net_words::Combinational;

@@ -17,7 +17,7 @@ use Rattle.circuit_model.specs.Bases.{AreBases}
 use Rattle.spec_expand.specs.Specification.{SpecTerms}
 use Rattle.spec_expand.specs.SpecValue.{spec_at, factors_of, product_at}
 use Rattle.spec_expand.specs.SpecListing.{IsAtPoint}
-use Rattle.spec_expand.specs.private.Places.{places_from}
+use Rattle.circuit_model.specs.Places.{places_from}
 
 -- a sound net with its words, bases of a field, and the numbers of the input, state and fed words
 pub record IsSetting (k : ℕ) (mul : ℕ → ℕ → ℕ) (bound : BoundNet) (bases : List Basis) (places : List ℕ) : Type 0 where

@@ -1,7 +1,7 @@
 use Rattle.std.proofs.Common.{arith}
 use Rattle.graph_core.proofs.ListLemmas.{get_below}
-use Rattle.word_subst.proofs.PlaceList.{next_word}
-use Rattle.word_subst.proofs.places.word_places.Goals as goal
+use Rattle.circuit_model.proofs.PlaceLemmas.{next_word}
+use Rattle.circuit_model.proofs.places.word_places.Goals as goal
 
 pub loop-v-preserved : goal.loop-v-preserved
 loop-v-preserved c =

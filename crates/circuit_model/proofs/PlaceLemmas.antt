@@ -7,7 +7,7 @@ use Rattle.net_words.specs.declared.word.Role.{Role}
 use Rattle.net_words.specs.declared.word.Role.TheVariants.{Input, State, Fed, Output}
 use Rattle.circuit_model.specs.Word.{Word}
 use Rattle.circuit_model.specs.OfBinding.{word_with, words_of}
-use Rattle.word_subst.specs.Places.{place_with, places_from}
+use Rattle.circuit_model.specs.Places.{place_with, places_from}
 
 -- the numbers of the words from v on
 from_word : (words : List BoundWord) (v : ℕ) (word : BoundWord) → slice_get words v ≡ Some word → places_from v (drop v words) ≡ place_with word.role v ++ places_from (v + 1) (drop (v + 1) words)

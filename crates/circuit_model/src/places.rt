@@ -1,6 +1,6 @@
 //! The input, state and fed words of a binding.
 ghost use Rattle.std.specs.Prelude.{◌≡◌, ◌<◌, ◌++◌, length, slice_get, IfOk, OnOk, Some};
-ghost use Rattle.word_subst.specs.Places.{place_with, places_from};
+ghost use Rattle.circuit_model.specs.Places.{place_with, places_from};
 
 use net_words::{Bound, Role};
 use std::alloc::{AllocError, Global};
