@@ -20,6 +20,6 @@ pub use laws::{
     taken_circuits_are_well_formed, well_formed_circuits_are_jobs,
 };
 pub use net_bits::number_of_bits;
-pub use output_word::{is_output, output_basis};
+pub use output_word::{is_output, output_basis, output_nets};
 pub use places::word_places;
 pub use plain::output;

@@ -5,8 +5,8 @@ use Rattle.net_words.specs.Binding.{HasWidth}
 use Rattle.net_words.specs.BoundTo.{output_bits_with}
 use Rattle.net_words.specs.declared.word.Role.{Role}
 use Rattle.net_words.proofs.MemberLemmas.{output_width}
-use Rattle.cert_check.proofs.OutputLemmas.{take_more}
-use Rattle.cert_check.proofs.running.add_word.Goals as goal
+use Rattle.circuit_model.proofs.OutputNetsLemmas.{take_more}
+use Rattle.circuit_model.proofs.output_word.add_word.Goals as goal
 
 pub loop-place-preserved : goal.loop-place-preserved
 loop-place-preserved c word at =

@@ -1,6 +1,7 @@
 use Rattle.std.proofs.Common.{arith}
-use Rattle.cert_check.proofs.OutputLemmas.{some_at, one_word}
-use Rattle.cert_check.proofs.running.output_nets.Goals as goal
+use Rattle.circuit_model.proofs.OutputBasisLemmas.{some_at}
+use Rattle.circuit_model.proofs.OutputNetsLemmas.{one_word}
+use Rattle.circuit_model.proofs.output_word.output_nets.Goals as goal
 
 pub loop-w-preserved : goal.loop-w-preserved
 loop-w-preserved c =

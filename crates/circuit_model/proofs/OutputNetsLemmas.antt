@@ -13,11 +13,6 @@ use Rattle.net_words.specs.declared.bound.BoundWord.{BoundWord}
 use Rattle.net_words.specs.declared.word.Role.{Role}
 use Rattle.net_words.specs.declared.word.Role.TheVariants.{Input, State, Fed, Output}
 
-pub some_at : {A : Type 0} (xs : List A) (i : ℕ) → i < length xs → (x : A) × (slice_get xs i ≡ Some x)
-some_at [] i less = absurd (omega arith)
-some_at (x ∷ xs) zero less = (x, refl)
-some_at (x ∷ xs) (suc i) less = some_at xs i (omega arith)
-
 pub take_more : (xs : List ℕ) (t : ℕ) → t < length xs → take (t + 1) xs ≡ take t xs ++ get_or xs t 0 ∷ []
 take_more xs t less = let up : t + 1 ≡ suc t = omega arith in ap (λ n. take n xs) up ∙ more xs t less
   where
