@@ -22,4 +22,4 @@ pub use laws::{
 pub use net_bits::number_of_bits;
 pub use output_word::{is_output, output_basis, output_nets};
 pub use places::word_places;
-pub use plain::output;
+pub use plain::{bit_in_word, element, output};
