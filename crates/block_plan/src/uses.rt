@@ -13,7 +13,7 @@ ghost use Rattle.block_plan.specs.private.Found.{AreFound, IsAdded, IsFound};
 
 use crate::PlanFault;
 use crate::table::{Numbers, number_of, numbers_of};
-use net_blif::{Design, Item, text_of};
+use net_blif::{Design, Item, is_instance, model_in};
 use net_core::Name;
 use net_signature::Block;
 use std::alloc::Global;
@@ -23,23 +23,6 @@ use std::alloc::Global;
 pub(crate) struct Found {
     pub(crate) block: u32,
     pub(crate) model: u32,
-}
-
-fn is_instance(item: &Item<'_>) -> bool
-    ensures { result ≡ instance_is item.now }
-{
-    matches!(item, Item::Instance { .. })
-}
-
-// The name of the model of an instance.
-fn model_in<'a>(item: &Item<'a>) -> &'a str
-    requires sound { IsSoundItem item.now }
-    ensures { result.now ≡ model_of_item item.now }
-{
-    match item {
-        Item::Instance { model, .. } => text_of(model.bytes()),
-        _ => "",
-    }
 }
 
 // What is found of an instance.

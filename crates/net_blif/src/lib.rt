@@ -35,3 +35,4 @@ pub use read::read_blif;
 pub use table::Table;
 pub use token::Token;
 pub use token_list::TokenSlice;
+pub use top::{is_instance, model_in};

@@ -38,7 +38,8 @@ fn first_line_in(items: &ItemList) -> Option<u32>
     None
 }
 
-fn is_instance(item: &Item<'_>) -> bool
+/// Whether an item is an instance.
+pub fn is_instance(item: &Item<'_>) -> bool
     ensures { result ≡ instance_is item.now }
 {
     matches!(item, Item::Instance { .. })
@@ -128,8 +129,8 @@ fn actual_in<'a>(formal: &str, item: &Item<'a>) -> Option<&'a str>
     }
 }
 
-// The name of the model of an instance.
-fn model_in<'a>(item: &Item<'a>) -> &'a str
+/// The name of the model of an instance; another item has the empty one.
+pub fn model_in<'a>(item: &Item<'a>) -> &'a str
     requires sound { IsSoundItem item.now }
     ensures { result.now ≡ model_of_item item.now }
 {

@@ -6,6 +6,8 @@ mod lines;
 mod name;
 mod number;
 
-pub use lines::{before_comment, is_printing, next_line, plain_text, printing_text, tokens};
+pub use lines::{
+    ascii_text, before_comment, is_printing, next_line, plain_text, printing_text, tokens,
+};
 pub use name::is_name;
 pub use number::{read_decimal, read_hex};
