@@ -189,6 +189,28 @@ fn after_term_0(bytes: &[u8]) -> Result<Next<'_>, PolyFault>
     }
 }
 
+// Puts a word into a monomial that lacks it, with the exponent that stands after it.
+fn add_word<'a>(
+    mono: &mut Mono,
+    k: u32,
+    word: usize,
+    bytes: &'a [u8],
+) -> Result<&'a [u8], PolyFault>
+    requires { (1 ≤ k) × (k ≤ 64) }
+    ensures { IsAdded (with_variable k mono.old (Ok (Variable.Word word, bytes.now))) mono.new result }
+{
+    if word >= 8 || mono.exponents()[word] != 0 {
+        return Err(PolyFault::Syntax);
+    }
+    match exponent(k, bytes) {
+        Ok((exponent, rest)) => {
+            mono.set_exponent(word, exponent);
+            Ok(rest)
+        }
+        Err(fault) => Err(fault),
+    }
+}
+
 // Puts a variable into a monomial that lacks it, with the exponent that stands after a word.
 fn add_variable<'a>(
     mono: &mut Mono,
@@ -200,18 +222,7 @@ fn add_variable<'a>(
     ensures { IsAdded (with_variable k mono.old (Ok (variable, bytes.now))) mono.new result }
 {
     match variable {
-        Variable::Word(word) => {
-            if word >= 8 || mono.exponents()[word] != 0 {
-                return Err(PolyFault::Syntax);
-            }
-            match exponent(k, bytes) {
-                Ok((exponent, rest)) => {
-                    mono.set_exponent(word, exponent);
-                    Ok(rest)
-                }
-                Err(fault) => Err(fault),
-            }
-        }
+        Variable::Word(word) => add_word(mono, k, word, bytes),
         Variable::Rank(rank) => {
             if mono.has(rank) {
                 return Err(PolyFault::Syntax);
