@@ -10,8 +10,8 @@ use gf_field::{Ring, Ring2k, power};
 use irreducible::Proved;
 use std::alloc::{AllocError, Global};
 
-// The element x.
-fn indeterminate(ring: &Proved<Ring2k>) -> u64
+/// The element x.
+pub fn indeterminate(ring: &Proved<Ring2k>) -> u64
     ensures is { result ≡ x_of (degree_of (ring_of ring.now)) (modulus_of (ring_of ring.now)) }
     ensures element { result < 2 ^ degree_of (ring_of ring.now) }
 {

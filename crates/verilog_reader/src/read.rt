@@ -5,8 +5,8 @@ ghost use Rattle.verilog_reader.specs.Modules.{Module, VerilogNet};
 
 use crate::module::read_module;
 use crate::scope::Scope;
-use net_core::{Net, NetFault, NetMaker};
-use net_verilog::{Cursor, VerilogFault};
+use net_core::{Net, NetMaker};
+use net_verilog::{Cursor, VerilogFault, fault_of};
 use std::alloc::Global;
 use std::hash::{DefaultHasher, Hasher};
 
@@ -29,16 +29,6 @@ fn read_text(alloc: Global, bytes: &[u8]) -> Result<NetMaker, VerilogFault>
     match read_module(alloc, &mut maker, &mut declared, &Cursor::new(bytes)) {
         Ok(()) => Ok(maker),
         Err(fault) => Err(fault),
-    }
-}
-
-// A fault of nets, or want of memory.
-fn fault_of(fault: NetFault) -> VerilogFault
-    ensures { ((fault ≡ NetFault.OutOfMemory) × (result ≡ VerilogFault.OutOfMemory)) ⊎ (¬ (fault ≡ NetFault.OutOfMemory) × (result ≡ VerilogFault.Net fault)) }
-{
-    match fault {
-        NetFault::OutOfMemory => VerilogFault::OutOfMemory,
-        fault => VerilogFault::Net(fault),
     }
 }
 
