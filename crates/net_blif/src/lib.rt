@@ -31,6 +31,7 @@ pub use formals::text_of;
 pub use item::Item;
 pub use item_list::ItemList;
 pub use laws::{one_design_or_fault, table_by_bits};
+pub use model_list::with_number;
 pub use read::read_blif;
 pub use table::Table;
 pub use token::Token;
