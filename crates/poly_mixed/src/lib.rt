@@ -28,7 +28,7 @@ pub use labels::Labels;
 pub use laws::{
     one_poly_or_fault, one_size, one_text, text_order, text_reads_back, unique, unique_in_bits,
 };
-pub use mono::Mono;
+pub use mono::{Mono, place_of, sum_exponents};
 pub use named::is_named;
 pub use poly::Poly;
 pub use read::read_poly;
