@@ -1,7 +1,7 @@
 use Rattle.std.proofs.Common.{◌∙◌, sym, arith, ◌+◌, ◌*◌, length, drop, get_or}
 use Rattle.text_core.specs.Numbers.{value_of, digit_value}
 use Rattle.text_core.proofs.DigitLemmas.{value-step, value-front}
-use Rattle.poly_mixed.proofs.scan.value.Goals as goal
+use Rattle.text_core.proofs.digits.value_in_base.Goals as goal
 
 pub returns-in-None : goal.returns-in-None
 returns-in-None c =
