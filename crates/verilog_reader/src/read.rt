@@ -5,17 +5,9 @@ ghost use Rattle.verilog_reader.specs.Modules.{Module, VerilogNet};
 
 use crate::module::read_module;
 use crate::scope::Scope;
-use net_core::{Net, NetMaker};
+use net_core::{Net, NetMaker, key_of};
 use net_verilog::{Cursor, VerilogFault, fault_of};
 use std::alloc::Global;
-use std::hash::{DefaultHasher, Hasher};
-
-// The key of a text, which is not known before the text is.
-fn key_of(text: &[u8]) -> u64 {
-    let mut state = DefaultHasher::new();
-    state.write(text);
-    state.finish()
-}
 
 // The net list of a text.
 fn read_text(alloc: Global, bytes: &[u8]) -> Result<NetMaker, VerilogFault>
