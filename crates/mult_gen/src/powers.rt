@@ -39,8 +39,8 @@ pub(crate) fn powers_of_x(
     Ok(powers)
 }
 
-/// Whether a bit, below 64, of a power is 1.
-pub(crate) fn has_bit(power: u64, bit: usize) -> bool
+/// Whether a bit, below 64, of a number is 1.
+pub fn has_bit(power: u64, bit: usize) -> bool
     requires { bit < 64 }
     ensures { result ≡ (bit_at power bit == 1) }
 {
