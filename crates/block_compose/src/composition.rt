@@ -45,7 +45,6 @@ pub fn compose<F: Field>(
     ensures polynomial { IfOk result (λ poly. Composes (F.degree field.now) (F.product field.now) design.now signature.now bases.now bound (Ok poly.terms)) }
     ensures refusal { IfErr result (MayFault (Composes (F.degree field.now) (F.product field.now) design.now signature.now bases.now bound)) }
 {
-    let _count = design.models();
     let plan = match plan_blocks(alloc, design, signature) {
         Ok(plan) => plan,
         Err(fault) => return Err(ComposeFault::Plan(fault)),

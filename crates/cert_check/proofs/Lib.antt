@@ -7,7 +7,6 @@ pub mod CheckLemmas
 pub mod EndLemmas
 pub mod RankLemmas
 pub mod InsideLemmas
-pub mod OutputLemmas
 pub mod WordsLemmas
 pub mod FormLemmas
 pub mod SumLemmas

@@ -221,13 +221,13 @@ fn verdict_from<F: Field>(
     requires k { circuit.now.bound.k ≡ F.degree field.now }
     requires bases { AreBases (F.degree field.now) (F.product field.now) circuit.now bases.now }
     requires labels { NameWords circuit.now.bound labels.now }
+    requires few { length labels.now.words ≤ 8 }
     requires drivers { AreDrivers circuit.now.net drivers.now }
     requires size { length bytes.now ≤ 67108864 }
     requires sum { IsRunningSum (F.degree field.now) (F.product field.now) circuit.now bases.now (begun claim.terms) sum.terms }
     requires within { length sum.terms ≤ bound }
     ensures { Fits refusal verdict_of result (VerdictFrom (F.degree field.now) (F.product field.now) circuit.now bases.now labels.now bound version (lines bytes.now) 3 (begun claim.terms)) }
 {
-    let _words = labels.words();
     let held = RunningSum::new(alloc, sum);
     let mut checking = Checking {
         claim,
@@ -272,6 +272,7 @@ fn verdict_on<F: Field>(
     requires k { circuit.now.bound.k ≡ F.degree field.now }
     requires bases { AreBases (F.degree field.now) (F.product field.now) circuit.now bases.now }
     requires labels { NameWords circuit.now.bound labels.now }
+    requires few { length labels.now.words ≤ 8 }
     requires drivers { AreDrivers circuit.now.net drivers.now }
     requires size { length bytes.now ≤ 67108864 }
     ensures { Fits refusal verdict_of result (Check (F.degree field.now) (F.product field.now) circuit.now bases.now labels.now bound bytes.now) }

@@ -29,7 +29,6 @@ pub(crate) fn rank(circuit: &Combinational, net: u32) -> u32
     requires { net < nets circuit.now.net }
     ensures { result ≡ rank_among (variables (nets circuit.now.net) circuit.now.bound.words) net }
 {
-    let _bound = circuit.bound();
     circuit.rank_of(net)
 }
 

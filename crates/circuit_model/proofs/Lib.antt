@@ -12,6 +12,8 @@ pub mod OneRunLemmas
 pub mod OnesLemmas
 pub mod OutLemmas
 pub mod OutputBasisLemmas
+pub mod OutputNetsLemmas
+pub mod PlaceLemmas
 pub mod PlainLemmas
 pub mod SliceLemmas
 pub mod SomeRunLemmas

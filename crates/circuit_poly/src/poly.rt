@@ -30,7 +30,6 @@ pub fn circuit_poly<F: Field>(
     ensures fault { IfErr result (IsFirstRefusal (F.degree field.now) (F.product field.now) (stages_in (F.degree field.now) (F.product field.now) circuit.now bases.now) bound) }
 {
     let basis = output_basis(circuit.bound(), bases);
-    let _gates = circuit.net().gates();
     let bits = match reduce_bits(alloc, field, circuit, basis, bound, &mut NoSteps) {
         Ok(bits) => bits,
         Err(fault) => return Err(fault),

@@ -1,6 +1,8 @@
 //! What the commands over certificates share: their labels, their files, and faults of texts.
 ghost use Rattle.std.specs.Prelude.{◌≡◌, ◌≤◌, ℕ, length, IfOk};
 ghost use Rattle.job_io.specs.Counts.{Rose};
+ghost use Rattle.net_core.specs.Sound.{IsSound};
+ghost use Rattle.net_words.specs.OneCycle.{IsOneCycle};
 ghost use Rattle.job_words.specs.Stop.{GivesBy};
 ghost use Rattle.job_input.specs.Labelling.{circuit_labels};
 ghost use Rattle.job_input.specs.Setting.{IsReady, IsTakenFor};
@@ -30,7 +32,7 @@ pub(crate) struct Certified {
     pub(crate) text: Vec<u8>,
 }
 
-/// The labels of a circuit's certificates.
+/// The labels of a circuit's certificates, and what the circuit keeps.
 pub(crate) fn certificate_labels<F: Field>(
     alloc: Global,
     field: &F,
@@ -39,7 +41,9 @@ pub(crate) fn certificate_labels<F: Field>(
 ) -> Result<Labels, AllocError>
     requires ready { IsReady (F.degree field.now) (F.product field.now) setting.now }
     requires taken { IsTakenFor (F.degree field.now) setting.now circuit.now }
-    ensures { IfOk result (λ labels. labels ≡ circuit_labels (F.degree field.now) setting.now.signature.words circuit.now) }
+    ensures labels { IfOk result (λ labels. labels ≡ circuit_labels (F.degree field.now) setting.now.signature.words circuit.now) }
+    ensures sound { IsSound circuit.now.net }
+    ensures is_bound { IsOneCycle circuit.now.net circuit.now.bound }
 {
     let labels = circuit_labels_for(alloc, setting.signature.words(), field.k(), circuit)?;
     Ok(labels)

@@ -151,7 +151,6 @@ fn model_name(design: &Design, place: u32) -> &str
     requires { place < length (instances_of design.now) }
     ensures { (item : Item) → slice_get (instances_of design.now) place ≡ Some item → result.now ≡ model_in item }
 {
-    let _count = design.models();
     design.name(design.instance_model(place))
 }
 

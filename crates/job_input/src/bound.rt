@@ -1,5 +1,6 @@
 //! Nets with the words and feeds that are bound to them, whose cycles are not unrolled yet.
 ghost use Rattle.std.specs.Prelude.{◌≡◌};
+ghost use Rattle.net_core.specs.Sound.{IsSound};
 ghost use Rattle.net_words.specs.BoundTo.{IsBoundTo};
 
 use net_core::Net;
@@ -28,10 +29,10 @@ impl Model for BoundNetlist {
 impl BoundNetlist {
     // The net with the words and feeds that are bound to it.
     pub(crate) fn new(net: Net, bound: Bound) -> BoundNetlist
-        requires { IsBoundTo net bound }
+        requires sound { IsSound net }
+        requires bound_to { IsBoundTo net bound }
         ensures { result ≡ record { net = net; bound = bound } }
     {
-        let _count = net.nets();
         BoundNetlist { net, bound }
     }
 

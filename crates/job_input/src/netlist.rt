@@ -57,7 +57,6 @@ pub(crate) fn bound_to(
     ensures fits { FitsNetlist result (WordsBound words.now feeds.now net) }
     ensures bits { IfOk result (λ netlist. netlist.bound.k ≡ bits_of words.now) }
 {
-    let _count = net.nets();
     match bind(alloc, words, feeds, &net) {
         Ok(bound) => Ok(BoundNetlist::new(net, bound)),
         Err(fault) => Err(binding_fault(alloc, words, &net, fault)),

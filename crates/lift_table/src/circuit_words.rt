@@ -1,5 +1,5 @@
 //! The words of a circuit of one cycle with their bases, for the plain program that evaluates it.
-ghost use Rattle.std.specs.Prelude.{◌≡◌, ◌<◌, ◌++◌, ◌↔◌, length, map, slice_get, Some, IfOk, IsTrue, OnOk};
+ghost use Rattle.std.specs.Prelude.{◌≡◌, ◌<◌, ◌++◌, length, map, slice_get, Some, IfOk, OnOk};
 ghost use Rattle.gf_basis.specs.BasisParts.{elements_of, IsBasisOver};
 ghost use Rattle.net_words.specs.OneCycle.{IsOneCycle};
 ghost use Rattle.net_words.specs.declared.word.Role.TheVariants.{Output};
@@ -7,7 +7,7 @@ ghost use Rattle.circuit_model.specs.Bases.{AreBases, circuit_in};
 ghost use Rattle.circuit_model.specs.Flat.{AreOver, word_of};
 ghost use Rattle.circuit_model.specs.OfBinding.{word_with};
 
-use circuit_model::CircuitWord;
+use circuit_model::{CircuitWord, is_output};
 use gf_basis::Basis;
 use gf_field::Field;
 use net_words::{Combinational, Role};
@@ -66,16 +66,6 @@ fn output_place(circuit: &Combinational) -> u32
         }
     }
     unreachable!()
-}
-
-// Whether a word is the output.
-fn is_output(role: Role) -> bool
-    ensures { IsTrue result ↔ (role ≡ Output) }
-{
-    match role {
-        Role::Output => true,
-        Role::Input | Role::State | Role::Fed => false,
-    }
 }
 
 // Adds the next word, unless it is the output word.

@@ -9,8 +9,8 @@ use crate::{Driver, Operator, VerilogFault};
 use net_core::{NetFault, NetMaker};
 use std::alloc::Global;
 
-// A fault of nets, or want of memory.
-fn fault_of(fault: NetFault) -> VerilogFault
+/// A fault of nets, or want of memory.
+pub fn fault_of(fault: NetFault) -> VerilogFault
     ensures { ((fault ≡ NetFault.OutOfMemory) × (result ≡ VerilogFault.OutOfMemory)) ⊎ (¬ (fault ≡ NetFault.OutOfMemory) × (result ≡ VerilogFault.Net fault)) }
 {
     match fault {

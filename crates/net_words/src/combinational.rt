@@ -32,12 +32,13 @@ impl Model for Combinational {
 impl Combinational {
     /// A net with its words, where nothing is left to unroll; both are handed back where the net has latches, the binding
     /// has a feed, or a fed word has no nets. Where none of these holds, the binding is of this net, and no chain of gates
-    /// leads from a primary input in no word to a bit of the output word.
+    /// leads from a primary input in no word to a bit of the output word. That the net is sound is said once more.
     pub fn new(net: Net, bound: Bound) -> Result<Combinational, (Net, Bound)>
         requires { IsFlat net bound → IsOneCycle net bound }
         ensures made { IfOk result (λ circuit. circuit ≡ record { net = net; bound = bound }) }
         ensures flat { IsOk result ↔ IsFlat net bound }
         ensures back { IfErr result (λ pair. (pair.0 ≡ net) × (pair.1 ≡ bound)) }
+        ensures sound { IsSound net }
     {
         if is_flat(&net, &bound) {
             Ok(Combinational { net, bound })
@@ -60,6 +61,7 @@ impl Combinational {
     pub fn bound(&self) -> &Bound
         ensures bound { result.now ≡ self.now.bound }
         ensures flat { self.now.net.latches ≡ [] }
+        ensures sound { IsSound self.now.net }
         ensures is_bound { IsOneCycle self.now.net self.now.bound }
     {
         &self.bound
@@ -70,6 +72,7 @@ impl Combinational {
     pub fn rank_of(&self, net: u32) -> u32
         ensures ranked { net < nets self.now.net → IsRanked (variables (nets self.now.net) self.now.bound.words) result net }
         ensures within { net < nets self.now.net → result < nets self.now.net }
+        ensures is_bound { IsOneCycle self.now.net self.now.bound }
     {
         self.bound.rank_of(net)
     }
@@ -83,9 +86,10 @@ impl Combinational {
     }
 }
 
-// Whether nothing is left to unroll.
+// Whether nothing is left to unroll; and that the net is sound.
 fn is_flat(net: &Net, bound: &Bound) -> bool
-    ensures { IsTrue result ↔ IsFlat net.now bound.now }
+    ensures flat { IsTrue result ↔ IsFlat net.now bound.now }
+    ensures sound { IsSound net.now }
 {
     net.latches().is_empty() && bound.feeds().is_empty() && have_nets(bound)
 }

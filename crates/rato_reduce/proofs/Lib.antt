@@ -2,7 +2,6 @@ mod RankLemmas
 mod Elimination
 mod PutIn
 mod FirstCut
-mod OutputNets
 mod Inside
 mod Bound
 mod Recorded

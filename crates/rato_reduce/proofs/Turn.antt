@@ -21,7 +21,7 @@ use Rattle.rato_reduce.specs.Recorded.{IsRecorded}
 use Rattle.poly_mixed.specs.Steps.{Step}
 use Rattle.rato_reduce.proofs.Elimination.{Settled, next_cut, to_cut, reversed}
 use Rattle.rato_reduce.proofs.FirstCut.{is_first}
-use Rattle.rato_reduce.proofs.OutputNets.{output_long}
+use Rattle.circuit_model.proofs.OutputNetsLemmas.{output_long}
 use Rattle.irreducible.specs.Span.{combination}
 use Rattle.net_words.specs.BoundTo.{output_bits}
 use Rattle.poly_mixed.specs.Polynomial.{IsPolynomialOf}

@@ -9,7 +9,8 @@ ghost use Rattle.rato_reduce.specs.Recorded.{IsRecorded};
 
 use crate::cut::Cut;
 use crate::eliminate::eliminate;
-use crate::first_cut::{first_cut, output_nets, places};
+use crate::first_cut::{first_cut, places};
+use circuit_model::output_nets;
 use gf_basis::Basis;
 use gf_field::Field;
 use net_core::{Net, order};

@@ -11,7 +11,6 @@ pub mod PrefixLemmas
 pub mod SaidLemmas
 pub mod GoodLemmas
 pub mod ReadLemmas
-pub mod PlaceLemmas
 pub mod BasisLemmas
 pub mod PowerLemmas
 pub mod SpecValueLemmas

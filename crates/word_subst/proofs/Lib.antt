@@ -12,7 +12,6 @@ mod OneTerm
 mod Told
 mod OneWord
 mod Lifted
-mod PlaceList
 mod AllWords
 mod Turn
 mod Callers

@@ -18,8 +18,8 @@ use Rattle.circuit_model.specs.WellFormed.{IsWellFormed}
 use Rattle.circuit_model.specs.OfBinding.{HaveBases}
 use Rattle.circuit_model.proofs.BoundLemmas.{bound_well}
 use Rattle.circuit_model.specs.Bases.{AreBases, circuit_in}
-use Rattle.word_subst.specs.Places.{places_from}
-use Rattle.word_subst.proofs.PlaceList.{places_long, word_at}
+use Rattle.circuit_model.specs.Places.{places_from}
+use Rattle.circuit_model.proofs.PlaceLemmas.{places_long, word_at}
 
 module _ (k : ℕ) (mul : ℕ → ℕ → ℕ) (b : BoundNet) (bases : List Basis) (are : AreBases k mul b bases) where
   all_long : length (map elements_of bases) ≡ length b.bound.words

@@ -48,7 +48,6 @@ fn in_words<F: Field>(
     ensures { IfOk result (λ q. IsReduced (F.degree field.now) q.terms) }
 {
     let basis = output_basis(circuit.bound(), bases);
-    let _gates = circuit.net().gates();
     let bits = match reduce_bits(alloc, field, circuit, basis, u32::MAX, &mut NoSteps) {
         Ok(bits) => bits,
         Err(fault) => return Err(fault),

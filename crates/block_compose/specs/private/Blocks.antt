@@ -28,10 +28,6 @@ instance_fault_of stages.OutOfMemory = OutOfMemory
 abbrev pub HasPoly : List (Option Polynomial) → ℕ → Type 0
 HasPoly polys number = (poly : Polynomial) × (slice_get polys number ≡ Some (Some poly))
 
--- a block has a circuit
-abbrev pub HasCircuit : List (Option BoundNet) → ℕ → Type 0
-HasCircuit circuits number = (circuit : BoundNet) × (slice_get circuits number ≡ Some (Some circuit))
-
 -- place by place, these are the polynomials of the blocks of these numbers
 pub record AreTaken (polys : List (Option Polynomial)) (numbers : List ℕ) (list : List Polynomial) : Type 0 where
   pub long : length list ≡ length numbers

@@ -70,7 +70,6 @@ fn reply<F: Field>(
 {
     let labels = labels_for(alloc, signature.words(), field.k())?;
     let basis = output_basis(circuit.bound(), bases);
-    let _gates = circuit.net().gates();
     let bits = match reduce_bits(alloc, field, circuit, basis, bound, &mut NoSteps) {
         Ok(bits) => bits,
         Err(fault) => return Err(stage_stop(alloc, &labels, fault, bound)),

@@ -1,7 +1,9 @@
 -- What the expansion keeps: polynomials of functions of the input, and the stages that are within the bound.
 -- Source: this project's own.
 use Rattle.std.specs.Prelude.{◌≡◌, ℕ, ◌<◌, ◌≤◌, List, Some, length, take, slice_get}
+use Rattle.net_core.specs.Sound.{IsSound}
 use Rattle.net_words.specs.Binding.{BoundNet}
+use Rattle.net_words.specs.OneCycle.{IsOneCycle}
 use Rattle.gf_basis.specs.declared.bases.Basis.{Basis}
 use Rattle.poly_mixed.specs.Polynomial.{Terms, Point, IsPoint, IsReduced, value}
 use Rattle.poly_mixed.specs.declared.stage.ReduceFault.{ReduceFault}
@@ -15,10 +17,12 @@ use Rattle.circuit_model.specs.Bases.{AreBases}
 use Rattle.spec_expand.specs.Specification.{SpecTerms}
 use Rattle.spec_expand.specs.SpecValue.{spec_at, factors_of, product_at}
 use Rattle.spec_expand.specs.SpecListing.{IsAtPoint}
-use Rattle.spec_expand.specs.private.Places.{places_from}
+use Rattle.circuit_model.specs.Places.{places_from}
 
--- bases of a field, and the numbers of the input, state and fed words
+-- a sound net with its words, bases of a field, and the numbers of the input, state and fed words
 pub record IsSetting (k : ℕ) (mul : ℕ → ℕ → ℕ) (bound : BoundNet) (bases : List Basis) (places : List ℕ) : Type 0 where
+  pub sound : IsSound bound.net
+  pub is_bound : IsOneCycle bound.net bound.bound
   pub bits : bound.bound.k ≡ k
   pub bases_are : AreBases k mul bound bases
   pub places_are : places ≡ places_from 0 bound.bound.words

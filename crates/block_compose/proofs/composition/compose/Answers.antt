@@ -39,7 +39,7 @@ wiring_of-requires g c =
     let P : Hierarchy → Type 0 = λ top. IsInstanced k top c.deref.result.now in
     let Q : List ℕ → Type 0 = λ ns. IsInstanced k h ns in
     let none : List (List Feeder) = [] in
-    (k, subst P (sym same) (subst Q (sym c.deref.ensures.value) (instanced k mul ring free design signature bases c.in-Ok.plan.numbers.items c.in-Ok.plan.circuits.items none (InputWord 0) c.args.bound c.requires c.in-Ok.ensures.planned c.models-count.ensures.right)))
+    (k, subst P (sym same) (subst Q (sym c.deref.ensures.value) (instanced k mul ring free design signature bases c.in-Ok.plan.numbers.items c.in-Ok.plan.circuits.items none (InputWord 0) c.args.bound c.requires c.in-Ok.ensures.planned c.in-Ok.ensures.right)))
 
 pub returns-in-Err-wiring_of-clause-refusal : goal.returns-in-Err-wiring_of-clause-refusal
 returns-in-Err-wiring_of-clause-refusal g c =
@@ -68,7 +68,7 @@ wired_order-requires-clause-few g c =
     let W : Hierarchy → Type 0 = λ top. AreWired top rows output in
     let wired : AreWired h rows output = subst W same c.in-Ok-wiring_of.ensures.wired in
     let P : List (Vec Feeder Global) → Type 0 = λ vs. length vs < 2 ^ 32 in
-    subst P (sym c.deref-2.ensures.value) (rows_few h vectors output wired c.models-count.ensures.few)
+    subst P (sym c.deref-2.ensures.value) (rows_few h vectors output wired c.in-Ok.ensures.few)
 
 pub wired_order-requires-clause-inside : goal.wired_order-requires-clause-inside
 wired_order-requires-clause-inside g c =
@@ -102,7 +102,7 @@ of_ring-requires-clause-few g c =
     let W : Hierarchy → Type 0 = λ top. AreWired top rows output in
     let wired : AreWired h rows output = subst W same c.in-Ok-wiring_of.ensures.wired in
     let P : List (Vec Feeder Global) → Type 0 = λ vs. length vs < 2 ^ 32 in
-    subst P (sym c.deref-in-Err-wired_order.ensures.value) (rows_few h vectors output wired c.models-count.ensures.few)
+    subst P (sym c.deref-in-Err-wired_order.ensures.value) (rows_few h vectors output wired c.in-Ok.ensures.few)
 
 pub returns-in-Err-wired_order-clause-refusal : goal.returns-in-Err-wired_order-clause-refusal
 returns-in-Err-wired_order-clause-refusal g c =
@@ -120,6 +120,12 @@ returns-in-Err-wired_order-clause-refusal g c =
     let wired : AreWired h rows output = subst W same c.in-Ok-wiring_of.ensures.wired in
     let P : List (Vec Feeder Global) → Type 0 = λ vs. MayFault (HasNoRing (map (λ (v : Vec Feeder Global). v.items) vs)) c.of_ring.result in
     ring_refused k mul design signature bases c.args.bound c.in-Ok.ensures.planned.uses c.in-Ok.ensures.planned.are rows output wired c.of_ring.result (subst P c.deref-in-Err-wired_order.ensures.value c.of_ring.ensures)
+
+pub compose_stages-requires-clause-right : goal.compose_stages-requires-clause-right
+compose_stages-requires-clause-right g c = c.in-Ok.ensures.right
+
+pub compose_stages-requires-clause-few : goal.compose_stages-requires-clause-few
+compose_stages-requires-clause-few g c = c.in-Ok.ensures.few
 
 pub compose_stages-requires-clause-wired : goal.compose_stages-requires-clause-wired
 compose_stages-requires-clause-wired g c =

@@ -2,7 +2,7 @@ use Rattle.std.proofs.Common.{◌≡◌, ◌∙◌, ap, subst, List, ℕ, length
 use Rattle.net_core.specs.Lists.{Has}
 use Rattle.net_words.specs.Binding.{Binding}
 use Rattle.net_words.specs.BoundTo.{output_bits}
-use Rattle.cert_check.proofs.OutputLemmas.{output_long}
+use Rattle.circuit_model.proofs.OutputNetsLemmas.{output_long}
 use Rattle.cert_check.proofs.running.output_poly.Goals as goal
 
 pub word_poly-requires-clause-long : goal.word_poly-requires-clause-long

@@ -18,7 +18,7 @@ use Rattle.net_core.specs.Order.{IsElimination}
 use Rattle.stage_model.specs.Stage.{IsOfStage, IsNoneOver}
 use Rattle.net_words.specs.Binding.{Binding}
 use Rattle.net_words.specs.BoundTo.{output_bits}
-use Rattle.rato_reduce.proofs.OutputNets.{output_long}
+use Rattle.circuit_model.proofs.OutputNetsLemmas.{output_long}
 use Rattle.rato_reduce.proofs.reduce.reduce_bits.Goals as goal
 use Rattle.stage_model.proofs.EliminationLemmas.{elimination_long}
 

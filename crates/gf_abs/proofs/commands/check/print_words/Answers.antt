@@ -43,6 +43,12 @@ returns-in-Err-clause-gives g c =
 pub copied-requires : goal.copied-requires
 copied-requires g c = c.in-Ok.ensures.output.reduced
 
+pub in_words-requires-clause-sound : goal.in_words-requires-clause-sound
+in_words-requires-clause-sound g c = c.last_cut.ensures.sound
+
+pub in_words-requires-clause-is_bound : goal.in_words-requires-clause-is_bound
+in_words-requires-clause-is_bound g c = c.last_cut.ensures.is_bound
+
 pub in_words-requires-clause-bits : goal.in_words-requires-clause-bits
 in_words-requires-clause-bits g c =
     let degree = g.F.Ring.degree c.args.field.now in
