@@ -52,8 +52,8 @@ def chain(nets, begins=b'.inputs a\n.names a n0\n1 1\n', more=b''):
     return pieces
 
 
-def ring(nets):
-    """A ring of gates, with the output word at a wire beside it."""
+def cycle(nets):
+    """A cycle of gates, with the output word at a wire beside it."""
     def pieces():
         yield WIRE
         for i in range(nets):
@@ -131,7 +131,7 @@ LIMITS = [
     Case('1,048,576 gates', CONSTANT, chain(NETS, b'.names n0\n'), 0, 'Z = 0x1'),
     Case('1,048,577 gates', CONSTANT, chain(NETS, b'.names n0\n', b'.names z\n'), 2, 'fault 38: too many gates in F'),
     Case('1,000,000 inverters', SIGNATURE, chain(MANY, b'.inputs a\n.names a n0\n0 1\n'), 0, 'Z = A'),
-    Case('ring of 1,000,000 gates', SIGNATURE, ring(MANY), 2, 'fault 36: loop of 1000000 nets through n0 in F'),
+    Case('cycle of 1,000,000 gates', SIGNATURE, cycle(MANY), 2, 'fault 36: loop of 1000000 nets through n0 in F'),
     Case('1,048,575 primary inputs', SIGNATURE, inputs(NETS - 1), 0, 'Z = A'),
     Case('1,048,576 primary inputs', SIGNATURE, inputs(NETS), 2, 'fault 38: too many nets in F'),
     Case('1,048,512 primary inputs, 512 in words', wide_signature, wide_netlist, 0, 'Z = A'),

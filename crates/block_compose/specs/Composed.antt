@@ -24,7 +24,7 @@ use Rattle.circuit_poly.specs.Stages.{joined}
 use Rattle.instance_order.specs.LevelOrder.{first_numbers}
 use Rattle.block_feeds.specs.Hierarchy.{Hierarchy}
 use Rattle.block_feeds.specs.Values.{IsTop}
-use Rattle.block_feeds.specs.Wiring.{feeding_graph, IsWithoutRing}
+use Rattle.block_feeds.specs.Wiring.{feeding_graph, IsWithoutCycle}
 use Rattle.block_feeds.specs.declared.feeder.Feeder.{Feeder}
 use Rattle.block_plan.specs.Plan.{UsesOf}
 use Rattle.block_plan.specs.Planned.{CanAllBind}
@@ -70,19 +70,19 @@ WiringOf h (Ok wiring) = AreWired h wiring.0 wiring.1
 WiringOf h (Err wirings.OutOfMemory) = ⊥
 WiringOf h (Err fault) = IsWiringFault h fault
 
--- the ring that the walk over all instances finds begins with the instance of this number, from 1
-pub record IsRingThrough (rows : List (List Feeder)) (number : ℕ) : Type 0 where
+-- the cycle that the walk over all instances finds begins with the instance of this number, from 1
+pub record IsCycleThrough (rows : List (List Feeder)) (number : ℕ) : Type 0 where
   pub cycle : List ℕ
   pub is : IsCycleOf (feeding_graph rows) (first_numbers (length rows)) cycle
   pub instance : ℕ
   pub first : slice_get cycle 0 ≡ Some instance
   pub number_is : number ≡ instance + 1
 
--- no instances feed each other in a ring, or the first of a ring is refused
-abbrev pub HasNoRing : List (List Feeder) → Outcome ComposeFault (Unit {0})
-HasNoRing rows (Ok u) = IsWithoutRing rows
-HasNoRing rows (Err (InstanceLoop number)) = IsRingThrough rows number
-HasNoRing rows (Err fault) = ⊥
+-- no instances feed each other in a cycle, or the first of a cycle is refused
+abbrev pub HasNoCycle : List (List Feeder) → Outcome ComposeFault (Unit {0})
+HasNoCycle rows (Ok u) = IsWithoutCycle rows
+HasNoCycle rows (Err (InstanceLoop number)) = IsCycleThrough rows number
+HasNoCycle rows (Err fault) = ⊥
 
 module _ (k : ℕ) (mul : ℕ → ℕ → ℕ) (h : Hierarchy) (rows : List (List Feeder)) (bound : ℕ) where
   -- these are the terms of the output of the flat top in its words, and no stage is over the bound
@@ -110,12 +110,12 @@ module _ (k : ℕ) (mul : ℕ → ℕ → ℕ) (h : Hierarchy) (rows : List (Lis
 -- ---- the whole
 
 -- What comes of the top of a hierarchy, whose words and blocks are those of the signature: first the blocks of its instances, then
--- its wiring, then whether instances feed each other in a ring, and then the stages.
+-- its wiring, then whether instances feed each other in a cycle, and then the stages.
 abbrev pub ComposesIn : ℕ → (ℕ → ℕ → ℕ) → SignatureValue → Hierarchy → ℕ → Outcome ComposeFault Terms
 ComposesIn k mul signature h bound = do
   uses ← Within Plan (UsesOf h.design signature)
   wiring ← Within Wiring (WiringOf h)
-  ringless ← HasNoRing wiring.0
+  acyclic ← HasNoCycle wiring.0
   StagesOf k mul h wiring.0 bound
 
 -- What comes of a top with lists of bases.

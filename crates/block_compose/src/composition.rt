@@ -2,7 +2,7 @@
 ghost use Rattle.std.specs.Prelude.{IfErr, IfOk, Ok};
 ghost use Rattle.block_compose.specs.Composed.{Composes, IsComposable, MayFault};
 
-use crate::faults::of_ring;
+use crate::faults::of_cycle;
 use crate::stages::compose_stages;
 use crate::{BlockBases, ComposeFault};
 use block_plan::plan_blocks;
@@ -27,7 +27,7 @@ use wired_poly::wired_order;
 ///   instance; it fits where its nets are, place by place, those that the instance connects to the word's, and both have
 ///   the same basis.
 /// - `Wiring`, with `OutputNotWords`: the same for the output word of the top.
-/// - `InstanceLoop`: instances feed each other in a ring.
+/// - `InstanceLoop`: instances feed each other in a cycle.
 /// - `TooManyTerms`: the first stage above the bound, of the blocks in that order and then of the instances by rising level and
 ///   number.
 ///
@@ -63,7 +63,7 @@ pub fn compose<F: Field>(
     };
     let order = match wired_order(alloc, &wiring.rows) {
         Ok(order) => order,
-        Err(fault) => return Err(of_ring(&wiring.rows, fault)),
+        Err(fault) => return Err(of_cycle(&wiring.rows, fault)),
     };
     let poly = match compose_stages(
         alloc, field, design, signature, lists, &plan, &wiring, &order, bound,

@@ -18,7 +18,7 @@ pub enum ComposeFault {
     /// The top is not wired.
     #[error("the wiring of the top has a fault")]
     Wiring(WiringFault),
-    /// Instances feed each other in a ring, of which a walk meets this one first.
+    /// Instances feed each other in a cycle, of which a walk meets this one first.
     #[error("a loop through instance {instance}")]
     InstanceLoop {
         instance: u32,

@@ -1,9 +1,9 @@
-//! Faults of rings and of stages as those of compositions.
+//! Faults of cycles and of stages as those of compositions.
 ghost use Rattle.std.specs.Prelude.{◌≡◌, ◌<◌, ◌^◌, ℕ, length, map, slice_get, Some};
 ghost use Rattle.graph_core.specs.Fault.{IsCycleFault};
 ghost use Rattle.block_feeds.specs.Wiring.{feeding_graph};
 ghost use Rattle.instance_order.specs.LevelOrder.{first_numbers};
-ghost use Rattle.block_compose.specs.Composed.{HasNoRing, MayFault};
+ghost use Rattle.block_compose.specs.Composed.{HasNoCycle, MayFault};
 ghost use Rattle.block_compose.specs.private.Blocks.{instance_fault_of};
 
 use crate::ComposeFault;
@@ -19,11 +19,11 @@ fn first_point(points: &[u32]) -> u32
     points[0]
 }
 
-/// A ring of instances, where row i is what feeds instance i.
-pub(crate) fn of_ring(_rows: &[Vec<Feeder>], fault: CycleFault) -> ComposeFault
+/// A cycle of instances, where row i is what feeds instance i.
+pub(crate) fn of_cycle(_rows: &[Vec<Feeder>], fault: CycleFault) -> ComposeFault
     requires few { length _rows.now < 2 ^ 32 }
-    requires ring { IsCycleFault (feeding_graph (map (λ row. row.items) _rows.now)) (first_numbers (length _rows.now)) fault }
-    ensures { MayFault (HasNoRing (map (λ row. row.items) _rows.now)) result }
+    requires cycle { IsCycleFault (feeding_graph (map (λ row. row.items) _rows.now)) (first_numbers (length _rows.now)) fault }
+    ensures { MayFault (HasNoCycle (map (λ row. row.items) _rows.now)) result }
 {
     match fault {
         CycleFault::Cycle { points } => ComposeFault::InstanceLoop {

@@ -36,7 +36,7 @@ pub(crate) fn drivers(
     circuit: &Combinational,
 ) -> Result<Vec<Option<u32>>, AllocError>
     ensures drivers { IfOk result (λ list. AreDrivers circuit.now.net list.items) }
-    ensures is_bound { IsOneCycle circuit.now.net circuit.now.bound }
+    ensures is_bound { IsOneCycle circuit.now.net circuit.now.binding }
 {
     let net = circuit.net();
     net_drivers(alloc, net)

@@ -36,7 +36,7 @@ fn word_poly<F: Field>(
     requires basis { IsBasisOver (F.degree field.now) (F.product field.now) basis.now }
     requires long { length list.now ≡ F.degree field.now }
     requires inside { (n : ℕ) → Has list.now n → n < nets circuit.now.net }
-    ensures { IfOk result (λ q. IsPolynomialOf (F.degree field.now) (F.product field.now) (λ p. combination (elements_of basis.now) (index (net_bit (variables (nets circuit.now.net) circuit.now.bound.words) p) list.now)) q.terms) }
+    ensures { IfOk result (λ q. IsPolynomialOf (F.degree field.now) (F.product field.now) (λ p. combination (elements_of basis.now) (index (net_bit (variables (nets circuit.now.net) circuit.now.binding.words) p) list.now)) q.terms) }
 {
     let mut sum = Poly::zero(alloc);
     for place in 0..list.len() {
@@ -54,7 +54,7 @@ fn output_poly<F: Field>(
     circuit: &Combinational,
     bases: &[Basis],
 ) -> Result<Poly, AllocError>
-    requires k { circuit.now.bound.k ≡ F.degree field.now }
+    requires k { circuit.now.binding.k ≡ F.degree field.now }
     requires bases { AreBases (F.degree field.now) (F.product field.now) circuit.now bases.now }
     ensures { IfOk result (λ q. IsPolynomialOf (F.degree field.now) (F.product field.now) (output_value (F.degree field.now) (F.product field.now) circuit.now bases.now) q.terms) }
 {
@@ -71,7 +71,7 @@ pub(crate) fn first_sum<F: Field>(
     bases: &[Basis],
     claim: &Poly,
 ) -> Result<Poly, AllocError>
-    requires k { circuit.now.bound.k ≡ F.degree field.now }
+    requires k { circuit.now.binding.k ≡ F.degree field.now }
     requires bases { AreBases (F.degree field.now) (F.product field.now) circuit.now bases.now }
     requires claim { IsReduced (F.degree field.now) claim.now.terms }
     ensures { IfOk result (λ q. IsRunningSum (F.degree field.now) (F.product field.now) circuit.now bases.now (begun claim.now.terms) q.terms) }

@@ -1,3 +1,4 @@
+pub mod Functions
 pub mod AgreeLemmas
 pub mod BitLemmas
 pub mod BoundLemmas

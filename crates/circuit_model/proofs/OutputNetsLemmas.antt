@@ -1,5 +1,5 @@
 -- The nets of the output word, word by word and place by place.
-use Rattle.std.proofs.Common.{◌≡◌, ℕ, zero, suc, ◌<◌, ◌+◌, ◌≤◌, cond, List, [], ◌∷◌, ◌++◌, length, get_or, take, drop, filter, Some, refl, sym, ap, ◌∙◌, arith, append-nil, drop_of_length-le}
+use Rattle.std.proofs.Common.{◌≡◌, ℕ, zero, suc, ◌<◌, ◌+◌, cond, List, [], ◌∷◌, ◌++◌, length, get_or, take, drop, filter, Some, refl, sym, ap, ◌∙◌, arith}
 use Rattle.std.specs.Prelude.{slice_get}
 use Rattle.std.proofs.lemmas.List.{append_assoc, length-append}
 use Rattle.net_core.specs.Lists.{Has}
@@ -36,9 +36,6 @@ one_word words w word before after at new so_far =
     ap (λ ns. ns ++ output_bits (drop (w + 1) words)) new
     ∙ (append_assoc before (output_bits_with word.role word.nets) (output_bits (drop (w + 1) words))
     ∙ (ap (λ ns. before ++ ns) (sym (from_word words w word at)) ∙ so_far))
-
-pub no_word : (words : List BoundWord) (w : ℕ) (before : List ℕ) → length words ≤ w → before ++ output_bits (drop w words) ≡ output_bits words → before ≡ output_bits words
-no_word words w before past so_far = sym (append-nil before) ∙ (ap (λ us. before ++ output_bits us) (sym (drop_of_length-le words past)) ∙ so_far)
 
 abbrev pub outputs : List BoundWord → ℕ
 outputs words = length (filter (λ word. same_role word.role Output) words)

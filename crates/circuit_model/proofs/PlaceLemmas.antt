@@ -1,5 +1,5 @@
 -- The input and state words of a binding, and the words of its circuit.
-use Rattle.std.proofs.Common.{◌≡◌, ◌∙◌, ap, sym, refl, ℕ, zero, suc, ◌<◌, ◌≤◌, ◌+◌, List, [], ◌∷◌, ◌++◌, length, drop, Some, arith, append-nil, drop_of_length-le}
+use Rattle.std.proofs.Common.{◌≡◌, ◌∙◌, ap, sym, refl, ℕ, zero, suc, ◌<◌, ◌+◌, List, [], ◌∷◌, ◌++◌, length, drop, Some, arith}
 use Rattle.std.specs.Prelude.{slice_get}
 use Rattle.std.proofs.lemmas.List.{append_assoc}
 use Rattle.net_words.specs.declared.bound.BoundWord.{BoundWord}
@@ -24,9 +24,6 @@ next_word words v word before after at new so_far =
     ap (λ ns. ns ++ places_from (v + 1) (drop (v + 1) words)) new
     ∙ (append_assoc before (place_with word.role v) (places_from (v + 1) (drop (v + 1) words))
     ∙ (ap (λ ns. before ++ ns) (sym (from_word words v word at)) ∙ so_far))
-
-pub last_word : (words : List BoundWord) (v : ℕ) (before : List ℕ) → length words ≤ v → before ++ places_from v (drop v words) ≡ places_from 0 words → before ≡ places_from 0 words
-last_word words v before past so_far = sym (append-nil before) ∙ (ap (λ us. before ++ places_from v us) (sym (drop_of_length-le words past)) ∙ so_far)
 
 -- there are as many as words of the circuit
 pub places_long : (m : ℕ) (words : List BoundWord) (bases : List (List ℕ)) → length bases ≡ length words → length (places_from m words) ≡ length (words_of words bases)

@@ -30,11 +30,11 @@ use Rattle.block_plan.specs.Plan.{UsesOf}
 use Rattle.block_plan.specs.Structure.{IsUnfed}
 use Rattle.block_plan.specs.Uses.{BlockUse, UseOf}
 use Rattle.block_plan.proofs.PlanDetermined.{plan_determined}
-use Rattle.block_compose.specs.Composed.{ComposesIn, HasNoRing, StagesOf, WiringOf}
+use Rattle.block_compose.specs.Composed.{ComposesIn, HasNoCycle, StagesOf, WiringOf}
 use Rattle.block_compose.specs.declared.fault.ComposeFault.{ComposeFault}
 use Rattle.block_compose.specs.declared.fault.ComposeFault.TheVariants.{Plan, Wiring}
 use Rattle.block_compose.proofs.GivenLemmas.{unfed_words}
-use Rattle.block_compose.proofs.StepsDetermined.{ring_determined, stages_determined, wiring_determined}
+use Rattle.block_compose.proofs.StepsDetermined.{cycle_determined, stages_determined, wiring_determined}
 use Rattle.job_words.specs.declared.fault.Fault.{Fault}
 use Rattle.job_words.specs.declared.fault.Fault.TheVariants as faults
 use Rattle.job_words.specs.declared.netlist_fault.NetlistFault.{NetlistFault}
@@ -46,7 +46,7 @@ use Rattle.job_input.specs.SettingSound.{IsSoundSetting}
 use Rattle.job_input.specs.SettingValue.{SettingValue}
 use Rattle.job_input.proofs.SettingDetermined.{bases_determined}
 use Rattle.job_input.proofs.SettingSoundLemmas.{bases_sound}
-use Rattle.job_input.proofs.SettingWords.{bases_long}
+use Rattle.job_input.proofs.SettingWordLemmas.{bases_long}
 use Rattle.gf_abs.specs.Reply.{prints}
 use Rattle.gf_abs.specs.commands.Compose.{compose_fault, hierarchy_with, ComposeOf, ComposeOver, ComposeReply, ListsOf, WithBlocks}
 use Rattle.gf_abs.proofs.BlockBaseLemmas.{front_at, last_at}
@@ -64,7 +64,7 @@ module _ (signature : SignatureValue) where
       named fault = netlist.Binding (of_binding signature.words net fault)
 
       with_words : Binding → BoundNet
-      with_words bound = record { net = net; bound = bound }
+      with_words bound = record { net = net; binding = bound }
 
   top_determined : (design : List ModelValue) → Determined (TopBinds signature design)
   top_determined design =
@@ -132,7 +132,7 @@ module _ (k : ℕ) (mul : ℕ → ℕ → ℕ) (h : Hierarchy) (uses : List Bloc
           found = is.is_block.found;
           model = is.model;
           model_is = is.is_block.model_is;
-          is = record { net = one_use.0.circuit.net; flat = is.circuit.flat; latches = is.circuit.latches; binding = one_use.0.circuit.bound; bound = is.circuit.bound; is = refl };
+          is = record { net = one_use.0.circuit.net; flat = is.circuit.flat; latches = is.circuit.latches; binding = one_use.0.circuit.binding; bound = is.circuit.bound; is = refl };
         },
       )
 
@@ -168,9 +168,9 @@ module _ (setting : SettingValue) (sound : IsSoundSetting setting) (blocks : Can
 
   pub composition_determined : Determined (ComposesIn setting.k setting.product setting.signature h bound)
   composition_determined =
-      determined_after (Within Plan (UsesOf design setting.signature)) (λ uses. Within Wiring (WiringOf h) >>= (λ wiring. HasNoRing wiring.0 >>= (λ ringless. StagesOf setting.k setting.product h wiring.0 bound))) (determined_within Plan (UsesOf design setting.signature) (plan_determined design setting.signature)) (λ uses used.
-      determined_after (Within Wiring (WiringOf h)) (λ wiring. HasNoRing wiring.0 >>= (λ ringless. StagesOf setting.k setting.product h wiring.0 bound)) (determined_within Wiring (WiringOf h) (wiring_determined h)) (λ wiring wired.
-      determined_after (HasNoRing wiring.0) (λ ringless. StagesOf setting.k setting.product h wiring.0 bound) (ring_determined wiring.0) (λ ringless free.
+      determined_after (Within Plan (UsesOf design setting.signature)) (λ uses. Within Wiring (WiringOf h) >>= (λ wiring. HasNoCycle wiring.0 >>= (λ acyclic. StagesOf setting.k setting.product h wiring.0 bound))) (determined_within Plan (UsesOf design setting.signature) (plan_determined design setting.signature)) (λ uses used.
+      determined_after (Within Wiring (WiringOf h)) (λ wiring. HasNoCycle wiring.0 >>= (λ acyclic. StagesOf setting.k setting.product h wiring.0 bound)) (determined_within Wiring (WiringOf h) (wiring_determined h)) (λ wiring wired.
+      determined_after (HasNoCycle wiring.0) (λ acyclic. StagesOf setting.k setting.product h wiring.0 bound) (cycle_determined wiring.0) (λ acyclic free.
       stages_determined setting.k setting.product h wiring.0 bound sound.ring sound.field (record { depth = right.2.2; top = top_based used.1; blocks = block_based; outputs = wired.outputs }) wired.feeds (have_blocks setting.k setting.product h uses used.2.2.2) free)))
 
   some_same : (f g : Fault) → ◌≡◌ {A = Option Fault} (Some f) (Some g) → f ≡ g

@@ -28,7 +28,7 @@ use Rattle.block_plan.specs.declared.fault.PlanFault.TheVariants as plans
 use Rattle.block_plan.proofs.BlockLemmas.{found_block}
 use Rattle.block_wiring.specs.declared.fault.WiringFault.{WiringFault}
 use Rattle.block_wiring.specs.declared.fault.WiringFault.TheVariants as wirings
-use Rattle.block_compose.specs.Composed.{ComposesIn, HasNoRing, StagesOf}
+use Rattle.block_compose.specs.Composed.{ComposesIn, HasNoCycle, StagesOf}
 use Rattle.block_compose.specs.declared.fault.ComposeFault.{ComposeFault}
 use Rattle.block_compose.specs.declared.fault.ComposeFault.TheVariants.{Plan, Wiring, InstanceLoop, TooManyTerms}
 use Rattle.job_words.specs.OneLine.{HasNoLineFeed, KeepsToItsLine}
@@ -174,16 +174,16 @@ module _ (setting : SettingValue) (design : List ModelValue) (bound : ℕ) (prin
   plan_kept fault (inr (u, unfed, inr (v, alone, inl first))) = none_kept (model_in first.element) (block_from 0 setting.signature.blocks (model_in first.element)) fault (instance_kept first.place first.element first.at) first.is
   plan_kept fault (inr (u, unfed, inr (v, alone, inr (numbers, are, first)))) = use_kept first.element fault first.is
 
-  -- ---- the wiring, rings and stages
+  -- ---- the wiring, cycles and stages
 
   wiring_kept : (fault : WiringFault) → Keeps (Wiring fault)
   wiring_kept (wirings.NotWords instance word) = (word_kept (words_in setting.signature.blocks (instance_model design instance)) word (words_named setting.signature.blocks block_names (instance_model design instance)), tt)
   wiring_kept wirings.OutputNotWords = tt
   wiring_kept wirings.OutOfMemory = tt
 
-  ring_kept : (rows : List (List Feeder)) (fault : ComposeFault) → HasNoRing rows (Err fault) → Keeps fault
-  ring_kept rows (InstanceLoop instance) is = tt
-  ring_kept rows fault is = absurd is
+  cycle_kept : (rows : List (List Feeder)) (fault : ComposeFault) → HasNoCycle rows (Err fault) → Keeps fault
+  cycle_kept rows (InstanceLoop instance) is = tt
+  cycle_kept rows fault is = absurd is
 
   module _ (lists : List (List (List ℕ))) where
     abbrev h : Hierarchy
@@ -205,7 +205,7 @@ module _ (setting : SettingValue) (design : List ModelValue) (bound : ℕ) (prin
     composed_kept : (fault : ComposeFault) → ComposesIn setting.k setting.product setting.signature h bound (Err fault) → Keeps fault
     composed_kept fault (inl (other, is, same)) = same_keeps fault (Plan other) same (plan_kept other is)
     composed_kept fault (inr (uses, are, inl (other, is, same))) = same_keeps fault (Wiring other) same (wiring_kept other)
-    composed_kept fault (inr (uses, are, inr (wiring, wired, inl is))) = ring_kept wiring.0 fault is
+    composed_kept fault (inr (uses, are, inr (wiring, wired, inl is))) = cycle_kept wiring.0 fault is
     composed_kept fault (inr (uses, are, inr (wiring, wired, inr (u, free, is)))) = stages_kept wiring.0 fault is
 
   over_kept : (fault : Fault) → ComposeOver setting design bound (Err fault) → KeepsToItsLine fault

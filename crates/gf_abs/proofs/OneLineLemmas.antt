@@ -37,7 +37,7 @@ use Rattle.gf_abs.specs.Values.{ValuesOf}
 use Rattle.gf_abs.specs.Staged.{IsStageOver, either_net_text, either_text}
 use Rattle.gf_abs.specs.commands.Abstract.{AbstractReply, abstract_stages, taken_circuit}
 use Rattle.gf_abs.specs.commands.Bits.{BitsReply, bits_stages}
-use Rattle.gf_abs.specs.Certificates.{CertifiedIn, certificate_labels, sum_fault, sum_name, text_fault}
+use Rattle.gf_abs.specs.Certificates.{CertifiedIn, certificate_labels, sum_fault, sum_name, certificate_fault_of}
 use Rattle.gf_abs.specs.commands.Certify.{CertifyReply}
 use Rattle.gf_abs.specs.commands.Check.{CheckReply}
 use Rattle.gf_abs.specs.commands.Same.{SameReply, same_stages}
@@ -81,7 +81,7 @@ some_line : (fault other : Fault) → ◌≡◌ {A = Option Fault} (Some other) 
 some_line fault other same keeps = let equal : fault ≡ other = cc in same_line fault other equal keeps
 
 -- a fault of a certificate's text repeats nothing
-text_kept : (found : CertFault) (fault : Fault) → text_fault found ≡ Some fault → KeepsToItsLine fault
+text_kept : (found : CertFault) (fault : Fault) → certificate_fault_of found ≡ Some fault → KeepsToItsLine fault
 text_kept (text.Syntax line) fault same = some_line fault (faults.Certificate (certificate.Syntax line)) same tt
 text_kept (text.NoSuchNet line) fault same = some_line fault (faults.Certificate (certificate.NoSuchNet line)) same tt
 text_kept (text.NoSuchBit line) fault same = some_line fault (faults.Certificate (certificate.NoSuchBit line)) same tt

@@ -34,13 +34,13 @@ pub(crate) fn last_cut<F: Field, T: Steps>(
     requires ready { IsReady (F.degree field.now) (F.product field.now) setting.now }
     requires taken { IsTakenFor (F.degree field.now) setting.now circuit.now }
     ensures sound { IsSound circuit.now.net }
-    ensures is_bound { IsOneCycle circuit.now.net circuit.now.bound }
+    ensures is_bound { IsOneCycle circuit.now.net circuit.now.binding }
     ensures well { IsWellFormed (taken_circuit (setting_value (F.degree field.now) (F.product field.now) setting.now) circuit.now) }
     ensures output { IfOk result (λ poly. IsOutputInBits (taken_circuit (setting_value (F.degree field.now) (F.product field.now) setting.now) circuit.now) poly.terms) }
     ensures mix { IfOk result (λ poly. IsOfStage (F.degree field.now) (F.product field.now) (IsMix (taken_circuit (setting_value (F.degree field.now) (F.product field.now) setting.now) circuit.now) 0) poly.terms) }
     ensures few { IfOk result (λ poly. length poly.terms ≤ bound) }
     ensures within { OnOk result (AreAllWithin (F.degree field.now) (F.product field.now) (bits_stages (setting_value (F.degree field.now) (F.product field.now) setting.now) circuit.now) bound) }
-    ensures steps { OnOk result (IsRecorded (F.degree field.now) (F.product field.now) circuit.now (basis_of_output circuit.now.bound.words (elements_of_each setting.now.bases.items)) (length circuit.now.net.gates) (T.steps steps.old) (T.steps steps.new)) }
+    ensures steps { OnOk result (IsRecorded (F.degree field.now) (F.product field.now) circuit.now (basis_of_output circuit.now.binding.words (elements_of_each setting.now.bases.items)) (length circuit.now.net.gates) (T.steps steps.old) (T.steps steps.new)) }
     ensures fault { IfErr result (IsRefusal (F.degree field.now) (F.product field.now) (bits_stages (setting_value (F.degree field.now) (F.product field.now) setting.now) circuit.now) bound) }
 {
     let basis = output_basis(circuit.bound(), setting.bases.as_slice());

@@ -33,7 +33,7 @@ pub(crate) fn in_words<F: Field, T: Steps>(
     requires ready { IsReady (F.degree field.now) (F.product field.now) setting.now }
     requires taken { IsTakenFor (F.degree field.now) setting.now circuit.now }
     requires sound { IsSound circuit.now.net }
-    requires is_bound { IsOneCycle circuit.now.net circuit.now.bound }
+    requires is_bound { IsOneCycle circuit.now.net circuit.now.binding }
     requires bits { IsOfStage (F.degree field.now) (F.product field.now) (IsMix (taken_circuit (setting_value (F.degree field.now) (F.product field.now) setting.now) circuit.now) 0) bits.terms }
     requires few { length bits.terms < 2 ^ 32 }
     ensures words { IfOk result (λ poly. IsInWords (setting_value (F.degree field.now) (F.product field.now) setting.now) circuit.now poly.terms) }

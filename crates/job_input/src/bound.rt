@@ -21,7 +21,7 @@ impl Model for BoundNetlist {
 
     ghost Value = { BoundNet };
 
-    ghost view = { λ netlist. record { net = netlist.net; bound = netlist.bound } };
+    ghost view = { λ netlist. record { net = netlist.net; binding = netlist.bound } };
 
     ghost invariant = { λ netlist. IsSound netlist.net × IsBoundTo netlist.net netlist.bound };
 }
@@ -31,7 +31,7 @@ impl BoundNetlist {
     pub(crate) fn new(net: Net, bound: Bound) -> BoundNetlist
         requires sound { IsSound net }
         requires bound_to { IsBoundTo net bound }
-        ensures { result ≡ record { net = net; bound = bound } }
+        ensures { result ≡ record { net = net; binding = bound } }
     {
         BoundNetlist { net, bound }
     }
@@ -39,7 +39,7 @@ impl BoundNetlist {
     // The two of them.
     pub(crate) fn into_parts(self) -> (Net, Bound)
         ensures net { result.0 ≡ self.net }
-        ensures bound { result.1 ≡ self.bound }
+        ensures bound { result.1 ≡ self.binding }
         ensures bound_to { IsBoundTo result.0 result.1 }
     {
         let BoundNetlist { net, bound } = self;

@@ -26,11 +26,11 @@ pub fn circuit_labels_for(
 ) -> Result<Labels, AllocError>
     requires words { AreWords k words.now }
     requires names { HaveNames words.now }
-    requires bits { circuit.now.bound.k ≡ k }
-    requires roles { HaveRoles words.now circuit.now.bound.words }
+    requires bits { circuit.now.binding.k ≡ k }
+    requires roles { HaveRoles words.now circuit.now.binding.words }
     ensures labels { IfOk result (λ labels. labels ≡ circuit_labels k words.now circuit.now) }
     ensures sound { IsSound circuit.now.net }
-    ensures is_bound { IsOneCycle circuit.now.net circuit.now.bound }
+    ensures is_bound { IsOneCycle circuit.now.net circuit.now.binding }
 {
     let count = circuit.net().nets();
     let mut labels = labels_for(alloc, words, k)?;
@@ -48,8 +48,8 @@ fn add_nets(
 ) -> Result<(), AllocError>
     requires none { labels.old.nets ≡ [] }
     requires count { count ≡ nets_of circuit.now.net }
-    requires first { first ≡ length (bits_of circuit.now.bound.words) }
-    ensures { OnOk result (labels.new ≡ record { output = labels.old.output; words = labels.old.words; nets = others (nets_of circuit.now.net) (bits_of circuit.now.bound.words) }) }
+    requires first { first ≡ length (bits_of circuit.now.binding.words) }
+    ensures { OnOk result (labels.new ≡ record { output = labels.old.output; words = labels.old.words; nets = others (nets_of circuit.now.net) (bits_of circuit.now.binding.words) }) }
 {
     for net in 0..count {
         let is_bit = u64::from(circuit.rank_of(net)) < first;

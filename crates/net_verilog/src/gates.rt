@@ -1,5 +1,5 @@
 //! Nets and gates of expressions.
-ghost use Rattle.std.specs.Prelude.{◌≡◌, ◌⊎◌, ◌<◌, ◌≤◌, ◌^◌, [], Ok, Err, All, IfOk, IfErr, length, OnOk};
+ghost use Rattle.std.specs.Prelude.{◌≡◌, ◌⊎◌, ◌<◌, ◌≤◌, ◌^◌, Ok, Err, All, IfOk, IfErr, length, OnOk};
 ghost use Rattle.net_core.specs.NetList.{nets};
 ghost use Rattle.net_verilog.specs.Made.{driven, fresh_driven, mentioned as mentioned_net, operator_table as table_that, settled, with_gate_of};
 ghost use Rattle.net_verilog.specs.private.Gates.{IsDriverOn, IsRefused};

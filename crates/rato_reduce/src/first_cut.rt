@@ -20,7 +20,7 @@ use std::alloc::{AllocError, Global};
 /// The place of a net among the variables.
 pub fn rank(circuit: &Combinational, net: u32) -> u32
     requires { net < nets circuit.now.net }
-    ensures { result ≡ rank_in (variables (nets circuit.now.net) circuit.now.bound.words) net }
+    ensures { result ≡ rank_in (variables (nets circuit.now.net) circuit.now.binding.words) net }
 {
     circuit.rank_of(net)
 }
@@ -74,7 +74,7 @@ pub fn first_cut<F: Field>(
     requires basis { IsBasisOver (F.degree field.now) (F.product field.now) basis.now }
     requires long { length list.now ≡ F.degree field.now }
     requires inside { (n : ℕ) → Has list.now n → n < nets circuit.now.net }
-    ensures { IfOk result (λ q. IsPolynomialOf (F.degree field.now) (F.product field.now) (λ p. combination (elements_of basis.now) (index (point_bit (variables (nets circuit.now.net) circuit.now.bound.words) p) list.now)) q.terms) }
+    ensures { IfOk result (λ q. IsPolynomialOf (F.degree field.now) (F.product field.now) (λ p. combination (elements_of basis.now) (index (point_bit (variables (nets circuit.now.net) circuit.now.binding.words) p) list.now)) q.terms) }
 {
     let mut sum = Cut::zero(alloc, places);
     for place in 0..list.len() {

@@ -57,7 +57,7 @@ pub fn reduce_bits<F: Field, T: Steps>(
     bound: u32,
     steps: &mut T,
 ) -> Result<Poly, ReduceFault>
-    requires bits { circuit.now.bound.k ≡ F.degree field.now }
+    requires bits { circuit.now.binding.k ≡ F.degree field.now }
     requires basis { IsBasisOver (F.degree field.now) (F.product field.now) output.now }
     ensures last { IfOk result (λ q. IsOfStage (F.degree field.now) (F.product field.now) (BoundCut circuit.now (elements_of output.now) (length circuit.now.net.gates)) q.terms) }
     ensures within { OnOk result (AreAllWithin (F.degree field.now) (F.product field.now) (cut_listing (length circuit.now.net.gates + 1) (BoundCut circuit.now (elements_of output.now))) bound) }

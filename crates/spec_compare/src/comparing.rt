@@ -48,18 +48,18 @@ fn elements<F: Field>(
     alloc: Global,
     field: &F,
     _circuit: &Combinational,
-    bound: &Bound,
+    binding: &Bound,
     bases: &[Basis],
     ones: &[u32],
 ) -> Result<Vec<u64>, AllocError>
-    requires bound { bound.now ≡ _circuit.now.bound }
-    requires is_bound { IsOneCycle _circuit.now.net _circuit.now.bound }
+    requires bound { binding.now ≡ _circuit.now.binding }
+    requires is_bound { IsOneCycle _circuit.now.net _circuit.now.binding }
     requires bases { AreBases (F.degree field.now) (F.product field.now) _circuit.now bases.now }
     ensures { IfOk result (λ list. list.items ≡ inputs_from (F.degree field.now) ones.now 0 (circuit_in (F.degree field.now) (F.product field.now) _circuit.now bases.now).words) }
 {
     let mut list = Vec::new(alloc);
     for v in 0..bound.words() {
-        add_element(field, bound.role(v), &bases[v as usize], ones, &mut list)?;
+        add_element(field, binding.role(v), &bases[v as usize], ones, &mut list)?;
     }
     Ok(list)
 }
@@ -113,7 +113,7 @@ pub fn compare<F: Field>(
     left: &Poly,
     right: &Poly,
 ) -> Result<Verdict, AllocError>
-    requires k { circuit.now.bound.k ≡ F.degree field.now }
+    requires k { circuit.now.binding.k ≡ F.degree field.now }
     requires bases { AreBases (F.degree field.now) (F.product field.now) circuit.now bases.now }
     requires left { IsInInputBits (circuit_in (F.degree field.now) (F.product field.now) circuit.now bases.now) left.now.terms }
     requires right { IsInInputBits (circuit_in (F.degree field.now) (F.product field.now) circuit.now bases.now) right.now.terms }

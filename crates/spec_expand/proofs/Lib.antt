@@ -1,11 +1,13 @@
+pub mod ReadTokens
+pub mod Summed
 pub mod TokenLemmas
-pub mod TextTokens
+pub mod TextTokenLemmas
 pub mod GrammarLemmas
-pub mod OneOutcome
+pub mod OneOutcomeLemmas
 pub mod RunLemmas
 pub mod FrontLemmas
-pub mod SomeTokens
-pub mod Moves
+pub mod SomeTokenLemmas
+pub mod MoveLemmas
 pub mod WalkLemmas
 pub mod PrefixLemmas
 pub mod SaidLemmas

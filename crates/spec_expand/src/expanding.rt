@@ -183,7 +183,7 @@ pub fn expand<F: Field>(
     bases: &[Basis],
     bound: u32,
 ) -> Result<Poly, ReduceFault>
-    requires k { circuit.now.bound.k ≡ F.degree field.now }
+    requires k { circuit.now.binding.k ≡ F.degree field.now }
     requires bases { AreBases (F.degree field.now) (F.product field.now) circuit.now bases.now }
     requires spec { IsOverWords (F.degree field.now) (length (circuit_in (F.degree field.now) (F.product field.now) circuit.now bases.now).words) spec.now }
     ensures polynomial { IfOk result (λ q. IsExpansion (circuit_in (F.degree field.now) (F.product field.now) circuit.now bases.now) (λ xs. spec_at (F.product field.now) xs spec.now) q.terms) }

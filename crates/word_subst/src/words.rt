@@ -31,7 +31,7 @@ pub fn to_words<F: Field, T: Steps>(
     bound: u32,
     steps: &mut T,
 ) -> Result<Poly, ReduceFault>
-    requires k { circuit.now.bound.k ≡ F.degree field.now }
+    requires k { circuit.now.binding.k ≡ F.degree field.now }
     requires bases { AreBases (F.degree field.now) (F.product field.now) circuit.now bases.now }
     requires bits { IsOfStage (F.degree field.now) (F.product field.now) (IsMix (circuit_in (F.degree field.now) (F.product field.now) circuit.now bases.now) 0) bits.terms }
     requires few { length bits.terms < 2 ^ 32 }

@@ -33,11 +33,6 @@ pub record AreTaken (polys : List (Option Polynomial)) (numbers : List ℕ) (lis
   pub long : length list ≡ length numbers
   pub each : (i number : ℕ) (poly : Polynomial) → slice_get numbers i ≡ Some number → slice_get list i ≡ Some poly → slice_get polys number ≡ Some (Some poly)
 
--- so are these of the first n of the numbers
-pub record AreTakenTo (polys : List (Option Polynomial)) (numbers : List ℕ) (n : ℕ) (list : List Polynomial) : Type 0 where
-  pub long : length list ≡ n
-  pub each : (i number : ℕ) (poly : Polynomial) → slice_get numbers i ≡ Some number → slice_get list i ≡ Some poly → slice_get polys number ≡ Some (Some poly)
-
 -- what has a polynomial keeps it
 abbrev pub KeepsPolys : List (Option Polynomial) → List (Option Polynomial) → Type 0
 KeepsPolys old new = (number : ℕ) (poly : Polynomial) → slice_get old number ≡ Some (Some poly) → slice_get new number ≡ Some (Some poly)
@@ -49,7 +44,7 @@ module _ (k : ℕ) (mul : ℕ → ℕ → ℕ) (blocks : List BlockValue) (circu
     pub found : slice_get blocks number ≡ Some block
     pub at : slice_get circuits number ≡ Some (Some circuit)
     pub bases_at : slice_get bases (number + 1) ≡ Some list
-    pub bits : circuit.bound.k ≡ k
+    pub bits : circuit.binding.k ≡ k
     pub bases_are : AreBases k mul circuit list
 
   -- the block of each of these numbers has a circuit and bases

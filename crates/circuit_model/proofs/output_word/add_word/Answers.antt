@@ -10,7 +10,7 @@ use Rattle.circuit_model.proofs.output_word.add_word.Goals as goal
 
 pub loop-place-preserved : goal.loop-place-preserved
 loop-place-preserved c word at =
-    let long : length word.nets ≡ c.args.bound.now.k = output_width c.args.bound.now.k word (All_has (HasWidth c.args.bound.now.k) c.args.bound.now.words word c.k-place-end.ensures.is_binding.each (c.args.w, at)) (sym (c.role.ensures word at) ∙ c.in-Output.is) in
+    let long : length word.nets ≡ c.args.binding.now.k = output_width c.args.binding.now.k word (All_has (HasWidth c.args.binding.now.k) c.args.binding.now.words word c.k-place-end.ensures.is_binding.each (c.args.w, at)) (sym (c.role.ensures word at) ∙ c.in-Output.is) in
     let before = c.args.list.now.items in
     let place = c.loop-place.place in
     let net : c.net.result ≡ get_or word.nets place 0 = c.net.ensures word at in
@@ -22,7 +22,7 @@ loop-place-preserved c word at =
 
 pub returns-after-loop-place : goal.returns-after-loop-place
 returns-after-loop-place c word at =
-    let long : length word.nets ≡ c.args.bound.now.k = output_width c.args.bound.now.k word (All_has (HasWidth c.args.bound.now.k) c.args.bound.now.words word c.k-place-end.ensures.is_binding.each (c.args.w, at)) (sym (c.role.ensures word at) ∙ c.in-Output.is) in
+    let long : length word.nets ≡ c.args.binding.now.k = output_width c.args.binding.now.k word (All_has (HasWidth c.args.binding.now.k) c.args.binding.now.words word c.k-place-end.ensures.is_binding.each (c.args.w, at)) (sym (c.role.ensures word at) ∙ c.in-Output.is) in
     let before = c.args.list.now.items in
     let role : word.role ≡ Role.Output = sym (c.role.ensures word at) ∙ c.in-Output.is in
     c.loop-place.invariant word at
@@ -30,4 +30,4 @@ returns-after-loop-place c word at =
     ∙ ap (λ (r : Role). before ++ output_bits_with r word.nets) (sym role))
 
 pub net-requires-clause-nets : goal.net-requires-clause-nets
-net-requires-clause-nets c word at = output_width c.args.bound.now.k word (All_has (HasWidth c.args.bound.now.k) c.args.bound.now.words word c.k-place-end.ensures.is_binding.each (c.args.w, at)) (sym (c.role.ensures word at) ∙ c.in-Output.is)
+net-requires-clause-nets c word at = output_width c.args.binding.now.k word (All_has (HasWidth c.args.binding.now.k) c.args.binding.now.words word c.k-place-end.ensures.is_binding.each (c.args.w, at)) (sym (c.role.ensures word at) ∙ c.in-Output.is)

@@ -32,7 +32,7 @@ to_words-requires-clause-bits g c =
     let bases : List Basis = c.args.bases.now in
     let sound : IsSound circuit.net = c.bound.ensures.sound in
     let well = is_well_formed k mul circuit bases c.requires.bases ring free sound c.bound.ensures.is_bound c.requires.bits in
-    let basis : elements_of c.output_basis-basis.result.now ≡ output_basis circuit.bound.words (map elements_of bases) = c.output_basis-basis.ensures.basis ∙ ap (λ (b : Binding). output_basis b.words (map elements_of bases)) c.bound.ensures.bound in
+    let basis : elements_of c.output_basis-basis.result.now ≡ output_basis circuit.binding.words (map elements_of bases) = c.output_basis-basis.ensures.basis ∙ ap (λ (b : Binding). output_basis b.words (map elements_of bases)) c.bound.ensures.bound in
     let L : List ℕ → Type 0 = λ e. IsOfStage k mul (BoundCut circuit e (length circuit.net.gates)) c.in-Ok.bits.terms in
     let last = subst L basis c.in-Ok.ensures.last in
     let W : List ℕ → Type 0 = λ e. AreAllWithin k mul (bound_cuts circuit e) c.args.bound in
@@ -49,7 +49,7 @@ to_words-requires-clause-few g c =
     let bases : List Basis = c.args.bases.now in
     let sound : IsSound circuit.net = c.bound.ensures.sound in
     let well = is_well_formed k mul circuit bases c.requires.bases ring free sound c.bound.ensures.is_bound c.requires.bits in
-    let basis : elements_of c.output_basis-basis.result.now ≡ output_basis circuit.bound.words (map elements_of bases) = c.output_basis-basis.ensures.basis ∙ ap (λ (b : Binding). output_basis b.words (map elements_of bases)) c.bound.ensures.bound in
+    let basis : elements_of c.output_basis-basis.result.now ≡ output_basis circuit.binding.words (map elements_of bases) = c.output_basis-basis.ensures.basis ∙ ap (λ (b : Binding). output_basis b.words (map elements_of bases)) c.bound.ensures.bound in
     let L : List ℕ → Type 0 = λ e. IsOfStage k mul (BoundCut circuit e (length circuit.net.gates)) c.in-Ok.bits.terms in
     let last = subst L basis c.in-Ok.ensures.last in
     let W : List ℕ → Type 0 = λ e. AreAllWithin k mul (bound_cuts circuit e) c.args.bound in
@@ -67,7 +67,7 @@ returns-in-Err-clause-fault g c =
     let bases : List Basis = c.args.bases.now in
     let sound : IsSound circuit.net = c.bound.ensures.sound in
     let well = is_well_formed k mul circuit bases c.requires.bases ring free sound c.bound.ensures.is_bound c.requires.bits in
-    let basis : elements_of c.output_basis-basis.result.now ≡ output_basis circuit.bound.words (map elements_of bases) = c.output_basis-basis.ensures.basis ∙ ap (λ (b : Binding). output_basis b.words (map elements_of bases)) c.bound.ensures.bound in
+    let basis : elements_of c.output_basis-basis.result.now ≡ output_basis circuit.binding.words (map elements_of bases) = c.output_basis-basis.ensures.basis ∙ ap (λ (b : Binding). output_basis b.words (map elements_of bases)) c.bound.ensures.bound in
     let R : List ℕ → Type 0 = λ e. IsRefusal k mul (bound_cuts circuit e) c.args.bound c.in-Err.fault in
     cut_refused k mul circuit bases c.args.bound c.in-Err.fault (subst R basis c.in-Err.ensures.fault)
 
@@ -81,7 +81,7 @@ returns-in-Err-to_words-clause-fault g c =
     let bases : List Basis = c.args.bases.now in
     let sound : IsSound circuit.net = c.bound.ensures.sound in
     let well = is_well_formed k mul circuit bases c.requires.bases ring free sound c.bound.ensures.is_bound c.requires.bits in
-    let basis : elements_of c.output_basis-basis.result.now ≡ output_basis circuit.bound.words (map elements_of bases) = c.output_basis-basis.ensures.basis ∙ ap (λ (b : Binding). output_basis b.words (map elements_of bases)) c.bound.ensures.bound in
+    let basis : elements_of c.output_basis-basis.result.now ≡ output_basis circuit.binding.words (map elements_of bases) = c.output_basis-basis.ensures.basis ∙ ap (λ (b : Binding). output_basis b.words (map elements_of bases)) c.bound.ensures.bound in
     let L : List ℕ → Type 0 = λ e. IsOfStage k mul (BoundCut circuit e (length circuit.net.gates)) c.in-Ok.bits.terms in
     let last = subst L basis c.in-Ok.ensures.last in
     let W : List ℕ → Type 0 = λ e. AreAllWithin k mul (bound_cuts circuit e) c.args.bound in
@@ -98,7 +98,7 @@ returns-in-Ok-to_words-clause-output g c =
     let bases : List Basis = c.args.bases.now in
     let sound : IsSound circuit.net = c.bound.ensures.sound in
     let well = is_well_formed k mul circuit bases c.requires.bases ring free sound c.bound.ensures.is_bound c.requires.bits in
-    let basis : elements_of c.output_basis-basis.result.now ≡ output_basis circuit.bound.words (map elements_of bases) = c.output_basis-basis.ensures.basis ∙ ap (λ (b : Binding). output_basis b.words (map elements_of bases)) c.bound.ensures.bound in
+    let basis : elements_of c.output_basis-basis.result.now ≡ output_basis circuit.binding.words (map elements_of bases) = c.output_basis-basis.ensures.basis ∙ ap (λ (b : Binding). output_basis b.words (map elements_of bases)) c.bound.ensures.bound in
     (all_words_is_output (circuit_in k mul circuit bases) well c.in-Ok-to_words.poly.terms).0 c.in-Ok-to_words.ensures.words
 
 pub returns-in-Ok-to_words-clause-within : goal.returns-in-Ok-to_words-clause-within
@@ -111,9 +111,9 @@ returns-in-Ok-to_words-clause-within g c =
     let bases : List Basis = c.args.bases.now in
     let sound : IsSound circuit.net = c.bound.ensures.sound in
     let well = is_well_formed k mul circuit bases c.requires.bases ring free sound c.bound.ensures.is_bound c.requires.bits in
-    let basis : elements_of c.output_basis-basis.result.now ≡ output_basis circuit.bound.words (map elements_of bases) = c.output_basis-basis.ensures.basis ∙ ap (λ (b : Binding). output_basis b.words (map elements_of bases)) c.bound.ensures.bound in
+    let basis : elements_of c.output_basis-basis.result.now ≡ output_basis circuit.binding.words (map elements_of bases) = c.output_basis-basis.ensures.basis ∙ ap (λ (b : Binding). output_basis b.words (map elements_of bases)) c.bound.ensures.bound in
     let L : List ℕ → Type 0 = λ e. IsOfStage k mul (BoundCut circuit e (length circuit.net.gates)) c.in-Ok.bits.terms in
     let last = subst L basis c.in-Ok.ensures.last in
     let W : List ℕ → Type 0 = λ e. AreAllWithin k mul (bound_cuts circuit e) c.args.bound in
     let cuts_within = subst W basis c.in-Ok.ensures.within in
-    both_within k mul (bound_cuts circuit (output_basis circuit.bound.words (map elements_of bases))) (word_listing (circuit_in k mul circuit bases)) c.args.bound cuts_within c.in-Ok-to_words.ensures.within
+    both_within k mul (bound_cuts circuit (output_basis circuit.binding.words (map elements_of bases))) (word_listing (circuit_in k mul circuit bases)) c.args.bound cuts_within c.in-Ok-to_words.ensures.within

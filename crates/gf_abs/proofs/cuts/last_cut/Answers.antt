@@ -57,7 +57,7 @@ returns-in-Ok-clause-output g c =
     let circuit = c.args.circuit.now in
     let bases = c.args.setting.now.bases.items in
     let job : IsJob degree mul circuit bases = record { ring = g.met.F.Ring.laws c.args.field.now; nozero = g.met.F.Field.no_zero_divisors c.args.field.now; sound = c.bound.ensures.sound; bound = c.bound.ensures.is_bound; flat = c.bound.ensures.flat; same = c.requires.taken.bits; over = c.requires.ready.over; long = c.requires.taken.long } in
-    let basis : elements_of c.output_basis-basis.result.now ≡ output_basis circuit.bound.words (elements_of_each bases) =
+    let basis : elements_of c.output_basis-basis.result.now ≡ output_basis circuit.binding.words (elements_of_each bases) =
     c.output_basis-basis.ensures.basis ∙ (λ i. output_basis (c.bound.ensures.bound i).words (elements_of_each (c.as_slice.ensures.value i))) in
     let L : List ℕ → Type 0 = λ e. IsOfStage degree mul (BoundCut circuit e (length circuit.net.gates)) c.in-Ok.poly.terms in
     output_of_last degree mul circuit bases job c.in-Ok.poly.terms (subst L basis c.in-Ok.ensures.last)
@@ -69,7 +69,7 @@ returns-in-Ok-clause-mix g c =
     let circuit = c.args.circuit.now in
     let bases = c.args.setting.now.bases.items in
     let job : IsJob degree mul circuit bases = record { ring = g.met.F.Ring.laws c.args.field.now; nozero = g.met.F.Field.no_zero_divisors c.args.field.now; sound = c.bound.ensures.sound; bound = c.bound.ensures.is_bound; flat = c.bound.ensures.flat; same = c.requires.taken.bits; over = c.requires.ready.over; long = c.requires.taken.long } in
-    let basis : elements_of c.output_basis-basis.result.now ≡ output_basis circuit.bound.words (elements_of_each bases) =
+    let basis : elements_of c.output_basis-basis.result.now ≡ output_basis circuit.binding.words (elements_of_each bases) =
     c.output_basis-basis.ensures.basis ∙ (λ i. output_basis (c.bound.ensures.bound i).words (elements_of_each (c.as_slice.ensures.value i))) in
     let L : List ℕ → Type 0 = λ e. IsOfStage degree mul (BoundCut circuit e (length circuit.net.gates)) c.in-Ok.poly.terms in
     no_words degree mul circuit bases job c.in-Ok.poly.terms (subst L basis c.in-Ok.ensures.last)
@@ -81,7 +81,7 @@ returns-in-Ok-clause-few g c =
     let circuit = c.args.circuit.now in
     let bases = c.args.setting.now.bases.items in
     let job : IsJob degree mul circuit bases = record { ring = g.met.F.Ring.laws c.args.field.now; nozero = g.met.F.Field.no_zero_divisors c.args.field.now; sound = c.bound.ensures.sound; bound = c.bound.ensures.is_bound; flat = c.bound.ensures.flat; same = c.requires.taken.bits; over = c.requires.ready.over; long = c.requires.taken.long } in
-    let basis : elements_of c.output_basis-basis.result.now ≡ output_basis circuit.bound.words (elements_of_each bases) =
+    let basis : elements_of c.output_basis-basis.result.now ≡ output_basis circuit.binding.words (elements_of_each bases) =
     c.output_basis-basis.ensures.basis ∙ (λ i. output_basis (c.bound.ensures.bound i).words (elements_of_each (c.as_slice.ensures.value i))) in
     let L : List ℕ → Type 0 = λ e. IsOfStage degree mul (BoundCut circuit e (length circuit.net.gates)) c.in-Ok.poly.terms in
     let W : List ℕ → Type 0 = λ e. AreAllWithin degree mul (bound_cuts circuit e) c.args.bound in
@@ -93,7 +93,7 @@ returns-in-Ok-clause-within g c =
     let mul = g.F.Ring.product c.args.field.now in
     let circuit = c.args.circuit.now in
     let bases = c.args.setting.now.bases.items in
-    let basis : elements_of c.output_basis-basis.result.now ≡ output_basis circuit.bound.words (elements_of_each bases) =
+    let basis : elements_of c.output_basis-basis.result.now ≡ output_basis circuit.binding.words (elements_of_each bases) =
     c.output_basis-basis.ensures.basis ∙ (λ i. output_basis (c.bound.ensures.bound i).words (elements_of_each (c.as_slice.ensures.value i))) in
     let W : List ℕ → Type 0 = λ e. AreAllWithin degree mul (bound_cuts circuit e) c.args.bound in
     subst W basis c.in-Ok.ensures.within
@@ -104,7 +104,7 @@ returns-in-Err-clause-fault g c =
     let mul = g.F.Ring.product c.args.field.now in
     let circuit = c.args.circuit.now in
     let bases = c.args.setting.now.bases.items in
-    let basis : elements_of c.output_basis-basis.result.now ≡ output_basis circuit.bound.words (elements_of_each bases) =
+    let basis : elements_of c.output_basis-basis.result.now ≡ output_basis circuit.binding.words (elements_of_each bases) =
     c.output_basis-basis.ensures.basis ∙ (λ i. output_basis (c.bound.ensures.bound i).words (elements_of_each (c.as_slice.ensures.value i))) in
     let R : List ℕ → Type 0 = λ e. IsRefusal degree mul (bound_cuts circuit e) c.args.bound c.in-Err.fault in
     subst R basis c.in-Err.ensures.fault

@@ -9,11 +9,11 @@ use Rattle.job_input.proofs.circuit_labels.add_nets.Goals as goal
 pub add_net-requires : goal.add_net-requires
 add_net-requires c =
     let P : List ℕ → Type 0 = Differs c.loop-net.net in
-    subst P (sym (ap (λ (l : Labelling). l.nets) c.loop-net.invariant)) (differs_others (bits c.args.circuit.now.bound.words) c.loop-net.net)
+    subst P (sym (ap (λ (l : Labelling). l.nets) c.loop-net.invariant)) (differs_others (bits c.args.circuit.now.binding.words) c.loop-net.net)
 
 pub loop-net-preserved : goal.loop-net-preserved
 loop-net-preserved c =
-    let list = bits c.args.circuit.now.bound.words in
+    let list = bits c.args.circuit.now.binding.words in
     let n = c.loop-net.net in
     let less : n < nets c.args.circuit.now.net = omega (arith, c.loop-net-test.true, c.requires.count) in
     let is_bit : nat_lt c.from.result c.args.first ≡ stands_in list n =

@@ -11,7 +11,7 @@ add_nets-requires-clause-count c = c.nets-count.ensures.count ∙ ap (λ (n : Ne
 
 pub add_nets-requires-clause-first : goal.add_nets-requires-clause-first
 add_nets-requires-clause-first c =
-    let bound = c.args.circuit.now.bound in
+    let bound = c.args.circuit.now.binding in
     let long = counted c.args.k bound.words c.args.words.now (λ word has. All_has (λ (u : BoundWord). length u.nets ≡ bound.k) bound.words word c.net.ensures.is_bound.flat.named has ∙ c.requires.bits) c.requires.roles in
     let ranks : c.ranks-first.result ≡ bit_count c.in_ok-labels.labels.words + length c.in_ok-labels.labels.nets = c.ranks-first.ensures in
     let words = ap (λ (l : Labelling). bit_count l.words) c.in_ok-labels.ensures in

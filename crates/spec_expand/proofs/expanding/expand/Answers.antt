@@ -10,7 +10,7 @@ use Rattle.stage_model.specs.Listing.{IsRefusal}
 use Rattle.circuit_model.specs.Bases.{circuit_in}
 use Rattle.spec_expand.specs.Specification.{SpecTerms}
 use Rattle.spec_expand.specs.SpecListing.{spec_listing}
-use Rattle.spec_expand.specs.private.Expanding.{IsSummed}
+use Rattle.spec_expand.proofs.Summed.{IsSummed}
 use Rattle.spec_expand.proofs.BasisLemmas.{is_well_formed}
 use Rattle.spec_expand.proofs.StageLemmas.{nothing_summed, term_over, summed_more, sum_refused, term_refused, all_expanded, all_within}
 use Rattle.spec_expand.proofs.expanding.expand.Goals as goal

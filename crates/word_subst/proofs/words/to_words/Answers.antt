@@ -8,9 +8,9 @@ use Rattle.stage_model.specs.Stage.{IsOfStage}
 use Rattle.circuit_model.specs.Bases.{circuit_in}
 use Rattle.stage_model.specs.Listing.{IsRefusal}
 use Rattle.stage_model.specs.WordListing.{word_listing}
-use Rattle.word_subst.proofs.Turn.{is_well_formed, places_are, as_many, inside, own_word, is_over}
-use Rattle.word_subst.proofs.Lifted.{next_mix}
-use Rattle.word_subst.proofs.AllWords.{all_recorded, all_within, one_word_within, one_word_recorded, refused}
+use Rattle.word_subst.proofs.TurnLemmas.{is_well_formed, places_are, as_many, inside, own_word, is_over}
+use Rattle.word_subst.proofs.LiftedLemmas.{next_mix}
+use Rattle.word_subst.proofs.AllWordLemmas.{all_recorded, all_within, one_word_within, one_word_recorded, refused}
 use Rattle.word_subst.proofs.words.to_words.Goals as goal
 
 pub bounds-bases-index : goal.bounds-bases-index

@@ -17,7 +17,7 @@ to_words-requires-clause-bits g c =
     let circuit = c.args.circuit.now in
     let bases = c.args.bases.now in
     let job : IsJob degree mul circuit bases = record { ring = g.met.F.Ring.laws c.args.field.now; nozero = g.met.F.Field.no_zero_divisors c.args.field.now; sound = c.bound.ensures.sound; bound = c.bound.ensures.is_bound; flat = c.bound.ensures.flat; same = c.requires.bits; over = c.requires.over; long = c.requires.long } in
-    let basis : elements_of c.output_basis-basis.result.now ≡ output_basis circuit.bound.words (elements_of_each bases) =
+    let basis : elements_of c.output_basis-basis.result.now ≡ output_basis circuit.binding.words (elements_of_each bases) =
     c.output_basis-basis.ensures.basis ∙ ap (λ (b : Binding). output_basis b.words (elements_of_each bases)) c.bound.ensures.bound in
     let L : List ℕ → Type 0 = λ e. IsOfStage degree mul (BoundCut circuit e (length circuit.net.gates)) c.in-Ok.bits.terms in
     let last = subst L basis c.in-Ok.ensures.last in
@@ -30,7 +30,7 @@ to_words-requires-clause-few g c =
     let circuit = c.args.circuit.now in
     let bases = c.args.bases.now in
     let job : IsJob degree mul circuit bases = record { ring = g.met.F.Ring.laws c.args.field.now; nozero = g.met.F.Field.no_zero_divisors c.args.field.now; sound = c.bound.ensures.sound; bound = c.bound.ensures.is_bound; flat = c.bound.ensures.flat; same = c.requires.bits; over = c.requires.over; long = c.requires.long } in
-    let basis : elements_of c.output_basis-basis.result.now ≡ output_basis circuit.bound.words (elements_of_each bases) =
+    let basis : elements_of c.output_basis-basis.result.now ≡ output_basis circuit.binding.words (elements_of_each bases) =
     c.output_basis-basis.ensures.basis ∙ ap (λ (b : Binding). output_basis b.words (elements_of_each bases)) c.bound.ensures.bound in
     let L : List ℕ → Type 0 = λ e. IsOfStage degree mul (BoundCut circuit e (length circuit.net.gates)) c.in-Ok.bits.terms in
     let last = subst L basis c.in-Ok.ensures.last in

@@ -28,7 +28,7 @@ stage_stop-requires g c =
     let degree = g.F.Ring.degree c.args.field.now in
     let mul = g.F.Ring.product c.args.field.now in
     let setting : SettingValue = setting_value degree mul c.args.setting.now in
-    cuts_named degree mul c.args.circuit.now (output_basis c.args.circuit.now.bound.words setting.bases) (length c.in_ok-labels.labels.words) c.args.bound c.in-Err.fault c.in-Err.ensures.fault
+    cuts_named degree mul c.args.circuit.now (output_basis c.args.circuit.now.binding.words setting.bases) (length c.in_ok-labels.labels.words) c.args.bound c.in-Err.fault c.in-Err.ensures.fault
 
 pub returns-in-Err : goal.returns-in-Err
 returns-in-Err g c =

@@ -27,7 +27,7 @@ check-requires-clause-labels g c =
     let circuit = c.args.circuit.now in
     let setting = c.args.setting.now in
     let job : IsJob degree mul circuit setting.bases.items = record { ring = g.met.F.Ring.laws c.args.field.now; nozero = g.met.F.Field.no_zero_divisors c.args.field.now; sound = c.certificate_labels.ensures.sound; bound = c.certificate_labels.ensures.is_bound; flat = c.certificate_labels.ensures.is_bound.flat.latches; same = c.requires.taken.bits; over = c.requires.ready.over; long = c.requires.taken.long } in
-    let P : Labelling → Type 0 = NameWords circuit.bound in
+    let P : Labelling → Type 0 = NameWords circuit.binding in
     subst P (sym c.in_ok-labels.ensures.labels) (labels_name degree mul setting c.requires.ready circuit c.requires.taken job)
 
 pub returns-in-Ok-clause-gives : goal.returns-in-Ok-clause-gives
