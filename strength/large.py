@@ -62,8 +62,8 @@ def chain(nets, begins=b'.inputs a\n.names a n0\n1 1\n', more=b'', last=b'z'):
 DEEP = b'.outputs z1\n.names z1\n.inputs a0 a1\n.names a0 n0\n0 1\n'
 
 
-def ring(nets):
-    """A ring of gates, with the output word at a wire beside it."""
+def cycle(nets):
+    """A cycle of gates, with the output word at a wire beside it."""
     def pieces():
         yield WIRE
         for i in range(nets):
@@ -143,7 +143,7 @@ LIMITS = [
     abstract('1,048,577 gates', CONSTANT, chain(NETS, b'.names n0\n', b'.names z\n'), 2, 'fault 38: too many gates in F'),
     abstract('1,000,000 inverters', SIGNATURE, chain(MANY, b'.inputs a\n.names a n0\n0 1\n'), 0, 'Z = A'),
     abstract('100,000 inverters over GF(4)', TWO_BITS, chain(100000, DEEP, last=b'z0'), 0, 'Z = 0x2*A^2 + 0x3*A'),
-    abstract('ring of 1,000,000 gates', SIGNATURE, ring(MANY), 2, 'fault 36: loop of 1000000 nets through n0 in F'),
+    abstract('cycle of 1,000,000 gates', SIGNATURE, cycle(MANY), 2, 'fault 36: loop of 1000000 nets through n0 in F'),
     abstract('1,048,575 primary inputs', SIGNATURE, inputs(NETS - 1), 0, 'Z = A'),
     abstract('1,048,576 primary inputs', SIGNATURE, inputs(NETS), 2, 'fault 38: too many nets in F'),
     abstract('1,048,512 primary inputs, 512 in words', wide_signature, wide_netlist, 0, 'Z = A'),

@@ -22,7 +22,7 @@ use Rattle.block_circuits.specs.Block.{IsBlockCircuit}
 
 module _ (k : ℕ) (mul : ℕ → ℕ → ℕ) (h : Hierarchy) where
   pub made_circuit : (model : ℕ) (words : List WordText) (bases : List Basis) (circuit : BoundNet) → IsBlockCircuit h.design model words circuit → IsCircuitOf k mul h model words (map elements_of bases) (circuit_in k mul circuit bases)
-  made_circuit model words bases circuit is = record { net = circuit.net; flat = is.flat; latches = is.latches; binding = circuit.bound; bound = is.bound; is = refl }
+  made_circuit model words bases circuit is = record { net = circuit.net; flat = is.flat; latches = is.latches; binding = circuit.binding; bound = is.bound; is = refl }
 
   pub one_circuit : (model : ℕ) (words : List WordText) (bases : List (List ℕ)) (circuit other : Circuit) → IsCircuitOf k mul h model words bases circuit → IsCircuitOf k mul h model words bases other → circuit ≡ other
   one_circuit model words bases circuit other a b =
@@ -31,7 +31,7 @@ module _ (k : ℕ) (mul : ℕ → ℕ → ℕ) (h : Hierarchy) where
       let P : NetList → Type 0 = λ n. BindingOf n words [] (Ok b.binding) in
       let bound = binding_determined a.net words [] (Ok a.binding) (Ok b.binding) a.bound (subst P (sym net) b.bound) in
       let binding : a.binding ≡ b.binding = cc in
-      sym a.is ∙ (λ i. circuit_with k mul (record { net = net i; bound = binding i }) bases) ∙ b.is
+      sym a.is ∙ (λ i. circuit_with k mul (record { net = net i; binding = binding i }) bases) ∙ b.is
 
   pub one_block : (item : Item) (circuit other : Circuit) → IsBlockOf k mul h item circuit → IsBlockOf k mul h item other → circuit ≡ other
   one_block item circuit other a b =

@@ -1,5 +1,5 @@
 -- Faults of flattening and binding as those of a block.
-use Rattle.std.proofs.Common.{◌≡◌, ◌⊎◌, inl, inr, ℕ, List, [], Ok, Err}
+use Rattle.std.proofs.Common.{◌≡◌, ℕ, List, [], Ok, Err}
 use Rattle.net_core.specs.NetList.{NetList}
 use Rattle.net_words.specs.Bind.{BindingOf}
 use Rattle.net_words.specs.BindReading.{FitsBinding}
@@ -9,19 +9,11 @@ use Rattle.net_words.specs.declared.binding.BindFault.TheVariants as binds
 use Rattle.net_words.specs.declared.word.WordText.{WordText}
 use Rattle.net_blif.specs.Design.{ModelValue}
 use Rattle.net_flat.specs.Flat.{Flattens}
-use Rattle.net_flat.specs.declared.flat_fault.FlatFault.{FlatFault}
 use Rattle.net_flat.specs.declared.flat_fault.FlatFault.TheVariants as flats
 use Rattle.block_circuits.specs.Block.{IsBlockFault}
-use Rattle.block_circuits.specs.private.Refusals.{bind_refusal_of, flat_refusal_of}
+use Rattle.block_circuits.specs.private.Refusals.{bind_refusal_of}
 
 module _ (design : List ModelValue) (model : ℕ) (words : List WordText) where
-  pub flat_refused : (fault : FlatFault) → ((fault ≡ flats.OutOfMemory) ⊎ Flattens design model (Err fault)) → IsBlockFault design model words (flat_refusal_of fault)
-  flat_refused (flats.Net fault) (inl e) = absurd (cc)
-  flat_refused (flats.Net fault) (inr is) = (flats.Net fault, is)
-  flat_refused flats.TooManyInstances (inl e) = absurd (cc)
-  flat_refused flats.TooManyInstances (inr is) = (flats.TooManyInstances, is)
-  flat_refused flats.OutOfMemory is = tt
-
   pub bind_refused : (net : NetList) → Flattens design model (Ok net) → net.latches ≡ [] → (fault : BindFault) → FitsBinding {X = Binding} {A = Binding} (λ b. b) (Err fault) (BindingOf net words []) → IsBlockFault design model words (bind_refusal_of fault)
   bind_refused net flat none (binds.NoSuchNet word place) is = record { net = net; flat = flat; latches = none; fault = binds.NoSuchNet word place; refused = is }
   bind_refused net flat none (binds.NotInput word place) is = record { net = net; flat = flat; latches = none; fault = binds.NotInput word place; refused = is }

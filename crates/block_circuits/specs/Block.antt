@@ -16,7 +16,7 @@ module _ (design : List ModelValue) (model : ℕ) (words : List WordText) where
   pub record IsBlockCircuit (circuit : BoundNet) : Type 0 where
     pub flat : Flattens design model (Ok circuit.net)
     pub latches : circuit.net.latches ≡ []
-    pub bound : BindingOf circuit.net words [] (Ok circuit.bound)
+    pub bound : BindingOf circuit.net words [] (Ok circuit.binding)
 
   -- the model is a net with a latch
   pub record IsLatched : Type 0 where

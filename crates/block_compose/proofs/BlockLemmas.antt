@@ -1,5 +1,5 @@
 -- The polynomials of blocks, while instances are taken one after another.
-use Rattle.std.proofs.Common.{◌≡◌, ◌≢◌, ◌⊎◌, ◌∙◌, ap, sym, refl, subst, inl, inr, ℕ, zero, suc, ◌<◌, ◌+◌, Global, List, [], ◌∷◌, ◌++◌, Vec, get_or, length, map, replicate, Option, None, Some, arith}
+use Rattle.std.proofs.Common.{◌≡◌, ◌≢◌, ◌⊎◌, ◌∙◌, ap, sym, subst, inl, inr, ℕ, zero, suc, ◌<◌, ◌+◌, Global, List, [], ◌∷◌, ◌++◌, Vec, get_or, length, map, replicate, Option, None, Some, arith}
 use Rattle.std.specs.Prelude.{slice_get}
 use Rattle.std.proofs.Math.ListN.{set}
 use Rattle.std.proofs.lemmas.List.{length-set}
@@ -14,7 +14,8 @@ use Rattle.circuit_poly.specs.Stages.{stages_in, IsFirstRefusal}
 use Rattle.block_plan.proofs.ListLemmas.{none_read, replicated}
 use Rattle.block_compose.specs.declared.fault.ComposeFault.{ComposeFault}
 use Rattle.block_compose.specs.declared.fault.ComposeFault.TheVariants.{OutOfMemory}
-use Rattle.block_compose.specs.private.Blocks.{block_fault_of, ArePolys, AreTaken, AreTakenTo, HasPoly, IsBlockPoly, IsFirstBlockOver, IsKeptBlock, IsRefusedBlock, KeepsPolys}
+use Rattle.block_compose.specs.private.Blocks.{block_fault_of, ArePolys, AreTaken, HasPoly, IsBlockPoly, IsFirstBlockOver, IsKeptBlock, IsRefusedBlock, KeepsPolys}
+use Rattle.block_compose.proofs.TakenPolys.{AreTakenTo}
 
 module _ (k : ℕ) (mul : ℕ → ℕ → ℕ) (blocks : List BlockValue) (circuits : List (Option BoundNet)) (bases : List (List Basis)) (bound : ℕ) where
   pub no_polys : (polys : List (Option Polynomial)) → polys ≡ replicate (length blocks) None → ArePolys k mul blocks circuits bases bound polys
@@ -87,9 +88,6 @@ taken_more polys numbers n number old new poly taken at has made =
 
 pub all_taken : (polys : List (Option Polynomial)) (numbers : List ℕ) (n : ℕ) (list : List Polynomial) → AreTakenTo polys numbers n list → n ≡ length numbers → AreTaken polys numbers list
 all_taken polys numbers n list taken same = record { long = taken.long ∙ same; each = taken.each }
-
-pub none_taken : (polys : List (Option Polynomial)) (numbers : List ℕ) → AreTakenTo polys numbers 0 []
-none_taken polys numbers = record { long = refl; each = λ i number poly got there. absurd (cc) }
 
 -- the blocks of the numbers so far, and the next one
 pub done_more : (numbers : List ℕ) (i number : ℕ) (old new : List (Option Polynomial)) → slice_get numbers i ≡ Some number → KeepsPolys old new → ((j m : ℕ) → j < i → slice_get numbers j ≡ Some m → HasPoly old m) → HasPoly new number → (j m : ℕ) → j < i + 1 → slice_get numbers j ≡ Some m → HasPoly new m

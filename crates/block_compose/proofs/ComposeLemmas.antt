@@ -5,6 +5,7 @@ use Rattle.std.proofs.lemmas.Option.{slice_get_within}
 use Rattle.graph_core.specs.Arranged.{IsArranged}
 use Rattle.graph_core.specs.Cycle.{IsCycleOf}
 use Rattle.graph_core.specs.Graph.{Graph, IsCycle}
+use Rattle.graph_core.proofs.GeneralLemmas.{all_from, length_map as mapped_long}
 use Rattle.graph_core.proofs.GraphLemmas.{edges_within}
 use Rattle.graph_core.proofs.LawLemmas.{arranged_grounded, is_cycle}
 use Rattle.graph_core.proofs.ListLemmas.{get_below}
@@ -29,12 +30,11 @@ use Rattle.stage_model.proofs.ListingLemmas.{all_of_both, earlier_over, later_ov
 use Rattle.circuit_poly.specs.Stages.{joined, stages_in, IsFirstRefusal}
 use Rattle.instance_order.specs.LevelOrder.{first_numbers, IsLevelOrder}
 use Rattle.instance_order.proofs.AfterLemmas.{all_stand, level_arranged}
-use Rattle.instance_order.proofs.LevelLemmas.{all_from}
 use Rattle.block_feeds.specs.Given.{IsGiven}
 use Rattle.block_feeds.specs.Hierarchy.{block_of, top_words, Hierarchy}
 use Rattle.block_feeds.specs.NamedWord.{inputs_among}
 use Rattle.block_feeds.specs.Values.{IsBlockOf, IsTop}
-use Rattle.block_feeds.specs.Wiring.{feeding_graph, instances_among, HaveBlocks, IsWithoutRing}
+use Rattle.block_feeds.specs.Wiring.{feeding_graph, instances_among, HaveBlocks, IsWithoutCycle}
 use Rattle.block_feeds.specs.declared.feeder.Feeder.{Feeder}
 use Rattle.block_feeds.specs.declared.feeder.Feeder.TheVariants.{InputWord, OutputOf}
 use Rattle.instance_polys.specs.Words.{IsFeedAmong}
@@ -43,7 +43,7 @@ use Rattle.wired_poly.specs.Wired.{IsStageFault, IsWiredPoly}
 use Rattle.wired_poly.proofs.WiredLemmas.{among_instances, graph_inside}
 use Rattle.block_plan.specs.ForEach.{AreValues}
 use Rattle.block_plan.specs.Plan.{UsesOf}
-use Rattle.block_plan.specs.Planned as plan
+use Rattle.block_plan.specs.Planned as planned
 use Rattle.block_plan.specs.Planned.{AreKept}
 use Rattle.block_plan.specs.Uses.{BlockUse, UseOf}
 use Rattle.block_plan.specs.declared.fault.PlanFault.{PlanFault}
@@ -59,13 +59,14 @@ use Rattle.block_stages.specs.InstanceStages.{instance_stages}
 use Rattle.block_stages.proofs.JoinLemmas.{bound_stages_over, bound_stages_within}
 use Rattle.block_stages.proofs.StageLemmas.{all_done, refused_first}
 use Rattle.block_stages.proofs.UsedLemmas.{block_over, blocks_within}
-use Rattle.block_compose.specs.Composed.{hierarchy_of, plan_fault, refusal, wiring_fault, Composes, HasNoRing, IsBlockOver, IsComposed, MayFault, StagesOf}
+use Rattle.block_compose.specs.Composed.{hierarchy_of, refusal, Composes, HasNoCycle, IsBlockOver, IsComposed, MayFault, StagesOf}
 use Rattle.block_compose.specs.declared.fault.ComposeFault.{ComposeFault}
+use Rattle.block_compose.specs.declared.fault.ComposeFault.TheVariants.{Plan, Wiring}
 use Rattle.block_compose.specs.private.Blocks.{block_fault_of, instance_fault_of, ArePolys, HasPoly, IsBlockPoly, IsFirstBlockOver}
-use Rattle.block_compose.proofs.GivenLemmas.{have_blocks, mapped_at, mapped_long}
+use Rattle.block_compose.proofs.GivenLemmas.{have_blocks, mapped_at}
 use Rattle.block_compose.proofs.StageLemmas.{number_at, one_kept, wired_output}
 
--- ---- rings
+-- ---- cycles
 
 graph_long : (rows : List (List Feeder)) → length (feeding_graph rows) ≡ length rows
 graph_long [] = refl
@@ -79,9 +80,9 @@ among_rows h n (OutputOf i) same less = omega (arith, less, same)
 pub among_wired : (h : Hierarchy) (rows : List (List Feeder)) (output : Feeder) → AreWired h rows output → (i j : ℕ) (feeds : List Feeder) (feed : Feeder) → slice_get rows i ≡ Some feeds → slice_get feeds j ≡ Some feed → IsFeedAmong (length (inputs_among (top_words h))) (length rows) feed
 among_wired h rows output wired i j feeds feed at got = among_rows h (length rows) feed wired.feeds.long (wired.among i j feeds feed at got)
 
--- instances that stand in an order by level feed each other in no ring
-pub no_ring : (h : Hierarchy) (rows : List (List Feeder)) (output : Feeder) (order : List ℕ) → AreWired h rows output → IsLevelOrder (feeding_graph rows) order → IsWithoutRing rows
-no_ring h rows output order wired by_level i less =
+-- instances that stand in an order by level feed each other in no cycle
+pub no_cycle : (h : Hierarchy) (rows : List (List Feeder)) (output : Feeder) (order : List ℕ) → AreWired h rows output → IsLevelOrder (feeding_graph rows) order → IsWithoutCycle rows
+no_cycle h rows output order wired by_level i less =
     let graph : Graph = feeding_graph rows in
     let inside = graph_inside (length (inputs_among (top_words h))) rows (among_wired h rows output wired) in
     let arranged : IsArranged graph (first_numbers (length graph)) order = level_arranged graph order inside by_level in
@@ -93,9 +94,9 @@ cycle_first graph [] is = absurd is
 cycle_first graph (a ∷ []) is = (a, refl, edges_within graph a is.0 a is.1)
 cycle_first graph (a ∷ c ∷ rest) is = (a, refl, edges_within graph a is.0.0 c is.0.1)
 
--- the first instance of a ring is one of the top
-pub ring_first : (rows : List (List Feeder)) (roots cycle : List ℕ) → IsCycleOf (feeding_graph rows) roots cycle → (a : ℕ) × (slice_get cycle 0 ≡ Some a) × (a < length rows)
-ring_first rows roots cycle is =
+-- the first instance of a cycle is one of the top
+pub first_of_cycle : (rows : List (List Feeder)) (roots cycle : List ℕ) → IsCycleOf (feeding_graph rows) roots cycle → (a : ℕ) × (slice_get cycle 0 ≡ Some a) × (a < length rows)
+first_of_cycle rows roots cycle is =
     let found = cycle_first (feeding_graph rows) cycle (is_cycle (feeding_graph rows) roots cycle is) in
     (found.0, found.1, omega (arith, found.2, graph_long rows))
 
@@ -131,26 +132,20 @@ module _ (k : ℕ) (mul : ℕ → ℕ → ℕ) (design : List ModelValue) (signa
   abbrev Whole : ComposeFault → Type 0
   Whole = MayFault (Composes k mul design signature bases bound)
 
-  pub plan_refused : (fault : PlanFault) → plan.MayFault (UsesOf design signature) fault → Whole (plan_fault fault)
-  plan_refused plans.FedInTop is = inl (plans.FedInTop, is, refl)
-  plan_refused (plans.GateInTop line) is = inl (plans.GateInTop line, is, refl)
-  plan_refused (plans.NoBlock model) is = inl (plans.NoBlock model, is, refl)
-  plan_refused (plans.BlockNet model) is = inl (plans.BlockNet model, is, refl)
-  plan_refused (plans.BlockLatch model) is = inl (plans.BlockLatch model, is, refl)
-  plan_refused (plans.BlockBind model) is = inl (plans.BlockBind model, is, refl)
+  pub plan_refused : (fault : PlanFault) → planned.MayFault (UsesOf design signature) fault → Whole (Plan fault)
   plan_refused plans.OutOfMemory is = tt
+  plan_refused fault is = inl (fault, is, refl)
 
   module _ (uses : List BlockUse) (are : UsesOf design signature (Ok uses)) where
-    pub wiring_refused : (fault : WiringFault) → IsWiringFault h fault → Whole (wiring_fault fault)
-    wiring_refused (wirings.NotWords instance word) is = inr (uses, are, inl (wirings.NotWords instance word, is, refl))
-    wiring_refused wirings.OutputNotWords is = inr (uses, are, inl (wirings.OutputNotWords, is, refl))
+    pub wiring_refused : (fault : WiringFault) → IsWiringFault h fault → Whole (Wiring fault)
     wiring_refused wirings.OutOfMemory is = tt
+    wiring_refused fault is = inr (uses, are, inl (fault, is, refl))
 
     module _ (rows : List (List Feeder)) (output : Feeder) (wired : AreWired h rows output) where
-      pub ring_refused : (fault : ComposeFault) → MayFault (HasNoRing rows) fault → Whole fault
-      ring_refused fault may = lifted (HasNoRing rows) (Composes k mul design signature bases bound) (λ e is. inr (uses, are, inr ((rows, output), wired, inl is))) (refusal fault) may
+      pub cycle_refused : (fault : ComposeFault) → MayFault (HasNoCycle rows) fault → Whole fault
+      cycle_refused fault may = lifted (HasNoCycle rows) (Composes k mul design signature bases bound) (λ e is. inr (uses, are, inr ((rows, output), wired, inl is))) (refusal fault) may
 
-      module _ (free : IsWithoutRing rows) where
+      module _ (free : IsWithoutCycle rows) where
         pub stage_refused : (fault : ComposeFault) → MayFault (StagesOf k mul h rows bound) fault → Whole fault
         stage_refused fault may = lifted (StagesOf k mul h rows bound) (Composes k mul design signature bases bound) (λ e is. inr (uses, are, inr ((rows, output), wired, inr (tt, free, is)))) (refusal fault) may
 
@@ -170,7 +165,7 @@ module _ (k : ℕ) (mul : ℕ → ℕ → ℕ) (design : List ModelValue) (signa
   circuit_within : (i number : ℕ) (item : Item) (circuit : Circuit) (ts : Terms) → slice_get (instances_of design) i ≡ Some item → slice_get numbers i ≡ Some number → IsBlockOf k mul top item circuit → IsBlockPoly k mul signature.blocks circuits bases bound number ts → AreAllWithin k mul (circuit_stages circuit) bound
   circuit_within i number item circuit ts at got is poly =
       let same = one_kept k mul design signature bases uses values numbers circuits kept i number item poly.circuit poly.list circuit at got poly.kept is in
-      let long : length (map elements_of poly.list) ≡ length poly.circuit.bound.words = mapped_long elements_of poly.list ∙ poly.kept.bases_are.long in
+      let long : length (map elements_of poly.list) ≡ length poly.circuit.binding.words = mapped_long elements_of poly.list ∙ poly.kept.bases_are.long in
       let P : Circuit → Type 0 = λ c. AreAllWithin k mul (circuit_stages c) bound in
       subst P same ((bound_stages_within k mul poly.circuit (map elements_of poly.list) long bound).0 poly.within)
 
@@ -202,7 +197,7 @@ module _ (k : ℕ) (mul : ℕ → ℕ → ℕ) (design : List ModelValue) (signa
             let one_use : IsFirstUse top first.number first.place = record { item = item.0; at = item.1; named = named.2 ∙ ap Some number_same; first = others } in
             let used : IsUsedBlock k mul top first.number circuit.0 = record { place = first.place; use_is = one_use; is = circuit.1 } in
             let over_net : IsOver k mul (stages_in k mul first.refused.circuit first.refused.list) bound (joined stage) n = is in
-            let long : length (map elements_of first.refused.list) ≡ length first.refused.circuit.bound.words = mapped_long elements_of first.refused.list ∙ first.refused.kept.bases_are.long in
+            let long : length (map elements_of first.refused.list) ≡ length first.refused.circuit.binding.words = mapped_long elements_of first.refused.list ∙ first.refused.kept.bases_are.long in
             let one = one_kept k mul design signature bases uses values numbers circuits kept first.place first.number item.0 first.refused.circuit first.refused.list circuit.0 item.1 first.at first.refused.kept circuit.1 in
             let Q : Circuit → Type 0 = λ c. IsOver k mul (circuit_stages c) bound (joined stage) n in
             let over : IsOver k mul (circuit_stages circuit.0) bound (joined stage) n = subst Q one ((bound_stages_over k mul first.refused.circuit (map elements_of first.refused.list) long bound (joined stage) n).0 over_net) in
@@ -229,7 +224,7 @@ module _ (k : ℕ) (mul : ℕ → ℕ → ℕ) (design : List ModelValue) (signa
                 let poly = (first.before used.place number.0 lower number.1).1 in
                 circuit_within used.place number.0 used.use_is.item circuit poly.0 used.use_is.at number.1 used.is poly.1
 
-    module _ (ring : IsRing k mul) (field : HasNoZeroDivisors k mul) (given : IsGiven k top) (output : Feeder) (wired : AreWired top rows output) (free : IsWithoutRing rows) (blocks : List Terms) (made : HaveBlockPolys k mul top blocks) (within : AreBlocksWithin k mul top bound) (count : ℕ) (count_same : count ≡ length (inputs_among (top_words top))) where
+    module _ (ring : IsRing k mul) (field : HasNoZeroDivisors k mul) (given : IsGiven k top) (output : Feeder) (wired : AreWired top rows output) (free : IsWithoutCycle rows) (blocks : List Terms) (made : HaveBlockPolys k mul top blocks) (within : AreBlocksWithin k mul top bound) (count : ℕ) (count_same : count ≡ length (inputs_among (top_words top))) where
       -- the first stage of an instance over the bound
       pub instance_refused : (fault : ReduceFault) → IsStageFault k mul count blocks rows bound fault → MayFault (StagesOf k mul top rows bound) (instance_fault_of fault)
       instance_refused stages.OutOfMemory is = tt

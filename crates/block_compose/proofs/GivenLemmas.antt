@@ -7,6 +7,7 @@ use Rattle.std.proofs.lemmas.List.Folds.{list_any_at}
 use Rattle.std.proofs.lemmas.Option.{get_or_from_slice_get, slice_get_within}
 use Rattle.graph_core.proofs.CycleLemmas.{from_map}
 use Rattle.graph_core.proofs.ListLemmas.{get_below}
+use Rattle.graph_core.proofs.GeneralLemmas.{length_map as mapped_long}
 use Rattle.net_core.specs.Lists.{Has}
 use Rattle.net_core.specs.NetList.{NetList}
 use Rattle.net_words.specs.Bind.{BindingOf}
@@ -55,10 +56,6 @@ pub mapped_at : {A B : Type 0} (f : A → B) (xs : List A) (i : ℕ) (x : A) →
 mapped_at f [] i x got = absurd (cc)
 mapped_at f (y ∷ xs) zero x got = let same : y ≡ x = cc in ap (λ z. Some (f z)) same
 mapped_at f (y ∷ xs) (suc i) x got = mapped_at f xs i x got
-
-pub mapped_long : {A B : Type 0} (f : A → B) (xs : List A) → length (map f xs) ≡ length xs
-mapped_long f [] = refl
-mapped_long f (x ∷ xs) = ap suc (mapped_long f xs)
 
 -- ---- nothing is fed
 
@@ -163,7 +160,7 @@ module _ (k : ℕ) (mul : ℕ → ℕ → ℕ) (design : List ModelValue) (signa
         found = is.is_block.found;
         model = is.model;
         model_is = is.is_block.model_is;
-        is = record { net = one_use.circuit.net; flat = is.circuit.flat; latches = is.circuit.latches; binding = one_use.circuit.bound; bound = is.circuit.bound; is = refl };
+        is = record { net = one_use.circuit.net; flat = is.circuit.flat; latches = is.circuit.latches; binding = one_use.circuit.binding; bound = is.circuit.bound; is = refl };
       }
 
   module _ (uses : List BlockUse) (values : AreValues (UseOf design signature.blocks) (instances_of design) uses) where
@@ -182,7 +179,7 @@ module _ (k : ℕ) (mul : ℕ → ℕ → ℕ) (design : List ModelValue) (signa
         let none : whole.0.latches ≡ [] = no_latches design whole.0 right.2.2 (no_gate (gate_line design) alone) whole.1 latchless in
         let latches : given.net.latches ≡ [] = ap (λ (n : NetList). n.latches) whole.2 ∙ none in
         let P : List FeedText → Type 0 = λ feeds. BindingOf given.net signature.words feeds (Ok given.binding) in (
-          circuit_with k mul (record { net = given.net; bound = given.binding }) (bases_at h 0),
+          circuit_with k mul (record { net = given.net; binding = given.binding }) (bases_at h 0),
           record { net = given.net; flat = given.flat; latches = latches; binding = given.binding; bound = subst P (unfed_words signature unfed).1 given.bound; is = refl },
         )
       where
@@ -207,8 +204,8 @@ module _ (k : ℕ) (mul : ℕ → ℕ → ℕ) (design : List ModelValue) (signa
         let found : slice_get signature.blocks one_use.0.number ≡ Some block = one_use.2.is_block.found in
         let has = given.blocks one_use.0.number block found in
         let can = given.blocks_are one_use.0.number block found in
-        let bound = one_use.2.circuit.bound in
-        let words : AreBound one_use.0.circuit.net block.words one_use.0.circuit.bound.words = binding_named one_use.0.circuit.net block.words one_use.0.circuit.bound can.unfed bound in
+        let bound = one_use.2.circuit.binding in
+        let words : AreBound one_use.0.circuit.net block.words one_use.0.circuit.binding.words = binding_named one_use.0.circuit.net block.words one_use.0.circuit.binding can.unfed bound in
         let P : ℕ → Type 0 = λ n. IsKeptBlock k mul signature.blocks circuits bases n one_use.0.circuit has.list in (
           one_use.0.circuit,
           has.list,
@@ -217,7 +214,7 @@ module _ (k : ℕ) (mul : ℕ → ℕ → ℕ) (design : List ModelValue) (signa
             found = found;
             at = kept.circuit i one_use.0 one_use.1;
             bases_at = has.at;
-            bits = binding_bits one_use.0.circuit.net k block.words one_use.0.circuit.bound can.words_are bound;
-            bases_are = record { long = has.long ∙ sym (bound_long one_use.0.circuit.net block.words one_use.0.circuit.bound.words words); each = has.each };
+            bits = binding_bits one_use.0.circuit.net k block.words one_use.0.circuit.binding can.words_are bound;
+            bases_are = record { long = has.long ∙ sym (bound_long one_use.0.circuit.net block.words one_use.0.circuit.binding.words words); each = has.each };
           }),
         )

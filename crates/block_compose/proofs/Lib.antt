@@ -1,3 +1,4 @@
+pub mod TakenPolys
 pub mod GivenLemmas
 pub mod BlockLemmas
 pub mod StageLemmas

@@ -14,7 +14,7 @@ use Rattle.poly_mixed.specs.declared.stage.ReduceFault.{ReduceFault}
 use Rattle.block_feeds.specs.Given.{IsGiven}
 use Rattle.block_feeds.specs.Hierarchy.{top_words, Hierarchy}
 use Rattle.block_feeds.specs.NamedWord.{inputs_among}
-use Rattle.block_feeds.specs.Wiring.{feeding_graph, IsWithoutRing}
+use Rattle.block_feeds.specs.Wiring.{feeding_graph, IsWithoutCycle}
 use Rattle.block_feeds.specs.declared.feeder.Feeder.{Feeder}
 use Rattle.instance_order.specs.LevelOrder.{IsLevelOrder}
 use Rattle.wired_poly.specs.Wired.{IsStageFault, IsWired, IsWiredPoly}
@@ -25,7 +25,7 @@ use Rattle.block_compose.specs.Composed.{hierarchy_of, IsComposable, MayFault, S
 use Rattle.block_compose.specs.declared.fault.ComposeFault.{ComposeFault}
 use Rattle.block_compose.specs.declared.fault.ComposeFault.TheVariants.{OutOfMemory}
 use Rattle.block_compose.specs.private.Blocks.{instance_fault_of, AreKeptBlocks, ArePolys, AreTaken, HasPoly, IsFirstBlockOver}
-use Rattle.block_compose.proofs.ComposeLemmas.{all_composed, block_refused, blocks_all, instance_refused, no_ring}
+use Rattle.block_compose.proofs.ComposeLemmas.{all_composed, block_refused, blocks_all, instance_refused, no_cycle}
 use Rattle.block_compose.proofs.GivenLemmas.{block_based, have_blocks, is_given, kept_blocks, top_based, top_circuit}
 use Rattle.block_compose.proofs.StageLemmas.{block_polys, count_is, number_at, wired_top}
 
@@ -60,8 +60,8 @@ module _ (k : ℕ) (mul : ℕ → ℕ → ℕ) (ring : IsRing k mul) (field : Ha
     known : IsGiven k h
     known = is_given k mul design signature bases given planned.are.1 rows output right wired
 
-    free : IsWithoutRing rows
-    free = no_ring h rows output order wired by_level
+    free : IsWithoutCycle rows
+    free = no_cycle h rows output order wired by_level
 
     abbrev blocks : List Terms
     blocks = map (λ (q : Polynomial). q.terms) list

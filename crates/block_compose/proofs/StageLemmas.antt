@@ -4,6 +4,7 @@ use Rattle.std.specs.Prelude.{slice_get, slice_index}
 use Rattle.std.specs.Option.{unwrap_or}
 use Rattle.std.proofs.lemmas.Option.{slice_get_within}
 use Rattle.graph_core.specs.Graph.{Has}
+use Rattle.graph_core.proofs.GeneralLemmas.{length_map as mapped_long}
 use Rattle.graph_core.proofs.CycleLemmas.{from_map}
 use Rattle.graph_core.proofs.ListLemmas.{get_below}
 use Rattle.net_words.specs.Binding.{AreWords, BoundNet}
@@ -32,7 +33,7 @@ use Rattle.block_feeds.specs.Given.{IsGiven}
 use Rattle.block_feeds.specs.Hierarchy.{bases_at, block_of, top_words, Hierarchy, IsInstance}
 use Rattle.block_feeds.specs.NamedWord.{inputs_among, named_words, NamedWord}
 use Rattle.block_feeds.specs.Values.{IsBlockOf, IsTop}
-use Rattle.block_feeds.specs.Wiring.{feeding_graph, HaveBlocks, IsWithoutRing}
+use Rattle.block_feeds.specs.Wiring.{feeding_graph, HaveBlocks, IsWithoutCycle}
 use Rattle.block_feeds.specs.declared.feeder.Feeder.{Feeder}
 use Rattle.block_feeds.specs.declared.feeder.Feeder.TheVariants.{InputWord, OutputOf}
 use Rattle.block_outputs.proofs.InputsLemmas.{inputs_long}
@@ -49,7 +50,7 @@ use Rattle.block_plan.specs.Uses.{BlockUse, UseOf}
 use Rattle.block_wiring.specs.Answer.{AreWired, IsFeedIn}
 use Rattle.block_compose.specs.Composed.{hierarchy_of}
 use Rattle.block_compose.specs.private.Blocks.{ArePolys, AreTaken, IsBlockPoly, IsKeptBlock}
-use Rattle.block_compose.proofs.GivenLemmas.{mapped_long, use_at, used_block}
+use Rattle.block_compose.proofs.GivenLemmas.{use_at, used_block}
 
 -- ---- words
 
@@ -163,7 +164,7 @@ feed_same k mul words polys n (InputWord w) are among p at =
     ap (λ found. value mul p (unwrap_or found [])) word.1 ∙ (are w word.0 word.1).values p at
 feed_same k mul words polys n (OutputOf i) are among p at = refl
 
-module _ (k : ℕ) (mul : ℕ → ℕ → ℕ) (ring : IsRing k mul) (field : HasNoZeroDivisors k mul) (h : Hierarchy) (given : IsGiven k h) (rows : List (List Feeder)) (output : Feeder) (wired : AreWired h rows output) (have : HaveBlocks k mul h) (free : IsWithoutRing rows) (blocks : List Terms) (made : HaveBlockPolys k mul h blocks) (count bound : ℕ) (count_same : count ≡ length (inputs_among (top_words h))) where
+module _ (k : ℕ) (mul : ℕ → ℕ → ℕ) (ring : IsRing k mul) (field : HasNoZeroDivisors k mul) (h : Hierarchy) (given : IsGiven k h) (rows : List (List Feeder)) (output : Feeder) (wired : AreWired h rows output) (have : HaveBlocks k mul h) (free : IsWithoutCycle rows) (blocks : List Terms) (made : HaveBlockPolys k mul h blocks) (count bound : ℕ) (count_same : count ≡ length (inputs_among (top_words h))) where
   -- the polynomial of a wired top is its output in words
   pub wired_output : (top : Circuit) (ts : Terms) → IsTop k mul h top → IsWiredPoly k mul count blocks rows bound output ts → IsOutputInWords top ts
   wired_output top ts is_top is =

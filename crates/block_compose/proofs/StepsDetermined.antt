@@ -1,4 +1,4 @@
--- At most one outcome comes of the wiring of a top, of the search for a ring, and of the stages.
+-- At most one outcome comes of the wiring of a top, of the search for a cycle, and of the stages.
 use Rattle.std.proofs.Common.{◌≡◌, ◌≢◌, ◌⊎◌, ◌∙◌, ap, sym, refl, subst, inl, inr, ℕ, ◌<◌, ◌+◌, List, [], ◌∷◌, length, None, Some, Ok, Err}
 use Rattle.std.specs.Prelude.{slice_get}
 use Rattle.text_core.specs.Outcome.{Determined}
@@ -20,7 +20,7 @@ use Rattle.circuit_poly.specs.Stages.{joined}
 use Rattle.instance_order.specs.LevelOrder.{first_numbers}
 use Rattle.block_feeds.specs.Given.{IsGiven}
 use Rattle.block_feeds.specs.Hierarchy.{bases_at, Hierarchy}
-use Rattle.block_feeds.specs.Wiring.{feeding_graph, AreAllFeeds, HaveBlocks, IsWithoutRing}
+use Rattle.block_feeds.specs.Wiring.{feeding_graph, AreAllFeeds, HaveBlocks, IsWithoutCycle}
 use Rattle.block_feeds.specs.declared.feeder.Feeder.{Feeder}
 use Rattle.block_outputs.proofs.InstanceLemmas.{facts_of}
 use Rattle.block_circuits.proofs.OneCircuitLemmas.{one_circuit}
@@ -33,10 +33,10 @@ use Rattle.block_wiring.specs.Refusal.{IsWiringFault}
 use Rattle.block_wiring.specs.declared.fault.WiringFault.{WiringFault}
 use Rattle.block_wiring.specs.declared.fault.WiringFault.TheVariants as wirings
 use Rattle.block_wiring.proofs.OneAnswerLemmas.{one_refusal, one_wiring, wired_apart}
-use Rattle.block_compose.specs.Composed.{HasNoRing, IsBlockOver, IsComposed, IsRingThrough, StagesOf, WiringOf}
+use Rattle.block_compose.specs.Composed.{HasNoCycle, IsBlockOver, IsComposed, IsCycleThrough, StagesOf, WiringOf}
 use Rattle.block_compose.specs.declared.fault.ComposeFault.{ComposeFault}
-use Rattle.block_compose.specs.declared.fault.ComposeFault.TheVariants.{FedInTop, GateInTop, NoBlock, BlockNet, BlockLatch, BlockBind, NotWords, OutputNotWords, InstanceLoop, TooManyTerms, OutOfMemory}
-use Rattle.block_compose.proofs.ComposeLemmas.{ring_first}
+use Rattle.block_compose.specs.declared.fault.ComposeFault.TheVariants.{InstanceLoop, TooManyTerms}
+use Rattle.block_compose.proofs.ComposeLemmas.{first_of_cycle}
 
 -- ---- the wiring
 
@@ -58,23 +58,14 @@ module _ (h : Hierarchy) where
       let b = wiring_refused g y in
       ap Err (one_refusal h f g a.0 b.0 a.1 b.1)
 
--- ---- rings
+-- ---- cycles
 
 module _ (rows : List (List Feeder)) where
-  ring_of : (fault : ComposeFault) → HasNoRing rows (Err fault) → (number : ℕ) × IsRingThrough rows number × (fault ≡ InstanceLoop number)
-  ring_of (InstanceLoop number) is = (number, is, refl)
-  ring_of FedInTop is = absurd is
-  ring_of (GateInTop line) is = absurd is
-  ring_of (NoBlock model) is = absurd is
-  ring_of (BlockNet model) is = absurd is
-  ring_of (BlockLatch model) is = absurd is
-  ring_of (BlockBind model) is = absurd is
-  ring_of (NotWords instance word) is = absurd is
-  ring_of OutputNotWords is = absurd is
-  ring_of (TooManyTerms block stage terms) is = absurd is
-  ring_of OutOfMemory is = absurd is
+  cycle_of : (fault : ComposeFault) → HasNoCycle rows (Err fault) → (number : ℕ) × IsCycleThrough rows number × (fault ≡ InstanceLoop number)
+  cycle_of (InstanceLoop number) is = (number, is, refl)
+  cycle_of fault is = absurd is
 
-  one_number : (m n : ℕ) → IsRingThrough rows m → IsRingThrough rows n → m ≡ n
+  one_number : (m n : ℕ) → IsCycleThrough rows m → IsCycleThrough rows n → m ≡ n
   one_number m n a b =
       let cycle : b.cycle ≡ a.cycle = is_only (feeding_graph rows) (first_numbers (length rows)) b.cycle a.cycle b.is a.is in
       let P : List ℕ → Type 0 = λ c. slice_get c 0 ≡ Some b.instance in
@@ -83,9 +74,9 @@ module _ (rows : List (List Feeder)) where
       let same : a.instance ≡ b.instance = cc in
       a.number_is ∙ ap (λ i. i + 1) same ∙ sym b.number_is
 
-  -- where there is no ring, none is found
-  ring_apart : (number : ℕ) → IsWithoutRing rows → IsRingThrough rows number → ⊥
-  ring_apart number free ring = apart ring.cycle (is_cycle (feeding_graph rows) (first_numbers (length rows)) ring.cycle ring.is) (ring_first rows (first_numbers (length rows)) ring.cycle ring.is)
+  -- where there is no cycle, none is found
+  cycle_apart : (number : ℕ) → IsWithoutCycle rows → IsCycleThrough rows number → ⊥
+  cycle_apart number free found = apart found.cycle (is_cycle (feeding_graph rows) (first_numbers (length rows)) found.cycle found.is) (first_of_cycle rows (first_numbers (length rows)) found.cycle found.is)
     where
       apart : (cycle : List ℕ) → IsCycle (feeding_graph rows) cycle → ((a : ℕ) × (slice_get cycle 0 ≡ Some a) × (a < length rows)) → ⊥
       apart [] is first = is
@@ -95,13 +86,13 @@ module _ (rows : List (List Feeder)) where
           let P : ℕ → Type 0 = IsGrounded (feeding_graph rows) in
           grounded_no_cycle (feeding_graph rows) b (subst P (sym same) (free first.0 first.2)) around is
 
-  pub ring_determined : Determined (HasNoRing rows)
-  ring_determined (Ok u) (Ok v) x y = refl
-  ring_determined (Ok u) (Err fault) x y = let ring = ring_of fault y in absurd (ring_apart ring.0 x ring.1)
-  ring_determined (Err fault) (Ok u) x y = let ring = ring_of fault x in absurd (ring_apart ring.0 y ring.1)
-  ring_determined (Err f) (Err g) x y =
-      let a = ring_of f x in
-      let b = ring_of g y in
+  pub cycle_determined : Determined (HasNoCycle rows)
+  cycle_determined (Ok u) (Ok v) x y = refl
+  cycle_determined (Ok u) (Err fault) x y = let found = cycle_of fault y in absurd (cycle_apart found.0 x found.1)
+  cycle_determined (Err fault) (Ok u) x y = let found = cycle_of fault x in absurd (cycle_apart found.0 y found.1)
+  cycle_determined (Err f) (Err g) x y =
+      let a = cycle_of f x in
+      let b = cycle_of g y in
       ap Err (a.2 ∙ ap InstanceLoop (one_number a.0 b.0 a.1 b.1) ∙ sym b.2)
 
 -- ---- the stages
@@ -147,18 +138,9 @@ module _ (k : ℕ) (mul : ℕ → ℕ → ℕ) (h : Hierarchy) (rows : List (Lis
   over_of : (fault : ComposeFault) → StagesOf k mul h rows bound (Err fault) → IsOfBlock fault ⊎ IsOfInstance fault
   over_of (TooManyTerms (Some model) stage terms) is = inl (record { model = model; stage = stage; terms = terms; is = is; fault_is = refl })
   over_of (TooManyTerms None stage terms) is = inr (record { stage = stage; terms = terms; is = is; fault_is = refl })
-  over_of FedInTop is = absurd is
-  over_of (GateInTop line) is = absurd is
-  over_of (NoBlock model) is = absurd is
-  over_of (BlockNet model) is = absurd is
-  over_of (BlockLatch model) is = absurd is
-  over_of (BlockBind model) is = absurd is
-  over_of (NotWords instance word) is = absurd is
-  over_of OutputNotWords is = absurd is
-  over_of (InstanceLoop number) is = absurd is
-  over_of OutOfMemory is = absurd is
+  over_of fault is = absurd is
 
-  module _ (ring : IsRing k mul) (field : HasNoZeroDivisors k mul) (given : IsGiven k h) (all : AreAllFeeds h rows) (have : HaveBlocks k mul h) (free : IsWithoutRing rows) where
+  module _ (ring : IsRing k mul) (field : HasNoZeroDivisors k mul) (given : IsGiven k h) (all : AreAllFeeds h rows) (have : HaveBlocks k mul h) (free : IsWithoutCycle rows) where
     same_first : (a b : Joined BlockStage Stage) (m n : ℕ) → IsFirstOfComposition k mul h rows bound a m → IsFirstOfComposition k mul h rows bound b n → (a ≡ b) × (m ≡ n)
     same_first a b m n x y = let levels = instance_levels h rows all free in one_first k mul h rows ring field given all have free bound levels.0 levels.1 a b m n x y
 

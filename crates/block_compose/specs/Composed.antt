@@ -24,11 +24,10 @@ use Rattle.circuit_poly.specs.Stages.{joined}
 use Rattle.instance_order.specs.LevelOrder.{first_numbers}
 use Rattle.block_feeds.specs.Hierarchy.{Hierarchy}
 use Rattle.block_feeds.specs.Values.{IsTop}
-use Rattle.block_feeds.specs.Wiring.{feeding_graph, IsWithoutRing}
+use Rattle.block_feeds.specs.Wiring.{feeding_graph, IsWithoutCycle}
 use Rattle.block_feeds.specs.declared.feeder.Feeder.{Feeder}
 use Rattle.block_plan.specs.Plan.{UsesOf}
 use Rattle.block_plan.specs.Planned.{CanAllBind}
-use Rattle.block_plan.specs.declared.fault.PlanFault.{PlanFault}
 use Rattle.block_plan.specs.declared.fault.PlanFault.TheVariants as plans
 use Rattle.block_wiring.specs.Answer.{AreWired}
 use Rattle.block_wiring.specs.Refusal.{IsWiringFault}
@@ -36,7 +35,7 @@ use Rattle.block_wiring.specs.declared.fault.WiringFault.{WiringFault}
 use Rattle.block_wiring.specs.declared.fault.WiringFault.TheVariants as wirings
 use Rattle.block_stages.specs.CompositionStages.{IsCompositionWithin, IsFirstOfComposition}
 use Rattle.block_compose.specs.declared.fault.ComposeFault.{ComposeFault}
-use Rattle.block_compose.specs.declared.fault.ComposeFault.TheVariants.{FedInTop, GateInTop, NoBlock, BlockNet, BlockLatch, BlockBind, NotWords, OutputNotWords, InstanceLoop, TooManyTerms, OutOfMemory}
+use Rattle.block_compose.specs.declared.fault.ComposeFault.TheVariants.{Plan, Wiring, InstanceLoop, TooManyTerms, OutOfMemory}
 
 -- a design with the words and blocks of a signature, and with lists of bases by their elements
 abbrev pub hierarchy_of : List ModelValue → SignatureValue → List (List Basis) → Hierarchy
@@ -65,51 +64,25 @@ pub record IsComposable (k : ℕ) (mul : ℕ → ℕ → ℕ) (design : List Mod
 
 -- ---- the steps
 
--- a refusal of the blocks as one of the composition
-abbrev pub plan_fault : PlanFault → ComposeFault
-plan_fault plans.FedInTop = FedInTop
-plan_fault (plans.GateInTop line) = GateInTop line
-plan_fault (plans.NoBlock model) = NoBlock model
-plan_fault (plans.BlockNet model) = BlockNet model
-plan_fault (plans.BlockLatch model) = BlockLatch model
-plan_fault (plans.BlockBind model) = BlockBind model
-plan_fault plans.OutOfMemory = OutOfMemory
-
 -- what feeds each instance and the output word, or the first word that nothing fits
 abbrev pub WiringOf : Hierarchy → Outcome WiringFault (List (List Feeder) × Feeder)
 WiringOf h (Ok wiring) = AreWired h wiring.0 wiring.1
-WiringOf h (Err (wirings.NotWords instance word)) = IsWiringFault h (wirings.NotWords instance word)
-WiringOf h (Err wirings.OutputNotWords) = IsWiringFault h wirings.OutputNotWords
 WiringOf h (Err wirings.OutOfMemory) = ⊥
+WiringOf h (Err fault) = IsWiringFault h fault
 
--- a refusal of the wiring as one of the composition
-abbrev pub wiring_fault : WiringFault → ComposeFault
-wiring_fault (wirings.NotWords instance word) = NotWords instance word
-wiring_fault wirings.OutputNotWords = OutputNotWords
-wiring_fault wirings.OutOfMemory = OutOfMemory
-
--- the ring that the walk over all instances finds begins with the instance of this number, from 1
-pub record IsRingThrough (rows : List (List Feeder)) (number : ℕ) : Type 0 where
+-- the cycle that the walk over all instances finds begins with the instance of this number, from 1
+pub record IsCycleThrough (rows : List (List Feeder)) (number : ℕ) : Type 0 where
   pub cycle : List ℕ
   pub is : IsCycleOf (feeding_graph rows) (first_numbers (length rows)) cycle
   pub instance : ℕ
   pub first : slice_get cycle 0 ≡ Some instance
   pub number_is : number ≡ instance + 1
 
--- no instances feed each other in a ring, or the first of a ring is refused
-abbrev pub HasNoRing : List (List Feeder) → Outcome ComposeFault (Unit {0})
-HasNoRing rows (Ok u) = IsWithoutRing rows
-HasNoRing rows (Err (InstanceLoop number)) = IsRingThrough rows number
-HasNoRing rows (Err FedInTop) = ⊥
-HasNoRing rows (Err (GateInTop line)) = ⊥
-HasNoRing rows (Err (NoBlock model)) = ⊥
-HasNoRing rows (Err (BlockNet model)) = ⊥
-HasNoRing rows (Err (BlockLatch model)) = ⊥
-HasNoRing rows (Err (BlockBind model)) = ⊥
-HasNoRing rows (Err (NotWords instance word)) = ⊥
-HasNoRing rows (Err OutputNotWords) = ⊥
-HasNoRing rows (Err (TooManyTerms block stage terms)) = ⊥
-HasNoRing rows (Err OutOfMemory) = ⊥
+-- no instances feed each other in a cycle, or the first of a cycle is refused
+abbrev pub HasNoCycle : List (List Feeder) → Outcome ComposeFault (Unit {0})
+HasNoCycle rows (Ok u) = IsWithoutCycle rows
+HasNoCycle rows (Err (InstanceLoop number)) = IsCycleThrough rows number
+HasNoCycle rows (Err fault) = ⊥
 
 module _ (k : ℕ) (mul : ℕ → ℕ → ℕ) (h : Hierarchy) (rows : List (List Feeder)) (bound : ℕ) where
   -- these are the terms of the output of the flat top in its words, and no stage is over the bound
@@ -132,34 +105,27 @@ module _ (k : ℕ) (mul : ℕ → ℕ → ℕ) (h : Hierarchy) (rows : List (Lis
   StagesOf (Ok ts) = IsComposed ts
   StagesOf (Err (TooManyTerms (Some model) stage terms)) = IsBlockOver model stage terms
   StagesOf (Err (TooManyTerms None stage terms)) = IsFirstOfComposition k mul h rows bound (Later stage) terms
-  StagesOf (Err FedInTop) = ⊥
-  StagesOf (Err (GateInTop line)) = ⊥
-  StagesOf (Err (NoBlock model)) = ⊥
-  StagesOf (Err (BlockNet model)) = ⊥
-  StagesOf (Err (BlockLatch model)) = ⊥
-  StagesOf (Err (BlockBind model)) = ⊥
-  StagesOf (Err (NotWords instance word)) = ⊥
-  StagesOf (Err OutputNotWords) = ⊥
-  StagesOf (Err (InstanceLoop number)) = ⊥
-  StagesOf (Err OutOfMemory) = ⊥
+  StagesOf (Err fault) = ⊥
 
 -- ---- the whole
 
 -- What comes of the top of a hierarchy, whose words and blocks are those of the signature: first the blocks of its instances, then
--- its wiring, then whether instances feed each other in a ring, and then the stages.
+-- its wiring, then whether instances feed each other in a cycle, and then the stages.
 abbrev pub ComposesIn : ℕ → (ℕ → ℕ → ℕ) → SignatureValue → Hierarchy → ℕ → Outcome ComposeFault Terms
 ComposesIn k mul signature h bound = do
-  uses ← Within plan_fault (UsesOf h.design signature)
-  wiring ← Within wiring_fault (WiringOf h)
-  ringless ← HasNoRing wiring.0
+  uses ← Within Plan (UsesOf h.design signature)
+  wiring ← Within Wiring (WiringOf h)
+  acyclic ← HasNoCycle wiring.0
   StagesOf k mul h wiring.0 bound
 
 -- What comes of a top with lists of bases.
 abbrev pub Composes : ℕ → (ℕ → ℕ → ℕ) → List ModelValue → SignatureValue → List (List Basis) → ℕ → Outcome ComposeFault Terms
 Composes k mul design signature bases bound = ComposesIn k mul signature (hierarchy_of design signature bases) bound
 
--- the refusal of a composition; want of memory is none
+-- the refusal of a composition; want of memory is none, in each of its steps
 abbrev pub refusal : ComposeFault → Option ComposeFault
+refusal (Plan plans.OutOfMemory) = None
+refusal (Wiring wirings.OutOfMemory) = None
 refusal OutOfMemory = None
 refusal fault = Some fault
 

@@ -1,43 +1,15 @@
-//! The faults of the steps as those of compositions.
+//! Faults of cycles and of stages as those of compositions.
 ghost use Rattle.std.specs.Prelude.{◌≡◌, ◌<◌, ◌^◌, ℕ, length, map, slice_get, Some};
 ghost use Rattle.graph_core.specs.Fault.{IsCycleFault};
 ghost use Rattle.block_feeds.specs.Wiring.{feeding_graph};
 ghost use Rattle.instance_order.specs.LevelOrder.{first_numbers};
-ghost use Rattle.block_compose.specs.Composed.{plan_fault, wiring_fault, HasNoRing, MayFault};
+ghost use Rattle.block_compose.specs.Composed.{HasNoCycle, MayFault};
 ghost use Rattle.block_compose.specs.private.Blocks.{instance_fault_of};
 
 use crate::ComposeFault;
 use block_feeds::Feeder;
-use block_plan::PlanFault;
-use block_wiring::WiringFault;
 use graph_core::CycleFault;
 use poly_mixed::ReduceFault;
-
-/// A refusal of the blocks of instances.
-pub(crate) fn of_plan(fault: PlanFault) -> ComposeFault
-    ensures { result ≡ plan_fault fault }
-{
-    match fault {
-        PlanFault::FedInTop => ComposeFault::FedInTop,
-        PlanFault::GateInTop { line } => ComposeFault::GateInTop { line },
-        PlanFault::NoBlock { model } => ComposeFault::NoBlock { model },
-        PlanFault::BlockNet { model } => ComposeFault::BlockNet { model },
-        PlanFault::BlockLatch { model } => ComposeFault::BlockLatch { model },
-        PlanFault::BlockBind { model } => ComposeFault::BlockBind { model },
-        PlanFault::OutOfMemory => ComposeFault::OutOfMemory,
-    }
-}
-
-/// A refusal of the wiring.
-pub(crate) fn of_wiring(fault: WiringFault) -> ComposeFault
-    ensures { result ≡ wiring_fault fault }
-{
-    match fault {
-        WiringFault::NotWords { instance, word } => ComposeFault::NotWords { instance, word },
-        WiringFault::OutputNotWords => ComposeFault::OutputNotWords,
-        WiringFault::OutOfMemory => ComposeFault::OutOfMemory,
-    }
-}
 
 // The first point of a cycle.
 fn first_point(points: &[u32]) -> u32
@@ -47,11 +19,11 @@ fn first_point(points: &[u32]) -> u32
     points[0]
 }
 
-/// A ring of instances, where row i is what feeds instance i.
-pub(crate) fn of_ring(_rows: &[Vec<Feeder>], fault: CycleFault) -> ComposeFault
+/// A cycle of instances, where row i is what feeds instance i.
+pub(crate) fn of_cycle(_rows: &[Vec<Feeder>], fault: CycleFault) -> ComposeFault
     requires few { length _rows.now < 2 ^ 32 }
-    requires ring { IsCycleFault (feeding_graph (map (λ row. row.items) _rows.now)) (first_numbers (length _rows.now)) fault }
-    ensures { MayFault (HasNoRing (map (λ row. row.items) _rows.now)) result }
+    requires cycle { IsCycleFault (feeding_graph (map (λ row. row.items) _rows.now)) (first_numbers (length _rows.now)) fault }
+    ensures { MayFault (HasNoCycle (map (λ row. row.items) _rows.now)) result }
 {
     match fault {
         CycleFault::Cycle { points } => ComposeFault::InstanceLoop {

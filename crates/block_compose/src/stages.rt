@@ -1,5 +1,7 @@
 //! The stages of a composition.
-ghost use Rattle.std.specs.Prelude.{map, Ok, IfErr, IfOk};
+ghost use Rattle.std.specs.Prelude.{◌<◌, ◌^◌, length, map, Ok, IfErr, IfOk};
+ghost use Rattle.net_blif.specs.Models.{AreRight};
+ghost use Rattle.net_blif.specs.Top.{instances_of};
 ghost use Rattle.block_feeds.specs.Wiring.{feeding_graph};
 ghost use Rattle.block_plan.specs.Planned.{IsPlanned};
 ghost use Rattle.block_wiring.specs.Answer.{AreWired};
@@ -32,13 +34,14 @@ pub(crate) fn compose_stages<F: Field>(
     bound: u32,
 ) -> Result<Poly, ComposeFault>
     requires given { IsComposable (F.degree field.now) (F.product field.now) _design.now signature.now (map (λ list. list.items) bases.now) }
+    requires right { AreRight _design.now (Ok tt) }
+    requires few { length (instances_of _design.now) < 2 ^ 32 }
     requires planned { IsPlanned _design.now signature.now plan.now.numbers.items plan.now.circuits.items }
     requires wired { AreWired (hierarchy_of _design.now signature.now (map (λ list. list.items) bases.now)) (map (λ row. row.items) wiring.now.rows.items) wiring.now.output }
     requires order { IsLevelOrder (feeding_graph (map (λ row. row.items) wiring.now.rows.items)) order.now }
     ensures poly { IfOk result (λ poly. StagesOf (F.degree field.now) (F.product field.now) (hierarchy_of _design.now signature.now (map (λ list. list.items) bases.now)) (map (λ row. row.items) wiring.now.rows.items) bound (Ok poly.terms)) }
     ensures fault { IfErr result (MayFault (StagesOf (F.degree field.now) (F.product field.now) (hierarchy_of _design.now signature.now (map (λ list. list.items) bases.now)) (map (λ row. row.items) wiring.now.rows.items) bound)) }
 {
-    let _count = _design.models();
     let polys = match block_polys(
         alloc,
         field,

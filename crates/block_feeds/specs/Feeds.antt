@@ -25,15 +25,15 @@ pub record IsOutputOf (h : Hierarchy) (i : ℕ) (nets : List Token) (basis : Lis
   pub basis_is : word.basis ≡ basis
 
 -- a word of the top stands on these nets and has this basis
-abbrev pub StandsOn : Hierarchy → Feeder → List Token → List ℕ → Type 0
-StandsOn h (InputWord w) nets basis = IsInputWord h w nets basis
-StandsOn h (OutputOf i) nets basis = IsOutputOf h i nets basis
+abbrev pub IsFeedOn : Hierarchy → Feeder → List Token → List ℕ → Type 0
+IsFeedOn h (InputWord w) nets basis = IsInputWord h w nets basis
+IsFeedOn h (OutputOf i) nets basis = IsOutputOf h i nets basis
 
 -- a feed fits an instance's word: its nets are the actuals of the word's, place by place, and both have the same basis
-pub record Fits (h : Hierarchy) (item : Item) (word : NamedWord) (feed : Feeder) : Type 0 where
+pub record FitsWord (h : Hierarchy) (item : Item) (word : NamedWord) (feed : Feeder) : Type 0 where
   pub nets : List Token
   pub actuals : actuals_of item word.nets ≡ Some nets
-  pub stands : StandsOn h feed nets word.basis
+  pub stands : IsFeedOn h feed nets word.basis
 
 -- what feeds the input words of instance i, one feed for each of them
 pub record AreFeedsOf (h : Hierarchy) (i : ℕ) (feeds : List Feeder) : Type 0 where
@@ -41,10 +41,10 @@ pub record AreFeedsOf (h : Hierarchy) (i : ℕ) (feeds : List Feeder) : Type 0 w
   pub words : List NamedWord
   pub instance : IsInstance h i item words
   pub long : length feeds ≡ length (inputs_among words)
-  pub each : (j : ℕ) (word : NamedWord) (feed : Feeder) → slice_get (inputs_among words) j ≡ Some word → slice_get feeds j ≡ Some feed → Fits h item word feed
+  pub each : (j : ℕ) (word : NamedWord) (feed : Feeder) → slice_get (inputs_among words) j ≡ Some word → slice_get feeds j ≡ Some feed → FitsWord h item word feed
 
 -- what feeds the output word of the top
 pub record FeedsOutput (h : Hierarchy) (feed : Feeder) : Type 0 where
   pub word : NamedWord
   pub output : outputs_among (top_words h) ≡ word ∷ []
-  pub stands : StandsOn h feed word.nets word.basis
+  pub stands : IsFeedOn h feed word.nets word.basis

@@ -25,7 +25,7 @@ module _ (k : ℕ) (mul : ℕ → ℕ → ℕ) (h : Hierarchy) where
     pub latches : net.latches ≡ []
     pub binding : Binding
     pub bound : BindingOf net words [] (Ok binding)
-    pub is : circuit_with k mul (record { net = net; bound = binding }) bases ≡ circuit
+    pub is : circuit_with k mul (record { net = net; binding = binding }) bases ≡ circuit
 
   -- the circuit of the whole top
   abbrev pub IsTop : Circuit → Type 0

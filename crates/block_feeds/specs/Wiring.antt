@@ -30,6 +30,6 @@ pub record AreAllFeeds (h : Hierarchy) (rows : List (List Feeder)) : Type 0 wher
 abbrev pub HaveBlocks : ℕ → (ℕ → ℕ → ℕ) → Hierarchy → Type 0
 HaveBlocks k mul h = (i : ℕ) (item : Item) → slice_get (instances_of h.design) i ≡ Some item → (circuit : Circuit) × IsBlockOf k mul h item circuit
 
--- no instances feed each other in a ring
-abbrev pub IsWithoutRing : List (List Feeder) → Type 0
-IsWithoutRing rows = (i : ℕ) → i < length rows → IsGrounded (feeding_graph rows) i
+-- no instances feed each other in a cycle
+abbrev pub IsWithoutCycle : List (List Feeder) → Type 0
+IsWithoutCycle rows = (i : ℕ) → i < length rows → IsGrounded (feeding_graph rows) i

@@ -1,8 +1,8 @@
 -- The circuit of a model, flattened alone.
-use Rattle.std.proofs.Common.{◌≡◌, ◌≢◌, ◌∙◌, ap, sym, refl, subst, inl, inr, ℕ, zero, suc, List, [], ◌∷◌, length, map, get_or, All, Ok, Some}
+use Rattle.std.proofs.Common.{◌≡◌, ◌≢◌, ◌∙◌, ap, sym, refl, subst, inl, inr, ℕ, zero, suc, List, [], ◌∷◌, length, map, Ok, Some}
 use Rattle.std.specs.Prelude.{slice_get}
-use Rattle.std.proofs.lemmas.Option.{slice_get-get_or}
 use Rattle.graph_core.proofs.GraphLemmas.{All_has}
+use Rattle.graph_core.proofs.GeneralLemmas.{all_from}
 use Rattle.net_core.specs.Lists.{Has}
 use Rattle.net_core.specs.NetList.{NetList}
 use Rattle.net_core.specs.Sound.{IsSound}
@@ -38,9 +38,6 @@ flat_of design model net (flat, e, rest) = (flat, sym e, rest.0, rest.1)
 
 pub no_feeds : (k : ℕ) (roles : List Role) → AreFeeds k roles []
 no_feeds k roles = record { sources = λ feed has. let got = has.1 in absurd (cc); apart = λ i j f g at_i at_j same_net same_cycle. absurd (cc) }
-
-all_from : {X : Type 0} (P : X → Type 0) (xs : List X) → ((x : X) → Has xs x → P x) → All P xs
-all_from P xs each k d less = each (get_or xs k d) (k, slice_get-get_or xs k d less)
 
 bound_unfed : (net : NetList) (words : List WordText) (bs : List BoundWord) (i : ℕ) (b : BoundWord) → AreBound net words bs → AreUnfed words → slice_get bs i ≡ Some b → b.role ≢ Fed
 bound_unfed net [] [] i b bound unfed got = absurd (cc)
@@ -78,7 +75,7 @@ pub record AreFacts (k : ℕ) (mul : ℕ → ℕ → ℕ) (alone : Flat) (words 
   pub basis : (word : NamedWord) → outputs_among (named_words words bases) ≡ word ∷ [] → circuit.output.basis ≡ word.basis
 
 module _ (k : ℕ) (mul : ℕ → ℕ → ℕ) (ring : IsRing k mul) (field : HasNoZeroDivisors k mul) (h : Hierarchy) (model : ℕ) (words : List WordText) (bases : List (List ℕ)) (based : HaveBasesOf k words bases) where
-  facts_with : (alone : Flat) (net : NetList) (binding : Binding) → net ≡ net_list alone → IsSound (net_list alone) → net.latches ≡ [] → BindingOf net words [] (Ok binding) → AreFacts k mul alone words bases (circuit_with k mul (record { net = net; bound = binding }) bases)
+  facts_with : (alone : Flat) (net : NetList) (binding : Binding) → net ≡ net_list alone → IsSound (net_list alone) → net.latches ≡ [] → BindingOf net words [] (Ok binding) → AreFacts k mul alone words bases (circuit_with k mul (record { net = net; binding = binding }) bases)
   facts_with alone net binding same sound none bound =
       let P : NetList → Type 0 = IsSound in
       let sound_net : IsSound net = subst P (sym same) sound in
@@ -86,7 +83,7 @@ module _ (k : ℕ) (mul : ℕ → ℕ → ℕ) (ring : IsRing k mul) (field : Ha
       let Q : NetList → Type 0 = λ n. AreBound n words binding.words in
       let named_alone : AreBound (net_list alone) words binding.words = subst Q same named in
       record {
-        well = taken_well k mul (record { net = net; bound = binding }) words [] bases ring field sound_net based.words_are (no_feeds k (map (λ word. word.role) words)) bound (flat_binding k words based.words_are based.unfed net binding sound_net none bound) based.long based.each;
+        well = taken_well k mul (record { net = net; binding = binding }) words [] bases ring field sound_net based.words_are (no_feeds k (map (λ word. word.role) words)) bound (flat_binding k words based.words_are based.unfed net binding sound_net none bound) based.long based.each;
         bits = refl;
         product = refl;
         net = same;

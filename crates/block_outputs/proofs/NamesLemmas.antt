@@ -1,5 +1,5 @@
 -- Bound words stand on the nets of their names.
-use Rattle.std.proofs.Common.{◌≡◌, ◌≢◌, ◌∙◌, ap, sym, refl, subst, ℕ, suc, ◌+◌, Bool, true, false, not, if◌then◌else◌, List, [], ◌∷◌, ◌++◌, length, Option, None, Some, Ok, Err, append-nil, append_assoc}
+use Rattle.std.proofs.Common.{◌≡◌, ◌≢◌, ◌∙◌, ap, sym, refl, subst, ℕ, ◌+◌, Bool, true, false, not, if◌then◌else◌, List, [], ◌∷◌, ◌++◌, length, Option, None, Some, Ok, Err, append-nil, append_assoc}
 use Rattle.std.specs.List.{AllByRecursion}
 use Rattle.net_core.specs.NetList.{number_of, NetList}
 use Rattle.net_words.specs.Bind.{bound_word, is_latch, names_with, place_net, taken_with, with_role, BindingOf, BoundOf, NetsOf}
@@ -34,12 +34,6 @@ numbers_append net [] ys [] ms a b = b
 numbers_append net [] ys (n ∷ ns) ms a b = absurd a
 numbers_append net (x ∷ xs) ys [] ms a b = absurd a
 numbers_append net (x ∷ xs) ys (n ∷ ns) ms a b = (a.0, numbers_append net xs ys ns ms a.1 b)
-
-pub numbers_long : (net : NetList) (xs : List (List ℕ)) (ns : List ℕ) → HaveNumbers net xs ns → length ns ≡ length xs
-numbers_long net [] [] a = refl
-numbers_long net [] (n ∷ ns) a = absurd a
-numbers_long net (x ∷ xs) [] a = absurd a
-numbers_long net (x ∷ xs) (n ∷ ns) a = ap suc (numbers_long net xs ns a.1)
 
 -- ---- places
 

@@ -1,4 +1,4 @@
--- Instances that do not feed each other in a ring have one value each.
+-- Instances that do not feed each other in a cycle have one value each.
 use Rattle.std.proofs.Common.{◌≡◌, ◌∙◌, ap, ap₂, sym, refl, subst, inl, inr, ℕ, zero, suc, ◌+◌, List, [], ◌∷◌, length, map, Some, arith}
 use Rattle.std.specs.Prelude.{slice_get, slice_index}
 use Rattle.std.proofs.lemmas.Bool.{cases_lt}
@@ -15,7 +15,7 @@ use Rattle.circuit_model.proofs.OutLemmas.{one_out}
 use Rattle.block_feeds.specs.Given.{IsGiven}
 use Rattle.block_feeds.specs.Hierarchy.{bases_at, Hierarchy}
 use Rattle.block_feeds.specs.Values.{feed_value, AreInstanceValues}
-use Rattle.block_feeds.specs.Wiring.{feeding_graph, instances_among, AreAllFeeds, HaveBlocks, IsWithoutRing}
+use Rattle.block_feeds.specs.Wiring.{feeding_graph, instances_among, AreAllFeeds, HaveBlocks, IsWithoutCycle}
 use Rattle.block_feeds.specs.declared.feeder.Feeder.{Feeder}
 use Rattle.block_feeds.specs.declared.feeder.Feeder.TheVariants.{InputWord, OutputOf}
 use Rattle.block_outputs.proofs.InstanceLemmas.{facts_of}
@@ -68,7 +68,7 @@ module _ (k : ℕ) (mul : ℕ → ℕ → ℕ) (h : Hierarchy) (xs es others : L
     one_value : (i : ℕ) → IsGrounded (feeding_graph rows) i → slice_index es i ≡ slice_index others i
     one_value _ (grounded i below) = next_value i (λ j edge. one_value j (below j edge))
 
-    pub one_list : IsWithoutRing rows → es ≡ others
+    pub one_list : IsWithoutCycle rows → es ≡ others
     one_list free =
         same_lists es others (a.long ∙ sym b.long) (λ i x y at_x at_y.
         let grounded_here = free i (omega (arith, slice_get_within es i x at_x, a.long, fed.long)) in

@@ -25,11 +25,11 @@ use Rattle.circuit_model.specs.declared.circuit_feed.CircuitFeed.{CircuitFeed}
 use Rattle.circuit_model.specs.Circuit.{Circuit, IsInput}
 use Rattle.circuit_model.specs.Feeds.{fed_nets}
 use Rattle.circuit_model.specs.Out.{Ends, IsOut}
-use Rattle.circuit_model.specs.Run.{HaveElements, IsCycle, IsFirst, IsInputWord, IsOpenRun}
+use Rattle.circuit_model.specs.Run.{HaveElements, IsClockCycle, IsFirst, IsInputWord, IsOpenRun}
 use Rattle.circuit_model.specs.Word.{HasElement, Word}
 use Rattle.circuit_model.proofs.OutLemmas.{open_out}
 use Rattle.circuit_model.proofs.WordLemmas.{index_small}
-use Rattle.block_feeds.specs.Feeds.{AreFeedsOf, FeedsOutput, Fits, IsInputWord as IsTopWord, IsOutputOf, StandsOn}
+use Rattle.block_feeds.specs.Feeds.{AreFeedsOf, FeedsOutput, FitsWord, IsInputWord as IsTopWord, IsOutputOf, IsFeedOn}
 use Rattle.block_feeds.specs.Given.{IsGiven}
 use Rattle.block_feeds.specs.Hierarchy.{actuals_of, bases_at, block_of, top_words, Hierarchy, IsInstance}
 use Rattle.block_feeds.specs.NamedWord.{inputs_among, named_words, outputs_among, NamedWord}
@@ -117,9 +117,9 @@ not_state : (role : Role) → role ≡ Input → role ≡ State → ⊥
 not_state role a b = let e : Input ≡ State = sym a ∙ b in absurd (cc)
 
 module _ (circuit : Circuit) (xs : List ℕ) (part : List Bool) (unfed : circuit.feeds ≡ []) (flat : circuit.net.latches ≡ []) (zero_cycles : circuit.cycles ≡ 0) (input : IsInput circuit xs) (consistent : IsConsistent circuit.net part) (all_inputs : (w : Word) → Has circuit.words w → w.role ≡ Input) (elements : HaveElements circuit IsInputWord xs part) where
-  cycle : (t : ℕ) (bits : List Bool) → slice_get (part ∷ []) t ≡ Some bits → IsCycle circuit xs t bits
+  cycle : (t : ℕ) (bits : List Bool) → slice_get (part ∷ []) t ≡ Some bits → IsClockCycle circuit xs t bits
   cycle t bits got =
-      let P : List Bool → Type 0 = IsCycle circuit xs t in
+      let P : List Bool → Type 0 = IsClockCycle circuit xs t in
       subst P (sym (single_at part bits t got)) (record { consistent = consistent; inputs = elements; feeds = λ n fed. absurd (no_feed circuit.feeds n unfed fed) })
 
   first : (bits : List Bool) → IsFirst circuit xs bits
@@ -153,7 +153,7 @@ module _ (k : ℕ) (mul : ℕ → ℕ → ℕ) (ring : IsRing k mul) (field : Ha
 
   module _ (es : List ℕ) (long : length es ≡ length (instances_of h.design)) (are : (i e : ℕ) → slice_get es i ≡ Some e → IsHeld i e) where
     -- what stands on nets of the top holds the value of the feed
-    pub feed_held : (feed : Feeder) (nets : List Token) (basis : List ℕ) → StandsOn h feed nets basis → element_at whole bits nets basis ≡ feed_value k mul h xs es feed
+    pub feed_held : (feed : Feeder) (nets : List Token) (basis : List ℕ) → IsFeedOn h feed nets basis → element_at whole bits nets basis ≡ feed_value k mul h xs es feed
     feed_held (InputWord w) nets basis is = held w nets basis is
     feed_held (OutputOf i) nets basis is =
         let found = get_below es i (omega (arith, long, slice_get_within (instances_of h.design) i is.item is.instance.at)) in
@@ -173,11 +173,11 @@ module _ (k : ℕ) (mul : ℕ → ℕ → ℕ) (ring : IsRing k mul) (field : Ha
       feeds_long : length feeds ≡ length (inputs_among words)
       feeds_long = fed.long ∙ ap (λ ws. length (inputs_among ws)) (sym (same_words h i item fed.item words fed.words instance fed.instance).1)
 
-      fits : (j : ℕ) (word : NamedWord) (feed : Feeder) → slice_get (inputs_among words) j ≡ Some word → slice_get feeds j ≡ Some feed → Fits h item word feed
+      fits : (j : ℕ) (word : NamedWord) (feed : Feeder) → slice_get (inputs_among words) j ≡ Some word → slice_get feeds j ≡ Some feed → FitsWord h item word feed
       fits j word feed at_word at_feed =
           let same = same_words h i item fed.item words fed.words instance fed.instance in
           let P : List NamedWord → Type 0 = λ ws. slice_get (inputs_among ws) j ≡ Some word in
-          let Q : Item → Type 0 = λ it. Fits h it word feed in
+          let Q : Item → Type 0 = λ it. FitsWord h it word feed in
           subst Q (sym same.0) (fed.each j word feed (subst P same.1 at_word) at_feed)
 
       module _ (alone : Flat) (facts : AreFacts k mul alone block.block.words (bases_at h (block.number + 1)) circuit) (part : List Bool) (is : IsPart whole alone (i + 1) (connections_in item) bits part) (part_consistent : IsConsistent (net_list alone) part) where
@@ -252,7 +252,7 @@ module _ (k : ℕ) (mul : ℕ → ℕ → ℕ) (ring : IsRing k mul) (field : Ha
     pub are_values : (rows : List (List Feeder)) → AreAllFeeds h rows → AreInstanceValues k mul h rows xs es
     are_values rows all = record { long = long; each = λ i e item feeds circuit value at row block. instance_out i e item feeds circuit value at (all.each i feeds row) block }
 
-  pub some_values : (rows : List (List Feeder)) → AreAllFeeds h rows → (feed : Feeder) (nets : List Token) (basis : List ℕ) → StandsOn h feed nets basis → (es : List ℕ) × AreInstanceValues k mul h rows xs es × (element_at whole bits nets basis ≡ feed_value k mul h xs es feed)
+  pub some_values : (rows : List (List Feeder)) → AreAllFeeds h rows → (feed : Feeder) (nets : List Token) (basis : List ℕ) → IsFeedOn h feed nets basis → (es : List ℕ) × AreInstanceValues k mul h rows xs es × (element_at whole bits nets basis ≡ feed_value k mul h xs es feed)
   some_values rows all feed nets basis is =
       let found = all_held in
       (found.0, are_values found.0 found.1 found.2 rows all, feed_held found.0 found.1 found.2 feed nets basis is)

@@ -8,7 +8,7 @@ ghost use Rattle.block_feeds.specs.Feeds.{FeedsOutput};
 ghost use Rattle.block_feeds.specs.Given.{IsGiven};
 ghost use Rattle.block_feeds.specs.Hierarchy.{Hierarchy};
 ghost use Rattle.block_feeds.specs.Values.{feed_value, AreInstanceValues, IsTop};
-ghost use Rattle.block_feeds.specs.Wiring.{AreAllFeeds, HaveBlocks, IsWithoutRing};
+ghost use Rattle.block_feeds.specs.Wiring.{AreAllFeeds, HaveBlocks, IsWithoutCycle};
 ghost use Rattle.block_feeds.specs.declared.feeder.Feeder.{Feeder};
 
 /// Out of the flat top is the value of what feeds its output word, for some values of the instances each of which is the
@@ -17,7 +17,7 @@ pub fn output_is_the_value_of_its_feed()
     ensures { (k : ℕ) (mul : ℕ → ℕ → ℕ) (h : Hierarchy) (rows : List (List Feeder)) (top : Circuit) (feed : Feeder) (xs : List ℕ) (e : ℕ) → IsRing k mul → HasNoZeroDivisors k mul → IsGiven k h → AreAllFeeds h rows → IsTop k mul h top → FeedsOutput h feed → IsOut top xs e → (es : List ℕ) × AreInstanceValues k mul h rows xs es × (feed_value k mul h xs es feed ≡ e) }
 {}
 
-/// Where no instances feed each other in a ring, the instances have at most one list of values.
+/// Where no instances feed each other in a cycle, the instances have at most one list of values.
 pub fn instances_have_one_value_each()
-    ensures { (k : ℕ) (mul : ℕ → ℕ → ℕ) (h : Hierarchy) (rows : List (List Feeder)) (xs es others : List ℕ) → IsRing k mul → HasNoZeroDivisors k mul → IsGiven k h → AreAllFeeds h rows → HaveBlocks k mul h → IsWithoutRing rows → AreInstanceValues k mul h rows xs es → AreInstanceValues k mul h rows xs others → es ≡ others }
+    ensures { (k : ℕ) (mul : ℕ → ℕ → ℕ) (h : Hierarchy) (rows : List (List Feeder)) (xs es others : List ℕ) → IsRing k mul → HasNoZeroDivisors k mul → IsGiven k h → AreAllFeeds h rows → HaveBlocks k mul h → IsWithoutCycle rows → AreInstanceValues k mul h rows xs es → AreInstanceValues k mul h rows xs others → es ≡ others }
 {}

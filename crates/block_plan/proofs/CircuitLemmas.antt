@@ -1,5 +1,5 @@
 -- The circuits of the blocks that instances use.
-use Rattle.std.proofs.Common.{◌≡◌, ◌≢◌, ◌⊎◌, ◌∙◌, ap, sym, refl, subst, inl, inr, ℕ, zero, suc, ◌<◌, ◌+◌, List, [], ◌∷◌, length, map, replicate, Option, None, Some, Ok, Err, arith}
+use Rattle.std.proofs.Common.{◌≡◌, ◌≢◌, ◌⊎◌, ◌∙◌, ap, sym, refl, subst, inl, inr, ℕ, zero, suc, ◌<◌, ◌+◌, List, [], ◌∷◌, length, map, Option, None, Some, Ok, Err, arith}
 use Rattle.std.specs.Prelude.{slice_get}
 use Rattle.std.proofs.Math.ListN.{set}
 use Rattle.std.proofs.lemmas.List.{length-set}
@@ -27,7 +27,7 @@ use Rattle.block_plan.specs.declared.uses.Found.{Found}
 use Rattle.block_plan.specs.private.Found.{refused_as, AreCircuits, AreFound, HasCircuit, IsFound, IsRefusedBlock, KeepsCircuits}
 use Rattle.block_plan.proofs.BlockLemmas.{found_block}
 use Rattle.block_plan.proofs.FoundLemmas.{at_found, found_at, found_long, number_is}
-use Rattle.block_plan.proofs.ListLemmas.{chosen, lifted, none_read, replicated}
+use Rattle.block_plan.proofs.ListLemmas.{chosen, lifted}
 
 -- the numbers of all blocks
 pub numbers_found : (design : List ModelValue) (blocks : List BlockValue) (list : List Found) → AreFound design blocks (instances_of design) list → (numbers : List ℕ) × ForEach (NumberOf blocks) (instances_of design) (Ok numbers)
@@ -57,11 +57,6 @@ block_of_found design blocks item found is block at =
     sym (ap (λ (b : BlockValue). model_named design b.model) same) ∙ sym (ap (model_named design) named.2) ∙ is.is.model_is
 
 module _ (design : List ModelValue) (blocks : List BlockValue) where
-  pub no_circuits : (circuits : List (Option BoundNet)) (count : ℕ) → count ≡ length blocks → circuits ≡ replicate count None → AreCircuits design blocks circuits
-  no_circuits circuits count long none =
-      let P : List (Option BoundNet) → Type 0 = AreCircuits design blocks in
-      subst P (sym none) (record { long = replicated count None ∙ long; each = λ number circuit block got at. absurd (none_read count number circuit got) })
-
   -- one circuit more
   pub circuit_more : (circuits : List (Option BoundNet)) (number model : ℕ) (block : BlockValue) (circuit : BoundNet) → AreCircuits design blocks circuits → slice_get blocks number ≡ Some block → model_named design block.model ≡ Some model → IsBlockCircuit design model block.words circuit → AreCircuits design blocks (set circuits number (Some circuit))
   circuit_more circuits number model block circuit are at named is =
@@ -223,15 +218,6 @@ planned design signature list circuits numbers unfed alone found are has is =
 
 -- a refusal of a step is one of the whole
 module _ (design : List ModelValue) (signature : SignatureValue) where
-  pub fed_refused : (fault : PlanFault) → MayFault (IsUnfed signature) fault → MayFault (UsesOf design signature) fault
-  fed_refused fault may = lifted (IsUnfed signature) (UsesOf design signature) (λ e first. inl first) (refusal fault) may
-
-  pub gate_refused_first : (fault : PlanFault) → IsUnfed signature (Ok tt) → MayFault (HasInstancesAlone design) fault → MayFault (UsesOf design signature) fault
-  gate_refused_first fault unfed may = lifted (HasInstancesAlone design) (UsesOf design signature) (λ e second. inr (tt, unfed, inl second)) (refusal fault) may
-
-  pub number_refused_first : (fault : PlanFault) → IsUnfed signature (Ok tt) → HasInstancesAlone design (Ok tt) → MayFault (ForEach (NumberOf signature.blocks) (instances_of design)) fault → MayFault (UsesOf design signature) fault
-  number_refused_first fault unfed alone may = lifted (ForEach (NumberOf signature.blocks) (instances_of design)) (UsesOf design signature) (λ e third. inr (tt, unfed, inr (tt, alone, inl third))) (refusal fault) may
-
   pub use_refused_first : (list : List Found) (fault : PlanFault) → IsUnfed signature (Ok tt) → HasInstancesAlone design (Ok tt) → AreFound design signature.blocks (instances_of design) list → MayFault (ForEach (UseOf design signature.blocks) (instances_of design)) fault → MayFault (UsesOf design signature) fault
   use_refused_first list fault unfed alone found may =
       let steps = numbers_found design signature.blocks list found in

@@ -1,5 +1,5 @@
 -- What the walk over the lines of the top finds.
-use Rattle.std.proofs.Common.{◌≡◌, ◌∙◌, ap, sym, refl, subst, inl, inr, ℕ, zero, suc, ◌<◌, ◌≤◌, ◌+◌, true, cond, List, [], ◌∷◌, ◌++◌, length, drop, Some, Ok, Err, append_assoc, append-nil, arith}
+use Rattle.std.proofs.Common.{◌≡◌, ◌∙◌, ap, sym, refl, subst, inl, inr, ℕ, zero, suc, ◌<◌, ◌+◌, true, cond, List, [], ◌∷◌, ◌++◌, length, drop, Some, Ok, Err, append_assoc}
 use Rattle.std.specs.Prelude.{filter, slice_get}
 use Rattle.graph_core.proofs.ListLemmas.{get_here}
 use Rattle.net_signature.specs.Body.{BlockValue}
@@ -15,7 +15,8 @@ use Rattle.block_plan.specs.Planned.{refusal, MayFault}
 use Rattle.block_plan.specs.Structure.{numbered, NumberOf}
 use Rattle.block_plan.specs.declared.fault.PlanFault.{PlanFault}
 use Rattle.block_plan.specs.declared.uses.Found.{Found}
-use Rattle.block_plan.specs.private.Found.{AreFound, IsAdded, IsFound, IsWalked}
+use Rattle.block_plan.specs.private.Found.{AreFound, IsAdded, IsFound}
+use Rattle.block_plan.proofs.Walked.{IsWalked}
 use Rattle.block_plan.proofs.BlockLemmas.{found_block}
 use Rattle.block_plan.proofs.ListLemmas.{front_read, lifted}
 
@@ -50,9 +51,6 @@ module _ (design : List ModelValue) (blocks : List BlockValue) where
 
   pub number_is : (i : Item) (f : Found) → IsFound design blocks i f → NumberOf blocks i (Ok f.block)
   number_is i f found = sym (ap (numbered (model_in i)) found.is.named)
-
-  pub begun : (items : List Item) (list : List Found) → list ≡ [] → IsWalked design blocks items 0 list
-  begun items list none = let P : List Found → Type 0 = AreFound design blocks [] in record { front = []; whole = refl; found = subst P (sym none) tt }
 
   module _ (items : List Item) (n : ℕ) (list : List Found) (walked : IsWalked design blocks items n list) (item : Item) (at : Some item ≡ slice_get items n) where
     -- an instance stands in the whole after those of the front
@@ -94,19 +92,6 @@ module _ (design : List ModelValue) (blocks : List BlockValue) where
 
         first : (e : PlanFault) → NumberOf blocks item (Err e) → IsFirstFault (NumberOf blocks) (filter is_instance items) e
         first e refused = record { place = length walked.front; element = item; at = instance_at is; is = refused; before = before }
-
-  -- all lines
-  pub all_walked : (items : List Item) (n : ℕ) (list : List Found) → IsWalked design blocks items n list → length items ≤ n → AreFound design blocks (filter is_instance items) list
-  all_walked items n list walked past =
-      let none : drop n items ≡ [] = dropped items n past in
-      let P : List Item → Type 0 = λ xs. AreFound design blocks xs list in
-      subst P (sym (walked.whole ∙ ap (λ rest. walked.front ++ filter is_instance rest) none ∙ append-nil walked.front)) walked.found
-    where
-      dropped : (xs : List Item) (m : ℕ) → length xs ≤ m → drop m xs ≡ []
-      dropped [] zero less = refl
-      dropped [] (suc m) less = refl
-      dropped (x ∷ xs) zero less = absurd (omega (arith, less))
-      dropped (x ∷ xs) (suc m) less = dropped xs m (omega (arith, less))
 
 -- an instance of a design has a model
 pub has_model : (design : List ModelValue) (blocks : List BlockValue) (items : List Item) (n : ℕ) (list : List Found) (item : Item) → items ≡ items_of design 0 → AreRight design (Ok tt) → IsWalked design blocks items n list → Some item ≡ slice_get items n → is_instance item ≡ true → (model : ℕ) × (model_named design (model_in item) ≡ Some model)

@@ -1,3 +1,4 @@
+pub mod Walked
 pub mod ListLemmas
 pub mod BlockLemmas
 pub mod FoundLemmas

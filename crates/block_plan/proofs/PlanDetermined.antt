@@ -49,10 +49,10 @@ module _ (design : List ModelValue) (model : ℕ) (words : List WordText) where
   one_circuit : (circuit other : BoundNet) → IsBlockCircuit design model words circuit → IsBlockCircuit design model words other → circuit ≡ other
   one_circuit circuit other a b =
       let net : other.net ≡ circuit.net = same_net other.net circuit.net b.flat a.flat in
-      let P : NetList → Type 0 = λ n. BindingOf n words [] (Ok other.bound) in
-      let bound : circuit.bound ≡ other.bound = same_binding circuit.net circuit.bound other.bound a.bound (subst P net b.bound) in
+      let P : NetList → Type 0 = λ n. BindingOf n words [] (Ok other.binding) in
+      let bound : circuit.binding ≡ other.binding = same_binding circuit.net circuit.binding other.binding a.bound (subst P net b.bound) in
       let nets : circuit.net ≡ other.net = sym net in
-      λ i. record { net = nets i; bound = bound i }
+      λ i. record { net = nets i; binding = bound i }
 
   -- a model with a circuit is not refused
   circuit_or_fault : (circuit : BoundNet) (reason : BlockFault) → IsBlockCircuit design model words circuit → IsBlockFault design model words reason → reason ≢ OutOfMemory → ⊥
@@ -60,7 +60,7 @@ module _ (design : List ModelValue) (model : ℕ) (words : List WordText) where
   circuit_or_fault circuit HasLatch is refused some = refused.some (ap (λ (n : NetList). n.latches) (same_net refused.net circuit.net refused.flat is.flat) ∙ is.latches)
   circuit_or_fault circuit NotBound is refused some =
       let P : NetList → Type 0 = λ n. BindingOf n words [] (Err refused.fault) in
-      binding_or_fault circuit.net circuit.bound refused.fault is.bound (subst P (same_net refused.net circuit.net refused.flat is.flat) refused.refused)
+      binding_or_fault circuit.net circuit.binding refused.fault is.bound (subst P (same_net refused.net circuit.net refused.flat is.flat) refused.refused)
   circuit_or_fault circuit OutOfMemory is refused some = some refl
 
   one_reason : (a b : BlockFault) → IsBlockFault design model words a → IsBlockFault design model words b → a ≢ OutOfMemory → b ≢ OutOfMemory → a ≡ b
@@ -117,10 +117,7 @@ module _ (design : List ModelValue) (blocks : List BlockValue) (item : Item) whe
   reason_of (plans.BlockNet name) is = record { reason = NoNet; name = name; is = is; some = λ e. cc; fault_is = refl }
   reason_of (plans.BlockLatch name) is = record { reason = HasLatch; name = name; is = is; some = λ e. cc; fault_is = refl }
   reason_of (plans.BlockBind name) is = record { reason = NotBound; name = name; is = is; some = λ e. cc; fault_is = refl }
-  reason_of plans.FedInTop is = absurd is
-  reason_of (plans.GateInTop line) is = absurd is
-  reason_of (plans.NoBlock name) is = absurd is
-  reason_of plans.OutOfMemory is = absurd is
+  reason_of fault is = absurd is
 
   -- the reason is one of the block at this model
   module _ (n m : ℕ) (block : BlockValue) (at : IsBlockAt design blocks item n m block) (reason : BlockFault) (name : Token) (is : IsRefused design blocks item reason name) where

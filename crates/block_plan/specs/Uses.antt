@@ -13,7 +13,7 @@ use Rattle.block_circuits.specs.Block.{IsBlockCircuit, IsBlockFault}
 use Rattle.block_circuits.specs.declared.fault.BlockFault.{BlockFault}
 use Rattle.block_circuits.specs.declared.fault.BlockFault.TheVariants.{NoNet, HasLatch, NotBound}
 use Rattle.block_plan.specs.declared.fault.PlanFault.{PlanFault}
-use Rattle.block_plan.specs.declared.fault.PlanFault.TheVariants.{FedInTop, GateInTop, NoBlock, BlockNet, BlockLatch, BlockBind, OutOfMemory}
+use Rattle.block_plan.specs.declared.fault.PlanFault.TheVariants.{BlockNet, BlockLatch, BlockBind}
 
 -- a block with its number among the blocks, and its circuit
 pub record BlockUse : Type 0 where
@@ -49,7 +49,4 @@ module _ (design : List ModelValue) (blocks : List BlockValue) (item : Item) whe
   UseOf (Err (BlockNet name)) = IsRefused NoNet name
   UseOf (Err (BlockLatch name)) = IsRefused HasLatch name
   UseOf (Err (BlockBind name)) = IsRefused NotBound name
-  UseOf (Err FedInTop) = ⊥
-  UseOf (Err (GateInTop line)) = ⊥
-  UseOf (Err (NoBlock name)) = ⊥
-  UseOf (Err OutOfMemory) = ⊥
+  UseOf (Err fault) = ⊥

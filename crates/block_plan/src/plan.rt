@@ -1,5 +1,7 @@
 //! The plan of a top.
-ghost use Rattle.std.specs.Prelude.{◌≡◌, ℕ, map, IfErr, IfOk};
+ghost use Rattle.std.specs.Prelude.{◌≡◌, ◌<◌, ◌^◌, ℕ, length, map, Ok, IfErr, IfOk, OnOk};
+ghost use Rattle.net_blif.specs.Models.{AreRight};
+ghost use Rattle.net_blif.specs.Top.{instances_of};
 ghost use Rattle.block_plan.specs.Plan.{UsesOf};
 ghost use Rattle.block_plan.specs.Planned.{CanAllBind, IsPlanned, MayFault};
 
@@ -31,7 +33,8 @@ fn numbers_in(alloc: Global, list: &[Found]) -> Result<Vec<u32>, AllocError>
 /// The blocks of the instances of a top with their circuits, or the first of these: a feed in the signature; the first gate
 /// or latch of the top; the first instance whose model has no block; and then, block by block in the order of the instances
 /// that first use them, a block that is no net, that has a latch, or that does not bind. The words of each block can be bound,
-/// and none of them is fed.
+/// and none of them is fed. What the design keeps is said with a plan: its models are right, and the top has fewer than 2^32
+/// instances.
 pub fn plan_blocks(
     alloc: Global,
     design: &Design,
@@ -39,6 +42,8 @@ pub fn plan_blocks(
 ) -> Result<BlockPlan, PlanFault>
     requires { (k : ℕ) × CanAllBind k signature.now.blocks }
     ensures planned { IfOk result (λ plan. IsPlanned design.now signature.now plan.numbers.items plan.circuits.items) }
+    ensures right { OnOk result (AreRight design.now (Ok tt)) }
+    ensures few { OnOk result (length (instances_of design.now) < 2 ^ 32) }
     ensures fault { IfErr result (MayFault (UsesOf design.now signature.now)) }
 {
     match check_unfed(signature) {

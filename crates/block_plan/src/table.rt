@@ -1,10 +1,10 @@
 //! The numbers of blocks by their names.
-ghost use Rattle.std.specs.Prelude.{◌≡◌, ◌<◌, ◌^◌, ℕ, List, is_some, length, Some, IfOk, if◌then◌else◌};
-ghost use Rattle.std.specs.Str.{bytes_eq};
+ghost use Rattle.std.specs.Prelude.{◌≡◌, ◌<◌, ◌^◌, ℕ, List, length, IfOk};
 ghost use Rattle.indexmap.specs.IndexMap.{get_by_text};
 ghost use Rattle.block_feeds.specs.Hierarchy.{block_from};
 
 use indexmap::IndexMap;
+use net_blif::with_number;
 use net_core::KeyedHash;
 use net_signature::Block;
 use std::alloc::{AllocError, Global};
@@ -17,26 +17,6 @@ pub(crate) fn number_of(numbers: &Numbers, name: &str) -> Option<u32>
     ensures { result ≡ get_by_text numbers.now name.now }
 {
     numbers.get(name).copied()
-}
-
-// With this number for the name, unless it has one.
-fn with_number(
-    alloc: Global,
-    numbers: Numbers,
-    name: &str,
-    number: u32,
-) -> Result<Numbers, AllocError>
-    ensures { IfOk result (λ after. (q : List ℕ) → get_by_text after q
-        ≡ (if is_some (get_by_text numbers name.now) then get_by_text numbers q
-        else (if bytes_eq name.now q then Some number else get_by_text numbers q))) }
-{
-    if numbers.get(name).is_some() {
-        return Ok(numbers);
-    }
-    let mut after = numbers;
-    let key = String::from_str(alloc, name)?;
-    after.insert(key, number)?;
-    Ok(after)
 }
 
 /// The numbers of blocks, by a hash with this key.

@@ -3,6 +3,7 @@ ghost use Rattle.std.specs.Prelude.{◌≡◌, ◌<◌, ◌^◌, ℕ, List, true
 ghost use Rattle.indexmap.specs.IndexMap.{get_by_text};
 ghost use Rattle.net_blif.specs.Design.{model_named};
 ghost use Rattle.net_blif.specs.Item.{IsSoundItem};
+ghost use Rattle.net_blif.specs.Models.{AreRight};
 ghost use Rattle.net_blif.specs.Top.{instances_of, is_instance as instance_is, model_in as model_of_item};
 ghost use Rattle.block_feeds.specs.Hierarchy.{block_from};
 ghost use Rattle.block_plan.specs.ForEach.{ForEach};
@@ -12,7 +13,7 @@ ghost use Rattle.block_plan.specs.private.Found.{AreFound, IsAdded, IsFound};
 
 use crate::PlanFault;
 use crate::table::{Numbers, number_of, numbers_of};
-use net_blif::{Design, Item, text_of};
+use net_blif::{Design, Item, is_instance, model_in};
 use net_core::Name;
 use net_signature::Block;
 use std::alloc::Global;
@@ -22,23 +23,6 @@ use std::alloc::Global;
 pub(crate) struct Found {
     pub(crate) block: u32,
     pub(crate) model: u32,
-}
-
-fn is_instance(item: &Item<'_>) -> bool
-    ensures { result ≡ instance_is item.now }
-{
-    matches!(item, Item::Instance { .. })
-}
-
-// The name of the model of an instance.
-fn model_in<'a>(item: &Item<'a>) -> &'a str
-    requires sound { IsSoundItem item.now }
-    ensures { result.now ≡ model_of_item item.now }
-{
-    match item {
-        Item::Instance { model, .. } => text_of(model.bytes()),
-        _ => "",
-    }
 }
 
 // What is found of an instance.
@@ -91,7 +75,8 @@ fn add_found(
     Ok(())
 }
 
-/// The blocks and the models of the instances of a top, or the first model that has no block.
+/// The blocks and the models of the instances of a top, or the first model that has no block. What the design keeps comes
+/// with them.
 pub(crate) fn found_in(
     alloc: Global,
     design: &Design,
@@ -99,11 +84,12 @@ pub(crate) fn found_in(
 ) -> Result<Vec<Found>, PlanFault>
     requires { length blocks.now < 2 ^ 32 }
     ensures found { IfOk result (λ list. AreFound design.now blocks.now (instances_of design.now) list.items) }
+    ensures right { OnOk result (AreRight design.now (Ok tt)) }
+    ensures few { OnOk result (length (instances_of design.now) < 2 ^ 32) }
     ensures fault { IfErr result (MayFault (ForEach (NumberOf blocks.now) (instances_of design.now))) }
 {
-    let _count = design.models();
     let numbers = numbers_of(alloc, design.key(), blocks)?;
-    let items = design.items(0);
+    let items = design.top_items();
     let mut list = Vec::new(alloc);
     for place in 0..items.len() {
         let item = items.get(place);

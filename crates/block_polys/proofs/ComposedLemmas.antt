@@ -6,6 +6,7 @@ use Rattle.std.proofs.lemmas.Nat.{pow_pos}
 use Rattle.std.proofs.lemmas.Option.{slice_get_within}
 use Rattle.graph_core.proofs.CycleLemmas.{from_map}
 use Rattle.graph_core.proofs.ListLemmas.{get_below}
+use Rattle.graph_core.proofs.GeneralLemmas.{length_map as mapped_long, taken_long}
 use Rattle.net_core.specs.Lists.{Has}
 use Rattle.net_blif.specs.Statement.{Token}
 use Rattle.net_blif.specs.Top.{instances_of}
@@ -16,9 +17,9 @@ use Rattle.gf_field.specs.Ring.{IsRing}
 use Rattle.gf_field.specs.laws.RootsLaws.{HasFewRoots-from_field}
 use Rattle.poly_mixed.specs.Polynomial.{value, IsPoint, IsPolynomialOf, IsReduced, Point, Terms}
 use Rattle.poly_mixed.proofs.FieldLaws.{field_of}
-use Rattle.poly_mixed.proofs.Products.{value_element}
-use Rattle.poly_mixed.proofs.Roots.{independent}
-use Rattle.poly_mixed.proofs.Uniqueness.{unique}
+use Rattle.poly_mixed.proofs.ProductLemmas.{value_element}
+use Rattle.poly_mixed.proofs.RootLemmas.{independent}
+use Rattle.poly_mixed.proofs.UniquenessLemmas.{unique}
 use Rattle.circuit_model.specs.Circuit.{Circuit, IsInput}
 use Rattle.circuit_model.specs.Out.{IsOut}
 use Rattle.circuit_model.proofs.OutLemmas.{one_out, some_out}
@@ -27,12 +28,12 @@ use Rattle.stage_model.specs.OutputInWords.{IsOutputInWords}
 use Rattle.stage_model.proofs.OutputInWordsLemmas.{all_words_is_output}
 use Rattle.stage_model.proofs.SomeStageLemmas.{mix_polynomial}
 use Rattle.instance_poly.specs.Instance.{point_of, AreReduced}
-use Rattle.block_feeds.specs.Feeds.{AreFeedsOf, FeedsOutput, StandsOn}
+use Rattle.block_feeds.specs.Feeds.{AreFeedsOf, FeedsOutput, IsFeedOn}
 use Rattle.block_feeds.specs.Given.{IsGiven}
 use Rattle.block_feeds.specs.Hierarchy.{bases_at, top_words, Hierarchy, IsInstance}
 use Rattle.block_feeds.specs.NamedWord.{inputs_among, named_words, NamedWord}
 use Rattle.block_feeds.specs.Values.{feed_value, AreInstanceValues, IsBlockOf, IsTop}
-use Rattle.block_feeds.specs.Wiring.{AreAllFeeds, HaveBlocks, IsWithoutRing}
+use Rattle.block_feeds.specs.Wiring.{AreAllFeeds, HaveBlocks, IsWithoutCycle}
 use Rattle.block_feeds.specs.declared.feeder.Feeder.{Feeder}
 use Rattle.block_feeds.specs.declared.feeder.Feeder.TheVariants.{InputWord, OutputOf}
 use Rattle.block_outputs.proofs.InputsLemmas.{inputs_long}
@@ -40,7 +41,7 @@ use Rattle.block_outputs.proofs.InstanceLemmas.{facts_of}
 use Rattle.block_outputs.proofs.OneValueLemmas.{one_list}
 use Rattle.block_outputs.proofs.OutputLemmas.{output_value, same_words}
 use Rattle.block_polys.specs.InstancePolys.{feed_at, poly_at, AreInstancePolys}
-use Rattle.block_polys.proofs.PointLemmas.{is_point_of, mapped_elements, mapped_long, mapped_same, taken_elements, taken_front, taken_long, value_at, word_element}
+use Rattle.block_polys.proofs.PointLemmas.{is_point_of, mapped_elements, mapped_same, taken_elements, taken_front, value_at, word_element}
 
 pub reduced_at : (k : ℕ) (polys : List Terms) (i : ℕ) (poly : Terms) → AreReduced k polys → slice_get polys i ≡ Some poly → IsReduced k poly
 reduced_at k [] i poly all got = absurd (cc)
@@ -55,7 +56,7 @@ module _ (k : ℕ) (mul : ℕ → ℕ → ℕ) (ring : IsRing k mul) (field : Ha
   es = map (value mul p) polys
 
   -- a feed that stands on nets has at the point the value of its polynomial
-  same_feed : (feed : Feeder) (nets : List Token) (basis : List ℕ) → StandsOn h feed nets basis → feed_value k mul h xs es feed ≡ feed_at mul polys p feed
+  same_feed : (feed : Feeder) (nets : List Token) (basis : List ℕ) → IsFeedOn h feed nets basis → feed_value k mul h xs es feed ≡ feed_at mul polys p feed
   same_feed (InputWord w) nets basis is =
       let found = facts_of k mul ring field h 0 h.words (bases_at h 0) given.top top is_top in
       let low : w < length top.words = omega (arith, slice_get_within (inputs_among (top_words h)) w is.word is.at, inputs_long (net_list found.0) (inputs_among (top_words h)) top.words found.2.inputs) in
@@ -115,7 +116,7 @@ module _ (k : ℕ) (mul : ℕ → ℕ → ℕ) (ring : IsRing k mul) (field : Ha
         subst P poly.2 (out_at i item feeds circuit at_item at_row block poly.0 parts.0 poly.1 parts.1 parts.2);
   }
 
-  pub output_at : HaveBlocks k mul h → IsWithoutRing rows → (feed : Feeder) → FeedsOutput h feed → IsOut top xs (feed_at mul polys p feed)
+  pub output_at : HaveBlocks k mul h → IsWithoutCycle rows → (feed : Feeder) → FeedsOutput h feed → IsOut top xs (feed_at mul polys p feed)
   output_at blocks free feed fed_output =
       let found = facts_of k mul ring field h 0 h.words (bases_at h 0) given.top top is_top in
       let facts = found.2 in
@@ -139,7 +140,7 @@ module _ (k : ℕ) (mul : ℕ → ℕ → ℕ) (ring : IsRing k mul) (field : Ha
       one (input_of top p) (value mul p ts) (value mul p us) (values p at)
       (let R : (ℕ → ℕ → ℕ) → Type 0 = λ times. IsOut top (input_of top p) (value times p us) in subst R well_mul (output.values p (let S : ℕ → Type 0 = λ n. IsPoint n p in subst S (sym well_k) at))))
 
-pub composed_output : (k : ℕ) (mul : ℕ → ℕ → ℕ) (h : Hierarchy) (rows : List (List Feeder)) (polys : List Terms) (top : Circuit) (feed : Feeder) (ts : Terms) → IsRing k mul → HasNoZeroDivisors k mul → IsGiven k h → AreAllFeeds h rows → HaveBlocks k mul h → IsWithoutRing rows → AreInstancePolys k mul h rows polys → IsTop k mul h top → FeedsOutput h feed
+pub composed_output : (k : ℕ) (mul : ℕ → ℕ → ℕ) (h : Hierarchy) (rows : List (List Feeder)) (polys : List Terms) (top : Circuit) (feed : Feeder) (ts : Terms) → IsRing k mul → HasNoZeroDivisors k mul → IsGiven k h → AreAllFeeds h rows → HaveBlocks k mul h → IsWithoutCycle rows → AreInstancePolys k mul h rows polys → IsTop k mul h top → FeedsOutput h feed
     → IsPolynomialOf k mul (λ p. feed_at mul polys p feed) ts → IsOutputInWords top ts
 composed_output k mul h rows polys top feed ts ring field given all blocks free made is_top fed is =
     let found = facts_of k mul ring field h 0 h.words (bases_at h 0) given.top top is_top in

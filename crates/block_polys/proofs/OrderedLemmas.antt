@@ -12,12 +12,12 @@ use Rattle.poly_mixed.specs.Polynomial.{value, IsPoint, IsPolynomialOf, IsReduce
 use Rattle.circuit_model.specs.Circuit.{Circuit}
 use Rattle.stage_model.specs.OutputInWords.{IsOutputInWords}
 use Rattle.instance_poly.specs.Instance.{point_of}
-use Rattle.block_feeds.specs.Feeds.{FeedsOutput, StandsOn}
+use Rattle.block_feeds.specs.Feeds.{FeedsOutput, IsFeedOn}
 use Rattle.block_feeds.specs.Given.{IsGiven}
 use Rattle.block_feeds.specs.Hierarchy.{top_words, Hierarchy}
 use Rattle.block_feeds.specs.NamedWord.{inputs_among}
 use Rattle.block_feeds.specs.Values.{IsTop}
-use Rattle.block_feeds.specs.Wiring.{AreAllFeeds, HaveBlocks, IsWithoutRing}
+use Rattle.block_feeds.specs.Wiring.{AreAllFeeds, HaveBlocks, IsWithoutCycle}
 use Rattle.block_feeds.specs.declared.feeder.Feeder.{Feeder}
 use Rattle.block_feeds.specs.declared.feeder.Feeder.TheVariants.{InputWord, OutputOf}
 use Rattle.instance_polys.specs.Instances.{AreDone, IsReady}
@@ -66,7 +66,7 @@ module _ (k : ℕ) (mul : ℕ → ℕ → ℕ) (h : Hierarchy) (rows : List (Lis
   }
 
   -- the polynomial of what stands on nets of the top
-  feed_made : length words ≡ length (inputs_among (top_words h)) → (feed : Feeder) (nets : List (List ℕ)) (basis : List ℕ) → StandsOn h feed nets basis → IsPolynomialOf k mul (λ p. feed_at mul polys p feed) (feed_terms words polys feed)
+  feed_made : length words ≡ length (inputs_among (top_words h)) → (feed : Feeder) (nets : List (List ℕ)) (basis : List ℕ) → IsFeedOn h feed nets basis → IsPolynomialOf k mul (λ p. feed_at mul polys p feed) (feed_terms words polys feed)
   feed_made count (InputWord w) nets basis is =
       let word = get_below words w (omega (arith, count, slice_get_within (inputs_among (top_words h)) w is.word is.at)) in
       let P : Terms → Type 0 = λ ts. IsPolynomialOf k mul (λ p. slice_index p.words w) ts in
@@ -76,6 +76,6 @@ module _ (k : ℕ) (mul : ℕ → ℕ → ℕ) (h : Hierarchy) (rows : List (Lis
       let P : Terms → Type 0 = IsReduced k in
       record { reduced = subst P (sym (read_terms polys i poly.0 poly.1)) (reduced_at k polys i poly.0 done.reduced poly.1); values = λ p at. refl }
 
-  pub output_made : IsRing k mul → HasNoZeroDivisors k mul → IsGiven k h → HaveBlocks k mul h → IsWithoutRing rows → (top : Circuit) (feed : Feeder) → IsTop k mul h top → FeedsOutput h feed → length words ≡ length (inputs_among (top_words h)) → IsOutputInWords top (feed_terms words polys feed)
+  pub output_made : IsRing k mul → HasNoZeroDivisors k mul → IsGiven k h → HaveBlocks k mul h → IsWithoutCycle rows → (top : Circuit) (feed : Feeder) → IsTop k mul h top → FeedsOutput h feed → length words ≡ length (inputs_among (top_words h)) → IsOutputInWords top (feed_terms words polys feed)
   output_made ring field given bind free top feed is_top fed count =
       composed_output k mul h rows polys top feed (feed_terms words polys feed) ring field given all bind free instances_made is_top fed (feed_made count feed fed.word.nets fed.word.basis fed.stands)

@@ -14,11 +14,6 @@ taken_front [] ys (suc n) long = absurd (omega (arith, long))
 taken_front (x ∷ xs) ys zero long = absurd (omega (arith, long))
 taken_front (x ∷ xs) ys (suc n) long = ap (λ zs. x ∷ zs) (taken_front xs ys n (omega (arith, long)))
 
-pub taken_long : (n : ℕ) (xs : List ℕ) → n ≤ length xs → length (take n xs) ≡ n
-taken_long zero xs less = refl
-taken_long (suc n) [] less = absurd (omega (arith, less))
-taken_long (suc n) (x ∷ xs) less = ap suc (taken_long n xs (omega (arith, less)))
-
 pub taken_elements : (k n : ℕ) (xs : List ℕ) (x i : ℕ) → AllByRecursion (IsElement k) xs → slice_get (take n xs) i ≡ Some x → x < 2 ^ k
 taken_elements k zero xs x i all got = absurd (cc)
 taken_elements k (suc n) [] x i all got = absurd (cc)
@@ -30,10 +25,6 @@ word_element k [] zero all = pow_pos k
 word_element k [] (suc w) all = pow_pos k
 word_element k (x ∷ xs) zero all = all.0
 word_element k (x ∷ xs) (suc w) all = word_element k xs w all.1
-
-pub mapped_long : {A B : Type 0} (g : A → B) (xs : List A) → length (map g xs) ≡ length xs
-mapped_long g [] = refl
-mapped_long g (x ∷ xs) = ap suc (mapped_long g xs)
 
 pub mapped_same : {A : Type 0} (g h : A → ℕ) (xs : List A) → ((i : ℕ) (x : A) → slice_get xs i ≡ Some x → g x ≡ h x) → map g xs ≡ map h xs
 mapped_same g h [] same = refl

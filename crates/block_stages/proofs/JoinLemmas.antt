@@ -12,7 +12,7 @@ use Rattle.stage_model.proofs.BoundLemmas.{bound_over, bound_within}
 use Rattle.stage_model.proofs.ListingLemmas.{all_of_both, both_ordered, both_sizes, earlier_over, later_over, one_over, over_not_all}
 use Rattle.block_feeds.specs.Given.{IsGiven}
 use Rattle.block_feeds.specs.Hierarchy.{Hierarchy}
-use Rattle.block_feeds.specs.Wiring.{feeding_graph, AreAllFeeds, HaveBlocks, IsWithoutRing}
+use Rattle.block_feeds.specs.Wiring.{feeding_graph, AreAllFeeds, HaveBlocks, IsWithoutCycle}
 use Rattle.block_feeds.specs.declared.feeder.Feeder.{Feeder}
 use Rattle.instance_order.specs.LevelOrder.{AreLevels}
 use Rattle.block_stages.specs.BlockStages.{block_stages, BlockStage}
@@ -21,7 +21,7 @@ use Rattle.block_stages.specs.InstanceStages.{instance_stages}
 use Rattle.block_stages.proofs.OneInstanceLemmas as instances
 use Rattle.block_stages.proofs.UsedLemmas.{blocks_ordered, blocks_sizes}
 
-module _ (k : ℕ) (mul : ℕ → ℕ → ℕ) (h : Hierarchy) (rows : List (List Feeder)) (ring : IsRing k mul) (field : HasNoZeroDivisors k mul) (given : IsGiven k h) (all : AreAllFeeds h rows) (blocks_are : HaveBlocks k mul h) (free : IsWithoutRing rows) (bound : ℕ) where
+module _ (k : ℕ) (mul : ℕ → ℕ → ℕ) (h : Hierarchy) (rows : List (List Feeder)) (ring : IsRing k mul) (field : HasNoZeroDivisors k mul) (given : IsGiven k h) (all : AreAllFeeds h rows) (blocks_are : HaveBlocks k mul h) (free : IsWithoutCycle rows) (bound : ℕ) where
   pub one_first : (levels : List ℕ) → AreLevels (feeding_graph rows) levels → (a b : Joined BlockStage Stage) (m n : ℕ) → IsFirstOfComposition k mul h rows bound a m → IsFirstOfComposition k mul h rows bound b n → (a ≡ b) × (m ≡ n)
   one_first levels are a b m n x y =
       one_over k mul (composition_stages k mul h rows) bound
@@ -37,9 +37,9 @@ module _ (k : ℕ) (mul : ℕ → ℕ → ℕ) (h : Hierarchy) (rows : List (Lis
 
 -- ---- the stages of a net with bound words are those of its circuit
 
-module _ (k : ℕ) (mul : ℕ → ℕ → ℕ) (b : BoundNet) (bases : List (List ℕ)) (long : length bases ≡ length b.bound.words) (bound : ℕ) where
+module _ (k : ℕ) (mul : ℕ → ℕ → ℕ) (b : BoundNet) (bases : List (List ℕ)) (long : length bases ≡ length b.binding.words) (bound : ℕ) where
   abbrev basis : List ℕ
-  basis = output_basis b.bound.words bases
+  basis = output_basis b.binding.words bases
 
   abbrev bound_stages : Listing (Joined Stage Stage)
   bound_stages = followed_by (bound_cuts b basis) (word_listing (circuit_with k mul b bases))

@@ -5,13 +5,13 @@ use Rattle.std.proofs.lemmas.Bool.{cases_lt}
 use Rattle.std.proofs.lemmas.Option.{get_or_from_slice_get, slice_get_within}
 use Rattle.graph_core.specs.Cycle.{grounded, IsGrounded}
 use Rattle.graph_core.specs.Graph.{edges, Graph, Has, HasEdge, IsInside}
+use Rattle.graph_core.proofs.GeneralLemmas.{length_map as mapped_long}
 use Rattle.graph_core.proofs.CycleLemmas.{from_map}
 use Rattle.block_feeds.specs.Hierarchy.{Hierarchy}
-use Rattle.block_feeds.specs.Wiring.{feeding_graph, AreAllFeeds, IsWithoutRing}
+use Rattle.block_feeds.specs.Wiring.{feeding_graph, AreAllFeeds, IsWithoutCycle}
 use Rattle.block_feeds.specs.declared.feeder.Feeder.{Feeder}
 use Rattle.instance_order.specs.LevelOrder.{first_numbers, level_from, level_over, AreLevels}
 use Rattle.instance_order.proofs.LevelLemmas.{number_at, numbers_long, read_number}
-use Rattle.block_polys.proofs.PointLemmas.{mapped_long}
 use Rattle.block_stages.proofs.OrderLemmas.{graph_long, rows_inside}
 
 -- more than each of these levels, and at least m
@@ -100,6 +100,6 @@ module _ (graph : Graph) where
     pub some_levels : (levels : List ℕ) × AreLevels graph levels
     some_levels = (all_levels, levels_are)
 
--- instances that do not feed each other in a ring have levels
-pub instance_levels : (h : Hierarchy) (rows : List (List Feeder)) → AreAllFeeds h rows → IsWithoutRing rows → (levels : List ℕ) × AreLevels (feeding_graph rows) levels
+-- instances that do not feed each other in a cycle have levels
+pub instance_levels : (h : Hierarchy) (rows : List (List Feeder)) → AreAllFeeds h rows → IsWithoutCycle rows → (levels : List ℕ) × AreLevels (feeding_graph rows) levels
 instance_levels h rows all free = some_levels (feeding_graph rows) (rows_inside h rows all) (λ i less. free i (omega (arith, less, graph_long rows)))

@@ -11,5 +11,5 @@ pub mod LastLemmas
 pub mod SomeStageLemmas
 pub mod SizedLemmas
 pub mod DecidedLemmas
-pub mod DecidedBlocks
+pub mod DecidedBlockLemmas
 mod Examples

@@ -17,7 +17,7 @@ use Rattle.instance_poly.proofs.StageLemmas.{only_stage}
 use Rattle.block_feeds.specs.Given.{IsGiven}
 use Rattle.block_feeds.specs.Hierarchy.{Hierarchy}
 use Rattle.block_feeds.specs.Values.{feed_value}
-use Rattle.block_feeds.specs.Wiring.{feeding_graph, AreAllFeeds, HaveBlocks, IsWithoutRing}
+use Rattle.block_feeds.specs.Wiring.{feeding_graph, AreAllFeeds, HaveBlocks, IsWithoutCycle}
 use Rattle.block_feeds.specs.declared.feeder.Feeder.{Feeder}
 use Rattle.block_outputs.proofs.OneValueLemmas.{one_list}
 use Rattle.instance_order.specs.LevelOrder.{AreLevels}
@@ -97,7 +97,7 @@ module _ (rows : List (List Feeder)) (levels : List ℕ) (are : AreLevels (feedi
 
 -- ---- sizes
 
-module _ (k : ℕ) (mul : ℕ → ℕ → ℕ) (ring : IsRing k mul) (field : HasNoZeroDivisors k mul) (h : Hierarchy) (given : IsGiven k h) (rows : List (List Feeder)) (all : AreAllFeeds h rows) (blocks_are : HaveBlocks k mul h) (free : IsWithoutRing rows) where
+module _ (k : ℕ) (mul : ℕ → ℕ → ℕ) (ring : IsRing k mul) (field : HasNoZeroDivisors k mul) (h : Hierarchy) (given : IsGiven k h) (rows : List (List Feeder)) (all : AreAllFeeds h rows) (blocks_are : HaveBlocks k mul h) (free : IsWithoutCycle rows) where
   -- what feeds an instance has one list of values
   one_fed : (n : ℕ) (xs ys zs : List ℕ) → AreFed k mul h rows n xs ys → AreFed k mul h rows n xs zs → ys ≡ zs
   one_fed n xs ys zs a b =

@@ -13,7 +13,7 @@ use Rattle.net_blif.specs.Top.{instances_of}
 use Rattle.block_feeds.specs.Feeds.{IsOutputOf}
 use Rattle.block_feeds.specs.Hierarchy.{Hierarchy}
 use Rattle.block_feeds.specs.NamedWord.{inputs_among}
-use Rattle.block_feeds.specs.Wiring.{feeding_graph, instances_among, AreAllFeeds, IsWithoutRing}
+use Rattle.block_feeds.specs.Wiring.{feeding_graph, instances_among, AreAllFeeds, IsWithoutCycle}
 use Rattle.block_feeds.specs.declared.feeder.Feeder.{Feeder}
 use Rattle.block_feeds.specs.declared.feeder.Feeder.TheVariants.{InputWord, OutputOf}
 use Rattle.instance_order.specs.LevelOrder.{first_numbers, level_from, AreLevels, IsLevelOrder, IsOrderBy}
@@ -47,8 +47,8 @@ rows_inside h rows all a b edge =
     let is : IsOutputOf h b fits.nets word.0.basis = fits.stands in
     omega (arith, slice_get_within (instances_of h.design) b is.item is.instance.at, all.long, graph_long rows)
 
-pub no_ring : (h : Hierarchy) (rows : List (List Feeder)) (order : List ℕ) → AreAllFeeds h rows → IsLevelOrder (feeding_graph rows) order → IsWithoutRing rows
-no_ring h rows order all by_level i less =
+pub no_cycle : (h : Hierarchy) (rows : List (List Feeder)) (order : List ℕ) → AreAllFeeds h rows → IsLevelOrder (feeding_graph rows) order → IsWithoutCycle rows
+no_cycle h rows order all by_level i less =
     let graph : Graph = feeding_graph rows in
     let arranged = level_arranged graph order (rows_inside h rows all) by_level in
     arranged_grounded graph (first_numbers (length graph)) order i arranged (all_stand graph order arranged i (omega (arith, less, graph_long rows)))

@@ -8,6 +8,7 @@ use Rattle.std.proofs.lemmas.List.{get_or-set_other, length-set}
 use Rattle.std.proofs.lemmas.Nat.{pow_pos}
 use Rattle.std.proofs.lemmas.Option.{slice_get_within}
 use Rattle.graph_core.specs.Graph.{Has}
+use Rattle.graph_core.proofs.GeneralLemmas.{length_map as mapped_long}
 use Rattle.graph_core.proofs.CycleLemmas.{from_map}
 use Rattle.graph_core.proofs.ListLemmas.{get_below, got_set}
 use Rattle.net_blif.specs.Top.{instances_of}
@@ -29,7 +30,7 @@ use Rattle.block_feeds.specs.declared.feeder.Feeder.TheVariants.{InputWord, Outp
 use Rattle.block_outputs.proofs.InputsLemmas.{inputs_long}
 use Rattle.block_outputs.proofs.OutputLemmas.{same_words}
 use Rattle.block_circuits.proofs.OneCircuitLemmas.{one_block}
-use Rattle.block_polys.proofs.PointLemmas.{mapped_long, word_element}
+use Rattle.block_polys.proofs.PointLemmas.{word_element}
 use Rattle.block_stages.specs.InstanceStages.{top_elements}
 use Rattle.block_stages.proofs.BlockLemmas.{block_facts}
 

@@ -27,7 +27,7 @@ use Rattle.instance_polys.specs.Words.{values_of, AreWordPolys}
 use Rattle.block_polys.specs.InstancePolys.{HaveBlockPolys}
 use Rattle.block_stages.specs.InstanceStages.{instance_in, is_earlier_stage, top_elements, AreInstancesWithin, IsBlockPoly, IsEarlierInstance, IsFirstOfInstances, IsStageName, IsStageOf}
 use Rattle.block_stages.proofs.BlockLemmas.{one_poly}
-use Rattle.block_stages.proofs.OrderLemmas.{graph_long, no_ring, one_level, stands_before}
+use Rattle.block_stages.proofs.OrderLemmas.{graph_long, no_cycle, one_level, stands_before}
 use Rattle.block_stages.proofs.SomeValuesLemmas.{values_at}
 use Rattle.block_stages.proofs.ValueLemmas.{fed_same}
 
@@ -57,7 +57,7 @@ at_values mul feeds block (SpecSum s) p e is = absurd is
 -- an instance that comes before another one stands before it
 pub earlier_place : (h : Hierarchy) (rows : List (List Feeder)) (order : List ℕ) (m n i j : ℕ) → AreAllFeeds h rows → IsLevelOrder (feeding_graph rows) order → slice_get order m ≡ Some i → slice_get order n ≡ Some j → i < length rows → j < length rows → IsEarlierInstance rows (i + 1) (j + 1) → m < n
 earlier_place h rows order m n i j all by_level at_i at_j less_i less_j earlier =
-    let free = no_ring h rows order all by_level in
+    let free = no_cycle h rows order all by_level in
     let level : (a : ℕ) → a < length rows → slice_index earlier.levels (a + 1 - 1) ≡ slice_index by_level.0 a = (λ a less.
     let back : a + 1 - 1 ≡ a = omega arith in
     ap (slice_index earlier.levels) back ∙ one_level (feeding_graph rows) earlier.levels by_level.0 earlier.are by_level.1 a (free a less)) in

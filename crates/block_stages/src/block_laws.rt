@@ -36,6 +36,6 @@ pub fn one_first_of_blocks()
 
 /// The cuts of a net with bound words and then the stages of the words are over a bound exactly where the stages of its circuit are.
 pub fn bound_stages_over()
-    ensures over { (k : ℕ) (mul : ℕ → ℕ → ℕ) (net : BoundNet) (bases : List (List ℕ)) (bound : ℕ) (name : Joined Stage Stage) (n : ℕ) → length bases ≡ length net.bound.words → IsOver k mul (followed_by (bound_cuts net (output_basis net.bound.words bases)) (word_listing (circuit_with k mul net bases))) bound name n ↔ IsOver k mul (circuit_stages (circuit_with k mul net bases)) bound name n }
-    ensures within { (k : ℕ) (mul : ℕ → ℕ → ℕ) (net : BoundNet) (bases : List (List ℕ)) (bound : ℕ) → length bases ≡ length net.bound.words → AreAllWithin k mul (followed_by (bound_cuts net (output_basis net.bound.words bases)) (word_listing (circuit_with k mul net bases))) bound ↔ AreAllWithin k mul (circuit_stages (circuit_with k mul net bases)) bound }
+    ensures over { (k : ℕ) (mul : ℕ → ℕ → ℕ) (net : BoundNet) (bases : List (List ℕ)) (bound : ℕ) (name : Joined Stage Stage) (n : ℕ) → length bases ≡ length net.binding.words → IsOver k mul (followed_by (bound_cuts net (output_basis net.binding.words bases)) (word_listing (circuit_with k mul net bases))) bound name n ↔ IsOver k mul (circuit_stages (circuit_with k mul net bases)) bound name n }
+    ensures within { (k : ℕ) (mul : ℕ → ℕ → ℕ) (net : BoundNet) (bases : List (List ℕ)) (bound : ℕ) → length bases ≡ length net.binding.words → AreAllWithin k mul (followed_by (bound_cuts net (output_basis net.binding.words bases)) (word_listing (circuit_with k mul net bases))) bound ↔ AreAllWithin k mul (circuit_stages (circuit_with k mul net bases)) bound }
 {}

@@ -6,7 +6,7 @@ ghost use Rattle.poly_mixed.specs.declared.stage.Stage.{Stage};
 ghost use Rattle.stage_model.specs.Listing.{Earlier, Joined, Later};
 ghost use Rattle.block_feeds.specs.Given.{IsGiven};
 ghost use Rattle.block_feeds.specs.Hierarchy.{Hierarchy};
-ghost use Rattle.block_feeds.specs.Wiring.{AreAllFeeds, HaveBlocks, IsWithoutRing};
+ghost use Rattle.block_feeds.specs.Wiring.{AreAllFeeds, HaveBlocks, IsWithoutCycle};
 ghost use Rattle.block_feeds.specs.declared.feeder.Feeder.{Feeder};
 ghost use Rattle.block_stages.specs.BlockStages.{AreBlocksWithin, BlockStage, IsFirstOfBlocks};
 ghost use Rattle.block_stages.specs.CompositionStages.{IsCompositionWithin, IsFirstOfComposition};
@@ -21,8 +21,8 @@ pub fn first_of_blocks_and_instances()
     ensures within { (k : ℕ) (mul : ℕ → ℕ → ℕ) (h : Hierarchy) (rows : List (List Feeder)) (bound : ℕ) → IsCompositionWithin k mul h rows bound ↔ (AreBlocksWithin k mul h bound × AreInstancesWithin k mul h rows bound) }
 {}
 
-/// Where no instances feed each other in a ring, of all stages of a composition one at most is the first over a bound, with one size, and then not all are within it.
+/// Where no instances feed each other in a cycle, of all stages of a composition one at most is the first over a bound, with one size, and then not all are within it.
 pub fn one_first_of_composition()
-    ensures only { (k : ℕ) (mul : ℕ → ℕ → ℕ) (h : Hierarchy) (rows : List (List Feeder)) (bound : ℕ) (name other : Joined BlockStage Stage) (m n : ℕ) → IsRing k mul → HasNoZeroDivisors k mul → IsGiven k h → AreAllFeeds h rows → HaveBlocks k mul h → IsWithoutRing rows → IsFirstOfComposition k mul h rows bound name m → IsFirstOfComposition k mul h rows bound other n → (name ≡ other) × (m ≡ n) }
-    ensures not_all { (k : ℕ) (mul : ℕ → ℕ → ℕ) (h : Hierarchy) (rows : List (List Feeder)) (bound : ℕ) (name : Joined BlockStage Stage) (n : ℕ) → IsRing k mul → HasNoZeroDivisors k mul → IsGiven k h → AreAllFeeds h rows → HaveBlocks k mul h → IsWithoutRing rows → IsFirstOfComposition k mul h rows bound name n → IsCompositionWithin k mul h rows bound → ⊥ }
+    ensures only { (k : ℕ) (mul : ℕ → ℕ → ℕ) (h : Hierarchy) (rows : List (List Feeder)) (bound : ℕ) (name other : Joined BlockStage Stage) (m n : ℕ) → IsRing k mul → HasNoZeroDivisors k mul → IsGiven k h → AreAllFeeds h rows → HaveBlocks k mul h → IsWithoutCycle rows → IsFirstOfComposition k mul h rows bound name m → IsFirstOfComposition k mul h rows bound other n → (name ≡ other) × (m ≡ n) }
+    ensures not_all { (k : ℕ) (mul : ℕ → ℕ → ℕ) (h : Hierarchy) (rows : List (List Feeder)) (bound : ℕ) (name : Joined BlockStage Stage) (n : ℕ) → IsRing k mul → HasNoZeroDivisors k mul → IsGiven k h → AreAllFeeds h rows → HaveBlocks k mul h → IsWithoutCycle rows → IsFirstOfComposition k mul h rows bound name n → IsCompositionWithin k mul h rows bound → ⊥ }
 {}

@@ -11,7 +11,7 @@ ghost use Rattle.block_feeds.specs.Given.{IsGiven};
 ghost use Rattle.block_feeds.specs.Hierarchy.{top_words, Hierarchy};
 ghost use Rattle.block_feeds.specs.NamedWord.{inputs_among};
 ghost use Rattle.block_feeds.specs.Values.{AreInstanceValues};
-ghost use Rattle.block_feeds.specs.Wiring.{feeding_graph, AreAllFeeds, HaveBlocks, IsWithoutRing};
+ghost use Rattle.block_feeds.specs.Wiring.{feeding_graph, AreAllFeeds, HaveBlocks, IsWithoutCycle};
 ghost use Rattle.block_feeds.specs.declared.feeder.Feeder.{Feeder};
 ghost use Rattle.instance_order.specs.LevelOrder.{AreLevels, IsLevelOrder};
 ghost use Rattle.instance_polys.specs.Instances.{AreDone, IsFirstOver, IsReady};
@@ -19,10 +19,10 @@ ghost use Rattle.instance_polys.specs.Words.{AreWordPolys};
 ghost use Rattle.block_polys.specs.InstancePolys.{HaveBlockPolys};
 ghost use Rattle.block_stages.specs.InstanceStages.{instance_stages, top_elements, AreInstancesWithin, IsBlockPoly, IsFirstOfInstances};
 
-/// Where instances can be taken by level, none feed each other in a ring; and where none do, they have levels.
-pub fn rings_have_no_levels()
-    ensures free { (h : Hierarchy) (rows : List (List Feeder)) (order : List ℕ) → AreAllFeeds h rows → IsLevelOrder (feeding_graph rows) order → IsWithoutRing rows }
-    ensures levels { (h : Hierarchy) (rows : List (List Feeder)) → AreAllFeeds h rows → IsWithoutRing rows → (levels : List ℕ) × AreLevels (feeding_graph rows) levels }
+/// Where instances can be taken by level, none feed each other in a cycle; and where none do, they have levels.
+pub fn cycles_have_no_levels()
+    ensures free { (h : Hierarchy) (rows : List (List Feeder)) (order : List ℕ) → AreAllFeeds h rows → IsLevelOrder (feeding_graph rows) order → IsWithoutCycle rows }
+    ensures levels { (h : Hierarchy) (rows : List (List Feeder)) → AreAllFeeds h rows → IsWithoutCycle rows → (levels : List ℕ) × AreLevels (feeding_graph rows) levels }
 {}
 
 /// The block of an instance has exactly one polynomial in words.
@@ -35,7 +35,7 @@ pub fn instance_blocks_have_one_polynomial()
 /// by level.
 pub fn stages_of_instances_have_values()
     ensures some { (k : ℕ) (mul : ℕ → ℕ → ℕ) (h : Hierarchy) (rows : List (List Feeder)) (order : List ℕ) (name : Stage) (p : Point) → IsRing k mul → HasNoZeroDivisors k mul → IsGiven k h → AreAllFeeds h rows → HaveBlocks k mul h → IsLevelOrder (feeding_graph rows) order → IsPoint k p → (instance_stages k mul h rows).is_listed name → (e : ℕ) × (instance_stages k mul h rows).stage_of name p e × (e < 2 ^ k) }
-    ensures only { (k : ℕ) (mul : ℕ → ℕ → ℕ) (h : Hierarchy) (rows : List (List Feeder)) (name : Stage) (p : Point) (e other : ℕ) → IsRing k mul → HasNoZeroDivisors k mul → IsGiven k h → AreAllFeeds h rows → HaveBlocks k mul h → IsWithoutRing rows → IsPoint k p → (instance_stages k mul h rows).stage_of name p e → (instance_stages k mul h rows).stage_of name p other → e ≡ other }
+    ensures only { (k : ℕ) (mul : ℕ → ℕ → ℕ) (h : Hierarchy) (rows : List (List Feeder)) (name : Stage) (p : Point) (e other : ℕ) → IsRing k mul → HasNoZeroDivisors k mul → IsGiven k h → AreAllFeeds h rows → HaveBlocks k mul h → IsWithoutCycle rows → IsPoint k p → (instance_stages k mul h rows).stage_of name p e → (instance_stages k mul h rows).stage_of name p other → e ≡ other }
 {}
 
 /// Where the instances can be taken by level, each listed stage of an instance has a polynomial, and so a size.
@@ -51,11 +51,11 @@ pub fn instances_by_level_have_these_stages()
     ensures within { (k : ℕ) (mul : ℕ → ℕ → ℕ) (h : Hierarchy) (rows : List (List Feeder)) (words blocks polys : List Terms) (bound : ℕ) (order : List ℕ) → IsRing k mul → HasNoZeroDivisors k mul → IsGiven k h → AreAllFeeds h rows → HaveBlocks k mul h → HaveBlockPolys k mul h blocks → AreWordPolys k mul words → length words ≡ length (inputs_among (top_words h)) → IsReady k words blocks rows order → IsLevelOrder (feeding_graph rows) order → AreDone k mul words blocks rows bound order (length order) polys → AreInstancesWithin k mul h rows bound }
 {}
 
-/// Of the stages of instances that do not feed each other in a ring one at most is the first over a bound, with one size, and then not all are
+/// Of the stages of instances that do not feed each other in a cycle one at most is the first over a bound, with one size, and then not all are
 /// within it.
 pub fn one_first_of_instances()
-    ensures only { (k : ℕ) (mul : ℕ → ℕ → ℕ) (h : Hierarchy) (rows : List (List Feeder)) (bound : ℕ) (name other : Stage) (m n : ℕ) → IsRing k mul → HasNoZeroDivisors k mul → IsGiven k h → AreAllFeeds h rows → HaveBlocks k mul h → IsWithoutRing rows → IsFirstOfInstances k mul h rows bound name m → IsFirstOfInstances k mul h rows bound other n → (name ≡ other) × (m ≡ n) }
-    ensures not_all { (k : ℕ) (mul : ℕ → ℕ → ℕ) (h : Hierarchy) (rows : List (List Feeder)) (bound : ℕ) (name : Stage) (n : ℕ) → IsRing k mul → HasNoZeroDivisors k mul → IsGiven k h → AreAllFeeds h rows → HaveBlocks k mul h → IsWithoutRing rows → IsFirstOfInstances k mul h rows bound name n → AreInstancesWithin k mul h rows bound → ⊥ }
+    ensures only { (k : ℕ) (mul : ℕ → ℕ → ℕ) (h : Hierarchy) (rows : List (List Feeder)) (bound : ℕ) (name other : Stage) (m n : ℕ) → IsRing k mul → HasNoZeroDivisors k mul → IsGiven k h → AreAllFeeds h rows → HaveBlocks k mul h → IsWithoutCycle rows → IsFirstOfInstances k mul h rows bound name m → IsFirstOfInstances k mul h rows bound other n → (name ≡ other) × (m ≡ n) }
+    ensures not_all { (k : ℕ) (mul : ℕ → ℕ → ℕ) (h : Hierarchy) (rows : List (List Feeder)) (bound : ℕ) (name : Stage) (n : ℕ) → IsRing k mul → HasNoZeroDivisors k mul → IsGiven k h → AreAllFeeds h rows → HaveBlocks k mul h → IsWithoutCycle rows → IsFirstOfInstances k mul h rows bound name n → AreInstancesWithin k mul h rows bound → ⊥ }
 {}
 
 /// The sum of all terms of an instance's block is the instance's value.

@@ -14,8 +14,8 @@ pub use block_laws::{
 pub use composition_laws::{first_of_blocks_and_instances, one_first_of_composition};
 pub use existence_laws::some_first_of_composition;
 pub use instance_laws::{
-    instance_blocks_have_one_polynomial, instances_by_level_have_these_stages,
-    last_sums_are_the_values, one_first_of_instances, rings_have_no_levels,
+    cycles_have_no_levels, instance_blocks_have_one_polynomial,
+    instances_by_level_have_these_stages, last_sums_are_the_values, one_first_of_instances,
     stages_of_instances_have_sizes, stages_of_instances_have_values,
 };
 pub use wired_laws::wired_tops_have_these_stages;

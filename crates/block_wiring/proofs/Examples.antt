@@ -7,7 +7,7 @@ use Rattle.net_words.specs.declared.word.Role.TheVariants.{Input, Output}
 use Rattle.net_words.specs.declared.word.WordText.{WordText}
 use Rattle.net_blif.specs.Statement.{Token}
 use Rattle.net_blif.specs.declared.item.Item.TheVariants.{Instance}
-use Rattle.block_feeds.specs.Feeds.{Fits}
+use Rattle.block_feeds.specs.Feeds.{FitsWord}
 use Rattle.block_feeds.specs.Hierarchy.{Hierarchy, IsInstance}
 use Rattle.block_feeds.specs.NamedWord.{NamedWord}
 use Rattle.block_feeds.specs.declared.feeder.Feeder.TheVariants.{InputWord, OutputOf}
@@ -60,7 +60,7 @@ instance_of_m : (connections : List Token) → IsInstance (top connections) 0 (I
 instance_of_m connections = record { at = refl; number = 0; named = refl; block = record { model = m; words = text Input x ∷ text Output y ∷ [] }; found = refl; words_are = refl }
 
 -- the input word of the top fits x
-a_fits_x : Fits (top whole) (Instance 4 m whole) input_x (InputWord 0)
+a_fits_x : FitsWord (top whole) (Instance 4 m whole) input_x (InputWord 0)
 a_fits_x = record { nets = a ∷ []; actuals = refl; stands = record { word = record { role = Input; nets = a ∷ []; basis = 1 ∷ [] }; at = refl; nets_are = refl; basis_is = refl } }
 
 -- no earlier feed fits it: the input words of the top come first

@@ -6,6 +6,7 @@ use Rattle.std.specs.Option.{option_map, unwrap_or}
 use Rattle.std.specs.Str.{bytes_eq}
 use Rattle.std.proofs.lemmas.Option.{get_or_from_slice_get, slice_get-map, slice_get_within}
 use Rattle.graph_core.proofs.ListLemmas.{get_below}
+use Rattle.graph_core.proofs.GeneralLemmas.{length_map as mapped_long}
 use Rattle.net_core.specs.Lists.{Has}
 use Rattle.net_words.specs.Roles.{is_output, same_role}
 use Rattle.net_words.specs.declared.word.Role.TheVariants.{Fed, Output}
@@ -23,7 +24,6 @@ use Rattle.block_feeds.specs.NamedWord.{named_words, outputs_among, NamedWord}
 use Rattle.block_wiring.specs.Instanced.{elements_in, hierarchy, IsInstanced}
 use Rattle.block_wiring.specs.private.Plain.{ArePlaced, AreSized, HaveOutputs, HaveWords, IsListed, PlacedValue}
 use Rattle.block_wiring.specs.private.Words.{AreOf}
-use Rattle.block_wiring.proofs.ListLemmas.{mapped_long}
 use Rattle.block_wiring.proofs.PlainLemmas.{ArePlain}
 
 -- ---- lists of bases
@@ -159,9 +159,6 @@ module _ (k : ℕ) (design : List ModelValue) (words : List WordText) (blocks : 
 
     pub placed_sized : AreSized k placed
     placed_sized i instance at = (block_at i instance at).3
-
-    pub placed_long : length placed ≡ length (instances_of design)
-    placed_long = are.long ∙ mapped_long connections_in (instances_of design)
 
 pub sized_outputs : (k : ℕ) (placed : List PlacedValue) → AreSized k placed → HaveOutputs placed
 sized_outputs k placed sized i instance at = (sized i instance at).output

@@ -1,5 +1,5 @@
 -- Lists and places in them.
-use Rattle.std.proofs.Common.{◌≡◌, ◌∙◌, ap, sym, refl, ℕ, zero, suc, ◌<◌, ◌≤◌, ◌+◌, ◌⊎◌, inl, inr, Bool, true, false, not, subst, if◌then◌else◌, List, [], ◌∷◌, ◌++◌, length, take, drop, filter, map, Option, None, Some, arith, add-one}
+use Rattle.std.proofs.Common.{◌≡◌, ◌∙◌, ap, sym, refl, ℕ, zero, suc, ◌<◌, ◌≤◌, ◌+◌, ◌⊎◌, inl, inr, Bool, true, false, not, subst, if◌then◌else◌, List, [], ◌∷◌, ◌++◌, length, take, drop, filter, Option, None, Some, arith, add-one}
 use Rattle.std.specs.Prelude.{slice_get, IfNone}
 use Rattle.net_core.specs.Lists.{Has}
 
@@ -76,14 +76,6 @@ module _ {A : Type 0} where
       parts true more = (suc more.0, more.1)
       parts false more = more
 
-pub mapped_long : {A B : Type 0} (g : A → B) (xs : List A) → length (map g xs) ≡ length xs
-mapped_long g [] = refl
-mapped_long g (x ∷ xs) = ap suc (mapped_long g xs)
-
-pub was_false : (b : Bool) → not b ≡ true → b ≡ false
-was_false true e = absurd (cc)
-was_false false e = refl
-
 pub was_true : (b : Bool) → not b ≡ false → b ≡ true
 was_true true e = refl
 was_true false e = absurd (cc)
@@ -92,7 +84,3 @@ was_true false e = absurd (cc)
 pub none_then : {X : Type 0} (r : Option X) {P Q : Type 0} → IfNone r P → (P → Q) → IfNone r Q
 none_then None h f = f h
 none_then (Some x) h f = tt
-
-pub mapped_push : {A B : Type 0} (g : A → B) (xs : List A) (x : A) → map g (xs ++ x ∷ []) ≡ map g xs ++ g x ∷ []
-mapped_push g [] x = refl
-mapped_push g (y ∷ ys) x = ap (λ zs. g y ∷ zs) (mapped_push g ys x)

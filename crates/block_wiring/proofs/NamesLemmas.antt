@@ -72,26 +72,6 @@ unplaced_actual n (c ∷ cs) formal e = parts (bytes_eq (formal_of c) formal) re
 abbrev pub after_names : List Token → Option (List Token) → Option (List Token)
 after_names names rest = option_map (λ more. names ++ more) rest
 
--- one formal more is connected
-pub actuals_more : (connections formals names : List Token) (j : ℕ) (formal actual : Token) → slice_get formals j ≡ Some formal → actual_by connections formal ≡ Some actual
-    → after_names names (actuals_by connections (drop j formals)) ≡ after_names (names ++ actual ∷ []) (actuals_by connections (drop (j + 1) formals))
-actuals_more connections [] names j formal actual got is = absurd (cc)
-actuals_more connections (f ∷ fs) names zero formal actual got is =
-    let same : f ≡ formal = cc in
-    let here : actual_by connections f ≡ Some actual = ap (actual_by connections) same ∙ is in
-    ap (λ found. after_names names (option_and_then (λ (a : Token). option_map (λ (more : List Token). a ∷ more) (actuals_by connections fs)) found)) here ∙ joined names actual (actuals_by connections fs)
-  where
-    append_one : (xs : List Token) (a : Token) (ys : List Token) → xs ++ a ∷ ys ≡ (xs ++ a ∷ []) ++ ys
-    append_one [] a ys = refl
-    append_one (x ∷ xs) a ys = ap (λ zs. x ∷ zs) (append_one xs a ys)
-
-    joined : (xs : List Token) (a : Token) (rest : Option (List Token)) → after_names xs (option_map (λ (more : List Token). a ∷ more) rest) ≡ after_names (xs ++ a ∷ []) rest
-    joined xs a None = refl
-    joined xs a (Some more) = ap (λ zs. Some zs) (append_one xs a more)
-actuals_more connections (f ∷ fs) names (suc j) formal actual got is =
-    let place : suc (j + 1) ≡ suc j + 1 = omega arith in
-    actuals_more connections fs names j formal actual got is ∙ ap (λ n. after_names (names ++ actual ∷ []) (actuals_by connections (drop n (f ∷ fs)))) place
-
 -- one formal is not connected
 pub actuals_none : (connections formals : List Token) (j : ℕ) (formal : Token) → slice_get formals j ≡ Some formal → actual_by connections formal ≡ None → actuals_by connections (drop j formals) ≡ None
 actuals_none connections [] j formal got is = absurd (cc)

@@ -6,7 +6,7 @@ use Rattle.graph_core.proofs.GraphLemmas.{same_lists}
 use Rattle.graph_core.proofs.ListLemmas.{get_below}
 use Rattle.net_core.specs.Order.{IsBefore}
 use Rattle.net_blif.specs.declared.item.Item.{Item}
-use Rattle.block_feeds.specs.Feeds.{AreFeedsOf, Fits}
+use Rattle.block_feeds.specs.Feeds.{AreFeedsOf, FitsWord}
 use Rattle.block_feeds.specs.Hierarchy.{Hierarchy}
 use Rattle.block_feeds.specs.NamedWord.{inputs_among}
 use Rattle.block_feeds.specs.declared.feeder.Feeder.{Feeder}
@@ -83,10 +83,10 @@ module _ (h : Hierarchy) (rows more : List (List Feeder)) (output other : Feeder
       each j f g at_f at_g =
           let word = get_below (inputs_among first.words) j (omega (arith, first.long, slice_get_within row j f at_f)) in
           let here : slice_get (inputs_among second.words) j ≡ Some word.0 = sym (ap (λ ws. slice_get (inputs_among ws) j) same.1) ∙ word.1 in
-          let P : Item → Type 0 = λ item. Fits h item word.0 g in
+          let P : Item → Type 0 = λ item. FitsWord h item word.0 g in
           let Q : Item → Type 0 = λ item. IsFirstFit h item word.0 g in
-          let fits_f : Fits h first.item word.0 f = first.each j word.0 f word.1 at_f in
-          let fits_g : Fits h first.item word.0 g = subst P (sym same.0) (second.each j word.0 g here at_g) in
+          let fits_f : FitsWord h first.item word.0 f = first.each j word.0 f word.1 at_f in
+          let fits_g : FitsWord h first.item word.0 g = subst P (sym same.0) (second.each j word.0 g here at_g) in
           let first_f : IsFirstFit h first.item word.0 f = one.first i row first.item first.words at first.instance j word.0 f word.1 at_f in
           let first_g : IsFirstFit h first.item word.0 g = subst Q (sym same.0) (two.first i next second.item second.words there second.instance j word.0 g here at_g) in
           same_feed f g (λ before. first_g f before fits_f) (λ after. first_f g after fits_g)

@@ -9,7 +9,7 @@ use Rattle.net_blif.specs.Statement.{Token}
 use Rattle.net_blif.specs.Top.{actual_in, connections_in, instances_of, model_in}
 use Rattle.net_blif.specs.declared.item.Item.{Item}
 use Rattle.net_signature.specs.Body.{BlockValue}
-use Rattle.block_feeds.specs.Feeds.{Fits, IsInputWord, IsOutputOf, StandsOn}
+use Rattle.block_feeds.specs.Feeds.{FitsWord, IsInputWord, IsOutputOf, IsFeedOn}
 use Rattle.block_feeds.specs.Hierarchy.{actuals_of, bases_at, block_of, top_words, Hierarchy, IsInstance}
 use Rattle.block_feeds.specs.NamedWord.{inputs_among, named_words, outputs_among, NamedWord}
 use Rattle.block_feeds.specs.declared.feeder.Feeder.{Feeder}
@@ -184,7 +184,7 @@ module _ (h : Hierarchy) (top : List NamedWord) (placed : List PlacedValue) (are
       (found.0, found.1, same.1, ap connections_in (sym same.0) ∙ known.2)
 
   -- a candidate stands on its nets
-  pub stands : (c : CandidateValue) → Has (candidates_of top placed) c → StandsOn h c.feed c.nets c.basis
+  pub stands : (c : CandidateValue) → Has (candidates_of top placed) c → IsFeedOn h c.feed c.nets c.basis
   stands c has = cases (has_either (word_candidates 0 (inputs_among top)) (output_candidates 0 placed) c has)
     where
       from_word : (j : ℕ) (word : NamedWord) → slice_get (inputs_among top) j ≡ Some word → IsInputWord h j word.nets word.basis
@@ -195,22 +195,22 @@ module _ (h : Hierarchy) (top : List NamedWord) (placed : List PlacedValue) (are
           let known = are.each j instance at in
           record { item = known.0; words = instance.words; instance = known.1; word = word; output = one; actuals = actuals_from j instance known.0 word.nets known.2 ∙ actuals; basis_is = refl }
 
-      cases : Has (word_candidates 0 (inputs_among top)) c ⊎ Has (output_candidates 0 placed) c → StandsOn h c.feed c.nets c.basis
+      cases : Has (word_candidates 0 (inputs_among top)) c ⊎ Has (output_candidates 0 placed) c → IsFeedOn h c.feed c.nets c.basis
       cases (inl here) =
           let found = word_of 0 (inputs_among top) c here in
           let place : 0 + found.0 ≡ found.0 = omega arith in
           let Q : ℕ → Type 0 = λ m. IsInputWord h m (found.1).nets (found.1).basis in
-          let P : CandidateValue → Type 0 = λ d. StandsOn h d.feed d.nets d.basis in
+          let P : CandidateValue → Type 0 = λ d. IsFeedOn h d.feed d.nets d.basis in
           subst P (sym found.3) (subst Q (sym place) (from_word found.0 found.1 found.2))
       cases (inr here) =
           let found : IsOutputAmong 0 placed c = output_among 0 placed c here in
           let place : 0 + found.j ≡ found.j = omega arith in
           let Q : ℕ → Type 0 = λ m. IsOutputOf h m found.by.nets found.by.word.basis in
-          let P : CandidateValue → Type 0 = λ d. StandsOn h d.feed d.nets d.basis in
+          let P : CandidateValue → Type 0 = λ d. IsFeedOn h d.feed d.nets d.basis in
           subst P (sym found.by.is) (subst Q (sym place) (from_output found.j found.instance found.at found.by.word found.by.nets found.by.one found.by.actuals))
 
   -- all that stands on nets is a candidate
-  pub stood : (feed : Feeder) (nets : List Token) (basis : List ℕ) → StandsOn h feed nets basis → Has (candidates_of top placed) (record { feed = feed; nets = nets; basis = basis })
+  pub stood : (feed : Feeder) (nets : List Token) (basis : List ℕ) → IsFeedOn h feed nets basis → Has (candidates_of top placed) (record { feed = feed; nets = nets; basis = basis })
   stood (InputWord w) nets basis is =
       let P : List NamedWord → Type 0 = λ ws. slice_get (inputs_among ws) w ≡ Some is.word in
       let place : 0 + w ≡ w = omega arith in
@@ -231,10 +231,10 @@ module _ (h : Hierarchy) (top : List NamedWord) (placed : List PlacedValue) (are
       subst Q same (has_back (word_candidates 0 (inputs_among top)) (output_candidates 0 placed) c (among_output 0 placed i found.0 c found.1 (subst R place (one_output i (found.0).connections is.word nets (outputs_among (found.0).words) one actuals))))
 
   module _ (i : ℕ) (instance : PlacedValue) (item : Item) (same : connections_in item ≡ instance.connections) (word : NamedWord) where
-    pub found_fits : (feed : Feeder) → IsFoundFor (candidates_of top placed) instance word feed → Fits h item word feed
+    pub found_fits : (feed : Feeder) → IsFoundFor (candidates_of top placed) instance word feed → FitsWord h item word feed
     found_fits feed found = record { nets = found.nets; actuals = actuals_from i instance item word.nets same ∙ found.actuals; stands = stands (record { feed = feed; nets = found.nets; basis = word.basis }) found.has }
 
-    pub fits_found : (feed : Feeder) → Fits h item word feed → IsFoundFor (candidates_of top placed) instance word feed
+    pub fits_found : (feed : Feeder) → FitsWord h item word feed → IsFoundFor (candidates_of top placed) instance word feed
     fits_found feed fit = record { nets = fit.nets; actuals = sym (actuals_from i instance item word.nets same) ∙ fit.actuals; has = stood feed fit.nets word.basis fit.stands }
 
     actual_same : (net : Token) → actual_in item net ≡ actual_by instance.connections net

@@ -1,5 +1,5 @@
 -- Rows of feeds, word by word and instance by instance.
-use Rattle.std.proofs.Common.{◌≡◌, ◌≢◌, ◌∙◌, ap, sym, refl, subst, ℕ, ◌<◌, ◌≤◌, ◌+◌, true, false, ◌⊎◌, inl, inr, not, if◌then◌else◌, List, [], ◌∷◌, ◌++◌, length, take, None, Some, arith, append-nil, take_all}
+use Rattle.std.proofs.Common.{◌≡◌, ◌≢◌, ◌∙◌, ap, sym, refl, subst, ℕ, ◌<◌, ◌≤◌, ◌+◌, true, false, ◌⊎◌, inl, inr, not, if◌then◌else◌, List, [], ◌∷◌, ◌++◌, length, take, None, Some, arith, append-nil}
 use Rattle.std.specs.Prelude.{slice_get}
 use Rattle.std.proofs.lemmas.Option.{slice_get_within}
 use Rattle.graph_core.proofs.ListLemmas.{get_below, got_push, length-push}
@@ -11,9 +11,7 @@ use Rattle.net_blif.specs.Statement.{Token}
 use Rattle.block_feeds.specs.NamedWord.{inputs_among, outputs_among, NamedWord}
 use Rattle.block_feeds.specs.declared.feeder.Feeder.{Feeder}
 use Rattle.block_wiring.specs.private.Names.{actual_by, actuals_by}
-use Rattle.block_wiring.specs.private.Plain.{candidates_of, AreFedBefore, AreRows, CandidateValue, IsBadOutput, IsFedMore, IsFirstFor, IsFoundFor, IsPlainFault, IsRefusedBy, IsRefusedFirst, IsRefusedInOrder, IsRow, IsRowFault, PlacedValue}
-use Rattle.block_wiring.specs.declared.fault.WiringFault.{WiringFault}
-use Rattle.block_wiring.specs.declared.fault.WiringFault.TheVariants.{NotWords, OutputNotWords, OutOfMemory}
+use Rattle.block_wiring.specs.private.Plain.{AreFedBefore, AreRows, CandidateValue, IsBadOutput, IsFedMore, IsFirstFor, IsFoundFor, IsRefusedBy, IsRefusedFirst, IsRefusedInOrder, IsRow, PlacedValue}
 use Rattle.block_wiring.specs.private.Words.{is_mixed}
 use Rattle.block_wiring.proofs.ListLemmas.{got_taken, lt_or_le, taken_more}
 use Rattle.block_wiring.proofs.NamesLemmas.{all_connected, unconnected}
@@ -60,10 +58,6 @@ module _ (cs : List CandidateValue) (placed : PlacedValue) where
   fed_accepted word old new (inl fed) (inr refused) = refused.0 fed.0
   fed_accepted word old new (inr fed) (inl refused) = fed.0 refused.0
   fed_accepted word old new (inr fed) (inr refused) = let found = fed.1 in refused.1 found.0 (first_found word found.0 found.1)
-
-  -- before the first word
-  pub row_none : AreFedBefore cs placed 0 []
-  row_none = record { long = refl; each = λ j word feed at got. absurd (cc); accepted = λ v word less at refused. absurd (omega (arith, less)) }
 
   accepted_more : (w : ℕ) (word : NamedWord) (row new : List Feeder) → slice_get placed.words w ≡ Some word → AreFedBefore cs placed w row → IsFedMore cs placed word row new
       → (v : ℕ) (other : NamedWord) → v < w + 1 → slice_get placed.words v ≡ Some other → IsRefusedBy cs placed other → ⊥
@@ -114,10 +108,6 @@ module _ (cs : List CandidateValue) (placed : PlacedValue) where
               let T : NamedWord → Type 0 = λ y. IsFirstFor cs placed y feed in
               subst T (sym a.1) (subst S (sym b.1) new_found)
 
-  -- all words
-  pub row_all : (w : ℕ) (row : List Feeder) → length placed.words ≤ w → w ≤ length placed.words → AreFedBefore cs placed w row → IsRow cs placed row
-  row_all w row least most fed = let is : w ≡ length placed.words = omega (arith, least, most) in let P : ℕ → Type 0 = λ n. AreFedBefore cs placed n row in subst P is fed
-
   -- the first word that is refused
   pub row_refused : (w : ℕ) (word : NamedWord) (row : List Feeder) → slice_get placed.words w ≡ Some word → AreFedBefore cs placed w row → IsRefusedBy cs placed word → IsRefusedFirst cs placed w
   row_refused w word row at before refused = record { word = word; at = at; refused = refused; before = before.accepted }
@@ -132,9 +122,6 @@ module _ (cs : List CandidateValue) where
   -- the rows of the first i instances
   abbrev pub AreRowsBefore : List PlacedValue → ℕ → List (List Feeder) → Type 0
   AreRowsBefore placed i rows = AreRows cs (take i placed) rows
-
-  pub rows_none : (placed : List PlacedValue) → AreRowsBefore placed 0 []
-  rows_none placed = record { long = refl; each = λ i instance row at got. absurd (cc) }
 
   pub rows_more : (placed : List PlacedValue) (i : ℕ) (instance : PlacedValue) (row : List Feeder) (rows new : List (List Feeder)) → slice_get placed i ≡ Some instance → AreRowsBefore placed i rows → IsRow cs instance row → new ≡ rows ++ row ∷ [] → AreRowsBefore placed (i + 1) new
   rows_more placed i instance row rows new at before is made =
@@ -163,12 +150,3 @@ module _ (cs : List CandidateValue) where
   pub rows_refused : (placed : List PlacedValue) (i w : ℕ) (instance : PlacedValue) (rows : List (List Feeder)) → slice_get placed i ≡ Some instance → AreRowsBefore placed i rows → IsRefusedFirst cs instance w → IsRefusedInOrder cs placed i w
   rows_refused placed i w instance rows at before first =
       record { instance = instance; at = at; first = first; before = λ j other less got v word at_v refused. rows_accepted (take i placed) rows before j other (got_taken placed i j other less got) v word at_v refused }
-
-  pub rows_all : (placed : List PlacedValue) (i : ℕ) (rows : List (List Feeder)) → length placed ≤ i → AreRowsBefore placed i rows → AreRows cs placed rows
-  rows_all placed i rows past are = let P : List PlacedValue → Type 0 = λ ps. AreRows cs ps rows in subst P (take_all i placed past) are
-
--- a fault of rows is one of the whole
-pub row_plain : (top : List NamedWord) (placed : List PlacedValue) (fault : WiringFault) → IsRowFault (candidates_of top placed) placed fault → IsPlainFault top placed fault
-row_plain top placed (NotWords n w) is = is
-row_plain top placed OutputNotWords is = absurd is
-row_plain top placed OutOfMemory is = tt

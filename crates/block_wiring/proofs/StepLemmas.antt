@@ -1,7 +1,6 @@
 -- Loops over lists, one element after another.
-use Rattle.std.proofs.Common.{◌≡◌, ◌≢◌, ◌∙◌, ap, sym, refl, subst, ℕ, zero, suc, ◌<◌, ◌≤◌, ◌+◌, Bool, true, false, ◌&&◌, ◌||◌, ◌⊎◌, inl, inr, List, [], ◌∷◌, ◌++◌, length, take, drop, map, Some, if◌then◌else◌, arith, add-one, take_all, append-nil, append_assoc, length-append, drop_of_length-le, Global, Vec}
-use Rattle.std.specs.Prelude.{slice_get, is_some, ◌==◌}
-use Rattle.std.proofs.Math.Path.{fun_ext}
+use Rattle.std.proofs.Common.{◌≡◌, ◌≢◌, ◌∙◌, ap, sym, refl, subst, ℕ, zero, suc, ◌<◌, ◌≤◌, ◌+◌, Bool, true, false, ◌&&◌, ◌||◌, ◌⊎◌, inl, inr, List, [], ◌∷◌, ◌++◌, length, take, drop, map, Some, if◌then◌else◌, arith, add-one, append-nil, append_assoc, length-append, drop_of_length-le}
+use Rattle.std.specs.Prelude.{slice_get, is_some}
 use Rattle.std.specs.List.{list_any}
 use Rattle.std.specs.Str.{bytes_eq}
 use Rattle.std.proofs.lemmas.List.Elements.{filter-append}
@@ -14,15 +13,13 @@ use Rattle.net_blif.specs.Instances.{is_among}
 use Rattle.net_blif.specs.Statement.{Token}
 use Rattle.net_blif.specs.Connection.{formal_of}
 use Rattle.net_blif.specs.Table.{no_numbers, with_number, Numbers}
-use Rattle.net_signature.specs.Body.{BlockValue}
 use Rattle.gf_basis.specs.BasisParts.{elements_of}
 use Rattle.gf_basis.specs.declared.bases.Basis.{Basis}
 use Rattle.block_feeds.specs.NamedWord.{inputs_among, named_words, outputs_among, NamedWord}
 use Rattle.block_feeds.specs.declared.feeder.Feeder.TheVariants.{InputWord}
-use Rattle.block_wiring.specs.private.Linked.{same_elements}
 use Rattle.block_wiring.specs.private.Names.{place_from, same_names}
-use Rattle.block_wiring.specs.private.Plain.{output_by, output_candidates, word_candidates, ArePlaced, CandidateValue, HaveWords, PlacedValue}
-use Rattle.block_wiring.specs.private.Words.{in_some, is_mixed, Knows}
+use Rattle.block_wiring.specs.private.Plain.{output_by, output_candidates, word_candidates, ArePlaced, CandidateValue, PlacedValue}
+use Rattle.block_wiring.specs.private.Words.{in_some, Knows}
 use Rattle.block_wiring.proofs.ListLemmas.{dropped_at, taken_long, taken_more}
 use Rattle.block_wiring.proofs.WordsLemmas.{inputs_more}
 
@@ -31,10 +28,6 @@ use Rattle.block_wiring.proofs.WordsLemmas.{inputs_more}
 -- one element more was pushed
 pub pushed : {A : Type 0} (xs : List A) (p : ℕ) (x : A) (old new : List A) → slice_get xs p ≡ Some x → old ≡ take p xs → new ≡ old ++ x ∷ [] → new ≡ take (p + 1) xs
 pushed xs p x old new got is made = made ∙ ap (λ ys. ys ++ x ∷ []) is ∙ sym (taken_more xs p x got)
-
--- all were
-pub all_taken : {A : Type 0} (xs : List A) (p : ℕ) (ys : List A) → length xs ≤ p → ys ≡ take p xs → ys ≡ xs
-all_taken xs p ys past is = is ∙ take_all p xs past
 
 pub mapped_more : {A B : Type 0} (f : A → B) (xs : List A) (p : ℕ) (x : A) (old new : List B) → slice_get xs p ≡ Some x → old ≡ map f (take p xs) → new ≡ old ++ f x ∷ [] → new ≡ map f (take (p + 1) xs)
 mapped_more f xs p x old new got is made = made ∙ ap (λ ys. ys ++ f x ∷ []) is ∙ sym (ap (map f) (taken_more xs p x got) ∙ joined (take p xs))
@@ -56,9 +49,6 @@ pub same_not : (xs ys : List Token) (p : ℕ) (x y : Token) (whole : Bool) → s
 same_not xs ys p x y whole got_x got_y is other =
     is ∙ (λ i. same_names (dropped_at xs p x got_x i) (dropped_at ys p y got_y i)) ∙ ap (λ b. b && same_names (drop (suc p) xs) (drop (suc p) ys)) other
 
-pub same_all : (xs ys : List Token) (p : ℕ) (whole : Bool) → length xs ≤ p → length xs ≡ length ys → whole ≡ same_names (drop p xs) (drop p ys) → whole ≡ true
-same_all xs ys p whole past long is = is ∙ (λ i. same_names (past_end xs p past i) (past_end ys p (omega (arith, past, long)) i))
-
 pub same_long : (xs ys : List Token) → same_names xs ys ≡ true → length xs ≡ length ys
 same_long [] [] e = refl
 same_long [] (y ∷ ys) e = absurd (cc)
@@ -75,17 +65,6 @@ long_other xs ys other = parts (same_names xs ys) refl
     parts : (b : Bool) → same_names xs ys ≡ b → same_names xs ys ≡ false
     parts true e = absurd (other (same_long xs ys e))
     parts false e = e
-
-pub elements_here : (xs ys : List ℕ) (p x y : ℕ) (whole : Bool) → slice_get xs p ≡ Some x → slice_get ys p ≡ Some y → whole ≡ same_elements (drop p xs) (drop p ys) → (x == y) ≡ true → whole ≡ same_elements (drop (p + 1) xs) (drop (p + 1) ys)
-elements_here xs ys p x y whole got_x got_y is same =
-    is ∙ (λ i. same_elements (dropped_at xs p x got_x i) (dropped_at ys p y got_y i)) ∙ ap (λ b. b && same_elements (drop (suc p) xs) (drop (suc p) ys)) same ∙ ap (λ n. same_elements (drop n xs) (drop n ys)) (sym (add-one p))
-
-pub elements_not : (xs ys : List ℕ) (p x y : ℕ) (whole : Bool) → slice_get xs p ≡ Some x → slice_get ys p ≡ Some y → whole ≡ same_elements (drop p xs) (drop p ys) → (x == y) ≡ false → whole ≡ false
-elements_not xs ys p x y whole got_x got_y is other =
-    is ∙ (λ i. same_elements (dropped_at xs p x got_x i) (dropped_at ys p y got_y i)) ∙ ap (λ b. b && same_elements (drop (suc p) xs) (drop (suc p) ys)) other
-
-pub elements_all : (xs ys : List ℕ) (p : ℕ) (whole : Bool) → length xs ≤ p → length ys ≤ p → whole ≡ same_elements (drop p xs) (drop p ys) → whole ≡ true
-elements_all xs ys p whole past also is = is ∙ (λ i. same_elements (past_end xs p past i) (past_end ys p also i))
 
 -- ---- places of formals
 
@@ -110,9 +89,6 @@ named_more words bases p word basis x old new at_word at_basis named is made =
     from (w ∷ ws) [] n a b = absurd (cc)
     from (w ∷ ws) (v ∷ bs) zero a b = let same : w ≡ word = cc in let also : v ≡ basis = cc in λ i. record { role = WordText.role (same i); nets = WordText.nets (same i); basis = elements_of (also i) } ∷ []
     from (w ∷ ws) (v ∷ bs) (suc n) a b = ap (λ ys. record { role = w.role; nets = w.nets; basis = elements_of v } ∷ ys) (from ws bs n a b)
-
-pub named_all : (words : List WordText) (bases : List Basis) (p : ℕ) (list : List NamedWord) → length words ≤ p → length bases ≡ length words → list ≡ named_words (take p words) (map elements_of (take p bases)) → list ≡ named_words words (map elements_of bases)
-named_all words bases p list past long is = is ∙ (λ i. named_words (take_all p words past i) (map elements_of (take_all p bases (omega (arith, past, long)) i)))
 
 or_swapped : (a b c d : Bool) → a ≡ (b || c) → c ≡ d → a ≡ (d || b)
 or_swapped a b c d is same = is ∙ ap (λ e. b || e) same ∙ swap b d
@@ -155,13 +131,6 @@ mixed_here test words p word whole got is some =
     is ∙ ap (λ ws. list_any test (outputs_among ws)) (dropped_at words p word got) ∙ ap (list_any test) (filter-append (λ (w : NamedWord). same_role w.role Output) (word ∷ []) (drop (suc p) words)) ∙ list_any-append test (outputs_among (word ∷ [])) (outputs_among (drop (suc p) words))
     ∙ ap (λ b. b || list_any test (outputs_among (drop (suc p) words))) some
 
-pub mixed_end : (test : NamedWord → Bool) (words : List NamedWord) (p : ℕ) (whole : Bool) → length words ≤ p → whole ≡ list_any test (outputs_among (drop p words)) → whole ≡ false
-mixed_end test words p whole past is = is ∙ ap (λ ws. list_any test (outputs_among ws)) (past_end words p past)
-
--- what the table knows are the inputs
-pub mixed_by : (words : List NamedWord) (numbers : Numbers) → Knows (in_some (inputs_among words)) numbers → list_any (λ (word : NamedWord). list_any (λ name. is_some (numbers name)) word.nets) (outputs_among words) ≡ is_mixed words
-mixed_by words numbers knows = let same : (λ (name : Token). is_some (numbers name)) ≡ in_some (inputs_among words) = fun_ext knows in ap (λ test. list_any (λ (word : NamedWord). list_any test word.nets) (outputs_among words)) same
-
 -- the outputs are among the words that are left
 pub outputs_later : (words : List NamedWord) (p : ℕ) (word : NamedWord) → slice_get words p ≡ Some word → outputs_among (drop p words) ≡ outputs_among words → same_role word.role Output ≡ false → outputs_among (drop (p + 1) words) ≡ outputs_among words
 outputs_later words p word got is other =
@@ -175,9 +144,6 @@ outputs_here words p word got is one output =
     alone : (ws : List NamedWord) → suc (length ws) ≡ 1 → word ∷ ws ≡ word ∷ []
     alone [] e = refl
     alone (w ∷ ws) e = absurd (omega (arith, e))
-
-pub outputs_gone : (words : List NamedWord) (p : ℕ) → length words ≤ p → outputs_among (drop p words) ≡ outputs_among words → length (outputs_among words) ≡ 1 → ⊥
-outputs_gone words p past is one = let none : [] ≡ outputs_among words = sym (ap outputs_among (past_end words p past)) ∙ is in let long : 0 ≡ 1 = ap length none ∙ one in absurd (omega (arith, long))
 
 -- ---- candidates
 
@@ -217,32 +183,6 @@ outputs_more placed p instance front old new got is made =
     ∙ ap (λ cs. front ++ cs) (sym (ap (output_candidates 0) (taken_more placed p instance got) ∙ outputs_append 0 (take p placed) (instance ∷ []) ∙ ap (λ cs. output_candidates 0 (take p placed) ++ cs) last))
 
 -- ---- blocks and instances
-
-pub words_none : (blocks : List BlockValue) (bases : List (Vec Basis Global)) → HaveWords (take 0 blocks) bases []
-words_none blocks bases = record { long = refl; each = λ b block list at at_list. absurd (cc) }
-
-pub blocks_more : (blocks : List BlockValue) (bases : List (Vec Basis Global)) (p : ℕ) (block : BlockValue) (list : Vec Basis Global) (words : List NamedWord) (old new : List (List NamedWord)) → slice_get blocks p ≡ Some block → slice_get bases (p + 1) ≡ Some list → words ≡ named_words block.words (map elements_of list.items)
-    → HaveWords (take p blocks) bases old → new ≡ old ++ words ∷ [] → HaveWords (take (p + 1) blocks) bases new
-blocks_more blocks bases p block list words old new at at_list named are made =
-    let P : List BlockValue → Type 0 = λ bs. HaveWords bs bases new in
-    let Q : List (List NamedWord) → Type 0 = λ ws. HaveWords (take p blocks ++ block ∷ []) bases ws in
-    subst P (sym (taken_more blocks p block at)) (subst Q (sym made) (record { long = length-push old words ∙ ap (λ n. n + 1) are.long ∙ sym (length-push (take p blocks) block); each = each }))
-  where
-    each : (b : ℕ) (other : BlockValue) (l : Vec Basis Global) → slice_get (take p blocks ++ block ∷ []) b ≡ Some other → slice_get bases (b + 1) ≡ Some l → slice_get (old ++ words ∷ []) b ≡ Some (named_words other.words (map elements_of l.items))
-    each b other l at_b at_l = cases (got_push (take p blocks) block b other at_b)
-      where
-        cases : ((slice_get (take p blocks) b ≡ Some other) × (b < length (take p blocks))) ⊎ ((b ≡ length (take p blocks)) × (other ≡ block)) → slice_get (old ++ words ∷ []) b ≡ Some (named_words other.words (map elements_of l.items))
-        cases (inl early) = get_front old (words ∷ []) b (named_words other.words (map elements_of l.items)) (are.each b other l early.0 at_l)
-        cases (inr last) =
-            let here : b ≡ p = last.0 ∙ taken_long blocks p block at in
-            let R : ℕ → Type 0 = λ n. slice_get bases (n + 1) ≡ Some l in
-            let at_p : slice_get bases (p + 1) ≡ Some l = subst R here at_l in
-            let same : list ≡ l = cc in
-            let place : b ≡ length old = last.0 ∙ sym are.long in
-            ap (slice_get (old ++ words ∷ [])) place ∙ get_here old words [] ∙ ap Some (named ∙ (λ i. named_words (BlockValue.words (sym last.1 i)) (map elements_of (Vec.items (same i)))))
-
-pub placed_none : (blocks : List (List NamedWord)) (numbers : List ℕ) (connections : List (List Token)) → ArePlaced blocks numbers (take 0 connections) []
-placed_none blocks numbers connections = record { long = refl; each = λ i instance at. absurd (cc) }
 
 pub placed_more : (blocks : List (List NamedWord)) (numbers : List ℕ) (connections : List (List Token)) (p number : ℕ) (mine : List Token) (words : List NamedWord) (instance : PlacedValue) (old new : List PlacedValue) → slice_get connections p ≡ Some mine → slice_get numbers p ≡ Some number → slice_get blocks number ≡ Some words → instance ≡ record { connections = mine; words = words }
     → ArePlaced blocks numbers (take p connections) old → new ≡ old ++ instance ∷ [] → ArePlaced blocks numbers (take (p + 1) connections) new

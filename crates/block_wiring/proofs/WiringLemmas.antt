@@ -10,7 +10,7 @@ use Rattle.net_words.specs.declared.word.Role.TheVariants.{Output}
 use Rattle.net_blif.specs.Statement.{Token}
 use Rattle.net_blif.specs.Top.{connections_in, instances_of}
 use Rattle.net_blif.specs.declared.item.Item.{Item}
-use Rattle.block_feeds.specs.Feeds.{AreFeedsOf, Fits, FeedsOutput, IsOutputOf, StandsOn}
+use Rattle.block_feeds.specs.Feeds.{AreFeedsOf, FitsWord, FeedsOutput, IsOutputOf, IsFeedOn}
 use Rattle.block_feeds.specs.Hierarchy.{top_words, Hierarchy, IsInstance}
 use Rattle.block_feeds.specs.NamedWord.{inputs_among, outputs_among, NamedWord}
 use Rattle.block_feeds.specs.declared.feeder.Feeder.{Feeder}
@@ -53,7 +53,7 @@ left_passes (w ∷ ws) word has = parts (same_role w.role Output) refl has (left
 
 -- ---- a feed is one of the words or instances
 
-pub stands_among : (h : Hierarchy) (feed : Feeder) (nets : List Token) (basis : List ℕ) → StandsOn h feed nets basis → IsFeedIn h feed
+pub stands_among : (h : Hierarchy) (feed : Feeder) (nets : List Token) (basis : List ℕ) → IsFeedOn h feed nets basis → IsFeedIn h feed
 stands_among h (InputWord w) nets basis is = slice_get_within (inputs_among (top_words h)) w is.word is.at
 stands_among h (OutputOf i) nets basis is = slice_get_within (instances_of h.design) i is.item is.instance.at
 
@@ -211,7 +211,7 @@ module _ (h : Hierarchy) (top : List NamedWord) (placed : List PlacedValue) (are
       among i j feeds feed at got =
           let row : AreFeedsOf h i feeds = each i feeds at in
           let word = get_below (inputs_among row.words) j (omega (arith, row.long, slice_get_within feeds j feed got)) in
-          let fit : Fits h row.item word.0 feed = row.each j word.0 feed word.1 got in
+          let fit : FitsWord h row.item word.0 feed = row.each j word.0 feed word.1 got in
           stands_among h feed fit.nets (word.0).basis fit.stands
 
       first : (i : ℕ) (feeds : List Feeder) (item : Item) (words : List NamedWord) → slice_get rows i ≡ Some feeds → IsInstance h i item words → (j : ℕ) (word : NamedWord) (feed : Feeder) → slice_get (inputs_among words) j ≡ Some word → slice_get feeds j ≡ Some feed → IsFirstFit h item word feed

@@ -4,7 +4,7 @@ use Rattle.std.specs.Prelude.{◌≡◌, ℕ, ◌<◌, List, Some, Vec, length, 
 use Rattle.net_blif.specs.Statement.{Token}
 use Rattle.net_blif.specs.Top.{instances_of}
 use Rattle.net_blif.specs.declared.item.Item.{Item}
-use Rattle.block_feeds.specs.Feeds.{Fits, FeedsOutput, IsOutputOf}
+use Rattle.block_feeds.specs.Feeds.{FitsWord, FeedsOutput, IsOutputOf}
 use Rattle.block_feeds.specs.Hierarchy.{top_words, Hierarchy, IsInstance}
 use Rattle.block_feeds.specs.NamedWord.{inputs_among, NamedWord}
 use Rattle.block_feeds.specs.Wiring.{AreAllFeeds}
@@ -30,7 +30,7 @@ IsEarlierFeed (OutputOf i) (OutputOf j) = i < j
 
 -- no earlier feed fits the word of an instance
 abbrev pub IsFirstFit : Hierarchy → Item → NamedWord → Feeder → Type 0
-IsFirstFit h item word feed = (other : Feeder) → IsEarlierFeed other feed → Fits h item word other → ⊥
+IsFirstFit h item word feed = (other : Feeder) → IsEarlierFeed other feed → FitsWord h item word other → ⊥
 
 -- row i is what feeds instance i, the output word has a feed, no word is refused, and each instance has an output; where more than one feed
 -- fits a word, the word has the first of them

@@ -6,7 +6,7 @@ use Rattle.net_words.specs.declared.word.Role.TheVariants.{Output}
 use Rattle.net_blif.specs.Statement.{Token}
 use Rattle.net_blif.specs.Top.{actual_in}
 use Rattle.net_blif.specs.declared.item.Item.{Item}
-use Rattle.block_feeds.specs.Feeds.{Fits, FeedsOutput}
+use Rattle.block_feeds.specs.Feeds.{FitsWord, FeedsOutput}
 use Rattle.block_feeds.specs.Hierarchy.{Hierarchy, IsInstance}
 use Rattle.block_feeds.specs.NamedWord.{inputs_among, NamedWord}
 use Rattle.block_feeds.specs.declared.feeder.Feeder.{Feeder}
@@ -25,7 +25,7 @@ pub record HasNoOutputBit (item : Item) (words : List NamedWord) (word : NamedWo
 
 -- a word of an instance is refused: the output word where one of its bits is none, and any other where no feed fits it
 abbrev pub IsRefusedWord : Hierarchy → Item → List NamedWord → NamedWord → Type 0
-IsRefusedWord h item words word = ((word.role ≡ Output) × HasNoOutputBit item words word) ⊎ ((word.role ≢ Output) × ((feed : Feeder) → Fits h item word feed → ⊥))
+IsRefusedWord h item words word = ((word.role ≡ Output) × HasNoOutputBit item words word) ⊎ ((word.role ≢ Output) × ((feed : Feeder) → FitsWord h item word feed → ⊥))
 
 -- word w of instance i is refused; both count from 0, the words in the order of the block's lines
 pub record IsRefusedAt (h : Hierarchy) (i w : ℕ) : Type 0 where

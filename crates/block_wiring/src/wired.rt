@@ -89,11 +89,10 @@ pub fn wiring_of<'a>(
     ensures wired { IfOk result (λ wiring. AreWired (hierarchy design.now words.now blocks.now bases.now) (rows_in wiring.rows.items) wiring.output) }
     ensures refused { IfErr result (IsWiringFault (hierarchy design.now words.now blocks.now bases.now)) }
 {
-    let _count = design.models();
     let key = design.key();
     let top = with_bases(alloc, words, &bases[0])?;
     let blocks = all_words(alloc, key, blocks, bases)?;
-    let connections = all_instances(alloc, design.items(0))?;
+    let connections = all_instances(alloc, design.top_items())?;
     let placed = all_placed(alloc, key, &connections, &blocks, numbers)?;
     let wiring = plain_wiring(alloc, key, &top, &placed)?;
     Ok(wiring)

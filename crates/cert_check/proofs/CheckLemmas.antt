@@ -7,7 +7,7 @@ use Rattle.text_core.specs.Outcome.{Outcome, Fits, MayRefuse}
 use Rattle.gf_basis.specs.declared.bases.Basis.{Basis}
 use Rattle.net_words.specs.Binding.{BoundNet}
 use Rattle.poly_mixed.specs.Labels.{Labelling}
-use Rattle.poly_mixed.specs.Polynomial.{Polynomial, Terms, Point, IsPoint, IsReduced, value}
+use Rattle.poly_mixed.specs.Polynomial.{Terms, Point, IsPoint, IsReduced, value}
 use Rattle.poly_mixed.specs.Steps.{Step}
 use Rattle.poly_mixed.specs.declared.steps.Generator.{Generator}
 use Rattle.cert_check.specs.Certificate.{Certificate, with_pair}
@@ -26,7 +26,7 @@ use Rattle.circuit_model.proofs.BoundLemmas.{count_of}
 use Rattle.cert_check.specs.Labels.{NameWords}
 use Rattle.cert_check.specs.declared.line.Line.{Line}
 use Rattle.cert_check.specs.declared.line.Line.TheVariants.{Pair, Share}
-use Rattle.cert_check.specs.private.Kept.{terms_of, IsNumbered, IsKept, IsGeneratorOf, IsLineOf}
+use Rattle.cert_check.specs.private.Kept.{IsNumbered, IsKept, IsGeneratorOf, IsLineOf}
 use Rattle.cert_check.specs.private.Reading.{multiplier_in, IsMultiplier, IsGenerator, IsLine}
 
 module _ (k : ℕ) (mul : ℕ → ℕ → ℕ) (bound : BoundNet) (bases : List Basis) where
@@ -99,27 +99,21 @@ pub numbered : (k count : ℕ) (m : Multiplier) → IsMultiplier k count m → I
 numbered k count (Own p) is = tt
 numbered k count (Shared n) is = is
 
--- a shared multiplier by its number
-pub shared_terms : (xs : List Polynomial) (n : ℕ) (p : Polynomial) → n < length xs → p ≡ get_or xs n p → p.terms ≡ get_or (terms_of xs) n []
-shared_terms [] n p less is = absurd (omega arith)
-shared_terms (x ∷ xs) zero p less is = ap (λ (q : Polynomial). q.terms) is
-shared_terms (x ∷ xs) (suc n) p less is = shared_terms xs n p (omega arith) is
-
 bits_of : (k : ℕ) (ws : List (List ℕ × ℕ)) (w : ℕ) → AllByRecursion (λ (x : List ℕ × ℕ). x.1 ≡ k) ws → w < length ws → (word_at ws w).1 ≡ k
 bits_of k [] w all less = absurd (omega arith)
 bits_of k (x ∷ xs) zero all less = all.0
 bits_of k (x ∷ xs) (suc w) all less = bits_of k xs w all.1 (omega arith)
 
 -- what a line names is there, and so is its word
-pub is_line : (k : ℕ) (mul : ℕ → ℕ → ℕ) (bound : BoundNet) (bases : List Basis) (labels : Labelling) (count : ℕ) (line : Line) → length bases ≡ length bound.bound.words → NameWords bound.bound labels → bound.bound.k ≡ k → length labels.words ≤ 8 → IsLine k bound.net labels count line → IsLineOf k bound bases count line
+pub is_line : (k : ℕ) (mul : ℕ → ℕ → ℕ) (bound : BoundNet) (bases : List Basis) (labels : Labelling) (count : ℕ) (line : Line) → length bases ≡ length bound.binding.words → NameWords bound.binding labels → bound.binding.k ≡ k → length labels.words ≤ 8 → IsLine k bound.net labels count line → IsLineOf k bound bases count line
 is_line k mul bound bases labels count (Pair g m) long names same few is = (there g is.0, is.1)
   where
-    bits_at : (ws : List (List ℕ × ℕ)) (w : ℕ) → AllByRecursion (λ (x : List ℕ × ℕ). x.1 ≡ bound.bound.k) ws → w < length ws → (word_at ws w).1 ≡ bound.bound.k
-    bits_at ws w all less = bits_of bound.bound.k ws w all less
+    bits_at : (ws : List (List ℕ × ℕ)) (w : ℕ) → AllByRecursion (λ (x : List ℕ × ℕ). x.1 ≡ bound.binding.k) ws → w < length ws → (word_at ws w).1 ≡ bound.binding.k
+    bits_at ws w all less = bits_of bound.binding.k ws w all less
 
     there : (h : Generator) → IsGenerator bound.net labels h → IsGeneratorOf k bound bases h
     there (Net n) own = own.0
     there (Bit w i) own =
-        let words : length (dual_words bound bases) ≡ length labels.words = count_of bound.bound.words (map duals_of bases) (length-map bases duals_of ∙ long) ∙ sym names.count in
+        let words : length (dual_words bound bases) ≡ length labels.words = count_of bound.binding.words (map duals_of bases) (length-map bases duals_of ∙ long) ∙ sym names.count in
         (omega (arith, own.0, words), omega (arith, own.0, few), omega (arith, own.1, bits_at labels.words w names.bits own.0, same))
 is_line k mul bound bases labels count (Share p) long names same few is = is

@@ -14,9 +14,9 @@ use Rattle.poly_mixed.specs.Labels.{Labelling}
 use Rattle.poly_mixed.specs.Polynomial.{Terms}
 use Rattle.poly_mixed.specs.TextOutcome.{TextFault, TextOutcome}
 use Rattle.poly_mixed.proofs.FieldLaws.{field_of}
-use Rattle.poly_mixed.proofs.OneOutcome.{one_outcome}
-use Rattle.poly_mixed.proofs.Roots.{independent}
-use Rattle.poly_mixed.proofs.Uniqueness.{unique}
+use Rattle.poly_mixed.proofs.OneOutcomeLemmas.{one_outcome}
+use Rattle.poly_mixed.proofs.RootLemmas.{independent}
+use Rattle.poly_mixed.proofs.UniquenessLemmas.{unique}
 use Rattle.cert_check.specs.Fault.{fault_at, no_end}
 use Rattle.cert_check.specs.Frame.{Frame, pair_of, share_of, end_of, frame_of, version_of, claim_text}
 use Rattle.cert_check.specs.Scan.{digits_first}

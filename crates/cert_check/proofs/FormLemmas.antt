@@ -1,10 +1,10 @@
 -- The linear form of a bit of a word as a sum of powers of the word.
-use Rattle.std.proofs.Common.{◌≡◌, ap, sym, refl, subst, ℕ, zero, suc, ◌<◌, ◌^◌, List, [], ◌∷◌, bit_xor, arith}
+use Rattle.std.proofs.Common.{◌≡◌, ap, sym, refl, subst, ℕ, zero, suc, ◌<◌, ◌^◌, List, bit_xor, arith}
 use Rattle.std.specs.Prelude.{slice_index}
 use Rattle.gf_field.specs.Ring.{IsRing}
 use Rattle.gf_field.specs.Field.{HasNoZeroDivisors}
 use Rattle.poly_mixed.proofs.FieldLaws.{field_of}
-use Rattle.poly_mixed.proofs.Values.{power_element}
+use Rattle.poly_mixed.proofs.ValueLemmas.{power_element}
 use Rattle.gf_field.specs.Polynomial.{sum_of_first}
 use Rattle.gf_field.specs.Trace.{frobenius}
 use Rattle.gf_field.specs.laws.TraceLaws.{frobenius-power}
@@ -12,8 +12,7 @@ use Rattle.gf_basis.specs.Dual.{linear_value}
 use Rattle.cert_check.specs.Running.{dual_form}
 use Rattle.std.proofs.lemmas.Option.{get_or_from_slice_get}
 use Rattle.graph_core.proofs.ListLemmas.{get_below}
-use Rattle.std.specs.List.{AllByRecursion}
-use Rattle.net_core.specs.Lists.{Has}
+use Rattle.graph_core.proofs.GeneralLemmas.{all_in}
 use Rattle.poly_mixed.specs.Polynomial.{Point, IsPoint, IsElement}
 
 pub same_sum : (m : ℕ) (f g : ℕ → ℕ) → ((i : ℕ) → i < m → f i ≡ g i) → sum_of_first m f ≡ sum_of_first m g
@@ -28,11 +27,6 @@ pub frobenius_in : (k : ℕ) (mul : ℕ → ℕ → ℕ) (j a : ℕ) → IsRing 
 frobenius_in k mul j a ring field less =
     let P : ℕ → Type 0 = λ x. x < 2 ^ k in
     subst P (sym (frobenius-power k mul ring j a less)) (power_element (field_of k mul ring field) a (2 ^ j) less)
-
-all_in : (P : ℕ → Type 0) (xs : List ℕ) (x : ℕ) → AllByRecursion P xs → Has xs x → P x
-all_in P [] x all has = let got = has.1 in absurd (cc)
-all_in P (y ∷ ys) x all (zero, got) = let same : y ≡ x = cc in subst P same all.0
-all_in P (y ∷ ys) x all (suc k, got) = all_in P ys x all.1 (k, got)
 
 -- a word's element is one of the field
 pub element_in : (k : ℕ) (p : Point) (w : ℕ) → IsPoint k p → w < 8 → slice_index p.words w < 2 ^ k

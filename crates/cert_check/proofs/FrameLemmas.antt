@@ -14,7 +14,8 @@ use Rattle.cert_check.specs.Scan.{is_blank, after_word, after_sign, digits_at, i
 use Rattle.cert_check.specs.Frame.{Frame, end_of, after_generator, net_named, bit_found, bit_named, let_named, paired, shared, after_or, ended, let_line, frame_of}
 use Rattle.cert_check.specs.declared.fault.LineFault.{LineFault}
 use Rattle.cert_check.specs.declared.fault.LineFault.TheVariants.{Syntax, NoSuchNet, NoSuchBit, NotDriven}
-use Rattle.cert_check.specs.private.Reading.{IsGenerator, HasGenerator}
+use Rattle.cert_check.specs.private.Reading.{IsGenerator}
+use Rattle.cert_check.proofs.FrameGenerator.{HasGenerator}
 
 later : (n w : ℕ) (o : Option ℕ) → ((v : ℕ) → o ≡ Some v → v < n) → option_map (λ i. i + 1) o ≡ Some w → w < suc n
 later n w None below e = absurd (cc)

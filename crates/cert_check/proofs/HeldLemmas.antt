@@ -19,9 +19,9 @@ use Rattle.poly_mixed.specs.Polynomial.{Polynomial, Terms, Point, IsElement, IsM
 use Rattle.poly_mixed.specs.Product.{times}
 use Rattle.poly_mixed.specs.Sum.{with_coefficient, plus_term}
 use Rattle.poly_mixed.proofs.FieldLaws.{IsField, field_of}
-use Rattle.poly_mixed.proofs.Powers.{power_monomial, power_polynomial}
-use Rattle.poly_mixed.proofs.Products.{one_term, term-times, term_value-times}
-use Rattle.poly_mixed.proofs.Values.{one_element, power_element, powers_element, reduced_plus, value-plus}
+use Rattle.poly_mixed.proofs.PowerLemmas.{power_monomial, power_polynomial}
+use Rattle.poly_mixed.proofs.ProductLemmas.{one_term, term-times, term_value-times}
+use Rattle.poly_mixed.proofs.ValueLemmas.{one_element, power_element, powers_element, reduced_plus, value-plus}
 use Rattle.cert_check.specs.declared.form.Form.{Form}
 use Rattle.cert_check.specs.declared.row.Row.{Row}
 use Rattle.cert_check.specs.declared.running_sum.RunningSum.{RunningSum}

@@ -1,10 +1,10 @@
 -- The pairs that the code keeps, with one more line; and faults of the claim's text.
-use Rattle.std.proofs.Common.{◌≡◌, ◌==◌, ◌∙◌, ap, sym, refl, subst, inl, inr, false, ℕ, zero, suc, ◌<◌, ◌≤◌, ◌+◌, ◌^◌, List, [], ◌∷◌, ◌++◌, length, map, get_or, drop, take, Result, Ok, Err, arith}
+use Rattle.std.proofs.Common.{◌≡◌, ◌==◌, ◌∙◌, ap, sym, refl, subst, inl, inr, false, ℕ, zero, suc, ◌<◌, ◌+◌, List, [], ◌∷◌, ◌++◌, length, map, get_or, drop, take, Result, Ok, Err, arith}
 use Rattle.std.specs.List.{AllByRecursion}
 use Rattle.std.specs.Str.Lines.{lines, strip_carriage_return}
 use Rattle.std.specs.Prelude.{◌⊎◌}
 use Rattle.std.proofs.lemmas.Bool.{cases_eq}
-use Rattle.std.proofs.lemmas.List.{map-append, length-append, length-map}
+use Rattle.std.proofs.lemmas.List.{map-append, length-map}
 use Rattle.text_core.proofs.LineLemmas.{lines_at, lines_last}
 use Rattle.text_core.specs.Outcome.{Fits, MayRefuse}
 use Rattle.poly_mixed.specs.Labels.{Labelling}
@@ -12,8 +12,8 @@ use Rattle.poly_mixed.specs.Polynomial.{Polynomial, Terms}
 use Rattle.poly_mixed.specs.TextOutcome.{TextFault, text_fault, no_polynomial, no_such_net, no_such_bit, TextOutcome}
 use Rattle.poly_mixed.specs.declared.fault.PolyFault.{PolyFault}
 use Rattle.poly_mixed.specs.declared.fault.PolyFault.TheVariants as poly
-use Rattle.poly_mixed.proofs.OneOutcome.{one_outcome}
-use Rattle.cert_check.specs.Certificate.{with_shared, with_pair, InWords}
+use Rattle.poly_mixed.proofs.OneOutcomeLemmas.{one_outcome}
+use Rattle.cert_check.specs.Certificate.{with_shared, InWords}
 use Rattle.cert_check.specs.Fault.{line_refusal}
 use Rattle.cert_check.specs.declared.cert_pairs.Entry.{Entry}
 use Rattle.cert_check.specs.declared.fault.LineFault.{LineFault}
@@ -34,36 +34,6 @@ same_multiplier shared more (Shared n) is = front_get shared more n is
 same_steps : (shared more : List Terms) (entries : List Entry) → AllByRecursion (λ (e : Entry). IsNumbered (length shared) e.multiplier) entries → map (step_in (shared ++ more)) entries ≡ map (step_in shared) entries
 same_steps shared more [] all = refl
 same_steps shared more (e ∷ es) all = (λ i. (e.generator, same_multiplier shared more e.multiplier all.0 i) ∷ same_steps shared more es all.1 i)
-
-longer : (count more : ℕ) (m : Multiplier) → count ≤ more → IsNumbered count m → IsNumbered more m
-longer count more (Own p) le is = tt
-longer count more (Shared n) le is = omega arith
-
-all_longer : (count more : ℕ) (entries : List Entry) → count ≤ more → AllByRecursion (λ (e : Entry). IsNumbered count e.multiplier) entries → AllByRecursion (λ (e : Entry). IsNumbered more e.multiplier) entries
-all_longer count more [] le all = tt
-all_longer count more (e ∷ es) le all = (longer count more e.multiplier le all.0, all_longer count more es le all.1)
-
-all_more : (P : Entry → Type 0) (entries : List Entry) (e : Entry) → AllByRecursion P entries → P e → AllByRecursion P (entries ++ e ∷ [])
-all_more P [] e all is = (is, tt)
-all_more P (x ∷ xs) e all is = (all.0, all_more P xs e all.1 is)
-
--- one more entry
-pub entry_inside : (count : ℕ) (entries new : List Entry) (e : Entry) → new ≡ entries ++ e ∷ [] → AreEntries count entries → length entries + 1 < 2 ^ 32 → IsNumbered count e.multiplier → AreEntries count new
-entry_inside count entries new e is are few own =
-    let P : List Entry → Type 0 = AreEntries count in
-    let long : length (entries ++ e ∷ []) ≡ length entries + 1 = length-append entries (e ∷ []) in
-    subst P (sym is) (record { few = omega (arith, long, few); each = all_more (λ (x : Entry). IsNumbered count x.multiplier) entries e are.each own })
-
-pub entry_added : (claim : Polynomial) (shared : List Polynomial) (entries new : List Entry) (e : Entry) → new ≡ entries ++ e ∷ [] → certificate_of claim shared new ≡ with_pair (certificate_of claim shared entries) e.generator (multiplier_in (terms_of shared) e.multiplier)
-entry_added claim shared entries new e is =
-    ap (certificate_of claim shared) is ∙ (λ i. record { claim = claim.terms; shared = terms_of shared; pairs = map-append (step_in (terms_of shared)) entries (e ∷ []) i })
-
--- one more shared multiplier
-pub share_inside : (shared new : List Polynomial) (p : Polynomial) (entries : List Entry) → new ≡ shared ++ p ∷ [] → AreEntries (length shared) entries → AreEntries (length new) entries
-share_inside shared new p entries is are =
-    let P : List Polynomial → Type 0 = λ xs. AreEntries (length xs) entries in
-    let long : length (shared ++ p ∷ []) ≡ length shared + 1 = length-append shared (p ∷ []) in
-    subst P (sym is) (record { few = are.few; each = all_longer (length shared) (length (shared ++ p ∷ [])) entries (omega (arith, long)) are.each })
 
 pub share_added : (claim : Polynomial) (shared new : List Polynomial) (p : Polynomial) (entries : List Entry) → new ≡ shared ++ p ∷ [] → AreEntries (length shared) entries → certificate_of claim new entries ≡ with_shared (certificate_of claim shared entries) p.terms
 share_added claim shared new p entries is are =

@@ -1,13 +1,12 @@
+pub mod FrameGenerator
 pub mod StepLemmas
 pub mod FrameLemmas
-pub mod LineLemmas
 pub mod HeadLemmas
 pub mod LoopLemmas
 pub mod CheckLemmas
 pub mod EndLemmas
 pub mod RankLemmas
 pub mod InsideLemmas
-pub mod OutputLemmas
 pub mod WordsLemmas
 pub mod FormLemmas
 pub mod SumLemmas
@@ -18,7 +17,7 @@ pub mod SubsetLemmas
 pub mod WordsAloneLemmas
 pub mod SaidLemmas
 pub mod SoundLemmas
-pub mod OutputLaw
+pub mod OutputLawLemmas
 pub mod KeptLemmas
 pub mod DeterminedLemmas
 pub mod PairsLemmas

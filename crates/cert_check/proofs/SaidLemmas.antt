@@ -8,7 +8,7 @@ use Rattle.poly_mixed.specs.Labels.{Labelling}
 use Rattle.poly_mixed.specs.Polynomial.{Terms, IsReduced}
 use Rattle.poly_mixed.specs.Steps.{Step}
 use Rattle.poly_mixed.specs.declared.steps.Generator.{Generator}
-use Rattle.poly_mixed.proofs.ReadReduced.{read_reduced}
+use Rattle.poly_mixed.proofs.ReadReducedLemmas.{read_reduced}
 use Rattle.cert_check.specs.Frame.{pair_of, share_of, end_of}
 use Rattle.cert_check.specs.Certificate.{pairs, shares, ends, Certificate, begun, with_shared, with_pair, NoLine, FirstLine, ClaimOf, LineOf, LinesOf, CertificateBy}
 use Rattle.cert_check.specs.declared.fault.CertFault.{CertFault}

@@ -12,6 +12,7 @@ use Rattle.std.proofs.lemmas.Nat.Bits.{bit_at_lowest, bit_at-suc}
 use Rattle.std.proofs.lemmas.Option.{slice_get_within, get_or_from_slice_get}
 use lib.Bits.{xor_self}
 use Rattle.graph_core.proofs.ListLemmas.{get_below, get_front}
+use Rattle.graph_core.proofs.GeneralLemmas.{all_in}
 use Rattle.gf_field.specs.Ring.{IsRing}
 use Rattle.gf_field.specs.Field.{HasNoZeroDivisors}
 use Rattle.gf_field.specs.Trace.{frobenius}
@@ -38,7 +39,7 @@ use Rattle.circuit_model.specs.Bases.{AreBases, circuit_in}
 use Rattle.circuit_model.specs.Circuit.{Circuit, IsInput}
 use Rattle.circuit_model.specs.OfBinding.{word_with, words_of, HaveBases}
 use Rattle.circuit_model.specs.Out.{IsOut}
-use Rattle.circuit_model.specs.Run.{IsRun, IsCycle, IsFirst}
+use Rattle.circuit_model.specs.Run.{IsRun, IsClockCycle, IsFirst}
 use Rattle.circuit_model.specs.WellFormed.{IsWellFormed}
 use Rattle.circuit_model.specs.Word.{Word, word_nets}
 use Rattle.circuit_model.proofs.BoundLemmas.{bound_well, word_nets_of}
@@ -58,11 +59,6 @@ use Rattle.cert_check.proofs.RankLemmas.{at_rank}
 use Rattle.cert_check.proofs.SumLemmas.{half}
 
 -- ---- lists
-
-all_in : (P : ℕ → Type 0) (xs : List ℕ) (x : ℕ) → AllByRecursion P xs → Has xs x → P x
-all_in P [] x all has = let got = has.1 in absurd (cc)
-all_in P (y ∷ ys) x all (zero, got) = let same : y ≡ x = cc in subst P same all.0
-all_in P (y ∷ ys) x all (suc i, got) = all_in P ys x all.1 (i, got)
 
 taken_has : (n : ℕ) (xs : List ℕ) (x : ℕ) → Has (take n xs) x → Has xs x
 taken_has zero xs x has = let got = has.1 in absurd (cc)
@@ -186,11 +182,11 @@ both (u ∷ us) (b ∷ bs) w long less = by_role u.role u.nets b bs (words_of us
 
 -- ---- a circuit and a run of it
 
-module _ (k : ℕ) (mul : ℕ → ℕ → ℕ) (bound : BoundNet) (bases : List Basis) (ring : IsRing k mul) (field : HasNoZeroDivisors k mul) (sound : IsSound bound.net) (one : IsOneCycle bound.net bound.bound) (same : bound.bound.k ≡ k) (are : AreBases k mul bound bases) where
-  all_long : length (map elements_of bases) ≡ length bound.bound.words
+module _ (k : ℕ) (mul : ℕ → ℕ → ℕ) (bound : BoundNet) (bases : List Basis) (ring : IsRing k mul) (field : HasNoZeroDivisors k mul) (sound : IsSound bound.net) (one : IsOneCycle bound.net bound.binding) (same : bound.binding.k ≡ k) (are : AreBases k mul bound bases) where
+  all_long : length (map elements_of bases) ≡ length bound.binding.words
   all_long = length-map bases elements_of ∙ are.long
 
-  have_bases : HaveBases k bound.bound.words (map elements_of bases)
+  have_bases : HaveBases k bound.binding.words (map elements_of bases)
   have_bases = record {
     long = all_long;
     each = λ elements has.
@@ -226,14 +222,14 @@ module _ (k : ℕ) (mul : ℕ → ℕ → ℕ) (bound : BoundNet) (bases : List 
     abbrev pub v : List Bool
     v = last.0
 
-    cycle : IsCycle (circuit_in k mul bound bases) xs 0 v
+    cycle : IsClockCycle (circuit_in k mul bound bases) xs 0 v
     cycle = run.1.open_run.each 0 last.0 last.1
 
     first : IsFirst (circuit_in k mul bound bases) xs v
     first = run.1.open_run.first last.0 last.1
 
     abbrev pub order : List ℕ
-    order = variables (nets bound.net) bound.bound.words
+    order = variables (nets bound.net) bound.binding.words
 
     -- the point with the run's bits
     abbrev pub q : Point
@@ -241,7 +237,7 @@ module _ (k : ℕ) (mul : ℕ → ℕ → ℕ) (bound : BoundNet) (bases : List 
 
     net_is : (n : ℕ) → n < nets bound.net → net_bit order q n ≡ bit_of v n
     net_is n less =
-        let once : times n order ≡ 1 = variables_once bound.net bound.bound n one less in
+        let once : times n order ≡ 1 = variables_once bound.net bound.binding n one less in
         let here : slice_get order (rank_among order n) ≡ Some n = at_rank order n (times_some n order (omega (arith, once))) in
         ap (bit_of v) (get_or_from_slice_get order (rank_among order n) n 0 here)
 
@@ -258,7 +254,7 @@ module _ (k : ℕ) (mul : ℕ → ℕ → ℕ) (bound : BoundNet) (bases : List 
 
     bit_zero : (w i : ℕ) → w < length (dual_words bound bases) → i < k → generator_value k mul bound bases (Bit w i) q ≡ 0
     bit_zero w i less low =
-        let is = both bound.bound.words bases w are.long less in
+        let is = both bound.binding.words bases w are.long less in
         let over : IsBasisOver k mul is.basis = are.each is.basis is.has in
         let word : Word = is.word in
         let n = get_below word.nets i (omega (arith, low, (well.words word (w, is.word_at)).nets)) in
@@ -277,7 +273,7 @@ module _ (k : ℕ) (mul : ℕ → ℕ → ℕ) (bound : BoundNet) (bases : List 
         let own_d : dual_at (slice_get (dual_words bound bases) w) i ≡ d = ap (λ o. dual_at o i) is.dual_at ∙ ap (λ ds. get_or ds i 0) is.dual_is in
         let front : slice_get (word_nets (circuit_in k mul bound bases).words) (k * w + i) ≡ Some n.0 = place_in k (circuit_in k mul bound bases).words (λ u has. (well.words u has).nets) w i n.0 word is.word_at n.1 in
         let Q : List ℕ → Type 0 = λ ns. slice_get ns (k * w + i) ≡ Some n.0 in
-        let there : slice_get order (k * w + i) ≡ Some n.0 = get_front (bits bound.bound.words) (others (nets bound.net) (bits bound.bound.words)) (k * w + i) n.0 (subst Q (word_nets_of bound.bound.words (map elements_of bases) all_long) front) in
+        let there : slice_get order (k * w + i) ≡ Some n.0 = get_front (bits bound.binding.words) (others (nets bound.net) (bits bound.binding.words)) (k * w + i) n.0 (subst Q (word_nets_of bound.binding.words (map elements_of bases) all_long) front) in
         let bit : bit_of v (get_or order (k * w + i) 0) ≡ bit_of v n.0 = ap (bit_of v) (get_or_from_slice_get order (k * w + i) n.0 0 there) in
         let value_is : dual_form k mul (dual_at (slice_get (dual_words bound bases) w) i) (get_or p.words w 0) ≡ cond (bit_of v n.0) 1 0 =
         (λ j. dual_form k mul (own_d j) (own_x j)) ∙ (form ∙ (linear ∙ index_bit v word.nets i n.0 n.1)) in

@@ -12,55 +12,7 @@ pub bind_step : {F A B : Type 0} (first : Outcome F A) (second : A → Outcome F
 bind_step first second a one (Ok b) two = (a, one, two)
 bind_step first second a one (Err e) two = inr (a, one, two)
 
--- the same of what a call gives
-pub line_after : {X A B : Type 0} (view : X → B) (result : Result X LineFault) (first : Outcome LineFault A) (second : A → Outcome LineFault B) (a : A) → first (Ok a) → Fits line_refusal view result (second a) → Fits line_refusal view result (first >>= second)
-line_after view (Ok x) first second a one fits = (a, one, fits)
-line_after view (Err line.Syntax) first second a one fits = inr (a, one, fits)
-line_after view (Err line.NoSuchNet) first second a one fits = inr (a, one, fits)
-line_after view (Err line.NoSuchBit) first second a one fits = inr (a, one, fits)
-line_after view (Err line.NotDriven) first second a one fits = inr (a, one, fits)
-line_after view (Err line.NoSuchLet) first second a one fits = inr (a, one, fits)
-line_after view (Err line.OutOfMemory) first second a one fits = tt
-
--- a fault of the first step is one of both
-pub line_first : {X Y A B : Type 0} (view : X → A) (view' : Y → B) (fault : LineFault) (first : Outcome LineFault A) (second : A → Outcome LineFault B) → Fits line_refusal view (Err fault) first → Fits line_refusal view' (Err fault) (first >>= second)
-line_first view view' line.Syntax first second fits = inl fits
-line_first view view' line.NoSuchNet first second fits = inl fits
-line_first view view' line.NoSuchBit first second fits = inl fits
-line_first view view' line.NotDriven first second fits = inl fits
-line_first view view' line.NoSuchLet first second fits = inl fits
-line_first view view' line.OutOfMemory first second fits = tt
-
--- a fault that a function gives
-pub line_returned : {X A : Type 0} (view : X → A) (fault : LineFault) (outcome : Outcome LineFault A) → outcome (Err fault) → Fits line_refusal view (Err fault) outcome
-line_returned view line.Syntax outcome comes = comes
-line_returned view line.NoSuchNet outcome comes = comes
-line_returned view line.NoSuchBit outcome comes = comes
-line_returned view line.NotDriven outcome comes = comes
-line_returned view line.NoSuchLet outcome comes = comes
-line_returned view line.OutOfMemory outcome comes = tt
-
--- a value under another view
-pub line_seen : {X A B : Type 0} (view : X → A) (wrap : A → B) (fault : LineFault) (outcome : Outcome LineFault A) (other : Outcome LineFault B) → ((f : LineFault) → outcome (Err f) → other (Err f)) → Fits line_refusal view (Err fault) outcome → {Y : Type 0} (view' : Y → B) → Fits line_refusal view' (Err fault) other
-line_seen view wrap line.Syntax outcome other move fits view' = move line.Syntax fits
-line_seen view wrap line.NoSuchNet outcome other move fits view' = move line.NoSuchNet fits
-line_seen view wrap line.NoSuchBit outcome other move fits view' = move line.NoSuchBit fits
-line_seen view wrap line.NotDriven outcome other move fits view' = move line.NotDriven fits
-line_seen view wrap line.NoSuchLet outcome other move fits view' = move line.NoSuchLet fits
-line_seen view wrap line.OutOfMemory outcome other move fits view' = tt
-
 -- ---- faults of certificates
-
-pub cert_after : {X A B : Type 0} (view : X → B) (result : Result X CertFault) (first : Outcome CertFault A) (second : A → Outcome CertFault B) (a : A) → first (Ok a) → Fits refusal view result (second a) → Fits refusal view result (first >>= second)
-cert_after view (Ok x) first second a one fits = (a, one, fits)
-cert_after view (Err (cert.Syntax n)) first second a one fits = inr (a, one, fits)
-cert_after view (Err (cert.NoSuchNet n)) first second a one fits = inr (a, one, fits)
-cert_after view (Err (cert.NoSuchBit n)) first second a one fits = inr (a, one, fits)
-cert_after view (Err (cert.NotDriven n)) first second a one fits = inr (a, one, fits)
-cert_after view (Err (cert.NoSuchLet n)) first second a one fits = inr (a, one, fits)
-cert_after view (Err (cert.TooManyTerms n t)) first second a one fits = inr (a, one, fits)
-cert_after view (Err cert.NoEnd) first second a one fits = inr (a, one, fits)
-cert_after view (Err cert.OutOfMemory) first second a one fits = tt
 
 pub cert_first : {X Y A B : Type 0} (view : X → A) (view' : Y → B) (fault : CertFault) (first : Outcome CertFault A) (second : A → Outcome CertFault B) → Fits refusal view (Err fault) first → Fits refusal view' (Err fault) (first >>= second)
 cert_first view view' (cert.Syntax n) first second fits = inl fits

@@ -1,6 +1,6 @@
 -- The polynomial of a table, set by set of its exclusive-or form.
 use Rattle.std.proofs.Common.{◌≡◌, ◌∙◌, refl, ap, sym, subst, ℕ, ◌+◌, ◌*◌, Bool, true, false, ◌&&◌, cond, List, [], ◌∷◌, bit_xor}
-use lib.Bits.{xor_zero_r, xor_assoc}
+use lib.Bits.{xor_assoc}
 use Rattle.std.specs.List.{list_all}
 use Rattle.std.specs.List.Sorted.{IsStrictlySortedBy}
 use Rattle.std.specs.Ordering.{nat_cmp}
@@ -10,9 +10,9 @@ use Rattle.poly_mixed.specs.Product.{with_rank}
 use Rattle.poly_mixed.specs.Sum.{plus_term}
 use Rattle.poly_mixed.specs.Table.{differ, subset_parity}
 use Rattle.poly_mixed.proofs.FieldLaws.{IsField}
-use Rattle.poly_mixed.proofs.Products.{all-union}
-use Rattle.poly_mixed.proofs.Simple.{zeros8, bits_polynomial}
-use Rattle.poly_mixed.proofs.Values.{one_element, value-plus, reduced_plus}
+use Rattle.poly_mixed.proofs.ProductLemmas.{all-union}
+use Rattle.poly_mixed.proofs.SimpleLemmas.{zeros8, bits_polynomial}
+use Rattle.poly_mixed.proofs.ValueLemmas.{one_element, value-plus, reduced_plus}
 
 -- those that have a set have it without the rank or with it
 halves : (all low bit high : Bool) → ◌≡◌ {A = ℕ} (bit_xor (cond (all && low) 1 0) (cond ((all && bit) && high) 1 0)) (cond (all && differ low (bit && high)) 1 0)
@@ -47,10 +47,6 @@ both_halves bit f set more rest ranks r base step old mid new with is low high =
 taken : (all has : Bool) → has ≡ true → ◌≡◌ {A = ℕ} (cond all 1 0) (cond (all && has) 1 0)
 taken true has e = ap (λ b. cond b 1 0) (sym e)
 taken false has e = refl
-
-pub left_out : (all has : Bool) (n : ℕ) → has ≡ false → n ≡ bit_xor n (cond (all && has) 1 0)
-left_out true has n e = sym (ap (λ b. bit_xor n (cond b 1 0)) e ∙ xor_zero_r n)
-left_out false has n e = sym (xor_zero_r n)
 
 module _ {degree : ℕ} {mul : ℕ → ℕ → ℕ} (f : IsField degree mul) where
   one_set : (set : List ℕ) → IsStrictlySortedBy nat_cmp set → IsPolynomialOf degree mul (λ p. cond (list_all p.is_one set) 1 0) ((record { exponents = zeros8; bits = set }, 1) ∷ [])

@@ -14,7 +14,7 @@ use Rattle.poly_mixed.specs.Token.{word, bit, net, Token, variable, hex, figures
 use Rattle.poly_mixed.specs.Grammar.{Part, number, factor, IsPart, AreJoined, IsTerm}
 use Rattle.poly_mixed.specs.Said.{one, with_power, with_part, monomial_of, coefficient_of, added, sum_of}
 use Rattle.poly_mixed.specs.TextOutcome.{IsRead}
-use Rattle.poly_mixed.proofs.Sums.{all_plus}
+use Rattle.poly_mixed.proofs.SumLemmas.{all_plus}
 use Rattle.cert_check.specs.Certificate.{IsInWords}
 
 dropped : (n : ℕ) (xs : List ℕ) → IsInWords xs → IsInWords (drop n xs)

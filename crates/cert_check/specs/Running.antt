@@ -52,12 +52,12 @@ dual_at (Some word) i = slice_index word.basis i
 
 -- the input, state and fed words with the dual bases in place of the bases
 abbrev pub dual_words : BoundNet → List Basis → List Word
-dual_words bound bases = words_of bound.bound.words (map duals_of bases)
+dual_words bound bases = words_of bound.binding.words (map duals_of bases)
 
 module _ (k : ℕ) (mul : ℕ → ℕ → ℕ) (bound : BoundNet) (bases : List Basis) where
   -- the words' bits and the other nets in the order of variables
   abbrev pub order : List ℕ
-  order = variables (nets bound.net) bound.bound.words
+  order = variables (nets bound.net) bound.binding.words
 
   -- Of a net: its bit plus what its gate makes of its inputs. Of place i of word w, whose rank is k * w + i: the bit plus
   -- the linear form that reads it from the word.
@@ -72,7 +72,7 @@ module _ (k : ℕ) (mul : ℕ → ℕ → ℕ) (bound : BoundNet) (bases : List 
 
   -- the sum of the output word's basis elements whose bits are 1
   abbrev pub output_value : Point → ℕ
-  output_value p = combination (output_basis bound.bound.words (map elements_of bases)) (index (net_bit order p) (output_bits bound.bound.words))
+  output_value p = combination (output_basis bound.binding.words (map elements_of bases)) (index (net_bit order p) (output_bits bound.binding.words))
 
   -- the running sum after the certificate's pairs
   abbrev pub running : Certificate → Point → ℕ

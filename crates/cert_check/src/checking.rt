@@ -218,16 +218,16 @@ fn verdict_from<F: Field>(
     sum: Poly,
     bytes: &[u8],
 ) -> Result<CertVerdict, CertFault>
-    requires k { circuit.now.bound.k ≡ F.degree field.now }
+    requires k { circuit.now.binding.k ≡ F.degree field.now }
     requires bases { AreBases (F.degree field.now) (F.product field.now) circuit.now bases.now }
-    requires labels { NameWords circuit.now.bound labels.now }
+    requires labels { NameWords circuit.now.binding labels.now }
+    requires few { length labels.now.words ≤ 8 }
     requires drivers { AreDrivers circuit.now.net drivers.now }
     requires size { length bytes.now ≤ 67108864 }
     requires sum { IsRunningSum (F.degree field.now) (F.product field.now) circuit.now bases.now (begun claim.terms) sum.terms }
     requires within { length sum.terms ≤ bound }
     ensures { Fits refusal verdict_of result (VerdictFrom (F.degree field.now) (F.product field.now) circuit.now bases.now labels.now bound version (lines bytes.now) 3 (begun claim.terms)) }
 {
-    let _words = labels.words();
     let held = RunningSum::new(alloc, sum);
     let mut checking = Checking {
         claim,
@@ -269,9 +269,10 @@ fn verdict_on<F: Field>(
     bytes: &[u8],
     bound: u32,
 ) -> Result<CertVerdict, CertFault>
-    requires k { circuit.now.bound.k ≡ F.degree field.now }
+    requires k { circuit.now.binding.k ≡ F.degree field.now }
     requires bases { AreBases (F.degree field.now) (F.product field.now) circuit.now bases.now }
-    requires labels { NameWords circuit.now.bound labels.now }
+    requires labels { NameWords circuit.now.binding labels.now }
+    requires few { length labels.now.words ≤ 8 }
     requires drivers { AreDrivers circuit.now.net drivers.now }
     requires size { length bytes.now ≤ 67108864 }
     ensures { Fits refusal verdict_of result (Check (F.degree field.now) (F.product field.now) circuit.now bases.now labels.now bound bytes.now) }
@@ -317,9 +318,9 @@ pub fn check<F: Field>(
     bytes: &[u8],
     bound: u32,
 ) -> Result<CertVerdict, CertFault>
-    requires k { circuit.now.bound.k ≡ F.degree field.now }
+    requires k { circuit.now.binding.k ≡ F.degree field.now }
     requires bases { AreBases (F.degree field.now) (F.product field.now) circuit.now bases.now }
-    requires labels { NameWords circuit.now.bound labels.now }
+    requires labels { NameWords circuit.now.binding labels.now }
     requires size { length bytes.now ≤ 67108864 }
     ensures { Fits refusal verdict_of result (Check (F.degree field.now) (F.product field.now) circuit.now bases.now labels.now bound bytes.now) }
 {

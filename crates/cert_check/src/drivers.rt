@@ -1,6 +1,7 @@
 //! The gates that drive nets.
 ghost use Rattle.std.specs.Prelude.{◌≡◌, ◌<◌, length, is_some, slice_set, get_or, IfOk, None, Some};
 ghost use Rattle.net_core.specs.NetList.{nets};
+ghost use Rattle.net_words.specs.OneCycle.{IsOneCycle};
 ghost use Rattle.cert_check.specs.private.Reading.{AreDrivers};
 
 use net_core::Net;
@@ -29,12 +30,13 @@ fn net_drivers(alloc: Global, net: &Net) -> Result<Vec<Option<u32>>, AllocError>
     Ok(list)
 }
 
-/// For each net of a circuit the position of the first gate that drives it.
+/// For each net of a circuit the position of the first gate that drives it; and that its words are bound to the net.
 pub(crate) fn drivers(
     alloc: Global,
     circuit: &Combinational,
 ) -> Result<Vec<Option<u32>>, AllocError>
-    ensures { IfOk result (λ list. AreDrivers circuit.now.net list.items) }
+    ensures drivers { IfOk result (λ list. AreDrivers circuit.now.net list.items) }
+    ensures is_bound { IsOneCycle circuit.now.net circuit.now.binding }
 {
     let net = circuit.net();
     net_drivers(alloc, net)

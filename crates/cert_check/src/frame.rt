@@ -10,9 +10,10 @@ ghost use Rattle.cert_check.specs.private.Reading.{AreDrivers, pair_left, text_l
 
 use crate::drivers::has_driver;
 use crate::fault::LineFault;
-use crate::scan::{after_sign, after_word, digits_at, indexed_at, is_blank, value};
+use crate::scan::{after_sign, after_word, digits_at, indexed_at, is_blank};
 use net_core::Net;
 use poly_mixed::{Generator, Labels};
+use text_core::value_in_base;
 
 /// A generator with the text of its multiplier, the text of a shared multiplier, or the end.
 #[derive(Clone, Copy)]
@@ -26,7 +27,7 @@ pub(crate) enum Frame<'a> {
 pub(crate) fn below(digits: &[u8], limit: u32) -> Option<u32>
     ensures { MatchOption result (limit ≤ value_of 10 digits.now) (λ n. (n ≡ value_of 10 digits.now) × (n < limit)) }
 {
-    match value(digits) {
+    match value_in_base(digits, 10) {
         Some(n) if n < u64::from(limit) => Some(n as u32),
         _ => None,
     }
@@ -110,7 +111,7 @@ fn or_syntax(rest: Option<&[u8]>) -> Result<&[u8], LineFault>
 fn is_value(digits: &[u8], n: u32) -> bool
     ensures { result ≡ (value_of 10 digits.now == n) }
 {
-    value(digits) == Some(u64::from(n))
+    value_in_base(digits, 10) == Some(u64::from(n))
 }
 
 // The text of the shared multiplier that is to have this number.

@@ -27,9 +27,8 @@ use std::alloc::{AllocError, Global};
 /// The place of a net among the variables.
 pub(crate) fn rank(circuit: &Combinational, net: u32) -> u32
     requires { net < nets circuit.now.net }
-    ensures { result ≡ rank_among (variables (nets circuit.now.net) circuit.now.bound.words) net }
+    ensures { result ≡ rank_among (variables (nets circuit.now.net) circuit.now.binding.words) net }
 {
-    let _bound = circuit.bound();
     circuit.rank_of(net)
 }
 
@@ -37,7 +36,7 @@ pub(crate) fn rank(circuit: &Combinational, net: u32) -> u32
 fn input_ranks(alloc: Global, circuit: &Combinational, gate: &Gate) -> Result<Vec<u32>, AllocError>
     requires sound { IsSound circuit.now.net }
     requires gate { Has circuit.now.net.gates gate.now }
-    ensures { IfOk result (λ list. list.items ≡ map (rank_among (variables (nets circuit.now.net) circuit.now.bound.words)) gate.now.inputs) }
+    ensures { IfOk result (λ list. list.items ≡ map (rank_among (variables (nets circuit.now.net) circuit.now.binding.words)) gate.now.inputs) }
 {
     let mut list = Vec::with_capacity(alloc, gate.inputs().len())?;
     for input in gate.inputs() {
@@ -58,7 +57,7 @@ fn add_gate<F: Field>(
     requires gate { Has circuit.now.net.gates gate.now }
     requires sum { IsReduced (F.degree field.now) sum.old.terms }
     ensures reduced { OnOk result (IsReduced (F.degree field.now) sum.new.terms) }
-    ensures values { OnOk result ((p : Point) → IsPoint (F.degree field.now) p → value (F.product field.now) p sum.new.terms ≡ bit_xor (value (F.product field.now) p sum.old.terms) (table_value gate.now.table gate.now.inputs (net_bit (variables (nets circuit.now.net) circuit.now.bound.words) p))) }
+    ensures values { OnOk result ((p : Point) → IsPoint (F.degree field.now) p → value (F.product field.now) p sum.new.terms ≡ bit_xor (value (F.product field.now) p sum.old.terms) (table_value gate.now.table gate.now.inputs (net_bit (variables (nets circuit.now.net) circuit.now.binding.words) p))) }
 {
     let ranks = input_ranks(alloc, circuit, gate)?;
     add_table(alloc, field, &ranks, gate.table(), sum)?;
@@ -91,7 +90,7 @@ fn add_driven<F: Field>(
     requires drivers { AreDrivers circuit.now.net drivers.now }
     requires sum { IsReduced (F.degree field.now) sum.old.terms }
     ensures reduced { OnOk result (IsReduced (F.degree field.now) sum.new.terms) }
-    ensures values { OnOk result ((p : Point) → IsPoint (F.degree field.now) p → value (F.product field.now) p sum.new.terms ≡ bit_xor (value (F.product field.now) p sum.old.terms) (driven_value (variables (nets circuit.now.net) circuit.now.bound.words) p (driver_of circuit.now.net n))) }
+    ensures values { OnOk result ((p : Point) → IsPoint (F.degree field.now) p → value (F.product field.now) p sum.new.terms ≡ bit_xor (value (F.product field.now) p sum.old.terms) (driven_value (variables (nets circuit.now.net) circuit.now.binding.words) p (driver_of circuit.now.net n))) }
 {
     match driver(circuit.net(), drivers, n) {
         Some(gate) => add_gate(alloc, field, circuit, gate, sum),
@@ -109,7 +108,7 @@ fn net_poly<F: Field>(
 ) -> Result<Poly, AllocError>
     requires net { n < nets circuit.now.net }
     requires drivers { AreDrivers circuit.now.net drivers.now }
-    ensures { IfOk result (λ q. IsPolynomialOf (F.degree field.now) (F.product field.now) (λ p. bit_xor (bit_value (net_bit (variables (nets circuit.now.net) circuit.now.bound.words) p n)) (driven_value (variables (nets circuit.now.net) circuit.now.bound.words) p (driver_of circuit.now.net n))) q.terms) }
+    ensures { IfOk result (λ q. IsPolynomialOf (F.degree field.now) (F.product field.now) (λ p. bit_xor (bit_value (net_bit (variables (nets circuit.now.net) circuit.now.binding.words) p n)) (driven_value (variables (nets circuit.now.net) circuit.now.binding.words) p (driver_of circuit.now.net n))) q.terms) }
 {
     let mut sum = scaled_bit(alloc, field, 1, rank(circuit, n))?;
     add_driven(alloc, field, circuit, drivers, n, &mut sum)?;
@@ -154,7 +153,7 @@ fn net_split<F: Field>(
 ) -> Result<Split, AllocError>
     requires net { n < nets circuit.now.net }
     requires drivers { AreDrivers circuit.now.net drivers.now }
-    ensures { IfOk result (λ s. IsSplit (F.degree field.now) (F.product field.now) (λ p. bit_xor (bit_value (net_bit (variables (nets circuit.now.net) circuit.now.bound.words) p n)) (driven_value (variables (nets circuit.now.net) circuit.now.bound.words) p (driver_of circuit.now.net n))) s.near.terms s.form) }
+    ensures { IfOk result (λ s. IsSplit (F.degree field.now) (F.product field.now) (λ p. bit_xor (bit_value (net_bit (variables (nets circuit.now.net) circuit.now.binding.words) p n)) (driven_value (variables (nets circuit.now.net) circuit.now.binding.words) p (driver_of circuit.now.net n))) s.near.terms s.form) }
 {
     let near = net_poly(alloc, field, circuit, drivers, n)?;
     Ok(Split { near, form: None })

@@ -1,10 +1,9 @@
 //! The running sum of a certificate.
-ghost use Rattle.std.specs.Prelude.{◌≡◌, ◌<◌, ◌++◌, ℕ, bit_xor, length, slice_get, IfOk, OnOk, Some};
+ghost use Rattle.std.specs.Prelude.{◌≡◌, ◌<◌, ℕ, bit_xor, length, IfOk, OnOk};
 ghost use Rattle.gf_basis.specs.BasisParts.{elements_of, IsBasisOver};
 ghost use Rattle.irreducible.specs.Span.{combination};
 ghost use Rattle.net_core.specs.NetList.{nets};
 ghost use Rattle.net_core.specs.Lists.{Has};
-ghost use Rattle.net_words.specs.BoundTo.{output_bits, output_bits_with};
 ghost use Rattle.net_words.specs.Variables.{variables};
 ghost use Rattle.poly_mixed.specs.Polynomial.{IsPoint, IsPolynomialOf, IsReduced, Point, value};
 ghost use Rattle.poly_mixed.specs.Table.{index};
@@ -19,39 +18,12 @@ ghost use Rattle.cert_check.specs.private.Kept.{IsGeneratorOf};
 use crate::generator::rank;
 use crate::last::LastGenerator;
 use crate::running_sum::RunningSum;
-use circuit_model::output_basis;
+use circuit_model::{output_basis, output_nets};
 use gf_basis::Basis;
 use gf_field::Field;
-use net_words::{Bound, Combinational, Role};
+use net_words::Combinational;
 use poly_mixed::{Generator, Poly, scaled_bit};
 use std::alloc::{AllocError, Global};
-
-// Adds the nets of a word, if it is the output word.
-fn add_word(bound: &Bound, w: u32, list: &mut Vec<u32>) -> Result<(), AllocError>
-    requires { w < length bound.now.words }
-    ensures { OnOk result ((word : _) → slice_get bound.now.words w ≡ Some word → list.new.items ≡ list.old.items ++ output_bits_with word.role word.nets) }
-{
-    match bound.role(w) {
-        Role::Input | Role::State | Role::Fed => Ok(()),
-        Role::Output => {
-            for place in 0..bound.k() {
-                list.push(bound.net(w, place))?;
-            }
-            Ok(())
-        }
-    }
-}
-
-// The nets of the output word, place 0 first.
-fn output_nets(alloc: Global, bound: &Bound) -> Result<Vec<u32>, AllocError>
-    ensures { IfOk result (λ list. list.items ≡ output_bits bound.now.words) }
-{
-    let mut list = Vec::new(alloc);
-    for w in 0..bound.words() {
-        add_word(bound, w, &mut list)?;
-    }
-    Ok(list)
-}
 
 // The sum of the basis elements of the bits of these nets.
 fn word_poly<F: Field>(
@@ -64,7 +36,7 @@ fn word_poly<F: Field>(
     requires basis { IsBasisOver (F.degree field.now) (F.product field.now) basis.now }
     requires long { length list.now ≡ F.degree field.now }
     requires inside { (n : ℕ) → Has list.now n → n < nets circuit.now.net }
-    ensures { IfOk result (λ q. IsPolynomialOf (F.degree field.now) (F.product field.now) (λ p. combination (elements_of basis.now) (index (net_bit (variables (nets circuit.now.net) circuit.now.bound.words) p) list.now)) q.terms) }
+    ensures { IfOk result (λ q. IsPolynomialOf (F.degree field.now) (F.product field.now) (λ p. combination (elements_of basis.now) (index (net_bit (variables (nets circuit.now.net) circuit.now.binding.words) p) list.now)) q.terms) }
 {
     let mut sum = Poly::zero(alloc);
     for place in 0..list.len() {
@@ -82,7 +54,7 @@ fn output_poly<F: Field>(
     circuit: &Combinational,
     bases: &[Basis],
 ) -> Result<Poly, AllocError>
-    requires k { circuit.now.bound.k ≡ F.degree field.now }
+    requires k { circuit.now.binding.k ≡ F.degree field.now }
     requires bases { AreBases (F.degree field.now) (F.product field.now) circuit.now bases.now }
     ensures { IfOk result (λ q. IsPolynomialOf (F.degree field.now) (F.product field.now) (output_value (F.degree field.now) (F.product field.now) circuit.now bases.now) q.terms) }
 {
@@ -99,7 +71,7 @@ pub(crate) fn first_sum<F: Field>(
     bases: &[Basis],
     claim: &Poly,
 ) -> Result<Poly, AllocError>
-    requires k { circuit.now.bound.k ≡ F.degree field.now }
+    requires k { circuit.now.binding.k ≡ F.degree field.now }
     requires bases { AreBases (F.degree field.now) (F.product field.now) circuit.now bases.now }
     requires claim { IsReduced (F.degree field.now) claim.now.terms }
     ensures { IfOk result (λ q. IsRunningSum (F.degree field.now) (F.product field.now) circuit.now bases.now (begun claim.now.terms) q.terms) }

@@ -1,6 +1,5 @@
 //! Tokens at the front of a line.
-ghost use Rattle.std.specs.Prelude.{◌≡◌, ◌≤◌, ◌+◌, ◌*◌, ◌^◌, length, MatchOption};
-ghost use Rattle.text_core.specs.Numbers.{value_of, digit_value};
+ghost use Rattle.std.specs.Prelude.{◌≡◌, ◌≤◌, length};
 ghost use Rattle.poly_mixed.specs.Scan.{run, after as after_run, skip as skipped, name_of as name_in_front, index_of};
 ghost use Rattle.cert_check.specs.Scan.{is_blank as is_blank_text, after_word as after_this_word, after_first as after_this_byte, after_sign as after_this_sign, is_hex as is_hex_text, digits_first as digits_in_front, digits_in, digits_at as digits_of, indexed_in, indexed_at as indexed_of};
 ghost use Rattle.cert_check.specs.private.Scanning.{is_in, left_of, two_of, three_of};
@@ -186,39 +185,4 @@ pub(crate) fn indexed_at(bytes: &[u8]) -> Option<(&[u8], &[u8], &[u8])>
     ensures { three_of result ≡ indexed_of bytes.now }
 {
     name_and_index(skip(bytes))
-}
-
-/// The value of decimal digits, where it is below 2^64.
-pub(crate) fn value(digits: &[u8]) -> Option<u64>
-    ensures { MatchOption result (2 ^ 64 ≤ value_of 10 digits.now) (λ n. n ≡ value_of 10 digits.now) }
-{
-    let mut n: u64 = 0;
-    for byte in digits {
-        match with_digit(n, digit(*byte)) {
-            Some(more) => n = more,
-            None => return None,
-        }
-    }
-    Some(n)
-}
-
-// A value with one more digit, where it is below 2^64.
-fn with_digit(n: u64, digit: u8) -> Option<u64>
-    ensures { MatchOption result (2 ^ 64 ≤ n * 10 + digit) (λ m. m ≡ n * 10 + digit) }
-{
-    let shifted = n.checked_mul(10)?;
-    shifted.checked_add(u64::from(digit))
-}
-
-// What a digit stands for.
-fn digit(byte: u8) -> u8
-    ensures { result ≡ digit_value byte }
-{
-    if byte < 58 {
-        byte.saturating_sub(48)
-    } else if byte < 71 {
-        byte - 55
-    } else {
-        byte.saturating_sub(87)
-    }
 }

@@ -23,15 +23,15 @@ fn left_after(is_output: bool, left: u32) -> Option<u32>
 }
 
 /// The basis of an input, state or fed word, by its number among these, out of one basis for each word.
-pub(crate) fn input_basis<'a>(bound: &Bound, bases: &'a [Basis], word: u32) -> &'a Basis
-    requires word { word < length (words_of bound.now.words (map duals_of bases.now)) }
-    requires long { length bases.now ≡ length bound.now.words }
-    ensures basis { (w : _) → slice_get (words_of bound.now.words (map duals_of bases.now)) word ≡ Some w → w.basis ≡ duals_of result.now }
+pub(crate) fn input_basis<'a>(binding: &Bound, bases: &'a [Basis], word: u32) -> &'a Basis
+    requires word { word < length (words_of binding.now.words (map duals_of bases.now)) }
+    requires long { length bases.now ≡ length binding.now.words }
+    ensures basis { (w : _) → slice_get (words_of binding.now.words (map duals_of bases.now)) word ≡ Some w → w.basis ≡ duals_of result.now }
     ensures among { Has bases.now result.now }
 {
     let mut left = word;
     for w in 0..bound.words() {
-        match left_after(is_output(bound.role(w)), left) {
+        match left_after(is_output(binding.role(w)), left) {
             Some(more) => left = more,
             None => return &bases[w as usize],
         }

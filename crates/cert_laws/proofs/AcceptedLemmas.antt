@@ -56,21 +56,21 @@ as_many (u ∷ us) (e ∷ es) (d ∷ ds) one two =
     with_role Fed = refl
     with_role Output = refl
 
-module _ (k : ℕ) (mul : ℕ → ℕ → ℕ) (ring : IsRing k mul) (field : HasNoZeroDivisors k mul) (bound : BoundNet) (bases : List Basis) (sound : IsSound bound.net) (one : IsOneCycle bound.net bound.bound) (same : bound.bound.k ≡ k) (are : AreBases k mul bound bases) (n most : ℕ) (four : 4 * n ≤ most) (all : AreAllWithin k mul (circuit_stages (circuit_in k mul bound bases)) n) (claim : Terms) (pairs : List Step) (certificate : IsCertificateOf k mul bound bases claim pairs) where
+module _ (k : ℕ) (mul : ℕ → ℕ → ℕ) (ring : IsRing k mul) (field : HasNoZeroDivisors k mul) (bound : BoundNet) (bases : List Basis) (sound : IsSound bound.net) (one : IsOneCycle bound.net bound.binding) (same : bound.binding.k ≡ k) (are : AreBases k mul bound bases) (n most : ℕ) (four : 4 * n ≤ most) (all : AreAllWithin k mul (circuit_stages (circuit_in k mul bound bases)) n) (claim : Terms) (pairs : List Step) (certificate : IsCertificateOf k mul bound bases claim pairs) where
   abbrev c : Circuit
   c = circuit_in k mul bound bases
 
   circuit : IsWellFormed c
   circuit = well k mul bound bases ring field sound one same are
 
-  long : length (map elements_of bases) ≡ length bound.bound.words
+  long : length (map elements_of bases) ≡ length bound.binding.words
   long = length-map bases elements_of ∙ are.long
 
   same_words : length (dual_words bound bases) ≡ length c.words
-  same_words = as_many bound.bound.words (map duals_of bases) (map elements_of bases) (length-map bases duals_of ∙ are.long) long
+  same_words = as_many bound.binding.words (map duals_of bases) (map elements_of bases) (length-map bases duals_of ∙ are.long) long
 
   abbrev Cut : ℕ → Point → ℕ → Type 0
-  Cut t = IsCut bound.net (variables (nets bound.net) bound.bound.words) (output_word bound.bound.words (output_basis bound.bound.words (map elements_of bases))) t
+  Cut t = IsCut bound.net (variables (nets bound.net) bound.binding.words) (output_word bound.binding.words (output_basis bound.binding.words (map elements_of bases))) t
 
   cut_at : (t : ℕ) → t ≤ length bound.net.gates → (ts : Terms) × IsOfStage k mul (Cut t) ts × (length ts ≤ n)
   cut_at t less =

@@ -3,15 +3,11 @@ use Rattle.std.proofs.Common.{◌≡◌, ◌≢◌, ◌∙◌, ap, refl, subst, 
 use Rattle.std.specs.Prelude.{slice_get}
 use Rattle.std.specs.declared.cmp.Ordering.TheVariants.{Less}
 use Rattle.std.specs.Ordering.{nat_cmp}
-use Rattle.std.specs.List.{AllByRecursion, filter, list_all}
+use Rattle.std.specs.List.{filter, list_all}
 use Rattle.std.specs.List.Sorted.{IsStrictlySortedBy}
 use Rattle.std.proofs.lemmas.Bool.{eq-eqb, ne_eqb}
-use Rattle.stage_model.proofs.SortLemmas.{all_in}
-use Rattle.poly_mixed.proofs.Ranks.{Above, from_less}
-
-all_filter : (P : ℕ → Type 0) (g : ℕ → Bool) (xs : List ℕ) → AllByRecursion P xs → AllByRecursion P (filter g xs)
-all_filter P g [] all = tt
-all_filter P g (x ∷ xs) all = elim (g x) as (λ b. AllByRecursion P (cond b (x ∷ filter g xs) (filter g xs))) [ true ↦ (all.0, all_filter P g xs all.1) | false ↦ all_filter P g xs all.1 ]
+use Rattle.graph_core.proofs.GeneralLemmas.{all_filter, all_in}
+use Rattle.poly_mixed.proofs.RankLemmas.{Above, from_less}
 
 second : (a b c : Bool) → (a && (b && c)) ≡ (b && (a && c))
 second true b c = refl

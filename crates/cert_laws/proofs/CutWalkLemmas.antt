@@ -26,11 +26,11 @@ use Rattle.poly_mixed.specs.Polynomial.{Terms, Point, IsPoint, IsElement, IsRedu
 use Rattle.poly_mixed.specs.Steps.{Step}
 use Rattle.poly_mixed.specs.Table.{index}
 use Rattle.poly_mixed.specs.declared.steps.Generator.TheVariants.{Net}
-use Rattle.poly_mixed.proofs.Cofactors.{value-lacking, value-cofactors, reduced_cofactors, all_lacking}
+use Rattle.poly_mixed.proofs.CofactorLemmas.{value-lacking, value-cofactors, reduced_cofactors, all_lacking}
 use Rattle.poly_mixed.proofs.FieldLaws.{IsField, field_of}
-use Rattle.poly_mixed.proofs.OneBit.{is_cofactor}
-use Rattle.poly_mixed.proofs.Products.{value_element}
-use Rattle.poly_mixed.proofs.Values.{product_zero, same_map}
+use Rattle.poly_mixed.proofs.OneBitLemmas.{is_cofactor}
+use Rattle.poly_mixed.proofs.ProductLemmas.{value_element}
+use Rattle.poly_mixed.proofs.ValueLemmas.{product_zero, same_map}
 use Rattle.circuit_model.specs.OfBinding.{output_word, output_basis}
 use Rattle.std.specs.Prelude.{map}
 use Rattle.stage_model.specs.Cut.{IsCut, IsSettled}
@@ -115,15 +115,15 @@ module _ (k : ℕ) (mul : ℕ → ℕ → ℕ) (ring : IsRing k mul) (field : Ha
       sized_same f (λ p. bit_xor (value mul p ts) (value mul p claim)) (λ p. bit_xor (value mul p ts) (value mul p claim)) (n + n) most (omega (arith, four)) (λ p at. refl)
       (sized_sum f (λ p. value mul p ts) (λ p. value mul p claim) n n (sized_of f ts n reduced few) (sized_of f claim n claimed small))
 
-  module _ (bound : BoundNet) (bases : List Basis) (sound : IsSound bound.net) (one : IsOneCycle bound.net bound.bound) (claim : Terms) (n most : ℕ) (claimed : IsReduced k claim) (small : length claim ≤ n) (four : 4 * n ≤ most) where
+  module _ (bound : BoundNet) (bases : List Basis) (sound : IsSound bound.net) (one : IsOneCycle bound.net bound.binding) (claim : Terms) (n most : ℕ) (claimed : IsReduced k claim) (small : length claim ≤ n) (four : 4 * n ≤ most) where
     abbrev list : List ℕ
-    list = variables (nets bound.net) bound.bound.words
+    list = variables (nets bound.net) bound.binding.words
 
     abbrev basis : List ℕ
-    basis = output_basis bound.bound.words (map elements_of bases)
+    basis = output_basis bound.binding.words (map elements_of bases)
 
     abbrev Cut : ℕ → Point → ℕ → Type 0
-    Cut t = IsCut bound.net list (output_word bound.bound.words basis) t
+    Cut t = IsCut bound.net list (output_word bound.binding.words basis) t
 
     abbrev WalkTo : (Point → ℕ) → (Point → ℕ) → List Step → Type 0
     WalkTo v w steps = Walk k mul bound bases f claim most v w steps
@@ -131,8 +131,8 @@ module _ (k : ℕ) (mul : ℕ → ℕ → ℕ) (ring : IsRing k mul) (field : Ha
     -- cut 0 is the output word's element at the point's bits
     output_at : (p : Point) (e : ℕ) → Cut 0 p e → output_value k mul bound bases p ≡ e
     output_at p e cut =
-        let same : index_of cut.bits (output_bits bound.bound.words) ≡ index (point_bit list p) (output_bits bound.bound.words) =
-        index_same cut.bits (point_bit list p) (output_bits bound.bound.words) (λ m has. cut.settled.free m (one.outputs m has) (λ g first. absurd (let less = first.2 in omega (arith, less)))) in
+        let same : index_of cut.bits (output_bits bound.binding.words) ≡ index (point_bit list p) (output_bits bound.binding.words) =
+        index_same cut.bits (point_bit list p) (output_bits bound.binding.words) (λ m has. cut.settled.free m (one.outputs m has) (λ g first. absurd (let less = first.2 in omega (arith, less)))) in
         ap (combination basis) (sym same) ∙ cut.element.sum.is
 
     start : (ts : Terms) → IsOfStage k mul (Cut 0) ts → length ts ≤ n → WalkTo (output_value k mul bound bases) (λ p. value mul p ts) []
@@ -144,7 +144,7 @@ module _ (k : ℕ) (mul : ℕ → ℕ → ℕ) (ring : IsRing k mul) (field : Ha
         same
 
     stands : (m : ℕ) → m < nets bound.net → Has list m
-    stands m less = stands_in bound.net bound.bound m one less
+    stands m less = stands_in bound.net bound.binding m one less
 
     -- the cut after is the cut before with the gate's bit at its output
     next_value : (order : List ℕ) → IsElimination bound.net order → (t position : ℕ) (g : GateValue) (old new : Terms) → slice_get order t ≡ Some position → slice_get bound.net.gates position ≡ Some g
@@ -155,15 +155,15 @@ module _ (k : ℕ) (mul : ℕ → ℕ → ℕ) (ring : IsRing k mul) (field : Ha
         let P : List ℕ → Type 0 = λ o. IsSettled bound.net list o t q cut.bits in
         let settled = subst P (one_elimination bound.net sound cut.order order cut.elimination is) cut.settled in
         let next = step bound.net sound list stands is.0 is.1 order is.2 t position g at gate p cut.bits settled in
-        one_cut_of bound.net sound list (output_word bound.bound.words basis) (suc t) p (value mul p new) (value mul q old) (after.values p point) (record { order = order; elimination = is; bits = cut.bits; settled = next; element = cut.element })
+        one_cut_of bound.net sound list (output_word bound.binding.words basis) (suc t) p (value mul p new) (value mul q old) (after.values p point) (record { order = order; elimination = is; bits = cut.bits; settled = next; element = cut.element })
 
     -- the pairs of one elimination
-    one_step : (order : List ℕ) → IsElimination bound.net order → (t : ℕ) (last : List Step) (before after : Terms) → AreStepsOf k mul bound.net list (output_word bound.bound.words basis) order t last
+    one_step : (order : List ℕ) → IsElimination bound.net order → (t : ℕ) (last : List Step) (before after : Terms) → AreStepsOf k mul bound.net list (output_word bound.binding.words basis) order t last
         → IsOfStage k mul (Cut t) before → length before ≤ n → IsOfStage k mul (Cut (suc t)) after → length after ≤ n → WalkTo (λ p. value mul p before) (λ p. value mul p after) last
     one_step order is t last before after steps old few new few' =
         let g : GateValue = steps.gate in
         let r : ℕ = rank_in list g.out in
-        let same : steps.terms ≡ before = same_terms k mul ring field (Cut t) (λ p x y at a b. one_cut_of bound.net sound list (output_word bound.bound.words basis) t p x y a b) steps.terms before steps.before old in
+        let same : steps.terms ≡ before = same_terms k mul ring field (Cut t) (λ p x y at a b. one_cut_of bound.net sound list (output_word bound.binding.words basis) t p x y a b) steps.terms before steps.before old in
         let P : Terms → Type 0 = λ ts. AreStepsAt k r g.out ts last in
         let are : AreStepsAt k r g.out before last = subst P same steps.are in
         let next = next_value order is t steps.position g before after steps.at_order steps.at_net old new in
@@ -213,7 +213,7 @@ module _ (k : ℕ) (mul : ℕ → ℕ → ℕ) (ring : IsRing k mul) (field : Ha
 
     -- the pairs of the first eliminations, where each cut so far has such a polynomial
     pub cuts_walk : (order : List ℕ) → IsElimination bound.net order → (t count : ℕ) (steps : List Step) → t ≤ count → ((s : ℕ) → s ≤ count → (ts : Terms) × IsOfStage k mul (Cut s) ts × (length ts ≤ n))
-        → AreStepsTo k mul bound.net list (output_word bound.bound.words basis) order t steps → (ts : Terms) → IsOfStage k mul (Cut t) ts → length ts ≤ n → WalkTo (output_value k mul bound bases) (λ p. value mul p ts) steps
+        → AreStepsTo k mul bound.net list (output_word bound.binding.words basis) order t steps → (ts : Terms) → IsOfStage k mul (Cut t) ts → length ts ≤ n → WalkTo (output_value k mul bound bases) (λ p. value mul p ts) steps
     cuts_walk order is zero count steps less cuts are ts of_ts few =
         let P : List Step → Type 0 = λ xs. WalkTo (output_value k mul bound bases) (λ p. value mul p ts) xs in
         subst P (sym are) (start ts of_ts few)

@@ -1,10 +1,11 @@
 -- The labels of a circuit name all that stands in its certificate.
-use Rattle.std.proofs.Common.{◌≡◌, inl, inr, ◌∙◌, ap, sym, refl, subst, ℕ, zero, suc, ◌+◌, ◌<◌, ◌≤◌, nat_eq, Bool, true, false, cond, not, List, [], ◌∷◌, length, drop, map, filter, Some, slice_get, arith, append-nil}
+use Rattle.std.proofs.Common.{◌≡◌, inl, inr, ◌∙◌, ap, sym, refl, subst, ℕ, zero, suc, ◌+◌, ◌<◌, ◌≤◌, nat_eq, true, false, cond, not, List, [], ◌∷◌, length, drop, map, Some, slice_get, arith, append-nil}
 use Rattle.std.specs.List.{AllByRecursion}
 use Rattle.std.proofs.lemmas.Bool.{true≢false, ne_eqb}
 use Rattle.std.proofs.lemmas.List.{length-map, length-append}
 use Rattle.gf_field.specs.Field.{HasNoZeroDivisors}
 use Rattle.gf_field.specs.Ring.{IsRing}
+use Rattle.graph_core.proofs.GeneralLemmas.{all_filter as all_filtered}
 use Rattle.gf_basis.specs.BasisParts.{elements_of}
 use Rattle.gf_basis.specs.declared.bases.Basis.{Basis}
 use Rattle.net_core.specs.NetList.{nets}
@@ -21,9 +22,9 @@ use Rattle.poly_mixed.specs.Steps.{Step}
 use Rattle.poly_mixed.specs.Text.{HasNames, HasWordNames}
 use Rattle.poly_mixed.specs.laws.TextLaw.{IsWritten}
 use Rattle.poly_mixed.specs.laws.Uniqueness.{IsZeros, InFirstWords}
-use Rattle.poly_mixed.proofs.Cofactors.{reduced_cofactors}
-use Rattle.poly_mixed.proofs.OneBit.{is_cofactor}
-use Rattle.poly_mixed.proofs.Values.{same_map}
+use Rattle.poly_mixed.proofs.CofactorLemmas.{reduced_cofactors}
+use Rattle.poly_mixed.proofs.OneBitLemmas.{is_cofactor}
+use Rattle.poly_mixed.proofs.ValueLemmas.{same_map}
 use Rattle.circuit_model.specs.Bases.{AreBases, circuit_in}
 use Rattle.circuit_model.specs.Circuit.{Circuit}
 use Rattle.circuit_model.specs.OfBinding.{output_word, output_basis}
@@ -65,10 +66,6 @@ no_names count (t ∷ ts) none = (let P : List ℕ → Type 0 = AllByRecursion (
 
 -- ---- cofactors
 
-all_filtered : (P : ℕ → Type 0) (q : ℕ → Bool) (xs : List ℕ) → AllByRecursion P xs → AllByRecursion P (filter q xs)
-all_filtered P q [] all = tt
-all_filtered P q (x ∷ xs) all = elim (q x) as (λ b. AllByRecursion P (cond b (x ∷ filter q xs) (filter q xs))) [ true ↦ (all.0, all_filtered P q xs all.1) | false ↦ all_filtered P q xs all.1 ]
-
 named_cofactors : (count bit : ℕ) (ts : Terms) → AllByRecursion (λ t. AllByRecursion (λ r. r < count) t.0.bits) ts → AllByRecursion (λ t. AllByRecursion (λ r. r < count) t.0.bits) (cofactors bit ts)
 named_cofactors count bit [] all = tt
 named_cofactors count bit (t ∷ ts) all = elim (has_bit bit t.0) as (λ b. AllByRecursion (λ t. AllByRecursion (λ r. r < count) t.0.bits) (cond b ((without_bit bit t.0, t.1) ∷ cofactors bit ts) (cofactors bit ts))) [
@@ -88,33 +85,33 @@ zero_words m bit (t ∷ ts) all = elim (has_bit bit t.0) as (λ b. AllByRecursio
     all_dropped (suc m) [] all = tt
     all_dropped (suc m) (e ∷ es) all = all_dropped m es all.1
 
-module _ (k : ℕ) (mul : ℕ → ℕ → ℕ) (ring : IsRing k mul) (field : HasNoZeroDivisors k mul) (bound : BoundNet) (bases : List Basis) (sound : IsSound bound.net) (one : IsOneCycle bound.net bound.bound) (same : bound.bound.k ≡ k) (are : AreBases k mul bound bases) (labels : Labelling) (numbers : HaveNumbers k bound.net labels) (names : NameVariables bound labels) where
+module _ (k : ℕ) (mul : ℕ → ℕ → ℕ) (ring : IsRing k mul) (field : HasNoZeroDivisors k mul) (bound : BoundNet) (bases : List Basis) (sound : IsSound bound.net) (one : IsOneCycle bound.net bound.binding) (same : bound.binding.k ≡ k) (are : AreBases k mul bound bases) (labels : Labelling) (numbers : HaveNumbers k bound.net labels) (names : NameVariables bound labels) where
   abbrev c : Circuit
   c = circuit_in k mul bound bases
 
   abbrev list : List ℕ
-  list = variables (nets bound.net) bound.bound.words
+  list = variables (nets bound.net) bound.binding.words
 
   abbrev count : ℕ
   count = bit_count labels.words + length labels.nets
 
   abbrev Cut : ℕ → Point → ℕ → Type 0
-  Cut t = IsCut bound.net list (output_word bound.bound.words (output_basis bound.bound.words (map elements_of bases))) t
+  Cut t = IsCut bound.net list (output_word bound.binding.words (output_basis bound.binding.words (map elements_of bases))) t
 
   circuit : IsWellFormed c
   circuit = well k mul bound bases ring field sound one same are
 
   -- the bits of the words, counted by the labels and by the nets
-  pub word_bits_counted : length (bits bound.bound.words) ≡ bit_count labels.words
+  pub word_bits_counted : length (bits bound.binding.words) ≡ bit_count labels.words
   word_bits_counted =
-      counted_bits bound.bound.k bound.bound.words (λ word has. All_has (λ u. length u.nets ≡ bound.bound.k) bound.bound.words word one.flat.named has)
-      ∙ ap (times_k bound.bound.k) (sym names.words.count) ∙ sym (counted_labels bound.bound.k labels.words names.words.bits)
+      counted_bits bound.binding.k bound.binding.words (λ word has. All_has (λ u. length u.nets ≡ bound.binding.k) bound.binding.words word one.flat.named has)
+      ∙ ap (times_k bound.binding.k) (sym names.words.count) ∙ sym (counted_labels bound.binding.k labels.words names.words.bits)
 
   all_counted : length list ≡ count
-  all_counted = length-append (bits bound.bound.words) (others (nets bound.net) (bits bound.bound.words)) ∙ (λ i. word_bits_counted i + length (sym names.nets i))
+  all_counted = length-append (bits bound.binding.words) (others (nets bound.net) (bits bound.binding.words)) ∙ (λ i. word_bits_counted i + length (sym names.nets i))
 
   words_counted : length c.words ≡ length labels.words
-  words_counted = counted_words bound.bound.words (map elements_of bases) (length-map bases elements_of ∙ are.long) ∙ sym names.words.count
+  words_counted = counted_words bound.binding.words (map elements_of bases) (length-map bases elements_of ∙ are.long) ∙ sym names.words.count
 
   written : (ts : Terms) → IsReduced k ts → HasNames labels ts → HasWordNames labels ts → IsWritten labels k ts
   written ts reduced ranks words = record { labels = numbers.are_labels; some = numbers.some; small = numbers.small; few = numbers.ranks; reduced = reduced; ranks = ranks; words = words }
@@ -124,19 +121,19 @@ module _ (k : ℕ) (mul : ℕ → ℕ → ℕ) (ring : IsRing k mul) (field : Ha
   -- a cut looks at the variables' bits alone
   blind_cut : (t rank : ℕ) → count ≤ rank → (p : Point) (e : ℕ) → IsPoint k p → Cut t p e → Cut t (at_bit p rank false) e
   blind_cut t rank high p e at cut =
-      same_cut bound.net list (output_word bound.bound.words (output_basis bound.bound.words (map elements_of bases))) t p (at_bit p rank false) e
+      same_cut bound.net list (output_word bound.binding.words (output_basis bound.binding.words (map elements_of bases))) t p (at_bit p rank false) e
       (λ m less. sym (ap (λ b. cond b false (point_bit list p m)) (ne_eqb (rank_in list m) rank (λ e. (let low = rank_low m less in omega (arith, low, high, e, all_counted)))))) cut
     where
       rank_low : (m : ℕ) → m < nets bound.net → rank_in list m < length list
       rank_low m less =
           let P : List ℕ → Type 0 = λ xs. rank_in xs m < length list in
-          subst P (append-nil list) (front_rank list [] m (stands_in bound.net bound.bound m one less))
+          subst P (append-nil list) (front_rank list [] m (stands_in bound.net bound.binding m one less))
 
   cut_named : (t : ℕ) (ts : Terms) → IsOfStage k mul (Cut t) ts → AllByRecursion (λ t. AllByRecursion (λ r. r < count) t.0.bits) ts
-  cut_named t ts is = named_terms count ts (λ rank high. lacks k mul ring field (Cut t) (λ p x y at a b. one_cut_of bound.net sound list (output_word bound.bound.words (output_basis bound.bound.words (map elements_of bases))) t p x y a b) rank ts is (blind_cut t rank high))
+  cut_named t ts is = named_terms count ts (λ rank high. lacks k mul ring field (Cut t) (λ p x y at a b. one_cut_of bound.net sound list (output_word bound.binding.words (output_basis bound.binding.words (map elements_of bases))) t p x y a b) rank ts is (blind_cut t rank high))
 
   cut_wordless : (t : ℕ) (ts : Terms) → IsOfStage k mul (Cut t) ts → AllByRecursion (λ t. IsZeros t.0.exponents) ts
-  cut_wordless t ts is = undropped ts (wordless_stage k mul ring field (Cut t) (λ p x y at a b. one_cut_of bound.net sound list (output_word bound.bound.words (output_basis bound.bound.words (map elements_of bases))) t p x y a b) ts is (λ p x at cut. wordless_cut bound.net list (output_word bound.bound.words (output_basis bound.bound.words (map elements_of bases))) t p x cut))
+  cut_wordless t ts is = undropped ts (wordless_stage k mul ring field (Cut t) (λ p x y at a b. one_cut_of bound.net sound list (output_word bound.binding.words (output_basis bound.binding.words (map elements_of bases))) t p x y a b) ts is (λ p x at cut. wordless_cut bound.net list (output_word bound.binding.words (output_basis bound.binding.words (map elements_of bases))) t p x cut))
     where
       undropped : (ts : Terms) → AllByRecursion (λ t. IsZeros (drop 0 t.0.exponents)) ts → AllByRecursion (λ t. IsZeros t.0.exponents) ts
       undropped [] all = tt
@@ -146,7 +143,7 @@ module _ (k : ℕ) (mul : ℕ → ℕ → ℕ) (ring : IsRing k mul) (field : Ha
   abbrev IsGood : Step → Type 0
   IsGood s = IsWritablePair labels k s × IsOfNet bound.net labels s.0
 
-  one_cut_named : (order : List ℕ) (t : ℕ) (last : List Step) → AreStepsOf k mul bound.net list (output_word bound.bound.words (output_basis bound.bound.words (map elements_of bases))) order t last → AllByRecursion IsGood last
+  one_cut_named : (order : List ℕ) (t : ℕ) (last : List Step) → AreStepsOf k mul bound.net list (output_word bound.binding.words (output_basis bound.binding.words (map elements_of bases))) order t last → AllByRecursion IsGood last
   one_cut_named order t last steps =
       let g = steps.gate in
       let r : ℕ = rank_in list g.out in
@@ -162,7 +159,7 @@ module _ (k : ℕ) (mul : ℕ → ℕ → ℕ) (ring : IsRing k mul) (field : Ha
             subst P (sym pair.steps_are) ((((let few = numbers.few in omega (arith, inside, few)), written pair.cofactor pair.reduced both.0 both.1), (inside, driver_found bound.net sound steps.position g steps.at_net)), tt)
       ]
 
-  cuts_named : (order : List ℕ) (t : ℕ) (steps : List Step) → AreStepsTo k mul bound.net list (output_word bound.bound.words (output_basis bound.bound.words (map elements_of bases))) order t steps → AllByRecursion IsGood steps
+  cuts_named : (order : List ℕ) (t : ℕ) (steps : List Step) → AreStepsTo k mul bound.net list (output_word bound.binding.words (output_basis bound.binding.words (map elements_of bases))) order t steps → AllByRecursion IsGood steps
   cuts_named order zero steps are_steps = let P : List Step → Type 0 = AllByRecursion IsGood in subst P (sym are_steps) tt
   cuts_named order (suc t) steps (front, last, before, own, split) =
       let P : List Step → Type 0 = AllByRecursion IsGood in

@@ -22,7 +22,7 @@ use Rattle.cert_laws.specs.OneCertificate.{IsOnlyCertificate}
 pub is_only : IsOnlyCertificate
 is_only k mul bound bases claim other pairs others ring field sound one same are first second =
     let circuit = well k mul bound bases ring field sound one same are in
-    let cuts : first.cuts ≡ second.cuts = one_cut_steps k mul ring field bound.net sound (variables (nets bound.net) bound.bound.words) (output_word bound.bound.words (output_basis bound.bound.words (map elements_of bases))) (length bound.net.gates) first.cuts second.cuts first.are_cuts second.are_cuts in
+    let cuts : first.cuts ≡ second.cuts = one_cut_steps k mul ring field bound.net sound (variables (nets bound.net) bound.binding.words) (output_word bound.binding.words (output_basis bound.binding.words (map elements_of bases))) (length bound.net.gates) first.cuts second.cuts first.are_cuts second.are_cuts in
     let words : first.words ≡ second.words = one_word_steps (circuit_in k mul bound bases) circuit (length (circuit_in k mul bound bases).words) first.words second.words first.are_words second.are_words in (
       one_terms (circuit_in k mul bound bases) circuit (length (circuit_in k mul bound bases).words) claim other first.claims second.claims,
       first.pairs_are ∙ (λ i. cuts i ++ words i) ∙ sym second.pairs_are,
@@ -32,12 +32,12 @@ some_same : (x y : List Step) → Some x ≡ Some y → x ≡ y
 some_same x y e = cc
 
 -- what a recorder holds that held nothing, and then was handed the steps of both engines
-pub recorded : (k : ℕ) (mul : ℕ → ℕ → ℕ) (bound : BoundNet) (bases : List Basis) (basis : List ℕ) (claim : Terms) (cuts words first second : List Step) → basis ≡ output_basis bound.bound.words (map elements_of bases)
-    → AreCutSteps k mul bound.net (variables (nets bound.net) bound.bound.words) (output_word bound.bound.words basis) (length bound.net.gates) cuts → AreWordSteps (circuit_in k mul bound bases) words
+pub recorded : (k : ℕ) (mul : ℕ → ℕ → ℕ) (bound : BoundNet) (bases : List Basis) (basis : List ℕ) (claim : Terms) (cuts words first second : List Step) → basis ≡ output_basis bound.binding.words (map elements_of bases)
+    → AreCutSteps k mul bound.net (variables (nets bound.net) bound.binding.words) (output_word bound.binding.words basis) (length bound.net.gates) cuts → AreWordSteps (circuit_in k mul bound bases) words
     → Tells (Some []) (Some first) cuts → Tells (Some first) (Some second) words → IsOfStage k mul (IsMix (circuit_in k mul bound bases) (length (circuit_in k mul bound bases).words)) claim
     → IsCertificateOf k mul bound bases claim second
 recorded k mul bound bases basis claim cuts words first second same are_cuts are_words told also claims =
-    let P : List ℕ → Type 0 = λ b. AreCutSteps k mul bound.net (variables (nets bound.net) bound.bound.words) (output_word bound.bound.words b) (length bound.net.gates) cuts in
+    let P : List ℕ → Type 0 = λ b. AreCutSteps k mul bound.net (variables (nets bound.net) bound.binding.words) (output_word bound.binding.words b) (length bound.net.gates) cuts in
     let one : first ≡ cuts = some_same first cuts told in
     let two : second ≡ first ++ words = some_same second (first ++ words) also in
     record { cuts = cuts; words = words; claims = claims; are_cuts = subst P same are_cuts; are_words = are_words; pairs_are = two ∙ ap (λ (xs : List Step). xs ++ words) one }

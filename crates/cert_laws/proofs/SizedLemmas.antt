@@ -9,9 +9,9 @@ use Rattle.poly_mixed.specs.Polynomial.{Terms, Point, IsPoint, IsTerm, IsReduced
 use Rattle.poly_mixed.specs.Product.{union}
 use Rattle.poly_mixed.specs.Sum.{with_coefficient, plus_term, plus}
 use Rattle.poly_mixed.proofs.FieldLaws.{IsField}
-use Rattle.poly_mixed.proofs.Products.{all-union, rising-union, one_term}
-use Rattle.poly_mixed.proofs.Simple.{reduced_nothing}
-use Rattle.poly_mixed.proofs.Values.{value-plus, reduced_plus}
+use Rattle.poly_mixed.proofs.ProductLemmas.{all-union, rising-union, one_term}
+use Rattle.poly_mixed.proofs.SimpleLemmas.{reduced_nothing}
+use Rattle.poly_mixed.proofs.ValueLemmas.{value-plus, reduced_plus}
 
 plus_term_long : (ts : Terms) (u : Monomial × ℕ) → length (plus_term text_cmp ts u) ≤ length ts + 1
 plus_term_long [] u = omega arith

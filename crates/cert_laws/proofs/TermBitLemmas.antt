@@ -66,10 +66,6 @@ taken_at [] j u at = absurd (cc)
 taken_at (x ∷ xs) zero u at = let same : x ≡ u = cc in ap (λ y. y ∷ []) same
 taken_at (x ∷ xs) (suc j) u at = ap (λ (ys : List ℕ). x ∷ ys) (taken_at xs j u at)
 
-and_true : (b : Bool) → (b && true) ≡ b
-and_true true = refl
-and_true false = refl
-
 module _ (k : ℕ) (mul : ℕ → ℕ → ℕ) (w : ℕ) (t : Monomial × ℕ) where
   abbrev own : List ℕ
   own = word_bits k w t
@@ -206,7 +202,7 @@ bit_cond n i = small (bit_at n i) (let x : ℕ = n / 2 ^ i in below x)
 pub form_value : (k : ℕ) (mul : ℕ → ℕ → ℕ) (bound : BoundNet) (bases : List Basis) → IsRing k mul → HasNoZeroDivisors k mul → AreBases k mul bound bases → (w place d : ℕ) (p : Point) → IsRead (circuit_in k mul bound bases) w p d → place < k
     → w < length (dual_words bound bases) → dual_form k mul (dual_at (slice_get (dual_words bound bases) w) place) (get_or p.words w 0) ≡ cond (bit_at d place == 1) 1 0
 form_value k mul bound bases ring field are w place d p read low less =
-    let is = both bound.bound.words bases w are.long less in
+    let is = both bound.binding.words bases w are.long less in
     let over : IsBasisOver k mul is.basis = are.each is.basis is.has in
     let here : slice_get (circuit_in k mul bound bases).words w ≡ Some is.word = is.word_at in
     let there : slice_get (circuit_in k mul bound bases).words w ≡ Some read.word = read.at_word in

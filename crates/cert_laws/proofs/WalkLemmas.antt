@@ -6,7 +6,7 @@ use Rattle.net_words.specs.Binding.{BoundNet}
 use Rattle.poly_mixed.specs.Polynomial.{Terms, Point, IsPoint, value}
 use Rattle.poly_mixed.specs.Steps.{Step}
 use Rattle.poly_mixed.proofs.FieldLaws.{IsField}
-use Rattle.poly_mixed.proofs.Simple.{reduced_nothing}
+use Rattle.poly_mixed.proofs.SimpleLemmas.{reduced_nothing}
 use Rattle.cert_check.specs.Running.{generator_value, products, output_value}
 use Rattle.cert_check.specs.Verdict.{IsRunningSum, AsksAtMost}
 use Rattle.cert_laws.proofs.SizedLemmas.{IsSized}

@@ -1,11 +1,12 @@
 -- The labels of a circuit name what stands in the pairs of its words.
-use Rattle.std.proofs.Common.{◌≡◌, ◌∙◌, ap, sym, refl, subst, ℕ, zero, suc, ◌+◌, ◌-◌, ◌*◌, ◌<◌, ◌≤◌, ◌==◌, ◌&&◌, nat_eq, nat_lt, Bool, true, false, cond, not, List, [], ◌∷◌, length, drop, map, filter, Some, slice_get, arith}
+use Rattle.std.proofs.Common.{◌≡◌, ◌∙◌, ap, sym, refl, subst, ℕ, zero, suc, ◌+◌, ◌-◌, ◌*◌, ◌<◌, ◌≤◌, ◌==◌, ◌&&◌, nat_eq, nat_lt, Bool, cond, not, List, [], ◌∷◌, length, drop, map, filter, Some, slice_get, arith}
 use Rattle.std.specs.Int.{bit_at}
 use Rattle.std.specs.List.{AllByRecursion, list_all}
 use Rattle.std.proofs.lemmas.List.{length-map}
 use Rattle.gf_field.specs.Field.{HasNoZeroDivisors}
 use Rattle.gf_field.specs.Power.{power}
 use Rattle.gf_field.specs.Ring.{IsRing}
+use Rattle.graph_core.proofs.GeneralLemmas.{all_filter as all_filtered}
 use Rattle.gf_basis.specs.BasisParts.{elements_of}
 use Rattle.gf_basis.specs.declared.bases.Basis.{Basis}
 use Rattle.net_core.specs.Lists.{Has}
@@ -23,8 +24,8 @@ use Rattle.poly_mixed.specs.laws.TextLaw.{IsWritten}
 use Rattle.poly_mixed.specs.laws.Uniqueness.{IsZeros, InFirstWords}
 use Rattle.poly_mixed.specs.declared.steps.Generator.{Generator}
 use Rattle.poly_mixed.proofs.FieldLaws.{IsField, field_of}
-use Rattle.poly_mixed.proofs.Products.{term_value_element}
-use Rattle.poly_mixed.proofs.Uniqueness.{zero_powers}
+use Rattle.poly_mixed.proofs.ProductLemmas.{term_value_element}
+use Rattle.poly_mixed.proofs.UniquenessLemmas.{zero_powers}
 use Rattle.circuit_model.specs.Bases.{AreBases, circuit_in}
 use Rattle.circuit_model.specs.Circuit.{Circuit}
 use Rattle.circuit_model.specs.WellFormed.{IsWellFormed}
@@ -54,10 +55,6 @@ same_on : (q g : ℕ → Bool) (count : ℕ) (xs : List ℕ) → ((r : ℕ) → 
 same_on q g count [] same all = refl
 same_on q g count (x ∷ xs) same all = λ i. same x all.0 i && same_on q g count xs same all.1 i
 
-all_filtered : (P : ℕ → Type 0) (q : ℕ → Bool) (xs : List ℕ) → AllByRecursion P xs → AllByRecursion P (filter q xs)
-all_filtered P q [] all = tt
-all_filtered P q (x ∷ xs) all = elim (q x) as (λ b. AllByRecursion P (cond b (x ∷ filter q xs) (filter q xs))) [ true ↦ (all.0, all_filtered P q xs all.1) | false ↦ all_filtered P q xs all.1 ]
-
 -- the powers look at the words whose exponents are not 0
 powers_same : {k : ℕ} {mul : ℕ → ℕ → ℕ} → IsField k mul → (m : ℕ) (es ps qs : List ℕ) → length ps ≡ length qs → ((i : ℕ) → i < m → slice_get ps i ≡ slice_get qs i) → IsZeros (drop m es) → powers mul es ps ≡ powers mul es qs
 powers_same f zero es ps qs long same zeros = zero_powers f es ps zeros ∙ sym (zero_powers f es qs zeros)
@@ -74,8 +71,8 @@ place_bits k [] w all less = absurd (omega (arith, less))
 place_bits k (x ∷ ws) zero all less = all.0
 place_bits k (x ∷ ws) (suc w) all less = place_bits k ws w all.1 (omega (arith, less))
 
-module _ (k : ℕ) (mul : ℕ → ℕ → ℕ) (ring : IsRing k mul) (field : HasNoZeroDivisors k mul) (bound : BoundNet) (bases : List Basis) (sound : IsSound bound.net) (one : IsOneCycle bound.net bound.bound) (same : bound.bound.k ≡ k) (are : AreBases k mul bound bases) (labels : Labelling) (numbers : HaveNumbers k bound.net labels) (names : NameVariables bound labels)
-    (words_counted : length (circuit_in k mul bound bases).words ≡ length labels.words) (all_counted : length (variables (nets bound.net) bound.bound.words) ≡ bit_count labels.words + length labels.nets) where
+module _ (k : ℕ) (mul : ℕ → ℕ → ℕ) (ring : IsRing k mul) (field : HasNoZeroDivisors k mul) (bound : BoundNet) (bases : List Basis) (sound : IsSound bound.net) (one : IsOneCycle bound.net bound.binding) (same : bound.binding.k ≡ k) (are : AreBases k mul bound bases) (labels : Labelling) (numbers : HaveNumbers k bound.net labels) (names : NameVariables bound labels)
+    (words_counted : length (circuit_in k mul bound bases).words ≡ length labels.words) (all_counted : length (variables (nets bound.net) bound.binding.words) ≡ bit_count labels.words + length labels.nets) where
   abbrev c : Circuit
   c = circuit_in k mul bound bases
 
@@ -187,7 +184,7 @@ module _ (k : ℕ) (mul : ℕ → ℕ → ℕ) (ring : IsRing k mul) (field : Ha
       let place : ℕ = step.place in
       let range = own_range k w (k * w + place) (filter_passes (is_of_word k w) t.0.bits j (k * w + place) step.at) in
       let low : w < length labels.words = omega (arith, inside, words_counted) in
-      let bits_are : (word_at labels.words w).1 ≡ k = place_bits bound.bound.k labels.words w names.words.bits low ∙ same in
+      let bits_are : (word_at labels.words w).1 ≡ k = place_bits bound.binding.k labels.words w names.words.bits low ∙ same in
       let P : Generator → Type 0 = λ g. IsWritablePair labels k (g, s.1) × IsOfNet bound.net labels g in
       subst P (sym step.generator) ((low, multiplier_named w (k * w + place) inside t is s.1 step.multiplier), (low, (let less = range.1 in omega (arith, less, bits_are))))
 

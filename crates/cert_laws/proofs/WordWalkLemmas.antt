@@ -14,9 +14,9 @@ use Rattle.poly_mixed.specs.Monomial.{Monomial}
 use Rattle.poly_mixed.specs.Polynomial.{Terms, Point, IsPoint, IsElement, IsTerm, IsReduced, term_value, value}
 use Rattle.poly_mixed.specs.Steps.{Step}
 use Rattle.poly_mixed.proofs.FieldLaws.{IsField, field_of}
-use Rattle.poly_mixed.proofs.Products.{one_term, term_value_element}
-use Rattle.poly_mixed.proofs.Simple.{reduced_nothing}
-use Rattle.poly_mixed.proofs.Values.{zero_element}
+use Rattle.poly_mixed.proofs.ProductLemmas.{one_term, term_value_element}
+use Rattle.poly_mixed.proofs.SimpleLemmas.{reduced_nothing}
+use Rattle.poly_mixed.proofs.ValueLemmas.{zero_element}
 use Rattle.circuit_model.specs.Bases.{AreBases, circuit_in}
 use Rattle.circuit_model.specs.Circuit.{Circuit}
 use Rattle.circuit_model.specs.WellFormed.{IsWellFormed}

@@ -23,5 +23,5 @@ pub record IsWritableCertificate (k : ℕ) (bound : BoundNet) (labels : Labellin
 
 -- the labels of a circuit name all that stands in its certificate
 abbrev pub IsNamed : Type 0
-IsNamed = (k : ℕ) (mul : ℕ → ℕ → ℕ) (bound : BoundNet) (bases : List Basis) (labels : Labelling) (claim : Terms) (pairs : List Step) → IsRing k mul → HasNoZeroDivisors k mul → IsSound bound.net → IsOneCycle bound.net bound.bound → bound.bound.k ≡ k → AreBases k mul bound bases → HaveNumbers k bound.net labels → NameVariables bound labels
+IsNamed = (k : ℕ) (mul : ℕ → ℕ → ℕ) (bound : BoundNet) (bases : List Basis) (labels : Labelling) (claim : Terms) (pairs : List Step) → IsRing k mul → HasNoZeroDivisors k mul → IsSound bound.net → IsOneCycle bound.net bound.binding → bound.binding.k ≡ k → AreBases k mul bound bases → HaveNumbers k bound.net labels → NameVariables bound labels
     → IsCertificateOf k mul bound bases claim pairs → IsWritableCertificate k bound labels claim pairs

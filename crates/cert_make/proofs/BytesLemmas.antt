@@ -10,8 +10,8 @@ use Rattle.poly_mixed.specs.Monomial.{Monomial}
 use Rattle.poly_mixed.specs.Polynomial.{Terms, IsElement, IsTerm, IsReduced}
 use Rattle.poly_mixed.specs.Scan.{is_digit, is_hex_digit, is_letter, is_name_byte}
 use Rattle.poly_mixed.specs.Text.{joined, hex_text, power_texts, powers_texts, variable_texts, is_none, factor_texts, term_text, text, HasNames}
-use Rattle.poly_mixed.proofs.Runs.{Passes, decimal_digits, hex_digits}
-use Rattle.poly_mixed.proofs.Spelled.{rank_spelled}
+use Rattle.poly_mixed.proofs.RunLemmas.{Passes, decimal_digits, hex_digits}
+use Rattle.poly_mixed.proofs.SpelledLemmas.{rank_spelled}
 
 name_byte : (b : ℕ) → IsNameByte b → is_name_byte b ≡ true
 name_byte b h = grind (arith, common_steps)

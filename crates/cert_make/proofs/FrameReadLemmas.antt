@@ -17,8 +17,8 @@ use Rattle.poly_mixed.specs.Token.{Token, token_front, AreFront}
 use Rattle.poly_mixed.specs.laws.TextLaw.{IsWritten}
 use Rattle.poly_mixed.specs.declared.steps.Generator.{Generator}
 use Rattle.poly_mixed.specs.declared.steps.Generator.TheVariants.{Net, Bit}
-use Rattle.poly_mixed.proofs.Runs.{Passes, Stops, run_front, after_front, drop_front, skip_none, skip_space, decimal_digits}
-use Rattle.poly_mixed.proofs.Spelled.{letter, name_front, word_at_place}
+use Rattle.poly_mixed.proofs.RunLemmas.{Passes, Stops, run_front, after_front, drop_front, skip_none, skip_space, decimal_digits}
+use Rattle.poly_mixed.proofs.SpelledLemmas.{letter, name_front, word_at_place}
 use Rattle.poly_mixed.proofs.TextLaws.{reads_back}
 use Rattle.cert_check.specs.Certificate.{PolynomialOf, MultiplierOf, MultiplierBy, shared_or, shared_by, after_hash, InWords, IsInWords}
 use Rattle.cert_check.specs.Driver.{is_driven}

@@ -15,8 +15,8 @@ use Rattle.poly_mixed.specs.Said.{net_rank, one, with_power, with_bit_of, with_p
 use Rattle.poly_mixed.specs.Text.{HasNames, HasWordNames}
 use Rattle.poly_mixed.specs.TextOutcome.{IsRead}
 use Rattle.poly_mixed.specs.laws.TextLaw.{IsWritten}
-use Rattle.poly_mixed.proofs.ReadReduced.{read_reduced}
-use Rattle.poly_mixed.proofs.Sums.{all_plus}
+use Rattle.poly_mixed.proofs.ReadReducedLemmas.{read_reduced}
+use Rattle.poly_mixed.proofs.SumLemmas.{all_plus}
 
 -- ---- what names name is there
 

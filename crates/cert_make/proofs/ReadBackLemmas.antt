@@ -1,13 +1,14 @@
 -- A written certificate is read back, line by line.
-use Rattle.std.proofs.Common.{◌≡◌, ◌≢◌, ◌∙◌, ap, sym, refl, subst, ℕ, zero, suc, ◌+◌, ◌-◌, ◌<◌, ◌≤◌, ◌^◌, ◌==◌, ◌&&◌, Bool, true, false, cond, not, List, [], ◌∷◌, ◌++◌, length, take, drop, get_or, Option, Some, None, is_some, Ok, slice_get, arith, decimal, codes, add-one, append_assoc, append-nil, nat_lt}
+use Rattle.std.proofs.Common.{◌≡◌, ◌≢◌, ◌∙◌, ap, sym, refl, subst, ℕ, zero, suc, ◌+◌, ◌-◌, ◌<◌, ◌≤◌, ◌^◌, ◌==◌, ◌&&◌, Bool, true, false, cond, not, List, [], ◌∷◌, ◌++◌, length, drop, get_or, Option, Some, None, is_some, Ok, slice_get, arith, decimal, codes, add-one, append_assoc, append-nil, nat_lt}
 use Rattle.std.specs.List.{AllByRecursion}
 use Rattle.std.specs.Option.{option_map, unwrap_or}
 use Rattle.std.specs.Str.Lines.{lines, strip_carriage_return}
-use Rattle.std.proofs.lemmas.Bool.{ne_eqb, eq-eqb, ltb-true, true≢false}
+use Rattle.std.proofs.lemmas.Bool.{eq-eqb, ltb-true, true≢false}
 use Rattle.std.proofs.lemmas.Grind.{common_steps}
 use Rattle.std.proofs.lemmas.List.{length-append}
 use Rattle.text_core.specs.Outcome.{Outcome}
 use Rattle.text_core.proofs.LineLemmas.{lines_at}
+use Rattle.graph_core.proofs.GeneralLemmas.{unequal, front_of}
 use Rattle.net_core.specs.NetList.{NetList}
 use Rattle.poly_mixed.specs.Labels.{Labelling, AreLabels, IsWord, bit_text, word_at}
 use Rattle.poly_mixed.specs.Polynomial.{Terms}
@@ -30,15 +31,8 @@ use Rattle.cert_make.proofs.SharingLemmas.{number_added}
 
 -- ---- lines
 
--- a byte of a written line
-abbrev IsByte : ℕ → Type 0
-IsByte b = (32 ≤ b) × (b ≢ 35)
-
 abbrev IsLine : List ℕ → Type 0
 IsLine line = AllByRecursion (λ b. 32 ≤ b) line
-
-unequal : (a b : ℕ) → a ≢ b → (a == b) ≡ false
-unequal a b other = ne_eqb a b other
 
 at : (bytes : List ℕ) (k : ℕ) → IsLine bytes → (get_or bytes k 0 ≢ 13) × (get_or bytes k 0 ≢ 10)
 at [] k all = ((λ e. omega (arith, e)), (λ e. omega (arith, e)))
@@ -56,10 +50,6 @@ get_front (x ∷ xs) ys (suc k) less = get_front xs ys k (omega (arith, less))
 get_end : (xs ys : List ℕ) → get_or (xs ++ 10 ∷ ys) (length xs) 0 ≡ 10
 get_end [] ys = refl
 get_end (x ∷ xs) ys = get_end xs ys
-
-front_of : (xs ys : List ℕ) → take (length xs) (xs ++ ys) ≡ xs
-front_of [] ys = refl
-front_of (x ∷ xs) ys = ap (λ (l : List ℕ). x ∷ l) (front_of xs ys)
 
 rest_of : (xs ys : List ℕ) → drop (suc (length xs)) (xs ++ 10 ∷ ys) ≡ ys
 rest_of [] ys = refl

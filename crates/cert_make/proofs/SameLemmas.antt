@@ -12,7 +12,7 @@ use Rattle.poly_mixed.specs.Monomial.{Monomial, text_cmp, text_cmp_total}
 use Rattle.poly_mixed.specs.Polynomial.{Terms}
 use Rattle.poly_mixed.specs.Text.{text}
 use Rattle.poly_mixed.specs.laws.TextLaw.{IsWritten}
-use Rattle.poly_mixed.proofs.Monomials.{text_cmp-same}
+use Rattle.poly_mixed.proofs.MonomialLemmas.{text_cmp-same}
 use Rattle.poly_mixed.proofs.TextLaws.{one_text}
 use Rattle.cert_make.specs.Sharing.{term_cmp, are_same}
 

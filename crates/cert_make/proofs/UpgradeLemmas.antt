@@ -19,8 +19,8 @@ use Rattle.poly_mixed.specs.laws.TextLaw.{IsWritten}
 use Rattle.poly_mixed.specs.declared.steps.Generator.{Generator}
 use Rattle.poly_mixed.specs.declared.steps.Generator.TheVariants.{Net, Bit}
 use Rattle.poly_mixed.proofs.FieldLaws.{field_of}
-use Rattle.poly_mixed.proofs.Roots.{independent}
-use Rattle.poly_mixed.proofs.Uniqueness.{unique}
+use Rattle.poly_mixed.proofs.RootLemmas.{independent}
+use Rattle.poly_mixed.proofs.UniquenessLemmas.{unique}
 use Rattle.cert_check.specs.Certificate.{Said, pairs, shares, ends, Certificate, begun, with_shared, with_pair, shared_or, shared_by, after_hash, MultiplierBy, MultiplierOf, ClaimOf, FirstLine, NoLine, SaidBy, AfterLine, LinesOf, CertificateBy, CertificateOf, AsksNothing}
 use Rattle.cert_check.specs.Frame.{Frame, pair_of, share_of, end_of, frame_of}
 use Rattle.cert_check.specs.Scan.{is_blank, digits_first}

@@ -8,5 +8,5 @@ use Rattle.cert_check.specs.Labels.{NameWords}
 
 -- the labels name the words of the circuit, and then its other nets
 pub record NameVariables (bound : BoundNet) (labels : Labelling) : Type 0 where
-  pub words : NameWords bound.bound labels
-  pub nets : labels.nets ≡ others (nets bound.net) (bits bound.bound.words)
+  pub words : NameWords bound.binding labels
+  pub nets : labels.nets ≡ others (nets bound.net) (bits bound.binding.words)

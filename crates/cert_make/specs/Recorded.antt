@@ -21,6 +21,6 @@ pub record IsCertificateOf (k : ℕ) (mul : ℕ → ℕ → ℕ) (bound : BoundN
   pub cuts : List Step
   pub words : List Step
   pub claims : IsOfStage k mul (IsMix (circuit_in k mul bound bases) (length (circuit_in k mul bound bases).words)) claim
-  pub are_cuts : AreCutSteps k mul bound.net (variables (nets bound.net) bound.bound.words) (output_word bound.bound.words (output_basis bound.bound.words (map elements_of bases))) (length bound.net.gates) cuts
+  pub are_cuts : AreCutSteps k mul bound.net (variables (nets bound.net) bound.binding.words) (output_word bound.binding.words (output_basis bound.binding.words (map elements_of bases))) (length bound.net.gates) cuts
   pub are_words : AreWordSteps (circuit_in k mul bound bases) words
   pub pairs_are : pairs ≡ cuts ++ words

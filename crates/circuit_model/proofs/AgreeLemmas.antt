@@ -22,7 +22,7 @@ use Rattle.circuit_model.specs.Word.{Word, IsInputWord, IsStateWord, word_nets}
 use Rattle.circuit_model.specs.Circuit.{Circuit, IsInNoWord, IsFree, IsInput}
 use Rattle.circuit_model.specs.Feeds.{fed_nets}
 use Rattle.circuit_model.specs.Job.{IsJob}
-use Rattle.circuit_model.specs.Run.{HaveElements, IsCycle, IsFirst, IsNext, IsOpenRun}
+use Rattle.circuit_model.specs.Run.{HaveElements, IsClockCycle, IsFirst, IsNext, IsOpenRun}
 use Rattle.circuit_model.proofs.GivenLemmas.{has_or}
 use Rattle.circuit_model.proofs.WordLemmas.{same_bits}
 use Rattle.circuit_model.proofs.SourceLemmas.{latch_outs, find_word, role_input, role_state, same_start, element_at}
@@ -52,7 +52,7 @@ module _ (c : Circuit) (well : IsJob c) (xs : List ℕ) (input : IsInput c xs) w
     abbrev pub AgreeOutside : List Bool → List Bool → Type 0
     AgreeOutside u v = (n : ℕ) → IsFree c n → C n → bit_of v n ≡ bit_of u n
 
-    input_same : (t : ℕ) (u v : List Bool) → IsCycle c xs t u → IsCycle c xs t v → AgreeOutside u v → (n : ℕ) → Has c.net.inputs n → C n → bit_of v n ≡ bit_of u n
+    input_same : (t : ℕ) (u v : List Bool) → IsClockCycle c xs t u → IsClockCycle c xs t v → AgreeOutside u v → (n : ℕ) → Has c.net.inputs n → C n → bit_of v n ≡ bit_of u n
     input_same t u v a b outside n has in_c =
         elim (has_or (word_nets c.words) n) [
           | inl named ↦ in_word IsInputWord u v a.inputs b.inputs n named (λ w in_words in_w. role_input c.net w.role n well.sound (well.inner w in_words) (well.places w n in_words in_w) has)
@@ -62,7 +62,7 @@ module _ (c : Circuit) (well : IsJob c) (xs : List ℕ) (input : IsInput c xs) w
           ]
         ]
 
-    first_same : (u v : List Bool) → IsCycle c xs 0 u → IsCycle c xs 0 v → IsFirst c xs u → IsFirst c xs v → AgreeOutside u v → AgreeAtSources u v
+    first_same : (u v : List Bool) → IsClockCycle c xs 0 u → IsClockCycle c xs 0 v → IsFirst c xs u → IsFirst c xs v → AgreeOutside u v → AgreeAtSources u v
     first_same u v cu cv a b outside n source in_c =
         elim (Has_cases c.net.inputs (latch_outs c.net) n source) [
           | inl has ↦ input_same 0 u v cu cv outside n has in_c
@@ -78,7 +78,7 @@ module _ (c : Circuit) (well : IsJob c) (xs : List ℕ) (input : IsInput c xs) w
           ]
         ]
 
-    next_same : (t : ℕ) (p q u v : List Bool) → Agree p q → IsCycle c xs t u → IsCycle c xs t v → IsNext c p u → IsNext c q v → AgreeOutside u v → AgreeAtSources u v
+    next_same : (t : ℕ) (p q u v : List Bool) → Agree p q → IsClockCycle c xs t u → IsClockCycle c xs t v → IsNext c p u → IsNext c q v → AgreeOutside u v → AgreeAtSources u v
     next_same t p q u v before cu cv a b outside n source in_c =
         elim (Has_cases c.net.inputs (latch_outs c.net) n source) [
           | inl has ↦ input_same t u v cu cv outside n has in_c
@@ -104,7 +104,7 @@ module _ (c : Circuit) (well : IsJob c) (xs : List ℕ) (input : IsInput c xs) w
               sym (ap (bit_of v) found.2) ∙ (cv.gates g found.1 ∙ (ap (λ i. bit_at g.table i == 1) index ∙ (sym (cu.gates g found.1) ∙ ap (bit_of u) found.2)))
         ]
 
-    cycle_same : (t : ℕ) (u v : List Bool) → IsCycle c xs t u → IsCycle c xs t v → AgreeAtSources u v → Agree u v
+    cycle_same : (t : ℕ) (u v : List Bool) → IsClockCycle c xs t u → IsClockCycle c xs t v → AgreeAtSources u v → Agree u v
     cycle_same t u v a b same n less in_c =
         let levels = sound_levels c.net well.sound in
         let l = some_level c.net levels.0 well.sound.one levels.1 n less in

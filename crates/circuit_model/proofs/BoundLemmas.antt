@@ -3,6 +3,7 @@ use Rattle.std.proofs.Common.{◌≡◌, ◌∙◌, ap, sym, refl, subst, inl, i
 use Rattle.std.specs.Prelude.{filter, not}
 use Rattle.std.proofs.lemmas.List.{append-nil}
 use Rattle.graph_core.specs.Walk.{IsChain}
+use Rattle.graph_core.proofs.GeneralLemmas.{none_at}
 use Rattle.net_core.specs.LatchValue.{LatchValue}
 use Rattle.net_core.specs.NetList.{NetList}
 use Rattle.net_core.specs.Sound.{IsSound, Needs}
@@ -51,9 +52,6 @@ count_of (w ∷ ws) (b ∷ bs) long = count_with w.role w.nets b (words_of ws bs
 pub only_one : {X : Type 0} (x y : X) → Has (x ∷ []) y → x ≡ y
 only_one x y (zero, got) = cc
 only_one x y (suc k, got) = absurd (cc)
-
-pub none_at : {X : Type 0} (y : X) → Has [] y → ⊥
-none_at y has = let got = has.1 in absurd (cc)
 
 -- a word is that of a bound word, with its basis
 find_bound : (words : List BoundWord) (bases : List (List ℕ)) (w : Word) → Has (words_of words bases) w → (word : BoundWord) × (basis : List ℕ) × Has words word × Has bases basis × Has (word_with word.role word.nets basis) w
@@ -122,27 +120,27 @@ find_output (w ∷ ws) (b ∷ bs) long one = by w.role refl one (find_output ws 
     by Fed is one rest = let found = rest one in (found.0, (suc found.1.0, found.1.1), (suc found.2.0, found.2.1), found.3, found.4)
     by Output is one rest = (w, (0, refl), (0, refl), is, ap (λ ns. w.nets ++ ns) (no_output_bits ws (omega arith)) ∙ append-nil w.nets)
 
-module _ (k : ℕ) (product : ℕ → ℕ → ℕ) (bound : BoundNet) (bases : List (List ℕ)) (is : IsOneCycle bound.net bound.bound) (same : bound.bound.k ≡ k) (based : HaveBases k bound.bound.words bases) where
-  long_nets : (word : BoundWord) → Has bound.bound.words word → length word.nets ≡ k
-  long_nets word has = All_has (λ (w : BoundWord). length w.nets ≡ bound.bound.k) bound.bound.words word is.flat.named has ∙ same
+module _ (k : ℕ) (product : ℕ → ℕ → ℕ) (bound : BoundNet) (bases : List (List ℕ)) (is : IsOneCycle bound.net bound.binding) (same : bound.binding.k ≡ k) (based : HaveBases k bound.binding.words bases) where
+  long_nets : (word : BoundWord) → Has bound.binding.words word → length word.nets ≡ k
+  long_nets word has = All_has (λ (w : BoundWord). length w.nets ≡ bound.binding.k) bound.binding.words word is.flat.named has ∙ same
 
-  unnamed : (n : ℕ) → (Has (word_nets (words_of bound.bound.words bases)) n → ⊥) → Has (bits bound.bound.words) n → ⊥
-  unnamed n none has = let P : List ℕ → Type 0 = λ ns. Has ns n in none (subst P (sym (word_nets_of bound.bound.words bases based.long)) has)
+  unnamed : (n : ℕ) → (Has (word_nets (words_of bound.binding.words bases)) n → ⊥) → Has (bits bound.binding.words) n → ⊥
+  unnamed n none has = let P : List ℕ → Type 0 = λ ns. Has ns n in none (subst P (sym (word_nets_of bound.binding.words bases based.long)) has)
 
-  output : IsOutputWord bound.bound.words bases (output_bits bound.bound.words) (output_basis bound.bound.words bases)
-  output = find_output bound.bound.words bases based.long is.parts.one
+  output : IsOutputWord bound.binding.words bases (output_bits bound.binding.words) (output_basis bound.binding.words bases)
+  output = find_output bound.binding.words bases based.long is.parts.one
 
-  output_long : length (output_bits bound.bound.words) ≡ k
+  output_long : length (output_bits bound.binding.words) ≡ k
   unfolding output
   output_long = ap length output.4 ∙ long_nets output.0 output.1
 
-  held : (w : Word) (n : ℕ) → Has (words_of bound.bound.words bases) w → Has w.nets n → Has bound.net.inputs n
+  held : (w : Word) (n : ℕ) → Has (words_of bound.binding.words bases) w → Has w.nets n → Has bound.net.inputs n
   held w n has in_w =
       let P : List ℕ → Type 0 = λ ns. Has ns n in
-      is.inputs n (subst P (word_nets_of bound.bound.words bases based.long) (word_has (words_of bound.bound.words bases) w n has in_w))
+      is.inputs n (subst P (word_nets_of bound.binding.words bases based.long) (word_has (words_of bound.binding.words bases) w n has in_w))
 
-  input : (w : Word) → Has (words_of bound.bound.words bases) w → w.role ≡ Input
-  input w has = let found = find_bound bound.bound.words bases w has in is_input found.0.role found.0.nets found.1 w found.4
+  input : (w : Word) → Has (words_of bound.binding.words bases) w → w.role ≡ Input
+  input w has = let found = find_bound bound.binding.words bases w has in is_input found.0.role found.0.nets found.1 w found.4
 
   pub bound_well : IsRing k product → HasNoZeroDivisors k product → IsSound bound.net → IsWellFormed (circuit_with k product bound bases)
   unfolding output
@@ -151,14 +149,14 @@ module _ (k : ℕ) (product : ℕ → ℕ → ℕ) (bound : BoundNet) (bases : L
     no_zero_divisors = no_zero_divisors;
     sound = sound;
     unfed = refl;
-    few = omega (arith, is.parts.few, count_of bound.bound.words bases based.long);
-    words = λ w has. let found = find_bound bound.bound.words bases w has in fits k found.0.role found.0.nets found.1 w (long_nets found.0 found.2) (based.each found.1 found.3) found.4;
-    once = λ n. let P : List ℕ → Type 0 = λ ns. times n ns ≤ 1 in subst P (sym (word_nets_of bound.bound.words bases based.long)) (is.once n);
+    few = omega (arith, is.parts.few, count_of bound.binding.words bases based.long);
+    words = λ w has. let found = find_bound bound.binding.words bases w has in fits k found.0.role found.0.nets found.1 w (long_nets found.0 found.2) (based.each found.1 found.3) found.4;
+    once = λ n. let P : List ℕ → Type 0 = λ ns. times n ns ≤ 1 in subst P (sym (word_nets_of bound.binding.words bases based.long)) (is.once n);
     inner = λ w has other. let same : Input ≡ Output = sym (input w has) ∙ other in absurd (cc);
     places = λ w n has in_w. let P : Role → Type 0 = λ r. StandsOn bound.net r n in subst P (sym (input w has)) (held w n has in_w);
-    output = record { nets = output_long; basis = based.each (output_basis bound.bound.words bases) output.2 };
+    output = record { nets = output_long; basis = based.each (output_basis bound.binding.words bases) output.2 };
     output_role = refl;
     output_nets = is.outputs;
     starts = λ l has none. let P : List LatchValue → Type 0 = λ ls. Has ls l in absurd (none_at l (subst P is.flat.latches has));
-    covered = λ n has none reaches. is.closed n has (unnamed n none) (reach_gates bound.net is.flat.latches n (output_bits bound.bound.words) reaches);
+    covered = λ n has none reaches. is.closed n has (unnamed n none) (reach_gates bound.net is.flat.latches n (output_bits bound.binding.words) reaches);
   }

@@ -9,9 +9,10 @@ use Rattle.std.specs.FinMap.{nat_cmp-IsAntisymmetric, slice_cmp-IsAntisymmetric}
 use Rattle.std.proofs.lemmas.Bool.{lt-ltb}
 use Rattle.circuit_model.specs.Circuit.{Circuit}
 use Rattle.circuit_model.specs.Differing.{Differ, IsDifferingInput, AreSame, Difference, IsComparison}
-use Rattle.circuit_model.specs.InputOrder.{AreOrdered, IsFunction, HasOneDifferingInput}
+use Rattle.circuit_model.specs.InputOrder.{AreOrdered, HasOneDifferingInput}
 use Rattle.circuit_model.specs.Ones.{AreOnes, ones_cmp, ones_cmp_total}
 use Rattle.circuit_model.specs.WellFormed.{IsWellFormed}
+use Rattle.circuit_model.proofs.Functions.{IsFunction}
 use Rattle.circuit_model.proofs.OnesLemmas.{one_input}
 
 -- ---- the order

@@ -11,7 +11,7 @@ use Rattle.net_words.specs.declared.word.Role.{Role}
 use Rattle.net_words.specs.declared.word.Role.TheVariants.{Input, Output}
 use Rattle.circuit_model.specs.Word.{Word, HasElement, word_nets}
 use Rattle.circuit_model.specs.Circuit.{Circuit, IsFed, IsInNoWord}
-use Rattle.circuit_model.specs.Run.{IsRun, IsCycle, HasZeros}
+use Rattle.circuit_model.specs.Run.{IsRun, IsClockCycle, HasZeros}
 use Rattle.circuit_model.specs.Out.{IsOut}
 
 abbrev pub word : Role → List ℕ → List ℕ → Word
@@ -108,7 +108,7 @@ module _ (a b : Bool) where
       elements x (suc zero, got) = let is : element b ≡ x = cc in rw (← is) (below_two b)
       elements x (suc (suc k), got) = absurd (cc)
 
-      each : (t : ℕ) (bits : List Bool) → slice_get (bits_at a b ∷ []) t ≡ Some bits → IsCycle and_circuit (element a ∷ element b ∷ []) t bits
+      each : (t : ℕ) (bits : List Bool) → slice_get (bits_at a b ∷ []) t ≡ Some bits → IsClockCycle and_circuit (element a ∷ element b ∷ []) t bits
       each t bits got = rw (← only_bits (bits_at a b) t bits got) (record { consistent = record { long = refl; gates = gates_are_right a b }; inputs = λ i w x at one role. have_elements i w x at one; feeds = λ n fed. absurd (no_feed n fed) })
 
       zeros : (t : ℕ) (bits : List Bool) → slice_get (bits_at a b ∷ []) t ≡ Some bits → HasZeros and_circuit bits

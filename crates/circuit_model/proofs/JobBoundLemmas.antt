@@ -7,6 +7,7 @@ use Rattle.net_core.specs.Sound.{IsSound}
 use Rattle.net_core.specs.Lists.{Has, times}
 use Rattle.net_core.proofs.DriverLemmas.{Has_cases, All_has, from_map}
 use Rattle.graph_core.proofs.ListLemmas.{get_below}
+use Rattle.graph_core.proofs.GeneralLemmas.{none_at}
 use Rattle.net_words.specs.Binding.{BoundNet, HasWidth}
 use Rattle.net_words.specs.BoundTo.{IsBoundTo, StandsOn, output_bits}
 use Rattle.net_words.specs.Feeds.{IsSource as IsBoundSource, fed_nets as bound_fed_nets}
@@ -28,7 +29,7 @@ use Rattle.circuit_model.specs.Word.{Word, IsFedWord, word_nets}
 use Rattle.circuit_model.specs.OfBinding.{output_basis, HaveBases}
 use Rattle.circuit_model.specs.JobOfBinding.{job_word_with, job_words_of, inner_number, inner_source, job_feed, job_with}
 use Rattle.circuit_model.specs.Job.{IsJob, IsJobWord, IsFeed, IsSource, net_count}
-use Rattle.circuit_model.proofs.BoundLemmas.{only_one, none_at, IsOutputWord, find_output}
+use Rattle.circuit_model.proofs.BoundLemmas.{only_one, IsOutputWord, find_output}
 use Rattle.circuit_model.proofs.SourceLemmas.{find_word, role_input}
 
 nets_with : (r : Role) (ns basis : List ℕ) (ws : List Word) (rest : List ℕ) → word_nets ws ≡ rest → word_nets (job_word_with r ns basis ++ ws) ≡ bits_with r ns ++ rest
@@ -135,24 +136,24 @@ fed_same : (words : List BoundWord) (feeds : List Feed) → fed_nets (map (job_f
 fed_same words [] = refl
 fed_same words (f ∷ fs) = ap (λ ns. f.net ∷ ns) (fed_same words fs)
 
-module _ (k : ℕ) (product : ℕ → ℕ → ℕ) (bound : BoundNet) (bases : List (List ℕ)) (cycles : ℕ) (is : IsBoundTo bound.net bound.bound) (same : bound.bound.k ≡ k) (based : HaveBases k bound.bound.words bases) (sound : IsSound bound.net) where
+module _ (k : ℕ) (product : ℕ → ℕ → ℕ) (bound : BoundNet) (bases : List (List ℕ)) (cycles : ℕ) (is : IsBoundTo bound.net bound.binding) (same : bound.binding.k ≡ k) (based : HaveBases k bound.binding.words bases) (sound : IsSound bound.net) where
   words : List Word
-  words = job_words_of bound.bound.words bases
+  words = job_words_of bound.binding.words bases
 
   some : 1 ≤ k
   some = omega (arith, same, is.parts.some)
 
-  wide : (word : BoundWord) → Has bound.bound.words word → HasWidth k word
-  wide word has = let P : ℕ → Type 0 = λ j. HasWidth j word in subst P same (All_has (HasWidth bound.bound.k) bound.bound.words word is.parts.each has)
+  wide : (word : BoundWord) → Has bound.binding.words word → HasWidth k word
+  wide word has = let P : ℕ → Type 0 = λ j. HasWidth j word in subst P same (All_has (HasWidth bound.binding.k) bound.binding.words word is.parts.each has)
 
-  unnamed : (n : ℕ) → (Has (word_nets words) n → ⊥) → Has (bits bound.bound.words) n → ⊥
+  unnamed : (n : ℕ) → (Has (word_nets words) n → ⊥) → Has (bits bound.binding.words) n → ⊥
   unfolding words
-  unnamed n none has = let P : List ℕ → Type 0 = λ ns. Has ns n in none (subst P (sym (job_nets_of bound.bound.words bases based.long)) has)
+  unnamed n none has = let P : List ℕ → Type 0 = λ ns. Has ns n in none (subst P (sym (job_nets_of bound.binding.words bases based.long)) has)
 
   fits : (w : Word) → Has words w → IsJobWord k w
   unfolding words IsKept
   fits w has =
-      let found = find_bound bound.bound.words bases w has in
+      let found = find_bound bound.binding.words bases w has in
       let keeps = kept found.0.role found.0.nets found.1 w found.4 in
       let long = width bound.net k found.0.role found.0.nets some (wide found.0 found.2) (λ n in_it. is.places found.0 n found.2 in_it) in
       let P : List ℕ → Type 0 = IsBasis k in
@@ -161,43 +162,43 @@ module _ (k : ℕ) (product : ℕ → ℕ → ℕ) (bound : BoundNet) (bases : L
   inner : (w : Word) → Has words w → w.role ≡ Output → ⊥
   unfolding words IsKept
   inner w has other =
-      let found = find_bound bound.bound.words bases w has in
+      let found = find_bound bound.binding.words bases w has in
       let keeps = kept found.0.role found.0.nets found.1 w found.4 in
       keeps.3 (sym keeps.0 ∙ other)
 
   places : (w : Word) (n : ℕ) → Has words w → Has w.nets n → StandsOn bound.net w.role n
   unfolding words IsKept
   places w n has in_w =
-      let found = find_bound bound.bound.words bases w has in
+      let found = find_bound bound.binding.words bases w has in
       let keeps = kept found.0.role found.0.nets found.1 w found.4 in
       let P : List ℕ → Type 0 = λ ns. Has ns n in
       let Q : Role → Type 0 = λ r. StandsOn bound.net r n in
       subst Q (sym keeps.0) (is.places found.0 n found.2 (subst P keeps.1 in_w))
 
   -- a primary input in no input word is in no word
-  outside : (n : ℕ) → Has bound.net.inputs n → in_word Input bound.bound.words n ≡ false → Has (word_nets words) n → ⊥
+  outside : (n : ℕ) → Has bound.net.inputs n → in_word Input bound.binding.words n ≡ false → Has (word_nets words) n → ⊥
   unfolding words IsKept
   outside n input unheld has =
       let at = find_word words n has in
       let in_words : Has words at.1 = (at.0, at.2) in
       let role : at.1.role ≡ Input = role_input bound.net at.1.role n sound (inner at.1 in_words) (places at.1 n in_words at.3) input in
-      let found = find_bound bound.bound.words bases at.1 in_words in
+      let found = find_bound bound.binding.words bases at.1 in_words in
       let keeps = kept found.0.role found.0.nets found.1 at.1 found.4 in
       let P : List ℕ → Type 0 = λ ns. Has ns n in
-      true≢false (sym (in_word_has Input bound.bound.words found.0 n found.2 (subst P keeps.1 at.3) (sym keeps.0 ∙ role)) ∙ unheld)
+      true≢false (sym (in_word_has Input bound.binding.words found.0 n found.2 (subst P keeps.1 at.3) (sym keeps.0 ∙ role)) ∙ unheld)
 
-  source : (s : Source) → IsBoundSource bound.bound.k (map (λ (word : BoundWord). word.role) bound.bound.words) s → IsSource k words (inner_source bound.bound.words s)
+  source : (s : Source) → IsBoundSource bound.binding.k (map (λ (word : BoundWord). word.role) bound.binding.words) s → IsSource k words (inner_source bound.binding.words s)
   unfolding words
   source Zero fine = tt
   source One fine = tt
-  source (Bit w place) fine = (omega (arith, same, fine.0), source_word bound.bound.words bases based.long w fine.1)
+  source (Bit w place) fine = (omega (arith, same, fine.0), source_word bound.binding.words bases based.long w fine.1)
 
-  output : IsOutputWord bound.bound.words bases (output_bits bound.bound.words) (output_basis bound.bound.words bases)
-  output = find_output bound.bound.words bases based.long is.parts.one
+  output : IsOutputWord bound.binding.words bases (output_bits bound.binding.words) (output_basis bound.binding.words bases)
+  output = find_output bound.binding.words bases based.long is.parts.one
 
-  output_inside : (n : ℕ) → Has (output_bits bound.bound.words) n → n < nets bound.net
+  output_inside : (n : ℕ) → Has (output_bits bound.binding.words) n → n < nets bound.net
   output_inside n has =
-      let found = output_bits_word bound.bound.words n has in
+      let found = output_bits_word bound.binding.words n has in
       let P : Role → Type 0 = λ r. StandsOn bound.net r n in
       let stands : StandsOn bound.net Output n = subst P found.3 (is.places found.0 n found.1 found.2) in
       stands
@@ -208,19 +209,19 @@ module _ (k : ℕ) (product : ℕ → ℕ → ℕ) (bound : BoundNet) (bases : L
     ring = ring;
     no_zero_divisors = no_zero_divisors;
     sound = sound;
-    few = omega (arith, is.parts.few, job_count_of bound.bound.words bases based.long);
+    few = omega (arith, is.parts.few, job_count_of bound.binding.words bases based.long);
     words = fits;
     inner = inner;
-    once = λ n. let P : List ℕ → Type 0 = λ ns. times n ns ≤ 1 in subst P (sym (job_nets_of bound.bound.words bases based.long)) (is.once n);
+    once = λ n. let P : List ℕ → Type 0 = λ ns. times n ns ≤ 1 in subst P (sym (job_nets_of bound.binding.words bases based.long)) (is.once n);
     places = places;
-    output = record { nets = ap length output.4 ∙ output_width k output.0 (wide output.0 output.1) output.3; basis = based.each (output_basis bound.bound.words bases) output.2 };
+    output = record { nets = ap length output.4 ∙ output_width k output.0 (wide output.0 output.1) output.3; basis = based.each (output_basis bound.binding.words bases) output.2 };
     output_role = refl;
     output_nets = output_inside;
     feeds = λ feed has.
-        let found = from_map (job_feed bound.bound.words) bound.bound.feeds has.0 feed has.1 in
+        let found = from_map (job_feed bound.binding.words) bound.binding.feeds has.0 feed has.1 in
         let fine = is.feeds found.0 (has.0, found.1) in
         let P : CircuitFeed → Type 0 = IsFeed (job_with k product bound bases cycles) in
         subst P found.2 (record { input = fine.input; unnamed = outside found.0.net fine.input fine.unheld; source = source found.0.source fine.source });
     starts = λ l has none. is.starts l has (unnamed l.out none);
-    covered = λ n free. is.covered n free.input (unnamed n free.unnamed) (λ fed. let P : List ℕ → Type 0 = λ ns. Has ns n in free.unfed (subst P (sym (fed_same bound.bound.words bound.bound.feeds)) fed));
+    covered = λ n free. is.covered n free.input (unnamed n free.unnamed) (λ fed. let P : List ℕ → Type 0 = λ ns. Has ns n in free.unfed (subst P (sym (fed_same bound.binding.words bound.binding.feeds)) fed));
   }

@@ -18,7 +18,7 @@ use Rattle.circuit_model.specs.declared.circuit_feed.FeedSource.TheVariants.{Bit
 use Rattle.circuit_model.specs.Feeds.{source_at}
 use Rattle.circuit_model.specs.Word.{Word, HasElement}
 use Rattle.circuit_model.specs.Circuit.{Circuit}
-use Rattle.circuit_model.specs.Run.{HasSource, IsStart, IsCycle, IsFirst, IsNext, IsRun}
+use Rattle.circuit_model.specs.Run.{HasSource, IsStart, IsClockCycle, IsFirst, IsNext, IsRun}
 use Rattle.circuit_model.specs.Out.{IsOut}
 use Rattle.circuit_model.proofs.Examples.{word, named, element}
 
@@ -70,7 +70,7 @@ module _ (a : Bool) where
   abbrev xs : List ℕ
   xs = element a ∷ []
 
-  cycle_at : (t : ℕ) (bits : List Bool) → length bits ≡ 2 → HasSource job.words xs (source_at job.feeds 0 t) (bit_of bits 0) → IsCycle job xs t bits
+  cycle_at : (t : ℕ) (bits : List Bool) → length bits ≡ 2 → HasSource job.words xs (source_at job.feeds 0 t) (bit_of bits 0) → IsClockCycle job xs t bits
   cycle_at t bits long right = record {
     consistent = record { long = long; gates = λ g has. absurd (no_gate g has) };
     inputs = λ i w x got at is. let e : Fed ≡ Input = only_fed i w Input got is in absurd (cc);
@@ -89,10 +89,10 @@ module _ (a : Bool) where
       let Q : ℕ → Type 0 = λ y. AreBits (1 ∷ []) y d in
       chosen_bit a d (subst Q (sym equal) (subst P (sym same) chosen))
 
-  each : (t : ℕ) (bits : List Bool) → slice_get (run_at a) t ≡ Some bits → IsCycle job xs t bits
-  each zero bits got = let same : a ∷ true ∷ [] ≡ bits = cc in let P : List Bool → Type 0 = IsCycle job xs 0 in subst P same (cycle_at 0 (a ∷ true ∷ []) refl first_source)
-  each (suc zero) bits got = let same : false ∷ a ∷ [] ≡ bits = cc in let P : List Bool → Type 0 = IsCycle job xs 1 in subst P same (cycle_at 1 (false ∷ a ∷ []) refl refl)
-  each (suc (suc zero)) bits got = let same : false ∷ false ∷ [] ≡ bits = cc in let P : List Bool → Type 0 = IsCycle job xs 2 in subst P same (cycle_at 2 (false ∷ false ∷ []) refl refl)
+  each : (t : ℕ) (bits : List Bool) → slice_get (run_at a) t ≡ Some bits → IsClockCycle job xs t bits
+  each zero bits got = let same : a ∷ true ∷ [] ≡ bits = cc in let P : List Bool → Type 0 = IsClockCycle job xs 0 in subst P same (cycle_at 0 (a ∷ true ∷ []) refl first_source)
+  each (suc zero) bits got = let same : false ∷ a ∷ [] ≡ bits = cc in let P : List Bool → Type 0 = IsClockCycle job xs 1 in subst P same (cycle_at 1 (false ∷ a ∷ []) refl refl)
+  each (suc (suc zero)) bits got = let same : false ∷ false ∷ [] ≡ bits = cc in let P : List Bool → Type 0 = IsClockCycle job xs 2 in subst P same (cycle_at 2 (false ∷ false ∷ []) refl refl)
   each (suc (suc (suc t))) bits got = absurd (cc)
 
   start : (l : LatchValue) → Has job.net.latches l → IsStart l.start (bit_of (a ∷ true ∷ []) l.out)

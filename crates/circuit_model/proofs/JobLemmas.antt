@@ -5,16 +5,14 @@ use Rattle.net_words.specs.BoundTo.{StandsOn}
 use Rattle.net_words.specs.declared.word.Role.{Role}
 use Rattle.net_words.specs.declared.word.Role.TheVariants.{Input, State, Fed, Output}
 use Rattle.graph_core.proofs.ListLemmas.{get_below}
+use Rattle.graph_core.proofs.GeneralLemmas.{none_at as none_of}
 use Rattle.circuit_model.specs.declared.circuit_feed.CircuitFeed.{CircuitFeed}
 use Rattle.circuit_model.specs.Feeds.{fed_nets}
 use Rattle.circuit_model.specs.Word.{Word, HasElement}
 use Rattle.circuit_model.specs.Circuit.{Circuit}
 use Rattle.circuit_model.specs.WellFormed.{IsWellFormed}
 use Rattle.circuit_model.specs.Job.{IsJob, net_count}
-use Rattle.circuit_model.specs.Run.{HaveElements, IsAnyWord, IsCycle, IsFirst}
-
-none_of : {X : Type 0} (x : X) → Has [] x → ⊥
-none_of x has = let got = has.1 in absurd (cc)
+use Rattle.circuit_model.specs.Run.{HaveElements, IsAnyWord, IsClockCycle, IsFirst}
 
 -- a word that is not fed has a net for each bit
 counted : (k : ℕ) (r : Role) → r ≢ Fed → net_count k r ≡ k
@@ -70,7 +68,7 @@ pub well_formed_job : (c : Circuit) → IsWellFormed c ↔ (IsJob c × (c.feeds 
 well_formed_job c = ((λ well. (job_of c well, well.unfed, no_fed_word c well)), λ is. well_of c is.0 is.1 is.2)
 
 -- in the first cycle each word of a well-formed circuit has its element
-pub first_elements : (c : Circuit) (xs : List ℕ) (bits : List Bool) → IsWellFormed c → IsCycle c xs 0 bits → IsFirst c xs bits → HaveElements c IsAnyWord xs bits
+pub first_elements : (c : Circuit) (xs : List ℕ) (bits : List Bool) → IsWellFormed c → IsClockCycle c xs 0 bits → IsFirst c xs bits → HaveElements c IsAnyWord xs bits
 first_elements c xs bits well cycle first i w x got at any = by w.role refl
   where
     by : (r : Role) → w.role ≡ r → HasElement bits w x

@@ -1,3 +1,4 @@
+pub mod Functions
 pub mod AgreeLemmas
 pub mod BitLemmas
 pub mod BoundLemmas
@@ -12,6 +13,8 @@ pub mod OneRunLemmas
 pub mod OnesLemmas
 pub mod OutLemmas
 pub mod OutputBasisLemmas
+pub mod OutputNetsLemmas
+pub mod PlaceLemmas
 pub mod PlainLemmas
 pub mod SliceLemmas
 pub mod SomeRunLemmas

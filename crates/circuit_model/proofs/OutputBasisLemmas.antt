@@ -1,5 +1,5 @@
 -- The basis of the output word, out of those of all words of a binding.
-use Rattle.std.proofs.Common.{◌≡◌, ◌≢◌, ◌∙◌, ap, sym, refl, subst, ℕ, zero, suc, ◌<◌, ◌+◌, true, false, cond, List, [], ◌∷◌, length, map, drop, filter, Some, arith}
+use Rattle.std.proofs.Common.{◌≡◌, ◌≢◌, ◌∙◌, ap, sym, refl, subst, ℕ, zero, suc, ◌+◌, true, false, cond, List, [], ◌∷◌, length, map, drop, filter, Some, arith}
 use Rattle.std.specs.Prelude.{slice_get}
 use Rattle.net_words.specs.Roles.{same_role}
 use Rattle.net_words.specs.declared.bound.BoundWord.{BoundWord}
@@ -8,11 +8,6 @@ use Rattle.net_words.specs.declared.word.Role.TheVariants.{Input, State, Fed, Ou
 use Rattle.gf_basis.specs.BasisParts.{elements_of}
 use Rattle.gf_basis.specs.declared.bases.Basis.{Basis}
 use Rattle.circuit_model.specs.OfBinding.{output_basis, output_basis_with}
-
-pub some_at : {A : Type 0} (xs : List A) (i : ℕ) → i < length xs → (x : A) × (slice_get xs i ≡ Some x)
-some_at [] i less = absurd (omega arith)
-some_at (x ∷ xs) zero less = (x, refl)
-some_at (x ∷ xs) (suc i) less = some_at xs i (omega arith)
 
 at_word : (words : List BoundWord) (bases : List Basis) (w : ℕ) (word : BoundWord) (basis : Basis) → slice_get words w ≡ Some word → slice_get bases w ≡ Some basis
     → output_basis (drop w words) (drop w (map elements_of bases)) ≡ output_basis_with word.role (elements_of basis) (output_basis (drop (suc w) words) (drop (suc w) (map elements_of bases)))

@@ -21,7 +21,7 @@ use Rattle.circuit_model.specs.declared.circuit_word.CircuitWord.{CircuitWord}
 use Rattle.circuit_model.specs.Word.{Word, HasElement, word_nets}
 use Rattle.circuit_model.specs.Circuit.{Circuit, IsFed}
 use Rattle.circuit_model.specs.WellFormed.{IsWellFormed, IsWord}
-use Rattle.circuit_model.specs.Run.{HaveElements, IsInputWord, IsStateWord, IsCycle, IsFirst, HasZeros}
+use Rattle.circuit_model.specs.Run.{HaveElements, IsInputWord, IsStateWord, IsClockCycle, IsFirst, HasZeros}
 use Rattle.circuit_model.specs.Out.{IsOut}
 use Rattle.circuit_model.specs.Flat.{word_of, circuit_of_parts}
 use Rattle.circuit_model.specs.private.Found.{HaveAll, HaveZeros, HaveBits}
@@ -111,7 +111,7 @@ module _ (k : ℕ) (product : ℕ → ℕ → ℕ) (net : NetList) (words : List
       open_run = record {
         input = record { long = many ∙ sym (length-map words word_of); elements = elements };
         long = refl;
-        each = λ t b got. one_at (IsCycle circuit xs t) (record { consistent = consistent; inputs = all_words (IsInputWord) have; feeds = λ n fed. absurd (no_feed n fed) }) t b got;
+        each = λ t b got. one_at (IsClockCycle circuit xs t) (record { consistent = consistent; inputs = all_words (IsInputWord) have; feeds = λ n fed. absurd (no_feed n fed) }) t b got;
         first = λ b got. one_at (IsFirst circuit xs) (record { states = all_words IsStateWord have; latches = λ l in_net. absurd (no_latch flat l in_net) }) 0 b got;
         next = λ t u b at_u at_b. absurd (no_next t b at_b);
       };

@@ -16,7 +16,7 @@ use Rattle.circuit_model.specs.Feeds.{source_at}
 use Rattle.circuit_model.specs.Word.{Word, word_nets, IsInputWord, IsStateWord}
 use Rattle.circuit_model.specs.Circuit.{Circuit, IsInNoWord, IsFed, IsInput}
 use Rattle.circuit_model.specs.Job.{IsJob, IsJobWord, net_count}
-use Rattle.circuit_model.specs.Run.{HasSource, IsCycle, IsFirst, IsNext, HasZeros, IsStart, IsRun}
+use Rattle.circuit_model.specs.Run.{HasSource, IsClockCycle, IsFirst, IsNext, HasZeros, IsStart, IsRun}
 use Rattle.circuit_model.proofs.GivenLemmas.{Pairs, keys, given, given_not, given_has, bits_by, bits_long, bits_at}
 use Rattle.circuit_model.proofs.WordLemmas.{has_word}
 use Rattle.circuit_model.proofs.ChoiceLemmas.{choose, GiveElements}
@@ -120,7 +120,7 @@ module _ (c : Circuit) (well : IsJob c) (xs : List ℕ) (input : IsInput c xs) (
   state_long w has is = long_word w has (ap (net_count c.k) is)
 
   -- where the inputs have their first bits, the input words have their elements and the other inputs are fed or 0
-  cycle_of : (t : ℕ) (bits : List Bool) → IsConsistent c.net bits → ((n : ℕ) → Has c.net.inputs n → bit_of bits n ≡ first_bits t n) → IsCycle c xs t bits × HasZeros c bits
+  cycle_of : (t : ℕ) (bits : List Bool) → IsConsistent c.net bits → ((n : ℕ) → Has c.net.inputs n → bit_of bits n ≡ first_bits t n) → IsClockCycle c xs t bits × HasZeros c bits
   cycle_of t bits consistent same = (
     record {
       consistent = consistent;
@@ -133,7 +133,7 @@ module _ (c : Circuit) (well : IsJob c) (xs : List ℕ) (input : IsInput c xs) (
     λ n free. same n free.input ∙ (other_bit t n free.input free.unnamed ∙ other_zero t n free.unfed),
   )
 
-  first : (bits : List Bool) × IsCycle c xs 0 bits × HasZeros c bits × IsFirst c xs bits
+  first : (bits : List Bool) × IsClockCycle c xs 0 bits × HasZeros c bits × IsFirst c xs bits
   first =
       let found = settle (first_bits 0) in
       let cycle = cycle_of 0 found.0 found.1 (λ n has. found.2 n (input_source n has)) in (
@@ -150,7 +150,7 @@ module _ (c : Circuit) (well : IsJob c) (xs : List ℕ) (input : IsInput c xs) (
         },
       )
 
-  next : (t : ℕ) (before : List Bool) → (bits : List Bool) × IsCycle c xs t bits × HasZeros c bits × IsNext c before bits
+  next : (t : ℕ) (before : List Bool) → (bits : List Bool) × IsClockCycle c xs t bits × HasZeros c bits × IsNext c before bits
   next t before =
       let f : ℕ → Bool = latched (λ l. bit_of before l.next) (first_bits t) in
       let found = settle f in
@@ -166,7 +166,7 @@ module _ (c : Circuit) (well : IsJob c) (xs : List ℕ) (input : IsInput c xs) (
   -- cycles from t on that follow another
   abbrev AreLater : ℕ → List Bool → List (List Bool) → Type 0
   AreLater t before [] = Unit {0}
-  AreLater t before (bits ∷ run) = IsCycle c xs t bits × HasZeros c bits × IsNext c before bits × AreLater (suc t) bits run
+  AreLater t before (bits ∷ run) = IsClockCycle c xs t bits × HasZeros c bits × IsNext c before bits × AreLater (suc t) bits run
 
   later : (m t : ℕ) (before : List Bool) → (run : List (List Bool)) × (length run ≡ m) × AreLater t before run
   later zero t before = ([], refl, tt)
@@ -175,13 +175,13 @@ module _ (c : Circuit) (well : IsJob c) (xs : List ℕ) (input : IsInput c xs) (
       let rest = later m (suc t) now.0 in
       (now.0 ∷ rest.0, ap suc rest.1, (now.1, now.2, now.3, rest.2))
 
-  later_each : (t : ℕ) (before : List Bool) (run : List (List Bool)) → AreLater t before run → (s q : ℕ) (bits : List Bool) → q ≡ t + s → slice_get run s ≡ Some bits → IsCycle c xs q bits × HasZeros c bits
+  later_each : (t : ℕ) (before : List Bool) (run : List (List Bool)) → AreLater t before run → (s q : ℕ) (bits : List Bool) → q ≡ t + s → slice_get run s ≡ Some bits → IsClockCycle c xs q bits × HasZeros c bits
   later_each t before [] all s q bits is got = absurd (cc)
   later_each t before (u ∷ run) all zero q bits is got =
       let same : u ≡ bits = cc in
       let at : t ≡ q = omega arith in
-      let P : List Bool → Type 0 = λ v. IsCycle c xs q v × HasZeros c v in
-      let Q : ℕ → Type 0 = λ r. IsCycle c xs r u × HasZeros c u in
+      let P : List Bool → Type 0 = λ v. IsClockCycle c xs q v × HasZeros c v in
+      let Q : ℕ → Type 0 = λ r. IsClockCycle c xs r u × HasZeros c u in
       subst P same (subst Q at (all.0, all.1))
   later_each t before (u ∷ run) all (suc s) q bits is got = later_each (suc t) u run all.3 s q bits (omega arith) got
 
@@ -213,10 +213,10 @@ module _ (c : Circuit) (well : IsJob c) (xs : List ℕ) (input : IsInput c xs) (
         },
       )
     where
-      each : (u : List Bool) → IsCycle c xs 0 u → HasZeros c u → (run : List (List Bool)) → AreLater 1 u run → (t : ℕ) (bits : List Bool) → slice_get (u ∷ run) t ≡ Some bits → IsCycle c xs t bits × HasZeros c bits
+      each : (u : List Bool) → IsClockCycle c xs 0 u → HasZeros c u → (run : List (List Bool)) → AreLater 1 u run → (t : ℕ) (bits : List Bool) → slice_get (u ∷ run) t ≡ Some bits → IsClockCycle c xs t bits × HasZeros c bits
       each u cycle zeros run all zero bits got =
           let same : u ≡ bits = cc in
-          let P : List Bool → Type 0 = λ v. IsCycle c xs 0 v × HasZeros c v in
+          let P : List Bool → Type 0 = λ v. IsClockCycle c xs 0 v × HasZeros c v in
           subst P same (cycle, zeros)
       each u cycle zeros run all (suc t) bits got = later_each 1 u run all t (suc t) bits (omega arith) got
 

@@ -37,14 +37,14 @@ bound_long net words feeds binding (bound, is, rest) = ap (λ (b : Binding). len
 bits_are : (net : NetList) (k : ℕ) (words : List WordText) (feeds : List FeedText) (binding : Binding) → AreWords k words → BindingOf net words feeds (Ok binding) → binding.k ≡ k
 bits_are net k words feeds binding are (bound, is, rest) = ap (λ (b : Binding). b.k) rest.2.2.2 ∙ first_long k words are
 
-pub taken_well : (k : ℕ) (product : ℕ → ℕ → ℕ) (circuit : BoundNet) (words : List WordText) (feeds : List FeedText) (bases : List (List ℕ)) → IsRing k product → HasNoZeroDivisors k product → IsSound circuit.net → AreWords k words → AreFeeds k (map (λ word. word.role) words) feeds → BindingOf circuit.net words feeds (Ok circuit.bound)
-    → IsFlat circuit.net circuit.bound → length bases ≡ length words → ((basis : List ℕ) → Has bases basis → IsBasis k basis) → IsWellFormed (circuit_with k product circuit bases)
+pub taken_well : (k : ℕ) (product : ℕ → ℕ → ℕ) (circuit : BoundNet) (words : List WordText) (feeds : List FeedText) (bases : List (List ℕ)) → IsRing k product → HasNoZeroDivisors k product → IsSound circuit.net → AreWords k words → AreFeeds k (map (λ word. word.role) words) feeds → BindingOf circuit.net words feeds (Ok circuit.binding)
+    → IsFlat circuit.net circuit.binding → length bases ≡ length words → ((basis : List ℕ) → Has bases basis → IsBasis k basis) → IsWellFormed (circuit_with k product circuit bases)
 taken_well k product circuit words feeds bases ring field sound are fed is flat long each =
-    bound_well k product circuit bases (flat_bound circuit.net circuit.bound (bound_to circuit.net k words feeds circuit.bound sound are fed is) flat) (bits_are circuit.net k words feeds circuit.bound are is)
-    (record { long = long ∙ sym (bound_long circuit.net words feeds circuit.bound is); each = each }) ring field sound
+    bound_well k product circuit bases (flat_bound circuit.net circuit.binding (bound_to circuit.net k words feeds circuit.binding sound are fed is) flat) (bits_are circuit.net k words feeds circuit.binding are is)
+    (record { long = long ∙ sym (bound_long circuit.net words feeds circuit.binding is); each = each }) ring field sound
 
-pub taken_job : (k : ℕ) (product : ℕ → ℕ → ℕ) (circuit : BoundNet) (words : List WordText) (feeds : List FeedText) (bases : List (List ℕ)) (cycles : ℕ) → IsRing k product → HasNoZeroDivisors k product → IsSound circuit.net → AreWords k words → AreFeeds k (map (λ word. word.role) words) feeds → BindingOf circuit.net words feeds (Ok circuit.bound)
+pub taken_job : (k : ℕ) (product : ℕ → ℕ → ℕ) (circuit : BoundNet) (words : List WordText) (feeds : List FeedText) (bases : List (List ℕ)) (cycles : ℕ) → IsRing k product → HasNoZeroDivisors k product → IsSound circuit.net → AreWords k words → AreFeeds k (map (λ word. word.role) words) feeds → BindingOf circuit.net words feeds (Ok circuit.binding)
     → length bases ≡ length words → ((basis : List ℕ) → Has bases basis → IsBasis k basis) → IsJob (job_with k product circuit bases cycles)
 taken_job k product circuit words feeds bases cycles ring field sound are fed is long each =
-    job_well k product circuit bases cycles (bound_to circuit.net k words feeds circuit.bound sound are fed is) (bits_are circuit.net k words feeds circuit.bound are is)
-    (record { long = long ∙ sym (bound_long circuit.net words feeds circuit.bound is); each = each }) sound ring field
+    job_well k product circuit bases cycles (bound_to circuit.net k words feeds circuit.binding sound are fed is) (bits_are circuit.net k words feeds circuit.binding are is)
+    (record { long = long ∙ sym (bound_long circuit.net words feeds circuit.binding is); each = each }) sound ring field

@@ -10,10 +10,6 @@ use Rattle.circuit_model.specs.Ones.{AreOnes, ones_cmp}
 abbrev pub AreOrdered : Circuit → Type 0
 AreOrdered circuit = (xs ys ones others : List ℕ) → IsWellFormed circuit → AreOnes circuit xs ones → AreOnes circuit ys others → ones_cmp ones others ≢ Greater → ones_cmp others ones ≢ Greater → xs ≡ ys
 
--- the relation is a function of inputs: at each one element at most
-abbrev pub IsFunction : (List ℕ → ℕ → Type 0) → Type 0
-IsFunction f = (xs : List ℕ) (e other : ℕ) → f xs e → f xs other → e ≡ other
-
 -- two functions are told apart at one input at most, with one element each
 abbrev pub HasOneDifferingInput : Circuit → (List ℕ → ℕ → Type 0) → (List ℕ → ℕ → Type 0) → Type 0
 HasOneDifferingInput circuit f g = (xs ys : List ℕ) (left right l r : ℕ) → IsDifferingInput circuit f g xs left right → IsDifferingInput circuit f g ys l r → (xs ≡ ys) × (left ≡ l) × (right ≡ r)

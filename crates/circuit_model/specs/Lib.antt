@@ -7,6 +7,7 @@ pub mod Run
 pub mod Out
 pub mod Flat
 pub mod OfBinding
+pub mod Places
 pub mod JobOfBinding
 pub mod Bases
 pub mod Alike

@@ -31,7 +31,7 @@ IsStart Unknown b = Unit {0}
 
 -- Cycle t: the bits agree with each gate, each input word has its element, and each fed net has the bit of the source of
 -- its feed for this cycle.
-pub record IsCycle (circuit : Circuit) (xs : List ℕ) (t : ℕ) (bits : List Bool) : Type 0 where
+pub record IsClockCycle (circuit : Circuit) (xs : List ℕ) (t : ℕ) (bits : List Bool) : Type 0 where
   pub consistent : IsConsistent circuit.net bits
   pub inputs : HaveElements circuit IsInputWord xs bits
   pub feeds : (n : ℕ) → IsFed circuit n → HasSource circuit.words xs (source_at circuit.feeds n t) (bit_of bits n)
@@ -49,7 +49,7 @@ IsNext circuit before bits = (l : LatchValue) → Has circuit.net.latches l → 
 pub record IsOpenRun (circuit : Circuit) (xs : List ℕ) (run : List (List Bool)) : Type 0 where
   pub input : IsInput circuit xs
   pub long : length run ≡ circuit.cycles + 1
-  pub each : (t : ℕ) (bits : List Bool) → slice_get run t ≡ Some bits → IsCycle circuit xs t bits
+  pub each : (t : ℕ) (bits : List Bool) → slice_get run t ≡ Some bits → IsClockCycle circuit xs t bits
   pub first : (bits : List Bool) → slice_get run 0 ≡ Some bits → IsFirst circuit xs bits
   pub next : (t : ℕ) (before bits : List Bool) → slice_get run t ≡ Some before → slice_get run (t + 1) ≡ Some bits → IsNext circuit before bits
 

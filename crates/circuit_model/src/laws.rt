@@ -54,7 +54,7 @@ pub fn well_formed_circuits_are_jobs()
 /// The job of words and feeds that are bound to a sound net list, with one basis of the field for each word, is one, for
 /// any number of cycles; its words are the input, state and fed words of the binding, and so are their bits.
 pub fn bound_circuits_are_jobs()
-    ensures job { (k : ℕ) (product : ℕ → ℕ → ℕ) (bound : BoundNet) (bases : List (List ℕ)) (cycles : ℕ) → IsRing k product → HasNoZeroDivisors k product → IsSound bound.net → IsBoundTo bound.net bound.bound → bound.bound.k ≡ k → HaveBases k bound.bound.words bases → IsJob (job_with k product bound bases cycles) }
+    ensures job { (k : ℕ) (product : ℕ → ℕ → ℕ) (bound : BoundNet) (bases : List (List ℕ)) (cycles : ℕ) → IsRing k product → HasNoZeroDivisors k product → IsSound bound.net → IsBoundTo bound.net bound.binding → bound.binding.k ≡ k → HaveBases k bound.binding.words bases → IsJob (job_with k product bound bases cycles) }
     ensures bits { (words : List BoundWord) (bases : List (List ℕ)) → length bases ≡ length words → word_nets (job_words_of words bases) ≡ bits words }
     ensures count { (words : List BoundWord) (bases : List (List ℕ)) → length bases ≡ length words → length (job_words_of words bases) ≡ length (filter (λ word. not (same_role word.role Output)) words) }
 {}
@@ -62,13 +62,13 @@ pub fn bound_circuits_are_jobs()
 /// The job of a sound net list to which words and feeds are bound, by what comes of binding them, is one, where each of
 /// these words has a basis of the field.
 pub fn taken_circuits_are_jobs()
-    ensures { (k : ℕ) (product : ℕ → ℕ → ℕ) (circuit : BoundNet) (words : List WordText) (feeds : List FeedText) (bases : List (List ℕ)) (cycles : ℕ) → IsRing k product → HasNoZeroDivisors k product → IsSound circuit.net → AreWords k words → AreFeeds k (map (λ word. word.role) words) feeds → BindingOf circuit.net words feeds (Ok circuit.bound) → length bases ≡ length words → ((basis : List ℕ) → Has bases basis → IsBasis k basis) → IsJob (job_with k product circuit bases cycles) }
+    ensures { (k : ℕ) (product : ℕ → ℕ → ℕ) (circuit : BoundNet) (words : List WordText) (feeds : List FeedText) (bases : List (List ℕ)) (cycles : ℕ) → IsRing k product → HasNoZeroDivisors k product → IsSound circuit.net → AreWords k words → AreFeeds k (map (λ word. word.role) words) feeds → BindingOf circuit.net words feeds (Ok circuit.binding) → length bases ≡ length words → ((basis : List ℕ) → Has bases basis → IsBasis k basis) → IsJob (job_with k product circuit bases cycles) }
 {}
 
 /// The circuit of words that are bound to a sound net list in one cycle, with one basis of the field for each, is
 /// well-formed; its words are the input, state and fed words of the binding, and so are their bits.
 pub fn bound_circuits_are_well_formed()
-    ensures well_formed { (k : ℕ) (product : ℕ → ℕ → ℕ) (bound : BoundNet) (bases : List (List ℕ)) → IsRing k product → HasNoZeroDivisors k product → IsSound bound.net → IsOneCycle bound.net bound.bound → bound.bound.k ≡ k → HaveBases k bound.bound.words bases → IsWellFormed (circuit_with k product bound bases) }
+    ensures well_formed { (k : ℕ) (product : ℕ → ℕ → ℕ) (bound : BoundNet) (bases : List (List ℕ)) → IsRing k product → HasNoZeroDivisors k product → IsSound bound.net → IsOneCycle bound.net bound.binding → bound.binding.k ≡ k → HaveBases k bound.binding.words bases → IsWellFormed (circuit_with k product bound bases) }
     ensures bits { (words : List BoundWord) (bases : List (List ℕ)) → length bases ≡ length words → word_nets (words_of words bases) ≡ bits words }
     ensures count { (words : List BoundWord) (bases : List (List ℕ)) → length bases ≡ length words → length (words_of words bases) ≡ length (filter (λ word. not (same_role word.role Output)) words) }
 {}
@@ -76,7 +76,7 @@ pub fn bound_circuits_are_well_formed()
 /// The circuit of a sound net list to which words are bound, by what comes of binding them, is well-formed where nothing is
 /// left to unroll and each of these words has a basis of the field; and as many words are bound.
 pub fn taken_circuits_are_well_formed()
-    ensures well_formed { (k : ℕ) (product : ℕ → ℕ → ℕ) (circuit : BoundNet) (words : List WordText) (feeds : List FeedText) (bases : List (List ℕ)) → IsRing k product → HasNoZeroDivisors k product → IsSound circuit.net → AreWords k words → AreFeeds k (map (λ word. word.role) words) feeds → BindingOf circuit.net words feeds (Ok circuit.bound) → IsFlat circuit.net circuit.bound → length bases ≡ length words → ((basis : List ℕ) → Has bases basis → IsBasis k basis) → IsWellFormed (circuit_with k product circuit bases) }
+    ensures well_formed { (k : ℕ) (product : ℕ → ℕ → ℕ) (circuit : BoundNet) (words : List WordText) (feeds : List FeedText) (bases : List (List ℕ)) → IsRing k product → HasNoZeroDivisors k product → IsSound circuit.net → AreWords k words → AreFeeds k (map (λ word. word.role) words) feeds → BindingOf circuit.net words feeds (Ok circuit.binding) → IsFlat circuit.net circuit.binding → length bases ≡ length words → ((basis : List ℕ) → Has bases basis → IsBasis k basis) → IsWellFormed (circuit_with k product circuit bases) }
     ensures long { (net : NetList) (words : List WordText) (feeds : List FeedText) (binding : Binding) → BindingOf net words feeds (Ok binding) → length binding.words ≡ length words }
 {}
 

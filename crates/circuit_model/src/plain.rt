@@ -15,8 +15,8 @@ use gf_field::Field;
 use net_core::{Net, eval};
 use std::alloc::{AllocError, Global};
 
-// The element of a word, if it has k nets.
-fn element<F: Field>(field: &F, bits: &[bool], word: &CircuitWord) -> Option<u64>
+/// The element of a word, if it has k nets.
+pub fn element<F: Field>(field: &F, bits: &[bool], word: &CircuitWord) -> Option<u64>
     requires { IsBasisOver (F.degree field.now) (F.product field.now) word.now.basis }
     ensures element { IfSome result (λ e. HasElement bits.now (word_of word.now) e) }
     ensures some { length word.now.nets.items ≡ F.degree field.now → IsSome result }
@@ -42,8 +42,8 @@ fn have_elements<F: Field>(field: &F, bits: &[bool], words: &[CircuitWord], xs: 
     }
 }
 
-// The bit of a net of a word whose bits these are, and another where it is no net of the word.
-fn bit_in_word(nets: &[u32], bits: u64, net: u32, other: bool) -> bool
+/// The bit of a net of a word whose bits these are, and another where it is no net of the word.
+pub fn bit_in_word(nets: &[u32], bits: u64, net: u32, other: bool) -> bool
     ensures other { (Has nets.now net → ⊥) → result ≡ other }
     ensures bit { (place : ℕ) → slice_get nets.now place ≡ Some net → times net nets.now ≤ 1 → result ≡ (bit_at bits place == 1) }
 {

@@ -31,22 +31,22 @@ use Rattle.circuit_poly.specs.Stages.{stages_in, IsFirstRefusal}
 
 module _ (k : ℕ) (mul : ℕ → ℕ → ℕ) (b : BoundNet) (bases : List Basis) where
   abbrev elements : List ℕ
-  elements = output_basis b.bound.words (map elements_of bases)
+  elements = output_basis b.binding.words (map elements_of bases)
 
   -- the polynomial of the last cut is within the bound
   pub few : IsRing k mul → HasNoZeroDivisors k mul → IsSound b.net → (n : ℕ) (ts : Terms) → IsOfStage k mul (BoundCut b elements (length b.net.gates)) ts → AreAllWithin k mul (bound_cuts b elements) n → length ts ≤ n
   few ring field sound n ts stage none =
-      let order = variables (nets b.net) b.bound.words in
-      let output = output_word b.bound.words elements in
+      let order = variables (nets b.net) b.binding.words in
+      let output = output_word b.binding.words elements in
       let last = none (Cut (length b.net.gates)) (omega arith) in
       let e : ts ≡ last.has.terms = same_terms k mul ring field (IsCut b.net order output (length b.net.gates)) (λ p x y at first other. one_cut_of b.net sound order output (length b.net.gates) p x y first other) ts last.has.terms stage last.has.is in
       let size : length ts ≡ length last.has.terms = ap length e in
       omega (arith, last.has.size, last.within)
 
   -- the last cut is the mix of no words
-  pub no_words : IsWellFormed (circuit_in k mul b bases) → length bases ≡ length b.bound.words → b.net.latches ≡ [] → (ts : Terms) → IsOfStage k mul (BoundCut b elements (length b.net.gates)) ts → IsOfStage k mul (IsMix (circuit_in k mul b bases) 0) ts
+  pub no_words : IsWellFormed (circuit_in k mul b bases) → length bases ≡ length b.binding.words → b.net.latches ≡ [] → (ts : Terms) → IsOfStage k mul (BoundCut b elements (length b.net.gates)) ts → IsOfStage k mul (IsMix (circuit_in k mul b bases) 0) ts
   no_words well long flat ts stage =
-      let many : length (map elements_of bases) ≡ length b.bound.words = length-map bases elements_of ∙ long in
+      let many : length (map elements_of bases) ≡ length b.binding.words = length-map bases elements_of ∙ long in
       record {
         reduced = stage.reduced;
         values = λ p at. (mix_none (circuit_in k mul b bases) well flat p (value mul p ts) at).1 ((bound_cut k mul b (map elements_of bases) (length b.net.gates) p (value mul p ts) many).0 (stage.values p at));

@@ -23,14 +23,13 @@ pub fn circuit_poly<F: Field>(
     bases: &[Basis],
     bound: u32,
 ) -> Result<Poly, ReduceFault>
-    requires bits { circuit.now.bound.k ≡ F.degree field.now }
+    requires bits { circuit.now.binding.k ≡ F.degree field.now }
     requires bases { AreBases (F.degree field.now) (F.product field.now) circuit.now bases.now }
     ensures output { IfOk result (λ q. IsOutputInWords (circuit_in (F.degree field.now) (F.product field.now) circuit.now bases.now) q.terms) }
     ensures within { OnOk result (AreAllWithin (F.degree field.now) (F.product field.now) (stages_in (F.degree field.now) (F.product field.now) circuit.now bases.now) bound) }
     ensures fault { IfErr result (IsFirstRefusal (F.degree field.now) (F.product field.now) (stages_in (F.degree field.now) (F.product field.now) circuit.now bases.now) bound) }
 {
     let basis = output_basis(circuit.bound(), bases);
-    let _gates = circuit.net().gates();
     let bits = match reduce_bits(alloc, field, circuit, basis, bound, &mut NoSteps) {
         Ok(bits) => bits,
         Err(fault) => return Err(fault),

@@ -21,9 +21,6 @@ unfolding walk_within
 walk_nothing design scope model = refl
 
 module _ (i : ℕ) (cs : List Token) where
-  abbrev at : Path → Path
-  at = path_in_whole i cs
-
   -- a step in the instance: its inputs and outputs are none of the whole
   abbrev pub lifted_step : Step Path → List (Step Path)
   lifted_step (Mention path) = Mention (path_in_whole i cs path) ∷ []

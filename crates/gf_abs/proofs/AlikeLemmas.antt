@@ -40,5 +40,5 @@ same_bases (u ∷ us) (v ∷ vs) (b ∷ bs) e =
     (λ i. bases (word_with (ap first_role e i) u.nets b ++ words_of us bs))
     ∙ before v.role u.nets v.nets b (words_of us bs) (words_of vs bs) (same_bases us vs bs (ap rest_roles e))
 
-pub alike : (setting : SettingValue) (circuit other : BoundNet) (words : List WordText) → HaveRoles words circuit.bound.words → HaveRoles words other.bound.words → AreAlike (taken_circuit setting circuit) (taken_circuit setting other)
-alike setting circuit other words roles more = record { k = refl; product = refl; bases = same_bases circuit.bound.words other.bound.words setting.bases (roles ∙ sym more) }
+pub alike : (setting : SettingValue) (circuit other : BoundNet) (words : List WordText) → HaveRoles words circuit.binding.words → HaveRoles words other.binding.words → AreAlike (taken_circuit setting circuit) (taken_circuit setting other)
+alike setting circuit other words roles more = record { k = refl; product = refl; bases = same_bases circuit.binding.words other.binding.words setting.bases (roles ∙ sym more) }

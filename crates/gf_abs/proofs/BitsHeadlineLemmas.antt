@@ -33,7 +33,7 @@ use Rattle.gf_abs.specs.Reply.{Reply, polynomial_line}
 use Rattle.gf_abs.specs.commands.Abstract.{taken_circuit}
 use Rattle.gf_abs.specs.commands.Bits.{BitsReply}
 use Rattle.gf_abs.proofs.AlikeLemmas.{alike}
-use Rattle.gf_abs.proofs.EqualLabels.{few_bits}
+use Rattle.gf_abs.proofs.EqualLabelLemmas.{few_bits}
 use Rattle.gf_abs.proofs.EqualLemmas.{count, in_bits, labels, one_written, roles, sound, well}
 use Rattle.gf_abs.proofs.HeadlineLemmas.{IsUnrolled, held_job, one_held, one_setting, unrolled}
 use Rattle.gf_abs.proofs.JobLemmas.{long}
@@ -50,8 +50,8 @@ module _ (setting : SettingValue) (circuit : BoundNet) (taken : IsTaken setting 
       let is = sound setting circuit taken in
       let bound = (one_cycle setting circuit is taken.netlist taken.cycles taken.is_circuit).1 in
       let bits = circuit_bits setting circuit is taken.netlist taken.cycles taken.is_circuit in
-      ap length (word_nets_of circuit.bound.words setting.bases (bases_long setting circuit is taken.netlist taken.cycles taken.is_circuit))
-      ∙ counted setting.k circuit.bound.words setting.signature.words (λ word has. All_has (λ u. length u.nets ≡ circuit.bound.k) circuit.bound.words word bound.flat.named has ∙ bits) (roles setting circuit taken)
+      ap length (word_nets_of circuit.binding.words setting.bases (bases_long setting circuit is taken.netlist taken.cycles taken.is_circuit))
+      ∙ counted setting.k circuit.binding.words setting.signature.words (λ word has. All_has (λ u. length u.nets ≡ circuit.binding.k) circuit.binding.words word bound.flat.named has ∙ bits) (roles setting circuit taken)
 
   written : (ts : Terms) → IsInInputBits (taken_circuit setting circuit) ts → IsWritten (labels_of setting.k setting.signature.words) setting.k ts
   written ts is =

@@ -1,7 +1,6 @@
 -- Lists of bases, for the words of a top and then for those of blocks, one after another.
 use Rattle.std.proofs.Common.{◌≡◌, ◌⊎◌, ◌∙◌, ap, sym, refl, subst, inl, inr, ℕ, zero, suc, ◌+◌, ◌<◌, ◌≤◌, List, [], ◌∷◌, ◌++◌, length, map, drop, get_or, Some, Result, Ok, Err, arith}
 use Rattle.std.specs.Prelude.{slice_get}
-use Rattle.std.proofs.Math.ListN.{drop_of_length-le}
 use Rattle.std.proofs.lemmas.Bool.{cases_lt}
 use Rattle.std.proofs.lemmas.List.{drop_more, length-append, length-map, map-append}
 use Rattle.std.proofs.lemmas.Option.{get_or_from_slice_get, slice_get_within}
@@ -12,7 +11,7 @@ use Rattle.gf_basis.specs.declared.bases.Basis.{Basis}
 use Rattle.job_words.specs.declared.signature_fault.SignatureFault.{SignatureFault}
 use Rattle.job_input.specs.Setting.{AreBasesOver}
 use Rattle.job_input.specs.SettingOf.{BasesOf}
-use Rattle.job_input.proofs.SettingWords.{bases_long}
+use Rattle.job_input.proofs.SettingWordLemmas.{bases_long}
 use Rattle.block_compose.specs.Composed.{HasBases}
 use Rattle.gf_abs.specs.commands.Compose.{WithBlocks}
 use Rattle.gf_abs.specs.private.Composing.{AreListsOf}
@@ -47,19 +46,6 @@ module _ (k : ℕ) (product : ℕ → ℕ → ℕ) where
       let R : List (List (List ℕ)) → Type 0 = λ ls. WithBlocks k product ls more outcome in
       subst P (sym (drop_more blocks i d less)) (one_ok (elements old) (get_or blocks i d) more (map elements_of list) (subst Q is are) outcome (subst R (ap elements new_is ∙ map-append (map elements_of) old (list ∷ [])) rest))
 
-  -- a fault of the next block
-  pub lists_fail : (lists : List (List (List ℕ))) (blocks : List BlockValue) (i : ℕ) (d block : BlockValue) → i < length blocks → block ≡ get_or blocks i d → (fault : SignatureFault) → BasesOf k product block.words (Err fault) → WithBlocks k product lists (drop i blocks) (Err fault)
-  lists_fail lists blocks i d block less is fault fails =
-      let P : List BlockValue → Type 0 = λ bs. WithBlocks k product lists bs (Err fault) in
-      let Q : BlockValue → Type 0 = λ b. BasesOf k product b.words (Err fault) in
-      subst P (sym (drop_more blocks i d less)) (inl (subst Q is fails))
-
-  -- no block is left
-  pub lists_end : (lists : List (List (List ℕ))) (blocks : List BlockValue) (i : ℕ) → length blocks ≤ i → WithBlocks k product lists (drop i blocks) (Ok lists)
-  lists_end lists blocks i past =
-      let P : List BlockValue → Type 0 = λ bs. WithBlocks k product lists bs (Ok lists) in
-      subst P (sym (drop_of_length-le blocks past)) refl
-
   -- ---- the lists of the first blocks
 
   pub record AreListsTo (words : List WordText) (blocks : List BlockValue) (n : ℕ) (bases : List (List Basis)) : Type 0 where
@@ -74,11 +60,6 @@ module _ (k : ℕ) (product : ℕ → ℕ → ℕ) where
   -- one list more keeps the others
   kept : (bases : List (List Basis)) (more : List (List Basis)) (n : ℕ) (words : List WordText) → HasBases k product bases n words → HasBases k product (bases ++ more) n words
   kept bases more n words has = record { list = has.list; at = front_at bases more n has.list has.at; long = has.long; each = has.each }
-
-  pub to_start : (words : List WordText) (blocks : List BlockValue) (top : List Basis) (bases : List (List Basis)) → bases ≡ [] ++ top ∷ [] → length top ≡ length words → AreBasesOver k product top → AreListsTo words blocks 0 bases
-  to_start words blocks top bases is long over =
-      let P : List (List Basis) → Type 0 = AreListsTo words blocks 0 in
-      subst P (sym is) (record { long = refl; top = one_list (top ∷ []) 0 words top refl long over; each = λ number block less got. absurd (omega arith) })
 
   pub to_step : (words : List WordText) (blocks : List BlockValue) (old new : List (List Basis)) (list : List Basis) (i : ℕ) (d block : BlockValue) → i < length blocks → block ≡ get_or blocks i d → new ≡ old ++ list ∷ [] → BasesOf k product block.words (Ok (map elements_of list)) → AreBasesOver k product list → AreListsTo words blocks i old → AreListsTo words blocks (i + 1) new
   to_step words blocks old new list i d block less is new_is are over to =

@@ -9,7 +9,7 @@ use Rattle.job_input.specs.Setting.{CanBindBlock}
 use Rattle.job_input.specs.SettingOf.{SettingOf, SettingWith, SignedOf, SignedValue}
 use Rattle.job_input.specs.SettingValue.{SettingValue}
 use Rattle.job_input.proofs.FieldLemmas.{field_most, field_some}
-use Rattle.job_input.proofs.SettingWords.{block_binds, text_said}
+use Rattle.job_input.proofs.SettingWordLemmas.{block_binds, text_said}
 
 -- the words of each block can be bound, and have names
 abbrev pub CanBindBlocks : SettingValue → Type 0

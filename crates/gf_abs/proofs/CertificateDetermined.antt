@@ -13,7 +13,7 @@ use Rattle.job_words.specs.declared.fault.Fault.{Fault}
 use Rattle.job_input.specs.Labelling.{labels_of}
 use Rattle.job_input.specs.SettingSound.{IsSoundSetting}
 use Rattle.job_input.specs.SettingValue.{SettingValue}
-use Rattle.gf_abs.specs.Certificates.{certificate_labels, text_fault}
+use Rattle.gf_abs.specs.Certificates.{certificate_labels, certificate_fault_of}
 use Rattle.gf_abs.specs.commands.Upgrade.{UpgradedOf, UpgradeReply}
 use Rattle.gf_abs.specs.commands.Verify.{VerdictOf, VerifyReply, verify_reply}
 use Rattle.gf_abs.proofs.VerdictLemmas.{verdict_determined}
@@ -47,7 +47,7 @@ module _ (setting : SettingValue) (circuit : BoundNet) (bytes : List ℕ) where
   upgraded_determined (Err f) (Ok b) (found, h, same) k = absurd (apart b found (one_upgrade (Ok b) (Err found) k h))
   upgraded_determined (Err f) (Err g) (found, h, same) (found', k, same') =
       let equal : found ≡ found' = same_err found found' (one_upgrade (Err found) (Err found') h k) in
-      ap Err (some_same f g (sym same ∙ (ap text_fault equal ∙ same')))
+      ap Err (some_same f g (sym same ∙ (ap certificate_fault_of equal ∙ same')))
 
 pub upgrade_determined : (setting : SettingValue) (certified : BoundNet × List ℕ) → Determined (UpgradeReply setting certified)
 upgrade_determined setting certified =

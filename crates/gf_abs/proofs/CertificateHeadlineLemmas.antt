@@ -1,7 +1,8 @@
 -- What the answers of `certify`, `verify` and `upgrade` say, out of what comes of their steps.
-use Rattle.std.proofs.Common.{◌≡◌, ◌∙◌, ap, refl, sym, subst, ℕ, ◌*◌, ◌^◌, ◌<◌, ◌≤◌, List, [], ◌∷◌, ◌++◌, length, Some, Result, Ok, codes, arith}
+use Rattle.std.proofs.Common.{◌≡◌, ◌∙◌, ap, refl, sym, subst, ℕ, ◌*◌, ◌^◌, ◌<◌, ◌≤◌, List, [], ◌∷◌, ◌++◌, length, Some, Ok, codes, arith}
 use Rattle.std.proofs.lemmas.List.{length-append}
 use Rattle.job_io.specs.Shelf.{Files}
+use Rattle.text_core.proofs.GeneralLemmas.{same_ok}
 use Rattle.net_core.specs.NetList.{nets}
 use Rattle.net_core.specs.Sound.{IsSound}
 use Rattle.net_words.specs.Binding.{BoundNet}
@@ -21,7 +22,7 @@ use Rattle.stage_model.proofs.ListingLemmas.{both_within}
 use Rattle.cert_check.specs.Labels.{NameWords}
 use Rattle.cert_check.specs.Output.{IsOutput}
 use Rattle.cert_check.specs.Verdict.{Verdict, valid, invalid, Check}
-use Rattle.cert_check.proofs.OutputLaw.{proves_output}
+use Rattle.cert_check.proofs.OutputLawLemmas.{proves_output}
 use Rattle.cert_make.specs.CertText.{cert_text, let_lines, lines_at, lines_from, pair_line, text_of_lines}
 use Rattle.cert_make.specs.CircuitLabels.{NameVariables}
 use Rattle.cert_make.specs.Sharing.{shares_with}
@@ -75,16 +76,16 @@ module _ (net : Word) (bytes text : List ℕ) (cycles : ℕ) (setting : SettingV
   abbrev of_labels : Labelling
   of_labels = certificate_labels setting circuit
 
-  of_cycle : IsSound circuit.net × IsOneCycle circuit.net circuit.bound
+  of_cycle : IsSound circuit.net × IsOneCycle circuit.net circuit.binding
   of_cycle = one_cycle setting circuit of_sound (by_ending net text) cycles of.is_circuit
 
-  of_bits : circuit.bound.k ≡ setting.k
+  of_bits : circuit.binding.k ≡ setting.k
   of_bits = circuit_bits setting circuit of_sound (by_ending net text) cycles of.is_circuit
 
-  of_roles : HaveRoles setting.signature.words circuit.bound.words
+  of_roles : HaveRoles setting.signature.words circuit.binding.words
   of_roles = circuit_roles setting circuit of_sound (by_ending net text) cycles of.is_circuit
 
-  of_names : NameWords circuit.bound of_labels
+  of_names : NameWords circuit.binding of_labels
   of_names = names_words setting.k setting.signature.words circuit of_sound.words (setting_names bytes setting of.is_setting) of_cycle.0 of_cycle.1 of_bits of_roles
 
   of_variables : NameVariables circuit of_labels
@@ -102,9 +103,6 @@ module _ (net : Word) (bytes text : List ℕ) (cycles : ℕ) (setting : SettingV
       subst P duals.elements (proves_output setting.k setting.product circuit bases of_labels most cert claim of_sound.ring of_sound.field of_cycle.0 of_cycle.1 of_bits duals.are of_names is)
 
 -- ---- at most one circuit of texts
-
-same_ok : {A F : Type 0} (a b : A) → ◌≡◌ {A = Result A F} (Ok a) (Ok b) → a ≡ b
-same_ok a b e = cc
 
 one_circuit : (net : Word) (text : List ℕ) (cycles : ℕ) (setting : SettingValue) (c d : BoundNet) → CircuitOfText setting.signature (by_ending net text) cycles (Ok c) → CircuitOfText setting.signature (by_ending net text) cycles (Ok d) → c ≡ d
 one_circuit net text cycles setting c d (a, is_a, of_a) (b, is_b, of_b) =

@@ -23,7 +23,7 @@ use Rattle.job_input.specs.Labelling.{circuit_labels, word_label, word_labels}
 use Rattle.job_input.specs.Setting.{HaveRoles}
 use Rattle.job_input.proofs.CircuitLabelLemmas.{counted}
 use Rattle.job_input.proofs.LabelLemmas.{labels_long}
-use Rattle.gf_abs.proofs.EqualLabels.{are_labels}
+use Rattle.gf_abs.proofs.EqualLabelLemmas.{are_labels}
 
 -- ---- the other nets
 
@@ -92,27 +92,27 @@ labels_wide : (k : ℕ) (words : List WordText) → AllByRecursion (λ (w : List
 labels_wide k [] = tt
 labels_wide k (w ∷ ws) = label_wide w.role w.name k (word_labels k ws) (labels_wide k ws)
 
-module _ (k : ℕ) (words : List WordText) (circuit : BoundNet) (are : AreWords k words) (names : HaveNames words) (sound : IsSound circuit.net) (one : IsOneCycle circuit.net circuit.bound) (same : circuit.bound.k ≡ k) (roles : HaveRoles words circuit.bound.words) where
+module _ (k : ℕ) (words : List WordText) (circuit : BoundNet) (are : AreWords k words) (names : HaveNames words) (sound : IsSound circuit.net) (one : IsOneCycle circuit.net circuit.binding) (same : circuit.binding.k ≡ k) (roles : HaveRoles words circuit.binding.words) where
   abbrev named : Labelling
   named = circuit_labels k words circuit
 
-  pub names_words : NameWords circuit.bound named
+  pub names_words : NameWords circuit.binding named
   names_words =
       let P : ℕ → Type 0 = λ m. AllByRecursion (λ (w : List ℕ × ℕ). w.1 ≡ m) named.words in
-      record { count = labels_long k words ∙ sym (counts words circuit.bound.words roles); bits = subst P (sym same) (labels_wide k words) }
+      record { count = labels_long k words ∙ sym (counts words circuit.binding.words roles); bits = subst P (sym same) (labels_wide k words) }
 
   pub names_variables : NameVariables circuit named
   names_variables = record { words = names_words; nets = refl }
 
-  bits_long : length (bits circuit.bound.words) ≡ bit_count named.words
-  bits_long = counted k circuit.bound.words words (λ word has. All_has (λ (u : BoundWord). length u.nets ≡ circuit.bound.k) circuit.bound.words word one.flat.named has ∙ same) roles
+  bits_long : length (bits circuit.binding.words) ≡ bit_count named.words
+  bits_long = counted k circuit.binding.words words (λ word has. All_has (λ (u : BoundWord). length u.nets ≡ circuit.binding.k) circuit.binding.words word one.flat.named has ∙ same) roles
 
   pub has_numbers : nets circuit.net ≤ 2 ^ 32 → HaveNumbers k circuit.net named
   has_numbers few =
       let base = are_labels k words are names in
-      let p : ℕ → Bool = λ n. not (stands_in (bits circuit.bound.words) n) in
-      let long : length (variables (nets circuit.net) circuit.bound.words) ≡ nets circuit.net = variables_long circuit.net circuit.bound sound.inside one in
-      let parts = length-append (bits circuit.bound.words) (others (nets circuit.net) (bits circuit.bound.words)) in
+      let p : ℕ → Bool = λ n. not (stands_in (bits circuit.binding.words) n) in
+      let long : length (variables (nets circuit.net) circuit.binding.words) ≡ nets circuit.net = variables_long circuit.net circuit.binding sound.inside one in
+      let parts = length-append (bits circuit.binding.words) (others (nets circuit.net) (bits circuit.binding.words)) in
       record {
         some = are.some;
         small = are.most;

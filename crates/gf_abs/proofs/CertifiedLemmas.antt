@@ -1,5 +1,5 @@
 -- What is known of a circuit beside a certificate, and the stops of a certificate.
-use Rattle.std.proofs.Common.{◌≡◌, refl, sym, subst, ℕ, List, Option, None, Some, Result, Ok, Err}
+use Rattle.std.proofs.Common.{◌≡◌, ℕ, List, Some, Result, Ok, Err}
 use Rattle.std.specs.Prelude.{IfOk}
 use Rattle.text_core.specs.Outcome.{Outcome, MayRefuse}
 use Rattle.gf_basis.specs.declared.bases.Basis.{Basis}
@@ -9,19 +9,18 @@ use Rattle.cert_check.specs.Verdict.{Check, verdict_of}
 use Rattle.cert_check.specs.declared.fault.CertFault.{CertFault}
 use Rattle.cert_check.specs.declared.fault.CertFault.TheVariants as text
 use Rattle.cert_make.specs.Upgrade.{UpgradeOf}
-use Rattle.job_words.specs.Stop.{GivesBy, IsMiss}
+use Rattle.job_words.specs.Stop.{GivesBy}
 use Rattle.job_words.specs.declared.fault.Fault.{Fault}
 use Rattle.job_words.specs.declared.stop.Stop.{Stop}
-use Rattle.job_words.specs.declared.stop.Stop.TheVariants as stops
 use Rattle.job_input.specs.Setting.{IsReady, IsTakenFor}
 use Rattle.job_input.specs.declared.setting.Setting.{Setting}
 use Rattle.job_input.specs.SettingValue.{SettingValue}
-use Rattle.gf_abs.specs.Certificates.{HaveDuals, certificate_labels, sum_fault, text_fault}
+use Rattle.gf_abs.specs.Certificates.{HaveDuals, certificate_labels, sum_fault, certificate_fault_of}
 use Rattle.gf_abs.specs.commands.Upgrade.{UpgradedOf}
 use Rattle.gf_abs.specs.commands.Verify.{VerdictOf}
 use Rattle.gf_abs.specs.declared.certificates.Certified.{Certified}
-use Rattle.gf_abs.specs.private.CertificateStop.{IsStopOf}
-use Rattle.gf_abs.specs.private.StageStop.{IsRefusalOf}
+use Rattle.gf_abs.specs.private.StageStop.{IsStopOf}
+use Rattle.gf_abs.proofs.RefusalLemmas.{stopped, IsNoMiss}
 
 -- what is taken for a setting as a netlist is still taken for it as a circuit
 pub still_taken : (setting : Setting) (netlist : BoundNet) (result : Result Certified Stop) → IfOk result (λ certified. (k : ℕ) (other : Setting) → IsTakenFor k other netlist → IsTakenFor k other certified.circuit)
@@ -29,32 +28,9 @@ pub still_taken : (setting : Setting) (netlist : BoundNet) (result : Result Cert
 still_taken setting netlist (Ok certified) keeps taken = λ k product ready. keeps k setting (taken k product ready)
 still_taken setting netlist (Err stop) keeps taken = tt
 
--- ---- stops
-
--- no fault of a certificate is that of a missing file
-abbrev IsNoMiss : Option Fault → Type 0
-IsNoMiss None = Unit {0}
-IsNoMiss (Some fault) = IsMiss fault → ⊥
-
-module _ {X A : Type 0} (view : X → A) (outcome : Outcome Fault A) where
-  refused_for : (fault : Fault) (stop : Stop) → (IsMiss fault → ⊥) → outcome (Err fault) → IsRefusalOf fault stop → GivesBy view (Err stop) outcome ⊥ ⊥
-  refused_for fault (stops.Refused refused) other may same =
-      let P : Fault → Type 0 = λ f. outcome (Err f) in
-      let Q : Fault → Type 0 = IsMiss in
-      (subst P (sym same) may, λ miss. other (subst Q same miss))
-  refused_for fault stops.Outside other may same = absurd same
-  refused_for fault stops.OutOfMemory other may same = tt
-
-  -- a stop of a fault that may come is one that may come
-  pub stopped : (fault : Option Fault) (stop : Stop) → IsNoMiss fault → ((f : Fault) → fault ≡ Some f → outcome (Err f)) → IsStopOf fault stop → GivesBy view (Err stop) outcome ⊥ ⊥
-  stopped (Some fault) stop other may is = refused_for fault stop other (may fault refl) is
-  stopped None stop other may same =
-      let P : Stop → Type 0 = λ s. GivesBy view (Err s) outcome ⊥ ⊥ in
-      subst P (sym same) tt
-
 -- ---- faults of certificates
 
-no_text_miss : (found : CertFault) → IsNoMiss (text_fault found)
+no_text_miss : (found : CertFault) → IsNoMiss (certificate_fault_of found)
 no_text_miss (text.Syntax line) = λ miss. miss
 no_text_miss (text.NoSuchNet line) = λ miss. miss
 no_text_miss (text.NoSuchBit line) = λ miss. miss
@@ -76,7 +52,7 @@ no_sum_miss bound text.OutOfMemory = tt
 
 -- a fault with a refusal is one that may come
 module _ {A : Type 0} (outcome : Outcome CertFault A) (f : Fault) where
-  text_comes : (found : CertFault) → MayRefuse outcome (refusal found) → text_fault found ≡ Some f → outcome (Err found)
+  text_comes : (found : CertFault) → MayRefuse outcome (refusal found) → certificate_fault_of found ≡ Some f → outcome (Err found)
   text_comes (text.Syntax line) may same = may
   text_comes (text.NoSuchNet line) may same = may
   text_comes (text.NoSuchBit line) may same = may
@@ -96,19 +72,6 @@ module _ {A : Type 0} (outcome : Outcome CertFault A) (f : Fault) where
   sum_comes bound (text.TooManyTerms line terms) may same = may
   sum_comes bound text.OutOfMemory may same = absurd (cc)
 
--- a stop of a fault of the text is one of a fault of the text or of a sum
-pub text_or_sum : (bound : ℕ) (found : CertFault) (stop : Stop) → IsStopOf (text_fault found) stop → IsStopOf (sum_fault bound found) stop
-text_or_sum bound (text.Syntax line) stop is = is
-text_or_sum bound (text.NoSuchNet line) stop is = is
-text_or_sum bound (text.NoSuchBit line) stop is = is
-text_or_sum bound (text.NotDriven line) stop is = is
-text_or_sum bound (text.NoSuchLet line) stop is = is
-text_or_sum bound text.NoEnd stop is = is
-text_or_sum bound (text.TooManyTerms line terms) stop is =
-    let P : Stop → Type 0 = IsStopOf (sum_fault bound (text.TooManyTerms line terms)) in
-    subst P (sym is) tt
-text_or_sum bound text.OutOfMemory stop is = is
-
 -- ---- the stops of the commands
 
 -- of `verify`, over any bases of the setting with their duals
@@ -120,7 +83,7 @@ verdict_stopped setting circuit bound bytes bases found stop duals may is =
 
 -- of `upgrade`
 pub upgrade_stopped : {X : Type 0} (view : X → List ℕ) (setting : SettingValue) (circuit : BoundNet) (bytes : List ℕ) (found : CertFault) (stop : Stop)
-    → MayRefuse (UpgradeOf setting.k circuit.net (certificate_labels setting circuit) bytes) (refusal found) → IsStopOf (text_fault found) stop → GivesBy view (Err stop) (UpgradedOf setting circuit bytes) ⊥ ⊥
+    → MayRefuse (UpgradeOf setting.k circuit.net (certificate_labels setting circuit) bytes) (refusal found) → IsStopOf (certificate_fault_of found) stop → GivesBy view (Err stop) (UpgradedOf setting circuit bytes) ⊥ ⊥
 upgrade_stopped view setting circuit bytes found stop may is =
-    stopped view (UpgradedOf setting circuit bytes) (text_fault found) stop (no_text_miss found)
+    stopped view (UpgradedOf setting circuit bytes) (certificate_fault_of found) stop (no_text_miss found)
     (λ f same. (found, text_comes (UpgradeOf setting.k circuit.net (certificate_labels setting circuit) bytes) f found may same, same)) is

@@ -36,7 +36,7 @@ use Rattle.gf_abs.proofs.TakenLemmas.{circuit_bits, one_cycle}
 pub over_elements : (k : ℕ) (mul : ℕ → ℕ → ℕ) (bound : BoundNet) (bases others : List Basis) (claim : Terms) (pairs : List Step) → map elements_of bases ≡ map elements_of others → IsCertificateOf k mul bound bases claim pairs → IsCertificateOf k mul bound others claim pairs
 over_elements k mul bound bases others claim pairs same is =
     let C : List (List ℕ) → Type 0 = λ es. IsOfStage k mul (IsMix (circuit_with k mul bound es) (length (circuit_with k mul bound es).words)) claim in
-    let G : List (List ℕ) → Type 0 = λ es. AreCutSteps k mul bound.net (variables (nets bound.net) bound.bound.words) (output_word bound.bound.words (output_basis bound.bound.words es)) (length bound.net.gates) is.cuts in
+    let G : List (List ℕ) → Type 0 = λ es. AreCutSteps k mul bound.net (variables (nets bound.net) bound.binding.words) (output_word bound.binding.words (output_basis bound.binding.words es)) (length bound.net.gates) is.cuts in
     let W : List (List ℕ) → Type 0 = λ es. AreWordSteps (circuit_with k mul bound es) is.words in
     record { cuts = is.cuts; words = is.words; claims = subst C same is.claims; are_cuts = subst G same is.are_cuts; are_words = subst W same is.are_words; pairs_are = is.pairs_are }
 

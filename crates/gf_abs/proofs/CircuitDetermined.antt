@@ -34,17 +34,17 @@ use Rattle.gf_abs.proofs.StagedDetermined.{staged_determined}
 
 module _ (setting : SettingValue) (circuit : BoundNet) (bound : ℕ) (ring : IsRing setting.k setting.product) (field : HasNoZeroDivisors setting.k setting.product) (net_sound : IsSound circuit.net) (well : IsWellFormed (taken_circuit setting circuit)) where
   pub cuts_one_order : IsOrdered (bits_stages setting circuit)
-  cuts_one_order = cuts_ordered (length circuit.net.gates + 1) (BoundCut circuit (output_basis circuit.bound.words setting.bases))
+  cuts_one_order = cuts_ordered (length circuit.net.gates + 1) (BoundCut circuit (output_basis circuit.binding.words setting.bases))
 
   pub cuts_one_size : HaveOneSize setting.k setting.product (bits_stages setting circuit)
   cuts_one_size =
-      net_cuts_sizes setting.k setting.product circuit.net (variables (nets circuit.net) circuit.bound.words) (output_word circuit.bound.words (output_basis circuit.bound.words setting.bases)) (length circuit.net.gates + 1)
+      net_cuts_sizes setting.k setting.product circuit.net (variables (nets circuit.net) circuit.binding.words) (output_word circuit.binding.words (output_basis circuit.binding.words setting.bases)) (length circuit.net.gates + 1)
       ring field net_sound
 
   one_last_cut : (ts us : Terms) → IsLastCut setting circuit ts → IsLastCut setting circuit us → ts ≡ us
   one_last_cut ts us a b =
-      let order = variables (nets circuit.net) circuit.bound.words in
-      let output = output_word circuit.bound.words (output_basis circuit.bound.words setting.bases) in
+      let order = variables (nets circuit.net) circuit.binding.words in
+      let output = output_word circuit.binding.words (output_basis circuit.binding.words setting.bases) in
       same_terms setting.k setting.product ring field (IsCut circuit.net order output (length circuit.net.gates))
       (λ p x y at first other. one_cut_of circuit.net net_sound order output (length circuit.net.gates) p x y first other) ts us a b
 

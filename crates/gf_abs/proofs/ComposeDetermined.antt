@@ -1,5 +1,5 @@
 -- At most one reply or fault comes of `compose`.
-use Rattle.std.proofs.Common.{◌≡◌, ap, sym, refl, subst, ℕ, zero, suc, ◌+◌, List, [], ◌∷◌, ◌++◌, length, Some, Ok, arith}
+use Rattle.std.proofs.Common.{◌≡◌, ◌∙◌, ap, sym, refl, subst, ℕ, zero, suc, ◌+◌, List, [], ◌∷◌, ◌++◌, length, Option, Some, Result, Ok, Err, arith}
 use Rattle.std.specs.Prelude.{slice_get}
 use Rattle.std.specs.Option.{unwrap_or}
 use Rattle.std.proofs.lemmas.List.{length-append}
@@ -20,6 +20,7 @@ use Rattle.net_words.specs.Bind.{BindingOf}
 use Rattle.net_words.specs.Binding.{Binding, BoundNet}
 use Rattle.net_words.specs.declared.binding.BindFault.{BindFault}
 use Rattle.net_words.proofs.BindDetermined.{binding_determined, determined_exactly}
+use Rattle.poly_mixed.specs.Polynomial.{Terms}
 use Rattle.circuit_model.specs.OfBinding.{circuit_with}
 use Rattle.block_feeds.specs.Given.{HaveBasesOf}
 use Rattle.block_feeds.specs.Hierarchy.{bases_at, Hierarchy}
@@ -29,9 +30,12 @@ use Rattle.block_plan.specs.Plan.{UsesOf}
 use Rattle.block_plan.specs.Structure.{IsUnfed}
 use Rattle.block_plan.specs.Uses.{BlockUse, UseOf}
 use Rattle.block_plan.proofs.PlanDetermined.{plan_determined}
-use Rattle.block_compose.specs.Composed.{plan_fault, wiring_fault, ComposesIn, HasNoRing, StagesOf, WiringOf}
+use Rattle.block_compose.specs.Composed.{ComposesIn, HasNoCycle, StagesOf, WiringOf}
+use Rattle.block_compose.specs.declared.fault.ComposeFault.{ComposeFault}
+use Rattle.block_compose.specs.declared.fault.ComposeFault.TheVariants.{Plan, Wiring}
 use Rattle.block_compose.proofs.GivenLemmas.{unfed_words}
-use Rattle.block_compose.proofs.StepsDetermined.{ring_determined, stages_determined, wiring_determined}
+use Rattle.block_compose.proofs.StepsDetermined.{cycle_determined, stages_determined, wiring_determined}
+use Rattle.job_words.specs.declared.fault.Fault.{Fault}
 use Rattle.job_words.specs.declared.fault.Fault.TheVariants as faults
 use Rattle.job_words.specs.declared.netlist_fault.NetlistFault.{NetlistFault}
 use Rattle.job_words.specs.declared.netlist_fault.NetlistFault.TheVariants as netlist
@@ -42,7 +46,7 @@ use Rattle.job_input.specs.SettingSound.{IsSoundSetting}
 use Rattle.job_input.specs.SettingValue.{SettingValue}
 use Rattle.job_input.proofs.SettingDetermined.{bases_determined}
 use Rattle.job_input.proofs.SettingSoundLemmas.{bases_sound}
-use Rattle.job_input.proofs.SettingWords.{bases_long}
+use Rattle.job_input.proofs.SettingWordLemmas.{bases_long}
 use Rattle.gf_abs.specs.Reply.{prints}
 use Rattle.gf_abs.specs.commands.Compose.{compose_fault, hierarchy_with, ComposeOf, ComposeOver, ComposeReply, ListsOf, WithBlocks}
 use Rattle.gf_abs.proofs.BlockBaseLemmas.{front_at, last_at}
@@ -60,7 +64,7 @@ module _ (signature : SignatureValue) where
       named fault = netlist.Binding (of_binding signature.words net fault)
 
       with_words : Binding → BoundNet
-      with_words bound = record { net = net; bound = bound }
+      with_words bound = record { net = net; binding = bound }
 
   top_determined : (design : List ModelValue) → Determined (TopBinds signature design)
   top_determined design =
@@ -128,7 +132,7 @@ module _ (k : ℕ) (mul : ℕ → ℕ → ℕ) (h : Hierarchy) (uses : List Bloc
           found = is.is_block.found;
           model = is.model;
           model_is = is.is_block.model_is;
-          is = record { net = one_use.0.circuit.net; flat = is.circuit.flat; latches = is.circuit.latches; binding = one_use.0.circuit.bound; bound = is.circuit.bound; is = refl };
+          is = record { net = one_use.0.circuit.net; flat = is.circuit.flat; latches = is.circuit.latches; binding = one_use.0.circuit.binding; bound = is.circuit.bound; is = refl };
         },
       )
 
@@ -164,13 +168,33 @@ module _ (setting : SettingValue) (sound : IsSoundSetting setting) (blocks : Can
 
   pub composition_determined : Determined (ComposesIn setting.k setting.product setting.signature h bound)
   composition_determined =
-      determined_after (Within plan_fault (UsesOf design setting.signature)) (λ uses. Within wiring_fault (WiringOf h) >>= (λ wiring. HasNoRing wiring.0 >>= (λ ringless. StagesOf setting.k setting.product h wiring.0 bound))) (determined_within plan_fault (UsesOf design setting.signature) (plan_determined design setting.signature)) (λ uses used.
-      determined_after (Within wiring_fault (WiringOf h)) (λ wiring. HasNoRing wiring.0 >>= (λ ringless. StagesOf setting.k setting.product h wiring.0 bound)) (determined_within wiring_fault (WiringOf h) (wiring_determined h)) (λ wiring wired.
-      determined_after (HasNoRing wiring.0) (λ ringless. StagesOf setting.k setting.product h wiring.0 bound) (ring_determined wiring.0) (λ ringless free.
+      determined_after (Within Plan (UsesOf design setting.signature)) (λ uses. Within Wiring (WiringOf h) >>= (λ wiring. HasNoCycle wiring.0 >>= (λ acyclic. StagesOf setting.k setting.product h wiring.0 bound))) (determined_within Plan (UsesOf design setting.signature) (plan_determined design setting.signature)) (λ uses used.
+      determined_after (Within Wiring (WiringOf h)) (λ wiring. HasNoCycle wiring.0 >>= (λ acyclic. StagesOf setting.k setting.product h wiring.0 bound)) (determined_within Wiring (WiringOf h) (wiring_determined h)) (λ wiring wired.
+      determined_after (HasNoCycle wiring.0) (λ acyclic. StagesOf setting.k setting.product h wiring.0 bound) (cycle_determined wiring.0) (λ acyclic free.
       stages_determined setting.k setting.product h wiring.0 bound sound.ring sound.field (record { depth = right.2.2; top = top_based used.1; blocks = block_based; outputs = wired.outputs }) wired.feeds (have_blocks setting.k setting.product h uses used.2.2.2) free)))
 
+  some_same : (f g : Fault) → ◌≡◌ {A = Option Fault} (Some f) (Some g) → f ≡ g
+  some_same f g e = cc
+
+  same_ok : (a b : Terms) → ◌≡◌ {A = Result Terms ComposeFault} (Ok a) (Ok b) → a ≡ b
+  same_ok a b e = cc
+
+  same_err : (f g : ComposeFault) → ◌≡◌ {A = Result Terms ComposeFault} (Err f) (Err g) → f ≡ g
+  same_err f g e = cc
+
+  apart : (a : Terms) (f : ComposeFault) → ◌≡◌ {A = Result Terms ComposeFault} (Ok a) (Err f) → ⊥
+  apart a f e = cc
+
+  composed_determined : Determined (ComposeOf setting design lists bound)
+  composed_determined (Ok a) (Ok b) x y = ap Ok (same_ok a b (composition_determined (Ok a) (Ok b) x y))
+  composed_determined (Ok a) (Err f) x (found, y, same) = absurd (apart a found (composition_determined (Ok a) (Err found) x y))
+  composed_determined (Err f) (Ok b) (found, x, same) y = absurd (apart b found (composition_determined (Ok b) (Err found) y x))
+  composed_determined (Err f) (Err g) (found, x, same) (found', y, same') =
+      let equal : found ≡ found' = same_err found found' (composition_determined (Err found) (Err found') x y) in
+      ap Err (some_same f g (sym same ∙ (ap (compose_fault setting design bound) equal ∙ same')))
+
   reply_determined : Determined (ComposeReply setting design lists bound)
-  reply_determined = determined_bind (ComposeOf setting design lists bound) (λ ts. Exactly (prints setting ts)) (determined_within (compose_fault setting design bound) (ComposesIn setting.k setting.product setting.signature h bound) composition_determined) (λ ts. determined_exactly (prints setting ts))
+  reply_determined = determined_bind (ComposeOf setting design lists bound) (λ ts. Exactly (prints setting ts)) composed_determined (λ ts. determined_exactly (prints setting ts))
 
 pub compose_determined : (setting : SettingValue) → IsSoundSetting setting → CanBindBlocks setting → (design : List ModelValue) → AreRight design (Ok tt) → (bound : ℕ) → Determined (ComposeOver setting design bound)
 compose_determined setting sound blocks design right bound =

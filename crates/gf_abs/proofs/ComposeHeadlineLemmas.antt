@@ -1,7 +1,8 @@
 -- What `compose` answers, out of what comes of its steps.
-use Rattle.std.proofs.Common.{◌≡◌, ◌∙◌, ap, sym, refl, subst, ℕ, ◌≤◌, ◌^◌, Bool, if◌then◌else◌, List, [], ◌∷◌, length, Some, Result, Ok, arith}
+use Rattle.std.proofs.Common.{◌≡◌, ◌∙◌, ap, sym, refl, subst, ℕ, ◌≤◌, ◌^◌, Bool, if◌then◌else◌, List, [], ◌∷◌, length, Some, Ok, arith}
 use Rattle.std.specs.Option.{unwrap_or}
 use Rattle.job_io.specs.Shelf.{Files}
+use Rattle.text_core.proofs.GeneralLemmas.{same_ok}
 use Rattle.net_core.specs.NetList.{nets, NetList}
 use Rattle.net_core.specs.Sound.{IsSound}
 use Rattle.net_blif.specs.Design.{ModelValue}
@@ -48,24 +49,21 @@ use Rattle.gf_abs.proofs.MakeHeadlineLemmas.{blif_text}
 use Rattle.gf_abs.proofs.PrintedLemmas.{no_bits}
 use Rattle.gf_abs.proofs.TakenLemmas.{netlist_bound, netlist_bound_to, netlist_sound}
 
-same_ok : {A F : Type 0} (a b : A) → ◌≡◌ {A = Result A F} (Ok a) (Ok b) → a ≡ b
-same_ok a b e = cc
-
 -- ---- a net with nothing to unroll
 
 module _ (setting : SettingValue) (sound : IsSoundSetting setting) (text : NetlistText) (netlist : BoundNet) (is : BoundNetOf setting.signature text (Ok netlist)) (latches : netlist.net.latches ≡ []) (unfed : AreUnfed setting.signature.words) (feeds : setting.signature.feeds ≡ []) where
   net_sound : IsSound netlist.net
   net_sound = netlist_sound setting.signature text netlist is
 
-  bound : BindingOf netlist.net setting.signature.words [] (Ok netlist.bound)
-  bound = let P : List FeedText → Type 0 = λ fs. BindingOf netlist.net setting.signature.words fs (Ok netlist.bound) in subst P feeds (netlist_bound setting.signature text netlist is)
+  bound : BindingOf netlist.net setting.signature.words [] (Ok netlist.binding)
+  bound = let P : List FeedText → Type 0 = λ fs. BindingOf netlist.net setting.signature.words fs (Ok netlist.binding) in subst P feeds (netlist_bound setting.signature text netlist is)
 
-  flat : IsFlat netlist.net netlist.bound
-  flat = flat_binding setting.k setting.signature.words sound.words unfed netlist.net netlist.bound net_sound latches bound
+  flat : IsFlat netlist.net netlist.binding
+  flat = flat_binding setting.k setting.signature.words sound.words unfed netlist.net netlist.binding net_sound latches bound
 
   one_cycle : all_cycles netlist 0 ≡ netlist
   unfolding all_cycles
-  one_cycle = ap (λ (b : Bool). if b then record { net = netlist.net; bound = netlist.bound } else in_one_cycle netlist.net netlist.bound 0) (flat_to netlist.net netlist.bound (netlist_bound_to setting netlist sound text is) flat)
+  one_cycle = ap (λ (b : Bool). if b then record { net = netlist.net; binding = netlist.binding } else in_one_cycle netlist.net netlist.binding 0) (flat_to netlist.net netlist.binding (netlist_bound_to setting netlist sound text is) flat)
 
   circuit_is : CircuitOf netlist 0 (Ok netlist)
   circuit_is =
@@ -114,10 +112,10 @@ module _ (setting : SettingValue) (sound : IsSoundSetting setting) (own : BasesO
   latches : netlist.net.latches ≡ []
   latches = ap (λ (n : NetList). n.latches) net_same ∙ composed.2.2.2.top_is.latches
 
-  bound_same : netlist.bound ≡ composed.2.2.2.top_is.binding
+  bound_same : netlist.binding ≡ composed.2.2.2.top_is.binding
   bound_same =
-      let P : NetList → Type 0 = λ n. BindingOf n setting.signature.words [] (Ok netlist.bound) in
-      same_ok netlist.bound composed.2.2.2.top_is.binding (binding_determined composed.2.2.2.top_is.net setting.signature.words [] (Ok netlist.bound) (Ok composed.2.2.2.top_is.binding) (subst P net_same (bound setting sound (Blif bytes) netlist is_bound latches unfed feeds)) composed.2.2.2.top_is.bound)
+      let P : NetList → Type 0 = λ n. BindingOf n setting.signature.words [] (Ok netlist.binding) in
+      same_ok netlist.binding composed.2.2.2.top_is.binding (binding_determined composed.2.2.2.top_is.net setting.signature.words [] (Ok netlist.binding) (Ok composed.2.2.2.top_is.binding) (subst P net_same (bound setting sound (Blif bytes) netlist is_bound latches unfed feeds)) composed.2.2.2.top_is.bound)
 
   bases_same : setting.bases ≡ bases_at h 0
   bases_same =
@@ -125,7 +123,7 @@ module _ (setting : SettingValue) (sound : IsSoundSetting setting) (own : BasesO
       same_ok setting.bases listed.0 (bases_determined setting.k setting.product setting.signature.words (Ok setting.bases) (Ok listed.0) own listed.1) ∙ sym (ap (λ found. unwrap_or found []) at)
 
   circuit_same : taken_circuit setting netlist ≡ top
-  circuit_same = (λ i. circuit_with setting.k setting.product (record { net = net_same i; bound = bound_same i }) (bases_same i)) ∙ composed.2.2.2.top_is.is
+  circuit_same = (λ i. circuit_with setting.k setting.product (record { net = net_same i; binding = bound_same i }) (bases_same i)) ∙ composed.2.2.2.top_is.is
 
   output : IsOutputInWords (taken_circuit setting netlist) ts
   output = let P : Circuit → Type 0 = λ c. IsOutputInWords c ts in subst P (sym circuit_same) composed.2.2.2.output

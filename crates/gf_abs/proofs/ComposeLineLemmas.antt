@@ -1,6 +1,6 @@
 -- Each fault of `compose` is one line.
 use Rattle.std.proofs.Common.{◌≡◌, ◌∙◌, ap, sym, refl, subst, inl, inr, ℕ, suc, ◌+◌, Bool, true, false, cond, List, [], ◌∷◌, ◌++◌, codes, Option, None, Some, Result, Ok, Err, arith}
-use Rattle.std.specs.Prelude.{slice_get}
+use Rattle.std.specs.Prelude.{slice_get, IfSome}
 use Rattle.std.specs.List.{AllByRecursion}
 use Rattle.std.specs.Option.{option_map_or}
 use Rattle.std.specs.Str.{bytes_eq}
@@ -28,9 +28,9 @@ use Rattle.block_plan.specs.declared.fault.PlanFault.TheVariants as plans
 use Rattle.block_plan.proofs.BlockLemmas.{found_block}
 use Rattle.block_wiring.specs.declared.fault.WiringFault.{WiringFault}
 use Rattle.block_wiring.specs.declared.fault.WiringFault.TheVariants as wirings
-use Rattle.block_compose.specs.Composed.{plan_fault, wiring_fault, ComposesIn, HasNoRing, StagesOf}
+use Rattle.block_compose.specs.Composed.{ComposesIn, HasNoCycle, StagesOf}
 use Rattle.block_compose.specs.declared.fault.ComposeFault.{ComposeFault}
-use Rattle.block_compose.specs.declared.fault.ComposeFault.TheVariants.{FedInTop, GateInTop, NoBlock, BlockNet, BlockLatch, BlockBind, NotWords, OutputNotWords, InstanceLoop, TooManyTerms, OutOfMemory}
+use Rattle.block_compose.specs.declared.fault.ComposeFault.TheVariants.{Plan, Wiring, InstanceLoop, TooManyTerms}
 use Rattle.job_words.specs.OneLine.{HasNoLineFeed, KeepsToItsLine}
 use Rattle.job_words.specs.Operands.{Word}
 use Rattle.job_words.specs.StageFault.{stage_text}
@@ -119,7 +119,7 @@ word_kept words w names = by (slice_get words w) refl
 
 module _ (setting : SettingValue) (design : List ModelValue) (bound : ℕ) (prints : AllByRecursion ModelPrints design) (right : AreRight design (Ok tt)) (names : HaveNames setting.signature.words) (block_names : HaveBlockNames setting.signature) where
   abbrev Keeps : ComposeFault → Type 0
-  Keeps fault = KeepsToItsLine (compose_fault setting design bound fault)
+  Keeps fault = IfSome (compose_fault setting design bound fault) KeepsToItsLine
 
   same_keeps : (fault other : ComposeFault) → fault ≡ other → Keeps other → Keeps fault
   same_keeps fault other same keeps = let P : ComposeFault → Type 0 = Keeps in subst P (sym same) keeps
@@ -147,55 +147,43 @@ module _ (setting : SettingValue) (design : List ModelValue) (bound : ℕ) (prin
       let P : Token → Type 0 = HasNoLineFeed in
       subst P (sym same) (block_kept item number block is.named is.found (model_kept (model_in item) model is.model_is))
 
-  use_kept : (item : Item) (fault : PlanFault) → UseOf design setting.signature.blocks item (Err fault) → Keeps (plan_fault fault)
+  use_kept : (item : Item) (fault : PlanFault) → UseOf design setting.signature.blocks item (Err fault) → Keeps (Plan fault)
   use_kept item (plans.BlockNet name) is = (used_kept item is.number is.model is.block name is.is_block is.name_is, tt)
   use_kept item (plans.BlockLatch name) is = (used_kept item is.number is.model is.block name is.is_block is.name_is, tt)
   use_kept item (plans.BlockBind name) is = (used_kept item is.number is.model is.block name is.is_block is.name_is, tt)
-  use_kept item plans.FedInTop is = absurd is
-  use_kept item (plans.GateInTop line) is = absurd is
-  use_kept item (plans.NoBlock name) is = absurd is
-  use_kept item plans.OutOfMemory is = absurd is
+  use_kept item fault is = absurd is
 
-  same_plan : (fault other : PlanFault) → fault ≡ other → Keeps (plan_fault other) → Keeps (plan_fault fault)
-  same_plan fault other same keeps = let P : PlanFault → Type 0 = λ f. Keeps (plan_fault f) in subst P (sym same) keeps
+  same_plan : (fault other : PlanFault) → fault ≡ other → Keeps (Plan other) → Keeps (Plan fault)
+  same_plan fault other same keeps = let P : PlanFault → Type 0 = λ f. Keeps (Plan f) in subst P (sym same) keeps
 
-  fed_kept : (b : Bool) (fault : PlanFault) → ◌≡◌ {A = Result (Unit {0}) PlanFault} (Err fault) (cond b (Err plans.FedInTop) (Ok tt)) → Keeps (plan_fault fault)
+  fed_kept : (b : Bool) (fault : PlanFault) → ◌≡◌ {A = Result (Unit {0}) PlanFault} (Err fault) (cond b (Err plans.FedInTop) (Ok tt)) → Keeps (Plan fault)
   fed_kept true fault e = let same : fault ≡ plans.FedInTop = cc in same_plan fault plans.FedInTop same tt
   fed_kept false fault e = absurd (cc)
 
-  gate_kept : (line : Option ℕ) (fault : PlanFault) → ◌≡◌ {A = Result (Unit {0}) PlanFault} (Err fault) (gate_refused line) → Keeps (plan_fault fault)
+  gate_kept : (line : Option ℕ) (fault : PlanFault) → ◌≡◌ {A = Result (Unit {0}) PlanFault} (Err fault) (gate_refused line) → Keeps (Plan fault)
   gate_kept None fault e = absurd (cc)
   gate_kept (Some line) fault e = let same : fault ≡ plans.GateInTop line = cc in same_plan fault (plans.GateInTop line) same tt
 
-  none_kept : (model : Token) (number : Option ℕ) (fault : PlanFault) → HasNoLineFeed model → ◌≡◌ {A = Result ℕ PlanFault} (Err fault) (numbered model number) → Keeps (plan_fault fault)
+  none_kept : (model : Token) (number : Option ℕ) (fault : PlanFault) → HasNoLineFeed model → ◌≡◌ {A = Result ℕ PlanFault} (Err fault) (numbered model number) → Keeps (Plan fault)
   none_kept model None fault kept e = let same : fault ≡ plans.NoBlock model = cc in same_plan fault (plans.NoBlock model) same (kept, tt)
   none_kept model (Some number) fault kept e = absurd (cc)
 
-  plan_kept : (fault : PlanFault) → UsesOf design setting.signature (Err fault) → Keeps (plan_fault fault)
+  plan_kept : (fault : PlanFault) → UsesOf design setting.signature (Err fault) → Keeps (Plan fault)
   plan_kept fault (inl unfed) = fed_kept (has_feed setting.signature) fault unfed
   plan_kept fault (inr (u, unfed, inl alone)) = gate_kept (gate_line design) fault alone
   plan_kept fault (inr (u, unfed, inr (v, alone, inl first))) = none_kept (model_in first.element) (block_from 0 setting.signature.blocks (model_in first.element)) fault (instance_kept first.place first.element first.at) first.is
   plan_kept fault (inr (u, unfed, inr (v, alone, inr (numbers, are, first)))) = use_kept first.element fault first.is
 
-  -- ---- the wiring, rings and stages
+  -- ---- the wiring, cycles and stages
 
-  wiring_kept : (fault : WiringFault) → Keeps (wiring_fault fault)
+  wiring_kept : (fault : WiringFault) → Keeps (Wiring fault)
   wiring_kept (wirings.NotWords instance word) = (word_kept (words_in setting.signature.blocks (instance_model design instance)) word (words_named setting.signature.blocks block_names (instance_model design instance)), tt)
   wiring_kept wirings.OutputNotWords = tt
   wiring_kept wirings.OutOfMemory = tt
 
-  ring_kept : (rows : List (List Feeder)) (fault : ComposeFault) → HasNoRing rows (Err fault) → Keeps fault
-  ring_kept rows (InstanceLoop instance) is = tt
-  ring_kept rows FedInTop is = absurd is
-  ring_kept rows (GateInTop line) is = absurd is
-  ring_kept rows (NoBlock model) is = absurd is
-  ring_kept rows (BlockNet model) is = absurd is
-  ring_kept rows (BlockLatch model) is = absurd is
-  ring_kept rows (BlockBind model) is = absurd is
-  ring_kept rows (NotWords instance word) is = absurd is
-  ring_kept rows OutputNotWords is = absurd is
-  ring_kept rows (TooManyTerms block stage terms) is = absurd is
-  ring_kept rows OutOfMemory is = absurd is
+  cycle_kept : (rows : List (List Feeder)) (fault : ComposeFault) → HasNoCycle rows (Err fault) → Keeps fault
+  cycle_kept rows (InstanceLoop instance) is = tt
+  cycle_kept rows fault is = absurd is
 
   module _ (lists : List (List (List ℕ))) where
     abbrev h : Hierarchy
@@ -212,26 +200,19 @@ module _ (setting : SettingValue) (design : List ModelValue) (bound : ℕ) (prin
           tt,
         )
     stages_kept rows (TooManyTerms None stage terms) is = (stage_kept (labels_of setting.k setting.signature.words) stage (labels_kept setting.k setting.signature.words names), tt)
-    stages_kept rows FedInTop is = absurd is
-    stages_kept rows (GateInTop line) is = absurd is
-    stages_kept rows (NoBlock model) is = absurd is
-    stages_kept rows (BlockNet model) is = absurd is
-    stages_kept rows (BlockLatch model) is = absurd is
-    stages_kept rows (BlockBind model) is = absurd is
-    stages_kept rows (NotWords instance word) is = absurd is
-    stages_kept rows OutputNotWords is = absurd is
-    stages_kept rows (InstanceLoop instance) is = absurd is
-    stages_kept rows OutOfMemory is = absurd is
+    stages_kept rows fault is = absurd is
 
     composed_kept : (fault : ComposeFault) → ComposesIn setting.k setting.product setting.signature h bound (Err fault) → Keeps fault
-    composed_kept fault (inl (other, is, same)) = same_keeps fault (plan_fault other) same (plan_kept other is)
-    composed_kept fault (inr (uses, are, inl (other, is, same))) = same_keeps fault (wiring_fault other) same (wiring_kept other)
-    composed_kept fault (inr (uses, are, inr (wiring, wired, inl is))) = ring_kept wiring.0 fault is
+    composed_kept fault (inl (other, is, same)) = same_keeps fault (Plan other) same (plan_kept other is)
+    composed_kept fault (inr (uses, are, inl (other, is, same))) = same_keeps fault (Wiring other) same (wiring_kept other)
+    composed_kept fault (inr (uses, are, inr (wiring, wired, inl is))) = cycle_kept wiring.0 fault is
     composed_kept fault (inr (uses, are, inr (wiring, wired, inr (u, free, is)))) = stages_kept wiring.0 fault is
 
   over_kept : (fault : Fault) → ComposeOver setting design bound (Err fault) → KeepsToItsLine fault
   over_kept fault (inl is) = lists_kept setting.k setting.product setting.signature fault is
-  over_kept fault (inr (lists, are, inl (other, is, same))) = same_line fault (compose_fault setting design bound other) same (composed_kept lists other is)
+  over_kept fault (inr (lists, are, inl (other, is, same))) =
+      let P : Option Fault → Type 0 = λ found. IfSome found KeepsToItsLine in
+      subst P same (composed_kept lists other is)
   over_kept fault (inr (lists, are, inr (ts, of, never))) = absurd never
 
 -- instances of a text's models have models

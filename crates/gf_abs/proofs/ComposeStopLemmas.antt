@@ -3,7 +3,7 @@ use Rattle.std.proofs.Common.{◌≡◌, ◌∙◌, ap, sym, refl, subst, inl, i
 use Rattle.std.specs.Prelude.{slice_get}
 use Rattle.std.specs.Str.{bytes_eq}
 use Rattle.std.proofs.lemmas.Slice.Eq.{bytes_eq-Decides}
-use Rattle.text_core.specs.Outcome.{Outcome, Within}
+use Rattle.text_core.specs.Outcome.{Outcome}
 use Rattle.net_blif.specs.Design.{model_from, model_named, ModelValue}
 use Rattle.net_blif.specs.Statement.{Token}
 use Rattle.net_blif.specs.Top.{model_in}
@@ -27,58 +27,63 @@ use Rattle.block_plan.proofs.BlockLemmas.{found_block, name_is}
 use Rattle.block_wiring.specs.declared.fault.WiringFault.{WiringFault}
 use Rattle.block_wiring.specs.declared.fault.WiringFault.TheVariants as wirings
 use Rattle.block_stages.specs.InstanceStages.{instance_in}
-use Rattle.block_compose.specs.Composed.{plan_fault, wiring_fault, ComposesIn, IsBlockOver, MayFault, StagesOf}
+use Rattle.block_compose.specs.Composed.{ComposesIn, IsBlockOver, MayFault, StagesOf}
 use Rattle.block_compose.specs.declared.fault.ComposeFault.{ComposeFault}
-use Rattle.block_compose.specs.declared.fault.ComposeFault.TheVariants.{FedInTop, GateInTop, NoBlock, BlockNet, BlockLatch, BlockBind, NotWords, OutputNotWords, InstanceLoop, TooManyTerms, OutOfMemory}
+use Rattle.block_compose.specs.declared.fault.ComposeFault.TheVariants.{Plan, Wiring, InstanceLoop, TooManyTerms, OutOfMemory}
 use Rattle.job_words.specs.StageFault.{HasItsWord}
-use Rattle.job_words.specs.Stop.{GivesBy, IsMiss}
+use Rattle.job_words.specs.Stop.{GivesBy}
 use Rattle.job_words.specs.declared.fault.Fault.{Fault}
 use Rattle.job_words.specs.declared.stop.Stop.{Stop}
-use Rattle.job_words.specs.declared.stop.Stop.TheVariants as stops
 use Rattle.job_input.specs.Labelling.{word_labels}
 use Rattle.job_input.specs.SettingValue.{SettingValue}
 use Rattle.job_input.proofs.CountLemmas.{as_many}
 use Rattle.job_input.proofs.RoleLemmas.{binding_roles, roles_long}
-use Rattle.gf_abs.specs.commands.Compose.{compose_fault, words_in}
-use Rattle.gf_abs.specs.private.Composing.{HasNamedStage, IsComposeStop, IsStageIn}
-use Rattle.gf_abs.specs.private.StageStop.{IsRefusalOf}
+use Rattle.gf_abs.specs.commands.Compose.{compose_fault, hierarchy_with, plan_fault, wiring_fault, words_in, ComposeOf}
+use Rattle.gf_abs.specs.private.Composing.{HasNamedStage, IsStageIn}
+use Rattle.gf_abs.specs.private.StageStop.{IsStopOf}
+use Rattle.gf_abs.proofs.RefusalLemmas.{stopped, IsNoMiss}
 
 -- ---- the fault itself
 
-module _ (setting : SettingValue) (design : List ModelValue) (bound : ℕ) where
-  -- it is none of a missing file
-  no_miss : (fault : ComposeFault) → IsMiss (compose_fault setting design bound fault) → ⊥
-  no_miss FedInTop miss = miss
-  no_miss (GateInTop line) miss = miss
-  no_miss (NoBlock model) miss = miss
-  no_miss (BlockNet model) miss = miss
-  no_miss (BlockLatch model) miss = miss
-  no_miss (BlockBind model) miss = miss
-  no_miss (NotWords instance word) miss = miss
-  no_miss OutputNotWords miss = miss
-  no_miss (InstanceLoop instance) miss = miss
-  no_miss (TooManyTerms block stage terms) miss = miss
-  no_miss OutOfMemory miss = miss
+-- it is none of a missing file
+no_plan_miss : (fault : PlanFault) → IsNoMiss (plan_fault fault)
+no_plan_miss plans.OutOfMemory = tt
+no_plan_miss fault = λ miss. miss
 
-  module _ {X : Type 0} (view : X → Terms) (outcome : Outcome ComposeFault Terms) where
-    refuses : (fault : ComposeFault) (stop : Stop) → outcome (Err fault) → IsRefusalOf (compose_fault setting design bound fault) stop → GivesBy view (Err stop) (Within (compose_fault setting design bound) outcome) ⊥ ⊥
-    refuses fault (stops.Refused refused) may same = let P : Fault → Type 0 = IsMiss in ((fault, may, same), λ miss. no_miss fault (subst P same miss))
-    refuses fault stops.Outside may same = absurd same
-    refuses fault stops.OutOfMemory may same = tt
+no_wiring_miss : (blocks : List BlockValue) (design : List ModelValue) (fault : WiringFault) → IsNoMiss (wiring_fault blocks design fault)
+no_wiring_miss blocks design wirings.OutOfMemory = tt
+no_wiring_miss blocks design fault = λ miss. miss
 
-    -- a refusal of the composition is one of the command
-    pub compose_stops : (fault : ComposeFault) (stop : Stop) → MayFault outcome fault → IsComposeStop setting design bound fault stop → GivesBy view (Err stop) (Within (compose_fault setting design bound) outcome) ⊥ ⊥
-    compose_stops FedInTop stop may is = refuses FedInTop stop may is
-    compose_stops (GateInTop line) stop may is = refuses (GateInTop line) stop may is
-    compose_stops (NoBlock model) stop may is = refuses (NoBlock model) stop may is
-    compose_stops (BlockNet model) stop may is = refuses (BlockNet model) stop may is
-    compose_stops (BlockLatch model) stop may is = refuses (BlockLatch model) stop may is
-    compose_stops (BlockBind model) stop may is = refuses (BlockBind model) stop may is
-    compose_stops (NotWords instance word) stop may is = refuses (NotWords instance word) stop may is
-    compose_stops OutputNotWords stop may is = refuses OutputNotWords stop may is
-    compose_stops (InstanceLoop instance) stop may is = refuses (InstanceLoop instance) stop may is
-    compose_stops (TooManyTerms block stage terms) stop may is = refuses (TooManyTerms block stage terms) stop may is
-    compose_stops OutOfMemory stop may is = let P : Stop → Type 0 = λ s. GivesBy view (Err s) (Within (compose_fault setting design bound) outcome) ⊥ ⊥ in subst P (sym is) tt
+no_miss : (setting : SettingValue) (design : List ModelValue) (bound : ℕ) (fault : ComposeFault) → IsNoMiss (compose_fault setting design bound fault)
+no_miss setting design bound (Plan fault) = no_plan_miss fault
+no_miss setting design bound (Wiring fault) = no_wiring_miss setting.signature.blocks design fault
+no_miss setting design bound (InstanceLoop instance) = λ miss. miss
+no_miss setting design bound (TooManyTerms block stage terms) = λ miss. miss
+no_miss setting design bound OutOfMemory = tt
+
+-- a fault with a refusal is one that may come
+module _ (outcome : Outcome ComposeFault Terms) (f : Fault) where
+  plan_comes : (found : PlanFault) → MayFault outcome (Plan found) → plan_fault found ≡ Some f → outcome (Err (Plan found))
+  plan_comes plans.OutOfMemory may same = absurd (cc)
+  plan_comes found may same = may
+
+  wiring_comes : (blocks : List BlockValue) (design : List ModelValue) (found : WiringFault) → MayFault outcome (Wiring found) → wiring_fault blocks design found ≡ Some f → outcome (Err (Wiring found))
+  wiring_comes blocks design wirings.OutOfMemory may same = absurd (cc)
+  wiring_comes blocks design found may same = may
+
+  composition_comes : (setting : SettingValue) (design : List ModelValue) (bound : ℕ) (found : ComposeFault) → MayFault outcome found → compose_fault setting design bound found ≡ Some f → outcome (Err found)
+  composition_comes setting design bound (Plan found) may same = plan_comes found may same
+  composition_comes setting design bound (Wiring found) may same = wiring_comes setting.signature.blocks design found may same
+  composition_comes setting design bound (InstanceLoop instance) may same = may
+  composition_comes setting design bound (TooManyTerms block stage terms) may same = may
+  composition_comes setting design bound OutOfMemory may same = absurd (cc)
+
+-- a refusal of the composition is one of the command
+pub compose_stops : {X : Type 0} (view : X → Terms) (setting : SettingValue) (design : List ModelValue) (lists : List (List (List ℕ))) (bound : ℕ) (found : ComposeFault) (stop : Stop)
+    → MayFault (ComposesIn setting.k setting.product setting.signature (hierarchy_with setting design lists) bound) found → IsStopOf (compose_fault setting design bound found) stop → GivesBy view (Err stop) (ComposeOf setting design lists bound) ⊥ ⊥
+compose_stops view setting design lists bound found stop may is =
+    stopped view (ComposeOf setting design lists bound) (compose_fault setting design bound found) stop (no_miss setting design bound found)
+    (λ f same. (found, composition_comes (ComposesIn setting.k setting.product setting.signature (hierarchy_with setting design lists) bound) f setting design bound found may same, same)) is
 
 -- ---- the models of a design
 
@@ -170,19 +175,11 @@ module _ (k : ℕ) (mul : ℕ → ℕ → ℕ) (h : Hierarchy) where
 
     -- ---- the stages come last
 
-    plan_apart : (fault : PlanFault) (block : Option Token) (stage : Stage) (terms : ℕ) → ◌≡◌ {A = ComposeFault} (TooManyTerms block stage terms) (plan_fault fault) → ⊥
-    plan_apart plans.FedInTop block stage terms e = cc
-    plan_apart (plans.GateInTop line) block stage terms e = cc
-    plan_apart (plans.NoBlock model) block stage terms e = cc
-    plan_apart (plans.BlockNet model) block stage terms e = cc
-    plan_apart (plans.BlockLatch model) block stage terms e = cc
-    plan_apart (plans.BlockBind model) block stage terms e = cc
-    plan_apart plans.OutOfMemory block stage terms e = cc
+    plan_apart : (fault : PlanFault) (block : Option Token) (stage : Stage) (terms : ℕ) → ◌≡◌ {A = ComposeFault} (TooManyTerms block stage terms) (Plan fault) → ⊥
+    plan_apart fault block stage terms e = cc
 
-    wiring_apart : (fault : WiringFault) (block : Option Token) (stage : Stage) (terms : ℕ) → ◌≡◌ {A = ComposeFault} (TooManyTerms block stage terms) (wiring_fault fault) → ⊥
-    wiring_apart (wirings.NotWords instance word) block stage terms e = cc
-    wiring_apart wirings.OutputNotWords block stage terms e = cc
-    wiring_apart wirings.OutOfMemory block stage terms e = cc
+    wiring_apart : (fault : WiringFault) (block : Option Token) (stage : Stage) (terms : ℕ) → ◌≡◌ {A = ComposeFault} (TooManyTerms block stage terms) (Wiring fault) → ⊥
+    wiring_apart fault block stage terms e = cc
 
     stage_refused : (signature : SignatureValue) (bound : ℕ) (block : Option Token) (stage : Stage) (terms : ℕ) → ComposesIn k mul signature h bound (Err (TooManyTerms block stage terms)) → (rows : List (List Feeder)) × StagesOf k mul h rows bound (Err (TooManyTerms block stage terms))
     stage_refused signature bound block stage terms (inl (fault, is, same)) = absurd (plan_apart fault block stage terms same)
@@ -194,13 +191,4 @@ module _ (k : ℕ) (mul : ℕ → ℕ → ℕ) (h : Hierarchy) where
     pub named_stage : (signature : SignatureValue) (bound : ℕ) (fault : ComposeFault) → MayFault (ComposesIn k mul signature h bound) fault → HasNamedStage k h.words h.blocks fault
     named_stage signature bound (TooManyTerms (Some model) stage terms) may = let is = stage_refused signature bound (Some model) stage terms may in stage_in is.0 bound model stage terms is.1
     named_stage signature bound (TooManyTerms None stage terms) may = let is = stage_refused signature bound None stage terms may in let listed = is.1.listed in has_no_word (length (word_labels k h.words)) (instance_in stage) _ stage listed.is
-    named_stage signature bound FedInTop may = tt
-    named_stage signature bound (GateInTop line) may = tt
-    named_stage signature bound (NoBlock model) may = tt
-    named_stage signature bound (BlockNet model) may = tt
-    named_stage signature bound (BlockLatch model) may = tt
-    named_stage signature bound (BlockBind model) may = tt
-    named_stage signature bound (NotWords instance word) may = tt
-    named_stage signature bound OutputNotWords may = tt
-    named_stage signature bound (InstanceLoop instance) may = tt
-    named_stage signature bound OutOfMemory may = tt
+    named_stage signature bound fault may = tt

@@ -12,11 +12,6 @@ use Rattle.gf_abs.specs.Values.{ElementOf, ElementsOf, ValuesOf}
 abbrev pub Rest : (k place : ℕ) → List ℕ → List Word → Outcome ValueFault (List ℕ)
 Rest k place so_far values = ElementsOf k place values >>= (λ more. Exactly (so_far ++ more))
 
-pub rest_start : (k : ℕ) (values : List Word) (outcome : Result (List ℕ) ValueFault) → Rest k 1 [] values outcome → ElementsOf k 1 values outcome
-rest_start k values (Ok all) rest = let P : List ℕ → Type 0 = λ xs. ElementsOf k 1 values (Ok xs) in subst P (sym rest.2) rest.1
-rest_start k values (Err fault) (inl fails) = fails
-rest_start k values (Err fault) (inr (more, are, never)) = absurd never
-
 rest_ok : (k place : ℕ) (so_far : List ℕ) (value : Word) (values : List Word) (x : ℕ) → ElementOf k place value (Ok x) → (outcome : Result (List ℕ) ValueFault) → Rest k (place + 1) (so_far ++ x ∷ []) values outcome → Rest k place so_far (value ∷ values) outcome
 rest_ok k place so_far value values x one (Ok all) rest = (x ∷ rest.0, (x, one, (rest.0, rest.1, refl)), rest.2 ∙ append_assoc so_far (x ∷ []) rest.0)
 rest_ok k place so_far value values x one (Err fault) (inl fails) = inl (inr (x, one, inl fails))

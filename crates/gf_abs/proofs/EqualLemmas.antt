@@ -27,7 +27,7 @@ use Rattle.gf_abs.specs.Headline.{IsTaken, IsInItsWords, HasOutput, IsPrinted}
 use Rattle.gf_abs.specs.Reply.{Reply, polynomial_line}
 use Rattle.gf_abs.specs.commands.Abstract.{AbstractReply, taken_circuit}
 use Rattle.gf_abs.specs.commands.Bits.{BitsReply}
-use Rattle.gf_abs.proofs.EqualLabels.{are_labels, few_bits}
+use Rattle.gf_abs.proofs.EqualLabelLemmas.{are_labels, few_bits}
 use Rattle.gf_abs.proofs.PrintedLemmas.{all_named, words_alone, words_values}
 use Rattle.gf_abs.proofs.TakenLemmas.{bases_long, circuit_flat, circuit_roles, circuit_well}
 use Rattle.job_input.proofs.CountLemmas.{as_many}
@@ -42,13 +42,13 @@ module _ (setting : SettingValue) (circuit : BoundNet) (taken : IsTaken setting 
   pub well : IsWellFormed whole
   well = circuit_well setting circuit sound taken.netlist taken.cycles taken.is_circuit
 
-  pub roles : HaveRoles setting.signature.words circuit.bound.words
+  pub roles : HaveRoles setting.signature.words circuit.binding.words
   roles = circuit_roles setting circuit sound taken.netlist taken.cycles taken.is_circuit
 
   -- there are as many labels as words
   pub count : length whole.words ≡ length (word_labels setting.k setting.signature.words)
   count =
-      as_many setting.k circuit.bound.words setting.signature.words setting.bases (sound.long ∙ sym (roles_long setting.signature.words circuit.bound.words roles)) roles
+      as_many setting.k circuit.binding.words setting.signature.words setting.bases (sound.long ∙ sym (roles_long setting.signature.words circuit.binding.words roles)) roles
 
   pub labels : AreLabels (labels_of setting.k setting.signature.words)
   labels = are_labels setting.k setting.signature.words sound.words (setting_names taken.signature setting taken.is_setting)
@@ -68,7 +68,7 @@ module _ (setting : SettingValue) (circuit : BoundNet) (taken : IsTaken setting 
   in_bits bound reply (ts, found, exactly) =
       let flat = circuit_flat setting circuit sound taken.netlist taken.cycles taken.is_circuit in
       let long = bases_long setting circuit sound taken.netlist taken.cycles taken.is_circuit in
-      let stage = (same_stage setting.k setting.product circuit setting.bases (output_basis circuit.bound.words setting.bases) (length circuit.net.gates) ts long refl).0 found.0 in
+      let stage = (same_stage setting.k setting.product circuit setting.bases (output_basis circuit.binding.words setting.bases) (length circuit.net.gates) ts long refl).0 found.0 in
       (last_is_output whole well flat ts).0 stage
 
   -- it is written with the labels

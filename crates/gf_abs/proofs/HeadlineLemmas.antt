@@ -1,6 +1,7 @@
 -- What the program's answers say, out of what comes of their steps.
-use Rattle.std.proofs.Common.{◌≡◌, ◌∙◌, ap, refl, sym, subst, ℕ, List, Some, Result, Ok, ◌↔◌}
+use Rattle.std.proofs.Common.{◌≡◌, ◌∙◌, ap, refl, sym, subst, ℕ, List, Some, Ok, ◌↔◌}
 use Rattle.job_io.specs.Shelf.{Files}
+use Rattle.text_core.proofs.GeneralLemmas.{same_ok}
 use Rattle.net_words.specs.Binding.{BoundNet}
 use Rattle.poly_mixed.specs.Polynomial.{Terms}
 use Rattle.circuit_model.specs.Circuit.{Circuit}
@@ -21,7 +22,7 @@ use Rattle.gf_abs.specs.Headline.{IsTaken, AreHeld, AnswersAbstract, IsInItsWord
 use Rattle.gf_abs.specs.Reply.{Reply, polynomial_line}
 use Rattle.gf_abs.specs.commands.Abstract.{taken_circuit}
 use Rattle.gf_abs.proofs.AnswerDetermined.{read_determined}
-use Rattle.gf_abs.proofs.EqualFunctions.{equal_bytes}
+use Rattle.gf_abs.proofs.EqualFunctionLemmas.{equal_bytes}
 use Rattle.gf_abs.proofs.EqualLemmas.{only_text, printed}
 use Rattle.gf_abs.proofs.JobLemmas.{IsOneWith, both_one, output_from, output_to, printed_to, with_job, words_from}
 
@@ -50,9 +51,6 @@ held_job files signature net cycles setting bound bytes text signature_read net_
 }
 
 -- ---- one setting and job in the files
-
-same_ok : {A F : Type 0} (a b : A) → ◌≡◌ {A = Result A F} (Ok a) (Ok b) → a ≡ b
-same_ok a b e = cc
 
 module _ (files : Files) (signature net other : Word) (cycles : ℕ) where
   pub one_setting : (s t : SettingValue) (c d : Circuit) → AreHeld files signature net cycles s c → AreHeld files signature other cycles t d → s ≡ t

@@ -1,5 +1,5 @@
 -- Fields that fit, the lines of an isomorphism's images, and that there is one reply of `iso`.
-use Rattle.std.proofs.Common.{◌≡◌, ◌∙◌, ap, sym, refl, subst, inl, inr, ℕ, zero, suc, ◌+◌, ◌*◌, ◌^◌, ◌<◌, List, [], ◌∷◌, ◌++◌, length, Ok, Err, arith}
+use Rattle.std.proofs.Common.{◌≡◌, ◌∙◌, ap, sym, refl, subst, ℕ, zero, suc, ◌+◌, ◌*◌, ◌^◌, ◌<◌, List, [], ◌∷◌, ◌++◌, length, Ok, Err, arith}
 use Rattle.std.proofs.lemmas.List.{append_assoc}
 use Rattle.std.proofs.lemmas.Nat.{pow_below}
 use Rattle.text_core.specs.Outcome.{Determined}
@@ -15,7 +15,7 @@ use Rattle.gf_iso.specs.Fits.{Fits}
 use Rattle.gf_iso.specs.Isomorphism.{AreSame, HasOnlyIso, IsIsoOf}
 use Rattle.gf_iso.proofs.FieldsLaws.{only_for}
 use Rattle.gf_tower.specs.Digits.{IsPackedList}
-use Rattle.gf_tower.specs.FieldName.{IsFieldModulus, IsFieldName, IsFieldTower}
+use Rattle.gf_tower.specs.FieldName.{IsFieldModulus, IsFieldTower}
 use Rattle.gf_tower.specs.Tower.{polynomial_of, tower_polynomial}
 use Rattle.gf_tower.specs.laws.TowerLaws.{field_by_polynomial}
 use Rattle.gf_tower.proofs.FieldNameLaws.{degree_unique}
@@ -69,17 +69,6 @@ module _ (first second : SignatureValue) (k n m low big g : ℕ) (cs : List ℕ)
       let same_n : e ≡ n = degree_unique e n second.modulus fit.base_modulus.modulus (subst Q same_base base) in
       let many : length second.tower ≡ m = ap (λ (xs : List ℕ). length xs) (sym same_tower) ∙ packs.size in
       none (record { two = sym many ∙ fit.fits.two; small = let small = fit.fits.small in omega (arith, small, same_n); double = let double = fit.fits.double in omega (arith, double, same_k, same_n) })
-
--- what a modulus and coefficients name
-pub named_base : (d g : ℕ) → IsFieldModulus d g → IsFieldName g [] []
-named_base d g base = record { degree = d; base = base; tower = inl refl; upper = inl refl }
-
-pub named_tower : (d g : ℕ) (cs : List ℕ) → IsFieldModulus d g → IsFieldTower d g cs → IsFieldName g cs []
-named_tower d g cs base tower = record { degree = d; base = base; tower = inr tower; upper = inl refl }
-
--- no coefficients make no tower
-pub some_steps : (d g : ℕ) (cs : List ℕ) → IsFieldTower d g cs → cs ≡ [] → ⊥
-some_steps d g cs tower none = let long : length cs ≡ 0 = ap (λ (xs : List ℕ). length xs) none in let two = tower.list.size.two in absurd (omega (arith, long, two))
 
 -- ---- the lines of the images
 

@@ -67,7 +67,7 @@ same_bases (u ∷ us) (v ∷ vs) (b ∷ bs) e =
 -- all cycles as one circuit are one with the job
 cycles_with : (setting : SettingValue) (netlist : BoundNet) (cycles : ℕ) → IsSmall netlist cycles → IsSoundSetting setting → (text : NetlistText) → BoundNetOf setting.signature text (Ok netlist) → IsOneWith (taken_circuit setting (all_cycles netlist cycles)) (job_of setting netlist cycles)
 cycles_with setting netlist cycles small sound text is = record {
-  alike = record { k = refl; product = refl; bases = same_bases (all_cycles netlist cycles).bound.words netlist.bound.words setting.bases (keeps_words netlist cycles).roles };
+  alike = record { k = refl; product = refl; bases = same_bases (all_cycles netlist cycles).binding.words netlist.binding.words setting.bases (keeps_words netlist cycles).roles };
   output = unrolled_output setting.k setting.product netlist setting.bases cycles (netlist_bits setting netlist sound text is) sound.ring sound.field small (netlist_sound setting.signature text netlist is) (netlist_bound_to setting netlist sound text is) (netlist_bases setting netlist sound text is);
 }
 

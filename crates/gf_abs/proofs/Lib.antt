@@ -39,10 +39,10 @@ pub mod AnswerDetermined
 pub mod OneLineLemmas
 pub mod StatusLemmas
 pub mod CompleteLemmas
-pub mod EqualLabels
+pub mod EqualLabelLemmas
 pub mod PrintedLemmas
 pub mod EqualLemmas
-pub mod EqualFunctions
+pub mod EqualFunctionLemmas
 pub mod JobLemmas
 pub mod HeadlineLemmas
 pub mod BitsHeadlineLemmas

@@ -2,6 +2,7 @@
 use Rattle.std.proofs.Common.{◌≡◌, ◌∙◌, ap, sym, refl, subst, ℕ, zero, suc, ◌*◌, ◌<◌, ◌≤◌, ◌^◌, List, [], ◌∷◌, length, take, drop, Option, Some, Ok, arith}
 use Rattle.std.specs.Prelude.{bit_xor, slice_get}
 use Rattle.graph_core.proofs.GraphLemmas.{All_has}
+use Rattle.graph_core.proofs.GeneralLemmas.{all_from as all_has}
 use Rattle.net_core.specs.Lists.{Has}
 use Rattle.net_core.specs.NetList.{NetList}
 use Rattle.net_core.specs.Sound.{IsSound}
@@ -59,7 +60,7 @@ use Rattle.job_input.specs.SettingValue.{SettingValue}
 use Rattle.job_input.proofs.SettingSoundLemmas.{setting_sound}
 use Rattle.gf_abs.specs.MakeHeadline.{AreCyclesOf, ComputesKind, HasOutputOfOne, HasOutputOfTwo}
 use Rattle.gf_abs.specs.commands.Make.{HasFormOf, IsMade, IsOverBase, base_degree}
-use Rattle.gf_abs.proofs.MakeLemmas.{IsUnfed, all_has, first_is, form_first, form_unfed, unfed_wide, words_wide}
+use Rattle.gf_abs.proofs.MakeLemmas.{IsUnfed, first_is, form_first, form_unfed, unfed_wide, words_wide}
 use Rattle.gf_abs.proofs.SettingFieldLemmas.{IsNamed, base_product, bases_of, first_basis, named_by, tower_product}
 
 -- the net list of a kind is sound and plainly named, the words bind to it, and its job computes what the kind does
@@ -70,29 +71,29 @@ pub record IsMadeRight (setting : SettingValue) (kind : Kind) (net : NetList) : 
   pub are_cycles : AreCyclesOf setting kind cycles
   pub binding : Binding
   pub binds : BindingOf net setting.signature.words setting.signature.feeds (Ok binding)
-  pub computes : ComputesKind setting kind (job_of setting (record { net = net; bound = binding }) cycles)
+  pub computes : ComputesKind setting kind (job_of setting (record { net = net; binding = binding }) cycles)
 
 -- ---- jobs over the bases of the setting
 
 record HasTwo (setting : SettingValue) (net : NetList) (cycles : ℕ) (f : ℕ → ℕ → ℕ) : Type 0 where
   binding : Binding
   binds : BindingOf net setting.signature.words setting.signature.feeds (Ok binding)
-  out : HasOutputOfTwo (job_of setting (record { net = net; bound = binding }) cycles) f
+  out : HasOutputOfTwo (job_of setting (record { net = net; binding = binding }) cycles) f
 
 two : (setting : SettingValue) (net : NetList) (basis : List ℕ) (cycles : ℕ) (f : ℕ → ℕ → ℕ) → setting.signature.feeds ≡ [] → setting.bases ≡ same_bases basis setting.signature.words → ComputesOfTwo setting.k setting.product net setting.signature.words basis cycles f → HasTwo setting net cycles f
 two setting net basis cycles f unfed bases is =
-    let P : List (List ℕ) → Type 0 = λ bs. (a b : ℕ) → a < 2 ^ setting.k → b < 2 ^ setting.k → IsOut (job_with setting.k setting.product (record { net = net; bound = is.binding }) bs cycles) (a ∷ b ∷ []) (f a b) in
+    let P : List (List ℕ) → Type 0 = λ bs. (a b : ℕ) → a < 2 ^ setting.k → b < 2 ^ setting.k → IsOut (job_with setting.k setting.product (record { net = net; binding = is.binding }) bs cycles) (a ∷ b ∷ []) (f a b) in
     let Q : _ → Type 0 = λ feeds. BindingOf net setting.signature.words feeds (Ok is.binding) in
     record { binding = is.binding; binds = subst Q (sym unfed) is.binds; out = subst P (sym bases) (is.out is.binding is.binds) }
 
 record HasOne (setting : SettingValue) (net : NetList) (f : ℕ → ℕ) : Type 0 where
   binding : Binding
   binds : BindingOf net setting.signature.words setting.signature.feeds (Ok binding)
-  out : HasOutputOfOne (job_of setting (record { net = net; bound = binding }) 0) f
+  out : HasOutputOfOne (job_of setting (record { net = net; binding = binding }) 0) f
 
 one : (setting : SettingValue) (net : NetList) (basis : List ℕ) (f : ℕ → ℕ) → setting.signature.feeds ≡ [] → setting.bases ≡ same_bases basis setting.signature.words → ComputesOfOne setting.k setting.product net setting.signature.words basis 0 f → HasOne setting net f
 one setting net basis f unfed bases is =
-    let P : List (List ℕ) → Type 0 = λ bs. (a : ℕ) → a < 2 ^ setting.k → IsOut (job_with setting.k setting.product (record { net = net; bound = is.binding }) bs 0) (a ∷ []) (f a) in
+    let P : List (List ℕ) → Type 0 = λ bs. (a : ℕ) → a < 2 ^ setting.k → IsOut (job_with setting.k setting.product (record { net = net; binding = is.binding }) bs 0) (a ∷ []) (f a) in
     let Q : _ → Type 0 = λ feeds. BindingOf net setting.signature.words feeds (Ok is.binding) in
     record { binding = is.binding; binds = subst Q (sym unfed) is.binds; out = subst P (sym bases) (is.out is.binding is.binds) }
 
@@ -148,9 +149,6 @@ module _ (setting : SettingValue) (text : List ℕ) (is : SettingOf text (Ok set
 
   -- the field without a tower
   module _ (HasForm : _ → Type 0) (over : IsOverBase HasForm setting) where
-    abbrev g : ℕ
-    g = setting.signature.modulus
-
     ring_field : HasNoZeroDivisors setting.k (product 1 setting.k bit_mul setting.signature.modulus)
     ring_field = (field_by_modulus setting.k setting.signature.modulus over.modulus.modulus).1 over.modulus.irreducible
 
@@ -291,7 +289,7 @@ module _ (setting : SettingValue) (text : List ℕ) (is : SettingOf text (Ok set
       let fits = digit_binds.fits k mul x width ws feeds own.words all ring.some ring.small own.feeds own.names in
       let same = by_product (HasDigitForm k) form in
       let bases = poly_bases (digit_poly ws own.words) in
-      let P : (ℕ → ℕ → ℕ) → List (List ℕ) → Type 0 = λ f bs. (a b : ℕ) → a < 2 ^ k → b < 2 ^ k → IsOut (job_with k f (record { net = net; bound = made.product.binding }) bs own.feeds.count) (a ∷ b ∷ []) (f a b) in
+      let P : (ℕ → ℕ → ℕ) → List (List ℕ) → Type 0 = λ f bs. (a b : ℕ) → a < 2 ^ k → b < 2 ^ k → IsOut (job_with k f (record { net = net; binding = made.product.binding }) bs own.feeds.count) (a ∷ b ∷ []) (f a b) in
       let Q : (ℕ → ℕ → ℕ) → Type 0 = λ f. P f (same_bases (unit_basis k) ws) in
       let R : List (List ℕ) → Type 0 = λ bs. P setting.product bs in
       let S : NetList → Type 0 = λ n. IsSound n in

@@ -13,7 +13,7 @@ use Rattle.net_words.specs.Binding.{BoundNet}
 use Rattle.net_write.specs.Plain.{HasPlainNames}
 use Rattle.net_write.specs.SameByName.{IsSameByName}
 use Rattle.net_write.specs.Written.{written}
-use Rattle.net_write.proofs.RoundTrip.{is_flat, is_read, is_same}
+use Rattle.net_write.proofs.RoundTripLemmas.{is_flat, is_read, is_same}
 use Rattle.job_words.specs.Command.{Job, Make, Over}
 use Rattle.job_words.specs.Operands.{Word, IsBlifName, is_verilog}
 use Rattle.job_words.specs.declared.file_fault.FileFault.{FileFault}
@@ -72,7 +72,7 @@ module _ (files others : Files) (signature net : Word) (kind : Kind) (reply : Re
       let back = read_back list right.sound right.plain in
       let again : NetOf (Blif (written list)) (Ok back.other) = back.is_net in
       let alike = bound_alike list back.other right.sound (net_sound (Blif (written list)) back.other again) right.plain back.plain back.same setting.signature.words setting.signature.feeds right.binding right.binds in
-      let second : BoundNet = record { net = back.other; bound = alike.binding } in
+      let second : BoundNet = record { net = back.other; binding = alike.binding } in
       let print : reply.text ≡ written list = ap (λ (r : Reply). r.text) printed in
       let N : NetlistText → Type 0 = λ t. BoundNetOf setting.signature t (Ok second) in
       record {
@@ -87,7 +87,7 @@ module _ (files others : Files) (signature net : Word) (kind : Kind) (reply : Re
           net_read = hold.net_read;
           is_job = record { is_setting = subst S same_bytes (signed, is, are); bound = second; is_bound = subst N (ap Blif (sym print) ∙ sym (blif_text net reply.text hold.name)) (back.other, again, (alike.binding, alike.bound, refl)); is_job = refl };
         };
-        computes = kept setting (record { net = list; bound = right.binding }) second right.cycles alike.outputs kind right.computes;
+        computes = kept setting (record { net = list; binding = right.binding }) second right.cycles alike.outputs kind right.computes;
       }
     where
       one_text : (a b : List ℕ) → ◌≡◌ {A = Result (List ℕ) FileFault} (Ok a) (Ok b) → a ≡ b

@@ -4,7 +4,7 @@ use Rattle.std.specs.Prelude.{All, Bool, slice_get, slice_index}
 use Rattle.std.proofs.Math.Nat.{mul_comm, mul-div_right, mul-le-mul_right, one-mul, zero-div, zero-mod, zero-mul}
 use Rattle.text_core.specs.Outcome.{Determined, Exactly}
 use Rattle.graph_core.proofs.GraphLemmas.{All_has}
-use Rattle.net_core.specs.Lists.{Has}
+use Rattle.graph_core.proofs.GeneralLemmas.{all_from as all_has}
 use Rattle.net_core.specs.NetList.{NetList}
 use Rattle.net_flat.proofs.FlatDetermined.{determined_after}
 use Rattle.net_make.specs.Form.{AllWide, HasWords}
@@ -35,7 +35,6 @@ use Rattle.gf_field.specs.Ring.{IsRing}
 use Rattle.gf_tower.specs.Digits.{IsPackedList}
 use Rattle.gf_tower.specs.FieldName.{IsFieldModulus, IsFieldTower}
 use Rattle.gf_tower.specs.Tower.{tower_polynomial}
-use Rattle.gf_tower.proofs.FieldNameLaws.{degree_unique}
 use Rattle.mult_products.specs.Indeterminate.{x_of}
 use Rattle.mult_composite.specs.Form.{HasCompositeForm, made_composite}
 use Rattle.mult_normal.specs.Coordinates.{coordinates_in, counts_in}
@@ -149,11 +148,6 @@ words_wide k words are word has unfed = elim (All_has (λ (w : WordText). (lengt
   | inr fed ↦ absurd (unfed fed)
 ]
 
-pub all_has : {A : Type 0} (P : A → Type 0) (xs : List A) → ((x : A) → Has xs x → P x) → All P xs
-all_has P [] each k d less = absurd (omega (arith, less))
-all_has P (x ∷ xs) each zero d less = each x (0, refl)
-all_has P (x ∷ xs) each (suc k) d less = all_has P xs (λ y has. each y (suc has.0, has.1)) k d (omega (arith, less))
-
 apart : (a b : Role) → a ≢ role.Fed → b ≢ role.Fed → (r : Role) → (r ≡ a) ⊎ (r ≡ b) → r ≢ role.Fed
 apart a b first second r (inl same) fed = first (sym same ∙ fed)
 apart a b first second r (inr same) fed = second (sym same ∙ fed)
@@ -225,17 +219,8 @@ ring_made setting Adder base net is = absurd base
 ring_made setting Squarer base net is = is
 ring_made setting Digit base net is = absurd base
 
--- of a signature that names no such field there is none
-pub no_base : (setting : SettingValue) (kind : Kind) → IsOfRing kind → ((d : ℕ) → IsFieldModulus d setting.signature.modulus → setting.signature.tower ≡ [] → ⊥) → HasFormOf setting kind → ⊥
-no_base setting kind base none form = let is = of_ring_form setting kind base form in none setting.k is.modulus is.no_tower
-
 -- the field of a degree and a modulus
 module _ (setting : SettingValue) (k g : ℕ) (fits : IsModulus k g) (field : HasNoZeroDivisors k (product 1 k bit_mul g)) (same : g ≡ setting.signature.modulus) (no_tower : setting.signature.tower ≡ []) where
-  other_field : (HasForm : SignatureValue → Type 0) → (k ≡ setting.k → ⊥) → IsOverBase HasForm setting → ⊥
-  other_field HasForm other form =
-      let P : ℕ → Type 0 = λ x. IsModulus k x in
-      other (degree_unique k setting.k setting.signature.modulus (subst P same fits) form.modulus.modulus)
-
   same_field : (HasForm : SignatureValue → Type 0) → k ≡ setting.k → HasForm setting.signature → IsOverBase HasForm setting
   same_field HasForm degree form =
       let P : ℕ → Type 0 = λ x. IsFieldModulus k x in
@@ -243,9 +228,6 @@ module _ (setting : SettingValue) (k g : ℕ) (fits : IsModulus k g) (field : Ha
       record { modulus = subst Q degree (subst P same (field_modulus k g fits field)); no_tower = no_tower; form = form }
 
   module _ (kind : Kind) (base : IsOfRing kind) where
-    pub other_degree : (k ≡ setting.k → ⊥) → HasFormOf setting kind → ⊥
-    other_degree other form = other_field (HasRingForm kind) other (of_ring_form setting kind base form)
-
     pub over_ring_form : k ≡ setting.k → HasRingForm kind setting.signature → HasFormOf setting kind
     over_ring_form degree form = ring_form setting kind base (same_field (HasRingForm kind) degree form)
 
@@ -259,9 +241,6 @@ module _ (setting : SettingValue) (k g : ℕ) (fits : IsModulus k g) (field : Ha
     no_ring_form none form = none (of_ring_form setting kind base form).form
 
   -- ---- digits
-
-  pub other_digits : (k ≡ setting.k → ⊥) → HasFormOf setting Digit → ⊥
-  other_digits other form = other_field (HasDigitForm setting.k) other form
 
   pub digits_form : k ≡ setting.k → HasDigitForm k setting.signature → HasFormOf setting Digit
   digits_form degree form = let P : ℕ → Type 0 = λ d. HasDigitForm d setting.signature in same_field (HasDigitForm setting.k) degree (subst P degree form)
@@ -287,12 +266,6 @@ module _ (setting : SettingValue) (n g m low : ℕ) (cs : List ℕ) (base : IsMo
 
   degree : n * m ≡ setting.k → base_degree setting ≡ n
   degree whole = (λ i. sym whole i / steps i) ∙ mul_div n m (let two = packs.two in omega (arith, two))
-
-  pub other_tower : (n * m ≡ setting.k → ⊥) → HasFormOf setting Composite → ⊥
-  other_tower other form =
-      let P : ℕ → Type 0 = λ x. IsModulus n x in
-      let same_degree : base_degree setting ≡ n = degree_unique (base_degree setting) n setting.signature.modulus form.base.modulus (subst P same_base base) in
-      other ((λ i. sym same_degree i * sym steps i) ∙ form.whole)
 
   pub over_tower_form : n * m ≡ setting.k → HasCompositeForm setting.signature → HasFormOf setting Composite
   over_tower_form whole form =
@@ -332,12 +305,6 @@ one_first words gamma delta a b = sym (first_is words gamma a) ∙ first_is word
 module _ (setting : SettingValue) (gamma : ℕ) (first : FirstIsNormal setting.signature.words gamma) where
   same_conjugates : conjugates_of setting.k setting.product gamma ≡ first_conjugates setting
   same_conjugates = ap (λ x. conjugates_of setting.k setting.product x) (sym (first_is setting.signature.words gamma first))
-
-  pub no_basis : ((gamma < 2 ^ setting.k) × IsIndependent (conjugates_of setting.k setting.product gamma) → ⊥) → HasFormOf setting Normal → ⊥
-  no_basis none form =
-      let P : ℕ → Type 0 = λ x. x < 2 ^ setting.k in
-      let Q : List ℕ → Type 0 = λ xs. IsIndependent xs in
-      none (subst P (first_is setting.signature.words gamma first) form.element, subst Q (sym same_conjugates) form.independent)
 
   pub normal_form : gamma < 2 ^ setting.k → IsIndependent (conjugates_of setting.k setting.product gamma) → HasNormalForm setting.signature → HasFormOf setting Normal
   normal_form small independent form =

@@ -37,7 +37,7 @@ use Rattle.gf_abs.specs.Values.{ValuesOf}
 use Rattle.gf_abs.specs.Staged.{IsStageOver, either_net_text, either_text}
 use Rattle.gf_abs.specs.commands.Abstract.{AbstractReply, abstract_stages, taken_circuit}
 use Rattle.gf_abs.specs.commands.Bits.{BitsReply, bits_stages}
-use Rattle.gf_abs.specs.Certificates.{CertifiedIn, certificate_labels, sum_fault, sum_name, text_fault}
+use Rattle.gf_abs.specs.Certificates.{CertifiedIn, certificate_labels, sum_fault, sum_name, certificate_fault_of}
 use Rattle.gf_abs.specs.commands.Certify.{CertifyReply}
 use Rattle.gf_abs.specs.commands.Check.{CheckReply}
 use Rattle.gf_abs.specs.commands.Same.{SameReply, same_stages}
@@ -49,36 +49,10 @@ use Rattle.gf_abs.proofs.ComposeLineLemmas.{compose_kept}
 
 -- ---- what the words of a command name
 
--- the operands have no line feed
-abbrev AreKept : Action → Type 0
-AreKept (Bits net terms cycles) = HasNoLineFeed net
-AreKept (Abstract net terms cycles) = HasNoLineFeed net
-AreKept (Check net specification terms cycles) = HasNoLineFeed net × HasNoLineFeed specification
-AreKept (Same net other terms cycles) = HasNoLineFeed net × HasNoLineFeed other
-AreKept (Eval net values cycles) = HasNoLineFeed net
-AreKept (Iso other) = HasNoLineFeed other
-AreKept (Lift table) = HasNoLineFeed table
-AreKept (Table net cycles) = HasNoLineFeed net
-AreKept (Certify net terms cycles) = HasNoLineFeed net
-AreKept (Verify net certificate terms cycles) = HasNoLineFeed net × HasNoLineFeed certificate
-AreKept (Upgrade net certificate cycles) = HasNoLineFeed net × HasNoLineFeed certificate
-AreKept (Make kind) = Unit {0}
-AreKept (Compose net terms) = HasNoLineFeed net
-
-spelled_kept : (words : List Word) (signature : Word) (action : Action) → IsSpelled words (Over signature action) → HasNoLineFeed signature × AreKept action
-spelled_kept words signature (Bits net terms cycles) is = (operand_kept signature is.follow.signature_is, operand_kept net is.follow.file_is)
-spelled_kept words signature (Abstract net terms cycles) is = (operand_kept signature is.follow.signature_is, operand_kept net is.follow.file_is)
-spelled_kept words signature (Check net specification terms cycles) is = (operand_kept signature is.follow.signature_is, (operand_kept net is.follow.file_is, operand_kept specification is.follow.other_is))
-spelled_kept words signature (Same net other terms cycles) is = (operand_kept signature is.follow.signature_is, (operand_kept net is.follow.file_is, operand_kept other is.follow.other_is))
-spelled_kept words signature (Eval net values cycles) is = (operand_kept signature is.follow.signature_is, operand_kept net is.follow.file_is)
-spelled_kept words signature (Iso other) is = (operand_kept signature is.follow.signature_is, operand_kept other is.follow.file_is)
-spelled_kept words signature (Lift table) is = (operand_kept signature is.follow.signature_is, operand_kept table is.follow.file_is)
-spelled_kept words signature (Table net cycles) is = (operand_kept signature is.follow.signature_is, operand_kept net is.follow.file_is)
-spelled_kept words signature (Certify net terms cycles) is = (operand_kept signature is.follow.signature_is, operand_kept net is.follow.file_is)
-spelled_kept words signature (Verify net certificate terms cycles) is = (operand_kept signature is.follow.signature_is, (operand_kept net is.follow.file_is, operand_kept certificate is.follow.other_is))
-spelled_kept words signature (Upgrade net certificate cycles) is = (operand_kept signature is.follow.signature_is, (operand_kept net is.follow.file_is, operand_kept certificate is.follow.other_is))
-spelled_kept words signature (Make kind) is = (operand_kept signature is.follow.signature_is, tt)
-spelled_kept words signature (Compose net terms) is = (operand_kept signature is.follow.files.signature_is, operand_kept net is.follow.files.file_is)
+-- the signature's name has no line feed
+signature_kept : (words : List Word) (signature : Word) (action : Action) → IsSpelled words (Over signature action) → HasNoLineFeed signature
+signature_kept words signature (Compose net terms) is = operand_kept signature is.follow.files.signature_is
+signature_kept words signature action is = operand_kept signature is.follow.signature_is
 
 -- ---- stages
 
@@ -107,7 +81,7 @@ some_line : (fault other : Fault) → ◌≡◌ {A = Option Fault} (Some other) 
 some_line fault other same keeps = let equal : fault ≡ other = cc in same_line fault other equal keeps
 
 -- a fault of a certificate's text repeats nothing
-text_kept : (found : CertFault) (fault : Fault) → text_fault found ≡ Some fault → KeepsToItsLine fault
+text_kept : (found : CertFault) (fault : Fault) → certificate_fault_of found ≡ Some fault → KeepsToItsLine fault
 text_kept (text.Syntax line) fault same = some_line fault (faults.Certificate (certificate.Syntax line)) same tt
 text_kept (text.NoSuchNet line) fault same = some_line fault (faults.Certificate (certificate.NoSuchNet line)) same tt
 text_kept (text.NoSuchBit line) fault same = some_line fault (faults.Certificate (certificate.NoSuchBit line)) same tt
@@ -188,49 +162,50 @@ module _ (setting : SettingValue) (names : HaveNames setting.signature.words) wh
   values_kept k count values fault (other, wrong, same) = same_line fault (faults.Value other) same tt
 
   module _ (block_names : HaveBlockNames setting.signature) where
-    action_kept : (held : Option Files) (action : Action) (fault : Fault) → AreKept action → ActionAnswer held setting action (Err fault) → KeepsToItsLine fault
-    action_kept held (Bits net terms cycles) fault is (inl wrong) = circuit_kept held net cycles fault is wrong
-    action_kept held (Bits net terms cycles) fault is (inr (circuit, taken, wrong)) = bits_kept circuit terms fault wrong
-    action_kept held (Abstract net terms cycles) fault is (inl wrong) = circuit_kept held net cycles fault is wrong
-    action_kept held (Abstract net terms cycles) fault is (inr (circuit, taken, wrong)) = abstract_kept circuit terms fault wrong
-    action_kept held (Check net specification terms cycles) fault is (inl wrong) = netlist_file_keeps held setting.signature net fault names is.0 wrong
-    action_kept held (Check net specification terms cycles) fault is (inr (netlist, taken, inl wrong)) = specification_keeps held (labels_of setting.k setting.signature.words) setting.k setting.product specification fault is.1 wrong
-    action_kept held (Check net specification terms cycles) fault is (inr (netlist, taken, inr (spec, said, inl wrong))) = cycles_keep net netlist cycles fault is.0 wrong
-    action_kept held (Check net specification terms cycles) fault is (inr (netlist, taken, inr (spec, said, inr (circuit, of, wrong)))) = check_kept circuit spec terms fault wrong
-    action_kept held (Same net other terms cycles) fault is (inl wrong) = netlist_file_keeps held setting.signature net fault names is.0 wrong
-    action_kept held (Same net other terms cycles) fault is (inr (netlist, taken, inl wrong)) = netlist_file_keeps held setting.signature other fault names is.1 wrong
-    action_kept held (Same net other terms cycles) fault is (inr (netlist, taken, inr (second, more, inl wrong))) = cycles_keep net netlist cycles fault is.0 wrong
-    action_kept held (Same net other terms cycles) fault is (inr (netlist, taken, inr (second, more, inr (circuit, of, inl wrong)))) = cycles_keep other second cycles fault is.1 wrong
-    action_kept held (Same net other terms cycles) fault is (inr (netlist, taken, inr (second, more, inr (circuit, of, inr (beside, of', wrong))))) = same_kept circuit beside terms fault wrong
-    action_kept held (Eval net values cycles) fault is (inl wrong) = netlist_file_keeps held setting.signature net fault names is wrong
-    action_kept held (Eval net values cycles) fault is (inr (netlist, taken, inl wrong)) = values_kept setting.k (length (labels_of setting.k setting.signature.words).words) values fault wrong
-    action_kept held (Eval net values cycles) fault is (inr (netlist, taken, inr (xs, are, inl wrong))) = cycles_keep net netlist cycles fault is wrong
-    action_kept held (Eval net values cycles) fault is (inr (netlist, taken, inr (xs, are, inr (circuit, of, never)))) = absurd never
-    action_kept held (Iso other) fault is (inl wrong) = second_keeps held other fault is wrong
-    action_kept held (Iso other) fault is (inr (second, taken, wrong)) = same_line fault faults.Fields wrong.0 tt
-    action_kept held (Lift table) fault is (inl wrong) = same_line fault faults.NotSmall wrong.0 tt
-    action_kept held (Lift table) fault is (inr (small, fits, inl wrong)) = table_keeps held setting.k _ table fault is wrong
-    action_kept held (Lift table) fault is (inr (small, fits, inr (values, taken, never))) = absurd never
-    action_kept held (Table net cycles) fault is (inl wrong) = same_line fault faults.NotSmall wrong.0 tt
-    action_kept held (Table net cycles) fault is (inr (small, fits, inl wrong)) = circuit_kept held net cycles fault is wrong
-    action_kept held (Table net cycles) fault is (inr (small, fits, inr (circuit, taken, never))) = absurd never
-    action_kept held (Certify net terms cycles) fault is (inl wrong) = circuit_kept held net cycles fault is wrong
-    action_kept held (Certify net terms cycles) fault is (inr (circuit, taken, wrong)) = certify_kept circuit terms fault wrong
-    action_kept held (Verify net file terms cycles) fault is (inl wrong) = certified_kept held net file cycles fault is.0 is.1 wrong
-    action_kept held (Verify net file terms cycles) fault is (inr (certified, taken, wrong)) = verify_kept terms certified fault wrong
-    action_kept held (Upgrade net file cycles) fault is (inl wrong) = certified_kept held net file cycles fault is.0 is.1 wrong
-    action_kept held (Upgrade net file cycles) fault is (inr (certified, taken, wrong)) = upgrade_kept certified fault wrong
-    action_kept held (Make kind) fault is (inl wrong) = same_line fault (faults.Form kind) wrong.0 tt
-    action_kept held (Make kind) fault is (inr (net, made, never)) = absurd never
-    action_kept held (Compose net terms) fault is wrong = compose_kept held setting net terms fault names block_names is wrong
+    -- of a command that these words spell
+    action_kept : (held : Option Files) (words : List Word) (signature : Word) (action : Action) (fault : Fault) → IsSpelled words (Over signature action) → ActionAnswer held setting action (Err fault) → KeepsToItsLine fault
+    action_kept held words signature (Bits net terms cycles) fault is (inl wrong) = circuit_kept held net cycles fault (operand_kept net is.follow.file_is) wrong
+    action_kept held words signature (Bits net terms cycles) fault is (inr (circuit, taken, wrong)) = bits_kept circuit terms fault wrong
+    action_kept held words signature (Abstract net terms cycles) fault is (inl wrong) = circuit_kept held net cycles fault (operand_kept net is.follow.file_is) wrong
+    action_kept held words signature (Abstract net terms cycles) fault is (inr (circuit, taken, wrong)) = abstract_kept circuit terms fault wrong
+    action_kept held words signature (Check net specification terms cycles) fault is (inl wrong) = netlist_file_keeps held setting.signature net fault names (operand_kept net is.follow.file_is) wrong
+    action_kept held words signature (Check net specification terms cycles) fault is (inr (netlist, taken, inl wrong)) = specification_keeps held (labels_of setting.k setting.signature.words) setting.k setting.product specification fault (operand_kept specification is.follow.other_is) wrong
+    action_kept held words signature (Check net specification terms cycles) fault is (inr (netlist, taken, inr (spec, said, inl wrong))) = cycles_keep net netlist cycles fault (operand_kept net is.follow.file_is) wrong
+    action_kept held words signature (Check net specification terms cycles) fault is (inr (netlist, taken, inr (spec, said, inr (circuit, of, wrong)))) = check_kept circuit spec terms fault wrong
+    action_kept held words signature (Same net other terms cycles) fault is (inl wrong) = netlist_file_keeps held setting.signature net fault names (operand_kept net is.follow.file_is) wrong
+    action_kept held words signature (Same net other terms cycles) fault is (inr (netlist, taken, inl wrong)) = netlist_file_keeps held setting.signature other fault names (operand_kept other is.follow.other_is) wrong
+    action_kept held words signature (Same net other terms cycles) fault is (inr (netlist, taken, inr (second, more, inl wrong))) = cycles_keep net netlist cycles fault (operand_kept net is.follow.file_is) wrong
+    action_kept held words signature (Same net other terms cycles) fault is (inr (netlist, taken, inr (second, more, inr (circuit, of, inl wrong)))) = cycles_keep other second cycles fault (operand_kept other is.follow.other_is) wrong
+    action_kept held words signature (Same net other terms cycles) fault is (inr (netlist, taken, inr (second, more, inr (circuit, of, inr (beside, of', wrong))))) = same_kept circuit beside terms fault wrong
+    action_kept held words signature (Eval net values cycles) fault is (inl wrong) = netlist_file_keeps held setting.signature net fault names (operand_kept net is.follow.file_is) wrong
+    action_kept held words signature (Eval net values cycles) fault is (inr (netlist, taken, inl wrong)) = values_kept setting.k (length (labels_of setting.k setting.signature.words).words) values fault wrong
+    action_kept held words signature (Eval net values cycles) fault is (inr (netlist, taken, inr (xs, are, inl wrong))) = cycles_keep net netlist cycles fault (operand_kept net is.follow.file_is) wrong
+    action_kept held words signature (Eval net values cycles) fault is (inr (netlist, taken, inr (xs, are, inr (circuit, of, never)))) = absurd never
+    action_kept held words signature (Iso other) fault is (inl wrong) = second_keeps held other fault (operand_kept other is.follow.file_is) wrong
+    action_kept held words signature (Iso other) fault is (inr (second, taken, wrong)) = same_line fault faults.Fields wrong.0 tt
+    action_kept held words signature (Lift table) fault is (inl wrong) = same_line fault faults.NotSmall wrong.0 tt
+    action_kept held words signature (Lift table) fault is (inr (small, fits, inl wrong)) = table_keeps held setting.k _ table fault (operand_kept table is.follow.file_is) wrong
+    action_kept held words signature (Lift table) fault is (inr (small, fits, inr (values, taken, never))) = absurd never
+    action_kept held words signature (Table net cycles) fault is (inl wrong) = same_line fault faults.NotSmall wrong.0 tt
+    action_kept held words signature (Table net cycles) fault is (inr (small, fits, inl wrong)) = circuit_kept held net cycles fault (operand_kept net is.follow.file_is) wrong
+    action_kept held words signature (Table net cycles) fault is (inr (small, fits, inr (circuit, taken, never))) = absurd never
+    action_kept held words signature (Certify net terms cycles) fault is (inl wrong) = circuit_kept held net cycles fault (operand_kept net is.follow.file_is) wrong
+    action_kept held words signature (Certify net terms cycles) fault is (inr (circuit, taken, wrong)) = certify_kept circuit terms fault wrong
+    action_kept held words signature (Verify net file terms cycles) fault is (inl wrong) = certified_kept held net file cycles fault (operand_kept net is.follow.file_is) (operand_kept file is.follow.other_is) wrong
+    action_kept held words signature (Verify net file terms cycles) fault is (inr (certified, taken, wrong)) = verify_kept terms certified fault wrong
+    action_kept held words signature (Upgrade net file cycles) fault is (inl wrong) = certified_kept held net file cycles fault (operand_kept net is.follow.file_is) (operand_kept file is.follow.other_is) wrong
+    action_kept held words signature (Upgrade net file cycles) fault is (inr (certified, taken, wrong)) = upgrade_kept certified fault wrong
+    action_kept held words signature (Make kind) fault is (inl wrong) = same_line fault (faults.Form kind) wrong.0 tt
+    action_kept held words signature (Make kind) fault is (inr (net, made, never)) = absurd never
+    action_kept held words signature (Compose net terms) fault is wrong = compose_kept held setting net terms fault names block_names (operand_kept net is.follow.files.file_is) wrong
 
-signed_kept : (held : Option Files) (text : List ℕ) (signed : SignedValue) (action : Action) (fault : Fault) → SignedOf text (Ok signed) → AreKept action → SignedAnswer held signed action (Err fault) → KeepsToItsLine fault
-signed_kept held text signed action fault is kept (inl (other, wrong, same)) = same_line fault (faults.Signature other) same (setting_keeps signed other wrong)
-signed_kept held text signed action fault is kept (inr (setting, taken, wrong)) = action_kept setting (setting_names text setting (signed, is, taken)) (λ block has. (setting_blocks text setting (signed, is, taken) block has).names) held action fault kept wrong
+signed_kept : (held : Option Files) (text : List ℕ) (signed : SignedValue) (words : List Word) (signature : Word) (action : Action) (fault : Fault) → SignedOf text (Ok signed) → IsSpelled words (Over signature action) → SignedAnswer held signed action (Err fault) → KeepsToItsLine fault
+signed_kept held text signed words signature action fault is spelled (inl (other, wrong, same)) = same_line fault (faults.Signature other) same (setting_keeps signed other wrong)
+signed_kept held text signed words signature action fault is spelled (inr (setting, taken, wrong)) = action_kept setting (setting_names text setting (signed, is, taken)) (λ block has. (setting_blocks text setting (signed, is, taken) block has).names) held words signature action fault spelled wrong
 
-job_kept : (held : Option Files) (signature : Word) (action : Action) (fault : Fault) → HasNoLineFeed signature → AreKept action → JobAnswer held (Over signature action) (Err fault) → KeepsToItsLine fault
-job_kept held signature action fault kept operands (inl wrong) = signed_keeps held signature fault kept wrong
-job_kept held signature action fault kept operands (inr (signed, (text, read, is), wrong)) = signed_kept held text signed action fault is operands wrong
+job_kept : (held : Option Files) (words : List Word) (signature : Word) (action : Action) (fault : Fault) → IsSpelled words (Over signature action) → JobAnswer held (Over signature action) (Err fault) → KeepsToItsLine fault
+job_kept held words signature action fault spelled (inl wrong) = signed_keeps held signature fault (signature_kept words signature action spelled) wrong
+job_kept held words signature action fault spelled (inr (signed, (text, read, is), wrong)) = signed_kept held text signed words signature action fault is spelled wrong
 
 -- a trial reads no file
 trial_kept : (number modulus bound : ℕ) (fault : Fault) → TrialAnswer number modulus bound (Err fault) → KeepsToItsLine fault
@@ -243,7 +218,7 @@ trial_kept number modulus bound fault (inr (field, named, wrong)) =
 
 answer_kept : (words : List Word) (held : Option Files) (fault : Fault) → Answer words held (Err fault) → KeepsToItsLine fault
 answer_kept words held fault (inl (same, never)) = same_line fault faults.Words same tt
-answer_kept words held fault (inr (Over signature action, spelled, wrong)) = let kept = spelled_kept words signature action spelled in job_kept held signature action fault kept.0 kept.1 wrong
+answer_kept words held fault (inr (Over signature action, spelled, wrong)) = job_kept held words signature action fault spelled wrong
 answer_kept words held fault (inr (Trial number modulus terms, spelled, wrong)) = trial_kept number modulus terms fault wrong
 
 -- the line of a fault that may come is one line

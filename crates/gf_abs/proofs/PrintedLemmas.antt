@@ -9,7 +9,7 @@ use Rattle.net_words.specs.Binding.{BoundNet}
 use Rattle.poly_mixed.specs.Cofactor.{LacksBit}
 use Rattle.poly_mixed.specs.Polynomial.{Terms, IsReduced, value}
 use Rattle.poly_mixed.proofs.FieldLaws.{field_of}
-use Rattle.poly_mixed.proofs.FirstWords.{first_point, first_taken, is_first_point, first_alone}
+use Rattle.poly_mixed.proofs.FirstWordLemmas.{first_point, first_taken, is_first_point, first_alone}
 use Rattle.circuit_model.specs.Circuit.{Circuit}
 use Rattle.circuit_model.specs.Out.{IsOut}
 use Rattle.circuit_model.specs.WellFormed.{IsWellFormed}

@@ -1,5 +1,5 @@
 -- A table as it is written, read back.
-use Rattle.std.proofs.Common.{◌≡◌, ◌∙◌, ap, sym, refl, subst, inl, inr, ℕ, zero, suc, ◌+◌, ◌-◌, ◌<◌, ◌≤◌, ◌^◌, ◌==◌, Bool, false, cond, Option, List, [], ◌∷◌, ◌++◌, length, map, take, drop, get_or, codes, None, Some, Ok, arith, pow_mono, lt_of_lt_of_le}
+use Rattle.std.proofs.Common.{◌≡◌, ◌∙◌, ap, sym, refl, subst, inl, inr, ℕ, zero, suc, ◌+◌, ◌-◌, ◌<◌, ◌≤◌, ◌^◌, ◌==◌, Bool, false, cond, Option, List, [], ◌∷◌, ◌++◌, length, map, drop, get_or, codes, None, Some, Ok, arith, pow_mono, lt_of_lt_of_le}
 use Rattle.std.specs.Prelude.{All, filter, nat_lt, slice_get}
 use Rattle.std.specs.Str.Lines.{lines, strip_carriage_return}
 use Rattle.std.proofs.lemmas.Bool.{cases_lt, lt-ltb}
@@ -9,6 +9,7 @@ use Rattle.std.proofs.lemmas.Option.{same_Some}
 use Rattle.text_core.specs.Lines.{is_blank}
 use Rattle.text_core.proofs.LineLemmas.{lines_at}
 use Rattle.gf_field.specs.Element.{AreElements}
+use Rattle.graph_core.proofs.GeneralLemmas.{front_of}
 use Rattle.poly_mixed.specs.Text.{hex_text}
 use Rattle.lift_table.specs.TableText.{IsFormed, IsNumber, IsNumberAt, IsTable, TableOutcome, table_text, value_lines}
 use Rattle.lift_table.proofs.ReadingLemmas.{one_value}
@@ -35,10 +36,6 @@ get_end : (xs ys : List ℕ) → get_or (xs ++ 10 ∷ ys) (length xs) 0 ≡ 10
 get_end [] ys = refl
 get_end (x ∷ xs) ys = get_end xs ys
 
-front_of : (xs ys : List ℕ) → take (length xs) (xs ++ ys) ≡ xs
-front_of [] ys = refl
-front_of (x ∷ xs) ys = ap (λ (l : List ℕ). x ∷ l) (front_of xs ys)
-
 rest_of : (xs ys : List ℕ) → drop (suc (length xs)) (xs ++ 10 ∷ ys) ≡ ys
 rest_of [] ys = refl
 rest_of (x ∷ xs) ys = rest_of xs ys
@@ -46,11 +43,6 @@ rest_of (x ∷ xs) ys = rest_of xs ys
 longer : (xs ys : List ℕ) → length xs < length (xs ++ 10 ∷ ys)
 longer [] ys = omega arith
 longer (x ∷ xs) ys = omega (arith, longer xs ys)
-
-past_end : (xs : List ℕ) (k : ℕ) → length xs ≤ k → get_or xs k 0 ≡ 0
-past_end [] k past = refl
-past_end (x ∷ xs) zero past = absurd (omega arith)
-past_end (x ∷ xs) (suc k) past = past_end xs k (omega arith)
 
 no_return : (bytes : List ℕ) → ArePrinted bytes → strip_carriage_return bytes ≡ bytes
 unfolding ArePrinted

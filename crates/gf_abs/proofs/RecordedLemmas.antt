@@ -11,7 +11,7 @@ use Rattle.rato_reduce.specs.Recorded.{IsRecorded as AreCutsRecorded}
 use Rattle.word_subst.specs.Recorded.{IsRecorded as AreWordsRecorded}
 use Rattle.cert_check.specs.Verdict.{Verdict, valid, invalid, Check}
 use Rattle.cert_check.specs.Labels.{NameWords}
-use Rattle.cert_check.proofs.OutputLaw.{proves_output}
+use Rattle.cert_check.proofs.OutputLawLemmas.{proves_output}
 use Rattle.cert_make.specs.Recorded.{IsCertificateOf}
 use Rattle.cert_make.specs.Writable.{HaveNumbers, IsWritable}
 use Rattle.cert_laws.proofs.NamedLemmas.{is_named}
@@ -35,18 +35,18 @@ module _ (k : ℕ) (mul : ℕ → ℕ → ℕ) (setting : Setting) (ready : IsRe
   pub with_duals : HaveDuals (setting_value k mul setting) circuit setting.bases.items
   with_duals = record { elements = refl; are = bases_are k mul setting ready circuit circuit taken taken setting.bases.items refl }
 
-  pub labels_name : NameWords circuit.bound labels
+  pub labels_name : NameWords circuit.binding labels
   labels_name = names_words k setting.signature.words circuit ready.words ready.names job.sound job.bound job.same taken.roles
 
   pub labels_number : nets circuit.net ≤ 2 ^ 32 → HaveNumbers k circuit.net labels
   labels_number few = has_numbers k setting.signature.words circuit ready.words ready.names job.sound job.bound job.same taken.roles few
 
   -- what was recorded of both engines is the certificate
-  pub is_certificate : (claim : Terms) (start first second : List Step) → start ≡ [] → AreCutsRecorded k mul circuit (output_basis circuit.bound.words (elements_of_each setting.bases.items)) (length circuit.net.gates) (Some start) (Some first)
+  pub is_certificate : (claim : Terms) (start first second : List Step) → start ≡ [] → AreCutsRecorded k mul circuit (output_basis circuit.binding.words (elements_of_each setting.bases.items)) (length circuit.net.gates) (Some start) (Some first)
       → AreWordsRecorded (taken_circuit (setting_value k mul setting) circuit) (Some first) (Some second) → IsInWords (setting_value k mul setting) circuit claim → IsCertificateOf k mul circuit setting.bases.items claim second
   is_certificate claim start first second none cuts words claims =
       let P : List Step → Type 0 = λ xs. Tells (Some xs) (Some first) cuts.steps in
-      recorded k mul circuit setting.bases.items (output_basis circuit.bound.words (elements_of_each setting.bases.items)) claim cuts.steps words.steps first second refl cuts.are words.are (subst P none cuts.told) words.told claims
+      recorded k mul circuit setting.bases.items (output_basis circuit.binding.words (elements_of_each setting.bases.items)) claim cuts.steps words.steps first second refl cuts.are words.are (subst P none cuts.told) words.told claims
 
   -- it can be written with the labels of the circuit
   pub can_be_written : nets circuit.net ≤ 2 ^ 32 → (claim : Terms) (pairs : List Step) → IsCertificateOf k mul circuit setting.bases.items claim pairs → IsWritable labels k claim pairs

@@ -1,6 +1,6 @@
--- The refusal of a stage is what comes of a job whose stages it belongs to.
-use Rattle.std.proofs.Common.{◌≡◌, refl, sym, subst, ℕ, List, length, Err, arith}
-use Rattle.text_core.specs.Outcome.{Within}
+-- The refusal of a fault is what comes of its job, and that of a stage what comes of a job whose stages it belongs to.
+use Rattle.std.proofs.Common.{◌≡◌, refl, sym, subst, ℕ, List, length, Option, None, Some, Err, arith}
+use Rattle.text_core.specs.Outcome.{Outcome, Within}
 use Rattle.net_words.specs.Binding.{BoundNet}
 use Rattle.poly_mixed.specs.Labels.{Labelling}
 use Rattle.poly_mixed.specs.declared.stage.ReduceFault.{ReduceFault}
@@ -19,7 +19,32 @@ use Rattle.job_words.specs.declared.stop.Stop.TheVariants as stops
 use Rattle.job_words.specs.StageFault.{stage_text}
 use Rattle.job_words.specs.Stop.{GivesBy, IsMiss}
 use Rattle.gf_abs.specs.Staged.{Staged, either_text}
-use Rattle.gf_abs.specs.private.StageStop.{IsNamed, stage_fault, IsRefusalOf, IsStageStop}
+use Rattle.gf_abs.specs.private.StageStop.{IsNamed, stage_fault, IsRefusalOf, IsStageStop, IsStopOf}
+
+-- ---- stops of faults
+
+-- the fault, where there is one, is none of a missing file
+abbrev pub IsNoMiss : Option Fault → Type 0
+IsNoMiss None = Unit {0}
+IsNoMiss (Some fault) = IsMiss fault → ⊥
+
+module _ {X A : Type 0} (view : X → A) (outcome : Outcome Fault A) where
+  refused_for : (fault : Fault) (stop : Stop) → (IsMiss fault → ⊥) → outcome (Err fault) → IsRefusalOf fault stop → GivesBy view (Err stop) outcome ⊥ ⊥
+  refused_for fault (stops.Refused refused) other may same =
+      let P : Fault → Type 0 = λ f. outcome (Err f) in
+      let Q : Fault → Type 0 = IsMiss in
+      (subst P (sym same) may, λ miss. other (subst Q same miss))
+  refused_for fault stops.Outside other may same = absurd same
+  refused_for fault stops.OutOfMemory other may same = tt
+
+  -- a stop of a fault that may come is one that may come
+  pub stopped : (fault : Option Fault) (stop : Stop) → IsNoMiss fault → ((f : Fault) → fault ≡ Some f → outcome (Err f)) → IsStopOf fault stop → GivesBy view (Err stop) outcome ⊥ ⊥
+  stopped (Some fault) stop other may is = refused_for fault stop other (may fault refl) is
+  stopped None stop other may same =
+      let P : Stop → Type 0 = λ s. GivesBy view (Err s) outcome ⊥ ⊥ in
+      subst P (sym same) tt
+
+-- ---- stops of stages
 
 module _ (k : ℕ) (mul : ℕ → ℕ → ℕ) {X A : Type 0} (view : X → A) (bound : ℕ) (is : A → Type 0) where
   -- the first stage over the bound is refused by its name

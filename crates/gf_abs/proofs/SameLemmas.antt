@@ -26,7 +26,7 @@ use Rattle.job_input.proofs.CountLemmas.{as_many}
 module _ (k : ℕ) (mul : ℕ → ℕ → ℕ) (setting : Setting) (ready : IsReady k mul setting) where
   -- a circuit has as many input and state words as labels
   pub count : (circuit : BoundNet) → IsTakenFor k setting circuit → length (taken_circuit (setting_value k mul setting) circuit).words ≡ length (word_labels k setting.signature.words)
-  count circuit taken = as_many k circuit.bound.words setting.signature.words (elements_of_each setting.bases.items) (length-map setting.bases.items elements_of ∙ taken.long) taken.roles
+  count circuit taken = as_many k circuit.binding.words setting.signature.words (elements_of_each setting.bases.items) (length-map setting.bases.items elements_of ∙ taken.long) taken.roles
 
   module _ (circuit other : BoundNet) (first : IsTakenFor k setting circuit) (second : IsTakenFor k setting other) (slice : List Basis) (same : slice ≡ setting.bases.items) where
     pub bases_are : AreBases k mul circuit slice

@@ -42,11 +42,11 @@ pub record IsJob (k : ℕ) (mul : ℕ → ℕ → ℕ) (b : BoundNet) (bases : L
   pub ring : IsRing k mul
   pub nozero : HasNoZeroDivisors k mul
   pub sound : IsSound b.net
-  pub bound : IsOneCycle b.net b.bound
+  pub bound : IsOneCycle b.net b.binding
   pub flat : b.net.latches ≡ []
-  pub same : b.bound.k ≡ k
+  pub same : b.binding.k ≡ k
   pub over : AreBasesOver k mul bases
-  pub long : length bases ≡ length b.bound.words
+  pub long : length bases ≡ length b.binding.words
 
 module _ (k : ℕ) (mul : ℕ → ℕ → ℕ) (b : BoundNet) (bases : List Basis) (job : IsJob k mul b bases) where
   abbrev all : List (List ℕ)
@@ -56,12 +56,12 @@ module _ (k : ℕ) (mul : ℕ → ℕ → ℕ) (b : BoundNet) (bases : List Basi
   whole = circuit_with k mul b all
 
   abbrev cuts : ℕ → Point → ℕ → Type 0
-  cuts = BoundCut b (output_basis b.bound.words all)
+  cuts = BoundCut b (output_basis b.binding.words all)
 
-  long' : length all ≡ length b.bound.words
+  long' : length all ≡ length b.binding.words
   long' = length-map bases elements_of ∙ job.long
 
-  pub based : HaveBases k b.bound.words all
+  pub based : HaveBases k b.binding.words all
   based = record { long = long'; each = λ e has. let found = from_map elements_of bases has.0 e has.1 in let P : List ℕ → Type 0 = λ xs. IsBasis k xs in subst P found.2 (job.over found.0 (has.0, found.1)).elements }
 
   pub well : IsWellFormed whole
@@ -71,10 +71,10 @@ module _ (k : ℕ) (mul : ℕ → ℕ → ℕ) (b : BoundNet) (bases : List Basi
   cut_stage t ts stage = record { reduced = stage.reduced; values = λ p at. (bound_cut k mul b all t p _ long').0 (stage.values p at) }
 
   -- the polynomial of the last cut is within the bound
-  pub few : (n : ℕ) (ts : Terms) → IsOfStage k mul (cuts (length b.net.gates)) ts → AreAllWithin k mul (bound_cuts b (output_basis b.bound.words all)) n → length ts ≤ n
+  pub few : (n : ℕ) (ts : Terms) → IsOfStage k mul (cuts (length b.net.gates)) ts → AreAllWithin k mul (bound_cuts b (output_basis b.binding.words all)) n → length ts ≤ n
   few n ts stage none =
-      let order = variables (nets b.net) b.bound.words in
-      let output = output_word b.bound.words (output_basis b.bound.words all) in
+      let order = variables (nets b.net) b.binding.words in
+      let output = output_word b.binding.words (output_basis b.binding.words all) in
       let last = none (Cut (length b.net.gates)) (omega arith) in
       let e : ts ≡ last.has.terms = same_terms k mul job.ring job.nozero (IsCut b.net order output (length b.net.gates)) (λ p x y at first other. one_cut_of b.net job.sound order output (length b.net.gates) p x y first other) ts last.has.terms stage last.has.is in
       let size : length ts ≡ length last.has.terms = ap length e in

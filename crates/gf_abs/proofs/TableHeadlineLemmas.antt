@@ -1,7 +1,8 @@
 -- What the answers of `table` and `lift` say, out of what comes of their steps.
-use Rattle.std.proofs.Common.{◌≡◌, ◌∙◌, ap, sym, subst, ℕ, ◌*◌, ◌^◌, List, length, Some, Result, Ok}
+use Rattle.std.proofs.Common.{◌≡◌, ◌∙◌, ap, sym, subst, ℕ, ◌*◌, ◌^◌, List, length, Some, Ok}
 use Rattle.std.specs.Str.Lines.{lines}
 use Rattle.job_io.specs.Shelf.{Files}
+use Rattle.text_core.proofs.GeneralLemmas.{same_ok}
 use Rattle.net_words.specs.Binding.{BoundNet}
 use Rattle.poly_mixed.specs.Polynomial.{Terms}
 use Rattle.circuit_model.specs.Circuit.{Circuit}
@@ -91,9 +92,6 @@ table_prints files words signature net cycles reply setting job is held =
     (record { table = found.table; outputs = moved_table found.setting found.circuit found.job found.behind found.table found.outputs; status = found.status; text = found.text })
 
 -- ---- what `lift` prints
-
-same_ok : {A F : Type 0} (a b : A) → ◌≡◌ {A = Result A F} (Ok a) (Ok b) → a ≡ b
-same_ok a b e = cc
 
 record HeldLifted (files : Files) (signature file : Word) (reply : Reply) : Type 0 where
   pub setting : SettingValue

@@ -31,23 +31,23 @@ netlist_sound signature text netlist (net, is_net, (bound, is, same)) =
     let Q : BoundNet → Type 0 = λ c. IsSound c.net in
     subst Q (sym same) (net_sound text net is_net)
 
-pub netlist_bound : (signature : SignatureValue) (text : NetlistText) (netlist : BoundNet) → BoundNetOf signature text (Ok netlist) → BindingOf netlist.net signature.words signature.feeds (Ok netlist.bound)
+pub netlist_bound : (signature : SignatureValue) (text : NetlistText) (netlist : BoundNet) → BoundNetOf signature text (Ok netlist) → BindingOf netlist.net signature.words signature.feeds (Ok netlist.binding)
 netlist_bound signature text netlist (net, is_net, (bound, is, same)) =
-    let P : BoundNet → Type 0 = λ c. BindingOf c.net signature.words signature.feeds (Ok c.bound) in
+    let P : BoundNet → Type 0 = λ c. BindingOf c.net signature.words signature.feeds (Ok c.binding) in
     subst P (sym same) is
 
 binding_bits : (net : NetList) (words : List WordText) (feeds : List FeedText) (binding : Binding) → BindingOf net words feeds (Ok binding) → binding.k ≡ bits_of words
 binding_bits net words feeds binding (bound, is, rest) = ap (λ (b : Binding). b.k) rest.2.2.2
 
 module _ (setting : SettingValue) (netlist : BoundNet) (sound : IsSoundSetting setting) (text : NetlistText) (is : BoundNetOf setting.signature text (Ok netlist)) where
-  pub netlist_bound_to : IsBoundTo netlist.net netlist.bound
-  netlist_bound_to = bound_to netlist.net setting.k setting.signature.words setting.signature.feeds netlist.bound (netlist_sound setting.signature text netlist is) sound.words sound.feeds (netlist_bound setting.signature text netlist is)
+  pub netlist_bound_to : IsBoundTo netlist.net netlist.binding
+  netlist_bound_to = bound_to netlist.net setting.k setting.signature.words setting.signature.feeds netlist.binding (netlist_sound setting.signature text netlist is) sound.words sound.feeds (netlist_bound setting.signature text netlist is)
 
-  pub netlist_bits : netlist.bound.k ≡ setting.k
-  netlist_bits = binding_bits netlist.net setting.signature.words setting.signature.feeds netlist.bound (netlist_bound setting.signature text netlist is) ∙ first_long setting.k setting.signature.words sound.words
+  pub netlist_bits : netlist.binding.k ≡ setting.k
+  netlist_bits = binding_bits netlist.net setting.signature.words setting.signature.feeds netlist.binding (netlist_bound setting.signature text netlist is) ∙ first_long setting.k setting.signature.words sound.words
 
-  pub netlist_bases : HaveBases setting.k netlist.bound.words setting.bases
-  netlist_bases = record { long = sound.long ∙ sym (roles_long setting.signature.words netlist.bound.words (netlist_roles setting.signature text netlist is)); each = sound.each }
+  pub netlist_bases : HaveBases setting.k netlist.binding.words setting.bases
+  netlist_bases = record { long = sound.long ∙ sym (roles_long setting.signature.words netlist.binding.words (netlist_roles setting.signature text netlist is)); each = sound.each }
 
 -- ---- the circuit of its cycles
 
@@ -55,16 +55,16 @@ module _ (setting : SettingValue) (circuit : BoundNet) (sound : IsSoundSetting s
   keeps : KeepsWords is.0 circuit
   keeps = let P : BoundNet → Type 0 = λ c. KeepsWords is.0 c in subst P (sym is.2.0) (keeps_words is.0 cycles)
 
-  pub circuit_roles : HaveRoles setting.signature.words circuit.bound.words
+  pub circuit_roles : HaveRoles setting.signature.words circuit.binding.words
   circuit_roles = keeps.roles ∙ netlist_roles setting.signature text is.0 is.1
 
   -- there is a basis for each word
-  pub bases_long : length setting.bases ≡ length circuit.bound.words
-  bases_long = sound.long ∙ sym (roles_long setting.signature.words circuit.bound.words circuit_roles)
+  pub bases_long : length setting.bases ≡ length circuit.binding.words
+  bases_long = sound.long ∙ sym (roles_long setting.signature.words circuit.binding.words circuit_roles)
 
-  pub one_cycle : IsSound circuit.net × IsOneCycle circuit.net circuit.bound
+  pub one_cycle : IsSound circuit.net × IsOneCycle circuit.net circuit.binding
   one_cycle =
-      let P : BoundNet → Type 0 = λ c. IsSound c.net × IsOneCycle c.net c.bound in
+      let P : BoundNet → Type 0 = λ c. IsSound c.net × IsOneCycle c.net c.binding in
       subst P (sym is.2.0) (unrolled_one_cycle is.0 cycles (record { few = is.2.1; small = is.2.2 }) (netlist_sound setting.signature text is.0 is.1) (netlist_bound_to setting is.0 sound text is.1))
 
   pub circuit_sound : IsSound circuit.net
@@ -73,7 +73,7 @@ module _ (setting : SettingValue) (circuit : BoundNet) (sound : IsSoundSetting s
   pub circuit_flat : circuit.net.latches ≡ []
   circuit_flat = one_cycle.1.flat.latches
 
-  pub circuit_bits : circuit.bound.k ≡ setting.k
+  pub circuit_bits : circuit.binding.k ≡ setting.k
   circuit_bits = keeps.bits ∙ netlist_bits setting is.0 sound text is.1
 
   pub circuit_few : nets circuit.net ≤ 2 ^ 20

@@ -78,7 +78,7 @@ module _ (k : ℕ) (mul : ℕ → ℕ → ℕ) (ring : IsRing k mul) (field : Ha
 
 -- the generator of a bit, by the dual bases
 abbrev bit_of_duals : ℕ → (ℕ → ℕ → ℕ) → BoundNet → List (List ℕ) → ℕ → ℕ → Point → ℕ
-bit_of_duals k mul bound duals w i p = bit_xor (bit_value (p.is_one (k * w + i))) (dual_form k mul (dual_at (slice_get (words_of bound.bound.words duals) w) i) (slice_index p.words w))
+bit_of_duals k mul bound duals w i p = bit_xor (bit_value (p.is_one (k * w + i))) (dual_form k mul (dual_at (slice_get (words_of bound.binding.words duals) w) i) (slice_index p.words w))
 
 module _ (k : ℕ) (mul : ℕ → ℕ → ℕ) (bound : BoundNet) (bases others : List Basis) (elements : map elements_of bases ≡ map elements_of others) (duals : map duals_of bases ≡ map duals_of others) where
   same_generator : (g : Generator) (p : Point) → generator_value k mul bound bases g p ≡ generator_value k mul bound others g p
@@ -91,7 +91,7 @@ module _ (k : ℕ) (mul : ℕ → ℕ → ℕ) (bound : BoundNet) (bases others 
 
   same_running : (c : Certificate) (p : Point) → running k mul bound bases c p ≡ running k mul bound others c p
   same_running c p =
-      (λ i. bit_xor (bit_xor (combination (output_basis bound.bound.words (elements i)) (index (net_bit (variables (nets bound.net) bound.bound.words) p) (output_bits bound.bound.words))) (value mul p c.claim)) (same_products c.pairs p i))
+      (λ i. bit_xor (bit_xor (combination (output_basis bound.binding.words (elements i)) (index (net_bit (variables (nets bound.net) bound.binding.words) p) (output_bits bound.binding.words))) (value mul p c.claim)) (same_products c.pairs p i))
 
   same_sum : (c : Certificate) (sum : Terms) → IsRunningSum k mul bound bases c sum → IsRunningSum k mul bound others c sum
   same_sum c sum is = record { reduced = is.reduced; values = λ p at. is.values p at ∙ same_running c p }

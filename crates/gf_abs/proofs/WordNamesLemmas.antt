@@ -7,7 +7,7 @@ use Rattle.poly_mixed.specs.Polynomial.{Terms, value}
 use Rattle.poly_mixed.specs.Text.{HasWordNames}
 use Rattle.poly_mixed.specs.laws.Uniqueness.{IsZeros, InFirstWords, InBits}
 use Rattle.poly_mixed.proofs.FieldLaws.{field_of}
-use Rattle.poly_mixed.proofs.FirstWords.{first_point, first_taken, is_first_point, first_alone}
+use Rattle.poly_mixed.proofs.FirstWordLemmas.{first_point, first_taken, is_first_point, first_alone}
 use Rattle.circuit_model.specs.Out.{IsOut}
 use Rattle.circuit_model.proofs.OutLemmas.{one_out}
 use Rattle.stage_model.specs.Cut.{BoundCut, CutOf}
@@ -37,7 +37,7 @@ bits_in_first n (t ∷ ts) none = (none_later n t.0.exponents none.0, bits_in_fi
 
 module _ (k : ℕ) (mul : ℕ → ℕ → ℕ) (b : BoundNet) (bases : List Basis) (job : IsJob k mul b bases) (words : List WordText) where
   -- no word stands in the polynomial of a cut
-  pub cut_words_named : (ts : Terms) → IsOfStage k mul (BoundCut b (output_basis b.bound.words (elements_of_each bases)) (length b.net.gates)) ts → HasWordNames (labels_of k words) ts
+  pub cut_words_named : (ts : Terms) → IsOfStage k mul (BoundCut b (output_basis b.binding.words (elements_of_each bases)) (length b.net.gates)) ts → HasWordNames (labels_of k words) ts
   cut_words_named ts stage =
       let c = whole k mul b bases job in
       let w = well k mul b bases job in
@@ -47,7 +47,7 @@ module _ (k : ℕ) (mul : ℕ → ℕ → ℕ) (b : BoundNet) (bases : List Basi
       bits_in_first (length (labels_of k words).words) ts none
 
   -- only the circuit's words stand in the polynomial of the mix of all words
-  pub mix_words_named : (ts : Terms) → HaveRoles words b.bound.words → IsOfStage k mul (IsMix (whole k mul b bases job) (length (whole k mul b bases job).words)) ts → HasWordNames (labels_of k words) ts
+  pub mix_words_named : (ts : Terms) → HaveRoles words b.binding.words → IsOfStage k mul (IsMix (whole k mul b bases job) (length (whole k mul b bases job).words)) ts → HasWordNames (labels_of k words) ts
   mix_words_named ts roles is =
       let c = whole k mul b bases job in
       let w = well k mul b bases job in
@@ -63,4 +63,4 @@ module _ (k : ℕ) (mul : ℕ → ℕ → ℕ) (b : BoundNet) (bases : List Basi
       (subst P (first_taken n p.words) ((mix_all c w q (value mul q ts) there).0 (is.values q there)))
       ((mix_all c w p (value mul p ts) at).0 (is.values p at))) in
       let P : ℕ → Type 0 = λ m. InFirstWords m ts in
-      subst P (as_many k b.bound.words words (elements_of_each bases) (based k mul b bases job).long roles) alone
+      subst P (as_many k b.binding.words words (elements_of_each bases) (based k mul b bases job).long roles) alone

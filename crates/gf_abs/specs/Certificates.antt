@@ -32,15 +32,15 @@ pub record HaveDuals (setting : SettingValue) (circuit : BoundNet) (bases : List
   pub are : AreBases setting.k setting.product circuit bases
 
 -- the fault of a certificate's text; a running sum over the bound is none, and want of memory is none
-abbrev pub text_fault : CertFault → Option Fault
-text_fault (text.Syntax line) = Some (faults.Certificate (certificate.Syntax line))
-text_fault (text.NoSuchNet line) = Some (faults.Certificate (certificate.NoSuchNet line))
-text_fault (text.NoSuchBit line) = Some (faults.Certificate (certificate.NoSuchBit line))
-text_fault (text.NotDriven line) = Some (faults.Certificate (certificate.NotDriven line))
-text_fault (text.NoSuchLet line) = Some (faults.Certificate (certificate.NoSuchLet line))
-text_fault text.NoEnd = Some (faults.Certificate certificate.NoEnd)
-text_fault (text.TooManyTerms line terms) = None
-text_fault text.OutOfMemory = None
+abbrev pub certificate_fault_of : CertFault → Option Fault
+certificate_fault_of (text.Syntax line) = Some (faults.Certificate (certificate.Syntax line))
+certificate_fault_of (text.NoSuchNet line) = Some (faults.Certificate (certificate.NoSuchNet line))
+certificate_fault_of (text.NoSuchBit line) = Some (faults.Certificate (certificate.NoSuchBit line))
+certificate_fault_of (text.NotDriven line) = Some (faults.Certificate (certificate.NotDriven line))
+certificate_fault_of (text.NoSuchLet line) = Some (faults.Certificate (certificate.NoSuchLet line))
+certificate_fault_of text.NoEnd = Some (faults.Certificate certificate.NoEnd)
+certificate_fault_of (text.TooManyTerms line terms) = None
+certificate_fault_of text.OutOfMemory = None
 
 -- what the running sum after a line is called
 abbrev pub sum_name : ℕ → List ℕ
@@ -49,13 +49,13 @@ sum_name line = codes "certificate line " ++ decimal line
 -- the fault of a certificate's text, or that of a running sum over the bound
 abbrev pub sum_fault : ℕ → CertFault → Option Fault
 sum_fault bound (text.TooManyTerms line terms) = Some (faults.Stage (record { stage = sum_name line; terms = terms; bound = bound }))
-sum_fault bound (text.Syntax line) = text_fault (text.Syntax line)
-sum_fault bound (text.NoSuchNet line) = text_fault (text.NoSuchNet line)
-sum_fault bound (text.NoSuchBit line) = text_fault (text.NoSuchBit line)
-sum_fault bound (text.NotDriven line) = text_fault (text.NotDriven line)
-sum_fault bound (text.NoSuchLet line) = text_fault (text.NoSuchLet line)
-sum_fault bound text.NoEnd = text_fault text.NoEnd
-sum_fault bound text.OutOfMemory = text_fault text.OutOfMemory
+sum_fault bound (text.Syntax line) = certificate_fault_of (text.Syntax line)
+sum_fault bound (text.NoSuchNet line) = certificate_fault_of (text.NoSuchNet line)
+sum_fault bound (text.NoSuchBit line) = certificate_fault_of (text.NoSuchBit line)
+sum_fault bound (text.NotDriven line) = certificate_fault_of (text.NotDriven line)
+sum_fault bound (text.NoSuchLet line) = certificate_fault_of (text.NoSuchLet line)
+sum_fault bound text.NoEnd = certificate_fault_of text.NoEnd
+sum_fault bound text.OutOfMemory = certificate_fault_of text.OutOfMemory
 
 -- the circuit of a netlist's cycles, beside the bytes of a certificate
 abbrev pub CertifiedBy : Word → BoundNet → ℕ → List ℕ → Outcome Fault (BoundNet × List ℕ)

@@ -1,13 +1,15 @@
 //! What the commands over certificates share: their labels, their files, and faults of texts.
 ghost use Rattle.std.specs.Prelude.{◌≡◌, ◌≤◌, ℕ, length, IfOk};
 ghost use Rattle.job_io.specs.Counts.{Rose};
+ghost use Rattle.net_core.specs.Sound.{IsSound};
+ghost use Rattle.net_words.specs.OneCycle.{IsOneCycle};
 ghost use Rattle.job_words.specs.Stop.{GivesBy};
 ghost use Rattle.job_input.specs.Labelling.{circuit_labels};
 ghost use Rattle.job_input.specs.Setting.{IsReady, IsTakenFor};
 ghost use Rattle.job_input.specs.declared.setting.Setting.{Setting as SettingOfJob};
-ghost use Rattle.gf_abs.specs.Certificates.{CertifiedBy, CertifiedIn, CertifiedOver, sum_fault, sum_name as name_of_sum, text_fault};
-ghost use Rattle.gf_abs.specs.private.CertificateStop.{certified_of, IsStopOf};
-ghost use Rattle.gf_abs.specs.private.StageStop.{stage_fault, IsRefusalOf};
+ghost use Rattle.gf_abs.specs.Certificates.{CertifiedBy, CertifiedIn, CertifiedOver, sum_fault, sum_name as name_of_sum, certificate_fault_of};
+ghost use Rattle.gf_abs.specs.private.CertificateStop.{certified_of};
+ghost use Rattle.gf_abs.specs.private.StageStop.{stage_fault, IsRefusalOf, IsStopOf};
 
 use cert_check::CertFault;
 use gf_field::Field;
@@ -30,7 +32,7 @@ pub(crate) struct Certified {
     pub(crate) text: Vec<u8>,
 }
 
-/// The labels of a circuit's certificates.
+/// The labels of a circuit's certificates, and what the circuit keeps.
 pub(crate) fn certificate_labels<F: Field>(
     alloc: Global,
     field: &F,
@@ -39,7 +41,9 @@ pub(crate) fn certificate_labels<F: Field>(
 ) -> Result<Labels, AllocError>
     requires ready { IsReady (F.degree field.now) (F.product field.now) setting.now }
     requires taken { IsTakenFor (F.degree field.now) setting.now circuit.now }
-    ensures { IfOk result (λ labels. labels ≡ circuit_labels (F.degree field.now) setting.now.signature.words circuit.now) }
+    ensures labels { IfOk result (λ labels. labels ≡ circuit_labels (F.degree field.now) setting.now.signature.words circuit.now) }
+    ensures sound { IsSound circuit.now.net }
+    ensures is_bound { IsOneCycle circuit.now.net circuit.now.binding }
 {
     let labels = circuit_labels_for(alloc, setting.signature.words(), field.k(), circuit)?;
     Ok(labels)
@@ -115,7 +119,7 @@ fn certified_by(
 
 /// Why no output comes of a fault of a certificate's text.
 pub(crate) fn text_stop(fault: CertFault) -> Stop
-    ensures { IsStopOf (text_fault fault) result }
+    ensures { IsStopOf (certificate_fault_of fault) result }
 {
     match fault {
         CertFault::Syntax { line } => refused(CertificateFault::Syntax { line }),

@@ -1,5 +1,7 @@
 //! The polynomial of a circuit's output in the bits of its words.
 ghost use Rattle.std.specs.Prelude.{◌≤◌, length, IfOk, IfErr, OnOk};
+ghost use Rattle.net_core.specs.Sound.{IsSound};
+ghost use Rattle.net_words.specs.OneCycle.{IsOneCycle};
 ghost use Rattle.circuit_model.specs.WellFormed.{IsWellFormed};
 ghost use Rattle.stage_model.specs.Listing.{AreAllWithin, IsRefusal};
 ghost use Rattle.stage_model.specs.Mix.{IsMix};
@@ -31,16 +33,17 @@ pub(crate) fn last_cut<F: Field, T: Steps>(
 ) -> Result<Poly, ReduceFault>
     requires ready { IsReady (F.degree field.now) (F.product field.now) setting.now }
     requires taken { IsTakenFor (F.degree field.now) setting.now circuit.now }
+    ensures sound { IsSound circuit.now.net }
+    ensures is_bound { IsOneCycle circuit.now.net circuit.now.binding }
     ensures well { IsWellFormed (taken_circuit (setting_value (F.degree field.now) (F.product field.now) setting.now) circuit.now) }
     ensures output { IfOk result (λ poly. IsOutputInBits (taken_circuit (setting_value (F.degree field.now) (F.product field.now) setting.now) circuit.now) poly.terms) }
     ensures mix { IfOk result (λ poly. IsOfStage (F.degree field.now) (F.product field.now) (IsMix (taken_circuit (setting_value (F.degree field.now) (F.product field.now) setting.now) circuit.now) 0) poly.terms) }
     ensures few { IfOk result (λ poly. length poly.terms ≤ bound) }
     ensures within { OnOk result (AreAllWithin (F.degree field.now) (F.product field.now) (bits_stages (setting_value (F.degree field.now) (F.product field.now) setting.now) circuit.now) bound) }
-    ensures steps { OnOk result (IsRecorded (F.degree field.now) (F.product field.now) circuit.now (basis_of_output circuit.now.bound.words (elements_of_each setting.now.bases.items)) (length circuit.now.net.gates) (T.steps steps.old) (T.steps steps.new)) }
+    ensures steps { OnOk result (IsRecorded (F.degree field.now) (F.product field.now) circuit.now (basis_of_output circuit.now.binding.words (elements_of_each setting.now.bases.items)) (length circuit.now.net.gates) (T.steps steps.old) (T.steps steps.new)) }
     ensures fault { IfErr result (IsRefusal (F.degree field.now) (F.product field.now) (bits_stages (setting_value (F.degree field.now) (F.product field.now) setting.now) circuit.now) bound) }
 {
     let basis = output_basis(circuit.bound(), setting.bases.as_slice());
-    let _gates = circuit.net().gates();
     match reduce_bits(alloc, field, circuit, basis, bound, steps) {
         Ok(poly) => Ok(poly),
         Err(fault) => Err(fault),

@@ -1,5 +1,7 @@
 //! The polynomial of a circuit's output in its words.
 ghost use Rattle.std.specs.Prelude.{◌<◌, ◌^◌, length, IfOk, IfErr, OnOk};
+ghost use Rattle.net_core.specs.Sound.{IsSound};
+ghost use Rattle.net_words.specs.OneCycle.{IsOneCycle};
 ghost use Rattle.poly_mixed.specs.Text.{HasNames, HasWordNames};
 ghost use Rattle.stage_model.specs.Listing.{AreAllWithin, IsRefusal};
 ghost use Rattle.stage_model.specs.Mix.{IsMix};
@@ -30,6 +32,8 @@ pub(crate) fn in_words<F: Field, T: Steps>(
 ) -> Result<Poly, ReduceFault>
     requires ready { IsReady (F.degree field.now) (F.product field.now) setting.now }
     requires taken { IsTakenFor (F.degree field.now) setting.now circuit.now }
+    requires sound { IsSound circuit.now.net }
+    requires is_bound { IsOneCycle circuit.now.net circuit.now.binding }
     requires bits { IsOfStage (F.degree field.now) (F.product field.now) (IsMix (taken_circuit (setting_value (F.degree field.now) (F.product field.now) setting.now) circuit.now) 0) bits.terms }
     requires few { length bits.terms < 2 ^ 32 }
     ensures words { IfOk result (λ poly. IsInWords (setting_value (F.degree field.now) (F.product field.now) setting.now) circuit.now poly.terms) }
@@ -39,7 +43,6 @@ pub(crate) fn in_words<F: Field, T: Steps>(
     ensures steps { OnOk result (IsRecorded (taken_circuit (setting_value (F.degree field.now) (F.product field.now) setting.now) circuit.now) (T.steps steps.old) (T.steps steps.new)) }
     ensures fault { IfErr result (IsRefusal (F.degree field.now) (F.product field.now) (word_listing (taken_circuit (setting_value (F.degree field.now) (F.product field.now) setting.now) circuit.now)) bound) }
 {
-    let _gates = circuit.net().gates();
     let bases = setting.bases.as_slice();
     match to_words(alloc, field, circuit, bases, bits, bound, steps) {
         Ok(poly) => Ok(poly),

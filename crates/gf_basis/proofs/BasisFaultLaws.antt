@@ -1,6 +1,6 @@
 -- A list has at most one fault, and so has the first element of a normal basis.
 use Rattle.std.proofs.Common.{ℕ, refl, ap, sym, ◌∙◌, arith}
-use Rattle.gf_field.proofs.FirstOutside.{first_clash, first_unique}
+use Rattle.gf_field.proofs.FirstOutsideLemmas.{first_clash, first_unique}
 use Rattle.gf_basis.specs.BasisFault.{HasOneListFault, HasOneNormalFault}
 use Rattle.gf_basis.specs.declared.bases.BasisFault.TheVariants.{WrongCount, BadElement, Dependent}
 

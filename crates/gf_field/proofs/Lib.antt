@@ -1,7 +1,7 @@
 pub mod ShiftAndAddLaws
 pub mod PartLaws
-pub mod TableSteps
-pub mod Shifts
-pub mod Copies
-pub mod FirstOutside
+pub mod TableStepLemmas
+pub mod ShiftLemmas
+pub mod CopyLemmas
+pub mod FirstOutsideLemmas
 mod Examples

@@ -117,11 +117,6 @@ module _ (d g : ℕ) (ok : IsModulus d g) where
       half : (m u : ℕ) → u < 2 ^ suc m → u / 2 < 2 ^ m
       half m u h = let less : u < 2 ^ m * 2 = rw (pow-suc) at h in omega arith
 
-  pub power-xor : (m a b : ℕ) → times_power d g m (bit_xor a b) ≡ bit_xor (times_power d g m a) (times_power d g m b)
-  unfolding times_power
-  power-xor zero a b = refl
-  power-xor (suc m) a b = ap (times_x d g) (power-xor m a b) ∙ x-xor d g (times_power d g m a) (times_power d g m b) ok
-
   -- the first j coefficients, and x^j times the others
   pub part_split : (j m u v : ℕ) → v < 2 ^ d → part d g (j + m) u v ≡ bit_xor (part d g j (u % 2 ^ j) v) (times_power d g j (part d g m (u / 2 ^ j) v))
   unfolding times_power

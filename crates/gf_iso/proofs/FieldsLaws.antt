@@ -1,5 +1,5 @@
 -- What the parts of a field and a tower that fit say of numbers.
-use Rattle.std.proofs.Common.{◌≡◌, ℕ, suc, refl, ◌<◌, ◌≤◌, ◌^◌, ◌*◌, arith, subst, lt_of_lt_of_le, pow_mono, List, [], ◌∷◌, length, get_or}
+use Rattle.std.proofs.Common.{◌≡◌, ℕ, suc, ◌<◌, ◌≤◌, ◌^◌, ◌*◌, arith, subst, lt_of_lt_of_le, pow_mono, List, [], ◌∷◌, length, get_or}
 use Rattle.gf_field.specs.Bit.{bit_mul}
 use Rattle.gf_field.specs.Field.{HasNoZeroDivisors}
 use Rattle.gf_field.specs.Modulus.{IsModulus}
@@ -31,12 +31,6 @@ module _ (n g m low : ℕ) (modulus : IsModulus n g) (small : n ≤ 16) (base : 
   tower_field_of (c0 ∷ []) list field = absurd (let size : 1 ≡ m = list.size in omega arith)
   tower_field_of (c0 ∷ c1 ∷ []) list field = tower_field c0 c1 list field
   tower_field_of (c0 ∷ c1 ∷ c2 ∷ cs) list field = absurd (let size : suc (suc (suc (length cs))) ≡ m = list.size in omega arith)
-
-pub two_list : (cs : List ℕ) → length cs ≡ 2 → get_or cs 0 0 ∷ get_or cs 1 0 ∷ [] ≡ cs
-two_list [] h = absurd (omega arith)
-two_list (c0 ∷ []) h = absurd (omega arith)
-two_list (c0 ∷ c1 ∷ []) h = refl
-two_list (c0 ∷ c1 ∷ c2 ∷ cs) h = absurd (omega arith)
 
 pub modulus_word : (n g : ℕ) → IsModulus n g → n ≤ 16 → g < 2 ^ 64
 modulus_word n g modulus small = lt_of_lt_of_le (modulus_below n g modulus) (pow_mono {i = suc n} {j = 64} (omega arith))

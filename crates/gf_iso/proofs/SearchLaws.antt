@@ -1,18 +1,12 @@
 -- The search for the least root among sums of words.
-use Rattle.std.proofs.Common.{◌≡◌, ◌≢◌, ℕ, sym, ◌∙◌, ap, ◌<◌, ◌≤◌, ◌^◌, ◌*◌, ◌/◌, ◌%◌, ◌⊎◌, inl, inr, arith, subst, one-mul, zero-mul, List, [], ◌∷◌}
+use Rattle.std.proofs.Common.{◌≡◌, ℕ, sym, ◌∙◌, ap, ◌≤◌, ◌*◌, ◌/◌, ◌%◌, ◌⊎◌, inl, inr, arith, subst, one-mul, zero-mul, List, ◌∷◌}
 use Rattle.std.specs.Prelude.{bit_xor, Option, None, Some}
-use Rattle.std.specs.Int.Bits.{xor_zero_l, xor_zero_r, xor_assoc}
+use Rattle.std.specs.Int.Bits.{xor_zero_l, xor_assoc}
 use Rattle.gf_field.specs.laws.BitLaws.{bit_cases}
 use Rattle.irreducible.specs.Span.{combination}
 use Rattle.gf_iso.specs.private.Search.{IsLeastOf, IsLesserOf}
 
 module _ (k : ℕ) (f : ℕ → ℕ) where
-  pub leaf_some : (start : ℕ) → start < 2 ^ k → f start ≡ 0 → IsLeastOf k f [] start (Some start)
-  leaf_some start h z = record { element = h; root = z; least = λ c e. rw xor_zero_r (omega arith) }
-
-  pub leaf_none : (start : ℕ) → f start ≢ 0 → IsLeastOf k f [] start None
-  leaf_none start ne c e = ne (ap f (sym (xor_zero_r start)) ∙ e)
-
   combination_cases : (first : ℕ) (rest : List ℕ) (c : ℕ) → (combination (first ∷ rest) c ≡ combination rest (c / 2)) ⊎ (combination (first ∷ rest) c ≡ bit_xor first (combination rest (c / 2)))
   combination_cases first rest c = elim (bit_cases (c % 2) (omega arith)) [
     | inl z ↦ inl (ap (λ b. bit_xor (b * first) (combination rest (c / 2))) z ∙ ap (λ x. bit_xor x (combination rest (c / 2))) (zero-mul first) ∙ xor_zero_l (combination rest (c / 2)))
@@ -31,15 +25,6 @@ module _ (k : ℕ) (f : ℕ → ℕ) where
     where
       same : combination (first ∷ rest) c ≡ bit_xor first (combination rest (c / 2)) → bit_xor start (combination (first ∷ rest) c) ≡ bit_xor (bit_xor start first) (combination rest (c / 2))
       same e = ap (bit_xor start) e ∙ sym (xor_assoc start first (combination rest (c / 2)))
-
-  -- a word 0 adds nothing
-  pub skipped : (rest : List ℕ) (start : ℕ) (r : Option ℕ) → IsLeastOf k f rest start r → IsLeastOf k f (0 ∷ rest) start r
-  skipped rest start None h = reach (λ x. ⊥) 0 rest start h (λ c z. h c (ap (λ w. f (bit_xor w (combination rest c))) (sym (xor_zero_r start)) ∙ z))
-  skipped rest start (Some y) h = record {
-    element = h.element;
-    root = h.root;
-    least = reach (λ x. y ≤ x) 0 rest start h.least (λ c z. rw (xor_zero_r start) (h.least c (ap (λ w. f (bit_xor w (combination rest c))) (sym (xor_zero_r start)) ∙ z)));
-  }
 
   pub joined : (first : ℕ) (rest : List ℕ) (start : ℕ) (a b r : Option ℕ) → IsLeastOf k f rest start a → IsLeastOf k f rest (bit_xor start first) b → IsLesserOf a b r → IsLeastOf k f (first ∷ rest) start r
   joined first rest start None None r ha hb e = subst (IsLeastOf k f (first ∷ rest) start) (sym e) (reach (λ x. ⊥) first rest start ha hb)

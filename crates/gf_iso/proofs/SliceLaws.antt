@@ -3,7 +3,7 @@ use Rattle.std.proofs.Common.{◌≡◌, ℕ, suc, sym, ◌∙◌, ap, ◌<◌, 
 use Rattle.std.specs.Prelude.{bit_xor, Option}
 use Rattle.std.proofs.Math.Seq.{take-length}
 use Rattle.gf_iso.specs.private.Search.{IsLeastOf, IsLesserOf}
-use Rattle.gf_iso.proofs.SearchLaws.{skipped, joined}
+use Rattle.gf_iso.proofs.SearchLaws.{joined}
 
 -- what follows the first
 abbrev pub others : List ℕ → List ℕ
@@ -20,14 +20,6 @@ others_below d [] h i = h i
 others_below d (x ∷ xs) h i = subst (λ l. get_or l i 0 < 2 ^ d) (sym (others_are x xs)) (h (suc i))
 
 module _ (k : ℕ) (f : ℕ → ℕ) where
-  pub leaf_at : (vectors : List ℕ) (start : ℕ) (r : Option ℕ) → length vectors ≡ 0 → IsLeastOf k f [] start r → IsLeastOf k f vectors start r
-  leaf_at [] start r h least = least
-  leaf_at (v ∷ vs) start r h least = absurd (omega arith)
-
-  pub skipped_at : (vectors : List ℕ) (start : ℕ) (r : Option ℕ) → 1 ≤ length vectors → get_or vectors 0 0 ≡ 0 → IsLeastOf k f (others vectors) start r → IsLeastOf k f vectors start r
-  skipped_at [] start r h z least = absurd (omega arith)
-  skipped_at (v ∷ vs) start r h z least = subst (λ w. IsLeastOf k f (w ∷ vs) start r) (sym z) (skipped k f vs start r (subst (λ l. IsLeastOf k f l start r) (others_are v vs) least))
-
   pub joined_at : (vectors : List ℕ) (start : ℕ) (a b r : Option ℕ) → 1 ≤ length vectors → IsLeastOf k f (others vectors) start a → IsLeastOf k f (others vectors) (bit_xor start (get_or vectors 0 0)) b → IsLesserOf a b r → IsLeastOf k f vectors start r
   joined_at [] start a b r h ha hb e = absurd (omega arith)
   joined_at (v ∷ vs) start a b r h ha hb e =

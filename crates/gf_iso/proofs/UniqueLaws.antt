@@ -183,9 +183,6 @@ module _ (n g c0 c1 : ℕ) (tower : IsTowerField n g c0 c1) (big : ℕ → ℕ �
       at_x : (d : ℕ) → suc (suc d) ≡ n → there 2 ≡ other_there 2
       at_x d e = least_same (n * 2) big (suc n) (coefficient 1 g) (there 2) (other_there 2) (first.base_root 2 (is_x d e)) (second.base_root 2 (is_x d e))
 
-  clip : (ℕ → ℕ) → ℕ → ℕ
-  clip f a = f (a % 2 ^ (n * 2))
-
   clipped : (f : ℕ → ℕ) (a : ℕ) → a < 2 ^ (n * 2) → f (a % 2 ^ (n * 2)) ≡ f a
   clipped f a h = ap f (mod-eq_of_lt h)
 

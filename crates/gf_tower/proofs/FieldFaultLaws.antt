@@ -1,7 +1,7 @@
 -- Faults exclude each other.
 use Rattle.std.proofs.Common.{ℕ, ◌*◌, List, [], refl, ap, subst, length}
 use Rattle.gf_field.specs.Element.{IsFirstOutside}
-use Rattle.gf_field.proofs.FirstOutside.{first_clash, first_unique}
+use Rattle.gf_field.proofs.FirstOutsideLemmas.{first_clash, first_unique}
 use Rattle.gf_tower.specs.Tower.{IsLength}
 use Rattle.gf_tower.specs.FieldName.{IsFieldModulus}
 use Rattle.gf_tower.specs.FieldFault.{HasOneFieldFault, IsFieldFault, HasTower}

@@ -8,7 +8,7 @@ use Rattle.gf_field.specs.Element.{AreElements}
 use Rattle.gf_field.specs.Modulus.{IsModulus, HasModulusDegree}
 use Rattle.gf_field.specs.Polynomial.{IsIrreducible}
 use Rattle.gf_field.specs.Quotient.{product}
-use Rattle.gf_field.proofs.FirstOutside.{first_clash}
+use Rattle.gf_field.proofs.FirstOutsideLemmas.{first_clash}
 use Rattle.gf_field.specs.laws.IrreducibleBitLaws.{field_by_modulus}
 use Rattle.gf_tower.specs.Tower.{IsLength, IsTowerList, tower_polynomial}
 use Rattle.gf_tower.specs.Digits.{IsPackedList}

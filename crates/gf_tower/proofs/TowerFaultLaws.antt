@@ -1,6 +1,6 @@
 -- A list of coefficients has at most one fault.
 use Rattle.std.proofs.Common.{refl, ap}
-use Rattle.gf_field.proofs.FirstOutside.{first_unique}
+use Rattle.gf_field.proofs.FirstOutsideLemmas.{first_unique}
 use Rattle.gf_tower.specs.TowerFault.{HasOneTowerFault}
 use Rattle.gf_tower.specs.declared.towers.TowerFault.TheVariants.{BadLength, BadCoefficient}
 

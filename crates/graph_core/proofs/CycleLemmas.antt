@@ -10,6 +10,7 @@ use Rattle.graph_core.specs.Walking.{IsWalking, IsMet, MetAreReached, StartsAt, 
 use Rattle.graph_core.specs.declared.walk.Mark.{Mark}
 use Rattle.graph_core.specs.declared.walk.Mark.TheVariants.{Unseen, Open, Done}
 use Rattle.graph_core.specs.declared.walk.Frame.{Frame}
+use Rattle.graph_core.proofs.GeneralLemmas.{length_map}
 use Rattle.graph_core.proofs.GroundLemmas.{grounded_no_cycle, endless_path}
 use Rattle.graph_core.proofs.ListLemmas.{got_push, get_here, get_below}
 
@@ -39,10 +40,6 @@ pub from_map : {X Y : Type 0} (f : X → Y) (xs : List X) (k : ℕ) (y : Y) → 
 from_map f [] k y got = absurd (cc)
 from_map f (x ∷ xs) zero y got = (x, refl, cc)
 from_map f (x ∷ xs) (suc k) y got = from_map f xs k y got
-
-length_map : {X Y : Type 0} (f : X → Y) (xs : List X) → length (map f xs) ≡ length xs
-length_map f [] = refl
-length_map f (x ∷ xs) = ap suc (length_map f xs)
 
 drop_map_push : {X Y : Type 0} (f : X → Y) (n : ℕ) (xs : List X) (x : X) → n ≤ length xs → map f (drop n xs) ++ f x ∷ [] ≡ drop n (map f (xs ++ x ∷ []))
 drop_map_push f zero [] x less = refl

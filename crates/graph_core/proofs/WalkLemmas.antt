@@ -24,9 +24,6 @@ leads_more graph marks point next rank to r leads edge done less = λ k t below 
     (λ t got. let same : to ≡ t = cc in (r, rw (← same) done, less))
     k below t got
 
-next_frame : Frame → Frame
-next_frame f = record { point = f.point; next = f.next + 1 }
-
 -- an edge to a point that is done was followed
 pub advanced : (graph : Graph) (marks : List Mark) (front : List Frame) (f : Frame) (order : List ℕ) (to r : ℕ) → IsWalking graph marks (front ++ f ∷ []) order → slice_get (edges graph f.point) f.next ≡ Some to → slice_get marks to ≡ Some (Done r) → IsWalking graph marks (front ++ record { point = f.point; next = f.next + 1 } ∷ []) order
 advanced graph marks front f order to r walk edge done =
@@ -146,17 +143,6 @@ begun graph marks order root walk unseen =
         | inr w ↦ let old = walk.open_at point j w.1 in let e = old.1 in absurd (cc)
       ];
       links = λ j g h first second. elim (got_push [] f' (j + 1) h second) [ inl w ↦ absurd (omega arith) | inr w ↦ absurd (omega arith) ];
-    }
-
-pub start : (graph : Graph) (marks : List Mark) → length marks ≡ length graph → AreUnseen marks → IsWalking graph marks [] []
-start graph marks long each =
-    record {
-      long = long;
-      done = λ point rank got. absurd (cc (each point (Done rank) got));
-      ordered = λ place point got. absurd (cc);
-      frames = λ j f got. absurd (cc);
-      open_at = λ point j got. absurd (cc (each point (Open j) got));
-      links = λ j f g first second. absurd (cc);
     }
 
 -- the last point of a walk is one of the graph's

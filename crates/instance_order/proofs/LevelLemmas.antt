@@ -1,15 +1,13 @@
 -- Levels of points, one after another.
-use Rattle.std.proofs.Common.{◌≡◌, ◌≢◌, ◌∙◌, ap, sym, refl, subst, inl, inr, ◌⊎◌, ℕ, zero, suc, ◌<◌, ◌≤◌, ◌+◌, max, All, List, [], ◌∷◌, ◌++◌, length, drop, get_or, set, replicate, Some, arith, add-one}
+use Rattle.std.proofs.Common.{◌≡◌, ◌≢◌, ◌∙◌, ap, sym, refl, subst, inl, inr, ◌⊎◌, ℕ, zero, suc, ◌<◌, ◌≤◌, ◌+◌, max, All, List, [], ◌∷◌, ◌++◌, length, set, Some, arith}
 use Rattle.std.specs.Prelude.{slice_get, slice_index}
 use Rattle.std.proofs.lemmas.Bool.{cases_order}
-use Rattle.std.proofs.lemmas.Option.{slice_get-get_or, slice_get_within}
+use Rattle.std.proofs.lemmas.Option.{slice_get_within}
 use Rattle.graph_core.specs.Arranged.{IsArranged}
 use Rattle.graph_core.specs.Graph.{edges, Graph, Has}
+use Rattle.graph_core.proofs.GeneralLemmas.{all_from}
 use Rattle.graph_core.proofs.ListLemmas.{get_below, get_set_other, get_set_same}
 use Rattle.instance_order.specs.LevelOrder.{first_numbers, level_from, level_over, AreLevels}
-
-pub all_from : {X : Type 0} (P : X → Type 0) (xs : List X) → ((x : X) → Has xs x → P x) → All P xs
-all_from P xs each k d less = each (get_or xs k d) (k, slice_get-get_or xs k d less)
 
 -- ---- numbers
 
@@ -51,33 +49,6 @@ read_number n i a got =
 pub numbers_below : (n : ℕ) → All (λ a. a < n) (first_numbers n)
 numbers_below n = all_from (λ a. a < n) (first_numbers n) (λ a has. omega (arith, read_number n has.0 a has.1, slice_get_within (first_numbers n) has.0 a has.1, numbers_long n))
 
-pub next_number : (n : ℕ) (old new : List ℕ) → old ≡ first_numbers n → new ≡ old ++ n ∷ [] → new ≡ first_numbers (n + 1)
-next_number n old new is more = more ∙ ap (λ xs. xs ++ n ∷ []) is ∙ sym (ap first_numbers (add-one n))
-
--- ---- the level over points
-
-drop_at : (bs : List ℕ) (j b : ℕ) → slice_get bs j ≡ Some b → drop j bs ≡ b ∷ drop (j + 1) bs
-drop_at bs j b got = by bs j got ∙ ap (λ n. b ∷ drop n bs) (sym (add-one j))
-  where
-    by : (bs : List ℕ) (j : ℕ) → slice_get bs j ≡ Some b → drop j bs ≡ b ∷ drop (suc j) bs
-    by [] j got = absurd (cc)
-    by (x ∷ bs) zero got = let same : x ≡ b = cc in ap (λ y. y ∷ bs) same
-    by (x ∷ bs) (suc j) got = by bs j got
-
-pub level_next : (levels bs : List ℕ) (j b below level new whole : ℕ) → slice_get bs j ≡ Some b → below ≡ slice_index levels b → new ≡ max level (below + 1) → level_from levels level (drop j bs) ≡ whole → level_from levels new (drop (j + 1) bs) ≡ whole
-level_next levels bs j b below level new whole got read more is =
-    ap (λ l. level_from levels l (drop (j + 1) bs)) (more ∙ ap (λ x. max level (x + 1)) read)
-    ∙ (sym (ap (level_from levels level) (drop_at bs j b got)) ∙ is)
-
-pub level_last : (levels bs : List ℕ) (j level whole : ℕ) → length bs ≤ j → level_from levels level (drop j bs) ≡ whole → level ≡ whole
-level_last levels bs j level whole last is = sym (ap (level_from levels level) (past bs j last)) ∙ is
-  where
-    past : (bs : List ℕ) (j : ℕ) → length bs ≤ j → drop j bs ≡ []
-    past [] zero low = refl
-    past [] (suc j) low = refl
-    past (b ∷ bs) zero low = absurd (omega (arith, low))
-    past (b ∷ bs) (suc j) low = past bs j (omega (arith, low))
-
 -- ---- one point after another
 
 set_long : (levels : List ℕ) (a v : ℕ) → length (set levels a v) ≡ length levels
@@ -110,20 +81,6 @@ pub record AreFirstLevels (graph : Graph) (order : List ℕ) (m : ℕ) (levels :
   pub long : length levels ≡ length graph
   pub low : (l : ℕ) → Has levels l → l ≤ m
   pub over : (j a l : ℕ) → j < m → slice_get order j ≡ Some a → slice_get levels a ≡ Some l → l ≡ level_over levels (edges graph a)
-
-pub no_levels : (graph : Graph) (order levels : List ℕ) (n : ℕ) → n ≡ length graph → levels ≡ replicate n 0 → AreFirstLevels graph order 0 levels
-no_levels graph order levels n count e =
-    let P : List ℕ → Type 0 = AreFirstLevels graph order 0 in
-    subst P (sym e) (record { long = zeros_long n ∙ count; low = λ l has. zeros_low n has.0 l has.1; over = λ j a l less at got. absurd (omega (arith, less)) })
-  where
-    zeros_long : (n : ℕ) → length (replicate {A = ℕ} n 0) ≡ n
-    zeros_long zero = refl
-    zeros_long (suc n) = ap suc (zeros_long n)
-
-    zeros_low : (n i l : ℕ) → slice_get (replicate n 0) i ≡ Some l → l ≤ 0
-    zeros_low zero i l got = absurd (cc)
-    zeros_low (suc n) zero l got = let same : 0 ≡ l = cc in omega (arith, same)
-    zeros_low (suc n) (suc i) l got = zeros_low n i l got
 
 module _ (graph : Graph) (roots order : List ℕ) (arranged : IsArranged graph roots order) where
   pub one_level : (m a v : ℕ) (levels new : List ℕ) → slice_get order m ≡ Some a → new ≡ set levels a v → v ≡ level_over levels (edges graph a) → v ≤ m + 1 → AreFirstLevels graph order m levels → AreFirstLevels graph order (m + 1) new

@@ -54,10 +54,6 @@ zeros_at (x ∷ es) (suc n) (suc w) e zeros got not_zero = omega (arith, zeros_a
 
 -- ---- digits
 
-ones_none : (n first : ℕ) → ones_of n first 0 ≡ []
-ones_none zero first = refl
-ones_none (suc n) first = ones_none n (first + 1)
-
 module _ (word j left : ℕ) (less : j < 64) (es : List ℕ) where
   down : 64 - j ≡ suc (64 - (j + 1))
   down = omega (arith, less)
@@ -79,17 +75,6 @@ module _ (word e : ℕ) (es : List ℕ) (got : slice_get es word ≡ Some e) whe
   word_begins =
       ap (λ xs. factors_of (powers_from word xs)) (drop_at es word e got)
       ∙ ap (λ n. factors_with word (ones_of 64 0 e) ++ factors_of (powers_from (word + 1) (drop n es))) (sym (add-one word))
-
-  pub no_power : e ≡ 0 → words_left word es ≡ words_left (word + 1) es
-  no_power none =
-      word_begins
-      ∙ ap (λ x. factors_with word (ones_of 64 0 x) ++ words_left (word + 1) es) none
-      ∙ ap (λ js. factors_with word js ++ words_left (word + 1) es) (ones_none 64 0)
-
-pub word_ends : (word j left : ℕ) (es : List ℕ) → 64 ≤ j → digits_left word j left es ≡ words_left (word + 1) es
-word_ends word j left es last =
-    let none : 64 - j ≡ 0 = omega (arith, last) in
-    ap (λ n. factors_with word (ones_of n j left) ++ words_left (word + 1) es) none
 
 pub words_end : (word : ℕ) (es : List ℕ) → length es ≤ word → words_left word es ≡ []
 words_end word es last = ap (λ xs. factors_of (powers_from word xs)) (drop_past es word last)

@@ -1,3 +1,4 @@
+pub mod Summed
 pub mod SquareLemmas
 pub mod LeftLemmas
 pub mod PowerLemmas

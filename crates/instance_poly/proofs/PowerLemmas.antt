@@ -9,7 +9,7 @@ use Rattle.gf_field.specs.Power.{power}
 use Rattle.gf_field.specs.laws.PowerLaws.{power-add, power-one}
 use Rattle.poly_mixed.specs.Polynomial.{value, IsPolynomialOf, IsReduced, Point, Terms}
 use Rattle.poly_mixed.proofs.FieldLaws.{field_of}
-use Rattle.poly_mixed.proofs.Products.{value_element}
+use Rattle.poly_mixed.proofs.ProductLemmas.{value_element}
 use Rattle.instance_poly.specs.Instance.{feed_values, AreReduced}
 use Rattle.instance_poly.specs.private.Reached.{IsFeedPower}
 use Rattle.instance_poly.specs.private.Square.{square_of}

@@ -1,5 +1,5 @@
 -- The square of a sum is the sum of the squares.
-use Rattle.std.proofs.Common.{◌≡◌, ◌∙◌, ap, ap₂, sym, refl, subst, ℕ, zero, suc, ◌≤◌, ◌+◌, ◌==◌, true, false, cond, [], ◌∷◌, ◌++◌, length, take, bit_xor, Some, arith, add-one}
+use Rattle.std.proofs.Common.{◌≡◌, ◌∙◌, ap, ap₂, sym, refl, subst, ℕ, zero, suc, ◌+◌, ◌==◌, true, false, cond, [], ◌∷◌, ◌++◌, take, bit_xor, Some, add-one}
 use Rattle.std.specs.Prelude.{slice_get}
 use Rattle.std.specs.List.{list_all, AllByRecursion}
 use Rattle.std.proofs.lemmas.Bool.{eqb-true, eqb-false}
@@ -11,9 +11,9 @@ use Rattle.poly_mixed.specs.Monomial.{Monomial}
 use Rattle.poly_mixed.specs.Polynomial.{powers, term_value, value, IsPoint, IsPolynomialOf, IsReduced, IsTerm, Point, Terms}
 use Rattle.poly_mixed.specs.Sum.{with_coefficient}
 use Rattle.poly_mixed.proofs.FieldLaws.{field_of, IsField}
-use Rattle.poly_mixed.proofs.Products.{one_term}
-use Rattle.poly_mixed.proofs.Simple.{reduced_nothing}
-use Rattle.poly_mixed.proofs.Values.{powers_element, product_zero}
+use Rattle.poly_mixed.proofs.ProductLemmas.{one_term}
+use Rattle.poly_mixed.proofs.SimpleLemmas.{reduced_nothing}
+use Rattle.poly_mixed.proofs.ValueLemmas.{powers_element, product_zero}
 use Rattle.instance_poly.specs.private.Square.{square_of}
 
 one_taken : (ts : Terms) (n : ℕ) (t : Monomial × ℕ) → slice_get ts n ≡ Some t → take (suc n) ts ≡ take n ts ++ t ∷ []
@@ -30,12 +30,6 @@ pub term_of_all : (P : Monomial × ℕ → Type 0) (ts : Terms) (i : ℕ) (t : M
 term_of_all P [] i t all got = absurd (cc)
 term_of_all P (u ∷ ts) zero t all got = let same : u ≡ t = cc in subst P same all.0
 term_of_all P (u ∷ ts) (suc i) t all got = term_of_all P ts i t all.1 got
-
-pub all_taken : (m : ℕ) (ts : Terms) → length ts ≤ m → take m ts ≡ ts
-all_taken zero [] low = refl
-all_taken zero (t ∷ ts) low = absurd (omega (arith, low))
-all_taken (suc m) [] low = refl
-all_taken (suc m) (t ∷ ts) low = ap (λ us. t ∷ us) (all_taken m ts (omega (arith, low)))
 
 module _ (k : ℕ) (mul : ℕ → ℕ → ℕ) (ring : IsRing k mul) (field : HasNoZeroDivisors k mul) where
   abbrev f : IsField k mul
@@ -82,6 +76,3 @@ module _ (k : ℕ) (mul : ℕ → ℕ → ℕ) (ring : IsRing k mul) (field : Ha
         ∙ sym (square-xor k mul ring (value mul p (take i ts)) (term_value mul p t))
         ∙ ap (square_of mul) (sym (ap (value mul p) (term_taken ts i t got) ∙ value_last p (take i ts) t));
   }
-
-  pub squares_all : (ts us : Terms) (i : ℕ) → length ts ≤ i → IsPolynomialOf k mul (λ p. square_of mul (value mul p (take i ts))) us → IsPolynomialOf k mul (λ p. square_of mul (value mul p ts)) us
-  squares_all ts us i last is = record { reduced = is.reduced; values = λ p at. is.values p at ∙ ap (λ vs. square_of mul (value mul p vs)) (all_taken i ts last) }

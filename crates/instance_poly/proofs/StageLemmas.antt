@@ -16,18 +16,17 @@ use Rattle.poly_mixed.specs.declared.stage.ReduceFault.{ReduceFault}
 use Rattle.poly_mixed.specs.declared.stage.ReduceFault.TheVariants.{TooManyTerms, OutOfMemory}
 use Rattle.poly_mixed.specs.declared.stage.Stage.{Stage}
 use Rattle.poly_mixed.specs.declared.stage.Stage.TheVariants.{Cut, WordProduct, WordSum, SpecProduct, SpecSum, InstanceProduct, InstanceSum}
-use Rattle.poly_mixed.proofs.FieldLaws.{field_of}
-use Rattle.poly_mixed.proofs.Simple.{reduced_nothing}
 use Rattle.stage_model.specs.First.{InFirstRanks}
 use Rattle.stage_model.specs.Stage.{HasSize, IsOfStage, IsWithin}
 use Rattle.stage_model.specs.Listing.{AreAllWithin, IsOver, IsRefusal}
 use Rattle.spec_expand.specs.Specification.{SpecTerms}
 use Rattle.spec_expand.specs.SpecListing.{HasFactor}
 use Rattle.spec_expand.specs.SpecValue.{factors_of, powers_at, product_at, spec_at}
-use Rattle.spec_expand.proofs.SpecValueLemmas.{product_all, product_more, product_none, terms_taken}
+use Rattle.spec_expand.proofs.SpecValueLemmas.{product_all, product_more, terms_taken}
 use Rattle.instance_poly.specs.Instance.{block_term, block_terms, point_of, powers_from}
 use Rattle.instance_poly.specs.InstanceListing.{instance_listing, instance_stage_of, is_earlier_instance_stage, is_instance_stage, IsAtFeeds, IsInstanceProduct}
-use Rattle.instance_poly.specs.private.Reached.{AreProductsWithin, HasWithin, IsFeedPower, IsProductOver, IsReached, IsSummed, IsTermRefusal}
+use Rattle.instance_poly.specs.private.Reached.{AreProductsWithin, HasWithin, IsFeedPower, IsProductOver, IsReached, IsTermRefusal}
+use Rattle.instance_poly.proofs.Summed.{IsSummed}
 use Rattle.instance_poly.proofs.ValueLemmas.{terms_value}
 
 -- ---- a block's terms
@@ -77,12 +76,6 @@ module _ (k : ℕ) (mul : ℕ → ℕ → ℕ) (feeds : Point → List ℕ) wher
   module _ (ring : IsRing k mul) (field : HasNoZeroDivisors k mul) where
     -- ---- products and sums
 
-    pub constant_of : (t : ℕ × List (ℕ × ℕ)) (bound : ℕ) (ts : Terms) → t.0 < 2 ^ k → IsPolynomialOf k mul (λ p. t.0) ts → IsReached k mul feeds t bound 0 ts
-    constant_of t bound ts less is = record {
-      is = record { reduced = is.reduced; values = λ p at. is.values p at ∙ product_none k mul ring (feeds p) t less };
-      within = λ j some most. absurd (omega (arith, some, most));
-    }
-
     product_of : (t : ℕ × List (ℕ × ℕ)) (n w j : ℕ) (us vs ts : Terms) → slice_get (factors_of t.1) n ≡ Some (w, 2 ^ j) → IsPolynomialOf k mul (λ p. product_at mul (feeds p) t n) us → IsFeedPower k mul feeds w j vs → IsReduced k ts → IsProduct k mul ts us vs
         → IsPolynomialOf k mul (λ p. product_at mul (feeds p) t (n + 1)) ts
     product_of t n w j us vs ts got a b reduced is = record {
@@ -129,12 +122,6 @@ module _ (k : ℕ) (mul : ℕ → ℕ → ℕ) (feeds : Point → List ℕ) wher
     -- ---- the terms of a block
 
     module _ (block : SpecTerms) (bound : ℕ) where
-      pub nothing_summed : IsSummed k mul feeds block bound 0 []
-      nothing_summed = record {
-        is = record { reduced = reduced_nothing (field_of k mul ring field); values = λ p at. refl };
-        terms_within = record { products = λ i t less got. absurd (omega (arith, less)); sums = λ r some most. absurd (omega (arith, some, most)) };
-      }
-
       -- a product stage is the product of its term
       product_within : (s j : ℕ) (is : HasFactor block s j) → HasWithin k mul feeds (λ xs. product_at mul xs is.term j) bound → IsWithin k mul (IsInstanceProduct mul feeds block s j) bound
       product_within s j is within = record {

@@ -7,10 +7,9 @@ ghost use Rattle.instance_poly.specs.Instance.{block_term, feed_values, AreReduc
 ghost use Rattle.instance_poly.specs.private.Reached.{digits_left, words_left, IsFeedPower, IsReached, IsTermRefusal};
 
 use crate::copied::copied;
-use crate::size::check_size;
 use crate::square::squared;
 use gf_field::Field;
-use poly_mixed::{Poly, ReduceFault, Stage, Term, constant};
+use poly_mixed::{Poly, ReduceFault, Stage, Term, check_size, constant};
 use std::alloc::{AllocError, Global};
 
 // The product of a term's coefficient and its first factors, and how many these are.

@@ -8,9 +8,8 @@ ghost use Rattle.instance_poly.specs.Instance.{block_terms, feed_values, point_o
 ghost use Rattle.instance_poly.specs.InstanceListing.{instance_listing};
 
 use crate::factors::one_term;
-use crate::size::check_size;
 use gf_field::Field;
-use poly_mixed::{Poly, ReduceFault, Stage};
+use poly_mixed::{Poly, ReduceFault, Stage, check_size};
 use std::alloc::Global;
 
 /// The polynomial of an instance, or the first stage over the bound.

@@ -6,7 +6,6 @@ mod copied;
 mod factors;
 mod instance;
 mod laws;
-mod size;
 mod square;
 
 pub use instance::instance_poly;

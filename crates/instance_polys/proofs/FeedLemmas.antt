@@ -1,5 +1,5 @@
 -- Polynomials of feeds.
-use Rattle.std.proofs.Common.{◌≡◌, ◌≢◌, ◌∙◌, ap, ap₂, sym, refl, subst, inl, inr, ◌⊎◌, ℕ, zero, suc, ◌<◌, ◌+◌, ◌^◌, List, [], ◌∷◌, ◌++◌, length, map, take, set, Some, arith, add-one}
+use Rattle.std.proofs.Common.{◌≡◌, ◌≢◌, ◌∙◌, ap, ap₂, sym, refl, subst, inl, inr, ◌⊎◌, ℕ, zero, suc, ◌<◌, ◌+◌, ◌^◌, List, [], ◌∷◌, ◌++◌, length, map, set, Some, arith}
 use Rattle.std.specs.Prelude.{slice_get, slice_index}
 use Rattle.std.specs.Option.{unwrap_or}
 use Rattle.std.specs.List.{AllByRecursion}
@@ -31,16 +31,6 @@ word_itself k mul w ts ring less is = record {
       is.values p at ∙ ap (mul 1) (power-one k mul ring x element) ∙ ring.one x element;
 }
 
-pub mapped_long : {A B : Type 0} (g : A → B) (xs : List A) → length (map g xs) ≡ length xs
-mapped_long g [] = refl
-mapped_long g (x ∷ xs) = ap suc (mapped_long g xs)
-
-pub words_none : (k : ℕ) (mul : ℕ → ℕ → ℕ) (words : List Terms) → words ≡ [] → AreWordPolys k mul words
-words_none k mul words none w ts got = let P : List Terms → Type 0 = λ us. slice_get us w ≡ Some ts in empty (subst P none got)
-  where
-    empty : slice_get [] w ≡ Some ts → IsPolynomialOf k mul (λ p. slice_index p.words w) ts
-    empty e = absurd (cc)
-
 last_read : (xs : List Terms) (x y : Terms) (w : ℕ) → slice_get (xs ++ x ∷ []) w ≡ Some y → ((w ≡ length xs) × (x ≡ y)) ⊎ (slice_get xs w ≡ Some y)
 last_read [] x y zero got = let same : x ≡ y = cc in inl (refl, same)
 last_read [] x y (suc w) got = absurd (cc)
@@ -61,24 +51,9 @@ words_more k mul words new n ts e long are is w us got =
 
 -- ---- feeds
 
-pub terms_read : {A : Type 0} (f : A → Terms) (xs : List A) (i : ℕ) (x : A) → slice_get xs i ≡ Some x → f x ≡ unwrap_or (slice_get (map f xs) i) []
-terms_read f [] i x got = absurd (cc)
-terms_read f (y ∷ xs) zero x got = let same : y ≡ x = cc in ap f (sym same)
-terms_read f (y ∷ xs) (suc i) x got = terms_read f xs i x got
-
-one_taken : (fs : List Feeder) (n : ℕ) (f : Feeder) → slice_get fs n ≡ Some f → take (suc n) fs ≡ take n fs ++ f ∷ []
-one_taken [] n f got = absurd (cc)
-one_taken (g ∷ fs) zero f got = let same : g ≡ f = cc in ap (λ h. h ∷ []) same
-one_taken (g ∷ fs) (suc n) f got = ap (λ gs. g ∷ gs) (one_taken fs n f got)
-
 pub mapped_more : {A : Type 0} (g : A → Terms) (xs : List A) (x : A) → map g (xs ++ x ∷ []) ≡ map g xs ++ g x ∷ []
 mapped_more g [] x = refl
 mapped_more g (y ∷ xs) x = ap (λ ys. g y ∷ ys) (mapped_more g xs x)
-
--- one feed more
-pub feeds_more : (g : Feeder → Terms) (fs : List Feeder) (n : ℕ) (f : Feeder) (old new : List Terms) (ts : Terms) → slice_get fs n ≡ Some f → old ≡ map g (take n fs) → new ≡ old ++ ts ∷ [] → ts ≡ g f → new ≡ map g (take (n + 1) fs)
-feeds_more g fs n f old new ts got is more same =
-    more ∙ ap₂ (λ xs x. xs ++ x ∷ []) is same ∙ sym (ap (λ m. map g (take m fs)) (add-one n) ∙ ap (map g) (one_taken fs n f got) ∙ mapped_more g (take n fs) f)
 
 -- ---- other polynomials
 

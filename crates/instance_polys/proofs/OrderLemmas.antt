@@ -11,7 +11,7 @@ use Rattle.poly_mixed.specs.Polynomial.{value, IsPolynomialOf, IsReduced, Terms}
 use Rattle.poly_mixed.specs.declared.stage.ReduceFault.{ReduceFault}
 use Rattle.poly_mixed.specs.declared.stage.ReduceFault.TheVariants.{TooManyTerms, OutOfMemory}
 use Rattle.poly_mixed.proofs.FieldLaws.{field_of}
-use Rattle.poly_mixed.proofs.Simple.{reduced_nothing}
+use Rattle.poly_mixed.proofs.SimpleLemmas.{reduced_nothing}
 use Rattle.stage_model.specs.Listing.{AreAllWithin, IsRefusal}
 use Rattle.instance_poly.specs.Instance.{block_terms, feed_values, point_of, AreReduced}
 use Rattle.instance_poly.specs.InstanceListing.{instance_listing}

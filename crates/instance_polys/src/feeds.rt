@@ -7,8 +7,8 @@ use block_feeds::Feeder;
 use poly_mixed::Poly;
 use std::alloc::{AllocError, Global};
 
-// The polynomial of a feed.
-fn poly_of<'a>(words: &'a [Poly], polys: &'a [Poly], feed: Feeder) -> &'a Poly
+/// The polynomial of a feed.
+pub fn poly_of<'a>(words: &'a [Poly], polys: &'a [Poly], feed: Feeder) -> &'a Poly
     requires { IsFeedAmong (length words.now) (length polys.now) feed }
     ensures { result.now.terms ≡ feed_terms (map (λ q. q.terms) words.now) (map (λ q. q.terms) polys.now) feed }
 {

@@ -5,5 +5,6 @@ mod feeds;
 mod instances;
 mod words;
 
+pub use feeds::poly_of;
 pub use instances::instance_polys;
 pub use words::word_polys;

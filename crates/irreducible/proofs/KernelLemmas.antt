@@ -6,7 +6,7 @@ use Rattle.std.specs.Int.Bits.{xor_self, xor_lt, xor_shr, xor_zero_l, xor_zero_r
 use Rattle.std.proofs.lemmas.Bool.{cases_eq, cases_lt}
 use Rattle.std.proofs.lemmas.Nat.{pow_below, shr_split}
 use native.Mathlib.Nat.{div-eq_of_lt-le, div-one}
-use Rattle.gf_field.proofs.Copies.{zeros}
+use Rattle.gf_field.proofs.CopyLemmas.{zeros}
 use Rattle.gf_field.specs.laws.BitLaws.{bit_cases}
 use Rattle.gf_field.specs.laws.XorLaws.{xor_cancel, xor_same}
 use Rattle.irreducible.specs.Span.{combination, InSpan}

@@ -1,9 +1,8 @@
 -- The steps of the code on matrices, and the inverse.
-use Rattle.std.proofs.Common.{◌≡◌, ◌≢◌, ℕ, suc, refl, sym, ◌∙◌, ap, ap₂, ◌<◌, ◌≤◌, ◌^◌, ◌+◌, ◌*◌, ◌/◌, ◌%◌, inl, inr, arith, pow_pos, List, length, get_or, set, drop, get_or-set_same, get_or-set_other, one-mul, zero-mul, add-one, shr-shr, drop-cons, subst}
+use Rattle.std.proofs.Common.{◌≡◌, ◌≢◌, ℕ, suc, refl, sym, ◌∙◌, ap, ap₂, ◌<◌, ◌^◌, ◌+◌, ◌*◌, ◌/◌, ◌%◌, inl, inr, arith, pow_pos, List, length, get_or, set, drop, get_or-set_same, get_or-set_other, one-mul, zero-mul, add-one, shr-shr, drop-cons, subst}
 use Rattle.std.specs.Prelude.{bit_xor, bit_and, slice_index}
 use Rattle.std.specs.Int.{bit_at}
-use Rattle.std.specs.Int.Bits.{xor_lt, xor_zero_l, xor_zero_r, xor_assoc}
-use Rattle.std.proofs.Math.Seq.{drop-length}
+use Rattle.std.specs.Int.Bits.{xor_lt, xor_zero_l, xor_assoc}
 use Rattle.std.proofs.lemmas.Bool.{cases_eq}
 use Rattle.std.proofs.lemmas.Nat.{pow_below}
 use Rattle.std.proofs.lemmas.Nat.Bits.{shr_and_one}
@@ -34,11 +33,6 @@ rest_zero rows choice sum i h other inv =
   where
     none : bit_at choice i ≡ 0
     none = elim (bit_cases (bit_at choice i) (omega arith)) [ inl z ↦ z | inr o ↦ absurd (other (shr_and_one choice i ∙ o)) ]
-
-pub rest_end : (rows : List ℕ) (choice sum i : ℕ) → length rows ≤ i → i ≤ length rows → Rest rows choice sum i → sum ≡ combination rows choice
-rest_end rows choice sum i low high inv =
-    let e : i ≡ length rows = omega arith in
-    sym (xor_zero_r sum) ∙ ap (bit_xor sum) (sym (ap (λ r. combination r (choice / 2 ^ i)) (ap (λ n. drop n rows) e ∙ drop-length rows))) ∙ inv
 
 -- ---- the choices of pivots
 pub choices_start : (rows sums choices : List ℕ) → ((t : ℕ) → slice_index sums t ≡ 0) → ((t : ℕ) → slice_index choices t ≡ 0) → AreChoices rows sums choices

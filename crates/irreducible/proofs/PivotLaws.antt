@@ -7,7 +7,7 @@ use Rattle.std.proofs.lemmas.Bool.{cases_eq, cases_lt}
 use Rattle.std.proofs.lemmas.Nat.{shr_split}
 use Rattle.std.proofs.lemmas.Nat.Bits.{bit_at_xor, bit_at_above}
 use native.Mathlib.Nat.{div-eq_of_lt-le, div-eq_of_lt}
-use Rattle.gf_field.proofs.Copies.{zeros}
+use Rattle.gf_field.proofs.CopyLemmas.{zeros}
 use Rattle.gf_field.specs.laws.XorLaws.{xor_cancel}
 use Rattle.irreducible.specs.Span.{combination, InSpan, IsRank}
 use Rattle.irreducible.specs.laws.SpanLaws.{combination_zero, combination-xor, combination_unit, span_zero, span_xor, span_first, span_rest, span_split, IsSplit, independent_more, independent_nil, span_item, span_all, span_trans}
@@ -33,9 +33,6 @@ top_xor t a b h k = record { low = whole (bit_xor a b / 2 ^ t) (bit_xor a b % 2 
 -- ---- one row reduced
 pub reduced_start : (pivots : List ℕ) (row i : ℕ) → row < 2 ^ i → IsCleared pivots row row 0 i
 reduced_start pivots row i h = record { within = combination_zero pivots ∙ sym (xor_self row); cleared = λ t le p. bit_at_above row i t h le }
-
-pub reduced_kept : (pivots : List ℕ) (row left used i : ℕ) → IsCleared pivots row left used (suc i) → bit_at left i ≡ 0 → IsCleared pivots row left used i
-reduced_kept pivots row left used i r z = record { within = r.within; cleared = λ t le p. elim (cases_eq t i) [ inl e ↦ ap (bit_at left) e ∙ z | inr ne ↦ r.cleared t (omega arith) p ] }
 
 pub reduced_more : (pivots : List ℕ) (row left used i : ℕ) → ByTop pivots → IsCleared pivots row left used (suc i) → bit_at left i ≡ 1 → IsCleared pivots row (bit_xor left (slice_index pivots i)) (bit_xor used (2 ^ i)) i
 reduced_more pivots row left used i tops r o = record {
@@ -88,9 +85,6 @@ rank_kept rows pivots i r left used k d z = record {
 }
 
 module _ (rows pivots : List ℕ) (i r left used t : ℕ) (k : IsRankSoFar rows pivots i r) (d : IsCleared pivots (get_or rows i 0) left used 0) (top : IsTop t left) (room : t < length pivots) where
-  next_basis : List ℕ
-  next_basis = left ∷ k.basis
-
   after : List ℕ
   after = set pivots t left
 

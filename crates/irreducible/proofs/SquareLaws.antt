@@ -16,9 +16,6 @@ use Rattle.gf_field.specs.Field.{HasNoZeroDivisors}
 use Rattle.irreducible.specs.laws.AdditiveLaws.{IsAdditive, IsAdditive-double, combination-additive}
 
 module _ (k : ℕ) (mul : ℕ → ℕ → ℕ) (ring : IsRing k mul) where
-  square : ℕ → ℕ
-  square a = mul a a
-
   IsAdditive-square : IsAdditive (λ a. mul a a)
   IsAdditive-square = record { sum = square-xor k mul ring }
 

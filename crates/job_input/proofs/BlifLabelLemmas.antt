@@ -7,6 +7,7 @@ use Rattle.std.specs.Option.{option_map_or}
 use Rattle.std.specs.Str.{bytes_eq}
 use Rattle.std.proofs.lemmas.List.Elements.{All-drop, All-weaker}
 use Rattle.text_core.specs.Lines.{IsPrinting}
+use Rattle.text_core.proofs.GeneralLemmas.{same_ok as ok_same}
 use Rattle.net_core.specs.NetList.{LabelValue}
 use Rattle.net_core.specs.declared.fault.NetFault.TheVariants.{TooManyNets, TooManyGates}
 use Rattle.net_blif.specs.Connection.{actual_of, formal_of}
@@ -23,7 +24,7 @@ use Rattle.net_flat.specs.declared.flat_fault.FlatFault.{FlatFault}
 use Rattle.net_flat.specs.declared.flat_fault.FlatFault.TheVariants.{Net, TooManyInstances}
 use Rattle.job_words.specs.OneLine.{HasNoLineFeed}
 use Rattle.job_words.proofs.OneLineLemmas.{IsClean, clean_then, kept_clean, number_clean}
-use Rattle.job_input.proofs.BlifTextLemmas.{ItemPrints, ModelPrints, all_append, design_prints, err_same, ok_same}
+use Rattle.job_input.proofs.BlifTextLemmas.{ItemPrints, ModelPrints, all_append, design_prints, err_same}
 use Rattle.job_input.proofs.LabelFaultLemmas.{HasCleanLabels}
 
 pub printing_kept : (text : List ℕ) → IsPrinting text → HasNoLineFeed text

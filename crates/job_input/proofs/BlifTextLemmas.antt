@@ -4,6 +4,7 @@ use Rattle.std.specs.Prelude.{All, IfSome, IsTrue, is_some, nat_lt}
 use Rattle.std.specs.List.{AllByRecursion, list_all}
 use Rattle.std.proofs.lemmas.List.Elements.{All-weaker, recursion_from_All}
 use Rattle.text_core.specs.Lines.{IsPrinting, tokens_of}
+use Rattle.text_core.proofs.GeneralLemmas.{same_ok as ok_same}
 use Rattle.net_blif.specs.Chains.{WalkEnds, graph_of, leads_on}
 use Rattle.net_blif.specs.Connection.{formal_of}
 use Rattle.net_blif.specs.Cover.{CoverValue, begun, gate_of}
@@ -31,9 +32,6 @@ all_append P (x ∷ xs) ys first second = (first.0, all_append P xs ys first.1 s
 
 tokens_print : (tokens : List Token) → All IsToken tokens → AllByRecursion IsPrinting tokens
 tokens_print tokens all = recursion_from_All IsPrinting tokens (All-weaker IsToken IsPrinting (λ token is. is.2) tokens all)
-
-pub ok_same : {A F : Type 0} (a b : A) → ◌≡◌ {A = Result A F} (Ok a) (Ok b) → a ≡ b
-ok_same a b e = cc
 
 pub err_same : {A F : Type 0} (a b : F) → ◌≡◌ {A = Result A F} (Err a) (Err b) → a ≡ b
 err_same a b e = cc

@@ -39,23 +39,23 @@ rebound_long k (word ∷ words) list = ap suc (rebound_long k words (drop k list
 
 -- the same words: as many, with the same roles, of k bits each
 pub record KeepsWords (netlist circuit : BoundNet) : Type 0 where
-  pub bits : circuit.bound.k ≡ netlist.bound.k
-  pub roles : map (λ (w : BoundWord). w.role) circuit.bound.words ≡ map (λ (w : BoundWord). w.role) netlist.bound.words
-  pub long : length circuit.bound.words ≡ length netlist.bound.words
+  pub bits : circuit.binding.k ≡ netlist.binding.k
+  pub roles : map (λ (w : BoundWord). w.role) circuit.binding.words ≡ map (λ (w : BoundWord). w.role) netlist.binding.words
+  pub long : length circuit.binding.words ≡ length netlist.binding.words
 
 pub keeps_words : (netlist : BoundNet) (cycles : ℕ) → KeepsWords netlist (all_cycles netlist cycles)
 unfolding all_cycles
-keeps_words netlist cycles = by (is_flat netlist.net netlist.bound)
+keeps_words netlist cycles = by (is_flat netlist.net netlist.binding)
   where
     flat : BoundNet
-    flat = record { net = netlist.net; bound = netlist.bound }
+    flat = record { net = netlist.net; binding = netlist.binding }
 
     list : List ℕ
-    list = unrolled_nets netlist.net netlist.bound cycles
+    list = unrolled_nets netlist.net netlist.binding cycles
 
-    by : (b : Bool) → KeepsWords netlist (cond b flat (in_one_cycle netlist.net netlist.bound cycles))
+    by : (b : Bool) → KeepsWords netlist (cond b flat (in_one_cycle netlist.net netlist.binding cycles))
     by true = record { bits = refl; roles = refl; long = refl }
-    by false = record { bits = refl; roles = rebound_roles netlist.bound.k netlist.bound.words list; long = rebound_long netlist.bound.k netlist.bound.words list }
+    by false = record { bits = refl; roles = rebound_roles netlist.binding.k netlist.binding.words list; long = rebound_long netlist.binding.k netlist.binding.words list }
 
 -- what is taken for a setting stays so
 pub still_taken : (k : ℕ) (setting : Setting) (netlist circuit : BoundNet) → KeepsWords netlist circuit → IsTakenFor k setting netlist → IsTakenFor k setting circuit
@@ -81,14 +81,14 @@ le_of_not_lt m n none = by (cases_lt m n)
     by (inl less) = absurd (none less)
     by (inr le) = le
 
-pub circuit_made : (netlist circuit : BoundNet) (cycles : ℕ) → circuit ≡ unrolled netlist.net netlist.bound cycles → (2 ^ 20 < nets (unrolled netlist.net netlist.bound cycles).net → ⊥) → length (unrolled netlist.net netlist.bound cycles).net.gates ≤ 2 ^ 20 → CircuitOf netlist cycles (Ok circuit)
+pub circuit_made : (netlist circuit : BoundNet) (cycles : ℕ) → circuit ≡ unrolled netlist.net netlist.binding cycles → (2 ^ 20 < nets (unrolled netlist.net netlist.binding cycles).net → ⊥) → length (unrolled netlist.net netlist.binding cycles).net.gates ≤ 2 ^ 20 → CircuitOf netlist cycles (Ok circuit)
 unfolding all_cycles
-circuit_made netlist circuit cycles made few room = (made, le_of_not_lt (2 ^ 20) (nets (unrolled netlist.net netlist.bound cycles).net) few, room)
+circuit_made netlist circuit cycles made few room = (made, le_of_not_lt (2 ^ 20) (nets (unrolled netlist.net netlist.binding cycles).net) few, room)
 
-pub too_many_nets : (netlist : BoundNet) (cycles : ℕ) → 2 ^ 20 < nets (unrolled netlist.net netlist.bound cycles).net → CircuitOf netlist cycles (Err TooManyNets)
+pub too_many_nets : (netlist : BoundNet) (cycles : ℕ) → 2 ^ 20 < nets (unrolled netlist.net netlist.binding cycles).net → CircuitOf netlist cycles (Err TooManyNets)
 unfolding all_cycles
 too_many_nets netlist cycles many = inl (refl, many)
 
-pub too_many_gates : (netlist : BoundNet) (cycles : ℕ) → (2 ^ 20 < nets (unrolled netlist.net netlist.bound cycles).net → ⊥) → 2 ^ 20 < length (unrolled netlist.net netlist.bound cycles).net.gates → CircuitOf netlist cycles (Err TooManyGates)
+pub too_many_gates : (netlist : BoundNet) (cycles : ℕ) → (2 ^ 20 < nets (unrolled netlist.net netlist.binding cycles).net → ⊥) → 2 ^ 20 < length (unrolled netlist.net netlist.binding cycles).net.gates → CircuitOf netlist cycles (Err TooManyGates)
 unfolding all_cycles
-too_many_gates netlist cycles few many = inr (refl, le_of_not_lt (2 ^ 20) (nets (unrolled netlist.net netlist.bound cycles).net) few, many)
+too_many_gates netlist cycles few many = inr (refl, le_of_not_lt (2 ^ 20) (nets (unrolled netlist.net netlist.binding cycles).net) few, many)

@@ -36,7 +36,7 @@ use Rattle.job_input.specs.File.{Read}
 use Rattle.job_input.specs.Labelling.{labels_of, word_label, word_labels}
 use Rattle.job_input.specs.NetlistOf.{NetlistIn, by_ending}
 use Rattle.job_input.specs.CircuitOf.{CircuitOf, UnrolledIn}
-use Rattle.job_input.specs.SettingOf.{BasesOf, BlocksHaveBases, SettingWith, SignedOf, SignedValue, WordBasis, basis_fault, feeds_within, place_within, text_fault}
+use Rattle.job_input.specs.SettingOf.{BasesOf, BlocksHaveBases, SettingWith, SignedOf, SignedValue, WordBasis, basis_fault, feeds_within, place_within, signature_fault_of}
 use Rattle.job_input.specs.SignedIn.{SecondIn, SignedIn}
 use Rattle.job_input.specs.SpecificationIn.{SpecificationIn}
 use Rattle.job_input.specs.TableIn.{TableIn}
@@ -64,7 +64,7 @@ abbrev pub RepeatsKept : SignatureFault → Type 0
 RepeatsKept fault = AllByRecursion HasNoLineFeed (repeated_of_signature fault)
 
 -- the model that a fault of the text names has no line feed
-text_keeps : (text : List ℕ) (fault : SigFault) → Sig text (Err fault) → RepeatsKept (text_fault fault)
+text_keeps : (text : List ℕ) (fault : SigFault) → Sig text (Err fault) → RepeatsKept (signature_fault_of fault)
 text_keeps text (texts.Syntax line) is = tt
 text_keeps text (texts.NameTwice line) is = tt
 text_keeps text (texts.NoFedWord line) is = tt
@@ -90,7 +90,7 @@ same_signature fault other same keeps = let P : SignatureFault → Type 0 = Repe
 
 signature_keeps : (text : List ℕ) (fault : SignatureFault) → SignedOf text (Err fault) → RepeatsKept fault
 unfolding SignedOf
-signature_keeps text fault (inl (other, is, same)) = same_signature fault (text_fault other) same (text_keeps text other is)
+signature_keeps text fault (inl (other, is, same)) = same_signature fault (signature_fault_of other) same (text_keeps text other is)
 signature_keeps text fault (inr (said, says, inl (other, is, same))) = same_signature fault (field_fault other) same (field_keeps other)
 signature_keeps text fault (inr (said, says, inr (field, named, never))) = absurd never
 

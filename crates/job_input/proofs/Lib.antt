@@ -1,11 +1,10 @@
 pub mod FieldLemmas
 pub mod SignedLemmas
 pub mod BlockWordLemmas
-pub mod SettingWords
+pub mod SettingWordLemmas
 pub mod SettingSoundLemmas
 pub mod SettingDetermined
 pub mod BasesLemmas
-pub mod JudgeLemmas
 pub mod PlaceLemmas
 pub mod NetlistLemmas
 pub mod HierarchyLemmas

@@ -37,7 +37,7 @@ words_determined words feeds net =
     named fault = netlist.Binding (of_binding words net fault)
 
     with_words : Binding → BoundNet
-    with_words bound = record { net = net; bound = bound }
+    with_words bound = record { net = net; binding = bound }
 
 pub netlist_determined : (signature : SignatureValue) (text : NetlistText) → Determined (BoundNetOf signature text)
 netlist_determined signature text = determined_bind (NetOf text) (λ net. WordsBound signature.words signature.feeds net) (net_determined text) (λ net. words_determined signature.words signature.feeds net)

@@ -194,33 +194,6 @@ text_stops {B = B} second text fault why = by fault why
 pub text_refused : (text : List ℕ) (fault : BlifFault) → (fault ≡ texts.OutOfMemory) ⊎ BlifDesign text (Err fault) → FitsNetlist {A = NetList} (Err (text_refusal fault)) (NetOf (Blif text))
 text_refused text fault why = text_stops (λ design. Within of_model (Flattens design 0)) text fault why
 
--- a first model whose net is refused
-module _ {B : Type 0} (second : NetList → Outcome NetlistFault B) (design : List ModelValue) where
-  net_stops : (fault : NetFault) → (flat_faults.Net fault ≡ flat_faults.OutOfMemory) ⊎ Flattens design 0 (Err (flat_faults.Net fault)) → FitsNetlist {A = B} (Err (net_refusal fault)) (Within of_model (Flattens design 0) >>= second)
-  net_stops fault (inl e) = absurd (cc)
-  net_stops net_faults.TooManyNets (inr is) = inl (flat_faults.Net net_faults.TooManyNets, is, refl)
-  net_stops net_faults.TooManyGates (inr is) = inl (flat_faults.Net net_faults.TooManyGates, is, refl)
-  net_stops (net_faults.DrivenTwice n label) (inr is) = inl (flat_faults.Net (net_faults.DrivenTwice n label), is, refl)
-  net_stops (net_faults.Undriven n label) (inr is) = inl (flat_faults.Net (net_faults.Undriven n label), is, refl)
-  net_stops (net_faults.Loop loop label) (inr is) = inl (flat_faults.Net (net_faults.Loop loop label), is, refl)
-  net_stops net_faults.OutOfMemory (inr is) = tt
-
-  pub model_stops : (fault : FlatFault) → (fault ≡ flat_faults.OutOfMemory) ⊎ Flattens design 0 (Err fault) → FitsNetlist {A = B} (Err (model_refusal fault)) (Within of_model (Flattens design 0) >>= second)
-  model_stops (flat_faults.Net fault) why = net_stops fault why
-  model_stops flat_faults.TooManyInstances (inl e) = absurd (cc)
-  model_stops flat_faults.TooManyInstances (inr is) = inl (flat_faults.TooManyInstances, is, refl)
-  model_stops flat_faults.OutOfMemory why = tt
-
--- one step of a netlist after another
-pub step_stops : {A B : Type 0} (first : Outcome NetlistFault A) (second : A → Outcome NetlistFault B) (refusal : Refusal) → FitsNetlist {A = A} (Err refusal) first → FitsNetlist {A = B} (Err refusal) (first >>= second)
-step_stops first second (Fault fault) is = inl is
-step_stops first second OutOfMemory is = tt
-
-pub step_after : {A B : Type 0} (first : Outcome NetlistFault A) (second : A → Outcome NetlistFault B) (a : A) (result : Result B Refusal) → first (Ok a) → FitsNetlist result (second a) → FitsNetlist result (first >>= second)
-step_after first second a (Ok b) one then = (a, one, then)
-step_after first second a (Err (Fault fault)) one then = inr (a, one, then)
-step_after first second a (Err OutOfMemory) one then = tt
-
 module _ (text : List ℕ) (design : List ModelValue) (read : BlifDesign text (Ok design)) where
   net_refused : (fault : NetFault) → (flat_faults.Net fault ≡ flat_faults.OutOfMemory) ⊎ Flattens design 0 (Err (flat_faults.Net fault)) → FitsNetlist {A = NetList} (Err (net_refusal fault)) (NetOf (Blif text))
   net_refused fault (inl e) = absurd (cc)

@@ -36,9 +36,9 @@ unfolding roles text_roles
 binding_roles net words feeds binding (bound, is, rest) =
     ap (λ (b : Binding). roles b.words) rest.2.2.2 ∙ bound_roles net [] [] words bound is
 
-pub netlist_roles : (signature : SignatureValue) (text : NetlistText) (circuit : BoundNet) → BoundNetOf signature text (Ok circuit) → HaveRoles signature.words circuit.bound.words
+pub netlist_roles : (signature : SignatureValue) (text : NetlistText) (circuit : BoundNet) → BoundNetOf signature text (Ok circuit) → HaveRoles signature.words circuit.binding.words
 netlist_roles signature text circuit (net, is_net, (bound, is, same)) =
-    let P : BoundNet → Type 0 = λ c. HaveRoles signature.words c.bound.words in
+    let P : BoundNet → Type 0 = λ c. HaveRoles signature.words c.binding.words in
     subst P (sym same) (binding_roles net signature.words signature.feeds bound is)
 
 -- so there are as many

@@ -15,9 +15,9 @@ use Rattle.gf_basis.specs.BasisFault.{IsListFault, IsNormalFault, conjugates_of}
 use Rattle.gf_basis.specs.declared.bases.BasisFault.{BasisFault}
 use Rattle.gf_basis.specs.declared.bases.BasisFault.TheVariants.{WrongCount, BadElement, Dependent}
 use Rattle.gf_basis.proofs.BasisFaultLaws.{one_list_fault}
-use Rattle.gf_field.proofs.FirstOutside.{first_clash}
+use Rattle.gf_field.proofs.FirstOutsideLemmas.{first_clash}
 use Rattle.job_input.specs.FieldOf.{FieldValue, FieldOf}
-use Rattle.job_input.specs.SettingOf.{text_fault, HasBits, NormalBasis, ListBasis, BasisOf, basis_fault, WordBasis, BasesOf, BlocksHaveBases, feeds_within, SignedValue, SignedOf, SettingWith, SettingOf}
+use Rattle.job_input.specs.SettingOf.{signature_fault_of, HasBits, NormalBasis, ListBasis, BasisOf, basis_fault, WordBasis, BasesOf, BlocksHaveBases, feeds_within, SignedValue, SignedOf, SettingWith, SettingOf}
 use Rattle.job_input.specs.SettingValue.{SettingValue}
 use Rattle.job_words.specs.declared.signature_fault.SignatureFault.{SignatureFault}
 use Rattle.job_input.proofs.SignedLemmas.{made}
@@ -85,7 +85,7 @@ module _ (k : ℕ) (product : ℕ → ℕ → ℕ) where
 pub signed_determined : (bytes : List ℕ) → Determined (SignedOf bytes)
 unfolding SignedOf
 signed_determined bytes =
-    determined_bind (Within text_fault (Sig bytes)) (λ said. FieldOf said.modulus said.tower said.upper >>= (λ field. Exactly (signed said field))) (determined_within text_fault (Sig bytes) (text_determined bytes)) (λ said.
+    determined_bind (Within signature_fault_of (Sig bytes)) (λ said. FieldOf said.modulus said.tower said.upper >>= (λ field. Exactly (signed said field))) (determined_within signature_fault_of (Sig bytes) (text_determined bytes)) (λ said.
     determined_bind (FieldOf said.modulus said.tower said.upper) (λ field. Exactly (signed said field)) (field_determined said.modulus said.tower said.upper) (λ field. determined_exactly (signed said field)))
   where
     signed : SignatureValue → FieldValue → SignedValue

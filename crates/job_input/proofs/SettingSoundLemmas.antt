@@ -25,7 +25,7 @@ use Rattle.job_input.specs.SettingOf.{BasisOf, BasesOf, SettingOf}
 use Rattle.job_input.specs.SettingValue.{SettingValue}
 use Rattle.job_input.specs.SettingSound.{IsSoundSetting}
 use Rattle.job_input.proofs.SignedLemmas.{setting_parts}
-use Rattle.job_input.proofs.SettingWords.{setting_words, setting_feeds, setting_long}
+use Rattle.job_input.proofs.SettingWordLemmas.{setting_words, setting_feeds, setting_long}
 
 -- ---- the field
 

@@ -14,7 +14,7 @@ use Rattle.job_words.specs.declared.signature_fault.SignatureFault.{SignatureFau
 use Rattle.job_words.specs.declared.stop.Stop.TheVariants.{Refused}
 use Rattle.job_words.specs.Stop.{GivesBy}
 use Rattle.job_input.specs.FieldOf.{FieldValue, field_fault, FieldOf}
-use Rattle.job_input.specs.SettingOf.{text_fault, feeds_within, BasesOf, SignedValue, SignedOf, SettingOf, SettingWith}
+use Rattle.job_input.specs.SettingOf.{signature_fault_of, feeds_within, BasesOf, SignedValue, SignedOf, SettingOf, SettingWith}
 use Rattle.job_input.specs.SettingValue.{SettingValue}
 use Rattle.job_input.specs.Setting.{signed_value, text_stop}
 
@@ -31,14 +31,14 @@ field_fails bytes said text_ok fault fails = ((field_fault fault, inr (said, tex
 -- and so is a fault of its text
 pub text_fails : (bytes : List ℕ) (fault : SigFault) → Fits {X = SignatureValue} (λ said. said) (Err fault) (Sig bytes) → GivesBy signed_value (Err (text_stop fault)) (Within Signature (SignedOf bytes)) ⊥ ⊥
 unfolding SignedOf
-text_fails bytes (text.Syntax line) fits = ((text_fault (text.Syntax line), inl (text.Syntax line, fits, refl), refl), λ miss. miss)
-text_fails bytes (text.NameTwice line) fits = ((text_fault (text.NameTwice line), inl (text.NameTwice line, fits, refl), refl), λ miss. miss)
-text_fails bytes (text.NoFedWord line) fits = ((text_fault (text.NoFedWord line), inl (text.NoFedWord line, fits, refl), refl), λ miss. miss)
-text_fails bytes (text.FeedTwice line) fits = ((text_fault (text.FeedTwice line), inl (text.FeedTwice line, fits, refl), refl), λ miss. miss)
-text_fails bytes (text.TwoOutputs line) fits = ((text_fault (text.TwoOutputs line), inl (text.TwoOutputs line, fits, refl), refl), λ miss. miss)
-text_fails bytes (text.TooManyWords line) fits = ((text_fault (text.TooManyWords line), inl (text.TooManyWords line, fits, refl), refl), λ miss. miss)
-text_fails bytes (text.NoOutput None) fits = ((text_fault (text.NoOutput None), inl (text.NoOutput None, fits, refl), refl), λ miss. miss)
-text_fails bytes (text.NoOutput (Some model)) fits = ((text_fault (text.NoOutput (Some model)), inl (text.NoOutput (Some model), fits, refl), refl), λ miss. miss)
+text_fails bytes (text.Syntax line) fits = ((signature_fault_of (text.Syntax line), inl (text.Syntax line, fits, refl), refl), λ miss. miss)
+text_fails bytes (text.NameTwice line) fits = ((signature_fault_of (text.NameTwice line), inl (text.NameTwice line, fits, refl), refl), λ miss. miss)
+text_fails bytes (text.NoFedWord line) fits = ((signature_fault_of (text.NoFedWord line), inl (text.NoFedWord line, fits, refl), refl), λ miss. miss)
+text_fails bytes (text.FeedTwice line) fits = ((signature_fault_of (text.FeedTwice line), inl (text.FeedTwice line, fits, refl), refl), λ miss. miss)
+text_fails bytes (text.TwoOutputs line) fits = ((signature_fault_of (text.TwoOutputs line), inl (text.TwoOutputs line, fits, refl), refl), λ miss. miss)
+text_fails bytes (text.TooManyWords line) fits = ((signature_fault_of (text.TooManyWords line), inl (text.TooManyWords line, fits, refl), refl), λ miss. miss)
+text_fails bytes (text.NoOutput None) fits = ((signature_fault_of (text.NoOutput None), inl (text.NoOutput None, fits, refl), refl), λ miss. miss)
+text_fails bytes (text.NoOutput (Some model)) fits = ((signature_fault_of (text.NoOutput (Some model)), inl (text.NoOutput (Some model), fits, refl), refl), λ miss. miss)
 text_fails bytes text.OutOfMemory fits = tt
 
 -- ---- what a setting is made of

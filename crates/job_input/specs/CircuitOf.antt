@@ -15,7 +15,7 @@ use Rattle.job_input.specs.NetlistOf.{BoundNetOf, NetlistIn, NetlistText}
 
 -- the circuit of a net with bound words and feeds, over so many cycles after the first
 unfoldable pub all_cycles : BoundNet → ℕ → BoundNet
-all_cycles bound cycles = unrolled bound.net bound.bound cycles
+all_cycles bound cycles = unrolled bound.net bound.binding cycles
 
 -- this circuit where it has at most 1,048,576 nets and gates; its nets are counted first
 abbrev pub CircuitOf : BoundNet → ℕ → Outcome NetlistFault BoundNet

@@ -38,7 +38,7 @@ labels_of k words = record { output = output_name words; words = word_labels k w
 
 -- the labels of polynomials in all variables of a circuit: the words, their bits, and then its other nets by number
 abbrev pub circuit_labels : ℕ → List WordText → BoundNet → Labelling
-circuit_labels k words circuit = record { output = output_name words; words = word_labels k words; nets = others (nets circuit.net) (bits circuit.bound.words) }
+circuit_labels k words circuit = record { output = output_name words; words = word_labels k words; nets = others (nets circuit.net) (bits circuit.binding.words) }
 
 -- a word that adds a label has a new name, and there are fewer than 8 before it
 abbrev pub IsNewLabel : Role → List ℕ → List (List ℕ × ℕ) → Type 0

@@ -128,7 +128,7 @@ NetOf (Aiger text) = Within of_aiger (AigerNet text)
 abbrev pub WordsBound : List WordText → List FeedText → NetList → Outcome NetlistFault BoundNet
 WordsBound words feeds net = do
   bound ← Within (λ fault. netlist.Binding (of_binding words net fault)) (BindingOf net words feeds)
-  Exactly (record { net = net; bound = bound })
+  Exactly (record { net = net; binding = bound })
 
 -- The net of a text with the words and feeds of a signature bound to it: the text, its net, and the binding, of which the
 -- first fault counts.

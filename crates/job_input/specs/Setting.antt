@@ -31,7 +31,7 @@ use Rattle.job_words.specs.declared.fault.Fault.TheVariants.{Signature, SecondSi
 use Rattle.job_words.specs.declared.signature_fault.SignatureFault.{SignatureFault}
 use Rattle.job_words.specs.declared.stop.Stop.{Stop}
 use Rattle.job_words.specs.declared.stop.Stop.TheVariants as stops
-use Rattle.job_input.specs.SettingOf.{feeds_within, text_fault, SignedValue}
+use Rattle.job_input.specs.SettingOf.{feeds_within, signature_fault_of, SignedValue}
 use Rattle.job_input.specs.SettingValue.{SettingValue}
 
 -- how many bits an element of the field has
@@ -77,13 +77,13 @@ AreBasesOver k product bases = (basis : Basis) → Has bases basis → IsBasisOv
 
 -- why no output comes after a fault of a signature's text
 abbrev pub text_stop : SigFault → Stop
-text_stop (Syntax line) = stops.Refused (Signature (text_fault (Syntax line)))
-text_stop (NameTwice line) = stops.Refused (Signature (text_fault (NameTwice line)))
-text_stop (NoFedWord line) = stops.Refused (Signature (text_fault (NoFedWord line)))
-text_stop (FeedTwice line) = stops.Refused (Signature (text_fault (FeedTwice line)))
-text_stop (TwoOutputs line) = stops.Refused (Signature (text_fault (TwoOutputs line)))
-text_stop (TooManyWords line) = stops.Refused (Signature (text_fault (TooManyWords line)))
-text_stop (NoOutput block) = stops.Refused (Signature (text_fault (NoOutput block)))
+text_stop (Syntax line) = stops.Refused (Signature (signature_fault_of (Syntax line)))
+text_stop (NameTwice line) = stops.Refused (Signature (signature_fault_of (NameTwice line)))
+text_stop (NoFedWord line) = stops.Refused (Signature (signature_fault_of (NoFedWord line)))
+text_stop (FeedTwice line) = stops.Refused (Signature (signature_fault_of (FeedTwice line)))
+text_stop (TwoOutputs line) = stops.Refused (Signature (signature_fault_of (TwoOutputs line)))
+text_stop (TooManyWords line) = stops.Refused (Signature (signature_fault_of (TooManyWords line)))
+text_stop (NoOutput block) = stops.Refused (Signature (signature_fault_of (NoOutput block)))
 text_stop OutOfMemory = stops.OutOfMemory
 
 -- the fault of a first signature as one of a second
@@ -140,6 +140,6 @@ HaveRoles words bound = map (λ word. word.role) bound ≡ map (λ word. word.ro
 
 -- what is known of each circuit that is taken for a setting: its words have k bits each, the setting's roles, and a basis each
 pub record IsTakenFor (k : ℕ) (setting : Setting) (circuit : BoundNet) : Type 0 where
-  pub bits : circuit.bound.k ≡ k
-  pub roles : HaveRoles setting.signature.words circuit.bound.words
-  pub long : length setting.bases.items ≡ length circuit.bound.words
+  pub bits : circuit.binding.k ≡ k
+  pub roles : HaveRoles setting.signature.words circuit.binding.words
+  pub long : length setting.bases.items ≡ length circuit.binding.words

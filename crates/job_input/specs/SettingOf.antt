@@ -24,16 +24,16 @@ use Rattle.job_input.specs.FieldOf.{FieldValue, FieldOf}
 use Rattle.job_input.specs.SettingValue.{SettingValue}
 
 -- the fault that a fault of a signature's text is; want of memory, which no text has, is taken as any other
-abbrev pub text_fault : SigFault → SignatureFault
-text_fault (text.Syntax line) = signature.Syntax line
-text_fault (text.NameTwice line) = signature.NameTwice line
-text_fault (text.NoFedWord line) = signature.NoFedWord line
-text_fault (text.FeedTwice line) = signature.FeedTwice line
-text_fault (text.TwoOutputs line) = signature.TwoOutputs line
-text_fault (text.TooManyWords line) = signature.TooManyWords line
-text_fault (text.NoOutput None) = signature.NoOutput
-text_fault (text.NoOutput (Some model)) = signature.NoOutputInBlock model
-text_fault text.OutOfMemory = signature.NoOutput
+abbrev pub signature_fault_of : SigFault → SignatureFault
+signature_fault_of (text.Syntax line) = signature.Syntax line
+signature_fault_of (text.NameTwice line) = signature.NameTwice line
+signature_fault_of (text.NoFedWord line) = signature.NoFedWord line
+signature_fault_of (text.FeedTwice line) = signature.FeedTwice line
+signature_fault_of (text.TwoOutputs line) = signature.TwoOutputs line
+signature_fault_of (text.TooManyWords line) = signature.TooManyWords line
+signature_fault_of (text.NoOutput None) = signature.NoOutput
+signature_fault_of (text.NoOutput (Some model)) = signature.NoOutputInBlock model
+signature_fault_of text.OutOfMemory = signature.NoOutput
 
 -- the word is fed, or has as many nets as the field's elements have bits
 abbrev pub HasWidth : ℕ → WordText → Type 0
@@ -105,7 +105,7 @@ pub record SignedValue : Type 0 where
 -- the signature of a text: first its lines, then its field
 unfoldable pub SignedOf : List ℕ → Outcome SignatureFault SignedValue
 SignedOf bytes = do
-  said ← Within text_fault (Sig bytes)
+  said ← Within signature_fault_of (Sig bytes)
   field ← FieldOf said.modulus said.tower said.upper
   Exactly (record { signature = said; field = field })
 

@@ -1,5 +1,6 @@
 //! Nets with the words and feeds that are bound to them, whose cycles are not unrolled yet.
 ghost use Rattle.std.specs.Prelude.{◌≡◌};
+ghost use Rattle.net_core.specs.Sound.{IsSound};
 ghost use Rattle.net_words.specs.BoundTo.{IsBoundTo};
 
 use net_core::Net;
@@ -20,7 +21,7 @@ impl Model for BoundNetlist {
 
     ghost Value = { BoundNet };
 
-    ghost view = { λ netlist. record { net = netlist.net; bound = netlist.bound } };
+    ghost view = { λ netlist. record { net = netlist.net; binding = netlist.bound } };
 
     ghost invariant = { λ netlist. IsSound netlist.net × IsBoundTo netlist.net netlist.bound };
 }
@@ -28,17 +29,17 @@ impl Model for BoundNetlist {
 impl BoundNetlist {
     // The net with the words and feeds that are bound to it.
     pub(crate) fn new(net: Net, bound: Bound) -> BoundNetlist
-        requires { IsBoundTo net bound }
-        ensures { result ≡ record { net = net; bound = bound } }
+        requires sound { IsSound net }
+        requires bound_to { IsBoundTo net bound }
+        ensures { result ≡ record { net = net; binding = bound } }
     {
-        let _count = net.nets();
         BoundNetlist { net, bound }
     }
 
     // The two of them.
     pub(crate) fn into_parts(self) -> (Net, Bound)
         ensures net { result.0 ≡ self.net }
-        ensures bound { result.1 ≡ self.bound }
+        ensures bound { result.1 ≡ self.binding }
         ensures bound_to { IsBoundTo result.0 result.1 }
     {
         let BoundNetlist { net, bound } = self;

@@ -56,7 +56,7 @@ fn netlist_of(
     requires short { length text.now ≤ 67108864 }
     requires words { (k : ℕ) × AreWords k signature.now.words × AreFeeds k (roles_of signature.now.words) signature.now.feeds }
     ensures gives { GivesBy (λ netlist. netlist) result (Within (Netlist file.now) (BoundNetOf signature.now (by_ending file.now text.now))) ⊥ ⊥ }
-    ensures bits { IfOk result (λ netlist. netlist.bound.k ≡ bits_of signature.now.words) }
+    ensures bits { IfOk result (λ netlist. netlist.binding.k ≡ bits_of signature.now.words) }
 {
     let name = Name::new(alloc, file)?;
     match bound_net(alloc, signature, file, text) {

@@ -38,7 +38,7 @@ pub(crate) fn bound_net(
     requires short { length text.now ≤ 67108864 }
     requires words { (k : ℕ) × AreWords k signature.now.words × AreFeeds k (roles_of signature.now.words) signature.now.feeds }
     ensures fits { FitsNetlist result (BoundNetOf signature.now (by_ending file.now text.now)) }
-    ensures bits { IfOk result (λ netlist. netlist.bound.k ≡ bits_of signature.now.words) }
+    ensures bits { IfOk result (λ netlist. netlist.binding.k ≡ bits_of signature.now.words) }
 {
     match net_of(alloc, file, text) {
         Ok(net) => bound_to(alloc, signature.words(), signature.feeds(), net),
@@ -55,9 +55,8 @@ pub(crate) fn bound_to(
 ) -> Result<BoundNetlist, Refusal>
     requires words { (k : ℕ) × AreWords k words.now × AreFeeds k (roles_of words.now) feeds.now }
     ensures fits { FitsNetlist result (WordsBound words.now feeds.now net) }
-    ensures bits { IfOk result (λ netlist. netlist.bound.k ≡ bits_of words.now) }
+    ensures bits { IfOk result (λ netlist. netlist.binding.k ≡ bits_of words.now) }
 {
-    let _count = net.nets();
     match bind(alloc, words, feeds, &net) {
         Ok(bound) => Ok(BoundNetlist::new(net, bound)),
         Err(fault) => Err(binding_fault(alloc, words, &net, fault)),

@@ -1,8 +1,7 @@
 -- The bits that the plain program finds for feeds.
-use Rattle.std.proofs.Common.{◌≡◌, ◌∙◌, ap, sym, subst, ℕ, ◌<◌, ◌≤◌, ◌+◌, ◌^◌, ◌&&◌, Bool, true, false, List, ◌∷◌, length, drop, get_or, map, Some, cond}
+use Rattle.std.proofs.Common.{◌≡◌, ◌∙◌, ap, sym, subst, ℕ, ◌<◌, ◌≤◌, ◌^◌, Bool, false, List, map, Some}
 use Rattle.std.specs.Prelude.{slice_get, ◌==◌}
 use Rattle.std.specs.Int.{bit_at}
-use Rattle.std.proofs.lemmas.List.{drop_more}
 use Rattle.std.proofs.lemmas.Nat.Bits.{bit_at_above}
 use Rattle.net_core.specs.Value.{bit_of}
 use Rattle.net_core.proofs.DriverLemmas.{from_map}
@@ -12,26 +11,12 @@ use Rattle.circuit_model.specs.declared.circuit_feed.CircuitFeed.{CircuitFeed}
 use Rattle.circuit_model.specs.declared.circuit_feed.FeedSource.TheVariants.{Bit}
 use Rattle.circuit_model.specs.declared.circuit_word.CircuitWord.{CircuitWord}
 use Rattle.circuit_model.specs.Word.{Word}
-use Rattle.circuit_model.specs.Feeds.{source_at}
 use Rattle.circuit_model.specs.Run.{HasSource}
 use Rattle.circuit_model.specs.Flat.{word_of}
 use Rattle.job_plain.specs.private.Cycle.{HasItsSource, AreFed}
 
 pub high_bit : (bits place : ℕ) → bits < 2 ^ 64 → 64 ≤ place → false ≡ (bit_at bits place == 1)
 high_bit bits place small high = ap (λ b. b == 1) (sym (bit_at_above bits 64 place small high))
-
-split : (feeds : List CircuitFeed) (i : ℕ) (f : CircuitFeed) → i < length feeds → f ≡ get_or feeds i f → drop i feeds ≡ f ∷ drop (i + 1) feeds
-split feeds i f less is = drop_more feeds i f less ∙ ap (λ g. g ∷ drop (i + 1) feeds) (sym is)
-
--- the source of the next feed, where it is for the net and the cycle
-pub source_here : (feeds : List CircuitFeed) (i : ℕ) (f : CircuitFeed) (n t : ℕ) → i < length feeds → f ≡ get_or feeds i f → (f.net == n && f.cycle == t) ≡ true → source_at (drop i feeds) n t ≡ f.source
-source_here feeds i f n t less is hit =
-    ap (λ fs. source_at fs n t) (split feeds i f less is) ∙ ap (λ b. cond b f.source (source_at (drop (i + 1) feeds) n t)) hit
-
--- and of a later one, where it is not
-pub source_later : (feeds : List CircuitFeed) (i : ℕ) (f : CircuitFeed) (n t : ℕ) → i < length feeds → f ≡ get_or feeds i f → (f.net == n && f.cycle == t) ≡ false → source_at (drop i feeds) n t ≡ source_at (drop (i + 1) feeds) n t
-source_later feeds i f n t less is miss =
-    ap (λ fs. source_at fs n t) (split feeds i f less is) ∙ ap (λ b. cond b f.source (source_at (drop (i + 1) feeds) n t)) miss
 
 -- an element has one choice of a basis
 pub same_choice : (k : ℕ) (product : ℕ → ℕ → ℕ) (v w : CircuitWord) (y x e d place : ℕ) → IsBasisOver k product v.basis → y < 2 ^ k → v ≡ w → y ≡ x → AreBits (elements_of v.basis) y e → AreBits (elements_of w.basis) x d → (bit_at e place == 1) ≡ (bit_at d place == 1)

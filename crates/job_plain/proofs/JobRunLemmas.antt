@@ -19,7 +19,7 @@ use Rattle.circuit_model.specs.declared.circuit_word.CircuitWord.{CircuitWord}
 use Rattle.circuit_model.specs.Word.{Word, HasElement}
 use Rattle.circuit_model.specs.Circuit.{Circuit, IsInput}
 use Rattle.circuit_model.specs.Job.{IsJob, IsJobWord, net_count}
-use Rattle.circuit_model.specs.Run.{HaveElements, HasSource, IsInputWord, IsStateWord, IsCycle, IsFirst, IsNext, HasZeros}
+use Rattle.circuit_model.specs.Run.{HaveElements, HasSource, IsInputWord, IsStateWord, IsClockCycle, IsFirst, IsNext, HasZeros}
 use Rattle.circuit_model.specs.Out.{IsOut}
 use Rattle.circuit_model.specs.Flat.{word_of}
 use Rattle.job_plain.specs.JobOfParts.{job_of_parts}
@@ -44,7 +44,7 @@ module _ (k : ℕ) (product : ℕ → ℕ → ℕ) (net : NetList) (words : List
   input_to : (s t : ℕ) → IsInput (job s) xs → IsInput (job t) xs
   input_to s t is = record { long = is.long; elements = is.elements }
 
-  cycle_to : (s t q : ℕ) (bits : List Bool) → IsCycle (job s) xs q bits → IsCycle (job t) xs q bits
+  cycle_to : (s t q : ℕ) (bits : List Bool) → IsClockCycle (job s) xs q bits → IsClockCycle (job t) xs q bits
   cycle_to s t q bits is = record { consistent = is.consistent; inputs = is.inputs; feeds = is.feeds }
 
   first_to : (s t : ℕ) (bits : List Bool) → IsFirst (job s) xs bits → IsFirst (job t) xs bits
@@ -53,24 +53,6 @@ module _ (k : ℕ) (product : ℕ → ℕ → ℕ) (net : NetList) (words : List
   zeros_to : (s t : ℕ) (bits : List Bool) → HasZeros (job s) bits → HasZeros (job t) bits
   zeros_to s t bits is n free = is n (record { input = free.input; unnamed = free.unnamed; unfed = free.unfed })
 
-  pub job_to : (s t : ℕ) → IsJob (job s) → IsJob (job t)
-  job_to s t is = record {
-    ring = is.ring;
-    no_zero_divisors = is.no_zero_divisors;
-    sound = is.sound;
-    few = is.few;
-    words = is.words;
-    inner = is.inner;
-    once = is.once;
-    places = is.places;
-    output = is.output;
-    output_role = is.output_role;
-    output_nets = is.output_nets;
-    feeds = λ feed has. let fine = is.feeds feed has in record { input = fine.input; unnamed = fine.unnamed; source = fine.source };
-    starts = is.starts;
-    covered = λ n free. is.covered n (record { input = free.input; unnamed = free.unnamed; unfed = free.unfed });
-  }
-
   -- words of the role that is asked for have their elements
   asked : (states : Bool) (P : Word → Type 0) (bits : List Bool) → ((w : CircuitWord) → P (word_of w) → IsAsked states w.role) → HaveAsked states words xs bits → (t : ℕ) → HaveElements (job t) P xs bits
   asked states P bits fits have t i w x got at p =
@@ -78,7 +60,7 @@ module _ (k : ℕ) (product : ℕ → ℕ → ℕ) (net : NetList) (words : List
       let Q : Word → Type 0 = λ v. HasElement bits v x in
       subst Q found.2 (have i found.0 x found.1 at (fits found.0 (subst P (sym found.2) p)))
 
-  cycle_is : (t q : ℕ) (bits : List Bool) → IsConsistent net bits → HaveAsked false words xs bits → AreFed words xs feeds q bits → IsCycle (job t) xs q bits
+  cycle_is : (t q : ℕ) (bits : List Bool) → IsConsistent net bits → HaveAsked false words xs bits → AreFed words xs feeds q bits → IsClockCycle (job t) xs q bits
   cycle_is t q bits consistent have fed = record { consistent = consistent; inputs = asked false IsInputWord bits (λ w is. is) have t; feeds = fed }
 
   zeros_are : (t q : ℕ) (bits : List Bool) → HaveInputs words xs feeds q net.inputs bits → HasZeros (job t) bits
@@ -110,7 +92,7 @@ module _ (k : ℕ) (product : ℕ → ℕ → ℕ) (net : NetList) (words : List
       open_run = record {
         input = record { long = long ∙ sym (length-map words word_of); elements = elements };
         long = refl;
-        each = one_at bits (λ t b. IsCycle (job 0) xs t b) (cycle_is 0 0 bits consistent have fed);
+        each = one_at bits (λ t b. IsClockCycle (job 0) xs t b) (cycle_is 0 0 bits consistent have fed);
         first = λ b got. one_at bits (λ t v. IsFirst (job 0) xs v) (first_is 0 bits states starts) 0 b got;
         next = λ t u b at_u at_b. absurd (no_next bits t b at_b);
       };
@@ -120,9 +102,9 @@ module _ (k : ℕ) (product : ℕ → ℕ → ℕ) (net : NetList) (words : List
   }
 
   -- one more cycle
-  module _ (t : ℕ) (before bits : List Bool) (is : IsReached job xs t before) (cycle : IsCycle (job (t + 1)) xs (t + 1) bits) (zeros : HasZeros (job (t + 1)) bits) (next : IsNext (job t) before bits) where
+  module _ (t : ℕ) (before bits : List Bool) (is : IsReached job xs t before) (cycle : IsClockCycle (job (t + 1)) xs (t + 1) bits) (zeros : HasZeros (job (t + 1)) bits) (next : IsNext (job t) before bits) where
     IsFine : ℕ → List Bool → Type 0
-    IsFine s u = IsCycle (job (t + 1)) xs s u × HasZeros (job (t + 1)) u
+    IsFine s u = IsClockCycle (job (t + 1)) xs s u × HasZeros (job (t + 1)) u
 
     long : length is.run ≡ t + 1
     long = is.is_run.open_run.long
@@ -131,11 +113,11 @@ module _ (k : ℕ) (product : ℕ → ℕ → ℕ) (net : NetList) (words : List
     unfolding IsFine
     fine s u got = by (got_push is.run bits s u got)
       where
-        by : ((slice_get is.run s ≡ Some u) × (s < length is.run)) ⊎ ((s ≡ length is.run) × (u ≡ bits)) → IsCycle (job (t + 1)) xs s u × HasZeros (job (t + 1)) u
+        by : ((slice_get is.run s ≡ Some u) × (s < length is.run)) ⊎ ((s ≡ length is.run) × (u ≡ bits)) → IsClockCycle (job (t + 1)) xs s u × HasZeros (job (t + 1)) u
         by (inl old) = (cycle_to t (t + 1) s u (is.is_run.open_run.each s u old.0), zeros_to t (t + 1) u (is.is_run.zeros s u old.0))
         by (inr new) =
-            let P : ℕ → Type 0 = λ q. IsCycle (job (t + 1)) xs q bits in
-            let Q : List Bool → Type 0 = λ v. IsCycle (job (t + 1)) xs s v × HasZeros (job (t + 1)) v in
+            let P : ℕ → Type 0 = λ q. IsClockCycle (job (t + 1)) xs q bits in
+            let Q : List Bool → Type 0 = λ v. IsClockCycle (job (t + 1)) xs s v × HasZeros (job (t + 1)) v in
             subst Q (sym new.1) (subst P (sym (new.0 ∙ long)) cycle, zeros)
 
     first_fine : (u : List Bool) → slice_get (is.run ++ bits ∷ []) 0 ≡ Some u → IsFirst (job (t + 1)) xs u

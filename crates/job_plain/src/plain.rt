@@ -10,8 +10,8 @@ ghost use Rattle.job_plain.specs.private.Cycle.{AreFed, AreOnlyFed, HaveAsked, I
 
 use crate::cycle_bits::{first_bits, next_bits};
 use crate::fed_bits::are_fed;
-use crate::word_bits::{element, have_elements};
-use circuit_model::{CircuitFeed, CircuitWord};
+use crate::word_bits::have_elements;
+use circuit_model::{CircuitFeed, CircuitWord, element};
 use gf_field::Field;
 use net_core::Net;
 use std::alloc::{AllocError, Global};

@@ -1,29 +1,15 @@
 //! The bits of nets where words have elements, and the elements of words where nets have bits.
-ghost use Rattle.std.specs.Prelude.{◌≡◌, ◌==◌, ◌≤◌, ◌<◌, ◌^◌, ◌↔◌, ℕ, Some, length, IfSome, IsSome, IsTrue, slice_get};
-ghost use Rattle.std.specs.Int.{bit_at};
-ghost use Rattle.net_core.specs.Lists.{Has, times};
+ghost use Rattle.std.specs.Prelude.{◌≡◌, ◌<◌, ◌^◌, ◌↔◌, ℕ, length, IsTrue};
+ghost use Rattle.net_core.specs.Lists.{Has};
 ghost use Rattle.gf_basis.specs.BasisParts.{IsBasisOver};
 ghost use Rattle.circuit_model.specs.Word.{HasElement};
 ghost use Rattle.circuit_model.specs.Flat.{AreOver, word_of};
 ghost use Rattle.circuit_model.specs.private.Found.{IsBitIn, IsOnce, IsUnnamed};
 ghost use Rattle.job_plain.specs.private.Cycle.{HaveAsked, IsAsked};
 
-use circuit_model::{CircuitWord, number_of_bits};
+use circuit_model::{CircuitWord, bit_in_word, element};
 use gf_field::Field;
 use net_words::Role;
-
-/// The element of a word, if it has k nets.
-pub fn element<F: Field>(field: &F, bits: &[bool], word: &CircuitWord) -> Option<u64>
-    requires { IsBasisOver (F.degree field.now) (F.product field.now) word.now.basis }
-    ensures element { IfSome result (λ e. HasElement bits.now (word_of word.now) e) }
-    ensures some { length word.now.nets.items ≡ F.degree field.now → IsSome result }
-{
-    if word.nets.len() == field.k() as usize {
-        Some(word.basis.element_of(number_of_bits(bits, &word.nets)))
-    } else {
-        None
-    }
-}
 
 // Whether a role is that of state words, where these are asked for, or else of input words.
 fn is_asked(role: Role, states: bool) -> bool
@@ -68,23 +54,6 @@ pub fn have_elements<F: Field>(
                 have_elements(field, bits, rest, &xs[1..], states)
             } else {
                 false
-            }
-        }
-    }
-}
-
-// The bit of a net of a word whose bits these are, and another where it is no net of the word.
-fn bit_in_word(nets: &[u32], bits: u64, net: u32, other: bool) -> bool
-    ensures other { (Has nets.now net → ⊥) → result ≡ other }
-    ensures bit { (place : ℕ) → slice_get nets.now place ≡ Some net → times net nets.now ≤ 1 → result ≡ (bit_at bits place == 1) }
-{
-    match nets {
-        [] => other,
-        [first, rest @ ..] => {
-            if *first == net {
-                bits % 2 == 1
-            } else {
-                bit_in_word(rest, bits / 2, net, other)
             }
         }
     }

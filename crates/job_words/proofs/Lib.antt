@@ -3,7 +3,6 @@ pub mod SpelledLemmas
 pub mod OptionLemmas
 pub mod ValueLemmas
 pub mod MadeWordsLemmas
-pub mod ComposeWordLemmas
 pub mod OneCommandLemmas
 pub mod StepLemmas
 pub mod OneLineLemmas

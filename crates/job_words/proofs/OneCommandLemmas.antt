@@ -1,5 +1,5 @@
 -- Words spell one command at most: each command's words give back what it does over them.
-use Rattle.std.proofs.Common.{◌≡◌, ◌∙◌, ap, sym, inl, inr, refl, ℕ, ◌+◌, ◌*◌, if◌then◌else◌, ◌==◌, Bool, true, false, drop, List, [], ◌∷◌, get_or, codes}
+use Rattle.std.proofs.Common.{◌≡◌, ◌∙◌, ap, sym, subst, inl, inr, refl, ℕ, ◌+◌, ◌*◌, if◌then◌else◌, ◌==◌, Bool, true, false, drop, List, [], ◌∷◌, get_or, codes}
 use Rattle.text_core.specs.Numbers.{value_of}
 use Rattle.job_words.proofs.OptionLemmas.{Shape, Neither, Terms, Cycles, TermsFirst, CyclesFirst, shape}
 use Rattle.job_words.proofs.SpelledLemmas.{first_word, rest_of}
@@ -12,6 +12,7 @@ use Rattle.job_words.specs.MadeWords.{AreTrialWords, IsOfKind}
 use Rattle.job_words.specs.Options.{AreNone, AreOptions, AreStageOptions, AreSumOptions, IsCyclesOption, IsTermsOption}
 use Rattle.job_words.specs.Shapes.{IsOverBlif, IsOverFile, IsOverFiles, AreValues}
 use Rattle.job_words.specs.Command.{Action, Bits, Abstract, Check, Same, Eval, Iso, Lift, Table, Certify, Verify, Upgrade, Make, Compose, Job, Over, Trial, IsNamed, IsSpelled}
+use Rattle.job_words.specs.private.Groups.{IsOverSignature}
 use Rattle.job_words.specs.private.OptionPlace.{before_options, from_options}
 
 -- what tells the names of commands apart, and those of kinds: their first two letters
@@ -177,3 +178,16 @@ back words (Trial n m t) is = trial_back words n m t is
 
 pub one_job : (words : List Word) (job other : Job) → IsSpelled words job → IsSpelled words other → job ≡ other
 one_job words job other a b = back words job a ∙ sym (back words other b)
+
+-- no command has the name of the one over a netlist in BLIF with these words behind it, where they are none of this one
+pub no_compose : (name : Word) (rest : List Word) → name ≡ codes "compose" → ((s n : Word) (t : ℕ) → IsOverBlif (λ options. IsTermsOption 262144 65536 options t) rest s n → ⊥) → (job : Job) → IsOverSignature job → IsSpelled (name ∷ rest) job → ⊥
+no_compose name rest named none job over is =
+    let s : Word = first_word rest in
+    let n : Word = first_word (rest_of rest) in
+    let t : ℕ = terms_by 65536 (rest_of (rest_of rest)) in
+    let P : Word → Type 0 = λ word. IsSpelled (word ∷ rest) job in
+    let here : IsSpelled (codes "compose" ∷ rest) job = subst P named is in
+    let Q : Job → Type 0 = λ other. IsSpelled (codes "compose" ∷ rest) other in
+    let own : IsSpelled (codes "compose" ∷ rest) (Over s (Compose n t)) = subst Q (back (codes "compose" ∷ rest) job here) here in
+    let R : List Word → Type 0 = λ words. IsOverBlif (λ options. IsTermsOption 262144 65536 options t) words s n in
+    none s n t (subst R (sym (ap rest_of own.words_are)) own.follow)

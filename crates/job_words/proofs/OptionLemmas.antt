@@ -1,10 +1,9 @@
 -- The shapes of options.
-use Rattle.std.proofs.Common.{◌≡◌, ◌≢◌, ◌⊎◌, ◌∙◌, ap, sym, subst, inl, inr, refl, ℕ, suc, ◌<◌, ◌≤◌, List, [], ◌∷◌, ◌++◌, length, map, codes, Option, None, Some, arith}
+use Rattle.std.proofs.Common.{◌≡◌, ◌≢◌, ◌⊎◌, ◌∙◌, ap, sym, inl, inr, refl, ℕ, suc, ◌<◌, ◌≤◌, List, [], ◌∷◌, ◌++◌, length, map, codes, Option, None, Some, arith}
 use Rattle.std.specs.Prelude.{IfSome}
 use Rattle.std.proofs.lemmas.List.{length-map}
 use Rattle.job_words.specs.Operands.{Word}
 use Rattle.job_words.specs.Options.{AreOptions, IsTermsOption, IsCyclesOption, IsTermCount, IsCycleCount}
-use Rattle.job_words.proofs.SpelledLemmas.{first_word, rest_of}
 
 -- which options stand, in which order
 pub data Shape (limit default : ℕ) (words : List Word) (t c : ℕ) : Type 0 where
@@ -38,15 +37,6 @@ shape limit default words t c is = by is.of_terms is.of_cycles is.words_are is.t
 
 -- ---- where no option is set
 
-abbrev second_word : List Word → Word
-second_word words = first_word (rest_of words)
-
-abbrev third_word : List Word → Word
-third_word words = first_word (rest_of (rest_of words))
-
-abbrev fourth_word : List Word → Word
-fourth_word words = first_word (rest_of (rest_of (rest_of words)))
-
 -- how long options are
 pub lengths : (limit default : ℕ) → (words : List Word) (t c : ℕ) → AreOptions limit default words t c → (length words ≡ 0) ⊎ (length words ≡ 2) ⊎ (length words ≡ 4)
 lengths limit default words t c is = by (shape limit default words t c is)
@@ -57,35 +47,6 @@ lengths limit default words t c is = by (shape limit default words t c is)
     by (Cycles y e st cy) = inr (inl (ap (λ (ws : List Word). length ws) e))
     by (TermsFirst x y e tx cy) = inr (inr (ap (λ (ws : List Word). length ws) e))
     by (CyclesFirst y x e tx cy) = inr (inr (ap (λ (ws : List Word). length ws) e))
-
--- one option with a number that is none of its kind
-pub not_one : (limit default : ℕ) → (name number : Word) → (name ≡ codes "--terms" → (t : ℕ) → IsTermCount limit number t → ⊥) → (name ≡ codes "--cycles" → (c : ℕ) → IsCycleCount number c → ⊥) → (t c : ℕ) → AreOptions limit default (name ∷ number ∷ []) t c → ⊥
-not_one limit default name number terms cycles t c is = by (shape limit default (name ∷ number ∷ []) t c is)
-  where
-    by : Shape limit default (name ∷ number ∷ []) t c → ⊥
-    by (Neither e st sc) = let long : 2 ≡ 0 = ap (λ (ws : List Word). length ws) e in absurd (omega (arith, long))
-    by (Terms x e tx sc) = let P : Word → Type 0 = λ w. IsTermCount limit w t in terms (ap first_word e) t (subst P (sym (ap second_word e)) tx)
-    by (Cycles y e st cy) = let P : Word → Type 0 = λ w. IsCycleCount w c in cycles (ap first_word e) c (subst P (sym (ap second_word e)) cy)
-    by (TermsFirst x y e tx cy) = let long : 2 ≡ 4 = ap (λ (ws : List Word). length ws) e in absurd (omega (arith, long))
-    by (CyclesFirst y x e tx cy) = let long : 2 ≡ 4 = ap (λ (ws : List Word). length ws) e in absurd (omega (arith, long))
-
--- two options
-pub not_two : (limit default : ℕ) → (name x other y : Word) → (name ≡ codes "--terms" → other ≡ codes "--cycles" → (t c : ℕ) → IsTermCount limit x t → IsCycleCount y c → ⊥) → (name ≡ codes "--cycles" → other ≡ codes "--terms" → (t c : ℕ) → IsTermCount limit y t → IsCycleCount x c → ⊥)
-    → (t c : ℕ) → AreOptions limit default (name ∷ x ∷ other ∷ y ∷ []) t c → ⊥
-not_two limit default name x other y terms cycles t c is = by (shape limit default (name ∷ x ∷ other ∷ y ∷ []) t c is)
-  where
-    by : Shape limit default (name ∷ x ∷ other ∷ y ∷ []) t c → ⊥
-    by (Neither e st sc) = let long : 4 ≡ 0 = ap (λ (ws : List Word). length ws) e in absurd (omega (arith, long))
-    by (Terms x' e tx sc) = let long : 4 ≡ 2 = ap (λ (ws : List Word). length ws) e in absurd (omega (arith, long))
-    by (Cycles y' e st cy) = let long : 4 ≡ 2 = ap (λ (ws : List Word). length ws) e in absurd (omega (arith, long))
-    by (TermsFirst x' y' e tx cy) =
-        let P : Word → Type 0 = λ w. IsTermCount limit w t in
-        let Q : Word → Type 0 = λ w. IsCycleCount w c in
-        terms (ap first_word e) (ap third_word e) t c (subst P (sym (ap second_word e)) tx) (subst Q (sym (ap fourth_word e)) cy)
-    by (CyclesFirst y' x' e tx cy) =
-        let P : Word → Type 0 = λ w. IsTermCount limit w t in
-        let Q : Word → Type 0 = λ w. IsCycleCount w c in
-        cycles (ap first_word e) (ap third_word e) t c (subst P (sym (ap fourth_word e)) tx) (subst Q (sym (ap second_word e)) cy)
 
 -- ---- options that are set
 

@@ -21,10 +21,6 @@ module _ (Follow : List Word → Type 0) (words : List Word) where
   pub no_file : ((s f : Word) → IsOverFile Anything words s f → ⊥) → (s f : Word) → IsOverFile Follow words s f → ⊥
   no_file none s f is = none s f (record { rest = is.rest; words_are = is.words_are; signature_is = is.signature_is; file_is = is.file_is; follow = tt })
 
-  -- what is wanted follows
-  pub file_follows : (rest : List Word) (s f : Word) → IsOverFile (IsRest rest) words s f → Follow rest → IsOverFile Follow words s f
-  file_follows rest s f is follow = record { rest = rest; words_are = is.words_are ∙ ap (λ (ws : List Word). s ∷ f ∷ ws) is.follow; signature_is = is.signature_is; file_is = is.file_is; follow = follow }
-
   -- or something else
   pub file_follows_not : (rest : List Word) (s f : Word) → IsOverFile (IsRest rest) words s f → (Follow rest → ⊥) → (s' f' : Word) → IsOverFile Follow words s' f' → ⊥
   file_follows_not rest s f is none s' f' other =
@@ -36,9 +32,6 @@ module _ (Follow : List Word → Type 0) (words : List Word) where
 module _ (Follow : List Word → Type 0) (words : List Word) where
   pub no_files : ((s f o : Word) → IsOverFiles Anything words s f o → ⊥) → (s f o : Word) → IsOverFiles Follow words s f o → ⊥
   no_files none s f o is = none s f o (record { rest = is.rest; words_are = is.words_are; signature_is = is.signature_is; file_is = is.file_is; other_is = is.other_is; follow = tt })
-
-  pub files_follow : (rest : List Word) (s f o : Word) → IsOverFiles (IsRest rest) words s f o → Follow rest → IsOverFiles Follow words s f o
-  files_follow rest s f o is follow = record { rest = rest; words_are = is.words_are ∙ ap (λ (ws : List Word). s ∷ f ∷ o ∷ ws) is.follow; signature_is = is.signature_is; file_is = is.file_is; other_is = is.other_is; follow = follow }
 
   pub files_follow_not : (rest : List Word) (s f o : Word) → IsOverFiles (IsRest rest) words s f o → (Follow rest → ⊥) → (s' f' o' : Word) → IsOverFiles Follow words s' f' o' → ⊥
   files_follow_not rest s f o is none s' f' o' other =

@@ -6,10 +6,6 @@ use Rattle.std.proofs.lemmas.List.{take_all, length-drop}
 rest_whole : {A : Type 0} (k : ℕ) (xs : List A) → drop k xs ≡ take (length xs - k) (drop k xs)
 rest_whole k xs = let long = length-drop k xs in sym (take_all (length xs - k) (drop k xs) (omega (arith, long)))
 
-one_more : {A : Type 0} (f : A → List ℕ) (xs : List A) (a : A) → 1 ≤ length xs → a ≡ get_or xs 0 a → map f xs ≡ f a ∷ map f (drop 1 xs)
-one_more f [] a long x = absurd (omega arith)
-one_more f (p ∷ xs) a long x = (λ i. f (sym x i) ∷ map f xs)
-
 two_more : {A : Type 0} (f : A → List ℕ) (xs : List A) (a b : A) → 2 ≤ length xs → a ≡ get_or xs 0 a → b ≡ get_or xs 1 b → map f xs ≡ f a ∷ f b ∷ map f (drop 2 xs)
 two_more f [] a b long x y = absurd (omega arith)
 two_more f (p ∷ []) a b long x y = absurd (omega arith)
@@ -20,9 +16,6 @@ three_more f [] a b c long x y z = absurd (omega arith)
 three_more f (p ∷ []) a b c long x y z = absurd (omega arith)
 three_more f (p ∷ q ∷ []) a b c long x y z = absurd (omega arith)
 three_more f (p ∷ q ∷ r ∷ xs) a b c long x y z = (λ i. f (sym x i) ∷ f (sym y i) ∷ f (sym z i) ∷ map f xs)
-
-pub one_first : {A : Type 0} (f : A → List ℕ) (xs : List A) (a : A) → 1 ≤ length xs → a ≡ get_or xs 0 a → map f xs ≡ f a ∷ map f (take (length xs - 1) (drop 1 xs))
-one_first f xs a long x = one_more f xs a long x ∙ ap (λ ys. f a ∷ map f ys) (rest_whole 1 xs)
 
 pub two_first : {A : Type 0} (f : A → List ℕ) (xs : List A) (a b : A) → 2 ≤ length xs → a ≡ get_or xs 0 a → b ≡ get_or xs 1 b → map f xs ≡ f a ∷ f b ∷ map f (take (length xs - 2) (drop 2 xs))
 two_first f xs a b long x y = two_more f xs a b long x y ∙ ap (λ ys. f a ∷ f b ∷ map f ys) (rest_whole 2 xs)

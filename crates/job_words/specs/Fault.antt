@@ -36,17 +36,5 @@ fault_line fault = codes "fault " ++ (fault_text fault ++ codes "\n")
 
 -- the status that a fault ends with
 abbrev pub fault_status : Fault → ℕ
-fault_status faults.Words = 2
-fault_status (faults.File fault) = 2
-fault_status (faults.Signature fault) = 2
-fault_status (faults.Netlist file fault) = 2
-fault_status (faults.Specification fault) = 2
-fault_status (faults.Value fault) = 2
-fault_status (faults.SecondSignature fault) = 2
-fault_status faults.Fields = 2
-fault_status faults.NotSmall = 2
-fault_status (faults.Table fault) = 2
-fault_status (faults.Certificate fault) = 2
-fault_status (faults.Form kind) = 2
-fault_status (faults.Composition fault) = 2
 fault_status (faults.Stage fault) = 3
+fault_status fault = 2

@@ -3,26 +3,14 @@ use Rattle.std.specs.Prelude.{ℕ, List, Vec, Result, Ok, Err}
 use Rattle.std.specs.declared.alloc.Global.{Global}
 use Rattle.text_core.specs.Outcome.{Outcome}
 use Rattle.job_words.specs.declared.fault.Fault.{Fault}
-use Rattle.job_words.specs.declared.fault.Fault.TheVariants.{Words, File, Signature, Netlist, Specification, Value, SecondSignature, Fields, NotSmall, Table, Certificate, Form, Composition, Stage}
+use Rattle.job_words.specs.declared.fault.Fault.TheVariants.{File}
 use Rattle.job_words.specs.declared.stop.Stop.{Stop}
 use Rattle.job_words.specs.declared.stop.Stop.TheVariants.{Refused, Outside, OutOfMemory}
 
 -- a file was absent or too long
 abbrev pub IsMiss : Fault → Type 0
-IsMiss Words = ⊥
 IsMiss (File fault) = Unit {0}
-IsMiss (Signature fault) = ⊥
-IsMiss (Netlist file fault) = ⊥
-IsMiss (Specification fault) = ⊥
-IsMiss (Value fault) = ⊥
-IsMiss (SecondSignature fault) = ⊥
-IsMiss Fields = ⊥
-IsMiss NotSmall = ⊥
-IsMiss (Table fault) = ⊥
-IsMiss (Certificate fault) = ⊥
-IsMiss (Form kind) = ⊥
-IsMiss (Composition fault) = ⊥
-IsMiss (Stage fault) = ⊥
+IsMiss fault = ⊥
 
 -- The value, as view shows it, or the fault is one that may come. A fault of a missing file has its cause, and so has a failure of the outside.
 abbrev pub GivesBy : {X A : Type 0} → (X → A) → Result X Stop → Outcome Fault A → (missed failed : Type 0) → Type 0

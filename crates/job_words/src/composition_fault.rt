@@ -25,7 +25,7 @@ pub enum CompositionFault {
     NotWords { instance: u32, word: Name },
     /// No word feeds the top's output word.
     OutputNotWords,
-    /// Instances feed each other in a ring.
+    /// Instances feed each other in a cycle.
     InstanceLoop { instance: u32 },
 }
 

@@ -39,7 +39,7 @@ pub enum NetlistFault {
     DrivenTwice { label: Name },
     /// A net has no driver.
     Undriven { label: Name },
-    /// So many gates drive each other in a ring; the net is the first of them.
+    /// So many gates drive each other in a cycle; the net is the first of them.
     Loop { count: u64, label: Name },
     /// A cover has more than 6 inputs, or a gate has a number of inputs that it may not have.
     TooWide { line: u32, inputs: u32 },
@@ -170,7 +170,7 @@ fn about(alloc: Global, before: &str, label: &str, after: &str) -> Result<String
     format!(in alloc; "{before}{label}{after}")
 }
 
-// The text of a ring of so many gates.
+// The text of a cycle of so many gates.
 fn loop_text(alloc: Global, count: u64, label: &str) -> Result<String, AllocError>
     ensures { IfOk result (λ text. string_bytes text ≡ (codes "36: loop of " ++ (decimal count ++ codes " nets through ")) ++ label.now) }
 {

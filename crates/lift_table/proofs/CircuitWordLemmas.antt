@@ -1,5 +1,5 @@
 -- The words of a circuit out of those of its binding.
-use Rattle.std.proofs.Common.{◌≡◌, ◌≢◌, ◌∙◌, ap, sym, refl, subst, inl, inr, ◌⊎◌, ℕ, zero, suc, ◌<◌, ◌≤◌, ◌+◌, cond, List, [], ◌∷◌, ◌++◌, length, drop, filter, Some, arith, append-nil, drop_of_length-le}
+use Rattle.std.proofs.Common.{◌≡◌, ◌≢◌, ◌∙◌, ap, sym, refl, subst, inl, inr, ◌⊎◌, ℕ, zero, suc, ◌+◌, cond, List, [], ◌∷◌, ◌++◌, length, drop, filter, Some, arith, append-nil}
 use Rattle.std.specs.Prelude.{slice_get}
 use Rattle.std.proofs.lemmas.List.{append_assoc}
 use Rattle.net_words.specs.BoundTo.{output_bits, output_bits_with}
@@ -12,11 +12,6 @@ use Rattle.circuit_model.specs.Flat.{AreOver}
 use Rattle.circuit_model.specs.Word.{Word}
 use Rattle.circuit_model.specs.declared.circuit_word.CircuitWord.{CircuitWord}
 use Rattle.circuit_model.specs.OfBinding.{word_with, words_of, output_basis, output_basis_with}
-
-pub some_at : {A : Type 0} (xs : List A) (i : ℕ) → i < length xs → (x : A) × (slice_get xs i ≡ Some x)
-some_at [] i less = absurd (omega arith)
-some_at (x ∷ xs) zero less = (x, refl)
-some_at (x ∷ xs) (suc i) less = some_at xs i (omega arith)
 
 -- the words from w on
 from_word : (words : List BoundWord) (bases : List (List ℕ)) (w : ℕ) (word : BoundWord) (basis : List ℕ) → slice_get words w ≡ Some word → slice_get bases w ≡ Some basis
@@ -38,10 +33,6 @@ one_word words bases w word basis before after got at new so_far =
     ∙ (ap (λ (ws : List Word). ws ++ rest) new
     ∙ (append_assoc before (word_with word.role word.nets basis) rest
     ∙ (ap (λ (ws : List Word). before ++ ws) (sym (from_word words bases w word basis got at)) ∙ so_far)))
-
-pub past_words : (words : List BoundWord) (bases : List (List ℕ)) (w : ℕ) (before : List Word) → length words ≤ w → before ++ words_of (drop w words) (drop w bases) ≡ words_of words bases → before ≡ words_of words bases
-past_words words bases w before past so_far =
-    sym (append-nil before) ∙ (ap (λ us. before ++ words_of us (drop w bases)) (sym (drop_of_length-le words past)) ∙ so_far)
 
 abbrev pub outputs : List BoundWord → ℕ
 outputs words = length (filter (λ word. same_role word.role Output) words)

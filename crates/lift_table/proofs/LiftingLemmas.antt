@@ -1,5 +1,5 @@
 -- Terms of tables.
-use Rattle.std.proofs.Common.{◌≡◌, ◌≢◌, ◌∙◌, ap, sym, refl, subst, ℕ, zero, suc, ◌+◌, ◌*◌, ◌-◌, ◌<◌, ◌≤◌, ◌^◌, List, [], ◌∷◌, length, get_or, set, take, drop, replicate, get_or-set_other, mul_comm, arith, Some}
+use Rattle.std.proofs.Common.{◌≡◌, ◌≢◌, ◌∙◌, ap, sym, refl, subst, ℕ, zero, suc, ◌+◌, ◌*◌, ◌-◌, ◌<◌, ◌≤◌, ◌^◌, List, [], ◌∷◌, length, get_or, set, take, drop, replicate, mul_comm, arith, Some}
 use Rattle.std.specs.Prelude.{bit_xor}
 use Rattle.std.specs.List.{AllByRecursion}
 use Rattle.std.proofs.lemmas.List.{drop-set-lt}
@@ -17,11 +17,11 @@ use Rattle.poly_mixed.specs.Polynomial.{Terms, Point, IsPoint, IsTerm, IsElement
 use Rattle.poly_mixed.specs.Sum.{plus_term}
 use Rattle.poly_mixed.specs.laws.Uniqueness.{IsZeros, InFirstWords}
 use Rattle.poly_mixed.proofs.FieldLaws.{IsField, field_of}
-use Rattle.poly_mixed.proofs.Terms.{all_plus_term}
-use Rattle.poly_mixed.proofs.Values.{value-plus, reduced_plus}
-use Rattle.poly_mixed.proofs.Products.{one_term}
-use Rattle.poly_mixed.proofs.Simple.{no_ranks_rise}
-use Rattle.poly_mixed.proofs.Uniqueness.{zero_powers}
+use Rattle.poly_mixed.proofs.TermLemmas.{all_plus_term}
+use Rattle.poly_mixed.proofs.ValueLemmas.{value-plus, reduced_plus}
+use Rattle.poly_mixed.proofs.ProductLemmas.{one_term}
+use Rattle.poly_mixed.proofs.SimpleLemmas.{no_ranks_rise}
+use Rattle.poly_mixed.proofs.UniquenessLemmas.{zero_powers}
 use Rattle.lift_table.specs.OneWord.{coefficient_of, AreColumns}
 use Rattle.lift_table.specs.Table.{row_of, IsTableValue}
 use Rattle.lift_table.specs.TablePolynomial.{IsPolynomialOfTable}
@@ -112,18 +112,6 @@ module _ (k : ℕ) (mul : ℕ → ℕ → ℕ) (ring : IsRing k mul) (field : Ha
     words = λ every within zeros each. each;
   }
 
-  -- what is asked of the next column
-  pub next_zeros : (w e : ℕ) (exponents : List ℕ) → ((v : ℕ) → v < suc w → get_or exponents v 0 ≡ 0) → (v : ℕ) → v < w → get_or (set exponents w e) v 0 ≡ 0
-  next_zeros w e exponents zeros v less = get_other exponents w e v (omega arith) ∙ zeros v (omega arith)
-    where
-      get_other : (xs : List ℕ) (i v j : ℕ) → j ≢ i → get_or (set xs i v) j 0 ≡ get_or xs j 0
-      get_other xs i v j other = rw get_or-set_other refl
-
-  pub next_exponents : (w e : ℕ) (exponents : List ℕ) → AllByRecursion (IsElement k) exponents → IsElement k e → AllByRecursion (IsElement k) (set exponents w e)
-  next_exponents w e [] elements element = tt
-  next_exponents zero e (x ∷ xs) elements element = (element, elements.1)
-  next_exponents (suc w) e (x ∷ xs) elements element = (elements.0, next_exponents w e xs elements.1 element)
-
   -- the rows of the first words
   row_within : (w : ℕ) (p : Point) → IsPoint k p → w ≤ 8 → row_of k (take w p.words) < 2 ^ (k * w)
   row_within w p at few =
@@ -203,11 +191,6 @@ module _ (k : ℕ) (mul : ℕ → ℕ → ℕ) (ring : IsRing k mul) (field : Ha
           let room : 2 ^ k * n ≤ length table = omega (arith, long, mul_comm n (2 ^ k)) in
           sum_same (2 ^ k) (λ e. mul (get_or columns (row * 2 ^ k + e) 0) (power mul x e)) (λ e. mul (coefficient_of k mul v e) (power mul x e)) (λ e less. ap (λ c. mul c (power mul x e)) (are.at row e below less))
           ∙ interpolated k mul ring field v (λ y less. elements (y * n + row) (inside y n row (2 ^ k) (length table) less below room)) x small
-
-  -- a table without words is its one value
-  pub no_words : (exponents table : List ℕ) (old new : Terms) → ((p : Point) → IsPoint k p → value mul p new ≡ bit_xor (value mul p old) (mul (get_or table 0 0) (powers mul exponents p.words))) → AddsTable k mul 0 exponents table old new
-  no_words exponents table old new values p e at got =
-      values p at ∙ ap (λ n. bit_xor (value mul p old) (mul n (powers mul exponents p.words))) (get_or_from_slice_get table 0 e 0 got)
 
   -- what is added to nothing, with no powers, is the polynomial of the table
   pub polynomial : (words : ℕ) (exponents table : List ℕ) (new : Terms) → words ≤ 8 → IsZeros exponents → IsZeros (drop words exponents) → length table ≡ 2 ^ (k * words) → AreElements k table → IsReduced k new → AddsTable k mul words exponents table [] new

@@ -1,7 +1,8 @@
 -- Polynomials of tables.
-use Rattle.std.proofs.Common.{◌≡◌, ap, refl, subst, ℕ, zero, suc, ◌<◌, ◌≤◌, ◌^◌, List, [], ◌∷◌, length, take, arith, Some}
+use Rattle.std.proofs.Common.{◌≡◌, subst, ℕ, zero, suc, ◌<◌, ◌≤◌, ◌^◌, List, [], ◌∷◌, length, take, arith, Some}
 use Rattle.std.specs.Prelude.{slice_get}
 use Rattle.std.specs.List.{AllByRecursion}
+use Rattle.graph_core.proofs.GeneralLemmas.{taken_long}
 use Rattle.net_core.specs.Lists.{Has}
 use Rattle.poly_mixed.specs.Polynomial.{Terms, Point, IsPoint, IsElement, value}
 use Rattle.circuit_model.specs.Circuit.{Circuit, IsInput}
@@ -12,11 +13,6 @@ use Rattle.lift_table.specs.TablePolynomial.{IsPolynomialOfTable}
 
 pub same_value : (table : List ℕ) (row a b : ℕ) → slice_get table row ≡ Some a → slice_get table row ≡ Some b → a ≡ b
 same_value table row a b first second = cc
-
-taken_long : (n : ℕ) (xs : List ℕ) → n ≤ length xs → length (take n xs) ≡ n
-taken_long zero xs within = refl
-taken_long (suc n) [] within = absurd (omega arith)
-taken_long (suc n) (x ∷ xs) within = ap suc (taken_long n xs (omega arith))
 
 taken_has : (k n : ℕ) (xs : List ℕ) → AllByRecursion (IsElement k) xs → (x : ℕ) → Has (take n xs) x → x < 2 ^ k
 taken_has k zero xs elements x (i, got) = absurd (cc got)

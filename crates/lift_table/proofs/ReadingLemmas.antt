@@ -5,6 +5,7 @@ use Rattle.std.specs.Str.Lines.{lines}
 use Rattle.std.proofs.lemmas.Bool.{cases_eq}
 use Rattle.text_core.specs.Lines.{tokens_of}
 use Rattle.text_core.specs.Numbers.{IsHex, AreDigits, value_of}
+use Rattle.text_core.proofs.GeneralLemmas.{same_some as one_line}
 use Rattle.lift_table.proofs.GatherLemmas.{pushed_long}
 use Rattle.lift_table.specs.declared.fault.TableFault.{TableFault}
 use Rattle.lift_table.specs.declared.fault.TableFault.TheVariants.{Syntax, TooLarge, OutOfMemory}
@@ -29,9 +30,6 @@ one_value line a b h k =
 head_no_number : (line : List ℕ) (value : ℕ) → IsHead line → IsNumber line value → ⊥
 head_no_number line value head number =
     let same : suc (suc zero) ≡ suc zero = ap length (sym head ∙ number.alone) in omega arith
-
-one_line : {A : Type 0} (a b : A) → Some a ≡ Some b → a ≡ b
-one_line a b same = cc
 
 -- the first of the lines from a place on
 pub first_at : (every : List (List ℕ)) (place : ℕ) (line : List ℕ) (after : List (List ℕ)) → line ∷ after ≡ drop place every → (slice_get every place ≡ Some line) × (after ≡ drop (suc place) every)

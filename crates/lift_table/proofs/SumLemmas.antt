@@ -1,7 +1,7 @@
 -- Sums of values of functions over a ring.
-use Rattle.std.proofs.Common.{◌≡◌, ℕ, zero, suc, ◌<◌, ◌^◌, sym, refl, ◌∙◌, ap, arith}
+use Rattle.std.proofs.Common.{◌≡◌, ℕ, zero, suc, ◌<◌, sym, refl, ◌∙◌, ap, arith}
 use Rattle.std.specs.Prelude.{bit_xor}
-use Rattle.std.specs.Int.Bits.{xor_assoc, xor_comm, xor_zero_l, xor_lt}
+use Rattle.std.specs.Int.Bits.{xor_assoc, xor_comm, xor_zero_l}
 use Rattle.gf_field.specs.laws.XorLaws.{xor_cross}
 use Rattle.gf_field.specs.Ring.{IsRing}
 use Rattle.gf_field.specs.laws.RingLaws.{mul_zero}
@@ -30,10 +30,6 @@ sum_swap zero n f = sym (sum_zero n (λ j. 0) (λ j less. refl))
 sum_swap (suc m) n f =
     ap (λ x. bit_xor x (sum_of_first n (λ j. f m j))) (sum_swap m n f)
     ∙ sym (sum_xor n (λ j. sum_of_first m (λ i. f i j)) (λ j. f m j))
-
-pub sum_below : (k m : ℕ) (f : ℕ → ℕ) → 0 < 2 ^ k → ((i : ℕ) → i < m → f i < 2 ^ k) → sum_of_first m f < 2 ^ k
-sum_below k zero f some all = some
-sum_below k (suc m) f some all = xor_lt k (sum_of_first m f) (f m) (sum_below k m f some (λ i less. all i (omega arith))) (all m (omega arith))
 
 module _ (k : ℕ) (mul : ℕ → ℕ → ℕ) (ring : IsRing k mul) where
   pub sum_scale : (a m : ℕ) (f : ℕ → ℕ) → sum_of_first m (λ i. mul a (f i)) ≡ mul a (sum_of_first m f)

@@ -62,10 +62,10 @@ digits_elements k count row list is x has =
 pub same_circuit : (k : ℕ) (mul : ℕ → ℕ → ℕ) (b : BoundNet) (bases : List Basis) (words : List CircuitWord) (to : CircuitWord) → map word_of words ≡ (circuit_in k mul b bases).words → word_of to ≡ (circuit_in k mul b bases).output → circuit_of_parts k mul b.net words to ≡ circuit_in k mul b bases
 same_circuit k mul b bases words to are is = λ i. record { k = k; product = mul; net = b.net; words = are i; output = is i; feeds = []; cycles = 0 }
 
-pub well_formed : (k : ℕ) (mul : ℕ → ℕ → ℕ) (b : BoundNet) (bases : List Basis) → AreBases k mul b bases → IsRing k mul → HasNoZeroDivisors k mul → IsSound b.net → IsOneCycle b.net b.bound → b.bound.k ≡ k → IsWellFormed (circuit_in k mul b bases)
+pub well_formed : (k : ℕ) (mul : ℕ → ℕ → ℕ) (b : BoundNet) (bases : List Basis) → AreBases k mul b bases → IsRing k mul → HasNoZeroDivisors k mul → IsSound b.net → IsOneCycle b.net b.binding → b.binding.k ≡ k → IsWellFormed (circuit_in k mul b bases)
 well_formed k mul b bases are ring field sound bound bits = bound_well k mul b (map elements_of bases) bound bits have ring field sound
   where
-    have : HaveBases k b.bound.words (map elements_of bases)
+    have : HaveBases k b.binding.words (map elements_of bases)
     have = record {
       long = length-map bases elements_of ∙ are.long;
       each = λ elements has.

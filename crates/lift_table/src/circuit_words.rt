@@ -1,5 +1,5 @@
 //! The words of a circuit of one cycle with their bases, for the plain program that evaluates it.
-ghost use Rattle.std.specs.Prelude.{◌≡◌, ◌<◌, ◌++◌, ◌↔◌, length, map, slice_get, Some, IfOk, IsTrue, OnOk};
+ghost use Rattle.std.specs.Prelude.{◌≡◌, ◌<◌, ◌++◌, length, map, slice_get, Some, IfOk, OnOk};
 ghost use Rattle.gf_basis.specs.BasisParts.{elements_of, IsBasisOver};
 ghost use Rattle.net_words.specs.OneCycle.{IsOneCycle};
 ghost use Rattle.net_words.specs.declared.word.Role.TheVariants.{Output};
@@ -7,7 +7,7 @@ ghost use Rattle.circuit_model.specs.Bases.{AreBases, circuit_in};
 ghost use Rattle.circuit_model.specs.Flat.{AreOver, word_of};
 ghost use Rattle.circuit_model.specs.OfBinding.{word_with};
 
-use circuit_model::CircuitWord;
+use circuit_model::{CircuitWord, is_output};
 use gf_basis::Basis;
 use gf_field::Field;
 use net_words::{Combinational, Role};
@@ -55,9 +55,9 @@ pub(crate) fn output_word<F: Field>(
 
 // Where the output word stands among the words.
 fn output_place(circuit: &Combinational) -> u32
-    ensures within { result < length circuit.now.bound.words }
-    ensures output { (word : _) → slice_get circuit.now.bound.words result ≡ Some word → word.role ≡ Output }
-    ensures is_bound { IsOneCycle circuit.now.net circuit.now.bound }
+    ensures within { result < length circuit.now.binding.words }
+    ensures output { (word : _) → slice_get circuit.now.binding.words result ≡ Some word → word.role ≡ Output }
+    ensures is_bound { IsOneCycle circuit.now.net circuit.now.binding }
 {
     let bound = circuit.bound();
     for w in 0..bound.words() {
@@ -66,16 +66,6 @@ fn output_place(circuit: &Combinational) -> u32
         }
     }
     unreachable!()
-}
-
-// Whether a word is the output.
-fn is_output(role: Role) -> bool
-    ensures { IsTrue result ↔ (role ≡ Output) }
-{
-    match role {
-        Role::Output => true,
-        Role::Input | Role::State | Role::Fed => false,
-    }
 }
 
 // Adds the next word, unless it is the output word.
@@ -87,9 +77,9 @@ fn add_word<F: Field>(
     basis: &Basis,
     list: &mut Vec<CircuitWord>,
 ) -> Result<(), AllocError>
-    requires word { w < length circuit.now.bound.words }
+    requires word { w < length circuit.now.binding.words }
     requires basis { IsBasisOver (F.degree field.now) (F.product field.now) basis.now }
-    ensures added { OnOk result ((word : _) → slice_get circuit.now.bound.words w ≡ Some word → map word_of list.new.items ≡ map word_of list.old.items ++ word_with word.role word.nets (elements_of basis.now)) }
+    ensures added { OnOk result ((word : _) → slice_get circuit.now.binding.words w ≡ Some word → map word_of list.new.items ≡ map word_of list.old.items ++ word_with word.role word.nets (elements_of basis.now)) }
     ensures over { OnOk result (AreOver (F.degree field.now) (F.product field.now) list.old.items → AreOver (F.degree field.now) (F.product field.now) list.new.items) }
 {
     match circuit.bound().role(w) {
@@ -109,8 +99,8 @@ fn add_word<F: Field>(
 
 // The nets of a word.
 fn nets_of(alloc: Global, circuit: &Combinational, w: u32) -> Result<Vec<u32>, AllocError>
-    requires { w < length circuit.now.bound.words }
-    ensures { IfOk result (λ nets. (word : _) → slice_get circuit.now.bound.words w ≡ Some word → nets.items ≡ word.nets) }
+    requires { w < length circuit.now.binding.words }
+    ensures { IfOk result (λ nets. (word : _) → slice_get circuit.now.binding.words w ≡ Some word → nets.items ≡ word.nets) }
 {
     let bound = circuit.bound();
     let mut nets = Vec::new(alloc);

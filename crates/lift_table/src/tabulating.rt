@@ -27,7 +27,7 @@ pub fn table<F: Field>(
     circuit: &Combinational,
     bases: &[Basis],
 ) -> Result<Vec<u64>, AllocError>
-    requires k { circuit.now.bound.k ≡ F.degree field.now }
+    requires k { circuit.now.binding.k ≡ F.degree field.now }
     requires bases { AreBases (F.degree field.now) (F.product field.now) circuit.now bases.now }
     requires small { IsSmall (F.degree field.now) (length (circuit_in (F.degree field.now) (F.product field.now) circuit.now bases.now).words) }
     ensures { IfOk result (λ table. IsTableOf (circuit_in (F.degree field.now) (F.product field.now) circuit.now bases.now) table.items) }
@@ -54,7 +54,7 @@ pub fn output_at<F: Field>(
     bases: &[Basis],
     xs: &[u64],
 ) -> Result<u64, AllocError>
-    requires k { circuit.now.bound.k ≡ F.degree field.now }
+    requires k { circuit.now.binding.k ≡ F.degree field.now }
     requires bases { AreBases (F.degree field.now) (F.product field.now) circuit.now bases.now }
     requires long { length xs.now ≡ length (circuit_in (F.degree field.now) (F.product field.now) circuit.now bases.now).words }
     requires elements { (x : ℕ) → Has xs.now x → x < 2 ^ F.degree field.now }

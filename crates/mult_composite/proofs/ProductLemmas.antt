@@ -43,9 +43,6 @@ module _ (bits : List Bool) (n g m x y : ℕ) (ok : IsModulus n g) (a b : List �
     pub before : Agrees bits plan
     pub values : (p : ℕ) → p < q → bit_at_net bits (plan.next + p) ≡ bit_at (coefficient n x i) (p / n) * bit_at (coefficient n y j) (p % n)
 
-  bit_products_next : (i j : ℕ) (plan : Plan) → (bit_products n a b i j plan).next ≡ plan.next + n * n
-  bit_products_next i j plan = each_keeps (λ q p. p.next ≡ plan.next + q) (λ q. with_and None (slice_index a (n * i + q / n)) (slice_index b (n * j + q % n))) plan (n * n) (omega arith) (λ q p less is. omega (arith, is))
-
   bit_products_values : (i j : ℕ) (plan : Plan) → i < m → j < m → Agrees bits (bit_products n a b i j plan) → AreProducts i j (n * n) plan (bit_products n a b i j plan)
   bit_products_values i j plan hi hj agrees =
       let all = each_keeps (λ q p. (p.next ≡ plan.next + q) × (Agrees bits p → AreProducts i j q plan p)) (λ q. with_and None (slice_index a (n * i + q / n)) (slice_index b (n * j + q % n))) plan (n * n)

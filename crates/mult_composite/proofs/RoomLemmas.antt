@@ -14,9 +14,6 @@ square_few n small = mul_few n n 32 32 small small
 pub pairs_few : (m : ℕ) → m ≤ 64 → m * m ≤ 4096
 pairs_few m small = mul_few m m 64 64 small small
 
-pub group_few : (i n : ℕ) → i ≤ 4096 → n ≤ 64 → i * n ≤ 262144
-group_few i n first second = mul_few i n 4096 64 first second
-
 pub sums_few : (n m : ℕ) → n ≤ 32 → m ≤ 64 → (2 * m - 1) * n ≤ 4064
 sums_few n m small few = mul_few (2 * m - 1) n 127 32 (omega arith) small
 

@@ -10,7 +10,8 @@ use Rattle.mult_products.specs.ProductBits.{x_to}
 use Rattle.mult_products.specs.TowerProduct.{adds_to, factor_bit}
 use Rattle.mult_products.proofs.PairLemmas.{adds_cases}
 use Rattle.net_plan.specs.Plan.{Plan, begun, with_and, with_chain, chain_net, gathered, where_so}
-use Rattle.net_plan.specs.PlanShape.{CanRead, IsWellMade}
+use Rattle.net_plan.specs.PlanShape.{IsWellMade}
+use Rattle.net_plan.proofs.OuterNets.{CanRead}
 use Rattle.net_plan.proofs.EachLemmas.{each_keeps, gathered_has}
 use Rattle.net_plan.proofs.ShapeLemmas.{begun_made, and_made, chain_made, chain_grows}
 use Rattle.net_rows.specs.Row.{Row, begun_row, with_nets}

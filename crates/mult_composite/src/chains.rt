@@ -1,6 +1,6 @@
 //! Chains of nets, and how many inner nets they make.
-ghost use Rattle.std.specs.Prelude.{◌≡◌, ◌+◌, ◌≤◌, ◌++◌, None, Some, IfOk, OnOk, length};
-ghost use Rattle.net_plan.specs.Plan.{chain_net, where_so, with_chain};
+ghost use Rattle.std.specs.Prelude.{◌≡◌, ◌+◌, ◌≤◌, None, Some, IfOk, OnOk, length};
+ghost use Rattle.net_plan.specs.Plan.{chain_net, with_chain};
 ghost use Rattle.net_plan.specs.PlanShape.{HasRoom};
 
 use net_plan::PlanMaker;
@@ -24,16 +24,5 @@ pub(crate) fn sum_into(plan: &mut PlanMaker, out: u32, list: &[u32]) -> Result<(
     ensures next { OnOk result (plan.new.next ≤ plan.old.next + (length list.now + 1)) }
 {
     plan.chain_into(out, list)?;
-    Ok(())
-}
-
-// Adds the net where it is chosen.
-pub(crate) fn push_where(list: &mut Vec<u32>, so: bool, net: u32) -> Result<(), AllocError>
-    ensures list { OnOk result (list.new.items ≡ list.old.items ++ where_so so net) }
-    ensures few { OnOk result (length list.new.items ≤ length list.old.items + 1) }
-{
-    if so {
-        list.push(net)?;
-    }
     Ok(())
 }

@@ -9,14 +9,15 @@ ghost use Rattle.irreducible.specs.Proved.{ring_of};
 ghost use Rattle.mult_composite.specs.Composite.{added_products as added_products_of, added_pairs as added_pairs_of, added_sums as added_sums_of};
 ghost use Rattle.mult_composite.specs.private.HighPowers.{AreHighPowers};
 
-use crate::chains::push_where;
 use crate::places::{
-    adds_to, bit_of, coefficient_of, group_of, has_bit, high_count, high_place, pair_place, square,
+    adds_to, bit_of, coefficient_of, group_of, high_count, high_place, pair_place, square,
     sum_place,
 };
 use crate::powers::{factor, x_power};
 use gf_field::Ring2k;
 use irreducible::Proved;
+use mult_gen::has_bit;
+use net_plan::push_where;
 use std::alloc::{AllocError, Global};
 
 // Of the products of bits of two coefficients, which are numbered from `first`, those that add to bit l.

@@ -1,6 +1,5 @@
 //! Places that are counted coefficient by coefficient, and their bits.
-ghost use Rattle.std.specs.Prelude.{◌≡◌, ◌==◌, ◌+◌, ◌*◌, ◌-◌, ◌/◌, ◌%◌, ◌<◌, ◌≤◌, ◌^◌, IsTrue};
-ghost use Rattle.std.specs.Int.{bit_at};
+ghost use Rattle.std.specs.Prelude.{◌≡◌, ◌+◌, ◌*◌, ◌-◌, ◌/◌, ◌%◌, ◌<◌, ◌≤◌, ◌^◌, IsTrue};
 ghost use Rattle.gf_field.specs.Polynomial.{coefficient};
 ghost use Rattle.mult_products.specs.TowerProduct.{adds_to as adds_to_of};
 
@@ -107,14 +106,6 @@ pub(crate) fn pair_place(n: usize, m: usize, i: usize, j: usize, l: usize) -> us
     let pair = row + j;
     let start = pair * n;
     start + l
-}
-
-// Whether bit l is 1.
-pub(crate) fn has_bit(value: u64, l: usize) -> bool
-    requires { l < 64 }
-    ensures { result ≡ (bit_at value l == 1) }
-{
-    (value >> l) & 1 == 1
 }
 
 // Coefficient e of an element of a tower.

@@ -7,7 +7,6 @@ ghost use Rattle.gf_field.specs.Ring2k.{degree_of, modulus_of};
 ghost use Rattle.irreducible.specs.Proved.{ring_of};
 ghost use Rattle.gf_tower.specs.Tower.{tower_polynomial};
 ghost use Rattle.gf_tower.specs.TowerParts.{base_of, coefficients_of, size_of};
-ghost use Rattle.mult_products.specs.Indeterminate.{x_of};
 ghost use Rattle.mult_products.specs.ProductBits.{x_to};
 ghost use Rattle.mult_composite.specs.private.HighPowers.{AreHighPowers};
 
@@ -15,19 +14,8 @@ use crate::places::{coefficient_of, group_of};
 use gf_field::{Ring, Ring2k, power};
 use gf_tower::Tower;
 use irreducible::Proved;
+use mult_gen::indeterminate;
 use std::alloc::{AllocError, Global};
-
-// The element x.
-fn indeterminate(base: &Proved<Ring2k>) -> u64
-    ensures is { result ≡ x_of (degree_of (ring_of base.now)) (modulus_of (ring_of base.now)) }
-    ensures element { result < 2 ^ degree_of (ring_of base.now) }
-{
-    if base.k() == 1 {
-        (base.ring().modulus() % 2) as u64
-    } else {
-        2
-    }
-}
 
 // x to the i.
 pub(crate) fn x_power(base: &Proved<Ring2k>, i: usize) -> u64

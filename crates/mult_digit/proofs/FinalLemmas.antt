@@ -6,13 +6,13 @@ use Rattle.gf_field.specs.Field.{HasNoZeroDivisors}
 use Rattle.gf_field.specs.Modulus.{IsModulus}
 use Rattle.gf_field.specs.Quotient.{product}
 use Rattle.gf_field.specs.Ring.{IsRing}
+use Rattle.graph_core.proofs.GeneralLemmas.{length_map as map_long}
 use Rattle.net_core.specs.NetList.{NetList}
 use Rattle.net_words.specs.declared.feed.FeedText.{FeedText}
 use Rattle.net_words.specs.declared.word.Role.TheVariants.{Output}
 use Rattle.net_words.specs.declared.word.WordText.{WordText}
 use Rattle.net_signature.specs.Signature.{SignatureValue}
 use Rattle.net_write.specs.Plain.{HasPlainNames}
-use Rattle.net_plan.proofs.LabelLemmas.{map_long}
 use Rattle.net_make.specs.MakerNames.{AreMakerNames}
 use Rattle.net_make.specs.Ports.{outer_names, role_nets, word_names}
 use Rattle.net_make.proofs.MadeLemmas.{made_plain}
@@ -49,9 +49,6 @@ module _ (k : ℕ) (mul : ℕ → ℕ → ℕ) (ring : IsRing k mul) (field : Ha
 
     pub front_long : length front ≡ width
     front_long = ap (λ fs. length fs) front_is ∙ length-take-le width feeds width_low
-
-    pub front_low : length front ≤ k
-    front_low = let low = factor_low width is.feeds.count k ring.some is.feeds.whole in omega (arith, low, front_long)
 
     front_names : fed_names front ≡ digit_names width signature.feeds
     front_names = ap fed_names front_is ∙ (sym (take-map (λ (f : FeedText). f.net) width feeds) ∙ ap (λ fs. take width (fed_names fs)) feeds_are)

@@ -1,7 +1,7 @@
 -- How feeds of digits are recognized.
 use Rattle.std.proofs.Common.{◌≡◌, ◌∙◌, ap, sym, subst, inl, inr, ℕ, suc, ◌<◌, ◌≤◌, ◌+◌, ◌-◌, ◌*◌, ◌/◌, ◌%◌, ◌↔◌, Bool, true, false, List, [], length, get_or, Some, arith}
 use Rattle.std.specs.Prelude.{slice_get, IsTrue}
-use Rattle.std.proofs.Math.Nat.{div-add-mod, div-eq_of_lt, mul-mod_right}
+use Rattle.std.proofs.Math.Nat.{div-add-mod, div-eq_of_lt}
 use Rattle.std.proofs.lemmas.Nat.{div-mul-add}
 use Rattle.std.proofs.lemmas.List.{get_or-map}
 use Rattle.std.proofs.lemmas.Option.{get_or_from_slice_get, slice_get_within}
@@ -48,10 +48,6 @@ lines_are k width feeds some long divides each = record {
   where
     plain : (n : ℕ) → n + 0 ≡ n
     plain n = omega arith
-
--- a width of digits divides k
-pub width_divides : (k width : ℕ) (feeds : List FeedText) → AreDigitFeeds k width feeds → k % width ≡ 0
-width_divides k width feeds are = ap (λ n. n % width) are.whole ∙ mul-mod_right width are.count
 
 -- no width so far, and not this one
 pub not_now : (k width : ℕ) (feeds : List FeedText) (found : Bool) → found ≡ false → (AreDigitFeeds k width feeds → IsTrue found) → ((w : ℕ) → w < width → AreDigitFeeds k w feeds → ⊥) → (w : ℕ) → w < width + 1 → AreDigitFeeds k w feeds → ⊥

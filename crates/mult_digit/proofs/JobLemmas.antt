@@ -1,5 +1,5 @@
 -- The job of the net gives the product.
-use Rattle.std.proofs.Common.{◌≡◌, ◌∙◌, ap, ap₂, sym, refl, subst, ℕ, zero, suc, ◌<◌, ◌≤◌, ◌+◌, ◌-◌, ◌*◌, ◌/◌, ◌%◌, ◌^◌, mul-suc, mul-le-mul_left, List, [], ◌∷◌, ◌++◌, length, map, take, get_or, append-nil, Result, Ok, Some, arith}
+use Rattle.std.proofs.Common.{◌≡◌, ◌∙◌, ap, ap₂, sym, refl, subst, ℕ, zero, suc, ◌<◌, ◌≤◌, ◌+◌, ◌-◌, ◌*◌, ◌/◌, ◌%◌, ◌^◌, mul-suc, mul-le-mul_left, List, [], ◌∷◌, ◌++◌, length, map, get_or, append-nil, Result, Ok, Some, arith}
 use Rattle.std.specs.Prelude.{slice_get}
 use Rattle.std.specs.Option.{option_map}
 use Rattle.std.specs.List.{range_with_len}
@@ -7,6 +7,7 @@ use Rattle.std.proofs.lemmas.Nat.{div-mul-add, mod-mul-add}
 use Rattle.std.proofs.lemmas.List.FromFn.{length-range_with_len}
 use Rattle.std.proofs.lemmas.Option.{slice_get-map, slice_get_within}
 use Rattle.graph_core.proofs.ListLemmas.{get_below}
+use Rattle.graph_core.proofs.GeneralLemmas.{length_map as map_long}
 use Rattle.net_core.specs.Lists.{Has}
 use Rattle.net_core.specs.NetList.{NetList}
 use Rattle.net_core.specs.Sound.{IsSound}
@@ -34,7 +35,6 @@ use Rattle.circuit_model.specs.JobOfBinding.{inner_number, inner_source, job_fee
 use Rattle.circuit_model.specs.Out.{IsOut}
 use Rattle.circuit_model.specs.Word.{word_nets}
 use Rattle.circuit_model.proofs.TakenLemmas.{taken_job}
-use Rattle.net_plan.proofs.LabelLemmas.{map_long}
 use Rattle.net_make.specs.BindingOfMade.{binding_of}
 use Rattle.net_make.specs.Form.{same_bases}
 use Rattle.net_make.specs.MakerNames.{AreMakerNames}
@@ -61,10 +61,6 @@ got_after : {X : Type 0} (xs ys : List X) (i : ℕ) (y : X) → slice_get ys i �
 got_after [] ys i y got = let plain : 0 + i ≡ i = omega arith in rw plain got
 got_after (x ∷ xs) ys i y got = let more : suc (length xs) + i ≡ suc (length xs + i) = omega arith in rw more (got_after xs ys i y got)
 
-take_none : (words : List BoundWord) → take 0 words ≡ []
-take_none [] = refl
-take_none (w ∷ words) = refl
-
 first_inner : (words : List BoundWord) → inner_number words 0 ≡ 0
 first_inner [] = refl
 first_inner (w ∷ words) = refl
@@ -89,7 +85,7 @@ module _ (k : ℕ) (mul : ℕ → ℕ → ℕ) (ring : IsRing k mul) (field : Ha
     binding = binding_of net words fed_feeds
 
     abbrev job : Circuit
-    job = job_with k mul (record { net = net; bound = binding }) (same_bases (unit_basis k) words) fed_are.count
+    job = job_with k mul (record { net = net; binding = binding }) (same_bases (unit_basis k) words) fed_are.count
 
     -- ---- the line of a bit
     line_low : (t e : ℕ) → t < fed_are.count → e < width → t * width + e < k
@@ -240,7 +236,7 @@ module _ (k : ℕ) (mul : ℕ → ℕ → ℕ) (ring : IsRing k mul) (field : Ha
 
     is_job : IsJob job
     is_job =
-        taken_job k mul (record { net = net; bound = binding }) words feeds (same_bases (unit_basis k) words) fed_are.count ring field sound
+        taken_job k mul (record { net = net; binding = binding }) words feeds (same_bases (unit_basis k) words) fed_are.count ring field sound
         (bound_words k words are wide ring.some ring.small) are_feeds is_bound (map_long (λ (w : WordText). unit_basis k) words) (each_same words)
 
     multiplies : Multiplies job
@@ -257,6 +253,6 @@ module _ (k : ℕ) (mul : ℕ → ℕ → ℕ) (ring : IsRing k mul) (field : Ha
       binding = binding;
       binds = is_bound;
       out = λ other is a b low high.
-          let P : Binding → Type 0 = λ c. IsOut (job_with k mul (record { net = net; bound = c }) (same_bases (unit_basis k) words) fed_are.count) (a ∷ b ∷ []) (mul a b) in
+          let P : Binding → Type 0 = λ c. IsOut (job_with k mul (record { net = net; binding = c }) (same_bases (unit_basis k) words) fed_are.count) (a ∷ b ∷ []) (mul a b) in
           subst P (sym (one_bound other is)) (multiplies a b low high);
     }

@@ -1,5 +1,5 @@
 -- The parts of the net by equations.
-use Rattle.std.proofs.Common.{◌≡◌, ◌∙◌, ap, ap₂, sym, refl, subst, ℕ, ◌≤◌, ◌+◌, List, [], ◌∷◌, length, arith}
+use Rattle.std.proofs.Common.{◌≡◌, ◌∙◌, ap, ap₂, sym, subst, ℕ, ◌≤◌, ◌+◌, List, [], length, arith}
 use Rattle.std.specs.List.{range_with_len}
 use Rattle.std.proofs.lemmas.List.FromFn.{length-range_with_len}
 use Rattle.net_core.specs.LatchValue.{LatchValue}
@@ -12,21 +12,9 @@ use Rattle.mult_gen.specs.Form.{AreWide}
 use Rattle.mult_digit.specs.DigitForm.{AreDigitWords}
 use Rattle.mult_digit.specs.DigitNet.{digit_sums_of, fed_nets, net_over}
 use Rattle.mult_digit.specs.DigitPlan.{Sums, digit_latches, products_from, summands, sums_from}
-use Rattle.mult_digit.specs.private.Words.{DigitWordsBy}
 use Rattle.mult_digit.proofs.PlanForLemmas.{plan_for}
 use Rattle.mult_digit.proofs.ValueLemmas.{sums_length}
 use Rattle.mult_digit.proofs.WordLemmas.{input_long, names_long, output_long}
-
--- words by cases
-pub words_by : (words : List WordText) → DigitWordsBy words → AreDigitWords words
-words_by [] is = absurd is
-words_by (a ∷ []) is = absurd is
-words_by (a ∷ b ∷ []) is = absurd is
-words_by (a ∷ b ∷ z ∷ []) is = record { a = a; b = b; z = z; are = refl; fed = is.0; none = is.1; input = is.2; output = is.3 }
-words_by (a ∷ b ∷ z ∷ c ∷ more) is = absurd is
-
-pub by_words : (words : List WordText) → AreDigitWords words → DigitWordsBy words
-by_words words are = subst DigitWordsBy (sym are.are) (are.fed, are.none, are.input, are.output)
 
 module _ (k : ℕ) (mul : ℕ → ℕ → ℕ) (x width : ℕ) (words : List WordText) (are : AreDigitWords words) (wide : AreWide k words) (small : k ≤ 64) (narrow : width ≤ k) where
   pub first_low : (first : ℕ) → first ≡ length (word_names words) → first + width ≤ 1024

@@ -7,7 +7,8 @@ use Rattle.gf_field.specs.Power.{power}
 use Rattle.net_core.specs.Lists.{Has}
 use Rattle.net_core.proofs.DriverLemmas.{Has_cases}
 use Rattle.net_plan.specs.Plan.{begun, each, gathered, where_so, with_and, with_chain, chain_net}
-use Rattle.net_plan.specs.PlanShape.{CanRead, IsWellMade}
+use Rattle.net_plan.specs.PlanShape.{IsWellMade}
+use Rattle.net_plan.proofs.OuterNets.{CanRead}
 use Rattle.net_plan.proofs.EachLemmas.{each_keeps, gathered_has}
 use Rattle.net_plan.proofs.ShapeLemmas.{begun_made, and_made, can_read_more, chain_made, chain_grows, chain_read}
 use Rattle.mult_runs.specs.Held.{net_at}

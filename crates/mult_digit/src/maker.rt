@@ -1,5 +1,5 @@
 //! The multiplier.
-ghost use Rattle.std.specs.Prelude.{◌≡◌, ◌≤◌, ◌<◌, ◌^◌, IfOk, OnOk, IsErrOf, IfSome, IsSome, length};
+ghost use Rattle.std.specs.Prelude.{◌≡◌, ◌≤◌, IfOk, OnOk, IsErrOf, IfSome, IsSome, length};
 ghost use Rattle.gf_field.specs.Ring2k.{degree_of, modulus_of};
 ghost use Rattle.gf_field.specs.Bit.{bit_mul};
 ghost use Rattle.gf_field.specs.Quotient.{product};
@@ -21,24 +21,12 @@ use crate::held::{digit_nets, latches};
 use crate::sums::digit_sums;
 use gf_field::{Ring, Ring2k};
 use irreducible::Proved;
-use mult_gen::MakeFault;
+use mult_gen::{MakeFault, indeterminate};
 use net_core::{Net, NetMaker};
 use net_make::{count_of, make, outer_nets, role_nets};
 use net_signature::Signature;
 use net_words::{FeedText, Role, WordText};
 use std::alloc::{AllocError, Global};
-
-// The element x.
-fn indeterminate(ring: &Proved<Ring2k>) -> u64
-    ensures is { result ≡ x_of (degree_of (ring_of ring.now)) (modulus_of (ring_of ring.now)) }
-    ensures element { result < 2 ^ degree_of (ring_of ring.now) }
-{
-    if ring.k() == 1 {
-        (ring.ring().modulus() % 2) as u64
-    } else {
-        2
-    }
-}
 
 // The net over these words and the nets that the lines of the first cycle feed; all these nets were made.
 fn made(

@@ -9,17 +9,8 @@ ghost use Rattle.mult_digit.specs.private.Powers.{ArePowers};
 
 use crate::powers::has_bit;
 use gf_field::Ring;
+use net_plan::push_where;
 use std::alloc::{AllocError, Global};
-
-// The net, where the condition holds.
-fn push_where(list: &mut Vec<u32>, so: bool, net: u32) -> Result<(), AllocError>
-    ensures { OnOk result (list.new.items ≡ list.old.items ++ where_so so net) }
-{
-    if so {
-        list.push(net)?;
-    }
-    Ok(())
-}
 
 // The bits i of z for which bit l of x^(i + D) is 1.
 fn add_registers<R: Ring>(

@@ -3,8 +3,9 @@ use Rattle.std.proofs.Common.{◌≡◌, ◌∙◌, ap, sym, refl, ℕ, zero, su
 use Rattle.std.specs.Prelude.{slice_index}
 use Rattle.net_core.specs.Lists.{Has}
 use Rattle.net_plan.specs.Plan.{Plan, each, gathered, where_so, with_chain}
-use Rattle.net_plan.specs.PlanShape.{IsWellMade, CanRead}
+use Rattle.net_plan.specs.PlanShape.{IsWellMade}
 use Rattle.net_plan.specs.PlanValue.{Agrees, bit_at_net, parity}
+use Rattle.net_plan.proofs.OuterNets.{CanRead}
 use Rattle.net_plan.proofs.EachLemmas.{agrees_each}
 use Rattle.net_plan.proofs.LabelLemmas.{append_long}
 use Rattle.net_plan.proofs.ShapeLemmas.{chain_made, chain_grows, can_read_more}

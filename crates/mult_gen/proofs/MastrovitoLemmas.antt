@@ -11,7 +11,7 @@ use Rattle.net_core.specs.Lists.{Has}
 use Rattle.net_core.specs.Value.{index_of}
 use Rattle.mult_products.specs.ProductBits.{x_to, HasProductBits}
 use Rattle.mult_products.proofs.SumLemmas.{sum_same}
-use Rattle.net_plan.specs.Plan.{Plan, begun, where_so}
+use Rattle.net_plan.specs.Plan.{begun, where_so}
 use Rattle.net_plan.specs.PlanShape.{IsWellMade}
 use Rattle.net_plan.specs.PlanValue.{Agrees, parity}
 use Rattle.net_plan.proofs.EachLemmas.{gathered_has}
@@ -33,9 +33,6 @@ products_few outer k g l few =
     one n = ap (λ m. n * m) (omega arith)
 
 module _ (outer k g : ℕ) (a b z : List ℕ) (few : k ≤ 64) (a_long : length a ≡ k) (b_long : length b ≡ k) (z_long : length z ≡ k) where
-  start : Plan
-  start = products k a b (begun outer)
-
   start_next : (products k a b (begun outer)).next ≡ outer + k * k
   start_next = rows_next k k a b (begun outer)
 

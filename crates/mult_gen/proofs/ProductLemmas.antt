@@ -24,9 +24,6 @@ rows_next (suc n) k a b plan = omega (arith, rows_next n k a b plan, row_next k 
 row_before : (bits : List Bool) (n x : ℕ) (b : List ℕ) (plan : Plan) → Agrees bits (product_row n x b plan) → Agrees bits plan
 row_before bits n x b plan = agrees_each bits (λ j. with_and None x (slice_index b j)) plan 0 n (λ j p. agrees_before bits None (x ∷ slice_index b j ∷ []) 8 p) (omega arith)
 
-pub products_before : (bits : List Bool) (k : ℕ) (a b : List ℕ) (plan : Plan) → Agrees bits (products k a b plan) → Agrees bits plan
-products_before bits k a b plan = agrees_each bits (λ i. product_row k (slice_index a i) b) plan 0 k (λ i p. row_before bits k (slice_index a i) b p) (omega arith)
-
 row_value : (bits : List Bool) (n x : ℕ) (b : List ℕ) (plan : Plan) (j : ℕ) → Agrees bits (product_row n x b plan) → j < n → bit_at_net bits (plan.next + j) ≡ bit_at_net bits x * bit_at_net bits (slice_index b j)
 row_value bits n x b plan j agrees less =
     let there : Agrees bits (with_and None x (slice_index b j) (product_row j x b plan)) = agrees_each bits (λ j. with_and None x (slice_index b j)) plan (suc j) n (λ j p. agrees_before bits None (x ∷ slice_index b j ∷ []) 8 p) less agrees in

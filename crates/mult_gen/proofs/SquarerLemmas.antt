@@ -12,8 +12,9 @@ use Rattle.net_core.specs.Value.{index_of}
 use Rattle.mult_products.specs.ProductBits.{x_to, HasSquareBits}
 use Rattle.mult_products.proofs.SumLemmas.{sum_same}
 use Rattle.net_plan.specs.Plan.{begun, where_so}
-use Rattle.net_plan.specs.PlanShape.{IsWellMade, CanRead}
+use Rattle.net_plan.specs.PlanShape.{IsWellMade}
 use Rattle.net_plan.specs.PlanValue.{Agrees, parity}
+use Rattle.net_plan.proofs.OuterNets.{CanRead}
 use Rattle.net_plan.proofs.EachLemmas.{gathered_has}
 use Rattle.net_plan.proofs.ShapeLemmas.{begun_made}
 use Rattle.net_plan.proofs.ValueLemmas.{gathered_parity, where_parity}

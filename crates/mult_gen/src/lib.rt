@@ -19,4 +19,5 @@ pub use form::{poly_ports, ports};
 pub use multiplier::mastrovito;
 pub use mutation::mutate;
 pub use nets::{inputs, net_of, outer, outputs};
+pub use powers::{has_bit, indeterminate};
 pub use squarers::squarer;

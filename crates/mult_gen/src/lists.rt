@@ -2,24 +2,14 @@
 ghost use Rattle.std.specs.Prelude.{◌≡◌, ◌<◌, ◌≤◌, ◌+◌, ◌*◌, ◌++◌, ◌^◌, IfOk, OnOk, length};
 ghost use Rattle.gf_field.specs.Ring2k.{degree_of, modulus_of};
 ghost use Rattle.irreducible.specs.Proved.{ring_of};
-ghost use Rattle.net_plan.specs.Plan.{where_so};
 ghost use Rattle.mult_gen.specs.Chains.{added_bits as added_bits_of, added_products as added_products_of, added_row};
 ghost use Rattle.mult_gen.specs.private.Powers.{ArePowers};
 
 use crate::powers::has_bit;
 use gf_field::Ring2k;
 use irreducible::Proved;
+use net_plan::push_where;
 use std::alloc::{AllocError, Global};
-
-// Adds a net where it is chosen.
-fn push_where(list: &mut Vec<u32>, so: bool, net: u32) -> Result<(), AllocError>
-    ensures { OnOk result (list.new.items ≡ list.old.items ++ where_so so net) }
-{
-    if so {
-        list.push(net)?;
-    }
-    Ok(())
-}
 
 // Adds the products of bit i of the first factor that add to bit l, where they are numbered from first.
 fn push_row(

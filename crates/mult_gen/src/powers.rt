@@ -10,8 +10,8 @@ use gf_field::{Ring, Ring2k, power};
 use irreducible::Proved;
 use std::alloc::{AllocError, Global};
 
-// The element x.
-fn indeterminate(ring: &Proved<Ring2k>) -> u64
+/// The element x.
+pub fn indeterminate(ring: &Proved<Ring2k>) -> u64
     ensures is { result ≡ x_of (degree_of (ring_of ring.now)) (modulus_of (ring_of ring.now)) }
     ensures element { result < 2 ^ degree_of (ring_of ring.now) }
 {
@@ -39,8 +39,8 @@ pub(crate) fn powers_of_x(
     Ok(powers)
 }
 
-/// Whether a bit, below 64, of a power is 1.
-pub(crate) fn has_bit(power: u64, bit: usize) -> bool
+/// Whether a bit, below 64, of a number is 1.
+pub fn has_bit(power: u64, bit: usize) -> bool
     requires { bit < 64 }
     ensures { result ≡ (bit_at power bit == 1) }
 {

@@ -8,11 +8,11 @@ use Rattle.std.proofs.lemmas.Bool.{cases_lt}
 use Rattle.gf_field.specs.Bit.{bit_mul}
 use Rattle.gf_field.specs.Modulus.{IsModulus}
 use Rattle.gf_field.specs.Quotient.{product}
-use Rattle.mult_products.specs.private.Halving.{halved, running_sum}
 use Rattle.mult_products.proofs.BitLemmas.{times_below}
 use Rattle.mult_products.proofs.HalvingLemmas.{bit_at-halved, top_bit}
 use Rattle.mult_products.proofs.MontgomeryLemmas.{running_below, montgomery}
 use Rattle.mult_products.specs.ProductBits.{x_to}
+use Rattle.mult_products.proofs.Halving.{halved, running_sum}
 use Rattle.net_plan.specs.Plan.{Plan, begun, with_xor, with_buffer}
 use Rattle.net_plan.specs.PlanValue.{Agrees, bit_at_net}
 use Rattle.net_plan.proofs.EachLemmas.{each_keeps}

@@ -7,7 +7,8 @@ use Rattle.std.specs.Int.{bit_at}
 use Rattle.graph_core.proofs.ListLemmas.{got_at}
 use Rattle.net_core.specs.Lists.{Has}
 use Rattle.net_plan.specs.Plan.{Plan, begun, with_xor, with_buffer}
-use Rattle.net_plan.specs.PlanShape.{CanRead, IsWellMade}
+use Rattle.net_plan.specs.PlanShape.{IsWellMade}
+use Rattle.net_plan.proofs.OuterNets.{CanRead}
 use Rattle.net_plan.proofs.EachLemmas.{each_keeps}
 use Rattle.net_plan.proofs.ShapeLemmas.{begun_made, can_read_more, xor_made, buffer_made}
 use Rattle.net_rows.specs.Row.{Row, begun_row, row_by, and_row, xor_row}

@@ -3,6 +3,7 @@ use Rattle.std.proofs.Common.{◌≡◌, ◌∙◌, ap, ap₂, sym, refl, subst,
 use Rattle.std.specs.Prelude.{slice_index, ◌&&◌}
 use Rattle.std.specs.Int.{bit_at}
 use Rattle.std.proofs.lemmas.Nat.Bits.{bit_at-lt}
+use Rattle.graph_core.proofs.GeneralLemmas.{length_map as map_long}
 use Rattle.net_core.specs.LatchValue.{LatchValue}
 use Rattle.net_core.specs.Lists.{Has}
 use Rattle.net_core.specs.NetList.{NetList}
@@ -28,7 +29,6 @@ use Rattle.circuit_model.specs.JobOfBinding.{job_with}
 use Rattle.circuit_model.specs.Out.{IsOut}
 use Rattle.circuit_model.specs.Word.{Word}
 use Rattle.circuit_model.proofs.TakenLemmas.{taken_job}
-use Rattle.net_plan.proofs.LabelLemmas.{map_long}
 use Rattle.net_make.specs.BindingOfMade.{binding_of}
 use Rattle.net_make.specs.Computes.{ComputesOfTwo}
 use Rattle.net_make.specs.Form.{AllWide, HasWords, same_bases}
@@ -57,7 +57,7 @@ module _ (k : ℕ) (mul : ℕ → ℕ → ℕ) (ring : IsRing k mul) (field : Ha
     net = normal_net k mul basis words
 
     abbrev job : Circuit
-    job = job_with k mul (record { net = net; bound = binding_of net words [] }) (same_bases (elements_of basis) words) k
+    job = job_with k mul (record { net = net; binding = binding_of net words [] }) (same_bases (elements_of basis) words) k
 
     abbrev nets_are : NormalNets
     nets_are = record { a = first_factor k words; b = second_factor k words; z = product_nets words; last = sum_net (normal_products k mul basis words) }
@@ -134,7 +134,7 @@ module _ (k : ℕ) (mul : ℕ → ℕ → ℕ) (ring : IsRing k mul) (field : Ha
 
       is_job : IsJob job
       is_job =
-          taken_job k mul (record { net = net; bound = binding_of net words [] }) words [] (same_bases (elements_of basis) words) k ring field sound
+          taken_job k mul (record { net = net; binding = binding_of net words [] }) words [] (same_bases (elements_of basis) words) k ring field sound
           (are_words State 2 k words ring.some ring.small (omega arith) has wide) no_feeds binds (map_long (λ (w : WordText). elements_of basis) words) (each_same words)
 
       multiplies : Multiplies job
@@ -152,6 +152,6 @@ module _ (k : ℕ) (mul : ℕ → ℕ → ℕ) (ring : IsRing k mul) (field : Ha
         binding = binding_of net words [];
         binds = binds;
         out = λ bound is a b low high.
-            let P : Binding → Type 0 = λ x. IsOut (job_with k mul (record { net = net; bound = x }) (same_bases (elements_of basis) words) k) (a ∷ b ∷ []) (mul a b) in
+            let P : Binding → Type 0 = λ x. IsOut (job_with k mul (record { net = net; binding = x }) (same_bases (elements_of basis) words) k) (a ∷ b ∷ []) (mul a b) in
             subst P (sym (one_bound bound is)) (multiplies a b low high);
       }

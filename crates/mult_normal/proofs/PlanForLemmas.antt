@@ -1,5 +1,6 @@
 -- The plan is one for the words, and the words are held by its latches.
 use Rattle.std.proofs.Common.{◌≡◌, ◌∙◌, ap, ap₂, sym, subst, inl, inr, ℕ, zero, suc, ◌<◌, ◌≤◌, ◌+◌, ◌*◌, ◌^◌, Bool, true, false, List, [], ◌++◌, length, map, length-append, None, arith}
+use Rattle.graph_core.proofs.GeneralLemmas.{length_map as map_long}
 use Rattle.net_core.specs.LatchValue.{LatchValue}
 use Rattle.net_core.specs.Lists.{Has, times}
 use Rattle.net_core.proofs.DriverLemmas.{Has_cases, Has_left, Has_map, times_append}
@@ -9,7 +10,6 @@ use Rattle.net_words.specs.declared.word.WordText.{WordText}
 use Rattle.net_plan.specs.Plan.{Plan}
 use Rattle.net_plan.specs.PlanShape.{IsWellMade}
 use Rattle.net_plan.specs.Makeable.{driven_outside}
-use Rattle.net_plan.proofs.LabelLemmas.{map_long}
 use Rattle.net_plan.proofs.ShapeLemmas.{chain_grows}
 use Rattle.net_make.specs.BindingOfMade.{AreHeld}
 use Rattle.net_make.specs.Form.{AllWide, HasWords}

@@ -4,7 +4,8 @@ use Rattle.std.proofs.lemmas.List.{length_push}
 use Rattle.net_core.specs.Lists.{Has}
 use Rattle.net_core.proofs.DriverLemmas.{Has_cases}
 use Rattle.net_plan.specs.Plan.{begun, each}
-use Rattle.net_plan.specs.PlanShape.{CanRead, IsWellMade}
+use Rattle.net_plan.specs.PlanShape.{IsWellMade}
+use Rattle.net_plan.proofs.OuterNets.{CanRead}
 use Rattle.net_plan.proofs.EachLemmas.{each_keeps}
 use Rattle.net_plan.proofs.ShapeLemmas.{begun_made, and_made, can_read_more, chain_made, chain_read}
 use Rattle.mult_runs.specs.Held.{net_at}

@@ -1,5 +1,5 @@
 -- The nets of two state words and of the output word.
-use Rattle.std.proofs.Common.{◌≡◌, ◌≢◌, ◌∙◌, ap, ap₂, sym, refl, subst, ℕ, zero, suc, ◌<◌, ◌≤◌, ◌+◌, ◌*◌, ◌^◌, List, [], ◌∷◌, ◌++◌, length, take, drop, append-nil, arith}
+use Rattle.std.proofs.Common.{◌≡◌, ◌≢◌, ◌∙◌, ap, sym, refl, subst, ℕ, zero, suc, ◌<◌, ◌≤◌, ◌+◌, ◌*◌, ◌^◌, List, [], ◌∷◌, ◌++◌, length, take, drop, append-nil, arith}
 use Rattle.std.specs.Prelude.{slice_get}
 use Rattle.std.proofs.Math.Seq.{take-append_seam}
 use Rattle.std.proofs.lemmas.List.{length-take-le, take-append-drop, length-append}
@@ -7,8 +7,9 @@ use Rattle.net_core.specs.Lists.{Has}
 use Rattle.net_core.proofs.DriverLemmas.{Has_left, Has_right}
 use Rattle.net_words.specs.declared.word.Role.TheVariants.{Input, State, Output}
 use Rattle.net_words.specs.declared.word.WordText.{WordText}
-use Rattle.net_make.specs.Form.{all_of, AllWide, HasWords, lists_of}
+use Rattle.net_make.specs.Form.{AllWide, HasWords}
 use Rattle.net_make.specs.Ports.{inputs_of, outer_names, role_nets, word_names}
+use Rattle.net_make.proofs.WordLists.{all_of, lists_of}
 use Rattle.net_make.proofs.FormLemmas.{OneOf, lists_long, lists_wide, names_long, nets_long, nets_of_lists, no_nets, words_one_of}
 use Rattle.mult_runs.specs.Held.{net_at}
 use Rattle.mult_normal.specs.NormalNet.{first_factor, product_nets, second_factor}
@@ -93,12 +94,6 @@ module _ (k : ℕ) (words : List WordText) (has : HasWords State 2 words) (wide 
   -- the parts of a list of the states' nets
   pub half_low : (n : ℕ) (list items : List ℕ) → n ≡ k → list ≡ items → items ≡ role_nets State 0 words → n ≤ length list
   half_low n list items same is are = omega (arith, same, ap (λ xs. length xs) is, ap (λ xs. length xs) are, states_long)
-
-  pub front_is : (n : ℕ) (front list items : List ℕ) → front ≡ take n list → n ≡ k → list ≡ items → items ≡ role_nets State 0 words → front ≡ first_factor k words
-  front_is n front list items taken same is are = taken ∙ ap₂ take same (is ∙ are)
-
-  pub back_is : (n : ℕ) (back list items : List ℕ) → back ≡ drop n list → n ≡ k → list ≡ items → items ≡ role_nets State 0 words → back ≡ second_factor k words
-  back_is n back list items dropped same is are = dropped ∙ ap₂ drop same (is ∙ are)
 
   pub count_low : (count : ℕ) → k ≤ 64 → count ≡ length (word_names words) → count ≤ 1024
   count_low count small is = omega (arith, is, all_long, small)

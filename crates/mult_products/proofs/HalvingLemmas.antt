@@ -11,7 +11,7 @@ use Rattle.gf_field.specs.laws.BitLaws.{bit_cases}
 use Rattle.gf_field.specs.laws.ModulusLaws.{modulus_below, IsMonic-from_modulus}
 use Rattle.gf_field.proofs.ShiftAndAddLaws.{times_x_reduced, times_x_doubled}
 use Rattle.mult_products.specs.Indeterminate.{x_of}
-use Rattle.mult_products.specs.private.Halving.{halved}
+use Rattle.mult_products.proofs.Halving.{halved}
 use Rattle.mult_products.proofs.BitLemmas.{bit_at-sum, bit_at-times}
 use Rattle.mult_products.proofs.IndeterminateLemmas.{x_times}
 

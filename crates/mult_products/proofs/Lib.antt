@@ -1,3 +1,4 @@
+pub mod Halving
 pub mod BitLemmas
 pub mod SumLemmas
 pub mod IndeterminateLemmas

@@ -20,7 +20,7 @@ use Rattle.gf_field.specs.laws.ModulusLaws.{modulus_below, modulus_above, IsRing
 use Rattle.gf_field.proofs.ShiftAndAddLaws.{times_x_reduced}
 use Rattle.mult_products.specs.Indeterminate.{x_of}
 use Rattle.mult_products.specs.InversePower.{HasOneInversePower}
-use Rattle.mult_products.specs.private.Halving.{halved, running_sum}
+use Rattle.mult_products.proofs.Halving.{halved, running_sum}
 use Rattle.mult_products.proofs.BitLemmas.{times_below}
 use Rattle.mult_products.proofs.SumLemmas.{one_more_bit, times_mul, mul_times}
 use Rattle.mult_products.proofs.IndeterminateLemmas.{x_times, x_below, power_x, line_modulus}

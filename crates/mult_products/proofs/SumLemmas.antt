@@ -71,10 +71,6 @@ module _ (k : ℕ) (mul : ℕ → ℕ → ℕ) (ring : IsRing k mul) where
   sum_mul zero f c = zero_mul k mul ring c
   sum_mul (suc m) f c = distrib_left k mul ring (sum_of_first m f) (f m) c ∙ ap (λ x. bit_xor x (mul (f m) c)) (sum_mul m f c)
 
-  pub mul_sum : (m : ℕ) (f : ℕ → ℕ) (c : ℕ) → mul c (sum_of_first m f) ≡ sum_of_first m (λ i. mul c (f i))
-  mul_sum zero f c = mul_zero k mul ring c
-  mul_sum (suc m) f c = ring.distrib c (sum_of_first m f) (f m) ∙ ap (λ x. bit_xor x (mul c (f m))) (mul_sum m f c)
-
   pub sum_square : (m : ℕ) (f : ℕ → ℕ) → mul (sum_of_first m f) (sum_of_first m f) ≡ sum_of_first m (λ i. mul (f i) (f i))
   sum_square zero f = mul_zero k mul ring 0
   sum_square (suc m) f = square-xor k mul ring (sum_of_first m f) (f m) ∙ ap (λ x. bit_xor x (mul (f m) (f m))) (sum_square m f)

@@ -2,4 +2,3 @@ pub mod Indeterminate
 pub mod ProductBits
 pub mod InversePower
 pub mod TowerProduct
-pub mod private

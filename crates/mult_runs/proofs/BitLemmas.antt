@@ -5,9 +5,10 @@ use Rattle.gf_field.specs.Ring.{IsRing}
 use Rattle.gf_basis.specs.Basis.{first_values}
 use Rattle.gf_basis.specs.BasisFault.{conjugates_of}
 use Rattle.irreducible.specs.Span.{combination}
-use Rattle.mult_serial.specs.Chosen.{chosen, sum_of_chosen, number_of_bits}
+use Rattle.mult_serial.specs.Chosen.{chosen, sum_of_chosen}
 use Rattle.mult_serial.specs.NormalRegisters.{normal_element}
 use Rattle.mult_serial.specs.DigitRegisters.{HasUnitPowers, power_element}
+use Rattle.mult_serial.proofs.BitNumber.{number_of_bits}
 use Rattle.mult_serial.proofs.SumLemmas.{sum_same}
 use Rattle.mult_serial.proofs.ChosenLemmas.{combination-chosen, number_powers}
 use Rattle.mult_serial.proofs.NormalLemmas.{first_values_length, first_values_at, combination_normal}

@@ -43,9 +43,6 @@ module _ (c : Circuit) (gamma : ℕ) (coordinates : ℕ → ℕ) (nets : NormalN
   z_long = ap length (sym are.output_nets) ∙ well.output.nets
 
   module _ (a b : ℕ) (run : List (List Bool)) (is : IsRun c (a ∷ b ∷ []) run) where
-    xs : List ℕ
-    xs = a ∷ b ∷ []
-
     at : List ℕ → ℕ → ℕ → Bool
     at ns t = bit_at_place (row run t) ns
 

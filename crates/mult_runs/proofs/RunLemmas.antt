@@ -4,7 +4,7 @@ use Rattle.std.specs.Prelude.{slice_get}
 use Rattle.net_core.specs.Value.{bit_of}
 use Rattle.net_core.specs.Lists.{Has}
 use Rattle.circuit_model.specs.Circuit.{Circuit, IsInput}
-use Rattle.circuit_model.specs.Run.{IsCycle, IsFirst, IsNext, IsOpenRun}
+use Rattle.circuit_model.specs.Run.{IsClockCycle, IsFirst, IsNext, IsOpenRun}
 use Rattle.circuit_model.specs.Out.{Ends}
 use Rattle.mult_runs.specs.Held.{IsHeld}
 
@@ -22,7 +22,7 @@ module _ (c : Circuit) (xs : List ℕ) (run : List (List Bool)) (is : IsOpenRun 
   pub row_at : (t : ℕ) → t ≤ c.cycles → slice_get run t ≡ Some (row run t)
   row_at t h = row_here run t (let e = is.long in omega (arith, e))
 
-  pub cycle_at : (t : ℕ) → t ≤ c.cycles → IsCycle c xs t (row run t)
+  pub cycle_at : (t : ℕ) → t ≤ c.cycles → IsClockCycle c xs t (row run t)
   cycle_at t h = is.each t (row run t) (row_at t h)
 
   pub first_row : IsFirst c xs (row run 0)

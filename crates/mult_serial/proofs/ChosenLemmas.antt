@@ -9,7 +9,8 @@ use Rattle.gf_field.specs.laws.RingLaws.{distrib_left}
 use Rattle.gf_field.specs.Polynomial.{sum_of_first}
 use Rattle.irreducible.specs.Span.{combination}
 use Rattle.irreducible.specs.laws.AdditiveLaws.{IsAdditive, IsAdditive-self, IsAdditive-double, additive_zero}
-use Rattle.mult_serial.specs.Chosen.{chosen, sum_of_chosen, number_of_bits}
+use Rattle.mult_serial.specs.Chosen.{chosen, sum_of_chosen}
+use Rattle.mult_serial.proofs.BitNumber.{number_of_bits}
 use Rattle.mult_serial.proofs.SumLemmas.{sum_same, sum_open, sum_additive}
 
 -- ---- one bit
@@ -28,10 +29,6 @@ pub chosen_bit : (n : ℕ) → n < 2 → chosen (n == 1) 1 ≡ n
 chosen_bit zero h = refl
 chosen_bit (suc zero) h = refl
 chosen_bit (suc (suc n)) h = absurd (omega arith)
-
-pub chosen_both : (a b : Bool) (x : ℕ) → chosen a (chosen b x) ≡ chosen (a && b) x
-chosen_both true b x = refl
-chosen_both false b x = refl
 
 pub chosen_below : (n : ℕ) (b : Bool) (x : ℕ) → 0 < n → x < n → chosen b x < n
 chosen_below n true x some h = h

@@ -9,8 +9,9 @@ use Rattle.gf_field.specs.Polynomial.{sum_of_first}
 use Rattle.gf_field.specs.laws.RingLaws.{distrib_left, zero_mul}
 use Rattle.gf_field.specs.laws.PowerLaws.{power-add}
 use Rattle.irreducible.specs.laws.AdditiveLaws.{IsAdditive}
-use Rattle.mult_serial.specs.Chosen.{chosen, sum_of_chosen, number_of_bits}
+use Rattle.mult_serial.specs.Chosen.{chosen, sum_of_chosen}
 use Rattle.mult_serial.specs.DigitRegisters.{HasUnitPowers, HoldDigitProducts, power_element}
+use Rattle.mult_serial.proofs.BitNumber.{number_of_bits}
 use Rattle.mult_serial.proofs.SumLemmas.{sum_same, sum_split}
 use Rattle.mult_serial.proofs.ChosenLemmas.{bit_of_sum, chosen_one, chosen_same, chosen_sum_additive, product_of_sums, number_again, number_same, number_powers}
 

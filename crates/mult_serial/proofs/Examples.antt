@@ -1,7 +1,8 @@
 -- Worked examples.
 use Rattle.std.specs.Prelude.{◌≡◌, refl, ℕ, zero, suc, Bool, true, false}
-use Rattle.mult_serial.specs.Chosen.{number_of_bits, sum_of_chosen}
+use Rattle.mult_serial.specs.Chosen.{sum_of_chosen}
 use Rattle.mult_serial.specs.NormalRegisters.{turned}
+use Rattle.mult_serial.proofs.BitNumber.{number_of_bits}
 
 -- the bits 1, 0, 1
 bits : ℕ → Bool

@@ -1,3 +1,4 @@
+pub mod BitNumber
 pub mod SumLemmas
 pub mod ChosenLemmas
 pub mod NormalLemmas

@@ -16,8 +16,9 @@ use Rattle.irreducible.specs.laws.SpanLaws.{combination-xor}
 use Rattle.irreducible.specs.laws.AdditiveLaws.{IsAdditive}
 use Rattle.gf_basis.specs.Basis.{IsBasis, AreBits, HasOnlyBits, first_values}
 use Rattle.gf_basis.specs.BasisFault.{conjugates_of}
-use Rattle.mult_serial.specs.Chosen.{chosen, sum_of_chosen, number_of_bits}
+use Rattle.mult_serial.specs.Chosen.{chosen, sum_of_chosen}
 use Rattle.mult_serial.specs.NormalRegisters.{turned, normal_element, HoldNormalProducts}
+use Rattle.mult_serial.proofs.BitNumber.{number_of_bits}
 use Rattle.mult_serial.proofs.SumLemmas.{sum_same, sum_open}
 use Rattle.mult_serial.proofs.ChosenLemmas.{bit_of_sum, chosen_one, chosen_same, chosen_sum_additive, product_of_sums, number_below, number_bit, number_again, combination-chosen}
 

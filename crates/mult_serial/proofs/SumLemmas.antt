@@ -1,8 +1,7 @@
 -- Sums of values of functions over a ring.
 use Rattle.std.proofs.Common.{◌≡◌, ℕ, zero, suc, ◌<◌, ◌+◌, sym, refl, ◌∙◌, ap, arith}
 use Rattle.std.specs.Prelude.{bit_xor}
-use Rattle.std.specs.Int.Bits.{xor_assoc, xor_comm, xor_zero_l, xor_zero_r}
-use Rattle.gf_field.specs.laws.XorLaws.{xor_cross}
+use Rattle.std.specs.Int.Bits.{xor_assoc, xor_comm, xor_zero_r}
 use Rattle.gf_field.specs.Polynomial.{sum_of_first}
 use Rattle.irreducible.specs.laws.AdditiveLaws.{IsAdditive, additive_zero}
 
@@ -10,18 +9,10 @@ pub sum_same : (m : ℕ) (f g : ℕ → ℕ) → ((i : ℕ) → i < m → f i �
 sum_same zero f g same = refl
 sum_same (suc m) f g same = λ i. bit_xor (sum_same m f g (λ j less. same j (omega arith)) i) (same m (omega arith) i)
 
-pub sum_zero : (m : ℕ) (f : ℕ → ℕ) → ((i : ℕ) → i < m → f i ≡ 0) → sum_of_first m f ≡ 0
-sum_zero zero f none = refl
-sum_zero (suc m) f none = (λ i. bit_xor (sum_zero m f (λ j less. none j (omega arith)) i) (none m (omega arith) i)) ∙ xor_zero_l 0
-
 -- the first taken apart
 pub sum_open : (m : ℕ) (f : ℕ → ℕ) → sum_of_first (suc m) f ≡ bit_xor (f 0) (sum_of_first m (λ i. f (suc i)))
 sum_open zero f = xor_comm 0 (f 0)
 sum_open (suc m) f = ap (λ x. bit_xor x (f (suc m))) (sum_open m f) ∙ xor_assoc (f 0) (sum_of_first m (λ i. f (suc i))) (f (suc m))
-
-pub sum_xor : (m : ℕ) (f g : ℕ → ℕ) → sum_of_first m (λ i. bit_xor (f i) (g i)) ≡ bit_xor (sum_of_first m f) (sum_of_first m g)
-sum_xor zero f g = sym (xor_zero_l 0)
-sum_xor (suc m) f g = ap (λ x. bit_xor x (bit_xor (f m) (g m))) (sum_xor m f g) ∙ xor_cross (sum_of_first m f) (sum_of_first m g) (f m) (g m)
 
 -- the first m and the n after them
 pub sum_split : (m n : ℕ) (f : ℕ → ℕ) → sum_of_first (m + n) f ≡ bit_xor (sum_of_first m f) (sum_of_first n (λ i. f (m + i)))

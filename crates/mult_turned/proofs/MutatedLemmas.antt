@@ -63,10 +63,6 @@ times_xor (suc zero) x y low = own (bit_xor x y) ∙ ap₂ bit_xor (sym (own x))
 times_xor (suc (suc c)) x y low = absurd (omega arith)
 
 module _ (outer k g : ℕ) (a b z : List ℕ) (p index : ℕ) (low : p < k * k) (small : index < 4) (a_long : length a ≡ k) (b_long : length b ≡ k) (z_long : length z ≡ k) (bits : List Bool) (right : (gate : GateValue) → Has (turned_gates (mastrovito_plan outer k g a b z).gates p index) gate → IsRight bits gate) where
-  -- whether the turned bit is read
-  abbrev hit : ℕ
-  hit = cond (bit_at (index_of bits a) (p / k) + 2 * bit_at (index_of bits b) (p % k) == index) 1 0
-
   a_bit : (i : ℕ) → i < k → bit_at_net bits (slice_index a i) ≡ bit_at (index_of bits a) i
   a_bit i less = sym (index_bit bits a i (omega (arith, less, a_long)))
 

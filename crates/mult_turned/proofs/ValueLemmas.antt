@@ -47,12 +47,6 @@ pub at_product : (outer k g : ℕ) (a b z : List ℕ) (q : ℕ) (gate : GateValu
 at_product outer k g a b z q gate got = ap (λ (gs : List GateValue). slice_get gs q) (chains_gates k z (added_products k g outer) (products k a b (begun outer))) ∙ get_front (products k a b (begun outer)).gates (chains k z (added_products k g outer) (begun (products k a b (begun outer)).next)).gates q gate got
 
 module _ (outer k g : ℕ) (a b z : List ℕ) (p index : ℕ) (low : p < k * k) (small : index < 4) (bits : List Bool) (right : (gate : GateValue) → Has (turned_gates (mastrovito_plan outer k g a b z).gates p index) gate → IsRight bits gate) where
-  abbrev front : List GateValue
-  front = (products k a b (begun outer)).gates
-
-  abbrev back : List GateValue
-  back = (chains k z (added_products k g outer) (begun (products k a b (begun outer)).next)).gates
-
   gates_are : (mastrovito_plan outer k g a b z).gates ≡ (products k a b (begun outer)).gates ++ (chains k z (added_products k g outer) (begun (products k a b (begun outer)).next)).gates
   gates_are = chains_gates k z (added_products k g outer) (products k a b (begun outer))
 

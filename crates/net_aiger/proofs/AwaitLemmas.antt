@@ -16,7 +16,8 @@ use Rattle.net_aiger.specs.Reading.{Name, Reading, driven, port_name, ports_of}
 use Rattle.net_aiger.specs.Steps.{◌>>=◌}
 use Rattle.net_aiger.specs.declared.fault.AigerFault.{AigerFault}
 use Rattle.net_aiger.specs.declared.fault.AigerFault.TheVariants.{NameTwice}
-use Rattle.net_aiger.specs.private.Making.{Awaits, AwaitsPort, HasOnly, next_port}
+use Rattle.net_aiger.specs.private.Making.{Awaits, AwaitsPort, HasOnly}
+use Rattle.net_aiger.proofs.PortOrder.{next_port}
 use Rattle.net_aiger.proofs.MakeLemmas.{labelled_is}
 
 not_first : (a b : Bool) → (a || b) ≡ false → a ≡ false

@@ -42,10 +42,6 @@ variable_keeps reading n literal net more made = by (nat_lt n reading.header.inp
     by false true is = label (port_name reading n) true more is
     by false false is = label (decimal literal) false more is
 
--- one more net of a variable
-pub variable_nets : (reading : Reading) (n literal : ℕ) (net more : NetList) → variable_made reading n literal net ≡ Ok more → nets more ≡ nets net + 1
-variable_nets reading n literal net more made = (variable_keeps reading n literal net more made).0
-
 variables_keep : (reading : Reading) (n : ℕ) (literals : List ℕ) (net more : NetList) → variables_made reading n literals net ≡ Ok more → (nets more ≡ nets net + length literals) × (more.gates ≡ net.gates)
 variables_keep reading n [] net more made = let same : net ≡ more = cc in (ap nets (sym same) ∙ omega arith, ap (λ (x : NetList). x.gates) (sym same))
 variables_keep reading n (literal ∷ literals) net more made =
@@ -141,14 +137,6 @@ module _ (reading : Reading) where
   outputs_drive port (literal ∷ literals) net more drives made =
       let (next, one, rest) = split_ok (output_made reading port literal (own reading port literal) net) (λ m. outputs_made reading (port + 1) literals m) more made in
       outputs_drive (port + 1) literals next more (one_output port literal (own reading port literal) net next drives one) rest
-
-  -- what is kept while the nets of ANDs, latches and outputs are made
-  pub and_long : (line : AndLine) (net more : NetList) → length reading.defined ≤ nets net → and_made reading (net_of reading line.literal) line net ≡ Ok more → length reading.defined ≤ nets more
-  and_long line net more long made = by (net_of reading line.literal) made
-    where
-      by : (found : Option ℕ) → and_made reading found line net ≡ Ok more → length reading.defined ≤ nets more
-      by None is = let same : net ≡ more = cc in rw (← same) long
-      by (Some out) is = let same : nets more ≡ nets net = ap length (gated_labels (and_gate reading out line) net more is) in omega (arith, same, long)
 
   pub net_drives : (net : NetList) → net_made reading ≡ Ok net → DriveNets net
   net_drives net made =

@@ -1,3 +1,4 @@
+pub mod PortOrder
 mod NumberLemmas
 mod NameLemmas
 pub mod SettleLemmas

@@ -1,11 +1,12 @@
 -- The values of literals in consistent lists of bits: of those that have a gate, and of those that are defined.
-use Rattle.std.proofs.Common.{◌≡◌, ◌∙◌, ap, sym, refl, subst, inl, inr, ◌⊎◌, ℕ, ◌%◌, ◌&&◌, Bool, true, false, cond, not, List, [], ◌∷◌, length, get_or, None, Some, arith}
+use Rattle.std.proofs.Common.{◌≡◌, ◌∙◌, ap, sym, refl, subst, inl, inr, ◌⊎◌, ℕ, ◌%◌, Bool, true, false, cond, not, List, [], ◌∷◌, length, get_or, None, Some, arith}
 use Rattle.std.specs.Prelude.{nat_lt, nat_le, nat_eq, ◌==◌}
 use Rattle.std.specs.Int.{bit_at}
 use Rattle.std.specs.List.{position, position_or_len}
 use Rattle.std.proofs.lemmas.Bool.{eqb-true, le-ltb, leb-true, ltb-true}
 use Rattle.std.proofs.lemmas.List.Sums.{passes_at_first}
 use Rattle.std.proofs.lemmas.Option.{slice_get-get_or}
+use Rattle.graph_core.proofs.GeneralLemmas.{both_true as plain_parts}
 use Rattle.net_core.specs.Lists.{Has}
 use Rattle.net_core.specs.NetList.{NetList}
 use Rattle.net_core.specs.Value.{bit_of, index_of}
@@ -36,10 +37,6 @@ literal_table reading bits literal = by (nat_lt literal 2) refl
 -- a gate gives its net the literal's value
 pub gate_value : (reading : Reading) (net : NetList) (n literal : ℕ) → Has net.gates (literal_gate reading n literal) → HasLiteralValue reading net n literal
 gate_value reading net n literal has = λ bits consistent. consistent.gates (literal_gate reading n literal) has ∙ literal_table reading bits literal
-
-plain_parts : (a b : Bool) → (a && b) ≡ true → (a ≡ true) × (b ≡ true)
-plain_parts true b e = (refl, e)
-plain_parts false b e = absurd (cc)
 
 -- a plain literal has its variable's bit
 pub plain_value : (reading : Reading) (bits : List Bool) (literal : ℕ) → is_plain literal ≡ true → literal_value reading bits literal ≡ bit_of bits (variable_net reading literal)

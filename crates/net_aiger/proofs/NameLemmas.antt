@@ -1,38 +1,22 @@
 -- Names that are given.
-use Rattle.std.proofs.Common.{◌≡◌, ◌∙◌, ap, sym, refl, subst, ℕ, zero, suc, ◌<◌, ◌+◌, ◌^◌, ◌||◌, ◌&&◌, Bool, true, false, cond, List, [], ◌∷◌, ◌++◌, length, map, get_or, None, Some, Result, Ok, Err, arith}
-use Rattle.std.specs.Prelude.{All, IfOk, nat_eq, nat_le, string_bytes}
+use Rattle.std.proofs.Common.{◌≡◌, ◌∙◌, ap, sym, refl, subst, ℕ, zero, suc, ◌<◌, ◌+◌, ◌^◌, ◌||◌, Bool, true, false, cond, List, [], ◌∷◌, ◌++◌, length, map, get_or, Some, Result, Ok, Err, arith}
+use Rattle.std.specs.Prelude.{All, IfOk, nat_eq, string_bytes}
 use Rattle.std.specs.Fmt.{decimal}
 use Rattle.std.specs.List.{list_any}
 use Rattle.std.specs.Map.{lookup}
 use Rattle.std.specs.Str.{bytes_eq}
 use Rattle.std.specs.String.{string_eq}
 use Rattle.std.specs.declared.string.String.{String}
-use Rattle.std.proofs.lemmas.Bool.{leb-true}
 use Rattle.std.proofs.lemmas.Fmt.{length-decimal-le}
 use Rattle.std.proofs.lemmas.List.{length-append}
 use Rattle.std.proofs.lemmas.List.Elements.{All-append}
 use Rattle.net_core.specs.Inside.{IsNetName}
-use Rattle.net_aiger.specs.Lines.{is_port_name, named}
-use Rattle.net_aiger.specs.Reading.{Name, Reading}
+use Rattle.net_aiger.specs.Reading.{Name}
 
 -- a set of names is asked by their bytes
 pub added_same : {Z : Type 0} (keys : List (String Z)) (text : String Z) (name : Name) → string_bytes text ≡ name → list_any (string_eq text) keys ≡ list_any (bytes_eq name) (map string_bytes keys)
 added_same [] text name is = refl
 added_same (key ∷ keys) text name is = ap (λ (n : Name). bytes_eq n (string_bytes key) || list_any (string_eq text) keys) is ∙ ap (λ (b : Bool). bytes_eq name (string_bytes key) || b) (added_same keys text name is)
-
-one : (a b : Bool) → (a && b) ≡ true → a ≡ true
-one true b e = refl
-one false b e = absurd (cc)
-
--- a name of a port is one of a net
-pub name_fits : (name : Name) → is_port_name name ≡ true → IsNetName name
-name_fits name is =
-    let long = one (nat_le 1 (length name) && nat_le (length name) 255) _ is in
-    (leb-true 1 (length name) (one (nat_le 1 (length name)) _ long), leb-true (length name) 255 (two (nat_le 1 (length name)) _ long))
-  where
-    two : (a b : Bool) → (a && b) ≡ true → b ≡ true
-    two true b e = e
-    two false b e = absurd (cc)
 
 -- a letter and a number make a name
 pub default_fits : (letter : Name) (n : ℕ) → length letter ≡ 1 → n < 2 ^ 64 → IsNetName (letter ++ decimal n)
@@ -62,7 +46,3 @@ all_more symbols new port name is fits all =
     last : (k : ℕ) (d : ℕ × Name) → k < 1 → IsNetName (get_or ((port, name) ∷ []) k d).1
     last zero d less = fits
     last (suc k) d less = absurd (omega arith)
-
--- a name that is given
-pub name_given : (n : ℕ) (name : Name) (port : ℕ) (reading new : Reading) → is_port_name name ≡ true → lookup (nat_eq port) reading.symbols ≡ None → new ≡ record reading { symbols = reading.symbols ++ (port, name) ∷ [] } → named n name (Some port) reading ≡ Ok new
-name_given n name port reading new may none is = rw (may, none) (ap Ok (sym is))

@@ -5,20 +5,13 @@ use Rattle.std.specs.Option.{option_map}
 use Rattle.std.proofs.lemmas.List.{get_or-map, length-map}
 use Rattle.std.proofs.lemmas.Bool.{le-leb, leb-true, lt-ltb, ltb-true, le-ltb}
 use Rattle.text_core.specs.Numbers.{IsDecimal, IsDigit, digit_value, value_of}
+use Rattle.graph_core.proofs.GeneralLemmas.{first_true as one, second_true as other}
 use Rattle.net_aiger.specs.Numbers.{is_digit, is_number, number_of, numbers_of, put_first}
 
 both : (a b : Bool) → a ≡ true → b ≡ true → (a && b) ≡ true
 both true true x y = refl
 both true false x y = absurd (cc)
 both false b x y = absurd (cc)
-
-one : (a b : Bool) → (a && b) ≡ true → a ≡ true
-one true b x = refl
-one false b x = absurd (cc)
-
-other : (a b : Bool) → (a && b) ≡ true → b ≡ true
-other true b x = x
-other false b x = absurd (cc)
 
 digit_is : (b : ℕ) → IsDigit 10 b → is_digit b ≡ true
 digit_is b (inl (low, high), small) = both _ _ (le-leb 48 b low) (le-leb b 57 high)

@@ -3,6 +3,7 @@ use Rattle.std.proofs.Common.{◌≡◌, ap, sym, refl, subst, inl, inr, ℕ, �
 use Rattle.std.specs.Prelude.{nat_lt, nat_eq, slice_get, is_some}
 use Rattle.std.specs.Map.{lookup}
 use Rattle.graph_core.proofs.ListLemmas.{got_push}
+use Rattle.graph_core.proofs.GeneralLemmas.{first_true}
 use Rattle.net_aiger.specs.Lines.{and_line, define, ends, fits, header_from, input_line, is_complete, is_port_name, latch_of, lines_read, named, number_line, one_line, output_line, port_of, section_line, symbol_line, text_read, with_latch, within, before_space}
 use Rattle.net_aiger.specs.Nets.{is_plain}
 use Rattle.net_aiger.specs.Numbers.{number_of, numbers_of, words_of}
@@ -24,10 +25,6 @@ split {A} {B} first further b is = by first refl is
     by : (r : Result A AigerFault) → first ≡ r → (r >>= further) ≡ Ok b → (a : A) × (first ≡ Ok a) × (further a ≡ Ok b)
     by (Ok a) e f = (a, e, f)
     by (Err fault) e f = absurd (cc)
-
-first_true : (a b : Bool) → (a && b) ≡ true → a ≡ true
-first_true true b e = refl
-first_true false b e = absurd (cc)
 
 one_more : (literals : List ℕ) (literal : ℕ) → is_plain literal ≡ true → ArePlain literals → ArePlain (literals ++ literal ∷ [])
 one_more literals literal plain old = λ k l got. elim (got_push literals literal k l got) [

@@ -86,6 +86,3 @@ module _ (text : List ℕ) (reading : Reading) (is_read : text_read (lines text)
         pub not_sound : (refusal : NetFault) (fault : AigerFault) → Finishes net (Err refusal) → IsWrapped refusal fault → Comes text fault
         not_sound refusal fault finished (inl (wanting, is)) = inl is
         not_sound refusal fault finished (inr (other, is)) = inr (inr (reading, sym is_read, inr (tt, sym is_known, inr (tt, sym is_apart, inr (net, sym made, (refusal, settles net refusal other finished, is))))))
-
-        pub is_net : (whole : NetList) → Finishes net (Ok whole) → AigerNet text (Ok whole)
-        is_net whole finished = (reading, sym is_read, (tt, sym is_known, (tt, sym is_apart, (net, sym made, finished))))

@@ -1,5 +1,5 @@
 //! Names of inputs, latches and outputs.
-ghost use Rattle.std.specs.Prelude.{◌≡◌, ◌⊎◌, ◌+◌, ◌++◌, ◌∷◌, [], nat_eq, None, Some, Ok, Err, IfErr, IfSome, IfNone, OnOk, All, ◌<◌, drop};
+ghost use Rattle.std.specs.Prelude.{◌≡◌, ◌⊎◌, ◌+◌, ◌++◌, ◌∷◌, [], nat_eq, None, Some, Ok, Err, IfErr, OnOk, drop};
 ghost use Rattle.std.specs.List.{list_all};
 ghost use Rattle.std.specs.Map.{lookup};
 ghost use Rattle.net_core.specs.Inside.{IsNetName};
@@ -11,6 +11,7 @@ use crate::reader::Reader;
 use crate::reading::Header;
 use net_core::Name;
 use std::alloc::AllocError;
+use text_core::ascii_text;
 
 // The bytes up to the first space.
 fn before_space(bytes: &[u8]) -> &[u8]
@@ -47,17 +48,6 @@ fn is_port_name(name: &[u8]) -> bool
     ensures { result ≡ may_name name.now }
 {
     (1 <= name.len() && name.len() <= 255) && are_shown(name)
-}
-
-// The text of bytes in ASCII.
-fn ascii_text(bytes: &[u8]) -> Option<&str>
-    ensures found { IfSome result (λ text. text.now ≡ bytes.now) }
-    ensures none { IfNone result (All (λ b. b < 128) bytes.now → ⊥) }
-{
-    match str::from_utf8(bytes) {
-        Ok(text) => Some(text),
-        Err(_) => None,
-    }
 }
 
 // The number of an input, a latch or an output by its place.

@@ -3,25 +3,14 @@ ghost use Rattle.std.specs.Prelude.{◌≡◌, ◌⊎◌, ◌≤◌, Ok, Err, tr
 ghost use Rattle.std.specs.Str.Lines.{lines};
 ghost use Rattle.net_aiger.specs.AigerNet.{AigerNet};
 ghost use Rattle.net_aiger.specs.Lines.{is_complete, lines_read, text_read};
-ghost use Rattle.net_aiger.specs.private.Key.{key_of as key_that};
 
 use crate::AigerFault;
 use crate::header::read_header;
 use crate::make::make_net;
 use crate::reader::Reader;
-use net_core::{Net, NetFault};
+use net_core::{Net, NetFault, key_of};
 use std::alloc::Global;
-use std::hash::{DefaultHasher, Hasher};
 use text_core::next_line;
-
-// The key of a text, which is not known before the text is.
-fn key_of(text: &[u8]) -> u64
-    ensures { result ≡ key_that text.now }
-{
-    let mut state = DefaultHasher::new();
-    state.write(text);
-    state.finish()
-}
 
 // What the lines behind the header say.
 #[tactic(auto, using(crate::proofs::ReadLemmas::all_read, crate::proofs::ReadLemmas::cut_short))]

@@ -13,7 +13,7 @@ use Rattle.graph_core.specs.Cycle.{IsCycleOf, IsGrounded}
 use Rattle.graph_core.specs.Arranged.{IsArranged}
 use Rattle.graph_core.proofs.GraphLemmas.{edges_within, nat_eq_or, same_lists}
 use Rattle.graph_core.proofs.LawLemmas.{arranged_grounded, is_cycle}
-use Rattle.graph_core.proofs.ListLemmas.{get_set_other, get_set_same}
+use Rattle.graph_core.proofs.ListLemmas.{get_set_other, get_set_same, get_below as some_at}
 use Rattle.net_blif.specs.Statement.{Token}
 use Rattle.net_blif.specs.Design.{ModelValue, items_of, model_from, model_named, name_of}
 use Rattle.net_blif.specs.Chains.{graph_of, leads_on, models_in, row_of}
@@ -86,11 +86,6 @@ row_at models k below = slice_get-map (λ (m : ModelValue). row_of models m.item
     by : (found : Option ModelValue) → slice_get models k ≡ found → option_map (λ (m : ModelValue). row_of models m.items) found ≡ Some (row_of models (option_map_or (λ (m : ModelValue). m.items) found []))
     by (Some m) e = refl
     by None e = absurd (lacks models k below e)
-
-some_at : {A : Type 0} (xs : List A) (k : ℕ) → k < length xs → (x : A) × (slice_get xs k ≡ Some x)
-some_at [] k below = absurd (omega arith)
-some_at (x ∷ xs) zero below = (x, refl)
-some_at (x ∷ xs) (suc k) below = some_at xs k (omega arith)
 
 pub built_more : (models : List ModelValue) (built : ℕ) (graph new : Graph) (row : List ℕ) → built < length models → IsBuilt models built graph → row ≡ row_of models (items_of models built) → new ≡ set graph built row → IsBuilt models (built + 1) new
 built_more models built graph new row below is same made =

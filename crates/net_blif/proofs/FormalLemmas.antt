@@ -1,10 +1,11 @@
 -- Connections looked up in tables are connections looked up in lists.
-use Rattle.std.proofs.Common.{◌≡◌, ◌∙◌, ap, sym, refl, subst, append_assoc, append-nil, ℕ, Bool, true, false, not, ◌||◌, ◌&&◌, cond, List, [], ◌∷◌, ◌++◌, map, Option, None, Some}
+use Rattle.std.proofs.Common.{◌≡◌, ◌∙◌, ap, sym, refl, subst, append_assoc, append-nil, ℕ, Bool, true, false, not, ◌||◌, cond, List, [], ◌∷◌, ◌++◌, map, Option, None, Some}
 use Rattle.std.specs.Prelude.{is_some, flat_map}
 use Rattle.std.specs.List.{list_all}
 use Rattle.std.specs.Str.{bytes_eq}
 use Rattle.std.proofs.lemmas.List.Folds.{list_any-append}
 use Rattle.std.proofs.lemmas.Slice.Eq.{bytes_eq-Decides}
+use Rattle.graph_core.proofs.GeneralLemmas.{both_true as both}
 use Rattle.net_blif.specs.Statement.{Token}
 use Rattle.net_blif.specs.Connection.{formal_of}
 use Rattle.net_blif.specs.Table.{no_numbers, with_number, Numbers}
@@ -119,12 +120,6 @@ collected_set items = items_set (after with_inputs_in no_formals items) (inputs_
 
 collected_same : (items : List Item) → HaveSame (collected items).inputs (inputs_of items)
 collected_same items = λ q. ap (λ (names : List Token). is_among names q) (items_keep (after with_inputs_in no_formals items) items) ∙ (items_collected no_formals [] items (record { set = λ q. refl; same = λ q. refl })).same q
-
--- whether all of a list are among others depends on what is in it
-both : (a b : Bool) → (a && b) ≡ true → (a ≡ true) × (b ≡ true)
-both true true e = (refl, refl)
-both true false e = absurd (cc)
-both false b e = absurd (cc)
 
 all_each : (others xs : List Token) → list_all (λ x. is_among others x) xs ≡ true → (q : Token) → is_among xs q ≡ true → is_among others q ≡ true
 all_each others [] all q there = absurd (cc)

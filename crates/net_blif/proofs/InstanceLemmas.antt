@@ -1,10 +1,11 @@
 -- Instances checked one after another.
-use Rattle.std.proofs.Common.{◌≡◌, ◌∙◌, inl, inr, ap, sym, refl, subst, ℕ, zero, suc, ◌<◌, ◌+◌, true, false, cond, List, [], ◌∷◌, ◌++◌, map, length, take, drop, get_or, Option, None, Some, arith}
+use Rattle.std.proofs.Common.{◌≡◌, ◌∙◌, inl, inr, ap, sym, subst, ℕ, suc, ◌<◌, ◌+◌, true, false, cond, List, [], ◌∷◌, ◌++◌, map, length, take, drop, get_or, Option, None, Some, arith}
 use Rattle.std.specs.Prelude.{slice_get}
 use Rattle.std.specs.Option.{option_map_or}
 use Rattle.std.proofs.lemmas.List.{get_or-map, length-map, map_push}
 use Rattle.std.proofs.lemmas.Option.{get_or_from_slice_get}
 use Rattle.std.proofs.Math.Seq.{take-suc}
+use Rattle.graph_core.proofs.ListLemmas.{get_below as some_at}
 use Rattle.net_blif.specs.Statement.{Token}
 use Rattle.net_blif.specs.Design.{ModelValue, items_of, model_named}
 use Rattle.net_blif.specs.Table.{no_numbers, Numbers}
@@ -16,11 +17,6 @@ use Rattle.net_blif.specs.declared.fault.BlifFault.{BlifFault}
 use Rattle.net_blif.specs.declared.fault.BlifFault.TheVariants.{NoSuchModel, FormalMissing}
 use Rattle.net_blif.proofs.StepLemmas.{fault_got, got_later}
 use Rattle.net_blif.proofs.FormalLemmas.{fault_is}
-
-some_at : {A : Type 0} (xs : List A) (k : ℕ) → k < length xs → (x : A) × (slice_get xs k ≡ Some x)
-some_at [] k below = absurd (omega arith)
-some_at (x ∷ xs) zero below = (x, refl)
-some_at (x ∷ xs) (suc k) below = some_at xs k (omega arith)
 
 -- a model, and what it places
 model_got : (models : List ModelValue) (k : ℕ) → k < length models → (m : ModelValue) × (Some m ≡ slice_get models k) × (items_of models k ≡ m.items)
@@ -57,9 +53,6 @@ formals_got view models all k formals are below at =
     let inside : k < length all = omega (arith, long, below) in
     let one : get_or models k m.0 ≡ m.0 = get_or_from_slice_get models k m.0 m.0 (sym m.1) in
     ap view at ∙ (sym (get_or-map view all k formals (view formals) inside) ∙ (ap (λ (xs : List FormalsValue). get_or xs k (view formals)) are ∙ (get_or-map (λ (m : ModelValue). collected m.items) models k m.0 (view formals) below ∙ (ap (λ (m : ModelValue). collected m.items) one ∙ ap collected (sym m.2)))))
-
-pub formals_long : (models : List ModelValue) (all : List FormalsValue) → all ≡ map (λ (m : ModelValue). collected m.items) models → length all ≡ length models
-formals_long models all are = ap length are ∙ length-map models (λ (m : ModelValue). collected m.items)
 
 -- an instance of a model that there is
 pub known_fault : (models : List ModelValue) (line k : ℕ) (name : Token) (connections : List Token) (formals : FormalsValue) → model_named models name ≡ Some k → formals ≡ collected (items_of models k) → fault_by line formals connections ≡ instance_fault models (Instance line name connections)

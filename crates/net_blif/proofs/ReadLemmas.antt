@@ -14,11 +14,6 @@ pub bad_token : (reading : Reading) (n : ℕ) (tokens : List Token) → (All IsT
 bad_token reading n [] bad = absurd (bad (λ k d less. absurd (omega arith)))
 bad_token reading n (word ∷ words) bad = inl (refl, λ s all spelled well may. bad all)
 
--- a line without tokens
-pub no_token : (reading : Reading) (n : ℕ) (tokens : List Token) → length tokens ≡ 0 → ReadsLine reading n tokens (Ok reading)
-no_token reading n [] none = refl
-no_token reading n (word ∷ words) none = absurd (omega (arith, none))
-
 -- tokens that spell no statement
 pub no_statement : (reading : Reading) (n : ℕ) (tokens : List Token) → All IsToken tokens → (length tokens ≡ 0 → ⊥) → statement_of tokens ≡ None → ReadsLine reading n tokens (Err (Syntax n))
 no_statement reading n [] all some none = absurd (some refl)

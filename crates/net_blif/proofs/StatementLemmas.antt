@@ -1,5 +1,5 @@
 -- Tokens spell at most one statement, which is the one that is read.
-use Rattle.std.proofs.Common.{◌≡◌, ◌∙◌, ap, sym, refl, subst, ℕ, zero, suc, ◌-◌, Bool, true, false, cond, not, ◌&&◌, List, [], ◌∷◌, ◌++◌, length, take, get_or, Option, None, Some, arith}
+use Rattle.std.proofs.Common.{◌≡◌, ◌∙◌, ap, sym, refl, subst, ℕ, zero, suc, ◌-◌, Bool, true, false, cond, not, List, [], ◌∷◌, ◌++◌, length, take, get_or, Option, None, Some, arith}
 use Rattle.std.specs.Prelude.{codes, All, IsTrue, ◌==◌, ◌||◌}
 use Rattle.std.specs.List.{list_all, list_any}
 use Rattle.std.specs.Option.{option_map}
@@ -7,6 +7,7 @@ use Rattle.std.specs.Str.{bytes_eq}
 use Rattle.std.proofs.lemmas.Bool.{lt-ltb, eqb-true}
 use Rattle.std.proofs.Math.Dec.{ltb}
 use Rattle.std.proofs.lemmas.Slice.Eq.{bytes_eq-Decides}
+use Rattle.graph_core.proofs.GeneralLemmas.{both_true as both, not_true}
 use Rattle.net_blif.specs.Connection.{is_connection}
 use Rattle.net_blif.specs.Statement.{Token, IsToken, spelled, bit_token, row_tokens, is_cell, is_dotted, is_latch_end, is_other, is_well, keywords}
 use Rattle.net_blif.specs.Spelling.{bit_of, model_of, cover_of, end_of, instance_of, latch_of, dotted_of, row_of, statement_of}
@@ -155,18 +156,9 @@ cell_dot b cell = by (b == 46) refl
     by true e = let P : ℕ → Type 0 = λ b. is_cell b ≡ true in let no_cell : is_cell 46 ≡ true = subst P (eqb-true b 46 e) cell in absurd (cc)
     by false e = refl
 
-both : (a b : Bool) → (a && b) ≡ true → (a ≡ true) × (b ≡ true)
-both true true e = (refl, refl)
-both true false e = absurd (cc)
-both false b e = absurd (cc)
-
 neither : (a b : Bool) → (a || b) ≡ false → (a ≡ false) × (b ≡ false)
 neither true b e = absurd (cc)
 neither false b e = (refl, e)
-
-not_true : (a : Bool) → not a ≡ true → a ≡ false
-not_true true e = absurd (cc)
-not_true false e = refl
 
 other_read : (word : Token) (rest : List Token) → is_other word ≡ true → statement_of (word ∷ rest) ≡ Some (Other word rest)
 other_read word rest other =

@@ -1,11 +1,10 @@
 -- Tokens that stand one after another in one text.
-use Rattle.std.proofs.Common.{◌≡◌, ◌∙◌, ap, sym, refl, subst, append_assoc, add-one, ℕ, suc, zero, ◌+◌, ◌-◌, ◌<◌, ◌≤◌, List, [], ◌∷◌, ◌++◌, length, map, take, drop, get_or, Some, arith}
-use Rattle.std.specs.Prelude.{slice_get, slice_range}
+use Rattle.std.proofs.Common.{◌≡◌, ◌∙◌, ap, sym, refl, append_assoc, add-one, ℕ, suc, zero, ◌+◌, ◌-◌, ◌<◌, ◌≤◌, List, [], ◌∷◌, ◌++◌, length, map, take, drop, get_or, arith}
+use Rattle.std.specs.Prelude.{slice_range}
 use Rattle.std.proofs.Math.Seq.{take-suc, take-length, drop-append_seam}
-use Rattle.std.proofs.lemmas.List.{drop-append-le, take-append-le, length-drop, map_push, take-map, drop-map, get_or-map}
-use Rattle.std.proofs.lemmas.Option.{get_or_from_slice_get}
+use Rattle.std.proofs.lemmas.List.{drop-append-le, take-append-le, length-drop, map_push, take-map, drop-map}
 use Rattle.net_blif.specs.Statement.{Token}
-use Rattle.net_blif.specs.Tokens.{AreSpans, IsSpan, token_at, tokens_at}
+use Rattle.net_blif.specs.Tokens.{AreSpans, token_at, tokens_at}
 use Rattle.net_blif.specs.declared.token_list.Span.{Span}
 
 -- a part of a list stays where the list grows
@@ -37,15 +36,6 @@ tokens_same text more new spans inside is = rw is (tokens_kept text more spans i
 pub tokens_pushed : (text new token : List ℕ) (spans longer : List Span) (span : Span) → AreSpans (length text) spans → new ≡ text ++ token → longer ≡ spans ++ span ∷ [] → span.start ≡ length text → span.end ≡ length text + length token → tokens_at new longer ≡ tokens_at text spans ++ token ∷ []
 tokens_pushed text new token spans longer span inside is pushed start end =
     rw (is, pushed) (map_push (token_at (text ++ token)) spans span ∙ (ap (λ (ts : List Token). ts ++ token_at (text ++ token) span ∷ []) (tokens_kept text token spans inside) ∙ ap (λ (t : Token). tokens_at text spans ++ t ∷ []) (range_new text token span.start span.end start end)))
-
--- the token of a place
-pub token_found : (text : List ℕ) (spans : List Span) (place : ℕ) (span : Span) → Some span ≡ slice_get spans place → place < length spans → token_at text span ≡ get_or (tokens_at text spans) place []
-token_found text spans place span is below =
-    sym (get_or-map (token_at text) spans place span [] below ∙ ap (token_at text) (get_or_from_slice_get spans place span span (sym is)))
-
-pub span_inside : (n : ℕ) (spans : List Span) (place : ℕ) (span : Span) → AreSpans n spans → Some span ≡ slice_get spans place → place < length spans → IsSpan n span
-span_inside n spans place span inside is below =
-    let P : Span → Type 0 = IsSpan n in subst P (get_or_from_slice_get spans place span span (sym is)) (inside place span below)
 
 -- the elements so far, and one more
 pub appended_more : {A : Type 0} (old now new xs : List A) (i : ℕ) (x d : A) → now ≡ old ++ take i xs → i < length xs → x ≡ get_or xs i d → new ≡ now ++ x ∷ [] → new ≡ old ++ take (i + 1) xs

@@ -96,6 +96,15 @@ impl Design {
         self.models.items(model)
     }
 
+    /// What the lines of the top, which model 0 is, place, in order.
+    pub fn top_items(&self) -> &ItemList
+        ensures items { result.now ≡ items_of self.now 0 }
+        ensures right { AreRight self.now (Ok tt) }
+        ensures few { length (instances_of self.now) < 2 ^ 32 }
+    {
+        self.models.items(0)
+    }
+
     /// A key for tables of names, made of the text, so that names that collide in one cannot be looked for.
     pub fn key(&self) -> u64 {
         self.models.key()

@@ -142,13 +142,13 @@ impl ModelList {
     }
 }
 
-// With this number for the name, unless it has one.
-fn with_number(
+/// Numbers of names with this number for the name, unless it has one.
+pub fn with_number(
     alloc: Global,
-    numbers: Numbers,
+    numbers: IndexMap<String, u32, KeyedHash>,
     name: &str,
     number: u32,
-) -> Result<Numbers, AllocError>
+) -> Result<IndexMap<String, u32, KeyedHash>, AllocError>
     ensures { IfOk result (λ after. (q : List ℕ) → get_by_text after q
         ≡ (if is_some (get_by_text numbers name.now) then get_by_text numbers q
         else (if bytes_eq name.now q then Some number else get_by_text numbers q))) }

@@ -8,8 +8,8 @@ ghost use Rattle.net_blif.specs.Models.{begins, first_word as first_word_of, sta
 use crate::lines::next_joined;
 use crate::reader::Reader;
 use crate::{BlifFault, Design};
+use net_core::key_of;
 use std::alloc::{AllocError, Global};
-use std::hash::{DefaultHasher, Hasher};
 use text_core::tokens;
 
 // The bytes from `!` to `~` with which a token begins.
@@ -60,13 +60,6 @@ fn has_model(alloc: Global, text: &[u8]) -> Result<bool, AllocError>
         rest = after;
     }
     Ok(false)
-}
-
-// The key of a text, which is not known before the text is.
-fn key_of(text: &[u8]) -> u64 {
-    let mut state = DefaultHasher::new();
-    state.write(text);
-    state.finish()
 }
 
 // What the lines of a text say, one after another.

@@ -38,7 +38,8 @@ fn first_line_in(items: &ItemList) -> Option<u32>
     None
 }
 
-fn is_instance(item: &Item<'_>) -> bool
+/// Whether an item is an instance.
+pub fn is_instance(item: &Item<'_>) -> bool
     ensures { result ≡ instance_is item.now }
 {
     matches!(item, Item::Instance { .. })
@@ -128,8 +129,8 @@ fn actual_in<'a>(formal: &str, item: &Item<'a>) -> Option<&'a str>
     }
 }
 
-// The name of the model of an instance.
-fn model_in<'a>(item: &Item<'a>) -> &'a str
+/// The name of the model of an instance; another item has the empty one.
+pub fn model_in<'a>(item: &Item<'a>) -> &'a str
     requires sound { IsSoundItem item.now }
     ensures { result.now ≡ model_of_item item.now }
 {
@@ -145,16 +146,14 @@ impl Design {
     pub fn gate_line(&self) -> Option<u32>
         ensures { result ≡ first_line self.now }
     {
-        let _count = self.models();
-        first_line_in(self.items(0))
+        first_line_in(self.top_items())
     }
 
     /// How many instances it has. It takes no memory.
     pub fn instances(&self) -> u32
         ensures { result ≡ length (instances_of self.now) }
     {
-        let _count = self.models();
-        count(self.items(0)) as u32
+        count(self.top_items()) as u32
     }
 
     /// The model of an instance; they are numbered from 0 in the order of the lines. It takes no memory.
@@ -162,8 +161,7 @@ impl Design {
         requires { instance < length (instances_of self.now) }
         ensures { (item : ItemValue) → slice_get (instances_of self.now) instance ≡ Some item → model_named self.now (model_of_item item) ≡ Some result }
     {
-        let _count = self.models();
-        let item = instance_at(self.items(0), instance);
+        let item = instance_at(self.top_items(), instance);
         match self.model(model_in(&item)) {
             Some(model) => model,
             None => unreachable!(),
@@ -176,8 +174,7 @@ impl Design {
         ensures some { (item : ItemValue) → slice_get (instances_of self.now) instance ≡ Some item → IfSome result (λ actual. actual_of_item item formal.now ≡ Some actual.now) }
         ensures none { (item : ItemValue) → slice_get (instances_of self.now) instance ≡ Some item → IfNone result (actual_of_item item formal.now ≡ None) }
     {
-        let _count = self.models();
-        let item = instance_at(self.items(0), instance);
+        let item = instance_at(self.top_items(), instance);
         actual_in(formal, &item)
     }
 }

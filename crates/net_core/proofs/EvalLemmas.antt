@@ -12,9 +12,10 @@ use Rattle.net_core.specs.NetList.{NetList, nets}
 use Rattle.net_core.specs.Inside.{IsInside}
 use Rattle.net_core.specs.Sound.{HasOneDriverEach, sources}
 use Rattle.net_core.specs.Level.{Levels, level_at, level_from, level_over}
-use Rattle.net_core.specs.Levelled.{AllHaveLevels, AreRight}
+use Rattle.net_core.specs.Levelled.{AllHaveLevels}
 use Rattle.net_core.specs.Order.{rank_at, IsBefore, IsOrder}
 use Rattle.net_core.specs.Value.{bit_of, index_of, IsRight, IsConsistent, HasValues}
+use Rattle.net_core.proofs.RightGates.{AreRight}
 use Rattle.graph_core.proofs.ListLemmas.{got_at, get_below, get_set_same, get_set_other}
 use Rattle.net_core.proofs.DriverLemmas.{driver_of, Has_cases, All_has, times_two, times_append, gate_inside, gates_apart, source_no_gate, Has_left}
 use Rattle.net_core.proofs.LevelLemmas.{nat_eq_or, level_within, level_from_above}

@@ -10,11 +10,12 @@ use Rattle.net_core.specs.GateValue.{GateValue}
 use Rattle.net_core.specs.Lists.{Has}
 use Rattle.net_core.specs.NetList.{NetList, nets}
 use Rattle.net_core.specs.Inside.{IsInside}
-use Rattle.net_core.specs.Sound.{IsSound, HasOneDriverEach, HasCycle, Needs, IsPath, sources}
+use Rattle.net_core.specs.Sound.{IsSound, HasOneDriverEach, HasCycle, Needs, sources}
 use Rattle.net_core.specs.Level.{Levels, level_at, level_over}
 use Rattle.net_core.specs.Levelled.{AllHaveLevels}
 use Rattle.net_core.specs.Partial.{ArePartial, AreKnown, lacking}
 use Rattle.net_core.specs.Value.{bit_of, index_of, IsRight, IsConsistent, HasSourceBits}
+use Rattle.net_core.proofs.NetPath.{IsPath}
 use Rattle.net_core.proofs.DriverLemmas.{driver_of, gates_apart, gate_inside, source_no_gate, All_has}
 use Rattle.net_core.proofs.LevelLemmas.{nat_eq_or, level_within, known_at, known_over, level_set_same, level_set_other, level_from_above, partial_set, lacking_set, all_found, right_level, first_partial, sources_inside}
 use Rattle.net_core.proofs.EvalLemmas.{bit_set_same, bit_set_other, index_set, index_agree, same_lists, some_level, value_of}

@@ -1,5 +1,5 @@
 -- Steps of levels.
-use Rattle.std.proofs.Common.{◌≡◌, ◌≢◌, ◌∙◌, ap, sym, refl, inl, inr, subst, ℕ, zero, suc, ◌<◌, ◌≤◌, ◌+◌, max, List, [], ◌∷◌, length, drop, get_or, Option, None, Some, arith, length-set, drop-cons}
+use Rattle.std.proofs.Common.{◌≡◌, ◌≢◌, ◌∙◌, ap, sym, refl, inl, inr, subst, ℕ, zero, suc, ◌<◌, ◌≤◌, ◌+◌, max, List, [], ◌∷◌, length, get_or, Option, None, Some, arith, length-set}
 use Rattle.std.specs.Prelude.{slice_get, unwrap_or, option_and_then, All, map}
 use Rattle.std.proofs.lemmas.List.Sums.{sum_by-cons}
 use Rattle.std.proofs.lemmas.List.Elements.{All-append, All-map, All-weaker}
@@ -72,14 +72,6 @@ level_from_above levels v m (n ∷ ns) is =
     first_or : (levels : Levels) (v n : ℕ) (ns : List ℕ) (l : ℕ) → level_at levels n ≡ Some l → l < v → ((k n : ℕ) → slice_get ns k ≡ Some n → (l : ℕ) × (level_at levels n ≡ Some l) × (l < v)) → (k n' : ℕ) → slice_get (n ∷ ns) k ≡ Some n' → (l : ℕ) × (level_at levels n' ≡ Some l) × (l < v)
     first_or levels v n ns l is less rest zero n' got = let same : n ≡ n' = cc in (l, rw (← same) is, less)
     first_or levels v n ns l is less rest (suc k) n' got = rest k n' got
-
-pub level_step_some : (levels : Levels) (m : ℕ) (ns : List ℕ) (i n l : ℕ) → i < length ns → n ≡ get_or ns i 0 → level_at levels n ≡ Some l → level_from levels m (drop i ns) ≡ level_from levels (max m (l + 1)) (drop (i + 1) ns)
-level_step_some levels m ns i n l less is level =
-    let e : i + 1 ≡ suc i = omega arith in
-    ap (level_from levels m) (drop-cons ns i 0 less) ∙ rw (← is, level) (ap (λ j. level_from levels (max m (l + 1)) (drop j ns)) (sym e))
-
-pub level_step_none : (levels : Levels) (m : ℕ) (ns : List ℕ) (i n : ℕ) → i < length ns → n ≡ get_or ns i 0 → level_at levels n ≡ None → level_from levels m (drop i ns) ≡ None
-level_step_none levels m ns i n less is level = rw (drop-cons ns i 0 less, ← is, level) refl
 
 -- a net that has no level gets one
 pub partial_set : (net : NetList) (levels : Levels) (done p v : ℕ) (g : GateValue) → IsInside net → HasOneDriverEach net → ArePartial net levels done → slice_get net.gates p ≡ Some g → level_at levels g.out ≡ None → level_over levels g.inputs ≡ Some v → ArePartial net (set levels g.out (Some v)) (done + 1)

@@ -1,3 +1,5 @@
+pub mod NetPath
+pub mod RightGates
 pub mod DriverLemmas
 pub mod DrivingLemmas
 pub mod EvalLemmas

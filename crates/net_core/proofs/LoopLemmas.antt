@@ -12,11 +12,12 @@ use Rattle.net_core.specs.GateValue.{GateValue}
 use Rattle.net_core.specs.Lists.{Has}
 use Rattle.net_core.specs.NetList.{NetList, nets}
 use Rattle.net_core.specs.Inside.{IsInside, GateIsInside}
-use Rattle.net_core.specs.Sound.{IsSound, HasOneDriverEach, Needs, IsPath, IsCycle, HasCycle, sources}
+use Rattle.net_core.specs.Sound.{IsSound, HasOneDriverEach, Needs, IsCycle, HasCycle, sources}
 use Rattle.net_core.specs.Level.{Levels, level_at, level_over, AreLevels}
 use Rattle.net_core.specs.Levelled.{AllHaveLevels}
 use Rattle.net_core.specs.Loop.{HasLevel, of_source, of_gate, IsFirstWithout, IsBegin, LeadsTo, IsLoop}
 use Rattle.net_core.specs.Driving.{IsGraphOf, IsLoopFault, roots_of}
+use Rattle.net_core.proofs.NetPath.{IsPath}
 use Rattle.graph_core.proofs.ListLemmas.{get_front}
 use Rattle.graph_core.proofs.GraphLemmas.{edges_within, even}
 use Rattle.graph_core.proofs.LoopLemmas.{loop_cycle, loop_weaker, loop_only, cycle_weaker}

@@ -1,7 +1,6 @@
 -- Numbers of names, after one more label.
-use Rattle.std.proofs.Common.{◌≡◌, ◌∙◌, inl, inr, ap, sym, refl, subst, ℕ, suc, ◌<◌, ◌+◌, ◌^◌, List, [], ◌∷◌, ◌++◌, length, Bool, true, false, cond, Option, None, Some, arith}
+use Rattle.std.proofs.Common.{◌≡◌, ◌∙◌, inl, inr, ap, sym, refl, subst, ℕ, suc, ◌<◌, ◌+◌, ◌^◌, List, [], ◌∷◌, ◌++◌, length, true, false, cond, Option, None, Some, arith}
 use Rattle.std.specs.Prelude.{slice_get, IfSome}
-use Rattle.std.specs.Str.{bytes_eq}
 use Rattle.std.proofs.lemmas.List.{length_push}
 use Rattle.std.proofs.lemmas.List.Elements.{All-weaker}
 use Rattle.std.proofs.lemmas.Slice.Eq.{bytes_eq-Decides}
@@ -20,25 +19,6 @@ number_new n (x ∷ xs) label name none hit =
       | true ↦ λ e. absurd (cc)
       | false ↦ λ e. number_new (n + 1) xs label name e hit ∙ ap Some (omega arith)
     ] none
-
--- the map that was updated at the new name has the numbers of the new labels
-pub named_after : (labels : List LabelValue) (label : LabelValue) (text q : List ℕ) (k : ℕ) (was : Option ℕ) → label.named ≡ true → label.text ≡ text → k ≡ length labels → number_from 0 labels text ≡ None → was ≡ number_from 0 labels q → cond (bytes_eq text q) (Some k) was ≡ number_from 0 (labels ++ label ∷ []) q
-named_after labels label text q k was named is place none old =
-    elim (bytes_eq text q) as (λ b. bytes_eq text q ≡ b → cond b (Some k) was ≡ number_from 0 (labels ++ label ∷ []) q) [
-      | true ↦ λ e. let same : text ≡ q = (bytes_eq-Decides text q).0 e in
-          let hit : is_named q label ≡ true = rw (named, is, ← same) ((bytes_eq-Decides text text).1 refl) in
-          let none' : number_from 0 labels q ≡ None = rw (← same) none in
-          sym (number_new 0 labels label q none' hit ∙ ap Some (omega arith))
-      | false ↦ λ e. let not : is_named q label ≡ false = rw (named, is) (other q text e) in
-          old ∙ sym (number_not 0 labels label q not)
-    ] refl
-  where
-    by : (b : Bool) (q text : List ℕ) → bytes_eq q text ≡ b → bytes_eq text q ≡ false → b ≡ false
-    by true q text e not = let same : q ≡ text = (bytes_eq-Decides q text).0 e in let hit : bytes_eq text q ≡ true = rw same ((bytes_eq-Decides text text).1 refl) in absurd (cc)
-    by false q text e not = refl
-
-    other : (q text : List ℕ) → bytes_eq text q ≡ false → bytes_eq q text ≡ false
-    other q text not = by (bytes_eq q text) q text refl not
 
 pub fresh_after : (labels : List LabelValue) (label : LabelValue) (q : List ℕ) → label.named ≡ false → number_from 0 (labels ++ label ∷ []) q ≡ number_from 0 labels q
 fresh_after labels label q fresh = number_not 0 labels label q (rw fresh refl)
@@ -83,9 +63,6 @@ inside_more net label room last inside =
 
 pub fresh_made : (labels new : List LabelValue) (text : List ℕ) → new ≡ labels ++ record { text = text; named = false } ∷ [] → (q : List ℕ) → number_from 0 labels q ≡ number_from 0 new q
 fresh_made labels new text is q = rw is (sym (fresh_after labels (record { text = text; named = false }) q refl))
-
-pub named_made : (labels new : List LabelValue) (text q : List ℕ) (k : ℕ) (was : Option ℕ) → new ≡ labels ++ record { text = text; named = true } ∷ [] → k ≡ length labels → number_from 0 labels text ≡ None → was ≡ number_from 0 labels q → cond (bytes_eq text q) (Some k) was ≡ number_from 0 new q
-named_made labels new text q k was is place none old = rw is (named_after labels (record { text = text; named = true }) text q k was refl refl place none old)
 
 pub named_found : (labels new : List LabelValue) (text : List ℕ) (k : ℕ) → new ≡ labels ++ record { text = text; named = true } ∷ [] → k ≡ length labels → number_from 0 labels text ≡ None → number_from 0 new text ≡ Some k
 named_found labels new text k is place none = rw is (number_new 0 labels (record { text = text; named = true }) text none ((bytes_eq-Decides text text).1 refl) ∙ ap Some (omega arith))

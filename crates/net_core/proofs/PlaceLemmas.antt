@@ -1,7 +1,5 @@
 -- Names that are found by their hashes.
 use Rattle.std.proofs.Common.{◌≡◌, ◌∙◌, ap, sym, refl, ℕ, zero, suc, ◌<◌, ◌+◌, List, [], ◌∷◌, ◌++◌, length, Bool, true, false, cond, Option, None, Some, arith, nat_eq}
-use Rattle.std.specs.Prelude.{slice_get, ◌&&◌}
-use Rattle.std.specs.Option.{option_map_or}
 use Rattle.std.specs.Str.{bytes_eq}
 use Rattle.std.proofs.lemmas.Slice.Eq.{bytes_eq-Decides}
 use Rattle.std.proofs.lemmas.Bool.{eq-eqb}
@@ -9,21 +7,6 @@ use Rattle.net_core.specs.NetList.{NetList, LabelValue, number_from, is_named}
 use Rattle.net_core.specs.Inside.{IsInside}
 use Rattle.net_core.specs.private.Placed.{AreFound, has_name_at}
 use Rattle.net_core.proofs.NameLemmas.{number_not}
-
-both : (a b : Bool) → (a && b) ≡ true → (a ≡ true) × (b ≡ true)
-both true b e = (refl, e)
-both false b e = absurd (cc)
-
-found_by : (labels : List LabelValue) (n : ℕ) (name : List ℕ) (at : Option LabelValue) → slice_get labels n ≡ at → AreFound labels → option_map_or (is_named name) at false ≡ true → number_from 0 labels name ≡ Some n
-found_by labels n name None is found hit = absurd (cc)
-found_by labels n name (Some label) is found hit =
-    let parts = both label.named (bytes_eq name label.text) hit in
-    let same : name ≡ label.text = (bytes_eq-Decides name label.text).0 parts.1 in
-    rw same (found n label is parts.0)
-
--- a net that has the name is the one that the name finds
-pub found_at : (labels : List LabelValue) (n : ℕ) (name : List ℕ) → AreFound labels → has_name_at labels n name ≡ true → number_from 0 labels name ≡ Some n
-found_at labels n name found hit = found_by labels n name (slice_get labels n) refl found hit
 
 -- the named nets of a net list that fits are found
 pub found_inside : (net : NetList) → IsInside net → AreFound net.labels

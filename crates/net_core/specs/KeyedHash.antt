@@ -16,3 +16,7 @@ start_of hash = hash.start
 -- the hash of a name
 abbrev pub name_hash : KeyedHash → List ℕ → ℕ
 name_hash hash name = sip.finish (sip.write (start_of hash) name)
+
+-- the hash of a whole text, by SipHash
+abbrev pub text_key : List ℕ → ℕ
+text_key text = sip.finish (sip.write sip.initial text)

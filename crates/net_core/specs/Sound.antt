@@ -4,7 +4,7 @@ use Rattle.net_core.specs.GateValue.{GateValue}
 use Rattle.net_core.specs.NetList.{NetList, nets}
 use Rattle.net_core.specs.Inside.{IsInside}
 use Rattle.net_core.specs.Lists.{Has, times}
-use Rattle.graph_core.specs.Walk.{IsChain, IsCycleBy}
+use Rattle.graph_core.specs.Walk.{IsCycleBy}
 
 -- the primary inputs and the outputs of latches
 abbrev pub sources : NetList → List ℕ
@@ -25,10 +25,6 @@ HasOneDriverEach net = (n : ℕ) → n < nets net → drivers net n ≡ 1
 -- a gate that drives a has b among its inputs
 abbrev pub Needs : NetList → ℕ → ℕ → Type 0
 Needs net a b = (g : GateValue) × Has net.gates g × (g.out ≡ a) × Has g.inputs b
-
--- from a over these nets to b, each driven by a gate that has the next among its inputs
-abbrev pub IsPath : NetList → ℕ → List ℕ → ℕ → Type 0
-IsPath net = IsChain (Needs net)
 
 -- one or more nets, each driven by a gate that has the next among its inputs, and the last's gate has the first
 abbrev pub IsCycle : NetList → List ℕ → Type 0

@@ -1,6 +1,6 @@
 //! A hash with a key.
 ghost use Rattle.std.specs.Prelude.{◌≡◌};
-ghost use Rattle.net_core.specs.KeyedHash.{key_start, name_hash, start_of};
+ghost use Rattle.net_core.specs.KeyedHash.{key_start, name_hash, start_of, text_key};
 
 use std::hash::{BuildHasher, DefaultHasher, Hasher};
 
@@ -39,4 +39,13 @@ impl BuildHasher for KeyedHash {
     fn build_hasher(&self) -> DefaultHasher {
         self.start
     }
+}
+
+/// The key of a text, which is not known before the text is.
+pub fn key_of(text: &[u8]) -> u64
+    ensures { result ≡ text_key text.now }
+{
+    let mut state = DefaultHasher::new();
+    state.write(text);
+    state.finish()
 }

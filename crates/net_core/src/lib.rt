@@ -20,7 +20,7 @@ mod valuation;
 
 pub use fault::NetFault;
 pub use gate::Gate;
-pub use keyed_hash::KeyedHash;
+pub use keyed_hash::{KeyedHash, key_of};
 pub use latch::{Latch, Start};
 pub use laws::{
     finish_accepts_the_sound_nets, levels_are_the_only_ones, levels_are_where_nets_have_them,

@@ -1,6 +1,7 @@
 //! Sound nets.
 ghost use Rattle.std.specs.Prelude.{◌≡◌, ◌<◌, ◌≤◌, ◌^◌, ℕ, length, min, slice_get, slice_index, IfOk, IfErr, IfSome, OnOk, Err, Some};
 ghost use Rattle.net_core.specs.NetList.{nets, nets as nets_of, number_of, text_of};
+ghost use Rattle.net_core.specs.Inside.{IsInside};
 ghost use Rattle.net_core.specs.Sound.{IsSound, HasOneDriverEach, drivers};
 ghost use Rattle.net_core.specs.Turned.{turned};
 ghost use Rattle.net_core.specs.Levelled.{AllHaveLevels};
@@ -167,17 +168,18 @@ fn find_levels(alloc: Global, net: &NetMaker) -> Result<Vec<Option<u32>>, NetFau
 }
 
 // The first net of a loop.
-fn first_net(net: &NetMaker, nets: &[u32]) -> u32
-    requires { IsLoop net.now nets.now }
+fn first_net(_net: &NetMaker, nets: &[u32]) -> u32
+    requires inside { IsInside _net.now }
+    requires found { IsLoop _net.now nets.now }
     ensures first { slice_get nets.now 0 ≡ Some result }
-    ensures within { result < nets_of net.now }
+    ensures within { result < nets_of _net.now }
 {
-    let _count = net.nets();
     nets[0]
 }
 
 // The fault that names this loop, or want of memory.
 fn loop_fault(alloc: Global, net: &NetMaker, nets: Vec<u32>) -> NetFault
+    requires inside { IsInside net.now }
     requires one { HasOneDriverEach net.now }
     requires found { IsLoop net.now nets.items }
     ensures { Finishes net.now (Err result) }

@@ -58,9 +58,6 @@ entered_inside s (c ∷ cs) is each name n at = by (entered_inside s cs is (λ i
 
 -- the body of an instance that was entered
 module _ (goes : State → ℕ → Result State FlatFault) (design : List ModelValue) (old new : State) (number line m : ℕ) (model : Token) (connections : List Token) (outer : Scope) (item : Item) (is : item ≡ items.Instance line model connections) (named : model_named design model ≡ Some m) (went : HasEntered old number connections outer new) where
-  middle : State
-  middle = state_with new.net new.instances (local_in outer)
-
   at_body : local_line goes design old number item ≡ on_value (λ (t : State). Ok (state_with t.net t.instances (local_in outer))) (goes new m)
   at_body =
       ap (λ (i : Item). local_line goes design old number i) is

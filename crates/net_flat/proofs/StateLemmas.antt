@@ -7,15 +7,15 @@ use Rattle.std.proofs.lemmas.List.{length-append, map_push}
 use Rattle.std.proofs.lemmas.List.Elements.{All-append, All-map}
 use Rattle.std.proofs.lemmas.Slice.Eq.{bytes_eq-Decides}
 use Rattle.std.proofs.Math.Seq.{take-suc}
-use Rattle.net_core.specs.NetList.{NetList, nets, number_of, with_gate, with_latch, with_label, with_name}
-use Rattle.net_core.specs.Inside.{HasNoMoreGates, IsFull}
+use Rattle.net_core.specs.NetList.{NetList, nets, number_of, with_gate, with_latch, with_label}
+use Rattle.net_core.specs.Inside.{HasNoMoreGates}
 use Rattle.net_core.specs.declared.latch.Start.{Start}
 use Rattle.net_core.specs.declared.fault.NetFault.{NetFault}
 use Rattle.net_core.specs.declared.fault.NetFault.TheVariants as faults
 use Rattle.net_core.proofs.NameLemmas.{number_kept, number_below}
 use Rattle.net_blif.specs.Statement.{Token}
 use Rattle.net_blif.specs.Table.{with_number, Numbers}
-use Rattle.net_flat.specs.Steps.{gate_steps, input_steps, latch_steps, output_steps, Step, Mention, Input, Output, Gate, Latch}
+use Rattle.net_flat.specs.Steps.{gate_steps, latch_steps, Step, Mention, Gate, Latch}
 use Rattle.net_flat.specs.Flat.{on_value}
 use Rattle.net_flat.specs.private.LocalWalk.{found, found_by, local_gate, local_latch, local_step, local_walked, local_with, net_with, number_in, on_net, state_with, with_new, AreInside, HasEach, InTop, Inside, IsFaultOf, Local, State}
 use Rattle.net_flat.specs.declared.flat_fault.FlatFault.{FlatFault}
@@ -179,74 +179,9 @@ numbers_inside s names is each = All-map (λ n. n < nets s.net) (number_in s) na
 abbrev IsFaultBy : NetFault → FlatFault → Type 0
 IsFaultBy refusal fault = ((refusal ≡ faults.OutOfMemory) × (fault ≡ OutOfMemory)) ⊎ (¬ (refusal ≡ faults.OutOfMemory) × (fault ≡ Net refusal))
 
-pub top_mention : (net new : NetList) (i : ℕ) (name : Token) → new ≡ with_name net name → (number_of net name ≡ None → IsFull net → ⊥) → local_step (state_with net i InTop) (Mention name) ≡ Ok (state_with new i InTop)
-top_mention net new i name made room = by (number_of net name) refl
-  where
-    by : (o : Option ℕ) → number_of net name ≡ o → local_step (state_with net i InTop) (Mention name) ≡ Ok (state_with new i InTop)
-    by (Some k) e = rw e (ap (λ (x : NetList). Ok (state_with x i InTop)) (sym (made ∙ rw e refl)))
-    by None e = rw e (full (nat_le (2 ^ 20) (nets net)) refl)
-      where
-        full : (b : Bool) → nat_le (2 ^ 20) (nets net) ≡ b → cond b (Err (Net faults.TooManyNets)) (Ok (with_new (state_with net i InTop) name)) ≡ Ok (state_with new i InTop)
-        full true f = absurd (room e (leb-true (2 ^ 20) (nets net) f))
-        full false f = ap (λ (x : NetList). Ok (state_with x i InTop)) (sym (made ∙ rw e refl))
-
-full_step : (s : State) (name : Token) → found s name ≡ None → IsFull s.net → local_step s (Mention name) ≡ Err (Net faults.TooManyNets)
-full_step s name none full = let b : nat_le (2 ^ 20) (nets s.net) ≡ true = le-leb (2 ^ 20) (nets s.net) full in rw (none, b) refl
-
--- what the maker refuses of a name
-pub refused_mention_by : (s : State) (name : Token) (refusal : NetFault) (fault : FlatFault) → IsFaultBy refusal fault → (refusal ≡ faults.TooManyNets) ⊎ (refusal ≡ faults.OutOfMemory) → (refusal ≡ faults.TooManyNets → (found s name ≡ None) × IsFull s.net) → IsFaultOf (local_step s (Mention name)) fault
-refused_mention_by s name refusal fault (inl (wanting, is)) only full = inl is
-refused_mention_by s name refusal fault (inr (other, is)) (inr wanting) full = absurd (other wanting)
-refused_mention_by s name refusal fault (inr (other, is)) (inl nets_full) full =
-    let h = full nets_full in inr (full_step s name h.0 h.1 ∙ ap Err (sym (is ∙ ap Net nets_full)))
-
-pub inside_new : (net new : NetList) (i n : ℕ) (prefix name label : Token) (numbers more : Numbers) → numbers name ≡ None → label ≡ prefix ++ name → new ≡ with_label net label false → (IsFull net → ⊥) → n ≡ nets net → more ≡ with_number numbers name n → local_step (state_with net i (Inside prefix numbers)) (Mention name) ≡ Ok (state_with new i (Inside prefix more))
-inside_new net new i n prefix name label numbers more none called made room number knows = rw none (full (nat_le (2 ^ 20) (nets net)) refl)
-  where
-    net_is : with_label net (prefix ++ name) false ≡ new
-    net_is = sym (made ∙ ap (λ (text : Token). with_label net text false) called)
-
-    numbers_is : with_number numbers name (nets net) ≡ more
-    numbers_is = sym (knows ∙ ap (with_number numbers name) number)
-
-    full : (b : Bool) → nat_le (2 ^ 20) (nets net) ≡ b → cond b (Err (Net faults.TooManyNets)) (Ok (with_new (state_with net i (Inside prefix numbers)) name)) ≡ Ok (state_with new i (Inside prefix more))
-    full true f = absurd (room (leb-true (2 ^ 20) (nets net) f))
-    full false f = ap (λ (x : NetList). Ok (state_with x i (Inside prefix (with_number numbers name (nets net))))) net_is ∙ ap (λ (m : Numbers). Ok (state_with new i (Inside prefix m))) numbers_is
-
-pub inside_known : (net : NetList) (i k : ℕ) (prefix name : Token) (numbers : Numbers) → numbers name ≡ Some k → local_step (state_with net i (Inside prefix numbers)) (Mention name) ≡ Ok (state_with net i (Inside prefix numbers))
-inside_known net i k prefix name numbers at = rw at refl
-
 -- what was inserted is found
 pub inserted : (numbers more : Numbers) (name : Token) (n : ℕ) → more ≡ with_number numbers name n → more name ≡ Some n
 inserted numbers more name n is = let hit : bytes_eq name name ≡ true = (bytes_eq-Decides name name).1 refl in ap (λ (f : Numbers). f name) is ∙ rw hit refl
-
--- what is placed after its mentions
-abbrev place_input_on : State → ℕ → State
-place_input_on t n = on_net t (record t.net { inputs = t.net.inputs ++ n ∷ [] })
-
-module _ (s t : State) (name : Token) (n : ℕ) (made : local_step s (Mention name) ≡ Ok t) (at : found t name ≡ Some n) where
-  number_is : number_in t name ≡ n
-  number_is = ap (λ (o : Option ℕ). unwrap_or o 0) at
-
-  pub input_made : (b : Bool) (new : NetList) → b ≡ true → new ≡ record t.net { inputs = t.net.inputs ++ n ∷ [] } → local_walked s (input_steps b name) ≡ Ok (on_net t new)
-  input_made b new top placed = rw top (made_step s t (Mention name) (Input name ∷ []) made ∙ ap (λ (x : NetList). Ok (on_net t x)) (ap (λ k. record t.net { inputs = t.net.inputs ++ k ∷ [] }) number_is ∙ sym placed))
-
-  pub output_made : (b : Bool) (new : NetList) → b ≡ true → new ≡ record t.net { outputs = t.net.outputs ++ n ∷ [] } → local_walked s (output_steps b name) ≡ Ok (on_net t new)
-  output_made b new top placed = rw top (made_step s t (Mention name) (Output name ∷ []) made ∙ ap (λ (x : NetList). Ok (on_net t x)) (ap (λ k. record t.net { outputs = t.net.outputs ++ k ∷ [] }) number_is ∙ sym placed))
-
-  pub input_mentioned : (b : Bool) → b ≡ false → local_walked s (input_steps b name) ≡ Ok t
-  input_mentioned b inside = rw inside (made_step s t (Mention name) [] made)
-
-  pub output_mentioned : (b : Bool) → b ≡ false → local_walked s (output_steps b name) ≡ Ok t
-  output_mentioned b inside = rw inside (made_step s t (Mention name) [] made)
-
-pub input_refused : (s : State) (b : Bool) (name : Token) (fault : FlatFault) → IsFaultOf (local_step s (Mention name)) fault → IsFaultOf (local_walked s (input_steps b name)) fault
-input_refused s true name fault is = refused_step s fault (Mention name) (Input name ∷ []) is
-input_refused s false name fault is = refused_step s fault (Mention name) [] is
-
-pub output_refused : (s : State) (b : Bool) (name : Token) (fault : FlatFault) → IsFaultOf (local_step s (Mention name)) fault → IsFaultOf (local_walked s (output_steps b name)) fault
-output_refused s true name fault is = refused_step s fault (Mention name) (Output name ∷ []) is
-output_refused s false name fault is = refused_step s fault (Mention name) [] is
 
 -- the same names on a net list with as many nets
 pub inside_placed : (t : State) (new : NetList) → nets t.net ≤ nets new → AreInside t → AreInside (on_net t new)

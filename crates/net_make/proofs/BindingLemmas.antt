@@ -94,10 +94,6 @@ nets_from net word role (name ∷ names) m taken before found low suits =
     let P : List ℕ → Type 0 = λ v. Nets net word role (taken_with role m taken) (before ++ m ∷ []) names v rest.0 in
     (rest.0, (λ n has. omega (arith, rest.1 n has)), (m, sym step, subst P whole rest.2))
 
--- the nets of a word: a fed word has none
-abbrev pub WordNets : NetList → ℕ → WordText → List ℕ → List ℕ → List ℕ → Type 0
-WordNets net index word taken whole taken' = NetsOf net index word.role taken [] (names_with word.role word.nets) (Ok (whole, taken'))
-
 by_role : (net : NetList) (index : ℕ) (role : Role) (names : List (List ℕ)) (m : ℕ) (taken : List ℕ) → FoundFrom net m names → ((n : ℕ) → Has taken n → n < m) → (role ≡ Fed → names ≡ []) → ((n : ℕ) → m ≤ n → n < m + length names → role ≢ Fed → Suits net role n) → (taken' : List ℕ) × ((n : ℕ) → Has taken' n → n < m + length names) × NetsOf net index role taken [] (names_with role names) (Ok (range_with_len m (length names), taken'))
 by_role net index Input names m taken found low fed suits = nets_from net index Input names m taken [] found low (λ n from less. suits n from less (λ e. absurd (cc)))
 by_role net index State names m taken found low fed suits = nets_from net index State names m taken [] found low (λ n from less. suits n from less (λ e. absurd (cc)))
@@ -118,9 +114,6 @@ has_range a (suc k) n low high =
       | inl same ↦ (0, ap Some same)
       | inr other ↦ let rest = has_range (a + 1) k n (omega (arith, low, other)) (omega (arith, high)) in (suc rest.0, rest.1)
     ]
-
-has_in : (role other : Role) (list more : List ℕ) (n : ℕ) → same_role role other ≡ true → Has list n → Has (cond (same_role role other) list [] ++ more) n
-has_in role other list more n same has = let P : Bool → Type 0 = λ b. Has (cond b list [] ++ more) n in subst P (sym same) (Has_left list more n has)
 
 has_after : (role other : Role) (list more : List ℕ) (n : ℕ) → Has more n → Has (cond (same_role role other) list [] ++ more) n
 has_after role other list more n has = Has_right (cond (same_role role other) list []) more n has

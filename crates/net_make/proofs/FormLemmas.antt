@@ -13,8 +13,9 @@ use Rattle.circuit_model.specs.OfBinding.{output_basis, output_basis_with}
 use Rattle.circuit_model.specs.Word.{Word}
 use Rattle.net_plan.proofs.LabelLemmas.{append_long, range_long}
 use Rattle.net_make.proofs.OrderLemmas.{below_or}
-use Rattle.net_make.specs.Form.{HasWords, AllWide, all_of, lists_of, role_count, same_bases}
+use Rattle.net_make.specs.Form.{HasWords, AllWide, role_count, same_bases}
 use Rattle.net_make.specs.Ports.{numbered, role_nets, word_names}
+use Rattle.net_make.proofs.WordLists.{all_of, lists_of}
 use Rattle.net_make.proofs.MakeLemmas.{range_low, role_low, times_range}
 
 -- the word has this role, or is the output word
@@ -47,9 +48,6 @@ same_is Output Input e = absurd (cc)
 same_is Output State e = absurd (cc)
 same_is Output Fed e = absurd (cc)
 same_is Output Output e = refl
-
-count_with : (a role : Role) (n : ℕ) → ◌≡◌ {A = ℕ} (cond (same_role a role) (suc n) n) (cond (same_role a role) 1 0 + n)
-count_with a role n = elim (same_role a role) as (λ b. ◌≡◌ {A = ℕ} (cond b (suc n) n) (cond b 1 0 + n)) [ true ↦ omega arith | false ↦ omega arith ]
 
 count_more : (role : Role) (word : WordText) (words : List WordText) → role_count role (word ∷ words) ≡ cond (same_role word.role role) 1 0 + role_count role words
 count_more role word words = elim (same_role word.role role) as (λ b. length (cond b (word ∷ filter (λ (w : WordText). same_role w.role role) words) (filter (λ (w : WordText). same_role w.role role) words)) ≡ cond b 1 0 + role_count role words) [ true ↦ omega arith | false ↦ omega arith ]

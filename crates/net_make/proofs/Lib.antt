@@ -1,3 +1,4 @@
+pub mod WordLists
 pub mod OrderLemmas
 pub mod FrontLemmas
 pub mod OuterLemmas

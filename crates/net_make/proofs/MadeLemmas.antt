@@ -6,6 +6,7 @@ use Rattle.std.specs.Fmt.{decimal, digits, digits_onto, digit_glyph}
 use Rattle.std.proofs.lemmas.Bool.Decides.{nat_tests}
 use Rattle.graph_core.proofs.GraphLemmas.{All_has}
 use Rattle.graph_core.proofs.ListLemmas.{get_front}
+use Rattle.graph_core.proofs.GeneralLemmas.{all_from as all_has}
 use Rattle.net_core.specs.LatchValue.{LatchValue}
 use Rattle.net_core.specs.Lists.{Has}
 use Rattle.net_core.specs.NetList.{LabelValue, NetList}
@@ -21,7 +22,7 @@ use Rattle.net_write.specs.Plain.{HasPlainNames, IsPlainByte, IsPlainName}
 use Rattle.net_plan.specs.Plan.{Plan}
 use Rattle.net_plan.specs.MadeNet.{named, inner_name, labels_with}
 use Rattle.net_plan.proofs.LabelLemmas.{label_found, label_is}
-use Rattle.net_plan.proofs.SoundLemmas.{sound, all_has}
+use Rattle.net_plan.proofs.SoundLemmas.{sound}
 use Rattle.net_make.specs.BindingOfMade.{AreHeld, binding_of}
 use Rattle.net_make.specs.Made.{made_of, IsPlanFor}
 use Rattle.net_make.specs.MakerNames.{AreMakerNames}

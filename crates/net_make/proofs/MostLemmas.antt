@@ -17,9 +17,6 @@ pub most_append : (xs ys : List (List ℕ)) → most_leading (xs ++ ys) ≡ max 
 most_append [] ys = omega arith
 most_append (x ∷ xs) ys = omega (arith, most_append xs ys)
 
-pub most_step : (m a b c d : ℕ) → m ≡ max a b → max m c ≡ d → max a (max b c) ≡ d
-most_step m a b c d is all = omega (arith, is, all)
-
 leading_low : (name : List ℕ) → leading name ≤ length name
 leading_low [] = omega arith
 leading_low (byte ∷ bytes) = elim (byte == 119) as (λ b. ◌≤◌ (cond b (suc (leading bytes)) 0) (suc (length bytes))) [ true ↦ omega (arith, leading_low bytes) | false ↦ omega arith ]

@@ -6,13 +6,13 @@ use Rattle.std.proofs.lemmas.Bool.Decides.{nat_tests}
 use Rattle.std.proofs.lemmas.List.{map-append}
 use Rattle.std.proofs.lemmas.Slice.Eq.{bytes_eq-Decides}
 use Rattle.graph_core.proofs.ListLemmas.{got_push, get_front, get_here}
+use Rattle.graph_core.proofs.GeneralLemmas.{length_map as map_long}
 use Rattle.net_core.specs.Lists.{Has}
 use Rattle.net_core.specs.Inside.{IsNetName}
-use Rattle.net_core.specs.NetList.{LabelValue, NetList, empty, nets, number_from, number_of, with_name, with_label}
+use Rattle.net_core.specs.NetList.{LabelValue, NetList, nets, number_from, number_of, with_name, with_label}
 use Rattle.net_core.proofs.DriverLemmas.{Has_left}
 use Rattle.net_core.proofs.NameLemmas.{number_below, number_new}
 use Rattle.net_plan.specs.MadeNet.{named, outer_net}
-use Rattle.net_plan.proofs.LabelLemmas.{map_long}
 use Rattle.net_make.specs.MakerNames.{AreMade, AreMakerNames, IsMakerName}
 
 pub is_net_name : (name : List ℕ) → IsMakerName name → IsNetName name
@@ -125,10 +125,3 @@ refuse_all front more all maker false made is same are = let P : List (List ℕ)
 pub made_with : (ns : List (List ℕ)) (maker : NetList) (b : Bool) → AreMade ns maker b → b ≡ true → AreMade ns maker true
 made_with ns maker true made is = made
 made_with ns maker false made is = absurd (cc)
-
-pub nothing_made : AreMade [] empty true
-nothing_made = (refl, record { each = λ name has. absurd (let got = has.1 in cc); apart = λ i j name first second. absurd (cc) })
-
--- a name that a net may not have is none of such names
-pub refused : (ns : List (List ℕ)) (maker : NetList) (name : List ℕ) → (IsMakerName name → ⊥) → AreMade (ns ++ name ∷ []) maker false
-refused ns maker name none = λ all. none (names_last ns name all).0

@@ -1,6 +1,7 @@
 -- What made nets compute with the words of a signature.
 use Rattle.std.proofs.Common.{◌≡◌, ◌⊎◌, ◌∙◌, ap, sym, refl, subst, inl, ℕ, zero, suc, ◌<◌, ◌≤◌, ◌^◌, Bool, true, false, not, cond, List, [], ◌∷◌, ◌++◌, length, map, filter, take, drop, None, Some, Result, Ok, append-nil, arith}
 use Rattle.std.specs.Prelude.{slice_get}
+use Rattle.graph_core.proofs.GeneralLemmas.{length_map as map_long, all_from as all_has}
 use Rattle.net_core.specs.Lists.{Has}
 use Rattle.net_core.specs.NetList.{NetList}
 use Rattle.net_core.specs.Sound.{IsSound}
@@ -25,12 +26,11 @@ use Rattle.circuit_model.specs.Run.{IsInputWord, HaveElements}
 use Rattle.circuit_model.specs.Word.{Word, HasElement}
 use Rattle.circuit_model.proofs.OutLemmas.{job_some_out}
 use Rattle.circuit_model.proofs.TakenLemmas.{taken_job}
-use Rattle.net_plan.proofs.LabelLemmas.{map_long}
-use Rattle.net_plan.proofs.SoundLemmas.{all_has}
 use Rattle.net_make.specs.BindingOfMade.{binding_of}
 use Rattle.net_make.specs.Computes.{ComputesOfOne, ComputesOfTwo}
-use Rattle.net_make.specs.Form.{all_of, AllWide, HasWords, lists_of, same_bases}
+use Rattle.net_make.specs.Form.{AllWide, HasWords, same_bases}
 use Rattle.net_make.specs.Ports.{numbered, role_nets}
+use Rattle.net_make.proofs.WordLists.{all_of, lists_of}
 use Rattle.net_make.proofs.FormLemmas.{basis_is, job_words, lists_long, lists_wide, nets_of_lists, output_nets, words_one_of}
 
 few_kept : (p : WordText → Bool) (words : List WordText) → length (filter p words) ≤ length words
@@ -94,7 +94,7 @@ drop_first (x ∷ xs) ys (suc k) long = drop_first xs ys k (omega arith)
 
 module _ (k : ℕ) (product : ℕ → ℕ → ℕ) (ring : IsRing k product) (field : HasNoZeroDivisors k product) (net : NetList) (sound : IsSound net) (words : List WordText) (basis : List ℕ) (is_basis : IsBasis k basis) (cycles : ℕ) (wide : AllWide k words) (some : 1 ≤ k) (most : k ≤ 64) where
   abbrev job : Circuit
-  job = job_with k product (record { net = net; bound = binding_of net words [] }) (same_bases basis words) cycles
+  job = job_with k product (record { net = net; binding = binding_of net words [] }) (same_bases basis words) cycles
 
   all_same : (ws : List WordText) (b : List ℕ) → Has (same_bases basis ws) b → IsBasis k b
   all_same [] b has = absurd (let got = has.1 in cc)
@@ -103,7 +103,7 @@ module _ (k : ℕ) (product : ℕ → ℕ → ℕ) (ring : IsRing k product) (fi
 
   job_is : (count : ℕ) → count ≤ 7 → HasWords Input count words → BindingOf net words [] (Ok (binding_of net words [])) → IsJob job
   job_is count few has binds =
-      taken_job k product (record { net = net; bound = binding_of net words [] }) words [] (same_bases basis words) cycles ring field sound
+      taken_job k product (record { net = net; binding = binding_of net words [] }) words [] (same_bases basis words) cycles ring field sound
       (are_words Input count k words some most few has wide) (no_feeds k (map (λ (w : WordText). w.role) words)) binds (map_long (λ (w : WordText). basis) words) (all_same words)
 
   out_word : (count : ℕ) → HasWords Input count words → job.output ≡ record { role = Output; nets = role_nets Output 0 words; basis = basis }
@@ -154,7 +154,7 @@ module _ (k : ℕ) (product : ℕ → ℕ → ℕ) (ring : IsRing k product) (fi
       record {
         binding = binding_of net words [];
         binds = binds;
-        out = λ bound is a b low high. let P : Binding → Type 0 = λ x. IsOut (job_with k product (record { net = net; bound = x }) (same_bases basis words) cycles) (a ∷ b ∷ []) (f a b) in subst P (sym (one_bound bound binds is)) (out a b low high);
+        out = λ bound is a b low high. let P : Binding → Type 0 = λ x. IsOut (job_with k product (record { net = net; binding = x }) (same_bases basis words) cycles) (a ∷ b ∷ []) (f a b) in subst P (sym (one_bound bound binds is)) (out a b low high);
       }
     where
       role : (nets : List ℕ) → IsInputWord (word_on nets)
@@ -186,7 +186,7 @@ module _ (k : ℕ) (product : ℕ → ℕ → ℕ) (ring : IsRing k product) (fi
       record {
         binding = binding_of net words [];
         binds = binds;
-        out = λ bound is a low. let P : Binding → Type 0 = λ x. IsOut (job_with k product (record { net = net; bound = x }) (same_bases basis words) cycles) (a ∷ []) (f a) in subst P (sym (one_bound bound binds is)) (out a low);
+        out = λ bound is a low. let P : Binding → Type 0 = λ x. IsOut (job_with k product (record { net = net; binding = x }) (same_bases basis words) cycles) (a ∷ []) (f a) in subst P (sym (one_bound bound binds is)) (out a low);
       }
     where
       role : (nets : List ℕ) → IsInputWord (word_on nets)

@@ -1,8 +1,7 @@
 -- Forms of the words of a signature that makers ask for. Source: this project's own, docs/FORMATS.md.
-use Rattle.std.specs.Prelude.{◌≡◌, ℕ, suc, ◌+◌, List, [], ◌∷◌, ◌++◌, length, map, filter, All, if◌then◌else◌}
-use Rattle.std.specs.List.{range_with_len}
+use Rattle.std.specs.Prelude.{◌≡◌, ℕ, suc, List, [], ◌∷◌, length, map, filter, All}
 use Rattle.net_core.specs.Lists.{Has}
-use Rattle.net_words.specs.Roles.{is_output, same_role}
+use Rattle.net_words.specs.Roles.{same_role}
 use Rattle.net_words.specs.declared.word.Role.{Role}
 use Rattle.net_words.specs.declared.word.Role.TheVariants.{Output}
 use Rattle.net_words.specs.declared.word.BasisText.TheVariants.{Poly}
@@ -34,13 +33,3 @@ AllWide k words = (word : WordText) → Has words word → length word.nets ≡ 
 -- one basis for each word, the same for all
 abbrev pub same_bases : List ℕ → List WordText → List (List ℕ)
 same_bases basis words = map (λ word. basis) words
-
--- the nets of each word that is no output word, numbered from n
-abbrev pub lists_of : ℕ → List WordText → List (List ℕ)
-lists_of n [] = []
-lists_of n (word ∷ words) = (if is_output word then [] else range_with_len n (length word.nets) ∷ []) ++ lists_of (n + length word.nets) words
-
--- lists, one after the other
-abbrev pub all_of : List (List ℕ) → List ℕ
-all_of [] = []
-all_of (list ∷ lists) = list ++ all_of lists

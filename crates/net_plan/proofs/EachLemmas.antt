@@ -1,5 +1,5 @@
 -- Steps one after another, and lists one after another.
-use Rattle.std.proofs.Common.{◌≡◌, ◌∙◌, ap, refl, inl, inr, ℕ, zero, suc, ◌<◌, ◌≤◌, Bool, List, None, Some, arith}
+use Rattle.std.proofs.Common.{◌≡◌, inl, inr, ℕ, zero, suc, ◌<◌, ◌≤◌, Bool, List, None, Some, arith}
 use Rattle.net_core.specs.Lists.{Has}
 use Rattle.graph_core.proofs.GraphLemmas.{nat_eq_or}
 use Rattle.net_core.proofs.DriverLemmas.{Has_cases}
@@ -19,11 +19,6 @@ each_leads R step start i (suc n) self then leads less =
       | inl here ↦ rw here (self (each (suc n) step start))
       | inr low ↦ then (each i step start) (each n step start) (step n (each n step start)) (each_leads R step start i n self then leads (omega (arith, low, less))) (leads n (each n step start))
     ]
-
--- the same steps in the same order
-pub each_same : {S : Type 0} (step other : ℕ → S → S) (start : S) (n : ℕ) → ((i : ℕ) (s : S) → i < n → step i s ≡ other i s) → each n step start ≡ each n other start
-each_same step other start zero same = refl
-each_same step other start (suc n) same = ap (step n) (each_same step other start n (λ i s less. same i s (omega arith))) ∙ same n (each n other start) (omega arith)
 
 -- an element of lists one after the other is one of a list
 pub gathered_has : {A : Type 0} (f : ℕ → List A) (n : ℕ) (x : A) → Has (gathered n f) x → (i : ℕ) × (i < n) × Has (f i) x

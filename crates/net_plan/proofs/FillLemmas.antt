@@ -1,13 +1,13 @@
 -- What stands on the nets of a plan stands on nets that there are.
 use Rattle.std.proofs.Common.{◌≡◌, ◌∙◌, ap, sym, subst, ℕ, ◌<◌, ◌≤◌, ◌-◌, List, length, arith}
 use Rattle.std.specs.Prelude.{All}
+use Rattle.graph_core.proofs.GeneralLemmas.{length_map as map_long}
 use Rattle.net_core.specs.LatchValue.{LatchValue}
 use Rattle.net_core.specs.NetList.{LabelValue, NetList, nets}
 use Rattle.net_core.specs.Inside.{GateIsInside, LatchIsInside}
 use Rattle.net_plan.specs.Plan.{Plan}
 use Rattle.net_plan.specs.MadeNet.{made_net, names_in, with_inner}
 use Rattle.net_plan.specs.Makeable.{IsMakeable}
-use Rattle.net_plan.proofs.LabelLemmas.{map_long}
 use Rattle.net_plan.proofs.InnerLemmas.{inner_nets}
 use Rattle.net_plan.proofs.SoundLemmas.{inside, nets_are}
 

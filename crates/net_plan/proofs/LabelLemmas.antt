@@ -1,5 +1,5 @@
 -- What the nets of a plan are called.
-use Rattle.std.proofs.Common.{◌≡◌, ◌⊎◌, ◌∙◌, ap, sym, refl, subst, inl, inr, ℕ, zero, suc, ◌<◌, ◌≤◌, ◌+◌, ◌^◌, Bool, true, false, ◌&&◌, List, [], ◌∷◌, ◌++◌, length, map, Option, None, Some, arith}
+use Rattle.std.proofs.Common.{◌≡◌, ◌⊎◌, ◌∙◌, ap, sym, refl, subst, inl, inr, ℕ, zero, suc, ◌<◌, ◌≤◌, ◌+◌, ◌^◌, true, false, ◌&&◌, List, [], ◌∷◌, ◌++◌, length, map, Option, None, Some, arith}
 use Rattle.std.specs.Prelude.{slice_get}
 use Rattle.std.specs.List.{range_with_len}
 use Rattle.std.specs.Option.{option_map_or}
@@ -7,6 +7,7 @@ use Rattle.std.specs.Str.{bytes_eq}
 use Rattle.std.proofs.lemmas.Slice.Eq.{bytes_eq-Decides}
 use Rattle.std.specs.Fmt.{decimal}
 use Rattle.std.proofs.lemmas.Fmt.{decimal_injective, length-decimal-le}
+use Rattle.graph_core.proofs.GeneralLemmas.{both_true as both, length_map as map_long}
 use Rattle.net_core.specs.Inside.{IsNetName}
 use Rattle.net_core.specs.NetList.{LabelValue, is_named, number_from}
 use Rattle.net_core.proofs.DriverLemmas.{from_map}
@@ -29,10 +30,6 @@ pub range_long : (a n : ℕ) → length (range_with_len a n) ≡ n
 range_long a zero = refl
 range_long a (suc n) = ap suc (range_long (a + 1) n)
 
-pub map_long : {X Y : Type 0} (f : X → Y) (xs : List X) → length (map f xs) ≡ length xs
-map_long f [] = refl
-map_long f (x ∷ xs) = ap suc (map_long f xs)
-
 pub append_long : {X : Type 0} (xs ys : List X) → length (xs ++ ys) ≡ length xs + length ys
 append_long [] ys = omega arith
 append_long (x ∷ xs) ys = omega (arith, append_long xs ys)
@@ -43,10 +40,6 @@ append_same (b ∷ p) xs ys same = append_same p xs ys (tails same)
   where
     tails : {v w : List ℕ} → b ∷ v ≡ b ∷ w → v ≡ w
     tails e = cc
-
-pub both : (a b : Bool) → (a && b) ≡ true → (a ≡ true) × (b ≡ true)
-both true b e = (refl, e)
-both false b e = absurd (cc)
 
 module _ (names : List (List ℕ)) (prefix : List ℕ) (count : ℕ) (are : AreNames names) (is : IsPrefix names prefix) (few : length names + count ≤ 2 ^ 20) where
   pub labels_long : length (labels_with names prefix count) ≡ length names + count

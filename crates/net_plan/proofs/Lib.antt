@@ -1,3 +1,4 @@
+pub mod OuterNets
 pub mod EachLemmas
 pub mod ValueLemmas
 pub mod ShapeLemmas

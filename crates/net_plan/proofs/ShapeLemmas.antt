@@ -6,7 +6,8 @@ use Rattle.net_core.specs.GateValue.{GateValue}
 use Rattle.net_core.specs.Lists.{Has, times}
 use Rattle.net_core.proofs.DriverLemmas.{Has_cases, none_here, one_here, times_append}
 use Rattle.net_plan.specs.Plan.{Plan, begun, driven_by, next_after, with_gate, with_zero, with_buffer, with_and, with_xor, with_links, with_chain, between, chain_net}
-use Rattle.net_plan.specs.PlanShape.{outs, CanRead, ReadsBefore, targets_with, IsTarget, IsWellMade}
+use Rattle.net_plan.specs.PlanShape.{outs, ReadsBefore, IsWellMade}
+use Rattle.net_plan.proofs.OuterNets.{CanRead, targets_with, IsTarget}
 
 -- nothing is driven yet
 pub begun_made : (outer : ℕ) (sources : List ℕ) → IsWellMade outer sources [] (begun outer)
@@ -39,10 +40,6 @@ one_of x y (suc k, got) = let none : None ≡ Some y = got in absurd (cc)
 pub can_read_more : (outer : ℕ) (sources : List ℕ) (old new : Plan) (n : ℕ) → old.next ≤ new.next → CanRead outer sources old n → CanRead outer sources new n
 can_read_more outer sources old new n less (inl source) = inl source
 can_read_more outer sources old new n less (inr inner) = inr (inner.0, omega (arith, inner.1, less))
-
--- an inner net between two plans may be read in the later one
-pub can_read_inner : (outer : ℕ) (sources : List ℕ) (plan : Plan) (n : ℕ) → outer ≤ n → n < plan.next → CanRead outer sources plan n
-can_read_inner outer sources plan n low high = inr (low, high)
 
 pub gate_next : (target : Option ℕ) (plan : Plan) → plan.next ≤ next_after target plan
 gate_next None plan = omega arith

@@ -1,9 +1,9 @@
 -- The net list of a plan is sound.
-use Rattle.std.proofs.Common.{◌≡◌, ◌≢◌, ◌⊎◌, ◌∙◌, ap, refl, subst, inl, inr, ℕ, zero, suc, ◌<◌, ◌≤◌, ◌+◌, ◌-◌, ◌^◌, cond, List, [], ◌∷◌, length, map, get_or, Some, arith}
-use Rattle.std.specs.Prelude.{All, ◌==◌, nat_lt}
+use Rattle.std.proofs.Common.{◌≡◌, ◌≢◌, ◌⊎◌, ◌∙◌, ap, refl, subst, inl, inr, ℕ, zero, suc, ◌<◌, ◌≤◌, ◌+◌, ◌-◌, ◌^◌, cond, List, [], ◌∷◌, length, map, Some, arith}
+use Rattle.std.specs.Prelude.{◌==◌, nat_lt}
 use Rattle.std.proofs.lemmas.Bool.Decides.{nat_tests}
-use Rattle.std.proofs.lemmas.Option.{slice_get-get_or}
 use Rattle.graph_core.specs.Walk.{IsChain, IsCycleBy}
+use Rattle.graph_core.proofs.GeneralLemmas.{all_from as all_has}
 use Rattle.net_core.specs.GateValue.{GateValue}
 use Rattle.net_core.specs.LatchValue.{LatchValue}
 use Rattle.net_core.specs.Lists.{Has, times}
@@ -16,9 +16,6 @@ use Rattle.net_plan.specs.PlanShape.{outs}
 use Rattle.net_plan.specs.MadeNet.{made_net}
 use Rattle.net_plan.specs.Makeable.{IsMakeable, driven_outside}
 use Rattle.net_plan.proofs.LabelLemmas.{labels_long, label_named, label_found}
-
-pub all_has : {X : Type 0} (P : X → Type 0) (xs : List X) → ((x : X) → Has xs x → P x) → All P xs
-all_has P xs each k d less = each (get_or xs k d) (k, slice_get-get_or xs k d less)
 
 chain_falls : (R : ℕ → ℕ → Type 0) (f : ℕ → ℕ) → ((a b : ℕ) → R a b → f b < f a) → (a : ℕ) (over : List ℕ) (b : ℕ) → IsChain R a over b → f b < f a
 chain_falls R f each a [] b chain = each a b chain

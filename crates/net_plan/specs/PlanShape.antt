@@ -1,5 +1,5 @@
 -- Plans whose gates drive each net once and no gate before them. Source: this project's own.
-use Rattle.std.specs.Prelude.{◌≡◌, ◌⊎◌, ℕ, ◌<◌, ◌≤◌, ◌+◌, ◌^◌, List, [], ◌∷◌, ◌++◌, length, map, Option, None, Some}
+use Rattle.std.specs.Prelude.{◌≡◌, ◌⊎◌, ℕ, ◌<◌, ◌≤◌, ◌+◌, ◌^◌, List, length, map}
 use Rattle.net_core.specs.GateValue.{GateValue}
 use Rattle.net_core.specs.Lists.{Has, times}
 use Rattle.net_plan.specs.Plan.{Plan}
@@ -12,23 +12,9 @@ HasRoom plan more = plan.next + more < 2 ^ 32
 abbrev pub outs : Plan → List ℕ
 outs plan = map (λ (g : GateValue). g.out) plan.gates
 
--- Gates may read the net, where outer nets are numbered below `outer`: it is one of the sources, or an inner net so far.
-abbrev pub CanRead : ℕ → List ℕ → Plan → ℕ → Type 0
-CanRead outer sources plan n = Has sources n ⊎ ((outer ≤ n) × (n < plan.next))
-
 -- the inputs of the gate are sources, or inner nets below its own net where this is an inner one too
 abbrev pub ReadsBefore : ℕ → List ℕ → Plan → GateValue → Type 0
 ReadsBefore outer sources plan g = (n : ℕ) → Has g.inputs n → Has sources n ⊎ ((outer ≤ n) × (n < plan.next) × (outer ≤ g.out → n < g.out))
-
--- the targets and the net that a gate drives, where it is an outer one
-abbrev pub targets_with : List ℕ → Option ℕ → List ℕ
-targets_with targets None = targets
-targets_with targets (Some n) = targets ++ n ∷ []
-
--- the given net is an outer one
-abbrev pub IsTarget : ℕ → Option ℕ → Type 0
-IsTarget outer None = Unit {0}
-IsTarget outer (Some n) = n < outer
 
 -- Outer nets are those below `outer`. Of them the gates drive the targets; each inner net is driven once.
 pub record IsWellMade (outer : ℕ) (sources targets : List ℕ) (plan : Plan) : Type 0 where

@@ -19,7 +19,8 @@ use Rattle.net_words.specs.declared.feed.FeedText.{FeedText}
 use Rattle.net_words.specs.declared.word.Role.{Role}
 use Rattle.net_words.specs.declared.word.Role.TheVariants.{Input, State, Fed, Output}
 use Rattle.net_words.specs.declared.word.WordText.{WordText}
-use Rattle.net_renumbered.specs.Renumbering.{IsBindingUnder, IsRenumbering, feed_under, latch_under, word_under}
+use Rattle.net_renumbered.specs.Renumbering.{IsRenumbering, latch_under}
+use Rattle.net_renumbered.proofs.BindingUnder.{IsBindingUnder, feed_under, word_under}
 use Rattle.net_renumbered.proofs.ListLemmas.{map_join}
 use Rattle.net_renumbered.proofs.MemberLemmas.{AreNets, FeedNets, StandOnNets, free_under, in_word_under, input_under, latch_out_under, stands_under, uncovered_under}
 use Rattle.net_renumbered.proofs.NameLemmas.{found_net}

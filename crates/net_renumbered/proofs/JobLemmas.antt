@@ -22,7 +22,8 @@ use Rattle.circuit_model.specs.Out.{IsOut}
 use Rattle.circuit_model.specs.Word.{Word}
 use Rattle.circuit_model.specs.declared.circuit_feed.CircuitFeed.{CircuitFeed}
 use Rattle.circuit_model.specs.declared.circuit_feed.FeedSource.TheVariants.{Bit as BitOf}
-use Rattle.net_renumbered.specs.Renumbering.{IsBindingUnder, IsRenumbering, feed_under, word_under}
+use Rattle.net_renumbered.specs.Renumbering.{IsRenumbering}
+use Rattle.net_renumbered.proofs.BindingUnder.{IsBindingUnder, feed_under, word_under}
 use Rattle.net_renumbered.proofs.BindingLemmas.{alone}
 use Rattle.net_renumbered.proofs.JobUnder.{job_feed_under, job_word_under}
 use Rattle.net_renumbered.proofs.ListLemmas.{map_join}
@@ -99,9 +100,9 @@ module _ (f : ℕ → ℕ) (from to : NetList) (is : IsRenumbering f from to) (i
   abbrev moved : Circuit
   moved = record { k = k; product = product; net = to; words = map (job_word_under f) (job_words_of b'.words bases); output = job_word_under f (output_word b'.words (output_basis b'.words bases)); feeds = map (job_feed_under f) (map (job_feed b'.words) b'.feeds); cycles = cycles }
 
-  is_moved : job_with k product (record { net = to; bound = b }) bases cycles ≡ moved
+  is_moved : job_with k product (record { net = to; binding = b }) bases cycles ≡ moved
   is_moved =
-      (λ i. job_with k product (record { net = to; bound = record { k = b.k; words = under.words i; feeds = under.feeds i; nets = b.nets } }) bases cycles)
+      (λ i. job_with k product (record { net = to; binding = record { k = b.k; words = under.words i; feeds = under.feeds i; nets = b.nets } }) bases cycles)
       ∙ (λ i. record { k = k; product = product; net = to; words = job_words f b'.words bases i; output = record { role = Output; nets = outputs f b'.words i; basis = basis_same f b'.words bases i }; feeds = job_feeds f b'.words b'.feeds i; cycles = cycles })
 
   feeds_low : (feed : CircuitFeed) → Has (map (job_feed b'.words) b'.feeds) feed → feed.net < nets from
@@ -113,7 +114,7 @@ module _ (f : ℕ → ℕ) (from to : NetList) (is : IsRenumbering f from to) (i
   outputs_low : AreNets from (output_bits b'.words)
   outputs_low n has = let word = output_bits_word b'.words n has in low word.0 word.1 n word.2
 
-  pub same_output : (xs : List ℕ) (e : ℕ) → IsOut (job_with k product (record { net = to; bound = b }) bases cycles) xs e → IsOut (job_with k product (record { net = from; bound = b' }) bases cycles) xs e
+  pub same_output : (xs : List ℕ) (e : ℕ) → IsOut (job_with k product (record { net = to; binding = b }) bases cycles) xs e → IsOut (job_with k product (record { net = from; binding = b' }) bases cycles) xs e
   same_output xs e out =
       let P : Circuit → Type 0 = λ c. IsOut c xs e in
       out_there f from to is inside k product cycles (job_words_of b'.words bases) (output_word b'.words (output_basis b'.words bases)) (map (job_feed b'.words) b'.feeds) (words_low from b'.words bases low) outputs_low feeds_low xs e (subst P is_moved out)

@@ -1,3 +1,4 @@
+pub mod BindingUnder
 pub mod ListLemmas
 pub mod NameLemmas
 pub mod MemberLemmas

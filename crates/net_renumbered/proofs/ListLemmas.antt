@@ -6,10 +6,6 @@ use Rattle.std.proofs.lemmas.Bool.{eq-eqb, ne_eqb}
 use Rattle.graph_core.proofs.GraphLemmas.{nat_eq_or}
 use Rattle.net_core.specs.Lists.{Has}
 
-pub map_all : {A B : Type 0} (f g : A → B) (xs : List A) → ((x : A) → Has xs x → f x ≡ g x) → map f xs ≡ map g xs
-map_all f g [] same = refl
-map_all f g (x ∷ xs) same = (λ i. same x (0, refl) i ∷ map_all f g xs (λ y has. same y (suc has.0, has.1)) i)
-
 pub map_both : {A B C : Type 0} (g : B → C) (f : A → B) (xs : List A) → map g (map f xs) ≡ map (λ x. g (f x)) xs
 map_both g f [] = refl
 map_both g f (x ∷ xs) = ap (λ (ys : List _). g (f x) ∷ ys) (map_both g f xs)

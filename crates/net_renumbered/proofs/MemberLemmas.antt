@@ -14,7 +14,8 @@ use Rattle.net_words.specs.declared.bound.BoundWord.{BoundWord}
 use Rattle.net_words.specs.declared.feed.Feed.{Feed}
 use Rattle.net_words.specs.declared.word.Role.{Role}
 use Rattle.net_words.specs.declared.word.Role.TheVariants.{Input, Output}
-use Rattle.net_renumbered.specs.Renumbering.{IsRenumbering, feed_under, gate_under, latch_under, word_under}
+use Rattle.net_renumbered.specs.Renumbering.{IsRenumbering, gate_under, latch_under}
+use Rattle.net_renumbered.proofs.BindingUnder.{feed_under, word_under}
 use Rattle.net_renumbered.proofs.ListLemmas.{any_under, equal_under}
 
 -- the numbers are nets

@@ -18,7 +18,7 @@ use Rattle.gf_basis.specs.Basis.{AreBits}
 use Rattle.circuit_model.specs.Circuit.{Circuit, IsFed, IsInNoWord}
 use Rattle.circuit_model.specs.Feeds.{source_at}
 use Rattle.circuit_model.specs.Out.{IsOut}
-use Rattle.circuit_model.specs.Run.{HasSource, HasZeros, HaveElements, IsCycle, IsFirst, IsInputWord, IsNext, IsRun, IsStart, IsStateWord}
+use Rattle.circuit_model.specs.Run.{HasSource, HasZeros, HaveElements, IsClockCycle, IsFirst, IsInputWord, IsNext, IsRun, IsStart, IsStateWord}
 use Rattle.circuit_model.specs.Word.{HasElement, Word, word_nets}
 use Rattle.circuit_model.specs.declared.circuit_feed.CircuitFeed.{CircuitFeed}
 use Rattle.circuit_model.specs.declared.circuit_feed.FeedSource.{FeedSource}
@@ -44,9 +44,6 @@ unfolding first_of
 first_at zero g m low = absurd (omega arith)
 first_at (suc n) g zero low = refl
 first_at (suc n) g (suc m) low = first_at n (λ i. g (suc i)) m (omega arith)
-
-same_some : {A : Type 0} (a b : A) → ◌≡◌ {A = Option A} (Some a) (Some b) → a ≡ b
-same_some a b e = cc
 
 word_nets_under : (f : ℕ → ℕ) (ws : List Word) → word_nets (map (job_word_under f) ws) ≡ map f (word_nets ws)
 word_nets_under f [] = refl
@@ -144,7 +141,7 @@ module _ (f : ℕ → ℕ) (from to : NetList) (is : IsRenumbering f from to) (i
   latch_there : (l : LatchValue) → Has from.latches l → Has to.latches (latch_under f l)
   latch_there l has = let P : List LatchValue → Type 0 = λ ls. Has ls (latch_under f l) in subst P (sym is.latches) (Has_map (latch_under f) from.latches l has)
 
-  cycle : (xs : List ℕ) (t : ℕ) (bits : List Bool) → IsCycle old xs t bits → IsCycle new xs t (pulled bits)
+  cycle : (xs : List ℕ) (t : ℕ) (bits : List Bool) → IsClockCycle old xs t bits → IsClockCycle new xs t (pulled bits)
   cycle xs t bits c = record { consistent = consistent bits c.consistent; inputs = input_elements xs bits c.inputs; feeds = feeds_there xs t bits c.feeds }
 
   begins : (xs : List ℕ) (bits : List Bool) → IsFirst old xs bits → IsFirst new xs (pulled bits)
@@ -176,7 +173,7 @@ module _ (f : ℕ → ℕ) (from to : NetList) (is : IsRenumbering f from to) (i
         open_run = record {
           input = record { long = open_run.input.long ∙ length-map ws (job_word_under f); elements = open_run.input.elements };
           long = length-map run pulled ∙ open_run.long;
-          each = λ t bits at. let b = from_map pulled run t bits at in let P : List Bool → Type 0 = λ bs. IsCycle new xs t bs in subst P b.2 (cycle xs t b.0 (open_run.each t b.0 b.1));
+          each = λ t bits at. let b = from_map pulled run t bits at in let P : List Bool → Type 0 = λ bs. IsClockCycle new xs t bs in subst P b.2 (cycle xs t b.0 (open_run.each t b.0 b.1));
           first = λ bits at. let b = from_map pulled run 0 bits at in let P : List Bool → Type 0 = λ bs. IsFirst new xs bs in subst P b.2 (begins xs b.0 (open_run.first b.0 b.1));
           next = λ t before bits at at'.
               let a = from_map pulled run t before at in

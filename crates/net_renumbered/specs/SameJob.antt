@@ -13,4 +13,4 @@ use Rattle.circuit_model.specs.Out.{IsOut}
 pub record IsBoundAlike (net other : NetList) (words : List WordText) (feeds : List FeedText) (first : Binding) : Type 0 where
   pub binding : Binding
   pub bound : BindingOf other words feeds (Ok binding)
-  pub outputs : (k : ℕ) (product : ℕ → ℕ → ℕ) (bases : List (List ℕ)) (cycles : ℕ) (xs : List ℕ) (e : ℕ) → IsOut (job_with k product (record { net = net; bound = first }) bases cycles) xs e → IsOut (job_with k product (record { net = other; bound = binding }) bases cycles) xs e
+  pub outputs : (k : ℕ) (product : ℕ → ℕ → ℕ) (bases : List (List ℕ)) (cycles : ℕ) (xs : List ℕ) (e : ℕ) → IsOut (job_with k product (record { net = net; binding = first }) bases cycles) xs e → IsOut (job_with k product (record { net = other; binding = binding }) bases cycles) xs e

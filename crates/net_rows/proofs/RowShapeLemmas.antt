@@ -7,7 +7,8 @@ use Rattle.graph_core.proofs.ListLemmas.{got_push, length-push, got_at}
 use Rattle.net_core.specs.Lists.{Has}
 use Rattle.net_core.proofs.DriverLemmas.{Has_cases}
 use Rattle.net_plan.specs.Plan.{Plan, each, with_and, with_xor, with_chain, chain_net}
-use Rattle.net_plan.specs.PlanShape.{CanRead, IsWellMade}
+use Rattle.net_plan.specs.PlanShape.{IsWellMade}
+use Rattle.net_plan.proofs.OuterNets.{CanRead}
 use Rattle.net_plan.proofs.EachLemmas.{each_keeps}
 use Rattle.net_plan.proofs.ShapeLemmas.{can_read_more, and_made, xor_made, chain_made, chain_grows, chain_read}
 use Rattle.net_rows.specs.Row.{Row, begun_row, with_net, row_by, next_net, and_row, xor_row}

@@ -1,7 +1,7 @@
 -- The parts of a token `NAME[DEC]`.
-use Rattle.std.proofs.Common.{◌≡◌, ◌≢◌, ◌∙◌, ap, sym, refl, inl, inr, ℕ, suc, ◌<◌, List, [], ◌∷◌, ◌++◌, length, take, drop, zero, ◌+◌, ◌-◌, ◌≤◌, Option, None, Some, subst, get_or, arith, codes, take_all, length-take}
+use Rattle.std.proofs.Common.{◌≡◌, ◌≢◌, ◌∙◌, ap, sym, refl, inl, inr, ℕ, suc, ◌<◌, List, [], ◌∷◌, ◌++◌, length, drop, ◌+◌, ◌-◌, ◌≤◌, Option, None, Some, subst, get_or, arith, codes}
 use Rattle.std.specs.Prelude.{slice_index, IfNone}
-use Rattle.std.proofs.lemmas.List.{append_cancel_right, append_assoc, length-append, length-drop, get_or-take}
+use Rattle.std.proofs.lemmas.List.{append_cancel_right, append_assoc, length-append}
 use Rattle.text_core.specs.Names.{IsName, IsNameByte}
 use Rattle.text_core.specs.Numbers.{IsDecimal}
 use Rattle.net_signature.specs.Lines.{Token}
@@ -35,10 +35,6 @@ parted (x ∷ a) b (y ∷ c) d free free' e =
 pub parted_at : (a b c d : Token) → HasNoBracket a → HasNoBracket c → a ++ codes "[" ++ b ≡ c ++ codes "[" ++ d → (a ≡ c) × (b ≡ d)
 parted_at a b c d free free' e = parted a b c d free free' (sym (append_assoc a (codes "[") b) ∙ e ∙ append_assoc c (codes "[") d)
 
--- a token that ends with `]`, and has a `[` before it
-pub around : (token front word digits : Token) → token ≡ front ++ codes "]" → front ≡ word ++ codes "[" ++ digits → token ≡ word ++ codes "[" ++ digits ++ codes "]"
-around token front word digits ends parts = ends ∙ ap (λ t. t ++ codes "]") parts
-
 -- what says a bit ends with `]`
 pub ends : (token word : Token) (place : ℕ) → SaysBit token word place → (front : Token) × (token ≡ front ++ codes "]")
 ends token word place says = (word ++ codes "[" ++ says.digits, says.token_is)
@@ -46,17 +42,6 @@ ends token word place says = (word ++ codes "[" ++ says.digits, says.token_is)
 -- what stands before the last `]`
 pub front_is : (token front word : Token) (place : ℕ) (says : SaysBit token word place) → token ≡ front ++ codes "]" → front ≡ word ++ codes "[" ++ says.digits
 front_is token front word place says e = append_cancel_right front (word ++ codes "[" ++ says.digits) (codes "]") (sym e ∙ says.token_is)
-
--- a front without `[` is of no bit
-pub bracket_in : (token front word : Token) (place : ℕ) → SaysBit token word place → token ≡ front ++ codes "]" → HasNoBracket front → ⊥
-bracket_in token front word place says e free =
-    at front word says.digits (front_is token front word place says e ∙ append_assoc word (codes "[") says.digits) free
-  where
-    at : (xs a b : List ℕ) → xs ≡ a ++ 91 ∷ b → HasNoBracket xs → ⊥
-    at [] [] b e free = let long = ap length e in absurd (omega (arith, long))
-    at [] (y ∷ a) b e free = let long = ap length e in absurd (omega (arith, long))
-    at (x ∷ xs) [] b e free = free 0 (omega arith) (ap (λ t. get_or t 0 0) e)
-    at (x ∷ xs) (y ∷ a) b e free = at xs a b (ap (drop 1) e) (λ k less. free (suc k) (omega arith))
 
 -- the parts of a token that says a bit
 pub parts_are : (token front word digits name : Token) (place : ℕ) (says : SaysBit token name place) → token ≡ front ++ codes "]" → front ≡ word ++ codes "[" ++ digits → HasNoBracket word → (word ≡ name) × (digits ≡ says.digits)
@@ -73,24 +58,6 @@ one_byte b word place says =
     let some = says.is_name.some in
     absurd (omega (arith, long, front, back, start, some))
 
--- a token with a `[` at a place
-pub split_at : (xs : List ℕ) (i : ℕ) → i < length xs → get_or xs i 0 ≡ 91 → xs ≡ take i xs ++ codes "[" ++ take (length xs - (i + 1)) (drop (i + 1) xs)
-split_at xs i less is =
-    let long : length (drop (i + 1) xs) ≡ length xs - (i + 1) = length-drop (i + 1) xs in
-    at xs i less is ∙ ap (λ rest. take i xs ++ codes "[" ++ rest) (sym (take_all (length xs - (i + 1)) (drop (i + 1) xs) (omega (arith, long))))
-  where
-    at : (xs : List ℕ) (i : ℕ) → i < length xs → get_or xs i 0 ≡ 91 → xs ≡ take i xs ++ codes "[" ++ drop (i + 1) xs
-    at [] i less is = absurd (omega arith)
-    at (x ∷ xs) zero less is = ap (λ b. b ∷ xs) is
-    at (x ∷ xs) (suc i) less is = let next : suc i + 1 ≡ suc (i + 1) = omega arith in rw next (ap (λ rest. x ∷ rest) (at xs i (omega arith) is))
-
--- no `[` stands before the first
-pub before_first : (xs : List ℕ) (i : ℕ) → i < length xs → ((k : ℕ) → k < i → get_or xs k 0 ≡ 91 → ⊥) → HasNoBracket (take i xs)
-before_first xs i less none k within same =
-    let long = length-take i xs in
-    let below : k < i = omega (arith, long, within) in
-    none k below (sym (get_or-take i xs k 0 below) ∙ same)
-
 -- a name and a place that are not there are not in the token either
 pub no_bit : (token front word digits : Token) → token ≡ front ++ codes "]" → front ≡ word ++ codes "[" ++ digits → HasNoBracket word → ((place : ℕ) → IsName word → IsDecimal digits place → place ≤ 63 → ⊥) → (name : Token) (place : ℕ) → SaysBit token name place → ⊥
 no_bit token front word digits ends parts free none name place says =
@@ -98,9 +65,6 @@ no_bit token front word digits ends parts free none name place says =
     let P : Token → Type 0 = λ t. IsName t in
     let Q : Token → Type 0 = λ t. IsDecimal t place in
     none place (subst P (sym are.0) says.is_name) (subst Q (sym are.1) says.is_place) says.within
-
-pub bit_is : (token front word digits : Token) (place : ℕ) → token ≡ front ++ codes "]" → front ≡ word ++ codes "[" ++ digits → IsName word → IsDecimal digits place → place ≤ 63 → SaysBit token word place
-bit_is token front word digits place ends parts name number within = record { digits = digits; token_is = around token front word digits ends parts; is_name = name; is_place = number; within = within }
 
 pub if_none : {X P Q : Type 0} (r : Option X) → (P → Q) → IfNone r P → IfNone r Q
 if_none (Some x) f h = h

@@ -47,9 +47,6 @@ pub lines_read : (body more : BodyValue) (line : Line) (lines : List Line) (all 
 lines_read body more line lines all (Ok end) is first rest = let P : List Line → Type 0 = λ ls. Reads body ls (Ok end) in subst P (sym is) (more, first, rest)
 lines_read body more line lines all (Err fault) is first rest = let P : List Line → Type 0 = λ ls. Reads body ls (Err fault) in subst P (sym is) (inr (more, first, rest))
 
-pub lines_fail : (body : BodyValue) (line : Line) (lines : List Line) (all : List Line) (fault : SigFault) → all ≡ line ∷ lines → Fits same_body (Err fault) (ReadsLine body line) → Fits same_body (Err fault) (Reads body all)
-lines_fail body line lines all fault is fits = let P : List Line → Type 0 = λ ls. Fits same_body (Err fault) (Reads body ls) in subst P (sym is) (fits_first same_body same_body fault (ReadsLine body line) (λ more. Reads more lines) fits)
-
 -- a block that begins, where no other is of its model
 pub begins : (body : BodyValue) (line : ℕ) (model : List ℕ) (blocks : List BlockValue) → blocks ≡ blocks_of body → list_any (λ (block : BlockValue). bytes_eq block.model model) blocks ≡ false → ◌≡◌ {A = Result BodyValue SigFault} (Ok (record body { blocks = blocks; block = Some (record { model = model; words = [] }) })) (block_begun body line model)
 begins body line model blocks are none =

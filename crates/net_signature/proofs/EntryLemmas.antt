@@ -1,5 +1,5 @@
 -- What a line says, kind by kind.
-use Rattle.std.proofs.Common.{◌≡◌, ◌∙◌, ap, sym, refl, subst, ℕ, ◌≤◌, ◌-◌, List, [], ◌∷◌, length, map, take, drop, get_or, arith, Result, Err, codes}
+use Rattle.std.proofs.Common.{◌≡◌, ◌∙◌, ap, sym, refl, ℕ, ◌≤◌, ◌-◌, List, [], ◌∷◌, length, map, take, drop, get_or, arith, Result, Err, codes}
 use Rattle.net_words.specs.declared.word.WordText.{WordText}
 use Rattle.net_signature.specs.Lines.{Token, Line}
 use Rattle.net_signature.specs.Statement.{SaysWord, SaysFeed, SaysBlock, SaysEntry}
@@ -64,16 +64,6 @@ module _ (fault : SigFault) (line : ℕ) (rest : List Token) where
 
   pub block_err : Fits {X = List ℕ} (λ model. model) (Err fault) (OrSyntax line (SaysBlock (codes "block" ∷ rest))) → Fits same_entry (Err fault) (OrSyntax line (SaysEntry (line_with line (codes "block") rest)))
   block_err fits = syntax_moves {X = List ℕ} {Y = Entry} (λ model. model) same_entry line (SaysBlock (codes "block" ∷ rest)) (SaysEntry (line_with line (codes "block") rest)) fault (block_back line rest) fits
-
--- the keyword is this one
-pub by_keyword : (line : ℕ) (keyword known : Token) (rest : List Token) (result : Result Entry SigFault) → keyword ≡ known → Fits same_entry result (OrSyntax line (SaysEntry (line_with line known rest))) → Fits same_entry result (OrSyntax line (SaysEntry (line_with line keyword rest)))
-by_keyword line keyword known rest result key fits = let P : Token → Type 0 = λ k. Fits same_entry result (OrSyntax line (SaysEntry (line_with line k rest))) in subst P (sym key) fits
-
--- a line of another keyword says nothing
-pub no_entry : (line : ℕ) (keyword : Token) (rest : List Token) → (keyword ≡ codes "word" → ⊥) → (keyword ≡ codes "feed" → ⊥) → (keyword ≡ codes "block" → ⊥) → (said : Entry) → SaysEntry (line_with line keyword rest) said → ⊥
-no_entry line keyword rest word feed block (Word w) says = word (ap (λ ts. get_or ts 0 []) says.0.tokens_are)
-no_entry line keyword rest word feed block (Feed f) says = feed (ap (λ ts. get_or ts 0 []) says.tokens_are)
-no_entry line keyword rest word feed block (Block m) says = block (ap (λ ts. get_or ts 0 []) says.0)
 
 -- the line says an entry alone by its tokens
 pub more_tokens : {C : Type 0} (f : C → Token) (xs : List C) (d : C) (line : ℕ) (result : Result Entry SigFault) → 1 ≤ length xs → Fits same_entry result (OrSyntax line (SaysEntry (line_with line (f (get_or xs 0 d)) (map f (take (length xs - 1) (drop 1 xs)))))) → Fits same_entry result (OrSyntax line (SaysEntry (record { number = line; tokens = map f xs })))

@@ -7,6 +7,7 @@ use Rattle.std.proofs.lemmas.Bool.{eqb-true, true≢false}
 use Rattle.std.proofs.lemmas.Bool.Decides.{nat_tests}
 use Rattle.std.proofs.lemmas.Slice.Eq.{bytes_eq-Decides}
 use Rattle.std.proofs.lemmas.Slice.Zip.{AllZip-long}
+use Rattle.graph_core.proofs.GeneralLemmas.{second_true as both_true}
 use Rattle.net_words.specs.Feeds.{AreFeeds, IsSource}
 use Rattle.net_words.specs.Roles.{same_role}
 use Rattle.net_words.specs.declared.feed.Source.{Source}
@@ -50,10 +51,6 @@ fed_role role.Input e = absurd (cc)
 fed_role role.State e = absurd (cc)
 fed_role role.Fed e = refl
 fed_role role.Output e = absurd (cc)
-
-both_true : (a b : Bool) → (a && b) ≡ true → b ≡ true
-both_true true b e = e
-both_true false b e = absurd (cc)
 
 -- the word that is found is fed
 fed_found : (n : ℕ) (words : List WordText) (name : List ℕ) (m : ℕ) → fed_word n words name ≡ Some m → (i : ℕ) × (m ≡ n + i) × (slice_get (roles words) i ≡ Some role.Fed)

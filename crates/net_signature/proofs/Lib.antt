@@ -1,4 +1,3 @@
-pub mod LineLemmas
 pub mod BasisLemmas
 pub mod ReaderLemmas
 pub mod WordLemmas

@@ -14,9 +14,6 @@ use Rattle.net_signature.proofs.ReaderLemmas.{syntax_moves}
 abbrev pub same_word : WordText → WordText
 same_word word = word
 
-abbrev pub same_names : List Token → List Token
-same_names names = names
-
 abbrev pub same_basis : BasisText → BasisText
 same_basis basis = basis
 
@@ -46,14 +43,8 @@ module _ (line : ℕ) (name role basis : Token) (nets : List Token) where
   basis_of : (word : WordText) → IsWord line tokens word → (b : BasisText) × SaysBasis basis b
   basis_of word says = (word.basis, let P : Token → Type 0 = λ t. SaysBasis t word.basis in subst P (sym (ap (λ ts. get_or ts 3 []) says.0.tokens_are)) says.0.is_basis)
 
-  nets_of : (word : WordText) → IsWord line tokens word → (names : List Token) × ((names ≡ nets) × All IsNetToken names)
-  nets_of word says = (word.nets, (sym (ap (drop 4) says.0.tokens_are), says.0.are_nets))
-
   pub basis_err : (fault : SigFault) → Fits same_basis (Err fault) (OrSyntax line (SaysBasis basis)) → Fits same_word (Err fault) (OrSyntax line (IsWord line tokens))
   basis_err fault fits = syntax_moves same_basis same_word line (SaysBasis basis) (IsWord line tokens) fault basis_of fits
-
-  pub nets_err : (fault : SigFault) → Fits same_names (Err fault) (OrSyntax line (λ names. (names ≡ nets) × All IsNetToken names)) → Fits same_word (Err fault) (OrSyntax line (IsWord line tokens))
-  nets_err fault fits = syntax_moves same_names same_word line (λ names. (names ≡ nets) × All IsNetToken names) (IsWord line tokens) fault nets_of fits
 
   pub word_ok : (word : WordText) → word.line ≡ line → word.name ≡ name → IsName name → SaysRole role word.role → SaysBasis basis word.basis → IsNetCount word.role (length nets) → (word.nets ≡ nets) × All IsNetToken word.nets → IsWord line tokens word
   word_ok word place called is_name is_role is_basis some are =

@@ -13,10 +13,9 @@ use crate::lines::Lines;
 use crate::signature::Signature;
 use crate::version::Version;
 use crate::words::has_output;
-use net_core::{Name, Numbers};
+use net_core::{Name, Numbers, key_of};
 use net_words::WordText;
 use std::alloc::Global;
-use std::hash::{DefaultHasher, Hasher};
 
 /// The signature of a text of at most 67,108,864 bytes, or its first fault: line by line Syntax, NameTwice, NoFedWord,
 /// FeedTwice, TwoOutputs and TooManyWords, and after the last line NoOutput, of the top and then of the first block.
@@ -26,13 +25,6 @@ pub fn read_signature(alloc: Global, bytes: &[u8]) -> Result<Signature, SigFault
 {
     let mut lines = Lines::new(alloc, bytes);
     read_lines(alloc, &mut lines, key_of(bytes))
-}
-
-// The key of a text, which is not known before the text is.
-fn key_of(text: &[u8]) -> u64 {
-    let mut state = DefaultHasher::new();
-    state.write(text);
-    state.finish()
 }
 
 // The signature of the lines that are left.

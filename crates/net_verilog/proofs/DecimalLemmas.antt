@@ -1,25 +1,13 @@
 -- Decimal digits.
-use Rattle.std.proofs.Common.{◌≡◌, ap, refl, inl, ℕ, zero, suc, ◌<◌, ◌≤◌, ◌&&◌, Bool, true, false, List, [], ◌∷◌, length, get_or, None, Some, arith}
+use Rattle.std.proofs.Common.{◌≡◌, refl, inl, ℕ, zero, suc, ◌<◌, ◌≤◌, Bool, true, false, List, [], ◌∷◌, length, get_or, None, Some, arith}
 use Rattle.std.specs.Prelude.{nat_le, if◌then◌else◌}
 use Rattle.std.specs.List.{list_all}
-use Rattle.std.proofs.lemmas.Bool.{le-leb, leb-true, lt-ltb, ltb-true}
+use Rattle.std.proofs.lemmas.Bool.{leb-true, lt-ltb, ltb-true}
 use Rattle.text_core.specs.Numbers.{IsDecimal, IsDigit, value_of}
+use Rattle.graph_core.proofs.GeneralLemmas.{first_true as one, second_true as other}
 use Rattle.net_verilog.specs.Bytes.{is_digit}
 use Rattle.net_verilog.specs.Words.{is_decimal}
 use Rattle.net_verilog.specs.private.Decimals.{short}
-
-both : (a b : Bool) → a ≡ true → b ≡ true → (a && b) ≡ true
-both true true x y = refl
-both true false x y = absurd (cc)
-both false b x y = absurd (cc)
-
-one : (a b : Bool) → (a && b) ≡ true → a ≡ true
-one true b x = refl
-one false b x = absurd (cc)
-
-other : (a b : Bool) → (a && b) ≡ true → b ≡ true
-other true b x = x
-other false b x = absurd (cc)
 
 is_is_digit : (b : ℕ) → is_digit b ≡ true → IsDigit 10 b
 is_is_digit b is =
@@ -38,12 +26,6 @@ each_digit (b ∷ bs) all (suc k) less = each_digit bs (other _ _ all) k (omega 
 -- decimal digits have their value
 pub decimal_digits : (word : List ℕ) → is_decimal word ≡ true → IsDecimal word (value_of 10 word)
 decimal_digits word is = ((ltb-true 0 (length word) (one _ _ is), each_digit word (other _ _ is)), refl)
-
--- a value that was found is short
-pub short_found : (word : List ℕ) (n : ℕ) → IsDecimal word n → n ≤ 4294967295 → Some n ≡ short (value_of 10 word)
-short_found word n (digits, value) few =
-    let few' : value_of 10 word ≤ 4294967295 = omega (arith, value, few) in
-    rw (le-leb (value_of 10 word) 4294967295 few') (ap Some value)
 
 -- where none was found, the value is not short
 pub short_none : (word : List ℕ) → is_decimal word ≡ true → ((n : ℕ) → IsDecimal word n → n ≤ 4294967295 → ⊥) → None ≡ short (value_of 10 word)

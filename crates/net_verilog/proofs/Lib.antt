@@ -1,6 +1,6 @@
+pub mod Reduction
 pub mod TokenLemmas
 pub mod PieceLemmas
-pub mod KindLemmas
 pub mod OpenLemmas
 pub mod GateLemmas
 pub mod StandLemmas

@@ -11,7 +11,7 @@ use Rattle.net_verilog.specs.Tree.{Tree, Net, Literal, Group, Not, Binary, IsWel
 use Rattle.net_verilog.specs.Made.{on_value, Making, mentioned, made, settled}
 use Rattle.net_verilog.specs.Expression.{binding, binding_at}
 use Rattle.net_verilog.specs.Declarations.{Declarations}
-use Rattle.net_verilog.specs.private.Steps.{count_open, reduced}
+use Rattle.net_verilog.specs.private.Steps.{count_open}
 use Rattle.net_verilog.specs.private.Standing.{allows}
 use Rattle.net_verilog.specs.declared.kind.Kind.{Kind}
 use Rattle.net_verilog.specs.declared.kind.Kind.TheVariants as kinds
@@ -23,6 +23,7 @@ use Rattle.net_verilog.specs.declared.operator.Frame.TheVariants as frames
 use Rattle.net_verilog.specs.declared.operator.Start.TheVariants as starts
 use Rattle.net_verilog.specs.declared.operator.Next.TheVariants as nexts
 use Rattle.net_verilog.specs.declared.fault.VerilogFault.TheVariants as faults
+use Rattle.net_verilog.proofs.Reduction.{reduced}
 use Rattle.net_verilog.proofs.StandLemmas.{level_few, loose_some}
 use Rattle.net_verilog.proofs.SpotLemmas.{Out, Spot, Want, Have, Leads, after, mention_move, target_move, open_move, start_move, want, left_move, next_move, reduced_move, move, stepped, stopped, moved_alike}
 

@@ -9,7 +9,7 @@ use Rattle.net_verilog.specs.Targets.{Answer, target_of}
 use Rattle.net_verilog.specs.Made.{mentioned, settled}
 use Rattle.net_verilog.specs.Expression.{Read, binding_at}
 use Rattle.net_verilog.specs.Declarations.{Declarations}
-use Rattle.net_verilog.specs.private.Steps.{Reduced, count_open, reduced}
+use Rattle.net_verilog.specs.private.Steps.{count_open}
 use Rattle.net_verilog.specs.declared.operator.Operator.{Operator}
 use Rattle.net_verilog.specs.declared.operator.Driver.{Driver}
 use Rattle.net_verilog.specs.declared.operator.Driver.TheVariants as drivers
@@ -21,6 +21,7 @@ use Rattle.net_verilog.specs.declared.operator.Next.{Next}
 use Rattle.net_verilog.specs.declared.operator.Next.TheVariants as nexts
 use Rattle.net_verilog.specs.declared.fault.VerilogFault.{VerilogFault}
 use Rattle.net_verilog.specs.declared.fault.VerilogFault.TheVariants as faults
+use Rattle.net_verilog.proofs.Reduction.{Reduced, reduced}
 
 -- what comes of an expression
 abbrev pub Out : Type 0

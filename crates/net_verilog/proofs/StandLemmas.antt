@@ -35,10 +35,6 @@ level_few (Group inner) = omega arith
 level_few (Not line inner) = omega arith
 level_few (Binary line o left right) = (loose_some o).1
 
--- at the beginning
-pub begin_standing : (declared : Declarations) (start : NetList) (tokens : List TokenValue) → Standing declared start tokens start [] tokens
-begin_standing declared start tokens = record { cuts = []; begins = refl; well = tt; opens = refl }
-
 -- `(` and `~`
 pub push_group : (declared : Declarations) (start : NetList) (tokens : List TokenValue) (net : NetList) (stack : List Frame) (t : TokenValue) (ts : List TokenValue) → Standing declared start tokens net stack (t ∷ ts) → start_of t ≡ starts.Group → count_open stack < 1024 → Standing declared start tokens net (frames.Group ∷ stack) ts
 push_group declared start tokens net stack t ts s is few =

@@ -4,7 +4,7 @@ use Rattle.std.specs.Prelude.{nat_le}
 use Rattle.std.proofs.lemmas.Bool.{le-leb}
 use Rattle.net_core.specs.NetList.{NetList, nets}
 use Rattle.net_verilog.specs.Tokens.{TokenValue}
-use Rattle.net_verilog.specs.Words.{start_of, wrong}
+use Rattle.net_verilog.specs.Words.{start_of}
 use Rattle.net_verilog.specs.Targets.{target_of}
 use Rattle.net_verilog.specs.Tree.{looseness}
 use Rattle.net_verilog.specs.Made.{mentioned, settled}
@@ -104,10 +104,6 @@ module _ (declared : Declarations) (net : NetList) (old : List Frame) (here : Li
       deep : (b : Bool) → nat_le 1024 (count_open old) ≡ b → open_fault (count_open old) t ≡ Some (faults.LeftOut t.line t.text)
       deep true f = rw f refl
       deep false f = absurd (le-false f)
-
-  pub wrong_here : (fault : VerilogFault) → start_of t ≡ starts.Other → (fault ≡ faults.OutOfMemory) ⊎ (fault ≡ wrong t) → (fault ≡ faults.OutOfMemory) ⊎ ((start : NetList) → (tokens : List TokenValue) → Standing declared start tokens net old here → Expression declared start tokens (Err fault))
-  wrong_here fault is (inl e) = inl e
-  wrong_here fault is (inr e) = inr (fault_here fault (ap (λ k. start_fault declared (count_open old) k t ts) is ∙ ap Some (sym e)))
 
   pub target_wrong : (fault : VerilogFault) → start_of t ≡ starts.Target → (fault ≡ faults.OutOfMemory) ⊎ (target_of declared here ≡ Err fault) → (fault ≡ faults.OutOfMemory) ⊎ ((start : NetList) → (tokens : List TokenValue) → Standing declared start tokens net old here → Expression declared start tokens (Err fault))
   target_wrong fault is (inl e) = inl e

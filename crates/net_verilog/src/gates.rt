@@ -1,5 +1,5 @@
 //! Nets and gates of expressions.
-ghost use Rattle.std.specs.Prelude.{◌≡◌, ◌⊎◌, ◌<◌, ◌≤◌, ◌^◌, [], Ok, Err, All, IfOk, IfErr, length, OnOk};
+ghost use Rattle.std.specs.Prelude.{◌≡◌, ◌⊎◌, ◌<◌, ◌≤◌, ◌^◌, Ok, Err, All, IfOk, IfErr, length, OnOk};
 ghost use Rattle.net_core.specs.NetList.{nets};
 ghost use Rattle.net_verilog.specs.Made.{driven, fresh_driven, mentioned as mentioned_net, operator_table as table_that, settled, with_gate_of};
 ghost use Rattle.net_verilog.specs.private.Gates.{IsDriverOn, IsRefused};
@@ -9,8 +9,8 @@ use crate::{Driver, Operator, VerilogFault};
 use net_core::{NetFault, NetMaker};
 use std::alloc::Global;
 
-// A fault of nets, or want of memory.
-fn fault_of(fault: NetFault) -> VerilogFault
+/// A fault of nets, or want of memory.
+pub fn fault_of(fault: NetFault) -> VerilogFault
     ensures { ((fault ≡ NetFault.OutOfMemory) × (result ≡ VerilogFault.OutOfMemory)) ⊎ (¬ (fault ≡ NetFault.OutOfMemory) × (result ≡ VerilogFault.Net fault)) }
 {
     match fault {

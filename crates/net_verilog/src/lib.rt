@@ -30,7 +30,7 @@ pub use declared::{Declared, Direction};
 pub use expression::read_expression;
 pub use fault::VerilogFault;
 pub use gate_kind::{GateKind, fits, gate_of, gate_table};
-pub use gates::{drive, mentioned, settle};
+pub use gates::{drive, fault_of, mentioned, settle};
 pub use inputs::read_inputs;
 pub use instance::read_instance;
 pub use kind::Kind;

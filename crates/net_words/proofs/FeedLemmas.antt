@@ -1,10 +1,11 @@
 -- What comes of binding feeds.
-use Rattle.std.proofs.Common.{◌≡◌, ◌∙◌, ap, sym, refl, ⊎_elim, subst, append_assoc, ℕ, zero, suc, ◌≤◌, ◌+◌, ◌==◌, ◌&&◌, not, List, [], ◌∷◌, ◌++◌, map, Bool, true, false, cond, Option, Some, None, Result, Ok, Err, arith, append-nil}
+use Rattle.std.proofs.Common.{◌≡◌, ◌∙◌, ap, sym, refl, ⊎_elim, subst, append_assoc, ℕ, zero, suc, ◌≤◌, ◌+◌, ◌==◌, ◌&&◌, not, List, [], ◌∷◌, ◌++◌, map, true, false, cond, Option, Some, None, Result, Ok, Err, arith, append-nil}
 use Rattle.std.specs.Prelude.{slice_get}
 use Rattle.std.specs.Str.{bytes_eq}
 use Rattle.std.proofs.lemmas.Bool.{true≢false}
 use Rattle.std.proofs.lemmas.Bool.Decides.{eqb_tells}
 use Rattle.std.proofs.lemmas.Slice.Eq.{bytes_eq-Decides}
+use Rattle.graph_core.proofs.GeneralLemmas.{first_true as and_left, second_true as and_right, not_true}
 use Rattle.net_core.specs.Lists.{Has}
 use Rattle.net_core.specs.NetList.{NetList, LabelValue, is_named, number_from, number_of}
 use Rattle.net_core.proofs.DriverLemmas.{Has_map}
@@ -20,18 +21,6 @@ use Rattle.net_words.specs.declared.feed.FeedText.{FeedText}
 use Rattle.net_words.specs.declared.feed.Source.{Source}
 use Rattle.net_words.specs.declared.word.Role.TheVariants.{Input}
 use Rattle.net_words.proofs.MemberLemmas.{has_any, stands_has}
-
-and_left : (a b : Bool) → (a && b) ≡ true → a ≡ true
-and_left true b e = refl
-and_left false b e = absurd (cc)
-
-and_right : (a b : Bool) → (a && b) ≡ true → b ≡ true
-and_right true b e = e
-and_right false b e = absurd (cc)
-
-not_true : (b : Bool) → not b ≡ true → b ≡ false
-not_true true e = absurd (cc)
-not_true false e = refl
 
 -- a number that is found is one of those from n on
 number_past : (n : ℕ) (labels : List LabelValue) (name : List ℕ) (k : ℕ) → number_from n labels name ≡ Some k → n ≤ k

@@ -1,10 +1,11 @@
 -- Bindings of one cycle: those that `bind` gives where nothing is left to unroll, and those on other nets.
-use Rattle.std.proofs.Common.{◌≡◌, ◌∙◌, ap, sym, refl, inl, inr, ⊎_elim, subst, ℕ, zero, suc, ◌<◌, ◌≤◌, ◌+◌, ◌*◌, List, [], ◌∷◌, ◌++◌, length, map, take, drop, filter, not, cond, true, false, Bool, Some, get_or, arith, All, mul-suc, mul-le-mul_left, append-nil, append_assoc, drop_of_length-le}
+use Rattle.std.proofs.Common.{◌≡◌, ◌∙◌, ap, sym, refl, inl, inr, ⊎_elim, subst, ℕ, zero, suc, ◌<◌, ◌≤◌, ◌+◌, ◌*◌, List, [], ◌∷◌, ◌++◌, length, map, take, drop, filter, not, cond, true, false, Bool, Some, get_or, arith, All, mul-suc, append-nil, append_assoc, drop_of_length-le}
 use Rattle.std.specs.Prelude.{◌↔◌, IsTrue, slice_get}
 use Rattle.std.proofs.lemmas.Bool.{cases_lt, true≢false}
 use Rattle.std.proofs.lemmas.List.{drop_more}
 use Rattle.std.proofs.lemmas.Option.{slice_get-get_or}
 use Rattle.graph_core.specs.Walk.{IsChain}
+use Rattle.graph_core.proofs.GeneralLemmas.{taken_long as long_front, none_at}
 use Rattle.net_core.specs.Lists.{Has}
 use Rattle.net_core.specs.LatchValue.{LatchValue}
 use Rattle.net_core.specs.NetList.{NetList, nets}
@@ -22,9 +23,6 @@ use Rattle.net_words.specs.declared.feed.Feed.{Feed}
 use Rattle.net_words.specs.declared.word.Role.{Role}
 use Rattle.net_words.specs.declared.word.Role.TheVariants.{Input, State, Fed, Output}
 use Rattle.net_words.proofs.MemberLemmas.{bits_word, output_bits_word}
-
-none_at : {X : Type 0} (x : X) → Has [] x → ⊥
-none_at x has = let got = has.1 in absurd (cc)
 
 -- without latches a word that is not the output word stands on primary inputs
 stands_input : (net : NetList) (role : Role) (n : ℕ) → net.latches ≡ [] → same_role role Output ≡ false → StandsOn net role n → Has net.inputs n
@@ -63,11 +61,6 @@ rebound_filter p k [] list = refl
 rebound_filter p k (word ∷ words) list =
     let rest : length (filter (λ (w : BoundWord). p w.role) (rebound k words (drop k list))) ≡ length (filter (λ (w : BoundWord). p w.role) words) = rebound_filter p k words (drop k list) in
     elim (p word.role) as (λ b. length (cond b (record { name = word.name; role = word.role; nets = take k list } ∷ filter (λ (w : BoundWord). p w.role) (rebound k words (drop k list))) (filter (λ (w : BoundWord). p w.role) (rebound k words (drop k list)))) ≡ length (cond b (word ∷ filter (λ (w : BoundWord). p w.role) words) (filter (λ (w : BoundWord). p w.role) words))) [ true ↦ ap suc rest | false ↦ rest ]
-
-long_front : (k : ℕ) (list : List ℕ) → k ≤ length list → length (take k list) ≡ k
-long_front zero list less = refl
-long_front (suc k) [] less = absurd (omega arith)
-long_front (suc k) (x ∷ xs) less = ap suc (long_front k xs (omega arith))
 
 long_rest : (k m : ℕ) (list : List ℕ) → length list ≡ k + m → length (drop k list) ≡ m
 long_rest zero m list long = omega (arith, long)
@@ -151,10 +144,6 @@ has_no_nets k words w b less tells is all =
     some_word [] i l = absurd (omega arith)
     some_word (x ∷ xs) zero l = (x, refl)
     some_word (x ∷ xs) (suc i) l = some_word xs i (omega arith)
-
--- a part of k numbers is within the list
-pub part_within : (k w n : ℕ) → w < n → k * w + k ≤ k * n
-part_within k w n less = let more : k * suc w ≤ k * n = mul-le-mul_left {m = suc w} {n = n} k (omega arith) in omega (arith, more, mul-suc k w)
 
 drop_drop : (a b : ℕ) (list : List ℕ) → drop a (drop b list) ≡ drop (b + a) list
 drop_drop a zero list = ap (λ n. drop n list) (omega arith)

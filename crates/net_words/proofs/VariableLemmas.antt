@@ -1,10 +1,10 @@
 -- The order of variables, while it is made.
-use Rattle.std.proofs.Common.{◌≡◌, ◌∙◌, ap, sym, refl, inl, inr, subst, ℕ, zero, suc, ◌<◌, ◌≤◌, ◌+◌, ◌*◌, ◌^◌, ◌==◌, ◌||◌, List, [], ◌∷◌, ◌++◌, length, drop, get_or, filter, Bool, true, false, not, cond, arith, below_more, eq-eqb, All}
+use Rattle.std.proofs.Common.{◌≡◌, ◌∙◌, ap, sym, refl, inl, inr, subst, ℕ, zero, suc, ◌<◌, ◌≤◌, ◌+◌, ◌*◌, ◌^◌, ◌==◌, ◌||◌, List, [], ◌∷◌, ◌++◌, length, get_or, filter, Bool, true, false, not, cond, arith, All}
 use Rattle.std.proofs.lemmas.Bool.{eqb-true}
-use Rattle.std.proofs.lemmas.List.{drop_more}
 use Rattle.std.proofs.lemmas.List.Elements.{filter-append}
 use Rattle.std.proofs.lemmas.List.FromFn.{length-range_with_len, get_or-range_with_len}
 use Rattle.std.specs.List.{range_with_len}
+use Rattle.graph_core.proofs.GeneralLemmas.{range_more}
 use Rattle.net_words.specs.Binding.{Binding, HasWidth, IsBinding}
 use Rattle.net_words.specs.Roles.{same_role, stands_in}
 use Rattle.net_words.specs.Variables.{bits, bits_with, others, variables, IsRanked}
@@ -16,17 +16,6 @@ join : {A : Type 0} (xs ys zs : List A) → (xs ++ ys) ++ zs ≡ xs ++ (ys ++ zs
 join [] ys zs = refl
 join (x ∷ xs) ys zs = ap (λ rest. x ∷ rest) (join xs ys zs)
 
--- the bits of one more word
-pub bits_step : (words : List BoundWord) (i : ℕ) (d : BoundWord) (list new whole : List ℕ) → i < length words → new ≡ list ++ bits_with (get_or words i d).role (get_or words i d).nets → list ++ bits (drop i words) ≡ whole → new ++ bits (drop (i + 1) words) ≡ whole
-bits_step words i d list new whole less is same =
-    let word : BoundWord = get_or words i d in
-    ap (λ xs. xs ++ bits (drop (i + 1) words)) is ∙ join list (bits_with word.role word.nets) (bits (drop (i + 1) words)) ∙ ap (λ ws. list ++ bits ws) (sym (drop_more words i d less)) ∙ same
-
--- a range with one more number
-pub range_more : (a n : ℕ) → range_with_len a (suc n) ≡ range_with_len a n ++ (a + n) ∷ []
-range_more a zero = ap (λ m. m ∷ []) (omega arith)
-range_more a (suc n) = ap (λ xs. a ∷ xs) (range_more (a + 1) n ∙ ap (λ m. range_with_len (a + 1) n ++ m ∷ []) (omega arith))
-
 -- one more net that may be none of the bits
 pub others_step : (list order new : List ℕ) (n : ℕ) (b : Bool) → b ≡ stands_in list n → order ≡ list ++ others n list → new ≡ order ++ cond (not b) (n ∷ []) [] → new ≡ list ++ others (n + 1) list
 others_step list order new n b is old more =
@@ -37,24 +26,6 @@ others_step list order new n b is old more =
 -- the nets of the first places have ranks
 abbrev pub AreRanked : ℕ → List ℕ → List ℕ → ℕ → Type 0
 AreRanked count order ranks i = (j : ℕ) → j < i → get_or order j 0 < count → IsRanked order (get_or ranks (get_or order j 0) 0) (get_or order j 0)
-
-pub rank_step : (count : ℕ) (order ranks new : List ℕ) (i : ℕ) → i < length order → ((n : ℕ) → n < count → get_or new n 0 ≡ cond (n == get_or order i 0) i (get_or ranks n 0)) → AreRanked count order ranks i → AreRanked count order new (i + 1)
-rank_step count order ranks new i less set old =
-    below_more _ _ (λ j below small. by (get_or order j 0) small (old j below small)) (λ small. same (get_or order i 0) small refl)
-  where
-    same : (n : ℕ) → n < count → get_or order i 0 ≡ n → IsRanked order (get_or new n 0) n
-    same n small is =
-        let found : get_or new n 0 ≡ i = set n small ∙ ap (λ b. cond b i (get_or ranks n 0)) (eq-eqb n (get_or order i 0) (sym is)) in
-        let P : ℕ → Type 0 = λ r. IsRanked order r n in
-        subst P (sym found) (less, is)
-
-    by : (n : ℕ) → n < count → IsRanked order (get_or ranks n 0) n → IsRanked order (get_or new n 0) n
-    by n small was =
-        let P : ℕ → Type 0 = λ r. IsRanked order r n in
-        elim (n == get_or order i 0) as (λ b. (n == get_or order i 0) ≡ b → IsRanked order (get_or new n 0) n) [
-          | true ↦ λ e. same n small (sym (eqb-true n (get_or order i 0) e))
-          | false ↦ λ e. subst P (sym (set n small ∙ ap (λ b. cond b i (get_or ranks n 0)) e)) was
-        ] refl
 
 -- the number stands at some place
 abbrev At : List ℕ → ℕ → Type 0

@@ -1,7 +1,8 @@
 -- Lists that go together place by place, while they grow.
-use Rattle.std.proofs.Common.{◌≡◌, ◌∙◌, ap, sym, refl, subst, ℕ, zero, suc, ◌<◌, ◌≤◌, ◌+◌, List, [], ◌∷◌, ◌++◌, length, map, take, get_or, arith, add-one, All, take_all}
+use Rattle.std.proofs.Common.{◌≡◌, ◌∙◌, ap, sym, refl, subst, ℕ, zero, suc, ◌<◌, ◌+◌, List, [], ◌∷◌, ◌++◌, length, map, take, get_or, arith, add-one, All}
 use Rattle.std.proofs.Math.Seq.{take-suc}
 use Rattle.std.specs.List.{AllZip}
+use Rattle.graph_core.proofs.GeneralLemmas.{map_push as map-push}
 
 -- at each place of the first list there is a partner
 pub zip-at : {A B C : Type 0} (R : A → B → Type 0) (f : C → A) (xs : List C) (ys : List B) (i : ℕ) (d : C) → AllZip R (map f xs) ys → i < length xs → (y : B) × R (f (get_or xs i d)) y
@@ -27,25 +28,14 @@ all-push P [] x all one (suc k) d less = absurd (omega arith)
 all-push P (y ∷ ys) x all one zero d less = all 0 d (omega arith)
 all-push P (y ∷ ys) x all one (suc k) d less = all-push P ys x (λ j e below. all (suc j) e (omega arith)) one k d (omega arith)
 
-map-push : {A B : Type 0} (f : A → B) (xs : List A) (x : A) → map f (xs ++ x ∷ []) ≡ map f xs ++ f x ∷ []
-map-push f [] x = refl
-map-push f (y ∷ ys) x = ap (λ zs. f y ∷ zs) (map-push f ys x)
-
 -- the front with one more item
 pub map-front : {A B : Type 0} (f : A → B) (xs : List A) (i : ℕ) (d : A) → i < length xs → map f (take (i + 1) xs) ≡ map f (take i xs) ++ f (get_or xs i d) ∷ []
 map-front f xs i d less = rw add-one (ap (map f) (take-suc xs i d less) ∙ map-push f (take i xs) (get_or xs i d))
-
-pub map-all : {A B : Type 0} (f : A → B) (xs : List A) (i : ℕ) → length xs ≤ i → map f (take i xs) ≡ map f xs
-map-all f xs i past = ap (map f) (take_all i xs past)
 
 pub map-get : {A B : Type 0} (f : A → B) (xs : List A) (i : ℕ) (d : A) (e : B) → i < length xs → get_or (map f xs) i e ≡ f (get_or xs i d)
 map-get f [] i d e less = absurd (omega arith)
 map-get f (x ∷ xs) zero d e less = refl
 map-get f (x ∷ xs) (suc i) d e less = map-get f xs i d e (omega arith)
-
-pub map-long : {A B : Type 0} (f : A → B) (xs : List A) → length (map f xs) ≡ length xs
-map-long f [] = refl
-map-long f (x ∷ xs) = ap suc (map-long f xs)
 
 -- one more pair of places that go together
 pub zip-grow : {A B C : Type 0} (R : A → B → Type 0) (f : C → A) (xs : List C) (i : ℕ) (d : C) (ys new : List B) (y : B) → i < length xs → AllZip R (map f (take i xs)) ys → R (f (get_or xs i d)) y → new ≡ ys ++ y ∷ [] → AllZip R (map f (take (i + 1) xs)) new

@@ -41,4 +41,4 @@ pub record AreWords (k : ℕ) (words : List WordText) : Type 0 where
 -- a net list with words that are bound to it
 pub record BoundNet : Type 0 where
   pub net : NetList
-  pub bound : Binding
+  pub binding : Binding

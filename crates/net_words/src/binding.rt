@@ -2,6 +2,7 @@
 ghost use Rattle.std.specs.Prelude.{◌≡◌, ◌≤◌, ◌&&◌, ◌<◌, ℕ, [], length, map, IfOk};
 ghost use Rattle.text_core.specs.Outcome.{Returns};
 ghost use Rattle.net_core.specs.NetList.{NetList, nets as nets_of, number_of};
+ghost use Rattle.net_core.specs.Sound.{IsSound};
 ghost use Rattle.net_words.specs.Binding.{AreWords};
 ghost use Rattle.net_words.specs.Bind.{is_latch, is_used, is_uncovered as is_uncovered_net, with_role, names_with, place_net, taken_with, NetsOf, BoundOf, IsCovered, started, BindingOf, bits_of as bits_of_words, is_unknown as is_unknown_start};
 ghost use Rattle.net_words.specs.BindReading.{AreMarks, FitsBinding};
@@ -71,7 +72,7 @@ impl<T: Drop> From<AllocFailed<T>> for BindFault {
 /// `NotInput`, `NotLatch` and `NetTwice`; then `FeedNotFree`, at the first such feed; then `Uncovered`, the least such net;
 /// then `UnknownStart`, the first such latch. Each word that is not fed has k nets for one k from 1 to 64, one is the
 /// output word, and at most 8 are others; a feed's source is a constant, or a place below k of a fed word; and no two
-/// feeds have the same net and cycle. A fed word gets no nets.
+/// feeds have the same net and cycle. A fed word gets no nets. That the net is sound is said once more.
 pub fn bind(
     alloc: Global,
     words: &[WordText],
@@ -83,8 +84,10 @@ pub fn bind(
     ensures nets { IfOk result (λ bound. bound.nets ≡ nets_of net.now) }
     ensures bound { IfOk result (λ bound. IsBoundTo net.now bound) }
     ensures one_cycle { IfOk result (λ bound. IsFlat net.now bound → IsOneCycle net.now bound) }
+    ensures sound { IsSound net.now }
 {
     let k = bits_of(words);
+    let held = net.latches();
     let inputs = input_marks(alloc, net)?;
     let latches = latch_marks(alloc, net)?;
     let mut taken = Vec::new(alloc);
@@ -100,7 +103,7 @@ pub fn bind(
         Ok(()) => {}
         Err(fault) => return Err(fault),
     }
-    match check_started(&bound, net.latches()) {
+    match check_started(&bound, held) {
         Ok(()) => {}
         Err(fault) => return Err(fault),
     }

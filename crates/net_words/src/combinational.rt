@@ -24,7 +24,7 @@ impl Model for Combinational {
 
     ghost Value = { BoundNet };
 
-    ghost view = { λ circuit. record { net = circuit.net; bound = circuit.bound } };
+    ghost view = { λ circuit. record { net = circuit.net; binding = circuit.bound } };
 
     ghost invariant = { λ circuit. IsSound circuit.net × IsOneCycle circuit.net circuit.bound };
 }
@@ -32,12 +32,13 @@ impl Model for Combinational {
 impl Combinational {
     /// A net with its words, where nothing is left to unroll; both are handed back where the net has latches, the binding
     /// has a feed, or a fed word has no nets. Where none of these holds, the binding is of this net, and no chain of gates
-    /// leads from a primary input in no word to a bit of the output word.
+    /// leads from a primary input in no word to a bit of the output word. That the net is sound is said once more.
     pub fn new(net: Net, bound: Bound) -> Result<Combinational, (Net, Bound)>
         requires { IsFlat net bound → IsOneCycle net bound }
-        ensures made { IfOk result (λ circuit. circuit ≡ record { net = net; bound = bound }) }
+        ensures made { IfOk result (λ circuit. circuit ≡ record { net = net; binding = bound }) }
         ensures flat { IsOk result ↔ IsFlat net bound }
         ensures back { IfErr result (λ pair. (pair.0 ≡ net) × (pair.1 ≡ bound)) }
+        ensures sound { IsSound net }
     {
         if is_flat(&net, &bound) {
             Ok(Combinational { net, bound })
@@ -51,16 +52,17 @@ impl Combinational {
         ensures net { result.now ≡ self.now.net }
         ensures flat { self.now.net.latches ≡ [] }
         ensures sound { IsSound self.now.net }
-        ensures is_bound { IsOneCycle self.now.net self.now.bound }
+        ensures is_bound { IsOneCycle self.now.net self.now.binding }
     {
         &self.net
     }
 
     /// The words.
     pub fn bound(&self) -> &Bound
-        ensures bound { result.now ≡ self.now.bound }
+        ensures bound { result.now ≡ self.now.binding }
         ensures flat { self.now.net.latches ≡ [] }
-        ensures is_bound { IsOneCycle self.now.net self.now.bound }
+        ensures sound { IsSound self.now.net }
+        ensures is_bound { IsOneCycle self.now.net self.now.binding }
     {
         &self.bound
     }
@@ -68,34 +70,36 @@ impl Combinational {
     /// The place of a net in the order of variables after the words: the bits of the input, state and fed words in
     /// signature order and by place, and then the other nets by number.
     pub fn rank_of(&self, net: u32) -> u32
-        ensures ranked { net < nets self.now.net → IsRanked (variables (nets self.now.net) self.now.bound.words) result net }
+        ensures ranked { net < nets self.now.net → IsRanked (variables (nets self.now.net) self.now.binding.words) result net }
         ensures within { net < nets self.now.net → result < nets self.now.net }
+        ensures is_bound { IsOneCycle self.now.net self.now.binding }
     {
         self.bound.rank_of(net)
     }
 
     /// The net at a place in the order of variables after the words.
     pub fn net_of(&self, rank: u32) -> u32
-        ensures ranked { rank < length (variables (nets self.now.net) self.now.bound.words) → IsRanked (variables (nets self.now.net) self.now.bound.words) rank result }
+        ensures ranked { rank < length (variables (nets self.now.net) self.now.binding.words) → IsRanked (variables (nets self.now.net) self.now.binding.words) rank result }
         ensures within { rank < nets self.now.net → result < nets self.now.net }
     {
         self.bound.net_of(rank)
     }
 }
 
-// Whether nothing is left to unroll.
-fn is_flat(net: &Net, bound: &Bound) -> bool
-    ensures { IsTrue result ↔ IsFlat net.now bound.now }
+// Whether nothing is left to unroll; and that the net is sound.
+fn is_flat(net: &Net, binding: &Bound) -> bool
+    ensures flat { IsTrue result ↔ IsFlat net.now binding.now }
+    ensures sound { IsSound net.now }
 {
-    net.latches().is_empty() && bound.feeds().is_empty() && have_nets(bound)
+    net.latches().is_empty() && binding.feeds().is_empty() && have_nets(binding)
 }
 
 // Whether each word has nets.
-fn have_nets(bound: &Bound) -> bool
-    ensures { IsTrue result ↔ All (λ word. length word.nets ≡ bound.now.k) bound.now.words }
+fn have_nets(binding: &Bound) -> bool
+    ensures { IsTrue result ↔ All (λ word. length word.nets ≡ binding.now.k) binding.now.words }
 {
     for w in 0..bound.words() {
-        if !bound.has_nets(w) {
+        if !binding.has_nets(w) {
             return false;
         }
     }

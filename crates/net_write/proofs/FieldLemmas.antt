@@ -1,9 +1,10 @@
 -- The fields of each statement of a text.
-use Rattle.std.proofs.Common.{◌≡◌, refl, ℕ, suc, ◌<◌, ◌≤◌, ◌==◌, ◌&&◌, Bool, true, false, not, List, [], ◌∷◌, ◌++◌, length, codes, arith}
+use Rattle.std.proofs.Common.{◌≡◌, refl, ℕ, suc, ◌<◌, ◌≤◌, ◌==◌, ◌&&◌, Bool, true, not, List, [], ◌∷◌, ◌++◌, length, codes, arith}
 use Rattle.std.specs.Prelude.{All, nat_le}
 use Rattle.std.specs.List.{list_all}
 use Rattle.std.proofs.lemmas.Bool.Decides.{nat_tests}
 use Rattle.graph_core.proofs.ListLemmas.{get_below}
+use Rattle.graph_core.proofs.GeneralLemmas.{both_true as both}
 use Rattle.net_core.specs.NetList.{NetList, nets, text_of}
 use Rattle.net_core.specs.Sound.{IsSound}
 use Rattle.net_core.specs.declared.latch.Start.{Start}
@@ -16,11 +17,6 @@ use Rattle.net_write.proofs.RowLemmas.{pattern_length, pattern_plain}
 
 is_plain : ℕ → Bool
 is_plain b = nat_le 33 b && nat_le b 126 && not (b == 35) && not (b == 92)
-
-both : (a b : Bool) → (a && b) ≡ true → (a ≡ true) × (b ≡ true)
-both true true e = (refl, refl)
-both true false e = absurd (cc)
-both false b e = absurd (cc)
 
 byte_from : (b : ℕ) → is_plain b ≡ true → IsPlainByte b
 unfolding is_plain

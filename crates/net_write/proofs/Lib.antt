@@ -9,5 +9,5 @@ pub mod MakeLemmas
 pub mod MetLemmas
 pub mod PlaceLemmas
 pub mod AgainLemmas
-pub mod RoundTrip
+pub mod RoundTripLemmas
 mod Examples

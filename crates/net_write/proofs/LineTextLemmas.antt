@@ -1,5 +1,5 @@
 -- A written line, read back: where it ends, that nothing of it is a comment or trails, and its fields.
-use Rattle.std.proofs.Common.{◌≡◌, ◌∙◌, ap, sym, refl, ℕ, zero, suc, ◌+◌, ◌-◌, ◌<◌, ◌≤◌, ◌==◌, ◌&&◌, Bool, true, false, cond, not, List, [], ◌∷◌, ◌++◌, length, take, drop, get_or, arith, add-one, append_assoc}
+use Rattle.std.proofs.Common.{◌≡◌, ◌∙◌, ap, sym, refl, ℕ, zero, suc, ◌+◌, ◌-◌, ◌<◌, ◌≤◌, ◌==◌, ◌&&◌, Bool, true, false, cond, not, List, [], ◌∷◌, ◌++◌, length, drop, get_or, arith, add-one, append_assoc}
 use Rattle.std.specs.Prelude.{◌≢◌, All, filter, nat_lt}
 use Rattle.std.specs.List.{AllByRecursion, join_with_byte, slice_split}
 use Rattle.std.specs.Str.Lines.{lines, strip_carriage_return}
@@ -8,6 +8,7 @@ use Rattle.std.proofs.lemmas.List.Sums.{take_while-cons}
 use Rattle.std.proofs.lemmas.List.Splits.{slice_split_at, slice_split_none}
 use Rattle.text_core.specs.Lines.{before_comment, is_blank, tokens_of}
 use Rattle.text_core.proofs.LineLemmas.{lines_at}
+use Rattle.graph_core.proofs.GeneralLemmas.{unequal, front_of}
 use Rattle.net_blif.specs.Lines.{Numbered, before_trimmed, clean, goes_on, is_trailing, joined, trim_end}
 use Rattle.net_blif.specs.Statement.{IsToken, Token, spelled}
 use Rattle.net_blif.specs.declared.statement.Statement.{Statement}
@@ -43,9 +44,6 @@ space = (omega arith, λ e. omega (arith, e), λ e. omega (arith, e))
 pub line_bytes : (first : Token) (rest : List Token) → AreFields (first ∷ rest) → AllByRecursion IsLineByte (join_with_byte 32 (first ∷ rest))
 line_bytes first [] fields = plain_line first fields.0.2
 line_bytes first (second ∷ rest) fields = line_append first _ (plain_line first fields.0.2) (space, line_bytes second rest fields.1)
-
-unequal : (a b : ℕ) → a ≢ b → (a == b) ≡ false
-unequal a b other = grind (arith, nat_tests)
 
 -- a byte of a line at its place; past the end there is 0
 at : (bytes : List ℕ) (k : ℕ) → AllByRecursion IsLineByte bytes → (get_or bytes k 0 ≢ 92) × (get_or bytes k 0 ≢ 13) × (get_or bytes k 0 ≢ 10) × (get_or bytes k 0 ≢ 35)
@@ -115,10 +113,6 @@ get_front (x ∷ xs) ys (suc k) less = get_front xs ys k (omega (arith, less))
 get_end : (xs ys : List ℕ) → get_or (xs ++ 10 ∷ ys) (length xs) 0 ≡ 10
 get_end [] ys = refl
 get_end (x ∷ xs) ys = get_end xs ys
-
-front_of : (xs ys : List ℕ) → take (length xs) (xs ++ ys) ≡ xs
-front_of [] ys = refl
-front_of (x ∷ xs) ys = ap (λ (l : List ℕ). x ∷ l) (front_of xs ys)
 
 rest_of : (xs ys : List ℕ) → drop (suc (length xs)) (xs ++ 10 ∷ ys) ≡ ys
 rest_of [] ys = refl

@@ -1,8 +1,9 @@
 -- Nets that are found by their names.
-use Rattle.std.proofs.Common.{◌≡◌, ◌∙◌, inl, inr, ap, sym, refl, subst, ℕ, zero, suc, ◌+◌, ◌<◌, ◌&&◌, Bool, true, false, cond, List, [], ◌∷◌, length, Some, arith}
+use Rattle.std.proofs.Common.{◌≡◌, ◌∙◌, inl, inr, ap, sym, refl, subst, ℕ, zero, suc, ◌+◌, ◌<◌, Bool, true, false, cond, List, [], ◌∷◌, length, Some, arith}
 use Rattle.std.specs.Prelude.{slice_get}
 use Rattle.std.specs.Str.{bytes_eq}
 use Rattle.graph_core.proofs.GraphLemmas.{nat_eq_or}
+use Rattle.graph_core.proofs.GeneralLemmas.{first_true}
 use Rattle.net_core.specs.NetList.{LabelValue, NetList, is_named, number_from, number_of, text_of}
 use Rattle.net_write.specs.Plain.{IsPlainName}
 use Rattle.net_write.proofs.ZipLemmas.{some_same}
@@ -26,10 +27,6 @@ found n (label ∷ labels) name k e = by (is_named name label) refl e (λ e. fou
     by : (b : Bool) → is_named name label ≡ b → cond b (Some n) (number_from (n + 1) labels name) ≡ Some k → (number_from (n + 1) labels name ≡ Some k → (i : ℕ) × (other : LabelValue) × (k ≡ n + 1 + i) × (slice_get labels i ≡ Some other) × (is_named name other ≡ true)) → (i : ℕ) × (other : LabelValue) × (k ≡ n + i) × (slice_get (label ∷ labels) i ≡ Some other) × (is_named name other ≡ true)
     by true is e more = here (some_same n k e) is
     by false is e more = later (more e)
-
-first_true : (a b : Bool) → (a && b) ≡ true → a ≡ true
-first_true true b e = refl
-first_true false b e = absurd (cc)
 
 -- a net that its name finds is named
 named : (net : NetList) (n : ℕ) (label : LabelValue) → slice_get net.labels n ≡ Some label → number_of net (text_of net n) ≡ Some n → label.named ≡ true

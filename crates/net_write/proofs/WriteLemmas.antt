@@ -1,7 +1,6 @@
 -- What each line of the text is made of.
-use Rattle.std.proofs.Common.{◌≡◌, ◌∙◌, ap, sym, refl, ℕ, zero, suc, ◌+◌, ◌≤◌, ◌==◌, Bool, true, false, List, [], ◌∷◌, ◌++◌, length, map, append-nil, append_assoc, add-one, codes, arith}
-use Rattle.std.specs.Prelude.{◌≢◌, flat_map, filter}
-use Rattle.std.proofs.lemmas.Bool.Decides.{nat_tests}
+use Rattle.std.proofs.Common.{◌≡◌, ◌∙◌, ap, sym, ℕ, ◌+◌, ◌≤◌, ◌==◌, Bool, true, List, [], ◌∷◌, ◌++◌, length, map, append-nil, append_assoc, add-one, codes, arith}
+use Rattle.std.specs.Prelude.{flat_map, filter}
 use Rattle.std.proofs.lemmas.List.{map-append}
 use Rattle.std.proofs.lemmas.List.Elements.{filter-append}
 use Rattle.std.specs.Int.{bit_at}
@@ -9,6 +8,7 @@ use Rattle.std.specs.List.{join_with_byte, range_with_len}
 use Rattle.std.proofs.lemmas.Grind.{flat_map-append}
 use Rattle.std.proofs.lemmas.List.Folds.{flat_map-map}
 use Rattle.std.proofs.lemmas.List.FromFn.{map-range_with_len_more}
+use Rattle.graph_core.proofs.GeneralLemmas.{range_more}
 use Rattle.net_core.specs.GateValue.{GateValue}
 use Rattle.net_core.specs.NetList.{NetList, text_of}
 use Rattle.net_blif.specs.Statement.{Token, row_tokens, spelled}
@@ -33,10 +33,6 @@ cover_line net word nets out =
     flat_map-append field (names_of net nets) (text_of net out ∷ []) ∙ ap (λ (rest : List ℕ). rest ++ (field (text_of net out) ++ [])) (flat_map-map field (text_of net) nets) ∙ ap (λ (rest : List ℕ). fields_of net nets ++ rest) (append-nil (field (text_of net out))) in
     ap (λ (line : List ℕ). line ++ 10 ∷ []) (join_fields word (names_of net nets ++ text_of net out ∷ []) ∙ ap (λ (rest : List ℕ). word ++ rest) last ∙ sym (append_assoc word (fields_of net nets) (field (text_of net out))))
 
--- a text of one statement is its line
-pub one_statement : (s : Statement) → text_with (s ∷ []) ≡ line_text (spelled s)
-one_statement s = append-nil (line_text (spelled s))
-
 -- what was appended piece by piece
 pub names_added : (net : NetList) (old word a b d : List ℕ) (nets : List ℕ) → a ≡ old ++ word → b ≡ a ++ fields_of net nets → d ≡ b ++ 10 ∷ [] → d ≡ old ++ line_text (word ∷ names_of net nets)
 names_added net old word a b d nets first second third =
@@ -60,17 +56,9 @@ pub pattern_pushed : (old mid new : List ℕ) (n index byte : ℕ) → mid ≡ o
 pattern_pushed old mid new n index byte so_far is pushed =
     pushed ∙ rw (so_far, is) (append_assoc old (pattern n index) ((48 + bit_at index n) ∷ []) ∙ ap (λ (l : List ℕ). old ++ l) (sym (pattern_more n index)))
 
--- the text of a row
-pub row_alone : (n index : ℕ) → n ≡ 0 → line_text (row_tokens (pattern n index) true) ≡ codes "1\n"
-row_alone n index none = rw none refl
-
 pub row_behind : (old mid new cells : List ℕ) → 1 ≤ length cells → mid ≡ old ++ cells → new ≡ mid ++ codes " 1\n" → new ≡ old ++ line_text (row_tokens cells true)
 row_behind old mid new [] some front back = absurd (omega (arith, some))
 row_behind old mid new (b ∷ bs) some front back = back ∙ rw front (append_assoc old (b ∷ bs) (codes " 1\n") ∙ ap (λ (l : List ℕ). old ++ l) (sym (append_assoc (b ∷ bs) (32 ∷ 49 ∷ []) (10 ∷ []))))
-
-range_more : (a n : ℕ) → range_with_len a (suc n) ≡ range_with_len a n ++ (a + n) ∷ []
-range_more a zero = let same : a ≡ a + 0 = omega arith in ap (λ (k : ℕ). k ∷ []) same
-range_more a (suc n) = let same : a + 1 + n ≡ a + suc n = omega arith in ap (λ (l : List ℕ). a ∷ l) (range_more (a + 1) n ∙ ap (λ (k : ℕ). range_with_len (a + 1) n ++ k ∷ []) same)
 
 rows_append : (n table : ℕ) (xs ys : List ℕ) → text_with (rows_at n table (xs ++ ys)) ≡ text_with (rows_at n table xs) ++ text_with (rows_at n table ys)
 rows_append n table xs ys =
@@ -83,13 +71,6 @@ pub rows_more : (old mid new : List ℕ) (n table index : ℕ) → mid ≡ old +
 rows_more old mid new n table index so_far more =
     let longer : range_with_len 0 (index + 1) ≡ range_with_len 0 index ++ index ∷ [] = let same : 0 + index ≡ index = omega arith in rw add-one (range_more 0 index ∙ ap (λ (k : ℕ). range_with_len 0 index ++ k ∷ []) same) in
     more ∙ rw (so_far, longer) (append_assoc old (text_with (rows_at n table (range_with_len 0 index))) (text_with (rows_at n table (index ∷ []))) ∙ ap (λ (l : List ℕ). old ++ l) (sym (rows_append n table (range_with_len 0 index) (index ∷ []))))
-
--- the row of one index, if its bit is 1
-pub row_there : (old new : List ℕ) (n table index : ℕ) → bit_at table index ≡ 1 → new ≡ old ++ line_text (row_tokens (pattern n index) true) → new ≡ old ++ text_with (rows_at n table (index ∷ []))
-row_there old new n table index is made = made ∙ ap (λ (l : List ℕ). old ++ l) (rw is (sym (append-nil (line_text (row_tokens (pattern n index) true)))))
-
-pub row_absent : (old new : List ℕ) (n table index : ℕ) → bit_at table index ≢ 1 → new ≡ old → new ≡ old ++ text_with (rows_at n table (index ∷ []))
-row_absent old new n table index other same = let no : (bit_at table index == 1) ≡ false = grind (arith, nat_tests) in same ∙ rw no (sym (append-nil old))
 
 -- the cover and the rows of a gate
 pub gate_added : (net : NetList) (gate : GateValue) (old a b d e f inputs : List ℕ) (out n table : ℕ) → inputs ≡ gate.inputs → out ≡ gate.out → n ≡ length gate.inputs → table ≡ gate.table

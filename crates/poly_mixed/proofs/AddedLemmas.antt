@@ -8,6 +8,7 @@ use Rattle.std.specs.List.Sorted.{IsStrictlySortedBy}
 use Rattle.std.specs.Map.{lookup, keys_of, remove_entry}
 use Rattle.std.specs.Option.{option_map}
 use Rattle.std.specs.Ordering.{match_ordering, eq_by_cmp, is_eq, nat_cmp}
+use Rattle.text_core.proofs.GeneralLemmas.{either}
 use Rattle.poly_mixed.specs.Monomial.{Monomial, text_cmp, text_cmp_total}
 use Rattle.poly_mixed.specs.Polynomial.{Terms, Slots, IsMap}
 use Rattle.poly_mixed.specs.Slots.{slot_at}
@@ -15,15 +16,11 @@ use Rattle.poly_mixed.specs.Sum.{plus_term}
 use Rattle.poly_mixed.specs.private.Indexed.{Entries, terms_in, IsIndexed, Changes}
 use Rattle.poly_mixed.specs.declared.place.Place.{Place}
 use Rattle.poly_mixed.proofs.PlaceLemmas.{is_same, looked, numbers-insert, numbers-remove, keys-numbers, indexed_put, indexed_same, taken_indexed}
-use Rattle.poly_mixed.proofs.Terms.{plus_term-new, plus_term-old, plus_term-gone}
-use Rattle.poly_mixed.proofs.Values.{map_plus, one_map, nothing_map}
+use Rattle.poly_mixed.proofs.TermLemmas.{plus_term-new, plus_term-old, plus_term-gone}
+use Rattle.poly_mixed.proofs.ValueLemmas.{map_plus, one_map, nothing_map}
 
 abbrev same : Monomial → Monomial → Bool
 same m q = eq_by_cmp text_cmp m q
-
-either : {P : Type 0} (b : Bool) → (b ≡ true → P) → (b ≡ false → P) → P
-either true p q = p refl
-either false p q = q refl
 
 turned : (m q : Monomial) → same m q ≡ same q m
 turned m q = (eq_by_cmp_equiv text_cmp_total).symm m q

@@ -4,26 +4,23 @@ use Rattle.std.specs.List.{list_any}
 use Rattle.std.specs.List.Sorted.{IsStrictlySortedBy}
 use Rattle.std.specs.Ordering.{nat_cmp}
 use Rattle.std.proofs.lemmas.Bool.{ne_eqb, eqb-true, eqb-false}
+use Rattle.text_core.proofs.GeneralLemmas.{either}
 use Rattle.poly_mixed.specs.Monomial.{Monomial, has_bit}
 use Rattle.poly_mixed.specs.Polynomial.{Slots}
 use Rattle.poly_mixed.specs.Product.{with_rank}
 use Rattle.poly_mixed.specs.Slots.{slot_at, stands, IsListOf}
 use Rattle.poly_mixed.specs.private.Indexed.{Changes}
 use Rattle.poly_mixed.specs.private.Listed.{without_slot, changed, all_changed}
-use Rattle.poly_mixed.proofs.Cofactors.{rising-filter}
+use Rattle.poly_mixed.proofs.CofactorLemmas.{rising-filter}
 use Rattle.poly_mixed.proofs.ListsAtLemmas.{same_bit}
-use Rattle.poly_mixed.proofs.Products.{rising-with_rank}
-use Rattle.poly_mixed.proofs.Ranks.{Above, from_less}
+use Rattle.poly_mixed.proofs.ProductLemmas.{rising-with_rank}
+use Rattle.poly_mixed.proofs.RankLemmas.{Above, from_less}
 use Rattle.std.specs.Cmp.{nat_cmp_total, tied_itself}
 use Rattle.std.specs.Ordering.{eq_by_cmp, is_eq}
 
 -- whether a slot is listed
 abbrev pub is_in : ℕ → List ℕ → Bool
 is_in slot xs = list_any (λ s. nat_eq s slot) xs
-
-either : {P : Type 0} (b : Bool) → (b ≡ true → P) → (b ≡ false → P) → P
-either true p q = p refl
-either false p q = q refl
 
 pub is_in-with_rank : (xs : List ℕ) (k s : ℕ) → is_in s (with_rank xs k) ≡ (nat_eq k s || is_in s xs)
 is_in-with_rank [] k s = refl

@@ -11,6 +11,7 @@ use Rattle.std.specs.Option.{option_map, unwrap_or}
 use Rattle.std.specs.Ordering.{match_ordering, eq_by_cmp, is_eq, ordering_reverse, nat_cmp}
 use Rattle.std.proofs.lemmas.Bool.{eqb-true, eqb-false, eq-eqb, ne_eqb}
 use Rattle.std.proofs.lemmas.Map.Made.{lookup-map_values}
+use Rattle.text_core.proofs.GeneralLemmas.{same_some as one_of, is_equal as equal, either}
 use Rattle.poly_mixed.specs.Cofactor.{LacksBit}
 use Rattle.poly_mixed.specs.Monomial.{Monomial, has_bit, text_cmp, text_cmp_total}
 use Rattle.poly_mixed.specs.Polynomial.{Terms, Slots, IsMap, coefficient}
@@ -18,11 +19,7 @@ use Rattle.poly_mixed.specs.Slots.{slot_at, stands, term_in, IsListOf, AreSlotsO
 use Rattle.poly_mixed.specs.private.Indexed.{Entries, terms_in, slot_of, IsIndexed, IsTaken, Changes}
 use Rattle.poly_mixed.specs.declared.place.Place.{Place}
 use Rattle.poly_mixed.proofs.IndexLemmas.{is_in}
-use Rattle.poly_mixed.proofs.Monomials.{text_cmp-same}
-
-either : {P : Type 0} (b : Bool) → (b ≡ true → P) → (b ≡ false → P) → P
-either true p q = p refl
-either false p q = q refl
+use Rattle.poly_mixed.proofs.MonomialLemmas.{text_cmp-same}
 
 module _ {K V : Type 0} (R : K → K → Ordering) (g : V → ℕ) where
   -- the numbers of the values
@@ -88,19 +85,11 @@ module _ {K V : Type 0} (R : K → K → Ordering) (o : IsTotalOrder R) where
 abbrev same : Monomial → Monomial → Bool
 same m q = eq_by_cmp text_cmp m q
 
-equal : (r : Ordering) → is_eq r ≡ true → r ≡ Equal
-equal Less e = absurd (cc)
-equal Equal e = refl
-equal Greater e = absurd (cc)
-
 pub is_same : (m q : Monomial) → same m q ≡ true → m ≡ q
 is_same m q e = text_cmp-same m q (equal (text_cmp m q) e)
 
 same_itself : (m : Monomial) → same m m ≡ true
 same_itself m = ap is_eq (tied_itself text_cmp_total m)
-
-one_of : {A : Type 0} (x y : A) → Some x ≡ Some y → x ≡ y
-one_of x y e = ap (λ o. unwrap_or o x) e
 
 not_none : {A : Type 0} {P : Type 0} (x : A) → None ≡ Some x → P
 not_none x e = absurd (cc)

@@ -10,7 +10,7 @@ use Rattle.poly_mixed.specs.private.Reading.{Scanned, net_found, bit_found, word
 use Rattle.poly_mixed.specs.Token.{word, bit, net, variable, hex, figures, plus_sign, times_sign, power_sign, Front, net_front, name_with, name_front, has_digits, number_front, sign_front, token_front}
 use Rattle.poly_mixed.specs.declared.fault.PolyFault.TheVariants.{Syntax}
 use Rattle.poly_mixed.specs.declared.variables.Variable.{Variable}
-use Rattle.poly_mixed.proofs.Runs.{run_front}
+use Rattle.poly_mixed.proofs.RunLemmas.{run_front}
 use Rattle.poly_mixed.proofs.FrontLemmas.{by_front, by_number, by_sign}
 
 -- ---- what a token says where a variable or an exponent is to come

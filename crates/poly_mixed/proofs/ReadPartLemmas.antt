@@ -12,8 +12,8 @@ use Rattle.poly_mixed.specs.Said.{one, with_part, monomial_of, coefficient_of, a
 use Rattle.poly_mixed.specs.private.Reading.{Progress, done, next_at, after_zero, read_on}
 use Rattle.poly_mixed.specs.declared.fault.PolyFault.{PolyFault}
 use Rattle.poly_mixed.specs.declared.fault.PolyFault.TheVariants.{Syntax}
-use Rattle.poly_mixed.proofs.Machine.{State, start, inside, named, closed, empty, step, final, variables_more}
-use Rattle.poly_mixed.proofs.Tracks.{Tracks}
+use Rattle.poly_mixed.proofs.MachineLemmas.{State, start, inside, named, closed, empty, step, final, variables_more}
+use Rattle.poly_mixed.proofs.TrackLemmas.{Tracks}
 use Rattle.poly_mixed.proofs.FrontLemmas.{IsSign, IsLeft, front_left}
 use Rattle.poly_mixed.proofs.ReadTermLemmas.{sign_in, next_in, next_is, zero_next_is}
 use Rattle.poly_mixed.proofs.ReadPlaceLemmas.{ArePartsOf, MayCome, IsAt, forward, bad_token, bad_end, accepted, refuses, Goes}

@@ -13,11 +13,11 @@ use Rattle.poly_mixed.specs.TextOutcome.{TextFault, no_polynomial, no_such_net, 
 use Rattle.poly_mixed.specs.private.Reading.{Progress, more, read_on}
 use Rattle.poly_mixed.specs.declared.fault.PolyFault.{PolyFault}
 use Rattle.poly_mixed.specs.declared.fault.PolyFault.TheVariants.{Syntax, NoSuchNet, NoSuchBit, OutOfMemory}
-use Rattle.poly_mixed.proofs.Parts.{err_on}
-use Rattle.poly_mixed.proofs.Texts.{all_more}
-use Rattle.poly_mixed.proofs.Machine.{State, start, inside, step, final, goes, goes_then, whole_ends, beginning_goes}
-use Rattle.poly_mixed.proofs.MachineMeans.{is_whole, goes_beginning}
-use Rattle.poly_mixed.proofs.Tracks.{Tracks}
+use Rattle.poly_mixed.proofs.PartLemmas.{err_on}
+use Rattle.poly_mixed.proofs.TextLemmas.{all_more}
+use Rattle.poly_mixed.proofs.MachineLemmas.{State, start, inside, step, final, goes, goes_then, whole_ends, beginning_goes}
+use Rattle.poly_mixed.proofs.MachineMeansLemmas.{is_whole, goes_beginning}
+use Rattle.poly_mixed.proofs.TrackLemmas.{Tracks}
 
 -- the coefficient and the monomial of the parts of a term that were read
 pub record ArePartsOf (l : Labelling) (ps : List Part) (c : ℕ) (m : Monomial) : Type 0 where

@@ -17,7 +17,7 @@ use Rattle.poly_mixed.specs.Token.{variable, hex, figures, plus_sign, times_sign
 use Rattle.poly_mixed.specs.declared.fault.PolyFault.{PolyFault}
 use Rattle.poly_mixed.specs.declared.fault.PolyFault.TheVariants.{Syntax}
 use Rattle.poly_mixed.specs.declared.variables.Variable.{Variable}
-use Rattle.poly_mixed.proofs.Runs.{skip_none, run_front, after_front}
+use Rattle.poly_mixed.proofs.RunLemmas.{skip_none, run_front, after_front}
 use Rattle.poly_mixed.proofs.FrontLemmas.{by_front, by_number, by_sign}
 use Rattle.poly_mixed.proofs.ReadFactorLemmas.{variable_in, variable_is}
 

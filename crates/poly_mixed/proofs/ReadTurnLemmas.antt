@@ -3,6 +3,7 @@ use Rattle.std.proofs.Common.{◌≡◌, ◌≢◌, ℕ, zero, suc, ◌+◌, ◌
 use Rattle.std.specs.Prelude.{bytes_eq}
 use Rattle.std.proofs.lemmas.Bool.{ltb-true, and_parts}
 use Rattle.text_core.specs.Numbers.{value_of}
+use Rattle.text_core.proofs.GeneralLemmas.{same_some as some_is}
 use Rattle.poly_mixed.specs.Labels.{Labelling, AreLabels}
 use Rattle.poly_mixed.specs.Monomial.{Monomial, has_bit}
 use Rattle.poly_mixed.specs.Polynomial.{Terms}
@@ -17,16 +18,13 @@ use Rattle.poly_mixed.specs.declared.fault.PolyFault.{PolyFault}
 use Rattle.poly_mixed.specs.declared.fault.PolyFault.TheVariants.{Syntax, NoSuchNet, NoSuchBit}
 use Rattle.poly_mixed.specs.declared.variables.Variable.{Variable}
 use Rattle.poly_mixed.specs.declared.variables.Variable.TheVariants.{Word, Rank}
-use Rattle.poly_mixed.proofs.Parts.{err_on}
-use Rattle.poly_mixed.proofs.Machine.{State, start, inside, named, raised, closed, empty, has, enter, step}
-use Rattle.poly_mixed.proofs.Tracks.{rank_of, holds_word, tracks_nothing, tracks_word, tracks_rank}
+use Rattle.poly_mixed.proofs.PartLemmas.{err_on}
+use Rattle.poly_mixed.proofs.MachineLemmas.{State, start, inside, named, raised, closed, empty, has, enter, step}
+use Rattle.poly_mixed.proofs.TrackLemmas.{rank_of, holds_word, tracks_nothing, tracks_word, tracks_rank}
 use Rattle.poly_mixed.proofs.ReadFactorLemmas.{variable_in, variable_is, number_in, number_is, power_in, exponent_is}
 use Rattle.poly_mixed.proofs.ReadTermLemmas.{term_in, term_is}
 use Rattle.poly_mixed.proofs.ReadPlaceLemmas.{ArePartsOf, MayCome, IsAt, forward, bad_token, bad_name, bad_end, refuses, Goes}
 use Rattle.poly_mixed.proofs.ReadPartLemmas.{shorter, after_zero_comes, readied_closed, readied_named, next_comes, parts_more, adds_more}
-
-some_is : {A : Type 0} (x y : A) → Some x ≡ Some y → x ≡ y
-some_is x y e = cc
 
 abbrev is_power : Token → Bool
 is_power (variable v) = false

@@ -8,7 +8,7 @@ use Rattle.std.proofs.lemmas.List.Sorted.{searched}
 use Rattle.std.proofs.lemmas.Map.Keys.{below_from_sorted}
 use Rattle.poly_mixed.specs.Product.{with_rank}
 use Rattle.poly_mixed.specs.private.Listed.{without_slot, IsGap, IsHit, IsFound}
-use Rattle.poly_mixed.proofs.Ranks.{Above, from_less}
+use Rattle.poly_mixed.proofs.RankLemmas.{Above, from_less}
 
 pub not_lt : (x y : ℕ) → y ≤ x → nat_lt x y ≡ false
 not_lt x y h = elim (nat_lt x y) as (λ b. nat_lt x y ≡ b → b ≡ false) [ true ↦ λ e. absurd (omega (arith, h, ltb-true x y e)) | false ↦ λ e. refl ] refl

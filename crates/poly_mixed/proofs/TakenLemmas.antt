@@ -7,19 +7,16 @@ use Rattle.std.specs.Map.{lookup, remove_entry}
 use Rattle.std.specs.Option.{unwrap_or}
 use Rattle.std.specs.Ordering.{nat_cmp, eq_by_cmp}
 use Rattle.gf_field.specs.laws.XorLaws.{xor_swap}
+use Rattle.text_core.proofs.GeneralLemmas.{either}
 use Rattle.poly_mixed.specs.Cofactor.{LacksBit, lacking, cofactors, without_bit}
 use Rattle.poly_mixed.specs.Monomial.{Monomial, has_bit, text_cmp, text_cmp_total}
 use Rattle.poly_mixed.specs.Polynomial.{Terms, IsMap, coefficient}
 use Rattle.poly_mixed.specs.Sum.{xor_sum, plus_term}
 use Rattle.poly_mixed.specs.private.Indexed.{IsTaken}
-use Rattle.poly_mixed.proofs.Cofactors.{cofactors_map, none_of_absent, rising-filter}
+use Rattle.poly_mixed.proofs.CofactorLemmas.{cofactors_map, none_of_absent, rising-filter}
 use Rattle.poly_mixed.proofs.PlaceLemmas.{is_same, removed_map, fewer}
-use Rattle.poly_mixed.proofs.Sums.{found_is_sum, at}
-use Rattle.poly_mixed.proofs.Values.{map_plus, one_map, coefficient-plus, same_map}
-
-either : {P : Type 0} (b : Bool) → (b ≡ true → P) → (b ≡ false → P) → P
-either true p q = p refl
-either false p q = q refl
+use Rattle.poly_mixed.proofs.SumLemmas.{found_is_sum, at}
+use Rattle.poly_mixed.proofs.ValueLemmas.{map_plus, one_map, coefficient-plus, same_map}
 
 one_of : (x y : ℕ) → Some x ≡ Some y → x ≡ y
 one_of x y e = ap (λ o. unwrap_or o x) e

@@ -11,10 +11,10 @@ use Rattle.poly_mixed.specs.Scan.{skip}
 use Rattle.poly_mixed.specs.Text.{joined, term_text, text, HasNames}
 use Rattle.poly_mixed.specs.laws.TextLaw.{IsWritten, ReadsBack, OneText}
 use Rattle.poly_mixed.specs.declared.fault.PolyFault.{PolyFault}
-use Rattle.poly_mixed.proofs.Chain.{Leads, turn, term_lead}
-use Rattle.poly_mixed.proofs.ReadBack.{factors, factors_chain, term_written, total, total_is}
-use Rattle.poly_mixed.proofs.Runs.{skip_none, skip_space}
-use Rattle.poly_mixed.proofs.Scanned.{IsEnd}
+use Rattle.poly_mixed.proofs.ChainLemmas.{Leads, turn, term_lead}
+use Rattle.poly_mixed.proofs.ReadBackLemmas.{factors, factors_chain, term_written, total, total_is}
+use Rattle.poly_mixed.proofs.RunLemmas.{skip_none, skip_space}
+use Rattle.poly_mixed.proofs.ScannedLemmas.{IsEnd}
 use Rattle.poly_mixed.proofs.ReadPlaceLemmas.{MayCome}
 use Rattle.poly_mixed.proofs.ReadTurnLemmas.{reading_comes}
 

@@ -15,6 +15,7 @@ mod poly;
 mod read;
 mod scan;
 mod single;
+mod size;
 mod stage;
 mod steps;
 mod table;
@@ -27,11 +28,12 @@ pub use labels::Labels;
 pub use laws::{
     one_poly_or_fault, one_size, one_text, text_order, text_reads_back, unique, unique_in_bits,
 };
-pub use mono::Mono;
+pub use mono::{Mono, place_of, sum_exponents};
 pub use named::is_named;
 pub use poly::Poly;
 pub use read::read_poly;
 pub use single::{constant, scaled_bit, scaled_power};
+pub use size::check_size;
 pub use stage::{ReduceFault, Stage};
 pub use steps::{Generator, NoSteps, Steps};
 pub use table::{exclusive_form, table_poly};

@@ -235,8 +235,8 @@ fn add_rank(bits: &mut SmallVec<u32, 6>, r: u32) -> Result<(), AllocError>
     Ok(())
 }
 
-// The index of the first rank that is not below `r`.
-fn place_of(bits: &[u32], r: u32) -> usize
+/// The index of the first rank that is not below `r`, or the length where there is none.
+pub fn place_of(bits: &[u32], r: u32) -> usize
     ensures within { result ≤ length bits.now }
     ensures place { with_rank bits.now r ≡ take result bits.now ++ with_rank (drop result bits.now) r }
     ensures stop { result < length bits.now → r ≤ slice_index bits.now result }
@@ -248,7 +248,8 @@ fn place_of(bits: &[u32], r: u32) -> usize
     i
 }
 
-fn sum_exponents(a: &[u64; 8], b: &[u64; 8], k: u32) -> [u64; 8]
+/// The exponents of the product of two monomials with exponents below 2^k, over a field of 2^k elements.
+pub fn sum_exponents(a: &[u64; 8], b: &[u64; 8], k: u32) -> [u64; 8]
     requires k_in { (1 ≤ k) × (k ≤ 64) }
     requires left { AllByRecursion (λ e. e < 2 ^ k) a.now }
     requires right { AllByRecursion (λ e. e < 2 ^ k) b.now }

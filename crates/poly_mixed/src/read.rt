@@ -9,11 +9,12 @@ ghost use Rattle.poly_mixed.specs.TextOutcome.{text_fault, TextOutcome};
 ghost use Rattle.text_core.specs.Outcome.{Fits};
 ghost use Rattle.poly_mixed.specs.Monomial.{Monomial};
 
-use crate::scan::{Class, after, front, skip, value};
+use crate::scan::{Class, after, front, skip};
 use crate::variables::{Variable, read_variable};
 use crate::{Labels, Mono, Poly, PolyFault};
 use std::alloc::{AllocError, Global};
 use std::mem;
+use text_core::value_in_base;
 
 // What comes after a part of a text: nothing, a term or a further factor.
 #[derive(Clone, Copy)]
@@ -161,7 +162,7 @@ impl Reading {
         ensures step { IsStep (coefficient_at k self.old.sum.terms bytes.now) self.new.sum.terms self.new.coefficient self.new.mono result }
         ensures fresh { IsFreshAfter result self.new.coefficient self.new.mono }
     {
-        match value(front(bytes, Class::HexDigit), 16) {
+        match value_in_base(front(bytes, Class::HexDigit), 16) {
             Some(c) if is_below(c, k) => {
                 self.coefficient = c;
                 self.next(alloc, skip(after(bytes, Class::HexDigit)))
@@ -189,6 +190,28 @@ fn after_term_0(bytes: &[u8]) -> Result<Next<'_>, PolyFault>
     }
 }
 
+// Puts a word into a monomial that lacks it, with the exponent that stands after it.
+fn add_word<'a>(
+    mono: &mut Mono,
+    k: u32,
+    word: usize,
+    bytes: &'a [u8],
+) -> Result<&'a [u8], PolyFault>
+    requires { (1 ≤ k) × (k ≤ 64) }
+    ensures { IsAdded (with_variable k mono.old (Ok (Variable.Word word, bytes.now))) mono.new result }
+{
+    if word >= 8 || mono.exponents()[word] != 0 {
+        return Err(PolyFault::Syntax);
+    }
+    match exponent(k, bytes) {
+        Ok((exponent, rest)) => {
+            mono.set_exponent(word, exponent);
+            Ok(rest)
+        }
+        Err(fault) => Err(fault),
+    }
+}
+
 // Puts a variable into a monomial that lacks it, with the exponent that stands after a word.
 fn add_variable<'a>(
     mono: &mut Mono,
@@ -200,18 +223,7 @@ fn add_variable<'a>(
     ensures { IsAdded (with_variable k mono.old (Ok (variable, bytes.now))) mono.new result }
 {
     match variable {
-        Variable::Word(word) => {
-            if word >= 8 || mono.exponents()[word] != 0 {
-                return Err(PolyFault::Syntax);
-            }
-            match exponent(k, bytes) {
-                Ok((exponent, rest)) => {
-                    mono.set_exponent(word, exponent);
-                    Ok(rest)
-                }
-                Err(fault) => Err(fault),
-            }
-        }
+        Variable::Word(word) => add_word(mono, k, word, bytes),
         Variable::Rank(rank) => {
             if mono.has(rank) {
                 return Err(PolyFault::Syntax);
@@ -273,7 +285,7 @@ fn number(k: u32, bytes: &[u8]) -> Result<(u64, &[u8]), PolyFault>
     requires { (1 ≤ k) × (k ≤ 64) }
     ensures { IsScanned (number_at k bytes.now) result }
 {
-    match value(front(bytes, Class::Digit), 10) {
+    match value_in_base(front(bytes, Class::Digit), 10) {
         Some(n) if 0 < n && is_below(n, k) => Ok((n, after(bytes, Class::Digit))),
         _ => Err(PolyFault::Syntax),
     }

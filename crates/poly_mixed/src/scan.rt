@@ -1,6 +1,5 @@
 //! Runs of bytes at the front of a text.
-ghost use Rattle.std.specs.Prelude.{◌≡◌, ◌≤◌, ◌+◌, ◌*◌, ◌^◌, length, MatchOption};
-ghost use Rattle.text_core.specs.Numbers.{value_of, digit_value};
+ghost use Rattle.std.specs.Prelude.{◌≡◌, ◌≤◌, length};
 ghost use Rattle.poly_mixed.specs.Scan.{run, after as after_run, skip as skipped, name_of as name_at_front, is_in};
 
 /// Kinds of bytes.
@@ -70,41 +69,5 @@ pub(crate) fn name(bytes: &[u8]) -> &[u8]
         &front[..255]
     } else {
         front
-    }
-}
-
-// The value of digits of a base up to 16, where it is below 2^64.
-pub(crate) fn value(digits: &[u8], base: u8) -> Option<u64>
-    requires { (1 ≤ base) × (base ≤ 16) }
-    ensures { MatchOption result (2 ^ 64 ≤ value_of base digits.now) (λ n. n ≡ value_of base digits.now) }
-{
-    let mut n: u64 = 0;
-    for byte in digits {
-        match with_digit(n, base, digit(*byte)) {
-            Some(more) => n = more,
-            None => return None,
-        }
-    }
-    Some(n)
-}
-
-// A value with one more digit, where it is below 2^64.
-fn with_digit(n: u64, base: u8, digit: u8) -> Option<u64>
-    ensures { MatchOption result (2 ^ 64 ≤ n * base + digit) (λ m. m ≡ n * base + digit) }
-{
-    let shifted = n.checked_mul(u64::from(base))?;
-    shifted.checked_add(u64::from(digit))
-}
-
-// What a digit stands for.
-fn digit(byte: u8) -> u8
-    ensures { result ≡ digit_value byte }
-{
-    if byte < 58 {
-        byte.saturating_sub(48)
-    } else if byte < 71 {
-        byte - 55
-    } else {
-        byte.saturating_sub(87)
     }
 }

@@ -3,8 +3,9 @@ ghost use Rattle.std.specs.Prelude.{◌≡◌, length, drop, option_map};
 ghost use Rattle.poly_mixed.specs.private.Reading.{variable_at, net_at, name_at, IsScanned};
 ghost use Rattle.poly_mixed.specs.Scan.{index_of, name_of};
 
-use crate::scan::{Class, after, front, name, value};
+use crate::scan::{Class, after, front, name};
 use crate::{Labels, PolyFault};
+use text_core::value_in_base;
 
 /// A word, or the bit or net of a rank.
 #[derive(Clone, Copy, Debug, PartialEq, Eq)]
@@ -35,7 +36,7 @@ fn read_net<'a>(labels: &Labels, bytes: &'a [u8]) -> Result<(Variable, &'a [u8])
     if digits.is_empty() {
         return Err(PolyFault::Syntax);
     }
-    match labels.net_rank(value(digits, 10)) {
+    match labels.net_rank(value_in_base(digits, 10)) {
         Some(rank) => Ok((Variable::Rank(rank), after(bytes, Class::Digit))),
         None => Err(PolyFault::NoSuchNet),
     }
@@ -48,7 +49,7 @@ fn read_name<'a>(labels: &Labels, bytes: &'a [u8]) -> Result<(Variable, &'a [u8]
     let name = name(bytes);
     let rest = &bytes[name.len()..];
     match index(rest) {
-        Some((digits, rest)) => match labels.bit_rank(name, value(digits, 10)) {
+        Some((digits, rest)) => match labels.bit_rank(name, value_in_base(digits, 10)) {
             Some(rank) => Ok((Variable::Rank(rank), rest)),
             None => Err(PolyFault::NoSuchBit),
         },

@@ -12,7 +12,7 @@ use Rattle.poly_mixed.specs.Monomial.{text_cmp}
 use Rattle.poly_mixed.specs.Polynomial.{Terms}
 use Rattle.poly_mixed.specs.Cofactor.{LacksBit}
 use Rattle.poly_mixed.specs.Sum.{with_coefficient, plus_term, plus}
-use Rattle.poly_mixed.proofs.Terms.{all_plus_term}
+use Rattle.poly_mixed.proofs.TermLemmas.{all_plus_term}
 use Rattle.rato_reduce.specs.private.CutKey.{CutKey, key_of, no_bits, key_cmp, key_cmp_total}
 use Rattle.rato_reduce.specs.private.CutTerms.{of_bits, term_of, cut_polynomial, with_constant, IsEntry, AreEntries, AreBitEntries}
 use Rattle.rato_reduce.proofs.CutLemmas.{entries_more, terms_more}

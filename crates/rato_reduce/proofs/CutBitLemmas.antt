@@ -15,12 +15,12 @@ use Rattle.poly_mixed.specs.Monomial.{Monomial, has_bit, text_cmp, text_cmp_tota
 use Rattle.poly_mixed.specs.Polynomial.{Terms, IsMap, IsTerm, coefficient}
 use Rattle.poly_mixed.specs.Cofactor.{LacksBit, lacking, cofactors, with_bit, without_bit}
 use Rattle.poly_mixed.specs.Sum.{xor_sum, plus}
-use Rattle.poly_mixed.proofs.Cofactors.{rising-filter, lacking_map, cofactors_map}
-use Rattle.poly_mixed.proofs.Monomials.{text_cmp-same}
-use Rattle.poly_mixed.proofs.OneBit.{is_cofactor}
-use Rattle.poly_mixed.proofs.Ranks.{from_less}
-use Rattle.poly_mixed.proofs.Sums.{at, found_is_sum}
-use Rattle.poly_mixed.proofs.Values.{same_map, one_map}
+use Rattle.poly_mixed.proofs.CofactorLemmas.{rising-filter, lacking_map, cofactors_map}
+use Rattle.poly_mixed.proofs.MonomialLemmas.{text_cmp-same}
+use Rattle.poly_mixed.proofs.OneBitLemmas.{is_cofactor}
+use Rattle.poly_mixed.proofs.RankLemmas.{from_less}
+use Rattle.poly_mixed.proofs.SumLemmas.{at, found_is_sum}
+use Rattle.poly_mixed.proofs.ValueLemmas.{same_map, one_map}
 use Rattle.rato_reduce.specs.private.CutKey.{CutKey, place_at, first_from, key_cmp}
 use Rattle.rato_reduce.specs.private.CutTerms.{IsBitTerm, term_of, IsEntry, AreEntries, ends_up_to}
 use Rattle.rato_reduce.proofs.CutLemmas.{coefficient_sum, sum_map_is, nothing_map}

@@ -11,10 +11,10 @@ use Rattle.std.specs.Ordering.{nat_cmp, ordering_then}
 use Rattle.poly_mixed.specs.Monomial.{Monomial, text_cmp, text_cmp_total}
 use Rattle.poly_mixed.specs.Polynomial.{Terms, IsMap, coefficient}
 use Rattle.poly_mixed.specs.Sum.{xor_sum, plus_term, plus}
-use Rattle.poly_mixed.proofs.Monomials.{text_cmp-same}
-use Rattle.poly_mixed.proofs.Sums.{IsAdditive, at, at_additive, found_is_sum, sorted-plus, sorted-plus_term, all_plus, xor_sum-plus, xor_sum-plus_term}
-use Rattle.poly_mixed.proofs.Terms.{all_plus_term}
-use Rattle.poly_mixed.proofs.Values.{map_plus, one_map, same_map}
+use Rattle.poly_mixed.proofs.MonomialLemmas.{text_cmp-same}
+use Rattle.poly_mixed.proofs.SumLemmas.{IsAdditive, at, at_additive, found_is_sum, sorted-plus, sorted-plus_term, all_plus, xor_sum-plus, xor_sum-plus_term}
+use Rattle.poly_mixed.proofs.TermLemmas.{all_plus_term}
+use Rattle.poly_mixed.proofs.ValueLemmas.{map_plus, one_map, same_map}
 use Rattle.rato_reduce.specs.private.CutKey.{CutKey, key_cmp, key_cmp_total}
 use Rattle.rato_reduce.specs.private.CutTerms.{of_bits, IsBitTerm, term_of, cut_polynomial, IsEntry, AreEntries}
 

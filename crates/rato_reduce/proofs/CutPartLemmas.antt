@@ -8,10 +8,10 @@ use Rattle.poly_mixed.specs.Monomial.{Monomial, has_bit, text_cmp, text_cmp_tota
 use Rattle.poly_mixed.specs.Polynomial.{Terms, IsTerm}
 use Rattle.poly_mixed.specs.Cofactor.{LacksBit, lacking, cofactors, without_bit}
 use Rattle.poly_mixed.specs.Sum.{xor_sum, plus}
-use Rattle.poly_mixed.proofs.Cofactors.{lacking_all, lacking_map, none_of_absent, absent_of_none, all_lacking}
-use Rattle.poly_mixed.proofs.Monomials.{text_cmp-same}
-use Rattle.poly_mixed.proofs.Sums.{at, at_additive, found_is_sum, xor_sum-plus}
-use Rattle.poly_mixed.proofs.Values.{same_map}
+use Rattle.poly_mixed.proofs.CofactorLemmas.{lacking_all, lacking_map, none_of_absent, absent_of_none, all_lacking}
+use Rattle.poly_mixed.proofs.MonomialLemmas.{text_cmp-same}
+use Rattle.poly_mixed.proofs.SumLemmas.{at, at_additive, found_is_sum, xor_sum-plus}
+use Rattle.poly_mixed.proofs.ValueLemmas.{same_map}
 use Rattle.rato_reduce.specs.private.CutKey.{CutKey}
 use Rattle.rato_reduce.specs.private.CutTerms.{of_bits, IsBitTerm, term_of, IsTaken, products, all_products}
 use Rattle.poly_mixed.specs.Product.{union, with_rank}

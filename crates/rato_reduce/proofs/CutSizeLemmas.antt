@@ -10,8 +10,8 @@ use Rattle.std.specs.Ordering.{match_ordering}
 use Rattle.poly_mixed.specs.Monomial.{Monomial, text_cmp}
 use Rattle.poly_mixed.specs.Polynomial.{Terms}
 use Rattle.poly_mixed.specs.Sum.{with_coefficient, plus_term, plus}
-use Rattle.poly_mixed.proofs.Monomials.{text_cmp-same}
-use Rattle.poly_mixed.proofs.Terms.{all_plus_term}
+use Rattle.poly_mixed.proofs.MonomialLemmas.{text_cmp-same}
+use Rattle.poly_mixed.proofs.TermLemmas.{all_plus_term}
 use Rattle.rato_reduce.specs.private.CutKey.{CutKey, key_of, key_cmp, key_cmp_total}
 use Rattle.rato_reduce.specs.private.CutTerms.{of_bits, term_of, cut_polynomial, IsEntry, AreEntries}
 

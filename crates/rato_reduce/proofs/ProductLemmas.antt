@@ -9,16 +9,16 @@ use Rattle.poly_mixed.specs.Table.{differ, index, subset_parity, table_bit}
 use Rattle.poly_mixed.specs.laws.Uniqueness.{IsZeros}
 use Rattle.poly_mixed.specs.Sum.{with_coefficient, xor_sum, plus_term, plus}
 use Rattle.poly_mixed.proofs.FieldLaws.{IsField}
-use Rattle.poly_mixed.proofs.Products.{rising-union, and_assoc, value_element}
+use Rattle.poly_mixed.proofs.ProductLemmas.{rising-union, and_assoc, value_element}
 use Rattle.std.proofs.lemmas.Bool.{eqb-true, ne_eqb}
-use Rattle.poly_mixed.proofs.Sums.{all_plus}
-use Rattle.poly_mixed.proofs.Values.{value-plus, reduced_plus, product_zero}
-use Rattle.poly_mixed.proofs.Simple.{one_rank_rises, one_simple, bits_monomial, single}
+use Rattle.poly_mixed.proofs.SumLemmas.{all_plus}
+use Rattle.poly_mixed.proofs.ValueLemmas.{value-plus, reduced_plus, product_zero}
+use Rattle.poly_mixed.proofs.SimpleLemmas.{one_rank_rises, one_simple, bits_monomial, single}
 use lib.Bits.{xor_lt}
 use Rattle.rato_reduce.specs.private.CutTerms.{of_bits, IsBitTerm, products, all_products}
 use Rattle.rato_reduce.specs.Monomials.{monomials}
 use Rattle.rato_reduce.proofs.CutLemmas.{sum_map_is}
-use Rattle.rato_reduce.proofs.PutIn.{index_map}
+use Rattle.rato_reduce.proofs.PutInLemmas.{index_map}
 
 -- the sum of terms, one list after the other
 pub plus_append : (old ts us : Terms) → plus text_cmp old (ts ++ us) ≡ plus text_cmp (plus text_cmp old ts) us

@@ -10,5 +10,5 @@ use Rattle.stage_model.specs.CutSteps.{AreCutSteps}
 -- where the recorder tells its pairs, it holds what it held and then those of the first t eliminations
 pub record IsRecorded (k : ℕ) (mul : ℕ → ℕ → ℕ) (circuit : BoundNet) (basis : List ℕ) (t : ℕ) (old new : Option (List Step)) : Type 0 where
   pub steps : List Step
-  pub are : AreCutSteps k mul circuit.net (variables (nets circuit.net) circuit.bound.words) (output_word circuit.bound.words basis) t steps
+  pub are : AreCutSteps k mul circuit.net (variables (nets circuit.net) circuit.binding.words) (output_word circuit.binding.words basis) t steps
   pub told : Tells old new steps

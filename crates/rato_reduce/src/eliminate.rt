@@ -31,7 +31,7 @@ use std::alloc::{AllocError, Global};
 fn input_ranks(alloc: Global, circuit: &Combinational, gate: &Gate) -> Result<Vec<u32>, AllocError>
     requires sound { IsSound circuit.now.net }
     requires gate { Has circuit.now.net.gates gate.now }
-    ensures { IfOk result (λ list. list.items ≡ map (rank_in (variables (nets circuit.now.net) circuit.now.bound.words)) gate.now.inputs) }
+    ensures { IfOk result (λ list. list.items ≡ map (rank_in (variables (nets circuit.now.net) circuit.now.binding.words)) gate.now.inputs) }
 {
     let mut list = Vec::with_capacity(alloc, gate.inputs().len())?;
     for input in gate.inputs() {
@@ -84,7 +84,7 @@ fn add_form(
     requires sound { IsSound circuit.now.net }
     requires gate { Has circuit.now.net.gates gate.now }
     requires part { AllByRecursion IsBitTerm part.now }
-    ensures { OnOk result (cut.new.terms ≡ plus text_cmp cut.old.terms (all_products part.now (monomials form [] (map (rank_in (variables (nets circuit.now.net) circuit.now.bound.words)) gate.now.inputs) 0 1))) }
+    ensures { OnOk result (cut.new.terms ≡ plus text_cmp cut.old.terms (all_products part.now (monomials form [] (map (rank_in (variables (nets circuit.now.net) circuit.now.binding.words)) gate.now.inputs) 0 1))) }
 {
     let inputs = gate.inputs();
     if inputs.len() == 1 {
@@ -115,7 +115,7 @@ fn add_table<F: Field>(
     requires part { AllByRecursion IsBitTerm part.now × AllByRecursion (IsTerm (F.degree _field.now)) part.now }
     requires cut { IsReduced (F.degree _field.now) cut.old.terms }
     ensures reduced { OnOk result (IsReduced (F.degree _field.now) cut.new.terms) }
-    ensures values { OnOk result (AddsWhereGate (F.degree _field.now) (F.product _field.now) (variables (nets circuit.now.net) circuit.now.bound.words) gate.now part.now cut.old.terms cut.new.terms) }
+    ensures values { OnOk result (AddsWhereGate (F.degree _field.now) (F.product _field.now) (variables (nets circuit.now.net) circuit.now.binding.words) gate.now part.now cut.old.terms cut.new.terms) }
 {
     let form = exclusive_form(gate.table());
     add_form(alloc, circuit, gate, form, part, cut)
@@ -164,8 +164,8 @@ pub fn eliminate<F: Field, T: Steps>(
     requires gate { Has circuit.now.net.gates gate.now }
     requires cut { IsReduced (F.degree field.now) cut.old.terms }
     ensures reduced { OnOk result (IsReduced (F.degree field.now) cut.new.terms) }
-    ensures values { OnOk result (HasGatePutIn (F.degree field.now) (F.product field.now) (variables (nets circuit.now.net) circuit.now.bound.words) gate.now cut.old.terms cut.new.terms) }
-    ensures steps { OnOk result ((made : List Step) × AreStepsAt (F.degree field.now) (rank_in (variables (nets circuit.now.net) circuit.now.bound.words) gate.now.out) gate.now.out cut.old.terms made × Tells (T.steps steps.old) (T.steps steps.new) made) }
+    ensures values { OnOk result (HasGatePutIn (F.degree field.now) (F.product field.now) (variables (nets circuit.now.net) circuit.now.binding.words) gate.now cut.old.terms cut.new.terms) }
+    ensures steps { OnOk result ((made : List Step) × AreStepsAt (F.degree field.now) (rank_in (variables (nets circuit.now.net) circuit.now.binding.words) gate.now.out) gate.now.out cut.old.terms made × Tells (T.steps steps.old) (T.steps steps.new) made) }
 {
     let rank = rank(circuit, gate.out());
     cut.take_with(rank, part)?;

@@ -9,7 +9,8 @@ ghost use Rattle.rato_reduce.specs.Recorded.{IsRecorded};
 
 use crate::cut::Cut;
 use crate::eliminate::eliminate;
-use crate::first_cut::{first_cut, output_nets, places};
+use crate::first_cut::{first_cut, places};
+use circuit_model::output_nets;
 use gf_basis::Basis;
 use gf_field::Field;
 use net_core::{Net, order};
@@ -56,7 +57,7 @@ pub fn reduce_bits<F: Field, T: Steps>(
     bound: u32,
     steps: &mut T,
 ) -> Result<Poly, ReduceFault>
-    requires bits { circuit.now.bound.k ≡ F.degree field.now }
+    requires bits { circuit.now.binding.k ≡ F.degree field.now }
     requires basis { IsBasisOver (F.degree field.now) (F.product field.now) output.now }
     ensures last { IfOk result (λ q. IsOfStage (F.degree field.now) (F.product field.now) (BoundCut circuit.now (elements_of output.now) (length circuit.now.net.gates)) q.terms) }
     ensures within { OnOk result (AreAllWithin (F.degree field.now) (F.product field.now) (cut_listing (length circuit.now.net.gates + 1) (BoundCut circuit.now (elements_of output.now))) bound) }

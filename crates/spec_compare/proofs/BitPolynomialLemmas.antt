@@ -8,7 +8,7 @@ use Rattle.poly_mixed.specs.Monomial.{Monomial, text_cmp}
 use Rattle.poly_mixed.specs.Polynomial.{Terms, coefficient, value}
 use Rattle.poly_mixed.specs.Sum.{plus}
 use Rattle.poly_mixed.proofs.FieldLaws.{IsField, field_of}
-use Rattle.poly_mixed.proofs.Values.{coefficient-plus, reduced_plus, same_map, value-plus}
+use Rattle.poly_mixed.proofs.ValueLemmas.{coefficient-plus, reduced_plus, same_map, value-plus}
 use Rattle.circuit_model.specs.Circuit.{Circuit}
 use Rattle.circuit_model.specs.Differing.{IsDifferingInput}
 use Rattle.circuit_model.specs.Ones.{AreOnes, ones_cmp}

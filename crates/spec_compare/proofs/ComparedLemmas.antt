@@ -16,15 +16,15 @@ use Rattle.poly_mixed.specs.Cofactor.{LacksBit}
 use Rattle.poly_mixed.specs.laws.Uniqueness.{IsZeros}
 use Rattle.poly_mixed.specs.Sum.{plus}
 use Rattle.poly_mixed.proofs.FieldLaws.{IsField, field_of}
-use Rattle.poly_mixed.proofs.Sums.{all_plus}
-use Rattle.poly_mixed.proofs.Uniqueness.{zeros_same}
-use Rattle.poly_mixed.proofs.Values.{coefficient-plus, same_map, map_plus, zero_element}
+use Rattle.poly_mixed.proofs.SumLemmas.{all_plus}
+use Rattle.poly_mixed.proofs.UniquenessLemmas.{zeros_same}
+use Rattle.poly_mixed.proofs.ValueLemmas.{coefficient-plus, same_map, map_plus, zero_element}
 use Rattle.circuit_model.specs.Word.{Word, word_nets}
 use Rattle.circuit_model.specs.Circuit.{Circuit}
 use Rattle.circuit_model.specs.WellFormed.{IsWellFormed}
 use Rattle.circuit_model.specs.Ones.{AreOnes, ones_cmp}
 use Rattle.circuit_model.specs.Differing.{Differ, AreSame, IsDifferingInput}
-use Rattle.circuit_model.specs.InputOrder.{IsFunction}
+use Rattle.circuit_model.proofs.Functions.{IsFunction}
 use Rattle.circuit_model.proofs.DifferingLemmas.{one_differing}
 use Rattle.spec_compare.specs.private.First.{IsFirstTerm, IsSumOf}
 use Rattle.spec_compare.specs.private.InputOf.{inputs_from}

@@ -14,10 +14,10 @@ use Rattle.poly_mixed.specs.Monomial.{Monomial, text_cmp, text_cmp_total}
 use Rattle.poly_mixed.specs.Polynomial.{Terms, IsTerm, powers, term_value, value}
 use Rattle.poly_mixed.specs.laws.Uniqueness.{IsZeros}
 use Rattle.poly_mixed.proofs.FieldLaws.{IsField}
-use Rattle.poly_mixed.proofs.Subsets.{is_in, subset, whole}
-use Rattle.poly_mixed.proofs.Uniqueness.{zeros_same, zero_powers}
-use Rattle.poly_mixed.proofs.Simple.{zeros8}
-use Rattle.poly_mixed.proofs.Values.{one_element}
+use Rattle.poly_mixed.proofs.SubsetLemmas.{is_in, subset, whole}
+use Rattle.poly_mixed.proofs.UniquenessLemmas.{zeros_same, zero_powers}
+use Rattle.poly_mixed.proofs.SimpleLemmas.{zeros8}
+use Rattle.poly_mixed.proofs.ValueLemmas.{one_element}
 use Rattle.circuit_model.specs.Ones.{ones_cmp}
 use Rattle.circuit_model.proofs.DifferingLemmas.{longer_after, shorter_before}
 use Rattle.spec_compare.specs.ValueAt.{at_ones}

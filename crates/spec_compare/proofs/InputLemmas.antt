@@ -19,7 +19,7 @@ use Rattle.circuit_model.specs.Word.{Word}
 use Rattle.circuit_model.specs.Circuit.{Circuit, IsInput}
 use Rattle.circuit_model.specs.WellFormed.{IsWellFormed}
 use Rattle.circuit_model.proofs.OnesLemmas.{split, one_number}
-use Rattle.poly_mixed.proofs.Subsets.{is_in, subset}
+use Rattle.poly_mixed.proofs.SubsetLemmas.{is_in, subset}
 use Rattle.circuit_model.specs.Ones.{IsOne, AreOnes}
 use Rattle.spec_compare.specs.private.First.{number_at}
 use Rattle.spec_compare.specs.private.InputOf.{inputs_from}

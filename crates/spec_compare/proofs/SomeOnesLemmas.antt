@@ -11,6 +11,7 @@ use Rattle.std.proofs.Math.Nat.{mul-suc, mul-le-mul_left}
 use Rattle.std.proofs.lemmas.Bool.{cases_lt, eq-eqb, eqb-true}
 use Rattle.std.proofs.lemmas.Option.{slice_get_within}
 use Rattle.graph_core.specs.Graph.{Has}
+use Rattle.graph_core.proofs.GeneralLemmas.{all_in as all_has}
 use Rattle.graph_core.proofs.ListLemmas.{get_below}
 use Rattle.net_core.specs.NetList.{nets}
 use Rattle.net_core.specs.Value.{bit_of}
@@ -25,9 +26,9 @@ use Rattle.circuit_model.proofs.OutLemmas.{one_out}
 use Rattle.circuit_model.proofs.SourceLemmas.{source_inside, stands_source}
 use Rattle.poly_mixed.specs.Polynomial.{Terms, IsPoint, value}
 use Rattle.poly_mixed.proofs.FieldLaws.{field_of}
-use Rattle.poly_mixed.proofs.Ranks.{is_less}
-use Rattle.poly_mixed.proofs.Subsets.{is_in}
-use Rattle.poly_mixed.proofs.Values.{zero_element}
+use Rattle.poly_mixed.proofs.RankLemmas.{is_less}
+use Rattle.poly_mixed.proofs.SubsetLemmas.{is_in}
+use Rattle.poly_mixed.proofs.ValueLemmas.{zero_element}
 use Rattle.stage_model.specs.OutputInBits.{IsOutputInBits}
 use Rattle.stage_model.specs.Variables.{point_bits, variables_of}
 use Rattle.stage_model.proofs.PointLemmas.{point_bits_at}
@@ -76,11 +77,6 @@ collect_rises b first (suc n) =
       | true ↦ (collect_all (λ y. nat_cmp first y ≡ Less) b (first + 1) n (λ r low is. is_less first r (omega arith)), collect_rises b (first + 1) n)
       | false ↦ collect_rises b (first + 1) n
     ]
-
-all_has : (P : ℕ → Type 0) (xs : List ℕ) (x : ℕ) → AllByRecursion P xs → Has xs x → P x
-all_has P [] x all has = let got = has.1 in absurd (cc)
-all_has P (y ∷ ys) x all (zero, got) = let same : y ≡ x = cc in subst P same all.0
-all_has P (y ∷ ys) x all (suc k, got) = all_has P ys x all.1 (k, got)
 
 -- ---- the bits of an input
 

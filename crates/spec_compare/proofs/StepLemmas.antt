@@ -15,8 +15,8 @@ use Rattle.circuit_model.specs.Word.{Word}
 use Rattle.circuit_model.specs.OfBinding.{word_with, words_of}
 use Rattle.poly_mixed.specs.Monomial.{Monomial}
 use Rattle.poly_mixed.specs.Polynomial.{Terms, point}
-use Rattle.poly_mixed.proofs.Simple.{zeros8}
-use Rattle.poly_mixed.proofs.Subsets.{is_in}
+use Rattle.poly_mixed.proofs.SimpleLemmas.{zeros8}
+use Rattle.poly_mixed.proofs.SubsetLemmas.{is_in}
 use Rattle.circuit_model.specs.Ones.{ones_cmp, ones_cmp_total}
 use Rattle.spec_compare.specs.private.First.{IsFirstTerm, IsFirstTo}
 use Rattle.spec_compare.specs.private.InputOf.{inputs_from}
@@ -137,9 +137,6 @@ inputs_long k ones w (u ∷ us) = ap suc (inputs_long k ones (w + 1) us)
 
 module _ (k : ℕ) (ones : List ℕ) (words : List BoundWord) (bases : List (List ℕ)) (v : ℕ) (word : BoundWord) (basis : List ℕ) (got : slice_get words v ≡ Some word) (at : slice_get bases v ≡ Some basis) (list : List ℕ)
     (so_far : list ++ inputs_from k ones (length list) (words_of (drop v words) (drop v bases)) ≡ inputs_from k ones 0 (words_of words bases)) where
-  added : List ℕ
-  added = inputs_from k ones (length list) (word_with word.role word.nets basis)
-
   pub next_inputs : (new : List ℕ) → new ≡ list ++ inputs_from k ones (length list) (word_with word.role word.nets basis) → new ++ inputs_from k ones (length new) (words_of (drop (v + 1) words) (drop (v + 1) bases)) ≡ inputs_from k ones 0 (words_of words bases)
   next_inputs new is =
       let e : v + 1 ≡ suc v = omega arith in

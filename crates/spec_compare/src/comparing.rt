@@ -2,7 +2,6 @@
 ghost use Rattle.std.specs.Prelude.{◌≡◌, ◌≤◌, ◌<◌, ◌+◌, ◌++◌, ℕ, List, length, take, drop, IfOk, OnOk};
 ghost use Rattle.std.specs.List.{AllByRecursion};
 ghost use Rattle.gf_basis.specs.BasisParts.{elements_of, IsBasisOver};
-ghost use Rattle.net_core.specs.Sound.{IsSound};
 ghost use Rattle.net_words.specs.OneCycle.{IsOneCycle};
 ghost use Rattle.poly_mixed.specs.Polynomial.{IsReduced, value};
 ghost use Rattle.poly_mixed.specs.laws.Uniqueness.{IsZeros};
@@ -17,18 +16,9 @@ use crate::Verdict;
 use crate::first::{bits_at, first_term, number};
 use gf_basis::Basis;
 use gf_field::Field;
-use net_words::{Combinational, Role};
+use net_words::{Bound, Combinational, Role};
 use poly_mixed::Poly;
 use std::alloc::{AllocError, Global};
-
-// What a circuit keeps: its net is sound, and its words are bound to the net.
-fn kept(circuit: &Combinational)
-    ensures sound { IsSound circuit.now.net }
-    ensures bound { IsOneCycle circuit.now.net circuit.now.bound }
-{
-    let net = circuit.net();
-    let _gates = net.gates();
-}
 
 // Adds the element of the next word, unless it is the output word, where the bits of these ranks are 1.
 fn add_element<F: Field>(
@@ -53,22 +43,23 @@ fn add_element<F: Field>(
     }
 }
 
-// The elements of the input, state and fed words where the bits of these ranks are 1.
+// The elements of the input, state and fed words of a circuit's binding where the bits of these ranks are 1.
 fn elements<F: Field>(
     alloc: Global,
     field: &F,
-    circuit: &Combinational,
+    _circuit: &Combinational,
+    binding: &Bound,
     bases: &[Basis],
     ones: &[u32],
 ) -> Result<Vec<u64>, AllocError>
-    requires bases { AreBases (F.degree field.now) (F.product field.now) circuit.now bases.now }
-    ensures { IfOk result (λ list. list.items ≡ inputs_from (F.degree field.now) ones.now 0 (circuit_in (F.degree field.now) (F.product field.now) circuit.now bases.now).words) }
+    requires bound { binding.now ≡ _circuit.now.binding }
+    requires is_bound { IsOneCycle _circuit.now.net _circuit.now.binding }
+    requires bases { AreBases (F.degree field.now) (F.product field.now) _circuit.now bases.now }
+    ensures { IfOk result (λ list. list.items ≡ inputs_from (F.degree field.now) ones.now 0 (circuit_in (F.degree field.now) (F.product field.now) _circuit.now bases.now).words) }
 {
-    kept(circuit);
-    let bound = circuit.bound();
     let mut list = Vec::new(alloc);
     for v in 0..bound.words() {
-        add_element(field, bound.role(v), &bases[v as usize], ones, &mut list)?;
+        add_element(field, binding.role(v), &bases[v as usize], ones, &mut list)?;
     }
     Ok(list)
 }
@@ -122,20 +113,20 @@ pub fn compare<F: Field>(
     left: &Poly,
     right: &Poly,
 ) -> Result<Verdict, AllocError>
-    requires k { circuit.now.bound.k ≡ F.degree field.now }
+    requires k { circuit.now.binding.k ≡ F.degree field.now }
     requires bases { AreBases (F.degree field.now) (F.product field.now) circuit.now bases.now }
     requires left { IsInInputBits (circuit_in (F.degree field.now) (F.product field.now) circuit.now bases.now) left.now.terms }
     requires right { IsInInputBits (circuit_in (F.degree field.now) (F.product field.now) circuit.now bases.now) right.now.terms }
     ensures { IfOk result (IsVerdict (circuit_in (F.degree field.now) (F.product field.now) circuit.now bases.now) left.now.terms right.now.terms) }
 {
-    kept(circuit);
+    let bound = circuit.bound();
     let sum = sum_of(alloc, field, left, right)?;
     let terms = sum.terms(alloc)?;
     let Some(term) = first_term(&terms) else {
         return Ok(Verdict::Same);
     };
     let ones = term.mono().bits();
-    let list = elements(alloc, field, circuit, bases, ones)?;
+    let list = elements(alloc, field, circuit, bound, bases, ones)?;
     Ok(Verdict::Differ {
         input: padded(&list),
         left: value_at(field, left, ones),

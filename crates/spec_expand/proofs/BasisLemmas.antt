@@ -6,7 +6,7 @@ use Rattle.std.proofs.lemmas.List.{length-map}
 use Rattle.graph_core.proofs.ListLemmas.{got_read}
 use Rattle.net_core.specs.Sound.{IsSound}
 use Rattle.net_core.proofs.DriverLemmas.{from_map}
-use Rattle.net_words.specs.Binding.{Binding, BoundNet}
+use Rattle.net_words.specs.Binding.{BoundNet}
 use Rattle.net_words.specs.OneCycle.{IsOneCycle}
 use Rattle.gf_field.specs.Ring.{IsRing}
 use Rattle.gf_field.specs.Field.{HasNoZeroDivisors}
@@ -18,14 +18,14 @@ use Rattle.circuit_model.specs.WellFormed.{IsWellFormed}
 use Rattle.circuit_model.specs.OfBinding.{HaveBases}
 use Rattle.circuit_model.proofs.BoundLemmas.{bound_well}
 use Rattle.circuit_model.specs.Bases.{AreBases, circuit_in}
-use Rattle.spec_expand.specs.private.Places.{places_from}
-use Rattle.spec_expand.proofs.PlaceLemmas.{places_long, word_at}
+use Rattle.circuit_model.specs.Places.{places_from}
+use Rattle.circuit_model.proofs.PlaceLemmas.{places_long, word_at}
 
 module _ (k : ℕ) (mul : ℕ → ℕ → ℕ) (b : BoundNet) (bases : List Basis) (are : AreBases k mul b bases) where
-  all_long : length (map elements_of bases) ≡ length b.bound.words
+  all_long : length (map elements_of bases) ≡ length b.binding.words
   all_long = length-map bases elements_of ∙ are.long
 
-  have_bases : HaveBases k b.bound.words (map elements_of bases)
+  have_bases : HaveBases k b.binding.words (map elements_of bases)
   have_bases = record {
     long = all_long;
     each = λ elements has.
@@ -34,26 +34,22 @@ module _ (k : ℕ) (mul : ℕ → ℕ → ℕ) (b : BoundNet) (bases : List Basi
         subst P found.2 (are.each found.0 (has.0, found.1)).elements;
   }
 
-  pub is_well_formed : IsRing k mul → HasNoZeroDivisors k mul → IsSound b.net → IsOneCycle b.net b.bound → b.bound.k ≡ k → IsWellFormed (circuit_in k mul b bases)
+  pub is_well_formed : IsRing k mul → HasNoZeroDivisors k mul → IsSound b.net → IsOneCycle b.net b.binding → b.binding.k ≡ k → IsWellFormed (circuit_in k mul b bases)
   is_well_formed ring field sound bound bits = bound_well k mul b (map elements_of bases) bound bits have_bases ring field sound
 
-  -- the numbers that the code finds are as many as the words of the circuit
-  pub places_are : (places : List ℕ) (binding : Binding) → places ≡ places_from 0 binding.words → binding ≡ b.bound → places ≡ places_from 0 b.bound.words
-  places_are places binding is same = is ∙ ap (λ (x : Binding). places_from 0 x.words) same
+  pub as_many : (places : List ℕ) → places ≡ places_from 0 b.binding.words → length places ≡ length (circuit_in k mul b bases).words
+  as_many places is = ap length is ∙ places_long 0 b.binding.words (map elements_of bases) all_long
 
-  pub as_many : (places : List ℕ) → places ≡ places_from 0 b.bound.words → length places ≡ length (circuit_in k mul b bases).words
-  as_many places is = ap length is ∙ places_long 0 b.bound.words (map elements_of bases) all_long
-
-  module _ (places : List ℕ) (is : places ≡ places_from 0 b.bound.words) (w v : ℕ) (less : w < length places) (read : slice_get places w ≡ Some v) where
-    at_place : slice_get (places_from 0 b.bound.words) w ≡ Some v
+  module _ (places : List ℕ) (is : places ≡ places_from 0 b.binding.words) (w v : ℕ) (less : w < length places) (read : slice_get places w ≡ Some v) where
+    at_place : slice_get (places_from 0 b.binding.words) w ≡ Some v
     at_place = let P : List ℕ → Type 0 = λ ns. slice_get ns w ≡ Some v in subst P is read
 
     pub inside : v < length bases
-    inside = let at = word_at 0 b.bound.words (map elements_of bases) w v all_long at_place in omega (arith, at.number, at.inside, are.long)
+    inside = let at = word_at 0 b.binding.words (map elements_of bases) w v all_long at_place in omega (arith, at.number, at.inside, are.long)
 
     pub own_word : (basis : Basis) → basis ≡ get_or bases v basis → (word : Word) × (slice_get (circuit_in k mul b bases).words w ≡ Some word) × (word.basis ≡ elements_of basis)
     own_word basis got =
-        let at = word_at 0 b.bound.words (map elements_of bases) w v all_long at_place in
+        let at = word_at 0 b.binding.words (map elements_of bases) w v all_long at_place in
         let in_bases : slice_get bases v ≡ Some basis = got_read bases v basis inside got in
         let in_map : slice_get (map elements_of bases) v ≡ Some (elements_of basis) = slice_get-map elements_of bases v ∙ rw in_bases refl in
         let same : v ≡ at.index = at.number ∙ none at.index in

@@ -1,19 +1,20 @@
 -- The computed token at the front of a text is the one that stands there.
-use Rattle.std.proofs.Common.{◌≡◌, ◌∙◌, ap, sym, refl, subst, inl, inr, ℕ, zero, suc, ◌+◌, ◌-◌, ◌<◌, ◌≤◌, Bool, true, false, cond, ◌&&◌, List, [], ◌∷◌, ◌++◌, length, take, drop, codes, get_or, nat_lt, ◌==◌, Option, Some, None, arith}
+use Rattle.std.proofs.Common.{◌≡◌, ◌∙◌, ap, sym, refl, subst, inl, inr, ℕ, zero, suc, ◌+◌, ◌-◌, ◌<◌, ◌≤◌, true, false, cond, ◌&&◌, List, [], ◌∷◌, ◌++◌, length, take, drop, codes, get_or, nat_lt, ◌==◌, Option, Some, None, arith}
 use Rattle.std.specs.Prelude.{slice_index}
 use Rattle.std.proofs.lemmas.Bool.{lt-ltb, eq-eqb}
 use Rattle.std.proofs.lemmas.Bool.Decides.{nat_tests}
 use Rattle.std.specs.Char.{IsAsciiAlphabetic}
 use Rattle.text_core.specs.Names.{IsName, IsNameByte}
 use Rattle.text_core.specs.Numbers.{value_of, IsDigit, AreDigits, IsDecimal}
+use Rattle.graph_core.proofs.GeneralLemmas.{both_true, taken_long as length_taken}
 use Rattle.poly_mixed.specs.Scan.{run, name_of, is_digit, is_hex_digit, is_letter, is_name_byte}
-use Rattle.poly_mixed.proofs.Runs.{Passes}
-use Rattle.poly_mixed.proofs.Spelled.{letter}
+use Rattle.poly_mixed.proofs.RunLemmas.{Passes}
+use Rattle.poly_mixed.proofs.SpelledLemmas.{letter}
 use Rattle.spec_expand.specs.Token.{Token, name, hex, decimal, equals, plus, times, power, IsSpelling, IsFront, HasNoFront}
 use Rattle.spec_expand.specs.private.Scanning.{hex_run, number_front, front_of}
-use Rattle.spec_expand.proofs.RunLemmas.{run_yes, run_within, run_pass, take_run, run_long, each_passes, passes_each, take_taken, taken_long, taken_short, taken_pass, length_taken, digit_range, range_digit, digit_is, hex_is, is_hex, letter_is, letter_byte, is_name, name_is}
+use Rattle.spec_expand.proofs.RunLemmas.{run_yes, run_within, run_pass, take_run, run_long, each_passes, passes_each, take_taken, taken_long, taken_short, taken_pass, digit_range, range_digit, digit_is, hex_is, is_hex, letter_is, letter_byte, is_name, name_is}
 use Rattle.spec_expand.proofs.TokenLemmas.{decimal_digit}
-use Rattle.spec_expand.proofs.TextTokens.{nothing}
+use Rattle.spec_expand.proofs.TextTokenLemmas.{nothing}
 
 -- what the first byte of a token is
 FirstIs : Token → ℕ → Type 0
@@ -73,11 +74,6 @@ record HasHex (bs : List ℕ) : Type 0 where
   pub rest : List ℕ
   pub is : bs ≡ 48 ∷ 120 ∷ rest
   pub same : hex_run bs ≡ run is_hex_digit rest
-
-both_true : (a b : Bool) → (a && b) ≡ true → (a ≡ true) × (b ≡ true)
-both_true true true e = (refl, refl)
-both_true true false e = absurd (let bad : false ≡ true = e in cc)
-both_true false b e = absurd (let bad : false ≡ true = e in cc)
 
 eqb_true : (a b : ℕ) → (a == b) ≡ true → a ≡ b
 eqb_true a b e = grind (arith, nat_tests)

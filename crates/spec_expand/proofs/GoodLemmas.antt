@@ -11,11 +11,12 @@ use Rattle.spec_expand.specs.declared.fault.SpecFault.{SpecFault}
 use Rattle.spec_expand.specs.declared.fault.SpecFault.TheVariants.{Syntax}
 use Rattle.spec_expand.specs.declared.reader.Next.{Next}
 use Rattle.spec_expand.specs.declared.reader.Next.TheVariants.{Output, Assign, Factor as AtFactor, AfterNumber, AfterName, Exponent}
-use Rattle.spec_expand.specs.private.Progress.{Progress, Read, start, closed, token_read, tokens_read, stop_read, end_read}
-use Rattle.spec_expand.proofs.Moves.{Shape, Move, reads_output, reads_sign, reads_word, reads_element, reads_bit, reads_power, reads_exponent, times_number, times_name, plus_number, plus_name, Refused, unfit, unknown, large, wrong, shape, go, known_at, fits_at, at_left, at_sign, at_factor, at_number, at_name, at_power, moves, refused, move_goes}
+use Rattle.spec_expand.specs.private.Progress.{Progress, Read, closed, token_read, end_read}
+use Rattle.spec_expand.proofs.ReadTokens.{start, tokens_read, stop_read}
+use Rattle.spec_expand.proofs.MoveLemmas.{Shape, Move, reads_output, reads_sign, reads_word, reads_element, reads_bit, reads_power, reads_exponent, times_number, times_name, plus_number, plus_name, Refused, unfit, unknown, large, wrong, shape, go, known_at, fits_at, at_left, at_sign, at_factor, at_number, at_name, at_power, moves, refused, move_goes}
 use Rattle.spec_expand.proofs.WalkLemmas.{walk, IsAfter, no_beginning, walk_more, no_spec}
 use Rattle.spec_expand.proofs.SaidLemmas.{Says, IsEnded, says_start, says_more, begins, move_starts, number_ended, name_ended, name_goes, hex_goes, decimal_goes}
-use Rattle.spec_expand.proofs.OneOutcome.{Placed, plain_both}
+use Rattle.spec_expand.proofs.OneOutcomeLemmas.{Placed, plain_both}
 
 abbrev is_raised : Shape → Bool
 is_raised at_power = true

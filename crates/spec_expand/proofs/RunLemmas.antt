@@ -9,7 +9,7 @@ use Rattle.std.specs.Char.{IsAsciiAlphabetic}
 use Rattle.text_core.specs.Names.{IsNameByte}
 use Rattle.text_core.specs.Numbers.{digit_value, IsDigit, IsHexDigit}
 use Rattle.poly_mixed.specs.Scan.{run, is_digit, is_hex_digit, is_letter, is_name_byte}
-use Rattle.poly_mixed.proofs.Runs.{Passes}
+use Rattle.poly_mixed.proofs.RunLemmas.{Passes}
 
 module _ (q : ℕ → Bool) where
   pub run_yes : (b : ℕ) (bs : List ℕ) → q b ≡ true → run q (b ∷ bs) ≡ b ∷ run q bs
@@ -85,11 +85,6 @@ pub taken_pass : (q : ℕ → Bool) (i : ℕ) (xs : List ℕ) → Passes q xs �
 taken_pass q zero xs all = tt
 taken_pass q (suc i) [] all = tt
 taken_pass q (suc i) (x ∷ xs) all = (all.0, taken_pass q i xs all.1)
-
-pub length_taken : (m : ℕ) (xs : List ℕ) → m ≤ length xs → length (take m xs) ≡ m
-length_taken zero xs low = refl
-length_taken (suc m) [] low = absurd (omega (arith, low))
-length_taken (suc m) (x ∷ xs) low = ap suc (length_taken m xs (omega (arith, low)))
 
 -- ---- bytes
 

@@ -8,8 +8,9 @@ use Rattle.spec_expand.specs.Grammar.{Factor, number, power_of, IsFactor, IsSpec
 use Rattle.spec_expand.specs.Specification.{SpecTerms, coefficient_of, pair_of, pairs_of, terms_of}
 use Rattle.spec_expand.specs.declared.reader.Next.{Next}
 use Rattle.spec_expand.specs.declared.reader.Next.TheVariants.{Output, Assign, Factor as AtFactor, AfterNumber, AfterName, Exponent}
-use Rattle.spec_expand.specs.private.Progress.{Progress, progress, start, closed, to_next, with_power, next_term}
-use Rattle.spec_expand.proofs.Moves.{Move, reads_output, reads_sign, reads_word, reads_element, reads_bit, reads_power, reads_exponent, times_number, times_name, plus_number, plus_name, Shape, go, shape}
+use Rattle.spec_expand.specs.private.Progress.{Progress, progress, closed, to_next, with_power, next_term}
+use Rattle.spec_expand.proofs.ReadTokens.{start}
+use Rattle.spec_expand.proofs.MoveLemmas.{Move, reads_output, reads_sign, reads_word, reads_element, reads_bit, reads_power, reads_exponent, times_number, times_name, plus_number, plus_name, Shape, go, shape}
 use Rattle.spec_expand.proofs.PrefixLemmas.{IsPrefix, first_prefix, prefix_more, prefix_times, prefix_plus, prefix_spec, prefix_begins, pairs_more, terms_more, coefficient_power, coefficient_number}
 
 module _ (l : Labelling) (k : ℕ) (mul : ℕ → ℕ → ℕ) (ring : IsRing k mul) where

@@ -13,7 +13,7 @@ use Rattle.poly_mixed.specs.declared.stage.ReduceFault.TheVariants.{TooManyTerms
 use Rattle.poly_mixed.specs.declared.stage.Stage.{Stage}
 use Rattle.poly_mixed.specs.declared.stage.Stage.TheVariants.{Cut, WordProduct, WordSum, SpecProduct, SpecSum, InstanceProduct, InstanceSum}
 use Rattle.poly_mixed.proofs.FieldLaws.{field_of}
-use Rattle.poly_mixed.proofs.Simple.{reduced_nothing}
+use Rattle.poly_mixed.proofs.SimpleLemmas.{reduced_nothing}
 use Rattle.circuit_model.specs.Circuit.{Circuit, IsInput}
 use Rattle.circuit_model.specs.WellFormed.{IsWellFormed}
 use Rattle.stage_model.specs.InputPoint.{IsAtInput}
@@ -27,7 +27,8 @@ use Rattle.spec_expand.specs.Specification.{SpecTerms, IsTermOver}
 use Rattle.spec_expand.specs.SpecValue.{powers_at, spec_at, factors_of, product_at}
 use Rattle.spec_expand.specs.SpecListing.{IsAtPoint, IsSpecProduct, HasFactor, is_spec_stage, spec_stage_of, is_earlier_spec_stage, spec_listing}
 use Rattle.spec_expand.specs.Expanded.{IsExpansion}
-use Rattle.spec_expand.specs.private.Expanding.{IsOfInput, HasWithin, AreProductsWithin, IsReached, IsProductOver, IsTermRefusal, IsSummed}
+use Rattle.spec_expand.specs.private.Expanding.{IsOfInput, HasWithin, AreProductsWithin, IsReached, IsProductOver, IsTermRefusal}
+use Rattle.spec_expand.proofs.Summed.{IsSummed}
 use Rattle.spec_expand.proofs.SpecValueLemmas.{product_more, product_none, product_all, terms_taken}
 
 module _ (c : Circuit) (well : IsWellFormed c) where
@@ -61,9 +62,6 @@ module _ (c : Circuit) (well : IsWellFormed c) where
 
   pub within_of : (h : List ℕ → ℕ) (ts : Terms) (bound : ℕ) → IsOfInput c h ts → length ts ≤ bound → HasWithin c h bound
   within_of h ts bound is low = record { size = length ts; has = has_size h ts (length ts) is refl; within = low }
-
-  pub same_function : (g h : List ℕ → ℕ) (ts : Terms) → ((xs : List ℕ) → IsInput c xs → g xs ≡ h xs) → IsOfInput c g ts → IsOfInput c h ts
-  same_function g h ts same is = record { reduced = is.reduced; values = λ p xs at input here. is.values p xs at input here ∙ same xs input }
 
   -- it stands in the bits of the words alone
   pub expansion : (h : List ℕ → ℕ) (ts : Terms) → IsOfInput c h ts → IsExpansion c h ts

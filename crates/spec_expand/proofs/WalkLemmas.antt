@@ -2,17 +2,13 @@
 use Rattle.std.proofs.Common.{◌≡◌, ◌∙◌, ap, sym, refl, subst, inl, inr, ℕ, List, [], ◌∷◌, ◌++◌, Option, Some, None, append_assoc}
 use Rattle.spec_expand.specs.Token.{Token, name, equals, plus, times}
 use Rattle.spec_expand.specs.Grammar.{Factor, number, power_of, IsFactor, AreJoined, IsTerm, IsSpec, IsBeginning}
-use Rattle.spec_expand.proofs.Moves.{Shape, at_left, at_sign, at_factor, at_number, at_name, at_power, go}
+use Rattle.spec_expand.proofs.MoveLemmas.{Shape, at_left, at_sign, at_factor, at_number, at_name, at_power, go}
 
 -- where tokens lead, if they may stand there
 unfoldable pub walk : Option Shape → List Token → Option Shape
 walk None ts = None
 walk (Some s) [] = Some s
 walk (Some s) (t ∷ ts) = walk (go s t) ts
-
-walk_nowhere : (ts : List Token) → walk None ts ≡ None
-unfolding walk
-walk_nowhere ts = refl
 
 pub walk_both : (s : Option Shape) (xs ys : List Token) → walk s (xs ++ ys) ≡ walk (walk s xs) ys
 unfolding walk

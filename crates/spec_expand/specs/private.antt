@@ -1,4 +1,3 @@
 pub mod Scanning
 pub mod Progress
-pub mod Places
 pub mod Expanding

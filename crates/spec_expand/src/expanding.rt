@@ -1,7 +1,5 @@
 //! A specification as a polynomial in the bits of input, state and fed words.
 ghost use Rattle.std.specs.Prelude.{◌≡◌, ◌<◌, ◌+◌, ◌^◌, length, take, slice_get, Some, IfOk, IfErr, OnOk};
-ghost use Rattle.net_core.specs.Sound.{IsSound};
-ghost use Rattle.net_words.specs.OneCycle.{IsOneCycle};
 ghost use Rattle.gf_basis.specs.BasisParts.{elements_of, IsBasisOver};
 ghost use Rattle.circuit_model.specs.Word.{Word};
 ghost use Rattle.stage_model.specs.Listing.{AreAllWithin, IsRefusal};
@@ -13,14 +11,13 @@ ghost use Rattle.spec_expand.specs.Expanded.{IsExpansion};
 ghost use Rattle.spec_expand.specs.private.Expanding.{IsSetting, IsReached, IsTermRefusal};
 
 use crate::ones::ones;
-use crate::places::word_places;
 use crate::power::power_of_word;
-use crate::size::check_size;
 use crate::{Spec, SpecTerm};
+use circuit_model::word_places;
 use gf_basis::Basis;
 use gf_field::Field;
 use net_words::Combinational;
-use poly_mixed::{Poly, ReduceFault, Stage, constant};
+use poly_mixed::{Poly, ReduceFault, Stage, check_size, constant};
 use std::alloc::Global;
 
 // The product of a term's coefficient and its first factors, and how many these are.
@@ -28,15 +25,6 @@ use std::alloc::Global;
 struct Reached {
     poly: Poly,
     factors: u32,
-}
-
-// What a circuit keeps: its net is sound, and its words are bound to the net.
-fn kept(circuit: &Combinational)
-    ensures sound { IsSound circuit.now.net }
-    ensures bound { IsOneCycle circuit.now.net circuit.now.bound }
-{
-    let net = circuit.net();
-    let _gates = net.gates();
 }
 
 // The number of an input, state or fed word among all words.
@@ -87,7 +75,6 @@ fn one_factor<F: Field>(
     ensures reached { OnOk result (IsReached (circuit_in (F.degree field.now) (F.product field.now) circuit.now bases.now) _term.now bound reached.new.factors reached.new.poly.terms) }
     ensures fault { IfErr result (IsTermRefusal (circuit_in (F.degree field.now) (F.product field.now) circuit.now bases.now) _term.now number bound) }
 {
-    kept(circuit);
     let basis = basis_of(field, circuit, bases, places, word);
     let power = power_of_word(alloc, field, basis, word, j)?;
     let product = reached.poly.mul(alloc, field, &power)?;
@@ -160,7 +147,6 @@ fn one_term<F: Field>(
     ensures reached { IfOk result (λ q. IsReached (circuit_in (F.degree field.now) (F.product field.now) circuit.now bases.now) term.now bound (length (factors_of term.now.1)) q.terms) }
     ensures fault { IfErr result (IsTermRefusal (circuit_in (F.degree field.now) (F.product field.now) circuit.now bases.now) term.now number bound) }
 {
-    kept(circuit);
     let powers = term.powers();
     let poly = constant(alloc, field, term.coefficient())?;
     let mut reached = Reached { poly, factors: 0 };
@@ -197,14 +183,13 @@ pub fn expand<F: Field>(
     bases: &[Basis],
     bound: u32,
 ) -> Result<Poly, ReduceFault>
-    requires k { circuit.now.bound.k ≡ F.degree field.now }
+    requires k { circuit.now.binding.k ≡ F.degree field.now }
     requires bases { AreBases (F.degree field.now) (F.product field.now) circuit.now bases.now }
     requires spec { IsOverWords (F.degree field.now) (length (circuit_in (F.degree field.now) (F.product field.now) circuit.now bases.now).words) spec.now }
     ensures polynomial { IfOk result (λ q. IsExpansion (circuit_in (F.degree field.now) (F.product field.now) circuit.now bases.now) (λ xs. spec_at (F.product field.now) xs spec.now) q.terms) }
     ensures within { OnOk result (AreAllWithin (F.degree field.now) (F.product field.now) (spec_listing (circuit_in (F.degree field.now) (F.product field.now) circuit.now bases.now) spec.now) bound) }
     ensures fault { IfErr result (IsRefusal (F.degree field.now) (F.product field.now) (spec_listing (circuit_in (F.degree field.now) (F.product field.now) circuit.now bases.now) spec.now) bound) }
 {
-    kept(circuit);
     let places = word_places(alloc, circuit.bound())?;
     let terms = spec.terms();
     let mut sum = Poly::zero(alloc);

@@ -6,11 +6,9 @@ mod expanding;
 mod fault;
 mod laws;
 mod ones;
-mod places;
 mod power;
 mod reader;
 mod scan;
-mod size;
 mod spec;
 
 pub use expanding::expand;

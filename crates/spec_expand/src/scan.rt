@@ -1,8 +1,9 @@
 //! Tokens at the front of a text, each as long as possible.
-ghost use Rattle.std.specs.Prelude.{◌≡◌, ◌≤◌, ◌+◌, ◌*◌, ◌^◌, length, MatchOption};
-ghost use Rattle.text_core.specs.Numbers.{value_of, digit_value};
+ghost use Rattle.std.specs.Prelude.{◌≡◌, ◌≤◌, ◌+◌, length};
 ghost use Rattle.poly_mixed.specs.Scan.{run, name_of as name_at_front};
 ghost use Rattle.spec_expand.specs.private.Scanning.{is_in, hex_run, number_front, word_front, any_front, front_of, IsSeenAs, IsSeenAt};
+
+use text_core::value_in_base;
 
 /// Kinds of bytes.
 #[derive(Clone, Copy, Debug, PartialEq, Eq)]
@@ -71,42 +72,6 @@ fn name(bytes: &[u8]) -> &[u8]
     }
 }
 
-// The value of digits of a base up to 16, where it is below 2^64.
-fn value(digits: &[u8], base: u8) -> Option<u64>
-    requires { (1 ≤ base) × (base ≤ 16) }
-    ensures { MatchOption result (2 ^ 64 ≤ value_of base digits.now) (λ n. n ≡ value_of base digits.now) }
-{
-    let mut n: u64 = 0;
-    for byte in digits {
-        match with_digit(n, base, digit(*byte)) {
-            Some(more) => n = more,
-            None => return None,
-        }
-    }
-    Some(n)
-}
-
-// A value with one more digit, where it is below 2^64.
-fn with_digit(n: u64, base: u8, digit: u8) -> Option<u64>
-    ensures { MatchOption result (2 ^ 64 ≤ n * base + digit) (λ m. m ≡ n * base + digit) }
-{
-    let shifted = n.checked_mul(u64::from(base))?;
-    shifted.checked_add(u64::from(digit))
-}
-
-// What a digit stands for.
-fn digit(byte: u8) -> u8
-    ensures { result ≡ digit_value byte }
-{
-    if byte < 58 {
-        byte.saturating_sub(48)
-    } else if byte < 71 {
-        byte - 55
-    } else {
-        byte.saturating_sub(87)
-    }
-}
-
 // The hexadecimal digits after `0x` at the front.
 fn hex_digits(bytes: &[u8]) -> &[u8]
     ensures value { result.now ≡ hex_run bytes.now }
@@ -131,10 +96,16 @@ fn number(bytes: &[u8]) -> (Scanned<'_>, usize)
 {
     let digits = hex_digits(bytes);
     if digits.len() > 0 {
-        return (Scanned::HexNumber(value(digits, 16)), digits.len() + 2);
+        return (
+            Scanned::HexNumber(value_in_base(digits, 16)),
+            digits.len() + 2,
+        );
     }
     let digits = front(bytes, Class::Digit);
-    (Scanned::DecimalNumber(value(digits, 10)), digits.len())
+    (
+        Scanned::DecimalNumber(value_in_base(digits, 10)),
+        digits.len(),
+    )
 }
 
 // The number or name at the front, by its first byte, and how many bytes it has.

@@ -7,7 +7,7 @@ use Rattle.circuit_model.specs.Circuit.{Circuit}
 use Rattle.circuit_model.specs.WellFormed.{IsWellFormed}
 use Rattle.circuit_model.proofs.WordLemmas.{same_element}
 use Rattle.poly_mixed.specs.Polynomial.{Point}
-use Rattle.poly_mixed.proofs.FirstWords.{first_point}
+use Rattle.poly_mixed.proofs.FirstWordLemmas.{first_point}
 use Rattle.stage_model.specs.Variables.{point_bits, variables_of}
 use Rattle.stage_model.specs.Cut.{IsSettled, IsCut, CutOf}
 use Rattle.stage_model.proofs.EliminationLemmas.{some_elimination, one_elimination}
@@ -32,9 +32,6 @@ module _ (c : Circuit) (well : IsWellFormed c) where
 
   pub one_cut : (t : ℕ) (p : Point) (e other : ℕ) → CutOf c t p e → CutOf c t p other → e ≡ other
   one_cut t p e other a b = one_cut_of c.net well.sound (variables_of c) c.output t p e other a b
-
-  pub cut_below : (t : ℕ) (p : Point) (e : ℕ) → CutOf c t p e → e < 2 ^ c.k
-  cut_below t p e cut = let found = some_cut t p in let P : ℕ → Type 0 = λ x. x < 2 ^ c.k in subst P (one_cut t p found.0 e found.1 cut) found.2
 
   none_first : (order : List ℕ) (n : ℕ) → IsFree c.net order 0 n
   none_first order n g is out = let less = is.2 in omega arith

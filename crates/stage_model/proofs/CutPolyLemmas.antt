@@ -7,11 +7,10 @@ use Rattle.net_core.specs.NetList.{NetList, nets}
 use Rattle.circuit_model.specs.Word.{Word}
 use Rattle.poly_mixed.specs.Polynomial.{Terms, Point, IsPoint, IsReduced, IsPolynomialOf, IsElement, point, value}
 use Rattle.poly_mixed.proofs.FieldLaws.{IsField}
-use Rattle.poly_mixed.proofs.Values.{product_zero}
-use Rattle.poly_mixed.proofs.Products.{value_element}
+use Rattle.poly_mixed.proofs.ValueLemmas.{product_zero}
+use Rattle.poly_mixed.proofs.ProductLemmas.{value_element}
 use Rattle.stage_model.specs.Variables.{rank_in, point_bit}
 use Rattle.stage_model.specs.Cut.{IsCut}
-use Rattle.stage_model.specs.Stage.{IsOfStage}
 use Rattle.stage_model.specs.private.Plain.{HasEachNet, with_first, IsChoice, IsCutAfter}
 
 module _ {k : ℕ} {mul : ℕ → ℕ → ℕ} (f : IsField k mul) where
@@ -100,10 +99,3 @@ module _ (k : ℕ) (mul : ℕ → ℕ → ℕ) (net : NetList) (variables : List
       moved p b e x is cut =
           let P : ℕ → Type 0 = λ y. IsCut net variables output t (with_first bits p) y in
           subst P (sym is) (same_cut net variables output t (with_first (bits ++ b ∷ []) p) (with_first bits p) x (λ n less. more_same bits b p e (rank_in variables n)) cut)
-
-  -- where no rank has its bit
-  pub no_bits : (ts : Terms) → IsCutAfter k mul net variables output t [] ts → IsOfStage k mul (IsCut net variables output t) ts
-  no_bits ts is = record {
-    reduced = is.reduced;
-    values = λ p at. same_cut net variables output t (with_first [] p) p (value mul p ts) (λ n less. later_one [] p (rank_in variables n) (omega arith)) (is.values p at);
-  }

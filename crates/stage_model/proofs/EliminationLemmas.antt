@@ -5,6 +5,7 @@ use Rattle.std.specs.Option.{option_map_or}
 use Rattle.std.proofs.lemmas.List.{reverse-reverse, length-reverse}
 use Rattle.std.proofs.lemmas.Option.{slice_get_within}
 use Rattle.graph_core.proofs.ListLemmas.{get_below}
+use Rattle.graph_core.proofs.GeneralLemmas.{all_in}
 use Rattle.net_core.specs.GateValue.{GateValue}
 use Rattle.net_core.specs.NetList.{NetList}
 use Rattle.net_core.specs.Sound.{IsSound}
@@ -12,7 +13,7 @@ use Rattle.net_core.specs.Level.{Levels}
 use Rattle.net_core.specs.Order.{rank_at, IsBefore, IsOrder, IsLevelOrder, IsElimination}
 use Rattle.net_core.proofs.ExistLemmas.{sound_levels}
 use Rattle.net_core.proofs.LawLemmas.{order_only}
-use Rattle.stage_model.proofs.SortLemmas.{sorted, sorted_is, next, all_in, Lower}
+use Rattle.stage_model.proofs.SortLemmas.{sorted, sorted_is, next, Lower}
 
 -- the output of the gate at a position
 abbrev out_at : NetList → ℕ → ℕ

@@ -1,5 +1,5 @@
 -- Gates at the end of an order get their values, one after another.
-use Rattle.std.proofs.Common.{◌≡◌, ◌≢◌, ◌∙◌, ap, sym, refl, subst, inl, inr, ℕ, zero, suc, ◌<◌, ◌≤◌, ◌+◌, ◌-◌, Bool, List, [], ◌∷◌, length, drop, reverse, Some, arith, length-set}
+use Rattle.std.proofs.Common.{◌≡◌, ◌≢◌, ◌∙◌, ap, sym, subst, inl, inr, ℕ, zero, suc, ◌<◌, ◌≤◌, ◌+◌, ◌-◌, Bool, List, [], ◌∷◌, length, drop, reverse, Some, arith, length-set}
 use Rattle.std.specs.Prelude.{slice_get, ◌==◌}
 use Rattle.std.specs.Int.{bit_at}
 use Rattle.std.proofs.Math.ListN.{set}
@@ -34,10 +34,6 @@ with_levels net order sound is =
     (found.0, found.1, subst P (levels_only net is.0 found.0 sound.one is.1 found.1.0) is.2)
 
 module _ (net : NetList) (order : List ℕ) (from : ℕ) (start : List Bool) where
-  -- at first no gate has its value
-  pub settled_first : length start ≡ nets net → AreSettledFrom net order from from start start
-  settled_first long = record { long = long; right = λ g at. absurd (omega (arith, at.first, at.last)); free = λ n none. refl }
-
   module _ (sound : IsSound net) (levels : Levels) (all : AllHaveLevels net levels) (is : IsOrder net levels order) (k p : ℕ) (g : GateValue) (bits : List Bool)
       (here : slice_get order k ≡ Some p) (gate : slice_get net.gates p ≡ Some g) (low : from ≤ k) (settled : AreSettledFrom net order from k start bits) where
     within : g.out < length bits

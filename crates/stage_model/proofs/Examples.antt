@@ -17,9 +17,9 @@ use Rattle.net_words.specs.declared.word.Role.TheVariants.{Input}
 use Rattle.poly_mixed.specs.Monomial.{Monomial}
 use Rattle.poly_mixed.specs.Polynomial.{Point, point, IsMonomial, IsPolynomialOf, IsReduced, powers, value}
 use Rattle.poly_mixed.proofs.FieldLaws.{IsField, field_of}
-use Rattle.poly_mixed.proofs.Simple.{one_simple, no_ranks_rise}
-use Rattle.poly_mixed.proofs.Uniqueness.{zero_powers}
-use Rattle.poly_mixed.proofs.Values.{one_map}
+use Rattle.poly_mixed.proofs.SimpleLemmas.{one_simple, no_ranks_rise}
+use Rattle.poly_mixed.proofs.UniquenessLemmas.{zero_powers}
+use Rattle.poly_mixed.proofs.ValueLemmas.{one_map}
 use Rattle.poly_mixed.specs.declared.stage.Stage.TheVariants.{Cut, WordProduct, WordSum}
 use Rattle.circuit_model.specs.Word.{Word, HasElement}
 use Rattle.circuit_model.specs.Out.{IsOut}

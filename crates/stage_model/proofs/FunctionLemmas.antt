@@ -7,7 +7,7 @@ use Rattle.poly_mixed.specs.Cofactor.{at_bit}
 use Rattle.poly_mixed.specs.Polynomial.{Terms, Point, IsPolynomialOf, value}
 use Rattle.poly_mixed.specs.laws.Uniqueness.{InFirstWords}
 use Rattle.poly_mixed.proofs.FieldLaws.{field_of}
-use Rattle.poly_mixed.proofs.FirstWords.{first_words, first_point, is_first_point, first_alone}
+use Rattle.poly_mixed.proofs.FirstWordLemmas.{first_words, first_point, is_first_point, first_alone}
 use Rattle.stage_model.specs.Stage.{IsOfStage}
 use Rattle.stage_model.specs.First.{IsFunctionOfFirst, InFirstRanks}
 use Rattle.stage_model.proofs.SizeLemmas.{IsFunction, is_unique, lacks}

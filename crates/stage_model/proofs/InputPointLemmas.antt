@@ -7,6 +7,7 @@ use Rattle.std.proofs.lemmas.List.{length-append, length-replicate}
 use Rattle.std.proofs.lemmas.Bool.{eq-eqb, ne_eqb}
 use Rattle.std.proofs.lemmas.Nat.{pow_pos}
 use Rattle.graph_core.proofs.ListLemmas.{get_below}
+use Rattle.graph_core.proofs.GeneralLemmas.{front_of as front_taken}
 use Rattle.net_core.proofs.LevelLemmas.{nat_eq_or}
 use Rattle.net_core.specs.Lists.{Has}
 use Rattle.net_core.specs.NetList.{nets}
@@ -43,10 +44,6 @@ padded : (k : ℕ) (xs : List ℕ) → ((x : ℕ) → Has xs x → x < 2 ^ k) �
 padded k [] are zero some = tt
 padded k [] are (suc m) some = (some, padded k [] (λ x has. are x has) m some)
 padded k (x ∷ xs) are m some = (are x (0, refl), padded k xs (λ y has. are y (suc has.0, has.1)) m some)
-
-front_taken : (xs ys : List ℕ) → take (length xs) (xs ++ ys) ≡ xs
-front_taken [] ys = refl
-front_taken (x ∷ xs) ys = ap (λ zs. x ∷ zs) (front_taken xs ys)
 
 module _ (c : Circuit) (xs : List ℕ) (well : IsWellFormed c) (input : IsInput c xs) where
   -- the bits of the first cycle

@@ -12,9 +12,9 @@ use Rattle.gf_field.specs.Field.{HasNoZeroDivisors}
 use Rattle.poly_mixed.specs.Cofactor.{at_bit}
 use Rattle.poly_mixed.specs.Polynomial.{Terms, Point, IsPoint, IsElement, value}
 use Rattle.poly_mixed.proofs.FieldLaws.{IsField, field_of}
-use Rattle.poly_mixed.proofs.Values.{zero_element, product_zero}
-use Rattle.poly_mixed.proofs.Products.{value_element}
-use Rattle.poly_mixed.proofs.Simple.{zeros8, choose}
+use Rattle.poly_mixed.proofs.ValueLemmas.{zero_element, product_zero}
+use Rattle.poly_mixed.proofs.ProductLemmas.{value_element}
+use Rattle.poly_mixed.proofs.SimpleLemmas.{zeros8, choose}
 use Rattle.stage_model.specs.Stage.{IsOfStage}
 use Rattle.stage_model.specs.First.{AgreeAtFirst}
 use Rattle.stage_model.proofs.WordBitLemmas.{element_in}

@@ -20,7 +20,7 @@ use Rattle.circuit_model.specs.Feeds.{fed_nets}
 use Rattle.circuit_model.specs.Word.{Word, HasElement}
 use Rattle.circuit_model.specs.Circuit.{Circuit, IsInput}
 use Rattle.circuit_model.specs.WellFormed.{IsWellFormed}
-use Rattle.circuit_model.specs.Run.{IsCycle, IsFirst, IsOpenRun}
+use Rattle.circuit_model.specs.Run.{IsClockCycle, IsFirst, IsOpenRun}
 use Rattle.circuit_model.specs.Out.{Ends, IsOut}
 use Rattle.circuit_model.proofs.OutLemmas.{open_out}
 use Rattle.circuit_model.proofs.SourceLemmas.{source_inside, stands_source}
@@ -80,7 +80,7 @@ module _ (c : Circuit) (well : IsWellFormed c) (flat : c.net.latches ≡ []) (p 
           same_word (point_bits (nets c.net) (variables_of c) p) bits w x
           (λ n has. sym (source_bit n (stands_source c.net w.role n (well.inner w (i, got)) (well.places w n (i, got) has)))) (is i w x got at tt)
 
-      cycle : (t : ℕ) → IsCycle c xs t bits
+      cycle : (t : ℕ) → IsClockCycle c xs t bits
       cycle t = record {
         consistent = consistent;
         inputs = λ i w x got at role. in_word i w x got at;
@@ -95,7 +95,7 @@ module _ (c : Circuit) (well : IsWellFormed c) (flat : c.net.latches ≡ []) (p 
       open_run = record {
         input = input;
         long = length-replicate {A = List Bool} (c.cycles + 1) bits;
-        each = λ t u got. let P : List Bool → Type 0 = λ v. IsCycle c xs t v in subst P (all_same (c.cycles + 1) t bits u got) (cycle t);
+        each = λ t u got. let P : List Bool → Type 0 = λ v. IsClockCycle c xs t v in subst P (all_same (c.cycles + 1) t bits u got) (cycle t);
         first = λ u got. let P : List Bool → Type 0 = λ v. IsFirst c xs v in subst P (all_same (c.cycles + 1) 0 bits u got) first;
         next = λ t u v at_u at_v. λ l has. absurd (no_latch c.net.latches l flat has);
       }

@@ -1,3 +1,4 @@
+pub mod NoneOver
 pub mod SortLemmas
 pub mod EliminationLemmas
 pub mod SettleLemmas

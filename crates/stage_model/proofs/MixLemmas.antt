@@ -19,10 +19,10 @@ use Rattle.stage_model.specs.Variables.{point_bits, variables_of}
 use Rattle.stage_model.specs.Mix.{IsMixedInput, IsMix}
 use Rattle.stage_model.specs.InputPoint.{input_of}
 use Rattle.stage_model.specs.Cut.{CutOf}
-use Rattle.stage_model.proofs.SortLemmas.{all_in}
 use Rattle.stage_model.proofs.LastCutLemmas.{last_cut}
 use Rattle.stage_model.proofs.PointLemmas.{some_element}
 use Rattle.graph_core.proofs.GraphLemmas.{same_lists}
+use Rattle.graph_core.proofs.GeneralLemmas.{all_in}
 
 -- elements of words, the first w out of a list and the others by bits
 record IsMixed (k : ℕ) (bits : List Bool) (w : ℕ) (words : List Word) (ys xs : List ℕ) : Type 0 where

@@ -36,12 +36,12 @@ module _ (c : Circuit) (well : IsWellFormed c) (flat : c.net.latches ≡ []) (ts
     },
   )
 
-pub same_stage : (k : ℕ) (mul : ℕ → ℕ → ℕ) (binding : BoundNet) (bases : List (List ℕ)) (basis : List ℕ) (t : ℕ) (ts : Terms) → length bases ≡ length binding.bound.words → basis ≡ output_basis binding.bound.words bases
+pub same_stage : (k : ℕ) (mul : ℕ → ℕ → ℕ) (binding : BoundNet) (bases : List (List ℕ)) (basis : List ℕ) (t : ℕ) (ts : Terms) → length bases ≡ length binding.binding.words → basis ≡ output_basis binding.binding.words bases
     → IsOfStage k mul (BoundCut binding basis t) ts ↔ IsOfStage k mul (CutOf (circuit_with k mul binding bases) t) ts
 same_stage k mul binding bases basis t ts long same =
     let P : List ℕ → Type 0 = λ b. IsOfStage k mul (BoundCut binding b t) ts in (
       (λ is.
-          let turned : IsOfStage k mul (BoundCut binding (output_basis binding.bound.words bases) t) ts = subst P same is in
+          let turned : IsOfStage k mul (BoundCut binding (output_basis binding.binding.words bases) t) ts = subst P same is in
           record { reduced = turned.reduced; values = λ p at. (bound_cut k mul binding bases t p (value mul p ts) long).0 (turned.values p at) }),
       λ is. subst P (sym same) (record { reduced = is.reduced; values = λ p at. (bound_cut k mul binding bases t p (value mul p ts) long).1 (is.values p at) }),
     )

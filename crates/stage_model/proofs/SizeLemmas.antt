@@ -1,6 +1,5 @@
 -- The polynomials and sizes of stages that are functions.
-use Rattle.std.proofs.Common.{◌≡◌, ◌∙◌, ap, sym, refl, subst, inl, inr, ℕ, ◌<◌, true, false, not, cond, [], ◌∷◌, length, arith}
-use Rattle.std.proofs.lemmas.Bool.{cases_order}
+use Rattle.std.proofs.Common.{◌≡◌, ◌∙◌, ap, sym, refl, subst, ℕ, true, false, not, cond, [], ◌∷◌, length}
 use Rattle.gf_field.specs.Ring.{IsRing}
 use Rattle.gf_field.specs.Field.{HasNoZeroDivisors}
 use Rattle.gf_field.specs.laws.RootsLaws.{HasFewRoots-from_field}
@@ -9,11 +8,11 @@ use Rattle.poly_mixed.specs.Polynomial.{IsPoint, Terms, Point, value}
 use Rattle.poly_mixed.specs.Cofactor.{LacksBit, at_bit, lacking}
 use Rattle.poly_mixed.specs.laws.Uniqueness.{InBits, Unique}
 use Rattle.poly_mixed.proofs.FieldLaws.{field_of}
-use Rattle.poly_mixed.proofs.Roots.{independent}
-use Rattle.poly_mixed.proofs.Uniqueness.{unique}
-use Rattle.poly_mixed.proofs.FirstWords.{first_point, is_first_point, first_alone}
-use Rattle.poly_mixed.proofs.Cofactors.{value-lacking, reduced_lacking}
-use Rattle.stage_model.specs.Stage.{IsOfStage, HasSize, IsWithin, IsNoneOver, IsFirstOver}
+use Rattle.poly_mixed.proofs.RootLemmas.{independent}
+use Rattle.poly_mixed.proofs.UniquenessLemmas.{unique}
+use Rattle.poly_mixed.proofs.FirstWordLemmas.{first_point, is_first_point, first_alone}
+use Rattle.poly_mixed.proofs.CofactorLemmas.{value-lacking, reduced_lacking}
+use Rattle.stage_model.specs.Stage.{IsOfStage, HasSize}
 
 -- the stage relates no point to two elements
 abbrev pub IsFunction : ℕ → (Point → ℕ → Type 0) → Type 0
@@ -29,9 +28,6 @@ module _ (k : ℕ) (mul : ℕ → ℕ → ℕ) (ring : IsRing k mul) (field : Ha
 
     pub same_size : (m n : ℕ) → HasSize k mul stage m → HasSize k mul stage n → m ≡ n
     same_size m n a b = sym a.size ∙ (ap length (same_terms a.terms b.terms a.is b.is) ∙ b.size)
-
-    pub not_within : (bound n : ℕ) → HasSize k mul stage n → bound < n → IsWithin k mul stage bound → ⊥
-    not_within bound n has over within = let same = same_size n within.size has within.has in let small = within.within in omega arith
 
     -- where the stage does not depend on a bit, its polynomial lacks it
     pub lacks : (bit : ℕ) (ts : Terms) → IsOfStage k mul stage ts → ((p : Point) (x : ℕ) → IsPoint k p → stage p x → stage (at_bit p bit false) x) → LacksBit bit ts
@@ -55,19 +51,3 @@ module _ (k : ℕ) (mul : ℕ → ℕ → ℕ) (ring : IsRing k mul) (field : Ha
         let f = field_of k mul ring field in
         first_alone f is_unique 0 ts is.reduced
         (λ p at. one p (value mul (first_point 0 p) ts) (value mul p ts) at (blind p (value mul (first_point 0 p) ts) at (is.values (first_point 0 p) (is_first_point f 0 p at))) (is.values p at))
-
-  module _ (stages : ℕ → Point → ℕ → Type 0) (one : (i : ℕ) → IsFunction k (stages i)) where
-    pub first_only : (count bound i n j m : ℕ) → IsFirstOver k mul stages count bound i n → IsFirstOver k mul stages count bound j m → (i ≡ j) × (n ≡ m)
-    first_only count bound i n j m a b =
-        elim (cases_order i j) [
-          | inl same ↦
-              let P : ℕ → Type 0 = λ s. HasSize k mul (stages s) m in
-              (same, same_size (stages i) (one i) n m a.size (subst P (sym same) b.size))
-          | inr other ↦ elim other [
-            | inl low ↦ absurd (not_within (stages i) (one i) bound n a.size a.over (b.before i low))
-            | inr high ↦ absurd (not_within (stages j) (one j) bound m b.size b.over (a.before j high))
-          ]
-        ]
-
-    pub not_all : (count bound i n : ℕ) → IsFirstOver k mul stages count bound i n → IsNoneOver k mul stages count bound → ⊥
-    not_all count bound i n a none = not_within (stages i) (one i) bound n a.size a.over (none i a.inside)

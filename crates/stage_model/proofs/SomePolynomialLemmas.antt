@@ -11,10 +11,10 @@ use Rattle.poly_mixed.specs.Sum.{plus, with_coefficient}
 use Rattle.poly_mixed.specs.Product.{times, AddsProduct}
 use Rattle.poly_mixed.specs.Polynomial.{Terms, Point, IsPoint, IsTerm, IsReduced, IsPolynomialOf, term_value, value}
 use Rattle.poly_mixed.proofs.FieldLaws.{IsField, field_of}
-use Rattle.poly_mixed.proofs.Values.{one_element, zero_element, power_element, product_zero, product_by_zero, value-plus, reduced_plus}
-use Rattle.poly_mixed.proofs.Products.{term-times, term_value-times, product_nonzero, term_value_element, value_element, one_term}
-use Rattle.poly_mixed.proofs.Simple.{zeros8, no_ranks_rise, one_rank_rises, reduced_nothing, bits_polynomial, single}
-use Rattle.poly_mixed.proofs.Powers.{power_polynomial}
+use Rattle.poly_mixed.proofs.ValueLemmas.{one_element, zero_element, power_element, product_zero, product_by_zero, value-plus, reduced_plus}
+use Rattle.poly_mixed.proofs.ProductLemmas.{term-times, term_value-times, product_nonzero, term_value_element, value_element, one_term}
+use Rattle.poly_mixed.proofs.SimpleLemmas.{zeros8, no_ranks_rise, one_rank_rises, reduced_nothing, bits_polynomial, single}
+use Rattle.poly_mixed.proofs.PowerLemmas.{power_polynomial}
 use Rattle.stage_model.proofs.WordBitLemmas.{element_in}
 
 -- the function has a polynomial

@@ -4,13 +4,9 @@ use Rattle.std.specs.Prelude.{slice_get}
 use Rattle.std.specs.List.{AllByRecursion}
 use Rattle.std.proofs.Math.Dec.{ltb}
 use Rattle.std.proofs.lemmas.Bool.{ltb-true, ltb-false, cases_order}
+use Rattle.graph_core.proofs.GeneralLemmas.{all_in}
 use Rattle.net_core.specs.Lists.{Has}
 use Rattle.net_core.specs.Order.{IsBefore}
-
-pub all_in : (P : ℕ → Type 0) (xs : List ℕ) (x : ℕ) → AllByRecursion P xs → Has xs x → P x
-all_in P [] x all has = let got = has.1 in absurd (cc)
-all_in P (y ∷ ys) x all (zero, got) = let same : y ≡ x = cc in subst P same all.0
-all_in P (y ∷ ys) x all (suc k, got) = all_in P ys x all.1 (k, got)
 
 all_more : (P Q : ℕ → Type 0) → ((x : ℕ) → P x → Q x) → (xs : List ℕ) → AllByRecursion P xs → AllByRecursion Q xs
 all_more P Q f [] all = tt

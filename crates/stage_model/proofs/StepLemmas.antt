@@ -11,7 +11,7 @@ use Rattle.poly_mixed.specs.Polynomial.{Terms, term_value}
 use Rattle.poly_mixed.specs.Cofactor.{LacksBit, without_bit}
 use Rattle.poly_mixed.specs.Steps.{Step}
 use Rattle.poly_mixed.specs.declared.steps.Generator.TheVariants.{Net, Bit}
-use Rattle.poly_mixed.proofs.Values.{same_map}
+use Rattle.poly_mixed.proofs.ValueLemmas.{same_map}
 use Rattle.circuit_model.specs.Word.{Word}
 use Rattle.circuit_model.specs.WellFormed.{IsWellFormed}
 use Rattle.circuit_model.specs.Circuit.{Circuit}

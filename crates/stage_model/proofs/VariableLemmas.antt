@@ -5,6 +5,7 @@ use Rattle.std.specs.List.{range_with_len}
 use Rattle.std.proofs.lemmas.Bool.{cases_eq}
 use Rattle.std.proofs.lemmas.List.{append-nil, append_assoc}
 use Rattle.std.proofs.lemmas.List.Elements.{filter-append}
+use Rattle.graph_core.proofs.GeneralLemmas.{range_more}
 use Rattle.net_core.specs.Lists.{Has}
 use Rattle.net_core.specs.NetList.{NetList, nets}
 use Rattle.net_core.proofs.DriverLemmas.{Has_left, Has_right}
@@ -13,7 +14,6 @@ use Rattle.net_words.specs.Variables.{others}
 use Rattle.stage_model.specs.Variables.{rank_in}
 use Rattle.stage_model.specs.private.Plain.{HasEachNet}
 use Rattle.stage_model.proofs.BlindLemmas.{front_rank}
-use Rattle.net_words.proofs.VariableLemmas.{range_more}
 use Rattle.net_words.proofs.MemberLemmas.{stands_has}
 
 one_other : (front : List ℕ) (n : ℕ) → others (n + 1) front ≡ others n front ++ cond (not (stands_in front n)) (n ∷ []) []

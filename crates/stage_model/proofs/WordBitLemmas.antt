@@ -5,7 +5,7 @@ use Rattle.std.proofs.lemmas.Nat.{one_shl, pow_below}
 use Rattle.gf_field.specs.Ring.{IsRing}
 use Rattle.gf_field.specs.Field.{HasNoZeroDivisors}
 use Rattle.poly_mixed.proofs.FieldLaws.{field_of}
-use Rattle.poly_mixed.proofs.Values.{power_element}
+use Rattle.poly_mixed.proofs.ValueLemmas.{power_element}
 use Rattle.gf_field.specs.Power.{power}
 use Rattle.gf_field.specs.Polynomial.{sum_of_first}
 use Rattle.gf_field.specs.Trace.{frobenius}
@@ -13,7 +13,7 @@ use Rattle.gf_field.specs.laws.TraceLaws.{frobenius-power}
 use Rattle.gf_basis.specs.Dual.{linear_value}
 use Rattle.std.proofs.lemmas.Option.{get_or_from_slice_get}
 use Rattle.graph_core.proofs.ListLemmas.{get_below}
-use Rattle.stage_model.proofs.SortLemmas.{all_in}
+use Rattle.graph_core.proofs.GeneralLemmas.{all_in}
 use Rattle.poly_mixed.specs.Polynomial.{Terms, Point, IsPoint, IsElement, IsReduced, value}
 
 -- the first m summands of a linear form

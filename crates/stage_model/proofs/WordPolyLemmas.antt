@@ -17,9 +17,9 @@ use Rattle.poly_mixed.specs.Polynomial.{Terms, Point, IsPoint, IsElement, IsTerm
 use Rattle.poly_mixed.specs.Product.{IsProduct}
 use Rattle.poly_mixed.specs.Sum.{with_coefficient}
 use Rattle.poly_mixed.proofs.FieldLaws.{IsField}
-use Rattle.poly_mixed.proofs.Values.{product_zero, powers_element, zero_element, one_element}
-use Rattle.poly_mixed.proofs.Products.{one_term, and_assoc}
-use Rattle.poly_mixed.proofs.Cofactors.{rising-filter}
+use Rattle.poly_mixed.proofs.ValueLemmas.{product_zero, powers_element, zero_element, one_element}
+use Rattle.poly_mixed.proofs.ProductLemmas.{one_term, and_assoc}
+use Rattle.poly_mixed.proofs.CofactorLemmas.{rising-filter}
 use Rattle.stage_model.specs.WordStage.{is_of_word, word_bits, with_word}
 use Rattle.stage_model.specs.PlainWord.{IsReading, IsBitOf, IsProductOf, IsSumOf}
 use Rattle.graph_core.proofs.ListLemmas.{got_at}
@@ -165,10 +165,6 @@ whole_term k mul elements w t ts is = record {
 value_last : (mul : ℕ → ℕ → ℕ) (p : Point) (ts : Terms) (t : Monomial × ℕ) → value mul p (ts ++ t ∷ []) ≡ bit_xor (value mul p ts) (term_value mul p t)
 value_last mul p [] t = xor_zero_r (term_value mul p t) ∙ sym (xor_zero_l (term_value mul p t))
 value_last mul p (u ∷ ts) t = ap (bit_xor (term_value mul p u)) (value_last mul p ts t) ∙ sym (xor_assoc (term_value mul p u) (value mul p ts) (term_value mul p t))
-
-pub sum_none : (k : ℕ) (mul : ℕ → ℕ → ℕ) (elements : List ℕ) (w : ℕ) (terms : Terms) → IsSumOf k mul elements w terms 0 []
-unfolding IsStrictlySortedBy
-sum_none k mul elements w terms = record { reduced = record { is_map = record { sorted = tt; rising = tt; nonzero = tt }; terms = tt }; values = λ p d at bits. refl }
 
 -- one more term
 pub sum_next : (k : ℕ) (mul : ℕ → ℕ → ℕ) (elements : List ℕ) (w : ℕ) (terms : Terms) (i : ℕ) (t : Monomial × ℕ) (sum part new : Terms) → i < length terms → get_or terms i t ≡ t → IsSumOf k mul elements w terms i sum

@@ -3,6 +3,7 @@ use Rattle.std.proofs.Common.{◌≡◌, ◌∙◌, sym, refl, subst, ℕ, zero,
 use Rattle.std.specs.Prelude.{slice_get}
 use Rattle.std.specs.List.{AllByRecursion}
 use Rattle.graph_core.proofs.ListLemmas.{get_below}
+use Rattle.graph_core.proofs.GeneralLemmas.{all_in}
 use Rattle.gf_basis.specs.Basis.{AreBits}
 use Rattle.circuit_model.specs.Word.{Word}
 use Rattle.circuit_model.specs.WellFormed.{IsWellFormed}
@@ -10,11 +11,10 @@ use Rattle.circuit_model.specs.Circuit.{Circuit}
 use Rattle.poly_mixed.specs.Monomial.{Monomial}
 use Rattle.poly_mixed.specs.Polynomial.{Terms, Point, IsPoint, IsElement, IsTerm, term_value, value}
 use Rattle.poly_mixed.proofs.FieldLaws.{IsField, field_of}
-use Rattle.poly_mixed.proofs.Products.{term_value_element, value_element}
+use Rattle.poly_mixed.proofs.ProductLemmas.{term_value_element, value_element}
 use Rattle.stage_model.specs.Mix.{IsMix}
 use Rattle.stage_model.specs.Stage.{IsOfStage}
 use Rattle.stage_model.specs.WordStage.{first_bits, with_word, IsRead, IsTermOf, IsTermProduct, IsTermSum}
-use Rattle.stage_model.proofs.SortLemmas.{all_in}
 use Rattle.stage_model.proofs.MixLemmas.{one_mix}
 use Rattle.stage_model.proofs.SizeLemmas.{same_terms}
 

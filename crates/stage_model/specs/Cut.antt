@@ -37,4 +37,4 @@ CutOf circuit = IsCut circuit.net (variables_of circuit) circuit.output
 
 -- the cuts of a net list with bound words, where the output word has this basis
 abbrev pub BoundCut : BoundNet → List ℕ → ℕ → Point → ℕ → Type 0
-BoundCut circuit basis = IsCut circuit.net (variables (nets circuit.net) circuit.bound.words) (output_word circuit.bound.words basis)
+BoundCut circuit basis = IsCut circuit.net (variables (nets circuit.net) circuit.binding.words) (output_word circuit.binding.words basis)

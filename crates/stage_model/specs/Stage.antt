@@ -1,6 +1,5 @@
--- Stages as relations between points and elements: their polynomials, their sizes, and the first over a bound.
--- Source: this project's own.
-use Rattle.std.specs.Prelude.{◌≡◌, ℕ, ◌<◌, ◌≤◌, length}
+-- Stages as relations between points and elements: their polynomials and their sizes. Source: this project's own.
+use Rattle.std.specs.Prelude.{◌≡◌, ℕ, ◌≤◌, length}
 use Rattle.poly_mixed.specs.Polynomial.{Terms, Point, IsPoint, IsReduced, value}
 
 module _ (k : ℕ) (mul : ℕ → ℕ → ℕ) where
@@ -20,14 +19,3 @@ module _ (k : ℕ) (mul : ℕ → ℕ → ℕ) where
     pub size : ℕ
     pub has : HasSize stage size
     pub within : size ≤ bound
-
-  -- none of the first `count` stages is over the bound
-  abbrev pub IsNoneOver : (ℕ → Point → ℕ → Type 0) → ℕ → ℕ → Type 0
-  IsNoneOver stages count bound = (i : ℕ) → i < count → IsWithin (stages i) bound
-
-  -- stage i of `count` is the first over the bound, and has n terms
-  pub record IsFirstOver (stages : ℕ → Point → ℕ → Type 0) (count bound i n : ℕ) : Type 0 where
-    pub inside : i < count
-    pub size : HasSize (stages i) n
-    pub over : bound < n
-    pub before : IsNoneOver stages i bound

@@ -20,7 +20,7 @@ pub fn each_input_has_a_point()
 /// A polynomial is that of the last cut exactly if it is the output in the bits of the words alone; and there is one.
 pub fn last_cut_is_output()
     ensures circuit { (circuit : Circuit) (ts : Terms) → IsWellFormed circuit → circuit.net.latches ≡ [] → IsOfStage circuit.k circuit.product (CutOf circuit (length circuit.net.gates)) ts ↔ IsOutputInBits circuit ts }
-    ensures bound { (k : ℕ) (mul : ℕ → ℕ → ℕ) (binding : BoundNet) (bases : List (List ℕ)) (basis : List ℕ) (ts : Terms) → IsWellFormed (circuit_with k mul binding bases) → binding.net.latches ≡ [] → length bases ≡ length binding.bound.words → basis ≡ output_basis binding.bound.words bases → IsOfStage k mul (BoundCut binding basis (length binding.net.gates)) ts ↔ IsOutputInBits (circuit_with k mul binding bases) ts }
+    ensures bound { (k : ℕ) (mul : ℕ → ℕ → ℕ) (binding : BoundNet) (bases : List (List ℕ)) (basis : List ℕ) (ts : Terms) → IsWellFormed (circuit_with k mul binding bases) → binding.net.latches ≡ [] → length bases ≡ length binding.binding.words → basis ≡ output_basis binding.binding.words bases → IsOfStage k mul (BoundCut binding basis (length binding.net.gates)) ts ↔ IsOutputInBits (circuit_with k mul binding bases) ts }
     ensures some { (circuit : Circuit) → IsWellFormed circuit → circuit.net.latches ≡ [] → (ts : Terms) × IsOutputInBits circuit ts }
 {}
 

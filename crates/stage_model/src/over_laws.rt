@@ -43,6 +43,6 @@ pub fn first_of_cuts_and_words()
 
 /// The cuts of a net with bound words are over a bound exactly where those of its circuit are.
 pub fn bound_cuts_over()
-    ensures over { (k : ℕ) (mul : ℕ → ℕ → ℕ) (binding : BoundNet) (bases : List (List ℕ)) (basis : List ℕ) (bound : ℕ) (name : Stage) (n : ℕ) → length bases ≡ length binding.bound.words → basis ≡ output_basis binding.bound.words bases → IsOver k mul (bound_cuts binding basis) bound name n ↔ IsOver k mul (circuit_cuts (circuit_with k mul binding bases)) bound name n }
-    ensures within { (k : ℕ) (mul : ℕ → ℕ → ℕ) (binding : BoundNet) (bases : List (List ℕ)) (basis : List ℕ) (bound : ℕ) → length bases ≡ length binding.bound.words → basis ≡ output_basis binding.bound.words bases → AreAllWithin k mul (bound_cuts binding basis) bound ↔ AreAllWithin k mul (circuit_cuts (circuit_with k mul binding bases)) bound }
+    ensures over { (k : ℕ) (mul : ℕ → ℕ → ℕ) (binding : BoundNet) (bases : List (List ℕ)) (basis : List ℕ) (bound : ℕ) (name : Stage) (n : ℕ) → length bases ≡ length binding.binding.words → basis ≡ output_basis binding.binding.words bases → IsOver k mul (bound_cuts binding basis) bound name n ↔ IsOver k mul (circuit_cuts (circuit_with k mul binding bases)) bound name n }
+    ensures within { (k : ℕ) (mul : ℕ → ℕ → ℕ) (binding : BoundNet) (bases : List (List ℕ)) (basis : List ℕ) (bound : ℕ) → length bases ≡ length binding.binding.words → basis ≡ output_basis binding.binding.words bases → AreAllWithin k mul (bound_cuts binding basis) bound ↔ AreAllWithin k mul (circuit_cuts (circuit_with k mul binding bases)) bound }
 {}

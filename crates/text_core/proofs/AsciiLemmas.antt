@@ -1,7 +1,6 @@
 -- Bytes in ASCII.
 use Rattle.std.proofs.Common.{ℕ, zero, suc, ◌<◌, List, [], ◌∷◌, length, get_or, arith, lit<, All}
 use Rattle.std.specs.Str.{IsAscii}
-use Rattle.text_core.specs.Lines.{IsPrinting, IsPlain}
 
 from-all : (bytes : List ℕ) → ((k d : ℕ) → k < length bytes → get_or bytes k d < 128) → IsAscii bytes
 from-all [] each i = lit< tt
@@ -10,9 +9,3 @@ from-all (b ∷ bytes) each (suc i) = from-all bytes (λ k d less. each (suc k) 
 
 pub ascii : (bytes : List ℕ) → All (λ b. b < 128) bytes → IsAscii bytes
 ascii bytes each = from-all bytes each
-
-pub printing : (bytes : List ℕ) → IsPrinting bytes → All (λ b. b < 128) bytes
-printing bytes each = λ k d less. let two = each k d less in omega (arith, two.1)
-
-pub plain : (bytes : List ℕ) → IsPlain bytes → All (λ b. b < 128) bytes
-plain bytes each = λ k d less. let three = each k d less in omega (arith, three.1)

@@ -1,3 +1,4 @@
+pub mod GeneralLemmas
 pub mod DeterminedLemmas
 pub mod LineLemmas
 pub mod DigitLemmas

@@ -72,8 +72,8 @@ pub fn is_printing(token: &[u8]) -> bool
     token.iter().all(|&b| 0x21 <= b && b <= 0x7e)
 }
 
-// The text of bytes in ASCII.
-fn ascii_text(bytes: &[u8]) -> Option<&str>
+/// The text of bytes in ASCII; none comes only where some byte is no ASCII.
+pub fn ascii_text(bytes: &[u8]) -> Option<&str>
     ensures found { IfSome result (λ text. text.now ≡ bytes.now) }
     ensures none { IfNone result (All (λ b. b < 128) bytes.now → ⊥) }
 {

@@ -3,6 +3,7 @@ use Rattle.std.proofs.Common.{◌≡◌, ◌∙◌, ap, sym, refl, subst, inl, i
 use Rattle.std.specs.Fmt.{decimal}
 use Rattle.std.proofs.lemmas.Fmt.{decimal_injective, length-decimal-le}
 use Rattle.std.proofs.lemmas.List.{append_cancel_left, length-append}
+use Rattle.graph_core.proofs.GeneralLemmas.{none_at as none_of}
 use Rattle.net_core.specs.Lists.{Has}
 use Rattle.net_core.proofs.DriverLemmas.{Has_cases}
 use Rattle.net_write.proofs.LineTextLemmas.{ArePlain, AreFields, IsField}
@@ -20,9 +21,6 @@ use Rattle.trial_job.specs.Trial.{trial_words}
 one_of : {X : Type 0} (x y : X) → Has (x ∷ []) y → y ≡ x
 one_of x y (zero, got) = let same : x ≡ y = cc in sym same
 one_of x y (suc i, got) = absurd (cc)
-
-pub none_of : {X : Type 0} (y : X) → Has [] y → ⊥
-none_of y has = let got = has.1 in cc
 
 -- each name is the letter and a number
 has_name : (letter : List ℕ) (k : ℕ) (name : List ℕ) → Has (net_names letter k) name → (i : ℕ) × (i < k) × (name ≡ letter ++ decimal i)

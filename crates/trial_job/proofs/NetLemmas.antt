@@ -5,6 +5,7 @@ use Rattle.std.specs.List.{range_with_len}
 use Rattle.std.proofs.Math.Nat.{mul-pos}
 use Rattle.std.proofs.lemmas.Nat.{mod_below}
 use Rattle.gf_field.specs.Modulus.{IsModulus}
+use Rattle.graph_core.proofs.GeneralLemmas.{all_from as all_has, none_at as none_of}
 use Rattle.net_core.specs.GateValue.{GateValue}
 use Rattle.net_core.specs.Lists.{Has}
 use Rattle.net_core.specs.NetList.{nets}
@@ -23,7 +24,6 @@ use Rattle.net_words.specs.declared.word.WordText.{WordText}
 use Rattle.net_words.proofs.BindDetermined.{binding_determined}
 use Rattle.net_make.specs.BindingOfMade.{binding_of}
 use Rattle.net_make.specs.Form.{AllPoly, HasWords}
-use Rattle.net_plan.proofs.SoundLemmas.{all_has}
 use Rattle.net_make.specs.Made.{IsPlanFor}
 use Rattle.net_make.specs.Ports.{word_names}
 use Rattle.net_make.proofs.BindingLemmas.{found_front, words_bind}
@@ -39,7 +39,7 @@ use Rattle.mult_turned.proofs.PlaceLemmas.{and_gate}
 use Rattle.unroll.specs.Unrolled.{unrolled}
 use Rattle.trial_signature.specs.TwoInputs.{lettered, two_inputs}
 use Rattle.trial_job.specs.Trial.{trial_circuit, trial_index, trial_net, trial_place, trial_words}
-use Rattle.trial_job.proofs.NameLemmas.{none_of, trial_names, trial_wide}
+use Rattle.trial_job.proofs.NameLemmas.{trial_names, trial_wide}
 
 pub place_low : (k number : ℕ) → 1 ≤ k → trial_place k number < k * k
 place_low k number some = mod_below number (k * k) (mul-pos some some)
@@ -112,11 +112,11 @@ module _ (k g : ℕ) (ok : IsModulus k g) (number : ℕ) where
   same_ok : (a b : Binding) → ◌≡◌ {A = Result Binding BindFault} (Ok a) (Ok b) → a ≡ b
   same_ok a b e = cc
 
-  pub only_binding : (bound : Binding) → BindingOf (trial_net k g number) (trial_words k) [] (Ok bound) → bound ≡ (trial_circuit k g number).bound
-  only_binding bound is = same_ok bound (trial_circuit k g number).bound (one (Ok bound) (Ok (trial_circuit k g number).bound) is net_binds)
+  pub only_binding : (bound : Binding) → BindingOf (trial_net k g number) (trial_words k) [] (Ok bound) → bound ≡ (trial_circuit k g number).binding
+  only_binding bound is = same_ok bound (trial_circuit k g number).binding (one (Ok bound) (Ok (trial_circuit k g number).binding) is net_binds)
 
   pub no_fault : (fault : BindFault) → BindingOf (trial_net k g number) (trial_words k) [] (Err fault) → ⊥
-  no_fault fault is = let wrong = one (Err fault) (Ok (trial_circuit k g number).bound) is net_binds in cc
+  no_fault fault is = let wrong = one (Err fault) (Ok (trial_circuit k g number).binding) is net_binds in cc
 
   -- so binding answers no fault but want of memory
   pub only_memory : (fault : BindFault) → FitsBinding {A = Binding} (λ bound. bound) (Err fault) (BindingOf (trial_net k g number) (trial_words k) []) → fault ≡ binds.OutOfMemory
@@ -135,12 +135,12 @@ module _ (k g : ℕ) (ok : IsModulus k g) (number : ℕ) where
   trial_is = refl
 
   -- nothing is left to unroll
-  pub stays : unrolled (trial_net k g number) (trial_circuit k g number).bound 0 ≡ trial_circuit k g number
+  pub stays : unrolled (trial_net k g number) (trial_circuit k g number).binding 0 ≡ trial_circuit k g number
   unfolding trial_net
   stays = refl
 
-  pub few_nets : 2 ^ 20 < nets (unrolled (trial_net k g number) (trial_circuit k g number).bound 0).net → ⊥
+  pub few_nets : 2 ^ 20 < nets (unrolled (trial_net k g number) (trial_circuit k g number).binding 0).net → ⊥
   few_nets more = let most = net_sound.inside.few_nets in let same = ap (λ (c : BoundNet). nets c.net) stays in omega (arith, most, more, same)
 
-  pub few_gates : 2 ^ 20 < length (unrolled (trial_net k g number) (trial_circuit k g number).bound 0).net.gates → ⊥
+  pub few_gates : 2 ^ 20 < length (unrolled (trial_net k g number) (trial_circuit k g number).binding 0).net.gates → ⊥
   few_gates more = let most = net_sound.inside.few_gates in let same = ap (λ (c : BoundNet). length c.net.gates) stays in omega (arith, most, more, same)

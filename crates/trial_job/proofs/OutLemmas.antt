@@ -1,6 +1,7 @@
 -- What the circuit of a trial gives, and what it should.
 use Rattle.std.proofs.Common.{◌≡◌, ◌≢◌, ◌∙◌, ap, ap₂, sym, refl, subst, inl, ◌⊎◌, ℕ, zero, suc, ◌<◌, ◌≤◌, ◌^◌, List, [], ◌∷◌, length, map, codes, arith}
 use Rattle.std.specs.Int.Bits.{xor_zero_r}
+use Rattle.graph_core.proofs.GeneralLemmas.{all_from as all_has, none_at as none_of}
 use Rattle.gf_basis.specs.Basis.{IsBasis, first_values}
 use Rattle.gf_field.specs.Bit.{bit_mul}
 use Rattle.gf_field.specs.Field.{HasNoZeroDivisors}
@@ -21,7 +22,6 @@ use Rattle.circuit_model.specs.OfBinding.{circuit_with}
 use Rattle.circuit_model.specs.Out.{IsOut}
 use Rattle.circuit_model.specs.WellFormed.{IsWellFormed}
 use Rattle.circuit_model.proofs.BoundLemmas.{bound_well}
-use Rattle.net_plan.proofs.SoundLemmas.{all_has}
 use Rattle.mult_gen.proofs.PolyLemmas.{powers_basis}
 use Rattle.mult_turned.specs.Turned.{turned_product}
 use Rattle.mult_turned.proofs.DifferLemmas.{differs, turned_computes}
@@ -33,7 +33,7 @@ use Rattle.job_input.specs.declared.setting.Setting.{Setting}
 use Rattle.trial_signature.specs.TwoInputs.{two_inputs}
 use Rattle.trial_signature.proofs.NetNameLemmas.{names_long}
 use Rattle.trial_job.specs.Trial.{product_terms, trial_circuit, trial_index, trial_net, trial_place, trial_setting, trial_words}
-use Rattle.trial_job.proofs.NameLemmas.{none_of, trial_names, trial_wide}
+use Rattle.trial_job.proofs.NameLemmas.{trial_names, trial_wide}
 use Rattle.trial_job.proofs.NetLemmas.{index_low, net_binds, net_sound, place_low, stays, trial_two}
 
 module _ (k : ℕ) (mul : ℕ → ℕ → ℕ) (ring : IsRing k mul) where
@@ -68,13 +68,13 @@ module _ (k g : ℕ) (ok : IsModulus k g) (number : ℕ) where
   abbrev bases : List (List ℕ)
   bases = (trial_setting k g).bases
 
-  binds_to : IsBoundTo (trial_net k g number) (trial_circuit k g number).bound
-  binds_to = bound_to (trial_net k g number) k (trial_words k) [] (trial_circuit k g number).bound (net_sound k g ok number) (trial_are k ok.some ok.small) (no_feeds k) (net_binds k g ok number)
+  binds_to : IsBoundTo (trial_net k g number) (trial_circuit k g number).binding
+  binds_to = bound_to (trial_net k g number) k (trial_words k) [] (trial_circuit k g number).binding (net_sound k g ok number) (trial_are k ok.some ok.small) (no_feeds k) (net_binds k g ok number)
 
-  one_cycle : IsOneCycle (trial_net k g number) (trial_circuit k g number).bound
+  one_cycle : IsOneCycle (trial_net k g number) (trial_circuit k g number).binding
   one_cycle =
-      let P : BoundNet → Type 0 = λ c. IsOneCycle c.net c.bound in
-      subst P (stays k g ok number) (unrolled_cycle (trial_net k g number) (trial_circuit k g number).bound 0 (net_sound k g ok number) binds_to)
+      let P : BoundNet → Type 0 = λ c. IsOneCycle c.net c.binding in
+      subst P (stays k g ok number) (unrolled_cycle (trial_net k g number) (trial_circuit k g number).binding 0 (net_sound k g ok number) binds_to)
 
   each_basis : (basis : List ℕ) → Has (trial_setting k g).bases basis → IsBasis k basis
   each_basis basis has = let P : List ℕ → Type 0 = IsBasis k in subst P (sym (same_basis basis has)) (powers_basis k)
@@ -97,7 +97,7 @@ module _ (k g : ℕ) (ok : IsModulus k g) (number : ℕ) where
     unfolding trial_net
     trial_out a b first second =
         (turned_computes k g ok field (trial_words k) (trial_place k number) (trial_index k number) (trial_two k) (trial_wide k) (trial_names k ok.small) (place_low k number ok.some) (index_low k number)).out
-        (trial_circuit k g number).bound (net_binds k g ok number) a b first second
+        (trial_circuit k g number).binding (net_binds k g ok number) a b first second
 
     -- which is not always the product
     pub trial_differs : (a b : ℕ) × (a < 2 ^ k) × (b < 2 ^ k) × (turned_product k g (trial_place k number) (trial_index k number) a b ≢ product 1 k bit_mul g a b)
@@ -106,5 +106,5 @@ module _ (k g : ℕ) (ok : IsModulus k g) (number : ℕ) where
 -- it is taken for the setting
 pub trial_taken : (k g number : ℕ) (setting : Setting) → setting.signature ≡ two_inputs k g → length setting.bases.items ≡ length setting.signature.words → IsTakenFor k setting (trial_circuit k g number)
 trial_taken k g number setting same long =
-    let P : SignatureValue → Type 0 = λ s. HaveRoles s.words (trial_circuit k g number).bound.words in
+    let P : SignatureValue → Type 0 = λ s. HaveRoles s.words (trial_circuit k g number).binding.words in
     record { bits = names_long (codes "a") k; roles = subst P (sym same) refl; long = long ∙ ap (λ (s : SignatureValue). length s.words) same }

@@ -17,7 +17,7 @@ use Rattle.job_input.specs.Setting.{AreSaid}
 use Rattle.job_input.specs.SettingOf.{SettingWith, SignedValue, WordBasis}
 use Rattle.job_input.specs.SettingValue.{SettingValue}
 use Rattle.job_input.proofs.SettingDetermined.{with_determined}
-use Rattle.job_input.proofs.SettingWords.{text_said}
+use Rattle.job_input.proofs.SettingWordLemmas.{text_said}
 use Rattle.trial_signature.specs.TwoInputs.{lettered, two_inputs}
 use Rattle.trial_signature.specs.private.TwoInputsText.{two_inputs_text}
 use Rattle.trial_signature.proofs.NetNameLemmas.{names_long}
@@ -55,12 +55,6 @@ module _ (k g : ℕ) (signature : SignatureValue) (is : signature ≡ two_inputs
 
   one : (x y : Result SettingValue Fault) → Within Signature (SettingWith signed) x → Within Signature (SettingWith signed) y → x ≡ y
   one = determined_within Signature (SettingWith signed) (with_determined signed)
-
-  same_ok : (a b : SettingValue) → ◌≡◌ {A = Result SettingValue Fault} (Ok a) (Ok b) → a ≡ b
-  same_ok a b e = cc
-
-  pub only_setting : (setting : SettingValue) → Within Signature (SettingWith signed) (Ok setting) → setting ≡ trial_setting k g
-  only_setting setting of = same_ok setting (trial_setting k g) (one (Ok setting) (Ok (trial_setting k g)) of said)
 
   pub no_fault : (fault : Fault) → Within Signature (SettingWith signed) (Err fault) → ⊥
   no_fault fault of = let wrong = one (Err fault) (Ok (trial_setting k g)) of said in cc

@@ -11,8 +11,8 @@ use Rattle.spec_expand.specs.declared.fault.SpecFault.{SpecFault}
 use Rattle.spec_expand.specs.declared.fault.SpecFault.TheVariants.{Syntax, UnknownWord, BadNumber, OutOfMemory}
 use Rattle.spec_expand.proofs.FrontLemmas.{front_some}
 use Rattle.spec_expand.proofs.GoodLemmas.{text_may}
-use Rattle.spec_expand.proofs.OneOutcome.{one_outcome}
-use Rattle.spec_expand.proofs.SomeTokens.{no_white, with_front}
+use Rattle.spec_expand.proofs.OneOutcomeLemmas.{one_outcome}
+use Rattle.spec_expand.proofs.SomeTokenLemmas.{no_white, with_front}
 use Rattle.trial_job.specs.Trial.{product_terms, trial_words}
 
 tokens : List (Token × ℕ)

@@ -36,7 +36,7 @@ trial_net k g number = turned (made_mastrovito k g (trial_words k)) (trial_place
 
 -- the words on its nets
 abbrev pub trial_circuit : (k g number : ℕ) → BoundNet
-trial_circuit k g number = record { net = trial_net k g number; bound = binding_of (trial_net k g number) (trial_words k) [] }
+trial_circuit k g number = record { net = trial_net k g number; binding = binding_of (trial_net k g number) (trial_words k) [] }
 
 -- A * B
 abbrev pub product_terms : SpecTerms

@@ -50,7 +50,7 @@ fn binding(
 ) -> Result<Bound, AllocError>
     requires signature { signature.now ≡ signature_of_two (degree_of (ring_of ring.now)) (modulus_of (ring_of ring.now)) }
     requires net { net.now ≡ trial_net (degree_of (ring_of ring.now)) (modulus_of (ring_of ring.now)) _number }
-    ensures value { IfOk result (λ bound. bound ≡ (circuit_of (degree_of (ring_of ring.now)) (modulus_of (ring_of ring.now)) _number).bound) }
+    ensures value { IfOk result (λ bound. bound ≡ (circuit_of (degree_of (ring_of ring.now)) (modulus_of (ring_of ring.now)) _number).binding) }
     ensures bound { IfOk result (λ bound. IsBoundTo net.now bound) }
 {
     let _k = ring.k();

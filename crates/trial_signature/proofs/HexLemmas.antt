@@ -109,20 +109,6 @@ hex_wide n less =
     let longer = are.longer in
     (digits 16 false n, refl, (omega (arith, longer), are.each), (let value = are.value in omega (arith, value)))
 
--- as one below 2 to the 64
-pub hex_back : (n : ℕ) → n < 2 ^ 64 → IsHex (hex_text n) n
-hex_back n less = hex_wide n (omega (arith, less))
-
--- each of its bytes is a digit or the letter before them
-pub hex_wide_bytes : (n : ℕ) → n < 16 ^ 64 → (i : ℕ) → i < length (hex_text n) → (48 ≤ get_or (hex_text n) i 0) × (get_or (hex_text n) i 0 ≤ 120)
-hex_wide_bytes n less zero within = (omega arith, omega arith)
-hex_wide_bytes n less (suc zero) within = (omega arith, omega arith)
-hex_wide_bytes n less (suc (suc i)) within = let are = (digits_are n less).bytes i (omega arith) in (are.0, let most = are.1 in omega (arith, most))
-
--- so it prints, and is neither a blank nor a line feed
-pub hex_bytes : (n : ℕ) → n < 2 ^ 64 → (i : ℕ) → i < length (hex_text n) → (48 ≤ get_or (hex_text n) i 0) × (get_or (hex_text n) i 0 ≤ 120)
-hex_bytes n less = hex_wide_bytes n (omega (arith, less))
-
 -- ---- as a field of a line
 
 all_at : (P : ℕ → Type 0) (xs : List ℕ) → ((i : ℕ) → i < length xs → P (get_or xs i 0)) → AllByRecursion P xs

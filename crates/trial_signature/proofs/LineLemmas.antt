@@ -1,5 +1,5 @@
 -- Lines of fields with one space between each two, read back.
-use Rattle.std.proofs.Common.{◌≡◌, ◌∙◌, ap, sym, refl, ℕ, zero, suc, ◌+◌, ◌-◌, ◌<◌, ◌==◌, Bool, true, false, cond, not, List, [], ◌∷◌, ◌++◌, length, take, drop, get_or, arith, add-one}
+use Rattle.std.proofs.Common.{◌≡◌, ◌∙◌, ap, sym, refl, ℕ, zero, suc, ◌+◌, ◌-◌, ◌<◌, ◌==◌, Bool, true, cond, not, List, [], ◌∷◌, ◌++◌, length, take, drop, get_or, arith, add-one}
 use Rattle.std.specs.Prelude.{◌≢◌, filter, nat_lt}
 use Rattle.std.specs.List.{AllByRecursion, join_with_byte}
 use Rattle.std.specs.Str.Lines.{lines, strip_carriage_return}
@@ -7,11 +7,9 @@ use Rattle.std.proofs.lemmas.Bool.Decides.{nat_tests}
 use Rattle.std.proofs.lemmas.List.Sums.{take_while-cons}
 use Rattle.text_core.specs.Lines.{before_comment, tokens_of}
 use Rattle.text_core.proofs.LineLemmas.{lines_at}
+use Rattle.graph_core.proofs.GeneralLemmas.{unequal}
 use Rattle.net_signature.specs.Lines.{Line, Token, lines_from, numbered}
 use Rattle.net_write.proofs.LineTextLemmas.{AreFields, IsLineByte, fields_read, line_bytes}
-
-unequal : (a b : ℕ) → a ≢ b → (a == b) ≡ false
-unequal a b other = grind (arith, nat_tests)
 
 -- there is no comment in a line
 uncommented : (bytes : List ℕ) → AllByRecursion IsLineByte bytes → before_comment bytes ≡ bytes

@@ -1,8 +1,9 @@
 -- Fields of plain bytes, tested.
-use Rattle.std.proofs.Common.{◌≡◌, ◌∙◌, ap, sym, refl, subst, ℕ, ◌<◌, ◌≤◌, Bool, true, false, List, [], ◌∷◌, length, arith}
+use Rattle.std.proofs.Common.{◌≡◌, ◌∙◌, ap, sym, refl, subst, ℕ, ◌<◌, ◌≤◌, Bool, true, List, [], ◌∷◌, length, arith}
 use Rattle.std.specs.Prelude.{◌==◌, ◌&&◌, not, nat_lt}
 use Rattle.std.proofs.lemmas.Bool.{eq-eqb}
 use Rattle.std.proofs.lemmas.Bool.Decides.{nat_tests}
+use Rattle.graph_core.proofs.GeneralLemmas.{both_true as both}
 use Rattle.net_signature.specs.Lines.{Token}
 use Rattle.net_write.specs.Plain.{IsPlainByte}
 use Rattle.net_write.proofs.LineTextLemmas.{ArePlain, IsField}
@@ -14,10 +15,6 @@ unfoldable pub are_plain : List ℕ → Bool
 unfolding is_plain
 are_plain [] = true
 are_plain (b ∷ bs) = is_plain b && are_plain bs
-
-both : (a b : Bool) → (a && b) ≡ true → (a ≡ true) × (b ≡ true)
-both true b e = (refl, e)
-both false b e = absurd (cc)
 
 below : (a b : ℕ) → nat_lt a b ≡ true → a < b
 below a b e = grind (arith, nat_tests)

@@ -3,6 +3,7 @@ use Rattle.std.proofs.Common.{◌≡◌, ◌∙◌, ap, sym, refl, inl, inr, ℕ
 use Rattle.std.specs.Prelude.{slice_get}
 use Rattle.std.specs.List.{filter, range_with_len}
 use Rattle.std.proofs.lemmas.List.FromFn.{length-map-range_with_len}
+use Rattle.graph_core.proofs.GeneralLemmas.{length_map as map-long}
 use Rattle.net_core.specs.GateValue.{GateValue}
 use Rattle.net_core.specs.LatchValue.{LatchValue}
 use Rattle.net_core.specs.NetList.{NetList, LabelValue, nets}
@@ -11,7 +12,6 @@ use Rattle.net_core.proofs.DriverLemmas.{Has_cases, from_map}
 use Rattle.net_words.specs.Binding.{Binding}
 use Rattle.net_words.specs.Feeds.{is_fed}
 use Rattle.net_words.specs.declared.bound.BoundWord.{BoundWord}
-use Rattle.net_words.proofs.ZipLemmas.{map-long}
 use Rattle.unroll.specs.Gates.{feeding_gate, first_gates, gate_at, gates_to, input_gate, is_held, latch_gate, next_gates, start_gate}
 use Rattle.unroll.specs.Nets.{all_cycles, bit_label, fed_labels, labels_to, unnamed}
 use Rattle.unroll.specs.Places.{cycle_nets, fed_bits, fed_count}

@@ -5,6 +5,7 @@ use Rattle.std.specs.List.{filter, range_with_len}
 use Rattle.std.proofs.lemmas.Bool.{cases_lt}
 use Rattle.std.proofs.lemmas.List.{map-append}
 use Rattle.graph_core.proofs.GraphLemmas.{nat_eq_or, All_has}
+use Rattle.graph_core.proofs.GeneralLemmas.{length_map as map-long}
 use Rattle.net_core.specs.GateValue.{GateValue}
 use Rattle.net_core.specs.LatchValue.{LatchValue}
 use Rattle.net_core.specs.Inside.{GateIsInside, LatchIsInside}
@@ -13,7 +14,6 @@ use Rattle.net_core.specs.NetList.{NetList, nets}
 use Rattle.net_core.specs.Sound.{sources, driven, IsSound}
 use Rattle.net_core.proofs.DriverLemmas.{Has_cases, from_map, times_append, times_some, one_here, none_here}
 use Rattle.net_words.specs.Binding.{Binding}
-use Rattle.net_words.proofs.ZipLemmas.{map-long}
 use Rattle.net_words.specs.Feeds.{is_fed}
 use Rattle.net_words.specs.declared.feed.Source.{Source}
 use Rattle.net_words.specs.declared.feed.Source.TheVariants.{Zero, One, Bit}

@@ -2,6 +2,7 @@
 use Rattle.std.proofs.Common.{◌≡◌, ap, refl, inl, inr, ℕ, ◌&&◌, Bool, true, false, not, List, [], ◌∷◌, length, arith}
 use Rattle.std.specs.Prelude.{if◌then◌else◌}
 use Rattle.std.specs.List.{list_any}
+use Rattle.graph_core.proofs.GeneralLemmas.{both_true as both, not_true, all_from}
 use Rattle.net_core.specs.LatchValue.{LatchValue}
 use Rattle.net_core.specs.Lists.{Has}
 use Rattle.net_core.specs.NetList.{NetList}
@@ -16,20 +17,11 @@ use Rattle.net_words.specs.declared.word.Role.{Role}
 use Rattle.net_words.specs.declared.word.Role.TheVariants.{Input, State, Fed, Output}
 use Rattle.net_words.proofs.MemberLemmas.{any_has, has_any}
 use Rattle.unroll.specs.Unrolled.{in_one_cycle, is_empty, is_flat, unrolled}
-use Rattle.unroll.proofs.SoundLemmas.{all_from}
 use Rattle.unroll.proofs.WordLemmas.{fed_bare}
-
-both : (x y : Bool) → (x && y) ≡ true → (x ≡ true) × (y ≡ true)
-both true y is = (refl, is)
-both false y is = absurd (cc)
 
 empty_is : {X : Type 0} (xs : List X) → is_empty xs ≡ true → xs ≡ []
 empty_is [] is = refl
 empty_is (x ∷ xs) is = absurd (cc)
-
-not_true : (r : Bool) → not r ≡ true → r ≡ false
-not_true true is = absurd (cc)
-not_true false is = refl
 
 role_of : (r : Role) → same_role r Fed ≡ true → r ≡ Fed
 role_of Input is = absurd (cc)
@@ -75,13 +67,13 @@ flat_to net b bound flat =
         omega (arith, long, ap (λ (ns : List ℕ). length ns) bare, bound.parts.some)
 
 -- where nothing is left to unroll, the net and its words are kept
-pub unrolled_flat : (net : NetList) (b : Binding) (c : ℕ) → IsBoundTo net b → IsFlat net b → unrolled net b c ≡ record { net = net; bound = b }
-unrolled_flat net b c bound flat = ap (λ (r : Bool). if r then (record { net = net; bound = b }) else in_one_cycle net b c) (flat_to net b bound flat)
+pub unrolled_flat : (net : NetList) (b : Binding) (c : ℕ) → IsBoundTo net b → IsFlat net b → unrolled net b c ≡ record { net = net; binding = b }
+unrolled_flat net b c bound flat = ap (λ (r : Bool). if r then (record { net = net; binding = b }) else in_one_cycle net b c) (flat_to net b bound flat)
 
 -- and else they are laid out cycle by cycle
 pub unrolled_laid : (net : NetList) (b : Binding) (c : ℕ) → IsBoundTo net b → (IsFlat net b → ⊥) → unrolled net b c ≡ in_one_cycle net b c
 unrolled_laid net b c bound left = by (is_flat net b) refl
   where
-    by : (r : Bool) → is_flat net b ≡ r → (if r then (record { net = net; bound = b }) else in_one_cycle net b c) ≡ in_one_cycle net b c
+    by : (r : Bool) → is_flat net b ≡ r → (if r then (record { net = net; binding = b }) else in_one_cycle net b c) ≡ in_one_cycle net b c
     by true is = absurd (left (flat_from net b bound is))
     by false is = refl

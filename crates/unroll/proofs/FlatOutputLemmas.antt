@@ -20,7 +20,7 @@ use Rattle.circuit_model.specs.Job.{IsJob}
 use Rattle.circuit_model.specs.JobOfBinding.{job_word_with, job_words_of}
 use Rattle.circuit_model.specs.OfBinding.{circuit_with, HaveBases, word_with, words_of}
 use Rattle.circuit_model.specs.Out.{IsOut}
-use Rattle.circuit_model.specs.Run.{HaveElements, IsCycle, IsFirst, IsOpenRun}
+use Rattle.circuit_model.specs.Run.{HaveElements, IsClockCycle, IsFirst, IsOpenRun}
 use Rattle.circuit_model.specs.WellFormed.{IsWellFormed}
 use Rattle.circuit_model.specs.Word.{HasElement, Word}
 use Rattle.circuit_model.proofs.BoundLemmas.{bound_well}
@@ -76,13 +76,13 @@ same_count (word ∷ words) (basis ∷ bases) = by word.role (same_count words b
 
 module _ (product : ℕ → ℕ → ℕ) (net : NetList) (b : Binding) (bases : List (List ℕ)) (c : ℕ) (ring : IsRing b.k product) (no_zero_divisors : HasNoZeroDivisors b.k product) (sound : IsSound net) (bound : IsBoundTo net b) (based : HaveBases b.k b.words bases) (flat : IsFlat net b) where
   abbrev pub one : Circuit
-  one = circuit_with b.k product (record { net = net; bound = b }) bases
+  one = circuit_with b.k product (record { net = net; binding = b }) bases
 
   well : IsWellFormed one
-  well = bound_well b.k product (record { net = net; bound = b }) bases (flat_bound net b bound flat) refl based ring no_zero_divisors sound
+  well = bound_well b.k product (record { net = net; binding = b }) bases (flat_bound net b bound flat) refl based ring no_zero_divisors sound
 
   is_job : IsJob (job_of product net b bases c)
-  is_job = job_well b.k product (record { net = net; bound = b }) bases c bound refl based sound ring no_zero_divisors
+  is_job = job_well b.k product (record { net = net; binding = b }) bases c bound refl based sound ring no_zero_divisors
 
   some_net : (ns : List ℕ) → length ns ≡ b.k → (n : ℕ) × Has ns n
   some_net [] long = absurd (omega (arith, long, bound.parts.some))
@@ -119,10 +119,10 @@ module _ (product : ℕ → ℕ → ℕ) (net : NetList) (b : Binding) (bases : 
           let here : R from.word.role = (out.is_run.open_run.each c out.ends.last out.ends.at).inputs i (record { role = from.word.role; nets = from.word.nets; basis = from.basis }) x from.job value role in
           subst Q (sym from.is) (subst R role here)
 
-      cycle : (t : ℕ) (bits : List Bool) → slice_get (out.ends.last ∷ []) t ≡ Some bits → IsCycle one xs t bits
+      cycle : (t : ℕ) (bits : List Bool) → slice_get (out.ends.last ∷ []) t ≡ Some bits → IsClockCycle one xs t bits
       cycle zero bits got =
           let same : out.ends.last ≡ bits = cc in
-          let P : List Bool → Type 0 = λ v. IsCycle one xs 0 v in
+          let P : List Bool → Type 0 = λ v. IsClockCycle one xs 0 v in
           subst P same (record {
             consistent = (out.is_run.open_run.each c out.ends.last out.ends.at).consistent;
             inputs = words (λ w. w.role ≡ Input);

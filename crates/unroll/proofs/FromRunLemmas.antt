@@ -42,7 +42,7 @@ use Rattle.unroll.proofs.WordLemmas.{in_some}
 
 -- the job that is unrolled
 abbrev pub job_of : (ℕ → ℕ → ℕ) → NetList → Binding → List (List ℕ) → ℕ → Circuit
-job_of product net b bases c = job_with b.k product (record { net = net; bound = b }) bases c
+job_of product net b bases c = job_with b.k product (record { net = net; binding = b }) bases c
 
 -- the source of a net in a cycle
 pub same_source : (words : List BoundWord) (feeds : List Feed) (n t : ℕ) → job_source_at (map (job_feed words) feeds) n t ≡ inner_source words (source_at feeds n t)

@@ -2,6 +2,7 @@
 use Rattle.std.proofs.Common.{◌≡◌, ◌∙◌, ap, sym, refl, subst, inl, inr, ℕ, zero, suc, ◌<◌, ◌≤◌, ◌+◌, Bool, true, false, not, List, [], ◌∷◌, ◌++◌, map, Some, arith}
 use Rattle.std.specs.Prelude.{if◌then◌else◌}
 use Rattle.std.specs.List.{filter}
+use Rattle.graph_core.proofs.GeneralLemmas.{not_true}
 use Rattle.net_core.specs.GateValue.{GateValue}
 use Rattle.net_core.specs.LatchValue.{LatchValue}
 use Rattle.net_core.specs.Lists.{Has}
@@ -57,10 +58,6 @@ later_laid net b c t g (of_gate s h within has) = of_gate s h (omega (arith, wit
 -- a gate that was mapped from a list
 mapped : {X : Type 0} (P : GateValue → Type 0) (f : X → GateValue) (xs : List X) (g : GateValue) → ((x : X) → Has xs x → P (f x)) → Has (map f xs) g → P g
 mapped P f xs g each has = let from = from_map f xs has.0 g has.1 in subst P from.2 (each from.0 (has.0, from.1))
-
-not_true : (b : Bool) → not b ≡ true → b ≡ false
-not_true true is = absurd (cc)
-not_true false is = refl
 
 one_input : (net : NetList) (b : Binding) (c t n : ℕ) → Has net.inputs n → IsLaid net b c (suc t) (input_gate net b c (t + 1) n)
 one_input net b c t n has = by (is_fed b.feeds n) refl

@@ -4,6 +4,7 @@ use Rattle.std.specs.Prelude.{slice_get, ◌↔◌}
 use Rattle.std.specs.List.{range_with_len}
 use Rattle.std.proofs.lemmas.List.FromFn.{length-range_with_len}
 use Rattle.std.proofs.lemmas.Option.{slice_get-get_or, slice_get_within}
+use Rattle.graph_core.proofs.GeneralLemmas.{length_map as map-long}
 use Rattle.net_core.specs.Lists.{Has}
 use Rattle.net_core.specs.NetList.{NetList, nets}
 use Rattle.net_core.specs.Sound.{IsSound}
@@ -21,7 +22,6 @@ use Rattle.net_words.specs.declared.bound.BoundWord.{BoundWord}
 use Rattle.net_words.specs.declared.word.Role.{Role}
 use Rattle.net_words.specs.declared.word.Role.TheVariants.{Input, State, Fed, Output}
 use Rattle.net_words.proofs.FlatLemmas.{rebound_cycle}
-use Rattle.net_words.proofs.ZipLemmas.{map-long}
 use Rattle.gf_field.specs.Field.{HasNoZeroDivisors}
 use Rattle.gf_field.specs.Ring.{IsRing}
 use Rattle.gf_basis.specs.Basis.{AreBits}
@@ -30,7 +30,7 @@ use Rattle.circuit_model.specs.Job.{IsJob}
 use Rattle.circuit_model.specs.JobOfBinding.{inner_number, job_words_of}
 use Rattle.circuit_model.specs.OfBinding.{circuit_with, HaveBases, output_basis, words_of}
 use Rattle.circuit_model.specs.Out.{Ends, IsOut}
-use Rattle.circuit_model.specs.Run.{HaveElements, IsCycle, IsFirst, IsOpenRun, IsRun}
+use Rattle.circuit_model.specs.Run.{HaveElements, IsClockCycle, IsFirst, IsOpenRun, IsRun}
 use Rattle.circuit_model.specs.WellFormed.{IsWellFormed}
 use Rattle.circuit_model.specs.Word.{HasElement, IsInputWord, IsStateWord, Word}
 use Rattle.circuit_model.proofs.BoundLemmas.{bound_well}
@@ -49,7 +49,7 @@ use Rattle.unroll.proofs.ElementLemmas.{IsWordFrom, moved_long, same_basis, same
 
 -- the circuit of the unrolled net, with these words
 abbrev pub circuit_of : (ℕ → ℕ → ℕ) → NetList → Binding → List (List ℕ) → ℕ → List BoundWord → Circuit
-circuit_of product net b bases c words = circuit_with b.k product (record { net = all_cycles net b c; bound = record { k = b.k; words = words; feeds = []; nets = nets (all_cycles net b c) } }) bases
+circuit_of product net b bases c words = circuit_with b.k product (record { net = all_cycles net b c; binding = record { k = b.k; words = words; feeds = []; nets = nets (all_cycles net b c) } }) bases
 
 module _ (product : ℕ → ℕ → ℕ) (net : NetList) (b : Binding) (bases : List (List ℕ)) (c : ℕ) (xs ds : List ℕ) (run : List (List Bool)) (sound : IsSound net) (bound : IsBoundTo net b) (based : HaveBases b.k b.words bases) (job : IsJob (job_of product net b bases c)) (is_run : IsRun (job_of product net b bases c) xs run) (digits : AreDigits (job_words_of b.words bases) xs ds) where
   -- a word on nets of the first cycle has its element
@@ -118,10 +118,10 @@ module _ (product : ℕ → ℕ → ℕ) (net : NetList) (b : Binding) (bases : 
       words_have : (P : Word → Type 0) → HaveElements one P xs (all_bits net b c run ds)
       words_have P i w x got value is = all_elements i w x (word_from (nets net) c b.k (cycle_nets (nets net) c) b.words bases i w got) value
 
-      cycle : (t : ℕ) (bits : List Bool) → slice_get (all_bits net b c run ds ∷ []) t ≡ Some bits → IsCycle one xs t bits
+      cycle : (t : ℕ) (bits : List Bool) → slice_get (all_bits net b c run ds ∷ []) t ≡ Some bits → IsClockCycle one xs t bits
       cycle zero bits got =
           let same : all_bits net b c run ds ≡ bits = cc in
-          let P : List Bool → Type 0 = λ v. IsCycle one xs 0 v in
+          let P : List Bool → Type 0 = λ v. IsClockCycle one xs 0 v in
           subst P same (record {
             consistent = all_consistent net b c run ds sound bound (rows_of product net b bases c xs ds run sound bound based.long job is_run digits);
             inputs = words_have IsInputWord;
@@ -183,7 +183,7 @@ module _ (product : ℕ → ℕ → ℕ) (net : NetList) (b : Binding) (bases : 
   well_moved = let P : List BoundWord → Type 0 = λ ws. IsWellFormed (circuit_of product net b bases c ws) in subst P same_words well
 
   is_job : IsJob (job_of product net b bases c)
-  is_job = job_well b.k product (record { net = net; bound = b }) bases c bound refl based sound ring no_zero_divisors
+  is_job = job_well b.k product (record { net = net; binding = b }) bases c bound refl based sound ring no_zero_divisors
 
   forth : (xs : List ℕ) (e : ℕ) → IsOut (job_of product net b bases c) xs e → IsOut (circuit_of product net b bases c (rebound b.k b.words (unrolled_nets net b c))) xs e
   forth xs e out =

@@ -1,10 +1,10 @@
 -- The net list of all cycles is sound.
-use Rattle.std.proofs.Common.{◌≡◌, ◌∙◌, ap, sym, refl, subst, inl, inr, ℕ, zero, suc, ◌<◌, ◌≤◌, ◌+◌, ◌-◌, ◌*◌, ◌/◌, ◌%◌, ◌^◌, Bool, true, false, not, List, [], ◌∷◌, ◌++◌, length, map, get_or, arith, All, append-nil}
+use Rattle.std.proofs.Common.{◌≡◌, ◌∙◌, ap, sym, refl, subst, inl, inr, ℕ, zero, suc, ◌<◌, ◌≤◌, ◌+◌, ◌-◌, ◌*◌, ◌/◌, ◌%◌, ◌^◌, Bool, true, false, not, List, [], ◌∷◌, ◌++◌, length, map, arith, All, append-nil}
 use Rattle.std.specs.Prelude.{◌==◌, ◌&&◌, if◌then◌else◌}
 use Rattle.std.specs.List.{filter, range_with_len}
 use Rattle.std.proofs.lemmas.Bool.{cases_lt}
-use Rattle.std.proofs.lemmas.Option.{slice_get-get_or}
 use Rattle.graph_core.specs.Walk.{IsChain, IsCycleBy}
+use Rattle.graph_core.proofs.GeneralLemmas.{all_from, length_map as map-long}
 use Rattle.net_core.specs.GateValue.{GateValue}
 use Rattle.net_core.specs.LatchValue.{LatchValue}
 use Rattle.net_core.specs.Inside.{GateIsInside, IsInside, LatchIsInside}
@@ -28,7 +28,6 @@ use Rattle.net_words.specs.declared.feed.Source.{Source}
 use Rattle.net_words.specs.declared.feed.Source.TheVariants.{Zero, One, Bit}
 use Rattle.net_words.specs.declared.word.Role.{Role}
 use Rattle.net_words.specs.declared.word.Role.TheVariants.{Fed}
-use Rattle.net_words.proofs.ZipLemmas.{map-long}
 use Rattle.unroll.specs.Gates.{bit_net, buffer, constant, gate_at, gates_to, is_held, source_gate, start_bit}
 use Rattle.unroll.specs.Nets.{all_cycles, unrolled_inputs}
 use Rattle.unroll.specs.Places.{net_at, cycle_nets, fed_count}
@@ -62,9 +61,6 @@ pub bound_source : (net : NetList) (b : Binding) (n t : ℕ) → IsBoundTo net b
 bound_source net b n t bound = source_is b.k (map (λ word. word.role) b.words) b.feeds n t (λ feed has. (bound.feeds feed has).source)
 
 -- ---- all stands on nets that exist
-
-pub all_from : {X : Type 0} (P : X → Type 0) (xs : List X) → ((x : X) → Has xs x → P x) → All P xs
-all_from P xs each k d less = each (get_or xs k d) (k, slice_get-get_or xs k d less)
 
 start_small : (start : Start) → start_bit start < 2
 start_small starts.Zero = omega arith

@@ -31,7 +31,7 @@ use Rattle.unroll.proofs.FlatOutputLemmas.{flat_back, flat_forth}
 
 -- the unrolled net and its words, where this says whether nothing is left to unroll
 abbrev pub chosen : Bool → NetList → Binding → ℕ → BoundNet
-chosen r net b c = if r then (record { net = net; bound = b }) else in_one_cycle net b c
+chosen r net b c = if r then (record { net = net; binding = b }) else in_one_cycle net b c
 
 -- ---- counts
 
@@ -60,10 +60,10 @@ unrolled_sound net b c sound bound few small = by (is_flat net b) few small
     by true few small = sound
     by false few small = cycles_sound net b c sound bound (omega (arith, few, nets_long net b c)) small
 
-pub unrolled_cycle : (net : NetList) (b : Binding) (c : ℕ) → IsSound net → IsBoundTo net b → IsOneCycle (unrolled net b c).net (unrolled net b c).bound
+pub unrolled_cycle : (net : NetList) (b : Binding) (c : ℕ) → IsSound net → IsBoundTo net b → IsOneCycle (unrolled net b c).net (unrolled net b c).binding
 unrolled_cycle net b c sound bound = by (is_flat net b) refl
   where
-    by : (r : Bool) → is_flat net b ≡ r → IsOneCycle (chosen r net b c).net (chosen r net b c).bound
+    by : (r : Bool) → is_flat net b ≡ r → IsOneCycle (chosen r net b c).net (chosen r net b c).binding
     by true is = flat_bound net b bound (flat_from net b bound is)
     by false is = rebound_cycle (all_cycles net b c) b (unrolled_nets net b c) bound.parts (are_nets net b c sound bound) (closed net b c sound bound)
 

@@ -5,6 +5,7 @@ use Rattle.std.specs.List.{filter, range_with_len}
 use Rattle.std.proofs.Math.Seq.{take-append_seam, drop-append_seam}
 use Rattle.std.proofs.lemmas.Bool.{cases_lt}
 use Rattle.std.proofs.lemmas.List.FromFn.{length-range_with_len}
+use Rattle.graph_core.proofs.GeneralLemmas.{length_map as map-long, all_from}
 use Rattle.net_core.specs.Inside.{LatchIsInside}
 use Rattle.net_core.specs.LatchValue.{LatchValue}
 use Rattle.net_core.specs.Lists.{Has, times}
@@ -23,7 +24,6 @@ use Rattle.net_words.specs.declared.word.Role.{Role}
 use Rattle.net_words.specs.declared.word.Role.TheVariants.{Input, State, Fed, Output}
 use Rattle.net_words.proofs.FeedLemmas.{fed_has}
 use Rattle.net_words.proofs.MemberLemmas.{any_has, bits_word, has_stands}
-use Rattle.net_words.proofs.ZipLemmas.{map-long}
 use Rattle.unroll.specs.Gates.{is_held}
 use Rattle.unroll.specs.Nets.{all_cycles, unrolled_inputs}
 use Rattle.unroll.specs.Places.{net_at, cycle_nets, fed_bits, fed_count}
@@ -32,7 +32,7 @@ use Rattle.unroll.specs.private.Plan.{net_count}
 use Rattle.unroll.proofs.CountLemmas.{nets_long}
 use Rattle.unroll.proofs.DrivenLemmas.{absent, has_shift, range_has, range_once}
 use Rattle.unroll.proofs.LaidLemmas.{filter_has}
-use Rattle.unroll.proofs.SoundLemmas.{all_from, at_count, low_count}
+use Rattle.unroll.proofs.SoundLemmas.{at_count, low_count}
 
 -- the words with their nets in the unrolled net
 abbrev pub moved : (v c k base : ℕ) → List BoundWord → List BoundWord

@@ -30,7 +30,7 @@ unrolled_nets net binding c = nets_of_words (nets net) c binding.k (cycle_nets (
 
 -- all cycles as one
 abbrev pub in_one_cycle : NetList → Binding → ℕ → BoundNet
-in_one_cycle net binding c = record { net = all_cycles net binding c; bound = rebinding (all_cycles net binding c) binding (unrolled_nets net binding c) }
+in_one_cycle net binding c = record { net = all_cycles net binding c; binding = rebinding (all_cycles net binding c) binding (unrolled_nets net binding c) }
 
 abbrev pub is_empty : {X : Type 0} → List X → Bool
 is_empty [] = true
@@ -42,4 +42,4 @@ is_flat net binding = is_empty net.latches && (is_empty binding.feeds && not (li
 
 -- The net list and its words unrolled for c cycles after the first: as they are where there is nothing to unroll.
 abbrev pub unrolled : NetList → Binding → ℕ → BoundNet
-unrolled net binding c = if is_flat net binding then record { net = net; bound = binding } else in_one_cycle net binding c
+unrolled net binding c = if is_flat net binding then record { net = net; binding = binding } else in_one_cycle net binding c

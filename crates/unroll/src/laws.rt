@@ -26,10 +26,10 @@ pub fn counts_of_unrolled_nets()
 /// Within the limits, the unrolled net is sound, and its words are bound to it in one cycle.
 pub fn unrolled_nets_are_sound()
     ensures sound { (net : NetList) (binding : Binding) (c : ℕ) → IsSound net → IsBoundTo net binding → nets (unrolled net binding c).net ≤ 2 ^ 20 → length (unrolled net binding c).net.gates ≤ 2 ^ 20 → IsSound (unrolled net binding c).net }
-    ensures one_cycle { (net : NetList) (binding : Binding) (c : ℕ) → IsSound net → IsBoundTo net binding → IsOneCycle (unrolled net binding c).net (unrolled net binding c).bound }
+    ensures one_cycle { (net : NetList) (binding : Binding) (c : ℕ) → IsSound net → IsBoundTo net binding → IsOneCycle (unrolled net binding c).net (unrolled net binding c).binding }
 {}
 
 /// The circuit of the unrolled net has at each input the output that the job has after its cycles, and no other.
 pub fn unrolled_circuits_compute_the_job()
-    ensures { (product : ℕ → ℕ → ℕ) (net : NetList) (binding : Binding) (bases : List (List ℕ)) (c : ℕ) (xs : List ℕ) (e : ℕ) → IsRing binding.k product → HasNoZeroDivisors binding.k product → IsSound net → IsBoundTo net binding → HaveBases binding.k binding.words bases → nets (unrolled net binding c).net ≤ 2 ^ 20 → length (unrolled net binding c).net.gates ≤ 2 ^ 20 → IsOut (circuit_with binding.k product (unrolled net binding c) bases) xs e ↔ IsOut (job_with binding.k product (record { net = net; bound = binding }) bases c) xs e }
+    ensures { (product : ℕ → ℕ → ℕ) (net : NetList) (binding : Binding) (bases : List (List ℕ)) (c : ℕ) (xs : List ℕ) (e : ℕ) → IsRing binding.k product → HasNoZeroDivisors binding.k product → IsSound net → IsBoundTo net binding → HaveBases binding.k binding.words bases → nets (unrolled net binding c).net ≤ 2 ^ 20 → length (unrolled net binding c).net.gates ≤ 2 ^ 20 → IsOut (circuit_with binding.k product (unrolled net binding c) bases) xs e ↔ IsOut (job_with binding.k product (record { net = net; binding = binding }) bases c) xs e }
 {}

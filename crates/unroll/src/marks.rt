@@ -41,43 +41,43 @@ fn mark_feeds(marks: &mut [bool], feeds: &[Feed])
 }
 
 /// The marks of the nets that are fed.
-pub fn fed_marks(alloc: Global, net: &Net, bound: &Bound) -> Result<Vec<bool>, AllocError>
-    ensures { IfOk result (λ marks. AreMarks (nets net.now) (is_fed bound.now.feeds) marks.items) }
+pub fn fed_marks(alloc: Global, net: &Net, binding: &Bound) -> Result<Vec<bool>, AllocError>
+    ensures { IfOk result (λ marks. AreMarks (nets net.now) (is_fed binding.now.feeds) marks.items) }
 {
     let mut marks = vec![in alloc; false; net.nets() as usize]?;
-    mark_feeds(&mut marks, bound.feeds());
+    mark_feeds(&mut marks, binding.feeds());
     Ok(marks)
 }
 
 // Marks the nets of word w, below the number of words, if it is a state word.
-fn mark_held(alloc: Global, marks: &mut [bool], bound: &Bound, w: u32) -> Result<(), AllocError>
-    requires binding { IsBinding bound.now }
-    requires word { w < length bound.now.words }
-    ensures { OnOk result ((word : _) → slice_get bound.now.words w ≡ Some word → (n : ℕ) → n < length marks.new → mark_at marks.new n ≡ (mark_at marks.old n || marks_with word n)) }
+fn mark_held(alloc: Global, marks: &mut [bool], binding: &Bound, w: u32) -> Result<(), AllocError>
+    requires binding { IsBinding binding.now }
+    requires word { w < length binding.now.words }
+    ensures { OnOk result ((word : _) → slice_get binding.now.words w ≡ Some word → (n : ℕ) → n < length marks.new → mark_at marks.new n ≡ (mark_at marks.old n || marks_with word n)) }
 {
-    if bound.role(w) != Role::State {
+    if binding.role(w) != Role::State {
         return Ok(());
     }
-    let list = nets_of(alloc, bound, w)?;
+    let list = nets_of(alloc, binding, w)?;
     mark_all(marks, &list);
     Ok(())
 }
 
 // Marks the nets in state words.
-fn mark_states(alloc: Global, marks: &mut [bool], bound: &Bound) -> Result<(), AllocError>
-    ensures { OnOk result ((n : ℕ) → n < length marks.new → mark_at marks.new n ≡ (mark_at marks.old n || in_word State bound.now.words n)) }
+fn mark_states(alloc: Global, marks: &mut [bool], binding: &Bound) -> Result<(), AllocError>
+    ensures { OnOk result ((n : ℕ) → n < length marks.new → mark_at marks.new n ≡ (mark_at marks.old n || in_word State binding.now.words n)) }
 {
     for w in 0..bound.words() {
-        mark_held(alloc, marks, bound, w)?;
+        mark_held(alloc, marks, binding, w)?;
     }
     Ok(())
 }
 
 /// The marks of the nets in state words.
-pub fn held_marks(alloc: Global, net: &Net, bound: &Bound) -> Result<Vec<bool>, AllocError>
-    ensures { IfOk result (λ marks. AreMarks (nets net.now) (in_word State bound.now.words) marks.items) }
+pub fn held_marks(alloc: Global, net: &Net, binding: &Bound) -> Result<Vec<bool>, AllocError>
+    ensures { IfOk result (λ marks. AreMarks (nets net.now) (in_word State binding.now.words) marks.items) }
 {
     let mut marks = vec![in alloc; false; net.nets() as usize]?;
-    mark_states(alloc, &mut marks, bound)?;
+    mark_states(alloc, &mut marks, binding)?;
     Ok(marks)
 }

@@ -20,41 +20,41 @@ fn fed_bits(k: u32, role: Role) -> u32
 }
 
 // How many nets the fed words add.
-fn fed_count(bound: &Bound) -> u32
-    ensures count { result ≡ fed_count_of bound.now.k bound.now.words }
+fn fed_count(binding: &Bound) -> u32
+    ensures count { result ≡ fed_count_of binding.now.k binding.now.words }
     ensures few { result ≤ 64 * 9 }
 {
     let mut count = 0;
     for w in 0..bound.words() {
-        count += fed_bits(bound.k(), bound.role(w));
+        count += fed_bits(binding.k(), binding.role(w));
     }
     count
 }
 
 /// How many nets the net has after unrolling.
-pub fn net_count(net: &Net, bound: &Bound, cycles: u32) -> u64
+pub fn net_count(net: &Net, binding: &Bound, cycles: u32) -> u64
     requires { cycles ≤ 4096 }
-    ensures { result ≡ net_count_of net.now bound.now cycles }
+    ensures { result ≡ net_count_of net.now binding.now cycles }
 {
-    (u64::from(cycles) + 1) * u64::from(net.nets()) + u64::from(fed_count(bound))
+    (u64::from(cycles) + 1) * u64::from(net.nets()) + u64::from(fed_count(binding))
 }
 
 /// For each word the net of its bit 0, if it is fed.
 pub fn first_bits(
     alloc: Global,
     net: &Net,
-    bound: &Bound,
+    binding: &Bound,
     cycles: u32,
 ) -> Result<Vec<u32>, AllocError>
     requires cycles { cycles ≤ 4096 }
-    requires few { net_count_of net.now bound.now cycles ≤ 2 ^ 20 }
-    ensures { IfOk result (λ firsts. AreFirstBits net.now bound.now cycles firsts.items) }
+    requires few { net_count_of net.now binding.now cycles ≤ 2 ^ 20 }
+    ensures { IfOk result (λ firsts. AreFirstBits net.now binding.now cycles firsts.items) }
 {
     let mut firsts = Vec::new(alloc);
     let mut next = (cycles + 1) * net.nets();
     for w in 0..bound.words() {
         firsts.push(next)?;
-        next += fed_bits(bound.k(), bound.role(w));
+        next += fed_bits(binding.k(), binding.role(w));
     }
     Ok(firsts)
 }

@@ -42,16 +42,16 @@ fn put_sources(sources: &mut [Source], nets: u32, cycles: u32, feeds: &[Feed])
 pub fn sources(
     alloc: Global,
     net: &Net,
-    bound: &Bound,
+    binding: &Bound,
     cycles: u32,
 ) -> Result<Vec<Source>, AllocError>
-    requires bound { IsBoundTo net.now bound.now }
+    requires bound { IsBoundTo net.now binding.now }
     requires cycles { cycles ≤ 4096 }
     requires few { cycle_nets (nets net.now) cycles ≤ 2 ^ 20 }
-    ensures { IfOk result (λ sources. AreSources net.now bound.now cycles sources.items) }
+    ensures { IfOk result (λ sources. AreSources net.now binding.now cycles sources.items) }
 {
     let nets = net.nets();
     let mut sources = vec![in alloc; Source::Zero; ((cycles + 1) * nets) as usize]?;
-    put_sources(&mut sources, nets, cycles, bound.feeds());
+    put_sources(&mut sources, nets, cycles, binding.feeds());
     Ok(sources)
 }

@@ -1,7 +1,6 @@
 //! Nets with words, unrolled into one cycle.
 ghost use Rattle.std.specs.Prelude.{◌≡◌, ◌≢◌, ◌≤◌, ◌<◌, ◌^◌, ◌↔◌, Err, length, IfOk, IfErr, IsErrOf, OnOk};
 ghost use Rattle.net_core.specs.NetList.{nets};
-ghost use Rattle.net_core.specs.Sound.{IsSound};
 ghost use Rattle.net_words.specs.BoundTo.{IsBoundTo};
 ghost use Rattle.unroll.specs.Gates.{gates_to};
 ghost use Rattle.unroll.specs.Unrolled.{in_one_cycle, unrolled};
@@ -98,15 +97,6 @@ fn all_cycles(
     }
 }
 
-// A circuit, whose net is sound.
-fn kept(circuit: Combinational) -> Combinational
-    ensures same { result ≡ circuit }
-    ensures sound { IsSound circuit.net }
-{
-    let _net = circuit.net();
-    circuit
-}
-
 /// A net with its words, unrolled for at most 4,096 cycles after the first. The words are bound to the net.
 ///
 /// A net without latches, bound without fed words and feeds, is kept as it is. Otherwise, with v nets, net n of cycle t has the
@@ -128,7 +118,7 @@ pub fn unroll(
     ensures room { OnOk result (length (unrolled net bound cycles).net.gates ≤ 2 ^ 20) }
 {
     match Combinational::new(net, bound) {
-        Ok(circuit) => Ok(kept(circuit)),
+        Ok(circuit) => Ok(circuit),
         Err((net, bound)) => all_cycles(alloc, net, bound, cycles),
     }
 }

@@ -11,17 +11,17 @@ use net_words::{Bound, Role};
 use std::alloc::{AllocError, Global};
 
 /// The nets of word w, below the number of words.
-pub fn nets_of(alloc: Global, bound: &Bound, w: u32) -> Result<Vec<u32>, AllocError>
-    requires binding { IsBinding bound.now }
-    requires word { w < length bound.now.words }
-    ensures { IfOk result (λ list. (word : _) → slice_get bound.now.words w ≡ Some word → list.items ≡ word.nets) }
+pub fn nets_of(alloc: Global, binding: &Bound, w: u32) -> Result<Vec<u32>, AllocError>
+    requires binding { IsBinding binding.now }
+    requires word { w < length binding.now.words }
+    ensures { IfOk result (λ list. (word : _) → slice_get binding.now.words w ≡ Some word → list.items ≡ word.nets) }
 {
     let mut list = Vec::new(alloc);
-    if !bound.has_nets(w) {
+    if !binding.has_nets(w) {
         return Ok(list);
     }
     for place in 0..bound.k() {
-        list.push(bound.net(w, place))?;
+        list.push(binding.net(w, place))?;
     }
     Ok(list)
 }

@@ -1,16 +1,12 @@
 -- Names that may be those of bits, and the places where they are cut.
-use Rattle.std.proofs.Common.{◌≡◌, ◌⊎◌, ◌∙◌, ap, sym, refl, subst, inl, inr, ℕ, zero, suc, ◌+◌, ◌-◌, ◌<◌, ◌≤◌, Bool, true, false, List, [], ◌∷◌, ◌++◌, length, take, drop, decimal, length-append, Option, None, Some, arith}
+use Rattle.std.proofs.Common.{◌≡◌, ◌∙◌, ap, sym, refl, subst, ℕ, suc, ◌+◌, ◌-◌, ◌≤◌, Bool, true, false, List, [], ◌∷◌, ◌++◌, length, take, drop, decimal, length-append, Option, None, Some, arith}
 use Rattle.text_core.specs.Numbers.{IsDecimal, value_of}
-use Rattle.net_verilog.specs.Declarations.{Declarations, Range, bit_name, range_of}
+use Rattle.graph_core.proofs.GeneralLemmas.{taken_long as taken_length, front_of as front}
+use Rattle.net_verilog.specs.Declarations.{Declarations, bit_name, range_of}
 use Rattle.verilog_reader.specs.Declares.{HasShortNames, Meets}
-use Rattle.verilog_reader.specs.private.Meets.{AreShort, Decides, HasScalar, IsBit, IsBitAt, IsCutOf, IsFound, IsMet, IsNoBit}
+use Rattle.verilog_reader.specs.private.Meets.{AreShort, Decides, HasScalar, IsBit, IsFound, IsMet}
 use Rattle.verilog_reader.proofs.NumeralLemmas.{printed_value}
-use Rattle.verilog_reader.proofs.NameLemmas.{front, longer, name_split, same_vector}
-
-pub taken_length : (k : ℕ) (xs : List ℕ) → k ≤ length xs → length (take k xs) ≡ k
-taken_length zero xs within = refl
-taken_length (suc k) [] within = absurd (omega arith)
-taken_length (suc k) (x ∷ xs) within = omega (arith, taken_length k xs (omega arith))
+use Rattle.verilog_reader.proofs.NameLemmas.{longer, name_split, same_vector}
 
 behind_one : (xs ys : List ℕ) (b : ℕ) → drop (suc (length xs)) (xs ++ b ∷ ys) ≡ ys
 behind_one [] ys b = refl
@@ -32,58 +28,6 @@ pub index_none : (name before : List ℕ) (cut i : ℕ) → i ≤ 4294967295 →
 index_none name before cut i few at same none =
     let P : List ℕ → Type 0 = λ s. IsDecimal s i in
     none i (subst P (sym (middle name before cut i same at)) (printed_value i (omega (arith, few)))) few
-
-vectors_same : (a b c d : ℕ) → ◌≡◌ {A = Option Range} (Some (Some (a, b))) (Some (Some (c, d))) → (a ≡ c) × (b ≡ d)
-vectors_same a b c d is =
-    let same : ◌≡◌ {A = ℕ × ℕ} (a, b) (c, d) = cc in
-    (ap (λ p. p.0) same, ap (λ p. p.1) same)
-
-module _ (declared : Declarations) (name before : List ℕ) (cut : ℕ) (inside : cut < length name) where
-  pub never_open : (open_at : Bool) → ((before : List ℕ) → (i : ℕ) → length before ≡ cut → name ≡ bit_name before i → open_at ≡ true) → open_at ≡ false → IsBitAt declared name cut → ⊥
-  never_open open_at is none (low, high, i, range, above, below, same) =
-      let bad : true ≡ false = sym (is (take cut name) i (taken_length cut name (omega arith)) same) ∙ none in
-      absurd (cc)
-
-  pub never_vector : before ≡ take cut name → ((r : ℕ × ℕ) → range_of declared before ≡ Some (Some r) → ⊥) → IsBitAt declared name cut → ⊥
-  never_vector is none (low, high, i, range, above, below, same) = none (low, high) (ap (range_of declared) is ∙ range)
-
-  module _ (low high : ℕ) (is : before ≡ take cut name) (range : range_of declared before ≡ Some (Some (low, high))) (few : high ≤ 4294967295) where
-    known : IsBitAt declared name cut → (i : ℕ) × (low ≤ i) × (i ≤ high) × (length before ≡ cut) × (name ≡ bit_name before i)
-    known (l, h, i, there, above, below, same) =
-        let both = vectors_same l h low high (sym there ∙ ap (range_of declared) (sym is) ∙ range) in
-        (i, omega (arith, above, both.0), omega (arith, below, both.1), ap length is ∙ taken_length cut name (omega arith), same ∙ ap (λ b. bit_name b i) (sym is))
-
-    pub never_index : ((before : List ℕ) → (i : ℕ) → i ≤ 4294967295 → length before ≡ cut → name ≡ bit_name before i → ◌≡◌ {A = Option ℕ} None (Some i)) → IsBitAt declared name cut → ⊥
-    never_index none bit =
-        let k = known bit in
-        let bad : ◌≡◌ {A = Option ℕ} None (Some k.0) = none before k.0 (omega (arith, k.2)) k.3 k.4 in
-        absurd (cc)
-
-    module _ (index : ℕ) (found : (before : List ℕ) → (i : ℕ) → i ≤ 4294967295 → length before ≡ cut → name ≡ bit_name before i → ◌≡◌ {A = Option ℕ} (Some index) (Some i)) where
-      same_index : (bit : IsBitAt declared name cut) → index ≡ (known bit).0
-      same_index bit =
-          let k = known bit in
-          let same : ◌≡◌ {A = Option ℕ} (Some index) (Some k.0) = found before k.0 (omega (arith, k.2)) k.3 k.4 in
-          cc
-
-      pub never_inside : (index < low) ⊎ (high < index) → IsBitAt declared name cut → ⊥
-      never_inside (inl less) bit = let k = known bit in omega (arith, less, k.1, same_index bit)
-      never_inside (inr more) bit = let k = known bit in omega (arith, more, k.2, same_index bit)
-
-      pub decided : (r : Bool) → low ≤ index → index ≤ high → Decides r (name ≡ bit_name before index) → Decides r (IsBitAt declared name cut)
-      decided true above below same = (low, high, index, ap (range_of declared) (sym is) ∙ range, above, below, same ∙ ap (λ b. bit_name b index) is)
-      decided false above below differs = λ bit. (let k = known bit in differs (k.4 ∙ ap (bit_name before) (sym (same_index bit))))
-
-at_cut : (name : List ℕ) (cut k : ℕ) (declared : Declarations) → IsCutOf name cut → k ≤ length name → IsBitAt declared name k → k ≡ cut
-at_cut name cut k declared is inside (low, high, i, range, above, below, same) = sym (taken_length k name inside) ∙ is (take k name) i same
-
--- only what stands before the last `[` can be the name of a vector
-pub bit_at_cut : (declared : Declarations) (name : List ℕ) (cut : ℕ) → cut < length name → IsCutOf name cut → (r : Bool) → Decides r (IsBitAt declared name cut) → Decides r (IsBit declared name)
-bit_at_cut declared name cut inside is true bit = (cut, inside, bit)
-bit_at_cut declared name cut inside is false none = λ (bit : IsBit declared name). (let P : ℕ → Type 0 = λ k. IsBitAt declared name k in none (subst P (at_cut name cut bit.0 declared is (omega (arith, bit.1)) bit.2) bit.2))
-
-pub bit_nowhere : (declared : Declarations) (name : List ℕ) → IsNoBit name → IsBit declared name → ⊥
-bit_nowhere declared name none (k, inside, (low, high, i, range, above, below, same)) = none (take k name) i same
 
 module _ (declared : Declarations) (name : List ℕ) where
   bit_meets : IsBit declared name → Meets declared None name

@@ -1,22 +1,11 @@
 -- What is found of the bits of a vector.
-use Rattle.std.proofs.Common.{◌≡◌, ◌∙◌, ap, sym, refl, subst, ℕ, zero, suc, ◌+◌, ◌-◌, ◌/◌, ◌%◌, ◌^◌, ◌<◌, ◌≤◌, Bool, true, false, List, [], ◌∷◌, ◌++◌, length, decimal, length-append, Option, None, Some, arith}
+use Rattle.std.proofs.Common.{◌≡◌, ap, refl, ℕ, ◌+◌, ◌-◌, ◌/◌, ◌%◌, ◌^◌, ◌<◌, ◌≤◌, Bool, true, false, List, [], ◌∷◌, ◌++◌, length, decimal, length-append, None, Some, arith}
 use Rattle.std.specs.Prelude.{nat_lt, slice_get}
 use Rattle.std.proofs.lemmas.Bool.{ltb-true, ltb-false}
 use Rattle.std.proofs.lemmas.Fmt.{decimal_by_steps, decimal_step, length-decimal-le}
-use Rattle.net_verilog.specs.Declarations.{Declarations, Range, bit_name, range_of}
-use Rattle.verilog_reader.specs.private.Listed.{IsEach}
-use Rattle.verilog_reader.specs.private.Meets.{AreShort, Decides, HasScalar, IsFound, is_scalar}
+use Rattle.net_verilog.specs.Declarations.{Declarations, bit_name, range_of}
+use Rattle.verilog_reader.specs.private.Meets.{AreShort, Decides, HasScalar, IsFound}
 use Rattle.verilog_reader.proofs.NameLemmas.{name_split}
-
-pub scalar_is : (range : Option Range) → is_scalar range ≡ true → range ≡ Some None
-scalar_is None is = absurd (cc)
-scalar_is (Some None) is = refl
-scalar_is (Some (Some r)) is = absurd (cc)
-
-pub is_no_scalar : (range : Option Range) → is_scalar range ≡ false → range ≡ Some None → ⊥
-is_no_scalar None is same = absurd (cc)
-is_no_scalar (Some None) is same = absurd (cc)
-is_no_scalar (Some (Some r)) is same = absurd (cc)
 
 -- a number with more digits is larger
 decimal_rises : (i j : ℕ) → i ≤ j → j < 2 ^ 64 → length (decimal i) ≤ length (decimal j)
@@ -42,42 +31,10 @@ bit_length name i = omega (arith, ap length (name_split name i), length-append n
 abbrev pub IsNoneBefore : Declarations → List ℕ → ℕ → ℕ → List ℕ → ℕ → Type 0
 IsNoneBefore declared name low high list end = (place i : ℕ) → place < end → slice_get list place ≡ Some i → low ≤ i → i ≤ high → range_of declared (bit_name name i) ≡ Some None → ⊥
 
-placed : (xs : List ℕ) (place i : ℕ) → slice_get xs place ≡ Some i → place < length xs
-placed [] place i got = absurd (cc)
-placed (x ∷ xs) zero i got = omega arith
-placed (x ∷ xs) (suc place) i got = omega (arith, placed xs place i got)
-
 module _ (declared : Declarations) (name : List ℕ) (low high : ℕ) where
   all_short : high ≤ 65535 → length (bit_name name high) ≤ 255 → AreShort name low (1 + high)
   all_short small short i above below = omega (arith, short, bit_length name i, bit_length name high, decimal_rises i high (omega (arith, below)) (omega (arith, small)))
 
-  pub found_long : low ≤ high → nat_lt 255 (length (bit_name name high)) ≡ true → IsFound declared name low (1 + high) None
-  found_long some long = λ short. absurd (omega (arith, short high some (omega arith), ltb-true 255 (length (bit_name name high)) long))
-
   pub found_short : high ≤ 65535 → nat_lt 255 (length (bit_name name high)) ≡ false → (met : Bool) → Decides met (HasScalar declared name low (1 + high)) → IsFound declared name low (1 + high) (Some met)
   found_short small short true has = (all_short small (omega (arith, ltb-false 255 (length (bit_name name high)) short)), has)
   found_short small short false none = (all_short small (omega (arith, ltb-false 255 (length (bit_name name high)) short)), none)
-
-  pub found_empty : high < low → IsFound declared name low (1 + high) (Some false)
-  found_empty none = ((λ i above below. absurd (omega (arith, above, below, none))), (λ h. absurd (omega (arith, h.1, h.2, none))))
-
-  module _ (list : List ℕ) where
-    pub none_first : IsNoneBefore declared name low high list 0
-    none_first place i before = absurd (omega (arith, before))
-
-    pub none_more : (k i : ℕ) → slice_get list k ≡ Some i → (low ≤ i → i ≤ high → range_of declared (bit_name name i) ≡ Some None → ⊥) → IsNoneBefore declared name low high list k → IsNoneBefore declared name low high list (k + 1)
-    none_more k i got here none place j before at = by (nat_lt place k) refl
-      where
-        by : (b : Bool) → nat_lt place k ≡ b → low ≤ j → j ≤ high → range_of declared (bit_name name j) ≡ Some None → ⊥
-        by true is = none place j (ltb-true place k is) at
-        by false is =
-            let same : place ≡ k = omega (arith, ltb-false place k is, before) in
-            let both : ◌≡◌ {A = Option ℕ} (Some i) (Some j) = sym got ∙ ap (slice_get list) (sym same) ∙ at in
-            let e : i ≡ j = cc in
-            let P : ℕ → Type 0 = λ n. low ≤ n → n ≤ high → range_of declared (bit_name name n) ≡ Some None → ⊥ in
-            subst P e here
-
-    pub none_listed : IsEach declared name list → high ≤ 4294967295 → (k : ℕ) → length list ≤ k → IsNoneBefore declared name low high list k → HasScalar declared name low (1 + high) → ⊥
-    none_listed each small k all none (i, above, below, is) =
-        let has = each i (omega (arith, below, small)) is in
-        none has.0 i (omega (arith, placed list has.0 i has.1, all)) has.1 above (omega (arith, below)) is

@@ -1,5 +1,5 @@
 -- Names of bits: what stands before the last `[` is the vector's name.
-use Rattle.std.proofs.Common.{◌≡◌, ◌∙◌, ap, sym, refl, subst, ℕ, ◌<◌, List, [], ◌∷◌, ◌++◌, length, take, drop, codes, decimal, append_assoc, length-append, arith}
+use Rattle.std.proofs.Common.{◌≡◌, ◌∙◌, ap, sym, refl, subst, ℕ, ◌<◌, List, [], ◌∷◌, ◌++◌, length, codes, decimal, append_assoc, length-append, arith}
 use Rattle.net_verilog.specs.Declarations.{bit_name}
 use Rattle.verilog_reader.proofs.NumeralLemmas.{NoOpen, digits_no_open}
 
@@ -33,11 +33,3 @@ same_vector v w i j same = same_before v w (decimal i ++ 93 ∷ []) (decimal j +
 
 pub longer : (name : List ℕ) (i : ℕ) → length name < length (bit_name name i)
 longer name i = omega (arith, ap length (name_split name i), length-append name (91 ∷ (decimal i ++ 93 ∷ [])))
-
-pub front : (xs ys : List ℕ) → take (length xs) (xs ++ ys) ≡ xs
-front [] ys = refl
-front (x ∷ xs) ys = ap (λ zs. x ∷ zs) (front xs ys)
-
-pub behind : (xs ys : List ℕ) → drop (length xs) (xs ++ ys) ≡ ys
-behind [] ys = refl
-behind (x ∷ xs) ys = behind xs ys

@@ -1,7 +1,6 @@
 -- Ports, one after another.
-use Rattle.std.proofs.Common.{◌≡◌, ◌∙◌, ap, inl, inr, ℕ, suc, ◌+◌, ◌-◌, ◌<◌, ◌≤◌, List, Result, Ok, Err, arith}
+use Rattle.std.proofs.Common.{◌≡◌, ◌∙◌, ap, inl, inr, ℕ, suc, ◌+◌, ◌-◌, ◌<◌, List, Result, Ok, Err, arith}
 use Rattle.net_core.specs.NetList.{NetList}
-use Rattle.net_core.specs.Inside.{IsNetName}
 use Rattle.net_core.specs.declared.fault.NetFault.{NetFault}
 use Rattle.net_verilog.specs.Declarations.{bit_name}
 use Rattle.net_verilog.specs.Made.{on_value}
@@ -9,11 +8,6 @@ use Rattle.net_verilog.specs.private.Gates.{IsRefused}
 use Rattle.net_verilog.specs.declared.declared.Direction.{Direction}
 use Rattle.net_verilog.specs.declared.fault.VerilogFault.{VerilogFault}
 use Rattle.verilog_reader.specs.Declares.{bits_from, with_port_named, with_ports}
-use Rattle.verilog_reader.specs.private.Meets.{AreShort}
-use Rattle.verilog_reader.proofs.NameLemmas.{longer}
-
-pub bit_named : (name : List ℕ) (low i end : ℕ) → AreShort name low end → low ≤ i → i < end → IsNetName (bit_name name i)
-bit_named name low i end short above below = (omega (arith, longer name i), short i above below)
 
 module _ (direction : Direction) (net : NetList) (name : List ℕ) (i end : ℕ) (less : i < end) where
   count : end - i ≡ suc (end - (i + 1))
@@ -34,8 +28,3 @@ module _ (direction : Direction) (net : NetList) (name : List ℕ) (i end : ℕ)
   pub ports_fault : (whole : Result NetList NetFault) (fault : VerilogFault) → whole ≡ with_ports direction net (bits_from name i (end - i)) → IsRefused (with_port_named direction net (bit_name name i)) fault → IsRefused whole fault
   ports_fault whole fault same (inl memory) = inl memory
   ports_fault whole fault same (inr (refusal, is, alike)) = inr (refusal, same ∙ ports_refuse refusal is, alike)
-
-pub ports_end : (direction : Direction) (net : NetList) (name : List ℕ) (i end : ℕ) → end ≤ i → with_ports direction net (bits_from name i (end - i)) ≡ Ok net
-ports_end direction net name i end past =
-    let none : end - i ≡ 0 = omega (arith, past) in
-    ap (λ n. with_ports direction net (bits_from name i n)) none

@@ -1,21 +1,15 @@
 -- Declared names that make no nets of one name, and the indexes that are listed for them.
-use Rattle.std.proofs.Common.{◌≡◌, ◌∙◌, ap, sym, refl, subst, ℕ, Bool, true, false, List, [], Option, None, Some}
+use Rattle.std.proofs.Common.{◌≡◌, ◌∙◌, ap, sym, refl, subst, ℕ, Bool, true, false, List, Option, None, Some}
 use Rattle.std.specs.Prelude.{if◌then◌else◌}
 use Rattle.std.specs.Option.{option_map}
 use Rattle.std.specs.Str.{bytes_eq}
 use Rattle.std.specs.Cmp.Lexicographic.{bytes_decides}
 use Rattle.net_core.specs.Lists.{Has}
-use Rattle.net_verilog.specs.Declarations.{Declarations, IsNetOf, Range, bit_name, declared_as, put, range_of, undeclared}
+use Rattle.net_verilog.specs.Declarations.{Declarations, IsNetOf, Range, bit_name, declared_as, put, range_of}
 use Rattle.net_verilog.specs.declared.declared.Declared.{Declared}
 use Rattle.net_verilog.proofs.TableLemmas.{put_at}
 use Rattle.verilog_reader.specs.Declares.{Meets}
 use Rattle.verilog_reader.specs.private.Listed.{AreApart, AreListed, IsKept, IsListed, Lists, list_at}
-
-pub none_apart : AreApart undeclared
-none_apart name range is meets = let bad : ◌≡◌ {A = Option Range} None (Some range) = is in absurd (cc)
-
-pub none_listed : AreListed undeclared []
-none_listed name i few is = let bad : ◌≡◌ {A = Option Range} None (Some None) = is in absurd (cc)
 
 module _ (name : List ℕ) (d : Declared) (declared : Declarations) where
   -- the range of a name after a declaration

@@ -5,17 +5,9 @@ ghost use Rattle.verilog_reader.specs.Modules.{Module, VerilogNet};
 
 use crate::module::read_module;
 use crate::scope::Scope;
-use net_core::{Net, NetFault, NetMaker};
-use net_verilog::{Cursor, VerilogFault};
+use net_core::{Net, NetMaker, key_of};
+use net_verilog::{Cursor, VerilogFault, fault_of};
 use std::alloc::Global;
-use std::hash::{DefaultHasher, Hasher};
-
-// The key of a text, which is not known before the text is.
-fn key_of(text: &[u8]) -> u64 {
-    let mut state = DefaultHasher::new();
-    state.write(text);
-    state.finish()
-}
 
 // The net list of a text.
 fn read_text(alloc: Global, bytes: &[u8]) -> Result<NetMaker, VerilogFault>
@@ -29,16 +21,6 @@ fn read_text(alloc: Global, bytes: &[u8]) -> Result<NetMaker, VerilogFault>
     match read_module(alloc, &mut maker, &mut declared, &Cursor::new(bytes)) {
         Ok(()) => Ok(maker),
         Err(fault) => Err(fault),
-    }
-}
-
-// A fault of nets, or want of memory.
-fn fault_of(fault: NetFault) -> VerilogFault
-    ensures { ((fault ≡ NetFault.OutOfMemory) × (result ≡ VerilogFault.OutOfMemory)) ⊎ (¬ (fault ≡ NetFault.OutOfMemory) × (result ≡ VerilogFault.Net fault)) }
-{
-    match fault {
-        NetFault::OutOfMemory => VerilogFault::OutOfMemory,
-        fault => VerilogFault::Net(fault),
     }
 }
 

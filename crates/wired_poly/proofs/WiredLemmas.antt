@@ -3,6 +3,7 @@ use Rattle.std.proofs.Common.{◌≡◌, ◌∙◌, ap, sym, refl, subst, ℕ, z
 use Rattle.std.specs.Prelude.{slice_get}
 use Rattle.graph_core.specs.Arranged.{IsArranged}
 use Rattle.graph_core.specs.Graph.{edges, Graph, Has, HasEdge, IsInside}
+use Rattle.graph_core.proofs.GeneralLemmas.{length_map as mapped_long}
 use Rattle.poly_mixed.specs.Polynomial.{IsReduced, Terms}
 use Rattle.poly_mixed.specs.declared.stage.ReduceFault.{ReduceFault}
 use Rattle.poly_mixed.specs.declared.stage.ReduceFault.TheVariants as stages
@@ -14,7 +15,7 @@ use Rattle.instance_order.specs.LevelOrder.{first_numbers, IsLevelOrder}
 use Rattle.instance_order.proofs.AfterLemmas.{level_arranged}
 use Rattle.instance_polys.specs.Instances.{IsReady, IsRefused}
 use Rattle.instance_polys.specs.Words.{AreWordPolys, IsFeedAmong}
-use Rattle.wired_poly.specs.Wired.{IsStageFault, IsTaken, IsWired}
+use Rattle.wired_poly.specs.Wired.{IsStageFault, IsTakenByLevel, IsWired}
 use Rattle.wired_poly.specs.private.Rows.{instance_of}
 
 -- ---- rows
@@ -80,10 +81,6 @@ among_instances count n (InputWord w ∷ feeds) each k a got = among_instances c
 among_instances count n (OutputOf i ∷ feeds) each zero a got = let same : i ≡ a = cc in let P : ℕ → Type 0 = λ x. x < n in subst P same (each 0 (OutputOf i) refl)
 among_instances count n (OutputOf i ∷ feeds) each (suc k) a got = among_instances count n feeds (λ j feed at. each (suc j) feed at) k a got
 
-pub mapped_long : {A B : Type 0} (g : A → B) (xs : List A) → length (map g xs) ≡ length xs
-mapped_long g [] = refl
-mapped_long g (x ∷ xs) = ap suc (mapped_long g xs)
-
 row_edges : (rows : List (List Feeder)) (i : ℕ) (feeds : List Feeder) → slice_get rows i ≡ Some feeds → edges (feeding_graph rows) i ≡ instances_among feeds
 row_edges [] i feeds got = absurd (cc)
 row_edges (row ∷ rows) zero feeds got = let same : row ≡ feeds = cc in ap instances_among same
@@ -133,6 +130,6 @@ words_reduced k mul words are = from words (λ w ts got. (are w ts got).reduced)
 -- ---- stages
 
 -- a stage over the bound as a fault of the top
-pub stage_refused : (k : ℕ) (mul : ℕ → ℕ → ℕ) (count : ℕ) (blocks : List Terms) (rows : List (List Feeder)) (bound : ℕ) (words : List Terms) (order : List ℕ) (fault : ReduceFault) → IsTaken k mul count blocks rows bound words order → IsRefused k mul words blocks rows bound order fault → IsStageFault k mul count blocks rows bound fault
+pub stage_refused : (k : ℕ) (mul : ℕ → ℕ → ℕ) (count : ℕ) (blocks : List Terms) (rows : List (List Feeder)) (bound : ℕ) (words : List Terms) (order : List ℕ) (fault : ReduceFault) → IsTakenByLevel k mul count blocks rows bound words order → IsRefused k mul words blocks rows bound order fault → IsStageFault k mul count blocks rows bound fault
 stage_refused k mul count blocks rows bound words order (stages.TooManyTerms stage n) taken refused = record { words = words; order = order; taken = taken; refused = refused }
 stage_refused k mul count blocks rows bound words order stages.OutOfMemory taken refused = tt

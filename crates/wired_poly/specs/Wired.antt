@@ -20,7 +20,7 @@ pub record IsWired (k count : ℕ) (blocks : List Terms) (rows : List (List Feed
 
 module _ (k : ℕ) (mul : ℕ → ℕ → ℕ) (count : ℕ) (blocks : List Terms) (rows : List (List Feeder)) (bound : ℕ) where
   -- the words as polynomials, and the instances by level
-  pub record IsTaken (words : List Terms) (order : List ℕ) : Type 0 where
+  pub record IsTakenByLevel (words : List Terms) (order : List ℕ) : Type 0 where
     pub words_are : AreWordPolys k mul words
     pub many : length words ≡ count
     pub by_level : IsLevelOrder (feeding_graph rows) order
@@ -30,7 +30,7 @@ module _ (k : ℕ) (mul : ℕ → ℕ → ℕ) (count : ℕ) (blocks : List Term
   pub record IsWiredPoly (output : Feeder) (ts : Terms) : Type 0 where
     pub words : List Terms
     pub order : List ℕ
-    pub taken : IsTaken words order
+    pub taken : IsTakenByLevel words order
     pub polys : List Terms
     pub done : AreDone k mul words blocks rows bound order (length order) polys
     pub is : IsPolynomialOf k mul (λ p. value mul p (feed_terms words polys output)) ts
@@ -39,7 +39,7 @@ module _ (k : ℕ) (mul : ℕ → ℕ → ℕ) (count : ℕ) (blocks : List Term
   pub record IsStageOver (fault : ReduceFault) : Type 0 where
     pub words : List Terms
     pub order : List ℕ
-    pub taken : IsTaken words order
+    pub taken : IsTakenByLevel words order
     pub refused : IsRefused k mul words blocks rows bound order fault
 
   -- why there is no polynomial; want of memory is free

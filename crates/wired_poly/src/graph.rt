@@ -55,13 +55,13 @@ fn feeding_graph(alloc: Global, rows: &[Vec<Feeder>]) -> Result<Graph, AllocErro
     Ok(graph)
 }
 
-/// The instances of a wired top by rising level and number, where row i is what feeds instance i; or the ring of instances that feed
+/// The instances of a wired top by rising level and number, where row i is what feeds instance i; or the cycle of instances that feed
 /// each other which a walk over all of them finds.
 pub fn wired_order(alloc: Global, rows: &[Vec<Feeder>]) -> Result<Vec<u32>, CycleFault>
     requires few { length rows.now < 2 ^ 32 }
     requires inside { (i : ℕ) (row : _) → slice_get rows.now i ≡ Some row → All (λ a. a < length rows.now) (instances_among row.items) }
     ensures order { IfOk result (λ order. IsLevelOrder (graph_of (map (λ row. row.items) rows.now)) order.items) }
-    ensures ring { IfErr result (λ fault. IsCycleFault (graph_of (map (λ row. row.items) rows.now)) (first_numbers (length rows.now)) fault) }
+    ensures cycle { IfErr result (λ fault. IsCycleFault (graph_of (map (λ row. row.items) rows.now)) (first_numbers (length rows.now)) fault) }
 {
     let graph = feeding_graph(alloc, rows)?;
     let order = match level_order(alloc, &graph) {

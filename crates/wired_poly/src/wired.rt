@@ -1,5 +1,5 @@
 //! The polynomial of a wired top.
-ghost use Rattle.std.specs.Prelude.{◌≡◌, ◌<◌, IfErr, IfOk, length, map};
+ghost use Rattle.std.specs.Prelude.{◌<◌, IfErr, IfOk, length, map};
 ghost use Rattle.poly_mixed.specs.Polynomial.{value, IsPolynomialOf};
 ghost use Rattle.instance_poly.specs.Instance.{AreReduced};
 ghost use Rattle.block_feeds.specs.Wiring.{feeding_graph as graph_of};
@@ -9,20 +9,9 @@ ghost use Rattle.wired_poly.specs.Wired.{IsStageFault, IsWired, IsWiredPoly};
 
 use block_feeds::Feeder;
 use gf_field::Field;
-use instance_polys::{instance_polys, word_polys};
+use instance_polys::{instance_polys, poly_of, word_polys};
 use poly_mixed::{Poly, ReduceFault};
 use std::alloc::{AllocError, Global};
-
-// The polynomial of a feed.
-fn feed_poly<'a>(words: &'a [Poly], polys: &'a [Poly], feed: Feeder) -> &'a Poly
-    requires { IsFeedAmong (length words.now) (length polys.now) feed }
-    ensures { result.now.terms ≡ feed_terms (map (λ q. q.terms) words.now) (map (λ q. q.terms) polys.now) feed }
-{
-    match feed {
-        Feeder::InputWord(word) => &words[word as usize],
-        Feeder::OutputOf(instance) => &polys[instance as usize],
-    }
-}
 
 // A polynomial that has the values of a feed's.
 fn copied<F: Field>(
@@ -37,7 +26,7 @@ fn copied<F: Field>(
     requires polys { AreReduced (F.degree field.now) (map (λ q. q.terms) polys.now) }
     ensures { IfOk result (λ q. IsPolynomialOf (F.degree field.now) (F.product field.now) (λ p. value (F.product field.now) p (feed_terms (map (λ w. w.terms) words.now) (map (λ w. w.terms) polys.now) feed)) q.terms) }
 {
-    let poly = feed_poly(words, polys, feed);
+    let poly = poly_of(words, polys, feed);
     let mut copy = Poly::zero(alloc);
     copy.add_into(field, poly)?;
     Ok(copy)

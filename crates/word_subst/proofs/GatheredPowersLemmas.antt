@@ -13,14 +13,14 @@ use Rattle.poly_mixed.specs.Polynomial.{IsElement}
 use Rattle.poly_mixed.specs.Product.{add_exponent}
 use Rattle.poly_mixed.specs.Sum.{plus}
 use Rattle.poly_mixed.proofs.FieldLaws.{IsField}
-use Rattle.poly_mixed.proofs.Products.{distrib_right, product_nonzero}
-use Rattle.poly_mixed.proofs.Ranks.{from_less}
-use Rattle.poly_mixed.proofs.Sums.{IsAdditive, sorted-plus, all_plus, xor_sum-plus}
-use Rattle.poly_mixed.proofs.Values.{power_element, product_zero, product_by_zero}
+use Rattle.poly_mixed.proofs.ProductLemmas.{distrib_right, product_nonzero}
+use Rattle.poly_mixed.proofs.RankLemmas.{from_less}
+use Rattle.poly_mixed.proofs.SumLemmas.{IsAdditive, sorted-plus, all_plus, xor_sum-plus}
+use Rattle.poly_mixed.proofs.ValueLemmas.{power_element, product_zero, product_by_zero}
 use Rattle.word_subst.specs.Univariate.{Powers, IsPower, IsBelow, IsRising, IsUnivariate, power_value, value_of, IsProductOfTwo}
 use Rattle.word_subst.specs.Multiple.{multiplied}
-use Rattle.word_subst.proofs.Univariates.{all_append, xor_sum-append, power_value_element, value_of_element}
-use Rattle.word_subst.proofs.Multiples.{value_multiplied, low_is, high_is}
+use Rattle.word_subst.proofs.UnivariateLemmas.{all_append, xor_sum-append, power_value_element, value_of_element}
+use Rattle.word_subst.proofs.MultipleLemmas.{value_multiplied, low_is, high_is}
 use Rattle.std.proofs.lemmas.Bool.{cases_lt}
 use Rattle.std.proofs.Common.{inl, inr}
 

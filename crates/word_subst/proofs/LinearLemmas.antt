@@ -9,14 +9,14 @@ use Rattle.poly_mixed.specs.Polynomial.{IsElement}
 use Rattle.poly_mixed.specs.Product.{add_exponent}
 use Rattle.poly_mixed.specs.Sum.{plus}
 use Rattle.poly_mixed.proofs.FieldLaws.{IsField}
-use Rattle.poly_mixed.proofs.Sums.{all_plus}
-use Rattle.poly_mixed.proofs.Values.{one_element, zero_element}
+use Rattle.poly_mixed.proofs.SumLemmas.{all_plus}
+use Rattle.poly_mixed.proofs.ValueLemmas.{one_element, zero_element}
 use Rattle.word_subst.specs.Univariate.{Powers, IsPower, IsBelow, IsRising, IsUnivariate, IsMultiple, power_value, value_of}
 use Rattle.word_subst.specs.Forms.{IsLinear}
 use Rattle.word_subst.specs.Multiple.{multiplied}
 use Rattle.word_subst.proofs.GatheredPowersLemmas.{gathered_powers, gathered_at}
-use Rattle.word_subst.proofs.Multiples.{scaled_is, low_is}
-use Rattle.word_subst.proofs.Univariates.{all_append, xor_sum-append}
+use Rattle.word_subst.proofs.MultipleLemmas.{scaled_is, low_is}
+use Rattle.word_subst.proofs.UnivariateLemmas.{all_append, xor_sum-append}
 
 -- ---- how many powers they have
 

@@ -12,7 +12,7 @@ use Rattle.poly_mixed.specs.Monomial.{Monomial, text_cmp}
 use Rattle.poly_mixed.specs.Polynomial.{Terms, Point, IsPoint, IsTerm, IsElement, IsReduced, powers, term_value, value}
 use Rattle.poly_mixed.specs.Sum.{xor_sum, plus}
 use Rattle.poly_mixed.proofs.FieldLaws.{IsField}
-use Rattle.poly_mixed.proofs.Values.{power_element, powers_element, one_element, product_zero, product_by_zero}
+use Rattle.poly_mixed.proofs.ValueLemmas.{power_element, powers_element, one_element, product_zero, product_by_zero}
 use Rattle.stage_model.specs.WordStage.{word_bits, with_word}
 use Rattle.stage_model.specs.PlainWord.{IsReading, IsTermRead}
 use Rattle.stage_model.proofs.WordPolyLemmas.{whole_term}
@@ -25,12 +25,12 @@ use Rattle.word_subst.specs.Rest.{rest_of}
 use Rattle.word_subst.specs.Read.{HasWithin, sum_at}
 use Rattle.word_subst.specs.AtOnce.{ranks_from, value_from, IsReadFrom, IsReadAtOnce}
 use Rattle.word_subst.proofs.GatheredPowersLemmas.{few_powers, gathered_powers, gathered_at}
-use Rattle.word_subst.proofs.Multiples.{all_take}
+use Rattle.word_subst.proofs.MultipleLemmas.{all_take}
 use Rattle.word_subst.proofs.SomeProductsLemmas.{some_products, some_within, terms_quiet}
-use Rattle.word_subst.proofs.Spreads.{spread_value, spread_terms, spread_nonzero, spread_length, gathered_reduced, gathered_value, word_element}
-use Rattle.word_subst.proofs.TermParts.{is_rest, product_is, whole_product}
-use Rattle.word_subst.proofs.Told.{bit_product, has_product}
-use Rattle.word_subst.proofs.Univariates.{all_append, xor_sum-append, value_of_element}
+use Rattle.word_subst.proofs.SpreadLemmas.{spread_value, spread_terms, spread_nonzero, spread_length, gathered_reduced, gathered_value, word_element}
+use Rattle.word_subst.proofs.TermPartLemmas.{is_rest, product_is, whole_product}
+use Rattle.word_subst.proofs.ToldLemmas.{bit_product, has_product}
+use Rattle.word_subst.proofs.UnivariateLemmas.{all_append, xor_sum-append, value_of_element}
 
 module _ {k : ℕ} {mul : ℕ → ℕ → ℕ} (f : IsField k mul) (elements : List ℕ) (w : ℕ) (forms : List Powers) (are_forms : AreForms k mul elements forms) (bound : ℕ) (wide : 2 ^ k ≤ bound) (inside : w < 8) where
   -- a polynomial in the word with the value of one term

@@ -12,17 +12,18 @@ use Rattle.std.specs.declared.cmp.Ordering.{Ordering}
 use Rattle.std.specs.declared.cmp.Ordering.TheVariants.{Less, Equal, Greater}
 use Rattle.std.specs.Ordering.{eq_by_cmp, is_eq}
 use Rattle.poly_mixed.specs.Monomial.{Monomial, has_bit, text_cmp}
-use Rattle.poly_mixed.proofs.Monomials.{text_cmp-same}
+use Rattle.poly_mixed.proofs.MonomialLemmas.{text_cmp-same}
 use Rattle.poly_mixed.specs.Polynomial.{Terms, IsTerm, IsElement}
 use Rattle.poly_mixed.specs.Sum.{xor_sum}
 use Rattle.poly_mixed.proofs.FieldLaws.{IsField}
-use Rattle.poly_mixed.proofs.Values.{one_element, product_by_zero}
+use Rattle.poly_mixed.proofs.ValueLemmas.{one_element, product_by_zero}
 use Rattle.word_subst.specs.Univariate.{Powers, value_of, IsSum, IsProductOfTwo}
 use Rattle.word_subst.specs.Forms.{IsForm, AreForms}
 use Rattle.graph_core.proofs.ListLemmas.{got_read}
+use Rattle.graph_core.proofs.GeneralLemmas.{map_push}
 use Rattle.word_subst.specs.AtOnce.{value_from, IsReadFrom, IsSumOfPowers, IsPlusProduct, power_of}
-use Rattle.word_subst.proofs.Spreads.{element_at}
-use Rattle.word_subst.proofs.Univariates.{all_append, value_of_element, no_powers, one_power, xor_sum-append}
+use Rattle.word_subst.proofs.SpreadLemmas.{element_at}
+use Rattle.word_subst.proofs.UnivariateLemmas.{all_append, value_of_element, one_power, xor_sum-append}
 
 -- ---- ranks
 
@@ -114,10 +115,6 @@ filter_map_same p g (x ∷ xs) = elim (p (g x)) as (λ b. map g (cond b (x ∷ f
   | false ↦ filter_map_same p g xs
 ]
 
-pub map_push : {X Y : Type 0} (g : X → Y) (xs : List X) (x : X) → map g (xs ++ x ∷ []) ≡ map g xs ++ g x ∷ []
-map_push g [] x = refl
-map_push g (y ∷ xs) x = ap (λ ys. g y ∷ ys) (map_push g xs x)
-
 all_of_map : {X Y : Type 0} (P : Y → Type 0) (g : X → Y) (xs : List X) → AllByRecursion P (map g xs) → AllByRecursion (λ x. P (g x)) xs
 all_of_map P g [] all = tt
 all_of_map P g (x ∷ xs) all = (all.0, all_of_map P g xs all.1)
@@ -195,12 +192,6 @@ module _ {k : ℕ} {mul : ℕ → ℕ → ℕ} (f : IsField k mul) (elements : L
   same_sums g h same [] = refl
   same_sums g h same (t ∷ ts) = λ i. bit_xor (same t i) (same_sums g h same ts i)
 
-  pub nothing_read : (place : ℕ) (ts : Terms) (us : Powers) → ts ≡ [] → us ≡ [] → IsReadFrom k mul elements w place ts us
-  nothing_read place ts us none empty =
-      let P : Terms → Type 0 = λ xs. IsReadFrom k mul elements w place xs us in
-      let Q : Powers → Type 0 = IsReadFrom k mul elements w place [] in
-      subst P (sym none) (subst Q (sym empty) (record { univariate = no_powers k; values = λ x d at bits. refl }))
-
   pub last_read : (place : ℕ) (ts : Terms) (us : Powers) → place ≡ k → IsSumOfPowers k mul elements w ts us → IsReadFrom k mul elements w place ts us
   last_read place ts us same is =
       let P : ℕ → Type 0 = λ n. IsReadFrom k mul elements w n ts us in
@@ -245,9 +236,6 @@ module _ {k : ℕ} {mul : ℕ → ℕ → ℕ} (f : IsField k mul) (elements : L
         univariate = one_power k (slice_index t.0.exponents w, t.1) (record { exponent = element_at k t.0.exponents w is.monomial.exponents (omega (arith, inside, is.monomial.words)); element = is.element; some = some });
         values = λ x at. refl;
       })
-
-  pub no_sum : (us : Powers) → us ≡ [] → IsSumOfPowers k mul elements w [] us
-  no_sum us none = let P : Powers → Type 0 = IsSumOfPowers k mul elements w [] in subst P (sym none) (record { univariate = no_powers k; values = λ x at. refl })
 
   pub sum_more : {X : Type 0} (g : X → Monomial × ℕ) (items : List X) (i : ℕ) (t : X) (old one new : Powers) → i < length items → t ≡ get_or items i t → IsSumOfPowers k mul elements w (map g (take i items)) old → IsSumOfPowers k mul elements w (g t ∷ []) one → IsSum k mul old one new
       → IsSumOfPowers k mul elements w (map g (take (i + 1) items)) new

@@ -14,9 +14,9 @@ use Rattle.word_subst.specs.Prefix.{Products, AreProducts}
 use Rattle.word_subst.specs.Read.{IsTermWithin}
 use Rattle.word_subst.specs.ReadSteps.{TellsTerms}
 use Rattle.word_subst.proofs.GatheredPowersLemmas.{few_powers, some_product}
-use Rattle.word_subst.proofs.Prefixes.{one_bit_more, first_products, last_product, extended}
-use Rattle.word_subst.proofs.TermParts.{own_are, start_element, term_within}
-use Rattle.word_subst.proofs.Told.{all_quiet}
+use Rattle.word_subst.proofs.PrefixLemmas.{one_bit_more, first_products, last_product, extended}
+use Rattle.word_subst.proofs.TermPartLemmas.{own_are, start_element, term_within}
+use Rattle.word_subst.proofs.ToldLemmas.{all_quiet}
 
 module _ {k : ℕ} {mul : ℕ → ℕ → ℕ} (f : IsField k mul) (elements : List ℕ) (w : ℕ) (forms : List Powers) (are_forms : AreForms k mul elements forms) (bound : ℕ) (wide : 2 ^ k ≤ bound) where
   one_more : (rank : ℕ) (old : Products) → is_of_word k w rank ≡ true → AreProducts k mul elements w bound old → (new : Products) × AreProducts k mul elements w bound new × (new.ranks ≡ old.ranks ++ rank ∷ []) × (new.start ≡ old.start)

@@ -11,8 +11,8 @@ use Rattle.gf_basis.specs.Basis.{AreBits}
 use Rattle.irreducible.specs.Span.{combination}
 use Rattle.poly_mixed.specs.Polynomial.{Terms, Point, IsPoint, IsElement, powers, term_value, value}
 use Rattle.poly_mixed.proofs.FieldLaws.{IsField}
-use Rattle.poly_mixed.proofs.Products.{distrib_right}
-use Rattle.poly_mixed.proofs.Values.{one_element, zero_element, powers_element, product_zero, product_by_zero}
+use Rattle.poly_mixed.proofs.ProductLemmas.{distrib_right}
+use Rattle.poly_mixed.proofs.ValueLemmas.{one_element, zero_element, powers_element, product_zero, product_by_zero}
 use Rattle.stage_model.specs.WordStage.{is_of_word, with_word}
 use Rattle.stage_model.proofs.PlaceLemmas.{is_own}
 use Rattle.word_subst.specs.Univariate.{Powers, IsUnivariate, value_of}
@@ -21,9 +21,9 @@ use Rattle.word_subst.specs.Multiple.{multiplied}
 use Rattle.word_subst.specs.Spread.{Groups, total, spread, all_terms, IsGroup}
 use Rattle.word_subst.specs.Whole.{with_first, times_bits, IsPart}
 use Rattle.word_subst.proofs.LinearLemmas.{linear_few, scaled, scaled_at, next_sum, next_univariate, next_linear, next_at}
-use Rattle.word_subst.proofs.Prefixes.{take_append}
-use Rattle.word_subst.proofs.Spreads.{spread_value, word_element}
-use Rattle.word_subst.proofs.Univariates.{all_append, xor_sum-append, value_of_element}
+use Rattle.word_subst.proofs.PrefixLemmas.{take_append}
+use Rattle.word_subst.proofs.SpreadLemmas.{spread_value, word_element}
+use Rattle.word_subst.proofs.UnivariateLemmas.{all_append, xor_sum-append, value_of_element}
 
 -- ---- lists
 

@@ -19,8 +19,8 @@ use Rattle.poly_mixed.specs.Monomial.{Monomial, text_cmp}
 use Rattle.poly_mixed.specs.Polynomial.{Terms, Point, IsPoint, IsTerm, IsElement, IsReduced, powers, term_value, value}
 use Rattle.poly_mixed.specs.Sum.{with_coefficient, plus_term, plus}
 use Rattle.poly_mixed.proofs.FieldLaws.{IsField}
-use Rattle.poly_mixed.proofs.Products.{distrib_right}
-use Rattle.poly_mixed.proofs.Values.{one_element, zero_element, powers_element, product_zero, product_by_zero}
+use Rattle.poly_mixed.proofs.ProductLemmas.{distrib_right}
+use Rattle.poly_mixed.proofs.ValueLemmas.{one_element, zero_element, powers_element, product_zero, product_by_zero}
 use Rattle.stage_model.specs.WordStage.{is_of_word, word_bits, with_word}
 use Rattle.stage_model.proofs.PlaceLemmas.{is_own}
 use Rattle.word_subst.specs.Univariate.{Powers, IsUnivariate, value_of}
@@ -32,12 +32,12 @@ use Rattle.word_subst.specs.Rest.{rest_of}
 use Rattle.word_subst.specs.Read.{HasWithin, sum_at, IsTermWithin}
 use Rattle.word_subst.specs.AtOnce.{IsReadAtOnce}
 use Rattle.word_subst.specs.Whole.{with_first, times_bits, IsPart, times_word}
-use Rattle.word_subst.proofs.Rising.{rest_is}
+use Rattle.word_subst.proofs.RisingLemmas.{rest_is}
 use Rattle.word_subst.proofs.LinearLemmas.{linear_few, scaled}
 use Rattle.word_subst.proofs.SomeProductsLemmas.{terms_quiet}
-use Rattle.word_subst.proofs.Spreads.{spread_value, spread_length, word_element, gathered_reduced, gathered_value, groups_terms, groups_nonzero, total_length}
-use Rattle.word_subst.proofs.TermParts.{product_is, is_rest}
-use Rattle.word_subst.proofs.Univariates.{all_append, xor_sum-append, no_powers, one_power}
+use Rattle.word_subst.proofs.SpreadLemmas.{spread_value, spread_length, word_element, gathered_reduced, gathered_value, groups_terms, groups_nonzero, total_length}
+use Rattle.word_subst.proofs.TermPartLemmas.{product_is, is_rest}
+use Rattle.word_subst.proofs.UnivariateLemmas.{all_append, xor_sum-append, no_powers, one_power}
 use Rattle.word_subst.proofs.WholeLemmas.{room, part_value, bits_value, first_groups, HasGroups}
 
 -- ---- lists

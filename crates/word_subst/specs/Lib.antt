@@ -1,7 +1,6 @@
 pub mod Recorded
 pub mod AtOnce
 pub mod Whole
-pub mod Places
 pub mod Forms
 pub mod Multiplier
 pub mod Read

@@ -8,11 +8,10 @@ ghost use Rattle.stage_model.specs.WordStage.{is_of_word};
 ghost use Rattle.std.specs.List.{AllByRecursion};
 
 use crate::multiple::product;
-use crate::size::check_size;
 use crate::univariate::Univariate;
 use gf_basis::Basis;
 use gf_field::Field;
-use poly_mixed::{ReduceFault, Stage};
+use poly_mixed::{ReduceFault, Stage, check_size};
 use std::alloc::{AllocError, Global};
 use std::marker::Model;
 

@@ -20,7 +20,6 @@ use crate::at_once::at_once;
 use crate::forms::forms;
 use crate::products::BitProducts;
 use crate::rest::own_ranks;
-use crate::size::check_size;
 use crate::sums::Sums;
 use crate::tell::tell;
 use crate::term::{add_term, follow_term};
@@ -28,7 +27,7 @@ use crate::univariate::Univariate;
 use crate::whole::whole;
 use gf_basis::Basis;
 use gf_field::Field;
-use poly_mixed::{Poly, ReduceFault, Stage, Steps, Term};
+use poly_mixed::{Poly, ReduceFault, Stage, Steps, Term, check_size};
 use std::alloc::Global;
 
 // One term more: its products, its pairs, and the sum with it.

@@ -1,7 +1,5 @@
 //! All words in place of their bits.
 ghost use Rattle.std.specs.Prelude.{◌≡◌, ◌<◌, ◌^◌, length, IfOk, IfErr, OnOk};
-ghost use Rattle.net_core.specs.Sound.{IsSound};
-ghost use Rattle.net_words.specs.OneCycle.{IsOneCycle};
 ghost use Rattle.stage_model.specs.Mix.{IsMix};
 ghost use Rattle.stage_model.specs.Stage.{IsOfStage};
 ghost use Rattle.stage_model.specs.Listing.{AreAllWithin, IsRefusal};
@@ -9,22 +7,13 @@ ghost use Rattle.stage_model.specs.WordListing.{word_listing};
 ghost use Rattle.circuit_model.specs.Bases.{AreBases, circuit_in};
 ghost use Rattle.word_subst.specs.Recorded.{IsRecorded};
 
-use crate::places::word_places;
 use crate::word::one_word;
+use circuit_model::word_places;
 use gf_basis::Basis;
 use gf_field::Field;
 use net_words::Combinational;
 use poly_mixed::{Poly, ReduceFault, Steps};
 use std::alloc::Global;
-
-// What a circuit keeps: its net is sound, and its words are bound to the net.
-fn kept(circuit: &Combinational)
-    ensures sound { IsSound circuit.now.net }
-    ensures bound { IsOneCycle circuit.now.net circuit.now.bound }
-{
-    let net = circuit.net();
-    let _gates = net.gates();
-}
 
 /// The polynomial of the output in words: that of the mix of all words.
 ///
@@ -42,7 +31,7 @@ pub fn to_words<F: Field, T: Steps>(
     bound: u32,
     steps: &mut T,
 ) -> Result<Poly, ReduceFault>
-    requires k { circuit.now.bound.k ≡ F.degree field.now }
+    requires k { circuit.now.binding.k ≡ F.degree field.now }
     requires bases { AreBases (F.degree field.now) (F.product field.now) circuit.now bases.now }
     requires bits { IsOfStage (F.degree field.now) (F.product field.now) (IsMix (circuit_in (F.degree field.now) (F.product field.now) circuit.now bases.now) 0) bits.terms }
     requires few { length bits.terms < 2 ^ 32 }
@@ -51,7 +40,6 @@ pub fn to_words<F: Field, T: Steps>(
     ensures fault { IfErr result (IsRefusal (F.degree field.now) (F.product field.now) (word_listing (circuit_in (F.degree field.now) (F.product field.now) circuit.now bases.now)) bound) }
     ensures steps { OnOk result (IsRecorded (circuit_in (F.degree field.now) (F.product field.now) circuit.now bases.now) (T.steps steps.old) (T.steps steps.new)) }
 {
-    kept(circuit);
     let places = word_places(alloc, circuit.bound())?;
     let mut poly = bits;
     for w in 0..places.len() {

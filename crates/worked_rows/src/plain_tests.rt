@@ -42,13 +42,12 @@ fn in_words<F: Field>(
     bases: &[Basis],
     bound: u32,
 ) -> Result<Poly, ReduceFault>
-    requires bits { circuit.now.bound.k ≡ F.degree field.now }
+    requires bits { circuit.now.binding.k ≡ F.degree field.now }
     requires over { AreBasesOver (F.degree field.now) (F.product field.now) bases.now }
-    requires long { length bases.now ≡ length circuit.now.bound.words }
+    requires long { length bases.now ≡ length circuit.now.binding.words }
     ensures { IfOk result (λ q. IsReduced (F.degree field.now) q.terms) }
 {
     let basis = output_basis(circuit.bound(), bases);
-    let _gates = circuit.net().gates();
     let bits = match reduce_bits(alloc, field, circuit, basis, u32::MAX, &mut NoSteps) {
         Ok(bits) => bits,
         Err(fault) => return Err(fault),

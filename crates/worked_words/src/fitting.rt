@@ -109,6 +109,18 @@ fn is_apart(feed: &FeedText, others: &[FeedText]) -> bool
     }
 }
 
+// Whether a feed has a source in words of k nets, and no other feed its net and cycle.
+fn fits_beside(words: &[WordText], k: usize, feed: &FeedText, others: &[FeedText]) -> bool
+    ensures source { IsTrue result → IsSource k (map (λ word. word.role) words.now) feed.now.source }
+    ensures apart { IsTrue result → (other : FeedText) → Has others.now other → feed.now.net ≡ other.net → feed.now.cycle ≡ other.cycle → ⊥ }
+{
+    if has_source(words, k, feed.source) {
+        is_apart(feed, others)
+    } else {
+        false
+    }
+}
+
 // Whether feeds can be bound beside words of k nets.
 fn are_feeds(words: &[WordText], k: usize, feeds: &[FeedText]) -> bool
     ensures { IsTrue result → AreFeeds k (map (λ word. word.role) words.now) feeds.now }
@@ -116,12 +128,8 @@ fn are_feeds(words: &[WordText], k: usize, feeds: &[FeedText]) -> bool
     match feeds {
         [] => true,
         [feed, rest @ ..] => {
-            if has_source(words, k, feed.source) {
-                if is_apart(feed, rest) {
-                    are_feeds(words, k, rest)
-                } else {
-                    false
-                }
+            if fits_beside(words, k, feed, rest) {
+                are_feeds(words, k, rest)
             } else {
                 false
             }

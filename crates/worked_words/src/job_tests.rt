@@ -33,13 +33,13 @@ fn is_same(
     rt: &impl Abort,
     alloc: Global,
     net: &Net,
-    bound: &Bound,
+    binding: &Bound,
     circuit: &Combinational,
     xs: [u64; 2],
     cycles: u32,
 ) -> bool {
     let field = field(rt);
-    let wanted = plain_at(rt, alloc, &field, net, bound, xs, cycles);
+    let wanted = plain_at(rt, alloc, &field, net, binding, xs, cycles);
     let found = circuit_at(rt, alloc, &field, circuit, xs);
     found.is_some() && found == wanted
 }

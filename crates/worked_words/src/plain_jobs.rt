@@ -17,19 +17,19 @@ pub(crate) fn plain_at<F: Field>(
     alloc: Global,
     field: &F,
     net: &Net,
-    bound: &Bound,
+    binding: &Bound,
     xs: [u64; 2],
     cycles: u32,
 ) -> Option<u64> {
     let [x, y] = xs;
-    assert!(rt; bound.words() == 3);
+    assert!(rt; binding.words() == 3);
     assert!(rt; is_element(field, x) && is_element(field, y));
     let words = [
-        word(rt, alloc, field, bound, 0),
-        word(rt, alloc, field, bound, 1),
+        word(rt, alloc, field, binding, 0),
+        word(rt, alloc, field, binding, 1),
     ];
-    let last = word(rt, alloc, field, bound, 2);
-    let feeds = plain_feeds(alloc, bound).ok().expect(rt, "feeds");
+    let last = word(rt, alloc, field, binding, 2);
+    let feeds = plain_feeds(alloc, binding).ok().expect(rt, "feeds");
     job_output(alloc, field, net, &words, &last, &feeds, &[x, y], cycles)
         .ok()
         .expect(rt, "memory")
@@ -58,25 +58,25 @@ pub(crate) fn circuit_at<F: Field>(
 }
 
 // A word with the polynomial basis, for the plain programs.
-fn word<F: Field>(rt: &impl Abort, alloc: Global, field: &F, bound: &Bound, w: u32) -> CircuitWord
-    requires { w < length bound.now.words }
+fn word<F: Field>(rt: &impl Abort, alloc: Global, field: &F, binding: &Bound, w: u32) -> CircuitWord
+    requires { w < length binding.now.words }
     ensures { IsBasisOver (F.degree field.now) (F.product field.now) result.basis }
 {
     CircuitWord {
-        role: bound.role(w),
-        nets: nets_of(alloc, bound, w).ok().expect(rt, "nets"),
+        role: binding.role(w),
+        nets: nets_of(alloc, binding, w).ok().expect(rt, "nets"),
         basis: Basis::poly(field),
     }
 }
 
 // The nets of a word; none where a fed word has none.
-fn nets_of(alloc: Global, bound: &Bound, w: u32) -> Result<Vec<u32>, AllocError>
-    requires { w < length bound.now.words }
+fn nets_of(alloc: Global, binding: &Bound, w: u32) -> Result<Vec<u32>, AllocError>
+    requires { w < length binding.now.words }
 {
     let mut nets = Vec::new(alloc);
-    if bound.has_nets(w) {
+    if binding.has_nets(w) {
         for place in 0..bound.k() {
-            nets.push(bound.net(w, place))?;
+            nets.push(binding.net(w, place))?;
         }
     }
     Ok(nets)
@@ -92,9 +92,9 @@ fn plain_source(source: Source) -> FeedSource {
 }
 
 // The feeds for the plain program.
-fn plain_feeds(alloc: Global, bound: &Bound) -> Result<Vec<CircuitFeed>, AllocError> {
+fn plain_feeds(alloc: Global, binding: &Bound) -> Result<Vec<CircuitFeed>, AllocError> {
     let mut feeds = Vec::new(alloc);
-    for feed in bound.feeds() {
+    for feed in binding.feeds() {
         feeds.push(CircuitFeed {
             net: feed.net,
             cycle: feed.cycle,

@@ -28,18 +28,9 @@ instance_fault_of stages.OutOfMemory = OutOfMemory
 abbrev pub HasPoly : List (Option Polynomial) → ℕ → Type 0
 HasPoly polys number = (poly : Polynomial) × (slice_get polys number ≡ Some (Some poly))
 
--- a block has a circuit
-abbrev pub HasCircuit : List (Option BoundNet) → ℕ → Type 0
-HasCircuit circuits number = (circuit : BoundNet) × (slice_get circuits number ≡ Some (Some circuit))
-
 -- place by place, these are the polynomials of the blocks of these numbers
 pub record AreTaken (polys : List (Option Polynomial)) (numbers : List ℕ) (list : List Polynomial) : Type 0 where
   pub long : length list ≡ length numbers
-  pub each : (i number : ℕ) (poly : Polynomial) → slice_get numbers i ≡ Some number → slice_get list i ≡ Some poly → slice_get polys number ≡ Some (Some poly)
-
--- so are these of the first n of the numbers
-pub record AreTakenTo (polys : List (Option Polynomial)) (numbers : List ℕ) (n : ℕ) (list : List Polynomial) : Type 0 where
-  pub long : length list ≡ n
   pub each : (i number : ℕ) (poly : Polynomial) → slice_get numbers i ≡ Some number → slice_get list i ≡ Some poly → slice_get polys number ≡ Some (Some poly)
 
 -- what has a polynomial keeps it
@@ -53,7 +44,7 @@ module _ (k : ℕ) (mul : ℕ → ℕ → ℕ) (blocks : List BlockValue) (circu
     pub found : slice_get blocks number ≡ Some block
     pub at : slice_get circuits number ≡ Some (Some circuit)
     pub bases_at : slice_get bases (number + 1) ≡ Some list
-    pub bits : circuit.bound.k ≡ k
+    pub bits : circuit.binding.k ≡ k
     pub bases_are : AreBases k mul circuit list
 
   -- the block of each of these numbers has a circuit and bases

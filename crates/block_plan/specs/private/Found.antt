@@ -1,5 +1,5 @@
 -- What the walk over the lines of the top finds. Source: this project's own.
-use Rattle.std.specs.Prelude.{◌≡◌, ◌⊎◌, ℕ, true, false, List, [], ◌∷◌, ◌++◌, Option, Some, drop, filter, length, slice_get}
+use Rattle.std.specs.Prelude.{◌≡◌, ◌⊎◌, ℕ, true, false, List, [], ◌∷◌, ◌++◌, Option, Some, length, slice_get}
 use Rattle.net_words.specs.Binding.{BoundNet}
 use Rattle.net_signature.specs.Body.{BlockValue}
 use Rattle.net_blif.specs.Design.{model_named, ModelValue}
@@ -31,12 +31,6 @@ module _ (design : List ModelValue) (blocks : List BlockValue) where
   -- an instance adds what is found of it, and another line nothing
   abbrev pub IsAdded : Item → List Found → List Found → Type 0
   IsAdded item old new = ((is_instance item ≡ true) × ((found : Found) × IsFound item found × (new ≡ old ++ found ∷ []))) ⊎ ((is_instance item ≡ false) × (new ≡ old))
-
-  -- what is found of the instances among the first n lines, where the whole goes on with those among the rest
-  pub record IsWalked (items : List Item) (n : ℕ) (list : List Found) : Type 0 where
-    pub front : List Item
-    pub whole : filter is_instance items ≡ front ++ filter is_instance (drop n items)
-    pub found : AreFound front list
 
   -- each circuit that is kept is that of its block, and of the model of the block's name
   pub record AreCircuits (circuits : List (Option BoundNet)) : Type 0 where

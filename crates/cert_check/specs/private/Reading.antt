@@ -70,11 +70,6 @@ abbrev pub IsGenerator : NetList → Labelling → Generator → Type 0
 IsGenerator net labels (Net n) = (n < nets net) × (is_driven net n ≡ true)
 IsGenerator net labels (Bit w i) = (w < length labels.words) × (i < (word_at labels.words w).1)
 
-abbrev pub HasGenerator : NetList → Labelling → Frame → Type 0
-HasGenerator net labels (pair_of g text) = IsGenerator net labels g
-HasGenerator net labels (share_of text) = Unit {0}
-HasGenerator net labels end_of = Unit {0}
-
 -- a polynomial over the field, or the number of one of so many
 abbrev pub IsMultiplier : ℕ → ℕ → Multiplier → Type 0
 IsMultiplier k count (multiplier.Own p) = IsReduced k p.terms

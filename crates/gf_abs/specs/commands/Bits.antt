@@ -24,11 +24,11 @@ use Rattle.gf_abs.specs.Staged.{Staged}
 
 -- its stages: the cuts of the circuit
 abbrev pub bits_stages : SettingValue → BoundNet → Listing Stage
-bits_stages setting circuit = bound_cuts circuit (output_basis circuit.bound.words setting.bases)
+bits_stages setting circuit = bound_cuts circuit (output_basis circuit.binding.words setting.bases)
 
 -- these are the terms of the last cut
 abbrev pub IsLastCut : SettingValue → BoundNet → Terms → Type 0
-IsLastCut setting circuit ts = IsOfStage setting.k setting.product (BoundCut circuit (output_basis circuit.bound.words setting.bases) (length circuit.net.gates)) ts
+IsLastCut setting circuit ts = IsOfStage setting.k setting.product (BoundCut circuit (output_basis circuit.binding.words setting.bases) (length circuit.net.gates)) ts
 
 -- the polynomial of the last cut, where no cut has more than `bound` terms
 abbrev pub BitsOf : SettingValue → BoundNet → ℕ → Outcome StageFault Terms

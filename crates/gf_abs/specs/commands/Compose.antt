@@ -1,6 +1,6 @@
 -- The command `compose`: the output word's polynomial in the input words, from the polynomials of blocks. Source: Pruss, Kalla, Enescu,
 -- DAC 2014; the refusals, the stages and the bound on their terms are this project's own.
-use Rattle.std.specs.Prelude.{ℕ, ◌-◌, List, [], ◌∷◌, ◌++◌, Option, None, Some, slice_get, if◌then◌else◌}
+use Rattle.std.specs.Prelude.{◌≡◌, ℕ, ◌-◌, List, [], ◌∷◌, ◌++◌, Option, None, Some, Ok, Err, slice_get, if◌then◌else◌}
 use Rattle.std.specs.Option.{option_map_or}
 use Rattle.std.specs.Str.{bytes_eq}
 use Rattle.text_core.specs.Outcome.{Outcome, ◌>>=◌, Exactly, Within}
@@ -15,9 +15,13 @@ use Rattle.net_words.specs.declared.word.WordText.{WordText}
 use Rattle.poly_mixed.specs.Polynomial.{Terms}
 use Rattle.poly_mixed.specs.declared.stage.Stage.{Stage}
 use Rattle.block_feeds.specs.Hierarchy.{Hierarchy}
+use Rattle.block_plan.specs.declared.fault.PlanFault.{PlanFault}
+use Rattle.block_plan.specs.declared.fault.PlanFault.TheVariants as plans
+use Rattle.block_wiring.specs.declared.fault.WiringFault.{WiringFault}
+use Rattle.block_wiring.specs.declared.fault.WiringFault.TheVariants as wirings
 use Rattle.block_compose.specs.Composed.{ComposesIn}
 use Rattle.block_compose.specs.declared.fault.ComposeFault.{ComposeFault}
-use Rattle.block_compose.specs.declared.fault.ComposeFault.TheVariants.{FedInTop, GateInTop, NoBlock, BlockNet, BlockLatch, BlockBind, NotWords, OutputNotWords, InstanceLoop, TooManyTerms, OutOfMemory}
+use Rattle.block_compose.specs.declared.fault.ComposeFault.TheVariants.{Plan, Wiring, InstanceLoop, TooManyTerms, OutOfMemory}
 use Rattle.job_words.specs.StageFault.{block_stage_text, stage_text}
 use Rattle.job_words.specs.declared.composition_fault.CompositionFault.TheVariants as composition
 use Rattle.job_words.specs.declared.fault.Fault.{Fault}
@@ -66,26 +70,37 @@ abbrev pub stage_called : SettingValue → Option Token → Stage → List ℕ
 stage_called setting None stage = stage_text (labels_of setting.k setting.signature.words) stage
 stage_called setting (Some model) stage = block_stage_text model (labels_of setting.k (words_in setting.signature.blocks model)) stage
 
-module _ (setting : SettingValue) (design : List ModelValue) (bound : ℕ) where
-  -- The refusal of a composition as a fault. Want of memory comes of no composition: what stands for it is never met.
-  abbrev pub compose_fault : ComposeFault → Fault
-  compose_fault FedInTop = faults.Composition composition.FedInTop
-  compose_fault (GateInTop line) = faults.Composition (composition.GateInTop line)
-  compose_fault (NoBlock model) = faults.Composition (composition.NoBlock model)
-  compose_fault (BlockNet model) = faults.Composition (composition.BlockNet model)
-  compose_fault (BlockLatch model) = faults.Composition (composition.BlockLatch model)
-  compose_fault (BlockBind model) = faults.Composition (composition.BlockBind model)
-  compose_fault (NotWords instance word) = faults.Composition (composition.NotWords instance (word_name (words_in setting.signature.blocks (instance_model design instance)) word))
-  compose_fault OutputNotWords = faults.Composition composition.OutputNotWords
-  compose_fault (InstanceLoop instance) = faults.Composition (composition.InstanceLoop instance)
-  compose_fault (TooManyTerms block stage terms) = faults.Stage (record { stage = stage_called setting block stage; terms = terms; bound = bound })
-  compose_fault OutOfMemory = faults.Composition composition.FedInTop
+-- the fault of a top whose instances are refused blocks; want of memory is none
+abbrev pub plan_fault : PlanFault → Option Fault
+plan_fault plans.FedInTop = Some (faults.Composition composition.FedInTop)
+plan_fault (plans.GateInTop line) = Some (faults.Composition (composition.GateInTop line))
+plan_fault (plans.NoBlock model) = Some (faults.Composition (composition.NoBlock model))
+plan_fault (plans.BlockNet model) = Some (faults.Composition (composition.BlockNet model))
+plan_fault (plans.BlockLatch model) = Some (faults.Composition (composition.BlockLatch model))
+plan_fault (plans.BlockBind model) = Some (faults.Composition (composition.BlockBind model))
+plan_fault plans.OutOfMemory = None
+
+-- the fault of a top that is not wired, with the name of a word that nothing fits; want of memory is none
+abbrev pub wiring_fault : List BlockValue → List ModelValue → WiringFault → Option Fault
+wiring_fault blocks design (wirings.NotWords instance word) = Some (faults.Composition (composition.NotWords instance (word_name (words_in blocks (instance_model design instance)) word)))
+wiring_fault blocks design wirings.OutputNotWords = Some (faults.Composition composition.OutputNotWords)
+wiring_fault blocks design wirings.OutOfMemory = None
+
+-- the fault of a refused composition; want of memory is none
+abbrev pub compose_fault : SettingValue → List ModelValue → ℕ → ComposeFault → Option Fault
+compose_fault setting design bound (Plan fault) = plan_fault fault
+compose_fault setting design bound (Wiring fault) = wiring_fault setting.signature.blocks design fault
+compose_fault setting design bound (InstanceLoop instance) = Some (faults.Composition (composition.InstanceLoop instance))
+compose_fault setting design bound (TooManyTerms block stage terms) = Some (faults.Stage (record { stage = stage_called setting block stage; terms = terms; bound = bound }))
+compose_fault setting design bound OutOfMemory = None
 
 -- ---- the answer
 
 -- the polynomial in words of a top with these bases, or the first refusal or stage of more than `bound` terms
 abbrev pub ComposeOf : SettingValue → List ModelValue → List (List (List ℕ)) → ℕ → Outcome Fault Terms
-ComposeOf setting design lists bound = Within (compose_fault setting design bound) (ComposesIn setting.k setting.product setting.signature (hierarchy_with setting design lists) bound)
+ComposeOf setting design lists bound (Ok ts) = ComposesIn setting.k setting.product setting.signature (hierarchy_with setting design lists) bound (Ok ts)
+ComposeOf setting design lists bound (Err fault) =
+    (found : ComposeFault) × ComposesIn setting.k setting.product setting.signature (hierarchy_with setting design lists) bound (Err found) × (compose_fault setting design bound found ≡ Some fault)
 
 -- its reply
 abbrev pub ComposeReply : SettingValue → List ModelValue → List (List (List ℕ)) → ℕ → Outcome Fault Reply

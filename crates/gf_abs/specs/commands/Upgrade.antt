@@ -8,13 +8,13 @@ use Rattle.cert_make.specs.Upgrade.{UpgradeOf}
 use Rattle.job_words.specs.declared.fault.Fault.{Fault}
 use Rattle.job_words.specs.Operands.{Word}
 use Rattle.job_input.specs.SettingValue.{SettingValue}
-use Rattle.gf_abs.specs.Certificates.{CertifiedIn, certificate_labels, text_fault}
+use Rattle.gf_abs.specs.Certificates.{CertifiedIn, certificate_labels, certificate_fault_of}
 use Rattle.gf_abs.specs.Reply.{Reply}
 
 -- the text of the claim and the pairs that the bytes of a certificate say, or the fault of their first line that has one
 abbrev pub UpgradedOf : SettingValue → BoundNet → List ℕ → Outcome Fault (List ℕ)
 UpgradedOf setting circuit bytes (Ok text) = UpgradeOf setting.k circuit.net (certificate_labels setting circuit) bytes (Ok text)
-UpgradedOf setting circuit bytes (Err fault) = (found : CertFault) × UpgradeOf setting.k circuit.net (certificate_labels setting circuit) bytes (Err found) × (text_fault found ≡ Some fault)
+UpgradedOf setting circuit bytes (Err fault) = (found : CertFault) × UpgradeOf setting.k circuit.net (certificate_labels setting circuit) bytes (Err found) × (certificate_fault_of found ≡ Some fault)
 
 -- its reply over a circuit and the bytes of a certificate
 abbrev pub UpgradeReply : SettingValue → BoundNet × List ℕ → Outcome Fault Reply

@@ -1,7 +1,6 @@
 -- What is known of a composition: for the clauses of private functions. Source: this project's own.
 use Rattle.std.specs.Prelude.{◌≡◌, ℕ, ◌+◌, List, None, Some, length, slice_get}
 use Rattle.net_core.specs.Lists.{Has}
-use Rattle.net_blif.specs.Design.{ModelValue}
 use Rattle.net_blif.specs.Statement.{Token}
 use Rattle.net_signature.specs.Body.{BlockValue}
 use Rattle.net_words.specs.declared.word.WordText.{WordText}
@@ -9,14 +8,10 @@ use Rattle.gf_basis.specs.declared.bases.Basis.{Basis}
 use Rattle.poly_mixed.specs.declared.stage.Stage.{Stage}
 use Rattle.block_compose.specs.Composed.{HasBases}
 use Rattle.block_compose.specs.declared.fault.ComposeFault.{ComposeFault}
-use Rattle.block_compose.specs.declared.fault.ComposeFault.TheVariants.{TooManyTerms, OutOfMemory}
+use Rattle.block_compose.specs.declared.fault.ComposeFault.TheVariants.{TooManyTerms}
 use Rattle.job_words.specs.StageFault.{HasItsWord}
-use Rattle.job_words.specs.declared.stop.Stop.{Stop}
-use Rattle.job_words.specs.declared.stop.Stop.TheVariants as stops
 use Rattle.job_input.specs.Labelling.{word_labels}
-use Rattle.job_input.specs.SettingValue.{SettingValue}
-use Rattle.gf_abs.specs.commands.Compose.{compose_fault, words_in}
-use Rattle.gf_abs.specs.private.StageStop.{IsRefusalOf}
+use Rattle.gf_abs.specs.commands.Compose.{words_in}
 
 -- one list of bases for the words of the top, and one for those of each block
 pub record AreListsOf (k : ℕ) (mul : ℕ → ℕ → ℕ) (words : List WordText) (blocks : List BlockValue) (bases : List (List Basis)) : Type 0 where
@@ -35,8 +30,3 @@ abbrev pub HasNamedStage : ℕ → List WordText → List BlockValue → Compose
 HasNamedStage k words blocks (TooManyTerms None stage terms) = HasItsWord (length (word_labels k words)) stage
 HasNamedStage k words blocks (TooManyTerms (Some model) stage terms) = IsStageIn k blocks model stage
 HasNamedStage k words blocks fault = Unit {0}
-
--- why no output comes after a fault: it is refused, or memory is wanted
-abbrev pub IsComposeStop : SettingValue → List ModelValue → ℕ → ComposeFault → Stop → Type 0
-IsComposeStop setting design bound OutOfMemory stop = stop ≡ stops.OutOfMemory
-IsComposeStop setting design bound fault stop = IsRefusalOf (compose_fault setting design bound fault) stop

@@ -1,5 +1,5 @@
--- Why no output comes where a stage is too large: for the clauses of private functions. Source: this project's own.
-use Rattle.std.specs.Prelude.{◌≡◌, ℕ, List}
+-- Why no output comes of a fault, as where a stage is too large: for the clauses of private functions. Source: this project's own.
+use Rattle.std.specs.Prelude.{◌≡◌, ℕ, List, Option, None, Some}
 use Rattle.poly_mixed.specs.Labels.{Labelling}
 use Rattle.poly_mixed.specs.declared.stage.ReduceFault.{ReduceFault}
 use Rattle.poly_mixed.specs.declared.stage.Stage.{Stage}
@@ -24,6 +24,11 @@ abbrev pub IsRefusalOf : Fault → Stop → Type 0
 IsRefusalOf fault (stops.Refused refused) = refused ≡ fault
 IsRefusalOf fault stops.Outside = ⊥
 IsRefusalOf fault stops.OutOfMemory = Unit {0}
+
+-- the refusal of the fault, where there is one; else memory was wanted
+abbrev pub IsStopOf : Option Fault → Stop → Type 0
+IsStopOf (Some fault) stop = IsRefusalOf fault stop
+IsStopOf None stop = stop ≡ stops.OutOfMemory
 
 -- the refusal of the stage that is too large, by what it is called; or memory was wanted
 abbrev pub IsStopCalled : (Stage → List ℕ) → ReduceFault → ℕ → Stop → Type 0

@@ -60,17 +60,16 @@ fn reply<F: Field>(
     circuit: &Combinational,
     bound: u32,
 ) -> Result<Output, Stop>
-    requires bits { circuit.now.bound.k ≡ F.degree field.now }
+    requires bits { circuit.now.binding.k ≡ F.degree field.now }
     requires words { AreWords (F.degree field.now) signature.now.words }
     requires names { HaveNames signature.now.words }
-    requires roles { HaveRoles signature.now.words circuit.now.bound.words }
+    requires roles { HaveRoles signature.now.words circuit.now.binding.words }
     requires over { AreBasesOver (F.degree field.now) (F.product field.now) bases.now }
-    requires long { length bases.now ≡ length circuit.now.bound.words }
+    requires long { length bases.now ≡ length circuit.now.binding.words }
     ensures { GivesBy reply_of result (AbstractReply (record { signature = signature.now; k = F.degree field.now; product = F.product field.now; bases = elements_of_each bases.now }) circuit.now bound) ⊥ ⊥ }
 {
     let labels = labels_for(alloc, signature.words(), field.k())?;
     let basis = output_basis(circuit.bound(), bases);
-    let _gates = circuit.net().gates();
     let bits = match reduce_bits(alloc, field, circuit, basis, bound, &mut NoSteps) {
         Ok(bits) => bits,
         Err(fault) => return Err(stage_stop(alloc, &labels, fault, bound)),

@@ -52,8 +52,6 @@ fn reply<F: Field>(
     ensures { GivesBy reply_of result (CertifyReply (setting_value (F.degree field.now) (F.product field.now) setting.now) circuit.now bound) ⊥ ⊥ }
 {
     let labels = certificate_labels(alloc, field, setting, circuit)?;
-    let _gates = circuit.net().gates();
-    let _nets = circuit.net().nets();
     let mut certificate = Certificate::new(alloc);
     let bits = match last_cut(alloc, field, setting, circuit, bound, &mut certificate) {
         Ok(bits) => bits,

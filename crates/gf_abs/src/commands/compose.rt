@@ -74,7 +74,6 @@ fn reply<F: Field>(
     requires bases { AreListsOf (F.degree field.now) (F.product field.now) setting.now.signature.words setting.now.signature.blocks bases.now }
     ensures { GivesBy reply_of result (ComposeReply (setting_value (F.degree field.now) (F.product field.now) setting.now) design.now (map (map elements_of) bases.now) bound) ⊥ ⊥ }
 {
-    let _count = design.models();
     let labels = labels(alloc, field, setting)?;
     match compose(alloc, field, design, &setting.signature, bases, bound) {
         Ok(poly) => {

@@ -50,7 +50,6 @@ fn reply<F: Field>(
 {
     let circuit = &certified.circuit;
     let labels = certificate_labels(alloc, field, setting, circuit)?;
-    let _nets = circuit.net().nets();
     match upgrade(alloc, field.k(), circuit, &labels, &certified.text) {
         Ok(text) => Ok(Output { status: 0, text }),
         Err(fault) => Err(text_stop(fault)),

@@ -89,7 +89,6 @@ fn verdict<F: Field>(
     ensures named { IfOk result (λ verdict. IsNamedVerdict (labels_of (F.degree field.now) setting.now.signature.words) (verdict_of verdict)) }
 {
     let labels = certificate_labels(alloc, field, setting, circuit)?;
-    let _gates = circuit.net().gates();
     let bases = setting.bases.as_slice();
     match check(alloc, field, circuit, bases, &labels, bytes, bound) {
         Ok(verdict) => Ok(verdict),

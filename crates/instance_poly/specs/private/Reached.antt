@@ -1,6 +1,6 @@
 -- What the walk over a block's terms keeps: polynomials of functions of the feeds, and the stages that are within the bound.
 -- Source: this project's own.
-use Rattle.std.specs.Prelude.{◌≡◌, ℕ, ◌+◌, ◌-◌, ◌<◌, ◌≤◌, ◌^◌, List, ◌++◌, Some, drop, length, take, slice_get, slice_index}
+use Rattle.std.specs.Prelude.{◌≡◌, ℕ, ◌+◌, ◌-◌, ◌<◌, ◌≤◌, ◌^◌, List, ◌++◌, drop, length, slice_index}
 use Rattle.gf_field.specs.Power.{power}
 use Rattle.poly_mixed.specs.Polynomial.{IsPolynomialOf, Point, Terms}
 use Rattle.poly_mixed.specs.declared.stage.ReduceFault.{ReduceFault}
@@ -8,8 +8,7 @@ use Rattle.poly_mixed.specs.declared.stage.ReduceFault.TheVariants.{TooManyTerms
 use Rattle.poly_mixed.specs.declared.stage.Stage.{Stage}
 use Rattle.poly_mixed.specs.declared.stage.Stage.TheVariants.{Cut, WordProduct, WordSum, SpecProduct, SpecSum, InstanceProduct, InstanceSum}
 use Rattle.stage_model.specs.Stage.{HasSize, IsWithin}
-use Rattle.spec_expand.specs.Specification.{SpecTerms}
-use Rattle.spec_expand.specs.SpecValue.{factors_of, factors_with, ones_of, product_at, spec_at}
+use Rattle.spec_expand.specs.SpecValue.{factors_of, factors_with, ones_of, product_at}
 use Rattle.instance_poly.specs.Instance.{powers_from}
 use Rattle.instance_poly.specs.InstanceListing.{IsAtFeeds}
 
@@ -61,13 +60,3 @@ module _ (k : ℕ) (mul : ℕ → ℕ → ℕ) (feeds : Point → List ℕ) wher
   abbrev pub IsTermRefusal : ℕ × List (ℕ × ℕ) → ℕ → ℕ → ℕ → ReduceFault → Type 0
   IsTermRefusal t instance number bound (TooManyTerms stage n) = IsOverAt t instance number bound stage n
   IsTermRefusal t instance number bound OutOfMemory = Unit {0}
-
-  -- the stages of the first s terms are within the bound
-  pub record AreTermsWithin (block : SpecTerms) (s bound : ℕ) : Type 0 where
-    pub products : (i : ℕ) (t : ℕ × List (ℕ × ℕ)) → i < s → slice_get block i ≡ Some t → AreProductsWithin t (length (factors_of t.1)) bound
-    pub sums : (r : ℕ) → 1 ≤ r → r ≤ s → HasWithin (λ xs. spec_at mul xs (take r block)) bound
-
-  -- what holds after s terms: the polynomial of their sum, and their stages are within the bound
-  pub record IsSummed (block : SpecTerms) (bound s : ℕ) (ts : Terms) : Type 0 where
-    pub is : IsPolynomialOf k mul (λ p. spec_at mul (feeds p) (take s block)) ts
-    pub terms_within : AreTermsWithin block s bound

@@ -1,22 +1,13 @@
 -- Groups of commands, each of which is read by a function of its own: for the clauses of private functions.
 -- Source: this project's own.
-use Rattle.job_words.specs.Command.{Action, Bits, Abstract, Check, Same, Eval, Iso, Lift, Table, Certify, Verify, Upgrade, Make, Compose, Job, Over, Trial}
+use Rattle.job_words.specs.Command.{Action, Iso, Lift, Table, Certify, Verify, Upgrade, Job, Over, Trial}
 
 -- a command of tables or isomorphisms
 abbrev pub IsTableAction : Action → Type 0
-IsTableAction (Bits net terms cycles) = ⊥
-IsTableAction (Abstract net terms cycles) = ⊥
-IsTableAction (Check net specification terms cycles) = ⊥
-IsTableAction (Same net other terms cycles) = ⊥
-IsTableAction (Eval net values cycles) = ⊥
 IsTableAction (Iso other) = Unit {0}
 IsTableAction (Lift table) = Unit {0}
 IsTableAction (Table net cycles) = Unit {0}
-IsTableAction (Certify net terms cycles) = ⊥
-IsTableAction (Verify net certificate terms cycles) = ⊥
-IsTableAction (Upgrade net certificate cycles) = ⊥
-IsTableAction (Make kind) = ⊥
-IsTableAction (Compose net terms) = ⊥
+IsTableAction action = ⊥
 
 abbrev pub IsOfTables : Job → Type 0
 IsOfTables (Over signature action) = IsTableAction action
@@ -24,19 +15,10 @@ IsOfTables (Trial number modulus terms) = ⊥
 
 -- a command of certificates, or of tables or isomorphisms
 abbrev pub IsLaterAction : Action → Type 0
-IsLaterAction (Bits net terms cycles) = ⊥
-IsLaterAction (Abstract net terms cycles) = ⊥
-IsLaterAction (Check net specification terms cycles) = ⊥
-IsLaterAction (Same net other terms cycles) = ⊥
-IsLaterAction (Eval net values cycles) = ⊥
-IsLaterAction (Iso other) = Unit {0}
-IsLaterAction (Lift table) = Unit {0}
-IsLaterAction (Table net cycles) = Unit {0}
 IsLaterAction (Certify net terms cycles) = Unit {0}
 IsLaterAction (Verify net certificate terms cycles) = Unit {0}
 IsLaterAction (Upgrade net certificate cycles) = Unit {0}
-IsLaterAction (Make kind) = ⊥
-IsLaterAction (Compose net terms) = ⊥
+IsLaterAction action = IsTableAction action
 
 abbrev pub IsLater : Job → Type 0
 IsLater (Over signature action) = IsLaterAction action

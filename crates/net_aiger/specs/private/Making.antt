@@ -1,12 +1,12 @@
 -- What is known while a net list is made: for the clauses of private functions. Source: this project's own.
-use Rattle.std.specs.Prelude.{◌≡◌, ◌⊎◌, ℕ, false, List, None, Ok, Err, Result, drop, if◌then◌else◌, nat_lt}
+use Rattle.std.specs.Prelude.{◌≡◌, ◌⊎◌, ℕ, false, List, None, Ok, Err, Result, drop}
 use Rattle.std.specs.List.{list_any}
 use Rattle.std.specs.Str.{bytes_eq}
 use Rattle.net_core.specs.NetList.{NetList, number_of}
 use Rattle.net_core.specs.declared.fault.NetFault.{NetFault}
 use Rattle.net_core.specs.declared.fault.NetFault.TheVariants.{OutOfMemory}
 use Rattle.net_aiger.specs.Checks.{apart}
-use Rattle.net_aiger.specs.Reading.{Name, Reading, driven}
+use Rattle.net_aiger.specs.Reading.{Name, Reading}
 
 -- the fault of a step, or want of memory
 abbrev pub IsFaultOf : Result NetList NetFault → NetFault → Type 0
@@ -25,7 +25,3 @@ pub record Awaits (reading : Reading) (port : ℕ) (left : List ℕ) (net : NetL
 -- the same of the reading's own ports
 abbrev pub AwaitsPort : Reading → ℕ → NetList → Type 0
 AwaitsPort reading port net = Awaits reading port (drop port reading.ports) net
-
--- the port behind those whose nets were made, where n nets were
-abbrev pub next_port : Reading → ℕ → ℕ
-next_port reading n = if nat_lt n (driven reading.header) then n else driven reading.header

@@ -1,7 +1,9 @@
 -- What the expansion keeps: polynomials of functions of the input, and the stages that are within the bound.
 -- Source: this project's own.
-use Rattle.std.specs.Prelude.{◌≡◌, ℕ, ◌<◌, ◌≤◌, List, Some, length, take, slice_get}
+use Rattle.std.specs.Prelude.{◌≡◌, ℕ, ◌<◌, ◌≤◌, List, length}
+use Rattle.net_core.specs.Sound.{IsSound}
 use Rattle.net_words.specs.Binding.{BoundNet}
+use Rattle.net_words.specs.OneCycle.{IsOneCycle}
 use Rattle.gf_basis.specs.declared.bases.Basis.{Basis}
 use Rattle.poly_mixed.specs.Polynomial.{Terms, Point, IsPoint, IsReduced, value}
 use Rattle.poly_mixed.specs.declared.stage.ReduceFault.{ReduceFault}
@@ -12,16 +14,17 @@ use Rattle.circuit_model.specs.Circuit.{Circuit, IsInput}
 use Rattle.stage_model.specs.InputPoint.{IsAtInput}
 use Rattle.stage_model.specs.Stage.{HasSize, IsWithin}
 use Rattle.circuit_model.specs.Bases.{AreBases}
-use Rattle.spec_expand.specs.Specification.{SpecTerms}
-use Rattle.spec_expand.specs.SpecValue.{spec_at, factors_of, product_at}
+use Rattle.spec_expand.specs.SpecValue.{factors_of, product_at}
 use Rattle.spec_expand.specs.SpecListing.{IsAtPoint}
-use Rattle.spec_expand.specs.private.Places.{places_from}
+use Rattle.circuit_model.specs.Places.{places_from}
 
--- bases of a field, and the numbers of the input, state and fed words
+-- a sound net with its words, bases of a field, and the numbers of the input, state and fed words
 pub record IsSetting (k : ℕ) (mul : ℕ → ℕ → ℕ) (bound : BoundNet) (bases : List Basis) (places : List ℕ) : Type 0 where
-  pub bits : bound.bound.k ≡ k
+  pub sound : IsSound bound.net
+  pub is_bound : IsOneCycle bound.net bound.binding
+  pub bits : bound.binding.k ≡ k
   pub bases_are : AreBases k mul bound bases
-  pub places_are : places ≡ places_from 0 bound.bound.words
+  pub places_are : places ≡ places_from 0 bound.binding.words
 
 module _ (circuit : Circuit) where
   -- a reduced polynomial that has the function's value at each point with the bits of an input
@@ -64,13 +67,3 @@ module _ (circuit : Circuit) where
   abbrev pub IsTermRefusal : ℕ × List (ℕ × ℕ) → ℕ → ℕ → ReduceFault → Type 0
   IsTermRefusal t number bound (TooManyTerms stage n) = IsOverAt t number bound stage n
   IsTermRefusal t number bound OutOfMemory = Unit {0}
-
-  -- the stages of the first s terms are within the bound
-  pub record AreTermsWithin (spec : SpecTerms) (s bound : ℕ) : Type 0 where
-    pub products : (i : ℕ) (t : ℕ × List (ℕ × ℕ)) → i < s → slice_get spec i ≡ Some t → AreProductsWithin t (length (factors_of t.1)) bound
-    pub sums : (r : ℕ) → 1 ≤ r → r ≤ s → HasWithin (λ xs. spec_at circuit.product xs (take r spec)) bound
-
-  -- what holds after s terms: the polynomial of their sum, and their stages are within the bound
-  pub record IsSummed (spec : SpecTerms) (bound s : ℕ) (ts : Terms) : Type 0 where
-    pub is : IsOfInput (λ xs. spec_at circuit.product xs (take s spec)) ts
-    pub terms_within : AreTermsWithin spec s bound

@@ -1,10 +1,9 @@
 -- A specification read token by token: what was read so far, and what one more token makes of it.
 -- Source: this project's own.
-use Rattle.std.specs.Prelude.{◌≡◌, ℕ, ◌+◌, ◌≤◌, ◌^◌, Bool, cond, List, [], ◌∷◌, ◌++◌, nat_lt, nat_le, bytes_eq, Option, Some, None, Result, Ok, Err}
+use Rattle.std.specs.Prelude.{◌≡◌, ℕ, ◌+◌, ◌^◌, Bool, cond, List, [], ◌∷◌, ◌++◌, nat_lt, nat_le, bytes_eq, Option, Some, None, Result, Ok, Err}
 use Rattle.poly_mixed.specs.Labels.{Labelling}
 use Rattle.poly_mixed.specs.Scan.{word_of}
 use Rattle.spec_expand.specs.Token.{Token, name, hex, decimal, equals, plus, times, power}
-use Rattle.spec_expand.specs.Tokens.{Stop, ended, stuck}
 use Rattle.spec_expand.specs.Specification.{SpecTerms}
 use Rattle.spec_expand.specs.declared.fault.SpecFault.{SpecFault}
 use Rattle.spec_expand.specs.declared.fault.SpecFault.TheVariants.{Syntax, UnknownWord, BadNumber, OutOfMemory}
@@ -20,10 +19,6 @@ pub record Progress : Type 0 where
 
 abbrev pub progress : Next → SpecTerms → ℕ → List (ℕ × ℕ) → Progress
 progress n ts c ps = record { next = n; terms = ts; coefficient = c; powers = ps }
-
--- nothing was read
-abbrev pub start : Progress
-start = progress Output [] 1 []
 
 abbrev pub to_next : Next → Progress → Progress
 to_next n p = progress n p.terms p.coefficient p.powers
@@ -130,11 +125,6 @@ end_read Assign p place = Err (Syntax place)
 end_read Factor p place = Err (Syntax place)
 end_read (Exponent w) p place = Err (Syntax place)
 
--- where the tokens end
-abbrev pub stop_read : Progress → Stop → Result SpecTerms SpecFault
-stop_read p (ended place) = end_read p.next p place
-stop_read p (stuck place) = Err (Syntax place)
-
 module _ (l : Labelling) (k : ℕ) (mul : ℕ → ℕ → ℕ) where
   -- one token more
   abbrev pub token_read : Progress → Token → ℕ → Read
@@ -145,12 +135,6 @@ module _ (l : Labelling) (k : ℕ) (mul : ℕ → ℕ → ℕ) where
   token_read p power place = power_read p.next p place
   token_read p times place = times_read p.next p place
   token_read p plus place = plus_read p.next p place
-
-  -- the tokens that are left, after what was read
-  abbrev pub tokens_read : Read → List (Token × ℕ) → Stop → Result SpecTerms SpecFault
-  tokens_read (Err e) ts stop = Err e
-  tokens_read (Ok p) [] stop = stop_read p stop
-  tokens_read (Ok p) (t ∷ ts) stop = tokens_read (token_read p t.0 t.1) ts stop
 
 -- a fault is what was said, or want of memory in its place
 abbrev pub IsSaid : {A : Type 0} → Result A SpecFault → SpecFault → Type 0
@@ -168,12 +152,3 @@ IsStep said ts c ps (Err e) = IsSaid said e
 abbrev pub IsEnd : Result SpecTerms SpecFault → SpecTerms → Result (Unit {0}) SpecFault → Type 0
 IsEnd said ts (Ok u) = said ≡ Ok ts
 IsEnd said ts (Err e) = IsSaid said e
-
--- so many powers stand in so many bytes: the first two tokens are none
-abbrev pub IsShort : Next → ℕ → ℕ → Type 0
-IsShort Output at n = n ≡ 0
-IsShort Assign at n = (n ≡ 0) × (1 ≤ at)
-IsShort Factor at n = n + 2 ≤ at
-IsShort AfterNumber at n = n + 2 ≤ at
-IsShort (AfterName w) at n = n + 2 ≤ at
-IsShort (Exponent w) at n = n + 2 ≤ at

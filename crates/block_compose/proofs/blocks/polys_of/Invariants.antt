@@ -1,6 +1,6 @@
 use Rattle.std.proofs.Common.{map}
-use Rattle.block_compose.specs.private.Blocks.{AreTakenTo}
 use Rattle.block_compose.proofs.blocks.polys_of.Given as goal
+use Rattle.block_compose.proofs.TakenPolys.{AreTakenTo}
 
 -- the polynomials so far
 abbrev pub invariant-loop-i : goal.invariant-loop-i

@@ -31,7 +31,7 @@ block_polys-requires g c =
     let A : List BlockValue → Type 0 = λ bs. AreKeptBlocks k mul bs c.deref.result.now bases c.deref-2.result.now in
     let B : List (Option BoundNet) → Type 0 = λ cs. AreKeptBlocks k mul signature.blocks cs bases c.deref-2.result.now in
     let C : List ℕ → Type 0 = λ ns. AreKeptBlocks k mul signature.blocks circuits bases ns in
-    subst A (sym c.blocks-2.ensures) (subst B (sym c.deref.ensures.value) (subst C (sym c.deref-2.ensures.value) (blocks_kept k mul ring free design signature bases numbers circuits rows c.args.wiring.now.output c.args.bound c.requires.given c.requires.planned c.models-count.ensures.right)))
+    subst A (sym c.blocks-2.ensures) (subst B (sym c.deref.ensures.value) (subst C (sym c.deref-2.ensures.value) (blocks_kept k mul ring free design signature bases numbers circuits rows c.args.wiring.now.output c.args.bound c.requires.given c.requires.planned c.requires.right)))
 
 pub returns-in-Err-clause-fault : goal.returns-in-Err-clause-fault
 returns-in-Err-clause-fault g c =
@@ -48,7 +48,7 @@ returns-in-Err-clause-fault g c =
     let A : List BlockValue → Type 0 = λ bs. (c.in-Err.fault ≡ OutOfMemory) ⊎ IsFirstBlockOver k mul bs c.deref.result.now bases c.args.bound c.deref-2.result.now c.in-Err.fault in
     let B : List (Option BoundNet) → Type 0 = λ cs. (c.in-Err.fault ≡ OutOfMemory) ⊎ IsFirstBlockOver k mul signature.blocks cs bases c.args.bound c.deref-2.result.now c.in-Err.fault in
     let C : List ℕ → Type 0 = λ ns. (c.in-Err.fault ≡ OutOfMemory) ⊎ IsFirstBlockOver k mul signature.blocks circuits bases c.args.bound ns c.in-Err.fault in
-    block_fault k mul ring free design signature bases numbers circuits rows c.args.wiring.now.output c.args.bound c.requires.given c.requires.planned c.models-count.ensures.right c.in-Err.fault (subst C c.deref-2.ensures.value (subst B c.deref.ensures.value (subst A c.blocks-2.ensures c.in-Err.ensures.fault)))
+    block_fault k mul ring free design signature bases numbers circuits rows c.args.wiring.now.output c.args.bound c.requires.given c.requires.planned c.requires.right c.in-Err.fault (subst C c.deref-2.ensures.value (subst B c.deref.ensures.value (subst A c.blocks-2.ensures c.in-Err.ensures.fault)))
 
 pub wired_poly-requires-clause-wired : goal.wired_poly-requires-clause-wired
 wired_poly-requires-clause-wired g c =
@@ -79,7 +79,7 @@ wired_poly-requires-clause-wired g c =
     let rows_same : map (λ row. row.items) c.deref-6.result.now ≡ rows = ap (λ rs. map (λ row. row.items) rs) c.deref-6.ensures.value in
     let P : List Terms → Type 0 = λ ts. IsWired k count ts (map (λ row. row.items) c.deref-6.result.now) c.args.wiring.now.output in
     let Q : List (List Feeder) → Type 0 = λ rs. IsWired k count blocks rs c.args.wiring.now.output in
-    subst P (sym same_terms) (subst Q (sym rows_same) (wired_is k mul ring free design signature bases numbers circuits rows c.args.wiring.now.output c.args.bound c.requires.given c.requires.planned c.models-count.ensures.right c.requires.wired c.args.order.now c.requires.order polys are has list taken count count_is c.models-count.ensures.few))
+    subst P (sym same_terms) (subst Q (sym rows_same) (wired_is k mul ring free design signature bases numbers circuits rows c.args.wiring.now.output c.args.bound c.requires.given c.requires.planned c.requires.right c.requires.wired c.args.order.now c.requires.order polys are has list taken count count_is c.requires.few))
 
 pub returns-in-Ok-wired_poly-clause-poly : goal.returns-in-Ok-wired_poly-clause-poly
 returns-in-Ok-wired_poly-clause-poly g c =
@@ -110,7 +110,7 @@ returns-in-Ok-wired_poly-clause-poly g c =
     let rows_same : map (λ row. row.items) c.deref-6.result.now ≡ rows = ap (λ rs. map (λ row. row.items) rs) c.deref-6.ensures.value in
     let P : List Terms → Type 0 = λ ts. IsWiredPoly k mul count ts (map (λ row. row.items) c.deref-6.result.now) c.args.bound c.args.wiring.now.output c.in-Ok-wired_poly.poly.terms in
     let Q : List (List Feeder) → Type 0 = λ rs. IsWiredPoly k mul count blocks rs c.args.bound c.args.wiring.now.output c.in-Ok-wired_poly.poly.terms in
-    stage_poly k mul ring free design signature bases numbers circuits rows c.args.wiring.now.output c.args.bound c.requires.given c.requires.planned c.models-count.ensures.right c.requires.wired c.args.order.now c.requires.order polys are has list taken count count_is c.in-Ok-wired_poly.poly.terms (subst Q rows_same (subst P same_terms c.in-Ok-wired_poly.ensures.poly))
+    stage_poly k mul ring free design signature bases numbers circuits rows c.args.wiring.now.output c.args.bound c.requires.given c.requires.planned c.requires.right c.requires.wired c.args.order.now c.requires.order polys are has list taken count count_is c.in-Ok-wired_poly.poly.terms (subst Q rows_same (subst P same_terms c.in-Ok-wired_poly.ensures.poly))
 
 pub returns-clause-fault : goal.returns-clause-fault
 returns-clause-fault g c =
@@ -142,4 +142,4 @@ returns-clause-fault g c =
     let P : List Terms → Type 0 = λ ts. IsStageFault k mul count ts (map (λ row. row.items) c.deref-6.result.now) c.args.bound c.in-Err-wired_poly.fault in
     let Q : List (List Feeder) → Type 0 = λ rs. IsStageFault k mul count blocks rs c.args.bound c.in-Err-wired_poly.fault in
     let R : ComposeFault → Type 0 = MayFault (StagesOf k mul (hierarchy_of design signature bases) rows c.args.bound) in
-    subst R (sym c.of_stage.ensures) (stage_fault k mul ring free design signature bases numbers circuits rows c.args.wiring.now.output c.args.bound c.requires.given c.requires.planned c.models-count.ensures.right c.requires.wired c.args.order.now c.requires.order polys are has list taken count count_is c.in-Err-wired_poly.fault (subst Q rows_same (subst P same_terms c.in-Err-wired_poly.ensures.fault)))
+    subst R (sym c.of_stage.ensures) (stage_fault k mul ring free design signature bases numbers circuits rows c.args.wiring.now.output c.args.bound c.requires.given c.requires.planned c.requires.right c.requires.wired c.args.order.now c.requires.order polys are has list taken count count_is c.in-Err-wired_poly.fault (subst Q rows_same (subst P same_terms c.in-Err-wired_poly.ensures.fault)))

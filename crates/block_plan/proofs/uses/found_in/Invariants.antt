@@ -1,5 +1,5 @@
-use Rattle.block_plan.specs.private.Found.{IsWalked}
 use Rattle.block_plan.proofs.uses.found_in.Given as goal
+use Rattle.block_plan.proofs.Walked.{IsWalked}
 
 -- the lines so far are walked
 abbrev pub invariant-loop-place : goal.invariant-loop-place

@@ -1,4 +1,4 @@
-use Rattle.block_stages.proofs.DecidedBlocks.{blocks_decided, composition_decided}
+use Rattle.block_stages.proofs.DecidedBlockLemmas.{blocks_decided, composition_decided}
 use Rattle.block_stages.proofs.DecidedLemmas.{instances_decided}
 use Rattle.block_stages.proofs.existence_laws.some_first_of_composition.Goals as goal
 

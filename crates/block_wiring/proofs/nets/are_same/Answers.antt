@@ -1,7 +1,8 @@
 use Rattle.std.proofs.Common.{◌≡◌, ◌∙◌, sym, List, ℕ, true, false, map, arith, Bor}
 use Rattle.std.specs.Str.{bytes_eq}
+use Rattle.graph_core.proofs.GeneralLemmas.{length_map as mapped_long, not_true as was_false}
 use Rattle.block_wiring.specs.private.Names.{same_names}
-use Rattle.block_wiring.proofs.ListLemmas.{mapped_long, was_false, was_true}
+use Rattle.block_wiring.proofs.ListLemmas.{was_true}
 use Rattle.block_wiring.proofs.StepLemmas.{long_other, same_here, same_not}
 use Rattle.block_wiring.proofs.nets.are_same.Goals as goal
 

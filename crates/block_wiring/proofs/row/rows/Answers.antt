@@ -1,9 +1,9 @@
 use Rattle.std.proofs.Common.{◌∙◌, ap, subst, refl, ℕ, Global, Vec, List, Result, map}
 use Rattle.std.specs.Prelude.{IfErr, IfOk}
 use Rattle.graph_core.proofs.ListLemmas.{got_read}
+use Rattle.graph_core.proofs.GeneralLemmas.{map_push as mapped_push}
 use Rattle.block_feeds.specs.declared.feeder.Feeder.{Feeder}
 use Rattle.block_wiring.specs.private.Plain.{IsRefusedFirst, IsRow, PlacedValue}
-use Rattle.block_wiring.proofs.ListLemmas.{mapped_push}
 use Rattle.block_wiring.proofs.RowLemmas.{rows_more, rows_refused}
 use Rattle.block_wiring.proofs.row.rows.Goals as goal
 

@@ -64,8 +64,7 @@ add-requires-clause-line g c =
     let k : ℕ = g.F.Ring.degree c.args.field.now in
     let mul : ℕ → ℕ → ℕ = g.F.Ring.product c.args.field.now in
     let N : ℕ → Type 0 = λ n. IsLine k c.args.circuit.now.net c.args.labels.now n c.in-Some.line in
-    let few : length c.args.labels.now.words ≤ 8 = omega (arith, c.words-words.ensures.value, c.words-words.ensures.few) in
-    is_line k mul c.args.circuit.now c.args.bases.now c.args.labels.now (length c.turns.checking.shared.items) c.in-Some.line c.requires.bases.long c.requires.labels c.requires.k few (subst N (ap length c.as_slice.ensures.value) (rw c.in-Some.is at c.in-Ok.ensures.is))
+    is_line k mul c.args.circuit.now c.args.bases.now c.args.labels.now (length c.turns.checking.shared.items) c.in-Some.line c.requires.bases.long c.requires.labels c.requires.k c.requires.few (subst N (ap length c.as_slice.ensures.value) (rw c.in-Some.is at c.in-Ok.ensures.is))
 
 pub returns-in-Err-add : goal.returns-in-Err-add
 returns-in-Err-add g c =

@@ -32,3 +32,6 @@ returns-in-Ok-check_size g c =
     let R : List (List ℕ) → Type 0 = λ ls. Fits refusal verdict_of c.verdict_from.result (VerdictFrom k mul c.args.circuit.now c.args.bases.now c.args.labels.now c.args.bound c.in-Ok.head.version ls 3 (begun c.in-Ok.head.claim.terms)) in
     cert_moved verdict_of verdict_of c.verdict_from.result (VerdictFrom k mul c.args.circuit.now c.args.bases.now c.args.labels.now c.args.bound c.in-Ok.head.version (drop 2 (lines c.args.bytes.now)) 3 (begun c.in-Ok.head.claim.terms)) (Check k mul c.args.circuit.now c.args.bases.now c.args.labels.now c.args.bound c.args.bytes.now)
     (λ x. comes (Ok (verdict_of x))) (λ f. comes (Err f)) (subst R c.in-Ok.ensures.rest c.verdict_from.ensures)
+
+pub verdict_from-requires-clause-few : goal.verdict_from-requires-clause-few
+verdict_from-requires-clause-few g c = c.requires.few

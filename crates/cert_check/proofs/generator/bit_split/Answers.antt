@@ -1,5 +1,5 @@
 use Rattle.poly_mixed.proofs.FieldLaws.{field_of}
-use Rattle.poly_mixed.proofs.Values.{one_element}
+use Rattle.poly_mixed.proofs.ValueLemmas.{one_element}
 use Rattle.cert_check.proofs.generator.bit_split.Goals as goal
 
 pub scaled_bit-requires : goal.scaled_bit-requires

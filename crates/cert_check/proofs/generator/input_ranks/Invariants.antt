@@ -8,5 +8,5 @@ abbrev pub invariant-loop-input : goal.invariant-loop-input
 invariant-loop-input l =
     record {
       items : l.input-items ≡ l.gate.inputs;
-      ranks : l.list.items ≡ map (rank_among (variables (nets l.circuit.net) l.circuit.bound.words)) (take l.input-index l.input-items);
+      ranks : l.list.items ≡ map (rank_among (variables (nets l.circuit.net) l.circuit.binding.words)) (take l.input-index l.input-items);
     }

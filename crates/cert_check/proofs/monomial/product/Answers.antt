@@ -2,7 +2,7 @@ use Rattle.std.proofs.Common.{◌∙◌, sym, subst, List, ℕ}
 use Rattle.std.specs.Ordering.{nat_cmp}
 use Rattle.std.specs.List.Sorted.{IsStrictlySortedBy}
 use Rattle.poly_mixed.specs.Product.{union}
-use Rattle.poly_mixed.proofs.Products.{rising-union}
+use Rattle.poly_mixed.proofs.ProductLemmas.{rising-union}
 use Rattle.cert_check.proofs.monomial.product.Goals as goal
 
 pub new-requires : goal.new-requires

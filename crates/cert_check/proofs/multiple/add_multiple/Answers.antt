@@ -4,7 +4,7 @@ use Rattle.poly_mixed.specs.Monomial.{Monomial}
 use Rattle.poly_mixed.specs.Polynomial.{Terms}
 use Rattle.poly_mixed.specs.Product.{times}
 use Rattle.poly_mixed.proofs.FieldLaws.{field_of}
-use Rattle.poly_mixed.proofs.Products.{turn, product_nothing}
+use Rattle.poly_mixed.proofs.ProductLemmas.{turn, product_nothing}
 use Rattle.cert_check.proofs.multiple.add_multiple.Goals as goal
 
 pub loop-term-preserved : goal.loop-term-preserved

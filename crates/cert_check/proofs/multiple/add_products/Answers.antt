@@ -1,7 +1,7 @@
 use Rattle.std.proofs.Common.{◌≡◌, ◌∙◌, [], drop, drop_of_length-le, arith}
 use Rattle.poly_mixed.specs.Polynomial.{Terms}
 use Rattle.poly_mixed.proofs.FieldLaws.{field_of}
-use Rattle.poly_mixed.proofs.Products.{no_terms_product}
+use Rattle.poly_mixed.proofs.ProductLemmas.{no_terms_product}
 use Rattle.cert_check.proofs.multiple.add_products.Goals as goal
 
 pub returns-clause-values : goal.returns-clause-values

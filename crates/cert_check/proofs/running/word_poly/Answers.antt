@@ -1,5 +1,5 @@
 use Rattle.poly_mixed.proofs.FieldLaws.{field_of}
-use Rattle.poly_mixed.proofs.Simple.{reduced_nothing}
+use Rattle.poly_mixed.proofs.SimpleLemmas.{reduced_nothing}
 use Rattle.poly_mixed.specs.Polynomial.{Terms, IsReduced, value}
 use Rattle.std.proofs.Common.{subst, ◌≡◌, ◌+◌, suc, cond, ap, sym, ◌∙◌, get_or, take, length, bit_xor, arith}
 use Rattle.std.proofs.lemmas.Option.{slice_get-get_or}
@@ -30,7 +30,7 @@ loop-place-preserved g c =
     let n = c.loop-place.place in
     let basis = elements_of c.args.basis.now in
     let list = c.args.list.now in
-    let order = variables (nets c.args.circuit.now.net) c.args.circuit.now.bound.words in
+    let order = variables (nets c.args.circuit.now.net) c.args.circuit.now.binding.words in
     let long : length basis ≡ g.F.Ring.degree c.args.field.now = c.requires.basis.elements.size in
     let up : suc n ≡ n + 1 = omega arith in
     record {

@@ -12,5 +12,5 @@ abbrev pub invariant-loop-place : goal.invariant-loop-place
 invariant-loop-place g l =
     record {
       reduced : IsReduced (g.F.Ring.degree l.field) l.sum.terms;
-      values : (p : Point) → IsPoint (g.F.Ring.degree l.field) p → value (g.F.Ring.product l.field) p l.sum.terms ≡ combination (take l.place (elements_of l.basis)) (index (net_bit (variables (nets l.circuit.net) l.circuit.bound.words) p) (take l.place l.list));
+      values : (p : Point) → IsPoint (g.F.Ring.degree l.field) p → value (g.F.Ring.product l.field) p l.sum.terms ≡ combination (take l.place (elements_of l.basis)) (index (net_bit (variables (nets l.circuit.net) l.circuit.binding.words) p) (take l.place l.list));
     }

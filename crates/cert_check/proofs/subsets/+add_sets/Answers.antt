@@ -4,8 +4,8 @@ use Rattle.std.specs.List.Sorted.{IsStrictlySortedBy}
 use Rattle.std.specs.Ordering.{nat_cmp}
 use Rattle.poly_mixed.specs.Polynomial.{value}
 use Rattle.poly_mixed.specs.Table.{table_bit}
-use Rattle.poly_mixed.proofs.Products.{rising-with_rank}
-use Rattle.poly_mixed.proofs.Simple.{rest_long, half_within, first_and_rest}
+use Rattle.poly_mixed.proofs.ProductLemmas.{rising-with_rank}
+use Rattle.poly_mixed.proofs.SimpleLemmas.{rest_long, half_within, first_and_rest}
 use Rattle.cert_check.proofs.SubsetLemmas.{both_halves}
 use Rattle.cert_check.proofs.subsets.+add_sets.Goals as goal
 

@@ -1,8 +1,9 @@
 use Rattle.std.proofs.Common.{◌≡◌, ◌≢◌, ◌+◌, sym, refl, ap, inl, inr, length, ◌∙◌, arith}
 use Rattle.std.specs.Prelude.{slice_get}
 use Rattle.std.proofs.lemmas.Option.{slice_get_read}
+use Rattle.graph_core.proofs.ListLemmas.{get_below as some_at}
 use Rattle.net_words.specs.declared.word.Role.TheVariants.{Output}
-use Rattle.circuit_model.proofs.OutputBasisLemmas.{some_at, is_role, not_role}
+use Rattle.circuit_model.proofs.OutputBasisLemmas.{is_role, not_role}
 use Rattle.cert_check.proofs.WordsLemmas.{words_from, at_input, past_input, past_output, past_all}
 use Rattle.cert_check.proofs.words.input_basis.Goals as goal
 
@@ -11,7 +12,7 @@ returns-in-None-clause-among c = (c.loop-w.w, slice_get_read c.args.bases.now (l
 
 pub returns-in-None-clause-basis : goal.returns-in-None-clause-basis
 returns-in-None-clause-basis c w got =
-    let words = c.args.bound.now.words in
+    let words = c.args.binding.now.words in
     let bases = c.args.bases.now in
     let v = c.loop-w.w in
     let word = some_at words v (omega arith) in
@@ -22,7 +23,7 @@ returns-in-None-clause-basis c w got =
 
 pub loop-w-preserved : goal.loop-w-preserved
 loop-w-preserved c =
-    let words = c.args.bound.now.words in
+    let words = c.args.binding.now.words in
     let bases = c.args.bases.now in
     let v = c.loop-w.w in
     let word = some_at words v (omega arith) in
@@ -40,6 +41,6 @@ loop-w-preserved c =
 
 pub unreachable-requires : goal.unreachable-requires
 unreachable-requires c =
-    let words = c.args.bound.now.words in
+    let words = c.args.binding.now.words in
     let found = some_at _ c.args.word c.requires.word in
     past_all words c.args.bases.now c.loop-w.w c.loop-w.left found.0 (omega arith) (c.loop-w.invariant ∙ found.1)

@@ -6,4 +6,4 @@ use Rattle.cert_check.proofs.WordsLemmas.{words_from}
 use Rattle.cert_check.proofs.words.input_basis.Given as goal
 
 abbrev pub invariant-loop-w : goal.invariant-loop-w
-invariant-loop-w l = slice_get (words_from l.bound.words l.bases l.w) l.left ≡ slice_get (words_of l.bound.words (map duals_of l.bases)) l.word
+invariant-loop-w l = slice_get (words_from l.binding.words l.bases l.w) l.left ≡ slice_get (words_of l.binding.words (map duals_of l.bases)) l.word

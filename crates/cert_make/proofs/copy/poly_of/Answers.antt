@@ -2,7 +2,7 @@ use Rattle.std.proofs.Common.{◌≡◌, ◌∙◌, ap, sym, [], drop, drop_of_l
 use Rattle.poly_mixed.specs.Monomial.{text_cmp}
 use Rattle.poly_mixed.specs.Polynomial.{Terms}
 use Rattle.poly_mixed.specs.Sum.{plus}
-use Rattle.poly_mixed.proofs.Values.{plus_nothing}
+use Rattle.poly_mixed.proofs.ValueLemmas.{plus_nothing}
 use Rattle.cert_make.proofs.copy.poly_of.Goals as goal
 
 pub returns : goal.returns

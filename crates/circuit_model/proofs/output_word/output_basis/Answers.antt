@@ -1,7 +1,8 @@
 use Rattle.std.proofs.Common.{◌≡◌, ◌≢◌, sym, refl, length, ◌∙◌, arith}
+use Rattle.graph_core.proofs.ListLemmas.{get_below as some_at}
 use Rattle.net_words.specs.declared.word.Role.TheVariants.{Output}
 use Rattle.std.proofs.lemmas.Option.{slice_get_read}
-use Rattle.circuit_model.proofs.OutputBasisLemmas.{some_at, at_output, past_other, past_count, is_role, not_role}
+use Rattle.circuit_model.proofs.OutputBasisLemmas.{at_output, past_other, past_count, is_role, not_role}
 use Rattle.circuit_model.proofs.output_word.output_basis.Goals as goal
 
 pub returns-then-is_output-clause-among : goal.returns-then-is_output-clause-among
@@ -9,7 +10,7 @@ returns-then-is_output-clause-among c = (c.loop-w.w, slice_get_read c.args.bases
 
 pub returns-then-is_output-clause-basis : goal.returns-then-is_output-clause-basis
 returns-then-is_output-clause-basis c =
-    let words = c.args.bound.now.words in
+    let words = c.args.binding.now.words in
     let w = c.loop-w.w in
     let word = some_at words w (omega arith) in
     let role : word.0.role ≡ Output = sym (c.role.ensures word.0 word.1) ∙ is_role c.role.result (sym c.is_output.ensures ∙ c.if-is_output.true) in
@@ -18,7 +19,7 @@ returns-then-is_output-clause-basis c =
 
 pub loop-w-preserved : goal.loop-w-preserved
 loop-w-preserved c =
-    let words = c.args.bound.now.words in
+    let words = c.args.binding.now.words in
     let w = c.loop-w.w in
     let word = some_at words w (omega arith) in
     let basis = some_at c.args.bases.now w (omega (arith, c.requires.long)) in

@@ -8,6 +8,6 @@ use Rattle.circuit_model.proofs.output_word.output_basis.Given as goal
 abbrev pub invariant-loop-w : goal.invariant-loop-w
 invariant-loop-w l =
     record {
-      basis : output_basis (drop l.w l.bound.words) (drop l.w (map elements_of l.bases)) ≡ output_basis l.bound.words (map elements_of l.bases);
-      one : length (filter (λ word. same_role word.role Output) (drop l.w l.bound.words)) ≡ 1;
+      basis : output_basis (drop l.w l.binding.words) (drop l.w (map elements_of l.bases)) ≡ output_basis l.binding.words (map elements_of l.bases);
+      one : length (filter (λ word. same_role word.role Output) (drop l.w l.binding.words)) ≡ 1;
     }

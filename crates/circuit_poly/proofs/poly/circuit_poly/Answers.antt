@@ -1,5 +1,4 @@
 use Rattle.std.proofs.Common.{◌≡◌, ◌∙◌, ◌≤◌, ap, sym, subst, ℕ, List, length, map, arith}
-use Rattle.net_core.specs.NetList.{NetList}
 use Rattle.net_core.specs.Sound.{IsSound}
 use Rattle.net_words.specs.Binding.{Binding, BoundNet}
 use Rattle.gf_basis.specs.BasisParts.{elements_of}
@@ -31,15 +30,14 @@ to_words-requires-clause-bits g c =
     let free = g.met.F.Field.no_zero_divisors c.args.field.now in
     let circuit : BoundNet = c.args.circuit.now in
     let bases : List Basis = c.args.bases.now in
-    let S : NetList → Type 0 = λ n. IsSound n in
-    let sound : IsSound circuit.net = subst S c.net.ensures.net c.gates-gates.ensures.sound in
-    let well = is_well_formed k mul circuit bases c.requires.bases ring free sound c.net.ensures.is_bound c.requires.bits in
-    let basis : elements_of c.output_basis-basis.result.now ≡ output_basis circuit.bound.words (map elements_of bases) = c.output_basis-basis.ensures.basis ∙ ap (λ (b : Binding). output_basis b.words (map elements_of bases)) c.bound.ensures.bound in
+    let sound : IsSound circuit.net = c.bound.ensures.sound in
+    let well = is_well_formed k mul circuit bases c.requires.bases ring free sound c.bound.ensures.is_bound c.requires.bits in
+    let basis : elements_of c.output_basis-basis.result.now ≡ output_basis circuit.binding.words (map elements_of bases) = c.output_basis-basis.ensures.basis ∙ ap (λ (b : Binding). output_basis b.words (map elements_of bases)) c.bound.ensures.bound in
     let L : List ℕ → Type 0 = λ e. IsOfStage k mul (BoundCut circuit e (length circuit.net.gates)) c.in-Ok.bits.terms in
     let last = subst L basis c.in-Ok.ensures.last in
     let W : List ℕ → Type 0 = λ e. AreAllWithin k mul (bound_cuts circuit e) c.args.bound in
     let cuts_within = subst W basis c.in-Ok.ensures.within in
-    no_words k mul circuit bases well c.requires.bases.long c.net.ensures.flat c.in-Ok.bits.terms last
+    no_words k mul circuit bases well c.requires.bases.long c.bound.ensures.flat c.in-Ok.bits.terms last
 
 pub to_words-requires-clause-few : goal.to_words-requires-clause-few
 to_words-requires-clause-few g c =
@@ -49,10 +47,9 @@ to_words-requires-clause-few g c =
     let free = g.met.F.Field.no_zero_divisors c.args.field.now in
     let circuit : BoundNet = c.args.circuit.now in
     let bases : List Basis = c.args.bases.now in
-    let S : NetList → Type 0 = λ n. IsSound n in
-    let sound : IsSound circuit.net = subst S c.net.ensures.net c.gates-gates.ensures.sound in
-    let well = is_well_formed k mul circuit bases c.requires.bases ring free sound c.net.ensures.is_bound c.requires.bits in
-    let basis : elements_of c.output_basis-basis.result.now ≡ output_basis circuit.bound.words (map elements_of bases) = c.output_basis-basis.ensures.basis ∙ ap (λ (b : Binding). output_basis b.words (map elements_of bases)) c.bound.ensures.bound in
+    let sound : IsSound circuit.net = c.bound.ensures.sound in
+    let well = is_well_formed k mul circuit bases c.requires.bases ring free sound c.bound.ensures.is_bound c.requires.bits in
+    let basis : elements_of c.output_basis-basis.result.now ≡ output_basis circuit.binding.words (map elements_of bases) = c.output_basis-basis.ensures.basis ∙ ap (λ (b : Binding). output_basis b.words (map elements_of bases)) c.bound.ensures.bound in
     let L : List ℕ → Type 0 = λ e. IsOfStage k mul (BoundCut circuit e (length circuit.net.gates)) c.in-Ok.bits.terms in
     let last = subst L basis c.in-Ok.ensures.last in
     let W : List ℕ → Type 0 = λ e. AreAllWithin k mul (bound_cuts circuit e) c.args.bound in
@@ -68,10 +65,9 @@ returns-in-Err-clause-fault g c =
     let free = g.met.F.Field.no_zero_divisors c.args.field.now in
     let circuit : BoundNet = c.args.circuit.now in
     let bases : List Basis = c.args.bases.now in
-    let S : NetList → Type 0 = λ n. IsSound n in
-    let sound : IsSound circuit.net = subst S c.net.ensures.net c.gates-gates.ensures.sound in
-    let well = is_well_formed k mul circuit bases c.requires.bases ring free sound c.net.ensures.is_bound c.requires.bits in
-    let basis : elements_of c.output_basis-basis.result.now ≡ output_basis circuit.bound.words (map elements_of bases) = c.output_basis-basis.ensures.basis ∙ ap (λ (b : Binding). output_basis b.words (map elements_of bases)) c.bound.ensures.bound in
+    let sound : IsSound circuit.net = c.bound.ensures.sound in
+    let well = is_well_formed k mul circuit bases c.requires.bases ring free sound c.bound.ensures.is_bound c.requires.bits in
+    let basis : elements_of c.output_basis-basis.result.now ≡ output_basis circuit.binding.words (map elements_of bases) = c.output_basis-basis.ensures.basis ∙ ap (λ (b : Binding). output_basis b.words (map elements_of bases)) c.bound.ensures.bound in
     let R : List ℕ → Type 0 = λ e. IsRefusal k mul (bound_cuts circuit e) c.args.bound c.in-Err.fault in
     cut_refused k mul circuit bases c.args.bound c.in-Err.fault (subst R basis c.in-Err.ensures.fault)
 
@@ -83,10 +79,9 @@ returns-in-Err-to_words-clause-fault g c =
     let free = g.met.F.Field.no_zero_divisors c.args.field.now in
     let circuit : BoundNet = c.args.circuit.now in
     let bases : List Basis = c.args.bases.now in
-    let S : NetList → Type 0 = λ n. IsSound n in
-    let sound : IsSound circuit.net = subst S c.net.ensures.net c.gates-gates.ensures.sound in
-    let well = is_well_formed k mul circuit bases c.requires.bases ring free sound c.net.ensures.is_bound c.requires.bits in
-    let basis : elements_of c.output_basis-basis.result.now ≡ output_basis circuit.bound.words (map elements_of bases) = c.output_basis-basis.ensures.basis ∙ ap (λ (b : Binding). output_basis b.words (map elements_of bases)) c.bound.ensures.bound in
+    let sound : IsSound circuit.net = c.bound.ensures.sound in
+    let well = is_well_formed k mul circuit bases c.requires.bases ring free sound c.bound.ensures.is_bound c.requires.bits in
+    let basis : elements_of c.output_basis-basis.result.now ≡ output_basis circuit.binding.words (map elements_of bases) = c.output_basis-basis.ensures.basis ∙ ap (λ (b : Binding). output_basis b.words (map elements_of bases)) c.bound.ensures.bound in
     let L : List ℕ → Type 0 = λ e. IsOfStage k mul (BoundCut circuit e (length circuit.net.gates)) c.in-Ok.bits.terms in
     let last = subst L basis c.in-Ok.ensures.last in
     let W : List ℕ → Type 0 = λ e. AreAllWithin k mul (bound_cuts circuit e) c.args.bound in
@@ -101,10 +96,9 @@ returns-in-Ok-to_words-clause-output g c =
     let free = g.met.F.Field.no_zero_divisors c.args.field.now in
     let circuit : BoundNet = c.args.circuit.now in
     let bases : List Basis = c.args.bases.now in
-    let S : NetList → Type 0 = λ n. IsSound n in
-    let sound : IsSound circuit.net = subst S c.net.ensures.net c.gates-gates.ensures.sound in
-    let well = is_well_formed k mul circuit bases c.requires.bases ring free sound c.net.ensures.is_bound c.requires.bits in
-    let basis : elements_of c.output_basis-basis.result.now ≡ output_basis circuit.bound.words (map elements_of bases) = c.output_basis-basis.ensures.basis ∙ ap (λ (b : Binding). output_basis b.words (map elements_of bases)) c.bound.ensures.bound in
+    let sound : IsSound circuit.net = c.bound.ensures.sound in
+    let well = is_well_formed k mul circuit bases c.requires.bases ring free sound c.bound.ensures.is_bound c.requires.bits in
+    let basis : elements_of c.output_basis-basis.result.now ≡ output_basis circuit.binding.words (map elements_of bases) = c.output_basis-basis.ensures.basis ∙ ap (λ (b : Binding). output_basis b.words (map elements_of bases)) c.bound.ensures.bound in
     (all_words_is_output (circuit_in k mul circuit bases) well c.in-Ok-to_words.poly.terms).0 c.in-Ok-to_words.ensures.words
 
 pub returns-in-Ok-to_words-clause-within : goal.returns-in-Ok-to_words-clause-within
@@ -115,12 +109,11 @@ returns-in-Ok-to_words-clause-within g c =
     let free = g.met.F.Field.no_zero_divisors c.args.field.now in
     let circuit : BoundNet = c.args.circuit.now in
     let bases : List Basis = c.args.bases.now in
-    let S : NetList → Type 0 = λ n. IsSound n in
-    let sound : IsSound circuit.net = subst S c.net.ensures.net c.gates-gates.ensures.sound in
-    let well = is_well_formed k mul circuit bases c.requires.bases ring free sound c.net.ensures.is_bound c.requires.bits in
-    let basis : elements_of c.output_basis-basis.result.now ≡ output_basis circuit.bound.words (map elements_of bases) = c.output_basis-basis.ensures.basis ∙ ap (λ (b : Binding). output_basis b.words (map elements_of bases)) c.bound.ensures.bound in
+    let sound : IsSound circuit.net = c.bound.ensures.sound in
+    let well = is_well_formed k mul circuit bases c.requires.bases ring free sound c.bound.ensures.is_bound c.requires.bits in
+    let basis : elements_of c.output_basis-basis.result.now ≡ output_basis circuit.binding.words (map elements_of bases) = c.output_basis-basis.ensures.basis ∙ ap (λ (b : Binding). output_basis b.words (map elements_of bases)) c.bound.ensures.bound in
     let L : List ℕ → Type 0 = λ e. IsOfStage k mul (BoundCut circuit e (length circuit.net.gates)) c.in-Ok.bits.terms in
     let last = subst L basis c.in-Ok.ensures.last in
     let W : List ℕ → Type 0 = λ e. AreAllWithin k mul (bound_cuts circuit e) c.args.bound in
     let cuts_within = subst W basis c.in-Ok.ensures.within in
-    both_within k mul (bound_cuts circuit (output_basis circuit.bound.words (map elements_of bases))) (word_listing (circuit_in k mul circuit bases)) c.args.bound cuts_within c.in-Ok-to_words.ensures.within
+    both_within k mul (bound_cuts circuit (output_basis circuit.binding.words (map elements_of bases))) (word_listing (circuit_in k mul circuit bases)) c.args.bound cuts_within c.in-Ok-to_words.ensures.within

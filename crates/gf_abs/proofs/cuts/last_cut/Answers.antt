@@ -1,7 +1,5 @@
 use Rattle.std.proofs.Common.{◌≡◌, ◌∙◌, ap, sym, subst, List, ℕ, length}
 use Rattle.net_core.specs.Lists.{Has}
-use Rattle.net_core.specs.NetList.{NetList}
-use Rattle.net_core.specs.Sound.{IsSound}
 use Rattle.net_words.specs.Binding.{Binding}
 use Rattle.gf_basis.specs.BasisParts.{elements_of}
 use Rattle.gf_basis.specs.declared.bases.Basis.{Basis}
@@ -22,14 +20,25 @@ reduce_bits-requires-clause-basis g c =
     let P : List Basis → Type 0 = λ bases. Has bases c.output_basis-basis.result.now in
     c.requires.ready.over c.output_basis-basis.result.now (subst P c.as_slice.ensures.value c.output_basis-basis.ensures.among)
 
+pub returns-in-Ok-clause-sound : goal.returns-in-Ok-clause-sound
+returns-in-Ok-clause-sound g c = c.bound.ensures.sound
+
+pub returns-in-Ok-clause-is_bound : goal.returns-in-Ok-clause-is_bound
+returns-in-Ok-clause-is_bound g c = c.bound.ensures.is_bound
+
+pub returns-in-Err-clause-sound : goal.returns-in-Err-clause-sound
+returns-in-Err-clause-sound g c = c.bound.ensures.sound
+
+pub returns-in-Err-clause-is_bound : goal.returns-in-Err-clause-is_bound
+returns-in-Err-clause-is_bound g c = c.bound.ensures.is_bound
+
 pub returns-in-Ok-clause-well : goal.returns-in-Ok-clause-well
 returns-in-Ok-clause-well g c =
     let degree = g.F.Ring.degree c.args.field.now in
     let mul = g.F.Ring.product c.args.field.now in
     let circuit = c.args.circuit.now in
     let bases = c.args.setting.now.bases.items in
-    let S : NetList → Type 0 = λ n. IsSound n in
-    let job : IsJob degree mul circuit bases = record { ring = g.met.F.Ring.laws c.args.field.now; nozero = g.met.F.Field.no_zero_divisors c.args.field.now; sound = subst S c.net.ensures.net c.gates-gates.ensures.sound; bound = c.net.ensures.is_bound; flat = c.net.ensures.flat; same = c.requires.taken.bits; over = c.requires.ready.over; long = c.requires.taken.long } in
+    let job : IsJob degree mul circuit bases = record { ring = g.met.F.Ring.laws c.args.field.now; nozero = g.met.F.Field.no_zero_divisors c.args.field.now; sound = c.bound.ensures.sound; bound = c.bound.ensures.is_bound; flat = c.bound.ensures.flat; same = c.requires.taken.bits; over = c.requires.ready.over; long = c.requires.taken.long } in
     well degree mul circuit bases job
 
 pub returns-in-Err-clause-well : goal.returns-in-Err-clause-well
@@ -38,8 +47,7 @@ returns-in-Err-clause-well g c =
     let mul = g.F.Ring.product c.args.field.now in
     let circuit = c.args.circuit.now in
     let bases = c.args.setting.now.bases.items in
-    let S : NetList → Type 0 = λ n. IsSound n in
-    let job : IsJob degree mul circuit bases = record { ring = g.met.F.Ring.laws c.args.field.now; nozero = g.met.F.Field.no_zero_divisors c.args.field.now; sound = subst S c.net.ensures.net c.gates-gates.ensures.sound; bound = c.net.ensures.is_bound; flat = c.net.ensures.flat; same = c.requires.taken.bits; over = c.requires.ready.over; long = c.requires.taken.long } in
+    let job : IsJob degree mul circuit bases = record { ring = g.met.F.Ring.laws c.args.field.now; nozero = g.met.F.Field.no_zero_divisors c.args.field.now; sound = c.bound.ensures.sound; bound = c.bound.ensures.is_bound; flat = c.bound.ensures.flat; same = c.requires.taken.bits; over = c.requires.ready.over; long = c.requires.taken.long } in
     well degree mul circuit bases job
 
 pub returns-in-Ok-clause-output : goal.returns-in-Ok-clause-output
@@ -48,9 +56,8 @@ returns-in-Ok-clause-output g c =
     let mul = g.F.Ring.product c.args.field.now in
     let circuit = c.args.circuit.now in
     let bases = c.args.setting.now.bases.items in
-    let S : NetList → Type 0 = λ n. IsSound n in
-    let job : IsJob degree mul circuit bases = record { ring = g.met.F.Ring.laws c.args.field.now; nozero = g.met.F.Field.no_zero_divisors c.args.field.now; sound = subst S c.net.ensures.net c.gates-gates.ensures.sound; bound = c.net.ensures.is_bound; flat = c.net.ensures.flat; same = c.requires.taken.bits; over = c.requires.ready.over; long = c.requires.taken.long } in
-    let basis : elements_of c.output_basis-basis.result.now ≡ output_basis circuit.bound.words (elements_of_each bases) =
+    let job : IsJob degree mul circuit bases = record { ring = g.met.F.Ring.laws c.args.field.now; nozero = g.met.F.Field.no_zero_divisors c.args.field.now; sound = c.bound.ensures.sound; bound = c.bound.ensures.is_bound; flat = c.bound.ensures.flat; same = c.requires.taken.bits; over = c.requires.ready.over; long = c.requires.taken.long } in
+    let basis : elements_of c.output_basis-basis.result.now ≡ output_basis circuit.binding.words (elements_of_each bases) =
     c.output_basis-basis.ensures.basis ∙ (λ i. output_basis (c.bound.ensures.bound i).words (elements_of_each (c.as_slice.ensures.value i))) in
     let L : List ℕ → Type 0 = λ e. IsOfStage degree mul (BoundCut circuit e (length circuit.net.gates)) c.in-Ok.poly.terms in
     output_of_last degree mul circuit bases job c.in-Ok.poly.terms (subst L basis c.in-Ok.ensures.last)
@@ -61,9 +68,8 @@ returns-in-Ok-clause-mix g c =
     let mul = g.F.Ring.product c.args.field.now in
     let circuit = c.args.circuit.now in
     let bases = c.args.setting.now.bases.items in
-    let S : NetList → Type 0 = λ n. IsSound n in
-    let job : IsJob degree mul circuit bases = record { ring = g.met.F.Ring.laws c.args.field.now; nozero = g.met.F.Field.no_zero_divisors c.args.field.now; sound = subst S c.net.ensures.net c.gates-gates.ensures.sound; bound = c.net.ensures.is_bound; flat = c.net.ensures.flat; same = c.requires.taken.bits; over = c.requires.ready.over; long = c.requires.taken.long } in
-    let basis : elements_of c.output_basis-basis.result.now ≡ output_basis circuit.bound.words (elements_of_each bases) =
+    let job : IsJob degree mul circuit bases = record { ring = g.met.F.Ring.laws c.args.field.now; nozero = g.met.F.Field.no_zero_divisors c.args.field.now; sound = c.bound.ensures.sound; bound = c.bound.ensures.is_bound; flat = c.bound.ensures.flat; same = c.requires.taken.bits; over = c.requires.ready.over; long = c.requires.taken.long } in
+    let basis : elements_of c.output_basis-basis.result.now ≡ output_basis circuit.binding.words (elements_of_each bases) =
     c.output_basis-basis.ensures.basis ∙ (λ i. output_basis (c.bound.ensures.bound i).words (elements_of_each (c.as_slice.ensures.value i))) in
     let L : List ℕ → Type 0 = λ e. IsOfStage degree mul (BoundCut circuit e (length circuit.net.gates)) c.in-Ok.poly.terms in
     no_words degree mul circuit bases job c.in-Ok.poly.terms (subst L basis c.in-Ok.ensures.last)
@@ -74,9 +80,8 @@ returns-in-Ok-clause-few g c =
     let mul = g.F.Ring.product c.args.field.now in
     let circuit = c.args.circuit.now in
     let bases = c.args.setting.now.bases.items in
-    let S : NetList → Type 0 = λ n. IsSound n in
-    let job : IsJob degree mul circuit bases = record { ring = g.met.F.Ring.laws c.args.field.now; nozero = g.met.F.Field.no_zero_divisors c.args.field.now; sound = subst S c.net.ensures.net c.gates-gates.ensures.sound; bound = c.net.ensures.is_bound; flat = c.net.ensures.flat; same = c.requires.taken.bits; over = c.requires.ready.over; long = c.requires.taken.long } in
-    let basis : elements_of c.output_basis-basis.result.now ≡ output_basis circuit.bound.words (elements_of_each bases) =
+    let job : IsJob degree mul circuit bases = record { ring = g.met.F.Ring.laws c.args.field.now; nozero = g.met.F.Field.no_zero_divisors c.args.field.now; sound = c.bound.ensures.sound; bound = c.bound.ensures.is_bound; flat = c.bound.ensures.flat; same = c.requires.taken.bits; over = c.requires.ready.over; long = c.requires.taken.long } in
+    let basis : elements_of c.output_basis-basis.result.now ≡ output_basis circuit.binding.words (elements_of_each bases) =
     c.output_basis-basis.ensures.basis ∙ (λ i. output_basis (c.bound.ensures.bound i).words (elements_of_each (c.as_slice.ensures.value i))) in
     let L : List ℕ → Type 0 = λ e. IsOfStage degree mul (BoundCut circuit e (length circuit.net.gates)) c.in-Ok.poly.terms in
     let W : List ℕ → Type 0 = λ e. AreAllWithin degree mul (bound_cuts circuit e) c.args.bound in
@@ -88,7 +93,7 @@ returns-in-Ok-clause-within g c =
     let mul = g.F.Ring.product c.args.field.now in
     let circuit = c.args.circuit.now in
     let bases = c.args.setting.now.bases.items in
-    let basis : elements_of c.output_basis-basis.result.now ≡ output_basis circuit.bound.words (elements_of_each bases) =
+    let basis : elements_of c.output_basis-basis.result.now ≡ output_basis circuit.binding.words (elements_of_each bases) =
     c.output_basis-basis.ensures.basis ∙ (λ i. output_basis (c.bound.ensures.bound i).words (elements_of_each (c.as_slice.ensures.value i))) in
     let W : List ℕ → Type 0 = λ e. AreAllWithin degree mul (bound_cuts circuit e) c.args.bound in
     subst W basis c.in-Ok.ensures.within
@@ -99,7 +104,7 @@ returns-in-Err-clause-fault g c =
     let mul = g.F.Ring.product c.args.field.now in
     let circuit = c.args.circuit.now in
     let bases = c.args.setting.now.bases.items in
-    let basis : elements_of c.output_basis-basis.result.now ≡ output_basis circuit.bound.words (elements_of_each bases) =
+    let basis : elements_of c.output_basis-basis.result.now ≡ output_basis circuit.binding.words (elements_of_each bases) =
     c.output_basis-basis.ensures.basis ∙ (λ i. output_basis (c.bound.ensures.bound i).words (elements_of_each (c.as_slice.ensures.value i))) in
     let R : List ℕ → Type 0 = λ e. IsRefusal degree mul (bound_cuts circuit e) c.args.bound c.in-Err.fault in
     subst R basis c.in-Err.ensures.fault

@@ -7,20 +7,8 @@ use Rattle.gf_abs.proofs.StatusLemmas.{answer_status}
 use Rattle.gf_abs.proofs.headline.each_fault_is_one_line.Goals as goal
 
 statuses : (fault : Fault) → (fault_status fault ≡ 2) ⊎ (fault_status fault ≡ 3)
-statuses faults.Words = inl refl
-statuses (faults.File fault) = inl refl
-statuses (faults.Signature fault) = inl refl
-statuses (faults.Netlist file fault) = inl refl
-statuses (faults.Specification fault) = inl refl
-statuses (faults.Value fault) = inl refl
-statuses (faults.SecondSignature fault) = inl refl
-statuses faults.Fields = inl refl
-statuses faults.NotSmall = inl refl
-statuses (faults.Table fault) = inl refl
-statuses (faults.Certificate fault) = inl refl
-statuses (faults.Form kind) = inl refl
-statuses (faults.Composition fault) = inl refl
 statuses (faults.Stage fault) = inr refl
+statuses fault = inl refl
 
 pub returns-clause-reply : goal.returns-clause-reply
 returns-clause-reply c = answer_status

@@ -1,6 +1,4 @@
 use Rattle.std.proofs.Common.{sym, subst, List, length}
-use Rattle.net_core.specs.NetList.{NetList}
-use Rattle.net_core.specs.Sound.{IsSound}
 use Rattle.gf_basis.specs.declared.bases.Basis.{Basis}
 use Rattle.circuit_model.specs.Bases.{circuit_in}
 use Rattle.stage_model.specs.Listing.{AreAllWithin, IsRefusal}
@@ -40,8 +38,7 @@ returns-in-Ok-clause-named g c =
     let circuit = c.args.circuit.now in
     let bases = c.args.setting.now.bases.items in
     let P : List Basis → Type 0 = λ bases. IsOfStage degree mul (IsMix (circuit_in degree mul circuit bases) (length (circuit_in degree mul circuit bases).words)) c.in-Ok.poly.terms in
-    let S : NetList → Type 0 = λ n. IsSound n in
-    let job : IsJob degree mul circuit bases = record { ring = g.met.F.Ring.laws c.args.field.now; nozero = g.met.F.Field.no_zero_divisors c.args.field.now; sound = subst S c.net.ensures.net c.gates-gates.ensures.sound; bound = c.net.ensures.is_bound; flat = c.net.ensures.flat; same = c.requires.taken.bits; over = c.requires.ready.over; long = c.requires.taken.long } in
+    let job : IsJob degree mul circuit bases = record { ring = g.met.F.Ring.laws c.args.field.now; nozero = g.met.F.Field.no_zero_divisors c.args.field.now; sound = c.requires.sound; bound = c.requires.is_bound; flat = c.requires.is_bound.flat.latches; same = c.requires.taken.bits; over = c.requires.ready.over; long = c.requires.taken.long } in
     terms_named degree mul circuit bases job c.args.setting.now.signature.words c.in-Ok.poly.terms (subst P c.as_slice-bases.ensures.value c.in-Ok.ensures.words)
 
 pub returns-in-Ok-clause-words_named : goal.returns-in-Ok-clause-words_named
@@ -51,8 +48,7 @@ returns-in-Ok-clause-words_named g c =
     let circuit = c.args.circuit.now in
     let bases = c.args.setting.now.bases.items in
     let P : List Basis → Type 0 = λ bases. IsOfStage degree mul (IsMix (circuit_in degree mul circuit bases) (length (circuit_in degree mul circuit bases).words)) c.in-Ok.poly.terms in
-    let S : NetList → Type 0 = λ n. IsSound n in
-    let job : IsJob degree mul circuit bases = record { ring = g.met.F.Ring.laws c.args.field.now; nozero = g.met.F.Field.no_zero_divisors c.args.field.now; sound = subst S c.net.ensures.net c.gates-gates.ensures.sound; bound = c.net.ensures.is_bound; flat = c.net.ensures.flat; same = c.requires.taken.bits; over = c.requires.ready.over; long = c.requires.taken.long } in
+    let job : IsJob degree mul circuit bases = record { ring = g.met.F.Ring.laws c.args.field.now; nozero = g.met.F.Field.no_zero_divisors c.args.field.now; sound = c.requires.sound; bound = c.requires.is_bound; flat = c.requires.is_bound.flat.latches; same = c.requires.taken.bits; over = c.requires.ready.over; long = c.requires.taken.long } in
     mix_words_named degree mul circuit bases job c.args.setting.now.signature.words c.in-Ok.poly.terms c.requires.taken.roles (subst P c.as_slice-bases.ensures.value c.in-Ok.ensures.words)
 
 pub returns-in-Ok-clause-within : goal.returns-in-Ok-clause-within

@@ -2,7 +2,7 @@ use Rattle.std.proofs.Common.{◌≡◌, ℕ, ◌<◌, ◌^◌, ◌∙◌, refl,
 use Rattle.std.proofs.Math.ListN.{length-replicate}
 use Rattle.gf_field.specs.Trace.{frobenius}
 use Rattle.gf_field.specs.laws.TraceLaws.{frobenius_next}
-use Rattle.gf_field.proofs.Copies.{zeros, set_rest}
+use Rattle.gf_field.proofs.CopyLemmas.{zeros, set_rest}
 use Rattle.irreducible.proofs.MatrixLaws.{set_more}
 use Rattle.gf_basis.proofs.duals.conjugates.Goals as goal
 

@@ -1,6 +1,6 @@
 use Rattle.std.proofs.Common.{ℕ, ◌∙◌, refl, arith, length-set}
 use Rattle.std.proofs.Math.ListN.{length-replicate}
-use Rattle.gf_field.proofs.Copies.{copied_more, copied_all, zeros, set_rest}
+use Rattle.gf_field.proofs.CopyLemmas.{copied_more, copied_all, zeros, set_rest}
 use Rattle.gf_field.proofs.elements.filled.Goals as goal
 
 pub loop-i-init : goal.loop-i-init

@@ -1,4 +1,4 @@
-use Rattle.gf_field.proofs.Shifts.{below_from_shift, shift_from_below}
+use Rattle.gf_field.proofs.ShiftLemmas.{below_from_shift, shift_from_below}
 use Rattle.gf_field.proofs.elements.is_element.Goals as goal
 
 pub returns-else-k-ge64 : goal.returns-else-k-ge64

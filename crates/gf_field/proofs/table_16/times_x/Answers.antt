@@ -1,5 +1,5 @@
 use Rattle.gf_field.proofs.PartLaws.{element_x}
-use Rattle.gf_field.proofs.TableSteps.{x_then, x_else}
+use Rattle.gf_field.proofs.TableStepLemmas.{x_then, x_else}
 use Rattle.gf_field.proofs.table_16.times_x.Goals as goal
 
 pub returns-then-a-degree-eq1-clause-product : goal.returns-then-a-degree-eq1-clause-product

@@ -1,6 +1,6 @@
 use Rattle.std.proofs.Common.{◌≡◌, ℕ, ◌∙◌, ◌<◌, ◌^◌, ◌+◌, arith, length, length-set, get_or, pow_pos, refl}
 use Rattle.std.proofs.Math.ListN.{length-replicate}
-use Rattle.gf_field.proofs.Copies.{zeros}
+use Rattle.gf_field.proofs.CopyLemmas.{zeros}
 use Rattle.irreducible.proofs.MatrixLaws.{set_more}
 use Rattle.gf_iso.proofs.StepLaws.{set_all, kept_low, more_high}
 use Rattle.gf_iso.proofs.isos.images.Goals as goal

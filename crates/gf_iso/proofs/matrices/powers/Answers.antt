@@ -2,7 +2,7 @@ use Rattle.std.proofs.Common.{◌≡◌, ℕ, ◌∙◌, ◌<◌, ◌^◌, arith
 use Rattle.std.proofs.Math.ListN.{length-replicate}
 use Rattle.gf_field.specs.Power.{power}
 use Rattle.gf_field.specs.laws.PowerLaws.{one_below}
-use Rattle.gf_field.proofs.Copies.{zeros, set_rest}
+use Rattle.gf_field.proofs.CopyLemmas.{zeros, set_rest}
 use Rattle.irreducible.proofs.MatrixLaws.{set_more}
 use Rattle.gf_iso.proofs.CodeLaws.{power_next}
 use Rattle.gf_iso.proofs.matrices.powers.Goals as goal

@@ -2,8 +2,9 @@ use Rattle.std.proofs.Common.{◌≡◌, ◌∙◌, ◌<◌, ◌≤◌, All, sym
 use Rattle.std.specs.Prelude.{slice_get, slice_index}
 use Rattle.std.proofs.lemmas.Option.{slice_get-get_or}
 use Rattle.graph_core.specs.Graph.{edges, Graph}
+use Rattle.graph_core.proofs.GeneralLemmas.{all_from}
 use Rattle.instance_order.specs.LevelOrder.{level_over}
-use Rattle.instance_order.proofs.LevelLemmas.{all_from, all_levels, one_level}
+use Rattle.instance_order.proofs.LevelLemmas.{all_levels, one_level}
 use Rattle.instance_order.proofs.levels.levels.Goals as goal
 
 pub edges-requires : goal.edges-requires

@@ -1,6 +1,6 @@
 use Rattle.std.proofs.Common.{map}
 use Rattle.instance_poly.specs.Instance.{block_terms, feed_values}
-use Rattle.instance_poly.specs.private.Reached.{IsSummed}
+use Rattle.instance_poly.proofs.Summed.{IsSummed}
 use Rattle.instance_poly.proofs.instance.instance_poly.Given as goal
 
 abbrev pub invariant-loop-s : goal.invariant-loop-s

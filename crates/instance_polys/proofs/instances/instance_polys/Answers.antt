@@ -3,6 +3,7 @@ use Rattle.std.specs.Prelude.{slice_get, slice_index}
 use Rattle.std.proofs.lemmas.List.{map-set}
 use Rattle.std.proofs.lemmas.Option.{slice_get-get_or}
 use Rattle.graph_core.proofs.ListLemmas.{got_read}
+use Rattle.graph_core.proofs.GeneralLemmas.{length_map as mapped_long}
 use Rattle.poly_mixed.specs.Polynomial.{value, IsPolynomialOf, Terms}
 use Rattle.poly_mixed.specs.declared.poly.Poly.{Poly}
 use Rattle.stage_model.specs.Listing.{AreAllWithin, IsRefusal}
@@ -11,7 +12,7 @@ use Rattle.instance_poly.specs.InstanceListing.{instance_listing}
 use Rattle.block_feeds.specs.declared.feeder.Feeder.{Feeder}
 use Rattle.instance_polys.specs.Words.{values_of, IsBlockFor, IsFeedAmong}
 use Rattle.instance_polys.specs.Instances.{IsReady, IsRefused}
-use Rattle.instance_polys.proofs.FeedLemmas.{mapped_at, mapped_long}
+use Rattle.instance_polys.proofs.FeedLemmas.{mapped_at}
 use Rattle.instance_polys.proofs.OrderLemmas.{none_done, one_done, refused}
 use Rattle.instance_polys.proofs.instances.instance_polys.Goals as goal
 

@@ -1,7 +1,7 @@
 use Rattle.std.proofs.Common.{rules, ◌≡◌, ◌∙◌, ap, sym, subst, ℕ, List, map}
 use Rattle.poly_mixed.specs.Polynomial.{Terms}
 use Rattle.poly_mixed.proofs.FieldLaws.{field_of}
-use Rattle.poly_mixed.proofs.Simple.{reduced_nothing}
+use Rattle.poly_mixed.proofs.SimpleLemmas.{reduced_nothing}
 use Rattle.stage_model.specs.Listing.{IsRefusal}
 use Rattle.instance_poly.specs.Instance.{block_terms, feed_values, AreReduced}
 use Rattle.instance_poly.specs.InstanceListing.{instance_listing}

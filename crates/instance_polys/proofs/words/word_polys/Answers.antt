@@ -1,5 +1,6 @@
 use Rattle.std.proofs.Common.{rules, ◌∙◌, ap, ℕ, map}
-use Rattle.instance_polys.proofs.FeedLemmas.{mapped_long, mapped_more, words_more}
+use Rattle.graph_core.proofs.GeneralLemmas.{length_map as mapped_long}
+use Rattle.instance_polys.proofs.FeedLemmas.{mapped_more, words_more}
 use Rattle.instance_polys.proofs.words.word_polys.Goals as goal
 
 pub loop-word-preserved : goal.loop-word-preserved

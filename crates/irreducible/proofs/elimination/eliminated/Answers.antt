@@ -1,7 +1,7 @@
 use Rattle.std.proofs.Common.{ℕ, ◌∙◌, arith, pow_pos, pow-suc, add-one, length-set, replicate}
 use Rattle.std.proofs.Math.ListN.{length-replicate}
 use Rattle.std.proofs.lemmas.Nat.{one_shl}
-use Rattle.gf_field.proofs.Copies.{zeros}
+use Rattle.gf_field.proofs.CopyLemmas.{zeros}
 use Rattle.irreducible.proofs.PivotLaws.{rank_none, rank_kept, rank_more}
 use Rattle.irreducible.proofs.MatrixLaws.{choices_start, choices_more}
 use Rattle.irreducible.proofs.KernelLemmas.{kernel_start, kernel_kept, kernel_more, low_kept, low_more}

@@ -2,7 +2,7 @@ use Rattle.std.proofs.Common.{◌∙◌, sym, inl, inr, refl}
 use Rattle.std.proofs.lemmas.List.{length-map}
 use Rattle.gf_basis.specs.BasisParts.{elements_of}
 use Rattle.job_input.specs.Setting.{elements_of_each}
-use Rattle.job_input.proofs.SettingWords.{bases_words, bases_long, block_binds}
+use Rattle.job_input.proofs.SettingWordLemmas.{bases_words, bases_long, block_binds}
 use Rattle.job_input.proofs.setting.setting_over.Goals as goal
 
 pub returns-in-Ok-judge_feeds-clause-ready : goal.returns-in-Ok-judge_feeds-clause-ready

@@ -2,7 +2,7 @@ use Rattle.std.proofs.Common.{refl}
 use Rattle.net_signature.proofs.FeedLemmas.{no_upper}
 use Rattle.job_input.specs.Setting.{field_value}
 use Rattle.job_input.proofs.FieldLemmas.{field_made}
-use Rattle.job_input.proofs.SettingWords.{text_said}
+use Rattle.job_input.proofs.SettingWordLemmas.{text_said}
 use Rattle.job_input.proofs.SignedLemmas.{signed_is, text_fails, field_fails}
 use Rattle.job_input.proofs.signed.signed_of.Goals as goal
 

@@ -1,5 +1,5 @@
 use Rattle.std.proofs.Common.{◌≡◌, arith, length, length-drop}
-use Rattle.job_io.proofs.Known.{Appends-slice}
+use Rattle.job_io.proofs.KnownLemmas.{Appends-slice}
 use Rattle.job_io.proofs.sink.put_all.Goals as goal
 
 pub loop-done-preserved : goal.loop-done-preserved

@@ -1,5 +1,5 @@
-use Rattle.net_core.specs.Levelled.{AreRight}
 use Rattle.net_core.specs.Value.{HasSourceBits}
+use Rattle.net_core.proofs.RightGates.{AreRight}
 use Rattle.job_plain.proofs.settle.set_gates.Given as goal
 
 abbrev pub invariant-loop-position : goal.invariant-loop-position

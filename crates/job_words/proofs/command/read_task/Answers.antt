@@ -1,5 +1,5 @@
 use Rattle.std.proofs.Common.{◌≡◌, codes, rules}
-use Rattle.job_words.proofs.ComposeWordLemmas.{no_compose}
+use Rattle.job_words.proofs.OneCommandLemmas.{no_compose}
 use Rattle.job_words.proofs.command.read_task.Goals as goal
 
 pub returns-in-None-over_blif-clause-none : goal.returns-in-None-over_blif-clause-none

@@ -2,21 +2,21 @@ use Rattle.std.proofs.Common.{◌≡◌, ◌<◌, ◌∙◌, ap, map, length, So
 use Rattle.std.specs.Prelude.{slice_get}
 use Rattle.std.specs.Option.{option_map}
 use Rattle.std.proofs.lemmas.Option.{slice_get-map}
-use Rattle.graph_core.proofs.ListLemmas.{got_read}
+use Rattle.graph_core.proofs.ListLemmas.{got_read, get_below as some_at}
 use Rattle.net_words.specs.Binding.{Binding}
 use Rattle.gf_basis.specs.BasisParts.{elements_of}
 use Rattle.circuit_model.specs.Flat.{word_of}
-use Rattle.lift_table.proofs.CircuitWordLemmas.{some_at, one_word}
+use Rattle.lift_table.proofs.CircuitWordLemmas.{one_word}
 use Rattle.lift_table.proofs.circuit_words.circuit_words.Goals as goal
 
 pub add_word-requires-clause-basis : goal.add_word-requires-clause-basis
 add_word-requires-clause-basis g c =
-    let count : c.words-w-end.result ≡ length c.args.circuit.now.bound.words = c.words-w-end.ensures.count ∙ ap (λ (b : Binding). length b.words) c.bound-bound.ensures.bound in
+    let count : c.words-w-end.result ≡ length c.args.circuit.now.binding.words = c.words-w-end.ensures.count ∙ ap (λ (b : Binding). length b.words) c.bound-bound.ensures.bound in
     c.requires.each c.index-bases-w.result (c.loop-w.w, got_read c.args.bases.now c.loop-w.w c.index-bases-w.result (omega (arith, c.requires.long, count, c.loop-w-test.true)) c.index-bases-w.is)
 
 pub loop-w-preserved : goal.loop-w-preserved
 loop-w-preserved g c =
-    let words = c.args.circuit.now.bound.words in
+    let words = c.args.circuit.now.binding.words in
     let bases = c.args.bases.now in
     let w = c.loop-w.w in
     let count : c.words-w-end.result ≡ length words = c.words-w-end.ensures.count ∙ ap (λ (b : Binding). length b.words) c.bound-bound.ensures.bound in

@@ -8,7 +8,7 @@ use Rattle.lift_table.proofs.circuit_words.nets_of.Goals as goal
 
 pub loop-place-preserved : goal.loop-place-preserved
 loop-place-preserved c word got =
-    let bound = c.args.circuit.now.bound in
+    let bound = c.args.circuit.now.binding in
     let place = c.loop-place.place in
     let long : length word.nets ≡ bound.k = All_has (λ (u : BoundWord). length u.nets ≡ bound.k) bound.words word c.bound-bound.ensures.is_bound.flat.named (c.args.w, got) in
     let bits : c.k-place-end.result ≡ bound.k = c.k-place-end.ensures.bits ∙ ap (λ (b : Binding). b.k) c.bound-bound.ensures.bound in
@@ -20,7 +20,7 @@ loop-place-preserved c word got =
 
 pub returns : goal.returns
 returns c word got =
-    let bound = c.args.circuit.now.bound in
+    let bound = c.args.circuit.now.binding in
     let long : length word.nets ≡ bound.k = All_has (λ (u : BoundWord). length u.nets ≡ bound.k) bound.words word c.bound-bound.ensures.is_bound.flat.named (c.args.w, got) in
     let bits : c.k-place-end.result ≡ bound.k = c.k-place-end.ensures.bits ∙ ap (λ (b : Binding). b.k) c.bound-bound.ensures.bound in
     c.loop-place.invariant word got ∙ take_all c.loop-place.place word.nets (omega (arith, long, bits, c.loop-place-test.false))

@@ -5,4 +5,4 @@ use Rattle.net_words.specs.declared.word.Role.TheVariants.{Output}
 use Rattle.lift_table.proofs.circuit_words.output_place.Given as goal
 
 abbrev pub invariant-loop-w : goal.invariant-loop-w
-invariant-loop-w l = (v : ℕ) (word : BoundWord) → v < l.w → slice_get l.circuit.bound.words v ≡ Some word → word.role ≢ Output
+invariant-loop-w l = (v : ℕ) (word : BoundWord) → v < l.w → slice_get l.circuit.binding.words v ≡ Some word → word.role ≢ Output

@@ -2,12 +2,12 @@ use Rattle.std.proofs.Common.{◌≡◌, ◌∙◌, ap, sym, map, Some, arith}
 use Rattle.std.specs.Prelude.{slice_get}
 use Rattle.std.specs.Option.{option_map}
 use Rattle.std.proofs.lemmas.Option.{slice_get-map}
-use Rattle.graph_core.proofs.ListLemmas.{got_read}
+use Rattle.graph_core.proofs.ListLemmas.{got_read, get_below as some_at}
 use Rattle.net_words.specs.BoundTo.{output_bits}
 use Rattle.net_words.specs.declared.word.Role.TheVariants.{Output}
 use Rattle.gf_basis.specs.BasisParts.{elements_of}
 use Rattle.circuit_model.specs.OfBinding.{output_basis}
-use Rattle.lift_table.proofs.CircuitWordLemmas.{some_at, at_output}
+use Rattle.lift_table.proofs.CircuitWordLemmas.{at_output}
 use Rattle.lift_table.proofs.circuit_words.output_word.Goals as goal
 
 pub copied-requires : goal.copied-requires
@@ -16,7 +16,7 @@ copied-requires g c =
 
 pub returns-clause-word : goal.returns-clause-word
 returns-clause-word g c =
-    let words = c.args.circuit.now.bound.words in
+    let words = c.args.circuit.now.binding.words in
     let bases = c.args.bases.now in
     let w = c.output_place-w.result in
     let word = some_at words w c.output_place-w.ensures.within in

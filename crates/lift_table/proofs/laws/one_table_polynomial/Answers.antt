@@ -3,8 +3,8 @@ use Rattle.gf_field.specs.laws.RootsLaws.{HasFewRoots-from_field}
 use Rattle.poly_mixed.specs.Polynomial.{value}
 use Rattle.lift_table.specs.Table.{row_of}
 use Rattle.poly_mixed.proofs.FieldLaws.{field_of}
-use Rattle.poly_mixed.proofs.Roots.{independent}
-use Rattle.poly_mixed.proofs.Uniqueness.{unique}
+use Rattle.poly_mixed.proofs.RootLemmas.{independent}
+use Rattle.poly_mixed.proofs.UniquenessLemmas.{unique}
 use Rattle.lift_table.proofs.PolynomialLemmas.{same_value}
 use Rattle.lift_table.proofs.laws.one_table_polynomial.Goals as goal
 

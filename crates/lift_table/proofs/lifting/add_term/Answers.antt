@@ -2,7 +2,7 @@ use Rattle.std.proofs.Common.{sym, subst, ◌∙◌, ap, ℕ}
 use Rattle.std.specs.List.{AllByRecursion}
 use Rattle.std.proofs.lemmas.Result.{on_ok_weaker}
 use Rattle.poly_mixed.specs.Polynomial.{Terms, IsReduced, value}
-use Rattle.poly_mixed.proofs.Simple.{no_ranks_rise}
+use Rattle.poly_mixed.proofs.SimpleLemmas.{no_ranks_rise}
 use Rattle.lift_table.specs.private.Lifting.{IsOfWords}
 use Rattle.lift_table.proofs.LiftingLemmas.{added_terms, no_word_added, reduced_with, value_with, value_without}
 use Rattle.lift_table.proofs.lifting.add_term.Goals as goal

@@ -2,7 +2,8 @@ use Rattle.std.proofs.Common.{rules, ◌≡◌, ◌<◌, ap, refl, subst, sym, l
 use Rattle.std.proofs.lemmas.Option.{get_or_from_slice_get}
 use Rattle.net_core.specs.NetList.{NetList, empty, nets}
 use Rattle.net_aiger.specs.Nets.{variable_made, variables_made}
-use Rattle.net_aiger.specs.private.Making.{AwaitsPort, IsFaultOf, next_port}
+use Rattle.net_aiger.specs.private.Making.{AwaitsPort, IsFaultOf}
+use Rattle.net_aiger.proofs.PortOrder.{next_port}
 use Rattle.net_aiger.proofs.AwaitLemmas.{awaits_start, awaits_variable, outputs_awaited, port_is_new}
 use Rattle.net_aiger.proofs.MakeLemmas.{fault_next, made_next}
 use Rattle.net_aiger.proofs.make.make_variables.Goals as goal

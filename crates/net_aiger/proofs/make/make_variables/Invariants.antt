@@ -1,7 +1,8 @@
 use Rattle.std.proofs.Common.{◌≡◌, drop}
 use Rattle.net_core.specs.NetList.{empty, nets}
 use Rattle.net_aiger.specs.Nets.{variables_made}
-use Rattle.net_aiger.specs.private.Making.{AwaitsPort, next_port}
+use Rattle.net_aiger.specs.private.Making.{AwaitsPort}
+use Rattle.net_aiger.proofs.PortOrder.{next_port}
 use Rattle.net_aiger.proofs.make.make_variables.Given as goal
 
 -- what the variables that are left make after what was made, all make

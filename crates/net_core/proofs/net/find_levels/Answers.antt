@@ -4,6 +4,9 @@ use Rattle.net_core.specs.Driving.{IsLoopFault}
 use Rattle.net_core.proofs.LoopLemmas.{sound_by_levels}
 use Rattle.net_core.proofs.net.find_levels.Goals as goal
 
+pub loop_fault-requires-clause-inside : goal.loop_fault-requires-clause-inside
+loop_fault-requires-clause-inside c = c.nets_in_order.ensures.inside
+
 pub loop_fault-requires-clause-found : goal.loop_fault-requires-clause-found
 loop_fault-requires-clause-found c =
     let P : CycleFault → Type 0 = λ fault. IsLoopFault c.args.net.now fault in

@@ -4,10 +4,10 @@ use Rattle.net_core.proofs.net.first_net.Goals as goal
 
 pub bounds-nets-0 : goal.bounds-nets-0
 bounds-nets-0 c =
-    let first = first_of_loop c.args.net.now c.args.nets.now c.nets-count.ensures.inside c.requires in
+    let first = first_of_loop c.args._net.now c.args.nets.now c.requires.inside c.requires.found in
     slice_get_within c.args.nets.now 0 first.0 first.1
 
 pub returns-clause-within : goal.returns-clause-within
 returns-clause-within c =
-    let first = first_of_loop c.args.net.now c.args.nets.now c.nets-count.ensures.inside c.requires in
+    let first = first_of_loop c.args._net.now c.args.nets.now c.requires.inside c.requires.found in
     rw (get_or_from_slice_get c.args.nets.now 0 first.0 0 first.1) first.2

@@ -1,5 +1,5 @@
-use Rattle.net_core.specs.Levelled.{AreRight}
 use Rattle.net_core.specs.Value.{HasValues}
+use Rattle.net_core.proofs.RightGates.{AreRight}
 use Rattle.net_core.proofs.valuation.values_by.Given as goal
 
 abbrev pub invariant-loop-position : goal.invariant-loop-position

@@ -1,6 +1,6 @@
 use Rattle.std.proofs.Common.{◌≡◌, ◌∙◌, ℕ, List, length, map, sym}
+use Rattle.graph_core.proofs.GeneralLemmas.{length_map as map_long}
 use Rattle.net_words.specs.declared.feed.FeedText.{FeedText}
-use Rattle.net_plan.proofs.LabelLemmas.{map_long}
 use Rattle.net_make.specs.Ports.{inputs_of, outer_names, outputs_of}
 use Rattle.net_make.specs.Prefix.{prefix_of}
 use Rattle.net_make.proofs.MakeLemmas.{inputs_at, maker_at, makeable_at, made_at}

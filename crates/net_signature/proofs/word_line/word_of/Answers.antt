@@ -1,6 +1,6 @@
 use Rattle.std.proofs.Common.{◌∙◌, List, ℕ, refl, map, Bor, length, subst, sym}
+use Rattle.graph_core.proofs.GeneralLemmas.{length_map as map-long}
 use Rattle.net_words.specs.declared.word.WordText.{WordText}
-use Rattle.net_words.proofs.ZipLemmas.{map-long}
 use Rattle.net_signature.specs.Statement.{IsNetCount}
 use Rattle.net_signature.proofs.WordLemmas.{word_ok, basis_err}
 use Rattle.net_signature.proofs.word_line.word_of.Goals as goal

@@ -19,7 +19,7 @@ returns-in-Err-check_started-clause-fits c =
     (rw c.new-taken.ensures.items at c.in-Ok.ensures.fits)
     (rw c.deref-3.ensures.value at c.in-Ok-bind_feeds.ensures.fits)
     (rw (c.deref-5.ensures.value, c.deref-6.ensures.value) at c.in-Ok-check_covered.ensures)
-    (rw (c.deref-8.ensures.value, c.latches.ensures.latches) at c.in-Err-check_started.ensures)
+    (rw (c.deref-8.ensures.value, c.latches-held.ensures.latches) at c.in-Err-check_started.ensures)
 
 pub ordered-requires : goal.ordered-requires
 ordered-requires c =
@@ -28,9 +28,9 @@ ordered-requires c =
 pub returns-clause-bound : goal.returns-clause-bound
 returns-clause-bound c =
     let is : BindingOf c.args.net.now c.args.words.now c.args.feeds.now (Ok c.in_ok-bound.bound) = search rules in
-    bound_to c.args.net.now c.requires.words.0 c.args.words.now c.args.feeds.now c.in_ok-bound.bound c.latches.ensures.sound c.requires.words.1 c.requires.words.2 is
+    bound_to c.args.net.now c.requires.words.0 c.args.words.now c.args.feeds.now c.in_ok-bound.bound c.latches-held.ensures.sound c.requires.words.1 c.requires.words.2 is
 
 pub returns-clause-one_cycle : goal.returns-clause-one_cycle
 returns-clause-one_cycle c =
     let is : BindingOf c.args.net.now c.args.words.now c.args.feeds.now (Ok c.in_ok-bound.bound) = search rules in
-    flat_bound c.args.net.now c.in_ok-bound.bound (bound_to c.args.net.now c.requires.words.0 c.args.words.now c.args.feeds.now c.in_ok-bound.bound c.latches.ensures.sound c.requires.words.1 c.requires.words.2 is)
+    flat_bound c.args.net.now c.in_ok-bound.bound (bound_to c.args.net.now c.requires.words.0 c.args.words.now c.args.feeds.now c.in_ok-bound.bound c.latches-held.ensures.sound c.requires.words.1 c.requires.words.2 is)

@@ -3,4 +3,4 @@ use Rattle.net_words.proofs.VariableLemmas.{words_few}
 use Rattle.net_words.proofs.rebinding.rebound_word.Goals as goal
 
 pub part-nets-requires-clause-few : goal.part-nets-requires-clause-few
-part-nets-requires-clause-few c = omega (arith, c.words.ensures.count, words_few c.args.bound.now c.words.ensures.is_binding)
+part-nets-requires-clause-few c = omega (arith, c.words.ensures.count, words_few c.args.binding.now c.words.ensures.is_binding)

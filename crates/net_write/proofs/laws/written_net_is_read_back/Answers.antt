@@ -1,4 +1,4 @@
-use Rattle.net_write.proofs.RoundTrip.{is_flat, is_read, is_same, no_fault, no_flat_fault}
+use Rattle.net_write.proofs.RoundTripLemmas.{is_flat, is_read, is_same, no_fault, no_flat_fault}
 use Rattle.net_write.proofs.laws.written_net_is_read_back.Goals as goal
 
 pub returns-clause-read : goal.returns-clause-read

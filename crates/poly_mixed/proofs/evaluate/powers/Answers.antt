@@ -2,7 +2,7 @@ use Rattle.poly_mixed.proofs.FieldLaws.{field_of}
 use Rattle.std.proofs.Common.{◌≡◌, ◌≤◌, ℕ, List, [], length, drop, sym, arith}
 use Rattle.std.proofs.Math.ListN.{drop_of_length-le}
 use Rattle.poly_mixed.specs.Polynomial.{powers}
-use Rattle.poly_mixed.proofs.Values.{one_element}
+use Rattle.poly_mixed.proofs.ValueLemmas.{one_element}
 use Rattle.poly_mixed.proofs.evaluate.powers.Goals as goal
 
 past : (mul : ℕ → ℕ → ℕ) (n : ℕ) (es ws : List ℕ) → length es ≤ n → 1 ≡ powers mul (drop n es) (drop n ws)

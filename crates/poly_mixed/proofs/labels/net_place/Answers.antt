@@ -1,6 +1,6 @@
 use Rattle.std.proofs.Common.{ℕ, Option, sym, ◌∙◌, subst, arith}
 use Rattle.poly_mixed.specs.Scan.{IsValue}
-use Rattle.poly_mixed.proofs.Scans.{none_of_large, net_at_place}
+use Rattle.poly_mixed.proofs.ScanLemmas.{none_of_large, net_at_place}
 use Rattle.poly_mixed.proofs.labels.net_place.Goals as goal
 
 pub returns-in_default : goal.returns-in_default

@@ -1,4 +1,4 @@
-use Rattle.poly_mixed.proofs.OneOutcome.{one_outcome}
+use Rattle.poly_mixed.proofs.OneOutcomeLemmas.{one_outcome}
 use Rattle.poly_mixed.proofs.laws.one_poly_or_fault.Goals as goal
 
 pub returns : goal.returns

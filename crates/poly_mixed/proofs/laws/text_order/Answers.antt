@@ -1,4 +1,4 @@
-use Rattle.poly_mixed.proofs.Orders.{text_by_exponents, IsWithin-from_ranks}
+use Rattle.poly_mixed.proofs.OrderLemmas.{text_by_exponents, IsWithin-from_ranks}
 use Rattle.poly_mixed.proofs.laws.text_order.Goals as goal
 
 pub returns : goal.returns

@@ -1,5 +1,5 @@
 use Rattle.poly_mixed.proofs.FieldLaws.{field_of}
-use Rattle.poly_mixed.proofs.Uniqueness.{unique_in_bits}
+use Rattle.poly_mixed.proofs.UniquenessLemmas.{unique_in_bits}
 use Rattle.poly_mixed.proofs.laws.unique_in_bits.Goals as goal
 
 pub returns : goal.returns

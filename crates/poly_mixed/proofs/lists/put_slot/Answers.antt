@@ -1,7 +1,7 @@
 use Rattle.std.proofs.Common.{ℕ, List, Result, sym, ◌∙◌, subst}
 use Rattle.std.specs.List.Sorted.{IsStrictlySortedBy}
 use Rattle.std.specs.Ordering.{nat_cmp}
-use Rattle.poly_mixed.proofs.Products.{rising-with_rank}
+use Rattle.poly_mixed.proofs.ProductLemmas.{rising-with_rank}
 use Rattle.poly_mixed.specs.private.Listed.{IsFound}
 use Rattle.poly_mixed.proofs.SlotListLemmas.{with_rank-there, with_rank-insert}
 use Rattle.poly_mixed.proofs.lists.put_slot.Goals as goal

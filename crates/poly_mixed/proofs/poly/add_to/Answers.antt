@@ -5,7 +5,7 @@ use Rattle.poly_mixed.specs.Monomial.{Monomial, text_cmp}
 use Rattle.poly_mixed.specs.declared.place.Place.{Place}
 use Rattle.poly_mixed.proofs.AddedLemmas.{added_new, added_old, added_gone, new_indexed, old_indexed, gone_indexed}
 use Rattle.poly_mixed.specs.private.Indexed.{Changes}
-use Rattle.poly_mixed.proofs.Monomials.{text_cmp-same}
+use Rattle.poly_mixed.proofs.MonomialLemmas.{text_cmp-same}
 use Rattle.poly_mixed.proofs.poly.add_to.Goals as goal
 
 pub returns-in_ok-slot-in-Vacant-clause-added : goal.returns-in_ok-slot-in-Vacant-clause-added

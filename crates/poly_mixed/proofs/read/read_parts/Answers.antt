@@ -2,8 +2,8 @@ use Rattle.std.proofs.Common.{Result, ◌∙◌, subst, arith}
 use Rattle.poly_mixed.specs.Polynomial.{Terms}
 use Rattle.poly_mixed.specs.private.Reading.{IsSaid}
 use Rattle.poly_mixed.specs.declared.fault.PolyFault.{PolyFault}
-use Rattle.poly_mixed.proofs.Parts.{turn_said, turn_fault}
-use Rattle.poly_mixed.proofs.Simple.{no_ranks_rise}
+use Rattle.poly_mixed.proofs.PartLemmas.{turn_said, turn_fault}
+use Rattle.poly_mixed.proofs.SimpleLemmas.{no_ranks_rise}
 use Rattle.poly_mixed.proofs.read.read_parts.Goals as goal
 
 pub new-requires : goal.new-requires

@@ -1,4 +1,4 @@
-use Rattle.poly_mixed.proofs.ReadResult.{fits, reduced}
+use Rattle.poly_mixed.proofs.ReadResultLemmas.{fits, reduced}
 use Rattle.poly_mixed.proofs.read.read_poly.Goals as goal
 
 pub returns-clause-outcome : goal.returns-clause-outcome

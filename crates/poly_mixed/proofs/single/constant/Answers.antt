@@ -1,7 +1,7 @@
 use Rattle.poly_mixed.proofs.FieldLaws.{field_of}
 use Rattle.std.proofs.Common.{[]}
 use Rattle.std.proofs.lemmas.Result.{IfOk-weaker}
-use Rattle.poly_mixed.proofs.Simple.{no_ranks_rise, bits_monomial, bits_polynomial}
+use Rattle.poly_mixed.proofs.SimpleLemmas.{no_ranks_rise, bits_monomial, bits_polynomial}
 use Rattle.poly_mixed.proofs.single.constant.Goals as goal
 
 pub new-requires : goal.new-requires

@@ -1,7 +1,7 @@
 use Rattle.poly_mixed.proofs.FieldLaws.{field_of}
 use Rattle.std.proofs.Common.{[], ◌∷◌}
 use Rattle.std.proofs.lemmas.Result.{IfOk-weaker}
-use Rattle.poly_mixed.proofs.Simple.{one_rank_rises, bits_monomial, bits_polynomial, same_function, single}
+use Rattle.poly_mixed.proofs.SimpleLemmas.{one_rank_rises, bits_monomial, bits_polynomial, same_function, single}
 use Rattle.poly_mixed.proofs.single.scaled_bit.Goals as goal
 
 pub new-requires : goal.new-requires

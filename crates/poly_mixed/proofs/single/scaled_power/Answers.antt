@@ -1,7 +1,7 @@
 use Rattle.std.proofs.lemmas.Result.{IfOk-weaker}
 use Rattle.poly_mixed.proofs.FieldLaws.{field_of}
-use Rattle.poly_mixed.proofs.Powers.{power_monomial, power_polynomial}
-use Rattle.poly_mixed.proofs.Simple.{no_ranks_rise}
+use Rattle.poly_mixed.proofs.PowerLemmas.{power_monomial, power_polynomial}
+use Rattle.poly_mixed.proofs.SimpleLemmas.{no_ranks_rise}
 use Rattle.poly_mixed.proofs.single.scaled_power.Goals as goal
 
 pub new-requires : goal.new-requires

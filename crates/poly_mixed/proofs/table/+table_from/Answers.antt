@@ -3,8 +3,8 @@ use Rattle.std.proofs.Common.{◌≡◌, ℕ, ◌+◌, ◌-◌, ◌*◌, ◌^◌
 use Rattle.std.proofs.lemmas.Bool.{eqb-false}
 use Rattle.poly_mixed.specs.Table.{index, table_bit}
 use Rattle.poly_mixed.specs.Polynomial.{IsPolynomialOf}
-use Rattle.poly_mixed.proofs.Values.{one_element}
-use Rattle.poly_mixed.proofs.Simple.{leaf_element, rest_long, half_within, turn, first_and_rest}
+use Rattle.poly_mixed.proofs.ValueLemmas.{one_element}
+use Rattle.poly_mixed.proofs.SimpleLemmas.{leaf_element, rest_long, half_within, turn, first_and_rest}
 use Rattle.poly_mixed.proofs.table.+table_from.Goals as goal
 
 pub constant-requires : goal.constant-requires

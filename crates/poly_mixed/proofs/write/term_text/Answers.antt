@@ -1,7 +1,7 @@
 use Rattle.std.proofs.Common.{List, ℕ, ◌==◌, ◌&&◌, not, map, codes, string_bytes, ◌∙◌, ap}
 use Rattle.poly_mixed.specs.Parts.{parts_after}
 use Rattle.poly_mixed.specs.Text.{is_none}
-use Rattle.poly_mixed.proofs.Texts.{factor_parts}
+use Rattle.poly_mixed.proofs.TextLemmas.{factor_parts}
 use Rattle.poly_mixed.proofs.write.term_text.Goals as goal
 
 pub returns : goal.returns

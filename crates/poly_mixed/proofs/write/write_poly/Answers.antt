@@ -5,7 +5,7 @@ use Rattle.poly_mixed.specs.Parts.{parts_after}
 use Rattle.poly_mixed.specs.Polynomial.{Terms}
 use Rattle.poly_mixed.specs.Text.{term_text}
 use Rattle.poly_mixed.specs.private.Indexed.{terms_in}
-use Rattle.poly_mixed.proofs.Texts.{all_parts, some_text}
+use Rattle.poly_mixed.proofs.TextLemmas.{all_parts, some_text}
 use Rattle.poly_mixed.proofs.write.write_poly.Goals as goal
 
 pub returns : goal.returns

@@ -16,7 +16,7 @@ one_item (x ∷ y ∷ ys) one = absurd (omega arith)
 
 pub returns-then-inputs-eq1 : goal.returns-then-inputs-eq1
 returns-then-inputs-eq1 c =
-    let order = variables (nets c.args.circuit.now.net) c.args.circuit.now.bound.words in
+    let order = variables (nets c.args.circuit.now.net) c.args.circuit.now.binding.words in
     let inputs : c.inputs-inputs.result.now ≡ c.args.gate.now.inputs = c.inputs-inputs.ensures.inputs in
     let one : c.inputs-inputs.result.now ≡ get_or c.inputs-inputs.result.now 0 0 ∷ [] = one_item c.inputs-inputs.result.now (omega arith) in
     let rank : c.rank-rank.result ≡ rank_in order (get_or c.inputs-inputs.result.now 0 0) = c.rank-rank.ensures in
@@ -31,7 +31,7 @@ two_items (x ∷ y ∷ z ∷ zs) two = absurd (omega arith)
 
 pub returns-then-inputs-eq2 : goal.returns-then-inputs-eq2
 returns-then-inputs-eq2 c =
-    let order = variables (nets c.args.circuit.now.net) c.args.circuit.now.bound.words in
+    let order = variables (nets c.args.circuit.now.net) c.args.circuit.now.binding.words in
     let inputs : c.inputs-inputs.result.now ≡ c.args.gate.now.inputs = c.inputs-inputs.ensures.inputs in
     let two : c.inputs-inputs.result.now ≡ get_or c.inputs-inputs.result.now 0 0 ∷ get_or c.inputs-inputs.result.now 1 0 ∷ [] = two_items c.inputs-inputs.result.now (omega arith) in
     let first : c.rank-first.result ≡ rank_in order (get_or c.inputs-inputs.result.now 0 0) = c.rank-first.ensures in

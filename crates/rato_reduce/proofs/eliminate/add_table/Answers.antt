@@ -10,7 +10,7 @@ use Rattle.stage_model.specs.Variables.{rank_in}
 use Rattle.rato_reduce.specs.GatePoint.{gate_bit_at}
 use Rattle.rato_reduce.specs.private.CutTerms.{all_products}
 use Rattle.rato_reduce.specs.Monomials.{monomials}
-use Rattle.rato_reduce.proofs.Inside.{few_inputs}
+use Rattle.rato_reduce.proofs.InsideLemmas.{few_inputs}
 use Rattle.rato_reduce.proofs.ProductLemmas.{all_product_terms, all_products_over, reduced_more, put_table, table_parity}
 use Rattle.rato_reduce.proofs.eliminate.add_table.Goals as goal
 
@@ -18,7 +18,7 @@ pub returns-clause-reduced : goal.returns-clause-reduced
 returns-clause-reduced g c =
     let degree = g.F.Ring.degree c.args._field.now in
     let part = c.args.part.now in
-    let order = variables (nets c.args.circuit.now.net) c.args.circuit.now.bound.words in
+    let order = variables (nets c.args.circuit.now.net) c.args.circuit.now.binding.words in
     let sets = monomials c.exclusive_form-form.result [] (map (rank_in order) c.args.gate.now.inputs) 0 1 in
     let P : Terms → Type 0 = IsReduced degree in
     on_ok_weaker c.add_form.result (λ e. subst P (sym e) (reduced_more degree c.args.cut.now.terms (all_products part sets) c.requires.cut (all_product_terms part sets c.requires.part.0) (all_products_over degree part sets c.requires.part.0 c.requires.part.1))) c.add_form.ensures
@@ -29,7 +29,7 @@ returns-clause-values g c =
     let mul = g.F.Ring.product c.args._field.now in
     let f = field_of degree mul (g.met.F.Ring.laws c.args._field.now) (g.met.F.Field.no_zero_divisors c.args._field.now) in
     let gate = c.args.gate.now in
-    let order = variables (nets c.args.circuit.now.net) c.args.circuit.now.bound.words in
+    let order = variables (nets c.args.circuit.now.net) c.args.circuit.now.binding.words in
     let form = c.exclusive_form-form.result in
     let ranks : List ℕ = map (rank_in order) gate.inputs in
     let sets = monomials form [] ranks 0 1 in

@@ -12,16 +12,16 @@ use Rattle.poly_mixed.specs.Sum.{plus}
 use Rattle.poly_mixed.specs.Cofactor.{at_bit, cofactors, LacksBit, IsCofactor}
 use Rattle.poly_mixed.specs.Steps.{Tells}
 use Rattle.poly_mixed.specs.declared.steps.Generator.TheVariants.{Net}
-use Rattle.poly_mixed.proofs.Cofactors.{reduced_lacking, reduced_cofactors, value-cofactors, none_of_absent}
-use Rattle.poly_mixed.proofs.OneBit.{is_cofactor}
-use Rattle.poly_mixed.proofs.Recorders.{tells_none}
-use Rattle.poly_mixed.proofs.Values.{value-plus}
+use Rattle.poly_mixed.proofs.CofactorLemmas.{reduced_lacking, reduced_cofactors, value-cofactors, none_of_absent}
+use Rattle.poly_mixed.proofs.OneBitLemmas.{is_cofactor}
+use Rattle.poly_mixed.proofs.RecorderLemmas.{tells_none}
+use Rattle.poly_mixed.proofs.ValueLemmas.{value-plus}
 use Rattle.stage_model.specs.Variables.{rank_in}
 use Rattle.stage_model.specs.CutSteps.{AreStepsAt}
 use Rattle.rato_reduce.specs.private.CutTerms.{IsBitTerm}
 use Rattle.rato_reduce.specs.GatePoint.{gate_bit_at}
-use Rattle.rato_reduce.proofs.Inside.{out_below}
-use Rattle.rato_reduce.proofs.PutIn.{put_in, put_nothing}
+use Rattle.rato_reduce.proofs.InsideLemmas.{out_below}
+use Rattle.rato_reduce.proofs.PutInLemmas.{put_in, put_nothing}
 use Rattle.rato_reduce.proofs.eliminate.eliminate.Goals as goal
 
 none : {A : Type 0} (xs : List A) → length xs ≡ 0 → xs ≡ []
@@ -49,7 +49,7 @@ returns-then-is_empty-clause-reduced g c =
 pub returns-then-is_empty-clause-values : goal.returns-then-is_empty-clause-values
 returns-then-is_empty-clause-values g c p at =
     let mul = g.F.Ring.product c.args.field.now in
-    let order = variables (nets c.args.circuit.now.net) c.args.circuit.now.bound.words in
+    let order = variables (nets c.args.circuit.now.net) c.args.circuit.now.binding.words in
     let gate = c.args.gate.now in
     let old = c.args.cut.now.terms in
     let empty : c.take_with.new.part.items ≡ [] = none c.take_with.new.part.items (let z = zero_length c.take_with.new.part.len c.if-is_empty.ensures in omega arith) in
@@ -61,7 +61,7 @@ returns-then-is_empty-clause-values g c p at =
 
 pub returns-then-is_empty-clause-steps : goal.returns-then-is_empty-clause-steps
 returns-then-is_empty-clause-steps g c =
-    let order = variables (nets c.args.circuit.now.net) c.args.circuit.now.bound.words in
+    let order = variables (nets c.args.circuit.now.net) c.args.circuit.now.binding.words in
     let gate = c.args.gate.now in
     let old = c.args.cut.now.terms in
     let empty : c.take_with.new.part.items ≡ [] = none c.take_with.new.part.items (let z = zero_length c.take_with.new.part.len c.if-is_empty.ensures in omega arith) in
@@ -87,7 +87,7 @@ returns-clause-values g c =
     let degree = g.F.Ring.degree c.args.field.now in
     let mul = g.F.Ring.product c.args.field.now in
     let f = field_of degree mul (g.met.F.Ring.laws c.args.field.now) (g.met.F.Field.no_zero_divisors c.args.field.now) in
-    let order = variables (nets c.args.circuit.now.net) c.args.circuit.now.bound.words in
+    let order = variables (nets c.args.circuit.now.net) c.args.circuit.now.binding.words in
     let gate = c.args.gate.now in
     let old = c.args.cut.now.terms in
     let part = c.take_with.new.part.items in
@@ -101,7 +101,7 @@ returns-clause-values g c =
 pub returns-clause-steps : goal.returns-clause-steps
 returns-clause-steps g c =
     let degree = g.F.Ring.degree c.args.field.now in
-    let order = variables (nets c.args.circuit.now.net) c.args.circuit.now.bound.words in
+    let order = variables (nets c.args.circuit.now.net) c.args.circuit.now.binding.words in
     let gate = c.args.gate.now in
     let old = c.args.cut.now.terms in
     let part = c.take_with.new.part.items in

@@ -2,7 +2,7 @@ use Rattle.std.proofs.Common.{◌≡◌, Some, bit_xor, arith}
 use Rattle.std.specs.Map.{lookup}
 use Rattle.std.specs.Ordering.{eq_by_cmp}
 use Rattle.rato_reduce.specs.private.CutKey.{key_cmp, key_cmp_total}
-use Rattle.poly_mixed.proofs.Terms.{plus_term-new, plus_term-old, plus_term-gone}
+use Rattle.poly_mixed.proofs.TermLemmas.{plus_term-new, plus_term-old, plus_term-gone}
 use Rattle.rato_reduce.proofs.entries.add_to.Goals as goal
 
 pub returns-in-Vacant-clause-added : goal.returns-in-Vacant-clause-added

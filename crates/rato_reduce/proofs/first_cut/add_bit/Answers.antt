@@ -7,7 +7,7 @@ use Rattle.poly_mixed.specs.Monomial.{text_cmp}
 use Rattle.poly_mixed.specs.Polynomial.{Terms, IsReduced, value}
 use Rattle.poly_mixed.specs.Product.{with_rank}
 use Rattle.poly_mixed.specs.Sum.{plus_term}
-use Rattle.poly_mixed.proofs.Simple.{one_rank_rises}
+use Rattle.poly_mixed.proofs.SimpleLemmas.{one_rank_rises}
 use Rattle.rato_reduce.specs.private.CutTerms.{of_bits}
 use Rattle.rato_reduce.proofs.ProductLemmas.{reduced_bit, value_bit}
 use Rattle.rato_reduce.proofs.first_cut.add_bit.Goals as goal

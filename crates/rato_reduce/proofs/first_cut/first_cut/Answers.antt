@@ -1,5 +1,5 @@
 use Rattle.poly_mixed.proofs.FieldLaws.{field_of}
-use Rattle.poly_mixed.proofs.Simple.{reduced_nothing}
+use Rattle.poly_mixed.proofs.SimpleLemmas.{reduced_nothing}
 use Rattle.poly_mixed.specs.Polynomial.{Terms, IsReduced, value}
 use Rattle.std.proofs.Common.{subst, ◌≡◌, ◌+◌, suc, cond, ap, sym, ◌∙◌, get_or, take, length, bit_xor, arith}
 use Rattle.std.proofs.lemmas.Option.{slice_get-get_or}
@@ -9,7 +9,7 @@ use Rattle.net_core.specs.NetList.{nets}
 use Rattle.net_words.specs.Variables.{variables}
 use Rattle.poly_mixed.specs.Table.{index}
 use Rattle.stage_model.specs.Variables.{rank_in, point_bit}
-use Rattle.rato_reduce.proofs.FirstCut.{sum_more}
+use Rattle.rato_reduce.proofs.FirstCutLemmas.{sum_more}
 use Rattle.rato_reduce.proofs.first_cut.first_cut.Goals as goal
 
 pub rank-rank-requires : goal.rank-rank-requires
@@ -29,7 +29,7 @@ loop-place-preserved g c =
     let n = c.loop-place.place in
     let basis = elements_of c.args.basis.now in
     let list = c.args.list.now in
-    let order = variables (nets c.args.circuit.now.net) c.args.circuit.now.bound.words in
+    let order = variables (nets c.args.circuit.now.net) c.args.circuit.now.binding.words in
     let long : length basis ≡ g.F.Ring.degree c.args.field.now = c.requires.basis.elements.size in
     let up : suc n ≡ n + 1 = omega arith in
     record {

@@ -4,8 +4,8 @@ use Rattle.std.proofs.lemmas.Option.{slice_get-get_or}
 use Rattle.net_core.specs.GateValue.{GateValue}
 use Rattle.net_core.specs.NetList.{NetList, nets}
 use Rattle.net_core.specs.Sound.{IsSound}
-use Rattle.rato_reduce.proofs.Inside.{out_below}
-use Rattle.rato_reduce.proofs.Turn.{position_inside, read_at}
+use Rattle.rato_reduce.proofs.InsideLemmas.{out_below}
+use Rattle.rato_reduce.proofs.TurnLemmas.{position_inside, read_at}
 use Rattle.rato_reduce.proofs.first_cut.places.Goals as goal
 
 pub bounds-gates-order : goal.bounds-gates-order

@@ -4,9 +4,9 @@ use Rattle.net_words.specs.Variables.{variables}
 use Rattle.circuit_model.specs.OfBinding.{output_word}
 use Rattle.stage_model.specs.Cut.{BoundCut}
 use Rattle.stage_model.specs.Listing.{IsRefusal, cut_listing}
-use Rattle.rato_reduce.proofs.Bound.{none_before, one_more, just, all_within}
-use Rattle.rato_reduce.proofs.Recorded.{nothing_recorded}
-use Rattle.rato_reduce.proofs.Turn.{position_inside, read_at, first_now, turn, told_more, is_cut, is_recorded}
+use Rattle.rato_reduce.proofs.BoundLemmas.{none_before, one_more, just, all_within}
+use Rattle.rato_reduce.proofs.RecordedLemmas.{nothing_recorded}
+use Rattle.rato_reduce.proofs.TurnLemmas.{position_inside, read_at, first_now, turn, told_more, is_cut, is_recorded}
 use Rattle.net_core.specs.Lists.{Has}
 use Rattle.std.specs.Prelude.{slice_get}
 use Rattle.poly_mixed.specs.Polynomial.{Terms}
@@ -15,10 +15,11 @@ use Rattle.net_core.specs.GateValue.{GateValue}
 use Rattle.net_core.specs.NetList.{NetList, nets}
 use Rattle.net_core.specs.Sound.{IsSound}
 use Rattle.net_core.specs.Order.{IsElimination}
-use Rattle.stage_model.specs.Stage.{IsOfStage, IsNoneOver}
+use Rattle.stage_model.specs.Stage.{IsOfStage}
+use Rattle.stage_model.proofs.NoneOver.{IsNoneOver}
 use Rattle.net_words.specs.Binding.{Binding}
 use Rattle.net_words.specs.BoundTo.{output_bits}
-use Rattle.rato_reduce.proofs.OutputNets.{output_long}
+use Rattle.circuit_model.proofs.OutputNetsLemmas.{output_long}
 use Rattle.rato_reduce.proofs.reduce.reduce_bits.Goals as goal
 use Rattle.stage_model.proofs.EliminationLemmas.{elimination_long}
 
@@ -31,12 +32,12 @@ places-requires g c =
 pub first_cut-requires-clause-long : goal.first_cut-requires-clause-long
 first_cut-requires-clause-long g c =
     let bound = c.bound.ensures.is_bound in
-    ap length (c.deref-2.ensures.value ∙ c.in_ok-list.ensures) ∙ (ap (λ (b : Binding). length (output_bits b.words)) c.bound.ensures.bound ∙ output_long c.args.circuit.now.net c.args.circuit.now.bound bound ∙ c.requires.bits)
+    ap length (c.deref-2.ensures.value ∙ c.in_ok-list.ensures) ∙ (ap (λ (b : Binding). length (output_bits b.words)) c.bound.ensures.bound ∙ output_long c.args.circuit.now.net c.args.circuit.now.binding bound ∙ c.requires.bits)
 
 pub first_cut-requires-clause-inside : goal.first_cut-requires-clause-inside
 first_cut-requires-clause-inside g c n has =
     let bound = c.bound.ensures.is_bound in
-    let list : c.deref-2.result.now ≡ output_bits c.args.circuit.now.bound.words = c.deref-2.ensures.value ∙ (c.in_ok-list.ensures ∙ ap (λ (b : Binding). output_bits b.words) c.bound.ensures.bound) in
+    let list : c.deref-2.result.now ≡ output_bits c.args.circuit.now.binding.words = c.deref-2.ensures.value ∙ (c.in_ok-list.ensures ∙ ap (λ (b : Binding). output_bits b.words) c.bound.ensures.bound) in
     let P : List ℕ → Type 0 = λ xs. Has xs n in
     bound.outputs n (subst P list has)
 
@@ -49,7 +50,7 @@ returns-in_err-check_size-clause-fault g c =
     let order = c.in_ok-order.order.items in
     let E : NetList → Type 0 = λ net. IsElimination net order in
     let is = subst E c.net-net.ensures.net c.in_ok-order.ensures in
-    let list : c.deref-2.result.now ≡ output_bits circuit.bound.words = c.deref-2.ensures.value ∙ (c.in_ok-list.ensures ∙ ap (λ (b : Binding). output_bits b.words) c.bound.ensures.bound) in
+    let list : c.deref-2.result.now ≡ output_bits circuit.binding.words = c.deref-2.ensures.value ∙ (c.in_ok-list.ensures ∙ ap (λ (b : Binding). output_bits b.words) c.bound.ensures.bound) in
     let first = first_now degree mul circuit basis order is c.deref-2.result.now c.in_ok-cut.cut.terms c.bound.ensures.is_bound c.requires.bits c.requires.basis.elements.size list c.in_ok-cut.ensures in
     let fault : IsRefusal degree mul (cut_listing (length circuit.net.gates + 1) (BoundCut circuit basis)) c.args.bound c.in_err-check_size.field-0.0 =
     just degree mul (BoundCut circuit basis) c.args.bound (length circuit.net.gates + 1) 0 c.in_ok-cut.cut.terms c.in_err-check_size.field-0.0 (omega arith) (none_before degree mul (BoundCut circuit basis) c.args.bound)
@@ -65,12 +66,12 @@ loop-t-init g c =
     let order = c.in_ok-order.order.items in
     let E : NetList → Type 0 = λ net. IsElimination net order in
     let is = subst E c.net-net.ensures.net c.in_ok-order.ensures in
-    let list : c.deref-2.result.now ≡ output_bits circuit.bound.words = c.deref-2.ensures.value ∙ (c.in_ok-list.ensures ∙ ap (λ (b : Binding). output_bits b.words) c.bound.ensures.bound) in
+    let list : c.deref-2.result.now ≡ output_bits circuit.binding.words = c.deref-2.ensures.value ∙ (c.in_ok-list.ensures ∙ ap (λ (b : Binding). output_bits b.words) c.bound.ensures.bound) in
     let first = first_now degree mul circuit basis order is c.deref-2.result.now c.in_ok-cut.cut.terms c.bound.ensures.is_bound c.requires.bits c.requires.basis.elements.size list c.in_ok-cut.ensures in
     record {
       is = first;
       within = one_more degree mul (BoundCut circuit basis) c.args.bound 0 c.in_ok-cut.cut.terms (none_before degree mul (BoundCut circuit basis) c.args.bound) (is_cut degree mul circuit basis order is 0 c.in_ok-cut.cut.terms first) c.in_ok-check_size.ensures.within;
-      recorded = nothing_recorded degree mul circuit.net (variables (nets circuit.net) circuit.bound.words) (output_word circuit.bound.words basis) order (g.T.Steps.steps c.args.steps.now);
+      recorded = nothing_recorded degree mul circuit.net (variables (nets circuit.net) circuit.binding.words) (output_word circuit.binding.words basis) order (g.T.Steps.steps c.args.steps.now);
     }
 
 pub bounds-gates-index : goal.bounds-gates-index

@@ -7,28 +7,28 @@ pub add_element-requires-clause-over : goal.add_element-requires-clause-over
 add_element-requires-clause-over g c =
     let k : ℕ = g.F.Ring.degree c.args.field.now in
     let mul : ℕ → ℕ → ℕ = g.F.Ring.product c.args.field.now in
-    let count : c.words-v-end.result ≡ length c.args.circuit.now.bound.words = c.words-v-end.ensures.count ∙ ap (λ (x : Binding). length x.words) c.bound-bound.ensures.bound in
-    is_over k mul c.args.circuit.now c.args.bases.now c.requires.bases c.loop-v.v c.index-bases-v.result (omega (arith, c.loop-v-test.true, count)) c.index-bases-v.is
+    let count : c.words-v-end.result ≡ length c.args._circuit.now.binding.words = c.words-v-end.ensures.count ∙ ap (λ (x : Binding). length x.words) c.requires.bound in
+    is_over k mul c.args._circuit.now c.args.bases.now c.requires.bases c.loop-v.v c.index-bases-v.result (omega (arith, c.loop-v-test.true, count)) c.index-bases-v.is
 
 pub add_element-requires-clause-few : goal.add_element-requires-clause-few
 add_element-requires-clause-few g c =
     let k : ℕ = g.F.Ring.degree c.args.field.now in
     let mul : ℕ → ℕ → ℕ = g.F.Ring.product c.args.field.now in
-    let count : c.words-v-end.result ≡ length c.args.circuit.now.bound.words = c.words-v-end.ensures.count ∙ ap (λ (x : Binding). length x.words) c.bound-bound.ensures.bound in
-    few_here k mul c.args.circuit.now c.args.bases.now c.requires.bases c.loop-v.v c.index-bases-v.result (omega (arith, c.loop-v-test.true, count)) c.index-bases-v.is
-    c.bound-bound.result.now c.bound-bound.ensures.bound c.role.result c.role.ensures c.args.ones.now c.loop-v.list.items c.loop-v.invariant c.kept.ensures.bound
+    let count : c.words-v-end.result ≡ length c.args._circuit.now.binding.words = c.words-v-end.ensures.count ∙ ap (λ (x : Binding). length x.words) c.requires.bound in
+    few_here k mul c.args._circuit.now c.args.bases.now c.requires.bases c.loop-v.v c.index-bases-v.result (omega (arith, c.loop-v-test.true, count)) c.index-bases-v.is
+    c.args.binding.now c.requires.bound c.role.result c.role.ensures c.args.ones.now c.loop-v.list.items c.loop-v.invariant c.requires.is_bound
 
 pub loop-v-preserved : goal.loop-v-preserved
 loop-v-preserved g c =
     let k : ℕ = g.F.Ring.degree c.args.field.now in
     let mul : ℕ → ℕ → ℕ = g.F.Ring.product c.args.field.now in
-    let count : c.words-v-end.result ≡ length c.args.circuit.now.bound.words = c.words-v-end.ensures.count ∙ ap (λ (x : Binding). length x.words) c.bound-bound.ensures.bound in
-    one_more k mul c.args.circuit.now c.args.bases.now c.requires.bases c.loop-v.v c.index-bases-v.result (omega (arith, c.loop-v-test.true, count)) c.index-bases-v.is
-    c.bound-bound.result.now c.bound-bound.ensures.bound c.role.result c.role.ensures c.args.ones.now c.loop-v.list.items c.loop-v.invariant c.add_element.new.list.items c.in_ok-add_element.ensures
+    let count : c.words-v-end.result ≡ length c.args._circuit.now.binding.words = c.words-v-end.ensures.count ∙ ap (λ (x : Binding). length x.words) c.requires.bound in
+    one_more k mul c.args._circuit.now c.args.bases.now c.requires.bases c.loop-v.v c.index-bases-v.result (omega (arith, c.loop-v-test.true, count)) c.index-bases-v.is
+    c.args.binding.now c.requires.bound c.role.result c.role.ensures c.args.ones.now c.loop-v.list.items c.loop-v.invariant c.add_element.new.list.items c.in_ok-add_element.ensures
 
 pub returns : goal.returns
 returns g c =
     let k : ℕ = g.F.Ring.degree c.args.field.now in
     let mul : ℕ → ℕ → ℕ = g.F.Ring.product c.args.field.now in
-    let count : c.words-v-end.result ≡ length c.args.circuit.now.bound.words = c.words-v-end.ensures.count ∙ ap (λ (x : Binding). length x.words) c.bound-bound.ensures.bound in
-    all_words k mul c.args.circuit.now c.args.bases.now c.requires.bases c.args.ones.now c.loop-v.list.items c.loop-v.v (omega (arith, c.loop-v-test.false, count)) c.loop-v.invariant
+    let count : c.words-v-end.result ≡ length c.args._circuit.now.binding.words = c.words-v-end.ensures.count ∙ ap (λ (x : Binding). length x.words) c.requires.bound in
+    all_words k mul c.args._circuit.now c.args.bases.now c.requires.bases c.args.ones.now c.loop-v.list.items c.loop-v.v (omega (arith, c.loop-v-test.false, count)) c.loop-v.invariant

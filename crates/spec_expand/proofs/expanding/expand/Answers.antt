@@ -10,7 +10,7 @@ use Rattle.stage_model.specs.Listing.{IsRefusal}
 use Rattle.circuit_model.specs.Bases.{circuit_in}
 use Rattle.spec_expand.specs.Specification.{SpecTerms}
 use Rattle.spec_expand.specs.SpecListing.{spec_listing}
-use Rattle.spec_expand.specs.private.Expanding.{IsSummed}
+use Rattle.spec_expand.proofs.Summed.{IsSummed}
 use Rattle.spec_expand.proofs.BasisLemmas.{is_well_formed}
 use Rattle.spec_expand.proofs.StageLemmas.{nothing_summed, term_over, summed_more, sum_refused, term_refused, all_expanded, all_within}
 use Rattle.spec_expand.proofs.expanding.expand.Goals as goal
@@ -23,7 +23,7 @@ loop-s-init g c =
     let k : ℕ = g.F.Ring.degree c.args.field.now in
     let mul : ℕ → ℕ → ℕ = g.F.Ring.product c.args.field.now in
     let circuit : Circuit = circuit_in k mul c.args.circuit.now c.args.bases.now in
-    let well = is_well_formed k mul c.args.circuit.now c.args.bases.now c.requires.bases (g.met.F.Ring.laws c.args.field.now) (g.met.F.Field.no_zero_divisors c.args.field.now) c.kept.ensures.sound c.kept.ensures.bound c.requires.k in
+    let well = is_well_formed k mul c.args.circuit.now c.args.bases.now c.requires.bases (g.met.F.Ring.laws c.args.field.now) (g.met.F.Field.no_zero_divisors c.args.field.now) c.bound.ensures.sound c.bound.ensures.is_bound c.requires.k in
     let P : Terms → Type 0 = λ ts. IsSummed circuit c.args.spec.now c.args.bound 0 ts in
     subst P (sym c.zero-sum.ensures) (nothing_summed circuit well c.args.spec.now c.requires.spec c.args.bound)
 
@@ -32,7 +32,7 @@ one_term-requires-clause-over g c =
     let k : ℕ = g.F.Ring.degree c.args.field.now in
     let mul : ℕ → ℕ → ℕ = g.F.Ring.product c.args.field.now in
     let circuit : Circuit = circuit_in k mul c.args.circuit.now c.args.bases.now in
-    let well = is_well_formed k mul c.args.circuit.now c.args.bases.now c.requires.bases (g.met.F.Ring.laws c.args.field.now) (g.met.F.Field.no_zero_divisors c.args.field.now) c.kept.ensures.sound c.kept.ensures.bound c.requires.k in
+    let well = is_well_formed k mul c.args.circuit.now c.args.bases.now c.requires.bases (g.met.F.Ring.laws c.args.field.now) (g.met.F.Field.no_zero_divisors c.args.field.now) c.bound.ensures.sound c.bound.ensures.is_bound c.requires.k in
     let spec : SpecTerms = c.args.spec.now in
     let s : ℕ = c.loop-s.s in
     let t : ℕ × List (ℕ × ℕ) = c.index-terms-s.result in
@@ -45,7 +45,7 @@ returns-in_err-product-clause-fault g c =
     let k : ℕ = g.F.Ring.degree c.args.field.now in
     let mul : ℕ → ℕ → ℕ = g.F.Ring.product c.args.field.now in
     let circuit : Circuit = circuit_in k mul c.args.circuit.now c.args.bases.now in
-    let well = is_well_formed k mul c.args.circuit.now c.args.bases.now c.requires.bases (g.met.F.Ring.laws c.args.field.now) (g.met.F.Field.no_zero_divisors c.args.field.now) c.kept.ensures.sound c.kept.ensures.bound c.requires.k in
+    let well = is_well_formed k mul c.args.circuit.now c.args.bases.now c.requires.bases (g.met.F.Ring.laws c.args.field.now) (g.met.F.Field.no_zero_divisors c.args.field.now) c.bound.ensures.sound c.bound.ensures.is_bound c.requires.k in
     let spec : SpecTerms = c.args.spec.now in
     let s : ℕ = c.loop-s.s in
     let t : ℕ × List (ℕ × ℕ) = c.index-terms-s.result in
@@ -60,7 +60,7 @@ returns-in_err-check_size-clause-fault g c =
     let k : ℕ = g.F.Ring.degree c.args.field.now in
     let mul : ℕ → ℕ → ℕ = g.F.Ring.product c.args.field.now in
     let circuit : Circuit = circuit_in k mul c.args.circuit.now c.args.bases.now in
-    let well = is_well_formed k mul c.args.circuit.now c.args.bases.now c.requires.bases (g.met.F.Ring.laws c.args.field.now) (g.met.F.Field.no_zero_divisors c.args.field.now) c.kept.ensures.sound c.kept.ensures.bound c.requires.k in
+    let well = is_well_formed k mul c.args.circuit.now c.args.bases.now c.requires.bases (g.met.F.Ring.laws c.args.field.now) (g.met.F.Field.no_zero_divisors c.args.field.now) c.bound.ensures.sound c.bound.ensures.is_bound c.requires.k in
     let spec : SpecTerms = c.args.spec.now in
     let s : ℕ = c.loop-s.s in
     let t : ℕ × List (ℕ × ℕ) = c.index-terms-s.result in
@@ -79,7 +79,7 @@ loop-s-preserved g c =
     let k : ℕ = g.F.Ring.degree c.args.field.now in
     let mul : ℕ → ℕ → ℕ = g.F.Ring.product c.args.field.now in
     let circuit : Circuit = circuit_in k mul c.args.circuit.now c.args.bases.now in
-    let well = is_well_formed k mul c.args.circuit.now c.args.bases.now c.requires.bases (g.met.F.Ring.laws c.args.field.now) (g.met.F.Field.no_zero_divisors c.args.field.now) c.kept.ensures.sound c.kept.ensures.bound c.requires.k in
+    let well = is_well_formed k mul c.args.circuit.now c.args.bases.now c.requires.bases (g.met.F.Ring.laws c.args.field.now) (g.met.F.Field.no_zero_divisors c.args.field.now) c.bound.ensures.sound c.bound.ensures.is_bound c.requires.k in
     let spec : SpecTerms = c.args.spec.now in
     let s : ℕ = c.loop-s.s in
     let t : ℕ × List (ℕ × ℕ) = c.index-terms-s.result in
@@ -94,7 +94,7 @@ returns-clause-polynomial g c =
     let k : ℕ = g.F.Ring.degree c.args.field.now in
     let mul : ℕ → ℕ → ℕ = g.F.Ring.product c.args.field.now in
     let circuit : Circuit = circuit_in k mul c.args.circuit.now c.args.bases.now in
-    let well = is_well_formed k mul c.args.circuit.now c.args.bases.now c.requires.bases (g.met.F.Ring.laws c.args.field.now) (g.met.F.Field.no_zero_divisors c.args.field.now) c.kept.ensures.sound c.kept.ensures.bound c.requires.k in
+    let well = is_well_formed k mul c.args.circuit.now c.args.bases.now c.requires.bases (g.met.F.Ring.laws c.args.field.now) (g.met.F.Field.no_zero_divisors c.args.field.now) c.bound.ensures.sound c.bound.ensures.is_bound c.requires.k in
     let spec : SpecTerms = c.args.spec.now in
     all_expanded circuit well spec c.requires.spec c.args.bound c.loop-s.s c.loop-s.sum.terms (omega (arith, c.loop-s-test.false, ap length c.terms-terms.ensures.value)) c.loop-s.invariant
 
@@ -103,6 +103,6 @@ returns-clause-within g c =
     let k : ℕ = g.F.Ring.degree c.args.field.now in
     let mul : ℕ → ℕ → ℕ = g.F.Ring.product c.args.field.now in
     let circuit : Circuit = circuit_in k mul c.args.circuit.now c.args.bases.now in
-    let well = is_well_formed k mul c.args.circuit.now c.args.bases.now c.requires.bases (g.met.F.Ring.laws c.args.field.now) (g.met.F.Field.no_zero_divisors c.args.field.now) c.kept.ensures.sound c.kept.ensures.bound c.requires.k in
+    let well = is_well_formed k mul c.args.circuit.now c.args.bases.now c.requires.bases (g.met.F.Ring.laws c.args.field.now) (g.met.F.Field.no_zero_divisors c.args.field.now) c.bound.ensures.sound c.bound.ensures.is_bound c.requires.k in
     let spec : SpecTerms = c.args.spec.now in
     all_within circuit well spec c.requires.spec c.args.bound c.loop-s.s c.loop-s.sum.terms (omega (arith, c.loop-s-test.false, ap length c.terms-terms.ensures.value)) c.loop-s.invariant

@@ -21,7 +21,7 @@ pub power_of_word-requires-clause-word : goal.power_of_word-requires-clause-word
 power_of_word-requires-clause-word g c =
     let k : ℕ = g.F.Ring.degree c.args.field.now in
     let mul : ℕ → ℕ → ℕ = g.F.Ring.product c.args.field.now in
-    let well = is_well_formed k mul c.args.circuit.now c.args.bases.now c.requires.setting.bases_are (g.met.F.Ring.laws c.args.field.now) (g.met.F.Field.no_zero_divisors c.args.field.now) c.kept.ensures.sound c.kept.ensures.bound c.requires.setting.bits in
+    let well = is_well_formed k mul c.args.circuit.now c.args.bases.now c.requires.setting.bases_are (g.met.F.Ring.laws c.args.field.now) (g.met.F.Field.no_zero_divisors c.args.field.now) c.requires.setting.sound c.requires.setting.is_bound c.requires.setting.bits in
     omega (arith, c.requires.word, well.few)
 
 pub overflow_add-factor : goal.overflow_add-factor
@@ -34,7 +34,7 @@ returns-in_err-check_size-clause-fault g c =
     let b : BoundNet = c.args.circuit.now in
     let bases : List Basis = c.args.bases.now in
     let circuit : Circuit = circuit_in k mul b bases in
-    let well = is_well_formed k mul b bases c.requires.setting.bases_are (g.met.F.Ring.laws c.args.field.now) (g.met.F.Field.no_zero_divisors c.args.field.now) c.kept.ensures.sound c.kept.ensures.bound c.requires.setting.bits in
+    let well = is_well_formed k mul b bases c.requires.setting.bases_are (g.met.F.Ring.laws c.args.field.now) (g.met.F.Field.no_zero_divisors c.args.field.now) c.requires.setting.sound c.requires.setting.is_bound c.requires.setting.bits in
     let own = c.basis_of-basis.ensures.own in
     let n : ℕ = c.args.reached.now.factors in
     let made : IsOfInput circuit (λ xs. power mul (slice_index xs c.args.word) (2 ^ c.args.j)) c.in_ok-power.power.terms =
@@ -53,7 +53,7 @@ returns-clause-reached g c =
     let b : BoundNet = c.args.circuit.now in
     let bases : List Basis = c.args.bases.now in
     let circuit : Circuit = circuit_in k mul b bases in
-    let well = is_well_formed k mul b bases c.requires.setting.bases_are (g.met.F.Ring.laws c.args.field.now) (g.met.F.Field.no_zero_divisors c.args.field.now) c.kept.ensures.sound c.kept.ensures.bound c.requires.setting.bits in
+    let well = is_well_formed k mul b bases c.requires.setting.bases_are (g.met.F.Ring.laws c.args.field.now) (g.met.F.Field.no_zero_divisors c.args.field.now) c.requires.setting.sound c.requires.setting.is_bound c.requires.setting.bits in
     let own = c.basis_of-basis.ensures.own in
     let n : ℕ = c.args.reached.now.factors in
     let made : IsOfInput circuit (λ xs. power mul (slice_index xs c.args.word) (2 ^ c.args.j)) c.in_ok-power.power.terms =

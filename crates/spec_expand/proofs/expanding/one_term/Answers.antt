@@ -18,7 +18,7 @@ loop-pair-init g c =
     let mul : ℕ → ℕ → ℕ = g.F.Ring.product c.args.field.now in
     let b : BoundNet = c.args.circuit.now in
     let bases : List Basis = c.args.bases.now in
-    let well = is_well_formed k mul b bases c.requires.setting.bases_are (g.met.F.Ring.laws c.args.field.now) (g.met.F.Field.no_zero_divisors c.args.field.now) c.kept.ensures.sound c.kept.ensures.bound c.requires.setting.bits in
+    let well = is_well_formed k mul b bases c.requires.setting.bases_are (g.met.F.Ring.laws c.args.field.now) (g.met.F.Field.no_zero_divisors c.args.field.now) c.requires.setting.sound c.requires.setting.is_bound c.requires.setting.bits in
     let P : ℕ → Type 0 = λ a. IsPolynomialOf k mul (λ p. a) c.in_ok-poly.poly.terms in
     record { factors = refl; reached = constant_of (circuit_in k mul b bases) well c.args.term.now c.args.bound c.in_ok-poly.poly.terms c.requires.over.element (subst P c.coefficient.ensures c.in_ok-poly.ensures) }
 

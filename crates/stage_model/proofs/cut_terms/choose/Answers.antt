@@ -1,5 +1,5 @@
 use Rattle.poly_mixed.proofs.FieldLaws.{field_of}
-use Rattle.poly_mixed.proofs.Values.{one_element}
+use Rattle.poly_mixed.proofs.ValueLemmas.{one_element}
 use Rattle.stage_model.proofs.CutPolyLemmas.{chosen}
 use Rattle.stage_model.proofs.cut_terms.choose.Goals as goal
 

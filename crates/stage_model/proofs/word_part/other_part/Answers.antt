@@ -6,7 +6,7 @@ use Rattle.gf_basis.specs.BasisParts.{elements_of}
 use Rattle.poly_mixed.specs.Monomial.{Monomial}
 use Rattle.poly_mixed.specs.Sum.{with_coefficient}
 use Rattle.poly_mixed.proofs.FieldLaws.{field_of}
-use Rattle.poly_mixed.proofs.Cofactors.{rising-filter}
+use Rattle.poly_mixed.proofs.CofactorLemmas.{rising-filter}
 use Rattle.stage_model.specs.WordStage.{is_of_word}
 use Rattle.stage_model.proofs.WordPolyLemmas.{rest_is, product_first}
 use Rattle.stage_model.proofs.word_part.other_part.Goals as goal

@@ -6,8 +6,8 @@ use Rattle.unroll.proofs.places.first_bits.Goals as goal
 
 pub loop-w-preserved : goal.loop-w-preserved
 loop-w-preserved c =
-    let k = c.args.bound.now.k in
-    let words = c.args.bound.now.words in
+    let k = c.args.binding.now.k in
+    let words = c.args.binding.now.words in
     let base = cycle_nets (nets c.args.net.now) c.args.cycles in
     let was = c.loop-w.invariant in
     let bits = c.fed_bits-next.ensures.count ∙ ap (λ n. fed_bits n c.role.result) c.k.ensures.bits in

@@ -8,7 +8,7 @@ use Rattle.unroll.proofs.places.first_bits.Given as goal
 abbrev pub invariant-loop-w : goal.invariant-loop-w
 invariant-loop-w l = record {
   long : length l.firsts.items ≡ l.w;
-  each : (i : ℕ) → i < l.w → slice_index_or l.firsts.items i 0 ≡ first_bit l.bound.k (cycle_nets (nets l.net) l.cycles) l.bound.words i;
-  rest : (j : ℕ) → first_bit l.bound.k l.next (drop l.w l.bound.words) j ≡ first_bit l.bound.k (cycle_nets (nets l.net) l.cycles) l.bound.words (l.w + j);
-  total : l.next + fed_count l.bound.k (drop l.w l.bound.words) ≡ cycle_nets (nets l.net) l.cycles + fed_count l.bound.k l.bound.words;
+  each : (i : ℕ) → i < l.w → slice_index_or l.firsts.items i 0 ≡ first_bit l.binding.k (cycle_nets (nets l.net) l.cycles) l.binding.words i;
+  rest : (j : ℕ) → first_bit l.binding.k l.next (drop l.w l.binding.words) j ≡ first_bit l.binding.k (cycle_nets (nets l.net) l.cycles) l.binding.words (l.w + j);
+  total : l.next + fed_count l.binding.k (drop l.w l.binding.words) ≡ cycle_nets (nets l.net) l.cycles + fed_count l.binding.k l.binding.words;
 }

@@ -13,19 +13,17 @@ pub new-requires : goal.new-requires
 new-requires c = λ flat. flat_bound c.args.net c.args.bound c.requires.bound flat
 
 pub returns-in-Ok-clause-made : goal.returns-in-Ok-clause-made
-returns-in-Ok-clause-made c = c.kept.ensures.same ∙ (c.in-Ok.ensures.made ∙ sym (unrolled_flat c.args.net c.args.bound c.args.cycles c.requires.bound (c.in-Ok.ensures.flat.0 refl)))
+returns-in-Ok-clause-made c = c.in-Ok.ensures.made ∙ sym (unrolled_flat c.args.net c.args.bound c.args.cycles c.requires.bound (c.in-Ok.ensures.flat.0 refl))
 
 pub returns-in-Ok-clause-nets : goal.returns-in-Ok-clause-nets
 returns-in-Ok-clause-nets c =
     let flat = ap (λ (n : BoundNet). nets n.net) (unrolled_flat c.args.net c.args.bound c.args.cycles c.requires.bound (c.in-Ok.ensures.flat.0 refl)) in
-    let made = ap (λ (n : BoundNet). nets n.net) c.in-Ok.ensures.made in
-    ((λ same. absurd (cc)), (λ more. absurd (omega (arith, more, flat, made, c.kept.ensures.sound.inside.few_nets))))
+    ((λ same. absurd (cc)), (λ more. absurd (omega (arith, more, flat, c.new.ensures.sound.inside.few_nets))))
 
 pub returns-in-Ok-clause-room : goal.returns-in-Ok-clause-room
 returns-in-Ok-clause-room c =
     let flat = ap (λ (n : BoundNet). length n.net.gates) (unrolled_flat c.args.net c.args.bound c.args.cycles c.requires.bound (c.in-Ok.ensures.flat.0 refl)) in
-    let made = ap (λ (n : BoundNet). length n.net.gates) c.in-Ok.ensures.made in
-    omega (arith, flat, made, c.kept.ensures.sound.inside.few_gates)
+    omega (arith, flat, c.new.ensures.sound.inside.few_gates)
 
 pub returns-in-Err-clause-made : goal.returns-in-Err-clause-made
 returns-in-Err-clause-made c =

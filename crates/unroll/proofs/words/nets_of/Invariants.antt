@@ -4,4 +4,4 @@ use Rattle.net_words.specs.declared.bound.BoundWord.{BoundWord}
 use Rattle.unroll.proofs.words.nets_of.Given as goal
 
 abbrev pub invariant-loop-place : goal.invariant-loop-place
-invariant-loop-place l = (word : BoundWord) → slice_get l.bound.words l.w ≡ Some word → l.list.items ≡ take l.place word.nets
+invariant-loop-place l = (word : BoundWord) → slice_get l.binding.words l.w ≡ Some word → l.list.items ≡ take l.place word.nets

@@ -1,14 +1,14 @@
 use Rattle.std.proofs.Common.{◌≡◌, ◌∙◌, subst, ℕ, List, length, map}
 use Rattle.graph_core.specs.Fault.{IsCycleFault}
 use Rattle.graph_core.specs.Graph.{Graph}
+use Rattle.graph_core.proofs.GeneralLemmas.{length_map as mapped_long}
 use Rattle.block_feeds.specs.Wiring.{feeding_graph, instances_among}
 use Rattle.block_feeds.specs.declared.feeder.Feeder.{Feeder}
 use Rattle.instance_order.specs.LevelOrder.{first_numbers}
-use Rattle.wired_poly.proofs.WiredLemmas.{mapped_long}
 use Rattle.wired_poly.proofs.graph.wired_order.Goals as goal
 
-pub returns-in-Err-clause-ring : goal.returns-in-Err-clause-ring
-returns-in-Err-clause-ring c =
+pub returns-in-Err-clause-cycle : goal.returns-in-Err-clause-cycle
+returns-in-Err-clause-cycle c =
     let rows : List (List Feeder) = map (λ row. row.items) c.args.rows.now in
     let long : length (feeding_graph rows) ≡ length c.args.rows.now = mapped_long instances_among rows ∙ mapped_long (λ row. row.items) c.args.rows.now in
     let P : ℕ → Type 0 = λ n. IsCycleFault (feeding_graph rows) (first_numbers n) c.in-Err.fault in

@@ -1,4 +1,5 @@
 use Rattle.std.proofs.Common.{◌≡◌, ◌∙◌, sym, subst, ℕ, List, length, map}
+use Rattle.graph_core.proofs.GeneralLemmas.{length_map as mapped_long}
 use Rattle.poly_mixed.specs.Polynomial.{value, IsPolynomialOf, Terms}
 use Rattle.poly_mixed.specs.declared.poly.Poly.{Poly}
 use Rattle.block_feeds.specs.Wiring.{feeding_graph}
@@ -7,8 +8,8 @@ use Rattle.instance_poly.specs.Instance.{AreReduced}
 use Rattle.instance_order.specs.LevelOrder.{IsLevelOrder}
 use Rattle.instance_polys.specs.Instances.{AreDone, IsReady, IsRefused}
 use Rattle.instance_polys.specs.Words.{feed_terms}
-use Rattle.wired_poly.specs.Wired.{IsTaken, IsWired}
-use Rattle.wired_poly.proofs.WiredLemmas.{mapped_long, ready, stage_refused, words_reduced}
+use Rattle.wired_poly.specs.Wired.{IsTakenByLevel, IsWired}
+use Rattle.wired_poly.proofs.WiredLemmas.{ready, stage_refused, words_reduced}
 use Rattle.wired_poly.proofs.wired.wired_poly.Goals as goal
 
 pub instance_polys-requires : goal.instance_polys-requires
@@ -25,7 +26,7 @@ instance_polys-requires g c =
     let many : length words ≡ c.args.count = mapped_long (λ q. q.terms) items ∙ c.in_ok-words.ensures.count in
     let by_level : IsLevelOrder (feeding_graph rows) order = c.requires.order in
     let is_ready : IsReady k words blocks rows order = ready k c.args.count blocks rows c.args.output wired words order reduced many by_level in
-    let taken : IsTaken k mul c.args.count blocks rows c.args.bound words order = record { words_are = c.in_ok-words.ensures.words; many = many; by_level = by_level; ready = is_ready } in
+    let taken : IsTakenByLevel k mul c.args.count blocks rows c.args.bound words order = record { words_are = c.in_ok-words.ensures.words; many = many; by_level = by_level; ready = is_ready } in
     let Q : List Poly → List ℕ → Type 0 = λ ws os. IsReady k (map (λ q. q.terms) ws) blocks rows os in
     let S : List Poly → Type 0 = λ ws. Q ws order in
     subst S (sym c.deref.ensures.value) is_ready
@@ -44,7 +45,7 @@ returns-in-Err-clause-fault g c =
     let many : length words ≡ c.args.count = mapped_long (λ q. q.terms) items ∙ c.in_ok-words.ensures.count in
     let by_level : IsLevelOrder (feeding_graph rows) order = c.requires.order in
     let is_ready : IsReady k words blocks rows order = ready k c.args.count blocks rows c.args.output wired words order reduced many by_level in
-    let taken : IsTaken k mul c.args.count blocks rows c.args.bound words order = record { words_are = c.in_ok-words.ensures.words; many = many; by_level = by_level; ready = is_ready } in
+    let taken : IsTakenByLevel k mul c.args.count blocks rows c.args.bound words order = record { words_are = c.in_ok-words.ensures.words; many = many; by_level = by_level; ready = is_ready } in
     let Q : List Poly → List ℕ → Type 0 = λ ws os. IsReady k (map (λ q. q.terms) ws) blocks rows os in
     let T : List Poly → List ℕ → Type 0 = λ ws os. IsRefused k mul (map (λ q. q.terms) ws) blocks rows c.args.bound os c.in-Err.fault in
     let S : List Poly → Type 0 = λ ws. T ws order in
@@ -75,7 +76,7 @@ returns-clause-poly g c =
     let many : length words ≡ c.args.count = mapped_long (λ q. q.terms) items ∙ c.in_ok-words.ensures.count in
     let by_level : IsLevelOrder (feeding_graph rows) order = c.requires.order in
     let is_ready : IsReady k words blocks rows order = ready k c.args.count blocks rows c.args.output wired words order reduced many by_level in
-    let taken : IsTaken k mul c.args.count blocks rows c.args.bound words order = record { words_are = c.in_ok-words.ensures.words; many = many; by_level = by_level; ready = is_ready } in
+    let taken : IsTakenByLevel k mul c.args.count blocks rows c.args.bound words order = record { words_are = c.in_ok-words.ensures.words; many = many; by_level = by_level; ready = is_ready } in
     let Q : List Poly → List ℕ → Type 0 = λ ws os. IsReady k (map (λ q. q.terms) ws) blocks rows os in
     let polys : List Terms = map (λ q. q.terms) c.in-Ok.polys.items in
     let T : List Poly → List ℕ → Type 0 = λ ws os. AreDone k mul (map (λ q. q.terms) ws) blocks rows c.args.bound os (length os) polys in

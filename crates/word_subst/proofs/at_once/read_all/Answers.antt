@@ -2,7 +2,7 @@ use Rattle.std.proofs.Common.{◌≢◌, ℕ, List}
 use Rattle.gf_basis.specs.BasisParts.{elements_of}
 use Rattle.poly_mixed.specs.Polynomial.{IsTerm}
 use Rattle.poly_mixed.proofs.FieldLaws.{field_of}
-use Rattle.word_subst.proofs.Groups.{some_powers}
+use Rattle.word_subst.proofs.GroupLemmas.{some_powers}
 use Rattle.word_subst.proofs.ReadFromLemmas.{mapped_items, read_items}
 use Rattle.word_subst.proofs.ReadAtOnceLemmas.{whole_read}
 use Rattle.word_subst.proofs.at_once.read_all.Goals as goal

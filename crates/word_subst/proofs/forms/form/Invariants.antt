@@ -1,4 +1,4 @@
-use Rattle.word_subst.proofs.FormList.{IsPartForm}
+use Rattle.word_subst.proofs.FormListLemmas.{IsPartForm}
 use Rattle.word_subst.proofs.forms.form.Given as goal
 
 abbrev pub invariant-loop-j : goal.invariant-loop-j

@@ -1,5 +1,5 @@
 use Rattle.gf_basis.specs.BasisParts.{elements_of}
-use Rattle.word_subst.proofs.FormList.{one_more}
+use Rattle.word_subst.proofs.FormListLemmas.{one_more}
 use Rattle.word_subst.proofs.forms.forms.Goals as goal
 
 pub loop-place-preserved : goal.loop-place-preserved

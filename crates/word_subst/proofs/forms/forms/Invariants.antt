@@ -1,5 +1,5 @@
 use Rattle.gf_basis.specs.BasisParts.{elements_of}
-use Rattle.word_subst.proofs.FormList.{AreFirst}
+use Rattle.word_subst.proofs.FormListLemmas.{AreFirst}
 use Rattle.word_subst.proofs.forms.forms.Given as goal
 
 abbrev pub invariant-loop-place : goal.invariant-loop-place

@@ -1,4 +1,4 @@
-use Rattle.word_subst.proofs.Callers.{output_values, words_alone}
+use Rattle.word_subst.proofs.CallerLemmas.{output_values, words_alone}
 use Rattle.word_subst.proofs.laws.all_words_are_the_output.Goals as goal
 
 pub returns-clause-values : goal.returns-clause-values

@@ -1,4 +1,4 @@
-use Rattle.word_subst.proofs.Turn.{is_well_formed}
+use Rattle.word_subst.proofs.TurnLemmas.{is_well_formed}
 use Rattle.word_subst.proofs.laws.bases_make_a_circuit.Goals as goal
 
 pub returns : goal.returns

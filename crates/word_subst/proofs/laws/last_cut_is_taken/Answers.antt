@@ -1,4 +1,4 @@
-use Rattle.word_subst.proofs.Callers.{taken}
+use Rattle.word_subst.proofs.CallerLemmas.{taken}
 use Rattle.word_subst.proofs.laws.last_cut_is_taken.Goals as goal
 
 pub returns : goal.returns

@@ -1,6 +1,6 @@
 use Rattle.std.proofs.Common.{◌≡◌, ℕ, ◌+◌, ◌-◌, ◌/◌, ◌<◌, ◌≤◌, ◌^◌, subst, sym, arith}
-use Rattle.poly_mixed.proofs.Exponents.{top}
-use Rattle.word_subst.proofs.Multiples.{one_low}
+use Rattle.poly_mixed.proofs.ExponentLemmas.{top}
+use Rattle.word_subst.proofs.MultipleLemmas.{one_low}
 use Rattle.word_subst.proofs.multiple.low_count.Goals as goal
 
 -- the test against the greatest exponent

@@ -1,5 +1,5 @@
 use Rattle.poly_mixed.proofs.FieldLaws.{field_of}
-use Rattle.word_subst.proofs.Multiples.{product_swapped}
+use Rattle.word_subst.proofs.MultipleLemmas.{product_swapped}
 use Rattle.word_subst.proofs.multiple.product.Goals as goal
 
 pub returns-then-len : goal.returns-then-len

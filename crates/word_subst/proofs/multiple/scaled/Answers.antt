@@ -1,5 +1,5 @@
 use Rattle.poly_mixed.proofs.FieldLaws.{field_of}
-use Rattle.word_subst.proofs.Multiples.{scaled_is}
+use Rattle.word_subst.proofs.MultipleLemmas.{scaled_is}
 use Rattle.word_subst.proofs.multiple.scaled.Goals as goal
 
 pub returns-clause-multiple : goal.returns-clause-multiple

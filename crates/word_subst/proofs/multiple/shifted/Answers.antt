@@ -1,6 +1,6 @@
 use Rattle.std.proofs.Common.{refl, take, drop, length, ◌-◌}
 use Rattle.poly_mixed.proofs.FieldLaws.{field_of}
-use Rattle.word_subst.proofs.Multiples.{shifted_is}
+use Rattle.word_subst.proofs.MultipleLemmas.{shifted_is}
 use Rattle.word_subst.proofs.multiple.shifted.Goals as goal
 
 pub plus-requires-clause-left : goal.plus-requires-clause-left

@@ -1,6 +1,6 @@
 use Rattle.std.proofs.Common.{◌≡◌, ℕ, ◌+◌, ◌-◌, ◌/◌, ◌<◌, ◌≤◌, ◌^◌, ◌∙◌, sym, arith, nat_lt}
 use Rattle.std.proofs.lemmas.Nat.{pow_pos}
-use Rattle.poly_mixed.proofs.Exponents.{top}
+use Rattle.poly_mixed.proofs.ExponentLemmas.{top}
 use Rattle.std.proofs.lemmas.Bool.{lt-ltb, le-ltb, cond-true, cond-false}
 use Rattle.poly_mixed.specs.Product.{add_exponent}
 use Rattle.word_subst.proofs.multiple.sum_exponent.Goals as goal

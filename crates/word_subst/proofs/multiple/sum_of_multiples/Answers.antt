@@ -1,6 +1,6 @@
 use Rattle.std.proofs.Common.{ap, length, arith}
 use Rattle.poly_mixed.proofs.FieldLaws.{field_of}
-use Rattle.word_subst.proofs.Multiples.{product_end}
+use Rattle.word_subst.proofs.MultipleLemmas.{product_end}
 use Rattle.word_subst.proofs.multiple.sum_of_multiples.Goals as goal
 
 pub returns : goal.returns

@@ -1,7 +1,7 @@
 use Rattle.poly_mixed.proofs.FieldLaws.{field_of}
-use Rattle.poly_mixed.proofs.Simple.{bits_monomial, bits_polynomial}
-use Rattle.poly_mixed.proofs.Values.{one_element}
-use Rattle.word_subst.proofs.Multiplier.{chosen}
+use Rattle.poly_mixed.proofs.SimpleLemmas.{bits_monomial, bits_polynomial}
+use Rattle.poly_mixed.proofs.ValueLemmas.{one_element}
+use Rattle.word_subst.proofs.MultiplierLemmas.{chosen}
 use Rattle.word_subst.proofs.product.with_bits.Goals as goal
 
 pub term-requires : goal.term-requires

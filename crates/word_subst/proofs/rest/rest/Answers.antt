@@ -2,7 +2,7 @@ use Rattle.std.proofs.Common.{◌∙◌, sym, subst, not, ℕ, Bool, List}
 use Rattle.std.specs.List.{filter}
 use Rattle.std.specs.List.Sorted.{IsStrictlySortedBy}
 use Rattle.std.specs.Ordering.{nat_cmp}
-use Rattle.poly_mixed.proofs.Cofactors.{rising-filter}
+use Rattle.poly_mixed.proofs.CofactorLemmas.{rising-filter}
 use Rattle.stage_model.specs.WordStage.{is_of_word}
 use Rattle.word_subst.proofs.rest.rest.Goals as goal
 

@@ -2,7 +2,7 @@ use Rattle.std.proofs.Common.{◌≡◌, Some, arith}
 use Rattle.std.specs.Map.{lookup}
 use Rattle.std.specs.Ordering.{eq_by_cmp}
 use Rattle.poly_mixed.specs.Monomial.{text_cmp}
-use Rattle.word_subst.proofs.Groups.{entry_univariate}
+use Rattle.word_subst.proofs.GroupLemmas.{entry_univariate}
 use Rattle.word_subst.proofs.sums.add_to.Goals as goal
 
 pub plus-requires-clause-left : goal.plus-requires-clause-left

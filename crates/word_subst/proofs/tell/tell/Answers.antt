@@ -5,9 +5,9 @@ use Rattle.poly_mixed.specs.Monomial.{Monomial}
 use Rattle.poly_mixed.proofs.FieldLaws.{field_of}
 use Rattle.word_subst.specs.Univariate.{IsMultiple}
 use Rattle.word_subst.specs.Rest.{rest_of}
-use Rattle.word_subst.proofs.Groups.{some_powers}
-use Rattle.word_subst.proofs.OneTerm.{place_in, later_rises}
-use Rattle.word_subst.proofs.Told.{got_index, all_quiet, made_product, next_told}
+use Rattle.word_subst.proofs.GroupLemmas.{some_powers}
+use Rattle.word_subst.proofs.OneTermLemmas.{place_in, later_rises}
+use Rattle.word_subst.proofs.ToldLemmas.{got_index, all_quiet, made_product, next_told}
 use Rattle.word_subst.proofs.tell.tell.Goals as goal
 
 pub returns-then-not-tells : goal.returns-then-not-tells

@@ -4,7 +4,7 @@ use Rattle.poly_mixed.specs.Monomial.{Monomial}
 use Rattle.poly_mixed.proofs.FieldLaws.{field_of}
 use Rattle.word_subst.specs.Univariate.{IsMultiple}
 use Rattle.word_subst.specs.Rest.{rest_of}
-use Rattle.word_subst.proofs.Told.{read_term}
+use Rattle.word_subst.proofs.ToldLemmas.{read_term}
 use Rattle.word_subst.proofs.term.add_term.Goals as goal
 
 pub scaled-requires-clause-powers : goal.scaled-requires-clause-powers

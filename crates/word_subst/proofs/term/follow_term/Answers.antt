@@ -6,8 +6,8 @@ use Rattle.poly_mixed.proofs.FieldLaws.{field_of}
 use Rattle.stage_model.specs.WordStage.{is_of_word}
 use Rattle.word_subst.specs.Prefix.{IsProductRefusal}
 use Rattle.word_subst.specs.ReadRefusal.{IsTermRefusal}
-use Rattle.word_subst.proofs.OneTerm.{few_own}
-use Rattle.word_subst.proofs.TermParts.{own_are, term_refusal}
+use Rattle.word_subst.proofs.OneTermLemmas.{few_own}
+use Rattle.word_subst.proofs.TermPartLemmas.{own_are, term_refusal}
 use Rattle.word_subst.proofs.term.follow_term.Goals as goal
 
 pub follow-requires-clause-own : goal.follow-requires-clause-own

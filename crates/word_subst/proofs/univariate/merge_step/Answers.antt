@@ -1,6 +1,6 @@
 use Rattle.std.proofs.Common.{sym, ap, ◌∙◌}
 use Rattle.poly_mixed.proofs.FieldLaws.{field_of}
-use Rattle.word_subst.proofs.Univariates.{step_left, step_right, step_both, step_none}
+use Rattle.word_subst.proofs.UnivariateLemmas.{step_left, step_right, step_both, step_none}
 use Rattle.word_subst.proofs.univariate.merge_step.Goals.{then-c-d+in_ok-push-in-Equal, else-c-d}
 use Rattle.word_subst.proofs.univariate.merge_step.Goals as goal
 

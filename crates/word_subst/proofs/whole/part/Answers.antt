@@ -5,7 +5,7 @@ use Rattle.std.specs.Ordering.{nat_cmp}
 use Rattle.poly_mixed.specs.Monomial.{Monomial}
 use Rattle.stage_model.specs.WordStage.{is_of_word}
 use Rattle.word_subst.specs.Whole.{IsPart}
-use Rattle.word_subst.proofs.Rising.{rest_is, drop_rises}
+use Rattle.word_subst.proofs.RisingLemmas.{rest_is, drop_rises}
 use Rattle.word_subst.proofs.whole.part.Goals as goal
 
 pub new-requires : goal.new-requires

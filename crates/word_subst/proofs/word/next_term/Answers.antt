@@ -1,6 +1,6 @@
 use Rattle.gf_basis.specs.BasisParts.{elements_of}
 use Rattle.poly_mixed.proofs.FieldLaws.{field_of}
-use Rattle.word_subst.proofs.TermParts.{term_within}
+use Rattle.word_subst.proofs.TermPartLemmas.{term_within}
 use Rattle.word_subst.proofs.word.next_term.Goals as goal
 
 pub returns-clause-within : goal.returns-clause-within

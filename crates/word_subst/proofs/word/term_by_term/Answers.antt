@@ -8,9 +8,9 @@ use Rattle.poly_mixed.specs.declared.stage.Stage.TheVariants.{WordSum}
 use Rattle.poly_mixed.proofs.FieldLaws.{field_of}
 use Rattle.word_subst.specs.Spread.{Groups, total, all_terms}
 use Rattle.word_subst.specs.ReadRefusal.{IsWordRefusal}
-use Rattle.word_subst.proofs.Groups.{some_of_groups}
-use Rattle.word_subst.proofs.Spreads.{groups_length}
-use Rattle.word_subst.proofs.OneWord.{term_read, no_terms_within, one_more_within, product_first, sum_first, nothing_told, more_told, nothing_summed, sum_added}
+use Rattle.word_subst.proofs.GroupLemmas.{some_of_groups}
+use Rattle.word_subst.proofs.SpreadLemmas.{groups_length}
+use Rattle.word_subst.proofs.OneWordLemmas.{term_read, no_terms_within, one_more_within, product_first, sum_first, nothing_told, more_told, nothing_summed, sum_added}
 use Rattle.word_subst.proofs.word.term_by_term.Goals as goal
 
 pub loop-s-init : goal.loop-s-init

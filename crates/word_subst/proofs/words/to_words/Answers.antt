@@ -8,9 +8,9 @@ use Rattle.stage_model.specs.Stage.{IsOfStage}
 use Rattle.circuit_model.specs.Bases.{circuit_in}
 use Rattle.stage_model.specs.Listing.{IsRefusal}
 use Rattle.stage_model.specs.WordListing.{word_listing}
-use Rattle.word_subst.proofs.Turn.{is_well_formed, places_are, as_many, inside, own_word, is_over}
-use Rattle.word_subst.proofs.Lifted.{next_mix}
-use Rattle.word_subst.proofs.AllWords.{all_recorded, all_within, one_word_within, one_word_recorded, refused}
+use Rattle.word_subst.proofs.TurnLemmas.{is_well_formed, places_are, as_many, inside, own_word, is_over}
+use Rattle.word_subst.proofs.LiftedLemmas.{next_mix}
+use Rattle.word_subst.proofs.AllWordLemmas.{all_recorded, all_within, one_word_within, one_word_recorded, refused}
 use Rattle.word_subst.proofs.words.to_words.Goals as goal
 
 pub bounds-bases-index : goal.bounds-bases-index
@@ -34,7 +34,7 @@ overflow_cast-w g c =
     let bases : List Basis = c.args.bases.now in
     let places : List ℕ = c.in_ok-places.places.items in
     let places_is = places_are k mul b bases c.requires.bases places c.bound.result.now c.in_ok-places.ensures c.bound.ensures.bound in
-    let well = is_well_formed k mul b bases c.requires.bases (g.met.F.Ring.laws c.args.field.now) (g.met.F.Field.no_zero_divisors c.args.field.now) c.kept.ensures.sound c.kept.ensures.bound c.requires.k in
+    let well = is_well_formed k mul b bases c.requires.bases (g.met.F.Ring.laws c.args.field.now) (g.met.F.Field.no_zero_divisors c.args.field.now) c.bound.ensures.sound c.bound.ensures.is_bound c.requires.k in
     let w : ℕ = c.loop-w.w in
     let v : ℕ = c.index.result.now in
     let less : w < length places = omega (arith, c.loop-w-test.true, c.len-w-end.ensures) in
@@ -62,7 +62,7 @@ one_word-requires-clause-word g c =
     let bases : List Basis = c.args.bases.now in
     let places : List ℕ = c.in_ok-places.places.items in
     let places_is = places_are k mul b bases c.requires.bases places c.bound.result.now c.in_ok-places.ensures c.bound.ensures.bound in
-    let well = is_well_formed k mul b bases c.requires.bases (g.met.F.Ring.laws c.args.field.now) (g.met.F.Field.no_zero_divisors c.args.field.now) c.kept.ensures.sound c.kept.ensures.bound c.requires.k in
+    let well = is_well_formed k mul b bases c.requires.bases (g.met.F.Ring.laws c.args.field.now) (g.met.F.Field.no_zero_divisors c.args.field.now) c.bound.ensures.sound c.bound.ensures.is_bound c.requires.k in
     let w : ℕ = c.loop-w.w in
     let v : ℕ = c.index.result.now in
     let less : w < length places = omega (arith, c.loop-w-test.true, c.len-w-end.ensures) in
@@ -77,7 +77,7 @@ returns-in_err-poly-clause-fault g c =
     let bases : List Basis = c.args.bases.now in
     let places : List ℕ = c.in_ok-places.places.items in
     let places_is = places_are k mul b bases c.requires.bases places c.bound.result.now c.in_ok-places.ensures c.bound.ensures.bound in
-    let well = is_well_formed k mul b bases c.requires.bases (g.met.F.Ring.laws c.args.field.now) (g.met.F.Field.no_zero_divisors c.args.field.now) c.kept.ensures.sound c.kept.ensures.bound c.requires.k in
+    let well = is_well_formed k mul b bases c.requires.bases (g.met.F.Ring.laws c.args.field.now) (g.met.F.Field.no_zero_divisors c.args.field.now) c.bound.ensures.sound c.bound.ensures.is_bound c.requires.k in
     let w : ℕ = c.loop-w.w in
     let v : ℕ = c.index.result.now in
     let less : w < length places = omega (arith, c.loop-w-test.true, c.len-w-end.ensures) in
@@ -96,7 +96,7 @@ loop-w-preserved g c =
     let bases : List Basis = c.args.bases.now in
     let places : List ℕ = c.in_ok-places.places.items in
     let places_is = places_are k mul b bases c.requires.bases places c.bound.result.now c.in_ok-places.ensures c.bound.ensures.bound in
-    let well = is_well_formed k mul b bases c.requires.bases (g.met.F.Ring.laws c.args.field.now) (g.met.F.Field.no_zero_divisors c.args.field.now) c.kept.ensures.sound c.kept.ensures.bound c.requires.k in
+    let well = is_well_formed k mul b bases c.requires.bases (g.met.F.Ring.laws c.args.field.now) (g.met.F.Field.no_zero_divisors c.args.field.now) c.bound.ensures.sound c.bound.ensures.is_bound c.requires.k in
     let w : ℕ = c.loop-w.w in
     let v : ℕ = c.index.result.now in
     let less : w < length places = omega (arith, c.loop-w-test.true, c.len-w-end.ensures) in

@@ -2,7 +2,7 @@ use Rattle.std.proofs.Common.{◌<◌, ◌^◌, length}
 use Rattle.stage_model.specs.Mix.{IsMix}
 use Rattle.stage_model.specs.Stage.{IsOfStage}
 use Rattle.circuit_model.specs.Bases.{circuit_in}
-use Rattle.word_subst.proofs.AllWords.{AreWithinTo, IsRecordedTo}
+use Rattle.word_subst.proofs.AllWordLemmas.{AreWithinTo, IsRecordedTo}
 use Rattle.word_subst.proofs.words.to_words.Given as goal
 
 abbrev pub invariant-loop-w : goal.invariant-loop-w

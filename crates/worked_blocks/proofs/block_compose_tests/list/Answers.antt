@@ -1,7 +1,7 @@
 use Rattle.std.proofs.Common.{◌∙◌, sym, map}
 use Rattle.std.proofs.lemmas.List.{length-map}
 use Rattle.gf_basis.specs.BasisParts.{elements_of}
-use Rattle.job_input.proofs.SettingWords.{bases_long}
+use Rattle.job_input.proofs.SettingWordLemmas.{bases_long}
 use Rattle.worked_blocks.proofs.block_compose_tests.list.Goals as goal
 
 pub returns-clause-long : goal.returns-clause-long

@@ -1,7 +1,5 @@
 use Rattle.std.proofs.Common.{◌≡◌, ◌∙◌, ◌++◌, List, ℕ, ap, sym, subst, codes, length}
 use Rattle.text_core.specs.Outcome.{Exactly, Within}
-use Rattle.net_core.specs.NetList.{NetList}
-use Rattle.net_core.specs.Sound.{IsSound}
 use Rattle.net_words.specs.Binding.{Binding}
 use Rattle.gf_basis.specs.BasisParts.{elements_of}
 use Rattle.poly_mixed.specs.Labels.{Labelling}
@@ -39,7 +37,7 @@ returns-in-Err g c =
     let mul = g.F.Ring.product c.args.field.now in
     let circuit = c.args.circuit.now in
     let bases = c.args.bases.now in
-    let basis : elements_of c.output_basis-basis.result.now ≡ output_basis circuit.bound.words (elements_of_each bases) =
+    let basis : elements_of c.output_basis-basis.result.now ≡ output_basis circuit.binding.words (elements_of_each bases) =
     c.output_basis-basis.ensures.basis ∙ ap (λ (b : Binding). output_basis b.words (elements_of_each bases)) c.bound.ensures.bound in
     let setting : SettingValue = record { signature = c.args.signature.now; k = degree; product = mul; bases = elements_of_each bases } in
     let same : c.in_ok-labels.labels ≡ labels_of degree c.args.signature.now.words = c.in_ok-labels.ensures ∙ (λ i. labels_of (c.k.ensures i) (c.words.ensures i)) in
@@ -56,12 +54,11 @@ polynomial_line-requires-clause-named g c =
     let degree = g.F.Ring.degree c.args.field.now in
     let mul = g.F.Ring.product c.args.field.now in
     let circuit = c.args.circuit.now in
-    let S : NetList → Type 0 = λ n. IsSound n in
-    let sound = subst S c.net.ensures.net c.gates-gates.ensures.sound in
-    let basis : elements_of c.output_basis-basis.result.now ≡ output_basis circuit.bound.words (elements_of_each c.args.bases.now) =
+    let sound = c.bound.ensures.sound in
+    let basis : elements_of c.output_basis-basis.result.now ≡ output_basis circuit.binding.words (elements_of_each c.args.bases.now) =
     c.output_basis-basis.ensures.basis ∙ ap (λ (b : Binding). output_basis b.words (elements_of_each c.args.bases.now)) c.bound.ensures.bound in
     let names = named degree mul circuit c.args.bases.now c.args.signature.now.words (elements_of c.output_basis-basis.result.now) c.in-Ok.poly.terms
-    (g.met.F.Ring.laws c.args.field.now) (g.met.F.Field.no_zero_divisors c.args.field.now) sound c.net.ensures.is_bound c.net.ensures.flat c.requires.bits c.requires.over c.requires.long c.requires.roles basis c.in-Ok.ensures.last in
+    (g.met.F.Ring.laws c.args.field.now) (g.met.F.Field.no_zero_divisors c.args.field.now) sound c.bound.ensures.is_bound c.bound.ensures.flat c.requires.bits c.requires.over c.requires.long c.requires.roles basis c.in-Ok.ensures.last in
     let same : c.in_ok-labels.labels ≡ labels_of degree c.args.signature.now.words = c.in_ok-labels.ensures ∙ (λ i. labels_of (c.k.ensures i) (c.words.ensures i)) in
     let P : Labelling → Type 0 = λ l. HasNames l c.in-Ok.poly.terms in
     subst P (sym same) names
@@ -72,9 +69,8 @@ polynomial_line-requires-clause-words_named g c =
     let mul = g.F.Ring.product c.args.field.now in
     let circuit = c.args.circuit.now in
     let bases = c.args.bases.now in
-    let S : NetList → Type 0 = λ n. IsSound n in
-    let job : IsJob degree mul circuit bases = record { ring = g.met.F.Ring.laws c.args.field.now; nozero = g.met.F.Field.no_zero_divisors c.args.field.now; sound = subst S c.net.ensures.net c.gates-gates.ensures.sound; bound = c.net.ensures.is_bound; flat = c.net.ensures.flat; same = c.requires.bits; over = c.requires.over; long = c.requires.long } in
-    let basis : elements_of c.output_basis-basis.result.now ≡ output_basis circuit.bound.words (elements_of_each bases) =
+    let job : IsJob degree mul circuit bases = record { ring = g.met.F.Ring.laws c.args.field.now; nozero = g.met.F.Field.no_zero_divisors c.args.field.now; sound = c.bound.ensures.sound; bound = c.bound.ensures.is_bound; flat = c.bound.ensures.flat; same = c.requires.bits; over = c.requires.over; long = c.requires.long } in
+    let basis : elements_of c.output_basis-basis.result.now ≡ output_basis circuit.binding.words (elements_of_each bases) =
     c.output_basis-basis.ensures.basis ∙ ap (λ (b : Binding). output_basis b.words (elements_of_each bases)) c.bound.ensures.bound in
     let same : c.in_ok-labels.labels ≡ labels_of degree c.args.signature.now.words = c.in_ok-labels.ensures ∙ (λ i. labels_of (c.k.ensures i) (c.words.ensures i)) in
     let L : List ℕ → Type 0 = λ e. IsOfStage degree mul (BoundCut circuit e (length circuit.net.gates)) c.in-Ok.poly.terms in
@@ -88,7 +84,7 @@ returns g c =
     let mul = g.F.Ring.product c.args.field.now in
     let circuit = c.args.circuit.now in
     let bases = c.args.bases.now in
-    let basis : elements_of c.output_basis-basis.result.now ≡ output_basis circuit.bound.words (elements_of_each bases) =
+    let basis : elements_of c.output_basis-basis.result.now ≡ output_basis circuit.binding.words (elements_of_each bases) =
     c.output_basis-basis.ensures.basis ∙ ap (λ (b : Binding). output_basis b.words (elements_of_each bases)) c.bound.ensures.bound in
     let same : c.in_ok-labels.labels ≡ labels_of degree c.args.signature.now.words = c.in_ok-labels.ensures ∙ (λ i. labels_of (c.k.ensures i) (c.words.ensures i)) in
     let ts = c.in-Ok.poly.terms in

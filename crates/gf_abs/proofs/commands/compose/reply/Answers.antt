@@ -4,11 +4,11 @@ use Rattle.gf_basis.specs.BasisParts.{elements_of}
 use Rattle.poly_mixed.specs.Labels.{Labelling}
 use Rattle.poly_mixed.specs.Polynomial.{Terms}
 use Rattle.poly_mixed.specs.Text.{HasNames, HasWordNames}
-use Rattle.block_compose.specs.Composed.{hierarchy_of, ComposesIn}
+use Rattle.block_compose.specs.Composed.{hierarchy_of}
 use Rattle.job_words.proofs.StepLemmas.{stops}
 use Rattle.job_input.specs.Setting.{setting_value}
 use Rattle.gf_abs.specs.Reply.{reply_of, prints}
-use Rattle.gf_abs.specs.commands.Compose.{hierarchy_with, ComposeOf}
+use Rattle.gf_abs.specs.commands.Compose.{ComposeOf}
 use Rattle.gf_abs.proofs.ComposeLemmas.{based, composable, composed_named, composed_words_named}
 use Rattle.gf_abs.proofs.ComposeStopLemmas.{compose_stops, named_stage}
 use Rattle.gf_abs.proofs.commands.compose.reply.Goals as goal
@@ -41,4 +41,4 @@ returns g c =
     let bound = c.args.bound in
     let view : Terms → Terms = λ ts. ts in
     stops view reply_of c.composition_stop.result (ComposeOf setting design lists bound) (λ ts. Exactly (prints setting ts)) ⊥ ⊥ ⊥ ⊥ (λ m. m) (λ f. f)
-    (compose_stops setting design bound view (ComposesIn setting.k setting.product setting.signature (hierarchy_with setting design lists) bound) c.in-Err.fault c.composition_stop.result c.in-Err.ensures.refusal c.composition_stop.ensures)
+    (compose_stops view setting design lists bound c.in-Err.fault c.composition_stop.result c.in-Err.ensures.refusal c.composition_stop.ensures)

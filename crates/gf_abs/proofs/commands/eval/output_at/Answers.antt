@@ -12,7 +12,7 @@ output_at-requires-clause-long g c =
     let setting = c.args.setting.now in
     let circuit = c.args.circuit.now in
     let bases = setting.bases.items in
-    let long : length (elements_of_each bases) ≡ length circuit.bound.words = length-map bases elements_of ∙ c.requires.taken.long in
-    let count = as_many (g.F.Ring.degree c.args.field.now) circuit.bound.words setting.signature.words (elements_of_each bases) long c.requires.taken.roles in
-    let P : List Basis → Type 0 = λ bs. length c.args.xs.now ≡ length (words_of circuit.bound.words (elements_of_each bs)) in
+    let long : length (elements_of_each bases) ≡ length circuit.binding.words = length-map bases elements_of ∙ c.requires.taken.long in
+    let count = as_many (g.F.Ring.degree c.args.field.now) circuit.binding.words setting.signature.words (elements_of_each bases) long c.requires.taken.roles in
+    let P : List Basis → Type 0 = λ bs. length c.args.xs.now ≡ length (words_of circuit.binding.words (elements_of_each bs)) in
     subst P (sym c.as_slice.ensures.value) (c.requires.long ∙ sym count)

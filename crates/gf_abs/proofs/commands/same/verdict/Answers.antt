@@ -20,14 +20,14 @@ stage_stop-requires g c =
     let degree = g.F.Ring.degree c.args.field.now in
     let mul = g.F.Ring.product c.args.field.now in
     let setting : SettingValue = setting_value degree mul c.args.setting.now in
-    cuts_named degree mul c.args.circuit.now (output_basis c.args.circuit.now.bound.words setting.bases) (length c.args.labels.now.words) c.args.bound c.in-Err.fault c.in-Err.ensures.fault
+    cuts_named degree mul c.args.circuit.now (output_basis c.args.circuit.now.binding.words setting.bases) (length c.args.labels.now.words) c.args.bound c.in-Err.fault c.in-Err.ensures.fault
 
 pub second_stage_stop-requires : goal.second_stage_stop-requires
 second_stage_stop-requires g c =
     let degree = g.F.Ring.degree c.args.field.now in
     let mul = g.F.Ring.product c.args.field.now in
     let setting : SettingValue = setting_value degree mul c.args.setting.now in
-    cuts_named degree mul c.args.other.now (output_basis c.args.other.now.bound.words setting.bases) (length c.args.labels.now.words) c.args.bound c.in-Err-last_cut.fault c.in-Err-last_cut.ensures.fault
+    cuts_named degree mul c.args.other.now (output_basis c.args.other.now.binding.words setting.bases) (length c.args.labels.now.words) c.args.bound c.in-Err-last_cut.fault c.in-Err-last_cut.ensures.fault
 
 pub returns-in-Err : goal.returns-in-Err
 returns-in-Err g c =

@@ -25,7 +25,7 @@ stage_stop-requires g c =
     let degree = g.F.Ring.degree c.args.field.now in
     let mul = g.F.Ring.product c.args.field.now in
     let setting : SettingValue = setting_value degree mul c.args.setting.now in
-    cuts_named degree mul c.args.circuit.now (output_basis c.args.circuit.now.bound.words setting.bases) (length c.args.labels.now.words) c.args.bound c.in-Err.fault c.in-Err.ensures.fault
+    cuts_named degree mul c.args.circuit.now (output_basis c.args.circuit.now.binding.words setting.bases) (length c.args.labels.now.words) c.args.bound c.in-Err.fault c.in-Err.ensures.fault
 
 pub returns-in-Err-clause-gives : goal.returns-in-Err-clause-gives
 returns-in-Err-clause-gives g c =
@@ -40,6 +40,12 @@ returns-in-Err-clause-gives g c =
 
 pub copied-requires : goal.copied-requires
 copied-requires g c = c.in-Ok.ensures.output.reduced
+
+pub in_words-requires-clause-sound : goal.in_words-requires-clause-sound
+in_words-requires-clause-sound g c = c.last_cut.ensures.sound
+
+pub in_words-requires-clause-is_bound : goal.in_words-requires-clause-is_bound
+in_words-requires-clause-is_bound g c = c.last_cut.ensures.is_bound
 
 pub in_words-requires-clause-bits : goal.in_words-requires-clause-bits
 in_words-requires-clause-bits g c =

@@ -1,8 +1,7 @@
 use Rattle.std.proofs.Common.{◌≤◌, ◌^◌, ℕ, List, Vec, Ok, refl, sym, subst, length, arith}
 use Rattle.std.specs.declared.alloc.Global.{Global}
 use Rattle.text_core.specs.Outcome.{Exactly, MayRefuse}
-use Rattle.net_core.specs.NetList.{NetList, nets}
-use Rattle.net_core.specs.Sound.{IsSound}
+use Rattle.net_core.specs.NetList.{nets}
 use Rattle.poly_mixed.specs.Labels.{Labelling}
 use Rattle.cert_check.specs.Fault.{refusal}
 use Rattle.cert_make.specs.Upgrade.{UpgradeOf}
@@ -24,11 +23,10 @@ upgrade-requires-clause-numbers g c =
     let mul = g.F.Ring.product c.args.field.now in
     let circuit = c.args.certified.now.circuit in
     let setting = c.args.setting.now in
-    let S : NetList → Type 0 = λ n. IsSound n in
-    let job : IsJob degree mul circuit setting.bases.items = record { ring = g.met.F.Ring.laws c.args.field.now; nozero = g.met.F.Field.no_zero_divisors c.args.field.now; sound = c.net.ensures.sound; bound = c.net.ensures.is_bound; flat = c.net.ensures.flat; same = c.requires.taken.bits; over = c.requires.ready.over; long = c.requires.taken.long } in
-    let few : nets circuit.net ≤ 2 ^ 32 = omega arith in
+    let job : IsJob degree mul circuit setting.bases.items = record { ring = g.met.F.Ring.laws c.args.field.now; nozero = g.met.F.Field.no_zero_divisors c.args.field.now; sound = c.certificate_labels.ensures.sound; bound = c.certificate_labels.ensures.is_bound; flat = c.certificate_labels.ensures.is_bound.flat.latches; same = c.requires.taken.bits; over = c.requires.ready.over; long = c.requires.taken.long } in
+    let few : nets circuit.net ≤ 2 ^ 32 = omega (arith, c.certificate_labels.ensures.sound.inside.few_nets) in
     let P : Labelling → Type 0 = HaveNumbers degree circuit.net in
-    rw c.k.ensures (subst P (sym c.in_ok-labels.ensures) (labels_number degree mul setting c.requires.ready circuit c.requires.taken job few))
+    rw c.k.ensures (subst P (sym c.in_ok-labels.ensures.labels) (labels_number degree mul setting c.requires.ready circuit c.requires.taken job few))
 
 pub upgrade-requires-clause-size : goal.upgrade-requires-clause-size
 upgrade-requires-clause-size g c = let P : List ℕ → Type 0 = λ xs. length xs ≤ 67108864 in subst P (sym c.deref.ensures.value) c.requires.short
@@ -41,7 +39,7 @@ returns-in-Ok g c =
     let K : ℕ → Type 0 = λ k. UpgradeOf k circuit.net c.in_ok-labels.labels c.deref.result.now (Ok text) in
     let P : List ℕ → Type 0 = λ xs. UpgradeOf degree circuit.net c.in_ok-labels.labels xs (Ok text) in
     let Q : Labelling → Type 0 = λ l. UpgradeOf degree circuit.net l c.args.certified.now.text.items (Ok text) in
-    (text, subst Q c.in_ok-labels.ensures (subst P c.deref.ensures.value (subst K c.k.ensures c.in-Ok.ensures)), refl)
+    (text, subst Q c.in_ok-labels.ensures.labels (subst P c.deref.ensures.value (subst K c.k.ensures c.in-Ok.ensures)), refl)
 
 pub returns : goal.returns
 returns g c =
@@ -54,4 +52,4 @@ returns g c =
     let P : List ℕ → Type 0 = λ xs. MayRefuse (UpgradeOf degree circuit.net c.in_ok-labels.labels xs) (refusal c.in-Err.fault) in
     let Q : Labelling → Type 0 = λ l. MayRefuse (UpgradeOf degree circuit.net l bytes) (refusal c.in-Err.fault) in
     stops {X = Vec ℕ Global} bytes_of reply_of c.text_stop.result (UpgradedOf setting circuit bytes) (λ t. Exactly (record { status = 0; text = t })) ⊥ ⊥ ⊥ ⊥ (λ m. m) (λ f. f)
-    (upgrade_stopped {X = Vec ℕ Global} bytes_of setting circuit bytes c.in-Err.fault c.text_stop.result (subst Q c.in_ok-labels.ensures (subst P c.deref.ensures.value (subst K c.k.ensures c.in-Err.ensures))) c.text_stop.ensures)
+    (upgrade_stopped {X = Vec ℕ Global} bytes_of setting circuit bytes c.in-Err.fault c.text_stop.result (subst Q c.in_ok-labels.ensures.labels (subst P c.deref.ensures.value (subst K c.k.ensures c.in-Err.ensures))) c.text_stop.ensures)

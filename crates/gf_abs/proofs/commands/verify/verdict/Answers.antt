@@ -1,7 +1,5 @@
 use Rattle.std.proofs.Common.{List, Ok, sym, subst}
 use Rattle.text_core.specs.Outcome.{MayRefuse}
-use Rattle.net_core.specs.NetList.{NetList}
-use Rattle.net_core.specs.Sound.{IsSound}
 use Rattle.gf_basis.specs.declared.bases.Basis.{Basis}
 use Rattle.poly_mixed.specs.Labels.{Labelling}
 use Rattle.cert_check.specs.Fault.{refusal}
@@ -28,10 +26,9 @@ check-requires-clause-labels g c =
     let mul = g.F.Ring.product c.args.field.now in
     let circuit = c.args.circuit.now in
     let setting = c.args.setting.now in
-    let S : NetList → Type 0 = λ n. IsSound n in
-    let job : IsJob degree mul circuit setting.bases.items = record { ring = g.met.F.Ring.laws c.args.field.now; nozero = g.met.F.Field.no_zero_divisors c.args.field.now; sound = subst S c.net.ensures.net c.gates-gates.ensures.sound; bound = c.net.ensures.is_bound; flat = c.net.ensures.flat; same = c.requires.taken.bits; over = c.requires.ready.over; long = c.requires.taken.long } in
-    let P : Labelling → Type 0 = NameWords circuit.bound in
-    subst P (sym c.in_ok-labels.ensures) (labels_name degree mul setting c.requires.ready circuit c.requires.taken job)
+    let job : IsJob degree mul circuit setting.bases.items = record { ring = g.met.F.Ring.laws c.args.field.now; nozero = g.met.F.Field.no_zero_divisors c.args.field.now; sound = c.certificate_labels.ensures.sound; bound = c.certificate_labels.ensures.is_bound; flat = c.certificate_labels.ensures.is_bound.flat.latches; same = c.requires.taken.bits; over = c.requires.ready.over; long = c.requires.taken.long } in
+    let P : Labelling → Type 0 = NameWords circuit.binding in
+    subst P (sym c.in_ok-labels.ensures.labels) (labels_name degree mul setting c.requires.ready circuit c.requires.taken job)
 
 pub returns-in-Ok-clause-gives : goal.returns-in-Ok-clause-gives
 returns-in-Ok-clause-gives g c =
@@ -39,11 +36,10 @@ returns-in-Ok-clause-gives g c =
     let mul = g.F.Ring.product c.args.field.now in
     let circuit = c.args.circuit.now in
     let setting = c.args.setting.now in
-    let S : NetList → Type 0 = λ n. IsSound n in
-    let job : IsJob degree mul circuit setting.bases.items = record { ring = g.met.F.Ring.laws c.args.field.now; nozero = g.met.F.Field.no_zero_divisors c.args.field.now; sound = subst S c.net.ensures.net c.gates-gates.ensures.sound; bound = c.net.ensures.is_bound; flat = c.net.ensures.flat; same = c.requires.taken.bits; over = c.requires.ready.over; long = c.requires.taken.long } in
+    let job : IsJob degree mul circuit setting.bases.items = record { ring = g.met.F.Ring.laws c.args.field.now; nozero = g.met.F.Field.no_zero_divisors c.args.field.now; sound = c.certificate_labels.ensures.sound; bound = c.certificate_labels.ensures.is_bound; flat = c.certificate_labels.ensures.is_bound.flat.latches; same = c.requires.taken.bits; over = c.requires.ready.over; long = c.requires.taken.long } in
     let P : List Basis → Type 0 = λ bases. Check degree mul circuit bases c.in_ok-labels.labels c.args.bound c.args.bytes.now (Ok (verdict_of c.in-Ok.verdict)) in
     let Q : Labelling → Type 0 = λ l. Check degree mul circuit setting.bases.items l c.args.bound c.args.bytes.now (Ok (verdict_of c.in-Ok.verdict)) in
-    (setting.bases.items, with_duals degree mul setting c.requires.ready circuit c.requires.taken job, subst Q c.in_ok-labels.ensures (subst P c.as_slice-bases.ensures.value c.in-Ok.ensures))
+    (setting.bases.items, with_duals degree mul setting c.requires.ready circuit c.requires.taken job, subst Q c.in_ok-labels.ensures.labels (subst P c.as_slice-bases.ensures.value c.in-Ok.ensures))
 
 pub returns-in-Ok-clause-named : goal.returns-in-Ok-clause-named
 returns-in-Ok-clause-named g c =
@@ -51,11 +47,10 @@ returns-in-Ok-clause-named g c =
     let mul = g.F.Ring.product c.args.field.now in
     let circuit = c.args.circuit.now in
     let setting = c.args.setting.now in
-    let S : NetList → Type 0 = λ n. IsSound n in
-    let job : IsJob degree mul circuit setting.bases.items = record { ring = g.met.F.Ring.laws c.args.field.now; nozero = g.met.F.Field.no_zero_divisors c.args.field.now; sound = subst S c.net.ensures.net c.gates-gates.ensures.sound; bound = c.net.ensures.is_bound; flat = c.net.ensures.flat; same = c.requires.taken.bits; over = c.requires.ready.over; long = c.requires.taken.long } in
+    let job : IsJob degree mul circuit setting.bases.items = record { ring = g.met.F.Ring.laws c.args.field.now; nozero = g.met.F.Field.no_zero_divisors c.args.field.now; sound = c.certificate_labels.ensures.sound; bound = c.certificate_labels.ensures.is_bound; flat = c.certificate_labels.ensures.is_bound.flat.latches; same = c.requires.taken.bits; over = c.requires.ready.over; long = c.requires.taken.long } in
     let P : List Basis → Type 0 = λ bases. Check degree mul circuit bases c.in_ok-labels.labels c.args.bound c.args.bytes.now (Ok (verdict_of c.in-Ok.verdict)) in
     let Q : Labelling → Type 0 = λ l. Check degree mul circuit setting.bases.items l c.args.bound c.args.bytes.now (Ok (verdict_of c.in-Ok.verdict)) in
-    verdict_named degree mul setting c.requires.ready circuit c.requires.taken job c.args.bound c.args.bytes.now (verdict_of c.in-Ok.verdict) (subst Q c.in_ok-labels.ensures (subst P c.as_slice-bases.ensures.value c.in-Ok.ensures))
+    verdict_named degree mul setting c.requires.ready circuit c.requires.taken job c.args.bound c.args.bytes.now (verdict_of c.in-Ok.verdict) (subst Q c.in_ok-labels.ensures.labels (subst P c.as_slice-bases.ensures.value c.in-Ok.ensures))
 
 pub returns-clause-gives : goal.returns-clause-gives
 returns-clause-gives g c =
@@ -64,9 +59,8 @@ returns-clause-gives g c =
     let circuit = c.args.circuit.now in
     let setting = c.args.setting.now in
     let value : SettingValue = setting_value degree mul setting in
-    let S : NetList → Type 0 = λ n. IsSound n in
-    let job : IsJob degree mul circuit setting.bases.items = record { ring = g.met.F.Ring.laws c.args.field.now; nozero = g.met.F.Field.no_zero_divisors c.args.field.now; sound = subst S c.net.ensures.net c.gates-gates.ensures.sound; bound = c.net.ensures.is_bound; flat = c.net.ensures.flat; same = c.requires.taken.bits; over = c.requires.ready.over; long = c.requires.taken.long } in
+    let job : IsJob degree mul circuit setting.bases.items = record { ring = g.met.F.Ring.laws c.args.field.now; nozero = g.met.F.Field.no_zero_divisors c.args.field.now; sound = c.certificate_labels.ensures.sound; bound = c.certificate_labels.ensures.is_bound; flat = c.certificate_labels.ensures.is_bound.flat.latches; same = c.requires.taken.bits; over = c.requires.ready.over; long = c.requires.taken.long } in
     let P : List Basis → Type 0 = λ bases. MayRefuse (Check degree mul circuit bases c.in_ok-labels.labels c.args.bound c.args.bytes.now) (refusal c.in-Err.fault) in
     let Q : Labelling → Type 0 = λ l. MayRefuse (Check degree mul circuit setting.bases.items l c.args.bound c.args.bytes.now) (refusal c.in-Err.fault) in
     verdict_stopped value circuit c.args.bound c.args.bytes.now setting.bases.items c.in-Err.fault c.sum_stop.result (with_duals degree mul setting c.requires.ready circuit c.requires.taken job)
-    (subst Q c.in_ok-labels.ensures (subst P c.as_slice-bases.ensures.value c.in-Err.ensures)) c.sum_stop.ensures
+    (subst Q c.in_ok-labels.ensures.labels (subst P c.as_slice-bases.ensures.value c.in-Err.ensures)) c.sum_stop.ensures

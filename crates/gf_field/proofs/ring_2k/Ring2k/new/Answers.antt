@@ -2,7 +2,7 @@ use Rattle.std.proofs.Common.{mod-lt, pow_pos, subst}
 use Rattle.gf_field.specs.Table16.{entries_of}
 use Rattle.gf_field.specs.private.ShiftAndAdd.{AreParts}
 use Rattle.gf_field.specs.laws.ModulusLaws.{IsModulus-from_log, no_small_modulus, no_large_modulus}
-use Rattle.gf_field.proofs.TableSteps.{lower, below_64}
+use Rattle.gf_field.proofs.TableStepLemmas.{lower, below_64}
 use Rattle.gf_field.proofs.ring_2k.Ring2k.new.Goals as goal
 
 pub returns-then-modulus-lt2-clause-accepted : goal.returns-then-modulus-lt2-clause-accepted

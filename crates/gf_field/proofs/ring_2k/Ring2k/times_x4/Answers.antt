@@ -1,4 +1,4 @@
-use Rattle.gf_field.proofs.TableSteps.{four_steps, power_element}
+use Rattle.gf_field.proofs.TableStepLemmas.{four_steps, power_element}
 use Rattle.gf_field.proofs.ring_2k.Ring2k.times_x4.Goals as goal
 
 pub returns-clause-product : goal.returns-clause-product

@@ -1,6 +1,6 @@
 use Rattle.std.proofs.Common.{◌≡◌, ◌-◌, ◌/◌, ◌+◌, ◌*◌, ◌^◌, sym, ◌∙◌, ap, suc, arith}
 use Rattle.gf_field.specs.private.ShiftAndAdd.{part}
-use Rattle.gf_field.proofs.TableSteps.{group_start, group_step, group_element, group_end}
+use Rattle.gf_field.proofs.TableStepLemmas.{group_start, group_step, group_element, group_end}
 use Rattle.std.proofs.Common.{pow_pos}
 use Rattle.gf_field.proofs.ring_2k.Ring2kRing.by.Goals as goal
 

@@ -1,4 +1,4 @@
-use Rattle.gf_field.proofs.TableSteps.{remainder_is}
+use Rattle.gf_field.proofs.TableStepLemmas.{remainder_is}
 use Rattle.gf_field.proofs.ring_2k.Ring2kRing.mul.Goals as goal
 
 pub returns-clause-remainder : goal.returns-clause-remainder

@@ -1,4 +1,4 @@
-use Rattle.gf_field.proofs.TableSteps.{are_multiples}
+use Rattle.gf_field.proofs.TableStepLemmas.{are_multiples}
 use Rattle.gf_field.proofs.ring_2k.Ring2kRing.times.Goals as goal
 
 pub returns : goal.returns

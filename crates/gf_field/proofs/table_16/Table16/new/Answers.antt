@@ -2,7 +2,7 @@ use Rattle.std.proofs.Common.{◌∙◌, ◌*◌, ◌+◌, ap, arith, ℕ, repli
 use Rattle.std.proofs.Math.ListN.{length-replicate}
 use Rattle.gf_field.specs.private.ShiftAndAdd.{times_x}
 use Rattle.gf_field.proofs.PartLaws.{part_element}
-use Rattle.gf_field.proofs.TableSteps.{first_two, two_more}
+use Rattle.gf_field.proofs.TableStepLemmas.{first_two, two_more}
 use Rattle.gf_field.proofs.table_16.Table16.new.Goals as goal
 
 pub loop-n-init : goal.loop-n-init

@@ -1,5 +1,5 @@
 use Rattle.std.proofs.Common.{◌≤◌, ◌+◌, arith}
-use Rattle.poly_mixed.proofs.Texts.{few_bits}
+use Rattle.poly_mixed.proofs.TextLemmas.{few_bits}
 use Rattle.poly_mixed.proofs.labels.Labels.bit_rank.Goals as goal
 
 pub bit_in-requires : goal.bit_in-requires

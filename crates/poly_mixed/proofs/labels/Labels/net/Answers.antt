@@ -1,6 +1,6 @@
 use Rattle.std.proofs.Common.{sym, subst, string_bytes}
 use Rattle.poly_mixed.specs.Labels.{Labelling, Differs}
-use Rattle.poly_mixed.proofs.Texts.{labels_with_net}
+use Rattle.poly_mixed.proofs.TextLemmas.{labels_with_net}
 use Rattle.poly_mixed.proofs.labels.Labels.net.Goals as goal
 
 pub invariant_of-self-2 : goal.invariant_of-self-2

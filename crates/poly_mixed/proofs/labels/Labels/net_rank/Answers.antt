@@ -1,5 +1,5 @@
 use Rattle.std.proofs.Common.{◌≤◌, ◌+◌, arith}
-use Rattle.poly_mixed.proofs.Texts.{few_bits}
+use Rattle.poly_mixed.proofs.TextLemmas.{few_bits}
 use Rattle.poly_mixed.proofs.labels.Labels.net_rank.Goals as goal
 
 pub overflow_add-bits : goal.overflow_add-bits

@@ -2,7 +2,7 @@ use Rattle.std.proofs.Common.{◌≡◌, ℕ, List, Option, IsSome, Vec, Global,
 use Rattle.std.specs.List.Sorted.{IsStrictlySortedBy}
 use Rattle.std.specs.Ordering.{nat_cmp}
 use Rattle.poly_mixed.specs.private.Listed.{list_at, changed, without_slot}
-use Rattle.poly_mixed.proofs.Cofactors.{rising-filter}
+use Rattle.poly_mixed.proofs.CofactorLemmas.{rising-filter}
 use Rattle.poly_mixed.proofs.ListsAtLemmas.{at_is, items_or, lists_of, after_write, after_none, stays_rising}
 use Rattle.poly_mixed.proofs.lists.Lists.drop_one.Goals as goal
 

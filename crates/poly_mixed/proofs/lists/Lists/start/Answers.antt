@@ -1,7 +1,7 @@
 use Rattle.std.proofs.Common.{◌≡◌, ℕ, List, [], ◌∷◌, ◌++◌, sym, ◌∙◌, ap, subst}
 use Rattle.poly_mixed.specs.private.Listed.{list_at, AreRising, changed}
 use Rattle.poly_mixed.specs.Product.{with_rank}
-use Rattle.poly_mixed.proofs.Products.{rising-with_rank}
+use Rattle.poly_mixed.proofs.ProductLemmas.{rising-with_rank}
 use Rattle.poly_mixed.proofs.ListsAtLemmas.{after_write, stays_rising, lists_of}
 use Rattle.poly_mixed.proofs.lists.Lists.start.Goals as goal
 

@@ -1,7 +1,7 @@
 use Rattle.std.proofs.Common.{List, ℕ, sym, subst}
 use Rattle.std.specs.List.Sorted.{IsStrictlySortedBy}
 use Rattle.std.specs.Ordering.{nat_cmp}
-use Rattle.poly_mixed.proofs.Products.{rising-with_rank}
+use Rattle.poly_mixed.proofs.ProductLemmas.{rising-with_rank}
 use Rattle.poly_mixed.proofs.mono.Mono.add_bit.Goals as goal
 
 pub invariant_of-self : goal.invariant_of-self

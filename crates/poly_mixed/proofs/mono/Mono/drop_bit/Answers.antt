@@ -2,7 +2,7 @@ use Rattle.std.proofs.Common.{ℕ, List, not, nat_eq, sym, ◌∙◌, ap, subst}
 use Rattle.std.specs.List.Sorted.{IsStrictlySortedBy}
 use Rattle.std.specs.Ordering.{nat_cmp}
 use Rattle.poly_mixed.specs.Cofactor.{without_bit}
-use Rattle.poly_mixed.proofs.Cofactors.{rising-filter}
+use Rattle.poly_mixed.proofs.CofactorLemmas.{rising-filter}
 use Rattle.poly_mixed.proofs.MonoLemmas.{dropped, not_there}
 use Rattle.poly_mixed.proofs.mono.Mono.drop_bit.Goals as goal
 

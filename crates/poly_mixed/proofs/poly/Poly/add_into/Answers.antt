@@ -2,7 +2,7 @@ use Rattle.poly_mixed.proofs.FieldLaws.{field_of}
 use Rattle.std.proofs.Common.{sym, ◌∙◌, ap, subst}
 use Rattle.std.proofs.lemmas.Result.{on_ok_weaker}
 use Rattle.poly_mixed.specs.Polynomial.{Terms, IsReduced, coefficient, value}
-use Rattle.poly_mixed.proofs.Values.{reduced_plus, value-plus, coefficient-plus}
+use Rattle.poly_mixed.proofs.ValueLemmas.{reduced_plus, value-plus, coefficient-plus}
 use Rattle.poly_mixed.proofs.poly.Poly.add_into.Goals as goal
 
 pub returns-clause-reduced : goal.returns-clause-reduced

@@ -2,8 +2,8 @@ use Rattle.std.proofs.Common.{sym, ◌∙◌, ap, subst}
 use Rattle.std.proofs.lemmas.Result.{IfOk-weaker}
 use Rattle.poly_mixed.specs.Cofactor.{IsCofactor}
 use Rattle.poly_mixed.specs.Polynomial.{Terms, IsReduced, value}
-use Rattle.poly_mixed.proofs.Cofactors.{reduced_cofactors, value-cofactors, none_of_absent, absent_of_none}
-use Rattle.poly_mixed.proofs.OneBit.{is_cofactor}
+use Rattle.poly_mixed.proofs.CofactorLemmas.{reduced_cofactors, value-cofactors, none_of_absent, absent_of_none}
+use Rattle.poly_mixed.proofs.OneBitLemmas.{is_cofactor}
 use Rattle.poly_mixed.proofs.poly.Poly.cofactor.Goals as goal
 
 pub returns-clause-map : goal.returns-clause-map

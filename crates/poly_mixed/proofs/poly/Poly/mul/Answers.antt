@@ -3,7 +3,7 @@ use Rattle.std.proofs.Common.{◌∙◌, ap}
 use Rattle.std.proofs.lemmas.Map.Iter.{rest_more, rest_all}
 use Rattle.std.specs.Map.Iter.{deref_pair}
 use Rattle.poly_mixed.specs.private.Indexed.{terms_in}
-use Rattle.poly_mixed.proofs.Products.{outer_turn, no_terms_product}
+use Rattle.poly_mixed.proofs.ProductLemmas.{outer_turn, no_terms_product}
 use Rattle.poly_mixed.proofs.poly.Poly.mul.Goals as goal
 
 pub loop-mono-preserved : goal.loop-mono-preserved

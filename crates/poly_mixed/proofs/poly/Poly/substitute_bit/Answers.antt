@@ -2,7 +2,7 @@ use Rattle.poly_mixed.proofs.FieldLaws.{field_of}
 use Rattle.std.proofs.Common.{sym, ◌∙◌, ap, subst, bit_xor}
 use Rattle.std.proofs.lemmas.Result.{on_ok_weaker}
 use Rattle.poly_mixed.specs.Polynomial.{Terms, IsReduced, value}
-use Rattle.poly_mixed.proofs.Cofactors.{reduced_cofactors, reduced_lacking, substituted}
+use Rattle.poly_mixed.proofs.CofactorLemmas.{reduced_cofactors, reduced_lacking, substituted}
 use Rattle.poly_mixed.proofs.poly.Poly.substitute_bit.Goals as goal
 
 pub mul-requires-clause-over : goal.mul-requires-clause-over

@@ -2,9 +2,9 @@ use Rattle.std.proofs.Common.{refl, sym, ◌∙◌, ap, subst, bit_xor}
 use lib.Bits.{xor_zero_l}
 use Rattle.poly_mixed.specs.Cofactor.{lacking, cofactors}
 use Rattle.poly_mixed.specs.Polynomial.{Polynomial, Terms, IsMap, coefficient}
-use Rattle.poly_mixed.proofs.Cofactors.{all_lacking}
+use Rattle.poly_mixed.proofs.CofactorLemmas.{all_lacking}
 use Rattle.poly_mixed.proofs.TakenLemmas.{part_turn, part_whole, map_taken, fewer_taken, nonzero_taken, lacking_left}
-use Rattle.poly_mixed.proofs.Values.{nothing_map}
+use Rattle.poly_mixed.proofs.ValueLemmas.{nothing_map}
 use Rattle.poly_mixed.proofs.poly.Poly.take_bit.Goals as goal
 
 pub loop-mono-init : goal.loop-mono-init

@@ -6,8 +6,8 @@ use Rattle.poly_mixed.specs.Monomial.{text_cmp}
 use Rattle.poly_mixed.specs.Polynomial.{Polynomial, Terms, IsMap}
 use Rattle.poly_mixed.specs.Sum.{plus}
 use Rattle.poly_mixed.specs.private.Indexed.{terms_in}
-use Rattle.poly_mixed.proofs.Cofactors.{cofactors_map}
-use Rattle.poly_mixed.proofs.Values.{plus_nothing}
+use Rattle.poly_mixed.proofs.CofactorLemmas.{cofactors_map}
+use Rattle.poly_mixed.proofs.ValueLemmas.{plus_nothing}
 use Rattle.poly_mixed.proofs.poly.Poly.with_bit.Goals as goal
 
 pub returns-clause-terms : goal.returns-clause-terms

@@ -1,7 +1,7 @@
 use Rattle.std.proofs.Common.{List, ℕ, sym, ◌∙◌, subst}
 use Rattle.poly_mixed.specs.private.Reading.{after_zero}
 use Rattle.poly_mixed.specs.private.ReadingState.{IsStep}
-use Rattle.poly_mixed.proofs.Parts.{zero_else_at}
+use Rattle.poly_mixed.proofs.PartLemmas.{zero_else_at}
 use Rattle.poly_mixed.proofs.read.Reading.after_0.Goals as goal
 
 pub returns-else-is_coefficient-clause-step : goal.returns-else-is_coefficient-clause-step

@@ -1,4 +1,4 @@
-use Rattle.poly_mixed.proofs.Simple.{no_ranks_rise}
+use Rattle.poly_mixed.proofs.SimpleLemmas.{no_ranks_rise}
 use Rattle.poly_mixed.proofs.read.Reading.close.Goals as goal
 
 pub new-requires : goal.new-requires

@@ -2,7 +2,7 @@ use Rattle.std.proofs.Common.{◌≡◌, ℕ, List, sym, ◌∙◌, ap, subst}
 use Rattle.std.specs.List.Sorted.{IsStrictlySortedBy}
 use Rattle.std.specs.Ordering.{nat_cmp}
 use Rattle.poly_mixed.specs.Product.{union}
-use Rattle.poly_mixed.proofs.Products.{rising-union}
+use Rattle.poly_mixed.proofs.ProductLemmas.{rising-union}
 use Rattle.rato_reduce.proofs.cut.Cut.add_products.Goals as goal
 
 pub add-requires-clause-rising : goal.add-requires-clause-rising

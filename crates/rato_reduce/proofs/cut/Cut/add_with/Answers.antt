@@ -2,7 +2,7 @@ use Rattle.std.proofs.Common.{◌≡◌, ℕ, List, sym, ◌∙◌, ap, subst}
 use Rattle.std.specs.List.Sorted.{IsStrictlySortedBy}
 use Rattle.std.specs.Ordering.{nat_cmp}
 use Rattle.poly_mixed.specs.Product.{with_rank}
-use Rattle.poly_mixed.proofs.Products.{rising-with_rank}
+use Rattle.poly_mixed.proofs.ProductLemmas.{rising-with_rank}
 use Rattle.rato_reduce.proofs.cut.Cut.add_with.Goals as goal
 
 pub add-requires-clause-rising : goal.add-requires-clause-rising

@@ -5,7 +5,7 @@ use Rattle.poly_mixed.specs.Monomial.{Monomial, text_cmp, has_bit}
 use Rattle.poly_mixed.specs.Polynomial.{Terms, IsTerm}
 use Rattle.poly_mixed.specs.Cofactor.{cofactors, lacking, LacksBit}
 use Rattle.poly_mixed.specs.Sum.{plus}
-use Rattle.poly_mixed.proofs.Cofactors.{lacking_all}
+use Rattle.poly_mixed.proofs.CofactorLemmas.{lacking_all}
 use Rattle.rato_reduce.specs.private.CutKey.{CutKey, place_at}
 use Rattle.rato_reduce.specs.private.CutTerms.{CutPolynomial, IsBitTerm, AreEntries, with_constant, term_of, ends_up_to}
 use Rattle.rato_reduce.proofs.CutLemmas.{entry_terms}

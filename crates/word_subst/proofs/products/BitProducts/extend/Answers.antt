@@ -2,7 +2,7 @@ use Rattle.std.proofs.Common.{rules, ap, ◌∙◌, ◌≤◌, ◌++◌, [], ◌
 use Rattle.gf_basis.specs.BasisParts.{elements_of}
 use Rattle.poly_mixed.proofs.FieldLaws.{field_of}
 use Rattle.word_subst.specs.Prefix.{Products, IsNextRefusal}
-use Rattle.word_subst.proofs.Prefixes.{extended, next_over, last_at, last_product, one_bit_more}
+use Rattle.word_subst.proofs.PrefixLemmas.{extended, next_over, last_at, last_product, one_bit_more}
 use Rattle.word_subst.proofs.products.BitProducts.extend.Goals as goal
 
 pub product-requires-clause-left : goal.product-requires-clause-left

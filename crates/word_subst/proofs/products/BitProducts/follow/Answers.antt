@@ -2,7 +2,7 @@ use Rattle.std.proofs.Common.{rules, refl, subst, ◌∙◌, ℕ, List}
 use Rattle.gf_basis.specs.BasisParts.{elements_of}
 use Rattle.poly_mixed.proofs.FieldLaws.{field_of}
 use Rattle.word_subst.specs.Prefix.{IsProductRefusal}
-use Rattle.word_subst.proofs.Prefixes.{first_over, form_at}
+use Rattle.word_subst.proofs.PrefixLemmas.{first_over, form_at}
 use Rattle.word_subst.proofs.products.BitProducts.follow.Goals as goal
 
 pub loop-j-init : goal.loop-j-init

@@ -1,6 +1,6 @@
 use Rattle.std.proofs.Common.{ap, ◌∙◌, length, take, ◌+◌, arith}
 use Rattle.word_subst.specs.Prefix.{Products}
-use Rattle.word_subst.proofs.Prefixes.{kept}
+use Rattle.word_subst.proofs.PrefixLemmas.{kept}
 use Rattle.word_subst.proofs.products.BitProducts.keep.Goals as goal
 
 pub returns-clause-products : goal.returns-clause-products

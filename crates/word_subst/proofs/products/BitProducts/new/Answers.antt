@@ -1,7 +1,7 @@
 use Rattle.std.proofs.Common.{◌∙◌, ◌++◌, [], ◌∷◌, List, ℕ, sym, subst}
 use Rattle.poly_mixed.proofs.FieldLaws.{field_of}
 use Rattle.word_subst.specs.Prefix.{AreProducts}
-use Rattle.word_subst.proofs.Prefixes.{first_products}
+use Rattle.word_subst.proofs.PrefixLemmas.{first_products}
 use Rattle.word_subst.proofs.products.BitProducts.new.Goals as goal
 
 pub returns-clause-products : goal.returns-clause-products

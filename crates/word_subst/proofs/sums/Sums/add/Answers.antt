@@ -3,7 +3,7 @@ use Rattle.std.specs.List.{AllByRecursion}
 use Rattle.poly_mixed.proofs.FieldLaws.{field_of}
 use Rattle.poly_mixed.specs.Polynomial.{value}
 use Rattle.word_subst.specs.Spread.{Groups, IsGroup, all_terms, spread}
-use Rattle.word_subst.proofs.Groups.{new_groups, new_total, few_before, adds_group}
+use Rattle.word_subst.proofs.GroupLemmas.{new_groups, new_total, few_before, adds_group}
 use Rattle.word_subst.proofs.sums.Sums.add.Goals as goal
 
 pub overflow_sub-self : goal.overflow_sub-self

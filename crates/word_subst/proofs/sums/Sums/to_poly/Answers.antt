@@ -1,6 +1,6 @@
 use Rattle.std.proofs.lemmas.Map.Iter.{rest_more}
 use Rattle.std.specs.Map.Iter.{deref_pair}
-use Rattle.word_subst.proofs.Groups.{groups_turn}
+use Rattle.word_subst.proofs.GroupLemmas.{groups_turn}
 use Rattle.word_subst.proofs.sums.Sums.to_poly.Goals as goal
 
 pub loop-rest-preserved : goal.loop-rest-preserved

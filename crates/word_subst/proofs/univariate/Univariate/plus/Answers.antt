@@ -1,6 +1,6 @@
 use Rattle.std.proofs.Common.{arith}
 use Rattle.poly_mixed.proofs.FieldLaws.{field_of}
-use Rattle.word_subst.proofs.Univariates.{merged}
+use Rattle.word_subst.proofs.UnivariateLemmas.{merged}
 use Rattle.word_subst.proofs.univariate.Univariate.plus.Goals.{then-loop-i-test+else-j-right, else-loop-i-test}
 use Rattle.word_subst.proofs.univariate.Univariate.plus.Goals as goal
 

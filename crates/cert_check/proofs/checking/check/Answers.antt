@@ -1,0 +1,7 @@
+use Rattle.std.proofs.Common.{◌≤◌, ℕ, subst, sym}
+use Rattle.cert_check.proofs.checking.check.Goals as goal
+
+pub verdict_on-requires-clause-few : goal.verdict_on-requires-clause-few
+verdict_on-requires-clause-few g c =
+    let P : ℕ → Type 0 = λ n. n ≤ 8 in
+    subst P (sym c.requires.labels.count) c.drivers.ensures.is_bound.parts.few

@@ -1,7 +1,0 @@
-use Rattle.std.proofs.Common.{◌≡◌, ◌++◌, take, Some}
-use Rattle.std.specs.Prelude.{slice_get}
-use Rattle.net_words.specs.declared.bound.BoundWord.{BoundWord}
-use Rattle.cert_check.proofs.running.add_word.Given as goal
-
-abbrev pub invariant-loop-place : goal.invariant-loop-place
-invariant-loop-place l = (word : BoundWord) → slice_get l.bound.words l.w ≡ Some word → l.list.items ≡ l.initial.list.items ++ take l.place word.nets

@@ -1,9 +1,0 @@
-use Rattle.std.proofs.Common.{arith}
-use Rattle.cert_check.proofs.OutputLemmas.{some_at, one_word}
-use Rattle.cert_check.proofs.running.output_nets.Goals as goal
-
-pub loop-w-preserved : goal.loop-w-preserved
-loop-w-preserved c =
-    let words = c.args.bound.now.words in
-    let word = some_at words c.loop-w.w (omega arith) in
-    one_word words c.loop-w.w word.0 c.loop-w.list.items c.add_word.new.list.items word.1 (c.in_ok-add_word.ensures word.0 word.1) c.loop-w.invariant

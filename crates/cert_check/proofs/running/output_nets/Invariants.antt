@@ -1,6 +1,0 @@
-use Rattle.std.proofs.Common.{◌≡◌, ◌++◌, drop}
-use Rattle.net_words.specs.BoundTo.{output_bits}
-use Rattle.cert_check.proofs.running.output_nets.Given as goal
-
-abbrev pub invariant-loop-w : goal.invariant-loop-w
-invariant-loop-w l = l.list.items ++ output_bits (drop l.w l.bound.words) ≡ output_bits l.bound.words

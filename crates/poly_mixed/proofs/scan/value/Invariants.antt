@@ -1,6 +1,0 @@
-use Rattle.std.proofs.Common.{◌≡◌, ◌+◌, ◌*◌, ◌^◌, length, drop}
-use Rattle.text_core.specs.Numbers.{value_of}
-use Rattle.poly_mixed.proofs.scan.value.Given as goal
-
-abbrev pub invariant-loop-byte : goal.invariant-loop-byte
-invariant-loop-byte l = l.n * l.base ^ length (drop l.byte-index l.digits) + value_of l.base (drop l.byte-index l.digits) ≡ value_of l.base l.digits

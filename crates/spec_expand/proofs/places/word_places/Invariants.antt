@@ -1,6 +1,0 @@
-use Rattle.std.proofs.Common.{◌≡◌, ◌++◌, drop}
-use Rattle.spec_expand.specs.private.Places.{places_from}
-use Rattle.spec_expand.proofs.places.word_places.Given as goal
-
-abbrev pub invariant-loop-v : goal.invariant-loop-v
-invariant-loop-v l = l.list.items ++ places_from l.v (drop l.v l.bound.words) ≡ places_from 0 l.bound.words
