@@ -96,12 +96,12 @@ class Composition:
         return all(n in instance.actual and n not in inputs for n in word.nets)
 
     def levels(self):
-        """The instances by rising level and number, or the ring that they stand in."""
+        """The instances by rising level and number, or the cycle that they stand in."""
         level, left = {}, [i for i in range(len(self.instances))]
         while left:
             ready = [i for i in left if all(j in level for j in self.before(i))]
             if not ready:
-                raise self.ring(left)
+                raise self.cycle(left)
             for i in ready:
                 level[i] = 1 + max([0] + [level[j] for j in self.before(i)])
             left = [i for i in left if i not in level]
@@ -110,7 +110,7 @@ class Composition:
     def before(self, i):
         return [source[1] for source in self.instances[i].feeds if source[0] == 'instance']
 
-    def ring(self, left):
+    def cycle(self, left):
         at, met = left[0], []
         while at not in met:
             met.append(at)
