@@ -32,7 +32,7 @@ module _ (design : List ModelValue) (model : ℕ) (words : List WordText) where
     pub fault : BindFault
     pub refused : BindingOf net words [] (Err fault)
 
-  -- why there is no circuit; want of memory is free
+  -- why there is no circuit; out of memory is free
   abbrev pub IsBlockFault : BlockFault → Type 0
   IsBlockFault NoNet = (fault : FlatFault) × Flattens design model (Err fault)
   IsBlockFault HasLatch = IsLatched

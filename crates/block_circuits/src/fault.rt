@@ -18,7 +18,7 @@ pub enum BlockFault {
     /// Its words do not bind to its net.
     #[error("the block does not bind")]
     NotBound,
-    /// Want of memory.
+    /// Out of memory.
     #[error("out of memory")]
     OutOfMemory,
 }

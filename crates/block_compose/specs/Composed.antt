@@ -122,13 +122,13 @@ ComposesIn k mul signature h bound = do
 abbrev pub Composes : ℕ → (ℕ → ℕ → ℕ) → List ModelValue → SignatureValue → List (List Basis) → ℕ → Outcome ComposeFault Terms
 Composes k mul design signature bases bound = ComposesIn k mul signature (hierarchy_of design signature bases) bound
 
--- the refusal of a composition; want of memory is none, in each of its steps
+-- the refusal of a composition; out of memory is none, in each of its steps
 abbrev pub refusal : ComposeFault → Option ComposeFault
 refusal (Plan plans.OutOfMemory) = None
 refusal (Wiring wirings.OutOfMemory) = None
 refusal OutOfMemory = None
 refusal fault = Some fault
 
--- the fault is one that may come, or want of memory
+-- the fault is one that may come, or out of memory
 abbrev pub MayFault : {A : Type 0} → Outcome ComposeFault A → ComposeFault → Type 0
 MayFault outcome fault = MayRefuse outcome (refusal fault)

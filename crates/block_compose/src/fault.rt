@@ -30,7 +30,7 @@ pub enum ComposeFault {
         stage: Stage,
         terms: u64,
     },
-    /// Want of memory. Where the blocks or the wiring wanted it, their own fault says so.
+    /// Out of memory. Where the blocks or the wiring ran out of it, their own fault says so.
     #[error("out of memory")]
     OutOfMemory,
 }

@@ -14,12 +14,12 @@ use Rattle.block_plan.specs.Uses.{BlockUse}
 use Rattle.block_plan.specs.declared.fault.PlanFault.{PlanFault}
 use Rattle.block_plan.specs.declared.fault.PlanFault.TheVariants.{OutOfMemory}
 
--- the refusal of a top; want of memory is none
+-- the refusal of a top; out of memory is none
 abbrev pub refusal : PlanFault → Option PlanFault
 refusal OutOfMemory = None
 refusal fault = Some fault
 
--- the fault is one that may come, or want of memory
+-- the fault is one that may come, or out of memory
 abbrev pub MayFault : {A : Type 0} → Outcome PlanFault A → PlanFault → Type 0
 MayFault outcome fault = MayRefuse outcome (refusal fault)
 

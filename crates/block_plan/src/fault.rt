@@ -27,7 +27,7 @@ pub enum PlanFault {
     /// The words of a block do not bind to its net.
     #[error("a block that does not bind")]
     BlockBind { model: Name },
-    /// Want of memory.
+    /// Out of memory.
     #[error("out of memory")]
     OutOfMemory,
 }

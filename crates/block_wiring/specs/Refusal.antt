@@ -45,7 +45,7 @@ pub record IsFirstRefused (h : Hierarchy) (i w : ℕ) : Type 0 where
 abbrev pub AreAllFed : Hierarchy → Type 0
 AreAllFed h = (i w : ℕ) → IsRefusedAt h i w → ⊥
 
--- why a top is not wired, where instances count from 1; want of memory is free
+-- why a top is not wired, where instances count from 1; out of memory is free
 abbrev pub IsWiringFault : Hierarchy → WiringFault → Type 0
 IsWiringFault h (NotWords n w) = (i : ℕ) × (n ≡ i + 1) × IsFirstRefused h i w
 IsWiringFault h OutputNotWords = AreAllFed h × ((feed : Feeder) → FeedsOutput h feed → ⊥)

@@ -15,7 +15,7 @@ pub enum WiringFault {
     /// No feed fits the output word of the top.
     #[error("no feed fits the output word")]
     OutputNotWords,
-    /// Want of memory.
+    /// Out of memory.
     #[error("out of memory")]
     OutOfMemory,
 }

@@ -7,7 +7,7 @@ ghost use Rattle.block_wiring.specs.Refusal.{IsWiringFault};
 ghost use Rattle.block_wiring.specs.declared.fault.WiringFault.{WiringFault};
 ghost use Rattle.block_wiring.specs.declared.fault.WiringFault.TheVariants.{OutOfMemory};
 
-/// A top is wired in one way, or has one refusal; want of memory aside.
+/// A top is wired in one way, or has one refusal; out of memory aside.
 pub fn wiring_has_one_answer()
     ensures wirings { (h : Hierarchy) (rows more : List (List Feeder)) (output other : Feeder) → AreWired h rows output → AreWired h more other → (rows ≡ more) × (output ≡ other) }
     ensures refusals { (h : Hierarchy) (a b : WiringFault) → IsWiringFault h a → IsWiringFault h b → a ≢ OutOfMemory → b ≢ OutOfMemory → a ≡ b }

@@ -17,12 +17,12 @@ fault_at n line.OutOfMemory = OutOfMemory
 abbrev pub no_end : CertFault
 no_end = NoEnd
 
--- the refusal of a line; want of memory is none
+-- the refusal of a line; out of memory is none
 abbrev pub line_refusal : LineFault → Option LineFault
 line_refusal line.OutOfMemory = None
 line_refusal fault = Some fault
 
--- the refusal of a certificate; want of memory is none
+-- the refusal of a certificate; out of memory is none
 abbrev pub refusal : CertFault → Option CertFault
 refusal OutOfMemory = None
 refusal fault = Some fault

@@ -87,7 +87,7 @@ impl CertPairs {
         self.shared.len()
     }
 
-    // Adds a pair. After want of memory the pairs are not used again.
+    // Adds a pair. After running out of memory the pairs are not used again.
     fn add_pair(&mut self, generator: Generator, multiplier: Multiplier) -> Result<(), AllocError>
         requires multiplier { IsNumbered (length self.old.shared) multiplier }
         requires few { length self.old.pairs + 1 < 2 ^ 32 }
@@ -100,7 +100,7 @@ impl CertPairs {
         Ok(())
     }
 
-    // Adds a shared multiplier. After want of memory the pairs are not used again.
+    // Adds a shared multiplier. After running out of memory the pairs are not used again.
     fn share(&mut self, poly: Poly) -> Result<(), AllocError>
         ensures { OnOk result (self.new ≡ with_shared self.old poly.terms) }
     {
@@ -108,7 +108,7 @@ impl CertPairs {
         Ok(())
     }
 
-    // Adds what a line says. After want of memory the pairs are not used again.
+    // Adds what a line says. After running out of memory the pairs are not used again.
     pub(crate) fn add(&mut self, line: Line) -> Result<(), AllocError>
         requires { IsLineIn self.old line }
         ensures { OnOk result (self.new ≡ with_line self.old line) }

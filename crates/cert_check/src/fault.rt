@@ -6,7 +6,7 @@ use poly_mixed::PolyFault;
 use std::alloc::{AllocError, AllocFailed};
 use thiserror::Error;
 
-/// What is wrong with a line, or want of memory.
+/// What is wrong with a line, or out of memory.
 #[derive(Clone, Copy, Debug, PartialEq, Eq)]
 pub enum LineFault {
     /// It is no line of its place.
@@ -19,11 +19,11 @@ pub enum LineFault {
     NotDriven,
     /// It has the number of a shared multiplier that does not stand before it.
     NoSuchLet,
-    /// Want of memory.
+    /// Out of memory.
     OutOfMemory,
 }
 
-/// The fault of the first line that shows one, or want of memory. Lines are counted from 1.
+/// The fault of the first line that shows one, or out of memory. Lines are counted from 1.
 #[derive(Clone, Copy, Debug, PartialEq, Eq, Error)]
 pub enum CertFault {
     /// The line is no line of its place.
@@ -47,7 +47,7 @@ pub enum CertFault {
     /// The text ends without `end`.
     #[error("no end line")]
     NoEnd,
-    /// Want of memory.
+    /// Out of memory.
     #[error("out of memory")]
     OutOfMemory,
 }

@@ -49,7 +49,7 @@ impl Marks {
         self.map.get(text).copied()
     }
 
-    /// Sees a text. After want of memory the marks are not used again.
+    /// Sees a text. After running out of memory the marks are not used again.
     pub(crate) fn see(&mut self, text: TextKey) -> Result<(), AllocError>
         ensures { OnOk result ((q : List ℕ) → mark_at self.new q ≡ cond (bytes_eq q text) (Some (seen_again (mark_at self.old q))) (mark_at self.old q)) }
     {
@@ -58,7 +58,7 @@ impl Marks {
         Ok(())
     }
 
-    /// Gives a text its number. After want of memory the marks are not used again.
+    /// Gives a text its number. After running out of memory the marks are not used again.
     pub(crate) fn give(&mut self, text: TextKey, number: u64) -> Result<(), AllocError>
         ensures { OnOk result ((q : List ℕ) → mark_at self.new q ≡ cond (bytes_eq q text) (Some (Number number)) (mark_at self.old q)) }
     {

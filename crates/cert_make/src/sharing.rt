@@ -37,7 +37,7 @@ impl Sharing {
         number_text(alloc, number)
     }
 
-    /// How the multiplier of this text is written, after its `let` line where it is due. After want of memory it is not
+    /// How the multiplier of this text is written, after its `let` line where it is due. After running out of memory it is not
     /// used again.
     pub(crate) fn multiplier(
         &mut self,

@@ -27,7 +27,7 @@ joined (SpecSum s) = Later (SpecSum s)
 joined (InstanceProduct i s j) = Later (InstanceProduct i s j)
 joined (InstanceSum i s) = Later (InstanceSum i s)
 
--- the first stage over the bound, with its size; want of memory is free
+-- the first stage over the bound, with its size; out of memory is free
 abbrev pub IsFirstRefusal : ℕ → (ℕ → ℕ → ℕ) → Listing (Joined Stage Stage) → ℕ → ReduceFault → Type 0
 IsFirstRefusal k mul listing bound (TooManyTerms stage n) = IsOver k mul listing bound (joined stage) n
 IsFirstRefusal k mul listing bound OutOfMemory = Unit {0}

@@ -74,7 +74,7 @@ told_stops setting circuit spec bound view (stops.Refused fault) is = is
 told_stops setting circuit spec bound view stops.Outside is = is
 told_stops setting circuit spec bound view stops.OutOfMemory is = tt
 
--- what ends for want of memory gives nothing
+-- what ends for lack of memory gives nothing
 pub memory_alone : {X A : Type 0} (view : X → A) (result : Result X Stop) (outcome : Outcome Fault A) → IsErr result → IsErrAnd result (λ stop. stop ≡ stops.OutOfMemory) → GivesBy view result outcome ⊥ ⊥
 memory_alone view (Ok x) outcome is and = absurd cc
 memory_alone view (Err (stops.Refused fault)) outcome is and = absurd cc

@@ -31,7 +31,7 @@ pub record HaveDuals (setting : SettingValue) (circuit : BoundNet) (bases : List
   pub elements : elements_of_each bases ≡ setting.bases
   pub are : AreBases setting.k setting.product circuit bases
 
--- the fault of a certificate's text; a running sum over the bound is none, and want of memory is none
+-- the fault of a certificate's text; a running sum over the bound is none, and out of memory is none
 abbrev pub certificate_fault_of : CertFault → Option Fault
 certificate_fault_of (text.Syntax line) = Some (faults.Certificate (certificate.Syntax line))
 certificate_fault_of (text.NoSuchNet line) = Some (faults.Certificate (certificate.NoSuchNet line))

@@ -144,7 +144,7 @@ fn status_and_text<S: Shelf>(
 }
 
 /// All that the program does: the words after its name, the files that it may read, the output.
-/// The result is its status: 0 printed or yes, 1 no, 2 refused, 3 a stage passed the bound, 4 the outside failed, 5 want of memory.
+/// The result is its status: 0 printed or yes, 1 no, 2 refused, 3 a stage passed the bound, 4 the outside failed, 5 out of memory.
 pub fn run<S: Shelf, K: Sink>(alloc: Global, words: &[String], shelf: &mut S, sink: &mut K) -> u8
     // The whole of an answer is written, with its status, unless the outside or memory fails.
     ensures answers { (result ≡ 4) ⊎ (result ≡ 5) ⊎ Writes (Answer (map string_bytes words.now) (S.held shelf.old))
@@ -176,7 +176,7 @@ pub fn run<S: Shelf, K: Sink>(alloc: Global, words: &[String], shelf: &mut S, si
     }
 }
 
-/// The same over a shelf and a sink that never fail: the status is that of the answer, or want of memory.
+/// The same over a shelf and a sink that never fail: the status is that of the answer, or out of memory.
 pub fn run_surely(alloc: Global, words: &[String], shelf: &mut SureShelf, sink: &mut SureSink) -> u8
     ensures answers { (result ≡ 5) ⊎ ((text : _) × IsText (Answer (map string_bytes words.now) (Some (sure_files shelf.old)))
         (Rose (sure_misses shelf.old) (sure_misses shelf.new)) result text) }

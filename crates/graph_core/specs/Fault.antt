@@ -5,7 +5,7 @@ use Rattle.graph_core.specs.Cycle.{IsCycleOf}
 use Rattle.graph_core.specs.declared.fault.CycleFault.{CycleFault}
 use Rattle.graph_core.specs.declared.fault.CycleFault.TheVariants.{Cycle, OutOfMemory}
 
--- the cycle that the walk from these roots finds, or want of memory
+-- the cycle that the walk from these roots finds, or out of memory
 abbrev pub IsCycleFault : Graph → List ℕ → CycleFault → Type 0
 IsCycleFault graph roots (Cycle points) = IsCycleOf graph roots points.items
 IsCycleFault graph roots OutOfMemory = Unit {0}

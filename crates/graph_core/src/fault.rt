@@ -5,7 +5,7 @@ ghost use Rattle.graph_core.specs.declared.fault.CycleFault.TheVariants.{OutOfMe
 use std::alloc::{AllocError, AllocFailed};
 use thiserror::Error;
 
-/// A cycle, whose points stand in the order of the walk, or want of memory.
+/// A cycle, whose points stand in the order of the walk, or out of memory.
 #[derive(Debug, Drop, Error)]
 pub enum CycleFault {
     #[error("points lead to each other in a cycle")]

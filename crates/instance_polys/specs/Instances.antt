@@ -55,7 +55,7 @@ module _ (k : ℕ) (mul : ℕ → ℕ → ℕ) (words blocks : List Terms) (rows
     pub row : slice_get rows i ≡ Some feeds
     pub over : IsOver k mul (instance_listing mul (values_of mul words polys feeds) (i + 1) (block_terms block)) bound stage size
 
-  -- that stage with its size; want of memory is free
+  -- that stage with its size; out of memory is free
   abbrev pub IsRefused : List ℕ → ReduceFault → Type 0
   IsRefused order (TooManyTerms stage size) = IsFirstOver order stage size
   IsRefused order OutOfMemory = Unit {0}

@@ -134,7 +134,7 @@ fault_named net words feeds (binds.Uncovered n) inside fits = binding_named net 
 fault_named net words feeds (binds.UnknownStart n) inside fits = binding_named net words feeds (binds.UnknownStart n) inside fits
 fault_named net words feeds binds.OutOfMemory inside fits = tt
 
--- a fault that is not want of memory is one that may come
+-- a fault that is not out of memory is one that may come
 fault_comes : (net : NetList) (words : List WordText) (feeds : List FeedText) (fault : BindFault) → ¬ (fault ≡ binds.OutOfMemory) → FitsBinding {A = Binding} (λ bound. bound) (Err fault) (BindingOf net words feeds) → BindingOf net words feeds (Err fault)
 fault_comes net words feeds (binds.NoSuchNet word place) other fits = fits
 fault_comes net words feeds (binds.NotInput word place) other fits = fits

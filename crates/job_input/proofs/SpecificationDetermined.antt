@@ -11,7 +11,7 @@ use Rattle.job_words.specs.declared.specification_fault.SpecificationFault.{Spec
 use Rattle.job_words.specs.declared.specification_fault.SpecificationFault.TheVariants as specification
 use Rattle.job_input.specs.SpecificationIn.{SpecificationOf, text_fault_of}
 
--- the fault of a specification that a fault of its text is; want of memory is taken as any other
+-- the fault of a specification that a fault of its text is; out of memory is taken as any other
 back_fault : SpecFault → SpecificationFault
 back_fault (text.Syntax place) = specification.Syntax place
 back_fault (text.UnknownWord place) = specification.UnknownWord place

@@ -9,7 +9,7 @@ use Rattle.job_words.specs.declared.table_text_fault.TableTextFault.{TableTextFa
 use Rattle.job_words.specs.declared.table_text_fault.TableTextFault.TheVariants as table
 use Rattle.job_input.specs.TableIn.{TableOf, table_fault_of}
 
--- the fault of a table that a fault of its text is; want of memory is taken as any other
+-- the fault of a table that a fault of its text is; out of memory is taken as any other
 back_fault : TableFault → TableTextFault
 back_fault (text.Syntax line) = table.Syntax line
 back_fault (text.TooLarge line) = table.TooLarge line

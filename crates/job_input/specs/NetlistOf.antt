@@ -39,7 +39,7 @@ use Rattle.job_words.specs.declared.netlist_fault.NetlistFault.TheVariants as ne
 abbrev pub word_name : List WordText → ℕ → Word
 word_name words w = option_map_or (λ (word : WordText). word.name) (slice_get words w) []
 
--- A fault of the text as a fault of the netlist. Want of memory comes of no text: what stands for it is never met.
+-- A fault of the text as a fault of the netlist. Out of memory comes of no text: what stands for it is never met.
 abbrev pub of_text : BlifFault → NetlistFault
 of_text texts.NoModel = netlist.NoModel
 of_text (texts.Syntax line) = netlist.Syntax line

@@ -23,7 +23,7 @@ use Rattle.job_words.specs.declared.signature_fault.SignatureFault.TheVariants a
 use Rattle.job_input.specs.FieldOf.{FieldValue, FieldOf}
 use Rattle.job_input.specs.SettingValue.{SettingValue}
 
--- the fault that a fault of a signature's text is; want of memory, which no text has, is taken as any other
+-- the fault that a fault of a signature's text is; out of memory, which no text has, is taken as any other
 abbrev pub signature_fault_of : SigFault → SignatureFault
 signature_fault_of (text.Syntax line) = signature.Syntax line
 signature_fault_of (text.NameTwice line) = signature.NameTwice line

@@ -87,7 +87,7 @@ impl<R: Files> Shelf for FileShelf<R> {
 
     ghost misses = { λ s. file_misses s };
 
-    /// A file that the system does not find is `Absent`, and any other error but want of memory is `Failed`.
+    /// A file that the system does not find is `Absent`, and any other error but out of memory is `Failed`.
     fn read(&mut self, alloc: Global, name: &str, limit: u32) -> Result<Vec<u8>, ShelfFault>
         ensures faults { file_faults self.new ≡ faults_after result (file_faults self.old) }
         ensures misses { file_misses self.new ≡ misses_after result (file_misses self.old) }

@@ -5,7 +5,7 @@ ghost use Rattle.lift_table.specs.declared.fault.TableFault.TheVariants.{OutOfMe
 use std::alloc::{AllocError, AllocFailed};
 use thiserror::Error;
 
-/// Why the text of a table is refused, or want of memory. Lines count from 1.
+/// Why the text of a table is refused, or out of memory. Lines count from 1.
 #[derive(Clone, Copy, Debug, PartialEq, Eq, Error)]
 pub enum TableFault {
     /// The line has another form than the head or one number, is missing, or is one too many.
@@ -14,7 +14,7 @@ pub enum TableFault {
     /// The value of the line is not below `2^k`.
     #[error("value too large at line {line}")]
     TooLarge { line: u32 },
-    /// Want of memory.
+    /// Out of memory.
     #[error("out of memory")]
     OutOfMemory,
 }

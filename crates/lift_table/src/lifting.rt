@@ -16,7 +16,7 @@ use poly_mixed::{Mono, Poly};
 use std::alloc::{AllocError, Global};
 
 /// The one reduced polynomial of the function of a table of so many words, at most 8, with a row for each input, each value
-/// an element. It answers nothing but the polynomial and want of memory.
+/// an element. It answers nothing but the polynomial, or runs out of memory.
 pub fn lift<F: Field>(
     alloc: Global,
     field: &F,

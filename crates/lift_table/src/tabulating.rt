@@ -20,7 +20,7 @@ use net_words::Combinational;
 use std::alloc::{AllocError, Global};
 
 /// The output of a circuit at each input, by row; there is one basis of this field for each word of the binding, and each
-/// word has k bits. It answers nothing but the table and want of memory.
+/// word has k bits. It answers nothing but the table, or runs out of memory.
 pub fn table<F: Field>(
     alloc: Global,
     field: &F,

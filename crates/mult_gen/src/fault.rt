@@ -11,7 +11,7 @@ pub enum MakeFault {
     /// The signature has not the form that the kind asks for.
     #[error("the signature does not fit")]
     Unfit,
-    /// Want of memory.
+    /// Out of memory.
     #[error("out of memory")]
     OutOfMemory,
 }

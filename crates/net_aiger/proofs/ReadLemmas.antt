@@ -55,11 +55,11 @@ cut_short n text reading none complete = rw (no_lines text none, complete) refl
 
 -- ---- the whole
 
--- the fault of a net, or want of memory
+-- the fault of a net, or out of memory
 abbrev pub IsWrapped : NetFault → AigerFault → Type 0
 IsWrapped refusal fault = ((refusal ≡ nets.OutOfMemory) × (fault ≡ OutOfMemory)) ⊎ (¬ (refusal ≡ nets.OutOfMemory) × (fault ≡ Net refusal))
 
--- want of memory, or a fault of the text
+-- out of memory, or a fault of the text
 abbrev pub Comes : List ℕ → AigerFault → Type 0
 Comes text fault = (fault ≡ OutOfMemory) ⊎ AigerNet text (Err fault)
 

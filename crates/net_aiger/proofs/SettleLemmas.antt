@@ -87,7 +87,7 @@ one_fault net drive (Loop v a) (DrivenTwice m b) first second = absurd (omega (a
 one_fault net drive (Loop v a) (Undriven m b) first second = absurd (omega (arith, first.0 m second.0, second.2))
 one_fault net drive (Loop v a) (Loop w b) first second = same_loop net v w a b (loops_same net drive first.0 v w first.1 second.1) first.2 second.2
 
--- a fault is one of finishing, and no want of memory
+-- a fault is one of finishing, and not out of memory
 settled : (net : NetList) (fault : NetFault) → Settles net (Err fault) → Finishes net (Err fault) × ¬ (fault ≡ OutOfMemory)
 settled net TooManyNets is = absurd is
 settled net TooManyGates is = absurd is
@@ -148,7 +148,7 @@ module _ {F A B : Type 0} (first : Outcome F A) (second : A → Outcome F B) (on
     | inr w ↦ elim k [ inl v ↦ never w.0 e _ w.1 v | inr v ↦ rest w.0 v.0 (Err d) (Err e) w.1 v.1 w.2 v.2 ]
   ]
 
--- a fault of finishing that is no want of memory settles
+-- a fault of finishing that is not out of memory settles
 pub settles : (net : NetList) (fault : NetFault) → ¬ (fault ≡ OutOfMemory) → Finishes net (Err fault) → Settles net (Err fault)
 settles net TooManyNets other h = h
 settles net TooManyGates other h = h

@@ -13,7 +13,7 @@ use Rattle.net_aiger.specs.Nets.{net_made}
 use Rattle.net_aiger.specs.declared.fault.AigerFault.{AigerFault}
 use Rattle.net_aiger.specs.declared.fault.AigerFault.TheVariants.{Net}
 
--- what comes of the net list, want of memory left out
+-- what comes of the net list, out of memory left out
 abbrev pub Settles : NetList → Outcome NetFault NetList
 Settles net (Err OutOfMemory) = ⊥
 Settles net outcome = Finishes net outcome

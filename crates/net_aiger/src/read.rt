@@ -54,7 +54,7 @@ fn read_text(alloc: Global, key: u64, text: &[u8]) -> Result<Reader, AigerFault>
     read_lines(Reader::new(alloc, key, header), rest)
 }
 
-// A fault of nets, or want of memory.
+// A fault of nets, or out of memory.
 fn fault_of(fault: NetFault) -> AigerFault
     ensures { ((fault ≡ NetFault.OutOfMemory) × (result ≡ AigerFault.OutOfMemory)) ⊎ (¬ (fault ≡ NetFault.OutOfMemory) × (result ≡ AigerFault.Net fault)) }
 {
@@ -67,7 +67,7 @@ fn fault_of(fault: NetFault) -> AigerFault
 /// The net of a text in ASCII AIGER, of at most 67,108,864 bytes, or its first fault. Line by line, and at one line in this
 /// order: `Syntax`, `LeftOut`, `Literal` and `DefinedTwice`. After the last line come `Undefined` at the first line that uses
 /// a variable without a definition, `NameTwice` at the line of the first input, latch or output with the name of an earlier
-/// one, and `Net`, which holds no want of memory. Want of memory may come at any place.
+/// one, and `Net`, which is never out of memory. It may run out of memory at any place.
 pub fn read_aiger(alloc: Global, bytes: &[u8]) -> Result<Net, AigerFault>
     requires { length bytes.now ≤ 67108864 }
     ensures net { IfOk result (λ net. AigerNet bytes.now (Ok net)) }

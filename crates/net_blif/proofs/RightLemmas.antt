@@ -35,7 +35,7 @@ walk_wrong models fault none wrong = inr (tt, sym (ap refused none), inl wrong)
 pub depth_wrong : (models : List ModelValue) (fault : BlifFault) → instances_fault models ≡ None → WalkEnds models (Ok tt) → AreWithinDepth models (Err fault) → AreRight models (Err fault)
 depth_wrong models fault none ends wrong = inr (tt, sym (ap refused none), inr (tt, ends, wrong))
 
--- what a step answers in place of right, or want of memory
+-- what a step answers in place of right, or out of memory
 pub wrong_formals : (models : List ModelValue) (fault wanting : BlifFault) → (fault ≡ wanting) ⊎ (instances_fault models ≡ Some fault) → (fault ≡ wanting) ⊎ AreRight models (Err fault)
 wrong_formals models fault wanting (inl is) = inl is
 wrong_formals models fault wanting (inr some) = inr (formals_wrong models fault some)

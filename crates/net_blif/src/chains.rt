@@ -64,7 +64,7 @@ fn first_point(points: &[u32]) -> u32
     points[0]
 }
 
-// The fault that names the first model of a cycle, or want of memory.
+// The fault that names the first model of a cycle, or out of memory.
 fn recursive(alloc: Global, models: &ModelList, cycle: &[u32]) -> BlifFault
     requires cycle { IsCycleOf (graph_of models.now) (0 ∷ []) cycle.now }
     ensures { (result ≡ BlifFault.OutOfMemory) ⊎ WalkEnds models.now (Err result) }

@@ -85,7 +85,7 @@ fn read_lines(alloc: Global, text: &[u8]) -> Result<Reader, BlifFault>
 /// A text without `.model` as its first statement is `NoModel`; else the first line with a fault decides,
 /// and at one line `Syntax` comes before the others. After the last line come the instances, in order of the lines:
 /// at one line `NoSuchModel`, then from left to right at each connection `NoSuchFormal` and `FormalTwice`, and then
-/// `FormalMissing`; after all lines `Recursive`, and then `TooDeep`. Want of memory may come at any place.
+/// `FormalMissing`; after all lines `Recursive`, and then `TooDeep`. It may run out of memory at any place.
 pub fn read_blif(alloc: Global, bytes: &[u8]) -> Result<Design, BlifFault>
     requires { length bytes.now ≤ 67108864 }
     ensures read { IfOk result (λ design. BlifDesign bytes.now (Ok design)) }

@@ -109,7 +109,7 @@ same_loop net v w x y same (n, at, is) (m, at', is') =
     let e : n ≡ m = cc in
     rw (is, is', e, same) refl
 
--- of the faults but want of memory, one fits at most
+-- of the faults but out of memory, one fits at most
 pub one_fault : (net : NetList) (x y : NetFault) → IsInside net → Finishes net (Err x) → Finishes net (Err y) → (x ≡ OutOfMemory) ⊎ ((y ≡ OutOfMemory) ⊎ (x ≡ y))
 one_fault net TooManyNets y inside first second = absurd first
 one_fault net TooManyGates y inside first second = absurd first

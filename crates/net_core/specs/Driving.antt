@@ -19,7 +19,7 @@ pub record IsGraphOf (net : NetList) (graph : Graph) : Type 0 where
 abbrev pub roots_of : NetList → List ℕ
 roots_of net = map (λ (g : GateValue). g.out) net.gates ++ sources net
 
--- the loop that a walk finds in place of an order, or want of memory
+-- the loop that a walk finds in place of an order, or out of memory
 abbrev pub IsLoopFault : NetList → CycleFault → Type 0
 IsLoopFault net (Cycle points) = IsLoop net points.items
 IsLoopFault net OutOfMemory = Unit {0}

@@ -22,8 +22,8 @@ pub fn loop_is_the_only_one()
     ensures { (net : NetList) (loop other : List ℕ) → IsInside net → HasOneDriverEach net → IsLoop net loop → IsLoop net other → loop ≡ other }
 {}
 
-/// Of a sound net list `finish` gives no fault but want of memory; of one that stands on existing nets it gives one
-/// fault at most: two that fit are equal, or one is want of memory.
+/// Of a sound net list `finish` gives no fault but out of memory; of one that stands on existing nets it gives one
+/// fault at most: two that fit are equal, or one is out of memory.
 pub fn finish_accepts_the_sound_nets()
     ensures sound { (net : NetList) (fault : NetFault) → IsSound net → Finishes net (Err fault) → fault ≡ NetFault.OutOfMemory }
     ensures one_fault { (net : NetList) (fault other : NetFault) → IsInside net → Finishes net (Err fault) → Finishes net (Err other) → (fault ≡ NetFault.OutOfMemory) ⊎ ((other ≡ NetFault.OutOfMemory) ⊎ (fault ≡ other)) }

@@ -45,7 +45,7 @@ pub fn order_by(
 
 /// The positions of the gates by rising level and then by rising position.
 /// The level of a primary input and of a latch's output is 0; that of a gate is 1 plus the greatest of its inputs,
-/// and 1 if it has none. It answers nothing but the order and want of memory.
+/// and 1 if it has none. It answers nothing but the order, or runs out of memory.
 pub fn order(alloc: Global, net: &Net) -> Result<Vec<u32>, AllocError>
     ensures { IfOk result (λ v. IsLevelOrder net.now v.items) }
 {

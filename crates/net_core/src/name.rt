@@ -19,7 +19,7 @@ impl Model for Name {
 }
 
 impl Name {
-    /// A name of this text. It answers nothing but the name and want of memory.
+    /// A name of this text. It answers nothing but the name, or runs out of memory.
     pub fn new(alloc: Global, text: &str) -> Result<Name, AllocError>
         ensures { IfOk result (λ name. name ≡ text.now) }
     {

@@ -177,7 +177,7 @@ fn first_net(_net: &NetMaker, nets: &[u32]) -> u32
     nets[0]
 }
 
-// The fault that names this loop, or want of memory.
+// The fault that names this loop, or out of memory.
 fn loop_fault(alloc: Global, net: &NetMaker, nets: Vec<u32>) -> NetFault
     requires inside { IsInside net.now }
     requires one { HasOneDriverEach net.now }

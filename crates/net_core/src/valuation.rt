@@ -97,7 +97,7 @@ fn values_by(
 
 /// The one list of bits, one for each net, in which the primary inputs have these values, in the order of `inputs`,
 /// and each gate's output is its table's bit. The net has no latches.
-/// It answers nothing but the list and want of memory.
+/// It answers nothing but the list, or runs out of memory.
 pub fn eval(alloc: Global, net: &Net, values: &[bool]) -> Result<Vec<bool>, AllocError>
     requires latches { net.now.latches ≡ [] }
     requires values { length values.now ≡ length net.now.inputs }

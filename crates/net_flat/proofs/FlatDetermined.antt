@@ -88,7 +88,7 @@ one_fault net drive (Loop v a) (DrivenTwice m b) first second = absurd (omega (a
 one_fault net drive (Loop v a) (Undriven m b) first second = absurd (omega (arith, first.0 m second.0, second.2))
 one_fault net drive (Loop v a) (Loop w b) first second = same_loop net v w a b (loops_same net drive first.0 v w first.1 second.1) first.2 second.2
 
--- a fault is one of finishing, and no want of memory
+-- a fault is one of finishing, and not out of memory
 settled : (net : NetList) (fault : NetFault) → Settles net (Err fault) → Finishes net (Err fault) × ¬ (fault ≡ OutOfMemory)
 settled net TooManyNets is = absurd is
 settled net TooManyGates is = absurd is

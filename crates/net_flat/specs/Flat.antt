@@ -82,7 +82,7 @@ walked flat steps = walked_by after_step flat steps
 abbrev pub net_list : Flat → NetList
 net_list flat = record { labels = map label_of flat.paths; inputs = flat.inputs; outputs = flat.outputs; gates = flat.gates; latches = flat.latches }
 
--- what comes of the net list, want of memory left out
+-- what comes of the net list, out of memory left out
 abbrev pub Settles : NetList → Outcome NetFault NetList
 Settles net (Err nets.OutOfMemory) = ⊥
 Settles net outcome = Finishes net outcome

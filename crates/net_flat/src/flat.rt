@@ -29,7 +29,7 @@ fn walk(alloc: Global, design: &Design, model: u32) -> Result<NetMaker, FlatFaul
 /// numbers of the instances, each with a `/`, and the name. The walk goes through 64 models one
 /// inside another: no chain from the top has more, and of a model that no such chain reaches what is deeper is left out.
 /// A net, a gate or latch, or an instance that would be the 1,048,577th is refused where it is met. Then a net with two
-/// drivers or none, or gates that drive each other in a cycle, refuse the net. Want of memory may come at any place.
+/// drivers or none, or gates that drive each other in a cycle, refuse the net. It may run out of memory at any place.
 pub fn flatten(alloc: Global, design: &Design, model: u32) -> Result<Net, FlatFault>
     ensures net { IfOk result (λ net. Flattens design.now model (Ok net)) }
     ensures fault { IfErr result (λ e. (e ≡ FlatFault.OutOfMemory) ⊎ Flattens design.now model (Err e)) }

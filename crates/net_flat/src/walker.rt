@@ -26,7 +26,7 @@ pub struct Walker {
     pub inputs: Vec<u32>,
 }
 
-/// A fault of nets, or want of memory.
+/// A fault of nets, or out of memory.
 pub fn fault_of(fault: NetFault) -> FlatFault
     ensures { ((fault ≡ NetFault.OutOfMemory) × (result ≡ FlatFault.OutOfMemory)) ⊎ (¬ (fault ≡ NetFault.OutOfMemory) × (result ≡ FlatFault.Net fault)) }
 {

@@ -13,7 +13,7 @@ use net_words::{FeedText, Role, WordText};
 use std::alloc::{AllocError, Global};
 
 /// The net of a plan and of latches over the nets of a signature's words and its fed nets, which `outer_nets` made. It answers
-/// nothing but the net and want of memory.
+/// nothing but the net, or runs out of memory.
 pub fn make(
     alloc: Global,
     maker: NetMaker,

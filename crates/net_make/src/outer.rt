@@ -110,7 +110,7 @@ fn add_fed_names(maker: &mut NetMaker, count: u32, feeds: &[FeedText]) -> Result
 }
 
 /// The nets of a signature's words and of its fed nets, by name, word by word and by place, and then the fed ones; none where
-/// these are no names of at most 128 plain bytes, or where two are the same. It answers nothing but this and want of memory.
+/// these are no names of at most 128 plain bytes, or where two are the same. It answers nothing but this, or runs out of memory.
 pub fn outer_nets(
     alloc: Global,
     words: &[WordText],

@@ -67,7 +67,7 @@ fn most_in_feeds(feeds: &[FeedText]) -> usize
 }
 
 /// The prefix of the names of inner nets: `w` as often as needed so that no name of the words' nets and of the fed nets begins
-/// with it. It answers nothing but the prefix and want of memory.
+/// with it. It answers nothing but the prefix, or runs out of memory.
 pub fn prefix_for(
     alloc: Global,
     words: &[WordText],

@@ -45,7 +45,7 @@ fn want_of_memory(fault: NetFault) -> AllocError
 
 /// The net of a plan over outer nets, which are the first `outer` nets and all there are yet. Their names are new to each
 /// other, and none begins with the prefix, with which the names of the inner nets begin. Each of them is an input, the output
-/// of a latch, or driven by a gate of the plan, and no two of these. It answers nothing but the net and want of memory.
+/// of a latch, or driven by a gate of the plan, and no two of these. It answers nothing but the net, or runs out of memory.
 pub fn finish(
     alloc: Global,
     maker: NetMaker,

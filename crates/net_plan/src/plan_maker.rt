@@ -8,7 +8,7 @@ use std::alloc::{AllocError, Global};
 use std::marker::Model;
 
 /// Gates in the making, over outer nets that are numbered first. A gate drives an outer net, or the next inner one.
-/// Contracts see it as a plan. After want of memory it is not used again.
+/// Contracts see it as a plan. After running out of memory it is not used again.
 #[derive(Drop)]
 pub struct PlanMaker {
     next: u32,

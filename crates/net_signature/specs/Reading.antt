@@ -20,7 +20,7 @@ end_of l = end_from l.next l.rest.now
 abbrev pub line_of : Statement → Line
 line_of s = record { number = s.number; tokens = map (λ token. token.now) s.tokens.items }
 
--- the refusal of a text; want of memory is none
+-- the refusal of a text; out of memory is none
 abbrev pub refusal : SigFault → Option SigFault
 refusal OutOfMemory = None
 refusal fault = Some fault

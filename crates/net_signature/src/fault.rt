@@ -30,7 +30,7 @@ pub enum SigFault {
     /// There is no output word in the block of this model, or, without a model, in the top.
     #[error("no output word")]
     NoOutput { block: Option<Name> },
-    /// Want of memory.
+    /// Out of memory.
     #[error("out of memory")]
     OutOfMemory,
 }

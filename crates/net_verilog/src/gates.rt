@@ -9,7 +9,7 @@ use crate::{Driver, Operator, VerilogFault};
 use net_core::{NetFault, NetMaker};
 use std::alloc::Global;
 
-/// A fault of nets, or want of memory.
+/// A fault of nets, or out of memory.
 pub fn fault_of(fault: NetFault) -> VerilogFault
     ensures { ((fault ≡ NetFault.OutOfMemory) × (result ≡ VerilogFault.OutOfMemory)) ⊎ (¬ (fault ≡ NetFault.OutOfMemory) × (result ≡ VerilogFault.Net fault)) }
 {

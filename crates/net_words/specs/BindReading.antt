@@ -12,7 +12,7 @@ mark_at marks n = slice_index_or marks n false
 abbrev pub AreMarks : ℕ → (ℕ → Bool) → List Bool → Type 0
 AreMarks count test marks = (n : ℕ) → n < count → mark_at marks n ≡ test n
 
--- the refusal of a binding; want of memory is none
+-- the refusal of a binding; out of memory is none
 abbrev pub refusal : BindFault → Option BindFault
 refusal OutOfMemory = None
 refusal fault = Some fault

@@ -47,7 +47,7 @@ pub enum BindFault {
     /// A latch with an unknown start in no state word.
     #[error("latch {net} has no start")]
     UnknownStart { net: u32 },
-    /// Want of memory.
+    /// Out of memory.
     #[error("out of memory")]
     OutOfMemory,
 }

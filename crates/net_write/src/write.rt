@@ -80,7 +80,7 @@ fn add_gates(out: &mut Vec<u8>, net: &Net) -> Result<(), AllocError>
 
 /// The text of a net in BLIF: a model `make` with the inputs, if there are any, the outputs, a line for each latch with
 /// its start 0, 1 or 3, which says that it is not known, and for each gate its nets and a row with output 1 for each
-/// index whose bit of the table is 1, by rising index. It answers nothing but the text and want of memory.
+/// index whose bit of the table is 1, by rising index. It answers nothing but the text, or runs out of memory.
 /// Names are plain, as `plain_names` says: so the text is read back.
 pub fn write_blif(alloc: Global, net: &Net) -> Result<Vec<u8>, AllocError>
     requires { HasPlainNames net.now }

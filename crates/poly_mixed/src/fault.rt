@@ -5,7 +5,7 @@ ghost use Rattle.poly_mixed.specs.declared.fault.PolyFault.TheVariants.{OutOfMem
 use std::alloc::{AllocError, AllocFailed};
 use thiserror::Error;
 
-/// The fault of the first token that shows one, or want of memory.
+/// The fault of the first token that shows one, or out of memory.
 #[derive(Clone, Copy, Debug, PartialEq, Eq, Error)]
 pub enum PolyFault {
     /// A token that does not fit, or a text that ends too early.
@@ -17,7 +17,7 @@ pub enum PolyFault {
     /// `W[i]` with no such word, or a place that the word has not.
     #[error("no such bit")]
     NoSuchBit,
-    /// Want of memory.
+    /// Out of memory.
     #[error("out of memory")]
     OutOfMemory,
 }

@@ -56,7 +56,7 @@ impl Index {
         self.lists.of(bit)
     }
 
-    // Puts a monomial into an empty slot. After want of memory the index is not used again.
+    // Puts a monomial into an empty slot. After running out of memory the index is not used again.
     pub(crate) fn put(&mut self, mono: Mono) -> Result<usize, AllocError>
         ensures empty { IfOk result (λ slot. slot_at self.old slot ≡ None) }
         ensures holds { IfOk result (λ slot. Changes self.old self.new slot (Some mono)) }

@@ -61,7 +61,7 @@ impl Labels {
     }
 
     /// The next input, state or fed word, of 1 to 64 bits; all words, at most 8, come before the first net.
-    /// After want of memory the labels are not used again.
+    /// After running out of memory the labels are not used again.
     pub fn word(&mut self, name: &str, bits: u32) -> Result<(), AllocError>
         requires name { IsName name.now }
         requires new { Differs name.now (map (λ w. w.0) self.old.words) }
@@ -76,7 +76,7 @@ impl Labels {
     }
 
     /// The net of the next rank, by its number, which no net before has.
-    /// After want of memory the labels are not used again.
+    /// After running out of memory the labels are not used again.
     pub fn net(&mut self, number: u32) -> Result<(), AllocError>
         requires new { Differs number self.old.nets }
         ensures { OnOk result (self.new ≡ record { output = self.old.output; words = self.old.words; nets = self.old.nets ++ number ∷ [] }) }

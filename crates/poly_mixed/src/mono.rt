@@ -130,7 +130,7 @@ impl Mono {
         self.has_words = true;
     }
 
-    // Puts a bit into it. After want of memory it is not used again.
+    // Puts a bit into it. After running out of memory it is not used again.
     pub(crate) fn add_bit(&mut self, bit: u32) -> Result<(), AllocError>
         ensures { OnOk result (self.new ≡ record { exponents = self.old.exponents; bits = with_rank self.old.bits bit }) }
     {

@@ -78,7 +78,7 @@ impl Poly {
     }
 
     /// Adds another polynomial to it; both are over the field, with coefficients and exponents below 2^k.
-    /// After want of memory the polynomial is not used again.
+    /// After running out of memory the polynomial is not used again.
     pub fn add_into<F: Field>(&mut self, _field: &F, other: &Poly) -> Result<(), AllocError>
         requires over { IsReduced (F.degree _field.now) self.old.terms }
         requires other_over { IsReduced (F.degree _field.now) other.now.terms }
@@ -98,7 +98,7 @@ impl Poly {
         Ok(())
     }
 
-    /// Adds a term, whose coefficient is not 0. After want of memory the polynomial is not used again.
+    /// Adds a term, whose coefficient is not 0. After running out of memory the polynomial is not used again.
     pub fn add_term(&mut self, mono: Mono, c: u64) -> Result<(), AllocError>
         requires { c ≢ 0 }
         ensures { OnOk result (self.new.terms ≡ plus_term text_cmp self.old.terms (mono, c)) }
@@ -177,7 +177,7 @@ impl Poly {
     }
 
     /// Takes out the terms with the bit, and gives them without it.
-    /// After want of memory the polynomial is not used again.
+    /// After running out of memory the polynomial is not used again.
     pub fn take_cofactor(&mut self, alloc: Global, bit: u32) -> Result<Poly, AllocError>
         ensures map { IfOk result (λ q. IsCofactor bit self.old.terms q.terms) }
         ensures reduced { (k : ℕ) → IsReduced k self.old.terms → IfOk result (λ q. IsReduced k q.terms) }
@@ -216,7 +216,7 @@ impl Poly {
     }
 
     /// Puts a polynomial in place of a bit; both are over the field, with coefficients and exponents below 2^k.
-    /// After want of memory the polynomial is not used again.
+    /// After running out of memory the polynomial is not used again.
     pub fn substitute_bit<F: Field>(
         &mut self,
         field: &F,

@@ -49,7 +49,7 @@ pub enum ReduceFault {
     /// The first stage whose size is above the bound, with that size.
     #[error("a stage has {terms} terms")]
     TooManyTerms { stage: Stage, terms: u64 },
-    /// Want of memory.
+    /// Out of memory.
     #[error("out of memory")]
     OutOfMemory,
 }

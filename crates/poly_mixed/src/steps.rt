@@ -21,7 +21,7 @@ pub trait Steps {
     fn tells(&self) -> bool
         ensures { IsFalse result → steps self.now ≡ None };
 
-    /// Records a step. After want of memory the recorder is not used again.
+    /// Records a step. After running out of memory the recorder is not used again.
     fn step(&mut self, generator: Generator, multiplier: &Poly) -> Result<(), AllocError>
         ensures { OnOk result (Tells (steps self.old) (steps self.new) ((generator, multiplier.now.terms) ∷ [])) };
 }

@@ -62,7 +62,7 @@ impl Cut {
         if self.constant == 0 { bits } else { bits + 1 }
     }
 
-    /// Adds a term of rising bits. After want of memory it is not used again.
+    /// Adds a term of rising bits. After running out of memory it is not used again.
     pub fn add(&mut self, bits: Ranks, c: u64) -> Result<(), AllocError>
         requires rising { IsStrictlySortedBy nat_cmp bits }
         requires some { c ≢ 0 }
@@ -85,7 +85,7 @@ impl Cut {
         self.constant ^= c;
     }
 
-    /// Adds the products of a term and of each of these sets of bits. After want of memory it is not used again.
+    /// Adds the products of a term and of each of these sets of bits. After running out of memory it is not used again.
     pub fn add_products(&mut self, term: &BitTerm, sets: &[Ranks]) -> Result<(), AllocError>
         requires { IsBitTerm term.now }
         ensures { OnOk result (self.new.terms ≡ plus text_cmp self.old.terms (products term.now sets.now)) }
@@ -98,7 +98,7 @@ impl Cut {
     }
 
     /// Adds the products of a term and of the sum of 1, if the form of a table of one bit has it, and of that bit, if the form
-    /// has it. After want of memory it is not used again.
+    /// has it. After running out of memory it is not used again.
     pub fn add_line(&mut self, term: &BitTerm, form: u64, rank: u32) -> Result<(), AllocError>
         requires { IsBitTerm term.now }
         ensures { OnOk result (self.new.terms ≡ plus text_cmp self.old.terms (products term.now (monomials form [] (rank ∷ []) 0 1))) }
@@ -110,7 +110,7 @@ impl Cut {
     }
 
     /// Adds the products of a term and of the sum of 1, two bits and the product of both, each if the form of a table of two
-    /// bits has it. After want of memory it is not used again.
+    /// bits has it. After running out of memory it is not used again.
     pub fn add_pair(
         &mut self,
         term: &BitTerm,
@@ -185,7 +185,7 @@ impl Cut {
     }
 
     /// Takes out the terms with the bit, and puts them, without it, in place of what `part` held. It takes the time of the
-    /// terms whose first place is not behind that of the bit. After want of memory neither is used again.
+    /// terms whose first place is not behind that of the bit. After running out of memory neither is used again.
     pub fn take_with(&mut self, rank: u32, part: &mut Vec<BitTerm>) -> Result<(), AllocError>
         ensures left { OnOk result (self.new.terms ≡ lacking rank self.old.terms) }
         ensures part { OnOk result (plus text_cmp [] part.new.items ≡ cofactors rank self.old.terms) }

@@ -57,7 +57,7 @@ impl Entries {
         }
     }
 
-    /// Adds an entry; the sum of two coefficients that is 0 leaves none. Want of memory may lose the only one.
+    /// Adds an entry; the sum of two coefficients that is 0 leaves none. Running out of memory may lose the only one.
     pub fn add(&mut self, key: Key, c: u64) -> Result<(), AllocError>
         requires { c ≢ 0 }
         ensures added { OnOk result (self.new.entries ≡ plus_term key_cmp self.old.entries (key, c)) }
@@ -82,7 +82,7 @@ impl Entries {
         pop_from(&mut self.map, place)
     }
 
-    /// Adds the terms of all to a polynomial. After want of memory it is not used again.
+    /// Adds the terms of all to a polynomial. After running out of memory it is not used again.
     pub fn add_terms(&self, alloc: Global, sum: &mut Poly) -> Result<(), AllocError>
         requires { AllByRecursion IsBitTerm (each_of term_of self.now.entries) }
         ensures { OnOk result (sum.new.terms ≡ plus text_cmp sum.old.terms (each_of term_of self.now.entries)) }

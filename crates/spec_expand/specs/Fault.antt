@@ -82,7 +82,7 @@ pub record IsRead (l : Labelling) (k : ℕ) (mul : ℕ → ℕ → ℕ) (tokens 
   pub is_spec : IsSpec (plain tokens) out terms
   pub said_is : said ≡ terms_of l mul terms
 
--- what may come of the tokens; want of memory is free
+-- what may come of the tokens; out of memory is free
 abbrev pub MayCome : Labelling → ℕ → (ℕ → ℕ → ℕ) → List (Token × ℕ) → Stop → Outcome SpecFault SpecTerms
 MayCome l k mul tokens stop (Ok said) = IsRead l k mul tokens stop said
 MayCome l k mul tokens stop (Err (Syntax place)) = IsUnfit l k tokens place ⊎ IsCutOff l k tokens stop place
@@ -94,7 +94,7 @@ MayCome l k mul tokens stop (Err OutOfMemory) = Unit {0}
 abbrev pub SpecOutcome : Labelling → ℕ → (ℕ → ℕ → ℕ) → List ℕ → Outcome SpecFault SpecTerms
 SpecOutcome l k mul bytes result = (tokens : List (Token × ℕ)) × (stop : Stop) × AreTokens 0 bytes tokens stop × MayCome l k mul tokens stop result
 
--- not want of memory
+-- not out of memory
 abbrev pub IsOfText : Result SpecTerms SpecFault → Type 0
 IsOfText (Ok said) = Unit {0}
 IsOfText (Err OutOfMemory) = ⊥

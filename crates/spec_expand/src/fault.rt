@@ -5,7 +5,7 @@ ghost use Rattle.spec_expand.specs.declared.fault.SpecFault.TheVariants.{OutOfMe
 use std::alloc::{AllocError, AllocFailed};
 use thiserror::Error;
 
-/// The fault of the first token that has one, with its place in bytes from 0; or want of memory.
+/// The fault of the first token that has one, with its place in bytes from 0; or out of memory.
 #[derive(Clone, Copy, Debug, PartialEq, Eq, Error)]
 pub enum SpecFault {
     /// A token with which no specification goes on, bytes that are no token, or the end of a text that is none.
@@ -17,7 +17,7 @@ pub enum SpecFault {
     /// A number out of its range.
     #[error("number at byte {place}")]
     BadNumber { place: u32 },
-    /// Want of memory.
+    /// Out of memory.
     #[error("out of memory")]
     OutOfMemory,
 }

@@ -54,7 +54,7 @@ module _ (k : ℕ) (mul : ℕ → ℕ → ℕ) {N : Type 0} (listing : Listing N
     pub before : (other : N) → listing.is_listed other → listing.comes_before other name → IsWithin k mul (listing.stage_of other) bound
 
 module _ (k : ℕ) (mul : ℕ → ℕ → ℕ) (listing : Listing Stage) (bound : ℕ) where
-  -- the first stage over the bound, with its size; want of memory is free
+  -- the first stage over the bound, with its size; out of memory is free
   abbrev pub IsRefusal : ReduceFault → Type 0
   IsRefusal (TooManyTerms stage n) = IsOver k mul listing bound stage n
   IsRefusal OutOfMemory = Unit {0}

@@ -80,7 +80,7 @@ fn poly_after<F: Field>(
 }
 
 /// The polynomial of a cut of a circuit, out of the cut's values at all bits of all nets: slow, and no more than the
-/// definition. It is none where there are more than 20 variables. It answers nothing else but want of memory.
+/// definition. It is none where there are more than 20 variables. Else it may only run out of memory.
 pub fn cut_poly<F: Field>(
     alloc: Global,
     field: &F,
@@ -105,7 +105,7 @@ pub fn cut_poly<F: Field>(
 }
 
 /// The size of a cut of a circuit: how many terms its polynomial has. It is none where there are more than 20 variables.
-/// It answers nothing else but want of memory.
+/// Else it may only run out of memory.
 pub fn cut_size<F: Field>(
     alloc: Global,
     field: &F,

@@ -61,7 +61,7 @@ pub fn cut_value<F: Field>(
 
 /// The value of a cut of a circuit at a point, by evaluation gate by gate: slow, and no more than the definition. The
 /// bits stand by rank, the nets of the words first and then the other nets by number; ranks past their end are 0. It
-/// answers nothing but the value and want of memory.
+/// answers nothing but the value, or runs out of memory.
 pub fn cut_at<F: Field>(
     alloc: Global,
     field: &F,

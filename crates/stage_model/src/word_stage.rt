@@ -39,7 +39,7 @@ fn product_if<F: Field>(
 
 /// The polynomial of the stage `word W term S bit J`, out of the polynomial in which the word is replaced, that of the
 /// mix of the words before. Words are numbered from 0, terms and bits from 1. It is none exactly where there is no such
-/// word, term or bit. It answers nothing else but want of memory.
+/// word, term or bit. Else it may only run out of memory.
 pub fn word_product<F: Field>(
     alloc: Global,
     field: &F,
@@ -74,7 +74,7 @@ pub fn word_product<F: Field>(
 
 /// The polynomial of the stage `word W sum S`, out of the polynomial in which the word is replaced, that of the mix of
 /// the words before. Words are numbered from 0, terms from 1. It is none exactly where there is no such word or term.
-/// It answers nothing else but want of memory.
+/// Else it may only run out of memory.
 pub fn word_sum<F: Field>(
     alloc: Global,
     field: &F,

@@ -36,7 +36,7 @@ MayRefuse outcome None = Unit {0}
 MayRefuse outcome (Some fault) = outcome (Err fault)
 
 -- The value, as `view` shows it, or the refusal that `refusal` finds in the fault is one that may come; a fault without a
--- refusal, as want of memory, may always come.
+-- refusal, as out of memory, may always come.
 abbrev pub Fits : {E F X A : Type 0} → (E → Option F) → (X → A) → Result X E → Outcome F A → Type 0
 Fits refusal view (Ok value) outcome = outcome (Ok (view value))
 Fits refusal view (Err fault) outcome = MayRefuse outcome (refusal fault)

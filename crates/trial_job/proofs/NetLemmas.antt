@@ -118,7 +118,7 @@ module _ (k g : ℕ) (ok : IsModulus k g) (number : ℕ) where
   pub no_fault : (fault : BindFault) → BindingOf (trial_net k g number) (trial_words k) [] (Err fault) → ⊥
   no_fault fault is = let wrong = one (Err fault) (Ok (trial_circuit k g number).binding) is net_binds in cc
 
-  -- so binding answers no fault but want of memory
+  -- so binding answers no fault but out of memory
   pub only_memory : (fault : BindFault) → FitsBinding {A = Binding} (λ bound. bound) (Err fault) (BindingOf (trial_net k g number) (trial_words k) []) → fault ≡ binds.OutOfMemory
   only_memory (binds.NoSuchNet word place) is = absurd (no_fault (binds.NoSuchNet word place) is)
   only_memory (binds.NotInput word place) is = absurd (no_fault (binds.NotInput word place) is)

@@ -59,7 +59,7 @@ module _ (k g : ℕ) (signature : SignatureValue) (is : signature ≡ two_inputs
   pub no_fault : (fault : Fault) → Within Signature (SettingWith signed) (Err fault) → ⊥
   no_fault fault of = let wrong = one (Err fault) (Ok (trial_setting k g)) of said in cc
 
-  -- so it stops for want of memory alone
+  -- so it stops for lack of memory alone
   pub only_memory : {X : Type 0} (view : X → SettingValue) (stop : Stop) → GivesBy view (Err stop) (Within Signature (SettingWith signed)) ⊥ ⊥ → stop ≡ stops.OutOfMemory
   only_memory view (stops.Refused fault) is = absurd (no_fault fault is.0)
   only_memory view stops.Outside is = absurd is

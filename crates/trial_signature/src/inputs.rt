@@ -11,7 +11,7 @@ use net_signature::{SigFault, Signature, read_signature};
 use std::alloc::{AllocError, Global};
 
 /// The signature of the field of this modulus, bit i of which is the coefficient of x^i, with input words A and B and an output
-/// word Z of k nets each: a0 .., b0 .. and z0 ... It answers nothing but the signature and want of memory.
+/// word Z of k nets each: a0 .., b0 .. and z0 ... It answers nothing but the signature, or runs out of memory.
 pub fn two_inputs(alloc: Global, k: u32, modulus: u128) -> Result<Signature, AllocError>
     requires some { 1 ≤ k }
     requires most { k ≤ 64 }

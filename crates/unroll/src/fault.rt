@@ -14,7 +14,7 @@ pub enum UnrollFault {
     /// It would have more than 1,048,576 gates.
     #[error("too many gates after unrolling")]
     TooManyGates,
-    /// Want of memory.
+    /// Out of memory.
     #[error("out of memory")]
     OutOfMemory,
 }

@@ -14,7 +14,7 @@ use net_core::{Gate, Latch, NetFault, NetMaker, Start};
 use net_words::Source;
 use std::alloc::AllocError;
 
-/// Want of memory, where it is no other fault.
+/// Out of memory, where it is no other fault.
 pub fn memory(fault: NetFault) -> AllocError
     requires { fault ≡ NetFault.OutOfMemory }
 {

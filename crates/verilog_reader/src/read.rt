@@ -27,7 +27,7 @@ fn read_text(alloc: Global, bytes: &[u8]) -> Result<NetMaker, VerilogFault>
 /// The net of a text in structural Verilog, of at most 67,108,864 bytes, or its first fault. Faults are decided at the first
 /// token at which one stands, and at one token in this order: `LeftOut`, `Syntax`, `Undeclared`, `OutOfRange`, `Redeclared`;
 /// `Arity` stands at the `)` of its instance, and a limit of the net where the net or gate is made. After the text comes `Net`
-/// where the net is not sound. Want of memory may come at any place.
+/// where the net is not sound. It may run out of memory at any place.
 pub fn read_verilog(alloc: Global, bytes: &[u8]) -> Result<Net, VerilogFault>
     requires { length bytes.now ≤ 67108864 }
     ensures net { IfOk result (λ net. VerilogNet bytes.now (Ok net)) }

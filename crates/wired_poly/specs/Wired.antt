@@ -42,7 +42,7 @@ module _ (k : ℕ) (mul : ℕ → ℕ → ℕ) (count : ℕ) (blocks : List Term
     pub taken : IsTakenByLevel words order
     pub refused : IsRefused k mul words blocks rows bound order fault
 
-  -- why there is no polynomial; want of memory is free
+  -- why there is no polynomial; out of memory is free
   abbrev pub IsStageFault : ReduceFault → Type 0
   IsStageFault (TooManyTerms stage n) = IsStageOver (TooManyTerms stage n)
   IsStageFault OutOfMemory = Unit {0}

@@ -57,7 +57,7 @@ module _ (k : ℕ) (mul : ℕ → ℕ → ℕ) (elements : List ℕ) (word : ℕ
   IsOverAt start own s bound (InstanceProduct i r j) n = ⊥
   IsOverAt start own s bound (InstanceSum i r) n = ⊥
 
-  -- that stage with its size; want of memory is free
+  -- that stage with its size; out of memory is free
   abbrev pub IsProductRefusal : ℕ → List ℕ → ℕ → ℕ → ReduceFault → Type 0
   IsProductRefusal start own s bound (TooManyTerms stage n) = IsOverAt start own s bound stage n
   IsProductRefusal start own s bound OutOfMemory = Unit {0}
@@ -69,7 +69,7 @@ module _ (k : ℕ) (mul : ℕ → ℕ → ℕ) (elements : List ℕ) (word : ℕ
     pub size : length powers ≡ n
     pub over : bound < n
 
-  -- that stage with its size; want of memory is free
+  -- that stage with its size; out of memory is free
   abbrev pub IsNextRefusal : ℕ → List ℕ → ℕ → ℕ → Stage → ReduceFault → Type 0
   IsNextRefusal start ranks rank bound stage (TooManyTerms s n) = (s ≡ stage) × IsNextOver start ranks rank bound n
   IsNextRefusal start ranks rank bound stage OutOfMemory = Unit {0}

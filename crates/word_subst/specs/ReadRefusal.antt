@@ -27,7 +27,7 @@ module _ (k : ℕ) (mul : ℕ → ℕ → ℕ) (elements : List ℕ) (w : ℕ) w
   IsTermOver term s bound (InstanceProduct i r j) n = ⊥
   IsTermOver term s bound (InstanceSum i r) n = ⊥
 
-  -- that stage with its size; want of memory is free
+  -- that stage with its size; out of memory is free
   abbrev pub IsTermRefusal : Monomial × ℕ → ℕ → ℕ → ReduceFault → Type 0
   IsTermRefusal term s bound (TooManyTerms stage n) = IsTermOver term s bound stage n
   IsTermRefusal term s bound OutOfMemory = Unit {0}
@@ -62,7 +62,7 @@ module _ (k : ℕ) (mul : ℕ → ℕ → ℕ) (elements : List ℕ) (w : ℕ) w
   IsWordOver terms bound (InstanceProduct i s j) n = ⊥
   IsWordOver terms bound (InstanceSum i s) n = ⊥
 
-  -- that stage with its size; want of memory is free
+  -- that stage with its size; out of memory is free
   abbrev pub IsWordRefusal : Terms → ℕ → ReduceFault → Type 0
   IsWordRefusal terms bound (TooManyTerms stage n) = IsWordOver terms bound stage n
   IsWordRefusal terms bound OutOfMemory = Unit {0}

@@ -6,13 +6,13 @@ use Rattle.net_flat.specs.declared.flat_fault.FlatFault.TheVariants as flats
 use Rattle.block_circuits.specs.declared.fault.BlockFault.{BlockFault}
 use Rattle.block_circuits.specs.declared.fault.BlockFault.TheVariants.{NoNet, NotBound, OutOfMemory}
 
--- all but want of memory say that there is no net
+-- all but out of memory say that there is no net
 abbrev pub flat_refusal_of : FlatFault → BlockFault
 flat_refusal_of (flats.Net fault) = NoNet
 flat_refusal_of flats.TooManyInstances = NoNet
 flat_refusal_of flats.OutOfMemory = OutOfMemory
 
--- all but want of memory say that the words do not bind
+-- all but out of memory say that the words do not bind
 abbrev pub bind_refusal_of : BindFault → BlockFault
 bind_refusal_of (binds.NoSuchNet word place) = NotBound
 bind_refusal_of (binds.NotInput word place) = NotBound

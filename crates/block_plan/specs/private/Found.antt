@@ -52,7 +52,7 @@ refused_as HasLatch name = BlockLatch name
 refused_as NotBound name = BlockBind name
 refused_as OutOfMemory name = plans.OutOfMemory
 
--- the block has no circuit, and this is the refusal of its name, or want of memory
+-- the block has no circuit, and this is the refusal of its name, or out of memory
 pub record IsRefusedBlock (design : List ModelValue) (block : BlockValue) (model : ℕ) (fault : PlanFault) : Type 0 where
   pub reason : BlockFault
   pub refused : IsBlockFault design model block.words reason

@@ -119,7 +119,7 @@ pub record IsRefusedInOrder (candidates : List CandidateValue) (placed : List Pl
   pub first : IsRefusedFirst candidates instance w
   pub before : (j : ℕ) (other : PlacedValue) → j < i → slice_get placed j ≡ Some other → (v : ℕ) (word : NamedWord) → slice_get other.words v ≡ Some word → IsRefusedBy candidates other word → ⊥
 
--- why there are no rows; want of memory is free
+-- why there are no rows; out of memory is free
 abbrev pub IsRowFault : List CandidateValue → List PlacedValue → WiringFault → Type 0
 IsRowFault candidates placed (NotWords n w) = (i : ℕ) × (n ≡ i + 1) × IsRefusedInOrder candidates placed i w
 IsRowFault candidates placed OutputNotWords = ⊥
@@ -172,7 +172,7 @@ pub record ArePlainlyWired (top : List NamedWord) (placed : List PlacedValue) (r
   pub rows_are : AreRows (candidates_of top placed) placed rows
   pub output_is : IsFirstOutput (candidates_of top placed) top output
 
--- why there is no wiring; want of memory is free
+-- why there is no wiring; out of memory is free
 abbrev pub IsPlainFault : List NamedWord → List PlacedValue → WiringFault → Type 0
 IsPlainFault top placed (NotWords n w) = (i : ℕ) × (n ≡ i + 1) × IsRefusedInOrder (candidates_of top placed) placed i w
 IsPlainFault top placed OutputNotWords = AreAccepted (candidates_of top placed) placed × ((feed : Feeder) → IsOutputFeed (candidates_of top placed) top feed → ⊥)

@@ -70,7 +70,7 @@ abbrev pub stage_called : SettingValue → Option Token → Stage → List ℕ
 stage_called setting None stage = stage_text (labels_of setting.k setting.signature.words) stage
 stage_called setting (Some model) stage = block_stage_text model (labels_of setting.k (words_in setting.signature.blocks model)) stage
 
--- the fault of a top whose instances are refused blocks; want of memory is none
+-- the fault of a top whose instances are refused blocks; out of memory is none
 abbrev pub plan_fault : PlanFault → Option Fault
 plan_fault plans.FedInTop = Some (faults.Composition composition.FedInTop)
 plan_fault (plans.GateInTop line) = Some (faults.Composition (composition.GateInTop line))
@@ -80,13 +80,13 @@ plan_fault (plans.BlockLatch model) = Some (faults.Composition (composition.Bloc
 plan_fault (plans.BlockBind model) = Some (faults.Composition (composition.BlockBind model))
 plan_fault plans.OutOfMemory = None
 
--- the fault of a top that is not wired, with the name of a word that nothing fits; want of memory is none
+-- the fault of a top that is not wired, with the name of a word that nothing fits; out of memory is none
 abbrev pub wiring_fault : List BlockValue → List ModelValue → WiringFault → Option Fault
 wiring_fault blocks design (wirings.NotWords instance word) = Some (faults.Composition (composition.NotWords instance (word_name (words_in blocks (instance_model design instance)) word)))
 wiring_fault blocks design wirings.OutputNotWords = Some (faults.Composition composition.OutputNotWords)
 wiring_fault blocks design wirings.OutOfMemory = None
 
--- the fault of a refused composition; want of memory is none
+-- the fault of a refused composition; out of memory is none
 abbrev pub compose_fault : SettingValue → List ModelValue → ℕ → ComposeFault → Option Fault
 compose_fault setting design bound (Plan fault) = plan_fault fault
 compose_fault setting design bound (Wiring fault) = wiring_fault setting.signature.blocks design fault

@@ -56,7 +56,7 @@ module _ (k : ℕ) (mul : ℕ → ℕ → ℕ) (feeds : Point → List ℕ) wher
   IsOverAt t instance number bound (SpecSum s) n = ⊥
   IsOverAt t instance number bound (InstanceSum i s) n = ⊥
 
-  -- that stage with its size; want of memory is free
+  -- that stage with its size; out of memory is free
   abbrev pub IsTermRefusal : ℕ × List (ℕ × ℕ) → ℕ → ℕ → ℕ → ReduceFault → Type 0
   IsTermRefusal t instance number bound (TooManyTerms stage n) = IsOverAt t instance number bound stage n
   IsTermRefusal t instance number bound OutOfMemory = Unit {0}

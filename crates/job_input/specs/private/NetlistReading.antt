@@ -19,12 +19,12 @@ use Rattle.job_input.specs.NetlistOf.{of_model, of_aiger, of_text, of_net, of_ve
 use Rattle.job_input.specs.declared.netlist.Refusal.{Refusal}
 use Rattle.job_input.specs.declared.netlist.Refusal.TheVariants.{Fault, OutOfMemory}
 
--- the fault of a refusal; want of memory is none
+-- the fault of a refusal; out of memory is none
 abbrev pub fault_in : Refusal → Option NetlistFault
 fault_in (Fault fault) = Some fault
 fault_in OutOfMemory = None
 
--- the value or the fault is one that may come; want of memory may always come
+-- the value or the fault is one that may come; out of memory may always come
 abbrev pub FitsNetlist : {A : Type 0} → Result A Refusal → Outcome NetlistFault A → Type 0
 FitsNetlist result outcome = Fits fault_in (λ value. value) result outcome
 

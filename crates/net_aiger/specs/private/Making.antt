@@ -8,7 +8,7 @@ use Rattle.net_core.specs.declared.fault.NetFault.TheVariants.{OutOfMemory}
 use Rattle.net_aiger.specs.Checks.{apart}
 use Rattle.net_aiger.specs.Reading.{Name, Reading}
 
--- the fault of a step, or want of memory
+-- the fault of a step, or out of memory
 abbrev pub IsFaultOf : Result NetList NetFault → NetFault → Type 0
 IsFaultOf step fault = (fault ≡ OutOfMemory) ⊎ (step ≡ Err fault)
 

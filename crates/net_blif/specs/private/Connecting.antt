@@ -73,6 +73,6 @@ abbrev pub fault_by : ℕ → FormalsValue → List Token → Option BlifFault
 fault_by line formals connections =
     or_else (table_fault line formals.names no_numbers connections) (missing line (after connect no_numbers connections) formals.inputs)
 
--- these, or want of memory
+-- these, or out of memory
 abbrev pub IsFault : Option BlifFault → BlifFault → Type 0
 IsFault fault found = (found ≡ OutOfMemory) ⊎ (fault ≡ Some found)

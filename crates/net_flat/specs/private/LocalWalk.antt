@@ -136,7 +136,7 @@ HasEach state names = All (λ name. (n : ℕ) × (found state name ≡ Some n)) 
 abbrev pub AreInside : State → Type 0
 AreInside state = (name : Token) (n : ℕ) → found state name ≡ Some n → n < nets state.net
 
--- the fault of a walk, or want of memory
+-- the fault of a walk, or out of memory
 abbrev pub IsFaultOf : Result State FlatFault → FlatFault → Type 0
 IsFaultOf walk fault = (fault ≡ OutOfMemory) ⊎ (walk ≡ Err fault)
 

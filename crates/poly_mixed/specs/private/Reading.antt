@@ -136,7 +136,7 @@ read_on (suc n) l k said = read_on n l k (advanced l k said)
 abbrev pub reading : Labelling → ℕ → List ℕ → Result Terms PolyFault
 reading l k bytes = read_on (length bytes + 1) l k (Ok (more true [] 1 one bytes))
 
--- a fault is what was said, or want of memory in its place
+-- a fault is what was said, or out of memory in its place
 abbrev pub IsSaid : {A : Type 0} → Result A PolyFault → PolyFault → Type 0
 IsSaid said OutOfMemory = Unit {0}
 IsSaid said Syntax = said ≡ Err Syntax

@@ -63,7 +63,7 @@ module _ (circuit : Circuit) where
   IsOverAt t number bound (InstanceProduct i s j) n = ⊥
   IsOverAt t number bound (InstanceSum i s) n = ⊥
 
-  -- that stage with its size; want of memory is free
+  -- that stage with its size; out of memory is free
   abbrev pub IsTermRefusal : ℕ × List (ℕ × ℕ) → ℕ → ℕ → ReduceFault → Type 0
   IsTermRefusal t number bound (TooManyTerms stage n) = IsOverAt t number bound stage n
   IsTermRefusal t number bound OutOfMemory = Unit {0}

@@ -136,7 +136,7 @@ module _ (l : Labelling) (k : ℕ) (mul : ℕ → ℕ → ℕ) where
   token_read p times place = times_read p.next p place
   token_read p plus place = plus_read p.next p place
 
--- a fault is what was said, or want of memory in its place
+-- a fault is what was said, or out of memory in its place
 abbrev pub IsSaid : {A : Type 0} → Result A SpecFault → SpecFault → Type 0
 IsSaid said (Syntax place) = said ≡ Err (Syntax place)
 IsSaid said (UnknownWord place) = said ≡ Err (UnknownWord place)

@@ -1,4 +1,4 @@
-//! What the tests share: labels, and polynomials as their texts. A polynomial that is not had, for want of memory too, is
+//! What the tests share: labels, and polynomials as their texts. A polynomial that is not had, for lack of memory too, is
 //! none, and has no text.
 ghost use Rattle.std.specs.Prelude.{◌≡◌, [], IfOk, IfSome};
 ghost use Rattle.poly_mixed.specs.Polynomial.{IsReduced};
