@@ -54,11 +54,11 @@ pub fn block_circuit(
         Ok(net) => net,
         Err(fault) => return Err(fault),
     };
-    let bound = match bind(alloc, words, &[], &net) {
-        Ok(bound) => bound,
+    let binding = match bind(alloc, words, &[], &net) {
+        Ok(binding) => binding,
         Err(fault) => return Err(bind_refusal(fault)),
     };
-    match Combinational::new(net, bound) {
+    match Combinational::new(net, binding) {
         Ok(circuit) => Ok(circuit),
         Err(_) => unreachable!(),
     }

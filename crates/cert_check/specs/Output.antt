@@ -25,4 +25,4 @@ pub record IsOutput (circuit : Circuit) (claim : Terms) : Type 0 where
 
 -- whatever its text, a certificate with the verdict `valid` has the output as its claim
 abbrev pub ProvesOutput : Type 0
-ProvesOutput = (k : ℕ) (mul : ℕ → ℕ → ℕ) (bound : BoundNet) (bases : List Basis) (labels : Labelling) (most : ℕ) (bytes : List ℕ) (claim : Terms) → IsRing k mul → HasNoZeroDivisors k mul → IsSound bound.net → IsOneCycle bound.net bound.binding → bound.binding.k ≡ k → AreBases k mul bound bases → NameWords bound.binding labels → Check k mul bound bases labels most bytes (Ok (valid claim)) → IsOutput (circuit_in k mul bound bases) claim
+ProvesOutput = (k : ℕ) (mul : ℕ → ℕ → ℕ) (netlist : BoundNet) (bases : List Basis) (labels : Labelling) (most : ℕ) (bytes : List ℕ) (claim : Terms) → IsRing k mul → HasNoZeroDivisors k mul → IsSound netlist.net → IsOneCycle netlist.net netlist.binding → netlist.binding.k ≡ k → AreBases k mul netlist bases → NameWords netlist.binding labels → Check k mul netlist bases labels most bytes (Ok (valid claim)) → IsOutput (circuit_in k mul netlist bases) claim

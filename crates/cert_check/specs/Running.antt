@@ -52,18 +52,18 @@ dual_at (Some word) i = slice_index word.basis i
 
 -- the input, state and fed words with the dual bases in place of the bases
 abbrev pub dual_words : BoundNet → List Basis → List Word
-dual_words bound bases = words_of bound.binding.words (map duals_of bases)
+dual_words netlist bases = words_of netlist.binding.words (map duals_of bases)
 
-module _ (k : ℕ) (mul : ℕ → ℕ → ℕ) (bound : BoundNet) (bases : List Basis) where
+module _ (k : ℕ) (mul : ℕ → ℕ → ℕ) (netlist : BoundNet) (bases : List Basis) where
   -- the words' bits and the other nets in the order of variables
   abbrev pub order : List ℕ
-  order = variables (nets bound.net) bound.binding.words
+  order = variables (nets netlist.net) netlist.binding.words
 
   -- Of a net: its bit plus what its gate makes of its inputs. Of place i of word w, whose rank is k * w + i: the bit plus
   -- the linear form that reads it from the word.
   abbrev pub generator_value : Generator → Point → ℕ
-  generator_value (Net n) p = bit_xor (bit_value (net_bit order p n)) (driven_value order p (driver bound.net n))
-  generator_value (Bit w i) p = bit_xor (bit_value (p.is_one (k * w + i))) (dual_form k mul (dual_at (slice_get (dual_words bound bases) w) i) (slice_index p.words w))
+  generator_value (Net n) p = bit_xor (bit_value (net_bit order p n)) (driven_value order p (driver netlist.net n))
+  generator_value (Bit w i) p = bit_xor (bit_value (p.is_one (k * w + i))) (dual_form k mul (dual_at (slice_get (dual_words netlist bases) w) i) (slice_index p.words w))
 
   -- the sum of the products of generator and multiplier
   abbrev pub products : List Step → Point → ℕ
@@ -72,7 +72,7 @@ module _ (k : ℕ) (mul : ℕ → ℕ → ℕ) (bound : BoundNet) (bases : List 
 
   -- the sum of the output word's basis elements whose bits are 1
   abbrev pub output_value : Point → ℕ
-  output_value p = combination (output_basis bound.binding.words (map elements_of bases)) (index (net_bit order p) (output_bits bound.binding.words))
+  output_value p = combination (output_basis netlist.binding.words (map elements_of bases)) (index (net_bit order p) (output_bits netlist.binding.words))
 
   -- the running sum after the certificate's pairs
   abbrev pub running : Certificate → Point → ℕ

@@ -18,10 +18,10 @@ pub data Verdict : Type 0 where
   valid : Terms → Verdict
   invalid : ℕ → Verdict
 
-module _ (k : ℕ) (mul : ℕ → ℕ → ℕ) (bound : BoundNet) (bases : List Basis) where
+module _ (k : ℕ) (mul : ℕ → ℕ → ℕ) (netlist : BoundNet) (bases : List Basis) where
   -- the polynomial of the running sum
   abbrev pub IsRunningSum : Certificate → Terms → Type 0
-  IsRunningSum c sum = IsPolynomialOf k mul (running k mul bound bases c) sum
+  IsRunningSum c sum = IsPolynomialOf k mul (running k mul netlist bases c) sum
 
   -- after the line of this number the running sum has at most so many terms
   abbrev pub AsksAtMost : ℕ → ℕ → Certificate → Outcome CertFault (Unit {0})
@@ -36,12 +36,12 @@ module _ (k : ℕ) (mul : ℕ → ℕ → ℕ) (bound : BoundNet) (bases : List 
   -- the verdict on a text, where no running sum may have more than so many terms
   abbrev pub Check : Labelling → ℕ → List ℕ → Outcome CertFault Verdict
   Check labels most bytes = do
-    certificate ← CertificateBy k bound.net labels (AsksAtMost most) bytes
+    certificate ← CertificateBy k netlist.net labels (AsksAtMost most) bytes
     VerdictOn certificate
 
   -- the verdict of these lines after the claim, of which the first has the number n
   abbrev pub VerdictFrom : Labelling → ℕ → ℕ → List (List ℕ) → ℕ → Certificate → Outcome CertFault Verdict
-  VerdictFrom labels most version lines n c = LinesOf k bound.net labels (AsksAtMost most) version lines n c >>= VerdictOn
+  VerdictFrom labels most version lines n c = LinesOf k netlist.net labels (AsksAtMost most) version lines n c >>= VerdictOn
 
   -- the verdict after `end`
   abbrev pub VerdictAtEnd : ℕ → List (List ℕ) → Certificate → Outcome CertFault Verdict

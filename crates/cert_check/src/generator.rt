@@ -176,7 +176,7 @@ pub(crate) fn generator_split<F: Field>(
     match generator {
         Generator::Net(n) => net_split(alloc, field, circuit, drivers, n),
         Generator::Bit { word, place } => {
-            let basis = input_basis(circuit.bound(), bases, word);
+            let basis = input_basis(circuit.binding(), bases, word);
             bit_split(alloc, field, basis, word, place)
         }
     }

@@ -25,5 +25,5 @@ pub fn one_certificate_or_fault()
 
 /// One verdict or one fault comes of a text.
 pub fn one_verdict_or_fault<F: Field>(_field: &F)
-    ensures { (bound : BoundNet) (bases : List Basis) (labels : Labelling) (most : ℕ) (bytes : List ℕ) → Determined (Check (F.degree _field.now) (F.product _field.now) bound bases labels most bytes) }
+    ensures { (netlist : BoundNet) (bases : List Basis) (labels : Labelling) (most : ℕ) (bytes : List ℕ) → Determined (Check (F.degree _field.now) (F.product _field.now) netlist bases labels most bytes) }
 {}

@@ -58,8 +58,8 @@ fn output_poly<F: Field>(
     requires bases { AreBases (F.degree field.now) (F.product field.now) circuit.now bases.now }
     ensures { IfOk result (λ q. IsPolynomialOf (F.degree field.now) (F.product field.now) (output_value (F.degree field.now) (F.product field.now) circuit.now bases.now) q.terms) }
 {
-    let basis = output_basis(circuit.bound(), bases);
-    let list = output_nets(alloc, circuit.bound())?;
+    let basis = output_basis(circuit.binding(), bases);
+    let list = output_nets(alloc, circuit.binding())?;
     word_poly(alloc, field, circuit, basis, &list)
 }
 

@@ -30,7 +30,7 @@ pub(crate) fn input_basis<'a>(binding: &Bound, bases: &'a [Basis], word: u32) ->
     ensures among { Has bases.now result.now }
 {
     let mut left = word;
-    for w in 0..bound.words() {
+    for w in 0..binding.words() {
         match left_after(is_output(binding.role(w)), left) {
             Some(more) => left = more,
             None => return &bases[w as usize],

@@ -21,6 +21,6 @@ use Rattle.cert_make.specs.Writable.{HaveNumbers}
 -- Where no stage of a circuit has more than n terms, the verdict on its certificate is `valid` with its claim, and no running
 -- sum has more than 4n terms.
 abbrev pub IsAccepted : Type 0
-IsAccepted = (k : ℕ) (mul : ℕ → ℕ → ℕ) (bound : BoundNet) (bases : List Basis) (labels : Labelling) (claim : Terms) (pairs : List Step) (n most : ℕ) → IsRing k mul → HasNoZeroDivisors k mul → IsSound bound.net → IsOneCycle bound.net bound.binding → bound.binding.k ≡ k → AreBases k mul bound bases → HaveNumbers k bound.net labels → NameVariables bound labels
-    → IsCertificateOf k mul bound bases claim pairs → AreAllWithin k mul (circuit_stages (circuit_in k mul bound bases)) n → length pairs < 2 ^ 64 → 4 * n ≤ most
-    → Check k mul bound bases labels most (cert_text labels claim pairs) (Ok (valid claim))
+IsAccepted = (k : ℕ) (mul : ℕ → ℕ → ℕ) (netlist : BoundNet) (bases : List Basis) (labels : Labelling) (claim : Terms) (pairs : List Step) (n most : ℕ) → IsRing k mul → HasNoZeroDivisors k mul → IsSound netlist.net → IsOneCycle netlist.net netlist.binding → netlist.binding.k ≡ k → AreBases k mul netlist bases → HaveNumbers k netlist.net labels → NameVariables netlist labels
+    → IsCertificateOf k mul netlist bases claim pairs → AreAllWithin k mul (circuit_stages (circuit_in k mul netlist bases)) n → length pairs < 2 ^ 64 → 4 * n ≤ most
+    → Check k mul netlist bases labels most (cert_text labels claim pairs) (Ok (valid claim))

@@ -16,12 +16,12 @@ use Rattle.cert_make.specs.Recorded.{IsCertificateOf}
 use Rattle.cert_make.specs.Writable.{IsWritable, IsOfNet, HaveNumbers}
 
 -- the claim in words alone and the pairs, whose generators the net has, can be written
-pub record IsWritableCertificate (k : ℕ) (bound : BoundNet) (labels : Labelling) (claim : Terms) (pairs : List Step) : Type 0 where
+pub record IsWritableCertificate (k : ℕ) (netlist : BoundNet) (labels : Labelling) (claim : Terms) (pairs : List Step) : Type 0 where
   pub writable : IsWritable labels k claim pairs
   pub no_bits : AllByRecursion (λ t. t.0.bits ≡ []) claim
-  pub generators : AllByRecursion (λ s. IsOfNet bound.net labels s.0) pairs
+  pub generators : AllByRecursion (λ s. IsOfNet netlist.net labels s.0) pairs
 
 -- the labels of a circuit name all that stands in its certificate
 abbrev pub IsNamed : Type 0
-IsNamed = (k : ℕ) (mul : ℕ → ℕ → ℕ) (bound : BoundNet) (bases : List Basis) (labels : Labelling) (claim : Terms) (pairs : List Step) → IsRing k mul → HasNoZeroDivisors k mul → IsSound bound.net → IsOneCycle bound.net bound.binding → bound.binding.k ≡ k → AreBases k mul bound bases → HaveNumbers k bound.net labels → NameVariables bound labels
-    → IsCertificateOf k mul bound bases claim pairs → IsWritableCertificate k bound labels claim pairs
+IsNamed = (k : ℕ) (mul : ℕ → ℕ → ℕ) (netlist : BoundNet) (bases : List Basis) (labels : Labelling) (claim : Terms) (pairs : List Step) → IsRing k mul → HasNoZeroDivisors k mul → IsSound netlist.net → IsOneCycle netlist.net netlist.binding → netlist.binding.k ≡ k → AreBases k mul netlist bases → HaveNumbers k netlist.net labels → NameVariables netlist labels
+    → IsCertificateOf k mul netlist bases claim pairs → IsWritableCertificate k netlist labels claim pairs

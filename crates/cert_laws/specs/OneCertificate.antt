@@ -13,5 +13,5 @@ use Rattle.cert_make.specs.Recorded.{IsCertificateOf}
 
 -- two certificates of a circuit have one claim and the same pairs
 abbrev pub IsOnlyCertificate : Type 0
-IsOnlyCertificate = (k : ℕ) (mul : ℕ → ℕ → ℕ) (bound : BoundNet) (bases : List Basis) (claim other : Terms) (pairs others : List Step) → IsRing k mul → HasNoZeroDivisors k mul → IsSound bound.net → IsOneCycle bound.net bound.binding → bound.binding.k ≡ k → AreBases k mul bound bases
-    → IsCertificateOf k mul bound bases claim pairs → IsCertificateOf k mul bound bases other others → (claim ≡ other) × (pairs ≡ others)
+IsOnlyCertificate = (k : ℕ) (mul : ℕ → ℕ → ℕ) (netlist : BoundNet) (bases : List Basis) (claim other : Terms) (pairs others : List Step) → IsRing k mul → HasNoZeroDivisors k mul → IsSound netlist.net → IsOneCycle netlist.net netlist.binding → netlist.binding.k ≡ k → AreBases k mul netlist bases
+    → IsCertificateOf k mul netlist bases claim pairs → IsCertificateOf k mul netlist bases other others → (claim ≡ other) × (pairs ≡ others)

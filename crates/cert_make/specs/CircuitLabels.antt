@@ -7,6 +7,6 @@ use Rattle.poly_mixed.specs.Labels.{Labelling}
 use Rattle.cert_check.specs.Labels.{NameWords}
 
 -- the labels name the words of the circuit, and then its other nets
-pub record NameVariables (bound : BoundNet) (labels : Labelling) : Type 0 where
-  pub words : NameWords bound.binding labels
-  pub nets : labels.nets ≡ others (nets bound.net) (bits bound.binding.words)
+pub record NameVariables (netlist : BoundNet) (labels : Labelling) : Type 0 where
+  pub words : NameWords netlist.binding labels
+  pub nets : labels.nets ≡ others (nets netlist.net) (bits netlist.binding.words)

@@ -17,10 +17,10 @@ use Rattle.stage_model.specs.WordSteps.{AreWordSteps}
 use Rattle.std.specs.Prelude.{map}
 
 -- the claim is the polynomial of the mix of all words, and the pairs are those of all gates and then those of all words
-pub record IsCertificateOf (k : ℕ) (mul : ℕ → ℕ → ℕ) (bound : BoundNet) (bases : List Basis) (claim : Terms) (pairs : List Step) : Type 0 where
+pub record IsCertificateOf (k : ℕ) (mul : ℕ → ℕ → ℕ) (netlist : BoundNet) (bases : List Basis) (claim : Terms) (pairs : List Step) : Type 0 where
   pub cuts : List Step
   pub words : List Step
-  pub claims : IsOfStage k mul (IsMix (circuit_in k mul bound bases) (length (circuit_in k mul bound bases).words)) claim
-  pub are_cuts : AreCutSteps k mul bound.net (variables (nets bound.net) bound.binding.words) (output_word bound.binding.words (output_basis bound.binding.words (map elements_of bases))) (length bound.net.gates) cuts
-  pub are_words : AreWordSteps (circuit_in k mul bound bases) words
+  pub claims : IsOfStage k mul (IsMix (circuit_in k mul netlist bases) (length (circuit_in k mul netlist bases).words)) claim
+  pub are_cuts : AreCutSteps k mul netlist.net (variables (nets netlist.net) netlist.binding.words) (output_word netlist.binding.words (output_basis netlist.binding.words (map elements_of bases))) (length netlist.net.gates) cuts
+  pub are_words : AreWordSteps (circuit_in k mul netlist bases) words
   pub pairs_are : pairs ≡ cuts ++ words

@@ -45,4 +45,4 @@ job_feed words feed = record { net = feed.net; cycle = feed.cycle; source = inne
 -- the job over the field of 2 to the k elements with this product, with one basis for each word of the binding, and with so
 -- many cycles after the first
 abbrev pub job_with : ℕ → (ℕ → ℕ → ℕ) → BoundNet → List (List ℕ) → ℕ → Circuit
-job_with k product bound bases cycles = record { k = k; product = product; net = bound.net; words = job_words_of bound.binding.words bases; output = output_word bound.binding.words (output_basis bound.binding.words bases); feeds = map (job_feed bound.binding.words) bound.binding.feeds; cycles = cycles }
+job_with k product netlist bases cycles = record { k = k; product = product; net = netlist.net; words = job_words_of netlist.binding.words bases; output = output_word netlist.binding.words (output_basis netlist.binding.words bases); feeds = map (job_feed netlist.binding.words) netlist.binding.feeds; cycles = cycles }

@@ -43,7 +43,7 @@ output_word words basis = record { role = Output; nets = output_bits words; basi
 
 -- the circuit over the field of 2 to the k elements with this product, with one basis for each word of the binding
 abbrev pub circuit_with : ℕ → (ℕ → ℕ → ℕ) → BoundNet → List (List ℕ) → Circuit
-circuit_with k product bound bases = record { k = k; product = product; net = bound.net; words = words_of bound.binding.words bases; output = output_word bound.binding.words (output_basis bound.binding.words bases); feeds = []; cycles = 0 }
+circuit_with k product netlist bases = record { k = k; product = product; net = netlist.net; words = words_of netlist.binding.words bases; output = output_word netlist.binding.words (output_basis netlist.binding.words bases); feeds = []; cycles = 0 }
 
 -- one basis of the field of 2 to the k elements for each word
 pub record HaveBases (k : ℕ) (words : List BoundWord) (bases : List (List ℕ)) : Type 0 where

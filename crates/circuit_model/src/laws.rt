@@ -54,7 +54,7 @@ pub fn well_formed_circuits_are_jobs()
 /// The job of words and feeds that are bound to a sound net list, with one basis of the field for each word, is one, for
 /// any number of cycles; its words are the input, state and fed words of the binding, and so are their bits.
 pub fn bound_circuits_are_jobs()
-    ensures job { (k : ℕ) (product : ℕ → ℕ → ℕ) (bound : BoundNet) (bases : List (List ℕ)) (cycles : ℕ) → IsRing k product → HasNoZeroDivisors k product → IsSound bound.net → IsBoundTo bound.net bound.binding → bound.binding.k ≡ k → HaveBases k bound.binding.words bases → IsJob (job_with k product bound bases cycles) }
+    ensures job { (k : ℕ) (product : ℕ → ℕ → ℕ) (netlist : BoundNet) (bases : List (List ℕ)) (cycles : ℕ) → IsRing k product → HasNoZeroDivisors k product → IsSound netlist.net → IsBoundTo netlist.net netlist.binding → netlist.binding.k ≡ k → HaveBases k netlist.binding.words bases → IsJob (job_with k product netlist bases cycles) }
     ensures bits { (words : List BoundWord) (bases : List (List ℕ)) → length bases ≡ length words → word_nets (job_words_of words bases) ≡ bits words }
     ensures count { (words : List BoundWord) (bases : List (List ℕ)) → length bases ≡ length words → length (job_words_of words bases) ≡ length (filter (λ word. not (same_role word.role Output)) words) }
 {}
@@ -68,7 +68,7 @@ pub fn taken_circuits_are_jobs()
 /// The circuit of words that are bound to a sound net list in one cycle, with one basis of the field for each, is
 /// well-formed; its words are the input, state and fed words of the binding, and so are their bits.
 pub fn bound_circuits_are_well_formed()
-    ensures well_formed { (k : ℕ) (product : ℕ → ℕ → ℕ) (bound : BoundNet) (bases : List (List ℕ)) → IsRing k product → HasNoZeroDivisors k product → IsSound bound.net → IsOneCycle bound.net bound.binding → bound.binding.k ≡ k → HaveBases k bound.binding.words bases → IsWellFormed (circuit_with k product bound bases) }
+    ensures well_formed { (k : ℕ) (product : ℕ → ℕ → ℕ) (netlist : BoundNet) (bases : List (List ℕ)) → IsRing k product → HasNoZeroDivisors k product → IsSound netlist.net → IsOneCycle netlist.net netlist.binding → netlist.binding.k ≡ k → HaveBases k netlist.binding.words bases → IsWellFormed (circuit_with k product netlist bases) }
     ensures bits { (words : List BoundWord) (bases : List (List ℕ)) → length bases ≡ length words → word_nets (words_of words bases) ≡ bits words }
     ensures count { (words : List BoundWord) (bases : List (List ℕ)) → length bases ≡ length words → length (words_of words bases) ≡ length (filter (λ word. not (same_role word.role Output)) words) }
 {}

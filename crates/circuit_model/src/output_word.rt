@@ -29,7 +29,7 @@ pub fn output_basis<'a>(binding: &Bound, bases: &'a [Basis]) -> &'a Basis
     ensures basis { elements_of result.now ≡ basis_of_output binding.now.words (map elements_of bases.now) }
     ensures among { Has bases.now result.now }
 {
-    for w in 0..bound.words() {
+    for w in 0..binding.words() {
         if is_output(binding.role(w)) {
             return &bases[w as usize];
         }
@@ -45,7 +45,7 @@ fn add_word(binding: &Bound, w: u32, list: &mut Vec<u32>) -> Result<(), AllocErr
     match binding.role(w) {
         Role::Input | Role::State | Role::Fed => Ok(()),
         Role::Output => {
-            for place in 0..bound.k() {
+            for place in 0..binding.k() {
                 list.push(binding.net(w, place))?;
             }
             Ok(())
@@ -58,7 +58,7 @@ pub fn output_nets(alloc: Global, binding: &Bound) -> Result<Vec<u32>, AllocErro
     ensures { IfOk result (λ list. list.items ≡ output_bits binding.now.words) }
 {
     let mut list = Vec::new(alloc);
-    for w in 0..bound.words() {
+    for w in 0..binding.words() {
         add_word(binding, w, &mut list)?;
     }
     Ok(list)

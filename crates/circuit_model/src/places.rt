@@ -24,7 +24,7 @@ pub fn word_places(alloc: Global, binding: &Bound) -> Result<Vec<u32>, AllocErro
     ensures { IfOk result (λ list. list.items ≡ places_from 0 binding.now.words) }
 {
     let mut list = Vec::new(alloc);
-    for v in 0..bound.words() {
+    for v in 0..binding.words() {
         add_place(binding, v, &mut list)?;
     }
     Ok(list)

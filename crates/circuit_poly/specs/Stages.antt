@@ -15,7 +15,7 @@ use Rattle.stage_model.specs.WordListing.{word_listing}
 
 -- the cuts, and then the stages of words
 abbrev pub stages_in : ℕ → (ℕ → ℕ → ℕ) → BoundNet → List Basis → Listing (Joined Stage Stage)
-stages_in k mul bound bases = followed_by (bound_cuts bound (output_basis bound.binding.words (map elements_of bases))) (word_listing (circuit_in k mul bound bases))
+stages_in k mul netlist bases = followed_by (bound_cuts netlist (output_basis netlist.binding.words (map elements_of bases))) (word_listing (circuit_in k mul netlist bases))
 
 -- a cut is one of the first stages, and all others are later ones
 abbrev pub joined : Stage → Joined Stage Stage

@@ -29,7 +29,7 @@ pub fn circuit_poly<F: Field>(
     ensures within { OnOk result (AreAllWithin (F.degree field.now) (F.product field.now) (stages_in (F.degree field.now) (F.product field.now) circuit.now bases.now) bound) }
     ensures fault { IfErr result (IsFirstRefusal (F.degree field.now) (F.product field.now) (stages_in (F.degree field.now) (F.product field.now) circuit.now bases.now) bound) }
 {
-    let basis = output_basis(circuit.bound(), bases);
+    let basis = output_basis(circuit.binding(), bases);
     let bits = match reduce_bits(alloc, field, circuit, basis, bound, &mut NoSteps) {
         Ok(bits) => bits,
         Err(fault) => return Err(fault),

@@ -43,7 +43,7 @@ pub(crate) fn last_cut<F: Field, T: Steps>(
     ensures steps { OnOk result (IsRecorded (F.degree field.now) (F.product field.now) circuit.now (basis_of_output circuit.now.binding.words (elements_of_each setting.now.bases.items)) (length circuit.now.net.gates) (T.steps steps.old) (T.steps steps.new)) }
     ensures fault { IfErr result (IsRefusal (F.degree field.now) (F.product field.now) (bits_stages (setting_value (F.degree field.now) (F.product field.now) setting.now) circuit.now) bound) }
 {
-    let basis = output_basis(circuit.bound(), setting.bases.as_slice());
+    let basis = output_basis(circuit.binding(), setting.bases.as_slice());
     match reduce_bits(alloc, field, circuit, basis, bound, steps) {
         Ok(poly) => Ok(poly),
         Err(fault) => Err(fault),

@@ -15,24 +15,24 @@ use Rattle.job_input.specs.NetlistOf.{BoundNetOf, NetlistIn, NetlistText}
 
 -- the circuit of a net with bound words and feeds, over so many cycles after the first
 unfoldable pub all_cycles : BoundNet → ℕ → BoundNet
-all_cycles bound cycles = unrolled bound.net bound.binding cycles
+all_cycles netlist cycles = unrolled netlist.net netlist.binding cycles
 
 -- this circuit where it has at most 1,048,576 nets and gates; its nets are counted first
 abbrev pub CircuitOf : BoundNet → ℕ → Outcome NetlistFault BoundNet
-CircuitOf bound cycles (Ok circuit) = (circuit ≡ all_cycles bound cycles) × (nets (all_cycles bound cycles).net ≤ 2 ^ 20) × (length (all_cycles bound cycles).net.gates ≤ 2 ^ 20)
-CircuitOf bound cycles (Err fault) =
-    ((fault ≡ TooManyNets) × (2 ^ 20 < nets (all_cycles bound cycles).net))
-    ⊎ ((fault ≡ TooManyGates) × (nets (all_cycles bound cycles).net ≤ 2 ^ 20) × (2 ^ 20 < length (all_cycles bound cycles).net.gates))
+CircuitOf netlist cycles (Ok circuit) = (circuit ≡ all_cycles netlist cycles) × (nets (all_cycles netlist cycles).net ≤ 2 ^ 20) × (length (all_cycles netlist cycles).net.gates ≤ 2 ^ 20)
+CircuitOf netlist cycles (Err fault) =
+    ((fault ≡ TooManyNets) × (2 ^ 20 < nets (all_cycles netlist cycles).net))
+    ⊎ ((fault ≡ TooManyGates) × (nets (all_cycles netlist cycles).net ≤ 2 ^ 20) × (2 ^ 20 < length (all_cycles netlist cycles).net.gates))
 
 -- the circuit of the netlist in a file
 abbrev pub UnrolledIn : Word → BoundNet → ℕ → Outcome Fault BoundNet
-UnrolledIn file bound cycles = Within (Netlist file) (CircuitOf bound cycles)
+UnrolledIn file netlist cycles = Within (Netlist file) (CircuitOf netlist cycles)
 
 -- the circuit of a file: its netlist is taken, and then its cycles are unrolled
 abbrev pub CircuitIn : Option Files → SignatureValue → Word → ℕ → Outcome Fault BoundNet
 CircuitIn held signature file cycles = do
-  bound ← NetlistIn held signature file
-  UnrolledIn file bound cycles
+  netlist ← NetlistIn held signature file
+  UnrolledIn file netlist cycles
 
 -- the circuit of a netlist's text: the text is taken, and then its cycles are unrolled
 abbrev pub CircuitOfText : SignatureValue → NetlistText → ℕ → Outcome NetlistFault BoundNet

@@ -11,7 +11,7 @@ use std::marker::Model;
 #[derive(Drop)]
 pub struct BoundNetlist {
     net: Net,
-    bound: Bound,
+    binding: Bound,
 }
 
 impl Model for BoundNetlist {
@@ -21,28 +21,28 @@ impl Model for BoundNetlist {
 
     ghost Value = { BoundNet };
 
-    ghost view = { λ netlist. record { net = netlist.net; binding = netlist.bound } };
+    ghost view = { λ netlist. record { net = netlist.net; binding = netlist.binding } };
 
-    ghost invariant = { λ netlist. IsSound netlist.net × IsBoundTo netlist.net netlist.bound };
+    ghost invariant = { λ netlist. IsSound netlist.net × IsBoundTo netlist.net netlist.binding };
 }
 
 impl BoundNetlist {
     // The net with the words and feeds that are bound to it.
-    pub(crate) fn new(net: Net, bound: Bound) -> BoundNetlist
+    pub(crate) fn new(net: Net, binding: Bound) -> BoundNetlist
         requires sound { IsSound net }
-        requires bound_to { IsBoundTo net bound }
-        ensures { result ≡ record { net = net; binding = bound } }
+        requires bound_to { IsBoundTo net binding }
+        ensures { result ≡ record { net = net; binding = binding } }
     {
-        BoundNetlist { net, bound }
+        BoundNetlist { net, binding }
     }
 
     // The two of them.
     pub(crate) fn into_parts(self) -> (Net, Bound)
         ensures net { result.0 ≡ self.net }
-        ensures bound { result.1 ≡ self.binding }
+        ensures binding { result.1 ≡ self.binding }
         ensures bound_to { IsBoundTo result.0 result.1 }
     {
-        let BoundNetlist { net, bound } = self;
-        (net, bound)
+        let BoundNetlist { net, binding } = self;
+        (net, binding)
     }
 }

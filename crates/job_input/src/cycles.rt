@@ -19,8 +19,8 @@ pub(crate) fn all_cycles(
     requires { cycles ≤ 4096 }
     ensures fits { FitsNetlist result (CircuitOf netlist cycles) }
 {
-    let (net, bound) = netlist.into_parts();
-    match unroll(alloc, net, bound, cycles) {
+    let (net, binding) = netlist.into_parts();
+    match unroll(alloc, net, binding, cycles) {
         Ok(circuit) => Ok(circuit),
         Err(UnrollFault::TooManyNets) => Err(Refusal::Fault(NetlistFault::TooManyNets)),
         Err(UnrollFault::TooManyGates) => Err(Refusal::Fault(NetlistFault::TooManyGates)),

@@ -58,7 +58,7 @@ pub(crate) fn bound_to(
     ensures bits { IfOk result (λ netlist. netlist.binding.k ≡ bits_of words.now) }
 {
     match bind(alloc, words, feeds, &net) {
-        Ok(bound) => Ok(BoundNetlist::new(net, bound)),
+        Ok(binding) => Ok(BoundNetlist::new(net, binding)),
         Err(fault) => Err(binding_fault(alloc, words, &net, fault)),
     }
 }

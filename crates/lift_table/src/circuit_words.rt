@@ -24,9 +24,9 @@ pub(crate) fn circuit_words<F: Field>(
     ensures words { IfOk result (λ list. map word_of list.items ≡ (circuit_in (F.degree field.now) (F.product field.now) circuit.now bases.now).words) }
     ensures over { IfOk result (λ list. AreOver (F.degree field.now) (F.product field.now) list.items) }
 {
-    let bound = circuit.bound();
+    let binding = circuit.binding();
     let mut list = Vec::new(alloc);
-    for w in 0..bound.words() {
+    for w in 0..binding.words() {
         add_word(alloc, field, circuit, w, &bases[w as usize], &mut list)?;
     }
     Ok(list)
@@ -59,9 +59,9 @@ fn output_place(circuit: &Combinational) -> u32
     ensures output { (word : _) → slice_get circuit.now.binding.words result ≡ Some word → word.role ≡ Output }
     ensures is_bound { IsOneCycle circuit.now.net circuit.now.binding }
 {
-    let bound = circuit.bound();
-    for w in 0..bound.words() {
-        if is_output(bound.role(w)) {
+    let binding = circuit.binding();
+    for w in 0..binding.words() {
+        if is_output(binding.role(w)) {
             return w;
         }
     }
@@ -82,7 +82,7 @@ fn add_word<F: Field>(
     ensures added { OnOk result ((word : _) → slice_get circuit.now.binding.words w ≡ Some word → map word_of list.new.items ≡ map word_of list.old.items ++ word_with word.role word.nets (elements_of basis.now)) }
     ensures over { OnOk result (AreOver (F.degree field.now) (F.product field.now) list.old.items → AreOver (F.degree field.now) (F.product field.now) list.new.items) }
 {
-    match circuit.bound().role(w) {
+    match circuit.binding().role(w) {
         Role::Input | Role::State | Role::Fed => {
             let nets = nets_of(alloc, circuit, w)?;
             let basis = copied(alloc, field, basis)?;
@@ -102,10 +102,10 @@ fn nets_of(alloc: Global, circuit: &Combinational, w: u32) -> Result<Vec<u32>, A
     requires { w < length circuit.now.binding.words }
     ensures { IfOk result (λ nets. (word : _) → slice_get circuit.now.binding.words w ≡ Some word → nets.items ≡ word.nets) }
 {
-    let bound = circuit.bound();
+    let binding = circuit.binding();
     let mut nets = Vec::new(alloc);
-    for place in 0..bound.k() {
-        nets.push(bound.net(w, place))?;
+    for place in 0..binding.k() {
+        nets.push(binding.net(w, place))?;
     }
     Ok(nets)
 }

@@ -14,4 +14,4 @@ use Rattle.net_make.specs.Form.{same_bases}
 pub record ComputesFed (k : ℕ) (product : ℕ → ℕ → ℕ) (net : NetList) (words : List WordText) (feeds : List FeedText) (basis : List ℕ) (cycles : ℕ) (f : ℕ → ℕ → ℕ) : Type 0 where
   pub binding : Binding
   pub binds : BindingOf net words feeds (Ok binding)
-  pub out : (bound : Binding) → BindingOf net words feeds (Ok bound) → (a b : ℕ) → a < 2 ^ k → b < 2 ^ k → IsOut (job_with k product (record { net = net; binding = bound }) (same_bases basis words) cycles) (a ∷ b ∷ []) (f a b)
+  pub out : (binding : Binding) → BindingOf net words feeds (Ok binding) → (a b : ℕ) → a < 2 ^ k → b < 2 ^ k → IsOut (job_with k product (record { net = net; binding = binding }) (same_bases basis words) cycles) (a ∷ b ∷ []) (f a b)

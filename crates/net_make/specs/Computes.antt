@@ -13,10 +13,10 @@ use Rattle.net_make.specs.Form.{same_bases}
 pub record ComputesOfTwo (k : ℕ) (product : ℕ → ℕ → ℕ) (net : NetList) (words : List WordText) (basis : List ℕ) (cycles : ℕ) (f : ℕ → ℕ → ℕ) : Type 0 where
   pub binding : Binding
   pub binds : BindingOf net words [] (Ok binding)
-  pub out : (bound : Binding) → BindingOf net words [] (Ok bound) → (a b : ℕ) → a < 2 ^ k → b < 2 ^ k → IsOut (job_with k product (record { net = net; binding = bound }) (same_bases basis words) cycles) (a ∷ b ∷ []) (f a b)
+  pub out : (binding : Binding) → BindingOf net words [] (Ok binding) → (a b : ℕ) → a < 2 ^ k → b < 2 ^ k → IsOut (job_with k product (record { net = net; binding = binding }) (same_bases basis words) cycles) (a ∷ b ∷ []) (f a b)
 
 -- the same of the element of one word
 pub record ComputesOfOne (k : ℕ) (product : ℕ → ℕ → ℕ) (net : NetList) (words : List WordText) (basis : List ℕ) (cycles : ℕ) (f : ℕ → ℕ) : Type 0 where
   pub binding : Binding
   pub binds : BindingOf net words [] (Ok binding)
-  pub out : (bound : Binding) → BindingOf net words [] (Ok bound) → (a : ℕ) → a < 2 ^ k → IsOut (job_with k product (record { net = net; binding = bound }) (same_bases basis words) cycles) (a ∷ []) (f a)
+  pub out : (binding : Binding) → BindingOf net words [] (Ok binding) → (a : ℕ) → a < 2 ^ k → IsOut (job_with k product (record { net = net; binding = binding }) (same_bases basis words) cycles) (a ∷ []) (f a)

@@ -14,7 +14,7 @@ use std::marker::Model;
 #[derive(Drop)]
 pub struct Combinational {
     net: Net,
-    bound: Bound,
+    binding: Bound,
 }
 
 impl Model for Combinational {
@@ -24,26 +24,26 @@ impl Model for Combinational {
 
     ghost Value = { BoundNet };
 
-    ghost view = { λ circuit. record { net = circuit.net; binding = circuit.bound } };
+    ghost view = { λ circuit. record { net = circuit.net; binding = circuit.binding } };
 
-    ghost invariant = { λ circuit. IsSound circuit.net × IsOneCycle circuit.net circuit.bound };
+    ghost invariant = { λ circuit. IsSound circuit.net × IsOneCycle circuit.net circuit.binding };
 }
 
 impl Combinational {
     /// A net with its words, where nothing is left to unroll; both are handed back where the net has latches, the binding
     /// has a feed, or a fed word has no nets. Where none of these holds, the binding is of this net, and no chain of gates
     /// leads from a primary input in no word to a bit of the output word. That the net is sound is said once more.
-    pub fn new(net: Net, bound: Bound) -> Result<Combinational, (Net, Bound)>
-        requires { IsFlat net bound → IsOneCycle net bound }
-        ensures made { IfOk result (λ circuit. circuit ≡ record { net = net; binding = bound }) }
-        ensures flat { IsOk result ↔ IsFlat net bound }
-        ensures back { IfErr result (λ pair. (pair.0 ≡ net) × (pair.1 ≡ bound)) }
+    pub fn new(net: Net, binding: Bound) -> Result<Combinational, (Net, Bound)>
+        requires { IsFlat net binding → IsOneCycle net binding }
+        ensures made { IfOk result (λ circuit. circuit ≡ record { net = net; binding = binding }) }
+        ensures flat { IsOk result ↔ IsFlat net binding }
+        ensures back { IfErr result (λ pair. (pair.0 ≡ net) × (pair.1 ≡ binding)) }
         ensures sound { IsSound net }
     {
-        if is_flat(&net, &bound) {
-            Ok(Combinational { net, bound })
+        if is_flat(&net, &binding) {
+            Ok(Combinational { net, binding })
         } else {
-            Err((net, bound))
+            Err((net, binding))
         }
     }
 
@@ -58,13 +58,13 @@ impl Combinational {
     }
 
     /// The words.
-    pub fn bound(&self) -> &Bound
-        ensures bound { result.now ≡ self.now.binding }
+    pub fn binding(&self) -> &Bound
+        ensures binding { result.now ≡ self.now.binding }
         ensures flat { self.now.net.latches ≡ [] }
         ensures sound { IsSound self.now.net }
         ensures is_bound { IsOneCycle self.now.net self.now.binding }
     {
-        &self.bound
+        &self.binding
     }
 
     /// The place of a net in the order of variables after the words: the bits of the input, state and fed words in
@@ -74,7 +74,7 @@ impl Combinational {
         ensures within { net < nets self.now.net → result < nets self.now.net }
         ensures is_bound { IsOneCycle self.now.net self.now.binding }
     {
-        self.bound.rank_of(net)
+        self.binding.rank_of(net)
     }
 
     /// The net at a place in the order of variables after the words.
@@ -82,7 +82,7 @@ impl Combinational {
         ensures ranked { rank < length (variables (nets self.now.net) self.now.binding.words) → IsRanked (variables (nets self.now.net) self.now.binding.words) rank result }
         ensures within { rank < nets self.now.net → result < nets self.now.net }
     {
-        self.bound.net_of(rank)
+        self.binding.net_of(rank)
     }
 }
 
@@ -98,7 +98,7 @@ fn is_flat(net: &Net, binding: &Bound) -> bool
 fn have_nets(binding: &Bound) -> bool
     ensures { IsTrue result ↔ All (λ word. length word.nets ≡ binding.now.k) binding.now.words }
 {
-    for w in 0..bound.words() {
+    for w in 0..binding.words() {
         if !binding.has_nets(w) {
             return false;
         }

@@ -28,7 +28,7 @@ fn rebound_words(alloc: Global, binding: &Bound, nets: &[u32]) -> Result<Vec<Bou
     ensures { IfOk result (λ words. words.items ≡ rebound binding.now.k binding.now.words nets.now) }
 {
     let mut words = Vec::new(alloc);
-    for w in 0..bound.words() {
+    for w in 0..binding.words() {
         words.push(rebound_word(alloc, binding, w, nets)?)?;
     }
     Ok(words)

@@ -66,7 +66,7 @@ pub fn reduce_bits<F: Field, T: Steps>(
 {
     let net = circuit.net();
     let order = elimination(alloc, net)?;
-    let list = output_nets(alloc, circuit.bound())?;
+    let list = output_nets(alloc, circuit.binding())?;
     let places = places(alloc, circuit, &order)?;
     let mut cut = first_cut(alloc, field, circuit, output, &list, places)?;
     check_size(&cut, bound, 0)?;

@@ -52,13 +52,13 @@ fn elements<F: Field>(
     bases: &[Basis],
     ones: &[u32],
 ) -> Result<Vec<u64>, AllocError>
-    requires bound { binding.now ≡ _circuit.now.binding }
+    requires binding { binding.now ≡ _circuit.now.binding }
     requires is_bound { IsOneCycle _circuit.now.net _circuit.now.binding }
     requires bases { AreBases (F.degree field.now) (F.product field.now) _circuit.now bases.now }
     ensures { IfOk result (λ list. list.items ≡ inputs_from (F.degree field.now) ones.now 0 (circuit_in (F.degree field.now) (F.product field.now) _circuit.now bases.now).words) }
 {
     let mut list = Vec::new(alloc);
-    for v in 0..bound.words() {
+    for v in 0..binding.words() {
         add_element(field, binding.role(v), &bases[v as usize], ones, &mut list)?;
     }
     Ok(list)
@@ -119,14 +119,14 @@ pub fn compare<F: Field>(
     requires right { IsInInputBits (circuit_in (F.degree field.now) (F.product field.now) circuit.now bases.now) right.now.terms }
     ensures { IfOk result (IsVerdict (circuit_in (F.degree field.now) (F.product field.now) circuit.now bases.now) left.now.terms right.now.terms) }
 {
-    let bound = circuit.bound();
+    let binding = circuit.binding();
     let sum = sum_of(alloc, field, left, right)?;
     let terms = sum.terms(alloc)?;
     let Some(term) = first_term(&terms) else {
         return Ok(Verdict::Same);
     };
     let ones = term.mono().bits();
-    let list = elements(alloc, field, circuit, bound, bases, ones)?;
+    let list = elements(alloc, field, circuit, binding, bases, ones)?;
     Ok(Verdict::Differ {
         input: padded(&list),
         left: value_at(field, left, ones),

@@ -190,7 +190,7 @@ pub fn expand<F: Field>(
     ensures within { OnOk result (AreAllWithin (F.degree field.now) (F.product field.now) (spec_listing (circuit_in (F.degree field.now) (F.product field.now) circuit.now bases.now) spec.now) bound) }
     ensures fault { IfErr result (IsRefusal (F.degree field.now) (F.product field.now) (spec_listing (circuit_in (F.degree field.now) (F.product field.now) circuit.now bases.now) spec.now) bound) }
 {
-    let places = word_places(alloc, circuit.bound())?;
+    let places = word_places(alloc, circuit.binding())?;
     let terms = spec.terms();
     let mut sum = Poly::zero(alloc);
     for s in 0..terms.len() {

@@ -56,5 +56,5 @@ pub fn last_cut_in_words()
 
 /// The cuts of a net with bound words are those of its circuit.
 pub fn cuts_of_bound()
-    ensures { (k : ℕ) (mul : ℕ → ℕ → ℕ) (bound : BoundNet) (bases : List (List ℕ)) (basis : List ℕ) (t : ℕ) (p : Point) (e : ℕ) → length bases ≡ length bound.binding.words → basis ≡ output_basis bound.binding.words bases → BoundCut bound basis t p e ↔ CutOf (circuit_with k mul bound bases) t p e }
+    ensures { (k : ℕ) (mul : ℕ → ℕ → ℕ) (netlist : BoundNet) (bases : List (List ℕ)) (basis : List ℕ) (t : ℕ) (p : Point) (e : ℕ) → length bases ≡ length netlist.binding.words → basis ≡ output_basis netlist.binding.words bases → BoundCut netlist basis t p e ↔ CutOf (circuit_with k mul netlist bases) t p e }
 {}

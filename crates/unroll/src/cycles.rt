@@ -13,9 +13,9 @@ use std::alloc::AllocError;
 impl Plan {
     // Adds the feeding gates of the fed nets in the first cycle.
     fn add_first_inputs(&self, maker: &mut NetMaker) -> Result<(), AllocError>
-        requires bound { IsBoundTo self.now.net self.now.bound }
-        requires room { HasRoom (net_count self.now.net self.now.bound self.now.cycles) (length (map (feeding_gate self.now.net self.now.bound self.now.cycles 0) (filter (is_fed self.now.bound.feeds) self.now.net.inputs))) maker.old }
-        ensures { OnOk result (maker.new ≡ with_gates maker.old (map (feeding_gate self.now.net self.now.bound self.now.cycles 0) (filter (is_fed self.now.bound.feeds) self.now.net.inputs))) }
+        requires binding { IsBoundTo self.now.net self.now.binding }
+        requires room { HasRoom (net_count self.now.net self.now.binding self.now.cycles) (length (map (feeding_gate self.now.net self.now.binding self.now.cycles 0) (filter (is_fed self.now.binding.feeds) self.now.net.inputs))) maker.old }
+        ensures { OnOk result (maker.new ≡ with_gates maker.old (map (feeding_gate self.now.net self.now.binding self.now.cycles 0) (filter (is_fed self.now.binding.feeds) self.now.net.inputs))) }
     {
         for n in self.net.inputs() {
             self.add_first_input(maker, *n)?;
@@ -25,8 +25,8 @@ impl Plan {
 
     // Adds a start for each latch in no state word.
     fn add_first_latches(&self, maker: &mut NetMaker) -> Result<(), AllocError>
-        requires { HasRoom (net_count self.now.net self.now.bound self.now.cycles) (length (map start_gate (filter (λ latch. not (is_held self.now.bound latch)) self.now.net.latches))) maker.old }
-        ensures { OnOk result (maker.new ≡ with_gates maker.old (map start_gate (filter (λ latch. not (is_held self.now.bound latch)) self.now.net.latches))) }
+        requires { HasRoom (net_count self.now.net self.now.binding self.now.cycles) (length (map start_gate (filter (λ latch. not (is_held self.now.binding latch)) self.now.net.latches))) maker.old }
+        ensures { OnOk result (maker.new ≡ with_gates maker.old (map start_gate (filter (λ latch. not (is_held self.now.binding latch)) self.now.net.latches))) }
     {
         for latch in self.net.latches() {
             self.add_first_latch(maker, *latch)?;
@@ -36,10 +36,10 @@ impl Plan {
 
     // Adds what gives the primary inputs their bits in cycle t, after the first.
     fn add_inputs(&self, maker: &mut NetMaker, t: u32) -> Result<(), AllocError>
-        requires bound { IsBoundTo self.now.net self.now.bound }
-        requires room { HasRoom (net_count self.now.net self.now.bound self.now.cycles) (length self.now.net.inputs) maker.old }
+        requires binding { IsBoundTo self.now.net self.now.binding }
+        requires room { HasRoom (net_count self.now.net self.now.binding self.now.cycles) (length self.now.net.inputs) maker.old }
         requires cycle { t ≤ self.now.cycles }
-        ensures { OnOk result (maker.new ≡ with_gates maker.old (map (input_gate self.now.net self.now.bound self.now.cycles t) self.now.net.inputs)) }
+        ensures { OnOk result (maker.new ≡ with_gates maker.old (map (input_gate self.now.net self.now.binding self.now.cycles t) self.now.net.inputs)) }
     {
         for n in self.net.inputs() {
             self.add_input(maker, t, *n)?;
@@ -49,7 +49,7 @@ impl Plan {
 
     // Adds what gives the latches their bits in the cycle after t.
     fn add_latches(&self, maker: &mut NetMaker, t: u32) -> Result<(), AllocError>
-        requires room { HasRoom (net_count self.now.net self.now.bound self.now.cycles) (length self.now.net.latches) maker.old }
+        requires room { HasRoom (net_count self.now.net self.now.binding self.now.cycles) (length self.now.net.latches) maker.old }
         requires cycle { t < self.now.cycles }
         ensures { OnOk result (maker.new ≡ with_gates maker.old (map (latch_gate (nets self.now.net) t) self.now.net.latches)) }
     {
@@ -61,7 +61,7 @@ impl Plan {
 
     // Adds the gates in cycle t.
     fn add_gates_at(&self, maker: &mut NetMaker, t: u32) -> Result<(), AllocError>
-        requires room { HasRoom (net_count self.now.net self.now.bound self.now.cycles) (length self.now.net.gates) maker.old }
+        requires room { HasRoom (net_count self.now.net self.now.binding self.now.cycles) (length self.now.net.gates) maker.old }
         requires cycle { t ≤ self.now.cycles }
         ensures { OnOk result (maker.new ≡ with_gates maker.old (map (gate_at (nets self.now.net) t) self.now.net.gates)) }
     {
@@ -73,9 +73,9 @@ impl Plan {
 
     // Adds the gates of the first cycle.
     fn add_first(&self, maker: &mut NetMaker) -> Result<(), AllocError>
-        requires bound { IsBoundTo self.now.net self.now.bound }
-        requires room { HasRoom (net_count self.now.net self.now.bound self.now.cycles) (length (first_gates self.now.net self.now.bound self.now.cycles)) maker.old }
-        ensures { OnOk result (maker.new ≡ with_gates maker.old (first_gates self.now.net self.now.bound self.now.cycles)) }
+        requires binding { IsBoundTo self.now.net self.now.binding }
+        requires room { HasRoom (net_count self.now.net self.now.binding self.now.cycles) (length (first_gates self.now.net self.now.binding self.now.cycles)) maker.old }
+        ensures { OnOk result (maker.new ≡ with_gates maker.old (first_gates self.now.net self.now.binding self.now.cycles)) }
     {
         self.add_first_inputs(maker)?;
         self.add_first_latches(maker)?;
@@ -84,10 +84,10 @@ impl Plan {
 
     // Adds the gates of the cycle after t.
     fn add_next(&self, maker: &mut NetMaker, t: u32) -> Result<(), AllocError>
-        requires bound { IsBoundTo self.now.net self.now.bound }
-        requires room { HasRoom (net_count self.now.net self.now.bound self.now.cycles) (length (next_gates self.now.net self.now.bound self.now.cycles t)) maker.old }
+        requires binding { IsBoundTo self.now.net self.now.binding }
+        requires room { HasRoom (net_count self.now.net self.now.binding self.now.cycles) (length (next_gates self.now.net self.now.binding self.now.cycles t)) maker.old }
         requires cycle { t < self.now.cycles }
-        ensures { OnOk result (maker.new ≡ with_gates maker.old (next_gates self.now.net self.now.bound self.now.cycles t)) }
+        ensures { OnOk result (maker.new ≡ with_gates maker.old (next_gates self.now.net self.now.binding self.now.cycles t)) }
     {
         self.add_inputs(maker, t + 1)?;
         self.add_latches(maker, t)?;
@@ -96,9 +96,9 @@ impl Plan {
 
     /// Adds the gates of all cycles to a net list that has room for them.
     pub fn add_cycles(&self, maker: &mut NetMaker) -> Result<(), AllocError>
-        requires bound { IsBoundTo self.now.net self.now.bound }
-        requires room { HasRoom (net_count self.now.net self.now.bound self.now.cycles) (length (gates_to self.now.net self.now.bound self.now.cycles self.now.cycles)) maker.old }
-        ensures { OnOk result (maker.new ≡ with_gates maker.old (gates_to self.now.net self.now.bound self.now.cycles self.now.cycles)) }
+        requires binding { IsBoundTo self.now.net self.now.binding }
+        requires room { HasRoom (net_count self.now.net self.now.binding self.now.cycles) (length (gates_to self.now.net self.now.binding self.now.cycles self.now.cycles)) maker.old }
+        ensures { OnOk result (maker.new ≡ with_gates maker.old (gates_to self.now.net self.now.binding self.now.cycles self.now.cycles)) }
     {
         self.add_first(maker)?;
         for t in 0..self.cycles {

@@ -68,10 +68,10 @@ fn start_bit(start: Start) -> u64
 impl Plan {
     // Adds a gate that gives a net the bit of a source.
     fn add_source(&self, maker: &mut NetMaker, out: u32, source: Source) -> Result<(), AllocError>
-        requires room { HasRoom (net_count self.now.net self.now.bound self.now.cycles) 1 maker.old }
-        requires out { out < net_count self.now.net self.now.bound self.now.cycles }
-        requires source { IsSource self.now.bound.k (map (λ word. word.role) self.now.bound.words) source }
-        ensures { OnOk result (maker.new ≡ with_gates maker.old (source_gate self.now.net self.now.bound self.now.cycles out source ∷ [])) }
+        requires room { HasRoom (net_count self.now.net self.now.binding self.now.cycles) 1 maker.old }
+        requires out { out < net_count self.now.net self.now.binding self.now.cycles }
+        requires source { IsSource self.now.binding.k (map (λ word. word.role) self.now.binding.words) source }
+        ensures { OnOk result (maker.new ≡ with_gates maker.old (source_gate self.now.net self.now.binding self.now.cycles out source ∷ [])) }
     {
         match source {
             Source::Zero => add_constant(maker, out, 0),
@@ -82,21 +82,21 @@ impl Plan {
 
     // Adds the feeding gate of a fed net in cycle t.
     fn add_feeding(&self, maker: &mut NetMaker, t: u32, n: u32) -> Result<(), AllocError>
-        requires bound { IsBoundTo self.now.net self.now.bound }
-        requires room { HasRoom (net_count self.now.net self.now.bound self.now.cycles) 1 maker.old }
+        requires binding { IsBoundTo self.now.net self.now.binding }
+        requires room { HasRoom (net_count self.now.net self.now.binding self.now.cycles) 1 maker.old }
         requires cycle { t ≤ self.now.cycles }
         requires net { n < nets self.now.net }
-        ensures { OnOk result (maker.new ≡ with_gates maker.old (feeding_gate self.now.net self.now.bound self.now.cycles t n ∷ [])) }
+        ensures { OnOk result (maker.new ≡ with_gates maker.old (feeding_gate self.now.net self.now.binding self.now.cycles t n ∷ [])) }
     {
         self.add_source(maker, self.net_at(t, n), self.source(t, n))
     }
 
     // Adds the feeding gate of a primary input in the first cycle, if it is fed.
     pub fn add_first_input(&self, maker: &mut NetMaker, n: u32) -> Result<(), AllocError>
-        requires bound { IsBoundTo self.now.net self.now.bound }
-        requires room { HasRoom (net_count self.now.net self.now.bound self.now.cycles) (length (map (feeding_gate self.now.net self.now.bound self.now.cycles 0) (filter (is_fed self.now.bound.feeds) (n ∷ [])))) maker.old }
+        requires binding { IsBoundTo self.now.net self.now.binding }
+        requires room { HasRoom (net_count self.now.net self.now.binding self.now.cycles) (length (map (feeding_gate self.now.net self.now.binding self.now.cycles 0) (filter (is_fed self.now.binding.feeds) (n ∷ [])))) maker.old }
         requires net { n < nets self.now.net }
-        ensures { OnOk result (maker.new ≡ with_gates maker.old (map (feeding_gate self.now.net self.now.bound self.now.cycles 0) (filter (is_fed self.now.bound.feeds) (n ∷ [])))) }
+        ensures { OnOk result (maker.new ≡ with_gates maker.old (map (feeding_gate self.now.net self.now.binding self.now.cycles 0) (filter (is_fed self.now.binding.feeds) (n ∷ [])))) }
     {
         if self.is_fed(n) {
             self.add_feeding(maker, 0, n)
@@ -107,9 +107,9 @@ impl Plan {
 
     // Adds a gate with a latch's start in the first cycle, unless it is in a state word.
     pub fn add_first_latch(&self, maker: &mut NetMaker, latch: Latch) -> Result<(), AllocError>
-        requires room { HasRoom (net_count self.now.net self.now.bound self.now.cycles) (length (map start_gate (filter (λ l. not (is_held self.now.bound l)) (latch ∷ [])))) maker.old }
+        requires room { HasRoom (net_count self.now.net self.now.binding self.now.cycles) (length (map start_gate (filter (λ l. not (is_held self.now.binding l)) (latch ∷ [])))) maker.old }
         requires net { latch.out < nets self.now.net }
-        ensures { OnOk result (maker.new ≡ with_gates maker.old (map start_gate (filter (λ l. not (is_held self.now.bound l)) (latch ∷ [])))) }
+        ensures { OnOk result (maker.new ≡ with_gates maker.old (map start_gate (filter (λ l. not (is_held self.now.binding l)) (latch ∷ [])))) }
     {
         if self.is_held(latch.out) {
             Ok(())
@@ -120,11 +120,11 @@ impl Plan {
 
     // Adds what gives a primary input its bit in cycle t, after the first: its feeding gate, or a buffer from the first cycle.
     pub fn add_input(&self, maker: &mut NetMaker, t: u32, n: u32) -> Result<(), AllocError>
-        requires bound { IsBoundTo self.now.net self.now.bound }
-        requires room { HasRoom (net_count self.now.net self.now.bound self.now.cycles) 1 maker.old }
+        requires binding { IsBoundTo self.now.net self.now.binding }
+        requires room { HasRoom (net_count self.now.net self.now.binding self.now.cycles) 1 maker.old }
         requires cycle { t ≤ self.now.cycles }
         requires net { n < nets self.now.net }
-        ensures { OnOk result (maker.new ≡ with_gates maker.old (input_gate self.now.net self.now.bound self.now.cycles t n ∷ [])) }
+        ensures { OnOk result (maker.new ≡ with_gates maker.old (input_gate self.now.net self.now.binding self.now.cycles t n ∷ [])) }
     {
         if self.is_fed(n) {
             self.add_feeding(maker, t, n)
@@ -135,7 +135,7 @@ impl Plan {
 
     // Adds what gives a latch its bit in the cycle after t: a buffer from its `next` in cycle t.
     pub fn add_latch(&self, maker: &mut NetMaker, t: u32, latch: Latch) -> Result<(), AllocError>
-        requires room { HasRoom (net_count self.now.net self.now.bound self.now.cycles) 1 maker.old }
+        requires room { HasRoom (net_count self.now.net self.now.binding self.now.cycles) 1 maker.old }
         requires cycle { t < self.now.cycles }
         requires out { latch.out < nets self.now.net }
         requires next { latch.next < nets self.now.net }
@@ -165,7 +165,7 @@ impl Plan {
 
     // Adds a gate in cycle t.
     pub fn add_gate_at(&self, maker: &mut NetMaker, t: u32, gate: &Gate) -> Result<(), AllocError>
-        requires room { HasRoom (net_count self.now.net self.now.bound self.now.cycles) 1 maker.old }
+        requires room { HasRoom (net_count self.now.net self.now.binding self.now.cycles) 1 maker.old }
         requires cycle { t ≤ self.now.cycles }
         requires inside { GateIsInside (nets self.now.net) gate.now }
         ensures { OnOk result (maker.new ≡ with_gates maker.old (gate_at (nets self.now.net) t gate.now ∷ [])) }

@@ -57,12 +57,12 @@ impl Plan {
 
     // Adds a net for each bit of word w, below the number of words.
     fn add_bit_labels(&self, alloc: Global, maker: &mut NetMaker, w: u32) -> Result<(), AllocError>
-        requires word { w < length self.now.bound.words }
-        requires room { nets maker.old + self.now.bound.k ≤ 2 ^ 20 }
-        ensures { OnOk result ((word : _) → slice_get self.now.bound.words w ≡ Some word → maker.new ≡ with_labels maker.old (map (bit_label_of word.name) (range_with_len 0 self.now.bound.k))) }
+        requires word { w < length self.now.binding.words }
+        requires room { nets maker.old + self.now.binding.k ≤ 2 ^ 20 }
+        ensures { OnOk result ((word : _) → slice_get self.now.binding.words w ≡ Some word → maker.new ≡ with_labels maker.old (map (bit_label_of word.name) (range_with_len 0 self.now.binding.k))) }
     {
-        for i in 0..self.bound.k() {
-            let label = bit_label(alloc, self.bound.name(w), i)?;
+        for i in 0..self.binding.k() {
+            let label = bit_label(alloc, self.binding.name(w), i)?;
             add_label(maker, &label)?;
         }
         Ok(())
@@ -70,11 +70,11 @@ impl Plan {
 
     // Adds the nets that word w, below the number of words, has after those of the cycles.
     fn add_word_labels(&self, alloc: Global, maker: &mut NetMaker, w: u32) -> Result<(), AllocError>
-        requires word { w < length self.now.bound.words }
-        requires room { (word : _) → slice_get self.now.bound.words w ≡ Some word → nets maker.old + fed_bits self.now.bound.k word.role ≤ 2 ^ 20 }
-        ensures { OnOk result ((word : _) → slice_get self.now.bound.words w ≡ Some word → maker.new ≡ with_labels maker.old (map (bit_label_of word.name) (range_with_len 0 (fed_bits self.now.bound.k word.role)))) }
+        requires word { w < length self.now.binding.words }
+        requires room { (word : _) → slice_get self.now.binding.words w ≡ Some word → nets maker.old + fed_bits self.now.binding.k word.role ≤ 2 ^ 20 }
+        ensures { OnOk result ((word : _) → slice_get self.now.binding.words w ≡ Some word → maker.new ≡ with_labels maker.old (map (bit_label_of word.name) (range_with_len 0 (fed_bits self.now.binding.k word.role)))) }
     {
-        match self.bound.role(w) {
+        match self.binding.role(w) {
             Role::Fed => self.add_bit_labels(alloc, maker, w),
             Role::Input | Role::State | Role::Output => Ok(()),
         }
@@ -82,10 +82,10 @@ impl Plan {
 
     // Adds the nets of the bits of the fed words.
     fn add_fed_labels(&self, alloc: Global, maker: &mut NetMaker) -> Result<(), AllocError>
-        requires { nets maker.old + length (fed_labels self.now.bound.k self.now.bound.words) ≤ 2 ^ 20 }
-        ensures { OnOk result (maker.new ≡ with_labels maker.old (fed_labels self.now.bound.k self.now.bound.words)) }
+        requires { nets maker.old + length (fed_labels self.now.binding.k self.now.binding.words) ≤ 2 ^ 20 }
+        ensures { OnOk result (maker.new ≡ with_labels maker.old (fed_labels self.now.binding.k self.now.binding.words)) }
     {
-        for w in 0..self.bound.words() {
+        for w in 0..self.binding.words() {
             self.add_word_labels(alloc, maker, w)?;
         }
         Ok(())
@@ -94,7 +94,7 @@ impl Plan {
     /// Adds the nets of all cycles and the bits of the fed words to a net list without nets.
     pub fn add_nets(&self, alloc: Global, maker: &mut NetMaker) -> Result<(), AllocError>
         requires { nets maker.old ≡ 0 }
-        ensures { OnOk result (maker.new ≡ with_labels maker.old (labels_to self.now.net.labels self.now.cycles ++ fed_labels self.now.bound.k self.now.bound.words)) }
+        ensures { OnOk result (maker.new ≡ with_labels maker.old (labels_to self.now.net.labels self.now.cycles ++ fed_labels self.now.binding.k self.now.binding.words)) }
     {
         self.add_labels(maker)?;
         self.add_fed_labels(alloc, maker)

@@ -27,7 +27,7 @@ fn finished(maker: NetMaker) -> Result<Net, AllocError>
 impl Plan {
     // How many primary inputs are fed.
     fn fed_inputs(&self) -> u64
-        ensures count { result ≡ length (filter (is_fed self.now.bound.feeds) self.now.net.inputs) }
+        ensures count { result ≡ length (filter (is_fed self.now.binding.feeds) self.now.net.inputs) }
         ensures few { result ≤ length self.now.net.inputs }
     {
         let mut count: u64 = 0;
@@ -42,14 +42,14 @@ impl Plan {
     // Whether the output of the latch is in no state word.
     fn is_started(&self, latch: &Latch) -> bool
         requires { latch.now.out < nets self.now.net }
-        ensures { result ≡ not (is_held self.now.bound latch.now) }
+        ensures { result ≡ not (is_held self.now.binding latch.now) }
     {
         !self.is_held(latch.out)
     }
 
     // How many latches are in no state word.
     fn started_latches(&self) -> u64
-        ensures count { result ≡ length (filter (λ latch. not (is_held self.now.bound latch)) self.now.net.latches) }
+        ensures count { result ≡ length (filter (λ latch. not (is_held self.now.binding latch)) self.now.net.latches) }
         ensures few { result ≤ length self.now.net.latches }
     {
         let mut count: u64 = 0;
@@ -63,7 +63,7 @@ impl Plan {
 
     /// How many gates the net has after unrolling.
     pub fn gate_count(&self) -> u64
-        ensures { result ≡ length (gates_to self.now.net self.now.bound self.now.cycles self.now.cycles) }
+        ensures { result ≡ length (gates_to self.now.net self.now.binding self.now.cycles self.now.cycles) }
     {
         let cycles = u64::from(self.cycles);
         let gates = self.net.gates().len() as u64;
@@ -73,13 +73,13 @@ impl Plan {
 
     // The net list of all cycles.
     fn laid_out(&self, alloc: Global) -> Result<NetMaker, AllocError>
-        requires bound { IsBoundTo self.now.net self.now.bound }
-        requires room { length (gates_to self.now.net self.now.bound self.now.cycles self.now.cycles) ≤ 2 ^ 20 }
-        ensures { IfOk result (λ maker. maker ≡ all_cycles self.now.net self.now.bound self.now.cycles) }
+        requires binding { IsBoundTo self.now.net self.now.binding }
+        requires room { length (gates_to self.now.net self.now.binding self.now.cycles self.now.cycles) ≤ 2 ^ 20 }
+        ensures { IfOk result (λ maker. maker ≡ all_cycles self.now.net self.now.binding self.now.cycles) }
     {
         let mut maker = NetMaker::new(alloc);
         self.add_nets(alloc, &mut maker)?;
-        let end = count_nets(&self.net, &self.bound, self.cycles) as u32;
+        let end = count_nets(&self.net, &self.binding, self.cycles) as u32;
         self.add_all_inputs(&mut maker, end)?;
         self.add_outputs(&mut maker)?;
         self.add_cycles(&mut maker)?;
@@ -88,9 +88,9 @@ impl Plan {
 
     /// The net of all cycles, where it has no more gates than a net may have.
     pub fn net(&self, alloc: Global) -> Result<Net, AllocError>
-        requires bound { IsBoundTo self.now.net self.now.bound }
-        requires room { length (gates_to self.now.net self.now.bound self.now.cycles self.now.cycles) ≤ 2 ^ 20 }
-        ensures { IfOk result (λ net. net ≡ all_cycles self.now.net self.now.bound self.now.cycles) }
+        requires binding { IsBoundTo self.now.net self.now.binding }
+        requires room { length (gates_to self.now.net self.now.binding self.now.cycles self.now.cycles) ≤ 2 ^ 20 }
+        ensures { IfOk result (λ net. net ≡ all_cycles self.now.net self.now.binding self.now.cycles) }
     {
         let maker = self.laid_out(alloc)?;
         finished(maker)

@@ -67,7 +67,7 @@ fn mark_held(alloc: Global, marks: &mut [bool], binding: &Bound, w: u32) -> Resu
 fn mark_states(alloc: Global, marks: &mut [bool], binding: &Bound) -> Result<(), AllocError>
     ensures { OnOk result ((n : ℕ) → n < length marks.new → mark_at marks.new n ≡ (mark_at marks.old n || in_word State binding.now.words n)) }
 {
-    for w in 0..bound.words() {
+    for w in 0..binding.words() {
         mark_held(alloc, marks, binding, w)?;
     }
     Ok(())

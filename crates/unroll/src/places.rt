@@ -25,7 +25,7 @@ fn fed_count(binding: &Bound) -> u32
     ensures few { result ≤ 64 * 9 }
 {
     let mut count = 0;
-    for w in 0..bound.words() {
+    for w in 0..binding.words() {
         count += fed_bits(binding.k(), binding.role(w));
     }
     count
@@ -52,7 +52,7 @@ pub fn first_bits(
 {
     let mut firsts = Vec::new(alloc);
     let mut next = (cycles + 1) * net.nets();
-    for w in 0..bound.words() {
+    for w in 0..binding.words() {
         firsts.push(next)?;
         next += fed_bits(binding.k(), binding.role(w));
     }

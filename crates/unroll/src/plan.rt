@@ -18,7 +18,7 @@ use net_words::{Bound, Source};
 #[derive(Drop)]
 pub struct Plan {
     pub net: Net,
-    pub bound: Bound,
+    pub binding: Bound,
     pub cycles: u32,
     pub fed: Vec<bool>,
     pub held: Vec<bool>,
@@ -26,11 +26,11 @@ pub struct Plan {
     pub firsts: Vec<u32>,
     ghost sound: { IsSound net },
     ghost short: { cycles ≤ 4096 },
-    ghost few: { net_count net bound cycles ≤ 2 ^ 20 },
-    ghost are_fed: { AreMarks (nets net) (is_fed_net bound.feeds) fed.items },
-    ghost are_held: { AreMarks (nets net) (in_word State bound.words) held.items },
-    ghost are_sources: { AreSources net bound cycles sources.items },
-    ghost are_firsts: { AreFirstBits net bound cycles firsts.items },
+    ghost few: { net_count net binding cycles ≤ 2 ^ 20 },
+    ghost are_fed: { AreMarks (nets net) (is_fed_net binding.feeds) fed.items },
+    ghost are_held: { AreMarks (nets net) (in_word State binding.words) held.items },
+    ghost are_sources: { AreSources net binding cycles sources.items },
+    ghost are_firsts: { AreFirstBits net binding cycles firsts.items },
 }
 
 impl Plan {
@@ -39,7 +39,7 @@ impl Plan {
         requires cycle { t ≤ self.now.cycles }
         requires net { n < nets self.now.net }
         ensures number { result ≡ net_at_of (nets self.now.net) t n }
-        ensures within { result < net_count self.now.net self.now.bound self.now.cycles }
+        ensures within { result < net_count self.now.net self.now.binding self.now.cycles }
     {
         t * self.net.nets() + n
     }
@@ -47,7 +47,7 @@ impl Plan {
     /// Whether the net is fed.
     pub fn is_fed(&self, n: u32) -> bool
         requires { n < nets self.now.net }
-        ensures { result ≡ is_fed_net self.now.bound.feeds n }
+        ensures { result ≡ is_fed_net self.now.binding.feeds n }
     {
         self.fed[n as usize]
     }
@@ -55,7 +55,7 @@ impl Plan {
     /// Whether the net is in a state word.
     pub fn is_held(&self, n: u32) -> bool
         requires { n < nets self.now.net }
-        ensures { result ≡ in_word State self.now.bound.words n }
+        ensures { result ≡ in_word State self.now.binding.words n }
     {
         self.held[n as usize]
     }
@@ -64,16 +64,16 @@ impl Plan {
     pub fn source(&self, t: u32, n: u32) -> Source
         requires cycle { t ≤ self.now.cycles }
         requires net { n < nets self.now.net }
-        ensures { result ≡ source_at self.now.bound.feeds n t }
+        ensures { result ≡ source_at self.now.binding.feeds n t }
     {
         self.sources[self.net_at(t, n) as usize]
     }
 
     /// The net of a bit of a fed word.
     pub fn bit_net(&self, word: u32, place: u32) -> u32
-        requires { IsBit self.now.bound word place }
-        ensures number { result ≡ bit_net_of self.now.net self.now.bound self.now.cycles word place }
-        ensures within { result < net_count self.now.net self.now.bound self.now.cycles }
+        requires { IsBit self.now.binding word place }
+        ensures number { result ≡ bit_net_of self.now.net self.now.binding self.now.cycles word place }
+        ensures within { result < net_count self.now.net self.now.binding self.now.cycles }
     {
         self.firsts[word as usize] + place
     }

@@ -45,7 +45,7 @@ pub fn sources(
     binding: &Bound,
     cycles: u32,
 ) -> Result<Vec<Source>, AllocError>
-    requires bound { IsBoundTo net.now binding.now }
+    requires binding { IsBoundTo net.now binding.now }
     requires cycles { cycles ≤ 4096 }
     requires few { cycle_nets (nets net.now) cycles ≤ 2 ^ 20 }
     ensures { IfOk result (λ sources. AreSources net.now binding.now cycles sources.items) }

@@ -19,21 +19,21 @@ use std::alloc::{AllocError, Global};
 const MOST: u64 = 1 << 20;
 
 // What the cycles of a net are laid out by.
-fn plan(alloc: Global, net: Net, bound: Bound, cycles: u32) -> Result<Plan, AllocError>
-    requires bound { IsBoundTo net bound }
+fn plan(alloc: Global, net: Net, binding: Bound, cycles: u32) -> Result<Plan, AllocError>
+    requires binding { IsBoundTo net binding }
     requires cycles { cycles ≤ 4096 }
-    requires few { net_count_of net bound cycles ≤ 2 ^ 20 }
+    requires few { net_count_of net binding cycles ≤ 2 ^ 20 }
     ensures net { IfOk result (λ plan. plan.net ≡ net) }
-    ensures bound { IfOk result (λ plan. plan.bound ≡ bound) }
+    ensures binding { IfOk result (λ plan. plan.binding ≡ binding) }
     ensures cycles { IfOk result (λ plan. plan.cycles ≡ cycles) }
 {
-    let fed = fed_marks(alloc, &net, &bound)?;
-    let held = held_marks(alloc, &net, &bound)?;
-    let sources = sources(alloc, &net, &bound, cycles)?;
-    let firsts = first_bits(alloc, &net, &bound, cycles)?;
+    let fed = fed_marks(alloc, &net, &binding)?;
+    let held = held_marks(alloc, &net, &binding)?;
+    let sources = sources(alloc, &net, &binding, cycles)?;
+    let firsts = first_bits(alloc, &net, &binding, cycles)?;
     Ok(Plan {
         net,
-        bound,
+        binding,
         cycles,
         fed,
         held,
@@ -45,14 +45,14 @@ fn plan(alloc: Global, net: Net, bound: Bound, cycles: u32) -> Result<Plan, Allo
 impl Plan {
     // The net of all cycles with its words, where it has no more gates than a net may have.
     fn circuit(&self, alloc: Global) -> Result<Combinational, AllocError>
-        requires bound { IsBoundTo self.now.net self.now.bound }
-        requires room { length (gates_to self.now.net self.now.bound self.now.cycles self.now.cycles) ≤ 2 ^ 20 }
-        ensures { IfOk result (λ circuit. circuit ≡ in_one_cycle self.now.net self.now.bound self.now.cycles) }
+        requires binding { IsBoundTo self.now.net self.now.binding }
+        requires room { length (gates_to self.now.net self.now.binding self.now.cycles self.now.cycles) ≤ 2 ^ 20 }
+        ensures { IfOk result (λ circuit. circuit ≡ in_one_cycle self.now.net self.now.binding self.now.cycles) }
     {
         let net = self.net(alloc)?;
         let list = self.word_nets(alloc)?;
-        let bound = rebind(alloc, &self.bound, &net, &list)?;
-        match Combinational::new(net, bound) {
+        let binding = rebind(alloc, &self.binding, &net, &list)?;
+        match Combinational::new(net, binding) {
             Ok(circuit) => Ok(circuit),
             Err(_) => unreachable!(),
         }
@@ -61,10 +61,10 @@ impl Plan {
 
 // The net of all cycles with its words, where it has no more gates than a net may have.
 fn within_gates(alloc: Global, plan: Plan) -> Result<Combinational, UnrollFault>
-    requires { IsBoundTo plan.net plan.bound }
-    ensures made { IfOk result (λ circuit. circuit ≡ in_one_cycle plan.net plan.bound plan.cycles) }
+    requires { IsBoundTo plan.net plan.binding }
+    ensures made { IfOk result (λ circuit. circuit ≡ in_one_cycle plan.net plan.binding plan.cycles) }
     ensures other { IfErr result (λ fault. fault ≢ UnrollFault.TooManyNets) }
-    ensures gates { IsErrOf result UnrollFault.TooManyGates → 2 ^ 20 < length (in_one_cycle plan.net plan.bound plan.cycles).net.gates }
+    ensures gates { IsErrOf result UnrollFault.TooManyGates → 2 ^ 20 < length (in_one_cycle plan.net plan.binding plan.cycles).net.gates }
 {
     if plan.gate_count() > MOST {
         return Err(UnrollFault::TooManyGates);
@@ -79,19 +79,19 @@ fn within_gates(alloc: Global, plan: Plan) -> Result<Combinational, UnrollFault>
 fn all_cycles(
     alloc: Global,
     net: Net,
-    bound: Bound,
+    binding: Bound,
     cycles: u32,
 ) -> Result<Combinational, UnrollFault>
-    requires bound { IsBoundTo net bound }
+    requires binding { IsBoundTo net binding }
     requires cycles { cycles ≤ 4096 }
-    ensures made { IfOk result (λ circuit. circuit ≡ in_one_cycle net bound cycles) }
-    ensures nets { (result ≡ Err UnrollFault.TooManyNets) ↔ (2 ^ 20 < nets (in_one_cycle net bound cycles).net) }
-    ensures gates { IsErrOf result UnrollFault.TooManyGates → 2 ^ 20 < length (in_one_cycle net bound cycles).net.gates }
+    ensures made { IfOk result (λ circuit. circuit ≡ in_one_cycle net binding cycles) }
+    ensures nets { (result ≡ Err UnrollFault.TooManyNets) ↔ (2 ^ 20 < nets (in_one_cycle net binding cycles).net) }
+    ensures gates { IsErrOf result UnrollFault.TooManyGates → 2 ^ 20 < length (in_one_cycle net binding cycles).net.gates }
 {
-    if net_count(&net, &bound, cycles) > MOST {
+    if net_count(&net, &binding, cycles) > MOST {
         return Err(UnrollFault::TooManyNets);
     }
-    match plan(alloc, net, bound, cycles) {
+    match plan(alloc, net, binding, cycles) {
         Ok(plan) => within_gates(alloc, plan),
         Err(AllocError) => Err(UnrollFault::OutOfMemory),
     }
@@ -107,18 +107,18 @@ fn all_cycles(
 pub fn unroll(
     alloc: Global,
     net: Net,
-    bound: Bound,
+    binding: Bound,
     cycles: u32,
 ) -> Result<Combinational, UnrollFault>
-    requires bound { IsBoundTo net bound }
+    requires binding { IsBoundTo net binding }
     requires cycles { cycles ≤ 4096 }
-    ensures made { IfOk result (λ circuit. circuit ≡ unrolled net bound cycles) }
-    ensures nets { (result ≡ Err UnrollFault.TooManyNets) ↔ (2 ^ 20 < nets (unrolled net bound cycles).net) }
-    ensures gates { IsErrOf result UnrollFault.TooManyGates → 2 ^ 20 < length (unrolled net bound cycles).net.gates }
-    ensures room { OnOk result (length (unrolled net bound cycles).net.gates ≤ 2 ^ 20) }
+    ensures made { IfOk result (λ circuit. circuit ≡ unrolled net binding cycles) }
+    ensures nets { (result ≡ Err UnrollFault.TooManyNets) ↔ (2 ^ 20 < nets (unrolled net binding cycles).net) }
+    ensures gates { IsErrOf result UnrollFault.TooManyGates → 2 ^ 20 < length (unrolled net binding cycles).net.gates }
+    ensures room { OnOk result (length (unrolled net binding cycles).net.gates ≤ 2 ^ 20) }
 {
-    match Combinational::new(net, bound) {
+    match Combinational::new(net, binding) {
         Ok(circuit) => Ok(circuit),
-        Err((net, bound)) => all_cycles(alloc, net, bound, cycles),
+        Err((net, binding)) => all_cycles(alloc, net, binding, cycles),
     }
 }

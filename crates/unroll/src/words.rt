@@ -20,7 +20,7 @@ pub fn nets_of(alloc: Global, binding: &Bound, w: u32) -> Result<Vec<u32>, Alloc
     if !binding.has_nets(w) {
         return Ok(list);
     }
-    for place in 0..bound.k() {
+    for place in 0..binding.k() {
         list.push(binding.net(w, place))?;
     }
     Ok(list)
@@ -29,25 +29,25 @@ pub fn nets_of(alloc: Global, binding: &Bound, w: u32) -> Result<Vec<u32>, Alloc
 impl Plan {
     // The net of a place, below k, of word w, below the number of words, in the unrolled net.
     fn place_net(&self, w: u32, place: u32) -> u32
-        requires bound { IsBoundTo self.now.net self.now.bound }
-        requires word { w < length self.now.bound.words }
-        requires place { place < self.now.bound.k }
-        ensures { (word : _) → slice_get self.now.bound.words w ≡ Some word → result ≡ slice_index (nets_with (nets self.now.net) self.now.cycles self.now.bound.k (first_bit self.now.bound.k (cycle_nets (nets self.now.net) self.now.cycles) self.now.bound.words w) word.role word.nets) place }
+        requires binding { IsBoundTo self.now.net self.now.binding }
+        requires word { w < length self.now.binding.words }
+        requires place { place < self.now.binding.k }
+        ensures { (word : _) → slice_get self.now.binding.words w ≡ Some word → result ≡ slice_index (nets_with (nets self.now.net) self.now.cycles self.now.binding.k (first_bit self.now.binding.k (cycle_nets (nets self.now.net) self.now.cycles) self.now.binding.words w) word.role word.nets) place }
     {
-        match self.bound.role(w) {
+        match self.binding.role(w) {
             Role::Fed => self.bit_net(w, place),
-            Role::Input | Role::State => self.bound.net(w, place),
-            Role::Output => self.net_at(self.cycles, self.bound.net(w, place)),
+            Role::Input | Role::State => self.binding.net(w, place),
+            Role::Output => self.net_at(self.cycles, self.binding.net(w, place)),
         }
     }
 
     // Adds the nets of word w, below the number of words, in the unrolled net.
     fn add_word_nets(&self, list: &mut Vec<u32>, w: u32) -> Result<(), AllocError>
-        requires bound { IsBoundTo self.now.net self.now.bound }
-        requires word { w < length self.now.bound.words }
-        ensures { OnOk result ((word : _) → slice_get self.now.bound.words w ≡ Some word → list.new.items ≡ list.old.items ++ nets_with (nets self.now.net) self.now.cycles self.now.bound.k (first_bit self.now.bound.k (cycle_nets (nets self.now.net) self.now.cycles) self.now.bound.words w) word.role word.nets) }
+        requires binding { IsBoundTo self.now.net self.now.binding }
+        requires word { w < length self.now.binding.words }
+        ensures { OnOk result ((word : _) → slice_get self.now.binding.words w ≡ Some word → list.new.items ≡ list.old.items ++ nets_with (nets self.now.net) self.now.cycles self.now.binding.k (first_bit self.now.binding.k (cycle_nets (nets self.now.net) self.now.cycles) self.now.binding.words w) word.role word.nets) }
     {
-        for place in 0..self.bound.k() {
+        for place in 0..self.binding.k() {
             list.push(self.place_net(w, place))?;
         }
         Ok(())
@@ -55,11 +55,11 @@ impl Plan {
 
     /// The nets of all words in the unrolled net, k for each word.
     pub fn word_nets(&self, alloc: Global) -> Result<Vec<u32>, AllocError>
-        requires { IsBoundTo self.now.net self.now.bound }
-        ensures { IfOk result (λ list. list.items ≡ unrolled_nets self.now.net self.now.bound self.now.cycles) }
+        requires { IsBoundTo self.now.net self.now.binding }
+        ensures { IfOk result (λ list. list.items ≡ unrolled_nets self.now.net self.now.binding self.now.cycles) }
     {
         let mut list = Vec::new(alloc);
-        for w in 0..self.bound.words() {
+        for w in 0..self.binding.words() {
             self.add_word_nets(&mut list, w)?;
         }
         Ok(list)

@@ -21,13 +21,13 @@ ghost use Rattle.circuit_model.specs.Bases.{AreBases, circuit_in};
 
 /// Words that are bound to a sound net make a well-formed circuit with one basis of the field for each.
 pub fn bases_make_a_circuit()
-    ensures { (k : ℕ) (mul : ℕ → ℕ → ℕ) (bound : BoundNet) (bases : List Basis) → IsRing k mul → HasNoZeroDivisors k mul → IsSound bound.net → IsOneCycle bound.net bound.binding → bound.binding.k ≡ k → AreBases k mul bound bases → IsWellFormed (circuit_in k mul bound bases) }
+    ensures { (k : ℕ) (mul : ℕ → ℕ → ℕ) (netlist : BoundNet) (bases : List Basis) → IsRing k mul → HasNoZeroDivisors k mul → IsSound netlist.net → IsOneCycle netlist.net netlist.binding → netlist.binding.k ≡ k → AreBases k mul netlist bases → IsWellFormed (circuit_in k mul netlist bases) }
 {}
 
 /// The polynomial of the last cut is that of the mix of no words: what the elimination of gates gives is what `to_words`
 /// takes.
 pub fn last_cut_is_taken()
-    ensures { (k : ℕ) (mul : ℕ → ℕ → ℕ) (bound : BoundNet) (bases : List Basis) (basis : List ℕ) (ts : Terms) → IsWellFormed (circuit_in k mul bound bases) → AreBases k mul bound bases → bound.net.latches ≡ [] → basis ≡ output_basis bound.binding.words (map elements_of bases) → IsOfStage k mul (BoundCut bound basis (length bound.net.gates)) ts → IsOfStage k mul (IsMix (circuit_in k mul bound bases) 0) ts }
+    ensures { (k : ℕ) (mul : ℕ → ℕ → ℕ) (netlist : BoundNet) (bases : List Basis) (basis : List ℕ) (ts : Terms) → IsWellFormed (circuit_in k mul netlist bases) → AreBases k mul netlist bases → netlist.net.latches ≡ [] → basis ≡ output_basis netlist.binding.words (map elements_of bases) → IsOfStage k mul (BoundCut netlist basis (length netlist.net.gates)) ts → IsOfStage k mul (IsMix (circuit_in k mul netlist bases) 0) ts }
 {}
 
 /// The polynomial of the mix of all words has the output's element at each input, and in it stand words alone.

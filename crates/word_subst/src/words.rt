@@ -40,7 +40,7 @@ pub fn to_words<F: Field, T: Steps>(
     ensures fault { IfErr result (IsRefusal (F.degree field.now) (F.product field.now) (word_listing (circuit_in (F.degree field.now) (F.product field.now) circuit.now bases.now)) bound) }
     ensures steps { OnOk result (IsRecorded (circuit_in (F.degree field.now) (F.product field.now) circuit.now bases.now) (T.steps steps.old) (T.steps steps.new)) }
 {
-    let places = word_places(alloc, circuit.bound())?;
+    let places = word_places(alloc, circuit.binding())?;
     let mut poly = bits;
     for w in 0..places.len() {
         let basis = &bases[places[w] as usize];

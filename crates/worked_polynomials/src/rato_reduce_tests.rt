@@ -146,7 +146,7 @@ pub(crate) fn reduced<F: Field, T: Steps>(
 ) -> Result<Poly, ReduceFault>
     ensures { IfOk result (λ q. IsReduced (F.degree field.now) q.terms) }
 {
-    assert!(rt; circuit.bound().k() == field.k());
+    assert!(rt; circuit.binding().k() == field.k());
     reduce_bits(alloc, field, circuit, &Basis::poly(field), bound, steps)
 }
 

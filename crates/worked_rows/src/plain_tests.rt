@@ -28,9 +28,9 @@ pub fn in_bits<F: Field>(
     requires over { AreBasesOver (F.degree field.now) (F.product field.now) bases.now }
     ensures { IfOk result (λ q. IsReduced (F.degree field.now) q.terms) }
 {
-    assert_eq!(rt; circuit.bound().k(), field.k());
-    assert_eq!(rt; circuit.bound().words() as usize, bases.len());
-    let basis = output_basis(circuit.bound(), bases);
+    assert_eq!(rt; circuit.binding().k(), field.k());
+    assert_eq!(rt; circuit.binding().words() as usize, bases.len());
+    let basis = output_basis(circuit.binding(), bases);
     reduce_bits(alloc, field, circuit, basis, u32::MAX, &mut NoSteps)
 }
 
@@ -47,7 +47,7 @@ fn in_words<F: Field>(
     requires long { length bases.now ≡ length circuit.now.binding.words }
     ensures { IfOk result (λ q. IsReduced (F.degree field.now) q.terms) }
 {
-    let basis = output_basis(circuit.bound(), bases);
+    let basis = output_basis(circuit.binding(), bases);
     let bits = match reduce_bits(alloc, field, circuit, basis, u32::MAX, &mut NoSteps) {
         Ok(bits) => bits,
         Err(fault) => return Err(fault),
@@ -67,8 +67,8 @@ pub fn poly_in_words<F: Field>(
     requires { AreBasesOver (F.degree field.now) (F.product field.now) bases.now }
     ensures { IfOk result (λ q. IsReduced (F.degree field.now) q.terms) }
 {
-    assert_eq!(rt; circuit.bound().k(), field.k());
-    assert_eq!(rt; circuit.bound().words() as usize, bases.len());
+    assert_eq!(rt; circuit.binding().k(), field.k());
+    assert_eq!(rt; circuit.binding().words() as usize, bases.len());
     in_words(alloc, field, circuit, bases, bound)
 }
 

@@ -50,15 +50,15 @@ fn word<F: Field>(
     requires { AreBasesOver (F.degree field.now) (F.product field.now) bases.now }
     ensures { IfOk result (λ made. IsBasisOver (F.degree field.now) (F.product field.now) made.basis) }
 {
-    let bound = circuit.bound();
-    assert!(rt; w < bound.words());
+    let binding = circuit.binding();
+    assert!(rt; w < binding.words());
     assert!(rt; (w as usize) < bases.len());
     let mut nets = Vec::new(alloc);
-    for place in 0..bound.k() {
-        nets.push(bound.net(w, place))?;
+    for place in 0..binding.k() {
+        nets.push(binding.net(w, place))?;
     }
     Ok(CircuitWord {
-        role: bound.role(w),
+        role: binding.role(w),
         nets,
         basis: anew(rt, alloc, field, &bases[w as usize])?,
     })

@@ -44,14 +44,14 @@ pub(crate) fn circuit_at<F: Field>(
     xs: [u64; 2],
 ) -> Option<u64> {
     let [x, y] = xs;
-    let bound = circuit.bound();
-    assert!(rt; bound.words() == 3);
+    let binding = circuit.binding();
+    assert!(rt; binding.words() == 3);
     assert!(rt; is_element(field, x) && is_element(field, y));
     let words = [
-        word(rt, alloc, field, bound, 0),
-        word(rt, alloc, field, bound, 1),
+        word(rt, alloc, field, binding, 0),
+        word(rt, alloc, field, binding, 1),
     ];
-    let last = word(rt, alloc, field, bound, 2);
+    let last = word(rt, alloc, field, binding, 2);
     output(alloc, field, circuit.net(), &words, &last, &[x, y])
         .ok()
         .expect(rt, "memory")
@@ -75,7 +75,7 @@ fn nets_of(alloc: Global, binding: &Bound, w: u32) -> Result<Vec<u32>, AllocErro
 {
     let mut nets = Vec::new(alloc);
     if binding.has_nets(w) {
-        for place in 0..bound.k() {
+        for place in 0..binding.k() {
             nets.push(binding.net(w, place))?;
         }
     }

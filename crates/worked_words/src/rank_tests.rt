@@ -82,7 +82,7 @@ static RANKED: [u32; 11] = [3, 4, 6, 7, 0, 1, 2, 5, 8, 9, 10];
 #[test]
 fn ranks(rt: HostRuntime) {
     let circuit = circuit(&rt, rt.alloc());
-    assert!(rt; circuit.net().nets() == 11 && circuit.bound().words() == 3);
+    assert!(rt; circuit.net().nets() == 11 && circuit.binding().words() == 3);
     for rank in 0..11 {
         let net = RANKED[rank as usize];
         assert!(rt;

@@ -58,23 +58,23 @@ IsLineIn c (line.Share p) = Unit {0}
 
 -- a net, or a bit of an input, state or fed word, of which there are at most 8
 abbrev pub IsGeneratorOf : ℕ → BoundNet → List Basis → Generator → Type 0
-IsGeneratorOf k bound bases (Net n) = n < nets bound.net
-IsGeneratorOf k bound bases (Bit w i) = (w < length (dual_words bound bases)) × (w < 8) × (i < k)
+IsGeneratorOf k netlist bases (Net n) = n < nets netlist.net
+IsGeneratorOf k netlist bases (Bit w i) = (w < length (dual_words netlist bases)) × (w < 8) × (i < k)
 
 -- a generator and a multiplier that there are
 abbrev pub IsLineOf : ℕ → BoundNet → List Basis → ℕ → Line → Type 0
-IsLineOf k bound bases count (line.Pair g m) = IsGeneratorOf k bound bases g × IsMultiplier k count m
-IsLineOf k bound bases count (line.Share p) = IsReduced k p.terms
+IsLineOf k netlist bases count (line.Pair g m) = IsGeneratorOf k netlist bases g × IsMultiplier k count m
+IsLineOf k netlist bases count (line.Share p) = IsReduced k p.terms
 
 -- the claim, the shared multipliers and the running sum of a certificate, which is within the bound
-pub record IsKept (k : ℕ) (mul : ℕ → ℕ → ℕ) (bound : BoundNet) (bases : List Basis) (most : ℕ) (c : Certificate) (claim : Terms) (shared : List Terms) (sum : Terms) : Type 0 where
+pub record IsKept (k : ℕ) (mul : ℕ → ℕ → ℕ) (netlist : BoundNet) (bases : List Basis) (most : ℕ) (c : Certificate) (claim : Terms) (shared : List Terms) (sum : Terms) : Type 0 where
   pub claim_is : claim ≡ c.claim
   pub shared_are : shared ≡ c.shared
   pub reduced : AllByRecursion (IsReduced k) shared
-  pub sum_is : IsRunningSum k mul bound bases c sum
+  pub sum_is : IsRunningSum k mul netlist bases c sum
   pub within : length sum ≤ most
 
 -- what is asked after a line
 abbrev pub LineAsks : ℕ → (ℕ → ℕ → ℕ) → BoundNet → List Basis → ℕ → ℕ → Certificate → Line → Outcome CertFault (Unit {0})
-LineAsks k mul bound bases most n c (line.Pair g m) = AsksAtMost k mul bound bases most n (with_pair c g (multiplier_in c.shared m))
-LineAsks k mul bound bases most n c (line.Share p) = Exactly tt
+LineAsks k mul netlist bases most n c (line.Pair g m) = AsksAtMost k mul netlist bases most n (with_pair c g (multiplier_in c.shared m))
+LineAsks k mul netlist bases most n c (line.Share p) = Exactly tt

@@ -35,5 +35,5 @@ UpgradeKeepsPairs = (k : ℕ) (net : NetList) (labels : Labelling) (bytes upgrad
 
 -- both texts have the same verdict, with the same number of remaining terms, where both have one
 abbrev pub UpgradeKeepsVerdict : Type 0
-UpgradeKeepsVerdict = (k : ℕ) (mul : ℕ → ℕ → ℕ) (bound : BoundNet) (bases : List Basis) (labels : Labelling) (most other : ℕ) (bytes upgraded : List ℕ) (first second : Verdict) → IsRing k mul → HasNoZeroDivisors k mul → HaveNumbers k bound.net labels → length bytes < 2 ^ 32 → UpgradeOf k bound.net labels bytes (Ok upgraded)
-    → Check k mul bound bases labels most bytes (Ok first) → Check k mul bound bases labels other upgraded (Ok second) → first ≡ second
+UpgradeKeepsVerdict = (k : ℕ) (mul : ℕ → ℕ → ℕ) (netlist : BoundNet) (bases : List Basis) (labels : Labelling) (most other : ℕ) (bytes upgraded : List ℕ) (first second : Verdict) → IsRing k mul → HasNoZeroDivisors k mul → HaveNumbers k netlist.net labels → length bytes < 2 ^ 32 → UpgradeOf k netlist.net labels bytes (Ok upgraded)
+    → Check k mul netlist bases labels most bytes (Ok first) → Check k mul netlist bases labels other upgraded (Ok second) → first ≡ second

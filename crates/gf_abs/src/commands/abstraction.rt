@@ -69,7 +69,7 @@ fn reply<F: Field>(
     ensures { GivesBy reply_of result (AbstractReply (record { signature = signature.now; k = F.degree field.now; product = F.product field.now; bases = elements_of_each bases.now }) circuit.now bound) ⊥ ⊥ }
 {
     let labels = labels_for(alloc, signature.words(), field.k())?;
-    let basis = output_basis(circuit.bound(), bases);
+    let basis = output_basis(circuit.binding(), bases);
     let bits = match reduce_bits(alloc, field, circuit, basis, bound, &mut NoSteps) {
         Ok(bits) => bits,
         Err(fault) => return Err(stage_stop(alloc, &labels, fault, bound)),

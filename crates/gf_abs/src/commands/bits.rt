@@ -68,7 +68,7 @@ fn reply<F: Field>(
     ensures { GivesBy reply_of result (BitsReply (record { signature = signature.now; k = F.degree field.now; product = F.product field.now; bases = elements_of_each bases.now }) circuit.now bound) ⊥ ⊥ }
 {
     let labels = labels_for(alloc, signature.words(), field.k())?;
-    let basis = output_basis(circuit.bound(), bases);
+    let basis = output_basis(circuit.binding(), bases);
     let poly = match reduce_bits(alloc, field, circuit, basis, bound, &mut NoSteps) {
         Ok(poly) => poly,
         Err(fault) => return Err(stage_stop(alloc, &labels, fault, bound)),

@@ -19,12 +19,12 @@ use Rattle.spec_expand.specs.SpecListing.{IsAtPoint}
 use Rattle.circuit_model.specs.Places.{places_from}
 
 -- a sound net with its words, bases of a field, and the numbers of the input, state and fed words
-pub record IsSetting (k : ℕ) (mul : ℕ → ℕ → ℕ) (bound : BoundNet) (bases : List Basis) (places : List ℕ) : Type 0 where
-  pub sound : IsSound bound.net
-  pub is_bound : IsOneCycle bound.net bound.binding
-  pub bits : bound.binding.k ≡ k
-  pub bases_are : AreBases k mul bound bases
-  pub places_are : places ≡ places_from 0 bound.binding.words
+pub record IsSetting (k : ℕ) (mul : ℕ → ℕ → ℕ) (netlist : BoundNet) (bases : List Basis) (places : List ℕ) : Type 0 where
+  pub sound : IsSound netlist.net
+  pub is_bound : IsOneCycle netlist.net netlist.binding
+  pub bits : netlist.binding.k ≡ k
+  pub bases_are : AreBases k mul netlist bases
+  pub places_are : places ≡ places_from 0 netlist.binding.words
 
 module _ (circuit : Circuit) where
   -- a reduced polynomial that has the function's value at each point with the bits of an input

@@ -13,5 +13,5 @@ returns-in-Err-bind-clause-fault c =
 
 pub unreachable-requires : goal.unreachable-requires
 unreachable-requires c =
-    let is = flat_binding c.requires.words.0 c.args.words.now c.requires.words.1 c.requires.unfed c.in-Ok.net c.in-Ok-bind.bound c.in-Ok.ensures.net.2 c.in-Ok.ensures.net.1 c.in-Ok-bind.ensures.fits in
+    let is = flat_binding c.requires.words.0 c.args.words.now c.requires.words.1 c.requires.unfed c.in-Ok.net c.in-Ok-bind.binding c.in-Ok.ensures.net.2 c.in-Ok.ensures.net.1 c.in-Ok-bind.ensures.fits in
     false≢true (c.in-Err-new.ensures.flat.1 is)

@@ -14,4 +14,4 @@ returns-in-Bit g c =
     let mul = g.F.Ring.product c.args.field.now in
     let P : Generator → Type 0 = IsGeneratorOf k c.args.circuit.now c.args.bases.now in
     bit_comes k mul c.args.circuit.now c.args.bases.now c.in-Bit.word c.in-Bit.place c.input_basis-basis.result.now c.args.generator c.bit_split.result (subst P c.in-Bit.is c.requires.generator).0
-    (λ x at. c.input_basis-basis.ensures.basis x (ap (λ (b : Binding). slice_get (words_of b.words (map duals_of c.args.bases.now)) c.in-Bit.word) c.bound.ensures.bound ∙ at)) c.in-Bit.is c.bit_split.ensures
+    (λ x at. c.input_basis-basis.ensures.basis x (ap (λ (b : Binding). slice_get (words_of b.words (map duals_of c.args.bases.now)) c.in-Bit.word) c.binding.ensures.binding ∙ at)) c.in-Bit.is c.bit_split.ensures

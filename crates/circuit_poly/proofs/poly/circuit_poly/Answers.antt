@@ -17,7 +17,7 @@ use Rattle.circuit_poly.proofs.StageLemmas.{cut_refused, few, no_words, word_ref
 use Rattle.circuit_poly.proofs.poly.circuit_poly.Goals as goal
 
 pub output_basis-basis-requires-clause-long : goal.output_basis-basis-requires-clause-long
-output_basis-basis-requires-clause-long g c = c.requires.bases.long ∙ sym (ap (λ (b : Binding). length b.words) c.bound.ensures.bound)
+output_basis-basis-requires-clause-long g c = c.requires.bases.long ∙ sym (ap (λ (b : Binding). length b.words) c.binding.ensures.binding)
 
 pub reduce_bits-requires-clause-basis : goal.reduce_bits-requires-clause-basis
 reduce_bits-requires-clause-basis g c = c.requires.bases.each c.output_basis-basis.result.now c.output_basis-basis.ensures.among
@@ -30,14 +30,14 @@ to_words-requires-clause-bits g c =
     let free = g.met.F.Field.no_zero_divisors c.args.field.now in
     let circuit : BoundNet = c.args.circuit.now in
     let bases : List Basis = c.args.bases.now in
-    let sound : IsSound circuit.net = c.bound.ensures.sound in
-    let well = is_well_formed k mul circuit bases c.requires.bases ring free sound c.bound.ensures.is_bound c.requires.bits in
-    let basis : elements_of c.output_basis-basis.result.now ≡ output_basis circuit.binding.words (map elements_of bases) = c.output_basis-basis.ensures.basis ∙ ap (λ (b : Binding). output_basis b.words (map elements_of bases)) c.bound.ensures.bound in
+    let sound : IsSound circuit.net = c.binding.ensures.sound in
+    let well = is_well_formed k mul circuit bases c.requires.bases ring free sound c.binding.ensures.is_bound c.requires.bits in
+    let basis : elements_of c.output_basis-basis.result.now ≡ output_basis circuit.binding.words (map elements_of bases) = c.output_basis-basis.ensures.basis ∙ ap (λ (b : Binding). output_basis b.words (map elements_of bases)) c.binding.ensures.binding in
     let L : List ℕ → Type 0 = λ e. IsOfStage k mul (BoundCut circuit e (length circuit.net.gates)) c.in-Ok.bits.terms in
     let last = subst L basis c.in-Ok.ensures.last in
     let W : List ℕ → Type 0 = λ e. AreAllWithin k mul (bound_cuts circuit e) c.args.bound in
     let cuts_within = subst W basis c.in-Ok.ensures.within in
-    no_words k mul circuit bases well c.requires.bases.long c.bound.ensures.flat c.in-Ok.bits.terms last
+    no_words k mul circuit bases well c.requires.bases.long c.binding.ensures.flat c.in-Ok.bits.terms last
 
 pub to_words-requires-clause-few : goal.to_words-requires-clause-few
 to_words-requires-clause-few g c =
@@ -47,9 +47,9 @@ to_words-requires-clause-few g c =
     let free = g.met.F.Field.no_zero_divisors c.args.field.now in
     let circuit : BoundNet = c.args.circuit.now in
     let bases : List Basis = c.args.bases.now in
-    let sound : IsSound circuit.net = c.bound.ensures.sound in
-    let well = is_well_formed k mul circuit bases c.requires.bases ring free sound c.bound.ensures.is_bound c.requires.bits in
-    let basis : elements_of c.output_basis-basis.result.now ≡ output_basis circuit.binding.words (map elements_of bases) = c.output_basis-basis.ensures.basis ∙ ap (λ (b : Binding). output_basis b.words (map elements_of bases)) c.bound.ensures.bound in
+    let sound : IsSound circuit.net = c.binding.ensures.sound in
+    let well = is_well_formed k mul circuit bases c.requires.bases ring free sound c.binding.ensures.is_bound c.requires.bits in
+    let basis : elements_of c.output_basis-basis.result.now ≡ output_basis circuit.binding.words (map elements_of bases) = c.output_basis-basis.ensures.basis ∙ ap (λ (b : Binding). output_basis b.words (map elements_of bases)) c.binding.ensures.binding in
     let L : List ℕ → Type 0 = λ e. IsOfStage k mul (BoundCut circuit e (length circuit.net.gates)) c.in-Ok.bits.terms in
     let last = subst L basis c.in-Ok.ensures.last in
     let W : List ℕ → Type 0 = λ e. AreAllWithin k mul (bound_cuts circuit e) c.args.bound in
@@ -65,9 +65,9 @@ returns-in-Err-clause-fault g c =
     let free = g.met.F.Field.no_zero_divisors c.args.field.now in
     let circuit : BoundNet = c.args.circuit.now in
     let bases : List Basis = c.args.bases.now in
-    let sound : IsSound circuit.net = c.bound.ensures.sound in
-    let well = is_well_formed k mul circuit bases c.requires.bases ring free sound c.bound.ensures.is_bound c.requires.bits in
-    let basis : elements_of c.output_basis-basis.result.now ≡ output_basis circuit.binding.words (map elements_of bases) = c.output_basis-basis.ensures.basis ∙ ap (λ (b : Binding). output_basis b.words (map elements_of bases)) c.bound.ensures.bound in
+    let sound : IsSound circuit.net = c.binding.ensures.sound in
+    let well = is_well_formed k mul circuit bases c.requires.bases ring free sound c.binding.ensures.is_bound c.requires.bits in
+    let basis : elements_of c.output_basis-basis.result.now ≡ output_basis circuit.binding.words (map elements_of bases) = c.output_basis-basis.ensures.basis ∙ ap (λ (b : Binding). output_basis b.words (map elements_of bases)) c.binding.ensures.binding in
     let R : List ℕ → Type 0 = λ e. IsRefusal k mul (bound_cuts circuit e) c.args.bound c.in-Err.fault in
     cut_refused k mul circuit bases c.args.bound c.in-Err.fault (subst R basis c.in-Err.ensures.fault)
 
@@ -79,9 +79,9 @@ returns-in-Err-to_words-clause-fault g c =
     let free = g.met.F.Field.no_zero_divisors c.args.field.now in
     let circuit : BoundNet = c.args.circuit.now in
     let bases : List Basis = c.args.bases.now in
-    let sound : IsSound circuit.net = c.bound.ensures.sound in
-    let well = is_well_formed k mul circuit bases c.requires.bases ring free sound c.bound.ensures.is_bound c.requires.bits in
-    let basis : elements_of c.output_basis-basis.result.now ≡ output_basis circuit.binding.words (map elements_of bases) = c.output_basis-basis.ensures.basis ∙ ap (λ (b : Binding). output_basis b.words (map elements_of bases)) c.bound.ensures.bound in
+    let sound : IsSound circuit.net = c.binding.ensures.sound in
+    let well = is_well_formed k mul circuit bases c.requires.bases ring free sound c.binding.ensures.is_bound c.requires.bits in
+    let basis : elements_of c.output_basis-basis.result.now ≡ output_basis circuit.binding.words (map elements_of bases) = c.output_basis-basis.ensures.basis ∙ ap (λ (b : Binding). output_basis b.words (map elements_of bases)) c.binding.ensures.binding in
     let L : List ℕ → Type 0 = λ e. IsOfStage k mul (BoundCut circuit e (length circuit.net.gates)) c.in-Ok.bits.terms in
     let last = subst L basis c.in-Ok.ensures.last in
     let W : List ℕ → Type 0 = λ e. AreAllWithin k mul (bound_cuts circuit e) c.args.bound in
@@ -96,9 +96,9 @@ returns-in-Ok-to_words-clause-output g c =
     let free = g.met.F.Field.no_zero_divisors c.args.field.now in
     let circuit : BoundNet = c.args.circuit.now in
     let bases : List Basis = c.args.bases.now in
-    let sound : IsSound circuit.net = c.bound.ensures.sound in
-    let well = is_well_formed k mul circuit bases c.requires.bases ring free sound c.bound.ensures.is_bound c.requires.bits in
-    let basis : elements_of c.output_basis-basis.result.now ≡ output_basis circuit.binding.words (map elements_of bases) = c.output_basis-basis.ensures.basis ∙ ap (λ (b : Binding). output_basis b.words (map elements_of bases)) c.bound.ensures.bound in
+    let sound : IsSound circuit.net = c.binding.ensures.sound in
+    let well = is_well_formed k mul circuit bases c.requires.bases ring free sound c.binding.ensures.is_bound c.requires.bits in
+    let basis : elements_of c.output_basis-basis.result.now ≡ output_basis circuit.binding.words (map elements_of bases) = c.output_basis-basis.ensures.basis ∙ ap (λ (b : Binding). output_basis b.words (map elements_of bases)) c.binding.ensures.binding in
     (all_words_is_output (circuit_in k mul circuit bases) well c.in-Ok-to_words.poly.terms).0 c.in-Ok-to_words.ensures.words
 
 pub returns-in-Ok-to_words-clause-within : goal.returns-in-Ok-to_words-clause-within
@@ -109,9 +109,9 @@ returns-in-Ok-to_words-clause-within g c =
     let free = g.met.F.Field.no_zero_divisors c.args.field.now in
     let circuit : BoundNet = c.args.circuit.now in
     let bases : List Basis = c.args.bases.now in
-    let sound : IsSound circuit.net = c.bound.ensures.sound in
-    let well = is_well_formed k mul circuit bases c.requires.bases ring free sound c.bound.ensures.is_bound c.requires.bits in
-    let basis : elements_of c.output_basis-basis.result.now ≡ output_basis circuit.binding.words (map elements_of bases) = c.output_basis-basis.ensures.basis ∙ ap (λ (b : Binding). output_basis b.words (map elements_of bases)) c.bound.ensures.bound in
+    let sound : IsSound circuit.net = c.binding.ensures.sound in
+    let well = is_well_formed k mul circuit bases c.requires.bases ring free sound c.binding.ensures.is_bound c.requires.bits in
+    let basis : elements_of c.output_basis-basis.result.now ≡ output_basis circuit.binding.words (map elements_of bases) = c.output_basis-basis.ensures.basis ∙ ap (λ (b : Binding). output_basis b.words (map elements_of bases)) c.binding.ensures.binding in
     let L : List ℕ → Type 0 = λ e. IsOfStage k mul (BoundCut circuit e (length circuit.net.gates)) c.in-Ok.bits.terms in
     let last = subst L basis c.in-Ok.ensures.last in
     let W : List ℕ → Type 0 = λ e. AreAllWithin k mul (bound_cuts circuit e) c.args.bound in

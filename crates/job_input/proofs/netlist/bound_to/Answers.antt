@@ -11,4 +11,4 @@ pub returns-in-Err-clause-fits : goal.returns-in-Err-clause-fits
 returns-in-Err-clause-fits c = unbound c.args.net c.args.words.now c.args.feeds.now c.in-Err.fault c.binding_fault.result c.in-Err.ensures.fits c.binding_fault.ensures.same c.binding_fault.ensures.memory
 
 pub returns-in-Ok-clause-fits : goal.returns-in-Ok-clause-fits
-returns-in-Ok-clause-fits c = (c.in-Ok.bound, c.in-Ok.ensures.fits, c.new.ensures)
+returns-in-Ok-clause-fits c = (c.in-Ok.binding, c.in-Ok.ensures.fits, c.new.ensures)

@@ -18,7 +18,7 @@ returns-in_ok-push-in-Input g c =
     let one : List ℕ → List Word = λ es. record { role = Input; nets = c.in_ok-nets-in-Input.nets.items; basis = es } ∷ [] in
     record {
       added = λ word got.
-          let role = c.role.ensures word (ap (λ (b : Binding). slice_get b.words c.args.w) c.bound.ensures.bound ∙ got) in
+          let role = c.role.ensures word (ap (λ (b : Binding). slice_get b.words c.args.w) c.binding.ensures.binding ∙ got) in
           ap (λ (ws : List CircuitWord). map word_of ws) c.in_ok-push-in-Input.ensures.items
           ∙ (map-append word_of old (new ∷ [])
           ∙ ap (λ (ws : List Word). map word_of old ++ ws)

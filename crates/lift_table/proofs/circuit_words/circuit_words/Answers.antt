@@ -11,7 +11,7 @@ use Rattle.lift_table.proofs.circuit_words.circuit_words.Goals as goal
 
 pub add_word-requires-clause-basis : goal.add_word-requires-clause-basis
 add_word-requires-clause-basis g c =
-    let count : c.words-w-end.result ≡ length c.args.circuit.now.binding.words = c.words-w-end.ensures.count ∙ ap (λ (b : Binding). length b.words) c.bound-bound.ensures.bound in
+    let count : c.words-w-end.result ≡ length c.args.circuit.now.binding.words = c.words-w-end.ensures.count ∙ ap (λ (b : Binding). length b.words) c.binding-binding.ensures.binding in
     c.requires.each c.index-bases-w.result (c.loop-w.w, got_read c.args.bases.now c.loop-w.w c.index-bases-w.result (omega (arith, c.requires.long, count, c.loop-w-test.true)) c.index-bases-w.is)
 
 pub loop-w-preserved : goal.loop-w-preserved
@@ -19,7 +19,7 @@ loop-w-preserved g c =
     let words = c.args.circuit.now.binding.words in
     let bases = c.args.bases.now in
     let w = c.loop-w.w in
-    let count : c.words-w-end.result ≡ length words = c.words-w-end.ensures.count ∙ ap (λ (b : Binding). length b.words) c.bound-bound.ensures.bound in
+    let count : c.words-w-end.result ≡ length words = c.words-w-end.ensures.count ∙ ap (λ (b : Binding). length b.words) c.binding-binding.ensures.binding in
     let less : w < length words = omega (arith, count, c.loop-w-test.true) in
     let word = some_at words w less in
     let at : slice_get bases w ≡ Some c.index-bases-w.result = got_read bases w c.index-bases-w.result (omega (arith, c.requires.long, less)) c.index-bases-w.is in

@@ -41,7 +41,7 @@ returns-in-Err g c =
     let circuit = c.args.circuit.now in
     let bases = c.args.bases.now in
     let basis : elements_of c.output_basis-basis.result.now ≡ output_basis circuit.binding.words (elements_of_each bases) =
-    c.output_basis-basis.ensures.basis ∙ ap (λ (b : Binding). output_basis b.words (elements_of_each bases)) c.bound.ensures.bound in
+    c.output_basis-basis.ensures.basis ∙ ap (λ (b : Binding). output_basis b.words (elements_of_each bases)) c.binding.ensures.binding in
     let setting : SettingValue = record { signature = c.args.signature.now; k = degree; product = mul; bases = elements_of_each bases } in
     let same : c.in_ok-labels.labels ≡ labels_of degree c.args.signature.now.words = c.in_ok-labels.ensures ∙ (λ i. labels_of (c.k.ensures i) (c.words.ensures i)) in
     let R : List ℕ → Type 0 = λ e. IsRefusal degree mul (bound_cuts circuit e) c.args.bound c.in-Err.fault in
@@ -58,9 +58,9 @@ to_words-requires-clause-bits g c =
     let mul = g.F.Ring.product c.args.field.now in
     let circuit = c.args.circuit.now in
     let bases = c.args.bases.now in
-    let job : IsJob degree mul circuit bases = record { ring = g.met.F.Ring.laws c.args.field.now; nozero = g.met.F.Field.no_zero_divisors c.args.field.now; sound = c.bound.ensures.sound; bound = c.bound.ensures.is_bound; flat = c.bound.ensures.flat; same = c.requires.bits; over = c.requires.over; long = c.requires.long } in
+    let job : IsJob degree mul circuit bases = record { ring = g.met.F.Ring.laws c.args.field.now; nozero = g.met.F.Field.no_zero_divisors c.args.field.now; sound = c.binding.ensures.sound; bound = c.binding.ensures.is_bound; flat = c.binding.ensures.flat; same = c.requires.bits; over = c.requires.over; long = c.requires.long } in
     let basis : elements_of c.output_basis-basis.result.now ≡ output_basis circuit.binding.words (elements_of_each bases) =
-    c.output_basis-basis.ensures.basis ∙ ap (λ (b : Binding). output_basis b.words (elements_of_each bases)) c.bound.ensures.bound in
+    c.output_basis-basis.ensures.basis ∙ ap (λ (b : Binding). output_basis b.words (elements_of_each bases)) c.binding.ensures.binding in
     let L : List ℕ → Type 0 = λ e. IsOfStage degree mul (BoundCut circuit e (length circuit.net.gates)) c.in-Ok.bits.terms in
     no_words degree mul circuit bases job c.in-Ok.bits.terms (subst L basis c.in-Ok.ensures.last)
 
@@ -70,9 +70,9 @@ to_words-requires-clause-few g c =
     let mul = g.F.Ring.product c.args.field.now in
     let circuit = c.args.circuit.now in
     let bases = c.args.bases.now in
-    let job : IsJob degree mul circuit bases = record { ring = g.met.F.Ring.laws c.args.field.now; nozero = g.met.F.Field.no_zero_divisors c.args.field.now; sound = c.bound.ensures.sound; bound = c.bound.ensures.is_bound; flat = c.bound.ensures.flat; same = c.requires.bits; over = c.requires.over; long = c.requires.long } in
+    let job : IsJob degree mul circuit bases = record { ring = g.met.F.Ring.laws c.args.field.now; nozero = g.met.F.Field.no_zero_divisors c.args.field.now; sound = c.binding.ensures.sound; bound = c.binding.ensures.is_bound; flat = c.binding.ensures.flat; same = c.requires.bits; over = c.requires.over; long = c.requires.long } in
     let basis : elements_of c.output_basis-basis.result.now ≡ output_basis circuit.binding.words (elements_of_each bases) =
-    c.output_basis-basis.ensures.basis ∙ ap (λ (b : Binding). output_basis b.words (elements_of_each bases)) c.bound.ensures.bound in
+    c.output_basis-basis.ensures.basis ∙ ap (λ (b : Binding). output_basis b.words (elements_of_each bases)) c.binding.ensures.binding in
     let L : List ℕ → Type 0 = λ e. IsOfStage degree mul (BoundCut circuit e (length circuit.net.gates)) c.in-Ok.bits.terms in
     let W : List ℕ → Type 0 = λ e. AreAllWithin degree mul (bound_cuts circuit e) c.args.bound in
     let within = subst W basis c.in-Ok.ensures.within in
@@ -85,7 +85,7 @@ stage_stop-requires-in-Err-to_words g c =
     let mul = g.F.Ring.product c.args.field.now in
     let circuit = c.args.circuit.now in
     let bases = c.args.bases.now in
-    let job : IsJob degree mul circuit bases = record { ring = g.met.F.Ring.laws c.args.field.now; nozero = g.met.F.Field.no_zero_divisors c.args.field.now; sound = c.bound.ensures.sound; bound = c.bound.ensures.is_bound; flat = c.bound.ensures.flat; same = c.requires.bits; over = c.requires.over; long = c.requires.long } in
+    let job : IsJob degree mul circuit bases = record { ring = g.met.F.Ring.laws c.args.field.now; nozero = g.met.F.Field.no_zero_divisors c.args.field.now; sound = c.binding.ensures.sound; bound = c.binding.ensures.is_bound; flat = c.binding.ensures.flat; same = c.requires.bits; over = c.requires.over; long = c.requires.long } in
     let same : c.in_ok-labels.labels ≡ labels_of degree c.args.signature.now.words = c.in_ok-labels.ensures ∙ (λ i. labels_of (c.k.ensures i) (c.words.ensures i)) in
     let circuit' = whole degree mul circuit bases job in
     let count : length circuit'.words ≡ length (word_labels degree c.args.signature.now.words) = as_many degree circuit.binding.words c.args.signature.now.words (elements_of_each bases) (based degree mul circuit bases job).long c.requires.roles in
@@ -100,7 +100,7 @@ returns-in-Err-to_words g c =
     let circuit = c.args.circuit.now in
     let bases = c.args.bases.now in
     let basis : elements_of c.output_basis-basis.result.now ≡ output_basis circuit.binding.words (elements_of_each bases) =
-    c.output_basis-basis.ensures.basis ∙ ap (λ (b : Binding). output_basis b.words (elements_of_each bases)) c.bound.ensures.bound in
+    c.output_basis-basis.ensures.basis ∙ ap (λ (b : Binding). output_basis b.words (elements_of_each bases)) c.binding.ensures.binding in
     let setting : SettingValue = record { signature = c.args.signature.now; k = degree; product = mul; bases = elements_of_each bases } in
     let same : c.in_ok-labels.labels ≡ labels_of degree c.args.signature.now.words = c.in_ok-labels.ensures ∙ (λ i. labels_of (c.k.ensures i) (c.words.ensures i)) in
     let W : List ℕ → Type 0 = λ e. AreAllWithin degree mul (bound_cuts circuit e) c.args.bound in
@@ -118,7 +118,7 @@ polynomial_line-requires-clause-named g c =
     let mul = g.F.Ring.product c.args.field.now in
     let circuit = c.args.circuit.now in
     let bases = c.args.bases.now in
-    let job : IsJob degree mul circuit bases = record { ring = g.met.F.Ring.laws c.args.field.now; nozero = g.met.F.Field.no_zero_divisors c.args.field.now; sound = c.bound.ensures.sound; bound = c.bound.ensures.is_bound; flat = c.bound.ensures.flat; same = c.requires.bits; over = c.requires.over; long = c.requires.long } in
+    let job : IsJob degree mul circuit bases = record { ring = g.met.F.Ring.laws c.args.field.now; nozero = g.met.F.Field.no_zero_divisors c.args.field.now; sound = c.binding.ensures.sound; bound = c.binding.ensures.is_bound; flat = c.binding.ensures.flat; same = c.requires.bits; over = c.requires.over; long = c.requires.long } in
     let same : c.in_ok-labels.labels ≡ labels_of degree c.args.signature.now.words = c.in_ok-labels.ensures ∙ (λ i. labels_of (c.k.ensures i) (c.words.ensures i)) in
     let names = terms_named degree mul circuit bases job c.args.signature.now.words c.in-Ok-to_words.poly.terms c.in-Ok-to_words.ensures.words in
     let Q : Labelling → Type 0 = λ l. HasNames l c.in-Ok-to_words.poly.terms in
@@ -130,7 +130,7 @@ polynomial_line-requires-clause-words_named g c =
     let mul = g.F.Ring.product c.args.field.now in
     let circuit = c.args.circuit.now in
     let bases = c.args.bases.now in
-    let job : IsJob degree mul circuit bases = record { ring = g.met.F.Ring.laws c.args.field.now; nozero = g.met.F.Field.no_zero_divisors c.args.field.now; sound = c.bound.ensures.sound; bound = c.bound.ensures.is_bound; flat = c.bound.ensures.flat; same = c.requires.bits; over = c.requires.over; long = c.requires.long } in
+    let job : IsJob degree mul circuit bases = record { ring = g.met.F.Ring.laws c.args.field.now; nozero = g.met.F.Field.no_zero_divisors c.args.field.now; sound = c.binding.ensures.sound; bound = c.binding.ensures.is_bound; flat = c.binding.ensures.flat; same = c.requires.bits; over = c.requires.over; long = c.requires.long } in
     let same : c.in_ok-labels.labels ≡ labels_of degree c.args.signature.now.words = c.in_ok-labels.ensures ∙ (λ i. labels_of (c.k.ensures i) (c.words.ensures i)) in
     let names = mix_words_named degree mul circuit bases job c.args.signature.now.words c.in-Ok-to_words.poly.terms c.requires.roles c.in-Ok-to_words.ensures.words in
     let Q : Labelling → Type 0 = λ l. HasWordNames l c.in-Ok-to_words.poly.terms in
@@ -143,7 +143,7 @@ returns g c =
     let circuit = c.args.circuit.now in
     let bases = c.args.bases.now in
     let basis : elements_of c.output_basis-basis.result.now ≡ output_basis circuit.binding.words (elements_of_each bases) =
-    c.output_basis-basis.ensures.basis ∙ ap (λ (b : Binding). output_basis b.words (elements_of_each bases)) c.bound.ensures.bound in
+    c.output_basis-basis.ensures.basis ∙ ap (λ (b : Binding). output_basis b.words (elements_of_each bases)) c.binding.ensures.binding in
     let setting : SettingValue = record { signature = c.args.signature.now; k = degree; product = mul; bases = elements_of_each bases } in
     let same : c.in_ok-labels.labels ≡ labels_of degree c.args.signature.now.words = c.in_ok-labels.ensures ∙ (λ i. labels_of (c.k.ensures i) (c.words.ensures i)) in
     let W : List ℕ → Type 0 = λ e. AreAllWithin degree mul (bound_cuts circuit e) c.args.bound in

@@ -38,7 +38,7 @@ returns-in-Err g c =
     let circuit = c.args.circuit.now in
     let bases = c.args.bases.now in
     let basis : elements_of c.output_basis-basis.result.now ≡ output_basis circuit.binding.words (elements_of_each bases) =
-    c.output_basis-basis.ensures.basis ∙ ap (λ (b : Binding). output_basis b.words (elements_of_each bases)) c.bound.ensures.bound in
+    c.output_basis-basis.ensures.basis ∙ ap (λ (b : Binding). output_basis b.words (elements_of_each bases)) c.binding.ensures.binding in
     let setting : SettingValue = record { signature = c.args.signature.now; k = degree; product = mul; bases = elements_of_each bases } in
     let same : c.in_ok-labels.labels ≡ labels_of degree c.args.signature.now.words = c.in_ok-labels.ensures ∙ (λ i. labels_of (c.k.ensures i) (c.words.ensures i)) in
     let R : List ℕ → Type 0 = λ e. IsRefusal degree mul (bound_cuts circuit e) c.args.bound c.in-Err.fault in
@@ -54,11 +54,11 @@ polynomial_line-requires-clause-named g c =
     let degree = g.F.Ring.degree c.args.field.now in
     let mul = g.F.Ring.product c.args.field.now in
     let circuit = c.args.circuit.now in
-    let sound = c.bound.ensures.sound in
+    let sound = c.binding.ensures.sound in
     let basis : elements_of c.output_basis-basis.result.now ≡ output_basis circuit.binding.words (elements_of_each c.args.bases.now) =
-    c.output_basis-basis.ensures.basis ∙ ap (λ (b : Binding). output_basis b.words (elements_of_each c.args.bases.now)) c.bound.ensures.bound in
+    c.output_basis-basis.ensures.basis ∙ ap (λ (b : Binding). output_basis b.words (elements_of_each c.args.bases.now)) c.binding.ensures.binding in
     let names = named degree mul circuit c.args.bases.now c.args.signature.now.words (elements_of c.output_basis-basis.result.now) c.in-Ok.poly.terms
-    (g.met.F.Ring.laws c.args.field.now) (g.met.F.Field.no_zero_divisors c.args.field.now) sound c.bound.ensures.is_bound c.bound.ensures.flat c.requires.bits c.requires.over c.requires.long c.requires.roles basis c.in-Ok.ensures.last in
+    (g.met.F.Ring.laws c.args.field.now) (g.met.F.Field.no_zero_divisors c.args.field.now) sound c.binding.ensures.is_bound c.binding.ensures.flat c.requires.bits c.requires.over c.requires.long c.requires.roles basis c.in-Ok.ensures.last in
     let same : c.in_ok-labels.labels ≡ labels_of degree c.args.signature.now.words = c.in_ok-labels.ensures ∙ (λ i. labels_of (c.k.ensures i) (c.words.ensures i)) in
     let P : Labelling → Type 0 = λ l. HasNames l c.in-Ok.poly.terms in
     subst P (sym same) names
@@ -69,9 +69,9 @@ polynomial_line-requires-clause-words_named g c =
     let mul = g.F.Ring.product c.args.field.now in
     let circuit = c.args.circuit.now in
     let bases = c.args.bases.now in
-    let job : IsJob degree mul circuit bases = record { ring = g.met.F.Ring.laws c.args.field.now; nozero = g.met.F.Field.no_zero_divisors c.args.field.now; sound = c.bound.ensures.sound; bound = c.bound.ensures.is_bound; flat = c.bound.ensures.flat; same = c.requires.bits; over = c.requires.over; long = c.requires.long } in
+    let job : IsJob degree mul circuit bases = record { ring = g.met.F.Ring.laws c.args.field.now; nozero = g.met.F.Field.no_zero_divisors c.args.field.now; sound = c.binding.ensures.sound; bound = c.binding.ensures.is_bound; flat = c.binding.ensures.flat; same = c.requires.bits; over = c.requires.over; long = c.requires.long } in
     let basis : elements_of c.output_basis-basis.result.now ≡ output_basis circuit.binding.words (elements_of_each bases) =
-    c.output_basis-basis.ensures.basis ∙ ap (λ (b : Binding). output_basis b.words (elements_of_each bases)) c.bound.ensures.bound in
+    c.output_basis-basis.ensures.basis ∙ ap (λ (b : Binding). output_basis b.words (elements_of_each bases)) c.binding.ensures.binding in
     let same : c.in_ok-labels.labels ≡ labels_of degree c.args.signature.now.words = c.in_ok-labels.ensures ∙ (λ i. labels_of (c.k.ensures i) (c.words.ensures i)) in
     let L : List ℕ → Type 0 = λ e. IsOfStage degree mul (BoundCut circuit e (length circuit.net.gates)) c.in-Ok.poly.terms in
     let names = cut_words_named degree mul circuit bases job c.args.signature.now.words c.in-Ok.poly.terms (subst L basis c.in-Ok.ensures.last) in
@@ -85,7 +85,7 @@ returns g c =
     let circuit = c.args.circuit.now in
     let bases = c.args.bases.now in
     let basis : elements_of c.output_basis-basis.result.now ≡ output_basis circuit.binding.words (elements_of_each bases) =
-    c.output_basis-basis.ensures.basis ∙ ap (λ (b : Binding). output_basis b.words (elements_of_each bases)) c.bound.ensures.bound in
+    c.output_basis-basis.ensures.basis ∙ ap (λ (b : Binding). output_basis b.words (elements_of_each bases)) c.binding.ensures.binding in
     let same : c.in_ok-labels.labels ≡ labels_of degree c.args.signature.now.words = c.in_ok-labels.ensures ∙ (λ i. labels_of (c.k.ensures i) (c.words.ensures i)) in
     let ts = c.in-Ok.poly.terms in
     let L : List ℕ → Type 0 = λ e. IsOfStage degree mul (BoundCut circuit e (length circuit.net.gates)) ts in

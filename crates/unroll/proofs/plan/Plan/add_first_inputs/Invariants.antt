@@ -6,4 +6,4 @@ use Rattle.unroll.specs.private.Plan.{with_gates}
 use Rattle.unroll.proofs.plan.Plan.add_first_inputs.Given as goal
 
 abbrev pub invariant-loop-n : goal.invariant-loop-n
-invariant-loop-n l = l.maker ≡ with_gates l.fn.maker (map (feeding_gate l.self.net l.self.bound l.self.cycles 0) (filter (is_fed l.self.bound.feeds) (take l.n-index l.self.net.inputs)))
+invariant-loop-n l = l.maker ≡ with_gates l.fn.maker (map (feeding_gate l.self.net l.self.binding l.self.cycles 0) (filter (is_fed l.self.binding.feeds) (take l.n-index l.self.net.inputs)))

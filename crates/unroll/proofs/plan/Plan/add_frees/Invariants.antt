@@ -5,4 +5,4 @@ use Rattle.unroll.specs.private.Plan.{with_inputs}
 use Rattle.unroll.proofs.plan.Plan.add_frees.Given as goal
 
 abbrev pub invariant-loop-n : goal.invariant-loop-n
-invariant-loop-n l = l.maker ≡ with_inputs l.fn.maker (filter (λ n. not (is_fed l.self.bound.feeds n)) (take l.n-index l.self.net.inputs))
+invariant-loop-n l = l.maker ≡ with_inputs l.fn.maker (filter (λ n. not (is_fed l.self.binding.feeds n)) (take l.n-index l.self.net.inputs))

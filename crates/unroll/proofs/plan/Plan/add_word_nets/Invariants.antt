@@ -7,4 +7,4 @@ use Rattle.unroll.specs.Unrolled.{nets_with}
 use Rattle.unroll.proofs.plan.Plan.add_word_nets.Given as goal
 
 abbrev pub invariant-loop-place : goal.invariant-loop-place
-invariant-loop-place l = (word : BoundWord) → slice_get l.self.bound.words l.w ≡ Some word → l.list.items ≡ l.fn.list.items ++ take l.place (nets_with (nets l.self.net) l.self.cycles l.self.bound.k (first_bit l.self.bound.k (cycle_nets (nets l.self.net) l.self.cycles) l.self.bound.words l.w) word.role word.nets)
+invariant-loop-place l = (word : BoundWord) → slice_get l.self.binding.words l.w ≡ Some word → l.list.items ≡ l.fn.list.items ++ take l.place (nets_with (nets l.self.net) l.self.cycles l.self.binding.k (first_bit l.self.binding.k (cycle_nets (nets l.self.net) l.self.cycles) l.self.binding.words l.w) word.role word.nets)

@@ -4,7 +4,7 @@ use Rattle.unroll.proofs.CodeLemmas.{taken_few, taken_short}
 use Rattle.unroll.proofs.plan.Plan.fed_inputs.Goals as goal
 
 pub overflow_add-count : goal.overflow_add-count
-overflow_add-count c = omega (arith, c.loop-n.invariant, taken_short (is_fed c.args.self.now.bound.feeds) c.args.self.now.net.inputs c.loop-n.n-index)
+overflow_add-count c = omega (arith, c.loop-n.invariant, taken_short (is_fed c.args.self.now.binding.feeds) c.args.self.now.net.inputs c.loop-n.n-index)
 
 pub returns-clause-few : goal.returns-clause-few
-returns-clause-few c = omega (arith, c.loop-n.invariant, taken_few (is_fed c.args.self.now.bound.feeds) c.args.self.now.net.inputs c.loop-n.n-index)
+returns-clause-few c = omega (arith, c.loop-n.invariant, taken_few (is_fed c.args.self.now.binding.feeds) c.args.self.now.net.inputs c.loop-n.n-index)

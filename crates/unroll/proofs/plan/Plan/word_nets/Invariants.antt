@@ -5,4 +5,4 @@ use Rattle.unroll.specs.Unrolled.{nets_of_words}
 use Rattle.unroll.proofs.plan.Plan.word_nets.Given as goal
 
 abbrev pub invariant-loop-w : goal.invariant-loop-w
-invariant-loop-w l = l.list.items ++ nets_of_words (nets l.self.net) l.self.cycles l.self.bound.k (first_bit l.self.bound.k (cycle_nets (nets l.self.net) l.self.cycles) l.self.bound.words l.w) (drop l.w l.self.bound.words) ≡ nets_of_words (nets l.self.net) l.self.cycles l.self.bound.k (cycle_nets (nets l.self.net) l.self.cycles) l.self.bound.words
+invariant-loop-w l = l.list.items ++ nets_of_words (nets l.self.net) l.self.cycles l.self.binding.k (first_bit l.self.binding.k (cycle_nets (nets l.self.net) l.self.cycles) l.self.binding.words l.w) (drop l.w l.self.binding.words) ≡ nets_of_words (nets l.self.net) l.self.cycles l.self.binding.k (cycle_nets (nets l.self.net) l.self.cycles) l.self.binding.words
