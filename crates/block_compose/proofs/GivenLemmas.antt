@@ -204,7 +204,7 @@ module _ (k : ℕ) (mul : ℕ → ℕ → ℕ) (design : List ModelValue) (signa
         let found : slice_get signature.blocks one_use.0.number ≡ Some block = one_use.2.is_block.found in
         let has = given.blocks one_use.0.number block found in
         let can = given.blocks_are one_use.0.number block found in
-        let bound = one_use.2.circuit.binding in
+        let bound = one_use.2.circuit.bound in
         let words : AreBound one_use.0.circuit.net block.words one_use.0.circuit.binding.words = binding_named one_use.0.circuit.net block.words one_use.0.circuit.binding can.unfed bound in
         let P : ℕ → Type 0 = λ n. IsKeptBlock k mul signature.blocks circuits bases n one_use.0.circuit has.list in (
           one_use.0.circuit,
