@@ -3,15 +3,16 @@ use Rattle.std.proofs.Common.{◌≡◌, ◌≢◌, ◌⊎◌, ◌∙◌, ap, sy
 use Rattle.std.specs.Prelude.{slice_get}
 use Rattle.std.proofs.Math.ListN.{set}
 use Rattle.std.proofs.lemmas.List.{length-set}
-use Rattle.graph_core.proofs.GraphLemmas.{nat_eq_or}
-use Rattle.graph_core.proofs.ListLemmas.{get_set_other, get_set_same, got_push, got_set, length-push}
+use Rattle.lists.specs.laws.ListLaws.{length-push}
+use Rattle.lists.specs.laws.NumberLaws.{nat_eq_or}
+use Rattle.lists.specs.laws.ReadLaws.{get_set_other, get_set_same, got_push, got_set}
 use Rattle.net_words.specs.Binding.{BoundNet}
 use Rattle.net_signature.specs.Body.{BlockValue}
 use Rattle.gf_basis.specs.declared.bases.Basis.{Basis}
 use Rattle.poly_mixed.specs.Polynomial.{Polynomial, Terms}
 use Rattle.poly_mixed.specs.declared.stage.ReduceFault.{ReduceFault}
-use Rattle.circuit_poly.specs.Stages.{stages_in, IsFirstRefusal}
-use Rattle.block_plan.proofs.ListLemmas.{none_read, replicated}
+use Rattle.abstraction.specs.Stages.{stages_in, IsFirstRefusal}
+use Rattle.compose_blocks.proofs.ListLemmas.{none_read, replicated}
 use Rattle.block_compose.specs.declared.fault.ComposeFault.{ComposeFault}
 use Rattle.block_compose.specs.declared.fault.ComposeFault.TheVariants.{OutOfMemory}
 use Rattle.block_compose.specs.private.Blocks.{block_fault_of, ArePolys, AreTaken, HasPoly, IsBlockPoly, IsFirstBlockOver, IsKeptBlock, IsRefusedBlock, KeepsPolys}

@@ -2,13 +2,15 @@
 use Rattle.std.proofs.Common.{◌≡◌, ◌≢◌, ◌∙◌, ap, sym, refl, subst, inl, inr, ℕ, suc, ◌<◌, ◌^◌, All, Global, List, [], ◌∷◌, Vec, length, map, Option, Some, Ok, arith}
 use Rattle.std.specs.Prelude.{slice_get}
 use Rattle.std.proofs.lemmas.Option.{slice_get_within}
+use Rattle.lists.specs.laws.HasLaws.{all_from}
+use Rattle.lists.specs.laws.ListLaws.{length_map as mapped_long}
+use Rattle.lists.specs.laws.ReadLaws.{get_below}
+use Rattle.outcome.specs.ForEach.{AreValues}
 use Rattle.graph_core.specs.Arranged.{IsArranged}
 use Rattle.graph_core.specs.Cycle.{IsCycleOf}
 use Rattle.graph_core.specs.Graph.{Graph, IsCycle}
-use Rattle.graph_core.proofs.GeneralLemmas.{all_from, length_map as mapped_long}
 use Rattle.graph_core.proofs.GraphLemmas.{edges_within}
 use Rattle.graph_core.proofs.LawLemmas.{arranged_grounded, is_cycle}
-use Rattle.graph_core.proofs.ListLemmas.{get_below}
 use Rattle.net_words.specs.Binding.{BoundNet}
 use Rattle.net_words.specs.declared.word.WordText.{WordText}
 use Rattle.net_signature.specs.Body.{BlockValue}
@@ -27,38 +29,37 @@ use Rattle.circuit_model.specs.Circuit.{Circuit}
 use Rattle.stage_model.specs.CircuitListing.{circuit_stages}
 use Rattle.stage_model.specs.Listing.{AreAllWithin, IsOver}
 use Rattle.stage_model.proofs.ListingLemmas.{all_of_both, earlier_over, later_over}
-use Rattle.circuit_poly.specs.Stages.{joined, stages_in, IsFirstRefusal}
-use Rattle.instance_order.specs.LevelOrder.{first_numbers, IsLevelOrder}
-use Rattle.instance_order.proofs.AfterLemmas.{all_stand, level_arranged}
-use Rattle.block_feeds.specs.Given.{IsGiven}
-use Rattle.block_feeds.specs.Hierarchy.{block_of, top_words, Hierarchy}
-use Rattle.block_feeds.specs.NamedWord.{inputs_among}
-use Rattle.block_feeds.specs.Values.{IsBlockOf, IsTop}
-use Rattle.block_feeds.specs.Wiring.{feeding_graph, instances_among, HaveBlocks, IsWithoutCycle}
-use Rattle.block_feeds.specs.declared.feeder.Feeder.{Feeder}
-use Rattle.block_feeds.specs.declared.feeder.Feeder.TheVariants.{InputWord, OutputOf}
-use Rattle.instance_polys.specs.Words.{IsFeedAmong}
-use Rattle.block_polys.specs.InstancePolys.{HaveBlockPolys}
-use Rattle.wired_poly.specs.Wired.{IsStageFault, IsWiredPoly}
-use Rattle.wired_poly.proofs.WiredLemmas.{among_instances, graph_inside}
-use Rattle.block_plan.specs.ForEach.{AreValues}
-use Rattle.block_plan.specs.Plan.{UsesOf}
-use Rattle.block_plan.specs.Planned as planned
-use Rattle.block_plan.specs.Planned.{AreKept}
-use Rattle.block_plan.specs.Uses.{BlockUse, UseOf}
-use Rattle.block_plan.specs.declared.fault.PlanFault.{PlanFault}
-use Rattle.block_plan.specs.declared.fault.PlanFault.TheVariants as plans
-use Rattle.block_plan.proofs.ListLemmas.{lifted}
-use Rattle.block_wiring.specs.Answer.{AreWired, IsFeedIn}
-use Rattle.block_wiring.specs.Instanced.{elements_in, hierarchy}
-use Rattle.block_wiring.specs.Refusal.{IsWiringFault}
-use Rattle.block_wiring.specs.declared.fault.WiringFault.{WiringFault}
-use Rattle.block_wiring.specs.declared.fault.WiringFault.TheVariants as wirings
-use Rattle.block_stages.specs.BlockStages.{block_stages, AreBlocksWithin, AreEarlierWithin, IsFirstUse, IsUsedBlock}
-use Rattle.block_stages.specs.InstanceStages.{instance_stages}
-use Rattle.block_stages.proofs.JoinLemmas.{bound_stages_over, bound_stages_within}
-use Rattle.block_stages.proofs.StageLemmas.{all_done, refused_first}
-use Rattle.block_stages.proofs.UsedLemmas.{block_over, blocks_within}
+use Rattle.abstraction.specs.Stages.{joined, stages_in, IsFirstRefusal}
+use Rattle.compose_polys.specs.LevelOrder.{first_numbers, IsLevelOrder}
+use Rattle.compose_polys.proofs.AfterLemmas.{all_stand, level_arranged}
+use Rattle.compose_model.specs.Given.{IsGiven}
+use Rattle.compose_model.specs.Hierarchy.{block_of, top_words, Hierarchy}
+use Rattle.compose_model.specs.NamedWord.{inputs_among}
+use Rattle.compose_model.specs.Values.{IsBlockOf, IsTop}
+use Rattle.compose_model.specs.Wiring.{feeding_graph, instances_among, HaveBlocks, IsWithoutCycle}
+use Rattle.compose_model.specs.declared.feeder.Feeder.{Feeder}
+use Rattle.compose_model.specs.declared.feeder.Feeder.TheVariants.{InputWord, OutputOf}
+use Rattle.compose_polys.specs.Words.{IsFeedAmong}
+use Rattle.compose_polys.specs.InstancePolys.{HaveBlockPolys}
+use Rattle.compose_polys.specs.Wired.{IsStageFault, IsWiredPoly}
+use Rattle.compose_polys.proofs.WiredLemmas.{among_instances, graph_inside}
+use Rattle.compose_blocks.specs.Plan.{UsesOf}
+use Rattle.compose_blocks.specs.Planned as planned
+use Rattle.compose_blocks.specs.Planned.{AreKept}
+use Rattle.compose_blocks.specs.Uses.{BlockUse, UseOf}
+use Rattle.compose_blocks.specs.declared.plan_fault.PlanFault.{PlanFault}
+use Rattle.compose_blocks.specs.declared.plan_fault.PlanFault.TheVariants as plans
+use Rattle.compose_blocks.proofs.ListLemmas.{lifted}
+use Rattle.compose_wiring.specs.Answer.{AreWired, IsFeedIn}
+use Rattle.compose_wiring.specs.Instanced.{elements_in, hierarchy}
+use Rattle.compose_wiring.specs.Refusal.{IsWiringFault}
+use Rattle.compose_wiring.specs.declared.fault.WiringFault.{WiringFault}
+use Rattle.compose_wiring.specs.declared.fault.WiringFault.TheVariants as wirings
+use Rattle.compose_stages.specs.BlockStages.{block_stages, AreBlocksWithin, AreEarlierWithin, IsFirstUse, IsUsedBlock}
+use Rattle.compose_stages.specs.InstanceStages.{instance_stages}
+use Rattle.compose_stages.proofs.JoinLemmas.{bound_stages_over, bound_stages_within}
+use Rattle.compose_stages.proofs.StageLemmas.{all_done, refused_first}
+use Rattle.compose_stages.proofs.UsedLemmas.{block_over, blocks_within}
 use Rattle.block_compose.specs.Composed.{hierarchy_of, refusal, Composes, HasNoCycle, IsBlockOver, IsComposed, MayFault, StagesOf}
 use Rattle.block_compose.specs.declared.fault.ComposeFault.{ComposeFault}
 use Rattle.block_compose.specs.declared.fault.ComposeFault.TheVariants.{Plan, Wiring}

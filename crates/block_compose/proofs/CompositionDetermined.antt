@@ -1,6 +1,6 @@
 -- A top has one composition at most.
 use Rattle.std.proofs.Common.{ℕ, List, Ok}
-use Rattle.text_core.specs.Outcome.{◌>>=◌, Determined, Within}
+use Rattle.outcome.specs.Outcome.{◌>>=◌, Determined, Within}
 use Rattle.net_signature.specs.Signature.{SignatureValue}
 use Rattle.net_blif.specs.Design.{ModelValue}
 use Rattle.net_blif.specs.Models.{AreRight}
@@ -8,9 +8,9 @@ use Rattle.net_flat.proofs.FlatDetermined.{determined_after, determined_within}
 use Rattle.gf_field.specs.Field.{HasNoZeroDivisors}
 use Rattle.gf_field.specs.Ring.{IsRing}
 use Rattle.gf_basis.specs.declared.bases.Basis.{Basis}
-use Rattle.block_feeds.specs.Hierarchy.{Hierarchy}
-use Rattle.block_plan.specs.Plan.{UsesOf}
-use Rattle.block_plan.proofs.PlanDetermined.{plan_determined}
+use Rattle.compose_model.specs.Hierarchy.{Hierarchy}
+use Rattle.compose_blocks.specs.Plan.{UsesOf}
+use Rattle.compose_blocks.proofs.PlanDetermined.{plan_determined}
 use Rattle.block_compose.specs.Composed.{hierarchy_of, Composes, HasNoCycle, IsComposable, StagesOf, WiringOf}
 use Rattle.block_compose.specs.declared.fault.ComposeFault.TheVariants.{Plan, Wiring}
 use Rattle.block_compose.proofs.GivenLemmas.{have_blocks, is_given}

@@ -14,11 +14,11 @@ use Rattle.net_blif.specs.Statement.{Token}
 use Rattle.net_blif.specs.declared.item.Item.{Item}
 use Rattle.net_blif.specs.declared.item.Item.TheVariants.{Gate, Instance}
 use Rattle.gf_basis.specs.declared.bases.Basis.{Basis}
-use Rattle.instance_order.specs.LevelOrder.{first_numbers}
-use Rattle.block_feeds.specs.Wiring.{feeding_graph, IsWithoutCycle}
-use Rattle.block_feeds.specs.declared.feeder.Feeder.{Feeder}
-use Rattle.block_feeds.specs.declared.feeder.Feeder.TheVariants.{InputWord, OutputOf}
-use Rattle.block_plan.specs.declared.fault.PlanFault.TheVariants as plans
+use Rattle.compose_polys.specs.LevelOrder.{first_numbers}
+use Rattle.compose_model.specs.Wiring.{feeding_graph, IsWithoutCycle}
+use Rattle.compose_model.specs.declared.feeder.Feeder.{Feeder}
+use Rattle.compose_model.specs.declared.feeder.Feeder.TheVariants.{InputWord, OutputOf}
+use Rattle.compose_blocks.specs.declared.plan_fault.PlanFault.TheVariants as plans
 use Rattle.block_compose.specs.Composed.{Composes, HasNoCycle}
 use Rattle.block_compose.specs.declared.fault.ComposeFault.TheVariants.{InstanceLoop, Plan}
 

@@ -5,10 +5,10 @@ use Rattle.std.specs.List.{list_any, AllByRecursion}
 use Rattle.std.specs.Option.{unwrap_or}
 use Rattle.std.proofs.lemmas.List.Folds.{list_any_at}
 use Rattle.std.proofs.lemmas.Option.{get_or_from_slice_get, slice_get_within}
-use Rattle.graph_core.proofs.CycleLemmas.{from_map}
-use Rattle.graph_core.proofs.ListLemmas.{get_below}
-use Rattle.graph_core.proofs.GeneralLemmas.{length_map as mapped_long}
-use Rattle.net_core.specs.Lists.{Has}
+use Rattle.lists.specs.Lists.{Has}
+use Rattle.lists.specs.laws.ListLaws.{length_map as mapped_long}
+use Rattle.lists.specs.laws.ReadLaws.{from_map, get_below}
+use Rattle.outcome.specs.ForEach.{AreValues}
 use Rattle.net_core.specs.NetList.{NetList}
 use Rattle.net_words.specs.Bind.{BindingOf}
 use Rattle.net_words.specs.Binding.{AreWords, Binding, BoundNet}
@@ -27,26 +27,25 @@ use Rattle.net_blif.specs.Top.{gate_line, instances_of, model_in}
 use Rattle.net_blif.specs.declared.item.Item.{Item}
 use Rattle.net_flat.specs.Flat.{nothing, walked, Flat}
 use Rattle.net_flat.specs.Walk.{walk_of}
-use Rattle.flat_parts.proofs.LatchLemmas.{no_latches}
+use Rattle.net_flat.proofs.LatchLemmas.{no_latches}
 use Rattle.gf_basis.specs.Basis.{IsBasis}
 use Rattle.gf_basis.specs.BasisParts.{elements_of}
 use Rattle.gf_basis.specs.declared.bases.Basis.{Basis}
 use Rattle.circuit_model.specs.Circuit.{Circuit}
 use Rattle.circuit_model.specs.OfBinding.{circuit_with}
-use Rattle.block_feeds.specs.Given.{HaveBasesOf, IsGiven}
-use Rattle.block_feeds.specs.Hierarchy.{bases_at, Hierarchy}
-use Rattle.block_feeds.specs.Values.{IsBlockOf, IsTop}
-use Rattle.block_feeds.specs.Wiring.{HaveBlocks}
-use Rattle.block_feeds.specs.declared.feeder.Feeder.{Feeder}
-use Rattle.block_outputs.proofs.InstanceLemmas.{flat_of}
-use Rattle.block_outputs.proofs.NamesLemmas.{binding_named, AreBound}
-use Rattle.block_plan.specs.ForEach.{AreValues}
-use Rattle.block_plan.specs.Planned.{AreKept}
-use Rattle.block_plan.specs.Structure.{gate_refused, has_feed, is_fed_by_line, HasInstancesAlone, IsUnfed}
-use Rattle.block_plan.specs.Uses.{BlockUse, IsUse, UseOf}
-use Rattle.block_plan.specs.declared.fault.PlanFault.{PlanFault}
-use Rattle.block_plan.specs.declared.fault.PlanFault.TheVariants.{FedInTop}
-use Rattle.block_wiring.specs.Answer.{AreWired}
+use Rattle.compose_model.specs.Given.{HaveBasesOf, IsGiven}
+use Rattle.compose_model.specs.Hierarchy.{bases_at, Hierarchy}
+use Rattle.compose_model.specs.Values.{IsBlockOf, IsTop}
+use Rattle.compose_model.specs.Wiring.{HaveBlocks}
+use Rattle.compose_model.specs.declared.feeder.Feeder.{Feeder}
+use Rattle.compose_model.proofs.InstanceLemmas.{flat_of}
+use Rattle.compose_model.proofs.NamesLemmas.{binding_named, AreBound}
+use Rattle.compose_blocks.specs.Planned.{AreKept}
+use Rattle.compose_blocks.specs.Structure.{gate_refused, has_feed, is_fed_by_line, HasInstancesAlone, IsUnfed}
+use Rattle.compose_blocks.specs.Uses.{BlockUse, IsUse, UseOf}
+use Rattle.compose_blocks.specs.declared.plan_fault.PlanFault.{PlanFault}
+use Rattle.compose_blocks.specs.declared.plan_fault.PlanFault.TheVariants.{FedInTop}
+use Rattle.compose_wiring.specs.Answer.{AreWired}
 use Rattle.block_compose.specs.Composed.{hierarchy_of, HasBases, IsComposable}
 use Rattle.block_compose.specs.private.Blocks.{AreKeptBlocks, IsKeptBlock}
 

@@ -11,16 +11,16 @@ use Rattle.gf_field.specs.Ring.{IsRing}
 use Rattle.gf_basis.specs.declared.bases.Basis.{Basis}
 use Rattle.poly_mixed.specs.Polynomial.{Polynomial, Terms}
 use Rattle.poly_mixed.specs.declared.stage.ReduceFault.{ReduceFault}
-use Rattle.block_feeds.specs.Given.{IsGiven}
-use Rattle.block_feeds.specs.Hierarchy.{top_words, Hierarchy}
-use Rattle.block_feeds.specs.NamedWord.{inputs_among}
-use Rattle.block_feeds.specs.Wiring.{feeding_graph, IsWithoutCycle}
-use Rattle.block_feeds.specs.declared.feeder.Feeder.{Feeder}
-use Rattle.instance_order.specs.LevelOrder.{IsLevelOrder}
-use Rattle.wired_poly.specs.Wired.{IsStageFault, IsWired, IsWiredPoly}
-use Rattle.block_plan.specs.Planned.{IsPlanned}
-use Rattle.block_wiring.specs.Answer.{AreWired}
-use Rattle.block_wiring.specs.Instanced.{IsInstanced}
+use Rattle.compose_model.specs.Given.{IsGiven}
+use Rattle.compose_model.specs.Hierarchy.{top_words, Hierarchy}
+use Rattle.compose_model.specs.NamedWord.{inputs_among}
+use Rattle.compose_model.specs.Wiring.{feeding_graph, IsWithoutCycle}
+use Rattle.compose_model.specs.declared.feeder.Feeder.{Feeder}
+use Rattle.compose_polys.specs.LevelOrder.{IsLevelOrder}
+use Rattle.compose_polys.specs.Wired.{IsStageFault, IsWired, IsWiredPoly}
+use Rattle.compose_blocks.specs.Planned.{IsPlanned}
+use Rattle.compose_wiring.specs.Answer.{AreWired}
+use Rattle.compose_wiring.specs.Instanced.{IsInstanced}
 use Rattle.block_compose.specs.Composed.{hierarchy_of, IsComposable, MayFault, StagesOf}
 use Rattle.block_compose.specs.declared.fault.ComposeFault.{ComposeFault}
 use Rattle.block_compose.specs.declared.fault.ComposeFault.TheVariants.{OutOfMemory}

@@ -3,10 +3,10 @@ use Rattle.std.proofs.Common.{◌≡◌, ◌∙◌, ap, sym, refl, subst, ℕ, z
 use Rattle.std.specs.Prelude.{slice_get, slice_index}
 use Rattle.std.specs.Option.{unwrap_or}
 use Rattle.std.proofs.lemmas.Option.{slice_get_within}
-use Rattle.graph_core.specs.Graph.{Has}
-use Rattle.graph_core.proofs.GeneralLemmas.{length_map as mapped_long}
-use Rattle.graph_core.proofs.CycleLemmas.{from_map}
-use Rattle.graph_core.proofs.ListLemmas.{get_below}
+use Rattle.lists.specs.Lists.{Has}
+use Rattle.lists.specs.laws.ListLaws.{length_map as mapped_long}
+use Rattle.lists.specs.laws.ReadLaws.{from_map, get_below}
+use Rattle.outcome.specs.ForEach.{AreValues}
 use Rattle.net_words.specs.Binding.{AreWords, BoundNet}
 use Rattle.net_words.specs.Roles.{is_output, same_role}
 use Rattle.net_words.specs.declared.word.Role.TheVariants.{Output}
@@ -27,27 +27,26 @@ use Rattle.circuit_model.specs.Bases.{circuit_in}
 use Rattle.circuit_model.specs.Circuit.{Circuit}
 use Rattle.circuit_model.specs.OfBinding.{circuit_with}
 use Rattle.stage_model.specs.OutputInWords.{IsOutputInWords}
-use Rattle.instance_polys.specs.Words.{feed_terms, IsBlockFor, IsFeedAmong}
-use Rattle.block_feeds.specs.Feeds.{AreFeedsOf}
-use Rattle.block_feeds.specs.Given.{IsGiven}
-use Rattle.block_feeds.specs.Hierarchy.{bases_at, block_of, top_words, Hierarchy, IsInstance}
-use Rattle.block_feeds.specs.NamedWord.{inputs_among, named_words, NamedWord}
-use Rattle.block_feeds.specs.Values.{IsBlockOf, IsTop}
-use Rattle.block_feeds.specs.Wiring.{feeding_graph, HaveBlocks, IsWithoutCycle}
-use Rattle.block_feeds.specs.declared.feeder.Feeder.{Feeder}
-use Rattle.block_feeds.specs.declared.feeder.Feeder.TheVariants.{InputWord, OutputOf}
-use Rattle.block_outputs.proofs.InputsLemmas.{inputs_long}
-use Rattle.block_outputs.proofs.InstanceLemmas.{facts_of}
-use Rattle.block_outputs.proofs.OutputLemmas.{same_words}
-use Rattle.block_circuits.proofs.OneCircuitLemmas.{one_block}
-use Rattle.block_polys.specs.InstancePolys.{feed_at, HaveBlockPolys}
-use Rattle.block_polys.proofs.ComposedLemmas.{composed_output}
-use Rattle.block_polys.proofs.OrderedLemmas.{instances_made}
-use Rattle.wired_poly.specs.Wired.{IsWired, IsWiredPoly}
-use Rattle.block_plan.specs.ForEach.{AreValues}
-use Rattle.block_plan.specs.Planned.{AreKept}
-use Rattle.block_plan.specs.Uses.{BlockUse, UseOf}
-use Rattle.block_wiring.specs.Answer.{AreWired, IsFeedIn}
+use Rattle.compose_polys.specs.Words.{feed_terms, IsBlockFor, IsFeedAmong}
+use Rattle.compose_model.specs.Feeds.{AreFeedsOf}
+use Rattle.compose_model.specs.Given.{IsGiven}
+use Rattle.compose_model.specs.Hierarchy.{bases_at, block_of, top_words, Hierarchy, IsInstance}
+use Rattle.compose_model.specs.NamedWord.{inputs_among, named_words, NamedWord}
+use Rattle.compose_model.specs.Values.{IsBlockOf, IsTop}
+use Rattle.compose_model.specs.Wiring.{feeding_graph, HaveBlocks, IsWithoutCycle}
+use Rattle.compose_model.specs.declared.feeder.Feeder.{Feeder}
+use Rattle.compose_model.specs.declared.feeder.Feeder.TheVariants.{InputWord, OutputOf}
+use Rattle.compose_model.proofs.InputsLemmas.{inputs_long}
+use Rattle.compose_model.proofs.InstanceLemmas.{facts_of}
+use Rattle.compose_model.proofs.OutputLemmas.{same_words}
+use Rattle.compose_blocks.proofs.OneCircuitLemmas.{one_block}
+use Rattle.compose_polys.specs.InstancePolys.{feed_at, HaveBlockPolys}
+use Rattle.compose_polys.proofs.ComposedLemmas.{composed_output}
+use Rattle.compose_polys.proofs.OrderedLemmas.{instances_made}
+use Rattle.compose_polys.specs.Wired.{IsWired, IsWiredPoly}
+use Rattle.compose_blocks.specs.Planned.{AreKept}
+use Rattle.compose_blocks.specs.Uses.{BlockUse, UseOf}
+use Rattle.compose_wiring.specs.Answer.{AreWired, IsFeedIn}
 use Rattle.block_compose.specs.Composed.{hierarchy_of}
 use Rattle.block_compose.specs.private.Blocks.{ArePolys, AreTaken, IsBlockPoly, IsKeptBlock}
 use Rattle.block_compose.proofs.GivenLemmas.{use_at, used_block}

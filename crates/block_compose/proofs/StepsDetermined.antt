@@ -1,7 +1,7 @@
 -- At most one outcome comes of the wiring of a top, of the search for a cycle, and of the stages.
 use Rattle.std.proofs.Common.{◌≡◌, ◌≢◌, ◌⊎◌, ◌∙◌, ap, sym, refl, subst, inl, inr, ℕ, ◌<◌, ◌+◌, List, [], ◌∷◌, length, None, Some, Ok, Err}
 use Rattle.std.specs.Prelude.{slice_get}
-use Rattle.text_core.specs.Outcome.{Determined}
+use Rattle.outcome.specs.Outcome.{Determined}
 use Rattle.graph_core.specs.Cycle.{IsGrounded}
 use Rattle.graph_core.specs.Graph.{IsCycle}
 use Rattle.graph_core.proofs.GroundLemmas.{grounded_no_cycle}
@@ -16,23 +16,23 @@ use Rattle.poly_mixed.specs.declared.stage.Stage.TheVariants.{Cut, WordProduct, 
 use Rattle.circuit_model.specs.Circuit.{Circuit}
 use Rattle.stage_model.specs.Listing.{Earlier, Joined, Later}
 use Rattle.stage_model.specs.OutputInWords.{IsOutputInWords}
-use Rattle.circuit_poly.specs.Stages.{joined}
-use Rattle.instance_order.specs.LevelOrder.{first_numbers}
-use Rattle.block_feeds.specs.Given.{IsGiven}
-use Rattle.block_feeds.specs.Hierarchy.{bases_at, Hierarchy}
-use Rattle.block_feeds.specs.Wiring.{feeding_graph, AreAllFeeds, HaveBlocks, IsWithoutCycle}
-use Rattle.block_feeds.specs.declared.feeder.Feeder.{Feeder}
-use Rattle.block_outputs.proofs.InstanceLemmas.{facts_of}
-use Rattle.block_circuits.proofs.OneCircuitLemmas.{one_circuit}
-use Rattle.block_stages.specs.BlockStages.{BlockStage}
-use Rattle.block_stages.specs.CompositionStages.{IsFirstOfComposition}
-use Rattle.block_stages.proofs.BlockLemmas.{one_polynomial}
-use Rattle.block_stages.proofs.JoinLemmas.{first_not_all, one_first}
-use Rattle.block_stages.proofs.LevelLemmas.{instance_levels}
-use Rattle.block_wiring.specs.Refusal.{IsWiringFault}
-use Rattle.block_wiring.specs.declared.fault.WiringFault.{WiringFault}
-use Rattle.block_wiring.specs.declared.fault.WiringFault.TheVariants as wirings
-use Rattle.block_wiring.proofs.OneAnswerLemmas.{one_refusal, one_wiring, wired_apart}
+use Rattle.abstraction.specs.Stages.{joined}
+use Rattle.compose_polys.specs.LevelOrder.{first_numbers}
+use Rattle.compose_model.specs.Given.{IsGiven}
+use Rattle.compose_model.specs.Hierarchy.{bases_at, Hierarchy}
+use Rattle.compose_model.specs.Wiring.{feeding_graph, AreAllFeeds, HaveBlocks, IsWithoutCycle}
+use Rattle.compose_model.specs.declared.feeder.Feeder.{Feeder}
+use Rattle.compose_model.proofs.InstanceLemmas.{facts_of}
+use Rattle.compose_blocks.proofs.OneCircuitLemmas.{one_circuit}
+use Rattle.compose_stages.specs.BlockStages.{BlockStage}
+use Rattle.compose_stages.specs.CompositionStages.{IsFirstOfComposition}
+use Rattle.compose_stages.proofs.BlockLemmas.{one_polynomial}
+use Rattle.compose_stages.proofs.JoinLemmas.{first_not_all, one_first}
+use Rattle.compose_stages.proofs.LevelLemmas.{instance_levels}
+use Rattle.compose_wiring.specs.Refusal.{IsWiringFault}
+use Rattle.compose_wiring.specs.declared.fault.WiringFault.{WiringFault}
+use Rattle.compose_wiring.specs.declared.fault.WiringFault.TheVariants as wirings
+use Rattle.compose_wiring.proofs.OneAnswerLemmas.{one_refusal, one_wiring, wired_apart}
 use Rattle.block_compose.specs.Composed.{HasNoCycle, IsBlockOver, IsComposed, IsCycleThrough, StagesOf, WiringOf}
 use Rattle.block_compose.specs.declared.fault.ComposeFault.{ComposeFault}
 use Rattle.block_compose.specs.declared.fault.ComposeFault.TheVariants.{InstanceLoop, TooManyTerms}

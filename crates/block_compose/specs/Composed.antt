@@ -1,9 +1,9 @@
 -- What comes of a top that only wires instances of blocks: the polynomial of its output in words, or the first refusal.
 -- Source: Pruss, Kalla, Enescu, DAC 2014; the refusals and their order are this project's own.
 use Rattle.std.specs.Prelude.{◌≡◌, ℕ, ◌+◌, List, Option, None, Some, Ok, Err, length, map, slice_get}
-use Rattle.text_core.specs.Outcome.{MayRefuse, Outcome, ◌>>=◌, Within}
+use Rattle.lists.specs.Lists.{Has}
+use Rattle.outcome.specs.Outcome.{MayRefuse, Outcome, ◌>>=◌, Within}
 use Rattle.graph_core.specs.Cycle.{IsCycleOf}
-use Rattle.net_core.specs.Lists.{Has}
 use Rattle.net_core.specs.NetList.{NetList}
 use Rattle.net_words.specs.Bind.{BindingOf}
 use Rattle.net_words.specs.Binding.{AreWords, Binding}
@@ -20,20 +20,20 @@ use Rattle.poly_mixed.specs.declared.stage.Stage.{Stage}
 use Rattle.circuit_model.specs.Circuit.{Circuit}
 use Rattle.stage_model.specs.Listing.{Earlier, Later}
 use Rattle.stage_model.specs.OutputInWords.{IsOutputInWords}
-use Rattle.circuit_poly.specs.Stages.{joined}
-use Rattle.instance_order.specs.LevelOrder.{first_numbers}
-use Rattle.block_feeds.specs.Hierarchy.{Hierarchy}
-use Rattle.block_feeds.specs.Values.{IsTop}
-use Rattle.block_feeds.specs.Wiring.{feeding_graph, IsWithoutCycle}
-use Rattle.block_feeds.specs.declared.feeder.Feeder.{Feeder}
-use Rattle.block_plan.specs.Plan.{UsesOf}
-use Rattle.block_plan.specs.Planned.{CanAllBind}
-use Rattle.block_plan.specs.declared.fault.PlanFault.TheVariants as plans
-use Rattle.block_wiring.specs.Answer.{AreWired}
-use Rattle.block_wiring.specs.Refusal.{IsWiringFault}
-use Rattle.block_wiring.specs.declared.fault.WiringFault.{WiringFault}
-use Rattle.block_wiring.specs.declared.fault.WiringFault.TheVariants as wirings
-use Rattle.block_stages.specs.CompositionStages.{IsCompositionWithin, IsFirstOfComposition}
+use Rattle.abstraction.specs.Stages.{joined}
+use Rattle.compose_polys.specs.LevelOrder.{first_numbers}
+use Rattle.compose_model.specs.Hierarchy.{Hierarchy}
+use Rattle.compose_model.specs.Values.{IsTop}
+use Rattle.compose_model.specs.Wiring.{feeding_graph, IsWithoutCycle}
+use Rattle.compose_model.specs.declared.feeder.Feeder.{Feeder}
+use Rattle.compose_blocks.specs.Plan.{UsesOf}
+use Rattle.compose_blocks.specs.Planned.{CanAllBind}
+use Rattle.compose_blocks.specs.declared.plan_fault.PlanFault.TheVariants as plans
+use Rattle.compose_wiring.specs.Answer.{AreWired}
+use Rattle.compose_wiring.specs.Refusal.{IsWiringFault}
+use Rattle.compose_wiring.specs.declared.fault.WiringFault.{WiringFault}
+use Rattle.compose_wiring.specs.declared.fault.WiringFault.TheVariants as wirings
+use Rattle.compose_stages.specs.CompositionStages.{IsCompositionWithin, IsFirstOfComposition}
 use Rattle.block_compose.specs.declared.fault.ComposeFault.{ComposeFault}
 use Rattle.block_compose.specs.declared.fault.ComposeFault.TheVariants.{Plan, Wiring, InstanceLoop, TooManyTerms, OutOfMemory}
 

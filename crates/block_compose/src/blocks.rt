@@ -2,11 +2,11 @@
 ghost use Rattle.std.specs.Prelude.{◌≡◌, ◌⊎◌, ◌<◌, ◌++◌, ◌∷◌, [], ℕ, List, None, Some, length, map, replicate, slice_get, slice_set, IfErr, IfOk, OnOk};
 ghost use Rattle.net_words.specs.Binding.{BoundNet};
 ghost use Rattle.gf_basis.specs.declared.bases.Basis.{Basis as BasisValue};
-ghost use Rattle.block_plan.specs.private.Found.{HasCircuit};
+ghost use Rattle.compose_blocks.specs.private.Found.{HasCircuit};
 ghost use Rattle.block_compose.specs.private.Blocks.{block_fault_of, AreKeptBlocks, ArePolys, AreTaken, HasPoly, IsBlockPoly, IsFirstBlockOver, IsKeptBlock, IsRefusedBlock, KeepsPolys};
 
 use crate::ComposeFault;
-use circuit_poly::circuit_poly;
+use abstraction::circuit_poly;
 use gf_basis::Basis;
 use gf_field::Field;
 use net_core::Name;

@@ -5,14 +5,14 @@ ghost use Rattle.block_compose.specs.Composed.{Composes, IsComposable, MayFault}
 use crate::faults::of_cycle;
 use crate::stages::compose_stages;
 use crate::{BlockBases, ComposeFault};
-use block_plan::plan_blocks;
-use block_wiring::wiring_of;
+use compose_blocks::plan_blocks;
+use compose_polys::wired_order;
+use compose_wiring::wiring_of;
 use gf_field::Field;
 use net_blif::Design;
 use net_signature::Signature;
 use poly_mixed::Poly;
 use std::alloc::Global;
-use wired_poly::wired_order;
 
 /// The polynomial in words of what a top computes that only wires instances of blocks, or the first reason why there is none, in this
 /// order.

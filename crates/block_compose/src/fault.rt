@@ -2,8 +2,8 @@
 ghost use Rattle.std.specs.Prelude.{◌≡◌};
 ghost use Rattle.block_compose.specs.declared.fault.ComposeFault.TheVariants.{OutOfMemory};
 
-use block_plan::PlanFault;
-use block_wiring::WiringFault;
+use compose_blocks::PlanFault;
+use compose_wiring::WiringFault;
 use net_core::Name;
 use poly_mixed::Stage;
 use std::alloc::{AllocError, AllocFailed};

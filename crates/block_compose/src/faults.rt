@@ -1,13 +1,13 @@
 //! Faults of cycles and of stages as those of compositions.
 ghost use Rattle.std.specs.Prelude.{◌≡◌, ◌<◌, ◌^◌, ℕ, length, map, slice_get, Some};
 ghost use Rattle.graph_core.specs.Fault.{IsCycleFault};
-ghost use Rattle.block_feeds.specs.Wiring.{feeding_graph};
-ghost use Rattle.instance_order.specs.LevelOrder.{first_numbers};
+ghost use Rattle.compose_model.specs.Wiring.{feeding_graph};
+ghost use Rattle.compose_polys.specs.LevelOrder.{first_numbers};
 ghost use Rattle.block_compose.specs.Composed.{HasNoCycle, MayFault};
 ghost use Rattle.block_compose.specs.private.Blocks.{instance_fault_of};
 
 use crate::ComposeFault;
-use block_feeds::Feeder;
+use compose_model::Feeder;
 use graph_core::CycleFault;
 use poly_mixed::ReduceFault;
 

@@ -1,6 +1,6 @@
 //! Laws of compositions. These functions do nothing: their contracts are proved of the definitions alone.
 ghost use Rattle.std.specs.Prelude.{ℕ, List, Ok};
-ghost use Rattle.text_core.specs.Outcome.{Determined};
+ghost use Rattle.outcome.specs.Outcome.{Determined};
 ghost use Rattle.net_signature.specs.Signature.{SignatureValue};
 ghost use Rattle.net_blif.specs.Design.{ModelValue};
 ghost use Rattle.net_blif.specs.Models.{AreRight};

@@ -2,24 +2,24 @@
 ghost use Rattle.std.specs.Prelude.{◌<◌, ◌^◌, length, map, Ok, IfErr, IfOk};
 ghost use Rattle.net_blif.specs.Models.{AreRight};
 ghost use Rattle.net_blif.specs.Top.{instances_of};
-ghost use Rattle.block_feeds.specs.Wiring.{feeding_graph};
-ghost use Rattle.block_plan.specs.Planned.{IsPlanned};
-ghost use Rattle.block_wiring.specs.Answer.{AreWired};
-ghost use Rattle.instance_order.specs.LevelOrder.{IsLevelOrder};
+ghost use Rattle.compose_model.specs.Wiring.{feeding_graph};
+ghost use Rattle.compose_blocks.specs.Planned.{IsPlanned};
+ghost use Rattle.compose_wiring.specs.Answer.{AreWired};
+ghost use Rattle.compose_polys.specs.LevelOrder.{IsLevelOrder};
 ghost use Rattle.block_compose.specs.Composed.{hierarchy_of, IsComposable, MayFault, StagesOf};
 
 use crate::ComposeFault;
 use crate::blocks::{block_polys, polys_of};
 use crate::faults::of_stage;
-use block_plan::BlockPlan;
-use block_wiring::Wiring;
+use compose_blocks::BlockPlan;
+use compose_polys::wired_poly;
+use compose_wiring::Wiring;
 use gf_basis::Basis;
 use gf_field::Field;
 use net_blif::Design;
 use net_signature::Signature;
 use poly_mixed::Poly;
 use std::alloc::Global;
-use wired_poly::wired_poly;
 
 /// The polynomial of a top whose instances have blocks, are wired, and stand in an order by level; or the first stage over the bound.
 pub(crate) fn compose_stages<F: Field>(

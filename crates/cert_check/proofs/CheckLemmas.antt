@@ -3,7 +3,6 @@ use Rattle.std.proofs.Common.{◌≡◌, ◌∙◌, ap, sym, refl, subst, ℕ, �
 use Rattle.std.specs.List.{AllByRecursion}
 use Rattle.std.specs.Prelude.{IfErr, OnOk}
 use lib.Bits.{xor_assoc, xor_zero_l, xor_zero_r}
-use Rattle.text_core.specs.Outcome.{Outcome, Fits, MayRefuse}
 use Rattle.gf_basis.specs.declared.bases.Basis.{Basis}
 use Rattle.net_words.specs.Binding.{BoundNet}
 use Rattle.poly_mixed.specs.Labels.{Labelling}
@@ -19,6 +18,7 @@ use Rattle.cert_check.specs.declared.line.Multiplier.TheVariants.{Own, Shared}
 use Rattle.cert_check.specs.declared.fault.CertFault.{CertFault}
 use Rattle.cert_check.specs.declared.fault.CertFault.TheVariants.{TooManyTerms}
 use Rattle.std.proofs.lemmas.List.{length-map}
+use Rattle.outcome.specs.Outcome.{Outcome, Fits, MayRefuse}
 use Rattle.gf_basis.specs.BasisParts.{duals_of}
 use Rattle.poly_mixed.specs.Labels.{word_at}
 use Rattle.poly_mixed.specs.declared.steps.Generator.TheVariants.{Net, Bit}

@@ -2,8 +2,8 @@
 use Rattle.std.proofs.Common.{◌≡◌, ◌∙◌, ap, sym, refl, ℕ, ◌+◌, ◌<◌, ◌≤◌, List, [], ◌∷◌, length, drop, Result, Ok, Err, arith}
 use Rattle.std.specs.Prelude.{Option, Some, None}
 use Rattle.std.specs.Str.Lines.{lines}
-use Rattle.text_core.specs.Outcome.{Outcome, ◌>>=◌, Exactly, Within, Returns, Determined}
-use Rattle.text_core.proofs.DeterminedLemmas.{determined_returns, determined_bind}
+use Rattle.outcome.proofs.DeterminedLemmas.{determined_returns, determined_bind}
+use Rattle.outcome.specs.Outcome.{Outcome, ◌>>=◌, Exactly, Within, Returns, Determined}
 use Rattle.gf_field.specs.Ring.{IsRing}
 use Rattle.gf_field.specs.Field.{HasNoZeroDivisors}
 use Rattle.gf_field.specs.laws.RootsLaws.{HasFewRoots-from_field}

@@ -11,8 +11,8 @@ use Rattle.gf_field.specs.laws.TraceLaws.{frobenius-power}
 use Rattle.gf_basis.specs.Dual.{linear_value}
 use Rattle.cert_check.specs.Running.{dual_form}
 use Rattle.std.proofs.lemmas.Option.{get_or_from_slice_get}
-use Rattle.graph_core.proofs.ListLemmas.{get_below}
-use Rattle.graph_core.proofs.GeneralLemmas.{all_in}
+use Rattle.lists.specs.laws.HasLaws.{all_in}
+use Rattle.lists.specs.laws.ReadLaws.{get_below}
 use Rattle.poly_mixed.specs.Polynomial.{Point, IsPoint, IsElement}
 
 pub same_sum : (m : ℕ) (f g : ℕ → ℕ) → ((i : ℕ) → i < m → f i ≡ g i) → sum_of_first m f ≡ sum_of_first m g

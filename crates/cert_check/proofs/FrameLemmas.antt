@@ -5,8 +5,7 @@ use Rattle.std.specs.Option.{option_map}
 use Rattle.std.proofs.lemmas.Bool.{ltb-true}
 use Rattle.text_core.specs.Numbers.{value_of}
 use Rattle.net_core.specs.NetList.{NetList, nets}
-use Rattle.poly_mixed.specs.Labels.{Labelling, word_at}
-use Rattle.poly_mixed.specs.Scan.{word_of}
+use Rattle.poly_mixed.specs.Labels.{Labelling, word_at, word_of}
 use Rattle.poly_mixed.specs.declared.steps.Generator.{Generator}
 use Rattle.poly_mixed.specs.declared.steps.Generator.TheVariants.{Net, Bit}
 use Rattle.cert_check.specs.Driver.{is_driven}

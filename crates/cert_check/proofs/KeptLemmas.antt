@@ -5,8 +5,8 @@ use Rattle.std.specs.Str.Lines.{lines, strip_carriage_return}
 use Rattle.std.specs.Prelude.{◌⊎◌}
 use Rattle.std.proofs.lemmas.Bool.{cases_eq}
 use Rattle.std.proofs.lemmas.List.{map-append, length-map}
+use Rattle.outcome.specs.Outcome.{Fits, MayRefuse}
 use Rattle.text_core.proofs.LineLemmas.{lines_at, lines_last}
-use Rattle.text_core.specs.Outcome.{Fits, MayRefuse}
 use Rattle.poly_mixed.specs.Labels.{Labelling}
 use Rattle.poly_mixed.specs.Polynomial.{Polynomial, Terms}
 use Rattle.poly_mixed.specs.TextOutcome.{TextFault, text_fault, no_polynomial, no_such_net, no_such_bit, TextOutcome}

@@ -1,6 +1,6 @@
 -- One more line of a certificate.
 use Rattle.std.proofs.Common.{◌≡◌, sym, refl, subst, inl, ℕ, ◌+◌, List, [], ◌∷◌, Some, None, Result, Ok, Err}
-use Rattle.text_core.specs.Outcome.{Outcome, ◌>>=◌, Within, Fits}
+use Rattle.outcome.specs.Outcome.{Outcome, ◌>>=◌, Within, Fits}
 use Rattle.net_core.specs.NetList.{NetList}
 use Rattle.poly_mixed.specs.Labels.{Labelling}
 use Rattle.cert_check.specs.Fault.{fault_at, no_end, line_refusal, refusal}

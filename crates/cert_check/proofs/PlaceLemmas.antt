@@ -4,7 +4,7 @@ use Rattle.std.specs.Prelude.{slice_index, slice_set, replicate}
 use Rattle.std.specs.List.{AllByRecursion}
 use Rattle.std.proofs.lemmas.Nat.{one_shl, pow_below, pow_pos}
 use Rattle.std.specs.Ordering.{eq_by_cmp}
-use Rattle.text_core.proofs.GeneralLemmas.{is_equal}
+use Rattle.lists.specs.laws.OrderingLaws.{is_equal}
 use Rattle.poly_mixed.specs.Monomial.{Monomial, text_cmp}
 use Rattle.poly_mixed.proofs.MonomialLemmas.{text_cmp-same}
 use Rattle.cert_check.specs.private.Held.{power_of}

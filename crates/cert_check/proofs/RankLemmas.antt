@@ -2,9 +2,9 @@
 use Rattle.std.proofs.Common.{◌≡◌, ◌≢◌, ℕ, zero, suc, ◌≤◌, ◌+◌, cond, not, List, [], ◌∷◌, Some, inl, inr, ap, ◌∙◌, arith}
 use Rattle.std.specs.Prelude.{slice_get}
 use Rattle.std.proofs.lemmas.Bool.{eq-eqb, ne_eqb, cases_order}
-use Rattle.net_core.specs.Lists.{Has, times}
-use Rattle.net_core.proofs.DriverLemmas.{times_two}
-use Rattle.net_core.proofs.LevelLemmas.{nat_eq_or}
+use Rattle.lists.specs.Lists.{Has, times}
+use Rattle.lists.specs.laws.HasLaws.{times_two}
+use Rattle.lists.specs.laws.NumberLaws.{nat_eq_or}
 use Rattle.cert_check.specs.Running.{rank_among}
 
 -- a net that stands in the list stands at its rank

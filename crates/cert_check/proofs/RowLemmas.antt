@@ -1,13 +1,13 @@
 -- Rows to which multiples of forms are added.
 use Rattle.std.proofs.Common.{◌≡◌, ◌∙◌, ap, sym, refl, subst, ℕ, zero, suc, ◌<◌, ◌+◌, List, [], ◌∷◌, ◌++◌, get_or, bit_xor, Some, Result, Ok, Err, OnOk, arith}
 use Rattle.std.specs.Prelude.{slice_index, slice_get, slice_set, replicate}
+use Rattle.lists.specs.laws.XorLaws.{xor_cross}
 use lib.Bits.{xor_assoc, xor_comm, xor_zero_l, xor_zero_r, xor_lt}
 use Rattle.gf_basis.specs.Dual.{linear_value}
 use Rattle.gf_field.specs.Field.{HasNoZeroDivisors}
 use Rattle.gf_field.specs.Polynomial.{sum_of_first}
 use Rattle.gf_field.specs.Ring.{IsRing}
 use Rattle.gf_field.specs.Trace.{frobenius}
-use Rattle.gf_field.specs.laws.XorLaws.{xor_cross}
 use Rattle.poly_mixed.specs.Monomial.{Monomial}
 use Rattle.poly_mixed.specs.Polynomial.{Terms, Point, IsElement, IsPoint, term_value, value}
 use Rattle.cert_check.specs.declared.form.Form.{Form}

@@ -10,9 +10,10 @@ use Rattle.std.proofs.lemmas.List.{length-map, length-take, get_or-take}
 use Rattle.std.proofs.lemmas.List.FromFn.{get_or-map-range_with_len}
 use Rattle.std.proofs.lemmas.Nat.Bits.{bit_at_lowest, bit_at-suc}
 use Rattle.std.proofs.lemmas.Option.{slice_get_within, get_or_from_slice_get}
+use Rattle.lists.specs.Lists.{Has, times}
+use Rattle.lists.specs.laws.HasLaws.{all_in, times_some}
+use Rattle.lists.specs.laws.ReadLaws.{get_below, get_front, from_map}
 use lib.Bits.{xor_self}
-use Rattle.graph_core.proofs.ListLemmas.{get_below, get_front}
-use Rattle.graph_core.proofs.GeneralLemmas.{all_in}
 use Rattle.gf_field.specs.Ring.{IsRing}
 use Rattle.gf_field.specs.Field.{HasNoZeroDivisors}
 use Rattle.gf_field.specs.Trace.{frobenius}
@@ -24,10 +25,8 @@ use Rattle.gf_basis.specs.declared.bases.Basis.{Basis}
 use Rattle.gf_basis.proofs.BasisLaws.{linear_bit}
 use Rattle.net_core.specs.GateValue.{GateValue}
 use Rattle.net_core.specs.NetList.{NetList, nets}
-use Rattle.net_core.specs.Lists.{Has, times}
 use Rattle.net_core.specs.Sound.{IsSound}
 use Rattle.net_core.specs.Value.{bit_of, index_of}
-use Rattle.net_core.proofs.DriverLemmas.{times_some, from_map}
 use Rattle.net_words.specs.Binding.{BoundNet}
 use Rattle.net_words.specs.OneCycle.{IsOneCycle}
 use Rattle.net_words.specs.Variables.{bits, others, variables}
@@ -43,7 +42,7 @@ use Rattle.circuit_model.specs.Run.{IsRun, IsClockCycle, IsFirst}
 use Rattle.circuit_model.specs.WellFormed.{IsWellFormed}
 use Rattle.circuit_model.specs.Word.{Word, word_nets}
 use Rattle.circuit_model.proofs.BoundLemmas.{bound_well, word_nets_of}
-use Rattle.circuit_model.proofs.JobLemmas.{job_of, first_elements}
+use Rattle.circuit_model.proofs.JobLemmas.{well_formed_is_job, first_elements}
 use Rattle.circuit_model.proofs.SomeRunLemmas.{some_run}
 use Rattle.circuit_model.proofs.WordLemmas.{index_small}
 use Rattle.poly_mixed.specs.Polynomial.{Point, IsPoint, IsElement, value}
@@ -214,7 +213,7 @@ module _ (k : ℕ) (mul : ℕ → ℕ → ℕ) (bound : BoundNet) (bases : List 
     }
 
     pub run : (run : List (List Bool)) × IsRun (circuit_in k mul bound bases) xs run
-    run = some_run (circuit_in k mul bound bases) xs (job_of (circuit_in k mul bound bases) well) input
+    run = some_run (circuit_in k mul bound bases) xs (well_formed_is_job (circuit_in k mul bound bases) well) input
 
     pub last : (v : List Bool) × (slice_get run.0 0 ≡ Some v)
     last = get_below run.0 0 (omega (arith, run.1.open_run.long))

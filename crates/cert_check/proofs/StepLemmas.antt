@@ -1,6 +1,6 @@
 -- Steps of readers, one after another.
 use Rattle.std.proofs.Common.{refl, inl, inr, ℕ, Result, Ok, Err}
-use Rattle.text_core.specs.Outcome.{Outcome, ◌>>=◌, Within, Fits}
+use Rattle.outcome.specs.Outcome.{Outcome, ◌>>=◌, Within, Fits}
 use Rattle.cert_check.specs.Fault.{fault_at, line_refusal, refusal}
 use Rattle.cert_check.specs.declared.fault.LineFault.{LineFault}
 use Rattle.cert_check.specs.declared.fault.LineFault.TheVariants as line

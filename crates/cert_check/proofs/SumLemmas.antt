@@ -1,6 +1,7 @@
 -- Sums of basis elements, place by place, and tables over ranks.
 use Rattle.std.proofs.Common.{◌≡◌, ℕ, zero, suc, ◌<◌, ◌+◌, ◌*◌, ◌/◌, ◌%◌, Bool, true, false, cond, List, [], ◌∷◌, length, map, get_or, take, bit_xor, refl, sym, ap, subst, ◌∙◌, arith, Some, Result, Ok, Err}
 use Rattle.std.specs.Prelude.{IfOk, Option, slice_get, slice_index}
+use Rattle.lists.specs.laws.ReadLaws.{get_below}
 use lib.Bits.{xor_zero_l, xor_zero_r, xor_assoc}
 use Rattle.irreducible.specs.Span.{combination}
 use Rattle.poly_mixed.specs.Polynomial.{Terms}
@@ -9,7 +10,6 @@ use Rattle.poly_mixed.specs.declared.steps.Generator.{Generator}
 use Rattle.poly_mixed.specs.declared.steps.Generator.TheVariants.{Bit}
 use Rattle.gf_basis.specs.BasisParts.{duals_of}
 use Rattle.gf_basis.specs.declared.bases.Basis.{Basis}
-use Rattle.graph_core.proofs.ListLemmas.{get_below}
 use Rattle.net_words.specs.Binding.{BoundNet}
 use Rattle.circuit_model.specs.Word.{Word}
 use Rattle.cert_check.specs.Running.{rank_among, bit_value, dual_form, dual_at, dual_words, generator_value}

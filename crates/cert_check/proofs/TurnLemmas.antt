@@ -1,6 +1,6 @@
 -- A check, one line after another.
 use Rattle.std.proofs.Common.{◌≡◌, sym, refl, subst, inl, inr, ℕ, ◌+◌, ◌<◌, ◌≤◌, List, [], ◌∷◌, length, drop, Some, None, Result, Ok, Err}
-use Rattle.text_core.specs.Outcome.{Outcome, ◌>>=◌, Fits}
+use Rattle.outcome.specs.Outcome.{Outcome, ◌>>=◌, Fits}
 use Rattle.gf_basis.specs.declared.bases.Basis.{Basis}
 use Rattle.net_words.specs.Binding.{BoundNet}
 use Rattle.poly_mixed.specs.Labels.{Labelling}

@@ -5,13 +5,14 @@ use Rattle.std.specs.Prelude.{Option}
 use Rattle.std.proofs.lemmas.Bool.{ne_eqb, eqb-true}
 use Rattle.text_core.specs.Lines.{is_blank}
 use Rattle.text_core.specs.Numbers.{value_of}
-use Rattle.poly_mixed.specs.Labels.{Labelling}
+use Rattle.poly_mixed.specs.Labels.{Labelling, word_of}
 use Rattle.poly_mixed.specs.Monomial.{Monomial, text_cmp}
 use Rattle.poly_mixed.specs.Polynomial.{Terms, Point, term_value, value, powers}
-use Rattle.poly_mixed.specs.Scan.{run, after, skip, name_of, index_of, closed_by, is_digit, is_hex_digit, is_letter, word_of}
+use Rattle.text_core.specs.Scan.{run, after, skip, name_of, index_of, closed_by, is_digit, is_hex_digit, is_letter, has_digits}
 use Rattle.poly_mixed.specs.Sum.{plus}
-use Rattle.poly_mixed.specs.Token.{word, bit, net, Token, variable, hex, figures, plus_sign, times_sign, power_sign, Front, net_front, name_with, name_front, has_digits, number_front, sign_front, token_front, AreFront}
-use Rattle.poly_mixed.specs.Grammar.{Part, number, factor, IsPart, AreJoined, IsTerm}
+use Rattle.poly_mixed.specs.Token.{word, bit, net, Token, variable, hex, figures, plus_sign, times_sign, power_sign, Front, net_front, name_with, name_front, number_front, sign_front, token_front, AreFront}
+use Rattle.poly_mixed.specs.Grammar.{Part, number, factor, IsPart, IsTerm}
+use Rattle.text_core.specs.Joined.{AreJoined}
 use Rattle.poly_mixed.specs.Said.{one, with_power, with_part, monomial_of, coefficient_of, added, sum_of}
 use Rattle.poly_mixed.specs.TextOutcome.{IsRead}
 use Rattle.poly_mixed.proofs.SumLemmas.{all_plus}

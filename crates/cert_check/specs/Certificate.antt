@@ -4,8 +4,8 @@
 use Rattle.std.specs.Prelude.{◌≡◌, ◌≢◌, ℕ, ◌+◌, cond, List, [], ◌∷◌, ◌++◌, length, drop, ◌==◌, Option, Some, None, Result, Ok, Err, slice_get}
 use Rattle.std.specs.List.{AllByRecursion}
 use Rattle.std.specs.Str.Lines.{lines}
+use Rattle.outcome.specs.Outcome.{Outcome, ◌>>=◌, Exactly, Within, Returns}
 use Rattle.text_core.specs.Numbers.{value_of}
-use Rattle.text_core.specs.Outcome.{Outcome, ◌>>=◌, Exactly, Within, Returns}
 use Rattle.net_core.specs.NetList.{NetList}
 use Rattle.poly_mixed.specs.Labels.{Labelling}
 use Rattle.poly_mixed.specs.Polynomial.{Terms}

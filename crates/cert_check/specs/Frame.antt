@@ -4,8 +4,7 @@
 use Rattle.std.specs.Prelude.{ℕ, cond, List, nat_lt, ◌==◌, Option, Some, None, Result, Ok, Err, bytes_eq, codes}
 use Rattle.text_core.specs.Numbers.{value_of}
 use Rattle.net_core.specs.NetList.{NetList, nets}
-use Rattle.poly_mixed.specs.Labels.{Labelling, word_at}
-use Rattle.poly_mixed.specs.Scan.{word_of}
+use Rattle.poly_mixed.specs.Labels.{Labelling, word_at, word_of}
 use Rattle.poly_mixed.specs.declared.steps.Generator.{Generator}
 use Rattle.poly_mixed.specs.declared.steps.Generator.TheVariants.{Net, Bit}
 use Rattle.cert_check.specs.Driver.{is_driven}

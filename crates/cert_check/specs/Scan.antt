@@ -1,8 +1,7 @@
 -- Tokens of a line's frame: words, numbers, `W[i]` and signs, each as long as it can be, spaces and tabs before it.
 -- Source: this project's own, docs/FORMATS.md.
-use Rattle.std.specs.Prelude.{ℕ, Bool, false, ◌&&◌, cond, List, [], ◌∷◌, length, drop, nat_lt, ◌==◌, Option, Some, None, bytes_eq}
-use Rattle.poly_mixed.specs.Scan.{run, after, skip, name_of, index_of, is_digit, is_name_byte, is_letter}
-use Rattle.poly_mixed.specs.Token.{has_digits}
+use Rattle.std.specs.Prelude.{ℕ, Bool, cond, List, [], ◌∷◌, length, drop, nat_lt, ◌==◌, Option, Some, None, bytes_eq}
+use Rattle.text_core.specs.Scan.{run, after, skip, name_of, index_of, is_digit, is_name_byte, is_letter, begins_hex}
 
 -- nothing but spaces and tabs is left
 abbrev pub is_blank : List ℕ → Bool
@@ -21,18 +20,15 @@ after_first byte (b ∷ bs) = cond (b == byte) (Some bs) None
 abbrev pub after_sign : ℕ → List ℕ → Option (List ℕ)
 after_sign byte bytes = after_first byte (skip bytes)
 
--- `0x` and a hexadecimal digit make another number
-abbrev pub is_hex : List ℕ → Bool
-is_hex [] = false
-is_hex (b ∷ bs) = (b == 48) && has_digits bs
-
 -- decimal digits, at least one, and what stands after them
 abbrev pub digits_first : List ℕ → Option (List ℕ × List ℕ)
 digits_first bytes = cond (nat_lt 0 (length (run is_digit bytes))) (Some (run is_digit bytes, after is_digit bytes)) None
 
+-- unless they begin a hexadecimal number
 abbrev pub digits_in : List ℕ → Option (List ℕ × List ℕ)
-digits_in bytes = cond (is_hex bytes) None (digits_first bytes)
+digits_in bytes = cond (begins_hex bytes) None (digits_first bytes)
 
+-- the same, after spaces and tabs
 abbrev pub digits_at : List ℕ → Option (List ℕ × List ℕ)
 digits_at bytes = digits_in (skip bytes)
 
@@ -41,6 +37,7 @@ abbrev pub indexed : List ℕ → Option (List ℕ × List ℕ) → Option (List
 indexed name None = None
 indexed name (Some index) = Some (name, index.0, index.1)
 
+-- the name, the digits of the index, and what stands after `W[i]`, which is the first
 abbrev pub indexed_in : List ℕ → Option (List ℕ × List ℕ × List ℕ)
 indexed_in [] = None
 indexed_in (b ∷ bs) = cond (is_letter b) (indexed (name_of (b ∷ bs)) (index_of (drop (length (name_of (b ∷ bs))) (b ∷ bs)))) None

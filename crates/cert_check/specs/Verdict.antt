@@ -1,7 +1,7 @@
 -- The verdict on a certificate: whether its last running sum is the polynomial without terms.
 -- Source: this project's own.
 use Rattle.std.specs.Prelude.{◌≡◌, ◌≢◌, ℕ, ◌<◌, ◌≤◌, List, [], length, Ok, Err}
-use Rattle.text_core.specs.Outcome.{Outcome, ◌>>=◌}
+use Rattle.outcome.specs.Outcome.{Outcome, ◌>>=◌}
 use Rattle.gf_basis.specs.declared.bases.Basis.{Basis}
 use Rattle.net_words.specs.Binding.{BoundNet}
 use Rattle.poly_mixed.specs.Labels.{Labelling}

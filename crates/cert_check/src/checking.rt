@@ -1,7 +1,7 @@
 //! The verdict on a certificate.
 ghost use Rattle.std.specs.Prelude.{◌≡◌, ◌<◌, ◌≤◌, ◌+◌, List, length, IfOk, IfErr, IfSome, OnOk};
 ghost use Rattle.std.specs.Str.Lines.{lines};
-ghost use Rattle.text_core.specs.Outcome.{Fits};
+ghost use Rattle.outcome.specs.Outcome.{Fits};
 ghost use Rattle.circuit_model.specs.Bases.{AreBases};
 ghost use Rattle.cert_check.specs.Fault.{line_refusal, refusal};
 ghost use Rattle.poly_mixed.specs.Polynomial.{Terms};

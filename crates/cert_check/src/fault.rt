@@ -7,7 +7,7 @@ use std::alloc::{AllocError, AllocFailed};
 use thiserror::Error;
 
 /// What is wrong with a line, or out of memory.
-#[derive(Clone, Copy, Debug, PartialEq, Eq)]
+#[derive(Clone, Copy)]
 pub enum LineFault {
     /// It is no line of its place.
     Syntax,
@@ -24,7 +24,7 @@ pub enum LineFault {
 }
 
 /// The fault of the first line that shows one, or out of memory. Lines are counted from 1.
-#[derive(Clone, Copy, Debug, PartialEq, Eq, Error)]
+#[derive(Clone, Copy, Debug, Error)]
 pub enum CertFault {
     /// The line is no line of its place.
     #[error("syntax at line {line}")]

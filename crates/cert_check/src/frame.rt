@@ -2,7 +2,7 @@
 ghost use Rattle.std.specs.Prelude.{◌≡◌, ◌<◌, ◌≤◌, ◌==◌, length, MatchOption, IfSome, Some};
 ghost use Rattle.text_core.specs.Numbers.{value_of};
 ghost use Rattle.net_core.specs.NetList.{nets};
-ghost use Rattle.poly_mixed.specs.Scan.{word_of};
+ghost use Rattle.poly_mixed.specs.Labels.{word_of};
 ghost use Rattle.cert_check.specs.Scan.{digits_at as digits_of, indexed_at as indexed_of};
 ghost use Rattle.cert_check.specs.Frame.{after_generator as generator_left, net_named, bit_named, after_number as number_left, let_named, let_line as line_of_let, paired as paired_left, ended, frame_of, version_named as version_by, version_of as version_in, claim_text as text_of_claim};
 ghost use Rattle.cert_check.specs.private.Scanning.{left_of};

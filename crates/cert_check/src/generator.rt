@@ -1,8 +1,8 @@
 //! Generators as polynomials.
 ghost use Rattle.std.specs.Prelude.{◌≡◌, ◌<◌, ◌+◌, ◌*◌, bit_xor, map, option_map, slice_index, IfOk, IfSome, OnOk};
+ghost use Rattle.lists.specs.Lists.{Has};
 ghost use Rattle.gf_basis.specs.BasisParts.{duals_of, IsBasisOver};
 ghost use Rattle.net_core.specs.NetList.{nets};
-ghost use Rattle.net_core.specs.Lists.{Has};
 ghost use Rattle.net_core.specs.Sound.{IsSound};
 ghost use Rattle.net_words.specs.Variables.{variables};
 ghost use Rattle.poly_mixed.specs.Polynomial.{IsPoint, IsPolynomialOf, IsReduced, Point, value};

@@ -1,7 +1,7 @@
 //! The first two lines of a certificate.
 ghost use Rattle.std.specs.Prelude.{◌≡◌, ◌<◌, ◌≤◌, length, drop, IfOk};
 ghost use Rattle.std.specs.Str.Lines.{lines};
-ghost use Rattle.text_core.specs.Outcome.{Fits, Returns};
+ghost use Rattle.outcome.specs.Outcome.{Fits, Returns};
 ghost use Rattle.poly_mixed.specs.Polynomial.{IsReduced};
 ghost use Rattle.cert_check.specs.Fault.{refusal};
 ghost use Rattle.cert_check.specs.Frame.{version_of as version_in};

@@ -1,6 +1,6 @@
 //! Laws of certificates. These functions do nothing: their contracts are proved of the definitions alone.
 ghost use Rattle.std.specs.Prelude.{ℕ, List};
-ghost use Rattle.text_core.specs.Outcome.{Determined};
+ghost use Rattle.outcome.specs.Outcome.{Determined};
 ghost use Rattle.gf_basis.specs.declared.bases.Basis.{Basis};
 ghost use Rattle.net_core.specs.NetList.{NetList};
 ghost use Rattle.net_words.specs.Binding.{BoundNet};

@@ -1,6 +1,6 @@
 //! One line of a certificate.
 ghost use Rattle.std.specs.Prelude.{◌≡◌, ◌≤◌, ◌↔◌, List, length, IsTrue, IfOk, IfSome};
-ghost use Rattle.text_core.specs.Outcome.{Fits, Returns};
+ghost use Rattle.outcome.specs.Outcome.{Fits, Returns};
 ghost use Rattle.poly_mixed.specs.Polynomial.{Terms, IsReduced};
 ghost use Rattle.cert_check.specs.Fault.{line_refusal};
 ghost use Rattle.cert_check.specs.Scan.{digits_first as digits_in_front};

@@ -1,7 +1,7 @@
 //! The pairs of a certificate from its text.
 ghost use Rattle.std.specs.Prelude.{◌<◌, ◌≤◌, ◌+◌, length};
 ghost use Rattle.std.specs.Str.Lines.{lines};
-ghost use Rattle.text_core.specs.Outcome.{Fits};
+ghost use Rattle.outcome.specs.Outcome.{Fits};
 ghost use Rattle.cert_check.specs.Fault.{refusal};
 ghost use Rattle.cert_check.specs.Certificate.{begun, NoLine, AsksNothing, LinesOf, CertificateOf};
 ghost use Rattle.cert_check.specs.private.Reading.{AreDrivers};

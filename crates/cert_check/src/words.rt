@@ -1,7 +1,7 @@
 //! The bases of the words.
 ghost use Rattle.std.specs.Prelude.{◌≡◌, ◌⊎◌, ◌<◌, ◌-◌, true, false, map, length, slice_get, Some, IfSome, IfNone};
+ghost use Rattle.lists.specs.Lists.{Has};
 ghost use Rattle.gf_basis.specs.BasisParts.{duals_of};
-ghost use Rattle.net_core.specs.Lists.{Has};
 ghost use Rattle.circuit_model.specs.OfBinding.{words_of};
 
 use circuit_model::is_output;

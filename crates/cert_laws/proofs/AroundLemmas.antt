@@ -6,7 +6,8 @@ use Rattle.std.specs.Ordering.{nat_cmp}
 use Rattle.std.specs.List.{filter, list_all}
 use Rattle.std.specs.List.Sorted.{IsStrictlySortedBy}
 use Rattle.std.proofs.lemmas.Bool.{eq-eqb, ne_eqb}
-use Rattle.graph_core.proofs.GeneralLemmas.{all_filter, all_in}
+use Rattle.lists.specs.laws.HasLaws.{all_in}
+use Rattle.lists.specs.laws.ListLaws.{all_filter}
 use Rattle.poly_mixed.proofs.RankLemmas.{Above, from_less}
 
 second : (a b c : Bool) → (a && (b && c)) ≡ (b && (a && c))

@@ -2,7 +2,7 @@
 use Rattle.std.proofs.Common.{◌≡◌, ◌∙◌, ap, refl, ℕ, zero, suc, ◌+◌, cond, not, List, [], ◌∷◌, length, filter, arith}
 use Rattle.std.specs.List.{AllByRecursion}
 use Rattle.std.proofs.lemmas.List.{length-append}
-use Rattle.net_core.specs.Lists.{Has}
+use Rattle.lists.specs.Lists.{Has}
 use Rattle.net_words.specs.Roles.{same_role}
 use Rattle.net_words.specs.Variables.{bits, bits_with}
 use Rattle.net_words.specs.declared.bound.BoundWord.{BoundWord}

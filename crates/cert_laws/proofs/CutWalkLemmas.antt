@@ -10,7 +10,6 @@ use Rattle.gf_basis.specs.BasisParts.{elements_of}
 use Rattle.gf_basis.specs.declared.bases.Basis.{Basis}
 use Rattle.irreducible.specs.Span.{combination}
 use Rattle.net_core.specs.GateValue.{GateValue}
-use Rattle.net_core.specs.Lists.{Has}
 use Rattle.net_core.specs.NetList.{NetList, nets}
 use Rattle.net_core.specs.Order.{IsElimination}
 use Rattle.net_core.specs.Sound.{IsSound}
@@ -33,6 +32,7 @@ use Rattle.poly_mixed.proofs.ProductLemmas.{value_element}
 use Rattle.poly_mixed.proofs.ValueLemmas.{product_zero, same_map}
 use Rattle.circuit_model.specs.OfBinding.{output_word, output_basis}
 use Rattle.std.specs.Prelude.{map}
+use Rattle.lists.specs.Lists.{Has}
 use Rattle.stage_model.specs.Cut.{IsCut, IsSettled}
 use Rattle.stage_model.specs.CutSteps.{AreStepsAt, AreStepsOf, AreStepsTo}
 use Rattle.stage_model.specs.Stage.{IsOfStage}

@@ -3,14 +3,15 @@ use Rattle.std.proofs.Common.{◌≡◌, inl, inr, ◌∙◌, ap, sym, refl, sub
 use Rattle.std.specs.List.{AllByRecursion}
 use Rattle.std.proofs.lemmas.Bool.{true≢false, ne_eqb}
 use Rattle.std.proofs.lemmas.List.{length-map, length-append}
+use Rattle.lists.specs.laws.HasLaws.{All_has}
+use Rattle.lists.specs.laws.ListLaws.{all_filter as all_filtered}
 use Rattle.gf_field.specs.Field.{HasNoZeroDivisors}
 use Rattle.gf_field.specs.Ring.{IsRing}
-use Rattle.graph_core.proofs.GeneralLemmas.{all_filter as all_filtered}
 use Rattle.gf_basis.specs.BasisParts.{elements_of}
 use Rattle.gf_basis.specs.declared.bases.Basis.{Basis}
 use Rattle.net_core.specs.NetList.{nets}
 use Rattle.net_core.specs.Sound.{IsSound}
-use Rattle.net_core.proofs.DriverLemmas.{All_has, gate_inside}
+use Rattle.net_core.proofs.DriverLemmas.{gate_inside}
 use Rattle.net_words.specs.Binding.{BoundNet}
 use Rattle.net_words.specs.OneCycle.{IsOneCycle}
 use Rattle.net_words.specs.Variables.{bits, others, variables}

@@ -1,8 +1,8 @@
 -- Each net stands among the variables, and each at its own rank.
 use Rattle.std.proofs.Common.{◌≡◌, ◌≢◌, ◌∙◌, ap, sym, ℕ, ◌<◌, List, Some, slice_get, arith}
-use Rattle.net_core.specs.Lists.{Has, times}
+use Rattle.lists.specs.Lists.{Has, times}
+use Rattle.lists.specs.laws.HasLaws.{times_some}
 use Rattle.net_core.specs.NetList.{NetList, nets}
-use Rattle.net_core.proofs.DriverLemmas.{times_some}
 use Rattle.net_words.proofs.RankLemmas.{variables_once}
 use Rattle.net_words.specs.Binding.{Binding}
 use Rattle.net_words.specs.OneCycle.{IsOneCycle}

@@ -3,13 +3,13 @@ use Rattle.std.proofs.Common.{◌≡◌, ◌∙◌, ap, sym, refl, subst, ℕ, z
 use Rattle.std.specs.Int.{bit_at}
 use Rattle.std.specs.List.{AllByRecursion, list_all}
 use Rattle.std.proofs.lemmas.List.{length-map}
+use Rattle.lists.specs.Lists.{Has}
+use Rattle.lists.specs.laws.ListLaws.{all_filter as all_filtered}
 use Rattle.gf_field.specs.Field.{HasNoZeroDivisors}
 use Rattle.gf_field.specs.Power.{power}
 use Rattle.gf_field.specs.Ring.{IsRing}
-use Rattle.graph_core.proofs.GeneralLemmas.{all_filter as all_filtered}
 use Rattle.gf_basis.specs.BasisParts.{elements_of}
 use Rattle.gf_basis.specs.declared.bases.Basis.{Basis}
-use Rattle.net_core.specs.Lists.{Has}
 use Rattle.net_core.specs.NetList.{nets}
 use Rattle.net_core.specs.Sound.{IsSound}
 use Rattle.net_words.specs.Binding.{BoundNet}

@@ -1,30 +1,19 @@
 -- Which bytes stand in texts of polynomials, names and numbers.
-use Rattle.std.proofs.Common.{◌≡◌, inl, inr, ap, sym, refl, subst, ℕ, suc, ◌+◌, ◌<◌, ◌≤◌, ◌^◌, true, false, cond, ◌&&◌, ◌||◌, not, List, [], ◌∷◌, ◌++◌, length, map, ◌==◌, slice_index, arith, decimal, codes}
+use Rattle.std.proofs.Common.{◌≡◌, inl, inr, sym, refl, subst, ℕ, ◌+◌, ◌<◌, ◌≤◌, ◌^◌, true, false, cond, ◌&&◌, not, List, [], ◌∷◌, ◌++◌, length, map, ◌==◌, arith, decimal, codes}
 use Rattle.std.specs.List.{AllByRecursion}
 use Rattle.std.specs.Fmt.{digits}
 use Rattle.std.proofs.Math.Nat.{pow-le-pow_right}
-use Rattle.std.proofs.lemmas.Grind.{common_steps}
-use Rattle.text_core.specs.Names.{IsName, IsNameByte}
+use Rattle.text_core.specs.Names.{IsName}
 use Rattle.poly_mixed.specs.Labels.{Labelling, AreLabels, IsWord, bit_count, bit_text, rank_text}
 use Rattle.poly_mixed.specs.Monomial.{Monomial}
 use Rattle.poly_mixed.specs.Polynomial.{Terms, IsElement, IsTerm, IsReduced}
-use Rattle.poly_mixed.specs.Scan.{is_digit, is_hex_digit, is_letter, is_name_byte}
-use Rattle.poly_mixed.specs.Text.{joined, hex_text, power_texts, powers_texts, variable_texts, is_none, factor_texts, term_text, text, HasNames}
-use Rattle.poly_mixed.proofs.RunLemmas.{Passes, decimal_digits, hex_digits}
+use Rattle.text_core.specs.Scan.{is_digit, is_hex_digit, is_name_byte}
+use Rattle.poly_mixed.specs.Text.{joined, power_texts, powers_texts, variable_texts, is_none, factor_texts, term_text, text, HasNames}
+use Rattle.text_core.specs.Numbers.{hex_text}
+use Rattle.text_core.proofs.RunLemmas.{Passes}
+use Rattle.text_core.proofs.ByteLemmas.{digit_is_name, hex_is_name, name_passes}
+use Rattle.text_core.proofs.WrittenLemmas.{decimal_digits, hex_digits_64}
 use Rattle.poly_mixed.proofs.SpelledLemmas.{rank_spelled}
-
-name_byte : (b : ℕ) → IsNameByte b → is_name_byte b ≡ true
-name_byte b h = grind (arith, common_steps)
-
-pub name_passes : (xs : List ℕ) → ((i : ℕ) → i < length xs → IsNameByte (slice_index xs i)) → Passes is_name_byte xs
-name_passes [] each = tt
-name_passes (x ∷ xs) each = (name_byte x (each 0 (omega arith)), name_passes xs (λ i h. each (suc i) (omega arith)))
-
-digit_is_name : (b : ℕ) → is_digit b ≡ true → is_name_byte b ≡ true
-digit_is_name b e = (elim (is_letter b) as (λ v. (v || is_digit b || (b == 95)) ≡ true) [ true ↦ refl | false ↦ ap (λ v. false || v || (b == 95)) e ])
-
-hex_is_name : (b : ℕ) → is_hex_digit b ≡ true → is_name_byte b ≡ true
-hex_is_name b e = grind (arith, common_steps)
 
 pub all_append : {A : Type 0} (P : A → Type 0) (xs ys : List A) → AllByRecursion P xs → AllByRecursion P ys → AllByRecursion P (xs ++ ys)
 all_append P [] ys all more = more
@@ -53,7 +42,7 @@ module _ (P : ℕ → Type 0) (names : (b : ℕ) → is_name_byte b ≡ true →
   hexes_are (x ∷ xs) pass = (names x (hex_is_name x pass.0), hexes_are xs pass.1)
 
   hex_is : (n : ℕ) → n < 2 ^ 64 → AreBytes (hex_text n)
-  hex_is n low = (names 48 refl, (names 120 refl, hexes_are (digits 16 false n) (hex_digits n low).pass))
+  hex_is n low = (names 48 refl, (names 120 refl, hexes_are (digits 16 false n) (hex_digits_64 n low).pass))
 
   module _ (space : P 32) (plus : P 43) (times : P 42) (power : P 94) where
     joined_are : (sep : List ℕ) (xs : List (List ℕ)) → AreBytes sep → AllByRecursion AreBytes xs → AreBytes (joined sep xs)

@@ -6,7 +6,8 @@ use Rattle.poly_mixed.specs.Labels.{Labelling}
 use Rattle.poly_mixed.specs.Monomial.{Monomial}
 use Rattle.poly_mixed.specs.Polynomial.{Terms}
 use Rattle.poly_mixed.specs.Steps.{Step}
-use Rattle.poly_mixed.specs.Text.{text, hex_text, powers_texts, variable_texts, factor_texts, joined, is_none}
+use Rattle.poly_mixed.specs.Text.{text, powers_texts, variable_texts, factor_texts, joined, is_none}
+use Rattle.text_core.specs.Numbers.{hex_text}
 use Rattle.cert_make.specs.declared.certificate.Entry.{Entry}
 use Rattle.cert_make.specs.private.Kept.{pair_of, pairs_of}
 use Rattle.cert_make.specs.private.TextSharing.{texts}

@@ -10,24 +10,25 @@ use Rattle.text_core.specs.Numbers.{value_of}
 use Rattle.net_core.specs.NetList.{NetList, nets}
 use Rattle.poly_mixed.specs.Labels.{Labelling, AreLabels, IsWord, bit_text, word_at}
 use Rattle.poly_mixed.specs.Polynomial.{Terms}
-use Rattle.poly_mixed.specs.Scan.{run, after, skip, name_of, index_of, closed_by, is_digit, is_hex_digit, is_letter, is_name_byte}
+use Rattle.text_core.specs.Scan.{run, after, skip, name_of, index_of, closed_by, is_digit, is_hex_digit, is_letter, is_name_byte, begins_hex}
 use Rattle.poly_mixed.specs.Text.{text}
 use Rattle.poly_mixed.specs.TextOutcome.{IsRead}
 use Rattle.poly_mixed.specs.Token.{Token, token_front, AreFront}
 use Rattle.poly_mixed.specs.laws.TextLaw.{IsWritten}
 use Rattle.poly_mixed.specs.declared.steps.Generator.{Generator}
 use Rattle.poly_mixed.specs.declared.steps.Generator.TheVariants.{Net, Bit}
-use Rattle.poly_mixed.proofs.RunLemmas.{Passes, Stops, run_front, after_front, drop_front, skip_none, skip_space, decimal_digits}
-use Rattle.poly_mixed.proofs.SpelledLemmas.{letter, name_front, word_at_place}
+use Rattle.text_core.proofs.RunLemmas.{Passes, Stops, run_front, after_front, drop_front, skip_none, skip_space}
+use Rattle.text_core.proofs.WrittenLemmas.{decimal_digits}
+use Rattle.poly_mixed.proofs.SpelledLemmas.{name_front, word_at_place}
+use Rattle.text_core.proofs.ByteLemmas.{letter, name_passes}
 use Rattle.poly_mixed.proofs.TextLaws.{reads_back}
 use Rattle.cert_check.specs.Certificate.{PolynomialOf, MultiplierOf, MultiplierBy, shared_or, shared_by, after_hash, InWords, IsInWords}
 use Rattle.cert_check.specs.Driver.{is_driven}
 use Rattle.cert_check.specs.Frame.{pair_of, share_of, end_of, after_generator, net_named, bit_found, bit_named, after_number, let_named, paired, shared, after_or, ended, let_line, frame_of, version_of, claim_text, after_output, after_claim}
-use Rattle.cert_check.specs.Scan.{after_word, after_first, after_sign, is_hex, digits_first, digits_in, digits_at, indexed, indexed_in, indexed_at}
+use Rattle.cert_check.specs.Scan.{after_word, after_first, after_sign, digits_first, digits_in, digits_at, indexed, indexed_in, indexed_at}
 use Rattle.cert_check.specs.declared.fault.LineFault.TheVariants.{Syntax, NoSuchNet, NoSuchBit, NotDriven}
 use Rattle.cert_make.specs.CertText.{generator_text, line_of, let_of, claim_line}
 use Rattle.cert_make.specs.Writable.{IsOfNet, HasName}
-use Rattle.cert_make.proofs.BytesLemmas.{name_passes}
 
 -- ---- words
 
@@ -64,7 +65,7 @@ and_false : (b : Bool) → (b && false) ≡ false
 and_false true = refl
 and_false false = refl
 
-not_hex : (ds s : List ℕ) → Passes is_digit ds → is_hex (ds ++ 32 ∷ s) ≡ false
+not_hex : (ds s : List ℕ) → Passes is_digit ds → begins_hex (ds ++ 32 ∷ s) ≡ false
 not_hex [] s pass = refl
 not_hex (d ∷ []) s pass = and_false (d == 48)
 not_hex (d ∷ e ∷ ds) s pass = ap (λ v. (d == 48) && (v && nat_lt 0 (length (run is_hex_digit (ds ++ 32 ∷ s))))) (no_x e pass.1.0) ∙ and_false (d == 48)

@@ -3,11 +3,10 @@ use Rattle.std.proofs.Common.{◌≡◌, sym, refl, subst, ℕ, zero, suc, ◌+�
 use Rattle.std.specs.List.{AllByRecursion}
 use Rattle.std.specs.Option.{option_map, option_and_then}
 use Rattle.std.proofs.lemmas.Bool.{ltb-true}
-use Rattle.poly_mixed.specs.Labels.{Labelling, AreLabels, bit_count}
+use Rattle.poly_mixed.specs.Labels.{Labelling, AreLabels, bit_count, word_of, bit_of, net_of}
 use Rattle.poly_mixed.specs.Monomial.{Monomial, text_cmp}
 use Rattle.poly_mixed.specs.Polynomial.{Terms}
 use Rattle.poly_mixed.specs.Product.{with_rank}
-use Rattle.poly_mixed.specs.Scan.{word_of, bit_of, net_of}
 use Rattle.poly_mixed.specs.Sum.{plus}
 use Rattle.poly_mixed.specs.Token.{word, bit, net}
 use Rattle.poly_mixed.specs.Grammar.{Part, number, factor}

@@ -3,16 +3,16 @@ use Rattle.std.proofs.Common.{◌≡◌, ◌≢◌, ◌∙◌, ap, sym, refl, su
 use Rattle.std.specs.List.{AllByRecursion}
 use Rattle.std.specs.Option.{option_map, unwrap_or}
 use Rattle.std.specs.Str.Lines.{lines, strip_carriage_return}
-use Rattle.std.proofs.lemmas.Bool.{eq-eqb, ltb-true, true≢false}
+use Rattle.std.proofs.lemmas.Bool.{eq-eqb, ltb-true, true≢false, ne_eqb}
 use Rattle.std.proofs.lemmas.Grind.{common_steps}
 use Rattle.std.proofs.lemmas.List.{length-append}
-use Rattle.text_core.specs.Outcome.{Outcome}
+use Rattle.lists.specs.laws.TakeLaws.{front_of}
+use Rattle.outcome.specs.Outcome.{Outcome}
 use Rattle.text_core.proofs.LineLemmas.{lines_at}
-use Rattle.graph_core.proofs.GeneralLemmas.{unequal, front_of}
 use Rattle.net_core.specs.NetList.{NetList}
 use Rattle.poly_mixed.specs.Labels.{Labelling, AreLabels, IsWord, bit_text, word_at}
 use Rattle.poly_mixed.specs.Polynomial.{Terms}
-use Rattle.poly_mixed.specs.Scan.{is_name_byte}
+use Rattle.text_core.specs.Scan.{is_name_byte}
 use Rattle.poly_mixed.specs.Steps.{Step}
 use Rattle.poly_mixed.specs.Text.{text}
 use Rattle.poly_mixed.specs.laws.TextLaw.{IsWritten}
@@ -40,7 +40,7 @@ at (b ∷ bs) zero all = ((λ e. (let h = all.0 in omega (arith, e, h))), (λ e.
 at (b ∷ bs) (suc k) all = at bs k all.1
 
 no_return : (bytes : List ℕ) → IsLine bytes → strip_carriage_return bytes ≡ bytes
-no_return bytes all = rw (unequal (get_or bytes (length bytes - 1) 0) 13 (at bytes (length bytes - 1) all).0) refl
+no_return bytes all = rw (ne_eqb (get_or bytes (length bytes - 1) 0) 13 (at bytes (length bytes - 1) all).0) refl
 
 get_front : (xs ys : List ℕ) (k : ℕ) → k < length xs → get_or (xs ++ ys) k 0 ≡ get_or xs k 0
 get_front [] ys k less = absurd (omega (arith, less))

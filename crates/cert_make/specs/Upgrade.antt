@@ -1,6 +1,6 @@
 -- The text in version 2 of what the text of a certificate says. Source: this project's own.
 use Rattle.std.specs.Prelude.{ℕ, List}
-use Rattle.text_core.specs.Outcome.{Outcome, ◌>>=◌, Exactly}
+use Rattle.outcome.specs.Outcome.{Outcome, ◌>>=◌, Exactly}
 use Rattle.net_core.specs.NetList.{NetList}
 use Rattle.poly_mixed.specs.Labels.{Labelling}
 use Rattle.cert_check.specs.Certificate.{CertificateOf}

@@ -3,7 +3,8 @@ ghost use Rattle.std.specs.Prelude.{◌≡◌, ◌∷◌, ℕ, [], replicate, If
 ghost use Rattle.std.specs.List.{AllByRecursion};
 ghost use Rattle.poly_mixed.specs.Monomial.{Monomial};
 ghost use Rattle.poly_mixed.specs.Polynomial.{IsMap};
-ghost use Rattle.poly_mixed.specs.Text.{HasNames, HasWordNames, hex_text, text};
+ghost use Rattle.poly_mixed.specs.Text.{HasNames, HasWordNames, text};
+ghost use Rattle.text_core.specs.Numbers.{hex_text};
 ghost use Rattle.cert_make.specs.Writable.{IsWritablePair};
 ghost use Rattle.cert_make.specs.private.Kept.{pairs_of};
 ghost use Rattle.cert_make.specs.private.TextSharing.{texts};
@@ -12,6 +13,7 @@ use crate::certificate::Entry;
 use crate::text_key::TextKey;
 use poly_mixed::{Labels, Mono, Poly, Term, write_poly};
 use std::alloc::{AllocError, Global};
+use text_core::push_hex;
 
 // The polynomial of these terms.
 fn poly_of(alloc: Global, terms: &[Term]) -> Result<Poly, AllocError>
@@ -66,8 +68,9 @@ fn is_one(mono: &Mono) -> bool
 fn constant_text(alloc: Global, c: u64) -> Result<Vec<u8>, AllocError>
     ensures { IfOk result (λ v. v.items ≡ hex_text c) }
 {
-    let text = format!(in alloc; "0x{:x}", c)?;
-    Vec::from_slice(alloc, text.as_bytes())
+    let mut text = Vec::new(alloc);
+    push_hex(&mut text, u128::from(c))?;
+    Ok(text)
 }
 
 // The text of the polynomial of these terms, whose variables all have names in the labels.

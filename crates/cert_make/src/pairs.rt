@@ -1,7 +1,7 @@
 //! The lines of pairs, with a `let` line before the first pair of each shared multiplier.
 ghost use Rattle.std.specs.Prelude.{◌≡◌, ◌+◌, ◌<◌, ◌≤◌, ◌^◌, ◌++◌, ℕ, [], List, IfOk, OnOk};
 ghost use Rattle.std.specs.List.{AllByRecursion};
-ghost use Rattle.net_core.specs.Lists.{Has};
+ghost use Rattle.lists.specs.Lists.{Has};
 ghost use Rattle.poly_mixed.specs.Labels.{Labelling};
 ghost use Rattle.poly_mixed.specs.Polynomial.{Terms};
 ghost use Rattle.poly_mixed.specs.Steps.{Step};

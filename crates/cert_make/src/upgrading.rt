@@ -1,6 +1,6 @@
 //! A certificate's text in version 2 from its text in either version.
 ghost use Rattle.std.specs.Prelude.{◌≡◌, ◌≤◌, length, IfOk};
-ghost use Rattle.text_core.specs.Outcome.{Fits};
+ghost use Rattle.outcome.specs.Outcome.{Fits};
 ghost use Rattle.cert_check.specs.Fault.{refusal};
 ghost use Rattle.cert_make.specs.Upgrade.{UpgradeOf};
 ghost use Rattle.cert_make.specs.Writable.{HaveNumbers};

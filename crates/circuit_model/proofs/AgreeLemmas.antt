@@ -3,6 +3,9 @@ use Rattle.std.proofs.Common.{◌≡◌, ◌∙◌, ap, sym, refl, subst, inl, i
 use Rattle.std.specs.Prelude.{slice_get, ◌==◌}
 use Rattle.std.specs.Int.{bit_at}
 use Rattle.std.proofs.lemmas.Option.{slice_get_within}
+use Rattle.lists.specs.Lists.{Has}
+use Rattle.lists.specs.laws.HasLaws.{Has_cases, All_has}
+use Rattle.lists.specs.laws.ReadLaws.{from_map, get_below}
 use Rattle.net_core.specs.NetList.{nets}
 use Rattle.net_core.specs.GateValue.{GateValue}
 use Rattle.net_core.specs.LatchValue.{LatchValue}
@@ -10,14 +13,12 @@ use Rattle.net_core.specs.Inside.{LatchIsInside}
 use Rattle.net_core.specs.Sound.{sources}
 use Rattle.net_core.specs.Level.{Levels, level_at, level_over}
 use Rattle.net_core.specs.Levelled.{AllHaveLevels}
-use Rattle.net_core.specs.Lists.{Has}
 use Rattle.net_core.specs.Value.{bit_of, index_of, IsConsistent}
-use Rattle.net_core.proofs.DriverLemmas.{Has_cases, All_has, driver_of, from_map}
+use Rattle.net_core.proofs.DriverLemmas.{driver_of}
 use Rattle.net_core.proofs.LevelLemmas.{level_within, level_from_above}
 use Rattle.net_core.proofs.EvalLemmas.{index_agree, some_level}
 use Rattle.net_core.proofs.ExistLemmas.{sound_levels}
 use Rattle.net_words.specs.Reach.{Draws}
-use Rattle.graph_core.proofs.ListLemmas.{get_below}
 use Rattle.circuit_model.specs.Word.{Word, IsInputWord, IsStateWord, word_nets}
 use Rattle.circuit_model.specs.Circuit.{Circuit, IsInNoWord, IsFree, IsInput}
 use Rattle.circuit_model.specs.Feeds.{fed_nets}

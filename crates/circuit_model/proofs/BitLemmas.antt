@@ -6,11 +6,12 @@ use Rattle.std.proofs.Math.ListN.{set}
 use Rattle.std.proofs.Math.Nat.{pow-succ'}
 use Rattle.std.proofs.lemmas.Nat.Bits.{bit_at_lowest, bit_at-suc}
 use Rattle.std.proofs.lemmas.Option.{slice_get_within}
-use Rattle.net_core.specs.Lists.{Has, times}
+use Rattle.lists.specs.Lists.{Has, times}
+use Rattle.lists.specs.laws.HasLaws.{times_get, times_append}
+use Rattle.lists.specs.laws.NumberLaws.{nat_eq_or}
+use Rattle.lists.specs.laws.ReadLaws.{got_at, get_below, get_set_same, get_set_other}
+use Rattle.lists.specs.laws.TestLaws.{one_here, none_here}
 use Rattle.net_core.specs.Value.{bit_of, index_of}
-use Rattle.net_core.proofs.DriverLemmas.{one_here, none_here, times_get, times_append}
-use Rattle.net_core.proofs.LevelLemmas.{nat_eq_or}
-use Rattle.graph_core.proofs.ListLemmas.{got_at, get_below, get_set_same, get_set_other}
 use Rattle.gf_basis.specs.Basis.{AreBits}
 use Rattle.gf_basis.specs.BasisParts.{elements_of}
 use Rattle.circuit_model.specs.declared.circuit_word.CircuitWord.{CircuitWord}

@@ -2,13 +2,12 @@
 use Rattle.std.proofs.Common.{◌≡◌, ◌∙◌, ap, sym, refl, subst, inl, inr, ℕ, zero, suc, ◌≤◌, List, [], ◌∷◌, ◌++◌, length, cond, arith}
 use Rattle.std.specs.Prelude.{filter, not}
 use Rattle.std.proofs.lemmas.List.{append-nil}
+use Rattle.lists.specs.Lists.{Has, times}
+use Rattle.lists.specs.laws.HasLaws.{none_at, Has_cases, Has_left, Has_right, All_has}
 use Rattle.graph_core.specs.Walk.{IsChain}
-use Rattle.graph_core.proofs.GeneralLemmas.{none_at}
 use Rattle.net_core.specs.LatchValue.{LatchValue}
 use Rattle.net_core.specs.NetList.{NetList}
 use Rattle.net_core.specs.Sound.{IsSound, Needs}
-use Rattle.net_core.specs.Lists.{Has, times}
-use Rattle.net_core.proofs.DriverLemmas.{Has_cases, Has_left, Has_right, All_has}
 use Rattle.net_words.specs.Binding.{BoundNet}
 use Rattle.net_words.specs.BoundTo.{StandsOn, output_bits, output_bits_with}
 use Rattle.net_words.specs.OneCycle.{IsOneCycle}

@@ -1,9 +1,9 @@
 -- Bits for words that have given elements.
 use Rattle.std.proofs.Common.{◌≡◌, ◌∙◌, ap, sym, refl, subst, ℕ, zero, suc, ◌<◌, ◌^◌, Bool, List, [], ◌∷◌, ◌++◌, length, Some, arith}
 use Rattle.std.specs.Prelude.{slice_get}
-use Rattle.net_core.specs.Lists.{Has}
+use Rattle.lists.specs.Lists.{Has}
+use Rattle.lists.specs.laws.HasLaws.{Has_left, Has_right}
 use Rattle.net_core.specs.Value.{bit_of}
-use Rattle.net_core.proofs.DriverLemmas.{Has_left, Has_right}
 use Rattle.gf_basis.specs.Basis.{IsBasis, AreBits}
 use Rattle.circuit_model.specs.Word.{Word, HasElement, word_nets}
 use Rattle.circuit_model.proofs.GivenLemmas.{Pairs, keys, Gives, has_key}

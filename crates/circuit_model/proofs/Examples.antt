@@ -1,10 +1,10 @@
 -- Small worked examples of the definitions of specs/, which the check computes: the net y = a AND b as a circuit over the
 -- field of 0 and 1, with words A and B of one bit and the output Z; and words of two bits over the field of four elements.
 use Rattle.std.proofs.Common.{◌≡◌, ℕ, zero, suc, ◌<◌, [], ◌∷◌, List, Bool, ◌&&◌, cond, true, false, Some, codes, slice_get, refl, arith}
+use Rattle.lists.specs.Lists.{Has}
 use Rattle.gf_field.specs.Bit.{bit_mul}
 use Rattle.net_core.specs.GateValue.{GateValue}
 use Rattle.net_core.specs.LatchValue.{LatchValue}
-use Rattle.net_core.specs.Lists.{Has}
 use Rattle.net_core.specs.NetList.{NetList, LabelValue}
 use Rattle.net_core.specs.Value.{IsRight}
 use Rattle.net_words.specs.declared.word.Role.{Role}

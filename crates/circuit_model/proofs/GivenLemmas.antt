@@ -2,10 +2,11 @@
 use Rattle.std.proofs.Common.{◌≡◌, ◌≢◌, ◌⊎◌, ◌∙◌, ap, refl, inl, inr, ℕ, zero, suc, ◌<◌, ◌≤◌, Bool, List, [], ◌∷◌, length, Some, cond, arith}
 use Rattle.std.specs.Prelude.{slice_get, ◌==◌}
 use Rattle.std.proofs.lemmas.Bool.Decides.{nat_tests}
-use Rattle.net_core.specs.Lists.{Has, times}
+use Rattle.lists.specs.Lists.{Has, times}
+use Rattle.lists.specs.laws.HasLaws.{times_get, times_some}
+use Rattle.lists.specs.laws.NumberLaws.{nat_eq_or}
+use Rattle.lists.specs.laws.TestLaws.{one_here}
 use Rattle.net_core.specs.Value.{bit_of}
-use Rattle.net_core.proofs.DriverLemmas.{times_get, times_some, one_here}
-use Rattle.net_core.proofs.LevelLemmas.{nat_eq_or}
 
 -- nets with bits
 abbrev pub Pairs : Type 0

@@ -2,12 +2,11 @@
 use Rattle.std.proofs.Common.{◌≡◌, ◌⊎◌, ◌∙◌, ap, sym, refl, subst, inl, inr, ℕ, zero, suc, ◌<◌, ◌≤◌, ◌&&◌, true, false, List, [], ◌∷◌, ◌++◌, length, map, take, Some, cond, arith}
 use Rattle.std.specs.Prelude.{filter, not, slice_get}
 use Rattle.std.proofs.lemmas.Bool.{true≢false}
+use Rattle.lists.specs.Lists.{Has, times}
+use Rattle.lists.specs.laws.HasLaws.{Has_cases, All_has, none_at}
+use Rattle.lists.specs.laws.ReadLaws.{from_map, get_below}
 use Rattle.net_core.specs.NetList.{NetList, nets}
 use Rattle.net_core.specs.Sound.{IsSound}
-use Rattle.net_core.specs.Lists.{Has, times}
-use Rattle.net_core.proofs.DriverLemmas.{Has_cases, All_has, from_map}
-use Rattle.graph_core.proofs.ListLemmas.{get_below}
-use Rattle.graph_core.proofs.GeneralLemmas.{none_at}
 use Rattle.net_words.specs.Binding.{BoundNet, HasWidth}
 use Rattle.net_words.specs.BoundTo.{IsBoundTo, StandsOn, output_bits}
 use Rattle.net_words.specs.Feeds.{IsSource as IsBoundSource, fed_nets as bound_fed_nets}

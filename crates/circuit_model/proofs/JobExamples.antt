@@ -3,11 +3,11 @@
 use Rattle.std.proofs.Common.{◌≡◌, ◌∙◌, ap, ◌+◌, sym, refl, subst, ℕ, zero, suc, ◌<◌, [], ◌∷◌, List, Bool, true, false, length, Some, codes, slice_get, arith}
 use Rattle.std.specs.Prelude.{◌==◌}
 use Rattle.std.specs.Int.{bit_at}
+use Rattle.lists.specs.Lists.{Has}
 use Rattle.gf_field.specs.Bit.{bit_mul}
 use Rattle.gf_basis.specs.Basis.{AreBits}
 use Rattle.net_core.specs.GateValue.{GateValue}
 use Rattle.net_core.specs.LatchValue.{LatchValue}
-use Rattle.net_core.specs.Lists.{Has}
 use Rattle.net_core.specs.NetList.{NetList}
 use Rattle.net_core.specs.Value.{bit_of}
 use Rattle.net_core.specs.declared.latch.Start.TheVariants.{One}

@@ -1,11 +1,11 @@
 -- A well-formed circuit is a job to which nothing is fed, and whose words all stand on nets.
 use Rattle.std.proofs.Common.{◌≡◌, ◌≢◌, ◌∙◌, sym, refl, subst, ℕ, ◌↔◌, Bool, List, [], arith}
-use Rattle.net_core.specs.Lists.{Has}
+use Rattle.lists.specs.Lists.{Has}
+use Rattle.lists.specs.laws.HasLaws.{none_at as none_of}
+use Rattle.lists.specs.laws.ReadLaws.{get_below}
 use Rattle.net_words.specs.BoundTo.{StandsOn}
 use Rattle.net_words.specs.declared.word.Role.{Role}
 use Rattle.net_words.specs.declared.word.Role.TheVariants.{Input, State, Fed, Output}
-use Rattle.graph_core.proofs.ListLemmas.{get_below}
-use Rattle.graph_core.proofs.GeneralLemmas.{none_at as none_of}
 use Rattle.circuit_model.specs.declared.circuit_feed.CircuitFeed.{CircuitFeed}
 use Rattle.circuit_model.specs.Feeds.{fed_nets}
 use Rattle.circuit_model.specs.Word.{Word, HasElement}
@@ -28,8 +28,8 @@ no_fed_word c well w has is =
     let stands : StandsOn c.net Fed n.0 = subst P is (well.places w n.0 has (0, n.1)) in
     stands
 
-pub job_of : (c : Circuit) → IsWellFormed c → IsJob c
-job_of c well = record {
+pub well_formed_is_job : (c : Circuit) → IsWellFormed c → IsJob c
+well_formed_is_job c well = record {
   ring = well.ring;
   no_zero_divisors = well.no_zero_divisors;
   sound = well.sound;
@@ -65,7 +65,7 @@ well_of c job unfed standing = record {
 }
 
 pub well_formed_job : (c : Circuit) → IsWellFormed c ↔ (IsJob c × (c.feeds ≡ []) × ((w : Word) → Has c.words w → w.role ≢ Fed))
-well_formed_job c = ((λ well. (job_of c well, well.unfed, no_fed_word c well)), λ is. well_of c is.0 is.1 is.2)
+well_formed_job c = ((λ well. (well_formed_is_job c well, well.unfed, no_fed_word c well)), λ is. well_of c is.0 is.1 is.2)
 
 -- in the first cycle each word of a well-formed circuit has its element
 pub first_elements : (c : Circuit) (xs : List ℕ) (bits : List Bool) → IsWellFormed c → IsClockCycle c xs 0 bits → IsFirst c xs bits → HaveElements c IsAnyWord xs bits

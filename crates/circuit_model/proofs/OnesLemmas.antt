@@ -7,8 +7,7 @@ use Rattle.std.proofs.lemmas.Bool.{cases_lt, cases_order}
 use Rattle.std.proofs.lemmas.Nat.Bits.{bit_at-lt, same_from_bits_below}
 use Rattle.std.proofs.lemmas.List.{length-map}
 use Rattle.std.proofs.lemmas.Option.{slice_get_within, slice_get-map}
-use Rattle.graph_core.proofs.GraphLemmas.{same_lists}
-use Rattle.graph_core.proofs.ListLemmas.{get_below}
+use Rattle.lists.specs.laws.ReadLaws.{same_lists, get_below, from_map}
 use Rattle.irreducible.specs.Span.{combination}
 use Rattle.gf_basis.specs.Basis.{AreBits}
 use Rattle.circuit_model.specs.Word.{Word}
@@ -16,7 +15,6 @@ use Rattle.circuit_model.specs.Alike.{AreAlike}
 use Rattle.circuit_model.specs.Circuit.{Circuit, IsInput}
 use Rattle.circuit_model.specs.Ones.{IsOne, AreOnes}
 use Rattle.circuit_model.specs.WellFormed.{IsWellFormed}
-use Rattle.net_core.proofs.DriverLemmas.{from_map}
 
 -- ---- ranks
 

@@ -1,10 +1,10 @@
 -- A job has one output at each input, whatever bits the inputs have that are in no word and not fed.
 use Rattle.std.proofs.Common.{◌≡◌, ◌∙◌, sym, refl, subst, inl, inr, ℕ, ◌<◌, ◌^◌, ◌↔◌, Bool, List, [], ◌∷◌, ◌++◌, length, Some, arith}
 use Rattle.std.specs.Prelude.{slice_get}
+use Rattle.lists.specs.laws.ReadLaws.{get_below}
 use Rattle.net_core.specs.Value.{index_of}
 use Rattle.net_core.proofs.EvalLemmas.{index_agree}
 use Rattle.net_words.specs.Reach.{Draws, Reaches}
-use Rattle.graph_core.proofs.ListLemmas.{get_below}
 use Rattle.irreducible.specs.Span.{combination}
 use Rattle.irreducible.specs.laws.SpanLaws.{combination_below}
 use Rattle.gf_field.specs.Element.{AreElements}
@@ -16,7 +16,7 @@ use Rattle.circuit_model.specs.Run.{IsOpenRun}
 use Rattle.circuit_model.specs.Out.{Ends, IsOut}
 use Rattle.circuit_model.proofs.WordLemmas.{same_element, moved, index_small}
 use Rattle.circuit_model.proofs.AgreeLemmas.{agree}
-use Rattle.circuit_model.proofs.JobLemmas.{job_of}
+use Rattle.circuit_model.proofs.JobLemmas.{well_formed_is_job}
 use Rattle.circuit_model.proofs.SomeRunLemmas.{some_run}
 use Rattle.net_core.proofs.ExistLemmas.{chain_more}
 
@@ -74,10 +74,10 @@ job_open_out c xs run e well is = (
 
 -- the same of well-formed circuits, to which nothing is fed
 pub some_out : (c : Circuit) (xs : List ℕ) → IsWellFormed c → IsInput c xs → (e : ℕ) × IsOut c xs e × (e < 2 ^ c.k)
-some_out c xs well input = job_some_out c xs (job_of c well) input
+some_out c xs well input = job_some_out c xs (well_formed_is_job c well) input
 
 pub one_out : (c : Circuit) (xs : List ℕ) (e other : ℕ) → IsWellFormed c → IsOut c xs e → IsOut c xs other → e ≡ other
-one_out c xs e other well a b = job_one_out c xs e other (job_of c well) a b
+one_out c xs e other well a b = job_one_out c xs e other (well_formed_is_job c well) a b
 
 pub open_out : (c : Circuit) (xs : List ℕ) (run : List (List Bool)) (e : ℕ) → IsWellFormed c → IsOpenRun c xs run → Ends c run e ↔ IsOut c xs e
-open_out c xs run e well is = job_open_out c xs run e (job_of c well) is
+open_out c xs run e well is = job_open_out c xs run e (well_formed_is_job c well) is

@@ -2,9 +2,9 @@
 use Rattle.std.proofs.Common.{◌≡◌, ℕ, zero, suc, ◌<◌, ◌+◌, cond, List, [], ◌∷◌, ◌++◌, length, get_or, take, drop, filter, Some, refl, sym, ap, ◌∙◌, arith}
 use Rattle.std.specs.Prelude.{slice_get}
 use Rattle.std.proofs.lemmas.List.{append_assoc, length-append}
-use Rattle.net_core.specs.Lists.{Has}
+use Rattle.lists.specs.Lists.{Has}
+use Rattle.lists.specs.laws.HasLaws.{All_has}
 use Rattle.net_core.specs.NetList.{NetList}
-use Rattle.net_core.proofs.DriverLemmas.{All_has}
 use Rattle.net_words.specs.Binding.{Binding}
 use Rattle.net_words.specs.BoundTo.{output_bits, output_bits_with}
 use Rattle.net_words.specs.OneCycle.{IsOneCycle}

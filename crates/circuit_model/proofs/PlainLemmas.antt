@@ -6,12 +6,12 @@ use Rattle.std.specs.Option.{option_eq}
 use Rattle.std.proofs.lemmas.Bool.Decides.{nat_tests}
 use Rattle.std.proofs.lemmas.List.{length-map}
 use Rattle.std.proofs.lemmas.Option.{slice_get_within}
+use Rattle.lists.specs.Lists.{Has}
+use Rattle.lists.specs.laws.HasLaws.{Has_left, Has_right}
+use Rattle.lists.specs.laws.ReadLaws.{from_map, get_below}
 use Rattle.net_core.specs.NetList.{NetList}
 use Rattle.net_core.specs.LatchValue.{LatchValue}
-use Rattle.net_core.specs.Lists.{Has}
 use Rattle.net_core.specs.Value.{bit_of, IsConsistent, HasValues}
-use Rattle.net_core.proofs.DriverLemmas.{Has_left, Has_right, from_map}
-use Rattle.graph_core.proofs.ListLemmas.{get_below}
 use Rattle.net_words.specs.BoundTo.{StandsOn}
 use Rattle.net_words.specs.declared.word.Role.{Role}
 use Rattle.net_words.specs.declared.word.Role.TheVariants.{Input, State, Fed, Output}

@@ -1,7 +1,7 @@
 -- The first of a list and the rest, as slices give them.
 use Rattle.std.proofs.Common.{◌≡◌, ap, sym, refl, ◌∙◌, ℕ, zero, suc, ◌≤◌, ◌-◌, List, [], ◌∷◌, length, take, drop, Some, arith}
 use Rattle.std.specs.Prelude.{slice_get, slice_index_or}
-use Rattle.net_core.specs.Lists.{Has}
+use Rattle.lists.specs.Lists.{Has}
 
 take_whole : {X : Type 0} (n : ℕ) (xs : List X) → n ≡ length xs → take n xs ≡ xs
 take_whole zero [] same = refl

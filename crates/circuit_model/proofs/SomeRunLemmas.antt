@@ -1,12 +1,12 @@
 -- A circuit has a run at each input.
 use Rattle.std.proofs.Common.{◌≡◌, ◌∙◌, ap, sym, refl, subst, ℕ, zero, suc, ◌≤◌, ◌+◌, Bool, false, List, [], ◌∷◌, length, Some, map, arith}
 use Rattle.std.specs.Prelude.{slice_get}
+use Rattle.lists.specs.Lists.{Has, times}
+use Rattle.lists.specs.laws.HasLaws.{Has_left, Has_right, Has_map}
 use Rattle.net_core.specs.NetList.{nets}
 use Rattle.net_core.specs.LatchValue.{LatchValue}
 use Rattle.net_core.specs.Sound.{sources}
-use Rattle.net_core.specs.Lists.{Has, times}
 use Rattle.net_core.specs.Value.{bit_of, IsConsistent}
-use Rattle.net_core.proofs.DriverLemmas.{Has_left, Has_right, Has_map}
 use Rattle.net_core.proofs.ExistLemmas.{sound_some}
 use Rattle.net_words.specs.BoundTo.{StandsOn}
 use Rattle.net_words.specs.declared.word.Role.{Role}

@@ -1,7 +1,7 @@
 -- The circuit of words that are taken, each with a basis, is well-formed.
 use Rattle.std.proofs.Common.{◌≡◌, ◌∙◌, ap, sym, ℕ, List, [], ◌∷◌, ◌++◌, ◌+◌, length, map, Ok, arith}
 use Rattle.std.proofs.lemmas.List.{length-append}
-use Rattle.net_core.specs.Lists.{Has}
+use Rattle.lists.specs.Lists.{Has}
 use Rattle.net_core.specs.NetList.{NetList}
 use Rattle.net_core.specs.Sound.{IsSound}
 use Rattle.net_words.specs.Bind.{BoundOf, BindingOf, bound_word}

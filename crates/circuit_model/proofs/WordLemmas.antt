@@ -3,9 +3,9 @@ use Rattle.std.proofs.Common.{◌≡◌, ◌∙◌, ap, sym, refl, subst, ℕ, z
 use Rattle.std.specs.Prelude.{slice_get, ◌==◌}
 use Rattle.std.proofs.Math.Nat.{pow-succ'}
 use Rattle.std.proofs.lemmas.Bool.Decides.{nat_tests}
-use Rattle.net_core.specs.Lists.{Has}
+use Rattle.lists.specs.Lists.{Has}
+use Rattle.lists.specs.laws.HasLaws.{Has_left, Has_right}
 use Rattle.net_core.specs.Value.{bit_of, index_of}
-use Rattle.net_core.proofs.DriverLemmas.{Has_left, Has_right}
 use Rattle.gf_basis.specs.Basis.{IsBasis, AreBits}
 use Rattle.circuit_model.specs.Word.{Word, HasElement, word_nets}
 use Rattle.circuit_model.proofs.GivenLemmas.{Pairs, keys, Gives}

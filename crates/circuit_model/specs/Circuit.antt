@@ -1,7 +1,7 @@
 -- Circuits: net lists with words over a field, and what is fed to them. Source: this project's own, docs/DEFINITIONS.md.
 use Rattle.std.specs.Prelude.{◌≡◌, ℕ, ◌<◌, ◌^◌, List, length}
+use Rattle.lists.specs.Lists.{Has}
 use Rattle.net_core.specs.NetList.{NetList, nets}
-use Rattle.net_core.specs.Lists.{Has}
 use Rattle.circuit_model.specs.declared.circuit_feed.CircuitFeed.{CircuitFeed}
 use Rattle.circuit_model.specs.Word.{Word, word_nets}
 use Rattle.circuit_model.specs.Feeds.{fed_nets}

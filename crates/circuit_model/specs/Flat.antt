@@ -1,7 +1,7 @@
 -- Circuits of one cycle that a program is given part by part. Source: this project's own.
 use Rattle.std.specs.Prelude.{ℕ, List, [], map}
+use Rattle.lists.specs.Lists.{Has}
 use Rattle.net_core.specs.NetList.{NetList}
-use Rattle.net_core.specs.Lists.{Has}
 use Rattle.gf_basis.specs.BasisParts.{elements_of, IsBasisOver}
 use Rattle.circuit_model.specs.declared.circuit_word.CircuitWord.{CircuitWord}
 use Rattle.circuit_model.specs.Word.{Word}

@@ -1,8 +1,8 @@
 -- What makes a circuit a job, whose words stand on nets or are fed bit by bit. Source: this project's own, docs/DEFINITIONS.md.
 use Rattle.std.specs.Prelude.{◌≡◌, ◌≢◌, ℕ, ◌<◌, ◌≤◌, List, Some, length, slice_get}
+use Rattle.lists.specs.Lists.{Has, times}
 use Rattle.net_core.specs.LatchValue.{LatchValue}
 use Rattle.net_core.specs.Sound.{IsSound}
-use Rattle.net_core.specs.Lists.{Has, times}
 use Rattle.net_core.specs.declared.latch.Start.TheVariants.{Unknown}
 use Rattle.net_words.specs.BoundTo.{StandsOn}
 use Rattle.net_words.specs.Reach.{Reaches}

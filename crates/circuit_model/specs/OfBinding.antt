@@ -1,7 +1,7 @@
 -- The circuit of a net list in one cycle and of the words that are bound to it: all its words are on primary inputs, and so
 -- input words of the circuit. Source: this project's own.
 use Rattle.std.specs.Prelude.{◌≡◌, ℕ, List, [], ◌∷◌, ◌++◌, length}
-use Rattle.net_core.specs.Lists.{Has}
+use Rattle.lists.specs.Lists.{Has}
 use Rattle.net_words.specs.Binding.{BoundNet}
 use Rattle.net_words.specs.BoundTo.{output_bits}
 use Rattle.net_words.specs.declared.bound.BoundWord.{BoundWord}

@@ -1,9 +1,9 @@
 -- Runs of circuits. Source: the latches of the BLIF format of UC Berkeley.
 use Rattle.std.specs.Prelude.{◌≡◌, ◌==◌, ℕ, ◌+◌, Bool, true, false, List, Some, length, slice_get}
 use Rattle.std.specs.Int.{bit_at}
+use Rattle.lists.specs.Lists.{Has}
 use Rattle.net_core.specs.LatchValue.{LatchValue}
 use Rattle.net_core.specs.Value.{bit_of, IsConsistent}
-use Rattle.net_core.specs.Lists.{Has}
 use Rattle.net_core.specs.declared.latch.Start.{Start}
 use Rattle.net_core.specs.declared.latch.Start.TheVariants.{Zero, One, Unknown}
 use Rattle.gf_basis.specs.Basis.{AreBits}

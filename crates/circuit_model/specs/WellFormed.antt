@@ -1,8 +1,8 @@
 -- What makes a circuit well-formed whose words all stand on nets, and to which nothing is fed. Source: this project's own.
 use Rattle.std.specs.Prelude.{◌≡◌, ◌≢◌, ℕ, ◌≤◌, [], length}
+use Rattle.lists.specs.Lists.{Has, times}
 use Rattle.net_core.specs.LatchValue.{LatchValue}
 use Rattle.net_core.specs.Sound.{IsSound}
-use Rattle.net_core.specs.Lists.{Has, times}
 use Rattle.net_core.specs.declared.latch.Start.TheVariants.{Unknown}
 use Rattle.net_words.specs.BoundTo.{StandsOn}
 use Rattle.net_words.specs.Reach.{Reaches}

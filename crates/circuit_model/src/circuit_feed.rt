@@ -1,7 +1,7 @@
 //! What is fed to a circuit, cycle by cycle.
 
 /// Where the bit of a fed net comes from.
-#[derive(Clone, Copy, Debug)]
+#[derive(Clone, Copy)]
 pub enum FeedSource {
     /// This bit.
     Constant(bool),
@@ -10,7 +10,7 @@ pub enum FeedSource {
 }
 
 /// A feed of a circuit.
-#[derive(Clone, Copy, Debug)]
+#[derive(Clone, Copy)]
 pub struct CircuitFeed {
     /// The primary input, by its number.
     pub net: u32,

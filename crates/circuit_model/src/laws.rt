@@ -1,6 +1,6 @@
 //! Laws of circuits. These functions do nothing: their contracts are proved of the definitions alone.
 ghost use Rattle.std.specs.Prelude.{◌≡◌, ◌≢◌, ◌<◌, ◌^◌, ◌↔◌, not, Bool, List, [], ℕ, Ok, filter, length, map};
-ghost use Rattle.net_core.specs.Lists.{Has};
+ghost use Rattle.lists.specs.Lists.{Has};
 ghost use Rattle.net_core.specs.NetList.{NetList};
 ghost use Rattle.net_core.specs.Sound.{IsSound};
 ghost use Rattle.net_words.specs.Bind.{BindingOf};

@@ -1,7 +1,7 @@
 //! The basis and the nets of the output word.
 ghost use Rattle.std.specs.Prelude.{◌≡◌, ◌<◌, ◌++◌, map, length, slice_get, IfOk, OnOk, Some};
+ghost use Rattle.lists.specs.Lists.{Has};
 ghost use Rattle.gf_basis.specs.BasisParts.{elements_of};
-ghost use Rattle.net_core.specs.Lists.{Has};
 ghost use Rattle.net_words.specs.Binding.{IsBinding};
 ghost use Rattle.net_words.specs.BoundTo.{output_bits, output_bits_with};
 ghost use Rattle.net_words.specs.Roles.{same_role};

@@ -1,7 +1,7 @@
 //! The output of a circuit without latches, gate by gate.
 ghost use Rattle.std.specs.Prelude.{◌≡◌, ◌==◌, ◌≤◌, ◌<◌, ◌^◌, ◌↔◌, ℕ, [], Some, length, IfOk, IfSome, IsSome, IsTrue, slice_get, false};
 ghost use Rattle.std.specs.Int.{bit_at};
-ghost use Rattle.net_core.specs.Lists.{Has, times};
+ghost use Rattle.lists.specs.Lists.{Has, times};
 ghost use Rattle.gf_basis.specs.BasisParts.{IsBasisOver};
 ghost use Rattle.circuit_model.specs.Word.{HasElement};
 ghost use Rattle.circuit_model.specs.WellFormed.{IsWellFormed};

@@ -1,7 +1,7 @@
 -- At most one answer comes of the words, where the shelf tells what it holds.
 use Rattle.std.proofs.Common.{◌≡◌, ◌⊎◌, ◌∙◌, ap, sym, inl, inr, ℕ, ◌*◌, ◌^◌, ◌<◌, List, length, Option, None, Some, Ok, Err, arith}
 use Rattle.std.specs.FinMap.{get}
-use Rattle.text_core.specs.Outcome.{Determined, Exactly, Within}
+use Rattle.outcome.specs.Outcome.{Determined, Exactly, Within}
 use Rattle.job_io.specs.Shelf.{Files}
 use Rattle.net_flat.proofs.FlatDetermined.{determined_after, determined_within}
 use Rattle.job_words.specs.declared.fault.Fault.TheVariants.{File, Signature, SecondSignature, Netlist, Specification, Value}
@@ -31,33 +31,33 @@ use Rattle.job_input.proofs.SettingSoundLemmas.{setting_sound}
 use Rattle.job_input.proofs.SpecificationDetermined.{specification_determined}
 use Rattle.job_input.proofs.TableDetermined.{table_determined as table_text_determined}
 use Rattle.gf_abs.specs.Answer.{Spelled, ActionAnswer, SignedAnswer, JobAnswer, Answer}
-use Rattle.gf_abs.specs.commands.Bits.{BitsReply}
-use Rattle.gf_abs.specs.commands.Abstract.{AbstractReply}
-use Rattle.gf_abs.specs.commands.Check.{CheckReply, CheckUnrolled, CheckOver}
-use Rattle.gf_abs.specs.commands.Compose.{ComposeAnswer, ComposeOver}
-use Rattle.gf_abs.specs.commands.Eval.{EvalAt, EvalOver, EvalReply}
-use Rattle.gf_abs.specs.commands.Iso.{IsoReply}
-use Rattle.gf_abs.specs.commands.Lift.{LiftOver, LiftReply, SmallEnough, table_words}
-use Rattle.gf_abs.specs.commands.Table.{TableOver, TableReply}
-use Rattle.gf_abs.specs.Certificates.{CertifiedBy, CertifiedIn, CertifiedOver}
-use Rattle.gf_abs.specs.commands.Certify.{CertifyReply}
-use Rattle.gf_abs.specs.commands.Upgrade.{UpgradeReply}
-use Rattle.gf_abs.specs.commands.Verify.{VerifyReply}
-use Rattle.gf_abs.specs.commands.Same.{SameReply, SameSecond, SameUnrolled, SameBeside}
-use Rattle.gf_abs.specs.Values.{ValuesOf}
-use Rattle.gf_abs.proofs.BlockSettingLemmas.{setting_blocks, CanBindBlocks}
-use Rattle.gf_abs.proofs.CertificateDetermined.{upgrade_determined, verify_determined}
-use Rattle.gf_abs.proofs.CertifyLemmas.{certify_determined}
-use Rattle.gf_abs.proofs.CheckDetermined.{check_determined}
-use Rattle.gf_abs.proofs.ComposeDetermined.{compose_determined, hierarchy_determined}
-use Rattle.gf_abs.proofs.ComposeLineLemmas.{hierarchy_right}
-use Rattle.gf_abs.proofs.EvalDetermined.{eval_determined, values_determined}
-use Rattle.gf_abs.proofs.IsoLemmas.{iso_determined}
-use Rattle.gf_abs.proofs.MakeLemmas.{make_determined}
-use Rattle.gf_abs.proofs.TrialLemmas.{trial_determined}
-use Rattle.gf_abs.proofs.TableLemmas.{lift_determined, small_determined, table_determined}
-use Rattle.gf_abs.proofs.ReplyDetermined.{bits_determined, abstract_determined}
-use Rattle.gf_abs.proofs.SameDetermined.{same_determined}
+use Rattle.answer_polynomials.specs.Bits.{BitsReply}
+use Rattle.answer_polynomials.specs.Abstract.{AbstractReply}
+use Rattle.answer_polynomials.specs.Check.{CheckReply, CheckUnrolled, CheckOver}
+use Rattle.answer_composition.specs.Compose.{ComposeAnswer, ComposeOver}
+use Rattle.answer_polynomials.specs.Eval.{EvalAt, EvalOver, EvalReply}
+use Rattle.answer_tables.specs.Iso.{IsoReply}
+use Rattle.answer_tables.specs.Lift.{LiftOver, LiftReply, SmallEnough, table_words}
+use Rattle.answer_tables.specs.Table.{TableOver, TableReply}
+use Rattle.answer_certificates.specs.Certificates.{CertifiedBy, CertifiedIn, CertifiedOver}
+use Rattle.answer_certificates.specs.Certify.{CertifyReply}
+use Rattle.answer_certificates.specs.Upgrade.{UpgradeReply}
+use Rattle.answer_certificates.specs.Verify.{VerifyReply}
+use Rattle.answer_polynomials.specs.Same.{SameReply, SameSecond, SameUnrolled, SameBeside}
+use Rattle.answer_polynomials.specs.Values.{ValuesOf}
+use Rattle.answer_composition.proofs.BlockSettingLemmas.{setting_blocks, CanBindBlocks}
+use Rattle.answer_certificates.proofs.CertificateDetermined.{upgrade_determined, verify_determined}
+use Rattle.answer_certificates.proofs.CertifyLemmas.{certify_determined}
+use Rattle.answer_polynomials.proofs.CheckDetermined.{check_determined}
+use Rattle.answer_composition.proofs.ComposeDetermined.{compose_determined, hierarchy_determined}
+use Rattle.answer_composition.proofs.ComposeLineLemmas.{hierarchy_right}
+use Rattle.answer_polynomials.proofs.EvalDetermined.{eval_determined, values_determined}
+use Rattle.answer_tables.proofs.IsoLemmas.{iso_determined}
+use Rattle.answer_makers.proofs.MakeLemmas.{make_determined}
+use Rattle.answer_makers.proofs.TrialLemmas.{trial_determined}
+use Rattle.answer_tables.proofs.TableLemmas.{lift_determined, small_determined, table_determined}
+use Rattle.answer_polynomials.proofs.ReplyDetermined.{bits_determined, abstract_determined}
+use Rattle.answer_polynomials.proofs.SameDetermined.{same_determined}
 
 same_some : {A : Type 0} (a b : A) → ◌≡◌ {A = Option A} (Some a) (Some b) → a ≡ b
 same_some a b e = cc

@@ -1,7 +1,7 @@
 -- What the answers of `bits` say, out of what comes of their steps.
 use Rattle.std.proofs.Common.{◌≡◌, ◌∙◌, ap, refl, sym, subst, ℕ, ◌+◌, ◌*◌, ◌≤◌, List, length, Some, Ok, ◌↔◌, arith}
+use Rattle.lists.specs.laws.HasLaws.{All_has}
 use Rattle.job_io.specs.Shelf.{Files}
-use Rattle.net_core.proofs.DriverLemmas.{All_has}
 use Rattle.net_words.specs.Binding.{BoundNet}
 use Rattle.poly_mixed.specs.Labels.{bit_count}
 use Rattle.poly_mixed.specs.Polynomial.{Terms, value}
@@ -28,18 +28,19 @@ use Rattle.job_input.specs.NetlistOf.{by_ending}
 use Rattle.job_input.specs.SettingValue.{SettingValue}
 use Rattle.job_input.proofs.CircuitLabelLemmas.{counted}
 use Rattle.gf_abs.specs.Answer.{JobAnswer}
-use Rattle.gf_abs.specs.Headline.{IsTaken, AreHeld, AnswersBits, AreOneFunction, HasOutputInBits, IsInItsBits, IsPrintedInBits, PrintsHeldInBits}
-use Rattle.gf_abs.specs.Reply.{Reply, polynomial_line}
-use Rattle.gf_abs.specs.commands.Abstract.{taken_circuit}
-use Rattle.gf_abs.specs.commands.Bits.{BitsReply}
-use Rattle.gf_abs.proofs.AlikeLemmas.{alike}
-use Rattle.gf_abs.proofs.EqualLabelLemmas.{few_bits}
-use Rattle.gf_abs.proofs.EqualLemmas.{count, in_bits, labels, one_written, roles, sound, well}
+use Rattle.gf_abs.specs.Headline.{AnswersBits}
+use Rattle.answer_core.specs.Printed.{IsTaken, AreHeld, AreOneFunction, HasOutputInBits, IsInItsBits, IsPrintedInBits, PrintsHeldInBits}
+use Rattle.answer_core.specs.Reply.{Reply, polynomial_line}
+use Rattle.answer_core.specs.Abstraction.{taken_circuit}
+use Rattle.answer_polynomials.specs.Bits.{BitsReply}
+use Rattle.answer_polynomials.proofs.AlikeLemmas.{alike}
+use Rattle.answer_core.proofs.EqualLabelLemmas.{few_bits}
+use Rattle.answer_polynomials.proofs.EqualLemmas.{count, in_bits, labels, one_written, roles, sound, well}
 use Rattle.gf_abs.proofs.HeadlineLemmas.{IsUnrolled, held_job, one_held, one_setting, unrolled}
-use Rattle.gf_abs.proofs.JobLemmas.{long}
-use Rattle.gf_abs.proofs.NamedLemmas.{named_terms}
-use Rattle.gf_abs.proofs.TakenLemmas.{bases_long, circuit_bits, one_cycle}
-use Rattle.gf_abs.proofs.WordNamesLemmas.{bits_in_first}
+use Rattle.answer_core.proofs.JobLemmas.{long}
+use Rattle.answer_core.proofs.NamedLemmas.{named_terms}
+use Rattle.answer_core.proofs.TakenLemmas.{bases_long, circuit_bits, one_cycle}
+use Rattle.answer_core.proofs.WordNamesLemmas.{bits_in_first}
 
 -- ---- the line of what stands in bits
 

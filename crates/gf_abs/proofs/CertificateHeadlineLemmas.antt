@@ -1,8 +1,8 @@
 -- What the answers of `certify`, `verify` and `upgrade` say, out of what comes of their steps.
 use Rattle.std.proofs.Common.{◌≡◌, ◌∙◌, ap, refl, sym, subst, ℕ, ◌*◌, ◌^◌, ◌<◌, ◌≤◌, List, [], ◌∷◌, ◌++◌, length, Some, Ok, codes, arith}
 use Rattle.std.proofs.lemmas.List.{length-append}
+use Rattle.lists.specs.laws.OptionLaws.{same_ok}
 use Rattle.job_io.specs.Shelf.{Files}
-use Rattle.text_core.proofs.GeneralLemmas.{same_ok}
 use Rattle.net_core.specs.NetList.{nets}
 use Rattle.net_core.specs.Sound.{IsSound}
 use Rattle.net_words.specs.Binding.{BoundNet}
@@ -13,10 +13,9 @@ use Rattle.poly_mixed.specs.Steps.{Step}
 use Rattle.poly_mixed.specs.Text.{text}
 use Rattle.circuit_model.specs.Circuit.{Circuit}
 use Rattle.circuit_model.specs.OfBinding.{circuit_with}
-use Rattle.stage_model.specs.CircuitListing.{circuit_stages}
+use Rattle.stage_model.specs.CircuitListing.{circuit_stages, circuit_cuts}
 use Rattle.stage_model.specs.Listing.{AreAllWithin, Earlier, Later}
 use Rattle.stage_model.specs.WordListing.{word_listing}
-use Rattle.stage_model.specs.CircuitListing.{circuit_cuts}
 use Rattle.stage_model.proofs.BoundLemmas.{bound_within}
 use Rattle.stage_model.proofs.ListingLemmas.{both_within}
 use Rattle.cert_check.specs.Labels.{NameWords}
@@ -48,19 +47,19 @@ use Rattle.job_input.proofs.SettingSoundLemmas.{setting_sound}
 use Rattle.job_input.proofs.SignedLemmas.{setting_names}
 use Rattle.gf_abs.specs.Answer.{JobAnswer}
 use Rattle.gf_abs.specs.CertificateHeadline.{AnswersCertify, AnswersUpgrade, AnswersVerify, HoldOneJob, IsAccepted, PrintsProof}
-use Rattle.gf_abs.specs.Certificates.{certificate_labels}
-use Rattle.gf_abs.specs.Headline.{AreHeld}
-use Rattle.gf_abs.specs.Reply.{Reply}
-use Rattle.gf_abs.specs.commands.Abstract.{abstract_stages, taken_circuit}
-use Rattle.gf_abs.specs.commands.Certify.{IsCertificateText}
-use Rattle.gf_abs.specs.commands.Upgrade.{UpgradeReply}
-use Rattle.gf_abs.specs.commands.Verify.{VerdictOf, verify_reply}
+use Rattle.answer_certificates.specs.Certificates.{certificate_labels}
+use Rattle.answer_core.specs.Printed.{AreHeld}
+use Rattle.answer_core.specs.Reply.{Reply}
+use Rattle.answer_core.specs.Abstraction.{abstract_stages, taken_circuit}
+use Rattle.answer_certificates.specs.Certify.{IsCertificateText}
+use Rattle.answer_certificates.specs.Upgrade.{UpgradeReply}
+use Rattle.answer_certificates.specs.Verify.{VerdictOf, verify_reply}
 use Rattle.gf_abs.proofs.AnswerDetermined.{read_determined}
-use Rattle.gf_abs.proofs.CertificateLabelLemmas.{has_numbers, names_variables, names_words}
+use Rattle.answer_certificates.proofs.CertificateLabelLemmas.{has_numbers, names_variables, names_words}
 use Rattle.gf_abs.proofs.HeadlineLemmas.{IsUnrolled, held_job, one_held, one_setting, unrolled}
-use Rattle.gf_abs.proofs.JobLemmas.{output_to, words_to}
-use Rattle.gf_abs.proofs.TakenLemmas.{bases_long, circuit_bits, circuit_few, circuit_roles, one_cycle}
-use Rattle.gf_abs.proofs.VerdictLemmas.{moved}
+use Rattle.answer_core.proofs.JobLemmas.{output_to, words_to}
+use Rattle.answer_core.proofs.TakenLemmas.{bases_long, circuit_bits, circuit_few, circuit_roles, one_cycle}
+use Rattle.answer_certificates.proofs.VerdictLemmas.{moved}
 
 -- ---- a circuit of texts
 

@@ -19,16 +19,18 @@ use Rattle.job_input.specs.NetlistOf.{by_ending}
 use Rattle.job_input.specs.SettingValue.{SettingValue}
 use Rattle.job_input.specs.SpecificationIn.{SpecificationIn}
 use Rattle.gf_abs.specs.Answer.{JobAnswer}
-use Rattle.gf_abs.specs.CheckHeadline.{AnswersCheck, AreHeldWith, Computes, PrintsAcceptance, PrintsRejection}
-use Rattle.gf_abs.specs.DifferingLines.{differing_lines}
-use Rattle.gf_abs.specs.Headline.{IsTaken, IsPrinted}
-use Rattle.gf_abs.specs.Reply.{Reply, prints, polynomial_line}
-use Rattle.gf_abs.specs.commands.Abstract.{taken_circuit, AbstractReply}
-use Rattle.gf_abs.specs.commands.Check.{IsSpecified, IsJudged, CheckReply, check_reply}
+use Rattle.answer_core.specs.Judged.{Computes, IsSpecified, IsJudged}
+use Rattle.gf_abs.specs.CheckHeadline.{AnswersCheck, AreHeldWith, PrintsAcceptance, PrintsRejection}
+use Rattle.answer_core.specs.DifferingLines.{differing_lines}
+use Rattle.answer_core.specs.Printed.{IsTaken, IsPrinted}
+use Rattle.answer_core.specs.Reply.{Reply, prints, polynomial_line}
+use Rattle.answer_core.specs.Abstraction.{taken_circuit}
+use Rattle.answer_polynomials.specs.Abstract.{AbstractReply}
+use Rattle.answer_polynomials.specs.Check.{CheckReply, check_reply}
 use Rattle.gf_abs.proofs.AnswerDetermined.{said_determined}
-use Rattle.gf_abs.proofs.EqualLemmas.{well, printed}
+use Rattle.answer_polynomials.proofs.EqualLemmas.{well, printed}
 use Rattle.gf_abs.proofs.HeadlineLemmas.{IsUnrolled, held_job, one_held, one_setting, unrolled}
-use Rattle.gf_abs.proofs.JobLemmas.{computes, differing, output_to, specified, words_to}
+use Rattle.answer_core.proofs.JobLemmas.{computes, differing, output_to, specified, words_to}
 
 -- what was judged for a reply
 pub record Judged (setting : SettingValue) (job : Circuit) (spec : SpecTerms) (reply : Reply) : Type 0 where

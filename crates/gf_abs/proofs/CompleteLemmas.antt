@@ -3,7 +3,7 @@ use Rattle.std.proofs.Common.{◌≡◌, refl, subst, inl, inr, ℕ, List, Optio
 use Rattle.std.specs.Io.KnownBytes.{Appends, Keeps}
 use Rattle.job_io.specs.Shelf.{Files}
 use Rattle.job_words.specs.Operands.{Word}
-use Rattle.gf_abs.specs.Reply.{Reply}
+use Rattle.answer_core.specs.Reply.{Reply}
 use Rattle.gf_abs.specs.Answer.{Answer}
 use Rattle.gf_abs.specs.Written.{IsText, Writes, IsWritten}
 use Rattle.job_words.specs.declared.fault.Fault.{Fault}

@@ -1,8 +1,8 @@
 -- What `compose` answers, out of what comes of its steps.
 use Rattle.std.proofs.Common.{◌≡◌, ◌∙◌, ap, sym, refl, subst, ℕ, ◌≤◌, ◌^◌, Bool, if◌then◌else◌, List, [], ◌∷◌, length, Some, Ok, arith}
 use Rattle.std.specs.Option.{unwrap_or}
+use Rattle.lists.specs.laws.OptionLaws.{same_ok}
 use Rattle.job_io.specs.Shelf.{Files}
-use Rattle.text_core.proofs.GeneralLemmas.{same_ok}
 use Rattle.net_core.specs.NetList.{nets, NetList}
 use Rattle.net_core.specs.Sound.{IsSound}
 use Rattle.net_blif.specs.Design.{ModelValue}
@@ -19,9 +19,9 @@ use Rattle.circuit_model.specs.OfBinding.{circuit_with}
 use Rattle.stage_model.specs.OutputInWords.{IsOutputInWords}
 use Rattle.unroll.specs.Unrolled.{in_one_cycle}
 use Rattle.unroll.proofs.FlatLemmas.{flat_to}
-use Rattle.block_feeds.specs.Hierarchy.{bases_at, Hierarchy}
-use Rattle.block_outputs.proofs.InstanceLemmas.{flat_binding}
-use Rattle.block_outputs.proofs.NamesLemmas.{AreUnfed}
+use Rattle.compose_model.specs.Hierarchy.{bases_at, Hierarchy}
+use Rattle.compose_model.proofs.InstanceLemmas.{flat_binding}
+use Rattle.compose_model.proofs.NamesLemmas.{AreUnfed}
 use Rattle.block_compose.specs.Composed.{ComposesIn}
 use Rattle.block_compose.proofs.GivenLemmas.{unfed_words}
 use Rattle.job_words.specs.Command.{Compose, Job, Over}
@@ -38,16 +38,17 @@ use Rattle.job_input.proofs.SettingDetermined.{bases_determined}
 use Rattle.job_input.proofs.SettingSoundLemmas.{setting_sound}
 use Rattle.gf_abs.specs.Answer.{JobAnswer}
 use Rattle.gf_abs.specs.ComposeHeadline.{AnswersCompose}
-use Rattle.gf_abs.specs.Headline.{AnswersAbstract, IsPrinted, PrintsHeld}
-use Rattle.gf_abs.specs.Reply.{prints, Reply}
-use Rattle.gf_abs.specs.commands.Abstract.{taken_circuit}
-use Rattle.gf_abs.specs.commands.Compose.{hierarchy_with, ListsOf}
-use Rattle.gf_abs.proofs.ComposeDetermined.{list_stays}
+use Rattle.gf_abs.specs.Headline.{AnswersAbstract}
+use Rattle.answer_core.specs.Printed.{IsPrinted, PrintsHeld}
+use Rattle.answer_core.specs.Reply.{prints, Reply}
+use Rattle.answer_core.specs.Abstraction.{taken_circuit}
+use Rattle.answer_composition.specs.Compose.{hierarchy_with, ListsOf}
+use Rattle.answer_composition.proofs.ComposeDetermined.{list_stays}
 use Rattle.gf_abs.proofs.HeadlineLemmas.{bytes_only, held_job}
-use Rattle.gf_abs.proofs.JobLemmas.{printed_to, with_job, IsOneWith}
+use Rattle.answer_core.proofs.JobLemmas.{printed_to, with_job, IsOneWith}
 use Rattle.gf_abs.proofs.MakeHeadlineLemmas.{blif_text}
-use Rattle.gf_abs.proofs.PrintedLemmas.{no_bits}
-use Rattle.gf_abs.proofs.TakenLemmas.{netlist_bound, netlist_bound_to, netlist_sound}
+use Rattle.answer_core.proofs.PrintedLemmas.{no_bits}
+use Rattle.answer_core.proofs.TakenLemmas.{netlist_bound, netlist_bound_to, netlist_sound}
 
 -- ---- a net with nothing to unroll
 

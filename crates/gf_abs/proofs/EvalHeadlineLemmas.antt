@@ -12,14 +12,14 @@ use Rattle.job_input.specs.NetlistOf.{by_ending}
 use Rattle.job_input.specs.SettingValue.{SettingValue}
 use Rattle.gf_abs.specs.Answer.{JobAnswer}
 use Rattle.gf_abs.specs.EvalHeadline.{AnswersEval, PrintsElement}
-use Rattle.gf_abs.specs.Headline.{AreHeld}
-use Rattle.gf_abs.specs.Reply.{Reply}
-use Rattle.gf_abs.specs.Values.{ValuesOf}
-use Rattle.gf_abs.specs.commands.Abstract.{taken_circuit}
-use Rattle.gf_abs.specs.commands.Eval.{EvalReply}
-use Rattle.gf_abs.proofs.EqualLemmas.{count}
+use Rattle.answer_core.specs.Printed.{AreHeld}
+use Rattle.answer_core.specs.Reply.{Reply}
+use Rattle.answer_polynomials.specs.Values.{ValuesOf}
+use Rattle.answer_core.specs.Abstraction.{taken_circuit}
+use Rattle.answer_polynomials.specs.Eval.{EvalReply}
+use Rattle.answer_polynomials.proofs.EqualLemmas.{count}
 use Rattle.gf_abs.proofs.HeadlineLemmas.{IsUnrolled, held_job, one_held, one_setting, unrolled}
-use Rattle.gf_abs.proofs.JobLemmas.{long}
+use Rattle.answer_core.proofs.JobLemmas.{long}
 
 record HeldElement (files : Files) (signature net : Word) (values : List Word) (cycles : ℕ) (reply : Reply) : Type 0 where
   pub setting : SettingValue

@@ -1,7 +1,7 @@
 -- What the program's answers say, out of what comes of their steps.
 use Rattle.std.proofs.Common.{◌≡◌, ◌∙◌, ap, refl, sym, subst, ℕ, List, Some, Ok, ◌↔◌}
+use Rattle.lists.specs.laws.OptionLaws.{same_ok}
 use Rattle.job_io.specs.Shelf.{Files}
-use Rattle.text_core.proofs.GeneralLemmas.{same_ok}
 use Rattle.net_words.specs.Binding.{BoundNet}
 use Rattle.poly_mixed.specs.Polynomial.{Terms}
 use Rattle.circuit_model.specs.Circuit.{Circuit}
@@ -18,13 +18,14 @@ use Rattle.job_input.proofs.NetlistDetermined.{netlist_determined}
 use Rattle.job_input.proofs.SettingDetermined.{setting_determined}
 use Rattle.job_input.proofs.SettingSoundLemmas.{setting_sound}
 use Rattle.gf_abs.specs.Answer.{JobAnswer}
-use Rattle.gf_abs.specs.Headline.{IsTaken, AreHeld, AnswersAbstract, IsInItsWords, HasOutput, IsPrinted, AreOneFunction, PrintsHeld}
-use Rattle.gf_abs.specs.Reply.{Reply, polynomial_line}
-use Rattle.gf_abs.specs.commands.Abstract.{taken_circuit}
+use Rattle.gf_abs.specs.Headline.{AnswersAbstract}
+use Rattle.answer_core.specs.Printed.{IsTaken, AreHeld, IsInItsWords, HasOutput, IsPrinted, AreOneFunction, PrintsHeld}
+use Rattle.answer_core.specs.Reply.{Reply, polynomial_line}
+use Rattle.answer_core.specs.Abstraction.{taken_circuit}
 use Rattle.gf_abs.proofs.AnswerDetermined.{read_determined}
-use Rattle.gf_abs.proofs.EqualFunctionLemmas.{equal_bytes}
-use Rattle.gf_abs.proofs.EqualLemmas.{only_text, printed}
-use Rattle.gf_abs.proofs.JobLemmas.{IsOneWith, both_one, output_from, output_to, printed_to, with_job, words_from}
+use Rattle.answer_polynomials.proofs.EqualFunctionLemmas.{equal_bytes}
+use Rattle.answer_polynomials.proofs.EqualLemmas.{only_text, printed}
+use Rattle.answer_core.proofs.JobLemmas.{IsOneWith, both_one, output_from, output_to, printed_to, with_job, words_from}
 
 -- ---- the circuit behind a job
 

@@ -7,8 +7,8 @@ use Rattle.job_words.proofs.OneCommandLemmas.{one_job}
 use Rattle.net_signature.specs.Signature.{SignatureValue}
 use Rattle.gf_abs.specs.Answer.{JobAnswer}
 use Rattle.gf_abs.specs.IsoHeadline.{AnswersIso, PrintsImages}
-use Rattle.gf_abs.specs.Reply.{Reply}
-use Rattle.gf_abs.specs.commands.Iso.{AreImages}
+use Rattle.answer_core.specs.Reply.{Reply}
+use Rattle.answer_tables.specs.Iso.{AreImages}
 
 job_images : (files : Files) (signature other : Word) (reply : Reply) → JobAnswer (Some files) (Over signature (Iso other)) (Ok reply) → PrintsImages files signature other reply
 job_images files signature other reply (signed, (text, read, is), (setting, are, (second, (signed', (text', read', is'), (setting', are', same)), images))) =

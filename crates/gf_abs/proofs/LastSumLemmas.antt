@@ -11,8 +11,8 @@ use Rattle.job_input.specs.Labelling.{labels_of}
 use Rattle.job_input.specs.SettingValue.{SettingValue}
 use Rattle.gf_abs.specs.Answer.{Answer, JobAnswer}
 use Rattle.gf_abs.specs.CertificateHeadline.{HasLastSum, HoldCertificate, HoldLastSum, HoldTermsLeft, IsAccepted, IsRejected, terms_left}
-use Rattle.gf_abs.specs.Reply.{Reply}
-use Rattle.gf_abs.specs.commands.Verify.{VerdictOf, verify_reply}
+use Rattle.answer_core.specs.Reply.{Reply}
+use Rattle.answer_certificates.specs.Verify.{VerdictOf, verify_reply}
 
 -- ---- a verdict and the last running sum
 

@@ -8,7 +8,7 @@ use Rattle.net_blif.specs.Models.{BlifDesign}
 use Rattle.net_core.specs.NetList.{NetList}
 use Rattle.net_core.specs.Sound.{IsSound}
 use Rattle.net_flat.specs.Flat.{Flattens}
-use Rattle.net_renumbered.proofs.LawLemmas.{bound_alike}
+use Rattle.make_laws.proofs.LawLemmas.{bound_alike}
 use Rattle.net_words.specs.Binding.{BoundNet}
 use Rattle.net_write.specs.Plain.{HasPlainNames}
 use Rattle.net_write.specs.SameByName.{IsSameByName}
@@ -26,10 +26,11 @@ use Rattle.job_input.specs.SettingOf.{SettingOf}
 use Rattle.job_input.specs.SettingValue.{SettingValue}
 use Rattle.job_input.proofs.NetlistLemmas.{net_sound}
 use Rattle.gf_abs.specs.Answer.{JobAnswer}
-use Rattle.gf_abs.specs.MakeHeadline.{AnswersMake, ComputesKind, HoldKind, HoldMade}
-use Rattle.gf_abs.specs.Reply.{Reply}
+use Rattle.gf_abs.specs.MakeHeadline.{AnswersMake}
+use Rattle.answer_makers.specs.Made.{ComputesKind, HoldKind, HoldMade}
+use Rattle.answer_core.specs.Reply.{Reply}
 use Rattle.gf_abs.proofs.AnswerDetermined.{read_determined}
-use Rattle.gf_abs.proofs.MadeLemmas.{IsMadeRight, made_right}
+use Rattle.answer_makers.proofs.MadeLemmas.{IsMadeRight, made_right}
 
 -- ---- a net that is read back
 

@@ -1,7 +1,7 @@
 -- Each fault that may come is one line.
 use Rattle.std.proofs.Common.{◌≡◌, inl, inr, refl, subst, sym, ℕ, List, [], length, Option, Some, Ok, Err, arith}
-use Rattle.text_core.specs.Outcome.{Within}
 use Rattle.std.specs.Prelude.{codes, decimal}
+use Rattle.outcome.specs.Outcome.{Within}
 use Rattle.job_io.specs.Shelf.{Files}
 use Rattle.net_words.specs.Binding.{BoundNet}
 use Rattle.net_signature.specs.WordNames.{HaveNames}
@@ -30,22 +30,23 @@ use Rattle.job_input.specs.SettingValue.{SettingValue}
 use Rattle.job_input.proofs.FileLineLemmas.{HaveKeptNames, cycles_keep, field_keeps, file_keeps, labels_kept, netlist_file_keeps, operand_kept, second_keeps, setting_keeps, signed_keeps, specification_keeps, table_keeps}
 use Rattle.job_input.proofs.FieldLemmas.{field_most, field_some}
 use Rattle.job_input.proofs.SignedLemmas.{setting_names}
-use Rattle.trial_job.specs.Trial.{product_terms, trial_circuit, trial_setting}
-use Rattle.trial_job.proofs.SettingLemmas.{trial_said}
+use Rattle.make_trial.specs.Trial.{product_terms, trial_circuit, trial_setting}
+use Rattle.make_trial.proofs.SettingLemmas.{trial_said}
 use Rattle.gf_abs.specs.Answer.{ActionAnswer, Answer, JobAnswer, SignedAnswer}
-use Rattle.gf_abs.specs.Values.{ValuesOf}
-use Rattle.gf_abs.specs.Staged.{IsStageOver, either_net_text, either_text}
-use Rattle.gf_abs.specs.commands.Abstract.{AbstractReply, abstract_stages, taken_circuit}
-use Rattle.gf_abs.specs.commands.Bits.{BitsReply, bits_stages}
-use Rattle.gf_abs.specs.Certificates.{CertifiedIn, certificate_labels, sum_fault, sum_name, certificate_fault_of}
-use Rattle.gf_abs.specs.commands.Certify.{CertifyReply}
-use Rattle.gf_abs.specs.commands.Check.{CheckReply}
-use Rattle.gf_abs.specs.commands.Same.{SameReply, same_stages}
-use Rattle.gf_abs.specs.commands.Trial.{TrialAnswer, TrialReply}
-use Rattle.gf_abs.specs.commands.Upgrade.{UpgradeReply}
-use Rattle.gf_abs.specs.commands.Verify.{VerifyReply}
-use Rattle.gf_abs.proofs.BlockSettingLemmas.{setting_blocks, HaveBlockNames}
-use Rattle.gf_abs.proofs.ComposeLineLemmas.{compose_kept}
+use Rattle.answer_polynomials.specs.Values.{ValuesOf}
+use Rattle.answer_core.specs.Staged.{IsStageOver, either_net_text, either_text}
+use Rattle.answer_core.specs.Abstraction.{abstract_stages, taken_circuit, bits_stages}
+use Rattle.answer_polynomials.specs.Abstract.{AbstractReply}
+use Rattle.answer_polynomials.specs.Bits.{BitsReply}
+use Rattle.answer_certificates.specs.Certificates.{CertifiedIn, certificate_labels, sum_fault, sum_name, certificate_fault_of}
+use Rattle.answer_certificates.specs.Certify.{CertifyReply}
+use Rattle.answer_polynomials.specs.Check.{CheckReply}
+use Rattle.answer_polynomials.specs.Same.{SameReply, same_stages}
+use Rattle.answer_makers.specs.Trial.{TrialAnswer, TrialReply}
+use Rattle.answer_certificates.specs.Upgrade.{UpgradeReply}
+use Rattle.answer_certificates.specs.Verify.{VerifyReply}
+use Rattle.answer_composition.proofs.BlockSettingLemmas.{setting_blocks, HaveBlockNames}
+use Rattle.answer_composition.proofs.ComposeLineLemmas.{compose_kept}
 
 -- ---- what the words of a command name
 

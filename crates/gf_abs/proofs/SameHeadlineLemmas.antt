@@ -16,14 +16,15 @@ use Rattle.job_input.specs.JobOf.{job_of}
 use Rattle.job_input.specs.NetlistOf.{by_ending}
 use Rattle.job_input.specs.SettingValue.{SettingValue}
 use Rattle.gf_abs.specs.Answer.{JobAnswer}
-use Rattle.gf_abs.specs.Headline.{IsTaken, AreHeld, AnswersSame, PrintsDifference, AreOneFunction}
-use Rattle.gf_abs.specs.Reply.{Reply}
-use Rattle.gf_abs.specs.commands.Abstract.{taken_circuit}
-use Rattle.gf_abs.specs.commands.Same.{AreCompared, SameReply, same_reply}
-use Rattle.gf_abs.proofs.AlikeLemmas.{alike}
-use Rattle.gf_abs.proofs.EqualLemmas.{roles, well}
+use Rattle.gf_abs.specs.Headline.{AnswersSame}
+use Rattle.answer_core.specs.Printed.{IsTaken, AreHeld, PrintsDifference, AreOneFunction}
+use Rattle.answer_core.specs.Reply.{Reply}
+use Rattle.answer_core.specs.Abstraction.{taken_circuit}
+use Rattle.answer_polynomials.specs.Same.{AreCompared, SameReply, same_reply}
+use Rattle.answer_polynomials.proofs.AlikeLemmas.{alike}
+use Rattle.answer_polynomials.proofs.EqualLemmas.{roles, well}
 use Rattle.gf_abs.proofs.HeadlineLemmas.{IsUnrolled, held_job, one_held, one_setting, unrolled}
-use Rattle.gf_abs.proofs.JobLemmas.{both_one, differing}
+use Rattle.answer_core.proofs.JobLemmas.{both_one, differing}
 
 -- what was compared for a reply
 pub record Compared (setting : SettingValue) (job second : Circuit) (reply : Reply) : Type 0 where

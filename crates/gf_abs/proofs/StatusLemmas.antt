@@ -9,11 +9,11 @@ use Rattle.job_words.specs.Operands.{Word}
 use Rattle.job_input.specs.Labelling.{labels_of}
 use Rattle.job_input.specs.SettingValue.{SettingValue}
 use Rattle.gf_abs.specs.Answer.{ActionAnswer, Answer}
-use Rattle.gf_abs.specs.Reply.{Reply}
-use Rattle.gf_abs.specs.commands.Check.{check_reply}
-use Rattle.gf_abs.specs.commands.Same.{same_reply}
-use Rattle.gf_abs.specs.commands.Verify.{verify_reply}
-use Rattle.gf_abs.proofs.TrialLemmas.{trial_status}
+use Rattle.answer_core.specs.Reply.{Reply}
+use Rattle.answer_polynomials.specs.Check.{check_reply}
+use Rattle.answer_polynomials.specs.Same.{same_reply}
+use Rattle.answer_certificates.specs.Verify.{verify_reply}
+use Rattle.answer_makers.proofs.TrialLemmas.{trial_status}
 
 abbrev IsZeroOrOne : Reply → Type 0
 IsZeroOrOne reply = (reply.status ≡ 0) ⊎ (reply.status ≡ 1)

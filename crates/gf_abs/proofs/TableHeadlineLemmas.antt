@@ -1,8 +1,8 @@
 -- What the answers of `table` and `lift` say, out of what comes of their steps.
 use Rattle.std.proofs.Common.{◌≡◌, ◌∙◌, ap, sym, subst, ℕ, ◌*◌, ◌^◌, List, length, Some, Ok}
 use Rattle.std.specs.Str.Lines.{lines}
+use Rattle.lists.specs.laws.OptionLaws.{same_ok}
 use Rattle.job_io.specs.Shelf.{Files}
-use Rattle.text_core.proofs.GeneralLemmas.{same_ok}
 use Rattle.net_words.specs.Binding.{BoundNet}
 use Rattle.poly_mixed.specs.Polynomial.{Terms}
 use Rattle.circuit_model.specs.Circuit.{Circuit}
@@ -23,16 +23,17 @@ use Rattle.job_input.specs.SettingOf.{SettingOf}
 use Rattle.job_input.specs.SettingValue.{SettingValue}
 use Rattle.job_input.proofs.SettingDetermined.{setting_determined}
 use Rattle.gf_abs.specs.Answer.{JobAnswer}
-use Rattle.gf_abs.specs.Headline.{AnswersAbstract, AreHeld, HasOutput}
-use Rattle.gf_abs.specs.Reply.{Reply, polynomial_line}
+use Rattle.gf_abs.specs.Headline.{AnswersAbstract}
+use Rattle.answer_core.specs.Printed.{AreHeld, HasOutput}
+use Rattle.answer_core.specs.Reply.{Reply, polynomial_line}
 use Rattle.gf_abs.specs.TableHeadline.{AnswersLift, AnswersTable, IsHeldSetting, PrintsLifted, PrintsTable}
-use Rattle.gf_abs.specs.commands.Abstract.{taken_circuit}
-use Rattle.gf_abs.specs.commands.Lift.{table_words}
+use Rattle.answer_core.specs.Abstraction.{taken_circuit}
+use Rattle.answer_tables.specs.Lift.{table_words}
 use Rattle.gf_abs.proofs.AnswerDetermined.{read_determined}
-use Rattle.gf_abs.proofs.EqualLemmas.{count, one_polynomial, well}
+use Rattle.answer_polynomials.proofs.EqualLemmas.{count, one_polynomial, well}
 use Rattle.gf_abs.proofs.HeadlineLemmas.{IsUnrolled, Printed, held_job, one_held, one_setting, printed_of, unrolled}
-use Rattle.gf_abs.proofs.JobLemmas.{input_from, long, output_from, output_to}
-use Rattle.gf_abs.proofs.ReadBackLemmas.{read_back}
+use Rattle.answer_core.proofs.JobLemmas.{input_from, long, output_from, output_to}
+use Rattle.answer_tables.proofs.ReadBackLemmas.{read_back}
 
 -- ---- what `table` prints
 

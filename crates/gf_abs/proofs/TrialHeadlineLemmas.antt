@@ -1,31 +1,31 @@
 -- What the answers of `trial` say, out of what comes of its steps.
 use Rattle.std.proofs.Common.{◌≡◌, ◌∙◌, ap, sym, refl, subst, inl, inr, ℕ, ◌<◌, ◌^◌, List, [], ◌∷◌, ◌++◌, length, codes, Option, Ok, Err, arith}
+use Rattle.lists.specs.Lists.{Has}
 use Rattle.gf_field.specs.Bit.{bit_mul}
 use Rattle.gf_field.specs.Quotient.{product}
 use Rattle.gf_tower.specs.FieldName.{IsFieldModulus}
 use Rattle.job_io.specs.Shelf.{Files}
-use Rattle.net_core.specs.Lists.{Has}
 use Rattle.circuit_model.specs.Circuit.{IsInput}
 use Rattle.circuit_model.specs.Differing.{Difference, IsDifferingInput}
 use Rattle.circuit_model.specs.Out.{IsOut}
 use Rattle.circuit_model.proofs.OutLemmas.{one_out}
-use Rattle.mult_turned.specs.Turned.{turned_product}
+use Rattle.make_trial.specs.Turned.{turned_product}
 use Rattle.job_words.specs.Command.{Job, Trial}
 use Rattle.job_words.specs.Operands.{Word}
 use Rattle.job_words.specs.declared.fault.Fault.{Fault}
 use Rattle.job_words.proofs.OneCommandLemmas.{one_job}
 use Rattle.job_input.specs.FieldOf.{FieldValue}
 use Rattle.job_input.specs.Labelling.{labels_of}
-use Rattle.trial_job.specs.Trial.{product_terms, trial_circuit, trial_index, trial_place, trial_setting, trial_words}
-use Rattle.trial_job.proofs.OutLemmas.{product_at, trial_out}
+use Rattle.make_trial.specs.Trial.{product_terms, trial_circuit, trial_index, trial_place, trial_setting, trial_words}
+use Rattle.make_trial.proofs.OutLemmas.{product_at, trial_out}
 use Rattle.gf_abs.specs.Answer.{Answer, JobAnswer}
-use Rattle.gf_abs.specs.DifferingLines.{differing_lines}
-use Rattle.gf_abs.specs.Reply.{Reply}
+use Rattle.answer_core.specs.DifferingLines.{differing_lines}
+use Rattle.answer_core.specs.Reply.{Reply}
 use Rattle.gf_abs.specs.TrialHeadline.{AnswersTrial, IsTrialFault, PrintsTrial, RefusesTrial, circuit_of_trial}
-use Rattle.gf_abs.specs.commands.Check.{IsSpecified}
-use Rattle.gf_abs.specs.commands.Trial.{TrialAnswer, TrialOver, trial_head}
-use Rattle.gf_abs.proofs.PrintedLemmas.{words_alone, words_values}
-use Rattle.gf_abs.proofs.TrialLemmas.{trial_field, trial_ring, well_of_trial}
+use Rattle.answer_core.specs.Judged.{IsSpecified}
+use Rattle.answer_makers.specs.Trial.{TrialAnswer, TrialOver, trial_head}
+use Rattle.answer_core.proofs.PrintedLemmas.{words_alone, words_values}
+use Rattle.answer_makers.proofs.TrialLemmas.{trial_field, trial_ring, well_of_trial}
 
 -- a list of two
 two_of : (xs : List ℕ) → length xs ≡ 2 → (a : ℕ) × (b : ℕ) × (xs ≡ a ∷ b ∷ [])

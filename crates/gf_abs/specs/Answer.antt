@@ -1,6 +1,6 @@
 -- What the program answers to its words, over the files that the shelf holds: the table of commands. Source: this project's own.
 use Rattle.std.specs.Prelude.{◌≡◌, List, Option, Ok, Err}
-use Rattle.text_core.specs.Outcome.{Outcome, ◌>>=◌, Within}
+use Rattle.outcome.specs.Outcome.{Outcome, ◌>>=◌, Within}
 use Rattle.job_io.specs.Shelf.{Files}
 use Rattle.job_words.specs.declared.fault.Fault.{Fault}
 use Rattle.job_words.specs.declared.fault.Fault.TheVariants.{Words, Signature}
@@ -9,21 +9,21 @@ use Rattle.job_words.specs.Command.{Action, Bits, Abstract, Check, Same, Eval, I
 use Rattle.job_input.specs.SettingOf.{SignedValue, SettingWith}
 use Rattle.job_input.specs.SettingValue.{SettingValue}
 use Rattle.job_input.specs.SignedIn.{SignedIn}
-use Rattle.gf_abs.specs.Reply.{Reply}
-use Rattle.gf_abs.specs.commands.Bits.{BitsAnswer}
-use Rattle.gf_abs.specs.commands.Abstract.{AbstractAnswer}
-use Rattle.gf_abs.specs.commands.Check.{CheckAnswer}
-use Rattle.gf_abs.specs.commands.Same.{SameAnswer}
-use Rattle.gf_abs.specs.commands.Eval.{EvalAnswer}
-use Rattle.gf_abs.specs.commands.Iso.{IsoAnswer}
-use Rattle.gf_abs.specs.commands.Lift.{LiftAnswer}
-use Rattle.gf_abs.specs.commands.Table.{TableAnswer}
-use Rattle.gf_abs.specs.commands.Certify.{CertifyAnswer}
-use Rattle.gf_abs.specs.commands.Verify.{VerifyAnswer}
-use Rattle.gf_abs.specs.commands.Upgrade.{UpgradeAnswer}
-use Rattle.gf_abs.specs.commands.Make.{MakeAnswer}
-use Rattle.gf_abs.specs.commands.Compose.{ComposeAnswer}
-use Rattle.gf_abs.specs.commands.Trial.{TrialAnswer}
+use Rattle.answer_core.specs.Reply.{Reply}
+use Rattle.answer_polynomials.specs.Bits.{BitsAnswer}
+use Rattle.answer_polynomials.specs.Abstract.{AbstractAnswer}
+use Rattle.answer_polynomials.specs.Check.{CheckAnswer}
+use Rattle.answer_polynomials.specs.Same.{SameAnswer}
+use Rattle.answer_polynomials.specs.Eval.{EvalAnswer}
+use Rattle.answer_tables.specs.Iso.{IsoAnswer}
+use Rattle.answer_tables.specs.Lift.{LiftAnswer}
+use Rattle.answer_tables.specs.Table.{TableAnswer}
+use Rattle.answer_certificates.specs.Certify.{CertifyAnswer}
+use Rattle.answer_certificates.specs.Verify.{VerifyAnswer}
+use Rattle.answer_certificates.specs.Upgrade.{UpgradeAnswer}
+use Rattle.answer_makers.specs.Make.{MakeAnswer}
+use Rattle.answer_composition.specs.Compose.{ComposeAnswer}
+use Rattle.answer_makers.specs.Trial.{TrialAnswer}
 
 -- the command of the words, or fault 01 where they spell none
 abbrev pub Spelled : List Word → Outcome Fault Job

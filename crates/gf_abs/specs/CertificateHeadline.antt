@@ -17,9 +17,9 @@ use Rattle.job_input.specs.NetlistOf.{by_ending}
 use Rattle.job_input.specs.SettingOf.{SettingOf}
 use Rattle.job_input.specs.SettingValue.{SettingValue}
 use Rattle.gf_abs.specs.Answer.{Answer}
-use Rattle.gf_abs.specs.Certificates.{HaveDuals, certificate_labels}
-use Rattle.gf_abs.specs.Headline.{HasOutput, IsInItsWords}
-use Rattle.gf_abs.specs.Reply.{Reply, polynomial_line}
+use Rattle.answer_certificates.specs.Certificates.{HaveDuals, certificate_labels}
+use Rattle.answer_core.specs.Printed.{HasOutput, IsInItsWords}
+use Rattle.answer_core.specs.Reply.{Reply, polynomial_line}
 
 -- to the words `certify SIGNATURE NET` over the held files the program answers with this reply, over so many cycles after the
 -- first, under a bound on the terms of stages

@@ -1,5 +1,5 @@
 -- What the answers of `check` say of the job and the specification in the files. Source: this project's own.
-use Rattle.std.specs.Prelude.{◌≡◌, ℕ, ◌↔◌, List, ◌++◌, codes, Some, Ok}
+use Rattle.std.specs.Prelude.{◌≡◌, ℕ, List, ◌++◌, codes, Some, Ok}
 use Rattle.job_io.specs.Shelf.{Files}
 use Rattle.poly_mixed.specs.Polynomial.{Terms}
 use Rattle.circuit_model.specs.Circuit.{Circuit}
@@ -12,10 +12,10 @@ use Rattle.job_input.specs.Labelling.{labels_of}
 use Rattle.job_input.specs.SettingValue.{SettingValue}
 use Rattle.job_input.specs.SpecificationIn.{SpecificationIn}
 use Rattle.gf_abs.specs.Answer.{Answer}
-use Rattle.gf_abs.specs.DifferingLines.{differing_lines}
-use Rattle.gf_abs.specs.Headline.{AreHeld, IsInItsWords, HasOutput}
-use Rattle.gf_abs.specs.Reply.{Reply, polynomial_line}
-use Rattle.gf_abs.specs.commands.Check.{IsSpecified}
+use Rattle.answer_core.specs.DifferingLines.{differing_lines}
+use Rattle.answer_core.specs.Printed.{AreHeld, IsInItsWords, HasOutput}
+use Rattle.answer_core.specs.Reply.{Reply, polynomial_line}
+use Rattle.answer_core.specs.Judged.{IsSpecified}
 
 -- to the words `check SIGNATURE NET SPECIFICATION` over the held files the program answers with this reply, over so many cycles after
 -- the first
@@ -28,10 +28,6 @@ pub record AnswersCheck (files : Files) (words : List Word) (signature net speci
 pub record AreHeldWith (files : Files) (signature net specification : Word) (cycles : ℕ) (setting : SettingValue) (job : Circuit) (spec : SpecTerms) : Type 0 where
   pub held : AreHeld files signature net cycles setting job
   pub said : SpecificationIn (Some files) (labels_of setting.k setting.signature.words) setting.k setting.product specification (Ok spec)
-
--- at each input the output word's element is the specification's value
-abbrev pub Computes : SettingValue → Circuit → SpecTerms → Type 0
-Computes setting job spec = (xs : List ℕ) (e : ℕ) → IsOut job xs e ↔ IsSpecified setting job spec xs e
 
 -- the reply is `accepted` and the line of the netlist's polynomial: reduced, in the job's words alone, with the output's values
 pub record PrintsAcceptance (setting : SettingValue) (job : Circuit) (reply : Reply) : Type 0 where

@@ -4,7 +4,7 @@ use Rattle.job_io.specs.Shelf.{Files}
 use Rattle.job_words.specs.Command.{Compose, Over, IsSpelled}
 use Rattle.job_words.specs.Operands.{Word}
 use Rattle.gf_abs.specs.Answer.{Answer}
-use Rattle.gf_abs.specs.Reply.{Reply}
+use Rattle.answer_core.specs.Reply.{Reply}
 
 -- to the words `compose SIGNATURE NET` over the held files the program answers with this reply
 pub record AnswersCompose (files : Files) (words : List Word) (signature net : Word) (reply : Reply) : Type 0 where

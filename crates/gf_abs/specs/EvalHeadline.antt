@@ -7,9 +7,9 @@ use Rattle.job_words.specs.Command.{Eval, Over, IsSpelled}
 use Rattle.job_words.specs.Operands.{Word}
 use Rattle.job_input.specs.SettingValue.{SettingValue}
 use Rattle.gf_abs.specs.Answer.{Answer}
-use Rattle.gf_abs.specs.Reply.{Reply}
-use Rattle.gf_abs.specs.Values.{ValuesOf}
-use Rattle.gf_abs.specs.commands.Eval.{element_line}
+use Rattle.answer_core.specs.Reply.{Reply}
+use Rattle.answer_polynomials.specs.Values.{ValuesOf}
+use Rattle.answer_polynomials.specs.Eval.{element_line}
 
 -- to the words `eval SIGNATURE NET VALUE..` over the held files the program answers with this reply, over so many cycles after the first
 pub record AnswersEval (files : Files) (words : List Word) (signature net : Word) (values : List Word) (cycles : ℕ) (reply : Reply) : Type 0 where

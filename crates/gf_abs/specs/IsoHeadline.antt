@@ -6,9 +6,9 @@ use Rattle.job_words.specs.Command.{Iso, Over, IsSpelled}
 use Rattle.job_words.specs.Operands.{Word}
 use Rattle.job_input.specs.SettingValue.{SettingValue}
 use Rattle.gf_abs.specs.Answer.{Answer}
-use Rattle.gf_abs.specs.Reply.{Reply}
+use Rattle.answer_core.specs.Reply.{Reply}
 use Rattle.gf_abs.specs.TableHeadline.{IsHeldSetting}
-use Rattle.gf_abs.specs.commands.Iso.{AreImages}
+use Rattle.answer_tables.specs.Iso.{AreImages}
 
 -- to the words `iso SIGNATURE SIGNATURE` over the held files the program answers with this reply
 pub record AnswersIso (files : Files) (words : List Word) (signature other : Word) (reply : Reply) : Type 0 where

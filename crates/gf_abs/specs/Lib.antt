@@ -1,9 +1,3 @@
-pub mod Reply
-pub mod Staged
-pub mod DifferingLines
-pub mod Values
-pub mod Certificates
-pub mod commands
 pub mod Answer
 pub mod Written
 pub mod Headline
@@ -15,4 +9,3 @@ pub mod IsoHeadline
 pub mod MakeHeadline
 pub mod TrialHeadline
 pub mod CertificateHeadline
-pub mod private

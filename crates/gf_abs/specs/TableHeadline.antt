@@ -13,8 +13,8 @@ use Rattle.job_input.specs.File.{Read}
 use Rattle.job_input.specs.SettingOf.{SettingOf}
 use Rattle.job_input.specs.SettingValue.{SettingValue}
 use Rattle.gf_abs.specs.Answer.{Answer}
-use Rattle.gf_abs.specs.Reply.{Reply, polynomial_line}
-use Rattle.gf_abs.specs.commands.Lift.{table_words}
+use Rattle.answer_core.specs.Reply.{Reply, polynomial_line}
+use Rattle.answer_tables.specs.Lift.{table_words}
 
 -- to the words `table SIGNATURE NET` over the held files the program answers with this reply, over so many cycles after the first
 pub record AnswersTable (files : Files) (words : List Word) (signature net : Word) (cycles : ℕ) (reply : Reply) : Type 0 where

@@ -8,7 +8,7 @@ use Rattle.poly_mixed.specs.Polynomial.{Terms}
 use Rattle.circuit_model.specs.Circuit.{Circuit}
 use Rattle.circuit_model.specs.Differing.{IsDifferingInput}
 use Rattle.circuit_model.specs.Out.{IsOut}
-use Rattle.mult_turned.specs.Turned.{turned_product}
+use Rattle.make_trial.specs.Turned.{turned_product}
 use Rattle.job_words.specs.Command.{Trial, IsSpelled}
 use Rattle.job_words.specs.Operands.{Word}
 use Rattle.job_words.specs.declared.fault.Fault.{Fault}
@@ -17,14 +17,14 @@ use Rattle.job_words.specs.declared.signature_fault.SignatureFault.{SignatureFau
 use Rattle.job_words.specs.declared.stage_fault.StageFault.{StageFault}
 use Rattle.job_input.specs.FieldOf.{FieldOf}
 use Rattle.job_input.specs.Labelling.{labels_of}
-use Rattle.trial_job.specs.Trial.{product_terms, trial_circuit, trial_index, trial_place, trial_setting, trial_words}
+use Rattle.make_trial.specs.Trial.{product_terms, trial_circuit, trial_index, trial_place, trial_setting, trial_words}
 use Rattle.gf_abs.specs.Answer.{Answer}
-use Rattle.gf_abs.specs.DifferingLines.{differing_lines}
-use Rattle.gf_abs.specs.Headline.{HasOutput, IsInItsWords}
-use Rattle.gf_abs.specs.Reply.{Reply}
-use Rattle.gf_abs.specs.commands.Abstract.{taken_circuit}
-use Rattle.gf_abs.specs.commands.Check.{IsSpecified}
-use Rattle.gf_abs.specs.commands.Trial.{trial_head}
+use Rattle.answer_core.specs.DifferingLines.{differing_lines}
+use Rattle.answer_core.specs.Printed.{HasOutput, IsInItsWords}
+use Rattle.answer_core.specs.Reply.{Reply}
+use Rattle.answer_core.specs.Abstraction.{taken_circuit}
+use Rattle.answer_core.specs.Judged.{IsSpecified}
+use Rattle.answer_makers.specs.Trial.{trial_head}
 
 -- to the words `trial NUMBER MODULUS` the program answers with this reply
 pub record AnswersTrial (held : Option Files) (words : List Word) (number modulus : ℕ) (reply : Reply) : Type 0 where

@@ -1,11 +1,11 @@
 -- What the program wrote of an answer. Source: this project's own.
 use Rattle.std.specs.Prelude.{◌≡◌, ◌⊎◌, ◌<◌, ℕ, List, length, take, Option, Result, Ok, Err}
 use Rattle.std.specs.Io.KnownBytes.{Appends}
-use Rattle.text_core.specs.Outcome.{Outcome}
+use Rattle.outcome.specs.Outcome.{Outcome}
 use Rattle.job_words.specs.declared.fault.Fault.{Fault}
 use Rattle.job_words.specs.Fault.{fault_line, fault_status}
 use Rattle.job_words.specs.Stop.{IsMiss}
-use Rattle.gf_abs.specs.Reply.{Reply}
+use Rattle.answer_core.specs.Reply.{Reply}
 
 -- an output that may come, or the line of a fault that may come, with its status
 abbrev pub IsText : Outcome Fault Reply → (missed : Type 0) → ℕ → List ℕ → Type 0

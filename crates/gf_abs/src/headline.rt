@@ -1,14 +1,12 @@
 //! What the program's answers say, for all words and held files. These functions do nothing: their contracts are proved of
 //! the definitions alone. `run` says that what it wrote is the answer.
-ghost use Rattle.std.specs.Prelude.{◌≡◌, ◌≢◌, ◌⊎◌, ◌↔◌, ◌≤◌, ◌*◌, [], codes, length, ℕ, List, Option, Some, Ok, Err};
-ghost use Rattle.text_core.specs.Outcome.{Determined};
+ghost use Rattle.std.specs.Prelude.{◌≡◌, ◌≢◌, ◌⊎◌, ◌↔◌, ◌≤◌, ◌*◌, [], codes, ℕ, List, Option, Some, Ok, Err};
+ghost use Rattle.outcome.specs.Outcome.{Determined};
 ghost use Rattle.job_io.specs.Shelf.{Files};
 ghost use Rattle.net_words.specs.Binding.{BoundNet};
 ghost use Rattle.poly_mixed.specs.Polynomial.{Terms};
 ghost use Rattle.circuit_model.specs.Circuit.{Circuit};
 ghost use Rattle.circuit_model.specs.WellFormed.{IsWellFormed};
-ghost use Rattle.gf_field.specs.Element.{AreElements};
-ghost use Rattle.lift_table.specs.TableText.{TableOutcome, table_text};
 ghost use Rattle.job_input.specs.File.{Read};
 ghost use Rattle.job_words.specs.Command.{Over, Verify, IsSpelled};
 ghost use Rattle.job_words.specs.Fault.{fault_line, fault_status};
@@ -20,16 +18,19 @@ ghost use Rattle.job_input.specs.SettingValue.{SettingValue};
 ghost use Rattle.spec_expand.specs.Specification.{SpecTerms};
 ghost use Rattle.gf_abs.specs.Answer.{Answer};
 ghost use Rattle.gf_abs.specs.CertificateHeadline.{AnswersCertify, AnswersUpgrade, AnswersVerify, HoldLastSum, HoldOneJob, HoldTermsLeft, IsAccepted, IsRejected, PrintsProof, terms_left};
-ghost use Rattle.gf_abs.specs.CheckHeadline.{AnswersCheck, AreHeldWith, Computes, PrintsAcceptance, PrintsRejection};
+ghost use Rattle.answer_core.specs.Judged.{Computes};
+ghost use Rattle.gf_abs.specs.CheckHeadline.{AnswersCheck, AreHeldWith, PrintsAcceptance, PrintsRejection};
 ghost use Rattle.gf_abs.specs.ComposeHeadline.{AnswersCompose};
 ghost use Rattle.gf_abs.specs.EvalHeadline.{AnswersEval, PrintsElement};
-ghost use Rattle.gf_abs.specs.Headline.{IsTaken, AreHeld, AnswersBits, AnswersAbstract, AnswersSame, PrintsHeld, PrintsHeldInBits, PrintsDifference, IsInItsBits, IsInItsWords, HasOutput, HasOutputInBits, AreOneFunction};
+ghost use Rattle.gf_abs.specs.Headline.{AnswersBits, AnswersAbstract, AnswersSame};
+ghost use Rattle.answer_core.specs.Printed.{IsTaken, AreHeld, PrintsHeld, PrintsHeldInBits, PrintsDifference, IsInItsBits, IsInItsWords, HasOutput, HasOutputInBits, AreOneFunction};
 ghost use Rattle.gf_abs.specs.IsoHeadline.{AnswersIso, PrintsImages};
-ghost use Rattle.gf_abs.specs.MakeHeadline.{AnswersMake, HoldKind, HoldMade};
-ghost use Rattle.gf_abs.specs.Reply.{Reply, polynomial_line};
+ghost use Rattle.gf_abs.specs.MakeHeadline.{AnswersMake};
+ghost use Rattle.answer_makers.specs.Made.{HoldKind, HoldMade};
+ghost use Rattle.answer_core.specs.Reply.{Reply, polynomial_line};
 ghost use Rattle.gf_abs.specs.TableHeadline.{AnswersLift, AnswersTable, IsHeldSetting, PrintsLifted, PrintsTable};
 ghost use Rattle.gf_abs.specs.TrialHeadline.{AnswersTrial, IsTrialFault, PrintsTrial, RefusesTrial};
-ghost use Rattle.gf_abs.specs.commands.Abstract.{taken_circuit};
+ghost use Rattle.answer_core.specs.Abstraction.{taken_circuit};
 
 /// Where the shelf tells what it holds, at most one answer or fault comes of the words.
 pub fn one_answer_or_fault()
@@ -133,11 +134,6 @@ pub fn table_prints_the_outputs()
 /// `lift` prints the one reduced polynomial of the function of the table in its file.
 pub fn lift_prints_the_polynomial()
     ensures { (files : Files) (words : List Word) (signature table : Word) (reply : Reply) (setting : SettingValue) → AnswersLift files words signature table reply → IsHeldSetting files signature setting → PrintsLifted files setting table reply }
-{}
-
-/// A table that is written is read back as itself.
-pub fn written_tables_are_read_back()
-    ensures { (k : ℕ) (table : List ℕ) → k ≤ 64 → AreElements k table → TableOutcome k (length table) (table_text table) (Ok table) }
 {}
 
 /// Where `lift` reads what `table` printed of a netlist, it prints the same bytes as `abstract` on the netlist, where both print.

@@ -1,25 +1,11 @@
 //! All that the program does: words, files and a sink of bytes in, a status out.
-//! `run` carries the contract of the whole; each command is a file of `commands`, and one line of the table `ActionAnswer`.
+//! `run` carries the contract of the whole; each command is a file of a crate of its family, and one line of the table `ActionAnswer`.
 #![tactic(auto)]
 
-mod block_bases;
-mod certificates;
-mod commands;
-mod composition;
-mod cuts;
-mod differing;
 mod headline;
-mod line;
-mod named_fields;
-mod output;
-mod second_stages;
-mod setting_labels;
-mod small_setting;
-mod stages;
 mod top;
-mod values;
-mod words;
 
+pub use answer_tables::written_tables_are_read_back;
 pub use headline::{
     abstract_prints_the_output, bits_are_the_only_line, bits_print_the_output,
     bytes_are_the_only_text, check_accepts_exactly_if_equal, check_prints_the_differing_input,
@@ -30,6 +16,6 @@ pub use headline::{
     same_prints_the_differing_input, table_prints_the_outputs,
     tables_are_lifted_to_what_abstract_prints, trial_prints_the_differing_input,
     upgrade_keeps_the_reply, verify_answers_by_the_last_sum, verify_proves_the_output,
-    what_certify_prints_is_accepted, what_make_prints_computes, written_tables_are_read_back,
+    what_certify_prints_is_accepted, what_make_prints_computes,
 };
 pub use top::{run, run_surely};

@@ -3,15 +3,19 @@ ghost use Rattle.std.specs.Prelude.{◌≡◌, ◌⊎◌, ◌≤◌, Some, map, 
 ghost use Rattle.std.specs.Io.KnownBytes.{Keeps};
 ghost use Rattle.job_io.specs.Counts.{Rose};
 ghost use Rattle.job_io.specs.SureShelf.{sure_files, sure_misses};
-ghost use Rattle.job_words.specs.Command.{Over, action_of, job_of};
+ghost use Rattle.job_words.specs.Command.{Over, action_of, spelled_job};
 ghost use Rattle.job_words.specs.Stop.{GivesBy};
 ghost use Rattle.job_input.specs.Setting.{setting_value, AreSaid, IsReady};
 ghost use Rattle.gf_abs.specs.Answer.{ActionAnswer, SignedAnswer, JobAnswer, Answer};
-ghost use Rattle.gf_abs.specs.Reply.{reply_of};
+ghost use Rattle.answer_core.specs.Reply.{reply_of};
 ghost use Rattle.gf_abs.specs.Written.{IsText, Writes, WritesPart, IsWritten};
 
-use crate::commands;
-use crate::output::Output;
+use answer_certificates::{certify, upgrade, verify};
+use answer_composition::compose;
+use answer_core::Output;
+use answer_makers::{make, trial};
+use answer_polynomials::{abstraction, bits, check, eval, same};
+use answer_tables::{iso, lift, table};
 use gf_field::Field;
 use gf_tower::AnyField;
 use job_input::{Setting, Signed, read_signed, setting_over};
@@ -37,12 +41,12 @@ fn answer<S: Shelf>(alloc: Global, words: &[String], shelf: &mut S) -> Result<Ou
 fn job_answer<S: Shelf>(alloc: Global, command: &Command, shelf: &mut S) -> Result<Output, Stop>
     ensures held { S.held shelf.new ≡ S.held shelf.old }
     ensures never_fall { (S.faults shelf.old ≤ S.faults shelf.new) × (S.misses shelf.old ≤ S.misses shelf.new) }
-    ensures gives { GivesBy reply_of result (JobAnswer (S.held shelf.old) (job_of command.now))
+    ensures gives { GivesBy reply_of result (JobAnswer (S.held shelf.old) (spelled_job command.now))
         (Rose (S.misses shelf.old) (S.misses shelf.new)) (Rose (S.faults shelf.old) (S.faults shelf.new)) }
 {
     match command {
         Command::Over { signature, task } => over_signature(alloc, signature, task, shelf),
-        Command::Trial(words) => commands::trial::answer(alloc, words),
+        Command::Trial(words) => trial::answer(alloc, words),
     }
 }
 
@@ -104,21 +108,19 @@ fn task_answer<F: Field, S: Shelf>(
         (Rose (S.misses shelf.old) (S.misses shelf.new)) (Rose (S.faults shelf.old) (S.faults shelf.new)) }
 {
     match task {
-        Task::Bits(words) => { commands::bits::answer(alloc, field, setting, words, shelf) }
-        Task::Abstract(words) => {
-            commands::abstraction::answer(alloc, field, setting, words, shelf)
-        }
-        Task::Check(words) => { commands::check::answer(alloc, field, setting, words, shelf) }
-        Task::Same(words) => { commands::same::answer(alloc, field, setting, words, shelf) }
-        Task::Eval(words) => { commands::eval::answer(alloc, field, setting, words, shelf) }
-        Task::Iso(file) => { commands::iso::answer(alloc, setting, file, shelf) }
-        Task::Lift(file) => { commands::lift::answer(alloc, field, setting, file, shelf) }
-        Task::Table(words) => { commands::table::answer(alloc, field, setting, words, shelf) }
-        Task::Certify(words) => { commands::certify::answer(alloc, field, setting, words, shelf) }
-        Task::Verify(words) => { commands::verify::answer(alloc, field, setting, words, shelf) }
-        Task::Upgrade(words) => { commands::upgrade::answer(alloc, field, setting, words, shelf) }
-        Task::Make(kind) => commands::make::answer(alloc, field, setting, *kind),
-        Task::Compose(words) => { commands::compose::answer(alloc, field, setting, words, shelf) }
+        Task::Bits(words) => { bits::answer(alloc, field, setting, words, shelf) }
+        Task::Abstract(words) => { abstraction::answer(alloc, field, setting, words, shelf) }
+        Task::Check(words) => { check::answer(alloc, field, setting, words, shelf) }
+        Task::Same(words) => { same::answer(alloc, field, setting, words, shelf) }
+        Task::Eval(words) => { eval::answer(alloc, field, setting, words, shelf) }
+        Task::Iso(file) => { iso::answer(alloc, setting, file, shelf) }
+        Task::Lift(file) => { lift::answer(alloc, field, setting, file, shelf) }
+        Task::Table(words) => { table::answer(alloc, field, setting, words, shelf) }
+        Task::Certify(words) => { certify::answer(alloc, field, setting, words, shelf) }
+        Task::Verify(words) => { verify::answer(alloc, field, setting, words, shelf) }
+        Task::Upgrade(words) => { upgrade::answer(alloc, field, setting, words, shelf) }
+        Task::Make(kind) => make::answer(alloc, field, setting, *kind),
+        Task::Compose(words) => { compose::answer(alloc, field, setting, words, shelf) }
     }
 }
 

@@ -1,5 +1,5 @@
 -- k independent elements are a basis, and a basis is independent; the dual basis, its bits and its linear forms.
-use Rattle.std.proofs.Common.{◌≡◌, ℕ, zero, suc, refl, sym, ◌∙◌, ap, ap₂, ◌<◌, ◌≤◌, ◌^◌, arith, pow_pos, subst, List, length, get_or, take}
+use Rattle.std.proofs.Common.{◌≡◌, ℕ, zero, suc, refl, sym, ◌∙◌, ap, ap₂, ◌<◌, ◌≤◌, ◌^◌, ◌%◌, arith, pow_pos, subst, List, length, get_or, take}
 use Rattle.std.specs.Prelude.{bit_xor, slice_index}
 use Rattle.std.specs.Int.{bit_at}
 use Rattle.std.specs.Int.Bits.{xor_self, xor_lt}
@@ -7,7 +7,7 @@ use Rattle.std.proofs.lemmas.List.{ext_get_or, get_or-take, length-take-le}
 use Rattle.std.proofs.lemmas.Nat.{pow_below}
 use Rattle.std.proofs.lemmas.Nat.Bits.{bit_at-pow_same, bit_at-pow_other}
 use native.Mathlib.Nat.{mod-eq_of_lt}
-use Rattle.gf_field.specs.laws.XorLaws.{xor_same}
+use Rattle.lists.specs.laws.XorLaws.{xor_same}
 use Rattle.gf_field.specs.Ring.{IsRing}
 use Rattle.gf_field.specs.Field.{HasNoZeroDivisors}
 use Rattle.gf_field.specs.Element.{AreElements}
@@ -18,11 +18,12 @@ use Rattle.gf_field.specs.laws.PigeonholeLaws.{FoundAt}
 use Rattle.irreducible.specs.Span.{combination, IsIndependent}
 use Rattle.irreducible.specs.Matrix.{AreInverse}
 use Rattle.irreducible.specs.laws.SpanLaws.{combination_zero, combination_below}
-use Rattle.irreducible.specs.laws.AdditiveLaws.{IsAdditive-self, additive-combination}
+use Rattle.irreducible.specs.laws.AdditiveLaws.{IsAdditive-self, IsAdditive-combination, additive-combination}
 use Rattle.irreducible.proofs.InverseMatrixLaws.{sums_reach, sums_apart}
 use Rattle.gf_basis.specs.Basis.{AreBits, HasOnlyBits, IsBasis, AreIndependentLists}
 use Rattle.gf_basis.specs.Dual.{AreDual, linear_value}
-use Rattle.gf_basis.specs.TraceWord.{trace_word}
+use Rattle.gf_basis.specs.private.TraceWord.{trace_word}
+use Rattle.gf_basis.specs.private.Coordinates.{AreCoordinates}
 use Rattle.gf_basis.proofs.TraceWordLaws.{IsAdditive-trace_word, bit_at-trace_word, trace_word_unit, nondegenerate}
 
 -- ---- independent lists of k elements are the bases
@@ -57,6 +58,13 @@ pub AreBits-inverse : (bs rows : List ℕ) (i r : ℕ) → AreInverse bs rows �
 AreBits-inverse bs rows i r inverse h is = record {
   short = rw (is, sym inverse.size) (combination_below rows (length rows) (2 ^ i) inverse.square);
   is = ap (combination bs) is ∙ inverse.after (2 ^ i) (pow_below i (length bs) h);
+}
+
+-- the bits of an element are the sum of those of the powers of 2
+pub AreBits-coordinates : (bs rows : List ℕ) (x : ℕ) → length rows ≡ length bs → AreCoordinates bs rows → x < 2 ^ length bs → AreBits bs x (combination rows x)
+AreBits-coordinates bs rows x size are h = record {
+  short = combination_below rows (length bs) x (λ i l. (are i (omega (arith, size))).short);
+  is = additive-combination rows (combination bs) (λ v. v) (IsAdditive-combination bs) IsAdditive-self (λ i l. (are i (omega (arith, size))).is) x ∙ ap (λ n. x % 2 ^ n) size ∙ mod-eq_of_lt h;
 }
 
 -- ---- dual bases
@@ -96,9 +104,6 @@ module _ (k : ℕ) (mul : ℕ → ℕ → ℕ) (ring : IsRing k mul) (field : Ha
         unit j l =
             let below : j < k = omega arith in
             trace_word_unit k mul ring field ds (get_or bs j 0) j (rw (dual.size) below) (dual.same j below) (λ i m ne. dual.other i j (let s : length ds ≡ k = dual.size in omega arith) below ne)
-
-    pub trace_word-row : (j r : ℕ) → AreBits bs (2 ^ j) r → r ≡ trace_word mul k ds (2 ^ j)
-    trace_word-row j r a = sym (trace_word-bits r a.short) ∙ ap (trace_word mul k ds) a.is
 
     pub AreBits-traces : IsBasis k bs → (x : ℕ) → x < 2 ^ k → AreBits bs x (trace_word mul k ds x)
     AreBits-traces basis x h = at (basis.sums x h)

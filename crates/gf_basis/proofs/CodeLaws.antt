@@ -11,7 +11,7 @@ use Rattle.gf_field.specs.Trace.{trace}
 use Rattle.irreducible.specs.Span.{IsIndependent}
 use Rattle.irreducible.specs.laws.AdditiveLaws.{IsAdditive-self, combination-additive}
 use Rattle.gf_basis.specs.Basis.{first_values}
-use Rattle.gf_basis.specs.TraceWord.{trace_word}
+use Rattle.gf_basis.specs.private.TraceWord.{trace_word}
 use Rattle.gf_basis.proofs.TraceWordLaws.{trace_word_below}
 
 -- ---- first values

@@ -5,15 +5,15 @@ use Rattle.std.specs.Int.Bits.{xor_self, xor_shr, xor_mod, xor_zero_l, xor_zero_
 use Rattle.std.proofs.lemmas.Nat.{and_comm, shl_whole}
 use lib.Count.{ones, ones_step}
 use native.Mathlib.Nat.{mod-eq_of_lt}
-use Rattle.gf_field.specs.laws.BitLaws.{bit_cases}
-use Rattle.gf_field.specs.laws.XorLaws.{xor_cross}
+use Rattle.lists.specs.laws.NumberLaws.{bit_cases}
+use Rattle.lists.specs.laws.XorLaws.{xor_cross}
 use Rattle.gf_field.specs.Ring.{IsRing}
 use Rattle.gf_field.specs.Trace.{frobenius, trace}
 use Rattle.gf_field.specs.laws.RingLaws.{square-xor}
 use Rattle.irreducible.specs.Span.{combination}
 use Rattle.irreducible.specs.laws.SpanLaws.{combination_below}
 use Rattle.irreducible.specs.laws.AdditiveLaws.{combination-additive}
-use Rattle.gf_basis.specs.TraceWord.{parity, parity_word}
+use Rattle.gf_basis.specs.private.TraceWord.{parity, parity_word}
 
 and_bits : (p q : ℕ) → p < 2 → q < 2 → bit_and p q ≡ q * p
 and_bits p q hp hq = elim (bit_cases p hp) [

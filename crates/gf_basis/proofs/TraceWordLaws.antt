@@ -18,9 +18,9 @@ use Rattle.gf_field.specs.laws.PigeonholeLaws.{FoundAt}
 use Rattle.irreducible.specs.Span.{combination, IsIndependent}
 use Rattle.irreducible.specs.Matrix.{IsSquare, AreInverse}
 use Rattle.irreducible.specs.laws.SpanLaws.{combination_unit, combination_below}
-use Rattle.irreducible.specs.laws.AdditiveLaws.{IsAdditive, IsAdditive-combination, additive_zero, additive-combination, combination-additive}
+use Rattle.irreducible.specs.laws.AdditiveLaws.{IsAdditive, IsAdditive-combination, additive_zero, additive-combination}
 use Rattle.irreducible.proofs.InverseMatrixLaws.{sums_reach}
-use Rattle.gf_basis.specs.TraceWord.{trace_word, AreCoordinates, IsTraceMatrix}
+use Rattle.gf_basis.specs.private.TraceWord.{trace_word, IsTraceMatrix}
 
 IsAdditive-zero : IsAdditive (λ x. 0)
 IsAdditive-zero = record { sum = λ a b. sym (xor_self 0) }
@@ -126,10 +126,3 @@ module _ (k : ℕ) (mul : ℕ → ℕ → ℕ) (ring : IsRing k mul) (field : Ha
 
           short : combination inverse (2 ^ i) < 2 ^ length bs
           short = subst (λ (n : ℕ). combination inverse (2 ^ i) < 2 ^ n) same_size (combination_below inverse (length inverse) (2 ^ i) v.square)
-
--- ---- coordinates from those of the powers of 2
-module _ (k : ℕ) (mul : ℕ → ℕ → ℕ) (ring : IsRing k mul) (field : HasNoZeroDivisors k mul) where
-  pub bits_from_coordinates : (duals rows : List ℕ) (x : ℕ) → length rows ≡ k → AreCoordinates mul k duals rows → x < 2 ^ k → combination rows x ≡ trace_word mul k duals x
-  bits_from_coordinates duals rows x size are h =
-      combination-additive rows (trace_word mul k duals) (IsAdditive-trace_word k mul ring field duals) (λ i l. are i (omega (arith, size))) x
-      ∙ ap (λ n. trace_word mul k duals (x % 2 ^ n)) size ∙ ap (trace_word mul k duals) (mod-eq_of_lt h)

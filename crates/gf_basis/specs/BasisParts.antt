@@ -2,7 +2,6 @@
 use Rattle.std.specs.Prelude.{ℕ, List, take}
 use Rattle.gf_basis.specs.Basis.{IsBasis}
 use Rattle.gf_basis.specs.Dual.{AreDual}
-use Rattle.gf_basis.specs.TraceWord.{AreCoordinates}
 use Rattle.gf_basis.specs.declared.bases.Basis.{Basis}
 
 -- its elements
@@ -13,13 +12,7 @@ elements_of basis = take basis.count basis.elements
 abbrev pub duals_of : Basis → List ℕ
 duals_of basis = take basis.count basis.duals
 
--- the bits of the numbers 2 to the j
-abbrev pub coordinates_of : Basis → List ℕ
-coordinates_of basis = take basis.count basis.coordinates
-
--- the basis is one of the field of 2 to the k elements with this product, its dual is dual to it, and its coordinates
--- are the traces of the dual's products
+-- the basis is one of the field of 2 to the k elements with this product, and its dual is dual to it
 pub record IsBasisOver (k : ℕ) (mul : ℕ → ℕ → ℕ) (basis : Basis) : Type 0 where
   pub elements : IsBasis k (elements_of basis)
   pub dual : AreDual k mul (elements_of basis) (duals_of basis)
-  pub coordinates : AreCoordinates mul k (duals_of basis) (coordinates_of basis)

@@ -2,4 +2,4 @@ pub mod Basis
 pub mod Dual
 pub mod BasisParts
 pub mod BasisFault
-pub mod TraceWord
+pub mod private

@@ -7,6 +7,7 @@ ghost use Rattle.gf_field.specs.Trace.{frobenius as frobenius_of};
 ghost use Rattle.irreducible.specs.Span.{combination, IsIndependent};
 ghost use Rattle.gf_basis.specs.Basis.{AreBits, IsBasisList, first_values};
 ghost use Rattle.gf_basis.specs.Dual.{linear_value};
+ghost use Rattle.gf_basis.specs.private.Coordinates.{AreCoordinates};
 
 use super::duals::{conjugates, coordinates, trace_mask, trace_matrix};
 use gf_field::{Field, filled, first_outside, is_element};
@@ -22,6 +23,7 @@ pub struct Basis {
     count: u32,
     ghost few: { count ≤ 64 },
     ghost inside: { AreElements count (take count elements) },
+    ghost cached: { AreCoordinates (take count elements) coordinates },
 }
 
 /// Why a list is no basis; each fault comes after those before it.

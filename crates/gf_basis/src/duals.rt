@@ -6,8 +6,8 @@ ghost use Rattle.gf_field.specs.Trace.{frobenius as frobenius_of};
 ghost use Rattle.irreducible.specs.BitMatrix.{rows_of};
 ghost use Rattle.irreducible.specs.Matrix.{IsSquare};
 ghost use Rattle.irreducible.specs.Span.{IsIndependent};
-ghost use Rattle.gf_basis.specs.Basis.{AreBits};
-ghost use Rattle.gf_basis.specs.TraceWord.{trace_word, AreUnitSquares, IsTraceMask, IsTraceMatrix};
+ghost use Rattle.gf_basis.specs.private.Coordinates.{AreCoordinates};
+ghost use Rattle.gf_basis.specs.private.TraceWord.{trace_word, AreUnitSquares, IsTraceMask, IsTraceMatrix};
 
 use super::parities::{parities, parity};
 use gf_field::Field;
@@ -92,7 +92,7 @@ pub fn coordinates(elements: &[u64]) -> [u64; 64]
     requires few { length elements.now ≤ 64 }
     requires square { IsSquare elements.now }
     requires free { IsIndependent elements.now }
-    ensures { (j : ℕ) → j < length elements.now → AreBits elements.now (2 ^ j) (slice_index result j) }
+    ensures { AreCoordinates elements.now result }
 {
     let inverse = BitMatrix::new(elements).inverse().unwrap();
     let mut all = [0; 64];

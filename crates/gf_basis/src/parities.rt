@@ -1,7 +1,7 @@
 //! Parities of the bits that numbers share with a mask.
 
 ghost use Rattle.std.specs.Prelude.{◌≡◌, ◌<◌, ◌≤◌, length};
-ghost use Rattle.gf_basis.specs.TraceWord.{parity as parity_of, parity_word};
+ghost use Rattle.gf_basis.specs.private.TraceWord.{parity as parity_of, parity_word};
 
 /// Whether the number of bits that are set in both is odd, as 0 or 1.
 pub fn parity(mask: u64, x: u64) -> u64

@@ -5,11 +5,12 @@ use Rattle.std.specs.Int.Bits.{xor_assoc, xor_self, xor_zero_l, xor_zero_r, xor_
 use Rattle.std.proofs.lemmas.Nat.{shl-shr, shr_split, shr_below, mod-pow-add}
 use Rattle.std.proofs.Math.Nat.{add-mul-div_right, add-mul-mod_self_right}
 use native.Mathlib.Nat.{mod-eq_of_lt, div-one}
+use Rattle.lists.specs.laws.NumberLaws.{bit_cases}
 use Rattle.gf_field.specs.Bit.{bit_mul}
 use Rattle.gf_field.specs.Modulus.{IsModulus}
 use Rattle.gf_field.specs.Polynomial.{IsProductModulo}
 use Rattle.gf_field.specs.Quotient.{product}
-use Rattle.gf_field.specs.laws.BitLaws.{IsRing-bit_mul, bit_cases}
+use Rattle.gf_field.specs.laws.BitLaws.{IsRing-bit_mul}
 use Rattle.gf_field.specs.laws.ModulusLaws.{IsMonic-from_modulus}
 use Rattle.gf_field.specs.laws.ProductLaws.{IsProduct_same}
 use Rattle.gf_field.specs.private.ShiftAndAdd.{times_x, times_power, part}

@@ -4,6 +4,7 @@ use Rattle.std.specs.Prelude.{bit_xor}
 use Rattle.std.specs.Int.Bits.{xor_zero_r, xor_lt}
 use mathlib.Core.Path.{fun_ext}
 use native.Mathlib.Nat.{mod-eq_of_lt}
+use Rattle.lists.specs.laws.NumberLaws.{bit_cases}
 use Rattle.gf_field.specs.Modulus.{IsModulus}
 use Rattle.gf_field.specs.Bit.{bit_mul}
 use Rattle.gf_field.specs.Polynomial.{coefficient, IsProductModulo}
@@ -12,7 +13,7 @@ use Rattle.gf_field.specs.Quotient.{times, plus, rest, shift, step, reduced, pac
 use Rattle.gf_field.specs.laws.QuotientLaws.{EndsAt, AllBelow, step_ends, step_plus, reduced_below, reduced_ends}
 use Rattle.gf_field.specs.laws.PackingLaws.{packed_extra, packed_none, coefficient_ends, coefficient_below, packed_xor, coefficient_xor, packed-coefficient, coefficient-packed, packed_below, coefficient_suc, coefficient_zero}
 use Rattle.gf_field.specs.private.ShiftAndAdd.{times_x, part}
-use Rattle.gf_field.specs.laws.BitLaws.{IsRing-bit_mul, bit_mul_below, bit_cases}
+use Rattle.gf_field.specs.laws.BitLaws.{IsRing-bit_mul, bit_mul_below}
 use Rattle.gf_field.specs.laws.ModulusLaws.{modulus_below, IsMonic-from_modulus}
 
 one_times : (f : ℕ → ℕ) → AllBelow 1 f → times bit_mul 1 f ≡ f

@@ -9,12 +9,13 @@ use Rattle.std.proofs.lemmas.Nat.Bits.{ones_shr}
 use Rattle.std.proofs.lemmas.Bool.{cases_eq}
 use Rattle.std.proofs.Math.Pow.{mod-mod-pow}
 use native.Mathlib.Nat.{mod-eq_of_lt, div-one}
+use Rattle.lists.specs.laws.NumberLaws.{bit_cases}
 use Rattle.gf_field.specs.Bit.{bit_mul}
 use Rattle.gf_field.specs.Modulus.{IsModulus}
 use Rattle.gf_field.specs.Polynomial.{IsProductModulo}
 use Rattle.gf_field.specs.Quotient.{product}
 use Rattle.gf_field.specs.Table16.{AreMultiples}
-use Rattle.gf_field.specs.laws.BitLaws.{IsRing-bit_mul, bit_cases}
+use Rattle.gf_field.specs.laws.BitLaws.{IsRing-bit_mul}
 use Rattle.gf_field.specs.laws.ModulusLaws.{IsMonic-from_modulus, IsRing-from_modulus}
 use Rattle.gf_field.specs.laws.ProductLaws.{IsProductModulo-product}
 use Rattle.gf_field.specs.private.ShiftAndAdd.{times_x, times_power, part, AreParts}

@@ -1,4 +1,3 @@
-pub mod XorLaws
 pub mod RingLaws
 pub mod ConvolutionLaws
 pub mod QuotientLaws

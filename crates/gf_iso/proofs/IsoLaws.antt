@@ -5,11 +5,11 @@ use Rattle.std.specs.Int.Bits.{xor_self, xor_zero_l, xor_comm, xor_assoc}
 use Rattle.std.proofs.lemmas.Bool.{cases_lt}
 use Rattle.std.proofs.lemmas.Nat.{pow_below}
 use native.Mathlib.Nat.{mod-eq_of_lt}
+use Rattle.lists.specs.laws.NumberLaws.{bit_cases}
+use Rattle.lists.specs.laws.XorLaws.{xor_same, xor_cross}
 use mathlib.Core.Path.{fun_ext}
-use Rattle.gf_field.specs.laws.XorLaws.{xor_same, xor_cross}
 use Rattle.gf_field.specs.Ring.{IsRing}
 use Rattle.gf_field.specs.Bit.{bit_mul}
-use Rattle.gf_field.specs.laws.BitLaws.{bit_cases}
 use Rattle.gf_field.specs.Field.{HasNoZeroDivisors}
 use Rattle.gf_field.specs.Power.{power}
 use Rattle.gf_field.specs.laws.PowerLaws.{power_below}

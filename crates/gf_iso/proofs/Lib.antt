@@ -7,6 +7,7 @@ pub mod SearchLaws
 pub mod SliceLaws
 pub mod IsoLaws
 pub mod WordLaws
+pub mod ImageLemmas
 pub mod StepLaws
 pub mod UniqueLaws
 pub mod FieldsLaws

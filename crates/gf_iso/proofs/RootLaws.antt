@@ -6,8 +6,8 @@ use Rattle.std.specs.Prelude.{bit_xor}
 use Rattle.std.specs.Int.Bits.{xor_self, xor_lt, xor_zero_l, xor_zero_r, xor_assoc}
 use Rattle.std.proofs.lemmas.Bool.{cases_eq}
 use Rattle.std.proofs.lemmas.Nat.{pow_below, shr_high, mod_low}
+use Rattle.lists.specs.laws.XorLaws.{xor_cancel, xor_same}
 use mathlib.Core.Path.{fun_ext}
-use Rattle.gf_field.specs.laws.XorLaws.{xor_cancel, xor_same}
 use Rattle.gf_field.specs.Ring.{IsRing}
 use Rattle.gf_field.specs.Field.{HasNoZeroDivisors}
 use Rattle.gf_field.specs.Power.{power}

@@ -1,6 +1,7 @@
 -- The search, at the first word of a slice and the rest.
-use Rattle.std.proofs.Common.{◌≡◌, ℕ, suc, sym, ◌∙◌, ap, ◌<◌, ◌≤◌, ◌^◌, ◌-◌, arith, subst, List, [], ◌∷◌, length, take, drop, get_or}
-use Rattle.std.specs.Prelude.{bit_xor, Option}
+use Rattle.std.proofs.Common.{◌≡◌, ℕ, suc, refl, inl, sym, ◌∙◌, ap, ◌<◌, ◌≤◌, ◌^◌, ◌-◌, arith, subst, List, [], ◌∷◌, length, take, drop, get_or}
+use Rattle.std.specs.Prelude.{bit_xor, Option, None, Some}
+use Rattle.std.specs.Int.Bits.{xor_zero_r}
 use Rattle.std.proofs.Math.Seq.{take-length}
 use Rattle.gf_iso.specs.private.Search.{IsLeastOf, IsLesserOf}
 use Rattle.gf_iso.proofs.SearchLaws.{joined}
@@ -24,3 +25,12 @@ module _ (k : ℕ) (f : ℕ → ℕ) where
   joined_at [] start a b r h ha hb e = absurd (omega arith)
   joined_at (v ∷ vs) start a b r h ha hb e =
       joined k f v vs start a b r (subst (λ l. IsLeastOf k f l start a) (others_are v vs) ha) (subst (λ l. IsLeastOf k f l (bit_xor start v) b) (others_are v vs) hb) e
+
+  -- a first word that is 0 makes no other sums
+  pub skipped_at : (vectors : List ℕ) (start : ℕ) (r : Option ℕ) → 1 ≤ length vectors → get_or vectors 0 0 ≡ 0 → IsLeastOf k f (others vectors) start r → IsLeastOf k f vectors start r
+  skipped_at vectors start r h z found =
+      joined_at vectors start r r r h found (subst (λ s. IsLeastOf k f (others vectors) s r) (sym (ap (bit_xor start) z ∙ xor_zero_r start)) found) (lesser_self r)
+    where
+      lesser_self : (r : Option ℕ) → IsLesserOf r r r
+      lesser_self None = refl
+      lesser_self (Some a) = record { first = omega arith; second = omega arith; is = inl refl }

@@ -3,10 +3,11 @@ use Rattle.std.proofs.Common.{◌≡◌, ℕ, zero, suc, refl, sym, ◌∙◌, a
 use Rattle.std.specs.Int.Bits.{xor_mod}
 use Rattle.std.proofs.lemmas.Nat.{pow_below}
 use native.Mathlib.Nat.{mod-eq_of_lt}
+use Rattle.lists.specs.laws.NumberLaws.{bit_cases}
 use mathlib.Core.Path.{fun_ext}
 use Rattle.gf_field.specs.Ring.{IsRing}
 use Rattle.gf_field.specs.Bit.{bit_mul}
-use Rattle.gf_field.specs.laws.BitLaws.{bit_cases, bit_mul_below, IsRing-bit_mul}
+use Rattle.gf_field.specs.laws.BitLaws.{bit_mul_below, IsRing-bit_mul}
 use Rattle.gf_field.specs.Field.{HasNoZeroDivisors}
 use Rattle.gf_field.specs.laws.ModulusLaws.{IsMonic-from_modulus, IsRing-from_modulus}
 use Rattle.gf_field.specs.Power.{power}

@@ -1,5 +1,6 @@
 pub mod Root
 pub mod Isomorphism
+pub mod Images
 pub mod Fits
 pub mod IsoParts
 pub mod private

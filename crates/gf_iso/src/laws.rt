@@ -7,6 +7,7 @@ ghost use Rattle.irreducible.specs.Proved.{ring_of};
 ghost use Rattle.gf_tower.specs.TowerParts.{base_of, coefficients_of, size_of};
 ghost use Rattle.gf_iso.specs.Fits.{Fits};
 ghost use Rattle.gf_iso.specs.Isomorphism.{HasOnlyIso, HasSameWord};
+ghost use Rattle.gf_iso.specs.Images.{HasBasisOfImages, HasKeptBases};
 
 use gf_field::Ring2k;
 use gf_tower::Tower;
@@ -23,4 +24,16 @@ pub fn only_isomorphism(_big: &Proved<Ring2k>, _tower: &Proved<Tower<Proved<Ring
 /// same bits have in the tower.
 pub fn same_word(_big: &Proved<Ring2k>, _tower: &Proved<Tower<Proved<Ring2k>>>)
     ensures { HasSameWord (degree_of (ring_of (base_of (ring_of _tower.now)))) (modulus_of (ring_of (base_of (ring_of _tower.now)))) (coefficients_of (ring_of _tower.now)) (quotient_product 1 (degree_of (ring_of _big.now)) bit_mul (modulus_of (ring_of _big.now))) }
+{}
+
+/// An isomorphism takes each basis of the tower to one of the big field: an element has over the first the bits that its
+/// image has over the second.
+pub fn kept_bases(_big: &Proved<Ring2k>, _tower: &Proved<Tower<Proved<Ring2k>>>)
+    ensures { HasKeptBases (degree_of (ring_of (base_of (ring_of _tower.now)))) (modulus_of (ring_of (base_of (ring_of _tower.now)))) (coefficients_of (ring_of _tower.now)) (quotient_product 1 (degree_of (ring_of _big.now)) bit_mul (modulus_of (ring_of _big.now))) }
+{}
+
+/// The images of the numbers `2^i` are independent, so that a list basis of them is never refused, and the image of an
+/// element has over them the bits of the element's number.
+pub fn basis_of_images(_big: &Proved<Ring2k>, _tower: &Proved<Tower<Proved<Ring2k>>>)
+    ensures { HasBasisOfImages (degree_of (ring_of (base_of (ring_of _tower.now)))) (modulus_of (ring_of (base_of (ring_of _tower.now)))) (coefficients_of (ring_of _tower.now)) (quotient_product 1 (degree_of (ring_of _big.now)) bit_mul (modulus_of (ring_of _big.now))) }
 {}

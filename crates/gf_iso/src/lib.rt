@@ -8,4 +8,4 @@ mod matrices;
 mod roots;
 
 pub use isos::{Iso, IsoFault};
-pub use laws::{only_isomorphism, same_word};
+pub use laws::{basis_of_images, kept_bases, only_isomorphism, same_word};

@@ -13,6 +13,7 @@ pub fn powers<F: Field>(field: &F, y: u64, count: usize) -> [u64; 64]
     requires element { y < 2 ^ F.degree field.now }
     requires few { count ≤ 64 }
     ensures powers { (j : ℕ) → j < count → slice_index result j ≡ power_of (F.product field.now) y j }
+    ensures zeros { (j : ℕ) → count ≤ j → slice_index result j ≡ 0 }
     ensures elements { (j : ℕ) → slice_index result j < 2 ^ F.degree field.now }
     ensures whole { length result ≡ 64 }
 {

@@ -10,7 +10,7 @@ use Rattle.gf_field.specs.Quotient.{product}
 use Rattle.gf_field.specs.Element.{AreElements}
 use Rattle.gf_tower.specs.Tower.{polynomial_of}
 use Rattle.gf_tower.specs.laws.TowerLaws.{polynomial_below}
-use Rattle.gf_tower.specs.Digits.{IsPacked, modulus_of, scaled, scaled_from, times_y, from_digit}
+use Rattle.gf_tower.specs.private.DigitSteps.{IsPacked, modulus_of, scaled, scaled_from, times_y, from_digit}
 use Rattle.gf_tower.specs.laws.DigitsLaws.{scaled_below, scaled_start, scaled_step, scaled_end, scaled_element, times_y_is, times_y_element, from_digit_start, from_digit_element, from_digit_step, from_digit_end}
 
 pub masked : (k x : ℕ) → k ≤ 64 → bit_and x (18446744073709551615 / 2 ^ (64 - k)) ≡ x % 2 ^ k

@@ -1,40 +1,12 @@
--- Numbers as digits of n bits, and the parts of a product in a tower that its steps make. Source: this project's own.
-use Rattle.std.specs.Prelude.{◌≡◌, ℕ, pred, ◌+◌, ◌*◌, ◌-◌, ◌/◌, ◌<◌, ◌≤◌, ◌^◌, List, length}
+-- Coefficients packed into one number. Source: this project's own.
+use Rattle.std.specs.Prelude.{◌≡◌, ℕ, ◌*◌, ◌≤◌, List, length}
 use Rattle.gf_field.specs.Element.{AreElements}
-use Rattle.gf_field.specs.Polynomial.{coefficient}
-use Rattle.gf_field.specs.Quotient.{times, step, reduced, packed}
 use Rattle.gf_tower.specs.Tower.{polynomial_of}
 
--- the polynomial of degree m whose lower coefficients are the digits of `low`, and which is monic
-abbrev pub modulus_of : ℕ → ℕ → ℕ → ℕ
-modulus_of n m low = 1 * 2 ^ (n * m) + low
-
--- m digits of n bits
-pub record IsPacked (n m low : ℕ) : Type 0 where
-  pub two : 2 ≤ m
-  pub small : n * m ≤ 64
-  pub below : low < 2 ^ (n * m)
-
--- `low` packs the m coefficients
+-- `low` packs the m coefficients, n bits each
 pub record IsPackedList (n m low : ℕ) (cs : List ℕ) : Type 0 where
   pub two : 2 ≤ m
   pub small : n * m ≤ 64
   pub size : length cs ≡ m
   pub elements : AreElements n cs
   pub packs : low ≡ polynomial_of n cs
-
--- a times each digit of v
-unfoldable pub scaled : (n : ℕ) → (ℕ → ℕ → ℕ) → (m a v : ℕ) → ℕ
-scaled n mul m a v = packed n m (times mul a (coefficient n v))
-
--- the digits from i on, each times a
-unfoldable pub scaled_from : (n : ℕ) → (ℕ → ℕ → ℕ) → (m a v i : ℕ) → ℕ
-scaled_from n mul m a v i = packed n (m - i) (times mul a (coefficient n (v / 2 ^ (n * i))))
-
--- Y times a, modulo g
-unfoldable pub times_y : (n : ℕ) → (ℕ → ℕ → ℕ) → (m g a : ℕ) → ℕ
-times_y n mul m g a = packed n m (step mul (pred m) (coefficient n g) (coefficient n a))
-
--- the part of a product that the digits of a from i on make
-unfoldable pub from_digit : (n : ℕ) → (ℕ → ℕ → ℕ) → (m g a b i : ℕ) → ℕ
-from_digit n mul m g a b i = packed n m (reduced mul (pred m) (coefficient n g) (m - i) (coefficient n (a / 2 ^ (n * i))) (coefficient n b))

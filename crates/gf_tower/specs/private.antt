@@ -1,1 +1,2 @@
+pub mod DigitSteps
 pub mod OverFault

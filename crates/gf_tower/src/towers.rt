@@ -5,7 +5,8 @@ ghost use Rattle.gf_field.specs.Element.{AreElements};
 ghost use Rattle.gf_field.specs.Polynomial.{IsProductModulo};
 ghost use Rattle.gf_field.specs.Quotient.{product as quotient_product};
 ghost use Rattle.gf_tower.specs.Tower.{IsTowerList, polynomial_of, tower_polynomial};
-ghost use Rattle.gf_tower.specs.Digits.{IsPackedList, modulus_of, scaled as scaled_of, times_y as times_y_of};
+ghost use Rattle.gf_tower.specs.Digits.{IsPackedList};
+ghost use Rattle.gf_tower.specs.private.DigitSteps.{modulus_of, scaled as scaled_of, times_y as times_y_of};
 
 use gf_field::{Field, Ring, filled, first_outside};
 use thiserror::Error;

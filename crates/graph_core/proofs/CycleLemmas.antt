@@ -2,6 +2,9 @@
 use Rattle.std.proofs.Common.{◌≡◌, ◌∙◌, ap, sym, refl, inl, inr, subst, ℕ, zero, suc, ◌<◌, ◌≤◌, ◌+◌, ◌-◌, List, [], ◌∷◌, ◌++◌, length, drop, map, Some, arith, add-zero}
 use Rattle.std.proofs.lemmas.Option.{slice_get_within}
 use Rattle.std.specs.Prelude.{slice_get}
+use Rattle.lists.specs.laws.ListLaws.{length_map}
+use Rattle.lists.specs.laws.ReadLaws.{got_push, get_here, get_below, from_map}
+use Rattle.lists.specs.laws.TakeLaws.{drop_map_push}
 use Rattle.graph_core.specs.Graph.{Graph, edges, IsPath}
 use Rattle.graph_core.specs.Walk.{IsWalkBy}
 use Rattle.graph_core.specs.Cycle.{IsGrounded, grounded, IsEndless, IsFirstEndless, IsCycleOf}
@@ -10,9 +13,7 @@ use Rattle.graph_core.specs.Walking.{IsWalking, IsMet, MetAreReached, StartsAt, 
 use Rattle.graph_core.specs.declared.walk.Mark.{Mark}
 use Rattle.graph_core.specs.declared.walk.Mark.TheVariants.{Unseen, Open, Done}
 use Rattle.graph_core.specs.declared.walk.Frame.{Frame}
-use Rattle.graph_core.proofs.GeneralLemmas.{length_map}
 use Rattle.graph_core.proofs.GroundLemmas.{grounded_no_cycle, endless_path}
-use Rattle.graph_core.proofs.ListLemmas.{got_push, get_here, get_below}
 
 done_below : (graph : Graph) (marks : List Mark) (stack : List Frame) (order : List ℕ) → IsWalking graph marks stack order → (bound place point : ℕ) → place < bound → slice_get marks point ≡ Some (Done place) → IsGrounded graph point
 done_below graph marks stack order walk zero place point less is = absurd (omega arith)
@@ -35,17 +36,6 @@ path_up graph marks stack order walk (suc n) p to h g from top edge =
     let second = get_below stack (p + 1) (omega (arith, slice_get_within stack (p + 1 + n) g top')) in
     let up = path_up graph marks stack order walk n (p + 1) to second.0 g second.1 top' edge in
     (second.0.point ∷ up.0, ((h.next, walk.links p h second.0 from second.1), up.1))
-
-pub from_map : {X Y : Type 0} (f : X → Y) (xs : List X) (k : ℕ) (y : Y) → slice_get (map f xs) k ≡ Some y → (x : X) × (slice_get xs k ≡ Some x) × (f x ≡ y)
-from_map f [] k y got = absurd (cc)
-from_map f (x ∷ xs) zero y got = (x, refl, cc)
-from_map f (x ∷ xs) (suc k) y got = from_map f xs k y got
-
-drop_map_push : {X Y : Type 0} (f : X → Y) (n : ℕ) (xs : List X) (x : X) → n ≤ length xs → map f (drop n xs) ++ f x ∷ [] ≡ drop n (map f (xs ++ x ∷ []))
-drop_map_push f zero [] x less = refl
-drop_map_push f zero (y ∷ ys) x less = ap (λ (zs : List _). f y ∷ zs) (drop_map_push f zero ys x (omega arith))
-drop_map_push f (suc n) [] x less = absurd (omega arith)
-drop_map_push f (suc n) (y ∷ ys) x less = drop_map_push f n ys x (omega arith)
 
 -- the place of an open point is on the stack
 pub open_within : (graph : Graph) (marks : List Mark) (front : List Frame) (f : Frame) (order : List ℕ) (to p : ℕ) → IsWalking graph marks (front ++ f ∷ []) order → slice_get marks to ≡ Some (Open p) → p ≤ length front

@@ -1,7 +1,8 @@
 -- Small worked examples of the definitions of specs/, which the check computes: a graph of five points, in which 0 leads
 -- to 1, 1 to 2 and 2 nowhere, and 3 and 4 lead to each other.
 use Rattle.std.proofs.Common.{◌≡◌, ℕ, zero, suc, ◌<◌, ◌+◌, [], ◌∷◌, Option, Some, slice_get, sym, subst, refl, arith, inl, inr}
-use Rattle.graph_core.specs.Graph.{Graph, Has, HasEdge, edges, IsPath, IsReached, IsCycle}
+use Rattle.lists.specs.Lists.{Has}
+use Rattle.graph_core.specs.Graph.{Graph, HasEdge, edges, IsPath, IsReached, IsCycle}
 use Rattle.graph_core.specs.Cycle.{IsGrounded, grounded, IsEndless, IsFirstEndless, IsCycleOf}
 use Rattle.graph_core.proofs.GroundLemmas.{grounded_no_cycle}
 use Rattle.graph_core.specs.Arranged.{IsArranged}

@@ -1,31 +1,12 @@
 -- Edges of a graph that was changed.
-use Rattle.std.proofs.Common.{◌≡◌, ◌≢◌, ◌⊎◌, ap, sym, refl, inl, inr, subst, ℕ, zero, suc, ◌<◌, ◌≤◌, ◌+◌, List, [], ◌∷◌, ◌++◌, length, length-set, ◌^◌, replicate, Option, None, Some, arith}
+use Rattle.std.proofs.Common.{◌≡◌, ◌≢◌, ap, sym, refl, inl, inr, subst, ℕ, zero, suc, ◌<◌, ◌≤◌, ◌+◌, List, [], ◌∷◌, ◌++◌, length, length-set, ◌^◌, replicate, Option, None, Some, arith}
 use Rattle.std.specs.Prelude.{slice_get, All, IfSome}
 use Rattle.std.proofs.Math.ListN.{set}
-use Rattle.std.proofs.lemmas.Bool.Decides.{eqb_tells}
 use Rattle.std.proofs.lemmas.List.{length-replicate}
-use Rattle.std.proofs.lemmas.Option.{slice_get_within, get_or_from_slice_get}
-use Rattle.graph_core.specs.Graph.{Graph, Has, edges, IsInside}
-
-pub nat_eq_or : (a b : ℕ) → (a ≡ b) ⊎ (a ≢ b)
-nat_eq_or a b = elim (eqb_tells a b) [ inl w ↦ inl w.1 | inr w ↦ inr w.1 ]
-
--- neither is below the other
-pub even : (m n : ℕ) → (m < n → ⊥) → (n < m → ⊥) → m ≡ n
-even m n f g = omega (arith, f, g)
-
--- lists that agree place by place
-pub same_lists : {X : Type 0} (v w : List X) → length v ≡ length w → ((k : ℕ) (a b : X) → slice_get v k ≡ Some a → slice_get w k ≡ Some b → a ≡ b) → v ≡ w
-same_lists [] [] long same = refl
-same_lists [] (y ∷ ys) long same = absurd (omega arith)
-same_lists (x ∷ xs) [] long same = absurd (omega arith)
-same_lists (x ∷ xs) (y ∷ ys) long same =
-    let head : x ≡ y = same 0 x y refl refl in
-    let tail : xs ≡ ys = same_lists xs ys (omega arith) (λ k a b first second. same (suc k) a b first second) in
-    rw (head, tail) refl
-
-pub All_has : {X : Type 0} (P : X → Type 0) (xs : List X) (x : X) → All P xs → Has xs x → P x
-All_has P xs x all has = subst P (get_or_from_slice_get xs has.0 x x has.1) (all has.0 x (slice_get_within xs has.0 x has.1))
+use Rattle.lists.specs.laws.HasLaws.{All_has}
+use Rattle.lists.specs.laws.ListLaws.{replicate_more}
+use Rattle.lists.specs.laws.NumberLaws.{nat_eq_or}
+use Rattle.graph_core.specs.Graph.{Graph, edges, IsInside}
 
 pub edges_within : (graph : Graph) (a k b : ℕ) → slice_get (edges graph a) k ≡ Some b → a < length graph
 edges_within [] a k b got = absurd (cc)
@@ -65,10 +46,6 @@ inside_set graph from to less all inside a b (k, got) =
       | inr other ↦ inside a b (k, subst P (edges_set_other graph from to a other) got)
     ] in
     omega (arith, length-set graph from to)
-
-replicate_more : {X : Type 0} (x : X) (n : ℕ) → replicate n x ++ x ∷ [] ≡ replicate (suc n) x
-replicate_more x zero = refl
-replicate_more x (suc n) = ap (λ (xs : List _). x ∷ xs) (replicate_more x n)
 
 -- one more point without edges
 pub none_more : (graph : Graph) (n : ℕ) (row : List ℕ) → graph ≡ replicate n [] → row ≡ [] → graph ++ row ∷ [] ≡ replicate (n + 1) []

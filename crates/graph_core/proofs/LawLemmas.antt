@@ -1,12 +1,13 @@
 -- Laws of orders and cycles.
 use Rattle.std.proofs.Common.{◌≡◌, inl, inr, ℕ, zero, suc, ◌<◌, List, ◌∷◌, Some, arith}
 use Rattle.std.specs.Prelude.{slice_get}
-use Rattle.graph_core.specs.Graph.{Graph, Has, edges, HasEdge, IsPath, IsCycle}
+use Rattle.lists.specs.Lists.{Has}
+use Rattle.lists.specs.laws.NumberLaws.{nat_eq_or, even}
+use Rattle.lists.specs.laws.ReadLaws.{get_below}
+use Rattle.graph_core.specs.Graph.{Graph, edges, HasEdge, IsPath, IsCycle}
 use Rattle.graph_core.specs.Cycle.{IsGrounded, grounded, IsFirstEndless, IsCycleOf}
 use Rattle.graph_core.specs.Arranged.{IsArranged}
-use Rattle.graph_core.proofs.GraphLemmas.{nat_eq_or, even}
 use Rattle.graph_core.proofs.GroundLemmas.{grounded_path, grounded_no_cycle}
-use Rattle.graph_core.proofs.ListLemmas.{get_below}
 use Rattle.graph_core.proofs.LoopLemmas.{loop_cycle, cycle_weaker, loop_only}
 
 -- the first endless point is the only first one

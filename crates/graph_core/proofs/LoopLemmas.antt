@@ -2,23 +2,14 @@
 use Rattle.std.proofs.Common.{◌≡◌, ◌∙◌, ap, sym, refl, subst, ℕ, zero, suc, ◌<◌, ◌+◌, List, [], ◌∷◌, length, drop, Some, arith}
 use Rattle.std.specs.Prelude.{slice_get}
 use Rattle.std.proofs.lemmas.Option.{slice_get_within}
+use Rattle.lists.specs.laws.NumberLaws.{even}
+use Rattle.lists.specs.laws.ReadLaws.{get_below, same_lists}
+use Rattle.lists.specs.laws.TakeLaws.{get_drop, length_drop_plus}
 use Rattle.graph_core.specs.Walk.{IsChain, IsCycleBy, IsWalkBy, IsLoopBy}
-use Rattle.graph_core.proofs.ListLemmas.{get_below}
-use Rattle.graph_core.proofs.GraphLemmas.{even, same_lists}
 
 chain_of : (R : ℕ → ℕ → Type 0) (a : ℕ) (rest : List ℕ) (b : ℕ) → ((k x y : ℕ) → slice_get (a ∷ rest) k ≡ Some x → slice_get (a ∷ rest) (suc k) ≡ Some y → R x y) → ((k x : ℕ) → suc k ≡ length (a ∷ rest) → slice_get (a ∷ rest) k ≡ Some x → R x b) → IsChain R a rest b
 chain_of R a [] b links last = last 0 a refl refl
 chain_of R a (c ∷ cs) b links last = (links 0 a c refl refl, chain_of R c cs b (λ k x y first second. links (suc k) x y first second) (λ k x end got. last (suc k) x (ap suc end) got))
-
-get_drop : (n : ℕ) (xs : List ℕ) (k : ℕ) → slice_get (drop n xs) k ≡ slice_get xs (n + k)
-get_drop zero xs k = let e : 0 + k ≡ k = omega arith in ap (slice_get xs) (sym e)
-get_drop (suc n) [] k = refl
-get_drop (suc n) (x ∷ xs) k = get_drop n xs k ∙ (let e : suc n + k ≡ suc (n + k) = omega arith in ap (slice_get (x ∷ xs)) (sym e))
-
-length_drop_plus : (n : ℕ) (xs : List ℕ) → n < length xs → n + length (drop n xs) ≡ length xs
-length_drop_plus n [] less = absurd (omega arith)
-length_drop_plus zero (x ∷ xs) less = omega arith
-length_drop_plus (suc n) (x ∷ xs) less = omega (arith, length_drop_plus n xs (omega arith))
 
 -- the loop of a walk is a cycle
 pub loop_cycle : (B : ℕ → Type 0) (L : ℕ → ℕ → Type 0) (loop : List ℕ) → IsLoopBy B L loop → IsCycleBy L loop

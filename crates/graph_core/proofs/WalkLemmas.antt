@@ -3,14 +3,16 @@ use Rattle.std.proofs.Common.{◌≡◌, ◌∙◌, ap, sym, refl, inl, inr, ℕ
 use Rattle.std.proofs.lemmas.Option.{slice_get_within}
 use Rattle.std.specs.Prelude.{slice_get}
 use Rattle.std.proofs.Math.ListN.{set}
+use Rattle.lists.specs.laws.ListLaws.{length-push}
+use Rattle.lists.specs.laws.NumberLaws.{nat_eq_or}
+use Rattle.lists.specs.laws.ReadLaws.{got_push, get_front, get_here, got_set, get_set_other, get_set_same, get_none}
+use Rattle.lists.specs.laws.SumLaws.{sum_by-set_at, sum_by-push}
 use Rattle.graph_core.specs.Graph.{Graph, edges, HasEdge, IsReached}
 use Rattle.graph_core.specs.Walking.{IsWalking, AreUnseen, IsMet, KeepsMet, MetAreReached, StartsAt, LeadsBelow, weight, unseen, work}
 use Rattle.graph_core.specs.declared.walk.Mark.{Mark}
 use Rattle.graph_core.specs.declared.walk.Mark.TheVariants.{Unseen, Open, Done}
 use Rattle.graph_core.specs.declared.walk.Frame.{Frame}
-use Rattle.graph_core.proofs.GraphLemmas.{nat_eq_or}
 use Rattle.graph_core.proofs.GroundLemmas.{path_more}
-use Rattle.graph_core.proofs.ListLemmas.{got_push, get_front, get_here, got_set, get_set_other, get_set_same, get_none, sum_by-set_at, sum_by-push, length-push}
 
 pub leads_kept : (graph : Graph) (marks marks' : List Mark) (point next rank rank' : ℕ) → ((t r : ℕ) → slice_get marks t ≡ Some (Done r) → slice_get marks' t ≡ Some (Done r)) → rank ≤ rank' → LeadsBelow graph marks point next rank → LeadsBelow graph marks' point next rank'
 leads_kept graph marks marks' point next rank rank' kept more leads = λ k t below got.

@@ -1,7 +1,8 @@
 -- Points in an order in which each stands after those to which it leads.
 -- Source: a topological order, as in Knuth, The Art of Computer Programming, section 2.2.3, reversed.
 use Rattle.std.specs.Prelude.{◌≡◌, ℕ, ◌<◌, List, length, Some, slice_get}
-use Rattle.graph_core.specs.Graph.{Graph, Has, HasEdge, IsReached}
+use Rattle.lists.specs.Lists.{Has}
+use Rattle.graph_core.specs.Graph.{Graph, HasEdge, IsReached}
 
 -- The roots and the points to which they lead and no others, each once, and each after those to which it leads.
 pub record IsArranged (graph : Graph) (roots order : List ℕ) : Type 0 where

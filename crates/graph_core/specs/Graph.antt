@@ -1,6 +1,7 @@
 -- Graphs: for each point, by its number, the list of the points to which its edges lead, in order.
 -- Source: a directed graph as adjacency lists, as in Tarjan, Depth-First Search and Linear Graph Algorithms, 1972.
-use Rattle.std.specs.Prelude.{◌≡◌, ◌⊎◌, ℕ, ◌<◌, List, [], length, Some, slice_get, unwrap_or}
+use Rattle.std.specs.Prelude.{◌⊎◌, ℕ, ◌<◌, List, [], length, slice_get, unwrap_or}
+use Rattle.lists.specs.Lists.{Has}
 use Rattle.graph_core.specs.Walk.{IsChain, IsCycleBy}
 
 abbrev pub Graph : Type 0
@@ -9,10 +10,6 @@ Graph = List (List ℕ)
 -- where the edges of a point lead
 abbrev pub edges : Graph → ℕ → List ℕ
 edges graph a = unwrap_or (slice_get graph a) []
-
--- x stands in the list
-abbrev pub Has : {X : Type 0} → List X → X → Type 0
-Has xs x = (k : ℕ) × (slice_get xs k ≡ Some x)
 
 -- an edge leads from a to b
 abbrev pub HasEdge : Graph → ℕ → ℕ → Type 0

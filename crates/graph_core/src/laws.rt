@@ -1,7 +1,8 @@
 //! Laws of orders and cycles. These functions do nothing: their contracts are proved of the definitions alone.
 ghost use Rattle.std.specs.Prelude.{◌≡◌, ◌∷◌, List, ℕ};
+ghost use Rattle.lists.specs.Lists.{Has};
 ghost use Rattle.graph_core.specs.Arranged.{IsArranged};
-ghost use Rattle.graph_core.specs.Graph.{Graph, Has, IsPath, IsCycle};
+ghost use Rattle.graph_core.specs.Graph.{Graph, IsPath, IsCycle};
 ghost use Rattle.graph_core.specs.Cycle.{IsGrounded, IsCycleOf};
 
 /// The cycle of a walk is a cycle: each point leads to the next, and the last to the first.

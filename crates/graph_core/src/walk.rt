@@ -1,8 +1,9 @@
 //! A walk in depth, with a stack of its own, which puts points in an order or finds a cycle.
 ghost use Rattle.std.specs.Prelude.{◌≡◌, ◌<◌, ◌≤◌, ◌+◌, ◌^◌, ◌++◌, ◌∷◌, [], ℕ, All, IfErr, IfOk, IfSome, List, OnOk, Some, drop, length, map, slice_get, slice_set, vec_len};
+ghost use Rattle.lists.specs.Lists.{Has};
 ghost use Rattle.graph_core.specs.Arranged.{IsArranged};
 ghost use Rattle.graph_core.specs.Fault.{IsCycleFault};
-ghost use Rattle.graph_core.specs.Graph.{edges, Has};
+ghost use Rattle.graph_core.specs.Graph.{edges};
 ghost use Rattle.graph_core.specs.Walking.{AreUnseen, EarlierAreGrounded, IsMet, IsWalking, KeepsMet, MetAreReached, StartsAt, work};
 ghost use Rattle.graph_core.specs.declared.walk.Mark.TheVariants.{Unseen, Open, Done};
 

@@ -6,12 +6,12 @@ use Rattle.std.proofs.lemmas.Bool.{cases_lt}
 use Rattle.std.proofs.lemmas.Nat.{pow_below}
 use Rattle.std.proofs.lemmas.Nat.Bits.{same_from_bits, bit_at_above}
 use native.Mathlib.Nat.{mod-eq_of_lt}
-use Rattle.gf_field.specs.laws.XorLaws.{xor_same, xor_cancel}
+use Rattle.lists.specs.laws.XorLaws.{xor_same, xor_cancel}
 use Rattle.gf_field.specs.laws.PigeonholeLaws.{FoundAt}
 use Rattle.irreducible.specs.Span.{combination, InSpan, IsIndependent}
 use Rattle.irreducible.specs.laws.SpanLaws.{span_all, combination-xor, combination_below, reaches, IsIndependent-from_rank, rank-from_independent}
 use Rattle.irreducible.specs.laws.AdditiveLaws.{IsAdditive-self, IsAdditive-combination, additive-combination}
-use Rattle.irreducible.specs.Pivots.{IsTop, IsCleared, IsRankSoFar, AreChoices}
+use Rattle.irreducible.specs.private.Pivots.{IsTop, IsCleared, IsRankSoFar, AreChoices}
 use Rattle.irreducible.specs.Matrix.{IsSquare, AreInverse}
 use Rattle.irreducible.proofs.PivotLaws.{rank_end}
 use Rattle.irreducible.proofs.MatrixLaws.{choices_make, choices_short}

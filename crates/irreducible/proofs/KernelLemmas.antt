@@ -6,12 +6,12 @@ use Rattle.std.specs.Int.Bits.{xor_self, xor_lt, xor_shr, xor_zero_l, xor_zero_r
 use Rattle.std.proofs.lemmas.Bool.{cases_eq, cases_lt}
 use Rattle.std.proofs.lemmas.Nat.{pow_below, shr_split}
 use native.Mathlib.Nat.{div-eq_of_lt-le, div-one}
+use Rattle.lists.specs.laws.NumberLaws.{bit_cases}
+use Rattle.lists.specs.laws.XorLaws.{xor_cancel, xor_same}
 use Rattle.gf_field.proofs.CopyLemmas.{zeros}
-use Rattle.gf_field.specs.laws.BitLaws.{bit_cases}
-use Rattle.gf_field.specs.laws.XorLaws.{xor_cancel, xor_same}
 use Rattle.irreducible.specs.Span.{combination, InSpan}
 use Rattle.irreducible.specs.laws.SpanLaws.{combination_zero, combination-xor, combination_unit, combination_below, span_zero, span_xor, span_item, span_trans}
-use Rattle.irreducible.specs.Pivots.{IsTop, IsCleared, IsRankSoFar, IsKernelSoFar, AreChoices}
+use Rattle.irreducible.specs.private.Pivots.{IsTop, IsCleared, IsRankSoFar, IsKernelSoFar, AreChoices}
 use Rattle.irreducible.specs.Matrix.{IsKernel, IsLeastSolution}
 use Rattle.irreducible.proofs.PivotLaws.{top_bit, top_xor}
 use Rattle.irreducible.proofs.MatrixLaws.{choices_make, choices_short}

@@ -6,12 +6,12 @@ use Rattle.std.specs.Int.Bits.{xor_lt, xor_zero_l, xor_assoc}
 use Rattle.std.proofs.lemmas.Bool.{cases_eq}
 use Rattle.std.proofs.lemmas.Nat.{pow_below}
 use Rattle.std.proofs.lemmas.Nat.Bits.{shr_and_one}
-use Rattle.gf_field.specs.laws.BitLaws.{bit_cases}
-use Rattle.gf_field.specs.laws.XorLaws.{xor_cancel}
+use Rattle.lists.specs.laws.NumberLaws.{bit_cases}
+use Rattle.lists.specs.laws.XorLaws.{xor_cancel}
 use Rattle.irreducible.specs.Span.{combination}
 use Rattle.irreducible.specs.laws.SpanLaws.{combination-xor, combination_zero, combination_unit, combination_below, combination-short}
 use Rattle.irreducible.specs.laws.AdditiveLaws.{IsAdditive-combination, additive-combination}
-use Rattle.irreducible.specs.Pivots.{IsCleared, AreChoices}
+use Rattle.irreducible.specs.private.Pivots.{IsCleared, AreChoices}
 
 -- ---- the sum of chosen rows
 abbrev pub Rest : List ℕ → ℕ → ℕ → ℕ → Type 0

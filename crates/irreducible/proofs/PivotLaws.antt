@@ -7,11 +7,11 @@ use Rattle.std.proofs.lemmas.Bool.{cases_eq, cases_lt}
 use Rattle.std.proofs.lemmas.Nat.{shr_split}
 use Rattle.std.proofs.lemmas.Nat.Bits.{bit_at_xor, bit_at_above}
 use native.Mathlib.Nat.{div-eq_of_lt-le, div-eq_of_lt}
+use Rattle.lists.specs.laws.XorLaws.{xor_cancel}
 use Rattle.gf_field.proofs.CopyLemmas.{zeros}
-use Rattle.gf_field.specs.laws.XorLaws.{xor_cancel}
 use Rattle.irreducible.specs.Span.{combination, InSpan, IsRank}
 use Rattle.irreducible.specs.laws.SpanLaws.{combination_zero, combination-xor, combination_unit, span_zero, span_xor, span_first, span_rest, span_split, IsSplit, independent_more, independent_nil, span_item, span_all, span_trans}
-use Rattle.irreducible.specs.Pivots.{IsTop, ByTop, IsCleared, IsRankSoFar}
+use Rattle.irreducible.specs.private.Pivots.{IsTop, ByTop, IsCleared, IsRankSoFar}
 
 -- ---- highest bits
 pub top_bit : (t w : ℕ) → IsTop t w → bit_at w t ≡ 1

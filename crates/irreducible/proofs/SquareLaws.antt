@@ -4,8 +4,8 @@ use Rattle.std.specs.Prelude.{bit_xor}
 use Rattle.std.specs.Int.Bits.{xor_self, xor_zero_r, xor_shifted}
 use Rattle.std.proofs.lemmas.Nat.{shr_split}
 use native.Mathlib.Nat.{mod-eq_of_lt}
-use Rattle.gf_field.specs.laws.XorLaws.{xor_same, xor_cross}
-use Rattle.gf_field.specs.laws.BitLaws.{bit_cases}
+use Rattle.lists.specs.laws.NumberLaws.{bit_cases}
+use Rattle.lists.specs.laws.XorLaws.{xor_same, xor_cross}
 use Rattle.gf_field.specs.Ring.{IsRing}
 use Rattle.gf_field.specs.laws.RingLaws.{mul_zero, mul_one, square-xor}
 use Rattle.gf_field.specs.laws.PowerLaws.{one_below}

@@ -1,6 +1,6 @@
 pub mod Span
 pub mod Matrix
 pub mod BitMatrix
-pub mod Pivots
 pub mod Proved
+pub mod private
 pub mod laws

@@ -2,7 +2,7 @@
 
 ghost use Rattle.std.specs.Prelude.{◌≡◌, ◌<◌, ◌≤◌, ◌^◌, length};
 ghost use Rattle.irreducible.specs.Span.{combination, IsRank};
-ghost use Rattle.irreducible.specs.Pivots.{ByTop, IsCleared, IsRankSoFar, IsKernelSoFar, AreChoices};
+ghost use Rattle.irreducible.specs.private.Pivots.{ByTop, IsCleared, IsRankSoFar, IsKernelSoFar, AreChoices};
 
 /// What is left of a row, and which pivots were taken away, bit t for the pivot at place t.
 #[derive(Drop)]

@@ -1,6 +1,6 @@
 -- The labels of a net in ASCII AIGER have no line feed, nor has what its faults repeat.
-use Rattle.std.proofs.Common.{◌≡◌, inl, inr, refl, subst, sym, ℕ, ◌+◌, ◌-◌, ◌^◌, ◌==◌, Bool, true, false, cond, not, ◌&&◌, List, [], ◌∷◌, ◌++◌, length, drop, Option, None, Some, Result, Ok, Err}
-use Rattle.std.specs.Prelude.{codes, is_some, nat_eq, nat_le, nat_lt, unwrap_or}
+use Rattle.std.proofs.Common.{◌≡◌, inl, inr, refl, subst, sym, ℕ, zero, suc, ◌+◌, ◌-◌, ◌^◌, ◌==◌, Bool, true, false, cond, not, ◌&&◌, List, [], ◌∷◌, ◌++◌, length, drop, Option, None, Some, Result, Ok, Err}
+use Rattle.std.specs.Prelude.{codes, is_some, nat_eq, nat_le, nat_lt, slice_get, unwrap_or}
 use Rattle.std.specs.Fmt.{decimal}
 use Rattle.std.specs.List.{AllByRecursion, list_all, list_any}
 use Rattle.std.specs.Map.{lookup}
@@ -12,15 +12,17 @@ use Rattle.net_core.specs.LatchValue.{LatchValue}
 use Rattle.net_core.specs.NetList.{LabelValue, NetList, empty, nets, with_gate, with_label, with_latch as with_held}
 use Rattle.net_core.specs.declared.fault.NetFault.{NetFault}
 use Rattle.net_core.specs.declared.fault.NetFault.TheVariants as nets_faults
-use Rattle.net_aiger.specs.AigerNet.{AigerNet, Settles}
+use Rattle.net_core.specs.Finish.{Settles}
+use Rattle.net_aiger.specs.AigerNet.{AigerNet}
 use Rattle.net_aiger.specs.Checks.{apart, is_known, known, own}
-use Rattle.net_aiger.specs.Lines.{and_line, before_space, counts, define, ends, first_other, fits, header_from, header_with, input_line, is_complete, is_header, is_port_name, is_shown, latch_of, left_number, left_out, lines_read, named, number_line, one_line, output_line, port_of, symbol_line, text_read, with_latch, within}
 use Rattle.net_aiger.specs.Nets.{and_gate, and_made, ands_made, fresh_latch, gated, is_plain, labelled, latch_made, latch_on, latched, latches_made, literal_gate, net_made, output_made, outputs_made, variable_made, variables_made, with_output}
-use Rattle.net_aiger.specs.Numbers.{number_of, numbers_of, words_of}
-use Rattle.net_aiger.specs.Reading.{Name, Reading, default_name, driven, net_of, port_name, ports_of, stands, start, variable_net}
+use Rattle.net_aiger.specs.Reading.{Name, Reading, default_name, driven, net_of, port_name, variable_net}
+use Rattle.net_aiger.specs.Sections.{Text}
+use Rattle.net_aiger.specs.Spelling.{is_port_name, is_shown}
 use Rattle.net_aiger.specs.Steps.{◌>>=◌}
 use Rattle.net_aiger.specs.declared.fault.AigerFault.{AigerFault}
 use Rattle.net_aiger.specs.declared.fault.AigerFault.TheVariants as aigers
+use Rattle.net_aiger.proofs.RepeatLemmas.{Repeats, text_names, text_repeats}
 use Rattle.job_words.proofs.OneLineLemmas.{IsClean, number_clean}
 use Rattle.job_input.proofs.LabelFaultLemmas.{NetKeeps, HasCleanLabels, finish_keeps}
 
@@ -81,91 +83,35 @@ good_if : {A : Type 0} (is : A → Type 0) (b : Bool) (first second : Result A A
 good_if is true first second one other = one
 good_if is false first second one other = other
 
-good_then : {A B : Type 0} (is : A → Type 0) (will : B → Type 0) (first : Result A AigerFault) (further : A → Result B AigerFault) → Good is first → ((a : A) → is a → Good will (further a)) → Good will (first >>= further)
-good_then is will (Ok a) further one next = next a one
-good_then is will (Err fault) further one next = one
-
 abbrev Any : {A : Type 0} → A → Type 0
 Any value = Unit {0}
 
-left_good : (numbers : Option ℕ) → Good Any (left_number numbers)
-left_good None = tt
-left_good (Some n) = number_clean n
+all_clean : (symbols : List (ℕ × Name)) → ((k : ℕ) (s : ℕ × Name) → slice_get symbols k ≡ Some s → IsClean s.1) → AllByRecursion (λ (s : ℕ × Name). IsClean s.1) symbols
+all_clean [] each = tt
+all_clean (s ∷ symbols) each = (each zero s refl, all_clean symbols (λ k t at. each (suc k) t at))
 
-header_good : (words : List (List ℕ)) → Good Any (header_from words)
-header_good [] = tt
-header_good (word ∷ words) = by (numbers_of words)
+-- the names that a text gives are clean
+text_clean : (text : List (List ℕ)) (reading : Reading) → Text text (Ok reading) → HasCleanNames reading
+text_clean text reading says = all_clean reading.symbols (λ k s at. shown_clean s.1 (shown s.1 (text_names text reading says k s at)))
   where
-    by : (numbers : Option (List ℕ)) → Good Any (header_with word numbers)
-    by None = tt
-    by (Some numbers) = good_if Any (is_header word numbers) (left_out word numbers >>= (λ u. Ok (counts numbers))) (Err (aigers.Syntax 1)) (good_then Any Any (left_out word numbers) (λ u. Ok (counts numbers)) (good_if Any (bytes_eq word (codes "aig")) (Err (aigers.LeftOut 1 (codes "aig"))) (left_number (first_other (drop 5 numbers))) refl (left_good (first_other (drop 5 numbers)))) (λ u any. tt)) tt
+    second : (a b : Bool) → (a && b) ≡ true → b ≡ true
+    second true b e = e
+    second false b e = absurd (cc)
 
-module _ (n : ℕ) where
-  define_good : (literal left right : ℕ) (reading : Reading) → HasCleanNames reading → Good HasCleanNames (define n literal left right reading)
-  define_good literal left right reading names = good_if HasCleanNames (not (fits reading.header literal left right)) (Err (aigers.Literal n)) (cond (stands reading.defined literal) (Err (aigers.DefinedTwice n)) (Ok (record reading { defined = reading.defined ++ literal ∷ [] }))) tt (good_if HasCleanNames (stands reading.defined literal) (Err (aigers.DefinedTwice n)) (Ok (record reading { defined = reading.defined ++ literal ∷ [] })) tt names)
+    shown : (name : Name) → is_port_name name ≡ true → list_all is_shown name ≡ true
+    shown name is = second (nat_le 1 (length name) && nat_le (length name) 255) (list_all is_shown name) is
 
-  input_good : (numbers : List ℕ) (reading : Reading) → HasCleanNames reading → Good HasCleanNames (input_line n numbers reading)
-  input_good [] reading names = tt
-  input_good (literal ∷ []) reading names = good_then HasCleanNames HasCleanNames (define n literal 0 0 reading) (λ more. Ok (record more { ports = more.ports ++ literal ∷ [] })) (define_good literal 0 0 reading names) (λ more kept. kept)
-  input_good (literal ∷ other ∷ rest) reading names = tt
-
-  latch_good : (latch : Option _) (reading : Reading) → HasCleanNames reading → Good HasCleanNames (with_latch n latch reading)
-  latch_good None reading names = tt
-  latch_good (Some latch) reading names = good_then HasCleanNames HasCleanNames (define n latch.literal latch.next 0 reading) (λ more. Ok (record more { ports = more.ports ++ latch.literal ∷ []; latches = more.latches ++ latch ∷ []; uses = more.uses ++ record { line = n; literal = latch.next } ∷ [] })) (define_good latch.literal latch.next 0 reading names) (λ more kept. kept)
-
-  output_good : (numbers : List ℕ) (reading : Reading) → HasCleanNames reading → Good HasCleanNames (output_line n numbers reading)
-  output_good [] reading names = tt
-  output_good (literal ∷ []) reading names = good_if HasCleanNames (within reading.header literal) (Ok (record reading { ports = reading.ports ++ literal ∷ []; uses = reading.uses ++ record { line = n; literal = literal } ∷ [] })) (Err (aigers.Literal n)) names tt
-  output_good (literal ∷ other ∷ rest) reading names = tt
-
-  and_good : (numbers : List ℕ) (reading : Reading) → HasCleanNames reading → Good HasCleanNames (and_line n numbers reading)
-  and_good [] reading names = tt
-  and_good (literal ∷ []) reading names = tt
-  and_good (literal ∷ left ∷ []) reading names = tt
-  and_good (literal ∷ left ∷ right ∷ []) reading names = good_then HasCleanNames HasCleanNames (define n literal left right reading) (λ more. Ok (record more { ands = more.ands ++ record { literal = literal; left = left; right = right } ∷ []; uses = (more.uses ++ record { line = n; literal = left } ∷ []) ++ record { line = n; literal = right } ∷ [] })) (define_good literal left right reading names) (λ more kept. kept)
-  and_good (literal ∷ left ∷ right ∷ other ∷ rest) reading names = tt
-
-  number_good : (numbers : Option (List ℕ)) (reading : Reading) → HasCleanNames reading → Good HasCleanNames (number_line n numbers reading)
-  number_good None reading names = tt
-  number_good (Some numbers) reading names =
-      let last : Result Reading AigerFault = cond (nat_lt (length reading.ports) (ports_of reading.header)) (output_line n numbers reading) (and_line n numbers reading) in
-      good_if HasCleanNames (nat_lt (length reading.ports) reading.header.inputs) (input_line n numbers reading) (cond (nat_lt (length reading.ports) (driven reading.header)) (with_latch n (latch_of numbers) reading) last) (input_good numbers reading names)
-      (good_if HasCleanNames (nat_lt (length reading.ports) (driven reading.header)) (with_latch n (latch_of numbers) reading) last (latch_good (latch_of numbers) reading names)
-      (good_if HasCleanNames (nat_lt (length reading.ports) (ports_of reading.header)) (output_line n numbers reading) (and_line n numbers reading) (output_good numbers reading names) (and_good numbers reading names)))
-
-  name_good : (name : Name) (port : Option ℕ) (reading : Reading) → HasCleanNames reading → Good HasCleanNames (named n name port reading)
-  name_good name None reading names = tt
-  name_good name (Some port) reading names = by (is_port_name name) refl (not (is_some (lookup (nat_eq port) reading.symbols)))
-    where
-      shown : (a b : Bool) → (a && b) ≡ true → b ≡ true
-      shown true b e = e
-      shown false b e = absurd (cc)
-
-      more : (symbols : List (ℕ × Name)) → AllByRecursion (λ (s : ℕ × Name). IsClean s.1) symbols → IsClean name → AllByRecursion (λ (s : ℕ × Name). IsClean s.1) (symbols ++ (port, name) ∷ [])
-      more [] all clean = (clean, tt)
-      more (s ∷ symbols) all clean = (all.0, more symbols all.1 clean)
-
-      by : (a : Bool) → is_port_name name ≡ a → (b : Bool) → Good HasCleanNames (cond (a && b) (Ok (record reading { symbols = reading.symbols ++ (port, name) ∷ [] })) (Err (aigers.Syntax n)))
-      by true is true = more reading.symbols names (shown_clean name (shown (nat_le 1 (length name) && nat_le (length name) 255) (list_all is_shown name) is))
-      by true is false = tt
-      by false is b = tt
-
-  symbol_good : (line : List ℕ) (reading : Reading) → HasCleanNames reading → Good HasCleanNames (symbol_line n line reading)
-  symbol_good [] reading names = tt
-  symbol_good (letter ∷ bytes) reading names = name_good (drop (length (before_space bytes) + 1) bytes) (port_of reading.header letter (number_of (before_space bytes))) reading names
-
-  line_good : (line : List ℕ) (reading : Reading) → HasCleanNames reading → Good HasCleanNames (one_line n line reading)
-  line_good line reading names = good_if HasCleanNames (is_complete reading) (symbol_line n line reading) (number_line n (numbers_of (words_of line)) reading) (symbol_good line reading names) (number_good (numbers_of (words_of line)) reading names)
-
-lines_good : (n : ℕ) (list : List (List ℕ)) (reading : Reading) → HasCleanNames reading → Good HasCleanNames (lines_read n list reading)
-lines_good n [] reading names = good_if HasCleanNames (is_complete reading) (Ok reading) (Err (aigers.Syntax n)) names tt
-lines_good n (line ∷ list) reading names =
-    good_if HasCleanNames (ends line reading) (Ok reading) (one_line n line reading >>= (λ more. lines_read (n + 1) list more)) names
-    (good_then HasCleanNames HasCleanNames (one_line n line reading) (λ more. lines_read (n + 1) list more) (line_good n line reading names) (λ more kept. lines_good (n + 1) list more kept))
-
-text_good : (list : List (List ℕ)) → Good HasCleanNames (text_read list)
-text_good [] = tt
-text_good (line ∷ list) = good_then Any HasCleanNames (header_from (words_of line)) (λ header. lines_read 2 list (start header)) (header_good (words_of line)) (λ header any. lines_good 2 list (start header) tt)
+-- what a fault of a text repeats is clean
+repeats_clean : (fault : AigerFault) → Repeats fault → AigerKeeps fault
+repeats_clean (aigers.Syntax line) repeats = tt
+repeats_clean (aigers.LeftOut line word) (inl is) = subst IsClean (sym is) refl
+repeats_clean (aigers.LeftOut line word) (inr (n, is)) = subst IsClean (sym is) (number_clean n)
+repeats_clean (aigers.Literal line) repeats = tt
+repeats_clean (aigers.DefinedTwice line) repeats = tt
+repeats_clean (aigers.Undefined line) repeats = tt
+repeats_clean (aigers.NameTwice line) repeats = tt
+repeats_clean (aigers.Net fault) repeats = absurd repeats
+repeats_clean aigers.OutOfMemory repeats = tt
 
 known_good : (defined : List ℕ) (uses : List _) → Good Any (known defined uses)
 known_good defined [] = tt
@@ -272,21 +218,21 @@ settled_keeps net labels nets_faults.OutOfMemory settles = tt
 
 pub aiger_labels : (text : List ℕ) (net : NetList) → AigerNet text (Ok net) → HasCleanLabels net
 aiger_labels text net (reading, read, (u, knows, (v, differ, (made, is_made, settles)))) =
-    let names : HasCleanNames reading = by_result (Good HasCleanNames) (text_read (lines text)) (Ok reading) read (text_good (lines text)) in
+    let names : HasCleanNames reading = text_clean (lines text) reading read in
     let labels : HasCleanLabels made = by_result Makes (net_made reading) (Ok made) is_made (whole_made reading names) in
     let P : NetList → Type 0 = HasCleanLabels in
     subst P (sym settles.0) labels
 
 pub aiger_fault_keeps : (text : List ℕ) (fault : AigerFault) → AigerNet text (Err fault) → AigerKeeps fault
-aiger_fault_keeps text fault (inl read) = by_result (Good HasCleanNames) (text_read (lines text)) (Err fault) read (text_good (lines text))
+aiger_fault_keeps text fault (inl read) = repeats_clean fault (text_repeats (lines text) fault read)
 aiger_fault_keeps text fault (inr (reading, read, inl wrong)) = by_result (Good Any) (known reading.defined reading.uses) (Err fault) wrong (known_good reading.defined reading.uses)
 aiger_fault_keeps text fault (inr (reading, read, inr (u, knows, inl wrong))) = by_result (Good Any) (apart reading 0 [] reading.ports) (Err fault) wrong (apart_good reading 0 [] reading.ports)
 aiger_fault_keeps text fault (inr (reading, read, inr (u, knows, inr (v, differ, inl (other, wrong, same))))) =
-    let names : HasCleanNames reading = by_result (Good HasCleanNames) (text_read (lines text)) (Ok reading) read (text_good (lines text)) in
+    let names : HasCleanNames reading = text_clean (lines text) reading read in
     let P : AigerFault → Type 0 = AigerKeeps in
     subst P (sym same) (by_result Makes (net_made reading) (Err other) wrong (whole_made reading names))
 aiger_fault_keeps text fault (inr (reading, read, inr (u, knows, inr (v, differ, inr (made, is_made, (other, settles, same)))))) =
-    let names : HasCleanNames reading = by_result (Good HasCleanNames) (text_read (lines text)) (Ok reading) read (text_good (lines text)) in
+    let names : HasCleanNames reading = text_clean (lines text) reading read in
     let labels : HasCleanLabels made = by_result Makes (net_made reading) (Ok made) is_made (whole_made reading names) in
     let P : AigerFault → Type 0 = AigerKeeps in
     subst P (sym same) (settled_keeps made labels other settles)

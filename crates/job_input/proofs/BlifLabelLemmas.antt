@@ -6,8 +6,9 @@ use Rattle.std.specs.List.{AllByRecursion}
 use Rattle.std.specs.Option.{option_map_or}
 use Rattle.std.specs.Str.{bytes_eq}
 use Rattle.std.proofs.lemmas.List.Elements.{All-drop, All-weaker}
+use Rattle.lists.specs.laws.OptionLaws.{same_ok as ok_same}
+use Rattle.outcome.specs.Steps.{on_value}
 use Rattle.text_core.specs.Lines.{IsPrinting}
-use Rattle.text_core.proofs.GeneralLemmas.{same_ok as ok_same}
 use Rattle.net_core.specs.NetList.{LabelValue}
 use Rattle.net_core.specs.declared.fault.NetFault.TheVariants.{TooManyNets, TooManyGates}
 use Rattle.net_blif.specs.Connection.{actual_of, formal_of}
@@ -16,7 +17,7 @@ use Rattle.net_blif.specs.Models.{BlifDesign}
 use Rattle.net_blif.specs.Statement.{Token}
 use Rattle.net_blif.specs.declared.item.Item.{Item}
 use Rattle.net_blif.specs.declared.item.Item.TheVariants as items
-use Rattle.net_flat.specs.Flat.{Flat, nothing, after_step, on_value, walked, was_mentioned, gate_on, latch_on, net_list}
+use Rattle.net_flat.specs.Flat.{Flat, nothing, after_step, walked, was_mentioned, gate_on, latch_on, net_list}
 use Rattle.net_flat.specs.Paths.{At, Path, Scope, connected, inner, label_of, path_among, path_in, prefix_of, top}
 use Rattle.net_flat.specs.Steps.{Step, Mention, Input, Output, Gate, Latch, Enter, along, actual_steps, input_steps, output_steps, steps_of}
 use Rattle.net_flat.specs.Walk.{body_in, is_top, lines_in, next_number, steps_in, walk_of, walk_within}

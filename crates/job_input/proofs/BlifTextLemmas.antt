@@ -3,8 +3,8 @@ use Rattle.std.proofs.Common.{◌≡◌, sym, subst, inl, inr, ℕ, zero, suc, B
 use Rattle.std.specs.Prelude.{All, IfSome, IsTrue, is_some, nat_lt}
 use Rattle.std.specs.List.{AllByRecursion, list_all}
 use Rattle.std.proofs.lemmas.List.Elements.{All-weaker, recursion_from_All}
+use Rattle.lists.specs.laws.OptionLaws.{same_ok as ok_same}
 use Rattle.text_core.specs.Lines.{IsPrinting, tokens_of}
-use Rattle.text_core.proofs.GeneralLemmas.{same_ok as ok_same}
 use Rattle.net_blif.specs.Chains.{WalkEnds, graph_of, leads_on}
 use Rattle.net_blif.specs.Connection.{formal_of}
 use Rattle.net_blif.specs.Cover.{CoverValue, begun, gate_of}

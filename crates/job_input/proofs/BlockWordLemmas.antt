@@ -5,9 +5,10 @@ use Rattle.std.specs.List.{list_any}
 use Rattle.std.specs.Str.{bytes_eq}
 use Rattle.std.proofs.lemmas.Bool.{true≢false}
 use Rattle.std.proofs.lemmas.Slice.Eq.{bytes_eq-Decides}
+use Rattle.lists.specs.Lists.{Has}
+use Rattle.lists.specs.laws.HasLaws.{Has_cases}
+use Rattle.outcome.specs.Steps.{with_value}
 use Rattle.text_core.specs.Names.{IsName}
-use Rattle.net_core.specs.Lists.{Has}
-use Rattle.net_core.proofs.DriverLemmas.{Has_cases}
 use Rattle.net_words.specs.Roles.{is_output, same_role}
 use Rattle.net_words.specs.declared.feed.FeedText.{FeedText}
 use Rattle.net_words.specs.declared.feed.Source.{Source}
@@ -15,7 +16,7 @@ use Rattle.net_words.specs.declared.word.Role.{Role}
 use Rattle.net_words.specs.declared.word.Role.TheVariants.{Input, State, Fed, Output}
 use Rattle.net_words.specs.declared.word.WordText.{WordText}
 use Rattle.net_words.proofs.MemberLemmas.{any_has}
-use Rattle.net_signature.specs.Body.{begun, block_begun, block_with, blocks_of, blocks_whole, blocks_with, body_with, BlockValue, BodyValue, fed_with, is_fed, may_stand, next, on_value, Reads, source_of, whole, with_feed, with_word, word_may_stand}
+use Rattle.net_signature.specs.Body.{begun, block_begun, block_with, blocks_of, blocks_whole, blocks_with, body_with, BlockValue, BodyValue, fed_with, is_fed, may_stand, next, Reads, source_of, whole, with_feed, with_word, word_may_stand}
 use Rattle.net_signature.specs.Few.{AreFew}
 use Rattle.net_signature.specs.Lines.{Line}
 use Rattle.net_signature.specs.Signature.{Sig, SignatureValue}
@@ -108,7 +109,7 @@ not_fed word is fed = by word.role fed is
     by Fed e is = let no : false ≡ true = is in cc
     by Output e is = absurd (cc)
 
-on_value_ok : {F A B : Type 0} (f : A → B) (r : Result A F) (b : B) → ◌≡◌ {A = Result B F} (Ok b) (on_value f r) → (a : A) × (◌≡◌ {A = Result A F} (Ok a) r) × (b ≡ f a)
+on_value_ok : {F A B : Type 0} (f : A → B) (r : Result A F) (b : B) → ◌≡◌ {A = Result B F} (Ok b) (with_value f r) → (a : A) × (◌≡◌ {A = Result A F} (Ok a) r) × (b ≡ f a)
 on_value_ok f (Ok a) b ok = (a, refl, cc)
 on_value_ok f (Err e) b ok = absurd (cc)
 

@@ -4,8 +4,8 @@ use Rattle.std.specs.List.{range_with_len}
 use Rattle.std.proofs.lemmas.Bool.{cases_lt, eq-eqb, le-ltb, lt-ltb, true≢false}
 use Rattle.std.proofs.lemmas.List.{length-append}
 use Rattle.std.proofs.lemmas.List.Elements.{filter-append}
-use Rattle.graph_core.proofs.GeneralLemmas.{range_more}
-use Rattle.net_core.specs.Lists.{Has}
+use Rattle.lists.specs.Lists.{Has}
+use Rattle.lists.specs.laws.ListLaws.{range_more}
 use Rattle.net_words.specs.Roles.{stands_in}
 use Rattle.net_words.specs.Variables.{bits, bits_with, others, IsRanked}
 use Rattle.net_words.specs.declared.bound.BoundWord.{BoundWord}

@@ -1,7 +1,7 @@
 -- What is known of a circuit that is taken for a setting.
 use Rattle.std.proofs.Common.{◌≡◌, ◌∙◌, sym, ℕ, List, Result, Ok, Err}
 use Rattle.std.specs.Prelude.{IfOk}
-use Rattle.text_core.specs.Outcome.{Within}
+use Rattle.outcome.specs.Outcome.{Within}
 use Rattle.net_words.specs.Bind.{bits_of}
 use Rattle.net_words.specs.Binding.{BoundNet}
 use Rattle.net_words.proofs.BoundLemmas.{first_long}

@@ -2,7 +2,7 @@
 use Rattle.std.proofs.Common.{◌≡◌, ◌∙◌, ap, sym, refl, subst, inl, inr, ℕ, suc, ◌⊎◌, ◌^◌, Bool, ◌<◌, ◌≤◌, List, [], ◌∷◌, length, map, drop, true, false, cond, Result, Ok, Err, arith}
 use Rattle.std.specs.Prelude.{IfOk}
 use Rattle.std.proofs.lemmas.Bool.{cases_lt}
-use Rattle.text_core.specs.Outcome.{Determined}
+use Rattle.outcome.specs.Outcome.{Determined}
 use Rattle.net_core.specs.NetList.{nets}
 use Rattle.net_words.specs.Binding.{BoundNet}
 use Rattle.net_words.specs.Rebind.{rebound}

@@ -1,7 +1,7 @@
 -- The field that a modulus and a tower name.
 use Rattle.std.proofs.Common.{◌≡◌, ◌∙◌, ap, sym, refl, subst, inl, inr, ℕ, ◌*◌, ◌≤◌, List, [], ◌∷◌, length, Ok, Err, arith}
 use Rattle.std.proofs.Math.Nat.{mul-pos}
-use Rattle.text_core.specs.Outcome.{Determined}
+use Rattle.outcome.specs.Outcome.{Determined}
 use Rattle.gf_field.specs.Bit.{bit_mul}
 use Rattle.gf_field.specs.Quotient.{product as quotient_product}
 use Rattle.gf_field.specs.Modulus.{IsModulus}

@@ -3,7 +3,7 @@ use Rattle.std.proofs.Common.{◌≡◌, inl, inr, refl, subst, sym, ℕ, suc, �
 use Rattle.std.specs.Prelude.{◌≢◌, slice_get, if◌then◌else◌}
 use Rattle.std.specs.List.{AllByRecursion}
 use Rattle.std.proofs.lemmas.List.Elements.{All-weaker}
-use Rattle.text_core.specs.Outcome.{Within}
+use Rattle.outcome.specs.Outcome.{Within}
 use Rattle.job_io.specs.Shelf.{Files}
 use Rattle.gf_basis.specs.declared.bases.BasisFault.{BasisFault}
 use Rattle.gf_basis.specs.declared.bases.BasisFault.TheVariants as bases

@@ -1,6 +1,6 @@
 -- What comes of a hierarchical netlist, step by step.
 use Rattle.std.proofs.Common.{◌≡◌, ◌⊎◌, inl, inr, ℕ, List, Ok, Err}
-use Rattle.text_core.specs.Outcome.{◌>>=◌, Exactly}
+use Rattle.outcome.specs.Outcome.{◌>>=◌, Exactly}
 use Rattle.net_blif.specs.Design.{ModelValue}
 use Rattle.net_blif.specs.Models.{BlifDesign}
 use Rattle.net_blif.specs.declared.fault.BlifFault.{BlifFault}

@@ -1,7 +1,7 @@
 -- At most one net with its binding, or one fault, comes of a netlist.
 use Rattle.std.proofs.Common.{List}
-use Rattle.text_core.specs.Outcome.{Determined, Exactly, Within}
-use Rattle.text_core.proofs.DeterminedLemmas.{determined_bind}
+use Rattle.outcome.proofs.DeterminedLemmas.{determined_bind}
+use Rattle.outcome.specs.Outcome.{Determined, Exactly, Within}
 use Rattle.net_core.specs.NetList.{NetList}
 use Rattle.net_aiger.specs.AigerNet.{AigerNet}
 use Rattle.net_aiger.proofs.AigerDetermined.{aiger_determined}

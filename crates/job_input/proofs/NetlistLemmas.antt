@@ -3,7 +3,7 @@ use Rattle.std.proofs.Common.{◌≡◌, ◌⊎◌, inl, inr, sym, refl, subst, 
 use Rattle.std.specs.Prelude.{All}
 use Rattle.std.proofs.lemmas.List.{length-append}
 use Rattle.std.proofs.lemmas.Option.{slice_get-get_or}
-use Rattle.text_core.specs.Outcome.{Outcome, ◌>>=◌, Within}
+use Rattle.outcome.specs.Outcome.{Outcome, ◌>>=◌, Within}
 use Rattle.net_core.specs.NetList.{NetList, nets, number_of}
 use Rattle.net_core.specs.Inside.{IsInside, LatchIsInside}
 use Rattle.net_core.specs.LatchValue.{LatchValue}

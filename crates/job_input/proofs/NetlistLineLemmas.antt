@@ -13,7 +13,8 @@ use Rattle.net_aiger.specs.declared.fault.AigerFault.TheVariants as aigers
 use Rattle.net_verilog.specs.declared.fault.VerilogFault.{VerilogFault}
 use Rattle.net_verilog.specs.declared.fault.VerilogFault.TheVariants as verilogs
 use Rattle.net_blif.specs.Design.{ModelValue}
-use Rattle.net_flat.specs.Flat.{Flattens, Settles, nothing, net_list}
+use Rattle.net_core.specs.Finish.{Settles}
+use Rattle.net_flat.specs.Flat.{Flattens, nothing, net_list}
 use Rattle.net_flat.specs.Walk.{walk_of}
 use Rattle.net_blif.specs.Models.{BlifDesign}
 use Rattle.net_blif.specs.declared.fault.BlifFault.{BlifFault}

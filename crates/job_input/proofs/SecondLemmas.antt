@@ -1,6 +1,6 @@
 -- The second of two signatures: its faults are those of a first one under their own name.
 use Rattle.std.proofs.Common.{inl, inr, refl, sym, subst, Option, Ok, Err}
-use Rattle.text_core.specs.Outcome.{Within}
+use Rattle.outcome.specs.Outcome.{Within}
 use Rattle.job_io.specs.Shelf.{Files}
 use Rattle.net_signature.specs.Signature.{SignatureValue}
 use Rattle.job_words.specs.Operands.{Word}

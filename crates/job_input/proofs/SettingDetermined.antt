@@ -1,7 +1,7 @@
 -- At most one outcome comes of a signature's text.
 use Rattle.std.proofs.Common.{◌≡◌, ◌∙◌, ap, sym, refl, ℕ, ◌<◌, ◌^◌, List, [], ◌∷◌, Ok, Err, arith}
-use Rattle.text_core.specs.Outcome.{Outcome, ◌>>=◌, Exactly, Returns, Within, Determined}
-use Rattle.text_core.proofs.DeterminedLemmas.{determined_bind, determined_returns}
+use Rattle.outcome.proofs.DeterminedLemmas.{determined_bind, determined_returns}
+use Rattle.outcome.specs.Outcome.{Outcome, ◌>>=◌, Exactly, Returns, Within, Determined}
 use Rattle.irreducible.specs.Span.{IsIndependent}
 use Rattle.net_signature.specs.Body.{BlockValue}
 use Rattle.net_signature.specs.Signature.{SignatureValue, Sig}

@@ -1,11 +1,11 @@
 -- The words and feeds of a setting can be bound.
 use Rattle.std.proofs.Common.{◌≡◌, ◌∙◌, ap, sym, refl, subst, ℕ, zero, suc, ◌≤◌, not, List, [], ◌∷◌, length, map, filter, Ok, arith, All}
 use Rattle.std.proofs.lemmas.List.Filters.{length-filter_both}
+use Rattle.lists.specs.Lists.{Has}
 use Rattle.net_words.specs.Binding.{AreWords}
 use Rattle.net_words.specs.Feeds.{AreFeeds}
 use Rattle.net_words.specs.Roles.{is_output, input_count}
 use Rattle.net_words.specs.declared.word.WordText.{WordText}
-use Rattle.net_core.specs.Lists.{Has}
 use Rattle.net_signature.specs.Body.{BlockValue}
 use Rattle.net_signature.specs.Signature.{SignatureValue, Sig}
 use Rattle.net_signature.proofs.FeedLemmas.{feeds_are}

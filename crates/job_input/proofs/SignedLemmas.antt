@@ -1,6 +1,6 @@
 -- The steps of a signature's reading, one after another, and of its setting's making.
 use Rattle.std.proofs.Common.{◌≡◌, inl, inr, refl, subst, sym, List, ℕ, None, Some, Result, Ok, Err}
-use Rattle.text_core.specs.Outcome.{Within}
+use Rattle.outcome.specs.Outcome.{Within}
 use Rattle.net_signature.specs.Signature.{SignatureValue, Sig}
 use Rattle.net_signature.specs.WordNames.{HaveNames}
 use Rattle.net_signature.specs.Reading.{Fits}

@@ -1,6 +1,6 @@
 -- At most one specification or fault comes of a text.
 use Rattle.std.proofs.Common.{◌≡◌, ◌∙◌, ap, sym, refl, ℕ, List, Result, Ok, Err}
-use Rattle.text_core.specs.Outcome.{Determined}
+use Rattle.outcome.specs.Outcome.{Determined}
 use Rattle.poly_mixed.specs.Labels.{Labelling}
 use Rattle.spec_expand.specs.Fault.{IsOfText}
 use Rattle.spec_expand.specs.Specification.{SpecTerms}

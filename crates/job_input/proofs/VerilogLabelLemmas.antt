@@ -5,7 +5,7 @@ use Rattle.text_core.specs.Lines.{IsPrinting}
 use Rattle.net_core.specs.NetList.{LabelValue, NetList}
 use Rattle.net_core.specs.declared.fault.NetFault.{NetFault}
 use Rattle.net_core.specs.declared.fault.NetFault.TheVariants as nets
-use Rattle.net_aiger.specs.AigerNet.{Settles}
+use Rattle.net_core.specs.Finish.{Settles}
 use Rattle.net_verilog.specs.Tokens.{tokens_of}
 use Rattle.net_verilog.specs.declared.fault.VerilogFault.{VerilogFault}
 use Rattle.net_verilog.specs.declared.fault.VerilogFault.TheVariants as verilogs

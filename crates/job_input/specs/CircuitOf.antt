@@ -1,6 +1,6 @@
 -- All cycles of a netlist as one circuit, or the fault with which it is refused. Source: this project's own, docs/DEFINITIONS.md.
 use Rattle.std.specs.Prelude.{◌≡◌, ◌⊎◌, ℕ, ◌^◌, ◌<◌, ◌≤◌, Option, length, Ok, Err}
-use Rattle.text_core.specs.Outcome.{Outcome, ◌>>=◌, Within}
+use Rattle.outcome.specs.Outcome.{Outcome, ◌>>=◌, Within}
 use Rattle.job_io.specs.Shelf.{Files}
 use Rattle.net_core.specs.NetList.{nets}
 use Rattle.net_words.specs.Binding.{BoundNet}

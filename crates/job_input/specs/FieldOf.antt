@@ -1,7 +1,7 @@
 -- The field that a modulus over 0 and 1 and the coefficients of a tower name, or why they name none
 -- (Lidl and Niederreiter, Finite Fields, chapter 1, section 3).
 use Rattle.std.specs.Prelude.{◌≡◌, ℕ, ◌*◌, List, [], ◌∷◌, length, Ok, Err}
-use Rattle.text_core.specs.Outcome.{Outcome, Within}
+use Rattle.outcome.specs.Outcome.{Outcome, Within}
 use Rattle.gf_field.specs.Bit.{bit_mul}
 use Rattle.gf_field.specs.Quotient.{product as quotient_product}
 use Rattle.gf_tower.specs.Tower.{tower_polynomial}

@@ -1,6 +1,6 @@
 -- What comes of reading a file. Source: this project's own.
 use Rattle.std.specs.Prelude.{◌≡◌, ℕ, ◌≤◌, List, length, Option, Ok, Err}
-use Rattle.text_core.specs.Outcome.{Outcome}
+use Rattle.outcome.specs.Outcome.{Outcome}
 use Rattle.job_io.specs.Shelf.{Files, Has, Lacks, HasMoreThan}
 use Rattle.job_words.specs.declared.file_fault.FileFault.{FileFault}
 use Rattle.job_words.specs.declared.file_fault.FileFault.TheVariants.{Absent, TooLong}

@@ -1,7 +1,7 @@
 -- What comes of the file of a hierarchical netlist. Source: this project's own, docs/COMMANDS.md; the Berkeley Logic Interchange Format
 -- (BLIF), University of California, Berkeley.
 use Rattle.std.specs.Prelude.{ℕ, List, Option}
-use Rattle.text_core.specs.Outcome.{Outcome, ◌>>=◌, Exactly, Within}
+use Rattle.outcome.specs.Outcome.{Outcome, ◌>>=◌, Exactly, Within}
 use Rattle.job_io.specs.Shelf.{Files}
 use Rattle.net_blif.specs.Design.{ModelValue}
 use Rattle.net_blif.specs.Models.{BlifDesign}

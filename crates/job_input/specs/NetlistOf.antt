@@ -2,7 +2,7 @@
 -- project's own, docs/DEFINITIONS.md; nets are those of the BLIF format of UC Berkeley, of structural Verilog and of ASCII AIGER.
 use Rattle.std.specs.Prelude.{ℕ, Option, List, [], length, slice_get, if◌then◌else◌}
 use Rattle.std.specs.Option.{option_map_or}
-use Rattle.text_core.specs.Outcome.{Outcome, ◌>>=◌, Exactly, Within}
+use Rattle.outcome.specs.Outcome.{Outcome, ◌>>=◌, Exactly, Within}
 use Rattle.job_io.specs.Shelf.{Files}
 use Rattle.job_input.specs.File.{Read}
 use Rattle.net_core.specs.NetList.{NetList, text_of}

@@ -1,6 +1,6 @@
 -- What a `Setting` is made of, and the stops of its making. Source: this project's own.
 use Rattle.std.specs.Prelude.{◌≡◌, ◌≢◌, ℕ, ◌*◌, ◌≤◌, List, filter, length, map, Result, Ok}
-use Rattle.net_core.specs.Lists.{Has}
+use Rattle.lists.specs.Lists.{Has}
 use Rattle.net_words.specs.Binding.{AreWords, BoundNet}
 use Rattle.net_words.specs.Feeds.{AreFeeds}
 use Rattle.net_words.specs.Roles.{is_output, input_count}

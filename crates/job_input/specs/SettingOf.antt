@@ -1,7 +1,7 @@
 -- What the text of a signature gives a job, or its first fault. Source: this project's own format, docs/FORMATS.md, and for bases
 -- Lidl and Niederreiter, Finite Fields, chapter 2.
 use Rattle.std.specs.Prelude.{◌≡◌, ◌⊎◌, ℕ, ◌<◌, ◌^◌, nat_lt, Bool, true, List, [], ◌∷◌, length, None, Some, Result, Ok, Err, if◌then◌else◌}
-use Rattle.text_core.specs.Outcome.{Outcome, ◌>>=◌, Exactly, Returns, Within}
+use Rattle.outcome.specs.Outcome.{Outcome, ◌>>=◌, Exactly, Returns, Within}
 use Rattle.net_signature.specs.Signature.{Sig, SignatureValue}
 use Rattle.net_signature.specs.declared.fault.SigFault.{SigFault}
 use Rattle.net_signature.specs.declared.fault.SigFault.TheVariants as text

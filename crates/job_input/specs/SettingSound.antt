@@ -1,6 +1,6 @@
 -- What holds of each setting that a text gives. Source: this project's own.
 use Rattle.std.specs.Prelude.{◌≡◌, ℕ, List, length, map}
-use Rattle.net_core.specs.Lists.{Has}
+use Rattle.lists.specs.Lists.{Has}
 use Rattle.net_words.specs.Binding.{AreWords}
 use Rattle.net_words.specs.Feeds.{AreFeeds}
 use Rattle.gf_field.specs.Ring.{IsRing}

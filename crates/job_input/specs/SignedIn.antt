@@ -1,6 +1,6 @@
 -- What comes of the file of a signature, and of that of a second one. Source: this project's own.
 use Rattle.std.specs.Prelude.{Option}
-use Rattle.text_core.specs.Outcome.{Outcome, ◌>>=◌, Exactly, Within}
+use Rattle.outcome.specs.Outcome.{Outcome, ◌>>=◌, Exactly, Within}
 use Rattle.job_io.specs.Shelf.{Files}
 use Rattle.job_words.specs.declared.fault.Fault.{Fault}
 use Rattle.job_words.specs.declared.fault.Fault.TheVariants.{File, Signature, SecondSignature}

@@ -1,6 +1,6 @@
 -- What comes of the file of a specification. Source: this project's own, docs/FORMATS.md.
 use Rattle.std.specs.Prelude.{ℕ, List, Option, Ok, Err}
-use Rattle.text_core.specs.Outcome.{Outcome, ◌>>=◌, Within}
+use Rattle.outcome.specs.Outcome.{Outcome, ◌>>=◌, Within}
 use Rattle.job_io.specs.Shelf.{Files}
 use Rattle.poly_mixed.specs.Labels.{Labelling}
 use Rattle.spec_expand.specs.Fault.{SpecOutcome}

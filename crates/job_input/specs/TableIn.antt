@@ -1,6 +1,6 @@
 -- What comes of the file of a table. Source: this project's own, docs/FORMATS.md.
 use Rattle.std.specs.Prelude.{ℕ, List, Option, Ok, Err}
-use Rattle.text_core.specs.Outcome.{Outcome, ◌>>=◌, Within}
+use Rattle.outcome.specs.Outcome.{Outcome, ◌>>=◌, Within}
 use Rattle.job_io.specs.Shelf.{Files}
 use Rattle.lift_table.specs.TableText.{TableOutcome}
 use Rattle.lift_table.specs.declared.fault.TableFault.{TableFault}

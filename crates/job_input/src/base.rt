@@ -1,6 +1,6 @@
 //! A field of polynomials over 0 and 1.
 ghost use Rattle.std.specs.Prelude.{◌≡◌, [], IfErr, IfOk};
-ghost use Rattle.text_core.specs.Outcome.{Within};
+ghost use Rattle.outcome.specs.Outcome.{Within};
 ghost use Rattle.gf_field.specs.Ring2k.{degree_of, modulus_of};
 ghost use Rattle.irreducible.specs.Proved.{ring_of};
 ghost use Rattle.job_words.specs.Stop.{GivesBy};

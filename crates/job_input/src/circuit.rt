@@ -1,6 +1,6 @@
 //! The circuit of a netlist's file.
 ghost use Rattle.std.specs.Prelude.{◌≡◌, ◌≤◌, ℕ, length, IfOk};
-ghost use Rattle.text_core.specs.Outcome.{Within};
+ghost use Rattle.outcome.specs.Outcome.{Within};
 ghost use Rattle.job_io.specs.Counts.{Rose};
 ghost use Rattle.net_words.specs.Bind.{bits_of};
 ghost use Rattle.net_words.specs.Binding.{AreWords};

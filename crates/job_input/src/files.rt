@@ -1,6 +1,6 @@
 //! The bytes of a file.
 ghost use Rattle.std.specs.Prelude.{◌≡◌, ◌≤◌, length, IfOk};
-ghost use Rattle.text_core.specs.Outcome.{Within};
+ghost use Rattle.outcome.specs.Outcome.{Within};
 ghost use Rattle.job_io.specs.Counts.{Rose};
 ghost use Rattle.job_words.specs.Stop.{bytes_of, GivesBy};
 ghost use Rattle.job_words.specs.declared.fault.Fault.TheVariants.{File};

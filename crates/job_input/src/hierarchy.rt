@@ -1,6 +1,6 @@
 //! A hierarchical netlist: its models, to whose first one the words of a signature bind.
 ghost use Rattle.std.specs.Prelude.{◌≡◌, ◌≤◌, ℕ, length, IfOk, Ok};
-ghost use Rattle.text_core.specs.Outcome.{Within};
+ghost use Rattle.outcome.specs.Outcome.{Within};
 ghost use Rattle.job_io.specs.Counts.{Rose};
 ghost use Rattle.net_words.specs.Binding.{AreWords};
 ghost use Rattle.net_words.specs.Feeds.{AreFeeds};

@@ -1,6 +1,6 @@
 //! Laws of settings, circuits and specifications. These functions do nothing: their contracts are proved of the definitions alone.
 ghost use Rattle.std.specs.Prelude.{List, ℕ, Option, Ok, Err};
-ghost use Rattle.text_core.specs.Outcome.{Determined, Within};
+ghost use Rattle.outcome.specs.Outcome.{Determined, Within};
 ghost use Rattle.job_io.specs.Shelf.{Files};
 ghost use Rattle.net_words.specs.Binding.{BoundNet};
 ghost use Rattle.net_signature.specs.Signature.{SignatureValue};

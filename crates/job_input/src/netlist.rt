@@ -22,7 +22,7 @@ use std::alloc::{AllocError, Global};
 use verilog_reader::read_verilog;
 
 /// Why a netlist is refused, without its file.
-#[derive(Debug, Drop)]
+#[derive(Drop)]
 pub(crate) enum Refusal {
     Fault(NetlistFault),
     OutOfMemory,

@@ -1,6 +1,6 @@
 //! The setting of a job: a signature, and over its field the bases of its words.
 ghost use Rattle.std.specs.Prelude.{◌≡◌, Ok, Err, IfOk, IfErr};
-ghost use Rattle.text_core.specs.Outcome.{Returns, Within};
+ghost use Rattle.outcome.specs.Outcome.{Returns, Within};
 ghost use Rattle.gf_basis.specs.BasisParts.{IsBasisOver, elements_of};
 ghost use Rattle.job_words.specs.Stop.{GivesBy};
 ghost use Rattle.job_words.specs.declared.fault.Fault.TheVariants.{Signature};

@@ -1,6 +1,6 @@
 //! The specification of a file.
 ghost use Rattle.std.specs.Prelude.{◌≡◌, ◌≤◌, length, IfOk};
-ghost use Rattle.text_core.specs.Outcome.{Within};
+ghost use Rattle.outcome.specs.Outcome.{Within};
 ghost use Rattle.job_io.specs.Counts.{Rose};
 ghost use Rattle.spec_expand.specs.Specification.{IsOverWords};
 ghost use Rattle.job_words.specs.Stop.{GivesBy};

@@ -1,6 +1,6 @@
 //! The table of a file.
 ghost use Rattle.std.specs.Prelude.{◌≡◌, ◌≤◌, ◌*◌, ◌^◌};
-ghost use Rattle.text_core.specs.Outcome.{Within};
+ghost use Rattle.outcome.specs.Outcome.{Within};
 ghost use Rattle.job_io.specs.Counts.{Rose};
 ghost use Rattle.lift_table.specs.Small.{IsSmall};
 ghost use Rattle.job_words.specs.Stop.{bytes_of, GivesBy};

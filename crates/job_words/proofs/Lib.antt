@@ -3,6 +3,7 @@ pub mod SpelledLemmas
 pub mod OptionLemmas
 pub mod ValueLemmas
 pub mod MadeWordsLemmas
+pub mod CommandTable
 pub mod OneCommandLemmas
 pub mod StepLemmas
 pub mod OneLineLemmas

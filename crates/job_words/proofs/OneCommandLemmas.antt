@@ -1,6 +1,7 @@
 -- Words spell one command at most: each command's words give back what it does over them.
-use Rattle.std.proofs.Common.{◌≡◌, ◌∙◌, ap, sym, subst, inl, inr, refl, ℕ, ◌+◌, ◌*◌, if◌then◌else◌, ◌==◌, Bool, true, false, drop, List, [], ◌∷◌, get_or, codes}
+use Rattle.std.proofs.Common.{◌≡◌, ◌∙◌, ap, sym, subst, inl, inr, refl, ℕ, true, drop, List, [], ◌∷◌, codes}
 use Rattle.text_core.specs.Numbers.{value_of}
+use Rattle.job_words.proofs.CommandTable.{are_apart, command_rows, cycles_by, job_at, kind_at, kind_rows, terms_by}
 use Rattle.job_words.proofs.OptionLemmas.{Shape, Neither, Terms, Cycles, TermsFirst, CyclesFirst, shape}
 use Rattle.job_words.proofs.SpelledLemmas.{first_word, rest_of}
 use Rattle.job_words.proofs.ValueLemmas.{values_back, cycles_back}
@@ -11,74 +12,16 @@ use Rattle.job_words.specs.Kind.{kind_name}
 use Rattle.job_words.specs.MadeWords.{AreTrialWords, IsOfKind}
 use Rattle.job_words.specs.Options.{AreNone, AreOptions, AreStageOptions, AreSumOptions, IsCyclesOption, IsTermsOption}
 use Rattle.job_words.specs.Shapes.{IsOverBlif, IsOverFile, IsOverFiles, AreValues}
-use Rattle.job_words.specs.Command.{Action, Bits, Abstract, Check, Same, Eval, Iso, Lift, Table, Certify, Verify, Upgrade, Make, Compose, Job, Over, Trial, IsNamed, IsSpelled}
+use Rattle.job_words.specs.Command.{Bits, Abstract, Check, Same, Eval, Iso, Lift, Table, Certify, Verify, Upgrade, Make, Compose, Job, Over, Trial, IsNamed, IsSpelled}
 use Rattle.job_words.specs.private.Groups.{IsOverSignature}
 use Rattle.job_words.specs.private.OptionPlace.{before_options, from_options}
 
--- what tells the names of commands apart, and those of kinds: their first two letters
-abbrev name_key : Word → ℕ
-name_key name = get_or name 0 0 * 256 + get_or name 1 0
+-- no name of a command stands twice in its table, nor that of a kind
+commands_are_apart : are_apart command_rows ≡ true
+commands_are_apart = refl
 
-abbrev key : List Word → ℕ
-key words = name_key (first_word words)
-
--- the number behind this option, whose third letter is told; and another where the option does not stand
-abbrev set_by : ℕ → ℕ → List Word → ℕ
-set_by letter other [] = other
-set_by letter other (name ∷ rest) =
-    if get_or name 2 0 == letter then value_of 10 (first_word rest) else
-    if get_or (first_word (rest_of rest)) 2 0 == letter then value_of 10 (first_word (rest_of (rest_of rest))) else other
-
--- the bound that options set, and the number of cycles
-abbrev terms_by : ℕ → List Word → ℕ
-terms_by default = set_by 116 default
-
-abbrev cycles_by : List Word → ℕ
-cycles_by = set_by 99 0
-
--- what the command of this key does over these operands, which stand behind the signature
-abbrev action_at : ℕ → List Word → Action
-action_at key operands =
-    if key == 25193 then Bits (first_word operands) (terms_by 65536 (rest_of operands)) (cycles_by (rest_of operands)) else
-    if key == 25448 then Check (first_word operands) (first_word (rest_of operands)) (terms_by 65536 (rest_of (rest_of operands))) (cycles_by (rest_of (rest_of operands))) else
-    if key == 29537 then Same (first_word operands) (first_word (rest_of operands)) (terms_by 65536 (rest_of (rest_of operands))) (cycles_by (rest_of (rest_of operands))) else
-    if key == 25974 then Eval (first_word operands) (before_options (rest_of operands)) (cycles_by (from_options (rest_of operands))) else
-    if key == 26995 then Iso (first_word operands) else
-    if key == 27753 then Lift (first_word operands) else
-    if key == 29793 then Table (first_word operands) (cycles_by (rest_of operands)) else
-    if key == 25445 then Certify (first_word operands) (terms_by 65536 (rest_of operands)) (cycles_by (rest_of operands)) else
-    if key == 30309 then Verify (first_word operands) (first_word (rest_of operands)) (terms_by 1048576 (rest_of (rest_of operands))) (cycles_by (rest_of (rest_of operands))) else
-    if key == 25455 then Compose (first_word operands) (terms_by 65536 (rest_of operands)) else
-    if key == 30064 then Upgrade (first_word operands) (first_word (rest_of operands)) (cycles_by (rest_of (rest_of operands))) else
-    Abstract (first_word operands) (terms_by 65536 (rest_of operands)) (cycles_by (rest_of operands))
-
--- whether the command of this key has its signature as the first word behind its name
-abbrev is_signature_first : ℕ → Bool
-is_signature_first key = if key == 28001 then false else if key == 29810 then false else true
-
--- the kind whose name has this key
-abbrev kind_at : ℕ → Kind
-kind_at key =
-    if key == 28001 then kinds.Mastrovito else
-    if key == 28015 then kinds.Montgomery else
-    if key == 25455 then kinds.Composite else
-    if key == 28271 then kinds.Normal else
-    if key == 24932 then kinds.Adder else
-    if key == 29553 then kinds.Squarer else
-    kinds.Digit
-
--- the command of this key that makes a netlist
-abbrev made_at : ℕ → List Word → Job
-made_at key operands =
-    if key == 28001 then Over (first_word (rest_of operands)) (Make (kind_at (name_key (first_word operands)))) else
-    Trial (value_of 10 (first_word operands)) (value_of 16 (drop 2 (first_word (rest_of operands)))) (terms_by 65536 (rest_of (rest_of operands)))
-
--- the command of the words, where they spell one
-abbrev job_at : List Word → Job
-job_at words =
-    if is_signature_first (key words)
-    then Over (first_word (rest_of words)) (action_at (key words) (rest_of (rest_of words)))
-    else made_at (key words) (rest_of words)
+kinds_are_apart : are_apart kind_rows ≡ true
+kinds_are_apart = refl
 
 -- the numbers that options set
 options_back : (limit default : ℕ) (options : List Word) (t c : ℕ) → AreOptions limit default options t c → (t ≡ terms_by default options) × (c ≡ cycles_by options)
@@ -93,40 +36,34 @@ options_back limit default options t c is = by (shape limit default options t c 
 
 -- ---- commands over a signature and a file, by what follows
 
-module _ (name : Word) (words : List Word) (s n : Word) (act : Action) (Follow : List Word → Type 0) (first : is_signature_first (key (name ∷ [])) ≡ true) (is : IsNamed name (λ rest. IsOverFile Follow rest s n) words) where
-  file_back : action_at (key (name ∷ [])) (n ∷ is.follow.rest) ≡ act → ◌≡◌ {A = Job} (Over s act) (job_at words)
-  file_back made =
-      let over = is.follow in
-      let whole : words ≡ name ∷ s ∷ n ∷ over.rest = is.words_are ∙ ap (λ (rest : List Word). name ∷ rest) over.words_are in
-      ap (λ (a : Action). Over s a) (sym made) ∙ (λ i. if sym first i then Over s (action_at (key (name ∷ [])) (n ∷ over.rest)) else made_at (key (name ∷ [])) (s ∷ n ∷ over.rest)) ∙ ap job_at (sym whole)
+module _ (name : Word) (words : List Word) (s n : Word) (job : Job) (Follow : List Word → Type 0) (is : IsNamed name (λ rest. IsOverFile Follow rest s n) words) where
+  file_back : job_at (name ∷ s ∷ n ∷ is.follow.rest) ≡ job → job ≡ job_at words
+  file_back made = sym made ∙ ap job_at (sym (is.words_are ∙ ap (λ (rest : List Word). name ∷ rest) is.follow.words_are))
 
-module _ (name : Word) (words : List Word) (s n o : Word) (act : Action) (Follow : List Word → Type 0) (first : is_signature_first (key (name ∷ [])) ≡ true) (is : IsNamed name (λ rest. IsOverFiles Follow rest s n o) words) where
-  files_back : action_at (key (name ∷ [])) (n ∷ o ∷ is.follow.rest) ≡ act → ◌≡◌ {A = Job} (Over s act) (job_at words)
-  files_back made =
-      let over = is.follow in
-      let whole : words ≡ name ∷ s ∷ n ∷ o ∷ over.rest = is.words_are ∙ ap (λ (rest : List Word). name ∷ rest) over.words_are in
-      ap (λ (a : Action). Over s a) (sym made) ∙ (λ i. if sym first i then Over s (action_at (key (name ∷ [])) (n ∷ o ∷ over.rest)) else made_at (key (name ∷ [])) (s ∷ n ∷ o ∷ over.rest)) ∙ ap job_at (sym whole)
+module _ (name : Word) (words : List Word) (s n o : Word) (job : Job) (Follow : List Word → Type 0) (is : IsNamed name (λ rest. IsOverFiles Follow rest s n o) words) where
+  files_back : job_at (name ∷ s ∷ n ∷ o ∷ is.follow.rest) ≡ job → job ≡ job_at words
+  files_back made = sym made ∙ ap job_at (sym (is.words_are ∙ ap (λ (rest : List Word). name ∷ rest) is.follow.words_are))
 
 -- what options set, in what a command does
-set_back : (make : ℕ → ℕ → Action) (options : List Word) (t c : ℕ) → AreStageOptions options t c → make (terms_by 65536 options) (cycles_by options) ≡ make t c
+set_back : (make : ℕ → ℕ → Job) (options : List Word) (t c : ℕ) → AreStageOptions options t c → make (terms_by 65536 options) (cycles_by options) ≡ make t c
 set_back make options t c is = let (same_t, same_c) = options_back 262144 65536 options t c is in (λ i. make (sym same_t i) (sym same_c i))
 
-sum_set_back : (make : ℕ → ℕ → Action) (options : List Word) (t c : ℕ) → AreSumOptions options t c → make (terms_by 1048576 options) (cycles_by options) ≡ make t c
+sum_set_back : (make : ℕ → ℕ → Job) (options : List Word) (t c : ℕ) → AreSumOptions options t c → make (terms_by 1048576 options) (cycles_by options) ≡ make t c
 sum_set_back make options t c is = let (same_t, same_c) = options_back 1048576 1048576 options t c is in (λ i. make (sym same_t i) (sym same_c i))
 
 cycles_set : (options : List Word) (c : ℕ) → IsCyclesOption options c → cycles_by options ≡ c
 cycles_set options c is = sym (cycles_back options c is cycles_by refl (λ y. refl))
 
-values_set : (n : Word) (rest vs : List Word) (c : ℕ) → AreValues rest vs c → ◌≡◌ {A = Action} (Eval n (before_options rest) (cycles_by (from_options rest))) (Eval n vs c)
-values_set n rest vs c is =
+values_set : (s n : Word) (rest vs : List Word) (c : ℕ) → AreValues rest vs c → ◌≡◌ {A = Job} (Over s (Eval n (before_options rest) (cycles_by (from_options rest)))) (Over s (Eval n vs c))
+values_set s n rest vs c is =
     let (same_vs, options) = values_back rest vs c is in
     let same_c : cycles_by (from_options rest) ≡ c = ap cycles_by options ∙ cycles_set is.options c is.set in
-    (λ i. Eval n (same_vs i) (same_c i))
+    (λ i. Over s (Eval n (same_vs i) (same_c i)))
 
 -- ---- commands that make netlists
 
 -- a kind is told by its name
-kind_back : (kind : Kind) → kind ≡ kind_at (name_key (kind_name kind))
+kind_back : (kind : Kind) → kind ≡ kind_at (kind_name kind)
 kind_back kinds.Mastrovito = refl
 kind_back kinds.Montgomery = refl
 kind_back kinds.Composite = refl
@@ -157,21 +94,21 @@ compose_back : (words : List Word) (s n : Word) (t : ℕ) → IsNamed (codes "co
 compose_back words s n t is =
     let files = is.follow.files in
     let named : IsNamed (codes "compose") (λ rest. IsOverFile (λ options. IsTermsOption 262144 65536 options t) rest s n) words = record { rest = is.rest; words_are = is.words_are; follow = files } in
-    file_back (codes "compose") words s n (Compose n t) (λ options. IsTermsOption 262144 65536 options t) refl named (ap (Compose n) (sym (terms_back files.rest t files.follow)))
+    file_back (codes "compose") words s n (Over s (Compose n t)) (λ options. IsTermsOption 262144 65536 options t) named (ap (λ u. Over s (Compose n u)) (sym (terms_back files.rest t files.follow)))
 
 -- each command, one line each
 back : (words : List Word) (job : Job) → IsSpelled words job → job ≡ job_at words
-back words (Over s (Bits n t c)) is = file_back (codes "bits") words s n (Bits n t c) (λ rest. AreStageOptions rest t c) refl is (set_back (Bits n) is.follow.rest t c is.follow.follow)
-back words (Over s (Abstract n t c)) is = file_back (codes "abstract") words s n (Abstract n t c) (λ rest. AreStageOptions rest t c) refl is (set_back (Abstract n) is.follow.rest t c is.follow.follow)
-back words (Over s (Check n o t c)) is = files_back (codes "check") words s n o (Check n o t c) (λ rest. AreStageOptions rest t c) refl is (set_back (Check n o) is.follow.rest t c is.follow.follow)
-back words (Over s (Same n o t c)) is = files_back (codes "same") words s n o (Same n o t c) (λ rest. AreStageOptions rest t c) refl is (set_back (Same n o) is.follow.rest t c is.follow.follow)
-back words (Over s (Eval n vs c)) is = file_back (codes "eval") words s n (Eval n vs c) (λ rest. AreValues rest vs c) refl is (values_set n is.follow.rest vs c is.follow.follow)
-back words (Over s (Iso o)) is = file_back (codes "iso") words s o (Iso o) AreNone refl is refl
-back words (Over s (Lift f)) is = file_back (codes "lift") words s f (Lift f) AreNone refl is refl
-back words (Over s (Table n c)) is = file_back (codes "table") words s n (Table n c) (λ rest. IsCyclesOption rest c) refl is (ap (Table n) (cycles_set is.follow.rest c is.follow.follow))
-back words (Over s (Certify n t c)) is = file_back (codes "certify") words s n (Certify n t c) (λ rest. AreStageOptions rest t c) refl is (set_back (Certify n) is.follow.rest t c is.follow.follow)
-back words (Over s (Verify n o t c)) is = files_back (codes "verify") words s n o (Verify n o t c) (λ rest. AreSumOptions rest t c) refl is (sum_set_back (Verify n o) is.follow.rest t c is.follow.follow)
-back words (Over s (Upgrade n o c)) is = files_back (codes "upgrade") words s n o (Upgrade n o c) (λ rest. IsCyclesOption rest c) refl is (ap (Upgrade n o) (cycles_set is.follow.rest c is.follow.follow))
+back words (Over s (Bits n t c)) is = file_back (codes "bits") words s n _ (λ rest. AreStageOptions rest t c) is (set_back (λ u d. Over s (Bits n u d)) is.follow.rest t c is.follow.follow)
+back words (Over s (Abstract n t c)) is = file_back (codes "abstract") words s n _ (λ rest. AreStageOptions rest t c) is (set_back (λ u d. Over s (Abstract n u d)) is.follow.rest t c is.follow.follow)
+back words (Over s (Check n o t c)) is = files_back (codes "check") words s n o _ (λ rest. AreStageOptions rest t c) is (set_back (λ u d. Over s (Check n o u d)) is.follow.rest t c is.follow.follow)
+back words (Over s (Same n o t c)) is = files_back (codes "same") words s n o _ (λ rest. AreStageOptions rest t c) is (set_back (λ u d. Over s (Same n o u d)) is.follow.rest t c is.follow.follow)
+back words (Over s (Eval n vs c)) is = file_back (codes "eval") words s n _ (λ rest. AreValues rest vs c) is (values_set s n is.follow.rest vs c is.follow.follow)
+back words (Over s (Iso o)) is = file_back (codes "iso") words s o _ AreNone is refl
+back words (Over s (Lift f)) is = file_back (codes "lift") words s f _ AreNone is refl
+back words (Over s (Table n c)) is = file_back (codes "table") words s n _ (λ rest. IsCyclesOption rest c) is (ap (λ d. Over s (Table n d)) (cycles_set is.follow.rest c is.follow.follow))
+back words (Over s (Certify n t c)) is = file_back (codes "certify") words s n _ (λ rest. AreStageOptions rest t c) is (set_back (λ u d. Over s (Certify n u d)) is.follow.rest t c is.follow.follow)
+back words (Over s (Verify n o t c)) is = files_back (codes "verify") words s n o _ (λ rest. AreSumOptions rest t c) is (sum_set_back (λ u d. Over s (Verify n o u d)) is.follow.rest t c is.follow.follow)
+back words (Over s (Upgrade n o c)) is = files_back (codes "upgrade") words s n o _ (λ rest. IsCyclesOption rest c) is (ap (λ d. Over s (Upgrade n o d)) (cycles_set is.follow.rest c is.follow.follow))
 back words (Over s (Make kind)) is = make_back words s kind is
 back words (Over s (Compose n t)) is = compose_back words s n t is
 back words (Trial n m t) is = trial_back words n m t is

@@ -4,7 +4,7 @@ use Rattle.std.specs.Prelude.{codes, nat_lt}
 use Rattle.std.specs.Fmt.{decimal, digits, digits_onto, digit_glyph}
 use Rattle.std.specs.List.{AllByRecursion, list_all}
 use Rattle.std.proofs.lemmas.Bool.{eqb-true}
-use Rattle.graph_core.proofs.GeneralLemmas.{both_true as both}
+use Rattle.lists.specs.laws.BoolLaws.{both_true as both}
 use Rattle.poly_mixed.specs.Labels.{Labelling, word_at}
 use Rattle.poly_mixed.specs.declared.stage.Stage.{Stage}
 use Rattle.poly_mixed.specs.declared.stage.Stage.TheVariants as stages

@@ -91,6 +91,6 @@ action_of (tasks.Make kind) = Make kind
 action_of (tasks.Compose words) = Compose words.net.now words.terms
 
 -- the command that the program's words gave
-abbrev pub job_of : Command → Job
-job_of (commands.Over signature task) = Over signature.now (action_of task)
-job_of (commands.Trial words) = Trial words.number words.modulus words.terms
+abbrev pub spelled_job : Command → Job
+spelled_job (commands.Over signature task) = Over signature.now (action_of task)
+spelled_job (commands.Trial words) = Trial words.number words.modulus words.terms

@@ -5,7 +5,7 @@ ghost use Rattle.job_words.specs.CertificateFault.{certificate_text as text_of};
 use std::alloc::{AllocError, Global};
 
 /// Why the text of a certificate is refused: its first line with a fault. Lines count from 1.
-#[derive(Debug, Drop)]
+#[derive(Drop)]
 pub enum CertificateFault {
     /// The line is no line of its place.
     Syntax { line: u32 },

@@ -1,6 +1,6 @@
 //! The commands, and the words that spell them.
 ghost use Rattle.std.specs.Prelude.{◌∷◌, map, string_bytes, IfSome, IfNone};
-ghost use Rattle.job_words.specs.Command.{Over, Trial, IsSpelled, action_of, job_of};
+ghost use Rattle.job_words.specs.Command.{Over, Trial, IsSpelled, action_of, spelled_job};
 ghost use Rattle.job_words.specs.private.Groups.{IsLater, IsOfTables, IsOverSignature};
 
 use crate::kind::Kind;
@@ -12,7 +12,7 @@ use crate::shapes::{
 use crate::words::{ComposeWords, CyclePairWords, CycleWords, EvalWords, NetWords, PairWords};
 
 /// A command.
-#[derive(Clone, Copy, Debug)]
+#[derive(Clone, Copy)]
 pub enum Command<'a> {
     /// What a task does over the signature of this file, which is read first.
     Over { signature: &'a str, task: Task<'a> },
@@ -21,7 +21,7 @@ pub enum Command<'a> {
 }
 
 /// What a command does over its signature.
-#[derive(Clone, Copy, Debug)]
+#[derive(Clone, Copy)]
 pub enum Task<'a> {
     /// `bits`: prints the output word's polynomial in the input bits.
     Bits(NetWords<'a>),
@@ -53,7 +53,7 @@ pub enum Task<'a> {
 
 /// The command that the words spell.
 pub fn read_words<'a>(words: &'a [String]) -> Option<Command<'a>>
-    ensures found { IfSome result (λ command. IsSpelled (map string_bytes words.now) (job_of command)) }
+    ensures found { IfSome result (λ command. IsSpelled (map string_bytes words.now) (spelled_job command)) }
     ensures none { IfNone result ((job : _) → IsSpelled (map string_bytes words.now) job → ⊥) }
 {
     match words {
@@ -64,7 +64,7 @@ pub fn read_words<'a>(words: &'a [String]) -> Option<Command<'a>>
 
 // The command of this name with these words behind it.
 fn read_command<'a>(name: &str, rest: &'a [String]) -> Option<Command<'a>>
-    ensures found { IfSome result (λ command. IsSpelled (name.now ∷ map string_bytes rest.now) (job_of command)) }
+    ensures found { IfSome result (λ command. IsSpelled (name.now ∷ map string_bytes rest.now) (spelled_job command)) }
     ensures none { IfNone result ((job : _) → IsSpelled (name.now ∷ map string_bytes rest.now) job → ⊥) }
 {
     match read_task(name, rest) {

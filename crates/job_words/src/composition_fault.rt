@@ -7,7 +7,7 @@ use net_core::Name;
 use std::alloc::{AllocError, Global};
 
 /// Why a design can't be composed of its blocks. Lines and instances count from 1.
-#[derive(Debug, Drop)]
+#[derive(Drop)]
 pub enum CompositionFault {
     /// The signature's top has a fed word or a feed.
     FedInTop,

@@ -17,7 +17,7 @@ use net_core::Name;
 use std::alloc::{AllocError, Global};
 
 /// Why an input is refused.
-#[derive(Debug, Drop)]
+#[derive(Drop)]
 pub enum Fault {
     /// The words fit no shape of a command.
     Words,

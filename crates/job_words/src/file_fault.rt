@@ -6,7 +6,7 @@ use net_core::Name;
 use std::alloc::{AllocError, Global};
 
 /// Why a file is refused, with its name.
-#[derive(Debug, Drop)]
+#[derive(Drop)]
 pub enum FileFault {
     /// The shelf does not hold it.
     Absent { file: Name },

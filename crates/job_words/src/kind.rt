@@ -3,7 +3,7 @@ ghost use Rattle.std.specs.Prelude.{◌≡◌};
 ghost use Rattle.job_words.specs.Kind.{kind_name as name_of};
 
 /// A kind of netlists that are made.
-#[derive(Clone, Copy, Debug)]
+#[derive(Clone, Copy)]
 pub enum Kind {
     /// Multipliers of all products of bits and their sums, by Mastrovito.
     Mastrovito,

@@ -9,7 +9,7 @@ use crate::options::read_terms;
 use text_core::{read_decimal, read_hex};
 
 /// The words of a trial.
-#[derive(Clone, Copy, Debug)]
+#[derive(Clone, Copy)]
 pub struct TrialWords {
     /// The number that tells which gate is turned over, and where.
     pub number: u64,

@@ -7,7 +7,7 @@ use net_core::Name;
 use std::alloc::{AllocError, Global};
 
 /// Why a netlist or its binding is refused. Lines count from 1.
-#[derive(Debug, Drop)]
+#[derive(Drop)]
 pub enum NetlistFault {
     /// The line has a wrong byte or form, or stands where it may not.
     Syntax { line: u32 },
@@ -62,7 +62,7 @@ pub enum NetlistFault {
 }
 
 /// Why the words of a signature can't be bound to a netlist. Places count from 0.
-#[derive(Debug, Drop)]
+#[derive(Drop)]
 pub enum BindingFault {
     /// No net has the name of this place of a word.
     NoSuchNet { word: Name, place: u32 },

@@ -6,7 +6,7 @@ use net_core::Name;
 use std::alloc::{AllocError, Global};
 
 /// Why a signature is refused. Lines count from 1.
-#[derive(Debug, Drop)]
+#[derive(Drop)]
 pub enum SignatureFault {
     /// A feed is from a word that is no fed word of the top.
     NoFedWord { line: u32 },

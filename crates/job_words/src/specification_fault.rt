@@ -5,7 +5,7 @@ ghost use Rattle.job_words.specs.SpecificationFault.{specification_text as text_
 use std::alloc::{AllocError, Global};
 
 /// Why the text of a specification is refused: its first token with a fault. Places are bytes from 0.
-#[derive(Debug, Drop)]
+#[derive(Drop)]
 pub enum SpecificationFault {
     /// No specification goes on with what stands there.
     Syntax { place: u32 },

@@ -8,7 +8,7 @@ use poly_mixed::{Labels, Stage};
 use std::alloc::{AllocError, Global};
 
 /// A stage has more terms than the bound.
-#[derive(Debug, Drop)]
+#[derive(Drop)]
 pub struct StageFault {
     /// What the stage is called.
     pub stage: Name,

@@ -6,7 +6,7 @@ use crate::fault::Fault;
 use std::alloc::{AllocError, AllocFailed};
 
 /// Why no output comes.
-#[derive(Debug, Drop)]
+#[derive(Drop)]
 pub enum Stop {
     /// An input is refused.
     Refused(Fault),

@@ -5,7 +5,7 @@ ghost use Rattle.job_words.specs.TableTextFault.{table_text as text_of};
 use std::alloc::{AllocError, Global};
 
 /// Why the text of a table is refused: its first line with a fault. Lines count from 1.
-#[derive(Debug, Drop)]
+#[derive(Drop)]
 pub enum TableTextFault {
     /// The line is no line of its place, is missing, or is one too many.
     Syntax { line: u32 },

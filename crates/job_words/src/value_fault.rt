@@ -6,7 +6,7 @@ ghost use Rattle.job_words.specs.ValueFault.{value_text as text_of};
 use std::alloc::{AllocError, Global};
 
 /// Why the values at which a netlist is to be evaluated are refused.
-#[derive(Debug, Drop)]
+#[derive(Drop)]
 pub enum ValueFault {
     /// There are not as many values as input, state and fed words.
     WrongCount { count: u64, words: u32 },

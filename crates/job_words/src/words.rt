@@ -2,7 +2,7 @@
 ghost use Rattle.std.specs.Prelude.{◌≤◌};
 
 /// The words of a command over one netlist.
-#[derive(Clone, Copy, Debug)]
+#[derive(Clone, Copy)]
 pub struct NetWords<'a> {
     /// The name of the netlist's file, whose ending tells its form.
     pub net: &'a str,
@@ -14,7 +14,7 @@ pub struct NetWords<'a> {
 }
 
 /// The words of a command over one netlist that has no stages.
-#[derive(Clone, Copy, Debug)]
+#[derive(Clone, Copy)]
 pub struct CycleWords<'a> {
     /// The name of the netlist's file, whose ending tells its form.
     pub net: &'a str,
@@ -24,7 +24,7 @@ pub struct CycleWords<'a> {
 }
 
 /// The words of a command over a netlist and a second file.
-#[derive(Clone, Copy, Debug)]
+#[derive(Clone, Copy)]
 pub struct PairWords<'a> {
     /// The name of the netlist's file, whose ending tells its form.
     pub net: &'a str,
@@ -38,7 +38,7 @@ pub struct PairWords<'a> {
 }
 
 /// The words of a command over a netlist and a second file that has no stages.
-#[derive(Clone, Copy, Debug)]
+#[derive(Clone, Copy)]
 pub struct CyclePairWords<'a> {
     /// The name of the netlist's file, whose ending tells its form.
     pub net: &'a str,
@@ -50,7 +50,7 @@ pub struct CyclePairWords<'a> {
 }
 
 /// The words of a command over a netlist and values.
-#[derive(Clone, Copy, Debug)]
+#[derive(Clone, Copy)]
 pub struct EvalWords<'a> {
     /// The name of the netlist's file, whose ending tells its form.
     pub net: &'a str,
@@ -62,7 +62,7 @@ pub struct EvalWords<'a> {
 }
 
 /// The words of a command over one netlist in BLIF that has stages and no cycles.
-#[derive(Clone, Copy, Debug)]
+#[derive(Clone, Copy)]
 pub struct ComposeWords<'a> {
     /// The name of the netlist's file.
     pub net: &'a str,

@@ -2,7 +2,7 @@
 use Rattle.std.proofs.Common.{◌≡◌, ◌≢◌, ◌∙◌, ap, sym, refl, subst, inl, inr, ℕ, zero, suc, ◌+◌, ◌-◌, ◌<◌, ◌≤◌, ◌^◌, List, [], ◌∷◌, length, arith, Option, Some, None, Ok, Err}
 use Rattle.std.specs.Prelude.{slice_get}
 use Rattle.std.proofs.lemmas.Bool.{cases_eq, cases_lt}
-use Rattle.text_core.specs.Outcome.{Determined}
+use Rattle.outcome.specs.Outcome.{Determined}
 use Rattle.lift_table.specs.declared.fault.TableFault.{TableFault}
 use Rattle.lift_table.specs.declared.fault.TableFault.TheVariants.{Syntax, TooLarge, OutOfMemory}
 use Rattle.lift_table.specs.TableText.{IsNumber, IsFormed, IsNumberAt, IsRightTo, IsTable, IsSyntaxFault, IsTooLarge, LinesOutcome}

@@ -2,8 +2,8 @@
 use Rattle.std.proofs.Common.{◌≡◌, subst, ℕ, zero, suc, ◌<◌, ◌≤◌, ◌^◌, List, [], ◌∷◌, length, take, arith, Some}
 use Rattle.std.specs.Prelude.{slice_get}
 use Rattle.std.specs.List.{AllByRecursion}
-use Rattle.graph_core.proofs.GeneralLemmas.{taken_long}
-use Rattle.net_core.specs.Lists.{Has}
+use Rattle.std.proofs.lemmas.List.{length-take-le}
+use Rattle.lists.specs.Lists.{Has}
 use Rattle.poly_mixed.specs.Polynomial.{Terms, Point, IsPoint, IsElement, value}
 use Rattle.circuit_model.specs.Circuit.{Circuit, IsInput}
 use Rattle.circuit_model.specs.Out.{IsOut}
@@ -25,5 +25,5 @@ pub output_at : (circuit : Circuit) (table : List ℕ) (ts : Terms) → IsWellFo
 output_at circuit table ts well is_table is p at =
     let n = length circuit.words in
     let within : n ≤ length p.words = omega (arith, well.few, at.words) in
-    let input : IsInput circuit (take n p.words) = record { long = taken_long n p.words within; elements = taken_has circuit.k n p.words at.elements } in
+    let input : IsInput circuit (take n p.words) = record { long = length-take-le n p.words within; elements = taken_has circuit.k n p.words at.elements } in
     is_table.values (take n p.words) (value circuit.product p ts) input (is.values p at)

@@ -3,9 +3,9 @@ use Rattle.std.proofs.Common.{◌≡◌, ◌⊎◌, ◌↔◌, ◌∙◌, ap, sy
 use Rattle.std.specs.Prelude.{slice_get}
 use Rattle.std.specs.Str.Lines.{lines}
 use Rattle.std.proofs.lemmas.Bool.{cases_eq}
+use Rattle.lists.specs.laws.OptionLaws.{same_some as one_line}
 use Rattle.text_core.specs.Lines.{tokens_of}
 use Rattle.text_core.specs.Numbers.{IsHex, AreDigits, value_of}
-use Rattle.text_core.proofs.GeneralLemmas.{same_some as one_line}
 use Rattle.lift_table.proofs.GatherLemmas.{pushed_long}
 use Rattle.lift_table.specs.declared.fault.TableFault.{TableFault}
 use Rattle.lift_table.specs.declared.fault.TableFault.TheVariants.{Syntax, TooLarge, OutOfMemory}

@@ -2,7 +2,7 @@
 use Rattle.std.proofs.Common.{◌≡◌, ℕ, zero, suc, ◌<◌, sym, refl, ◌∙◌, ap, arith}
 use Rattle.std.specs.Prelude.{bit_xor}
 use Rattle.std.specs.Int.Bits.{xor_assoc, xor_comm, xor_zero_l}
-use Rattle.gf_field.specs.laws.XorLaws.{xor_cross}
+use Rattle.lists.specs.laws.XorLaws.{xor_cross}
 use Rattle.gf_field.specs.Ring.{IsRing}
 use Rattle.gf_field.specs.laws.RingLaws.{mul_zero}
 use Rattle.gf_field.specs.Polynomial.{sum_of_first}

@@ -1,10 +1,9 @@
 -- The text of a table: a head, and then the values by row, one a line. Source: this project's own, docs/FORMATS.md.
 use Rattle.std.specs.Prelude.{◌≡◌, ℕ, zero, suc, ◌+◌, ◌<◌, ◌≤◌, ◌^◌, List, [], ◌∷◌, ◌++◌, length, codes, Option, None, Some, slice_get, Ok, Err}
 use Rattle.std.specs.Str.Lines.{lines}
+use Rattle.outcome.specs.Outcome.{Outcome}
 use Rattle.text_core.specs.Lines.{tokens_of}
-use Rattle.text_core.specs.Numbers.{IsHex}
-use Rattle.text_core.specs.Outcome.{Outcome}
-use Rattle.poly_mixed.specs.Text.{hex_text}
+use Rattle.text_core.specs.Numbers.{IsHex, hex_text}
 use Rattle.lift_table.specs.declared.fault.TableFault.{TableFault}
 use Rattle.lift_table.specs.declared.fault.TableFault.TheVariants.{Syntax, TooLarge, OutOfMemory}
 

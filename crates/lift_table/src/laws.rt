@@ -1,7 +1,7 @@
 //! Laws of tables. These functions do nothing: their contracts are proved of the definitions alone.
 ghost use Rattle.std.specs.Prelude.{◌≡◌, ◌<◌, ◌*◌, ◌/◌, ◌%◌, ◌^◌, ℕ, List, Some, length, slice_get, take};
 ghost use Rattle.std.specs.List.{AllByRecursion};
-ghost use Rattle.text_core.specs.Outcome.{Determined};
+ghost use Rattle.outcome.specs.Outcome.{Determined};
 ghost use Rattle.gf_field.specs.Element.{AreElements};
 ghost use Rattle.gf_field.specs.Polynomial.{sum_of_first};
 ghost use Rattle.gf_field.specs.Power.{power};

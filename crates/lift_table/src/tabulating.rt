@@ -1,7 +1,7 @@
 //! The table of a circuit's output.
 ghost use Rattle.std.specs.Prelude.{◌≡◌, ◌≤◌, ◌<◌, ◌^◌, ℕ, [], length, IfOk};
+ghost use Rattle.lists.specs.Lists.{Has};
 ghost use Rattle.gf_basis.specs.BasisParts.{IsBasisOver};
-ghost use Rattle.net_core.specs.Lists.{Has};
 ghost use Rattle.circuit_model.specs.Bases.{AreBases, circuit_in};
 ghost use Rattle.circuit_model.specs.Flat.{AreOver, circuit_of_parts};
 ghost use Rattle.circuit_model.specs.Out.{IsOut};

@@ -1,9 +1,10 @@
 //! How a table is written.
 ghost use Rattle.std.specs.Prelude.{◌≡◌, ◌++◌, ◌∷◌, [], IfOk, OnOk};
-ghost use Rattle.poly_mixed.specs.Text.{hex_text};
+ghost use Rattle.text_core.specs.Numbers.{hex_text};
 ghost use Rattle.lift_table.specs.TableText.{table_text};
 
 use std::alloc::{AllocError, Global};
+use text_core::push_hex;
 
 /// The text of a table: the head, and then each value by row on a line of its own.
 pub fn write_table(alloc: Global, table: &[u64]) -> Result<Vec<u8>, AllocError>
@@ -11,16 +12,16 @@ pub fn write_table(alloc: Global, table: &[u64]) -> Result<Vec<u8>, AllocError>
 {
     let mut text = Vec::from_slice(alloc, b"gftable 1\n")?;
     for value in table {
-        add_value(alloc, &mut text, *value)?;
+        add_value(&mut text, *value)?;
     }
     Ok(text)
 }
 
 // Appends the line of a value.
-fn add_value(alloc: Global, text: &mut Vec<u8>, value: u64) -> Result<(), AllocError>
+fn add_value(text: &mut Vec<u8>, value: u64) -> Result<(), AllocError>
     ensures { OnOk result (text.new.items ≡ text.old.items ++ (hex_text value ++ (10 ∷ []))) }
 {
-    let number = format!(in alloc; "0x{:x}\n", value)?;
-    text.extend_from_slice(number.as_bytes())?;
+    push_hex(text, u128::from(value))?;
+    text.push(b'\n')?;
     Ok(())
 }

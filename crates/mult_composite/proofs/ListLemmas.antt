@@ -7,15 +7,15 @@ use Rattle.std.proofs.lemmas.Bool.{cases_lt}
 use Rattle.std.proofs.lemmas.List.{get_or_append_left}
 use Rattle.std.proofs.Math.Seq.{get_or-append_seam}
 use Rattle.std.proofs.lemmas.Nat.{div_below}
-use Rattle.graph_core.proofs.ListLemmas.{length-push}
+use Rattle.lists.specs.laws.ListLaws.{length-push}
 use Rattle.gf_field.specs.Bit.{bit_mul}
 use Rattle.gf_field.specs.Polynomial.{coefficient}
 use Rattle.gf_field.specs.Quotient.{product}
-use Rattle.mult_products.specs.ProductBits.{x_to}
-use Rattle.mult_products.specs.TowerProduct.{factor_bit, Y_to}
-use Rattle.net_plan.specs.Plan.{Plan, begun, chain_net, gathered, where_so, with_chain}
-use Rattle.net_plan.proofs.EachLemmas.{each_keeps}
-use Rattle.net_rows.specs.Row.{Row, begun_row, row_by, row_of, with_nets}
+use Rattle.make_laws.specs.ProductBits.{x_to}
+use Rattle.make_laws.specs.TowerProduct.{factor_bit, Y_to}
+use Rattle.make_nets.specs.Plan.{Plan, begun, chain_net, gathered, where_so, with_chain}
+use Rattle.make_nets.proofs.EachLemmas.{each_keeps}
+use Rattle.make_nets.specs.Row.{Row, begun_row, row_by, row_of, with_nets}
 use Rattle.mult_composite.specs.Composite.{added_products, added_sums, all_products, bit_products, coefficient_product, composite_plan, pair_sums, reduced_sums}
 use Rattle.mult_composite.specs.private.HighPowers.{powers_from}
 

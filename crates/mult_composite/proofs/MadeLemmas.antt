@@ -2,6 +2,8 @@
 use Rattle.std.proofs.Common.{◌≡◌, ◌∙◌, ap, sym, refl, subst, ℕ, ◌<◌, ◌≤◌, ◌+◌, ◌*◌, ◌-◌, ◌^◌, Bool, List, [], length, take, drop, arith, mul_comm, mul_assoc}
 use Rattle.std.proofs.Math.Nat.{mul-add}
 use Rattle.std.proofs.lemmas.Option.{slice_get_within, get_or_from_slice_get}
+use Rattle.lists.specs.Lists.{Has}
+use Rattle.lists.specs.laws.HasLaws.{Has_left, Has_right}
 use Rattle.gf_field.specs.Bit.{bit_mul}
 use Rattle.gf_field.specs.Field.{HasNoZeroDivisors}
 use Rattle.gf_field.specs.Modulus.{IsModulus}
@@ -12,29 +14,27 @@ use Rattle.gf_tower.specs.Tower.{tower_polynomial}
 use Rattle.gf_tower.specs.Digits.{IsPackedList}
 use Rattle.gf_tower.specs.laws.TowerLaws.{IsRing-tower}
 use Rattle.gf_basis.specs.Basis.{AreBits, first_values}
-use Rattle.mult_products.proofs.TowerBitLemmas.{tower_bits}
-use Rattle.mult_products.specs.TowerProduct.{HasTowerBits}
-use Rattle.net_core.specs.Lists.{Has}
+use Rattle.make_laws.proofs.TowerBitLemmas.{tower_bits}
+use Rattle.make_laws.specs.TowerProduct.{HasTowerBits}
 use Rattle.net_core.specs.Sound.{IsSound}
 use Rattle.net_core.specs.Value.{index_of, IsConsistent}
-use Rattle.net_core.proofs.DriverLemmas.{Has_left, Has_right}
 use Rattle.net_write.specs.Plain.{HasPlainNames}
 use Rattle.net_words.specs.declared.word.Role.TheVariants.{Input, Output}
 use Rattle.net_words.specs.declared.word.WordText.{WordText}
-use Rattle.net_plan.specs.PlanValue.{bit_at_net}
-use Rattle.net_make.specs.Computes.{ComputesOfTwo}
-use Rattle.net_make.specs.Form.{AllWide, HasWords}
-use Rattle.net_make.specs.Made.{IsPlanFor}
-use Rattle.net_make.specs.MakerNames.{AreMakerNames}
-use Rattle.net_make.specs.Ports.{outer_names}
-use Rattle.net_make.proofs.FormLemmas.{names_long}
-use Rattle.net_make.proofs.FrontLemmas.{take_drop}
-use Rattle.net_make.proofs.MadeLemmas.{made_binds, made_plain, made_sound}
-use Rattle.net_make.proofs.MakeLemmas.{role_low}
-use Rattle.net_make.proofs.PolyLemmas.{index_bit, poly_element}
-use Rattle.net_make.proofs.RunLemmas.{computes_two}
-use Rattle.net_rows.proofs.RowLemmas.{HaveBits}
-use Rattle.net_rows.proofs.RowShapeLemmas.{IsMadeOutput}
+use Rattle.make_nets.specs.PlanValue.{bit_at_net}
+use Rattle.make_nets.specs.Computes.{ComputesOfTwo}
+use Rattle.make_nets.specs.Form.{AllWide, HasWords}
+use Rattle.make_nets.specs.Made.{IsPlanFor}
+use Rattle.make_nets.specs.MakerNames.{AreMakerNames}
+use Rattle.make_nets.specs.Ports.{outer_names}
+use Rattle.make_nets.proofs.FormLemmas.{names_long}
+use Rattle.make_nets.proofs.FrontLemmas.{take_drop}
+use Rattle.make_nets.proofs.MadeLemmas.{made_binds, made_plain, made_sound}
+use Rattle.make_nets.proofs.MakeLemmas.{role_low}
+use Rattle.make_nets.proofs.PolyLemmas.{index_bit, poly_element}
+use Rattle.make_nets.proofs.RunLemmas.{computes_two}
+use Rattle.make_nets.proofs.RowLemmas.{HaveBits}
+use Rattle.make_nets.proofs.RowShapeLemmas.{IsMadeOutput}
 use Rattle.mult_gen.specs.Form.{inputs_in, outer_of, outputs_in}
 use Rattle.mult_gen.proofs.PlanLemmas.{agrees_of, drop_long, held, outputs_long, plan_for, take_long}
 use Rattle.mult_gen.proofs.PolyLemmas.{index_is, powers_basis}

@@ -5,8 +5,8 @@ use Rattle.std.specs.Prelude.{bit_xor}
 use Rattle.std.specs.Int.{bit_at}
 use Rattle.std.proofs.lemmas.Nat.{div-mul-add, mod-mul-add, div-add-mod', shr-shr, field_of, mod-pow-add}
 use Rattle.gf_field.specs.Polynomial.{coefficient, sum_of_first}
-use Rattle.mult_products.proofs.SumLemmas.{sum_same}
-use Rattle.mult_products.proofs.TowerLemmas.{sum_split}
+use Rattle.make_laws.proofs.SumLemmas.{sum_same}
+use Rattle.make_laws.proofs.TowerLemmas.{sum_split}
 
 -- a sum over all places is one over the coefficients and then over the bits
 pub sum_flat : (m n : ℕ) (f : ℕ → ℕ → ℕ) → sum_of_first (m * n) (λ q. f (q / n) (q % n)) ≡ sum_of_first m (λ i. sum_of_first n (λ j. f i j))

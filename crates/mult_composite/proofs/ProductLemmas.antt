@@ -11,15 +11,15 @@ use Rattle.gf_field.specs.Modulus.{IsModulus}
 use Rattle.gf_field.specs.Polynomial.{coefficient}
 use Rattle.gf_field.specs.Quotient.{product}
 use Rattle.gf_field.specs.laws.PackingLaws.{coefficient_below}
-use Rattle.mult_products.specs.ProductBits.{x_to}
-use Rattle.mult_products.proofs.SumLemmas.{sum_same}
-use Rattle.mult_products.proofs.ProductBitLemmas.{product_bits}
-use Rattle.net_plan.specs.Plan.{Plan, with_and, with_chain, chain_net, where_so}
-use Rattle.net_plan.specs.PlanValue.{Agrees, bit_at_net, parity}
-use Rattle.net_plan.proofs.EachLemmas.{each_keeps}
-use Rattle.net_plan.proofs.ValueLemmas.{agrees_before, and_value, chain_before, chain_value, gathered_parity, where_parity}
-use Rattle.net_rows.specs.Row.{Row, begun_row, with_nets}
-use Rattle.net_rows.proofs.RowLemmas.{HaveBits, IsRowOf, value_in_row, have_none, have_append, row_values, row_before}
+use Rattle.make_laws.specs.ProductBits.{x_to}
+use Rattle.make_laws.proofs.SumLemmas.{sum_same}
+use Rattle.make_laws.proofs.ProductBitLemmas.{product_bits}
+use Rattle.make_nets.specs.Plan.{Plan, with_and, with_chain, chain_net, where_so}
+use Rattle.make_nets.specs.PlanValue.{Agrees, bit_at_net, parity}
+use Rattle.make_nets.proofs.EachLemmas.{each_keeps}
+use Rattle.make_nets.proofs.ValueLemmas.{agrees_before, and_value, chain_before, chain_value, gathered_parity, where_parity}
+use Rattle.make_nets.specs.Row.{Row, begun_row, with_nets}
+use Rattle.make_nets.proofs.RowLemmas.{HaveBits, IsRowOf, value_in_row, have_none, have_append, row_values, row_before}
 use Rattle.mult_composite.specs.Composite.{bit_products, added_products, coefficient_product, all_products}
 use Rattle.mult_composite.proofs.PlaceLemmas.{sum_flat, coefficient_bit, place_below}
 

@@ -4,18 +4,18 @@ use Rattle.std.proofs.Common.{◌≡◌, ℕ, zero, suc, refl, sym, ◌∙◌, a
 use Rattle.std.specs.Prelude.{slice_index, ◌==◌}
 use Rattle.std.specs.Int.{bit_at}
 use Rattle.std.proofs.lemmas.Nat.{div_below, mod_below}
-use Rattle.graph_core.proofs.ListLemmas.{got_at}
-use Rattle.net_core.specs.Lists.{Has}
-use Rattle.mult_products.specs.ProductBits.{x_to}
-use Rattle.mult_products.specs.TowerProduct.{adds_to, factor_bit}
-use Rattle.mult_products.proofs.PairLemmas.{adds_cases}
-use Rattle.net_plan.specs.Plan.{Plan, begun, with_and, with_chain, chain_net, gathered, where_so}
-use Rattle.net_plan.specs.PlanShape.{IsWellMade}
-use Rattle.net_plan.proofs.OuterNets.{CanRead}
-use Rattle.net_plan.proofs.EachLemmas.{each_keeps, gathered_has}
-use Rattle.net_plan.proofs.ShapeLemmas.{begun_made, and_made, chain_made, chain_grows}
-use Rattle.net_rows.specs.Row.{Row, begun_row, with_nets}
-use Rattle.net_rows.proofs.RowShapeLemmas.{AreReadable, IsMadeRow, IsMadeOutput, readable_at, readable_more, readable_none, readable_append, row_made, chain_step, outputs_made}
+use Rattle.lists.specs.Lists.{Has}
+use Rattle.lists.specs.laws.ReadLaws.{got_at}
+use Rattle.make_laws.specs.ProductBits.{x_to}
+use Rattle.make_laws.specs.TowerProduct.{adds_to, factor_bit}
+use Rattle.make_laws.proofs.PairLemmas.{adds_cases}
+use Rattle.make_nets.specs.Plan.{Plan, begun, with_and, with_chain, chain_net, gathered, where_so}
+use Rattle.make_nets.specs.PlanShape.{IsWellMade}
+use Rattle.make_nets.proofs.OuterNets.{CanRead}
+use Rattle.make_nets.proofs.EachLemmas.{each_keeps, gathered_has}
+use Rattle.make_nets.proofs.ShapeLemmas.{begun_made, and_made, chain_made, chain_grows}
+use Rattle.make_nets.specs.Row.{Row, begun_row, with_nets}
+use Rattle.make_nets.proofs.RowShapeLemmas.{AreReadable, IsMadeRow, IsMadeOutput, readable_at, readable_more, readable_none, readable_append, row_made, chain_step, outputs_made}
 use Rattle.mult_composite.specs.Composite.{bit_products, added_products, coefficient_product, all_products, added_pairs, pair_sums, added_sums, reduced_sums, composite_plan}
 use Rattle.mult_composite.proofs.PlaceLemmas.{place_below, pair_place, sum_place, high_place}
 

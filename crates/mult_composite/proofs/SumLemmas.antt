@@ -10,15 +10,15 @@ use Rattle.gf_field.specs.Bit.{bit_mul}
 use Rattle.gf_field.specs.Modulus.{IsModulus}
 use Rattle.gf_field.specs.Polynomial.{coefficient}
 use Rattle.gf_field.specs.Quotient.{product}
-use Rattle.mult_products.specs.TowerProduct.{HasTowerBits, adds_to, pair_bit, factor_bit}
-use Rattle.mult_products.proofs.SumLemmas.{sum_same}
-use Rattle.mult_products.proofs.PairLemmas.{adds_cases}
-use Rattle.net_plan.specs.Plan.{Plan, begun, with_chain, chain_net, where_so}
-use Rattle.net_plan.specs.PlanValue.{Agrees, bit_at_net, parity}
-use Rattle.net_plan.proofs.EachLemmas.{each_keeps}
-use Rattle.net_plan.proofs.ValueLemmas.{chain_before, chain_value, gathered_parity, where_parity}
-use Rattle.net_rows.specs.Row.{Row}
-use Rattle.net_rows.proofs.RowLemmas.{HaveValues, HaveBits, IsRowOf, value_in_row, row_values, row_before}
+use Rattle.make_laws.specs.TowerProduct.{HasTowerBits, adds_to, pair_bit, factor_bit}
+use Rattle.make_laws.proofs.SumLemmas.{sum_same}
+use Rattle.make_laws.proofs.PairLemmas.{adds_cases}
+use Rattle.make_nets.specs.Plan.{Plan, begun, with_chain, chain_net, where_so}
+use Rattle.make_nets.specs.PlanValue.{Agrees, bit_at_net, parity}
+use Rattle.make_nets.proofs.EachLemmas.{each_keeps}
+use Rattle.make_nets.proofs.ValueLemmas.{chain_before, chain_value, gathered_parity, where_parity}
+use Rattle.make_nets.specs.Row.{Row}
+use Rattle.make_nets.proofs.RowLemmas.{HaveValues, HaveBits, IsRowOf, value_in_row, row_values, row_before}
 use Rattle.mult_composite.specs.Composite.{all_products, added_pairs, pair_sums, added_sums, reduced_sums, composite_plan}
 use Rattle.mult_composite.proofs.PlaceLemmas.{sum_flat, coefficient_bit, pair_place, place_is, sum_place}
 use Rattle.mult_composite.proofs.ProductLemmas.{product_value, all_values}

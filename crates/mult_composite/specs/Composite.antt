@@ -4,10 +4,10 @@
 -- Architectures for Bit-Parallel Computation in Galois Fields, Essen, 1994.
 use Rattle.std.specs.Prelude.{ℕ, ◌+◌, ◌*◌, ◌-◌, ◌/◌, ◌%◌, ◌==◌, List, ◌∷◌, None, Some, slice_index}
 use Rattle.std.specs.Int.{bit_at}
-use Rattle.mult_products.specs.ProductBits.{x_to}
-use Rattle.mult_products.specs.TowerProduct.{adds_to, factor_bit}
-use Rattle.net_plan.specs.Plan.{Plan, begun, with_and, with_chain, chain_net, each, gathered, where_so}
-use Rattle.net_rows.specs.Row.{Row, begun_row, row_by, with_nets}
+use Rattle.make_laws.specs.ProductBits.{x_to}
+use Rattle.make_laws.specs.TowerProduct.{adds_to, factor_bit}
+use Rattle.make_nets.specs.Plan.{Plan, begun, with_and, with_chain, chain_net, each, gathered, where_so}
+use Rattle.make_nets.specs.Row.{Row, begun_row, row_by, with_nets}
 
 -- the products of the bits of coefficient i of a word and those of coefficient j of another, by the first and then by the second
 abbrev pub bit_products : (n : ℕ) → List ℕ → List ℕ → (i j : ℕ) → Plan → Plan

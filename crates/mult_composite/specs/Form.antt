@@ -1,11 +1,11 @@
 -- Signatures of which the multiplier is made, and the net that is made. Source: this project's own, docs/FORMATS.md.
 use Rattle.std.specs.Prelude.{◌≡◌, ◌≢◌, ℕ, ◌*◌, List, [], take, drop}
 use Rattle.net_core.specs.NetList.{NetList}
-use Rattle.net_plan.specs.Plan.{Plan}
+use Rattle.make_nets.specs.Plan.{Plan}
 use Rattle.net_words.specs.declared.word.WordText.{WordText}
 use Rattle.net_signature.specs.Signature.{SignatureValue}
-use Rattle.net_make.specs.Form.{AllPoly}
-use Rattle.net_make.specs.Made.{made_of}
+use Rattle.make_nets.specs.Form.{AllPoly}
+use Rattle.make_nets.specs.Made.{made_of}
 use Rattle.mult_gen.specs.Form.{HasPorts, inputs_in, outer_of, outputs_in}
 use Rattle.mult_composite.specs.Composite.{composite_plan}
 

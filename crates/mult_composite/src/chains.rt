@@ -1,9 +1,9 @@
 //! Chains of nets, and how many inner nets they make.
 ghost use Rattle.std.specs.Prelude.{◌≡◌, ◌+◌, ◌≤◌, None, Some, IfOk, OnOk, length};
-ghost use Rattle.net_plan.specs.Plan.{chain_net, with_chain};
-ghost use Rattle.net_plan.specs.PlanShape.{HasRoom};
+ghost use Rattle.make_nets.specs.Plan.{chain_net, with_chain};
+ghost use Rattle.make_nets.specs.PlanShape.{HasRoom};
 
-use net_plan::PlanMaker;
+use make_nets::PlanMaker;
 use std::alloc::AllocError;
 
 // A chain of the nets drives the next inner net after those between.

@@ -1,14 +1,14 @@
 //! What the multiplier asks of a signature.
 ghost use Rattle.std.specs.Prelude.{◌≡◌, ◌≤◌, [], IfOk, OnOk, IsErrOf};
-ghost use Rattle.net_plan.specs.MadeNet.{outer_net};
-ghost use Rattle.net_make.specs.Form.{AllWide};
-ghost use Rattle.net_make.specs.Ports.{outer_names};
+ghost use Rattle.make_nets.specs.MadeNet.{outer_net};
+ghost use Rattle.make_nets.specs.Form.{AllWide};
+ghost use Rattle.make_nets.specs.Ports.{outer_names};
 ghost use Rattle.mult_gen.specs.Form.{AreWide};
 ghost use Rattle.mult_composite.specs.Form.{HasCompositeForm};
 
+use make_nets::all_poly;
 use mult_gen::{MakeFault, ports};
 use net_core::NetMaker;
-use net_make::all_poly;
 use net_signature::Signature;
 use std::alloc::Global;
 

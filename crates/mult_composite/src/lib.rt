@@ -2,9 +2,9 @@
 //! high places.
 #![tactic(auto)]
 
+mod added_nets;
 mod chains;
 mod form;
-mod lists;
 mod multiplier;
 mod places;
 mod powers;

@@ -1,7 +1,7 @@
 //! Places that are counted coefficient by coefficient, and their bits.
 ghost use Rattle.std.specs.Prelude.{◌≡◌, ◌+◌, ◌*◌, ◌-◌, ◌/◌, ◌%◌, ◌<◌, ◌≤◌, ◌^◌, IsTrue};
 ghost use Rattle.gf_field.specs.Polynomial.{coefficient};
-ghost use Rattle.mult_products.specs.TowerProduct.{adds_to as adds_to_of};
+ghost use Rattle.make_laws.specs.TowerProduct.{adds_to as adds_to_of};
 
 // How many pairs of n there are.
 pub(crate) fn square(n: usize) -> usize

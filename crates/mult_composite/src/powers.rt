@@ -7,7 +7,7 @@ ghost use Rattle.gf_field.specs.Ring2k.{degree_of, modulus_of};
 ghost use Rattle.irreducible.specs.Proved.{ring_of};
 ghost use Rattle.gf_tower.specs.Tower.{tower_polynomial};
 ghost use Rattle.gf_tower.specs.TowerParts.{base_of, coefficients_of, size_of};
-ghost use Rattle.mult_products.specs.ProductBits.{x_to};
+ghost use Rattle.make_laws.specs.ProductBits.{x_to};
 ghost use Rattle.mult_composite.specs.private.HighPowers.{AreHighPowers};
 
 use crate::places::{coefficient_of, group_of};

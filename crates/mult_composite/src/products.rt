@@ -2,15 +2,15 @@
 ghost use Rattle.std.specs.Prelude.{◌≡◌, ◌+◌, ◌*◌, ◌<◌, ◌≤◌, ◌^◌, IfOk, OnOk, length};
 ghost use Rattle.gf_field.specs.Ring2k.{degree_of, modulus_of};
 ghost use Rattle.irreducible.specs.Proved.{ring_of};
-ghost use Rattle.net_plan.specs.PlanShape.{HasRoom};
+ghost use Rattle.make_nets.specs.PlanShape.{HasRoom};
 ghost use Rattle.mult_composite.specs.Composite.{bit_products as bit_products_of, coefficient_product as coefficient_product_of, all_products as all_products_of};
 
+use crate::added_nets::added_products;
 use crate::chains::sum_of;
-use crate::lists::added_products;
 use crate::places::{bit_of, group_of, square, word_place};
 use gf_field::Ring2k;
 use irreducible::Proved;
-use net_plan::PlanMaker;
+use make_nets::PlanMaker;
 use std::alloc::{AllocError, Global};
 
 // The products of the bits of coefficient i of a word and those of coefficient j of another, of m coefficients each.

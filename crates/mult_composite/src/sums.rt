@@ -4,17 +4,17 @@ ghost use Rattle.gf_field.specs.Bit.{bit_mul};
 ghost use Rattle.gf_field.specs.Quotient.{product};
 ghost use Rattle.gf_field.specs.Ring2k.{degree_of, modulus_of};
 ghost use Rattle.irreducible.specs.Proved.{ring_of};
-ghost use Rattle.net_plan.specs.PlanShape.{HasRoom};
-ghost use Rattle.net_rows.specs.Row.{row_of};
+ghost use Rattle.make_nets.specs.PlanShape.{HasRoom};
+ghost use Rattle.make_nets.specs.Row.{row_of};
 ghost use Rattle.mult_composite.specs.Composite.{pair_sums as pair_sums_of, reduced_sums as reduced_sums_of};
 ghost use Rattle.mult_composite.specs.private.HighPowers.{AreHighPowers};
 
+use crate::added_nets::{added_pairs, added_sums};
 use crate::chains::{sum_into, sum_of};
-use crate::lists::{added_pairs, added_sums};
 use crate::places::{bit_of, group_of, sum_count};
 use gf_field::Ring2k;
 use irreducible::Proved;
-use net_plan::PlanMaker;
+use make_nets::PlanMaker;
 use std::alloc::{AllocError, Global};
 
 // The sums of the products whose places add up to 0, to 1, .. and to 2 * m - 2: a net for each bit.

@@ -6,12 +6,12 @@ use Rattle.std.proofs.Math.Nat.{mod-eq_of_lt}
 use Rattle.std.proofs.lemmas.Bool.Decides.{nat_tests}
 use Rattle.std.proofs.lemmas.List.{get_or-take, length-take-le}
 use Rattle.std.proofs.lemmas.Option.{slice_get-get_or}
-use Rattle.graph_core.proofs.ListLemmas.{get_below}
-use Rattle.graph_core.proofs.GeneralLemmas.{length_map as map_long}
+use Rattle.lists.specs.Lists.{Has}
+use Rattle.lists.specs.laws.HasLaws.{Has_right}
+use Rattle.lists.specs.laws.ListLaws.{length_map as map_long}
+use Rattle.lists.specs.laws.ReadLaws.{get_below}
 use Rattle.net_core.specs.LatchValue.{LatchValue}
-use Rattle.net_core.specs.Lists.{Has}
 use Rattle.net_core.specs.NetList.{NetList, number_of}
-use Rattle.net_core.proofs.DriverLemmas.{Has_right}
 use Rattle.net_words.specs.Bind.{BindingOf}
 use Rattle.net_words.specs.Feeds.{FeedsOf, bound_feed, is_fed, is_free}
 use Rattle.net_words.specs.Roles.{in_word}
@@ -20,12 +20,12 @@ use Rattle.net_words.specs.declared.feed.FeedText.{FeedText}
 use Rattle.net_words.specs.declared.word.Role.TheVariants.{Input, Output}
 use Rattle.net_words.specs.declared.word.WordText.{WordText}
 use Rattle.net_words.proofs.MemberLemmas.{any_has, has_stands, word_bits}
-use Rattle.net_make.specs.BindingOfMade.{binding_of}
-use Rattle.net_make.specs.MakerNames.{AreMakerNames}
-use Rattle.net_make.specs.Made.{IsPlanFor}
-use Rattle.net_make.specs.Ports.{inputs_of, numbered, outer_names, role_nets, word_names}
-use Rattle.net_make.proofs.MadeLemmas.{fed_found, made_binds}
-use Rattle.net_make.proofs.MakeLemmas.{range_low}
+use Rattle.make_nets.specs.BindingOfMade.{binding_of}
+use Rattle.make_nets.specs.MakerNames.{AreMakerNames}
+use Rattle.make_nets.specs.Made.{IsPlanFor}
+use Rattle.make_nets.specs.Ports.{inputs_of, numbered, outer_names, role_nets, word_names}
+use Rattle.make_nets.proofs.MadeLemmas.{fed_found, made_binds}
+use Rattle.make_nets.proofs.MakeLemmas.{range_low}
 use Rattle.mult_gen.specs.Form.{AreWide}
 use Rattle.mult_digit.specs.DigitForm.{AreDigitFeeds, AreDigitWords, IsDigitFeed, digit_names, fed_names}
 use Rattle.mult_digit.specs.DigitNet.{digit_net, digit_sums_of}

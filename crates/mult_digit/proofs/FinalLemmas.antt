@@ -1,25 +1,25 @@
 -- The net for a signature that has the form.
 use Rattle.std.proofs.Common.{◌≡◌, ◌∙◌, ap, ap₂, sym, subst, ℕ, ◌≤◌, ◌^◌, List, [], length, take, length-append, arith}
 use Rattle.std.proofs.lemmas.List.{length-take-le, take-map}
+use Rattle.lists.specs.laws.ListLaws.{length_map as map_long}
 use Rattle.gf_field.specs.Bit.{bit_mul}
 use Rattle.gf_field.specs.Field.{HasNoZeroDivisors}
 use Rattle.gf_field.specs.Modulus.{IsModulus}
 use Rattle.gf_field.specs.Quotient.{product}
 use Rattle.gf_field.specs.Ring.{IsRing}
-use Rattle.graph_core.proofs.GeneralLemmas.{length_map as map_long}
 use Rattle.net_core.specs.NetList.{NetList}
 use Rattle.net_words.specs.declared.feed.FeedText.{FeedText}
 use Rattle.net_words.specs.declared.word.Role.TheVariants.{Output}
 use Rattle.net_words.specs.declared.word.WordText.{WordText}
 use Rattle.net_signature.specs.Signature.{SignatureValue}
 use Rattle.net_write.specs.Plain.{HasPlainNames}
-use Rattle.net_make.specs.MakerNames.{AreMakerNames}
-use Rattle.net_make.specs.Ports.{outer_names, role_nets, word_names}
-use Rattle.net_make.proofs.MadeLemmas.{made_plain}
-use Rattle.mult_products.specs.Indeterminate.{x_of}
-use Rattle.mult_products.proofs.IndeterminateLemmas.{power_x}
-use Rattle.mult_serial.specs.DigitRegisters.{HasUnitPowers}
-use Rattle.mult_runs.specs.DigitNets.{unit_basis}
+use Rattle.make_nets.specs.MakerNames.{AreMakerNames}
+use Rattle.make_nets.specs.Ports.{outer_names, role_nets, word_names}
+use Rattle.make_nets.proofs.MadeLemmas.{made_plain}
+use Rattle.make_laws.specs.Indeterminate.{x_of}
+use Rattle.make_laws.proofs.IndeterminateLemmas.{power_x}
+use Rattle.make_laws.specs.DigitRegisters.{HasUnitPowers}
+use Rattle.make_laws.specs.DigitNets.{unit_basis}
 use Rattle.mult_gen.specs.Form.{AreWide}
 use Rattle.mult_digit.specs.ComputesFed.{ComputesFed}
 use Rattle.mult_digit.specs.DigitForm.{AreDigitWords, HasDigitForm, digit_names, fed_names}

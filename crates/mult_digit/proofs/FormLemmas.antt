@@ -5,9 +5,9 @@ use Rattle.std.proofs.Math.Nat.{div-add-mod, div-eq_of_lt}
 use Rattle.std.proofs.lemmas.Nat.{div-mul-add}
 use Rattle.std.proofs.lemmas.List.{get_or-map}
 use Rattle.std.proofs.lemmas.Option.{get_or_from_slice_get, slice_get_within}
-use Rattle.graph_core.proofs.GraphLemmas.{nat_eq_or}
-use Rattle.graph_core.proofs.ListLemmas.{get_below}
-use Rattle.net_make.proofs.OrderLemmas.{below_or}
+use Rattle.lists.specs.laws.NumberLaws.{nat_eq_or}
+use Rattle.lists.specs.laws.ReadLaws.{get_below}
+use Rattle.make_nets.proofs.OrderLemmas.{below_or}
 use Rattle.net_words.specs.declared.feed.FeedText.{FeedText}
 use Rattle.net_words.specs.declared.feed.Source.{Source}
 use Rattle.net_words.specs.declared.feed.Source.TheVariants.{Bit}

@@ -6,12 +6,12 @@ use Rattle.std.specs.List.{range_with_len}
 use Rattle.std.proofs.lemmas.Nat.{div-mul-add, mod-mul-add}
 use Rattle.std.proofs.lemmas.List.FromFn.{length-range_with_len}
 use Rattle.std.proofs.lemmas.Option.{slice_get-map, slice_get_within}
-use Rattle.graph_core.proofs.ListLemmas.{get_below}
-use Rattle.graph_core.proofs.GeneralLemmas.{length_map as map_long}
-use Rattle.net_core.specs.Lists.{Has}
+use Rattle.lists.specs.Lists.{Has}
+use Rattle.lists.specs.laws.HasLaws.{Has_map}
+use Rattle.lists.specs.laws.ListLaws.{length_map as map_long}
+use Rattle.lists.specs.laws.ReadLaws.{get_below, from_map}
 use Rattle.net_core.specs.NetList.{NetList}
 use Rattle.net_core.specs.Sound.{IsSound}
-use Rattle.net_core.proofs.DriverLemmas.{Has_map, from_map}
 use Rattle.net_words.specs.Bind.{BindingOf}
 use Rattle.net_words.specs.Binding.{Binding}
 use Rattle.net_words.specs.Feeds.{AreFeeds, IsSource, bound_feed}
@@ -35,17 +35,17 @@ use Rattle.circuit_model.specs.JobOfBinding.{inner_number, inner_source, job_fee
 use Rattle.circuit_model.specs.Out.{IsOut}
 use Rattle.circuit_model.specs.Word.{word_nets}
 use Rattle.circuit_model.proofs.TakenLemmas.{taken_job}
-use Rattle.net_make.specs.BindingOfMade.{binding_of}
-use Rattle.net_make.specs.Form.{same_bases}
-use Rattle.net_make.specs.MakerNames.{AreMakerNames}
-use Rattle.net_make.specs.Ports.{numbered, outer_names, role_nets, word_names}
-use Rattle.net_make.proofs.FormLemmas.{basis_is, output_nets}
-use Rattle.net_make.proofs.MadeLemmas.{made_sound}
-use Rattle.net_make.proofs.MakeLemmas.{range_low}
-use Rattle.mult_serial.specs.DigitRegisters.{HasUnitPowers, digit_step_sum}
-use Rattle.mult_runs.specs.DigitNets.{AreDigitNets, DigitNets, unit_basis}
-use Rattle.mult_runs.specs.Held.{bit_at_place, net_at, Multiplies}
-use Rattle.mult_runs.proofs.DigitRunLemmas.{digit_nets_multiply}
+use Rattle.make_nets.specs.BindingOfMade.{binding_of}
+use Rattle.make_nets.specs.Form.{same_bases}
+use Rattle.make_nets.specs.MakerNames.{AreMakerNames}
+use Rattle.make_nets.specs.Ports.{numbered, outer_names, role_nets, word_names}
+use Rattle.make_nets.proofs.FormLemmas.{basis_is, output_nets}
+use Rattle.make_nets.proofs.MadeLemmas.{made_sound}
+use Rattle.make_nets.proofs.MakeLemmas.{range_low}
+use Rattle.make_laws.specs.DigitRegisters.{HasUnitPowers, digit_step_sum}
+use Rattle.make_laws.specs.DigitNets.{AreDigitNets, DigitNets, unit_basis}
+use Rattle.make_laws.specs.Held.{bit_at_place, net_at, Multiplies}
+use Rattle.make_laws.proofs.DigitRunLemmas.{digit_nets_multiply}
 use Rattle.mult_gen.specs.Form.{AreWide}
 use Rattle.mult_digit.specs.ComputesFed.{ComputesFed}
 use Rattle.mult_digit.specs.DigitForm.{AreDigitFeeds, AreDigitWords, digit_names, fed_names}

@@ -1,10 +1,10 @@
 -- The latches of the product.
 use Rattle.std.proofs.Common.{◌≡◌, ◌∙◌, ap, sym, ℕ, ◌<◌, List, [], ◌∷◌, length, map}
+use Rattle.lists.specs.Lists.{Has}
 use Rattle.net_core.specs.LatchValue.{LatchValue}
-use Rattle.net_core.specs.Lists.{Has}
 use Rattle.net_core.specs.declared.latch.Start.TheVariants.{Zero}
-use Rattle.net_plan.specs.Plan.{gathered}
-use Rattle.mult_runs.specs.Held.{net_at}
+use Rattle.make_nets.specs.Plan.{gathered}
+use Rattle.make_laws.specs.Held.{net_at}
 use Rattle.mult_normal.proofs.LatchLemmas.{all_nets, gathered_at, gathered_is, outs_of}
 use Rattle.mult_digit.specs.DigitPlan.{digit_latches}
 

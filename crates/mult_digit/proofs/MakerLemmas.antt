@@ -5,9 +5,9 @@ use Rattle.std.proofs.lemmas.List.FromFn.{length-range_with_len}
 use Rattle.net_core.specs.LatchValue.{LatchValue}
 use Rattle.net_words.specs.declared.word.Role.TheVariants.{Input, Output}
 use Rattle.net_words.specs.declared.word.WordText.{WordText}
-use Rattle.net_plan.specs.Plan.{Plan}
-use Rattle.net_make.specs.Made.{IsPlanFor, made_of}
-use Rattle.net_make.specs.Ports.{role_nets, word_names}
+use Rattle.make_nets.specs.Plan.{Plan}
+use Rattle.make_nets.specs.Made.{IsPlanFor, made_of}
+use Rattle.make_nets.specs.Ports.{role_nets, word_names}
 use Rattle.mult_gen.specs.Form.{AreWide}
 use Rattle.mult_digit.specs.DigitForm.{AreDigitWords}
 use Rattle.mult_digit.specs.DigitNet.{digit_sums_of, fed_nets, net_over}

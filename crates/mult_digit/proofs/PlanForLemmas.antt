@@ -2,22 +2,22 @@
 use Rattle.std.proofs.Common.{◌≡◌, ◌∙◌, ap, ap₂, sym, subst, inl, inr, ℕ, suc, ◌<◌, ◌≤◌, ◌+◌, ◌*◌, ◌^◌, true, false, List, [], ◌++◌, length, map, length-append, mul-le-mul_left, arith}
 use Rattle.std.specs.List.{range_with_len}
 use Rattle.std.proofs.lemmas.List.FromFn.{length-range_with_len}
-use Rattle.graph_core.proofs.GeneralLemmas.{length_map as map_long}
+use Rattle.lists.specs.Lists.{Has, times}
+use Rattle.lists.specs.laws.HasLaws.{Has_cases, Has_left, Has_map, Has_right, times_append, times_some}
+use Rattle.lists.specs.laws.ListLaws.{length_map as map_long}
 use Rattle.net_core.specs.LatchValue.{LatchValue}
-use Rattle.net_core.specs.Lists.{Has, times}
-use Rattle.net_core.proofs.DriverLemmas.{Has_cases, Has_left, Has_map, Has_right, times_append, times_some}
 use Rattle.net_words.specs.Bind.{is_unknown}
 use Rattle.net_words.specs.declared.word.Role.TheVariants.{Input, Output}
 use Rattle.net_words.specs.declared.word.WordText.{WordText}
-use Rattle.net_plan.specs.PlanShape.{IsWellMade}
-use Rattle.net_plan.specs.Makeable.{driven_outside}
-use Rattle.net_plan.proofs.OuterNets.{CanRead}
-use Rattle.net_make.specs.BindingOfMade.{AreHeld}
-use Rattle.net_make.specs.Made.{IsPlanFor}
-use Rattle.net_make.specs.Ports.{inputs_of, outer_names, role_nets, word_names}
-use Rattle.net_make.proofs.MakeLemmas.{range_low, role_low, times_range}
-use Rattle.net_make.proofs.OrderLemmas.{below_or}
-use Rattle.mult_runs.specs.Held.{net_at}
+use Rattle.make_nets.specs.PlanShape.{IsWellMade}
+use Rattle.make_nets.specs.Makeable.{driven_outside}
+use Rattle.make_nets.proofs.OuterNets.{CanRead}
+use Rattle.make_nets.specs.BindingOfMade.{AreHeld}
+use Rattle.make_nets.specs.Made.{IsPlanFor}
+use Rattle.make_nets.specs.Ports.{inputs_of, outer_names, role_nets, word_names}
+use Rattle.make_nets.proofs.MakeLemmas.{range_low, role_low, times_range}
+use Rattle.make_nets.proofs.OrderLemmas.{below_or}
+use Rattle.make_laws.specs.Held.{net_at}
 use Rattle.mult_gen.specs.Form.{AreWide}
 use Rattle.mult_digit.specs.DigitForm.{AreDigitWords}
 use Rattle.mult_digit.specs.DigitNet.{digit_sums_of, fed_nets}

@@ -3,15 +3,15 @@ use Rattle.std.proofs.Common.{◌≡◌, ◌⊎◌, ◌∙◌, ap, ap₂, refl, 
 use Rattle.std.specs.Prelude.{◌==◌}
 use Rattle.std.specs.Int.{bit_at}
 use Rattle.std.proofs.lemmas.List.{length_push}
+use Rattle.lists.specs.Lists.{Has}
+use Rattle.lists.specs.laws.HasLaws.{Has_cases}
 use Rattle.gf_field.specs.Power.{power}
-use Rattle.net_core.specs.Lists.{Has}
-use Rattle.net_core.proofs.DriverLemmas.{Has_cases}
-use Rattle.net_plan.specs.Plan.{begun, each, gathered, where_so, with_and, with_chain, chain_net}
-use Rattle.net_plan.specs.PlanShape.{IsWellMade}
-use Rattle.net_plan.proofs.OuterNets.{CanRead}
-use Rattle.net_plan.proofs.EachLemmas.{each_keeps, gathered_has}
-use Rattle.net_plan.proofs.ShapeLemmas.{begun_made, and_made, can_read_more, chain_made, chain_grows, chain_read}
-use Rattle.mult_runs.specs.Held.{net_at}
+use Rattle.make_nets.specs.Plan.{begun, each, gathered, where_so, with_and, with_chain, chain_net}
+use Rattle.make_nets.specs.PlanShape.{IsWellMade}
+use Rattle.make_nets.proofs.OuterNets.{CanRead}
+use Rattle.make_nets.proofs.EachLemmas.{each_keeps, gathered_has}
+use Rattle.make_nets.proofs.ShapeLemmas.{begun_made, and_made, can_read_more, chain_made, chain_grows, chain_read}
+use Rattle.make_laws.specs.Held.{net_at}
 use Rattle.mult_digit.specs.DigitPlan.{Sums, product_net, products_from, summands, with_row, with_sum}
 use Rattle.mult_digit.proofs.ValueLemmas.{rows_next}
 

@@ -4,17 +4,17 @@ use Rattle.std.specs.Prelude.{bit_xor, ◌==◌, ◌&&◌}
 use Rattle.std.specs.Int.{bit_at}
 use Rattle.std.proofs.lemmas.List.{get_or_append_left, get_or_push, length_push}
 use Rattle.std.proofs.lemmas.Nat.Bits.{bit_at-lt}
-use Rattle.graph_core.proofs.GraphLemmas.{nat_eq_or}
+use Rattle.lists.specs.laws.NumberLaws.{nat_eq_or}
 use Rattle.gf_field.specs.Polynomial.{sum_of_first}
 use Rattle.gf_field.specs.Power.{power}
 use Rattle.net_core.specs.Value.{bit_of}
-use Rattle.net_plan.specs.Plan.{Plan, begun, each, gathered, where_so, with_and, chain_net}
-use Rattle.net_plan.specs.PlanValue.{Agrees, bit_at_net, parity}
-use Rattle.net_plan.proofs.ValueLemmas.{agrees_before, and_value, chain_before, chain_value, parity_append, gathered_parity, where_parity}
-use Rattle.mult_serial.specs.Chosen.{chosen}
-use Rattle.mult_serial.specs.DigitRegisters.{digit_step_sum}
-use Rattle.mult_serial.proofs.SumLemmas.{sum_same}
-use Rattle.mult_runs.specs.Held.{bit_at_place, net_at}
+use Rattle.make_nets.specs.Plan.{Plan, begun, each, gathered, where_so, with_and, chain_net}
+use Rattle.make_nets.specs.PlanValue.{Agrees, bit_at_net, parity}
+use Rattle.make_nets.proofs.ValueLemmas.{agrees_before, and_value, chain_before, chain_value, parity_append, gathered_parity, where_parity}
+use Rattle.make_laws.specs.Chosen.{chosen}
+use Rattle.make_laws.specs.DigitRegisters.{digit_step_sum}
+use Rattle.make_laws.proofs.RingSumLemmas.{sum_same}
+use Rattle.make_laws.specs.Held.{bit_at_place, net_at}
 use Rattle.mult_digit.specs.DigitPlan.{Sums, product_net, products_from, summands, sums_from, with_row, with_sum}
 
 -- a place below the next one is below the last, or it

@@ -3,16 +3,16 @@ use Rattle.std.proofs.Common.{◌≡◌, ◌≢◌, ◌⊎◌, ◌∙◌, ap, sy
 use Rattle.std.specs.Prelude.{slice_get}
 use Rattle.std.specs.List.{range_with_len}
 use Rattle.std.proofs.lemmas.List.FromFn.{get_or-range_with_len, length-range_with_len}
-use Rattle.graph_core.proofs.GeneralLemmas.{all_from as all_has}
-use Rattle.net_core.specs.Lists.{Has}
+use Rattle.lists.specs.Lists.{Has}
+use Rattle.lists.specs.laws.HasLaws.{all_from as all_has}
 use Rattle.net_words.specs.Binding.{AreWords}
 use Rattle.net_words.specs.Variables.{bits}
 use Rattle.net_words.specs.declared.word.Role.TheVariants.{Input, State, Fed, Output}
 use Rattle.net_words.specs.declared.word.WordText.{WordText}
 use Rattle.circuit_model.specs.JobOfBinding.{job_words_of}
-use Rattle.net_make.specs.Form.{role_count, same_bases}
-use Rattle.net_make.specs.Ports.{numbered, role_nets, word_names}
-use Rattle.mult_runs.specs.Held.{net_at}
+use Rattle.make_nets.specs.Form.{role_count, same_bases}
+use Rattle.make_nets.specs.Ports.{numbered, role_nets, word_names}
+use Rattle.make_laws.specs.Held.{net_at}
 use Rattle.mult_gen.specs.Form.{AreWide}
 use Rattle.mult_digit.specs.DigitForm.{AreDigitWords}
 

@@ -7,7 +7,7 @@ use Rattle.net_words.specs.declared.feed.FeedText.{FeedText}
 use Rattle.net_words.specs.declared.word.WordText.{WordText}
 use Rattle.circuit_model.specs.JobOfBinding.{job_with}
 use Rattle.circuit_model.specs.Out.{IsOut}
-use Rattle.net_make.specs.Form.{same_bases}
+use Rattle.make_nets.specs.Form.{same_bases}
 
 -- Over the field of 2 to the k elements with this product, with this basis for each word: the words and feeds bind to the net
 -- list in one way, and the output of the job is f of the elements of its two words, at each input, after so many cycles.

@@ -7,8 +7,8 @@ use Rattle.net_words.specs.declared.word.Role.{Role}
 use Rattle.net_words.specs.declared.word.Role.TheVariants.{Input, Fed, Output}
 use Rattle.net_words.specs.declared.word.WordText.{WordText}
 use Rattle.net_signature.specs.Signature.{SignatureValue}
-use Rattle.net_make.specs.MakerNames.{AreMakerNames}
-use Rattle.net_make.specs.Ports.{outer_names}
+use Rattle.make_nets.specs.MakerNames.{AreMakerNames}
+use Rattle.make_nets.specs.Ports.{outer_names}
 
 -- the names of the nets that are fed, line by line
 abbrev pub fed_names : List FeedText → List (List ℕ)

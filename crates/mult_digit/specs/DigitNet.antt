@@ -6,8 +6,8 @@ use Rattle.net_core.specs.NetList.{NetList}
 use Rattle.net_words.specs.declared.feed.FeedText.{FeedText}
 use Rattle.net_words.specs.declared.word.Role.TheVariants.{Input, Output}
 use Rattle.net_words.specs.declared.word.WordText.{WordText}
-use Rattle.net_make.specs.Made.{made_of}
-use Rattle.net_make.specs.Ports.{role_nets, word_names}
+use Rattle.make_nets.specs.Made.{made_of}
+use Rattle.make_nets.specs.Ports.{role_nets, word_names}
 use Rattle.mult_digit.specs.DigitForm.{digit_names}
 use Rattle.mult_digit.specs.DigitPlan.{Sums, digit_latches, sums_from}
 

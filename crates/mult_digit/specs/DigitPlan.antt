@@ -5,8 +5,8 @@ use Rattle.std.specs.Int.{bit_at}
 use Rattle.gf_field.specs.Power.{power}
 use Rattle.net_core.specs.LatchValue.{LatchValue}
 use Rattle.net_core.specs.declared.latch.Start.TheVariants.{Zero}
-use Rattle.net_plan.specs.Plan.{Plan, begun, each, gathered, where_so, with_and, with_chain, chain_net}
-use Rattle.mult_runs.specs.Held.{net_at}
+use Rattle.make_nets.specs.Plan.{Plan, begun, each, gathered, where_so, with_and, with_chain, chain_net}
+use Rattle.make_laws.specs.Held.{net_at}
 
 -- the products of bit e of a digit and the k bits j of b, by j
 abbrev pub with_row : ℕ → List ℕ → List ℕ → ℕ → Plan → Plan

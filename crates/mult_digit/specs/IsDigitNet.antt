@@ -2,7 +2,7 @@
 use Rattle.std.specs.Prelude.{◌≡◌, ℕ}
 use Rattle.net_core.specs.NetList.{NetList}
 use Rattle.net_signature.specs.Signature.{SignatureValue}
-use Rattle.mult_runs.specs.DigitNets.{unit_basis}
+use Rattle.make_laws.specs.DigitNets.{unit_basis}
 use Rattle.mult_digit.specs.ComputesFed.{ComputesFed}
 use Rattle.mult_digit.specs.DigitForm.{HasDigitForm}
 use Rattle.mult_digit.specs.DigitNet.{digit_net}

@@ -1,11 +1,11 @@
 //! The products of the bits of a digit and of the other factor.
 ghost use Rattle.std.specs.Prelude.{◌≡◌, ◌*◌, ◌≤◌, ◌+◌, None, OnOk, length};
-ghost use Rattle.net_plan.specs.Plan.{each, with_and};
-ghost use Rattle.net_plan.specs.PlanShape.{HasRoom};
-ghost use Rattle.mult_runs.specs.Held.{net_at};
+ghost use Rattle.make_nets.specs.Plan.{each, with_and};
+ghost use Rattle.make_nets.specs.PlanShape.{HasRoom};
+ghost use Rattle.make_laws.specs.Held.{net_at};
 ghost use Rattle.mult_digit.specs.DigitPlan.{with_row};
 
-use net_plan::PlanMaker;
+use make_nets::PlanMaker;
 use std::alloc::AllocError;
 
 // The products of a net and of each of the nets b.

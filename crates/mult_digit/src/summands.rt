@@ -2,14 +2,14 @@
 ghost use Rattle.std.specs.Prelude.{◌≡◌, ◌==◌, ◌+◌, ◌*◌, ◌++◌, ◌<◌, ◌≤◌, ◌^◌, OnOk, IfOk, length};
 ghost use Rattle.std.specs.Int.{bit_at};
 ghost use Rattle.gf_field.specs.Power.{power};
-ghost use Rattle.net_plan.specs.Plan.{gathered, where_so};
-ghost use Rattle.mult_runs.specs.Held.{net_at};
+ghost use Rattle.make_nets.specs.Plan.{gathered, where_so};
+ghost use Rattle.make_laws.specs.Held.{net_at};
 ghost use Rattle.mult_digit.specs.DigitPlan.{product_net, summands as summands_of};
 ghost use Rattle.mult_digit.specs.private.Powers.{ArePowers};
 
 use crate::powers::has_bit;
 use gf_field::Ring;
-use net_plan::push_where;
+use make_nets::push_where;
 use std::alloc::{AllocError, Global};
 
 // The bits i of z for which bit l of x^(i + D) is 1.

@@ -1,7 +1,7 @@
 //! The sums that the product takes.
 ghost use Rattle.std.specs.Prelude.{◌≡◌, ◌+◌, ◌<◌, ◌≤◌, ◌^◌, OnOk, IfOk, length};
-ghost use Rattle.net_plan.specs.Plan.{each};
-ghost use Rattle.net_plan.specs.PlanShape.{HasRoom};
+ghost use Rattle.make_nets.specs.Plan.{each};
+ghost use Rattle.make_nets.specs.PlanShape.{HasRoom};
 ghost use Rattle.mult_digit.specs.DigitPlan.{summands as summands_of, sums_from, with_sum};
 ghost use Rattle.mult_digit.specs.private.Powers.{ArePowers};
 
@@ -9,7 +9,7 @@ use crate::powers::powers_of;
 use crate::products::add_products;
 use crate::summands::summands;
 use gf_field::Ring;
-use net_plan::PlanMaker;
+use make_nets::PlanMaker;
 use std::alloc::{AllocError, Global};
 use std::marker::Model;
 

@@ -2,16 +2,16 @@
 use Rattle.std.proofs.Common.{◌≡◌, ◌∙◌, ap, ap₂, sym, refl, subst, inl, ℕ, zero, suc, ◌<◌, ◌≤◌, ◌^◌, Bool, List, [], ◌∷◌, length, Some, arith}
 use Rattle.std.specs.Prelude.{slice_index, bit_xor}
 use Rattle.std.specs.Int.Bits.{xor_lt}
-use Rattle.mult_products.proofs.BitLemmas.{bit_at-sum}
-use Rattle.net_core.specs.Lists.{Has}
+use Rattle.lists.specs.Lists.{Has}
+use Rattle.make_laws.proofs.BitLemmas.{bit_at-sum}
 use Rattle.net_core.specs.Value.{index_of}
-use Rattle.net_plan.specs.Plan.{begun, each, gathered, with_xor}
-use Rattle.net_plan.specs.PlanShape.{IsWellMade}
-use Rattle.net_plan.specs.PlanValue.{Agrees, bit_at_net}
-use Rattle.net_plan.proofs.EachLemmas.{agrees_each}
-use Rattle.net_plan.proofs.ShapeLemmas.{begun_made, xor_made}
-use Rattle.net_plan.proofs.ValueLemmas.{agrees_before, xor_value}
-use Rattle.net_make.proofs.PolyLemmas.{index_bit, index_low}
+use Rattle.make_nets.specs.Plan.{begun, each, gathered, with_xor}
+use Rattle.make_nets.specs.PlanShape.{IsWellMade}
+use Rattle.make_nets.specs.PlanValue.{Agrees, bit_at_net}
+use Rattle.make_nets.proofs.EachLemmas.{agrees_each}
+use Rattle.make_nets.proofs.ShapeLemmas.{begun_made, xor_made}
+use Rattle.make_nets.proofs.ValueLemmas.{agrees_before, xor_value}
+use Rattle.make_nets.proofs.PolyLemmas.{index_bit, index_low}
 use Rattle.mult_gen.specs.Chains.{adder_plan}
 use Rattle.mult_gen.proofs.ChainLemmas.{gathered_all}
 use Rattle.mult_gen.proofs.PolyLemmas.{index_is}

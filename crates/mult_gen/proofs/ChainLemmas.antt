@@ -1,16 +1,16 @@
 -- Chains into the bits of a word.
 use Rattle.std.proofs.Common.{◌≡◌, ◌∙◌, ap, sym, refl, ℕ, zero, suc, ◌<◌, ◌≤◌, ◌+◌, ◌*◌, Bool, true, false, List, [], ◌∷◌, ◌++◌, length, take, None, Some, arith}
 use Rattle.std.specs.Prelude.{slice_index}
-use Rattle.net_core.specs.Lists.{Has}
-use Rattle.net_plan.specs.Plan.{Plan, each, gathered, where_so, with_chain}
-use Rattle.net_plan.specs.PlanShape.{IsWellMade}
-use Rattle.net_plan.specs.PlanValue.{Agrees, bit_at_net, parity}
-use Rattle.net_plan.proofs.OuterNets.{CanRead}
-use Rattle.net_plan.proofs.EachLemmas.{agrees_each}
-use Rattle.net_plan.proofs.LabelLemmas.{append_long}
-use Rattle.net_plan.proofs.ShapeLemmas.{chain_made, chain_grows, can_read_more}
-use Rattle.net_plan.proofs.ValueLemmas.{chain_before, chain_value}
-use Rattle.net_make.proofs.FrontLemmas.{take_past}
+use Rattle.lists.specs.Lists.{Has}
+use Rattle.make_nets.specs.Plan.{Plan, each, gathered, where_so, with_chain}
+use Rattle.make_nets.specs.PlanShape.{IsWellMade}
+use Rattle.make_nets.specs.PlanValue.{Agrees, bit_at_net, parity}
+use Rattle.make_nets.proofs.OuterNets.{CanRead}
+use Rattle.make_nets.proofs.EachLemmas.{agrees_each}
+use Rattle.make_nets.proofs.LabelLemmas.{append_long}
+use Rattle.make_nets.proofs.ShapeLemmas.{chain_made, chain_grows, can_read_more}
+use Rattle.make_nets.proofs.ValueLemmas.{chain_before, chain_value}
+use Rattle.make_nets.proofs.FrontLemmas.{take_past}
 use Rattle.mult_gen.specs.Chains.{chains}
 
 module _ (k : ℕ) (z : List ℕ) (lists : ℕ → List ℕ) (plan : Plan) where

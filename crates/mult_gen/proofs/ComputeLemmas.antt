@@ -1,6 +1,7 @@
 -- The made nets compute the product, the square and the sum.
 use Rattle.std.proofs.Common.{◌≡◌, ◌∙◌, ap, ap₂, sym, refl, ℕ, ◌<◌, ◌≤◌, ◌^◌, List, [], length, take, drop, arith}
 use Rattle.std.specs.Prelude.{bit_xor, slice_index}
+use Rattle.lists.specs.Lists.{Has}
 use Rattle.gf_field.specs.Bit.{bit_mul}
 use Rattle.gf_field.specs.Field.{HasNoZeroDivisors}
 use Rattle.gf_field.specs.Modulus.{IsModulus}
@@ -10,21 +11,20 @@ use Rattle.gf_field.specs.laws.ModulusLaws.{IsRing-from_modulus}
 use Rattle.irreducible.specs.Span.{combination}
 use Rattle.irreducible.specs.laws.SpanLaws.{combination-xor}
 use Rattle.gf_basis.specs.Basis.{first_values, IsBasis}
-use Rattle.net_core.specs.Lists.{Has}
 use Rattle.mult_gen.proofs.ChainLemmas.{index_has}
 use Rattle.net_core.specs.Value.{index_of}
 use Rattle.net_words.specs.declared.word.Role.TheVariants.{Input}
 use Rattle.net_words.specs.declared.word.WordText.{WordText}
-use Rattle.mult_products.proofs.ProductBitLemmas.{product_bits, square_bits}
-use Rattle.net_plan.specs.Plan.{Plan}
-use Rattle.net_make.specs.Computes.{ComputesOfOne, ComputesOfTwo}
-use Rattle.net_make.specs.Form.{AllWide, HasWords}
-use Rattle.net_make.specs.Made.{IsPlanFor}
-use Rattle.net_make.specs.MakerNames.{AreMakerNames}
-use Rattle.net_make.specs.Ports.{outer_names}
-use Rattle.net_make.proofs.MadeLemmas.{made_binds, made_sound}
-use Rattle.net_make.proofs.PolyLemmas.{poly_element}
-use Rattle.net_make.proofs.RunLemmas.{computes_one, computes_two}
+use Rattle.make_laws.proofs.ProductBitLemmas.{product_bits, square_bits}
+use Rattle.make_nets.specs.Plan.{Plan}
+use Rattle.make_nets.specs.Computes.{ComputesOfOne, ComputesOfTwo}
+use Rattle.make_nets.specs.Form.{AllWide, HasWords}
+use Rattle.make_nets.specs.Made.{IsPlanFor}
+use Rattle.make_nets.specs.MakerNames.{AreMakerNames}
+use Rattle.make_nets.specs.Ports.{outer_names}
+use Rattle.make_nets.proofs.MadeLemmas.{made_binds, made_sound}
+use Rattle.make_nets.proofs.PolyLemmas.{poly_element}
+use Rattle.make_nets.proofs.RunLemmas.{computes_one, computes_two}
 use Rattle.mult_gen.specs.Chains.{adder_plan, mastrovito_plan, squarer_plan}
 use Rattle.mult_gen.specs.Form.{inputs_in, made_adder, made_mastrovito, made_squarer, outer_of, outputs_in}
 use Rattle.mult_gen.proofs.AdderLemmas.{adder_made, adder_next, adder_sum}

@@ -3,9 +3,9 @@ use Rattle.std.proofs.Common.{◌≡◌, inl, inr, sym, subst, ℕ, ◌<◌, ◌
 use Rattle.net_words.specs.declared.feed.FeedText.{FeedText}
 use Rattle.net_words.specs.declared.word.Role.TheVariants.{Input, State}
 use Rattle.net_words.specs.declared.word.WordText.{WordText}
-use Rattle.net_make.specs.Form.{AllWide, HasWords}
-use Rattle.net_make.specs.Ports.{outer_names}
-use Rattle.net_make.proofs.FormLemmas.{names_long, words_one_of}
+use Rattle.make_nets.specs.Form.{AllWide, HasWords}
+use Rattle.make_nets.specs.Ports.{outer_names}
+use Rattle.make_nets.proofs.FormLemmas.{names_long, words_one_of}
 use Rattle.mult_gen.specs.Form.{AreWide}
 use Rattle.mult_gen.proofs.BoundLemmas.{mul_few}
 use Rattle.mult_gen.proofs.PlanLemmas.{outer_are}

@@ -2,23 +2,23 @@
 use Rattle.std.proofs.Common.{◌≡◌, ◌∙◌, ap, sym, refl, subst, inl, inr, ℕ, zero, suc, ◌<◌, ◌≤◌, ◌+◌, ◌*◌, ◌^◌, Bool, List, [], ◌∷◌, ◌++◌, length, take, drop, append-nil, arith}
 use Rattle.std.specs.Prelude.{slice_index}
 use Rattle.std.proofs.Math.Nat.{mul-le-mul_right}
-use Rattle.net_core.specs.Lists.{Has, times}
-use Rattle.net_core.proofs.DriverLemmas.{Has_left, Has_right}
+use Rattle.lists.specs.Lists.{Has, times}
+use Rattle.lists.specs.laws.HasLaws.{Has_left, Has_right}
 use Rattle.net_core.specs.Value.{IsConsistent}
 use Rattle.net_words.specs.declared.word.Role.TheVariants.{Input, State, Output}
 use Rattle.net_words.specs.declared.word.WordText.{WordText}
-use Rattle.net_plan.specs.Plan.{Plan}
-use Rattle.net_plan.specs.PlanShape.{IsWellMade}
-use Rattle.net_plan.specs.PlanValue.{Agrees}
-use Rattle.net_plan.specs.Makeable.{driven_outside}
-use Rattle.net_plan.proofs.LabelLemmas.{append_long}
-use Rattle.net_make.specs.BindingOfMade.{AreHeld}
-use Rattle.net_make.specs.Form.{AllWide, HasWords}
-use Rattle.net_make.specs.Made.{IsPlanFor, made_of}
-use Rattle.net_make.specs.Ports.{inputs_of, outer_names, role_nets, word_names}
-use Rattle.net_make.proofs.FormLemmas.{names_long, nets_long, no_nets, roles_once, words_one_of}
-use Rattle.net_make.proofs.FrontLemmas.{take_drop}
-use Rattle.net_make.proofs.MakeLemmas.{role_low}
+use Rattle.make_nets.specs.Plan.{Plan}
+use Rattle.make_nets.specs.PlanShape.{IsWellMade}
+use Rattle.make_nets.specs.PlanValue.{Agrees}
+use Rattle.make_nets.specs.Makeable.{driven_outside}
+use Rattle.make_nets.proofs.LabelLemmas.{append_long}
+use Rattle.make_nets.specs.BindingOfMade.{AreHeld}
+use Rattle.make_nets.specs.Form.{AllWide, HasWords}
+use Rattle.make_nets.specs.Made.{IsPlanFor, made_of}
+use Rattle.make_nets.specs.Ports.{inputs_of, outer_names, role_nets, word_names}
+use Rattle.make_nets.proofs.FormLemmas.{names_long, nets_long, no_nets, roles_once, words_one_of}
+use Rattle.make_nets.proofs.FrontLemmas.{take_drop}
+use Rattle.make_nets.proofs.MakeLemmas.{role_low}
 use Rattle.mult_gen.specs.Form.{inputs_in, outer_of, outputs_in}
 use Rattle.mult_gen.proofs.BoundLemmas.{mul_few}
 use Rattle.mult_gen.proofs.ChainLemmas.{index_has}

@@ -7,8 +7,8 @@ use Rattle.gf_basis.specs.Basis.{first_values, IsBasis}
 use Rattle.gf_basis.proofs.BasisLaws.{AreIndependentLists-all}
 use Rattle.gf_basis.proofs.CodeLaws.{AreElements-units, IsIndependent-powers, length-first_values}
 use Rattle.net_core.specs.Value.{index_of}
-use Rattle.net_plan.specs.PlanValue.{bit_at_net}
-use Rattle.net_make.proofs.PolyLemmas.{index_bit, index_low}
+use Rattle.make_nets.specs.PlanValue.{bit_at_net}
+use Rattle.make_nets.proofs.PolyLemmas.{index_bit, index_low}
 
 -- the powers of 2 are a basis
 pub powers_basis : (k : ℕ) → IsBasis k (first_values k (λ i. 2 ^ i))

@@ -1,13 +1,13 @@
 -- The products of the bits of two words.
 use Rattle.std.proofs.Common.{◌≡◌, ◌∙◌, ap, sym, inl, ℕ, zero, suc, ◌<◌, ◌+◌, ◌*◌, Bool, List, [], ◌∷◌, None, arith}
 use Rattle.std.specs.Prelude.{slice_index}
-use Rattle.net_core.specs.Lists.{Has}
-use Rattle.net_plan.specs.Plan.{Plan, each, with_and}
-use Rattle.net_plan.specs.PlanShape.{IsWellMade}
-use Rattle.net_plan.specs.PlanValue.{Agrees, bit_at_net}
-use Rattle.net_plan.proofs.EachLemmas.{agrees_each, each_keeps}
-use Rattle.net_plan.proofs.ShapeLemmas.{and_made}
-use Rattle.net_plan.proofs.ValueLemmas.{agrees_before, and_value}
+use Rattle.lists.specs.Lists.{Has}
+use Rattle.make_nets.specs.Plan.{Plan, each, with_and}
+use Rattle.make_nets.specs.PlanShape.{IsWellMade}
+use Rattle.make_nets.specs.PlanValue.{Agrees, bit_at_net}
+use Rattle.make_nets.proofs.EachLemmas.{agrees_each, each_keeps}
+use Rattle.make_nets.proofs.ShapeLemmas.{and_made}
+use Rattle.make_nets.proofs.ValueLemmas.{agrees_before, and_value}
 use Rattle.mult_gen.specs.Chains.{product_row, products}
 
 pub row_next : (n x : ℕ) (b : List ℕ) (plan : Plan) → (product_row n x b plan).next ≡ plan.next + n

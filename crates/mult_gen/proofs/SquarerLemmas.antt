@@ -3,22 +3,22 @@ use Rattle.std.proofs.Common.{◌≡◌, ◌∙◌, ap, sym, subst, inl, ℕ, �
 use Rattle.std.specs.Prelude.{slice_index, ◌==◌}
 use Rattle.std.specs.Int.{bit_at}
 use Rattle.std.proofs.lemmas.Nat.Bits.{bit_at-lt}
+use Rattle.lists.specs.Lists.{Has}
 use Rattle.gf_field.specs.Bit.{bit_mul}
 use Rattle.gf_field.specs.Polynomial.{sum_of_first}
 use Rattle.gf_field.specs.Quotient.{product}
 use Rattle.gf_field.specs.Ring.{IsRing}
-use Rattle.net_core.specs.Lists.{Has}
 use Rattle.net_core.specs.Value.{index_of}
-use Rattle.mult_products.specs.ProductBits.{x_to, HasSquareBits}
-use Rattle.mult_products.proofs.SumLemmas.{sum_same}
-use Rattle.net_plan.specs.Plan.{begun, where_so}
-use Rattle.net_plan.specs.PlanShape.{IsWellMade}
-use Rattle.net_plan.specs.PlanValue.{Agrees, parity}
-use Rattle.net_plan.proofs.OuterNets.{CanRead}
-use Rattle.net_plan.proofs.EachLemmas.{gathered_has}
-use Rattle.net_plan.proofs.ShapeLemmas.{begun_made}
-use Rattle.net_plan.proofs.ValueLemmas.{gathered_parity, where_parity}
-use Rattle.net_make.proofs.PolyLemmas.{index_bit, index_low}
+use Rattle.make_laws.specs.ProductBits.{x_to, HasSquareBits}
+use Rattle.make_laws.proofs.SumLemmas.{sum_same}
+use Rattle.make_nets.specs.Plan.{begun, where_so}
+use Rattle.make_nets.specs.PlanShape.{IsWellMade}
+use Rattle.make_nets.specs.PlanValue.{Agrees, parity}
+use Rattle.make_nets.proofs.OuterNets.{CanRead}
+use Rattle.make_nets.proofs.EachLemmas.{gathered_has}
+use Rattle.make_nets.proofs.ShapeLemmas.{begun_made}
+use Rattle.make_nets.proofs.ValueLemmas.{gathered_parity, where_parity}
+use Rattle.make_nets.proofs.PolyLemmas.{index_bit, index_low}
 use Rattle.mult_gen.specs.Chains.{added_bits, squarer_plan}
 use Rattle.mult_gen.proofs.BoundLemmas.{mul_few}
 use Rattle.mult_gen.proofs.ChainLemmas.{chains_made, chains_next, chains_value, gathered_all, gathered_few, where_few, where_has}

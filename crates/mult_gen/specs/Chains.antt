@@ -1,8 +1,8 @@
 -- Sums of nets into the bits of a word. Source: Mastrovito, VLSI Architectures for Computations in Galois Fields, Linköping, 1991.
 use Rattle.std.specs.Prelude.{ℕ, ◌+◌, ◌*◌, ◌==◌, List, None, Some, slice_index}
 use Rattle.std.specs.Int.{bit_at}
-use Rattle.mult_products.specs.ProductBits.{x_to}
-use Rattle.net_plan.specs.Plan.{Plan, begun, each, gathered, where_so, with_and, with_chain, with_xor}
+use Rattle.make_laws.specs.ProductBits.{x_to}
+use Rattle.make_nets.specs.Plan.{Plan, begun, each, gathered, where_so, with_and, with_chain, with_xor}
 
 -- a chain of a list of nets into each of the k nets of z
 abbrev pub chains : ℕ → List ℕ → (ℕ → List ℕ) → Plan → Plan

@@ -1,14 +1,14 @@
 -- Forms of signatures, and the nets that are made of them. Source: this project's own, docs/FORMATS.md.
 use Rattle.std.specs.Prelude.{◌≡◌, ◌≢◌, ℕ, List, [], length, take, drop}
-use Rattle.net_core.specs.Lists.{Has}
+use Rattle.lists.specs.Lists.{Has}
 use Rattle.net_core.specs.NetList.{NetList}
 use Rattle.net_words.specs.declared.word.Role.TheVariants.{Input, Fed, Output}
 use Rattle.net_words.specs.declared.word.WordText.{WordText}
 use Rattle.net_signature.specs.Signature.{SignatureValue}
-use Rattle.net_make.specs.Form.{AllAlike, AllPoly, HasWords}
-use Rattle.net_make.specs.Made.{made_of}
-use Rattle.net_make.specs.MakerNames.{AreMakerNames}
-use Rattle.net_make.specs.Ports.{outer_names, role_nets, word_names}
+use Rattle.make_nets.specs.Form.{AllAlike, AllPoly, HasWords}
+use Rattle.make_nets.specs.Made.{made_of}
+use Rattle.make_nets.specs.MakerNames.{AreMakerNames}
+use Rattle.make_nets.specs.Ports.{outer_names, role_nets, word_names}
 use Rattle.mult_gen.specs.Chains.{adder_plan, mastrovito_plan, squarer_plan}
 
 -- each word that is not fed has k nets

@@ -3,8 +3,8 @@ ghost use Rattle.std.specs.Prelude.{◌≡◌, ◌≤◌, ◌<◌, List, ℕ, If
 ghost use Rattle.gf_basis.specs.Basis.{IsBasis};
 ghost use Rattle.net_words.specs.declared.word.Role.TheVariants.{Input};
 ghost use Rattle.net_write.specs.Plain.{HasPlainNames};
-ghost use Rattle.net_make.specs.Computes.{ComputesOfTwo};
-ghost use Rattle.net_make.specs.Form.{AllWide, HasWords};
+ghost use Rattle.make_nets.specs.Computes.{ComputesOfTwo};
+ghost use Rattle.make_nets.specs.Form.{AllWide, HasWords};
 ghost use Rattle.mult_gen.specs.Chains.{adder_plan};
 ghost use Rattle.mult_gen.specs.Form.{AreWide, HasAdderForm, inputs_in, made_adder, outer_of, outputs_in};
 
@@ -12,9 +12,8 @@ use crate::fault::MakeFault;
 use crate::form::ports;
 use crate::nets::{inputs, net_of, outer, outputs};
 use gf_field::Field;
+use make_nets::{PlanMaker, all_alike};
 use net_core::Net;
-use net_make::all_alike;
-use net_plan::PlanMaker;
 use net_signature::Signature;
 use std::alloc::{AllocError, Global};
 

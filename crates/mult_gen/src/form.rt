@@ -1,13 +1,13 @@
 //! The ports of a net that is made for a signature.
 ghost use Rattle.std.specs.Prelude.{◌≡◌, ◌≤◌, ◌<◌, [], Some, None, IfOk, IfErr, OnOk, IsErrOf, IsTrue, ◌↔◌};
-ghost use Rattle.net_plan.specs.MadeNet.{outer_net};
-ghost use Rattle.net_make.specs.Form.{AllWide};
-ghost use Rattle.net_make.specs.Ports.{outer_names};
+ghost use Rattle.make_nets.specs.MadeNet.{outer_net};
+ghost use Rattle.make_nets.specs.Form.{AllWide};
+ghost use Rattle.make_nets.specs.Ports.{outer_names};
 ghost use Rattle.mult_gen.specs.Form.{AreWide, HasPolyForm, HasPorts};
 
 use crate::fault::MakeFault;
+use make_nets::{all_poly, has_words, outer_nets};
 use net_core::NetMaker;
-use net_make::{all_poly, has_words, outer_nets};
 use net_signature::Signature;
 use net_words::Role;
 use std::alloc::Global;

@@ -2,10 +2,10 @@
 //! words of a signature, and the nets of these words.
 #![tactic(auto)]
 
+mod added_nets;
 mod adders;
 mod fault;
 mod form;
-mod lists;
 mod multiplier;
 mod mutation;
 mod nets;

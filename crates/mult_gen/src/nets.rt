@@ -1,15 +1,14 @@
 //! The nets of the words of a signature, and the net of a plan over them.
 ghost use Rattle.std.specs.Prelude.{◌≡◌, ◌≤◌, ◌*◌, [], List, ℕ, IfOk, length};
-ghost use Rattle.net_plan.specs.MadeNet.{outer_net};
+ghost use Rattle.make_nets.specs.MadeNet.{outer_net};
 ghost use Rattle.net_words.specs.declared.word.Role.TheVariants.{Input};
-ghost use Rattle.net_make.specs.Form.{AllWide, HasWords};
-ghost use Rattle.net_make.specs.Made.{made_of, IsPlanFor};
-ghost use Rattle.net_make.specs.Ports.{outer_names};
+ghost use Rattle.make_nets.specs.Form.{AllWide, HasWords};
+ghost use Rattle.make_nets.specs.Made.{made_of, IsPlanFor};
+ghost use Rattle.make_nets.specs.Ports.{outer_names};
 ghost use Rattle.mult_gen.specs.Form.{HasPorts, inputs_in, outer_of, outputs_in};
 
+use make_nets::{PlanMaker, count_of, make, role_nets};
 use net_core::{Latch, Net, NetMaker};
-use net_make::{count_of, make, role_nets};
-use net_plan::PlanMaker;
 use net_signature::Signature;
 use net_words::Role;
 use std::alloc::{AllocError, Global};

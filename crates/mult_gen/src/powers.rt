@@ -3,7 +3,7 @@ ghost use Rattle.std.specs.Prelude.{◌≡◌, ◌<◌, ◌^◌, ◌==◌, IfOk,
 ghost use Rattle.std.specs.Int.{bit_at};
 ghost use Rattle.gf_field.specs.Ring2k.{degree_of, modulus_of};
 ghost use Rattle.irreducible.specs.Proved.{ring_of};
-ghost use Rattle.mult_products.specs.Indeterminate.{x_of};
+ghost use Rattle.make_laws.specs.Indeterminate.{x_of};
 ghost use Rattle.mult_gen.specs.private.Powers.{ArePowers};
 
 use gf_field::{Ring, Ring2k, power};

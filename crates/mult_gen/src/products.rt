@@ -1,9 +1,9 @@
 //! The products of the bits of two words.
 ghost use Rattle.std.specs.Prelude.{◌≡◌, ◌≤◌, ◌+◌, ◌*◌, OnOk, length};
-ghost use Rattle.net_plan.specs.PlanShape.{HasRoom};
+ghost use Rattle.make_nets.specs.PlanShape.{HasRoom};
 ghost use Rattle.mult_gen.specs.Chains.{product_row as product_row_of, products as products_of};
 
-use net_plan::PlanMaker;
+use make_nets::PlanMaker;
 use std::alloc::AllocError;
 
 // The products of a net and each net of a word.

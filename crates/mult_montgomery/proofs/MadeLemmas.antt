@@ -1,6 +1,8 @@
 -- The multiplier over the words of a signature.
 use Rattle.std.proofs.Common.{◌≡◌, ◌≢◌, ◌∙◌, ap, sym, refl, subst, ℕ, ◌<◌, ◌≤◌, ◌+◌, ◌*◌, ◌^◌, Bool, List, [], length, take, drop, arith}
 use Rattle.std.proofs.lemmas.Option.{slice_get_within, get_or_from_slice_get}
+use Rattle.lists.specs.Lists.{Has}
+use Rattle.lists.specs.laws.HasLaws.{Has_left, Has_right}
 use Rattle.gf_field.specs.Bit.{bit_mul}
 use Rattle.gf_field.specs.Field.{HasNoZeroDivisors}
 use Rattle.gf_field.specs.Modulus.{IsModulus}
@@ -8,28 +10,26 @@ use Rattle.gf_field.specs.Quotient.{product}
 use Rattle.gf_field.specs.Ring.{IsRing}
 use Rattle.gf_field.specs.laws.ModulusLaws.{IsRing-from_modulus}
 use Rattle.gf_basis.specs.Basis.{AreBits, first_values}
-use Rattle.net_core.specs.Lists.{Has}
 use Rattle.net_core.specs.Sound.{IsSound}
 use Rattle.net_core.specs.Value.{index_of, IsConsistent}
-use Rattle.net_core.proofs.DriverLemmas.{Has_left, Has_right}
 use Rattle.net_write.specs.Plain.{HasPlainNames}
 use Rattle.net_words.specs.declared.word.Role.TheVariants.{Input, Output}
 use Rattle.net_words.specs.declared.word.WordText.{WordText}
-use Rattle.net_plan.specs.PlanValue.{bit_at_net}
-use Rattle.net_make.specs.Computes.{ComputesOfTwo}
-use Rattle.net_make.specs.Form.{AllWide, HasWords}
-use Rattle.net_make.specs.Made.{IsPlanFor}
-use Rattle.net_make.specs.MakerNames.{AreMakerNames}
-use Rattle.net_make.specs.Ports.{outer_names}
-use Rattle.net_make.proofs.FormLemmas.{names_long}
-use Rattle.net_make.proofs.FrontLemmas.{take_drop}
-use Rattle.net_make.proofs.MadeLemmas.{made_binds, made_plain, made_sound}
-use Rattle.net_make.proofs.MakeLemmas.{role_low}
-use Rattle.net_make.proofs.PolyLemmas.{index_bit, poly_element}
-use Rattle.net_make.proofs.RunLemmas.{computes_two}
-use Rattle.net_rows.proofs.RowLemmas.{HaveBits}
-use Rattle.mult_products.specs.InversePower.{IsInversePower}
-use Rattle.mult_products.proofs.MontgomeryLemmas.{last_coefficient}
+use Rattle.make_nets.specs.PlanValue.{bit_at_net}
+use Rattle.make_nets.specs.Computes.{ComputesOfTwo}
+use Rattle.make_nets.specs.Form.{AllWide, HasWords}
+use Rattle.make_nets.specs.Made.{IsPlanFor}
+use Rattle.make_nets.specs.MakerNames.{AreMakerNames}
+use Rattle.make_nets.specs.Ports.{outer_names}
+use Rattle.make_nets.proofs.FormLemmas.{names_long}
+use Rattle.make_nets.proofs.FrontLemmas.{take_drop}
+use Rattle.make_nets.proofs.MadeLemmas.{made_binds, made_plain, made_sound}
+use Rattle.make_nets.proofs.MakeLemmas.{role_low}
+use Rattle.make_nets.proofs.PolyLemmas.{index_bit, poly_element}
+use Rattle.make_nets.proofs.RunLemmas.{computes_two}
+use Rattle.make_nets.proofs.RowLemmas.{HaveBits}
+use Rattle.make_laws.specs.InversePower.{IsInversePower}
+use Rattle.make_laws.proofs.MontgomeryLemmas.{last_coefficient}
 use Rattle.mult_gen.specs.Form.{inputs_in, outer_of, outputs_in}
 use Rattle.mult_gen.proofs.BoundLemmas.{mul_few}
 use Rattle.mult_gen.proofs.PlanLemmas.{agrees_of, drop_long, held, outputs_long, plan_for, take_long}

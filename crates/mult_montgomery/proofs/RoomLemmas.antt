@@ -1,8 +1,8 @@
 -- One round more: its gates, and how many inner nets there are.
 use Rattle.std.proofs.Math.Nat.{suc-mul}
 use Rattle.std.proofs.Common.{◌≡◌, ℕ, suc, ap, ap₂, ◌∙◌, ◌≤◌, ◌+◌, ◌*◌, List, arith}
-use Rattle.net_plan.specs.Plan.{Plan, each}
-use Rattle.net_rows.specs.Row.{row_of, begun_row}
+use Rattle.make_nets.specs.Plan.{Plan, each}
+use Rattle.make_nets.specs.Row.{row_of, begun_row}
 use Rattle.mult_montgomery.specs.Montgomery.{round}
 
 pub round_more : (i c start old new : ℕ) → old ≤ start + i * c → new ≤ old + c → new ≤ start + (i + 1) * c

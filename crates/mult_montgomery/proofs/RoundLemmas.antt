@@ -8,18 +8,18 @@ use Rattle.std.proofs.lemmas.Bool.{cases_lt}
 use Rattle.gf_field.specs.Bit.{bit_mul}
 use Rattle.gf_field.specs.Modulus.{IsModulus}
 use Rattle.gf_field.specs.Quotient.{product}
-use Rattle.mult_products.proofs.BitLemmas.{times_below}
-use Rattle.mult_products.proofs.HalvingLemmas.{bit_at-halved, top_bit}
-use Rattle.mult_products.proofs.MontgomeryLemmas.{running_below, montgomery}
-use Rattle.mult_products.specs.ProductBits.{x_to}
-use Rattle.mult_products.proofs.Halving.{halved, running_sum}
-use Rattle.net_plan.specs.Plan.{Plan, begun, with_xor, with_buffer}
-use Rattle.net_plan.specs.PlanValue.{Agrees, bit_at_net}
-use Rattle.net_plan.proofs.EachLemmas.{each_keeps}
-use Rattle.net_plan.proofs.ValueLemmas.{agrees_before, xor_value, buffer_value}
-use Rattle.net_rows.specs.Row.{Row, begun_row, row_by, and_row, xor_row}
+use Rattle.make_laws.proofs.BitLemmas.{times_below}
+use Rattle.make_laws.proofs.HalvingLemmas.{bit_at-halved, top_bit}
+use Rattle.make_laws.proofs.MontgomeryLemmas.{running_below, montgomery}
+use Rattle.make_laws.specs.ProductBits.{x_to}
+use Rattle.make_laws.proofs.Halving.{halved, running_sum}
+use Rattle.make_nets.specs.Plan.{Plan, begun, with_xor, with_buffer}
+use Rattle.make_nets.specs.PlanValue.{Agrees, bit_at_net}
+use Rattle.make_nets.proofs.EachLemmas.{each_keeps}
+use Rattle.make_nets.proofs.ValueLemmas.{agrees_before, xor_value, buffer_value}
+use Rattle.make_nets.specs.Row.{Row, begun_row, row_by, and_row, xor_row}
 use Rattle.mult_montgomery.specs.Montgomery.{moved_plan, moved_net, divided_row, summed_row, round, rounds, buffered, montgomery_plan}
-use Rattle.net_rows.proofs.RowLemmas.{HaveBits, IsRowOf, value_in_row, have_none, row_push, row_values, row_before, and_row_bits, xor_row_bits, xor_row_before}
+use Rattle.make_nets.proofs.RowLemmas.{HaveBits, IsRowOf, value_in_row, have_none, row_push, row_values, row_before, and_row_bits, xor_row_bits, xor_row_before}
 
 bit_below : (a i : ℕ) → bit_at a i < 2
 bit_below a i = omega arith

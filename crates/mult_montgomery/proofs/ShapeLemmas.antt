@@ -4,15 +4,15 @@ use Rattle.std.proofs.lemmas.List.{take_more}
 use Rattle.std.proofs.Common.{◌≡◌, take_all, ℕ, zero, suc, refl, sym, ◌∙◌, ap, ◌<◌, ◌≤◌, ◌+◌, ◌*◌, ◌-◌, inl, arith, List, [], ◌∷◌, length, Bool, true, false, None, Some, subst, take}
 use Rattle.std.specs.Prelude.{slice_index, ◌==◌, if◌then◌else◌}
 use Rattle.std.specs.Int.{bit_at}
-use Rattle.graph_core.proofs.ListLemmas.{got_at}
-use Rattle.net_core.specs.Lists.{Has}
-use Rattle.net_plan.specs.Plan.{Plan, begun, with_xor, with_buffer}
-use Rattle.net_plan.specs.PlanShape.{IsWellMade}
-use Rattle.net_plan.proofs.OuterNets.{CanRead}
-use Rattle.net_plan.proofs.EachLemmas.{each_keeps}
-use Rattle.net_plan.proofs.ShapeLemmas.{begun_made, can_read_more, xor_made, buffer_made}
-use Rattle.net_rows.specs.Row.{Row, begun_row, row_by, and_row, xor_row}
-use Rattle.net_rows.proofs.RowShapeLemmas.{AreReadable, IsMadeRow, IsMadeStep, readable_at, readable_more, readable_none, net_made, row_made, gate_step, and_row_made, xor_row_made}
+use Rattle.lists.specs.Lists.{Has}
+use Rattle.lists.specs.laws.ReadLaws.{got_at}
+use Rattle.make_nets.specs.Plan.{Plan, begun, with_xor, with_buffer}
+use Rattle.make_nets.specs.PlanShape.{IsWellMade}
+use Rattle.make_nets.proofs.OuterNets.{CanRead}
+use Rattle.make_nets.proofs.EachLemmas.{each_keeps}
+use Rattle.make_nets.proofs.ShapeLemmas.{begun_made, can_read_more, xor_made, buffer_made}
+use Rattle.make_nets.specs.Row.{Row, begun_row, row_by, and_row, xor_row}
+use Rattle.make_nets.proofs.RowShapeLemmas.{AreReadable, IsMadeRow, IsMadeStep, readable_at, readable_more, readable_none, net_made, row_made, gate_step, and_row_made, xor_row_made}
 use Rattle.mult_montgomery.specs.Montgomery.{moved_plan, moved_net, divided_row, summed_row, round, rounds, montgomery_plan}
 use Rattle.mult_montgomery.proofs.RoundLemmas.{summed_later}
 

@@ -4,10 +4,10 @@ use Rattle.std.specs.Prelude.{◌≢◌, ℕ, List, [], take, drop}
 use Rattle.gf_field.specs.Bit.{bit_mul}
 use Rattle.gf_field.specs.Quotient.{product}
 use Rattle.net_core.specs.NetList.{NetList}
-use Rattle.net_plan.specs.Plan.{Plan}
+use Rattle.make_nets.specs.Plan.{Plan}
 use Rattle.net_words.specs.declared.word.WordText.{WordText}
 use Rattle.net_signature.specs.Signature.{SignatureValue}
-use Rattle.net_make.specs.Made.{made_of}
+use Rattle.make_nets.specs.Made.{made_of}
 use Rattle.mult_gen.specs.Form.{HasPolyForm, inputs_in, outer_of, outputs_in}
 use Rattle.mult_montgomery.specs.Montgomery.{montgomery_plan}
 

@@ -2,8 +2,8 @@
 -- Source: Koç and Acar, Montgomery multiplication in GF(2^k), Designs, Codes and Cryptography 14, 1998.
 use Rattle.std.specs.Prelude.{ℕ, ◌+◌, ◌-◌, ◌==◌, List, None, Some, slice_index, if◌then◌else◌}
 use Rattle.std.specs.Int.{bit_at}
-use Rattle.net_plan.specs.Plan.{Plan, begun, with_buffer, with_xor, each}
-use Rattle.net_rows.specs.Row.{Row, begun_row, with_net, row_by, and_row, xor_row}
+use Rattle.make_nets.specs.Plan.{Plan, begun, with_buffer, with_xor, each}
+use Rattle.make_nets.specs.Row.{Row, begun_row, with_net, row_by, and_row, xor_row}
 
 -- the gates after place j of the sum divided by x: one more where coefficient j + 1 of the modulus g is 1
 abbrev pub moved_plan : (g : ℕ) → List ℕ → ℕ → Plan → Plan

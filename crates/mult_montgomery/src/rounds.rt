@@ -1,12 +1,11 @@
 //! The rounds of the multiplier.
 ghost use Rattle.std.specs.Prelude.{◌≡◌, ◌+◌, ◌*◌, ◌≤◌, ◌<◌, ◌==◌, IfOk, OnOk, length};
 ghost use Rattle.std.specs.Int.{bit_at};
-ghost use Rattle.net_plan.specs.PlanShape.{HasRoom};
+ghost use Rattle.make_nets.specs.PlanShape.{HasRoom};
 ghost use Rattle.mult_montgomery.specs.Montgomery.{moved_plan, moved_net, divided_row as divided_row_of, summed_row as summed_row_of, round as round_of, rounds_from, buffered as buffered_of};
-ghost use Rattle.net_rows.specs.Row.{row_of};
+ghost use Rattle.make_nets.specs.Row.{row_of};
 
-use net_plan::PlanMaker;
-use net_rows::{and_row, xor_row};
+use make_nets::{PlanMaker, and_row, xor_row};
 use std::alloc::{AllocError, Global};
 
 // Whether coefficient i of the modulus is 1.

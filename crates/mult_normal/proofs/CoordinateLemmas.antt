@@ -5,7 +5,7 @@ use Rattle.gf_field.specs.Ring.{IsRing}
 use Rattle.gf_field.specs.Field.{HasNoZeroDivisors}
 use Rattle.gf_basis.specs.Basis.{AreBits}
 use Rattle.gf_basis.specs.BasisParts.{IsBasisOver, duals_of, elements_of}
-use Rattle.gf_basis.specs.TraceWord.{trace_word}
+use Rattle.gf_basis.specs.private.TraceWord.{trace_word}
 use Rattle.gf_basis.specs.declared.bases.Basis.{Basis}
 use Rattle.gf_basis.proofs.BasisLaws.{trace_word-bits, AreBits-traces}
 use Rattle.mult_normal.specs.Coordinates.{coordinates_in, counts_in}

@@ -1,6 +1,6 @@
 -- The net over the words of a signature that has the form: its names, and what it computes.
 use Rattle.std.proofs.Common.{◌≡◌, sym, refl, subst, ℕ, []}
-use Rattle.net_core.specs.Lists.{Has}
+use Rattle.lists.specs.Lists.{Has}
 use Rattle.net_signature.specs.Signature.{SignatureValue}
 use Rattle.net_write.specs.Plain.{HasPlainNames}
 use Rattle.gf_field.specs.Ring.{IsRing}
@@ -8,11 +8,11 @@ use Rattle.gf_field.specs.Field.{HasNoZeroDivisors}
 use Rattle.gf_basis.specs.BasisFault.{conjugates_of}
 use Rattle.gf_basis.specs.BasisParts.{elements_of, IsBasisOver}
 use Rattle.gf_basis.specs.declared.bases.Basis.{Basis}
-use Rattle.net_make.specs.Computes.{ComputesOfTwo}
-use Rattle.net_make.specs.Form.{AllWide}
-use Rattle.net_make.specs.MakerNames.{AreMakerNames}
-use Rattle.net_make.specs.Ports.{outer_names}
-use Rattle.net_make.proofs.MadeLemmas.{made_binds, made_plain, made_sound}
+use Rattle.make_nets.specs.Computes.{ComputesOfTwo}
+use Rattle.make_nets.specs.Form.{AllWide}
+use Rattle.make_nets.specs.MakerNames.{AreMakerNames}
+use Rattle.make_nets.specs.Ports.{outer_names}
+use Rattle.make_nets.proofs.MadeLemmas.{made_binds, made_plain, made_sound}
 use Rattle.mult_normal.specs.Coordinates.{counts_in}
 use Rattle.mult_normal.specs.NormalForm.{HasNormalForm}
 use Rattle.mult_normal.specs.NormalNet.{latches_of, normal_net, normal_products}

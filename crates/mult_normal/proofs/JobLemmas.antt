@@ -3,9 +3,9 @@ use Rattle.std.proofs.Common.{◌≡◌, ◌∙◌, ap, ap₂, sym, refl, subst,
 use Rattle.std.specs.Prelude.{slice_index, ◌&&◌}
 use Rattle.std.specs.Int.{bit_at}
 use Rattle.std.proofs.lemmas.Nat.Bits.{bit_at-lt}
-use Rattle.graph_core.proofs.GeneralLemmas.{length_map as map_long}
+use Rattle.lists.specs.Lists.{Has}
+use Rattle.lists.specs.laws.ListLaws.{length_map as map_long}
 use Rattle.net_core.specs.LatchValue.{LatchValue}
-use Rattle.net_core.specs.Lists.{Has}
 use Rattle.net_core.specs.NetList.{NetList}
 use Rattle.net_core.specs.Sound.{IsSound}
 use Rattle.net_core.specs.Value.{bit_of, IsConsistent}
@@ -29,19 +29,19 @@ use Rattle.circuit_model.specs.JobOfBinding.{job_with}
 use Rattle.circuit_model.specs.Out.{IsOut}
 use Rattle.circuit_model.specs.Word.{Word}
 use Rattle.circuit_model.proofs.TakenLemmas.{taken_job}
-use Rattle.net_make.specs.BindingOfMade.{binding_of}
-use Rattle.net_make.specs.Computes.{ComputesOfTwo}
-use Rattle.net_make.specs.Form.{AllWide, HasWords, same_bases}
-use Rattle.net_make.specs.Ports.{word_names}
-use Rattle.net_make.proofs.FormLemmas.{basis_is, job_words, output_nets}
-use Rattle.net_make.proofs.RunLemmas.{are_words}
-use Rattle.mult_serial.specs.Chosen.{chosen}
-use Rattle.mult_serial.specs.NormalRegisters.{last_coordinate, last_coordinate_sum}
-use Rattle.mult_serial.proofs.NormalLemmas.{first_values_at}
-use Rattle.mult_serial.proofs.SumLemmas.{sum_same}
-use Rattle.mult_runs.specs.Held.{bit_at_place, IsHeld, Multiplies}
-use Rattle.mult_runs.specs.NormalNets.{AreNormalNets, NormalNets}
-use Rattle.mult_runs.proofs.NormalRunLemmas.{normal_nets_multiply}
+use Rattle.make_nets.specs.BindingOfMade.{binding_of}
+use Rattle.make_nets.specs.Computes.{ComputesOfTwo}
+use Rattle.make_nets.specs.Form.{AllWide, HasWords, same_bases}
+use Rattle.make_nets.specs.Ports.{word_names}
+use Rattle.make_nets.proofs.FormLemmas.{basis_is, job_words, output_nets}
+use Rattle.make_nets.proofs.RunLemmas.{are_words}
+use Rattle.make_laws.specs.Chosen.{chosen}
+use Rattle.make_laws.specs.NormalRegisters.{last_coordinate, last_coordinate_sum}
+use Rattle.make_laws.proofs.NormalLemmas.{first_values_at}
+use Rattle.make_laws.proofs.RingSumLemmas.{sum_same}
+use Rattle.make_laws.specs.Held.{bit_at_place, IsHeld, Multiplies}
+use Rattle.make_laws.specs.NormalNets.{AreNormalNets, NormalNets}
+use Rattle.make_laws.proofs.NormalRunLemmas.{normal_nets_multiply}
 use Rattle.mult_normal.specs.Coordinates.{coordinates_in, product_coordinate}
 use Rattle.mult_normal.specs.NormalNet.{first_factor, latches_of, normal_net, normal_products, product_nets, second_factor}
 use Rattle.mult_normal.specs.NormalPlan.{sum_net}

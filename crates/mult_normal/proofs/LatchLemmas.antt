@@ -1,15 +1,15 @@
 -- The latches of a multiplier in a normal basis: their outputs, and which they are.
 use Rattle.std.proofs.Common.{◌≡◌, ◌⊎◌, ◌∙◌, ap, ap₂, sym, refl, inl, inr, ℕ, zero, suc, ◌<◌, ◌+◌, List, [], ◌∷◌, ◌++◌, length, map, Some, arith}
 use Rattle.std.proofs.lemmas.List.{append_assoc, map-append}
-use Rattle.graph_core.proofs.GraphLemmas.{nat_eq_or}
+use Rattle.lists.specs.Lists.{Has}
+use Rattle.lists.specs.laws.HasLaws.{Has_cases, Has_left, Has_right}
+use Rattle.lists.specs.laws.NumberLaws.{nat_eq_or}
 use Rattle.net_core.specs.LatchValue.{LatchValue}
-use Rattle.net_core.specs.Lists.{Has}
 use Rattle.net_core.specs.declared.latch.Start.TheVariants.{Zero, Unknown}
-use Rattle.net_core.proofs.DriverLemmas.{Has_cases, Has_left, Has_right}
-use Rattle.net_plan.specs.Plan.{gathered}
-use Rattle.net_plan.proofs.EachLemmas.{gathered_has}
-use Rattle.mult_runs.specs.Held.{net_at}
-use Rattle.mult_runs.specs.NormalNets.{place_before}
+use Rattle.make_nets.specs.Plan.{gathered}
+use Rattle.make_nets.proofs.EachLemmas.{gathered_has}
+use Rattle.make_laws.specs.Held.{net_at}
+use Rattle.make_laws.specs.NormalNets.{place_before}
 use Rattle.mult_normal.specs.NormalPlan.{moved_from, moving, normal_latches, turning}
 
 -- the first list taken apart

@@ -1,24 +1,24 @@
 -- The plan is one for the words, and the words are held by its latches.
 use Rattle.std.proofs.Common.{◌≡◌, ◌∙◌, ap, ap₂, sym, subst, inl, inr, ℕ, zero, suc, ◌<◌, ◌≤◌, ◌+◌, ◌*◌, ◌^◌, Bool, true, false, List, [], ◌++◌, length, map, length-append, None, arith}
-use Rattle.graph_core.proofs.GeneralLemmas.{length_map as map_long}
+use Rattle.lists.specs.Lists.{Has, times}
+use Rattle.lists.specs.laws.HasLaws.{Has_cases, Has_left, Has_map, times_append}
+use Rattle.lists.specs.laws.ListLaws.{length_map as map_long}
 use Rattle.net_core.specs.LatchValue.{LatchValue}
-use Rattle.net_core.specs.Lists.{Has, times}
-use Rattle.net_core.proofs.DriverLemmas.{Has_cases, Has_left, Has_map, times_append}
 use Rattle.net_words.specs.Bind.{is_unknown}
 use Rattle.net_words.specs.declared.word.Role.TheVariants.{State, Fed, Output}
 use Rattle.net_words.specs.declared.word.WordText.{WordText}
-use Rattle.net_plan.specs.Plan.{Plan}
-use Rattle.net_plan.specs.PlanShape.{IsWellMade}
-use Rattle.net_plan.specs.Makeable.{driven_outside}
-use Rattle.net_plan.proofs.ShapeLemmas.{chain_grows}
-use Rattle.net_make.specs.BindingOfMade.{AreHeld}
-use Rattle.net_make.specs.Form.{AllWide, HasWords}
-use Rattle.net_make.specs.Made.{IsPlanFor, made_of}
-use Rattle.net_make.specs.Ports.{inputs_of, outer_names, role_nets, word_names}
-use Rattle.net_make.proofs.FormLemmas.{roles_once}
-use Rattle.net_make.proofs.MakeLemmas.{role_low}
-use Rattle.mult_runs.specs.Held.{net_at}
-use Rattle.mult_runs.specs.NormalNets.{place_before}
+use Rattle.make_nets.specs.Plan.{Plan}
+use Rattle.make_nets.specs.PlanShape.{IsWellMade}
+use Rattle.make_nets.specs.Makeable.{driven_outside}
+use Rattle.make_nets.proofs.ShapeLemmas.{chain_grows}
+use Rattle.make_nets.specs.BindingOfMade.{AreHeld}
+use Rattle.make_nets.specs.Form.{AllWide, HasWords}
+use Rattle.make_nets.specs.Made.{IsPlanFor, made_of}
+use Rattle.make_nets.specs.Ports.{inputs_of, outer_names, role_nets, word_names}
+use Rattle.make_nets.proofs.FormLemmas.{roles_once}
+use Rattle.make_nets.proofs.MakeLemmas.{role_low}
+use Rattle.make_laws.specs.Held.{net_at}
+use Rattle.make_laws.specs.NormalNets.{place_before}
 use Rattle.mult_normal.specs.NormalNet.{first_factor, product_nets, second_factor}
 use Rattle.mult_normal.specs.NormalPlan.{Products, moved_from, normal_latches, products_from, sum_net, summed}
 use Rattle.mult_normal.proofs.LatchLemmas.{latch_cases, latch_outs}

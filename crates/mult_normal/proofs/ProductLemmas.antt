@@ -4,12 +4,12 @@ use Rattle.std.specs.Prelude.{bit_xor, ◌==◌, ◌&&◌}
 use Rattle.std.specs.Int.Bits.{xor_assoc, xor_zero_l, xor_zero_r}
 use Rattle.gf_field.specs.Polynomial.{sum_of_first}
 use Rattle.net_core.specs.Value.{bit_of}
-use Rattle.net_plan.specs.Plan.{begun, each}
-use Rattle.net_plan.specs.PlanValue.{Agrees, bit_at_net, parity}
-use Rattle.net_plan.proofs.ValueLemmas.{agrees_before, and_value, chain_before, chain_value, parity_append}
-use Rattle.mult_serial.specs.Chosen.{chosen}
-use Rattle.mult_serial.proofs.SumLemmas.{sum_same}
-use Rattle.mult_runs.specs.Held.{net_at}
+use Rattle.make_nets.specs.Plan.{begun, each}
+use Rattle.make_nets.specs.PlanValue.{Agrees, bit_at_net, parity}
+use Rattle.make_nets.proofs.ValueLemmas.{agrees_before, and_value, chain_before, chain_value, parity_append}
+use Rattle.make_laws.specs.Chosen.{chosen}
+use Rattle.make_laws.proofs.RingSumLemmas.{sum_same}
+use Rattle.make_laws.specs.Held.{net_at}
 use Rattle.mult_normal.specs.NormalPlan.{Products, products_from, sum_net, summed, with_product, with_row}
 
 module _ (bits : List Bool) where

@@ -1,14 +1,14 @@
 -- The gates of products and of their sum are well made.
 use Rattle.std.proofs.Common.{◌≡◌, ◌⊎◌, subst, inl, inr, ℕ, zero, suc, ◌<◌, ◌≤◌, ◌+◌, ◌*◌, mul-suc, mul-le-mul_left, ◌^◌, Bool, true, false, List, [], ◌∷◌, length, None, arith}
 use Rattle.std.proofs.lemmas.List.{length_push}
-use Rattle.net_core.specs.Lists.{Has}
-use Rattle.net_core.proofs.DriverLemmas.{Has_cases}
-use Rattle.net_plan.specs.Plan.{begun, each}
-use Rattle.net_plan.specs.PlanShape.{IsWellMade}
-use Rattle.net_plan.proofs.OuterNets.{CanRead}
-use Rattle.net_plan.proofs.EachLemmas.{each_keeps}
-use Rattle.net_plan.proofs.ShapeLemmas.{begun_made, and_made, can_read_more, chain_made, chain_read}
-use Rattle.mult_runs.specs.Held.{net_at}
+use Rattle.lists.specs.Lists.{Has}
+use Rattle.lists.specs.laws.HasLaws.{Has_cases}
+use Rattle.make_nets.specs.Plan.{begun, each}
+use Rattle.make_nets.specs.PlanShape.{IsWellMade}
+use Rattle.make_nets.proofs.OuterNets.{CanRead}
+use Rattle.make_nets.proofs.EachLemmas.{each_keeps}
+use Rattle.make_nets.proofs.ShapeLemmas.{begun_made, and_made, can_read_more, chain_made, chain_read}
+use Rattle.make_laws.specs.Held.{net_at}
 use Rattle.mult_normal.specs.NormalPlan.{Products, products_from, sum_net, summed, with_product, with_row}
 
 -- there are no more than so many products, each on an inner net

@@ -3,15 +3,15 @@ use Rattle.std.proofs.Common.{◌≡◌, ◌≢◌, ◌∙◌, ap, sym, refl, su
 use Rattle.std.specs.Prelude.{slice_get}
 use Rattle.std.proofs.Math.Seq.{take-append_seam}
 use Rattle.std.proofs.lemmas.List.{length-take-le, take-append-drop, length-append}
-use Rattle.net_core.specs.Lists.{Has}
-use Rattle.net_core.proofs.DriverLemmas.{Has_left, Has_right}
+use Rattle.lists.specs.Lists.{Has}
+use Rattle.lists.specs.laws.HasLaws.{Has_left, Has_right}
 use Rattle.net_words.specs.declared.word.Role.TheVariants.{Input, State, Output}
 use Rattle.net_words.specs.declared.word.WordText.{WordText}
-use Rattle.net_make.specs.Form.{AllWide, HasWords}
-use Rattle.net_make.specs.Ports.{inputs_of, outer_names, role_nets, word_names}
-use Rattle.net_make.proofs.WordLists.{all_of, lists_of}
-use Rattle.net_make.proofs.FormLemmas.{OneOf, lists_long, lists_wide, names_long, nets_long, nets_of_lists, no_nets, words_one_of}
-use Rattle.mult_runs.specs.Held.{net_at}
+use Rattle.make_nets.specs.Form.{AllWide, HasWords}
+use Rattle.make_nets.specs.Ports.{inputs_of, outer_names, role_nets, word_names}
+use Rattle.make_nets.proofs.WordLists.{all_of, lists_of}
+use Rattle.make_nets.proofs.FormLemmas.{OneOf, lists_long, lists_wide, names_long, nets_long, nets_of_lists, no_nets, words_one_of}
+use Rattle.make_laws.specs.Held.{net_at}
 use Rattle.mult_normal.specs.NormalNet.{first_factor, product_nets, second_factor}
 
 pub drop_seam : (xs ys : List ℕ) → drop (length xs) (xs ++ ys) ≡ ys

@@ -2,7 +2,7 @@
 use Rattle.std.specs.Prelude.{ℕ, ◌-◌, ◌==◌, Bool, slice_index}
 use Rattle.std.specs.Int.{bit_at}
 use Rattle.gf_basis.specs.BasisParts.{duals_of, elements_of}
-use Rattle.gf_basis.specs.TraceWord.{trace_word}
+use Rattle.gf_basis.specs.private.TraceWord.{trace_word}
 use Rattle.gf_basis.specs.declared.bases.Basis.{Basis}
 
 -- the coordinates of x as bits: bit i is the trace of element i of the dual basis times x

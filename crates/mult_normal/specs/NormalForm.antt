@@ -3,9 +3,9 @@ use Rattle.std.specs.Prelude.{◌≡◌, ℕ, [], All}
 use Rattle.net_words.specs.declared.word.BasisText.TheVariants.{Normal}
 use Rattle.net_words.specs.declared.word.Role.TheVariants.{State}
 use Rattle.net_signature.specs.Signature.{SignatureValue}
-use Rattle.net_make.specs.Form.{HasWords}
-use Rattle.net_make.specs.MakerNames.{AreMakerNames}
-use Rattle.net_make.specs.Ports.{word_names}
+use Rattle.make_nets.specs.Form.{HasWords}
+use Rattle.make_nets.specs.MakerNames.{AreMakerNames}
+use Rattle.make_nets.specs.Ports.{word_names}
 
 -- two state words and one output word, all in the normal basis of one element, whose nets are distinct and have names of at
 -- most 128 plain bytes; there is no feed and no block

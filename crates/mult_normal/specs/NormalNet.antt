@@ -6,8 +6,8 @@ use Rattle.net_core.specs.NetList.{NetList}
 use Rattle.net_words.specs.declared.word.Role.TheVariants.{State, Output}
 use Rattle.net_words.specs.declared.word.WordText.{WordText}
 use Rattle.gf_basis.specs.declared.bases.Basis.{Basis}
-use Rattle.net_make.specs.Made.{made_of}
-use Rattle.net_make.specs.Ports.{role_nets, word_names}
+use Rattle.make_nets.specs.Made.{made_of}
+use Rattle.make_nets.specs.Ports.{role_nets, word_names}
 use Rattle.mult_normal.specs.Coordinates.{counts_in}
 use Rattle.mult_normal.specs.NormalPlan.{Products, normal_latches, products_from, sum_net, summed}
 

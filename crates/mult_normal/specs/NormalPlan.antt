@@ -3,9 +3,9 @@
 use Rattle.std.specs.Prelude.{ℕ, zero, suc, Bool, true, false, List, [], ◌∷◌, ◌++◌, None}
 use Rattle.net_core.specs.LatchValue.{LatchValue}
 use Rattle.net_core.specs.declared.latch.Start.TheVariants.{Zero, Unknown}
-use Rattle.net_plan.specs.Plan.{Plan, begun, each, gathered, with_and, with_chain, chain_net}
-use Rattle.mult_runs.specs.Held.{net_at}
-use Rattle.mult_runs.specs.NormalNets.{place_before}
+use Rattle.make_nets.specs.Plan.{Plan, begun, each, gathered, with_and, with_chain, chain_net}
+use Rattle.make_laws.specs.Held.{net_at}
+use Rattle.make_laws.specs.NormalNets.{place_before}
 
 -- the gates so far, and the nets of products of two bits
 pub record Products : Type 0 where

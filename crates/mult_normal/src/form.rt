@@ -3,7 +3,7 @@ ghost use Rattle.std.specs.Prelude.{◌≡◌, ◌≤◌, ◌↔◌, All, IsTrue
 ghost use Rattle.net_words.specs.declared.word.BasisText.TheVariants.{Normal};
 ghost use Rattle.mult_normal.specs.private.But.{IsNormalBut};
 
-use net_make::has_words;
+use make_nets::has_words;
 use net_signature::Signature;
 use net_words::{BasisText, Role, WordText};
 

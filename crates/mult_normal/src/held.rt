@@ -1,7 +1,7 @@
 //! The latches of a multiplier in a normal basis.
 ghost use Rattle.std.specs.Prelude.{◌≡◌, ◌<◌, ◌++◌, OnOk, IfOk, length};
 ghost use Rattle.net_core.specs.declared.latch.Start.TheVariants.{Unknown, Zero};
-ghost use Rattle.mult_runs.specs.NormalNets.{place_before as place_before_of};
+ghost use Rattle.make_laws.specs.NormalNets.{place_before as place_before_of};
 ghost use Rattle.mult_normal.specs.NormalPlan.{moved_from as moved_from_of, moving, normal_latches, turning};
 
 use net_core::{Latch, Start};

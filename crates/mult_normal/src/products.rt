@@ -3,12 +3,12 @@ ghost use Rattle.std.specs.Prelude.{◌≡◌, ◌+◌, ◌<◌, ◌≤◌, [], 
 ghost use Rattle.gf_basis.specs.BasisParts.{IsBasisOver};
 ghost use Rattle.mult_normal.specs.Coordinates.{counts_in};
 ghost use Rattle.mult_normal.specs.NormalPlan.{products_from, sum_net, summed, with_product, with_row};
-ghost use Rattle.net_plan.specs.Plan.{begun, each};
-ghost use Rattle.net_plan.specs.PlanShape.{HasRoom};
+ghost use Rattle.make_nets.specs.Plan.{begun, each};
+ghost use Rattle.make_nets.specs.PlanShape.{HasRoom};
 
 use gf_basis::Basis;
 use gf_field::{Field, Ring};
-use net_plan::PlanMaker;
+use make_nets::PlanMaker;
 use std::alloc::{AllocError, Global};
 use std::marker::Model;
 

@@ -6,11 +6,11 @@ use Rattle.std.specs.List.{list_any}
 use Rattle.std.specs.Str.{bytes_eq}
 use Rattle.std.proofs.lemmas.Bool.{leb-true, lt-ltb, le-ltb, ltb-true, ltb-false}
 use Rattle.std.proofs.lemmas.List.Folds.{list_any-append}
-use Rattle.net_core.specs.NetList.{LabelValue, NetList, empty, nets, number_from, number_of, with_label}
+use Rattle.net_core.specs.NetList.{LabelValue, NetList, empty, number_from, number_of, with_label}
 use Rattle.net_core.specs.declared.fault.NetFault.{NetFault}
 use Rattle.net_core.proofs.NameLemmas.{number_not}
 use Rattle.net_aiger.specs.Checks.{apart, own}
-use Rattle.net_aiger.specs.Lines.{is_complete}
+use Rattle.net_aiger.specs.private.Run.{is_complete}
 use Rattle.net_aiger.specs.Nets.{labelled, variable_made}
 use Rattle.net_aiger.specs.Reading.{Name, Reading, driven, port_name, ports_of}
 use Rattle.net_aiger.specs.Steps.{◌>>=◌}

@@ -7,6 +7,7 @@ use Rattle.net_core.specs.GateValue.{GateValue}
 use Rattle.net_core.specs.LatchValue.{LatchValue}
 use Rattle.net_core.specs.NetList.{NetList, empty, nets}
 use Rattle.net_core.specs.declared.fault.NetFault.{NetFault}
+use Rattle.net_core.proofs.DriverLemmas.{DriveNets}
 use Rattle.net_aiger.specs.Checks.{own}
 use Rattle.net_aiger.specs.Nets.{and_gate, and_made, ands_made, fresh_latch, gated, is_plain, labelled, latch_made, latch_on, latched, latches_made, literal_gate, net_made, output_made, outputs_made, variable_made, variables_made, with_output}
 use Rattle.net_aiger.specs.Reading.{Name, Reading, driven, net_of, port_name, variable_net}
@@ -14,7 +15,6 @@ use Rattle.net_aiger.specs.Steps.{◌>>=◌}
 use Rattle.net_aiger.specs.declared.reading.AndLine.{AndLine}
 use Rattle.net_aiger.specs.declared.reading.LatchLine.{LatchLine}
 use Rattle.net_aiger.proofs.MakeLemmas.{gated_gates, gated_labels, labelled_is, labelled_nets, latched_is, position_below}
-use Rattle.net_aiger.proofs.SettleLemmas.{DriveNets}
 
 -- a value of two steps is one of the second on a value of the first
 pub split_ok : {A B : Type 0} (first : Result A NetFault) (further : A → Result B NetFault) (b : B) → (first >>= further) ≡ Ok b → (a : A) × (first ≡ Ok a) × (further a ≡ Ok b)

@@ -1,11 +1,16 @@
 pub mod PortOrder
 mod NumberLemmas
 mod NameLemmas
-pub mod SettleLemmas
 pub mod MakeLemmas
 pub mod AwaitLemmas
 pub mod DriveLemmas
 mod KeepLemmas
+mod EntryLemmas
+mod LineLemmas
+mod SectionLemmas
+mod StepLemmas
+pub mod TextLemmas
+pub mod RepeatLemmas
 mod ReadLemmas
 pub mod AigerDetermined
 mod ValueLemmas

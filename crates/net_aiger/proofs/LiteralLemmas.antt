@@ -6,8 +6,8 @@ use Rattle.std.specs.List.{position, position_or_len}
 use Rattle.std.proofs.lemmas.Bool.{eqb-true, le-ltb, leb-true, ltb-true}
 use Rattle.std.proofs.lemmas.List.Sums.{passes_at_first}
 use Rattle.std.proofs.lemmas.Option.{slice_get-get_or}
-use Rattle.graph_core.proofs.GeneralLemmas.{both_true as plain_parts}
-use Rattle.net_core.specs.Lists.{Has}
+use Rattle.lists.specs.Lists.{Has}
+use Rattle.lists.specs.laws.BoolLaws.{both_true as plain_parts}
 use Rattle.net_core.specs.NetList.{NetList}
 use Rattle.net_core.specs.Value.{bit_of, index_of}
 use Rattle.net_aiger.specs.Nets.{inputs_of, is_plain, literal_gate, table_of}

@@ -4,8 +4,8 @@ use Rattle.std.specs.List.{list_all}
 use Rattle.std.specs.Option.{option_map}
 use Rattle.std.proofs.lemmas.List.{get_or-map, length-map}
 use Rattle.std.proofs.lemmas.Bool.{le-leb, leb-true, lt-ltb, ltb-true, le-ltb}
+use Rattle.lists.specs.laws.BoolLaws.{first_true as one, second_true as other}
 use Rattle.text_core.specs.Numbers.{IsDecimal, IsDigit, digit_value, value_of}
-use Rattle.graph_core.proofs.GeneralLemmas.{first_true as one, second_true as other}
 use Rattle.net_aiger.specs.Numbers.{is_digit, is_number, number_of, numbers_of, put_first}
 
 both : (a b : Bool) → a ≡ true → b ≡ true → (a && b) ≡ true

@@ -4,10 +4,10 @@ use Rattle.std.specs.Prelude.{nat_lt, slice_get}
 use Rattle.std.specs.Fmt.{decimal}
 use Rattle.std.specs.Str.{bytes_eq}
 use Rattle.std.proofs.lemmas.List.{length_push}
-use Rattle.graph_core.proofs.ListLemmas.{get_front, get_here}
+use Rattle.lists.specs.Lists.{Has}
+use Rattle.lists.specs.laws.ReadLaws.{get_front, get_here}
 use Rattle.net_core.specs.GateValue.{GateValue}
 use Rattle.net_core.specs.LatchValue.{LatchValue}
-use Rattle.net_core.specs.Lists.{Has}
 use Rattle.net_core.specs.NetList.{NetList, empty, nets, with_latch as net_with_latch}
 use Rattle.net_core.specs.Value.{bit_of}
 use Rattle.net_aiger.specs.Checks.{own, own_net}

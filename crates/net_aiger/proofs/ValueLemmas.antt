@@ -4,8 +4,8 @@ use Rattle.std.specs.Prelude.{nat_lt, ◌==◌}
 use Rattle.std.specs.Fmt.{decimal}
 use Rattle.std.specs.Int.{bit_at}
 use Rattle.std.proofs.lemmas.Bool.{ltb-true}
+use Rattle.lists.specs.Lists.{Has}
 use Rattle.net_core.specs.GateValue.{GateValue}
-use Rattle.net_core.specs.Lists.{Has}
 use Rattle.net_core.specs.NetList.{NetList, empty, nets}
 use Rattle.net_core.specs.Value.{bit_of, index_of}
 use Rattle.net_aiger.specs.Checks.{own}

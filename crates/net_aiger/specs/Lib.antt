@@ -1,7 +1,8 @@
 pub mod Numbers
 pub mod Steps
 pub mod Reading
-pub mod Lines
+pub mod Spelling
+pub mod Sections
 pub mod Checks
 pub mod Nets
 pub mod AigerNet

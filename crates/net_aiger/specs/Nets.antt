@@ -111,10 +111,13 @@ outputs_made reading port (literal ∷ literals) net = output_made reading port 
 
 -- ---- the whole
 
--- inputs, latches and ANDs, then the gates of the ANDs, the latches, and the outputs: the first that passes a limit decides
-abbrev pub net_made : Reading → Result NetList NetFault
-net_made reading =
-    variables_made reading 0 reading.defined empty >>= (λ variables.
+-- the gates of the ANDs, the latches, and the outputs
+abbrev pub rest_made : Reading → NetList → Result NetList NetFault
+rest_made reading variables =
     ands_made reading reading.ands variables >>= (λ ands.
     latches_made reading reading.latches ands >>= (λ latches.
-    outputs_made reading (driven reading.header) (drop (driven reading.header) reading.ports) latches)))
+    outputs_made reading (driven reading.header) (drop (driven reading.header) reading.ports) latches))
+
+-- first the nets of inputs, latches and ANDs: the first that passes a limit decides
+abbrev pub net_made : Reading → Result NetList NetFault
+net_made reading = variables_made reading 0 reading.defined empty >>= (λ variables. rest_made reading variables)

@@ -1,6 +1,6 @@
 -- What was read of a text in ASCII AIGER.
 -- Source: Armin Biere, The AIGER And-Inverter Graph (AIG) Format, Johannes Kepler University, Linz, 2007.
-use Rattle.std.specs.Prelude.{ℕ, ◌+◌, ◌-◌, ◌%◌, Bool, nat_lt, nat_eq, List, [], ◌++◌, Option, position, codes, unwrap_or, if◌then◌else◌}
+use Rattle.std.specs.Prelude.{ℕ, ◌+◌, ◌-◌, ◌%◌, Bool, nat_lt, nat_eq, List, [], ◌∷◌, ◌++◌, map, Option, position, codes, unwrap_or, if◌then◌else◌}
 use Rattle.std.specs.List.{list_any}
 use Rattle.std.specs.Map.{lookup}
 use Rattle.std.specs.Fmt.{decimal}
@@ -27,9 +27,6 @@ pub record Reading : Type 0 where
   -- names by the number of their port
   pub symbols : List (ℕ × Name)
 
-abbrev pub start : Header → Reading
-start header = record { header = header; ports = []; latches = []; ands = []; defined = []; uses = []; symbols = [] }
-
 -- how many inputs and latches there are
 abbrev pub driven : Header → ℕ
 driven header = header.inputs + header.latches
@@ -37,6 +34,37 @@ driven header = header.inputs + header.latches
 -- how many inputs, latches and outputs there are
 abbrev pub ports_of : Header → ℕ
 ports_of header = driven header + header.outputs
+
+-- the literals of latches
+abbrev pub literals_of : List LatchLine → List ℕ
+literals_of latches = map (λ (l : LatchLine). l.literal) latches
+
+-- the literals that entries use, whose lines are numbered from n
+abbrev pub uses_from : {A : Type 0} → (A → List ℕ) → ℕ → List A → List Use
+uses_from used n [] = []
+uses_from used n (entry ∷ entries) = map (λ (literal : ℕ). record { line = n; literal = literal }) (used entry) ++ uses_from used (n + 1) entries
+
+-- what a latch, an output and an AND use
+abbrev pub used_by_latch : LatchLine → List ℕ
+used_by_latch latch = latch.next ∷ []
+
+abbrev pub used_by_output : ℕ → List ℕ
+used_by_output literal = literal ∷ []
+
+abbrev pub used_by_and : AndLine → List ℕ
+used_by_and line = line.left ∷ line.right ∷ []
+
+-- what the sections say together: the port of number p stands on line p + 2, and the ANDs on the lines behind the ports
+abbrev pub reading_of : Header → List ℕ → List LatchLine → List ℕ → List AndLine → List (ℕ × Name) → Reading
+reading_of header inputs latches outputs ands symbols = record {
+  header = header;
+  ports = (inputs ++ literals_of latches) ++ outputs;
+  latches = latches;
+  ands = ands;
+  defined = (inputs ++ literals_of latches) ++ map (λ (a : AndLine). a.literal) ands;
+  uses = (uses_from used_by_latch (header.inputs + 2) latches ++ uses_from used_by_output (driven header + 2) outputs) ++ uses_from used_by_and (ports_of header + 2) ands;
+  symbols = symbols;
+}
 
 -- the literal of a literal's variable
 abbrev pub even : ℕ → ℕ

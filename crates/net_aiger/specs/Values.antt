@@ -1,7 +1,7 @@
 -- The values of literals. Source: Armin Biere, The AIGER And-Inverter Graph (AIG) Format, Johannes Kepler University, Linz, 2007.
 use Rattle.std.specs.Prelude.{◌≡◌, ℕ, ◌%◌, ◌==◌, ◌&&◌, not, Bool, nat_lt, List, Some, drop, slice_get, if◌then◌else◌}
+use Rattle.lists.specs.Lists.{Has}
 use Rattle.net_core.specs.LatchValue.{LatchValue}
-use Rattle.net_core.specs.Lists.{Has}
 use Rattle.net_core.specs.NetList.{NetList}
 use Rattle.net_core.specs.Value.{bit_of, IsConsistent}
 use Rattle.net_aiger.specs.Reading.{Reading, driven, net_of, variable_net}

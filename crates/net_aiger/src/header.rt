@@ -1,7 +1,8 @@
 //! The header.
 ghost use Rattle.std.specs.Prelude.{◌≡◌, ◌⊎◌, ◌≤◌, Ok, Err, Some, IfOk, IfErr, OnOk, drop, length};
 ghost use Rattle.std.specs.Fmt.{decimal};
-ghost use Rattle.net_aiger.specs.Lines.{counts as counts_of, first_other as first_not_0, header_from, header_with, is_header as heads, left_out as leaves_out};
+ghost use Rattle.net_aiger.specs.Spelling.{counts as counts_of, first_other as first_not_0, is_header as heads, left_out as leaves_out};
+ghost use Rattle.net_aiger.specs.private.Run.{header_from, header_with};
 ghost use Rattle.net_aiger.specs.Numbers.{words_of};
 
 use crate::AigerFault;

@@ -15,5 +15,8 @@ mod reader;
 mod reading;
 
 pub use fault::AigerFault;
-pub use laws::{ands_are_conjunctions, one_net_or_fault, ports_have_the_values_of_their_literals};
+pub use laws::{
+    ands_are_conjunctions, each_text_has_one_reading_or_fault, one_net_or_fault,
+    ports_have_the_values_of_their_literals,
+};
 pub use read::read_aiger;

@@ -1,6 +1,6 @@
 //! Lines, one after another.
 ghost use Rattle.std.specs.Prelude.{◌≡◌, ◌⊎◌, ◌++◌, ◌∷◌, [], nat_le, Ok, Err, IfErr, OnOk, length};
-ghost use Rattle.net_aiger.specs.Lines.{and_line as and_says, define as defines, input_line as input_says, latch_of as latch_that, number_line as numbers_say, one_line as line_says, output_line as output_says, section_line as section_says, start_of as start_that, with_latch};
+ghost use Rattle.net_aiger.specs.private.Run.{and_line as and_says, define as defines, input_line as input_says, latch_of as latch_that, number_line as numbers_say, one_line as line_says, output_line as output_says, section_line as section_says, start_of as start_that, with_latch};
 ghost use Rattle.net_aiger.specs.Numbers.{numbers_of, words_of};
 
 use crate::AigerFault;

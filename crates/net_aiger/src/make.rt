@@ -3,9 +3,9 @@ ghost use Rattle.std.specs.Prelude.{◌≡◌, ◌<◌, ◌≤◌, ◌+◌, ◌^
 ghost use Rattle.net_core.specs.Inside.{IsNetName};
 ghost use Rattle.net_core.specs.NetList.{empty, nets, number_of};
 ghost use Rattle.net_aiger.specs.Checks.{apart, own};
-ghost use Rattle.net_aiger.specs.Lines.{is_complete};
+ghost use Rattle.net_aiger.specs.private.Run.{is_complete};
 ghost use Rattle.std.specs.Fmt.{decimal};
-ghost use Rattle.net_aiger.specs.Nets.{and_made, ands_made, fresh_latch, gated, labelled, latch_made, latched, latches_made, literal_gate, net_made, output_made, outputs_made, variable_made, variables_made};
+ghost use Rattle.net_aiger.specs.Nets.{and_made, ands_made, fresh_latch, gated, labelled, latch_made, latched, latches_made, literal_gate, net_made, output_made, outputs_made, rest_made, variable_made, variables_made};
 ghost use Rattle.net_aiger.specs.Reading.{driven, net_of, port_name};
 ghost use Rattle.net_aiger.specs.private.Making.{Awaits, AwaitsPort, IsFaultOf};
 
@@ -287,6 +287,20 @@ fn make_outputs(
     Ok(())
 }
 
+// Makes the gates of the ANDs, the latches, and the outputs.
+fn make_rest(reader: &Reader, maker: &mut NetMaker) -> Result<(), NetFault>
+    requires complete { is_complete reader.now ≡ true }
+    requires long { nets maker.old ≡ length reader.now.defined }
+    requires awaits { AwaitsPort reader.now (driven reader.now.header) maker.old }
+    ensures made { OnOk result (rest_made reader.now maker.old ≡ Ok maker.new) }
+    ensures fault { IfErr result (λ e. IsFaultOf (rest_made reader.now maker.old) e) }
+{
+    make_ands(reader, maker, reader.ands())?;
+    make_latches(reader, maker, reader.latches())?;
+    let first = reader.header().driven();
+    make_outputs(reader, maker, first, reader.outputs())
+}
+
 /// The net list of what was read: the nets of inputs, latches and ANDs, the gates of the ANDs, the latches, and the outputs.
 pub(crate) fn make_net(reader: &Reader, key: u64) -> Result<NetMaker, NetFault>
     requires apart { apart reader.now 0 [] reader.now.ports ≡ Ok tt }
@@ -294,10 +308,12 @@ pub(crate) fn make_net(reader: &Reader, key: u64) -> Result<NetMaker, NetFault>
     ensures made { IfOk result (λ maker. net_made reader.now ≡ Ok maker) }
     ensures fault { IfErr result (λ e. IsFaultOf (net_made reader.now) e) }
 {
-    let mut maker = make_variables(reader, key)?;
-    make_ands(reader, &mut maker, reader.ands())?;
-    make_latches(reader, &mut maker, reader.latches())?;
-    let first = reader.header().driven();
-    make_outputs(reader, &mut maker, first, reader.outputs())?;
-    Ok(maker)
+    let mut maker = match make_variables(reader, key) {
+        Ok(maker) => maker,
+        Err(fault) => return Err(fault),
+    };
+    match make_rest(reader, &mut maker) {
+        Ok(()) => Ok(maker),
+        Err(fault) => Err(fault),
+    }
 }

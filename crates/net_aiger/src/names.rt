@@ -3,7 +3,8 @@ ghost use Rattle.std.specs.Prelude.{◌≡◌, ◌⊎◌, ◌+◌, ◌++◌, ◌
 ghost use Rattle.std.specs.List.{list_all};
 ghost use Rattle.std.specs.Map.{lookup};
 ghost use Rattle.net_core.specs.Inside.{IsNetName};
-ghost use Rattle.net_aiger.specs.Lines.{before_space as front_of, is_port_name as may_name, is_shown, named, port_at as port_that, symbol_line as symbol_says};
+ghost use Rattle.net_aiger.specs.Spelling.{is_port_name as may_name, is_shown, port_at as port_that};
+ghost use Rattle.net_aiger.specs.private.Run.{before_space as front_of, named, symbol_line as symbol_says};
 
 use crate::AigerFault;
 use crate::numbers::number;

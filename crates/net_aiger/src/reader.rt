@@ -2,8 +2,9 @@
 ghost use Rattle.std.specs.Prelude.{◌≡◌, ◌<◌, ◌++◌, IfOk, IfSome, drop, length, slice_get, Some};
 ghost use Rattle.std.specs.Fmt.{decimal};
 ghost use Rattle.net_core.specs.Inside.{IsNetName};
-ghost use Rattle.net_aiger.specs.Lines.{ends as line_ends, is_complete as complete};
-ghost use Rattle.net_aiger.specs.Reading.{driven, default_name as name_by_default, even as even_of, net_of, port_name as name_of_port, start, variable_net as net_of_variable};
+ghost use Rattle.net_aiger.specs.private.Run.{ends as line_ends, is_complete as complete};
+ghost use Rattle.net_aiger.specs.Reading.{driven, default_name as name_by_default, even as even_of, net_of, port_name as name_of_port, variable_net as net_of_variable};
+ghost use Rattle.net_aiger.specs.private.Run.{start};
 
 use crate::reading::{AndLine, Header, LatchLine, Use};
 use indexmap::{IndexMap, IndexSet};

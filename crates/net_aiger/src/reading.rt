@@ -1,12 +1,12 @@
 //! What lines of a text say.
 ghost use Rattle.std.specs.Prelude.{◌≡◌, ◌<◌, ◌^◌};
-ghost use Rattle.net_aiger.specs.Lines.{fits as literals_fit, within as is_within};
+ghost use Rattle.net_aiger.specs.Sections.{fits as literals_fit, within as is_within};
 ghost use Rattle.net_aiger.specs.Reading.{driven as driven_by, ports_of};
 
 use net_core::Start;
 
 /// What the header says: the greatest variable, and how many inputs, latches, outputs and ANDs there are.
-#[derive(Clone, Copy, Debug)]
+#[derive(Clone, Copy)]
 pub(crate) struct Header {
     pub(crate) most: u32,
     pub(crate) inputs: u32,
@@ -16,7 +16,7 @@ pub(crate) struct Header {
 }
 
 /// The line of a latch: its own literal, the one that it holds next, and what it begins with.
-#[derive(Clone, Copy, Debug)]
+#[derive(Clone, Copy)]
 pub(crate) struct LatchLine {
     pub(crate) literal: u32,
     pub(crate) next: u32,
@@ -24,7 +24,7 @@ pub(crate) struct LatchLine {
 }
 
 /// The line of an AND: its own literal, and those whose conjunction it has.
-#[derive(Clone, Copy, Debug)]
+#[derive(Clone, Copy)]
 pub(crate) struct AndLine {
     pub(crate) literal: u32,
     pub(crate) left: u32,
@@ -32,7 +32,7 @@ pub(crate) struct AndLine {
 }
 
 /// A line that uses a literal.
-#[derive(Clone, Copy, Debug)]
+#[derive(Clone, Copy)]
 pub(crate) struct Use {
     pub(crate) line: u32,
     pub(crate) literal: u32,

@@ -8,12 +8,13 @@ use Rattle.std.proofs.Math.Seq.{take-suc}
 use Rattle.std.proofs.lemmas.List.{length-append, length-map, length-replicate, length-set}
 use Rattle.std.proofs.lemmas.List.Elements.{All-append}
 use Rattle.std.proofs.lemmas.Option.{slice_get-map, slice_get_within}
+use Rattle.lists.specs.laws.NumberLaws.{nat_eq_or}
+use Rattle.lists.specs.laws.ReadLaws.{same_lists, get_set_other, get_set_same, get_below as some_at}
 use Rattle.graph_core.specs.Graph.{Graph, edges, IsCycle, IsInside}
 use Rattle.graph_core.specs.Cycle.{IsCycleOf, IsGrounded}
 use Rattle.graph_core.specs.Arranged.{IsArranged}
-use Rattle.graph_core.proofs.GraphLemmas.{edges_within, nat_eq_or, same_lists}
+use Rattle.graph_core.proofs.GraphLemmas.{edges_within}
 use Rattle.graph_core.proofs.LawLemmas.{arranged_grounded, is_cycle}
-use Rattle.graph_core.proofs.ListLemmas.{get_set_other, get_set_same, get_below as some_at}
 use Rattle.net_blif.specs.Statement.{Token}
 use Rattle.net_blif.specs.Design.{ModelValue, items_of, model_from, model_named, name_of}
 use Rattle.net_blif.specs.Chains.{graph_of, leads_on, models_in, row_of}

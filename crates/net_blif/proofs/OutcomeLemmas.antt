@@ -1,7 +1,7 @@
 -- A text has at most one outcome.
 use Rattle.std.proofs.Common.{◌∙◌, ap, sym, refl, ℕ, List, [], ◌∷◌, Ok, Err}
-use Rattle.text_core.specs.Outcome.{◌>>=◌, Exactly, Returns, Determined}
-use Rattle.text_core.proofs.DeterminedLemmas.{determined_bind, determined_returns}
+use Rattle.outcome.proofs.DeterminedLemmas.{determined_bind, determined_returns}
+use Rattle.outcome.specs.Outcome.{◌>>=◌, Exactly, Returns, Determined}
 use Rattle.text_core.specs.Lines.{tokens_of}
 use Rattle.net_blif.specs.Lines.{Numbered, lines_of}
 use Rattle.net_blif.specs.Statement.{Token}

@@ -4,9 +4,9 @@ use Rattle.std.specs.Prelude.{slice_get, is_some, nat_lt, codes, IsTrue}
 use Rattle.std.specs.Str.{bytes_eq}
 use Rattle.std.specs.Option.{option_map, option_map_or}
 use Rattle.std.proofs.lemmas.List.{length-append}
+use Rattle.outcome.proofs.DeterminedLemmas.{determined_bind, determined_returns}
+use Rattle.outcome.specs.Outcome.{◌>>=◌, Determined}
 use Rattle.text_core.specs.Lines.{tokens_of}
-use Rattle.text_core.specs.Outcome.{◌>>=◌, Determined}
-use Rattle.text_core.proofs.DeterminedLemmas.{determined_bind, determined_returns}
 use Rattle.graph_core.specs.Graph.{Graph}
 use Rattle.graph_core.specs.Cycle.{IsCycleOf, IsEndless, IsFirstEndless}
 use Rattle.graph_core.proofs.LawLemmas.{is_only}

@@ -7,7 +7,7 @@ use Rattle.std.specs.Str.{bytes_eq}
 use Rattle.std.proofs.lemmas.Bool.{lt-ltb, eqb-true}
 use Rattle.std.proofs.Math.Dec.{ltb}
 use Rattle.std.proofs.lemmas.Slice.Eq.{bytes_eq-Decides}
-use Rattle.graph_core.proofs.GeneralLemmas.{both_true as both, not_true}
+use Rattle.lists.specs.laws.BoolLaws.{both_true as both, not_true}
 use Rattle.net_blif.specs.Connection.{is_connection}
 use Rattle.net_blif.specs.Statement.{Token, IsToken, spelled, bit_token, row_tokens, is_cell, is_dotted, is_latch_end, is_other, is_well, keywords}
 use Rattle.net_blif.specs.Spelling.{bit_of, model_of, cover_of, end_of, instance_of, latch_of, dotted_of, row_of, statement_of}

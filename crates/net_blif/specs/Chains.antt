@@ -2,7 +2,7 @@
 use Rattle.std.specs.Prelude.{◌≡◌, ℕ, zero, suc, Bool, true, List, [], ◌∷◌, map, flat_map, Some, slice_get, Ok, Err, if◌then◌else◌}
 use Rattle.std.specs.List.{list_any}
 use Rattle.std.specs.Option.{option_map_or}
-use Rattle.text_core.specs.Outcome.{Outcome, Returns}
+use Rattle.outcome.specs.Outcome.{Outcome, Returns}
 use Rattle.graph_core.specs.Graph.{Graph, edges}
 use Rattle.graph_core.specs.Cycle.{IsGrounded, IsCycleOf}
 use Rattle.net_blif.specs.Design.{ModelValue, model_named, name_of}

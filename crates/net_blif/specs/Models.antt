@@ -2,8 +2,8 @@
 use Rattle.std.specs.Prelude.{◌≡◌, ℕ, ◌&&◌, nat_lt, nat_le, Bool, true, false, IsTrue, List, [], ◌∷◌, ◌++◌, take_while, length, codes, All, Result, Ok, Err, Option, None, Some, is_some, if◌then◌else◌}
 use Rattle.std.specs.Option.{option_map, option_map_or}
 use Rattle.std.specs.Str.{bytes_eq}
+use Rattle.outcome.specs.Outcome.{Outcome, ◌>>=◌, Exactly, Returns}
 use Rattle.text_core.specs.Lines.{tokens_of}
-use Rattle.text_core.specs.Outcome.{Outcome, ◌>>=◌, Exactly, Returns}
 use Rattle.net_blif.specs.Lines.{Numbered, lines_of}
 use Rattle.net_blif.specs.Statement.{Token, IsToken, spelled, is_well, is_dotted}
 use Rattle.net_blif.specs.Latch.{start_of}

@@ -1,7 +1,7 @@
 //! Laws of the definitions.
 ghost use Rattle.std.specs.Prelude.{◌≡◌, ◌<◌, ◌^◌, ℕ, List, length};
 ghost use Rattle.std.specs.Int.{bit_at};
-ghost use Rattle.text_core.specs.Outcome.{Determined};
+ghost use Rattle.outcome.specs.Outcome.{Determined};
 ghost use Rattle.net_blif.specs.Cover.{CoverValue, bit_value, is_one, table_of};
 ghost use Rattle.net_blif.specs.Models.{BlifDesign};
 

@@ -4,16 +4,16 @@ use Rattle.std.specs.Prelude.{slice_get}
 use Rattle.std.proofs.Math.ListN.{set}
 use Rattle.std.proofs.lemmas.List.{length-replicate}
 use Rattle.std.proofs.lemmas.Option.{slice_get_within}
+use Rattle.lists.specs.Lists.{Has}
+use Rattle.lists.specs.laws.NumberLaws.{nat_eq_or}
 use Rattle.graph_core.specs.Graph.{Graph, edges}
 use Rattle.graph_core.proofs.GraphLemmas.{edges_set_same, edges_set_other, edges_none}
 use Rattle.net_core.specs.GateValue.{GateValue}
-use Rattle.net_core.specs.Lists.{Has}
 use Rattle.net_core.specs.NetList.{NetList, nets}
 use Rattle.net_core.specs.Inside.{IsInside}
 use Rattle.net_core.specs.Sound.{HasOneDriverEach, sources}
 use Rattle.net_core.specs.Driving.{IsGraphOf}
 use Rattle.net_core.proofs.DriverLemmas.{gates_apart, gate_inside, source_no_gate}
-use Rattle.net_core.proofs.LevelLemmas.{nat_eq_or}
 
 -- the first k gates have their edges
 pub record HasGates (net : NetList) (k : ℕ) (graph : Graph) : Type 0 where

@@ -6,8 +6,11 @@ use Rattle.std.specs.Int.{bit_at}
 use Rattle.std.proofs.Math.ListN.{set}
 use Rattle.std.proofs.lemmas.Option.{slice_get_within, get_or_from_slice_get}
 use Rattle.std.proofs.Math.Pow.{pow_mono}
+use Rattle.lists.specs.Lists.{Has}
+use Rattle.lists.specs.laws.HasLaws.{Has_cases, All_has, times_two, times_append, Has_left}
+use Rattle.lists.specs.laws.NumberLaws.{nat_eq_or}
+use Rattle.lists.specs.laws.ReadLaws.{got_at, get_below, get_set_same, get_set_other}
 use Rattle.net_core.specs.GateValue.{GateValue}
-use Rattle.net_core.specs.Lists.{Has}
 use Rattle.net_core.specs.NetList.{NetList, nets}
 use Rattle.net_core.specs.Inside.{IsInside}
 use Rattle.net_core.specs.Sound.{HasOneDriverEach, sources}
@@ -16,9 +19,8 @@ use Rattle.net_core.specs.Levelled.{AllHaveLevels}
 use Rattle.net_core.specs.Order.{rank_at, IsBefore, IsOrder}
 use Rattle.net_core.specs.Value.{bit_of, index_of, IsRight, IsConsistent, HasValues}
 use Rattle.net_core.proofs.RightGates.{AreRight}
-use Rattle.graph_core.proofs.ListLemmas.{got_at, get_below, get_set_same, get_set_other}
-use Rattle.net_core.proofs.DriverLemmas.{driver_of, Has_cases, All_has, times_two, times_append, gate_inside, gates_apart, source_no_gate, Has_left}
-use Rattle.net_core.proofs.LevelLemmas.{nat_eq_or, level_within, level_from_above}
+use Rattle.net_core.proofs.DriverLemmas.{driver_of, gate_inside, gates_apart, source_no_gate}
+use Rattle.net_core.proofs.LevelLemmas.{level_within, level_from_above}
 use Rattle.net_core.proofs.OrderLemmas.{before_all}
 
 pub bit_set_same : (bits : List Bool) (i : ℕ) (v : Bool) → i < length bits → bit_of (set bits i v) i ≡ v

@@ -1,8 +1,8 @@
 -- Small worked examples of the definitions of specs/, which the check computes: a net with one gate, y = a AND b, and
 -- one with two, z = (a AND b) XOR a.
 use Rattle.std.proofs.Common.{◌≡◌, ℕ, zero, suc, ◌<◌, [], ◌∷◌, List, true, false, Some, None, codes, refl, arith, get_or, slice_get, subst}
+use Rattle.lists.specs.Lists.{Has}
 use Rattle.net_core.specs.GateValue.{GateValue}
-use Rattle.net_core.specs.Lists.{Has}
 use Rattle.net_core.specs.NetList.{NetList, LabelValue, number_of}
 use Rattle.net_core.specs.Inside.{IsInside, GateIsInside, IsNetName}
 use Rattle.net_core.specs.Sound.{sources, drivers, Needs, IsCycle, IsSound}

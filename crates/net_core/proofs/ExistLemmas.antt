@@ -4,10 +4,13 @@ use Rattle.std.specs.Prelude.{slice_get, sum_by, ◌==◌}
 use Rattle.std.specs.Int.{bit_at}
 use Rattle.std.proofs.Math.ListN.{set}
 use Rattle.std.proofs.lemmas.List.{length-replicate}
+use Rattle.lists.specs.Lists.{Has}
+use Rattle.lists.specs.laws.HasLaws.{All_has}
+use Rattle.lists.specs.laws.NumberLaws.{nat_eq_or}
+use Rattle.lists.specs.laws.ReadLaws.{get_below, got_set}
+use Rattle.lists.specs.laws.SumLaws.{sum_by-set_at}
 use Rattle.graph_core.specs.Walk.{IsChain}
-use Rattle.graph_core.proofs.ListLemmas.{get_below, got_set, sum_by-set_at}
 use Rattle.net_core.specs.GateValue.{GateValue}
-use Rattle.net_core.specs.Lists.{Has}
 use Rattle.net_core.specs.NetList.{NetList, nets}
 use Rattle.net_core.specs.Inside.{IsInside}
 use Rattle.net_core.specs.Sound.{IsSound, HasOneDriverEach, HasCycle, Needs, sources}
@@ -16,8 +19,8 @@ use Rattle.net_core.specs.Levelled.{AllHaveLevels}
 use Rattle.net_core.specs.Partial.{ArePartial, AreKnown, lacking}
 use Rattle.net_core.specs.Value.{bit_of, index_of, IsRight, IsConsistent, HasSourceBits}
 use Rattle.net_core.proofs.NetPath.{IsPath}
-use Rattle.net_core.proofs.DriverLemmas.{driver_of, gates_apart, gate_inside, source_no_gate, All_has}
-use Rattle.net_core.proofs.LevelLemmas.{nat_eq_or, level_within, known_at, known_over, level_set_same, level_set_other, level_from_above, partial_set, lacking_set, all_found, right_level, first_partial, sources_inside}
+use Rattle.net_core.proofs.DriverLemmas.{driver_of, gates_apart, gate_inside, source_no_gate}
+use Rattle.net_core.proofs.LevelLemmas.{level_within, known_at, known_over, level_set_same, level_set_other, level_from_above, partial_set, lacking_set, all_found, right_level, first_partial, sources_inside}
 use Rattle.net_core.proofs.EvalLemmas.{bit_set_same, bit_set_other, index_set, index_agree, same_lists, some_level, value_of}
 
 abbrev unmet : Bool → ℕ

@@ -2,9 +2,10 @@
 use Rattle.std.proofs.Common.{◌≡◌, ◌≢◌, ◌⊎◌, ◌∙◌, ap, sym, refl, inl, inr, subst, ℕ, zero, suc, ◌<◌, ◌+◌, max, List, [], ◌∷◌, length, Option, None, Some, Err, arith, ◌-◌}
 use Rattle.std.specs.Prelude.{slice_get, IsSome}
 use Rattle.std.proofs.lemmas.Option.{slice_get_within}
-use Rattle.graph_core.proofs.ListLemmas.{get_below}
+use Rattle.lists.specs.Lists.{Has}
+use Rattle.lists.specs.laws.NumberLaws.{nat_eq_or, even}
+use Rattle.lists.specs.laws.ReadLaws.{get_below, same_lists}
 use Rattle.net_core.specs.GateValue.{GateValue}
-use Rattle.net_core.specs.Lists.{Has}
 use Rattle.net_core.specs.NetList.{NetList, nets, text_of}
 use Rattle.net_core.specs.Inside.{IsInside}
 use Rattle.net_core.specs.Sound.{IsSound, HasOneDriverEach}
@@ -14,12 +15,11 @@ use Rattle.net_core.specs.Order.{rank_at, IsBefore, IsOrder, IsLevelOrder}
 use Rattle.net_core.specs.Finish.{Finishes, IsLabelOfFirst}
 use Rattle.net_core.specs.declared.fault.NetFault.{NetFault}
 use Rattle.net_core.specs.declared.fault.NetFault.TheVariants.{TooManyNets, TooManyGates, DrivenTwice, Undriven, Loop, OutOfMemory}
-use Rattle.net_core.proofs.DriverLemmas.{driver_of}
-use Rattle.net_core.proofs.LevelLemmas.{nat_eq_or, level_within, level_from_above}
+use Rattle.net_core.proofs.DriverLemmas.{DriveNets, driver_of, drives_inside}
+use Rattle.net_core.proofs.LevelLemmas.{level_within, level_from_above}
 use Rattle.net_core.proofs.EvalLemmas.{over_agree, not_self}
-use Rattle.net_core.proofs.LoopLemmas.{loop_is_cycle, loop_is_only}
+use Rattle.net_core.proofs.LoopLemmas.{loop_is_cycle, loops_same}
 use Rattle.net_core.proofs.OrderLemmas.{before_all}
-use Rattle.graph_core.proofs.GraphLemmas.{even, same_lists}
 
 -- a level in one list of levels is the level in another
 some_agrees : (net : NetList) (a b : Levels) → HasOneDriverEach net → AreLevels net a → AreLevels net b → (fuel n l : ℕ) → l < fuel → level_at a n ≡ Some l → level_at b n ≡ Some l
@@ -110,31 +110,34 @@ same_loop net v w x y same (n, at, is) (m, at', is') =
     rw (is, is', e, same) refl
 
 -- of the faults but out of memory, one fits at most
-pub one_fault : (net : NetList) (x y : NetFault) → IsInside net → Finishes net (Err x) → Finishes net (Err y) → (x ≡ OutOfMemory) ⊎ ((y ≡ OutOfMemory) ⊎ (x ≡ y))
-one_fault net TooManyNets y inside first second = absurd first
-one_fault net TooManyGates y inside first second = absurd first
-one_fault net OutOfMemory y inside first second = inl refl
-one_fault net (DrivenTwice n a) TooManyNets inside first second = absurd second
-one_fault net (DrivenTwice n a) TooManyGates inside first second = absurd second
-one_fault net (DrivenTwice n a) (DrivenTwice m b) inside first second =
+pub faults_same : (net : NetList) (x y : NetFault) → DriveNets net → Finishes net (Err x) → Finishes net (Err y) → (x ≡ OutOfMemory) ⊎ ((y ≡ OutOfMemory) ⊎ (x ≡ y))
+faults_same net TooManyNets y drive first second = absurd first
+faults_same net TooManyGates y drive first second = absurd first
+faults_same net OutOfMemory y drive first second = inl refl
+faults_same net (DrivenTwice n a) TooManyNets drive first second = absurd second
+faults_same net (DrivenTwice n a) TooManyGates drive first second = absurd second
+faults_same net (DrivenTwice n a) (DrivenTwice m b) drive first second =
     inr (inr (same_twice net n m a b (even n m (λ less. omega (arith, second.2 n less, first.1)) (λ less. omega (arith, first.2 m less, second.1))) first.3 second.3))
-one_fault net (DrivenTwice n a) (Undriven m b) inside first second = absurd (omega (arith, second.1 n first.0, first.1))
-one_fault net (DrivenTwice n a) (Loop w b) inside first second = absurd (omega (arith, second.0 n first.0, first.1))
-one_fault net (DrivenTwice n a) OutOfMemory inside first second = inr (inl refl)
-one_fault net (Undriven n a) TooManyNets inside first second = absurd second
-one_fault net (Undriven n a) TooManyGates inside first second = absurd second
-one_fault net (Undriven n a) (DrivenTwice m b) inside first second = absurd (omega (arith, first.1 m second.0, second.1))
-one_fault net (Undriven n a) (Undriven m b) inside first second =
+faults_same net (DrivenTwice n a) (Undriven m b) drive first second = absurd (omega (arith, second.1 n first.0, first.1))
+faults_same net (DrivenTwice n a) (Loop w b) drive first second = absurd (omega (arith, second.0 n first.0, first.1))
+faults_same net (DrivenTwice n a) OutOfMemory drive first second = inr (inl refl)
+faults_same net (Undriven n a) TooManyNets drive first second = absurd second
+faults_same net (Undriven n a) TooManyGates drive first second = absurd second
+faults_same net (Undriven n a) (DrivenTwice m b) drive first second = absurd (omega (arith, first.1 m second.0, second.1))
+faults_same net (Undriven n a) (Undriven m b) drive first second =
     inr (inr (same_undriven net n m a b (even n m (λ less. omega (arith, second.3 n less, first.2)) (λ less. omega (arith, first.3 m less, second.2))) first.4 second.4))
-one_fault net (Undriven n a) (Loop w b) inside first second = absurd (omega (arith, second.0 n first.0, first.2))
-one_fault net (Undriven n a) OutOfMemory inside first second = inr (inl refl)
-one_fault net (Loop v a) TooManyNets inside first second = absurd second
-one_fault net (Loop v a) TooManyGates inside first second = absurd second
-one_fault net (Loop v a) (DrivenTwice m b) inside first second = absurd (omega (arith, first.0 m second.0, second.1))
-one_fault net (Loop v a) (Undriven m b) inside first second = absurd (omega (arith, first.0 m second.0, second.2))
-one_fault net (Loop v a) (Loop w b) inside first second =
-    inr (inr (same_loop net v w a b (loop_is_only net v w inside first.0 first.1 second.1) first.2 second.2))
-one_fault net (Loop v a) OutOfMemory inside first second = inr (inl refl)
+faults_same net (Undriven n a) (Loop w b) drive first second = absurd (omega (arith, second.0 n first.0, first.2))
+faults_same net (Undriven n a) OutOfMemory drive first second = inr (inl refl)
+faults_same net (Loop v a) TooManyNets drive first second = absurd second
+faults_same net (Loop v a) TooManyGates drive first second = absurd second
+faults_same net (Loop v a) (DrivenTwice m b) drive first second = absurd (omega (arith, first.0 m second.0, second.1))
+faults_same net (Loop v a) (Undriven m b) drive first second = absurd (omega (arith, first.0 m second.0, second.2))
+faults_same net (Loop v a) (Loop w b) drive first second =
+    inr (inr (same_loop net v w a b (loops_same net v w drive first.0 first.1 second.1) first.2 second.2))
+faults_same net (Loop v a) OutOfMemory drive first second = inr (inl refl)
+
+pub one_fault : (net : NetList) (x y : NetFault) → IsInside net → Finishes net (Err x) → Finishes net (Err y) → (x ≡ OutOfMemory) ⊎ ((y ≡ OutOfMemory) ⊎ (x ≡ y))
+one_fault net x y inside first second = faults_same net x y (drives_inside net inside) first second
 
 not_before : (a b q p : ℕ) → IsBefore a q b p → IsBefore b p a q → ⊥
 not_before a b q p first second = grind arith

@@ -5,10 +5,14 @@ use Rattle.std.proofs.lemmas.List.Sums.{sum_by-cons}
 use Rattle.std.proofs.lemmas.List.Elements.{All-append, All-map, All-weaker}
 use Rattle.std.proofs.Math.ListN.{set}
 use Rattle.std.proofs.lemmas.Option.{slice_get_within, get_or_from_slice_get}
+use Rattle.lists.specs.Lists.{Has}
+use Rattle.lists.specs.laws.HasLaws.{Has_left, Has_map}
+use Rattle.lists.specs.laws.NumberLaws.{nat_eq_or}
+use Rattle.lists.specs.laws.ReadLaws.{get_set_same, get_set_other, get_below}
+use Rattle.lists.specs.laws.SumLaws.{sum_by-set_at}
 use Rattle.graph_core.specs.Graph.{Graph, edges}
 use Rattle.graph_core.specs.Arranged.{IsArranged}
 use Rattle.net_core.specs.GateValue.{GateValue}
-use Rattle.net_core.specs.Lists.{Has}
 use Rattle.net_core.specs.NetList.{NetList, nets}
 use Rattle.net_core.specs.Inside.{IsInside, GateIsInside, LatchIsInside}
 use Rattle.net_core.specs.Sound.{sources, driven, HasOneDriverEach}
@@ -16,9 +20,7 @@ use Rattle.net_core.specs.Level.{Levels, level_at, level_from, level_over, AreLe
 use Rattle.net_core.specs.Levelled.{AllHaveLevels}
 use Rattle.net_core.specs.Driving.{IsGraphOf, roots_of}
 use Rattle.net_core.specs.Partial.{ArePartial, ArePositions, AreKnown, KeepsLevels, lack, lacking}
-use Rattle.graph_core.proofs.ListLemmas.{get_set_same, get_set_other, get_below, sum_by-set_at}
-use Rattle.net_core.proofs.DriverLemmas.{driver_of, Has_left, Has_map, source_no_gate, gates_apart, gate_inside}
-pub use Rattle.graph_core.proofs.GraphLemmas.{nat_eq_or}
+use Rattle.net_core.proofs.DriverLemmas.{driver_of, source_no_gate, gates_apart, gate_inside}
 
 pub level_known : (levels : Levels) (n l : ℕ) → level_at levels n ≡ Some l → slice_get levels n ≡ Some (Some l)
 level_known levels n l is =

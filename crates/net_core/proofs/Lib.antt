@@ -10,5 +10,6 @@ pub mod LoopLemmas
 pub mod NameLemmas
 pub mod OrderLemmas
 pub mod PlaceLemmas
+pub mod SettleLemmas
 pub mod TurnLemmas
 mod Examples

@@ -3,13 +3,16 @@ use Rattle.std.proofs.Common.{◌≡◌, ◌⊎◌, ◌∙◌, ap, sym, refl, in
 use Rattle.std.specs.Prelude.{slice_get, All}
 use Rattle.std.proofs.lemmas.Option.{slice_get-map}
 use Rattle.std.proofs.lemmas.List.Elements.{All-append, All-map, All-weaker}
+use Rattle.lists.specs.Lists.{Has}
+use Rattle.lists.specs.laws.HasLaws.{All_has}
+use Rattle.lists.specs.laws.NumberLaws.{even, nat_eq_or}
+use Rattle.lists.specs.laws.ReadLaws.{get_front, from_map}
 use Rattle.graph_core.specs.Graph.{Graph, edges, HasEdge}
 use Rattle.graph_core.specs.Cycle.{IsGrounded, grounded, IsFirstEndless, IsCycleOf}
 use Rattle.graph_core.specs.Fault.{IsCycleFault}
 use Rattle.graph_core.specs.declared.fault.CycleFault.{CycleFault}
 use Rattle.graph_core.specs.declared.fault.CycleFault.TheVariants.{Cycle, OutOfMemory}
 use Rattle.net_core.specs.GateValue.{GateValue}
-use Rattle.net_core.specs.Lists.{Has}
 use Rattle.net_core.specs.NetList.{NetList, nets}
 use Rattle.net_core.specs.Inside.{IsInside, GateIsInside}
 use Rattle.net_core.specs.Sound.{IsSound, HasOneDriverEach, Needs, IsCycle, HasCycle, sources}
@@ -18,12 +21,10 @@ use Rattle.net_core.specs.Levelled.{AllHaveLevels}
 use Rattle.net_core.specs.Loop.{HasLevel, of_source, of_gate, IsFirstWithout, IsBegin, LeadsTo, IsLoop}
 use Rattle.net_core.specs.Driving.{IsGraphOf, IsLoopFault, roots_of}
 use Rattle.net_core.proofs.NetPath.{IsPath}
-use Rattle.graph_core.proofs.ListLemmas.{get_front}
-use Rattle.graph_core.proofs.GraphLemmas.{edges_within, even}
+use Rattle.graph_core.proofs.GraphLemmas.{edges_within}
 use Rattle.graph_core.proofs.LoopLemmas.{loop_cycle, loop_weaker, loop_only, cycle_weaker}
-use Rattle.graph_core.proofs.CycleLemmas.{from_map}
-use Rattle.net_core.proofs.DriverLemmas.{driver_of, gates_apart, gate_inside, All_has}
-use Rattle.net_core.proofs.LevelLemmas.{nat_eq_or, level_from_above, sources_inside}
+use Rattle.net_core.proofs.DriverLemmas.{DriveNets, driver_of, drivers_apart, drives_inside, gate_inside}
+use Rattle.net_core.proofs.LevelLemmas.{level_from_above, sources_inside}
 
 -- a net that a path of gates cannot follow for ever has a level
 pub grounded_level : (net : NetList) (graph : Graph) → HasOneDriverEach net → IsInside net → IsGraphOf net graph → (a : ℕ) → a < nets net → IsGrounded graph a → HasLevel net a
@@ -134,18 +135,21 @@ begin_only net a b (p, g, at, out, none, before) (q, h, at', out', none', before
           (λ less. none' (subst (λ (n : ℕ). HasLevel net n) out' (before q h less at')))))
     ]
 
-leads_only : (net : NetList) → IsInside net → HasOneDriverEach net → (a b c : ℕ) → LeadsTo net a b → LeadsTo net a c → b ≡ c
-leads_only net inside one a b c (g, has, out, first) (h, has', out', first') =
-    let place : has.0 ≡ has'.0 = gates_apart net has.0 has'.0 g h inside one has.1 has'.1 (out ∙ sym out') in
+leads_only : (net : NetList) → DriveNets net → HasOneDriverEach net → (a b c : ℕ) → LeadsTo net a b → LeadsTo net a c → b ≡ c
+leads_only net drive one a b c (g, has, out, first) (h, has', out', first') =
+    let place : has.0 ≡ has'.0 = drivers_apart net has.0 has'.0 g h drive one has.1 has'.1 (out ∙ sym out') in
     let at : slice_get net.gates has'.0 ≡ Some g = ap (slice_get net.gates) (sym place) ∙ has.1 in
     let at' : slice_get net.gates has'.0 ≡ Some h = has'.1 in
     let whole : g ≡ h = cc in
     let P : GateValue → Type 0 = λ x. IsFirstWithout net x.inputs b in
     first_without_only net h.inputs b c (subst P whole first) first'
 
--- a net list has one loop at most
+-- a net list whose gates drive nets has one loop at most
+pub loops_same : (net : NetList) (x y : List ℕ) → DriveNets net → HasOneDriverEach net → IsLoop net x → IsLoop net y → x ≡ y
+loops_same net x y drive one first second = loop_only (IsBegin net) (LeadsTo net) (begin_only net) (leads_only net drive one) x y first second
+
 pub loop_is_only : (net : NetList) (x y : List ℕ) → IsInside net → HasOneDriverEach net → IsLoop net x → IsLoop net y → x ≡ y
-loop_is_only net x y inside one first second = loop_only (IsBegin net) (LeadsTo net) (begin_only net) (leads_only net inside one) x y first second
+loop_is_only net x y inside one first second = loops_same net x y (drives_inside net inside) one first second
 
 rank : Option ℕ → ℕ
 rank None = 0

@@ -4,7 +4,7 @@ use Rattle.std.specs.Prelude.{slice_get, IfSome}
 use Rattle.std.proofs.lemmas.List.{length_push}
 use Rattle.std.proofs.lemmas.List.Elements.{All-weaker}
 use Rattle.std.proofs.lemmas.Slice.Eq.{bytes_eq-Decides}
-use Rattle.graph_core.proofs.ListLemmas.{got_push}
+use Rattle.lists.specs.laws.ReadLaws.{got_push}
 use Rattle.net_core.specs.NetList.{NetList, LabelValue, number_from, is_named, nets}
 use Rattle.net_core.specs.Inside.{IsInside, IsNetName, GateIsInside, LatchIsInside}
 

@@ -8,14 +8,15 @@ use Rattle.std.proofs.lemmas.List.Sums.{sum_by-cons}
 use Rattle.std.proofs.lemmas.List.{length-map}
 use Rattle.std.proofs.lemmas.Bool.Decides.{nat_tests}
 use Rattle.std.proofs.lemmas.Option.{slice_get_within, get_or_from_slice_get}
+use Rattle.lists.specs.Lists.{times}
+use Rattle.lists.specs.laws.HasLaws.{times_two, times_some, Has_map, All_has}
+use Rattle.lists.specs.laws.NumberLaws.{nat_eq_or}
+use Rattle.lists.specs.laws.ReadLaws.{get_below, got_at, from_map}
+use Rattle.lists.specs.laws.TestLaws.{one_here, none_here}
 use Rattle.net_core.specs.GateValue.{GateValue}
-use Rattle.net_core.specs.Lists.{times}
 use Rattle.net_core.specs.NetList.{NetList}
 use Rattle.net_core.specs.Level.{Levels}
 use Rattle.net_core.specs.Order.{rank_at, IsBefore, IsOrder, AreKeys}
-use Rattle.graph_core.proofs.ListLemmas.{get_below, got_at}
-use Rattle.net_core.proofs.DriverLemmas.{times_two, times_some, one_here, none_here, from_map, Has_map, All_has}
-use Rattle.net_core.proofs.LevelLemmas.{nat_eq_or}
 
 abbrev second : ℕ × ℕ → ℕ
 second k = k.1

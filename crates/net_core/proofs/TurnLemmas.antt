@@ -6,16 +6,16 @@ use Rattle.std.proofs.lemmas.Nat.{one_shl, pow_below}
 use lib.Bits.{xor_lt}
 use Rattle.net_core.specs.GateValue.{GateValue}
 use Rattle.std.proofs.lemmas.Option.{get_or_from_slice_get}
+use Rattle.lists.specs.Lists.{Has, times}
+use Rattle.lists.specs.laws.HasLaws.{All_has}
+use Rattle.lists.specs.laws.ReadLaws.{get_below}
 use Rattle.net_core.specs.NetList.{NetList, nets}
 use Rattle.net_core.specs.Inside.{IsInside, GateIsInside}
-use Rattle.net_core.specs.Lists.{Has, times}
 use Rattle.net_core.specs.Level.{Levels, level_at, level_over, AreLevels}
 use Rattle.net_core.specs.Levelled.{AllHaveLevels}
 use Rattle.net_core.specs.Sound.{IsSound, Needs, sources}
 use Rattle.net_core.specs.Turned.{turned_gate, turned_gates, turned}
-use Rattle.graph_core.proofs.ListLemmas.{get_below}
 use Rattle.graph_core.proofs.LoopLemmas.{cycle_weaker}
-use Rattle.net_core.proofs.DriverLemmas.{All_has}
 
 pub bit_is : (index : ℕ) → index < 64 → 1 * 2 ^ index % 2 ^ 64 ≡ 2 ^ index
 bit_is index less = one_shl index 64 less

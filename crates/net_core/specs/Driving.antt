@@ -1,12 +1,12 @@
 -- The graph of a net list. Source: this project's own.
 use Rattle.std.specs.Prelude.{◌≡◌, ℕ, List, [], ◌++◌, length, map}
+use Rattle.lists.specs.Lists.{Has}
 use Rattle.graph_core.specs.Graph.{Graph, edges}
 use Rattle.graph_core.specs.declared.fault.CycleFault.{CycleFault}
 use Rattle.graph_core.specs.declared.fault.CycleFault.TheVariants.{Cycle, OutOfMemory}
 use Rattle.net_core.specs.GateValue.{GateValue}
 use Rattle.net_core.specs.NetList.{NetList, nets}
 use Rattle.net_core.specs.Sound.{sources}
-use Rattle.net_core.specs.Lists.{Has}
 use Rattle.net_core.specs.Loop.{IsLoop}
 
 -- each net that a gate drives leads to the gate's inputs, and a source leads nowhere

@@ -21,3 +21,8 @@ Finishes net (Err (Loop loop label)) = HasOneDriverEach net × IsLoop net loop �
 Finishes net (Err OutOfMemory) = Unit {0}
 Finishes net (Err TooManyNets) = ⊥
 Finishes net (Err TooManyGates) = ⊥
+
+-- what comes of the net list, out of memory left out
+abbrev pub Settles : NetList → Result NetList NetFault → Type 0
+Settles net (Err OutOfMemory) = ⊥
+Settles net outcome = Finishes net outcome

@@ -1,6 +1,6 @@
 -- Levels of nets. Source: this project's own; in other words the lengths of the longest paths of gates from sources.
 use Rattle.std.specs.Prelude.{◌≡◌, ℕ, ◌+◌, max, List, [], ◌∷◌, Option, None, Some, slice_get, length, unwrap_or, option_and_then}
-use Rattle.net_core.specs.Lists.{Has}
+use Rattle.lists.specs.Lists.{Has}
 use Rattle.net_core.specs.Sound.{sources}
 use Rattle.net_core.specs.GateValue.{GateValue}
 use Rattle.net_core.specs.NetList.{NetList, nets}

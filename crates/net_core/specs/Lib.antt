@@ -3,7 +3,6 @@ pub mod LatchValue
 pub mod NetList
 pub mod Inside
 pub mod KeyedHash
-pub mod Lists
 pub mod Sound
 pub mod Level
 pub mod Order

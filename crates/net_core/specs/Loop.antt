@@ -1,9 +1,9 @@
 -- The list of nets that is named where gates drive each other in a cycle. Source: this project's own.
 use Rattle.std.specs.Prelude.{◌≡◌, ℕ, ◌<◌, List, Some, slice_get}
+use Rattle.lists.specs.Lists.{Has}
 use Rattle.net_core.specs.GateValue.{GateValue}
 use Rattle.net_core.specs.NetList.{NetList}
 use Rattle.net_core.specs.Sound.{sources}
-use Rattle.net_core.specs.Lists.{Has}
 use Rattle.graph_core.specs.Walk.{IsLoopBy}
 
 -- A net has a level if it is a source, or if each input of its gate has one. So where gates all of whose inputs

@@ -1,8 +1,8 @@
 -- Levels that were found so far, for the clauses of private functions. Source: this project's own.
 use Rattle.std.specs.Prelude.{◌≡◌, ℕ, List, ◌≤◌, ◌+◌, Option, None, Some, slice_get, length, sum_by}
+use Rattle.lists.specs.Lists.{Has}
 use Rattle.net_core.specs.GateValue.{GateValue}
 use Rattle.net_core.specs.NetList.{NetList, nets}
-use Rattle.net_core.specs.Lists.{Has}
 use Rattle.net_core.specs.Sound.{sources}
 use Rattle.net_core.specs.Level.{Levels, level_at, level_over}
 

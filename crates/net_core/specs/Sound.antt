@@ -1,9 +1,9 @@
 -- Sound nets. Source: the BLIF format of UC Berkeley, whose nets have one driver each.
 use Rattle.std.specs.Prelude.{◌≡◌, ℕ, ◌<◌, List, ◌++◌, map}
+use Rattle.lists.specs.Lists.{Has, times}
 use Rattle.net_core.specs.GateValue.{GateValue}
 use Rattle.net_core.specs.NetList.{NetList, nets}
 use Rattle.net_core.specs.Inside.{IsInside}
-use Rattle.net_core.specs.Lists.{Has, times}
 use Rattle.graph_core.specs.Walk.{IsCycleBy}
 
 -- the primary inputs and the outputs of latches

@@ -3,17 +3,18 @@ use Rattle.std.proofs.Common.{◌≡◌, refl, subst, ℕ, zero, suc, ◌<◌, �
 use Rattle.std.specs.Prelude.{All, unwrap_or, nat_le}
 use Rattle.std.proofs.lemmas.List.{length-append, length-map}
 use Rattle.std.proofs.lemmas.List.Elements.{All-append, All-weaker}
-use Rattle.net_core.specs.NetList.{NetList, nets}
 use Rattle.net_core.specs.GateValue.{GateValue}
+use Rattle.net_core.proofs.DriverLemmas.{DriveNets}
 use Rattle.net_core.specs.declared.latch.Start.{Start}
 use Rattle.net_core.specs.declared.fault.NetFault.TheVariants as faults
 use Rattle.std.specs.Option.{option_map_or}
+use Rattle.outcome.specs.Steps.{on_value}
 use Rattle.net_blif.specs.Statement.{Token}
 use Rattle.net_blif.specs.Design.{ModelValue, items_of, model_named}
 use Rattle.net_flat.specs.Paths.{inner, label_of, path_in, same_path, top, Path, Scope}
 use Rattle.net_flat.specs.Steps.{along, steps_of, Step, Mention, Input, Output, Gate, Latch, Enter}
 use Rattle.net_flat.specs.Walk.{body_in, is_top, lines_in, next_number, steps_in, walk_of, walk_within}
-use Rattle.net_flat.specs.Flat.{after_step, gate_on, latch_on, net_list, nothing, number, on_value, place_from, walked, was_mentioned, Flat}
+use Rattle.net_flat.specs.Flat.{after_step, gate_on, latch_on, net_list, nothing, number, place_from, walked, was_mentioned, Flat}
 use Rattle.net_flat.specs.declared.flat_fault.FlatFault.{FlatFault}
 use Rattle.net_flat.specs.declared.flat_fault.FlatFault.TheVariants.{Net, TooManyInstances}
 use Rattle.net_blif.specs.declared.item.Item.{Item}
@@ -22,10 +23,6 @@ use Rattle.net_blif.specs.declared.item.Item.TheVariants as items
 -- gates drive nets below a bound
 abbrev pub DriveBelow : ℕ → List GateValue → Type 0
 DriveBelow n gates = All (λ (g : GateValue). g.out < n) gates
-
--- gates drive nets that exist
-abbrev pub DriveNets : NetList → Type 0
-DriveNets net = DriveBelow (nets net) net.gates
 
 -- something was mentioned, and gates drive what was
 record Drives (flat : Flat) : Type 0 where

@@ -4,9 +4,10 @@ use Rattle.net_core.specs.NetList.{NetList, empty}
 use Rattle.net_core.specs.Finish.{Finishes}
 use Rattle.net_core.specs.declared.fault.NetFault.{NetFault}
 use Rattle.net_core.specs.declared.fault.NetFault.TheVariants as faults
+use Rattle.net_core.proofs.SettleLemmas.{settles}
 use Rattle.net_blif.specs.Design.{ModelValue}
 use Rattle.net_flat.specs.Walk.{walk_of}
-use Rattle.net_flat.specs.Flat.{net_list, nothing, walked, Flat, Flattens, Settles}
+use Rattle.net_flat.specs.Flat.{net_list, nothing, walked, Flat, Flattens}
 use Rattle.net_flat.specs.private.LocalWalk.{local_within, state_with, InTop, IsFaultOf, IsWalked, State}
 use Rattle.net_flat.specs.declared.flat_fault.FlatFault.{FlatFault}
 use Rattle.net_flat.specs.declared.flat_fault.FlatFault.TheVariants.{Net, OutOfMemory}
@@ -37,14 +38,6 @@ flattens design model net made walk finished =
     let flat = flat_made (walked nothing (walk_of design model)) (ended design model) net (walk_same design model) walk in
     let P : NetList → Type 0 = λ n. Finishes n (Ok made) in
     (flat.0, sym flat.1, subst P (sym flat.2) finished)
-
-settles : (net : NetList) (fault : NetFault) → ¬ (fault ≡ faults.OutOfMemory) → Finishes net (Err fault) → Settles net (Err fault)
-settles net faults.TooManyNets other h = h
-settles net faults.TooManyGates other h = h
-settles net (faults.DrivenTwice n label) other h = h
-settles net (faults.Undriven n label) other h = h
-settles net (faults.Loop loop label) other h = h
-settles net faults.OutOfMemory other h = absurd (other refl)
 
 -- what comes of a net list that is not sound
 pub unsound : (design : List ModelValue) (model : ℕ) (net : NetList) (refusal : NetFault) (fault : FlatFault) → IsWalked (ended design model) net → Finishes net (Err refusal) → ((refusal ≡ faults.OutOfMemory) × (fault ≡ OutOfMemory)) ⊎ (¬ (refusal ≡ faults.OutOfMemory) × (fault ≡ Net refusal)) → (fault ≡ OutOfMemory) ⊎ Flattens design model (Err fault)

@@ -2,6 +2,7 @@
 use Rattle.std.proofs.Common.{◌≡◌, inl, inr, ap, refl, ℕ, zero, suc, ◌≤◌, ◌+◌, ◌^◌, Bool, true, false, cond, List, [], ◌∷◌, ◌++◌, length, Option, None, Some, Result, Ok, Err, arith}
 use Rattle.std.specs.Prelude.{nat_le}
 use Rattle.std.specs.Option.{option_map_or}
+use Rattle.outcome.specs.Steps.{on_value}
 use Rattle.net_core.specs.NetList.{nets, with_gate, with_latch}
 use Rattle.net_core.specs.declared.fault.NetFault.TheVariants as faults
 use Rattle.net_blif.specs.Design.{ModelValue, items_of, model_named}
@@ -10,7 +11,6 @@ use Rattle.net_blif.specs.declared.item.Item.{Item}
 use Rattle.net_blif.specs.declared.item.Item.TheVariants as items
 use Rattle.net_flat.specs.Steps.{steps_of, Step, Mention, Input, Output, Gate, Latch, Enter}
 use Rattle.net_flat.specs.Walk.{next_number}
-use Rattle.net_flat.specs.Flat.{on_value}
 use Rattle.net_flat.specs.private.LocalWalk.{back_to, entered, is_in_top, local_body, local_gate, local_latch, local_line, local_lines, local_step, local_walked, local_within, number_in, on_net, state_with, State}
 use Rattle.net_flat.specs.declared.flat_fault.FlatFault.{FlatFault}
 use Rattle.net_flat.specs.declared.flat_fault.FlatFault.TheVariants.{Net, TooManyInstances}

@@ -8,3 +8,12 @@ pub mod DriveLemmas
 pub mod FlatLemmas
 pub mod FlatDetermined
 mod Examples
+pub mod LiftLemmas
+pub mod DepthLemmas
+pub mod InWalkLemmas
+pub mod GrownLemmas
+pub mod NamedLemmas
+pub mod SideLemmas
+pub mod LatchLemmas
+pub mod PartLemmas
+mod PartExamples

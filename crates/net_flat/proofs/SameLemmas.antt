@@ -4,6 +4,7 @@ use Rattle.std.specs.Prelude.{unwrap_or, codes}
 use Rattle.std.specs.Option.{option_map_or}
 use Rattle.std.specs.Fmt.{decimal}
 use Rattle.std.specs.Str.{bytes_eq}
+use Rattle.outcome.specs.Steps.{on_value}
 use Rattle.net_core.specs.NetList.{NetList, empty}
 use Rattle.net_blif.specs.Statement.{Token}
 use Rattle.net_blif.specs.Connection.{actual_of, formal_of}
@@ -13,7 +14,7 @@ use Rattle.net_blif.specs.declared.item.Item.TheVariants as items
 use Rattle.net_flat.specs.Paths.{connected, inner, path_among, path_in, same_path, top, At, Path, Scope}
 use Rattle.net_flat.specs.Steps.{actual_steps, along, steps_of, Step, Enter}
 use Rattle.net_flat.specs.Walk.{body_in, is_top, lines_in, next_number, steps_in, walk_of, walk_within}
-use Rattle.net_flat.specs.Flat.{after_step, net_list, nothing, on_value, place_from, walked, walked_by, Flat}
+use Rattle.net_flat.specs.Flat.{after_step, net_list, nothing, place_from, walked, walked_by, Flat}
 use Rattle.net_flat.specs.private.LocalWalk.{back_to, entered, found_by, is_in_top, local_body, local_line, local_lines, local_walked, local_within, number_in, numbers_of, state_with, InTop, Inside, Local, State}
 use Rattle.net_flat.specs.declared.flat_fault.FlatFault.{FlatFault}
 use Rattle.net_flat.proofs.PathLemmas.{each_append, each_weaker, next_same, no_longer, none_among, path_other, place_kept, place_named, place_past, prefix_push, Each}

@@ -7,6 +7,7 @@ use Rattle.std.proofs.lemmas.List.{length-append, map_push}
 use Rattle.std.proofs.lemmas.List.Elements.{All-append, All-map}
 use Rattle.std.proofs.lemmas.Slice.Eq.{bytes_eq-Decides}
 use Rattle.std.proofs.Math.Seq.{take-suc}
+use Rattle.outcome.specs.Steps.{on_value}
 use Rattle.net_core.specs.NetList.{NetList, nets, number_of, with_gate, with_latch, with_label}
 use Rattle.net_core.specs.Inside.{HasNoMoreGates}
 use Rattle.net_core.specs.declared.latch.Start.{Start}
@@ -16,7 +17,6 @@ use Rattle.net_core.proofs.NameLemmas.{number_kept, number_below}
 use Rattle.net_blif.specs.Statement.{Token}
 use Rattle.net_blif.specs.Table.{with_number, Numbers}
 use Rattle.net_flat.specs.Steps.{gate_steps, latch_steps, Step, Mention, Gate, Latch}
-use Rattle.net_flat.specs.Flat.{on_value}
 use Rattle.net_flat.specs.private.LocalWalk.{found, found_by, local_gate, local_latch, local_step, local_walked, local_with, net_with, number_in, on_net, state_with, with_new, AreInside, HasEach, InTop, Inside, IsFaultOf, Local, State}
 use Rattle.net_flat.specs.declared.flat_fault.FlatFault.{FlatFault}
 use Rattle.net_flat.specs.declared.flat_fault.FlatFault.TheVariants.{Net, OutOfMemory}

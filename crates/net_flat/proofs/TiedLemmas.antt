@@ -4,6 +4,7 @@ use Rattle.std.specs.Prelude.{is_some, unwrap_or, nat_le}
 use Rattle.std.specs.Str.{bytes_eq}
 use Rattle.std.proofs.lemmas.List.{length-map, map_push}
 use Rattle.std.proofs.lemmas.Slice.Eq.{bytes_eq-Decides}
+use Rattle.outcome.specs.Steps.{on_value}
 use Rattle.net_core.specs.NetList.{NetList, nets, number_from, with_gate, with_latch}
 use Rattle.net_core.specs.declared.fault.NetFault.TheVariants as faults
 use Rattle.net_blif.specs.Statement.{Token}
@@ -11,7 +12,7 @@ use Rattle.net_blif.specs.Table.{Numbers}
 use Rattle.net_flat.specs.Paths.{label_of, path_in, prefix_of, same_path, At, Path, Scope}
 use Rattle.net_flat.specs.Steps.{along, Step, Mention, Input, Output, Gate, Latch, Enter}
 use Rattle.net_flat.specs.Walk.{is_top}
-use Rattle.net_flat.specs.Flat.{after_step, gate_on, latch_on, net_list, number, on_value, place_from, walked, Flat}
+use Rattle.net_flat.specs.Flat.{after_step, gate_on, latch_on, net_list, number, place_from, walked, Flat}
 use Rattle.net_flat.specs.private.LocalWalk.{found_by, is_in_top, local_gate, local_latch, local_step, local_walked, local_with, net_with, number_in, on_net, prefix_in, state_with, with_new, InTop, Inside, Local, State}
 use Rattle.net_flat.specs.declared.flat_fault.FlatFault.{FlatFault}
 use Rattle.net_flat.specs.declared.flat_fault.FlatFault.TheVariants.{Net, TooManyInstances}

@@ -1,12 +1,12 @@
 -- The net of a model: what its walk meets, in order. Source: the Berkeley Logic Interchange Format (BLIF), University of California, Berkeley.
 use Rattle.std.specs.Prelude.{ℕ, ◌+◌, ◌^◌, nat_le, Bool, List, [], ◌∷◌, ◌++◌, map, length, Option, None, Some, is_some, unwrap_or, Result, Ok, Err, if◌then◌else◌}
-use Rattle.text_core.specs.Outcome.{Outcome, ◌>>=◌, Within, Returns}
+use Rattle.outcome.specs.Outcome.{Outcome, ◌>>=◌, Within, Returns}
+use Rattle.outcome.specs.Steps.{on_value}
 use Rattle.net_core.specs.NetList.{NetList}
 use Rattle.net_core.specs.GateValue.{GateValue}
 use Rattle.net_core.specs.LatchValue.{LatchValue}
-use Rattle.net_core.specs.Finish.{Finishes}
+use Rattle.net_core.specs.Finish.{Settles}
 use Rattle.net_core.specs.declared.latch.Start.{Start}
-use Rattle.net_core.specs.declared.fault.NetFault.{NetFault}
 use Rattle.net_core.specs.declared.fault.NetFault.TheVariants as nets
 use Rattle.net_blif.specs.Design.{ModelValue}
 use Rattle.net_flat.specs.Paths.{label_of, same_path, Path}
@@ -64,11 +64,6 @@ after_step flat Enter =
     if nat_le (2 ^ 20) flat.instances then Err TooManyInstances
     else Ok (record flat { instances = flat.instances + 1 })
 
--- what a further step makes of a value, where there is one
-abbrev pub on_value : {F A B : Type 0} → (A → Result B F) → Result A F → Result B F
-on_value further (Ok a) = further a
-on_value further (Err e) = Err e
-
 -- one step after another
 abbrev pub walked_by : {S N F : Type 0} → (S → Step N → Result S F) → S → List (Step N) → Result S F
 walked_by after state [] = Ok state
@@ -81,11 +76,6 @@ walked flat steps = walked_by after_step flat steps
 -- the net list of what was met
 abbrev pub net_list : Flat → NetList
 net_list flat = record { labels = map label_of flat.paths; inputs = flat.inputs; outputs = flat.outputs; gates = flat.gates; latches = flat.latches }
-
--- what comes of the net list, out of memory left out
-abbrev pub Settles : NetList → Outcome NetFault NetList
-Settles net (Err nets.OutOfMemory) = ⊥
-Settles net outcome = Finishes net outcome
 
 -- The net of a model: its walk, and then whether the net is sound.
 abbrev pub Flattens : List ModelValue → ℕ → Outcome FlatFault NetList

@@ -3,7 +3,7 @@ use Rattle.std.proofs.Common.{◌≡◌, ◌∙◌, ap, sym, refl, subst, ℕ, L
 use Rattle.std.proofs.lemmas.Bool.{true≢false}
 use Rattle.std.specs.List.{list_any}
 use Rattle.std.specs.Str.{bytes_eq}
-use Rattle.text_core.specs.Outcome.{Returns}
+use Rattle.outcome.specs.Outcome.{Returns}
 use Rattle.net_signature.specs.Lines.{Line}
 use Rattle.net_signature.specs.Statement.{SaysEntry}
 use Rattle.net_signature.specs.Outcomes.{OrSyntax}

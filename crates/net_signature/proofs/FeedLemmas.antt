@@ -7,7 +7,8 @@ use Rattle.std.proofs.lemmas.Bool.{eqb-true, true≢false}
 use Rattle.std.proofs.lemmas.Bool.Decides.{nat_tests}
 use Rattle.std.proofs.lemmas.Slice.Eq.{bytes_eq-Decides}
 use Rattle.std.proofs.lemmas.Slice.Zip.{AllZip-long}
-use Rattle.graph_core.proofs.GeneralLemmas.{second_true as both_true}
+use Rattle.lists.specs.laws.BoolLaws.{second_true as both_true}
+use Rattle.outcome.specs.Steps.{with_value}
 use Rattle.net_words.specs.Feeds.{AreFeeds, IsSource}
 use Rattle.net_words.specs.Roles.{same_role}
 use Rattle.net_words.specs.declared.feed.Source.{Source}
@@ -20,7 +21,7 @@ use Rattle.net_words.proofs.MemberLemmas.{any_has}
 use Rattle.net_signature.specs.Lines.{Token, Line, end_from}
 use Rattle.net_signature.specs.Outcomes.{tower_comes}
 use Rattle.net_signature.specs.Statement.{SaysEntry, SaysElement, SaysSource, SaysTower}
-use Rattle.net_signature.specs.Body.{BlockValue, BodyValue, begun, blocks_of, bit_of, block_begun, block_with, body_with, fed_with, fed_word, has_feeds, is_fed, is_feed_of, may_stand, next, on_value, Reads, source_of, with_feed, with_word, word_may_stand}
+use Rattle.net_signature.specs.Body.{BlockValue, BodyValue, begun, blocks_of, bit_of, block_begun, block_with, body_with, fed_with, fed_word, has_feeds, is_fed, is_feed_of, may_stand, next, Reads, source_of, with_feed, with_word, word_may_stand}
 use Rattle.net_signature.specs.Signature.{SignatureValue, Sig, TowerIf}
 use Rattle.net_signature.specs.declared.entry.Entry.{Entry}
 use Rattle.net_signature.specs.declared.entry.Entry.TheVariants.{Word, Feed, Block}
@@ -40,7 +41,7 @@ AreBody words feeds = AreFeeds 64 (roles words) feeds
 abbrev AreOf : BodyValue → Type 0
 AreOf body = AreBody body.words body.feeds
 
-value_of : {F A B : Type 0} (f : A → B) (r : Result A F) (b : B) → ◌≡◌ {A = Result B F} (Ok b) (on_value f r) → (a : A) × (◌≡◌ {A = Result A F} (Ok a) r) × (b ≡ f a)
+value_of : {F A B : Type 0} (f : A → B) (r : Result A F) (b : B) → ◌≡◌ {A = Result B F} (Ok b) (with_value f r) → (a : A) × (◌≡◌ {A = Result A F} (Ok a) r) × (b ≡ f a)
 value_of f (Ok a) b ok = (a, refl, cc)
 value_of f (Err e) b ok = absurd (cc)
 

@@ -3,6 +3,7 @@ use Rattle.std.proofs.Common.{◌≡◌, inl, inr, sym, refl, subst, ℕ, ◌&&�
 use Rattle.std.specs.Prelude.{nat_le, if◌then◌else◌}
 use Rattle.std.specs.List.{AllByRecursion, list_any}
 use Rattle.std.specs.Str.{bytes_eq}
+use Rattle.outcome.specs.Steps.{with_value}
 use Rattle.net_words.specs.Roles.{input_count, is_output}
 use Rattle.net_words.specs.declared.feed.Source.{Source}
 use Rattle.net_words.specs.declared.feed.FeedText.{FeedText}
@@ -10,7 +11,7 @@ use Rattle.net_words.specs.declared.word.WordText.{WordText}
 use Rattle.net_signature.specs.Lines.{Line, Token, end_from, lines_from}
 use Rattle.net_signature.specs.Outcomes.{Next, first_of, tower_comes}
 use Rattle.net_signature.specs.Statement.{IsNetToken, SaysEntry, SaysField, SaysTower, SaysVersion}
-use Rattle.net_signature.specs.Body.{BlockValue, BodyValue, begun, blocks_of, blocks_whole, blocks_with, bit_of, fed_word, has_feeds, is_feed_of, whole, with_word, on_value, body_with, block_with, with_feed, fed_with, source_of, block_begun, next, Reads}
+use Rattle.net_signature.specs.Body.{BlockValue, BodyValue, begun, blocks_of, blocks_whole, blocks_with, bit_of, fed_word, has_feeds, is_feed_of, whole, with_word, body_with, block_with, with_feed, fed_with, source_of, block_begun, next, Reads}
 use Rattle.net_signature.specs.Signature.{Sig, TowerIf}
 use Rattle.net_signature.specs.declared.entry.Entry.{Entry}
 use Rattle.net_signature.specs.declared.entry.Entry.TheVariants.{Word, Feed, Block}
@@ -41,7 +42,7 @@ joined blocks (Some block) all last = by blocks all
     by [] each = (last, tt)
     by (b ∷ list) each = (each.0, by list each.1)
 
-ok_of : {F A B : Type 0} (f : A → B) (r : Result A F) (b : B) → ◌≡◌ {A = Result B F} (Ok b) (on_value f r) → (a : A) × (◌≡◌ {A = Result A F} (Ok a) r) × (b ≡ f a)
+ok_of : {F A B : Type 0} (f : A → B) (r : Result A F) (b : B) → ◌≡◌ {A = Result B F} (Ok b) (with_value f r) → (a : A) × (◌≡◌ {A = Result A F} (Ok a) r) × (b ≡ f a)
 ok_of f (Ok a) b ok = (a, refl, cc)
 ok_of f (Err e) b ok = absurd (cc)
 
@@ -106,7 +107,7 @@ missing_in words blocks model wrong all =
 
 -- ---- no other step names a model
 
-err_of : {F A B : Type 0} (f : A → B) (r : Result A F) (e : F) → ◌≡◌ {A = Result B F} (Err e) (on_value f r) → ◌≡◌ {A = Result A F} (Err e) r
+err_of : {F A B : Type 0} (f : A → B) (r : Result A F) (e : F) → ◌≡◌ {A = Result B F} (Err e) (with_value f r) → ◌≡◌ {A = Result A F} (Err e) r
 err_of f (Ok a) e wrong = absurd (cc)
 err_of f (Err other) e wrong = let same : e ≡ other = cc in rw same refl
 

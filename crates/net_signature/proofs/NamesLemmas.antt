@@ -5,6 +5,7 @@ use Rattle.std.specs.List.{list_any}
 use Rattle.std.specs.Str.{bytes_eq}
 use Rattle.std.proofs.lemmas.Bool.{true≢false}
 use Rattle.std.proofs.lemmas.Slice.Eq.{bytes_eq-Decides}
+use Rattle.outcome.specs.Steps.{with_value}
 use Rattle.text_core.specs.Names.{IsName}
 use Rattle.net_words.specs.Roles.{is_output, input_count}
 use Rattle.net_words.specs.declared.feed.Source.{Source}
@@ -13,7 +14,7 @@ use Rattle.net_words.specs.declared.word.WordText.{WordText}
 use Rattle.net_words.proofs.MemberLemmas.{any_has}
 use Rattle.net_signature.specs.Lines.{Line}
 use Rattle.net_signature.specs.Statement.{SaysEntry}
-use Rattle.net_signature.specs.Body.{BlockValue, BodyValue, begun, blocks_of, blocks_whole, whole, with_word, on_value, body_with, block_with, with_feed, fed_with, source_of, block_begun, next, Reads}
+use Rattle.net_signature.specs.Body.{BlockValue, BodyValue, begun, blocks_of, blocks_whole, whole, with_word, body_with, block_with, with_feed, fed_with, source_of, block_begun, next, Reads}
 use Rattle.net_signature.specs.Few.{AreFew}
 use Rattle.net_signature.specs.Signature.{SignatureValue, Sig}
 use Rattle.net_signature.specs.WordNames.{HaveNames}
@@ -70,7 +71,7 @@ well_more words word more name ok well =
     let new = word_taken words word more ok in
     record { names = subst HaveNames (sym new.0) (one_more words word well.names name new.1); few = few_more words word more ok well.few }
 
-on_value_ok : {F A B : Type 0} (f : A → B) (r : Result A F) (b : B) → ◌≡◌ {A = Result B F} (Ok b) (on_value f r) → (a : A) × (◌≡◌ {A = Result A F} (Ok a) r) × (b ≡ f a)
+on_value_ok : {F A B : Type 0} (f : A → B) (r : Result A F) (b : B) → ◌≡◌ {A = Result B F} (Ok b) (with_value f r) → (a : A) × (◌≡◌ {A = Result A F} (Ok a) r) × (b ≡ f a)
 on_value_ok f (Ok a) b ok = (a, refl, cc)
 on_value_ok f (Err e) b ok = absurd (cc)
 

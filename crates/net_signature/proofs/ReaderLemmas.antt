@@ -2,7 +2,7 @@
 use Rattle.std.proofs.Common.{◌≡◌, inl, inr, ap, sym, refl, subst, ℕ, ◌<◌, ◌≤◌, ◌^◌, ◌-◌, List, [], ◌∷◌, length, map, get_or, take, drop, arith, Result, Ok, Err, codes}
 use Rattle.std.proofs.Math.Seq.{take-length}
 use Rattle.std.specs.List.{AllZip}
-use Rattle.text_core.specs.Outcome.{Outcome, ◌>>=◌, Exactly, Returns}
+use Rattle.outcome.specs.Outcome.{Outcome, ◌>>=◌, Exactly, Returns}
 use Rattle.text_core.specs.Numbers.{IsHex}
 use Rattle.net_signature.specs.Lines.{Token, Line}
 use Rattle.net_signature.specs.Statement.{SaysField, SaysTower, SaysElement}

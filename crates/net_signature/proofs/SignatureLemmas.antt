@@ -1,6 +1,6 @@
 -- The parts of a signature, one after another.
 use Rattle.std.proofs.Common.{ℕ, List, Result, Ok, Err}
-use Rattle.text_core.specs.Outcome.{Outcome, ◌>>=◌}
+use Rattle.outcome.specs.Outcome.{Outcome, ◌>>=◌}
 use Rattle.net_signature.specs.Lines.{Line}
 use Rattle.net_signature.specs.Statement.{SaysVersion, SaysField}
 use Rattle.net_signature.specs.Outcomes.{Next}

@@ -2,7 +2,8 @@
 use Rattle.std.specs.Prelude.{ℕ, ◌+◌, ◌==◌, ◌&&◌, ◌||◌, nat_le, not, Bool, true, false, IsTrue, List, [], ◌∷◌, ◌++◌, length, Option, None, Some, is_none, Result, Ok, Err, if◌then◌else◌}
 use Rattle.std.specs.List.{list_any}
 use Rattle.std.specs.Str.{bytes_eq}
-use Rattle.text_core.specs.Outcome.{Outcome, ◌>>=◌, Exactly, Returns}
+use Rattle.outcome.specs.Outcome.{Outcome, ◌>>=◌, Exactly, Returns}
+use Rattle.outcome.specs.Steps.{with_value}
 use Rattle.net_words.specs.Roles.{same_role, is_output, input_count}
 use Rattle.net_words.specs.declared.word.Role.TheVariants as role
 use Rattle.net_words.specs.declared.word.WordText.{WordText}
@@ -73,19 +74,14 @@ with_word words word =
     else if not (is_output word) && nat_le 8 (input_count words) then Err (TooManyWords word.line)
     else Ok (words ++ word ∷ [])
 
--- what a function makes of a value, where there is one
-abbrev pub on_value : {F A B : Type 0} → (A → B) → Result A F → Result B F
-on_value f (Ok a) = Ok (f a)
-on_value f (Err e) = Err e
-
 -- a block with one more word
 abbrev pub block_with : BlockValue → WordText → Result BlockValue SigFault
-block_with block word = on_value (λ (words : List WordText). record block { words = words }) (with_word block.words word)
+block_with block word = with_value (λ (words : List WordText). record block { words = words }) (with_word block.words word)
 
 -- with one more word of the top, or of the block being read
 abbrev pub body_with : BodyValue → Option BlockValue → WordText → Result BodyValue SigFault
-body_with body None word = on_value (λ (words : List WordText). record body { words = words }) (with_word body.words word)
-body_with body (Some block) word = on_value (λ (more : BlockValue). record body { block = Some more }) (block_with block word)
+body_with body None word = with_value (λ (words : List WordText). record body { words = words }) (with_word body.words word)
+body_with body (Some block) word = with_value (λ (more : BlockValue). record body { block = Some more }) (block_with block word)
 
 -- the number of the first fed word of this name, where the words are numbered from n
 abbrev pub fed_word : ℕ → List WordText → List ℕ → Option ℕ
@@ -114,7 +110,7 @@ with_feed feeds feed = if list_any (is_feed_of feed.net feed.cycle) feeds then E
 -- with a feed from this source, if there is one
 abbrev pub fed_with : BodyValue → ℕ → FeedLine → Result Source SigFault → Result BodyValue SigFault
 fed_with body line feed (Err fault) = Err fault
-fed_with body line feed (Ok from) = on_value (λ (feeds : List FeedText). record body { feeds = feeds }) (with_feed body.feeds (record { line = line; net = feed.net; cycle = feed.cycle; source = from }))
+fed_with body line feed (Ok from) = with_value (λ (feeds : List FeedText). record body { feeds = feeds }) (with_feed body.feeds (record { line = line; net = feed.net; cycle = feed.cycle; source = from }))
 
 -- a block of this model begins, if no other is of it
 abbrev pub block_begun : BodyValue → ℕ → List ℕ → Result BodyValue SigFault

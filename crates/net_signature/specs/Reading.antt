@@ -1,7 +1,7 @@
 -- What is left of a text that is being read. Source: this project's own.
 use Rattle.std.specs.Prelude.{ℕ, List, map, Option, None, Some, Result}
-use Rattle.text_core.specs.Outcome.{Outcome}
-use Rattle.text_core.specs.Outcome as outcomes
+use Rattle.outcome.specs.Outcome.{Outcome}
+use Rattle.outcome.specs.Outcome as outcomes
 use Rattle.net_signature.specs.declared.fault.SigFault.{SigFault}
 use Rattle.net_signature.specs.declared.fault.SigFault.TheVariants.{OutOfMemory}
 use Rattle.net_signature.specs.Lines.{Line, lines_from, end_from}

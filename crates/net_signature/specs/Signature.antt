@@ -1,6 +1,6 @@
 -- What a text says as a signature, or its first fault. Source: this project's own format, docs/FORMATS.md.
 use Rattle.std.specs.Prelude.{ℕ, ◌&&◌, Bool, true, false, List, []}
-use Rattle.text_core.specs.Outcome.{Outcome, ◌>>=◌, Exactly, Returns}
+use Rattle.outcome.specs.Outcome.{Outcome, ◌>>=◌, Exactly, Returns}
 use Rattle.net_words.specs.declared.word.WordText.{WordText}
 use Rattle.net_words.specs.declared.feed.FeedText.{FeedText}
 use Rattle.net_signature.specs.Lines.{Line, lines_from, end_from}

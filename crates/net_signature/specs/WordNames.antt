@@ -1,7 +1,7 @@
 -- The names of a signature's words. Source: this project's own format, docs/FORMATS.md.
 use Rattle.std.specs.Prelude.{◌≡◌, ℕ, List, Some, slice_get}
+use Rattle.lists.specs.Lists.{Has}
 use Rattle.text_core.specs.Names.{IsName}
-use Rattle.net_core.specs.Lists.{Has}
 use Rattle.net_words.specs.declared.word.WordText.{WordText}
 
 -- each word has a name, and no two have the same

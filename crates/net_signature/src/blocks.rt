@@ -2,7 +2,7 @@
 ghost use Rattle.std.specs.Prelude.{◌≡◌, ◌++◌, ◌∷◌, [], IfOk};
 ghost use Rattle.std.specs.List.{list_any};
 ghost use Rattle.std.specs.Str.{bytes_eq};
-ghost use Rattle.text_core.specs.Outcome.{Returns};
+ghost use Rattle.outcome.specs.Outcome.{Returns};
 ghost use Rattle.net_signature.specs.Body.{block_with};
 ghost use Rattle.net_signature.specs.Reading.{Fits};
 
@@ -16,7 +16,7 @@ use std::alloc::{AllocError, Global};
 use std::marker::Model;
 
 /// A block: the words of a model. Contracts see its model and its words.
-#[derive(Debug, Drop)]
+#[derive(Drop)]
 pub struct Block {
     model: Name,
     words: Vec<WordText>,

@@ -1,6 +1,6 @@
 //! What was read of the lines after the field and the towers.
 ghost use Rattle.std.specs.Prelude.{◌≡◌, ◌≤◌, length, Some, None, IfOk};
-ghost use Rattle.text_core.specs.Outcome.{Returns};
+ghost use Rattle.outcome.specs.Outcome.{Returns};
 ghost use Rattle.net_signature.specs.Body.{begun, blocks_of, blocks_with, may_stand as may_stand_here, word_may_stand as word_may_stand_here, body_with, block_begun, fed_with, source_of as source_in, fed_word as fed_word_from, next as next_body, SaysHere, ReadsLine};
 ghost use Rattle.net_signature.specs.private.Seen.{IsFeedWithin};
 ghost use Rattle.net_signature.specs.Reading.{Fits, line_of};

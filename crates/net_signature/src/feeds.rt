@@ -1,7 +1,7 @@
 //! Feeds, one after another.
 ghost use Rattle.std.specs.Prelude.{◌≡◌, ◌≤◌, ◌==◌, [], length, string_bytes, IfOk};
 ghost use Rattle.std.specs.List.{list_any};
-ghost use Rattle.text_core.specs.Outcome.{Returns};
+ghost use Rattle.outcome.specs.Outcome.{Returns};
 ghost use Rattle.net_signature.specs.Body.{is_feed_of, with_feed as feeds_with};
 ghost use Rattle.net_signature.specs.private.Seen.{feed_key};
 ghost use Rattle.net_signature.specs.Reading.{Fits};

@@ -1,6 +1,6 @@
 //! Laws of signatures. These functions do nothing: their contracts are proved of the definitions alone.
 ghost use Rattle.std.specs.Prelude.{◌≡◌, List, length, map, Ok, Err, Some, ℕ};
-ghost use Rattle.text_core.specs.Outcome.{Determined};
+ghost use Rattle.outcome.specs.Outcome.{Determined};
 ghost use Rattle.net_words.specs.Feeds.{AreFeeds};
 ghost use Rattle.net_signature.specs.Signature.{Sig, SignatureValue};
 ghost use Rattle.net_signature.specs.Statement.{IsNetToken};

@@ -7,7 +7,7 @@ use std::alloc::Global;
 use text_core::{before_comment, next_line, tokens};
 
 /// A line with tokens, by its number from 1.
-#[derive(Debug, Drop)]
+#[derive(Drop)]
 pub struct Statement<'a> {
     pub number: u32,
     pub tokens: Vec<&'a [u8]>,
@@ -25,7 +25,7 @@ pub struct Lines<'a> {
 impl<'a> Lines<'a> {
     ghost use Rattle.net_signature.specs.Reading.{Fits, left, end_of, line_of};
     ghost use Rattle.net_signature.specs.Outcomes.{first_of};
-    ghost use Rattle.text_core.specs.Outcome.{Returns};
+    ghost use Rattle.outcome.specs.Outcome.{Returns};
     ghost use Rattle.net_signature.specs.Lines.{lines_from, end_from};
 
     /// The lines of a text of at most 67,108,864 bytes.

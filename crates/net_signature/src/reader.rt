@@ -1,6 +1,6 @@
 //! The reader of signatures.
 ghost use Rattle.std.specs.Prelude.{◌≤◌, length};
-ghost use Rattle.text_core.specs.Outcome.{Returns};
+ghost use Rattle.outcome.specs.Outcome.{Returns};
 ghost use Rattle.net_signature.specs.Body.{begun, Reads, blocks_whole, whole as whole_parts};
 ghost use Rattle.net_signature.specs.Signature.{SignatureOf, Sig, WholeSignature};
 ghost use Rattle.net_signature.specs.Reading.{Fits, left, end_of};

@@ -7,7 +7,7 @@ use net_words::{FeedText, WordText};
 use std::marker::Model;
 
 /// A field, words with their bases and nets, feeds, and blocks. Contracts see its parts.
-#[derive(Debug, Drop)]
+#[derive(Drop)]
 pub struct Signature {
     modulus: u128,
     tower: Numbers<u64>,

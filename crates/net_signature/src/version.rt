@@ -1,7 +1,7 @@
 //! The version of a text.
 
 /// Which forms a text may have.
-#[derive(Clone, Copy, Debug, PartialEq, Eq)]
+#[derive(Clone, Copy)]
 pub enum Version {
     /// Words that are held in every cycle.
     One,

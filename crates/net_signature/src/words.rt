@@ -2,7 +2,7 @@
 ghost use Rattle.std.specs.Prelude.{◌≡◌};
 ghost use Rattle.std.specs.List.{list_any};
 ghost use Rattle.std.specs.Str.{bytes_eq};
-ghost use Rattle.text_core.specs.Outcome.{Returns};
+ghost use Rattle.outcome.specs.Outcome.{Returns};
 ghost use Rattle.net_words.specs.Roles.{is_output as is_output_word, input_count as count_inputs};
 ghost use Rattle.net_signature.specs.Body.{with_word as words_with, is_fed as is_fed_word};
 ghost use Rattle.net_signature.specs.Reading.{Fits};

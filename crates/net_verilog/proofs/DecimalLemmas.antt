@@ -3,8 +3,8 @@ use Rattle.std.proofs.Common.{◌≡◌, refl, inl, ℕ, zero, suc, ◌<◌, ◌
 use Rattle.std.specs.Prelude.{nat_le, if◌then◌else◌}
 use Rattle.std.specs.List.{list_all}
 use Rattle.std.proofs.lemmas.Bool.{leb-true, lt-ltb, ltb-true}
+use Rattle.lists.specs.laws.BoolLaws.{first_true as one, second_true as other}
 use Rattle.text_core.specs.Numbers.{IsDecimal, IsDigit, value_of}
-use Rattle.graph_core.proofs.GeneralLemmas.{first_true as one, second_true as other}
 use Rattle.net_verilog.specs.Bytes.{is_digit}
 use Rattle.net_verilog.specs.Words.{is_decimal}
 use Rattle.net_verilog.specs.private.Decimals.{short}

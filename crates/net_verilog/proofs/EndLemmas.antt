@@ -1,11 +1,12 @@
 -- Ends of operators and groups in the reader of expressions.
 use Rattle.std.proofs.Common.{◌≡◌, ◌∙◌, inl, inr, ap, sym, refl, subst, ℕ, ◌+◌, ◌-◌, ◌≤◌, false, List, [], ◌∷◌, Ok, Err, Some, max, arith}
+use Rattle.outcome.specs.Steps.{on_value}
 use Rattle.net_core.specs.NetList.{NetList}
 use Rattle.net_core.specs.declared.fault.NetFault.{NetFault}
 use Rattle.net_verilog.specs.Tokens.{TokenValue}
 use Rattle.net_verilog.specs.Words.{next_of}
 use Rattle.net_verilog.specs.Tree.{Tree, Group, Binary, IsWell, level, nesting, looseness, Spells, Cut, InGroup, InRight, AreWell, allowed, depth, Begins}
-use Rattle.net_verilog.specs.Made.{on_value, made, settled, opened}
+use Rattle.net_verilog.specs.Made.{made, settled, opened}
 use Rattle.net_verilog.specs.Expression.{Expression, binding_at, continues, group_fault}
 use Rattle.net_verilog.specs.Declarations.{Declarations}
 use Rattle.net_verilog.specs.declared.operator.Operator.{Operator}

@@ -1,13 +1,14 @@
 -- At most one outcome comes of an expression.
 use Rattle.std.proofs.Common.{◌≡◌, ◌∙◌, ap, inl, inr, sym, refl, subst, ℕ, ◌-◌, ◌<◌, ◌≤◌, Bool, true, false, List, [], ◌∷◌, Option, None, Some, Ok, Err, arith}
 use Rattle.std.specs.Prelude.{nat_le, unwrap_or, if◌then◌else◌}
-use Rattle.text_core.specs.Outcome.{Determined}
+use Rattle.outcome.specs.Outcome.{Determined}
+use Rattle.outcome.specs.Steps.{on_value}
 use Rattle.net_core.specs.NetList.{NetList}
 use Rattle.net_verilog.specs.Tokens.{TokenValue}
 use Rattle.net_verilog.specs.Words.{start_of, next_of, wrong}
 use Rattle.net_verilog.specs.Targets.{Answer, target_of}
 use Rattle.net_verilog.specs.Tree.{Tree, looseness, Spells, Cut, InGroup, InNot, InRight, AreWell, depth, Begins}
-use Rattle.net_verilog.specs.Made.{on_value, Making, made, opened, settled}
+use Rattle.net_verilog.specs.Made.{Making, made, opened, settled}
 use Rattle.net_verilog.specs.Expression.{Expression, binding, binding_at, close_fault, continues, goes_on, group_fault, open_fault, operand_fault, start_fault, target_fault}
 use Rattle.net_verilog.specs.Declarations.{Declarations}
 use Rattle.net_verilog.specs.private.Steps.{count_open}

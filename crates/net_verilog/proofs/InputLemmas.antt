@@ -1,6 +1,6 @@
 -- Inputs and instances, as their readers' goals want them.
 use Rattle.std.proofs.Common.{◌≡◌, ◌⊎◌, ◌∙◌, ap, inl, inr, sym, ℕ, List, [], ◌∷◌, ◌++◌, Result, Ok, Err}
-use Rattle.text_core.specs.Outcome.{◌>>=◌, Exactly, Returns}
+use Rattle.outcome.specs.Outcome.{◌>>=◌, Exactly, Returns}
 use Rattle.net_core.specs.NetList.{NetList}
 use Rattle.net_verilog.specs.Tokens.{TokenValue}
 use Rattle.net_verilog.specs.Targets.{target_of}

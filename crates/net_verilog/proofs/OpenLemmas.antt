@@ -1,8 +1,9 @@
 -- What the innermost frame says of the innermost cut.
 use Rattle.std.proofs.Common.{◌≡◌, ◌∙◌, ap, refl, subst, ℕ, ◌+◌, List, [], ◌∷◌, Result, Ok, Err}
+use Rattle.outcome.specs.Steps.{on_value}
 use Rattle.net_core.specs.NetList.{NetList}
 use Rattle.net_verilog.specs.Tree.{Tree, Cut, InGroup, InNot, InRight, depth, allowed}
-use Rattle.net_verilog.specs.Made.{on_value, made, settled, opened}
+use Rattle.net_verilog.specs.Made.{made, settled, opened}
 use Rattle.net_verilog.specs.private.Standing.{allows}
 use Rattle.net_verilog.specs.private.Steps.{count_open}
 use Rattle.net_verilog.specs.declared.operator.Operator.{Operator}

@@ -1,9 +1,10 @@
 -- What comes of what is open, where an operator or a `)` ends it.
 use Rattle.std.specs.Prelude.{ℕ, nat_le, List, [], ◌∷◌, Result, Ok, if◌then◌else◌}
+use Rattle.outcome.specs.Steps.{on_value}
 use Rattle.net_core.specs.NetList.{NetList}
 use Rattle.net_core.specs.declared.fault.NetFault.{NetFault}
 use Rattle.net_verilog.specs.Tree.{looseness}
-use Rattle.net_verilog.specs.Made.{on_value, settled}
+use Rattle.net_verilog.specs.Made.{settled}
 use Rattle.net_verilog.specs.declared.operator.Driver.{Driver}
 use Rattle.net_verilog.specs.declared.operator.Driver.TheVariants as drivers
 use Rattle.net_verilog.specs.declared.operator.Frame.{Frame}

@@ -1,6 +1,6 @@
 -- Lists with commas, one after another.
 use Rattle.std.proofs.Common.{◌≡◌, ◌∙◌, ap, inl, inr, sym, refl, subst, ℕ, zero, suc, Bool, true, false, List, Result, Ok, Err}
-use Rattle.text_core.specs.Outcome.{Determined, Exactly, ◌>>=◌}
+use Rattle.outcome.specs.Outcome.{Determined, Exactly, ◌>>=◌}
 use Rattle.net_verilog.specs.Tokens.{TokenValue, is_end}
 use Rattle.net_verilog.specs.declared.kind.Kind.{Kind}
 use Rattle.net_verilog.specs.declared.kind.Kind.TheVariants as kinds

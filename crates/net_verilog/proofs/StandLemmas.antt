@@ -1,12 +1,13 @@
 -- Steps of the reader of expressions.
 use Rattle.std.proofs.Common.{◌≡◌, ◌∙◌, inl, inr, ap, refl, subst, ℕ, ◌+◌, ◌<◌, ◌≤◌, Bool, List, [], ◌∷◌, Ok, Err, Some, arith}
+use Rattle.outcome.specs.Steps.{on_value}
 use Rattle.net_core.specs.NetList.{NetList}
 use Rattle.net_core.specs.declared.fault.NetFault.{NetFault}
 use Rattle.net_verilog.specs.Tokens.{TokenValue}
 use Rattle.net_verilog.specs.Words.{start_of}
 use Rattle.net_verilog.specs.Targets.{target_of}
 use Rattle.net_verilog.specs.Tree.{Tree, Net, Literal, Group, Not, Binary, level, nesting, looseness, Cut, InGroup, InNot, InRight, AreWell, allowed, depth, Begins}
-use Rattle.net_verilog.specs.Made.{on_value, mentioned, settled}
+use Rattle.net_verilog.specs.Made.{mentioned, settled}
 use Rattle.net_verilog.specs.Expression.{Expression, operand_fault}
 use Rattle.net_verilog.specs.private.Steps.{count_open}
 use Rattle.net_verilog.specs.Declarations.{Declarations}

@@ -1,6 +1,6 @@
 -- Assignments. Source: IEEE Std 1364-2005, section 6 and annex A.6.1, in the profile of docs/FORMATS.md.
 use Rattle.std.specs.Prelude.{List, Result, Ok, Err}
-use Rattle.text_core.specs.Outcome.{Outcome, ◌>>=◌, Exactly, Returns}
+use Rattle.outcome.specs.Outcome.{Outcome, ◌>>=◌, Exactly, Returns}
 use Rattle.net_core.specs.NetList.{NetList}
 use Rattle.net_core.specs.declared.fault.NetFault.{NetFault}
 use Rattle.net_verilog.specs.Tokens.{TokenValue}

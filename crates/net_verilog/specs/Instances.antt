@@ -1,11 +1,12 @@
 -- Instances of gates. Source: IEEE Std 1364-2005, section 7 and annex A.3, in the profile of docs/FORMATS.md.
 use Rattle.std.specs.Prelude.{ℕ, zero, suc, ◌+◌, ◌^◌, ◌==◌, ◌&&◌, ◌%◌, ◌/◌, nat_le, nat_lt, not, Bool, false, List, [], ◌∷◌, ◌++◌, length, codes, is_some, Option, None, Some, Result, Ok, Err, if◌then◌else◌}
 use Rattle.std.specs.Str.{bytes_eq}
-use Rattle.text_core.specs.Outcome.{◌>>=◌, Exactly, Returns}
+use Rattle.outcome.specs.Outcome.{◌>>=◌, Exactly, Returns}
+use Rattle.outcome.specs.Steps.{on_value}
 use Rattle.net_core.specs.NetList.{NetList}
 use Rattle.net_verilog.specs.Tokens.{TokenValue}
 use Rattle.net_verilog.specs.Targets.{name_kind, target_of}
-use Rattle.net_verilog.specs.Made.{mentioned, on_value, settled, with_gate_of}
+use Rattle.net_verilog.specs.Made.{mentioned, settled, with_gate_of}
 use Rattle.net_verilog.specs.Expression.{Expression}
 use Rattle.net_verilog.specs.Parts.{identifier, taken}
 use Rattle.net_verilog.specs.Assigns.{Reads, net_fault}

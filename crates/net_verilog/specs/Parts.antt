@@ -1,10 +1,10 @@
 -- Signs, identifiers and ranges. Source: IEEE Std 1364-2005, annex A, in the profile of docs/FORMATS.md.
 use Rattle.std.specs.Prelude.{ℕ, ◌==◌, ◌||◌, nat_lt, Bool, true, false, List, [], ◌∷◌, length, Option, None, Some, Ok, Err, min, max, if◌then◌else◌}
+use Rattle.outcome.specs.Steps.{on_value}
 use Rattle.net_verilog.specs.Tokens.{TokenValue}
 use Rattle.net_verilog.specs.Words.{wrong}
 use Rattle.net_verilog.specs.Declarations.{Range}
 use Rattle.net_verilog.specs.Targets.{Answer, decimal_kind, is_close_index, is_open_index, name_kind}
-use Rattle.net_verilog.specs.Made.{on_value}
 use Rattle.net_verilog.specs.declared.kind.Kind.{Kind}
 use Rattle.net_verilog.specs.declared.kind.Kind.TheVariants as kinds
 use Rattle.net_verilog.specs.declared.sign.Sign.{Sign}

@@ -1,6 +1,6 @@
 -- Lists with commas. Source: IEEE Std 1364-2005, annex A, in the profile of docs/FORMATS.md.
 use Rattle.std.specs.Prelude.{ℕ, zero, suc, Bool, true, false, List, [], ◌∷◌}
-use Rattle.text_core.specs.Outcome.{◌>>=◌, Exactly}
+use Rattle.outcome.specs.Outcome.{◌>>=◌, Exactly}
 use Rattle.net_verilog.specs.Tokens.{TokenValue}
 use Rattle.net_verilog.specs.Parts.{is_comma}
 use Rattle.net_verilog.specs.Assigns.{Reads}

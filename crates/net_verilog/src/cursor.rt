@@ -6,7 +6,7 @@ use crate::Kind;
 use crate::piece::piece;
 
 /// A token: what it is, its bytes, and its line from 1.
-#[derive(Debug, Clone, Copy)]
+#[derive(Clone, Copy)]
 pub struct Token<'a> {
     pub kind: Kind,
     pub text: &'a [u8],
@@ -14,7 +14,7 @@ pub struct Token<'a> {
 }
 
 /// A place in a text: what is left of it, the line, and whether all of the line so far is white.
-#[derive(Debug, Clone, Copy)]
+#[derive(Clone, Copy)]
 pub struct Cursor<'a> {
     rest: &'a [u8],
     line: u32,

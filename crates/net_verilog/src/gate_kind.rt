@@ -3,7 +3,7 @@ ghost use Rattle.std.specs.Prelude.{◌≡◌, ◌<◌, ◌^◌, true};
 ghost use Rattle.net_verilog.specs.Instances.{fits_gate, gate_of as gate_that, gate_table as table_that};
 
 /// A gate. `not` and `buf` have one input, the others two to six.
-#[derive(Debug, Clone, Copy)]
+#[derive(Clone, Copy)]
 pub enum GateKind {
     And,
     Or,

@@ -1,7 +1,7 @@
 //! Signs of the grammar.
 
 /// A sign that the grammar wants at a place.
-#[derive(Debug, Clone, Copy)]
+#[derive(Clone, Copy)]
 pub enum Sign {
     Open,
     Close,

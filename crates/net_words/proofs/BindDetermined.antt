@@ -1,8 +1,8 @@
 -- At most one outcome comes of binding words.
 use Rattle.std.proofs.Common.{◌≡◌, ◌∙◌, ap, sym, refl, ⊎_elim, ℕ, ◌<◌, List, [], ◌∷◌, ◌++◌, length, true, false, Ok, Err, arith}
 use Rattle.std.proofs.lemmas.Bool.{cases_lt, true≢false}
-use Rattle.text_core.specs.Outcome.{Outcome, ◌>>=◌, Exactly, Returns, Determined}
-use Rattle.text_core.proofs.DeterminedLemmas.{determined_returns, determined_bind}
+use Rattle.outcome.proofs.DeterminedLemmas.{determined_returns, determined_bind}
+use Rattle.outcome.specs.Outcome.{Outcome, ◌>>=◌, Exactly, Returns, Determined}
 use Rattle.net_core.specs.NetList.{NetList, nets, number_of}
 use Rattle.net_words.specs.Binding.{Binding}
 use Rattle.net_words.specs.Bind.{place_net, names_with, taken_with, NetsOf, bound_word, BoundOf, IsCovered, is_uncovered, started, bits_of, BindingOf}

@@ -1,7 +1,7 @@
 -- The steps of a binding, one after another.
 use Rattle.std.proofs.Common.{◌≡◌, ◌∙◌, ◌⊎◌, refl, inl, inr, sym, subst, arith, ℕ, ◌<◌, ◌+◌, List, [], ◌∷◌, ◌++◌, length, drop, get_or, Result, Ok, Err}
 use Rattle.std.proofs.lemmas.List.{drop_more}
-use Rattle.text_core.specs.Outcome.{Outcome, ◌>>=◌, Returns}
+use Rattle.outcome.specs.Outcome.{Outcome, ◌>>=◌, Returns}
 use Rattle.net_core.specs.NetList.{NetList, number_of}
 use Rattle.net_words.specs.Binding.{Binding}
 use Rattle.net_words.specs.Bind.{place_net, names_with, taken_with, NetsOf, bound_word, BoundOf, IsCovered, started, BindingOf}

@@ -2,15 +2,16 @@
 use Rattle.std.proofs.Common.{◌≡◌, ◌∙◌, ◌⊎◌, ap, sym, refl, ⊎_elim, subst, append_assoc, ℕ, zero, suc, ◌<◌, ◌≤◌, ◌==◌, ◌&&◌, ◌||◌, not, List, [], ◌∷◌, ◌++◌, length, map, filter, Bool, true, false, cond, Option, Some, None, Result, Ok, Err, arith, All, append-nil}
 use Rattle.std.proofs.lemmas.Bool.{true≢false}
 use Rattle.std.proofs.lemmas.Bool.Decides.{eqb_tells}
+use Rattle.lists.specs.Lists.{Has, times}
+use Rattle.lists.specs.laws.HasLaws.{Has_map, times_append, All_has}
+use Rattle.lists.specs.laws.TestLaws.{none_here}
 use Rattle.graph_core.specs.Walk.{IsChain}
 use Rattle.net_core.specs.GateValue.{GateValue}
 use Rattle.net_core.specs.LatchValue.{LatchValue}
 use Rattle.net_core.specs.NetList.{NetList, nets, number_of}
-use Rattle.net_core.specs.Lists.{Has, times}
 use Rattle.net_core.specs.Inside.{IsInside}
 use Rattle.net_core.specs.Sound.{IsSound}
 use Rattle.net_core.specs.declared.latch.Start.TheVariants.{Unknown}
-use Rattle.net_core.proofs.DriverLemmas.{Has_map, times_append, All_has, none_here}
 use Rattle.net_core.proofs.NameLemmas.{some_below}
 use Rattle.net_words.specs.Binding.{Binding, AreWords, HasWidth, IsBinding}
 use Rattle.net_words.specs.Bind.{is_latch, with_role, names_with, place_net, taken_with, NetsOf, bound_word, BoundOf, feeds_gate, feeds_latch, is_used, IsCovered, is_unknown, started, bits_of, BindingOf}

@@ -5,10 +5,10 @@ use Rattle.std.specs.Str.{bytes_eq}
 use Rattle.std.proofs.lemmas.Bool.{true≢false}
 use Rattle.std.proofs.lemmas.Bool.Decides.{eqb_tells}
 use Rattle.std.proofs.lemmas.Slice.Eq.{bytes_eq-Decides}
-use Rattle.graph_core.proofs.GeneralLemmas.{first_true as and_left, second_true as and_right, not_true}
-use Rattle.net_core.specs.Lists.{Has}
+use Rattle.lists.specs.Lists.{Has}
+use Rattle.lists.specs.laws.BoolLaws.{first_true as and_left, second_true as and_right, not_true}
+use Rattle.lists.specs.laws.HasLaws.{Has_map}
 use Rattle.net_core.specs.NetList.{NetList, LabelValue, is_named, number_from, number_of}
-use Rattle.net_core.proofs.DriverLemmas.{Has_map}
 use Rattle.net_words.specs.Binding.{Binding}
 use Rattle.net_words.specs.BoundTo.{IsBoundFeed}
 use Rattle.net_words.specs.Feeds.{AreFeeds, FeedsOf, IsSource, bound_feed, fed_nets, free_net, is_fed, is_free}

@@ -2,15 +2,14 @@
 use Rattle.std.proofs.Common.{◌≡◌, ◌∙◌, ap, sym, refl, inl, inr, ⊎_elim, subst, ℕ, zero, suc, ◌<◌, ◌≤◌, ◌+◌, ◌*◌, List, [], ◌∷◌, ◌++◌, length, map, take, drop, filter, not, cond, true, false, Bool, Some, get_or, arith, All, mul-suc, append-nil, append_assoc, drop_of_length-le}
 use Rattle.std.specs.Prelude.{◌↔◌, IsTrue, slice_get}
 use Rattle.std.proofs.lemmas.Bool.{cases_lt, true≢false}
-use Rattle.std.proofs.lemmas.List.{drop_more}
+use Rattle.std.proofs.lemmas.List.{drop_more, length-take-le as long_front}
 use Rattle.std.proofs.lemmas.Option.{slice_get-get_or}
+use Rattle.lists.specs.Lists.{Has}
+use Rattle.lists.specs.laws.HasLaws.{none_at, All_has}
 use Rattle.graph_core.specs.Walk.{IsChain}
-use Rattle.graph_core.proofs.GeneralLemmas.{taken_long as long_front, none_at}
-use Rattle.net_core.specs.Lists.{Has}
 use Rattle.net_core.specs.LatchValue.{LatchValue}
 use Rattle.net_core.specs.NetList.{NetList, nets}
 use Rattle.net_core.specs.Sound.{Needs}
-use Rattle.net_core.proofs.DriverLemmas.{All_has}
 use Rattle.net_words.specs.Binding.{Binding, IsBinding}
 use Rattle.net_words.specs.BoundTo.{StandsOn, IsBoundTo, output_bits}
 use Rattle.net_words.specs.Feeds.{fed_nets}

@@ -3,8 +3,8 @@ use Rattle.std.proofs.Common.{◌≡◌, ◌∙◌, ap, sym, refl, inl, inr, len
 use Rattle.std.specs.List.{list_any}
 use Rattle.std.proofs.lemmas.Bool.{eqb-true}
 use Rattle.std.proofs.lemmas.Bool.Decides.{nat_tests}
-use Rattle.net_core.specs.Lists.{Has, times}
-use Rattle.net_core.proofs.DriverLemmas.{Has_left, Has_right, Has_cases}
+use Rattle.lists.specs.Lists.{Has, times}
+use Rattle.lists.specs.laws.HasLaws.{Has_left, Has_right, Has_cases}
 use Rattle.net_words.specs.Roles.{stands_in, same_role, in_word}
 use Rattle.net_words.specs.Binding.{HasWidth}
 use Rattle.net_words.specs.BoundTo.{output_bits, output_bits_with}

@@ -4,7 +4,7 @@ use Rattle.std.proofs.lemmas.Bool.{eqb-true}
 use Rattle.std.proofs.lemmas.List.Elements.{filter-append}
 use Rattle.std.proofs.lemmas.List.FromFn.{length-range_with_len, get_or-range_with_len}
 use Rattle.std.specs.List.{range_with_len}
-use Rattle.graph_core.proofs.GeneralLemmas.{range_more}
+use Rattle.lists.specs.laws.ListLaws.{range_more}
 use Rattle.net_words.specs.Binding.{Binding, HasWidth, IsBinding}
 use Rattle.net_words.specs.Roles.{same_role, stands_in}
 use Rattle.net_words.specs.Variables.{bits, bits_with, others, variables, IsRanked}

@@ -2,7 +2,7 @@
 use Rattle.std.proofs.Common.{◌≡◌, ◌∙◌, ap, sym, refl, subst, ℕ, zero, suc, ◌<◌, ◌+◌, List, [], ◌∷◌, ◌++◌, length, map, take, get_or, arith, add-one, All}
 use Rattle.std.proofs.Math.Seq.{take-suc}
 use Rattle.std.specs.List.{AllZip}
-use Rattle.graph_core.proofs.GeneralLemmas.{map_push as map-push}
+use Rattle.lists.specs.laws.ListLaws.{map_push as map-push}
 
 -- at each place of the first list there is a partner
 pub zip-at : {A B C : Type 0} (R : A → B → Type 0) (f : C → A) (xs : List C) (ys : List B) (i : ℕ) (d : C) → AllZip R (map f xs) ys → i < length xs → (y : B) × R (f (get_or xs i d)) y

@@ -1,7 +1,7 @@
 -- What comes of binding words to the nets of a net list, or the first fault. Source: this project's own, docs/DEFINITIONS.md.
 use Rattle.std.specs.Prelude.{◌≡◌, ℕ, ◌<◌, ◌==◌, ◌&&◌, ◌||◌, not, Bool, true, false, List, [], ◌∷◌, ◌++◌, length, Option, None, Some, Result, Ok, Err, if◌then◌else◌}
 use Rattle.std.specs.List.{list_any}
-use Rattle.text_core.specs.Outcome.{Outcome, ◌>>=◌, Exactly, Returns}
+use Rattle.outcome.specs.Outcome.{Outcome, ◌>>=◌, Exactly, Returns}
 use Rattle.net_core.specs.LatchValue.{LatchValue}
 use Rattle.net_core.specs.NetList.{NetList, nets, number_of}
 use Rattle.net_core.specs.declared.latch.Start.{Start}

@@ -1,6 +1,6 @@
 -- What is known while words are bound. Source: this project's own.
 use Rattle.std.specs.Prelude.{◌≡◌, ℕ, ◌<◌, Bool, false, List, slice_index_or, Option, None, Some, Result}
-use Rattle.text_core.specs.Outcome.{Outcome, Fits}
+use Rattle.outcome.specs.Outcome.{Outcome, Fits}
 use Rattle.net_words.specs.declared.binding.BindFault.{BindFault}
 use Rattle.net_words.specs.declared.binding.BindFault.TheVariants.{OutOfMemory}
 

@@ -1,8 +1,8 @@
 -- What it is for words to be bound to a net list. Source: this project's own, docs/DEFINITIONS.md.
 use Rattle.std.specs.Prelude.{◌≡◌, ◌≢◌, ℕ, ◌<◌, ◌≤◌, false, List, [], ◌∷◌, ◌++◌, map, slice_get, Some}
+use Rattle.lists.specs.Lists.{Has, times}
 use Rattle.net_core.specs.LatchValue.{LatchValue}
 use Rattle.net_core.specs.NetList.{NetList, nets}
-use Rattle.net_core.specs.Lists.{Has, times}
 use Rattle.net_core.specs.declared.latch.Start.TheVariants.{Unknown}
 use Rattle.net_words.specs.Binding.{Binding, IsBinding}
 use Rattle.net_words.specs.Feeds.{IsSource, fed_nets}

@@ -1,8 +1,8 @@
 -- Feeds: what is fed to a net, cycle by cycle. Source: this project's own format, docs/FORMATS.md.
 use Rattle.std.specs.Prelude.{◌≡◌, ℕ, ◌<◌, ◌==◌, ◌&&◌, not, Bool, List, [], ◌∷◌, ◌++◌, map, slice_get, Option, None, Some, Result, Ok, Err, if◌then◌else◌}
 use Rattle.std.specs.List.{list_any}
-use Rattle.text_core.specs.Outcome.{Outcome, ◌>>=◌, Exactly, Returns}
-use Rattle.net_core.specs.Lists.{Has}
+use Rattle.lists.specs.Lists.{Has}
+use Rattle.outcome.specs.Outcome.{Outcome, ◌>>=◌, Exactly, Returns}
 use Rattle.net_core.specs.NetList.{NetList, number_of}
 use Rattle.net_words.specs.Roles.{in_word, stands_in}
 use Rattle.net_words.specs.declared.binding.BindFault.{BindFault}

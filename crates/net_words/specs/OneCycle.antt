@@ -1,7 +1,7 @@
 -- Words of a net in one cycle, where nothing is held in latches and nothing is fed. Source: this project's own.
 use Rattle.std.specs.Prelude.{◌≡◌, ℕ, ◌<◌, ◌≤◌, List, [], length, All}
+use Rattle.lists.specs.Lists.{Has, times}
 use Rattle.net_core.specs.NetList.{NetList, nets}
-use Rattle.net_core.specs.Lists.{Has, times}
 use Rattle.net_words.specs.Binding.{Binding, IsBinding}
 use Rattle.net_words.specs.BoundTo.{output_bits}
 use Rattle.net_words.specs.Reach.{ReachesByGates}

@@ -1,9 +1,9 @@
 -- What nets are drawn from. Source: the gates and latches of the BLIF format of UC Berkeley.
 use Rattle.std.specs.Prelude.{◌≡◌, ◌⊎◌, ℕ, List}
+use Rattle.lists.specs.Lists.{Has}
 use Rattle.graph_core.specs.Walk.{IsChain}
 use Rattle.net_core.specs.LatchValue.{LatchValue}
 use Rattle.net_core.specs.NetList.{NetList}
-use Rattle.net_core.specs.Lists.{Has}
 use Rattle.net_core.specs.Sound.{Needs}
 
 -- a gate that drives a has b among its inputs, or a latch that drives a takes its next bit from b

@@ -1,7 +1,7 @@
 -- The words of a binding on other nets. Source: this project's own.
 use Rattle.std.specs.Prelude.{◌≡◌, ℕ, ◌<◌, ◌≤◌, ◌*◌, List, [], ◌∷◌, length, take, drop, All}
+use Rattle.lists.specs.Lists.{Has, times}
 use Rattle.net_core.specs.NetList.{NetList, nets}
-use Rattle.net_core.specs.Lists.{Has, times}
 use Rattle.net_words.specs.Binding.{Binding}
 use Rattle.net_words.specs.Variables.{bits}
 use Rattle.net_words.specs.declared.bound.BoundWord.{BoundWord}

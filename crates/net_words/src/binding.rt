@@ -1,6 +1,6 @@
 //! The binding of words to nets.
 ghost use Rattle.std.specs.Prelude.{◌≡◌, ◌≤◌, ◌&&◌, ◌<◌, ℕ, [], length, map, IfOk};
-ghost use Rattle.text_core.specs.Outcome.{Returns};
+ghost use Rattle.outcome.specs.Outcome.{Returns};
 ghost use Rattle.net_core.specs.NetList.{NetList, nets as nets_of, number_of};
 ghost use Rattle.net_core.specs.Sound.{IsSound};
 ghost use Rattle.net_words.specs.Binding.{AreWords};

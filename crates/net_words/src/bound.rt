@@ -9,7 +9,7 @@ use net_core::{Name, Numbers};
 use std::marker::Model;
 
 /// A word that is bound to nets.
-#[derive(Debug, Drop)]
+#[derive(Drop)]
 pub struct BoundWord {
     /// Its name, of 1 to 255 bytes.
     pub name: Name,
@@ -20,7 +20,7 @@ pub struct BoundWord {
 }
 
 /// Words that are bound to the nets of a netlist.
-#[derive(Debug, Drop)]
+#[derive(Drop)]
 pub struct Bound {
     k: u32,
     words: Vec<BoundWord>,

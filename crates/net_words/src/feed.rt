@@ -2,7 +2,7 @@
 use net_core::Name;
 
 /// What a fed net holds in a cycle.
-#[derive(Clone, Copy, Debug)]
+#[derive(Clone, Copy)]
 pub enum Source {
     /// The constant 0.
     Zero,
@@ -13,7 +13,7 @@ pub enum Source {
 }
 
 /// The line of a feed.
-#[derive(Debug, Drop)]
+#[derive(Drop)]
 pub struct FeedText {
     /// The number of its line, from 1.
     pub line: u32,
@@ -26,7 +26,7 @@ pub struct FeedText {
 }
 
 /// A feed that is bound to a net.
-#[derive(Clone, Copy, Debug)]
+#[derive(Clone, Copy)]
 pub struct Feed {
     /// The number of its line, from 1.
     pub line: u32,

@@ -1,6 +1,6 @@
 //! The binding of feeds to nets.
 ghost use Rattle.std.specs.Prelude.{◌≡◌, ◌||◌, [], length, IfOk};
-ghost use Rattle.text_core.specs.Outcome.{Returns};
+ghost use Rattle.outcome.specs.Outcome.{Returns};
 ghost use Rattle.net_core.specs.NetList.{nets, number_of};
 ghost use Rattle.net_words.specs.BindReading.{AreMarks, FitsBinding, mark_at};
 ghost use Rattle.net_words.specs.Feeds.{FeedsOf, bound_feed as is_bound_feed, free_net, is_fed};

@@ -1,7 +1,7 @@
 //! Laws of bindings. These functions do nothing: their contracts are proved of the definitions alone.
 ghost use Rattle.std.specs.Prelude.{◌≡◌, ◌<◌, ◌↔◌, List, Ok, length, map, ℕ};
-ghost use Rattle.text_core.specs.Outcome.{Determined};
-ghost use Rattle.net_core.specs.Lists.{Has, times};
+ghost use Rattle.lists.specs.Lists.{Has, times};
+ghost use Rattle.outcome.specs.Outcome.{Determined};
 ghost use Rattle.net_core.specs.NetList.{NetList, nets};
 ghost use Rattle.net_core.specs.Sound.{IsSound};
 ghost use Rattle.net_words.specs.Bind.{BindingOf};

@@ -2,7 +2,7 @@
 use net_core::{Name, Names, Numbers};
 
 /// What a word is to the netlist.
-#[derive(Clone, Copy, Debug, PartialEq, Eq)]
+#[derive(Clone, Copy, PartialEq, Eq)]
 pub enum Role {
     /// Its bits are primary inputs.
     Input,
@@ -15,7 +15,7 @@ pub enum Role {
 }
 
 /// The basis of a word, as the text gives it.
-#[derive(Debug, Drop)]
+#[derive(Drop)]
 pub enum BasisText {
     /// The powers of the root: element i is the number 2^i.
     Poly,
@@ -26,7 +26,7 @@ pub enum BasisText {
 }
 
 /// The line of a word.
-#[derive(Debug, Drop)]
+#[derive(Drop)]
 pub struct WordText {
     /// The number of its line, from 1.
     pub line: u32,

@@ -5,17 +5,17 @@ use Rattle.std.specs.List.{AllZip}
 use Rattle.std.specs.Option.{option_map_or}
 use Rattle.std.proofs.lemmas.List.{length-map}
 use Rattle.std.proofs.lemmas.Option.{slice_get-map}
-use Rattle.graph_core.proofs.CycleLemmas.{from_map}
-use Rattle.graph_core.proofs.GraphLemmas.{even, nat_eq_or}
-use Rattle.graph_core.proofs.ListLemmas.{get_below}
+use Rattle.lists.specs.Lists.{Has, times}
+use Rattle.lists.specs.laws.HasLaws.{times_get, times_two}
+use Rattle.lists.specs.laws.NumberLaws.{even, nat_eq_or}
+use Rattle.lists.specs.laws.ReadLaws.{from_map, get_below}
+use Rattle.lists.specs.laws.TestLaws.{none_here, one_here}
 use Rattle.graph_core.specs.Walk.{IsChain}
 use Rattle.net_core.specs.GateValue.{GateValue}
 use Rattle.net_core.specs.LatchValue.{LatchValue}
 use Rattle.net_core.specs.Inside.{GateIsInside, IsInside, IsNetName, LatchIsInside}
-use Rattle.net_core.specs.Lists.{Has, times}
 use Rattle.net_core.specs.NetList.{LabelValue, NetList, nets, number_of, text_of}
 use Rattle.net_core.specs.Sound.{HasOneDriverEach, IsCycle, IsSound, Needs, driven, sources}
-use Rattle.net_core.proofs.DriverLemmas.{none_here, one_here, times_get, times_two}
 use Rattle.net_flat.proofs.PathLemmas.{place_named}
 use Rattle.net_flat.specs.Flat.{Flat, net_list}
 use Rattle.net_flat.specs.Paths.{label_of}

@@ -3,8 +3,8 @@ use Rattle.std.proofs.Common.{◌≡◌, refl, ℕ, suc, ◌<◌, ◌≤◌, ◌
 use Rattle.std.specs.Prelude.{All, nat_le}
 use Rattle.std.specs.List.{list_all}
 use Rattle.std.proofs.lemmas.Bool.Decides.{nat_tests}
-use Rattle.graph_core.proofs.ListLemmas.{get_below}
-use Rattle.graph_core.proofs.GeneralLemmas.{both_true as both}
+use Rattle.lists.specs.laws.BoolLaws.{both_true as both}
+use Rattle.lists.specs.laws.ReadLaws.{get_below}
 use Rattle.net_core.specs.NetList.{NetList, nets, text_of}
 use Rattle.net_core.specs.Sound.{IsSound}
 use Rattle.net_core.specs.declared.latch.Start.{Start}

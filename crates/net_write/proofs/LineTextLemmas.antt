@@ -6,9 +6,10 @@ use Rattle.std.specs.Str.Lines.{lines, strip_carriage_return}
 use Rattle.std.proofs.lemmas.Bool.Decides.{nat_tests}
 use Rattle.std.proofs.lemmas.List.Sums.{take_while-cons}
 use Rattle.std.proofs.lemmas.List.Splits.{slice_split_at, slice_split_none}
+use Rattle.std.proofs.lemmas.Bool.{ne_eqb}
+use Rattle.lists.specs.laws.TakeLaws.{front_of}
 use Rattle.text_core.specs.Lines.{before_comment, is_blank, tokens_of}
 use Rattle.text_core.proofs.LineLemmas.{lines_at}
-use Rattle.graph_core.proofs.GeneralLemmas.{unequal, front_of}
 use Rattle.net_blif.specs.Lines.{Numbered, before_trimmed, clean, goes_on, is_trailing, joined, trim_end}
 use Rattle.net_blif.specs.Statement.{IsToken, Token, spelled}
 use Rattle.net_blif.specs.declared.statement.Statement.{Statement}
@@ -56,7 +57,7 @@ uncommented : (bytes : List ℕ) → AllByRecursion IsLineByte bytes → before_
 uncommented [] all = refl
 uncommented (b ∷ bs) all =
     take_while-cons (λ c. not (c == 35)) b bs
-    ∙ ap (λ (v : Bool). cond (not v) (b ∷ before_comment bs) []) (unequal b 35 all.0.1)
+    ∙ ap (λ (v : Bool). cond (not v) (b ∷ before_comment bs) []) (ne_eqb b 35 all.0.1)
     ∙ ap (λ (l : List ℕ). b ∷ l) (uncommented bs all.1)
 
 -- a byte that does not trail stays, and so does one before others
@@ -69,7 +70,7 @@ stays_before b [] some = absurd (omega (arith, some))
 stays_before b (c ∷ cs) some = refl
 
 not_trailing : (b : ℕ) → 33 ≤ b → is_trailing b ≡ false
-not_trailing b least = rw (unequal b 32 (λ e. omega (arith, e, least)), unequal b 9 (λ e. omega (arith, e, least)), unequal b 13 (λ e. omega (arith, e, least))) refl
+not_trailing b least = rw (ne_eqb b 32 (λ e. omega (arith, e, least)), ne_eqb b 9 (λ e. omega (arith, e, least)), ne_eqb b 13 (λ e. omega (arith, e, least))) refl
 
 plain_kept : (bytes : List ℕ) → ArePlain bytes → trim_end bytes ≡ bytes
 plain_kept [] plain = refl
@@ -96,14 +97,14 @@ kept first (second ∷ rest) fields =
 
 -- no line goes on
 ends : (bytes : List ℕ) → AllByRecursion IsLineByte bytes → goes_on bytes ≡ false
-ends bytes all = rw (unequal (get_or bytes (length bytes - 1) 0) 92 (at bytes (length bytes - 1) all).0) (no_more (nat_lt 0 (length bytes)))
+ends bytes all = rw (ne_eqb (get_or bytes (length bytes - 1) 0) 92 (at bytes (length bytes - 1) all).0) (no_more (nat_lt 0 (length bytes)))
   where
     no_more : (b : Bool) → (b && false) ≡ false
     no_more true = refl
     no_more false = refl
 
 no_return : (bytes : List ℕ) → AllByRecursion IsLineByte bytes → strip_carriage_return bytes ≡ bytes
-no_return bytes all = rw (unequal (get_or bytes (length bytes - 1) 0) 13 (at bytes (length bytes - 1) all).1) refl
+no_return bytes all = rw (ne_eqb (get_or bytes (length bytes - 1) 0) 13 (at bytes (length bytes - 1) all).1) refl
 
 get_front : (xs ys : List ℕ) (k : ℕ) → k < length xs → get_or (xs ++ ys) k 0 ≡ get_or xs k 0
 get_front [] ys k less = absurd (omega (arith, less))
@@ -136,7 +137,7 @@ first_line bytes rest all =
 -- no byte of a field is a blank
 no_blank : (token : Token) → ArePlain token → All (λ b. is_blank b ≡ false) token
 no_blank [] plain k d less = absurd (omega (arith, less))
-no_blank (b ∷ bs) plain zero d less = rw (unequal b 32 (λ e. omega (arith, e, plain.0.0)), unequal b 9 (λ e. omega (arith, e, plain.0.0))) refl
+no_blank (b ∷ bs) plain zero d less = rw (ne_eqb b 32 (λ e. omega (arith, e, plain.0.0)), ne_eqb b 9 (λ e. omega (arith, e, plain.0.0))) refl
 no_blank (b ∷ bs) plain (suc k) d less = no_blank bs plain.1 k d (omega (arith, less))
 
 split : (first : Token) (rest : List Token) → AreFields (first ∷ rest) → slice_split is_blank (join_with_byte 32 (first ∷ rest)) ≡ first ∷ rest

@@ -6,13 +6,14 @@ use Rattle.std.specs.Str.{bytes_eq}
 use Rattle.std.proofs.lemmas.Bool.Decides.{nat_tests}
 use Rattle.std.proofs.lemmas.List.{length-map, length-append, map_push}
 use Rattle.std.proofs.lemmas.Slice.Eq.{bytes_eq-Decides}
-use Rattle.graph_core.proofs.ListLemmas.{get_below, get_front, get_here, got_push}
+use Rattle.lists.specs.Lists.{Has, times}
+use Rattle.lists.specs.laws.HasLaws.{times_append, times_get}
+use Rattle.lists.specs.laws.ReadLaws.{get_below, get_front, get_here, got_push}
+use Rattle.lists.specs.laws.TestLaws.{none_here, one_here}
 use Rattle.net_core.specs.GateValue.{GateValue}
 use Rattle.net_core.specs.LatchValue.{LatchValue}
-use Rattle.net_core.specs.Lists.{Has, times}
 use Rattle.net_core.specs.NetList.{NetList, nets, number_of, text_of}
 use Rattle.net_core.specs.Sound.{IsSound}
-use Rattle.net_core.proofs.DriverLemmas.{none_here, one_here, times_append, times_get}
 use Rattle.net_flat.specs.Flat.{Flat, number, place_from, walked}
 use Rattle.net_flat.specs.Paths.{At, Path}
 use Rattle.net_flat.specs.Steps.{Mention, Step}

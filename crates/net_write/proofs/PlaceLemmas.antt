@@ -4,10 +4,10 @@ use Rattle.std.specs.Prelude.{flat_map, nat_le}
 use Rattle.std.specs.List.{AllByRecursion, AllZip}
 use Rattle.std.proofs.lemmas.List.{length-append, map-append}
 use Rattle.std.proofs.lemmas.List.Elements.{AllZip-push}
+use Rattle.lists.specs.Lists.{Has}
 use Rattle.net_core.specs.GateValue.{GateValue}
 use Rattle.net_core.specs.LatchValue.{LatchValue}
 use Rattle.net_core.specs.Inside.{GateIsInside, LatchIsInside}
-use Rattle.net_core.specs.Lists.{Has}
 use Rattle.net_core.specs.NetList.{NetList, nets, text_of}
 use Rattle.net_core.specs.Sound.{IsSound}
 use Rattle.net_flat.specs.Flat.{Flat, gate_on, latch_on, nothing, number}

@@ -2,8 +2,8 @@
 use Rattle.std.proofs.Common.{◌≡◌, ◌∙◌, inl, inr, ap, sym, refl, subst, ℕ, zero, suc, ◌+◌, ◌<◌, Bool, true, false, cond, List, [], ◌∷◌, length, Some, arith}
 use Rattle.std.specs.Prelude.{slice_get}
 use Rattle.std.specs.Str.{bytes_eq}
-use Rattle.graph_core.proofs.GraphLemmas.{nat_eq_or}
-use Rattle.graph_core.proofs.GeneralLemmas.{first_true}
+use Rattle.lists.specs.laws.BoolLaws.{first_true}
+use Rattle.lists.specs.laws.NumberLaws.{nat_eq_or}
 use Rattle.net_core.specs.NetList.{LabelValue, NetList, is_named, number_from, number_of, text_of}
 use Rattle.net_write.specs.Plain.{IsPlainName}
 use Rattle.net_write.proofs.ZipLemmas.{some_same}

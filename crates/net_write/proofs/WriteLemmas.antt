@@ -8,7 +8,7 @@ use Rattle.std.specs.List.{join_with_byte, range_with_len}
 use Rattle.std.proofs.lemmas.Grind.{flat_map-append}
 use Rattle.std.proofs.lemmas.List.Folds.{flat_map-map}
 use Rattle.std.proofs.lemmas.List.FromFn.{map-range_with_len_more}
-use Rattle.graph_core.proofs.GeneralLemmas.{range_more}
+use Rattle.lists.specs.laws.ListLaws.{range_more}
 use Rattle.net_core.specs.GateValue.{GateValue}
 use Rattle.net_core.specs.NetList.{NetList, text_of}
 use Rattle.net_blif.specs.Statement.{Token, row_tokens, spelled}

@@ -8,7 +8,7 @@ use Rattle.std.specs.List.Sorted.{IsStrictlySortedBy}
 use Rattle.std.specs.Map.{lookup, keys_of, remove_entry}
 use Rattle.std.specs.Option.{option_map}
 use Rattle.std.specs.Ordering.{match_ordering, eq_by_cmp, is_eq, nat_cmp}
-use Rattle.text_core.proofs.GeneralLemmas.{either}
+use Rattle.lists.specs.laws.BoolLaws.{either}
 use Rattle.poly_mixed.specs.Monomial.{Monomial, text_cmp, text_cmp_total}
 use Rattle.poly_mixed.specs.Polynomial.{Terms, Slots, IsMap}
 use Rattle.poly_mixed.specs.Slots.{slot_at}

@@ -9,18 +9,18 @@ use Rattle.std.specs.List.{AllByRecursion}
 use Rattle.text_core.specs.Lines.{is_blank}
 use Rattle.std.specs.Fmt.{digits}
 use Rattle.text_core.specs.Names.{IsName}
-use Rattle.text_core.specs.Numbers.{value_of}
-use Rattle.poly_mixed.specs.Text.{hex_text}
+use Rattle.text_core.specs.Numbers.{value_of, hex_text}
 use Rattle.poly_mixed.specs.Labels.{Labelling, AreLabels, IsWord, bit_count, rank_text}
 use Rattle.poly_mixed.specs.Monomial.{Monomial, has_bit}
 use Rattle.poly_mixed.specs.Polynomial.{Terms}
 use Rattle.poly_mixed.specs.Product.{with_rank}
 use Rattle.poly_mixed.specs.Said.{one}
 use Rattle.poly_mixed.specs.private.Reading.{Progress, more, variable_at, with_variable, exponent_in, next_at, factor_at, after_factor, after_zero, coefficient_at, zero_at, step_at, term_at, read_on}
-use Rattle.poly_mixed.specs.Scan.{skip, is_hex_digit}
+use Rattle.text_core.specs.Scan.{skip, is_hex_digit}
 use Rattle.poly_mixed.specs.declared.fault.PolyFault.{PolyFault}
 use Rattle.poly_mixed.specs.declared.fault.PolyFault.TheVariants.{Syntax}
-use Rattle.poly_mixed.proofs.RunLemmas.{skip_none, run_front, after_front, hex_digits}
+use Rattle.text_core.proofs.RunLemmas.{skip_none, run_front, after_front}
+use Rattle.text_core.proofs.WrittenLemmas.{hex_digits_64}
 use Rattle.poly_mixed.proofs.ScannedLemmas.{IsEnd, power_text, power_scanned, rank_scanned_bit, rank_scanned_net}
 use Rattle.poly_mixed.proofs.SpelledLemmas.{rank_spelled, word_at_place}
 
@@ -155,7 +155,7 @@ module _ (l : Labelling) (k : ℕ) (are : AreLabels l) (some : 1 ≤ k) (small :
   hex_lead fs sum c n rest r chain small' end h =
       let s = tail_text l fs ++ rest in
       let wide : c < 2 ^ 64 = (let le : 2 ^ k ≤ 2 ^ 64 = pow-le-pow_right (omega arith) small in omega arith) in
-      let d = hex_digits c wide in
+      let d = hex_digits_64 c wide in
       let ds = digits 16 false c in
       let stops = (tail_end fs rest end).hex in
       let shape : hex_text c ++ tail_text l fs ++ rest ≡ hex_text c ++ s = append_assoc (hex_text c) (tail_text l fs) rest in

@@ -12,8 +12,8 @@ use Rattle.poly_mixed.specs.Polynomial.{Terms, Point, IsPoint, IsTerm, IsMap, Is
 use Rattle.poly_mixed.specs.Monomial.{has_bit}
 use Rattle.poly_mixed.specs.Cofactor.{LacksBit, without_bit, lacking, cofactors, at_bit, IsSubstituted}
 use Rattle.poly_mixed.proofs.OneBitLemmas.{order_stays}
-use Rattle.gf_field.specs.laws.XorLaws.{xor_swap}
 use Rattle.std.specs.Map.{keys_of}
+use Rattle.lists.specs.laws.XorLaws.{xor_swap}
 use Rattle.poly_mixed.proofs.ProductLemmas.{value_element}
 
 -- ranks other than the bit

@@ -3,8 +3,8 @@ use Rattle.std.proofs.Common.{◌≡◌, ℕ, suc, ◌≤◌, true, false, cond,
 use Rattle.std.proofs.lemmas.Bool.{ne_eqb, cases_eq}
 use Rattle.std.proofs.lemmas.List.{length-drop}
 use Rattle.text_core.specs.Numbers.{value_of}
-use Rattle.poly_mixed.specs.Scan.{run, after, name_of, closed_by, index_of, is_digit, is_hex_digit, is_letter}
-use Rattle.poly_mixed.specs.Token.{Named, word, bit, net, Token, variable, hex, figures, plus_sign, times_sign, power_sign, Front, net_front, name_with, name_front, has_digits, number_front, sign_front, token_front}
+use Rattle.text_core.specs.Scan.{run, after, name_of, closed_by, index_of, is_digit, is_hex_digit, is_letter, has_digits}
+use Rattle.poly_mixed.specs.Token.{Named, word, bit, net, Token, variable, hex, figures, plus_sign, times_sign, power_sign, Front, net_front, name_with, name_front, number_front, sign_front, token_front}
 
 -- ---- a predicate of the token at a front by cases of the first byte
 

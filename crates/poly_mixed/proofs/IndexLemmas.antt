@@ -4,7 +4,6 @@ use Rattle.std.specs.List.{list_any}
 use Rattle.std.specs.List.Sorted.{IsStrictlySortedBy}
 use Rattle.std.specs.Ordering.{nat_cmp}
 use Rattle.std.proofs.lemmas.Bool.{ne_eqb, eqb-true, eqb-false}
-use Rattle.text_core.proofs.GeneralLemmas.{either}
 use Rattle.poly_mixed.specs.Monomial.{Monomial, has_bit}
 use Rattle.poly_mixed.specs.Polynomial.{Slots}
 use Rattle.poly_mixed.specs.Product.{with_rank}
@@ -17,6 +16,7 @@ use Rattle.poly_mixed.proofs.ProductLemmas.{rising-with_rank}
 use Rattle.poly_mixed.proofs.RankLemmas.{Above, from_less}
 use Rattle.std.specs.Cmp.{nat_cmp_total, tied_itself}
 use Rattle.std.specs.Ordering.{eq_by_cmp, is_eq}
+use Rattle.lists.specs.laws.BoolLaws.{either}
 
 -- whether a slot is listed
 abbrev pub is_in : ℕ → List ℕ → Bool

@@ -28,7 +28,6 @@ pub mod TextLemmas
 pub mod ScanLemmas
 pub mod ExponentLemmas
 pub mod PartLemmas
-pub mod RunLemmas
 pub mod SpelledLemmas
 pub mod ScannedLemmas
 pub mod ChainLemmas

@@ -8,7 +8,7 @@ use Rattle.std.specs.Ordering.{nat_cmp, eq_by_cmp}
 use Rattle.std.specs.Cmp.{ranked}
 use Rattle.std.specs.declared.cmp.Ordering.TheVariants.{Equal}
 use Rattle.std.proofs.lemmas.Map.Made.{lookup-map_values}
-use Rattle.text_core.proofs.GeneralLemmas.{is_equal}
+use Rattle.lists.specs.laws.OrderingLaws.{is_equal}
 use Rattle.poly_mixed.specs.private.Listed.{list_at, AreRising, changed, all_changed}
 
 pub same_bit : (x y : ℕ) → eq_by_cmp nat_cmp x y ≡ true → x ≡ y

@@ -10,8 +10,10 @@ use Rattle.std.proofs.lemmas.Slice.Eq.{bytes_eq-Decides}
 use Rattle.text_core.specs.Numbers.{value_of}
 use Rattle.poly_mixed.specs.Labels.{Differs, AreDifferent}
 use Rattle.poly_mixed.specs.Token.{Named, word, bit, net, Token, variable, hex, figures, plus_sign, times_sign, power_sign}
-use Rattle.poly_mixed.specs.Grammar.{Part, number, factor, IsFactor, IsPart, AreJoined, IsVariable, variables, IsInOrder, IsTerm, IsPolynomial, IsBeginning}
+use Rattle.poly_mixed.specs.Grammar.{Part, number, factor, IsFactor, IsPart, IsVariable, variables, IsInOrder, IsTerm, IsPolynomial, IsBeginning}
+use Rattle.text_core.specs.Joined.{AreJoined}
 use Rattle.poly_mixed.proofs.TextLemmas.{all_more, different_more}
+use Rattle.text_core.proofs.WalkLemmas.{walk, walk_then, walk_first}
 
 -- a term is to come; a factor is to come; after a word; after `^`; after another part; after the term `0`
 pub data State : Type 0 where
@@ -160,28 +162,9 @@ final (raised done ps n) = None
 final (closed done ps) = Some (done ++ ps ∷ [])
 final (empty done) = Some (done ++ [] ∷ [])
 
+-- where tokens lead from a state
 abbrev pub goes : ℕ → State → List Token → Option State
-goes k s [] = Some s
-goes k s (t ∷ ts) = option_and_then (λ u. goes k u ts) (step k s t)
-
-pub goes_append : (k : ℕ) (s : State) (xs ys : List Token) → goes k s (xs ++ ys) ≡ option_and_then (λ u. goes k u ys) (goes k s xs)
-goes_append k s [] ys = refl
-goes_append k s (x ∷ xs) ys =
-    elim (step k s x) as (λ (o : Option State). option_and_then (λ u. goes k u (xs ++ ys)) o ≡ option_and_then (λ u. goes k u ys) (option_and_then (λ u. goes k u xs) o)) [
-      | None ↦ refl
-      | Some u ↦ goes_append k u xs ys
-    ]
-
-pub goes_then : (k : ℕ) (s u : State) (xs ys : List Token) → goes k s xs ≡ Some u → goes k s (xs ++ ys) ≡ goes k u ys
-goes_then k s u xs ys e = goes_append k s xs ys ∙ ap (λ (o : Option State). option_and_then (λ v. goes k v ys) o) e
-
--- what goes on to the end goes on to a place before it
-pub goes_first : (k : ℕ) (s u : State) (xs ys : List Token) → goes k s (xs ++ ys) ≡ Some u → (v : State) × (goes k s xs ≡ Some v)
-goes_first k s u xs ys e =
-    elim (goes k s xs) as (λ (o : Option State). goes k s xs ≡ o → option_and_then (λ v. goes k v ys) o ≡ Some u → (v : State) × (goes k s xs ≡ Some v)) [
-      | None ↦ λ is f. absurd (cc)
-      | Some v ↦ λ is f. (v, is)
-    ] refl (sym (goes_append k s xs ys) ∙ e)
+goes k s ts = walk (step k) s ts
 
 -- ---- a polynomial makes the machine go
 
@@ -254,7 +237,7 @@ module _ (k : ℕ) where
       let P : List Part → Type 0 = λ qs. Readied k (inside done ps) ts done qs in
       subst P shape (record {
         state = rest.state;
-        goes_on = ap (goes k (inside done ps)) is.2 ∙ goes_then k (inside done ps) front.state is.0 (times_sign ∷ is.1) front.goes_on
+        goes_on = ap (goes k (inside done ps)) is.2 ∙ walk_then (step k) (inside done ps) front.state is.0 (times_sign ∷ is.1) front.goes_on
             ∙ ap (λ (o : Option State). option_and_then (λ u. goes k u is.1) o) front.ready.times ∙ rest.goes_on;
         ready = rest.ready;
       })
@@ -278,7 +261,7 @@ module _ (k : ℕ) where
       let rest = next_parts done (p ∷ []) (q ∷ more) joined.1 is.1 is.2 joined.4 in
       record {
         state = rest.state;
-        goes_on = ap (goes k (start done)) joined.2 ∙ goes_then k (start done) first.state joined.0 (times_sign ∷ joined.1) first.goes_on
+        goes_on = ap (goes k (start done)) joined.2 ∙ walk_then (step k) (start done) first.state joined.0 (times_sign ∷ joined.1) first.goes_on
             ∙ ap (λ (o : Option State). option_and_then (λ u. goes k u joined.1) o) first.ready.times ∙ rest.goes_on;
         done = record { plus = rest.ready.plus; end = rest.ready.end };
       }
@@ -297,7 +280,7 @@ module _ (k : ℕ) where
       let rest = one_whole (done ++ t ∷ []) (u ∷ more) is.1 is.4 in
       record {
         state = rest.state;
-        goes_on = ap (goes k (start done)) is.2 ∙ goes_then k (start done) first.state is.0 (plus_sign ∷ is.1) first.goes_on
+        goes_on = ap (goes k (start done)) is.2 ∙ walk_then (step k) (start done) first.state is.0 (plus_sign ∷ is.1) first.goes_on
             ∙ ap (λ (o : Option State). option_and_then (λ v. goes k v is.1) o) first.done.plus ∙ rest.goes_on;
         end = rest.end ∙ ap Some (append_assoc done (t ∷ []) (u ∷ more));
       }
@@ -321,4 +304,4 @@ module _ (k : ℕ) where
       ap final same ∙ x.end
 
   pub beginning_goes : (ts : List Token) → IsBeginning k ts → (s : State) × (goes k (start []) ts ≡ Some s)
-  beginning_goes ts is = let x = one_whole [] is.1 (ts ++ is.0) is.2 in goes_first k (start []) x.state ts is.0 x.goes_on
+  beginning_goes ts is = let x = one_whole [] is.1 (ts ++ is.0) is.2 in walk_first (step k) (start []) x.state ts is.0 x.goes_on

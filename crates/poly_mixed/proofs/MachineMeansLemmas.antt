@@ -1,5 +1,5 @@
 -- Where the machine goes on, some polynomial begins with what it read.
-use Rattle.std.proofs.Common.{◌≡◌, ◌⊎◌, ℕ, ◌+◌, ◌<◌, ◌≤◌, ◌^◌, true, false, cond, ◌&&◌, List, [], ◌∷◌, ◌++◌, nat_lt, Option, Some, None, inl, inr, refl, sym, ◌∙◌, ap, subst, arith}
+use Rattle.std.proofs.Common.{◌≡◌, ℕ, ◌<◌, ◌≤◌, ◌^◌, true, false, cond, ◌&&◌, List, [], ◌∷◌, ◌++◌, nat_lt, Option, Some, None, inl, inr, refl, sym, ◌∙◌, ap, subst, arith}
 use Rattle.std.specs.Prelude.{bytes_eq}
 use Rattle.std.specs.Option.{option_and_then}
 use Rattle.std.proofs.Math.Nat.{pow-le-pow_right}
@@ -9,28 +9,11 @@ use Rattle.std.proofs.lemmas.Slice.Eq.{bytes_eq-Decides}
 use Rattle.text_core.specs.Numbers.{value_of}
 use Rattle.poly_mixed.specs.Labels.{AreDifferent}
 use Rattle.poly_mixed.specs.Token.{Named, word, bit, net, Token, variable, hex, figures, plus_sign, times_sign, power_sign}
-use Rattle.poly_mixed.specs.Grammar.{Part, number, factor, IsFactor, IsPart, AreJoined, variables, IsInOrder, IsTerm, IsPolynomial, IsBeginning}
-use Rattle.poly_mixed.proofs.MachineLemmas.{State, start, inside, named, raised, closed, empty, has, enter, step, final, goes, goes_then, different_then, order_then, top, above_all}
-
--- ---- parts with a sign between them
-
--- nothing, or parts with a sign after each
-abbrev AreBefore : {A : Type 0} → Token → (List Token → A → Type 0) → List Token → List A → Type 0
-AreBefore sign Is ts xs = ((ts ≡ []) × (xs ≡ [])) ⊎ ((front : List Token) × (ts ≡ front ++ sign ∷ []) × AreJoined sign Is front xs)
-
-joined_more : {A : Type 0} (sign : Token) (Is : List Token → A → Type 0) (ts us : List Token) (xs : List A) (x : A) → AreJoined sign Is ts xs → Is us x → AreJoined sign Is (ts ++ sign ∷ us) (xs ++ x ∷ [])
-joined_more sign Is ts us [] x is last = absurd is
-joined_more sign Is ts us (a ∷ []) x is last = (ts, us, refl, is, last)
-joined_more sign Is ts us (a ∷ b ∷ more) x is last = (is.0, is.1 ++ sign ∷ us, ap (λ (ys : List Token). ys ++ sign ∷ us) is.2 ∙ append_assoc is.0 (sign ∷ is.1) (sign ∷ us), is.3, joined_more sign Is is.1 us (b ∷ more) x is.4 last)
-
-before_then : {A : Type 0} (sign : Token) (Is : List Token → A → Type 0) (ts us : List Token) (xs : List A) (x : A) → AreBefore sign Is ts xs → Is us x → AreJoined sign Is (ts ++ us) (xs ++ x ∷ [])
-before_then {A = A} sign Is ts us xs x (inl none) last =
-    let P : List Token → Type 0 = λ ys. AreJoined sign Is (ys ++ us) (xs ++ x ∷ []) in
-    let Q : List A → Type 0 = λ ys. AreJoined sign Is us (ys ++ x ∷ []) in
-    subst P (sym none.0) (subst Q (sym none.1) last)
-before_then {A = A} sign Is ts us xs x (inr some) last =
-    let P : List Token → Type 0 = λ ys. AreJoined sign Is ys (xs ++ x ∷ []) in
-    subst P (sym (ap (λ (ys : List Token). ys ++ us) some.1 ∙ append_assoc some.0 (sign ∷ []) us)) (joined_more sign Is some.0 us xs x some.2 last)
+use Rattle.poly_mixed.specs.Grammar.{Part, number, factor, IsFactor, IsPart, variables, IsInOrder, IsTerm, IsPolynomial, IsBeginning}
+use Rattle.text_core.specs.Joined.{AreJoined}
+use Rattle.text_core.proofs.JoinedLemmas.{AreClosed, none_closed, closed_last, joined_closed}
+use Rattle.text_core.proofs.WalkLemmas.{walk_then}
+use Rattle.poly_mixed.proofs.MachineLemmas.{State, start, inside, named, raised, closed, empty, has, enter, step, final, goes, different_then, order_then, top, above_all}
 
 module _ (k : ℕ) where
   -- before the next factor of a term
@@ -38,8 +21,8 @@ module _ (k : ℕ) where
     pub pre : List Token
     pub mid : List Token
     pub at : before ≡ pre ++ mid
-    pub terms : AreBefore plus_sign (IsTerm k) pre done
-    pub parts : AreBefore times_sign (IsPart k) mid ps
+    pub terms : AreClosed plus_sign (IsTerm k) pre done
+    pub parts : AreClosed times_sign (IsPart k) mid ps
     pub order : IsInOrder ps
     pub different : AreDifferent (variables ps)
 
@@ -48,7 +31,7 @@ module _ (k : ℕ) where
     pub pre : List Token
     pub mid : List Token
     pub at : before ≡ pre ++ mid
-    pub terms : AreBefore plus_sign (IsTerm k) pre done
+    pub terms : AreClosed plus_sign (IsTerm k) pre done
     pub joined : AreJoined times_sign (IsPart k) mid ps
     pub order : IsInOrder ps
     pub different : AreDifferent (variables ps)
@@ -58,7 +41,7 @@ module _ (k : ℕ) where
     pub pre : List Token
     pub mid : List Token
     pub at : before ≡ pre ++ mid
-    pub terms : AreBefore plus_sign (IsTerm k) pre done
+    pub terms : AreClosed plus_sign (IsTerm k) pre done
     pub term : IsTerm k mid last
 
   -- after a word, and the signs after it
@@ -69,7 +52,7 @@ module _ (k : ℕ) where
     pub fresh : has (word n) (variables ps) ≡ false
 
   abbrev Means : List Token → State → Type 0
-  Means before (start done) = AreBefore plus_sign (IsTerm k) before done
+  Means before (start done) = AreClosed plus_sign (IsTerm k) before done
   Means before (inside done ps) = IsInside before done ps
   Means before (named done ps n) = IsNamed before [] done ps n
   Means before (raised done ps n) = IsNamed before (power_sign ∷ []) done ps n
@@ -85,7 +68,7 @@ module _ (k : ℕ) where
     mid = m.mid ++ us;
     at = at ∙ ap (λ (ys : List Token). ys ++ us) m.at ∙ append_assoc m.pre m.mid us;
     terms = m.terms;
-    joined = before_then times_sign (IsPart k) m.mid us ps (factor v e) m.parts is;
+    joined = closed_last times_sign (IsPart k) m.mid us ps (factor v e) m.parts is;
     order = order_then ps v e m.order;
     different = different_then ps v e m.different fresh;
   }
@@ -104,7 +87,7 @@ module _ (k : ℕ) where
     mid = m.mid ++ times_sign ∷ [];
     at = ap (λ (ys : List Token). ys ++ times_sign ∷ []) m.at ∙ append_assoc m.pre m.mid (times_sign ∷ []);
     terms = m.terms;
-    parts = inr (m.mid, refl, m.joined);
+    parts = joined_closed times_sign (IsPart k) m.mid ps m.joined;
     order = m.order;
     different = m.different;
   }
@@ -114,13 +97,13 @@ module _ (k : ℕ) where
   ended before done (p ∷ ps) m = record { pre = m.pre; mid = m.mid; at = m.at; terms = m.terms; term = (m.joined, m.order, m.different) }
 
   whole_of : (before : List Token) (done : List (List Part)) (last : List Part) → IsEnded before done last → IsPolynomial k before (done ++ last ∷ [])
-  whole_of before done last m = let P : List Token → Type 0 = λ ys. IsPolynomial k ys (done ++ last ∷ []) in subst P (sym m.at) (before_then plus_sign (IsTerm k) m.pre m.mid done last m.terms m.term)
+  whole_of before done last m = let P : List Token → Type 0 = λ ys. IsPolynomial k ys (done ++ last ∷ []) in subst P (sym m.at) (closed_last plus_sign (IsTerm k) m.pre m.mid done last m.terms m.term)
 
-  next_term : (before : List Token) (done : List (List Part)) (last : List Part) → IsEnded before done last → AreBefore plus_sign (IsTerm k) (before ++ plus_sign ∷ []) (done ++ last ∷ [])
-  next_term before done last m = inr (before, refl, whole_of before done last m)
+  next_term : (before : List Token) (done : List (List Part)) (last : List Part) → IsEnded before done last → AreClosed plus_sign (IsTerm k) (before ++ plus_sign ∷ []) (done ++ last ∷ [])
+  next_term before done last m = joined_closed plus_sign (IsTerm k) before (done ++ last ∷ []) (whole_of before done last m)
 
   means_step : (s : State) (t : Token) (u : State) (before : List Token) → Means before s → step k s t ≡ Some u → Means (before ++ t ∷ []) u
-  means_step (start done) (variable v) u before m e = moved (enter done [] v) u (before ++ variable v ∷ []) e (entered before done [] v (record { pre = before; mid = []; at = sym (append-nil before); terms = m; parts = inl (refl, refl); order = tt; different = tt }) refl)
+  means_step (start done) (variable v) u before m e = moved (enter done [] v) u (before ++ variable v ∷ []) e (entered before done [] v (record { pre = before; mid = []; at = sym (append-nil before); terms = m; parts = none_closed times_sign (IsPart k); order = tt; different = tt }) refl)
   means_step (start done) (hex c) u before m e =
       elim (nat_lt c (2 ^ k)) as (λ b. nat_lt c (2 ^ k) ≡ b → cond b (Some (closed done (number c ∷ []))) None ≡ Some u → Means (before ++ hex c ∷ []) u) [
         | true ↦ λ is f. moved (closed done (number c ∷ [])) u (before ++ hex c ∷ []) f (record { pre = before; mid = hex c ∷ []; at = refl; terms = m; joined = (refl, ltb-true c (2 ^ k) is); order = tt; different = tt })
@@ -210,7 +193,7 @@ module _ (k : ℕ) where
       subst P same (whole_of before done [] m)
 
   pub is_whole : (ts : List Token) (s : State) (terms : List (List Part)) → goes k (start []) ts ≡ Some s → final s ≡ Some terms → IsPolynomial k ts terms
-  is_whole ts s terms e f = means_whole s ts terms (means_goes ts (start []) s [] (inl (refl, refl)) e) f
+  is_whole ts s terms e f = means_whole s ts terms (means_goes ts (start []) s [] (none_closed plus_sign (IsTerm k)) e) f
 
   -- each state has a shortest way on
   record IsCompleted (s : State) : Type 0 where
@@ -249,4 +232,4 @@ module _ (k : ℕ) where
   pub goes_beginning : 1 ≤ k → (ts : List Token) (s : State) → goes k (start []) ts ≡ Some s → IsBeginning k ts
   goes_beginning some ts s e =
       let c = completed some s in
-      (c.rest, c.terms, is_whole (ts ++ c.rest) c.state c.terms (goes_then k (start []) s ts c.rest e ∙ c.goes_on) c.end)
+      (c.rest, c.terms, is_whole (ts ++ c.rest) c.state c.terms (walk_then (step k) (start []) s ts c.rest e ∙ c.goes_on) c.end)

@@ -2,10 +2,10 @@
 use Rattle.std.proofs.Common.{◌≡◌, ◌⊎◌, ◌∙◌, ap, sym, refl, subst, inl, inr, ℕ, List, [], ◌∷◌, ◌++◌, Some, None, Result, Ok, Err}
 use Rattle.std.proofs.lemmas.List.{append_assoc}
 use Rattle.std.specs.List.{AllByRecursion}
-use Rattle.text_core.proofs.GeneralLemmas.{same_some as some_is}
+use Rattle.lists.specs.laws.OptionLaws.{same_some as some_is}
 use Rattle.poly_mixed.specs.Labels.{Labelling}
 use Rattle.poly_mixed.specs.Polynomial.{Terms}
-use Rattle.poly_mixed.specs.Scan.{skip}
+use Rattle.text_core.specs.Scan.{skip}
 use Rattle.poly_mixed.specs.Token.{Token, Front, token_front, AreFront}
 use Rattle.poly_mixed.specs.Grammar.{Part, IsPolynomial, IsBeginning}
 use Rattle.poly_mixed.specs.Said.{sum_of}

@@ -5,7 +5,7 @@ use Rattle.poly_mixed.specs.Monomial.{Monomial}
 use Rattle.poly_mixed.specs.Polynomial.{Terms}
 use Rattle.poly_mixed.specs.private.Reading.{Progress, advanced, read_on, zero_at, after_zero, coefficient_at, IsSaid}
 use Rattle.poly_mixed.specs.private.ReadingState.{IsStep}
-use Rattle.poly_mixed.specs.Scan.{run, skip, is_hex_digit}
+use Rattle.text_core.specs.Scan.{run, skip, is_hex_digit}
 use Rattle.poly_mixed.specs.declared.fault.PolyFault.{PolyFault}
 use Rattle.poly_mixed.specs.declared.fault.PolyFault.TheVariants.{Syntax, NoSuchNet, NoSuchBit, OutOfMemory}
 use Rattle.poly_mixed.specs.declared.read.Next.{Next}

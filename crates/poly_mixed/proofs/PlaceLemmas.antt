@@ -11,7 +11,9 @@ use Rattle.std.specs.Option.{option_map, unwrap_or}
 use Rattle.std.specs.Ordering.{match_ordering, eq_by_cmp, is_eq, ordering_reverse, nat_cmp}
 use Rattle.std.proofs.lemmas.Bool.{eqb-true, eqb-false, eq-eqb, ne_eqb}
 use Rattle.std.proofs.lemmas.Map.Made.{lookup-map_values}
-use Rattle.text_core.proofs.GeneralLemmas.{same_some as one_of, is_equal as equal, either}
+use Rattle.lists.specs.laws.BoolLaws.{either}
+use Rattle.lists.specs.laws.OptionLaws.{same_some as one_of}
+use Rattle.lists.specs.laws.OrderingLaws.{is_equal as equal}
 use Rattle.poly_mixed.specs.Cofactor.{LacksBit}
 use Rattle.poly_mixed.specs.Monomial.{Monomial, has_bit, text_cmp, text_cmp_total}
 use Rattle.poly_mixed.specs.Polynomial.{Terms, Slots, IsMap, coefficient}

@@ -11,7 +11,8 @@ use Rattle.poly_mixed.specs.Labels.{Labelling, bit_count, rank_text}
 use Rattle.poly_mixed.specs.Monomial.{Monomial, text_cmp, text_cmp_total}
 use Rattle.poly_mixed.specs.Polynomial.{Terms, IsElement, IsMap}
 use Rattle.poly_mixed.specs.Product.{with_rank}
-use Rattle.poly_mixed.specs.Text.{joined, powers_texts, variable_texts, factor_texts, hex_text, term_text}
+use Rattle.poly_mixed.specs.Text.{joined, powers_texts, variable_texts, factor_texts, term_text}
+use Rattle.text_core.specs.Numbers.{hex_text}
 use Rattle.std.specs.Map.{keys_of}
 use Rattle.poly_mixed.specs.Sum.{with_coefficient, plus_term, plus}
 use Rattle.poly_mixed.specs.Said.{added}

@@ -3,14 +3,14 @@ use Rattle.std.proofs.Common.{◌≡◌, ◌≢◌, ℕ, ◌^◌, Bool, true, fa
 use Rattle.std.proofs.lemmas.Bool.{ne_eqb, cases_eq}
 use Rattle.std.proofs.lemmas.Grind.{common_steps}
 use Rattle.text_core.specs.Numbers.{value_of}
-use Rattle.poly_mixed.specs.Labels.{Labelling}
-use Rattle.poly_mixed.specs.Scan.{run, after, skip, name_of, index_of, is_digit, is_hex_digit, is_letter, word_of, bit_of}
+use Rattle.poly_mixed.specs.Labels.{Labelling, word_of, bit_of}
+use Rattle.text_core.specs.Scan.{run, after, skip, name_of, index_of, is_digit, is_hex_digit, is_letter, has_digits}
 use Rattle.poly_mixed.specs.Said.{net_rank}
 use Rattle.poly_mixed.specs.private.Reading.{Scanned, net_found, bit_found, word_found, net_at, named_at, name_at, variable_at, number_at, exponent_in}
-use Rattle.poly_mixed.specs.Token.{word, bit, net, variable, hex, figures, plus_sign, times_sign, power_sign, Front, net_front, name_with, name_front, has_digits, number_front, sign_front, token_front}
+use Rattle.poly_mixed.specs.Token.{word, bit, net, variable, hex, figures, plus_sign, times_sign, power_sign, Front, net_front, name_with, name_front, number_front, sign_front, token_front}
 use Rattle.poly_mixed.specs.declared.fault.PolyFault.TheVariants.{Syntax}
 use Rattle.poly_mixed.specs.declared.variables.Variable.{Variable}
-use Rattle.poly_mixed.proofs.RunLemmas.{run_front}
+use Rattle.text_core.proofs.RunLemmas.{run_front}
 use Rattle.poly_mixed.proofs.FrontLemmas.{by_front, by_number, by_sign}
 
 -- ---- what a token says where a variable or an exponent is to come

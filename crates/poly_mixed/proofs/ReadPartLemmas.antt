@@ -5,7 +5,7 @@ use Rattle.text_core.specs.Lines.{is_blank}
 use Rattle.poly_mixed.specs.Labels.{Labelling, AreLabels}
 use Rattle.poly_mixed.specs.Monomial.{Monomial}
 use Rattle.poly_mixed.specs.Polynomial.{Terms}
-use Rattle.poly_mixed.specs.Scan.{run, skip}
+use Rattle.text_core.specs.Scan.{run, skip}
 use Rattle.poly_mixed.specs.Token.{Named, word, Token, variable, hex, figures, plus_sign, times_sign, power_sign, Front, token_front}
 use Rattle.poly_mixed.specs.Grammar.{Part, number, factor, variables}
 use Rattle.poly_mixed.specs.Said.{one, with_part, monomial_of, coefficient_of, added, with_term, sum_of}

@@ -5,7 +5,7 @@ use Rattle.std.specs.List.{AllByRecursion}
 use Rattle.poly_mixed.specs.Labels.{Labelling, AreLabels}
 use Rattle.poly_mixed.specs.Monomial.{Monomial}
 use Rattle.poly_mixed.specs.Polynomial.{Terms}
-use Rattle.poly_mixed.specs.Scan.{skip}
+use Rattle.text_core.specs.Scan.{skip}
 use Rattle.poly_mixed.specs.Token.{Token, Front, token_front, AreFront}
 use Rattle.poly_mixed.specs.Grammar.{Part, variables}
 use Rattle.poly_mixed.specs.Said.{one, monomial_of, coefficient_of, sum_of}
@@ -15,7 +15,8 @@ use Rattle.poly_mixed.specs.declared.fault.PolyFault.{PolyFault}
 use Rattle.poly_mixed.specs.declared.fault.PolyFault.TheVariants.{Syntax, NoSuchNet, NoSuchBit, OutOfMemory}
 use Rattle.poly_mixed.proofs.PartLemmas.{err_on}
 use Rattle.poly_mixed.proofs.TextLemmas.{all_more}
-use Rattle.poly_mixed.proofs.MachineLemmas.{State, start, inside, step, final, goes, goes_then, whole_ends, beginning_goes}
+use Rattle.text_core.proofs.WalkLemmas.{walk_then}
+use Rattle.poly_mixed.proofs.MachineLemmas.{State, start, inside, step, final, goes, whole_ends, beginning_goes}
 use Rattle.poly_mixed.proofs.MachineMeansLemmas.{is_whole, goes_beginning}
 use Rattle.poly_mixed.proofs.TrackLemmas.{Tracks}
 
@@ -45,7 +46,7 @@ module _ (l : Labelling) (k : ℕ) (bytes : List ℕ) (some : 1 ≤ k) (are : Ar
   front_more bs (x ∷ before) rest after t a e = (a.0, a.1, front_more a.0 before rest after t a.2 e)
 
   goes_more : (before : List Token) (s u : State) (t : Token) → goes k (start []) before ≡ Some s → step k s t ≡ Some u → goes k (start []) (before ++ t ∷ []) ≡ Some u
-  goes_more before s u t e f = goes_then k (start []) s before (t ∷ []) e ∙ ap (λ (o : Option State). option_and_then (λ v. goes k v []) o) f
+  goes_more before s u t e f = walk_then (step k) (start []) s before (t ∷ []) e ∙ ap (λ (o : Option State). option_and_then (λ v. goes k v []) o) f
 
   pub forward : (before : List Token) (s u : State) (rest after : List ℕ) (t : Token) → IsAt before s rest → token_front (skip rest) ≡ Some (t, after) → step k s t ≡ Some u → name_fault l t ≡ None → IsAt (before ++ t ∷ []) u after
   forward before s u rest after t a e f n = record {
@@ -68,7 +69,7 @@ module _ (l : Labelling) (k : ℕ) (bytes : List ℕ) (some : 1 ≤ k) (are : Ar
           refl,
           λ is.
               let found = beginning_goes k (before ++ t ∷ []) is in
-              let stops : goes k (start []) (before ++ t ∷ []) ≡ None = goes_then k (start []) s before (t ∷ []) a.goes_on ∙ ap (λ (o : Option State). option_and_then (λ v. goes k v []) o) f in
+              let stops : goes k (start []) (before ++ t ∷ []) ≡ None = walk_then (step k) (start []) s before (t ∷ []) a.goes_on ∙ ap (λ (o : Option State). option_and_then (λ v. goes k v []) o) f in
               let bad : None ≡ Some found.0 = sym stops ∙ found.1 in
               absurd (cc),
         ));

@@ -5,13 +5,13 @@ use Rattle.std.specs.List.{AllByRecursion}
 use Rattle.std.specs.List.Sorted.{IsStrictlySortedBy}
 use Rattle.std.proofs.Math.Nat.{pow-le-pow_right}
 use Rattle.std.proofs.lemmas.Bool.{eqb-false}
-use Rattle.poly_mixed.specs.Labels.{Labelling}
+use Rattle.poly_mixed.specs.Labels.{Labelling, word_of, bit_of}
 use Rattle.poly_mixed.specs.Monomial.{Monomial, text_cmp}
 use Rattle.poly_mixed.specs.Polynomial.{Terms, IsElement, IsMonomial, IsTerm, IsReduced}
-use Rattle.poly_mixed.specs.Scan.{word_of, bit_of}
 use Rattle.poly_mixed.specs.Sum.{plus}
 use Rattle.poly_mixed.specs.Token.{word, bit, net, Token}
-use Rattle.poly_mixed.specs.Grammar.{Part, number, factor, IsPart, AreJoined, IsTerm as IsTermOf}
+use Rattle.poly_mixed.specs.Grammar.{Part, number, factor, IsPart, IsTerm as IsTermOf}
+use Rattle.text_core.specs.Joined.{AreJoined}
 use Rattle.poly_mixed.specs.Said.{net_rank, one, with_power, with_bit_of, with_part, monomial_of, coefficient_of, added, with_term, sum_of}
 use Rattle.poly_mixed.specs.TextOutcome.{IsRead}
 use Rattle.poly_mixed.proofs.ProductLemmas.{rising-with_rank}

@@ -1,7 +1,7 @@
 -- What a call that reads a text gives.
 use Rattle.std.proofs.Common.{◌≡◌, ℕ, ◌≤◌, List, Result, Ok, Err, subst}
 use Rattle.std.specs.Prelude.{IfOk, IfErr}
-use Rattle.text_core.specs.Outcome.{Fits}
+use Rattle.outcome.specs.Outcome.{Fits}
 use Rattle.poly_mixed.specs.Labels.{Labelling, AreLabels}
 use Rattle.poly_mixed.specs.Polynomial.{Polynomial, Terms, IsReduced}
 use Rattle.poly_mixed.specs.TextOutcome.{text_fault, TextOutcome}

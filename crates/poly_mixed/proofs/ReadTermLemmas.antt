@@ -10,14 +10,14 @@ use Rattle.text_core.specs.Numbers.{value_of}
 use Rattle.poly_mixed.specs.Labels.{Labelling}
 use Rattle.poly_mixed.specs.Monomial.{Monomial}
 use Rattle.poly_mixed.specs.Polynomial.{Terms}
-use Rattle.poly_mixed.specs.Scan.{run, after, skip, is_digit, is_hex_digit}
+use Rattle.text_core.specs.Scan.{run, after, skip, is_digit, is_hex_digit, has_digits}
 use Rattle.poly_mixed.specs.Said.{one, added}
 use Rattle.poly_mixed.specs.private.Reading.{Scanned, Progress, done, more, with_variable, next_at, after_factor, factor_at, after_zero, coefficient_at, zero_at, term_at}
-use Rattle.poly_mixed.specs.Token.{variable, hex, figures, plus_sign, times_sign, power_sign, Front, has_digits, number_front, token_front}
+use Rattle.poly_mixed.specs.Token.{variable, hex, figures, plus_sign, times_sign, power_sign, Front, number_front, token_front}
 use Rattle.poly_mixed.specs.declared.fault.PolyFault.{PolyFault}
 use Rattle.poly_mixed.specs.declared.fault.PolyFault.TheVariants.{Syntax}
 use Rattle.poly_mixed.specs.declared.variables.Variable.{Variable}
-use Rattle.poly_mixed.proofs.RunLemmas.{skip_none, run_front, after_front}
+use Rattle.text_core.proofs.RunLemmas.{skip_none, run_front, after_front}
 use Rattle.poly_mixed.proofs.FrontLemmas.{by_front, by_number, by_sign}
 use Rattle.poly_mixed.proofs.ReadFactorLemmas.{variable_in, variable_is}
 

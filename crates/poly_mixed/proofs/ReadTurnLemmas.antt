@@ -2,13 +2,13 @@
 use Rattle.std.proofs.Common.{◌≡◌, ◌≢◌, ℕ, zero, suc, ◌+◌, ◌<◌, ◌≤◌, ◌^◌, Bool, true, false, cond, ◌&&◌, not, List, [], ◌∷◌, ◌++◌, length, nat_lt, ◌==◌, Option, Some, None, Result, Ok, Err, slice_set, get_or, refl, sym, ◌∙◌, ap, subst, arith}
 use Rattle.std.specs.Prelude.{bytes_eq}
 use Rattle.std.proofs.lemmas.Bool.{ltb-true, and_parts}
+use Rattle.lists.specs.laws.OptionLaws.{same_some as some_is}
 use Rattle.text_core.specs.Numbers.{value_of}
-use Rattle.text_core.proofs.GeneralLemmas.{same_some as some_is}
-use Rattle.poly_mixed.specs.Labels.{Labelling, AreLabels}
+use Rattle.poly_mixed.specs.Labels.{Labelling, AreLabels, word_of, bit_of}
 use Rattle.poly_mixed.specs.Monomial.{Monomial, has_bit}
 use Rattle.poly_mixed.specs.Polynomial.{Terms}
 use Rattle.poly_mixed.specs.Product.{with_rank}
-use Rattle.poly_mixed.specs.Scan.{skip, word_of, bit_of}
+use Rattle.text_core.specs.Scan.{skip}
 use Rattle.poly_mixed.specs.Token.{Named, word, bit, net, Token, variable, hex, figures, plus_sign, times_sign, power_sign, Front, token_front}
 use Rattle.poly_mixed.specs.Grammar.{Part, number, factor, variables}
 use Rattle.poly_mixed.specs.Said.{net_rank, one, with_power, with_bit_of, with_part, sum_of}

@@ -3,13 +3,13 @@ use Rattle.std.proofs.Common.{◌≡◌, ℕ, zero, suc, ◌<◌, ◌≤◌, ◌
 use lib.Bits.{xor_zero_l, xor_zero_r, xor_assoc, xor_lt}
 use Rattle.std.proofs.lemmas.Bool.{ne_eqb, eq-eqb, cases_eq}
 use Rattle.std.specs.List.{AllByRecursion}
+use Rattle.lists.specs.laws.XorLaws.{xor_swap}
 use Rattle.poly_mixed.specs.Polynomial.{IsElement}
 use Rattle.poly_mixed.proofs.FieldLaws.{IsField}
 use Rattle.poly_mixed.proofs.Independent.{IsPower, power_value, IsIndependent}
 use Rattle.gf_field.specs.Power.{power}
 use Rattle.gf_field.specs.Roots.{value, HasFewRoots}
 use Rattle.poly_mixed.specs.Sum.{xor_sum}
-use Rattle.gf_field.specs.laws.XorLaws.{xor_swap}
 use Rattle.poly_mixed.proofs.ValueLemmas.{zero_element, one_element, power_element, product_by_zero}
 
 -- c more at the power e

@@ -3,8 +3,7 @@ use Rattle.std.proofs.Common.{◌≡◌, ℕ, zero, suc, ◌+◌, ◌<◌, ◌�
 use Rattle.std.proofs.lemmas.Bool.{ne_eqb, eq-eqb}
 use Rattle.std.specs.List.{AllByRecursion}
 use Rattle.std.specs.Option.{option_map}
-use Rattle.poly_mixed.specs.Labels.{Differs, AreDifferent}
-use Rattle.poly_mixed.specs.Scan.{net_of}
+use Rattle.poly_mixed.specs.Labels.{Differs, AreDifferent, net_of}
 
 pub none_of_large : (nets : List ℕ) (n : ℕ) → 2 ^ 32 ≤ n → AllByRecursion (λ m. m < 2 ^ 32) nets → net_of nets n ≡ None
 none_of_large [] n h all = refl

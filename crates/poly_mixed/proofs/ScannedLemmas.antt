@@ -8,15 +8,17 @@ use Rattle.std.specs.Option.{option_and_then}
 use Rattle.text_core.specs.Lines.{is_blank}
 use Rattle.text_core.specs.Names.{IsName}
 use Rattle.text_core.specs.Numbers.{value_of}
-use Rattle.poly_mixed.specs.Labels.{Labelling, bit_count, rank_text, bit_text, net_text}
+use Rattle.poly_mixed.specs.Labels.{Labelling, bit_count, rank_text, bit_text, net_text, word_of, bit_of, net_of}
 use Rattle.poly_mixed.specs.Monomial.{Monomial}
 use Rattle.poly_mixed.specs.Said.{net_rank}
 use Rattle.poly_mixed.specs.private.Reading.{variable_at, named_at, name_at, net_at, net_found, bit_found, word_found, number_at, exponent_in, exponent_at, with_exponent, with_variable}
-use Rattle.poly_mixed.specs.Scan.{run, skip, name_of, index_of, closed_by, is_digit, is_hex_digit, is_letter, is_name_byte, word_of, bit_of, net_of}
+use Rattle.text_core.specs.Scan.{run, skip, name_of, index_of, closed_by, is_digit, is_hex_digit, is_letter, is_name_byte}
 use Rattle.poly_mixed.specs.declared.fault.PolyFault.TheVariants.{Syntax}
 use Rattle.poly_mixed.specs.declared.variables.Variable.TheVariants.{Word, Rank}
-use Rattle.poly_mixed.proofs.RunLemmas.{Stops, Passes, run_front, drop_front, after_front, skip_none, decimal_digits}
-use Rattle.poly_mixed.proofs.SpelledLemmas.{name_front, letter, IsBitText, IsNetText}
+use Rattle.text_core.proofs.RunLemmas.{Stops, Passes, run_front, drop_front, after_front, skip_none}
+use Rattle.text_core.proofs.WrittenLemmas.{decimal_digits}
+use Rattle.poly_mixed.proofs.SpelledLemmas.{name_front, IsBitText, IsNetText}
+use Rattle.text_core.proofs.ByteLemmas.{letter}
 
 -- what may stand after a printed variable
 pub record IsEnd (s : List ℕ) : Type 0 where

@@ -1,5 +1,5 @@
 -- Polynomials of one term in bits, and the steps of a table.
-use Rattle.std.proofs.Common.{◌≡◌, ℕ, zero, suc, ◌+◌, ◌-◌, ◌*◌, ◌^◌, ◌<◌, ◌≤◌, mul_comm, mul_assoc, mul-one, mul-add, ap₂, ◌/◌, pow-suc, take, drop, get_or, length-take, length-drop, Bool, true, false, cond, ◌&&◌, ◌==◌, List, [], ◌∷◌, length, bit_xor, refl, sym, ◌∙◌, ap, subst, arith}
+use Rattle.std.proofs.Common.{◌≡◌, ℕ, zero, suc, ◌+◌, ◌-◌, ◌*◌, ◌^◌, ◌<◌, ◌≤◌, mul_comm, mul_assoc, mul-one, mul-add, ap₂, ◌/◌, pow-suc, take, drop, get_or, length-take, length-drop, Bool, true, false, cond, ◌&&◌, ◌==◌, List, [], ◌∷◌, length, bit_xor, IfOk, Result, Ok, Err, refl, sym, ◌∙◌, ap, subst, arith}
 use Rattle.std.proofs.lemmas.Nat.Bits.{shr_and_one, bit_at-lt}
 use Rattle.std.specs.Int.{bit_at}
 use Rattle.std.specs.Prelude.{bit_and}
@@ -15,6 +15,8 @@ use Rattle.poly_mixed.specs.Monomial.{Monomial, text_cmp}
 use Rattle.poly_mixed.specs.Polynomial.{Polynomial, Terms, Point, IsPoint, IsMonomial, IsReduced, term_value, value}
 use Rattle.poly_mixed.specs.Sum.{with_coefficient}
 use Rattle.poly_mixed.specs.Table.{index, table_bit}
+use Rattle.poly_mixed.specs.Product.{IsProduct}
+use Rattle.poly_mixed.specs.private.Choice.{IsBitTimes, IsChoice}
 use Rattle.poly_mixed.specs.laws.Uniqueness.{IsZeros}
 use Rattle.poly_mixed.specs.Polynomial.{IsPolynomialOf}
 use Rattle.poly_mixed.proofs.ValueLemmas.{one_element, zero_element, product_zero}
@@ -127,26 +129,45 @@ module _ {degree : ℕ} {mul : ℕ → ℕ → ℕ} (f : IsField degree mul) whe
       both : (s i : ℕ) → s * (1 + 2 * i) ≡ s + 2 * s * i
       both s i = mul-add s 1 (2 * i) ∙ ap₂ (λ m n. m + n) (mul-one s) (sym (mul_assoc s 2 i) ∙ ap (λ n. n * i) (mul_comm s 2))
 
-  -- the whole turn: low and high are the two halves, sum their sum, out the result
-  pub turn : (table base step r : ℕ) (rs : List ℕ) (low high sum bit product out : Terms)
+  -- the product of a bit and a polynomial
+  pub bit_product : (rank : ℕ) (bit change product : Terms) → IsPolynomialOf degree mul (λ p. cond (p.is_one rank) 1 0) bit → IsProduct degree mul product bit change → IsBitTimes degree mul rank change product
+  bit_product rank bit change product is times = λ p at. times p at ∙ ap (λ n. mul n (value mul p change)) (is.values p at)
+
+  -- low and the bit's part of the sum of both
+  pub chosen : (rank : ℕ) (low high sum product out : Terms)
+      → IsReduced degree sum → ((p : Point) → IsPoint degree p → value mul p sum ≡ bit_xor (value mul p high) (value mul p low))
+      → IsBitTimes degree mul rank sum product
+      → ((p : Point) → IsPoint degree p → value mul p out ≡ bit_xor (value mul p product) (value mul p low))
+      → IsChoice degree mul rank low high out
+  chosen rank low high sum product out rsum vsum vprod vout = λ p at.
+      let l = value mul p low in
+      let h = value mul p high in
+      let es : IsElement degree (bit_xor h l) = (let P : ℕ → Type 0 = IsElement degree in subst P (vsum p at) (value_element f p at sum rsum.terms)) in
+      vout p at ∙ ap (λ n. bit_xor n l) (vprod p at ∙ ap (λ n. mul (cond (p.is_one rank) 1 0) n) (vsum p at)) ∙ choose f (p.is_one rank) l h es
+
+  -- the whole turn: low and high are of the two halves of a table
+  pub turn : (table base step r : ℕ) (rs : List ℕ) (low high out : Terms)
       → IsPolynomialOf degree mul (λ p. cond (table_bit table (base + 2 * step * index p.is_one rs)) 1 0) low
       → IsPolynomialOf degree mul (λ p. cond (table_bit table (base + step + 2 * step * index p.is_one rs)) 1 0) high
-      → IsReduced degree sum → ((p : Point) → IsPoint degree p → value mul p sum ≡ bit_xor (value mul p high) (value mul p low))
-      → IsPolynomialOf degree mul (λ p. cond (p.is_one r) 1 0) bit
-      → ((p : Point) → IsPoint degree p → value mul p product ≡ mul (value mul p bit) (value mul p sum))
-      → IsReduced degree out → ((p : Point) → IsPoint degree p → value mul p out ≡ bit_xor (value mul p product) (value mul p low))
+      → IsReduced degree out → IsChoice degree mul r low high out
       → IsPolynomialOf degree mul (λ p. cond (table_bit table (base + step * index p.is_one (r ∷ rs))) 1 0) out
-  turn table base step r rs low high sum bit product out lo hi rsum vsum bi vprod rout vout = record {
+  turn table base step r rs low high out lo hi rout choice = record {
     reduced = rout;
     values = λ p at.
-        let l = value mul p low in
-        let h = value mul p high in
-        let es : IsElement degree (bit_xor h l) = (let P : ℕ → Type 0 = IsElement degree in subst P (vsum p at) (value_element f p at sum rsum.terms)) in
-        vout p at ∙ ap (λ n. bit_xor n l) (vprod p at ∙ (λ i. mul (bi.values p at i) (vsum p at i))) ∙ choose f (p.is_one r) l h es
+        choice p at
         ∙ (λ i. cond (p.is_one r) (hi.values p at i) (lo.values p at i))
         ∙ elim (p.is_one r) as (λ b. ◌≡◌ {A = ℕ} (cond b (cond (table_bit table (base + step + 2 * step * index p.is_one rs)) 1 0) (cond (table_bit table (base + 2 * step * index p.is_one rs)) 1 0)) (cond (table_bit table (cond b (base + step) base + 2 * step * index p.is_one rs)) 1 0)) [ true ↦ refl | false ↦ refl ]
         ∙ ap (λ n. cond (table_bit table n) 1 0) (sym (index_first base step p.is_one r rs));
   }
+
+  -- and where it comes out at all
+  pub turned : {E : Type 0} (table base step r : ℕ) (rs : List ℕ) (low high : Terms) (result : Result Polynomial E)
+      → IsPolynomialOf degree mul (λ p. cond (table_bit table (base + 2 * step * index p.is_one rs)) 1 0) low
+      → IsPolynomialOf degree mul (λ p. cond (table_bit table (base + step + 2 * step * index p.is_one rs)) 1 0) high
+      → IfOk result (λ q. IsReduced degree q.terms) → IfOk result (λ q. IsChoice degree mul r low high q.terms)
+      → IfOk result (λ q. IsPolynomialOf degree mul (λ p. cond (table_bit table (base + step * index p.is_one (r ∷ rs))) 1 0) q.terms)
+  turned table base step r rs low high (Ok q) lo hi reduced choice = turn table base step r rs low high q.terms lo hi reduced choice
+  turned table base step r rs low high (Err e) lo hi reduced choice = tt
 
 take_whole : (rs : List ℕ) (n : ℕ) → n ≡ length rs → take n rs ≡ rs
 take_whole [] zero e = refl

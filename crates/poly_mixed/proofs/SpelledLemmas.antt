@@ -8,9 +8,9 @@ use Rattle.std.specs.Char.{IsAsciiAlphabetic}
 use Rattle.std.specs.List.{AllByRecursion}
 use Rattle.std.specs.Option.{option_map}
 use Rattle.text_core.specs.Names.{IsName, IsNameByte}
-use Rattle.poly_mixed.specs.Labels.{Differs, AreDifferent, IsWord, bit_count, rank_text, bit_text, net_text}
-use Rattle.poly_mixed.specs.Scan.{name_of, is_letter, is_name_byte, word_of, bit_of, net_of}
-use Rattle.poly_mixed.proofs.RunLemmas.{Passes, Stops, run_front}
+use Rattle.poly_mixed.specs.Labels.{Differs, AreDifferent, IsWord, bit_count, rank_text, bit_text, net_text, word_of, bit_of, net_of}
+use Rattle.text_core.specs.Scan.{name_of, is_letter, is_name_byte}
+use Rattle.text_core.proofs.RunLemmas.{Passes, Stops, run_front}
 use Rattle.poly_mixed.proofs.ScanLemmas.{net_at_place}
 
 abbrev names : List (List ℕ × ℕ) → List (List ℕ)

@@ -10,8 +10,8 @@ use Rattle.std.specs.Map.{lookup, keys_of}
 use Rattle.std.specs.List.{AllByRecursion}
 use Rattle.std.specs.List.Sorted.{IsStrictlySortedBy}
 use Rattle.std.proofs.lemmas.Bool.{eqb-true}
+use Rattle.lists.specs.laws.XorLaws.{xor_swap}
 use Rattle.poly_mixed.specs.Sum.{with_coefficient, xor_sum, plus_term, plus}
-use Rattle.gf_field.specs.laws.XorLaws.{xor_swap}
 use Rattle.poly_mixed.proofs.TermLemmas.{all_plus_term}
 
 pub xor_cancel : (a b c : ℕ) → bit_xor a b ≡ bit_xor a c → b ≡ c

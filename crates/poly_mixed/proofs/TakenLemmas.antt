@@ -6,8 +6,8 @@ use Rattle.std.specs.List.Sorted.{IsStrictlySortedBy}
 use Rattle.std.specs.Map.{lookup, remove_entry}
 use Rattle.std.specs.Option.{unwrap_or}
 use Rattle.std.specs.Ordering.{nat_cmp, eq_by_cmp}
-use Rattle.gf_field.specs.laws.XorLaws.{xor_swap}
-use Rattle.text_core.proofs.GeneralLemmas.{either}
+use Rattle.lists.specs.laws.BoolLaws.{either}
+use Rattle.lists.specs.laws.XorLaws.{xor_swap}
 use Rattle.poly_mixed.specs.Cofactor.{LacksBit, lacking, cofactors, without_bit}
 use Rattle.poly_mixed.specs.Monomial.{Monomial, has_bit, text_cmp, text_cmp_total}
 use Rattle.poly_mixed.specs.Polynomial.{Terms, IsMap, coefficient}

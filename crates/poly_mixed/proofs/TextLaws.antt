@@ -7,13 +7,13 @@ use Rattle.poly_mixed.specs.Monomial.{Monomial}
 use Rattle.poly_mixed.specs.Polynomial.{Terms, IsTerm}
 use Rattle.poly_mixed.specs.Said.{one, added}
 use Rattle.poly_mixed.specs.private.Reading.{done, exponent_in, next_at, step_at, term_at, read_on, reading}
-use Rattle.poly_mixed.specs.Scan.{skip}
+use Rattle.text_core.specs.Scan.{skip}
 use Rattle.poly_mixed.specs.Text.{joined, term_text, text, HasNames}
 use Rattle.poly_mixed.specs.laws.TextLaw.{IsWritten, ReadsBack, OneText}
 use Rattle.poly_mixed.specs.declared.fault.PolyFault.{PolyFault}
 use Rattle.poly_mixed.proofs.ChainLemmas.{Leads, turn, term_lead}
 use Rattle.poly_mixed.proofs.ReadBackLemmas.{factors, factors_chain, term_written, total, total_is}
-use Rattle.poly_mixed.proofs.RunLemmas.{skip_none, skip_space}
+use Rattle.text_core.proofs.RunLemmas.{skip_none, skip_space}
 use Rattle.poly_mixed.proofs.ScannedLemmas.{IsEnd}
 use Rattle.poly_mixed.proofs.ReadPlaceLemmas.{MayCome}
 use Rattle.poly_mixed.proofs.ReadTurnLemmas.{reading_comes}

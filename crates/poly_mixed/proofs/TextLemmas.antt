@@ -3,7 +3,8 @@ use Rattle.std.proofs.Common.{◌≡◌, ◌≢◌, ℕ, zero, suc, get_or, drop
 use Rattle.std.specs.List.{AllByRecursion}
 use Rattle.poly_mixed.specs.Labels.{Labelling, AreLabels, Differs, AreDifferent, IsWord, bit_count}
 use Rattle.poly_mixed.specs.Parts.{parts_after}
-use Rattle.poly_mixed.specs.Text.{joined, is_none, factor_texts, hex_text, term_text, text}
+use Rattle.poly_mixed.specs.Text.{joined, is_none, factor_texts, term_text, text}
+use Rattle.text_core.specs.Numbers.{hex_text}
 use Rattle.poly_mixed.specs.Polynomial.{Terms}
 
 later_parts : (sep out x : List ℕ) (xs : List (List ℕ)) → parts_after sep false out (x ∷ xs) ≡ out ++ sep ++ joined sep (x ∷ xs)

@@ -5,11 +5,10 @@ use Rattle.std.specs.Option.{option_map, option_and_then}
 use Rattle.std.proofs.lemmas.Bool.{ne_eqb, eq-eqb, lt-ltb, eqb-true, ltb-true}
 use Rattle.std.proofs.lemmas.List.{get_or-set_same, get_or-set_other}
 use Rattle.std.proofs.lemmas.Slice.Eq.{bytes_eq-Decides}
-use Rattle.text_core.proofs.GeneralLemmas.{same_some as some_is}
-use Rattle.poly_mixed.specs.Labels.{Labelling, bit_count}
+use Rattle.lists.specs.laws.OptionLaws.{same_some as some_is}
+use Rattle.poly_mixed.specs.Labels.{Labelling, bit_count, word_of, bit_of, net_of}
 use Rattle.poly_mixed.specs.Monomial.{Monomial, has_bit}
 use Rattle.poly_mixed.specs.Product.{with_rank}
-use Rattle.poly_mixed.specs.Scan.{word_of, bit_of, net_of}
 use Rattle.poly_mixed.specs.Said.{net_rank, one}
 use Rattle.poly_mixed.specs.Token.{Named, word, bit, net}
 use Rattle.poly_mixed.proofs.IndexLemmas.{is_in-with_rank}

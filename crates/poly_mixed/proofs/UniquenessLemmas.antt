@@ -11,14 +11,14 @@ use Rattle.std.specs.List.Sorted.{IsStrictlySortedBy}
 use Rattle.std.specs.Map.{keys_of}
 use Rattle.std.specs.FinMap.{nat_cmp-IsAntisymmetric, slice_cmp-IsAntisymmetric}
 use Rattle.std.proofs.lemmas.Bool.{cases_lt, false_from_ne_true}
-use Rattle.text_core.proofs.GeneralLemmas.{is_equal}
+use Rattle.lists.specs.laws.OrderingLaws.{is_equal}
+use Rattle.lists.specs.laws.XorLaws.{xor_same}
 use Rattle.poly_mixed.specs.Polynomial.{IsElement}
 use Rattle.poly_mixed.proofs.FieldLaws.{IsField}
 use Rattle.poly_mixed.specs.Monomial.{Monomial, exponents_cmp, ranks_cmp, text_cmp}
 use Rattle.poly_mixed.specs.Polynomial.{Terms, Point, IsPoint, IsTerm, IsReduced, coefficient, powers, value}
 use Rattle.gf_field.specs.Power.{power}
 use Rattle.poly_mixed.specs.Sum.{xor_sum, plus}
-use Rattle.gf_field.specs.laws.XorLaws.{xor_same}
 use Rattle.poly_mixed.proofs.SumLemmas.{all_plus}
 use Rattle.poly_mixed.proofs.SubsetLemmas.{is_in, subset, whole}
 use Rattle.poly_mixed.specs.laws.Uniqueness.{IsZeros, InBits, UniqueInBits, Unique, OneSize}

@@ -1,8 +1,9 @@
 -- The grammar of the text of a polynomial: terms joined by `+`, each of parts joined by `*`, a coefficient first.
 -- Source: this project's own, docs/FORMATS.md.
-use Rattle.std.specs.Prelude.{◌≡◌, ◌⊎◌, ℕ, ◌<◌, ◌^◌, List, [], ◌∷◌, ◌++◌, codes}
+use Rattle.std.specs.Prelude.{◌≡◌, ◌⊎◌, ℕ, ◌<◌, ◌^◌, List, [], ◌∷◌, codes}
 use Rattle.std.specs.List.{AllByRecursion}
 use Rattle.text_core.specs.Numbers.{value_of}
+use Rattle.text_core.specs.Joined.{AreJoined, Begins}
 use Rattle.poly_mixed.specs.Labels.{AreDifferent}
 use Rattle.poly_mixed.specs.Token.{Named, word, bit, net, Token, variable, hex, figures, plus_sign, times_sign, power_sign}
 
@@ -21,12 +22,6 @@ IsFactor k ts (net n) e = (ts ≡ variable (net n) ∷ []) × (e ≡ 1)
 abbrev pub IsPart : ℕ → List Token → Part → Type 0
 IsPart k ts (number c) = (ts ≡ hex c ∷ []) × (c < 2 ^ k)
 IsPart k ts (factor v e) = IsFactor k ts v e
-
--- one or more parts with a sign between them
-abbrev pub AreJoined : {A : Type 0} → Token → (List Token → A → Type 0) → List Token → List A → Type 0
-AreJoined sign Is ts [] = ⊥
-AreJoined sign Is ts (a ∷ []) = Is ts a
-AreJoined sign Is ts (a ∷ b ∷ more) = (front : List Token) × (rest : List Token) × (ts ≡ front ++ sign ∷ rest) × Is front a × AreJoined sign Is rest (b ∷ more)
 
 abbrev pub IsVariable : Part → Type 0
 IsVariable (number c) = ⊥
@@ -54,4 +49,4 @@ IsPolynomial k = AreJoined plus_sign (IsTerm k)
 
 -- some tokens after these make a polynomial
 abbrev pub IsBeginning : ℕ → List Token → Type 0
-IsBeginning k ts = (rest : List Token) × (terms : List (List Part)) × IsPolynomial k (ts ++ rest) terms
+IsBeginning k ts = Begins (IsPolynomial k) ts

@@ -1,6 +1,7 @@
 -- The names of the variables of a text. Ranks are the bits of the words, by word and by place, and then other nets.
 -- Source: this project's own.
-use Rattle.std.specs.Prelude.{◌≢◌, ℕ, ◌+◌, ◌-◌, ◌<◌, ◌≤◌, ◌^◌, cond, List, [], ◌∷◌, ◌++◌, length, nat_lt, codes, decimal, slice_index, get_or, map}
+use Rattle.std.specs.Prelude.{◌≢◌, ℕ, ◌+◌, ◌-◌, ◌<◌, ◌≤◌, ◌^◌, cond, List, [], ◌∷◌, ◌++◌, length, nat_lt, codes, decimal, slice_index, get_or, map, ◌==◌, Option, Some, None, bytes_eq}
+use Rattle.std.specs.Option.{option_map}
 use Rattle.std.specs.List.{AllByRecursion}
 use Rattle.text_core.specs.Names.{IsName}
 
@@ -52,3 +53,20 @@ pub record AreLabels (l : Labelling) : Type 0 where
   pub names : AreDifferent (map (λ w. w.0) l.words)
   pub numbers : AllByRecursion (λ n. n < 2 ^ 32) l.nets
   pub nets : AreDifferent l.nets
+
+-- ---- what names name
+
+-- the number of the word with this name
+abbrev pub word_of : List (List ℕ × ℕ) → List ℕ → Option ℕ
+word_of [] name = None
+word_of (w ∷ ws) name = cond (bytes_eq w.0 name) (Some 0) (option_map (λ i. i + 1) (word_of ws name))
+
+-- the rank of the bit of this name and place
+abbrev pub bit_of : List (List ℕ × ℕ) → List ℕ → ℕ → Option ℕ
+bit_of [] name place = None
+bit_of (w ∷ ws) name place = cond (bytes_eq w.0 name) (cond (nat_lt place w.1) (Some place) None) (option_map (λ r. w.1 + r) (bit_of ws name place))
+
+-- the place of this number among the nets
+abbrev pub net_of : List ℕ → ℕ → Option ℕ
+net_of [] number = None
+net_of (n ∷ ns) number = cond (n == number) (Some 0) (option_map (λ i. i + 1) (net_of ns number))

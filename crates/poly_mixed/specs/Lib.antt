@@ -10,7 +10,6 @@ pub mod Steps
 pub mod Labels
 pub mod Text
 pub mod Parts
-pub mod Scan
 pub mod Token
 pub mod Grammar
 pub mod Said

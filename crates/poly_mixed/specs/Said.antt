@@ -1,11 +1,10 @@
 -- What the terms of a text say over labels. Source: this project's own, docs/FORMATS.md.
 use Rattle.std.specs.Prelude.{ℕ, ◌+◌, ◌^◌, cond, List, [], ◌∷◌, nat_lt, Option, None, Some, slice_set}
 use Rattle.std.specs.Option.{option_and_then}
-use Rattle.poly_mixed.specs.Labels.{Labelling, bit_count}
+use Rattle.poly_mixed.specs.Labels.{Labelling, bit_count, word_of, bit_of, net_of}
 use Rattle.poly_mixed.specs.Monomial.{Monomial, text_cmp}
 use Rattle.poly_mixed.specs.Polynomial.{Terms}
 use Rattle.poly_mixed.specs.Product.{with_rank}
-use Rattle.poly_mixed.specs.Scan.{word_of, bit_of, net_of}
 use Rattle.poly_mixed.specs.Sum.{with_coefficient, plus}
 use Rattle.poly_mixed.specs.Token.{word, bit, net}
 use Rattle.poly_mixed.specs.Grammar.{Part, number, factor}

@@ -1,8 +1,8 @@
 -- The text of a polynomial: its terms in their order, each its coefficient and its variables.
 -- Source: this project's own.
 use Rattle.std.specs.Prelude.{ℕ, ◌+◌, ◌<◌, Bool, ◌&&◌, true, false, not, cond, List, [], ◌∷◌, ◌++◌, map, length, codes, decimal, ◌==◌}
-use Rattle.std.specs.Fmt.{digits}
 use Rattle.std.specs.List.{AllByRecursion}
+pub use Rattle.text_core.specs.Numbers.{hex_text}
 use Rattle.poly_mixed.specs.Monomial.{Monomial}
 use Rattle.poly_mixed.specs.Polynomial.{Terms}
 use Rattle.poly_mixed.specs.Labels.{Labelling, rank_text, bit_count}
@@ -13,10 +13,6 @@ abbrev pub joined : List ℕ → List (List ℕ) → List ℕ
 joined separator [] = []
 joined separator (x ∷ []) = x
 joined separator (x ∷ y ∷ xs) = x ++ separator ++ joined separator (y ∷ xs)
-
--- lower case, without leading zeros
-abbrev pub hex_text : ℕ → List ℕ
-hex_text n = codes "0x" ++ digits 16 false n
 
 -- a power of a word: nothing for the exponent 0, the name alone for 1
 abbrev pub power_texts : List ℕ → ℕ → List (List ℕ)

@@ -3,10 +3,10 @@
 -- Source: this project's own, docs/FORMATS.md.
 use Rattle.std.specs.Prelude.{◌≡◌, ◌⊎◌, ℕ, List, [], ◌∷◌, ◌++◌, Option, None, Some, Ok, Err}
 use Rattle.std.specs.List.{AllByRecursion}
-use Rattle.text_core.specs.Outcome.{Outcome}
-use Rattle.poly_mixed.specs.Labels.{Labelling}
+use Rattle.outcome.specs.Outcome.{Outcome}
+use Rattle.poly_mixed.specs.Labels.{Labelling, word_of, bit_of}
 use Rattle.poly_mixed.specs.Polynomial.{Terms}
-use Rattle.poly_mixed.specs.Scan.{skip, word_of, bit_of}
+use Rattle.text_core.specs.Scan.{skip}
 use Rattle.poly_mixed.specs.Token.{word, bit, net, Token, variable, Front, token_front, AreFront}
 use Rattle.poly_mixed.specs.Grammar.{Part, IsPolynomial, IsBeginning}
 use Rattle.poly_mixed.specs.Said.{net_rank, sum_of}

@@ -1,8 +1,8 @@
 -- The tokens of the text of a polynomial: names, numbers, `W[i]`, `@n` and signs, each as long as it can be.
 -- Source: this project's own, docs/FORMATS.md.
-use Rattle.std.specs.Prelude.{◌≡◌, ℕ, Bool, false, ◌&&◌, cond, List, [], ◌∷◌, length, drop, nat_lt, ◌==◌, Option, Some, None}
+use Rattle.std.specs.Prelude.{◌≡◌, ℕ, cond, List, [], ◌∷◌, length, drop, nat_lt, ◌==◌, Option, Some, None}
 use Rattle.text_core.specs.Numbers.{value_of}
-use Rattle.poly_mixed.specs.Scan.{run, after, skip, name_of, index_of, is_digit, is_hex_digit, is_letter}
+use Rattle.text_core.specs.Scan.{run, after, skip, name_of, index_of, is_digit, is_hex_digit, is_letter, begins_hex}
 
 -- a variable as it is written: a word by its name, a bit of a word by its place, or a net by its number
 pub data Named : Type 0 where
@@ -35,14 +35,9 @@ name_with name rest (Some index) = Some (variable (bit name (value_of 10 index.0
 abbrev pub name_front : List ℕ → Front
 name_front bs = name_with (name_of bs) (drop (length (name_of bs)) bs) (index_of (drop (length (name_of bs)) bs))
 
--- whether `x` and a hexadecimal digit stand at the front
-abbrev pub has_digits : List ℕ → Bool
-has_digits [] = false
-has_digits (b ∷ bs) = (b == 120) && nat_lt 0 (length (run is_hex_digit bs))
-
 -- `0x` and digits, or decimal digits
 abbrev pub number_front : ℕ → List ℕ → Front
-number_front b bs = cond ((b == 48) && has_digits bs) (Some (hex (value_of 16 (run is_hex_digit (drop 1 bs))), after is_hex_digit (drop 1 bs))) (Some (figures (run is_digit (b ∷ bs)), after is_digit (b ∷ bs)))
+number_front b bs = cond (begins_hex (b ∷ bs)) (Some (hex (value_of 16 (run is_hex_digit (drop 1 bs))), after is_hex_digit (drop 1 bs))) (Some (figures (run is_digit (b ∷ bs)), after is_digit (b ∷ bs)))
 
 abbrev pub sign_front : ℕ → List ℕ → Front
 sign_front b bs = cond (b == 43) (Some (plus_sign, bs)) (cond (b == 42) (Some (times_sign, bs)) (cond (b == 94) (Some (power_sign, bs)) None))

@@ -5,7 +5,7 @@ ghost use Rattle.poly_mixed.specs.Slots.{IsListOf, slot_at};
 ghost use Rattle.poly_mixed.specs.private.Indexed.{Changes};
 
 use crate::Mono;
-use crate::lists::Lists;
+use crate::slot_lists::Lists;
 use slab::Slab;
 use std::alloc::{AllocError, Global};
 use std::marker::Model;

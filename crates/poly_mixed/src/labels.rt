@@ -1,8 +1,8 @@
 //! The names of the variables of a text.
 ghost use Rattle.std.specs.Prelude.{◌≡◌, ℕ, ◌+◌, ◌<◌, ◌≤◌, List, [], ◌∷◌, ◌++◌, length, map, slice_index, string_bytes, ◌^◌, cond, nat_lt, Option, Some, None, IfSome, IfOk, OnOk};
-ghost use Rattle.poly_mixed.specs.Labels.{Labelling, AreDifferent, AreLabels, Differs, word_at, rank_text, bit_count, bit_text as text_of_bit, net_text as text_of_net};
+ghost use Rattle.poly_mixed.specs.Labels.{Labelling, AreDifferent, AreLabels, Differs, word_at, rank_text, bit_count, bit_text as text_of_bit, net_text as text_of_net, word_of, bit_of, net_of};
 ghost use Rattle.poly_mixed.specs.Said.{net_rank as rank_of_net};
-ghost use Rattle.poly_mixed.specs.Scan.{IsValue, word_of, bit_of, net_of};
+ghost use Rattle.text_core.specs.Scan.{IsValue};
 ghost use Rattle.std.specs.List.{AllByRecursion};
 ghost use Rattle.std.specs.Option.{option_and_then};
 ghost use Rattle.text_core.specs.Names.{IsName};

@@ -1,7 +1,7 @@
 //! Laws of polynomials: functions that do nothing, whose contracts are the laws.
 ghost use Rattle.poly_mixed.specs.Order.{IsTextOrder};
 ghost use Rattle.std.specs.Prelude.{ℕ, List};
-ghost use Rattle.text_core.specs.Outcome.{Determined};
+ghost use Rattle.outcome.specs.Outcome.{Determined};
 ghost use Rattle.poly_mixed.specs.Labels.{Labelling};
 ghost use Rattle.poly_mixed.specs.TextOutcome.{TextOutcome};
 ghost use Rattle.poly_mixed.specs.laws.TextLaw.{ReadsBack, OneText};

@@ -1,5 +1,5 @@
 //! Monomials, in the order of terms in a text.
-ghost use Rattle.std.specs.Prelude.{◌≡◌, ◌+◌, ◌<◌, ◌≤◌, length, IfOk, refl};
+ghost use Rattle.std.specs.Prelude.{◌≡◌, ◌+◌, ◌<◌, ◌≤◌, ℕ, length, IfOk, refl};
 ghost use Rattle.std.specs.Prelude.{◌^◌, ◌++◌, take, drop, slice_index, slice_set, OnOk, OnErr};
 ghost use Rattle.std.specs.List.{AllByRecursion};
 ghost use Rattle.poly_mixed.specs.Cofactor.{without_bit};
@@ -239,6 +239,7 @@ fn add_rank(bits: &mut SmallVec<u32, 6>, r: u32) -> Result<(), AllocError>
 pub fn place_of(bits: &[u32], r: u32) -> usize
     ensures within { result ≤ length bits.now }
     ensures place { with_rank bits.now r ≡ take result bits.now ++ with_rank (drop result bits.now) r }
+    ensures below { (i : ℕ) → i < result → slice_index bits.now i < r }
     ensures stop { result < length bits.now → r ≤ slice_index bits.now result }
 {
     let mut i = 0;

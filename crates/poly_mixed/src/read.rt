@@ -1,20 +1,19 @@
 //! A polynomial from its text.
 ghost use Rattle.std.specs.Prelude.{◌≡◌, ◌==◌, ◌&&◌, ℕ, ◌≤◌, ◌^◌, length, nat_lt, OnOk, IfOk, IfErr, Ok};
+ghost use Rattle.outcome.specs.Outcome.{Fits};
 ghost use Rattle.poly_mixed.specs.Said.{added, one};
 ghost use Rattle.poly_mixed.specs.private.Reading.{reading, number_at, exponent_at, with_variable, next_at, factor_at, after_zero, coefficient_at, zero_at, term_at, advanced, IsSaid, IsScanned};
-ghost use Rattle.poly_mixed.specs.Scan.{run, is_hex_digit};
+ghost use Rattle.text_core.specs.Scan.{run, is_hex_digit};
 ghost use Rattle.poly_mixed.specs.private.ReadingState.{IsStep, IsAdded, IsFresh, IsFreshAfter, progress};
 ghost use Rattle.poly_mixed.specs.Polynomial.{Terms, IsReduced};
 ghost use Rattle.poly_mixed.specs.TextOutcome.{text_fault, TextOutcome};
-ghost use Rattle.text_core.specs.Outcome.{Fits};
 ghost use Rattle.poly_mixed.specs.Monomial.{Monomial};
 
-use crate::scan::{Class, after, front, skip};
 use crate::variables::{Variable, read_variable};
 use crate::{Labels, Mono, Poly, PolyFault};
 use std::alloc::{AllocError, Global};
 use std::mem;
-use text_core::value_in_base;
+use text_core::{Class, after, front, skip_blanks, value_in_base};
 
 // What comes after a part of a text: nothing, a term or a further factor.
 #[derive(Clone, Copy)]
@@ -82,7 +81,7 @@ impl Reading {
     {
         match read_variable(labels, bytes) {
             Ok((variable, rest)) => match add_variable(&mut self.mono, k, variable, rest) {
-                Ok(rest) => self.next(alloc, skip(rest)),
+                Ok(rest) => self.next(alloc, skip_blanks(rest)),
                 Err(fault) => Err(fault),
             },
             Err(fault) => Err(fault),
@@ -104,8 +103,8 @@ impl Reading {
     {
         match next {
             Next::Done => Ok(Next::Done),
-            Next::Term(rest) => self.term(alloc, labels, k, skip(rest)),
-            Next::Factor(rest) => self.factor(alloc, labels, k, skip(rest)),
+            Next::Term(rest) => self.term(alloc, labels, k, skip_blanks(rest)),
+            Next::Factor(rest) => self.factor(alloc, labels, k, skip_blanks(rest)),
         }
     }
 
@@ -144,7 +143,7 @@ impl Reading {
                 if is_coefficient(*first, digits) {
                     self.coefficient(alloc, k, digits)
                 } else {
-                    after_term_0(skip(bytes))
+                    after_term_0(skip_blanks(bytes))
                 }
             }
         }
@@ -165,7 +164,7 @@ impl Reading {
         match value_in_base(front(bytes, Class::HexDigit), 16) {
             Some(c) if is_below(c, k) => {
                 self.coefficient = c;
-                self.next(alloc, skip(after(bytes, Class::HexDigit)))
+                self.next(alloc, skip_blanks(after(bytes, Class::HexDigit)))
             }
             _ => Err(PolyFault::Syntax),
         }
@@ -274,8 +273,8 @@ fn exponent(k: u32, bytes: &[u8]) -> Result<(u64, &[u8]), PolyFault>
     requires { (1 ≤ k) × (k ≤ 64) }
     ensures { IsScanned (exponent_at k bytes.now) result }
 {
-    match skip(bytes) {
-        [b'^', rest @ ..] => number(k, skip(rest)),
+    match skip_blanks(bytes) {
+        [b'^', rest @ ..] => number(k, skip_blanks(rest)),
         _ => Ok((1, bytes)),
     }
 }

@@ -6,7 +6,7 @@ use crate::Poly;
 use std::alloc::AllocError;
 
 /// What is replaced: a net, by its number, or the bit at a place of an input, state or fed word.
-#[derive(Clone, Copy, Debug, PartialEq, Eq)]
+#[derive(Clone, Copy, PartialEq, Eq)]
 pub enum Generator {
     Net(u32),
     Bit { word: u32, place: u32 },
@@ -27,7 +27,7 @@ pub trait Steps {
 }
 
 /// Records nothing, tells nothing and takes no memory.
-#[derive(Clone, Copy, Debug)]
+#[derive(Clone, Copy)]
 pub struct NoSteps;
 
 impl Steps for NoSteps {

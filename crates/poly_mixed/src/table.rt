@@ -1,6 +1,7 @@
 //! Polynomials of tables over bits, and the exclusive-or form of a table.
 ghost use Rattle.std.specs.Prelude.{◌≡◌, ℕ, ◌+◌, ◌*◌, ◌%◌, ◌^◌, ◌<◌, ◌≤◌, Bool, List, cond, bit_and, bit_xor, length, IfOk};
-ghost use Rattle.poly_mixed.specs.Polynomial.{IsPolynomialOf};
+ghost use Rattle.poly_mixed.specs.Polynomial.{IsPolynomialOf, IsReduced};
+ghost use Rattle.poly_mixed.specs.private.Choice.{IsBitTimes, IsChoice};
 ghost use Rattle.poly_mixed.specs.Table.{index, subset_parity, table_bit, table_value};
 
 use crate::Poly;
@@ -40,11 +41,41 @@ fn table_from<F: Field>(
     }
     let low = table_from(alloc, field, &ranks[1..], table, base, 2 * step)?;
     let mut high = table_from(alloc, field, &ranks[1..], table, base + step, 2 * step)?;
-    high.add_into(field, &low)?;
-    let bit = scaled_bit(alloc, field, 1, ranks[0])?;
-    let mut out = bit.mul(alloc, field, &high)?;
-    out.add_into(field, &low)?;
+    choose(alloc, field, ranks[0], &low, &mut high)
+}
+
+// The polynomial of `high` where the bit of the rank is 1, and of `low` where it is 0; `high` is used up.
+fn choose<F: Field>(
+    alloc: Global,
+    field: &F,
+    rank: u32,
+    low: &Poly,
+    high: &mut Poly,
+) -> Result<Poly, AllocError>
+    requires low { IsReduced (F.degree field.now) low.now.terms }
+    requires high { IsReduced (F.degree field.now) high.old.terms }
+    ensures reduced { IfOk result (λ q. IsReduced (F.degree field.now) q.terms) }
+    ensures choice { IfOk result (λ q. IsChoice (F.degree field.now) (F.product field.now) rank low.now.terms high.old.terms q.terms) }
+{
+    high.add_into(field, low)?;
+    let mut out = bit_times(alloc, field, rank, high)?;
+    out.add_into(field, low)?;
     Ok(out)
+}
+
+// The product of the bit of a rank and a polynomial.
+fn bit_times<F: Field>(
+    alloc: Global,
+    field: &F,
+    rank: u32,
+    change: &Poly,
+) -> Result<Poly, AllocError>
+    requires { IsReduced (F.degree field.now) change.now.terms }
+    ensures reduced { IfOk result (λ q. IsReduced (F.degree field.now) q.terms) }
+    ensures values { IfOk result (λ q. IsBitTimes (F.degree field.now) (F.product field.now) rank change.now.terms q.terms) }
+{
+    let bit = scaled_bit(alloc, field, 1, rank)?;
+    bit.mul(alloc, field, change)
 }
 
 /// The exclusive-or form of a table: its bit at a place is the coefficient of the product of the inputs whose bits are 1 in

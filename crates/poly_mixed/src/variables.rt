@@ -1,14 +1,13 @@
 //! Variables at the front of a text.
-ghost use Rattle.std.specs.Prelude.{◌≡◌, length, drop, option_map};
+ghost use Rattle.std.specs.Prelude.{length, drop};
 ghost use Rattle.poly_mixed.specs.private.Reading.{variable_at, net_at, name_at, IsScanned};
-ghost use Rattle.poly_mixed.specs.Scan.{index_of, name_of};
+ghost use Rattle.text_core.specs.Scan.{name_of};
 
-use crate::scan::{Class, after, front, name};
 use crate::{Labels, PolyFault};
-use text_core::value_in_base;
+use text_core::{Class, after, front, front_index, front_name, value_in_base};
 
 /// A word, or the bit or net of a rank.
-#[derive(Clone, Copy, Debug, PartialEq, Eq)]
+#[derive(Clone, Copy)]
 pub(crate) enum Variable {
     Word(usize),
     Rank(u32),
@@ -46,9 +45,9 @@ fn read_net<'a>(labels: &Labels, bytes: &'a [u8]) -> Result<(Variable, &'a [u8])
 fn read_name<'a>(labels: &Labels, bytes: &'a [u8]) -> Result<(Variable, &'a [u8]), PolyFault>
     ensures { IsScanned (name_at labels.now bytes.now (drop (length (name_of bytes.now)) bytes.now)) result }
 {
-    let name = name(bytes);
+    let name = front_name(bytes);
     let rest = &bytes[name.len()..];
-    match index(rest) {
+    match front_index(rest) {
         Some((digits, rest)) => match labels.bit_rank(name, value_in_base(digits, 10)) {
             Some(rank) => Ok((Variable::Rank(rank), rest)),
             None => Err(PolyFault::NoSuchBit),
@@ -57,19 +56,5 @@ fn read_name<'a>(labels: &Labels, bytes: &'a [u8]) -> Result<(Variable, &'a [u8]
             Some(word) => Ok((Variable::Word(word), rest)),
             None => Err(PolyFault::Syntax),
         },
-    }
-}
-
-// The digits of an index `[i]` at the front, and what stands after it.
-fn index(bytes: &[u8]) -> Option<(&[u8], &[u8])>
-    ensures { option_map (λ r. (r.0.now, r.1.now)) result ≡ index_of bytes.now }
-{
-    let [b'[', rest @ ..] = bytes else {
-        return None;
-    };
-    let digits = front(rest, Class::Digit);
-    match after(rest, Class::Digit) {
-        [b']', rest @ ..] if !digits.is_empty() => Some((digits, rest)),
-        _ => None,
     }
 }

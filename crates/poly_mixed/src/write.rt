@@ -3,10 +3,12 @@ ghost use Rattle.std.specs.Prelude.{◌≡◌, ◌<◌, ◌+◌, ◌==◌, ◌&&
 ghost use Rattle.std.specs.List.{AllByRecursion};
 ghost use Rattle.poly_mixed.specs.Labels.{bit_count};
 ghost use Rattle.poly_mixed.specs.Parts.{part_after, parts_after};
-ghost use Rattle.poly_mixed.specs.Text.{HasNames, HasWordNames, text, hex_text, is_none, term_text as text_of_term, variable_texts, power_texts, joined};
+ghost use Rattle.poly_mixed.specs.Text.{HasNames, HasWordNames, text, is_none, term_text as text_of_term, variable_texts, power_texts, joined};
+ghost use Rattle.text_core.specs.Numbers.{hex_text};
 
 use crate::{Labels, Mono, Poly};
 use std::alloc::{AllocError, Global};
+use text_core::push_hex;
 
 /// The text of a polynomial whose variables all have names in the labels, as `is_named` says: terms joined by ` + `, or `0`.
 pub fn write_poly(alloc: Global, poly: &Poly, labels: &Labels) -> Result<Vec<u8>, AllocError>
@@ -50,11 +52,11 @@ fn is_bare(c: u64, variables: &[String]) -> bool
 fn coefficient_text(alloc: Global, bare: bool, c: u64) -> Result<Vec<u8>, AllocError>
     ensures { IfOk result (λ v. v.items ≡ cond bare [] (hex_text c)) }
 {
-    if bare {
-        return Ok(Vec::new(alloc));
+    let mut text = Vec::new(alloc);
+    if !bare {
+        push_hex(&mut text, u128::from(c))?;
     }
-    let text = format!(in alloc; "0x{:x}", c)?;
-    Vec::from_slice(alloc, text.as_bytes())
+    Ok(text)
 }
 
 // The variables of a monomial, in their order.

@@ -5,19 +5,20 @@ use Rattle.std.specs.Int.{bit_at}
 use Rattle.std.proofs.lemmas.Bool.{eq-eqb, ne_eqb}
 use Rattle.std.proofs.lemmas.List.{get_or-reverse, length-reverse}
 use Rattle.std.proofs.lemmas.Option.{slice_get-get_or, slice_get_within, get_or_from_slice_get}
+use Rattle.lists.specs.Lists.{Has}
+use Rattle.lists.specs.laws.HasLaws.{All_has}
+use Rattle.lists.specs.laws.NumberLaws.{nat_eq_or}
 use Rattle.net_core.specs.GateValue.{GateValue}
 use Rattle.net_core.specs.NetList.{NetList, nets}
-use Rattle.net_core.specs.Lists.{Has}
 use Rattle.net_core.specs.Sound.{IsSound}
 use Rattle.net_core.specs.Level.{Levels, AreLevels}
 use Rattle.net_core.specs.Levelled.{AllHaveLevels}
 use Rattle.net_core.specs.Order.{rank_at, IsOrder, IsElimination}
 use Rattle.net_core.specs.Value.{bit_of, index_of, IsRight}
-use Rattle.net_core.proofs.DriverLemmas.{gates_apart, gate_inside, All_has}
+use Rattle.net_core.proofs.DriverLemmas.{gates_apart, gate_inside}
 use Rattle.net_core.proofs.EvalLemmas.{inputs_below}
 use Rattle.net_core.proofs.ExistLemmas.{sound_levels}
 use Rattle.net_core.proofs.LawLemmas.{levels_only}
-use Rattle.net_core.proofs.LevelLemmas.{nat_eq_or}
 use Rattle.net_core.proofs.OrderLemmas.{before_all}
 use Rattle.poly_mixed.specs.Polynomial.{Terms, Point, IsReduced}
 use Rattle.poly_mixed.specs.Table.{index}

@@ -1,9 +1,9 @@
 -- The first cut: all nets are free.
 use Rattle.std.proofs.Common.{◌≡◌, ℕ, zero, suc, ◌<◌, ◌+◌, ◌*◌, ◌/◌, ◌%◌, ◌^◌, Bool, true, false, cond, List, [], ◌∷◌, length, get_or, take, bit_xor, sym, ap, subst, ◌∙◌, arith}
+use Rattle.lists.specs.Lists.{Has}
 use lib.Bits.{xor_zero_l, xor_zero_r, xor_assoc}
 use Rattle.irreducible.specs.Span.{combination}
 use Rattle.net_core.specs.NetList.{NetList, nets}
-use Rattle.net_core.specs.Lists.{Has}
 use Rattle.net_core.specs.Value.{index_of}
 use Rattle.poly_mixed.specs.Polynomial.{Terms, Point, IsPoint, IsReduced, value}
 use Rattle.poly_mixed.specs.Table.{index}

@@ -4,10 +4,8 @@ use Rattle.std.specs.Prelude.{slice_get}
 use Rattle.std.proofs.lemmas.Option.{slice_get_within, slice_get_read}
 use Rattle.net_core.specs.GateValue.{GateValue}
 use Rattle.net_core.specs.NetList.{NetList, nets}
-use Rattle.net_core.specs.Lists.{Has, times}
 use Rattle.net_core.specs.Sound.{IsSound}
 use Rattle.net_core.specs.Order.{IsElimination}
-use Rattle.net_core.proofs.DriverLemmas.{times_some}
 use Rattle.net_words.specs.Binding.{BoundNet}
 use Rattle.net_words.specs.OneCycle.{IsOneCycle}
 use Rattle.net_words.specs.Variables.{variables}
@@ -32,6 +30,8 @@ use Rattle.stage_model.specs.Variables.{rank_in}
 use Rattle.stage_model.specs.CutSteps.{AreStepsAt}
 use Rattle.rato_reduce.proofs.RecordedLemmas.{IsRecordedBy, one_recorded}
 use Rattle.std.proofs.Common.{Option}
+use Rattle.lists.specs.Lists.{Has, times}
+use Rattle.lists.specs.laws.HasLaws.{times_some}
 
 -- a position in the order is that of a gate
 pub position_inside : (net : NetList) (order : List ℕ) (t position : ℕ) → IsElimination net order → slice_get order t ≡ Some position → position < length net.gates

@@ -1,8 +1,8 @@
 //! One gate put in place of its output.
 ghost use Rattle.std.specs.Prelude.{◌≡◌, ◌<◌, List, [], ◌∷◌, map, IfOk, OnOk};
 ghost use Rattle.std.specs.List.{AllByRecursion};
+ghost use Rattle.lists.specs.Lists.{Has};
 ghost use Rattle.net_core.specs.NetList.{nets};
-ghost use Rattle.net_core.specs.Lists.{Has};
 ghost use Rattle.net_core.specs.Sound.{IsSound};
 ghost use Rattle.net_words.specs.Variables.{variables};
 ghost use Rattle.poly_mixed.specs.Monomial.{text_cmp};

@@ -1,10 +1,10 @@
 //! The output word as a polynomial in the bits of its nets.
 ghost use Rattle.std.specs.Prelude.{◌≡◌, ◌<◌, ℕ, cond, bit_xor, length, IfOk, OnOk};
+ghost use Rattle.lists.specs.Lists.{Has};
 ghost use Rattle.irreducible.specs.Span.{combination};
 ghost use Rattle.gf_basis.specs.BasisParts.{elements_of, IsBasisOver};
 ghost use Rattle.net_core.specs.NetList.{nets};
 ghost use Rattle.net_core.specs.Order.{IsElimination};
-ghost use Rattle.net_core.specs.Lists.{Has};
 ghost use Rattle.net_words.specs.Variables.{variables};
 ghost use Rattle.poly_mixed.specs.Polynomial.{IsElement, IsPoint, IsPolynomialOf, IsReduced, Point, value};
 ghost use Rattle.poly_mixed.specs.Table.{index};

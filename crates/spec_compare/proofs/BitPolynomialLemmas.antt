@@ -2,8 +2,8 @@
 use Rattle.std.proofs.Common.{◌≡◌, ◌⊎◌, ◌∙◌, ap, sym, refl, inl, inr, ℕ, zero, suc, ◌+◌, List, [], ◌∷◌, length, Some, arith}
 use Rattle.std.specs.Prelude.{slice_get}
 use Rattle.std.specs.declared.cmp.Ordering.TheVariants.{Less, Equal, Greater}
-use Rattle.graph_core.proofs.ListLemmas.{get_below}
-use Rattle.gf_field.specs.laws.XorLaws.{xor_same}
+use Rattle.lists.specs.laws.ReadLaws.{get_below}
+use Rattle.lists.specs.laws.XorLaws.{xor_same}
 use Rattle.poly_mixed.specs.Monomial.{Monomial, text_cmp}
 use Rattle.poly_mixed.specs.Polynomial.{Terms, coefficient, value}
 use Rattle.poly_mixed.specs.Sum.{plus}

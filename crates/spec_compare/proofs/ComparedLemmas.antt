@@ -8,8 +8,8 @@ use Rattle.std.specs.List.Sorted.{IsStrictlySortedBy}
 use Rattle.std.proofs.Math.Nat.{mul-suc, mul-le-mul_left}
 use Rattle.std.proofs.lemmas.Bool.{cases_lt}
 use Rattle.std.proofs.lemmas.List.{length-append}
-use Rattle.graph_core.specs.Graph.{Has}
-use Rattle.gf_field.specs.laws.XorLaws.{xor_same}
+use Rattle.lists.specs.Lists.{Has}
+use Rattle.lists.specs.laws.XorLaws.{xor_same}
 use Rattle.poly_mixed.specs.Monomial.{Monomial, has_bit, text_cmp}
 use Rattle.poly_mixed.specs.Polynomial.{Terms, Point, IsPoint, IsReduced, IsTerm, coefficient, value}
 use Rattle.poly_mixed.specs.Cofactor.{LacksBit}

@@ -9,8 +9,8 @@ use Rattle.std.proofs.Math.Nat.{pow-succ'}
 use Rattle.std.proofs.lemmas.Bool.{and_from, eq-eqb, or_left, or_right}
 use Rattle.std.proofs.lemmas.Nat.Bits.{bit_at_lowest, bit_at-suc}
 use Rattle.std.proofs.lemmas.Option.{slice_get_within}
-use Rattle.graph_core.specs.Graph.{Has}
-use Rattle.graph_core.proofs.ListLemmas.{get_below}
+use Rattle.lists.specs.Lists.{Has}
+use Rattle.lists.specs.laws.ReadLaws.{get_below}
 use Rattle.irreducible.specs.Span.{combination}
 use Rattle.irreducible.specs.laws.SpanLaws.{combination_below}
 use Rattle.net_words.proofs.MemberLemmas.{stands_has}

@@ -10,9 +10,9 @@ use Rattle.std.specs.List.Sorted.{IsStrictlySortedBy}
 use Rattle.std.proofs.Math.Nat.{mul-suc, mul-le-mul_left}
 use Rattle.std.proofs.lemmas.Bool.{cases_lt, eq-eqb, eqb-true}
 use Rattle.std.proofs.lemmas.Option.{slice_get_within}
-use Rattle.graph_core.specs.Graph.{Has}
-use Rattle.graph_core.proofs.GeneralLemmas.{all_in as all_has}
-use Rattle.graph_core.proofs.ListLemmas.{get_below}
+use Rattle.lists.specs.Lists.{Has}
+use Rattle.lists.specs.laws.HasLaws.{all_in as all_has}
+use Rattle.lists.specs.laws.ReadLaws.{get_below}
 use Rattle.net_core.specs.NetList.{nets}
 use Rattle.net_core.specs.Value.{bit_of}
 use Rattle.net_words.proofs.MemberLemmas.{stands_has}

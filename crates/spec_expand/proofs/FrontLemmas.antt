@@ -4,15 +4,15 @@ use Rattle.std.specs.Prelude.{slice_index}
 use Rattle.std.proofs.lemmas.Bool.{lt-ltb, eq-eqb}
 use Rattle.std.proofs.lemmas.Bool.Decides.{nat_tests}
 use Rattle.std.specs.Char.{IsAsciiAlphabetic}
+use Rattle.std.proofs.lemmas.List.{length-take-le as length_taken}
+use Rattle.lists.specs.laws.BoolLaws.{both_true}
 use Rattle.text_core.specs.Names.{IsName, IsNameByte}
 use Rattle.text_core.specs.Numbers.{value_of, IsDigit, AreDigits, IsDecimal}
-use Rattle.graph_core.proofs.GeneralLemmas.{both_true, taken_long as length_taken}
-use Rattle.poly_mixed.specs.Scan.{run, name_of, is_digit, is_hex_digit, is_letter, is_name_byte}
-use Rattle.poly_mixed.proofs.RunLemmas.{Passes}
-use Rattle.poly_mixed.proofs.SpelledLemmas.{letter}
+use Rattle.text_core.specs.Scan.{run, name_of, is_digit, is_hex_digit, is_letter, is_name_byte}
+use Rattle.text_core.proofs.RunLemmas.{Passes, run_yes, run_within, run_pass, take_run, run_long, each_passes, passes_each, take_taken, taken_long, taken_short, taken_pass}
+use Rattle.text_core.proofs.ByteLemmas.{letter, digit_range, range_digit, digit_is, hex_is, is_hex, letter_is, letter_byte, is_name, name_is}
 use Rattle.spec_expand.specs.Token.{Token, name, hex, decimal, equals, plus, times, power, IsSpelling, IsFront, HasNoFront}
 use Rattle.spec_expand.specs.private.Scanning.{hex_run, number_front, front_of}
-use Rattle.spec_expand.proofs.RunLemmas.{run_yes, run_within, run_pass, take_run, run_long, each_passes, passes_each, take_taken, taken_long, taken_short, taken_pass, digit_range, range_digit, digit_is, hex_is, is_hex, letter_is, letter_byte, is_name, name_is}
 use Rattle.spec_expand.proofs.TokenLemmas.{decimal_digit}
 use Rattle.spec_expand.proofs.TextTokenLemmas.{nothing}
 

@@ -14,7 +14,8 @@ use Rattle.spec_expand.specs.declared.reader.Next.TheVariants.{Output, Assign, F
 use Rattle.spec_expand.specs.private.Progress.{Progress, Read, closed, token_read, end_read}
 use Rattle.spec_expand.proofs.ReadTokens.{start, tokens_read, stop_read}
 use Rattle.spec_expand.proofs.MoveLemmas.{Shape, Move, reads_output, reads_sign, reads_word, reads_element, reads_bit, reads_power, reads_exponent, times_number, times_name, plus_number, plus_name, Refused, unfit, unknown, large, wrong, shape, go, known_at, fits_at, at_left, at_sign, at_factor, at_number, at_name, at_power, moves, refused, move_goes}
-use Rattle.spec_expand.proofs.WalkLemmas.{walk, IsAfter, no_beginning, walk_more, no_spec}
+use Rattle.text_core.proofs.WalkLemmas.{walk}
+use Rattle.spec_expand.proofs.WalkLemmas.{IsAfter, no_beginning, walk_more, no_spec}
 use Rattle.spec_expand.proofs.SaidLemmas.{Says, IsEnded, says_start, says_more, begins, move_starts, number_ended, name_ended, name_goes, hex_goes, decimal_goes}
 use Rattle.spec_expand.proofs.OneOutcomeLemmas.{Placed, plain_both}
 
@@ -66,7 +67,7 @@ module _ (l : Labelling) (k : ℕ) (mul : ℕ → ℕ → ℕ) (ring : IsRing k 
   record IsTaken (ts : List Token) (p : Progress) : Type 0 where
     pub says : Says l k mul ring p.next ts p
     pub ends : ends_in_power ts ≡ is_raised (shape p.next)
-    pub walked : walk (Some at_left) ts ≡ Some (shape p.next)
+    pub walked : walk go at_left ts ≡ Some (shape p.next)
     pub good : AreGood l k ts
 
   name_known : (ts : List Token) (p : Progress) (n : List ℕ) (s : Shape) → IsTaken ts p → shape p.next ≡ s → is_known l ts n ≡ known_at l k mul s n
@@ -142,7 +143,6 @@ module _ (l : Labelling) (k : ℕ) (mul : ℕ → ℕ → ℕ) (ring : IsRing k 
   none_good (b ∷ before) u after e = absurd (cc)
 
   taken_start : IsTaken [] start
-  unfolding walk
   taken_start = record { says = says_start l k mul ring; ends = refl; walked = refl; good = none_good }
 
   module _ (tokens : Placed) (stop : Stop) where

@@ -4,7 +4,6 @@ pub mod TokenLemmas
 pub mod TextTokenLemmas
 pub mod GrammarLemmas
 pub mod OneOutcomeLemmas
-pub mod RunLemmas
 pub mod FrontLemmas
 pub mod SomeTokenLemmas
 pub mod MoveLemmas

@@ -1,7 +1,6 @@
 -- What one token makes of what was read: eleven moves, or a fault.
 use Rattle.std.proofs.Common.{◌≡◌, ◌∙◌, ap, sym, refl, subst, ℕ, ◌^◌, Bool, true, false, cond, List, nat_lt, nat_le, bytes_eq, Option, Some, None, Ok, Err}
-use Rattle.poly_mixed.specs.Labels.{Labelling}
-use Rattle.poly_mixed.specs.Scan.{word_of}
+use Rattle.poly_mixed.specs.Labels.{Labelling, word_of}
 use Rattle.spec_expand.specs.Token.{Token, name, hex, decimal, equals, plus, times, power}
 use Rattle.spec_expand.specs.Fault.{is_some}
 use Rattle.spec_expand.specs.declared.fault.SpecFault.{SpecFault}

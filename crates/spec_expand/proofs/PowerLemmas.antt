@@ -4,6 +4,7 @@ use Rattle.std.specs.Prelude.{slice_get, slice_index}
 use lib.Bits.{xor_zero_l, xor_zero_r, xor_assoc}
 use Rattle.std.specs.List.Sorted.{IsStrictlySortedBy}
 use Rattle.std.proofs.lemmas.Option.{get_or_from_slice_get, slice_get_within}
+use Rattle.lists.specs.laws.ReadLaws.{get_below}
 use Rattle.gf_field.specs.Ring.{IsRing}
 use Rattle.gf_field.specs.laws.RingLaws.{mul_zero}
 use Rattle.gf_field.specs.Power.{power}
@@ -11,7 +12,6 @@ use Rattle.gf_field.specs.Trace.{frobenius}
 use Rattle.gf_field.specs.laws.TraceLaws.{frobenius-xor, frobenius-power}
 use Rattle.gf_basis.specs.Basis.{first_values}
 use Rattle.irreducible.specs.Span.{combination}
-use Rattle.graph_core.proofs.ListLemmas.{get_below}
 use Rattle.net_core.specs.NetList.{nets}
 use Rattle.net_core.specs.Value.{bit_of, index_of}
 use Rattle.poly_mixed.specs.Table.{index}

@@ -1,41 +1,12 @@
 -- What was read of a specification so far, as closed terms, closed factors and a part of a factor; and the specifications
 -- that begin so.
-use Rattle.std.proofs.Common.{◌≡◌, ◌∙◌, ap, sym, refl, subst, ℕ, List, [], ◌∷◌, ◌++◌, append_assoc, append-nil}
+use Rattle.std.proofs.Common.{◌≡◌, ◌∙◌, ap, sym, refl, ℕ, List, [], ◌∷◌, ◌++◌, append_assoc, append-nil}
 use Rattle.gf_field.specs.Ring.{IsRing}
-use Rattle.poly_mixed.specs.Labels.{Labelling}
-use Rattle.poly_mixed.specs.Scan.{word_of}
+use Rattle.poly_mixed.specs.Labels.{Labelling, word_of}
+use Rattle.text_core.proofs.JoinedLemmas.{AreClosed, none_closed, closed_more, closed_last}
 use Rattle.spec_expand.specs.Token.{Token, name, equals, plus, times}
-use Rattle.spec_expand.specs.Grammar.{Factor, number, power_of, IsFactor, AreJoined, IsTerm, IsSpec, IsBeginning}
+use Rattle.spec_expand.specs.Grammar.{Factor, number, power_of, IsFactor, IsTerm, IsSpec, IsBeginning}
 use Rattle.spec_expand.specs.Specification.{coefficient_of, pair_of, pairs_of, terms_of}
-
--- parts, each with a sign after it
-unfoldable pub AreClosed : {A : Type 0} → Token → (List Token → A → Type 0) → List Token → List A → Type 0
-AreClosed sign IsPart ts [] = ts ≡ []
-AreClosed {A} sign IsPart ts (a ∷ more) = (front : List Token) × (rest : List Token) × (ts ≡ front ++ sign ∷ rest) × IsPart front a × AreClosed sign IsPart rest more
-
-module _ {A : Type 0} (sign : Token) (IsPart : List Token → A → Type 0) where
-  pub none_closed : AreClosed sign IsPart [] []
-  unfolding AreClosed
-  none_closed = refl
-
-  -- one part more, with the sign after it
-  pub closed_more : (ts part : List Token) (xs : List A) (a : A) → AreClosed sign IsPart ts xs → IsPart part a → AreClosed sign IsPart (ts ++ (part ++ sign ∷ [])) (xs ++ a ∷ [])
-  unfolding AreClosed
-  closed_more ts part [] a is p = (part, [], ap (λ (us : List Token). us ++ (part ++ sign ∷ [])) is, p, refl)
-  closed_more ts part (x ∷ xs) a is p =
-      (is.0, is.1 ++ (part ++ sign ∷ []), ap (λ (us : List Token). us ++ (part ++ sign ∷ [])) is.2 ∙ append_assoc is.0 (sign ∷ is.1) (part ++ sign ∷ []), is.3, closed_more is.1 part xs a is.4 p)
-
-  join_first : (front rest : List Token) (a : A) (xs : List A) (x : A) → IsPart front a → AreJoined sign IsPart rest (xs ++ x ∷ []) → AreJoined sign IsPart (front ++ sign ∷ rest) (a ∷ (xs ++ x ∷ []))
-  join_first front rest a [] x p q = (front, rest, refl, p, q)
-  join_first front rest a (y ∷ ys) x p q = (front, rest, refl, p, q)
-
-  -- one part more, the last
-  pub closed_last : (ts part : List Token) (xs : List A) (a : A) → AreClosed sign IsPart ts xs → IsPart part a → AreJoined sign IsPart (ts ++ part) (xs ++ a ∷ [])
-  unfolding AreClosed
-  closed_last ts part [] a is p = let P : List Token → Type 0 = λ us. IsPart (us ++ part) a in subst P (sym is) p
-  closed_last ts part (x ∷ xs) a is p =
-      let P : List Token → Type 0 = λ us. AreJoined sign IsPart us (x ∷ (xs ++ a ∷ [])) in
-      subst P (sym (ap (λ (us : List Token). us ++ part) is.2 ∙ append_assoc is.0 (sign ∷ is.1) part)) (join_first is.0 (is.1 ++ part) x xs a is.3 (closed_last is.1 part xs a is.4 p))
 
 -- ---- what terms say
 
@@ -113,4 +84,4 @@ module _ (ts : List Token) (out : List ℕ) (xs : List (List Factor)) (fs : List
       (p.front ++ (p.middle ++ (part ++ us)), moved us, closed_last plus IsTerm p.front (p.middle ++ (part ++ us)) xs (fs ++ a ∷ []) p.terms (closed_last times IsFactor p.middle (part ++ us) fs a p.factors is))
 
   pub prefix_begins : (us : List Token) (a : Factor) → IsFactor (part ++ us) a → IsBeginning ts
-  prefix_begins us a is = (us, out, xs ++ (fs ++ a ∷ []) ∷ [], prefix_spec us a is)
+  prefix_begins us a is = (us, (out, xs ++ (fs ++ a ∷ []) ∷ []), prefix_spec us a is)

@@ -6,8 +6,8 @@ use Rattle.std.proofs.Math.ListN.{drop_of_length-le}
 use Rattle.std.proofs.lemmas.Bool.Decides.{nat_tests}
 use Rattle.gf_field.specs.Ring.{IsRing}
 use Rattle.gf_field.specs.laws.PowerLaws.{one_below}
-use Rattle.poly_mixed.specs.Labels.{Labelling}
-use Rattle.poly_mixed.specs.Scan.{run, word_of}
+use Rattle.poly_mixed.specs.Labels.{Labelling, word_of}
+use Rattle.text_core.specs.Scan.{run, is_white}
 use Rattle.poly_mixed.proofs.TextLemmas.{all_more}
 use Rattle.spec_expand.specs.Token.{Token, AreWhite, IsFront, HasNoFront}
 use Rattle.spec_expand.specs.Tokens.{Stop, ended, stuck, AreTokens}
@@ -18,13 +18,13 @@ use Rattle.spec_expand.specs.declared.fault.SpecFault.TheVariants.{Syntax, Unkno
 use Rattle.spec_expand.specs.declared.reader.Next.{Next}
 use Rattle.spec_expand.specs.declared.reader.Next.TheVariants.{Output, Assign, Factor, AfterNumber, AfterName, Exponent}
 use Rattle.spec_expand.specs.declared.scan.Scanned.{Scanned}
-use Rattle.spec_expand.specs.private.Scanning.{is_white, front_of, IsSeen, IsSeenAs, IsSeenAt}
+use Rattle.spec_expand.specs.private.Scanning.{front_of, IsSeen, IsSeenAs, IsSeenAt}
 use Rattle.spec_expand.specs.private.Progress.{Progress, Read, progress, closed, token_read, end_read, IsSaid}
 use Rattle.spec_expand.proofs.ReadTokens.{start, tokens_read, IsShort}
 use Rattle.spec_expand.proofs.MoveLemmas.{Move, reads_output, reads_sign, reads_word, reads_element, reads_bit, reads_power, reads_exponent, times_number, times_name, plus_number, plus_name, moves}
 use Rattle.spec_expand.proofs.GoodLemmas.{text_may}
 use Rattle.spec_expand.proofs.FrontLemmas.{front_some, front_none}
-use Rattle.spec_expand.proofs.RunLemmas.{run_within}
+use Rattle.text_core.proofs.RunLemmas.{run_within}
 use Rattle.spec_expand.proofs.SomeTokenLemmas.{white_run, white_ends, after_white, with_front, front_length, some_tokens, join_taken, dropped, no_white}
 
 same_word : (a b : ℕ) → ◌≡◌ {A = Option ℕ} (Some a) (Some b) → a ≡ b

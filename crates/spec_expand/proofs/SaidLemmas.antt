@@ -1,8 +1,7 @@
 -- What was read says what its tokens say, and each token that was taken is without a fault.
 use Rattle.std.proofs.Common.{◌≡◌, ◌∙◌, ap, sym, refl, subst, inl, inr, ℕ, ◌^◌, List, [], ◌∷◌, ◌++◌, Some, append-nil}
 use Rattle.gf_field.specs.Ring.{IsRing}
-use Rattle.poly_mixed.specs.Labels.{Labelling}
-use Rattle.poly_mixed.specs.Scan.{word_of}
+use Rattle.poly_mixed.specs.Labels.{Labelling, word_of}
 use Rattle.spec_expand.specs.Token.{Token, name, hex, decimal, equals, plus, times, power}
 use Rattle.spec_expand.specs.Grammar.{Factor, number, power_of, IsFactor, IsSpec, IsBeginning}
 use Rattle.spec_expand.specs.Specification.{SpecTerms, coefficient_of, pair_of, pairs_of, terms_of}
@@ -192,7 +191,7 @@ module _ (l : Labelling) (k : ℕ) (mul : ℕ → ℕ → ℕ) (ring : IsRing k 
   begins Assign tokens p some says =
       let P : List Token → Type 0 = IsBeginning in
       let short : IsSpec (name says.0 ∷ equals ∷ decimal 0 ∷ []) says.0 ((number 0 ∷ []) ∷ []) = (decimal 0 ∷ [], refl, inr refl) in
-      subst P (sym says.1) (equals ∷ decimal 0 ∷ [], says.0, (number 0 ∷ []) ∷ [], short)
+      subst P (sym says.1) (equals ∷ decimal 0 ∷ [], (says.0, (number 0 ∷ []) ∷ []), short)
   begins AtFactor tokens p some says = prefix_begins tokens says.out says.xs says.fs [] says.prefix (decimal 0 ∷ []) (number 0) (inr refl)
   begins AfterNumber tokens p some says =
       let P : List Token → Type 0 = λ us. IsFactor us says.last in
@@ -205,7 +204,7 @@ module _ (l : Labelling) (k : ℕ) (mul : ℕ → ℕ → ℕ) (ring : IsRing k 
   unfolding Says go
   name_goes Output tokens p n u says e =
       let P : List Token → Type 0 = λ us. IsBeginning (us ++ name n ∷ []) in
-      subst P (sym says.0) (equals ∷ decimal 0 ∷ [], n, (number 0 ∷ []) ∷ [], (decimal 0 ∷ [], refl, inr refl))
+      subst P (sym says.0) (equals ∷ decimal 0 ∷ [], (n, (number 0 ∷ []) ∷ []), (decimal 0 ∷ [], refl, inr refl))
   name_goes AtFactor tokens p n u says e =
       prefix_begins (tokens ++ name n ∷ []) says.out says.xs says.fs (name n ∷ []) (prefix_more tokens says.out says.xs says.fs [] says.prefix (name n ∷ [])) [] (power_of n 1) (inl (refl, refl))
   name_goes Assign tokens p n u says e = absurd (cc)

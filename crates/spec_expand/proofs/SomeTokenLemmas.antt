@@ -2,11 +2,11 @@
 use Rattle.std.proofs.Common.{◌≡◌, ◌∙◌, ap, sym, refl, subst, inl, inr, ℕ, zero, suc, ◌+◌, ◌-◌, ◌<◌, ◌≤◌, true, List, [], ◌∷◌, length, take, drop, Option, Some, None, arith, length-drop}
 use Rattle.std.proofs.lemmas.Bool.{cases_lt}
 use Rattle.std.proofs.lemmas.Grind.{common_steps}
-use Rattle.poly_mixed.specs.Scan.{run}
+use Rattle.text_core.specs.Scan.{run, is_white}
 use Rattle.spec_expand.specs.Token.{Token, IsWhite, AreWhite, IsFront, HasNoFront}
 use Rattle.spec_expand.specs.Tokens.{Stop, ended, stuck, AreTokens}
-use Rattle.spec_expand.specs.private.Scanning.{is_white, front_of}
-use Rattle.spec_expand.proofs.RunLemmas.{run_within, run_pass, take_run, run_ends, each_passes, passes_each}
+use Rattle.spec_expand.specs.private.Scanning.{front_of}
+use Rattle.text_core.proofs.RunLemmas.{run_within, run_pass, take_run, run_ends, each_passes, passes_each}
 use Rattle.spec_expand.proofs.FrontLemmas.{front_some, front_none, whole}
 use Rattle.spec_expand.proofs.TextTokenLemmas.{nothing, more_white, tail_white}
 

@@ -1,20 +1,11 @@
 -- The grammar as a walk from token to token: each specification is walked to its end.
 use Rattle.std.proofs.Common.{◌≡◌, ◌∙◌, ap, sym, refl, subst, inl, inr, ℕ, List, [], ◌∷◌, ◌++◌, Option, Some, None, append_assoc}
+use Rattle.std.specs.Option.{option_and_then}
+use Rattle.text_core.proofs.WalkLemmas.{walk, walk_then, walk_on}
 use Rattle.spec_expand.specs.Token.{Token, name, equals, plus, times}
-use Rattle.spec_expand.specs.Grammar.{Factor, number, power_of, IsFactor, AreJoined, IsTerm, IsSpec, IsBeginning}
+use Rattle.spec_expand.specs.Grammar.{Factor, number, power_of, IsFactor, IsTerm, IsSpec, IsBeginning}
+use Rattle.text_core.specs.Joined.{AreJoined}
 use Rattle.spec_expand.proofs.MoveLemmas.{Shape, at_left, at_sign, at_factor, at_number, at_name, at_power, go}
-
--- where tokens lead, if they may stand there
-unfoldable pub walk : Option Shape → List Token → Option Shape
-walk None ts = None
-walk (Some s) [] = Some s
-walk (Some s) (t ∷ ts) = walk (go s t) ts
-
-pub walk_both : (s : Option Shape) (xs ys : List Token) → walk s (xs ++ ys) ≡ walk (walk s xs) ys
-unfolding walk
-walk_both None xs ys = refl
-walk_both (Some s) [] ys = refl
-walk_both (Some s) (t ∷ xs) ys = walk_both (go s t) xs ys
 
 -- after a factor
 unfoldable pub IsAfter : Shape → Type 0
@@ -43,63 +34,59 @@ after_plus at_power is = absurd is
 -- the tokens lead from before a factor to after one
 record Ends (ts : List Token) : Type 0 where
   pub shape : Shape
-  pub walked : walk (Some at_factor) ts ≡ Some shape
+  pub walked : walk go at_factor ts ≡ Some shape
   pub after : IsAfter shape
 
 factor_walked : (ts : List Token) (a : Factor) → IsFactor ts a → Ends ts
-unfolding walk go IsAfter
-factor_walked ts (number n) (inl e) = record { shape = at_number; walked = ap (walk (Some at_factor)) e; after = tt }
-factor_walked ts (number n) (inr e) = record { shape = at_number; walked = ap (walk (Some at_factor)) e; after = tt }
-factor_walked ts (power_of w n) (inl is) = record { shape = at_name; walked = ap (walk (Some at_factor)) is.0; after = tt }
-factor_walked ts (power_of w n) (inr e) = record { shape = at_number; walked = ap (walk (Some at_factor)) e; after = tt }
+unfolding go IsAfter
+factor_walked ts (number n) (inl e) = record { shape = at_number; walked = ap (walk go at_factor) e; after = tt }
+factor_walked ts (number n) (inr e) = record { shape = at_number; walked = ap (walk go at_factor) e; after = tt }
+factor_walked ts (power_of w n) (inl is) = record { shape = at_name; walked = ap (walk go at_factor) is.0; after = tt }
+factor_walked ts (power_of w n) (inr e) = record { shape = at_number; walked = ap (walk go at_factor) e; after = tt }
 
 module _ {A : Type 0} (sign : Token) (IsPart : List Token → A → Type 0) (over : (s : Shape) → IsAfter s → go s sign ≡ Some at_factor) (part : (ts : List Token) (a : A) → IsPart ts a → Ends ts) where
-  signed : (s : Shape) → IsAfter s → (us : List Token) → walk (Some s) (sign ∷ us) ≡ walk (Some at_factor) us
-  unfolding walk
-  signed s is us = ap (λ o. walk o us) (over s is)
-
   joined_walked : (ts : List Token) (xs : List A) → AreJoined sign IsPart ts xs → Ends ts
   joined_walked ts [] is = absurd is
   joined_walked ts (a ∷ []) is = part ts a is
   joined_walked ts (a ∷ b ∷ xs) is =
       let first = part is.0 a is.3 in
       let rest = joined_walked is.1 (b ∷ xs) is.4 in
-      record { shape = rest.shape; walked = ap (walk (Some at_factor)) is.2 ∙ walk_both (Some at_factor) is.0 (sign ∷ is.1) ∙ ap (λ s. walk s (sign ∷ is.1)) first.walked ∙ signed first.shape first.after is.1 ∙ rest.walked; after = rest.after }
+      record {
+        shape = rest.shape;
+        walked = ap (walk go at_factor) is.2 ∙ walk_then go at_factor first.shape is.0 (sign ∷ is.1) first.walked ∙ walk_on go first.shape at_factor sign is.1 (over first.shape first.after) ∙ rest.walked;
+        after = rest.after;
+      }
 
 term_walked : (ts : List Token) (xs : List Factor) → IsTerm ts xs → Ends ts
 term_walked = joined_walked times IsFactor after_times factor_walked
 
 pub record IsWhole (ts : List Token) : Type 0 where
   pub shape : Shape
-  pub walked : walk (Some at_left) ts ≡ Some shape
+  pub walked : walk go at_left ts ≡ Some shape
   pub after : IsAfter shape
 
-start : (out : List ℕ) (us : List Token) → walk (Some at_left) (name out ∷ equals ∷ us) ≡ walk (Some at_factor) us
-unfolding walk go
+start : (out : List ℕ) (us : List Token) → walk go at_left (name out ∷ equals ∷ us) ≡ walk go at_factor us
+unfolding go
 start out us = refl
 
 pub spec_walked : (ts : List Token) (out : List ℕ) (terms : List (List Factor)) → IsSpec ts out terms → IsWhole ts
 spec_walked ts out terms is =
     let rest = joined_walked plus IsTerm after_plus term_walked is.0 terms is.2 in
-    record { shape = rest.shape; walked = ap (walk (Some at_left)) is.1 ∙ start out is.0 ∙ rest.walked; after = rest.after }
-
-stuck_at : (t : Token) (s : Shape) → go s t ≡ None → (us : List Token) → walk (Some s) (t ∷ us) ≡ None
-unfolding walk
-stuck_at t s bad us = ap (λ o. walk o us) bad
+    record { shape = rest.shape; walked = ap (walk go at_left) is.1 ∙ start out is.0 ∙ rest.walked; after = rest.after }
 
 -- where a token may not stand, no specification begins so
-pub no_beginning : (ts : List Token) (t : Token) (s : Shape) → walk (Some at_left) ts ≡ Some s → go s t ≡ None → IsBeginning (ts ++ t ∷ []) → ⊥
+pub no_beginning : (ts : List Token) (t : Token) (s : Shape) → walk go at_left ts ≡ Some s → go s t ≡ None → IsBeginning (ts ++ t ∷ []) → ⊥
 no_beginning ts t s walked bad is =
-    let all = spec_walked ((ts ++ t ∷ []) ++ is.0) is.1 is.2 is.3 in
-    let nowhere : walk (Some at_left) ((ts ++ t ∷ []) ++ is.0) ≡ None = ap (walk (Some at_left)) (append_assoc ts (t ∷ []) is.0) ∙ walk_both (Some at_left) ts (t ∷ is.0) ∙ ap (λ o. walk o (t ∷ is.0)) walked ∙ stuck_at t s bad is.0 in
+    let all = spec_walked ((ts ++ t ∷ []) ++ is.0) is.1.0 is.1.1 is.2 in
+    let stuck : walk go s (t ∷ is.0) ≡ None = ap (λ (o : Option Shape). option_and_then (λ u. walk go u is.0) o) bad in
+    let nowhere : walk go at_left ((ts ++ t ∷ []) ++ is.0) ≡ None = ap (walk go at_left) (append_assoc ts (t ∷ []) is.0) ∙ walk_then go at_left s ts (t ∷ is.0) walked ∙ stuck in
     let bad' : Some all.shape ≡ None = sym all.walked ∙ nowhere in cc
 
-pub walk_more : (ts : List Token) (t : Token) (s u : Shape) → walk (Some at_left) ts ≡ Some s → go s t ≡ Some u → walk (Some at_left) (ts ++ t ∷ []) ≡ Some u
-unfolding walk
-walk_more ts t s u walked e = walk_both (Some at_left) ts (t ∷ []) ∙ ap (λ o. walk o (t ∷ [])) walked ∙ ap (λ o. walk o []) e
+pub walk_more : (ts : List Token) (t : Token) (s u : Shape) → walk go at_left ts ≡ Some s → go s t ≡ Some u → walk go at_left (ts ++ t ∷ []) ≡ Some u
+walk_more ts t s u walked e = walk_then go at_left s ts (t ∷ []) walked ∙ walk_on go s u t [] e
 
 -- where the walk does not end after a factor, the tokens are no specification
-pub no_spec : (ts : List Token) (s : Shape) → walk (Some at_left) ts ≡ Some s → (IsAfter s → ⊥) → (out : List ℕ) (terms : List (List Factor)) → IsSpec ts out terms → ⊥
+pub no_spec : (ts : List Token) (s : Shape) → walk go at_left ts ≡ Some s → (IsAfter s → ⊥) → (out : List ℕ) (terms : List (List Factor)) → IsSpec ts out terms → ⊥
 no_spec ts s walked bad out terms is =
     let all = spec_walked ts out terms is in
     let same : s ≡ all.shape = some_same s all.shape (sym walked ∙ all.walked) in

@@ -1,9 +1,8 @@
 -- What may come of reading a specification: its terms, or the fault of the first token that has one.
 -- Source: this project's own.
 use Rattle.std.specs.Prelude.{◌≡◌, ◌⊎◌, ℕ, ◌^◌, Bool, true, false, cond, not, List, [], ◌∷◌, ◌++◌, nat_lt, nat_le, bytes_eq, Option, None, Some, Result, Ok, Err}
-use Rattle.text_core.specs.Outcome.{Outcome}
-use Rattle.poly_mixed.specs.Labels.{Labelling}
-use Rattle.poly_mixed.specs.Scan.{word_of}
+use Rattle.outcome.specs.Outcome.{Outcome}
+use Rattle.poly_mixed.specs.Labels.{Labelling, word_of}
 use Rattle.spec_expand.specs.declared.fault.SpecFault.{SpecFault}
 use Rattle.spec_expand.specs.declared.fault.SpecFault.TheVariants.{Syntax, UnknownWord, BadNumber, OutOfMemory}
 use Rattle.spec_expand.specs.Token.{Token, name, hex, decimal, equals, plus, times, power}

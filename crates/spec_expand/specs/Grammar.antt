@@ -1,5 +1,6 @@
 -- The grammar of specifications: NAME = term + term .., a term being factor * factor .. Source: this project's own.
-use Rattle.std.specs.Prelude.{◌≡◌, ◌⊎◌, ℕ, List, [], ◌∷◌, ◌++◌}
+use Rattle.std.specs.Prelude.{◌≡◌, ◌⊎◌, ℕ, List, [], ◌∷◌}
+use Rattle.text_core.specs.Joined.{AreJoined, Begins}
 use Rattle.spec_expand.specs.Token.{Token, name, hex, decimal, equals, plus, times, power}
 
 -- a number, or a name to an exponent
@@ -12,12 +13,7 @@ abbrev pub IsFactor : List Token → Factor → Type 0
 IsFactor ts (number n) = (ts ≡ hex n ∷ []) ⊎ (ts ≡ decimal n ∷ [])
 IsFactor ts (power_of word e) = ((ts ≡ name word ∷ []) × (e ≡ 1)) ⊎ (ts ≡ name word ∷ power ∷ decimal e ∷ [])
 
--- one or more parts with a sign between them
-abbrev pub AreJoined : {A : Type 0} → Token → (List Token → A → Type 0) → List Token → List A → Type 0
-AreJoined sign IsPart ts [] = ⊥
-AreJoined sign IsPart ts (a ∷ []) = IsPart ts a
-AreJoined sign IsPart ts (a ∷ b ∷ more) = (front : List Token) × (rest : List Token) × (ts ≡ front ++ sign ∷ rest) × IsPart front a × AreJoined sign IsPart rest (b ∷ more)
-
+-- factors joined by `*`
 abbrev pub IsTerm : List Token → List Factor → Type 0
 IsTerm = AreJoined times IsFactor
 
@@ -27,4 +23,4 @@ IsSpec ts out terms = (rest : List Token) × (ts ≡ name out ∷ equals ∷ res
 
 -- some tokens after these make a specification
 abbrev pub IsBeginning : List Token → Type 0
-IsBeginning ts = (rest : List Token) × (out : List ℕ) × (terms : List (List Factor)) × IsSpec (ts ++ rest) out terms
+IsBeginning ts = Begins (λ us (said : List ℕ × List (List Factor)). IsSpec us said.0 said.1) ts

@@ -1,8 +1,7 @@
 -- What a specification says: terms, each a coefficient and powers of words. Source: this project's own.
 use Rattle.std.specs.Prelude.{ℕ, ◌<◌, ◌^◌, List, [], ◌∷◌, ◌++◌, Option, None, Some}
 use Rattle.std.specs.List.{AllByRecursion}
-use Rattle.poly_mixed.specs.Labels.{Labelling}
-use Rattle.poly_mixed.specs.Scan.{word_of}
+use Rattle.poly_mixed.specs.Labels.{Labelling, word_of}
 use Rattle.spec_expand.specs.Grammar.{Factor, number, power_of}
 
 -- a coefficient, and pairs of a word's number and an exponent

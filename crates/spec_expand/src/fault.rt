@@ -6,7 +6,7 @@ use std::alloc::{AllocError, AllocFailed};
 use thiserror::Error;
 
 /// The fault of the first token that has one, with its place in bytes from 0; or out of memory.
-#[derive(Clone, Copy, Debug, PartialEq, Eq, Error)]
+#[derive(Clone, Copy, Debug, Error)]
 pub enum SpecFault {
     /// A token with which no specification goes on, bytes that are no token, or the end of a text that is none.
     #[error("syntax at byte {place}")]

@@ -1,19 +1,21 @@
 //! A specification from its text.
 ghost use Rattle.std.specs.Prelude.{◌≡◌, ◌≤◌, ◌<◌, ◌+◌, ◌^◌, ℕ, [], length, drop, OnOk, IfOk, IfSome, Option, bytes_eq, nat_lt, nat_le};
-ghost use Rattle.poly_mixed.specs.Scan.{run, word_of as number_of_word, IsValue};
+ghost use Rattle.text_core.specs.Scan.{run, is_white, IsValue};
+ghost use Rattle.poly_mixed.specs.Labels.{word_of as number_of_word};
 ghost use Rattle.spec_expand.specs.Token.{Token};
 ghost use Rattle.spec_expand.specs.declared.reader.Next.{Next};
 ghost use Rattle.spec_expand.specs.Fault.{SpecOutcome};
 ghost use Rattle.spec_expand.specs.Specification.{IsOverWords};
-ghost use Rattle.spec_expand.specs.private.Scanning.{IsSeen, is_white};
+ghost use Rattle.spec_expand.specs.private.Scanning.{IsSeen};
 ghost use Rattle.spec_expand.specs.private.Progress.{progress, closed, name_read, number_read, exponent_read, fitting, hex_read, decimal_read, times_read, plus_read, token_read, end_read, IsStep, IsEnd};
 
-use crate::scan::{Class, Scanned, front, token};
+use crate::scan::{Scanned, token};
 use crate::{Spec, SpecFault, SpecTerm};
 use gf_field::{Field, is_element};
 use poly_mixed::Labels;
 use std::alloc::{AllocError, Global};
 use std::mem;
+use text_core::{Class, front};
 
 /// What may come next.
 #[derive(Clone, Copy)]

@@ -1,18 +1,8 @@
 //! Tokens at the front of a text, each as long as possible.
-ghost use Rattle.std.specs.Prelude.{◌≡◌, ◌≤◌, ◌+◌, length};
-ghost use Rattle.poly_mixed.specs.Scan.{run, name_of as name_at_front};
-ghost use Rattle.spec_expand.specs.private.Scanning.{is_in, hex_run, number_front, word_front, any_front, front_of, IsSeenAs, IsSeenAt};
+ghost use Rattle.std.specs.Prelude.{◌≡◌, ◌≤◌, length};
+ghost use Rattle.spec_expand.specs.private.Scanning.{hex_run, number_front, word_front, any_front, front_of, IsSeenAs, IsSeenAt};
 
-use text_core::value_in_base;
-
-/// Kinds of bytes.
-#[derive(Clone, Copy, Debug, PartialEq, Eq)]
-pub(crate) enum Class {
-    White,
-    Digit,
-    HexDigit,
-    NameByte,
-}
+use text_core::{Class, front, front_name, value_in_base};
 
 /// A token; a number that is not below 2^64 is not kept.
 #[derive(Clone, Copy)]
@@ -24,52 +14,6 @@ pub(crate) enum Scanned<'a> {
     PlusSign,
     TimesSign,
     PowerSign,
-}
-
-fn is_of(class: Class, byte: u8) -> bool
-    ensures { result ≡ is_in class byte }
-{
-    match class {
-        Class::White => byte == b' ' || byte == b'\t' || byte == b'\n' || byte == b'\r',
-        Class::Digit => byte >= b'0' && byte <= b'9',
-        Class::HexDigit => {
-            (byte >= b'0' && byte <= b'9')
-                || (byte >= b'A' && byte <= b'F')
-                || (byte >= b'a' && byte <= b'f')
-        }
-        Class::NameByte => {
-            (byte >= b'A' && byte <= b'Z')
-                || (byte >= b'a' && byte <= b'z')
-                || (byte >= b'0' && byte <= b'9')
-                || byte == b'_'
-        }
-    }
-}
-
-/// The run of such bytes at the front.
-pub(crate) fn front(bytes: &[u8], class: Class) -> &[u8]
-    ensures value { result.now ≡ run (is_in class) bytes.now }
-    ensures within { length result.now ≤ length bytes.now }
-{
-    for (i, byte) in bytes.iter().enumerate() {
-        if !is_of(class, *byte) {
-            return &bytes[..i];
-        }
-    }
-    bytes
-}
-
-// The name at the front, at most 255 bytes.
-fn name(bytes: &[u8]) -> &[u8]
-    ensures value { result.now ≡ name_at_front bytes.now }
-    ensures within { length result.now ≤ length bytes.now }
-{
-    let front = front(bytes, Class::NameByte);
-    if front.len() > 255 {
-        &front[..255]
-    } else {
-        front
-    }
 }
 
 // The hexadecimal digits after `0x` at the front.
@@ -117,7 +61,7 @@ fn word(bytes: &[u8], first: u8) -> Option<(Scanned<'_>, usize)>
         return Some(number(bytes));
     }
     if (first >= b'A' && first <= b'Z') || (first >= b'a' && first <= b'z') {
-        let name = name(bytes);
+        let name = front_name(bytes);
         return Some((Scanned::Named(name), name.len()));
     }
     None

@@ -3,10 +3,10 @@ use Rattle.std.proofs.Common.{◌≡◌, ◌≢◌, ◌∙◌, ap, sym, subst, i
 use Rattle.std.specs.Prelude.{◌==◌}
 use Rattle.std.specs.List.{prefix_len}
 use Rattle.std.proofs.lemmas.Bool.{eq-eqb, ne_eqb}
+use Rattle.lists.specs.Lists.{Has}
+use Rattle.lists.specs.laws.NumberLaws.{nat_eq_or}
 use Rattle.net_core.specs.NetList.{nets}
-use Rattle.net_core.specs.Lists.{Has}
 use Rattle.net_core.specs.Value.{bit_of}
-use Rattle.net_core.proofs.LevelLemmas.{nat_eq_or}
 use Rattle.net_words.specs.Variables.{others}
 use Rattle.circuit_model.specs.Word.{word_nets}
 use Rattle.circuit_model.specs.WellFormed.{IsWellFormed}

@@ -4,8 +4,8 @@ use Rattle.std.specs.Prelude.{slice_get}
 use Rattle.std.specs.Option.{option_map_or}
 use Rattle.std.proofs.lemmas.List.{reverse-reverse, length-reverse}
 use Rattle.std.proofs.lemmas.Option.{slice_get_within}
-use Rattle.graph_core.proofs.ListLemmas.{get_below}
-use Rattle.graph_core.proofs.GeneralLemmas.{all_in}
+use Rattle.lists.specs.laws.HasLaws.{all_in}
+use Rattle.lists.specs.laws.ReadLaws.{get_below}
 use Rattle.net_core.specs.GateValue.{GateValue}
 use Rattle.net_core.specs.NetList.{NetList}
 use Rattle.net_core.specs.Sound.{IsSound}

@@ -4,11 +4,11 @@ use Rattle.std.proofs.Common.{◌≡◌, ◌≢◌, ℕ, zero, suc, ◌<◌, ◌
 use Rattle.std.specs.Prelude.{bit_xor}
 use Rattle.std.specs.List.{list_all, AllByRecursion}
 use Rattle.std.specs.List.Sorted.{IsStrictlySortedBy}
+use Rattle.lists.specs.Lists.{Has}
 use Rattle.gf_field.specs.Bit.{bit_mul}
 use Rattle.gf_field.specs.Power.{power}
 use Rattle.gf_field.specs.laws.BitLaws.{IsRing-bit_mul}
 use Rattle.net_core.specs.GateValue.{GateValue}
-use Rattle.net_core.specs.Lists.{Has}
 use Rattle.net_core.specs.Sound.{sources}
 use Rattle.net_core.specs.Value.{bit_of, IsRight}
 use Rattle.net_core.specs.Level.{Levels, level_at, level_over, AreLevels}

@@ -6,16 +6,16 @@ use Rattle.std.proofs.Math.ListN.{replicate}
 use Rattle.std.proofs.lemmas.List.{length-append, length-replicate}
 use Rattle.std.proofs.lemmas.Bool.{eq-eqb, ne_eqb}
 use Rattle.std.proofs.lemmas.Nat.{pow_pos}
-use Rattle.graph_core.proofs.ListLemmas.{get_below}
-use Rattle.graph_core.proofs.GeneralLemmas.{front_of as front_taken}
-use Rattle.net_core.proofs.LevelLemmas.{nat_eq_or}
-use Rattle.net_core.specs.Lists.{Has}
+use Rattle.lists.specs.Lists.{Has}
+use Rattle.lists.specs.laws.NumberLaws.{nat_eq_or}
+use Rattle.lists.specs.laws.ReadLaws.{get_below}
+use Rattle.lists.specs.laws.TakeLaws.{front_of as front_taken}
 use Rattle.net_core.specs.NetList.{nets}
 use Rattle.net_core.specs.Value.{bit_of}
 use Rattle.circuit_model.specs.Word.{Word, HasElement, word_nets}
 use Rattle.circuit_model.specs.Circuit.{Circuit, IsInput}
 use Rattle.circuit_model.specs.WellFormed.{IsWellFormed}
-use Rattle.circuit_model.proofs.JobLemmas.{job_of, first_elements}
+use Rattle.circuit_model.proofs.JobLemmas.{well_formed_is_job, first_elements}
 use Rattle.circuit_model.proofs.SomeRunLemmas.{some_run}
 use Rattle.circuit_model.proofs.SourceLemmas.{source_inside, stands_source}
 use Rattle.poly_mixed.specs.Polynomial.{Point, IsPoint, IsElement}
@@ -49,7 +49,7 @@ module _ (c : Circuit) (xs : List ℕ) (well : IsWellFormed c) (input : IsInput 
   -- the bits of the first cycle
   start : (bits : List Bool) × ((i : ℕ) (w : Word) (x : ℕ) → slice_get c.words i ≡ Some w → slice_get xs i ≡ Some x → HasElement bits w x)
   start =
-      let run = some_run c xs (job_of c well) input in
+      let run = some_run c xs (well_formed_is_job c well) input in
       let first = get_below run.0 0 (omega (arith, run.1.open_run.long)) in
       (first.0, λ i w x at got. first_elements c xs first.0 well (run.1.open_run.each 0 first.0 first.1) (run.1.open_run.first first.0 first.1) i w x at got tt)
 

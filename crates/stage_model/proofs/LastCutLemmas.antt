@@ -6,12 +6,12 @@ use Rattle.std.proofs.lemmas.List.{reverse-reverse, length-replicate}
 use Rattle.std.proofs.lemmas.List.Sorted.{Contains-permutation, IsPermutation-reverse}
 use Rattle.std.specs.Prelude.{Contains}
 use Rattle.std.proofs.lemmas.Option.{slice_get_within, get_or_from_slice_get}
-use Rattle.graph_core.proofs.ListLemmas.{got_at}
+use Rattle.lists.specs.Lists.{Has}
+use Rattle.lists.specs.laws.ReadLaws.{got_at}
 use Rattle.net_core.specs.GateValue.{GateValue}
 use Rattle.net_core.specs.LatchValue.{LatchValue}
 use Rattle.net_core.specs.NetList.{NetList, nets}
 use Rattle.net_core.specs.Sound.{sources}
-use Rattle.net_core.specs.Lists.{Has}
 use Rattle.net_core.specs.Order.{IsElimination}
 use Rattle.net_core.specs.Value.{bit_of, IsConsistent}
 use Rattle.net_core.proofs.DriverLemmas.{source_no_gate}

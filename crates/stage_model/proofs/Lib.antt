@@ -18,11 +18,9 @@ pub mod PlaceLemmas
 pub mod NextMixLemmas
 pub mod StepLemmas
 pub mod VariableLemmas
-pub mod EvaluationLemmas
 pub mod CutPolyLemmas
 pub mod WordBitLemmas
 pub mod WordPolyLemmas
-pub mod PlainStageLemmas
 pub mod SomePolynomialLemmas
 pub mod InterpolationLemmas
 pub mod FunctionLemmas

@@ -4,9 +4,10 @@ use Rattle.std.specs.Prelude.{slice_get}
 use Rattle.std.proofs.lemmas.Bool.{cases_lt}
 use Rattle.std.proofs.lemmas.List.{length-take}
 use Rattle.std.proofs.lemmas.Option.{slice_get_within}
-use Rattle.graph_core.proofs.ListLemmas.{get_below}
 use Rattle.std.specs.List.{AllByRecursion}
-use Rattle.net_core.specs.Lists.{Has}
+use Rattle.lists.specs.Lists.{Has}
+use Rattle.lists.specs.laws.HasLaws.{all_in}
+use Rattle.lists.specs.laws.ReadLaws.{get_below, same_lists}
 use Rattle.net_core.specs.NetList.{nets}
 use Rattle.circuit_model.specs.Word.{Word, HasElement}
 use Rattle.circuit_model.specs.WellFormed.{IsWord, IsWellFormed}
@@ -21,8 +22,6 @@ use Rattle.stage_model.specs.InputPoint.{input_of}
 use Rattle.stage_model.specs.Cut.{CutOf}
 use Rattle.stage_model.proofs.LastCutLemmas.{last_cut}
 use Rattle.stage_model.proofs.PointLemmas.{some_element}
-use Rattle.graph_core.proofs.GraphLemmas.{same_lists}
-use Rattle.graph_core.proofs.GeneralLemmas.{all_in}
 
 -- elements of words, the first w out of a list and the others by bits
 record IsMixed (k : ℕ) (bits : List Bool) (w : ℕ) (words : List Word) (ys xs : List ℕ) : Type 0 where

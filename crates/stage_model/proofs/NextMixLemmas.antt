@@ -6,8 +6,8 @@ use Rattle.std.proofs.lemmas.Nat.Bits.{bit_at-suc, bit_at_lowest}
 use Rattle.std.proofs.Math.Seq.{take-length}
 use Rattle.std.proofs.lemmas.Bool.{cases_order, ne_eqb}
 use Rattle.std.proofs.lemmas.Option.{slice_get_within}
+use Rattle.lists.specs.Lists.{Has}
 use Rattle.net_core.specs.NetList.{nets}
-use Rattle.net_core.specs.Lists.{Has}
 use Rattle.net_core.specs.Value.{bit_of}
 use Rattle.gf_basis.specs.Basis.{AreBits}
 use Rattle.circuit_model.specs.Word.{Word, HasElement}

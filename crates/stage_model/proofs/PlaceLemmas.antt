@@ -7,10 +7,10 @@ use Rattle.std.proofs.lemmas.Bool.Decides.{nat_tests}
 use Rattle.std.proofs.lemmas.List.{length-append}
 use Rattle.std.proofs.lemmas.List.Sums.{position_or_len_is}
 use Rattle.std.proofs.lemmas.Option.{slice_get_within, get_or_from_slice_get}
-use Rattle.graph_core.proofs.ListLemmas.{get_below, get_front}
+use Rattle.lists.specs.Lists.{Has, times}
+use Rattle.lists.specs.laws.HasLaws.{times_two}
+use Rattle.lists.specs.laws.ReadLaws.{get_below, get_front}
 use Rattle.net_core.specs.NetList.{nets}
-use Rattle.net_core.specs.Lists.{Has, times}
-use Rattle.net_core.proofs.DriverLemmas.{times_two}
 use Rattle.net_words.specs.Variables.{others}
 use Rattle.circuit_model.specs.Word.{Word, word_nets}
 use Rattle.circuit_model.specs.WellFormed.{IsWellFormed}

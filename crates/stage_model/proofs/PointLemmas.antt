@@ -3,9 +3,9 @@ use Rattle.std.proofs.Common.{◌≡◌, ◌∙◌, ap, sym, refl, ℕ, ◌<◌,
 use Rattle.std.specs.Prelude.{unwrap_or}
 use Rattle.std.proofs.lemmas.List.FromFn.{get_or-map-range_with_len, length-map-range_with_len}
 use Rattle.std.proofs.lemmas.Option.{slice_get-get_or}
+use Rattle.lists.specs.Lists.{Has}
 use Rattle.irreducible.specs.Span.{combination}
 use Rattle.irreducible.specs.laws.SpanLaws.{combination_below}
-use Rattle.net_core.specs.Lists.{Has}
 use Rattle.net_core.specs.Value.{bit_of, index_of}
 use Rattle.net_core.proofs.EvalLemmas.{index_agree}
 use Rattle.circuit_model.specs.Word.{Word, HasElement}

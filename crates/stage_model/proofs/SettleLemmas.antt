@@ -2,16 +2,17 @@
 use Rattle.std.proofs.Common.{◌≡◌, ◌≢◌, ◌⊎◌, ◌∙◌, ap, sym, refl, subst, inl, inr, ℕ, zero, suc, ◌<◌, Bool, List, [], ◌∷◌, length, None, Some, max, arith}
 use Rattle.std.specs.Prelude.{slice_get, ◌==◌}
 use Rattle.std.specs.Int.{bit_at}
+use Rattle.lists.specs.Lists.{Has}
+use Rattle.lists.specs.laws.HasLaws.{All_has}
+use Rattle.lists.specs.laws.NumberLaws.{nat_eq_or}
 use Rattle.net_core.specs.GateValue.{GateValue}
 use Rattle.net_core.specs.NetList.{NetList, nets}
-use Rattle.net_core.specs.Lists.{Has}
 use Rattle.net_core.specs.Sound.{IsSound}
 use Rattle.net_core.specs.Level.{Levels}
 use Rattle.net_core.specs.Levelled.{AllHaveLevels}
 use Rattle.net_core.specs.Order.{rank_at}
 use Rattle.net_core.specs.Value.{bit_of, index_of}
-use Rattle.net_core.proofs.DriverLemmas.{gate_inside, gates_apart, All_has}
-use Rattle.net_core.proofs.LevelLemmas.{nat_eq_or}
+use Rattle.net_core.proofs.DriverLemmas.{gate_inside, gates_apart}
 use Rattle.net_core.proofs.EvalLemmas.{inputs_below, index_agree, same_lists, value_of}
 use Rattle.net_core.proofs.ExistLemmas.{sound_levels}
 use Rattle.circuit_model.proofs.GivenLemmas.{bits_by, bits_long, bits_at}

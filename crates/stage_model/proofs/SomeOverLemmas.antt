@@ -17,9 +17,9 @@ use Rattle.stage_model.specs.CircuitListing.{circuit_cuts, circuit_stages}
 use Rattle.stage_model.proofs.WordStageLemmas.{one_terms, one_term_of}
 use Rattle.stage_model.proofs.SomeStageLemmas.{cut_polynomial, mix_polynomial, product_polynomial, sum_polynomial}
 use Rattle.stage_model.proofs.SearchLemmas.{IsFirstOf, search, IsOverBound, measured, IsDecided, both_decided}
-use Rattle.graph_core.proofs.ListLemmas.{get_below}
 use Rattle.std.proofs.lemmas.Option.{slice_get_within}
 use Rattle.std.specs.Prelude.{slice_get, Some}
+use Rattle.lists.specs.laws.ReadLaws.{get_below}
 
 size_of : (k : ℕ) (mul : ℕ → ℕ → ℕ) (stage : Point → ℕ → Type 0) (bound : ℕ) (found : (ts : Terms) × IsOfStage k mul stage ts) → IsWithin k mul stage bound ⊎ IsOverBound k mul stage bound
 size_of k mul stage bound found = measured k mul stage bound (length found.0) (record { terms = found.0; is = found.1; size = refl })

@@ -12,8 +12,8 @@ use Rattle.gf_field.specs.Trace.{frobenius}
 use Rattle.gf_field.specs.laws.TraceLaws.{frobenius-power}
 use Rattle.gf_basis.specs.Dual.{linear_value}
 use Rattle.std.proofs.lemmas.Option.{get_or_from_slice_get}
-use Rattle.graph_core.proofs.ListLemmas.{get_below}
-use Rattle.graph_core.proofs.GeneralLemmas.{all_in}
+use Rattle.lists.specs.laws.HasLaws.{all_in}
+use Rattle.lists.specs.laws.ReadLaws.{get_below}
 use Rattle.poly_mixed.specs.Polynomial.{Terms, Point, IsPoint, IsElement, IsReduced, value}
 
 -- the first m summands of a linear form

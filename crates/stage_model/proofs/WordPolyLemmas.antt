@@ -12,6 +12,7 @@ use Rattle.std.proofs.lemmas.Nat.Bits.{bit_at-lt}
 use Rattle.std.proofs.lemmas.Option.{slice_get_within, get_or_from_slice_get}
 use lib.Bits.{xor_zero_r, xor_zero_l, xor_assoc}
 use Rattle.std.proofs.Math.Seq.{take-length}
+use Rattle.lists.specs.laws.ReadLaws.{got_at}
 use Rattle.poly_mixed.specs.Monomial.{Monomial}
 use Rattle.poly_mixed.specs.Polynomial.{Terms, Point, IsPoint, IsElement, IsTerm, IsReduced, powers, term_value, value}
 use Rattle.poly_mixed.specs.Product.{IsProduct}
@@ -22,7 +23,6 @@ use Rattle.poly_mixed.proofs.ProductLemmas.{one_term, and_assoc}
 use Rattle.poly_mixed.proofs.CofactorLemmas.{rising-filter}
 use Rattle.stage_model.specs.WordStage.{is_of_word, word_bits, with_word}
 use Rattle.stage_model.specs.PlainWord.{IsReading, IsBitOf, IsProductOf, IsSumOf}
-use Rattle.graph_core.proofs.ListLemmas.{got_at}
 use Rattle.stage_model.proofs.MixLemmas.{of_taken}
 
 -- what stands in a filtered list passes

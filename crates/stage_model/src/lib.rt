@@ -2,24 +2,14 @@
 //! Functions that do nothing have contracts that are laws of the definitions.
 #![tactic(auto)]
 
-mod cut_terms;
-mod cut_value;
 mod existence_laws;
 mod laws;
 mod mix_laws;
 mod output_laws;
 mod over_laws;
-mod ranks;
-mod settle;
 mod stage_laws;
-mod word_bit;
 mod word_laws;
-mod word_part;
-mod word_poly;
-mod word_stage;
 
-pub use cut_terms::{cut_poly, cut_size};
-pub use cut_value::cut_at;
 pub use existence_laws::{
     each_function_has_a_polynomial, each_mix_has_a_polynomial, each_stage_has_a_polynomial,
     some_first_over,
@@ -37,10 +27,7 @@ pub use over_laws::{
 pub use stage_laws::{
     one_element_a_stage, one_polynomial_a_stage, one_size_a_stage, stages_are_ordered,
 };
-pub use word_bit::bit_poly;
 pub use word_laws::{
     mix_in_later_bits, one_list_of_cut_steps, one_list_of_word_steps, rank_of_place,
     sum_of_all_terms,
 };
-pub use word_part::{other_part, own_ranks};
-pub use word_stage::{word_product, word_sum};

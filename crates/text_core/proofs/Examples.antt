@@ -1,9 +1,8 @@
 -- Small worked examples of the definitions of specs/, which the check computes.
-use Rattle.std.proofs.Common.{◌≡◌, ℕ, zero, suc, ◌<◌, [], ◌∷◌, codes, inl, inr, refl, ap, length, arith, Err, slice_index}
+use Rattle.std.proofs.Common.{◌≡◌, ℕ, zero, suc, ◌<◌, [], ◌∷◌, codes, inl, inr, refl, ap, length, arith, slice_index}
 use Rattle.text_core.specs.Lines.{before_comment, tokens_of}
 use Rattle.text_core.specs.Numbers.{value_of, IsDigit, IsHex}
 use Rattle.text_core.specs.Names.{IsNameByte, IsName}
-use Rattle.text_core.specs.Outcome.{◌>>=◌, Exactly}
 
 -- the hexadecimal digits `00fF` have the value 15 * 16 + 15 = 255
 value_of_00fF : value_of 16 (codes "00fF") ≡ 255
@@ -52,7 +51,3 @@ is_name_A_1 = record { some = omega arith; letter = inl (omega arith, omega arit
 -- `1A` is no name, for it begins with a digit
 no_name_1A : IsName (codes "1A") → ⊥
 no_name_1A name = elim name.letter [ inl upper ↦ omega (arith, upper.0) | inr lower ↦ omega (arith, lower.0) ]
-
--- where the first step refuses with 3, the fault is 3, whatever the second would give
-first_fault_counts : ◌>>=◌ {F = ℕ} {A = ℕ} {B = ℕ} (λ r. r ≡ Err 3) Exactly (Err 3)
-first_fault_counts = inl refl

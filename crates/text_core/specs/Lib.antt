@@ -1,4 +1,5 @@
-pub mod Outcome
 pub mod Lines
 pub mod Numbers
 pub mod Names
+pub mod Scan
+pub mod Joined

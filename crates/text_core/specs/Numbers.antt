@@ -1,6 +1,7 @@
 -- Numbers in positional notation, by value. Leading zeros are allowed.
 -- Source: Knuth, The Art of Computer Programming, section 4.1.
-use Rattle.std.specs.Prelude.{◌≡◌, ◌⊎◌, ℕ, ◌+◌, ◌-◌, ◌*◌, ◌^◌, ◌<◌, ◌≤◌, List, [], ◌∷◌, ◌++◌, length, codes, EachIndex, slice_index, nat_lt, if◌then◌else◌}
+use Rattle.std.specs.Prelude.{◌≡◌, ◌⊎◌, ℕ, ◌+◌, ◌-◌, ◌*◌, ◌^◌, ◌<◌, ◌≤◌, List, [], ◌∷◌, ◌++◌, length, codes, EachIndex, slice_index, nat_lt, false, if◌then◌else◌}
+use Rattle.std.specs.Fmt.{digits}
 
 -- what a digit stands for: 0 to 9, and a to f or A to F for 10 to 15
 abbrev pub digit_value : ℕ → ℕ
@@ -30,3 +31,7 @@ IsHex token n = (digits : List ℕ) × (token ≡ codes "0x" ++ digits) × AreDi
 -- decimal digits with this value
 abbrev pub IsDecimal : List ℕ → ℕ → Type 0
 IsDecimal token n = AreDigits 10 token × (n ≡ value_of 10 token)
+
+-- how a number is written in hexadecimal: in lower case, without leading zeros
+abbrev pub hex_text : ℕ → List ℕ
+hex_text n = codes "0x" ++ digits 16 false n

@@ -4,14 +4,16 @@ use Rattle.std.specs.Prelude.{◌==◌}
 use Rattle.std.proofs.Common.{eq-eqb}
 use Rattle.std.specs.List.{filter, range_with_len}
 use Rattle.std.proofs.lemmas.List.{map-append}
+use Rattle.lists.specs.Lists.{Has}
+use Rattle.lists.specs.laws.HasLaws.{All_has, Has_cases}
+use Rattle.lists.specs.laws.ReadLaws.{from_map}
 use Rattle.graph_core.specs.Walk.{IsChain}
 use Rattle.net_core.specs.GateValue.{GateValue}
 use Rattle.net_core.specs.Inside.{LatchIsInside}
 use Rattle.net_core.specs.LatchValue.{LatchValue}
-use Rattle.net_core.specs.Lists.{Has}
 use Rattle.net_core.specs.NetList.{NetList, nets}
 use Rattle.net_core.specs.Sound.{IsSound, Needs}
-use Rattle.net_core.proofs.DriverLemmas.{All_has, Has_cases, from_map, gate_inside}
+use Rattle.net_core.proofs.DriverLemmas.{gate_inside}
 use Rattle.net_words.specs.Binding.{Binding}
 use Rattle.net_words.specs.BoundTo.{IsBoundTo, StandsOn, output_bits, output_bits_with}
 use Rattle.net_words.specs.Feeds.{fed_nets, is_fed}

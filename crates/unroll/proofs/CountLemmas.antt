@@ -3,12 +3,13 @@ use Rattle.std.proofs.Common.{◌≡◌, ◌∙◌, ap, sym, refl, inl, inr, ℕ
 use Rattle.std.specs.Prelude.{slice_get}
 use Rattle.std.specs.List.{filter, range_with_len}
 use Rattle.std.proofs.lemmas.List.FromFn.{length-map-range_with_len}
-use Rattle.graph_core.proofs.GeneralLemmas.{length_map as map-long}
+use Rattle.lists.specs.Lists.{Has}
+use Rattle.lists.specs.laws.HasLaws.{Has_cases}
+use Rattle.lists.specs.laws.ListLaws.{length_map as map-long}
+use Rattle.lists.specs.laws.ReadLaws.{from_map}
 use Rattle.net_core.specs.GateValue.{GateValue}
 use Rattle.net_core.specs.LatchValue.{LatchValue}
 use Rattle.net_core.specs.NetList.{NetList, LabelValue, nets}
-use Rattle.net_core.specs.Lists.{Has}
-use Rattle.net_core.proofs.DriverLemmas.{Has_cases, from_map}
 use Rattle.net_words.specs.Binding.{Binding}
 use Rattle.net_words.specs.Feeds.{is_fed}
 use Rattle.net_words.specs.declared.bound.BoundWord.{BoundWord}

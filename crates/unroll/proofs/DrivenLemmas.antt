@@ -4,15 +4,17 @@ use Rattle.std.specs.Prelude.{if◌then◌else◌}
 use Rattle.std.specs.List.{filter, range_with_len}
 use Rattle.std.proofs.lemmas.Bool.{cases_lt}
 use Rattle.std.proofs.lemmas.List.{map-append}
-use Rattle.graph_core.proofs.GraphLemmas.{nat_eq_or, All_has}
-use Rattle.graph_core.proofs.GeneralLemmas.{length_map as map-long}
+use Rattle.lists.specs.Lists.{Has, times}
+use Rattle.lists.specs.laws.HasLaws.{All_has, Has_cases, times_append, times_some}
+use Rattle.lists.specs.laws.ListLaws.{length_map as map-long}
+use Rattle.lists.specs.laws.NumberLaws.{nat_eq_or}
+use Rattle.lists.specs.laws.ReadLaws.{from_map}
+use Rattle.lists.specs.laws.TestLaws.{one_here, none_here}
 use Rattle.net_core.specs.GateValue.{GateValue}
 use Rattle.net_core.specs.LatchValue.{LatchValue}
 use Rattle.net_core.specs.Inside.{GateIsInside, LatchIsInside}
-use Rattle.net_core.specs.Lists.{Has, times}
 use Rattle.net_core.specs.NetList.{NetList, nets}
 use Rattle.net_core.specs.Sound.{sources, driven, IsSound}
-use Rattle.net_core.proofs.DriverLemmas.{Has_cases, from_map, times_append, times_some, one_here, none_here}
 use Rattle.net_words.specs.Binding.{Binding}
 use Rattle.net_words.specs.Feeds.{is_fed}
 use Rattle.net_words.specs.declared.feed.Source.{Source}

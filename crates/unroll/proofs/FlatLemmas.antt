@@ -2,11 +2,11 @@
 use Rattle.std.proofs.Common.{◌≡◌, ap, refl, inl, inr, ℕ, ◌&&◌, Bool, true, false, not, List, [], ◌∷◌, length, arith}
 use Rattle.std.specs.Prelude.{if◌then◌else◌}
 use Rattle.std.specs.List.{list_any}
-use Rattle.graph_core.proofs.GeneralLemmas.{both_true as both, not_true, all_from}
+use Rattle.lists.specs.Lists.{Has}
+use Rattle.lists.specs.laws.BoolLaws.{both_true as both, not_true}
+use Rattle.lists.specs.laws.HasLaws.{all_from, All_has}
 use Rattle.net_core.specs.LatchValue.{LatchValue}
-use Rattle.net_core.specs.Lists.{Has}
 use Rattle.net_core.specs.NetList.{NetList}
-use Rattle.net_core.proofs.DriverLemmas.{All_has}
 use Rattle.net_words.specs.Binding.{Binding, HasWidth}
 use Rattle.net_words.specs.BoundTo.{IsBoundTo}
 use Rattle.net_words.specs.OneCycle.{IsFlat}

@@ -1,11 +1,11 @@
 -- What a circuit of one cycle computes, in however many cycles.
 use Rattle.std.proofs.Common.{◌≡◌, ◌≢◌, ◌∙◌, ap, sym, refl, subst, ℕ, zero, suc, Bool, List, [], ◌∷◌, ◌++◌, length, map, Some, arith}
 use Rattle.std.specs.Prelude.{slice_get}
+use Rattle.lists.specs.Lists.{Has}
+use Rattle.lists.specs.laws.HasLaws.{All_has}
 use Rattle.net_core.specs.LatchValue.{LatchValue}
-use Rattle.net_core.specs.Lists.{Has}
 use Rattle.net_core.specs.NetList.{NetList}
 use Rattle.net_core.specs.Sound.{IsSound}
-use Rattle.net_core.proofs.DriverLemmas.{All_has}
 use Rattle.net_words.specs.Binding.{Binding}
 use Rattle.net_words.specs.BoundTo.{IsBoundTo}
 use Rattle.net_words.specs.OneCycle.{IsFlat}

@@ -3,14 +3,15 @@ use Rattle.std.proofs.Common.{◌≡◌, ◌≢◌, ◌∙◌, ap, sym, refl, su
 use Rattle.std.specs.Prelude.{slice_get, ◌==◌}
 use Rattle.std.proofs.lemmas.Option.{slice_get-get_or}
 use Rattle.std.proofs.lemmas.Option.{slice_get_within}
+use Rattle.lists.specs.Lists.{Has}
+use Rattle.lists.specs.laws.HasLaws.{Has_map}
+use Rattle.lists.specs.laws.ReadLaws.{from_map}
 use Rattle.net_core.specs.LatchValue.{LatchValue}
-use Rattle.net_core.specs.Lists.{Has}
 use Rattle.net_core.specs.NetList.{NetList}
 use Rattle.net_core.specs.Sound.{IsSound}
 use Rattle.net_core.specs.Value.{bit_of}
 use Rattle.net_core.specs.declared.latch.Start.{Start}
 use Rattle.net_core.specs.declared.latch.Start.TheVariants as starts
-use Rattle.net_core.proofs.DriverLemmas.{Has_map, from_map}
 use Rattle.net_words.specs.Binding.{Binding}
 use Rattle.net_words.specs.BoundTo.{IsBoundTo}
 use Rattle.net_words.specs.Feeds.{is_fed, fed_nets as bound_fed_nets}

@@ -4,14 +4,15 @@ use Rattle.std.specs.Prelude.{slice_get, ◌↔◌}
 use Rattle.std.specs.List.{range_with_len}
 use Rattle.std.proofs.lemmas.List.FromFn.{length-range_with_len}
 use Rattle.std.proofs.lemmas.Option.{slice_get-get_or, slice_get_within}
-use Rattle.graph_core.proofs.GeneralLemmas.{length_map as map-long}
-use Rattle.net_core.specs.Lists.{Has}
+use Rattle.lists.specs.Lists.{Has}
+use Rattle.lists.specs.laws.HasLaws.{All_has}
+use Rattle.lists.specs.laws.ListLaws.{length_map as map-long}
+use Rattle.lists.specs.laws.ReadLaws.{from_map}
 use Rattle.net_core.specs.NetList.{NetList, nets}
 use Rattle.net_core.specs.Sound.{IsSound}
 use Rattle.net_core.specs.Value.{index_of}
 use Rattle.net_core.specs.Inside.{LatchIsInside}
 use Rattle.net_core.specs.LatchValue.{LatchValue}
-use Rattle.net_core.proofs.DriverLemmas.{All_has, from_map}
 use Rattle.net_core.proofs.EvalLemmas.{index_agree}
 use Rattle.net_words.specs.Binding.{Binding}
 use Rattle.net_words.specs.BoundTo.{IsBoundTo, output_bits}

@@ -6,14 +6,14 @@ use Rattle.std.proofs.lemmas.Bool.{cases_lt}
 use Rattle.std.proofs.lemmas.Bool.Decides.{eqb_tells}
 use Rattle.std.proofs.lemmas.Option.{slice_get_within, slice_get-get_or}
 use Rattle.std.proofs.lemmas.List.FromFn.{get_or-range_with_len}
+use Rattle.lists.specs.Lists.{Has}
+use Rattle.lists.specs.laws.HasLaws.{All_has}
+use Rattle.lists.specs.laws.ReadLaws.{get_below, from_map}
 use Rattle.net_words.proofs.ZipLemmas.{map-get}
-use Rattle.graph_core.proofs.ListLemmas.{get_below}
 use Rattle.net_core.specs.GateValue.{GateValue}
 use Rattle.net_core.specs.Inside.{GateIsInside}
-use Rattle.net_core.specs.Lists.{Has}
 use Rattle.net_core.specs.NetList.{NetList, empty, nets}
 use Rattle.net_core.specs.Sound.{IsSound}
-use Rattle.net_core.proofs.DriverLemmas.{All_has, from_map}
 use Rattle.net_words.specs.Binding.{Binding, HasWidth, IsBinding}
 use Rattle.net_words.specs.BoundTo.{IsBoundTo}
 use Rattle.net_words.specs.Feeds.{IsSource}

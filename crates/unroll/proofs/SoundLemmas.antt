@@ -3,20 +3,22 @@ use Rattle.std.proofs.Common.{◌≡◌, ◌∙◌, ap, sym, refl, subst, inl, i
 use Rattle.std.specs.Prelude.{◌==◌, ◌&&◌, if◌then◌else◌}
 use Rattle.std.specs.List.{filter, range_with_len}
 use Rattle.std.proofs.lemmas.Bool.{cases_lt}
+use Rattle.lists.specs.Lists.{Has, times}
+use Rattle.lists.specs.laws.HasLaws.{all_from, All_has, Has_cases, times_append}
+use Rattle.lists.specs.laws.ListLaws.{length_map as map-long}
+use Rattle.lists.specs.laws.ReadLaws.{from_map}
 use Rattle.graph_core.specs.Walk.{IsChain, IsCycleBy}
-use Rattle.graph_core.proofs.GeneralLemmas.{all_from, length_map as map-long}
 use Rattle.net_core.specs.GateValue.{GateValue}
 use Rattle.net_core.specs.LatchValue.{LatchValue}
 use Rattle.net_core.specs.Inside.{GateIsInside, IsInside, LatchIsInside}
 use Rattle.net_core.specs.Level.{Levels}
 use Rattle.net_core.specs.Levelled.{AllHaveLevels}
-use Rattle.net_core.specs.Lists.{Has, times}
 use Rattle.net_core.specs.NetList.{NetList, nets}
 use Rattle.net_core.specs.Order.{rank_at}
 use Rattle.net_core.specs.Sound.{drivers, HasCycle, IsSound, Needs}
 use Rattle.net_core.specs.declared.latch.Start.{Start}
 use Rattle.net_core.specs.declared.latch.Start.TheVariants as starts
-use Rattle.net_core.proofs.DriverLemmas.{All_has, Has_cases, from_map, gate_inside, times_append}
+use Rattle.net_core.proofs.DriverLemmas.{gate_inside}
 use Rattle.net_core.proofs.EvalLemmas.{inputs_below}
 use Rattle.net_core.proofs.ExistLemmas.{sound_levels}
 use Rattle.net_words.specs.Binding.{Binding}

@@ -5,13 +5,14 @@ use Rattle.std.specs.List.{filter, range_with_len}
 use Rattle.std.proofs.Math.Seq.{take-append_seam, drop-append_seam}
 use Rattle.std.proofs.lemmas.Bool.{cases_lt}
 use Rattle.std.proofs.lemmas.List.FromFn.{length-range_with_len}
-use Rattle.graph_core.proofs.GeneralLemmas.{length_map as map-long, all_from}
+use Rattle.lists.specs.Lists.{Has, times}
+use Rattle.lists.specs.laws.HasLaws.{all_from, All_has, Has_cases, Has_left, Has_map, Has_right, times_append}
+use Rattle.lists.specs.laws.ListLaws.{length_map as map-long}
+use Rattle.lists.specs.laws.ReadLaws.{from_map}
 use Rattle.net_core.specs.Inside.{LatchIsInside}
 use Rattle.net_core.specs.LatchValue.{LatchValue}
-use Rattle.net_core.specs.Lists.{Has, times}
 use Rattle.net_core.specs.NetList.{NetList, nets}
 use Rattle.net_core.specs.Sound.{IsSound}
-use Rattle.net_core.proofs.DriverLemmas.{All_has, Has_cases, Has_left, Has_map, Has_right, from_map, times_append}
 use Rattle.net_words.specs.Binding.{Binding, HasWidth}
 use Rattle.net_words.specs.BoundTo.{IsBoundTo, StandsOn}
 use Rattle.net_words.specs.Feeds.{is_fed}

@@ -1,6 +1,6 @@
 //! What fed nets hold, cycle by cycle.
 ghost use Rattle.std.specs.Prelude.{◌≡◌, ◌<◌, ◌≤◌, ◌+◌, ◌*◌, ◌^◌, ℕ, length, slice_index_or, slice_set, IfOk};
-ghost use Rattle.net_core.specs.Lists.{Has};
+ghost use Rattle.lists.specs.Lists.{Has};
 ghost use Rattle.net_core.specs.NetList.{nets};
 ghost use Rattle.net_words.specs.BoundTo.{IsBoundTo};
 ghost use Rattle.net_words.specs.declared.feed.Source.TheVariants.{Zero};

@@ -1,7 +1,7 @@
 -- The law of values: an assigned target has its expression's value, in each consistent list of bits.
 use Rattle.std.proofs.Common.{◌≡◌, ◌∙◌, ap, sym, inr, refl, subst, ℕ, zero, suc, ◌≤◌, Bool, true, false, cond, List, [], ◌∷◌, Some, Result, Ok, Err, arith}
+use Rattle.outcome.specs.Outcome.{Determined, Exactly, ◌>>=◌}
 use Rattle.text_core.specs.Lines.{IsPrinting}
-use Rattle.text_core.specs.Outcome.{Determined, Exactly, ◌>>=◌}
 use Rattle.net_core.specs.NetList.{NetList, empty, number_of}
 use Rattle.net_core.specs.Value.{IsConsistent}
 use Rattle.net_core.specs.declared.fault.NetFault.{NetFault}

@@ -1,7 +1,8 @@
 -- Names that may be those of bits, and the places where they are cut.
 use Rattle.std.proofs.Common.{◌≡◌, ◌∙◌, ap, sym, refl, subst, ℕ, suc, ◌+◌, ◌-◌, ◌≤◌, Bool, true, false, List, [], ◌∷◌, ◌++◌, length, take, drop, decimal, length-append, Option, None, Some, arith}
+use Rattle.std.proofs.lemmas.List.{length-take-le as taken_length}
+use Rattle.lists.specs.laws.TakeLaws.{front_of as front}
 use Rattle.text_core.specs.Numbers.{IsDecimal, value_of}
-use Rattle.graph_core.proofs.GeneralLemmas.{taken_long as taken_length, front_of as front}
 use Rattle.net_verilog.specs.Declarations.{Declarations, bit_name, range_of}
 use Rattle.verilog_reader.specs.Declares.{HasShortNames, Meets}
 use Rattle.verilog_reader.specs.private.Meets.{AreShort, Decides, HasScalar, IsBit, IsFound, IsMet}

@@ -3,16 +3,17 @@ use Rattle.std.proofs.Common.{◌≡◌, ◌∙◌, refl, subst, ℕ, zero, suc,
 use Rattle.std.specs.Prelude.{is_some, nat_le, unwrap_or}
 use Rattle.std.specs.List.{AllByRecursion}
 use Rattle.std.proofs.lemmas.List.Elements.{All-append, All-weaker}
+use Rattle.lists.specs.laws.HasLaws.{Has_left}
+use Rattle.outcome.specs.Steps.{on_value}
 use Rattle.text_core.specs.Lines.{IsPrinting}
 use Rattle.net_core.specs.NetList.{LabelValue, NetList, nets, number_from, number_of, is_named, with_gate, with_label, with_name}
 use Rattle.net_core.specs.GateValue.{GateValue}
 use Rattle.net_core.specs.declared.fault.NetFault.{NetFault}
 use Rattle.net_core.specs.declared.fault.NetFault.TheVariants as nets_faults
-use Rattle.net_core.proofs.DriverLemmas.{Has_left}
+use Rattle.net_core.proofs.DriverLemmas.{DriveNets}
 use Rattle.net_core.proofs.NameLemmas.{fresh_after}
-use Rattle.net_aiger.proofs.SettleLemmas.{DriveNets}
 use Rattle.net_verilog.specs.Value.{Covers}
-use Rattle.net_verilog.specs.Made.{driven, fresh_driven, inputs_of, made, mentioned, on_value, opened, settled, table_of, with_gate_of}
+use Rattle.net_verilog.specs.Made.{driven, fresh_driven, inputs_of, made, mentioned, opened, settled, table_of, with_gate_of}
 use Rattle.net_verilog.specs.Tree.{Tree, Net, Literal, Group, Not, Binary, Cut, InGroup, InNot, InRight}
 use Rattle.net_verilog.specs.declared.declared.Direction.{Direction}
 use Rattle.net_verilog.specs.declared.declared.Direction.TheVariants.{Input, Output, Wire}

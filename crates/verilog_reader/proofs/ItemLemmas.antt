@@ -1,6 +1,6 @@
 -- Items, one after another.
 use Rattle.std.proofs.Common.{◌≡◌, ap, sym, inl, inr, refl, subst, ℕ, suc, Bool, true, false, List, Result, Ok, Err}
-use Rattle.text_core.specs.Outcome.{Exactly, ◌>>=◌}
+use Rattle.outcome.specs.Outcome.{Exactly, ◌>>=◌}
 use Rattle.net_verilog.specs.Tokens.{TokenValue, is_end}
 use Rattle.net_verilog.specs.Several.{Either, after_first}
 use Rattle.net_verilog.specs.declared.kind.Kind.{Kind}

@@ -1,7 +1,7 @@
 -- At most one outcome comes of a module.
 use Rattle.std.proofs.Common.{◌≡◌, ℕ, zero, suc, Bool, true, false, List, [], ◌∷◌, Option, None, Some, Result, Err}
-use Rattle.text_core.specs.Outcome.{Determined, Exactly}
-use Rattle.text_core.proofs.DeterminedLemmas.{determined_bind, determined_returns}
+use Rattle.outcome.proofs.DeterminedLemmas.{determined_bind, determined_returns}
+use Rattle.outcome.specs.Outcome.{Determined, Exactly}
 use Rattle.net_core.specs.NetList.{empty}
 use Rattle.net_verilog.specs.Tokens.{TokenValue}
 use Rattle.net_verilog.specs.Parts.{identifier, is_close, taken}

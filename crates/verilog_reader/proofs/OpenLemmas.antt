@@ -1,7 +1,7 @@
 -- The last `[` of a name.
 use Rattle.std.proofs.Common.{◌≡◌, ◌∙◌, ap, sym, subst, ℕ, zero, suc, ◌+◌, ◌≤◌, List, [], ◌∷◌, ◌++◌, length, take, drop, decimal, Some, arith}
 use Rattle.std.specs.Prelude.{slice_get}
-use Rattle.graph_core.proofs.GeneralLemmas.{taken_long as taken_length}
+use Rattle.std.proofs.lemmas.List.{length-take-le as taken_length}
 use Rattle.verilog_reader.specs.private.Meets.{IsCutOf, IsNoBit}
 use Rattle.verilog_reader.proofs.NumeralLemmas.{NoOpen, digits_no_open}
 use Rattle.verilog_reader.proofs.NameLemmas.{closed, has_open, name_split, same_before}

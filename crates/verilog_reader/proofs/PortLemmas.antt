@@ -1,9 +1,9 @@
 -- Ports, one after another.
 use Rattle.std.proofs.Common.{◌≡◌, ◌∙◌, ap, inl, inr, ℕ, suc, ◌+◌, ◌-◌, ◌<◌, List, Result, Ok, Err, arith}
+use Rattle.outcome.specs.Steps.{on_value}
 use Rattle.net_core.specs.NetList.{NetList}
 use Rattle.net_core.specs.declared.fault.NetFault.{NetFault}
 use Rattle.net_verilog.specs.Declarations.{bit_name}
-use Rattle.net_verilog.specs.Made.{on_value}
 use Rattle.net_verilog.specs.private.Gates.{IsRefused}
 use Rattle.net_verilog.specs.declared.declared.Direction.{Direction}
 use Rattle.net_verilog.specs.declared.fault.VerilogFault.{VerilogFault}

@@ -1,7 +1,7 @@
 -- Lists of ports: where one is closed at once, where none stands, and where a plain one is refused.
 use Rattle.std.proofs.Common.{◌≡◌, ◌⊎◌, refl, subst, sym, Bool, true, false, List, ◌∷◌, Option, None, Result, Ok, Err}
 use Rattle.std.specs.Prelude.{IfErr}
-use Rattle.text_core.specs.Outcome.{Exactly}
+use Rattle.outcome.specs.Outcome.{Exactly}
 use Rattle.net_verilog.specs.Tokens.{TokenValue, is_end}
 use Rattle.net_verilog.specs.Parts.{is_close}
 use Rattle.net_verilog.specs.Several.{Either, after_first}

@@ -6,8 +6,9 @@ use Rattle.std.specs.Fmt.{digits, digits_onto, digit_glyph}
 use Rattle.std.specs.Str.{bytes_eq}
 use Rattle.std.proofs.lemmas.Bool.{lt-ltb}
 use Rattle.std.proofs.lemmas.List.Elements.{All-append, All-drop}
+use Rattle.outcome.specs.Outcome.{Outcome, ◌>>=◌, Exactly, Returns}
+use Rattle.outcome.specs.Steps.{on_value}
 use Rattle.text_core.specs.Lines.{IsPrinting}
-use Rattle.text_core.specs.Outcome.{Outcome, ◌>>=◌, Exactly, Returns}
 use Rattle.net_core.specs.declared.fault.NetFault.{NetFault}
 use Rattle.net_core.specs.declared.fault.NetFault.TheVariants as nets
 use Rattle.net_verilog.specs.Tokens.{TokenValue}
@@ -15,7 +16,6 @@ use Rattle.net_verilog.specs.Words.{is_keyword, literal_of, number_fault, wrong,
 use Rattle.net_verilog.specs.Targets.{after_name, closed, decimal_kind, indexed, is_close_index, is_open_index, name_kind, named, target_of, within}
 use Rattle.net_verilog.specs.Parts.{bound, bounded, bounds, identified, identifier, is_sign, range, taken}
 use Rattle.net_verilog.specs.Declarations.{Declarations, Range, bit_name, range_of}
-use Rattle.net_verilog.specs.Made.{on_value}
 use Rattle.net_verilog.specs.private.Places.{Prints, is_wrong}
 use Rattle.net_verilog.proofs.PieceLemmas.{Shows, all_cons, none_prints}
 use Rattle.net_verilog.specs.declared.kind.Kind.{Kind}

@@ -1,7 +1,7 @@
 -- At most one outcome comes of declarations and of instances.
 use Rattle.std.proofs.Common.{◌∙◌, ap, sym, inl, inr, ℕ, List, Ok, Err}
-use Rattle.text_core.specs.Outcome.{Determined}
-use Rattle.text_core.proofs.DeterminedLemmas.{determined_bind, determined_returns}
+use Rattle.outcome.proofs.DeterminedLemmas.{determined_bind, determined_returns}
+use Rattle.outcome.specs.Outcome.{Determined}
 use Rattle.net_core.specs.NetList.{NetList}
 use Rattle.net_verilog.specs.Tokens.{TokenValue}
 use Rattle.net_verilog.specs.Parts.{identifier}

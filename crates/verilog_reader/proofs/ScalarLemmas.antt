@@ -4,8 +4,8 @@ use Rattle.std.specs.Prelude.{string_bytes, string_eq, if◌then◌else◌}
 use Rattle.std.specs.Str.{bytes_eq}
 use Rattle.std.specs.Map.{lookup}
 use Rattle.std.specs.Cmp.Lexicographic.{bytes_decides}
+use Rattle.lists.specs.Lists.{Has}
 use Rattle.indexmap.specs.IndexMap.{insert_entry}
-use Rattle.net_core.specs.Lists.{Has}
 use Rattle.verilog_reader.specs.private.Listed.{IsKept, Lists, items_or, list_at, named_lists, put_list}
 
 -- a list is looked up by its name's bytes

@@ -4,7 +4,7 @@ use Rattle.std.specs.Prelude.{if◌then◌else◌}
 use Rattle.std.specs.Option.{option_map}
 use Rattle.std.specs.Str.{bytes_eq}
 use Rattle.std.specs.Cmp.Lexicographic.{bytes_decides}
-use Rattle.net_core.specs.Lists.{Has}
+use Rattle.lists.specs.Lists.{Has}
 use Rattle.net_verilog.specs.Declarations.{Declarations, IsNetOf, Range, bit_name, declared_as, put, range_of}
 use Rattle.net_verilog.specs.declared.declared.Declared.{Declared}
 use Rattle.net_verilog.proofs.TableLemmas.{put_at}

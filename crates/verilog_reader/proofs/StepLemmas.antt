@@ -1,15 +1,16 @@
 -- What comes of expressions, assignments and instances: nets grow, the tokens after them print, and so do the faults.
 use Rattle.std.proofs.Common.{◌≡◌, sym, inl, inr, refl, subst, ℕ, zero, suc, ◌<◌, Bool, true, false, cond, ◌⊎◌, List, [], ◌∷◌, ◌++◌, length, Option, None, Some, Result, Ok, Err, arith}
 use Rattle.std.specs.Prelude.{nat_le}
+use Rattle.outcome.specs.Outcome.{Exactly, Returns}
+use Rattle.outcome.specs.Steps.{on_value}
 use Rattle.text_core.specs.Lines.{IsPrinting}
-use Rattle.text_core.specs.Outcome.{Exactly, Returns}
 use Rattle.net_core.specs.NetList.{NetList, nets}
 use Rattle.net_core.specs.declared.fault.NetFault.{NetFault}
 use Rattle.net_verilog.specs.Tokens.{TokenValue}
 use Rattle.net_verilog.specs.Words.{next_of, start_kind, start_of}
 use Rattle.net_verilog.specs.Targets.{Answer, target_of}
 use Rattle.net_verilog.specs.Tree.{Tree, Net, Literal, Group, Not, Binary, Cut, InGroup, InNot, InRight, Begins, Spells, depth}
-use Rattle.net_verilog.specs.Made.{driven, inputs_of, made, mentioned, on_value, opened, settled, table_of, with_gate_of}
+use Rattle.net_verilog.specs.Made.{driven, inputs_of, made, mentioned, opened, settled, table_of, with_gate_of}
 use Rattle.net_verilog.specs.Expression.{BreaksLimit, Expression, Read, close_fault, group_fault, open_fault, operand_fault, start_fault, target_fault}
 use Rattle.net_verilog.specs.Parts.{identifier, taken}
 use Rattle.net_verilog.specs.Assigns.{Assigns, Reads, net_fault}

@@ -1,8 +1,8 @@
 -- What comes of a module: its net grows from nothing, and its faults print.
 use Rattle.std.proofs.Common.{◌≡◌, sym, inl, inr, refl, subst, ℕ, zero, suc, ◌-◌, ◌==◌, ◌||◌, Bool, true, false, cond, List, [], ◌∷◌, take, Option, None, Some, Ok, Err}
 use Rattle.std.specs.Prelude.{is_some}
+use Rattle.outcome.specs.Outcome.{◌>>=◌, Exactly, Returns}
 use Rattle.text_core.specs.Lines.{IsPrinting}
-use Rattle.text_core.specs.Outcome.{◌>>=◌, Exactly, Returns}
 use Rattle.net_core.specs.NetList.{NetList, empty}
 use Rattle.net_verilog.specs.Tokens.{Piece, TokenValue, first_after, is_end, line_after, piece, tokens_from, tokens_of, unless_end, with_piece}
 use Rattle.net_verilog.specs.Words.{wrong}

@@ -1,9 +1,11 @@
 -- At most one net or fault comes of a text.
 use Rattle.std.proofs.Common.{arith, ℕ, List, Ok}
-use Rattle.text_core.specs.Outcome.{Determined, Within}
+use Rattle.outcome.specs.Outcome.{Determined, Within}
+use Rattle.outcome.proofs.DeterminedLemmas.{determined_after, determined_within}
 use Rattle.net_core.specs.NetList.{NetList, empty}
-use Rattle.net_aiger.specs.AigerNet.{Settles}
-use Rattle.net_aiger.proofs.SettleLemmas.{DriveNets, determined_after, determined_within, settles_determined}
+use Rattle.net_core.specs.Finish.{Settles}
+use Rattle.net_core.proofs.DriverLemmas.{DriveNets}
+use Rattle.net_core.proofs.SettleLemmas.{settles_determined}
 use Rattle.net_verilog.specs.Tokens.{tokens_of}
 use Rattle.net_verilog.specs.declared.fault.VerilogFault.TheVariants.{Net}
 use Rattle.verilog_reader.specs.Modules.{Module, VerilogNet}

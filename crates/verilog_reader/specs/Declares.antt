@@ -1,11 +1,12 @@
 -- Declarations of names, and the ports that they make. Source: IEEE Std 1364-2005, section 4.2 and annex A.2, in the profile of docs/FORMATS.md.
 use Rattle.std.specs.Prelude.{◌≡◌, ◌⊎◌, ℕ, zero, suc, ◌+◌, ◌-◌, ◌==◌, ◌≤◌, ◌||◌, ◌&&◌, not, Bool, true, false, List, [], ◌∷◌, ◌++◌, length, Option, None, Some, Result, Ok, Err}
-use Rattle.text_core.specs.Outcome.{Outcome, ◌>>=◌, Exactly, Returns}
+use Rattle.outcome.specs.Outcome.{Outcome, ◌>>=◌, Exactly, Returns}
+use Rattle.outcome.specs.Steps.{on_value}
 use Rattle.net_core.specs.NetList.{NetList}
 use Rattle.net_core.specs.declared.fault.NetFault.{NetFault}
 use Rattle.net_verilog.specs.Tokens.{TokenValue}
 use Rattle.net_verilog.specs.Declarations.{Declarations, Range, IsNetOf, bit_name, declared_as, is_directed, range_of, with_declared}
-use Rattle.net_verilog.specs.Made.{mentioned, on_value}
+use Rattle.net_verilog.specs.Made.{mentioned}
 use Rattle.net_verilog.specs.Parts.{identifier}
 use Rattle.net_verilog.specs.Assigns.{Reads, net_fault}
 use Rattle.net_verilog.specs.declared.declared.Declared.{Declared}

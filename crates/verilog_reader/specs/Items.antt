@@ -2,7 +2,7 @@
 -- docs/FORMATS.md.
 use Rattle.std.specs.Prelude.{ℕ, zero, suc, Bool, false, List, [], ◌∷◌, codes, is_some, Option, None, Some, Err, if◌then◌else◌}
 use Rattle.std.specs.Str.{bytes_eq}
-use Rattle.text_core.specs.Outcome.{◌>>=◌, Exactly, Returns}
+use Rattle.outcome.specs.Outcome.{◌>>=◌, Exactly, Returns}
 use Rattle.net_core.specs.NetList.{NetList}
 use Rattle.net_verilog.specs.Tokens.{TokenValue}
 use Rattle.net_verilog.specs.Words.{wrong}

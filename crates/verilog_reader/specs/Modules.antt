@@ -1,14 +1,14 @@
 -- Modules: the list of ports, the items, and what may stand around. Source: IEEE Std 1364-2005, annex A.1.2 and A.1.3, in the profile
 -- of docs/FORMATS.md.
 use Rattle.std.specs.Prelude.{ℕ, Bool, false, List, [], ◌∷◌, Option, None, Some, Result, Ok, Err, if◌then◌else◌}
-use Rattle.text_core.specs.Outcome.{Outcome, ◌>>=◌, Exactly, Returns, Within}
+use Rattle.outcome.specs.Outcome.{Outcome, ◌>>=◌, Exactly, Returns, Within}
+use Rattle.outcome.specs.Steps.{on_value}
 use Rattle.net_core.specs.NetList.{NetList, empty}
-use Rattle.net_aiger.specs.AigerNet.{Settles}
+use Rattle.net_core.specs.Finish.{Settles}
 use Rattle.net_verilog.specs.Tokens.{TokenValue, is_end, tokens_of}
 use Rattle.net_verilog.specs.Words.{wrong}
 use Rattle.net_verilog.specs.Targets.{Answer}
 use Rattle.net_verilog.specs.Parts.{identifier, is_close, is_open, range, taken}
-use Rattle.net_verilog.specs.Made.{on_value}
 use Rattle.net_verilog.specs.Assigns.{Reads}
 use Rattle.net_verilog.specs.Several.{Either, Several, after_first}
 use Rattle.net_verilog.specs.Declarations.{Range, undeclared}

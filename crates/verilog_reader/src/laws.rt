@@ -1,6 +1,6 @@
 //! Laws of the definitions.
 ghost use Rattle.std.specs.Prelude.{ℕ, Bool, List, Ok};
-ghost use Rattle.text_core.specs.Outcome.{Determined};
+ghost use Rattle.outcome.specs.Outcome.{Determined};
 ghost use Rattle.net_core.specs.NetList.{NetList};
 ghost use Rattle.net_core.specs.Value.{IsConsistent};
 ghost use Rattle.net_verilog.specs.Declarations.{Declarations, Range};

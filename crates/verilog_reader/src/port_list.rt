@@ -16,7 +16,7 @@ use net_verilog::{Cursor, Direction, Sign, VerilogFault, is_sign, take};
 use std::alloc::Global;
 
 // The direction and the range of names of a list of ports.
-#[derive(Debug, Clone, Copy)]
+#[derive(Clone, Copy)]
 struct Head {
     direction: Direction,
     range: Option<(u32, u32)>,

@@ -1,5 +1,6 @@
 //! The reader of structural Verilog.
-ghost use Rattle.std.specs.Prelude.{◌≡◌, ◌⊎◌, ◌≤◌, Ok, Err, IfOk, IfErr, length};
+ghost use Rattle.std.specs.Prelude.{◌≡◌, ◌⊎◌, ◌≤◌, Ok, Err, IfOk, IfErr, OnOk, length};
+ghost use Rattle.net_core.specs.NetList.{empty};
 ghost use Rattle.net_verilog.specs.Tokens.{tokens_of};
 ghost use Rattle.verilog_reader.specs.Modules.{Module, VerilogNet};
 
@@ -9,6 +10,22 @@ use net_core::{Net, NetMaker, key_of};
 use net_verilog::{Cursor, VerilogFault, fault_of};
 use std::alloc::Global;
 
+// Reads the module of a text.
+fn read_into(
+    alloc: Global,
+    key: u64,
+    maker: &mut NetMaker,
+    bytes: &[u8],
+) -> Result<(), VerilogFault>
+    requires few { length bytes.now ≤ 67108864 }
+    requires empty { maker.old ≡ empty }
+    ensures made { OnOk result (Module (tokens_of bytes.now) (Ok maker.new)) }
+    ensures fault { IfErr result (λ e. (e ≡ VerilogFault.OutOfMemory) ⊎ Module (tokens_of bytes.now) (Err e)) }
+{
+    let mut declared = Scope::new(alloc, key);
+    read_module(alloc, maker, &mut declared, &Cursor::new(bytes))
+}
+
 // The net list of a text.
 fn read_text(alloc: Global, bytes: &[u8]) -> Result<NetMaker, VerilogFault>
     requires { length bytes.now ≤ 67108864 }
@@ -17,8 +34,7 @@ fn read_text(alloc: Global, bytes: &[u8]) -> Result<NetMaker, VerilogFault>
 {
     let key = key_of(bytes);
     let mut maker = NetMaker::keyed(alloc, key);
-    let mut declared = Scope::new(alloc, key);
-    match read_module(alloc, &mut maker, &mut declared, &Cursor::new(bytes)) {
+    match read_into(alloc, key, &mut maker, bytes) {
         Ok(()) => Ok(maker),
         Err(fault) => Err(fault),
     }

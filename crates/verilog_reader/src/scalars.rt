@@ -1,6 +1,6 @@
 //! Indexes that stand in the names of declared scalars, by the name before the `[`.
 ghost use Rattle.std.specs.Prelude.{◌≡◌, ℕ, [], IfOk, OnOk};
-ghost use Rattle.net_core.specs.Lists.{Has};
+ghost use Rattle.lists.specs.Lists.{Has};
 ghost use Rattle.verilog_reader.specs.private.Listed.{IsKept, items_or, list_at, put_list};
 
 use indexmap::IndexMap;

@@ -11,7 +11,7 @@ use net_verilog::{
 use std::alloc::Global;
 
 /// What an item is, by its first token.
-#[derive(Debug, Clone, Copy)]
+#[derive(Clone, Copy)]
 pub enum ItemStart {
     Declaration(Direction),
     Assignments,

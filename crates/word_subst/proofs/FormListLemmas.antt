@@ -5,7 +5,8 @@ use Rattle.std.specs.Int.Bits.{xor_zero_r}
 use Rattle.std.proofs.lemmas.Bool.{eqb-true, eqb-false}
 use Rattle.std.proofs.lemmas.Nat.{pow_below}
 use Rattle.std.specs.List.{AllByRecursion}
-use Rattle.graph_core.proofs.ListLemmas.{got_push, length-push}
+use Rattle.lists.specs.laws.ListLaws.{length-push}
+use Rattle.lists.specs.laws.ReadLaws.{got_push}
 use Rattle.gf_field.specs.Power.{power}
 use Rattle.poly_mixed.specs.Polynomial.{IsElement}
 use Rattle.poly_mixed.specs.Sum.{with_coefficient}

@@ -1,7 +1,6 @@
 -- One term, bit by bit.
 use Rattle.std.proofs.Common.{◌≡◌, ◌∙◌, ap, sym, refl, subst, inl, inr, ℕ, suc, ◌<◌, ◌≤◌, ◌+◌, ◌-◌, ◌*◌, List, [], ◌∷◌, ◌++◌, length, take, drop, Option, Some, arith}
 use Rattle.std.specs.Prelude.{slice_get}
-use Rattle.graph_core.proofs.ListLemmas.{got_push, length-push}
 use Rattle.poly_mixed.specs.Monomial.{Monomial}
 use Rattle.poly_mixed.specs.Polynomial.{Terms, IsTerm}
 use Rattle.poly_mixed.specs.Steps.{Step}
@@ -15,6 +14,8 @@ use Rattle.word_subst.specs.ReadSteps.{IsReadStep, TellsFirst}
 use Rattle.word_subst.proofs.Telling.{TellsMultiplier}
 use Rattle.std.specs.List.Sorted.{IsStrictlySortedBy}
 use Rattle.std.specs.Ordering.{nat_cmp}
+use Rattle.lists.specs.laws.ListLaws.{length-push}
+use Rattle.lists.specs.laws.ReadLaws.{got_push}
 use Rattle.word_subst.proofs.RisingLemmas.{few_between, rest_is, drop_rises}
 use Rattle.word_subst.proofs.MultiplierLemmas.{multiplier_is}
 use Rattle.poly_mixed.proofs.RecorderLemmas.{tells_none, tells_more}

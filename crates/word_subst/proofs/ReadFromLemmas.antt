@@ -7,10 +7,12 @@ use Rattle.std.proofs.lemmas.Bool.{cases_lt, cases_order, eqb-false, false≢tru
 use Rattle.std.proofs.lemmas.Nat.Bits.{bit_at-lt}
 use Rattle.std.proofs.lemmas.List.{take_more}
 use Rattle.gf_field.specs.Power.{power}
-use Rattle.gf_field.specs.laws.XorLaws.{xor_swap}
 use Rattle.std.specs.declared.cmp.Ordering.{Ordering}
 use Rattle.std.specs.declared.cmp.Ordering.TheVariants.{Less, Equal, Greater}
 use Rattle.std.specs.Ordering.{eq_by_cmp, is_eq}
+use Rattle.lists.specs.laws.ListLaws.{map_push}
+use Rattle.lists.specs.laws.ReadLaws.{got_read}
+use Rattle.lists.specs.laws.XorLaws.{xor_swap}
 use Rattle.poly_mixed.specs.Monomial.{Monomial, has_bit, text_cmp}
 use Rattle.poly_mixed.proofs.MonomialLemmas.{text_cmp-same}
 use Rattle.poly_mixed.specs.Polynomial.{Terms, IsTerm, IsElement}
@@ -19,8 +21,6 @@ use Rattle.poly_mixed.proofs.FieldLaws.{IsField}
 use Rattle.poly_mixed.proofs.ValueLemmas.{one_element, product_by_zero}
 use Rattle.word_subst.specs.Univariate.{Powers, value_of, IsSum, IsProductOfTwo}
 use Rattle.word_subst.specs.Forms.{IsForm, AreForms}
-use Rattle.graph_core.proofs.ListLemmas.{got_read}
-use Rattle.graph_core.proofs.GeneralLemmas.{map_push}
 use Rattle.word_subst.specs.AtOnce.{value_from, IsReadFrom, IsSumOfPowers, IsPlusProduct, power_of}
 use Rattle.word_subst.proofs.SpreadLemmas.{element_at}
 use Rattle.word_subst.proofs.UnivariateLemmas.{all_append, value_of_element, one_power, xor_sum-append}

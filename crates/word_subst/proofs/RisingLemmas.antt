@@ -3,8 +3,8 @@ use Rattle.std.proofs.Common.{◌≡◌, ◌∙◌, refl, ℕ, zero, suc, ◌<�
 use Rattle.std.specs.declared.cmp.Ordering.TheVariants.{Less}
 use Rattle.std.specs.Ordering.{nat_cmp}
 use Rattle.std.specs.List.Sorted.{IsStrictlySortedBy}
-use Rattle.graph_core.proofs.GeneralLemmas.{all_in}
-use Rattle.net_core.specs.Lists.{Has}
+use Rattle.lists.specs.Lists.{Has}
+use Rattle.lists.specs.laws.HasLaws.{all_in}
 use Rattle.poly_mixed.proofs.RankLemmas.{from_less}
 
 pub drop_rises : (n : ℕ) (rs : List ℕ) → IsStrictlySortedBy nat_cmp rs → IsStrictlySortedBy nat_cmp (drop n rs)

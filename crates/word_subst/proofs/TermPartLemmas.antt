@@ -5,8 +5,8 @@ use Rattle.std.specs.Int.{bit_at}
 use Rattle.std.specs.List.{AllByRecursion, filter, list_all}
 use Rattle.std.proofs.lemmas.List.Folds.{list_all-append}
 use Rattle.std.proofs.Math.Seq.{take-length}
+use Rattle.lists.specs.laws.BoolLaws.{not_true}
 use Rattle.gf_field.specs.Power.{power}
-use Rattle.graph_core.proofs.GeneralLemmas.{not_true}
 use Rattle.poly_mixed.specs.Monomial.{Monomial, text_cmp}
 use Rattle.poly_mixed.specs.Polynomial.{Point, IsElement, IsTerm, powers, value}
 use Rattle.poly_mixed.specs.Product.{union}

@@ -1,7 +1,7 @@
 -- The pairs of a term's bits of the word: where nobody asks for them, they are there all the same.
 use Rattle.std.proofs.Common.{◌≡◌, ◌≢◌, ap, sym, refl, subst, ℕ, zero, suc, ◌<◌, ◌≤◌, ◌+◌, ◌-◌, ◌*◌, List, [], ◌∷◌, length, take, drop, get_or, slice_index, Option, Some, None, arith}
 use Rattle.std.specs.Prelude.{slice_get}
-use Rattle.graph_core.proofs.ListLemmas.{get_below}
+use Rattle.lists.specs.laws.ReadLaws.{get_below}
 use Rattle.poly_mixed.specs.Monomial.{Monomial, text_cmp}
 use Rattle.poly_mixed.specs.Polynomial.{Terms, IsTerm}
 use Rattle.poly_mixed.specs.Sum.{plus}

@@ -6,7 +6,7 @@ use Rattle.std.specs.List.{AllByRecursion, list_all}
 use Rattle.std.proofs.lemmas.Bool.{cases_lt}
 use Rattle.std.proofs.lemmas.List.{take-map, length-map, append_assoc}
 use Rattle.std.proofs.lemmas.Nat.Bits.{bit_at-lt, bit_at-suc}
-use Rattle.graph_core.proofs.ListLemmas.{get_below}
+use Rattle.lists.specs.laws.ReadLaws.{get_below}
 use Rattle.gf_basis.specs.Basis.{AreBits}
 use Rattle.irreducible.specs.Span.{combination}
 use Rattle.poly_mixed.specs.Polynomial.{Terms, Point, IsPoint, IsElement, powers, term_value, value}

@@ -11,7 +11,7 @@ use Rattle.std.proofs.Math.Nat.{mul_comm}
 use Rattle.std.proofs.Math.Seq.{take-length}
 use Rattle.std.proofs.lemmas.List.{length-append, length-map, take-append-drop, drop_more}
 use Rattle.std.proofs.lemmas.Nat.Bits.{bit_at-lt}
-use Rattle.graph_core.proofs.ListLemmas.{get_below}
+use Rattle.lists.specs.laws.ReadLaws.{get_below}
 use Rattle.gf_basis.specs.Basis.{AreBits}
 use Rattle.gf_field.specs.Element.{AreElements}
 use Rattle.gf_field.specs.Power.{power}

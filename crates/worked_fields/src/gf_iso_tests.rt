@@ -71,12 +71,13 @@ fn least_roots(rt: HostRuntime) {
     }
 }
 
-// the last tower has degree 3 over GF(4), and fits no field
-static UNFIT: [(u128, u128, &[u64], bool); 4] = [
+// the fourth tower has degree 3 over GF(4), and fits no field; the base of the last has 17 bits
+static UNFIT: [(u128, u128, &[u64], bool); 5] = [
     (0x13, 0x7, &[0x2, 0x1], false),
     (0x7, 0x7, &[0x2, 0x1], true),
     (0x11b, 0x7, &[0x2, 0x1], true),
     (0x43, 0x7, &[0x2, 0x0, 0x0], true),
+    (0x400000081, 0x20009, &[0x1, 0x1], true),
 ];
 
 #[test]

@@ -5,9 +5,9 @@ ghost use Rattle.circuit_model.specs.Flat.{AreOver};
 use crate::circuits::{field, net, word};
 use circuit_model::{CircuitFeed, CircuitWord, FeedSource};
 use gf_field::{Field, first_outside};
-use job_plain::job_output;
 use net_core::Net;
 use net_words::Role;
+use plain_runs::job_output;
 use std::alloc::{AllocError, Global};
 
 // Nets 0 and 1 are a factor, and net 2 is fed the other one's bits; latches 3 and 4 hold the product so far.

@@ -10,8 +10,8 @@ use circuit_model::CircuitWord;
 use gf_field::{Field, is_element};
 use net_core::Net;
 use net_words::Combinational;
+use plain_runs::cut_size;
 use poly_mixed::{NoSteps, Poly, ReduceFault, Stage};
-use stage_model::cut_size;
 use std::alloc::{AllocError, Global};
 use std::process::Abort;
 

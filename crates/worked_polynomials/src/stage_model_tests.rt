@@ -7,7 +7,7 @@ use circuit_model::CircuitWord;
 use gf_field::Field;
 use net_core::Net;
 use net_words::Role;
-use stage_model::cut_at;
+use plain_runs::cut_at;
 use std::alloc::{AllocError, Global};
 
 // Where all nets but p3 are 0, cut 0 sees nothing, cut 1 has z1 = p3, and cut 3 has z0 = p3 too; the last cut sees the

@@ -9,8 +9,8 @@ use circuit_model::CircuitWord;
 use gf_field::Field;
 use net_core::Net;
 use net_words::Role;
+use plain_runs::{cut_poly, word_product, word_sum};
 use poly_mixed::Poly;
-use stage_model::{cut_poly, word_product, word_sum};
 use std::alloc::{AllocError, Global};
 
 // Nets 0 and 1 are the word, 2 and 3 the output: the product of both bits, and 0.

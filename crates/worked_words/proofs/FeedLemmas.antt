@@ -1,7 +1,7 @@
 -- Feeds that can be bound, by their first and the rest.
 use Rattle.std.proofs.Common.{◌≡◌, ap, sym, refl, subst, ℕ, zero, suc, ◌≤◌, List, [], ◌∷◌, length, get_or, Some, arith}
 use Rattle.std.specs.Prelude.{slice_get}
-use Rattle.net_core.specs.Lists.{Has}
+use Rattle.lists.specs.Lists.{Has}
 use Rattle.net_words.specs.Feeds.{AreFeeds, IsSource}
 use Rattle.net_words.specs.declared.feed.FeedText.{FeedText}
 use Rattle.net_words.specs.declared.word.Role.{Role}

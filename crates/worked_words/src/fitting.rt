@@ -1,6 +1,6 @@
 //! Which words and feeds can be bound.
 ghost use Rattle.std.specs.Prelude.{◌≡◌, ◌⊎◌, ◌↔◌, ℕ, Some, length, filter, map, slice_get, All, IsTrue};
-ghost use Rattle.net_core.specs.Lists.{Has};
+ghost use Rattle.lists.specs.Lists.{Has};
 ghost use Rattle.net_words.specs.Binding.{AreWords};
 ghost use Rattle.net_words.specs.Feeds.{AreFeeds, IsSource};
 ghost use Rattle.net_words.specs.Roles.{is_output as is_output_word, input_count as count_inputs};

@@ -5,9 +5,9 @@ ghost use Rattle.gf_basis.specs.BasisParts.{IsBasisOver};
 use circuit_model::{CircuitFeed, CircuitWord, FeedSource, output};
 use gf_basis::Basis;
 use gf_field::{Field, is_element};
-use job_plain::job_output;
 use net_core::Net;
 use net_words::{Bound, Combinational, Source};
+use plain_runs::job_output;
 use std::alloc::{AllocError, Global};
 use std::process::Abort;
 

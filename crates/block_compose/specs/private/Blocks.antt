@@ -10,7 +10,7 @@ use Rattle.poly_mixed.specs.declared.stage.ReduceFault.TheVariants as stages
 use Rattle.circuit_model.specs.Bases.{circuit_in, AreBases}
 use Rattle.stage_model.specs.Listing.{AreAllWithin}
 use Rattle.stage_model.specs.OutputInWords.{IsOutputInWords}
-use Rattle.circuit_poly.specs.Stages.{stages_in, IsFirstRefusal}
+use Rattle.abstraction.specs.Stages.{stages_in, IsFirstRefusal}
 use Rattle.block_compose.specs.declared.fault.ComposeFault.{ComposeFault}
 use Rattle.block_compose.specs.declared.fault.ComposeFault.TheVariants.{TooManyTerms, OutOfMemory}
 

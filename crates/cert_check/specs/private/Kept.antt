@@ -1,9 +1,9 @@
 -- What the code keeps of a certificate. Source: this project's own.
 use Rattle.std.specs.Prelude.{◌≡◌, ℕ, ◌<◌, ◌≤◌, ◌+◌, ◌^◌, List, length, map}
 use Rattle.std.specs.List.{AllByRecursion}
+use Rattle.outcome.specs.Outcome.{Outcome, Exactly}
 use Rattle.gf_basis.specs.declared.bases.Basis.{Basis}
 use Rattle.net_words.specs.Binding.{BoundNet}
-use Rattle.text_core.specs.Outcome.{Outcome, Exactly}
 use Rattle.poly_mixed.specs.Polynomial.{Polynomial, Terms, IsReduced}
 use Rattle.poly_mixed.specs.Steps.{Step}
 use Rattle.poly_mixed.specs.declared.steps.Generator.{Generator}

@@ -1,16 +1,6 @@
--- Runs of bytes as the code scans them. Source: this project's own.
-use Rattle.std.specs.Prelude.{ℕ, Bool, Option, None, Some, List}
+-- What the code scans, as lists of bytes. Source: this project's own.
+use Rattle.std.specs.Prelude.{ℕ, Option, None, Some, List}
 use denote.Ref.{Bor}
-use Rattle.text_core.specs.Lines.{is_blank}
-use Rattle.poly_mixed.specs.Scan.{is_digit, is_hex_digit, is_name_byte}
-use Rattle.cert_check.specs.declared.scan.Class.{Class}
-use Rattle.cert_check.specs.declared.scan.Class.TheVariants.{Blank, Digit, HexDigit, NameByte}
-
-abbrev pub is_in : Class → ℕ → Bool
-is_in Blank b = is_blank b
-is_in Digit b = is_digit b
-is_in HexDigit b = is_hex_digit b
-is_in NameByte b = is_name_byte b
 
 -- what is left, as a list of bytes
 abbrev pub left_of : Option (Bor (List ℕ)) → Option (List ℕ)

@@ -1,7 +1,7 @@
 -- The bits and elements that the plain program finds, for the clauses of private functions. Source: this project's own.
 use Rattle.std.specs.Prelude.{◌≡◌, ◌==◌, ◌≤◌, ℕ, Bool, false, List, Some, map, slice_get}
 use Rattle.std.specs.Int.{bit_at}
-use Rattle.net_core.specs.Lists.{Has, times}
+use Rattle.lists.specs.Lists.{Has, times}
 use Rattle.gf_basis.specs.Basis.{AreBits}
 use Rattle.gf_basis.specs.BasisParts.{elements_of}
 use Rattle.circuit_model.specs.declared.circuit_word.CircuitWord.{CircuitWord}

@@ -1,15 +1,11 @@
 -- The field of 0 and 1, and quotients over it.
-use Rattle.std.proofs.Common.{◌≡◌, ℕ, zero, suc, refl, sym, ◌∙◌, ap, ap₂, ◌<◌, ◌*◌, ◌%◌, ◌⊎◌, inl, inr, arith, one-mul, zero-mul, mul_comm, mul_assoc}
+use Rattle.std.proofs.Common.{◌≡◌, ℕ, sym, ◌∙◌, ap, ap₂, ◌<◌, ◌*◌, ◌%◌, inl, inr, arith, one-mul, zero-mul, mul_comm, mul_assoc}
 use Rattle.std.specs.Prelude.{bit_xor}
 use Rattle.std.specs.Int.Bits.{xor_self, xor_mod}
 use native.Mathlib.Nat.{mod-eq_of_lt}
+use Rattle.lists.specs.laws.NumberLaws.{bit_cases}
 use Rattle.gf_field.specs.Ring.{IsRing}
 use Rattle.gf_field.specs.Bit.{bit_mul}
-
-pub bit_cases : (a : ℕ) → a < 2 → (a ≡ 0) ⊎ (a ≡ 1)
-bit_cases zero h = inl refl
-bit_cases (suc zero) h = inr refl
-bit_cases (suc (suc a)) h = absurd (omega arith)
 
 pub bit_mul_below : (a b : ℕ) → bit_mul a b < 2
 bit_mul_below a b =

@@ -2,7 +2,7 @@
 use Rattle.std.proofs.Common.{◌≡◌, ℕ, zero, suc, sym, ◌∙◌, ap, ap₂, arith, ◌-◌}
 use Rattle.std.specs.Prelude.{bit_xor}
 use Rattle.std.specs.Int.Bits.{xor_assoc, xor_comm, xor_zero_l}
-use Rattle.gf_field.specs.laws.XorLaws.{xor_swap, xor_cross}
+use Rattle.lists.specs.laws.XorLaws.{xor_swap, xor_cross}
 use Rattle.gf_field.specs.Polynomial.{convolution, sum_of_first, IsSumOverPairs}
 use Rattle.gf_field.specs.Ring.{IsRing}
 use Rattle.gf_field.specs.Quotient.{rest}

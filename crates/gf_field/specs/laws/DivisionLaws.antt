@@ -2,8 +2,8 @@
 use Rattle.std.proofs.Common.{◌≡◌, ℕ, zero, suc, refl, sym, ◌∙◌, ap, ap₂, ◌+◌, inl, inr, arith, pow_pos, eq-or-lt_of_le, zero-add}
 use Rattle.std.specs.Prelude.{bit_xor}
 use Rattle.std.specs.Int.Bits.{xor_self, xor_lt, xor_zero_l, xor_zero_r}
+use Rattle.lists.specs.laws.XorLaws.{xor_cross}
 use mathlib.Core.Path.{fun_ext}
-use Rattle.gf_field.specs.laws.XorLaws.{xor_cross}
 use Rattle.gf_field.specs.Ring.{IsRing}
 use Rattle.gf_field.specs.laws.FieldLaws.{HasInverse}
 use Rattle.gf_field.specs.Polynomial.{convolution}

@@ -3,8 +3,8 @@ use Rattle.std.proofs.Common.{◌≡◌, ◌≢◌, ℕ, zero, suc, pred, refl, 
 use Rattle.std.specs.Prelude.{bit_xor}
 use Rattle.std.specs.Int.Bits.{xor_self, xor_lt}
 use Rattle.std.proofs.lemmas.Bool.{cases_eq}
+use Rattle.lists.specs.laws.XorLaws.{xor_same}
 use mathlib.Core.Path.{fun_ext}
-use Rattle.gf_field.specs.laws.XorLaws.{xor_same}
 use Rattle.gf_field.specs.Ring.{IsRing}
 use Rattle.gf_field.specs.Field.{HasNoZeroDivisors}
 use Rattle.gf_field.specs.Power.{power}

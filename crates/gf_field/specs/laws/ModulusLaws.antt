@@ -2,12 +2,13 @@
 use Rattle.std.proofs.Common.{◌≡◌, ℕ, zero, suc, sym, ◌∙◌, ap, ◌<◌, ◌≤◌, ◌^◌, ◌*◌, ◌/◌, ◌%◌, inl, inr, arith, one-mul, mul_comm, le_trans, le_of_eq, lt_of_lt_of_le, pow-suc, pow_mono, subst}
 use Rattle.std.proofs.lemmas.Bool.{cases_lt}
 use native.Mathlib.Nat.{div-eq_of_lt-le}
+use Rattle.lists.specs.laws.NumberLaws.{bit_cases}
 use Rattle.gf_field.specs.Ring.{IsRing}
 use Rattle.gf_field.specs.Bit.{bit_mul}
 use Rattle.gf_field.specs.Modulus.{IsModulus, HasModulusDegree}
 use Rattle.gf_field.specs.Polynomial.{coefficient, IsMonic}
 use Rattle.gf_field.specs.Quotient.{product}
-use Rattle.gf_field.specs.laws.BitLaws.{bit_cases, IsRing-bit_mul}
+use Rattle.gf_field.specs.laws.BitLaws.{IsRing-bit_mul}
 use Rattle.gf_field.specs.laws.PackingLaws.{coefficient_ends, coefficient_below, below_from_ends}
 use Rattle.gf_field.specs.laws.QuotientRingLaws.{IsRing-product}
 

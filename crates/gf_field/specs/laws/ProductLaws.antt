@@ -2,9 +2,9 @@
 use Rattle.std.proofs.Common.{◌≡◌, ℕ, zero, suc, refl, sym, ◌∙◌, ap, ap₂, ◌<◌, ◌^◌, ◌+◌, ◌*◌, arith, pow_pos, le_trans, pow_mono, lt_of_lt_of_le, mul-le-mul_right, subst}
 use Rattle.std.specs.Prelude.{bit_xor}
 use Rattle.std.specs.Int.Bits.{xor_assoc, xor_comm, xor_self, xor_zero_l, xor_zero_r, xor_lt}
+use Rattle.lists.specs.laws.XorLaws.{xor_same, xor_cross}
 use mathlib.Core.Path.{fun_ext}
 use Rattle.gf_field.specs.Ring.{IsRing}
-use Rattle.gf_field.specs.laws.XorLaws.{xor_same, xor_cross}
 use Rattle.gf_field.specs.Polynomial.{coefficient, convolution, IsProductModulo, IsMonic}
 use Rattle.gf_field.specs.Quotient.{none, plus, times, shift, rest, step, reduced, packed, product, HasOnlyProduct}
 use Rattle.gf_field.specs.laws.ConvolutionLaws.{convolution_xor_left}

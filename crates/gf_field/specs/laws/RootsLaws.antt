@@ -3,11 +3,11 @@ use Rattle.std.proofs.Common.{◌≡◌, ◌≢◌, ℕ, suc, refl, sym, ◌∙�
 use Rattle.std.specs.Prelude.{bit_xor}
 use Rattle.std.specs.Int.Bits.{xor_self, xor_zero_l, xor_zero_r, xor_lt, xor_comm}
 use Rattle.std.proofs.lemmas.Bool.{cases_eq, cases_lt}
-use Rattle.gf_field.specs.laws.XorLaws.{xor_cross, xor_same}
 use Rattle.gf_field.specs.Ring.{IsRing}
 use Rattle.gf_field.specs.Field.{HasNoZeroDivisors}
 use Rattle.gf_field.specs.laws.RingLaws.{mul_zero, distrib_left, mul_left_comm}
 use Rattle.std.specs.List.{AllByRecursion}
+use Rattle.lists.specs.laws.XorLaws.{xor_cross, xor_same}
 use Rattle.gf_field.specs.Roots.{value, AllZero, AllElements, AreRoots, HasRootsUpToDegree, HasFewRoots}
 
 -- the quotient of c ∷ cs by x + r, whatever c is

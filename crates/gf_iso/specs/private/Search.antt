@@ -5,6 +5,8 @@ use Rattle.irreducible.specs.Span.{combination}
 -- y is the least number at which f is 0 among the start plus the sums of the vectors
 pub record IsLeastIn (k : ℕ) (f : ℕ → ℕ) (vectors : List ℕ) (start y : ℕ) : Type 0 where
   pub element : y < 2 ^ k
+  pub choice : ℕ
+  pub among : bit_xor start (combination vectors choice) ≡ y
   pub root : f y ≡ 0
   pub least : (c : ℕ) → f (bit_xor start (combination vectors c)) ≡ 0 → y ≤ bit_xor start (combination vectors c)
 

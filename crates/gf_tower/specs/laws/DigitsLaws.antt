@@ -13,7 +13,7 @@ use Rattle.gf_field.specs.laws.QuotientLaws.{EndsAt, AllBelow, reduced_below, re
 use Rattle.gf_field.specs.laws.PackingLaws.{coefficient_ends, coefficient_below, packed_xor, packed-coefficient, coefficient-packed, packed_below, coefficient_suc, coefficient_zero}
 use Rattle.gf_field.specs.Polynomial.{IsMonic}
 use Rattle.gf_field.specs.laws.PackingLaws.{packed_none}
-use Rattle.gf_tower.specs.Digits.{IsPacked, modulus_of, scaled, scaled_from, times_y, from_digit}
+use Rattle.gf_tower.specs.private.DigitSteps.{IsPacked, modulus_of, scaled, scaled_from, times_y, from_digit}
 
 -- packing reads the first coefficients alone
 packed_same : (n d : ℕ) (f h : ℕ → ℕ) → ((i : ℕ) → i < d → f i ≡ h i) → packed n d f ≡ packed n d h

@@ -10,7 +10,8 @@ use Rattle.gf_field.specs.laws.ProductLaws.{HasOnlyProduct-from_ring}
 use Rattle.gf_field.specs.laws.QuotientRingLaws.{IsRing-product}
 use Rattle.gf_field.specs.laws.IrreducibleLaws.{HasQuotientFields-from_field}
 use Rattle.gf_tower.specs.Tower.{polynomial_of, tower_polynomial}
-use Rattle.gf_tower.specs.Digits.{IsPacked, IsPackedList, modulus_of}
+use Rattle.gf_tower.specs.Digits.{IsPackedList}
+use Rattle.gf_tower.specs.private.DigitSteps.{IsPacked, modulus_of}
 use Rattle.gf_tower.specs.laws.DigitsLaws.{IsMonic-packed}
 
 pub polynomial_below : (n : ℕ) (cs : List ℕ) → AreElements n cs → polynomial_of n cs < 2 ^ (n * length cs)

@@ -5,8 +5,8 @@ use Rattle.std.specs.Int.Bits.{xor_self, xor_lt, xor_shr, xor_mod, xor_zero_l, x
 use Rattle.std.proofs.lemmas.Bool.{cases_eq, cases_lt}
 use Rattle.std.proofs.lemmas.Nat.{pow_below, field_of}
 use Rattle.std.proofs.Math.Pow.{mod-mod-pow}
-use Rattle.gf_field.specs.laws.BitLaws.{bit_cases}
-use Rattle.gf_field.specs.laws.XorLaws.{xor_same, xor_cross}
+use Rattle.lists.specs.laws.NumberLaws.{bit_cases}
+use Rattle.lists.specs.laws.XorLaws.{xor_same, xor_cross}
 use Rattle.gf_field.specs.laws.PigeonholeLaws.{Meets, pigeonhole, FoundAt, find}
 use Rattle.gf_field.specs.laws.FermatLaws.{replaced, replaced_same, replaced_other}
 use Rattle.irreducible.specs.Span.{combination, InSpan, IsIndependent, IsRank}

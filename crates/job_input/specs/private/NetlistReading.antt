@@ -1,6 +1,6 @@
 -- What is known while a netlist is read: for the clauses of private functions. Source: this project's own.
 use Rattle.std.specs.Prelude.{◌≡◌, ℕ, ◌<◌, Option, None, Some, Result}
-use Rattle.text_core.specs.Outcome.{Outcome, Fits}
+use Rattle.outcome.specs.Outcome.{Outcome, Fits}
 use Rattle.net_core.specs.NetList.{NetList, nets as net_count}
 use Rattle.net_core.specs.declared.fault.NetFault.{NetFault}
 use Rattle.net_core.specs.declared.fault.NetFault.TheVariants as nets

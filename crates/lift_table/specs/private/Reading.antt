@@ -1,7 +1,7 @@
 -- What a line of a table says, for the clauses of private functions. Source: this project's own.
 use Rattle.std.specs.Prelude.{◌≡◌, ℕ, ◌<◌, ◌≤◌, ◌^◌, List, [], ◌∷◌, Ok, Err}
+use Rattle.outcome.specs.Outcome.{Outcome}
 use Rattle.text_core.specs.Numbers.{IsHex}
-use Rattle.text_core.specs.Outcome.{Outcome}
 use Rattle.lift_table.specs.TableText.{IsHead, IsNumber}
 use Rattle.lift_table.specs.declared.fault.TableFault.{TableFault}
 use Rattle.lift_table.specs.declared.fault.TableFault.TheVariants.{Syntax, TooLarge, OutOfMemory}

@@ -1,7 +1,7 @@
 -- Powers of Y whose coefficients are reduced. Source: this project's own.
 use Rattle.std.specs.Prelude.{◌≡◌, ℕ, ◌+◌, ◌-◌, List, [], ◌∷◌}
-use Rattle.net_plan.specs.Plan.{gathered}
-use Rattle.mult_products.specs.TowerProduct.{Y_to}
+use Rattle.make_nets.specs.Plan.{gathered}
+use Rattle.make_laws.specs.TowerProduct.{Y_to}
 
 -- k powers of Y from the m-th on, in the tower by t, of degree m, over a ring with n bits
 abbrev pub powers_from : (n m : ℕ) → (ℕ → ℕ → ℕ) → (t k : ℕ) → List ℕ

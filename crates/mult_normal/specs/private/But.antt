@@ -3,7 +3,7 @@ use Rattle.std.specs.Prelude.{◌≡◌, ℕ, [], All}
 use Rattle.net_words.specs.declared.word.BasisText.TheVariants.{Normal}
 use Rattle.net_words.specs.declared.word.Role.TheVariants.{State}
 use Rattle.net_signature.specs.Signature.{SignatureValue}
-use Rattle.net_make.specs.Form.{HasWords}
+use Rattle.make_nets.specs.Form.{HasWords}
 
 -- the form, but for names
 abbrev pub IsNormalBut : SignatureValue → Type 0

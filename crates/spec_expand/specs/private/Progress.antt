@@ -1,8 +1,7 @@
 -- A specification read token by token: what was read so far, and what one more token makes of it.
 -- Source: this project's own.
 use Rattle.std.specs.Prelude.{◌≡◌, ℕ, ◌+◌, ◌^◌, Bool, cond, List, [], ◌∷◌, ◌++◌, nat_lt, nat_le, bytes_eq, Option, Some, None, Result, Ok, Err}
-use Rattle.poly_mixed.specs.Labels.{Labelling}
-use Rattle.poly_mixed.specs.Scan.{word_of}
+use Rattle.poly_mixed.specs.Labels.{Labelling, word_of}
 use Rattle.spec_expand.specs.Token.{Token, name, hex, decimal, equals, plus, times, power}
 use Rattle.spec_expand.specs.Specification.{SpecTerms}
 use Rattle.spec_expand.specs.declared.fault.SpecFault.{SpecFault}

@@ -1,22 +1,10 @@
 -- The token at the front of a text, computed. Source: this project's own.
-use Rattle.std.specs.Prelude.{◌≡◌, ℕ, ◌+◌, Bool, ◌&&◌, ◌||◌, cond, List, [], ◌∷◌, length, nat_lt, ◌==◌, Option, Some, None}
+use Rattle.std.specs.Prelude.{◌≡◌, ℕ, ◌+◌, ◌&&◌, cond, List, [], ◌∷◌, length, nat_lt, ◌==◌, Option, Some, None}
 use Rattle.text_core.specs.Numbers.{value_of}
-use Rattle.poly_mixed.specs.Scan.{run, name_of, is_digit, is_hex_digit, is_letter, is_name_byte, IsValue}
+use Rattle.text_core.specs.Scan.{run, name_of, is_digit, is_hex_digit, is_letter, IsValue}
 use Rattle.spec_expand.specs.Token.{Token, name, hex, decimal, equals, plus, times, power}
-use Rattle.spec_expand.specs.declared.scan.Class.{Class}
-use Rattle.spec_expand.specs.declared.scan.Class.TheVariants.{White, Digit, HexDigit, NameByte}
 use Rattle.spec_expand.specs.declared.scan.Scanned.{Scanned}
 use Rattle.spec_expand.specs.declared.scan.Scanned.TheVariants.{Named, HexNumber, DecimalNumber, EqualsSign, PlusSign, TimesSign, PowerSign}
-
--- space, tab, LF or CR
-abbrev pub is_white : ℕ → Bool
-is_white b = (b == 32) || (b == 9) || (b == 10) || (b == 13)
-
-abbrev pub is_in : Class → ℕ → Bool
-is_in White b = is_white b
-is_in Digit b = is_digit b
-is_in HexDigit b = is_hex_digit b
-is_in NameByte b = is_name_byte b
 
 -- the hexadecimal digits after `0x` at the front
 abbrev pub hex_run : List ℕ → List ℕ

@@ -1,7 +1,7 @@
 -- Indexes in the names of scalars: words of this crate's code. Source: this project's own.
 use Rattle.std.specs.Prelude.{◌≡◌, ℕ, ◌≤◌, List, [], ◌∷◌, map, Option, None, Some, if◌then◌else◌, String, Vec, string_bytes}
 use Rattle.std.specs.Str.{bytes_eq}
-use Rattle.net_core.specs.Lists.{Has}
+use Rattle.lists.specs.Lists.{Has}
 use Rattle.net_verilog.specs.Declarations.{Declarations, Range, bit_name, range_of}
 use Rattle.verilog_reader.specs.Declares.{Meets}
 

@@ -2,7 +2,7 @@ use Rattle.std.proofs.Common.{◌∙◌, sym, subst, ℕ, List, map, Option, ari
 use Rattle.std.proofs.lemmas.Option.{slice_get_within}
 use Rattle.gf_basis.specs.declared.bases.Basis.{Basis}
 use Rattle.poly_mixed.specs.Polynomial.{Polynomial}
-use Rattle.block_plan.proofs.ListLemmas.{none_at, some_read}
+use Rattle.compose_blocks.proofs.ListLemmas.{none_at, some_read}
 use Rattle.block_compose.specs.private.Blocks.{ArePolys, HasPoly, KeepsPolys}
 use Rattle.block_compose.proofs.BlockLemmas.{has_more, keeps_more, poly_more}
 use Rattle.block_compose.proofs.blocks.add_poly.Goals as goal

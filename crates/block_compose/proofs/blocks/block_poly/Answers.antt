@@ -7,7 +7,7 @@ use Rattle.gf_basis.specs.declared.bases.Basis.{Basis}
 use Rattle.circuit_model.specs.Bases.{circuit_in}
 use Rattle.stage_model.specs.Listing.{AreAllWithin}
 use Rattle.stage_model.specs.OutputInWords.{IsOutputInWords}
-use Rattle.circuit_poly.specs.Stages.{stages_in, IsFirstRefusal}
+use Rattle.abstraction.specs.Stages.{stages_in, IsFirstRefusal}
 use Rattle.block_compose.specs.declared.fault.ComposeFault.TheVariants.{OutOfMemory}
 use Rattle.block_compose.specs.private.Blocks.{block_fault_of}
 use Rattle.block_compose.proofs.BlockLemmas.{same_block, same_list, stage_refused}

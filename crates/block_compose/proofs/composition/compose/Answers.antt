@@ -3,14 +3,14 @@ use Rattle.std.specs.Prelude.{slice_get}
 use Rattle.net_signature.specs.Signature.{SignatureValue}
 use Rattle.net_blif.specs.Design.{ModelValue}
 use Rattle.gf_basis.specs.declared.bases.Basis.{Basis}
-use Rattle.block_feeds.specs.Hierarchy.{Hierarchy}
-use Rattle.block_feeds.specs.Wiring.{feeding_graph, instances_among, IsWithoutCycle}
-use Rattle.block_feeds.specs.declared.feeder.Feeder.{Feeder}
-use Rattle.block_feeds.specs.declared.feeder.Feeder.TheVariants.{InputWord}
-use Rattle.instance_order.specs.LevelOrder.{IsLevelOrder}
-use Rattle.block_wiring.specs.Answer.{AreWired}
-use Rattle.block_wiring.specs.Instanced.{hierarchy, IsInstanced}
-use Rattle.block_wiring.specs.Refusal.{IsWiringFault}
+use Rattle.compose_model.specs.Hierarchy.{Hierarchy}
+use Rattle.compose_model.specs.Wiring.{feeding_graph, instances_among, IsWithoutCycle}
+use Rattle.compose_model.specs.declared.feeder.Feeder.{Feeder}
+use Rattle.compose_model.specs.declared.feeder.Feeder.TheVariants.{InputWord}
+use Rattle.compose_polys.specs.LevelOrder.{IsLevelOrder}
+use Rattle.compose_wiring.specs.Answer.{AreWired}
+use Rattle.compose_wiring.specs.Instanced.{hierarchy, IsInstanced}
+use Rattle.compose_wiring.specs.Refusal.{IsWiringFault}
 use Rattle.block_compose.specs.Composed.{hierarchy_of, HasNoCycle, MayFault, StagesOf}
 use Rattle.block_compose.proofs.ComposeLemmas.{composed, hierarchy_is, no_cycle, plan_refused, cycle_refused, rows_few, rows_inside, stage_refused, wiring_refused}
 use Rattle.block_compose.proofs.ReadyLemmas.{instanced}

@@ -1,11 +1,11 @@
 use Rattle.std.proofs.Common.{◌≡◌, ◌<◌, sym, subst, ℕ, List, Some, length, map, arith}
 use Rattle.std.specs.Prelude.{slice_get}
+use Rattle.lists.specs.laws.ListLaws.{length_map as mapped_long}
 use Rattle.graph_core.specs.Fault.{IsCycleFault}
 use Rattle.graph_core.specs.declared.fault.CycleFault.{CycleFault}
-use Rattle.graph_core.proofs.GeneralLemmas.{length_map as mapped_long}
-use Rattle.block_feeds.specs.Wiring.{feeding_graph}
-use Rattle.block_feeds.specs.declared.feeder.Feeder.{Feeder}
-use Rattle.instance_order.specs.LevelOrder.{first_numbers}
+use Rattle.compose_model.specs.Wiring.{feeding_graph}
+use Rattle.compose_model.specs.declared.feeder.Feeder.{Feeder}
+use Rattle.compose_polys.specs.LevelOrder.{first_numbers}
 use Rattle.block_compose.proofs.ComposeLemmas.{first_of_cycle}
 use Rattle.block_compose.proofs.faults.of_cycle.Goals as goal
 

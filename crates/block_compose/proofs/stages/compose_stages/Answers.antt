@@ -7,8 +7,8 @@ use Rattle.net_signature.specs.Signature.{SignatureValue}
 use Rattle.net_blif.specs.Design.{ModelValue}
 use Rattle.gf_basis.specs.declared.bases.Basis.{Basis}
 use Rattle.poly_mixed.specs.Polynomial.{Polynomial, Terms}
-use Rattle.block_feeds.specs.declared.feeder.Feeder.{Feeder}
-use Rattle.wired_poly.specs.Wired.{IsStageFault, IsWired, IsWiredPoly}
+use Rattle.compose_model.specs.declared.feeder.Feeder.{Feeder}
+use Rattle.compose_polys.specs.Wired.{IsStageFault, IsWired, IsWiredPoly}
 use Rattle.block_compose.specs.Composed.{hierarchy_of, MayFault, StagesOf}
 use Rattle.block_compose.specs.declared.fault.ComposeFault.{ComposeFault}
 use Rattle.block_compose.specs.declared.fault.ComposeFault.TheVariants.{OutOfMemory}

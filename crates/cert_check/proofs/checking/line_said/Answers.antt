@@ -1,6 +1,6 @@
 use Rattle.std.proofs.Common.{subst, sym, ℕ}
 use Rattle.std.specs.Prelude.{IfOk, IfSome}
-use Rattle.text_core.specs.Outcome.{Fits}
+use Rattle.outcome.specs.Outcome.{Fits}
 use Rattle.net_core.specs.NetList.{NetList}
 use Rattle.cert_check.specs.Certificate.{LineOf}
 use Rattle.cert_check.specs.Fault.{line_refusal}

@@ -3,7 +3,7 @@ use Rattle.std.proofs.lemmas.Grind.{common_steps}
 use Rattle.std.specs.Prelude.{Option}
 use Rattle.std.specs.Str.Lines.{lines}
 use Rattle.std.proofs.lemmas.List.{length-map}
-use Rattle.text_core.specs.Outcome.{Fits}
+use Rattle.outcome.specs.Outcome.{Fits}
 use Rattle.poly_mixed.specs.Polynomial.{Polynomial, Terms}
 use Rattle.cert_check.specs.Fault.{line_refusal, refusal}
 use Rattle.cert_check.specs.Certificate.{begun, LineOf}

@@ -1,6 +1,6 @@
 use Rattle.std.proofs.Common.{subst, ℕ, List, drop, Ok, Err}
 use Rattle.std.specs.Str.Lines.{lines}
-use Rattle.text_core.specs.Outcome.{Fits}
+use Rattle.outcome.specs.Outcome.{Fits}
 use Rattle.cert_check.specs.Fault.{refusal}
 use Rattle.cert_check.specs.Certificate.{HeadOf, begun}
 use Rattle.cert_check.specs.Verdict.{VerdictFrom, Check, verdict_of}

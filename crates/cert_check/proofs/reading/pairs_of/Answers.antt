@@ -1,6 +1,6 @@
 use Rattle.std.proofs.Common.{refl, sym, subst, inl, ℕ, List, drop, Result, Ok, Err}
 use Rattle.std.specs.Str.Lines.{lines}
-use Rattle.text_core.specs.Outcome.{◌>>=◌, Fits}
+use Rattle.outcome.specs.Outcome.{◌>>=◌, Fits}
 use Rattle.net_core.specs.NetList.{NetList}
 use Rattle.poly_mixed.specs.Labels.{Labelling}
 use Rattle.cert_check.specs.Fault.{refusal}

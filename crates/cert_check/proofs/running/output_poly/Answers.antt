@@ -1,5 +1,5 @@
 use Rattle.std.proofs.Common.{◌≡◌, ◌∙◌, ap, subst, List, ℕ, length}
-use Rattle.net_core.specs.Lists.{Has}
+use Rattle.lists.specs.Lists.{Has}
 use Rattle.net_words.specs.Binding.{Binding}
 use Rattle.net_words.specs.BoundTo.{output_bits}
 use Rattle.circuit_model.proofs.OutputNetsLemmas.{output_long}

@@ -1,7 +1,7 @@
 use Rattle.std.proofs.Common.{◌≡◌, ◌≢◌, ◌+◌, sym, refl, ap, inl, inr, length, ◌∙◌, arith}
 use Rattle.std.specs.Prelude.{slice_get}
 use Rattle.std.proofs.lemmas.Option.{slice_get_read}
-use Rattle.graph_core.proofs.ListLemmas.{get_below as some_at}
+use Rattle.lists.specs.laws.ReadLaws.{get_below as some_at}
 use Rattle.net_words.specs.declared.word.Role.TheVariants.{Output}
 use Rattle.circuit_model.proofs.OutputBasisLemmas.{is_role, not_role}
 use Rattle.cert_check.proofs.WordsLemmas.{words_from, at_input, past_input, past_output, past_all}

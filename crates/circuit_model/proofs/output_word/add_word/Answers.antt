@@ -1,6 +1,6 @@
 use Rattle.std.proofs.Common.{◌≡◌, ℕ, List, [], ◌∷◌, ◌++◌, take, get_or, length, ap, sym, ◌∙◌, arith, take_all}
 use Rattle.std.proofs.lemmas.List.{append_assoc}
-use Rattle.net_core.proofs.DriverLemmas.{All_has}
+use Rattle.lists.specs.laws.HasLaws.{All_has}
 use Rattle.net_words.specs.Binding.{HasWidth}
 use Rattle.net_words.specs.BoundTo.{output_bits_with}
 use Rattle.net_words.specs.declared.word.Role.{Role}

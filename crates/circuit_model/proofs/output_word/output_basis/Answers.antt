@@ -1,7 +1,7 @@
 use Rattle.std.proofs.Common.{◌≡◌, ◌≢◌, sym, refl, length, ◌∙◌, arith}
-use Rattle.graph_core.proofs.ListLemmas.{get_below as some_at}
 use Rattle.net_words.specs.declared.word.Role.TheVariants.{Output}
 use Rattle.std.proofs.lemmas.Option.{slice_get_read}
+use Rattle.lists.specs.laws.ReadLaws.{get_below as some_at}
 use Rattle.circuit_model.proofs.OutputBasisLemmas.{at_output, past_other, past_count, is_role, not_role}
 use Rattle.circuit_model.proofs.output_word.output_basis.Goals as goal
 

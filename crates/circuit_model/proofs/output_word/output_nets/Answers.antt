@@ -1,5 +1,5 @@
 use Rattle.std.proofs.Common.{arith}
-use Rattle.graph_core.proofs.ListLemmas.{get_below as some_at}
+use Rattle.lists.specs.laws.ReadLaws.{get_below as some_at}
 use Rattle.circuit_model.proofs.OutputNetsLemmas.{one_word}
 use Rattle.circuit_model.proofs.output_word.output_nets.Goals as goal
 

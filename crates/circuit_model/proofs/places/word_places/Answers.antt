@@ -1,5 +1,5 @@
 use Rattle.std.proofs.Common.{arith}
-use Rattle.graph_core.proofs.ListLemmas.{get_below}
+use Rattle.lists.specs.laws.ReadLaws.{get_below}
 use Rattle.circuit_model.proofs.PlaceLemmas.{next_word}
 use Rattle.circuit_model.proofs.places.word_places.Goals as goal
 

@@ -1,7 +1,7 @@
 use Rattle.std.proofs.Common.{rules, arith, ◌≡◌, ◌≤◌, ◌∙◌, subst, List, ℕ, Some}
 use Rattle.std.specs.Prelude.{slice_get, ◌==◌}
 use Rattle.std.specs.Int.{bit_at}
-use Rattle.net_core.specs.Lists.{Has, times}
+use Rattle.lists.specs.Lists.{Has, times}
 use Rattle.circuit_model.proofs.PlainLemmas.{first_at, named_first, named_rest}
 use Rattle.circuit_model.proofs.BitLemmas.{bit_in_all}
 use Rattle.circuit_model.proofs.SliceLemmas.{rest_has, rest_long, first_get}

@@ -1,4 +1,4 @@
-use Rattle.gf_abs.proofs.EqualLemmas.{well}
+use Rattle.answer_polynomials.proofs.EqualLemmas.{well}
 use Rattle.gf_abs.proofs.headline.each_taken_circuit_is_well_formed.Goals as goal
 
 pub returns : goal.returns

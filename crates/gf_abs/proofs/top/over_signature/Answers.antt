@@ -8,7 +8,7 @@ use Rattle.job_input.specs.Setting.{field_value, signed_value}
 use Rattle.job_input.specs.SignedIn.{SignedIn}
 use Rattle.job_input.proofs.RoseLemmas.{rose_earlier}
 use Rattle.gf_abs.specs.Answer.{SignedAnswer}
-use Rattle.gf_abs.specs.Reply.{reply_of}
+use Rattle.answer_core.specs.Reply.{reply_of}
 use Rattle.gf_abs.proofs.top.over_signature.Goals as goal
 
 pub returns-in-Base-clause-gives : goal.returns-in-Base-clause-gives

@@ -3,7 +3,7 @@ use native.Mathlib.Nat.{mod-eq_of_lt}
 use Rattle.std.proofs.lemmas.List.{length-take-le, get_or-take}
 use Rattle.gf_field.specs.Trace.{frobenius, trace}
 use Rattle.gf_field.specs.laws.TraceLaws.{trace_at_most_one}
-use Rattle.gf_basis.specs.TraceWord.{parity, parity_word}
+use Rattle.gf_basis.specs.private.TraceWord.{parity, parity_word}
 use Rattle.gf_basis.proofs.ParityLaws.{form_first, form_next, mask_first, mask_next}
 use Rattle.gf_basis.proofs.duals.trace_mask.Goals as goal
 

@@ -1,6 +1,6 @@
 use Rattle.std.proofs.Common.{◌≡◌, ℕ, ◌<◌, ◌^◌, ◌%◌}
 use Rattle.gf_field.specs.Trace.{frobenius, trace}
-use Rattle.gf_basis.specs.TraceWord.{parity}
+use Rattle.gf_basis.specs.private.TraceWord.{parity}
 use Rattle.gf_basis.proofs.duals.trace_mask.Given as goal
 
 abbrev pub invariant-loop : goal.invariant-loop

@@ -1,7 +1,7 @@
 use Rattle.std.proofs.Common.{◌≡◌, suc, ◌-◌, ◌∙◌, sym, ap, arith, drop, refl, get_or}
 use Rattle.gf_field.specs.laws.TraceLaws.{trace_at_most_one}
 use Rattle.gf_field.specs.Trace.{trace}
-use Rattle.gf_basis.specs.TraceWord.{trace_word}
+use Rattle.gf_basis.specs.private.TraceWord.{trace_word}
 use Rattle.gf_basis.proofs.TraceWordLaws.{trace_word_below}
 use Rattle.gf_basis.proofs.CodeLaws.{traces_step}
 use Rattle.gf_basis.proofs.duals.traces.Goals as goal

@@ -1,5 +1,5 @@
 use Rattle.std.proofs.Common.{◌≡◌, drop}
-use Rattle.gf_basis.specs.TraceWord.{trace_word}
+use Rattle.gf_basis.specs.private.TraceWord.{trace_word}
 use Rattle.gf_basis.proofs.duals.traces.Given as goal
 
 abbrev pub invariant-loop-i : goal.invariant-loop-i

@@ -1,5 +1,5 @@
 use Rattle.std.proofs.Common.{◌≡◌, suc, ◌-◌, ◌∙◌, sym, ap, arith, drop}
-use Rattle.gf_basis.specs.TraceWord.{parity_word}
+use Rattle.gf_basis.specs.private.TraceWord.{parity_word}
 use Rattle.gf_basis.proofs.ParityLaws.{parities_step}
 use Rattle.gf_basis.proofs.parities.parities.Goals as goal
 

@@ -1,9 +1,9 @@
 use Rattle.std.proofs.Common.{◌≡◌, refl, arith, rules, below_more, Some, get_or, ℕ, ◌≤◌, length}
 use Rattle.std.specs.Prelude.{slice_get}
 use Rattle.std.proofs.lemmas.Option.{slice_get_within}
+use Rattle.lists.specs.laws.ReadLaws.{got_at}
 use Rattle.graph_core.specs.Fault.{IsCycleFault}
 use Rattle.graph_core.specs.Walking.{IsMet}
-use Rattle.graph_core.proofs.ListLemmas.{got_at}
 use Rattle.graph_core.proofs.CycleLemmas.{arranged, earlier_grounded}
 use Rattle.graph_core.proofs.walk.arrange.Goals as goal
 

@@ -1,8 +1,9 @@
 use Rattle.std.proofs.Common.{◌≡◌, ◌∙◌, ap, sym, arith, Some, length, ◌∷◌, [], ◌++◌, ◌<◌, ◌+◌, ◌^◌, map, drop}
 use Rattle.std.specs.Prelude.{slice_get}
+use Rattle.lists.specs.laws.ListLaws.{length-push}
+use Rattle.lists.specs.laws.ReadLaws.{got_read, get_here}
 use Rattle.graph_core.specs.declared.walk.Frame.{Frame}
 use Rattle.graph_core.specs.declared.walk.Mark.TheVariants.{Unseen, Open, Done}
-use Rattle.graph_core.proofs.ListLemmas.{got_read, get_here, length-push}
 use Rattle.graph_core.proofs.WalkLemmas.{top_inside, left, advanced, descended, met_set, starts_left, starts_next, starts_more, work_left, work_next, work_down, reached_left, reached_down}
 use Rattle.graph_core.proofs.CycleLemmas.{open_within, closing_cycle}
 use Rattle.graph_core.proofs.walk.step.Goals as goal

@@ -1,5 +1,5 @@
 use Rattle.std.proofs.Common.{ℕ, List}
-use Rattle.graph_core.specs.Graph.{Has}
+use Rattle.lists.specs.Lists.{Has}
 use Rattle.graph_core.specs.Walking.{IsWalking, IsMet, KeepsMet, MetAreReached, StartsAt, work}
 use Rattle.graph_core.proofs.walk.visit.Given as goal
 

@@ -1,5 +1,5 @@
 use Rattle.std.proofs.Common.{◌≡◌, ℕ, ◌<◌, ◌≤◌, ◌^◌, length, get_or}
-use Rattle.irreducible.specs.Pivots.{IsRankSoFar, IsKernelSoFar, AreChoices}
+use Rattle.irreducible.specs.private.Pivots.{IsRankSoFar, IsKernelSoFar, AreChoices}
 use Rattle.irreducible.proofs.elimination.eliminated.Given as goal
 
 abbrev pub invariant-loop-i : goal.invariant-loop-i

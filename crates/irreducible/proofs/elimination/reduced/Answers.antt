@@ -1,7 +1,7 @@
 use Rattle.std.proofs.Common.{◌≡◌, suc, ◌-◌, ◌∙◌, sym, subst, arith}
 use Rattle.std.proofs.lemmas.Nat.{one_shl}
 use Rattle.std.proofs.lemmas.Nat.Bits.{shr_and_one}
-use Rattle.irreducible.specs.Pivots.{IsCleared}
+use Rattle.irreducible.specs.private.Pivots.{IsCleared}
 use Rattle.irreducible.proofs.PivotLaws.{reduced_start, reduced_more}
 use Rattle.irreducible.proofs.elimination.reduced.Goals as goal
 

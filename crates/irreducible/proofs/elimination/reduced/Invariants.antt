@@ -1,4 +1,4 @@
-use Rattle.irreducible.specs.Pivots.{IsCleared}
+use Rattle.irreducible.specs.private.Pivots.{IsCleared}
 use Rattle.irreducible.proofs.elimination.reduced.Given as goal
 
 abbrev pub invariant-loop-place : goal.invariant-loop-place

@@ -1,6 +1,6 @@
 use Rattle.std.proofs.Common.{◌≡◌, ◌∙◌, ◌+◌, ap, length, arith}
+use Rattle.lists.specs.laws.HasLaws.{All_has}
 use Rattle.net_core.specs.NetList.{NetList, nets}
-use Rattle.net_core.proofs.DriverLemmas.{All_has}
 use Rattle.net_words.specs.declared.bound.BoundWord.{BoundWord}
 use Rattle.poly_mixed.specs.Labels.{Labelling, bit_count}
 use Rattle.job_input.proofs.CircuitLabelLemmas.{counted}

@@ -1,9 +1,9 @@
 use Rattle.std.proofs.Common.{rules, Vec, Global, List, ℕ}
+use Rattle.outcome.specs.Outcome.{Within}
 use Rattle.gf_basis.specs.BasisParts.{elements_of}
 use Rattle.gf_basis.specs.declared.bases.Basis.{Basis}
 use Rattle.job_input.specs.SettingOf.{WordBasis, BasesOf}
 use Rattle.job_input.specs.Setting.{elements_of_each}
-use Rattle.text_core.specs.Outcome.{Within}
 use Rattle.job_words.specs.declared.fault.Fault.TheVariants.{Signature}
 use Rattle.job_words.proofs.StepLemmas.{gives_fault}
 use Rattle.job_input.proofs.BasesLemmas.{rest_step, rest_fails, rest_end, over_push}

@@ -1,5 +1,5 @@
 use Rattle.std.proofs.Common.{ℕ, List, subst}
-use Rattle.text_core.specs.Outcome.{Within}
+use Rattle.outcome.specs.Outcome.{Within}
 use Rattle.job_io.specs.Counts.{Rose}
 use Rattle.spec_expand.specs.Specification.{SpecTerms}
 use Rattle.job_words.specs.declared.fault.Fault.TheVariants.{File, Specification}

@@ -2,7 +2,7 @@ use Rattle.std.proofs.Common.{◌≡◌, ◌<◌, ◌∙◌, ap, map, length, So
 use Rattle.std.specs.Prelude.{slice_get}
 use Rattle.std.specs.Option.{option_map}
 use Rattle.std.proofs.lemmas.Option.{slice_get-map}
-use Rattle.graph_core.proofs.ListLemmas.{got_read, get_below as some_at}
+use Rattle.lists.specs.laws.ReadLaws.{got_read, get_below as some_at}
 use Rattle.net_words.specs.Binding.{Binding}
 use Rattle.gf_basis.specs.BasisParts.{elements_of}
 use Rattle.circuit_model.specs.Flat.{word_of}

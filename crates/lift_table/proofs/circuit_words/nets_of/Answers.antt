@@ -1,7 +1,7 @@
 use Rattle.std.proofs.Common.{◌≡◌, ◌<◌, ◌∙◌, ◌++◌, ◌∷◌, [], ap, sym, length, List, ℕ, get_or, take, take_all, arith}
 use Rattle.std.specs.Prelude.{slice_get}
 use Rattle.std.proofs.lemmas.List.{take_more}
-use Rattle.net_core.proofs.DriverLemmas.{All_has}
+use Rattle.lists.specs.laws.HasLaws.{All_has}
 use Rattle.net_words.specs.Binding.{Binding}
 use Rattle.net_words.specs.declared.bound.BoundWord.{BoundWord}
 use Rattle.lift_table.proofs.circuit_words.nets_of.Goals as goal

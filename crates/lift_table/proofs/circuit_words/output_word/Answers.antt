@@ -2,7 +2,7 @@ use Rattle.std.proofs.Common.{◌≡◌, ◌∙◌, ap, sym, map, Some, arith}
 use Rattle.std.specs.Prelude.{slice_get}
 use Rattle.std.specs.Option.{option_map}
 use Rattle.std.proofs.lemmas.Option.{slice_get-map}
-use Rattle.graph_core.proofs.ListLemmas.{got_read, get_below as some_at}
+use Rattle.lists.specs.laws.ReadLaws.{got_read, get_below as some_at}
 use Rattle.net_words.specs.BoundTo.{output_bits}
 use Rattle.net_words.specs.declared.word.Role.TheVariants.{Output}
 use Rattle.gf_basis.specs.BasisParts.{elements_of}

@@ -1,5 +1,5 @@
 use Rattle.std.proofs.Common.{subst, List, ℕ}
-use Rattle.net_core.specs.Lists.{Has}
+use Rattle.lists.specs.Lists.{Has}
 use Rattle.lift_table.proofs.tabulating.value_at.Goals as goal
 
 pub output-requires-clause-elements : goal.output-requires-clause-elements

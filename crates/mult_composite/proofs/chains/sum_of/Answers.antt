@@ -1,6 +1,6 @@
 use Rattle.std.proofs.Common.{arith, None, ap}
-use Rattle.net_plan.specs.Plan.{Plan}
-use Rattle.net_plan.proofs.ShapeLemmas.{chain_grows}
+use Rattle.make_nets.specs.Plan.{Plan}
+use Rattle.make_nets.proofs.ShapeLemmas.{chain_grows}
 use Rattle.mult_composite.proofs.chains.sum_of.Goals as goal
 
 pub returns-clause-next : goal.returns-clause-next

@@ -1,7 +1,7 @@
 use Rattle.std.proofs.Common.{◌∙◌, ap, length, arith}
 use Rattle.gf_field.specs.Ring2k.{modulus_of}
 use Rattle.irreducible.specs.Proved.{ring_of}
-use Rattle.net_plan.specs.Plan.{Plan}
+use Rattle.make_nets.specs.Plan.{Plan}
 use Rattle.mult_composite.proofs.ListLemmas.{all_long, plan_done}
 use Rattle.mult_composite.proofs.multiplier.gates.Goals as goal
 

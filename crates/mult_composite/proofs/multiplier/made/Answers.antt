@@ -8,10 +8,10 @@ use Rattle.gf_tower.specs.TowerParts.{base_of, coefficients_of, size_of}
 use Rattle.irreducible.specs.Proved.{ring_of}
 use Rattle.net_core.specs.NetList.{NetList}
 use Rattle.net_core.specs.Sound.{IsSound}
-use Rattle.net_plan.specs.Plan.{Plan}
+use Rattle.make_nets.specs.Plan.{Plan}
 use Rattle.net_write.specs.Plain.{HasPlainNames}
-use Rattle.net_make.specs.Computes.{ComputesOfTwo}
-use Rattle.net_make.specs.Made.{made_of, IsPlanFor}
+use Rattle.make_nets.specs.Computes.{ComputesOfTwo}
+use Rattle.make_nets.specs.Made.{made_of, IsPlanFor}
 use Rattle.mult_gen.specs.Form.{outputs_in}
 use Rattle.mult_composite.specs.Form.{plan_of_words}
 use Rattle.mult_composite.proofs.MadeLemmas.{tower_fits, tower_sound, tower_plain, tower_computes}

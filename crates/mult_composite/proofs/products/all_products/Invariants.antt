@@ -1,8 +1,8 @@
 use Rattle.std.proofs.Common.{◌≡◌, ◌≤◌, ◌+◌, ◌*◌, ◌/◌, ◌%◌}
 use Rattle.gf_field.specs.Ring2k.{modulus_of}
 use Rattle.irreducible.specs.Proved.{ring_of}
-use Rattle.net_plan.specs.Plan.{each}
-use Rattle.net_rows.specs.Row.{begun_row, row_of, with_nets}
+use Rattle.make_nets.specs.Plan.{each}
+use Rattle.make_nets.specs.Row.{begun_row, row_of, with_nets}
 use Rattle.mult_composite.specs.Composite.{coefficient_product}
 use Rattle.mult_composite.proofs.products.all_products.Given as goal
 

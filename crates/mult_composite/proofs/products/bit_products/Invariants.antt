@@ -1,6 +1,6 @@
 use Rattle.std.proofs.Common.{◌≡◌, ◌+◌, ◌*◌, ◌/◌, ◌%◌, None}
 use Rattle.std.specs.Prelude.{slice_index}
-use Rattle.net_plan.specs.Plan.{each, with_and}
+use Rattle.make_nets.specs.Plan.{each, with_and}
 use Rattle.mult_composite.proofs.products.bit_products.Given as goal
 
 abbrev pub invariant-loop-q : goal.invariant-loop-q

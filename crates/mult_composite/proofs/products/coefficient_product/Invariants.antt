@@ -1,8 +1,8 @@
 use Rattle.std.proofs.Common.{◌≡◌, ◌≤◌, ◌+◌, ◌*◌, None}
 use Rattle.gf_field.specs.Ring2k.{modulus_of}
 use Rattle.irreducible.specs.Proved.{ring_of}
-use Rattle.net_plan.specs.Plan.{with_chain, chain_net}
-use Rattle.net_rows.specs.Row.{row_by, row_of}
+use Rattle.make_nets.specs.Plan.{with_chain, chain_net}
+use Rattle.make_nets.specs.Row.{row_by, row_of}
 use Rattle.mult_composite.specs.Composite.{added_products, bit_products}
 use Rattle.mult_composite.proofs.products.coefficient_product.Given as goal
 

@@ -1,6 +1,6 @@
 use Rattle.std.proofs.Common.{◌≡◌, ◌≤◌, ◌+◌, ◌*◌, ◌/◌, ◌%◌, None, length}
-use Rattle.net_plan.specs.Plan.{with_chain, chain_net}
-use Rattle.net_rows.specs.Row.{row_by, row_of}
+use Rattle.make_nets.specs.Plan.{with_chain, chain_net}
+use Rattle.make_nets.specs.Row.{row_by, row_of}
 use Rattle.mult_composite.specs.Composite.{added_pairs}
 use Rattle.mult_composite.proofs.sums.pair_sums.Given as goal
 

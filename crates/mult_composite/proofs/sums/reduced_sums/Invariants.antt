@@ -4,7 +4,7 @@ use Rattle.gf_field.specs.Bit.{bit_mul}
 use Rattle.gf_field.specs.Quotient.{product}
 use Rattle.gf_field.specs.Ring2k.{modulus_of}
 use Rattle.irreducible.specs.Proved.{ring_of}
-use Rattle.net_plan.specs.Plan.{each, with_chain}
+use Rattle.make_nets.specs.Plan.{each, with_chain}
 use Rattle.mult_composite.specs.Composite.{added_sums}
 use Rattle.mult_composite.specs.private.HighPowers.{AreHighPowers}
 use Rattle.mult_composite.proofs.sums.reduced_sums.Given as goal

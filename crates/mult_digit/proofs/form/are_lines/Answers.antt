@@ -1,5 +1,5 @@
 use Rattle.std.proofs.Common.{◌∙◌, refl, sym, arith}
-use Rattle.graph_core.proofs.ListLemmas.{get_below}
+use Rattle.lists.specs.laws.ReadLaws.{get_below}
 use Rattle.mult_digit.proofs.FormLemmas.{lines_are}
 use Rattle.mult_digit.proofs.form.are_lines.Goals as goal
 

@@ -1,5 +1,5 @@
 use Rattle.std.proofs.Common.{◌∙◌, []}
-use Rattle.net_make.proofs.PortLemmas.{range_step}
+use Rattle.make_nets.proofs.PortLemmas.{range_step}
 use Rattle.mult_digit.proofs.held.digit_nets.Goals as goal
 
 pub loop-e-preserved : goal.loop-e-preserved

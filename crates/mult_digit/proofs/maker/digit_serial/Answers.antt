@@ -4,7 +4,7 @@ use Rattle.gf_field.specs.Quotient.{product}
 use Rattle.gf_field.specs.Ring2k.{degree_of, modulus_of}
 use Rattle.gf_field.specs.laws.ModulusLaws.{IsRing-from_modulus}
 use Rattle.irreducible.specs.Proved.{ring_of}
-use Rattle.mult_products.specs.Indeterminate.{x_of}
+use Rattle.make_laws.specs.Indeterminate.{x_of}
 use Rattle.mult_digit.specs.private.Front.{IsFront}
 use Rattle.mult_digit.proofs.FinalLemmas.{digit_made, digit_plain, form_from, names_from, unit_powers}
 use Rattle.mult_digit.proofs.maker.digit_serial.Goals as goal

@@ -1,11 +1,11 @@
 use Rattle.std.proofs.Common.{◌∙◌, ap, sym, length, []}
+use Rattle.lists.specs.laws.ListLaws.{length_map as map_long}
 use Rattle.gf_field.specs.Bit.{bit_mul}
 use Rattle.gf_field.specs.Quotient.{product}
 use Rattle.gf_field.specs.Ring2k.{degree_of, modulus_of}
-use Rattle.graph_core.proofs.GeneralLemmas.{length_map as map_long}
 use Rattle.irreducible.specs.Proved.{ring_of}
 use Rattle.net_words.specs.declared.feed.FeedText.{FeedText}
-use Rattle.mult_products.specs.Indeterminate.{x_of}
+use Rattle.make_laws.specs.Indeterminate.{x_of}
 use Rattle.mult_digit.specs.DigitForm.{fed_names}
 use Rattle.mult_digit.specs.DigitPlan.{digit_latches}
 use Rattle.mult_digit.proofs.MakerLemmas.{digit_is, first_low, input_is, made_at, output_is, plan_for_at, sums_are}

@@ -1,6 +1,6 @@
 -- The rows are made up to a place.
 use Rattle.std.proofs.Common.{◌≡◌, ◌≤◌, ◌+◌, ◌*◌, length}
-use Rattle.net_plan.specs.Plan.{each}
+use Rattle.make_nets.specs.Plan.{each}
 use Rattle.mult_digit.specs.DigitPlan.{with_row}
 use Rattle.mult_digit.proofs.products.add_products.Given as goal
 

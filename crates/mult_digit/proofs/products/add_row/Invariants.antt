@@ -1,7 +1,7 @@
 -- The row is made up to a place.
 use Rattle.std.proofs.Common.{◌≡◌, ◌+◌, None}
-use Rattle.net_plan.specs.Plan.{each, with_and}
-use Rattle.mult_runs.specs.Held.{net_at}
+use Rattle.make_nets.specs.Plan.{each, with_and}
+use Rattle.make_laws.specs.Held.{net_at}
 use Rattle.mult_digit.proofs.products.add_row.Given as goal
 
 abbrev pub invariant-loop-j : goal.invariant-loop-j

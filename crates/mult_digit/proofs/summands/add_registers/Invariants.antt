@@ -3,8 +3,8 @@ use Rattle.std.proofs.Common.{◌≡◌, ◌+◌, ◌++◌}
 use Rattle.std.specs.Prelude.{◌==◌}
 use Rattle.std.specs.Int.{bit_at}
 use Rattle.gf_field.specs.Power.{power}
-use Rattle.net_plan.specs.Plan.{gathered, where_so}
-use Rattle.mult_runs.specs.Held.{net_at}
+use Rattle.make_nets.specs.Plan.{gathered, where_so}
+use Rattle.make_laws.specs.Held.{net_at}
 use Rattle.mult_digit.proofs.summands.add_registers.Given as goal
 
 abbrev pub invariant-loop-i : goal.invariant-loop-i

@@ -2,10 +2,10 @@ use Rattle.std.proofs.Common.{◌≡◌, ◌∙◌, [], ap, sym, subst, take, dr
 use Rattle.std.specs.Prelude.{bit_xor}
 use Rattle.net_core.specs.NetList.{NetList}
 use Rattle.net_write.specs.Plain.{HasPlainNames}
-use Rattle.net_plan.specs.Plan.{Plan}
-use Rattle.net_make.specs.Computes.{ComputesOfTwo}
-use Rattle.net_make.specs.Made.{made_of, IsPlanFor}
-use Rattle.net_make.proofs.MadeLemmas.{made_plain}
+use Rattle.make_nets.specs.Plan.{Plan}
+use Rattle.make_nets.specs.Computes.{ComputesOfTwo}
+use Rattle.make_nets.specs.Made.{made_of, IsPlanFor}
+use Rattle.make_nets.proofs.MadeLemmas.{made_plain}
 use Rattle.mult_gen.specs.Chains.{adder_plan}
 use Rattle.mult_gen.specs.Form.{inputs_in, made_adder, outer_of, outputs_in}
 use Rattle.mult_gen.proofs.FormLemmas.{wide_of}

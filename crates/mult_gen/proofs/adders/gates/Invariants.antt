@@ -1,6 +1,6 @@
 -- The bits so far.
 use Rattle.std.proofs.Common.{◌≡◌, Some, get_or}
-use Rattle.net_plan.specs.Plan.{begun, each, with_xor}
+use Rattle.make_nets.specs.Plan.{begun, each, with_xor}
 use Rattle.mult_gen.proofs.adders.gates.Given as goal
 
 abbrev pub invariant-loop-i : goal.invariant-loop-i

@@ -2,7 +2,7 @@ use Rattle.std.proofs.Common.{◌∙◌, subst, List, Result, Ok, Err}
 use Rattle.std.specs.Prelude.{OnOk}
 use Rattle.net_words.specs.declared.word.Role.TheVariants.{Input}
 use Rattle.net_words.specs.declared.word.WordText.{WordText}
-use Rattle.net_make.specs.Form.{HasWords}
+use Rattle.make_nets.specs.Form.{HasWords}
 use Rattle.mult_gen.proofs.FormLemmas.{names_few, wide_of}
 use Rattle.mult_gen.proofs.form.ports.Goals as goal
 

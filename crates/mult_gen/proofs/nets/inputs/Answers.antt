@@ -1,6 +1,6 @@
 use Rattle.std.proofs.Common.{◌∙◌, ℕ, List, length, ap, arith}
 use Rattle.net_words.specs.declared.word.Role.TheVariants.{Input}
-use Rattle.net_make.specs.Ports.{role_nets}
+use Rattle.make_nets.specs.Ports.{role_nets}
 use Rattle.mult_gen.proofs.PlanLemmas.{inputs_long, list_few}
 use Rattle.mult_gen.proofs.nets.inputs.Goals as goal
 

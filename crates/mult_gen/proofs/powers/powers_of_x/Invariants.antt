@@ -2,7 +2,7 @@
 use Rattle.std.proofs.Common.{◌≡◌, ◌<◌, ℕ, length, get_or}
 use Rattle.gf_field.specs.Ring2k.{degree_of, modulus_of}
 use Rattle.irreducible.specs.Proved.{ring_of}
-use Rattle.mult_products.specs.ProductBits.{x_to}
+use Rattle.make_laws.specs.ProductBits.{x_to}
 use Rattle.mult_gen.proofs.powers.powers_of_x.Given as goal
 
 abbrev pub invariant-loop-e : goal.invariant-loop-e

@@ -1,6 +1,6 @@
 -- The rows so far.
 use Rattle.std.proofs.Common.{◌≡◌, ◌+◌, ◌*◌, length, get_or}
-use Rattle.net_plan.specs.Plan.{each}
+use Rattle.make_nets.specs.Plan.{each}
 use Rattle.mult_gen.specs.Chains.{product_row}
 use Rattle.mult_gen.proofs.products.products.Given as goal
 

@@ -1,8 +1,8 @@
 use Rattle.std.proofs.Common.{◌≡◌, ℕ, List, Some, length, ap, ◌∙◌, arith}
 use Rattle.gf_field.specs.Ring2k.{modulus_of}
 use Rattle.irreducible.specs.Proved.{ring_of}
-use Rattle.net_plan.specs.Plan.{Plan}
-use Rattle.net_plan.proofs.ShapeLemmas.{chain_grows}
+use Rattle.make_nets.specs.Plan.{Plan}
+use Rattle.make_nets.proofs.ShapeLemmas.{chain_grows}
 use Rattle.mult_gen.proofs.SquarerLemmas.{bits_few}
 use Rattle.mult_gen.proofs.squarers.add_chain.Goals as goal
 

@@ -2,7 +2,7 @@
 use Rattle.std.proofs.Common.{◌≡◌, ◌+◌, ◌*◌, ◌≤◌, Some, get_or}
 use Rattle.gf_field.specs.Ring2k.{modulus_of}
 use Rattle.irreducible.specs.Proved.{ring_of}
-use Rattle.net_plan.specs.Plan.{begun, each, with_chain}
+use Rattle.make_nets.specs.Plan.{begun, each, with_chain}
 use Rattle.mult_gen.specs.Chains.{added_bits}
 use Rattle.mult_gen.proofs.squarers.gates.Given as goal
 

@@ -6,10 +6,10 @@ use Rattle.gf_basis.specs.Basis.{first_values}
 use Rattle.irreducible.specs.Proved.{ring_of}
 use Rattle.net_core.specs.NetList.{NetList}
 use Rattle.net_write.specs.Plain.{HasPlainNames}
-use Rattle.net_plan.specs.Plan.{Plan}
-use Rattle.net_make.specs.Computes.{ComputesOfOne}
-use Rattle.net_make.specs.Made.{made_of, IsPlanFor}
-use Rattle.net_make.proofs.MadeLemmas.{made_plain}
+use Rattle.make_nets.specs.Plan.{Plan}
+use Rattle.make_nets.specs.Computes.{ComputesOfOne}
+use Rattle.make_nets.specs.Made.{made_of, IsPlanFor}
+use Rattle.make_nets.proofs.MadeLemmas.{made_plain}
 use Rattle.mult_gen.specs.Form.{made_squarer, outputs_in}
 use Rattle.mult_gen.proofs.FormLemmas.{wide_of}
 use Rattle.mult_gen.proofs.ComputeLemmas.{squarer_computes, squarer_fits}

@@ -1,5 +1,5 @@
 use Rattle.std.proofs.Common.{arith, ap, length, ◌*◌}
-use Rattle.net_plan.specs.Plan.{Plan}
+use Rattle.make_nets.specs.Plan.{Plan}
 use Rattle.mult_gen.proofs.BoundLemmas.{mul_few}
 use Rattle.mult_montgomery.proofs.multiplier.gates.Goals as goal
 

@@ -6,10 +6,10 @@ use Rattle.gf_basis.specs.Basis.{first_values}
 use Rattle.irreducible.specs.Proved.{ring_of}
 use Rattle.net_core.specs.NetList.{NetList}
 use Rattle.net_core.specs.Sound.{IsSound}
-use Rattle.net_plan.specs.Plan.{Plan}
+use Rattle.make_nets.specs.Plan.{Plan}
 use Rattle.net_write.specs.Plain.{HasPlainNames}
-use Rattle.net_make.specs.Computes.{ComputesOfTwo}
-use Rattle.net_make.specs.Made.{made_of, IsPlanFor}
+use Rattle.make_nets.specs.Computes.{ComputesOfTwo}
+use Rattle.make_nets.specs.Made.{made_of, IsPlanFor}
 use Rattle.mult_gen.specs.Form.{outputs_in}
 use Rattle.mult_montgomery.specs.Form.{montgomery_product}
 use Rattle.mult_montgomery.proofs.MadeLemmas.{fits, sound, plain, computes}

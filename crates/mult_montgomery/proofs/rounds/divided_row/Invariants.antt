@@ -1,5 +1,5 @@
 use Rattle.std.proofs.Common.{◌≡◌, ◌+◌, ◌≤◌, length}
-use Rattle.net_rows.specs.Row.{row_by, row_of}
+use Rattle.make_nets.specs.Row.{row_by, row_of}
 use Rattle.mult_montgomery.specs.Montgomery.{moved_plan, moved_net}
 use Rattle.mult_montgomery.proofs.rounds.divided_row.Given as goal
 

@@ -1,6 +1,6 @@
 use Rattle.std.proofs.Common.{rules, length, ◌*◌, ◌∙◌, ap}
 use Rattle.mult_montgomery.specs.Montgomery.{round}
-use Rattle.net_rows.specs.Row.{row_of}
+use Rattle.make_nets.specs.Row.{row_of}
 use Rattle.mult_montgomery.proofs.RoomLemmas.{round_more, rounds_more}
 use Rattle.mult_montgomery.proofs.rounds.rounds.Goals as goal
 

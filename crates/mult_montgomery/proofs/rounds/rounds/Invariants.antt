@@ -1,7 +1,7 @@
 use Rattle.std.proofs.Common.{◌≡◌, ◌+◌, ◌*◌, ◌≤◌, ◌<◌, length}
-use Rattle.net_plan.specs.Plan.{each}
+use Rattle.make_nets.specs.Plan.{each}
 use Rattle.mult_montgomery.specs.Montgomery.{round as round_of}
-use Rattle.net_rows.specs.Row.{begun_row, row_of}
+use Rattle.make_nets.specs.Row.{begun_row, row_of}
 use Rattle.mult_montgomery.proofs.rounds.rounds.Given as goal
 
 abbrev pub invariant-loop-i : goal.invariant-loop-i

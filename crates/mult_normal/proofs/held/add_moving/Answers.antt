@@ -1,6 +1,6 @@
 use Rattle.std.proofs.Common.{ap}
 use Rattle.net_core.specs.declared.latch.Start.TheVariants.{Zero}
-use Rattle.mult_runs.specs.Held.{net_at}
+use Rattle.make_laws.specs.Held.{net_at}
 use Rattle.mult_normal.specs.NormalPlan.{moved_from}
 use Rattle.mult_normal.proofs.LatchLemmas.{more_latches}
 use Rattle.mult_normal.proofs.held.add_moving.Goals as goal

@@ -1,8 +1,8 @@
 -- The latches are listed up to a place.
 use Rattle.std.proofs.Common.{◌≡◌, ◌++◌, ◌∷◌, []}
 use Rattle.net_core.specs.declared.latch.Start.TheVariants.{Zero}
-use Rattle.net_plan.specs.Plan.{gathered}
-use Rattle.mult_runs.specs.Held.{net_at}
+use Rattle.make_nets.specs.Plan.{gathered}
+use Rattle.make_laws.specs.Held.{net_at}
 use Rattle.mult_normal.specs.NormalPlan.{moved_from}
 use Rattle.mult_normal.proofs.held.add_moving.Given as goal
 

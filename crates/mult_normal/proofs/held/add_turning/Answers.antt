@@ -1,7 +1,7 @@
 use Rattle.std.proofs.Common.{ap}
 use Rattle.net_core.specs.declared.latch.Start.TheVariants.{Unknown}
-use Rattle.mult_runs.specs.Held.{net_at}
-use Rattle.mult_runs.specs.NormalNets.{place_before}
+use Rattle.make_laws.specs.Held.{net_at}
+use Rattle.make_laws.specs.NormalNets.{place_before}
 use Rattle.std.proofs.Common.{length}
 use Rattle.mult_normal.proofs.LatchLemmas.{more_latches}
 use Rattle.mult_normal.proofs.held.add_turning.Goals as goal

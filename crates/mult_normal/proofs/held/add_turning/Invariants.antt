@@ -1,9 +1,9 @@
 -- The latches are listed up to a place.
 use Rattle.std.proofs.Common.{◌≡◌, ◌++◌, ◌∷◌, [], length}
 use Rattle.net_core.specs.declared.latch.Start.TheVariants.{Unknown}
-use Rattle.net_plan.specs.Plan.{gathered}
-use Rattle.mult_runs.specs.Held.{net_at}
-use Rattle.mult_runs.specs.NormalNets.{place_before}
+use Rattle.make_nets.specs.Plan.{gathered}
+use Rattle.make_laws.specs.Held.{net_at}
+use Rattle.make_laws.specs.NormalNets.{place_before}
 use Rattle.mult_normal.proofs.held.add_turning.Given as goal
 
 abbrev pub invariant-loop-i : goal.invariant-loop-i

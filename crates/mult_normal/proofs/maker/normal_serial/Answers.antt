@@ -3,8 +3,8 @@ use Rattle.net_core.specs.NetList.{NetList}
 use Rattle.net_words.specs.declared.word.WordText.{WordText}
 use Rattle.net_write.specs.Plain.{HasPlainNames}
 use Rattle.gf_basis.specs.BasisParts.{elements_of}
-use Rattle.net_make.specs.Computes.{ComputesOfTwo}
-use Rattle.net_make.specs.Form.{AllWide}
+use Rattle.make_nets.specs.Computes.{ComputesOfTwo}
+use Rattle.make_nets.specs.Form.{AllWide}
 use Rattle.mult_gen.proofs.FormLemmas.{states_wide}
 use Rattle.mult_normal.specs.NormalForm.{HasNormalForm}
 use Rattle.mult_normal.specs.NormalNet.{normal_net}

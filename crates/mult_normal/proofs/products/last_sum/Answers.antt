@@ -1,5 +1,5 @@
 use Rattle.std.proofs.Common.{◌≡◌, ◌∙◌, ap, sym, subst, ℕ, Bool, [], ◌*◌}
-use Rattle.net_plan.specs.Plan.{begun, each}
+use Rattle.make_nets.specs.Plan.{begun, each}
 use Rattle.mult_normal.specs.Coordinates.{counts_in}
 use Rattle.mult_normal.specs.NormalPlan.{Products, with_row}
 use Rattle.mult_normal.proofs.ShapeLemmas.{AreFew, room_for_sum, rows_few, square_few}

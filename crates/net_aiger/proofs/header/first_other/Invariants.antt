@@ -1,5 +1,5 @@
 use Rattle.std.proofs.Common.{◌≡◌, drop}
-use Rattle.net_aiger.specs.Lines.{first_other}
+use Rattle.net_aiger.specs.Spelling.{first_other}
 use Rattle.net_aiger.proofs.header.first_other.Given as goal
 
 -- the numbers so far are 0

@@ -1,5 +1,5 @@
 use Rattle.std.proofs.Common.{◌≡◌, ◌++◌, take, drop}
-use Rattle.net_aiger.specs.Lines.{before_space}
+use Rattle.net_aiger.specs.private.Run.{before_space}
 use Rattle.net_aiger.proofs.names.before_space.Given as goal
 
 -- no byte so far is a space

@@ -1,6 +1,6 @@
 use Rattle.std.proofs.Common.{◌≡◌, arith, Some}
 use Rattle.std.specs.Prelude.{slice_get}
-use Rattle.graph_core.proofs.ListLemmas.{got_read}
+use Rattle.lists.specs.laws.ReadLaws.{got_read}
 use Rattle.net_core.specs.GateValue.{GateValue}
 use Rattle.net_core.proofs.DriverLemmas.{gate_inside}
 use Rattle.net_core.proofs.DrivingLemmas.{no_gates, one_gate_more, all_gates}

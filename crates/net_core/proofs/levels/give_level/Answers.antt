@@ -1,9 +1,9 @@
 use Rattle.std.proofs.Common.{◌≡◌, ◌∙◌, ap, sym, arith, Some, None, get_or}
 use Rattle.std.specs.Prelude.{slice_get}
 use Rattle.std.proofs.lemmas.Option.{slice_get_within}
+use Rattle.lists.specs.Lists.{Has}
 use Rattle.net_core.specs.GateValue.{GateValue}
 use Rattle.net_core.specs.Level.{level_at}
-use Rattle.net_core.specs.Lists.{Has}
 use Rattle.net_core.proofs.LevelLemmas.{position_is, raised_known}
 use Rattle.net_core.proofs.levels.give_level.Goals as goal
 

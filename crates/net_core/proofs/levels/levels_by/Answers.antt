@@ -1,6 +1,6 @@
 use Rattle.std.proofs.Common.{◌≡◌, refl, arith, Some, ℕ, get_or}
 use Rattle.std.specs.Prelude.{slice_get}
-use Rattle.graph_core.proofs.ListLemmas.{got_at}
+use Rattle.lists.specs.laws.ReadLaws.{got_at}
 use Rattle.net_core.proofs.LevelLemmas.{inputs_known, all_levels_found, known_step}
 use Rattle.net_core.proofs.levels.levels_by.Goals as goal
 

@@ -1,8 +1,8 @@
 use Rattle.std.proofs.Common.{◌≡◌, ◌∙◌, arith, length-set, Some, ◌<◌, ◌≤◌, length}
 use Rattle.std.specs.Prelude.{slice_get}
 use Rattle.std.proofs.lemmas.Option.{slice_get_within}
+use Rattle.lists.specs.laws.ReadLaws.{got_read}
 use Rattle.net_core.specs.GateValue.{GateValue}
-use Rattle.graph_core.proofs.ListLemmas.{got_read}
 use Rattle.net_core.proofs.LevelLemmas.{positions_step}
 use Rattle.net_core.proofs.levels.positions_by_net.Goals as goal
 

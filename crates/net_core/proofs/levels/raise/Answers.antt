@@ -1,8 +1,8 @@
 use Rattle.std.proofs.Common.{◌≡◌, ◌∙◌, sym, Some}
 use Rattle.std.specs.Prelude.{slice_get}
+use Rattle.lists.specs.laws.ReadLaws.{got_read}
 use Rattle.net_core.specs.GateValue.{GateValue}
 use Rattle.net_core.specs.Level.{level_over}
-use Rattle.graph_core.proofs.ListLemmas.{got_read}
 use Rattle.net_core.proofs.LevelLemmas.{partial_set, raised_set}
 use Rattle.net_core.proofs.levels.raise.Goals as goal
 

@@ -1,7 +1,7 @@
 use Rattle.std.proofs.Common.{◌≡◌, refl, get_or, Some, ℕ}
 use Rattle.std.specs.Prelude.{slice_get}
 use Rattle.std.proofs.lemmas.Option.{slice_get_within}
-use Rattle.graph_core.proofs.ListLemmas.{got_at}
+use Rattle.lists.specs.laws.ReadLaws.{got_at}
 use Rattle.net_core.proofs.EvalLemmas.{right_step, values_step, all_right}
 use Rattle.net_core.proofs.valuation.values_by.Goals as goal
 

@@ -1,5 +1,5 @@
 use Rattle.std.proofs.Common.{map, Bor, List, ℕ, arith}
-use Rattle.graph_core.proofs.GeneralLemmas.{length_map as map-long}
+use Rattle.lists.specs.laws.ListLaws.{length_map as map-long}
 use Rattle.net_signature.proofs.ReaderLemmas.{tower_fits}
 use Rattle.net_signature.proofs.head.tower_from.Goals as goal
 

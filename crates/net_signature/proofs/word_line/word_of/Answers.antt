@@ -1,5 +1,5 @@
 use Rattle.std.proofs.Common.{◌∙◌, List, ℕ, refl, map, Bor, length, subst, sym}
-use Rattle.graph_core.proofs.GeneralLemmas.{length_map as map-long}
+use Rattle.lists.specs.laws.ListLaws.{length_map as map-long}
 use Rattle.net_words.specs.declared.word.WordText.{WordText}
 use Rattle.net_signature.specs.Statement.{IsNetCount}
 use Rattle.net_signature.proofs.WordLemmas.{word_ok, basis_err}

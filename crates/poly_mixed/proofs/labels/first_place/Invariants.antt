@@ -1,6 +1,6 @@
 use Rattle.std.proofs.Common.{◌≡◌, ◌+◌, drop}
 use Rattle.std.specs.Option.{option_map}
-use Rattle.poly_mixed.specs.Scan.{net_of}
+use Rattle.poly_mixed.specs.Labels.{net_of}
 use Rattle.poly_mixed.proofs.labels.first_place.Given as goal
 
 abbrev pub invariant-loop-i : goal.invariant-loop-i

@@ -1,5 +1,5 @@
 use Rattle.std.proofs.Common.{ℕ, Option, sym, ◌∙◌, subst, arith}
-use Rattle.poly_mixed.specs.Scan.{IsValue}
+use Rattle.text_core.specs.Scan.{IsValue}
 use Rattle.poly_mixed.proofs.ScanLemmas.{none_of_large, net_at_place}
 use Rattle.poly_mixed.proofs.labels.net_place.Goals as goal
 

@@ -1,17 +1,13 @@
 use Rattle.poly_mixed.proofs.FieldLaws.{field_of}
-use Rattle.std.proofs.Common.{◌≡◌, ℕ, ◌+◌, ◌-◌, ◌*◌, ◌^◌, ◌≤◌, cond, List, length, take, drop, get_or, subst, sym, arith, rules, false, ◌==◌}
+use Rattle.std.proofs.Common.{◌≡◌, IfOk, ℕ, ◌+◌, ◌-◌, ◌*◌, ◌^◌, ◌≤◌, cond, List, length, take, drop, get_or, subst, sym, arith, rules, false, ◌==◌}
 use Rattle.std.proofs.lemmas.Bool.{eqb-false}
 use Rattle.poly_mixed.specs.Table.{index, table_bit}
 use Rattle.poly_mixed.specs.Polynomial.{IsPolynomialOf}
-use Rattle.poly_mixed.proofs.ValueLemmas.{one_element}
-use Rattle.poly_mixed.proofs.SimpleLemmas.{leaf_element, rest_long, half_within, turn, first_and_rest}
+use Rattle.poly_mixed.proofs.SimpleLemmas.{leaf_element, rest_long, half_within, turned, first_and_rest}
 use Rattle.poly_mixed.proofs.table.+table_from.Goals as goal
 
 pub constant-requires : goal.constant-requires
 constant-requires g t c = leaf_element (field_of _ _ (g.met.F.Ring.laws c.args.field.now) (g.met.F.Field.no_zero_divisors c.args.field.now)) c.args.table c.args.base
-
-pub scaled_bit-requires : goal.scaled_bit-requires
-scaled_bit-requires g t c = one_element (field_of _ _ (g.met.F.Ring.laws c.args.field.now) (g.met.F.Field.no_zero_divisors c.args.field.now))
 
 halved : (rs : List ℕ) (step : ℕ) → 1 ≤ length rs → step * 2 ^ length rs ≤ 64 → 2 * step * 2 ^ length (take (length rs - 1) (drop 1 rs)) ≤ 64
 halved rs step l h =
@@ -32,7 +28,6 @@ returns g t c =
     let f = (field_of _ _ (g.met.F.Ring.laws c.args.field.now) (g.met.F.Field.no_zero_divisors c.args.field.now)) in
     let rs = take (length c.args.ranks.now - 1) (drop 1 c.args.ranks.now) in
     let more = some (length c.args.ranks.now) c.if-is_empty.ensures in
-    let P : List ℕ → Type 0 = λ xs. IsPolynomialOf (g.F.Ring.degree c.args.field.now) (g.F.Ring.product c.args.field.now) (λ p. cond (table_bit c.args.table (c.args.base + c.args.step * index p.is_one xs)) 1 0) c.add_into-2.new.self.terms in
+    let P : List ℕ → Type 0 = λ xs. IfOk c.choose.result (λ q. IsPolynomialOf (g.F.Ring.degree c.args.field.now) (g.F.Ring.product c.args.field.now) (λ p. cond (table_bit c.args.table (c.args.base + c.args.step * index p.is_one xs)) 1 0) q.terms) in
     subst P (sym (first_and_rest c.args.ranks.now more))
-    (turn f c.args.table c.args.base c.args.step (get_or c.args.ranks.now 0 0) rs c.in_ok-low.low.terms c.in_ok-high.high.terms c.add_into.new.self.terms c.in_ok-bit.bit.terms c.in_ok-out.out.terms c.add_into-2.new.self.terms
-    c.in_ok-low.ensures c.in_ok-high.ensures c.in_ok-add_into.ensures.reduced c.in_ok-add_into.ensures.values c.in_ok-bit.ensures c.in_ok-out.ensures.values c.in_ok-add_into-2.ensures.reduced c.in_ok-add_into-2.ensures.values)
+    (turned f c.args.table c.args.base c.args.step (get_or c.args.ranks.now 0 0) rs c.in_ok-low.low.terms c.in_ok-high.high.terms c.choose.result c.in_ok-low.ensures c.in_ok-high.ensures c.choose.ensures.reduced c.choose.ensures.choice)

@@ -1,7 +1,7 @@
 use Rattle.std.proofs.Common.{◌≡◌, ◌∙◌, ap, List, ℕ, Some, arith}
 use Rattle.std.proofs.lemmas.Option.{slice_get-get_or}
+use Rattle.lists.specs.Lists.{times}
 use Rattle.net_core.specs.NetList.{nets}
-use Rattle.net_core.specs.Lists.{times}
 use Rattle.net_words.specs.Variables.{variables, IsRanked}
 use Rattle.net_words.proofs.RankLemmas.{variables_once}
 use Rattle.rato_reduce.proofs.RankLemmas.{only_rank}

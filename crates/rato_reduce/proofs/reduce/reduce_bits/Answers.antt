@@ -7,10 +7,10 @@ use Rattle.stage_model.specs.Listing.{IsRefusal, cut_listing}
 use Rattle.rato_reduce.proofs.BoundLemmas.{none_before, one_more, just, all_within}
 use Rattle.rato_reduce.proofs.RecordedLemmas.{nothing_recorded}
 use Rattle.rato_reduce.proofs.TurnLemmas.{position_inside, read_at, first_now, turn, told_more, is_cut, is_recorded}
-use Rattle.net_core.specs.Lists.{Has}
 use Rattle.std.specs.Prelude.{slice_get}
 use Rattle.poly_mixed.specs.Polynomial.{Terms}
 use Rattle.std.proofs.Common.{Some}
+use Rattle.lists.specs.Lists.{Has}
 use Rattle.net_core.specs.GateValue.{GateValue}
 use Rattle.net_core.specs.NetList.{NetList, nets}
 use Rattle.net_core.specs.Sound.{IsSound}

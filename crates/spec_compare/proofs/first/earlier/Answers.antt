@@ -1,7 +1,7 @@
 use Rattle.std.proofs.Common.{◌≡◌, ◌∙◌, sym}
-use Rattle.graph_core.proofs.ListLemmas.{got_read}
 use Rattle.circuit_model.specs.Ones.{ones_cmp}
 use Rattle.std.specs.declared.cmp.Ordering.TheVariants.{Greater}
+use Rattle.lists.specs.laws.ReadLaws.{got_read}
 use Rattle.spec_compare.proofs.StepLemmas.{next_before}
 use Rattle.spec_compare.proofs.first.earlier.Goals as goal
 

@@ -1,5 +1,5 @@
 use Rattle.std.proofs.Common.{arith}
-use Rattle.graph_core.proofs.ListLemmas.{got_read}
+use Rattle.lists.specs.laws.ReadLaws.{got_read}
 use Rattle.spec_compare.proofs.StepLemmas.{first_of_all}
 use Rattle.spec_compare.proofs.first.first_term.Goals as goal
 

@@ -1,6 +1,6 @@
 use Rattle.std.proofs.Common.{rules, ◌≡◌, ◌∙◌, ◌<◌, ◌≤◌, ◌+◌, sym, ap, subst, ℕ, List, Some, length, arith}
 use Rattle.std.specs.Prelude.{slice_get}
-use Rattle.graph_core.proofs.ListLemmas.{got_read}
+use Rattle.lists.specs.laws.ReadLaws.{got_read}
 use Rattle.poly_mixed.specs.Polynomial.{Terms}
 use Rattle.poly_mixed.specs.declared.stage.ReduceFault.{ReduceFault}
 use Rattle.poly_mixed.specs.declared.stage.ReduceFault.TheVariants.{TooManyTerms}

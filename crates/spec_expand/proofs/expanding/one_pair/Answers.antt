@@ -1,6 +1,6 @@
 use Rattle.std.proofs.Common.{◌≡◌, ◌∙◌, ◌<◌, ◌+◌, ◌^◌, sym, ap, subst, ℕ, List, Some, length, take, arith, length-append}
 use Rattle.std.specs.Prelude.{slice_get}
-use Rattle.graph_core.proofs.ListLemmas.{got_read}
+use Rattle.lists.specs.laws.ReadLaws.{got_read}
 use Rattle.circuit_model.specs.Bases.{circuit_in}
 use Rattle.spec_expand.specs.SpecValue.{ones_of, factors_with, factors_of}
 use Rattle.spec_expand.proofs.SpecValueLemmas.{power_at, factor_at, next_pair, factors_with_long}

@@ -1,7 +1,6 @@
 use Rattle.std.proofs.Common.{◌∙◌, ap, ℕ, List, length}
 use Rattle.text_core.proofs.LineLemmas.{rest_of}
-use Rattle.poly_mixed.specs.Scan.{run}
-use Rattle.spec_expand.specs.private.Scanning.{is_white}
+use Rattle.text_core.specs.Scan.{run, is_white}
 use Rattle.spec_expand.proofs.reader.white_at.Goals as goal
 
 pub returns : goal.returns

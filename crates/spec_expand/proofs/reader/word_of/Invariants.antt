@@ -1,6 +1,6 @@
 use Rattle.std.proofs.Common.{◌≡◌, ◌+◌, drop}
 use Rattle.std.specs.Option.{option_map}
-use Rattle.poly_mixed.specs.Scan.{word_of}
+use Rattle.poly_mixed.specs.Labels.{word_of}
 use Rattle.spec_expand.proofs.reader.word_of.Given as goal
 
 abbrev pub invariant-loop-word : goal.invariant-loop-word

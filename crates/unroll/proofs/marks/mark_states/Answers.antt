@@ -1,5 +1,5 @@
 use Rattle.std.proofs.Common.{arith}
-use Rattle.graph_core.proofs.ListLemmas.{get_below}
+use Rattle.lists.specs.laws.ReadLaws.{get_below}
 use Rattle.unroll.specs.private.Plan.{mark_at}
 use Rattle.unroll.proofs.PlanLemmas.{held_step}
 use Rattle.unroll.proofs.marks.mark_states.Goals as goal

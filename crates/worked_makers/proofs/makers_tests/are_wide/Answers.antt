@@ -1,4 +1,4 @@
-use Rattle.graph_core.proofs.GraphLemmas.{All_has}
+use Rattle.lists.specs.laws.HasLaws.{All_has}
 use Rattle.worked_makers.specs.Wide.{IsWide}
 use Rattle.worked_makers.proofs.makers_tests.are_wide.Goals as goal
 

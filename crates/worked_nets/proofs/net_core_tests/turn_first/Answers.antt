@@ -1,6 +1,6 @@
 use Rattle.std.proofs.Common.{ap, arith, length, ◌<◌}
 use Rattle.std.proofs.Math.Pow.{pow_mono}
-use Rattle.graph_core.proofs.ListLemmas.{get_below}
+use Rattle.lists.specs.laws.ReadLaws.{get_below}
 use Rattle.worked_nets.proofs.net_core_tests.turn_first.Goals as goal
 
 pub turn-requires : goal.turn-requires

@@ -7,7 +7,7 @@ use Rattle.stage_model.specs.CircuitListing.{bound_cuts}
 use Rattle.stage_model.specs.Listing.{AreAllWithin}
 use Rattle.stage_model.specs.Stage.{IsOfStage}
 use Rattle.job_input.specs.Setting.{elements_of_each}
-use Rattle.gf_abs.proofs.StageLemmas.{IsJob, few, no_words}
+use Rattle.answer_core.proofs.StageLemmas.{IsJob, few, no_words}
 use Rattle.worked_rows.proofs.plain_tests.in_words.Goals as goal
 
 pub to_words-requires-clause-bits : goal.to_words-requires-clause-bits

@@ -1,5 +1,5 @@
 use Rattle.std.proofs.Common.{sym, subst, ℕ}
-use Rattle.text_core.specs.Outcome.{Fits}
+use Rattle.outcome.specs.Outcome.{Fits}
 use Rattle.cert_check.specs.Fault.{refusal}
 use Rattle.cert_check.specs.declared.line.Line.{Line}
 use Rattle.cert_check.specs.private.Kept.{LineAsks}

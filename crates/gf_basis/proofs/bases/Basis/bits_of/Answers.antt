@@ -1,16 +1,17 @@
-use Rattle.std.proofs.Common.{◌≡◌, ◌∙◌, subst, sym, arith, length}
-use Rattle.std.proofs.lemmas.List.{length-take-le}
+use Rattle.std.proofs.Common.{◌≡◌, ◌∙◌, ◌^◌, ◌<◌, subst, sym, arith, length, take}
+use Rattle.std.proofs.lemmas.List.{length-take-le, get_or-take}
 use Rattle.gf_basis.specs.Basis.{AreBits}
-use Rattle.gf_basis.specs.BasisParts.{elements_of, duals_of, coordinates_of}
-use Rattle.gf_basis.proofs.TraceWordLaws.{bits_from_coordinates}
-use Rattle.gf_basis.proofs.BasisLaws.{AreBits-traces}
+use Rattle.gf_basis.specs.BasisParts.{elements_of}
+use Rattle.gf_basis.proofs.BasisLaws.{AreBits-coordinates}
 use Rattle.gf_basis.proofs.bases.Basis.bits_of.Goals as goal
 
 pub returns : goal.returns
 returns g c =
-    let law = g.met.F.Ring.laws c.args._field.now in let field = g.met.F.Field.no_zero_divisors c.args._field.now in
-    let count : length (elements_of c.args.self.now) ≡ c.args.self.now.count = length-take-le _ _ (omega (arith, c.args.self.now.few)) in
-    let size : length (coordinates_of c.args.self.now) ≡ c.args.self.now.count = length-take-le _ _ (omega (arith, c.args.self.now.few)) in
-    subst (AreBits (elements_of c.args.self.now) c.args.element)
-    (sym (c.combined.ensures ∙ bits_from_coordinates _ _ law field (duals_of c.args.self.now) (coordinates_of c.args.self.now) c.args.element (size ∙ sym count ∙ c.requires.over.elements.size) c.requires.over.coordinates c.requires.element))
-    (AreBits-traces _ _ law field (elements_of c.args.self.now) (duals_of c.args.self.now) c.requires.over.elements.size c.requires.over.dual c.requires.over.elements c.args.element c.requires.element)
+    let self = c.args.self.now in
+    let rows = take self.count self.coordinates in
+    let count : length (elements_of self) ≡ self.count = length-take-le _ _ (omega (arith, self.few)) in
+    let size : length rows ≡ self.count = length-take-le _ _ (omega (arith, self.few)) in
+    let short : c.args.element < 2 ^ length (elements_of self) = rw (c.requires.over.elements.size) c.requires.element in
+    subst (AreBits (elements_of self) c.args.element) (sym c.combined.ensures)
+    (AreBits-coordinates (elements_of self) rows c.args.element (size ∙ sym count)
+    (λ j h. subst (AreBits (elements_of self) (2 ^ j)) (sym (get_or-take self.count self.coordinates j 0 (omega (arith, count)))) (self.cached j h)) short)

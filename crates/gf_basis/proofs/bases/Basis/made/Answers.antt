@@ -1,15 +1,14 @@
-use Rattle.std.proofs.Common.{◌≡◌, ◌<◌, ◌^◌, ◌∙◌, refl, sym, ap, arith, length, length-set, take, get_or, subst}
+use Rattle.std.proofs.Common.{◌≡◌, ◌<◌, ◌^◌, ◌∙◌, refl, sym, ap, arith, length, length-set, take, subst}
 use Rattle.std.proofs.lemmas.Nat.{one_shl, pow_below}
-use Rattle.std.proofs.lemmas.List.{get_or-take}
 use Rattle.irreducible.specs.Span.{combination}
 use Rattle.irreducible.specs.laws.SpanLaws.{combination_below}
 use Rattle.irreducible.specs.BitMatrix.{rows_of}
 use Rattle.irreducible.proofs.MatrixLaws.{set_more}
 use Rattle.gf_basis.specs.Basis.{IsBasis}
 use Rattle.gf_basis.specs.Dual.{AreDual}
-use Rattle.gf_basis.specs.TraceWord.{trace_word}
+use Rattle.gf_basis.specs.private.TraceWord.{trace_word}
 use Rattle.gf_basis.proofs.TraceWordLaws.{IsIndependent-matrix, IsIndependent-from_matrix, trace_word-dual}
-use Rattle.gf_basis.proofs.BasisLaws.{IsBasis-from_independent, AreDual-from_array, trace_word-row}
+use Rattle.gf_basis.proofs.BasisLaws.{IsBasis-from_independent, AreDual-from_array}
 use Rattle.gf_basis.proofs.bases.Basis.made.Goals as goal
 
 pub returns-in-None-clause-found : goal.returns-in-None-clause-found
@@ -58,8 +57,4 @@ returns-clause-over g c =
           (IsBasis-from_independent _ bs c.requires.size c.requires.inside
           (IsIndependent-from_matrix _ _ law field bs c.requires.size c.requires.inside (rows_of c.trace_matrix.result) c.trace_matrix.ensures (c.in-Some.ensures.found.0 refl)));
       dual = subst (λ xs. AreDual k mul xs ds) (sym c.filled.ensures.numbers) dual;
-      coordinates = λ j h.
-          let below : j < length bs = omega (arith, c.requires.size) in
-          get_or-take (length bs) c.coordinates.result j 0 below
-          ∙ trace_word-row k mul law field bs ds c.requires.size dual j (get_or c.coordinates.result j 0) (c.coordinates.ensures j below);
     }

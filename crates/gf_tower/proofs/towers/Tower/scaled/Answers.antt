@@ -1,5 +1,5 @@
 use Rattle.std.proofs.Common.{◌≡◌, suc, ◌-◌, ◌∙◌, sym, ap, arith}
-use Rattle.gf_tower.specs.Digits.{scaled_from}
+use Rattle.gf_tower.specs.private.DigitSteps.{scaled_from}
 use Rattle.gf_tower.proofs.CodeLaws.{start_scaled, next_scaled, end_scaled, element_scaled, digit_element}
 use Rattle.gf_tower.specs.laws.TowerLaws.{IsPacked-list}
 use Rattle.gf_tower.proofs.towers.Tower.scaled.Goals as goal

@@ -1,5 +1,5 @@
 use Rattle.std.proofs.Common.{◌≡◌}
-use Rattle.gf_tower.specs.Digits.{scaled_from}
+use Rattle.gf_tower.specs.private.DigitSteps.{scaled_from}
 use Rattle.gf_tower.proofs.towers.Tower.scaled.Given as goal
 
 abbrev pub invariant-loop-i : goal.invariant-loop-i

@@ -1,7 +1,7 @@
 use Rattle.std.proofs.Common.{◌≡◌, suc, ◌-◌, ◌∙◌, sym, ap, arith}
 use Rattle.gf_field.specs.Quotient.{product}
-use Rattle.gf_tower.specs.Digits.{modulus_of}
-use Rattle.gf_tower.specs.Digits.{from_digit}
+use Rattle.gf_tower.specs.private.DigitSteps.{modulus_of}
+use Rattle.gf_tower.specs.private.DigitSteps.{from_digit}
 use Rattle.gf_tower.proofs.CodeLaws.{start_sum, element_sum, next_sum, end_sum, digit_element}
 use Rattle.gf_tower.specs.laws.TowerLaws.{IsPacked-list, modulus_is, remainder_is}
 use Rattle.gf_tower.proofs.towers.TowerRing.mul.Goals as goal

@@ -1,6 +1,6 @@
 use Rattle.std.proofs.Common.{◌≡◌}
-use Rattle.gf_tower.specs.Digits.{modulus_of}
-use Rattle.gf_tower.specs.Digits.{from_digit}
+use Rattle.gf_tower.specs.private.DigitSteps.{modulus_of}
+use Rattle.gf_tower.specs.private.DigitSteps.{from_digit}
 use Rattle.gf_tower.proofs.towers.TowerRing.mul.Given as goal
 
 abbrev pub invariant-loop-i : goal.invariant-loop-i

@@ -2,7 +2,7 @@ use Rattle.std.proofs.Common.{◌≡◌, ℕ, ◌<◌, ◌^◌, ◌∙◌, refl,
 use Rattle.std.proofs.lemmas.List.{length-take-le, get_or-take}
 use Rattle.std.proofs.lemmas.Nat.{one_shl}
 use Rattle.irreducible.specs.Span.{combination}
-use Rattle.irreducible.specs.Pivots.{IsCleared}
+use Rattle.irreducible.specs.private.Pivots.{IsCleared}
 use Rattle.irreducible.specs.BitMatrix.{rows_of}
 use Rattle.irreducible.proofs.MatrixLaws.{set_more}
 use Rattle.irreducible.proofs.InverseMatrixLaws.{full_rank, rank_full, inverse_row, inverse_short, AreInverse-from_rows}

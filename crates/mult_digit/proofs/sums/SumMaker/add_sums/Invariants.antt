@@ -1,6 +1,6 @@
 -- The chains are made up to a place.
 use Rattle.std.proofs.Common.{◌≡◌, ◌≤◌, ◌+◌, ◌*◌}
-use Rattle.net_plan.specs.Plan.{each}
+use Rattle.make_nets.specs.Plan.{each}
 use Rattle.mult_digit.specs.DigitPlan.{summands, with_sum}
 use Rattle.mult_digit.proofs.sums.SumMaker.add_sums.Given as goal
 

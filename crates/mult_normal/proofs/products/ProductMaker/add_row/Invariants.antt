@@ -2,8 +2,8 @@
 use Rattle.std.proofs.Common.{◌≡◌, ◌≤◌, ◌+◌}
 use Rattle.mult_normal.specs.Coordinates.{counts_in}
 use Rattle.mult_normal.specs.NormalPlan.{with_product}
-use Rattle.mult_runs.specs.Held.{net_at}
-use Rattle.net_plan.specs.Plan.{each}
+use Rattle.make_laws.specs.Held.{net_at}
+use Rattle.make_nets.specs.Plan.{each}
 use Rattle.mult_normal.proofs.products.ProductMaker.add_row.Given as goal
 
 abbrev pub invariant-loop-j : goal.invariant-loop-j

@@ -2,7 +2,7 @@
 use Rattle.std.proofs.Common.{◌≡◌, ◌≤◌, ◌+◌, ◌*◌}
 use Rattle.mult_normal.specs.Coordinates.{counts_in}
 use Rattle.mult_normal.specs.NormalPlan.{with_row}
-use Rattle.net_plan.specs.Plan.{each}
+use Rattle.make_nets.specs.Plan.{each}
 use Rattle.mult_normal.proofs.products.ProductMaker.add_rows.Given as goal
 
 abbrev pub invariant-loop-i : goal.invariant-loop-i

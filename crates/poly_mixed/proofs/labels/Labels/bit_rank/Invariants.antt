@@ -1,7 +1,6 @@
 use Rattle.std.proofs.Common.{◌≡◌, ◌+◌, ℕ, drop}
 use Rattle.std.specs.Option.{option_map}
-use Rattle.poly_mixed.specs.Labels.{bit_count}
-use Rattle.poly_mixed.specs.Scan.{bit_of}
+use Rattle.poly_mixed.specs.Labels.{bit_count, bit_of}
 use Rattle.poly_mixed.proofs.labels.Labels.bit_rank.Given as goal
 
 abbrev pub invariant-loop-word : goal.invariant-loop-word

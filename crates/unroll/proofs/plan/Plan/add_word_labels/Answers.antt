@@ -1,5 +1,5 @@
 use Rattle.std.proofs.Common.{ap, arith}
-use Rattle.graph_core.proofs.ListLemmas.{get_below}
+use Rattle.lists.specs.laws.ReadLaws.{get_below}
 use Rattle.unroll.specs.Places.{fed_bits}
 use Rattle.unroll.proofs.plan.Plan.add_word_labels.Goals as goal
 

@@ -1,6 +1,6 @@
 use Rattle.std.proofs.Common.{◌∙◌, ◌++◌, ap, arith, take_all}
+use Rattle.lists.specs.laws.HasLaws.{All_has}
 use Rattle.net_core.specs.NetList.{nets}
-use Rattle.net_core.proofs.DriverLemmas.{All_has}
 use Rattle.net_words.specs.Binding.{HasWidth}
 use Rattle.unroll.specs.Places.{cycle_nets, first_bit}
 use Rattle.unroll.specs.Unrolled.{nets_with}

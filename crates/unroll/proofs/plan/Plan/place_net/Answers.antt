@@ -1,5 +1,5 @@
 use Rattle.std.proofs.Common.{◌∙◌, arith, sym}
-use Rattle.graph_core.proofs.ListLemmas.{get_below}
+use Rattle.lists.specs.laws.ReadLaws.{get_below}
 use Rattle.net_core.specs.NetList.{nets}
 use Rattle.unroll.specs.Places.{cycle_nets, first_bit}
 use Rattle.unroll.proofs.PlanLemmas.{fed_place, not_fed, output_exists, output_not_fed, output_place, wide}

@@ -1,0 +1,2 @@
+pub mod StageLemmas
+mod WellLemmas

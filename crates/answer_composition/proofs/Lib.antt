@@ -1,0 +1,6 @@
+pub mod BlockSettingLemmas
+pub mod BlockBaseLemmas
+pub mod ComposeStopLemmas
+pub mod ComposeLemmas
+pub mod ComposeLineLemmas
+pub mod ComposeDetermined

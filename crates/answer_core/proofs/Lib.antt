@@ -1,0 +1,17 @@
+pub mod NamedLemmas
+pub mod StageLemmas
+pub mod WordNamesLemmas
+pub mod RefusalLemmas
+pub mod DifferingLineLemmas
+pub mod UnrollingLemmas
+pub mod TakenLemmas
+pub mod StagedDetermined
+pub mod CircuitDetermined
+pub mod TakenDetermined
+pub mod SpecStageLemmas
+pub mod BoundBasesLemmas
+pub mod CheckLemmas
+pub mod EqualLabelLemmas
+pub mod PrintedLemmas
+pub mod JobLemmas
+pub mod FieldNameLemmas

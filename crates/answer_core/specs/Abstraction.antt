@@ -1,0 +1,49 @@
+-- The polynomials of a circuit's output in bits and in words, with their stages and a bound on the terms of these. Sources: Lv, Kalla,
+-- Enescu, IEEE TCAD 2013; Pruss, Kalla, Enescu, Word-Level Abstraction from Bit-Level Circuits Using Gröbner Bases, DAC 2014; the order
+-- of cuts, the stages of words and the bound are this project's own.
+use Rattle.std.specs.Prelude.{ℕ, length}
+use Rattle.outcome.specs.Outcome.{Outcome}
+use Rattle.net_words.specs.Binding.{BoundNet}
+use Rattle.poly_mixed.specs.Polynomial.{Terms}
+use Rattle.poly_mixed.specs.declared.stage.Stage.{Stage}
+use Rattle.circuit_model.specs.OfBinding.{output_basis, circuit_with}
+use Rattle.stage_model.specs.CircuitListing.{bound_cuts}
+use Rattle.stage_model.specs.Cut.{BoundCut}
+use Rattle.stage_model.specs.Listing.{Listing, Joined, followed_by}
+use Rattle.stage_model.specs.Stage.{IsOfStage}
+use Rattle.job_words.specs.declared.stage_fault.StageFault.{StageFault}
+use Rattle.job_words.specs.StageFault.{stage_text}
+use Rattle.job_input.specs.Labelling.{labels_of}
+use Rattle.job_input.specs.SettingValue.{SettingValue}
+use Rattle.answer_core.specs.Staged.{Staged, either_text}
+use Rattle.circuit_model.specs.Circuit.{Circuit}
+use Rattle.stage_model.specs.Mix.{IsMix}
+use Rattle.stage_model.specs.WordListing.{word_listing}
+
+-- the circuit of a setting and a net list with bound words
+abbrev pub taken_circuit : SettingValue → BoundNet → Circuit
+taken_circuit setting bound = circuit_with setting.k setting.product bound setting.bases
+
+-- the stages to the polynomial in bits: the cuts of the circuit
+abbrev pub bits_stages : SettingValue → BoundNet → Listing Stage
+bits_stages setting circuit = bound_cuts circuit (output_basis circuit.binding.words setting.bases)
+
+-- these are the terms of the last cut
+abbrev pub IsLastCut : SettingValue → BoundNet → Terms → Type 0
+IsLastCut setting circuit ts = IsOfStage setting.k setting.product (BoundCut circuit (output_basis circuit.binding.words setting.bases) (length circuit.net.gates)) ts
+
+-- the polynomial of the last cut, where no cut has more than `bound` terms
+abbrev pub BitsOf : SettingValue → BoundNet → ℕ → Outcome StageFault Terms
+BitsOf setting circuit bound = Staged setting.k setting.product (bits_stages setting circuit) (stage_text (labels_of setting.k setting.signature.words)) bound (IsLastCut setting circuit)
+
+-- the stages to the polynomial in words: these cuts, and then the stages of the words
+abbrev pub abstract_stages : SettingValue → BoundNet → Listing (Joined Stage Stage)
+abstract_stages setting circuit = followed_by (bits_stages setting circuit) (word_listing (taken_circuit setting circuit))
+
+-- these are the terms of the output as a function of all words
+abbrev pub IsInWords : SettingValue → BoundNet → Terms → Type 0
+IsInWords setting circuit ts = IsOfStage setting.k setting.product (IsMix (taken_circuit setting circuit) (length (taken_circuit setting circuit).words)) ts
+
+-- the polynomial in words, where no stage has more than `bound` terms
+abbrev pub AbstractOf : SettingValue → BoundNet → ℕ → Outcome StageFault Terms
+AbstractOf setting circuit bound = Staged setting.k setting.product (abstract_stages setting circuit) (either_text (labels_of setting.k setting.signature.words)) bound (IsInWords setting circuit)

@@ -1,0 +1,23 @@
+//! What the answers of all commands share: an output, the line of a polynomial, the polynomials of a circuit's output, the lines
+//! of a differing input, and why no output comes of a stage.
+#![tactic(auto)]
+
+mod cuts;
+mod differing;
+mod judged;
+mod line;
+mod named_fields;
+mod output;
+mod setting_labels;
+mod stages;
+mod words;
+
+pub use cuts::last_cut;
+pub use differing::{add_difference, add_word};
+pub use judged::{copied, verdict};
+pub use line::polynomial_line;
+pub use named_fields::{base_field, tower_field};
+pub use output::Output;
+pub use setting_labels::labels;
+pub use stages::stage_stop;
+pub use words::in_words;

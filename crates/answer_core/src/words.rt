@@ -1,0 +1,51 @@
+//! The polynomial of a circuit's output in its words.
+ghost use Rattle.std.specs.Prelude.{◌<◌, ◌^◌, length, IfOk, IfErr, OnOk};
+ghost use Rattle.net_core.specs.Sound.{IsSound};
+ghost use Rattle.net_words.specs.OneCycle.{IsOneCycle};
+ghost use Rattle.poly_mixed.specs.Text.{HasNames, HasWordNames};
+ghost use Rattle.stage_model.specs.Listing.{AreAllWithin, IsRefusal};
+ghost use Rattle.stage_model.specs.Mix.{IsMix};
+ghost use Rattle.stage_model.specs.Stage.{IsOfStage};
+ghost use Rattle.stage_model.specs.WordListing.{word_listing};
+ghost use Rattle.word_subst.specs.Recorded.{IsRecorded};
+ghost use Rattle.job_input.specs.Labelling.{labels_of};
+ghost use Rattle.job_input.specs.Setting.{setting_value, IsReady, IsTakenFor};
+ghost use Rattle.answer_core.specs.Abstraction.{taken_circuit, IsInWords};
+
+use gf_field::Field;
+use job_input::Setting;
+use net_words::Combinational;
+use poly_mixed::{Poly, ReduceFault, Steps};
+use std::alloc::Global;
+use word_subst::to_words;
+
+/// The polynomial of a circuit's output in its words, out of that in their bits, or the first stage of words of more than
+/// `bound` terms. The recorder gets the steps of the replacement.
+pub fn in_words<F: Field, T: Steps>(
+    alloc: Global,
+    field: &F,
+    setting: &Setting,
+    circuit: &Combinational,
+    bits: Poly,
+    bound: u32,
+    steps: &mut T,
+) -> Result<Poly, ReduceFault>
+    requires ready { IsReady (F.degree field.now) (F.product field.now) setting.now }
+    requires taken { IsTakenFor (F.degree field.now) setting.now circuit.now }
+    requires sound { IsSound circuit.now.net }
+    requires is_bound { IsOneCycle circuit.now.net circuit.now.binding }
+    requires bits { IsOfStage (F.degree field.now) (F.product field.now) (IsMix (taken_circuit (setting_value (F.degree field.now) (F.product field.now) setting.now) circuit.now) 0) bits.terms }
+    requires few { length bits.terms < 2 ^ 32 }
+    ensures words { IfOk result (λ poly. IsInWords (setting_value (F.degree field.now) (F.product field.now) setting.now) circuit.now poly.terms) }
+    ensures named { IfOk result (λ poly. HasNames (labels_of (F.degree field.now) setting.now.signature.words) poly.terms) }
+    ensures words_named { IfOk result (λ poly. HasWordNames (labels_of (F.degree field.now) setting.now.signature.words) poly.terms) }
+    ensures within { OnOk result (AreAllWithin (F.degree field.now) (F.product field.now) (word_listing (taken_circuit (setting_value (F.degree field.now) (F.product field.now) setting.now) circuit.now)) bound) }
+    ensures steps { OnOk result (IsRecorded (taken_circuit (setting_value (F.degree field.now) (F.product field.now) setting.now) circuit.now) (T.steps steps.old) (T.steps steps.new)) }
+    ensures fault { IfErr result (IsRefusal (F.degree field.now) (F.product field.now) (word_listing (taken_circuit (setting_value (F.degree field.now) (F.product field.now) setting.now) circuit.now)) bound) }
+{
+    let bases = setting.bases.as_slice();
+    match to_words(alloc, field, circuit, bases, bits, bound, steps) {
+        Ok(poly) => Ok(poly),
+        Err(fault) => Err(fault),
+    }
+}

@@ -1,0 +1,4 @@
+pub mod MakeLemmas
+pub mod TrialLemmas
+pub mod SettingFieldLemmas
+pub mod MadeLemmas

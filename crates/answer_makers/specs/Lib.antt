@@ -1,0 +1,4 @@
+pub mod Make
+pub mod Trial
+pub mod Made
+pub mod private

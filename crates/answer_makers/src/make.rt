@@ -1,0 +1,295 @@
+//! The command `make`: a netlist of a kind that is made for a signature.
+ghost use Rattle.std.specs.Prelude.{◌≡◌, ℕ, ◌<◌, ◌^◌, [], IfNone, IfOk, IfSome, IsErrOf, OnOk};
+ghost use Rattle.gf_basis.specs.BasisFault.{conjugates_of};
+ghost use Rattle.gf_basis.specs.BasisParts.{IsBasisOver, elements_of};
+ghost use Rattle.irreducible.specs.Span.{IsIndependent};
+ghost use Rattle.net_words.specs.declared.word.BasisText.TheVariants as text_basis;
+ghost use Rattle.gf_field.specs.Ring2k.{degree_of, modulus_of};
+ghost use Rattle.gf_tower.specs.TowerParts.{base_of, coefficients_of};
+ghost use Rattle.irreducible.specs.Proved.{ring_of};
+ghost use Rattle.job_input.specs.Setting.{IsReady, setting_value};
+ghost use Rattle.job_words.specs.Stop.{GivesBy};
+ghost use Rattle.job_words.specs.declared.kind.Kind.TheVariants.{Adder, Composite, Digit, Normal};
+ghost use Rattle.mult_gen.specs.Form.{AreWide};
+ghost use Rattle.net_write.specs.Plain.{HasPlainNames};
+ghost use Rattle.answer_core.specs.Reply.{reply_of};
+ghost use Rattle.answer_makers.specs.Make.{MadeOf, MakeAnswer};
+ghost use Rattle.answer_makers.specs.private.Making.{FirstIsNormal, HasRingForm, IsOfRing, IsRingNet};
+
+use answer_core::{Output, base_field, tower_field};
+use gf_basis::Basis;
+use gf_field::{Field, Ring, Ring2k};
+use gf_tower::Tower;
+use irreducible::Proved;
+use job_input::Setting;
+use job_words::{Fault, Kind, Stop};
+use mult_composite::composite;
+use mult_digit::digit_serial;
+use mult_gen::{MakeFault, adder, mastrovito, squarer};
+use mult_montgomery::montgomery;
+use mult_normal::normal_serial;
+use net_core::Net;
+use net_signature::Signature;
+use net_words::{BasisText, WordText};
+use net_write::write_blif;
+use std::alloc::Global;
+
+/// What the command answers over a setting.
+pub fn answer<F: Field>(
+    alloc: Global,
+    field: &F,
+    setting: &Setting,
+    kind: Kind,
+) -> Result<Output, Stop>
+    requires ready { IsReady (F.degree field.now) (F.product field.now) setting.now }
+    ensures { GivesBy reply_of result (MakeAnswer (setting_value (F.degree field.now) (F.product field.now) setting.now) kind) ⊥ ⊥ }
+{
+    match made(alloc, field, setting, kind) {
+        Ok(net) => {
+            let text = write_blif(alloc, &net)?;
+            Ok(Output { status: 0, text })
+        }
+        Err(stop) => Err(stop),
+    }
+}
+
+// The net of a kind.
+fn made<F: Field>(alloc: Global, field: &F, setting: &Setting, kind: Kind) -> Result<Net, Stop>
+    requires ready { IsReady (F.degree field.now) (F.product field.now) setting.now }
+    ensures gives { GivesBy (λ net. net) result (MadeOf (setting_value (F.degree field.now) (F.product field.now) setting.now) kind) ⊥ ⊥ }
+    ensures plain { IfOk result (λ net. HasPlainNames net) }
+{
+    match kind {
+        Kind::Mastrovito | Kind::Montgomery | Kind::Squarer => {
+            over_base(alloc, field, setting, kind)
+        }
+        Kind::Composite => over_tower(alloc, field, setting),
+        Kind::Normal => in_normal_basis(alloc, field, setting),
+        Kind::Adder => in_any_basis(alloc, field, setting),
+        Kind::Digit => in_digits(alloc, field, setting),
+    }
+}
+
+// The net of a kind that asks for a field without a tower.
+fn over_base<F: Field>(alloc: Global, field: &F, setting: &Setting, kind: Kind) -> Result<Net, Stop>
+    requires wide { AreWide (F.degree field.now) setting.now.signature.words }
+    requires base { IsOfRing kind }
+    ensures gives { GivesBy (λ net. net) result (MadeOf (setting_value (F.degree field.now) (F.product field.now) setting.now) kind) ⊥ ⊥ }
+    ensures plain { IfOk result (λ net. HasPlainNames net) }
+{
+    match base_field(&setting.signature) {
+        Some(ring) => beside_ring(alloc, field, &ring, setting, kind),
+        None => Err(Stop::Refused(Fault::Form(kind))),
+    }
+}
+
+// The same beside the field, whose degree is that of the setting.
+fn beside_ring<F: Field>(
+    alloc: Global,
+    field: &F,
+    ring: &Proved<Ring2k>,
+    setting: &Setting,
+    kind: Kind,
+) -> Result<Net, Stop>
+    requires wide { AreWide (F.degree field.now) setting.now.signature.words }
+    requires base { IsOfRing kind }
+    requires modulus { modulus_of (ring_of ring.now) ≡ setting.now.signature.modulus }
+    requires no_tower { setting.now.signature.tower ≡ [] }
+    ensures gives { GivesBy (λ net. net) result (MadeOf (setting_value (F.degree field.now) (F.product field.now) setting.now) kind) ⊥ ⊥ }
+    ensures plain { IfOk result (λ net. HasPlainNames net) }
+{
+    if ring.k() != field.k() {
+        return Err(Stop::Refused(Fault::Form(kind)));
+    }
+    match over_ring(alloc, ring, &setting.signature, kind) {
+        Ok(net) => Ok(net),
+        Err(MakeFault::Unfit) => Err(Stop::Refused(Fault::Form(kind))),
+        Err(MakeFault::OutOfMemory) => Err(Stop::OutOfMemory),
+    }
+}
+
+// The net of a kind over a field without a tower.
+fn over_ring(
+    alloc: Global,
+    ring: &Proved<Ring2k>,
+    signature: &Signature,
+    kind: Kind,
+) -> Result<Net, MakeFault>
+    requires base { IsOfRing kind }
+    requires modulus { modulus_of (ring_of ring.now) ≡ signature.now.modulus }
+    requires wide { AreWide (degree_of (ring_of ring.now)) signature.now.words }
+    ensures made { IfOk result (λ net. IsRingNet kind (degree_of (ring_of ring.now)) (modulus_of (ring_of ring.now)) signature.now net) }
+    ensures plain { IfOk result (λ net. HasPlainNames net) }
+    ensures form { OnOk result (HasRingForm kind signature.now) }
+    ensures unfit { IsErrOf result MakeFault.Unfit → HasRingForm kind signature.now → ⊥ }
+{
+    match kind {
+        Kind::Mastrovito => mastrovito(alloc, ring, signature),
+        Kind::Montgomery => montgomery(alloc, ring, signature),
+        Kind::Squarer => squarer(alloc, ring, signature),
+        Kind::Composite | Kind::Normal | Kind::Adder | Kind::Digit => Err(MakeFault::Unfit),
+    }
+}
+
+// A multiplier in a tower of one step.
+fn over_tower<F: Field>(alloc: Global, field: &F, setting: &Setting) -> Result<Net, Stop>
+    requires wide { AreWide (F.degree field.now) setting.now.signature.words }
+    ensures gives { GivesBy (λ net. net) result (MadeOf (setting_value (F.degree field.now) (F.product field.now) setting.now) Composite) ⊥ ⊥ }
+    ensures plain { IfOk result (λ net. HasPlainNames net) }
+{
+    match tower_field(&setting.signature) {
+        Some(tower) => beside_tower(alloc, field, &tower, setting),
+        None => Err(Stop::Refused(Fault::Form(Kind::Composite))),
+    }
+}
+
+// The same beside the tower, whose degree is that of the setting.
+fn beside_tower<F: Field>(
+    alloc: Global,
+    field: &F,
+    tower: &Proved<Tower<Proved<Ring2k>>>,
+    setting: &Setting,
+) -> Result<Net, Stop>
+    requires wide { AreWide (F.degree field.now) setting.now.signature.words }
+    requires modulus { modulus_of (ring_of (base_of (ring_of tower.now))) ≡ setting.now.signature.modulus }
+    requires tower { coefficients_of (ring_of tower.now) ≡ setting.now.signature.tower }
+    requires one_step { setting.now.signature.upper ≡ [] }
+    ensures gives { GivesBy (λ net. net) result (MadeOf (setting_value (F.degree field.now) (F.product field.now) setting.now) Composite) ⊥ ⊥ }
+    ensures plain { IfOk result (λ net. HasPlainNames net) }
+{
+    if tower.k() != field.k() {
+        return Err(Stop::Refused(Fault::Form(Kind::Composite)));
+    }
+    match composite(alloc, tower, &setting.signature) {
+        Ok(net) => Ok(net),
+        Err(MakeFault::Unfit) => Err(Stop::Refused(Fault::Form(Kind::Composite))),
+        Err(MakeFault::OutOfMemory) => Err(Stop::OutOfMemory),
+    }
+}
+
+// A multiplier in a normal basis.
+fn in_normal_basis<F: Field>(alloc: Global, field: &F, setting: &Setting) -> Result<Net, Stop>
+    requires ready { IsReady (F.degree field.now) (F.product field.now) setting.now }
+    requires wide { AreWide (F.degree field.now) setting.now.signature.words }
+    ensures gives { GivesBy (λ net. net) result (MadeOf (setting_value (F.degree field.now) (F.product field.now) setting.now) Normal) ⊥ ⊥ }
+    ensures plain { IfOk result (λ net. HasPlainNames net) }
+{
+    match first_element(setting.signature.words()) {
+        Some(gamma) => in_basis_of(alloc, field, setting, gamma),
+        None => Err(Stop::Refused(Fault::Form(Kind::Normal))),
+    }
+}
+
+// The element whose normal basis the first word is in.
+fn first_element(words: &[WordText]) -> Option<u64>
+    ensures some { IfSome result (λ gamma. FirstIsNormal words.now gamma) }
+    ensures none { IfNone result ((gamma : ℕ) → FirstIsNormal words.now gamma → ⊥) }
+{
+    match words {
+        [word, ..] => element_of(&word.basis),
+        [] => None,
+    }
+}
+
+// The element of a normal basis.
+fn element_of(text: &BasisText) -> Option<u64>
+    ensures some { IfSome result (λ gamma. text.now ≡ text_basis.Normal gamma) }
+    ensures none { IfNone result ((gamma : ℕ) → text.now ≡ text_basis.Normal gamma → ⊥) }
+{
+    match text {
+        BasisText::Normal { gamma } => Some(*gamma),
+        _ => None,
+    }
+}
+
+// The same multiplier in the normal basis of this element.
+fn in_basis_of<F: Field>(
+    alloc: Global,
+    field: &F,
+    setting: &Setting,
+    gamma: u64,
+) -> Result<Net, Stop>
+    requires ready { IsReady (F.degree field.now) (F.product field.now) setting.now }
+    requires wide { AreWide (F.degree field.now) setting.now.signature.words }
+    requires first { FirstIsNormal setting.now.signature.words gamma }
+    ensures gives { GivesBy (λ net. net) result (MadeOf (setting_value (F.degree field.now) (F.product field.now) setting.now) Normal) ⊥ ⊥ }
+    ensures plain { IfOk result (λ net. HasPlainNames net) }
+{
+    match Basis::normal(field, gamma) {
+        Ok(basis) => beside_basis(alloc, field, setting, gamma, &basis),
+        Err(_) => Err(Stop::Refused(Fault::Form(Kind::Normal))),
+    }
+}
+
+// The same beside the basis.
+fn beside_basis<F: Field>(
+    alloc: Global,
+    field: &F,
+    setting: &Setting,
+    _gamma: u64,
+    basis: &Basis,
+) -> Result<Net, Stop>
+    requires ready { IsReady (F.degree field.now) (F.product field.now) setting.now }
+    requires wide { AreWide (F.degree field.now) setting.now.signature.words }
+    requires first { FirstIsNormal setting.now.signature.words _gamma }
+    requires over { IsBasisOver (F.degree field.now) (F.product field.now) basis.now }
+    requires small { _gamma < 2 ^ F.degree field.now }
+    requires independent { IsIndependent (conjugates_of (F.degree field.now) (F.product field.now) _gamma) }
+    requires elements { elements_of basis.now ≡ conjugates_of (F.degree field.now) (F.product field.now) _gamma }
+    ensures gives { GivesBy (λ net. net) result (MadeOf (setting_value (F.degree field.now) (F.product field.now) setting.now) Normal) ⊥ ⊥ }
+    ensures plain { IfOk result (λ net. HasPlainNames net) }
+{
+    match normal_serial(alloc, field, basis, &setting.signature) {
+        Ok(net) => Ok(net),
+        Err(MakeFault::Unfit) => Err(Stop::Refused(Fault::Form(Kind::Normal))),
+        Err(MakeFault::OutOfMemory) => Err(Stop::OutOfMemory),
+    }
+}
+
+// An adder.
+fn in_any_basis<F: Field>(alloc: Global, field: &F, setting: &Setting) -> Result<Net, Stop>
+    requires wide { AreWide (F.degree field.now) setting.now.signature.words }
+    ensures gives { GivesBy (λ net. net) result (MadeOf (setting_value (F.degree field.now) (F.product field.now) setting.now) Adder) ⊥ ⊥ }
+    ensures plain { IfOk result (λ net. HasPlainNames net) }
+{
+    match adder(alloc, field, &setting.signature) {
+        Ok(net) => Ok(net),
+        Err(MakeFault::Unfit) => Err(Stop::Refused(Fault::Form(Kind::Adder))),
+        Err(MakeFault::OutOfMemory) => Err(Stop::OutOfMemory),
+    }
+}
+
+// A multiplier that is fed digit by digit.
+fn in_digits<F: Field>(alloc: Global, field: &F, setting: &Setting) -> Result<Net, Stop>
+    requires ready { IsReady (F.degree field.now) (F.product field.now) setting.now }
+    ensures gives { GivesBy (λ net. net) result (MadeOf (setting_value (F.degree field.now) (F.product field.now) setting.now) Digit) ⊥ ⊥ }
+    ensures plain { IfOk result (λ net. HasPlainNames net) }
+{
+    match base_field(&setting.signature) {
+        Some(ring) => beside_digits(alloc, field, &ring, setting),
+        None => Err(Stop::Refused(Fault::Form(Kind::Digit))),
+    }
+}
+
+// The same beside the field, whose degree is that of the setting.
+fn beside_digits<F: Field>(
+    alloc: Global,
+    field: &F,
+    ring: &Proved<Ring2k>,
+    setting: &Setting,
+) -> Result<Net, Stop>
+    requires ready { IsReady (F.degree field.now) (F.product field.now) setting.now }
+    requires modulus { modulus_of (ring_of ring.now) ≡ setting.now.signature.modulus }
+    requires no_tower { setting.now.signature.tower ≡ [] }
+    ensures gives { GivesBy (λ net. net) result (MadeOf (setting_value (F.degree field.now) (F.product field.now) setting.now) Digit) ⊥ ⊥ }
+    ensures plain { IfOk result (λ net. HasPlainNames net) }
+{
+    if ring.k() != field.k() {
+        return Err(Stop::Refused(Fault::Form(Kind::Digit)));
+    }
+    match digit_serial(alloc, ring, &setting.signature) {
+        Ok(net) => Ok(net),
+        Err(MakeFault::Unfit) => Err(Stop::Refused(Fault::Form(Kind::Digit))),
+        Err(MakeFault::OutOfMemory) => Err(Stop::OutOfMemory),
+    }
+}

@@ -1,0 +1,155 @@
+use Rattle.std.proofs.Common.{◌≡◌, ◌≤◌, ◌∙◌, ◌++◌, List, ℕ, ap, sym, subst, codes, length, arith}
+use Rattle.outcome.specs.Outcome.{Exactly, Within}
+use Rattle.net_words.specs.Binding.{Binding}
+use Rattle.gf_basis.specs.BasisParts.{elements_of}
+use Rattle.poly_mixed.specs.Labels.{Labelling}
+use Rattle.poly_mixed.specs.Polynomial.{Terms}
+use Rattle.poly_mixed.specs.Text.{text, HasNames, HasWordNames}
+use Rattle.circuit_model.specs.OfBinding.{output_basis}
+use Rattle.stage_model.specs.CircuitListing.{bound_cuts}
+use Rattle.stage_model.specs.Cut.{BoundCut}
+use Rattle.stage_model.specs.Listing.{AreAllWithin, IsRefusal}
+use Rattle.stage_model.specs.Stage.{IsOfStage}
+use Rattle.stage_model.specs.WordListing.{word_listing}
+use Rattle.stage_model.proofs.ListingLemmas.{both_within}
+use Rattle.job_words.specs.declared.fault.Fault.TheVariants as faults
+use Rattle.job_words.proofs.StepLemmas.{stops}
+use Rattle.job_input.specs.Labelling.{labels_of, word_labels}
+use Rattle.job_input.specs.Setting.{elements_of_each}
+use Rattle.job_input.specs.SettingValue.{SettingValue}
+use Rattle.answer_core.specs.Reply.{reply_of, prints}
+use Rattle.answer_core.specs.Abstraction.{bits_stages, taken_circuit, IsInWords, AbstractOf}
+use Rattle.answer_core.specs.StageStop.{IsNamed, IsStageStop}
+use Rattle.answer_core.proofs.RefusalLemmas.{earlier_refused, later_refused, cuts_named, words_named}
+use Rattle.answer_core.proofs.StageLemmas.{IsJob, whole, based, few, no_words, terms_named}
+use Rattle.answer_core.proofs.WordNamesLemmas.{mix_words_named}
+use Rattle.job_input.proofs.CountLemmas.{as_many}
+use Rattle.answer_polynomials.proofs.abstraction.reply.Goals as goal
+
+pub stage_stop-requires : goal.stage_stop-requires
+stage_stop-requires g c =
+    let degree = g.F.Ring.degree c.args.field.now in
+    let mul = g.F.Ring.product c.args.field.now in
+    let elements = elements_of c.output_basis-basis.result.now in
+    cuts_named degree mul c.args.circuit.now elements (length c.in_ok-labels.labels.words) c.args.bound c.in-Err.fault c.in-Err.ensures.fault
+
+pub returns-in-Err : goal.returns-in-Err
+returns-in-Err g c =
+    let degree = g.F.Ring.degree c.args.field.now in
+    let mul = g.F.Ring.product c.args.field.now in
+    let circuit = c.args.circuit.now in
+    let bases = c.args.bases.now in
+    let basis : elements_of c.output_basis-basis.result.now ≡ output_basis circuit.binding.words (elements_of_each bases) =
+    c.output_basis-basis.ensures.basis ∙ ap (λ (b : Binding). output_basis b.words (elements_of_each bases)) c.binding.ensures.binding in
+    let setting : SettingValue = record { signature = c.args.signature.now; k = degree; product = mul; bases = elements_of_each bases } in
+    let same : c.in_ok-labels.labels ≡ labels_of degree c.args.signature.now.words = c.in_ok-labels.ensures ∙ (λ i. labels_of (c.k.ensures i) (c.words.ensures i)) in
+    let R : List ℕ → Type 0 = λ e. IsRefusal degree mul (bound_cuts circuit e) c.args.bound c.in-Err.fault in
+    let refusal = subst R basis c.in-Err.ensures.fault in
+    let S : Labelling → Type 0 = λ l. IsStageStop l c.in-Err.fault c.args.bound c.stage_stop.result in
+    let stop = subst S same c.stage_stop.ensures in
+    let view : Terms → Terms = λ ts. ts in
+    stops view reply_of c.stage_stop.result (Within faults.Stage (AbstractOf setting circuit c.args.bound)) (λ ts. Exactly (prints setting ts)) ⊥ ⊥ ⊥ ⊥ (λ m. m) (λ f. f)
+    (earlier_refused degree mul view c.args.bound (IsInWords setting circuit) (bits_stages setting circuit) (word_listing (taken_circuit setting circuit)) (labels_of degree c.args.signature.now.words) c.in-Err.fault c.stage_stop.result refusal stop)
+
+pub to_words-requires-clause-bits : goal.to_words-requires-clause-bits
+to_words-requires-clause-bits g c =
+    let degree = g.F.Ring.degree c.args.field.now in
+    let mul = g.F.Ring.product c.args.field.now in
+    let circuit = c.args.circuit.now in
+    let bases = c.args.bases.now in
+    let job : IsJob degree mul circuit bases = record { ring = g.met.F.Ring.laws c.args.field.now; nozero = g.met.F.Field.no_zero_divisors c.args.field.now; sound = c.binding.ensures.sound; bound = c.binding.ensures.is_bound; flat = c.binding.ensures.flat; same = c.requires.bits; over = c.requires.over; long = c.requires.long } in
+    let basis : elements_of c.output_basis-basis.result.now ≡ output_basis circuit.binding.words (elements_of_each bases) =
+    c.output_basis-basis.ensures.basis ∙ ap (λ (b : Binding). output_basis b.words (elements_of_each bases)) c.binding.ensures.binding in
+    let L : List ℕ → Type 0 = λ e. IsOfStage degree mul (BoundCut circuit e (length circuit.net.gates)) c.in-Ok.bits.terms in
+    no_words degree mul circuit bases job c.in-Ok.bits.terms (subst L basis c.in-Ok.ensures.last)
+
+pub to_words-requires-clause-few : goal.to_words-requires-clause-few
+to_words-requires-clause-few g c =
+    let degree = g.F.Ring.degree c.args.field.now in
+    let mul = g.F.Ring.product c.args.field.now in
+    let circuit = c.args.circuit.now in
+    let bases = c.args.bases.now in
+    let job : IsJob degree mul circuit bases = record { ring = g.met.F.Ring.laws c.args.field.now; nozero = g.met.F.Field.no_zero_divisors c.args.field.now; sound = c.binding.ensures.sound; bound = c.binding.ensures.is_bound; flat = c.binding.ensures.flat; same = c.requires.bits; over = c.requires.over; long = c.requires.long } in
+    let basis : elements_of c.output_basis-basis.result.now ≡ output_basis circuit.binding.words (elements_of_each bases) =
+    c.output_basis-basis.ensures.basis ∙ ap (λ (b : Binding). output_basis b.words (elements_of_each bases)) c.binding.ensures.binding in
+    let L : List ℕ → Type 0 = λ e. IsOfStage degree mul (BoundCut circuit e (length circuit.net.gates)) c.in-Ok.bits.terms in
+    let W : List ℕ → Type 0 = λ e. AreAllWithin degree mul (bound_cuts circuit e) c.args.bound in
+    let within = subst W basis c.in-Ok.ensures.within in
+    let small : length c.in-Ok.bits.terms ≤ c.args.bound = few degree mul circuit bases job c.args.bound c.in-Ok.bits.terms (subst L basis c.in-Ok.ensures.last) within in
+    omega (arith, small, c.ranges.bound.fits)
+
+pub stage_stop-requires-in-Err-to_words : goal.stage_stop-requires-in-Err-to_words
+stage_stop-requires-in-Err-to_words g c =
+    let degree = g.F.Ring.degree c.args.field.now in
+    let mul = g.F.Ring.product c.args.field.now in
+    let circuit = c.args.circuit.now in
+    let bases = c.args.bases.now in
+    let job : IsJob degree mul circuit bases = record { ring = g.met.F.Ring.laws c.args.field.now; nozero = g.met.F.Field.no_zero_divisors c.args.field.now; sound = c.binding.ensures.sound; bound = c.binding.ensures.is_bound; flat = c.binding.ensures.flat; same = c.requires.bits; over = c.requires.over; long = c.requires.long } in
+    let same : c.in_ok-labels.labels ≡ labels_of degree c.args.signature.now.words = c.in_ok-labels.ensures ∙ (λ i. labels_of (c.k.ensures i) (c.words.ensures i)) in
+    let circuit' = whole degree mul circuit bases job in
+    let count : length circuit'.words ≡ length (word_labels degree c.args.signature.now.words) = as_many degree circuit.binding.words c.args.signature.now.words (elements_of_each bases) (based degree mul circuit bases job).long c.requires.roles in
+    let is = words_named degree mul circuit' (length (word_labels degree c.args.signature.now.words)) c.args.bound c.in-Err-to_words.fault count c.in-Err-to_words.ensures.fault in
+    let Q : Labelling → Type 0 = λ l. IsNamed (length l.words) c.in-Err-to_words.fault in
+    subst Q (sym same) is
+
+pub returns-in-Err-to_words : goal.returns-in-Err-to_words
+returns-in-Err-to_words g c =
+    let degree = g.F.Ring.degree c.args.field.now in
+    let mul = g.F.Ring.product c.args.field.now in
+    let circuit = c.args.circuit.now in
+    let bases = c.args.bases.now in
+    let basis : elements_of c.output_basis-basis.result.now ≡ output_basis circuit.binding.words (elements_of_each bases) =
+    c.output_basis-basis.ensures.basis ∙ ap (λ (b : Binding). output_basis b.words (elements_of_each bases)) c.binding.ensures.binding in
+    let setting : SettingValue = record { signature = c.args.signature.now; k = degree; product = mul; bases = elements_of_each bases } in
+    let same : c.in_ok-labels.labels ≡ labels_of degree c.args.signature.now.words = c.in_ok-labels.ensures ∙ (λ i. labels_of (c.k.ensures i) (c.words.ensures i)) in
+    let W : List ℕ → Type 0 = λ e. AreAllWithin degree mul (bound_cuts circuit e) c.args.bound in
+    let within = subst W basis c.in-Ok.ensures.within in
+    let refusal = c.in-Err-to_words.ensures.fault in
+    let S : Labelling → Type 0 = λ l. IsStageStop l c.in-Err-to_words.fault c.args.bound c.stage_stop-in-Err-to_words.result in
+    let stop = subst S same c.stage_stop-in-Err-to_words.ensures in
+    let view : Terms → Terms = λ ts. ts in
+    stops view reply_of c.stage_stop-in-Err-to_words.result (Within faults.Stage (AbstractOf setting circuit c.args.bound)) (λ ts. Exactly (prints setting ts)) ⊥ ⊥ ⊥ ⊥ (λ m. m) (λ f. f)
+    (later_refused degree mul view c.args.bound (IsInWords setting circuit) (bits_stages setting circuit) (word_listing (taken_circuit setting circuit)) (labels_of degree c.args.signature.now.words) c.in-Err-to_words.fault c.stage_stop-in-Err-to_words.result within refusal stop)
+
+pub polynomial_line-requires-clause-named : goal.polynomial_line-requires-clause-named
+polynomial_line-requires-clause-named g c =
+    let degree = g.F.Ring.degree c.args.field.now in
+    let mul = g.F.Ring.product c.args.field.now in
+    let circuit = c.args.circuit.now in
+    let bases = c.args.bases.now in
+    let job : IsJob degree mul circuit bases = record { ring = g.met.F.Ring.laws c.args.field.now; nozero = g.met.F.Field.no_zero_divisors c.args.field.now; sound = c.binding.ensures.sound; bound = c.binding.ensures.is_bound; flat = c.binding.ensures.flat; same = c.requires.bits; over = c.requires.over; long = c.requires.long } in
+    let same : c.in_ok-labels.labels ≡ labels_of degree c.args.signature.now.words = c.in_ok-labels.ensures ∙ (λ i. labels_of (c.k.ensures i) (c.words.ensures i)) in
+    let names = terms_named degree mul circuit bases job c.args.signature.now.words c.in-Ok-to_words.poly.terms c.in-Ok-to_words.ensures.words in
+    let Q : Labelling → Type 0 = λ l. HasNames l c.in-Ok-to_words.poly.terms in
+    subst Q (sym same) names
+
+pub polynomial_line-requires-clause-words_named : goal.polynomial_line-requires-clause-words_named
+polynomial_line-requires-clause-words_named g c =
+    let degree = g.F.Ring.degree c.args.field.now in
+    let mul = g.F.Ring.product c.args.field.now in
+    let circuit = c.args.circuit.now in
+    let bases = c.args.bases.now in
+    let job : IsJob degree mul circuit bases = record { ring = g.met.F.Ring.laws c.args.field.now; nozero = g.met.F.Field.no_zero_divisors c.args.field.now; sound = c.binding.ensures.sound; bound = c.binding.ensures.is_bound; flat = c.binding.ensures.flat; same = c.requires.bits; over = c.requires.over; long = c.requires.long } in
+    let same : c.in_ok-labels.labels ≡ labels_of degree c.args.signature.now.words = c.in_ok-labels.ensures ∙ (λ i. labels_of (c.k.ensures i) (c.words.ensures i)) in
+    let names = mix_words_named degree mul circuit bases job c.args.signature.now.words c.in-Ok-to_words.poly.terms c.requires.roles c.in-Ok-to_words.ensures.words in
+    let Q : Labelling → Type 0 = λ l. HasWordNames l c.in-Ok-to_words.poly.terms in
+    subst Q (sym same) names
+
+pub returns : goal.returns
+returns g c =
+    let degree = g.F.Ring.degree c.args.field.now in
+    let mul = g.F.Ring.product c.args.field.now in
+    let circuit = c.args.circuit.now in
+    let bases = c.args.bases.now in
+    let basis : elements_of c.output_basis-basis.result.now ≡ output_basis circuit.binding.words (elements_of_each bases) =
+    c.output_basis-basis.ensures.basis ∙ ap (λ (b : Binding). output_basis b.words (elements_of_each bases)) c.binding.ensures.binding in
+    let setting : SettingValue = record { signature = c.args.signature.now; k = degree; product = mul; bases = elements_of_each bases } in
+    let same : c.in_ok-labels.labels ≡ labels_of degree c.args.signature.now.words = c.in_ok-labels.ensures ∙ (λ i. labels_of (c.k.ensures i) (c.words.ensures i)) in
+    let W : List ℕ → Type 0 = λ e. AreAllWithin degree mul (bound_cuts circuit e) c.args.bound in
+    let within = subst W basis c.in-Ok.ensures.within in
+    let words = c.in-Ok-to_words.ensures.within in
+    let ts = c.in-Ok-to_words.poly.terms in (
+      ts,
+      (c.in-Ok-to_words.ensures.words, both_within degree mul (bits_stages setting circuit) (word_listing (taken_circuit setting circuit)) c.args.bound within words),
+      ap (λ (t : List ℕ). record { status = 0; text = t }) (c.in_ok-text.ensures ∙ ap (λ (l : Labelling). l.output ++ (codes " = " ++ (text l ts ++ codes "\n"))) same),
+    )

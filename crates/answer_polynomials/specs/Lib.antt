@@ -1,0 +1,6 @@
+pub mod Values
+pub mod Bits
+pub mod Abstract
+pub mod Check
+pub mod Same
+pub mod Eval

@@ -1,0 +1,123 @@
+//! The command `eval`: the output word's element where the words have given elements.
+ghost use Rattle.std.specs.Prelude.{◌≡◌, ◌≤◌, ◌<◌, ◌^◌, ℕ, length, map, string_bytes, IfOk};
+ghost use Rattle.lists.specs.Lists.{Has};
+ghost use Rattle.job_io.specs.Counts.{Rose};
+ghost use Rattle.circuit_model.specs.Out.{IsOut};
+ghost use Rattle.job_words.specs.Stop.{GivesBy};
+ghost use Rattle.job_input.specs.Labelling.{labels_of};
+ghost use Rattle.job_input.specs.Setting.{setting_value, IsReady, IsTakenFor};
+ghost use Rattle.answer_core.specs.Reply.{reply_of};
+ghost use Rattle.answer_core.specs.Abstraction.{taken_circuit};
+ghost use Rattle.answer_polynomials.specs.Eval.{EvalReply, EvalAt, EvalOver, EvalAnswer};
+
+use crate::values::read_values;
+use answer_core::{Output, add_word, labels};
+use gf_field::Field;
+use job_input::{BoundNetlist, Setting, read_netlist, unroll_netlist};
+use job_io::Shelf;
+use job_words::{EvalWords, Stop};
+use net_words::Combinational;
+use poly_mixed::Labels;
+use std::alloc::{AllocError, Global};
+
+/// What the command answers over a setting and its netlist's file.
+pub fn answer<F: Field, S: Shelf>(
+    alloc: Global,
+    field: &F,
+    setting: &Setting,
+    words: &EvalWords,
+    shelf: &mut S,
+) -> Result<Output, Stop>
+    requires { IsReady (F.degree field.now) (F.product field.now) setting.now }
+    ensures held { S.held shelf.new ≡ S.held shelf.old }
+    ensures never_fall { (S.faults shelf.old ≤ S.faults shelf.new) × (S.misses shelf.old ≤ S.misses shelf.new) }
+    ensures gives { GivesBy reply_of result (EvalAnswer (S.held shelf.old) (setting_value (F.degree field.now) (F.product field.now) setting.now) words.now.net.now (map string_bytes words.now.values.now) words.now.cycles)
+        (Rose (S.misses shelf.old) (S.misses shelf.new)) (Rose (S.faults shelf.old) (S.faults shelf.new)) }
+{
+    match read_netlist(alloc, shelf, setting, words.net) {
+        Ok(netlist) => over(alloc, field, setting, words, netlist),
+        Err(stop) => Err(stop),
+    }
+}
+
+// The same over the netlist: the values are taken.
+fn over<F: Field>(
+    alloc: Global,
+    field: &F,
+    setting: &Setting,
+    words: &EvalWords,
+    netlist: BoundNetlist,
+) -> Result<Output, Stop>
+    requires ready { IsReady (F.degree field.now) (F.product field.now) setting.now }
+    requires taken { IsTakenFor (F.degree field.now) setting.now netlist }
+    ensures { GivesBy reply_of result (EvalOver (setting_value (F.degree field.now) (F.product field.now) setting.now) words.now.net.now netlist (map string_bytes words.now.values.now) words.now.cycles) ⊥ ⊥ }
+{
+    let labels = labels(alloc, field, setting)?;
+    match read_values(alloc, field, labels.words(), words.values) {
+        Ok(xs) => at(alloc, field, setting, &labels, words, netlist, &xs),
+        Err(stop) => Err(stop),
+    }
+}
+
+// The same at an input: the cycles are unrolled.
+fn at<F: Field>(
+    alloc: Global,
+    field: &F,
+    setting: &Setting,
+    labels: &Labels,
+    words: &EvalWords,
+    netlist: BoundNetlist,
+    xs: &[u64],
+) -> Result<Output, Stop>
+    requires ready { IsReady (F.degree field.now) (F.product field.now) setting.now }
+    requires taken { IsTakenFor (F.degree field.now) setting.now netlist }
+    requires labels { labels.now ≡ labels_of (F.degree field.now) setting.now.signature.words }
+    requires long { length xs.now ≡ length labels.now.words }
+    requires elements { (x : ℕ) → Has xs.now x → x < 2 ^ F.degree field.now }
+    ensures { GivesBy reply_of result (EvalAt (setting_value (F.degree field.now) (F.product field.now) setting.now) words.now.net.now netlist xs.now words.now.cycles) ⊥ ⊥ }
+{
+    match unroll_netlist(alloc, words.net, netlist, words.cycles) {
+        Ok(circuit) => reply(alloc, field, setting, labels, &circuit, xs),
+        Err(stop) => Err(stop),
+    }
+}
+
+// The line of the output at an input.
+fn reply<F: Field>(
+    alloc: Global,
+    field: &F,
+    setting: &Setting,
+    labels: &Labels,
+    circuit: &Combinational,
+    xs: &[u64],
+) -> Result<Output, Stop>
+    requires ready { IsReady (F.degree field.now) (F.product field.now) setting.now }
+    requires taken { IsTakenFor (F.degree field.now) setting.now circuit.now }
+    requires labels { labels.now ≡ labels_of (F.degree field.now) setting.now.signature.words }
+    requires long { length xs.now ≡ length labels.now.words }
+    requires elements { (x : ℕ) → Has xs.now x → x < 2 ^ F.degree field.now }
+    ensures { GivesBy reply_of result (EvalReply (setting_value (F.degree field.now) (F.product field.now) setting.now) circuit.now xs.now) ⊥ ⊥ }
+{
+    let element = output_at(alloc, field, setting, circuit, xs)?;
+    let mut text = Vec::new(alloc);
+    add_word(alloc, &mut text, labels.output(), element)?;
+    Ok(Output { status: 0, text })
+}
+
+// The output at an input, gate by gate.
+fn output_at<F: Field>(
+    alloc: Global,
+    field: &F,
+    setting: &Setting,
+    circuit: &Combinational,
+    xs: &[u64],
+) -> Result<u64, AllocError>
+    requires ready { IsReady (F.degree field.now) (F.product field.now) setting.now }
+    requires taken { IsTakenFor (F.degree field.now) setting.now circuit.now }
+    requires long { length xs.now ≡ length (labels_of (F.degree field.now) setting.now.signature.words).words }
+    requires elements { (x : ℕ) → Has xs.now x → x < 2 ^ F.degree field.now }
+    ensures { IfOk result (IsOut (taken_circuit (setting_value (F.degree field.now) (F.product field.now) setting.now) circuit.now) xs.now) }
+{
+    let element = lift_table::output_at(alloc, field, circuit, setting.bases.as_slice(), xs)?;
+    Ok(element)
+}

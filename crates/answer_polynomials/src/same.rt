@@ -1,0 +1,197 @@
+//! The command `same`: whether two netlists compute one function, or the input at which they are told apart.
+ghost use Rattle.std.specs.Prelude.{◌≡◌, ◌≤◌, ◌++◌, codes, length, take, IfOk};
+ghost use Rattle.outcome.specs.Outcome.{Within};
+ghost use Rattle.job_io.specs.Counts.{Rose};
+ghost use Rattle.job_words.specs.Stop.{GivesBy};
+ghost use Rattle.job_words.specs.declared.fault.Fault.TheVariants.{Stage};
+ghost use Rattle.job_input.specs.Labelling.{labels_of};
+ghost use Rattle.job_input.specs.Setting.{setting_value, IsReady, IsTakenFor};
+ghost use Rattle.spec_compare.specs.Verdict.{comparison_of};
+ghost use Rattle.answer_core.specs.DifferingLines.{differing_lines};
+ghost use Rattle.answer_core.specs.Reply.{reply_of};
+ghost use Rattle.answer_polynomials.specs.Same.{SameOf, SameReply, SameSecond, SameUnrolled, SameBeside, SameAnswer, same_reply};
+
+use crate::second_stages::second_stage_stop;
+use answer_core::{Output, add_difference, last_cut, stage_stop};
+use gf_field::Field;
+use job_input::{BoundNetlist, Setting, labels_for, read_netlist, unroll_netlist};
+use job_io::Shelf;
+use job_words::{PairWords, Stop};
+use net_words::Combinational;
+use poly_mixed::{Labels, NoSteps};
+use spec_compare::{Verdict, compare};
+use std::alloc::{AllocError, Global};
+
+/// What the command answers over a setting and the files of its two netlists.
+pub fn answer<F: Field, S: Shelf>(
+    alloc: Global,
+    field: &F,
+    setting: &Setting,
+    words: &PairWords,
+    shelf: &mut S,
+) -> Result<Output, Stop>
+    requires { IsReady (F.degree field.now) (F.product field.now) setting.now }
+    ensures held { S.held shelf.new ≡ S.held shelf.old }
+    ensures never_fall { (S.faults shelf.old ≤ S.faults shelf.new) × (S.misses shelf.old ≤ S.misses shelf.new) }
+    ensures gives { GivesBy reply_of result (SameAnswer (S.held shelf.old) (setting_value (F.degree field.now) (F.product field.now) setting.now) words.now.net.now words.now.other.now words.now.terms words.now.cycles)
+        (Rose (S.misses shelf.old) (S.misses shelf.new)) (Rose (S.faults shelf.old) (S.faults shelf.new)) }
+{
+    match read_netlist(alloc, shelf, setting, words.net) {
+        Ok(netlist) => beside(alloc, field, setting, words, netlist, shelf),
+        Err(stop) => Err(stop),
+    }
+}
+
+// The same beside the first netlist, of the second netlist's file.
+fn beside<F: Field, S: Shelf>(
+    alloc: Global,
+    field: &F,
+    setting: &Setting,
+    words: &PairWords,
+    netlist: BoundNetlist,
+    shelf: &mut S,
+) -> Result<Output, Stop>
+    requires ready { IsReady (F.degree field.now) (F.product field.now) setting.now }
+    requires taken { IsTakenFor (F.degree field.now) setting.now netlist }
+    ensures held { S.held shelf.new ≡ S.held shelf.old }
+    ensures never_fall { (S.faults shelf.old ≤ S.faults shelf.new) × (S.misses shelf.old ≤ S.misses shelf.new) }
+    ensures gives { GivesBy reply_of result (SameBeside (S.held shelf.old) (setting_value (F.degree field.now) (F.product field.now) setting.now) words.now.net.now netlist words.now.other.now words.now.terms words.now.cycles)
+        (Rose (S.misses shelf.old) (S.misses shelf.new)) (Rose (S.faults shelf.old) (S.faults shelf.new)) }
+{
+    match read_netlist(alloc, shelf, setting, words.other) {
+        Ok(second) => unrolled(alloc, field, setting, words, netlist, second),
+        Err(stop) => Err(stop),
+    }
+}
+
+// The same over two netlists: the cycles of the first are unrolled.
+fn unrolled<F: Field>(
+    alloc: Global,
+    field: &F,
+    setting: &Setting,
+    words: &PairWords,
+    netlist: BoundNetlist,
+    second: BoundNetlist,
+) -> Result<Output, Stop>
+    requires ready { IsReady (F.degree field.now) (F.product field.now) setting.now }
+    requires first { IsTakenFor (F.degree field.now) setting.now netlist }
+    requires second { IsTakenFor (F.degree field.now) setting.now second }
+    ensures { GivesBy reply_of result (SameUnrolled (setting_value (F.degree field.now) (F.product field.now) setting.now) words.now.net.now netlist words.now.other.now second words.now.terms words.now.cycles) ⊥ ⊥ }
+{
+    match unroll_netlist(alloc, words.net, netlist, words.cycles) {
+        Ok(circuit) => second_unrolled(alloc, field, setting, words, &circuit, second),
+        Err(stop) => Err(stop),
+    }
+}
+
+// The same beside the first circuit: the cycles of the second netlist are unrolled.
+fn second_unrolled<F: Field>(
+    alloc: Global,
+    field: &F,
+    setting: &Setting,
+    words: &PairWords,
+    circuit: &Combinational,
+    second: BoundNetlist,
+) -> Result<Output, Stop>
+    requires ready { IsReady (F.degree field.now) (F.product field.now) setting.now }
+    requires first { IsTakenFor (F.degree field.now) setting.now circuit.now }
+    requires second { IsTakenFor (F.degree field.now) setting.now second }
+    ensures { GivesBy reply_of result (SameSecond (setting_value (F.degree field.now) (F.product field.now) setting.now) circuit.now words.now.other.now second words.now.terms words.now.cycles) ⊥ ⊥ }
+{
+    match unroll_netlist(alloc, words.other, second, words.cycles) {
+        Ok(more) => reply(alloc, field, setting, circuit, &more, words.terms),
+        Err(stop) => Err(stop),
+    }
+}
+
+// The reply over two circuits, or the first cut of more than `bound` terms.
+fn reply<F: Field>(
+    alloc: Global,
+    field: &F,
+    setting: &Setting,
+    circuit: &Combinational,
+    other: &Combinational,
+    bound: u32,
+) -> Result<Output, Stop>
+    requires ready { IsReady (F.degree field.now) (F.product field.now) setting.now }
+    requires first { IsTakenFor (F.degree field.now) setting.now circuit.now }
+    requires second { IsTakenFor (F.degree field.now) setting.now other.now }
+    ensures { GivesBy reply_of result (SameReply (setting_value (F.degree field.now) (F.product field.now) setting.now) circuit.now other.now bound) ⊥ ⊥ }
+{
+    let labels = labels_for(alloc, setting.signature.words(), field.k())?;
+    match verdict(alloc, field, setting, &labels, circuit, other, bound) {
+        Ok(verdict) => {
+            let output = output(alloc, &labels, &verdict)?;
+            Ok(output)
+        }
+        Err(stop) => Err(stop),
+    }
+}
+
+// The verdict on the outputs of two circuits, or the first cut of more than `bound` terms.
+fn verdict<F: Field>(
+    alloc: Global,
+    field: &F,
+    setting: &Setting,
+    labels: &Labels,
+    circuit: &Combinational,
+    other: &Combinational,
+    bound: u32,
+) -> Result<Verdict, Stop>
+    requires ready { IsReady (F.degree field.now) (F.product field.now) setting.now }
+    requires first { IsTakenFor (F.degree field.now) setting.now circuit.now }
+    requires second { IsTakenFor (F.degree field.now) setting.now other.now }
+    requires labels { labels.now ≡ labels_of (F.degree field.now) setting.now.signature.words }
+    ensures { GivesBy (comparison_of (length labels.now.words)) result (Within Stage (SameOf (setting_value (F.degree field.now) (F.product field.now) setting.now) circuit.now other.now bound)) ⊥ ⊥ }
+{
+    let left = match last_cut(alloc, field, setting, circuit, bound, &mut NoSteps) {
+        Ok(left) => left,
+        Err(fault) => return Err(stage_stop(alloc, labels, fault, bound)),
+    };
+    let right = match last_cut(alloc, field, setting, other, bound, &mut NoSteps) {
+        Ok(right) => right,
+        Err(fault) => return Err(second_stage_stop(alloc, labels, fault, bound)),
+    };
+    let verdict = compare(
+        alloc,
+        field,
+        circuit,
+        setting.bases.as_slice(),
+        &left,
+        &right,
+    )?;
+    Ok(verdict)
+}
+
+// What is written of a verdict.
+fn output(alloc: Global, labels: &Labels, verdict: &Verdict) -> Result<Output, AllocError>
+    ensures { IfOk result (λ output. reply_of output ≡ same_reply labels.now (comparison_of (length labels.now.words) verdict.now)) }
+{
+    match verdict {
+        Verdict::Same => {
+            let text = Vec::from_slice(alloc, b"same\n")?;
+            Ok(Output { status: 0, text })
+        }
+        Verdict::Differ { input, left, right } => {
+            let text = differ_text(alloc, labels, input, *left, *right)?;
+            Ok(Output { status: 1, text })
+        }
+    }
+}
+
+// The text where two functions are told apart.
+fn differ_text(
+    alloc: Global,
+    labels: &Labels,
+    input: &[u64; 8],
+    left: u64,
+    right: u64,
+) -> Result<Vec<u8>, AllocError>
+    ensures { IfOk result (λ text. text.items ≡ codes "differ\n" ++ differing_lines labels.now (codes "first") (codes "second") (record { input = take (length labels.now.words) input.now; left = left; right = right })) }
+{
+    let mut text = Vec::from_slice(alloc, b"differ\n")?;
+    add_difference(
+        alloc, &mut text, labels, input, "first", left, "second", right,
+    )?;
+    Ok(text)
+}

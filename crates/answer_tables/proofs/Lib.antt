@@ -1,0 +1,4 @@
+pub mod HexLemmas
+pub mod ReadBackLemmas
+pub mod TableLemmas
+pub mod IsoLemmas

@@ -1,5 +1,0 @@
-use Rattle.std.proofs.Common.{◌≡◌, None, replicate}
-use Rattle.block_plan.proofs.circuits.no_circuits.Given as goal
-
-abbrev pub invariant-loop : goal.invariant-loop
-invariant-loop l = l.circuits.items ≡ replicate l.counter None

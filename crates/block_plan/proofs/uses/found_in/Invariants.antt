@@ -1,6 +1,0 @@
-use Rattle.block_plan.proofs.uses.found_in.Given as goal
-use Rattle.block_plan.proofs.Walked.{IsWalked}
-
--- the lines so far are walked
-abbrev pub invariant-loop-place : goal.invariant-loop-place
-invariant-loop-place l = IsWalked l.design l.blocks l.items l.place l.list.items

@@ -1,6 +1,0 @@
-pub mod ForEach
-pub mod Structure
-pub mod Uses
-pub mod Plan
-pub mod Planned
-pub mod private

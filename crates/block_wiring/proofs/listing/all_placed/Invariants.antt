@@ -1,6 +1,0 @@
-use Rattle.std.proofs.Common.{take}
-use Rattle.block_wiring.specs.private.Plain.{ArePlaced}
-use Rattle.block_wiring.proofs.listing.all_placed.Given as goal
-
-abbrev pub invariant-loop-instance : goal.invariant-loop-instance
-invariant-loop-instance l = ArePlaced l.blocks l.numbers (take l.instance l.connections) l.list.items

@@ -1,6 +1,0 @@
-use Rattle.std.proofs.Common.{◌≡◌, drop, map}
-use Rattle.block_wiring.specs.private.Names.{same_names}
-use Rattle.block_wiring.proofs.nets.are_same.Given as goal
-
-abbrev pub invariant-loop-place : goal.invariant-loop-place
-invariant-loop-place l = same_names (map (λ name. name.now) l.a) (map (λ name. name.now) l.b) ≡ same_names (drop l.place (map (λ name. name.now) l.a)) (drop l.place (map (λ name. name.now) l.b))

@@ -1,0 +1,49 @@
+//! Faults of tops of instances.
+ghost use Rattle.std.specs.Prelude.{◌≡◌};
+ghost use Rattle.compose_blocks.specs.declared.plan_fault.PlanFault.TheVariants.{OutOfMemory};
+
+use net_core::Name;
+use std::alloc::{AllocError, AllocFailed};
+use thiserror::Error;
+
+/// Why a top can't be taken as instances of blocks.
+#[derive(Debug, Drop, Error)]
+pub enum PlanFault {
+    /// A word of the top is fed, or a line feeds a net.
+    #[error("a feed in the top")]
+    FedInTop,
+    /// The line of the top's first gate or latch.
+    #[error("a gate or latch at line {line} of the top")]
+    GateInTop { line: u32 },
+    /// No block is of the model of an instance.
+    #[error("a model without a block")]
+    NoBlock { model: Name },
+    /// The model of a block, flattened alone, is no net.
+    #[error("a block that is no net")]
+    BlockNet { model: Name },
+    /// The net of a block has a latch.
+    #[error("a block with a latch")]
+    BlockLatch { model: Name },
+    /// The words of a block do not bind to its net.
+    #[error("a block that does not bind")]
+    BlockBind { model: Name },
+    /// Out of memory.
+    #[error("out of memory")]
+    OutOfMemory,
+}
+
+impl From<AllocError> for PlanFault {
+    ghost from_gives = { λ _ e. e ≡ OutOfMemory };
+
+    fn from(_error: AllocError) -> PlanFault {
+        PlanFault::OutOfMemory
+    }
+}
+
+impl<T: Drop> From<AllocFailed<T>> for PlanFault {
+    ghost from_gives = { λ _ e. e ≡ OutOfMemory };
+
+    fn from(_error: AllocFailed<T>) -> PlanFault {
+        PlanFault::OutOfMemory
+    }
+}

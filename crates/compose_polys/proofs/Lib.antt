@@ -1,0 +1,18 @@
+pub mod Summed
+pub mod SquareLemmas
+pub mod LeftLemmas
+pub mod PowerLemmas
+pub mod ValueLemmas
+pub mod StageLemmas
+mod InstanceExamples
+pub mod FeedLemmas
+pub mod OrderLemmas
+mod FeedExamples
+pub mod LevelLemmas
+pub mod KeyLemmas
+pub mod AfterLemmas
+mod LevelExamples
+pub mod WiredLemmas
+pub mod PointLemmas
+pub mod ComposedLemmas
+pub mod OrderedLemmas

@@ -1,0 +1,4 @@
+pub mod Square
+pub mod Reached
+pub mod Keys
+pub mod Rows

@@ -1,0 +1,52 @@
+//! The polynomial of an instance.
+ghost use Rattle.std.specs.Prelude.{◌<◌, ◌^◌, length, map, IfErr, IfOk, OnOk};
+ghost use Rattle.poly_mixed.specs.Polynomial.{IsPolynomialOf, IsReduced, value};
+ghost use Rattle.poly_mixed.specs.laws.Uniqueness.{InFirstWords};
+ghost use Rattle.stage_model.specs.First.{InFirstRanks};
+ghost use Rattle.stage_model.specs.Listing.{AreAllWithin, IsRefusal};
+ghost use Rattle.compose_polys.specs.Instance.{block_terms, feed_values, point_of, AreReduced};
+ghost use Rattle.compose_polys.specs.InstanceListing.{instance_listing};
+
+use crate::factors::one_term;
+use gf_field::Field;
+use poly_mixed::{Poly, ReduceFault, Stage, check_size};
+use std::alloc::Global;
+
+/// The polynomial of an instance, or the first stage over the bound.
+///
+/// The block's polynomial is in its input words alone, and there is one feed for each of these words, in their order: the
+/// polynomial of what feeds it. The factors of a term are, for each word in order and each binary one j of its exponent from
+/// the lowest, what feeds the word to the power 2^j; a term has its products with its first factors as stages, and then the
+/// sum of the terms up to it, terms being taken in the order of a text. `TooManyTerms` comes exactly at the first stage of
+/// more than `bound` terms, with that number.
+pub fn instance_poly<F: Field>(
+    alloc: Global,
+    field: &F,
+    instance: u32,
+    block: &Poly,
+    feeds: &[&Poly],
+    bound: u32,
+) -> Result<Poly, ReduceFault>
+    requires block { IsReduced (F.degree field.now) block.now.terms }
+    requires words { InFirstWords (length feeds.now) block.now.terms }
+    requires no_bits { InFirstRanks 0 block.now.terms }
+    requires few { length block.now.terms < 2 ^ 32 }
+    requires feeds { AreReduced (F.degree field.now) (map (λ f. f.now.terms) feeds.now) }
+    ensures polynomial { IfOk result (λ q. IsPolynomialOf (F.degree field.now) (F.product field.now) (λ p. value (F.product field.now) (point_of (feed_values (F.product field.now) (map (λ f. f.now.terms) feeds.now) p)) block.now.terms) q.terms) }
+    ensures within { OnOk result (AreAllWithin (F.degree field.now) (F.product field.now) (instance_listing (F.product field.now) (feed_values (F.product field.now) (map (λ f. f.now.terms) feeds.now)) instance (block_terms block.now.terms)) bound) }
+    ensures fault { IfErr result (IsRefusal (F.degree field.now) (F.product field.now) (instance_listing (F.product field.now) (feed_values (F.product field.now) (map (λ f. f.now.terms) feeds.now)) instance (block_terms block.now.terms)) bound) }
+{
+    let terms = block.terms(alloc)?;
+    let mut sum = Poly::zero(alloc);
+    for s in 0..terms.len() {
+        let number = s as u32 + 1;
+        let product = one_term(alloc, field, feeds, &terms[s], instance, number, bound)?;
+        sum.add_into(field, &product)?;
+        let stage = Stage::InstanceSum {
+            instance,
+            term: number,
+        };
+        check_size(sum.len(), bound, stage)?;
+    }
+    Ok(sum)
+}

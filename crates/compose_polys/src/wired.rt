@@ -1,0 +1,64 @@
+//! The polynomial of a wired top.
+ghost use Rattle.std.specs.Prelude.{◌<◌, IfErr, IfOk, length, map};
+ghost use Rattle.poly_mixed.specs.Polynomial.{value, IsPolynomialOf};
+ghost use Rattle.compose_polys.specs.Instance.{AreReduced};
+ghost use Rattle.compose_model.specs.Wiring.{feeding_graph as graph_of};
+ghost use Rattle.compose_polys.specs.LevelOrder.{IsLevelOrder};
+ghost use Rattle.compose_polys.specs.Words.{feed_terms, IsFeedAmong};
+ghost use Rattle.compose_polys.specs.Wired.{IsStageFault, IsWired, IsWiredPoly};
+
+use crate::feeds::poly_of;
+use crate::instances::instance_polys;
+use crate::words::word_polys;
+use compose_model::Feeder;
+use gf_field::Field;
+use poly_mixed::{Poly, ReduceFault};
+use std::alloc::{AllocError, Global};
+
+// A polynomial that has the values of a feed's.
+fn copied<F: Field>(
+    alloc: Global,
+    field: &F,
+    words: &[Poly],
+    polys: &[Poly],
+    feed: Feeder,
+) -> Result<Poly, AllocError>
+    requires among { IsFeedAmong (length words.now) (length polys.now) feed }
+    requires words { AreReduced (F.degree field.now) (map (λ q. q.terms) words.now) }
+    requires polys { AreReduced (F.degree field.now) (map (λ q. q.terms) polys.now) }
+    ensures { IfOk result (λ q. IsPolynomialOf (F.degree field.now) (F.product field.now) (λ p. value (F.product field.now) p (feed_terms (map (λ w. w.terms) words.now) (map (λ w. w.terms) polys.now) feed)) q.terms) }
+{
+    let poly = poly_of(words, polys, feed);
+    let mut copy = Poly::zero(alloc);
+    copy.add_into(field, poly)?;
+    Ok(copy)
+}
+
+/// The polynomial in its words of a top that only wires instances of blocks, or the first stage over the bound.
+///
+/// The top has `count` input words. Each instance has the polynomial of its block in words, and a row of feeds, one for each of
+/// these words in their order. The order has the instances by rising level and number, in which they are taken; the stages
+/// name them by their numbers from 1.
+pub fn wired_poly<F: Field>(
+    alloc: Global,
+    field: &F,
+    count: usize,
+    blocks: &[&Poly],
+    rows: &[Vec<Feeder>],
+    order: &[u32],
+    output: Feeder,
+    bound: u32,
+) -> Result<Poly, ReduceFault>
+    requires wired { IsWired (F.degree field.now) count (map (λ f. f.now.terms) blocks.now) (map (λ row. row.items) rows.now) output }
+    requires order { IsLevelOrder (graph_of (map (λ row. row.items) rows.now)) order.now }
+    ensures poly { IfOk result (λ q. IsWiredPoly (F.degree field.now) (F.product field.now) count (map (λ f. f.now.terms) blocks.now) (map (λ row. row.items) rows.now) bound output q.terms) }
+    ensures fault { IfErr result (IsStageFault (F.degree field.now) (F.product field.now) count (map (λ f. f.now.terms) blocks.now) (map (λ row. row.items) rows.now) bound) }
+{
+    let words = word_polys(alloc, field, count)?;
+    let polys = match instance_polys(alloc, field, &words, blocks, rows, order, bound) {
+        Ok(polys) => polys,
+        Err(fault) => return Err(fault),
+    };
+    let poly = copied(alloc, field, &words, &polys, output)?;
+    Ok(poly)
+}

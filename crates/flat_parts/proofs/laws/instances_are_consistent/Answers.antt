@@ -1,5 +1,0 @@
-use Rattle.flat_parts.proofs.PartLemmas.{instance_part}
-use Rattle.flat_parts.proofs.laws.instances_are_consistent.Goals as goal
-
-pub returns : goal.returns
-returns c = λ design i model item whole alone bits deep all got named one consistent. instance_part design i model item whole alone deep all got named one bits consistent

@@ -1,6 +1,0 @@
-use Rattle.std.proofs.Common.{refl}
-use Rattle.gf_abs.proofs.MakeLemmas.{form_first}
-use Rattle.gf_abs.proofs.commands.make.in_normal_basis.Goals as goal
-
-pub returns-in-None-clause-gives : goal.returns-in-None-clause-gives
-returns-in-None-clause-gives g c = ((refl, λ is. c.in-None.ensures.none is.form.gamma (rw c.words.ensures (form_first c.args.setting.now.signature c.requires.ready.words.one is.form))), λ m. m)

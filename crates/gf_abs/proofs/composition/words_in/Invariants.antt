@@ -1,7 +1,0 @@
-use Rattle.std.proofs.Common.{◌≡◌, drop}
-use Rattle.gf_abs.specs.commands.Compose.{words_in}
-use Rattle.gf_abs.proofs.composition.words_in.Given as goal
-
--- the block, if there is one, is among the rest
-abbrev pub invariant-loop-block : goal.invariant-loop-block
-invariant-loop-block l = words_in l.blocks l.model ≡ words_in (drop l.block-index l.blocks) l.model

@@ -1,4 +1,0 @@
-pub mod StageStop
-pub mod Composing
-pub mod CertificateStop
-pub mod Making

@@ -1,0 +1,2 @@
+pub mod TraceWord
+pub mod Coordinates

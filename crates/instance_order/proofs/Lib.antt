@@ -1,4 +1,0 @@
-pub mod LevelLemmas
-pub mod KeyLemmas
-pub mod AfterLemmas
-mod Examples

@@ -1,5 +1,0 @@
-use Rattle.instance_order.proofs.LevelLemmas.{AreFirstLevels}
-use Rattle.instance_order.proofs.levels.levels.Given as goal
-
-abbrev pub invariant-loop-m : goal.invariant-loop-m
-invariant-loop-m l = AreFirstLevels l.graph l.order l.m l.levels.items

@@ -1,6 +1,0 @@
-use Rattle.std.proofs.Common.{◌≡◌}
-use Rattle.instance_order.specs.LevelOrder.{first_numbers}
-use Rattle.instance_order.proofs.order.numbers.Given as goal
-
-abbrev pub invariant-loop-number : goal.invariant-loop-number
-invariant-loop-number l = l.list.items ≡ first_numbers l.number

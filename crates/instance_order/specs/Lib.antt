@@ -1,2 +1,0 @@
-pub mod LevelOrder
-pub mod private

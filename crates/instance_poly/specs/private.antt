@@ -1,2 +1,0 @@
-pub mod Square
-pub mod Reached

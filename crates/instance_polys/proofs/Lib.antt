@@ -1,3 +1,0 @@
-pub mod FeedLemmas
-pub mod OrderLemmas
-mod Examples

@@ -1,6 +1,0 @@
-pub mod FedBitLemmas
-pub mod CycleBitLemmas
-pub mod SettledLemmas
-pub mod JobRunLemmas
-pub mod PlainLemmas
-pub mod CyclesLemmas

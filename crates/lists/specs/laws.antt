@@ -1,0 +1,13 @@
+pub mod NumberLaws
+pub mod PowerLaws
+pub mod BoolLaws
+pub mod TestLaws
+pub mod XorLaws
+pub mod OptionLaws
+pub mod OrderingLaws
+pub mod ListLaws
+pub mod TakeLaws
+pub mod ReadLaws
+pub mod HasLaws
+pub mod SumLaws
+pub mod LineLaws

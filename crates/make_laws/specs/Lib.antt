@@ -1,0 +1,12 @@
+pub mod Indeterminate
+pub mod ProductBits
+pub mod InversePower
+pub mod TowerProduct
+pub mod Chosen
+pub mod NormalRegisters
+pub mod DigitRegisters
+pub mod Held
+pub mod NormalNets
+pub mod DigitNets
+pub mod Renumbering
+pub mod SameJob

@@ -1,0 +1,61 @@
+-- Fronts of lists.
+use Rattle.std.proofs.Common.{◌≡◌, ◌∙◌, ap, sym, refl, ℕ, zero, suc, ◌<◌, ◌≤◌, ◌+◌, List, [], ◌∷◌, ◌++◌, length, take, drop, get_or, append-nil, arith}
+use Rattle.std.proofs.lemmas.List.{append_assoc}
+use Rattle.net_words.specs.declared.word.WordText.{WordText}
+use Rattle.make_nets.proofs.LabelLemmas.{append_long}
+use Rattle.make_nets.specs.Ports.{word_names}
+
+take_suc : {X : Type 0} (xs : List X) (i : ℕ) (x : X) → i < length xs → x ≡ get_or xs i x → take (suc i) xs ≡ take i xs ++ x ∷ []
+take_suc [] i x less is = absurd (omega arith)
+take_suc (y ∷ xs) zero x less is = ap (λ (z : _). z ∷ []) (sym is)
+take_suc (y ∷ xs) (suc i) x less is = ap (λ (zs : List _). y ∷ zs) (take_suc xs i x (omega arith) is)
+
+pub take_more : {X : Type 0} (xs : List X) (i : ℕ) (x : X) → i < length xs → x ≡ get_or xs i x → take (i + 1) xs ≡ take i xs ++ x ∷ []
+take_more xs i x less is = let e : i + 1 ≡ suc i = omega arith in rw e (take_suc xs i x less is)
+
+drop_suc : {X : Type 0} (xs : List X) (i : ℕ) (x : X) → i < length xs → x ≡ get_or xs i x → drop i xs ≡ x ∷ drop (suc i) xs
+drop_suc [] i x less is = absurd (omega arith)
+drop_suc (y ∷ xs) zero x less is = ap (λ (z : _). z ∷ xs) (sym is)
+drop_suc (y ∷ xs) (suc i) x less is = drop_suc xs i x (omega arith) is
+
+pub drop_more : {X : Type 0} (xs : List X) (i : ℕ) (x : X) → i < length xs → x ≡ get_or xs i x → drop i xs ≡ x ∷ drop (i + 1) xs
+drop_more xs i x less is = let e : i + 1 ≡ suc i = omega arith in rw e (drop_suc xs i x less is)
+
+pub take_drop : {X : Type 0} (xs : List X) (i : ℕ) → xs ≡ take i xs ++ drop i xs
+take_drop [] zero = refl
+take_drop [] (suc i) = refl
+take_drop (x ∷ xs) zero = refl
+take_drop (x ∷ xs) (suc i) = ap (λ (zs : List _). x ∷ zs) (take_drop xs i)
+
+-- a list is its front, an element and the rest
+pub split_at : {X : Type 0} (xs : List X) (i : ℕ) (x : X) → i < length xs → x ≡ get_or xs i x → xs ≡ take i xs ++ x ∷ drop (i + 1) xs
+split_at xs i x less is = take_drop xs i ∙ ap (λ (zs : List _). take i xs ++ zs) (drop_more xs i x less is)
+
+pub take_past : {X : Type 0} (xs : List X) (i : ℕ) → length xs ≤ i → take i xs ≡ xs
+take_past [] zero less = refl
+take_past [] (suc i) less = refl
+take_past (x ∷ xs) zero less = absurd (omega arith)
+take_past (x ∷ xs) (suc i) less = ap (λ (zs : List _). x ∷ zs) (take_past xs i (omega arith))
+
+-- one more, after names before
+pub joined : {X : Type 0} (ns xs more list : List X) (x : X) → list ≡ xs ++ x ∷ more → ns ++ list ≡ ((ns ++ xs) ++ x ∷ []) ++ more
+joined ns xs more list x is = ap (λ (zs : List _). ns ++ zs) is ∙ (sym (append_assoc ns xs (x ∷ more)) ∙ sym (append_assoc (ns ++ xs) (x ∷ []) more))
+
+pub names_append : (xs ys : List WordText) → word_names (xs ++ ys) ≡ word_names xs ++ word_names ys
+names_append [] ys = refl
+names_append (x ∷ xs) ys = ap (λ (zs : List (List ℕ)). x.nets ++ zs) (names_append xs ys) ∙ sym (append_assoc x.nets (word_names xs) (word_names ys))
+
+pub words_split : (words : List WordText) (i : ℕ) (word : WordText) (list : List (List ℕ)) → i < length words → word ≡ get_or words i word → list ≡ word.nets → word_names words ≡ (word_names (take i words) ++ list) ++ word_names (drop (i + 1) words)
+words_split words i word list less is nets =
+    ap word_names (split_at words i word less is) ∙ (names_append (take i words) (word ∷ drop (i + 1) words)
+    ∙ (sym (append_assoc (word_names (take i words)) word.nets (word_names (drop (i + 1) words))) ∙ ap (λ (zs : List (List ℕ)). (word_names (take i words) ++ zs) ++ word_names (drop (i + 1) words)) (sym nets)))
+
+pub words_take : (words : List WordText) (i : ℕ) (word : WordText) (list : List (List ℕ)) → i < length words → word ≡ get_or words i word → list ≡ word.nets → word_names (take (i + 1) words) ≡ word_names (take i words) ++ list
+words_take words i word list less is nets =
+    ap word_names (take_more words i word less is) ∙ (names_append (take i words) (word ∷ [])
+    ∙ ap (λ (zs : List (List ℕ)). word_names (take i words) ++ zs) (append-nil word.nets ∙ sym nets))
+
+-- and so many
+pub words_long : (words : List WordText) (i : ℕ) (word : WordText) (list : List (List ℕ)) → i < length words → word ≡ get_or words i word → list ≡ word.nets → length (word_names (take i words)) + length list ≤ length (word_names words)
+words_long words i word list less is nets =
+    omega (arith, ap (λ (zs : List (List ℕ)). length zs) (words_split words i word list less is nets), append_long (word_names (take i words) ++ list) (word_names (drop (i + 1) words)), append_long (word_names (take i words)) list)

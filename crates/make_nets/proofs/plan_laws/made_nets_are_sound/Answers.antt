@@ -1,0 +1,5 @@
+use Rattle.make_nets.proofs.SoundLemmas.{sound}
+use Rattle.make_nets.proofs.plan_laws.made_nets_are_sound.Goals as goal
+
+pub returns : goal.returns
+returns c = λ names prefix inputs outputs latches targets plan fits. sound names prefix inputs outputs latches targets plan fits

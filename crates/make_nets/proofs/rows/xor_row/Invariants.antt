@@ -1,0 +1,10 @@
+use Rattle.std.proofs.Common.{◌≡◌, ◌+◌, length}
+use Rattle.make_nets.specs.Row.{xor_row as xor_row_of}
+use Rattle.make_nets.specs.Row.{row_of}
+use Rattle.make_nets.proofs.rows.xor_row.Given as goal
+
+abbrev pub invariant-loop-j : goal.invariant-loop-j
+invariant-loop-j l =
+    (row_of l.plan l.nets.items ≡ xor_row_of l.j l.first l.second l.fn.plan)
+    × (length l.nets.items ≡ l.j)
+    × (l.plan.next ≡ l.fn.plan.next + l.j)

@@ -1,0 +1,13 @@
+pub mod Plan
+pub mod PlanValue
+pub mod PlanShape
+pub mod MadeNet
+pub mod Makeable
+pub mod Row
+pub mod Ports
+pub mod Prefix
+pub mod MakerNames
+pub mod Made
+pub mod BindingOfMade
+pub mod Form
+pub mod Computes

@@ -1,0 +1,4 @@
+pub mod Turned
+pub mod TwoInputs
+pub mod Trial
+pub mod private

@@ -1,7 +1,0 @@
-use Rattle.mult_products.proofs.MontgomeryLemmas.{last_coefficient, one_inverse_power}
-use Rattle.mult_products.proofs.laws.one_inverse_power.Goals as goal
-
-pub returns : goal.returns
-returns c =
-    let ring = c.args._ring.now in
-    one_inverse_power _ _ ring.ring.fits (last_coefficient _ _ ring.ring.fits ring.no_zero_divisors c.requires) ring.no_zero_divisors

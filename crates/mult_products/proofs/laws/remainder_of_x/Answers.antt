@@ -1,5 +1,0 @@
-use Rattle.mult_products.proofs.IndeterminateLemmas.{x_is_remainder}
-use Rattle.mult_products.proofs.laws.remainder_of_x.Goals as goal
-
-pub returns : goal.returns
-returns c = x_is_remainder _ _ c.args._ring.now.fits

@@ -1,4 +1,0 @@
-pub mod Indeterminate
-pub mod ProductBits
-pub mod InversePower
-pub mod TowerProduct

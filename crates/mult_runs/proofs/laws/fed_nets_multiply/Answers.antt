@@ -1,5 +1,0 @@
-use Rattle.mult_runs.proofs.DigitRunLemmas.{digit_nets_multiply}
-use Rattle.mult_runs.proofs.laws.fed_nets_multiply.Goals as goal
-
-pub returns : goal.returns
-returns c circuit x width nets well units are = digit_nets_multiply circuit x width nets well units are

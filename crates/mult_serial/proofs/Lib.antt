@@ -1,6 +1,0 @@
-pub mod BitNumber
-pub mod SumLemmas
-pub mod ChosenLemmas
-pub mod NormalLemmas
-pub mod DigitLemmas
-pub mod Examples

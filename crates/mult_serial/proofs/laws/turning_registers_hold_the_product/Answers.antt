@@ -1,5 +1,0 @@
-use Rattle.mult_serial.proofs.NormalLemmas.{normal_products}
-use Rattle.mult_serial.proofs.laws.turning_registers_hold_the_product.Goals as goal
-
-pub returns : goal.returns
-returns g c = normal_products _ _ (g.met.F.Ring.laws c.args._field.now) (g.met.F.Field.no_zero_divisors c.args._field.now)

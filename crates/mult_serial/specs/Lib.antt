@@ -1,3 +1,0 @@
-pub mod Chosen
-pub mod NormalRegisters
-pub mod DigitRegisters

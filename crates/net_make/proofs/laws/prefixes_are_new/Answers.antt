@@ -1,8 +1,0 @@
-use Rattle.net_make.proofs.MostLemmas.{prefix_fits, prefix_needed}
-use Rattle.net_make.proofs.laws.prefixes_are_new.Goals as goal
-
-pub returns-clause-fresh : goal.returns-clause-fresh
-returns-clause-fresh c = prefix_fits
-
-pub returns-clause-needed : goal.returns-clause-needed
-returns-clause-needed c = prefix_needed

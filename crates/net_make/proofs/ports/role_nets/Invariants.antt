@@ -1,8 +1,0 @@
-use Rattle.std.proofs.Common.{◌≡◌, ◌+◌, ◌++◌, length, drop}
-use Rattle.net_make.specs.Ports.{role_nets, word_names}
-use Rattle.net_make.proofs.ports.role_nets.Given as goal
-
-abbrev pub invariant-loop-word : goal.invariant-loop-word
-invariant-loop-word l =
-    (l.count + length (word_names (drop l.word-index l.words)) ≡ length (word_names l.words))
-    × (l.list.items ++ role_nets l.role l.count (drop l.word-index l.words) ≡ role_nets l.role 0 l.words)

@@ -1,7 +1,0 @@
-use Rattle.net_make.proofs.MostLemmas.{most_words_step}
-use Rattle.std.proofs.Common.{ap, ◌∙◌}
-use Rattle.net_make.specs.Prefix.{most_leading}
-use Rattle.net_make.proofs.prefixes.most_in_words.Goals as goal
-
-pub loop-word-preserved : goal.loop-word-preserved
-loop-word-preserved c = most_words_step c.args.words.now c.loop-word.word-index c.word-item.result c.loop-word.most c.larger-most.result c.most_leading-count.result c.loop-word-test.true c.word-item.is (c.most_leading-count.ensures ∙ ap most_leading c.as_slice.ensures) c.larger-most.ensures c.loop-word.invariant

@@ -1,7 +1,0 @@
-use Rattle.std.proofs.Common.{◌≡◌, max, drop}
-use Rattle.net_make.specs.Ports.{word_names}
-use Rattle.net_make.specs.Prefix.{most_leading}
-use Rattle.net_make.proofs.prefixes.most_in_words.Given as goal
-
-abbrev pub invariant-loop-word : goal.invariant-loop-word
-invariant-loop-word l = max l.most (most_leading (word_names (drop l.word-index l.words))) ≡ most_leading (word_names l.words)

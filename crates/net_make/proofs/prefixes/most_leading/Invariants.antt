@@ -1,6 +1,0 @@
-use Rattle.std.proofs.Common.{◌≡◌, max, drop}
-use Rattle.net_make.specs.Prefix.{most_leading}
-use Rattle.net_make.proofs.prefixes.most_leading.Given as goal
-
-abbrev pub invariant-loop-name : goal.invariant-loop-name
-invariant-loop-name l = max l.most (most_leading (drop l.name-index l.names)) ≡ most_leading l.names

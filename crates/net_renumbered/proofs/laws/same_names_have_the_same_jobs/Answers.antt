@@ -1,5 +1,0 @@
-use Rattle.net_renumbered.proofs.LawLemmas.{bound_alike}
-use Rattle.net_renumbered.proofs.laws.same_names_have_the_same_jobs.Goals as goal
-
-pub returns : goal.returns
-returns c = λ net other words feeds binding sound sound' plain plain' same is. bound_alike net other sound sound' plain plain' same words feeds binding is

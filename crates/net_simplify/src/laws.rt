@@ -1,0 +1,35 @@
+//! Laws of simplified nets. These functions do nothing: their contracts are proved of the definitions alone.
+ghost use Rattle.std.specs.Prelude.{◌≡◌, ◌↔◌, ℕ, Bool, List};
+ghost use Rattle.net_core.specs.NetList.{NetList};
+ghost use Rattle.net_core.specs.Sound.{IsSound};
+ghost use Rattle.net_core.specs.Value.{IsConsistent};
+ghost use Rattle.net_words.specs.Binding.{BoundNet};
+ghost use Rattle.net_words.specs.OneCycle.{IsOneCycle};
+ghost use Rattle.circuit_model.specs.OfBinding.{circuit_with};
+ghost use Rattle.circuit_model.specs.Out.{IsOut};
+ghost use Rattle.net_simplify.specs.Circuit.{IsSimplifiedCircuit};
+ghost use Rattle.net_simplify.specs.Simplified.{IsSimplified};
+
+/// A sound net list has one simplified net list at most.
+pub fn one_simplified_net()
+    ensures { (ends : List ℕ) (net simple other : NetList) → IsSound net → IsSimplified ends net simple → IsSimplified ends net other → simple ≡ other }
+{}
+
+/// The simplified net list of a sound one is sound, and a list of bits agrees with it exactly if it agrees with the other.
+pub fn simplified_nets_agree()
+    ensures sound { (ends : List ℕ) (net simple : NetList) → IsSound net → IsSimplified ends net simple → IsSound simple }
+    ensures consistent { (ends : List ℕ) (net simple : NetList) (bits : List Bool) → IsSound net → IsSimplified ends net simple → IsConsistent simple bits ↔ IsConsistent net bits }
+{}
+
+/// A circuit with a sound net list has one simplified circuit at most.
+pub fn one_simplified_circuit()
+    ensures { (circuit simple other : BoundNet) → IsSound circuit.net → IsSimplifiedCircuit circuit simple → IsSimplifiedCircuit circuit other → simple ≡ other }
+{}
+
+/// The simplified circuit is sound, its words are bound to it in one cycle, and at each input it has the output that the
+/// circuit has, and no other.
+pub fn simplified_circuits_compute_the_same()
+    ensures sound { (circuit simple : BoundNet) → IsSound circuit.net → IsSimplifiedCircuit circuit simple → IsSound simple.net }
+    ensures one_cycle { (circuit simple : BoundNet) → IsSound circuit.net → IsOneCycle circuit.net circuit.binding → IsSimplifiedCircuit circuit simple → IsOneCycle simple.net simple.binding }
+    ensures output { (k : ℕ) (product : ℕ → ℕ → ℕ) (circuit simple : BoundNet) (bases : List (List ℕ)) (xs : List ℕ) (e : ℕ) → IsSound circuit.net → IsSimplifiedCircuit circuit simple → IsOut (circuit_with k product simple bases) xs e ↔ IsOut (circuit_with k product circuit bases) xs e }
+{}

@@ -1,0 +1,4 @@
+pub mod DeterminedLemmas
+pub mod ForEachDetermined
+pub mod StepLemmas
+mod Examples

@@ -1,6 +1,0 @@
-use Rattle.std.proofs.Common.{◌≡◌, ◌++◌, take, drop}
-use Rattle.poly_mixed.specs.Scan.{run, is_in}
-use Rattle.poly_mixed.proofs.scan.front.Given as goal
-
-abbrev pub invariant-loop-i : goal.invariant-loop-i
-invariant-loop-i l = take l.i l.bytes ++ run (is_in l.class) (drop l.i l.bytes) ≡ run (is_in l.class) l.bytes

@@ -1,0 +1,10 @@
+use Rattle.std.proofs.Common.{sym, ◌∙◌}
+use Rattle.poly_mixed.specs.private.Listed.{list_at, without_slot}
+use Rattle.poly_mixed.proofs.ListsAtLemmas.{one_further, none_left}
+use Rattle.poly_mixed.proofs.slot_lists.Lists.drop.Goals as goal
+
+pub loop-bit-preserved : goal.loop-bit-preserved
+loop-bit-preserved c b = one_further (without_slot c.args.slot) c.args.bits.now c.loop-bit.bit-index (list_at c.loop-bit.self) (list_at c.drop_one.new.self) c.loop-bit-test.true c.drop_one.ensures b ∙ c.loop-bit.invariant b
+
+pub returns : goal.returns
+returns c b = sym (none_left (without_slot c.args.slot) c.args.bits.now c.loop-bit.bit-index (list_at c.loop-bit.self) c.loop-bit-test.false b) ∙ c.loop-bit.invariant b

@@ -1,5 +1,0 @@
-use Rattle.stage_model.proofs.WordBitLemmas.{IsPart}
-use Rattle.stage_model.proofs.word_bit.bit_poly.Given as goal
-
-abbrev pub invariant-loop-j : goal.invariant-loop-j
-invariant-loop-j g l = IsPart (g.F.Ring.degree l.field) (g.F.Ring.product l.field) l.linear l.word l.j l.sum.terms

@@ -1,2 +1,0 @@
-pub mod TwoInputs
-pub mod private

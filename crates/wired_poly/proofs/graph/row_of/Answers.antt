@@ -1,5 +1,0 @@
-use Rattle.wired_poly.proofs.WiredLemmas.{row_more}
-use Rattle.wired_poly.proofs.graph.row_of.Goals as goal
-
-pub loop-j-preserved : goal.loop-j-preserved
-loop-j-preserved c = row_more c.args.feeds.now c.loop-j.j c.feed_at-feed.result c.loop-j.row.items c.add_instance.new.row.items c.feed_at-feed.ensures c.loop-j.invariant c.in_ok-add_instance.ensures

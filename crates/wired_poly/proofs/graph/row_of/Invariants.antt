@@ -1,6 +1,0 @@
-use Rattle.std.proofs.Common.{◌≡◌, take}
-use Rattle.block_feeds.specs.Wiring.{instances_among}
-use Rattle.wired_poly.proofs.graph.row_of.Given as goal
-
-abbrev pub invariant-loop-j : goal.invariant-loop-j
-invariant-loop-j l = l.row.items ≡ instances_among (take l.j l.feeds)
