@@ -7,4 +7,3 @@ pub mod RewriteLemmas
 pub mod SoundLemmas
 pub mod OneLemmas
 pub mod CircuitLemmas
-mod Examples
