@@ -1,0 +1,16 @@
+pub mod ListLemmas
+pub mod FormLemmas
+pub mod PlacedLemmas
+pub mod UseLemmas
+pub mod MeaningLemmas
+pub mod RewriteLemmas
+pub mod SoundLemmas
+pub mod OneLemmas
+pub mod BitLemmas
+pub mod HalfLemmas
+pub mod LeafLemmas
+pub mod BestLemmas
+pub mod TwinLemmas
+pub mod CatalogLemmas
+pub mod UnderwayLemmas
+pub mod StepLemmas

@@ -1,0 +1,5 @@
+pub mod Form
+pub mod Uses
+pub mod Choice
+pub mod Simplified
+pub mod private
