@@ -17,15 +17,17 @@ use Rattle.circuit_model.specs.Bases.{circuit_in}
 use Rattle.circuit_model.specs.OfBinding.{output_basis, output_word}
 use Rattle.circuit_model.specs.WellFormed.{IsWellFormed}
 use Rattle.stage_model.specs.CircuitListing.{bound_cuts}
-use Rattle.stage_model.specs.Cut.{BoundCut, IsCut}
+use Rattle.stage_model.specs.Cut.{BoundCut, CutOf, IsCut}
 use Rattle.stage_model.specs.Listing.{AreAllWithin, IsRefusal}
 use Rattle.stage_model.specs.Mix.{IsMix}
+use Rattle.stage_model.specs.OutputInBits.{IsOutputInBits}
 use Rattle.stage_model.specs.Stage.{IsOfStage}
 use Rattle.stage_model.specs.WordListing.{word_listing}
 use Rattle.stage_model.proofs.BoundLemmas.{bound_cut}
 use Rattle.stage_model.proofs.CutLemmas.{one_cut_of}
 use Rattle.stage_model.proofs.ListingLemmas.{earlier_over, later_over}
 use Rattle.stage_model.proofs.MixLemmas.{mix_none}
+use Rattle.stage_model.proofs.OutputInBitsLemmas.{last_is_output}
 use Rattle.stage_model.proofs.SizeLemmas.{same_terms}
 use Rattle.abstraction.specs.Stages.{stages_in, IsFirstRefusal}
 
@@ -51,6 +53,16 @@ module _ (k : ℕ) (mul : ℕ → ℕ → ℕ) (b : BoundNet) (bases : List Basi
         reduced = stage.reduced;
         values = λ p at. (mix_none (circuit_in k mul b bases) well flat p (value mul p ts) at).1 ((bound_cut k mul b (map elements_of bases) (length b.net.gates) p (value mul p ts) many).0 (stage.values p at));
       }
+
+  -- the last cut is the output in bits
+  pub output_of_last : IsWellFormed (circuit_in k mul b bases) → length bases ≡ length b.binding.words → b.net.latches ≡ [] → (ts : Terms) → IsOfStage k mul (BoundCut b elements (length b.net.gates)) ts → IsOutputInBits (circuit_in k mul b bases) ts
+  output_of_last well long flat ts stage =
+      let many : length (map elements_of bases) ≡ length b.binding.words = length-map bases elements_of ∙ long in
+      let cut : IsOfStage k mul (CutOf (circuit_in k mul b bases) (length b.net.gates)) ts = record {
+        reduced = stage.reduced;
+        values = λ p at. (bound_cut k mul b (map elements_of bases) (length b.net.gates) p (value mul p ts) many).0 (stage.values p at);
+      } in
+      (last_is_output (circuit_in k mul b bases) well flat ts).0 cut
 
   -- a cut over the bound is the first of all stages
   pub cut_refused : (bound : ℕ) (fault : ReduceFault) → IsRefusal k mul (bound_cuts b elements) bound fault → IsFirstRefusal k mul (stages_in k mul b bases) bound fault

@@ -1,21 +1,35 @@
 -- All stages of a circuit with bound words: its cuts, and then those of its words. Source: this project's own.
-use Rattle.std.specs.Prelude.{ℕ, List, map}
+use Rattle.std.specs.Prelude.{ℕ, List, map, length}
 use Rattle.net_words.specs.Binding.{BoundNet}
 use Rattle.gf_basis.specs.BasisParts.{elements_of}
 use Rattle.gf_basis.specs.declared.bases.Basis.{Basis}
+use Rattle.poly_mixed.specs.Polynomial.{Terms}
 use Rattle.poly_mixed.specs.declared.stage.ReduceFault.{ReduceFault}
 use Rattle.poly_mixed.specs.declared.stage.ReduceFault.TheVariants.{TooManyTerms, OutOfMemory}
 use Rattle.poly_mixed.specs.declared.stage.Stage.{Stage}
 use Rattle.poly_mixed.specs.declared.stage.Stage.TheVariants.{Cut, WordProduct, WordSum, SpecProduct, SpecSum, InstanceProduct, InstanceSum}
-use Rattle.circuit_model.specs.Bases.{circuit_in}
-use Rattle.circuit_model.specs.OfBinding.{output_basis}
+use Rattle.circuit_model.specs.OfBinding.{circuit_with, output_basis}
 use Rattle.stage_model.specs.CircuitListing.{bound_cuts}
+use Rattle.stage_model.specs.Cut.{BoundCut}
 use Rattle.stage_model.specs.Listing.{followed_by, IsOver, Joined, Earlier, Later, Listing}
+use Rattle.stage_model.specs.Stage.{IsOfStage}
 use Rattle.stage_model.specs.WordListing.{word_listing}
 
+-- the cuts, where these are the elements of each word's basis
+abbrev pub cut_stages : BoundNet → List (List ℕ) → Listing Stage
+cut_stages netlist bases = bound_cuts netlist (output_basis netlist.binding.words bases)
+
+-- these are the terms of the last cut
+abbrev pub IsLastCut : ℕ → (ℕ → ℕ → ℕ) → BoundNet → List (List ℕ) → Terms → Type 0
+IsLastCut k mul netlist bases ts = IsOfStage k mul (BoundCut netlist (output_basis netlist.binding.words bases) (length netlist.net.gates)) ts
+
 -- the cuts, and then the stages of words
+abbrev pub all_stages : ℕ → (ℕ → ℕ → ℕ) → BoundNet → List (List ℕ) → Listing (Joined Stage Stage)
+all_stages k mul netlist bases = followed_by (cut_stages netlist bases) (word_listing (circuit_with k mul netlist bases))
+
+-- the stages in these bases
 abbrev pub stages_in : ℕ → (ℕ → ℕ → ℕ) → BoundNet → List Basis → Listing (Joined Stage Stage)
-stages_in k mul netlist bases = followed_by (bound_cuts netlist (output_basis netlist.binding.words (map elements_of bases))) (word_listing (circuit_in k mul netlist bases))
+stages_in k mul netlist bases = all_stages k mul netlist (map elements_of bases)
 
 -- a cut is one of the first stages, and all others are later ones
 abbrev pub joined : Stage → Joined Stage Stage

@@ -1,7 +1,11 @@
 //! From a circuit to its output's polynomial in words: its cuts, and then the replacement of its words. The first of all these
-//! stages over the bound is told.
+//! stages over the bound is told, and a recorder gets the steps.
 #![tactic(auto)]
 
+mod bits;
 mod poly;
+mod words;
 
+pub use bits::bits_poly;
 pub use poly::circuit_poly;
+pub use words::words_poly;

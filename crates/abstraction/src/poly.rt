@@ -5,14 +5,13 @@ ghost use Rattle.stage_model.specs.Listing.{AreAllWithin};
 ghost use Rattle.stage_model.specs.OutputInWords.{IsOutputInWords};
 ghost use Rattle.abstraction.specs.Stages.{stages_in, IsFirstRefusal};
 
-use circuit_model::output_basis;
+use crate::bits::bits_poly;
+use crate::words::words_poly;
 use gf_basis::Basis;
 use gf_field::Field;
 use net_words::Combinational;
 use poly_mixed::{NoSteps, Poly, ReduceFault};
-use rato_reduce::reduce_bits;
 use std::alloc::Global;
-use word_subst::to_words;
 
 /// The polynomial in words of a circuit's output, or the first of its stages over the bound: its cuts come first, and then
 /// the stages of its words. There is one basis of this field for each word of the binding, and each word has k bits.
@@ -29,12 +28,11 @@ pub fn circuit_poly<F: Field>(
     ensures within { OnOk result (AreAllWithin (F.degree field.now) (F.product field.now) (stages_in (F.degree field.now) (F.product field.now) circuit.now bases.now) bound) }
     ensures fault { IfErr result (IsFirstRefusal (F.degree field.now) (F.product field.now) (stages_in (F.degree field.now) (F.product field.now) circuit.now bases.now) bound) }
 {
-    let basis = output_basis(circuit.binding(), bases);
-    let bits = match reduce_bits(alloc, field, circuit, basis, bound, &mut NoSteps) {
+    let bits = match bits_poly(alloc, field, circuit, bases, bound, &mut NoSteps) {
         Ok(bits) => bits,
         Err(fault) => return Err(fault),
     };
-    match to_words(alloc, field, circuit, bases, bits, bound, &mut NoSteps) {
+    match words_poly(alloc, field, circuit, bases, bits, bound, &mut NoSteps) {
         Ok(poly) => Ok(poly),
         Err(fault) => Err(fault),
     }

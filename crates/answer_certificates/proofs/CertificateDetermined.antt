@@ -1,15 +1,14 @@
 -- At most one circuit with a certificate comes of the files, and at most one reply of `verify` and of `upgrade`.
-use Rattle.std.proofs.Common.{◌≡◌, ◌∙◌, ap, sym, ℕ, List, Option, Some, Result, Ok, Err}
-use Rattle.outcome.proofs.DeterminedLemmas.{determined_bind}
+use Rattle.std.proofs.Common.{◌≡◌, ◌∙◌, ap, sym, ℕ, List, Result, Ok, Err}
+use Rattle.lists.specs.laws.OptionLaws.{same_some}
+use Rattle.outcome.proofs.DeterminedLemmas.{determined_bind, determined_exactly}
 use Rattle.outcome.specs.Outcome.{Determined, Exactly}
 use Rattle.net_words.specs.Binding.{BoundNet}
-use Rattle.net_words.proofs.BindDetermined.{determined_exactly}
 use Rattle.cert_check.specs.Certificate.{CertificateOf}
 use Rattle.cert_check.specs.declared.fault.CertFault.{CertFault}
 use Rattle.cert_check.proofs.DeterminedLemmas.{one_certificate}
 use Rattle.cert_make.specs.CertText.{cert_text}
 use Rattle.cert_make.specs.Upgrade.{UpgradeOf}
-use Rattle.job_words.specs.declared.fault.Fault.{Fault}
 use Rattle.job_input.specs.Labelling.{labels_of}
 use Rattle.job_input.specs.SettingSound.{IsSoundSetting}
 use Rattle.job_input.specs.SettingValue.{SettingValue}
@@ -29,9 +28,6 @@ module _ (setting : SettingValue) (circuit : BoundNet) (bytes : List ℕ) where
       let labels = certificate_labels setting circuit in
       determined_bind (CertificateOf setting.k circuit.net labels bytes) (λ c. Exactly (cert_text labels c.claim c.pairs)) (one_certificate setting.k circuit.net labels bytes) (λ c. determined_exactly (cert_text labels c.claim c.pairs))
 
-  some_same : (f g : Fault) → ◌≡◌ {A = Option Fault} (Some f) (Some g) → f ≡ g
-  some_same f g e = cc
-
   same_ok : (a b : List ℕ) → ◌≡◌ {A = Result (List ℕ) CertFault} (Ok a) (Ok b) → a ≡ b
   same_ok a b e = cc
 
@@ -47,7 +43,7 @@ module _ (setting : SettingValue) (circuit : BoundNet) (bytes : List ℕ) where
   upgraded_determined (Err f) (Ok b) (found, h, same) k = absurd (apart b found (one_upgrade (Ok b) (Err found) k h))
   upgraded_determined (Err f) (Err g) (found, h, same) (found', k, same') =
       let equal : found ≡ found' = same_err found found' (one_upgrade (Err found) (Err found') h k) in
-      ap Err (some_same f g (sym same ∙ (ap certificate_fault_of equal ∙ same')))
+      ap Err (same_some f g (sym same ∙ (ap certificate_fault_of equal ∙ same')))
 
 pub upgrade_determined : (setting : SettingValue) (certified : BoundNet × List ℕ) → Determined (UpgradeReply setting certified)
 upgrade_determined setting certified =

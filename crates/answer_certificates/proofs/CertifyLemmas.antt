@@ -1,12 +1,10 @@
 -- A circuit has one certificate, and at most one reply comes of `certify`.
 use Rattle.std.proofs.Common.{◌≡◌, ◌∙◌, sym, subst, ℕ, List, length, map, Ok}
-use Rattle.outcome.proofs.DeterminedLemmas.{determined_bind}
+use Rattle.outcome.proofs.DeterminedLemmas.{determined_bind, determined_exactly, determined_within}
 use Rattle.outcome.specs.Outcome.{Determined, Exactly, Within}
 use Rattle.net_core.specs.NetList.{nets}
-use Rattle.net_flat.proofs.FlatDetermined.{determined_within}
 use Rattle.net_words.specs.Binding.{BoundNet}
 use Rattle.net_words.specs.Variables.{variables}
-use Rattle.net_words.proofs.BindDetermined.{determined_exactly}
 use Rattle.gf_basis.specs.BasisParts.{elements_of}
 use Rattle.gf_basis.specs.declared.bases.Basis.{Basis}
 use Rattle.poly_mixed.specs.Polynomial.{Terms}

@@ -23,9 +23,9 @@ use Rattle.answer_certificates.specs.Certificates.{HaveDuals}
 use Rattle.answer_core.specs.Abstraction.{IsInWords, taken_circuit}
 use Rattle.answer_certificates.specs.private.CertificateStop.{IsNamedVerdict}
 use Rattle.answer_certificates.proofs.CertificateLabelLemmas.{has_numbers, names_variables, names_words}
-use Rattle.answer_core.proofs.PrintedLemmas.{all_named}
 use Rattle.answer_core.proofs.BoundBasesLemmas.{bases_are, count}
 use Rattle.answer_core.proofs.StageLemmas.{IsJob}
+use Rattle.stage_model.proofs.SharedLemmas.{no_names}
 
 module _ (k : ℕ) (mul : ℕ → ℕ → ℕ) (setting : Setting) (ready : IsReady k mul setting) (circuit : BoundNet) (taken : IsTakenFor k setting circuit) (job : IsJob k mul circuit setting.bases.items) where
   abbrev labels : Labelling
@@ -59,7 +59,7 @@ module _ (k : ℕ) (mul : ℕ → ℕ → ℕ) (setting : Setting) (ready : IsRe
   verdict_named most bytes (valid claim) is =
       let output = proves_output k mul circuit setting.bases.items labels most bytes claim job.ring job.nozero job.sound job.bound job.same with_duals.are labels_name is in
       let P : ℕ → Type 0 = λ n. InFirstWords n claim in (
-        all_named (bit_count (word_labels k setting.signature.words) + 0) claim output.no_bits,
+        no_names (bit_count (word_labels k setting.signature.words) + 0) claim output.no_bits,
         subst P (count k mul setting ready circuit taken) output.words_alone,
       )
   verdict_named most bytes (invalid remaining) is = tt

@@ -1,7 +1,8 @@
 -- A verdict is that of the setting: of its bases alone, since a basis has one dual.
-use Rattle.std.proofs.Common.{◌≡◌, ◌∙◌, ap, sym, refl, subst, inl, inr, ℕ, suc, ◌+◌, ◌*◌, bit_xor, slice_index, slice_get, List, [], ◌∷◌, drop, map, Option, Some, Result, Ok, Err}
+use Rattle.std.proofs.Common.{◌≡◌, ◌∙◌, ap, sym, refl, subst, inl, inr, ℕ, suc, ◌+◌, ◌*◌, bit_xor, slice_index, slice_get, List, [], ◌∷◌, drop, map, Result, Ok, Err}
 use Rattle.std.specs.Str.Lines.{lines}
 use Rattle.lists.specs.Lists.{Has}
+use Rattle.lists.specs.laws.OptionLaws.{same_some}
 use Rattle.outcome.specs.Outcome.{Outcome, Determined}
 use Rattle.gf_field.specs.Field.{HasNoZeroDivisors}
 use Rattle.gf_field.specs.Ring.{IsRing}
@@ -26,7 +27,6 @@ use Rattle.cert_check.specs.Running.{bit_value, dual_at, dual_form, generator_va
 use Rattle.cert_check.specs.Verdict.{Verdict, valid, invalid, AsksAtMost, Check, IsRunningSum, VerdictOn}
 use Rattle.cert_check.specs.declared.fault.CertFault.{CertFault}
 use Rattle.cert_check.proofs.DeterminedLemmas.{one_verdict}
-use Rattle.job_words.specs.declared.fault.Fault.{Fault}
 use Rattle.job_input.specs.SettingSound.{IsSoundSetting}
 use Rattle.job_input.specs.SettingValue.{SettingValue}
 use Rattle.answer_certificates.specs.Certificates.{HaveDuals, certificate_labels, sum_fault}
@@ -124,9 +124,6 @@ module _ (setting : SettingValue) (circuit : BoundNet) (sound : IsSoundSetting s
   one_of bases others first second most bytes r s a b =
       one_verdict setting.k setting.product sound.ring sound.field circuit others (certificate_labels setting circuit) most bytes r s (moved bases others first second most bytes r a) b
 
-  some_same : (f g : Fault) → ◌≡◌ {A = Option Fault} (Some f) (Some g) → f ≡ g
-  some_same f g e = cc
-
   same_ok : (v w : Verdict) → ◌≡◌ {A = Result Verdict CertFault} (Ok v) (Ok w) → v ≡ w
   same_ok v w e = cc
 
@@ -142,4 +139,4 @@ module _ (setting : SettingValue) (circuit : BoundNet) (sound : IsSoundSetting s
   verdict_determined most bytes (Err f) (Ok w) (bases, a, found, is, same) (others, b, are) = absurd (apart w found (one_of others bases b a most bytes (Ok w) (Err found) are is))
   verdict_determined most bytes (Err f) (Err g) (bases, a, found, is, same) (others, b, found', are, same') =
       let equal : found ≡ found' = same_err found found' (one_of bases others a b most bytes (Err found) (Err found') is are) in
-      ap Err (some_same f g (sym same ∙ (ap (sum_fault most) equal ∙ same')))
+      ap Err (same_some f g (sym same ∙ (ap (sum_fault most) equal ∙ same')))

@@ -63,7 +63,7 @@ CertifiedBy net netlist cycles bytes = do
   circuit ← UnrolledIn net netlist cycles
   Exactly (circuit, bytes)
 
--- the same of the certificate's file, over a netlist
+-- the circuit of a netlist that was read, beside the bytes of a certificate's file, which is read first
 abbrev pub CertifiedOver : Option Files → Word → BoundNet → Word → ℕ → Outcome Fault (BoundNet × List ℕ)
 CertifiedOver held net netlist file cycles = do
   bytes ← Within faults.File (Read held file)

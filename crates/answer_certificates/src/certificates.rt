@@ -74,7 +74,7 @@ pub(crate) fn read_certified<S: Shelf>(
     }
 }
 
-// The same over the netlist, of the certificate's file.
+// The circuit of a netlist that was read, and the bytes of the certificate's file, which is read here.
 fn certified_over<S: Shelf>(
     alloc: Global,
     shelf: &mut S,
@@ -97,7 +97,7 @@ fn certified_over<S: Shelf>(
     }
 }
 
-// The same over the netlist and the bytes of the certificate: the cycles are unrolled.
+// The circuit of a netlist, whose cycles are unrolled here, beside the bytes of a certificate.
 fn certified_by(
     alloc: Global,
     net: &str,

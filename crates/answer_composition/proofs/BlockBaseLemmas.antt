@@ -1,9 +1,10 @@
 -- Lists of bases, for the words of a top and then for those of blocks, one after another.
-use Rattle.std.proofs.Common.{◌≡◌, ◌⊎◌, ◌∙◌, ap, sym, refl, subst, inl, inr, ℕ, zero, suc, ◌+◌, ◌<◌, ◌≤◌, List, [], ◌∷◌, ◌++◌, length, map, drop, get_or, Some, Result, Ok, Err, arith}
+use Rattle.std.proofs.Common.{◌≡◌, ◌⊎◌, ◌∙◌, ap, sym, refl, subst, inl, inr, ℕ, ◌+◌, ◌<◌, ◌≤◌, List, [], ◌∷◌, ◌++◌, length, map, drop, get_or, Some, Result, Ok, Err, arith}
 use Rattle.std.specs.Prelude.{slice_get}
 use Rattle.std.proofs.lemmas.Bool.{cases_lt}
 use Rattle.std.proofs.lemmas.List.{drop_more, length-append, length-map, map-append}
 use Rattle.std.proofs.lemmas.Option.{get_or_from_slice_get, slice_get_within}
+use Rattle.lists.specs.laws.ReadLaws.{get_front}
 use Rattle.net_signature.specs.Body.{BlockValue}
 use Rattle.net_words.specs.declared.word.WordText.{WordText}
 use Rattle.gf_basis.specs.BasisParts.{elements_of}
@@ -17,11 +18,6 @@ use Rattle.answer_composition.specs.Compose.{WithBlocks}
 use Rattle.answer_composition.specs.private.Composing.{AreListsOf}
 
 -- ---- places in a longer list
-
-pub front_at : {A : Type 0} (xs ys : List A) (i : ℕ) (x : A) → slice_get xs i ≡ Some x → slice_get (xs ++ ys) i ≡ Some x
-front_at [] ys i x got = absurd (cc)
-front_at (y ∷ xs) ys zero x got = got
-front_at (y ∷ xs) ys (suc i) x got = front_at xs ys i x got
 
 pub last_at : {A : Type 0} (xs : List A) (x : A) → slice_get (xs ++ x ∷ []) (length xs) ≡ Some x
 last_at [] x = refl
@@ -59,7 +55,7 @@ module _ (k : ℕ) (product : ℕ → ℕ → ℕ) where
 
   -- one list more keeps the others
   kept : (bases : List (List Basis)) (more : List (List Basis)) (n : ℕ) (words : List WordText) → HasBases k product bases n words → HasBases k product (bases ++ more) n words
-  kept bases more n words has = record { list = has.list; at = front_at bases more n has.list has.at; long = has.long; each = has.each }
+  kept bases more n words has = record { list = has.list; at = get_front bases more n has.list has.at; long = has.long; each = has.each }
 
   pub to_step : (words : List WordText) (blocks : List BlockValue) (old new : List (List Basis)) (list : List Basis) (i : ℕ) (d block : BlockValue) → i < length blocks → block ≡ get_or blocks i d → new ≡ old ++ list ∷ [] → BasesOf k product block.words (Ok (map elements_of list)) → AreBasesOver k product list → AreListsTo words blocks i old → AreListsTo words blocks (i + 1) new
   to_step words blocks old new list i d block less is new_is are over to =

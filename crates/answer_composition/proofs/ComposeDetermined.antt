@@ -1,11 +1,12 @@
 -- At most one reply or fault comes of `compose`.
-use Rattle.std.proofs.Common.{◌≡◌, ◌∙◌, ap, sym, refl, subst, ℕ, zero, suc, ◌+◌, List, [], ◌∷◌, ◌++◌, length, Option, Some, Result, Ok, Err, arith}
+use Rattle.std.proofs.Common.{◌≡◌, ◌∙◌, ap, sym, refl, subst, ℕ, zero, suc, ◌+◌, List, [], ◌∷◌, ◌++◌, length, Some, Result, Ok, Err, arith}
 use Rattle.std.specs.Prelude.{slice_get}
 use Rattle.std.specs.Option.{unwrap_or}
 use Rattle.std.proofs.lemmas.List.{length-append}
 use Rattle.std.proofs.lemmas.Option.{slice_get_within}
-use Rattle.lists.specs.laws.ReadLaws.{get_below}
-use Rattle.outcome.proofs.DeterminedLemmas.{determined_bind}
+use Rattle.lists.specs.laws.OptionLaws.{same_some}
+use Rattle.lists.specs.laws.ReadLaws.{get_below, get_front}
+use Rattle.outcome.proofs.DeterminedLemmas.{determined_after, determined_bind, determined_exactly, determined_within}
 use Rattle.outcome.specs.ForEach.{AreValues}
 use Rattle.outcome.specs.Outcome.{◌>>=◌, Determined, Exactly, Within}
 use Rattle.net_core.specs.NetList.{NetList}
@@ -14,13 +15,13 @@ use Rattle.net_blif.specs.Models.{AreRight, BlifDesign}
 use Rattle.net_blif.specs.Top.{instances_of}
 use Rattle.net_blif.proofs.OutcomeLemmas.{determined_design}
 use Rattle.net_flat.specs.Flat.{Flattens}
-use Rattle.net_flat.proofs.FlatDetermined.{determined_after, determined_within, flattens_once}
+use Rattle.net_flat.proofs.FlatDetermined.{flattens_once}
 use Rattle.net_signature.specs.Body.{BlockValue}
 use Rattle.net_signature.specs.Signature.{SignatureValue}
 use Rattle.net_words.specs.Bind.{BindingOf}
 use Rattle.net_words.specs.Binding.{Binding, BoundNet}
 use Rattle.net_words.specs.declared.binding.BindFault.{BindFault}
-use Rattle.net_words.proofs.BindDetermined.{binding_determined, determined_exactly}
+use Rattle.net_words.proofs.BindDetermined.{binding_determined}
 use Rattle.poly_mixed.specs.Polynomial.{Terms}
 use Rattle.circuit_model.specs.OfBinding.{circuit_with}
 use Rattle.compose_model.specs.Given.{HaveBasesOf}
@@ -30,12 +31,10 @@ use Rattle.compose_blocks.specs.Plan.{UsesOf}
 use Rattle.compose_blocks.specs.Structure.{IsUnfed}
 use Rattle.compose_blocks.specs.Uses.{BlockUse, UseOf}
 use Rattle.compose_blocks.proofs.PlanDetermined.{plan_determined}
-use Rattle.block_compose.specs.Composed.{ComposesIn, HasNoCycle, StagesOf, WiringOf}
+use Rattle.block_compose.specs.Composed.{fault_of_plan, fault_of_wiring, ComposesIn, HasNoCycle, StagesOf, WiringOf}
 use Rattle.block_compose.specs.declared.fault.ComposeFault.{ComposeFault}
-use Rattle.block_compose.specs.declared.fault.ComposeFault.TheVariants.{Plan, Wiring}
 use Rattle.block_compose.proofs.GivenLemmas.{unfed_words}
 use Rattle.block_compose.proofs.StepsDetermined.{cycle_determined, stages_determined, wiring_determined}
-use Rattle.job_words.specs.declared.fault.Fault.{Fault}
 use Rattle.job_words.specs.declared.fault.Fault.TheVariants as faults
 use Rattle.job_words.specs.declared.netlist_fault.NetlistFault.{NetlistFault}
 use Rattle.job_words.specs.declared.netlist_fault.NetlistFault.TheVariants as netlist
@@ -49,7 +48,7 @@ use Rattle.job_input.proofs.SettingSoundLemmas.{bases_sound}
 use Rattle.job_input.proofs.SettingWordLemmas.{bases_long}
 use Rattle.answer_core.specs.Reply.{prints}
 use Rattle.answer_composition.specs.Compose.{compose_fault, hierarchy_with, ComposeOf, ComposeOver, ComposeReply, ListsOf, WithBlocks}
-use Rattle.answer_composition.proofs.BlockBaseLemmas.{front_at, last_at}
+use Rattle.answer_composition.proofs.BlockBaseLemmas.{last_at}
 use Rattle.answer_composition.proofs.BlockSettingLemmas.{CanBindBlocks}
 use Rattle.answer_composition.proofs.ComposeLemmas.{all_unfed}
 
@@ -91,7 +90,7 @@ module _ (k : ℕ) (product : ℕ → ℕ → ℕ) where
   -- a list that stands stays where it stands
   pub list_stays : (lists all : List (List (List ℕ))) (blocks : List BlockValue) (i : ℕ) (list : List (List ℕ)) → WithBlocks k product lists blocks (Ok all) → slice_get lists i ≡ Some list → slice_get all i ≡ Some list
   list_stays lists all [] i list is at = let P : List (List (List ℕ)) → Type 0 = λ ls. slice_get ls i ≡ Some list in subst P (sym is) at
-  list_stays lists all (block ∷ blocks) i list (bases, are, rest) at = list_stays (lists ++ bases ∷ []) all blocks i list rest (front_at lists (bases ∷ []) i list at)
+  list_stays lists all (block ∷ blocks) i list (bases, are, rest) at = list_stays (lists ++ bases ∷ []) all blocks i list rest (get_front lists (bases ∷ []) i list at)
 
   -- the list of a block is that of its words
   pub record HasListAt (all : List (List (List ℕ))) (place : ℕ) (block : BlockValue) : Type 0 where
@@ -168,13 +167,10 @@ module _ (setting : SettingValue) (sound : IsSoundSetting setting) (blocks : Can
 
   pub composition_determined : Determined (ComposesIn setting.k setting.product setting.signature h bound)
   composition_determined =
-      determined_after (Within Plan (UsesOf design setting.signature)) (λ uses. Within Wiring (WiringOf h) >>= (λ wiring. HasNoCycle wiring.0 >>= (λ acyclic. StagesOf setting.k setting.product h wiring.0 bound))) (determined_within Plan (UsesOf design setting.signature) (plan_determined design setting.signature)) (λ uses used.
-      determined_after (Within Wiring (WiringOf h)) (λ wiring. HasNoCycle wiring.0 >>= (λ acyclic. StagesOf setting.k setting.product h wiring.0 bound)) (determined_within Wiring (WiringOf h) (wiring_determined h)) (λ wiring wired.
+      determined_after (Within fault_of_plan (UsesOf design setting.signature)) (λ uses. Within fault_of_wiring (WiringOf h) >>= (λ wiring. HasNoCycle wiring.0 >>= (λ acyclic. StagesOf setting.k setting.product h wiring.0 bound))) (determined_within fault_of_plan (UsesOf design setting.signature) (plan_determined design setting.signature)) (λ uses used.
+      determined_after (Within fault_of_wiring (WiringOf h)) (λ wiring. HasNoCycle wiring.0 >>= (λ acyclic. StagesOf setting.k setting.product h wiring.0 bound)) (determined_within fault_of_wiring (WiringOf h) (wiring_determined h)) (λ wiring wired.
       determined_after (HasNoCycle wiring.0) (λ acyclic. StagesOf setting.k setting.product h wiring.0 bound) (cycle_determined wiring.0) (λ acyclic free.
       stages_determined setting.k setting.product h wiring.0 bound sound.ring sound.field (record { depth = right.2.2; top = top_based used.1; blocks = block_based; outputs = wired.outputs }) wired.feeds (have_blocks setting.k setting.product h uses used.2.2.2) free)))
-
-  some_same : (f g : Fault) → ◌≡◌ {A = Option Fault} (Some f) (Some g) → f ≡ g
-  some_same f g e = cc
 
   same_ok : (a b : Terms) → ◌≡◌ {A = Result Terms ComposeFault} (Ok a) (Ok b) → a ≡ b
   same_ok a b e = cc
@@ -191,7 +187,7 @@ module _ (setting : SettingValue) (sound : IsSoundSetting setting) (blocks : Can
   composed_determined (Err f) (Ok b) (found, x, same) y = absurd (apart b found (composition_determined (Ok b) (Err found) y x))
   composed_determined (Err f) (Err g) (found, x, same) (found', y, same') =
       let equal : found ≡ found' = same_err found found' (composition_determined (Err found) (Err found') x y) in
-      ap Err (some_same f g (sym same ∙ (ap (compose_fault setting design bound) equal ∙ same')))
+      ap Err (same_some f g (sym same ∙ (ap (compose_fault setting design bound) equal ∙ same')))
 
   reply_determined : Determined (ComposeReply setting design lists bound)
   reply_determined = determined_bind (ComposeOf setting design lists bound) (λ ts. Exactly (prints setting ts)) composed_determined (λ ts. determined_exactly (prints setting ts))

@@ -23,7 +23,7 @@ use Rattle.job_input.specs.Setting.{IsReady}
 use Rattle.job_input.specs.declared.setting.Setting.{Setting}
 use Rattle.answer_composition.specs.private.Composing.{AreListsOf}
 use Rattle.answer_composition.proofs.ComposeStopLemmas.{counted}
-use Rattle.answer_core.proofs.NamedLemmas.{named_terms}
+use Rattle.stage_model.proofs.SharedLemmas.{named_terms}
 
 -- no word is fed, one by one
 pub all_unfed : (words : List WordText) → ((word : WordText) → Has words word → word.role ≢ Fed) → AllByRecursion (λ (word : WordText). word.role ≢ Fed) words

@@ -2,7 +2,6 @@
 use Rattle.std.proofs.Common.{◌≡◌, ◌∙◌, ap, sym, refl, subst, inl, inr, ℕ, suc, ◌+◌, Bool, true, false, cond, List, [], ◌∷◌, ◌++◌, codes, Option, None, Some, Result, Ok, Err, arith}
 use Rattle.std.specs.Prelude.{slice_get, IfSome}
 use Rattle.std.specs.List.{AllByRecursion}
-use Rattle.std.specs.Option.{option_map_or}
 use Rattle.std.specs.Str.{bytes_eq}
 use Rattle.std.proofs.lemmas.Slice.Eq.{bytes_eq-Decides}
 use Rattle.lists.specs.Lists.{Has}
@@ -28,9 +27,9 @@ use Rattle.compose_blocks.specs.declared.plan_fault.PlanFault.TheVariants as pla
 use Rattle.compose_blocks.proofs.BlockLemmas.{found_block}
 use Rattle.compose_wiring.specs.declared.fault.WiringFault.{WiringFault}
 use Rattle.compose_wiring.specs.declared.fault.WiringFault.TheVariants as wirings
-use Rattle.block_compose.specs.Composed.{ComposesIn, HasNoCycle, StagesOf}
+use Rattle.block_compose.specs.Composed.{fault_of_plan, fault_of_wiring, ComposesIn, HasNoCycle, StagesOf}
 use Rattle.block_compose.specs.declared.fault.ComposeFault.{ComposeFault}
-use Rattle.block_compose.specs.declared.fault.ComposeFault.TheVariants.{Plan, Wiring, InstanceLoop, TooManyTerms}
+use Rattle.block_compose.specs.declared.fault.ComposeFault.TheVariants.{InstanceLoop, TooManyTerms}
 use Rattle.job_words.specs.OneLine.{HasNoLineFeed, KeepsToItsLine}
 use Rattle.job_words.specs.Operands.{Word}
 use Rattle.job_words.specs.StageFault.{stage_text}
@@ -41,18 +40,15 @@ use Rattle.job_words.specs.declared.signature_fault.SignatureFault.{SignatureFau
 use Rattle.job_words.proofs.OneLineLemmas.{clean_kept, clean_then, kept_clean, stage_kept}
 use Rattle.job_input.specs.HierarchyIn.{HierarchyIn, HierarchyOf}
 use Rattle.job_input.specs.Labelling.{labels_of}
-use Rattle.job_input.specs.NetlistOf.{Blif, BoundNetOf, word_name}
+use Rattle.job_input.specs.NetlistOf.{Blif, BoundNetOf}
 use Rattle.job_input.specs.SettingOf.{BasesOf}
 use Rattle.job_input.specs.SettingValue.{SettingValue}
 use Rattle.job_input.proofs.BlifLabelLemmas.{printing_kept}
 use Rattle.job_input.proofs.BlifTextLemmas.{design_prints, ModelPrints}
-use Rattle.job_input.proofs.FileLineLemmas.{file_keeps, labels_kept, setting_keeps, RepeatsKept}
-use Rattle.job_input.proofs.NetlistLineLemmas.{name_kept, netlist_keeps}
+use Rattle.job_input.proofs.FileLineLemmas.{file_keeps, labels_kept, setting_keeps, RepeatsKept, same_line}
+use Rattle.job_input.proofs.NetlistLineLemmas.{netlist_keeps, word_kept}
 use Rattle.answer_composition.specs.Compose.{compose_fault, hierarchy_with, instance_model, words_in, ComposeAnswer, ComposeOver, ListsOf, WithBlocks}
 use Rattle.answer_composition.proofs.BlockSettingLemmas.{HaveBlockNames}
-
-same_line : (fault other : Fault) → fault ≡ other → KeepsToItsLine other → KeepsToItsLine fault
-same_line fault other same keeps = let P : Fault → Type 0 = KeepsToItsLine in subst P (sym same) keeps
 
 -- ---- the netlist
 
@@ -108,13 +104,6 @@ words_named (block ∷ blocks) each model = by (bytes_eq model block.model) (wor
     by true rest = each block (0, refl)
     by false rest = rest
 
-word_kept : (words : List WordText) (w : ℕ) → HaveNames words → HasNoLineFeed (word_name words w)
-word_kept words w names = by (slice_get words w) refl
-  where
-    by : (found : Option WordText) → slice_get words w ≡ found → HasNoLineFeed (option_map_or (λ (word : WordText). word.name) found [])
-    by None at = nothing_kept
-    by (Some word) at = name_kept word.name (names.names word (w, at))
-
 -- ---- a composition
 
 module _ (setting : SettingValue) (design : List ModelValue) (bound : ℕ) (prints : AllByRecursion ModelPrints design) (right : AreRight design (Ok tt)) (names : HaveNames setting.signature.words) (block_names : HaveBlockNames setting.signature) where
@@ -147,28 +136,28 @@ module _ (setting : SettingValue) (design : List ModelValue) (bound : ℕ) (prin
       let P : Token → Type 0 = HasNoLineFeed in
       subst P (sym same) (block_kept item number block is.named is.found (model_kept (model_in item) model is.model_is))
 
-  use_kept : (item : Item) (fault : PlanFault) → UseOf design setting.signature.blocks item (Err fault) → Keeps (Plan fault)
+  use_kept : (item : Item) (fault : PlanFault) → UseOf design setting.signature.blocks item (Err fault) → Keeps (fault_of_plan fault)
   use_kept item (plans.BlockNet name) is = (used_kept item is.number is.model is.block name is.is_block is.name_is, tt)
   use_kept item (plans.BlockLatch name) is = (used_kept item is.number is.model is.block name is.is_block is.name_is, tt)
   use_kept item (plans.BlockBind name) is = (used_kept item is.number is.model is.block name is.is_block is.name_is, tt)
   use_kept item fault is = absurd is
 
-  same_plan : (fault other : PlanFault) → fault ≡ other → Keeps (Plan other) → Keeps (Plan fault)
-  same_plan fault other same keeps = let P : PlanFault → Type 0 = λ f. Keeps (Plan f) in subst P (sym same) keeps
+  same_plan : (fault other : PlanFault) → fault ≡ other → Keeps (fault_of_plan other) → Keeps (fault_of_plan fault)
+  same_plan fault other same keeps = let P : PlanFault → Type 0 = λ f. Keeps (fault_of_plan f) in subst P (sym same) keeps
 
-  fed_kept : (b : Bool) (fault : PlanFault) → ◌≡◌ {A = Result (Unit {0}) PlanFault} (Err fault) (cond b (Err plans.FedInTop) (Ok tt)) → Keeps (Plan fault)
+  fed_kept : (b : Bool) (fault : PlanFault) → ◌≡◌ {A = Result (Unit {0}) PlanFault} (Err fault) (cond b (Err plans.FedInTop) (Ok tt)) → Keeps (fault_of_plan fault)
   fed_kept true fault e = let same : fault ≡ plans.FedInTop = cc in same_plan fault plans.FedInTop same tt
   fed_kept false fault e = absurd (cc)
 
-  gate_kept : (line : Option ℕ) (fault : PlanFault) → ◌≡◌ {A = Result (Unit {0}) PlanFault} (Err fault) (gate_refused line) → Keeps (Plan fault)
+  gate_kept : (line : Option ℕ) (fault : PlanFault) → ◌≡◌ {A = Result (Unit {0}) PlanFault} (Err fault) (gate_refused line) → Keeps (fault_of_plan fault)
   gate_kept None fault e = absurd (cc)
   gate_kept (Some line) fault e = let same : fault ≡ plans.GateInTop line = cc in same_plan fault (plans.GateInTop line) same tt
 
-  none_kept : (model : Token) (number : Option ℕ) (fault : PlanFault) → HasNoLineFeed model → ◌≡◌ {A = Result ℕ PlanFault} (Err fault) (numbered model number) → Keeps (Plan fault)
+  none_kept : (model : Token) (number : Option ℕ) (fault : PlanFault) → HasNoLineFeed model → ◌≡◌ {A = Result ℕ PlanFault} (Err fault) (numbered model number) → Keeps (fault_of_plan fault)
   none_kept model None fault kept e = let same : fault ≡ plans.NoBlock model = cc in same_plan fault (plans.NoBlock model) same (kept, tt)
   none_kept model (Some number) fault kept e = absurd (cc)
 
-  plan_kept : (fault : PlanFault) → UsesOf design setting.signature (Err fault) → Keeps (Plan fault)
+  plan_kept : (fault : PlanFault) → UsesOf design setting.signature (Err fault) → Keeps (fault_of_plan fault)
   plan_kept fault (inl unfed) = fed_kept (has_feed setting.signature) fault unfed
   plan_kept fault (inr (u, unfed, inl alone)) = gate_kept (gate_line design) fault alone
   plan_kept fault (inr (u, unfed, inr (v, alone, inl first))) = none_kept (model_in first.element) (block_from 0 setting.signature.blocks (model_in first.element)) fault (instance_kept first.place first.element first.at) first.is
@@ -176,7 +165,7 @@ module _ (setting : SettingValue) (design : List ModelValue) (bound : ℕ) (prin
 
   -- ---- the wiring, cycles and stages
 
-  wiring_kept : (fault : WiringFault) → Keeps (Wiring fault)
+  wiring_kept : (fault : WiringFault) → Keeps (fault_of_wiring fault)
   wiring_kept (wirings.NotWords instance word) = (word_kept (words_in setting.signature.blocks (instance_model design instance)) word (words_named setting.signature.blocks block_names (instance_model design instance)), tt)
   wiring_kept wirings.OutputNotWords = tt
   wiring_kept wirings.OutOfMemory = tt
@@ -203,8 +192,8 @@ module _ (setting : SettingValue) (design : List ModelValue) (bound : ℕ) (prin
     stages_kept rows fault is = absurd is
 
     composed_kept : (fault : ComposeFault) → ComposesIn setting.k setting.product setting.signature h bound (Err fault) → Keeps fault
-    composed_kept fault (inl (other, is, same)) = same_keeps fault (Plan other) same (plan_kept other is)
-    composed_kept fault (inr (uses, are, inl (other, is, same))) = same_keeps fault (Wiring other) same (wiring_kept other)
+    composed_kept fault (inl (other, is, same)) = same_keeps fault (fault_of_plan other) same (plan_kept other is)
+    composed_kept fault (inr (uses, are, inl (other, is, same))) = same_keeps fault (fault_of_wiring other) same (wiring_kept other)
     composed_kept fault (inr (uses, are, inr (wiring, wired, inl is))) = cycle_kept wiring.0 fault is
     composed_kept fault (inr (uses, are, inr (wiring, wired, inr (u, free, is)))) = stages_kept wiring.0 fault is
 

@@ -27,9 +27,9 @@ use Rattle.compose_blocks.proofs.BlockLemmas.{found_block, name_is}
 use Rattle.compose_wiring.specs.declared.fault.WiringFault.{WiringFault}
 use Rattle.compose_wiring.specs.declared.fault.WiringFault.TheVariants as wirings
 use Rattle.compose_stages.specs.InstanceStages.{instance_in}
-use Rattle.block_compose.specs.Composed.{ComposesIn, IsBlockOver, MayFault, StagesOf}
+use Rattle.block_compose.specs.Composed.{fault_of_plan, fault_of_wiring, ComposesIn, IsBlockOver, MayFault, StagesOf}
 use Rattle.block_compose.specs.declared.fault.ComposeFault.{ComposeFault}
-use Rattle.block_compose.specs.declared.fault.ComposeFault.TheVariants.{Plan, Wiring, InstanceLoop, TooManyTerms, OutOfMemory}
+use Rattle.block_compose.specs.declared.fault.ComposeFault.TheVariants.{TooManyTerms, OutOfMemory}
 use Rattle.job_words.specs.StageFault.{HasItsWord}
 use Rattle.job_words.specs.Stop.{GivesBy}
 use Rattle.job_words.specs.declared.fault.Fault.{Fault}
@@ -38,7 +38,7 @@ use Rattle.job_input.specs.Labelling.{word_labels}
 use Rattle.job_input.specs.SettingValue.{SettingValue}
 use Rattle.job_input.proofs.CountLemmas.{as_many}
 use Rattle.job_input.proofs.RoleLemmas.{binding_roles, roles_long}
-use Rattle.answer_composition.specs.Compose.{compose_fault, hierarchy_with, plan_fault, wiring_fault, words_in, ComposeOf}
+use Rattle.answer_composition.specs.Compose.{compose_fault, hierarchy_with, words_in, ComposeOf}
 use Rattle.answer_composition.specs.private.Composing.{HasNamedStage, IsStageIn}
 use Rattle.answer_core.specs.StageStop.{IsStopOf}
 use Rattle.answer_core.proofs.RefusalLemmas.{stopped, IsNoMiss}
@@ -46,37 +46,15 @@ use Rattle.answer_core.proofs.RefusalLemmas.{stopped, IsNoMiss}
 -- ---- the fault itself
 
 -- it is none of a missing file
-no_plan_miss : (fault : PlanFault) → IsNoMiss (plan_fault fault)
-no_plan_miss plans.OutOfMemory = tt
-no_plan_miss fault = λ miss. miss
-
-no_wiring_miss : (blocks : List BlockValue) (design : List ModelValue) (fault : WiringFault) → IsNoMiss (wiring_fault blocks design fault)
-no_wiring_miss blocks design wirings.OutOfMemory = tt
-no_wiring_miss blocks design fault = λ miss. miss
-
 no_miss : (setting : SettingValue) (design : List ModelValue) (bound : ℕ) (fault : ComposeFault) → IsNoMiss (compose_fault setting design bound fault)
-no_miss setting design bound (Plan fault) = no_plan_miss fault
-no_miss setting design bound (Wiring fault) = no_wiring_miss setting.signature.blocks design fault
-no_miss setting design bound (InstanceLoop instance) = λ miss. miss
-no_miss setting design bound (TooManyTerms block stage terms) = λ miss. miss
 no_miss setting design bound OutOfMemory = tt
+no_miss setting design bound fault = λ miss. miss
 
 -- a fault with a refusal is one that may come
 module _ (outcome : Outcome ComposeFault Terms) (f : Fault) where
-  plan_comes : (found : PlanFault) → MayFault outcome (Plan found) → plan_fault found ≡ Some f → outcome (Err (Plan found))
-  plan_comes plans.OutOfMemory may same = absurd (cc)
-  plan_comes found may same = may
-
-  wiring_comes : (blocks : List BlockValue) (design : List ModelValue) (found : WiringFault) → MayFault outcome (Wiring found) → wiring_fault blocks design found ≡ Some f → outcome (Err (Wiring found))
-  wiring_comes blocks design wirings.OutOfMemory may same = absurd (cc)
-  wiring_comes blocks design found may same = may
-
   composition_comes : (setting : SettingValue) (design : List ModelValue) (bound : ℕ) (found : ComposeFault) → MayFault outcome found → compose_fault setting design bound found ≡ Some f → outcome (Err found)
-  composition_comes setting design bound (Plan found) may same = plan_comes found may same
-  composition_comes setting design bound (Wiring found) may same = wiring_comes setting.signature.blocks design found may same
-  composition_comes setting design bound (InstanceLoop instance) may same = may
-  composition_comes setting design bound (TooManyTerms block stage terms) may same = may
   composition_comes setting design bound OutOfMemory may same = absurd (cc)
+  composition_comes setting design bound found may same = may
 
 -- a refusal of the composition is one of the command
 pub compose_stops : {X : Type 0} (view : X → Terms) (setting : SettingValue) (design : List ModelValue) (lists : List (List (List ℕ))) (bound : ℕ) (found : ComposeFault) (stop : Stop)
@@ -175,11 +153,19 @@ module _ (k : ℕ) (mul : ℕ → ℕ → ℕ) (h : Hierarchy) where
 
     -- ---- the stages come last
 
-    plan_apart : (fault : PlanFault) (block : Option Token) (stage : Stage) (terms : ℕ) → ◌≡◌ {A = ComposeFault} (TooManyTerms block stage terms) (Plan fault) → ⊥
-    plan_apart fault block stage terms e = cc
+    plan_apart : (fault : PlanFault) (block : Option Token) (stage : Stage) (terms : ℕ) → ◌≡◌ {A = ComposeFault} (TooManyTerms block stage terms) (fault_of_plan fault) → ⊥
+    plan_apart plans.FedInTop block stage terms e = cc
+    plan_apart (plans.GateInTop line) block stage terms e = cc
+    plan_apart (plans.NoBlock model) block stage terms e = cc
+    plan_apart (plans.BlockNet model) block stage terms e = cc
+    plan_apart (plans.BlockLatch model) block stage terms e = cc
+    plan_apart (plans.BlockBind model) block stage terms e = cc
+    plan_apart plans.OutOfMemory block stage terms e = cc
 
-    wiring_apart : (fault : WiringFault) (block : Option Token) (stage : Stage) (terms : ℕ) → ◌≡◌ {A = ComposeFault} (TooManyTerms block stage terms) (Wiring fault) → ⊥
-    wiring_apart fault block stage terms e = cc
+    wiring_apart : (fault : WiringFault) (block : Option Token) (stage : Stage) (terms : ℕ) → ◌≡◌ {A = ComposeFault} (TooManyTerms block stage terms) (fault_of_wiring fault) → ⊥
+    wiring_apart (wirings.NotWords instance word) block stage terms e = cc
+    wiring_apart wirings.OutputNotWords block stage terms e = cc
+    wiring_apart wirings.OutOfMemory block stage terms e = cc
 
     stage_refused : (signature : SignatureValue) (bound : ℕ) (block : Option Token) (stage : Stage) (terms : ℕ) → ComposesIn k mul signature h bound (Err (TooManyTerms block stage terms)) → (rows : List (List Feeder)) × StagesOf k mul h rows bound (Err (TooManyTerms block stage terms))
     stage_refused signature bound block stage terms (inl (fault, is, same)) = absurd (plan_apart fault block stage terms same)

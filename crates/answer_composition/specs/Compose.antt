@@ -15,13 +15,9 @@ use Rattle.net_words.specs.declared.word.WordText.{WordText}
 use Rattle.poly_mixed.specs.Polynomial.{Terms}
 use Rattle.poly_mixed.specs.declared.stage.Stage.{Stage}
 use Rattle.compose_model.specs.Hierarchy.{Hierarchy}
-use Rattle.compose_blocks.specs.declared.plan_fault.PlanFault.{PlanFault}
-use Rattle.compose_blocks.specs.declared.plan_fault.PlanFault.TheVariants as plans
-use Rattle.compose_wiring.specs.declared.fault.WiringFault.{WiringFault}
-use Rattle.compose_wiring.specs.declared.fault.WiringFault.TheVariants as wirings
 use Rattle.block_compose.specs.Composed.{ComposesIn}
 use Rattle.block_compose.specs.declared.fault.ComposeFault.{ComposeFault}
-use Rattle.block_compose.specs.declared.fault.ComposeFault.TheVariants.{Plan, Wiring, InstanceLoop, TooManyTerms, OutOfMemory}
+use Rattle.block_compose.specs.declared.fault.ComposeFault.TheVariants as composing
 use Rattle.job_words.specs.StageFault.{block_stage_text, stage_text}
 use Rattle.job_words.specs.declared.composition_fault.CompositionFault.TheVariants as composition
 use Rattle.job_words.specs.declared.fault.Fault.{Fault}
@@ -70,29 +66,19 @@ abbrev pub stage_called : SettingValue → Option Token → Stage → List ℕ
 stage_called setting None stage = stage_text (labels_of setting.k setting.signature.words) stage
 stage_called setting (Some model) stage = block_stage_text model (labels_of setting.k (words_in setting.signature.blocks model)) stage
 
--- the fault of a top whose instances are refused blocks; out of memory is none
-abbrev pub plan_fault : PlanFault → Option Fault
-plan_fault plans.FedInTop = Some (faults.Composition composition.FedInTop)
-plan_fault (plans.GateInTop line) = Some (faults.Composition (composition.GateInTop line))
-plan_fault (plans.NoBlock model) = Some (faults.Composition (composition.NoBlock model))
-plan_fault (plans.BlockNet model) = Some (faults.Composition (composition.BlockNet model))
-plan_fault (plans.BlockLatch model) = Some (faults.Composition (composition.BlockLatch model))
-plan_fault (plans.BlockBind model) = Some (faults.Composition (composition.BlockBind model))
-plan_fault plans.OutOfMemory = None
-
--- the fault of a top that is not wired, with the name of a word that nothing fits; out of memory is none
-abbrev pub wiring_fault : List BlockValue → List ModelValue → WiringFault → Option Fault
-wiring_fault blocks design (wirings.NotWords instance word) = Some (faults.Composition (composition.NotWords instance (word_name (words_in blocks (instance_model design instance)) word)))
-wiring_fault blocks design wirings.OutputNotWords = Some (faults.Composition composition.OutputNotWords)
-wiring_fault blocks design wirings.OutOfMemory = None
-
--- the fault of a refused composition; out of memory is none
+-- the fault of a refused composition, with the name of a word that nothing fits; out of memory is none
 abbrev pub compose_fault : SettingValue → List ModelValue → ℕ → ComposeFault → Option Fault
-compose_fault setting design bound (Plan fault) = plan_fault fault
-compose_fault setting design bound (Wiring fault) = wiring_fault setting.signature.blocks design fault
-compose_fault setting design bound (InstanceLoop instance) = Some (faults.Composition (composition.InstanceLoop instance))
-compose_fault setting design bound (TooManyTerms block stage terms) = Some (faults.Stage (record { stage = stage_called setting block stage; terms = terms; bound = bound }))
-compose_fault setting design bound OutOfMemory = None
+compose_fault setting design bound composing.FedInTop = Some (faults.Composition composition.FedInTop)
+compose_fault setting design bound (composing.GateInTop line) = Some (faults.Composition (composition.GateInTop line))
+compose_fault setting design bound (composing.NoBlock model) = Some (faults.Composition (composition.NoBlock model))
+compose_fault setting design bound (composing.BlockNet model) = Some (faults.Composition (composition.BlockNet model))
+compose_fault setting design bound (composing.BlockLatch model) = Some (faults.Composition (composition.BlockLatch model))
+compose_fault setting design bound (composing.BlockBind model) = Some (faults.Composition (composition.BlockBind model))
+compose_fault setting design bound (composing.NotWords instance word) = Some (faults.Composition (composition.NotWords instance (word_name (words_in setting.signature.blocks (instance_model design instance)) word)))
+compose_fault setting design bound composing.OutputNotWords = Some (faults.Composition composition.OutputNotWords)
+compose_fault setting design bound (composing.InstanceLoop instance) = Some (faults.Composition (composition.InstanceLoop instance))
+compose_fault setting design bound (composing.TooManyTerms block stage terms) = Some (faults.Stage (record { stage = stage_called setting block stage; terms = terms; bound = bound }))
+compose_fault setting design bound composing.OutOfMemory = None
 
 -- ---- the answer
 

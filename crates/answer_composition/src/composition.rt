@@ -10,14 +10,12 @@ ghost use Rattle.job_words.specs.declared.fault.Fault.TheVariants.{Composition a
 ghost use Rattle.job_input.specs.Labelling.{labels_of, word_labels};
 ghost use Rattle.job_input.specs.NetlistOf.{word_name as name_of_word};
 ghost use Rattle.job_input.specs.Setting.{IsReady, setting_value};
-ghost use Rattle.answer_composition.specs.Compose.{compose_fault, instance_model as model_of_instance, plan_fault, stage_called, wiring_fault, words_in as words_of_model};
+ghost use Rattle.answer_composition.specs.Compose.{compose_fault, instance_model as model_of_instance, stage_called, words_in as words_of_model};
 ghost use Rattle.answer_composition.specs.private.Composing.{HasNamedStage};
 ghost use Rattle.answer_core.specs.StageStop.{stage_fault, IsRefusalOf, IsStopOf};
 
 use answer_core::stage_stop;
 use block_compose::ComposeFault;
-use compose_blocks::PlanFault;
-use compose_wiring::WiringFault;
 use gf_field::Field;
 use job_input::{Setting, labels_for};
 use job_words::{CompositionFault, Fault, StageFault, Stop, write_block_stage};
@@ -43,9 +41,18 @@ pub(crate) fn composition_stop<F: Field>(
     requires named { HasNamedStage (F.degree field.now) setting.now.signature.words setting.now.signature.blocks fault }
     ensures { IsStopOf (compose_fault (setting_value (F.degree field.now) (F.product field.now) setting.now) design.now bound fault) result }
 {
+    let blocks = setting.signature.blocks();
     match fault {
-        ComposeFault::Plan(fault) => plan_stop(fault),
-        ComposeFault::Wiring(fault) => wiring_stop(alloc, setting, design, fault),
+        ComposeFault::FedInTop => refused(CompositionFault::FedInTop),
+        ComposeFault::GateInTop { line } => refused(CompositionFault::GateInTop { line }),
+        ComposeFault::NoBlock { model } => refused(CompositionFault::NoBlock { model }),
+        ComposeFault::BlockNet { model } => refused(CompositionFault::BlockNet { model }),
+        ComposeFault::BlockLatch { model } => refused(CompositionFault::BlockLatch { model }),
+        ComposeFault::BlockBind { model } => refused(CompositionFault::BlockBind { model }),
+        ComposeFault::NotWords { instance, word } => {
+            not_words(alloc, design, blocks, instance, word)
+        }
+        ComposeFault::OutputNotWords => refused(CompositionFault::OutputNotWords),
         ComposeFault::InstanceLoop { instance } => {
             refused(CompositionFault::InstanceLoop { instance })
         }
@@ -55,35 +62,6 @@ pub(crate) fn composition_stop<F: Field>(
             terms,
         } => stage_over(alloc, field, setting, labels, block, stage, terms, bound),
         ComposeFault::OutOfMemory => Stop::OutOfMemory,
-    }
-}
-
-// Why no output comes of a top whose instances are refused blocks.
-fn plan_stop(fault: PlanFault) -> Stop
-    ensures { IsStopOf (plan_fault fault) result }
-{
-    match fault {
-        PlanFault::FedInTop => refused(CompositionFault::FedInTop),
-        PlanFault::GateInTop { line } => refused(CompositionFault::GateInTop { line }),
-        PlanFault::NoBlock { model } => refused(CompositionFault::NoBlock { model }),
-        PlanFault::BlockNet { model } => refused(CompositionFault::BlockNet { model }),
-        PlanFault::BlockLatch { model } => refused(CompositionFault::BlockLatch { model }),
-        PlanFault::BlockBind { model } => refused(CompositionFault::BlockBind { model }),
-        PlanFault::OutOfMemory => Stop::OutOfMemory,
-    }
-}
-
-// Why no output comes of a top that is not wired.
-fn wiring_stop(alloc: Global, setting: &Setting, design: &Design, fault: WiringFault) -> Stop
-    ensures { IsStopOf (wiring_fault setting.now.signature.blocks design.now fault) result }
-{
-    let blocks = setting.signature.blocks();
-    match fault {
-        WiringFault::NotWords { instance, word } => {
-            not_words(alloc, design, blocks, instance, word)
-        }
-        WiringFault::OutputNotWords => refused(CompositionFault::OutputNotWords),
-        WiringFault::OutOfMemory => Stop::OutOfMemory,
     }
 }
 
@@ -146,7 +124,7 @@ fn instance_model(design: &Design, instance: u32) -> &str
     }
 }
 
-// The same of an instance that there is, which counts from 0.
+// The name of the model of an instance that there is, which counts from 0.
 fn model_name(design: &Design, place: u32) -> &str
     requires { place < length (instances_of design.now) }
     ensures { (item : Item) → slice_get (instances_of design.now) place ≡ Some item → result.now ≡ model_in item }

@@ -1,11 +1,11 @@
 -- At most one polynomial or fault comes of a well-formed circuit for a setting over a field.
 use Rattle.std.proofs.Common.{◌≡◌, ℕ, ◌+◌, length}
 use Rattle.outcome.specs.Outcome.{Determined, Within}
+use Rattle.outcome.proofs.DeterminedLemmas.{determined_within}
 use Rattle.gf_field.specs.Field.{HasNoZeroDivisors}
 use Rattle.gf_field.specs.Ring.{IsRing}
 use Rattle.net_core.specs.NetList.{nets}
 use Rattle.net_core.specs.Sound.{IsSound}
-use Rattle.net_flat.proofs.FlatDetermined.{determined_within}
 use Rattle.net_words.specs.Binding.{BoundNet}
 use Rattle.net_words.specs.Variables.{variables}
 use Rattle.poly_mixed.specs.Polynomial.{Terms}

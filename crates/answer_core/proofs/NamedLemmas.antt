@@ -1,8 +1,6 @@
 -- The labels of a job name all that stands in the polynomial of the last cut.
-use Rattle.std.proofs.Common.{◌≡◌, ◌∙◌, ap, sym, refl, subst, inl, inr, ℕ, zero, suc, ◌<◌, ◌≤◌, ◌+◌, true, false, List, [], ◌∷◌, length, Some, arith}
-use Rattle.std.specs.Prelude.{slice_get, ◌==◌, ◌||◌}
-use Rattle.std.specs.List.{AllByRecursion, list_any}
-use Rattle.std.proofs.lemmas.Bool.{cases_lt, true≢false, eq-eqb}
+use Rattle.std.proofs.Common.{◌≡◌, ◌∙◌, ap, subst, ℕ, ◌<◌, ◌+◌, List, [], length, arith}
+use Rattle.std.specs.List.{AllByRecursion}
 use Rattle.std.proofs.lemmas.List.{length-map}
 use Rattle.lists.specs.laws.HasLaws.{All_has}
 use Rattle.lists.specs.laws.ReadLaws.{from_map}
@@ -16,7 +14,6 @@ use Rattle.gf_basis.specs.Basis.{IsBasis}
 use Rattle.gf_basis.specs.BasisParts.{elements_of}
 use Rattle.gf_basis.specs.declared.bases.Basis.{Basis}
 use Rattle.poly_mixed.specs.Polynomial.{Terms}
-use Rattle.poly_mixed.specs.Cofactor.{LacksBit}
 use Rattle.poly_mixed.specs.Labels.{bit_count}
 use Rattle.poly_mixed.specs.Text.{HasNames}
 use Rattle.circuit_model.specs.Word.{word_nets}
@@ -30,26 +27,7 @@ use Rattle.stage_model.proofs.BoundLemmas.{bound_cut}
 use Rattle.job_input.specs.Setting.{HaveRoles, elements_of_each, AreBasesOver}
 use Rattle.job_input.specs.Labelling.{word_labels, labels_of}
 use Rattle.job_input.proofs.CircuitLabelLemmas.{counted}
-
--- a rank that stands in no term stands in no list of ranks of a term
-stands : (rank : ℕ) (rs : List ℕ) (k : ℕ) → slice_get rs k ≡ Some rank → list_any (λ r. r == rank) rs ≡ true
-stands rank [] k got = absurd (cc)
-stands rank (r ∷ rs) zero got = let same : r ≡ rank = cc in ap (λ b. b || list_any (λ q. q == rank) rs) (eq-eqb r rank same)
-stands rank (r ∷ rs) (suc k) got = elim (r == rank) as (λ b. (b || list_any (λ q. q == rank) rs) ≡ true) [ true ↦ refl | false ↦ stands rank rs k got ]
-
-all_below : (count : ℕ) (rs : List ℕ) → ((k r : ℕ) → slice_get rs k ≡ Some r → r < count) → AllByRecursion (λ r. r < count) rs
-all_below count [] each = tt
-all_below count (r ∷ rs) each = (each 0 r refl, all_below count rs (λ k q got. each (suc k) q got))
-
-pub named_terms : (count : ℕ) (ts : Terms) → ((rank : ℕ) → count ≤ rank → LacksBit rank ts) → AllByRecursion (λ t. AllByRecursion (λ r. r < count) t.0.bits) ts
-named_terms count [] lacks = tt
-named_terms count (t ∷ ts) lacks = (all_below count t.0.bits below, named_terms count ts (λ rank high. (lacks rank high).1))
-  where
-    below : (k r : ℕ) → slice_get t.0.bits k ≡ Some r → r < count
-    below k r got = elim (cases_lt r count) [
-      | inl less ↦ less
-      | inr high ↦ absurd (true≢false (sym (stands r t.0.bits k got) ∙ (lacks r high).0))
-    ]
+use Rattle.stage_model.proofs.SharedLemmas.{named_terms}
 
 pub named : (k : ℕ) (mul : ℕ → ℕ → ℕ) (b : BoundNet) (bases : List Basis) (words : List WordText) (basis : List ℕ) (ts : Terms)
     → IsRing k mul → HasNoZeroDivisors k mul → IsSound b.net → IsOneCycle b.net b.binding → b.net.latches ≡ [] → b.binding.k ≡ k → AreBasesOver k mul bases → length bases ≡ length b.binding.words → HaveRoles words b.binding.words

@@ -1,5 +1,5 @@
 -- The polynomial of the output of a well-formed circuit in its words.
-use Rattle.std.proofs.Common.{◌≡◌, ◌∙◌, ap, sym, refl, subst, ℕ, ◌<◌, true, false, ◌||◌, List, [], ◌∷◌, length, drop, arith}
+use Rattle.std.proofs.Common.{◌≡◌, ◌∙◌, ap, sym, refl, subst, ℕ, true, false, ◌||◌, List, [], ◌∷◌, length, drop, arith}
 use Rattle.std.specs.Prelude.{nat_eq}
 use Rattle.std.specs.List.{AllByRecursion, list_any}
 use Rattle.std.proofs.lemmas.Bool.{eq-eqb}
@@ -30,11 +30,6 @@ no_ranks (r ∷ rs) lacks = let found : true ≡ false = sym (ap (λ b. b || lis
 pub no_bits : (ts : Terms) → ((rank : ℕ) → LacksBit rank ts) → AllByRecursion (λ t. t.0.bits ≡ []) ts
 no_bits [] lacks = tt
 no_bits (t ∷ ts) lacks = (no_ranks t.0.bits (λ rank. (lacks rank).0), no_bits ts (λ rank. (lacks rank).1))
-
--- so any labels name all of its bits
-pub all_named : (n : ℕ) (ts : Terms) → AllByRecursion (λ t. t.0.bits ≡ []) ts → AllByRecursion (λ t. AllByRecursion (λ r. r < n) t.0.bits) ts
-all_named n [] none = tt
-all_named n (t ∷ ts) none = let P : List ℕ → Type 0 = λ rs. AllByRecursion (λ r. r < n) rs in (subst P (sym none.0) tt, all_named n ts none.1)
 
 module _ (setting : SettingValue) (circuit : BoundNet) (ring : IsRing setting.k setting.product) (field : HasNoZeroDivisors setting.k setting.product) (well : IsWellFormed (taken_circuit setting circuit)) where
   abbrev whole : Circuit

@@ -1,11 +1,11 @@
 -- The labels of a job name each word that stands in a printed polynomial.
-use Rattle.std.proofs.Common.{subst, ℕ, zero, suc, List, [], ◌∷◌, length, drop}
+use Rattle.std.proofs.Common.{subst, ℕ, List, [], ◌∷◌, length}
 use Rattle.net_words.specs.Binding.{BoundNet}
 use Rattle.net_words.specs.declared.word.WordText.{WordText}
 use Rattle.gf_basis.specs.declared.bases.Basis.{Basis}
 use Rattle.poly_mixed.specs.Polynomial.{Terms, value}
 use Rattle.poly_mixed.specs.Text.{HasWordNames}
-use Rattle.poly_mixed.specs.laws.Uniqueness.{IsZeros, InFirstWords, InBits}
+use Rattle.poly_mixed.specs.laws.Uniqueness.{InFirstWords, InBits}
 use Rattle.poly_mixed.proofs.FieldLaws.{field_of}
 use Rattle.poly_mixed.proofs.FirstWordLemmas.{first_point, first_taken, is_first_point, first_alone}
 use Rattle.circuit_model.specs.Out.{IsOut}
@@ -24,11 +24,7 @@ use Rattle.job_input.specs.Labelling.{labels_of}
 use Rattle.job_input.specs.Setting.{HaveRoles, elements_of_each}
 use Rattle.answer_core.proofs.StageLemmas.{IsJob, whole, well, based}
 use Rattle.job_input.proofs.CountLemmas.{as_many}
-
-none_later : (n : ℕ) (es : List ℕ) → IsZeros es → IsZeros (drop n es)
-none_later zero es none = none
-none_later (suc n) [] none = tt
-none_later (suc n) (e ∷ es) none = none_later n es none.1
+use Rattle.poly_mixed.proofs.SharedLemmas.{none_later}
 
 -- what has bits alone has only words before any place
 pub bits_in_first : (n : ℕ) (ts : Terms) → InBits ts → InFirstWords n ts

@@ -6,11 +6,10 @@ use Rattle.outcome.specs.Outcome.{Outcome}
 use Rattle.net_words.specs.Binding.{BoundNet}
 use Rattle.poly_mixed.specs.Polynomial.{Terms}
 use Rattle.poly_mixed.specs.declared.stage.Stage.{Stage}
-use Rattle.circuit_model.specs.OfBinding.{output_basis, circuit_with}
-use Rattle.stage_model.specs.CircuitListing.{bound_cuts}
-use Rattle.stage_model.specs.Cut.{BoundCut}
-use Rattle.stage_model.specs.Listing.{Listing, Joined, followed_by}
+use Rattle.circuit_model.specs.OfBinding.{circuit_with}
+use Rattle.stage_model.specs.Listing.{Listing, Joined}
 use Rattle.stage_model.specs.Stage.{IsOfStage}
+use Rattle.abstraction.specs.Stages.{all_stages, cut_stages, IsLastCut as IsLastCutIn}
 use Rattle.job_words.specs.declared.stage_fault.StageFault.{StageFault}
 use Rattle.job_words.specs.StageFault.{stage_text}
 use Rattle.job_input.specs.Labelling.{labels_of}
@@ -18,7 +17,6 @@ use Rattle.job_input.specs.SettingValue.{SettingValue}
 use Rattle.answer_core.specs.Staged.{Staged, either_text}
 use Rattle.circuit_model.specs.Circuit.{Circuit}
 use Rattle.stage_model.specs.Mix.{IsMix}
-use Rattle.stage_model.specs.WordListing.{word_listing}
 
 -- the circuit of a setting and a net list with bound words
 abbrev pub taken_circuit : SettingValue → BoundNet → Circuit
@@ -26,11 +24,11 @@ taken_circuit setting bound = circuit_with setting.k setting.product bound setti
 
 -- the stages to the polynomial in bits: the cuts of the circuit
 abbrev pub bits_stages : SettingValue → BoundNet → Listing Stage
-bits_stages setting circuit = bound_cuts circuit (output_basis circuit.binding.words setting.bases)
+bits_stages setting circuit = cut_stages circuit setting.bases
 
 -- these are the terms of the last cut
 abbrev pub IsLastCut : SettingValue → BoundNet → Terms → Type 0
-IsLastCut setting circuit ts = IsOfStage setting.k setting.product (BoundCut circuit (output_basis circuit.binding.words setting.bases) (length circuit.net.gates)) ts
+IsLastCut setting circuit = IsLastCutIn setting.k setting.product circuit setting.bases
 
 -- the polynomial of the last cut, where no cut has more than `bound` terms
 abbrev pub BitsOf : SettingValue → BoundNet → ℕ → Outcome StageFault Terms
@@ -38,7 +36,7 @@ BitsOf setting circuit bound = Staged setting.k setting.product (bits_stages set
 
 -- the stages to the polynomial in words: these cuts, and then the stages of the words
 abbrev pub abstract_stages : SettingValue → BoundNet → Listing (Joined Stage Stage)
-abstract_stages setting circuit = followed_by (bits_stages setting circuit) (word_listing (taken_circuit setting circuit))
+abstract_stages setting circuit = all_stages setting.k setting.product circuit setting.bases
 
 -- these are the terms of the output as a function of all words
 abbrev pub IsInWords : SettingValue → BoundNet → Terms → Type 0

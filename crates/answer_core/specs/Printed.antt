@@ -6,12 +6,11 @@ use Rattle.job_io.specs.Shelf.{Files}
 use Rattle.net_words.specs.Binding.{BoundNet}
 use Rattle.poly_mixed.specs.Polynomial.{Terms, Point, IsPoint, IsReduced, value}
 use Rattle.poly_mixed.specs.laws.Uniqueness.{InBits, InFirstWords}
-use Rattle.circuit_model.specs.Circuit.{Circuit}
+use Rattle.circuit_model.specs.Circuit.{Circuit, input_in}
 use Rattle.circuit_model.specs.Differing.{Difference, IsDifferingInput}
 use Rattle.circuit_model.specs.Ones.{AreOnes}
 use Rattle.circuit_model.specs.Out.{IsOut}
 use Rattle.stage_model.specs.First.{InFirstRanks}
-use Rattle.stage_model.specs.InputPoint.{input_of}
 use Rattle.spec_compare.specs.ValueAt.{at_ones}
 use Rattle.job_words.specs.Operands.{Word}
 use Rattle.job_input.specs.CircuitOf.{CircuitOfText}
@@ -58,7 +57,7 @@ pub record IsInItsBits (setting : SettingValue) (job : Circuit) (ts : Terms) : T
 
 -- at each point the value is the output word's element at the point's elements
 abbrev pub HasOutput : SettingValue → Circuit → Terms → Type 0
-HasOutput setting job ts = (p : Point) → IsPoint setting.k p → IsOut job (input_of job p) (value setting.product p ts)
+HasOutput setting job ts = (p : Point) → IsPoint setting.k p → IsOut job (input_in job p.words) (value setting.product p ts)
 
 -- where the bits of an input that are 1 are 1 and all others 0, the value is the output word's element at the input
 abbrev pub HasOutputInBits : SettingValue → Circuit → Terms → Type 0

@@ -35,6 +35,6 @@ abbrev pub IsStopCalled : (Stage → List ℕ) → ReduceFault → ℕ → Stop 
 IsStopCalled called (reduce.TooManyTerms stage n) bound stop = IsRefusalOf (stage_fault (called stage) n bound) stop
 IsStopCalled called reduce.OutOfMemory bound stop = stop ≡ stops.OutOfMemory
 
--- the same where stages have their own texts
+-- the refusal of the stage that is too large, by its own text; or memory was wanted
 abbrev pub IsStageStop : Labelling → ReduceFault → ℕ → Stop → Type 0
 IsStageStop labels = IsStopCalled (stage_text labels)

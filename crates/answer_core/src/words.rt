@@ -12,12 +12,12 @@ ghost use Rattle.job_input.specs.Labelling.{labels_of};
 ghost use Rattle.job_input.specs.Setting.{setting_value, IsReady, IsTakenFor};
 ghost use Rattle.answer_core.specs.Abstraction.{taken_circuit, IsInWords};
 
+use abstraction::words_poly;
 use gf_field::Field;
 use job_input::Setting;
 use net_words::Combinational;
 use poly_mixed::{Poly, ReduceFault, Steps};
 use std::alloc::Global;
-use word_subst::to_words;
 
 /// The polynomial of a circuit's output in its words, out of that in their bits, or the first stage of words of more than
 /// `bound` terms. The recorder gets the steps of the replacement.
@@ -44,7 +44,7 @@ pub fn in_words<F: Field, T: Steps>(
     ensures fault { IfErr result (IsRefusal (F.degree field.now) (F.product field.now) (word_listing (taken_circuit (setting_value (F.degree field.now) (F.product field.now) setting.now) circuit.now)) bound) }
 {
     let bases = setting.bases.as_slice();
-    match to_words(alloc, field, circuit, bases, bits, bound, steps) {
+    match words_poly(alloc, field, circuit, bases, bits, bound, steps) {
         Ok(poly) => Ok(poly),
         Err(fault) => Err(fault),
     }

@@ -1,5 +1,5 @@
 -- What makers promise of their net lists, over the settings of texts.
-use Rattle.std.proofs.Common.{◌≡◌, ◌∙◌, ap, sym, refl, subst, ℕ, zero, suc, ◌*◌, ◌<◌, ◌≤◌, ◌^◌, List, [], ◌∷◌, length, take, drop, Option, Some, Ok, arith}
+use Rattle.std.proofs.Common.{◌≡◌, ap, sym, refl, subst, ℕ, zero, suc, ◌*◌, ◌<◌, ◌≤◌, ◌^◌, List, [], ◌∷◌, length, take, drop, Option, Some, Ok, arith}
 use Rattle.std.specs.Prelude.{bit_xor, slice_get}
 use Rattle.lists.specs.Lists.{Has}
 use Rattle.lists.specs.laws.HasLaws.{All_has, all_from as all_has}
@@ -17,9 +17,8 @@ use Rattle.net_words.specs.declared.word.WordText.{WordText}
 use Rattle.net_write.specs.Plain.{HasPlainNames}
 use Rattle.circuit_model.specs.JobOfBinding.{job_with}
 use Rattle.circuit_model.specs.Out.{IsOut}
-use Rattle.gf_basis.specs.Basis.{first_values}
+use Rattle.gf_basis.specs.Basis.{IsBasis, first_values}
 use Rattle.gf_basis.specs.BasisFault.{conjugates_of}
-use Rattle.gf_basis.specs.BasisParts.{elements_of}
 use Rattle.gf_field.specs.Bit.{bit_mul}
 use Rattle.gf_field.specs.Field.{HasNoZeroDivisors}
 use Rattle.gf_field.specs.Quotient.{product}
@@ -47,7 +46,7 @@ use Rattle.make_laws.specs.DigitNets.{unit_basis}
 use Rattle.mult_digit.specs.DigitForm.{AreDigitWords, HasDigitForm, digit_names}
 use Rattle.mult_digit.specs.DigitNet.{digit_sums_of}
 use Rattle.mult_digit.specs.DigitPlan.{digit_latches}
-use Rattle.mult_digit.proofs.FinalLemmas.{unit_powers}
+use Rattle.mult_digit.proofs.FinalLemmas.{digit_product, unit_powers}
 use Rattle.mult_digit.proofs.JobLemmas as digit
 use Rattle.mult_digit.proofs.BindingLemmas as digit_binds
 use Rattle.job_words.specs.declared.kind.Kind.{Kind}
@@ -58,7 +57,7 @@ use Rattle.job_input.specs.SettingSound.{IsSoundSetting}
 use Rattle.job_input.specs.SettingValue.{SettingValue}
 use Rattle.job_input.proofs.SettingSoundLemmas.{setting_sound}
 use Rattle.answer_makers.specs.Made.{AreCyclesOf, ComputesKind, HasOutputOfOne, HasOutputOfTwo}
-use Rattle.answer_makers.specs.Make.{HasFormOf, IsMade, IsOverBase, base_degree}
+use Rattle.answer_makers.specs.Make.{HasFormOf, IsMade, IsOverBase, base_degree, first_conjugates}
 use Rattle.answer_makers.proofs.MakeLemmas.{IsUnfed, first_is, form_first, form_unfed, unfed_wide, words_wide}
 use Rattle.answer_makers.proofs.SettingFieldLemmas.{IsNamed, base_product, bases_of, first_basis, named_by, tower_product}
 
@@ -114,6 +113,11 @@ one_basis k mul (word ∷ words) bases some are alike =
     each : (w : WordText) → Has (word ∷ words) w → w.basis ≡ word.basis
     each w (zero, got) = same w got
     each w (suc i, got) = sym (All_has (λ (u : WordText). word.basis ≡ u.basis) words w alike (i, got))
+
+-- one of them is this basis
+first_of_same : (elements : List ℕ) (words : List WordText) → 1 ≤ length words → Has (same_bases elements words) elements
+first_of_same elements [] some = absurd (omega (arith, some))
+first_of_same elements (word ∷ words) some = (0, refl)
 
 -- each word of digits is in the basis of powers
 digit_poly : (words : List WordText) → AreDigitWords words → AllPoly words
@@ -242,32 +246,33 @@ module _ (setting : SettingValue) (text : List ℕ) (is : SettingOf text (Ok set
         computes = job.out;
       }
 
-  normal_right : (form : HasFormOf setting Normal) (net : NetList) → IsMade setting Normal net → IsMadeRight setting Normal net
-  normal_right form net made =
+  normal_right : (form : HasFormOf setting Normal) → IsMadeRight setting Normal (normal_net setting.k setting.product (first_conjugates setting) setting.signature.words)
+  normal_right form =
       let ws = setting.signature.words in
       let k = setting.k in
       let mul = setting.product in
       let own = form.form in
       let all = wide Normal tt form in
       let first : _ = first_is ws own.gamma (form_first setting.signature fit.words.one own) in
-      let elements : elements_of made.basis ≡ conjugates_of k mul own.gamma = made.elements ∙ ap (λ x. conjugates_of k mul x) first in
-      let list = normal_net k mul made.basis ws in
-      let fits = normal_plan.plan_for k (counts_in k mul made.basis) ws own.words all fit.ring.small in
-      let names = normal.outer_names_fit k mul fit.ring fit.field made.basis made.over setting.signature own all in
+      let elements : List ℕ = first_conjugates setting in
+      let conjugates : elements ≡ conjugates_of k mul own.gamma = ap (λ x. conjugates_of k mul x) first in
       let small : own.gamma < 2 ^ k = (let P : ℕ → Type 0 = λ x. x < 2 ^ k in subst P first form.element) in
       let independent : _ = (let P : ℕ → Type 0 = λ x. IsIndependent (conjugates_of k mul x) in subst P first form.independent) in
-      let bases = bases_of k mul (basis.Normal own.gamma) (elements_of made.basis) (small, independent, elements) ws setting.bases named.bases (λ word has. All_has (λ (w : WordText). w.basis ≡ basis.Normal own.gamma) ws word own.bases has) in
-      let job = two setting list (elements_of made.basis) k mul own.unfed bases (normal.computes_form k mul fit.ring fit.field made.basis made.over setting.signature own all elements) in
-      let P : NetList → Type 0 = λ n. IsMadeRight setting Normal n in
-      subst P (sym made.net_is) (record {
-        sound = made_sound ws [] (latches_of k mul made.basis ws) [] (summed (normal_products k mul made.basis ws)) names fits;
-        plain = normal.plain k mul fit.ring fit.field made.basis made.over setting.signature own all;
+      let bases = bases_of k mul (basis.Normal own.gamma) elements (small, independent, conjugates) ws setting.bases named.bases (λ word has. All_has (λ (w : WordText). w.basis ≡ basis.Normal own.gamma) ws word own.bases has) in
+      let over : IsBasis k elements = (let P : List (List ℕ) → Type 0 = λ bs. Has bs elements in fit.each elements (subst P (sym bases) (first_of_same elements ws fit.words.one))) in
+      let list = normal_net k mul elements ws in
+      let fits = normal_plan.plan_for k (counts_in k mul elements) ws own.words all fit.ring.small in
+      let names = normal.outer_names_fit k mul fit.ring fit.field elements over setting.signature own all in
+      let job = two setting list elements k mul own.unfed bases (normal.computes_form k mul fit.ring fit.field elements over setting.signature own all conjugates) in
+      record {
+        sound = made_sound ws [] (latches_of k mul elements ws) [] (summed (normal_products k mul elements ws)) names fits;
+        plain = normal.plain k mul fit.ring fit.field elements over setting.signature own all;
         cycles = k;
         are_cycles = refl;
         binding = job.binding;
         binds = job.binds;
         computes = job.out;
-      })
+      }
 
   digit_right : (form : HasFormOf setting Digit) (net : NetList) → IsMade setting Digit net → IsMadeRight setting Digit net
   digit_right form net made =
@@ -284,11 +289,12 @@ module _ (setting : SettingValue) (text : List ℕ) (is : SettingOf text (Ok set
       let field = ring_field (HasDigitForm k) form in
       let all = words_wide k ws fit.words in
       let units = unit_powers k g' ok in
+      let out = digit_product k mul ring field x units setting.signature all net made in
       let sums = digit_sums_of k mul x width ws in
       let fits = digit_binds.fits k mul x width ws feeds own.words all ring.some ring.small own.feeds own.names in
       let same = by_product (HasDigitForm k) form in
       let bases = poly_bases (digit_poly ws own.words) in
-      let P : (ℕ → ℕ → ℕ) → List (List ℕ) → Type 0 = λ f bs. (a b : ℕ) → a < 2 ^ k → b < 2 ^ k → IsOut (job_with k f (record { net = net; binding = made.product.binding }) bs own.feeds.count) (a ∷ b ∷ []) (f a b) in
+      let P : (ℕ → ℕ → ℕ) → List (List ℕ) → Type 0 = λ f bs. (a b : ℕ) → a < 2 ^ k → b < 2 ^ k → IsOut (job_with k f (record { net = net; binding = out.binding }) bs own.feeds.count) (a ∷ b ∷ []) (f a b) in
       let Q : (ℕ → ℕ → ℕ) → Type 0 = λ f. P f (same_bases (unit_basis k) ws) in
       let R : List (List ℕ) → Type 0 = λ bs. P setting.product bs in
       let S : NetList → Type 0 = λ n. IsSound n in
@@ -298,16 +304,16 @@ module _ (setting : SettingValue) (text : List ℕ) (is : SettingOf text (Ok set
         plain = subst T (sym made.is) (made_plain ws (digit_names width feeds) (digit_latches k sums.nets (role_nets role.Output 0 ws)) [] sums.plan own.names fits);
         cycles = own.feeds.count;
         are_cycles = (width, own.feeds, own.feeds.whole);
-        binding = made.product.binding;
-        binds = made.product.binds;
-        computes = subst R (sym bases) (subst Q (sym same) (made.product.out made.product.binding made.product.binds));
+        binding = out.binding;
+        binds = out.binds;
+        computes = subst R (sym bases) (subst Q (sym same) (out.out out.binding out.binds));
       }
 
   pub made_right : (kind : Kind) (net : NetList) → HasFormOf setting kind → IsMade setting kind net → IsMadeRight setting kind net
   made_right Mastrovito net form made = let P : NetList → Type 0 = λ n. IsMadeRight setting Mastrovito n in subst P (sym made) (mastrovito_right form)
   made_right Montgomery net form made = let P : NetList → Type 0 = λ n. IsMadeRight setting Montgomery n in subst P (sym made) (montgomery_right form)
   made_right Composite net form made = let P : NetList → Type 0 = λ n. IsMadeRight setting Composite n in subst P (sym made) (composite_right form)
-  made_right Normal net form made = normal_right form net made
+  made_right Normal net form made = let P : NetList → Type 0 = λ n. IsMadeRight setting Normal n in subst P (sym made) (normal_right form)
   made_right Adder net form made = let P : NetList → Type 0 = λ n. IsMadeRight setting Adder n in subst P (sym made) (adder_right form)
   made_right Squarer net form made = let P : NetList → Type 0 = λ n. IsMadeRight setting Squarer n in subst P (sym made) (squarer_right form)
   made_right Digit net form made = digit_right form net made

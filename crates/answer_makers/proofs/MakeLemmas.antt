@@ -1,14 +1,13 @@
 -- The net lists of kinds over fields of their forms, and that there is one answer of `make`.
 use Rattle.std.proofs.Common.{◌≡◌, ◌≢◌, ◌∙◌, ap, sym, refl, subst, inl, inr, ◌⊎◌, ℕ, zero, suc, ◌+◌, ◌-◌, ◌*◌, ◌/◌, ◌%◌, ◌^◌, ◌<◌, ◌≤◌, List, [], ◌∷◌, length, Some, Ok, Err, arith}
-use Rattle.std.specs.Prelude.{All, Bool, slice_get, slice_index}
+use Rattle.std.specs.Prelude.{All, slice_get}
 use Rattle.std.proofs.Math.Nat.{mul_comm, mul-div_right, mul-le-mul_right, one-mul, zero-div, zero-mod, zero-mul}
 use Rattle.lists.specs.laws.HasLaws.{All_has, all_from as all_has}
+use Rattle.outcome.proofs.DeterminedLemmas.{determined_exactly}
 use Rattle.outcome.specs.Outcome.{Determined, Exactly}
+use Rattle.outcome.proofs.DeterminedLemmas.{determined_after}
 use Rattle.net_core.specs.NetList.{NetList}
-use Rattle.net_flat.proofs.FlatDetermined.{determined_after}
 use Rattle.make_nets.specs.Form.{AllWide, HasWords}
-use Rattle.make_nets.specs.Made.{made_of}
-use Rattle.make_nets.specs.Ports.{word_names}
 use Rattle.make_nets.proofs.FormLemmas.{words_one_of}
 use Rattle.net_signature.specs.Signature.{SignatureValue}
 use Rattle.net_words.specs.Binding.{AreWords}
@@ -19,28 +18,20 @@ use Rattle.net_words.specs.declared.word.BasisText.TheVariants as basis
 use Rattle.net_words.specs.declared.word.Role.{Role}
 use Rattle.net_words.specs.declared.word.Role.TheVariants as role
 use Rattle.net_words.specs.declared.word.WordText.{WordText}
-use Rattle.net_words.proofs.BindDetermined.{determined_exactly}
 use Rattle.net_write.specs.Written.{written}
 use Rattle.irreducible.specs.Span.{IsIndependent}
-use Rattle.gf_basis.specs.Basis.{AreBits}
 use Rattle.gf_basis.specs.BasisFault.{conjugates_of}
-use Rattle.gf_basis.specs.BasisParts.{IsBasisOver, elements_of}
-use Rattle.gf_basis.specs.declared.bases.Basis.{Basis}
 use Rattle.gf_field.specs.Bit.{bit_mul}
 use Rattle.gf_field.specs.Field.{HasNoZeroDivisors}
 use Rattle.gf_field.specs.Modulus.{IsModulus}
 use Rattle.gf_field.specs.Quotient.{product}
-use Rattle.gf_field.specs.Ring.{IsRing}
 use Rattle.gf_tower.specs.Digits.{IsPackedList}
 use Rattle.gf_tower.specs.FieldName.{IsFieldModulus, IsFieldTower}
 use Rattle.gf_tower.specs.Tower.{tower_polynomial}
 use Rattle.make_laws.specs.Indeterminate.{x_of}
 use Rattle.mult_composite.specs.Form.{HasCompositeForm, made_composite}
-use Rattle.mult_normal.specs.Coordinates.{coordinates_in, counts_in}
 use Rattle.mult_normal.specs.NormalForm.{HasNormalForm}
-use Rattle.mult_normal.specs.NormalNet.{first_factor, normal_net, product_nets, second_factor}
-use Rattle.mult_normal.specs.NormalPlan.{normal_latches, products_from, sum_net, summed}
-use Rattle.mult_normal.proofs.CoordinateLemmas.{coordinates_are, counts_are}
+use Rattle.mult_normal.specs.NormalNet.{normal_net}
 use Rattle.mult_gen.specs.Form.{AreWide}
 use Rattle.mult_digit.specs.DigitForm.{HasDigitForm}
 use Rattle.mult_digit.specs.DigitNet.{digit_net}
@@ -52,26 +43,6 @@ use Rattle.job_input.specs.SettingValue.{SettingValue}
 use Rattle.answer_makers.specs.Make.{HasFormOf, IsMade, IsOverBase, MadeOf, MakeAnswer, base_degree, element_of, first_conjugates, first_element}
 use Rattle.answer_makers.specs.private.Making.{FirstIsNormal, HasRingForm, IsOfRing, IsRingNet}
 use Rattle.answer_core.proofs.FieldNameLemmas.{field_modulus, field_tower}
-
--- ---- one multiplier in a normal basis
-
-module _ (k : ℕ) (mul : ℕ → ℕ → ℕ) (ring : IsRing k mul) (field : HasNoZeroDivisors k mul) (one other : Basis) (over : IsBasisOver k mul one) (over' : IsBasisOver k mul other) (same : elements_of one ≡ elements_of other) where
-  same_counts : (i j : ℕ) → counts_in k mul one i j ≡ counts_in k mul other i j
-  same_counts i j =
-      let x = mul (slice_index (elements_of one) i) (slice_index (elements_of one) j) in
-      let b = coordinates_in k mul other x in
-      let P : List ℕ → Type 0 = λ es. AreBits es x b in
-      let are : AreBits (elements_of other) x b = coordinates_are k mul ring field other over' x (ring.closed _ _) in
-      sym (counts_are k mul ring field one over i j x b k refl (subst P (sym same) are) refl)
-      ∙ counts_are k mul ring field other over' i j x b k (λ t. mul (slice_index (same t) i) (slice_index (same t) j)) are refl
-
-  same_normal : (words : List WordText) → normal_net k mul one words ≡ normal_net k mul other words
-  same_normal words =
-      let a = first_factor k words in
-      let b = second_factor k words in
-      let z = product_nets words in
-      let n = length (word_names words) in
-      ap (λ (counts : ℕ → ℕ → Bool). made_of words [] (normal_latches k (sum_net (products_from n k counts a b)) a b z) (summed (products_from n k counts a b))) (λ t i j. same_counts i j t)
 
 -- ---- one width of digits
 
@@ -117,7 +88,7 @@ one_made : (setting : SettingValue) → IsSoundSetting setting → (kind : Kind)
 one_made setting sound Mastrovito a b h g = h ∙ sym g
 one_made setting sound Montgomery a b h g = h ∙ sym g
 one_made setting sound Composite a b h g = h ∙ sym g
-one_made setting sound Normal a b h g = h.net_is ∙ same_normal setting.k setting.product sound.ring sound.field h.basis g.basis h.over g.over (h.elements ∙ sym g.elements) setting.signature.words ∙ sym g.net_is
+one_made setting sound Normal a b h g = h ∙ sym g
 one_made setting sound Adder a b h g = h ∙ sym g
 one_made setting sound Squarer a b h g = h ∙ sym g
 one_made setting sound Digit a b h g = same_digits setting.k (product 1 setting.k bit_mul setting.signature.modulus) (x_of setting.k setting.signature.modulus) setting.signature sound.ring.some a b h g
@@ -311,5 +282,5 @@ module _ (setting : SettingValue) (gamma : ℕ) (first : FirstIsNormal setting.s
       let Q : List ℕ → Type 0 = λ xs. IsIndependent xs in
       record { element = subst P (sym (first_is setting.signature.words gamma first)) small; independent = subst Q same_conjugates independent; form = form }
 
-  pub made_normal : (own : Basis) → IsBasisOver setting.k setting.product own → elements_of own ≡ conjugates_of setting.k setting.product gamma → (net : NetList) → net ≡ normal_net setting.k setting.product own setting.signature.words → IsMade setting Normal net
-  made_normal own over same net is = record { basis = own; over = over; elements = same ∙ same_conjugates; net_is = is }
+  pub made_normal : (own : List ℕ) → own ≡ conjugates_of setting.k setting.product gamma → (net : NetList) → net ≡ normal_net setting.k setting.product own setting.signature.words → IsMade setting Normal net
+  made_normal own same net is = is ∙ ap (λ (elements : List ℕ). normal_net setting.k setting.product elements setting.signature.words) (same ∙ same_conjugates)

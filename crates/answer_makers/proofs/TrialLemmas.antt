@@ -1,6 +1,6 @@
 -- What comes of a trial: at most one reply or fault, and an input at which its circuit and the product are told apart.
 use Rattle.std.proofs.Common.{◌≡◌, ◌⊎◌, ◌∙◌, ap, sym, subst, inl, ℕ, [], ◌∷◌, length, Option, Some, Result, Ok, Err, IsErr, IsErrAnd}
-use Rattle.outcome.proofs.DeterminedLemmas.{determined_bind}
+use Rattle.outcome.proofs.DeterminedLemmas.{determined_after, determined_bind, determined_exactly, determined_within}
 use Rattle.outcome.specs.Outcome.{Determined, Exactly, Outcome, Within}
 use Rattle.gf_field.specs.Bit.{bit_mul}
 use Rattle.gf_field.specs.Field.{HasNoZeroDivisors}
@@ -10,9 +10,7 @@ use Rattle.gf_field.specs.laws.IrreducibleBitLaws.{field_by_modulus}
 use Rattle.gf_field.specs.laws.ModulusLaws.{IsRing-from_modulus}
 use Rattle.gf_tower.specs.FieldName.{IsFieldModulus}
 use Rattle.net_core.specs.Sound.{IsSound}
-use Rattle.net_flat.proofs.FlatDetermined.{determined_after, determined_within}
 use Rattle.net_words.specs.Binding.{BoundNet}
-use Rattle.net_words.proofs.BindDetermined.{determined_exactly}
 use Rattle.circuit_model.specs.Differing.{AreSame, Difference}
 use Rattle.circuit_model.specs.Out.{IsOut}
 use Rattle.circuit_model.specs.WellFormed.{IsWellFormed}

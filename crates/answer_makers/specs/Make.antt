@@ -3,8 +3,6 @@ use Rattle.std.specs.Prelude.{◌≡◌, ℕ, ◌*◌, ◌/◌, ◌<◌, ◌^◌
 use Rattle.outcome.specs.Outcome.{Outcome, ◌>>=◌, Exactly}
 use Rattle.irreducible.specs.Span.{IsIndependent}
 use Rattle.gf_basis.specs.BasisFault.{conjugates_of}
-use Rattle.gf_basis.specs.BasisParts.{IsBasisOver, elements_of}
-use Rattle.gf_basis.specs.declared.bases.Basis.{Basis}
 use Rattle.gf_field.specs.Bit.{bit_mul}
 use Rattle.gf_field.specs.Quotient.{product}
 use Rattle.gf_tower.specs.FieldName.{IsFieldModulus, IsFieldTower}
@@ -78,19 +76,12 @@ HasFormOf setting Adder = HasAdderForm setting.signature
 HasFormOf setting Squarer = IsOverBase (HasPolyForm 1) setting
 HasFormOf setting Digit = IsOverBase (HasDigitForm setting.k) setting
 
--- the net list is the multiplier in the normal basis of the words
-pub record IsMadeNormal (setting : SettingValue) (net : NetList) : Type 0 where
-  pub basis : Basis
-  pub over : IsBasisOver setting.k setting.product basis
-  pub elements : elements_of basis ≡ first_conjugates setting
-  pub net_is : net ≡ normal_net setting.k setting.product basis setting.signature.words
-
 -- the net list is that of a kind over a setting of its form
 abbrev pub IsMade : SettingValue → Kind → NetList → Type 0
 IsMade setting Mastrovito net = net ≡ made_mastrovito setting.k setting.signature.modulus setting.signature.words
 IsMade setting Montgomery net = net ≡ made_montgomery setting.k setting.signature.modulus setting.signature.words
 IsMade setting Composite net = net ≡ made_composite (base_degree setting) setting.signature.modulus (length setting.signature.tower) (tower_polynomial (base_degree setting) setting.signature.tower) setting.signature.words
-IsMade setting Normal net = IsMadeNormal setting net
+IsMade setting Normal net = net ≡ normal_net setting.k setting.product (first_conjugates setting) setting.signature.words
 IsMade setting Adder net = net ≡ made_adder setting.k setting.signature.words
 IsMade setting Squarer net = net ≡ made_squarer setting.k setting.signature.modulus setting.signature.words
 IsMade setting Digit net = IsDigitNet setting.k (product 1 setting.k bit_mul setting.signature.modulus) (x_of setting.k setting.signature.modulus) setting.signature net

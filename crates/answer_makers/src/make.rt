@@ -83,7 +83,7 @@ fn over_base<F: Field>(alloc: Global, field: &F, setting: &Setting, kind: Kind) 
     }
 }
 
-// The same beside the field, whose degree is that of the setting.
+// The net of such a kind over this field, where its degree is that of the setting.
 fn beside_ring<F: Field>(
     alloc: Global,
     field: &F,
@@ -143,7 +143,7 @@ fn over_tower<F: Field>(alloc: Global, field: &F, setting: &Setting) -> Result<N
     }
 }
 
-// The same beside the tower, whose degree is that of the setting.
+// A multiplier in this tower, where its degree is that of the setting.
 fn beside_tower<F: Field>(
     alloc: Global,
     field: &F,
@@ -202,7 +202,7 @@ fn element_of(text: &BasisText) -> Option<u64>
     }
 }
 
-// The same multiplier in the normal basis of this element.
+// A multiplier in the normal basis of this element.
 fn in_basis_of<F: Field>(
     alloc: Global,
     field: &F,
@@ -221,7 +221,7 @@ fn in_basis_of<F: Field>(
     }
 }
 
-// The same beside the basis.
+// A multiplier in this basis, which is that of the element.
 fn beside_basis<F: Field>(
     alloc: Global,
     field: &F,
@@ -271,7 +271,7 @@ fn in_digits<F: Field>(alloc: Global, field: &F, setting: &Setting) -> Result<Ne
     }
 }
 
-// The same beside the field, whose degree is that of the setting.
+// A multiplier over this field that is fed digit by digit, where its degree is that of the setting.
 fn beside_digits<F: Field>(
     alloc: Global,
     field: &F,

@@ -24,12 +24,13 @@ use gf_field::{Field, Ring2k};
 use irreducible::Proved;
 use job_input::{Setting, base_field};
 use job_words::{Stop, TrialWords};
-use make_trial::{product_spec, push_hex, trial_circuit, trial_index, trial_place, trial_setting};
+use make_trial::{product_spec, trial_circuit, trial_index, trial_place, trial_setting};
 use net_words::Combinational;
 use poly_mixed::{Labels, NoSteps, Poly};
 use spec_compare::Verdict;
 use spec_expand::Spec;
 use std::alloc::{AllocError, Global};
+use text_core::push_hex;
 
 // The polynomial of a circuit's output in bits, and the number of terms of that in words.
 #[derive(Drop)]
@@ -48,7 +49,7 @@ pub fn answer(alloc: Global, words: &TrialWords) -> Result<Output, Stop>
     }
 }
 
-// The same over the field of the modulus.
+// The answer over the field of the modulus: the multiplier with its bit turned, beside the product.
 fn over(alloc: Global, ring: &Proved<Ring2k>, words: &TrialWords) -> Result<Output, Stop>
     ensures { GivesBy reply_of result (TrialOver (degree_of (ring_of ring.now)) (modulus_of (ring_of ring.now)) words.now.number words.now.terms) ⊥ ⊥ }
 {

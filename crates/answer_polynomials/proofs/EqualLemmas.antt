@@ -29,9 +29,10 @@ use Rattle.answer_core.specs.Abstraction.{taken_circuit}
 use Rattle.answer_polynomials.specs.Abstract.{AbstractReply}
 use Rattle.answer_polynomials.specs.Bits.{BitsReply}
 use Rattle.answer_core.proofs.EqualLabelLemmas.{are_labels, few_bits}
-use Rattle.answer_core.proofs.PrintedLemmas.{all_named, words_alone, words_values}
+use Rattle.answer_core.proofs.PrintedLemmas.{words_alone, words_values}
 use Rattle.answer_core.proofs.TakenLemmas.{bases_long, circuit_flat, circuit_roles, circuit_well}
 use Rattle.job_input.proofs.CountLemmas.{as_many}
+use Rattle.stage_model.proofs.SharedLemmas.{no_names}
 
 module _ (setting : SettingValue) (circuit : BoundNet) (taken : IsTaken setting circuit) where
   abbrev pub whole : Circuit
@@ -82,7 +83,7 @@ module _ (setting : SettingValue) (circuit : BoundNet) (taken : IsTaken setting 
         small = sound.ring.small;
         few = few_bits setting.k setting.signature.words labels;
         reduced = is.reduced;
-        ranks = all_named (bit_count (word_labels setting.k setting.signature.words) + 0) ts is.words.bits;
+        ranks = no_names (bit_count (word_labels setting.k setting.signature.words) + 0) ts is.words.bits;
         words = subst P count is.words.words;
       }
 

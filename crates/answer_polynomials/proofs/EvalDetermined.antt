@@ -1,10 +1,9 @@
 -- At most one reply or fault comes of `eval` for a setting, a circuit and values.
 use Rattle.std.proofs.Common.{◌≡◌, ◌∙◌, ap, sym, refl, ℕ, ◌+◌, List, [], ◌∷◌, drop, Ok, Err}
-use Rattle.outcome.proofs.DeterminedLemmas.{determined_bind}
+use Rattle.outcome.proofs.DeterminedLemmas.{determined_bind, determined_exactly}
 use Rattle.outcome.specs.Outcome.{Determined, Exactly, ◌>>=◌}
 use Rattle.text_core.specs.Numbers.{IsHex, value_of}
 use Rattle.net_words.specs.Binding.{BoundNet}
-use Rattle.net_words.proofs.BindDetermined.{determined_exactly}
 use Rattle.circuit_model.proofs.OutLemmas.{one_out}
 use Rattle.job_words.specs.Operands.{Word}
 use Rattle.job_input.specs.CircuitOf.{CircuitOfText}

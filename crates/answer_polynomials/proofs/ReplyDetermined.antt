@@ -1,9 +1,8 @@
 -- At most one reply or fault comes of `bits` and of `abstract` for a setting and a circuit.
 use Rattle.std.proofs.Common.{ℕ, Ok}
-use Rattle.outcome.proofs.DeterminedLemmas.{determined_bind}
+use Rattle.outcome.proofs.DeterminedLemmas.{determined_bind, determined_exactly}
 use Rattle.outcome.specs.Outcome.{Determined, Exactly, Within}
 use Rattle.net_words.specs.Binding.{BoundNet}
-use Rattle.net_words.proofs.BindDetermined.{determined_exactly}
 use Rattle.job_words.specs.declared.fault.Fault.TheVariants as faults
 use Rattle.job_input.specs.CircuitOf.{CircuitOfText}
 use Rattle.job_input.specs.NetlistOf.{NetlistText}

@@ -1,10 +1,8 @@
 -- At most one reply or fault comes of `same` for a setting and two circuits.
 use Rattle.std.proofs.Common.{◌≡◌, ℕ, Option, Ok}
-use Rattle.outcome.proofs.DeterminedLemmas.{determined_bind}
+use Rattle.outcome.proofs.DeterminedLemmas.{determined_bind, determined_exactly, determined_within}
 use Rattle.outcome.specs.Outcome.{Determined, Exactly, Within}
-use Rattle.net_flat.proofs.FlatDetermined.{determined_within}
 use Rattle.net_words.specs.Binding.{BoundNet}
-use Rattle.net_words.proofs.BindDetermined.{determined_exactly}
 use Rattle.circuit_model.specs.Circuit.{Circuit}
 use Rattle.circuit_model.specs.Differing.{Difference}
 use Rattle.circuit_model.specs.Out.{IsOut}

@@ -1,24 +1,18 @@
 //! The command `bits`: the output word's polynomial in the bits of the input words.
-ghost use Rattle.std.specs.Prelude.{◌≡◌, ◌≤◌, length};
+ghost use Rattle.std.specs.Prelude.{◌≡◌, ◌≤◌};
 ghost use Rattle.job_io.specs.Counts.{Rose};
 ghost use Rattle.job_words.specs.Stop.{GivesBy};
-ghost use Rattle.net_words.specs.Binding.{AreWords};
-ghost use Rattle.net_signature.specs.WordNames.{HaveNames};
-ghost use Rattle.job_input.specs.Setting.{setting_value, elements_of_each, AreBasesOver, HaveRoles, IsReady};
+ghost use Rattle.job_input.specs.Setting.{setting_value, IsReady, IsTakenFor};
 ghost use Rattle.answer_core.specs.Reply.{reply_of};
 ghost use Rattle.answer_polynomials.specs.Bits.{BitsReply, BitsAnswer};
 
-use answer_core::{Output, polynomial_line, stage_stop};
-use circuit_model::output_basis;
-use gf_basis::Basis;
+use answer_core::{Output, labels, last_cut, polynomial_line, stage_stop};
 use gf_field::Field;
-use job_input::{Setting, labels_for, read_circuit};
+use job_input::{Setting, read_circuit};
 use job_io::Shelf;
 use job_words::{NetWords, Stop};
-use net_signature::Signature;
 use net_words::Combinational;
 use poly_mixed::NoSteps;
-use rato_reduce::reduce_bits;
 use std::alloc::Global;
 
 /// What the command answers over a setting and its netlist's file.
@@ -36,14 +30,7 @@ pub fn answer<F: Field, S: Shelf>(
         (Rose (S.misses shelf.old) (S.misses shelf.new)) (Rose (S.faults shelf.old) (S.faults shelf.new)) }
 {
     match read_circuit(alloc, shelf, setting, words.net, words.cycles) {
-        Ok(circuit) => reply(
-            alloc,
-            field,
-            &setting.signature,
-            setting.bases.as_slice(),
-            &circuit,
-            words.terms,
-        ),
+        Ok(circuit) => reply(alloc, field, setting, &circuit, words.terms),
         Err(stop) => Err(stop),
     }
 }
@@ -52,22 +39,16 @@ pub fn answer<F: Field, S: Shelf>(
 fn reply<F: Field>(
     alloc: Global,
     field: &F,
-    signature: &Signature,
-    bases: &[Basis],
+    setting: &Setting,
     circuit: &Combinational,
     bound: u32,
 ) -> Result<Output, Stop>
-    requires bits { circuit.now.binding.k ≡ F.degree field.now }
-    requires words { AreWords (F.degree field.now) signature.now.words }
-    requires names { HaveNames signature.now.words }
-    requires roles { HaveRoles signature.now.words circuit.now.binding.words }
-    requires over { AreBasesOver (F.degree field.now) (F.product field.now) bases.now }
-    requires long { length bases.now ≡ length circuit.now.binding.words }
-    ensures { GivesBy reply_of result (BitsReply (record { signature = signature.now; k = F.degree field.now; product = F.product field.now; bases = elements_of_each bases.now }) circuit.now bound) ⊥ ⊥ }
+    requires ready { IsReady (F.degree field.now) (F.product field.now) setting.now }
+    requires taken { IsTakenFor (F.degree field.now) setting.now circuit.now }
+    ensures { GivesBy reply_of result (BitsReply (setting_value (F.degree field.now) (F.product field.now) setting.now) circuit.now bound) ⊥ ⊥ }
 {
-    let labels = labels_for(alloc, signature.words(), field.k())?;
-    let basis = output_basis(circuit.binding(), bases);
-    let poly = match reduce_bits(alloc, field, circuit, basis, bound, &mut NoSteps) {
+    let labels = labels(alloc, field, setting)?;
+    let poly = match last_cut(alloc, field, setting, circuit, bound, &mut NoSteps) {
         Ok(poly) => poly,
         Err(fault) => return Err(stage_stop(alloc, &labels, fault, bound)),
     };

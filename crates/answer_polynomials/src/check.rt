@@ -54,7 +54,7 @@ pub fn answer<F: Field, S: Shelf>(
     }
 }
 
-// The same over the netlist, of the specification's file.
+// The answer over the netlist; the specification's file is read here.
 fn over<F: Field, S: Shelf>(
     alloc: Global,
     field: &F,
@@ -77,7 +77,7 @@ fn over<F: Field, S: Shelf>(
     }
 }
 
-// The same over the netlist and the specification: the cycles are unrolled.
+// The answer over the netlist and the specification; the cycles are unrolled here.
 fn unrolled<F: Field>(
     alloc: Global,
     field: &F,

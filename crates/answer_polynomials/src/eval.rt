@@ -40,7 +40,7 @@ pub fn answer<F: Field, S: Shelf>(
     }
 }
 
-// The same over the netlist: the values are taken.
+// The answer over the netlist; the values are taken here.
 fn over<F: Field>(
     alloc: Global,
     field: &F,
@@ -59,7 +59,7 @@ fn over<F: Field>(
     }
 }
 
-// The same at an input: the cycles are unrolled.
+// The answer at an input; the cycles are unrolled here.
 fn at<F: Field>(
     alloc: Global,
     field: &F,

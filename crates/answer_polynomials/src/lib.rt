@@ -2,7 +2,7 @@
 //! each in a file of its own, from its setting on.
 #![tactic(auto)]
 
-pub mod abstraction;
+pub mod abstracting;
 pub mod bits;
 pub mod check;
 pub mod eval;

@@ -42,7 +42,7 @@ pub fn answer<F: Field, S: Shelf>(
     }
 }
 
-// The same beside the first netlist, of the second netlist's file.
+// The answer beside the first netlist; the second one's file is read here.
 fn beside<F: Field, S: Shelf>(
     alloc: Global,
     field: &F,
@@ -64,7 +64,7 @@ fn beside<F: Field, S: Shelf>(
     }
 }
 
-// The same over two netlists: the cycles of the first are unrolled.
+// The answer over both netlists; the cycles of the first are unrolled here.
 fn unrolled<F: Field>(
     alloc: Global,
     field: &F,
@@ -84,7 +84,7 @@ fn unrolled<F: Field>(
     }
 }
 
-// The same beside the first circuit: the cycles of the second netlist are unrolled.
+// The answer beside the first circuit; the cycles of the second netlist are unrolled here.
 fn second_unrolled<F: Field>(
     alloc: Global,
     field: &F,

@@ -1,4 +1,3 @@
-pub mod HexLemmas
 pub mod ReadBackLemmas
 pub mod TableLemmas
 pub mod IsoLemmas

@@ -6,14 +6,15 @@ use Rattle.std.proofs.lemmas.Bool.{cases_lt, lt-ltb}
 use Rattle.std.proofs.lemmas.Bool.Decides.{nat_tests}
 use Rattle.std.proofs.lemmas.List.Splits.{slice_split_none}
 use Rattle.std.proofs.lemmas.Option.{same_Some}
+use Rattle.lists.specs.laws.LineLaws.{front_byte, line_end, after_line, line_within}
 use Rattle.lists.specs.laws.TakeLaws.{front_of}
 use Rattle.text_core.specs.Lines.{is_blank}
 use Rattle.text_core.proofs.LineLemmas.{lines_at}
+use Rattle.text_core.proofs.WrittenLemmas.{hex_back, hex_bytes}
 use Rattle.gf_field.specs.Element.{AreElements}
 use Rattle.poly_mixed.specs.Text.{hex_text}
 use Rattle.lift_table.specs.TableText.{IsFormed, IsNumber, IsNumberAt, IsTable, TableOutcome, table_text, value_lines}
 use Rattle.lift_table.proofs.ReadingLemmas.{one_value}
-use Rattle.answer_tables.proofs.HexLemmas.{hex_back, hex_bytes}
 
 -- ---- a line of bytes that print
 
@@ -27,23 +28,6 @@ ArePrinted bytes = (i : ℕ) → i < length bytes → IsLineByte (get_or bytes i
 unequal : (a b : ℕ) → (a ≡ b → ⊥) → (a == b) ≡ false
 unequal a b other = grind (arith, nat_tests)
 
-get_front : (xs ys : List ℕ) (k : ℕ) → k < length xs → get_or (xs ++ ys) k 0 ≡ get_or xs k 0
-get_front [] ys k less = absurd (omega (arith, less))
-get_front (x ∷ xs) ys zero less = refl
-get_front (x ∷ xs) ys (suc k) less = get_front xs ys k (omega (arith, less))
-
-get_end : (xs ys : List ℕ) → get_or (xs ++ 10 ∷ ys) (length xs) 0 ≡ 10
-get_end [] ys = refl
-get_end (x ∷ xs) ys = get_end xs ys
-
-rest_of : (xs ys : List ℕ) → drop (suc (length xs)) (xs ++ 10 ∷ ys) ≡ ys
-rest_of [] ys = refl
-rest_of (x ∷ xs) ys = rest_of xs ys
-
-longer : (xs ys : List ℕ) → length xs < length (xs ++ 10 ∷ ys)
-longer [] ys = omega arith
-longer (x ∷ xs) ys = omega (arith, longer xs ys)
-
 no_return : (bytes : List ℕ) → ArePrinted bytes → strip_carriage_return bytes ≡ bytes
 unfolding ArePrinted
 no_return [] printed = refl
@@ -56,17 +40,17 @@ first_line : (bytes rest : List ℕ) → ArePrinted bytes → lines (bytes ++ 10
 unfolding ArePrinted
 first_line bytes rest printed =
     let next : length bytes + 1 ≡ suc (length bytes) = omega arith in
-    lines_at (bytes ++ 10 ∷ rest) (length bytes) (λ k less found. let least = (printed k less).0 in let at = sym (get_front bytes (10 ∷ rest) k less) ∙ found in omega (arith, least, at)) (longer bytes rest) (get_end bytes rest)
+    lines_at (bytes ++ 10 ∷ rest) (length bytes) (λ k less found. let least = (printed k less).0 in let at = sym (front_byte bytes (10 ∷ rest) k less) ∙ found in omega (arith, least, at)) (line_within bytes rest) (line_end bytes rest)
     ∙ ap (λ (l : List ℕ). strip_carriage_return l ∷ lines (drop (length bytes + 1) (bytes ++ 10 ∷ rest))) (front_of bytes (10 ∷ rest))
     ∙ ap (λ (l : List ℕ). l ∷ lines (drop (length bytes + 1) (bytes ++ 10 ∷ rest))) (no_return bytes printed)
     ∙ ap (λ n. bytes ∷ lines (drop n (bytes ++ 10 ∷ rest))) next
-    ∙ ap (λ (l : List ℕ). bytes ∷ lines l) (rest_of bytes rest)
+    ∙ ap (λ (l : List ℕ). bytes ∷ lines l) (after_line bytes rest)
 
 -- ---- the line of a value
 
 value_printed : (v : ℕ) → v < 2 ^ 64 → ArePrinted (hex_text v)
 unfolding ArePrinted
-value_printed v less i within = let are = hex_bytes v less i within in (let least = are.0 in omega (arith, least), are.1)
+value_printed v less i within = let are = hex_bytes v (omega (arith, less)) i within in (let least = are.0 in omega (arith, least), are.1)
 
 no_blank : (bytes : List ℕ) → ((i : ℕ) → i < length bytes → 48 ≤ get_or bytes i 0) → All (λ b. is_blank b ≡ false) bytes
 no_blank [] least k d less = absurd (omega arith)
@@ -76,8 +60,8 @@ no_blank (b ∷ bs) least (suc k) d less = no_blank bs (λ i within. least (suc 
 value_number : (v : ℕ) → v < 2 ^ 64 → IsNumber (hex_text v) v
 value_number v less = record {
   token = hex_text v;
-  alone = ap (filter (λ (token : List ℕ). nat_lt 0 (length token))) (slice_split_none is_blank (hex_text v) (no_blank (hex_text v) (λ i within. (hex_bytes v less i within).0))) ∙ ap (λ (b : Bool). cond b (hex_text v ∷ []) []) (lt-ltb 0 (length (hex_text v)) (omega arith));
-  hex = hex_back v less;
+  alone = ap (filter (λ (token : List ℕ). nat_lt 0 (length token))) (slice_split_none is_blank (hex_text v) (no_blank (hex_text v) (λ i within. (hex_bytes v (omega (arith, less)) i within).0))) ∙ ap (λ (b : Bool). cond b (hex_text v ∷ []) []) (lt-ltb 0 (length (hex_text v)) (omega arith));
+  hex = hex_back v (omega (arith, less));
 }
 
 -- ---- the lines of a table

@@ -51,7 +51,7 @@ fn reply(alloc: Global, first: &Signature, second: &Signature) -> Result<Output,
     }
 }
 
-// The same beside the field of the first signature.
+// The images under the isomorphism to the first signature's field, which is at hand; fault 45 where the second has no tower.
 fn beside(
     alloc: Global,
     first: &Signature,
@@ -68,7 +68,7 @@ fn beside(
     }
 }
 
-// The same between the fields of both.
+// The images under the isomorphism between the fields of both, where their degrees fit.
 fn between(
     alloc: Global,
     _first: &Signature,

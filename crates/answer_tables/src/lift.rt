@@ -40,7 +40,7 @@ pub fn answer<F: Field, S: Shelf>(
     over(alloc, field, setting, &labels, file, shelf)
 }
 
-// The same over a small signature, of the table's file.
+// The answer over a small signature; the table's file is read here.
 fn over<F: Field, S: Shelf>(
     alloc: Global,
     field: &F,

@@ -39,7 +39,7 @@ pub fn answer<F: Field, S: Shelf>(
     over(alloc, field, setting, words, shelf)
 }
 
-// The same over a small signature, of the netlist's file.
+// The answer over a small signature; the netlist's file is read here.
 fn over<F: Field, S: Shelf>(
     alloc: Global,
     field: &F,

@@ -1,10 +1,10 @@
 -- The steps of a composition, one after another.
-use Rattle.std.proofs.Common.{◌≡◌, ◌≢◌, ◌∙◌, ap, sym, refl, subst, inl, inr, ℕ, suc, ◌<◌, ◌^◌, All, Global, List, [], ◌∷◌, Vec, length, map, Option, Some, Ok, arith}
+use Rattle.std.proofs.Common.{◌≡◌, ◌≢◌, ◌∙◌, ap, sym, refl, subst, inl, inr, ℕ, ◌<◌, ◌^◌, All, Global, List, [], ◌∷◌, Vec, length, map, Option, Some, Ok, arith}
 use Rattle.std.specs.Prelude.{slice_get}
 use Rattle.std.proofs.lemmas.Option.{slice_get_within}
 use Rattle.lists.specs.laws.HasLaws.{all_from}
 use Rattle.lists.specs.laws.ListLaws.{length_map as mapped_long}
-use Rattle.lists.specs.laws.ReadLaws.{get_below}
+use Rattle.lists.specs.laws.ReadLaws.{get_below, mapped_at}
 use Rattle.outcome.specs.ForEach.{AreValues}
 use Rattle.graph_core.specs.Arranged.{IsArranged}
 use Rattle.graph_core.specs.Cycle.{IsCycleOf}
@@ -60,18 +60,14 @@ use Rattle.compose_stages.specs.InstanceStages.{instance_stages}
 use Rattle.compose_stages.proofs.JoinLemmas.{bound_stages_over, bound_stages_within}
 use Rattle.compose_stages.proofs.StageLemmas.{all_done, refused_first}
 use Rattle.compose_stages.proofs.UsedLemmas.{block_over, blocks_within}
-use Rattle.block_compose.specs.Composed.{hierarchy_of, refusal, Composes, HasNoCycle, IsBlockOver, IsComposed, MayFault, StagesOf}
+use Rattle.block_compose.specs.Composed.{fault_of_plan, fault_of_wiring, hierarchy_of, refusal, Composes, HasNoCycle, IsBlockOver, IsComposed, MayFault, StagesOf}
 use Rattle.block_compose.specs.declared.fault.ComposeFault.{ComposeFault}
-use Rattle.block_compose.specs.declared.fault.ComposeFault.TheVariants.{Plan, Wiring}
 use Rattle.block_compose.specs.private.Blocks.{block_fault_of, instance_fault_of, ArePolys, HasPoly, IsBlockPoly, IsFirstBlockOver}
-use Rattle.block_compose.proofs.GivenLemmas.{have_blocks, mapped_at}
+use Rattle.block_compose.proofs.GivenLemmas.{have_blocks}
 use Rattle.block_compose.proofs.StageLemmas.{number_at, one_kept, wired_output}
+use Rattle.compose_stages.proofs.OrderLemmas.{graph_long}
 
 -- ---- cycles
-
-graph_long : (rows : List (List Feeder)) → length (feeding_graph rows) ≡ length rows
-graph_long [] = refl
-graph_long (row ∷ rows) = ap suc (graph_long rows)
 
 among_rows : (h : Hierarchy) (n : ℕ) (feed : Feeder) → n ≡ length (instances_of h.design) → IsFeedIn h feed → IsFeedAmong (length (inputs_among (top_words h))) n feed
 among_rows h n (InputWord w) same less = less
@@ -133,12 +129,12 @@ module _ (k : ℕ) (mul : ℕ → ℕ → ℕ) (design : List ModelValue) (signa
   abbrev Whole : ComposeFault → Type 0
   Whole = MayFault (Composes k mul design signature bases bound)
 
-  pub plan_refused : (fault : PlanFault) → planned.MayFault (UsesOf design signature) fault → Whole (Plan fault)
+  pub plan_refused : (fault : PlanFault) → planned.MayFault (UsesOf design signature) fault → Whole (fault_of_plan fault)
   plan_refused plans.OutOfMemory is = tt
   plan_refused fault is = inl (fault, is, refl)
 
   module _ (uses : List BlockUse) (are : UsesOf design signature (Ok uses)) where
-    pub wiring_refused : (fault : WiringFault) → IsWiringFault h fault → Whole (Wiring fault)
+    pub wiring_refused : (fault : WiringFault) → IsWiringFault h fault → Whole (fault_of_wiring fault)
     wiring_refused wirings.OutOfMemory is = tt
     wiring_refused fault is = inr (uses, are, inl (fault, is, refl))
 

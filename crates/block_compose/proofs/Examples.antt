@@ -20,7 +20,7 @@ use Rattle.compose_model.specs.declared.feeder.Feeder.{Feeder}
 use Rattle.compose_model.specs.declared.feeder.Feeder.TheVariants.{InputWord, OutputOf}
 use Rattle.compose_blocks.specs.declared.plan_fault.PlanFault.TheVariants as plans
 use Rattle.block_compose.specs.Composed.{Composes, HasNoCycle}
-use Rattle.block_compose.specs.declared.fault.ComposeFault.TheVariants.{InstanceLoop, Plan}
+use Rattle.block_compose.specs.declared.fault.ComposeFault.TheVariants.{FedInTop, GateInTop, InstanceLoop, NoBlock}
 
 -- ---- refusals, in their order
 
@@ -53,15 +53,15 @@ signature role = record { modulus = 3; tower = []; upper = []; words = text role
 
 module _ (k : ℕ) (mul : ℕ → ℕ → ℕ) (bases : List (List Basis)) (bound : ℕ) where
   -- a fed word is refused before a gate
-  fed_before_gate : Composes k mul (design (gate ∷ [])) (signature Fed) bases bound (Err (Plan plans.FedInTop))
+  fed_before_gate : Composes k mul (design (gate ∷ [])) (signature Fed) bases bound (Err FedInTop)
   fed_before_gate = inl (plans.FedInTop, inl refl, refl)
 
   -- a gate is refused before an instance without a block, also where it stands behind it
-  gate_before_block : Composes k mul (design (instance ∷ gate ∷ [])) (signature Input) bases bound (Err (Plan (plans.GateInTop 5)))
+  gate_before_block : Composes k mul (design (instance ∷ gate ∷ [])) (signature Input) bases bound (Err (GateInTop 5))
   gate_before_block = inl (plans.GateInTop 5, inr (tt, refl, inl refl), refl)
 
   -- an instance without a block
-  no_block : Composes k mul (design (instance ∷ [])) (signature Input) bases bound (Err (Plan (plans.NoBlock m)))
+  no_block : Composes k mul (design (instance ∷ [])) (signature Input) bases bound (Err (NoBlock m))
   no_block = inl (plans.NoBlock m, inr (tt, refl, inr (tt, refl, inl (record { place = 0; element = instance; at = refl; is = refl; before = λ i x less got. absurd (omega (arith, less)) }))), refl)
 
 -- ---- cycles

@@ -1,13 +1,14 @@
 -- What is known of a top whose instances have blocks and are wired.
-use Rattle.std.proofs.Common.{◌≡◌, ◌≢◌, ◌∙◌, ap, sym, refl, subst, ℕ, zero, suc, ◌+◌, ◌||◌, Bool, true, false, cond, List, [], ◌∷◌, length, map, get_or, Option, None, Some, Result, Ok, Err, arith}
+use Rattle.std.proofs.Common.{◌≡◌, ◌≢◌, ◌∙◌, ap, sym, refl, subst, ℕ, suc, ◌+◌, Bool, true, false, cond, List, [], ◌∷◌, length, map, get_or, Option, None, Some, Result, Ok, Err, arith}
 use Rattle.std.specs.Prelude.{slice_get}
 use Rattle.std.specs.List.{list_any, AllByRecursion}
 use Rattle.std.specs.Option.{unwrap_or}
 use Rattle.std.proofs.lemmas.List.Folds.{list_any_at}
 use Rattle.std.proofs.lemmas.Option.{get_or_from_slice_get, slice_get_within}
 use Rattle.lists.specs.Lists.{Has}
+use Rattle.lists.specs.laws.BoolLaws.{neither}
 use Rattle.lists.specs.laws.ListLaws.{length_map as mapped_long}
-use Rattle.lists.specs.laws.ReadLaws.{from_map, get_below}
+use Rattle.lists.specs.laws.ReadLaws.{from_map, get_below, mapped_at}
 use Rattle.outcome.specs.ForEach.{AreValues}
 use Rattle.net_core.specs.NetList.{NetList}
 use Rattle.net_words.specs.Bind.{BindingOf}
@@ -51,16 +52,7 @@ use Rattle.block_compose.specs.private.Blocks.{AreKeptBlocks, IsKeptBlock}
 
 -- ---- lists
 
-pub mapped_at : {A B : Type 0} (f : A → B) (xs : List A) (i : ℕ) (x : A) → slice_get xs i ≡ Some x → slice_get (map f xs) i ≡ Some (f x)
-mapped_at f [] i x got = absurd (cc)
-mapped_at f (y ∷ xs) zero x got = let same : y ≡ x = cc in ap (λ z. Some (f z)) same
-mapped_at f (y ∷ xs) (suc i) x got = mapped_at f xs i x got
-
 -- ---- nothing is fed
-
-either_false : (a b : Bool) → (a || b) ≡ false → (a ≡ false) × (b ≡ false)
-either_false true b e = absurd (cc)
-either_false false b e = (refl, e)
 
 unfed_test : (b : Bool) → ◌≡◌ {A = Result (Unit {0}) PlanFault} (Ok tt) (cond b (Err FedInTop) (Ok tt)) → b ≡ false
 unfed_test true e = absurd (cc)
@@ -96,7 +88,7 @@ no_fed_word words none = none_fed words each
 
 pub unfed_words : (signature : SignatureValue) → IsUnfed signature (Ok tt) → AllByRecursion (λ (word : WordText). word.role ≢ Fed) signature.words × (signature.feeds ≡ [])
 unfed_words signature unfed =
-    let both = either_false (list_any is_fed signature.words) (is_fed_by_line signature.feeds) (unfed_test (has_feed signature) unfed) in
+    let both = neither (list_any is_fed signature.words) (is_fed_by_line signature.feeds) (unfed_test (has_feed signature) unfed) in
     (no_fed_word signature.words both.0, no_lines signature.feeds both.1)
 
 -- ---- no gates

@@ -33,7 +33,7 @@ use Rattle.compose_model.specs.Given.{IsGiven}
 use Rattle.compose_model.specs.Hierarchy.{bases_at, block_of, top_words, Hierarchy, IsInstance}
 use Rattle.compose_model.specs.NamedWord.{inputs_among, named_words, NamedWord}
 use Rattle.compose_model.specs.Values.{IsBlockOf, IsTop}
-use Rattle.compose_model.specs.Wiring.{feeding_graph, HaveBlocks, IsWithoutCycle}
+use Rattle.compose_model.specs.Wiring.{HaveBlocks, IsWithoutCycle}
 use Rattle.compose_model.specs.declared.feeder.Feeder.{Feeder}
 use Rattle.compose_model.specs.declared.feeder.Feeder.TheVariants.{InputWord, OutputOf}
 use Rattle.compose_model.proofs.InputsLemmas.{inputs_long}
@@ -50,6 +50,7 @@ use Rattle.compose_wiring.specs.Answer.{AreWired, IsFeedIn}
 use Rattle.block_compose.specs.Composed.{hierarchy_of}
 use Rattle.block_compose.specs.private.Blocks.{ArePolys, AreTaken, IsBlockPoly, IsKeptBlock}
 use Rattle.block_compose.proofs.GivenLemmas.{use_at, used_block}
+use Rattle.compose_stages.proofs.OrderLemmas.{graph_long}
 
 -- ---- words
 
@@ -175,10 +176,6 @@ module _ (k : ℕ) (mul : ℕ → ℕ → ℕ) (ring : IsRing k mul) (field : Ha
         values = λ p at. is.is.values p at ∙ feed_same k mul is.words is.polys (length (instances_of h.design)) output is.taken.words_are (among output wired.among_output is.taken.many) p at;
       })
     where
-      graph_long : (rs : List (List Feeder)) → length (feeding_graph rs) ≡ length rs
-      graph_long [] = refl
-      graph_long (r ∷ rs) = ap suc (graph_long rs)
-
       among : (feed : Feeder) → IsFeedIn h feed → length is.words ≡ count → IsFeedAmong (length is.words) (length (instances_of h.design)) feed
       among (InputWord w) less many = omega (arith, less, many, count_same)
       among (OutputOf i) less many = less

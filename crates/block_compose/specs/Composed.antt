@@ -28,6 +28,7 @@ use Rattle.compose_model.specs.Wiring.{feeding_graph, IsWithoutCycle}
 use Rattle.compose_model.specs.declared.feeder.Feeder.{Feeder}
 use Rattle.compose_blocks.specs.Plan.{UsesOf}
 use Rattle.compose_blocks.specs.Planned.{CanAllBind}
+use Rattle.compose_blocks.specs.declared.plan_fault.PlanFault.{PlanFault}
 use Rattle.compose_blocks.specs.declared.plan_fault.PlanFault.TheVariants as plans
 use Rattle.compose_wiring.specs.Answer.{AreWired}
 use Rattle.compose_wiring.specs.Refusal.{IsWiringFault}
@@ -35,7 +36,7 @@ use Rattle.compose_wiring.specs.declared.fault.WiringFault.{WiringFault}
 use Rattle.compose_wiring.specs.declared.fault.WiringFault.TheVariants as wirings
 use Rattle.compose_stages.specs.CompositionStages.{IsCompositionWithin, IsFirstOfComposition}
 use Rattle.block_compose.specs.declared.fault.ComposeFault.{ComposeFault}
-use Rattle.block_compose.specs.declared.fault.ComposeFault.TheVariants.{Plan, Wiring, InstanceLoop, TooManyTerms, OutOfMemory}
+use Rattle.block_compose.specs.declared.fault.ComposeFault.TheVariants.{FedInTop, GateInTop, NoBlock, BlockNet, BlockLatch, BlockBind, NotWords, OutputNotWords, InstanceLoop, TooManyTerms, OutOfMemory}
 
 -- a design with the words and blocks of a signature, and with lists of bases by their elements
 abbrev pub hierarchy_of : List ModelValue → SignatureValue → List (List Basis) → Hierarchy
@@ -63,6 +64,21 @@ pub record IsComposable (k : ℕ) (mul : ℕ → ℕ → ℕ) (design : List Mod
   pub blocks : (number : ℕ) (block : BlockValue) → slice_get signature.blocks number ≡ Some block → HasBases k mul bases (number + 1) block.words
 
 -- ---- the steps
+
+-- the fault of the blocks, and that of the wiring, as one of the composition; want of memory is want of memory
+abbrev pub fault_of_plan : PlanFault → ComposeFault
+fault_of_plan plans.FedInTop = FedInTop
+fault_of_plan (plans.GateInTop line) = GateInTop line
+fault_of_plan (plans.NoBlock model) = NoBlock model
+fault_of_plan (plans.BlockNet model) = BlockNet model
+fault_of_plan (plans.BlockLatch model) = BlockLatch model
+fault_of_plan (plans.BlockBind model) = BlockBind model
+fault_of_plan plans.OutOfMemory = OutOfMemory
+
+abbrev pub fault_of_wiring : WiringFault → ComposeFault
+fault_of_wiring (wirings.NotWords instance word) = NotWords instance word
+fault_of_wiring wirings.OutputNotWords = OutputNotWords
+fault_of_wiring wirings.OutOfMemory = OutOfMemory
 
 -- what feeds each instance and the output word, or the first word that nothing fits
 abbrev pub WiringOf : Hierarchy → Outcome WiringFault (List (List Feeder) × Feeder)
@@ -113,8 +129,8 @@ module _ (k : ℕ) (mul : ℕ → ℕ → ℕ) (h : Hierarchy) (rows : List (Lis
 -- its wiring, then whether instances feed each other in a cycle, and then the stages.
 abbrev pub ComposesIn : ℕ → (ℕ → ℕ → ℕ) → SignatureValue → Hierarchy → ℕ → Outcome ComposeFault Terms
 ComposesIn k mul signature h bound = do
-  uses ← Within Plan (UsesOf h.design signature)
-  wiring ← Within Wiring (WiringOf h)
+  uses ← Within fault_of_plan (UsesOf h.design signature)
+  wiring ← Within fault_of_wiring (WiringOf h)
   acyclic ← HasNoCycle wiring.0
   StagesOf k mul h wiring.0 bound
 
@@ -122,10 +138,8 @@ ComposesIn k mul signature h bound = do
 abbrev pub Composes : ℕ → (ℕ → ℕ → ℕ) → List ModelValue → SignatureValue → List (List Basis) → ℕ → Outcome ComposeFault Terms
 Composes k mul design signature bases bound = ComposesIn k mul signature (hierarchy_of design signature bases) bound
 
--- the refusal of a composition; out of memory is none, in each of its steps
+-- the refusal of a composition; out of memory is none
 abbrev pub refusal : ComposeFault → Option ComposeFault
-refusal (Plan plans.OutOfMemory) = None
-refusal (Wiring wirings.OutOfMemory) = None
 refusal OutOfMemory = None
 refusal fault = Some fault
 

@@ -2,7 +2,7 @@
 ghost use Rattle.std.specs.Prelude.{IfErr, IfOk, Ok};
 ghost use Rattle.block_compose.specs.Composed.{Composes, IsComposable, MayFault};
 
-use crate::faults::of_cycle;
+use crate::faults::{of_cycle, of_plan, of_wiring};
 use crate::stages::compose_stages;
 use crate::{BlockBases, ComposeFault};
 use compose_blocks::plan_blocks;
@@ -17,16 +17,15 @@ use std::alloc::Global;
 /// The polynomial in words of what a top computes that only wires instances of blocks, or the first reason why there is none, in this
 /// order.
 ///
-/// - `Plan`, with `FedInTop`: a word of the top is fed, or a line feeds a net.
-/// - `Plan`, with `GateInTop`: the first `.names` or `.latch` of the top.
-/// - `Plan`, with `NoBlock`: the first instance whose model has no block.
-/// - `Plan`, with `BlockNet`, `BlockLatch`, `BlockBind`: block by block, in the order in which instances first use them, one whose
-///   model, flattened alone, is no net, has a latch, or does not bind to the block's words.
-/// - `Wiring`, with `NotWords`: the first word of an instance, by instance and then by word, that no feed fits; and an output word
-///   with a bit that is not connected or is an input of the block. A feed is an input word of the top or the output word of an
-///   instance; it fits where its nets are, place by place, those that the instance connects to the word's, and both have
-///   the same basis.
-/// - `Wiring`, with `OutputNotWords`: the same for the output word of the top.
+/// - `FedInTop`: a word of the top is fed, or a line feeds a net.
+/// - `GateInTop`: the first `.names` or `.latch` of the top.
+/// - `NoBlock`: the first instance whose model has no block.
+/// - `BlockNet`, `BlockLatch`, `BlockBind`: block by block, in the order in which instances first use them, one whose model,
+///   flattened alone, is no net, has a latch, or does not bind to the block's words.
+/// - `NotWords`: the first word of an instance, by instance and then by word, that no feed fits; and an output word with a bit
+///   that is not connected or is an input of the block. A feed is an input word of the top or the output word of an instance;
+///   it fits where its nets are, place by place, those that the instance connects to the word's, and both have the same basis.
+/// - `OutputNotWords`: no feed fits the output word of the top.
 /// - `InstanceLoop`: instances feed each other in a cycle.
 /// - `TooManyTerms`: the first stage above the bound, of the blocks in that order and then of the instances by rising level and
 ///   number.
@@ -47,7 +46,7 @@ pub fn compose<F: Field>(
 {
     let plan = match plan_blocks(alloc, design, signature) {
         Ok(plan) => plan,
-        Err(fault) => return Err(ComposeFault::Plan(fault)),
+        Err(fault) => return Err(of_plan(fault)),
     };
     let lists = bases.lists();
     let wiring = match wiring_of(
@@ -59,7 +58,7 @@ pub fn compose<F: Field>(
         &plan.numbers,
     ) {
         Ok(wiring) => wiring,
-        Err(fault) => return Err(ComposeFault::Wiring(fault)),
+        Err(fault) => return Err(of_wiring(fault)),
     };
     let order = match wired_order(alloc, &wiring.rows) {
         Ok(order) => order,

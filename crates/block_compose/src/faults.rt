@@ -1,15 +1,43 @@
-//! Faults of cycles and of stages as those of compositions.
+//! Faults of blocks, of wirings, of cycles and of stages as those of compositions.
 ghost use Rattle.std.specs.Prelude.{◌≡◌, ◌<◌, ◌^◌, ℕ, length, map, slice_get, Some};
 ghost use Rattle.graph_core.specs.Fault.{IsCycleFault};
 ghost use Rattle.compose_model.specs.Wiring.{feeding_graph};
 ghost use Rattle.compose_polys.specs.LevelOrder.{first_numbers};
-ghost use Rattle.block_compose.specs.Composed.{HasNoCycle, MayFault};
+ghost use Rattle.block_compose.specs.Composed.{fault_of_plan, fault_of_wiring, HasNoCycle, MayFault};
 ghost use Rattle.block_compose.specs.private.Blocks.{instance_fault_of};
 
 use crate::ComposeFault;
+use compose_blocks::PlanFault;
 use compose_model::Feeder;
+use compose_wiring::WiringFault;
 use graph_core::CycleFault;
 use poly_mixed::ReduceFault;
+
+/// A refused block.
+pub(crate) fn of_plan(fault: PlanFault) -> ComposeFault
+    ensures { result ≡ fault_of_plan fault }
+{
+    match fault {
+        PlanFault::FedInTop => ComposeFault::FedInTop,
+        PlanFault::GateInTop { line } => ComposeFault::GateInTop { line },
+        PlanFault::NoBlock { model } => ComposeFault::NoBlock { model },
+        PlanFault::BlockNet { model } => ComposeFault::BlockNet { model },
+        PlanFault::BlockLatch { model } => ComposeFault::BlockLatch { model },
+        PlanFault::BlockBind { model } => ComposeFault::BlockBind { model },
+        PlanFault::OutOfMemory => ComposeFault::OutOfMemory,
+    }
+}
+
+/// A word that no feed fits.
+pub(crate) fn of_wiring(fault: WiringFault) -> ComposeFault
+    ensures { result ≡ fault_of_wiring fault }
+{
+    match fault {
+        WiringFault::NotWords { instance, word } => ComposeFault::NotWords { instance, word },
+        WiringFault::OutputNotWords => ComposeFault::OutputNotWords,
+        WiringFault::OutOfMemory => ComposeFault::OutOfMemory,
+    }
+}
 
 // The first point of a cycle.
 fn first_point(points: &[u32]) -> u32

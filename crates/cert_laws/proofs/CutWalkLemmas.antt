@@ -1,5 +1,5 @@
 -- The pairs of eliminations lead from the output to the last cut.
-use Rattle.std.proofs.Common.{◌≡◌, ◌≢◌, ◌⊎◌, inl, inr, ◌∙◌, ap, sym, refl, subst, ℕ, zero, suc, ◌+◌, ◌*◌, ◌<◌, ◌≤◌, ◌==◌, nat_eq, Bool, true, false, cond, List, [], ◌∷◌, length, bit_xor, Some, is_some, slice_get, arith}
+use Rattle.std.proofs.Common.{◌≡◌, ◌≢◌, inl, inr, ◌∙◌, ap, sym, refl, subst, ℕ, zero, suc, ◌+◌, ◌*◌, ◌<◌, ◌≤◌, ◌==◌, nat_eq, Bool, true, false, cond, List, [], ◌∷◌, length, bit_xor, Some, is_some, slice_get, arith}
 use lib.Bits.{xor_self, xor_assoc, xor_comm, xor_zero_l, xor_zero_r, xor_lt}
 use Rattle.std.specs.List.{position_from}
 use Rattle.std.specs.Option.{option_and_then}
@@ -20,7 +20,6 @@ use Rattle.net_words.specs.BoundTo.{output_bits}
 use Rattle.net_words.specs.OneCycle.{IsOneCycle}
 use Rattle.net_words.specs.Variables.{variables}
 use Rattle.poly_mixed.specs.Cofactor.{LacksBit, IsCofactor, at_bit, cofactors}
-use Rattle.poly_mixed.specs.Monomial.{has_bit}
 use Rattle.poly_mixed.specs.Polynomial.{Terms, Point, IsPoint, IsElement, IsReduced, value}
 use Rattle.poly_mixed.specs.Steps.{Step}
 use Rattle.poly_mixed.specs.Table.{index}
@@ -42,10 +41,13 @@ use Rattle.stage_model.proofs.EliminationLemmas.{one_elimination}
 use Rattle.stage_model.proofs.SizeLemmas.{same_terms}
 use Rattle.cert_check.specs.Driver.{driver, is_driven}
 use Rattle.cert_check.specs.Running.{generator_value, driven_value, output_value}
-use Rattle.cert_laws.proofs.EliminationLemmas.{gate_bit, with_gate, index_same, step}
+use Rattle.stage_model.proofs.GateStepLemmas.{gate_bit, with_gate, step}
 use Rattle.cert_laws.proofs.SizedLemmas.{sized_of, sized_sum, sized_same}
 use Rattle.cert_laws.proofs.WalkLemmas.{Walk, IsLow, walk_none, walk_one, walk_then}
 use Rattle.cert_laws.proofs.VariableLemmas.{stands_in}
+use Rattle.stage_model.proofs.InterpolationLemmas.{is_bit_point}
+use Rattle.stage_model.proofs.SharedLemmas.{index_same}
+use Rattle.stage_model.proofs.StepLemmas.{lacks_or}
 
 -- ---- the gate that drives a net
 
@@ -69,17 +71,6 @@ pub driver_found : (net : NetList) → IsSound net → (position : ℕ) (g : Gat
 driver_found net sound position g at =
     ap is_some (position_first net.gates g.out 0 position g at refl (λ j h got same. gates_apart net j position h g sound.inside sound.one got at same))
 
-pub lacks_or : (rank : ℕ) (ts : Terms) → LacksBit rank ts ⊎ (LacksBit rank ts → ⊥)
-lacks_or rank [] = inl tt
-lacks_or rank (t ∷ ts) =
-    elim (has_bit rank t.0) as (λ b. has_bit rank t.0 ≡ b → LacksBit rank (t ∷ ts) ⊎ (LacksBit rank (t ∷ ts) → ⊥)) [
-      | true ↦ λ e. inr (λ all. both e all.0)
-      | false ↦ λ e. elim (lacks_or rank ts) [ inl rest ↦ inl (e, rest) | inr some ↦ inr (λ all. some all.1) ]
-    ] refl
-  where
-    both : has_bit rank t.0 ≡ true → has_bit rank t.0 ≡ false → ⊥
-    both e f = cc
-
 -- a point is itself with its own bit
 own_bit : (p : Point) (r : ℕ) → at_bit p r (p.is_one r) ≡ p
 own_bit p r = λ i. record { words = p.words; is_one = λ s. same s i }
@@ -89,9 +80,6 @@ own_bit p r = λ i. record { words = p.words; is_one = λ s. same s i }
       | true ↦ λ e. ap p.is_one (sym (eqb-true s r e))
       | false ↦ λ e. refl
     ]) refl
-
-moved_point : (k : ℕ) (p : Point) (r : ℕ) (b : Bool) → IsPoint k p → IsPoint k (at_bit p r b)
-moved_point k p r b at = record { words = at.words; elements = at.elements }
 
 module _ (k : ℕ) (mul : ℕ → ℕ → ℕ) (ring : IsRing k mul) (field : HasNoZeroDivisors k mul) where
   abbrev pub f : IsField k mul
@@ -151,7 +139,7 @@ module _ (k : ℕ) (mul : ℕ → ℕ → ℕ) (ring : IsRing k mul) (field : Ha
         → IsOfStage k mul (Cut t) old → IsOfStage k mul (Cut (suc t)) new → (p : Point) → IsPoint k p → value mul p new ≡ value mul (with_gate list g p) old
     next_value order is t position g old new at gate before after p point =
         let q : Point = with_gate list g p in
-        let cut = before.values q (moved_point k p (rank_in list g.out) (gate_bit list g p) point) in
+        let cut = before.values q (is_bit_point k p (rank_in list g.out) (gate_bit list g p) point) in
         let P : List ℕ → Type 0 = λ o. IsSettled bound.net list o t q cut.bits in
         let settled = subst P (one_elimination bound.net sound cut.order order cut.elimination is) cut.settled in
         let next = step bound.net sound list stands is.0 is.1 order is.2 t position g at gate p cut.bits settled in
@@ -199,8 +187,8 @@ module _ (k : ℕ) (mul : ℕ → ℕ → ℕ) (ring : IsRing k mul) (field : Ha
             let r : ℕ = rank_in list g.out in
             let x : ℕ = value mul (at_bit p r true) before in
             let y : ℕ = value mul (at_bit p r false) before in
-            let hx : IsElement k x = value_element f (at_bit p r true) (moved_point k p r true at) before old.reduced.terms in
-            let hy : IsElement k y = value_element f (at_bit p r false) (moved_point k p r false at) before old.reduced.terms in
+            let hx : IsElement k x = value_element f (at_bit p r true) (is_bit_point k p r true at) before old.reduced.terms in
+            let hy : IsElement k y = value_element f (at_bit p r false) (is_bit_point k p r false at) before old.reduced.terms in
             let whole : (b : Bool) → value mul (at_bit p r b) before ≡ cond b x y = λ b. elim b as (λ v. value mul (at_bit p r v) before ≡ cond v x y) [ true ↦ refl | false ↦ refl ] in
             let own : value mul p before ≡ cond (p.is_one r) x y = ap (λ (q : Point). value mul q before) (sym (own_bit p r)) ∙ whole (p.is_one r) in
             let is_same : c ≡ cofactors r before = same_map c (cofactors r before) reduced.is_map (reduced_cofactors k r before old.reduced).is_map (λ m. is_c m ∙ sym (is_cofactor r before old.reduced.is_map m)) in

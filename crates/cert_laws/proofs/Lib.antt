@@ -1,14 +1,11 @@
 pub mod SizedLemmas
 pub mod WalkLemmas
 pub mod VariableLemmas
-pub mod EliminationLemmas
 pub mod CutWalkLemmas
-pub mod AroundLemmas
 pub mod TermBitLemmas
 pub mod WordWalkLemmas
 pub mod SmallLemmas
 pub mod CountLemmas
-pub mod RankNameLemmas
 pub mod WordNamedLemmas
 pub mod OneCertificateLemmas
 pub mod NamedLemmas

@@ -4,7 +4,7 @@ use Rattle.std.specs.List.{AllByRecursion}
 use Rattle.std.proofs.lemmas.Bool.{true≢false, ne_eqb}
 use Rattle.std.proofs.lemmas.List.{length-map, length-append}
 use Rattle.lists.specs.laws.HasLaws.{All_has}
-use Rattle.lists.specs.laws.ListLaws.{all_filter as all_filtered}
+use Rattle.lists.specs.laws.ListLaws.{all_filter as all_filtered, all_append, any_equal}
 use Rattle.gf_field.specs.Field.{HasNoZeroDivisors}
 use Rattle.gf_field.specs.Ring.{IsRing}
 use Rattle.gf_basis.specs.BasisParts.{elements_of}
@@ -38,32 +38,29 @@ use Rattle.stage_model.proofs.BlindLemmas.{front_rank}
 use Rattle.stage_model.proofs.CutLemmas.{one_cut_of, wordless_cut}
 use Rattle.stage_model.proofs.CutPolyLemmas.{same_cut}
 use Rattle.stage_model.proofs.OutputInWordsLemmas.{all_words_is_output}
+use Rattle.stage_model.proofs.SharedLemmas.{named_terms, no_names}
 use Rattle.stage_model.proofs.SizeLemmas.{lacks, wordless_stage}
+use Rattle.stage_model.proofs.StepLemmas.{lacks_or}
 use Rattle.cert_check.proofs.SoundLemmas.{well}
 use Rattle.cert_make.specs.CircuitLabels.{NameVariables}
 use Rattle.cert_make.specs.Recorded.{IsCertificateOf}
 use Rattle.cert_make.specs.Writable.{IsWritablePair, IsOfNet, HaveNumbers}
-use Rattle.cert_make.proofs.BytesLemmas.{all_append}
 use Rattle.cert_laws.specs.Named.{IsWritableCertificate, IsNamed}
 use Rattle.cert_laws.proofs.CountLemmas.{times_k, counted_labels, counted_bits, counted_words}
-use Rattle.cert_laws.proofs.CutWalkLemmas.{driver_found, lacks_or}
-use Rattle.cert_laws.proofs.RankNameLemmas.{stands, named_terms}
+use Rattle.cert_laws.proofs.CutWalkLemmas.{driver_found}
 use Rattle.cert_laws.proofs.VariableLemmas.{stands_in}
 use Rattle.cert_laws.proofs.WordNamedLemmas.{word_steps_named}
+use Rattle.poly_mixed.proofs.SharedLemmas.{none_later}
 
 -- ---- ranks that stand in terms
 
 no_bits : (ts : Terms) → ((rank : ℕ) → 0 ≤ rank → LacksBit rank ts) → AllByRecursion (λ t. t.0.bits ≡ []) ts
 no_bits [] lack = tt
-no_bits (t ∷ ts) lack = (none t.0.bits (λ k r got. true≢false (sym (stands r t.0.bits k got) ∙ (lack r (omega arith)).0)), no_bits ts (λ rank high. (lack rank high).1))
+no_bits (t ∷ ts) lack = (none t.0.bits (λ k r got. true≢false (sym (any_equal r t.0.bits k got) ∙ (lack r (omega arith)).0)), no_bits ts (λ rank high. (lack rank high).1))
   where
     none : (rs : List ℕ) → ((k r : ℕ) → slice_get rs k ≡ Some r → ⊥) → rs ≡ []
     none [] each = refl
     none (r ∷ rs) each = absurd (each 0 r refl)
-
-no_names : (count : ℕ) (ts : Terms) → AllByRecursion (λ t. t.0.bits ≡ []) ts → AllByRecursion (λ t. AllByRecursion (λ r. r < count) t.0.bits) ts
-no_names count [] none = tt
-no_names count (t ∷ ts) none = (let P : List ℕ → Type 0 = AllByRecursion (λ r. r < count) in subst P (sym none.0) tt, no_names count ts none.1)
 
 -- ---- cofactors
 
@@ -77,14 +74,9 @@ named_cofactors count bit (t ∷ ts) all = elim (has_bit bit t.0) as (λ b. AllB
 zero_words : (m bit : ℕ) (ts : Terms) → AllByRecursion (λ t. IsZeros t.0.exponents) ts → AllByRecursion (λ t. IsZeros (drop m t.0.exponents)) (cofactors bit ts)
 zero_words m bit [] all = tt
 zero_words m bit (t ∷ ts) all = elim (has_bit bit t.0) as (λ b. AllByRecursion (λ t. IsZeros (drop m t.0.exponents)) (cond b ((without_bit bit t.0, t.1) ∷ cofactors bit ts) (cofactors bit ts))) [
-  | true ↦ (all_dropped m t.0.exponents all.0, zero_words m bit ts all.1)
+  | true ↦ (none_later m t.0.exponents all.0, zero_words m bit ts all.1)
   | false ↦ zero_words m bit ts all.1
 ]
-  where
-    all_dropped : (m : ℕ) (es : List ℕ) → IsZeros es → IsZeros (drop m es)
-    all_dropped zero es all = all
-    all_dropped (suc m) [] all = tt
-    all_dropped (suc m) (e ∷ es) all = all_dropped m es all.1
 
 module _ (k : ℕ) (mul : ℕ → ℕ → ℕ) (ring : IsRing k mul) (field : HasNoZeroDivisors k mul) (bound : BoundNet) (bases : List Basis) (sound : IsSound bound.net) (one : IsOneCycle bound.net bound.binding) (same : bound.binding.k ≡ k) (are : AreBases k mul bound bases) (labels : Labelling) (numbers : HaveNumbers k bound.net labels) (names : NameVariables bound labels) where
   abbrev c : Circuit

@@ -1,15 +1,17 @@
 -- How many terms sums have, and polynomials times bits.
-use Rattle.std.proofs.Common.{◌≡◌, ◌≢◌, ◌∙◌, ap, refl, ℕ, ◌+◌, ◌≤◌, ◌==◌, ◌&&◌, Bool, true, false, cond, List, [], ◌∷◌, length, bit_xor, arith}
+use Rattle.std.proofs.Common.{◌≡◌, ◌≢◌, ◌∙◌, ap, refl, ℕ, ◌+◌, ◌≤◌, ◌==◌, Bool, true, false, cond, List, [], ◌∷◌, length, bit_xor, arith}
 use lib.Bits.{xor_zero_r}
 use Rattle.std.specs.List.{AllByRecursion, list_all}
 use Rattle.std.specs.declared.cmp.Ordering.TheVariants.{Less, Equal, Greater}
 use Rattle.std.specs.Ordering.{match_ordering}
+use Rattle.lists.specs.laws.BoolLaws.{cond_and}
 use Rattle.poly_mixed.specs.Monomial.{Monomial, text_cmp}
 use Rattle.poly_mixed.specs.Polynomial.{Terms, Point, IsPoint, IsTerm, IsReduced, IsPolynomialOf, powers, term_value, value}
 use Rattle.poly_mixed.specs.Product.{union}
 use Rattle.poly_mixed.specs.Sum.{with_coefficient, plus_term, plus}
 use Rattle.poly_mixed.proofs.FieldLaws.{IsField}
 use Rattle.poly_mixed.proofs.ProductLemmas.{all-union, rising-union, one_term}
+use Rattle.poly_mixed.proofs.SharedLemmas.{plus_few}
 use Rattle.poly_mixed.proofs.SimpleLemmas.{reduced_nothing}
 use Rattle.poly_mixed.proofs.ValueLemmas.{value-plus, reduced_plus}
 
@@ -22,10 +24,6 @@ plus_term_long (t ∷ ts) u =
       | Equal ↦ elim (bit_xor t.1 u.1 == 0) as (λ b. length (cond b ts ((t.0, bit_xor t.1 u.1) ∷ ts)) ≤ length (t ∷ ts) + 1) [ true ↦ omega arith | false ↦ omega arith ]
       | Greater ↦ omega (arith, rest)
     ]
-
-plus_long : (ts us : Terms) → length (plus text_cmp ts us) ≤ length ts + length us
-plus_long ts [] = omega arith
-plus_long ts (u ∷ us) = omega (arith, plus_long (plus_term text_cmp ts u) us, plus_term_long ts u)
 
 -- a polynomial of the function with at most n terms
 pub record IsSized (k : ℕ) (mul : ℕ → ℕ → ℕ) (h : Point → ℕ) (n : ℕ) : Type 0 where
@@ -44,7 +42,7 @@ module _ {k : ℕ} {mul : ℕ → ℕ → ℕ} (f : IsField k mul) where
       reduced = reduced_plus f a.terms b.terms a.is.reduced b.is.reduced;
       values = λ p at. value-plus f p at a.terms b.terms a.is.reduced.terms b.is.reduced.terms ∙ (λ i. bit_xor (a.is.values p at i) (b.is.values p at i));
     };
-    small = (let one = a.small in let two = b.small in omega (arith, plus_long a.terms b.terms, one, two));
+    small = (let one = a.small in let two = b.small in omega (arith, plus_few a.terms b.terms, one, two));
   }
 
   pub sized_same : (h g : Point → ℕ) (n m : ℕ) → n ≤ m → ((p : Point) → IsPoint k p → h p ≡ g p) → IsSized k mul h n → IsSized k mul g m
@@ -65,7 +63,7 @@ module _ {k : ℕ} {mul : ℕ → ℕ → ℕ} (f : IsField k mul) where
   chosen_long : (bits : List ℕ) (ts : Terms) → length (chosen bits ts) ≤ length ts
   unfolding chosen
   chosen_long bits [] = omega arith
-  chosen_long bits (t ∷ ts) = omega (arith, plus_long (with_all bits t ∷ []) (chosen bits ts), chosen_long bits ts)
+  chosen_long bits (t ∷ ts) = omega (arith, plus_few (with_all bits t ∷ []) (chosen bits ts), chosen_long bits ts)
 
   one_chosen : (bits : List ℕ) (t : Monomial × ℕ) → IsTerm k t → t.1 ≢ 0 → IsReduced k (with_all bits t ∷ [])
   one_chosen bits t is some =
@@ -76,12 +74,6 @@ module _ {k : ℕ} {mul : ℕ → ℕ → ℕ} (f : IsField k mul) where
   unfolding chosen
   chosen_reduced bits [] all some = reduced_nothing f
   chosen_reduced bits (t ∷ ts) all some = reduced_plus f (with_all bits t ∷ []) (chosen bits ts) (one_chosen bits t all.0 some.0) (chosen_reduced bits ts all.1 some.1)
-
-  twice : (a b : Bool) (x : ℕ) → cond (a && b) x 0 ≡ cond b (cond a x 0) 0
-  twice true true x = refl
-  twice true false x = refl
-  twice false true x = refl
-  twice false false x = refl
 
   both : (b : Bool) (x y : ℕ) → bit_xor (cond b x 0) (cond b y 0) ≡ cond b (bit_xor x y) 0
   both true x y = refl
@@ -97,7 +89,7 @@ module _ {k : ℕ} {mul : ℕ → ℕ → ℕ} (f : IsField k mul) where
   chosen_value bits (t ∷ ts) all some p at =
       let x : ℕ = mul t.1 (powers mul t.0.exponents p.words) in
       let own : term_value mul p (with_all bits t) ≡ cond (list_all p.is_one bits) (term_value mul p t) 0 =
-      ap (λ b. cond b x 0) (all-union p.is_one t.0.bits bits) ∙ twice (list_all p.is_one t.0.bits) (list_all p.is_one bits) x in
+      ap (λ b. cond b x 0) (all-union p.is_one t.0.bits bits) ∙ cond_and (list_all p.is_one t.0.bits) (list_all p.is_one bits) x in
       value-plus f p at (with_all bits t ∷ []) (chosen bits ts) (one_chosen bits t all.0 some.0).terms (chosen_reduced bits ts all.1 some.1).terms
       ∙ (λ i. bit_xor ((xor_zero_r (term_value mul p (with_all bits t)) ∙ own) i) (chosen_value bits ts all.1 some.1 p at i))
       ∙ both (list_all p.is_one bits) (term_value mul p t) (value mul p ts)

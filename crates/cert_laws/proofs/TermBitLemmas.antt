@@ -1,11 +1,15 @@
 -- A term with its first bits of a word read from a number, and its other bits of the word as they stand.
-use Rattle.std.proofs.Common.{◌≡◌, ◌∙◌, ap, sym, refl, subst, ℕ, zero, suc, ◌+◌, ◌-◌, ◌*◌, ◌/◌, ◌%◌, ◌^◌, ◌<◌, ◌==◌, ◌&&◌, nat_lt, Bool, true, false, cond, not, List, [], ◌∷◌, ◌++◌, length, take, drop, get_or, map, Some, slice_get, arith}
+use Rattle.std.proofs.Common.{◌≡◌, ◌∙◌, ap, sym, refl, subst, ℕ, suc, ◌+◌, ◌-◌, ◌*◌, ◌/◌, ◌%◌, ◌^◌, ◌<◌, ◌==◌, ◌&&◌, nat_lt, Bool, true, false, cond, not, List, [], ◌∷◌, ◌++◌, length, take, drop, get_or, map, Some, slice_get, arith}
 use Rattle.std.specs.Int.{bit_at}
 use Rattle.std.specs.List.{list_all, filter, range_with_len}
 use Rattle.std.proofs.lemmas.Bool.{lt-ltb, le-ltb}
 use Rattle.std.proofs.lemmas.List.FromFn.{get_or-map-range_with_len}
 use Rattle.std.proofs.lemmas.List.Folds.{list_all-append}
 use Rattle.std.proofs.lemmas.Option.{get_or_from_slice_get}
+use Rattle.std.proofs.Math.Seq.{take-length}
+use Rattle.lists.specs.laws.BoolLaws.{and_into, and_swap}
+use Rattle.lists.specs.laws.NumberLaws.{bit_is_choice}
+use Rattle.lists.specs.laws.TakeLaws.{dropped_at, taken_next}
 use Rattle.gf_field.specs.Field.{HasNoZeroDivisors}
 use Rattle.gf_field.specs.Ring.{IsRing}
 use Rattle.gf_field.specs.Trace.{frobenius}
@@ -26,7 +30,7 @@ use Rattle.stage_model.proofs.WordPolyLemmas.{filter_passes}
 use Rattle.cert_check.specs.Running.{dual_form, dual_at, dual_words}
 use Rattle.cert_check.proofs.FormLemmas.{same_sum}
 use Rattle.cert_check.proofs.SoundLemmas.{both}
-use Rattle.cert_laws.proofs.AroundLemmas.{all_around}
+use Rattle.poly_mixed.proofs.AroundLemmas.{all_around}
 
 -- ---- lists of bits
 
@@ -35,18 +39,9 @@ split_all q g [] = refl
 split_all q g (x ∷ xs) =
     ap (λ b. q x && b) (split_all q g xs)
     ∙ (elim (g x) as (λ v. (q x && (list_all q (filter g xs) && list_all q (filter (λ x. not (g x)) xs))) ≡ (list_all q (cond v (x ∷ filter g xs) (filter g xs)) && list_all q (cond (not v) (x ∷ filter (λ x. not (g x)) xs) (filter (λ x. not (g x)) xs)))) [
-      | true ↦ first (q x) (list_all q (filter g xs)) (list_all q (filter (λ x. not (g x)) xs))
-      | false ↦ second (q x) (list_all q (filter g xs)) (list_all q (filter (λ x. not (g x)) xs))
+      | true ↦ and_into (q x) (list_all q (filter g xs)) (list_all q (filter (λ x. not (g x)) xs))
+      | false ↦ and_swap (q x) (list_all q (filter g xs)) (list_all q (filter (λ x. not (g x)) xs))
     ])
-  where
-    first : (a b c : Bool) → (a && (b && c)) ≡ ((a && b) && c)
-    first true b c = refl
-    first false b c = refl
-
-    second : (a b c : Bool) → (a && (b && c)) ≡ (b && (a && c))
-    second true b c = refl
-    second false true c = refl
-    second false false c = refl
 
 same_others : (q low : ℕ → Bool) (g : ℕ → Bool) → ((x : ℕ) → g x ≡ false → q x ≡ low x) → (xs : List ℕ) → list_all q (filter (λ x. not (g x)) xs) ≡ list_all low (filter (λ x. not (g x)) xs)
 same_others q low g same [] = refl
@@ -55,16 +50,6 @@ same_others q low g same (x ∷ xs) =
       | true ↦ λ e. same_others q low g same xs
       | false ↦ λ e. λ i. same x e i && same_others q low g same xs i
     ]) refl
-
-dropped_at : (xs : List ℕ) (j u : ℕ) → slice_get xs j ≡ Some u → drop j xs ≡ u ∷ drop (suc j) xs
-dropped_at [] j u at = absurd (cc)
-dropped_at (x ∷ xs) zero u at = let same : x ≡ u = cc in ap (λ y. y ∷ xs) same
-dropped_at (x ∷ xs) (suc j) u at = dropped_at xs j u at
-
-taken_at : (xs : List ℕ) (j u : ℕ) → slice_get xs j ≡ Some u → take (suc j) xs ≡ take j xs ++ u ∷ []
-taken_at [] j u at = absurd (cc)
-taken_at (x ∷ xs) zero u at = let same : x ≡ u = cc in ap (λ y. y ∷ []) same
-taken_at (x ∷ xs) (suc j) u at = ap (λ (ys : List ℕ). x ∷ ys) (taken_at xs j u at)
 
 module _ (k : ℕ) (mul : ℕ → ℕ → ℕ) (w : ℕ) (t : Monomial × ℕ) where
   abbrev own : List ℕ
@@ -98,16 +83,12 @@ module _ (k : ℕ) (mul : ℕ → ℕ → ℕ) (w : ℕ) (t : Monomial × ℕ) w
   all_read d p =
       let low : ℕ → Bool = (with_word k w d p).is_one in
       ap (λ (xs : List ℕ). cond (list_all p.is_one xs) (term_value mul (with_word k w d p) (first_bits k w (length own) t)) 0) (drop_all own)
-      ∙ ap (λ (xs : List ℕ). cond (list_all low (xs ++ others)) (whole p) 0) (take_all own)
+      ∙ ap (λ (xs : List ℕ). cond (list_all low (xs ++ others)) (whole p) 0) (take-length own)
       ∙ ap (λ b. cond b (whole p) 0) (list_all-append low own others ∙ sym (split_all low (is_of_word k w) t.0.bits))
     where
       drop_all : (xs : List ℕ) → drop (length xs) xs ≡ []
       drop_all [] = refl
       drop_all (x ∷ xs) = drop_all xs
-
-      take_all : (xs : List ℕ) → take (length xs) xs ≡ xs
-      take_all [] = refl
-      take_all (x ∷ xs) = ap (λ (ys : List ℕ). x ∷ ys) (take_all xs)
 
   module _ (is : IsTerm k t) (j place d : ℕ) (p : Point) (at : slice_get (word_bits k w t) j ≡ Some (k * w + place)) where
     abbrev u : ℕ
@@ -156,7 +137,7 @@ module _ (k : ℕ) (mul : ℕ → ℕ → ℕ) (w : ℕ) (t : Monomial × ℕ) w
     pub after_bit : mixed (suc j) d p ≡ cond (bit_at d place == 1) multiplier 0
     unfolding low parts
     after_bit =
-        ap (λ (xs : List ℕ). cond (list_all p.is_one (drop (suc j) own)) (cond (list_all low (xs ++ others)) (whole p) 0) 0) (taken_at own j u at)
+        ap (λ (xs : List ℕ). cond (list_all p.is_one (drop (suc j) own)) (cond (list_all low (xs ++ others)) (whole p) 0) 0) (taken_next own j u at)
         ∙ ap (λ b. cond (list_all p.is_one (drop (suc j) own)) (cond b (whole p) 0) 0) (list_all-append low (take j own ++ u ∷ []) others ∙ ap (λ b. b && list_all low others) (list_all-append low (take j own) (u ∷ [])))
         ∙ turned (list_all low (take j own)) (low u) (list_all low others) (list_all p.is_one (drop (suc j) own)) (whole p)
         ∙ (λ i. cond (read i) (sym multiplier_parts i) 0)
@@ -188,15 +169,10 @@ module _ (k : ℕ) (mul : ℕ → ℕ → ℕ) (w : ℕ) (t : Monomial × ℕ) w
 -- ---- the generator of a bit
 
 bit_cond : (n i : ℕ) → bit_at n i ≡ cond (bit_at n i == 1) 1 0
-bit_cond n i = small (bit_at n i) (let x : ℕ = n / 2 ^ i in below x)
+bit_cond n i = bit_is_choice (bit_at n i) (let x : ℕ = n / 2 ^ i in below x)
   where
     below : (x : ℕ) → x % 2 < 2
     below x = omega arith
-
-    small : (b : ℕ) → b < 2 → b ≡ cond (b == 1) 1 0
-    small zero less = refl
-    small (suc zero) less = refl
-    small (suc (suc b)) less = absurd (omega (arith, less))
 
 -- the linear form of a bit's generator gives the bit of the word's element
 pub form_value : (k : ℕ) (mul : ℕ → ℕ → ℕ) (bound : BoundNet) (bases : List Basis) → IsRing k mul → HasNoZeroDivisors k mul → AreBases k mul bound bases → (w place d : ℕ) (p : Point) → IsRead (circuit_in k mul bound bases) w p d → place < k

@@ -1,6 +1,7 @@
 -- The running sums of pairs, one after another.
 use Rattle.std.proofs.Common.{◌≡◌, ◌⊎◌, inl, inr, ◌∙◌, ap, sym, refl, subst, ℕ, List, [], ◌∷◌, ◌++◌, length, bit_xor, Ok, arith}
-use lib.Bits.{xor_self, xor_assoc, xor_comm, xor_zero_l, xor_zero_r}
+use Rattle.lists.specs.laws.XorLaws.{xor_turn}
+use lib.Bits.{xor_self, xor_assoc, xor_zero_l, xor_zero_r}
 use Rattle.gf_basis.specs.declared.bases.Basis.{Basis}
 use Rattle.net_words.specs.Binding.{BoundNet}
 use Rattle.poly_mixed.specs.Polynomial.{Terms, Point, IsPoint, value}
@@ -109,9 +110,6 @@ module _ (k : ℕ) (mul : ℕ → ℕ → ℕ) (bound : BoundNet) (bases : List 
 
   -- the sums of a certificate whose pairs lead from the output to the claim
   module _ (pairs : List Step) (walk : Walk (output_value k mul bound bases) (λ p. value mul p claim) pairs) where
-    moved : (x y z : ℕ) → bit_xor (bit_xor x y) z ≡ bit_xor (bit_xor x z) y
-    moved x y z = xor_assoc x y z ∙ ap (bit_xor x) (xor_comm y z) ∙ sym (xor_assoc x z y)
-
     pub within : (n : ℕ) (shared : List Terms) (front back : List Step) → pairs ≡ front ++ back → AsksAtMost k mul bound bases most n (record { claim = claim; shared = shared; pairs = front }) (Ok tt)
     within n shared front back e =
         let met = walk.each front back e in
@@ -119,7 +117,7 @@ module _ (k : ℕ) (mul : ℕ → ℕ → ℕ) (bound : BoundNet) (bases : List 
           sized.terms,
           record {
             reduced = sized.is.reduced;
-            values = λ p at. sized.is.values p at ∙ ap (λ x. bit_xor x (value mul p claim)) (sym (met.is p at)) ∙ moved (output_value k mul bound bases p) (all_products front p) (value mul p claim);
+            values = λ p at. sized.is.values p at ∙ ap (λ x. bit_xor x (value mul p claim)) (sym (met.is p at)) ∙ xor_turn (output_value k mul bound bases p) (all_products front p) (value mul p claim);
           },
           sized.small,
         )
@@ -127,5 +125,5 @@ module _ (k : ℕ) (mul : ℕ → ℕ → ℕ) (bound : BoundNet) (bases : List 
     pub nothing_left_over : (shared : List Terms) → IsRunningSum k mul bound bases (record { claim = claim; shared = shared; pairs = pairs }) []
     nothing_left_over shared = record {
       reduced = reduced_nothing f;
-      values = λ p at. sym (moved (output_value k mul bound bases p) (value mul p claim) (all_products pairs p) ∙ ap (λ x. bit_xor x (value mul p claim)) (walk.ends p at) ∙ xor_self (value mul p claim));
+      values = λ p at. sym (xor_turn (output_value k mul bound bases p) (value mul p claim) (all_products pairs p) ∙ ap (λ x. bit_xor x (value mul p claim)) (walk.ends p at) ∙ xor_self (value mul p claim));
     }

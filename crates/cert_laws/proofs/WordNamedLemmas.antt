@@ -3,8 +3,7 @@ use Rattle.std.proofs.Common.{◌≡◌, ◌∙◌, ap, sym, refl, subst, ℕ, z
 use Rattle.std.specs.Int.{bit_at}
 use Rattle.std.specs.List.{AllByRecursion, list_all}
 use Rattle.std.proofs.lemmas.List.{length-map}
-use Rattle.lists.specs.Lists.{Has}
-use Rattle.lists.specs.laws.ListLaws.{all_filter as all_filtered}
+use Rattle.lists.specs.laws.ListLaws.{all_filter as all_filtered, all_append}
 use Rattle.gf_field.specs.Field.{HasNoZeroDivisors}
 use Rattle.gf_field.specs.Power.{power}
 use Rattle.gf_field.specs.Ring.{IsRing}
@@ -29,8 +28,7 @@ use Rattle.poly_mixed.proofs.UniquenessLemmas.{zero_powers}
 use Rattle.circuit_model.specs.Bases.{AreBases, circuit_in}
 use Rattle.circuit_model.specs.Circuit.{Circuit}
 use Rattle.circuit_model.specs.WellFormed.{IsWellFormed}
-use Rattle.circuit_model.specs.Word.{Word, word_nets}
-use Rattle.circuit_model.proofs.SourceLemmas.{source_inside, stands_source}
+use Rattle.circuit_model.specs.Word.{word_nets}
 use Rattle.stage_model.specs.First.{AgreeAtFirst}
 use Rattle.stage_model.specs.Mix.{IsMix}
 use Rattle.stage_model.specs.Stage.{IsOfStage}
@@ -42,14 +40,14 @@ use Rattle.stage_model.proofs.FunctionLemmas.{in_first_words, in_first_ranks}
 use Rattle.stage_model.proofs.InterpolationLemmas.{LooksAtFirst}
 use Rattle.stage_model.proofs.MixLemmas.{some_mix, one_mix}
 use Rattle.stage_model.proofs.PointLemmas.{point_bits_at, same_word}
+use Rattle.stage_model.proofs.SharedLemmas.{named_terms}
+use Rattle.stage_model.proofs.SomeStageLemmas.{word_net}
 use Rattle.stage_model.proofs.VariableLemmas.{has_each}
 use Rattle.stage_model.proofs.WordPolyLemmas.{filter_passes, own_range}
 use Rattle.stage_model.proofs.WordStageLemmas.{some_read, one_read}
 use Rattle.cert_check.proofs.SoundLemmas.{well}
 use Rattle.cert_make.specs.CircuitLabels.{NameVariables}
 use Rattle.cert_make.specs.Writable.{IsWritablePair, IsOfNet, HaveNumbers}
-use Rattle.cert_make.proofs.BytesLemmas.{all_append}
-use Rattle.cert_laws.proofs.RankNameLemmas.{named_terms}
 
 same_on : (q g : ℕ → Bool) (count : ℕ) (xs : List ℕ) → ((r : ℕ) → r < count → q r ≡ g r) → AllByRecursion (λ r. r < count) xs → list_all q xs ≡ list_all g xs
 same_on q g count [] same all = refl
@@ -96,9 +94,6 @@ module _ (k : ℕ) (mul : ℕ → ℕ → ℕ) (ring : IsRing k mul) (field : Ha
   rank_low : (n : ℕ) → n < nets c.net → rank_in (variables_of c) n < count
   rank_low n less = has_each c.net (word_nets c.words) n less
 
-  word_net : (i n : ℕ) (v : Word) → slice_get c.words i ≡ Some v → Has v.nets n → n < nets c.net
-  word_net i n v at has = source_inside c.net circuit.sound n (stands_source c.net v.role n (circuit.inner v (i, at)) (circuit.places v n (i, at) has))
-
   mix_looks : (w : ℕ) → w ≤ m → LooksAtFirst k (IsMix c w) m count
   mix_looks w few = record {
     some = λ p at. some_mix c circuit w p at;
@@ -109,7 +104,7 @@ module _ (k : ℕ) (mul : ℕ → ℕ → ℕ) (ring : IsRing k mul) (field : Ha
         bits = λ i x v high at got.
             same_word (point_bits (nets c.net) (variables_of c) p) (point_bits (nets c.net) (variables_of c) q) v x
             (λ n has.
-            let less = word_net i n v at has in
+            let less = word_net c circuit i n v at has in
             point_bits_at (nets c.net) (variables_of c) p n less ∙ (same.bits (rank_in (variables_of c) n) (rank_low n less) ∙ sym (point_bits_at (nets c.net) (variables_of c) q n less)))
             (mix.mixed.bits i x v high at got);
       };

@@ -5,6 +5,8 @@ use Rattle.std.specs.Int.{bit_at}
 use Rattle.std.specs.List.{list_all}
 use Rattle.std.specs.List.Sorted.{IsStrictlySortedBy}
 use Rattle.std.proofs.lemmas.Option.{slice_get_within}
+use Rattle.std.proofs.Math.Numerals.{add-one}
+use Rattle.lists.specs.laws.ReadLaws.{get_here}
 use Rattle.gf_field.specs.Field.{HasNoZeroDivisors}
 use Rattle.gf_field.specs.Ring.{IsRing}
 use Rattle.gf_basis.specs.declared.bases.Basis.{Basis}
@@ -53,17 +55,9 @@ reduced_rest t ts is = record { is_map = record { sorted = is.is_map.sorted.1; r
 moved : (a b r y : ℕ) → bit_xor (bit_xor a (bit_xor b r)) y ≡ bit_xor a (bit_xor (bit_xor b y) r)
 moved a b r y = xor_assoc a (bit_xor b r) y ∙ ap (bit_xor a) (xor_assoc b r y ∙ ap (bit_xor b) (xor_comm r y) ∙ sym (xor_assoc b y r))
 
--- the term between two lists, and the terms up to it
-term_there : (done : Terms) (t : Monomial × ℕ) (rest : Terms) → slice_get (done ++ t ∷ rest) (length done) ≡ Some t
-term_there [] t rest = refl
-term_there (x ∷ done) t rest = term_there done t rest
-
 taken_there : (done : Terms) (t : Monomial × ℕ) (rest : Terms) → take (length done + 1) (done ++ t ∷ rest) ≡ done ++ t ∷ []
-taken_there done t rest = ap (λ n. take n (done ++ t ∷ rest)) (add_one (length done)) ∙ taken done
+taken_there done t rest = ap (λ n. take n (done ++ t ∷ rest)) (add-one (length done)) ∙ taken done
   where
-    add_one : (n : ℕ) → n + 1 ≡ suc n
-    add_one n = omega arith
-
     taken : (done : Terms) → take (suc (length done)) (done ++ t ∷ rest) ≡ done ++ t ∷ []
     taken [] = refl
     taken (x ∷ done) = ap (λ (ts : Terms). x ∷ ts) (taken done)
@@ -211,7 +205,7 @@ module _ (k : ℕ) (mul : ℕ → ℕ → ℕ) (ring : IsRing k mul) (field : Ha
           let read = some_read c well w p point inside in
           xor_zero_r (value mul p s) ∙ is_done.values p read.0 point read.1 ∙ ap (value mul (with_word k w read.0 p)) (sym (same ∙ append-nil done)) ∙ next_value p read.0 point read.1))
       terms_walk (t ∷ rest) done steps s same reduced few (front, more, own, later, split) is_done =
-          let at : slice_get ts (length done) ≡ Some t = ap (λ (xs : Terms). slice_get xs (length done)) same ∙ term_there done t rest in
+          let at : slice_get ts (length done) ≡ Some t = ap (λ (xs : Terms). slice_get xs (length done)) same ∙ get_here done t rest in
           let within : length done < length ts = slice_get_within ts (length done) t at in
           let sum = sums (length done + 1) (omega arith) (omega (arith, within)) in
           let next_done = sum_done (done ++ t ∷ []) (length done + 1) sum.0 (ap (take (length done + 1)) same ∙ taken_there done t rest) sum.1 sum.2 in

@@ -3,6 +3,7 @@ use Rattle.std.proofs.Common.{◌≡◌, inl, inr, sym, refl, subst, ℕ, ◌+�
 use Rattle.std.specs.List.{AllByRecursion}
 use Rattle.std.specs.Fmt.{digits}
 use Rattle.std.proofs.Math.Nat.{pow-le-pow_right}
+use Rattle.lists.specs.laws.ListLaws.{all_append}
 use Rattle.text_core.specs.Names.{IsName}
 use Rattle.poly_mixed.specs.Labels.{Labelling, AreLabels, IsWord, bit_count, bit_text, rank_text}
 use Rattle.poly_mixed.specs.Monomial.{Monomial}
@@ -14,10 +15,6 @@ use Rattle.text_core.proofs.RunLemmas.{Passes}
 use Rattle.text_core.proofs.ByteLemmas.{digit_is_name, hex_is_name, name_passes}
 use Rattle.text_core.proofs.WrittenLemmas.{decimal_digits, hex_digits_64}
 use Rattle.poly_mixed.proofs.SpelledLemmas.{rank_spelled}
-
-pub all_append : {A : Type 0} (P : A → Type 0) (xs ys : List A) → AllByRecursion P xs → AllByRecursion P ys → AllByRecursion P (xs ++ ys)
-all_append P [] ys all more = more
-all_append P (x ∷ xs) ys all more = (all.0, all_append P xs ys all.1 more)
 
 module _ (P : ℕ → Type 0) (names : (b : ℕ) → is_name_byte b ≡ true → P b) where
   abbrev AreBytes : List ℕ → Type 0

@@ -1,9 +1,11 @@
 -- A written line, read: what it begins with, and its multiplier.
-use Rattle.std.proofs.Common.{◌≡◌, ◌≢◌, ◌∙◌, ap, sym, refl, subst, ℕ, zero, suc, ◌<◌, ◌^◌, ◌==◌, ◌&&◌, Bool, true, false, cond, List, [], ◌∷◌, ◌++◌, length, drop, nat_lt, Option, Some, None, Ok, Err, slice_get, arith, decimal, codes, bytes_eq, append_assoc, append-nil}
+use Rattle.std.proofs.Common.{◌≡◌, ◌≢◌, ◌∙◌, ap, sym, refl, subst, ℕ, zero, suc, ◌<◌, ◌^◌, ◌==◌, ◌&&◌, true, false, cond, List, [], ◌∷◌, ◌++◌, length, drop, nat_lt, Option, Some, None, Ok, Err, slice_get, arith, decimal, codes, bytes_eq, append_assoc, append-nil}
 use Rattle.std.specs.List.{AllByRecursion}
 use Rattle.std.proofs.lemmas.Bool.{lt-ltb, eq-eqb, ne_eqb}
 use Rattle.std.proofs.lemmas.Grind.{common_steps}
 use Rattle.std.proofs.lemmas.Slice.Eq.{bytes_eq-Decides}
+use Rattle.std.proofs.Math.Seq.{drop-append_seam}
+use Rattle.std.proofs.Math.Bool.{and-false}
 use Rattle.text_core.specs.Lines.{is_blank as is_space}
 use Rattle.text_core.specs.Names.{IsName}
 use Rattle.text_core.specs.Numbers.{value_of}
@@ -17,7 +19,7 @@ use Rattle.poly_mixed.specs.Token.{Token, token_front, AreFront}
 use Rattle.poly_mixed.specs.laws.TextLaw.{IsWritten}
 use Rattle.poly_mixed.specs.declared.steps.Generator.{Generator}
 use Rattle.poly_mixed.specs.declared.steps.Generator.TheVariants.{Net, Bit}
-use Rattle.text_core.proofs.RunLemmas.{Passes, Stops, run_front, after_front, drop_front, skip_none, skip_space}
+use Rattle.text_core.proofs.RunLemmas.{Passes, Stops, run_front, after_front, skip_none, skip_space}
 use Rattle.text_core.proofs.WrittenLemmas.{decimal_digits}
 use Rattle.poly_mixed.proofs.SpelledLemmas.{name_front, word_at_place}
 use Rattle.text_core.proofs.ByteLemmas.{letter, name_passes}
@@ -29,6 +31,7 @@ use Rattle.cert_check.specs.Scan.{after_word, after_first, after_sign, digits_fi
 use Rattle.cert_check.specs.declared.fault.LineFault.TheVariants.{Syntax, NoSuchNet, NoSuchBit, NotDriven}
 use Rattle.cert_make.specs.CertText.{generator_text, line_of, let_of, claim_line}
 use Rattle.cert_make.specs.Writable.{IsOfNet, HasName}
+use Rattle.poly_mixed.proofs.ScannedLemmas.{skip_digits}
 
 -- ---- words
 
@@ -54,21 +57,13 @@ claim_word rest = front_word (codes "claim") (32 ∷ rest) (refl, (refl, (refl, 
 digit_still : (b : ℕ) → is_digit b ≡ true → is_space b ≡ false
 digit_still b h = grind (arith, common_steps)
 
-digits_still : (ds s : List ℕ) → 0 < length ds → Passes is_digit ds → skip (ds ++ s) ≡ ds ++ s
-digits_still [] s some pass = absurd (omega (arith, some))
-digits_still (d ∷ ds) s some pass = skip_none d (ds ++ s) (digit_still d pass.0)
-
 no_x : (b : ℕ) → is_digit b ≡ true → (b == 120) ≡ false
 no_x b h = grind (arith, common_steps)
 
-and_false : (b : Bool) → (b && false) ≡ false
-and_false true = refl
-and_false false = refl
-
 not_hex : (ds s : List ℕ) → Passes is_digit ds → begins_hex (ds ++ 32 ∷ s) ≡ false
 not_hex [] s pass = refl
-not_hex (d ∷ []) s pass = and_false (d == 48)
-not_hex (d ∷ e ∷ ds) s pass = ap (λ v. (d == 48) && (v && nat_lt 0 (length (run is_hex_digit (ds ++ 32 ∷ s))))) (no_x e pass.1.0) ∙ and_false (d == 48)
+not_hex (d ∷ []) s pass = and-false (d == 48)
+not_hex (d ∷ e ∷ ds) s pass = ap (λ v. (d == 48) && (v && nat_lt 0 (length (run is_hex_digit (ds ++ 32 ∷ s))))) (no_x e pass.1.0) ∙ and-false (d == 48)
 
 digits_front : (ds s : List ℕ) → 0 < length ds → Passes is_digit ds → Stops is_digit s → digits_first (ds ++ s) ≡ Some (ds, s)
 digits_front ds s some pass stop =
@@ -78,7 +73,7 @@ digits_front ds s some pass stop =
 number_read : (n : ℕ) (s : List ℕ) → n < 2 ^ 64 → digits_at (32 ∷ (decimal n ++ 32 ∷ s)) ≡ Some (decimal n, 32 ∷ s)
 number_read n s low =
     let d = decimal_digits n low in
-    ap digits_in (skip_space (decimal n ++ 32 ∷ s) ∙ digits_still (decimal n) (32 ∷ s) d.some d.pass)
+    ap digits_in (skip_space (decimal n ++ 32 ∷ s) ∙ skip_digits (decimal n) (32 ∷ s) d.some d.pass)
     ∙ ap (λ v. cond v None (digits_first (decimal n ++ 32 ∷ s))) (not_hex (decimal n) s d.pass)
     ∙ digits_front (decimal n) (32 ∷ s) d.some d.pass refl
 
@@ -112,7 +107,7 @@ module _ (net : NetList) (labels : Labelling) (version count : ℕ) where
   indexed_read (b ∷ bs) t is stop =
       let x : List ℕ = b ∷ (bs ++ t) in
       let front : name_of x ≡ b ∷ bs = name_front (b ∷ bs) t is stop in
-      let rest : drop (length (name_of x)) x ≡ t = ap (λ (n : List ℕ). drop (length n) x) front ∙ drop_front (b ∷ bs) t in
+      let rest : drop (length (name_of x)) x ≡ t = ap (λ (n : List ℕ). drop (length n) x) front ∙ drop-append_seam (b ∷ bs) t in
       ap indexed_in (skip_space x ∙ skip_none b (bs ++ t) (letter_still b (letter b is.letter)))
       ∙ ap (λ v. cond v (indexed (name_of x) (index_of (drop (length (name_of x)) x))) None) (letter b is.letter)
       ∙ (λ i. indexed (front i) (index_of (rest i)))

@@ -2,13 +2,14 @@
 use Rattle.std.proofs.Common.{◌≡◌, ◌∙◌, ap, sym, refl, subst, ℕ, true, false, cond, List, [], ◌∷◌, bytes_eq, Option, Some}
 use Rattle.std.specs.BTreeMap.{is_at}
 use Rattle.std.specs.Cmp.{tied_itself}
-use Rattle.std.specs.declared.cmp.Ordering.{Ordering}
-use Rattle.std.specs.declared.cmp.Ordering.TheVariants.{Less, Equal, Greater}
+use Rattle.std.specs.declared.cmp.Ordering.TheVariants.{Equal}
 use Rattle.std.specs.Ordering.{nat_cmp, is_eq}
 use Rattle.std.proofs.lemmas.Slice.Eq.{bytes_eq-Decides}
+use Rattle.lists.specs.laws.BoolLaws.{both_ways}
+use Rattle.lists.specs.laws.OrderingLaws.{is_equal, both_equal}
 use Rattle.cert_make.specs.declared.marks.Mark.{Mark}
 use Rattle.cert_make.specs.private.TextSharing.{bytes_cmp, bytes_cmp_total, seen_again}
-use Rattle.cert_make.proofs.SameLemmas.{both_equal, number_same, both_ways}
+use Rattle.cert_make.proofs.SameLemmas.{number_same}
 
 bytes_same : (xs ys : List ℕ) → bytes_cmp xs ys ≡ Equal → xs ≡ ys
 bytes_same [] [] e = refl
@@ -22,13 +23,8 @@ bytes_same (x ∷ xs) (y ∷ ys) e =
 pub key_at : (t q : List ℕ) → is_at (bytes_cmp t) q ≡ bytes_eq q t
 key_at t q =
     both_ways (is_eq (bytes_cmp t q)) (bytes_eq q t)
-    (λ e. (bytes_eq-Decides q t).1 (sym (bytes_same t q (equal (bytes_cmp t q) e))))
+    (λ e. (bytes_eq-Decides q t).1 (sym (bytes_same t q (is_equal (bytes_cmp t q) e))))
     (λ e. (let P : List ℕ → Type 0 = λ x. is_eq (bytes_cmp t x) ≡ true in subst P (sym ((bytes_eq-Decides q t).0 e)) (ap is_eq (tied_itself bytes_cmp_total t))))
-  where
-    equal : (r : Ordering) → is_eq r ≡ true → r ≡ Equal
-    equal Less e = absurd (cc)
-    equal Equal e = refl
-    equal Greater e = absurd (cc)
 
 -- what an update changes
 pub updated : (t q : List ℕ) (w old new : Option Mark) → new ≡ cond (is_at (bytes_cmp t) q) w old → new ≡ cond (bytes_eq q t) w old

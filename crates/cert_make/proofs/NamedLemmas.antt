@@ -1,8 +1,7 @@
 -- What a text of a polynomial says has names in the labels.
-use Rattle.std.proofs.Common.{◌≡◌, sym, refl, subst, ℕ, zero, suc, ◌+◌, ◌<◌, ◌≤◌, ◌^◌, true, false, cond, List, [], ◌∷◌, length, drop, nat_lt, ◌==◌, Option, Some, None, slice_set, arith, bytes_eq}
+use Rattle.std.proofs.Common.{◌≡◌, sym, refl, subst, ℕ, zero, suc, ◌+◌, ◌<◌, ◌≤◌, ◌^◌, true, false, cond, List, [], ◌∷◌, length, drop, nat_lt, ◌==◌, Option, Some, None, slice_set, arith}
 use Rattle.std.specs.List.{AllByRecursion}
 use Rattle.std.specs.Option.{option_map, option_and_then}
-use Rattle.std.proofs.lemmas.Bool.{ltb-true}
 use Rattle.poly_mixed.specs.Labels.{Labelling, AreLabels, bit_count, word_of, bit_of, net_of}
 use Rattle.poly_mixed.specs.Monomial.{Monomial, text_cmp}
 use Rattle.poly_mixed.specs.Polynomial.{Terms}
@@ -16,20 +15,13 @@ use Rattle.poly_mixed.specs.TextOutcome.{IsRead}
 use Rattle.poly_mixed.specs.laws.TextLaw.{IsWritten}
 use Rattle.poly_mixed.proofs.ReadReducedLemmas.{read_reduced}
 use Rattle.poly_mixed.proofs.SumLemmas.{all_plus}
+use Rattle.poly_mixed.proofs.TrackLemmas.{word_small, bit_small}
 
 -- ---- what names name is there
 
 one_more : (n : ℕ) (o : Option ℕ) (w : ℕ) → ((v : ℕ) → o ≡ Some v → v < n) → option_map (λ i. i + 1) o ≡ Some w → w < suc n
 one_more n None w below e = absurd (cc)
 one_more n (Some v) w below e = (let same : v + 1 ≡ w = cc in omega (arith, same, below v refl))
-
-pub word_below : (ws : List (List ℕ × ℕ)) (name : List ℕ) (w : ℕ) → word_of ws name ≡ Some w → w < length ws
-word_below [] name w e = absurd (cc)
-word_below (x ∷ xs) name w e =
-    (elim (bytes_eq x.0 name) as (λ v. cond v (Some 0) (option_map (λ i. i + 1) (word_of xs name)) ≡ Some w → w < length (x ∷ xs)) [
-      | true ↦ λ f. (let same : 0 ≡ w = cc in omega (arith, same))
-      | false ↦ λ f. one_more (length xs) (word_of xs name) w (λ v at. word_below xs name v at) f
-    ]) e
 
 net_below : (ns : List ℕ) (n i : ℕ) → net_of ns n ≡ Some i → i < length ns
 net_below [] n i e = absurd (cc)
@@ -42,17 +34,6 @@ net_below (x ∷ xs) n i e =
 later_bit : (b n : ℕ) (o : Option ℕ) (r : ℕ) → ((v : ℕ) → o ≡ Some v → v < n) → option_map (λ q. b + q) o ≡ Some r → r < b + n
 later_bit b n None r below e = absurd (cc)
 later_bit b n (Some v) r below e = (let same : b + v ≡ r = cc in omega (arith, same, below v refl))
-
-bit_below : (ws : List (List ℕ × ℕ)) (name : List ℕ) (place r : ℕ) → bit_of ws name place ≡ Some r → r < bit_count ws
-bit_below [] name place r e = absurd (cc)
-bit_below (x ∷ xs) name place r e =
-    (elim (bytes_eq x.0 name) as (λ v. cond v (cond (nat_lt place x.1) (Some place) None) (option_map (λ q. x.1 + q) (bit_of xs name place)) ≡ Some r → r < bit_count (x ∷ xs)) [
-      | true ↦ λ f. (elim (nat_lt place x.1) as (λ v. nat_lt place x.1 ≡ v → cond v (Some place) None ≡ Some r → r < bit_count (x ∷ xs)) [
-        | true ↦ λ less g. (let same : place ≡ r = cc in omega (arith, same, ltb-true place x.1 less))
-        | false ↦ λ less g. absurd (cc)
-      ]) refl f
-      | false ↦ λ f. later_bit x.1 (bit_count xs) (bit_of xs name place) r (λ v at. bit_below xs name place v at) f
-    ]) e
 
 module _ (l : Labelling) where
   abbrev IsLow : ℕ → Type 0
@@ -99,8 +80,8 @@ module _ (l : Labelling) where
 
   part_named : (m : Monomial) (p : Part) → IsNamed m → IsNamed (with_part l m p)
   part_named m (number c) is = is
-  part_named m (factor (word n) e) is = power_named m (word_of l.words n) e (λ w at. word_below l.words n w at) is
-  part_named m (factor (bit n i) e) is = rank_named m (bit_of l.words n i) (λ r at. omega (arith, bit_below l.words n i r at)) is
+  part_named m (factor (word n) e) is = power_named m (word_of l.words n) e (λ w at. word_small l.words n w at) is
+  part_named m (factor (bit n i) e) is = rank_named m (bit_of l.words n i) (λ r at. omega (arith, bit_small l.words n i r at)) is
   part_named m (factor (net n) e) is = rank_named m (net_rank l n) (λ r at. ranked_below n r at) is
 
   monomial_named : (m : Monomial) (ps : List Part) → IsNamed m → IsNamed (monomial_of l m ps)

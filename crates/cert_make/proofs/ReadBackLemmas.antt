@@ -1,11 +1,13 @@
 -- A written certificate is read back, line by line.
-use Rattle.std.proofs.Common.{◌≡◌, ◌≢◌, ◌∙◌, ap, sym, refl, subst, ℕ, zero, suc, ◌+◌, ◌-◌, ◌<◌, ◌≤◌, ◌^◌, ◌==◌, ◌&&◌, Bool, true, false, cond, not, List, [], ◌∷◌, ◌++◌, length, drop, get_or, Option, Some, None, is_some, Ok, slice_get, arith, decimal, codes, add-one, append_assoc, append-nil, nat_lt}
+use Rattle.std.proofs.Common.{◌≡◌, ◌≢◌, ◌∙◌, ap, sym, refl, subst, ℕ, zero, suc, ◌+◌, ◌-◌, ◌<◌, ◌≤◌, ◌^◌, ◌==◌, ◌&&◌, Bool, true, false, cond, not, List, [], ◌∷◌, ◌++◌, length, drop, get_or, Option, Some, None, is_some, Ok, slice_get, arith, decimal, codes, append_assoc, append-nil, nat_lt}
 use Rattle.std.specs.List.{AllByRecursion}
 use Rattle.std.specs.Option.{option_map, unwrap_or}
 use Rattle.std.specs.Str.Lines.{lines, strip_carriage_return}
 use Rattle.std.proofs.lemmas.Bool.{eq-eqb, ltb-true, true≢false, ne_eqb}
 use Rattle.std.proofs.lemmas.Grind.{common_steps}
 use Rattle.std.proofs.lemmas.List.{length-append}
+use Rattle.lists.specs.laws.LineLaws.{front_byte, line_end, after_line_plus, line_within}
+use Rattle.lists.specs.laws.ListLaws.{all_append}
 use Rattle.lists.specs.laws.TakeLaws.{front_of}
 use Rattle.outcome.specs.Outcome.{Outcome}
 use Rattle.text_core.proofs.LineLemmas.{lines_at}
@@ -24,7 +26,7 @@ use Rattle.poly_mixed.specs.declared.steps.Generator.TheVariants.{Net, Bit}
 use Rattle.cert_make.specs.CertText.{text_of_lines, generator_text, let_of, claim_line, multiplier_text, pair_line, lines_at as lines_of_pair, lines_from, cert_text, number_text}
 use Rattle.cert_make.specs.Sharing.{are_same, is_shared, number_of, is_first, shares_with, shares_from, shares_of}
 use Rattle.cert_make.specs.Writable.{IsWritable, IsWritablePair, IsOfNet, HasName}
-use Rattle.cert_make.proofs.BytesLemmas.{all_append, name_is, decimal_is, text_is, words_text_is}
+use Rattle.cert_make.proofs.BytesLemmas.{name_is, decimal_is, text_is, words_text_is}
 use Rattle.cert_make.proofs.FrameReadLemmas.{generator_read, end_read, let_read, version_read, claim_read, polynomial_read, claim_in_words, own_read, number_is_read}
 use Rattle.cert_make.proofs.SameLemmas.{same_equal}
 use Rattle.cert_make.proofs.SharingLemmas.{number_added}
@@ -42,32 +44,12 @@ at (b ∷ bs) (suc k) all = at bs k all.1
 no_return : (bytes : List ℕ) → IsLine bytes → strip_carriage_return bytes ≡ bytes
 no_return bytes all = rw (ne_eqb (get_or bytes (length bytes - 1) 0) 13 (at bytes (length bytes - 1) all).0) refl
 
-get_front : (xs ys : List ℕ) (k : ℕ) → k < length xs → get_or (xs ++ ys) k 0 ≡ get_or xs k 0
-get_front [] ys k less = absurd (omega (arith, less))
-get_front (x ∷ xs) ys zero less = refl
-get_front (x ∷ xs) ys (suc k) less = get_front xs ys k (omega (arith, less))
-
-get_end : (xs ys : List ℕ) → get_or (xs ++ 10 ∷ ys) (length xs) 0 ≡ 10
-get_end [] ys = refl
-get_end (x ∷ xs) ys = get_end xs ys
-
-rest_of : (xs ys : List ℕ) → drop (suc (length xs)) (xs ++ 10 ∷ ys) ≡ ys
-rest_of [] ys = refl
-rest_of (x ∷ xs) ys = rest_of xs ys
-
-rest_after : (xs ys : List ℕ) → drop (length xs + 1) (xs ++ 10 ∷ ys) ≡ ys
-rest_after xs ys = rw add-one (rest_of xs ys)
-
-longer : (xs ys : List ℕ) → length xs < length (xs ++ 10 ∷ ys)
-longer [] ys = omega arith
-longer (x ∷ xs) ys = omega (arith, longer xs ys)
-
 first_line : (bytes rest : List ℕ) → IsLine bytes → lines (bytes ++ 10 ∷ rest) ≡ bytes ∷ lines rest
 first_line bytes rest all =
-    lines_at (bytes ++ 10 ∷ rest) (length bytes) (λ k less found. (at bytes k all).1 (sym (get_front bytes (10 ∷ rest) k less) ∙ found)) (longer bytes rest) (get_end bytes rest)
+    lines_at (bytes ++ 10 ∷ rest) (length bytes) (λ k less found. (at bytes k all).1 (sym (front_byte bytes (10 ∷ rest) k less) ∙ found)) (line_within bytes rest) (line_end bytes rest)
     ∙ ap (λ (l : List ℕ). strip_carriage_return l ∷ lines (drop (length bytes + 1) (bytes ++ 10 ∷ rest))) (front_of bytes (10 ∷ rest))
     ∙ ap (λ (l : List ℕ). l ∷ lines (drop (length bytes + 1) (bytes ++ 10 ∷ rest))) (no_return bytes all)
-    ∙ ap (λ (l : List ℕ). bytes ∷ lines l) (rest_after bytes rest)
+    ∙ ap (λ (l : List ℕ). bytes ∷ lines l) (after_line_plus bytes rest)
 
 -- the lines of a text of lines
 lines_back : (ls : List (List ℕ)) → AllByRecursion IsLine ls → lines (text_of_lines ls) ≡ ls

@@ -1,12 +1,13 @@
 -- Polynomials with the same terms are equal, and those that can be written are equal where their texts are.
-use Rattle.std.proofs.Common.{◌≡◌, ◌∙◌, ap, sym, refl, ℕ, Bool, true, false, [], ◌∷◌, rules}
+use Rattle.std.proofs.Common.{◌≡◌, ◌∙◌, ap, sym, refl, ℕ, true, [], ◌∷◌, rules}
 use Rattle.std.specs.Cmp.{IsTotalOrder, nat_cmp_total, on_total, then_total, tied_itself}
 use Rattle.std.specs.Cmp.Lexicographic.{slice_cmp, lists_total}
-use Rattle.std.specs.declared.cmp.Ordering.{Ordering}
-use Rattle.std.specs.declared.cmp.Ordering.TheVariants.{Less, Equal, Greater}
-use Rattle.std.specs.Ordering.{nat_cmp, ordering_then, is_eq}
+use Rattle.std.specs.declared.cmp.Ordering.TheVariants.{Equal}
+use Rattle.std.specs.Ordering.{nat_cmp, is_eq}
 use Rattle.std.specs.Str.{bytes_eq}
 use Rattle.std.proofs.lemmas.Slice.Eq.{bytes_eq-Decides}
+use Rattle.lists.specs.laws.BoolLaws.{both_ways}
+use Rattle.lists.specs.laws.OrderingLaws.{both_equal, is_equal}
 use Rattle.poly_mixed.specs.Labels.{Labelling}
 use Rattle.poly_mixed.specs.Monomial.{Monomial, text_cmp, text_cmp_total}
 use Rattle.poly_mixed.specs.Polynomial.{Terms}
@@ -18,11 +19,6 @@ use Rattle.cert_make.specs.Sharing.{term_cmp, are_same}
 
 term_cmp_total : IsTotalOrder term_cmp
 term_cmp_total = then_total (on_total (λ t. t.0) text_cmp_total) (on_total (λ t. t.1) nat_cmp_total)
-
-pub both_equal : (r s : Ordering) → ordering_then r s ≡ Equal → (r ≡ Equal) × (s ≡ Equal)
-both_equal Less s e = absurd (cc)
-both_equal Equal s e = (refl, e)
-both_equal Greater s e = absurd (cc)
 
 pub number_same : (x y : ℕ) → nat_cmp x y ≡ Equal → x ≡ y
 number_same x y e = search rules
@@ -42,23 +38,13 @@ terms_same (t ∷ ts) (u ∷ us) e =
 
 -- polynomials that are tested the same are equal, and the other way round
 pub same_equal : (ts us : Terms) → are_same ts us ≡ true → ts ≡ us
-same_equal ts us e = terms_same ts us (equal (slice_cmp term_cmp ts us) e)
-  where
-    equal : (r : Ordering) → is_eq r ≡ true → r ≡ Equal
-    equal Less e = absurd (cc)
-    equal Equal e = refl
-    equal Greater e = absurd (cc)
+same_equal ts us e = terms_same ts us (is_equal (slice_cmp term_cmp ts us) e)
 
 pub same_itself : (ts : Terms) → are_same ts ts ≡ true
 same_itself ts = ap is_eq (tied_itself (lists_total term_cmp_total) ts)
 
 pub same_from : (ts us : Terms) → ts ≡ us → are_same ts us ≡ true
 same_from ts us e = ap (are_same ts) (sym e) ∙ same_itself ts
-
-pub both_ways : (s t : Bool) → (s ≡ true → t ≡ true) → (t ≡ true → s ≡ true) → s ≡ t
-both_ways true t f g = sym (f refl)
-both_ways false true f g = g refl
-both_ways false false f g = refl
 
 -- of polynomials that can be written the texts tell whether they are the same
 pub texts_tell : (l : Labelling) (k : ℕ) (ts us : Terms) → IsWritten l k ts → IsWritten l k us → bytes_eq (text l ts) (text l us) ≡ are_same ts us

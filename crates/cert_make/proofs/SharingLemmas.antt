@@ -7,6 +7,7 @@ use Rattle.std.proofs.lemmas.Bool.{ltb-true, lt-ltb, ne_eqb}
 use Rattle.std.proofs.lemmas.List.{length-append}
 use Rattle.std.proofs.lemmas.Slice.Eq.{bytes_eq-Decides}
 use Rattle.lists.specs.Lists.{Has}
+use Rattle.lists.specs.laws.NumberLaws.{self_plus_zero}
 use Rattle.poly_mixed.specs.Labels.{Labelling}
 use Rattle.poly_mixed.specs.Polynomial.{Terms}
 use Rattle.poly_mixed.specs.Steps.{Step}
@@ -200,12 +201,9 @@ marks_seen l xs s old new t are is sees q =
     ∙ (λ i. cond (bytes_eq q (is i)) (Some (seen_again (are q i))) (are q i))
     ∙ (elim (bytes_eq q (text l s.1)) as (λ b. cond b (Some (seen_again (mark_of (text_uses l xs q) None))) (mark_of (text_uses l xs q) None) ≡ mark_of (text_uses l xs q + cond b 1 0) None) [
       | true ↦ sym (seen_mark (text_uses l xs q))
-      | false ↦ ap (λ u. mark_of u None) (none_more (text_uses l xs q))
+      | false ↦ ap (λ u. mark_of u None) (self_plus_zero (text_uses l xs q))
     ])
     ∙ ap (λ u. mark_of u None) (sym (uses_more l xs s q))
-  where
-    none_more : (n : ℕ) → n ≡ n + 0
-    none_more n = omega arith
 
 -- the multipliers that are shared after one more pair
 pub shares_more : (pairs : List Step) (shares : List Terms) (xs : List Step) (s : Step) → shares_from pairs shares (xs ++ s ∷ []) ≡ shares_with pairs (shares_from pairs shares xs) s.1

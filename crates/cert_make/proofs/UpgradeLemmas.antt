@@ -3,6 +3,7 @@ use Rattle.std.proofs.Common.{◌≡◌, ◌∙◌, ap, sym, refl, subst, ℕ, z
 use Rattle.std.specs.List.{AllByRecursion, slice_split, onto_first}
 use Rattle.std.specs.Str.Lines.{lines, lines_of_parts}
 use Rattle.std.proofs.lemmas.List.{length-append}
+use Rattle.lists.specs.laws.ListLaws.{all_append}
 use Rattle.outcome.specs.Outcome.{Outcome}
 use Rattle.text_core.specs.Numbers.{value_of}
 use Rattle.gf_field.specs.Field.{HasNoZeroDivisors}
@@ -37,7 +38,6 @@ use Rattle.cert_make.specs.Sharing.{shares_of}
 use Rattle.cert_make.specs.Upgrade.{UpgradeOf}
 use Rattle.cert_make.specs.Writable.{IsWritable, IsWritablePair, IsOfNet, HasName, HaveNumbers}
 use Rattle.cert_make.specs.laws.ReadBack.{AreAlike, WrittenIsRead}
-use Rattle.cert_make.proofs.BytesLemmas.{all_append}
 use Rattle.cert_make.proofs.NamedLemmas.{read_written}
 use Rattle.cert_make.proofs.ReadBackLemmas.{text_read}
 

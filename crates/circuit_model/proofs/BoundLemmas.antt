@@ -3,7 +3,7 @@ use Rattle.std.proofs.Common.{◌≡◌, ◌∙◌, ap, sym, refl, subst, inl, i
 use Rattle.std.specs.Prelude.{filter, not}
 use Rattle.std.proofs.lemmas.List.{append-nil}
 use Rattle.lists.specs.Lists.{Has, times}
-use Rattle.lists.specs.laws.HasLaws.{none_at, Has_cases, Has_left, Has_right, All_has}
+use Rattle.lists.specs.laws.HasLaws.{none_at, Has_cases, Has_left, Has_right, All_has, only_one}
 use Rattle.graph_core.specs.Walk.{IsChain}
 use Rattle.net_core.specs.LatchValue.{LatchValue}
 use Rattle.net_core.specs.NetList.{NetList}
@@ -47,10 +47,6 @@ pub count_of : (words : List BoundWord) (bases : List (List ℕ)) → length bas
 count_of [] bases long = refl
 count_of (w ∷ ws) [] long = absurd (omega arith)
 count_of (w ∷ ws) (b ∷ bs) long = count_with w.role w.nets b (words_of ws bs) w (filter (λ word. not (same_role word.role Output)) ws) (count_of ws bs (omega arith))
-
-pub only_one : {X : Type 0} (x y : X) → Has (x ∷ []) y → x ≡ y
-only_one x y (zero, got) = cc
-only_one x y (suc k, got) = absurd (cc)
 
 -- a word is that of a bound word, with its basis
 find_bound : (words : List BoundWord) (bases : List (List ℕ)) (w : Word) → Has (words_of words bases) w → (word : BoundWord) × (basis : List ℕ) × Has words word × Has bases basis × Has (word_with word.role word.nets basis) w

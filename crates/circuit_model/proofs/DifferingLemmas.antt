@@ -6,7 +6,7 @@ use Rattle.std.specs.Cmp.{nat_cmp_total}
 use Rattle.std.specs.Cmp.Lexicographic.{slice_cmp}
 use Rattle.std.specs.Ordering.{nat_cmp, ordering_then, ordering_reverse}
 use Rattle.std.specs.FinMap.{nat_cmp-IsAntisymmetric, slice_cmp-IsAntisymmetric}
-use Rattle.std.proofs.lemmas.Bool.{lt-ltb}
+use Rattle.lists.specs.laws.OrderingLaws.{cmp_less}
 use Rattle.circuit_model.specs.Circuit.{Circuit}
 use Rattle.circuit_model.specs.Differing.{Differ, IsDifferingInput, AreSame, Difference, IsComparison}
 use Rattle.circuit_model.specs.InputOrder.{AreOrdered, HasOneDifferingInput}
@@ -17,17 +17,14 @@ use Rattle.circuit_model.proofs.OnesLemmas.{one_input}
 
 -- ---- the order
 
-low : (x y : ℕ) → x < y → nat_cmp x y ≡ Less
-low x y less = rw (lt-ltb x y less)
-
 greater_then : (r q : Ordering) → r ≡ Greater → ordering_then r q ≡ Greater
 greater_then r q e = ap (λ o. ordering_then o q) e
 
 pub longer_after : (a b : List ℕ) → length b < length a → ones_cmp a b ≡ Greater
-longer_after a b less = greater_then (nat_cmp (length a) (length b)) (slice_cmp nat_cmp a b) (nat_cmp_total.antisymm (length a) (length b) ∙ ap ordering_reverse (low (length b) (length a) less))
+longer_after a b less = greater_then (nat_cmp (length a) (length b)) (slice_cmp nat_cmp a b) (nat_cmp_total.antisymm (length a) (length b) ∙ ap ordering_reverse (cmp_less (length b) (length a) less))
 
 pub shorter_before : (a b : List ℕ) → length a < length b → ones_cmp a b ≡ Less
-shorter_before a b less = ap (λ o. ordering_then o (slice_cmp nat_cmp a b)) (low (length a) (length b) less)
+shorter_before a b less = ap (λ o. ordering_then o (slice_cmp nat_cmp a b)) (cmp_less (length a) (length b) less)
 
 equal_then : (r q : Ordering) → ordering_then r q ≡ Equal → q ≡ Equal
 equal_then Less q e = cc

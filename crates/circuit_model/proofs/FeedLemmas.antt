@@ -1,8 +1,8 @@
 -- The sources of fed nets.
-use Rattle.std.proofs.Common.{◌≡◌, ◌∙◌, ap, sym, refl, subst, ℕ, suc, ◌&&◌, Bool, true, false, List, [], ◌∷◌, Some, cond, arith}
+use Rattle.std.proofs.Common.{◌≡◌, ◌∙◌, ap, sym, refl, subst, ℕ, suc, ◌&&◌, Bool, true, false, List, [], ◌∷◌, Some, cond}
 use Rattle.std.specs.Prelude.{slice_get, ◌==◌}
 use Rattle.std.specs.Int.{bit_at}
-use Rattle.std.proofs.lemmas.Bool.Decides.{nat_tests}
+use Rattle.std.proofs.lemmas.Bool.{eqb-true}
 use Rattle.lists.specs.Lists.{Has}
 use Rattle.lists.specs.laws.ReadLaws.{from_map}
 use Rattle.gf_basis.specs.Basis.{AreBits}
@@ -15,9 +15,6 @@ use Rattle.circuit_model.specs.Circuit.{Circuit, IsInput, IsFed, IsInNoWord}
 use Rattle.circuit_model.specs.Job.{IsJob, IsSource}
 use Rattle.circuit_model.specs.Run.{HasSource}
 use Rattle.circuit_model.proofs.SourceLemmas.{element_at}
-
-pub eq_of : (m n : ℕ) → (m == n) ≡ true → m ≡ n
-eq_of m n same = grind (arith, nat_tests)
 
 -- a property of the constant 0 and of the feeds' sources holds of each source that is found
 source_has : (P : FeedSource → Type 0) (fs : List CircuitFeed) (n t : ℕ) → P (Constant false) → ((f : CircuitFeed) → Has fs f → P f.source) → P (source_at fs n t)
@@ -33,7 +30,7 @@ source_none [] n t none = refl
 source_none (f ∷ fs) n t none = by (f.net == n) refl (f.cycle == t) (source_none fs n t (λ has. none (suc has.0, has.1)))
   where
     by : (b : Bool) → (f.net == n) ≡ b → (d : Bool) → source_at fs n t ≡ Constant false → cond (b && d) f.source (source_at fs n t) ≡ Constant false
-    by true same d rest = let is : f.net ≡ n = eq_of f.net n same in absurd (none (0, ap Some is))
+    by true same d rest = let is : f.net ≡ n = eqb-true f.net n same in absurd (none (0, ap Some is))
     by false same d rest = rest
 
 pub source_fits : (c : Circuit) → IsJob c → (n t : ℕ) → IsSource c.k c.words (source_at c.feeds n t)

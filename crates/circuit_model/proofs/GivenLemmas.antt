@@ -3,7 +3,7 @@ use Rattle.std.proofs.Common.{◌≡◌, ◌≢◌, ◌⊎◌, ◌∙◌, ap, re
 use Rattle.std.specs.Prelude.{slice_get, ◌==◌}
 use Rattle.std.proofs.lemmas.Bool.Decides.{nat_tests}
 use Rattle.lists.specs.Lists.{Has, times}
-use Rattle.lists.specs.laws.HasLaws.{times_get, times_some}
+use Rattle.lists.specs.laws.HasLaws.{times_get}
 use Rattle.lists.specs.laws.NumberLaws.{nat_eq_or}
 use Rattle.lists.specs.laws.TestLaws.{one_here}
 use Rattle.net_core.specs.Value.{bit_of}
@@ -84,8 +84,3 @@ pub bits_at : (m : ℕ) (f : ℕ → Bool) (n : ℕ) → n < m → bit_of (bits_
 bits_at zero f n less = absurd (omega arith)
 bits_at (suc m) f zero less = refl
 bits_at (suc m) f (suc n) less = bits_at m (λ i. f (suc i)) n (omega arith)
-
-pub none_times : (n : ℕ) (xs : List ℕ) → (Has xs n → ⊥) → times n xs ≡ 0
-none_times n xs none =
-    let few : 1 ≤ times n xs → ⊥ = λ some. none (times_some n xs some) in
-    omega (arith, few)

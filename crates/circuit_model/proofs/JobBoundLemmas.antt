@@ -3,7 +3,7 @@ use Rattle.std.proofs.Common.{◌≡◌, ◌⊎◌, ◌∙◌, ap, sym, refl, su
 use Rattle.std.specs.Prelude.{filter, not, slice_get}
 use Rattle.std.proofs.lemmas.Bool.{true≢false}
 use Rattle.lists.specs.Lists.{Has, times}
-use Rattle.lists.specs.laws.HasLaws.{Has_cases, All_has, none_at}
+use Rattle.lists.specs.laws.HasLaws.{Has_cases, All_has, none_at, any_has, only_one}
 use Rattle.lists.specs.laws.ReadLaws.{from_map, get_below}
 use Rattle.net_core.specs.NetList.{NetList, nets}
 use Rattle.net_core.specs.Sound.{IsSound}
@@ -18,7 +18,7 @@ use Rattle.net_words.specs.declared.feed.Source.{Source}
 use Rattle.net_words.specs.declared.feed.Source.TheVariants.{Zero, One, Bit}
 use Rattle.net_words.specs.declared.word.Role.{Role}
 use Rattle.net_words.specs.declared.word.Role.TheVariants.{Input, State, Fed, Output}
-use Rattle.net_words.proofs.MemberLemmas.{any_has, has_stands, output_width, output_bits_word}
+use Rattle.net_words.proofs.MemberLemmas.{has_stands, output_width, output_bits_word}
 use Rattle.gf_field.specs.Ring.{IsRing}
 use Rattle.gf_field.specs.Field.{HasNoZeroDivisors}
 use Rattle.gf_basis.specs.Basis.{IsBasis}
@@ -28,7 +28,7 @@ use Rattle.circuit_model.specs.Word.{Word, IsFedWord, word_nets}
 use Rattle.circuit_model.specs.OfBinding.{output_basis, HaveBases}
 use Rattle.circuit_model.specs.JobOfBinding.{job_word_with, job_words_of, inner_number, inner_source, job_feed, job_with}
 use Rattle.circuit_model.specs.Job.{IsJob, IsJobWord, IsFeed, IsSource, net_count}
-use Rattle.circuit_model.proofs.BoundLemmas.{only_one, IsOutputWord, find_output}
+use Rattle.circuit_model.proofs.BoundLemmas.{IsOutputWord, find_output}
 use Rattle.circuit_model.proofs.SourceLemmas.{find_word, role_input}
 
 nets_with : (r : Role) (ns basis : List ℕ) (ws : List Word) (rest : List ℕ) → word_nets ws ≡ rest → word_nets (job_word_with r ns basis ++ ws) ≡ bits_with r ns ++ rest

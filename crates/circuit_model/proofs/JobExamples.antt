@@ -4,9 +4,9 @@ use Rattle.std.proofs.Common.{◌≡◌, ◌∙◌, ap, ◌+◌, sym, refl, subs
 use Rattle.std.specs.Prelude.{◌==◌}
 use Rattle.std.specs.Int.{bit_at}
 use Rattle.lists.specs.Lists.{Has}
+use Rattle.lists.specs.laws.HasLaws.{none_at}
 use Rattle.gf_field.specs.Bit.{bit_mul}
 use Rattle.gf_basis.specs.Basis.{AreBits}
-use Rattle.net_core.specs.GateValue.{GateValue}
 use Rattle.net_core.specs.LatchValue.{LatchValue}
 use Rattle.net_core.specs.NetList.{NetList}
 use Rattle.net_core.specs.Value.{bit_of}
@@ -51,9 +51,6 @@ chosen_bit false zero chosen = refl
 chosen_bit false (suc zero) chosen = let e : 1 ≡ 0 = chosen.is in absurd (omega (arith, e))
 chosen_bit false (suc (suc d)) chosen = absurd (omega (arith, chosen.short))
 
-no_gate : (g : GateValue) → Has [] g → ⊥
-no_gate g has = let got = has.1 in absurd (cc)
-
 -- no word is of another role than Fed
 only_fed : (i : ℕ) (w : Word) (r : Role) → slice_get job.words i ≡ Some w → w.role ≡ r → Fed ≡ r
 only_fed zero w r got is = let same : word_a ≡ w = cc in let P : Word → Type 0 = λ v. v.role ≡ r in subst P (sym same) is
@@ -72,7 +69,7 @@ module _ (a : Bool) where
 
   cycle_at : (t : ℕ) (bits : List Bool) → length bits ≡ 2 → HasSource job.words xs (source_at job.feeds 0 t) (bit_of bits 0) → IsClockCycle job xs t bits
   cycle_at t bits long right = record {
-    consistent = record { long = long; gates = λ g has. absurd (no_gate g has) };
+    consistent = record { long = long; gates = λ g has. absurd (none_at g has) };
     inputs = λ i w x got at is. let e : Fed ≡ Input = only_fed i w Input got is in absurd (cc);
     feeds = feeds;
   }

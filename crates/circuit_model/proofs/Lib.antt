@@ -1,3 +1,4 @@
+pub mod SharedLemmas
 pub mod Functions
 pub mod AgreeLemmas
 pub mod BitLemmas

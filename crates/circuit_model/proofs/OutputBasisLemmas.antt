@@ -1,5 +1,5 @@
 -- The basis of the output word, out of those of all words of a binding.
-use Rattle.std.proofs.Common.{◌≡◌, ◌≢◌, ◌∙◌, ap, sym, refl, subst, ℕ, zero, suc, ◌+◌, true, false, cond, List, [], ◌∷◌, length, map, drop, filter, Some, arith}
+use Rattle.std.proofs.Common.{◌≡◌, ◌≢◌, ◌∙◌, ap, sym, refl, subst, ℕ, zero, suc, ◌+◌, cond, List, [], ◌∷◌, length, map, drop, filter, Some, arith}
 use Rattle.std.specs.Prelude.{slice_get}
 use Rattle.net_words.specs.Roles.{same_role}
 use Rattle.net_words.specs.declared.bound.BoundWord.{BoundWord}
@@ -54,12 +54,3 @@ past_count words w word got other = let up : w + 1 ≡ suc w = omega arith in ap
     rest [] v at = absurd (cc)
     rest (u ∷ us) zero at = let same : word ≡ u = cc in (let P : BoundWord → Type 0 = λ x. outputs (x ∷ us) ≡ outputs us in subst P same (own us word.role refl))
     rest (u ∷ us) (suc v) at = rest us v at
-
-pub is_role : (r : Role) → same_role r Output ≡ true → r ≡ Output
-is_role Input e = absurd (cc)
-is_role State e = absurd (cc)
-is_role Fed e = absurd (cc)
-is_role Output e = refl
-
-pub not_role : (r : Role) → same_role r Output ≡ false → r ≢ Output
-not_role r e is = let same : same_role r Output ≡ true = ap (λ q. same_role q Output) is in absurd (cc)

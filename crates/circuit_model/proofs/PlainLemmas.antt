@@ -9,6 +9,7 @@ use Rattle.std.proofs.lemmas.Option.{slice_get_within}
 use Rattle.lists.specs.Lists.{Has}
 use Rattle.lists.specs.laws.HasLaws.{Has_left, Has_right}
 use Rattle.lists.specs.laws.ReadLaws.{from_map, get_below}
+use Rattle.lists.specs.laws.TestLaws.{same_bit}
 use Rattle.net_core.specs.NetList.{NetList}
 use Rattle.net_core.specs.LatchValue.{LatchValue}
 use Rattle.net_core.specs.Value.{bit_of, IsConsistent, HasValues}
@@ -59,13 +60,6 @@ have_rest words xs bits have i w x got at = have (suc i) w x (rest_get words i w
 pub found_is : (o : Option ℕ) (P : ℕ → Type 0) (e : ℕ) → IfSome o P → o ≡ Some e → P e
 found_is None P e some is = absurd (cc)
 found_is (Some x) P e some is = let same : x ≡ e = cc in subst P same some
-
-pub if_some : (o : Option ℕ) (P Q : ℕ → Type 0) → ((e : ℕ) → P e → Q e) → IfSome o P → IfSome o Q
-if_some None P Q f some = tt
-if_some (Some x) P Q f some = f x some
-
-same_bit : (b v : Bool) (d e place : ℕ) → b ≡ v → v ≡ (bit_at d place == 1) → d ≡ e → b ≡ (bit_at e place == 1)
-same_bit b v d e place first then same = first ∙ (then ∙ ap (λ x. bit_at x place == 1) same)
 
 module _ (k : ℕ) (product : ℕ → ℕ → ℕ) (net : NetList) (words : List CircuitWord) (output : CircuitWord) (xs : List ℕ) (bits values : List Bool) where
   abbrev circuit : Circuit

@@ -3,7 +3,7 @@ use Rattle.std.proofs.Common.{◌≡◌, ◌≢◌, ◌∙◌, sym, refl, inl, i
 use Rattle.std.specs.Prelude.{slice_get}
 use Rattle.std.proofs.lemmas.Option.{slice_get_within}
 use Rattle.lists.specs.Lists.{Has, times}
-use Rattle.lists.specs.laws.HasLaws.{Has_left, Has_right, Has_cases, All_has, times_get, times_append}
+use Rattle.lists.specs.laws.HasLaws.{Has_left, Has_right, Has_cases, All_has, times_get, times_append, times_none}
 use Rattle.lists.specs.laws.ReadLaws.{get_below}
 use Rattle.net_core.specs.NetList.{NetList, nets}
 use Rattle.net_core.specs.GateValue.{GateValue}
@@ -18,7 +18,7 @@ use Rattle.net_core.proofs.LevelLemmas.{sources_inside}
 use Rattle.circuit_model.specs.Word.{Word, word_nets}
 use Rattle.circuit_model.specs.Circuit.{Circuit, IsInput}
 use Rattle.circuit_model.specs.Run.{IsStart}
-use Rattle.circuit_model.proofs.GivenLemmas.{has_or, none_times}
+use Rattle.circuit_model.proofs.GivenLemmas.{has_or}
 
 abbrev pub latch_outs : NetList → List ℕ
 latch_outs net = map (λ (l : LatchValue). l.out) net.latches
@@ -47,7 +47,7 @@ latches_once net sound n =
       | inl has ↦
           let within : n < nets net = source_inside net sound n (Has_right net.inputs (latch_outs net) n has) in
           omega (arith, sound.one n within, times_append n (sources net) (map (λ (g : GateValue). g.out) net.gates), times_append n net.inputs (latch_outs net))
-      | inr none ↦ omega (arith, none_times n (latch_outs net) none)
+      | inr none ↦ omega (arith, times_none n (latch_outs net) none)
     ]
 
 pub role_input : (net : NetList) (r : Role) (n : ℕ) → IsSound net → r ≢ Output → StandsOn net r n → Has net.inputs n → r ≡ Input

@@ -1,5 +1,5 @@
 -- Circuits: net lists with words over a field, and what is fed to them. Source: this project's own, docs/DEFINITIONS.md.
-use Rattle.std.specs.Prelude.{◌≡◌, ℕ, ◌<◌, ◌^◌, List, length}
+use Rattle.std.specs.Prelude.{◌≡◌, ℕ, ◌<◌, ◌^◌, List, length, take}
 use Rattle.lists.specs.Lists.{Has}
 use Rattle.net_core.specs.NetList.{NetList, nets}
 use Rattle.circuit_model.specs.declared.circuit_feed.CircuitFeed.{CircuitFeed}
@@ -39,3 +39,7 @@ pub record IsFree (circuit : Circuit) (n : ℕ) : Type 0 where
 pub record IsInput (circuit : Circuit) (xs : List ℕ) : Type 0 where
   pub long : length xs ≡ length circuit.words
   pub elements : (x : ℕ) → Has xs x → x < 2 ^ circuit.k
+
+-- the input that stands first in a list of elements: one for each input, state and fed word
+abbrev pub input_in : Circuit → List ℕ → List ℕ
+input_in circuit elements = take (length circuit.words) elements

@@ -3,12 +3,12 @@ use Rattle.std.proofs.Common.{◌≡◌, ◌∙◌, ap, sym, refl, subst, ℕ, z
 use Rattle.std.specs.Prelude.{is_some, slice_get}
 use Rattle.std.specs.Str.{bytes_eq}
 use Rattle.std.proofs.lemmas.Slice.Eq.{bytes_eq-Decides}
+use Rattle.lists.specs.laws.TakeLaws.{taken_as_long, taken_more}
 use Rattle.net_signature.specs.Body.{BlockValue}
 use Rattle.net_blif.specs.Design.{model_from, ModelValue}
 use Rattle.net_blif.specs.Statement.{Token}
 use Rattle.net_blif.proofs.DesignLemmas.{numbered}
 use Rattle.compose_model.specs.Hierarchy.{block_from}
-use Rattle.compose_blocks.proofs.ListLemmas.{taken_long, taken_more}
 
 -- a block as a model that places nothing
 abbrev as_model : BlockValue → ModelValue
@@ -32,7 +32,7 @@ pub block_numbered : (blocks : List BlockValue) (i : ℕ) (block : BlockValue) (
 block_numbered blocks i block q number before after at is same step =
     let front : List BlockValue = take i blocks in
     let more : map as_model (take (i + 1) blocks) ≡ map as_model front ++ as_model block ∷ [] = ap (map as_model) (taken_more blocks i block at) ∙ mapped_more front block in
-    let long : number ≡ length (map as_model front) = is ∙ sym (mapped_long front ∙ taken_long blocks i block at) in
+    let long : number ≡ length (map as_model front) = is ∙ sym (mapped_long front ∙ taken_as_long blocks i block at) in
     numbered (map as_model front) (map as_model (take (i + 1) blocks)) (as_model block) q number before after long more (λ name. same name ∙ same_number 0 front name) step
     ∙ sym (same_number 0 (take (i + 1) blocks) q)
 

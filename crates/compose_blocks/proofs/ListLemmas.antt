@@ -1,5 +1,5 @@
 -- Lists, values for each element, and refusals.
-use Rattle.std.proofs.Common.{◌≡◌, ◌∙◌, ap, refl, subst, ℕ, zero, suc, ◌<◌, ◌+◌, List, [], ◌∷◌, ◌++◌, length, replicate, take, true, false, get_or, Option, None, Some, Err, add-one, arith}
+use Rattle.std.proofs.Common.{◌≡◌, ap, refl, subst, ℕ, zero, suc, ◌<◌, ◌+◌, List, [], ◌∷◌, ◌++◌, length, replicate, true, false, get_or, Option, None, Some, Err, arith}
 use Rattle.std.specs.Prelude.{is_some, slice_get}
 use Rattle.lists.specs.laws.ReadLaws.{got_read}
 use Rattle.outcome.specs.Outcome.{MayRefuse, Outcome}
@@ -21,22 +21,9 @@ module _ {X : Type 0} where
   none_read (suc n) zero x got = let other : None ≡ Some x = cc in absurd (cc)
   none_read (suc n) (suc i) x got = none_read n i x got
 
-  taken_next : (xs : List X) (i : ℕ) (x : X) → slice_get xs i ≡ Some x → take (suc i) xs ≡ take i xs ++ x ∷ []
-  taken_next [] i x got = absurd (cc)
-  taken_next (y ∷ xs) zero x got = let same : y ≡ x = cc in ap (λ z. z ∷ []) same
-  taken_next (y ∷ xs) (suc i) x got = ap (λ zs. y ∷ zs) (taken_next xs i x got)
-
-  pub taken_more : (xs : List X) (i : ℕ) (x : X) → slice_get xs i ≡ Some x → take (i + 1) xs ≡ take i xs ++ x ∷ []
-  taken_more xs i x got = ap (λ n. take n xs) (add-one i) ∙ taken_next xs i x got
-
   pub replicated : (n : ℕ) (x : X) → length (replicate n x) ≡ n
   replicated zero x = refl
   replicated (suc n) x = ap suc (replicated n x)
-
-  pub taken_long : (xs : List X) (i : ℕ) (x : X) → slice_get xs i ≡ Some x → length (take i xs) ≡ i
-  taken_long [] i x got = absurd (cc)
-  taken_long (y ∷ xs) zero x got = refl
-  taken_long (y ∷ xs) (suc i) x got = ap suc (taken_long xs i x got)
 
 -- one value for each element
 pub chosen : {X A : Type 0} (xs : List X) (P : ℕ → A → Type 0) → ((i : ℕ) (x : X) → slice_get xs i ≡ Some x → (a : A) × P i a) → (values : List A) × (length values ≡ length xs) × ((i : ℕ) (a : A) → slice_get values i ≡ Some a → P i a)

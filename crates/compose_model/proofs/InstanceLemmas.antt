@@ -8,10 +8,8 @@ use Rattle.net_core.specs.Sound.{IsSound}
 use Rattle.net_words.specs.Bind.{BindingOf}
 use Rattle.net_words.specs.Binding.{AreWords, Binding, HasWidth}
 use Rattle.net_words.specs.BoundTo.{IsBoundTo}
-use Rattle.net_words.specs.Feeds.{AreFeeds}
 use Rattle.net_words.specs.OneCycle.{IsFlat}
 use Rattle.net_words.specs.declared.bound.BoundWord.{BoundWord}
-use Rattle.net_words.specs.declared.word.Role.{Role}
 use Rattle.net_words.specs.declared.word.Role.TheVariants.{Fed}
 use Rattle.net_words.specs.declared.word.WordText.{WordText}
 use Rattle.net_words.proofs.BoundLemmas.{bound_to}
@@ -30,13 +28,11 @@ use Rattle.compose_model.specs.NamedWord.{inputs_among, named_words, outputs_amo
 use Rattle.compose_model.specs.Values.{IsCircuitOf}
 use Rattle.compose_model.proofs.InputsLemmas.{inputs_are, output_basis_is, output_named, AreInputs}
 use Rattle.compose_model.proofs.NamesLemmas.{binding_named, binding_unfed, AreBound, AreUnfed, HaveNumbers}
+use Rattle.net_words.proofs.SharedLemmas.{no_feeds}
 
 -- a net is the net list of its model's walk
 pub flat_of : (design : List ModelValue) (model : ℕ) (net : NetList) → Flattens design model (Ok net) → (flat : Flat) × (walked nothing (walk_of design model) ≡ Ok flat) × (net ≡ net_list flat) × IsSound (net_list flat)
 flat_of design model net (flat, e, rest) = (flat, sym e, rest.0, rest.1)
-
-pub no_feeds : (k : ℕ) (roles : List Role) → AreFeeds k roles []
-no_feeds k roles = record { sources = λ feed has. let got = has.1 in absurd (cc); apart = λ i j f g at_i at_j same_net same_cycle. absurd (cc) }
 
 bound_unfed : (net : NetList) (words : List WordText) (bs : List BoundWord) (i : ℕ) (b : BoundWord) → AreBound net words bs → AreUnfed words → slice_get bs i ≡ Some b → b.role ≢ Fed
 bound_unfed net [] [] i b bound unfed got = absurd (cc)

@@ -5,7 +5,7 @@ use Rattle.std.proofs.lemmas.Bool.{cases_lt}
 use Rattle.std.proofs.lemmas.List.{get_or_past}
 use Rattle.std.proofs.lemmas.Option.{get_or_from_slice_get, slice_get_within}
 use Rattle.lists.specs.Lists.{Has}
-use Rattle.lists.specs.laws.ReadLaws.{get_below}
+use Rattle.lists.specs.laws.ReadLaws.{get_below, same_lists}
 use Rattle.graph_core.specs.Cycle.{grounded, IsGrounded}
 use Rattle.graph_core.specs.Graph.{edges, HasEdge}
 use Rattle.net_blif.specs.Top.{instances_of}
@@ -21,16 +21,10 @@ use Rattle.compose_model.specs.declared.feeder.Feeder.{Feeder}
 use Rattle.compose_model.specs.declared.feeder.Feeder.TheVariants.{InputWord, OutputOf}
 use Rattle.compose_model.proofs.InstanceLemmas.{facts_of}
 
-row_edges : (rows : List (List Feeder)) (i : ℕ) (feeds : List Feeder) → slice_get rows i ≡ Some feeds → edges (feeding_graph rows) i ≡ instances_among feeds
+pub row_edges : (rows : List (List Feeder)) (i : ℕ) (feeds : List Feeder) → slice_get rows i ≡ Some feeds → edges (feeding_graph rows) i ≡ instances_among feeds
 row_edges [] i feeds got = absurd (cc)
 row_edges (row ∷ rows) zero feeds got = let same : row ≡ feeds = cc in ap instances_among same
 row_edges (row ∷ rows) (suc i) feeds got = row_edges rows i feeds got
-
-same_lists : (xs ys : List ℕ) → length xs ≡ length ys → ((i x y : ℕ) → slice_get xs i ≡ Some x → slice_get ys i ≡ Some y → x ≡ y) → xs ≡ ys
-same_lists [] [] long same = refl
-same_lists [] (y ∷ ys) long same = absurd (omega (arith, long))
-same_lists (x ∷ xs) [] long same = absurd (omega (arith, long))
-same_lists (x ∷ xs) (y ∷ ys) long same = ap₂ (λ a more. a ∷ more) (same 0 x y refl refl) (same_lists xs ys (omega (arith, long)) (λ i a b at_a at_b. same (suc i) a b at_a at_b))
 
 module _ (k : ℕ) (mul : ℕ → ℕ → ℕ) (h : Hierarchy) (xs es others : List ℕ) where
   -- feeds have the same values where the instances among them have

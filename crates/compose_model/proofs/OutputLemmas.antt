@@ -6,7 +6,6 @@ use Rattle.lists.specs.Lists.{Has}
 use Rattle.lists.specs.laws.ReadLaws.{from_map, get_below}
 use Rattle.irreducible.specs.Span.{combination}
 use Rattle.irreducible.specs.laws.SpanLaws.{combination_below}
-use Rattle.net_core.specs.LatchValue.{LatchValue}
 use Rattle.net_core.specs.NetList.{NetList}
 use Rattle.net_core.specs.Value.{index_of, IsConsistent}
 use Rattle.net_words.specs.declared.word.Role.{Role}
@@ -39,6 +38,7 @@ use Rattle.compose_model.specs.declared.feeder.Feeder.TheVariants.{InputWord, Ou
 use Rattle.compose_model.proofs.InputsLemmas.{input_named, inputs_long, named_input}
 use Rattle.compose_model.proofs.InstanceLemmas.{facts_of, AreFacts}
 use Rattle.compose_model.proofs.PlaceLemmas.{connected_index, named_index, numbers_in}
+use Rattle.net_core.proofs.SharedLemmas.{no_latch}
 
 -- the element that names of the top hold in a list of bits of the whole, in a basis
 abbrev pub element_at : Flat → List Bool → List Token → List ℕ → ℕ
@@ -104,12 +104,6 @@ no_feed : (feeds : List CircuitFeed) (n : ℕ) → feeds ≡ [] → Has (fed_net
 no_feed feeds n none has = let P : List CircuitFeed → Type 0 = λ fs. Has (fed_nets fs) n in empty (subst P none has)
   where
     empty : Has (fed_nets []) n → ⊥
-    empty found = let got = found.1 in absurd (cc)
-
-no_latch : (latches : List LatchValue) (l : LatchValue) → latches ≡ [] → Has latches l → ⊥
-no_latch latches l none has = let P : List LatchValue → Type 0 = λ ls. Has ls l in empty (subst P none has)
-  where
-    empty : Has [] l → ⊥
     empty found = let got = found.1 in absurd (cc)
 
 not_state : (role : Role) → role ≡ Input → role ≡ State → ⊥

@@ -17,7 +17,7 @@ all_stand graph order arranged a less = arranged.has_roots a (a, number_at (leng
 
 -- ---- the order by level
 
-next_before : (l p m q n r : ℕ) → IsBefore l p m q → IsBefore m q n r → IsBefore l p n r
+pub next_before : (l p m q n r : ℕ) → IsBefore l p m q → IsBefore m q n r → IsBefore l p n r
 next_before l p m q n r (inl a) (inl b) = inl (omega (arith, a, b))
 next_before l p m q n r (inl a) (inr b) = inl (omega (arith, a, b.0))
 next_before l p m q n r (inr a) (inl b) = inl (omega (arith, a.0, b))

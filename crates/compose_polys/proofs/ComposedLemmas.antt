@@ -7,6 +7,7 @@ use Rattle.std.proofs.lemmas.Option.{slice_get_within}
 use Rattle.lists.specs.Lists.{Has}
 use Rattle.lists.specs.laws.ListLaws.{length_map as mapped_long}
 use Rattle.lists.specs.laws.ReadLaws.{from_map, get_below}
+use Rattle.lists.specs.laws.TakeLaws.{taken_front}
 use Rattle.net_blif.specs.Statement.{Token}
 use Rattle.net_blif.specs.Top.{instances_of}
 use Rattle.net_blif.specs.declared.item.Item.{Item}
@@ -40,7 +41,7 @@ use Rattle.compose_model.proofs.InstanceLemmas.{facts_of}
 use Rattle.compose_model.proofs.OneValueLemmas.{one_list}
 use Rattle.compose_model.proofs.OutputLemmas.{output_value, same_words}
 use Rattle.compose_polys.specs.InstancePolys.{feed_at, poly_at, AreInstancePolys}
-use Rattle.compose_polys.proofs.PointLemmas.{is_point_of, mapped_elements, mapped_same, taken_elements, taken_front, value_at, word_element}
+use Rattle.compose_polys.proofs.PointLemmas.{is_point_of, mapped_elements, mapped_same, taken_elements, value_at, word_element}
 
 pub reduced_at : (k : ℕ) (polys : List Terms) (i : ℕ) (poly : Terms) → AreReduced k polys → slice_get polys i ≡ Some poly → IsReduced k poly
 reduced_at k [] i poly all got = absurd (cc)

@@ -68,7 +68,7 @@ other_read (p ∷ polys) zero (suc j) ts other = refl
 other_read (p ∷ polys) (suc i) zero ts other = refl
 other_read (p ∷ polys) (suc i) (suc j) ts other = other_read polys i j ts (λ e. other (ap suc e))
 
-among : (fs : List Feeder) (n i : ℕ) → slice_get fs n ≡ Some (OutputOf i) → Has (instances_among fs) i
+pub among : (fs : List Feeder) (n i : ℕ) → slice_get fs n ≡ Some (OutputOf i) → Has (instances_among fs) i
 among [] n i got = absurd (cc)
 among (InputWord w ∷ fs) zero i got = absurd (cc)
 among (InputWord w ∷ fs) (suc n) i got = among fs n i got
@@ -93,8 +93,3 @@ pub feeds_reduced : (k : ℕ) (words polys : List Terms) (feeds : List Feeder) �
 feeds_reduced k words polys [] a b none = tt
 feeds_reduced k words polys (InputWord w ∷ feeds) a b none = (read_reduced k words w a none, feeds_reduced k words polys feeds a b none)
 feeds_reduced k words polys (OutputOf i ∷ feeds) a b none = (read_reduced k polys i b none, feeds_reduced k words polys feeds a b none)
-
-pub mapped_at : {A B : Type 0} (g : A → B) (xs : List A) (i : ℕ) (x : A) → slice_get xs i ≡ Some x → slice_get (map g xs) i ≡ Some (g x)
-mapped_at g [] i x got = absurd (cc)
-mapped_at g (y ∷ xs) zero x got = let same : y ≡ x = cc in ap (λ z. Some (g z)) same
-mapped_at g (y ∷ xs) (suc i) x got = mapped_at g xs i x got

@@ -2,6 +2,7 @@
 use Rattle.std.proofs.Common.{◌≡◌, ◌≢◌, ◌∙◌, ap, sym, refl, ℕ, zero, suc, ◌<◌, ◌≤◌, ◌+◌, ◌-◌, ◌/◌, ◌%◌, ◌^◌, cond, List, [], ◌∷◌, ◌++◌, length, drop, Some, arith, add-one}
 use Rattle.std.specs.Prelude.{slice_get}
 use Rattle.std.proofs.lemmas.Bool.{eq-eqb, ne_eqb}
+use Rattle.lists.specs.laws.TakeLaws.{dropped_at}
 use Rattle.poly_mixed.specs.laws.Uniqueness.{IsZeros}
 use Rattle.spec_expand.specs.SpecValue.{ones_of, factors_with, factors_of}
 use Rattle.spec_expand.proofs.SpecValueLemmas.{factors_few}
@@ -29,11 +30,6 @@ pub none_left : {A : Type 0} (xs : List A) (n : ℕ) → drop n xs ≡ [] → le
 none_left [] n e = omega arith
 none_left (y ∷ xs) zero e = absurd (cc)
 none_left (y ∷ xs) (suc n) e = omega (arith, none_left xs n e)
-
-drop_at : (es : List ℕ) (n e : ℕ) → slice_get es n ≡ Some e → drop n es ≡ e ∷ drop (suc n) es
-drop_at [] n e got = absurd (cc)
-drop_at (x ∷ es) zero e got = let same : x ≡ e = cc in ap (λ y. y ∷ es) same
-drop_at (x ∷ es) (suc n) e got = drop_at es n e got
 
 pub drop_past : (es : List ℕ) (n : ℕ) → length es ≤ n → drop n es ≡ []
 drop_past [] zero low = refl
@@ -73,7 +69,7 @@ module _ (word j left : ℕ) (less : j < 64) (es : List ℕ) where
 module _ (word e : ℕ) (es : List ℕ) (got : slice_get es word ≡ Some e) where
   pub word_begins : words_left word es ≡ digits_left word 0 e es
   word_begins =
-      ap (λ xs. factors_of (powers_from word xs)) (drop_at es word e got)
+      ap (λ xs. factors_of (powers_from word xs)) (dropped_at es word e got)
       ∙ ap (λ n. factors_with word (ones_of 64 0 e) ++ factors_of (powers_from (word + 1) (drop n es))) (sym (add-one word))
 
 pub words_end : (word : ℕ) (es : List ℕ) → length es ≤ word → words_left word es ≡ []

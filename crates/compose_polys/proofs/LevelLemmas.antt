@@ -5,6 +5,7 @@ use Rattle.std.proofs.lemmas.Bool.{cases_order}
 use Rattle.std.proofs.lemmas.Option.{slice_get_within}
 use Rattle.lists.specs.Lists.{Has}
 use Rattle.lists.specs.laws.HasLaws.{all_from}
+use Rattle.lists.specs.laws.ListLaws.{length_more}
 use Rattle.lists.specs.laws.ReadLaws.{get_below, get_set_other, get_set_same}
 use Rattle.graph_core.specs.Arranged.{IsArranged}
 use Rattle.graph_core.specs.Graph.{edges, Graph}
@@ -14,11 +15,7 @@ use Rattle.compose_polys.specs.LevelOrder.{first_numbers, level_from, level_over
 
 pub numbers_long : (n : ℕ) → length (first_numbers n) ≡ n
 numbers_long zero = refl
-numbers_long (suc n) = omega (arith, longer (first_numbers n) n, numbers_long n)
-  where
-    longer : (xs : List ℕ) (x : ℕ) → length (xs ++ x ∷ []) ≡ suc (length xs)
-    longer [] x = refl
-    longer (y ∷ xs) x = ap suc (longer xs x)
+numbers_long (suc n) = omega (arith, length_more (first_numbers n) n, numbers_long n)
 
 last_at : (xs : List ℕ) (x i : ℕ) → i ≡ length xs → slice_get (xs ++ x ∷ []) i ≡ Some x
 last_at [] x zero e = refl

@@ -1,5 +1,5 @@
 -- Points and lists of elements.
-use Rattle.std.proofs.Common.{◌≡◌, ap, ap₂, refl, subst, ℕ, zero, suc, ◌<◌, ◌≤◌, ◌+◌, ◌-◌, ◌^◌, List, [], ◌∷◌, ◌++◌, length, map, take, get_or, replicate, Some, arith, length-append}
+use Rattle.std.proofs.Common.{◌≡◌, ap₂, refl, subst, ℕ, zero, suc, ◌<◌, ◌≤◌, ◌+◌, ◌-◌, ◌^◌, List, [], ◌∷◌, ◌++◌, length, map, take, get_or, replicate, Some, arith, length-append}
 use Rattle.std.specs.Prelude.{slice_get}
 use Rattle.std.specs.List.{AllByRecursion}
 use Rattle.std.proofs.Math.ListN.{length-replicate}
@@ -7,12 +7,6 @@ use Rattle.std.proofs.lemmas.Nat.{pow_pos}
 use Rattle.poly_mixed.specs.Polynomial.{value, IsElement, IsPoint, Point, Terms}
 use Rattle.compose_polys.specs.Instance.{point_of}
 use Rattle.compose_polys.specs.InstancePolys.{poly_at}
-
-pub taken_front : (xs ys : List ℕ) (n : ℕ) → length xs ≡ n → take n (xs ++ ys) ≡ xs
-taken_front [] ys zero long = refl
-taken_front [] ys (suc n) long = absurd (omega (arith, long))
-taken_front (x ∷ xs) ys zero long = absurd (omega (arith, long))
-taken_front (x ∷ xs) ys (suc n) long = ap (λ zs. x ∷ zs) (taken_front xs ys n (omega (arith, long)))
 
 pub taken_elements : (k n : ℕ) (xs : List ℕ) (x i : ℕ) → AllByRecursion (IsElement k) xs → slice_get (take n xs) i ≡ Some x → x < 2 ^ k
 taken_elements k zero xs x i all got = absurd (cc)
@@ -45,7 +39,7 @@ elements_append : (k : ℕ) (xs ys : List ℕ) → AllByRecursion (IsElement k) 
 elements_append k [] ys a b = b
 elements_append k (x ∷ xs) ys a b = (a.0, elements_append k xs ys a.1 b)
 
-zeros : (k n : ℕ) → AllByRecursion (IsElement k) (replicate n 0)
+pub zeros : (k n : ℕ) → AllByRecursion (IsElement k) (replicate n 0)
 zeros k zero = tt
 zeros k (suc n) = (pow_pos k, zeros k n)
 

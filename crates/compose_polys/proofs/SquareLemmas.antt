@@ -1,8 +1,9 @@
 -- The square of a sum is the sum of the squares.
-use Rattle.std.proofs.Common.{◌≡◌, ◌∙◌, ap, ap₂, sym, refl, subst, ℕ, zero, suc, ◌+◌, ◌==◌, true, false, cond, [], ◌∷◌, ◌++◌, take, bit_xor, Some, add-one}
+use Rattle.std.proofs.Common.{◌≡◌, ◌∙◌, ap, ap₂, sym, refl, subst, ℕ, ◌+◌, ◌==◌, true, false, cond, [], ◌∷◌, ◌++◌, take, bit_xor, Some}
 use Rattle.std.specs.Prelude.{slice_get}
-use Rattle.std.specs.List.{list_all, AllByRecursion}
+use Rattle.std.specs.List.{list_all}
 use Rattle.std.proofs.lemmas.Bool.{eqb-true, eqb-false}
+use Rattle.lists.specs.laws.TakeLaws.{taken_more}
 use lib.Bits.{xor_zero_r, xor_assoc, xor_comm}
 use Rattle.gf_field.specs.Ring.{IsRing}
 use Rattle.gf_field.specs.Field.{HasNoZeroDivisors}
@@ -15,21 +16,6 @@ use Rattle.poly_mixed.proofs.ProductLemmas.{one_term}
 use Rattle.poly_mixed.proofs.SimpleLemmas.{reduced_nothing}
 use Rattle.poly_mixed.proofs.ValueLemmas.{powers_element, product_zero}
 use Rattle.compose_polys.specs.private.Square.{square_of}
-
-one_taken : (ts : Terms) (n : ℕ) (t : Monomial × ℕ) → slice_get ts n ≡ Some t → take (suc n) ts ≡ take n ts ++ t ∷ []
-one_taken [] n t got = absurd (cc)
-one_taken (u ∷ ts) zero t got = let same : u ≡ t = cc in ap (λ v. v ∷ []) same
-one_taken (u ∷ ts) (suc n) t got = ap (λ us. u ∷ us) (one_taken ts n t got)
-
--- one term more
-pub term_taken : (ts : Terms) (n : ℕ) (t : Monomial × ℕ) → slice_get ts n ≡ Some t → take (n + 1) ts ≡ take n ts ++ t ∷ []
-term_taken ts n t got = ap (λ m. take m ts) (add-one n) ∙ one_taken ts n t got
-
--- what holds of all terms holds of one
-pub term_of_all : (P : Monomial × ℕ → Type 0) (ts : Terms) (i : ℕ) (t : Monomial × ℕ) → AllByRecursion P ts → slice_get ts i ≡ Some t → P t
-term_of_all P [] i t all got = absurd (cc)
-term_of_all P (u ∷ ts) zero t all got = let same : u ≡ t = cc in subst P same all.0
-term_of_all P (u ∷ ts) (suc i) t all got = term_of_all P ts i t all.1 got
 
 module _ (k : ℕ) (mul : ℕ → ℕ → ℕ) (ring : IsRing k mul) (field : HasNoZeroDivisors k mul) where
   abbrev f : IsField k mul
@@ -74,5 +60,5 @@ module _ (k : ℕ) (mul : ℕ → ℕ → ℕ) (ring : IsRing k mul) (field : Ha
         values p at
         ∙ ap₂ bit_xor (a.values p at) (b.values p at)
         ∙ sym (square-xor k mul ring (value mul p (take i ts)) (term_value mul p t))
-        ∙ ap (square_of mul) (sym (ap (value mul p) (term_taken ts i t got) ∙ value_last p (take i ts) t));
+        ∙ ap (square_of mul) (sym (ap (value mul p) (taken_more ts i t got) ∙ value_last p (take i ts) t));
   }

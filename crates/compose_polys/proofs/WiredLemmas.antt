@@ -1,10 +1,12 @@
 -- Wired tops.
-use Rattle.std.proofs.Common.{◌≡◌, ◌∙◌, ap, sym, refl, subst, ℕ, zero, suc, ◌<◌, ◌+◌, ◌-◌, List, [], ◌∷◌, ◌++◌, length, map, take, set, replicate, Some, arith, add-one}
+use Rattle.std.proofs.Common.{◌≡◌, ◌∙◌, ap, sym, refl, subst, ℕ, zero, suc, ◌<◌, ◌+◌, ◌-◌, List, [], ◌∷◌, ◌++◌, length, take, set, replicate, Some, arith, add-one}
 use Rattle.std.specs.Prelude.{slice_get}
 use Rattle.lists.specs.Lists.{Has}
 use Rattle.lists.specs.laws.ListLaws.{length_map as mapped_long}
+use Rattle.lists.specs.laws.TakeLaws.{taken_next}
+use Rattle.compose_model.proofs.OneValueLemmas.{row_edges}
 use Rattle.graph_core.specs.Arranged.{IsArranged}
-use Rattle.graph_core.specs.Graph.{edges, Graph, HasEdge, IsInside}
+use Rattle.graph_core.specs.Graph.{Graph, HasEdge, IsInside}
 use Rattle.poly_mixed.specs.Polynomial.{IsReduced, Terms}
 use Rattle.poly_mixed.specs.declared.stage.ReduceFault.{ReduceFault}
 use Rattle.poly_mixed.specs.declared.stage.ReduceFault.TheVariants as stages
@@ -21,11 +23,6 @@ use Rattle.compose_polys.specs.private.Rows.{instance_of}
 
 -- ---- rows
 
-one_taken : (fs : List Feeder) (n : ℕ) (f : Feeder) → slice_get fs n ≡ Some f → take (suc n) fs ≡ take n fs ++ f ∷ []
-one_taken [] n f got = absurd (cc)
-one_taken (g ∷ fs) zero f got = let same : g ≡ f = cc in ap (λ h. h ∷ []) same
-one_taken (g ∷ fs) (suc n) f got = ap (λ gs. g ∷ gs) (one_taken fs n f got)
-
 among_last : (fs : List Feeder) (f : Feeder) → instances_among (fs ++ f ∷ []) ≡ instances_among fs ++ instance_of f
 among_last [] (InputWord w) = refl
 among_last [] (OutputOf i) = refl
@@ -35,7 +32,7 @@ among_last (OutputOf i ∷ fs) f = ap (λ xs. i ∷ xs) (among_last fs f)
 -- one feed more
 pub row_more : (fs : List Feeder) (n : ℕ) (f : Feeder) (old new : List ℕ) → slice_get fs n ≡ Some f → old ≡ instances_among (take n fs) → new ≡ old ++ instance_of f → new ≡ instances_among (take (n + 1) fs)
 row_more fs n f old new got is more =
-    more ∙ ap (λ xs. xs ++ instance_of f) is ∙ sym (ap (λ m. instances_among (take m fs)) (add-one n) ∙ ap instances_among (one_taken fs n f got) ∙ among_last (take n fs) f)
+    more ∙ ap (λ xs. xs ++ instance_of f) is ∙ sym (ap (λ m. instances_among (take m fs)) (add-one n) ∙ ap instances_among (taken_next fs n f got) ∙ among_last (take n fs) f)
 
 -- ---- graphs
 
@@ -69,11 +66,6 @@ graph_more rows n i feeds row old new less got is so_far made =
     ∙ ap (λ r. (front ++ r ∷ []) ++ replicate (n - (i + 1)) []) is
     ∙ sym (ap (λ g. g ++ replicate (n - (i + 1)) []) (ap (λ m. feeding_graph (take m rows)) (add-one i) ∙ ap feeding_graph (row_taken rows i feeds got) ∙ graph_last (take i rows) feeds))
 
-pub mapped_at : {A B : Type 0} (g : A → B) (xs : List A) (i : ℕ) (x : A) → slice_get xs i ≡ Some x → slice_get (map g xs) i ≡ Some (g x)
-mapped_at g [] i x got = absurd (cc)
-mapped_at g (y ∷ xs) zero x got = let same : y ≡ x = cc in ap (λ z. Some (g z)) same
-mapped_at g (y ∷ xs) (suc i) x got = mapped_at g xs i x got
-
 -- ---- feeds among words and instances
 
 pub among_instances : (count n : ℕ) (feeds : List Feeder) → ((j : ℕ) (feed : Feeder) → slice_get feeds j ≡ Some feed → IsFeedAmong count n feed) → (k a : ℕ) → slice_get (instances_among feeds) k ≡ Some a → a < n
@@ -82,12 +74,7 @@ among_instances count n (InputWord w ∷ feeds) each k a got = among_instances c
 among_instances count n (OutputOf i ∷ feeds) each zero a got = let same : i ≡ a = cc in let P : ℕ → Type 0 = λ x. x < n in subst P same (each 0 (OutputOf i) refl)
 among_instances count n (OutputOf i ∷ feeds) each (suc k) a got = among_instances count n feeds (λ j feed at. each (suc j) feed at) k a got
 
-row_edges : (rows : List (List Feeder)) (i : ℕ) (feeds : List Feeder) → slice_get rows i ≡ Some feeds → edges (feeding_graph rows) i ≡ instances_among feeds
-row_edges [] i feeds got = absurd (cc)
-row_edges (row ∷ rows) zero feeds got = let same : row ≡ feeds = cc in ap instances_among same
-row_edges (row ∷ rows) (suc i) feeds got = row_edges rows i feeds got
-
-edges_of : (rows : List (List Feeder)) (i b : ℕ) → HasEdge (feeding_graph rows) i b → (feeds : List Feeder) × (slice_get rows i ≡ Some feeds) × Has (instances_among feeds) b
+pub edges_of : (rows : List (List Feeder)) (i b : ℕ) → HasEdge (feeding_graph rows) i b → (feeds : List Feeder) × (slice_get rows i ≡ Some feeds) × Has (instances_among feeds) b
 edges_of [] i b has = let got = has.1 in absurd (cc)
 edges_of (row ∷ rows) zero b has = (row, refl, has)
 edges_of (row ∷ rows) (suc i) b has = edges_of rows i b has

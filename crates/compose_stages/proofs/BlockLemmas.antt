@@ -3,6 +3,7 @@ use Rattle.std.proofs.Common.{◌≡◌, ◌∙◌, ap, refl, subst, ℕ, zero, 
 use Rattle.std.specs.Prelude.{slice_get}
 use Rattle.std.specs.List.{AllByRecursion}
 use Rattle.lists.specs.Lists.{Has}
+use Rattle.lists.specs.laws.TakeLaws.{taken_front}
 use Rattle.net_blif.specs.Top.{instances_of}
 use Rattle.net_blif.specs.declared.item.Item.{Item}
 use Rattle.net_flat.specs.Flat.{Flat}
@@ -23,7 +24,7 @@ use Rattle.compose_model.specs.Hierarchy.{bases_at, Hierarchy}
 use Rattle.compose_model.specs.Values.{IsBlockOf}
 use Rattle.compose_model.proofs.InstanceLemmas.{facts_of, AreFacts}
 use Rattle.compose_blocks.proofs.OneCircuitLemmas.{one_block}
-use Rattle.compose_polys.proofs.PointLemmas.{is_point_of, taken_front}
+use Rattle.compose_polys.proofs.PointLemmas.{is_point_of}
 use Rattle.compose_stages.specs.InstanceStages.{IsBlockPoly}
 
 elements_from : (k : ℕ) (xs : List ℕ) → ((x : ℕ) → Has xs x → x < 2 ^ k) → AllByRecursion (IsElement k) xs

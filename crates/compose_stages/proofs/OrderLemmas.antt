@@ -18,18 +18,14 @@ use Rattle.compose_model.specs.Wiring.{feeding_graph, instances_among, AreAllFee
 use Rattle.compose_model.specs.declared.feeder.Feeder.{Feeder}
 use Rattle.compose_model.specs.declared.feeder.Feeder.TheVariants.{InputWord, OutputOf}
 use Rattle.compose_polys.specs.LevelOrder.{first_numbers, level_from, AreLevels, IsLevelOrder, IsOrderBy}
-use Rattle.compose_polys.proofs.AfterLemmas.{all_stand, level_arranged}
+use Rattle.compose_polys.proofs.AfterLemmas.{all_stand, level_arranged, next_before}
+use Rattle.compose_polys.proofs.WiredLemmas.{edges_of}
 
 -- ---- rows
 
 pub graph_long : (rows : List (List Feeder)) → length (feeding_graph rows) ≡ length rows
 graph_long [] = refl
 graph_long (row ∷ rows) = ap suc (graph_long rows)
-
-edge_row : (rows : List (List Feeder)) (i b : ℕ) → HasEdge (feeding_graph rows) i b → (feeds : List Feeder) × (slice_get rows i ≡ Some feeds) × Has (instances_among feeds) b
-edge_row [] i b has = let got = has.1 in absurd (cc)
-edge_row (row ∷ rows) zero b has = (row, refl, has)
-edge_row (row ∷ rows) (suc i) b has = edge_row rows i b has
 
 fed_by : (fs : List Feeder) (l a : ℕ) → slice_get (instances_among fs) l ≡ Some a → (n : ℕ) × (slice_get fs n ≡ Some (OutputOf a))
 fed_by [] l a got = absurd (cc)
@@ -40,7 +36,7 @@ fed_by (OutputOf i ∷ fs) (suc l) a got = let found = fed_by fs l a got in (suc
 -- instances are fed by instances
 pub rows_inside : (h : Hierarchy) (rows : List (List Feeder)) → AreAllFeeds h rows → IsInside (feeding_graph rows)
 rows_inside h rows all a b edge =
-    let row = edge_row rows a b edge in
+    let row = edges_of rows a b edge in
     let fed = all.each a row.0 row.1 in
     let at = fed_by row.0 row.2.0 b row.2.1 in
     let word = get_below (inputs_among fed.words) at.0 (omega (arith, fed.long, slice_get_within row.0 at.0 (OutputOf b) at.1)) in
@@ -79,12 +75,6 @@ module _ (graph : Graph) (one other : List ℕ) (a : AreLevels graph one) (b : A
   one_level _ (grounded i below) = next_level i (λ c edge. one_level c (below c edge))
 
 -- ---- places in the order
-
-next_before : (l p m q n r : ℕ) → IsBefore l p m q → IsBefore m q n r → IsBefore l p n r
-next_before l p m q n r (inl a) (inl b) = inl (omega (arith, a, b))
-next_before l p m q n r (inl a) (inr b) = inl (omega (arith, a, b.0))
-next_before l p m q n r (inr a) (inl b) = inl (omega (arith, a.0, b))
-next_before l p m q n r (inr a) (inr b) = inr (a.0 ∙ b.0, omega (arith, a.1, b.1))
 
 not_both : (l p m q : ℕ) → IsBefore l p m q → IsBefore m q l p → ⊥
 not_both l p m q (inl a) (inl b) = absurd (omega (arith, a, b))

@@ -1,11 +1,11 @@
 -- A listed stage of an instance relates each point to an element of the field, and an instance's block has a polynomial in words.
-use Rattle.std.proofs.Common.{◌≡◌, ap, sym, refl, subst, ℕ, zero, suc, ◌<◌, ◌+◌, ◌^◌, List, [], ◌∷◌, length, map, Some, arith}
-use Rattle.std.specs.Prelude.{slice_get}
+use Rattle.std.proofs.Common.{sym, refl, subst, ℕ, ◌<◌, ◌+◌, ◌^◌, List, length, map, arith}
 use Rattle.std.proofs.lemmas.Option.{slice_get_within}
 use Rattle.lists.specs.Lists.{Has}
 use Rattle.lists.specs.laws.ReadLaws.{get_below}
+use Rattle.compose_model.proofs.OneValueLemmas.{row_edges}
 use Rattle.graph_core.specs.Arranged.{IsArranged}
-use Rattle.graph_core.specs.Graph.{edges, Graph}
+use Rattle.graph_core.specs.Graph.{Graph}
 use Rattle.net_blif.specs.Top.{instances_of}
 use Rattle.gf_field.specs.Field.{HasNoZeroDivisors}
 use Rattle.gf_field.specs.Ring.{IsRing}
@@ -18,7 +18,7 @@ use Rattle.compose_polys.proofs.StageLemmas.{some_stage}
 use Rattle.compose_model.specs.Given.{IsGiven}
 use Rattle.compose_model.specs.Hierarchy.{Hierarchy}
 use Rattle.compose_model.specs.Values.{feed_value, AreInstanceValues}
-use Rattle.compose_model.specs.Wiring.{feeding_graph, instances_among, AreAllFeeds, HaveBlocks}
+use Rattle.compose_model.specs.Wiring.{feeding_graph, AreAllFeeds, HaveBlocks}
 use Rattle.compose_model.specs.declared.feeder.Feeder.{Feeder}
 use Rattle.compose_polys.specs.LevelOrder.{first_numbers, IsLevelOrder}
 use Rattle.compose_polys.proofs.AfterLemmas.{all_stand, level_arranged}
@@ -26,11 +26,6 @@ use Rattle.compose_stages.specs.InstanceStages.{instance_in, top_elements, IsBlo
 use Rattle.compose_stages.proofs.BlockLemmas.{block_facts}
 use Rattle.compose_stages.proofs.OrderLemmas.{graph_long, rows_inside}
 use Rattle.compose_stages.proofs.SomeValuesLemmas.{values_at}
-
-row_edges : (rows : List (List Feeder)) (i : ℕ) (feeds : List Feeder) → slice_get rows i ≡ Some feeds → edges (feeding_graph rows) i ≡ instances_among feeds
-row_edges [] i feeds got = absurd (cc)
-row_edges (row ∷ rows) zero feeds got = let same : row ≡ feeds = cc in ap instances_among same
-row_edges (row ∷ rows) (suc i) feeds got = row_edges rows i feeds got
 
 module _ (k : ℕ) (mul : ℕ → ℕ → ℕ) (ring : IsRing k mul) (field : HasNoZeroDivisors k mul) (h : Hierarchy) (given : IsGiven k h) where
   pub some_poly : HaveBlocks k mul h → (i : ℕ) → i < length (instances_of h.design) → (block : Terms) × IsBlockPoly k mul h (i + 1) block

@@ -5,7 +5,6 @@ use Rattle.std.specs.List.{AllByRecursion}
 use Rattle.std.proofs.Math.ListN.{length-replicate}
 use Rattle.std.proofs.lemmas.Bool.{cases_order}
 use Rattle.std.proofs.lemmas.List.{get_or-set_other, length-set}
-use Rattle.std.proofs.lemmas.Nat.{pow_pos}
 use Rattle.std.proofs.lemmas.Option.{slice_get_within}
 use Rattle.lists.specs.Lists.{Has}
 use Rattle.lists.specs.laws.ListLaws.{length_map as mapped_long}
@@ -29,23 +28,15 @@ use Rattle.compose_model.specs.declared.feeder.Feeder.TheVariants.{InputWord, Ou
 use Rattle.compose_model.proofs.InputsLemmas.{inputs_long}
 use Rattle.compose_model.proofs.OutputLemmas.{same_words}
 use Rattle.compose_blocks.proofs.OneCircuitLemmas.{one_block}
-use Rattle.compose_polys.proofs.PointLemmas.{word_element}
+use Rattle.compose_polys.proofs.PointLemmas.{word_element, zeros}
 use Rattle.compose_stages.specs.InstanceStages.{top_elements}
 use Rattle.compose_stages.proofs.BlockLemmas.{block_facts}
+use Rattle.stage_model.proofs.InterpolationLemmas.{set_all}
 
 taken_elements : (k n : ℕ) (xs : List ℕ) → AllByRecursion (IsElement k) xs → AllByRecursion (IsElement k) (take n xs)
 taken_elements k zero xs all = tt
 taken_elements k (suc n) [] all = tt
 taken_elements k (suc n) (x ∷ xs) all = (all.0, taken_elements k n xs all.1)
-
-zeros : (k n : ℕ) → AllByRecursion (IsElement k) (replicate n 0)
-zeros k zero = tt
-zeros k (suc n) = (pow_pos k, zeros k n)
-
-set_elements : (k : ℕ) (es : List ℕ) (i e : ℕ) → AllByRecursion (IsElement k) es → e < 2 ^ k → AllByRecursion (IsElement k) (set es i e)
-set_elements k [] i e all less = tt
-set_elements k (x ∷ es) zero e all less = (less, all.1)
-set_elements k (x ∷ es) (suc i) e all less = (all.0, set_elements k es i e all.1 less)
 
 module _ (k : ℕ) (mul : ℕ → ℕ → ℕ) (ring : IsRing k mul) (field : HasNoZeroDivisors k mul) (h : Hierarchy) (given : IsGiven k h) (rows : List (List Feeder)) (all : AreAllFeeds h rows) (blocks_are : HaveBlocks k mul h) (xs : List ℕ) (elements : AllByRecursion (IsElement k) xs) where
   small_feed : (es : List ℕ) → AllByRecursion (IsElement k) es → (feed : Feeder) → feed_value k mul h xs es feed < 2 ^ k
@@ -124,7 +115,7 @@ module _ (k : ℕ) (mul : ℕ → ℕ → ℕ) (ring : IsRing k mul) (field : Ha
           ]
 
       one_more : v < 2 ^ k → AreFirst (n + 1) (set es i v)
-      one_more less = record { long = length-set es i v ∙ first.long; small = set_elements k es i v first.small less; each = each }
+      one_more less = record { long = length-set es i v ∙ first.long; small = set_all k es i v first.small less; each = each }
         where
           each : (m j : ℕ) → m < n + 1 → slice_get order m ≡ Some j → IsValue (set es i v) j
           each m j low at_m =

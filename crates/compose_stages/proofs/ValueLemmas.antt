@@ -5,7 +5,6 @@ use Rattle.std.specs.Prelude.{slice_get, slice_index}
 use Rattle.std.specs.Option.{unwrap_or}
 use Rattle.std.proofs.lemmas.List.{get_or-take}
 use Rattle.std.proofs.lemmas.Option.{get_or_from_slice_get, slice_get_within}
-use Rattle.lists.specs.Lists.{Has}
 use Rattle.lists.specs.laws.ReadLaws.{get_below}
 use Rattle.net_blif.specs.Top.{instances_of}
 use Rattle.gf_field.specs.Field.{HasNoZeroDivisors}
@@ -17,21 +16,15 @@ use Rattle.compose_model.specs.Given.{IsGiven}
 use Rattle.compose_model.specs.Hierarchy.{top_words, Hierarchy}
 use Rattle.compose_model.specs.NamedWord.{inputs_among}
 use Rattle.compose_model.specs.Values.{feed_value, AreInstanceValues}
-use Rattle.compose_model.specs.Wiring.{instances_among, AreAllFeeds, HaveBlocks}
+use Rattle.compose_model.specs.Wiring.{AreAllFeeds, HaveBlocks}
 use Rattle.compose_model.specs.declared.feeder.Feeder.{Feeder}
 use Rattle.compose_model.specs.declared.feeder.Feeder.TheVariants.{InputWord, OutputOf}
+use Rattle.compose_polys.proofs.FeedLemmas.{among}
 use Rattle.compose_polys.specs.Instances.{AreDone, IsReady}
 use Rattle.compose_polys.specs.Words.{feed_terms, values_of, AreWordPolys}
 use Rattle.compose_polys.specs.InstancePolys.{poly_at, HaveBlockPolys}
 use Rattle.compose_stages.specs.InstanceStages.{top_elements}
 use Rattle.compose_stages.proofs.BlockLemmas.{block_value}
-
-pub among : (fs : List Feeder) (n i : ℕ) → slice_get fs n ≡ Some (OutputOf i) → Has (instances_among fs) i
-among [] n i got = absurd (cc)
-among (InputWord w ∷ fs) zero i got = absurd (cc)
-among (InputWord w ∷ fs) (suc n) i got = among fs n i got
-among (OutputOf j ∷ fs) zero i got = let same : j ≡ i = cc in (zero, ap Some same)
-among (OutputOf j ∷ fs) (suc n) i got = let found = among fs n i got in (suc found.0, found.1)
 
 read_at : (polys : List Terms) (i : ℕ) (ts : Terms) → slice_get polys i ≡ Some ts → unwrap_or (slice_get polys i) [] ≡ ts
 read_at polys i ts got = ap (λ found. unwrap_or found []) got

@@ -3,6 +3,7 @@ use Rattle.std.proofs.Common.{◌≡◌, ◌∙◌, ap, sym, subst, ℕ, zero, s
 use Rattle.std.specs.Prelude.{slice_get}
 use Rattle.std.specs.Option.{option_map_or}
 use Rattle.std.proofs.lemmas.Option.{slice_get_within}
+use Rattle.std.proofs.lemmas.Bool.{cases_lt}
 use Rattle.lists.specs.Lists.{Has}
 use Rattle.net_blif.specs.Statement.{Token}
 use Rattle.compose_model.specs.NamedWord.{inputs_among, outputs_among, NamedWord}
@@ -11,13 +12,12 @@ use Rattle.compose_model.specs.declared.feeder.Feeder.TheVariants.{InputWord, Ou
 use Rattle.compose_wiring.specs.Answer.{IsEarlierFeed}
 use Rattle.compose_wiring.specs.private.Names.{actuals_by}
 use Rattle.compose_wiring.specs.private.Plain.{candidates_of, output_by, output_candidates, word_candidates, CandidateValue, IsFirstOn, PlacedValue}
-use Rattle.compose_wiring.proofs.ListLemmas.{lt_or_le}
 use Rattle.compose_wiring.proofs.PlainLemmas.{output_among, output_one}
 
 -- ---- the order of feeds
 
 in_order : (m n : ℕ) → (m < n) ⊎ ((n < m) ⊎ (m ≡ n))
-in_order m n = parts (lt_or_le m n) (lt_or_le n m)
+in_order m n = parts (cases_lt m n) (cases_lt n m)
   where
     parts : (m < n) ⊎ (n ≤ m) → (n < m) ⊎ (m ≤ n) → (m < n) ⊎ ((n < m) ⊎ (m ≡ n))
     parts (inl less) other = inl less

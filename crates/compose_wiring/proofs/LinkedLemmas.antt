@@ -4,10 +4,11 @@ use Rattle.std.specs.Prelude.{slice_get, ◌==◌}
 use Rattle.std.proofs.lemmas.List.{length-set}
 use Rattle.std.proofs.lemmas.Option.{slice_get_within}
 use Rattle.std.specs.Str.{bytes_eq}
-use Rattle.std.proofs.lemmas.Bool.{eq-eqb, eqb-true}
+use Rattle.std.proofs.lemmas.Bool.{eq-eqb, eqb-true, cases_lt}
 use Rattle.std.proofs.lemmas.Slice.Eq.{bytes_eq-Decides}
 use Rattle.lists.specs.Lists.{Has}
 use Rattle.lists.specs.laws.ReadLaws.{get_set_other, get_set_same, get_below}
+use Rattle.lists.specs.laws.TakeLaws.{dropped_at, get_drop}
 use Rattle.net_blif.specs.Statement.{Token}
 use Rattle.net_blif.specs.Table.{no_numbers, with_number, Numbers}
 use Rattle.compose_model.specs.declared.feeder.Feeder.{Feeder}
@@ -15,7 +16,6 @@ use Rattle.compose_wiring.specs.private.Keys.{key_of}
 use Rattle.compose_wiring.specs.private.Linked.{first_from, is_on, its_key, same_elements, LeadOn}
 use Rattle.compose_wiring.specs.private.Names.{same_names}
 use Rattle.compose_wiring.specs.private.Plain.{CandidateValue, IsFirstOn}
-use Rattle.compose_wiring.proofs.ListLemmas.{dropped_at, got_dropped, lt_or_le}
 use Rattle.compose_wiring.proofs.NamesLemmas.{same_itself, same_means}
 
 -- ---- the first one of a key
@@ -152,11 +152,11 @@ module _ (cs : List CandidateValue) (nets : List Token) (basis : List ℕ) where
   pub search_at : (p : ℕ) → IsSearch cs nets basis (Some p) → (c : CandidateValue) × (slice_get cs p ≡ Some c) × (its_key c ≡ key_of nets basis)
   search_at p state =
       let found = first_some state.start (drop state.start cs) (key_of nets basis) p (sym state.at_is) in
-      (found.candidate, ap (slice_get cs) found.place ∙ sym (got_dropped state.start cs found.j) ∙ found.at, found.keyed)
+      (found.candidate, ap (slice_get cs) found.place ∙ sym (get_drop state.start cs found.j) ∙ found.at, found.keyed)
 
   -- no candidate before that of the search is on these nets
   search_before : (p : ℕ) → IsSearch cs nets basis (Some p) → (q : ℕ) (d : CandidateValue) → q < p → slice_get cs q ≡ Some d → is_on nets basis d ≡ true → ⊥
-  search_before p state q d less found on = cases (lt_or_le q state.start)
+  search_before p state q d less found on = cases (cases_lt q state.start)
     where
       found_first : IsFirstOf state.start (drop state.start cs) (key_of nets basis) p
       found_first = first_some state.start (drop state.start cs) (key_of nets basis) p (sym state.at_is)
@@ -166,7 +166,7 @@ module _ (cs : List CandidateValue) (nets : List Token) (basis : List ℕ) where
       cases (inr late) =
           let i : ℕ = q - state.start in
           let place : q ≡ state.start + i = omega (arith, late) in
-          found_first.first i d (omega (arith, place, found_first.place, less)) (got_dropped state.start cs i ∙ ap (slice_get cs) (sym place) ∙ found) (on_keyed nets basis d on)
+          found_first.first i d (omega (arith, place, found_first.place, less)) (get_drop state.start cs i ∙ ap (slice_get cs) (sym place) ∙ found) (on_keyed nets basis d on)
 
   -- the candidate of the search is the first on these nets, if it is on them
   pub search_found : (p : ℕ) (c : CandidateValue) (feed : Feeder) → IsSearch cs nets basis (Some p) → slice_get cs p ≡ Some c → feed ≡ c.feed → is_on nets basis c ≡ true → IsFirstOn cs nets basis feed
@@ -191,7 +191,7 @@ module _ (cs : List CandidateValue) (nets : List Token) (basis : List ℕ) where
       (record { start = p + 1; at_is = at_keyed; before = before }, smaller at at_keyed)
     where
       before : (q : ℕ) (d : CandidateValue) → q < p + 1 → slice_get cs q ≡ Some d → is_on nets basis d ≡ true → ⊥
-      before q d less found on = cases (lt_or_le q p)
+      before q d less found on = cases (cases_lt q p)
         where
           here : q ≡ p → ⊥
           here e =
@@ -211,11 +211,11 @@ module _ (cs : List CandidateValue) (nets : List Token) (basis : List ℕ) where
 
   -- the search has come to its end
   pub search_end : IsSearch cs nets basis None → (d : CandidateValue) → Has cs d → is_on nets basis d ≡ true → ⊥
-  search_end state d has on = cases (lt_or_le has.0 state.start)
+  search_end state d has on = cases (cases_lt has.0 state.start)
     where
       cases : (has.0 < state.start) ⊎ (state.start ≤ has.0) → ⊥
       cases (inl early) = state.before has.0 d early has.1 on
       cases (inr late) =
           let i : ℕ = has.0 - state.start in
           let place : state.start + i ≡ has.0 = omega (arith, late) in
-          first_none state.start (drop state.start cs) (key_of nets basis) (sym state.at_is) i d (got_dropped state.start cs i ∙ ap (slice_get cs) place ∙ has.1) (on_keyed nets basis d on)
+          first_none state.start (drop state.start cs) (key_of nets basis) (sym state.at_is) i d (get_drop state.start cs i ∙ ap (slice_get cs) place ∙ has.1) (on_keyed nets basis d on)

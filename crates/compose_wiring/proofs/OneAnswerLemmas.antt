@@ -2,7 +2,9 @@
 use Rattle.std.proofs.Common.{◌≡◌, ◌≢◌, ◌∙◌, ap, sym, refl, subst, ℕ, ◌<◌, ◌≤◌, ◌+◌, ◌⊎◌, inl, inr, List, length, Some, arith}
 use Rattle.std.specs.Prelude.{slice_get}
 use Rattle.std.proofs.lemmas.Option.{slice_get_within}
+use Rattle.std.proofs.lemmas.Bool.{cases_lt}
 use Rattle.lists.specs.laws.ReadLaws.{same_lists, get_below}
+use Rattle.compose_model.proofs.OutputLemmas.{same_words}
 use Rattle.net_core.specs.Order.{IsBefore}
 use Rattle.net_blif.specs.declared.item.Item.{Item}
 use Rattle.compose_model.specs.Feeds.{AreFeedsOf, FitsWord}
@@ -14,12 +16,10 @@ use Rattle.compose_wiring.specs.Refusal.{IsFirstRefused, IsWiringFault}
 use Rattle.compose_wiring.specs.declared.fault.WiringFault.{WiringFault}
 use Rattle.compose_wiring.specs.declared.fault.WiringFault.TheVariants.{NotWords, OutputNotWords, OutOfMemory}
 use Rattle.compose_wiring.proofs.FirstLemmas.{feeds_in_order}
-use Rattle.compose_wiring.proofs.ListLemmas.{lt_or_le}
-use Rattle.compose_wiring.proofs.PlainLemmas.{same_words}
 
 -- one of two places is before the other, or they are the same
 in_order : (i w j v : ℕ) → IsBefore i w j v ⊎ (IsBefore j v i w ⊎ ((i ≡ j) × (w ≡ v)))
-in_order i w j v = parts (lt_or_le i j) (lt_or_le j i) (lt_or_le w v) (lt_or_le v w)
+in_order i w j v = parts (cases_lt i j) (cases_lt j i) (cases_lt w v) (cases_lt v w)
   where
     parts : (i < j) ⊎ (j ≤ i) → (j < i) ⊎ (i ≤ j) → (w < v) ⊎ (v ≤ w) → (v < w) ⊎ (w ≤ v) → IsBefore i w j v ⊎ (IsBefore j v i w ⊎ ((i ≡ j) × (w ≡ v)))
     parts (inl a) b c d = inl (inl a)

@@ -4,14 +4,15 @@ use Rattle.std.specs.Prelude.{slice_get}
 use Rattle.std.specs.Option.{option_and_then, option_map, option_map_or}
 use Rattle.std.proofs.lemmas.Option.{slice_get_within}
 use Rattle.lists.specs.Lists.{Has}
+use Rattle.lists.specs.laws.HasLaws.{Has_right, Has_cases}
 use Rattle.lists.specs.laws.ReadLaws.{get_below}
+use Rattle.compose_model.proofs.OutputLemmas.{same_words}
 use Rattle.net_blif.specs.Statement.{Token}
-use Rattle.net_blif.specs.Top.{actual_in, connections_in, instances_of, model_in}
+use Rattle.net_blif.specs.Top.{actual_in, connections_in, instances_of}
 use Rattle.net_blif.specs.declared.item.Item.{Item}
-use Rattle.net_signature.specs.Body.{BlockValue}
 use Rattle.compose_model.specs.Feeds.{FitsWord, IsInputWord, IsOutputOf, IsFeedOn}
-use Rattle.compose_model.specs.Hierarchy.{actuals_of, bases_at, block_of, top_words, Hierarchy, IsInstance}
-use Rattle.compose_model.specs.NamedWord.{inputs_among, named_words, outputs_among, NamedWord}
+use Rattle.compose_model.specs.Hierarchy.{actuals_of, top_words, Hierarchy, IsInstance}
+use Rattle.compose_model.specs.NamedWord.{inputs_among, outputs_among, NamedWord}
 use Rattle.compose_model.specs.declared.feeder.Feeder.{Feeder}
 use Rattle.compose_model.specs.declared.feeder.Feeder.TheVariants.{InputWord, OutputOf}
 use Rattle.compose_wiring.specs.Refusal.{HasNoOutputBit, IsRefusedWord}
@@ -30,36 +31,12 @@ actuals_same item (f ∷ fs) = ap (λ rest. option_and_then (λ (actual : Token)
 
 -- ---- an instance has one block
 
-pub same_words : (h : Hierarchy) (i : ℕ) (item other : Item) (words more : List NamedWord) → IsInstance h i item words → IsInstance h i other more → (item ≡ other) × (words ≡ more)
-same_words h i item other words more a b =
-    let at_a : slice_get (instances_of h.design) i ≡ Some item = a.at in
-    let at_b : slice_get (instances_of h.design) i ≡ Some other = b.at in
-    let same : item ≡ other = cc in
-    let named_a : block_of h (model_in item) ≡ Some a.number = a.named in
-    let P : Item → Type 0 = λ x. block_of h (model_in x) ≡ Some b.number in
-    let named_b : block_of h (model_in item) ≡ Some b.number = subst P (sym same) b.named in
-    let number : b.number ≡ a.number = cc in
-    let Q : ℕ → Type 0 = λ n. slice_get h.blocks n ≡ Some b.block in
-    let found_a : slice_get h.blocks a.number ≡ Some a.block = a.found in
-    let found_b : slice_get h.blocks a.number ≡ Some b.block = subst Q number b.found in
-    let block : a.block ≡ b.block = cc in
-    (same, sym a.words_are ∙ (λ j. named_words (BlockValue.words (block j)) (bases_at h (sym number j + 1))) ∙ b.words_are)
-
 -- ---- lists of candidates
 
 has_front : {A : Type 0} (xs ys : List A) (x : A) → Has xs x → Has (xs ++ ys) x
 has_front [] ys x has = let got = has.1 in absurd (cc)
 has_front (y ∷ xs) ys x (zero, got) = (0, got)
 has_front (y ∷ xs) ys x (suc k, got) = let more = has_front xs ys x (k, got) in (suc more.0, more.1)
-
-has_back : {A : Type 0} (xs ys : List A) (y : A) → Has ys y → Has (xs ++ ys) y
-has_back [] ys y has = has
-has_back (x ∷ xs) ys y has = let more = has_back xs ys y has in (suc more.0, more.1)
-
-has_either : {A : Type 0} (xs ys : List A) (x : A) → Has (xs ++ ys) x → Has xs x ⊎ Has ys x
-has_either [] ys x has = inr has
-has_either (y ∷ xs) ys x (zero, got) = inl (0, got)
-has_either (y ∷ xs) ys x (suc k, got) = elim (has_either xs ys x (k, got)) [ inl a ↦ inl (suc a.0, a.1) | inr b ↦ inr b ]
 
 -- an input word among candidates
 word_of : (n : ℕ) (words : List NamedWord) (c : CandidateValue) → Has (word_candidates n words) c → (j : ℕ) × (word : NamedWord) × (slice_get words j ≡ Some word) × (c ≡ record { feed = InputWord (n + j); nets = word.nets; basis = word.basis })
@@ -119,7 +96,7 @@ pub record IsOutputAmong (n : ℕ) (placed : List PlacedValue) (c : CandidateVal
 
 pub output_among : (n : ℕ) (placed : List PlacedValue) (c : CandidateValue) → Has (output_candidates n placed) c → IsOutputAmong n placed c
 output_among n [] c has = let got = has.1 in absurd (cc)
-output_among n (x ∷ placed) c has = cases (has_either (output_by n x.connections (outputs_among x.words)) (output_candidates (n + 1) placed) c has) (output_among (n + 1) placed c)
+output_among n (x ∷ placed) c has = cases (Has_cases (output_by n x.connections (outputs_among x.words)) (output_candidates (n + 1) placed) c has) (output_among (n + 1) placed c)
   where
     cases : Has (output_by n x.connections (outputs_among x.words)) c ⊎ Has (output_candidates (n + 1) placed) c → (Has (output_candidates (n + 1) placed) c → IsOutputAmong (n + 1) placed c) → IsOutputAmong n (x ∷ placed) c
     cases (inl here) given =
@@ -143,12 +120,12 @@ among_output n (x ∷ placed) zero instance c got has =
 among_output n (x ∷ placed) (suc j) instance c got has =
     let place : n + suc j ≡ (n + 1) + j = omega arith in
     let P : ℕ → Type 0 = λ m. Has (output_by m instance.connections (outputs_among instance.words)) c in
-    has_back (output_by n x.connections (outputs_among x.words)) (output_candidates (n + 1) placed) c (among_output (n + 1) placed j instance c got (subst P place has))
+    Has_right (output_by n x.connections (outputs_among x.words)) (output_candidates (n + 1) placed) c (among_output (n + 1) placed j instance c got (subst P place has))
 
 -- ---- the bases of candidates
 
 pub candidates_sized : (k : ℕ) (top : List NamedWord) (placed : List PlacedValue) → AreOf k top → AreSized k placed → HaveSize k (candidates_of top placed)
-candidates_sized k top placed top_of sized c has = cases (has_either (word_candidates 0 (inputs_among top)) (output_candidates 0 placed) c has)
+candidates_sized k top placed top_of sized c has = cases (Has_cases (word_candidates 0 (inputs_among top)) (output_candidates 0 placed) c has)
   where
     in_word : (ws : List NamedWord) → AreOf k ws → (word : NamedWord) → Has ws word → c.basis ≡ word.basis → length c.basis ≡ k
     in_word ws of word has same = ap length same ∙ of.bases word has
@@ -185,7 +162,7 @@ module _ (h : Hierarchy) (top : List NamedWord) (placed : List PlacedValue) (are
 
   -- a candidate stands on its nets
   pub stands : (c : CandidateValue) → Has (candidates_of top placed) c → IsFeedOn h c.feed c.nets c.basis
-  stands c has = cases (has_either (word_candidates 0 (inputs_among top)) (output_candidates 0 placed) c has)
+  stands c has = cases (Has_cases (word_candidates 0 (inputs_among top)) (output_candidates 0 placed) c has)
     where
       from_word : (j : ℕ) (word : NamedWord) → slice_get (inputs_among top) j ≡ Some word → IsInputWord h j word.nets word.basis
       from_word j word at = let P : List NamedWord → Type 0 = λ ws. slice_get (inputs_among ws) j ≡ Some word in record { word = word; at = subst P are.top_is at; nets_are = refl; basis_is = refl }
@@ -228,7 +205,7 @@ module _ (h : Hierarchy) (top : List NamedWord) (placed : List PlacedValue) (are
       let Q : CandidateValue → Type 0 = λ d. Has (candidates_of top placed) d in
       let place : i ≡ 0 + i = omega arith in
       let R : ℕ → Type 0 = λ m. Has (output_by m (found.0).connections (outputs_among (found.0).words)) c in
-      subst Q same (has_back (word_candidates 0 (inputs_among top)) (output_candidates 0 placed) c (among_output 0 placed i found.0 c found.1 (subst R place (one_output i (found.0).connections is.word nets (outputs_among (found.0).words) one actuals))))
+      subst Q same (Has_right (word_candidates 0 (inputs_among top)) (output_candidates 0 placed) c (among_output 0 placed i found.0 c found.1 (subst R place (one_output i (found.0).connections is.word nets (outputs_among (found.0).words) one actuals))))
 
   module _ (i : ℕ) (instance : PlacedValue) (item : Item) (same : connections_in item ≡ instance.connections) (word : NamedWord) where
     pub found_fits : (feed : Feeder) → IsFoundFor (candidates_of top placed) instance word feed → FitsWord h item word feed

@@ -2,9 +2,11 @@
 use Rattle.std.proofs.Common.{◌≡◌, ◌≢◌, ◌∙◌, ap, sym, refl, subst, ℕ, ◌<◌, ◌≤◌, ◌+◌, true, false, ◌⊎◌, inl, inr, not, if◌then◌else◌, List, [], ◌∷◌, ◌++◌, length, take, None, Some, arith, append-nil}
 use Rattle.std.specs.Prelude.{slice_get}
 use Rattle.std.proofs.lemmas.Option.{slice_get_within}
+use Rattle.std.proofs.lemmas.Bool.{cases_lt}
 use Rattle.lists.specs.Lists.{Has}
 use Rattle.lists.specs.laws.ListLaws.{length-push}
 use Rattle.lists.specs.laws.ReadLaws.{get_below, got_push}
+use Rattle.lists.specs.laws.TakeLaws.{taken_more}
 use Rattle.net_words.specs.Roles.{same_role}
 use Rattle.net_words.specs.declared.word.Role.{Role}
 use Rattle.net_words.specs.declared.word.Role.TheVariants.{Input, State, Fed, Output}
@@ -14,7 +16,7 @@ use Rattle.compose_model.specs.declared.feeder.Feeder.{Feeder}
 use Rattle.compose_wiring.specs.private.Names.{actual_by, actuals_by}
 use Rattle.compose_wiring.specs.private.Plain.{AreFedBefore, AreRows, CandidateValue, IsBadOutput, IsFedMore, IsFirstFor, IsFoundFor, IsRefusedBy, IsRefusedFirst, IsRefusedInOrder, IsRow, PlacedValue}
 use Rattle.compose_wiring.specs.private.Words.{is_mixed}
-use Rattle.compose_wiring.proofs.ListLemmas.{got_taken, lt_or_le, taken_more}
+use Rattle.compose_wiring.proofs.ListLemmas.{got_taken}
 use Rattle.compose_wiring.proofs.NamesLemmas.{all_connected, unconnected}
 use Rattle.compose_wiring.proofs.WordsLemmas.{bit_mixed, inputs_more, mixed_bit}
 
@@ -62,7 +64,7 @@ module _ (cs : List CandidateValue) (placed : PlacedValue) where
 
   accepted_more : (w : ℕ) (word : NamedWord) (row new : List Feeder) → slice_get placed.words w ≡ Some word → AreFedBefore cs placed w row → IsFedMore cs placed word row new
       → (v : ℕ) (other : NamedWord) → v < w + 1 → slice_get placed.words v ≡ Some other → IsRefusedBy cs placed other → ⊥
-  accepted_more w word row new at before fed v other less got refused = cases (lt_or_le v w)
+  accepted_more w word row new at before fed v other less got refused = cases (cases_lt v w)
     where
       cases : (v < w) ⊎ (w ≤ v) → ⊥
       cases (inl early) = before.accepted v other early got refused

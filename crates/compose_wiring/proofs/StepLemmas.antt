@@ -7,6 +7,7 @@ use Rattle.std.proofs.lemmas.List.Elements.{filter-append}
 use Rattle.std.proofs.lemmas.List.Folds.{list_any-append}
 use Rattle.lists.specs.laws.ListLaws.{length-push}
 use Rattle.lists.specs.laws.ReadLaws.{get_front, get_here, got_push}
+use Rattle.lists.specs.laws.TakeLaws.{dropped_at, taken_as_long, taken_more}
 use Rattle.net_words.specs.Roles.{same_role}
 use Rattle.net_words.specs.declared.word.Role.TheVariants.{Output}
 use Rattle.net_words.specs.declared.word.WordText.{WordText}
@@ -21,7 +22,6 @@ use Rattle.compose_model.specs.declared.feeder.Feeder.TheVariants.{InputWord}
 use Rattle.compose_wiring.specs.private.Names.{place_from, same_names}
 use Rattle.compose_wiring.specs.private.Plain.{output_by, output_candidates, word_candidates, ArePlaced, CandidateValue, PlacedValue}
 use Rattle.compose_wiring.specs.private.Words.{in_some, Knows}
-use Rattle.compose_wiring.proofs.ListLemmas.{dropped_at, taken_long, taken_more}
 use Rattle.compose_wiring.proofs.WordsLemmas.{inputs_more}
 
 -- ---- lists
@@ -178,7 +178,7 @@ pub outputs_more : (placed : List PlacedValue) (p : ℕ) (instance : PlacedValue
     → new ≡ front ++ output_candidates 0 (take (p + 1) placed)
 outputs_more placed p instance front old new got is made =
     let one : List CandidateValue = output_by p instance.connections (outputs_among instance.words) in
-    let place : 0 + length (take p placed) ≡ p = omega (arith, taken_long placed p instance got) in
+    let place : 0 + length (take p placed) ≡ p = omega (arith, taken_as_long placed p instance got) in
     let last : output_candidates (0 + length (take p placed)) (instance ∷ []) ≡ one = ap (λ m. output_candidates m (instance ∷ [])) place ∙ append-nil one in
     made ∙ ap (λ cs. cs ++ one) is ∙ append_assoc front (output_candidates 0 (take p placed)) one
     ∙ ap (λ cs. front ++ cs) (sym (ap (output_candidates 0) (taken_more placed p instance got) ∙ outputs_append 0 (take p placed) (instance ∷ []) ∙ ap (λ cs. output_candidates 0 (take p placed) ++ cs) last))
@@ -199,7 +199,7 @@ placed_more blocks numbers connections p number mine words instance old new at a
         cases (inl early) = let known = are.each i x early.0 in (get_front (take p connections) (mine ∷ []) i x.connections known.0, known.1)
         cases (inr last) =
             let place : i ≡ length (take p connections) = last.0 ∙ are.long in
-            let here : i ≡ p = place ∙ taken_long connections p mine at in
+            let here : i ≡ p = place ∙ taken_as_long connections p mine at in
             let value : x ≡ record { connections = mine; words = words } = last.1 ∙ is in (
               ap (slice_get (take p connections ++ mine ∷ [])) place ∙ get_here (take p connections) mine [] ∙ ap (λ (y : PlacedValue). Some y.connections) (sym value),
               (number, ap (slice_get numbers) here ∙ at_number, at_words ∙ ap (λ (y : PlacedValue). Some y.words) (sym value)),

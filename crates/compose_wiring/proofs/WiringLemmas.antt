@@ -25,7 +25,7 @@ use Rattle.compose_wiring.proofs.FirstLemmas.{none_earlier}
 use Rattle.compose_wiring.proofs.NamesLemmas.{unconnected}
 use Rattle.compose_wiring.proofs.PlainLemmas.{actuals_same, fits_found, found_fits, placed_at, refused_word, stands, stood, word_refused, ArePlain}
 use Rattle.compose_wiring.proofs.RowLemmas.{first_found, rows_accepted}
-use Rattle.compose_wiring.proofs.WordsLemmas.{output_role}
+use Rattle.net_words.proofs.SharedLemmas.{is_role}
 
 -- ---- lists
 
@@ -179,7 +179,7 @@ module _ (h : Hierarchy) (top : List NamedWord) (placed : List PlacedValue) (are
           let P : List NamedWord → Type 0 = λ ws. Has ws word in
           let found = left_passes instance.words word (subst P (sym only) (0, refl)) in
           let loose = unconnected instance.connections word.nets is in
-          absurd (accepted i instance at (found.0).0 word (found.0).1 (inl (output_role word.role found.1, record { net = loose.formal; bit = (loose.place, loose.at); because = inl loose.none })))
+          absurd (accepted i instance at (found.0).0 word (found.0).1 (inl (is_role word.role found.1, record { net = loose.formal; bit = (loose.place, loose.at); because = inl loose.none })))
       parts (Some nets) is =
           let known = are.each i instance at in
           (nets, word.basis, record { item = known.0; words = instance.words; instance = known.1; word = word; output = only; actuals = actuals_same known.0 word.nets ∙ ap (λ c. actuals_by c word.nets) known.2 ∙ is; basis_is = refl })

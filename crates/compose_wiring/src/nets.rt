@@ -58,7 +58,7 @@ impl<'a> Nets<'a> {
         Ok(())
     }
 
-    /// The same names.
+    /// A copy of the names.
     pub fn copy(&self, alloc: Global) -> Result<Nets<'a>, AllocError>
         ensures { IfOk result (λ nets. nets ≡ self.now) }
     {

@@ -1,15 +1,17 @@
 -- At most one answer comes of the words, where the shelf tells what it holds.
-use Rattle.std.proofs.Common.{◌≡◌, ◌⊎◌, ◌∙◌, ap, sym, inl, inr, ℕ, ◌*◌, ◌^◌, ◌<◌, List, length, Option, None, Some, Ok, Err, arith}
+use Rattle.std.proofs.Common.{◌≡◌, ◌⊎◌, ◌∙◌, ap, sym, subst, inl, inr, ℕ, ◌*◌, ◌^◌, ◌<◌, List, length, Option, None, Some, Ok, Err, arith}
 use Rattle.std.specs.FinMap.{get}
+use Rattle.lists.specs.laws.OptionLaws.{same_some}
+use Rattle.outcome.proofs.DeterminedLemmas.{determined_exactly}
 use Rattle.outcome.specs.Outcome.{Determined, Exactly, Within}
+use Rattle.outcome.proofs.DeterminedLemmas.{determined_after, determined_within}
 use Rattle.job_io.specs.Shelf.{Files}
-use Rattle.net_flat.proofs.FlatDetermined.{determined_after, determined_within}
 use Rattle.job_words.specs.declared.fault.Fault.TheVariants.{File, Signature, SecondSignature, Netlist, Specification, Value}
 use Rattle.job_words.specs.declared.fault.Fault.TheVariants as faults
 use Rattle.job_words.specs.declared.file_fault.FileFault.{FileFault}
 use Rattle.job_words.specs.declared.file_fault.FileFault.TheVariants.{Absent, TooLong}
 use Rattle.job_words.specs.Operands.{Word}
-use Rattle.job_words.specs.Command.{Action, Bits, Abstract, Check, Same, Eval, Iso, Lift, Table, Certify, Verify, Upgrade, Make, Compose, Job, Over, Trial}
+use Rattle.job_words.specs.Command.{Action, Bits, Abstract, Check, Same, Eval, Iso, Lift, Table, Certify, Verify, Upgrade, Make, Compose, Job, Over, Trial, IsSpelled}
 use Rattle.job_words.proofs.OneCommandLemmas.{one_job}
 use Rattle.job_input.specs.File.{Read}
 use Rattle.job_input.specs.Labelling.{labels_of}
@@ -23,7 +25,6 @@ use Rattle.job_input.specs.SignedIn.{SecondIn, SecondOf, SecondSignedIn, SignedI
 use Rattle.job_input.specs.SpecificationIn.{SpecificationOf, SpecificationIn}
 use Rattle.job_input.specs.TableIn.{TableIn, TableOf}
 use Rattle.net_words.specs.Binding.{BoundNet}
-use Rattle.net_words.proofs.BindDetermined.{determined_exactly}
 use Rattle.job_input.proofs.CycleLemmas.{circuit_determined}
 use Rattle.job_input.proofs.NetlistDetermined.{netlist_determined}
 use Rattle.job_input.proofs.SettingDetermined.{signed_determined, with_determined}
@@ -58,9 +59,6 @@ use Rattle.answer_makers.proofs.TrialLemmas.{trial_determined}
 use Rattle.answer_tables.proofs.TableLemmas.{lift_determined, small_determined, table_determined}
 use Rattle.answer_polynomials.proofs.ReplyDetermined.{bits_determined, abstract_determined}
 use Rattle.answer_polynomials.proofs.SameDetermined.{same_determined}
-
-same_some : {A : Type 0} (a b : A) → ◌≡◌ {A = Option A} (Some a) (Some b) → a ≡ b
-same_some a b e = cc
 
 not_none : {A : Type 0} (a : A) (C : Type 0) → ◌≡◌ {A = Option A} (Some a) None → C
 not_none a C e = absurd (cc)
@@ -210,3 +208,9 @@ module _ (files : Files) where
 
   pub answer_determined : (words : List Word) → Determined (Answer words (Some files))
   answer_determined words = determined_after (Spelled words) (λ job. JobAnswer (Some files) job) (spelled_determined words) (λ job is. job_determined job)
+
+-- a trial reads no file
+pub trial_answer_determined : (words : List Word) (held : Option Files) (number modulus bound : ℕ) → IsSpelled words (Trial number modulus bound) → Determined (Answer words held)
+trial_answer_determined words held number modulus bound spelled =
+    determined_after (Spelled words) (λ job. JobAnswer held job) (spelled_determined words)
+    (λ job is. let P : Job → Type 0 = λ j. Determined (JobAnswer held j) in subst P (one_job words (Trial number modulus bound) job spelled is) (trial_determined number modulus bound))

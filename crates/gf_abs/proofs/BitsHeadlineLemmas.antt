@@ -38,9 +38,9 @@ use Rattle.answer_core.proofs.EqualLabelLemmas.{few_bits}
 use Rattle.answer_polynomials.proofs.EqualLemmas.{count, in_bits, labels, one_written, roles, sound, well}
 use Rattle.gf_abs.proofs.HeadlineLemmas.{IsUnrolled, held_job, one_held, one_setting, unrolled}
 use Rattle.answer_core.proofs.JobLemmas.{long}
-use Rattle.answer_core.proofs.NamedLemmas.{named_terms}
 use Rattle.answer_core.proofs.TakenLemmas.{bases_long, circuit_bits, one_cycle}
 use Rattle.answer_core.proofs.WordNamesLemmas.{bits_in_first}
+use Rattle.stage_model.proofs.SharedLemmas.{named_terms}
 
 -- ---- the line of what stands in bits
 

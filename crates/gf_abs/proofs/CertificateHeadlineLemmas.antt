@@ -46,7 +46,7 @@ use Rattle.job_input.proofs.SettingDetermined.{setting_determined}
 use Rattle.job_input.proofs.SettingSoundLemmas.{setting_sound}
 use Rattle.job_input.proofs.SignedLemmas.{setting_names}
 use Rattle.gf_abs.specs.Answer.{JobAnswer}
-use Rattle.gf_abs.specs.CertificateHeadline.{AnswersCertify, AnswersUpgrade, AnswersVerify, HoldOneJob, IsAccepted, PrintsProof}
+use Rattle.gf_abs.specs.CertificateHeadline.{AnswersCertify, AnswersUpgrade, AnswersVerify, HoldOneJob, IsAccepted, PrintsHeldProof, PrintsProof}
 use Rattle.answer_certificates.specs.Certificates.{certificate_labels}
 use Rattle.answer_core.specs.Printed.{AreHeld}
 use Rattle.answer_core.specs.Reply.{Reply}
@@ -56,7 +56,7 @@ use Rattle.answer_certificates.specs.Upgrade.{UpgradeReply}
 use Rattle.answer_certificates.specs.Verify.{VerdictOf, verify_reply}
 use Rattle.gf_abs.proofs.AnswerDetermined.{read_determined}
 use Rattle.answer_certificates.proofs.CertificateLabelLemmas.{has_numbers, names_variables, names_words}
-use Rattle.gf_abs.proofs.HeadlineLemmas.{IsUnrolled, held_job, one_held, one_setting, unrolled}
+use Rattle.gf_abs.proofs.HeadlineLemmas.{IsUnrolled, held_job, unrolled}
 use Rattle.answer_core.proofs.JobLemmas.{output_to, words_to}
 use Rattle.answer_core.proofs.TakenLemmas.{bases_long, circuit_bits, circuit_few, circuit_roles, one_cycle}
 use Rattle.answer_certificates.proofs.VerdictLemmas.{moved}
@@ -192,17 +192,17 @@ proof_there setting circuit job reply (valid claim) behind proves replied none =
     }
 proof_there setting circuit job reply (invalid remaining) behind proves replied none = let status : reply.status ≡ 1 = ap (λ (r : Reply). r.status) replied in absurd (omega (arith, none, status))
 
-pub verify_proves : (files : Files) (words : List Word) (signature net certificate : Word) (cycles : ℕ) (reply : Reply) (setting : SettingValue) (job : Circuit) → AnswersVerify files words signature net certificate cycles reply → AreHeld files signature net cycles setting job → reply.status ≡ 0 → PrintsProof setting job reply
-verify_proves files words signature net certificate cycles reply setting job answers held none =
+pub verify_proves : (files : Files) (words : List Word) (signature net certificate : Word) (cycles : ℕ) (reply : Reply) → AnswersVerify files words signature net certificate cycles reply → reply.status ≡ 0 → PrintsHeldProof files signature net cycles reply
+verify_proves files words signature net certificate cycles reply answers none =
     let found = verified files words signature net certificate cycles reply answers in
     let V : Verdict → Type 0 = λ v. VerdictOf found.setting found.circuit found.bound found.cert (Ok v) in
-    let proof = proof_there found.setting found.circuit found.job reply found.verdict found.behind
-    (λ claim same. of_claim net found.held.bytes found.held.text cycles found.setting found.circuit found.held.of found.bound found.cert claim (subst V same found.is)) found.replied none in
-    let one : found.setting ≡ setting = one_setting files signature net net cycles found.setting setting found.job job found.are held in
-    let A : SettingValue → Type 0 = λ s. AreHeld files signature net cycles s found.job in
-    let P : SettingValue → Type 0 = λ s. PrintsProof s found.job reply in
-    let Q : Circuit → Type 0 = λ c. PrintsProof setting c reply in
-    subst Q (one_held files signature net cycles setting found.job job (subst A one found.are) held) (subst P one proof)
+    record {
+      setting = found.setting;
+      job = found.job;
+      held = found.are;
+      printed = proof_there found.setting found.circuit found.job reply found.verdict found.behind
+          (λ claim same. of_claim net found.held.bytes found.held.text cycles found.setting found.circuit found.held.of found.bound found.cert claim (subst V same found.is)) found.replied none;
+    }
 
 -- ---- what is certified is accepted
 

@@ -20,7 +20,7 @@ use Rattle.job_input.specs.SettingValue.{SettingValue}
 use Rattle.job_input.specs.SpecificationIn.{SpecificationIn}
 use Rattle.gf_abs.specs.Answer.{JobAnswer}
 use Rattle.answer_core.specs.Judged.{Computes, IsSpecified, IsJudged}
-use Rattle.gf_abs.specs.CheckHeadline.{AnswersCheck, AreHeldWith, PrintsAcceptance, PrintsRejection}
+use Rattle.gf_abs.specs.CheckHeadline.{AnswersCheck, AreHeldWith, ChecksHeld, PrintsAcceptance, PrintsHeldAcceptance, PrintsHeldRejection, PrintsRejection}
 use Rattle.answer_core.specs.DifferingLines.{differing_lines}
 use Rattle.answer_core.specs.Printed.{IsTaken, IsPrinted}
 use Rattle.answer_core.specs.Reply.{Reply, prints, polynomial_line}
@@ -153,8 +153,8 @@ module _ (files : Files) (words : List Word) (signature net specification : Word
     judged_here : Judged setting job spec reply
     judged_here = judged_for files words signature net specification cycles reply answers setting job spec are
 
-    pub check_equal : reply.status ≡ 0 ↔ Computes setting job spec
-    check_equal =
+    equal_here : reply.status ≡ 0 ↔ Computes setting job spec
+    equal_here =
         let found = judged_here in
         let zero = zero_there setting found.circuit spec found.behind.taken reply (polynomial_line setting found.polynomial) found.found found.is found.replied in
         let moved = computes setting (taken_circuit setting found.circuit) job found.behind.one spec in (
@@ -165,15 +165,15 @@ module _ (files : Files) (words : List Word) (signature net specification : Word
     printed_here : IsPrinted setting (taken_circuit setting judged_here.circuit) (prints setting judged_here.polynomial)
     printed_here = printed setting judged_here.circuit judged_here.behind.taken judged_here.bound (prints setting judged_here.polynomial) judged_here.reduced
 
-    pub check_accepts : reply.status ≡ 0 → PrintsAcceptance setting job reply
-    check_accepts zero =
+    accepts_here : reply.status ≡ 0 → PrintsAcceptance setting job reply
+    accepts_here zero =
         let found = judged_here in
         let c : Circuit = taken_circuit setting found.circuit in
         let there = acceptance_there setting found.circuit spec found.behind.taken reply found.polynomial printed_here found.found found.replied zero in
         record { polynomial = there.polynomial; text = there.text; in_words = words_to setting c job found.behind.one there.polynomial there.in_words; values = output_to setting c job found.behind.one there.polynomial there.values }
 
-    pub check_rejects : reply.status ≡ 1 → PrintsRejection setting job spec reply
-    check_rejects one =
+    rejects_here : reply.status ≡ 1 → PrintsRejection setting job spec reply
+    rejects_here one =
         let found = judged_here in
         let c : Circuit = taken_circuit setting found.circuit in
         let there = rejection_there setting found.circuit spec found.behind.taken reply found.polynomial printed_here found.found found.is found.replied one in
@@ -185,3 +185,37 @@ module _ (files : Files) (words : List Word) (signature net specification : Word
           values = output_to setting c job found.behind.one there.polynomial there.values;
           differing = differing setting c job found.behind.one (IsOut c) (IsSpecified setting c spec) (IsOut job) (IsSpecified setting job spec) found.behind.one.output (specified setting c job found.behind.one spec) there.found.input there.found.left there.found.right there.differing;
         }
+
+-- ---- of the job and the specification in the files
+
+module _ (files : Files) (words : List Word) (signature net specification : Word) (cycles : ℕ) (reply : Reply) (answers : AnswersCheck files words signature net specification cycles reply) where
+  of_files : HeldJudged files signature net specification cycles reply
+  of_files = held_judged files words signature net specification cycles reply answers
+
+  pub check_equal : ChecksHeld files signature net specification cycles reply
+  check_equal = record {
+    setting = of_files.setting;
+    job = of_files.job;
+    spec = of_files.spec;
+    held = of_files.held;
+    equal = equal_here files words signature net specification cycles reply of_files.setting of_files.job of_files.spec answers of_files.held;
+  }
+
+  pub check_accepts : reply.status ≡ 0 → PrintsHeldAcceptance files signature net specification cycles reply
+  check_accepts zero = record {
+    setting = of_files.setting;
+    job = of_files.job;
+    spec = of_files.spec;
+    held = of_files.held;
+    computes = (equal_here files words signature net specification cycles reply of_files.setting of_files.job of_files.spec answers of_files.held).0 zero;
+    printed = accepts_here files words signature net specification cycles reply of_files.setting of_files.job of_files.spec answers of_files.held zero;
+  }
+
+  pub check_rejects : reply.status ≡ 1 → PrintsHeldRejection files signature net specification cycles reply
+  check_rejects one = record {
+    setting = of_files.setting;
+    job = of_files.job;
+    spec = of_files.spec;
+    held = of_files.held;
+    printed = rejects_here files words signature net specification cycles reply of_files.setting of_files.job of_files.spec answers of_files.held one;
+  }

@@ -1,11 +1,11 @@
 -- The one answer that may come is the one that was written.
-use Rattle.std.proofs.Common.{◌≡◌, refl, subst, inl, inr, ℕ, List, Option, None, Some, Result, Ok, Err}
+use Rattle.std.proofs.Common.{◌≡◌, ◌⊎◌, refl, subst, inl, inr, ℕ, List, Option, None, Some, Result, Ok, Err}
 use Rattle.std.specs.Io.KnownBytes.{Appends, Keeps}
 use Rattle.job_io.specs.Shelf.{Files}
 use Rattle.job_words.specs.Operands.{Word}
 use Rattle.answer_core.specs.Reply.{Reply}
 use Rattle.gf_abs.specs.Answer.{Answer}
-use Rattle.gf_abs.specs.Written.{IsText, Writes, IsWritten}
+use Rattle.gf_abs.specs.Written.{IsText, Writes, WritesPart, IsWritten}
 use Rattle.job_words.specs.declared.fault.Fault.{Fault}
 use Rattle.gf_abs.proofs.AnswerDetermined.{answer_determined}
 
@@ -30,3 +30,13 @@ module _ (words : List Word) (files : Files) (old new : Option (List ℕ)) where
 pub keeps_same : (bytes : Option (List ℕ)) → Keeps bytes bytes
 keeps_same None = tt
 keeps_same (Some bytes) = refl
+
+-- so it was, unless the outside or memory fails
+pub answered : (words : List Word) (held : Option Files) (missed : Type 0) (status : ℕ) (old new : Option (List ℕ)) (shelf_failed sink_failed : Type 0) → (status ≡ 4) ⊎ (status ≡ 5) ⊎ Writes (Answer words held) missed status old new → (status ≡ 4 → (shelf_failed × Keeps old new) ⊎ WritesPart (Answer words held) missed sink_failed old new)
+    → (files : Files) (outcome : Result Reply Fault) → held ≡ Some files → Answer words (Some files) outcome → (shelf_failed → ⊥) → (sink_failed → ⊥) → (status ≡ 5) ⊎ IsWritten outcome status old new
+answered words held missed status old new shelf_failed sink_failed (inl four) failed files outcome told may shelf sink = elim (failed four) [
+  | inl kept ↦ absurd (shelf kept.0)
+  | inr part ↦ absurd (sink part.0)
+]
+answered words held missed status old new shelf_failed sink_failed (inr (inl five)) failed files outcome told may shelf sink = inl five
+answered words held missed status old new shelf_failed sink_failed (inr (inr writes)) failed files outcome told may shelf sink = inr (written words files old new held missed status told writes outcome may)

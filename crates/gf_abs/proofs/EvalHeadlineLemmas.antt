@@ -11,21 +11,14 @@ use Rattle.job_input.specs.Labelling.{labels_of}
 use Rattle.job_input.specs.NetlistOf.{by_ending}
 use Rattle.job_input.specs.SettingValue.{SettingValue}
 use Rattle.gf_abs.specs.Answer.{JobAnswer}
-use Rattle.gf_abs.specs.EvalHeadline.{AnswersEval, PrintsElement}
-use Rattle.answer_core.specs.Printed.{AreHeld}
+use Rattle.gf_abs.specs.EvalHeadline.{AnswersEval, PrintsElement, PrintsHeldElement}
 use Rattle.answer_core.specs.Reply.{Reply}
 use Rattle.answer_polynomials.specs.Values.{ValuesOf}
 use Rattle.answer_core.specs.Abstraction.{taken_circuit}
 use Rattle.answer_polynomials.specs.Eval.{EvalReply}
 use Rattle.answer_polynomials.proofs.EqualLemmas.{count}
-use Rattle.gf_abs.proofs.HeadlineLemmas.{IsUnrolled, held_job, one_held, one_setting, unrolled}
+use Rattle.gf_abs.proofs.HeadlineLemmas.{IsUnrolled, held_job, unrolled}
 use Rattle.answer_core.proofs.JobLemmas.{long}
-
-record HeldElement (files : Files) (signature net : Word) (values : List Word) (cycles : ℕ) (reply : Reply) : Type 0 where
-  pub setting : SettingValue
-  pub job : Circuit
-  pub held : AreHeld files signature net cycles setting job
-  pub element : PrintsElement setting job values reply
 
 element_of : (setting : SettingValue) (circuit : BoundNet) (job : Circuit) (values : List Word) (xs : List ℕ) (reply : Reply) → IsUnrolled setting circuit job → ValuesOf setting.k (length (labels_of setting.k setting.signature.words).words) values (Ok xs) → EvalReply setting circuit xs (Ok reply) → PrintsElement setting job values reply
 element_of setting circuit job values xs reply behind are (e, out, same) =
@@ -40,23 +33,18 @@ element_of setting circuit job values xs reply behind are (e, out, same) =
       line = ap (λ (r : Reply). r.text) same;
     }
 
-job_gives : (files : Files) (signature net : Word) (values : List Word) (cycles : ℕ) (reply : Reply) → JobAnswer (Some files) (Over signature (Eval net values cycles)) (Ok reply) → HeldElement files signature net values cycles reply
+job_gives : (files : Files) (signature net : Word) (values : List Word) (cycles : ℕ) (reply : Reply) → JobAnswer (Some files) (Over signature (Eval net values cycles)) (Ok reply) → PrintsHeldElement files signature net values cycles reply
 job_gives files signature net values cycles reply (signed, (text, read, is), (setting, are, (netlist, (bytes, read', taken), (xs, values_are, (circuit, of, came))))) =
     let behind = unrolled text (by_ending net bytes) cycles setting netlist circuit (signed, is, are) taken of in
     record {
       setting = setting;
       job = job_of setting netlist cycles;
       held = held_job files signature net cycles setting netlist text bytes read read' (signed, is, are) taken;
-      element = element_of setting circuit (job_of setting netlist cycles) values xs reply behind values_are came;
+      printed = element_of setting circuit (job_of setting netlist cycles) values xs reply behind values_are came;
     }
 
-pub eval_prints : (files : Files) (words : List Word) (signature net : Word) (values : List Word) (cycles : ℕ) (reply : Reply) (setting : SettingValue) (job : Circuit) → AnswersEval files words signature net values cycles reply → AreHeld files signature net cycles setting job → PrintsElement setting job values reply
-eval_prints files words signature net values cycles reply setting job is held =
+pub eval_prints : (files : Files) (words : List Word) (signature net : Word) (values : List Word) (cycles : ℕ) (reply : Reply) → AnswersEval files words signature net values cycles reply → PrintsHeldElement files signature net values cycles reply
+eval_prints files words signature net values cycles reply is =
     let P : Job → Type 0 = λ job. JobAnswer (Some files) job (Ok reply) in
     let answer = is.answer in
-    let found = job_gives files signature net values cycles reply (subst P (one_job words answer.0 (Over signature (Eval net values cycles)) answer.1 is.spelled) answer.2) in
-    let same = one_setting files signature net net cycles found.setting setting found.job job found.held held in
-    let Q : SettingValue → Type 0 = λ s. AreHeld files signature net cycles s found.job in
-    let R : SettingValue → Type 0 = λ s. PrintsElement s found.job values reply in
-    let S : Circuit → Type 0 = λ c. PrintsElement setting c values reply in
-    subst S (one_held files signature net cycles setting found.job job (subst Q same found.held) held) (subst R same found.element)
+    job_gives files signature net values cycles reply (subst P (one_job words answer.0 (Over signature (Eval net values cycles)) answer.1 is.spelled) answer.2)

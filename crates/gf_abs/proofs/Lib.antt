@@ -3,6 +3,7 @@ pub mod OneLineLemmas
 pub mod StatusLemmas
 pub mod CompleteLemmas
 pub mod HeadlineLemmas
+pub mod HeldJobLemmas
 pub mod BitsHeadlineLemmas
 pub mod SameHeadlineLemmas
 pub mod CheckHeadlineLemmas
@@ -14,3 +15,7 @@ pub mod CertificateHeadlineLemmas
 pub mod LastSumLemmas
 pub mod ComposeHeadlineLemmas
 pub mod TrialHeadlineLemmas
+pub mod RunLemmas
+pub mod RefusalLemmas
+pub mod OtherRefusalLemmas
+pub mod SomeAnswerLemmas

@@ -27,11 +27,10 @@ use Rattle.job_input.specs.CircuitOf.{CircuitIn}
 use Rattle.job_input.specs.Labelling.{labels_of}
 use Rattle.job_input.specs.SettingOf.{SignedOf, SignedValue}
 use Rattle.job_input.specs.SettingValue.{SettingValue}
-use Rattle.job_input.proofs.FileLineLemmas.{HaveKeptNames, cycles_keep, field_keeps, file_keeps, labels_kept, netlist_file_keeps, operand_kept, second_keeps, setting_keeps, signed_keeps, specification_keeps, table_keeps}
-use Rattle.job_input.proofs.FieldLemmas.{field_most, field_some}
+use Rattle.job_input.proofs.FileLineLemmas.{HaveKeptNames, cycles_keep, field_keeps, file_keeps, labels_kept, netlist_file_keeps, operand_kept, second_keeps, setting_keeps, signed_keeps, specification_keeps, table_keeps, same_line}
 use Rattle.job_input.proofs.SignedLemmas.{setting_names}
 use Rattle.make_trial.specs.Trial.{product_terms, trial_circuit, trial_setting}
-use Rattle.make_trial.proofs.SettingLemmas.{trial_said}
+use Rattle.make_trial.proofs.SaidLemmas.{trial_said}
 use Rattle.gf_abs.specs.Answer.{ActionAnswer, Answer, JobAnswer, SignedAnswer}
 use Rattle.answer_polynomials.specs.Values.{ValuesOf}
 use Rattle.answer_core.specs.Staged.{IsStageOver, either_net_text, either_text}
@@ -56,9 +55,6 @@ signature_kept words signature (Compose net terms) is = operand_kept signature i
 signature_kept words signature action is = operand_kept signature is.follow.signature_is
 
 -- ---- stages
-
-same_line : (fault other : Fault) → fault ≡ other → KeepsToItsLine other → KeepsToItsLine fault
-same_line fault other same keeps = let P : Fault → Type 0 = KeepsToItsLine in subst P (sym same) keeps
 
 -- the first stage over the bound, whatever the stages are called
 over_kept : (k : ℕ) (mul : ℕ → ℕ → ℕ) {N : Type 0} (listing : Listing N) (called : N → List ℕ) (bound : ℕ) (fault : Fault) → ((name : N) → HasNoLineFeed (called name)) → (stage : StageFault) → IsStageOver k mul listing called bound stage → fault ≡ faults.Stage stage → KeepsToItsLine fault
@@ -214,7 +210,7 @@ trial_kept number modulus bound fault (inl (found, (reason, is, why), same)) =
     let P : SignatureFault → Type 0 = λ f. KeepsToItsLine (faults.Signature f) in
     same_line fault (faults.Signature found) same (subst P (sym why) (field_keeps reason))
 trial_kept number modulus bound fault (inr (field, named, wrong)) =
-    let said = trial_said field.k 0 (field_some modulus [] [] field named) (field_most modulus [] [] field named) (omega arith) in
+    let said = trial_said field.k 0 in
     trial_reply_kept (trial_setting field.k modulus) said.names (trial_circuit field.k modulus number) product_terms number bound fault wrong
 
 answer_kept : (words : List Word) (held : Option Files) (fault : Fault) → Answer words held (Err fault) → KeepsToItsLine fault

@@ -16,7 +16,7 @@ use Rattle.job_input.specs.JobOf.{job_of}
 use Rattle.job_input.specs.NetlistOf.{by_ending}
 use Rattle.job_input.specs.SettingValue.{SettingValue}
 use Rattle.gf_abs.specs.Answer.{JobAnswer}
-use Rattle.gf_abs.specs.Headline.{AnswersSame}
+use Rattle.gf_abs.specs.Headline.{AnswersSame, ComparesHeld, PrintsHeldDifference, PrintsHeldSame}
 use Rattle.answer_core.specs.Printed.{IsTaken, AreHeld, PrintsDifference, AreOneFunction}
 use Rattle.answer_core.specs.Reply.{Reply}
 use Rattle.answer_core.specs.Abstraction.{taken_circuit}
@@ -141,8 +141,8 @@ module _ (files : Files) (words : List Word) (signature net other : Word) (cycle
     compared_here : Compared setting job second reply
     compared_here = compared_for files words signature net other cycles reply answers setting job second held more
 
-    pub same_equal : reply.status ≡ 0 ↔ AreOneFunction job second
-    same_equal =
+    equal_here : reply.status ≡ 0 ↔ AreOneFunction job second
+    equal_here =
         let found = compared_here in
         let both = both_one (taken_circuit setting found.circuit) job (taken_circuit setting found.other) second found.behind.one found.beside.one in
         let zero = zero_there setting found.circuit found.other found.behind.taken found.beside.taken reply found.found found.is found.replied in (
@@ -150,8 +150,8 @@ module _ (files : Files) (words : List Word) (signature net other : Word) (cycle
           λ equal. zero.1 (both.1 equal),
         )
 
-    pub same_differs : reply.status ≡ 1 → PrintsDifference setting job second reply
-    same_differs one =
+    differs_here : reply.status ≡ 1 → PrintsDifference setting job second reply
+    differs_here one =
         let found = compared_here in
         let c : Circuit = taken_circuit setting found.circuit in
         let d : Circuit = taken_circuit setting found.other in
@@ -161,3 +161,37 @@ module _ (files : Files) (words : List Word) (signature net other : Word) (cycle
           text = there.text;
           differing = differing setting c job found.behind.one (IsOut c) (IsOut d) (IsOut job) (IsOut second) found.behind.one.output found.beside.one.output there.found.input there.found.left there.found.right there.differing;
         }
+
+-- ---- of the jobs in the files
+
+module _ (files : Files) (words : List Word) (signature net other : Word) (cycles : ℕ) (reply : Reply) (answers : AnswersSame files words signature net other cycles reply) where
+  of_files : HeldCompared files signature net other cycles reply
+  of_files = held_compared files words signature net other cycles reply answers
+
+  pub same_equal : ComparesHeld files signature net other cycles reply
+  same_equal = record {
+    setting = of_files.setting;
+    job = of_files.job;
+    second = of_files.second;
+    are = record { held = of_files.held; more = of_files.more };
+    equal = equal_here files words signature net other cycles reply of_files.setting of_files.job of_files.second answers of_files.held of_files.more;
+  }
+
+  pub same_agrees : reply.status ≡ 0 → PrintsHeldSame files signature net other cycles reply
+  same_agrees zero = record {
+    setting = of_files.setting;
+    job = of_files.job;
+    second = of_files.second;
+    are = record { held = of_files.held; more = of_files.more };
+    equal = (equal_here files words signature net other cycles reply of_files.setting of_files.job of_files.second answers of_files.held of_files.more).0 zero;
+    text = same_text files words signature net other cycles reply answers zero;
+  }
+
+  pub same_differs : reply.status ≡ 1 → PrintsHeldDifference files signature net other cycles reply
+  same_differs one = record {
+    setting = of_files.setting;
+    job = of_files.job;
+    second = of_files.second;
+    are = record { held = of_files.held; more = of_files.more };
+    printed = differs_here files words signature net other cycles reply of_files.setting of_files.job of_files.second answers of_files.held of_files.more one;
+  }

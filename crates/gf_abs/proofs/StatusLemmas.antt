@@ -1,11 +1,14 @@
--- A reply has status 0 or 1.
-use Rattle.std.proofs.Common.{◌≡◌, ◌⊎◌, ap, inl, inr, ℕ, List, Option, None, Some, Ok}
+-- A reply has status 0 or 1, and a fault 2 or 3.
+use Rattle.std.proofs.Common.{◌≡◌, ◌⊎◌, ap, inl, inr, refl, ℕ, List, Option, None, Some, Ok}
 use Rattle.job_io.specs.Shelf.{Files}
 use Rattle.poly_mixed.specs.Labels.{Labelling}
 use Rattle.circuit_model.specs.Differing.{Difference}
 use Rattle.cert_check.specs.Verdict.{Verdict, valid, invalid}
 use Rattle.job_words.specs.Command.{Action, Bits, Abstract, Check, Same, Eval, Iso, Lift, Table, Certify, Verify, Upgrade, Make, Compose, Over, Trial}
+use Rattle.job_words.specs.Fault.{fault_status}
 use Rattle.job_words.specs.Operands.{Word}
+use Rattle.job_words.specs.declared.fault.Fault.{Fault}
+use Rattle.job_words.specs.declared.fault.Fault.TheVariants as faults
 use Rattle.job_input.specs.Labelling.{labels_of}
 use Rattle.job_input.specs.SettingValue.{SettingValue}
 use Rattle.gf_abs.specs.Answer.{ActionAnswer, Answer}
@@ -48,3 +51,7 @@ action_status held setting (Compose net terms) reply (design, taken, (lists, are
 pub answer_status : (words : List Word) (held : Option Files) (reply : Reply) → Answer words held (Ok reply) → (reply.status ≡ 0) ⊎ (reply.status ≡ 1)
 answer_status words held reply (Over signature action, spelled, (signed, read, (setting, taken, is))) = action_status held setting action reply is
 answer_status words held reply (Trial number modulus terms, spelled, is) = trial_status number modulus terms reply is
+
+pub fault_statuses : (fault : Fault) → (fault_status fault ≡ 2) ⊎ (fault_status fault ≡ 3)
+fault_statuses (faults.Stage fault) = inr refl
+fault_statuses fault = inl refl

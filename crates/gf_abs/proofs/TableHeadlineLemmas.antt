@@ -26,7 +26,7 @@ use Rattle.gf_abs.specs.Answer.{JobAnswer}
 use Rattle.gf_abs.specs.Headline.{AnswersAbstract}
 use Rattle.answer_core.specs.Printed.{AreHeld, HasOutput}
 use Rattle.answer_core.specs.Reply.{Reply, polynomial_line}
-use Rattle.gf_abs.specs.TableHeadline.{AnswersLift, AnswersTable, IsHeldSetting, PrintsLifted, PrintsTable}
+use Rattle.gf_abs.specs.TableHeadline.{AnswersLift, AnswersTable, IsHeldSetting, PrintsHeldLift, PrintsHeldTable, PrintsLifted}
 use Rattle.answer_core.specs.Abstraction.{taken_circuit}
 use Rattle.answer_tables.specs.Lift.{table_words}
 use Rattle.gf_abs.proofs.AnswerDetermined.{read_determined}
@@ -83,28 +83,24 @@ moved_table setting circuit job behind table is =
           (one.output xs e).0 (is.values xs e (input_from setting c job one xs input) (subst P (sym same_k) got));
     }
 
-pub table_prints : (files : Files) (words : List Word) (signature net : Word) (cycles : ℕ) (reply : Reply) (setting : SettingValue) (job : Circuit) → AnswersTable files words signature net cycles reply → AreHeld files signature net cycles setting job → PrintsTable job reply
-table_prints files words signature net cycles reply setting job is held =
+pub table_prints : (files : Files) (words : List Word) (signature net : Word) (cycles : ℕ) (reply : Reply) → AnswersTable files words signature net cycles reply → PrintsHeldTable files signature net cycles reply
+table_prints files words signature net cycles reply is =
     let found = held_table files words signature net cycles reply is in
-    let same = one_setting files signature net net cycles found.setting setting found.job job found.held held in
-    let P : SettingValue → Type 0 = λ s. AreHeld files signature net cycles s found.job in
-    let Q : Circuit → Type 0 = λ c. PrintsTable c reply in
-    subst Q (one_held files signature net cycles setting found.job job (subst P same found.held) held)
-    (record { table = found.table; outputs = moved_table found.setting found.circuit found.job found.behind found.table found.outputs; status = found.status; text = found.text })
+    record {
+      setting = found.setting;
+      job = found.job;
+      held = found.held;
+      printed = record { table = found.table; outputs = moved_table found.setting found.circuit found.job found.behind found.table found.outputs; status = found.status; text = found.text };
+    }
 
 -- ---- what `lift` prints
 
-record HeldLifted (files : Files) (signature file : Word) (reply : Reply) : Type 0 where
-  pub setting : SettingValue
-  pub held : IsHeldSetting files signature setting
-  pub lifted : PrintsLifted files setting file reply
-
-job_lifts : (files : Files) (signature file : Word) (reply : Reply) → JobAnswer (Some files) (Over signature (Lift file)) (Ok reply) → HeldLifted files signature file reply
+job_lifts : (files : Files) (signature file : Word) (reply : Reply) → JobAnswer (Some files) (Over signature (Lift file)) (Ok reply) → PrintsHeldLift files signature file reply
 job_lifts files signature file reply (signed, (text, read, is), (setting, are, (small, fits, (table, (bytes, read', taken), (ts, of, same))))) =
     record {
       setting = setting;
       held = record { bytes = text; read = read; is_setting = (signed, is, are) };
-      lifted = record { bytes = bytes; read = read'; table = table; is_table = taken; polynomial = ts; of_table = of; status = ap (λ (r : Reply). r.status) same; line = ap (λ (r : Reply). r.text) same };
+      printed = record { bytes = bytes; read = read'; table = table; is_table = taken; polynomial = ts; of_table = of; status = ap (λ (r : Reply). r.status) same; line = ap (λ (r : Reply). r.text) same };
     }
 
 -- one setting comes of a held signature
@@ -114,13 +110,18 @@ one_held_setting files signature s t a b =
     let P : List ℕ → Type 0 = λ bytes. SettingOf bytes (Ok s) in
     same_ok s t (setting_determined b.bytes (Ok s) (Ok t) (subst P text a.is_setting) b.is_setting)
 
-pub lift_prints : (files : Files) (words : List Word) (signature file : Word) (reply : Reply) (setting : SettingValue) → AnswersLift files words signature file reply → IsHeldSetting files signature setting → PrintsLifted files setting file reply
-lift_prints files words signature file reply setting is held =
+pub lift_prints : (files : Files) (words : List Word) (signature file : Word) (reply : Reply) → AnswersLift files words signature file reply → PrintsHeldLift files signature file reply
+lift_prints files words signature file reply is =
     let P : Job → Type 0 = λ job. JobAnswer (Some files) job (Ok reply) in
     let answer = is.answer in
-    let found = job_lifts files signature file reply (subst P (one_job words answer.0 (Over signature (Lift file)) answer.1 is.spelled) answer.2) in
+    job_lifts files signature file reply (subst P (one_job words answer.0 (Over signature (Lift file)) answer.1 is.spelled) answer.2)
+
+-- what it prints is of this setting
+lifted_for : (files : Files) (words : List Word) (signature file : Word) (reply : Reply) (setting : SettingValue) → AnswersLift files words signature file reply → IsHeldSetting files signature setting → PrintsLifted files setting file reply
+lifted_for files words signature file reply setting is held =
+    let found = lift_prints files words signature file reply is in
     let Q : SettingValue → Type 0 = λ s. PrintsLifted files s file reply in
-    subst Q (one_held_setting files signature found.setting setting found.held held) found.lifted
+    subst Q (one_held_setting files signature found.setting setting found.held held) found.printed
 
 -- ---- the table of a netlist, lifted
 
@@ -155,7 +156,7 @@ same_bytes files files' words words' words'' signature signature' net file cycle
     let same = one_setting files signature net net cycles found.setting setting found.job job found.held held in
     let H : SettingValue → Type 0 = λ s. AreHeld files signature net cycles s found.job in
     let job_same : found.job ≡ job = one_held files signature net cycles setting found.job job (subst H same found.held) held in
-    let l : PrintsLifted files' setting file lifted = lift_prints files' words'' signature' file lifted setting lifts held' in
+    let l : PrintsLifted files' setting file lifted = lifted_for files' words'' signature' file lifted setting lifts held' in
     let bytes : l.bytes ≡ tabled.text = same_ok l.bytes tabled.text (read_determined files' file (Ok l.bytes) (Ok tabled.text) l.read read) in
     let O : SettingValue → Type 0 = λ s. (c : Circuit) → found.job ≡ c → HasOutput s c l.polynomial in
     let T : SettingValue → Type 0 = λ s. TableOutcome s.k (2 ^ (s.k * table_words s)) l.bytes (Ok l.table) in

@@ -1,6 +1,6 @@
 -- What the answers of `certify`, `verify` and `upgrade` say of the job in the files. Source: Pruss, Kalla, Enescu, Word-Level
 -- Abstraction from Bit-Level Circuits Using Gröbner Bases, DAC 2014; certificates are this project's own.
-use Rattle.std.specs.Prelude.{◌≡◌, ◌≢◌, ℕ, List, [], ◌++◌, codes, length, Some, Ok}
+use Rattle.std.specs.Prelude.{◌≡◌, ◌≢◌, ℕ, ◌*◌, ◌≤◌, List, [], ◌++◌, codes, length, Some, Ok}
 use Rattle.std.specs.Fmt.{decimal}
 use Rattle.job_io.specs.Shelf.{Files}
 use Rattle.gf_basis.specs.declared.bases.Basis.{Basis}
@@ -18,7 +18,7 @@ use Rattle.job_input.specs.SettingOf.{SettingOf}
 use Rattle.job_input.specs.SettingValue.{SettingValue}
 use Rattle.gf_abs.specs.Answer.{Answer}
 use Rattle.answer_certificates.specs.Certificates.{HaveDuals, certificate_labels}
-use Rattle.answer_core.specs.Printed.{HasOutput, IsInItsWords}
+use Rattle.answer_core.specs.Printed.{AreHeld, HasOutput, IsInItsWords}
 use Rattle.answer_core.specs.Reply.{Reply, polynomial_line}
 
 -- to the words `certify SIGNATURE NET` over the held files the program answers with this reply, over so many cycles after the
@@ -44,6 +44,13 @@ pub record PrintsProof (setting : SettingValue) (job : Circuit) (reply : Reply) 
   pub text : reply.text ≡ codes "valid\n" ++ polynomial_line setting claim
   pub in_words : IsInItsWords setting job claim
   pub values : HasOutput setting job claim
+
+-- the held files give a job, and the reply is `valid` and the line of a claim that is its output
+pub record PrintsHeldProof (files : Files) (signature net : Word) (cycles : ℕ) (reply : Reply) : Type 0 where
+  pub setting : SettingValue
+  pub job : Circuit
+  pub held : AreHeld files signature net cycles setting job
+  pub printed : PrintsProof setting job reply
 
 -- both hold the same bytes of a signature and of a netlist, under the same names
 pub record HoldOneJob (files others : Files) (signature net : Word) : Type 0 where
@@ -101,3 +108,22 @@ pub record HoldTermsLeft (files : Files) (signature net certificate : Word) (bou
   pub sum : Terms
   pub is : HoldLastSum files signature net certificate bound cycles sum
   pub some : sum ≢ []
+
+-- the certificate in the held files has a last running sum with terms, and the reply says how many
+pub record PrintsTermsLeft (files : Files) (signature net certificate : Word) (bound cycles : ℕ) (reply : Reply) : Type 0 where
+  pub sum : Terms
+  pub is : HoldLastSum files signature net certificate bound cycles sum
+  pub some : sum ≢ []
+  pub says : reply ≡ terms_left sum
+
+-- wherever the reply's text is held as a certificate of the same signature and netlist, `verify` answers `valid` under each bound
+-- that is at least four times this one
+abbrev pub IsAcceptedAgain : (files : Files) (signature net : Word) (bound cycles : ℕ) → Reply → Type 0
+IsAcceptedAgain files signature net bound cycles reply =
+    (others : Files) (more : List Word) (certificate : Word) (most : ℕ) → HoldOneJob files others signature net → Read (Some others) certificate (Ok reply.text) → 4 * bound ≤ most → IsSpelled more (Over signature (Verify net certificate most cycles)) → IsAccepted others more
+
+-- wherever the reply's text is held as a certificate of the same signature and netlist, `verify` has the reply for it that it has
+-- for the certificate of this name, where it has both
+abbrev pub HasTheSameReply : (files : Files) (signature net certificate : Word) (cycles : ℕ) → Reply → Type 0
+HasTheSameReply files signature net certificate cycles reply =
+    (others : Files) (before after : List Word) (upgraded : Word) (first second : Reply) → HoldOneJob files others signature net → Read (Some others) upgraded (Ok reply.text) → AnswersVerify files before signature net certificate cycles first → AnswersVerify others after signature net upgraded cycles second → first ≡ second

@@ -1,5 +1,5 @@
 -- What the answers of `check` say of the job and the specification in the files. Source: this project's own.
-use Rattle.std.specs.Prelude.{◌≡◌, ℕ, List, ◌++◌, codes, Some, Ok}
+use Rattle.std.specs.Prelude.{◌≡◌, ◌↔◌, ℕ, List, ◌++◌, codes, Some, Ok}
 use Rattle.job_io.specs.Shelf.{Files}
 use Rattle.poly_mixed.specs.Polynomial.{Terms}
 use Rattle.circuit_model.specs.Circuit.{Circuit}
@@ -15,7 +15,7 @@ use Rattle.gf_abs.specs.Answer.{Answer}
 use Rattle.answer_core.specs.DifferingLines.{differing_lines}
 use Rattle.answer_core.specs.Printed.{AreHeld, IsInItsWords, HasOutput}
 use Rattle.answer_core.specs.Reply.{Reply, polynomial_line}
-use Rattle.answer_core.specs.Judged.{IsSpecified}
+use Rattle.answer_core.specs.Judged.{Computes, IsSpecified}
 
 -- to the words `check SIGNATURE NET SPECIFICATION` over the held files the program answers with this reply, over so many cycles after
 -- the first
@@ -45,3 +45,28 @@ pub record PrintsRejection (setting : SettingValue) (job : Circuit) (spec : Spec
   pub in_words : IsInItsWords setting job polynomial
   pub values : HasOutput setting job polynomial
   pub differing : IsDifferingInput job (IsOut job) (IsSpecified setting job spec) found.input found.left found.right
+
+-- the held files give a job and a specification, and the status is 0 exactly if the job computes it
+pub record ChecksHeld (files : Files) (signature net specification : Word) (cycles : ℕ) (reply : Reply) : Type 0 where
+  pub setting : SettingValue
+  pub job : Circuit
+  pub spec : SpecTerms
+  pub held : AreHeldWith files signature net specification cycles setting job spec
+  pub equal : reply.status ≡ 0 ↔ Computes setting job spec
+
+-- the held files give a job that computes their specification, and the reply prints that it is accepted, with its polynomial
+pub record PrintsHeldAcceptance (files : Files) (signature net specification : Word) (cycles : ℕ) (reply : Reply) : Type 0 where
+  pub setting : SettingValue
+  pub job : Circuit
+  pub spec : SpecTerms
+  pub held : AreHeldWith files signature net specification cycles setting job spec
+  pub computes : Computes setting job spec
+  pub printed : PrintsAcceptance setting job reply
+
+-- the held files give a job, and the reply prints its polynomial and the input at which it is not their specification
+pub record PrintsHeldRejection (files : Files) (signature net specification : Word) (cycles : ℕ) (reply : Reply) : Type 0 where
+  pub setting : SettingValue
+  pub job : Circuit
+  pub spec : SpecTerms
+  pub held : AreHeldWith files signature net specification cycles setting job spec
+  pub printed : PrintsRejection setting job spec reply

@@ -7,6 +7,7 @@ use Rattle.job_words.specs.Command.{Eval, Over, IsSpelled}
 use Rattle.job_words.specs.Operands.{Word}
 use Rattle.job_input.specs.SettingValue.{SettingValue}
 use Rattle.gf_abs.specs.Answer.{Answer}
+use Rattle.answer_core.specs.Printed.{AreHeld}
 use Rattle.answer_core.specs.Reply.{Reply}
 use Rattle.answer_polynomials.specs.Values.{ValuesOf}
 use Rattle.answer_polynomials.specs.Eval.{element_line}
@@ -24,3 +25,10 @@ pub record PrintsElement (setting : SettingValue) (job : Circuit) (values : List
   pub is_out : IsOut job input output
   pub status : reply.status ≡ 0
   pub line : reply.text ≡ element_line setting output
+
+-- the held files give a job, and the reply is the line of its output at the values
+pub record PrintsHeldElement (files : Files) (signature net : Word) (values : List Word) (cycles : ℕ) (reply : Reply) : Type 0 where
+  pub setting : SettingValue
+  pub job : Circuit
+  pub held : AreHeld files signature net cycles setting job
+  pub printed : PrintsElement setting job values reply

@@ -9,3 +9,5 @@ pub mod IsoHeadline
 pub mod MakeHeadline
 pub mod TrialHeadline
 pub mod CertificateHeadline
+pub mod Refusals
+pub mod RunHeadline

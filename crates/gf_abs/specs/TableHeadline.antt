@@ -13,6 +13,7 @@ use Rattle.job_input.specs.File.{Read}
 use Rattle.job_input.specs.SettingOf.{SettingOf}
 use Rattle.job_input.specs.SettingValue.{SettingValue}
 use Rattle.gf_abs.specs.Answer.{Answer}
+use Rattle.answer_core.specs.Printed.{AreHeld}
 use Rattle.answer_core.specs.Reply.{Reply, polynomial_line}
 use Rattle.answer_tables.specs.Lift.{table_words}
 
@@ -49,3 +50,16 @@ pub record PrintsLifted (files : Files) (setting : SettingValue) (file : Word) (
   pub of_table : IsPolynomialOfTable setting.k setting.product (table_words setting) table polynomial
   pub status : reply.status ≡ 0
   pub line : reply.text ≡ polynomial_line setting polynomial
+
+-- the held files give a job, and the reply is the text of its table
+pub record PrintsHeldTable (files : Files) (signature net : Word) (cycles : ℕ) (reply : Reply) : Type 0 where
+  pub setting : SettingValue
+  pub job : Circuit
+  pub held : AreHeld files signature net cycles setting job
+  pub printed : PrintsTable job reply
+
+-- the held file of the signature gives a setting, for whose words the other is a table, and the reply is the line of its polynomial
+pub record PrintsHeldLift (files : Files) (signature file : Word) (reply : Reply) : Type 0 where
+  pub setting : SettingValue
+  pub held : IsHeldSetting files signature setting
+  pub printed : PrintsLifted files setting file reply

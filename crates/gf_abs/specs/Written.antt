@@ -26,3 +26,9 @@ WritesPart answer missed failed old new =
 abbrev pub IsWritten : Result Reply Fault → ℕ → Option (List ℕ) → Option (List ℕ) → Type 0
 IsWritten (Ok reply) status old new = (status ≡ reply.status) × Appends old new reply.text
 IsWritten (Err fault) status old new = (status ≡ fault_status fault) × Appends old new (fault_line fault)
+
+-- a reply of which this is said was written whole
+pub record IsAppended (Says : Reply → Type 0) (old new : Option (List ℕ)) : Type 0 where
+  pub reply : Reply
+  pub says : Says reply
+  pub appended : Appends old new reply.text

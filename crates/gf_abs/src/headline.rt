@@ -1,40 +1,45 @@
 //! What the program's answers say, for all words and held files. These functions do nothing: their contracts are proved of
 //! the definitions alone. `run` says that what it wrote is the answer.
-ghost use Rattle.std.specs.Prelude.{◌≡◌, ◌≢◌, ◌⊎◌, ◌↔◌, ◌≤◌, ◌*◌, [], codes, ℕ, List, Option, Some, Ok, Err};
+ghost use Rattle.std.specs.Prelude.{◌≡◌, ◌≢◌, ◌⊎◌, ◌↔◌, ◌≤◌, ◌<◌, ◌*◌, ◌^◌, [], codes, ℕ, List, Option, Some, Ok, Err};
 ghost use Rattle.outcome.specs.Outcome.{Determined};
 ghost use Rattle.job_io.specs.Shelf.{Files};
 ghost use Rattle.net_words.specs.Binding.{BoundNet};
 ghost use Rattle.poly_mixed.specs.Polynomial.{Terms};
-ghost use Rattle.circuit_model.specs.Circuit.{Circuit};
+ghost use Rattle.circuit_model.specs.Circuit.{Circuit, IsInput};
+ghost use Rattle.circuit_model.specs.Job.{IsJob};
+ghost use Rattle.circuit_model.specs.Out.{IsOut};
 ghost use Rattle.circuit_model.specs.WellFormed.{IsWellFormed};
 ghost use Rattle.job_input.specs.File.{Read};
-ghost use Rattle.job_words.specs.Command.{Over, Verify, IsSpelled};
+ghost use Rattle.job_words.specs.Command.{Over, Trial, Verify, IsSpelled};
 ghost use Rattle.job_words.specs.Fault.{fault_line, fault_status};
 ghost use Rattle.job_words.specs.OneLine.{IsOneLine};
 ghost use Rattle.job_words.specs.Operands.{Word};
 ghost use Rattle.job_words.specs.declared.fault.Fault.{Fault};
 ghost use Rattle.job_words.specs.declared.kind.Kind.{Kind};
 ghost use Rattle.job_input.specs.SettingValue.{SettingValue};
-ghost use Rattle.spec_expand.specs.Specification.{SpecTerms};
 ghost use Rattle.gf_abs.specs.Answer.{Answer};
-ghost use Rattle.gf_abs.specs.CertificateHeadline.{AnswersCertify, AnswersUpgrade, AnswersVerify, HoldLastSum, HoldOneJob, HoldTermsLeft, IsAccepted, IsRejected, PrintsProof, terms_left};
-ghost use Rattle.answer_core.specs.Judged.{Computes};
-ghost use Rattle.gf_abs.specs.CheckHeadline.{AnswersCheck, AreHeldWith, PrintsAcceptance, PrintsRejection};
+ghost use Rattle.gf_abs.specs.CertificateHeadline.{AnswersCertify, AnswersUpgrade, AnswersVerify, HoldLastSum, HoldOneJob, HoldTermsLeft, IsAccepted, IsRejected, PrintsHeldProof, terms_left};
+ghost use Rattle.gf_abs.specs.CheckHeadline.{AnswersCheck, ChecksHeld, PrintsHeldAcceptance, PrintsHeldRejection};
 ghost use Rattle.gf_abs.specs.ComposeHeadline.{AnswersCompose};
-ghost use Rattle.gf_abs.specs.EvalHeadline.{AnswersEval, PrintsElement};
-ghost use Rattle.gf_abs.specs.Headline.{AnswersBits, AnswersAbstract, AnswersSame};
-ghost use Rattle.answer_core.specs.Printed.{IsTaken, AreHeld, PrintsHeld, PrintsHeldInBits, PrintsDifference, IsInItsBits, IsInItsWords, HasOutput, HasOutputInBits, AreOneFunction};
+ghost use Rattle.gf_abs.specs.EvalHeadline.{AnswersEval, PrintsHeldElement};
+ghost use Rattle.gf_abs.specs.Headline.{AnswersBits, AnswersAbstract, AnswersSame, ComparesHeld, PrintsHeldDifference};
+ghost use Rattle.answer_core.specs.Printed.{IsTaken, AreHeld, PrintsHeld, PrintsHeldInBits, IsInItsBits, IsInItsWords, HasOutput, HasOutputInBits, AreOneFunction};
 ghost use Rattle.gf_abs.specs.IsoHeadline.{AnswersIso, PrintsImages};
 ghost use Rattle.gf_abs.specs.MakeHeadline.{AnswersMake};
 ghost use Rattle.answer_makers.specs.Made.{HoldKind, HoldMade};
 ghost use Rattle.answer_core.specs.Reply.{Reply, polynomial_line};
-ghost use Rattle.gf_abs.specs.TableHeadline.{AnswersLift, AnswersTable, IsHeldSetting, PrintsLifted, PrintsTable};
+ghost use Rattle.gf_abs.specs.TableHeadline.{AnswersLift, AnswersTable, IsHeldSetting, PrintsHeldLift, PrintsHeldTable};
 ghost use Rattle.gf_abs.specs.TrialHeadline.{AnswersTrial, IsTrialFault, PrintsTrial, RefusesTrial};
 ghost use Rattle.answer_core.specs.Abstraction.{taken_circuit};
 
 /// Where the shelf tells what it holds, at most one answer or fault comes of the words.
 pub fn one_answer_or_fault()
     ensures { (words : List Word) (files : Files) → Determined (Answer words (Some files)) }
+{}
+
+/// At most one answer or fault comes of a trial, which reads no file, whatever the shelf tells.
+pub fn one_answer_to_a_trial()
+    ensures { (words : List Word) (held : Option Files) (number modulus bound : ℕ) → IsSpelled words (Trial number modulus bound) → Determined (Answer words held) }
 {}
 
 /// A reply has status 0 or 1. A fault, which has status 2 or 3, is one line: its text ends with its only line feed, whatever
@@ -49,6 +54,16 @@ pub fn each_fault_is_one_line()
 /// at each input.
 pub fn each_taken_circuit_is_well_formed()
     ensures { (setting : SettingValue) (circuit : BoundNet) → IsTaken setting circuit → IsWellFormed (taken_circuit setting circuit) }
+{}
+
+/// The held files of a signature and a netlist give one setting and one job at most. It is a job: a field, a sound net with words
+/// bound to it, and a basis for each word. So it has exactly one output at each input, which is an element of the field: "the
+/// output" of the laws that follow.
+pub fn held_files_give_one_job()
+    ensures job { (files : Files) (signature net : Word) (cycles : ℕ) (setting : SettingValue) (job : Circuit) → AreHeld files signature net cycles setting job → IsJob job }
+    ensures one { (files : Files) (signature net : Word) (cycles : ℕ) (setting other : SettingValue) (job second : Circuit) → AreHeld files signature net cycles setting job → AreHeld files signature net cycles other second → (setting ≡ other) × (job ≡ second) }
+    ensures output { (files : Files) (signature net : Word) (cycles : ℕ) (setting : SettingValue) (job : Circuit) (xs : List ℕ) → AreHeld files signature net cycles setting job → IsInput job xs → (e : ℕ) × IsOut job xs e × (e < 2 ^ job.k) }
+    ensures one_output { (files : Files) (signature net : Word) (cycles : ℕ) (setting : SettingValue) (job : Circuit) (xs : List ℕ) (e other : ℕ) → AreHeld files signature net cycles setting job → IsOut job xs e → IsOut job xs other → e ≡ other }
 {}
 
 /// What `abstract` prints is the polynomial of the output of the job in the files, over the cycles of the words: it is reduced, no bit and no other word
@@ -87,53 +102,53 @@ pub fn equal_bytes_exactly_if_equal_functions()
     ensures { (files files' : Files) (words words' : List Word) (signature signature' net net' : Word) (cycles cycles' : ℕ) (reply reply' : Reply) (setting : SettingValue) (job other : Circuit) → AnswersAbstract files words signature net cycles reply → AnswersAbstract files' words' signature' net' cycles' reply' → AreHeld files signature net cycles setting job → AreHeld files' signature' net' cycles' setting other → reply.text ≡ reply'.text ↔ AreOneFunction job other }
 {}
 
-/// `same` prints that two netlists are one function, with status 0, exactly if their outputs are equal at every input;
-/// otherwise it answers with status 1, where it gives a reply at all.
+/// `same` prints that two netlists are one function, with status 0, exactly if the outputs of the two jobs in the files are
+/// equal at every input; otherwise it answers with status 1, where it gives a reply at all.
 pub fn same_exactly_if_equal_functions()
     ensures status { (files : Files) (words : List Word) (signature net other : Word) (cycles : ℕ) (reply : Reply) → AnswersSame files words signature net other cycles reply → (reply.status ≡ 0) ⊎ (reply.status ≡ 1) }
-    ensures equal { (files : Files) (words : List Word) (signature net other : Word) (cycles : ℕ) (reply : Reply) (setting : SettingValue) (job second : Circuit) → AnswersSame files words signature net other cycles reply → AreHeld files signature net cycles setting job → AreHeld files signature other cycles setting second → reply.status ≡ 0 ↔ AreOneFunction job second }
+    ensures equal { (files : Files) (words : List Word) (signature net other : Word) (cycles : ℕ) (reply : Reply) → AnswersSame files words signature net other cycles reply → ComparesHeld files signature net other cycles reply }
     ensures text { (files : Files) (words : List Word) (signature net other : Word) (cycles : ℕ) (reply : Reply) → AnswersSame files words signature net other cycles reply → reply.status ≡ 0 → reply.text ≡ codes "same\n" }
 {}
 
-/// With status 1 `same` prints an input at which the two outputs differ, and these outputs. Of all inputs where they differ it is
+/// With status 1 `same` prints an input at which the outputs of the two jobs in the files differ, and these outputs. Of all inputs where they differ it is
 /// the one with the fewest bits that are 1, and among several the one whose rising list of ranks is lexicographically first.
 pub fn same_prints_the_differing_input()
-    ensures { (files : Files) (words : List Word) (signature net other : Word) (cycles : ℕ) (reply : Reply) (setting : SettingValue) (job second : Circuit) → AnswersSame files words signature net other cycles reply → AreHeld files signature net cycles setting job → AreHeld files signature other cycles setting second → reply.status ≡ 1 → PrintsDifference setting job second reply }
+    ensures { (files : Files) (words : List Word) (signature net other : Word) (cycles : ℕ) (reply : Reply) → AnswersSame files words signature net other cycles reply → reply.status ≡ 1 → PrintsHeldDifference files signature net other cycles reply }
 {}
 
-/// `check` answers with status 0 exactly if the output is the specification's value at every input; otherwise it answers with
-/// status 1, where it gives a reply at all.
+/// `check` answers with status 0 exactly if the output of the job in the files is the value of their specification at every input;
+/// otherwise it answers with status 1, where it gives a reply at all.
 pub fn check_accepts_exactly_if_equal()
     ensures status { (files : Files) (words : List Word) (signature net specification : Word) (cycles : ℕ) (reply : Reply) → AnswersCheck files words signature net specification cycles reply → (reply.status ≡ 0) ⊎ (reply.status ≡ 1) }
-    ensures equal { (files : Files) (words : List Word) (signature net specification : Word) (cycles : ℕ) (reply : Reply) (setting : SettingValue) (job : Circuit) (spec : SpecTerms) → AnswersCheck files words signature net specification cycles reply → AreHeldWith files signature net specification cycles setting job spec → reply.status ≡ 0 ↔ Computes setting job spec }
+    ensures equal { (files : Files) (words : List Word) (signature net specification : Word) (cycles : ℕ) (reply : Reply) → AnswersCheck files words signature net specification cycles reply → ChecksHeld files signature net specification cycles reply }
 {}
 
 /// With status 0 `check` prints that the netlist is accepted, and then the polynomial of its output in words.
 pub fn check_prints_the_output()
-    ensures { (files : Files) (words : List Word) (signature net specification : Word) (cycles : ℕ) (reply : Reply) (setting : SettingValue) (job : Circuit) (spec : SpecTerms) → AnswersCheck files words signature net specification cycles reply → AreHeldWith files signature net specification cycles setting job spec → reply.status ≡ 0 → PrintsAcceptance setting job reply }
+    ensures { (files : Files) (words : List Word) (signature net specification : Word) (cycles : ℕ) (reply : Reply) → AnswersCheck files words signature net specification cycles reply → reply.status ≡ 0 → PrintsHeldAcceptance files signature net specification cycles reply }
 {}
 
 /// With status 1 `check` prints that the netlist is rejected, the polynomial of its output in words, and an input at which the
 /// output is not the specification's value, with both. Of all such inputs it is the one with the fewest bits that are 1, and
 /// among several the one whose rising list of ranks is lexicographically first.
 pub fn check_prints_the_differing_input()
-    ensures { (files : Files) (words : List Word) (signature net specification : Word) (cycles : ℕ) (reply : Reply) (setting : SettingValue) (job : Circuit) (spec : SpecTerms) → AnswersCheck files words signature net specification cycles reply → AreHeldWith files signature net specification cycles setting job spec → reply.status ≡ 1 → PrintsRejection setting job spec reply }
+    ensures { (files : Files) (words : List Word) (signature net specification : Word) (cycles : ℕ) (reply : Reply) → AnswersCheck files words signature net specification cycles reply → reply.status ≡ 1 → PrintsHeldRejection files signature net specification cycles reply }
 {}
 
-/// `eval` prints, with status 0, the output's element at the values, which are elements of the field, one for each input,
+/// `eval` prints, with status 0, the element of the output of the job in the files at the values, which are elements of the field, one for each input,
 /// state and fed word.
 pub fn eval_prints_the_output()
-    ensures { (files : Files) (words : List Word) (signature net : Word) (values : List Word) (cycles : ℕ) (reply : Reply) (setting : SettingValue) (job : Circuit) → AnswersEval files words signature net values cycles reply → AreHeld files signature net cycles setting job → PrintsElement setting job values reply }
+    ensures { (files : Files) (words : List Word) (signature net : Word) (values : List Word) (cycles : ℕ) (reply : Reply) → AnswersEval files words signature net values cycles reply → PrintsHeldElement files signature net values cycles reply }
 {}
 
-/// `table` prints the table of the output: a row for each input, with the output there.
+/// `table` prints the table of the output of the job in the files: a row for each input, with the output there.
 pub fn table_prints_the_outputs()
-    ensures { (files : Files) (words : List Word) (signature net : Word) (cycles : ℕ) (reply : Reply) (setting : SettingValue) (job : Circuit) → AnswersTable files words signature net cycles reply → AreHeld files signature net cycles setting job → PrintsTable job reply }
+    ensures { (files : Files) (words : List Word) (signature net : Word) (cycles : ℕ) (reply : Reply) → AnswersTable files words signature net cycles reply → PrintsHeldTable files signature net cycles reply }
 {}
 
 /// `lift` prints the one reduced polynomial of the function of the table in its file.
 pub fn lift_prints_the_polynomial()
-    ensures { (files : Files) (words : List Word) (signature table : Word) (reply : Reply) (setting : SettingValue) → AnswersLift files words signature table reply → IsHeldSetting files signature setting → PrintsLifted files setting table reply }
+    ensures { (files : Files) (words : List Word) (signature table : Word) (reply : Reply) → AnswersLift files words signature table reply → PrintsHeldLift files signature table reply }
 {}
 
 /// Where `lift` reads what `table` printed of a netlist, it prints the same bytes as `abstract` on the netlist, where both print.
@@ -152,7 +167,7 @@ pub fn iso_prints_the_images()
 /// of the job in the files: reduced, in the job's words alone, and at each point with the output word's element at the point's
 /// elements. So it is, whatever the text of the certificate.
 pub fn verify_proves_the_output()
-    ensures { (files : Files) (words : List Word) (signature net certificate : Word) (cycles : ℕ) (reply : Reply) (setting : SettingValue) (job : Circuit) → AnswersVerify files words signature net certificate cycles reply → AreHeld files signature net cycles setting job → reply.status ≡ 0 → PrintsProof setting job reply }
+    ensures { (files : Files) (words : List Word) (signature net certificate : Word) (cycles : ℕ) (reply : Reply) → AnswersVerify files words signature net certificate cycles reply → reply.status ≡ 0 → PrintsHeldProof files signature net cycles reply }
 {}
 
 /// `verify` answers with status 0 exactly if the certificate in the held files is read whole, no running sum of it has more terms

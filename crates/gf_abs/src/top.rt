@@ -1,25 +1,24 @@
-//! All that the program does.
-ghost use Rattle.std.specs.Prelude.{◌≡◌, ◌⊎◌, ◌≤◌, Some, map, string_bytes, IfOk, IsErrOf};
+//! The answer to the words, and its text written whole.
+ghost use Rattle.std.specs.Prelude.{◌≡◌, ◌⊎◌, ◌≤◌, map, string_bytes, IfOk, IsErrOf};
 ghost use Rattle.std.specs.Io.KnownBytes.{Keeps};
 ghost use Rattle.job_io.specs.Counts.{Rose};
-ghost use Rattle.job_io.specs.SureShelf.{sure_files, sure_misses};
 ghost use Rattle.job_words.specs.Command.{Over, action_of, spelled_job};
 ghost use Rattle.job_words.specs.Stop.{GivesBy};
 ghost use Rattle.job_input.specs.Setting.{setting_value, AreSaid, IsReady};
 ghost use Rattle.gf_abs.specs.Answer.{ActionAnswer, SignedAnswer, JobAnswer, Answer};
 ghost use Rattle.answer_core.specs.Reply.{reply_of};
-ghost use Rattle.gf_abs.specs.Written.{IsText, Writes, WritesPart, IsWritten};
+ghost use Rattle.gf_abs.specs.Written.{IsText, Writes, WritesPart};
 
 use answer_certificates::{certify, upgrade, verify};
 use answer_composition::compose;
 use answer_core::Output;
 use answer_makers::{make, trial};
-use answer_polynomials::{abstraction, bits, check, eval, same};
+use answer_polynomials::{abstracting, bits, check, eval, same};
 use answer_tables::{iso, lift, table};
 use gf_field::Field;
 use gf_tower::AnyField;
 use job_input::{Setting, Signed, read_signed, setting_over};
-use job_io::{Shelf, Sink, SureShelf, SureSink, put_all};
+use job_io::{Shelf, Sink, put_all};
 use job_words::{Command, Fault, Stop, Task, read_words, status_of, write_fault};
 use net_signature::Signature;
 use std::alloc::Global;
@@ -109,7 +108,7 @@ fn task_answer<F: Field, S: Shelf>(
 {
     match task {
         Task::Bits(words) => { bits::answer(alloc, field, setting, words, shelf) }
-        Task::Abstract(words) => { abstraction::answer(alloc, field, setting, words, shelf) }
+        Task::Abstract(words) => { abstracting::answer(alloc, field, setting, words, shelf) }
         Task::Check(words) => { check::answer(alloc, field, setting, words, shelf) }
         Task::Same(words) => { same::answer(alloc, field, setting, words, shelf) }
         Task::Eval(words) => { eval::answer(alloc, field, setting, words, shelf) }
@@ -145,25 +144,19 @@ fn status_and_text<S: Shelf>(
     }
 }
 
-/// All that the program does: the words after its name, the files that it may read, the output.
-/// The result is its status: 0 printed or yes, 1 no, 2 refused, 3 a stage passed the bound, 4 the outside failed, 5 out of memory.
-pub fn run<S: Shelf, K: Sink>(alloc: Global, words: &[String], shelf: &mut S, sink: &mut K) -> u8
-    // The whole of an answer is written, with its status, unless the outside or memory fails.
+// The answer is written whole, with its status, unless the outside or memory fails.
+pub fn write_answer<S: Shelf, K: Sink>(
+    alloc: Global,
+    words: &[String],
+    shelf: &mut S,
+    sink: &mut K,
+) -> u8
     ensures answers { (result ≡ 4) ⊎ (result ≡ 5) ⊎ Writes (Answer (map string_bytes words.now) (S.held shelf.old))
         (Rose (S.misses shelf.old) (S.misses shelf.new)) result (K.written sink.old) (K.written sink.new) }
-    // At 4 the shelf failed and nothing was written, or the sink failed and less than the whole was.
     ensures failed { result ≡ 4 → (Rose (S.faults shelf.old) (S.faults shelf.new) × Keeps (K.written sink.old) (K.written sink.new))
         ⊎ WritesPart (Answer (map string_bytes words.now) (S.held shelf.old)) (Rose (S.misses shelf.old) (S.misses shelf.new))
         (Rose (K.faults sink.old) (K.faults sink.new)) (K.written sink.old) (K.written sink.new) }
     ensures no_memory { result ≡ 5 → Keeps (K.written sink.old) (K.written sink.new) }
-
-    // Where the shelf tells what it holds, the answer or fault that comes of the words, of which there is one at most, was
-    // written whole, unless the outside or memory fails.
-    ensures complete { (files : _) (outcome : _) → S.held shelf.old ≡ Some files → Answer (map string_bytes words.now) (Some files) outcome
-        → (Rose (S.faults shelf.old) (S.faults shelf.new) → ⊥) → (Rose (K.faults sink.old) (K.faults sink.new) → ⊥)
-        → (result ≡ 5) ⊎ IsWritten outcome result (K.written sink.old) (K.written sink.new) }
-
-    // What the shelf holds is not changed, and counts never fall.
     ensures held { S.held shelf.new ≡ S.held shelf.old }
     ensures shelf_counts { (S.faults shelf.old ≤ S.faults shelf.new) × (S.misses shelf.old ≤ S.misses shelf.new) }
     ensures sink_counts { K.faults sink.old ≤ K.faults sink.new }
@@ -176,14 +169,4 @@ pub fn run<S: Shelf, K: Sink>(alloc: Global, words: &[String], shelf: &mut S, si
         Err(Stop::Outside) => 4,
         Err(_) => 5,
     }
-}
-
-/// The same over a shelf and a sink that never fail: the status is that of the answer, or out of memory.
-pub fn run_surely(alloc: Global, words: &[String], shelf: &mut SureShelf, sink: &mut SureSink) -> u8
-    ensures answers { (result ≡ 5) ⊎ ((text : _) × IsText (Answer (map string_bytes words.now) (Some (sure_files shelf.old)))
-        (Rose (sure_misses shelf.old) (sure_misses shelf.new)) result text) }
-    ensures held { sure_files shelf.new ≡ sure_files shelf.old }
-    ensures counts { sure_misses shelf.old ≤ sure_misses shelf.new }
-{
-    run(alloc, words, shelf, sink)
 }

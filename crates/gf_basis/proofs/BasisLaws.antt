@@ -1,5 +1,5 @@
 -- k independent elements are a basis, and a basis is independent; the dual basis, its bits and its linear forms.
-use Rattle.std.proofs.Common.{◌≡◌, ℕ, zero, suc, refl, sym, ◌∙◌, ap, ap₂, ◌<◌, ◌≤◌, ◌^◌, ◌%◌, arith, pow_pos, subst, List, length, get_or, take}
+use Rattle.std.proofs.Common.{◌≡◌, ℕ, sym, ◌∙◌, ap, ap₂, ◌<◌, ◌≤◌, ◌^◌, ◌%◌, arith, pow_pos, subst, List, length, get_or, take}
 use Rattle.std.specs.Prelude.{bit_xor, slice_index}
 use Rattle.std.specs.Int.{bit_at}
 use Rattle.std.specs.Int.Bits.{xor_self, xor_lt}
@@ -11,7 +11,6 @@ use Rattle.lists.specs.laws.XorLaws.{xor_same}
 use Rattle.gf_field.specs.Ring.{IsRing}
 use Rattle.gf_field.specs.Field.{HasNoZeroDivisors}
 use Rattle.gf_field.specs.Element.{AreElements}
-use Rattle.gf_field.specs.Polynomial.{sum_of_first}
 use Rattle.gf_field.specs.Trace.{trace, frobenius}
 use Rattle.gf_field.specs.laws.TraceLaws.{frobenius-mul, trace_is_sum}
 use Rattle.gf_field.specs.laws.PigeonholeLaws.{FoundAt}
@@ -25,6 +24,7 @@ use Rattle.gf_basis.specs.Dual.{AreDual, linear_value}
 use Rattle.gf_basis.specs.private.TraceWord.{trace_word}
 use Rattle.gf_basis.specs.private.Coordinates.{AreCoordinates}
 use Rattle.gf_basis.proofs.TraceWordLaws.{IsAdditive-trace_word, bit_at-trace_word, trace_word_unit, nondegenerate}
+use Rattle.gf_field.proofs.SharedLemmas.{same_sum}
 
 -- ---- independent lists of k elements are the bases
 only_bits : (bs : List ℕ) (x : ℕ) → IsIndependent bs → FoundAt (combination bs) (2 ^ length bs) x → HasOnlyBits bs x
@@ -114,15 +114,11 @@ module _ (k : ℕ) (mul : ℕ → ℕ → ℕ) (ring : IsRing k mul) (field : Ha
     -- the linear form of bit i
     pub linear_bit : (i x bits : ℕ) (coefficients : List ℕ) → i < k → ((j : ℕ) → j < k → slice_index coefficients j ≡ frobenius mul j (slice_index ds i)) → AreBits bs x bits → linear_value k mul coefficients x ≡ bit_at bits i
     linear_bit i x bits cs h powers a =
-        sums_same k (λ j. mul (slice_index cs j) (frobenius mul j x)) (λ j. frobenius mul j (mul (slice_index ds i) x))
+        same_sum k (λ j. mul (slice_index cs j) (frobenius mul j x)) (λ j. frobenius mul j (mul (slice_index ds i) x))
         (λ j l. ap (λ c. mul c (frobenius mul j x)) (powers j l) ∙ sym (frobenius-mul k mul ring j (slice_index ds i) x))
         ∙ sym (trace_is_sum mul k (mul (slice_index ds i) x))
         ∙ sym (bit_at-trace_word k mul ring field ds x i (rw (dual.size) h))
         ∙ ap (λ v. bit_at v i) (ap (trace_word mul k ds) (sym a.is) ∙ trace_word-bits bits a.short)
-      where
-        sums_same : (m : ℕ) (f g : ℕ → ℕ) → ((j : ℕ) → j < m → f j ≡ g j) → sum_of_first m f ≡ sum_of_first m g
-        sums_same zero f g e = refl
-        sums_same (suc m) f g e = ap₂ bit_xor (sums_same m f g (λ j l. e j (omega arith))) (e m (omega arith))
 
   -- the words of a dual
   dual_word : (bs ds : List ℕ) → length bs ≡ k → AreDual k mul bs ds → (i : ℕ) → i < k → trace_word mul k bs (get_or ds i 0) ≡ 2 ^ i

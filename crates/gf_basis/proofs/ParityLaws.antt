@@ -5,8 +5,8 @@ use Rattle.std.specs.Int.Bits.{xor_self, xor_shr, xor_mod, xor_zero_l, xor_zero_
 use Rattle.std.proofs.lemmas.Nat.{and_comm, shl_whole}
 use lib.Count.{ones, ones_step}
 use native.Mathlib.Nat.{mod-eq_of_lt}
-use Rattle.lists.specs.laws.NumberLaws.{bit_cases}
-use Rattle.lists.specs.laws.XorLaws.{xor_cross}
+use Rattle.lists.specs.laws.NumberLaws.{bit_cases, lowest_of, rest_of_bits}
+use Rattle.lists.specs.laws.XorLaws.{xor_cross, bit_times}
 use Rattle.gf_field.specs.Ring.{IsRing}
 use Rattle.gf_field.specs.Trace.{frobenius, trace}
 use Rattle.gf_field.specs.laws.RingLaws.{square-xor}
@@ -53,15 +53,6 @@ parity_comm v y = ap (λ n. count_ones n % 2) (and_comm v y)
 pub parity_below : (v y : ℕ) → parity v y < 2
 parity_below v y = omega arith
 
-bit_sum : (a b m : ℕ) → a < 2 → b < 2 → bit_xor a b * m ≡ bit_xor (a * m) (b * m)
-bit_sum a b m ha hb = elim (bit_cases a ha) [
-  | inl z ↦ rw (z, zero-mul) (ap (λ x. x * m) (xor_zero_l b) ∙ sym (xor_zero_l (b * m)))
-  | inr o ↦ elim (bit_cases b hb) [
-    | inl z ↦ rw (z, o) (sym (ap (bit_xor (1 * m)) (zero-mul m) ∙ xor_zero_r (1 * m)))
-    | inr e ↦ rw (e, o) (zero-mul m ∙ sym (xor_self (1 * m)))
-  ]
-]
-
 -- the parity of a sum, of numbers of n bits
 pub parity-xor : (n v a b : ℕ) → a < 2 ^ n → b < 2 ^ n → parity v (bit_xor a b) ≡ bit_xor (parity v a) (parity v b)
 parity-xor zero v a b ha hb =
@@ -70,7 +61,7 @@ parity-xor zero v a b ha hb =
     ∙ sym (ap₂ bit_xor (ap (parity v) a_is ∙ parity_none v) (ap (parity v) b_is ∙ parity_none v) ∙ xor_self 0)
 parity-xor (suc n) v a b ha hb =
     parity_cons v (bit_xor a b)
-    ∙ ap₂ bit_xor (ap (λ x. x * (v % 2)) (xor_mod a b 1) ∙ bit_sum (a % 2) (b % 2) (v % 2) (omega arith) (omega arith))
+    ∙ ap₂ bit_xor (ap (λ x. x * (v % 2)) (xor_mod a b 1) ∙ bit_times (a % 2) (b % 2) (v % 2) (omega arith) (omega arith))
     (ap (parity (v / 2)) (xor_shr a b 1) ∙ parity-xor n (v / 2) (a / 2) (b / 2) (omega (arith, pow-suc 2 n)) (omega (arith, pow-suc 2 n)))
     ∙ xor_cross (a % 2 * (v % 2)) (b % 2 * (v % 2)) (parity (v / 2) (a / 2)) (parity (v / 2) (b / 2))
     ∙ sym (ap₂ bit_xor (parity_cons v a) (parity_cons v b))
@@ -81,12 +72,6 @@ parity_times v b s h = elim (bit_cases b h) [
   | inr o ↦ ap (λ x. parity v (x * s)) o ∙ ap (parity v) (one-mul s) ∙ sym (ap (λ x. x * parity v s) o ∙ one-mul (parity v s))
 ]
 
-low_of : (w t : ℕ) → t < 2 → (w * 2 + t) % 2 ≡ t
-low_of w t h = omega arith
-
-high_of : (w t : ℕ) → t < 2 → (w * 2 + t) / 2 ≡ w
-high_of w t h = omega arith
-
 pub parity_word_below : (rows : List ℕ) (v : ℕ) → parity_word rows v < 2 ^ length rows
 parity_word_below [] v = omega arith
 parity_word_below (r ∷ rows) v = let h : parity_word rows v < 2 ^ length rows = parity_word_below rows v in let t : parity v r < 2 = parity_below v r in omega (arith, pow-suc 2 (length rows))
@@ -96,8 +81,8 @@ pub parity-parity_word : (n v : ℕ) (rows : List ℕ) (y : ℕ) → ((i : ℕ) 
 parity-parity_word n v [] y inside h = let none : y ≡ 0 = omega arith in ap (parity 0) none ∙ parity_none 0 ∙ sym (parity_none v)
 parity-parity_word n v (r ∷ rows) y inside h =
     parity_cons (parity_word rows v * 2 + parity v r) y
-    ∙ ap₂ bit_xor (ap (λ t. y % 2 * t) (low_of (parity_word rows v) (parity v r) (parity_below v r)) ∙ sym (parity_times v (y % 2) r (omega arith)))
-    (ap (λ w. parity w (y / 2)) (high_of (parity_word rows v) (parity v r) (parity_below v r)) ∙ parity-parity_word n v rows (y / 2) (λ i l. inside (suc i) (omega arith)) (omega (arith, pow-suc 2 (length rows))))
+    ∙ ap₂ bit_xor (ap (λ t. y % 2 * t) (lowest_of (parity_word rows v) (parity v r) (parity_below v r)) ∙ sym (parity_times v (y % 2) r (omega arith)))
+    (ap (λ w. parity w (y / 2)) (rest_of_bits (parity_word rows v) (parity v r) (parity_below v r)) ∙ parity-parity_word n v rows (y / 2) (λ i l. inside (suc i) (omega arith)) (omega (arith, pow-suc 2 (length rows))))
     ∙ sym (parity-xor n v (y % 2 * r) (combination rows (y / 2)) (first (y % 2) (omega arith)) (combination_below rows n (y / 2) (λ i l. inside (suc i) (omega arith))))
   where
     first : (b : ℕ) → b < 2 → b * r < 2 ^ n

@@ -1,5 +1,5 @@
 -- Traces as words, and that the matrix of traces is independent exactly where the elements are.
-use Rattle.std.proofs.Common.{◌≡◌, ◌≢◌, ℕ, zero, suc, refl, sym, ◌∙◌, ap, ap₂, ◌<◌, ◌≤◌, ◌^◌, ◌+◌, ◌*◌, ◌/◌, ◌%◌, inl, inr, arith, pow-suc, subst, List, [], ◌∷◌, length, get_or}
+use Rattle.std.proofs.Common.{◌≡◌, ◌≢◌, ℕ, zero, suc, refl, sym, ◌∙◌, ap, ap₂, ◌<◌, ◌≤◌, ◌^◌, ◌+◌, ◌*◌, ◌%◌, inl, inr, arith, pow-suc, subst, List, [], ◌∷◌, length, get_or}
 use Rattle.std.specs.Prelude.{bit_xor}
 use Rattle.std.specs.Int.{bit_at}
 use Rattle.std.specs.Int.Bits.{xor_self, xor_block}
@@ -7,6 +7,7 @@ use Rattle.std.proofs.lemmas.Bool.{cases_eq}
 use Rattle.std.proofs.lemmas.Nat.{pow_below}
 use Rattle.std.proofs.lemmas.Nat.Bits.{bit_at-pow_same, bit_at-pow_other, bit_at-zero, bit_at-suc, bit_at_lowest, same_from_bits_below}
 use native.Mathlib.Nat.{mod-eq_of_lt}
+use Rattle.lists.specs.laws.NumberLaws.{lowest_of, rest_of_bits}
 use Rattle.gf_field.specs.Ring.{IsRing}
 use Rattle.gf_field.specs.Field.{HasNoZeroDivisors}
 use Rattle.gf_field.specs.Element.{AreElements}
@@ -44,16 +45,10 @@ module _ (k : ℕ) (mul : ℕ → ℕ → ℕ) (ring : IsRing k mul) (field : Ha
 
   pub bit_at-trace_word : (bs : List ℕ) (x i : ℕ) → i < length bs → bit_at (trace_word mul k bs x) i ≡ trace mul k (mul (get_or bs i 0) x)
   bit_at-trace_word [] x i h = absurd (omega arith)
-  bit_at-trace_word (b ∷ bs) x zero h = bit_at_lowest (trace_word mul k bs x * 2 + trace mul k (mul b x)) ∙ low (trace_word mul k bs x) (trace mul k (mul b x)) (trace_small b x)
-    where
-      low : (p t : ℕ) → t < 2 → (p * 2 + t) % 2 ≡ t
-      low p t h = omega arith
+  bit_at-trace_word (b ∷ bs) x zero h = bit_at_lowest (trace_word mul k bs x * 2 + trace mul k (mul b x)) ∙ lowest_of (trace_word mul k bs x) (trace mul k (mul b x)) (trace_small b x)
   bit_at-trace_word (b ∷ bs) x (suc i) h =
       bit_at-suc (trace_word mul k bs x * 2 + trace mul k (mul b x)) i
-      ∙ ap (λ n. bit_at n i) (high (trace_word mul k bs x) (trace mul k (mul b x)) (trace_small b x)) ∙ bit_at-trace_word bs x i (omega arith)
-    where
-      high : (p t : ℕ) → t < 2 → (p * 2 + t) / 2 ≡ p
-      high p t h = omega arith
+      ∙ ap (λ n. bit_at n i) (rest_of_bits (trace_word mul k bs x) (trace mul k (mul b x)) (trace_small b x)) ∙ bit_at-trace_word bs x i (omega arith)
 
   -- where the traces are 1 at place j alone, the word is that bit
   pub trace_word_unit : (bs : List ℕ) (x j : ℕ) → j < length bs → trace mul k (mul (get_or bs j 0) x) ≡ 1 → ((i : ℕ) → i < length bs → i ≢ j → trace mul k (mul (get_or bs i 0) x) ≡ 0) → trace_word mul k bs x ≡ 2 ^ j

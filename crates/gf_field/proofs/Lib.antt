@@ -1,3 +1,4 @@
+pub mod SharedLemmas
 pub mod ShiftAndAddLaws
 pub mod PartLaws
 pub mod TableStepLemmas

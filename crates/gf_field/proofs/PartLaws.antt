@@ -3,9 +3,10 @@ use Rattle.std.proofs.Common.{◌≡◌, ℕ, zero, suc, refl, sym, ◌∙◌, a
 use Rattle.std.specs.Prelude.{bit_xor}
 use Rattle.std.specs.Int.Bits.{xor_assoc, xor_self, xor_zero_l, xor_zero_r, xor_mod}
 use Rattle.std.proofs.lemmas.Nat.{shl-shr, shr_split, shr_below, mod-pow-add}
-use Rattle.std.proofs.Math.Nat.{add-mul-div_right, add-mul-mod_self_right}
+use Rattle.std.proofs.Math.Nat.{add-mul-div_right, add-mul-mod_self_right, suc-add, zero-add, mul-one}
 use native.Mathlib.Nat.{mod-eq_of_lt, div-one}
 use Rattle.lists.specs.laws.NumberLaws.{bit_cases}
+use Rattle.lists.specs.laws.PowerLaws.{half_below_pow}
 use Rattle.gf_field.specs.Bit.{bit_mul}
 use Rattle.gf_field.specs.Modulus.{IsModulus}
 use Rattle.gf_field.specs.Polynomial.{IsProductModulo}
@@ -107,29 +108,20 @@ module _ (d g : ℕ) (ok : IsModulus d g) where
   pub part_longer : (m t u v : ℕ) → u < 2 ^ m → v < 2 ^ d → part d g (m + t) u v ≡ part d g m u v
   part_longer zero t u v hu hv = let none : u ≡ 0 = omega arith in rw (none) (part_zero (0 + t) v hv ∙ sym (part_zero 0 v hv))
   part_longer (suc m) t u v hu hv =
-      ap (λ x. part d g x u v) (moved m t)
+      ap (λ x. part d g x u v) (suc-add m t)
       ∙ part_suc d g (m + t) u v ok hv
-      ∙ ap (λ x. bit_xor (u % 2 * v) (times_x d g x)) (part_longer m t (u / 2) v (half m u hu) hv)
+      ∙ ap (λ x. bit_xor (u % 2 * v) (times_x d g x)) (part_longer m t (u / 2) v (half_below_pow m u hu) hv)
       ∙ sym (part_suc d g m u v ok hv)
-    where
-      moved : (m t : ℕ) → suc m + t ≡ suc (m + t)
-      moved m t = omega arith
-
-      half : (m u : ℕ) → u < 2 ^ suc m → u / 2 < 2 ^ m
-      half m u h = let less : u < 2 ^ m * 2 = rw (pow-suc) at h in omega arith
 
   -- the first j coefficients, and x^j times the others
   pub part_split : (j m u v : ℕ) → v < 2 ^ d → part d g (j + m) u v ≡ bit_xor (part d g j (u % 2 ^ j) v) (times_power d g j (part d g m (u / 2 ^ j) v))
   unfolding times_power
   part_split zero m u v h =
-      ap₂ (λ x y. part d g x y v) (same m) (sym (div-one u))
+      ap₂ (λ x y. part d g x y v) (zero-add m) (sym (div-one u))
       ∙ sym (xor_zero_l (part d g m (u / 1) v))
       ∙ ap (λ x. bit_xor x (part d g m (u / 1) v)) (sym (part_start d g (u % 1) v ok))
-    where
-      same : (m : ℕ) → 0 + m ≡ m
-      same m = omega arith
   part_split (suc j) m u v h =
-      ap (λ x. part d g x u v) (moved j m)
+      ap (λ x. part d g x u v) (suc-add j m)
       ∙ part_suc d g (j + m) u v ok h
       ∙ ap (λ x. bit_xor (u % 2 * v) x) (ap (times_x d g) (part_split j m (u / 2) v h) ∙ x-xor d g (part d g j (u / 2 % 2 ^ j) v) (times_power d g j (part d g m (u / 2 / 2 ^ j) v)) ok)
       ∙ sym (xor_assoc (u % 2 * v) (times_x d g (part d g j (u / 2 % 2 ^ j) v)) (times_x d g (times_power d g j (part d g m (u / 2 / 2 ^ j) v))))
@@ -137,9 +129,6 @@ module _ (d g : ℕ) (ok : IsModulus d g) where
       (ap₂ (λ x y. bit_xor (x * v) (times_x d g (part d g j y v))) (sym (lowest j u)) (sym (others j u)) ∙ sym (part_suc d g j (u % 2 ^ suc j) v ok h))
       (ap (λ x. times_x d g (times_power d g j (part d g m x v))) (shr-shr u 1 j ∙ ap (λ x. u / 2 ^ x) (one-add j)))
     where
-      moved : (j m : ℕ) → suc j + m ≡ suc (j + m)
-      moved j m = omega arith
-
       cut : (j u : ℕ) → u % 2 ^ suc j ≡ u % 2 + u / 2 % 2 ^ j * 2
       cut j u = cut_mod j u
 
@@ -153,11 +142,8 @@ module _ (d g : ℕ) (ok : IsModulus d g) where
   pub power_steps : (j a : ℕ) → a < 2 ^ d → times_power d g j a ≡ bit_xor (a * 2 ^ j % 2 ^ d) (part d g j (a * 2 ^ j / 2 ^ d) (g % 2 ^ d))
   unfolding times_power
   power_steps zero a h =
-      sym (ap (λ x. x % 2 ^ d) (times_one a) ∙ mod-eq_of_lt h)
+      sym (ap (λ x. x % 2 ^ d) (mul-one a) ∙ mod-eq_of_lt h)
       ∙ sym (xor_zero_r (a * 1 % 2 ^ d)) ∙ ap (bit_xor (a * 1 % 2 ^ d)) (sym (part_start d g (a * 1 / 2 ^ d) (g % 2 ^ d) ok))
-    where
-      times_one : (a : ℕ) → a * 1 ≡ a
-      times_one a = omega arith
   power_steps (suc j) a h =
       ap (times_x d g) (power_steps j a h)
       ∙ x-xor d g (a * 2 ^ j % 2 ^ d) (part d g j (a * 2 ^ j / 2 ^ d) (g % 2 ^ d)) ok

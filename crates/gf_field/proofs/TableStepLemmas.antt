@@ -7,9 +7,9 @@ use Rattle.std.specs.Int.Bits.{and_mask, xor_mod, xor_comm, xor_lt, xor_zero_l, 
 use Rattle.std.proofs.lemmas.Nat.{shl-shr, shr_below}
 use Rattle.std.proofs.lemmas.Nat.Bits.{ones_shr}
 use Rattle.std.proofs.lemmas.Bool.{cases_eq}
-use Rattle.std.proofs.Math.Pow.{mod-mod-pow}
 use native.Mathlib.Nat.{mod-eq_of_lt, div-one}
-use Rattle.lists.specs.laws.NumberLaws.{bit_cases}
+use Rattle.lists.specs.laws.NumberLaws.{bit_cases, suc_less_one}
+use Rattle.lists.specs.laws.PowerLaws.{masked, cut_twice}
 use Rattle.gf_field.specs.Bit.{bit_mul}
 use Rattle.gf_field.specs.Modulus.{IsModulus}
 use Rattle.gf_field.specs.Polynomial.{IsProductModulo}
@@ -28,10 +28,7 @@ below_64 d g a ok h = lt_of_lt_of_le h (pow_mono ok.small)
 
 -- ---- x times an element
 top_bit : (a e : ℕ) → bit_and (a / 2 ^ (suc e - 1)) 1 ≡ a / 2 ^ e % 2
-top_bit a e = ap (λ x. bit_and (a / 2 ^ x) 1) (less e) ∙ and_mask (a / 2 ^ e) 1
-  where
-    less : (e : ℕ) → suc e - 1 ≡ e
-    less e = omega arith
+top_bit a e = ap (λ x. bit_and (a / 2 ^ x) 1) (suc_less_one e) ∙ and_mask (a / 2 ^ e) 1
 
 pub x_then : (d g a : ℕ) → IsModulus d g → a < 2 ^ d → bit_and (a / 2 ^ (d - 1)) 1 ≡ 1 → bit_xor (a * 2 % 2 ^ 64) (bit_and g 18446744073709551615) ≡ times_x d g a
 x_then zero g a ok h is = absurd (omega (arith, ok.some))
@@ -103,17 +100,6 @@ pub are_multiples : (d g a : ℕ) (entries : List ℕ) → IsModulus d g → a <
 are_multiples d g a entries ok h are n l = rw (are n l) (part_product d g 4 n a ok l h)
 
 -- ---- x^4 times an element
-pub masked : (k x : ℕ) → k ≤ 64 → bit_and x (18446744073709551615 / 2 ^ (64 - k)) ≡ x % 2 ^ k
-masked k x h = ap (bit_and x) (ones_shr 64 (64 - k) (omega arith) ∙ ap (λ y. 2 ^ y - 1) (back k h)) ∙ and_mask x k
-  where
-    back : (k : ℕ) → k ≤ 64 → 64 - (64 - k) ≡ k
-    back k h = omega arith
-
-cut_twice : (k x : ℕ) → k ≤ 64 → x % 2 ^ 64 % 2 ^ k ≡ x % 2 ^ k
-cut_twice k x h = ap (λ y. x % 2 ^ y % 2 ^ k) (parts k h) ∙ mod-mod-pow x (64 - k) k
-  where
-    parts : (k : ℕ) → k ≤ 64 → 64 ≡ (64 - k) + k
-    parts k h = omega arith
 
 -- the four bits that leave the top
 left_bits : (d a : ℕ) → d ≤ 64 → a < 2 ^ d → a * 2 ^ (64 - d) % 2 ^ 64 / 2 ^ 60 ≡ a * 16 / 2 ^ d

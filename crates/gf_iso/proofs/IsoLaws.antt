@@ -1,11 +1,11 @@
 -- The matrices of the search, and the isomorphism that the two least roots make.
-use Rattle.std.proofs.Common.{◌≡◌, ℕ, zero, suc, refl, sym, ◌∙◌, ap, ap₂, ◌<◌, ◌≤◌, ◌^◌, ◌+◌, ◌-◌, ◌*◌, ◌/◌, ◌%◌, inl, inr, arith, subst, one-mul, zero-mul, pow-add, lt_of_lt_of_le, pow_mono, List, [], ◌∷◌, length, get_or}
+use Rattle.std.proofs.Common.{◌≡◌, ℕ, suc, refl, sym, ◌∙◌, ap, ap₂, ◌<◌, ◌≤◌, ◌^◌, ◌+◌, ◌-◌, ◌*◌, ◌/◌, ◌%◌, inl, inr, arith, subst, one-mul, zero-mul, pow-add, lt_of_lt_of_le, pow_mono, List, [], ◌∷◌, length, get_or}
 use Rattle.std.specs.Prelude.{bit_xor, None, Some, slice_index}
-use Rattle.std.specs.Int.Bits.{xor_self, xor_zero_l, xor_comm, xor_assoc}
+use Rattle.std.specs.Int.Bits.{xor_self, xor_zero_l}
 use Rattle.std.proofs.lemmas.Bool.{cases_lt}
 use Rattle.std.proofs.lemmas.Nat.{pow_below}
 use native.Mathlib.Nat.{mod-eq_of_lt}
-use Rattle.lists.specs.laws.NumberLaws.{bit_cases}
+use Rattle.lists.specs.laws.NumberLaws.{bit_cases, parted, self_plus_zero, below_twice}
 use Rattle.lists.specs.laws.XorLaws.{xor_same, xor_cross}
 use mathlib.Core.Path.{fun_ext}
 use Rattle.gf_field.specs.Ring.{IsRing}
@@ -19,6 +19,7 @@ use Rattle.gf_field.specs.laws.RingLaws.{zero_mul, square-xor}
 use Rattle.gf_field.specs.laws.PackingLaws.{coefficient_below, coefficient_zero, coefficient_suc}
 use Rattle.gf_field.specs.laws.PigeonholeLaws.{FoundAt}
 use Rattle.gf_field.specs.Trace.{frobenius}
+use Rattle.gf_field.specs.laws.ConvolutionLaws.{sum_of_first_open}
 use Rattle.gf_field.specs.laws.TraceLaws.{frobenius-xor}
 use Rattle.gf_tower.specs.FieldName.{tower_product}
 use Rattle.gf_tower.specs.Tower.{tower_polynomial}
@@ -34,20 +35,12 @@ use Rattle.gf_iso.proofs.CarriedLaws.{IsCarried}
 use Rattle.gf_iso.proofs.SubfieldLaws.{base_root_found, base_root_fixed}
 use Rattle.gf_iso.proofs.TowerImageLaws.{base_map, tower_map, base_same, digits_same, base_map_x, base_ring, tower_root_found, root_quadratic, tower_ring, tower_carried, tower_map_base, tower_map_high, tower_map_Y, tower_map_nonzero}
 
--- a sum of first values, the first taken apart
-sum_open : (m : ℕ) (f : ℕ → ℕ) → sum_of_first (suc m) f ≡ bit_xor (f 0) (sum_of_first m (rest f))
-sum_open zero f = turn (f 0)
-  where
-    turn : (a : ℕ) → bit_xor 0 a ≡ bit_xor a 0
-    turn a = xor_comm 0 a
-sum_open (suc m) f = ap (λ x. bit_xor x (f (suc m))) (sum_open m f) ∙ xor_assoc (f 0) (sum_of_first m (rest f)) (f (suc m))
-
 module _ (k : ℕ) (big : ℕ → ℕ → ℕ) (ring : IsRing k big) where
   -- a sum of rows by bits
   bits_combination : (rows : List ℕ) (h : ℕ → ℕ) (u : ℕ) → ((i : ℕ) → h i < 2 ^ k) → ((i : ℕ) → i < length rows → get_or rows i 0 ≡ h i) → sum_of_first (length rows) (λ i. big (coefficient 1 u i) (h i)) ≡ combination rows u
   bits_combination [] h u below at = refl
   bits_combination (r ∷ rs) h u below at =
-      sum_open (length rs) (λ i. big (coefficient 1 u i) (h i))
+      sum_of_first_open (length rs) (λ i. big (coefficient 1 u i) (h i))
       ∙ ap₂ bit_xor (ap₂ big (coefficient_zero 1 u) (sym (at 0 (omega arith))) ∙ bit_times (u % 2) (omega arith) (rw (at 0 (omega arith)) (below 0)))
       (ap (sum_of_first (length rs)) (fun_ext (λ i. ap (λ b. big b (h (suc i))) (coefficient_suc 1 u i))) ∙ bits_combination rs (rest h) (u / 2) (λ i. below (suc i)) (λ i l. at (suc i) (omega arith)))
     where
@@ -141,17 +134,11 @@ module _ (k : ℕ) (big : ℕ → ℕ → ℕ) (ring : IsRing k big) where
               ap (λ j. get_or rows j 0) (back i n h) ∙ high (i - n) below
               ∙ ap (big t) (sym (base_unit (i - n) below))
               ∙ sym (tower_map_high n g c0 c1 tower k big ring double s hs.element hs.root t ht.element ht.root (2 ^ (i - n)) (pow_below (i - n) n below))
-              ∙ ap (tower_map big n s t) (sym (ap (λ m. 2 ^ m) (turned i n h) ∙ pow-add 2 (i - n) n ∙ padded (2 ^ (i - n) * 2 ^ n)))
+              ∙ ap (tower_map big n s t) (sym (ap (λ m. 2 ^ m) (parted i n h) ∙ pow-add 2 (i - n) n ∙ self_plus_zero (2 ^ (i - n) * 2 ^ n)))
         ]
           where
             back : (i n : ℕ) → n ≤ i → i ≡ n + (i - n)
             back i n h = omega arith
-
-            turned : (i n : ℕ) → n ≤ i → i ≡ (i - n) + n
-            turned i n h = omega arith
-
-            padded : (p : ℕ) → p ≡ p + 0
-            padded p = omega arith
 
         additive : IsAdditive (tower_map big n s t)
         additive = record { sum = (tower_carried n g c0 c1 tower k big ring double s hs.element hs.root t ht.element ht.root).sum }
@@ -193,10 +180,7 @@ module _ (k : ℕ) (big : ℕ → ℕ → ℕ) (ring : IsRing k big) where
             there_x x p = there_base x (short x p) ∙ base_map_x k big ring s hs.element n g x tower.base hs.root p
 
             there_Y : combination rows (2 ^ n) ≡ t
-            there_Y = there_is (2 ^ n) (pow_below n (n * 2) (less n (base_ring n g c0 c1 tower).some)) ∙ tower_map_Y n g c0 c1 tower k big ring double s hs.element hs.root t ht.element ht.root
-              where
-                less : (n : ℕ) → 1 ≤ n → n < n * 2
-                less n h = omega arith
+            there_Y = there_is (2 ^ n) (pow_below n (n * 2) (below_twice n (base_ring n g c0 c1 tower).some)) ∙ tower_map_Y n g c0 c1 tower k big ring double s hs.element hs.root t ht.element ht.root
 
             digits : ◌≡◌ {A = ℕ → ℕ} (λ i. combination rows (coefficient n (tower_polynomial n (c0 ∷ c1 ∷ [])) i)) (λ i. base_image big n s (coefficient n (tower_polynomial n (c0 ∷ c1 ∷ [])) i))
             digits = fun_ext (λ i. there_base (coefficient n (tower_polynomial n (c0 ∷ c1 ∷ [])) i) (coefficient_below n (tower_polynomial n (c0 ∷ c1 ∷ [])) i)) ∙ digits_same big n s (tower_polynomial n (c0 ∷ c1 ∷ []))

@@ -1,6 +1,5 @@
 pub mod CarriedLaws
 pub mod RootLaws
-pub mod CodeLaws
 pub mod SubfieldLaws
 pub mod TowerImageLaws
 pub mod SearchLaws

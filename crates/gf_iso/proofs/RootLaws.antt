@@ -1,11 +1,12 @@
 -- The modulus of a field has a root in each field whose number of elements is a power of its own. For an element y and
 -- the class x, y ^ i is the value of x ^ i at y plus a multiple of the value of the modulus; at i = 2 ^ k both powers are
 -- the elements themselves, so that without a root the factor would be 0 everywhere.
-use Rattle.std.proofs.Common.{◌≡◌, ◌≢◌, ℕ, zero, suc, refl, sym, ◌∙◌, ap, ap₂, ◌<◌, ◌≤◌, ◌^◌, ◌+◌, ◌*◌, inl, inr, arith, pow_pos, subst, mul-suc, eq-or-lt_of_le, List, [], ◌∷◌, length}
+use Rattle.std.proofs.Common.{◌≡◌, ◌≢◌, ℕ, zero, suc, refl, sym, ◌∙◌, ap, ap₂, ◌<◌, ◌≤◌, ◌^◌, ◌+◌, ◌*◌, inl, inr, arith, pow_pos, subst, eq-or-lt_of_le, List, [], ◌∷◌, length}
 use Rattle.std.specs.Prelude.{bit_xor}
 use Rattle.std.specs.Int.Bits.{xor_self, xor_lt, xor_zero_l, xor_zero_r, xor_assoc}
 use Rattle.std.proofs.lemmas.Bool.{cases_eq}
 use Rattle.std.proofs.lemmas.Nat.{pow_below, shr_high, mod_low}
+use Rattle.lists.specs.laws.NumberLaws.{once_plus_zero, below_times, times_positive}
 use Rattle.lists.specs.laws.XorLaws.{xor_cancel, xor_same}
 use mathlib.Core.Path.{fun_ext}
 use Rattle.gf_field.specs.Ring.{IsRing}
@@ -43,11 +44,8 @@ mono_top (suc i) = mono_top i
 
 -- the number that has the coefficients of x
 pub coefficient_x : (n : ℕ) → 1 ≤ n → coefficient n (2 ^ n) ≡ shift unit
-coefficient_x n some = ap (coefficient n) (padded (2 ^ n)) ∙ fun_ext at
+coefficient_x n some = ap (coefficient n) (once_plus_zero (2 ^ n)) ∙ fun_ext at
   where
-    padded : (p : ℕ) → p ≡ 1 * p + 0
-    padded p = omega arith
-
     at : (i : ℕ) → coefficient n (1 * 2 ^ n + 0) i ≡ shift unit i
     at zero = coefficient_zero n (1 * 2 ^ n + 0) ∙ mod_low 1 n 0 (pow_pos n)
     at (suc i) = coefficient_suc n (1 * 2 ^ n + 0) i ∙ ap (λ z. coefficient n z i) (shr_high 1 n 0 (pow_pos n)) ∙ ap (λ h. h i) (coefficient_one n some)
@@ -86,17 +84,11 @@ module _ (n : ℕ) (mul : ℕ → ℕ → ℕ) (below : IsRing n mul) (e : ℕ) 
 -- a modulus of degree 2 or more
 module _ (n : ℕ) (mul : ℕ → ℕ → ℕ) (below : IsRing n mul) (d g : ℕ) (monic : IsMonic n (suc (suc d)) g) where
   x_below : 2 ^ n < 2 ^ (n * suc (suc d))
-  x_below = pow_below n (n * suc (suc d)) (less n d below.some)
-    where
-      less : (n d : ℕ) → 1 ≤ n → n < n * suc (suc d)
-      less n d h = omega (arith, h, mul-suc n (suc d), mul-suc n d)
+  x_below = pow_below n (n * suc (suc d)) (below_times n d below.some)
 
   power_x_below : (i : ℕ) → power (product n (suc (suc d)) mul g) (2 ^ n) i < 2 ^ (n * suc (suc d))
   unfolding power
-  power_x_below zero = pow_below 0 (n * suc (suc d)) (less n d below.some)
-    where
-      less : (n d : ℕ) → 1 ≤ n → 0 < n * suc (suc d)
-      less n d h = omega (arith, h, mul-suc n (suc d))
+  power_x_below zero = pow_below 0 (n * suc (suc d)) (times_positive n d below.some)
   power_x_below (suc i) = product_below n (suc d) mul g below monic (2 ^ n) (power (product n (suc (suc d)) mul g) (2 ^ n) i)
 
   -- the coefficients of x ^ i modulo g

@@ -3,7 +3,8 @@ use Rattle.std.proofs.Common.{◌≡◌, ℕ, zero, suc, refl, sym, ◌∙◌, a
 use Rattle.std.specs.Int.Bits.{xor_mod}
 use Rattle.std.proofs.lemmas.Nat.{pow_below}
 use native.Mathlib.Nat.{mod-eq_of_lt}
-use Rattle.lists.specs.laws.NumberLaws.{bit_cases}
+use Rattle.std.proofs.Math.Nat.{zero-mul}
+use Rattle.lists.specs.laws.NumberLaws.{bit_cases, twice_is_sum}
 use mathlib.Core.Path.{fun_ext}
 use Rattle.gf_field.specs.Ring.{IsRing}
 use Rattle.gf_field.specs.Bit.{bit_mul}
@@ -44,12 +45,9 @@ IsCarried-bit k big ring = record {
 
     at : (a b : ℕ) → a < 2 → b < 2 → a * b ≡ big a b
     at a b ha hb = elim (bit_cases a ha) [
-      | inl z ↦ rw z (zero_times b ∙ sym (zero_mul k big ring b))
+      | inl z ↦ rw z (zero-mul b ∙ sym (zero_mul k big ring b))
       | inr o ↦ rw o (one-mul b ∙ sym (ring.one b (short b hb)))
     ]
-      where
-        zero_times : (b : ℕ) → 0 * b ≡ 0
-        zero_times b = omega arith
 
 -- a bit is what it is carried over to
 pub bits_same : (u : ℕ) → (λ i. coefficient 1 u i % 2) ≡ coefficient 1 u
@@ -68,13 +66,10 @@ module _ (n g : ℕ) (base : IsBaseField n g) (k : ℕ) (big : ℕ → ℕ → �
   power_of_big : (x : ℕ) → x < 2 ^ n → power (product 1 n bit_mul g) x (2 ^ k) ≡ x
   power_of_big x h =
       sym (frobenius-power n (product 1 n bit_mul g) ring_below k x h)
-      ∙ ap (λ m. frobenius (product 1 n bit_mul g) m x) (double ∙ twice n)
+      ∙ ap (λ m. frobenius (product 1 n bit_mul g) m x) (double ∙ twice_is_sum n)
       ∙ frobenius_add (product 1 n bit_mul g) n n x
       ∙ ap (frobenius (product 1 n bit_mul g) n) (frobenius_fixed x h)
       ∙ frobenius_fixed x h
-    where
-      twice : (n : ℕ) → n * 2 ≡ n + n
-      twice n = omega arith
 
   -- the value of the modulus
   abbrev modulus_value : ℕ → ℕ

@@ -6,6 +6,7 @@ use Rattle.std.proofs.Math.Arith.{digits_lt}
 use Rattle.std.proofs.lemmas.Bool.{cases_eq}
 use Rattle.std.proofs.lemmas.Nat.{pow_below, shr_high, mod_low}
 use native.Mathlib.Nat.{mod-eq_of_lt}
+use Rattle.lists.specs.laws.NumberLaws.{below_twice, twice_is_sum, once_plus_zero}
 use mathlib.Core.Path.{fun_ext}
 use Rattle.gf_field.specs.Ring.{IsRing}
 use Rattle.gf_field.specs.Bit.{bit_mul}
@@ -134,10 +135,7 @@ module _ (n g c0 c1 : ℕ) (tower : IsTowerField n g c0 c1) where
         subst (λ f. FoundAt (λ y. value_at big 3 f y) (2 ^ k) 0) (digits_same big n s (tower_polynomial n (c0 ∷ c1 ∷ [])))
         (root_found n (product 1 n bit_mul g) base_ring 0 (tower_polynomial n (c0 ∷ c1 ∷ [])) tower_monic k big ring (base_map big n s) carried field
         (one_below k big ring)
-        (ap (λ m. power (tower_product n g (c0 ∷ c1 ∷ [])) (2 ^ n) (2 ^ m)) double ∙ power_same (n * 2) (tower_product n g (c0 ∷ c1 ∷ [])) tower_ring tower.field (2 ^ n) (pow_below n (n * 2) (less n base_ring.some))))
-      where
-        less : (n : ℕ) → 1 ≤ n → n < n * 2
-        less n h = omega arith
+        (ap (λ m. power (tower_product n g (c0 ∷ c1 ∷ [])) (2 ^ n) (2 ^ m)) double ∙ power_same (n * 2) (tower_product n g (c0 ∷ c1 ∷ [])) tower_ring tower.field (2 ^ n) (pow_below n (n * 2) (below_twice n base_ring.some))))
 
     -- a root is where the square plus a multiple is the last coefficient
     pub root_quadratic : (y : ℕ) → y < 2 ^ k → value_at big 3 (λ i. base_image big n s (coefficient n (tower_polynomial n (c0 ∷ c1 ∷ [])) i)) y ≡ bit_xor (base_image big n s c0) (quadratic big (base_image big n s c1) y)
@@ -195,18 +193,12 @@ module _ (n g c0 c1 : ℕ) (tower : IsTowerField n g c0 c1) where
           wide = rw (double_power n) (digits_lt h (pow_pos n))
             where
               double_power : (n : ℕ) → 2 ^ (n * 2) ≡ 2 ^ n * 2 ^ n
-              double_power n = ap (λ m. 2 ^ m) (twice n) ∙ pow-add 2 n n
-                where
-                  twice : (n : ℕ) → n * 2 ≡ n + n
-                  twice n = omega arith
+              double_power n = ap (λ m. 2 ^ m) (twice_is_sum n) ∙ pow-add 2 n n
 
       -- Y goes to the root
       pub tower_map_Y : tower_map big n s t (2 ^ n) ≡ t
       tower_map_Y =
-          ap (tower_map big n s t) (padded (2 ^ n)) ∙ tower_map_high 1 (one_below n (product 1 n bit_mul g) base_ring) ∙ ap (big t) carried.one ∙ mul_one k big ring t ht
-        where
-          padded : (p : ℕ) → p ≡ 1 * p + 0
-          padded p = omega arith
+          ap (tower_map big n s t) (once_plus_zero (2 ^ n)) ∙ tower_map_high 1 (one_below n (product 1 n bit_mul g) base_ring) ∙ ap (big t) carried.one ∙ mul_one k big ring t ht
 
       -- only 0 goes to 0
       pub tower_map_nonzero : (a : ℕ) → a < 2 ^ (n * 2) → tower_map big n s t a ≡ 0 → a ≡ 0

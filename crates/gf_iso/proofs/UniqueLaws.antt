@@ -6,6 +6,8 @@ use Rattle.std.proofs.Math.Arith.{digits_lt}
 use Rattle.std.proofs.lemmas.Bool.{cases_lt}
 use Rattle.std.proofs.lemmas.Nat.{pow_below, shr_high, mod_low}
 use native.Mathlib.Nat.{mod-eq_of_lt}
+use Rattle.std.proofs.Math.Nat.{add-zero}
+use Rattle.lists.specs.laws.NumberLaws.{below_times, parted}
 use mathlib.Core.Path.{fun_ext}
 use Rattle.gf_field.specs.Ring.{IsRing}
 use Rattle.gf_field.specs.Bit.{bit_mul}
@@ -56,8 +58,6 @@ agree k f h additive other at a l =
     sym (by_values k f (λ i. f (2 ^ i)) additive (λ i m. refl) a l) ∙ by_values k h (λ i. f (2 ^ i)) other at a l
 
 -- ---- products by x and by elements of the base
-padded : (p : ℕ) → p + 0 ≡ p
-padded p = omega arith
 
 coefficient_shifted : (n u : ℕ) → coefficient n (u * 2 ^ n + 0) ≡ shift (coefficient n u)
 coefficient_shifted n u = fun_ext at
@@ -77,10 +77,7 @@ module _ (n : ℕ) (mul : ℕ → ℕ → ℕ) (below : IsRing n mul) (d g : ℕ
       more n d = omega (arith, mul-suc n (suc d))
 
   short : 2 ^ n < 2 ^ (n * suc (suc d))
-  short = pow_below n (n * suc (suc d)) (less n d below.some)
-    where
-      less : (n d : ℕ) → 1 ≤ n → n < n * suc (suc d)
-      less n d h = omega (arith, h, mul-suc n (suc d), mul-suc n d)
+  short = pow_below n (n * suc (suc d)) (below_times n d below.some)
 
   shifted_below : (u : ℕ) → u < 2 ^ (n * suc d) → u * 2 ^ n + 0 < 2 ^ (n * suc (suc d))
   shifted_below u h = rw (mul-suc n (suc d), pow-add 2 (n * suc d) n) (digits_lt h (pow_pos n))
@@ -169,7 +166,7 @@ module _ (n g c0 c1 : ℕ) (tower : IsTowerField n g c0 c1) (big : ℕ → ℕ �
       monic d e = subst (λ m. IsMonic 1 m g) (sym e) (IsMonic-from_modulus n g tower.base.modulus)
 
       next : (d : ℕ) → suc (suc d) ≡ n → i < suc d → product 1 n bit_mul g 2 (2 ^ i) ≡ 2 ^ suc i
-      next d e l = ap (λ m. product 1 m bit_mul g 2 (2 ^ i)) (sym e) ∙ times_x 1 bit_mul IsRing-bit_mul d g (monic d e) (2 ^ i) (pow_below i (1 * suc d) (omega arith)) ∙ padded (2 ^ i * 2) ∙ doubled i
+      next d e l = ap (λ m. product 1 m bit_mul g 2 (2 ^ i)) (sym e) ∙ times_x 1 bit_mul IsRing-bit_mul d g (monic d e) (2 ^ i) (pow_below i (1 * suc d) (omega arith)) ∙ add-zero (2 ^ i * 2) ∙ doubled i
         where
           doubled : (i : ℕ) → 2 ^ i * 2 ≡ 2 ^ suc i
           doubled i = omega (arith, pow-suc 2 i)
@@ -207,10 +204,7 @@ module _ (n g c0 c1 : ℕ) (tower : IsTowerField n g c0 c1) (big : ℕ → ℕ �
   ]
     where
       parts : (i n : ℕ) → n ≤ i → 2 ^ i ≡ 2 ^ (i - n) * 2 ^ n + 0
-      parts i n h = ap (λ m. 2 ^ m) (turned i n h) ∙ pow-add 2 (i - n) n ∙ sym (padded (2 ^ (i - n) * 2 ^ n))
-        where
-          turned : (i n : ℕ) → n ≤ i → i ≡ (i - n) + n
-          turned i n h = omega arith
+      parts i n h = ap (λ m. 2 ^ m) (parted i n h) ∙ pow-add 2 (i - n) n ∙ sym (add-zero (2 ^ (i - n) * 2 ^ n))
 
       high : (j : ℕ) → j < n → there (2 ^ j * 2 ^ n + 0) ≡ other_there (2 ^ j * 2 ^ n + 0)
       high j h = agree_product (2 ^ n) (2 ^ j) (2 ^ j * 2 ^ n + 0) (pow_below n (n * 2) (omega arith)) (wide (2 ^ j) (pow_below j n h))

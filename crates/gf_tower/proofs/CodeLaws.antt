@@ -1,10 +1,10 @@
 -- The steps of a tower, in the terms that the code computes.
 use Rattle.std.proofs.Common.{◌≡◌, ℕ, zero, suc, sym, ◌∙◌, ap, ap₂, ◌<◌, ◌≤◌, ◌^◌, ◌+◌, ◌*◌, ◌-◌, ◌/◌, ◌%◌, arith, mod-lt, pow_pos, mul-suc, mul-le-mul_left, bit_and, bit_or, add_comm, List, length, get_or, drop, drop-cons, length-drop, get_or-drop}
 use Rattle.std.specs.Prelude.{bit_xor}
-use Rattle.std.specs.Int.Bits.{and_mask, or_shifted, xor_comm}
+use Rattle.std.specs.Int.Bits.{or_shifted, xor_comm}
 use Rattle.std.proofs.lemmas.Nat.{shl_whole, shr_below}
-use Rattle.std.proofs.lemmas.Nat.Bits.{ones_shr}
-use Rattle.std.proofs.Math.Pow.{mod-mod-pow}
+use Rattle.lists.specs.laws.NumberLaws.{suc_less_one}
+use Rattle.lists.specs.laws.PowerLaws.{masked, cut_twice}
 use Rattle.gf_field.specs.Ring.{IsRing}
 use Rattle.gf_field.specs.Quotient.{product}
 use Rattle.gf_field.specs.Element.{AreElements}
@@ -12,12 +12,6 @@ use Rattle.gf_tower.specs.Tower.{polynomial_of}
 use Rattle.gf_tower.specs.laws.TowerLaws.{polynomial_below}
 use Rattle.gf_tower.specs.private.DigitSteps.{IsPacked, modulus_of, scaled, scaled_from, times_y, from_digit}
 use Rattle.gf_tower.specs.laws.DigitsLaws.{scaled_below, scaled_start, scaled_step, scaled_end, scaled_element, times_y_is, times_y_element, from_digit_start, from_digit_element, from_digit_step, from_digit_end}
-
-pub masked : (k x : ℕ) → k ≤ 64 → bit_and x (18446744073709551615 / 2 ^ (64 - k)) ≡ x % 2 ^ k
-masked k x h = ap (bit_and x) (ones_shr 64 (64 - k) (omega arith) ∙ ap (λ y. 2 ^ y - 1) (back k h)) ∙ and_mask x k
-  where
-    back : (k : ℕ) → k ≤ 64 → 64 - (64 - k) ≡ k
-    back k h = omega arith
 
 module _ (n m : ℕ) (mul : ℕ → ℕ → ℕ) (low : ℕ) (ring : IsRing n mul) (ok : IsPacked n m low) where
   pub digit_element : (x : ℕ) → bit_and x (18446744073709551615 / 2 ^ (64 - n)) < 2 ^ n
@@ -63,10 +57,7 @@ module _ (n m : ℕ) (mul : ℕ → ℕ → ℕ) (low : ℕ) (ring : IsRing n mu
     where
       at : (m : ℕ) → IsPacked n m low → a < 2 ^ (n * m) → a / 2 ^ (n * (m - 1)) < 2 ^ n
       at zero o l = absurd (omega (arith, o.two))
-      at (suc e) o l = rw (less e) (shr_below a n (n * e) (rw (mul-suc n e ∙ add_comm (n * e) n) at l))
-        where
-          less : (e : ℕ) → suc e - 1 ≡ e
-          less e = omega arith
+      at (suc e) o l = rw (suc_less_one e) (shr_below a n (n * e) (rw (mul-suc n e ∙ add_comm (n * e) n) at l))
 
   pub is_times_y : (a : ℕ) → a < 2 ^ (n * m) → bit_xor (bit_and (a * 2 ^ n % 2 ^ 64) (18446744073709551615 / 2 ^ (64 - n * m))) (scaled n mul m (a / 2 ^ (n * (m - 1))) low) ≡ times_y n mul m (modulus_of n m low) a
   is_times_y a h = at m ok h
@@ -74,17 +65,8 @@ module _ (n m : ℕ) (mul : ℕ → ℕ → ℕ) (low : ℕ) (ring : IsRing n mu
       at : (m : ℕ) → IsPacked n m low → a < 2 ^ (n * m) → bit_xor (bit_and (a * 2 ^ n % 2 ^ 64) (18446744073709551615 / 2 ^ (64 - n * m))) (scaled n mul m (a / 2 ^ (n * (m - 1))) low) ≡ times_y n mul m (modulus_of n m low) a
       at zero o l = absurd (omega (arith, o.two))
       at (suc e) o l =
-          ap₂ bit_xor (masked (n * suc e) (a * 2 ^ n % 2 ^ 64) o.small ∙ twice (n * suc e) (a * 2 ^ n) o.small) (ap (λ x. scaled n mul (suc e) (a / 2 ^ (n * x)) low) (less e))
+          ap₂ bit_xor (masked (n * suc e) (a * 2 ^ n % 2 ^ 64) o.small ∙ cut_twice (n * suc e) (a * 2 ^ n) o.small) (ap (λ x. scaled n mul (suc e) (a / 2 ^ (n * x)) low) (suc_less_one e))
           ∙ sym (times_y_is n e mul low ring o a l)
-        where
-          less : (e : ℕ) → suc e - 1 ≡ e
-          less e = omega arith
-
-          twice : (k x : ℕ) → k ≤ 64 → x % 2 ^ 64 % 2 ^ k ≡ x % 2 ^ k
-          twice k x h = ap (λ y. x % 2 ^ y % 2 ^ k) (parts k h) ∙ mod-mod-pow x (64 - k) k
-            where
-              parts : (k : ℕ) → k ≤ 64 → 64 ≡ (64 - k) + k
-              parts k h = omega arith
 
   pub element_times_y : (a : ℕ) → times_y n mul m (modulus_of n m low) a < 2 ^ (n * m)
   element_times_y a = at m ok

@@ -1,5 +1,5 @@
 -- A fault of a modulus and coefficients is one exactly where they name no field.
-use Rattle.std.proofs.Common.{◌≡◌, ℕ, sym, refl, ◌<◌, ◌≤◌, ◌*◌, inl, inr, arith, subst, List, [], ◌∷◌, length, not-suc-le-zero}
+use Rattle.std.proofs.Common.{◌≡◌, ℕ, sym, refl, ◌<◌, ◌≤◌, ◌*◌, inl, inr, arith, subst, List, [], length, not-suc-le-zero}
 use Rattle.std.proofs.lemmas.Bool.{cases_eq, cases_lt}
 use Rattle.gf_field.specs.Bit.{bit_mul}
 use Rattle.gf_field.specs.Ring.{IsRing}
@@ -105,7 +105,3 @@ same_tower P n m h ks d g cs same_degree same_modulus same_size same_list p =
     (subst (λ x. P (d * x) (product d x (product 1 d bit_mul g) (tower_polynomial d ks))) same_size
     (subst (λ x. P (d * m) (product d m (product 1 d bit_mul x) (tower_polynomial d ks))) same_modulus
     (subst (λ x. P (x * m) (product x m (product 1 x bit_mul h) (tower_polynomial x ks))) same_degree p)))
-
-pub no_items : (xs : List ℕ) → length xs ≡ 0 → xs ≡ []
-no_items [] h = refl
-no_items (x ∷ xs) h = absurd (omega arith)

@@ -1,3 +1,4 @@
+pub mod SharedLemmas
 pub mod GraphLemmas
 pub mod GroundLemmas
 pub mod LawLemmas

@@ -6,7 +6,7 @@ use Rattle.std.specs.Int.Bits.{xor_self, xor_lt, xor_shr, xor_zero_l, xor_zero_r
 use Rattle.std.proofs.lemmas.Bool.{cases_eq, cases_lt}
 use Rattle.std.proofs.lemmas.Nat.{pow_below, shr_split}
 use native.Mathlib.Nat.{div-eq_of_lt-le, div-one}
-use Rattle.lists.specs.laws.NumberLaws.{bit_cases}
+use Rattle.lists.specs.laws.NumberLaws.{bit_cases, self_zero_plus}
 use Rattle.lists.specs.laws.XorLaws.{xor_cancel, xor_same}
 use Rattle.gf_field.proofs.CopyLemmas.{zeros}
 use Rattle.irreducible.specs.Span.{combination, InSpan}
@@ -215,16 +215,13 @@ pub kernel_end : (rows vectors : List ℕ) → IsKernelSoFar rows vectors (lengt
 kernel_end rows vectors k = record {
   words = words;
   inside = k.zero_sum;
-  independent = λ c i z ne. elim (sum_top vectors 0 c (λ j. subst (λ (n : ℕ). (get_or vectors j 0 ≡ 0) ⊎ IsTop n (get_or vectors j 0)) (zero_plus j) (k.tops j))) [
+  independent = λ c i z ne. elim (sum_top vectors 0 c (λ j. subst (λ (n : ℕ). (get_or vectors j 0 ≡ 0) ⊎ IsTop n (get_or vectors j 0)) (self_zero_plus j) (k.tops j))) [
     | inl low ↦ low.none i ne
     | inr high ↦ absurd (not_zero high.place (combination vectors c) high.top z)
   ];
   spans = λ v h z. span_of_kernel rows vectors k (length rows) v (omega arith) h z;
 }
   where
-    zero_plus : (j : ℕ) → j ≡ 0 + j
-    zero_plus j = omega arith
-
     not_zero : (t w : ℕ) → IsTop t w → w ≡ 0 → ⊥
     not_zero t w top z = let low = top.low in omega (arith, pow_pos t)
 

@@ -7,6 +7,7 @@ use Rattle.std.specs.Map.{lookup}
 use Rattle.std.specs.Str.{bytes_eq}
 use Rattle.std.specs.Str.Lines.{lines}
 use Rattle.std.proofs.lemmas.Bool.{eqb-true}
+use Rattle.lists.specs.laws.BoolLaws.{both_true, second_true}
 use Rattle.net_core.specs.GateValue.{GateValue}
 use Rattle.net_core.specs.LatchValue.{LatchValue}
 use Rattle.net_core.specs.NetList.{LabelValue, NetList, empty, nets, with_gate, with_label, with_latch as with_held}
@@ -30,13 +31,8 @@ use Rattle.job_input.proofs.LabelFaultLemmas.{NetKeeps, HasCleanLabels, finish_k
 
 shown_clean : (name : Name) → list_all is_shown name ≡ true → IsClean name
 shown_clean [] shown = refl
-shown_clean (b ∷ bs) shown = let (first, others) = both (is_shown b) (list_all is_shown bs) shown in rw (byte b first, shown_clean bs others) refl
+shown_clean (b ∷ bs) shown = let (first, others) = both_true (is_shown b) (list_all is_shown bs) shown in rw (byte b first, shown_clean bs others) refl
   where
-    both : (a b : Bool) → (a && b) ≡ true → (a ≡ true) × (b ≡ true)
-    both true true e = (refl, refl)
-    both true false e = absurd (cc)
-    both false b e = absurd (cc)
-
     byte : (b : ℕ) → is_shown b ≡ true → not (b == 10) ≡ true
     byte b first = by (b == 10) refl
       where
@@ -94,12 +90,8 @@ all_clean (s ∷ symbols) each = (each zero s refl, all_clean symbols (λ k t at
 text_clean : (text : List (List ℕ)) (reading : Reading) → Text text (Ok reading) → HasCleanNames reading
 text_clean text reading says = all_clean reading.symbols (λ k s at. shown_clean s.1 (shown s.1 (text_names text reading says k s at)))
   where
-    second : (a b : Bool) → (a && b) ≡ true → b ≡ true
-    second true b e = e
-    second false b e = absurd (cc)
-
     shown : (name : Name) → is_port_name name ≡ true → list_all is_shown name ≡ true
-    shown name is = second (nat_le 1 (length name) && nat_le (length name) 255) (list_all is_shown name) is
+    shown name is = second_true (nat_le 1 (length name) && nat_le (length name) 255) (list_all is_shown name) is
 
 -- what a fault of a text repeats is clean
 repeats_clean : (fault : AigerFault) → Repeats fault → AigerKeeps fault
@@ -208,7 +200,7 @@ module _ (reading : Reading) (names : HasCleanNames reading) where
 by_result : {A F : Type 0} (P : Result A F → Type 0) (r : Result A F) (x : Result A F) → x ≡ r → P r → P x
 by_result P r x same is = subst P (sym same) is
 
-settled_keeps : (net : NetList) → HasCleanLabels net → (fault : NetFault) → Settles net (Err fault) → NetKeeps fault
+pub settled_keeps : (net : NetList) → HasCleanLabels net → (fault : NetFault) → Settles net (Err fault) → NetKeeps fault
 settled_keeps net labels nets_faults.TooManyNets settles = tt
 settled_keeps net labels nets_faults.TooManyGates settles = tt
 settled_keeps net labels (nets_faults.DrivenTwice n label) settles = finish_keeps net labels (nets_faults.DrivenTwice n label) settles

@@ -6,7 +6,8 @@ use Rattle.std.specs.List.{AllByRecursion}
 use Rattle.std.specs.Option.{option_map_or}
 use Rattle.std.specs.Str.{bytes_eq}
 use Rattle.std.proofs.lemmas.List.Elements.{All-drop, All-weaker}
-use Rattle.lists.specs.laws.OptionLaws.{same_ok as ok_same}
+use Rattle.lists.specs.laws.ListLaws.{all_append}
+use Rattle.lists.specs.laws.OptionLaws.{same_ok as ok_same, same_fault}
 use Rattle.outcome.specs.Steps.{on_value}
 use Rattle.text_core.specs.Lines.{IsPrinting}
 use Rattle.net_core.specs.NetList.{LabelValue}
@@ -25,7 +26,7 @@ use Rattle.net_flat.specs.declared.flat_fault.FlatFault.{FlatFault}
 use Rattle.net_flat.specs.declared.flat_fault.FlatFault.TheVariants.{Net, TooManyInstances}
 use Rattle.job_words.specs.OneLine.{HasNoLineFeed}
 use Rattle.job_words.proofs.OneLineLemmas.{IsClean, clean_then, kept_clean, number_clean}
-use Rattle.job_input.proofs.BlifTextLemmas.{ItemPrints, ModelPrints, all_append, design_prints, err_same}
+use Rattle.job_input.proofs.BlifTextLemmas.{ItemPrints, ModelPrints, design_prints}
 use Rattle.job_input.proofs.LabelFaultLemmas.{HasCleanLabels}
 
 pub printing_kept : (text : List ℕ) → IsPrinting text → HasNoLineFeed text
@@ -196,7 +197,7 @@ IsLimit fault = (fault ≡ Net TooManyNets) ⊎ (fault ≡ Net TooManyGates) ⊎
 
 module _ (fault : FlatFault) where
   stopped : (b : Bool) (limit : FlatFault) (made : Flat) → IsLimit limit → ◌≡◌ {A = Result Flat FlatFault} (cond b (Err limit) (Ok made)) (Err fault) → IsLimit fault
-  stopped true limit made is e = let P : FlatFault → Type 0 = IsLimit in subst P (err_same limit fault e) is
+  stopped true limit made is e = let P : FlatFault → Type 0 = IsLimit in subst P (same_fault limit fault e) is
   stopped false limit made is e = absurd (cc)
 
   stop_step : (flat : Flat) (step : Step Path) → after_step flat step ≡ Err fault → IsLimit fault

@@ -3,7 +3,8 @@ use Rattle.std.proofs.Common.{◌≡◌, sym, subst, inl, inr, ℕ, zero, suc, B
 use Rattle.std.specs.Prelude.{All, IfSome, IsTrue, is_some, nat_lt}
 use Rattle.std.specs.List.{AllByRecursion, list_all}
 use Rattle.std.proofs.lemmas.List.Elements.{All-weaker, recursion_from_All}
-use Rattle.lists.specs.laws.OptionLaws.{same_ok as ok_same}
+use Rattle.lists.specs.laws.ListLaws.{all_append}
+use Rattle.lists.specs.laws.OptionLaws.{same_ok as ok_same, same_fault}
 use Rattle.text_core.specs.Lines.{IsPrinting, tokens_of}
 use Rattle.net_blif.specs.Chains.{WalkEnds, graph_of, leads_on}
 use Rattle.net_blif.specs.Connection.{formal_of}
@@ -26,15 +27,8 @@ use Rattle.net_blif.proofs.StatementLemmas.{spelled_read}
 
 -- ---- lists
 
-pub all_append : {A : Type 0} (P : A → Type 0) (xs ys : List A) → AllByRecursion P xs → AllByRecursion P ys → AllByRecursion P (xs ++ ys)
-all_append P [] ys first second = second
-all_append P (x ∷ xs) ys first second = (first.0, all_append P xs ys first.1 second)
-
 tokens_print : (tokens : List Token) → All IsToken tokens → AllByRecursion IsPrinting tokens
 tokens_print tokens all = recursion_from_All IsPrinting tokens (All-weaker IsToken IsPrinting (λ token is. is.2) tokens all)
-
-pub err_same : {A F : Type 0} (a b : F) → ◌≡◌ {A = Result A F} (Err a) (Err b) → a ≡ b
-err_same a b e = cc
 
 -- ---- what was read
 
@@ -125,7 +119,7 @@ FaultPrints (texts.Recursive model) = IsPrinting model
 FaultPrints fault = Unit {0}
 
 no_word : {A : Type 0} (b : Bool) (fault other : BlifFault) (value : A) → FaultPrints fault → ◌≡◌ {A = Result A BlifFault} (cond b (Err fault) (Ok value)) (Err other) → FaultPrints other
-no_word true fault other value prints e = let P : BlifFault → Type 0 = FaultPrints in subst P (err_same fault other e) prints
+no_word true fault other value prints e = let P : BlifFault → Type 0 = FaultPrints in subst P (same_fault fault other e) prints
 no_word false fault other value prints e = absurd (cc)
 
 next_fault : (reading : Reading) (n : ℕ) (s : Statement) (fault : BlifFault) → HasPrintingNames s → next reading n s ≡ Err fault → FaultPrints fault
@@ -223,7 +217,7 @@ instance_prints models (items.Instance line name connections) = by (model_named 
 
 refused_prints : (found : Option BlifFault) (fault : BlifFault) → Err fault ≡ refused found → MayPrint found → FaultPrints fault
 refused_prints None fault e prints = absurd (cc)
-refused_prints (Some other) fault e prints = let P : BlifFault → Type 0 = FaultPrints in subst P (sym (err_same fault other e)) prints
+refused_prints (Some other) fault e prints = let P : BlifFault → Type 0 = FaultPrints in subst P (sym (same_fault fault other e)) prints
 
 name_prints : (models : List ModelValue) (model : ℕ) → AllByRecursion ModelPrints models → IsPrinting (name_of models model)
 name_prints [] model all = λ k d less. absurd (omega arith)
@@ -263,7 +257,7 @@ text_fault_prints text fault (inl is) = by (begins (lines_of text)) is
   where
     by : (b : Bool) → ◌≡◌ {A = Result (Unit {0}) BlifFault} (Err fault) (cond b (Ok tt) (Err texts.NoModel)) → FaultPrints fault
     by true e = absurd (cc)
-    by false e = let P : BlifFault → Type 0 = FaultPrints in subst P (sym (err_same fault texts.NoModel e)) tt
+    by false e = let P : BlifFault → Type 0 = FaultPrints in subst P (sym (same_fault fault texts.NoModel e)) tt
 text_fault_prints text fault (inr (unit, has, inl is)) = lines_fault start (lines_of text) fault is
 text_fault_prints text fault (inr (unit, has, inr (reading, reads, inl is))) = right_prints (models_of reading) fault (models_print reading (lines_print start (lines_of text) reading (tt, tt) reads)) is
 text_fault_prints text fault (inr (unit, has, inr (reading, reads, inr (u, right, is)))) = absurd is

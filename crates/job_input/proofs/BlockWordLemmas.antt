@@ -6,8 +6,8 @@ use Rattle.std.specs.Str.{bytes_eq}
 use Rattle.std.proofs.lemmas.Bool.{true≢false}
 use Rattle.std.proofs.lemmas.Slice.Eq.{bytes_eq-Decides}
 use Rattle.lists.specs.Lists.{Has}
-use Rattle.lists.specs.laws.HasLaws.{Has_cases}
-use Rattle.outcome.specs.Steps.{with_value}
+use Rattle.lists.specs.laws.HasLaws.{Has_cases, any_has, one_of}
+use Rattle.outcome.proofs.StepLemmas.{with_value_ok}
 use Rattle.text_core.specs.Names.{IsName}
 use Rattle.net_words.specs.Roles.{is_output, same_role}
 use Rattle.net_words.specs.declared.feed.FeedText.{FeedText}
@@ -15,7 +15,6 @@ use Rattle.net_words.specs.declared.feed.Source.{Source}
 use Rattle.net_words.specs.declared.word.Role.{Role}
 use Rattle.net_words.specs.declared.word.Role.TheVariants.{Input, State, Fed, Output}
 use Rattle.net_words.specs.declared.word.WordText.{WordText}
-use Rattle.net_words.proofs.MemberLemmas.{any_has}
 use Rattle.net_signature.specs.Body.{begun, block_begun, block_with, blocks_of, blocks_whole, blocks_with, body_with, BlockValue, BodyValue, fed_with, is_fed, may_stand, next, Reads, source_of, whole, with_feed, with_word, word_may_stand}
 use Rattle.net_signature.specs.Few.{AreFew}
 use Rattle.net_signature.specs.Lines.{Line}
@@ -68,10 +67,6 @@ record AreWell (words : List WordText) : Type 0 where
   few : AreFew words
   unfed : (word : WordText) → Has words word → word.role ≢ Fed
 
-one_of : {X : Type 0} (x y : X) → Has (x ∷ []) y → y ≡ x
-one_of x y (zero, got) = let same : x ≡ y = cc in sym same
-one_of x y (suc i, got) = absurd (cc)
-
 well_more : (words : List WordText) (word : WordText) (more : List WordText) → IsName word.name → word.role ≢ Fed → Ok more ≡ with_word words word → AreWell words → AreWell more
 well_more words word more name unfed ok well =
     let new = word_taken words word more ok in
@@ -109,10 +104,6 @@ not_fed word is fed = by word.role fed is
     by Fed e is = let no : false ≡ true = is in cc
     by Output e is = absurd (cc)
 
-on_value_ok : {F A B : Type 0} (f : A → B) (r : Result A F) (b : B) → ◌≡◌ {A = Result B F} (Ok b) (with_value f r) → (a : A) × (◌≡◌ {A = Result A F} (Ok a) r) × (b ≡ f a)
-on_value_ok f (Ok a) b ok = (a, refl, cc)
-on_value_ok f (Err e) b ok = absurd (cc)
-
 same_body : (body more : BodyValue) → more.blocks ≡ body.blocks → more.block ≡ body.block → BodyWell body → BodyWell more
 same_body body more blocks block well =
     let P : List BlockValue → Type 0 = λ bs. (b : BlockValue) → Has bs b → AreWell b.words in
@@ -120,11 +111,11 @@ same_body body more blocks block well =
 
 word_step : (body : BodyValue) (current : Option BlockValue) (word : WordText) (more : BodyValue) → body.block ≡ current → IsName word.name → IsTrue (word_may_stand body current word) → Ok more ≡ body_with body current word → BodyWell body → BodyWell more
 word_step body None word more at name may ok well =
-    let got = on_value_ok (λ (words : List WordText). record body { words = words }) (with_word body.words word) more ok in
+    let got = with_value_ok (λ (words : List WordText). record body { words = words }) (with_word body.words word) more ok in
     same_body body more (ap (λ (b : BodyValue). b.blocks) got.2) (ap (λ (b : BodyValue). b.block) got.2) well
 word_step body (Some block) word more at name may ok well =
-    let got = on_value_ok (λ (b : BlockValue). record body { block = Some b }) (block_with block word) more ok in
-    let added = on_value_ok (λ (words : List WordText). record block { words = words }) (with_word block.words word) got.0 got.1 in
+    let got = with_value_ok (λ (b : BlockValue). record body { block = Some b }) (block_with block word) more ok in
+    let added = with_value_ok (λ (words : List WordText). record block { words = words }) (with_word block.words word) got.0 got.1 in
     let P : List BlockValue → Type 0 = λ bs. (b : BlockValue) → Has bs b → AreWell b.words in
     let now : AreWell added.0 = well_more block.words word added.0 name (not_fed word may) added.1 (subst CurrentWell at well.current) in
     let here : AreWell got.0.words = subst AreWell (sym (ap (λ (b : BlockValue). b.words) added.2)) now in
@@ -133,7 +124,7 @@ word_step body (Some block) word more at name may ok well =
 feed_step : (body : BodyValue) (line : ℕ) (feed : FeedLine) (from : Result Source SigFault) (more : BodyValue) → Ok more ≡ fed_with body line feed from → BodyWell body → BodyWell more
 feed_step body line feed (Err e) more ok well = absurd (cc)
 feed_step body line feed (Ok from) more ok well =
-    let got = on_value_ok (λ (feeds : List FeedText). record body { feeds = feeds }) (with_feed body.feeds (record { line = line; net = feed.net; cycle = feed.cycle; source = from })) more ok in
+    let got = with_value_ok (λ (feeds : List FeedText). record body { feeds = feeds }) (with_feed body.feeds (record { line = line; net = feed.net; cycle = feed.cycle; source = from })) more ok in
     same_body body more (ap (λ (b : BodyValue). b.blocks) got.2) (ap (λ (b : BodyValue). b.block) got.2) well
 
 -- all blocks so far

@@ -1,10 +1,11 @@
 -- The labels of a circuit's other nets, net by net.
 use Rattle.std.proofs.Common.{◌≡◌, ◌∙◌, ap, sym, refl, inl, inr, ℕ, zero, suc, ◌<◌, ◌≤◌, ◌+◌, ◌==◌, ◌||◌, nat_lt, Bool, true, false, not, cond, List, [], ◌∷◌, ◌++◌, length, filter, arith}
 use Rattle.std.specs.List.{range_with_len}
-use Rattle.std.proofs.lemmas.Bool.{cases_lt, eq-eqb, le-ltb, lt-ltb, true≢false}
+use Rattle.std.proofs.lemmas.Bool.{cases_lt, eq-eqb, le-ltb, lt-ltb}
 use Rattle.std.proofs.lemmas.List.{length-append}
 use Rattle.std.proofs.lemmas.List.Elements.{filter-append}
 use Rattle.lists.specs.Lists.{Has}
+use Rattle.lists.specs.laws.BoolLaws.{not_true}
 use Rattle.lists.specs.laws.ListLaws.{range_more}
 use Rattle.net_words.specs.Roles.{stands_in}
 use Rattle.net_words.specs.Variables.{bits, bits_with, others, IsRanked}
@@ -105,12 +106,8 @@ passes p (x ∷ xs) r n at = by (λ q. passes p xs q n) (p x) refl at
 pub bit_by_rank : (list : List ℕ) (count r n : ℕ) → IsRanked (list ++ others count list) r n → nat_lt r (length list) ≡ stands_in list n
 bit_by_rank list count r n at = elim (cases_lt r (length list)) [
   | inl less ↦ lt-ltb r (length list) less ∙ sym (stands_ranked list r n (early list (others count list) r n less at))
-  | inr high ↦ (let found = later list (others count list) r n high at in le-ltb r (length list) high ∙ sym (turned (stands_in list n) (passes (λ m. not (stands_in list m)) (range_with_len 0 count) found.0 n found.1)))
+  | inr high ↦ (let found = later list (others count list) r n high at in le-ltb r (length list) high ∙ sym (not_true (stands_in list n) (passes (λ m. not (stands_in list m)) (range_with_len 0 count) found.0 n found.1)))
 ]
-  where
-    turned : (b : Bool) → not b ≡ true → b ≡ false
-    turned true e = absurd (true≢false (sym e))
-    turned false e = refl
 
 -- the labels with one more net, where it is no bit
 pub labels_step : (start old new : Labelling) (list : List ℕ) (n : ℕ) (b : Bool) → b ≡ stands_in list n → old ≡ record { output = start.output; words = start.words; nets = others n list } → new ≡ record { output = old.output; words = old.words; nets = old.nets ++ cond b [] (n ∷ []) }

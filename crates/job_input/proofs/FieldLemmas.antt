@@ -2,6 +2,7 @@
 use Rattle.std.proofs.Common.{◌≡◌, ◌∙◌, ap, sym, refl, subst, inl, inr, ℕ, ◌*◌, ◌≤◌, List, [], ◌∷◌, length, Ok, Err, arith}
 use Rattle.std.proofs.Math.Nat.{mul-pos}
 use Rattle.outcome.specs.Outcome.{Determined}
+use Rattle.outcome.proofs.DeterminedLemmas.{determined_within}
 use Rattle.gf_field.specs.Bit.{bit_mul}
 use Rattle.gf_field.specs.Quotient.{product as quotient_product}
 use Rattle.gf_field.specs.Modulus.{IsModulus}
@@ -15,7 +16,6 @@ use Rattle.gf_tower.specs.declared.any_field.AnyField.{AnyField}
 use Rattle.gf_tower.specs.declared.any_field.AnyField.TheVariants.{Base, Tower, Upper}
 use Rattle.gf_tower.proofs.FieldNameLaws.{degree_unique, fault_clash}
 use Rattle.gf_tower.proofs.FieldFaultLaws.{one_field_fault}
-use Rattle.net_flat.proofs.FlatDetermined.{determined_within}
 use Rattle.job_input.specs.FieldOf.{FieldValue, base_field, field_of, FieldOrFault, field_fault, FieldOf}
 use Rattle.job_input.specs.Setting.{any_degree, any_product}
 

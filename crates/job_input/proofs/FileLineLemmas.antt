@@ -46,7 +46,7 @@ use Rattle.job_input.proofs.NetlistLineLemmas.{name_kept, netlist_keeps}
 pub operand_kept : (word : Word) → IsOperand word → HasNoLineFeed word
 operand_kept word is = All-weaker (λ b. (32 ≤ b) × (b ≢ 127)) (λ b. b ≢ 10) (λ b plain e. absurd (omega (arith, plain.0, e))) word is.plain
 
-same_line : (fault other : Fault) → fault ≡ other → KeepsToItsLine other → KeepsToItsLine fault
+pub same_line : (fault other : Fault) → fault ≡ other → KeepsToItsLine other → KeepsToItsLine fault
 same_line fault other same keeps = let P : Fault → Type 0 = KeepsToItsLine in subst P (sym same) keeps
 
 read_keeps : (held : Option Files) (name : Word) (fault : FileFault) → HasNoLineFeed name → Read held name (Err fault) → AllByRecursion HasNoLineFeed (repeated_of_file fault)

@@ -1,7 +1,6 @@
 -- The labels of words, word by word.
-use Rattle.std.proofs.Common.{◌≡◌, ◌≢◌, ◌∙◌, ap, sym, refl, subst, ℕ, zero, suc, ◌<◌, ◌≤◌, ◌+◌, not, cond, List, [], ◌∷◌, ◌++◌, length, map, take, filter, get_or, Some, arith, append-nil}
+use Rattle.std.proofs.Common.{◌≡◌, ◌≢◌, ◌∙◌, ap, sym, refl, subst, ℕ, zero, suc, ◌<◌, ◌≤◌, ◌+◌, not, cond, List, [], ◌∷◌, ◌++◌, length, map, take, filter, Some, arith, append-nil}
 use Rattle.std.specs.Prelude.{slice_get}
-use Rattle.std.proofs.lemmas.Option.{slice_get_read}
 use Rattle.std.proofs.lemmas.List.{append_assoc, length-append}
 use Rattle.net_words.specs.Roles.{is_output, input_count}
 use Rattle.net_signature.specs.WordNames.{HaveNames}
@@ -10,10 +9,6 @@ use Rattle.net_words.specs.declared.word.Role.TheVariants.{Input, State, Fed, Ou
 use Rattle.net_words.specs.declared.word.WordText.{WordText}
 use Rattle.poly_mixed.specs.Labels.{Differs}
 use Rattle.job_input.specs.Labelling.{word_label, word_labels, IsNewLabel}
-
--- what the code reads at an index inside a list
-pub read_at : {A : Type 0} (xs : List A) (i : ℕ) (x : A) → i < length xs → x ≡ get_or xs i x → slice_get xs i ≡ Some x
-read_at xs i x less is = slice_get_read xs (length xs) i x refl less is
 
 pub label_more : (k : ℕ) (words : List WordText) (i : ℕ) (word : WordText) → slice_get words i ≡ Some word → word_labels k (take (i + 1) words) ≡ word_labels k (take i words) ++ word_label word.role word.name k
 label_more k words i word at = let up : i + 1 ≡ suc i = omega arith in ap (λ n. word_labels k (take n words)) up ∙ more words i at

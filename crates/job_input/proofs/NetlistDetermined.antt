@@ -1,6 +1,6 @@
 -- At most one net with its binding, or one fault, comes of a netlist.
 use Rattle.std.proofs.Common.{List}
-use Rattle.outcome.proofs.DeterminedLemmas.{determined_bind}
+use Rattle.outcome.proofs.DeterminedLemmas.{determined_bind, determined_exactly, determined_within}
 use Rattle.outcome.specs.Outcome.{Determined, Exactly, Within}
 use Rattle.net_core.specs.NetList.{NetList}
 use Rattle.net_aiger.specs.AigerNet.{AigerNet}
@@ -9,7 +9,7 @@ use Rattle.verilog_reader.specs.Modules.{VerilogNet}
 use Rattle.verilog_reader.proofs.VerilogDetermined.{verilog_determined}
 use Rattle.net_flat.specs.Flat.{Flattens}
 use Rattle.net_blif.specs.Models.{BlifDesign}
-use Rattle.net_flat.proofs.FlatDetermined.{determined_within, flattens_once}
+use Rattle.net_flat.proofs.FlatDetermined.{flattens_once}
 use Rattle.net_blif.proofs.OutcomeLemmas.{determined_design}
 use Rattle.net_words.specs.Bind.{BindingOf}
 use Rattle.net_words.specs.Binding.{Binding, BoundNet}
@@ -17,7 +17,7 @@ use Rattle.net_words.specs.declared.binding.BindFault.{BindFault}
 use Rattle.net_words.specs.declared.feed.FeedText.{FeedText}
 use Rattle.net_words.specs.declared.word.WordText.{WordText}
 use Rattle.net_signature.specs.Signature.{SignatureValue}
-use Rattle.net_words.proofs.BindDetermined.{binding_determined, determined_exactly}
+use Rattle.net_words.proofs.BindDetermined.{binding_determined}
 use Rattle.job_input.specs.NetlistOf.{Aiger, Blif, BoundNetOf, NetOf, NetlistText, Verilog, WordsBound, of_aiger, of_binding, of_model, of_text, of_verilog}
 use Rattle.job_words.specs.declared.netlist_fault.NetlistFault.{NetlistFault}
 use Rattle.job_words.specs.declared.netlist_fault.NetlistFault.TheVariants as netlist

@@ -13,7 +13,6 @@ use Rattle.net_aiger.specs.declared.fault.AigerFault.TheVariants as aigers
 use Rattle.net_verilog.specs.declared.fault.VerilogFault.{VerilogFault}
 use Rattle.net_verilog.specs.declared.fault.VerilogFault.TheVariants as verilogs
 use Rattle.net_blif.specs.Design.{ModelValue}
-use Rattle.net_core.specs.Finish.{Settles}
 use Rattle.net_flat.specs.Flat.{Flattens, nothing, net_list}
 use Rattle.net_flat.specs.Walk.{walk_of}
 use Rattle.net_blif.specs.Models.{BlifDesign}
@@ -32,10 +31,10 @@ use Rattle.job_words.specs.declared.netlist_fault.NetlistFault.{NetlistFault}
 use Rattle.job_words.specs.declared.netlist_fault.NetlistFault.TheVariants as netlist
 use Rattle.job_words.proofs.OneLineLemmas.{clean_kept}
 use Rattle.job_input.specs.NetlistOf.{Aiger, Blif, BoundNetOf, NetOf, NetlistText, Verilog, WordsBound, of_aiger, of_binding, of_model, of_net, of_text, of_verilog, word_name}
-use Rattle.job_input.proofs.AigerLabelLemmas.{AigerKeeps, aiger_fault_keeps, aiger_labels}
+use Rattle.job_input.proofs.AigerLabelLemmas.{AigerKeeps, aiger_fault_keeps, aiger_labels, settled_keeps}
 use Rattle.job_input.proofs.BlifLabelLemmas.{IsLimit, printing_kept, walk_labels, walk_stops}
 use Rattle.job_input.proofs.BlifTextLemmas.{FaultPrints, text_fault_prints}
-use Rattle.job_input.proofs.LabelFaultLemmas.{HasCleanLabels, NetKeeps, finish_keeps, text_clean}
+use Rattle.job_input.proofs.LabelFaultLemmas.{HasCleanLabels, NetKeeps, text_clean}
 use Rattle.job_input.proofs.VerilogLabelLemmas.{VerilogKeeps, verilog_fault_keeps, verilog_labels}
 
 -- what a netlist's fault repeats has no line feed
@@ -56,14 +55,6 @@ net_keeps (nets.Loop loop label) keeps = (clean_kept label keeps, tt)
 net_keeps nets.OutOfMemory keeps = tt
 
 -- ---- BLIF
-
-settled_keeps : (net : NetList) → HasCleanLabels net → (fault : NetFault) → Settles net (Err fault) → NetKeeps fault
-settled_keeps net labels nets.TooManyNets settles = tt
-settled_keeps net labels nets.TooManyGates settles = tt
-settled_keeps net labels (nets.DrivenTwice n label) settles = finish_keeps net labels (nets.DrivenTwice n label) settles
-settled_keeps net labels (nets.Undriven n label) settles = finish_keeps net labels (nets.Undriven n label) settles
-settled_keeps net labels (nets.Loop loop label) settles = finish_keeps net labels (nets.Loop loop label) settles
-settled_keeps net labels nets.OutOfMemory settles = tt
 
 limit_keeps : (fault : FlatFault) → IsLimit fault → NetlistKeeps (of_model fault)
 limit_keeps fault limit = elim limit [ inl same ↦ by same tt | inr (inl same) ↦ by same tt | inr (inr same) ↦ by same tt ]
@@ -135,7 +126,7 @@ byte_kept b (inr line) e = absurd (omega (arith, line, e))
 pub name_kept : (name : List ℕ) → IsName name → HasNoLineFeed name
 name_kept name is = All-from_get_or (λ b. ¬ (b ≡ 10)) name 0 (λ i less. byte_kept (get_or name i 0) (is.each i less))
 
-word_kept : (words : List WordText) (w : ℕ) → HaveNames words → HasNoLineFeed (word_name words w)
+pub word_kept : (words : List WordText) (w : ℕ) → HaveNames words → HasNoLineFeed (word_name words w)
 word_kept words w names = by (slice_get words w) refl
   where
     by : (found : Option WordText) → slice_get words w ≡ found → HasNoLineFeed (option_map_or (λ (word : WordText). word.name) found [])

@@ -1,6 +1,6 @@
 -- At most one outcome comes of a signature's text.
 use Rattle.std.proofs.Common.{◌≡◌, ◌∙◌, ap, sym, refl, ℕ, ◌<◌, ◌^◌, List, [], ◌∷◌, Ok, Err, arith}
-use Rattle.outcome.proofs.DeterminedLemmas.{determined_bind, determined_returns}
+use Rattle.outcome.proofs.DeterminedLemmas.{determined_bind, determined_exactly, determined_returns, determined_within}
 use Rattle.outcome.specs.Outcome.{Outcome, ◌>>=◌, Exactly, Returns, Within, Determined}
 use Rattle.irreducible.specs.Span.{IsIndependent}
 use Rattle.net_signature.specs.Body.{BlockValue}
@@ -8,7 +8,6 @@ use Rattle.net_signature.specs.Signature.{SignatureValue, Sig}
 use Rattle.net_words.specs.declared.word.BasisText.{BasisText}
 use Rattle.net_words.specs.declared.word.BasisText.TheVariants.{Poly, Normal, Elements}
 use Rattle.net_words.specs.declared.word.WordText.{WordText}
-use Rattle.net_words.proofs.BindDetermined.{determined_exactly}
 use Rattle.net_signature.proofs.SigDetermined.{text_determined}
 use Rattle.gf_basis.specs.Basis.{IsBasisList}
 use Rattle.gf_basis.specs.BasisFault.{IsListFault, IsNormalFault, conjugates_of}
@@ -22,7 +21,6 @@ use Rattle.job_input.specs.SettingValue.{SettingValue}
 use Rattle.job_words.specs.declared.signature_fault.SignatureFault.{SignatureFault}
 use Rattle.job_input.proofs.SignedLemmas.{made}
 use Rattle.job_input.proofs.FieldLemmas.{field_determined}
-use Rattle.net_flat.proofs.FlatDetermined.{determined_within}
 
 bits_determined : (k : ℕ) (word : WordText) → Determined (HasBits k word)
 bits_determined k word (Ok x) (Ok y) h g = refl

@@ -2,11 +2,11 @@
 use Rattle.std.proofs.Common.{◌≡◌, ◌∙◌, ap, sym, refl, ℕ, List, Result, Ok, Err}
 use Rattle.outcome.specs.Outcome.{Determined}
 use Rattle.poly_mixed.specs.Labels.{Labelling}
-use Rattle.spec_expand.specs.Fault.{IsOfText}
+use Rattle.spec_text.specs.Fault.{IsOfText}
 use Rattle.spec_expand.specs.Specification.{SpecTerms}
-use Rattle.spec_expand.specs.declared.fault.SpecFault.{SpecFault}
-use Rattle.spec_expand.specs.declared.fault.SpecFault.TheVariants as text
-use Rattle.spec_expand.proofs.OneOutcomeLemmas.{one_outcome}
+use Rattle.spec_text.specs.declared.fault.SpecFault.{SpecFault}
+use Rattle.spec_text.specs.declared.fault.SpecFault.TheVariants as text
+use Rattle.spec_text.proofs.OneOutcomeLemmas.{one_outcome}
 use Rattle.job_words.specs.declared.specification_fault.SpecificationFault.{SpecificationFault}
 use Rattle.job_words.specs.declared.specification_fault.SpecificationFault.TheVariants as specification
 use Rattle.job_input.specs.SpecificationIn.{SpecificationOf, text_fault_of}

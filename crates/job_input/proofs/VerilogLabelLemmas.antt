@@ -1,11 +1,11 @@
 -- The labels of a net in structural Verilog have no line feed, nor has what its faults repeat.
 use Rattle.std.proofs.Common.{inl, inr, subst, sym, ℕ, List, [], ◌∷◌, Ok, Err}
 use Rattle.std.specs.List.{AllByRecursion}
+use Rattle.job_input.proofs.AigerLabelLemmas.{settled_keeps}
 use Rattle.text_core.specs.Lines.{IsPrinting}
 use Rattle.net_core.specs.NetList.{LabelValue, NetList}
 use Rattle.net_core.specs.declared.fault.NetFault.{NetFault}
 use Rattle.net_core.specs.declared.fault.NetFault.TheVariants as nets
-use Rattle.net_core.specs.Finish.{Settles}
 use Rattle.net_verilog.specs.Tokens.{tokens_of}
 use Rattle.net_verilog.specs.declared.fault.VerilogFault.{VerilogFault}
 use Rattle.net_verilog.specs.declared.fault.VerilogFault.TheVariants as verilogs
@@ -14,7 +14,7 @@ use Rattle.verilog_reader.proofs.PrintLemmas.{FaultPrints, IsLimit}
 use Rattle.verilog_reader.proofs.TextLemmas.{module_keeps, tokens_print}
 use Rattle.job_words.proofs.OneLineLemmas.{IsClean, kept_clean}
 use Rattle.job_input.proofs.BlifLabelLemmas.{printing_kept}
-use Rattle.job_input.proofs.LabelFaultLemmas.{HasCleanLabels, NetKeeps, finish_keeps}
+use Rattle.job_input.proofs.LabelFaultLemmas.{HasCleanLabels, NetKeeps}
 
 -- the word of a fault prints, and the label of one of the net has no line feed
 abbrev pub VerilogKeeps : VerilogFault → Type 0
@@ -47,14 +47,6 @@ made_labels text net is = by net.labels ((module_keeps (tokens_of text) (tokens_
     by : (list : List LabelValue) → AllByRecursion (λ (l : LabelValue). IsPrinting l.text) list → AllByRecursion (λ (l : LabelValue). IsClean l.text) list
     by [] all = tt
     by (l ∷ list) all = (kept_clean l.text (printing_kept l.text all.0), by list all.1)
-
-settled_keeps : (net : NetList) → HasCleanLabels net → (fault : NetFault) → Settles net (Err fault) → NetKeeps fault
-settled_keeps net labels nets.TooManyNets settles = tt
-settled_keeps net labels nets.TooManyGates settles = tt
-settled_keeps net labels (nets.DrivenTwice n label) settles = finish_keeps net labels (nets.DrivenTwice n label) settles
-settled_keeps net labels (nets.Undriven n label) settles = finish_keeps net labels (nets.Undriven n label) settles
-settled_keeps net labels (nets.Loop loop label) settles = finish_keeps net labels (nets.Loop loop label) settles
-settled_keeps net labels nets.OutOfMemory settles = tt
 
 pub verilog_labels : (text : List ℕ) (net : NetList) → VerilogNet text (Ok net) → HasCleanLabels net
 verilog_labels text net (made, is, settles) = let P : NetList → Type 0 = HasCleanLabels in subst P (sym settles.0) (made_labels text made is)

@@ -1,5 +1,6 @@
 -- All cycles of a netlist as one circuit, or the fault with which it is refused. Source: this project's own, docs/DEFINITIONS.md.
-use Rattle.std.specs.Prelude.{◌≡◌, ◌⊎◌, ℕ, ◌^◌, ◌<◌, ◌≤◌, Option, length, Ok, Err}
+use Rattle.std.specs.Prelude.{◌≡◌, ◌⊎◌, ℕ, ◌<◌, ◌≤◌, Option, length, Ok, Err}
+use Rattle.lists.specs.Limits.{most_nets}
 use Rattle.outcome.specs.Outcome.{Outcome, ◌>>=◌, Within}
 use Rattle.job_io.specs.Shelf.{Files}
 use Rattle.net_core.specs.NetList.{nets}
@@ -19,10 +20,10 @@ all_cycles netlist cycles = unrolled netlist.net netlist.binding cycles
 
 -- this circuit where it has at most 1,048,576 nets and gates; its nets are counted first
 abbrev pub CircuitOf : BoundNet → ℕ → Outcome NetlistFault BoundNet
-CircuitOf netlist cycles (Ok circuit) = (circuit ≡ all_cycles netlist cycles) × (nets (all_cycles netlist cycles).net ≤ 2 ^ 20) × (length (all_cycles netlist cycles).net.gates ≤ 2 ^ 20)
+CircuitOf netlist cycles (Ok circuit) = (circuit ≡ all_cycles netlist cycles) × (nets (all_cycles netlist cycles).net ≤ most_nets) × (length (all_cycles netlist cycles).net.gates ≤ most_nets)
 CircuitOf netlist cycles (Err fault) =
-    ((fault ≡ TooManyNets) × (2 ^ 20 < nets (all_cycles netlist cycles).net))
-    ⊎ ((fault ≡ TooManyGates) × (nets (all_cycles netlist cycles).net ≤ 2 ^ 20) × (2 ^ 20 < length (all_cycles netlist cycles).net.gates))
+    ((fault ≡ TooManyNets) × (most_nets < nets (all_cycles netlist cycles).net))
+    ⊎ ((fault ≡ TooManyGates) × (nets (all_cycles netlist cycles).net ≤ most_nets) × (most_nets < length (all_cycles netlist cycles).net.gates))
 
 -- the circuit of the netlist in a file
 abbrev pub UnrolledIn : Word → BoundNet → ℕ → Outcome Fault BoundNet

@@ -3,10 +3,10 @@ use Rattle.std.specs.Prelude.{ℕ, List, Option, Ok, Err}
 use Rattle.outcome.specs.Outcome.{Outcome, ◌>>=◌, Within}
 use Rattle.job_io.specs.Shelf.{Files}
 use Rattle.poly_mixed.specs.Labels.{Labelling}
-use Rattle.spec_expand.specs.Fault.{SpecOutcome}
+use Rattle.spec_text.specs.Fault.{SpecOutcome}
 use Rattle.spec_expand.specs.Specification.{SpecTerms}
-use Rattle.spec_expand.specs.declared.fault.SpecFault.{SpecFault}
-use Rattle.spec_expand.specs.declared.fault.SpecFault.TheVariants as text
+use Rattle.spec_text.specs.declared.fault.SpecFault.{SpecFault}
+use Rattle.spec_text.specs.declared.fault.SpecFault.TheVariants as text
 use Rattle.job_words.specs.declared.fault.Fault.{Fault}
 use Rattle.job_words.specs.declared.fault.Fault.TheVariants.{File, Specification}
 use Rattle.job_words.specs.declared.specification_fault.SpecificationFault.{SpecificationFault}

@@ -63,7 +63,7 @@ fn hierarchy_of(
     }
 }
 
-// The same without the file's name.
+// The models of a text, or why it is refused, where no file is named yet.
 fn design_of(alloc: Global, signature: &Signature, text: &[u8]) -> Result<Design, Refusal>
     requires short { length text.now ≤ 67108864 }
     requires words { (k : ℕ) × AreWords k signature.now.words × AreFeeds k (roles_of signature.now.words) signature.now.feeds }

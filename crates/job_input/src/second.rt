@@ -40,7 +40,7 @@ fn judged(alloc: Global, signed: Signed) -> Result<Signature, Stop>
     }
 }
 
-// The same over its field.
+// A second signature over its field, where its words have bases.
 fn judged_over<F: Field>(alloc: Global, field: &F, signature: Signature) -> Result<Signature, Stop>
     requires { AreSaid signature }
     ensures { GivesBy (λ signature. signature) result (SecondOf (record { signature = signature; field = record { k = F.degree field.now; product = F.product field.now } })) ⊥ ⊥ }

@@ -12,7 +12,8 @@ use gf_field::Field;
 use job_io::Shelf;
 use job_words::{Fault, SpecificationFault, Stop};
 use poly_mixed::Labels;
-use spec_expand::{Spec, SpecFault, read_spec};
+use spec_expand::Spec;
+use spec_text::{SpecFault, read_spec};
 use std::alloc::Global;
 
 /// The specification of a file over the words of these labels, each of k bits, or the first fault: that of the file, or of

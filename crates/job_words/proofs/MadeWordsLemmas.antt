@@ -1,6 +1,5 @@
 -- The words of commands that make netlists, read off a list of words.
-use Rattle.std.proofs.Common.{ap, sym, subst, ℕ, ◌≤◌, List, ◌∷◌, codes, Option, None, Some}
-use Rattle.std.specs.Prelude.{IfNone}
+use Rattle.std.proofs.Common.{ap, sym, subst, ℕ, ◌≤◌, List, ◌∷◌, codes}
 use Rattle.text_core.specs.Numbers.{IsHex}
 use Rattle.job_words.proofs.SpelledLemmas.{first_word, rest_of}
 use Rattle.job_words.proofs.ValueLemmas.{value_fits}
@@ -8,11 +7,6 @@ use Rattle.job_words.specs.Command.{IsNamed}
 use Rattle.job_words.specs.MadeWords.{AreTrialWords, IsTrialNumber, IsValueOf}
 use Rattle.job_words.specs.Operands.{Word}
 use Rattle.job_words.specs.Options.{IsTermsOption}
-
--- what is not so where one thing is not so
-pub none_weaker : {A P Q : Type 0} (found : Option A) → (P → Q) → IfNone found P → IfNone found Q
-none_weaker (Some a) through none = none
-none_weaker None through none = through none
 
 -- a word whose number is not found is no value
 pub no_value : (word : Word) → ((n : ℕ) → IsHex word n → n ≤ 340282366920938463463374607431768211455 → ⊥) → (v : ℕ) → IsValueOf word v → ⊥

@@ -22,7 +22,8 @@ use Rattle.poly_mixed.proofs.ValueLemmas.{value-plus, reduced_plus}
 use Rattle.poly_mixed.proofs.ProductLemmas.{one_term}
 use Rattle.poly_mixed.proofs.SimpleLemmas.{no_ranks_rise}
 use Rattle.poly_mixed.proofs.UniquenessLemmas.{zero_powers}
-use Rattle.lift_table.specs.OneWord.{coefficient_of, AreColumns}
+use Rattle.lift_table.specs.OneWord.{coefficient_of}
+use Rattle.lift_table.specs.private.Columns.{AreColumns}
 use Rattle.lift_table.specs.Table.{row_of, IsTableValue}
 use Rattle.lift_table.specs.TablePolynomial.{IsPolynomialOfTable}
 use Rattle.lift_table.specs.private.Lifting.{AddsTable, IsOfWords}

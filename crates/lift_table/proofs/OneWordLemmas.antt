@@ -11,7 +11,8 @@ use Rattle.gf_field.specs.Polynomial.{sum_of_first}
 use Rattle.gf_field.specs.Power.{power}
 use Rattle.gf_field.specs.Ring.{IsRing}
 use Rattle.gf_field.specs.laws.RingLaws.{mul_one}
-use Rattle.lift_table.specs.OneWord.{coefficient_of, AreCoefficients}
+use Rattle.lift_table.specs.OneWord.{coefficient_of}
+use Rattle.lift_table.specs.private.Columns.{AreCoefficients}
 use Rattle.lift_table.proofs.SumLemmas.{sum_same}
 use Rattle.lift_table.proofs.GatherLemmas.{inside}
 

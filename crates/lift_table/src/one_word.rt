@@ -2,7 +2,7 @@
 ghost use Rattle.std.specs.Prelude.{◌≡◌, ◌*◌, ◌<◌, ◌≤◌, ◌^◌, ℕ, length, slice_index, IfOk};
 ghost use Rattle.gf_field.specs.Element.{AreElements};
 ghost use Rattle.gf_field.specs.Polynomial.{sum_of_first};
-ghost use Rattle.lift_table.specs.OneWord.{AreCoefficients, AreColumns};
+ghost use Rattle.lift_table.specs.private.Columns.{AreCoefficients, AreColumns};
 
 use crate::gather::gather;
 use crate::small::elements_of;

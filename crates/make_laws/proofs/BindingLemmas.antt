@@ -1,8 +1,8 @@
 -- Words and feeds that are bound to one net list are bound to the other.
-use Rattle.std.proofs.Common.{◌≡◌, ◌∙◌, ap, sym, refl, subst, inl, inr, ℕ, zero, suc, ◌<◌, ◌&&◌, not, Bool, true, false, List, [], ◌∷◌, ◌++◌, length, map, Option, None, Some, Result, Ok, Err, if◌then◌else◌}
+use Rattle.std.proofs.Common.{◌≡◌, ◌∙◌, ap, sym, refl, subst, inl, inr, ℕ, suc, ◌<◌, ◌&&◌, not, Bool, true, false, List, [], ◌∷◌, ◌++◌, length, map, Option, None, Some, Result, Ok, Err, if◌then◌else◌}
 use Rattle.std.specs.Option.{option_map}
 use Rattle.lists.specs.Lists.{Has}
-use Rattle.lists.specs.laws.HasLaws.{All_has, Has_cases}
+use Rattle.lists.specs.laws.HasLaws.{All_has, Has_cases, only_one}
 use Rattle.net_core.specs.Inside.{IsInside, LatchIsInside}
 use Rattle.net_core.specs.LatchValue.{LatchValue}
 use Rattle.net_core.specs.NetList.{NetList, nets, number_of}
@@ -45,14 +45,10 @@ pass_on false e e' r r' is rest = rest is
 
 -- ---- one more
 
-pub alone : {A : Type 0} (x y : A) → Has (x ∷ []) y → x ≡ y
-alone x y (zero, got) = cc
-alone x y (suc k, got) = absurd (cc)
-
 has_more : {A : Type 0} (P : A → Type 0) (xs : List A) (x : A) → ((y : A) → Has xs y → P y) → P x → (y : A) → Has (xs ++ x ∷ []) y → P y
 has_more P xs x each last y has = elim (Has_cases xs (x ∷ []) y has) [
   | inl before ↦ each y before
-  | inr here ↦ (let Q : _ → Type 0 = P in subst Q (alone x y here) last)
+  | inr here ↦ (let Q : _ → Type 0 = P in subst Q (only_one x y here) last)
 ]
 
 none_of : {A : Type 0} (P : A → Type 0) (y : A) → Has {X = A} [] y → P y

@@ -1,14 +1,10 @@
 -- The bits of numbers, and sums of bits times numbers.
-use Rattle.std.proofs.Common.{◌≡◌, ℕ, refl, sym, ◌∙◌, ap, ap₂, ◌<◌, ◌^◌, ◌*◌, ◌/◌, ◌%◌, inl, inr, one-mul, zero-mul, pow_pos}
+use Rattle.std.proofs.Common.{◌≡◌, ℕ, refl, sym, ◌∙◌, ap₂, ◌<◌, ◌^◌, ◌*◌, inl, inr, one-mul, zero-mul, pow_pos}
 use Rattle.std.specs.Prelude.{bit_xor}
 use Rattle.std.specs.Int.{bit_at}
-use Rattle.std.specs.Int.Bits.{xor_mod, xor_shr, xor_self}
+use Rattle.std.specs.Int.Bits.{xor_self}
 use Rattle.std.proofs.lemmas.Nat.Bits.{bit_at-zero}
 use Rattle.lists.specs.laws.NumberLaws.{bit_cases}
-
--- the bit of a sum
-pub bit_at-sum : (a b i : ℕ) → bit_at (bit_xor a b) i ≡ bit_xor (bit_at a i) (bit_at b i)
-bit_at-sum a b i = ap (λ x. x % 2) (xor_shr a b i) ∙ xor_mod (a / 2 ^ i) (b / 2 ^ i) 1
 
 -- a bit times a number is 0 or the number
 pub bit_at-times : (t a i : ℕ) → t < 2 → bit_at (t * a) i ≡ t * bit_at a i

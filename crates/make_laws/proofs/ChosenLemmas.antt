@@ -2,8 +2,9 @@
 use Rattle.std.proofs.Common.{◌≡◌, ℕ, zero, suc, ◌<◌, ◌^◌, ◌+◌, ◌*◌, ◌/◌, ◌%◌, sym, refl, ◌∙◌, ap, ap₂, arith, one-mul, zero-mul, pow-suc, Bool, true, false, List, [], ◌∷◌, length, get_or}
 use Rattle.std.specs.Prelude.{bit_xor, ◌==◌, ◌&&◌}
 use Rattle.std.specs.Int.{bit_at}
-use Rattle.std.specs.Int.Bits.{xor_comm, xor_zero_r, xor_shifted, xor_shr, xor_mod}
+use Rattle.std.specs.Int.Bits.{xor_comm, xor_zero_r, xor_shifted}
 use Rattle.std.proofs.lemmas.Nat.Bits.{bit_at_lowest, bit_at-suc}
+use Rattle.gf_field.proofs.SharedLemmas.{same_sum, sum_open}
 use Rattle.gf_field.specs.Ring.{IsRing}
 use Rattle.gf_field.specs.laws.RingLaws.{distrib_left}
 use Rattle.gf_field.specs.Polynomial.{sum_of_first}
@@ -11,11 +12,9 @@ use Rattle.irreducible.specs.Span.{combination}
 use Rattle.irreducible.specs.laws.AdditiveLaws.{IsAdditive, IsAdditive-self, IsAdditive-double, additive_zero}
 use Rattle.make_laws.specs.Chosen.{chosen, sum_of_chosen}
 use Rattle.make_laws.proofs.BitNumber.{number_of_bits}
-use Rattle.make_laws.proofs.RingSumLemmas.{sum_same, sum_open, sum_additive}
+use Rattle.make_laws.proofs.RingSumLemmas.{sum_additive}
 
 -- ---- one bit
-pub bit_of_sum : (a b i : ℕ) → bit_at (bit_xor a b) i ≡ bit_xor (bit_at a i) (bit_at b i)
-bit_of_sum a b i = ap (λ v. v % 2) (xor_shr a b i) ∙ xor_mod (a / 2 ^ i) (b / 2 ^ i) 1
 
 pub chosen_additive : (h : ℕ → ℕ) → IsAdditive h → (b : Bool) (x : ℕ) → h (chosen b x) ≡ chosen b (h x)
 chosen_additive h additive true x = refl
@@ -36,12 +35,12 @@ chosen_below n false x some h = some
 
 -- ---- sums
 pub chosen_same : (n : ℕ) (a b : ℕ → Bool) (f : ℕ → ℕ) → ((i : ℕ) → i < n → a i ≡ b i) → sum_of_chosen n a f ≡ sum_of_chosen n b f
-chosen_same n a b f same = sum_same n (λ i. chosen (a i) (f i)) (λ i. chosen (b i) (f i)) (λ i h. ap (λ c. chosen c (f i)) (same i h))
+chosen_same n a b f same = same_sum n (λ i. chosen (a i) (f i)) (λ i. chosen (b i) (f i)) (λ i h. ap (λ c. chosen c (f i)) (same i h))
 
 pub chosen_sum_additive : (h : ℕ → ℕ) → IsAdditive h → (n : ℕ) (a : ℕ → Bool) (f : ℕ → ℕ) → h (sum_of_chosen n a f) ≡ sum_of_chosen n a (λ i. h (f i))
 chosen_sum_additive h additive n a f =
     sum_additive h additive n (λ i. chosen (a i) (f i))
-    ∙ sum_same n (λ i. h (chosen (a i) (f i))) (λ i. chosen (a i) (h (f i))) (λ i less. chosen_additive h additive (a i) (f i))
+    ∙ same_sum n (λ i. h (chosen (a i) (f i))) (λ i. chosen (a i) (h (f i))) (λ i less. chosen_additive h additive (a i) (f i))
 
 -- an additive function's value at a product of two sums, pair by pair
 module _ (k : ℕ) (mul : ℕ → ℕ → ℕ) (ring : IsRing k mul) where
@@ -54,7 +53,7 @@ module _ (k : ℕ) (mul : ℕ → ℕ → ℕ) (ring : IsRing k mul) where
   pub product_of_sums : (h : ℕ → ℕ) → IsAdditive h → (m n : ℕ) (a b : ℕ → Bool) (f g : ℕ → ℕ) → h (mul (sum_of_chosen m a f) (sum_of_chosen n b g)) ≡ sum_of_first m (λ i. sum_of_first n (λ j. chosen (a i && b j) (h (mul (f i) (g j)))))
   product_of_sums h additive m n a b f g =
       chosen_sum_additive (λ x. h (mul x (sum_of_chosen n b g))) (additive_times h additive (sum_of_chosen n b g)) m a f
-      ∙ sum_same m (λ i. chosen (a i) (h (mul (f i) (sum_of_chosen n b g)))) (λ i. sum_of_first n (λ j. chosen (a i && b j) (h (mul (f i) (g j))))) (λ i less. one (a i) (f i))
+      ∙ same_sum m (λ i. chosen (a i) (h (mul (f i) (sum_of_chosen n b g)))) (λ i. sum_of_first n (λ j. chosen (a i && b j) (h (mul (f i) (g j))))) (λ i less. one (a i) (f i))
     where
       inner : (c : Bool) (x : ℕ) (n : ℕ) → chosen c (sum_of_chosen n b (λ j. h (mul x (g j)))) ≡ sum_of_first n (λ j. chosen (c && b j) (h (mul x (g j))))
       inner true x n = refl
@@ -126,7 +125,7 @@ number_powers (suc n) a =
     ∙ ap (bit_xor (chosen (a 0) 1))
     (ap (λ v. v * 2) (number_powers n (λ i. a (suc i)))
     ∙ chosen_sum_additive (λ v. v * 2) (IsAdditive-double (λ v. v) IsAdditive-self) n (λ i. a (suc i)) (λ i. 2 ^ i)
-    ∙ sum_same n (λ i. chosen (a (suc i)) (2 ^ i * 2)) (λ i. chosen (a (suc i)) (2 ^ suc i)) (λ i less. ap (chosen (a (suc i))) (sym (pow-suc 2 i))))
+    ∙ same_sum n (λ i. chosen (a (suc i)) (2 ^ i * 2)) (λ i. chosen (a (suc i)) (2 ^ suc i)) (λ i less. ap (chosen (a (suc i))) (sym (pow-suc 2 i))))
     ∙ sym (sum_open n (λ i. chosen (a i) (2 ^ i)))
   where
     turned : (b m : ℕ) → b + 2 * m ≡ m * 2 + b

@@ -3,6 +3,9 @@ use Rattle.std.proofs.Common.{◌≡◌, ℕ, zero, suc, ◌<◌, ◌≤◌, ◌
 use Rattle.std.specs.Prelude.{bit_xor, ◌==◌, ◌&&◌}
 use Rattle.std.specs.Int.{bit_at}
 use Rattle.std.specs.Int.Bits.{xor_comm, xor_lt}
+use Rattle.std.proofs.Math.Nat.{mul-zero}
+use Rattle.lists.specs.laws.XorLaws.{bit_at-sum}
+use Rattle.gf_field.proofs.SharedLemmas.{same_sum}
 use Rattle.gf_field.specs.Ring.{IsRing}
 use Rattle.gf_field.specs.Power.{power}
 use Rattle.gf_field.specs.Polynomial.{sum_of_first}
@@ -12,8 +15,8 @@ use Rattle.irreducible.specs.laws.AdditiveLaws.{IsAdditive}
 use Rattle.make_laws.specs.Chosen.{chosen, sum_of_chosen}
 use Rattle.make_laws.specs.DigitRegisters.{HasUnitPowers, HoldDigitProducts, power_element}
 use Rattle.make_laws.proofs.BitNumber.{number_of_bits}
-use Rattle.make_laws.proofs.RingSumLemmas.{sum_same, sum_split}
-use Rattle.make_laws.proofs.ChosenLemmas.{bit_of_sum, chosen_one, chosen_same, chosen_sum_additive, product_of_sums, number_again, number_same, number_powers}
+use Rattle.make_laws.proofs.RingSumLemmas.{sum_split}
+use Rattle.make_laws.proofs.ChosenLemmas.{chosen_one, chosen_same, chosen_sum_additive, product_of_sums, number_again, number_same, number_powers}
 
 module _ (k : ℕ) (mul : ℕ → ℕ → ℕ) (ring : IsRing k mul) (x : ℕ) (units : (i : ℕ) → i < k → power mul x i ≡ 2 ^ i) where
   -- the element of these bits in the basis of the powers of x
@@ -23,7 +26,7 @@ module _ (k : ℕ) (mul : ℕ → ℕ → ℕ) (ring : IsRing k mul) (x : ℕ) (
   -- it is their number
   pub number_is_sum : (a : ℕ → Bool) → number_of_bits k a ≡ poly_sum a
   unfolding poly_sum
-  number_is_sum a = number_powers k a ∙ sum_same k (λ i. chosen (a i) (2 ^ i)) (λ i. chosen (a i) (power mul x i)) (λ i less. ap (chosen (a i)) (sym (units i less)))
+  number_is_sum a = number_powers k a ∙ same_sum k (λ i. chosen (a i) (2 ^ i)) (λ i. chosen (a i) (power mul x i)) (λ i less. ap (chosen (a i)) (sym (units i less)))
 
   -- the element of digit t of so many bits
   pub digit_sum : ℕ → (ℕ → Bool) → ℕ
@@ -34,23 +37,23 @@ module _ (k : ℕ) (mul : ℕ → ℕ → ℕ) (ring : IsRing k mul) (x : ℕ) (
   after_cycle width z d b = bit_xor (mul (power mul x width) (poly_sum z)) (mul (digit_sum width d) (poly_sum b))
 
   IsAdditive-bit : (l : ℕ) → IsAdditive (λ v. bit_at v l)
-  IsAdditive-bit l = record { sum = λ u v. bit_of_sum u v l }
+  IsAdditive-bit l = record { sum = λ u v. bit_at-sum u v l }
 
   IsAdditive-bit_times : (y l : ℕ) → IsAdditive (λ v. bit_at (mul y v) l)
-  IsAdditive-bit_times y l = record { sum = λ u v. ap (λ w. bit_at w l) (ring.distrib y u v) ∙ bit_of_sum (mul y u) (mul y v) l }
+  IsAdditive-bit_times y l = record { sum = λ u v. ap (λ w. bit_at w l) (ring.distrib y u v) ∙ bit_at-sum (mul y u) (mul y v) l }
 
   bit_after : (width : ℕ) (z d b : ℕ → Bool) (l : ℕ) → bit_at (after_cycle width z d b) l
       ≡ bit_xor (sum_of_first k (λ i. chosen (z i) (bit_at (power mul x (i + width)) l))) (sum_of_first width (λ e. sum_of_first k (λ j. chosen (d e && b j) (bit_at (power mul x (e + j)) l))))
   unfolding after_cycle poly_sum digit_sum
   bit_after width z d b l =
-      bit_of_sum (mul (power mul x width) (sum_of_chosen k z (power mul x))) (mul (sum_of_chosen width d (power mul x)) (sum_of_chosen k b (power mul x))) l
+      bit_at-sum (mul (power mul x width) (sum_of_chosen k z (power mul x))) (mul (sum_of_chosen width d (power mul x)) (sum_of_chosen k b (power mul x))) l
       ∙ ap₂ bit_xor
       (chosen_sum_additive (λ v. bit_at (mul (power mul x width) v) l) (IsAdditive-bit_times (power mul x width) l) k z (power mul x)
-      ∙ sum_same k (λ i. chosen (z i) (bit_at (mul (power mul x width) (power mul x i)) l)) (λ i. chosen (z i) (bit_at (power mul x (i + width)) l))
+      ∙ same_sum k (λ i. chosen (z i) (bit_at (mul (power mul x width) (power mul x i)) l)) (λ i. chosen (z i) (bit_at (power mul x (i + width)) l))
       (λ i less. ap (λ v. chosen (z i) (bit_at v l)) (ring.comm (power mul x width) (power mul x i) ∙ sym (power-add k mul ring x i width))))
       (product_of_sums k mul ring (λ v. bit_at v l) (IsAdditive-bit l) width k d b (power mul x) (power mul x)
-      ∙ sum_same width (λ e. sum_of_first k (λ j. chosen (d e && b j) (bit_at (mul (power mul x e) (power mul x j)) l))) (λ e. sum_of_first k (λ j. chosen (d e && b j) (bit_at (power mul x (e + j)) l)))
-      (λ e less. sum_same k (λ j. chosen (d e && b j) (bit_at (mul (power mul x e) (power mul x j)) l)) (λ j. chosen (d e && b j) (bit_at (power mul x (e + j)) l))
+      ∙ same_sum width (λ e. sum_of_first k (λ j. chosen (d e && b j) (bit_at (mul (power mul x e) (power mul x j)) l))) (λ e. sum_of_first k (λ j. chosen (d e && b j) (bit_at (power mul x (e + j)) l)))
+      (λ e less. same_sum k (λ j. chosen (d e && b j) (bit_at (mul (power mul x e) (power mul x j)) l)) (λ j. chosen (d e && b j) (bit_at (power mul x (e + j)) l))
       (λ j less'. ap (λ v. chosen (d e && b j) (bit_at v l)) (sym (power-add k mul ring x e j)))))
 
   -- registers whose bits are these sums have that element
@@ -79,7 +82,7 @@ module _ (k : ℕ) (mul : ℕ → ℕ → ℕ) (ring : IsRing k mul) (x : ℕ) (
         ∙ sum_split width (width * t) (λ i. chosen (a (k - width * suc t + i)) (power mul x i))
         ∙ xor_comm (sum_of_chosen width (λ e. a (k - width * suc t + e)) (power mul x)) (sum_of_first (width * t) (λ i. chosen (a (k - width * suc t + (width + i))) (power mul x (width + i))))
         ∙ ap (λ v. bit_xor v (sum_of_chosen width (λ e. a (k - width * suc t + e)) (power mul x)))
-        (sum_same (width * t) (λ i. chosen (a (k - width * suc t + (width + i))) (power mul x (width + i))) (λ i. chosen (a (k - width * t + i)) (mul (power mul x width) (power mul x i)))
+        (same_sum (width * t) (λ i. chosen (a (k - width * suc t + (width + i))) (power mul x (width + i))) (λ i. chosen (a (k - width * t + i)) (mul (power mul x width) (power mul x i)))
         (λ i within. ap₂ (λ p v. chosen (a p) v) (place i) (power-add k mul ring x width i))
         ∙ sym (chosen_sum_additive (mul (power mul x width)) (record { sum = ring.distrib (power mul x width) }) (width * t) (λ i. a (k - width * t + i)) (power mul x)))
       where
@@ -94,10 +97,7 @@ module _ (k : ℕ) (mul : ℕ → ℕ → ℕ) (ring : IsRing k mul) (x : ℕ) (
 
     highest_none : highest 0 ≡ 0
     unfolding highest
-    highest_none = ap (λ n. sum_of_chosen n (λ i. a (k - width * 0 + i)) (power mul x)) (none width)
-      where
-        none : (w : ℕ) → w * 0 ≡ 0
-        none w = omega arith
+    highest_none = ap (λ n. sum_of_chosen n (λ i. a (k - width * 0 + i)) (power mul x)) (mul-zero width)
 
     highest_all : highest count ≡ poly_sum a
     unfolding highest poly_sum

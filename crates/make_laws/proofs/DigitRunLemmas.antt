@@ -19,12 +19,12 @@ use Rattle.circuit_model.specs.Run.{HasSource, IsRun, IsStart}
 use Rattle.circuit_model.specs.Word.{Word, HasElement}
 use Rattle.circuit_model.proofs.OutLemmas.{job_some_out}
 use Rattle.circuit_model.proofs.WordLemmas.{same_bits}
+use Rattle.gf_basis.proofs.CodeLaws.{length-first_values}
+use Rattle.gf_field.proofs.SharedLemmas.{same_sum}
 use Rattle.make_laws.specs.Chosen.{chosen}
 use Rattle.make_laws.specs.DigitRegisters.{AreDigitRegisters, HasUnitPowers, digit_step_sum, power_element}
 use Rattle.make_laws.proofs.ChosenLemmas.{number_again}
-use Rattle.make_laws.proofs.RingSumLemmas.{sum_same}
 use Rattle.make_laws.proofs.DigitLemmas.{digit_products}
-use Rattle.make_laws.proofs.NormalLemmas.{first_values_length}
 use Rattle.make_laws.specs.Held.{bit_at_place, net_at, Multiplies}
 use Rattle.make_laws.specs.DigitNets.{DigitNets, AreDigitNets, unit_basis}
 use Rattle.make_laws.proofs.NetBitLemmas.{power_of_bits, power_of_nets}
@@ -34,11 +34,11 @@ use Rattle.make_laws.proofs.RunLemmas.{row, cycle_at, first_row, held, last_row,
 same_step : (k : ℕ) (mul : ℕ → ℕ → ℕ) (x width : ℕ) (z d b other : ℕ → Bool) (l : ℕ) → ((j : ℕ) → j < k → b j ≡ other j) → digit_step_sum k mul x width z d b l ≡ digit_step_sum k mul x width z d other l
 same_step k mul x width z d b other l same =
     ap (bit_xor (sum_of_first k (λ i. chosen (z i) (bit_at (power mul x (i + width)) l))))
-    (sum_same width (λ e. sum_of_first k (λ j. chosen (d e && b j) (bit_at (power mul x (e + j)) l))) (λ e. sum_of_first k (λ j. chosen (d e && other j) (bit_at (power mul x (e + j)) l)))
-    (λ e within. sum_same k (λ j. chosen (d e && b j) (bit_at (power mul x (e + j)) l)) (λ j. chosen (d e && other j) (bit_at (power mul x (e + j)) l))
+    (same_sum width (λ e. sum_of_first k (λ j. chosen (d e && b j) (bit_at (power mul x (e + j)) l))) (λ e. sum_of_first k (λ j. chosen (d e && other j) (bit_at (power mul x (e + j)) l)))
+    (λ e within. same_sum k (λ j. chosen (d e && b j) (bit_at (power mul x (e + j)) l)) (λ j. chosen (d e && other j) (bit_at (power mul x (e + j)) l))
     (λ j less. ap (λ v. chosen (d e && v) (bit_at (power mul x (e + j)) l)) (same j less))))
 
-has_place : (ns : List ℕ) (j : ℕ) → j < length ns → Has ns (net_at ns j)
+pub has_place : (ns : List ℕ) (j : ℕ) → j < length ns → Has ns (net_at ns j)
 has_place [] j h = absurd (omega arith)
 has_place (n ∷ ns) zero h = (0, refl)
 has_place (n ∷ ns) (suc j) h = let has = has_place ns j (omega arith) in (suc has.0, has.1)
@@ -105,7 +105,7 @@ module _ (c : Circuit) (x width : ℕ) (nets : DigitNets) (well : IsJob c) (unit
       fed_bits i = bit_at d i == 1
 
       d_below : d < 2 ^ c.k
-      d_below = subst (λ (n : ℕ). d < 2 ^ n) (first_values_length c.k (λ i. 2 ^ i)) bits_are.short
+      d_below = subst (λ (n : ℕ). d < 2 ^ n) (length-first_values c.k (λ i. 2 ^ i)) bits_are.short
 
       a_is : power_element c.product x c.k fed_bits ≡ a
       unfolding fed_bits

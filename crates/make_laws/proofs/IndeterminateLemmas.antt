@@ -4,6 +4,7 @@ use Rattle.std.specs.Prelude.{bit_xor}
 use Rattle.std.specs.Int.Bits.{xor_self, xor_zero_l, xor_zero_r}
 use Rattle.std.proofs.lemmas.Nat.{pow_below}
 use Rattle.std.proofs.lemmas.Nat.Bits.{bit_at-pow_other}
+use Rattle.std.proofs.Math.Nat.{mul-zero}
 use Rattle.lists.specs.laws.NumberLaws.{bit_cases}
 use Rattle.gf_field.specs.Bit.{bit_mul}
 use Rattle.gf_field.specs.Modulus.{IsModulus}
@@ -47,13 +48,10 @@ line_modulus g ok = at g (modulus_above 1 g ok) (modulus_below 1 g ok)
 
 line_x : (g v : ℕ) → IsModulus 1 g → v < 2 ^ 1 → g % 2 * v ≡ times_x 1 g v
 line_x g v ok h = elim (bit_cases v h) [
-  | inl z ↦ rw z (times_zero (g % 2) ∙ sym (times_x-zero 1 g ok))
+  | inl z ↦ rw z (mul-zero (g % 2) ∙ sym (times_x-zero 1 g ok))
   | inr o ↦ rw o (last (line_modulus g ok) ∙ sym (times_x_reduced 0 g ok 1 (omega arith) refl))
 ]
   where
-    times_zero : (a : ℕ) → a * 0 ≡ 0
-    times_zero a = omega arith
-
     last : (g ≡ 2) ⊎ (g ≡ 3) → g % 2 * 1 ≡ bit_xor (1 * 2) g
     last (inl two) = rw two refl
     last (inr three) = rw three refl

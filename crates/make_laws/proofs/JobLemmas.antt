@@ -1,7 +1,7 @@
 -- The jobs of words and feeds that are bound to both net lists.
 use Rattle.std.proofs.Common.{◌≡◌, ◌∙◌, ap, sym, refl, subst, inl, inr, ℕ, zero, suc, ◌<◌, not, true, false, List, [], ◌∷◌, ◌++◌, length, map, filter, take, cond}
 use Rattle.lists.specs.Lists.{Has}
-use Rattle.lists.specs.laws.HasLaws.{Has_cases}
+use Rattle.lists.specs.laws.HasLaws.{Has_cases, only_one}
 use Rattle.lists.specs.laws.ReadLaws.{from_map}
 use Rattle.net_core.specs.Inside.{IsInside}
 use Rattle.net_core.specs.NetList.{NetList, nets}
@@ -24,7 +24,6 @@ use Rattle.circuit_model.specs.declared.circuit_feed.CircuitFeed.{CircuitFeed}
 use Rattle.circuit_model.specs.declared.circuit_feed.FeedSource.TheVariants.{Bit as BitOf}
 use Rattle.make_laws.specs.Renumbering.{IsRenumbering}
 use Rattle.make_laws.proofs.BindingUnder.{IsBindingUnder, feed_under, word_under}
-use Rattle.make_laws.proofs.BindingLemmas.{alone}
 use Rattle.make_laws.proofs.JobUnder.{job_feed_under, job_word_under}
 use Rattle.make_laws.proofs.NumberListLemmas.{map_join}
 use Rattle.make_laws.proofs.MemberLemmas.{AreNets, FeedNets, StandOnNets}
@@ -82,9 +81,9 @@ module _ (f : ℕ → ℕ) where
 -- ---- their nets
 
 one_low : (net : NetList) (role : Role) (ns basis : List ℕ) → AreNets net ns → (w : Word) → Has (job_word_with role ns basis) w → AreNets net w.nets
-one_low net Input ns basis low w has = let P : Word → Type 0 = λ v. AreNets net v.nets in subst P (alone _ w has) low
-one_low net State ns basis low w has = let P : Word → Type 0 = λ v. AreNets net v.nets in subst P (alone _ w has) low
-one_low net Fed ns basis low w has = let P : Word → Type 0 = λ v. AreNets net v.nets in subst P (alone _ w has) low
+one_low net Input ns basis low w has = let P : Word → Type 0 = λ v. AreNets net v.nets in subst P (only_one _ w has) low
+one_low net State ns basis low w has = let P : Word → Type 0 = λ v. AreNets net v.nets in subst P (only_one _ w has) low
+one_low net Fed ns basis low w has = let P : Word → Type 0 = λ v. AreNets net v.nets in subst P (only_one _ w has) low
 one_low net Output ns basis low w has = absurd (let got = has.1 in cc)
 
 words_low : (net : NetList) (words : List BoundWord) (bases : List (List ℕ)) → StandOnNets net words → (w : Word) → Has (job_words_of words bases) w → AreNets net w.nets

@@ -4,9 +4,10 @@ use Rattle.std.specs.Prelude.{bit_xor}
 use Rattle.std.specs.Int.{bit_at}
 use Rattle.std.specs.Int.Bits.{xor_self, xor_lt}
 use Rattle.std.proofs.lemmas.Nat.{pow_below}
-use Rattle.std.proofs.lemmas.Nat.Bits.{bit_at-suc}
+use Rattle.std.proofs.lemmas.Nat.Bits.{bit_at-suc, bit_at-lt}
 use native.Mathlib.Nat.{mod-eq_of_lt}
-use Rattle.lists.specs.laws.NumberLaws.{bit_cases}
+use Rattle.std.proofs.Math.Nat.{mod-one}
+use Rattle.lists.specs.laws.NumberLaws.{bit_cases, half_of_even}
 use Rattle.gf_field.specs.Ring.{IsRing}
 use Rattle.gf_field.specs.Field.{HasNoZeroDivisors}
 use Rattle.gf_field.specs.Bit.{bit_mul}
@@ -25,9 +26,6 @@ use Rattle.make_laws.proofs.BitLemmas.{times_below}
 use Rattle.make_laws.proofs.SumLemmas.{one_more_bit, times_mul, mul_times}
 use Rattle.make_laws.proofs.IndeterminateLemmas.{x_times, x_below, power_x, line_modulus}
 use Rattle.make_laws.proofs.HalvingLemmas.{halved_below, x_halved, top_bit}
-
-bit_below : (a i : ℕ) → bit_at a i < 2
-bit_below a i = omega arith
 
 -- the last coefficient of the modulus of a field is 1, but for that of x
 pub last_coefficient : (k g : ℕ) → IsModulus k g → HasNoZeroDivisors k (product 1 k bit_mul g) → g ≢ 2 → g % 2 ≡ 1
@@ -54,11 +52,8 @@ last_coefficient (suc (suc d)) g ok field other = elim (bit_cases (g % 2) (omega
     zero_product even =
         x_times (suc (suc d)) g (g / 2) ok below
         ∙ times_x_reduced (suc d) g ok (g / 2) below (sym (bit_at-suc g (suc d)) ∙ top_bit (suc (suc d)) g ok)
-        ∙ ap (λ v. bit_xor v g) (twice g even)
+        ∙ ap (λ v. bit_xor v g) (half_of_even g even)
         ∙ xor_self g
-      where
-        twice : (g : ℕ) → g % 2 ≡ 0 → g / 2 * 2 ≡ g
-        twice g even = omega arith
 
 module _ (k g : ℕ) (ok : IsModulus k g) (odd : g % 2 ≡ 1) where
   abbrev mul : ℕ → ℕ → ℕ
@@ -73,7 +68,7 @@ module _ (k g : ℕ) (ok : IsModulus k g) (odd : g % 2 ≡ 1) where
   pub running_below : (a b i : ℕ) → b < 2 ^ k → running_sum g a b i < 2 ^ k
   unfolding running_sum
   running_below a b zero h = pow_pos k
-  running_below a b (suc i) h = halved_below k g (bit_xor (running_sum g a b i) (bit_at a i * b)) ok (xor_lt k _ _ (running_below a b i h) (times_below k (bit_at a i) b (bit_below a i) h))
+  running_below a b (suc i) h = halved_below k g (bit_xor (running_sum g a b i) (bit_at a i * b)) ok (xor_lt k _ _ (running_below a b i h) (times_below k (bit_at a i) b (bit_at-lt a i) h))
 
   x_next : (i u : ℕ) → u < 2 ^ k → mul (x_to (suc i)) (halved g u) ≡ mul (x_to i) u
   unfolding power
@@ -85,16 +80,13 @@ module _ (k g : ℕ) (ok : IsModulus k g) (odd : g % 2 ≡ 1) where
   -- x to the i times the sum after i coefficients is the product by these coefficients
   pub running_product : (a b i : ℕ) → b < 2 ^ k → i ≤ k → mul (x_to i) (running_sum g a b i) ≡ mul (a % 2 ^ i) b
   unfolding running_sum
-  running_product a b zero h le = mul_zero k mul ring (x_to 0) ∙ sym (ap (λ v. mul v b) (none a) ∙ zero_mul k mul ring b)
-    where
-      none : (a : ℕ) → a % 1 ≡ 0
-      none a = omega arith
+  running_product a b zero h le = mul_zero k mul ring (x_to 0) ∙ sym (ap (λ v. mul v b) (mod-one a) ∙ zero_mul k mul ring b)
   running_product a b (suc i) h le =
-      x_next i (bit_xor (running_sum g a b i) (bit_at a i * b)) (xor_lt k _ _ (running_below a b i h) (times_below k (bit_at a i) b (bit_below a i) h))
+      x_next i (bit_xor (running_sum g a b i) (bit_at a i * b)) (xor_lt k _ _ (running_below a b i h) (times_below k (bit_at a i) b (bit_at-lt a i) h))
       ∙ ring.distrib (x_to i) (running_sum g a b i) (bit_at a i * b)
       ∙ ap₂ bit_xor (running_product a b i h (omega arith))
-      (mul_times k mul ring (bit_at a i) b (x_to i) (bit_below a i)
-      ∙ sym (times_mul k mul ring (bit_at a i) (x_to i) b (bit_below a i))
+      (mul_times k mul ring (bit_at a i) b (x_to i) (bit_at-lt a i)
+      ∙ sym (times_mul k mul ring (bit_at a i) (x_to i) b (bit_at-lt a i))
       ∙ ap (λ v. mul (bit_at a i * v) b) (power_x k g i ok le))
       ∙ sym (distrib_left k mul ring (a % 2 ^ i) (bit_at a i * 2 ^ i) b)
       ∙ ap (λ v. mul v b) (sym (one_more_bit a i))

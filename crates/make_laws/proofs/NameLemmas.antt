@@ -7,6 +7,7 @@ use Rattle.std.proofs.lemmas.Slice.Eq.{bytes_eq-Decides}
 use Rattle.lists.specs.Lists.{Has}
 use Rattle.lists.specs.laws.BoolLaws.{second_true}
 use Rattle.lists.specs.laws.HasLaws.{All_has, Has_cases, times_some}
+use Rattle.lists.specs.laws.OptionLaws.{same_some}
 use Rattle.lists.specs.laws.ReadLaws.{from_map, get_below}
 use Rattle.net_core.specs.GateValue.{GateValue}
 use Rattle.net_core.specs.Inside.{GateIsInside, IsInside, LatchIsInside}
@@ -20,9 +21,6 @@ use Rattle.net_write.specs.Written.{names_of}
 use Rattle.net_write.proofs.PlainLemmas.{text_at}
 use Rattle.make_laws.specs.Renumbering.{IsRenumbering, gate_under, latch_under}
 use Rattle.make_laws.proofs.NumberListLemmas.{map_both, map_join, map_same}
-
-same_some : {A : Type 0} (a b : A) → ◌≡◌ {A = Option A} (Some a) (Some b) → a ≡ b
-same_some a b e = cc
 
 -- ---- names
 

@@ -1,17 +1,18 @@
 -- Bits of nets by place, and the elements that they make.
 use Rattle.std.proofs.Common.{◌≡◌, ◌∙◌, ap, ap₂, sym, refl, ℕ, ◌+◌, ◌*◌, ◌^◌, Bool, true, false, List, [], ◌∷◌, length, get_or, cond}
+use Rattle.gf_basis.proofs.CodeLaws.{length-first_values, get_or-first_values}
 use Rattle.net_core.specs.Value.{bit_of, index_of}
 use Rattle.gf_field.specs.Ring.{IsRing}
 use Rattle.gf_basis.specs.Basis.{first_values}
 use Rattle.gf_basis.specs.BasisFault.{conjugates_of}
+use Rattle.gf_field.proofs.SharedLemmas.{same_sum}
 use Rattle.irreducible.specs.Span.{combination}
 use Rattle.make_laws.specs.Chosen.{chosen, sum_of_chosen}
 use Rattle.make_laws.specs.NormalRegisters.{normal_element}
 use Rattle.make_laws.specs.DigitRegisters.{HasUnitPowers, power_element}
 use Rattle.make_laws.proofs.BitNumber.{number_of_bits}
-use Rattle.make_laws.proofs.RingSumLemmas.{sum_same}
 use Rattle.make_laws.proofs.ChosenLemmas.{combination-chosen, number_powers}
-use Rattle.make_laws.proofs.NormalLemmas.{first_values_length, first_values_at, combination_normal}
+use Rattle.make_laws.proofs.NormalLemmas.{combination_normal}
 use Rattle.make_laws.proofs.DigitLemmas.{number_is_power}
 use Rattle.make_laws.specs.Held.{bit_at_place}
 use Rattle.make_laws.specs.DigitNets.{unit_basis}
@@ -27,11 +28,11 @@ index_number bits (n ∷ ns) = ap₂ (λ x y. x + 2 * y) (one (bit_of bits n)) (
 -- a number's element in the basis of the numbers 2 to the i is itself
 pub combination_units : (k : ℕ) (a : ℕ → Bool) → combination (unit_basis k) (number_of_bits k a) ≡ number_of_bits k a
 combination_units k a =
-    let long : length (first_values k (λ i. 2 ^ i)) ≡ k = first_values_length k (λ i. 2 ^ i) in
+    let long : length (first_values k (λ i. 2 ^ i)) ≡ k = length-first_values k (λ i. 2 ^ i) in
     ap (λ n. combination (first_values k (λ i. 2 ^ i)) (number_of_bits n a)) (sym long)
     ∙ combination-chosen (first_values k (λ i. 2 ^ i)) a
     ∙ ap (λ n. sum_of_chosen n a (λ i. get_or (first_values k (λ i. 2 ^ i)) i 0)) long
-    ∙ sum_same k (λ i. chosen (a i) (get_or (first_values k (λ i. 2 ^ i)) i 0)) (λ i. chosen (a i) (2 ^ i)) (λ i h. ap (chosen (a i)) (first_values_at k (λ i. 2 ^ i) i h))
+    ∙ same_sum k (λ i. chosen (a i) (get_or (first_values k (λ i. 2 ^ i)) i 0)) (λ i. chosen (a i) (2 ^ i)) (λ i h. ap (chosen (a i)) (get_or-first_values k (λ i. 2 ^ i) i h))
     ∙ sym (number_powers k a)
 
 -- the element of nets in a normal basis

@@ -4,6 +4,10 @@ use Rattle.std.specs.Prelude.{bit_xor, ◌==◌, ◌&&◌}
 use Rattle.std.specs.Int.{bit_at}
 use Rattle.std.specs.Int.Bits.{xor_comm, xor_lt, xor_mod}
 use native.Mathlib.Nat.{mod-eq_of_lt}
+use Rattle.std.proofs.Math.Nat.{zero-add, suc-add}
+use Rattle.lists.specs.laws.NumberLaws.{suc_less_one}
+use Rattle.lists.specs.laws.XorLaws.{bit_at-sum}
+use Rattle.gf_basis.proofs.CodeLaws.{length-first_values, get_or-first_values}
 use Rattle.gf_field.specs.Ring.{IsRing}
 use Rattle.gf_field.specs.Field.{HasNoZeroDivisors}
 use Rattle.gf_field.specs.Polynomial.{sum_of_first}
@@ -14,41 +18,29 @@ use Rattle.gf_field.specs.laws.TraceLaws.{frobenius-power, frobenius-mul}
 use Rattle.irreducible.specs.Span.{combination}
 use Rattle.irreducible.specs.laws.SpanLaws.{combination-xor}
 use Rattle.irreducible.specs.laws.AdditiveLaws.{IsAdditive}
-use Rattle.gf_basis.specs.Basis.{IsBasis, AreBits, HasOnlyBits, first_values}
+use Rattle.gf_basis.specs.Basis.{IsBasis, AreBits, HasOnlyBits}
 use Rattle.gf_basis.specs.BasisFault.{conjugates_of}
+use Rattle.gf_field.proofs.SharedLemmas.{same_sum, sum_open}
 use Rattle.make_laws.specs.Chosen.{chosen, sum_of_chosen}
 use Rattle.make_laws.specs.NormalRegisters.{turned, normal_element, HoldNormalProducts}
 use Rattle.make_laws.proofs.BitNumber.{number_of_bits}
-use Rattle.make_laws.proofs.RingSumLemmas.{sum_same, sum_open}
-use Rattle.make_laws.proofs.ChosenLemmas.{bit_of_sum, chosen_one, chosen_same, chosen_sum_additive, product_of_sums, number_below, number_bit, number_again, combination-chosen}
-
-pub first_values_length : (k : ℕ) (f : ℕ → ℕ) → length (first_values k f) ≡ k
-first_values_length zero f = refl
-first_values_length (suc k) f = ap suc (first_values_length k (λ i. f (suc i)))
-
-pub first_values_at : (k : ℕ) (f : ℕ → ℕ) (i : ℕ) → i < k → get_or (first_values k f) i 0 ≡ f i
-first_values_at zero f i h = absurd (omega arith)
-first_values_at (suc k) f zero h = refl
-first_values_at (suc k) f (suc i) h = first_values_at k (λ i. f (suc i)) i (omega arith)
+use Rattle.make_laws.proofs.ChosenLemmas.{chosen_one, chosen_same, chosen_sum_additive, product_of_sums, number_below, number_bit, number_again, combination-chosen}
 
 -- the element of a number's bits in the normal basis
 pub combination_normal : (k : ℕ) (mul : ℕ → ℕ → ℕ) (gamma : ℕ) (a : ℕ → Bool) → combination (conjugates_of k mul gamma) (number_of_bits k a) ≡ normal_element k mul gamma a
 combination_normal k mul gamma a =
-    let long : length (conjugates_of k mul gamma) ≡ k = first_values_length k (λ i. frobenius mul i gamma) in
+    let long : length (conjugates_of k mul gamma) ≡ k = length-first_values k (λ i. frobenius mul i gamma) in
     ap (λ n. combination (conjugates_of k mul gamma) (number_of_bits n a)) (sym long)
     ∙ combination-chosen (conjugates_of k mul gamma) a
     ∙ ap (λ n. sum_of_chosen n a (λ i. get_or (conjugates_of k mul gamma) i 0)) long
-    ∙ sum_same k (λ i. chosen (a i) (get_or (conjugates_of k mul gamma) i 0)) (λ i. chosen (a i) (frobenius mul i gamma)) (λ i h. ap (chosen (a i)) (first_values_at k (λ i. frobenius mul i gamma) i h))
+    ∙ same_sum k (λ i. chosen (a i) (get_or (conjugates_of k mul gamma) i 0)) (λ i. chosen (a i) (frobenius mul i gamma)) (λ i h. ap (chosen (a i)) (get_or-first_values k (λ i. frobenius mul i gamma) i h))
 
 -- a sum over values that come again after m + 1 places, with the bits turned
 sum_turned : (m : ℕ) (a : ℕ → Bool) (f : ℕ → ℕ) → f (suc m) ≡ f 0 → sum_of_chosen (suc m) (turned (suc m) a) f ≡ sum_of_chosen (suc m) a (λ i. f (suc i))
 sum_turned m a f again =
     sum_open m (λ i. chosen (turned (suc m) a i) (f i))
     ∙ xor_comm (chosen (a (suc m - 1)) (f 0)) (sum_of_chosen m a (λ i. f (suc i)))
-    ∙ ap (bit_xor (sum_of_chosen m a (λ i. f (suc i)))) (ap₂ (λ i x. chosen (a i) x) (less m) (sym again))
-  where
-    less : (m : ℕ) → suc m - 1 ≡ m
-    less m = omega arith
+    ∙ ap (bit_xor (sum_of_chosen m a (λ i. f (suc i)))) (ap₂ (λ i x. chosen (a i) x) (suc_less_one m) (sym again))
 
 module _ (k : ℕ) (mul : ℕ → ℕ → ℕ) (ring : IsRing k mul) (field : HasNoZeroDivisors k mul) (gamma : ℕ) (inside : gamma < 2 ^ k) where
   -- the element of these bits in the normal basis
@@ -80,13 +72,13 @@ module _ (k : ℕ) (mul : ℕ → ℕ → ℕ) (ring : IsRing k mul) (field : Ha
     coordinate x i = bit_at (bits x) i == 1
 
     bits_below : (x : ℕ) → x < 2 ^ k → bits x < 2 ^ k
-    bits_below x h = subst (λ (n : ℕ). bits x < 2 ^ n) (first_values_length k (λ i. frobenius mul i gamma)) (are x h).short
+    bits_below x h = subst (λ (n : ℕ). bits x < 2 ^ n) (length-first_values k (λ i. frobenius mul i gamma)) (are x h).short
 
     -- the coordinates are the only bits with this element
     only_bits : (x d : ℕ) → x < 2 ^ k → d < 2 ^ k → combination (conjugates_of k mul gamma) d ≡ x → d ≡ bits x
     only_bits x d h short is =
         let only : HasOnlyBits (conjugates_of k mul gamma) x = basis.sums x h in
-        only.only d (record { short = subst (λ (n : ℕ). d < 2 ^ n) (sym (first_values_length k (λ i. frobenius mul i gamma))) short; is = is })
+        only.only d (record { short = subst (λ (n : ℕ). d < 2 ^ n) (sym (length-first_values k (λ i. frobenius mul i gamma))) short; is = is })
         ∙ sym (only.only (bits x) (are x h))
 
     pub coordinates_are : (x : ℕ) (a : ℕ → Bool) → x < 2 ^ k → normal_sum a ≡ x → (i : ℕ) → i < k → coordinate x i ≡ a i
@@ -117,21 +109,15 @@ module _ (k : ℕ) (mul : ℕ → ℕ → ℕ) (ring : IsRing k mul) (field : Ha
     -- coordinate i is coordinate t + i of the t-th square
     pub squares_turn : (t x i : ℕ) → x < 2 ^ k → t + i < k → coordinate (frobenius mul t x) (t + i) ≡ coordinate x i
     unfolding frobenius
-    squares_turn zero x i h less = ap (coordinate x) (plain i)
-      where
-        plain : (i : ℕ) → 0 + i ≡ i
-        plain i = omega arith
+    squares_turn zero x i h less = ap (coordinate x) (zero-add i)
     squares_turn (suc t) x i h less =
-        ap (coordinate (frobenius mul (suc t) x)) (moved t i)
+        ap (coordinate (frobenius mul (suc t) x)) (suc-add t i)
         ∙ square_turns (frobenius mul t x) (suc (t + i)) (frobenius_inside t x h) (omega arith)
         ∙ squares_turn t x i h (omega arith)
-      where
-        moved : (t i : ℕ) → suc t + i ≡ suc (t + i)
-        moved t i = omega arith
 
     -- the number of a coordinate of a product is a sum over all pairs of elements of the basis
     IsAdditive-bit : (l : ℕ) → IsAdditive (λ x. bit_at (bits (x % 2 ^ k)) l)
-    IsAdditive-bit l = record { sum = λ x y. ap (λ d. bit_at d l) (both x y) ∙ bit_of_sum (bits (x % 2 ^ k)) (bits (y % 2 ^ k)) l }
+    IsAdditive-bit l = record { sum = λ x y. ap (λ d. bit_at d l) (both x y) ∙ bit_at-sum (bits (x % 2 ^ k)) (bits (y % 2 ^ k)) l }
       where
         both : (x y : ℕ) → bits (bit_xor x y % 2 ^ k) ≡ bit_xor (bits (x % 2 ^ k)) (bits (y % 2 ^ k))
         both x y =
@@ -147,9 +133,9 @@ module _ (k : ℕ) (mul : ℕ → ℕ → ℕ) (ring : IsRing k mul) (field : Ha
     coordinate_product a b l =
         ap (λ x. bit_at (bits x) l) (sym (mod-eq_of_lt (ring.closed (normal_sum a) (normal_sum b))))
         ∙ product_of_sums k mul ring (λ x. bit_at (bits (x % 2 ^ k)) l) (IsAdditive-bit l) k k a b (λ i. frobenius mul i gamma) (λ i. frobenius mul i gamma)
-        ∙ sum_same k (λ i. sum_of_first k (λ j. chosen (a i && b j) (bit_at (bits (mul (frobenius mul i gamma) (frobenius mul j gamma) % 2 ^ k)) l)))
+        ∙ same_sum k (λ i. sum_of_first k (λ j. chosen (a i && b j) (bit_at (bits (mul (frobenius mul i gamma) (frobenius mul j gamma) % 2 ^ k)) l)))
         (λ i. sum_of_first k (λ j. chosen (a i && b j) (bit_at (bits (mul (frobenius mul i gamma) (frobenius mul j gamma))) l)))
-        (λ i less. sum_same k (λ j. chosen (a i && b j) (bit_at (bits (mul (frobenius mul i gamma) (frobenius mul j gamma) % 2 ^ k)) l))
+        (λ i less. same_sum k (λ j. chosen (a i && b j) (bit_at (bits (mul (frobenius mul i gamma) (frobenius mul j gamma) % 2 ^ k)) l))
         (λ j. chosen (a i && b j) (bit_at (bits (mul (frobenius mul i gamma) (frobenius mul j gamma))) l))
         (λ j less'. ap (λ x. chosen (a i && b j) (bit_at (bits x) l)) (mod-eq_of_lt (ring.closed (frobenius mul i gamma) (frobenius mul j gamma)))))
 

@@ -6,20 +6,21 @@ use Rattle.std.specs.Int.Bits.{xor_zero_r}
 use Rattle.std.proofs.lemmas.Bool.{cases_lt}
 use Rattle.std.proofs.lemmas.Bool.Decides.{nat_tests}
 use Rattle.std.proofs.lemmas.Nat.Bits.{bit_at-zero}
+use Rattle.gf_field.proofs.SharedLemmas.{same_sum, sum_zero}
 use Rattle.gf_field.specs.Ring.{IsRing}
 use Rattle.gf_field.specs.Polynomial.{convolution, sum_of_first}
 use Rattle.gf_field.specs.laws.RingLaws.{zero_mul, mul_zero}
 use Rattle.gf_field.specs.laws.QuotientLaws.{EndsAt}
 use Rattle.gf_field.specs.laws.ConvolutionLaws.{IsSumOverPairs-convolution}
+use Rattle.make_laws.proofs.RingSumLemmas.{sum_split}
 use Rattle.make_laws.specs.TowerProduct.{adds_to}
-use Rattle.make_laws.proofs.SumLemmas.{sum_same, sum_none, bit_at-sum_of_first}
-use Rattle.make_laws.proofs.TowerLemmas.{sum_split}
+use Rattle.make_laws.proofs.SumLemmas.{bit_at-sum_of_first}
 
 -- values that are 0 do not count
 pub sum_long : (p r : ℕ) (f : ℕ → ℕ) → ((i : ℕ) → p ≤ i → f i ≡ 0) → sum_of_first (p + r) f ≡ sum_of_first p f
 sum_long p r f none =
     sum_split p r f
-    ∙ ap (bit_xor (sum_of_first p f)) (sum_none r (λ i. f (p + i)) (λ i l. none (p + i) (omega arith)))
+    ∙ ap (bit_xor (sum_of_first p f)) (sum_zero r (λ i. f (p + i)) (λ i l. none (p + i) (omega arith)))
     ∙ xor_zero_r (sum_of_first p f)
 
 pub adds_cases : (m d i : ℕ) → ((adds_to m d i ≡ true) × (i ≤ d) × (d < i + m)) ⊎ ((adds_to m d i ≡ false) × ((d < i) ⊎ (i + m ≤ d)))
@@ -72,7 +73,7 @@ module _ (n : ℕ) (mul : ℕ → ℕ → ℕ) (ring : IsRing n mul) (m : ℕ) (
   pub pairs_sum : (d : ℕ) → convolution mul a b d ≡ sum_of_first m (λ i. if adds_to m d i then mul (a i) (b (d - i)) else 0)
   pairs_sum d =
       IsSumOverPairs-convolution mul a b d
-      ∙ sum_same (suc d) (λ i. mul (a i) (b (d - i))) (added d) (added_low d)
+      ∙ same_sum (suc d) (λ i. mul (a i) (b (d - i))) (added d) (added_low d)
       ∙ sym (sum_long (suc d) m (added d) (added_past d))
       ∙ ap (λ x. sum_of_first x (added d)) (turned d m)
       ∙ sum_long m (suc d) (added d) (added_above d)
@@ -84,7 +85,7 @@ module _ (n : ℕ) (mul : ℕ → ℕ → ℕ) (ring : IsRing n mul) (m : ℕ) (
   pairs_bit d l =
       ap (λ x. bit_at x l) (pairs_sum d)
       ∙ bit_at-sum_of_first m (added d) l
-      ∙ sum_same m (λ i. bit_at (added d i) l) (λ i. if adds_to m d i then bit_at (mul (a i) (b (d - i))) l else 0) (λ i h. by (adds_to m d i) (mul (a i) (b (d - i))))
+      ∙ same_sum m (λ i. bit_at (added d i) l) (λ i. if adds_to m d i then bit_at (mul (a i) (b (d - i))) l else 0) (λ i h. by (adds_to m d i) (mul (a i) (b (d - i))))
     where
       by : (t : Bool) (x : ℕ) → bit_at (if t then x else 0) l ≡ (if t then bit_at x l else 0)
       by true x = refl

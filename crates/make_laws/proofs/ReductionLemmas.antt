@@ -2,6 +2,8 @@
 use Rattle.std.proofs.Common.{◌≡◌, ℕ, zero, suc, refl, sym, ◌∙◌, ap, ap₂, ◌≤◌, ◌+◌, ◌-◌, arith}
 use Rattle.std.specs.Prelude.{bit_xor}
 use Rattle.std.specs.Int.Bits.{xor_zero_l}
+use Rattle.std.proofs.Math.Nat.{suc-add}
+use Rattle.gf_field.proofs.SharedLemmas.{sum_open, same_sum}
 use mathlib.Core.Path.{fun_ext}
 use Rattle.gf_field.specs.Ring.{IsRing}
 use Rattle.gf_field.specs.Polynomial.{convolution, sum_of_first}
@@ -9,7 +11,6 @@ use Rattle.gf_field.specs.Quotient.{none, unit, plus, times, shift, rest, step, 
 use Rattle.gf_field.specs.laws.RingLaws.{zero_mul, mul_zero}
 use Rattle.gf_field.specs.laws.QuotientLaws.{EndsAt, AllBelow, step_plus, reduced_xor, quotient_one}
 use Rattle.gf_field.specs.laws.ProductLaws.{convolution_open, convolution_none}
-use Rattle.make_laws.proofs.SumLemmas.{sum_first, sum_same}
 
 -- f after d steps
 unfoldable pub stepped : (ℕ → ℕ → ℕ) → ℕ → (ℕ → ℕ) → ℕ → (ℕ → ℕ) → ℕ → ℕ
@@ -62,15 +63,12 @@ module _ (n : ℕ) (mul : ℕ → ℕ → ℕ) (ring : IsRing n mul) (e : ℕ) (
   reduced_convolution zero l u v f eu ev =
       reduced_nothing (0 + l) (convolution mul u v) f (λ i. ap (λ w. convolution mul w v i) (fun_ext (λ j. eu j (omega arith))) ∙ convolution_none n mul ring v i)
   reduced_convolution (suc m) l u v f eu ev =
-      ap (λ x. reduced mul e g x (convolution mul u v) f) (moved m l)
+      ap (λ x. reduced mul e g x (convolution mul u v) f) (suc-add m l)
       ∙ ap (λ w. reduced mul e g (suc (m + l)) w f) (convolution_open mul u v)
       ∙ reduced_xor n mul ring e g (suc (m + l)) (times mul (u 0) v) (shift (convolution mul (rest u) v)) f
       ∙ ap₂ plus
       (reduced_scaled (suc (m + l)) (u 0) v f ∙ ap (times mul (u 0)) (reduced_long l (suc (m + l)) v f ev (omega arith)))
       (reduced_shift (m + l) (convolution mul (rest u) v) f ∙ ap (step mul e g) (reduced_convolution m l (rest u) v f (λ i h. eu (suc i) (omega arith)) ev))
-    where
-      moved : (m l : ℕ) → suc m + l ≡ suc (m + l)
-      moved m l = omega arith
 
   -- a step of a sum
   step_sum : (m : ℕ) (h : ℕ → ℕ → ℕ) (i : ℕ) → step mul e g (λ j. sum_of_first m (λ d. h d j)) i ≡ sum_of_first m (λ d. step mul e g (h d) i)
@@ -86,9 +84,9 @@ module _ (n : ℕ) (mul : ℕ → ℕ → ℕ) (ring : IsRing n mul) (e : ℕ) (
       ap (bit_xor (mul (u 0) (f i)))
       (ap (λ p. step mul e g p i) (fun_ext (λ j. reduced_sum m (rest u) f j))
       ∙ step_sum m (λ d j. mul (u (suc d)) (stepped mul e g d f j)) i
-      ∙ sum_same m (λ d. step mul e g (λ j. mul (u (suc d)) (stepped mul e g d f j)) i) (λ d. mul (u (suc d)) (step mul e g (stepped mul e g d f) i))
+      ∙ same_sum m (λ d. step mul e g (λ j. mul (u (suc d)) (stepped mul e g d f j)) i) (λ d. mul (u (suc d)) (step mul e g (stepped mul e g d f) i))
       (λ d l. ap (λ p. p i) (step_times (u (suc d)) (stepped mul e g d f))))
-      ∙ sym (sum_first m (λ d. mul (u d) (stepped mul e g d f i)))
+      ∙ sym (sum_open m (λ d. mul (u d) (stepped mul e g d f i)))
 
   module _ (monic : g (suc e) ≡ 1) (last : EndsAt (suc (suc e)) g) where
     -- the coefficients of a product

@@ -1,28 +1,17 @@
 -- Sums of the first values of a function.
-use Rattle.std.proofs.Common.{◌≡◌, ℕ, zero, suc, refl, sym, ◌∙◌, ap, ap₂, ◌<◌, ◌^◌, ◌+◌, ◌*◌, ◌%◌, arith, zero-mul, pow_pos, mod-lt, inl, inr}
+use Rattle.std.proofs.Common.{◌≡◌, ℕ, zero, suc, sym, ◌∙◌, ap, ap₂, ◌<◌, ◌^◌, ◌+◌, ◌*◌, ◌%◌, arith, zero-mul, pow_pos, mod-lt, inl, inr}
 use Rattle.std.specs.Prelude.{bit_xor}
 use Rattle.std.specs.Int.{bit_at}
-use Rattle.std.specs.Int.Bits.{xor_zero_l, xor_zero_r, xor_self, xor_block, xor_comm, xor_assoc}
-use Rattle.std.proofs.lemmas.Nat.{mod-pow-add}
+use Rattle.std.specs.Int.Bits.{xor_zero_l, xor_zero_r, xor_block}
+use Rattle.std.proofs.lemmas.Nat.{mod-pow-add, pow_pos as pow_pos_law}
 use Rattle.std.proofs.lemmas.Nat.Bits.{bit_at-zero}
-use Rattle.lists.specs.laws.NumberLaws.{bit_cases}
+use Rattle.std.proofs.Math.Nat.{mod-one, one-mul}
+use Rattle.lists.specs.laws.NumberLaws.{bit_cases, self_plus_zero}
+use Rattle.lists.specs.laws.XorLaws.{bit_at-sum}
 use Rattle.gf_field.specs.Ring.{IsRing}
 use Rattle.gf_field.specs.Polynomial.{sum_of_first}
 use Rattle.gf_field.specs.laws.RingLaws.{distrib_left, zero_mul, mul_zero, square-xor}
-use Rattle.make_laws.proofs.BitLemmas.{bit_at-sum, times-xor}
-
-pub sum_same : (m : ℕ) (f h : ℕ → ℕ) → ((i : ℕ) → i < m → f i ≡ h i) → sum_of_first m f ≡ sum_of_first m h
-sum_same zero f h e = refl
-sum_same (suc m) f h e = ap₂ bit_xor (sum_same m f h (λ i l. e i (omega arith))) (e m (omega arith))
-
-pub sum_none : (m : ℕ) (f : ℕ → ℕ) → ((i : ℕ) → i < m → f i ≡ 0) → sum_of_first m f ≡ 0
-sum_none zero f e = refl
-sum_none (suc m) f e = ap₂ bit_xor (sum_none m f (λ i l. e i (omega arith))) (e m (omega arith)) ∙ xor_self 0
-
--- the first value apart
-pub sum_first : (m : ℕ) (f : ℕ → ℕ) → sum_of_first (suc m) f ≡ bit_xor (f 0) (sum_of_first m (λ i. f (suc i)))
-sum_first zero f = xor_comm 0 (f 0)
-sum_first (suc m) f = ap (λ x. bit_xor x (f (suc m))) (sum_first m f) ∙ xor_assoc (f 0) (sum_of_first m (λ i. f (suc i))) (f (suc m))
+use Rattle.make_laws.proofs.BitLemmas.{times-xor}
 
 -- the bits of a sum
 pub bit_at-sum_of_first : (m : ℕ) (f : ℕ → ℕ) (l : ℕ) → bit_at (sum_of_first m f) l ≡ sum_of_first m (λ i. bit_at (f i) l)
@@ -39,8 +28,8 @@ pub one_more_bit : (a i : ℕ) → a % 2 ^ suc i ≡ bit_xor (a % 2 ^ i) (bit_at
 one_more_bit a i =
     ap (λ x. a % 2 ^ x) (moved i)
     ∙ mod-pow-add a 1 i
-    ∙ sym (ap₂ bit_xor (padded_left (2 ^ i) (a % 2 ^ i)) (padded_right (bit_at a i * 2 ^ i))
-    ∙ xor_block i 0 (bit_at a i) (a % 2 ^ i) 0 (mod_below a i) (pow_above i)
+    ∙ sym (ap₂ bit_xor (padded_left (2 ^ i) (a % 2 ^ i)) (self_plus_zero (bit_at a i * 2 ^ i))
+    ∙ xor_block i 0 (bit_at a i) (a % 2 ^ i) 0 (mod_below a i) (pow_pos_law i)
     ∙ ap₂ (λ x y. x * 2 ^ i + y) (xor_zero_l (bit_at a i)) (xor_zero_r (a % 2 ^ i)))
   where
     moved : (i : ℕ) → suc i ≡ 1 + i
@@ -49,21 +38,12 @@ one_more_bit a i =
     padded_left : (p r : ℕ) → r ≡ 0 * p + r
     padded_left p r = omega arith
 
-    padded_right : (r : ℕ) → r ≡ r + 0
-    padded_right r = omega arith
-
-    pow_above : (i : ℕ) → 0 < 2 ^ i
-    pow_above i = pow_pos i
-
     mod_below : (a i : ℕ) → a % 2 ^ i < 2 ^ i
     mod_below a i = mod-lt a (pow_pos i)
 
 -- a number as the sum of the powers of 2 whose bits are 1
 pub sum_of_bits : (a m : ℕ) → a % 2 ^ m ≡ sum_of_first m (λ i. bit_at a i * 2 ^ i)
-sum_of_bits a zero = one a
-  where
-    one : (a : ℕ) → a % 1 ≡ 0
-    one a = omega arith
+sum_of_bits a zero = mod-one a
 sum_of_bits a (suc m) = one_more_bit a m ∙ ap (λ x. bit_xor x (bit_at a m * 2 ^ m)) (sum_of_bits a m)
 
 module _ (k : ℕ) (mul : ℕ → ℕ → ℕ) (ring : IsRing k mul) where
@@ -79,11 +59,8 @@ module _ (k : ℕ) (mul : ℕ → ℕ → ℕ) (ring : IsRing k mul) where
   pub times_mul : (t v c : ℕ) → t < 2 → mul (t * v) c ≡ t * mul v c
   times_mul t v c h = elim (bit_cases t h) [
     | inl z ↦ rw z (ap (λ x. mul x c) (zero-mul v) ∙ zero_mul k mul ring c ∙ sym (zero-mul (mul v c)))
-    | inr o ↦ rw o (ap (λ x. mul x c) (one v) ∙ sym (one (mul v c)))
+    | inr o ↦ rw o (ap (λ x. mul x c) (one-mul v) ∙ sym (one-mul (mul v c)))
   ]
-    where
-      one : (v : ℕ) → 1 * v ≡ v
-      one v = omega arith
 
   pub mul_times : (t v c : ℕ) → t < 2 → mul c (t * v) ≡ t * mul c v
   mul_times t v c h = ring.comm c (t * v) ∙ times_mul t v c h ∙ ap (λ x. t * x) (ring.comm v c)
@@ -91,8 +68,5 @@ module _ (k : ℕ) (mul : ℕ → ℕ → ℕ) (ring : IsRing k mul) where
   pub times_square : (t v : ℕ) → t < 2 → mul (t * v) (t * v) ≡ t * mul v v
   times_square t v h = elim (bit_cases t h) [
     | inl z ↦ rw z (ap (λ x. mul x (0 * v)) (zero-mul v) ∙ zero_mul k mul ring (0 * v) ∙ sym (zero-mul (mul v v)))
-    | inr o ↦ rw o (ap₂ mul (one v) (one v) ∙ sym (one (mul v v)))
+    | inr o ↦ rw o (ap₂ mul (one-mul v) (one-mul v) ∙ sym (one-mul (mul v v)))
   ]
-    where
-      one : (v : ℕ) → 1 * v ≡ v
-      one v = omega arith

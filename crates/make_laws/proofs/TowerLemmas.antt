@@ -1,8 +1,10 @@
 -- The coefficients of a product in a tower, by the coefficients of its factors and those of the powers of Y.
-use Rattle.std.proofs.Common.{◌≡◌, ℕ, zero, suc, refl, sym, ◌∙◌, ap, ap₂, ◌<◌, ◌≤◌, ◌^◌, ◌+◌, ◌*◌, ◌-◌, arith, pow_pos, mul-suc, add-suc, add-zero, subst, List}
+use Rattle.std.proofs.Common.{◌≡◌, ℕ, zero, suc, refl, sym, ◌∙◌, ap, ap₂, ◌<◌, ◌≤◌, ◌^◌, ◌+◌, ◌*◌, ◌-◌, arith, pow_pos, subst, List}
 use Rattle.std.specs.Prelude.{bit_xor}
-use Rattle.std.specs.Int.Bits.{xor_zero_r, xor_assoc}
+use Rattle.std.specs.Int.Bits.{xor_zero_r}
 use Rattle.std.proofs.lemmas.Nat.{pow_below, shr_high, mod_low}
+use Rattle.lists.specs.laws.NumberLaws.{once_plus_zero, below_times, times_positive}
+use Rattle.gf_field.proofs.SharedLemmas.{same_sum}
 use mathlib.Core.Path.{fun_ext}
 use Rattle.gf_field.specs.Ring.{IsRing}
 use Rattle.gf_field.specs.Power.{power}
@@ -17,16 +19,8 @@ use Rattle.gf_tower.specs.Tower.{tower_polynomial}
 use Rattle.gf_tower.specs.Digits.{IsPackedList}
 use Rattle.gf_tower.specs.laws.TowerLaws.{IsMonic-tower}
 use Rattle.make_laws.specs.TowerProduct.{HasTowerCoefficients}
-use Rattle.make_laws.proofs.SumLemmas.{sum_same}
 use Rattle.make_laws.proofs.ReductionLemmas.{stepped, reduced_shift, reduced_sum, reduced_nothing, step_none, product_sum_of_powers}
-
--- the sum of m and l values
-pub sum_split : (m l : ℕ) (f : ℕ → ℕ) → sum_of_first (m + l) f ≡ bit_xor (sum_of_first m f) (sum_of_first l (λ i. f (m + i)))
-sum_split m zero f = ap (λ x. sum_of_first x f) (add-zero m) ∙ sym (xor_zero_r (sum_of_first m f))
-sum_split m (suc l) f =
-    ap (λ x. sum_of_first x f) (add-suc m l)
-    ∙ ap (λ x. bit_xor x (f (m + l))) (sum_split m l f)
-    ∙ xor_assoc (sum_of_first m f) (sum_of_first l (λ i. f (m + i))) (f (m + l))
+use Rattle.make_laws.proofs.RingSumLemmas.{sum_split}
 
 -- the first m coefficients
 cut : ℕ → (ℕ → ℕ) → ℕ → ℕ
@@ -55,27 +49,18 @@ cut_below n (suc m) f b (suc i) = cut_below n m (rest f) (λ j. b (suc j)) i
 module _ (n : ℕ) (mul : ℕ → ℕ → ℕ) (ring : IsRing n mul) (d g : ℕ) (monic : IsMonic n (suc (suc d)) g) where
   -- the number that has the coefficients of Y
   coefficient_Y : coefficient n (2 ^ n) ≡ shift unit
-  coefficient_Y = ap (coefficient n) (padded (2 ^ n)) ∙ fun_ext at
+  coefficient_Y = ap (coefficient n) (once_plus_zero (2 ^ n)) ∙ fun_ext at
     where
-      padded : (p : ℕ) → p ≡ 1 * p + 0
-      padded p = omega arith
-
       at : (i : ℕ) → coefficient n (1 * 2 ^ n + 0) i ≡ shift unit i
       at zero = coefficient_zero n (1 * 2 ^ n + 0) ∙ mod_low 1 n 0 (pow_pos n)
       at (suc i) = coefficient_suc n (1 * 2 ^ n + 0) i ∙ ap (λ z. coefficient n z i) (shr_high 1 n 0 (pow_pos n)) ∙ ap (λ h. h i) (coefficient_one n ring.some)
 
   Y_below : 2 ^ n < 2 ^ (n * suc (suc d))
-  Y_below = pow_below n (n * suc (suc d)) (less n d ring.some)
-    where
-      less : (n d : ℕ) → 1 ≤ n → n < n * suc (suc d)
-      less n d h = omega (arith, h, mul-suc n (suc d), mul-suc n d)
+  Y_below = pow_below n (n * suc (suc d)) (below_times n d ring.some)
 
   power_Y_below : (i : ℕ) → power (product n (suc (suc d)) mul g) (2 ^ n) i < 2 ^ (n * suc (suc d))
   unfolding power
-  power_Y_below zero = pow_below 0 (n * suc (suc d)) (less n d ring.some)
-    where
-      less : (n d : ℕ) → 1 ≤ n → 0 < n * suc (suc d)
-      less n d h = omega (arith, h, mul-suc n (suc d))
+  power_Y_below zero = pow_below 0 (n * suc (suc d)) (times_positive n d ring.some)
   power_Y_below (suc i) = product_below n (suc d) mul g ring monic (2 ^ n) (power (product n (suc (suc d)) mul g) (2 ^ n) i)
 
   unit_times : (m : ℕ) (f : ℕ → ℕ) → AllBelow n f → reduced mul (suc d) (coefficient n g) (suc m) unit f ≡ f
@@ -97,7 +82,7 @@ module _ (n : ℕ) (mul : ℕ → ℕ → ℕ) (ring : IsRing n mul) (d g : ℕ)
   -- below the degree nothing is reduced
   low_sum : (f : ℕ → ℕ) → AllBelow n f → (i : ℕ) → i < suc (suc d) → sum_of_first (suc (suc d)) (λ t. mul (f t) (stepped mul (suc d) (coefficient n g) t unit i)) ≡ f i
   low_sum f b i h =
-      sum_same (suc (suc d)) (λ t. mul (f t) (stepped mul (suc d) (coefficient n g) t unit i)) (λ t. mul (cut (suc (suc d)) f t) (stepped mul (suc d) (coefficient n g) t unit i))
+      same_sum (suc (suc d)) (λ t. mul (f t) (stepped mul (suc d) (coefficient n g) t unit i)) (λ t. mul (cut (suc (suc d)) f t) (stepped mul (suc d) (coefficient n g) t unit i))
       (λ t l. ap (λ x. mul x (stepped mul (suc d) (coefficient n g) t unit i)) (sym (cut_same (suc (suc d)) f t l)))
       ∙ sym (reduced_sum n mul ring (suc d) (coefficient n g) (suc (suc d)) (cut (suc (suc d)) f) unit i)
       ∙ ap (λ p. p i) (quotient_one n mul ring (suc d) (coefficient n g) monic.leading monic.last (cut (suc (suc d)) f) (cut_below n (suc (suc d)) f b) (cut_ends (suc (suc d)) f))
@@ -117,7 +102,7 @@ module _ (n : ℕ) (mul : ℕ → ℕ → ℕ) (ring : IsRing n mul) (d g : ℕ)
         ap (λ p. p i) (coefficient-product n (suc d) mul g ring monic a b ha hb)
         ∙ product_sum_of_powers n mul ring (suc d) (coefficient n g) monic.leading monic.last (coefficient n a) (coefficient n b) (coefficient_ends n (suc (suc d)) a ha) (coefficient_below n b) (coefficient_ends n (suc (suc d)) b hb) i
         ∙ sum_split (suc (suc d)) (suc (suc d)) (λ t. mul (pairs t) (stepped mul (suc d) (coefficient n g) t unit i))
-        ∙ ap₂ bit_xor (low_sum pairs (convolution_below n mul ring (coefficient n a) (coefficient n b)) i h) (last_none ∙ sum_same (suc d) (λ t. mul (pairs (suc (suc d) + t)) (stepped mul (suc d) (coefficient n g) (suc (suc d) + t) unit i)) (λ t. mul (pairs (suc (suc d) + t)) (coefficient n (power (product n (suc (suc d)) mul g) (2 ^ n) (suc (suc d) + t)) i))
+        ∙ ap₂ bit_xor (low_sum pairs (convolution_below n mul ring (coefficient n a) (coefficient n b)) i h) (last_none ∙ same_sum (suc d) (λ t. mul (pairs (suc (suc d) + t)) (stepped mul (suc d) (coefficient n g) (suc (suc d) + t) unit i)) (λ t. mul (pairs (suc (suc d) + t)) (coefficient n (power (product n (suc (suc d)) mul g) (2 ^ n) (suc (suc d) + t)) i))
         (λ t l. ap (λ p. mul (pairs (suc (suc d) + t)) (p i)) (sym (coefficient_power (suc (suc d) + t)))))
       where
         last_none : sum_of_first (suc (suc d)) (λ t. mul (pairs (suc (suc d) + t)) (stepped mul (suc d) (coefficient n g) (suc (suc d) + t) unit i)) ≡ sum_of_first (suc d) (λ t. mul (pairs (suc (suc d) + t)) (stepped mul (suc d) (coefficient n g) (suc (suc d) + t) unit i))
@@ -126,7 +111,7 @@ module _ (n : ℕ) (mul : ℕ → ℕ → ℕ) (ring : IsRing n mul) (d g : ℕ)
             (ap (λ x. mul x (stepped mul (suc d) (coefficient n g) (suc (suc d) + suc d) unit i)) (pairs_end (suc (suc d) + suc d) (omega arith)) ∙ zero_mul n mul ring (stepped mul (suc d) (coefficient n g) (suc (suc d) + suc d) unit i))
             ∙ xor_zero_r (sum_of_first (suc d) (λ t. mul (pairs (suc (suc d) + t)) (stepped mul (suc d) (coefficient n g) (suc (suc d) + t) unit i)))
 
--- the same of a tower
+-- the coefficients of a product in a tower, whose polynomial is monic
 pub tower_coefficients : (n m low : ℕ) (cs : List ℕ) → IsPackedList n m low cs → (mul : ℕ → ℕ → ℕ) → IsRing n mul → HasTowerCoefficients n m mul (tower_polynomial n cs)
 tower_coefficients n m low cs ok mul ring = at m ok.two (IsMonic-tower n m low cs ok mul ring)
   where

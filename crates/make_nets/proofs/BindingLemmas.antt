@@ -2,12 +2,12 @@
 use Rattle.std.proofs.Common.{◌≡◌, ◌≢◌, ◌⊎◌, ◌∙◌, ap, sym, refl, subst, inl, inr, ℕ, zero, suc, ◌<◌, ◌≤◌, ◌+◌, Bool, true, false, ◌&&◌, not, cond, List, [], ◌∷◌, ◌++◌, length, map, None, Some, Result, Ok, append-nil, arith}
 use Rattle.std.specs.Prelude.{slice_get, ◌==◌, ◌||◌}
 use Rattle.std.specs.List.{range_with_len}
-use Rattle.std.proofs.lemmas.Bool.Decides.{nat_tests}
 use Rattle.std.proofs.lemmas.List.{append_assoc}
+use Rattle.std.proofs.lemmas.Bool.{eq-eqb}
 use Rattle.lists.specs.Lists.{Has}
-use Rattle.lists.specs.laws.HasLaws.{Has_cases, Has_left, Has_right}
-use Rattle.lists.specs.laws.NumberLaws.{nat_eq_or}
-use Rattle.lists.specs.laws.ReadLaws.{get_front, from_map}
+use Rattle.lists.specs.laws.BoolLaws.{or_right}
+use Rattle.lists.specs.laws.HasLaws.{Has_cases, Has_left, Has_right, any_has, has_range}
+use Rattle.lists.specs.laws.ReadLaws.{get_front, from_map, get_back}
 use Rattle.net_core.specs.LatchValue.{LatchValue}
 use Rattle.net_core.specs.NetList.{NetList, number_of}
 use Rattle.net_words.specs.Bind.{is_latch, with_role, names_with, place_net, taken_with, NetsOf, bound_word, BoundOf, is_used, is_uncovered, is_unknown, started, BindingOf}
@@ -20,7 +20,7 @@ use Rattle.net_words.specs.declared.feed.FeedText.{FeedText}
 use Rattle.net_words.specs.declared.word.Role.{Role}
 use Rattle.net_words.specs.declared.word.Role.TheVariants.{Input, State, Fed, Output}
 use Rattle.net_words.specs.declared.word.WordText.{WordText}
-use Rattle.net_words.proofs.MemberLemmas.{any_has, stands_has, has_stands}
+use Rattle.net_words.proofs.MemberLemmas.{stands_has, has_stands}
 use Rattle.make_nets.specs.BindingOfMade.{AreHeld, binding_of}
 use Rattle.make_nets.specs.Ports.{numbered, role_nets, word_names}
 
@@ -30,10 +30,7 @@ not_stands list n none = elim (stands_in list n) as (λ b. stands_in list n ≡ 
 latch_is : (net : NetList) (n : ℕ) → Has (map (λ (l : LatchValue). l.out) net.latches) n → is_latch net n ≡ true
 latch_is net n has =
     let from = from_map (λ (l : LatchValue). l.out) net.latches has.0 n has.1 in
-    any_has (λ (l : LatchValue). l.out == n) net.latches from.0 (has.0, from.1) (told from.0.out n from.2)
-  where
-    told : (a b : ℕ) → a ≡ b → (a == b) ≡ true
-    told a b same = grind (arith, nat_tests)
+    any_has (λ (l : LatchValue). l.out == n) net.latches from.0 (has.0, from.1) (eq-eqb from.0.out n from.2)
 
 -- what the role asks of a net
 abbrev Suits : NetList → Role → ℕ → Type 0
@@ -72,11 +69,7 @@ pub found_front : (net : NetList) (m : ℕ) (xs ys : List (List ℕ)) → FoundF
 found_front net m xs ys found i name got = found i name (get_front xs ys i name got)
 
 pub found_back : (net : NetList) (m : ℕ) (xs ys : List (List ℕ)) → FoundFrom net m (xs ++ ys) → FoundFrom net (m + length xs) ys
-found_back net m xs ys found i name got = found (length xs + i) name (get_after xs ys i name got) ∙ ap Some (omega arith)
-  where
-    get_after : (vs ws : List (List ℕ)) (k : ℕ) (z : List ℕ) → slice_get ws k ≡ Some z → slice_get (vs ++ ws) (length vs + k) ≡ Some z
-    get_after [] ws k z at = let e : 0 + k ≡ k = omega arith in rw e at
-    get_after (v ∷ vs) ws k z at = let e : suc (length vs) + k ≡ suc (length vs + k) = omega arith in rw e (get_after vs ws k z at)
+found_back net m xs ys found i name got = found (length xs + i) name (get_back xs ys i name got) ∙ ap Some (omega arith)
 
 -- nets of words, or a fault
 abbrev Nets : NetList → ℕ → Role → List ℕ → List ℕ → List (List ℕ) → List ℕ → List ℕ → Type 0
@@ -106,14 +99,6 @@ by_role net index Output names m taken found low fed suits = nets_from net index
 -- what the roles ask of the nets of words that are numbered from m
 abbrev pub AllSuit : NetList → ℕ → List WordText → Type 0
 AllSuit net m words = ((n : ℕ) → Has (role_nets Input m words) n → Has net.inputs n) × ((n : ℕ) → Has (role_nets State m words) n → Has (map (λ (l : LatchValue). l.out) net.latches) n)
-
-has_range : (a k n : ℕ) → a ≤ n → n < a + k → Has (range_with_len a k) n
-has_range a zero n low high = absurd (omega arith)
-has_range a (suc k) n low high =
-    elim (nat_eq_or a n) [
-      | inl same ↦ (0, ap Some same)
-      | inr other ↦ let rest = has_range (a + 1) k n (omega (arith, low, other)) (omega (arith, high)) in (suc rest.0, rest.1)
-    ]
 
 has_after : (role other : Role) (list more : List ℕ) (n : ℕ) → Has more n → Has (cond (same_role role other) list [] ++ more) n
 has_after role other list more n has = Has_right (cond (same_role role other) list []) more n has
@@ -156,10 +141,6 @@ in_word_numbered role m (word ∷ words) n has =
     here : (b : Bool) → Has (cond b (range_with_len m (length word.nets)) []) n → (b && stands_in (range_with_len m (length word.nets)) n) ≡ true
     here true h = has_stands (range_with_len m (length word.nets)) n h
     here false h = absurd (let got = h.1 in cc)
-
-    or_right : (a b : Bool) → b ≡ true → (a || b) ≡ true
-    or_right true b e = refl
-    or_right false b e = e
 
 started_all : (bound : List BoundWord) (latches : List LatchValue) → ((l : LatchValue) → Has latches l → is_unknown l.start ≡ true → in_word State bound l.out ≡ true) → ◌≡◌ {A = Result (Unit {0}) BindFault} (started bound latches) (Ok tt)
 started_all bound [] each = refl

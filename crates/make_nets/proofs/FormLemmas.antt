@@ -1,8 +1,9 @@
 -- Words of one role and one output word: their nets and the words of their job.
 use Rattle.std.proofs.Common.{◌≡◌, ◌≢◌, ◌⊎◌, ◌∙◌, ap, sym, refl, subst, inl, inr, ℕ, zero, suc, ◌<◌, ◌≤◌, ◌+◌, ◌*◌, Bool, true, false, cond, List, [], ◌∷◌, ◌++◌, length, map, filter, arith}
 use Rattle.std.specs.List.{range_with_len}
+use Rattle.std.proofs.lemmas.Bool.{cases_lt}
 use Rattle.lists.specs.Lists.{Has, times}
-use Rattle.lists.specs.laws.HasLaws.{times_append, times_some}
+use Rattle.lists.specs.laws.HasLaws.{times_append, times_none, range_has, range_once}
 use Rattle.net_words.specs.BoundTo.{output_bits, output_bits_with}
 use Rattle.net_words.specs.Roles.{is_output, same_role}
 use Rattle.net_words.specs.declared.word.Role.{Role}
@@ -12,11 +13,11 @@ use Rattle.circuit_model.specs.JobOfBinding.{job_word_with, job_words_of}
 use Rattle.circuit_model.specs.OfBinding.{output_basis, output_basis_with}
 use Rattle.circuit_model.specs.Word.{Word}
 use Rattle.make_nets.proofs.LabelLemmas.{append_long, range_long}
-use Rattle.make_nets.proofs.OrderLemmas.{below_or}
 use Rattle.make_nets.specs.Form.{HasWords, AllWide, role_count, same_bases}
 use Rattle.make_nets.specs.Ports.{numbered, role_nets, word_names}
 use Rattle.make_nets.proofs.WordLists.{all_of, lists_of}
-use Rattle.make_nets.proofs.MakeLemmas.{range_low, role_low, times_range}
+use Rattle.make_nets.proofs.MakeLemmas.{role_low}
+use Rattle.net_words.proofs.SharedLemmas.{same_self}
 
 -- the word has this role, or is the output word
 abbrev pub OneOf : Role → List WordText → Type 0
@@ -24,12 +25,6 @@ OneOf role words = (word : WordText) → Has words word → (word.role ≡ role)
 
 rest_of : (role : Role) (word : WordText) (words : List WordText) → OneOf role (word ∷ words) → OneOf role words
 rest_of role word words one w has = one w (suc has.0, has.1)
-
-same_self : (role : Role) → same_role role role ≡ true
-same_self Input = refl
-same_self State = refl
-same_self Fed = refl
-same_self Output = refl
 
 same_is : (a b : Role) → same_role a b ≡ true → a ≡ b
 same_is Input Input e = refl
@@ -200,9 +195,6 @@ names_long k (word ∷ words) wide = omega (arith, append_long word.nets (word_n
     one_more : (n k : ℕ) → suc n * k ≡ k + n * k
     one_more n k = omega arith
 
-times_none : (n : ℕ) (xs : List ℕ) → (Has xs n → ⊥) → times n xs ≡ 0
-times_none n xs none = let few : 1 ≤ times n xs → ⊥ = λ some. none (times_some n xs some) in omega (arith, few)
-
 -- each net is in a word of the role or in the output word, and in one place
 pub roles_once : (role : Role) (m : ℕ) (words : List WordText) (n : ℕ) → role ≢ Output → OneOf role words → m ≤ n → n < m + length (word_names words) → times n (role_nets role m words) + times n (role_nets Output m words) ≡ 1
 roles_once role m [] n apart one low high = absurd (omega arith)
@@ -215,13 +207,13 @@ roles_once role m (word ∷ words) n apart one low high =
       | inl is ↦ let h = own_role role Output word is apart in rw (h.0, h.1) (omega arith)
       | inr is ↦ let h = output_first role word is apart in rw (h.0, h.1) (omega arith)
     ] in
-    elim (below_or n (m + length word.nets)) [
+    elim (cases_lt n (m + length word.nets)) [
       | inl less ↦ omega (
         arith,
         split role,
         split Output,
         first,
-        times_range m (length word.nets) n low less,
+        range_once m (length word.nets) n low less,
         times_none n (role_nets role (m + length word.nets) words) (λ has. omega (arith, (role_low role (m + length word.nets) words n has).0, less)),
         times_none n (role_nets Output (m + length word.nets) words) (λ has. omega (arith, (role_low Output (m + length word.nets) words n has).0, less)),
       )
@@ -230,7 +222,7 @@ roles_once role m (word ∷ words) n apart one low high =
         split role,
         split Output,
         first,
-        times_none n (range_with_len m (length word.nets)) (λ has. omega (arith, (range_low m (length word.nets) n has).1, more)),
+        times_none n (range_with_len m (length word.nets)) (λ has. omega (arith, (range_has m (length word.nets) n has).1, more)),
         roles_once role (m + length word.nets) words n apart (rest_of role word words one) more (omega (arith, high, total)),
       )
     ]

@@ -1,6 +1,7 @@
 -- Fronts of lists.
 use Rattle.std.proofs.Common.{◌≡◌, ◌∙◌, ap, sym, refl, ℕ, zero, suc, ◌<◌, ◌≤◌, ◌+◌, List, [], ◌∷◌, ◌++◌, length, take, drop, get_or, append-nil, arith}
 use Rattle.std.proofs.lemmas.List.{append_assoc}
+use Rattle.lists.specs.laws.TakeLaws.{drop_read}
 use Rattle.net_words.specs.declared.word.WordText.{WordText}
 use Rattle.make_nets.proofs.LabelLemmas.{append_long}
 use Rattle.make_nets.specs.Ports.{word_names}
@@ -13,14 +14,6 @@ take_suc (y ∷ xs) (suc i) x less is = ap (λ (zs : List _). y ∷ zs) (take_su
 pub take_more : {X : Type 0} (xs : List X) (i : ℕ) (x : X) → i < length xs → x ≡ get_or xs i x → take (i + 1) xs ≡ take i xs ++ x ∷ []
 take_more xs i x less is = let e : i + 1 ≡ suc i = omega arith in rw e (take_suc xs i x less is)
 
-drop_suc : {X : Type 0} (xs : List X) (i : ℕ) (x : X) → i < length xs → x ≡ get_or xs i x → drop i xs ≡ x ∷ drop (suc i) xs
-drop_suc [] i x less is = absurd (omega arith)
-drop_suc (y ∷ xs) zero x less is = ap (λ (z : _). z ∷ xs) (sym is)
-drop_suc (y ∷ xs) (suc i) x less is = drop_suc xs i x (omega arith) is
-
-pub drop_more : {X : Type 0} (xs : List X) (i : ℕ) (x : X) → i < length xs → x ≡ get_or xs i x → drop i xs ≡ x ∷ drop (i + 1) xs
-drop_more xs i x less is = let e : i + 1 ≡ suc i = omega arith in rw e (drop_suc xs i x less is)
-
 pub take_drop : {X : Type 0} (xs : List X) (i : ℕ) → xs ≡ take i xs ++ drop i xs
 take_drop [] zero = refl
 take_drop [] (suc i) = refl
@@ -29,7 +22,7 @@ take_drop (x ∷ xs) (suc i) = ap (λ (zs : List _). x ∷ zs) (take_drop xs i)
 
 -- a list is its front, an element and the rest
 pub split_at : {X : Type 0} (xs : List X) (i : ℕ) (x : X) → i < length xs → x ≡ get_or xs i x → xs ≡ take i xs ++ x ∷ drop (i + 1) xs
-split_at xs i x less is = take_drop xs i ∙ ap (λ (zs : List _). take i xs ++ zs) (drop_more xs i x less is)
+split_at xs i x less is = take_drop xs i ∙ ap (λ (zs : List _). take i xs ++ zs) (drop_read xs i x less is)
 
 pub take_past : {X : Type 0} (xs : List X) (i : ℕ) → length xs ≤ i → take i xs ≡ xs
 take_past [] zero less = refl

@@ -9,13 +9,13 @@ use Rattle.std.specs.Str.{bytes_eq}
 use Rattle.std.proofs.lemmas.Slice.Eq.{bytes_eq-Decides}
 use Rattle.std.proofs.lemmas.Fmt.{decimal_injective, length-decimal-le}
 use Rattle.lists.specs.laws.BoolLaws.{both_true as both}
-use Rattle.lists.specs.laws.ListLaws.{length_map as map_long}
+use Rattle.lists.specs.laws.ListLaws.{length_map as map_long, append_same}
 use Rattle.net_core.specs.Inside.{IsNetName}
 use Rattle.net_core.specs.NetList.{LabelValue, NetList, nets, number_from, number_of, with_label, is_named}
 use Rattle.net_core.proofs.PlaceLemmas.{none_at}
 use Rattle.make_nets.specs.MadeNet.{named, inner_name, labels_with, names_in, outer_net, with_inner}
 use Rattle.make_nets.specs.Makeable.{AreNames, IsPrefix}
-use Rattle.make_nets.proofs.LabelLemmas.{append_long, range_long, label_is, append_same}
+use Rattle.make_nets.proofs.LabelLemmas.{append_long, range_long, label_is}
 
 pub inner_is_name : (names : List (List ℕ)) (prefix : List ℕ) (i : ℕ) → IsPrefix names prefix → i < 2 ^ 20 → IsNetName (inner_name prefix i)
 inner_is_name names prefix i is less = (omega (arith, append_long prefix (decimal i), is.some), omega (arith, append_long prefix (decimal i), is.short, length-decimal-le 7 i (omega arith) (omega (arith, less)) (omega (arith, less))))

@@ -8,7 +8,7 @@ use Rattle.std.proofs.lemmas.Slice.Eq.{bytes_eq-Decides}
 use Rattle.std.specs.Fmt.{decimal}
 use Rattle.std.proofs.lemmas.Fmt.{decimal_injective, length-decimal-le}
 use Rattle.lists.specs.laws.BoolLaws.{both_true as both}
-use Rattle.lists.specs.laws.ListLaws.{length_map as map_long}
+use Rattle.lists.specs.laws.ListLaws.{length_map as map_long, append_same}
 use Rattle.lists.specs.laws.ReadLaws.{from_map}
 use Rattle.net_core.specs.Inside.{IsNetName}
 use Rattle.net_core.specs.NetList.{LabelValue, is_named, number_from}
@@ -34,13 +34,6 @@ range_long a (suc n) = ap suc (range_long (a + 1) n)
 pub append_long : {X : Type 0} (xs ys : List X) → length (xs ++ ys) ≡ length xs + length ys
 append_long [] ys = omega arith
 append_long (x ∷ xs) ys = omega (arith, append_long xs ys)
-
-pub append_same : (p xs ys : List ℕ) → p ++ xs ≡ p ++ ys → xs ≡ ys
-append_same [] xs ys same = same
-append_same (b ∷ p) xs ys same = append_same p xs ys (tails same)
-  where
-    tails : {v w : List ℕ} → b ∷ v ≡ b ∷ w → v ≡ w
-    tails e = cc
 
 module _ (names : List (List ℕ)) (prefix : List ℕ) (count : ℕ) (are : AreNames names) (is : IsPrefix names prefix) (few : length names + count ≤ 2 ^ 20) where
   pub labels_long : length (labels_with names prefix count) ≡ length names + count

@@ -1,3 +1,4 @@
+pub mod SharedLemmas
 pub mod OuterNets
 pub mod EachLemmas
 pub mod ValueLemmas
@@ -10,7 +11,6 @@ pub mod PlanExamples
 pub mod RowLemmas
 pub mod RowShapeLemmas
 pub mod WordLists
-pub mod OrderLemmas
 pub mod FrontLemmas
 pub mod OuterLemmas
 pub mod MostLemmas

@@ -1,12 +1,12 @@
 -- Names of a made net are plain, and its words bind.
 use Rattle.std.proofs.Common.{◌≡◌, ◌∙◌, ap, sym, refl, subst, inl, inr, ℕ, zero, suc, ◌<◌, ◌≤◌, ◌+◌, ◌-◌, ◌/◌, ◌%◌, ◌^◌, Bool, true, false, cond, List, [], ◌∷◌, ◌++◌, length, map, None, Some, Ok, arith}
-use Rattle.std.specs.Prelude.{slice_get, codes, ◌==◌, nat_lt}
+use Rattle.std.specs.Prelude.{slice_get, codes, ◌==◌}
 use Rattle.std.specs.List.{range_with_len, repeat}
 use Rattle.std.specs.Fmt.{decimal, digits, digits_onto, digit_glyph}
-use Rattle.std.proofs.lemmas.Bool.Decides.{nat_tests}
 use Rattle.lists.specs.Lists.{Has}
 use Rattle.lists.specs.laws.HasLaws.{All_has, all_from as all_has, Has_cases, Has_left}
 use Rattle.lists.specs.laws.ReadLaws.{get_front}
+use Rattle.lists.specs.laws.TestLaws.{chosen_below}
 use Rattle.net_core.specs.LatchValue.{LatchValue}
 use Rattle.net_core.specs.NetList.{LabelValue, NetList}
 use Rattle.net_core.specs.Sound.{IsSound}
@@ -47,11 +47,8 @@ prefix_plain n = repeat_plain n (codes "w") (all_has IsPlainByte (codes "w") one
 glyph_plain : (n : ℕ) → IsPlainByte (digit_glyph false (n % 10))
 glyph_plain n =
     let low : n % 10 < 10 = omega arith in
-    let is : digit_glyph false (n % 10) ≡ 48 + n % 10 = is_below (n % 10) 10 (48 + n % 10) (87 + n % 10) low in
+    let is : digit_glyph false (n % 10) ≡ 48 + n % 10 = chosen_below (n % 10) 10 (48 + n % 10) (87 + n % 10) low in
     (omega (arith, is), omega (arith, is, low), (λ e. omega (arith, is, e)), (λ e. omega (arith, is, e, low)))
-  where
-    is_below : (m n x y : ℕ) → m < n → cond (nat_lt m n) x y ≡ x
-    is_below m n x y less = grind (arith, nat_tests)
 
 plain_first : (b : ℕ) (rest : List ℕ) → IsPlainByte b → IsPlainName rest → IsPlainName (b ∷ rest)
 plain_first b rest here there = plain_append (b ∷ []) rest (all_has IsPlainByte (b ∷ []) one) there

@@ -2,10 +2,9 @@
 use Rattle.std.proofs.Common.{◌≡◌, ◌∙◌, ap, sym, refl, subst, inl, inr, ℕ, zero, suc, ◌<◌, ◌≤◌, ◌+◌, Bool, true, false, cond, List, [], ◌∷◌, ◌++◌, length, map, Some, arith}
 use Rattle.std.specs.List.{range_with_len}
 use Rattle.lists.specs.Lists.{Has, times}
-use Rattle.lists.specs.laws.HasLaws.{Has_cases}
-use Rattle.lists.specs.laws.NumberLaws.{nat_eq_or}
+use Rattle.lists.specs.laws.HasLaws.{Has_cases, range_has}
 use Rattle.lists.specs.laws.ReadLaws.{from_map}
-use Rattle.lists.specs.laws.TestLaws.{one_here, none_here}
+use Rattle.lists.specs.laws.TestLaws.{none_here}
 use Rattle.net_core.specs.LatchValue.{LatchValue}
 use Rattle.net_core.specs.NetList.{NetList}
 use Rattle.net_words.specs.Roles.{same_role}
@@ -15,18 +14,15 @@ use Rattle.net_words.specs.declared.word.WordText.{WordText}
 use Rattle.make_nets.specs.Plan.{Plan}
 use Rattle.make_nets.specs.MadeNet.{made_net, names_in, outer_net}
 use Rattle.make_nets.specs.Makeable.{IsMakeable, driven_outside}
-use Rattle.make_nets.proofs.LabelLemmas.{append_long, got_range}
+use Rattle.make_nets.proofs.LabelLemmas.{append_long}
 use Rattle.make_nets.specs.Made.{made_of, IsPlanFor}
 use Rattle.make_nets.specs.MakerNames.{AreMakerNames}
 use Rattle.make_nets.specs.Ports.{inputs_of, outer_names, outputs_of, role_nets, word_names}
 use Rattle.make_nets.specs.Prefix.{prefix_of}
 use Rattle.make_nets.proofs.MostLemmas.{are_names, prefix_fits}
 
-pub range_low : (a k n : ℕ) → Has (range_with_len a k) n → (a ≤ n) × (n < a + k)
-range_low a k n has = let place = got_range a k has.0 n has.1 in (omega (arith, place.0), omega (arith, place.0, place.1))
-
 cond_low : (b : Bool) (a k n : ℕ) → Has (cond b (range_with_len a k) []) n → (a ≤ n) × (n < a + k)
-cond_low true a k n has = range_low a k n has
+cond_low true a k n has = range_has a k n has
 cond_low false a k n has = absurd (let got = has.1 in cc)
 
 -- the nets of words are numbered from there
@@ -49,7 +45,7 @@ module _ (words : List WordText) (fed : List (List ℕ)) (latches : List LatchVa
   input_low : (n : ℕ) → Has (inputs_of words fed) n → n < length (outer_names words fed)
   input_low n has = elim (Has_cases (role_nets Input 0 words) (range_with_len (length (word_names words)) (length fed)) n has) [
     | inl w ↦ omega (arith, (role_low Input 0 words n w).1, names_long)
-    | inr w ↦ omega (arith, (range_low (length (word_names words)) (length fed) n w).1, names_long)
+    | inr w ↦ omega (arith, (range_has (length (word_names words)) (length fed) n w).1, names_long)
   ]
 
   driven_low : (n : ℕ) → Has (driven_outside (inputs_of words fed) latches) n → n < length (outer_names words fed)
@@ -74,19 +70,11 @@ times_range_none : (a k n : ℕ) → (Has (range_with_len a k) n → ⊥) → ti
 times_range_none a zero n none = refl
 times_range_none a (suc k) n none = omega (arith, none_here n a (λ e. none (0, ap Some e)), times_range_none (a + 1) k n (λ has. none (suc has.0, has.1)))
 
-pub times_range : (a k n : ℕ) → a ≤ n → n < a + k → times n (range_with_len a k) ≡ 1
-times_range a zero n low high = absurd (omega arith)
-times_range a (suc k) n low high =
-    elim (nat_eq_or a n) [
-      | inl same ↦ omega (arith, one_here n a same, times_range_none (a + 1) k n (λ has. omega (arith, (range_low (a + 1) k n has).0, same)))
-      | inr other ↦ omega (arith, none_here n a other, times_range (a + 1) k n (omega (arith, low, other)) (omega (arith, high)))
-    ]
-
 pub inputs_at : (words : List WordText) (fed : List (List ℕ)) (list new : List ℕ) (count long : ℕ) → list ≡ role_nets Input 0 words → count ≡ length (word_names words) → long ≡ length fed → new ≡ list ++ range_with_len count long → new ≡ inputs_of words fed
 inputs_at words fed list new count long is counted fits more =
     more ∙ (ap (λ (v : List ℕ). v ++ range_with_len count long) is ∙ (ap (λ n. role_nets Input 0 words ++ range_with_len n long) counted ∙ ap (λ n. role_nets Input 0 words ++ range_with_len (length (word_names words)) n) fits))
 
--- the same, where the parts are given by equations
+-- what can be made, where the parts are given by equations
 module _ (words : List WordText) (fed : List (List ℕ)) (latches : List LatchValue) (plan : Plan) (maker : NetList) (prefix inputs outputs : List ℕ) (made : maker ≡ outer_net (outer_names words fed)) (prefixed : prefix ≡ prefix_of (outer_names words fed)) (ins : inputs ≡ inputs_of words fed) (outs : outputs ≡ outputs_of words) where
   names_at : names_in maker ≡ outer_names words fed
   names_at = ap names_in made ∙ names_of_outer (outer_names words fed)

@@ -7,10 +7,9 @@ use Rattle.make_nets.specs.MakerNames.{AreMakerNames, IsMakerName}
 use Rattle.make_nets.specs.Prefix.{leading, most_leading, prefix_of}
 use Rattle.net_words.specs.declared.word.WordText.{WordText}
 use Rattle.make_nets.specs.Ports.{word_names}
-use Rattle.std.proofs.lemmas.Bool.{eqb-true}
+use Rattle.std.proofs.lemmas.Bool.{eqb-true, cases_lt}
 use Rattle.lists.specs.Lists.{Has}
-use Rattle.make_nets.proofs.FrontLemmas.{drop_more}
-use Rattle.make_nets.proofs.OrderLemmas.{below_or}
+use Rattle.lists.specs.laws.TakeLaws.{drop_read}
 use Rattle.make_nets.proofs.OuterLemmas.{is_net_name}
 
 pub most_append : (xs ys : List (List ℕ)) → most_leading (xs ++ ys) ≡ max (most_leading xs) (most_leading ys)
@@ -54,7 +53,7 @@ are_names names are = record { each = λ name has. is_net_name name (are.each na
 
 pub most_words_step : (words : List WordText) (i : ℕ) (word : WordText) (before after count : ℕ) → i < length words → word ≡ get_or words i word → count ≡ most_leading word.nets → after ≡ max before count → max before (most_leading (word_names (drop i words))) ≡ most_leading (word_names words) → max after (most_leading (word_names (drop (i + 1) words))) ≡ most_leading (word_names words)
 most_words_step words i word before after count less is counted more all =
-    let rest : most_leading (word_names (drop i words)) ≡ max (most_leading word.nets) (most_leading (word_names (drop (i + 1) words))) = ap (λ (ws : List WordText). most_leading (word_names ws)) (drop_more words i word less is) ∙ most_append word.nets (word_names (drop (i + 1) words)) in
+    let rest : most_leading (word_names (drop i words)) ≡ max (most_leading word.nets) (most_leading (word_names (drop (i + 1) words))) = ap (λ (ws : List WordText). most_leading (word_names ws)) (drop_read words i word less is) ∙ most_append word.nets (word_names (drop (i + 1) words)) in
     omega (arith, rest, counted, more, all)
 
 -- a name that begins with so many bytes `w` is those and a rest
@@ -73,7 +72,7 @@ leading_split (suc m) (byte ∷ bytes) less = by (leading_split m bytes) (byte =
 most_some : (names : List (List ℕ)) → 1 ≤ most_leading names → (name : List ℕ) × Has names name × (leading name ≡ most_leading names)
 most_some [] some = absurd (omega arith)
 most_some (name ∷ names) some =
-    elim (below_or (leading name) (most_leading names)) [
+    elim (cases_lt (leading name) (most_leading names)) [
       | inl less ↦ let rest = most_some names (omega (arith, less)) in (rest.0, (suc rest.1.0, rest.1.1), omega (arith, rest.2, less))
       | inr more ↦ (name, (0, refl), omega (arith, more))
     ]

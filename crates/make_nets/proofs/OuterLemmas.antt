@@ -1,10 +1,10 @@
 -- Names of outer nets, one after another.
-use Rattle.std.proofs.Common.{◌≡◌, ◌≢◌, ◌∙◌, ap, sym, refl, subst, inl, inr, ℕ, zero, suc, ◌<◌, ◌+◌, Bool, true, false, ◌&&◌, cond, List, [], ◌∷◌, ◌++◌, length, map, Option, None, Some, arith}
+use Rattle.std.proofs.Common.{◌≡◌, ◌∙◌, ap, sym, refl, subst, inl, inr, ℕ, zero, suc, ◌<◌, ◌+◌, Bool, true, false, ◌&&◌, cond, List, [], ◌∷◌, ◌++◌, length, map, Option, None, Some, arith}
 use Rattle.std.specs.Prelude.{slice_get, ◌==◌, is_some}
 use Rattle.std.specs.Str.{bytes_eq}
-use Rattle.std.proofs.lemmas.Bool.Decides.{nat_tests}
 use Rattle.std.proofs.lemmas.List.{map-append}
 use Rattle.std.proofs.lemmas.Slice.Eq.{bytes_eq-Decides}
+use Rattle.std.proofs.lemmas.Bool.{eq-eqb, ne_eqb}
 use Rattle.lists.specs.Lists.{Has}
 use Rattle.lists.specs.laws.HasLaws.{Has_left}
 use Rattle.lists.specs.laws.ListLaws.{length_map as map_long}
@@ -88,12 +88,6 @@ named_once ns old new name count number (was, are) long is made found = by (numb
     there : new ≡ with_name (outer_net ns) name
     there = made ∙ ap (λ (n : NetList). with_name n name) was
 
-    told : (a b : ℕ) → a ≡ b → (a == b) ≡ true
-    told a b same = grind (arith, nat_tests)
-
-    not_told : (a b : ℕ) → a ≢ b → (a == b) ≡ false
-    not_told a b other = grind (arith, nat_tests)
-
     by : (at : Option ℕ) → number_of (outer_net ns) name ≡ at → AreMade (ns ++ name ∷ []) new (number == count)
     by None none =
         let with : with_name (outer_net ns) name ≡ outer_net (ns ++ name ∷ []) = ap (λ (o : Option ℕ). cond (is_some o) (outer_net ns) (with_label (outer_net ns) name true)) none ∙ outer_more ns name in
@@ -103,14 +97,14 @@ named_once ns old new name count number (was, are) long is made found = by (numb
         let same : Some number ≡ Some (0 + length (map named ns)) = sym found ∙ last in
         let place : number ≡ 0 + length (map named ns) = cc in
         let P : Bool → Type 0 = λ b. AreMade (ns ++ name ∷ []) new b in
-        subst P (sym (told number count (omega (arith, place, map_long named ns, long)))) (all, names_more ns name are is (λ has. has_found 0 ns name has none))
+        subst P (sym (eq-eqb number count (omega (arith, place, map_long named ns, long)))) (all, names_more ns name are is (λ has. has_found 0 ns name has none))
     by (Some k) hit =
         let kept : new ≡ outer_net ns = there ∙ ap (λ (o : Option ℕ). cond (is_some o) (outer_net ns) (with_label (outer_net ns) name true)) hit in
         let same : Some number ≡ Some k = sym found ∙ (ap (λ (n : NetList). number_of n name) kept ∙ hit) in
         let place : number ≡ k = cc in
         let low : k < 0 + length (map named ns) = number_below 0 (map named ns) name k hit in
         let P : Bool → Type 0 = λ b. AreMade (ns ++ name ∷ []) new b in
-        subst P (sym (not_told number count (λ e. omega (arith, e, place, low, map_long named ns, long)))) (λ all. (names_last ns name all).1 (found_has 0 ns name k hit))
+        subst P (sym (ne_eqb number count (λ e. omega (arith, e, place, low, map_long named ns, long)))) (λ all. (names_last ns name all).1 (found_has 0 ns name k hit))
 
 -- the number of names is that of nets
 pub same_count : (ns ms : List (List ℕ)) (maker : NetList) → maker ≡ outer_net ns → maker ≡ outer_net ms → length ns ≡ length ms

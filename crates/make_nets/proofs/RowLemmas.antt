@@ -2,9 +2,11 @@
 use Rattle.std.proofs.Common.{◌≡◌, ℕ, zero, suc, refl, sym, ◌∙◌, ap, ap₂, ◌<◌, ◌+◌, ◌*◌, inl, inr, arith, List, [], ◌∷◌, ◌++◌, length, Bool, None, Some, subst}
 use Rattle.std.specs.Prelude.{bit_xor, slice_get, slice_index}
 use Rattle.std.specs.Int.{bit_at}
+use Rattle.std.proofs.Math.Nat.{zero-add, suc-add}
 use Rattle.lists.specs.laws.ListLaws.{length-push}
 use Rattle.lists.specs.laws.ReadLaws.{got_push, got_at}
-use Rattle.make_laws.proofs.BitLemmas.{bit_at-sum, bit_at-times}
+use Rattle.lists.specs.laws.XorLaws.{bit_at-sum}
+use Rattle.make_laws.proofs.BitLemmas.{bit_at-times}
 use Rattle.make_nets.specs.Plan.{Plan, with_and, with_xor}
 use Rattle.make_nets.specs.PlanValue.{Agrees, bit_at_net}
 use Rattle.make_nets.proofs.EachLemmas.{each_keeps}
@@ -39,16 +41,10 @@ have_push bits nets n f have last j m got = elim (got_push nets n j m got) [
 
 -- more nets, whose values stand at the places after
 pub have_append : (bits : List Bool) (xs ys : List ℕ) (f : ℕ → ℕ) → HaveValues bits xs f → HaveValues bits ys (λ l. f (length xs + l)) → HaveValues bits (xs ++ ys) f
-have_append bits [] ys f first second j n got = second j n got ∙ ap f (none j)
-  where
-    none : (j : ℕ) → 0 + j ≡ j
-    none j = omega arith
+have_append bits [] ys f first second j n got = second j n got ∙ ap f (zero-add j)
 have_append bits (x ∷ xs) ys f first second zero n got = first zero n got
 have_append bits (x ∷ xs) ys f first second (suc j) n got =
-    have_append bits xs ys (λ l. f (suc l)) (λ l net at. first (suc l) net at) (λ l net at. second l net at ∙ ap f (moved (length xs) l)) j n got
-  where
-    moved : (k l : ℕ) → suc k + l ≡ suc (k + l)
-    moved k l = omega arith
+    have_append bits xs ys (λ l. f (suc l)) (λ l net at. first (suc l) net at) (λ l net at. second l net at ∙ ap f (suc-add (length xs) l)) j n got
 
 -- a row of one net more
 pub row_push : (bits : List Bool) (plan : Plan) (j : ℕ) (f : ℕ → ℕ) (n : ℕ) (row after : Row) → after.nets ≡ row.nets ++ n ∷ [] → IsRowOf bits plan j f row → bit_at_net bits n ≡ f j → IsRowOf bits plan (suc j) f after

@@ -7,16 +7,13 @@ use Rattle.lists.specs.Lists.{Has}
 use Rattle.lists.specs.laws.HasLaws.{Has_cases}
 use Rattle.lists.specs.laws.ListLaws.{length-push}
 use Rattle.lists.specs.laws.ReadLaws.{got_push, got_at}
+use Rattle.lists.specs.laws.TakeLaws.{take_none}
 use Rattle.make_nets.specs.Plan.{Plan, each, with_and, with_xor, with_chain, chain_net}
 use Rattle.make_nets.specs.PlanShape.{IsWellMade}
 use Rattle.make_nets.proofs.OuterNets.{CanRead}
 use Rattle.make_nets.proofs.EachLemmas.{each_keeps}
 use Rattle.make_nets.proofs.ShapeLemmas.{can_read_more, and_made, xor_made, chain_made, chain_grows, chain_read}
 use Rattle.make_nets.specs.Row.{Row, begun_row, with_net, row_by, next_net, and_row, xor_row}
-
-take-zero : (z : List ℕ) → take 0 z ≡ []
-take-zero [] = refl
-take-zero (n ∷ z) = refl
 
 module _ (outer : ℕ) (sources : List ℕ) where
   -- the nets may be read by gates after the plan
@@ -113,7 +110,7 @@ module _ (outer : ℕ) (sources : List ℕ) where
   pub outputs_made : (step : ℕ → Plan → Plan) (z : List ℕ) (c k : ℕ) (start : Plan) → length z ≡ k → IsWellMade outer sources [] start → ((q : ℕ) (p : Plan) → q < k → start.next ≤ p.next → IsWellMade outer sources (take q z) p → IsMadeOutput p.next c (take q z ++ slice_index z q ∷ []) (step q p)) → IsMadeOutput start.next (k * c) z (each k step start)
   outputs_made step z c k start long made each_made =
       let all = each_keeps (λ q p. IsMadeOutput start.next (q * c) (take q z) p) step start k
-      (record { made = subst (λ ts. IsWellMade outer sources ts start) (sym (take-zero z)) made; low = omega arith; high = omega arith })
+      (record { made = subst (λ ts. IsWellMade outer sources ts start) (sym (take_none z)) made; low = omega arith; high = omega arith })
       (λ q p less is. more q p less is (each_made q p less is.low is.made)) in
       subst (λ ts. IsMadeOutput start.next (k * c) ts (each k step start)) (take_all k z (omega (arith, long))) all
     where

@@ -3,13 +3,13 @@ use Rattle.std.proofs.Common.{◌≡◌, ◌⊎◌, ◌∙◌, ap, sym, refl, su
 use Rattle.std.specs.Prelude.{slice_get}
 use Rattle.lists.specs.Lists.{Has}
 use Rattle.lists.specs.laws.HasLaws.{all_from as all_has}
-use Rattle.lists.specs.laws.ListLaws.{length_map as map_long}
+use Rattle.lists.specs.laws.ListLaws.{length_map as map_long, two_lists}
+use Rattle.lists.specs.laws.TakeLaws.{taken_front, drop_none}
 use Rattle.net_core.specs.NetList.{NetList}
 use Rattle.net_core.specs.Sound.{IsSound}
 use Rattle.net_core.specs.Value.{IsConsistent, index_of}
 use Rattle.net_words.specs.Bind.{BindingOf}
 use Rattle.net_words.specs.Binding.{AreWords, Binding}
-use Rattle.net_words.specs.Feeds.{AreFeeds}
 use Rattle.net_words.specs.Roles.{is_output}
 use Rattle.net_words.specs.declared.word.Role.{Role}
 use Rattle.net_words.specs.declared.word.Role.TheVariants.{Input, Fed, Output}
@@ -33,6 +33,7 @@ use Rattle.make_nets.specs.Form.{AllWide, HasWords, same_bases}
 use Rattle.make_nets.specs.Ports.{numbered, role_nets}
 use Rattle.make_nets.proofs.WordLists.{all_of, lists_of}
 use Rattle.make_nets.proofs.FormLemmas.{basis_is, job_words, lists_long, lists_wide, nets_of_lists, output_nets, words_one_of}
+use Rattle.net_words.proofs.SharedLemmas.{no_feeds}
 
 few_kept : (p : WordText → Bool) (words : List WordText) → length (filter p words) ≤ length words
 few_kept p [] = omega arith
@@ -50,9 +51,6 @@ are_words role count k words some most few has wide = record {
   each = all_has (λ (w : WordText). (length w.nets ≡ k) ⊎ (w.role ≡ Fed)) words (λ w h. inl (wide w h));
 }
 
-no_feeds : (k : ℕ) (roles : List Role) → AreFeeds k roles []
-no_feeds k roles = record { sources = λ feed has. absurd (let got = has.1 in cc); apart = λ i j f g first second. absurd (cc) }
-
 -- where the output word's element is this function of the input words' in each consistent list of bits, it is the output
 out_by : (c : Circuit) (xs : List ℕ) (value : ℕ) → IsJob c → IsInput c xs → ((bits : List Bool) → IsConsistent c.net bits → HaveElements c IsInputWord xs bits → (e : ℕ) → HasElement bits c.output e → e ≡ value) → IsOut c xs value
 out_by c xs value job input each =
@@ -62,33 +60,13 @@ out_by c xs value job input each =
     let P : ℕ → Type 0 = λ e. IsOut c xs e in
     subst P (each out.ends.last cycle.consistent cycle.inputs found.0 out.ends.element) out
 
-two_lists : (lists : List (List ℕ)) → length lists ≡ 2 → (first : List ℕ) × (second : List ℕ) × (lists ≡ first ∷ second ∷ [])
-two_lists [] long = absurd (omega arith)
-two_lists (a ∷ []) long = absurd (omega arith)
-two_lists (a ∷ b ∷ []) long = (a, b, refl)
-two_lists (a ∷ b ∷ c ∷ more) long = absurd (omega arith)
-
 one_list : (lists : List (List ℕ)) → length lists ≡ 1 → (first : List ℕ) × (lists ≡ first ∷ [])
 one_list [] long = absurd (omega arith)
 one_list (a ∷ []) long = (a, refl)
 one_list (a ∷ b ∷ more) long = absurd (omega arith)
 
-take_first : (xs ys : List ℕ) (k : ℕ) → length xs ≡ k → take k (xs ++ ys) ≡ xs
-take_first [] ys zero long = none ys
-  where
-    none : (v : List ℕ) → take 0 v ≡ []
-    none [] = refl
-    none (x ∷ v) = refl
-take_first [] ys (suc k) long = absurd (omega arith)
-take_first (x ∷ xs) ys zero long = absurd (omega arith)
-take_first (x ∷ xs) ys (suc k) long = ap (λ (v : List ℕ). x ∷ v) (take_first xs ys k (omega arith))
-
 drop_first : (xs ys : List ℕ) (k : ℕ) → length xs ≡ k → drop k (xs ++ ys) ≡ ys
-drop_first [] ys zero long = none ys
-  where
-    none : (v : List ℕ) → drop 0 v ≡ v
-    none [] = refl
-    none (x ∷ v) = refl
+drop_first [] ys zero long = drop_none ys
 drop_first [] ys (suc k) long = absurd (omega arith)
 drop_first (x ∷ xs) ys zero long = absurd (omega arith)
 drop_first (x ∷ xs) ys (suc k) long = drop_first xs ys k (omega arith)
@@ -144,7 +122,7 @@ module _ (k : ℕ) (product : ℕ → ℕ → ℕ) (ring : IsRing k product) (fi
       let second : List ℕ = lists.1 in
       let nets : role_nets Input 0 words ≡ lists.0 ++ lists.1 = (lists_are 2 has).1 ∙ (ap all_of lists.2 ∙ ap (λ (v : List ℕ). lists.0 ++ v) (append-nil lists.1)) in
       let long : length lists.0 ≡ k = lists_wide k 0 words wide lists.0 (0, ap (λ (ls : List (List ℕ)). slice_get ls 0) lists.2) in
-      let left : take k (role_nets Input 0 words) ≡ lists.0 = ap (take k) nets ∙ take_first lists.0 lists.1 k long in
+      let left : take k (role_nets Input 0 words) ≡ lists.0 = ap (take k) nets ∙ taken_front lists.0 lists.1 k long in
       let right : drop k (role_nets Input 0 words) ≡ lists.1 = ap (drop k) nets ∙ drop_first lists.0 lists.1 k long in
       let are : job.words ≡ word_on lists.0 ∷ word_on lists.1 ∷ [] = words_on 2 has ∙ ap (λ (ls : List (List ℕ)). map word_on ls) lists.2 in
       let out : (a b : ℕ) → a < 2 ^ k → b < 2 ^ k → IsOut job (a ∷ b ∷ []) (f a b) = λ a b low high. out_by job (a ∷ b ∷ []) (f a b) (job_is 2 (omega arith) has binds) (input a b low high are)
@@ -172,7 +150,7 @@ module _ (k : ℕ) (product : ℕ → ℕ → ℕ) (ring : IsRing k product) (fi
           by x (suc zero, got) = let same : b ≡ x = cc in omega (arith, same, high)
           by x (suc (suc i), got) = let none : None ≡ Some x = got in absurd (cc)
 
-  -- the same of one input word
+  -- a net over one input word computes f where each list of bits that agrees with it says so
   pub computes_one : (f : ℕ → ℕ) → HasWords Input 1 words → BindingOf net words [] (Ok (binding_of net words []))
       → ((bits : List Bool) → IsConsistent net bits → (a e : ℕ) → a < 2 ^ k → AreBits basis a (index_of bits (role_nets Input 0 words)) → AreBits basis e (index_of bits (role_nets Output 0 words)) → e ≡ f a)
       → ComputesOfOne k product net words basis cycles f

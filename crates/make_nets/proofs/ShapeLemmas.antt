@@ -2,7 +2,8 @@
 use Rattle.std.proofs.Common.{◌≡◌, ◌∙◌, ap, refl, subst, inl, inr, ℕ, zero, suc, ◌<◌, ◌≤◌, ◌+◌, ◌^◌, cond, List, [], ◌∷◌, ◌++◌, length, map, Option, None, Some, arith}
 use Rattle.std.specs.Prelude.{◌==◌}
 use Rattle.lists.specs.Lists.{Has, times}
-use Rattle.lists.specs.laws.HasLaws.{Has_cases, times_append}
+use Rattle.lists.specs.laws.HasLaws.{Has_cases, times_append, only_one}
+use Rattle.lists.specs.laws.ListLaws.{length_more}
 use Rattle.lists.specs.laws.NumberLaws.{nat_eq_or}
 use Rattle.lists.specs.laws.TestLaws.{none_here, one_here}
 use Rattle.net_core.specs.GateValue.{GateValue}
@@ -26,16 +27,8 @@ outs_more : (gates : List GateValue) (g : GateValue) (n : ℕ) → times n (map 
 outs_more [] g n = omega arith
 outs_more (h ∷ gates) g n = omega (arith, outs_more gates g n)
 
-length_more : {X : Type 0} (xs : List X) (x : X) → length (xs ++ x ∷ []) ≡ suc (length xs)
-length_more [] x = refl
-length_more (y ∷ xs) x = ap suc (length_more xs x)
-
 times_more : (ns : List ℕ) (m n : ℕ) → times n (ns ++ m ∷ []) ≡ times n ns + cond (m == n) 1 0
 times_more ns m n = omega (arith, times_append n ns (m ∷ []))
-
-one_of : {X : Type 0} (x y : X) → Has (x ∷ []) y → x ≡ y
-one_of x y (zero, got) = let same : Some x ≡ Some y = got in cc
-one_of x y (suc k, got) = let none : None ≡ Some y = got in absurd (cc)
 
 -- what may be read stays so
 pub can_read_more : (outer : ℕ) (sources : List ℕ) (old new : Plan) (n : ℕ) → old.next ≤ new.next → CanRead outer sources old n → CanRead outer sources new n
@@ -54,7 +47,7 @@ module _ (outer : ℕ) (sources targets : List ℕ) (plan : Plan) (inputs : List
   fits_with target g has =
       elim (Has_cases plan.gates (gate_for target ∷ []) g has) [
         | inl before ↦ made.fits g before
-        | inr here ↦ let P : GateValue → Type 0 = λ h. (length h.inputs ≤ 6) × (h.table < 2 ^ (2 ^ length h.inputs)) in subst P (one_of (gate_for target) g here) (few, low)
+        | inr here ↦ let P : GateValue → Type 0 = λ h. (length h.inputs ≤ 6) × (h.table < 2 ^ (2 ^ length h.inputs)) in subst P (only_one (gate_for target) g here) (few, low)
       ]
 
   reads_old : (new : Plan) (g : GateValue) → plan.next ≤ new.next → Has plan.gates g → ReadsBefore outer sources new g
@@ -80,7 +73,7 @@ module _ (outer : ℕ) (sources targets : List ℕ) (plan : Plan) (inputs : List
   reads_with target is g has =
       elim (Has_cases plan.gates (gate_for target ∷ []) g has) [
         | inl before ↦ reads_old (with_gate target inputs table plan) g (gate_next target plan) before
-        | inr here ↦ let P : GateValue → Type 0 = λ h. ReadsBefore outer sources (with_gate target inputs table plan) h in subst P (one_of (gate_for target) g here) (reads_new target is)
+        | inr here ↦ let P : GateValue → Type 0 = λ h. ReadsBefore outer sources (with_gate target inputs table plan) h in subst P (only_one (gate_for target) g here) (reads_new target is)
       ]
 
   outs_inner : (n : ℕ) → times n (outs (with_gate None inputs table plan)) ≡ times n (outs plan) + cond (plan.next == n) 1 0
@@ -123,10 +116,10 @@ module _ (outer : ℕ) (sources targets : List ℕ) (plan : Plan) (inputs : List
 
 two_reads : (outer : ℕ) (sources : List ℕ) (plan : Plan) (a b : ℕ) → CanRead outer sources plan a → CanRead outer sources plan b → (n : ℕ) → Has (a ∷ b ∷ []) n → CanRead outer sources plan n
 two_reads outer sources plan a b first second n (zero, got) = let same : Some a ≡ Some n = got in let P : ℕ → Type 0 = λ m. CanRead outer sources plan m in let e : a ≡ n = cc in subst P e first
-two_reads outer sources plan a b first second n (suc k, got) = let P : ℕ → Type 0 = λ m. CanRead outer sources plan m in subst P (one_of b n (k, got)) second
+two_reads outer sources plan a b first second n (suc k, got) = let P : ℕ → Type 0 = λ m. CanRead outer sources plan m in subst P (only_one b n (k, got)) second
 
 one_reads : (outer : ℕ) (sources : List ℕ) (plan : Plan) (a : ℕ) → CanRead outer sources plan a → (n : ℕ) → Has (a ∷ []) n → CanRead outer sources plan n
-one_reads outer sources plan a first n has = let P : ℕ → Type 0 = λ m. CanRead outer sources plan m in subst P (one_of a n has) first
+one_reads outer sources plan a first n has = let P : ℕ → Type 0 = λ m. CanRead outer sources plan m in subst P (only_one a n has) first
 
 pub and_made : (outer : ℕ) (sources targets : List ℕ) (target : Option ℕ) (a b : ℕ) (plan : Plan) → IsWellMade outer sources targets plan → IsTarget outer target → CanRead outer sources plan a → CanRead outer sources plan b → IsWellMade outer sources (targets_with targets target) (with_and target a b plan)
 and_made outer sources targets target a b plan made is first second = gate_made outer sources targets plan (a ∷ b ∷ []) 8 made (two_reads outer sources plan a b first second) (omega arith) (omega arith) target is

@@ -1,10 +1,12 @@
 -- The net list of a plan is sound.
-use Rattle.std.proofs.Common.{◌≡◌, ◌≢◌, ◌⊎◌, ◌∙◌, ap, refl, subst, inl, inr, ℕ, zero, suc, ◌<◌, ◌≤◌, ◌+◌, ◌-◌, ◌^◌, cond, List, [], ◌∷◌, length, map, Some, arith}
+use Rattle.std.proofs.Common.{◌≡◌, ◌∙◌, ap, refl, subst, inl, inr, ℕ, suc, ◌<◌, ◌≤◌, ◌+◌, ◌-◌, ◌^◌, cond, List, length, map, Some, arith}
 use Rattle.std.specs.Prelude.{◌==◌, nat_lt}
 use Rattle.std.proofs.lemmas.Bool.Decides.{nat_tests}
+use Rattle.std.proofs.lemmas.Bool.{cases_lt}
 use Rattle.lists.specs.Lists.{Has, times}
 use Rattle.lists.specs.laws.HasLaws.{all_from as all_has, times_append, times_get, times_some, Has_map, Has_left, Has_right}
-use Rattle.graph_core.specs.Walk.{IsChain, IsCycleBy}
+use Rattle.lists.specs.laws.TestLaws.{chosen_equal, chosen_other, chosen_below}
+use Rattle.graph_core.proofs.SharedLemmas.{no_cycle_by}
 use Rattle.net_core.specs.GateValue.{GateValue}
 use Rattle.net_core.specs.LatchValue.{LatchValue}
 use Rattle.net_core.specs.NetList.{NetList, nets}
@@ -15,29 +17,6 @@ use Rattle.make_nets.specs.PlanShape.{outs}
 use Rattle.make_nets.specs.MadeNet.{made_net}
 use Rattle.make_nets.specs.Makeable.{IsMakeable, driven_outside}
 use Rattle.make_nets.proofs.LabelLemmas.{labels_long, label_named, label_found}
-
-chain_falls : (R : ℕ → ℕ → Type 0) (f : ℕ → ℕ) → ((a b : ℕ) → R a b → f b < f a) → (a : ℕ) (over : List ℕ) (b : ℕ) → IsChain R a over b → f b < f a
-chain_falls R f each a [] b chain = each a b chain
-chain_falls R f each a (m ∷ over) b chain = omega (arith, each a m chain.0, chain_falls R f each m over b chain.1)
-
--- where each step falls there is no cycle
-pub no_cycle_by : (R : ℕ → ℕ → Type 0) (f : ℕ → ℕ) → ((a b : ℕ) → R a b → f b < f a) → (cycle : List ℕ) → IsCycleBy R cycle → ⊥
-no_cycle_by R f each [] cycle = cycle
-no_cycle_by R f each (a ∷ rest) cycle = omega (arith, chain_falls R f each a rest a cycle)
-
-below_or : (n m : ℕ) → (n < m) ⊎ (m ≤ n)
-below_or n zero = inr (omega arith)
-below_or zero (suc m) = inl (omega arith)
-below_or (suc n) (suc m) = elim (below_or n m) [ inl less ↦ inl (omega (arith, less)) | inr more ↦ inr (omega (arith, more)) ]
-
-same_of : (m n x y : ℕ) → m ≡ n → cond (m == n) x y ≡ x
-same_of m n x y same = grind (arith, nat_tests)
-
-other_of : (m n x y : ℕ) → m ≢ n → cond (m == n) x y ≡ y
-other_of m n x y other = grind (arith, nat_tests)
-
-is_below : (m n x y : ℕ) → m < n → cond (nat_lt m n) x y ≡ x
-is_below m n x y less = grind (arith, nat_tests)
 
 not_below : (m n x y : ℕ) → n ≤ m → cond (nat_lt m n) x y ≡ y
 not_below m n x y more = grind (arith, nat_tests)
@@ -93,7 +72,7 @@ module _ (names : List (List ℕ)) (prefix : List ℕ) (inputs outputs : List �
   drivers_are n = times_append n outside (outs plan)
 
   one : HasOneDriverEach net
-  one n less = elim (below_or n (length names)) [
+  one n less = elim (cases_lt n (length names)) [
     | inl low ↦ omega (arith, drivers_are n, fits.made.outside n low, fits.once n low)
     | inr high ↦ omega (arith, drivers_are n, no_source n high, fits.made.inner n high (omega (arith, less, nets_are)))
   ]
@@ -109,26 +88,26 @@ module _ (names : List (List ℕ)) (prefix : List ℕ) (inputs outputs : List �
 
   rank_source : (n : ℕ) → Has outside n → rank n ≡ 0
   unfolding rank
-  rank_source n source = other_of (times n outside) 0 (cond (nat_lt n (length names)) (suc plan.next) (suc n)) 0 (λ e. omega (arith, e, times_get n outside source.0 source.1))
+  rank_source n source = chosen_other (times n outside) 0 (cond (nat_lt n (length names)) (suc plan.next) (suc n)) 0 (λ e. omega (arith, e, times_get n outside source.0 source.1))
 
   rank_high : (n : ℕ) → length names ≤ n → rank n ≡ suc n
   unfolding rank
-  rank_high n high = same_of (times n outside) 0 (cond (nat_lt n (length names)) (suc plan.next) (suc n)) 0 (no_source n high) ∙ not_below n (length names) (suc plan.next) (suc n) high
+  rank_high n high = chosen_equal (times n outside) 0 (cond (nat_lt n (length names)) (suc plan.next) (suc n)) 0 (no_source n high) ∙ not_below n (length names) (suc plan.next) (suc n) high
 
   rank_low : (n : ℕ) → n < length names → (Has outside n → ⊥) → rank n ≡ suc plan.next
   unfolding rank
   rank_low n low none =
       let free : 1 ≤ times n outside → ⊥ = λ some. none (times_some n outside some) in
-      same_of (times n outside) 0 (cond (nat_lt n (length names)) (suc plan.next) (suc n)) 0 (omega (arith, free)) ∙ is_below n (length names) (suc plan.next) (suc n) low
+      chosen_equal (times n outside) 0 (cond (nat_lt n (length names)) (suc plan.next) (suc n)) 0 (omega (arith, free)) ∙ chosen_below n (length names) (suc plan.next) (suc n) low
 
   out_high : (g : GateValue) (b : ℕ) → Has plan.gates g → length names ≤ b → b < plan.next → (length names ≤ g.out → b < g.out) → suc b < rank g.out
-  out_high g b has high less falls = elim (below_or g.out (length names)) [
+  out_high g b has high less falls = elim (cases_lt g.out (length names)) [
     | inl low ↦ omega (arith, less, rank_low g.out low (not_driven g g.out has refl))
     | inr up ↦ omega (arith, falls up, rank_high g.out up)
   ]
 
   out_some : (g : GateValue) → Has plan.gates g → 0 < rank g.out
-  out_some g has = elim (below_or g.out (length names)) [
+  out_some g has = elim (cases_lt g.out (length names)) [
     | inl low ↦ omega (arith, rank_low g.out low (not_driven g g.out has refl))
     | inr up ↦ omega (arith, rank_high g.out up)
   ]

@@ -3,6 +3,7 @@ use Rattle.std.proofs.Common.{◌≡◌, ◌∙◌, ap, sym, refl, ℕ, zero, su
 use Rattle.std.specs.Prelude.{bit_xor, ◌==◌}
 use Rattle.std.specs.Int.{bit_at}
 use Rattle.std.specs.Int.Bits.{xor_assoc, xor_zero_r}
+use Rattle.std.proofs.Math.Nat.{mul-zero, mul-one}
 use Rattle.lists.specs.laws.HasLaws.{Has_left, Has_right}
 use Rattle.gf_field.specs.Polynomial.{sum_of_first}
 use Rattle.net_core.specs.GateValue.{GateValue}
@@ -22,7 +23,7 @@ agrees_before bits target inputs table plan agrees g has = agrees g (Has_left pl
 pub agrees_last : (bits : List Bool) (target : Option ℕ) (inputs : List ℕ) (table : ℕ) (plan : Plan) → Agrees bits (with_gate target inputs table plan) → IsRight bits (last target inputs table plan)
 agrees_last bits target inputs table plan agrees = agrees (last target inputs table plan) (Has_right plan.gates (last target inputs table plan ∷ []) (last target inputs table plan) (0, refl))
 
-and_bits : (x y z : Bool) → z ≡ (bit_at 8 (cond x 1 0 + 2 * (cond y 1 0 + 2 * 0)) == 1) → ◌≡◌ {A = ℕ} (cond z 1 0) (cond x 1 0 * cond y 1 0)
+pub and_bits : (x y z : Bool) → z ≡ (bit_at 8 (cond x 1 0 + 2 * (cond y 1 0 + 2 * 0)) == 1) → ◌≡◌ {A = ℕ} (cond z 1 0) (cond x 1 0 * cond y 1 0)
 and_bits true true z is = rw is refl
 and_bits true false z is = rw is refl
 and_bits false true z is = rw is refl
@@ -93,12 +94,6 @@ gathered_parity bits f (suc n) = parity_append bits (gathered n f) (f n) ∙ ap 
 
 -- a net that is chosen by a bit
 pub where_parity : (bits : List Bool) (choice n : ℕ) → choice < 2 → parity bits (where_so (choice == 1) n) ≡ bit_at_net bits n * choice
-where_parity bits zero n low = sym (no_times (bit_at_net bits n))
-  where
-    no_times : (x : ℕ) → x * 0 ≡ 0
-    no_times x = omega arith
-where_parity bits (suc zero) n low = xor_zero_r (bit_at_net bits n) ∙ sym (one_times (bit_at_net bits n))
-  where
-    one_times : (x : ℕ) → x * 1 ≡ x
-    one_times x = omega arith
+where_parity bits zero n low = sym (mul-zero (bit_at_net bits n))
+where_parity bits (suc zero) n low = xor_zero_r (bit_at_net bits n) ∙ sym (mul-one (bit_at_net bits n))
 where_parity bits (suc (suc c)) n low = absurd (omega arith)

@@ -15,7 +15,8 @@ pub record ComputesOfTwo (k : ℕ) (product : ℕ → ℕ → ℕ) (net : NetLis
   pub binds : BindingOf net words [] (Ok binding)
   pub out : (binding : Binding) → BindingOf net words [] (Ok binding) → (a b : ℕ) → a < 2 ^ k → b < 2 ^ k → IsOut (job_with k product (record { net = net; binding = binding }) (same_bases basis words) cycles) (a ∷ b ∷ []) (f a b)
 
--- the same of the element of one word
+-- Over the field of 2 to the k elements with this product, with this basis for each word: the words bind to the net list in
+-- one way, and the output of the job is f of the element of its one word, at each input, after so many cycles.
 pub record ComputesOfOne (k : ℕ) (product : ℕ → ℕ → ℕ) (net : NetList) (words : List WordText) (basis : List ℕ) (cycles : ℕ) (f : ℕ → ℕ) : Type 0 where
   pub binding : Binding
   pub binds : BindingOf net words [] (Ok binding)

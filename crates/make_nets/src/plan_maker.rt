@@ -116,7 +116,8 @@ impl PlanMaker {
         }
     }
 
-    /// The same chain, whose last gate drives an outer net.
+    /// A chain of exclusive or gates of the nets, from the left, drives this outer net; those between drive the next inner
+    /// nets.
     pub fn chain_into(&mut self, out: u32, list: &[u32]) -> Result<(), AllocError>
         requires room { HasRoom self.old (length list.now + 1) }
         ensures { OnOk result (self.new ≡ with_chain (Some out) list.now self.old) }

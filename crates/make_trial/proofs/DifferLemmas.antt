@@ -6,8 +6,8 @@ use Rattle.std.specs.Int.{bit_at}
 use Rattle.std.specs.Int.Bits.{xor_assoc, xor_self, xor_zero_l}
 use Rattle.std.proofs.lemmas.Nat.{pow_below}
 use Rattle.std.proofs.lemmas.Nat.Bits.{bit_at-zero, bit_at-pow_same}
-use Rattle.lists.specs.Lists.{Has}
-use Rattle.lists.specs.laws.HasLaws.{Has_cases, Has_left}
+use Rattle.lists.specs.laws.HasLaws.{Has_cases, Has_left, none_stands}
+use Rattle.lists.specs.laws.TestLaws.{chosen_equal}
 use Rattle.gf_field.specs.Bit.{bit_mul}
 use Rattle.gf_field.specs.Field.{HasNoZeroDivisors}
 use Rattle.gf_field.specs.Modulus.{IsModulus}
@@ -46,7 +46,6 @@ use Rattle.mult_gen.proofs.PolyLemmas.{powers_basis}
 use Rattle.make_trial.specs.Turned.{turned_product}
 use Rattle.make_trial.proofs.MutatedLemmas.{column_low, place_is, row_low, turned_value}
 use Rattle.make_trial.proofs.PlaceLemmas.{and_gate, product_at}
-use Rattle.make_trial.proofs.SumLemmas.{same_of}
 use Rattle.make_trial.proofs.ValueLemmas.{at_product}
 
 -- powers of an element that is not 0 are not 0
@@ -78,15 +77,12 @@ differs k g ok field p index low small =
     let a = with_bit k (p / k) (index % 2) (row_low k p low) (omega arith) in
     let b = with_bit k (p % k) (index / 2) (column_low k p low) (omega (arith, small)) in
     let read : bit_at a.0 (p / k) + 2 * bit_at b.0 (p % k) ≡ index = omega (arith, a.2, b.2) in
-    let added : cond (bit_at a.0 (p / k) + 2 * bit_at b.0 (p % k) == index) (x_to k g (p / k + p % k)) 0 ≡ x_to k g (p / k + p % k) = same_of (bit_at a.0 (p / k) + 2 * bit_at b.0 (p % k)) index (x_to k g (p / k + p % k)) 0 read in
+    let added : cond (bit_at a.0 (p / k) + 2 * bit_at b.0 (p % k) == index) (x_to k g (p / k + p % k)) 0 ≡ x_to k g (p / k + p % k) = chosen_equal (bit_at a.0 (p / k) + 2 * bit_at b.0 (p % k)) index (x_to k g (p / k + p % k)) 0 read in
     (a.0, b.0, a.1, b.1, λ e. xor_other (product 1 k bit_mul g a.0 b.0) (x_to k g (p / k + p % k)) (reached k g (p / k) (p % k) ring field (row_low k p low) (column_low k p low)) (sym (ap (bit_xor (product 1 k bit_mul g a.0 b.0)) added) ∙ e))
 
 -- the first k * k gates are the products
 pub product_gates : (k g : ℕ) (words : List WordText) (i j : ℕ) → i < k → j < k → slice_get (made_mastrovito k g words).gates (i * k + j) ≡ Some (and_gate (outer_of words + i * k + j) (slice_index (take k (inputs_in words)) i) (slice_index (drop k (inputs_in words)) j))
 product_gates k g words i j first second = at_product (outer_of words) k g (take k (inputs_in words)) (drop k (inputs_in words)) (outputs_in words) (i * k + j) (and_gate (outer_of words + i * k + j) (slice_index (take k (inputs_in words)) i) (slice_index (drop k (inputs_in words)) j)) (product_at (outer_of words) k (take k (inputs_in words)) (drop k (inputs_in words)) i j first second)
-
-none_fed : {X : Type 0} (n : ℕ) → Has [] n → X
-none_fed n has = absurd (let got = has.1 in cc)
 
 -- what the turned net computes
 pub turned_computes : (k g : ℕ) → IsModulus k g → HasNoZeroDivisors k (product 1 k bit_mul g) → (words : List WordText) (p index : ℕ) → HasWords Input 2 words → AllWide k words → AreMakerNames (outer_names words []) → p < k * k → index < 4 → ComputesOfTwo k (product 1 k bit_mul g) (turned (made_mastrovito k g words) p index) words (first_values k (λ i. 2 ^ i)) 0 (turned_product k g p index)
@@ -100,7 +96,7 @@ turned_computes k g ok field words p index has wide are low small =
     words_bind (turned (made_mastrovito k g words) p index) words [] []
     (found_front (made_mastrovito k g words) 0 (word_names words) [] (outer_found words [] [] (outputs_in words) (mastrovito_plan (outer_of words) k g (take k (inputs_in words)) (drop k (inputs_in words)) (outputs_in words)) are fits))
     (λ n h. Has_left (inputs_in words) (range_with_len (outer_of words) 0) n h) (held 2 k words has wide) refl
-    (λ n h. elim (Has_cases (inputs_in words) (range_with_len (outer_of words) 0) n h) [ inl w ↦ inl w | inr w ↦ none_fed n w ]) in
+    (λ n h. elim (Has_cases (inputs_in words) (range_with_len (outer_of words) 0) n h) [ inl w ↦ inl w | inr w ↦ none_stands n w ]) in
     computes_two k (product 1 k bit_mul g) ring field (turned (made_mastrovito k g words) p index) sound words (first_values k (λ i. 2 ^ i)) (powers_basis k) 0 wide ok.some ok.small (turned_product k g p index) has binds
     (λ bits consistent a b e first second one two out.
     poly_element k e (index_of bits (outputs_in words)) out

@@ -4,15 +4,11 @@ pub mod SumLemmas
 pub mod ValueLemmas
 pub mod MutatedLemmas
 pub mod DifferLemmas
-pub mod DigitLemmas
 pub mod Examples
-pub mod HexLemmas
-pub mod LineLemmas
 pub mod NetNameLemmas
-pub mod PlainLemmas
-pub mod TwoInputsLemmas
 pub mod NameLemmas
-pub mod SettingLemmas
+pub mod SaidLemmas
 pub mod SpecLemmas
+pub mod SettingLemmas
 pub mod NetLemmas
 pub mod OutLemmas

@@ -4,7 +4,7 @@ use Rattle.std.specs.Fmt.{decimal}
 use Rattle.std.proofs.lemmas.Fmt.{decimal_injective, length-decimal-le}
 use Rattle.std.proofs.lemmas.List.{append_cancel_left, length-append}
 use Rattle.lists.specs.Lists.{Has}
-use Rattle.lists.specs.laws.HasLaws.{none_at as none_of, Has_cases}
+use Rattle.lists.specs.laws.HasLaws.{none_at as none_of, Has_cases, one_of}
 use Rattle.net_write.proofs.LineTextLemmas.{ArePlain, AreFields, IsField}
 use Rattle.net_write.specs.Plain.{IsPlainByte}
 use Rattle.net_words.specs.declared.word.WordText.{WordText}
@@ -16,10 +16,6 @@ use Rattle.net_words.specs.declared.word.Role.TheVariants.{Input, Output}
 use Rattle.make_trial.specs.TwoInputs.{lettered, net_names}
 use Rattle.make_trial.proofs.NetNameLemmas.{all_from, names_fields, names_long}
 use Rattle.make_trial.specs.Trial.{trial_words}
-
-one_of : {X : Type 0} (x y : X) → Has (x ∷ []) y → y ≡ x
-one_of x y (zero, got) = let same : x ≡ y = cc in sym same
-one_of x y (suc i, got) = absurd (cc)
 
 -- each name is the letter and a number
 has_name : (letter : List ℕ) (k : ℕ) (name : List ℕ) → Has (net_names letter k) name → (i : ℕ) × (i < k) × (name ≡ letter ++ decimal i)

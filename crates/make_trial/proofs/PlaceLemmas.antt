@@ -1,6 +1,8 @@
 -- The gates of a multiplier by position.
-use Rattle.std.proofs.Common.{◌≡◌, ◌≢◌, ◌∙◌, ap, sym, refl, inl, inr, ℕ, zero, suc, ◌<◌, ◌+◌, ◌*◌, List, [], ◌∷◌, ◌++◌, length, Some, arith}
+use Rattle.std.proofs.Common.{◌≡◌, ◌≢◌, ◌∙◌, ap, sym, refl, inl, inr, ℕ, zero, suc, ◌<◌, ◌+◌, ◌*◌, List, [], ◌∷◌, length, Some, arith}
 use Rattle.std.specs.Prelude.{slice_get, slice_index}
+use Rattle.std.proofs.Math.Nat.{suc-mul}
+use Rattle.lists.specs.laws.ListLaws.{length_more}
 use Rattle.lists.specs.laws.NumberLaws.{nat_eq_or}
 use Rattle.lists.specs.laws.ReadLaws.{get_front, get_here}
 use Rattle.net_core.specs.GateValue.{GateValue}
@@ -13,13 +15,9 @@ use Rattle.mult_gen.proofs.ProductLemmas.{row_next, rows_next}
 abbrev pub and_gate : ℕ → ℕ → ℕ → GateValue
 and_gate out a b = record { out = out; inputs = a ∷ b ∷ []; table = 8 }
 
-more_long : {X : Type 0} (xs : List X) (x : X) → length (xs ++ x ∷ []) ≡ suc (length xs)
-more_long [] x = refl
-more_long (y ∷ xs) x = ap suc (more_long xs x)
-
 row_long : (n x : ℕ) (b : List ℕ) (plan : Plan) → length (product_row n x b plan).gates ≡ length plan.gates + n
 row_long zero x b plan = omega arith
-row_long (suc n) x b plan = omega (arith, row_long n x b plan, more_long (product_row n x b plan).gates (and_gate (product_row n x b plan).next x (slice_index b n)))
+row_long (suc n) x b plan = omega (arith, row_long n x b plan, length_more (product_row n x b plan).gates (and_gate (product_row n x b plan).next x (slice_index b n)))
 
 row_at : (n x : ℕ) (b : List ℕ) (plan : Plan) (j : ℕ) → j < n → slice_get (product_row n x b plan).gates (length plan.gates + j) ≡ Some (and_gate (plan.next + j) x (slice_index b j))
 row_at zero x b plan j less = absurd (omega arith)
@@ -39,10 +37,7 @@ kept (suc n) x b plan q g got = get_front (product_row n x b plan).gates (and_ga
 
 rows_long : (n k : ℕ) (a b : List ℕ) (plan : Plan) → length (each n (λ i. product_row k (slice_index a i) b) plan).gates ≡ length plan.gates + n * k
 rows_long zero k a b plan = omega arith
-rows_long (suc n) k a b plan = omega (arith, rows_long n k a b plan, row_long k (slice_index a n) b (each n (λ i. product_row k (slice_index a i) b) plan), one_more n k)
-  where
-    one_more : (n k : ℕ) → suc n * k ≡ n * k + k
-    one_more n k = omega arith
+rows_long (suc n) k a b plan = omega (arith, rows_long n k a b plan, row_long k (slice_index a n) b (each n (λ i. product_row k (slice_index a i) b) plan), suc-mul n k)
 
 rows_at : (n k : ℕ) (a b : List ℕ) (plan : Plan) (i j : ℕ) → i < n → j < k → slice_get (each n (λ i. product_row k (slice_index a i) b) plan).gates (length plan.gates + i * k + j) ≡ Some (and_gate (plan.next + i * k + j) (slice_index a i) (slice_index b j))
 rows_at zero k a b plan i j less low = absurd (omega arith)
@@ -74,7 +69,3 @@ pub turned_here : (gates : List GateValue) (p index : ℕ) (g : GateValue) → s
 turned_here [] p index g got = absurd (cc)
 turned_here (h ∷ gates) zero index g got = let same : h ≡ g = cc in ap (λ (x : GateValue). Some (turned_gate x index)) same
 turned_here (h ∷ gates) (suc p) index g got = turned_here gates p index g got
-
-pub get_back : {X : Type 0} (xs ys : List X) (q : ℕ) (x : X) → slice_get ys q ≡ Some x → slice_get (xs ++ ys) (length xs + q) ≡ Some x
-get_back [] ys q x got = let e : 0 + q ≡ q = omega arith in rw e got
-get_back (y ∷ xs) ys q x got = let e : suc (length xs) + q ≡ suc (length xs + q) = omega arith in rw e (get_back xs ys q x got)

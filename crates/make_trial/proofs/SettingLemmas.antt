@@ -1,10 +1,10 @@
 -- The signature of a trial gives its setting, and nothing else.
-use Rattle.std.proofs.Common.{◌≡◌, refl, inl, sym, subst, ℕ, ◌≤◌, ◌<◌, ◌^◌, List, [], ◌∷◌, codes, Result, Ok, Err}
+use Rattle.std.proofs.Common.{◌≡◌, refl, inl, sym, subst, ℕ, ◌^◌, List, [], ◌∷◌, codes, Result, Ok, Err}
 use Rattle.outcome.specs.Outcome.{Within}
+use Rattle.outcome.proofs.DeterminedLemmas.{determined_within}
 use Rattle.gf_basis.specs.Basis.{first_values}
 use Rattle.gf_field.specs.Bit.{bit_mul}
 use Rattle.gf_field.specs.Quotient.{product}
-use Rattle.net_flat.proofs.FlatDetermined.{determined_within}
 use Rattle.net_signature.specs.Signature.{SignatureValue}
 use Rattle.net_words.specs.declared.word.Role.{Role}
 use Rattle.net_words.specs.declared.word.Role.TheVariants.{Input, Output}
@@ -13,19 +13,12 @@ use Rattle.job_words.specs.declared.stop.Stop.{Stop}
 use Rattle.job_words.specs.declared.stop.Stop.TheVariants as stops
 use Rattle.job_words.specs.declared.fault.Fault.{Fault}
 use Rattle.job_words.specs.declared.fault.Fault.TheVariants.{Signature}
-use Rattle.job_input.specs.Setting.{AreSaid}
 use Rattle.job_input.specs.SettingOf.{SettingWith, SignedValue, WordBasis}
 use Rattle.job_input.specs.SettingValue.{SettingValue}
 use Rattle.job_input.proofs.SettingDetermined.{with_determined}
-use Rattle.job_input.proofs.SettingWordLemmas.{text_said}
 use Rattle.make_trial.specs.TwoInputs.{lettered, two_inputs}
-use Rattle.make_trial.specs.private.TwoInputsText.{two_inputs_text}
 use Rattle.make_trial.proofs.NetNameLemmas.{names_long}
-use Rattle.make_trial.proofs.TwoInputsLemmas.{text_says}
 use Rattle.make_trial.specs.Trial.{trial_setting}
-
-pub trial_said : (k g : ℕ) → 1 ≤ k → k ≤ 64 → g < 2 ^ 128 → AreSaid (two_inputs k g)
-trial_said k g some most small = text_said (two_inputs_text k g) (two_inputs k g) (text_says k g some most small)
 
 -- the signature with its field
 abbrev pub trial_signed : (k g : ℕ) → SignedValue

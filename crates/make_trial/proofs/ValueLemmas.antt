@@ -5,22 +5,17 @@ use Rattle.std.specs.Int.{bit_at}
 use Rattle.std.specs.Int.Bits.{xor_zero_r}
 use Rattle.lists.specs.Lists.{Has}
 use Rattle.lists.specs.laws.NumberLaws.{nat_eq_or}
-use Rattle.lists.specs.laws.ReadLaws.{get_front}
+use Rattle.lists.specs.laws.ReadLaws.{get_front, get_back}
+use Rattle.lists.specs.laws.TestLaws.{chosen_other, chosen_equal}
+use Rattle.make_nets.proofs.ValueLemmas.{and_bits}
 use Rattle.net_core.specs.GateValue.{GateValue}
 use Rattle.net_core.specs.Turned.{turned_gate, turned_gates}
 use Rattle.net_core.specs.Value.{bit_of, IsRight}
 use Rattle.make_nets.specs.Plan.{begun}
 use Rattle.make_nets.specs.PlanValue.{Agrees, bit_at_net}
 use Rattle.mult_gen.specs.Chains.{added_products, chains, mastrovito_plan, products}
-use Rattle.make_trial.proofs.PlaceLemmas.{and_gate, get_back, product_at, products_long, turned_here, turned_other}
+use Rattle.make_trial.proofs.PlaceLemmas.{and_gate, product_at, products_long, turned_here, turned_other}
 use Rattle.make_trial.proofs.ShiftLemmas.{chains_gates}
-use Rattle.make_trial.proofs.SumLemmas.{other_of, same_of}
-
-and_bits : (x y z : Bool) → z ≡ (bit_at 8 (cond x 1 0 + 2 * (cond y 1 0 + 2 * 0)) == 1) → ◌≡◌ {A = ℕ} (cond z 1 0) (cond x 1 0 * cond y 1 0)
-and_bits true true z is = rw is refl
-and_bits true false z is = rw is refl
-and_bits false true z is = rw is refl
-and_bits false false z is = rw is refl
 
 -- the table of a product with one bit turned over
 turned_bits : (index : ℕ) (x y z : Bool) → index < 4 → z ≡ (bit_at (bit_xor 8 (2 ^ index)) (cond x 1 0 + 2 * (cond y 1 0 + 2 * 0)) == 1) → ◌≡◌ {A = ℕ} (cond z 1 0) (bit_xor (cond x 1 0 * cond y 1 0) (cond (cond x 1 0 + 2 * cond y 1 0 == index) 1 0))
@@ -69,9 +64,9 @@ module _ (outer k g : ℕ) (a b z : List ℕ) (p index : ℕ) (low : p < k * k) 
             and_bits (bit_of bits (slice_index a i)) (bit_of bits (slice_index b j)) (bit_of bits (outer + i * k + j))
             (right (and_gate (outer + i * k + j) (slice_index a i) (slice_index b j)) (i * k + j, turned_other (mastrovito_plan outer k g a b z).gates p index (i * k + j) (and_gate (outer + i * k + j) (slice_index a i) (slice_index b j)) other got))
             ∙ (sym (xor_zero_r (bit_at_net bits (slice_index a i) * bit_at_net bits (slice_index b j)))
-            ∙ ap (bit_xor (bit_at_net bits (slice_index a i) * bit_at_net bits (slice_index b j))) (sym (other_of (i * k + j) p (cond (bit_at_net bits (slice_index a i) + 2 * bit_at_net bits (slice_index b j) == index) 1 0) 0 other)))
+            ∙ ap (bit_xor (bit_at_net bits (slice_index a i) * bit_at_net bits (slice_index b j))) (sym (chosen_other (i * k + j) p (cond (bit_at_net bits (slice_index a i) + 2 * bit_at_net bits (slice_index b j) == index) 1 0) 0 other)))
         | inl same ↦
             turned_bits index (bit_of bits (slice_index a i)) (bit_of bits (slice_index b j)) (bit_of bits (outer + i * k + j)) small
             (right (turned_gate (and_gate (outer + i * k + j) (slice_index a i) (slice_index b j)) index) (p, turned_here (mastrovito_plan outer k g a b z).gates p index (and_gate (outer + i * k + j) (slice_index a i) (slice_index b j)) (ap (slice_get (mastrovito_plan outer k g a b z).gates) (sym same) ∙ got)))
-            ∙ ap (bit_xor (bit_at_net bits (slice_index a i) * bit_at_net bits (slice_index b j))) (sym (same_of (i * k + j) p (cond (bit_at_net bits (slice_index a i) + 2 * bit_at_net bits (slice_index b j) == index) 1 0) 0 same))
+            ∙ ap (bit_xor (bit_at_net bits (slice_index a i) * bit_at_net bits (slice_index b j))) (sym (chosen_equal (i * k + j) p (cond (bit_at_net bits (slice_index a i) + 2 * bit_at_net bits (slice_index b j) == index) 1 0) 0 same))
       ]

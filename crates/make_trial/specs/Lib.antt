@@ -1,4 +1,3 @@
 pub mod Turned
 pub mod TwoInputs
 pub mod Trial
-pub mod private

@@ -26,7 +26,7 @@ trial_index k number = number / (k * k) % 4
 abbrev pub trial_words : ℕ → List WordText
 trial_words k = (two_inputs k 0).words
 
--- the same with the field of the modulus g, of degree k, all words in the basis of powers
+-- these words over the field of the modulus g, of degree k, each in the basis of powers
 abbrev pub trial_setting : (k g : ℕ) → SettingValue
 trial_setting k g = record { signature = two_inputs k g; k = k; product = product 1 k bit_mul g; bases = same_bases (first_values k (λ i. 2 ^ i)) (trial_words k) }
 

@@ -17,12 +17,16 @@ abbrev pub lettered : (line : ℕ) (name : List ℕ) (role : Role) (letter : Lis
 lettered line name role letter k = record { line = line; name = name; role = role; basis = Poly; nets = net_names letter k }
 
 -- the input words A and B and the output word Z, of k nets each
+abbrev pub words_of_two : ℕ → List WordText
+words_of_two k = lettered 3 (codes "A") Input (codes "a") k ∷ lettered 4 (codes "B") Input (codes "b") k ∷ lettered 5 (codes "Z") Output (codes "z") k ∷ []
+
+-- the signature with these words, without feeds and blocks, over the field of a modulus
 abbrev pub two_inputs : (k modulus : ℕ) → SignatureValue
 two_inputs k modulus = record {
   modulus = modulus;
   tower = [];
   upper = [];
-  words = lettered 3 (codes "A") Input (codes "a") k ∷ lettered 4 (codes "B") Input (codes "b") k ∷ lettered 5 (codes "Z") Output (codes "z") k ∷ [];
+  words = words_of_two k;
   feeds = [];
   blocks = [];
 }

@@ -3,7 +3,6 @@
 #![tactic(auto)]
 
 mod circuit;
-mod hex;
 mod inputs;
 mod place;
 mod setting;
@@ -11,7 +10,6 @@ mod spec;
 mod turned_laws;
 
 pub use circuit::trial_circuit;
-pub use hex::push_hex;
 pub use inputs::two_inputs;
 pub use place::{trial_index, trial_place};
 pub use setting::trial_setting;

@@ -2,12 +2,11 @@
 ghost use Rattle.std.specs.Prelude.{◌≡◌, IfOk, length};
 ghost use Rattle.job_input.specs.Labelling.{labels_of};
 ghost use Rattle.spec_expand.specs.Specification.{IsOverWords};
-ghost use Rattle.spec_expand.specs.declared.fault.SpecFault.TheVariants.{OutOfMemory};
 ghost use Rattle.make_trial.specs.Trial.{product_terms, trial_words};
 
 use gf_field::Field;
 use poly_mixed::Labels;
-use spec_expand::{Spec, SpecFault, read_spec};
+use spec_expand::{Spec, SpecTerm};
 use std::alloc::{AllocError, Global};
 
 /// The product of the two words of a trial.
@@ -17,18 +16,21 @@ pub fn product_spec<F: Field>(alloc: Global, field: &F, labels: &Labels) -> Resu
     ensures over { IfOk result (IsOverWords (F.degree field.now) (length labels.now.words)) }
 {
     let _k = field.k();
-    match read_spec(alloc, field, b"Z=A*B", labels) {
+    let _words = labels.words();
+    match product_of_two(alloc) {
         Ok(spec) => Ok(spec),
-        Err(fault) => Err(want_of_memory(fault)),
+        Err(error) => Err(error),
     }
 }
 
-// Its text has no fault.
-fn want_of_memory(fault: SpecFault) -> AllocError
-    requires { fault ≡ OutOfMemory }
+// One term: the word 0 times the word 1.
+fn product_of_two(alloc: Global) -> Result<Spec, AllocError>
+    ensures { IfOk result (λ spec. spec ≡ product_terms) }
 {
-    match fault {
-        SpecFault::OutOfMemory => AllocError,
-        _ => unreachable!(),
-    }
+    let mut powers = Vec::new(alloc);
+    powers.push((0, 1))?;
+    powers.push((1, 1))?;
+    let mut terms = Vec::new(alloc);
+    terms.push(SpecTerm::new(1, powers))?;
+    Ok(Spec::new(terms))
 }

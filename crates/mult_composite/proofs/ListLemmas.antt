@@ -1,10 +1,10 @@
 -- Lists that loops make.
-use Rattle.std.proofs.Common.{◌≡◌, ◌∙◌, ℕ, zero, suc, refl, sym, ap, ap₂, ◌<◌, ◌≤◌, ◌+◌, ◌*◌, ◌-◌, ◌/◌, ◌%◌, inl, inr, List, [], ◌∷◌, ◌++◌, length, length-append, None, arith}
-use Rattle.std.proofs.Math.Nat.{suc-mul}
+use Rattle.std.proofs.Common.{◌≡◌, ◌∙◌, ℕ, zero, suc, refl, sym, ap, ap₂, ◌<◌, ◌≤◌, ◌+◌, ◌*◌, ◌-◌, ◌/◌, ◌%◌, inl, inr, List, [], ◌∷◌, ◌++◌, length, length-append, None, arith, length-drop, drop}
+use Rattle.std.proofs.Math.Nat.{suc-mul, mul-suc, mul-le-mul_left, zero-mul}
 use Rattle.std.specs.Prelude.{slice_index, ◌==◌}
 use Rattle.std.specs.Int.{bit_at}
 use Rattle.std.proofs.lemmas.Bool.{cases_lt}
-use Rattle.std.proofs.lemmas.List.{get_or_append_left}
+use Rattle.std.proofs.lemmas.List.{get_or_append_left, get_or-drop, get_or-take, length-take-le}
 use Rattle.std.proofs.Math.Seq.{get_or-append_seam}
 use Rattle.std.proofs.lemmas.Nat.{div_below}
 use Rattle.lists.specs.laws.ListLaws.{length-push}
@@ -16,8 +16,9 @@ use Rattle.make_laws.specs.TowerProduct.{factor_bit, Y_to}
 use Rattle.make_nets.specs.Plan.{Plan, begun, chain_net, gathered, where_so, with_chain}
 use Rattle.make_nets.proofs.EachLemmas.{each_keeps}
 use Rattle.make_nets.specs.Row.{Row, begun_row, row_by, row_of, with_nets}
-use Rattle.mult_composite.specs.Composite.{added_products, added_sums, all_products, bit_products, coefficient_product, composite_plan, pair_sums, reduced_sums}
+use Rattle.mult_composite.specs.Composite.{added_sums, all_products, coefficient_product, composite_plan, pair_sums, reduced_sums, coefficient_nets}
 use Rattle.mult_composite.specs.private.HighPowers.{powers_from}
+use Rattle.mult_gen.specs.Chains.{added_products, products as bit_products}
 
 -- one more list
 pub gathered_more : (f : ℕ → List ℕ) (q : ℕ) (list new more : List ℕ) → list ≡ gathered q f → new ≡ list ++ more → more ≡ f q → new ≡ gathered (q + 1) f
@@ -25,7 +26,7 @@ gathered_more f q list new more before is here =
     let one_more : suc q ≡ q + 1 = omega arith in
     is ∙ ap (λ l. l ++ more) before ∙ ap (λ l. gathered q f ++ l) here ∙ ap (λ k. gathered k f) one_more
 
--- the same lists in the same order
+-- what is gathered of equal lists is equal
 gathered_same : (n : ℕ) (f h : ℕ → List ℕ) → ((q : ℕ) → q < n → f q ≡ h q) → gathered n f ≡ gathered n h
 gathered_same zero f h same = refl
 gathered_same (suc n) f h same = ap₂ (λ u v. u ++ v) (gathered_same n f h (λ q less. same q (omega arith))) (same n (omega arith))
@@ -56,6 +57,13 @@ sums_done n g m t powers sums e l q list some is done high =
     (λ q less. ap (λ y. where_so (bit_at (product 1 n bit_mul g (x_to n g (q % n)) (coefficient n y e)) l == 1) (slice_index sums (m * n + q)))
     (ap (λ list. slice_index list (q / n)) high ∙ singles_at (m - 1) (λ i. Y_to n m (product 1 n bit_mul g) t (m + i)) (q / n) (div_below q n (m - 1) some less))))
 
+-- a net of a coefficient, and how many it has
+pub coefficient_net : (n m : ℕ) (nets : List ℕ) (i l : ℕ) → l < n → slice_index (coefficient_nets n nets i) l ≡ slice_index nets (n * i + l)
+coefficient_net n m nets i l less = get_or-take n (drop (n * i) nets) l 0 less ∙ get_or-drop (n * i) nets l 0
+
+pub coefficient_long : (n m : ℕ) (nets : List ℕ) (i : ℕ) → length nets ≡ n * m → i < m → length (coefficient_nets n nets i) ≡ n
+coefficient_long n m nets i long less = length-take-le n (drop (n * i) nets) (omega (arith, length-drop (n * i) nets, long, mul-le-mul_left n less, mul-suc n i))
+
 -- how many nets a row has
 row_long : (k : ℕ) (after : ℕ → Plan → Plan) (net : ℕ → Plan → ℕ) (plan : Plan) → length (row_by k after net plan).nets ≡ k
 row_long k after net plan =
@@ -65,14 +73,11 @@ row_long k after net plan =
 -- how many nets the products have
 pub all_long : (n g m : ℕ) (a b : List ℕ) (plan : Plan) → length (all_products n g m a b plan).nets ≡ m * m * n
 all_long n g m a b plan =
-    each_keeps (λ q (row : Row). length row.nets ≡ q * n) (λ q row. with_nets row.nets (coefficient_product n g a b (q / m) (q % m) row.plan)) (begun_row plan) (m * m) (sym (none n))
+    each_keeps (λ q (row : Row). length row.nets ≡ q * n) (λ q row. with_nets row.nets (coefficient_product n g a b (q / m) (q % m) row.plan)) (begun_row plan) (m * m) (sym (zero-mul n))
     (λ q row less long. length-append row.nets (coefficient_product n g a b (q / m) (q % m) row.plan).nets ∙ ap₂ (λ u v. u + v) long (one (q / m) (q % m) row.plan) ∙ sym (suc-mul q n))
   where
-    none : (k : ℕ) → 0 * k ≡ 0
-    none k = omega arith
-
     one : (i j : ℕ) (p : Plan) → length (coefficient_product n g a b i j p).nets ≡ n
-    one i j p = row_long n (λ l. with_chain None (added_products n g p.next l)) (λ l so_far. chain_net None (added_products n g p.next l) so_far) (bit_products n a b i j p)
+    one i j p = row_long n (λ l. with_chain None (added_products n g p.next l)) (λ l so_far. chain_net None (added_products n g p.next l) so_far) (bit_products n (coefficient_nets n a i) (coefficient_nets n b j) p)
 
 -- the whole plan, step by step
 pub plan_done : (outer n g m t : ℕ) (a b z : List ℕ) (first second third last : Plan) (products sums : List ℕ) → first ≡ begun outer → second ≡ (all_products n g m a b first).plan → products ≡ (all_products n g m a b first).nets → third ≡ (pair_sums n m (row_of second products)).plan → sums ≡ (pair_sums n m (row_of second products)).nets → last ≡ reduced_sums n g m t z (row_of third sums) → last ≡ composite_plan outer n g m t a b z

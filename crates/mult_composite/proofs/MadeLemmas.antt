@@ -1,9 +1,9 @@
 -- The multiplier over the words of a signature.
 use Rattle.std.proofs.Common.{◌≡◌, ◌∙◌, ap, sym, refl, subst, ℕ, ◌<◌, ◌≤◌, ◌+◌, ◌*◌, ◌-◌, ◌^◌, Bool, List, [], length, take, drop, arith, mul_comm, mul_assoc}
 use Rattle.std.proofs.Math.Nat.{mul-add}
-use Rattle.std.proofs.lemmas.Option.{slice_get_within, get_or_from_slice_get}
 use Rattle.lists.specs.Lists.{Has}
 use Rattle.lists.specs.laws.HasLaws.{Has_left, Has_right}
+use Rattle.lists.specs.laws.NumberLaws.{mul_few}
 use Rattle.gf_field.specs.Bit.{bit_mul}
 use Rattle.gf_field.specs.Field.{HasNoZeroDivisors}
 use Rattle.gf_field.specs.Modulus.{IsModulus}
@@ -21,7 +21,6 @@ use Rattle.net_core.specs.Value.{index_of, IsConsistent}
 use Rattle.net_write.specs.Plain.{HasPlainNames}
 use Rattle.net_words.specs.declared.word.Role.TheVariants.{Input, Output}
 use Rattle.net_words.specs.declared.word.WordText.{WordText}
-use Rattle.make_nets.specs.PlanValue.{bit_at_net}
 use Rattle.make_nets.specs.Computes.{ComputesOfTwo}
 use Rattle.make_nets.specs.Form.{AllWide, HasWords}
 use Rattle.make_nets.specs.Made.{IsPlanFor}
@@ -31,15 +30,16 @@ use Rattle.make_nets.proofs.FormLemmas.{names_long}
 use Rattle.make_nets.proofs.FrontLemmas.{take_drop}
 use Rattle.make_nets.proofs.MadeLemmas.{made_binds, made_plain, made_sound}
 use Rattle.make_nets.proofs.MakeLemmas.{role_low}
-use Rattle.make_nets.proofs.PolyLemmas.{index_bit, poly_element}
+use Rattle.make_nets.proofs.PolyLemmas.{poly_element}
 use Rattle.make_nets.proofs.RunLemmas.{computes_two}
 use Rattle.make_nets.proofs.RowLemmas.{HaveBits}
 use Rattle.make_nets.proofs.RowShapeLemmas.{IsMadeOutput}
+use Rattle.make_nets.proofs.SharedLemmas.{index_bits}
 use Rattle.mult_gen.specs.Form.{inputs_in, outer_of, outputs_in}
 use Rattle.mult_gen.proofs.PlanLemmas.{agrees_of, drop_long, held, outputs_long, plan_for, take_long}
 use Rattle.mult_gen.proofs.PolyLemmas.{index_is, powers_basis}
 use Rattle.mult_composite.specs.Form.{made_composite, plan_of_words}
-use Rattle.mult_composite.proofs.RoomLemmas.{low_few, mul_few, size_few}
+use Rattle.mult_composite.proofs.RoomLemmas.{low_few, size_few}
 use Rattle.mult_composite.proofs.ShapeLemmas.{composite_made}
 use Rattle.mult_composite.proofs.SumLemmas.{composite_bits}
 
@@ -71,11 +71,6 @@ most_few n m small few fits = omega (arith, mul-add (m * m) (n * n) (n * (n * n 
 
     fourth : m * n * ((m - 1) * n + 2) ≤ 64 * 66
     fourth = mul_few (m * n) ((m - 1) * n + 2) 64 66 k less
-
--- the nets of a word have the bits of the number that they stand for
-index_bits : (bits : List Bool) (nets : List ℕ) → HaveBits bits nets (index_of bits nets)
-index_bits bits nets j n got =
-    ap (bit_at_net bits) (sym (get_or_from_slice_get nets j n 0 got)) ∙ sym (index_bit bits nets j (slice_get_within nets j n got))
 
 module _ (n g m t : ℕ) (ok : IsModulus n g) (two : 2 ≤ m) (low : n ≤ 32) (few_m : m ≤ 64) (small : n * m ≤ 64) (words : List WordText) (has : HasWords Input 2 words) (wide : AllWide (n * m) words) where
   abbrev a : List ℕ
@@ -141,7 +136,7 @@ module _ (n g m t : ℕ) (ok : IsModulus n g) (two : 2 ≤ m) (low : n ≤ 32) (
             poly_element (n * m) e (index_of bits (outputs_in words)) e_is
             ∙ index_is bits (outputs_in words) (n * m) (product n m (product 1 n bit_mul g) t x y) long_z (ring.closed x y) (λ l less. value l (omega (arith, less, mul_comm n m)))
 
--- the same over a tower of these degrees
+-- the net over the words of a signature, its names and what it computes, over a tower of these degrees
 module _ (n d m s g low : ℕ) (cs : List ℕ) (is_degree : n ≡ d) (is_size : m ≡ s) (ok : IsModulus d g) (list : IsPackedList d s low cs) (words : List WordText) (has : HasWords Input 2 words) (wide : AllWide (n * m) words) where
   abbrev t : ℕ
   t = tower_polynomial n cs

@@ -1,23 +1,20 @@
 -- Places that are counted coefficient by coefficient.
-use Rattle.std.proofs.Math.Nat.{suc-mul, mul-suc, add-mul, mul-le-mul_left, mul-le-mul_right}
+use Rattle.std.proofs.Math.Nat.{suc-mul, mul-suc, add-mul, mul-le-mul_left, mul-le-mul_right, zero-mul}
 use Rattle.std.proofs.Common.{◌≡◌, ℕ, zero, suc, sym, ◌∙◌, ap, ap₂, ◌<◌, ◌≤◌, ◌^◌, ◌+◌, ◌*◌, ◌-◌, ◌/◌, ◌%◌, arith, mul_comm}
 use Rattle.std.specs.Prelude.{bit_xor}
 use Rattle.std.specs.Int.{bit_at}
 use Rattle.std.proofs.lemmas.Nat.{div-mul-add, mod-mul-add, div-add-mod', shr-shr, field_of, mod-pow-add}
+use Rattle.gf_field.proofs.SharedLemmas.{same_sum}
 use Rattle.gf_field.specs.Polynomial.{coefficient, sum_of_first}
-use Rattle.make_laws.proofs.SumLemmas.{sum_same}
-use Rattle.make_laws.proofs.TowerLemmas.{sum_split}
+use Rattle.make_laws.proofs.RingSumLemmas.{sum_split}
 
 -- a sum over all places is one over the coefficients and then over the bits
 pub sum_flat : (m n : ℕ) (f : ℕ → ℕ → ℕ) → sum_of_first (m * n) (λ q. f (q / n) (q % n)) ≡ sum_of_first m (λ i. sum_of_first n (λ j. f i j))
-sum_flat zero n f = ap (λ l. sum_of_first l (λ q. f (q / n) (q % n))) (none n)
-  where
-    none : (n : ℕ) → 0 * n ≡ 0
-    none n = omega arith
+sum_flat zero n f = ap (λ l. sum_of_first l (λ q. f (q / n) (q % n))) (zero-mul n)
 sum_flat (suc m) n f =
     ap (λ l. sum_of_first l (λ q. f (q / n) (q % n))) (suc-mul m n)
     ∙ sum_split (m * n) n (λ q. f (q / n) (q % n))
-    ∙ ap₂ bit_xor (sum_flat m n f) (sum_same n (λ j. f ((m * n + j) / n) ((m * n + j) % n)) (λ j. f m j) (λ j less. ap₂ f (div-mul-add m n j less) (mod-mul-add m n j less)))
+    ∙ ap₂ bit_xor (sum_flat m n f) (same_sum n (λ j. f ((m * n + j) / n) ((m * n + j) % n)) (λ j. f m j) (λ j less. ap₂ f (div-mul-add m n j less) (mod-mul-add m n j less)))
 
 -- the low bits of a number
 low_bit : (v n l : ℕ) → l < n → bit_at (v % 2 ^ n) l ≡ bit_at v l
@@ -66,9 +63,3 @@ high_place n m q some less =
     let both : m + (m - 1) ≡ 2 * m - 1 = omega (arith, some) in
     let whole : (2 * m - 1) * n ≡ m * n + (m - 1) * n = ap (λ c. c * n) (sym both) ∙ add-mul m (m - 1) n in
     omega (arith, whole, less)
-
--- a pair of two places of m
-pub square_place : (m i j : ℕ) → i < m → j < m → i * m + j < m * m
-square_place m i j hi hj =
-    let row : suc i * m ≤ m * m = mul-le-mul_right m (omega (arith, hi)) in
-    omega (arith, row, hj, suc-mul i m)

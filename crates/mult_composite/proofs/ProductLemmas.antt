@@ -1,9 +1,8 @@
 -- The bits of the products of coefficients.
-use Rattle.std.proofs.Math.Nat.{suc-mul}
-use Rattle.std.proofs.Common.{◌≡◌, ℕ, suc, sym, ◌∙◌, ap, ap₂, ◌<◌, ◌≤◌, ◌+◌, ◌*◌, ◌/◌, ◌%◌, inl, inr, arith, List, [], ◌∷◌, length, length-append, Bool, None, Some}
-use Rattle.std.specs.Prelude.{slice_get, slice_index, ◌==◌}
+use Rattle.std.proofs.Math.Nat.{suc-mul, zero-mul}
+use Rattle.std.proofs.Common.{◌≡◌, ℕ, suc, sym, ◌∙◌, ap, ap₂, ◌<◌, ◌≤◌, ◌+◌, ◌*◌, ◌/◌, ◌%◌, arith, List, length, length-append, Bool, None, Some}
+use Rattle.std.specs.Prelude.{slice_get, slice_index}
 use Rattle.std.specs.Int.{bit_at}
-use Rattle.std.proofs.lemmas.Bool.{cases_lt}
 use Rattle.std.proofs.lemmas.Option.{slice_get_within}
 use Rattle.std.proofs.lemmas.Nat.{div-mul-add, mod-mul-add, div_below, mod_below}
 use Rattle.gf_field.specs.Bit.{bit_mul}
@@ -11,20 +10,19 @@ use Rattle.gf_field.specs.Modulus.{IsModulus}
 use Rattle.gf_field.specs.Polynomial.{coefficient}
 use Rattle.gf_field.specs.Quotient.{product}
 use Rattle.gf_field.specs.laws.PackingLaws.{coefficient_below}
-use Rattle.make_laws.specs.ProductBits.{x_to}
-use Rattle.make_laws.proofs.SumLemmas.{sum_same}
 use Rattle.make_laws.proofs.ProductBitLemmas.{product_bits}
-use Rattle.make_nets.specs.Plan.{Plan, with_and, with_chain, chain_net, where_so}
+use Rattle.make_nets.specs.Plan.{Plan, with_chain, chain_net}
 use Rattle.make_nets.specs.PlanValue.{Agrees, bit_at_net, parity}
 use Rattle.make_nets.proofs.EachLemmas.{each_keeps}
-use Rattle.make_nets.proofs.ValueLemmas.{agrees_before, and_value, chain_before, chain_value, gathered_parity, where_parity}
+use Rattle.make_nets.proofs.ValueLemmas.{chain_before, chain_value}
 use Rattle.make_nets.specs.Row.{Row, begun_row, with_nets}
 use Rattle.make_nets.proofs.RowLemmas.{HaveBits, IsRowOf, value_in_row, have_none, have_append, row_values, row_before}
-use Rattle.mult_composite.specs.Composite.{bit_products, added_products, coefficient_product, all_products}
-use Rattle.mult_composite.proofs.PlaceLemmas.{sum_flat, coefficient_bit, place_below}
-
-bit_below : (a i : ℕ) → bit_at a i < 2
-bit_below a i = omega arith
+use Rattle.mult_composite.specs.Composite.{coefficient_product, all_products, coefficient_nets}
+use Rattle.mult_composite.proofs.PlaceLemmas.{coefficient_bit, place_below}
+use Rattle.mult_gen.specs.Chains.{added_products, products as bit_products}
+use Rattle.mult_gen.proofs.MastrovitoLemmas.{added_parity}
+use Rattle.mult_gen.proofs.ProductLemmas.{product_value as product_of_bits, products_before}
+use Rattle.mult_composite.proofs.ListLemmas.{coefficient_net}
 
 -- bit p % n of the product of coefficients p / n / m of x and p / n % m of y
 abbrev pub product_value : (n g m x y : ℕ) → ℕ → ℕ
@@ -38,64 +36,36 @@ module _ (bits : List Bool) (n g m x y : ℕ) (ok : IsModulus n g) (a b : List �
   bit_in nets v i l long have hi hl =
       value_in_row bits nets (bit_at v) (n * i + l) have (omega (arith, place_below n m i l hi hl, long)) ∙ sym (coefficient_bit n v i l hl)
 
-  -- the nets of the products of bits
-  pub record AreProducts (i j q : ℕ) (plan after : Plan) : Type 0 where
-    pub before : Agrees bits plan
-    pub values : (p : ℕ) → p < q → bit_at_net bits (plan.next + p) ≡ bit_at (coefficient n x i) (p / n) * bit_at (coefficient n y j) (p % n)
-
-  bit_products_values : (i j : ℕ) (plan : Plan) → i < m → j < m → Agrees bits (bit_products n a b i j plan) → AreProducts i j (n * n) plan (bit_products n a b i j plan)
-  bit_products_values i j plan hi hj agrees =
-      let all = each_keeps (λ q p. (p.next ≡ plan.next + q) × (Agrees bits p → AreProducts i j q plan p)) (λ q. with_and None (slice_index a (n * i + q / n)) (slice_index b (n * j + q % n))) plan (n * n)
-      (omega arith, λ agrees. record { before = agrees; values = λ p less. absurd (omega (arith, less)) })
-      (λ q p less is. (omega (arith, is.0), more q p less is.0 is.1)) in
-      all.1 agrees
-    where
-      more : (q : ℕ) (p : Plan) → q < n * n → p.next ≡ plan.next + q → (Agrees bits p → AreProducts i j q plan p) → Agrees bits (with_and None (slice_index a (n * i + q / n)) (slice_index b (n * j + q % n)) p) → AreProducts i j (suc q) plan (with_and None (slice_index a (n * i + q / n)) (slice_index b (n * j + q % n)) p)
-      more q p less next kept agrees =
-          let before = kept (agrees_before bits None (slice_index a (n * i + q / n) ∷ slice_index b (n * j + q % n) ∷ []) 8 p agrees) in
-          record {
-            before = before.before;
-            values = λ l below. elim (cases_lt l q) [
-              | inl earlier ↦ before.values l earlier
-              | inr last ↦
-                  let same : l ≡ q = omega (arith, below, last) in
-                  let here : p.next ≡ plan.next + l = omega (arith, next, same) in
-                  ap (bit_at_net bits) (sym here)
-                  ∙ and_value bits None (slice_index a (n * i + q / n)) (slice_index b (n * j + q % n)) p agrees
-                  ∙ ap₂ (λ u v. u * v) (bit_in a x i (q / n) long_a have_a hi (div_below q n n ok.some less)) (bit_in b y j (q % n) long_b have_b hj (mod_below q n ok.some))
-                  ∙ ap (λ r. bit_at (coefficient n x i) (r / n) * bit_at (coefficient n y j) (r % n)) (sym same)
-            ];
-          }
+  -- the net of the product of two bits
+  bit_product : (i j : ℕ) (plan : Plan) → i < m → j < m → Agrees bits (bit_products n (coefficient_nets n a i) (coefficient_nets n b j) plan) → (u v : ℕ) → u < n → v < n → bit_at_net bits (plan.next + u * n + v) ≡ bit_at (coefficient n x i) u * bit_at (coefficient n y j) v
+  bit_product i j plan hi hj agrees u v hu hv =
+      product_of_bits bits n (coefficient_nets n a i) (coefficient_nets n b j) plan u v agrees hu hv
+      ∙ ap₂ (λ p q. bit_at_net bits p * bit_at_net bits q) (coefficient_net n m a i u hu) (coefficient_net n m b j v hv)
+      ∙ ap₂ (λ p q. p * q) (bit_in a x i u long_a have_a hi hu) (bit_in b y j v long_b have_b hj hv)
 
   -- those that add to a bit
-  added_parity : (i j l : ℕ) (plan : Plan) → AreProducts i j (n * n) plan (bit_products n a b i j plan) → parity bits (added_products n g plan.next l) ≡ bit_at (mul (coefficient n x i) (coefficient n y j)) l
-  added_parity i j l plan are =
-      gathered_parity bits (λ q. where_so (bit_at (x_to n g (q / n + q % n)) l == 1) (plan.next + q)) (n * n)
-      ∙ sum_same (n * n) (λ q. parity bits (where_so (bit_at (x_to n g (q / n + q % n)) l == 1) (plan.next + q))) (λ q. bit_at (coefficient n x i) (q / n) * bit_at (coefficient n y j) (q % n) * bit_at (x_to n g (q / n + q % n)) l)
-      (λ q less. where_parity bits (bit_at (x_to n g (q / n + q % n)) l) (plan.next + q) (bit_below (x_to n g (q / n + q % n)) l) ∙ ap (λ v. v * bit_at (x_to n g (q / n + q % n)) l) (are.values q less))
-      ∙ sum_flat n n (λ u v. bit_at (coefficient n x i) u * bit_at (coefficient n y j) v * bit_at (x_to n g (u + v)) l)
+  bit_of_product : (i j l : ℕ) (plan : Plan) → i < m → j < m → Agrees bits (bit_products n (coefficient_nets n a i) (coefficient_nets n b j) plan) → parity bits (added_products n g plan.next l) ≡ bit_at (mul (coefficient n x i) (coefficient n y j)) l
+  bit_of_product i j l plan hi hj agrees =
+      added_parity bits n g plan.next l (λ u v. bit_at (coefficient n x i) u * bit_at (coefficient n y j) v) (bit_product i j plan hi hj agrees)
       ∙ sym (product_bits n g ok (coefficient n x i) (coefficient n y j) l (coefficient_below n x i) (coefficient_below n y j))
 
   product_values : (i j : ℕ) (plan : Plan) → i < m → j < m → Agrees bits (coefficient_product n g a b i j plan).plan → IsRowOf bits plan n (bit_at (mul (coefficient n x i) (coefficient n y j))) (coefficient_product n g a b i j plan)
   product_values i j plan hi hj agrees =
       let list : ℕ → List ℕ = λ l. added_products n g plan.next l in
-      let start : Plan = bit_products n a b i j plan in
+      let start : Plan = bit_products n (coefficient_nets n a i) (coefficient_nets n b j) plan in
       let after : ℕ → Plan → Plan = λ l. with_chain None (added_products n g plan.next l) in
       let net : ℕ → Plan → ℕ = λ l p. chain_net None (added_products n g plan.next l) p in
       let before : (l : ℕ) (p : Plan) → Agrees bits (after l p) → Agrees bits p = λ l p. chain_before bits None (list l) p in
-      let are = bit_products_values i j plan hi hj (row_before bits after net n start before agrees) in
-      let values = row_values bits after net n start before (bit_at (mul (coefficient n x i) (coefficient n y j))) (λ l p less agrees. chain_value bits None (list l) p agrees ∙ added_parity i j l plan are) agrees in
-      record { before = are.before; long = values.long; have = values.have }
+      let started = row_before bits after net n start before agrees in
+      let values = row_values bits after net n start before (bit_at (mul (coefficient n x i) (coefficient n y j))) (λ l p less agrees. chain_value bits None (list l) p agrees ∙ bit_of_product i j l plan hi hj started) agrees in
+      record { before = products_before bits n (coefficient_nets n a i) (coefficient_nets n b j) plan started; long = values.long; have = values.have }
 
   pub all_values : (plan : Plan) → 1 ≤ m → Agrees bits (all_products n g m a b plan).plan → IsRowOf bits plan (m * m * n) (product_value n g m x y) (all_products n g m a b plan)
   all_values plan some =
       each_keeps (λ q row. Agrees bits row.plan → IsRowOf bits plan (q * n) (product_value n g m x y) row) (λ q row. with_nets row.nets (coefficient_product n g a b (q / m) (q % m) row.plan)) (begun_row plan) (m * m)
-      (λ agrees. record { before = agrees; long = sym (none n); have = have_none bits (product_value n g m x y) })
+      (λ agrees. record { before = agrees; long = sym (zero-mul n); have = have_none bits (product_value n g m x y) })
       (λ q row less kept agrees. more q row less kept (product_values (q / m) (q % m) row.plan (div_below q m m some less) (mod_below q m some) agrees))
     where
-      none : (n : ℕ) → 0 * n ≡ 0
-      none n = omega arith
-
       more : (q : ℕ) (row : Row) → q < m * m → (Agrees bits row.plan → IsRowOf bits plan (q * n) (product_value n g m x y) row) → IsRowOf bits row.plan n (bit_at (mul (coefficient n x (q / m)) (coefficient n y (q % m)))) (coefficient_product n g a b (q / m) (q % m) row.plan) → IsRowOf bits plan (suc q * n) (product_value n g m x y) (with_nets row.nets (coefficient_product n g a b (q / m) (q % m) row.plan))
       more q row less kept is =
           let before = kept is.before in

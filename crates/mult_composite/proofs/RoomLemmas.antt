@@ -1,18 +1,13 @@
 -- How many nets there are, and other bounds.
-use Rattle.std.proofs.Math.Nat.{mul-le-mul_left, mul-le-mul_right}
+use Rattle.std.proofs.Math.Nat.{mul-le-mul_left, mul-le-mul_right, mul-suc}
 use Rattle.std.proofs.Common.{◌≡◌, ◌∙◌, ℕ, ap, sym, ◌<◌, ◌≤◌, ◌+◌, ◌*◌, ◌-◌, ◌^◌, ◌/◌, ◌%◌, arith, mul_comm}
 use Rattle.std.specs.Prelude.{bit_and}
 use Rattle.std.proofs.lemmas.Nat.{and_mask, pow_below}
 use Rattle.std.proofs.lemmas.Nat.Bits.{ones_shr}
-
-pub mul_few : (a b c d : ℕ) → a ≤ c → b ≤ d → a * b ≤ c * d
-mul_few a b c d first second = omega (arith, mul-le-mul_left a second, mul-le-mul_right d first)
+use Rattle.lists.specs.laws.NumberLaws.{mul_few, square_few as pairs_few}
 
 pub square_few : (n : ℕ) → n ≤ 32 → n * n ≤ 1024
 square_few n small = mul_few n n 32 32 small small
-
-pub pairs_few : (m : ℕ) → m ≤ 64 → m * m ≤ 4096
-pairs_few m small = mul_few m m 64 64 small small
 
 pub sums_few : (n m : ℕ) → n ≤ 32 → m ≤ 64 → (2 * m - 1) * n ≤ 4064
 sums_few n m small few = mul_few (2 * m - 1) n 127 32 (omega arith) small
@@ -62,3 +57,7 @@ size_few n m some small = omega (arith, mul-le-mul_right m some, one, small)
   where
     one : 1 * m ≡ m
     one = omega arith
+
+-- coefficient i of m ends within their word
+pub place_whole : (n m i : ℕ) → i < m → n * i + n ≤ n * m
+place_whole n m i less = omega (arith, mul-le-mul_left n less, mul-suc n i)

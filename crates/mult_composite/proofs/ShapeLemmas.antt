@@ -1,23 +1,26 @@
 -- The gates of the multiplier read what is driven before, and drive each net once.
-use Rattle.std.proofs.Math.Nat.{suc-mul}
+use Rattle.std.proofs.Math.Nat.{suc-mul, zero-mul}
 use Rattle.std.proofs.Common.{◌≡◌, ℕ, zero, suc, refl, sym, ◌∙◌, ap₂, ◌<◌, ◌≤◌, ◌+◌, ◌*◌, ◌-◌, ◌/◌, ◌%◌, inl, inr, arith, List, [], ◌∷◌, ◌++◌, length, length-append, Bool, true, false, None, Some, subst, take}
 use Rattle.std.specs.Prelude.{slice_index, ◌==◌}
-use Rattle.std.specs.Int.{bit_at}
 use Rattle.std.proofs.lemmas.Nat.{div_below, mod_below}
 use Rattle.lists.specs.Lists.{Has}
 use Rattle.lists.specs.laws.ReadLaws.{got_at}
-use Rattle.make_laws.specs.ProductBits.{x_to}
 use Rattle.make_laws.specs.TowerProduct.{adds_to, factor_bit}
 use Rattle.make_laws.proofs.PairLemmas.{adds_cases}
-use Rattle.make_nets.specs.Plan.{Plan, begun, with_and, with_chain, chain_net, gathered, where_so}
+use Rattle.make_nets.specs.Plan.{Plan, begun, with_chain, chain_net, gathered, where_so}
 use Rattle.make_nets.specs.PlanShape.{IsWellMade}
 use Rattle.make_nets.proofs.OuterNets.{CanRead}
 use Rattle.make_nets.proofs.EachLemmas.{each_keeps, gathered_has}
-use Rattle.make_nets.proofs.ShapeLemmas.{begun_made, and_made, chain_made, chain_grows}
+use Rattle.make_nets.proofs.ShapeLemmas.{begun_made, chain_made, chain_grows}
 use Rattle.make_nets.specs.Row.{Row, begun_row, with_nets}
 use Rattle.make_nets.proofs.RowShapeLemmas.{AreReadable, IsMadeRow, IsMadeOutput, readable_at, readable_more, readable_none, readable_append, row_made, chain_step, outputs_made}
-use Rattle.mult_composite.specs.Composite.{bit_products, added_products, coefficient_product, all_products, added_pairs, pair_sums, added_sums, reduced_sums, composite_plan}
+use Rattle.mult_composite.specs.Composite.{coefficient_product, all_products, added_pairs, pair_sums, added_sums, reduced_sums, composite_plan, coefficient_nets}
 use Rattle.mult_composite.proofs.PlaceLemmas.{place_below, pair_place, sum_place, high_place}
+use Rattle.mult_gen.specs.Chains.{added_products, products as bit_products}
+use Rattle.mult_gen.proofs.ChainLemmas.{index_has}
+use Rattle.mult_gen.proofs.MastrovitoLemmas.{added_few, added_has}
+use Rattle.mult_gen.proofs.ProductLemmas.{products_made, rows_next}
+use Rattle.mult_composite.proofs.ListLemmas.{coefficient_net}
 
 -- what a choice has
 pub where_has : (so : Bool) (n x : ℕ) → Has (where_so so n) x → (so ≡ true) × (x ≡ n)
@@ -43,14 +46,16 @@ module _ (outer : ℕ) (sources : List ℕ) (n g m : ℕ) (some_n : 1 ≤ n) (so
       let P : ℕ → Type 0 = λ y. CanRead outer sources plan y in
       subst P (sym chosen.1) (reads found.0 found.1 chosen.0)
 
-  source_read : (nets : List ℕ) (i l : ℕ) (plan : Plan) → length nets ≡ n * m → ((net : ℕ) → Has nets net → Has sources net) → i < m → l < n → CanRead outer sources plan (slice_index nets (n * i + l))
-  source_read nets i l plan long inside hi hl = readable_at outer sources nets plan (n * i + l) (λ net has. inl (inside net has)) (omega (arith, place_below n m i l hi hl, long))
+  source_has : (nets : List ℕ) (i l : ℕ) → length nets ≡ n * m → ((net : ℕ) → Has nets net → Has sources net) → i < m → l < n → Has sources (slice_index (coefficient_nets n nets i) l)
+  source_has nets i l long inside hi hl =
+      let P : ℕ → Type 0 = λ net. Has sources net in
+      subst P (sym (coefficient_net n m nets i l hl)) (inside (slice_index nets (n * i + l)) (index_has nets (n * i + l) (omega (arith, place_below n m i l hi hl, long))))
 
-  bit_products_made : (i j : ℕ) (plan : Plan) → i < m → j < m → IsWellMade outer sources [] plan → IsWellMade outer sources [] (bit_products n a b i j plan) × ((bit_products n a b i j plan).next ≡ plan.next + n * n)
-  bit_products_made i j plan hi hj made =
-      each_keeps (λ q p. IsWellMade outer sources [] p × (p.next ≡ plan.next + q)) (λ q. with_and None (slice_index a (n * i + q / n)) (slice_index b (n * j + q % n))) plan (n * n)
-      (made, omega arith)
-      (λ q p less is. (and_made outer sources [] None (slice_index a (n * i + q / n)) (slice_index b (n * j + q % n)) p is.0 tt (source_read a i (q / n) p long_a in_a hi (div_below q n n some_n less)) (source_read b j (q % n) p long_b in_b hj (mod_below q n some_n)), omega (arith, is.1)))
+  bit_products_made : (i j : ℕ) (plan : Plan) → i < m → j < m → IsWellMade outer sources [] plan → IsWellMade outer sources [] (bit_products n (coefficient_nets n a i) (coefficient_nets n b j) plan) × ((bit_products n (coefficient_nets n a i) (coefficient_nets n b j) plan).next ≡ plan.next + n * n)
+  bit_products_made i j plan hi hj made = (
+    products_made outer sources [] n (coefficient_nets n a i) (coefficient_nets n b j) plan made (λ l less. source_has a i l long_a in_a hi less) (λ l less. source_has b j l long_b in_b hj less),
+    rows_next n n (coefficient_nets n a i) (coefficient_nets n b j) plan,
+  )
 
   -- how many inner nets the product of two coefficients makes at most
   abbrev pub product_most : ℕ
@@ -58,12 +63,12 @@ module _ (outer : ℕ) (sources : List ℕ) (n g m : ℕ) (some_n : 1 ≤ n) (so
 
   product_made : (i j : ℕ) (plan : Plan) → i < m → j < m → IsWellMade outer sources [] plan → IsMadeRow outer sources plan.next product_most n (coefficient_product n g a b i j plan)
   product_made i j plan hi hj made =
-      let start = bit_products n a b i j plan in
+      let start = bit_products n (coefficient_nets n a i) (coefficient_nets n b j) plan in
       let before = bit_products_made i j plan hi hj made in
       let row = row_made outer sources (λ l. with_chain None (added_products n g plan.next l)) (λ l so_far. chain_net None (added_products n g plan.next l) so_far) (n * n + 1) n start before.0
       (λ l p less low made_p. chain_step outer sources (n * n) (added_products n g plan.next l) p made_p
-      (gathered_reads (n * n) (λ q. bit_at (x_to n g (q / n + q % n)) l == 1) (λ q. plan.next + q) p (λ q small so. inr (omega (arith, made.from), omega (arith, small, low, before.1))))
-      (gathered_few (n * n) (λ q. bit_at (x_to n g (q / n + q % n)) l == 1) (λ q. plan.next + q))) in
+      (λ x has. let place = added_has n g plan.next l x has in inr (omega (arith, made.from, place.0), omega (arith, place.1, low, before.1)))
+      (added_few n g plan.next l)) in
       record {
         made = row.made;
         reads = row.reads;
@@ -75,12 +80,9 @@ module _ (outer : ℕ) (sources : List ℕ) (n g m : ℕ) (some_n : 1 ≤ n) (so
   all_made : (plan : Plan) → IsWellMade outer sources [] plan → IsMadeRow outer sources plan.next (m * m * product_most) (m * m * n) (all_products n g m a b plan)
   all_made plan made =
       each_keeps (λ q row. IsMadeRow outer sources plan.next (q * product_most) (q * n) row) (λ q row. with_nets row.nets (coefficient_product n g a b (q / m) (q % m) row.plan)) (begun_row plan) (m * m)
-      (record { made = made; reads = readable_none outer sources plan; long = sym (none n); low = omega arith; high = omega arith })
+      (record { made = made; reads = readable_none outer sources plan; long = sym (zero-mul n); low = omega arith; high = omega arith })
       (λ q row less is. more q row is (product_made (q / m) (q % m) row.plan (div_below q m m (omega (arith, some_m)) less) (mod_below q m (omega (arith, some_m))) is.made))
     where
-      none : (k : ℕ) → 0 * k ≡ 0
-      none k = omega arith
-
       more : (q : ℕ) (row : Row) → IsMadeRow outer sources plan.next (q * product_most) (q * n) row → IsMadeRow outer sources row.plan.next product_most n (coefficient_product n g a b (q / m) (q % m) row.plan) → IsMadeRow outer sources plan.next (suc q * product_most) (suc q * n) (with_nets row.nets (coefficient_product n g a b (q / m) (q % m) row.plan))
       more q row before here =
           let one = coefficient_product n g a b (q / m) (q % m) row.plan in

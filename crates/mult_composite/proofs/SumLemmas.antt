@@ -6,12 +6,13 @@ use Rattle.std.specs.Int.{bit_at}
 use Rattle.std.specs.Int.Bits.{xor_zero_r}
 use Rattle.std.proofs.lemmas.Bool.{cases_lt}
 use Rattle.std.proofs.lemmas.Nat.{div-mul-add, mod-mul-add, div-add-mod', div_below, mod_below}
+use Rattle.std.proofs.lemmas.Nat.Bits.{bit_at-lt}
+use Rattle.gf_field.proofs.SharedLemmas.{same_sum}
 use Rattle.gf_field.specs.Bit.{bit_mul}
 use Rattle.gf_field.specs.Modulus.{IsModulus}
 use Rattle.gf_field.specs.Polynomial.{coefficient}
 use Rattle.gf_field.specs.Quotient.{product}
 use Rattle.make_laws.specs.TowerProduct.{HasTowerBits, adds_to, pair_bit, factor_bit}
-use Rattle.make_laws.proofs.SumLemmas.{sum_same}
 use Rattle.make_laws.proofs.PairLemmas.{adds_cases}
 use Rattle.make_nets.specs.Plan.{Plan, begun, with_chain, chain_net, where_so}
 use Rattle.make_nets.specs.PlanValue.{Agrees, bit_at_net, parity}
@@ -22,9 +23,6 @@ use Rattle.make_nets.proofs.RowLemmas.{HaveValues, HaveBits, IsRowOf, value_in_r
 use Rattle.mult_composite.specs.Composite.{all_products, added_pairs, pair_sums, added_sums, reduced_sums, composite_plan}
 use Rattle.mult_composite.proofs.PlaceLemmas.{sum_flat, coefficient_bit, pair_place, place_is, sum_place}
 use Rattle.mult_composite.proofs.ProductLemmas.{product_value, all_values}
-
-bit_below : (a i : ℕ) → bit_at a i < 2
-bit_below a i = omega arith
 
 module _ (bits : List Bool) (n g m x y : ℕ) (ok : IsModulus n g) where
   abbrev mul : ℕ → ℕ → ℕ
@@ -41,7 +39,7 @@ module _ (bits : List Bool) (n g m x y : ℕ) (ok : IsModulus n g) where
     pairs_parity : (d l : ℕ) → l < n → parity bits (added_pairs n m products d l) ≡ pair_bit n g m x y d l
     pairs_parity d l hl =
         gathered_parity bits (λ i. where_so (adds_to m d i) (slice_index products ((i * m + (d - i)) * n + l))) m
-        ∙ sum_same m (λ i. parity bits (where_so (adds_to m d i) (slice_index products ((i * m + (d - i)) * n + l)))) (λ i. if adds_to m d i then bit_at (mul (coefficient n x i) (coefficient n y (d - i))) l else 0) (λ i less. elim (adds_cases m d i) [
+        ∙ same_sum m (λ i. parity bits (where_so (adds_to m d i) (slice_index products ((i * m + (d - i)) * n + l)))) (λ i. if adds_to m d i then bit_at (mul (coefficient n x i) (coefficient n y (d - i))) l else 0) (λ i less. elim (adds_cases m d i) [
           | inl in_sum ↦
               let low : d - i < m = omega (arith, in_sum.1, in_sum.2) in
               ap (λ t. parity bits (where_so t (slice_index products ((i * m + (d - i)) * n + l)))) in_sum.0
@@ -88,13 +86,13 @@ module _ (bits : List Bool) (n g m x y : ℕ) (ok : IsModulus n g) where
       added_parity e l he hl =
           ap₂ bit_xor (sum_at e l (omega (arith, he, some)) hl)
           (gathered_parity bits (λ q. where_so (factor_bit n g m t (m + q / n) e (q % n) l == 1) (slice_index sums (m * n + q))) ((m - 1) * n)
-          ∙ sum_same ((m - 1) * n) (λ q. parity bits (where_so (factor_bit n g m t (m + q / n) e (q % n) l == 1) (slice_index sums (m * n + q)))) (λ q. pair_bit n g m x y (m + q / n) (q % n) * factor_bit n g m t (m + q / n) e (q % n) l)
+          ∙ same_sum ((m - 1) * n) (λ q. parity bits (where_so (factor_bit n g m t (m + q / n) e (q % n) l == 1) (slice_index sums (m * n + q)))) (λ q. pair_bit n g m x y (m + q / n) (q % n) * factor_bit n g m t (m + q / n) e (q % n) l)
           (λ q less. where_parity bits (factor_bit n g m t (m + q / n) e (q % n) l) (slice_index sums (m * n + q)) (factor_below q e l) ∙ ap (λ v. v * factor_bit n g m t (m + q / n) e (q % n) l) (high_at q less))
           ∙ sum_flat (m - 1) n (λ i s. pair_bit n g m x y (m + i) s * factor_bit n g m t (m + i) e s l))
           ∙ sym (tower x y e l x_below y_below he)
         where
           factor_below : (q e l : ℕ) → factor_bit n g m t (m + q / n) e (q % n) l < 2
-          factor_below q e l = bit_below _ l
+          factor_below q e l = bit_at-lt _ l
 
     reduced_values : (z : List ℕ) (before : Plan) (sums : Row) → (Agrees bits sums.plan → IsRowOf bits before ((2 * m - 1) * n) sum_value sums) → Agrees bits (reduced_sums n g m t z sums) → (p : ℕ) → p < m * n → bit_at_net bits (slice_index z p) ≡ bit_at (mul_tower x y) p
     reduced_values z start sums is agrees =

@@ -2,25 +2,25 @@
 -- modulus g, and m that of the tower, which has the polynomial t. Place p of a word is bit p % n of coefficient p / n.
 -- Source: Mastrovito, VLSI Architectures for Computations in Galois Fields, Linköping, 1991; Paar, Efficient VLSI
 -- Architectures for Bit-Parallel Computation in Galois Fields, Essen, 1994.
-use Rattle.std.specs.Prelude.{ℕ, ◌+◌, ◌*◌, ◌-◌, ◌/◌, ◌%◌, ◌==◌, List, ◌∷◌, None, Some, slice_index}
-use Rattle.std.specs.Int.{bit_at}
-use Rattle.make_laws.specs.ProductBits.{x_to}
+use Rattle.std.specs.Prelude.{ℕ, ◌+◌, ◌*◌, ◌-◌, ◌/◌, ◌%◌, ◌==◌, List, ◌∷◌, None, Some, slice_index, drop, take}
 use Rattle.make_laws.specs.TowerProduct.{adds_to, factor_bit}
-use Rattle.make_nets.specs.Plan.{Plan, begun, with_and, with_chain, chain_net, each, gathered, where_so}
+use Rattle.make_nets.specs.Plan.{Plan, begun, with_chain, chain_net, each, gathered, where_so}
 use Rattle.make_nets.specs.Row.{Row, begun_row, row_by, with_nets}
+use Rattle.mult_gen.specs.Chains.{added_products, products as bit_products}
 
--- the products of the bits of coefficient i of a word and those of coefficient j of another, by the first and then by the second
-abbrev pub bit_products : (n : ℕ) → List ℕ → List ℕ → (i j : ℕ) → Plan → Plan
-bit_products n a b i j plan = each (n * n) (λ q. with_and None (slice_index a (n * i + q / n)) (slice_index b (n * j + q % n))) plan
+-- the nets of coefficient i of a word
+abbrev pub coefficient_nets : (n : ℕ) → List ℕ → ℕ → List ℕ
+coefficient_nets n a i = take n (drop (n * i) a)
 
--- of these products, which are numbered from first, those that add to bit l: bit l of x to the sum of their places is 1
-abbrev pub added_products : (n g first l : ℕ) → List ℕ
-added_products n g first l = gathered (n * n) (λ q. where_so (bit_at (x_to n g (q / n + q % n)) l == 1) (first + q))
+-- the product of two coefficients on these nets, as Mastrovito's: a net for each bit, the sum of the products of bits that add
+-- to it
+abbrev pub base_product : (n g : ℕ) → List ℕ → List ℕ → Plan → Row
+base_product n g a b plan =
+    row_by n (λ l. with_chain None (added_products n g plan.next l)) (λ l so_far. chain_net None (added_products n g plan.next l) so_far) (bit_products n a b plan)
 
--- the product of the two coefficients: a net for each bit, the sum of the products that add to it
+-- the product of coefficient i of a word and coefficient j of another
 abbrev pub coefficient_product : (n g : ℕ) → List ℕ → List ℕ → (i j : ℕ) → Plan → Row
-coefficient_product n g a b i j plan =
-    row_by n (λ l. with_chain None (added_products n g plan.next l)) (λ l so_far. chain_net None (added_products n g plan.next l) so_far) (bit_products n a b i j plan)
+coefficient_product n g a b i j plan = base_product n g (coefficient_nets n a i) (coefficient_nets n b j) plan
 
 -- the products of each coefficient of a and each of b, by the first and then by the second
 abbrev pub all_products : (n g m : ℕ) → List ℕ → List ℕ → Plan → Row

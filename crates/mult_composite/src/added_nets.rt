@@ -1,51 +1,22 @@
-//! The nets that are added.
-ghost use Rattle.std.specs.Prelude.{◌≡◌, ℕ, ◌+◌, ◌*◌, ◌-◌, ◌<◌, ◌≤◌, ◌^◌, ◌++◌, IfOk, OnOk, length, slice_index};
+//! The nets that are added for a bit of the product in a tower.
+ghost use Rattle.std.specs.Prelude.{◌≡◌, ℕ, ◌+◌, ◌*◌, ◌-◌, ◌<◌, ◌≤◌, ◌++◌, IfOk, OnOk, length, slice_index};
 ghost use Rattle.make_nets.specs.Plan.{where_so};
 ghost use Rattle.make_laws.specs.TowerProduct.{adds_to as adds_to_of};
 ghost use Rattle.gf_field.specs.Bit.{bit_mul};
 ghost use Rattle.gf_field.specs.Quotient.{product};
 ghost use Rattle.gf_field.specs.Ring2k.{degree_of, modulus_of};
 ghost use Rattle.irreducible.specs.Proved.{ring_of};
-ghost use Rattle.mult_composite.specs.Composite.{added_products as added_products_of, added_pairs as added_pairs_of, added_sums as added_sums_of};
+ghost use Rattle.mult_composite.specs.Composite.{added_pairs as added_pairs_of, added_sums as added_sums_of};
 ghost use Rattle.mult_composite.specs.private.HighPowers.{AreHighPowers};
+ghost use Rattle.mult_gen.specs.Powers.{ArePowers};
 
-use crate::places::{
-    adds_to, bit_of, coefficient_of, group_of, high_count, high_place, pair_place, square,
-    sum_place,
-};
-use crate::powers::{factor, x_power};
+use crate::places::{adds_to, coefficient_of, high_count, high_place, pair_place, sum_place};
+use crate::powers::factor;
 use gf_field::Ring2k;
 use irreducible::Proved;
 use make_nets::push_where;
 use mult_gen::has_bit;
 use std::alloc::{AllocError, Global};
-
-// Of the products of bits of two coefficients, which are numbered from `first`, those that add to bit l.
-pub(crate) fn added_products(
-    alloc: Global,
-    base: &Proved<Ring2k>,
-    n: usize,
-    first: u32,
-    l: usize,
-) -> Result<Vec<u32>, AllocError>
-    requires degree { n ≡ degree_of (ring_of base.now) }
-    requires some { 1 ≤ n }
-    requires small { n ≤ 32 }
-    requires bit { l < 64 }
-    requires room { first + 2 ^ 10 < 2 ^ 32 }
-    ensures list { IfOk result (λ list. list.items ≡ added_products_of n (modulus_of (ring_of base.now)) first l) }
-    ensures few { IfOk result (λ list. length list.items ≤ 2 ^ 10) }
-{
-    let mut list = Vec::new(alloc);
-    let count = square(n);
-    for q in 0..count {
-        let i = group_of(n, n, q);
-        let j = bit_of(n, q);
-        let power = x_power(base, i + j);
-        push_where(&mut list, has_bit(power, l), first + q as u32)?;
-    }
-    Ok(list)
-}
 
 // Adds the net of bit l of the product of coefficients i and d - i, where these are two places of m.
 fn push_pair(
@@ -103,6 +74,7 @@ pub(crate) fn added_sums(
     base: &Proved<Ring2k>,
     n: usize,
     m: usize,
+    x_powers: &[u64],
     powers: &[u64],
     sums: &[u32],
     e: usize,
@@ -116,6 +88,8 @@ pub(crate) fn added_sums(
     requires low { n ≤ 32 }
     requires few { m ≤ 64 }
     requires small { n * m ≤ 64 }
+    requires x_powers { ArePowers (degree_of (ring_of base.now)) (modulus_of (ring_of base.now)) x_powers.now }
+    requires x_long { length x_powers.now ≡ 2 * n }
     requires powers { length powers.now ≡ m - 1 }
     requires long { length sums.now ≡ (2 * m - 1) * n }
     ensures list { IfOk result (λ list. (t : ℕ) → AreHighPowers n m (product 1 n bit_mul (modulus_of (ring_of base.now))) t powers.now → list.items ≡ added_sums_of n (modulus_of (ring_of base.now)) m t sums.now e l) }
@@ -126,7 +100,7 @@ pub(crate) fn added_sums(
     list.push(sums[own])?;
     let count = high_count(n, m);
     for q in 0..count {
-        let factor = factor(base, n, m, powers, e, q);
+        let factor = factor(base, n, m, x_powers, powers, e, q);
         let high = high_place(n, m, q);
         push_where(&mut list, has_bit(factor, l), sums[high])?;
     }

@@ -1,4 +1,4 @@
-//! What the multiplier asks of a signature.
+//! What the multiplier of a tower asks of a signature.
 ghost use Rattle.std.specs.Prelude.{◌≡◌, ◌≤◌, [], IfOk, OnOk, IsErrOf};
 ghost use Rattle.make_nets.specs.MadeNet.{outer_net};
 ghost use Rattle.make_nets.specs.Form.{AllWide};

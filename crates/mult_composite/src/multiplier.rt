@@ -1,4 +1,4 @@
-//! The multiplier.
+//! The multiplier of a tower: its products, sums and reduction put together over the nets of a signature.
 ghost use Rattle.std.specs.Prelude.{◌≡◌, ◌*◌, ◌-◌, ◌≤◌, ◌^◌, ℕ, [], IfOk, OnOk, IsErrOf, length};
 ghost use Rattle.gf_field.specs.Bit.{bit_mul};
 ghost use Rattle.gf_field.specs.Quotient.{product};
@@ -28,7 +28,7 @@ use gf_field::Ring2k;
 use gf_tower::Tower;
 use irreducible::Proved;
 use make_nets::PlanMaker;
-use mult_gen::{MakeFault, inputs, net_of, outer, outputs};
+use mult_gen::{MakeFault, inputs, net_of, outer, outputs, powers_of_x};
 use net_core::{Net, NetMaker};
 use net_signature::Signature;
 use std::alloc::{AllocError, Global};
@@ -60,11 +60,12 @@ fn gates(
     ensures { IfOk result (λ plan. (t : ℕ) → AreHighPowers n m (product 1 n bit_mul (modulus_of (ring_of base.now))) t powers.now → plan ≡ composite_plan outer n (modulus_of (ring_of base.now)) m t a.now b.now z.now) }
 {
     let mut plan = PlanMaker::new(alloc, outer);
-    let products = all_products(alloc, &mut plan, base, n, m, a, b)?;
+    let x_powers = powers_of_x(alloc, base, 2 * n)?;
+    let products = all_products(alloc, &mut plan, base, &x_powers, n, m, a, b)?;
     let product_nets = products.as_slice();
     let sums = pair_sums(alloc, &mut plan, n, m, product_nets)?;
     let sum_nets = sums.as_slice();
-    reduced_sums(alloc, &mut plan, base, n, m, powers, z, sum_nets)?;
+    reduced_sums(alloc, &mut plan, base, n, m, &x_powers, powers, z, sum_nets)?;
     Ok(plan)
 }
 

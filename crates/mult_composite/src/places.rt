@@ -7,7 +7,6 @@ ghost use Rattle.make_laws.specs.TowerProduct.{adds_to as adds_to_of};
 pub(crate) fn square(n: usize) -> usize
     requires { n ≤ 64 }
     ensures is { result ≡ n * n }
-    ensures few { n ≤ 32 → result ≤ 1024 }
     ensures most { result ≤ 4096 }
 {
     n * n

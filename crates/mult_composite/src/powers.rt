@@ -1,4 +1,4 @@
-//! Powers of x and of Y.
+//! The powers of x and of Y that reduce a product in a tower.
 ghost use Rattle.std.specs.Prelude.{◌≡◌, ◌*◌, ◌-◌, ◌/◌, ◌%◌, ◌<◌, ◌≤◌, ◌^◌, IfOk, length, slice_index};
 ghost use Rattle.gf_field.specs.Polynomial.{coefficient};
 ghost use Rattle.gf_field.specs.Bit.{bit_mul};
@@ -9,20 +9,22 @@ ghost use Rattle.gf_tower.specs.Tower.{tower_polynomial};
 ghost use Rattle.gf_tower.specs.TowerParts.{base_of, coefficients_of, size_of};
 ghost use Rattle.make_laws.specs.ProductBits.{x_to};
 ghost use Rattle.mult_composite.specs.private.HighPowers.{AreHighPowers};
+ghost use Rattle.mult_gen.specs.Powers.{ArePowers};
 
-use crate::places::{coefficient_of, group_of};
+use crate::places::{bit_of, coefficient_of, group_of};
 use gf_field::{Ring, Ring2k, power};
 use gf_tower::Tower;
 use irreducible::Proved;
-use mult_gen::indeterminate;
 use std::alloc::{AllocError, Global};
 
-// x to the i.
-pub(crate) fn x_power(base: &Proved<Ring2k>, i: usize) -> u64
-    ensures power { result ≡ x_to (degree_of (ring_of base.now)) (modulus_of (ring_of base.now)) i }
-    ensures element { result < 2 ^ degree_of (ring_of base.now) }
+// x to the i, out of a table of powers.
+fn x_power(_base: &Proved<Ring2k>, x_powers: &[u64], i: usize) -> u64
+    requires powers { ArePowers (degree_of (ring_of _base.now)) (modulus_of (ring_of _base.now)) x_powers.now }
+    requires entry { i < length x_powers.now }
+    ensures power { result ≡ x_to (degree_of (ring_of _base.now)) (modulus_of (ring_of _base.now)) i }
+    ensures element { result < 2 ^ degree_of (ring_of _base.now) }
 {
-    power(base, indeterminate(base), i as u64)
+    x_powers[i]
 }
 
 // The element Y.
@@ -63,6 +65,7 @@ pub(crate) fn factor(
     base: &Proved<Ring2k>,
     n: usize,
     m: usize,
+    x_powers: &[u64],
     powers: &[u64],
     e: usize,
     q: usize,
@@ -72,10 +75,13 @@ pub(crate) fn factor(
     requires coefficient { e < m }
     requires place { q < (m - 1) * n }
     requires small { n * m ≤ 64 }
+    requires x_powers { ArePowers (degree_of (ring_of base.now)) (modulus_of (ring_of base.now)) x_powers.now }
+    requires x_long { length x_powers.now ≡ 2 * n }
     requires long { length powers.now ≡ m - 1 }
     ensures { result ≡ product 1 n bit_mul (modulus_of (ring_of base.now)) (x_to n (modulus_of (ring_of base.now)) (q % n)) (coefficient n (slice_index powers.now (q / n)) e) }
 {
     let place = group_of(n, m - 1, q);
     let digit = coefficient_of(n, m, powers[place], e);
-    base.mul(x_power(base, q % n), digit)
+    let power = x_power(base, x_powers, bit_of(n, q));
+    base.mul(power, digit)
 }

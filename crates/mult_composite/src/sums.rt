@@ -8,6 +8,7 @@ ghost use Rattle.make_nets.specs.PlanShape.{HasRoom};
 ghost use Rattle.make_nets.specs.Row.{row_of};
 ghost use Rattle.mult_composite.specs.Composite.{pair_sums as pair_sums_of, reduced_sums as reduced_sums_of};
 ghost use Rattle.mult_composite.specs.private.HighPowers.{AreHighPowers};
+ghost use Rattle.mult_gen.specs.Powers.{ArePowers};
 
 use crate::added_nets::{added_pairs, added_sums};
 use crate::chains::{sum_into, sum_of};
@@ -54,6 +55,7 @@ pub(crate) fn reduced_sums(
     base: &Proved<Ring2k>,
     n: usize,
     m: usize,
+    x_powers: &[u64],
     powers: &[u64],
     z: &[u32],
     sums: &[u32],
@@ -64,6 +66,8 @@ pub(crate) fn reduced_sums(
     requires low { n ≤ 32 }
     requires few { m ≤ 64 }
     requires small { n * m ≤ 64 }
+    requires x_powers { ArePowers (degree_of (ring_of base.now)) (modulus_of (ring_of base.now)) x_powers.now }
+    requires x_long { length x_powers.now ≡ 2 * n }
     requires powers { length powers.now ≡ m - 1 }
     requires targets { length z.now ≡ m * n }
     requires count { length z.now ≤ 64 }
@@ -73,7 +77,7 @@ pub(crate) fn reduced_sums(
 {
     for p in 0..z.len() {
         let e = group_of(n, m, p);
-        let list = added_sums(alloc, base, n, m, powers, sums, e, bit_of(n, p))?;
+        let list = added_sums(alloc, base, n, m, x_powers, powers, sums, e, bit_of(n, p))?;
         sum_into(plan, z[p], list.as_slice())?;
     }
     Ok(())

@@ -3,11 +3,11 @@ use Rattle.std.proofs.Common.{◌≡◌, ◌∙◌, ap, sym, refl, subst, ℕ, z
 use Rattle.std.specs.Prelude.{slice_get, ◌==◌}
 use Rattle.std.specs.List.{range_with_len}
 use Rattle.std.proofs.Math.Nat.{mod-eq_of_lt}
-use Rattle.std.proofs.lemmas.Bool.Decides.{nat_tests}
 use Rattle.std.proofs.lemmas.List.{get_or-take, length-take-le}
 use Rattle.std.proofs.lemmas.Option.{slice_get-get_or}
+use Rattle.std.proofs.lemmas.Bool.{eq-eqb}
 use Rattle.lists.specs.Lists.{Has}
-use Rattle.lists.specs.laws.HasLaws.{Has_right}
+use Rattle.lists.specs.laws.HasLaws.{Has_right, any_has, range_has}
 use Rattle.lists.specs.laws.ListLaws.{length_map as map_long}
 use Rattle.lists.specs.laws.ReadLaws.{get_below}
 use Rattle.net_core.specs.LatchValue.{LatchValue}
@@ -19,13 +19,12 @@ use Rattle.net_words.specs.declared.feed.Feed.{Feed}
 use Rattle.net_words.specs.declared.feed.FeedText.{FeedText}
 use Rattle.net_words.specs.declared.word.Role.TheVariants.{Input, Output}
 use Rattle.net_words.specs.declared.word.WordText.{WordText}
-use Rattle.net_words.proofs.MemberLemmas.{any_has, has_stands, word_bits}
+use Rattle.net_words.proofs.MemberLemmas.{has_stands, word_bits}
 use Rattle.make_nets.specs.BindingOfMade.{binding_of}
 use Rattle.make_nets.specs.MakerNames.{AreMakerNames}
 use Rattle.make_nets.specs.Made.{IsPlanFor}
 use Rattle.make_nets.specs.Ports.{inputs_of, numbered, outer_names, role_nets, word_names}
 use Rattle.make_nets.proofs.MadeLemmas.{fed_found, made_binds}
-use Rattle.make_nets.proofs.MakeLemmas.{range_low}
 use Rattle.mult_gen.specs.Form.{AreWide}
 use Rattle.mult_digit.specs.DigitForm.{AreDigitFeeds, AreDigitWords, IsDigitFeed, digit_names, fed_names}
 use Rattle.mult_digit.specs.DigitNet.{digit_net, digit_sums_of}
@@ -84,7 +83,7 @@ module _ (k : ℕ) (mul : ℕ → ℕ → ℕ) (x width : ℕ) (words : List Wor
         outside : (b : Bool) → in_word Input (numbered 0 words) (number i) ≡ b → b ≡ false
         outside true is =
             let there : Has (range_with_len 0 k) (number i) = subst (λ (xs : List ℕ). Has xs (number i)) (bits_are k words are wide) (word_bits Input (numbered 0 words) (number i) refl is) in
-            absurd (omega (arith, (range_low 0 k (number i) there).1, names_long k words are wide))
+            absurd (omega (arith, (range_has 0 k (number i) there).1, names_long k words are wide))
         outside false is = refl
 
     abbrev pub bound : List Feed
@@ -97,16 +96,13 @@ module _ (k : ℕ) (mul : ℕ → ℕ → ℕ) (x width : ℕ) (words : List Wor
 
     each_fed : (n : ℕ) → Has (range_with_len (length (word_names words)) (length fed)) n → is_fed bound n ≡ true
     each_fed n there =
-        let low = range_low (length (word_names words)) (length fed) n there in
+        let low = range_has (length (word_names words)) (length fed) n there in
         let e : ℕ = n - length (word_names words) in
         let less : n - length (word_names words) < width = omega (arith, low.0, low.1, fed_long) in
         let at = get_below feeds (n - length (word_names words)) (omega (arith, less, narrow, fed_are.long)) in
         let plain : 0 + (n - length (word_names words)) ≡ n - length (word_names words) = omega arith in
         any_has (λ (f : Feed). f.net == n) bound (bound_feed at.0 (number (0 + (n - length (word_names words))))) (n - length (word_names words), get_bound number 0 feeds (n - length (word_names words)) at.0 at.1)
-        (same (number (0 + (n - length (word_names words)))) n (ap number plain ∙ (ap (λ r. length (word_names words) + r) (mod-eq_of_lt less) ∙ omega (arith, low.0))))
-      where
-        same : (a b : ℕ) → a ≡ b → (a == b) ≡ true
-        same a b e = grind (arith, nat_tests)
+        (eq-eqb (number (0 + (n - length (word_names words)))) n (ap number plain ∙ (ap (λ r. length (word_names words) + r) (mod-eq_of_lt less) ∙ omega (arith, low.0))))
 
     pub binds : BindingOf net words feeds (Ok (binding_of net words bound))
     binds = made_binds words fed latches [] (digit_sums_of k mul x width words).plan names fits feeds bound (are_held k mul x width words are wide small narrow fed fed_long) feeding each_fed

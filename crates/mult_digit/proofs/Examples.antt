@@ -1,7 +1,8 @@
 -- Small worked examples of the definitions of specs/, which the check computes.
 use Rattle.std.specs.Prelude.{◌≡◌, refl, [], ◌∷◌}
 use Rattle.net_core.specs.declared.latch.Start.TheVariants.{Zero}
-use Rattle.mult_digit.specs.DigitPlan.{digit_latches, product_net, products_from}
+use Rattle.mult_digit.specs.DigitPlan.{digit_latches, products_from}
+use Rattle.mult_digit.specs.private.ProductNets.{product_net}
 
 -- two products of bits of a digit of two bits and one bit: on the nets 4 and 5
 products_are : (products_from 4 1 (2 ∷ 3 ∷ []) (0 ∷ [])).gates ≡ record { out = 4; inputs = 2 ∷ 0 ∷ []; table = 8 } ∷ record { out = 5; inputs = 3 ∷ 0 ∷ []; table = 8 } ∷ []

@@ -1,9 +1,10 @@
 -- The feeds of digits bind to the nets of a digit, each to its own.
 use Rattle.std.proofs.Common.{◌≡◌, ◌∙◌, ap, ap₂, sym, refl, subst, ℕ, zero, suc, ◌<◌, ◌≤◌, ◌+◌, ◌-◌, ◌*◌, ◌/◌, ◌%◌, mul-suc, mul-le-mul_left, Bool, true, false, cond, List, [], ◌∷◌, ◌++◌, append-nil, Some, Ok, arith}
 use Rattle.std.specs.Prelude.{slice_get, ◌==◌, ◌&&◌}
-use Rattle.std.proofs.Math.Nat.{div-add-mod, mod-lt, div-lt_iff_lt-mul}
-use Rattle.std.proofs.lemmas.Bool.Decides.{nat_tests}
+use Rattle.std.proofs.Math.Nat.{div-add-mod, mod-lt, div-lt_iff_lt-mul, mul_comm}
 use Rattle.std.proofs.lemmas.List.{append_assoc}
+use Rattle.std.proofs.lemmas.Bool.{eqb-true}
+use Rattle.lists.specs.laws.TestLaws.{equal_itself}
 use Rattle.net_core.specs.NetList.{NetList, number_of}
 use Rattle.net_words.specs.Feeds.{FeedsOf, bound_feed, free_net, is_free}
 use Rattle.net_words.specs.declared.bound.BoundWord.{BoundWord}
@@ -11,7 +12,6 @@ use Rattle.net_words.specs.declared.feed.Feed.{Feed}
 use Rattle.net_words.specs.declared.feed.FeedText.{FeedText}
 use Rattle.circuit_model.specs.declared.circuit_feed.CircuitFeed.{CircuitFeed}
 use Rattle.circuit_model.specs.Feeds.{source_at}
-use Rattle.circuit_model.proofs.FeedLemmas.{eq_of}
 
 -- ---- lines one after another
 -- the feeds of lines, where line i feeds the net with this number
@@ -62,11 +62,8 @@ found_source [] i f got only = absurd (cc)
 found_source (g ∷ fs) zero f got only =
     let same : g ≡ f = cc in
     let P : CircuitFeed → Type 0 = λ h. source_at (h ∷ fs) f.net f.cycle ≡ f.source in
-    subst P (sym same) (told (f.net == f.net) (f.cycle == f.cycle) (itself f.net) (itself f.cycle))
+    subst P (sym same) (told (f.net == f.net) (f.cycle == f.cycle) (equal_itself f.net) (equal_itself f.cycle))
   where
-    itself : (n : ℕ) → (n == n) ≡ true
-    itself n = grind (arith, nat_tests)
-
     told : (p q : Bool) → p ≡ true → q ≡ true → cond (p && q) f.source (source_at fs f.net f.cycle) ≡ f.source
     told p q yes' yes'' = rw (yes', yes'') refl
 found_source (g ∷ fs) (suc i) f got only = later (g.net == f.net) (g.cycle == f.cycle) refl refl (found_source fs i f got (λ j h at net cycle. pred (only (suc j) h at net cycle)))
@@ -78,7 +75,7 @@ found_source (g ∷ fs) (suc i) f got only = later (g.net == f.net) (g.cycle == 
     never e = omega (arith, e)
 
     later : (p q : Bool) → (g.net == f.net) ≡ p → (g.cycle == f.cycle) ≡ q → source_at fs f.net f.cycle ≡ f.source → cond (p && q) g.source (source_at fs f.net f.cycle) ≡ f.source
-    later true true net cycle rest = absurd (never (only 0 g refl (eq_of g.net f.net net) (eq_of g.cycle f.cycle cycle)))
+    later true true net cycle rest = absurd (never (only 0 g refl (eqb-true g.net f.net net) (eqb-true g.cycle f.cycle cycle)))
     later true false net cycle rest = rest
     later false q net cycle rest = rest
 
@@ -86,10 +83,7 @@ found_source (g ∷ fs) (suc i) f got only = later (g.net == f.net) (g.cycle == 
 -- line i of k = width * count feeds is bit i % width of digit i / width
 module _ (k width count : ℕ) (some : 1 ≤ width) (whole : k ≡ width * count) where
   pub cycle_low : (i : ℕ) → i < k → i / width < count
-  cycle_low i less = (div-lt_iff_lt-mul {k = width} {x = i} {y = count} (omega (arith, some))).1 (omega (arith, less, whole, turned width count))
-    where
-      turned : (m n : ℕ) → m * n ≡ n * m
-      turned m n = omega arith
+  cycle_low i less = (div-lt_iff_lt-mul {k = width} {x = i} {y = count} (omega (arith, some))).1 (omega (arith, less, whole, mul_comm width count))
 
   pub place_low : (i : ℕ) → i % width < width
   place_low i = mod-lt i (omega (arith, some))

@@ -21,7 +21,7 @@ use Rattle.make_laws.proofs.IndeterminateLemmas.{power_x}
 use Rattle.make_laws.specs.DigitRegisters.{HasUnitPowers}
 use Rattle.make_laws.specs.DigitNets.{unit_basis}
 use Rattle.mult_gen.specs.Form.{AreWide}
-use Rattle.mult_digit.specs.ComputesFed.{ComputesFed}
+use Rattle.mult_digit.specs.ComputesFed.{ComputesDigits, ComputesFed}
 use Rattle.mult_digit.specs.DigitForm.{AreDigitWords, HasDigitForm, digit_names, fed_names}
 use Rattle.mult_digit.specs.DigitNet.{digit_net, digit_sums_of, net_over}
 use Rattle.mult_digit.specs.DigitPlan.{digit_latches}
@@ -76,11 +76,16 @@ module _ (k : ℕ) (mul : ℕ → ℕ → ℕ) (ring : IsRing k mul) (field : Ha
       digit_made = record {
         form = form_from names;
         is = net_same;
-        product = subst (λ (n : NetList). ComputesFed k mul n signature.words signature.feeds (unit_basis k) is.feeds.count mul) (sym net_same)
-            (computes k mul ring field x units width signature.words signature.feeds is.words wide is.feeds (subst AreMakerNames outer_same names));
       }
 
       pub digit_plain : HasPlainNames net
       digit_plain = subst HasPlainNames (sym net_same)
           (made_plain signature.words (digit_names width signature.feeds) (digit_latches k (digit_sums_of k mul x width signature.words).nets (role_nets Output 0 signature.words)) [] (digit_sums_of k mul x width signature.words).plan
           (subst AreMakerNames outer_same names) (fits k mul x width signature.words signature.feeds is.words wide ring.some ring.small is.feeds (subst AreMakerNames outer_same names)))
+
+-- what the net of the form computes
+pub digit_product : (k : ℕ) (mul : ℕ → ℕ → ℕ) → IsRing k mul → HasNoZeroDivisors k mul → (x : ℕ) → HasUnitPowers k mul x → (signature : SignatureValue) → AreWide k signature.words → (net : NetList) → ComputesDigits k mul x signature net
+digit_product k mul ring field x units signature wide net made =
+    let form = made.form in
+    subst (λ (n : NetList). ComputesFed k mul n signature.words signature.feeds (unit_basis k) form.feeds.count mul) (sym made.is)
+    (computes k mul ring field x units form.width signature.words signature.feeds form.words wide form.feeds form.names)

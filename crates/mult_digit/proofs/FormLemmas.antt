@@ -1,13 +1,13 @@
 -- How feeds of digits are recognized.
 use Rattle.std.proofs.Common.{◌≡◌, ◌∙◌, ap, sym, subst, inl, inr, ℕ, suc, ◌<◌, ◌≤◌, ◌+◌, ◌-◌, ◌*◌, ◌/◌, ◌%◌, ◌↔◌, Bool, true, false, List, [], length, get_or, Some, arith}
 use Rattle.std.specs.Prelude.{slice_get, IsTrue}
-use Rattle.std.proofs.Math.Nat.{div-add-mod, div-eq_of_lt}
+use Rattle.std.proofs.Math.Nat.{div-add-mod, div-eq_of_lt, add-zero}
 use Rattle.std.proofs.lemmas.Nat.{div-mul-add}
 use Rattle.std.proofs.lemmas.List.{get_or-map}
 use Rattle.std.proofs.lemmas.Option.{get_or_from_slice_get, slice_get_within}
-use Rattle.lists.specs.laws.NumberLaws.{nat_eq_or}
+use Rattle.std.proofs.lemmas.Bool.{cases_lt}
+use Rattle.lists.specs.laws.NumberLaws.{nat_eq_or, once_plus_zero}
 use Rattle.lists.specs.laws.ReadLaws.{get_below}
-use Rattle.make_nets.proofs.OrderLemmas.{below_or}
 use Rattle.net_words.specs.declared.feed.FeedText.{FeedText}
 use Rattle.net_words.specs.declared.feed.Source.{Source}
 use Rattle.net_words.specs.declared.feed.Source.TheVariants.{Bit}
@@ -41,13 +41,10 @@ pub lines_are : (k width : ℕ) (feeds : List FeedText) → 1 ≤ width → leng
 lines_are k width feeds some long divides each = record {
   some = some;
   count = k / width;
-  whole = sym (div-add-mod k width) ∙ (ap (λ r. width * (k / width) + r) divides ∙ plain (width * (k / width)));
+  whole = sym (div-add-mod k width) ∙ (ap (λ r. width * (k / width) + r) divides ∙ add-zero (width * (k / width)));
   long = long;
   each = λ i feed got. each i feed (omega (arith, slice_get_within feeds i feed got, long)) got;
 }
-  where
-    plain : (n : ℕ) → n + 0 ≡ n
-    plain n = omega arith
 
 -- no width so far, and not this one
 pub not_now : (k width : ℕ) (feeds : List FeedText) (found : Bool) → found ≡ false → (AreDigitFeeds k width feeds → IsTrue found) → ((w : ℕ) → w < width → AreDigitFeeds k w feeds → ⊥) → (w : ℕ) → w < width + 1 → AreDigitFeeds k w feeds → ⊥
@@ -61,19 +58,16 @@ smaller : (k v w : ℕ) (feeds : List FeedText) → 1 ≤ k → AreDigitFeeds k 
 smaller k v w feeds some first second less =
     let low : w ≤ k = factor_low w second.count k some second.whole in
     let feed = get_below feeds v (omega (arith, less, low, first.long)) in
-    let one : v / v ≡ 1 = ap (λ n. n / v) (twice v) ∙ div-mul-add 1 v 0 (omega (arith, first.some)) in
+    let one : v / v ≡ 1 = ap (λ n. n / v) (once_plus_zero v) ∙ div-mul-add 1 v 0 (omega (arith, first.some)) in
     let none : v / w ≡ 0 = div-eq_of_lt less in
     let same : v / v ≡ v / w = sym (first.each v feed.0 feed.1).cycle ∙ (second.each v feed.0 feed.1).cycle in
     omega (arith, one, none, same)
-  where
-    twice : (n : ℕ) → n ≡ 1 * n + 0
-    twice n = omega arith
 
 -- digits have one width
 pub one_width : (k v w : ℕ) (feeds : List FeedText) → 1 ≤ k → AreDigitFeeds k v feeds → AreDigitFeeds k w feeds → v ≡ w
 one_width k v w feeds some first second = elim (nat_eq_or v w) [
   | inl same ↦ same
-  | inr other ↦ elim (below_or v w) [
+  | inr other ↦ elim (cases_lt v w) [
     | inl less ↦ absurd (smaller k v w feeds some first second less)
     | inr more ↦ absurd (smaller k w v feeds some second first (omega (arith, other, more)))
   ]

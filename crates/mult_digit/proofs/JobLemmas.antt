@@ -6,10 +6,11 @@ use Rattle.std.specs.List.{range_with_len}
 use Rattle.std.proofs.lemmas.Nat.{div-mul-add, mod-mul-add}
 use Rattle.std.proofs.lemmas.List.FromFn.{length-range_with_len}
 use Rattle.std.proofs.lemmas.Option.{slice_get-map, slice_get_within}
+use Rattle.std.proofs.Math.Nat.{mul_comm, zero-add}
 use Rattle.lists.specs.Lists.{Has}
-use Rattle.lists.specs.laws.HasLaws.{Has_map}
+use Rattle.lists.specs.laws.HasLaws.{Has_map, range_has}
 use Rattle.lists.specs.laws.ListLaws.{length_map as map_long}
-use Rattle.lists.specs.laws.ReadLaws.{get_below, from_map}
+use Rattle.lists.specs.laws.ReadLaws.{get_below, from_map, get_back}
 use Rattle.net_core.specs.NetList.{NetList}
 use Rattle.net_core.specs.Sound.{IsSound}
 use Rattle.net_words.specs.Bind.{BindingOf}
@@ -41,7 +42,6 @@ use Rattle.make_nets.specs.MakerNames.{AreMakerNames}
 use Rattle.make_nets.specs.Ports.{numbered, outer_names, role_nets, word_names}
 use Rattle.make_nets.proofs.FormLemmas.{basis_is, output_nets}
 use Rattle.make_nets.proofs.MadeLemmas.{made_sound}
-use Rattle.make_nets.proofs.MakeLemmas.{range_low}
 use Rattle.make_laws.specs.DigitRegisters.{HasUnitPowers, digit_step_sum}
 use Rattle.make_laws.specs.DigitNets.{AreDigitNets, DigitNets, unit_basis}
 use Rattle.make_laws.specs.Held.{bit_at_place, net_at, Multiplies}
@@ -56,10 +56,6 @@ use Rattle.mult_digit.proofs.FeedLemmas.{bound_from, bound_get, found_source, ge
 use Rattle.mult_digit.proofs.LatchLemmas.{latch_at, takes}
 use Rattle.mult_digit.proofs.ValueLemmas.{sum_is}
 use Rattle.mult_digit.proofs.WordLemmas.{bound_words, first_role, input_nets, job_words_are, one_output, output_at, range_at}
-
-got_after : {X : Type 0} (xs ys : List X) (i : ℕ) (y : X) → slice_get ys i ≡ Some y → slice_get (xs ++ ys) (length xs + i) ≡ Some y
-got_after [] ys i y got = let plain : 0 + i ≡ i = omega arith in rw plain got
-got_after (x ∷ xs) ys i y got = let more : suc (length xs) + i ≡ suc (length xs + i) = omega arith in rw more (got_after xs ys i y got)
 
 first_inner : (words : List BoundWord) → inner_number words 0 ≡ 0
 first_inner [] = refl
@@ -91,10 +87,7 @@ module _ (k : ℕ) (mul : ℕ → ℕ → ℕ) (ring : IsRing k mul) (field : Ha
     line_low : (t e : ℕ) → t < fed_are.count → e < width → t * width + e < k
     line_low t e early less =
         let room : width * suc t ≤ width * fed_are.count = mul-le-mul_left width early in
-        omega (arith, room, fed_are.whole, mul-suc width t, turned width t, less)
-      where
-        turned : (m n : ℕ) → m * n ≡ n * m
-        turned m n = omega arith
+        omega (arith, room, fed_are.whole, mul-suc width t, mul_comm width t, less)
 
     -- the feed of line i
     record IsLine (i : ℕ) (f : CircuitFeed) : Type 0 where
@@ -103,16 +96,13 @@ module _ (k : ℕ) (mul : ℕ → ℕ → ℕ) (ring : IsRing k mul) (field : Ha
       cycle_is : f.cycle ≡ i / width
       source_is : f.source ≡ BitOf 0 (k - width * suc (i / width) + i % width)
 
-    plain_place : (i : ℕ) → 0 + i ≡ i
-    plain_place i = omega arith
-
     line_at : (i : ℕ) → i < k → (f : CircuitFeed) × IsLine i f
     line_at i less =
         let feed = get_below feeds i (omega (arith, less, fed_are.long)) in
         let is = fed_are.each i feed.0 feed.1 in (
           job_feed (numbered 0 words) (bound_feed feed.0 (number i)),
           record {
-            at = slice_get-map (job_feed (numbered 0 words)) fed_feeds i ∙ ap (option_map (job_feed (numbered 0 words))) (get_bound number 0 feeds i feed.0 feed.1 ∙ ap (λ n. Some (bound_feed feed.0 (number n))) (plain_place i));
+            at = slice_get-map (job_feed (numbered 0 words)) fed_feeds i ∙ ap (option_map (job_feed (numbered 0 words))) (get_bound number 0 feeds i feed.0 feed.1 ∙ ap (λ n. Some (bound_feed feed.0 (number n))) (zero-add i));
             net_is = refl;
             cycle_is = is.cycle;
             source_is = ap (inner_source (numbered 0 words)) is.source ∙ ap (λ n. BitOf n (k - width * suc (i / width) + i % width)) (first_inner (numbered 0 words));
@@ -125,7 +115,7 @@ module _ (k : ℕ) (mul : ℕ → ℕ → ℕ) (ring : IsRing k mul) (field : Ha
         let from = from_map (job_feed (numbered 0 words)) fed_feeds j g got in
         let text = bound_get number 0 feeds j from.0 from.1 in
         let is = fed_are.each j text.0 text.1 in (
-          ap (λ (h : CircuitFeed). h.net) (sym from.2) ∙ (ap (λ (b : Feed). b.net) (sym text.2) ∙ ap number (plain_place j)),
+          ap (λ (h : CircuitFeed). h.net) (sym from.2) ∙ (ap (λ (b : Feed). b.net) (sym text.2) ∙ ap number (zero-add j)),
           ap (λ (h : CircuitFeed). h.cycle) (sym from.2) ∙ (ap (λ (b : Feed). b.cycle) (sym text.2) ∙ is.cycle),
         )
 
@@ -176,7 +166,7 @@ module _ (k : ℕ) (mul : ℕ → ℕ → ℕ) (ring : IsRing k mul) (field : Ha
     named_low : (n : ℕ) → Has (word_nets job.words) n → n < k
     named_low n there =
         let own : word_nets job.words ≡ range_with_len 0 k ++ [] = ap word_nets (job_words_are k words are wide (unit_basis k)) in
-        let low = range_low 0 k n (subst (λ (xs : List ℕ). Has xs n) (own ∙ append-nil (range_with_len 0 k)) there) in
+        let low = range_has 0 k n (subst (λ (xs : List ℕ). Has xs n) (own ∙ append-nil (range_with_len 0 k)) there) in
         omega (arith, low.1)
 
     are_nets : AreDigitNets job x width nets_are
@@ -214,8 +204,8 @@ module _ (k : ℕ) (mul : ℕ → ℕ → ℕ) (ring : IsRing k mul) (field : Ha
         (sym first.cycle ∙ (cycle_same ∙ second.cycle))
         (cancel (length (word_names words)) (i % width) (j % width)
         (names.apart (length (word_names words) + i % width) (length (word_names words) + j % width) (get_or (fed_names feeds) (i % width) [])
-        (got_after (word_names words) (digit_names width feeds) (i % width) (get_or (fed_names feeds) (i % width) []) name_i)
-        (got_after (word_names words) (digit_names width feeds) (j % width) (get_or (fed_names feeds) (i % width) []) (name_j ∙ ap Some same))))
+        (get_back (word_names words) (digit_names width feeds) (i % width) (get_or (fed_names feeds) (i % width) []) name_i)
+        (get_back (word_names words) (digit_names width feeds) (j % width) (get_or (fed_names feeds) (i % width) []) (name_j ∙ ap Some same))))
       where
         cancel : (n a b : ℕ) → n + a ≡ n + b → a ≡ b
         cancel n a b e = omega (arith, e)

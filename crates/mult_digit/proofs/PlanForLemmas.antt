@@ -2,9 +2,11 @@
 use Rattle.std.proofs.Common.{◌≡◌, ◌∙◌, ap, ap₂, sym, subst, inl, inr, ℕ, suc, ◌<◌, ◌≤◌, ◌+◌, ◌*◌, ◌^◌, true, false, List, [], ◌++◌, length, map, length-append, mul-le-mul_left, arith}
 use Rattle.std.specs.List.{range_with_len}
 use Rattle.std.proofs.lemmas.List.FromFn.{length-range_with_len}
+use Rattle.std.proofs.lemmas.Bool.{cases_lt}
 use Rattle.lists.specs.Lists.{Has, times}
-use Rattle.lists.specs.laws.HasLaws.{Has_cases, Has_left, Has_map, Has_right, times_append, times_some}
+use Rattle.lists.specs.laws.HasLaws.{Has_cases, Has_left, Has_map, Has_right, times_append, times_some, none_at, range_has, range_once}
 use Rattle.lists.specs.laws.ListLaws.{length_map as map_long}
+use Rattle.make_laws.proofs.DigitRunLemmas.{has_place}
 use Rattle.net_core.specs.LatchValue.{LatchValue}
 use Rattle.net_words.specs.Bind.{is_unknown}
 use Rattle.net_words.specs.declared.word.Role.TheVariants.{Input, Output}
@@ -15,8 +17,7 @@ use Rattle.make_nets.proofs.OuterNets.{CanRead}
 use Rattle.make_nets.specs.BindingOfMade.{AreHeld}
 use Rattle.make_nets.specs.Made.{IsPlanFor}
 use Rattle.make_nets.specs.Ports.{inputs_of, outer_names, role_nets, word_names}
-use Rattle.make_nets.proofs.MakeLemmas.{range_low, role_low, times_range}
-use Rattle.make_nets.proofs.OrderLemmas.{below_or}
+use Rattle.make_nets.proofs.MakeLemmas.{role_low}
 use Rattle.make_laws.specs.Held.{net_at}
 use Rattle.mult_gen.specs.Form.{AreWide}
 use Rattle.mult_digit.specs.DigitForm.{AreDigitWords}
@@ -24,7 +25,7 @@ use Rattle.mult_digit.specs.DigitNet.{digit_sums_of, fed_nets}
 use Rattle.mult_digit.specs.DigitPlan.{Sums, digit_latches}
 use Rattle.mult_digit.proofs.LatchLemmas.{latch_is, latch_outs}
 use Rattle.mult_digit.proofs.ShapeLemmas.{AreMade, sums_made}
-use Rattle.mult_digit.proofs.WordLemmas.{fed_nets_are_unfed, has_place, has_range, input_at, input_nets, names_long, no_states, output_at, output_long, output_nets_are, range_at}
+use Rattle.mult_digit.proofs.WordLemmas.{fed_nets_are_unfed, has_range, input_at, input_nets, names_long, no_states, output_at, output_long, output_nets_are, range_at}
 
 module _ (k : ℕ) (mul : ℕ → ℕ → ℕ) (x width : ℕ) (words : List WordText) (are : AreDigitWords words) (wide : AreWide k words) (small : k ≤ 64) (narrow : width ≤ k) (fed : List (List ℕ)) (fed_long : length fed ≡ width) where
   abbrev sums : Sums
@@ -82,17 +83,17 @@ module _ (k : ℕ) (mul : ℕ → ℕ → ℕ) (x width : ℕ) (words : List Wor
   shape = subst (λ (n : ℕ). IsWellMade n (driven_outside (inputs_of words fed) latches) [] sums.plan) outer_is made.made
 
   none_low : (a n m : ℕ) → m < a → times m (range_with_len a n) ≡ 0
-  none_low a n m less = let few : 1 ≤ times m (range_with_len a n) → ⊥ = λ some. omega (arith, less, (range_low a n m (times_some m (range_with_len a n) some)).0) in omega (arith, few)
+  none_low a n m less = let few : 1 ≤ times m (range_with_len a n) → ⊥ = λ some. omega (arith, less, (range_has a n m (times_some m (range_with_len a n) some)).0) in omega (arith, few)
 
   none_high : (a n m : ℕ) → a + n ≤ m → times m (range_with_len a n) ≡ 0
-  none_high a n m more = let few : 1 ≤ times m (range_with_len a n) → ⊥ = λ some. omega (arith, more, (range_low a n m (times_some m (range_with_len a n) some)).1) in omega (arith, few)
+  none_high a n m more = let few : 1 ≤ times m (range_with_len a n) → ⊥ = λ some. omega (arith, more, (range_has a n m (times_some m (range_with_len a n) some)).1) in omega (arith, few)
 
   once_driven : (n : ℕ) → n < k + k + width → times n driven ≡ 1
-  once_driven n less = elim (below_or n k) [
-    | inl first ↦ omega (arith, parts, times_range 0 k n (omega arith) (omega (arith, first)), none_low (k + k) width n (omega (arith, first)), none_low k k n first)
-    | inr later ↦ elim (below_or n (k + k)) [
-      | inl second ↦ omega (arith, parts, none_high 0 k n (omega (arith, later)), none_low (k + k) width n second, times_range k k n later second)
-      | inr last ↦ omega (arith, parts, none_high 0 k n (omega (arith, later)), times_range (k + k) width n last less, none_high k k n last)
+  once_driven n less = elim (cases_lt n k) [
+    | inl first ↦ omega (arith, parts, range_once 0 k n (omega arith) (omega (arith, first)), none_low (k + k) width n (omega (arith, first)), none_low k k n first)
+    | inr later ↦ elim (cases_lt n (k + k)) [
+      | inl second ↦ omega (arith, parts, none_high 0 k n (omega (arith, later)), none_low (k + k) width n second, range_once k k n later second)
+      | inr last ↦ omega (arith, parts, none_high 0 k n (omega (arith, later)), range_once (k + k) width n last less, none_high k k n last)
     ]
   ]
     where
@@ -111,10 +112,10 @@ module _ (k : ℕ) (mul : ℕ → ℕ → ℕ) (x width : ℕ) (words : List Wor
           driven_low : (n : ℕ) → Has driven n → n < k + k + width
           driven_low n there = elim (Has_cases (range_with_len 0 k ++ range_with_len (k + k) width) (range_with_len k k) n there) [
             | inl inputs ↦ elim (Has_cases (range_with_len 0 k) (range_with_len (k + k) width) n inputs) [
-              | inl b ↦ omega (arith, (range_low 0 k n b).1)
-              | inr d ↦ (range_low (k + k) width n d).1
+              | inl b ↦ omega (arith, (range_has 0 k n b).1)
+              | inr d ↦ (range_has (k + k) width n d).1
             ]
-            | inr z ↦ omega (arith, (range_low k k n z).1)
+            | inr z ↦ omega (arith, (range_has k k n z).1)
           ]
       by (inr inner) = inner.1
 
@@ -146,13 +147,10 @@ module _ (k : ℕ) (mul : ℕ → ℕ → ℕ) (x width : ℕ) (words : List Wor
   pub are_held : AreHeld words latches
   are_held = record {
     fed = fed_nets_are_unfed k words are wide;
-    states = λ n there. absurd (nothing n (subst (λ (xs : List ℕ). Has xs n) (no_states k words are wide) there));
+    states = λ n there. absurd (none_at n (subst (λ (xs : List ℕ). Has xs n) (no_states k words are wide) there));
     starts = λ l there unknown. absurd (known l there unknown);
   }
     where
-      nothing : (n : ℕ) → Has [] n → ⊥
-      nothing n (i, got) = cc
-
       known : (l : LatchValue) → Has latches l → is_unknown l.start ≡ true → ⊥
       known l there unknown =
           let is = latch_is k sums.nets (role_nets Output 0 words) l there in

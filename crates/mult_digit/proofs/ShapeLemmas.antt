@@ -1,10 +1,10 @@
 -- The gates of products and of sums are well made.
-use Rattle.std.proofs.Common.{◌≡◌, ◌⊎◌, ◌∙◌, ap, ap₂, refl, subst, inl, inr, ℕ, zero, suc, ◌<◌, ◌≤◌, ◌+◌, ◌*◌, mul-suc, mul-le-mul_left, Bool, true, false, List, [], ◌∷◌, ◌++◌, length, length-append, None, arith}
+use Rattle.std.proofs.Common.{◌≡◌, ◌⊎◌, ◌∙◌, ap, ap₂, refl, subst, inl, inr, ℕ, zero, suc, ◌<◌, ◌≤◌, ◌+◌, ◌*◌, mul-suc, mul-le-mul_left, List, [], ◌∷◌, ◌++◌, length, length-append, None, arith}
 use Rattle.std.specs.Prelude.{◌==◌}
 use Rattle.std.specs.Int.{bit_at}
 use Rattle.std.proofs.lemmas.List.{length_push}
 use Rattle.lists.specs.Lists.{Has}
-use Rattle.lists.specs.laws.HasLaws.{Has_cases}
+use Rattle.lists.specs.laws.HasLaws.{Has_cases, none_at}
 use Rattle.gf_field.specs.Power.{power}
 use Rattle.make_nets.specs.Plan.{begun, each, gathered, where_so, with_and, with_chain, chain_net}
 use Rattle.make_nets.specs.PlanShape.{IsWellMade}
@@ -12,22 +12,15 @@ use Rattle.make_nets.proofs.OuterNets.{CanRead}
 use Rattle.make_nets.proofs.EachLemmas.{each_keeps, gathered_has}
 use Rattle.make_nets.proofs.ShapeLemmas.{begun_made, and_made, can_read_more, chain_made, chain_grows, chain_read}
 use Rattle.make_laws.specs.Held.{net_at}
-use Rattle.mult_digit.specs.DigitPlan.{Sums, product_net, products_from, summands, with_row, with_sum}
+use Rattle.mult_digit.specs.DigitPlan.{Sums, products_from, summands, with_row, with_sum}
 use Rattle.mult_digit.proofs.ValueLemmas.{rows_next}
+use Rattle.mult_digit.specs.private.ProductNets.{product_net}
+use Rattle.mult_gen.proofs.ChainLemmas.{where_few, where_has}
 
 -- ---- lists one after the other
 pub gathered_few : (n m : ℕ) (f : ℕ → List ℕ) → ((i : ℕ) → i < n → length (f i) ≤ m) → length (gathered n f) ≤ m * n
 gathered_few zero m f each_few = omega arith
 gathered_few (suc n) m f each_few = omega (arith, length-append (gathered n f) (f n), gathered_few n m f (λ i less. each_few i (omega arith)), each_few n (omega arith), mul-suc m n)
-
-where_few : (b : Bool) (n : ℕ) → length (where_so b n) ≤ 1
-where_few true n = omega arith
-where_few false n = omega arith
-
-where_has : (b : Bool) (n m : ℕ) → Has (where_so b n) m → n ≡ m
-where_has true n m (zero, got) = cc
-where_has true n m (suc i, got) = absurd (cc)
-where_has false n m (i, got) = absurd (cc)
 
 -- ---- the nets of a sum
 module _ (n k : ℕ) (mul : ℕ → ℕ → ℕ) (x width : ℕ) (z : List ℕ) where
@@ -134,12 +127,9 @@ module _ (outer : ℕ) (sources : List ℕ) (k : ℕ) (mul : ℕ → ℕ → ℕ
     sums_made m = each_keeps AreMade (λ l. with_sum (summands outer k mul x (length d) z l)) (record { plan = products_from outer k d b; nets = [] }) m
         (record {
           made = products_made;
-          read = λ n has. absurd (nothing n has);
+          read = λ n has. absurd (none_at n has);
           grown = omega (arith, rows_next k d b outer (length d));
           few = omega (arith, rows_next k d b outer (length d));
           count = refl;
         })
         (λ l sums less are. sum_made l sums are)
-      where
-        nothing : (n : ℕ) → Has [] n → ⊥
-        nothing n (i, got) = cc

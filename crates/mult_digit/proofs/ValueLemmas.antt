@@ -5,6 +5,7 @@ use Rattle.std.specs.Int.{bit_at}
 use Rattle.std.proofs.lemmas.List.{get_or_append_left, get_or_push, length_push}
 use Rattle.std.proofs.lemmas.Nat.Bits.{bit_at-lt}
 use Rattle.lists.specs.laws.NumberLaws.{nat_eq_or}
+use Rattle.gf_field.proofs.SharedLemmas.{same_sum}
 use Rattle.gf_field.specs.Polynomial.{sum_of_first}
 use Rattle.gf_field.specs.Power.{power}
 use Rattle.net_core.specs.Value.{bit_of}
@@ -13,9 +14,10 @@ use Rattle.make_nets.specs.PlanValue.{Agrees, bit_at_net, parity}
 use Rattle.make_nets.proofs.ValueLemmas.{agrees_before, and_value, chain_before, chain_value, parity_append, gathered_parity, where_parity}
 use Rattle.make_laws.specs.Chosen.{chosen}
 use Rattle.make_laws.specs.DigitRegisters.{digit_step_sum}
-use Rattle.make_laws.proofs.RingSumLemmas.{sum_same}
 use Rattle.make_laws.specs.Held.{bit_at_place, net_at}
-use Rattle.mult_digit.specs.DigitPlan.{Sums, product_net, products_from, summands, sums_from, with_row, with_sum}
+use Rattle.mult_digit.specs.DigitPlan.{Sums, products_from, summands, sums_from, with_row, with_sum}
+use Rattle.mult_digit.specs.private.ProductNets.{product_net}
+use Rattle.mult_normal.proofs.ProductLemmas.{one_bit}
 
 -- a place below the next one is below the last, or it
 below_or_last : (j m : ℕ) → j < suc m → (j < m) ⊎ (j ≡ m)
@@ -23,11 +25,6 @@ below_or_last j m less = elim (nat_eq_or j m) [
   | inl is ↦ inr is
   | inr other ↦ inl (omega (arith, less, other))
 ]
-
--- the bit of a net as a number, and times a number
-pub one_bit : (x : Bool) → ◌≡◌ {A = ℕ} (chosen x 1) (cond x 1 0)
-one_bit true = refl
-one_bit false = refl
 
 times_bit : (x : Bool) (c : ℕ) → ◌≡◌ {A = ℕ} (cond x 1 0 * c) (chosen x c)
 times_bit true c = omega arith
@@ -113,7 +110,7 @@ module _ (bits : List Bool) (n k : ℕ) (mul : ℕ → ℕ → ℕ) (x : ℕ) (d
   register_sum : (l : ℕ) → parity bits (gathered k (λ i. where_so (bit (i + length d) l == 1) (net_at z i))) ≡ sum_of_first k (λ i. chosen (bit_at_place bits z i) (bit (i + length d) l))
   register_sum l =
       gathered_parity bits (λ i. where_so (bit (i + length d) l == 1) (net_at z i)) k
-      ∙ sum_same k (λ i. parity bits (where_so (bit (i + length d) l == 1) (net_at z i))) (λ i. chosen (bit_at_place bits z i) (bit (i + length d) l))
+      ∙ same_sum k (λ i. parity bits (where_so (bit (i + length d) l == 1) (net_at z i))) (λ i. chosen (bit_at_place bits z i) (bit (i + length d) l))
       (λ i less. where_parity bits (bit (i + length d) l) (net_at z i) (bit_at-lt (power mul x (i + length d)) l) ∙ times_bit (bit_of bits (net_at z i)) (bit (i + length d) l))
 
   one_product : (l e j : ℕ) → e < length d → j < k → parity bits (where_so (bit (e + j) l == 1) (product_net n k e j)) ≡ chosen (bit_at_place bits d e && bit_at_place bits b j) (bit (e + j) l)
@@ -125,9 +122,9 @@ module _ (bits : List Bool) (n k : ℕ) (mul : ℕ → ℕ → ℕ) (x : ℕ) (d
   product_sum : (l : ℕ) → parity bits (gathered (length d) (λ e. gathered k (λ j. where_so (bit (e + j) l == 1) (product_net n k e j)))) ≡ sum_of_first (length d) (λ e. sum_of_first k (λ j. chosen (bit_at_place bits d e && bit_at_place bits b j) (bit (e + j) l)))
   product_sum l =
       gathered_parity bits (λ e. gathered k (λ j. where_so (bit (e + j) l == 1) (product_net n k e j))) (length d)
-      ∙ sum_same (length d) (λ e. parity bits (gathered k (λ j. where_so (bit (e + j) l == 1) (product_net n k e j)))) (λ e. sum_of_first k (λ j. chosen (bit_at_place bits d e && bit_at_place bits b j) (bit (e + j) l)))
+      ∙ same_sum (length d) (λ e. parity bits (gathered k (λ j. where_so (bit (e + j) l == 1) (product_net n k e j)))) (λ e. sum_of_first k (λ j. chosen (bit_at_place bits d e && bit_at_place bits b j) (bit (e + j) l)))
       (λ e within. gathered_parity bits (λ j. where_so (bit (e + j) l == 1) (product_net n k e j)) k
-      ∙ sum_same k (λ j. parity bits (where_so (bit (e + j) l == 1) (product_net n k e j))) (λ j. chosen (bit_at_place bits d e && bit_at_place bits b j) (bit (e + j) l))
+      ∙ same_sum k (λ j. parity bits (where_so (bit (e + j) l == 1) (product_net n k e j))) (λ j. chosen (bit_at_place bits d e && bit_at_place bits b j) (bit (e + j) l))
       (λ j less. one_product l e j within less))
 
   pub sum_is : (l : ℕ) → l < k → chosen (bit_at_place bits (sums_from n k mul x d b z).nets l) 1 ≡ digit_step_sum k mul x (length d) (bit_at_place bits z) (bit_at_place bits d) (bit_at_place bits b) l

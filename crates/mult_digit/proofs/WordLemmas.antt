@@ -10,6 +10,7 @@ use Rattle.net_words.specs.Variables.{bits}
 use Rattle.net_words.specs.declared.word.Role.TheVariants.{Input, State, Fed, Output}
 use Rattle.net_words.specs.declared.word.WordText.{WordText}
 use Rattle.circuit_model.specs.JobOfBinding.{job_words_of}
+use Rattle.make_laws.proofs.DigitRunLemmas.{has_place}
 use Rattle.make_nets.specs.Form.{role_count, same_bases}
 use Rattle.make_nets.specs.Ports.{numbered, role_nets, word_names}
 use Rattle.make_laws.specs.Held.{net_at}
@@ -19,12 +20,6 @@ use Rattle.mult_digit.specs.DigitForm.{AreDigitWords}
 -- a net of a range by its place
 pub range_at : (a n i : ℕ) → i < n → net_at (range_with_len a n) i ≡ a + i
 range_at a n i less = get_or-range_with_len a n i 0 less
-
--- a net by its place is one of them
-pub has_place : (ns : List ℕ) (j : ℕ) → j < length ns → Has ns (net_at ns j)
-has_place [] j h = absurd (omega arith)
-has_place (n ∷ ns) zero h = (0, refl)
-has_place (n ∷ ns) (suc j) h = let has = has_place ns j (omega arith) in (suc has.0, has.1)
 
 pub has_range : (a n i : ℕ) → i < n → Has (range_with_len a n) (a + i)
 has_range a n i less = subst (λ (m : ℕ). Has (range_with_len a n) m) (range_at a n i less) (has_place (range_with_len a n) i (omega (arith, less, length-range_with_len a n)))

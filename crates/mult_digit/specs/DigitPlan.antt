@@ -5,27 +5,24 @@ use Rattle.std.specs.Int.{bit_at}
 use Rattle.gf_field.specs.Power.{power}
 use Rattle.net_core.specs.LatchValue.{LatchValue}
 use Rattle.net_core.specs.declared.latch.Start.TheVariants.{Zero}
-use Rattle.make_nets.specs.Plan.{Plan, begun, each, gathered, where_so, with_and, with_chain, chain_net}
+use Rattle.make_nets.specs.Plan.{Plan, begun, each, gathered, where_so, with_chain, chain_net}
 use Rattle.make_laws.specs.Held.{net_at}
+use Rattle.mult_gen.specs.Chains.{added_in_row, product_row}
 
 -- the products of bit e of a digit and the k bits j of b, by j
 abbrev pub with_row : ℕ → List ℕ → List ℕ → ℕ → Plan → Plan
-with_row k d b e plan = each k (λ j. with_and None (net_at d e) (net_at b j)) plan
+with_row k d b e = product_row k (net_at d e) b
 
 -- all products, by e and then j, where inner nets are numbered from n
 abbrev pub products_from : ℕ → ℕ → List ℕ → List ℕ → Plan
 products_from n k d b = each (length d) (with_row k d b) (begun n)
-
--- the net of the product of bits e and j
-abbrev pub product_net : ℕ → ℕ → ℕ → ℕ → ℕ
-product_net n k e j = n + k * e + j
 
 -- The nets whose sum bit l of the product takes: the bits i of z for which bit l of x^(i + D) is 1, and then the products of
 -- bits e and j for which bit l of x^(e + j) is 1; D is the width of a digit.
 abbrev pub summands : ℕ → ℕ → (ℕ → ℕ → ℕ) → ℕ → ℕ → List ℕ → ℕ → List ℕ
 summands n k mul x width z l =
     gathered k (λ i. where_so (bit_at (power mul x (i + width)) l == 1) (net_at z i))
-    ++ gathered width (λ e. gathered k (λ j. where_so (bit_at (power mul x (e + j)) l == 1) (product_net n k e j)))
+    ++ gathered width (λ e. added_in_row (power mul x) (n + k * e) e l k)
 
 -- the gates so far, and the nets of the sums
 pub record Sums : Type 0 where

@@ -1,15 +1,11 @@
--- The net list of a multiplier digit by digit for a signature, and what it computes. Source: this project's own, docs/FORMATS.md.
+-- The net list of a multiplier digit by digit for a signature. Source: this project's own, docs/FORMATS.md.
 use Rattle.std.specs.Prelude.{◌≡◌, ℕ}
 use Rattle.net_core.specs.NetList.{NetList}
 use Rattle.net_signature.specs.Signature.{SignatureValue}
-use Rattle.make_laws.specs.DigitNets.{unit_basis}
-use Rattle.mult_digit.specs.ComputesFed.{ComputesFed}
 use Rattle.mult_digit.specs.DigitForm.{HasDigitForm}
 use Rattle.mult_digit.specs.DigitNet.{digit_net}
 
--- The signature has the form, and this is its net list over the field of 2 to the k elements with this product and the root x:
--- it computes the product after k / D cycles, where digits have D bits.
+-- the signature has the form, and this is its net list over the field of 2 to the k elements with this product and the root x
 pub record IsDigitNet (k : ℕ) (mul : ℕ → ℕ → ℕ) (x : ℕ) (signature : SignatureValue) (net : NetList) : Type 0 where
   pub form : HasDigitForm k signature
   pub is : net ≡ digit_net k mul x form.width signature.words signature.feeds
-  pub product : ComputesFed k mul net signature.words signature.feeds (unit_basis k) form.feeds.count mul

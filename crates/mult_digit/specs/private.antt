@@ -1,3 +1,4 @@
 pub mod Front
 pub mod Powers
+pub mod ProductNets
 pub mod Words

@@ -119,7 +119,7 @@ fn are_lines(k: u32, width: u32, feeds: &[FeedText]) -> bool
     true
 }
 
-// The same, where the width may not divide k.
+// Whether the lines feed digits of so many bits, where that number may not divide k.
 fn are_digits(k: u32, width: u32, feeds: &[FeedText]) -> bool
     requires some { 1 ≤ width }
     requires few { k ≤ 64 }

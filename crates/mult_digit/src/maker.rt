@@ -1,4 +1,4 @@
-//! The multiplier.
+//! The multiplier that takes one factor digit by digit: its products, sums, latches and nets put together.
 ghost use Rattle.std.specs.Prelude.{◌≡◌, ◌≤◌, IfOk, OnOk, IsErrOf, IfSome, IsSome, length};
 ghost use Rattle.gf_field.specs.Ring2k.{degree_of, modulus_of};
 ghost use Rattle.gf_field.specs.Bit.{bit_mul};
@@ -11,6 +11,7 @@ ghost use Rattle.make_nets.specs.MakerNames.{AreMakerNames};
 ghost use Rattle.make_nets.specs.Ports.{outer_names};
 ghost use Rattle.make_laws.specs.Indeterminate.{x_of};
 ghost use Rattle.mult_gen.specs.Form.{AreWide};
+ghost use Rattle.mult_digit.specs.ComputesFed.{ComputesDigits};
 ghost use Rattle.mult_digit.specs.DigitForm.{AreDigitWords, HasDigitForm, fed_names};
 ghost use Rattle.mult_digit.specs.DigitNet.{net_over};
 ghost use Rattle.mult_digit.specs.IsDigitNet.{IsDigitNet};
@@ -108,6 +109,7 @@ pub fn digit_serial(
     ensures made { IfOk result (λ net. IsDigitNet (degree_of (ring_of ring.now)) (product 1 (degree_of (ring_of ring.now)) bit_mul (modulus_of (ring_of ring.now))) (x_of (degree_of (ring_of ring.now)) (modulus_of (ring_of ring.now))) signature.now net) }
     ensures sound { IfOk result (λ net. IsSound net) }
     ensures plain { IfOk result (λ net. HasPlainNames net) }
+    ensures computes { IfOk result (λ net. ComputesDigits (degree_of (ring_of ring.now)) (product 1 (degree_of (ring_of ring.now)) bit_mul (modulus_of (ring_of ring.now))) (x_of (degree_of (ring_of ring.now)) (modulus_of (ring_of ring.now))) signature.now net) }
     ensures form { OnOk result (HasDigitForm (degree_of (ring_of ring.now)) signature.now) }
     ensures unfit { IsErrOf result MakeFault.Unfit → HasDigitForm (degree_of (ring_of ring.now)) signature.now → ⊥ }
 {

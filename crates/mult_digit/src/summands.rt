@@ -4,8 +4,9 @@ ghost use Rattle.std.specs.Int.{bit_at};
 ghost use Rattle.gf_field.specs.Power.{power};
 ghost use Rattle.make_nets.specs.Plan.{gathered, where_so};
 ghost use Rattle.make_laws.specs.Held.{net_at};
-ghost use Rattle.mult_digit.specs.DigitPlan.{product_net, summands as summands_of};
+ghost use Rattle.mult_digit.specs.DigitPlan.{summands as summands_of};
 ghost use Rattle.mult_digit.specs.private.Powers.{ArePowers};
+ghost use Rattle.mult_digit.specs.private.ProductNets.{product_net};
 
 use crate::powers::has_bit;
 use gf_field::Ring;

@@ -3,7 +3,8 @@ use Rattle.std.proofs.Common.{◌≡◌, ◌∙◌, ap, ap₂, sym, refl, subst,
 use Rattle.std.specs.Prelude.{slice_index, bit_xor}
 use Rattle.std.specs.Int.Bits.{xor_lt}
 use Rattle.lists.specs.Lists.{Has}
-use Rattle.make_laws.proofs.BitLemmas.{bit_at-sum}
+use Rattle.lists.specs.laws.XorLaws.{bit_at-sum}
+use Rattle.circuit_model.proofs.WordLemmas.{index_small}
 use Rattle.net_core.specs.Value.{index_of}
 use Rattle.make_nets.specs.Plan.{begun, each, gathered, with_xor}
 use Rattle.make_nets.specs.PlanShape.{IsWellMade}
@@ -11,7 +12,7 @@ use Rattle.make_nets.specs.PlanValue.{Agrees, bit_at_net}
 use Rattle.make_nets.proofs.EachLemmas.{agrees_each}
 use Rattle.make_nets.proofs.ShapeLemmas.{begun_made, xor_made}
 use Rattle.make_nets.proofs.ValueLemmas.{agrees_before, xor_value}
-use Rattle.make_nets.proofs.PolyLemmas.{index_bit, index_low}
+use Rattle.make_nets.proofs.PolyLemmas.{index_bit}
 use Rattle.mult_gen.specs.Chains.{adder_plan}
 use Rattle.mult_gen.proofs.ChainLemmas.{gathered_all}
 use Rattle.mult_gen.proofs.PolyLemmas.{index_is}
@@ -26,7 +27,7 @@ module _ (outer k : ℕ) (a b z : List ℕ) (a_long : length a ≡ k) (b_long : 
   pub adder_sum : (bits : List Bool) → Agrees bits (adder_plan outer k a b z) → index_of bits z ≡ bit_xor (index_of bits a) (index_of bits b)
   adder_sum bits agrees =
       index_is bits z k (bit_xor (index_of bits a) (index_of bits b)) z_long
-      (xor_lt k (index_of bits a) (index_of bits b) (omega (arith, index_low bits a, ap (λ n. 2 ^ n) a_long)) (omega (arith, index_low bits b, ap (λ n. 2 ^ n) b_long)))
+      (xor_lt k (index_of bits a) (index_of bits b) (omega (arith, index_small bits a, ap (λ n. 2 ^ n) a_long)) (omega (arith, index_small bits b, ap (λ n. 2 ^ n) b_long)))
       (λ l less. bit_sum bits l agrees less
       ∙ (ap₂ bit_xor (sym (index_bit bits a l (omega (arith, less, a_long)))) (sym (index_bit bits b l (omega (arith, less, b_long))))
       ∙ sym (bit_at-sum (index_of bits a) (index_of bits b) l)))

@@ -1,6 +1,7 @@
 -- Chains into the bits of a word.
 use Rattle.std.proofs.Common.{◌≡◌, ◌∙◌, ap, sym, refl, ℕ, zero, suc, ◌<◌, ◌≤◌, ◌+◌, ◌*◌, Bool, true, false, List, [], ◌∷◌, ◌++◌, length, take, None, Some, arith}
 use Rattle.std.specs.Prelude.{slice_index}
+use Rattle.std.proofs.Math.Nat.{suc-mul}
 use Rattle.lists.specs.Lists.{Has}
 use Rattle.make_nets.specs.Plan.{Plan, each, gathered, where_so, with_chain}
 use Rattle.make_nets.specs.PlanShape.{IsWellMade}
@@ -41,18 +42,12 @@ module _ (k : ℕ) (z : List ℕ) (lists : ℕ → List ℕ) (plan : Plan) where
   pub chains_next : (n m : ℕ) → ((l : ℕ) → l < n → length (lists l) < m) → (each n (λ l. with_chain (Some (slice_index z l)) (lists l)) plan).next ≤ plan.next + n * m
   chains_next zero m few = omega arith
   chains_next (suc n) m few =
-      omega (arith, chains_next n m (λ l less. few l (omega (arith, less))), few n (omega arith), (chain_grows (Some (slice_index z n)) (lists n) (each n (λ l. with_chain (Some (slice_index z l)) (lists l)) plan)).1, one_more n m)
-    where
-      one_more : (n m : ℕ) → suc n * m ≡ n * m + m
-      one_more n m = omega arith
+      omega (arith, chains_next n m (λ l less. few l (omega (arith, less))), few n (omega arith), (chain_grows (Some (slice_index z n)) (lists n) (each n (λ l. with_chain (Some (slice_index z l)) (lists l)) plan)).1, suc-mul n m)
 
 -- lists that are no longer than m each
 pub gathered_few : (f : ℕ → List ℕ) (n m : ℕ) → ((i : ℕ) → i < n → length (f i) ≤ m) → length (gathered n f) ≤ n * m
 gathered_few f zero m few = omega arith
-gathered_few f (suc n) m few = omega (arith, append_long (gathered n f) (f n), gathered_few f n m (λ i less. few i (omega (arith, less))), few n (omega arith), one_more n m)
-  where
-    one_more : (n m : ℕ) → suc n * m ≡ n * m + m
-    one_more n m = omega arith
+gathered_few f (suc n) m few = omega (arith, append_long (gathered n f) (f n), gathered_few f n m (λ i less. few i (omega (arith, less))), few n (omega arith), suc-mul n m)
 
 pub where_few : (so : Bool) (n : ℕ) → length (where_so so n) ≤ 1
 where_few true n = omega arith

@@ -2,6 +2,7 @@
 use Rattle.std.proofs.Common.{◌≡◌, ◌∙◌, ap, ap₂, sym, refl, ℕ, ◌<◌, ◌≤◌, ◌^◌, List, [], length, take, drop, arith}
 use Rattle.std.specs.Prelude.{bit_xor, slice_index}
 use Rattle.lists.specs.Lists.{Has}
+use Rattle.lists.specs.laws.HasLaws.{none_stands}
 use Rattle.gf_field.specs.Bit.{bit_mul}
 use Rattle.gf_field.specs.Field.{HasNoZeroDivisors}
 use Rattle.gf_field.specs.Modulus.{IsModulus}
@@ -64,9 +65,6 @@ module _ (k g : ℕ) (small : k ≤ 64) (words : List WordText) (has : HasWords 
       (squarer_made (outer_of words) k g (inputs_in words) (outputs_in words) small one_long (outputs_long 1 k words has wide) (inputs_in words) (λ i less. index_has (inputs_in words) i (omega (arith, less, one_long))) (output_low 1 k words has wide))
       (omega (arith, squarer_few (outer_of words) k g (inputs_in words) (outputs_in words) small one_long (outputs_long 1 k words has wide), outer_few k 1 words small (omega arith) has wide, small))
 
-none_fed : {X : Type 0} (n : ℕ) → Has [] n → X
-none_fed n has = absurd (let got = has.1 in cc)
-
 -- the multiplier gives the product
 pub mastrovito_computes : (k g : ℕ) → IsModulus k g → HasNoZeroDivisors k (product 1 k bit_mul g) → (words : List WordText) → HasWords Input 2 words → AllWide k words → AreMakerNames (outer_names words []) → ComputesOfTwo k (product 1 k bit_mul g) (made_mastrovito k g words) words (first_values k (λ i. 2 ^ i)) 0 (product 1 k bit_mul g)
 mastrovito_computes k g ok field words has wide are =
@@ -74,7 +72,7 @@ mastrovito_computes k g ok field words has wide are =
     let ring : IsRing k (product 1 k bit_mul g) = IsRing-from_modulus k g ok in
     let fits : IsPlanFor words [] [] (outputs_in words) (mastrovito_plan (outer_of words) k g (take k (inputs_in words)) (drop k (inputs_in words)) (outputs_in words)) = mastrovito_fits k g ok.small words has wide in
     computes_two k (product 1 k bit_mul g) ring field (made_mastrovito k g words) (made_sound words [] [] (outputs_in words) (mastrovito_plan (outer_of words) k g (take k (inputs_in words)) (drop k (inputs_in words)) (outputs_in words)) are fits) words (first_values k (λ i. 2 ^ i)) (powers_basis k) 0 wide ok.some ok.small (product 1 k bit_mul g) has
-    (made_binds words [] [] (outputs_in words) (mastrovito_plan (outer_of words) k g (take k (inputs_in words)) (drop k (inputs_in words)) (outputs_in words)) are fits [] [] (held 2 k words has wide) refl (λ n h. none_fed n h))
+    (made_binds words [] [] (outputs_in words) (mastrovito_plan (outer_of words) k g (take k (inputs_in words)) (drop k (inputs_in words)) (outputs_in words)) are fits [] [] (held 2 k words has wide) refl (λ n h. none_stands n h))
     (λ bits consistent a b e low high first second out.
     poly_element k e (index_of bits (outputs_in words)) out
     ∙ (mastrovito_product (outer_of words) k g (take k (inputs_in words)) (drop k (inputs_in words)) (outputs_in words) ok.small (take_long 2 k words has wide (omega arith)) (drop_long k words has wide) (outputs_long 2 k words has wide) bits ring (product_bits k g ok)
@@ -87,7 +85,7 @@ squarer_computes k g ok field words has wide are =
     let ring : IsRing k (product 1 k bit_mul g) = IsRing-from_modulus k g ok in
     let fits : IsPlanFor words [] [] (outputs_in words) (squarer_plan (outer_of words) k g (inputs_in words) (outputs_in words)) = squarer_fits k g ok.small words has wide in
     computes_one k (product 1 k bit_mul g) ring field (made_squarer k g words) (made_sound words [] [] (outputs_in words) (squarer_plan (outer_of words) k g (inputs_in words) (outputs_in words)) are fits) words (first_values k (λ i. 2 ^ i)) (powers_basis k) 0 wide ok.some ok.small (λ a. product 1 k bit_mul g a a) has
-    (made_binds words [] [] (outputs_in words) (squarer_plan (outer_of words) k g (inputs_in words) (outputs_in words)) are fits [] [] (held 1 k words has wide) refl (λ n h. none_fed n h))
+    (made_binds words [] [] (outputs_in words) (squarer_plan (outer_of words) k g (inputs_in words) (outputs_in words)) are fits [] [] (held 1 k words has wide) refl (λ n h. none_stands n h))
     (λ bits consistent a e low first out.
     poly_element k e (index_of bits (outputs_in words)) out
     ∙ (squarer_square (outer_of words) k g (inputs_in words) (outputs_in words) ok.small (one_long k g ok.small words has wide) (outputs_long 1 k words has wide) bits ring (square_bits k g ok)
@@ -99,7 +97,7 @@ pub adder_computes : (k : ℕ) (mul : ℕ → ℕ → ℕ) → IsRing k mul → 
 adder_computes k mul ring field basis is_basis words has wide are =
     let fits : IsPlanFor words [] [] (outputs_in words) (adder_plan (outer_of words) k (take k (inputs_in words)) (drop k (inputs_in words)) (outputs_in words)) = adder_fits k 0 ring.small words has wide in
     computes_two k mul ring field (made_adder k words) (made_sound words [] [] (outputs_in words) (adder_plan (outer_of words) k (take k (inputs_in words)) (drop k (inputs_in words)) (outputs_in words)) are fits) words basis is_basis 0 wide ring.some ring.small bit_xor has
-    (made_binds words [] [] (outputs_in words) (adder_plan (outer_of words) k (take k (inputs_in words)) (drop k (inputs_in words)) (outputs_in words)) are fits [] [] (held 2 k words has wide) refl (λ n h. none_fed n h))
+    (made_binds words [] [] (outputs_in words) (adder_plan (outer_of words) k (take k (inputs_in words)) (drop k (inputs_in words)) (outputs_in words)) are fits [] [] (held 2 k words has wide) refl (λ n h. none_stands n h))
     (λ bits consistent a b e low high first second out.
     let sum = adder_sum (outer_of words) k (take k (inputs_in words)) (drop k (inputs_in words)) (outputs_in words) (take_long 2 k words has wide (omega arith)) (drop_long k words has wide) (outputs_long 2 k words has wide) bits
     (agrees_of words (adder_plan (outer_of words) k (take k (inputs_in words)) (drop k (inputs_in words)) (outputs_in words)) bits consistent) in

@@ -1,5 +1,6 @@
 -- Forms of signatures.
 use Rattle.std.proofs.Common.{◌≡◌, inl, inr, sym, subst, ℕ, ◌<◌, ◌≤◌, ◌^◌, List, [], length, map, arith}
+use Rattle.lists.specs.laws.NumberLaws.{mul_few}
 use Rattle.net_words.specs.declared.feed.FeedText.{FeedText}
 use Rattle.net_words.specs.declared.word.Role.TheVariants.{Input, State}
 use Rattle.net_words.specs.declared.word.WordText.{WordText}
@@ -7,7 +8,6 @@ use Rattle.make_nets.specs.Form.{AllWide, HasWords}
 use Rattle.make_nets.specs.Ports.{outer_names}
 use Rattle.make_nets.proofs.FormLemmas.{names_long, words_one_of}
 use Rattle.mult_gen.specs.Form.{AreWide}
-use Rattle.mult_gen.proofs.BoundLemmas.{mul_few}
 use Rattle.mult_gen.proofs.PlanLemmas.{outer_are}
 
 -- the names of the words are few

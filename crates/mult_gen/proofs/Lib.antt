@@ -1,4 +1,3 @@
-pub mod BoundLemmas
 pub mod ProductLemmas
 pub mod ChainLemmas
 pub mod PlanLemmas

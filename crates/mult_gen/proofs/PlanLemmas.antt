@@ -4,6 +4,7 @@ use Rattle.std.specs.Prelude.{slice_index}
 use Rattle.std.proofs.Math.Nat.{mul-le-mul_right}
 use Rattle.lists.specs.Lists.{Has, times}
 use Rattle.lists.specs.laws.HasLaws.{Has_left, Has_right}
+use Rattle.lists.specs.laws.NumberLaws.{mul_few}
 use Rattle.net_core.specs.Value.{IsConsistent}
 use Rattle.net_words.specs.declared.word.Role.TheVariants.{Input, State, Output}
 use Rattle.net_words.specs.declared.word.WordText.{WordText}
@@ -20,7 +21,6 @@ use Rattle.make_nets.proofs.FormLemmas.{names_long, nets_long, no_nets, roles_on
 use Rattle.make_nets.proofs.FrontLemmas.{take_drop}
 use Rattle.make_nets.proofs.MakeLemmas.{role_low}
 use Rattle.mult_gen.specs.Form.{inputs_in, outer_of, outputs_in}
-use Rattle.mult_gen.proofs.BoundLemmas.{mul_few}
 use Rattle.mult_gen.proofs.ChainLemmas.{index_has}
 
 pub sources_are : (words : List WordText) → driven_outside (inputs_of words []) [] ≡ inputs_in words

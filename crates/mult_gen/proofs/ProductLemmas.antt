@@ -1,6 +1,7 @@
 -- The products of the bits of two words.
 use Rattle.std.proofs.Common.{◌≡◌, ◌∙◌, ap, sym, inl, ℕ, zero, suc, ◌<◌, ◌+◌, ◌*◌, Bool, List, [], ◌∷◌, None, arith}
 use Rattle.std.specs.Prelude.{slice_index}
+use Rattle.std.proofs.Math.Nat.{suc-mul}
 use Rattle.lists.specs.Lists.{Has}
 use Rattle.make_nets.specs.Plan.{Plan, each, with_and}
 use Rattle.make_nets.specs.PlanShape.{IsWellMade}
@@ -16,10 +17,7 @@ row_next (suc n) x b plan = omega (arith, row_next n x b plan)
 
 pub rows_next : (n k : ℕ) (a b : List ℕ) (plan : Plan) → (each n (λ i. product_row k (slice_index a i) b) plan).next ≡ plan.next + n * k
 rows_next zero k a b plan = omega arith
-rows_next (suc n) k a b plan = omega (arith, rows_next n k a b plan, row_next k (slice_index a n) b (each n (λ i. product_row k (slice_index a i) b) plan), one_more n k)
-  where
-    one_more : (n k : ℕ) → suc n * k ≡ n * k + k
-    one_more n k = omega arith
+rows_next (suc n) k a b plan = omega (arith, rows_next n k a b plan, row_next k (slice_index a n) b (each n (λ i. product_row k (slice_index a i) b) plan), suc-mul n k)
 
 row_before : (bits : List Bool) (n x : ℕ) (b : List ℕ) (plan : Plan) → Agrees bits (product_row n x b plan) → Agrees bits plan
 row_before bits n x b plan = agrees_each bits (λ j. with_and None x (slice_index b j)) plan 0 n (λ j p. agrees_before bits None (x ∷ slice_index b j ∷ []) 8 p) (omega arith)
@@ -28,6 +26,9 @@ row_value : (bits : List Bool) (n x : ℕ) (b : List ℕ) (plan : Plan) (j : ℕ
 row_value bits n x b plan j agrees less =
     let there : Agrees bits (with_and None x (slice_index b j) (product_row j x b plan)) = agrees_each bits (λ j. with_and None x (slice_index b j)) plan (suc j) n (λ j p. agrees_before bits None (x ∷ slice_index b j ∷ []) 8 p) less agrees in
     ap (bit_at_net bits) (sym (row_next j x b plan)) ∙ and_value bits None x (slice_index b j) (product_row j x b plan) there
+
+pub products_before : (bits : List Bool) (k : ℕ) (a b : List ℕ) (plan : Plan) → Agrees bits (products k a b plan) → Agrees bits plan
+products_before bits k a b plan = agrees_each bits (λ i. product_row k (slice_index a i) b) plan 0 k (λ i p. row_before bits k (slice_index a i) b p) (omega arith)
 
 -- the net of each product has the product of both bits
 pub product_value : (bits : List Bool) (k : ℕ) (a b : List ℕ) (plan : Plan) (i j : ℕ) → Agrees bits (products k a b plan) → i < k → j < k → bit_at_net bits (plan.next + i * k + j) ≡ bit_at_net bits (slice_index a i) * bit_at_net bits (slice_index b j)

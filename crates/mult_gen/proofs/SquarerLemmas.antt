@@ -4,13 +4,15 @@ use Rattle.std.specs.Prelude.{slice_index, ◌==◌}
 use Rattle.std.specs.Int.{bit_at}
 use Rattle.std.proofs.lemmas.Nat.Bits.{bit_at-lt}
 use Rattle.lists.specs.Lists.{Has}
+use Rattle.lists.specs.laws.NumberLaws.{mul_few}
+use Rattle.circuit_model.proofs.WordLemmas.{index_small}
+use Rattle.gf_field.proofs.SharedLemmas.{same_sum}
 use Rattle.gf_field.specs.Bit.{bit_mul}
 use Rattle.gf_field.specs.Polynomial.{sum_of_first}
 use Rattle.gf_field.specs.Quotient.{product}
 use Rattle.gf_field.specs.Ring.{IsRing}
 use Rattle.net_core.specs.Value.{index_of}
 use Rattle.make_laws.specs.ProductBits.{x_to, HasSquareBits}
-use Rattle.make_laws.proofs.SumLemmas.{sum_same}
 use Rattle.make_nets.specs.Plan.{begun, where_so}
 use Rattle.make_nets.specs.PlanShape.{IsWellMade}
 use Rattle.make_nets.specs.PlanValue.{Agrees, parity}
@@ -18,9 +20,8 @@ use Rattle.make_nets.proofs.OuterNets.{CanRead}
 use Rattle.make_nets.proofs.EachLemmas.{gathered_has}
 use Rattle.make_nets.proofs.ShapeLemmas.{begun_made}
 use Rattle.make_nets.proofs.ValueLemmas.{gathered_parity, where_parity}
-use Rattle.make_nets.proofs.PolyLemmas.{index_bit, index_low}
+use Rattle.make_nets.proofs.PolyLemmas.{index_bit}
 use Rattle.mult_gen.specs.Chains.{added_bits, squarer_plan}
-use Rattle.mult_gen.proofs.BoundLemmas.{mul_few}
 use Rattle.mult_gen.proofs.ChainLemmas.{chains_made, chains_next, chains_value, gathered_all, gathered_few, where_few, where_has}
 use Rattle.mult_gen.proofs.PolyLemmas.{index_is}
 
@@ -33,7 +34,7 @@ module _ (outer k g : ℕ) (a z : List ℕ) (few : k ≤ 64) (a_long : length a 
   list_parity : (bits : List Bool) (l : ℕ) → parity bits (added_bits k g a l) ≡ sum_of_first k (λ i. bit_at (index_of bits a) i * bit_at (x_to k g (2 * i)) l)
   list_parity bits l =
       gathered_parity bits (λ i. where_so (bit_at (x_to k g (2 * i)) l == 1) (slice_index a i)) k
-      ∙ sum_same k (λ i. parity bits (where_so (bit_at (x_to k g (2 * i)) l == 1) (slice_index a i))) (λ i. bit_at (index_of bits a) i * bit_at (x_to k g (2 * i)) l)
+      ∙ same_sum k (λ i. parity bits (where_so (bit_at (x_to k g (2 * i)) l == 1) (slice_index a i))) (λ i. bit_at (index_of bits a) i * bit_at (x_to k g (2 * i)) l)
       (λ i low. where_parity bits (bit_at (x_to k g (2 * i)) l) (slice_index a i) (bit_at-lt (x_to k g (2 * i)) l)
       ∙ ap (λ n. n * bit_at (x_to k g (2 * i)) l) (sym (index_bit bits a i (omega (arith, low, a_long)))))
 
@@ -42,7 +43,7 @@ module _ (outer k g : ℕ) (a z : List ℕ) (few : k ≤ 64) (a_long : length a 
   squarer_square bits ring by_bits agrees =
       index_is bits z k (product 1 k bit_mul g (index_of bits a) (index_of bits a)) z_long (ring.closed (index_of bits a) (index_of bits a))
       (λ l less. chains_value k z (added_bits k g a) (begun outer) bits l agrees less
-      ∙ (list_parity bits l ∙ sym (by_bits (index_of bits a) l (omega (arith, index_low bits a, ap (λ n. 2 ^ n) a_long)))))
+      ∙ (list_parity bits l ∙ sym (by_bits (index_of bits a) l (omega (arith, index_small bits a, ap (λ n. 2 ^ n) a_long)))))
 
   -- the plan drives z from the factor
   pub squarer_made : (sources : List ℕ) → ((i : ℕ) → i < k → Has sources (slice_index a i)) → ((l : ℕ) → l < k → slice_index z l < outer) → IsWellMade outer sources z (squarer_plan outer k g a z)

@@ -16,10 +16,14 @@ product_row n x b = each n (λ j. with_and None x (slice_index b j))
 abbrev pub products : ℕ → List ℕ → List ℕ → Plan → Plan
 products k a b = each k (λ i. product_row k (slice_index a i) b)
 
--- of the products of bit i of a and the first n bits of b, which are numbered from first, those that add to bit l: bit l of
--- x^(i + j) is 1, modulo g, which has degree k
+-- of the products of bit i of a and the first n bits of b, which are numbered from first, those that add to bit l, where
+-- `power e` is x^e: bit l of x^(i + j) is 1
+abbrev pub added_in_row : (power : ℕ → ℕ) → (first i l n : ℕ) → List ℕ
+added_in_row power first i l n = gathered n (λ j. where_so (bit_at (power (i + j)) l == 1) (first + j))
+
+-- those modulo g, which has degree k
 abbrev pub added_row : (k g first i l n : ℕ) → List ℕ
-added_row k g first i l n = gathered n (λ j. where_so (bit_at (x_to k g (i + j)) l == 1) (first + j))
+added_row k g first i l n = added_in_row (x_to k g) first i l n
 
 -- of all products, which are numbered from first, those that add to bit l, by the first and then by the second
 abbrev pub added_products : (k g first l : ℕ) → List ℕ

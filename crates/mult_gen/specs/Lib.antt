@@ -1,3 +1,3 @@
 pub mod Chains
+pub mod Powers
 pub mod Form
-pub mod private

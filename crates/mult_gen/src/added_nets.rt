@@ -3,7 +3,7 @@ ghost use Rattle.std.specs.Prelude.{◌≡◌, ◌<◌, ◌≤◌, ◌+◌, ◌*
 ghost use Rattle.gf_field.specs.Ring2k.{degree_of, modulus_of};
 ghost use Rattle.irreducible.specs.Proved.{ring_of};
 ghost use Rattle.mult_gen.specs.Chains.{added_bits as added_bits_of, added_products as added_products_of, added_row};
-ghost use Rattle.mult_gen.specs.private.Powers.{ArePowers};
+ghost use Rattle.mult_gen.specs.Powers.{ArePowers};
 
 use crate::powers::has_bit;
 use gf_field::Ring2k;
@@ -34,8 +34,8 @@ fn push_row(
     Ok(())
 }
 
-/// The products, numbered from first, that add to bit l of the product of two factors.
-pub(crate) fn added_products(
+/// The products, numbered from `first`, that add to bit l of the product of two factors of k bits; `powers` are those of x.
+pub fn added_products(
     alloc: Global,
     ring: &Proved<Ring2k>,
     powers: &[u64],

@@ -2,6 +2,7 @@
 ghost use Rattle.std.specs.Prelude.{◌≡◌, ◌≤◌, ◌<◌, List, ℕ, IfOk, OnOk, IsErrOf, bit_xor, drop, length, take};
 ghost use Rattle.gf_basis.specs.Basis.{IsBasis};
 ghost use Rattle.net_words.specs.declared.word.Role.TheVariants.{Input};
+ghost use Rattle.net_core.specs.Sound.{IsSound};
 ghost use Rattle.net_write.specs.Plain.{HasPlainNames};
 ghost use Rattle.make_nets.specs.Computes.{ComputesOfTwo};
 ghost use Rattle.make_nets.specs.Form.{AllWide, HasWords};
@@ -57,6 +58,7 @@ fn plan_of(alloc: Global, k: u32, signature: &Signature) -> Result<PlanMaker, Al
 pub fn adder<F: Field>(alloc: Global, field: &F, signature: &Signature) -> Result<Net, MakeFault>
     requires wide { AreWide (F.degree field.now) signature.now.words }
     ensures made { IfOk result (λ net. net ≡ made_adder (F.degree field.now) signature.now.words) }
+    ensures sound { IfOk result (λ net. IsSound net) }
     ensures plain { IfOk result (λ net. HasPlainNames net) }
     ensures computes { IfOk result (λ net. (basis : List ℕ) → IsBasis (F.degree field.now) basis → ComputesOfTwo (F.degree field.now) (F.product field.now) net signature.now.words basis 0 bit_xor) }
     ensures form { OnOk result (HasAdderForm signature.now) }

@@ -13,11 +13,13 @@ mod powers;
 mod products;
 mod squarers;
 
+pub use added_nets::added_products;
 pub use adders::adder;
 pub use fault::MakeFault;
 pub use form::{poly_ports, ports};
 pub use multiplier::mastrovito;
 pub use mutation::mutate;
 pub use nets::{inputs, net_of, outer, outputs};
-pub use powers::{has_bit, indeterminate};
+pub use powers::{has_bit, indeterminate, powers_of_x};
+pub use products::bit_products;
 pub use squarers::squarer;

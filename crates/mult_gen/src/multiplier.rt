@@ -1,10 +1,11 @@
-//! Multipliers.
+//! Mastrovito's multiplier.
 ghost use Rattle.std.specs.Prelude.{◌≡◌, ◌≤◌, ◌<◌, ◌+◌, ◌*◌, ◌^◌, Some, IfOk, OnOk, IsErrOf, drop, length, take};
 ghost use Rattle.gf_field.specs.Bit.{bit_mul};
 ghost use Rattle.gf_field.specs.Quotient.{product};
 ghost use Rattle.gf_field.specs.Ring2k.{degree_of, modulus_of};
 ghost use Rattle.gf_basis.specs.Basis.{first_values};
 ghost use Rattle.irreducible.specs.Proved.{ring_of};
+ghost use Rattle.net_core.specs.Sound.{IsSound};
 ghost use Rattle.net_write.specs.Plain.{HasPlainNames};
 ghost use Rattle.make_nets.specs.Computes.{ComputesOfTwo};
 ghost use Rattle.net_words.specs.declared.word.Role.TheVariants.{Input};
@@ -12,7 +13,7 @@ ghost use Rattle.make_nets.specs.Form.{AllWide, HasWords};
 ghost use Rattle.make_nets.specs.Plan.{with_chain};
 ghost use Rattle.make_nets.specs.PlanShape.{HasRoom};
 ghost use Rattle.mult_gen.specs.Chains.{added_products as added_products_of, mastrovito_plan};
-ghost use Rattle.mult_gen.specs.private.Powers.{ArePowers};
+ghost use Rattle.mult_gen.specs.Powers.{ArePowers};
 ghost use Rattle.mult_gen.specs.Form.{AreWide, HasPolyForm, inputs_in, made_mastrovito, outer_of, outputs_in};
 
 use crate::added_nets::added_products;
@@ -20,7 +21,7 @@ use crate::fault::MakeFault;
 use crate::form::poly_ports;
 use crate::nets::{inputs, net_of, outer, outputs};
 use crate::powers::powers_of_x;
-use crate::products::products;
+use crate::products::bit_products;
 use gf_field::{Ring, Ring2k};
 use irreducible::Proved;
 use make_nets::PlanMaker;
@@ -73,7 +74,7 @@ fn gates(
     let k = z.len();
     let powers = powers_of_x(alloc, ring, 2 * k)?;
     let mut plan = PlanMaker::new(alloc, outer);
-    products(&mut plan, a, b)?;
+    bit_products(&mut plan, a, b)?;
     for l in 0..k {
         add_chain(alloc, ring, &powers, &mut plan, k, outer, l, z[l])?;
     }
@@ -111,6 +112,7 @@ pub fn mastrovito(
     requires field { modulus_of (ring_of ring.now) ≡ signature.now.modulus }
     requires wide { AreWide (degree_of (ring_of ring.now)) signature.now.words }
     ensures made { IfOk result (λ net. net ≡ made_mastrovito (degree_of (ring_of ring.now)) (modulus_of (ring_of ring.now)) signature.now.words) }
+    ensures sound { IfOk result (λ net. IsSound net) }
     ensures plain { IfOk result (λ net. HasPlainNames net) }
     ensures computes { IfOk result (λ net. ComputesOfTwo (degree_of (ring_of ring.now)) (product 1 (degree_of (ring_of ring.now)) bit_mul (modulus_of (ring_of ring.now))) net signature.now.words (first_values (degree_of (ring_of ring.now)) (λ i. 2 ^ i)) 0 (product 1 (degree_of (ring_of ring.now)) bit_mul (modulus_of (ring_of ring.now)))) }
     ensures form { OnOk result (HasPolyForm 2 signature.now) }

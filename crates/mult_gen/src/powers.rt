@@ -1,10 +1,10 @@
-//! Powers of x.
+//! The powers of x in the field of a multiplier.
 ghost use Rattle.std.specs.Prelude.{◌≡◌, ◌<◌, ◌^◌, ◌==◌, IfOk, length};
 ghost use Rattle.std.specs.Int.{bit_at};
 ghost use Rattle.gf_field.specs.Ring2k.{degree_of, modulus_of};
 ghost use Rattle.irreducible.specs.Proved.{ring_of};
 ghost use Rattle.make_laws.specs.Indeterminate.{x_of};
-ghost use Rattle.mult_gen.specs.private.Powers.{ArePowers};
+ghost use Rattle.mult_gen.specs.Powers.{ArePowers};
 
 use gf_field::{Ring, Ring2k, power};
 use irreducible::Proved;
@@ -23,7 +23,7 @@ pub fn indeterminate(ring: &Proved<Ring2k>) -> u64
 }
 
 /// The first powers of x, from x^0.
-pub(crate) fn powers_of_x(
+pub fn powers_of_x(
     alloc: Global,
     ring: &Proved<Ring2k>,
     count: usize,

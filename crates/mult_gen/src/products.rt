@@ -19,7 +19,7 @@ fn product_row(plan: &mut PlanMaker, x: u32, b: &[u32]) -> Result<(), AllocError
 }
 
 /// The products of each net of a word and each net of another, by the first and then by the second.
-pub(crate) fn products(plan: &mut PlanMaker, a: &[u32], b: &[u32]) -> Result<(), AllocError>
+pub fn bit_products(plan: &mut PlanMaker, a: &[u32], b: &[u32]) -> Result<(), AllocError>
     requires same { length a.now ≡ length b.now }
     requires few { length b.now ≤ 64 }
     requires room { HasRoom plan.old 4096 }

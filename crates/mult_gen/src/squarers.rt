@@ -6,13 +6,14 @@ ghost use Rattle.gf_field.specs.Ring2k.{degree_of, modulus_of};
 ghost use Rattle.gf_basis.specs.Basis.{first_values};
 ghost use Rattle.irreducible.specs.Proved.{ring_of};
 ghost use Rattle.net_words.specs.declared.word.Role.TheVariants.{Input};
+ghost use Rattle.net_core.specs.Sound.{IsSound};
 ghost use Rattle.net_write.specs.Plain.{HasPlainNames};
 ghost use Rattle.make_nets.specs.Computes.{ComputesOfOne};
 ghost use Rattle.make_nets.specs.Form.{AllWide, HasWords};
 ghost use Rattle.make_nets.specs.Plan.{with_chain};
 ghost use Rattle.make_nets.specs.PlanShape.{HasRoom};
 ghost use Rattle.mult_gen.specs.Chains.{added_bits as added_bits_of, squarer_plan};
-ghost use Rattle.mult_gen.specs.private.Powers.{ArePowers};
+ghost use Rattle.mult_gen.specs.Powers.{ArePowers};
 ghost use Rattle.mult_gen.specs.Form.{AreWide, HasPolyForm, inputs_in, made_squarer, outer_of, outputs_in};
 
 use crate::added_nets::added_bits;
@@ -104,6 +105,7 @@ pub fn squarer(
     requires field { modulus_of (ring_of ring.now) ≡ signature.now.modulus }
     requires wide { AreWide (degree_of (ring_of ring.now)) signature.now.words }
     ensures made { IfOk result (λ net. net ≡ made_squarer (degree_of (ring_of ring.now)) (modulus_of (ring_of ring.now)) signature.now.words) }
+    ensures sound { IfOk result (λ net. IsSound net) }
     ensures plain { IfOk result (λ net. HasPlainNames net) }
     ensures computes { IfOk result (λ net. ComputesOfOne (degree_of (ring_of ring.now)) (product 1 (degree_of (ring_of ring.now)) bit_mul (modulus_of (ring_of ring.now))) net signature.now.words (first_values (degree_of (ring_of ring.now)) (λ i. 2 ^ i)) 0 (λ a. product 1 (degree_of (ring_of ring.now)) bit_mul (modulus_of (ring_of ring.now)) a a)) }
     ensures form { OnOk result (HasPolyForm 1 signature.now) }

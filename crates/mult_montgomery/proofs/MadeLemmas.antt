@@ -1,8 +1,8 @@
 -- The multiplier over the words of a signature.
 use Rattle.std.proofs.Common.{◌≡◌, ◌≢◌, ◌∙◌, ap, sym, refl, subst, ℕ, ◌<◌, ◌≤◌, ◌+◌, ◌*◌, ◌^◌, Bool, List, [], length, take, drop, arith}
-use Rattle.std.proofs.lemmas.Option.{slice_get_within, get_or_from_slice_get}
 use Rattle.lists.specs.Lists.{Has}
 use Rattle.lists.specs.laws.HasLaws.{Has_left, Has_right}
+use Rattle.lists.specs.laws.NumberLaws.{mul_few}
 use Rattle.gf_field.specs.Bit.{bit_mul}
 use Rattle.gf_field.specs.Field.{HasNoZeroDivisors}
 use Rattle.gf_field.specs.Modulus.{IsModulus}
@@ -15,7 +15,6 @@ use Rattle.net_core.specs.Value.{index_of, IsConsistent}
 use Rattle.net_write.specs.Plain.{HasPlainNames}
 use Rattle.net_words.specs.declared.word.Role.TheVariants.{Input, Output}
 use Rattle.net_words.specs.declared.word.WordText.{WordText}
-use Rattle.make_nets.specs.PlanValue.{bit_at_net}
 use Rattle.make_nets.specs.Computes.{ComputesOfTwo}
 use Rattle.make_nets.specs.Form.{AllWide, HasWords}
 use Rattle.make_nets.specs.Made.{IsPlanFor}
@@ -25,23 +24,18 @@ use Rattle.make_nets.proofs.FormLemmas.{names_long}
 use Rattle.make_nets.proofs.FrontLemmas.{take_drop}
 use Rattle.make_nets.proofs.MadeLemmas.{made_binds, made_plain, made_sound}
 use Rattle.make_nets.proofs.MakeLemmas.{role_low}
-use Rattle.make_nets.proofs.PolyLemmas.{index_bit, poly_element}
+use Rattle.make_nets.proofs.PolyLemmas.{poly_element}
 use Rattle.make_nets.proofs.RunLemmas.{computes_two}
 use Rattle.make_nets.proofs.RowLemmas.{HaveBits}
 use Rattle.make_laws.specs.InversePower.{IsInversePower}
 use Rattle.make_laws.proofs.MontgomeryLemmas.{last_coefficient}
+use Rattle.make_nets.proofs.SharedLemmas.{index_bits}
 use Rattle.mult_gen.specs.Form.{inputs_in, outer_of, outputs_in}
-use Rattle.mult_gen.proofs.BoundLemmas.{mul_few}
 use Rattle.mult_gen.proofs.PlanLemmas.{agrees_of, drop_long, held, outputs_long, plan_for, take_long}
 use Rattle.mult_gen.proofs.PolyLemmas.{index_is, powers_basis}
 use Rattle.mult_montgomery.specs.Form.{made_montgomery, montgomery_product, plan_of_words}
 use Rattle.mult_montgomery.proofs.RoundLemmas.{montgomery_bits}
 use Rattle.mult_montgomery.proofs.ShapeLemmas.{montgomery_made, montgomery_next}
-
--- the nets of a word have the bits of the number that they stand for
-pub index_bits : (bits : List Bool) (nets : List ℕ) → HaveBits bits nets (index_of bits nets)
-index_bits bits nets j n got =
-    ap (bit_at_net bits) (sym (get_or_from_slice_get nets j n 0 got)) ∙ sym (index_bit bits nets j (slice_get_within nets j n got))
 
 module _ (k g : ℕ) (ok : IsModulus k g) (words : List WordText) (has : HasWords Input 2 words) (wide : AllWide k words) where
   abbrev a : List ℕ

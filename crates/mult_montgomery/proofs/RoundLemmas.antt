@@ -3,8 +3,9 @@ use Rattle.std.proofs.Common.{◌≡◌, ne_eqb, ℕ, zero, suc, refl, sym, ◌�
 use Rattle.std.specs.Prelude.{bit_xor, slice_index, ◌==◌, if◌then◌else◌}
 use Rattle.std.specs.Int.{bit_at}
 use Rattle.std.specs.Int.Bits.{xor_zero_l, xor_zero_r, xor_lt}
-use Rattle.std.proofs.lemmas.Nat.Bits.{bit_at_above, bit_at_lowest}
+use Rattle.std.proofs.lemmas.Nat.Bits.{bit_at_above, bit_at_lowest, bit_at-lt}
 use Rattle.std.proofs.lemmas.Bool.{cases_lt}
+use Rattle.std.proofs.Math.Nat.{mul-zero, mul-one}
 use Rattle.gf_field.specs.Bit.{bit_mul}
 use Rattle.gf_field.specs.Modulus.{IsModulus}
 use Rattle.gf_field.specs.Quotient.{product}
@@ -21,9 +22,6 @@ use Rattle.make_nets.specs.Row.{Row, begun_row, row_by, and_row, xor_row}
 use Rattle.mult_montgomery.specs.Montgomery.{moved_plan, moved_net, divided_row, summed_row, round, rounds, buffered, montgomery_plan}
 use Rattle.make_nets.proofs.RowLemmas.{HaveBits, IsRowOf, value_in_row, have_none, row_push, row_values, row_before, and_row_bits, xor_row_bits, xor_row_before}
 
-bit_below : (a i : ℕ) → bit_at a i < 2
-bit_below a i = omega arith
-
 -- after the first round the products are added to the row before
 pub summed_later : (k : ℕ) (a b : List ℕ) (i : ℕ) (row : Row) → (i ≡ 0 → ⊥) → summed_row k a b i row ≡ xor_row k row.nets (and_row k (slice_index a i) b row.plan).nets (and_row k (slice_index a i) b row.plan).plan
 summed_later k a b i row some = ap (λ t. if t then and_row k (slice_index a i) b row.plan else xor_row k row.nets (and_row k (slice_index a i) b row.plan).nets (and_row k (slice_index a i) b row.plan).plan) (ne_eqb i 0 some)
@@ -38,7 +36,7 @@ module _ (bits : List Bool) (k g : ℕ) where
 
   -- a place of the sum divided by x
   moved_bit : (x : ℕ) (sum : List ℕ) → length sum ≡ k → HaveBits bits sum x → (j : ℕ) (p : Plan) → suc j < k → Agrees bits (moved_plan g sum j p) → bit_at_net bits (moved_net g sum j p) ≡ bit_at (halved g x) j
-  moved_bit x sum long have j p less = by (bit_at g (j + 1)) (bit_below g (j + 1)) refl
+  moved_bit x sum long have j p less = by (bit_at g (j + 1)) (bit_at-lt g (j + 1)) refl
     where
       next : bit_at (halved g x) j ≡ bit_xor (bit_at x (j + 1)) (x % 2 * bit_at g (j + 1))
       next =
@@ -52,17 +50,11 @@ module _ (bits : List Bool) (k g : ℕ) where
       first = value_in_row bits sum (bit_at x) 0 have (omega (arith, less, long)) ∙ bit_at_lowest x
 
       by : (c : ℕ) → c < 2 → bit_at g (j + 1) ≡ c → Agrees bits (if c == 1 then with_xor None (slice_index sum (j + 1)) (slice_index sum 0) p else p) → bit_at_net bits (if c == 1 then p.next else slice_index sum (j + 1)) ≡ bit_at (halved g x) j
-      by zero low is agrees = later ∙ sym (next ∙ ap (λ c. bit_xor (bit_at x (j + 1)) (x % 2 * c)) is ∙ ap (bit_xor (bit_at x (j + 1))) (no_times (x % 2)) ∙ xor_zero_r (bit_at x (j + 1)))
-        where
-          no_times : (t : ℕ) → t * 0 ≡ 0
-          no_times t = omega arith
+      by zero low is agrees = later ∙ sym (next ∙ ap (λ c. bit_xor (bit_at x (j + 1)) (x % 2 * c)) is ∙ ap (bit_xor (bit_at x (j + 1))) (mul-zero (x % 2)) ∙ xor_zero_r (bit_at x (j + 1)))
       by (suc zero) low is agrees =
           xor_value bits None (slice_index sum (j + 1)) (slice_index sum 0) p agrees
           ∙ ap₂ bit_xor later first
-          ∙ sym (next ∙ ap (λ c. bit_xor (bit_at x (j + 1)) (x % 2 * c)) is ∙ ap (bit_xor (bit_at x (j + 1))) (one_times (x % 2)))
-        where
-          one_times : (t : ℕ) → t * 1 ≡ t
-          one_times t = omega arith
+          ∙ sym (next ∙ ap (λ c. bit_xor (bit_at x (j + 1)) (x % 2 * c)) is ∙ ap (bit_xor (bit_at x (j + 1))) (mul-one (x % 2)))
       by (suc (suc c)) low is agrees = absurd (omega (arith, low))
 
   divided_before : (sum : Row) → Agrees bits (divided_row k g sum).plan → Agrees bits sum.plan
@@ -75,9 +67,6 @@ module _ (bits : List Bool) (k g : ℕ) where
       let P : ℕ → Type 0 = λ l. IsRowOf bits sum.plan l (bit_at (halved g x)) (divided_row k g sum) in
       subst P one_more (row_push bits sum.plan (k - 1) (bit_at (halved g x)) (slice_index sum.nets 0) (row_by (k - 1) (moved_plan g sum.nets) (moved_net g sum.nets) sum.plan) (divided_row k g sum) refl moved last)
     where
-      one_times : (t : ℕ) → t * 1 ≡ t
-      one_times t = omega arith
-
       one_more : suc (k - 1) ≡ k
       one_more = omega (arith, ok.some)
 
@@ -85,7 +74,7 @@ module _ (bits : List Bool) (k g : ℕ) where
       last =
           value_in_row bits sum.nets (bit_at x) 0 have (omega (arith, long, ok.some))
           ∙ bit_at_lowest x
-          ∙ sym (bit_at-halved g x (k - 1) ∙ ap (λ i. bit_xor (bit_at x i) (x % 2 * bit_at g i)) one_more ∙ ap₂ (λ u v. bit_xor u (x % 2 * v)) (bit_at_above x k k below (omega arith)) (top_bit k g ok) ∙ xor_zero_l (x % 2 * 1) ∙ one_times (x % 2))
+          ∙ sym (bit_at-halved g x (k - 1) ∙ ap (λ i. bit_xor (bit_at x i) (x % 2 * bit_at g i)) one_more ∙ ap₂ (λ u v. bit_xor u (x % 2 * v)) (bit_at_above x k k below (omega arith)) (top_bit k g ok) ∙ xor_zero_l (x % 2 * 1) ∙ mul-one (x % 2))
 
   module _ (ok : IsModulus k g) (odd : g % 2 ≡ 1) (x y : ℕ) (x_below : x < 2 ^ k) (y_below : y < 2 ^ k) (a b : List ℕ) (long_a : length a ≡ k) (long_b : length b ≡ k) (have_a : HaveBits bits a x) (have_b : HaveBits bits b y) where
     -- after i rounds the nets have the bits of the sum so far
@@ -98,14 +87,14 @@ module _ (bits : List Bool) (k g : ℕ) where
     summed_bits zero row less kept agrees =
         let P : ℕ → Type 0 = λ s. IsRowOf bits row.plan k (bit_at s) (and_row k (slice_index a 0) b row.plan) in
         subst P (sym (xor_zero_l (bit_at x 0 * y)))
-        (and_row_bits bits k (slice_index a 0) (bit_at x 0) y b row.plan (bit_below x 0) (value_in_row bits a (bit_at x) 0 have_a (omega (arith, less, long_a))) long_b have_b agrees)
+        (and_row_bits bits k (slice_index a 0) (bit_at x 0) y b row.plan (bit_at-lt x 0) (value_in_row bits a (bit_at x) 0 have_a (omega (arith, less, long_a))) long_b have_b agrees)
     summed_bits (suc i) row less kept agrees' =
         let later = summed_later k a b (suc i) row (λ none. absurd (omega (arith, none))) in
         let agrees = subst (λ (sum : Row). Agrees bits sum.plan) later agrees' in
         let P : Row → Type 0 = λ sum. IsRowOf bits row.plan k (bit_at (bit_xor (running_sum g x y (suc i)) (bit_at x (suc i) * y))) sum in
         subst P (sym later) (
         let products = and_row k (slice_index a (suc i)) b row.plan in
-        let anded = and_row_bits bits k (slice_index a (suc i)) (bit_at x (suc i)) y b row.plan (bit_below x (suc i)) (value_in_row bits a (bit_at x) (suc i) have_a (omega (arith, less, long_a))) long_b have_b (xor_row_before bits k row.nets products.nets products.plan agrees) in
+        let anded = and_row_bits bits k (slice_index a (suc i)) (bit_at x (suc i)) y b row.plan (bit_at-lt x (suc i)) (value_in_row bits a (bit_at x) (suc i) have_a (omega (arith, less, long_a))) long_b have_b (xor_row_before bits k row.nets products.nets products.plan agrees) in
         let before = kept anded.before in
         let added = xor_row_bits bits k (running_sum g x y (suc i)) (bit_at x (suc i) * y) row.nets products.nets products.plan (before.long (omega arith)) anded.long before.have anded.have agrees in
         record { before = anded.before; long = added.long; have = added.have })
@@ -115,7 +104,7 @@ module _ (bits : List Bool) (k g : ℕ) where
     round_bits i row less kept agrees =
         let summed = summed_bits i row less kept (divided_before (summed_row k a b i row) agrees) in
         let sum : ℕ = bit_xor (running_sum g x y i) (bit_at x i * y) in
-        let below : sum < 2 ^ k = xor_lt k (running_sum g x y i) (bit_at x i * y) (running_below k g ok odd x y i y_below) (times_below k (bit_at x i) y (bit_below x i) y_below) in
+        let below : sum < 2 ^ k = xor_lt k (running_sum g x y i) (bit_at x i * y) (running_below k g ok odd x y i y_below) (times_below k (bit_at x i) y (bit_at-lt x i) y_below) in
         let divided = divided_bits sum (summed_row k a b i row) ok below summed.long summed.have agrees in
         record { long = λ some. divided.long; have = divided.have }
 

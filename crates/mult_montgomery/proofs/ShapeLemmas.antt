@@ -1,11 +1,12 @@
 -- The gates read what is driven before, and drive each net once; how many inner nets there are.
 use Rattle.std.proofs.Math.Nat.{suc-mul}
 use Rattle.std.proofs.lemmas.List.{take_more}
-use Rattle.std.proofs.Common.{◌≡◌, take_all, ℕ, zero, suc, refl, sym, ◌∙◌, ap, ◌<◌, ◌≤◌, ◌+◌, ◌*◌, ◌-◌, inl, arith, List, [], ◌∷◌, length, Bool, true, false, None, Some, subst, take}
+use Rattle.std.proofs.Common.{◌≡◌, take_all, ℕ, zero, suc, refl, sym, ◌∙◌, ap, ◌<◌, ◌≤◌, ◌+◌, ◌*◌, ◌-◌, inl, arith, List, [], length, Bool, true, false, None, Some, subst, take}
 use Rattle.std.specs.Prelude.{slice_index, ◌==◌, if◌then◌else◌}
 use Rattle.std.specs.Int.{bit_at}
 use Rattle.lists.specs.Lists.{Has}
 use Rattle.lists.specs.laws.ReadLaws.{got_at}
+use Rattle.lists.specs.laws.TakeLaws.{take_none}
 use Rattle.make_nets.specs.Plan.{Plan, begun, with_xor, with_buffer}
 use Rattle.make_nets.specs.PlanShape.{IsWellMade}
 use Rattle.make_nets.proofs.OuterNets.{CanRead}
@@ -15,10 +16,6 @@ use Rattle.make_nets.specs.Row.{Row, begun_row, row_by, and_row, xor_row}
 use Rattle.make_nets.proofs.RowShapeLemmas.{AreReadable, IsMadeRow, IsMadeStep, readable_at, readable_more, readable_none, net_made, row_made, gate_step, and_row_made, xor_row_made}
 use Rattle.mult_montgomery.specs.Montgomery.{moved_plan, moved_net, divided_row, summed_row, round, rounds, montgomery_plan}
 use Rattle.mult_montgomery.proofs.RoundLemmas.{summed_later}
-
-take-zero : (z : List ℕ) → take 0 z ≡ []
-take-zero [] = refl
-take-zero (n ∷ z) = refl
 
 module _ (outer : ℕ) (sources : List ℕ) where
   moved_made : (g j : ℕ) (sum : List ℕ) (p : Plan) → suc j < length sum → AreReadable outer sources sum p → IsWellMade outer sources [] p → IsMadeStep outer sources 1 p (moved_plan g sum j p) (moved_net g sum j p)
@@ -93,7 +90,7 @@ module _ (outer : ℕ) (sources : List ℕ) where
     montgomery_made z long_z below =
         let row = rounds outer k g a b in
         let all = each_keeps (λ j plan. IsWellMade outer sources (take j z) plan × (plan.next ≡ row.plan.next)) (λ j. with_buffer (Some (slice_index z j)) (slice_index row.nets j)) row.plan k
-        (subst (λ ts. IsWellMade outer sources ts row.plan) (sym (take-zero z)) rounds_made.made, refl)
+        (subst (λ ts. IsWellMade outer sources ts row.plan) (sym (take_none z)) rounds_made.made, refl)
         (λ j plan less kept. (more j plan less kept.0 kept.1, kept.1)) in
         subst (λ ts. IsWellMade outer sources ts (montgomery_plan outer k g a b z)) (take_all k z (omega (arith, long_z))) all.0
       where

@@ -1,4 +1,4 @@
-//! The multiplier.
+//! Montgomery's multiplier: its rounds put together over the nets of a signature.
 ghost use Rattle.std.specs.Prelude.{◌≡◌, ◌≢◌, ◌≤◌, ◌^◌, ℕ, [], IfOk, OnOk, IsErrOf, length};
 ghost use Rattle.gf_field.specs.Bit.{bit_mul};
 ghost use Rattle.gf_field.specs.Quotient.{product};

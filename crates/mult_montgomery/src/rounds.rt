@@ -1,4 +1,4 @@
-//! The rounds of the multiplier.
+//! The rounds of Montgomery's multiplier.
 ghost use Rattle.std.specs.Prelude.{◌≡◌, ◌+◌, ◌*◌, ◌≤◌, ◌<◌, ◌==◌, IfOk, OnOk, length};
 ghost use Rattle.std.specs.Int.{bit_at};
 ghost use Rattle.make_nets.specs.PlanShape.{HasRoom};

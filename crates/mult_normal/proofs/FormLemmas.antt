@@ -1,13 +1,11 @@
 -- The net over the words of a signature that has the form: its names, and what it computes.
-use Rattle.std.proofs.Common.{◌≡◌, sym, refl, subst, ℕ, []}
-use Rattle.lists.specs.Lists.{Has}
+use Rattle.std.proofs.Common.{◌≡◌, sym, refl, subst, ℕ, [], List}
+use Rattle.lists.specs.laws.HasLaws.{none_at}
 use Rattle.net_signature.specs.Signature.{SignatureValue}
 use Rattle.net_write.specs.Plain.{HasPlainNames}
 use Rattle.gf_field.specs.Ring.{IsRing}
 use Rattle.gf_field.specs.Field.{HasNoZeroDivisors}
 use Rattle.gf_basis.specs.BasisFault.{conjugates_of}
-use Rattle.gf_basis.specs.BasisParts.{elements_of, IsBasisOver}
-use Rattle.gf_basis.specs.declared.bases.Basis.{Basis}
 use Rattle.make_nets.specs.Computes.{ComputesOfTwo}
 use Rattle.make_nets.specs.Form.{AllWide}
 use Rattle.make_nets.specs.MakerNames.{AreMakerNames}
@@ -20,22 +18,20 @@ use Rattle.mult_normal.specs.NormalPlan.{summed}
 use Rattle.mult_normal.proofs.JobLemmas.{computes}
 use Rattle.mult_normal.proofs.PlanForLemmas.{are_held, plan_for}
 use Rattle.mult_normal.proofs.WordLemmas.{outer_is}
+use Rattle.gf_basis.specs.Basis.{IsBasis}
 
-module _ (k : ℕ) (mul : ℕ → ℕ → ℕ) (ring : IsRing k mul) (field : HasNoZeroDivisors k mul) (basis : Basis) (over : IsBasisOver k mul basis)
+module _ (k : ℕ) (mul : ℕ → ℕ → ℕ) (ring : IsRing k mul) (field : HasNoZeroDivisors k mul) (elements : List ℕ) (basis : IsBasis k elements)
     (signature : SignatureValue) (form : HasNormalForm signature) (wide : AllWide k signature.words)
   where
     pub outer_names_fit : AreMakerNames (outer_names signature.words [])
     outer_names_fit = subst AreMakerNames (sym (outer_is k signature.words form.words wide)) form.names
 
-    pub plain : HasPlainNames (normal_net k mul basis signature.words)
-    plain = made_plain signature.words [] (latches_of k mul basis signature.words) [] (summed (normal_products k mul basis signature.words)) outer_names_fit (plan_for k (counts_in k mul basis) signature.words form.words wide ring.small)
+    pub plain : HasPlainNames (normal_net k mul elements signature.words)
+    plain = made_plain signature.words [] (latches_of k mul elements signature.words) [] (summed (normal_products k mul elements signature.words)) outer_names_fit (plan_for k (counts_in k mul elements) signature.words form.words wide ring.small)
 
-    pub computes_form : elements_of basis ≡ conjugates_of k mul form.gamma → ComputesOfTwo k mul (normal_net k mul basis signature.words) signature.words (elements_of basis) k mul
+    pub computes_form : elements ≡ conjugates_of k mul form.gamma → ComputesOfTwo k mul (normal_net k mul elements signature.words) signature.words elements k mul
     computes_form normal =
-        computes k mul ring field basis over form.gamma normal signature.words form.words wide
-        (made_sound signature.words [] (latches_of k mul basis signature.words) [] (summed (normal_products k mul basis signature.words)) outer_names_fit (plan_for k (counts_in k mul basis) signature.words form.words wide ring.small))
-        (made_binds signature.words [] (latches_of k mul basis signature.words) [] (summed (normal_products k mul basis signature.words)) outer_names_fit (plan_for k (counts_in k mul basis) signature.words form.words wide ring.small) [] []
-        (are_held k (counts_in k mul basis) signature.words form.words wide ring.small) refl (λ n there. absurd (nothing n there)))
-      where
-        nothing : (n : ℕ) → Has [] n → ⊥
-        nothing n (i, got) = cc
+        computes k mul ring field elements basis form.gamma normal signature.words form.words wide
+        (made_sound signature.words [] (latches_of k mul elements signature.words) [] (summed (normal_products k mul elements signature.words)) outer_names_fit (plan_for k (counts_in k mul elements) signature.words form.words wide ring.small))
+        (made_binds signature.words [] (latches_of k mul elements signature.words) [] (summed (normal_products k mul elements signature.words)) outer_names_fit (plan_for k (counts_in k mul elements) signature.words form.words wide ring.small) [] []
+        (are_held k (counts_in k mul elements) signature.words form.words wide ring.small) refl (λ n there. absurd (none_at n there)))

@@ -2,7 +2,7 @@
 use Rattle.std.proofs.Common.{◌≡◌, ◌⊎◌, ◌∙◌, ap, ap₂, sym, refl, inl, inr, ℕ, zero, suc, ◌<◌, ◌+◌, List, [], ◌∷◌, ◌++◌, length, map, Some, arith}
 use Rattle.std.proofs.lemmas.List.{append_assoc, map-append}
 use Rattle.lists.specs.Lists.{Has}
-use Rattle.lists.specs.laws.HasLaws.{Has_cases, Has_left, Has_right}
+use Rattle.lists.specs.laws.HasLaws.{Has_cases, Has_left, Has_right, only_one}
 use Rattle.lists.specs.laws.NumberLaws.{nat_eq_or}
 use Rattle.net_core.specs.LatchValue.{LatchValue}
 use Rattle.net_core.specs.declared.latch.Start.TheVariants.{Zero, Unknown}
@@ -41,13 +41,9 @@ gathered_at (suc k) f i less = elim (nat_eq_or i k) [
   | inr other ↦ Has_left (gathered k (λ j. f j ∷ [])) (f k ∷ []) (f i) (gathered_at k f i (omega (arith, less, other)))
 ]
 
-one_of : (x y : LatchValue) → Has (x ∷ []) y → x ≡ y
-one_of x y (zero, got) = cc
-one_of x y (suc i, got) = absurd (cc)
-
 -- and no other
 pub gathered_is : (k : ℕ) (f : ℕ → LatchValue) (l : LatchValue) → Has (gathered k (λ j. f j ∷ [])) l → (i : ℕ) × (i < k) × (f i ≡ l)
-gathered_is k f l has = let found = gathered_has (λ j. f j ∷ []) k l has in (found.0, found.1, one_of (f found.0) l found.2)
+gathered_is k f l has = let found = gathered_has (λ j. f j ∷ []) k l has in (found.0, found.1, only_one (f found.0) l found.2)
 
 -- one more of them
 pub more_latches : (f : ℕ → LatchValue) (i : ℕ) (old list new : List LatchValue) (l : LatchValue) → list ≡ old ++ gathered i (λ j. f j ∷ []) → l ≡ f i → new ≡ list ++ l ∷ [] → new ≡ old ++ gathered (i + 1) (λ j. f j ∷ [])

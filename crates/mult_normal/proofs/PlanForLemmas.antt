@@ -3,6 +3,7 @@ use Rattle.std.proofs.Common.{◌≡◌, ◌∙◌, ap, ap₂, sym, subst, inl, 
 use Rattle.lists.specs.Lists.{Has, times}
 use Rattle.lists.specs.laws.HasLaws.{Has_cases, Has_left, Has_map, times_append}
 use Rattle.lists.specs.laws.ListLaws.{length_map as map_long}
+use Rattle.lists.specs.laws.NumberLaws.{square_few}
 use Rattle.net_core.specs.LatchValue.{LatchValue}
 use Rattle.net_words.specs.Bind.{is_unknown}
 use Rattle.net_words.specs.declared.word.Role.TheVariants.{State, Fed, Output}
@@ -22,7 +23,7 @@ use Rattle.make_laws.specs.NormalNets.{place_before}
 use Rattle.mult_normal.specs.NormalNet.{first_factor, product_nets, second_factor}
 use Rattle.mult_normal.specs.NormalPlan.{Products, moved_from, normal_latches, products_from, sum_net, summed}
 use Rattle.mult_normal.proofs.LatchLemmas.{latch_cases, latch_outs}
-use Rattle.mult_normal.proofs.ShapeLemmas.{AreFew, rows_few, square_few, sum_made, sum_read}
+use Rattle.mult_normal.proofs.ShapeLemmas.{AreFew, rows_few, sum_made, sum_read}
 use Rattle.mult_normal.proofs.WordLemmas.{all_long, both, first_long, first_state, no_inputs, one, outer_is, outputs_long, product_place, second_long, second_state, state_other, states_long}
 
 before_low : (k i : ℕ) → i < k → place_before k i < k
@@ -159,7 +160,7 @@ module _ (k : ℕ) (counts : ℕ → ℕ → Bool) (words : List WordText) (has 
         ]
       ]
 
-  -- the same, where parts are given by equations
+  -- the plan and the latches that the code makes, whose parts are given by equations
   module _ (count last : ℕ) (a b z : List ℕ) (plan : Plan) (list : List LatchValue) (counted : count ≡ length (word_names words)) (a_is : a ≡ first_factor k words) (b_is : b ≡ second_factor k words) (z_is : z ≡ product_nets words)
       (plan_is : plan ≡ summed (products_from count k counts a b)) (last_is : last ≡ sum_net (products_from count k counts a b)) (list_is : list ≡ normal_latches (length a) last a b z)
     where

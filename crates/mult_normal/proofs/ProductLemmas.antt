@@ -2,13 +2,13 @@
 use Rattle.std.proofs.Common.{◌≡◌, ◌∙◌, ap, sym, refl, ℕ, zero, suc, ◌<◌, ◌*◌, Bool, true, false, cond, List, [], ◌∷◌, None, arith}
 use Rattle.std.specs.Prelude.{bit_xor, ◌==◌, ◌&&◌}
 use Rattle.std.specs.Int.Bits.{xor_assoc, xor_zero_l, xor_zero_r}
+use Rattle.gf_field.proofs.SharedLemmas.{same_sum}
 use Rattle.gf_field.specs.Polynomial.{sum_of_first}
 use Rattle.net_core.specs.Value.{bit_of}
 use Rattle.make_nets.specs.Plan.{begun, each}
 use Rattle.make_nets.specs.PlanValue.{Agrees, bit_at_net, parity}
 use Rattle.make_nets.proofs.ValueLemmas.{agrees_before, and_value, chain_before, chain_value, parity_append}
 use Rattle.make_laws.specs.Chosen.{chosen}
-use Rattle.make_laws.proofs.RingSumLemmas.{sum_same}
 use Rattle.make_laws.specs.Held.{net_at}
 use Rattle.mult_normal.specs.NormalPlan.{Products, products_from, sum_net, summed, with_product, with_row}
 
@@ -70,8 +70,8 @@ pub sum_is : (bits : List Bool) (k n : ℕ) (choice : ℕ → ℕ → ℕ) (a b 
 sum_is bits k n choice a b low agrees =
     one_bit (bit_of bits (sum_net (products_from n k (λ i j. choice i j == 1) a b)))
     ∙ (sum_value bits k (λ i j. choice i j == 1) a b n agrees
-    ∙ sum_same k (λ i. sum_of_first k (λ j. cond (choice i j == 1) (bit_at_net bits (net_at a i) * bit_at_net bits (net_at b j)) 0))
+    ∙ same_sum k (λ i. sum_of_first k (λ j. cond (choice i j == 1) (bit_at_net bits (net_at a i) * bit_at_net bits (net_at b j)) 0))
     (λ i. sum_of_first k (λ j. chosen (bit_of bits (net_at a i) && bit_of bits (net_at b j)) (choice i j)))
-    (λ i less. sum_same k (λ j. cond (choice i j == 1) (bit_at_net bits (net_at a i) * bit_at_net bits (net_at b j)) 0)
+    (λ i less. same_sum k (λ j. cond (choice i j == 1) (bit_at_net bits (net_at a i) * bit_at_net bits (net_at b j)) 0)
     (λ j. chosen (bit_of bits (net_at a i) && bit_of bits (net_at b j)) (choice i j))
     (λ j less'. chosen_product (bit_of bits (net_at a i)) (bit_of bits (net_at b j)) (choice i j) (low i j))))

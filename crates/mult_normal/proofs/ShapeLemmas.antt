@@ -1,8 +1,8 @@
 -- The gates of products and of their sum are well made.
-use Rattle.std.proofs.Common.{◌≡◌, ◌⊎◌, subst, inl, inr, ℕ, zero, suc, ◌<◌, ◌≤◌, ◌+◌, ◌*◌, mul-suc, mul-le-mul_left, ◌^◌, Bool, true, false, List, [], ◌∷◌, length, None, arith}
+use Rattle.std.proofs.Common.{◌≡◌, ◌⊎◌, subst, inl, inr, ℕ, zero, suc, ◌<◌, ◌≤◌, ◌+◌, ◌*◌, mul-suc, ◌^◌, Bool, true, false, List, [], ◌∷◌, length, None, arith}
 use Rattle.std.proofs.lemmas.List.{length_push}
 use Rattle.lists.specs.Lists.{Has}
-use Rattle.lists.specs.laws.HasLaws.{Has_cases}
+use Rattle.lists.specs.laws.HasLaws.{Has_cases, none_at}
 use Rattle.make_nets.specs.Plan.{begun, each}
 use Rattle.make_nets.specs.PlanShape.{IsWellMade}
 use Rattle.make_nets.proofs.OuterNets.{CanRead}
@@ -15,10 +15,6 @@ use Rattle.mult_normal.specs.NormalPlan.{Products, products_from, sum_net, summe
 pub record AreFew (n m : ℕ) (products : Products) : Type 0 where
   pub nets : length products.nets ≤ m
   pub next : products.plan.next ≤ n + m
-
--- at most 64 of a number up to 64
-pub square_few : (k : ℕ) → k ≤ 64 → k * k ≤ 4096
-square_few k small = let h : k * k ≤ k * 64 = mul-le-mul_left k small in omega (arith, h)
 
 -- there is room for a chain of so few
 pub room_for_sum : (n m : ℕ) (s : Products) → n ≤ 1024 → m ≤ 4096 → AreFew n m s → s.plan.next + (length s.nets + 1) < 2 ^ 32
@@ -70,11 +66,8 @@ module _ (outer : ℕ) (sources : List ℕ) where
 
     products_made : AreMade (products_from outer k counts a b)
     products_made = each_keeps (λ i. AreMade) (with_row k counts a b) (record { plan = begun outer; nets = [] }) k
-        (record { made = begun_made outer sources; read = λ n has. absurd (nothing n has) })
+        (record { made = begun_made outer sources; read = λ n has. absurd (none_at n has) })
         (λ i s less made. row_made i s less made)
-      where
-        nothing : (n : ℕ) → Has [] n → ⊥
-        nothing n (k, got) = cc
 
     pub sum_made : IsWellMade outer sources [] (summed (products_from outer k counts a b))
     sum_made = chain_made outer sources [] None (products_from outer k counts a b).nets (products_from outer k counts a b).plan products_made.made tt products_made.read

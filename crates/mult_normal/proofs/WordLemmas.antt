@@ -1,10 +1,12 @@
 -- The nets of two state words and of the output word.
-use Rattle.std.proofs.Common.{◌≡◌, ◌≢◌, ◌∙◌, ap, sym, refl, subst, ℕ, zero, suc, ◌<◌, ◌≤◌, ◌+◌, ◌*◌, ◌^◌, List, [], ◌∷◌, ◌++◌, length, take, drop, append-nil, arith}
+use Rattle.std.proofs.Common.{◌≡◌, ◌≢◌, ◌∙◌, ap, sym, subst, ℕ, ◌<◌, ◌≤◌, ◌+◌, ◌*◌, ◌^◌, List, [], ◌∷◌, ◌++◌, length, take, drop, append-nil, arith}
 use Rattle.std.specs.Prelude.{slice_get}
-use Rattle.std.proofs.Math.Seq.{take-append_seam}
+use Rattle.std.proofs.Math.Seq.{take-append_seam, drop-append_seam}
 use Rattle.std.proofs.lemmas.List.{length-take-le, take-append-drop, length-append}
 use Rattle.lists.specs.Lists.{Has}
 use Rattle.lists.specs.laws.HasLaws.{Has_left, Has_right}
+use Rattle.lists.specs.laws.ListLaws.{two_lists}
+use Rattle.make_laws.proofs.DigitRunLemmas.{has_place}
 use Rattle.net_words.specs.declared.word.Role.TheVariants.{Input, State, Output}
 use Rattle.net_words.specs.declared.word.WordText.{WordText}
 use Rattle.make_nets.specs.Form.{AllWide, HasWords}
@@ -13,24 +15,6 @@ use Rattle.make_nets.proofs.WordLists.{all_of, lists_of}
 use Rattle.make_nets.proofs.FormLemmas.{OneOf, lists_long, lists_wide, names_long, nets_long, nets_of_lists, no_nets, words_one_of}
 use Rattle.make_laws.specs.Held.{net_at}
 use Rattle.mult_normal.specs.NormalNet.{first_factor, product_nets, second_factor}
-
-pub drop_seam : (xs ys : List ℕ) → drop (length xs) (xs ++ ys) ≡ ys
-drop_seam [] [] = refl
-drop_seam [] (y ∷ ys) = refl
-drop_seam (x ∷ xs) ys = drop_seam xs ys
-
--- a net by its place is one of them
-pub has_place : (ns : List ℕ) (j : ℕ) → j < length ns → Has ns (net_at ns j)
-has_place [] j h = absurd (omega arith)
-has_place (n ∷ ns) zero h = (0, refl)
-has_place (n ∷ ns) (suc j) h = let has = has_place ns j (omega arith) in (suc has.0, has.1)
-
--- two lists
-pub two_lists : (lists : List (List ℕ)) → length lists ≡ 2 → (first : List ℕ) × (second : List ℕ) × (lists ≡ first ∷ second ∷ [])
-two_lists [] long = absurd (omega arith)
-two_lists (a ∷ []) long = absurd (omega arith)
-two_lists (a ∷ b ∷ []) long = (a, b, refl)
-two_lists (a ∷ b ∷ c ∷ more) long = absurd (omega arith)
 
 pub state_other : State ≢ Output
 state_other e = cc
@@ -79,7 +63,7 @@ module _ (k : ℕ) (words : List WordText) (has : HasWords State 2 words) (wide 
         lists.1,
         lists.2,
         sym (ap (take k) nets ∙ (ap (λ n. take n (lists.0 ++ lists.1)) (sym long) ∙ take-append_seam lists.0 lists.1)),
-        sym (ap (drop k) nets ∙ (ap (λ n. drop n (lists.0 ++ lists.1)) (sym long) ∙ drop_seam lists.0 lists.1)),
+        sym (ap (drop k) nets ∙ (ap (λ n. drop n (lists.0 ++ lists.1)) (sym long) ∙ drop-append_seam lists.0 lists.1)),
       )
 
   pub first_state : (i : ℕ) → i < k → Has (role_nets State 0 words) (net_at (first_factor k words) i)

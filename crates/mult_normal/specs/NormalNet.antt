@@ -5,7 +5,6 @@ use Rattle.net_core.specs.LatchValue.{LatchValue}
 use Rattle.net_core.specs.NetList.{NetList}
 use Rattle.net_words.specs.declared.word.Role.TheVariants.{State, Output}
 use Rattle.net_words.specs.declared.word.WordText.{WordText}
-use Rattle.gf_basis.specs.declared.bases.Basis.{Basis}
 use Rattle.make_nets.specs.Made.{made_of}
 use Rattle.make_nets.specs.Ports.{role_nets, word_names}
 use Rattle.mult_normal.specs.Coordinates.{counts_in}
@@ -21,14 +20,14 @@ second_factor k words = drop k (role_nets State 0 words)
 abbrev pub product_nets : List WordText → List ℕ
 product_nets words = role_nets Output 0 words
 
--- the products of bits of both factors that count for the last coordinate in this basis
-abbrev pub normal_products : ℕ → (ℕ → ℕ → ℕ) → Basis → List WordText → Products
-normal_products k mul basis words = products_from (length (word_names words)) k (counts_in k mul basis) (first_factor k words) (second_factor k words)
+-- the products of bits of both factors that count for the last coordinate in the basis of these elements
+abbrev pub normal_products : ℕ → (ℕ → ℕ → ℕ) → List ℕ → List WordText → Products
+normal_products k mul elements words = products_from (length (word_names words)) k (counts_in k mul elements) (first_factor k words) (second_factor k words)
 
 -- the latches
-abbrev pub latches_of : ℕ → (ℕ → ℕ → ℕ) → Basis → List WordText → List LatchValue
-latches_of k mul basis words = normal_latches k (sum_net (normal_products k mul basis words)) (first_factor k words) (second_factor k words) (product_nets words)
+abbrev pub latches_of : ℕ → (ℕ → ℕ → ℕ) → List ℕ → List WordText → List LatchValue
+latches_of k mul elements words = normal_latches k (sum_net (normal_products k mul elements words)) (first_factor k words) (second_factor k words) (product_nets words)
 
 -- the net list
-abbrev pub normal_net : ℕ → (ℕ → ℕ → ℕ) → Basis → List WordText → NetList
-normal_net k mul basis words = made_of words [] (latches_of k mul basis words) (summed (normal_products k mul basis words))
+abbrev pub normal_net : ℕ → (ℕ → ℕ → ℕ) → List ℕ → List WordText → NetList
+normal_net k mul elements words = made_of words [] (latches_of k mul elements words) (summed (normal_products k mul elements words))

@@ -3,7 +3,9 @@
 
 mod form;
 mod held;
+mod laws;
 mod maker;
 mod products;
 
+pub use laws::coordinates_are_bits;
 pub use maker::normal_serial;

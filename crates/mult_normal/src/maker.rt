@@ -1,4 +1,4 @@
-//! The multiplier.
+//! The multiplier bit by bit in a normal basis: its products, latches and nets put together.
 ghost use Rattle.std.specs.Prelude.{◌≡◌, ◌≤◌, [], IfOk, OnOk, IsErrOf};
 ghost use Rattle.gf_basis.specs.BasisFault.{conjugates_of};
 ghost use Rattle.gf_basis.specs.BasisParts.{elements_of, IsBasisOver};
@@ -45,7 +45,7 @@ fn assembled<F: Field>(
     requires a { a.now ≡ first_factor (F.degree field.now) words.now }
     requires b { b.now ≡ second_factor (F.degree field.now) words.now }
     requires z { z.now ≡ product_nets words.now }
-    ensures { IfOk result (λ net. net ≡ normal_net (F.degree field.now) (F.product field.now) basis.now words.now) }
+    ensures { IfOk result (λ net. net ≡ normal_net (F.degree field.now) (F.product field.now) (elements_of basis.now) words.now) }
 {
     let (plan, last) = last_sum(alloc, field, basis, count_of(words), a, b)?;
     let list = latches(alloc, last, a, b, z)?;
@@ -66,7 +66,7 @@ fn made<F: Field>(
     requires bits { AllWide (F.degree field.now) words.now }
     requires names { AreMakerNames (outer_names words.now []) }
     requires maker { maker ≡ outer_net (outer_names words.now []) }
-    ensures { IfOk result (λ net. net ≡ normal_net (F.degree field.now) (F.product field.now) basis.now words.now) }
+    ensures { IfOk result (λ net. net ≡ normal_net (F.degree field.now) (F.product field.now) (elements_of basis.now) words.now) }
 {
     let states = role_nets(alloc, words, Role::State)?;
     let outputs = role_nets(alloc, words, Role::Output)?;
@@ -104,7 +104,7 @@ pub fn normal_serial<F: Field>(
     requires over { IsBasisOver (F.degree field.now) (F.product field.now) basis.now }
     requires wide { AreWide (F.degree field.now) signature.now.words }
     requires basis { (form : HasNormalForm signature.now) → elements_of basis.now ≡ conjugates_of (F.degree field.now) (F.product field.now) form.gamma }
-    ensures made { IfOk result (λ net. net ≡ normal_net (F.degree field.now) (F.product field.now) basis.now signature.now.words) }
+    ensures made { IfOk result (λ net. net ≡ normal_net (F.degree field.now) (F.product field.now) (elements_of basis.now) signature.now.words) }
     ensures sound { IfOk result (λ net. IsSound net) }
     ensures plain { IfOk result (λ net. HasPlainNames net) }
     ensures computes { IfOk result (λ net. ComputesOfTwo (F.degree field.now) (F.product field.now) net signature.now.words (elements_of basis.now) (F.degree field.now) (F.product field.now)) }

@@ -1,6 +1,6 @@
 //! The products of bits of which the last coordinate is a sum.
 ghost use Rattle.std.specs.Prelude.{◌≡◌, ◌+◌, ◌<◌, ◌≤◌, [], IfOk, OnOk, length};
-ghost use Rattle.gf_basis.specs.BasisParts.{IsBasisOver};
+ghost use Rattle.gf_basis.specs.BasisParts.{elements_of, IsBasisOver};
 ghost use Rattle.mult_normal.specs.Coordinates.{counts_in};
 ghost use Rattle.mult_normal.specs.NormalPlan.{products_from, sum_net, summed, with_product, with_row};
 ghost use Rattle.make_nets.specs.Plan.{begun, each};
@@ -32,7 +32,7 @@ fn counts<F: Field>(field: &F, basis: &Basis, i: u32, j: u32) -> bool
     requires over { IsBasisOver (F.degree field.now) (F.product field.now) basis.now }
     requires first { i < F.degree field.now }
     requires second { j < F.degree field.now }
-    ensures { result ≡ counts_in (F.degree field.now) (F.product field.now) basis.now i j }
+    ensures { result ≡ counts_in (F.degree field.now) (F.product field.now) (elements_of basis.now) i j }
 {
     let product = field.mul(basis.element(i), basis.element(j));
     let coordinates = basis.bits_of(field, product);
@@ -77,7 +77,7 @@ impl ProductMaker {
         requires b_long { length b.now ≡ F.degree field.now }
         requires room { HasRoom self.old.plan (F.degree field.now) }
         ensures few { OnOk result (self.new.plan.next ≤ self.old.plan.next + F.degree field.now) }
-        ensures made { OnOk result (self.new ≡ with_row (F.degree field.now) (counts_in (F.degree field.now) (F.product field.now) basis.now) a.now b.now i self.old) }
+        ensures made { OnOk result (self.new ≡ with_row (F.degree field.now) (counts_in (F.degree field.now) (F.product field.now) (elements_of basis.now)) a.now b.now i self.old) }
     {
         for j in 0..field.k() {
             let so = counts(field, basis, i, j);
@@ -98,7 +98,7 @@ impl ProductMaker {
         requires a_long { length a.now ≡ F.degree field.now }
         requires b_long { length b.now ≡ F.degree field.now }
         requires room { HasRoom self.old.plan 4096 }
-        ensures { OnOk result (self.new ≡ each (F.degree field.now) (with_row (F.degree field.now) (counts_in (F.degree field.now) (F.product field.now) basis.now) a.now b.now) self.old) }
+        ensures { OnOk result (self.new ≡ each (F.degree field.now) (with_row (F.degree field.now) (counts_in (F.degree field.now) (F.product field.now) (elements_of basis.now)) a.now b.now) self.old) }
     {
         for i in 0..field.k() {
             self.add_row(field, basis, a, b, i)?;
@@ -132,8 +132,8 @@ pub(crate) fn last_sum<F: Field>(
     requires a_long { length a.now ≡ F.degree field.now }
     requires b_long { length b.now ≡ F.degree field.now }
     requires room { first ≤ 1024 }
-    ensures plan { IfOk result (λ pair. pair.0 ≡ summed (products_from first (F.degree field.now) (counts_in (F.degree field.now) (F.product field.now) basis.now) a.now b.now)) }
-    ensures net { IfOk result (λ pair. pair.1 ≡ sum_net (products_from first (F.degree field.now) (counts_in (F.degree field.now) (F.product field.now) basis.now) a.now b.now)) }
+    ensures plan { IfOk result (λ pair. pair.0 ≡ summed (products_from first (F.degree field.now) (counts_in (F.degree field.now) (F.product field.now) (elements_of basis.now)) a.now b.now)) }
+    ensures net { IfOk result (λ pair. pair.1 ≡ sum_net (products_from first (F.degree field.now) (counts_in (F.degree field.now) (F.product field.now) (elements_of basis.now)) a.now b.now)) }
 {
     let mut products = ProductMaker::new(alloc, first);
     products.add_rows(field, basis, a, b)?;

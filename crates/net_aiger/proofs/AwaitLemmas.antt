@@ -1,11 +1,12 @@
 -- Names that are new.
-use Rattle.std.proofs.Common.{◌≡◌, ◌∙◌, ap, sym, refl, subst, ℕ, zero, suc, ◌<◌, ◌≤◌, ◌+◌, ◌-◌, ◌||◌, ◌&&◌, Bool, true, false, cond, List, [], ◌∷◌, ◌++◌, length, get_or, drop, None, Some, Result, Ok, Err, arith, drop-cons, add-one}
+use Rattle.std.proofs.Common.{◌≡◌, ◌∙◌, ap, sym, refl, subst, ℕ, zero, suc, ◌<◌, ◌≤◌, ◌+◌, ◌-◌, ◌||◌, Bool, true, false, cond, List, [], ◌∷◌, ◌++◌, length, get_or, drop, None, Some, Result, Ok, Err, arith, drop-cons, add-one}
 use Rattle.std.specs.Prelude.{nat_le, nat_lt}
 use Rattle.std.specs.Fmt.{decimal}
 use Rattle.std.specs.List.{list_any}
 use Rattle.std.specs.Str.{bytes_eq}
 use Rattle.std.proofs.lemmas.Bool.{leb-true, lt-ltb, le-ltb, ltb-true, ltb-false}
 use Rattle.std.proofs.lemmas.List.Folds.{list_any-append}
+use Rattle.lists.specs.laws.BoolLaws.{first_true}
 use Rattle.net_core.specs.NetList.{LabelValue, NetList, empty, number_from, number_of, with_label}
 use Rattle.net_core.specs.declared.fault.NetFault.{NetFault}
 use Rattle.net_core.proofs.NameLemmas.{number_not}
@@ -97,11 +98,7 @@ none_own reading port literal less = rw (lt-ltb port (driven reading.header) les
 
 -- where all lines were read, there are all ports
 pub ports_long : (reading : Reading) → is_complete reading ≡ true → ports_of reading.header ≤ length reading.ports
-ports_long reading complete = leb-true (ports_of reading.header) (length reading.ports) (first (nat_le (ports_of reading.header) (length reading.ports)) _ complete)
-  where
-    first : (a b : Bool) → (a && b) ≡ true → a ≡ true
-    first true b e = refl
-    first false b e = absurd (cc)
+ports_long reading complete = leb-true (ports_of reading.header) (length reading.ports) (first_true (nat_le (ports_of reading.header) (length reading.ports)) _ complete)
 
 port_rest : (reading : Reading) (port : ℕ) → port < length reading.ports → drop port reading.ports ≡ get_or reading.ports port 0 ∷ drop (port + 1) reading.ports
 port_rest reading port less = rw add-one (drop-cons reading.ports port 0 less)

@@ -1,8 +1,9 @@
 -- Lines, one after another: at most one list of entries or fault comes of them, and one does.
-use Rattle.std.proofs.Common.{◌≡◌, ◌∙◌, ap, sym, refl, subst, inl, inr, ℕ, zero, suc, ◌<◌, ◌≤◌, ◌+◌, List, [], ◌∷◌, ◌++◌, length, take, take_all, Option, None, Some, Result, Ok, Err, arith}
-use Rattle.std.specs.Prelude.{slice_get}
+use Rattle.std.proofs.Common.{◌≡◌, ◌∙◌, ap, sym, refl, subst, inl, inr, ℕ, zero, suc, ◌<◌, ◌≤◌, ◌+◌, List, [], ◌∷◌, ◌++◌, length, take, Option, None, Some, Result, Ok, Err, arith}
+use Rattle.std.proofs.Math.Seq.{take-length}
 use Rattle.lists.specs.laws.NumberLaws.{even}
 use Rattle.lists.specs.laws.ReadLaws.{get_below, got_push}
+use Rattle.lists.specs.laws.TakeLaws.{take_none, taken_next}
 use Rattle.outcome.specs.Outcome.{Determined, Outcome, ◌>>=◌}
 use Rattle.net_aiger.specs.Sections.{AreEntries, Section, Spelled}
 use Rattle.net_aiger.specs.Steps as results
@@ -12,22 +13,10 @@ use Rattle.net_aiger.specs.declared.fault.AigerFault.TheVariants.{Syntax}
 -- ---- the first entries of a list
 
 module _ {A : Type 0} where
-  take_none : (xs : List A) → take 0 xs ≡ []
-  take_none [] = refl
-  take_none (x ∷ xs) = refl
-
-  take_whole : (xs : List A) → take (length xs) xs ≡ xs
-  take_whole xs = take_all (length xs) xs (omega arith)
-
   take_before : (xs : List A) (x : A) (k : ℕ) → k ≤ length xs → take k (xs ++ x ∷ []) ≡ take k xs
   take_before xs x zero less = take_none (xs ++ x ∷ []) ∙ sym (take_none xs)
   take_before [] x (suc k) less = absurd (omega arith)
   take_before (y ∷ ys) x (suc k) less = ap (λ zs. y ∷ zs) (take_before ys x k (omega arith))
-
-  take_next : (xs : List A) (k : ℕ) (x : A) → slice_get xs k ≡ Some x → take (suc k) xs ≡ take k xs ++ x ∷ []
-  take_next [] k x got = absurd (cc)
-  take_next (y ∷ ys) zero x got = let same : y ≡ x = cc in rw (take_none ys, same) refl
-  take_next (y ∷ ys) (suc k) x got = ap (λ zs. y ∷ zs) (take_next ys k x got)
 
   same_ok : (a b : A) → ◌≡◌ {A = Result A AigerFault} (Ok a) (Ok b) → a ≡ b
   same_ok a b e = cc
@@ -50,7 +39,7 @@ module _ {A : Type 0} (Line : List A → ℕ → Outcome AigerFault A) (first : 
         let P : List A → Type 0 = λ before. Line before (first + k) (Ok a) in
         subst P (sym (take_before entries entry k (omega (arith, w.1)))) (are k a w.0)
     | inr w ↦
-        let before : take k (entries ++ entry ∷ []) ≡ entries = take_before entries entry k (omega (arith, w.0)) ∙ (ap (λ n. take n entries) w.0 ∙ take_whole entries) in
+        let before : take k (entries ++ entry ∷ []) ≡ entries = take_before entries entry k (omega (arith, w.0)) ∙ (ap (λ n. take n entries) w.0 ∙ take-length entries) in
         let P : List A → Type 0 = λ xs. Line xs (first + k) (Ok a) in
         let Q : A → Type 0 = λ b. Line entries (first + k) (Ok b) in
         let R : ℕ → Type 0 = λ n. Line entries (first + n) (Ok entry) in
@@ -67,16 +56,16 @@ module _ {A : Type 0} (Line : List A → ℕ → Outcome AigerFault A) (first : 
         let same = agree xs ys a b k (omega arith) (omega arith) in
         let P : List A → Type 0 = λ before. Line before (first + k) (Ok x.0) in
         let entry : x.0 ≡ y.0 = same_ok x.0 y.0 (one (take k ys) (first + k) (Ok x.0) (Ok y.0) (subst P same (a k x.0 x.1)) (b k y.0 y.1)) in
-        rw (take_next xs k x.0 x.1, take_next ys k y.0 y.1, same, entry) refl
+        rw (taken_next xs k x.0 x.1, taken_next ys k y.0 y.1, same, entry) refl
 
     pub same_entries : (xs ys : List A) → AreEntries Line first xs → AreEntries Line first ys → length xs ≡ length ys → xs ≡ ys
-    same_entries xs ys a b long = sym (take_whole xs) ∙ (agree xs ys a b (length xs) (omega arith) (omega (arith, long)) ∙ (ap (λ n. take n ys) long ∙ take_whole ys))
+    same_entries xs ys a b long = sym (take-length xs) ∙ (agree xs ys a b (length xs) (omega arith) (omega (arith, long)) ∙ (ap (λ n. take n ys) long ∙ take-length ys))
 
     -- a line that has an entry has no fault
     pub no_fault : (xs before : List A) (fault : AigerFault) → AreEntries Line first xs → AreEntries Line first before → length before < length xs → Line before (first + length before) (Err fault) → ⊥
     no_fault xs before fault a b less wrong =
         let x = get_below xs (length before) less in
-        let same : take (length before) xs ≡ before = agree xs before a b (length before) (omega (arith, less)) (omega arith) ∙ take_whole before in
+        let same : take (length before) xs ≡ before = agree xs before a b (length before) (omega (arith, less)) (omega arith) ∙ take-length before in
         let P : List A → Type 0 = λ ys. Line ys (first + length before) (Ok x.0) in
         ok_no_fault x.0 fault (one before (first + length before) (Ok x.0) (Err fault) (subst P same (a (length before) x.0 x.1)) wrong)
 

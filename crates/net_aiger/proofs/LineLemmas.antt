@@ -6,6 +6,7 @@ use Rattle.std.specs.Map.{lookup}
 use Rattle.std.specs.Option.{option_map}
 use Rattle.std.proofs.lemmas.Bool.{eqb-true, eq-eqb, ne_eqb, leb-true}
 use Rattle.lists.specs.laws.BoolLaws.{first_true, second_true}
+use Rattle.lists.specs.laws.TakeLaws.{drop_none}
 use Rattle.outcome.proofs.DeterminedLemmas.{determined_bind, determined_returns}
 use Rattle.outcome.specs.Outcome.{Determined, Exactly, Returns, ◌>>=◌}
 use Rattle.text_core.specs.Numbers.{value_of}
@@ -171,10 +172,6 @@ finds_triple numbers = record { each = λ line s. rw s refl; is = λ line e. is 
 
 -- ---- symbols
 
-drop_zero : (xs : List ℕ) → drop 0 xs ≡ xs
-drop_zero [] = refl
-drop_zero (x ∷ xs) = refl
-
 take_one_more : (n x : ℕ) (xs : List ℕ) → take (1 + n) (x ∷ xs) ≡ x ∷ take n xs
 take_one_more n x xs = let same : 1 + n ≡ suc n = omega arith in ap (λ m. take m (x ∷ xs)) same
 
@@ -192,7 +189,7 @@ before_is (d ∷ ds) name all =
     before_more d (ds ++ 32 ∷ name) (ne_eqb d 32 (omega (arith, low))) ∙ ap (λ (xs : List ℕ). d ∷ xs) (before_is ds name (second_true (is_digit d) (list_all is_digit ds) all))
 
 behind_is : (digits name : List ℕ) → drop (length digits + 1) (digits ++ 32 ∷ name) ≡ name
-behind_is [] name = drop_zero name
+behind_is [] name = drop_none name
 behind_is (d ∷ ds) name = let same : suc (length ds) + 1 ≡ suc (length ds + 1) = omega arith in ap (λ n. drop n (d ∷ (ds ++ 32 ∷ name))) same ∙ behind_is ds name
 
 -- where something stands behind so many bytes and one more
@@ -207,7 +204,7 @@ around_one : (b : ℕ) (bs : List ℕ) (v : Bool) → (b == 32) ≡ v → (HasBe
 around_one b bs true e further some =
     let same : b ≡ 32 = eqb-true b 32 e in
     let P : List ℕ → Type 0 = AreAround (b ∷ bs) in
-    subst P (sym (before_none b bs e)) (rw (same, drop_zero bs) refl)
+    subst P (sym (before_none b bs e)) (rw (same, drop_none bs) refl)
 around_one b bs false e further some =
     let place : suc (length (before_space bs)) + 1 ≡ suc (length (before_space bs) + 1) = omega arith in
     let P : List ℕ → Type 0 = AreAround (b ∷ bs) in

@@ -8,13 +8,14 @@ use Rattle.std.proofs.lemmas.List.Sums.{passes_at_first}
 use Rattle.std.proofs.lemmas.Option.{slice_get-get_or}
 use Rattle.lists.specs.Lists.{Has}
 use Rattle.lists.specs.laws.BoolLaws.{both_true as plain_parts}
+use Rattle.lists.specs.laws.NumberLaws.{bit_cases}
 use Rattle.net_core.specs.NetList.{NetList}
 use Rattle.net_core.specs.Value.{bit_of, index_of}
 use Rattle.net_aiger.specs.Nets.{inputs_of, is_plain, literal_gate, table_of}
 use Rattle.net_aiger.specs.Reading.{Reading, even, net_of, variable_net}
 use Rattle.net_aiger.specs.Values.{HasLiteralValue, literal_value}
 use Rattle.net_aiger.proofs.PlainLemmas.{ArePlain}
-use Rattle.net_aiger.proofs.ValueLemmas.{constant, one_value}
+use Rattle.net_aiger.proofs.ValueLemmas.{one_value}
 
 -- the table of a literal at the bit of its variable
 literal_table : (reading : Reading) (bits : List Bool) (literal : ℕ) → (bit_at (table_of literal) (index_of bits (inputs_of reading literal)) == 1) ≡ literal_value reading bits literal
@@ -31,7 +32,7 @@ literal_table reading bits literal = by (nat_lt literal 2) refl
     fixed (inr is) = subst (λ (l : ℕ). Value l true) (sym is) refl
 
     by : (a : Bool) → nat_lt literal 2 ≡ a → Value literal a
-    by true e = fixed (constant literal (ltb-true literal 2 e))
+    by true e = fixed (bit_cases literal (ltb-true literal 2 e))
     by false e = one_value (literal % 2 == 0) x
 
 -- a gate gives its net the literal's value

@@ -4,6 +4,7 @@ use Rattle.std.specs.Prelude.{nat_le, nat_lt, position}
 use Rattle.std.specs.List.{position_or_len}
 use Rattle.std.proofs.lemmas.Bool.{ltb-true}
 use Rattle.std.proofs.lemmas.List.{length-append}
+use Rattle.std.proofs.Math.Numerals.{add-one}
 use Rattle.net_core.specs.GateValue.{GateValue}
 use Rattle.net_core.specs.LatchValue.{LatchValue}
 use Rattle.net_core.specs.NetList.{NetList, nets, number_of, with_gate, with_label, with_latch, with_name}
@@ -77,10 +78,7 @@ module _ {A : Type 0} (step : ℕ → A → NetList → Result NetList NetFault)
   next_steps : (xs : List A) (i p : ℕ) (x d : A) (net : NetList) → i < length xs → x ≡ get_or xs i d → steps p (drop i xs) net ≡ (step p x net >>= (λ more. steps (p + 1) (drop (i + 1) xs) more))
   next_steps xs i p x d net below is =
       ap (λ (ys : List A). steps p ys net) (drop-cons xs i d below ∙ ap (λ (y : A). y ∷ drop (suc i) xs) (sym is))
-      ∙ (cons p x (drop (suc i) xs) net ∙ ap (λ (k : ℕ). step p x net >>= (λ more. steps (p + 1) (drop k xs) more)) (sym (one_more i)))
-    where
-      one_more : (k : ℕ) → k + 1 ≡ suc k
-      one_more k = omega arith
+      ∙ (cons p x (drop (suc i) xs) net ∙ ap (λ (k : ℕ). step p x net >>= (λ more. steps (p + 1) (drop k xs) more)) (sym (add-one i)))
 
   pub made_next : (xs : List A) (i p : ℕ) (x d : A) (net more : NetList) (whole : Result NetList NetFault) → i < length xs → x ≡ get_or xs i d → whole ≡ steps p (drop i xs) net → step p x net ≡ Ok more → whole ≡ steps (p + 1) (drop (i + 1) xs) more
   made_next xs i p x d net more whole below is so_far made = so_far ∙ (next_steps xs i p x d net below is ∙ first_ok (step p x net) more (λ m. steps (p + 1) (drop (i + 1) xs) m) made)

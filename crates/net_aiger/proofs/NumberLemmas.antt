@@ -1,20 +1,15 @@
 -- Words that say numbers.
-use Rattle.std.proofs.Common.{◌≡◌, ◌∙◌, ap, sym, refl, inl, inr, ℕ, zero, suc, ◌<◌, ◌≤◌, ◌+◌, ◌&&◌, Bool, true, false, cond, List, [], ◌∷◌, ◌++◌, length, map, get_or, drop, Option, None, Some, arith, append_assoc, drop-cons, add-one, append-nil, Bor}
+use Rattle.std.proofs.Common.{◌≡◌, ◌∙◌, ap, sym, refl, inl, inr, ℕ, zero, suc, ◌<◌, ◌≤◌, ◌+◌, Bool, true, false, cond, List, [], ◌∷◌, ◌++◌, length, map, get_or, drop, Option, None, Some, arith, append_assoc, drop-cons, add-one, append-nil, Bor}
 use Rattle.std.specs.List.{list_all}
 use Rattle.std.specs.Option.{option_map}
 use Rattle.std.proofs.lemmas.List.{get_or-map, length-map}
 use Rattle.std.proofs.lemmas.Bool.{le-leb, leb-true, lt-ltb, ltb-true, le-ltb}
-use Rattle.lists.specs.laws.BoolLaws.{first_true as one, second_true as other}
+use Rattle.lists.specs.laws.BoolLaws.{first_true as one, second_true as other, and_made}
 use Rattle.text_core.specs.Numbers.{IsDecimal, IsDigit, digit_value, value_of}
 use Rattle.net_aiger.specs.Numbers.{is_digit, is_number, number_of, numbers_of, put_first}
 
-both : (a b : Bool) → a ≡ true → b ≡ true → (a && b) ≡ true
-both true true x y = refl
-both true false x y = absurd (cc)
-both false b x y = absurd (cc)
-
 digit_is : (b : ℕ) → IsDigit 10 b → is_digit b ≡ true
-digit_is b (inl (low, high), small) = both _ _ (le-leb 48 b low) (le-leb b 57 high)
+digit_is b (inl (low, high), small) = and_made _ _ (le-leb 48 b low) (le-leb b 57 high)
 digit_is b (inr (inl (low, high)), small) = absurd (never small)
   where
     never : digit_value b < 10 → ⊥
@@ -35,7 +30,7 @@ is_is_digit b is =
 
 all_digits : (word : List ℕ) → ((k : ℕ) → k < length word → IsDigit 10 (get_or word k 0)) → list_all is_digit word ≡ true
 all_digits [] each = refl
-all_digits (b ∷ bs) each = both _ _ (digit_is b (each 0 (omega arith))) (all_digits bs (λ k less. each (suc k) (omega arith)))
+all_digits (b ∷ bs) each = and_made _ _ (digit_is b (each 0 (omega arith))) (all_digits bs (λ k less. each (suc k) (omega arith)))
 
 each_digit : (word : List ℕ) → list_all is_digit word ≡ true → (k : ℕ) → k < length word → IsDigit 10 (get_or word k 0)
 each_digit [] all k less = absurd (omega arith)
@@ -44,7 +39,7 @@ each_digit (b ∷ bs) all (suc k) less = each_digit bs (other _ _ all) k (omega 
 
 pub number_found : (word : List ℕ) (n : ℕ) → IsDecimal word n → n ≤ 4294967295 → Some n ≡ number_of word
 number_found word n ((some, each), value) most =
-    let is : is_number word ≡ true = both _ _ (both _ _ (lt-ltb 0 (length word) some) (all_digits word each)) (le-leb (value_of 10 word) 4294967295 (omega (arith, value, most))) in
+    let is : is_number word ≡ true = and_made _ _ (and_made _ _ (lt-ltb 0 (length word) some) (all_digits word each)) (le-leb (value_of 10 word) 4294967295 (omega (arith, value, most))) in
     rw is (ap Some value)
 
 pub number_none : (word : List ℕ) → ((n : ℕ) → IsDecimal word n → n ≤ 4294967295 → ⊥) → None ≡ number_of word

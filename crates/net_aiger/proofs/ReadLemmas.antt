@@ -1,7 +1,9 @@
 -- What comes of a text and of what was read, step by step.
-use Rattle.std.proofs.Common.{◌≡◌, ◌⊎◌, ◌∙◌, ◌+◌, ◌&&◌, ap, inl, inr, sym, refl, subst, Bool, true, false, List, [], ◌∷◌, ℕ, length, Result, Ok, Err, arith}
+use Rattle.std.proofs.Common.{◌≡◌, ◌⊎◌, ◌∙◌, ◌+◌, ap, inl, inr, sym, refl, subst, true, false, List, [], ◌∷◌, ℕ, length, Result, Ok, Err}
 use Rattle.std.specs.Prelude.{IfErr, IfOk}
 use Rattle.std.specs.Str.Lines.{lines}
+use Rattle.lists.specs.laws.BoolLaws.{first_true}
+use Rattle.lists.specs.laws.LineLaws.{no_lines}
 use Rattle.net_core.specs.Finish.{Finishes}
 use Rattle.net_core.specs.NetList.{NetList}
 use Rattle.net_core.specs.declared.fault.NetFault.{NetFault}
@@ -42,15 +44,7 @@ module _ (n : ℕ) (all rest : List (List ℕ)) (line : List ℕ) (reading : Rea
 
 -- a line that ends a text stands behind all numbers
 pub end_complete : (line : List ℕ) (reading : Reading) → ends line reading ≡ true → is_complete reading ≡ true
-end_complete line reading e = first (is_complete reading) _ e
-  where
-    first : (a b : Bool) → (a && b) ≡ true → a ≡ true
-    first true b h = refl
-    first false b h = absurd (cc)
-
-no_lines : (text : List ℕ) → length text ≡ 0 → lines text ≡ []
-no_lines [] none = refl
-no_lines (b ∷ bs) none = absurd (omega (arith, none))
+end_complete line reading e = first_true (is_complete reading) _ e
 
 -- a text that is read to its end
 pub all_read : (n : ℕ) (text : List ℕ) (reading : Reading) → length text ≡ 0 → is_complete reading ≡ true → lines_read n (lines text) reading ≡ Ok reading

@@ -3,6 +3,7 @@ use Rattle.std.proofs.Common.{◌≡◌, ◌∙◌, ap, sym, refl, ℕ, zero, su
 use Rattle.std.specs.Prelude.{slice_get, codes}
 use Rattle.std.specs.Str.{bytes_eq}
 use Rattle.lists.specs.laws.ListLaws.{length-push}
+use Rattle.lists.specs.laws.TakeLaws.{drop_none as drop_start}
 use Rattle.outcome.specs.Outcome.{Outcome}
 use Rattle.net_aiger.specs.Reading.{Reading, uses_from}
 use Rattle.net_aiger.specs.Sections.{AreEntries, Section, defining, fits}
@@ -16,10 +17,6 @@ use Rattle.net_aiger.proofs.EntryLemmas.{one_more, then_by}
 -- ---- what is left of a list
 
 module _ {A : Type 0} where
-  drop_start : (xs : List A) → drop 0 xs ≡ xs
-  drop_start [] = refl
-  drop_start (x ∷ xs) = refl
-
   pub drop_none : (k : ℕ) (xs : List A) → [] ≡ drop k xs → slice_get xs k ≡ None
   drop_none zero [] left = refl
   drop_none (suc k) [] left = refl

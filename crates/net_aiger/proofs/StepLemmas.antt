@@ -3,6 +3,7 @@ use Rattle.std.proofs.Common.{◌≡◌, ◌∙◌, ap, sym, refl, ℕ, ◌<◌,
 use Rattle.std.specs.Prelude.{nat_eq, nat_le, is_some}
 use Rattle.std.specs.Map.{lookup}
 use Rattle.std.proofs.lemmas.Bool.{le-leb, lt-leb, lt-ltb, le-ltb}
+use Rattle.lists.specs.laws.BoolLaws.{and_made}
 use Rattle.lists.specs.laws.ListLaws.{length_map, map_push}
 use Rattle.net_aiger.specs.Numbers.{number_of, numbers_of, words_of}
 use Rattle.net_aiger.specs.Reading.{Name, Reading, driven, literals_of, ports_of, reading_of, uses_from, used_by_and, used_by_latch, used_by_output}
@@ -212,13 +213,8 @@ module _ (header : Header) where
 
           pub symbols_complete : (symbols : List (ℕ × Name)) → is_complete (after_symbols symbols) ≡ true
           symbols_complete symbols =
-              both (nat_le (ports_of header) (length (after_outputs outputs).ports)) (nat_le header.ands (length ands))
+              and_made (nat_le (ports_of header) (length (after_outputs outputs).ports)) (nat_le header.ands (length ands))
               (le-leb (ports_of header) (length (after_outputs outputs).ports) (omega (arith, outputs_long outputs, all_outputs))) (le-leb header.ands (length ands) (omega (arith, all_ands)))
-            where
-              both : (a b : Bool) → a ≡ true → b ≡ true → (a && b) ≡ true
-              both true true e f = refl
-              both true false e f = absurd (cc)
-              both false b e f = absurd (cc)
 
           symbol_named : (n : ℕ) (symbols : List (ℕ × Name)) (name : Name) (port : Option ℕ) → named n name port (after_symbols symbols) ≡ then_by (or_syntax n (name_for symbols name port)) (λ s. Ok (after_symbols (symbols ++ s ∷ [])))
           symbol_named n symbols name None = refl

@@ -4,6 +4,7 @@ use Rattle.std.specs.Prelude.{slice_get, option_and_then, codes}
 use Rattle.std.specs.Str.{bytes_eq}
 use Rattle.std.proofs.lemmas.Slice.Eq.{bytes_eq-Decides}
 use Rattle.lists.specs.laws.ListLaws.{length-push}
+use Rattle.lists.specs.laws.TakeLaws.{drop_none as drop_none_law}
 use Rattle.outcome.specs.Outcome.{Exactly, Outcome, ◌>>=◌}
 use Rattle.net_aiger.specs.Numbers.{numbers_of, words_of}
 use Rattle.net_aiger.specs.Reading.{Name, Reading, driven, literals_of, ports_of, reading_of}
@@ -43,11 +44,7 @@ module _ (header : Header) (body : List (List ℕ)) where
       (λ before place none. rw (missing_line body place none) refl)
       (λ before less. inputs_go header before less)
       (λ before line less at. input_read header (0 + length before + 2) line before less ∙ rw (line_there body (0 + length before) line at) refl)
-      2 body (omega arith) (sym (drop_first body))
-    where
-      drop_first : (xs : List (List ℕ)) → drop 0 xs ≡ xs
-      drop_first [] = refl
-      drop_first (x ∷ xs) = refl
+      2 body (omega arith) (sym (drop_none_law body))
 
   module _ (inputs : List ℕ) (all_inputs : length inputs ≡ header.inputs) where
     -- ---- latches

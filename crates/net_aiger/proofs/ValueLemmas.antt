@@ -1,10 +1,13 @@
 -- The values of literals in consistent lists of bits.
-use Rattle.std.proofs.Common.{◌≡◌, ◌∙◌, ap, sym, refl, subst, inl, inr, ◌⊎◌, ℕ, zero, suc, ◌<◌, ◌+◌, ◌*◌, ◌%◌, ◌&&◌, Bool, true, false, cond, not, List, [], ◌∷◌, ◌++◌, drop, Option, None, Some, Ok, arith}
+use Rattle.std.proofs.Common.{◌≡◌, ◌∙◌, ap, sym, refl, subst, inl, inr, ◌⊎◌, ℕ, zero, suc, ◌+◌, ◌*◌, ◌%◌, ◌&&◌, Bool, true, false, cond, not, List, [], ◌∷◌, ◌++◌, drop, Option, None, Some, Ok}
 use Rattle.std.specs.Prelude.{nat_lt, ◌==◌}
 use Rattle.std.specs.Fmt.{decimal}
 use Rattle.std.specs.Int.{bit_at}
 use Rattle.std.proofs.lemmas.Bool.{ltb-true}
+use Rattle.std.proofs.Math.Bool.{and-true, and-false}
 use Rattle.lists.specs.Lists.{Has}
+use Rattle.lists.specs.laws.HasLaws.{Has_left}
+use Rattle.lists.specs.laws.NumberLaws.{bit_cases}
 use Rattle.net_core.specs.GateValue.{GateValue}
 use Rattle.net_core.specs.NetList.{NetList, empty, nets}
 use Rattle.net_core.specs.Value.{bit_of, index_of}
@@ -45,20 +48,6 @@ one_value true false = refl
 one_value false true = refl
 one_value false false = refl
 
--- a constant is 0 or 1
-pub constant : (l : ℕ) → l < 2 → (l ≡ 0) ⊎ (l ≡ 1)
-constant zero less = inl refl
-constant (suc zero) less = inr refl
-constant (suc (suc n)) less = absurd (omega arith)
-
-and_true : (b : Bool) → (b && true) ≡ b
-and_true true = refl
-and_true false = refl
-
-and_false : (b : Bool) → (b && false) ≡ false
-and_false true = refl
-and_false false = refl
-
 zero_bit : (x : Bool) → (bit_at 0 (cond x 1 0 + 2 * 0) == 1) ≡ false
 zero_bit true = refl
 zero_bit false = refl
@@ -82,7 +71,7 @@ module _ (reading : Reading) (bits : List Bool) where
 
       left_constant : (b : Bool) → nat_lt right 2 ≡ b → (left ≡ 0) ⊎ (left ≡ 1) → Value left right true b
       left_constant true e (inl is) = subst (λ (l : ℕ). Value l right true true) (sym is) refl
-      left_constant true e (inr is) = both (constant right (ltb-true right 2 e))
+      left_constant true e (inr is) = both (bit_cases right (ltb-true right 2 e))
         where
           both : (right ≡ 0) ⊎ (right ≡ 1) → Value left right true true
           both (inl r) = subst (λ (l : ℕ). Value l right true true) (sym is) (subst (λ (r : ℕ). Value 1 r true true) (sym r) refl)
@@ -91,23 +80,18 @@ module _ (reading : Reading) (bits : List Bool) where
       left_constant false e (inr is) = subst (λ (l : ℕ). Value l right true false) (sym is) (one_value (right % 2 == 0) y)
 
       right_constant : (right ≡ 0) ⊎ (right ≡ 1) → Value left right false true
-      right_constant (inl is) = subst (λ (r : ℕ). Value left r false true) (sym is) (zero_bit x ∙ sym (and_false (cond (left % 2 == 0) x (not x))))
-      right_constant (inr is) = subst (λ (r : ℕ). Value left r false true) (sym is) (one_value (left % 2 == 0) x ∙ sym (and_true (cond (left % 2 == 0) x (not x))))
+      right_constant (inl is) = subst (λ (r : ℕ). Value left r false true) (sym is) (zero_bit x ∙ sym (and-false (cond (left % 2 == 0) x (not x))))
+      right_constant (inr is) = subst (λ (r : ℕ). Value left r false true) (sym is) (one_value (left % 2 == 0) x ∙ sym (and-true (cond (left % 2 == 0) x (not x))))
 
       by : (a : Bool) → nat_lt left 2 ≡ a → (b : Bool) → nat_lt right 2 ≡ b → Value left right a b
-      by true e b f = left_constant b f (constant left (ltb-true left 2 e))
-      by false e true f = right_constant (constant right (ltb-true right 2 f))
+      by true e b f = left_constant b f (bit_cases left (ltb-true left 2 e))
+      by false e true f = right_constant (bit_cases right (ltb-true right 2 f))
       by false e false f = two_values (left % 2 == 0) (right % 2 == 0) x y
 
 -- ---- gates stay
 
 abbrev pub KeepsGates : NetList → NetList → Type 0
 KeepsGates net more = (g : GateValue) → Has net.gates g → Has more.gates g
-
-has_front : (xs ys : List GateValue) (g : GateValue) → Has xs g → Has (xs ++ ys) g
-has_front [] ys g (k, at) = absurd (cc)
-has_front (x ∷ xs) ys g (zero, at) = (zero, at)
-has_front (x ∷ xs) ys g (suc k, at) = let more = has_front xs ys g (k, at) in (suc more.0, more.1)
 
 has_last : (xs : List GateValue) (g : GateValue) → Has (xs ++ g ∷ []) g
 has_last [] g = (zero, refl)
@@ -117,7 +101,7 @@ pub same_gates : (net more : NetList) → more.gates ≡ net.gates → KeepsGate
 same_gates net more same = λ g has. let P : List GateValue → Type 0 = λ gs. Has gs g in subst P (sym same) has
 
 pub one_gate : (gate : GateValue) (net more : NetList) → gated gate net ≡ Ok more → KeepsGates net more
-one_gate gate net more made = λ g has. let P : List GateValue → Type 0 = λ gs. Has gs g in subst P (sym (gated_gates gate net more made)) (has_front net.gates (gate ∷ []) g has)
+one_gate gate net more made = λ g has. let P : List GateValue → Type 0 = λ gs. Has gs g in subst P (sym (gated_gates gate net more made)) (Has_left net.gates (gate ∷ []) g has)
 
 module _ (reading : Reading) where
   keep_and : (found : Option ℕ) (line : AndLine) (net more : NetList) → and_made reading found line net ≡ Ok more → KeepsGates net more

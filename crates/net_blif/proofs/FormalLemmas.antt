@@ -5,7 +5,8 @@ use Rattle.std.specs.List.{list_all}
 use Rattle.std.specs.Str.{bytes_eq}
 use Rattle.std.proofs.lemmas.List.Folds.{list_any-append}
 use Rattle.std.proofs.lemmas.Slice.Eq.{bytes_eq-Decides}
-use Rattle.lists.specs.laws.BoolLaws.{both_true as both}
+use Rattle.std.proofs.Math.Bool.{or-false}
+use Rattle.lists.specs.laws.BoolLaws.{both_true as both, or_right, both_ways}
 use Rattle.net_blif.specs.Statement.{Token}
 use Rattle.net_blif.specs.Connection.{formal_of}
 use Rattle.net_blif.specs.Table.{no_numbers, with_number, Numbers}
@@ -24,11 +25,7 @@ abbrev HaveSame : List Token → List Token → Type 0
 HaveSame xs ys = (q : Token) → is_among xs q ≡ is_among ys q
 
 one_more : (names : List Token) (name q : Token) → is_among (names ++ name ∷ []) q ≡ (is_among names q || bytes_eq name q)
-one_more names name q = list_any-append (λ other. bytes_eq other q) names (name ∷ []) ∙ ap (λ b. is_among names q || b) (or_false (bytes_eq name q))
-  where
-    or_false : (b : Bool) → (b || false) ≡ b
-    or_false true = refl
-    or_false false = refl
+one_more names name q = list_any-append (λ other. bytes_eq other q) names (name ∷ []) ∙ ap (λ b. is_among names q || b) (or-false (bytes_eq name q))
 
 set_more : (numbers : Numbers) (names : List Token) (name : Token) (k : ℕ) → IsSetOf numbers names → IsSetOf (with_number numbers name k) (names ++ name ∷ [])
 set_more numbers names name k is q = by (bytes_eq name q) (is_among names q) (is q) ∙ sym (one_more names name q)
@@ -137,19 +134,10 @@ each_all others [] each = refl
 each_all others (x ∷ xs) each =
     let here : bytes_eq x x ≡ true = (bytes_eq-Decides x x).1 refl in
     let first : is_among others x ≡ true = each x (rw here refl) in
-    rw (first, each_all others xs (λ q there. each q (later (bytes_eq x q) (is_among xs q) there))) refl
-  where
-    later : (a b : Bool) → b ≡ true → (a || b) ≡ true
-    later true b e = refl
-    later false b e = e
-
-bool_same : (a b : Bool) → (a ≡ true → b ≡ true) → (b ≡ true → a ≡ true) → a ≡ b
-bool_same true b to from = sym (to refl)
-bool_same false true to from = from refl
-bool_same false false to from = refl
+    rw (first, each_all others xs (λ q there. each q (or_right (bytes_eq x q) (is_among xs q) there))) refl
 
 all_same : (others xs ys : List Token) → HaveSame xs ys → list_all (λ x. is_among others x) xs ≡ list_all (λ x. is_among others x) ys
-all_same others xs ys same = bool_same _ _ (λ all. each_all others ys (λ q there. all_each others xs all q (same q ∙ there))) (λ all. each_all others xs (λ q there. all_each others ys all q (sym (same q) ∙ there)))
+all_same others xs ys same = both_ways _ _ (λ all. each_all others ys (λ q there. all_each others xs all q (same q ∙ there))) (λ all. each_all others xs (λ q there. all_each others ys all q (sym (same q) ∙ there)))
 
 has_all_is : (connected : Numbers) (names inputs : List Token) → IsSetOf connected names → has_all connected inputs ≡ list_all (λ input. is_among names input) inputs
 has_all_is connected names [] is = refl

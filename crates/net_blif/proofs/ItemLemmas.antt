@@ -7,10 +7,7 @@ use Rattle.net_blif.specs.Spelling.{statement_of}
 use Rattle.net_blif.specs.Item.{HasPrintingNames}
 use Rattle.net_blif.specs.declared.statement.Statement.{Statement}
 use Rattle.net_blif.specs.declared.statement.Statement.TheVariants.{Model, Inputs, Outputs, Clock, Cover, Latch, Instance, Row, End, Other}
-use Rattle.net_blif.proofs.StatementLemmas.{read_spells}
-
-names_rest : (word : Token) (nets : List Token) → All IsToken (word ∷ nets) → All IsToken nets
-names_rest word nets all = λ k d less. all (suc k) d (omega arith)
+use Rattle.net_blif.proofs.StatementLemmas.{read_spells, all_rest}
 
 names_front : (xs : List Token) (y : Token) → All IsToken (xs ++ y ∷ []) → All IsToken xs
 names_front xs y all = λ k d less. let P : Token → Type 0 = IsToken in subst P (get_or_append_left xs (y ∷ []) d k less) (all k d (below xs k less))
@@ -27,12 +24,12 @@ name_last (x ∷ xs) y all = name_last xs y (λ k d less. all (suc k) d (omega a
 spelled_names : (s : Statement) → All IsToken (spelled s) → IsTrue (is_well s) → HasPrintingNames s
 spelled_names (Model []) all well = λ k d less. absurd (omega (arith, less))
 spelled_names (Model (b ∷ bs)) all well = (all 1 [] (omega arith)).2
-spelled_names (Inputs nets) all well = names_rest _ nets all
-spelled_names (Outputs nets) all well = names_rest _ nets all
+spelled_names (Inputs nets) all well = all_rest _ nets all
+spelled_names (Outputs nets) all well = all_rest _ nets all
 spelled_names (Clock nets) all well = tt
-spelled_names (Cover inputs out) all well = let nets = names_rest _ (inputs ++ out ∷ []) all in (names_front inputs out nets, name_last inputs out nets)
+spelled_names (Cover inputs out) all well = let nets = all_rest _ (inputs ++ out ∷ []) all in (names_front inputs out nets, name_last inputs out nets)
 spelled_names (Latch next out rest) all well = (all 1 [] (omega arith), all 2 [] (omega arith))
-spelled_names (Instance model connections) all well = (all 1 [] (omega arith), names_rest model connections (names_rest _ (model ∷ connections) all), well)
+spelled_names (Instance model connections) all well = (all 1 [] (omega arith), all_rest model connections (all_rest _ (model ∷ connections) all), well)
 spelled_names (Row pattern output) all well = tt
 spelled_names End all well = tt
 spelled_names (Other word rest) all well = (all 0 [] (omega arith)).2

@@ -1,6 +1,6 @@
 -- A text has at most one outcome.
-use Rattle.std.proofs.Common.{◌∙◌, ap, sym, refl, ℕ, List, [], ◌∷◌, Ok, Err}
-use Rattle.outcome.proofs.DeterminedLemmas.{determined_bind, determined_returns}
+use Rattle.std.proofs.Common.{ap, refl, ℕ, List, [], ◌∷◌, Ok, Err}
+use Rattle.outcome.proofs.DeterminedLemmas.{determined_bind, determined_returns, determined_exactly}
 use Rattle.outcome.specs.Outcome.{◌>>=◌, Exactly, Returns, Determined}
 use Rattle.text_core.specs.Lines.{tokens_of}
 use Rattle.net_blif.specs.Lines.{Numbered, lines_of}
@@ -48,11 +48,6 @@ determined_says reading n tokens (Err (FormalMissing m)) y h k = absurd h
 determined_says reading n tokens (Err (Recursive m)) y h k = absurd h
 determined_says reading n tokens (Err TooDeep) y h k = absurd h
 determined_says reading n tokens (Err OutOfMemory) y h k = absurd h
-
-determined_exactly : {F A : Type 0} (value : A) → Determined {F = F} (Exactly value)
-determined_exactly value (Ok a) (Ok b) h k = ap Ok (h ∙ sym k)
-determined_exactly value (Ok a) (Err e) h k = absurd k
-determined_exactly value (Err e) y h k = absurd h
 
 determined_line : (reading : Reading) (n : ℕ) (tokens : List Token) → Determined (ReadsLine reading n tokens)
 determined_line reading n [] = determined_exactly reading

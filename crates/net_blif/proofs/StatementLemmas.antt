@@ -1,13 +1,13 @@
 -- Tokens spell at most one statement, which is the one that is read.
 use Rattle.std.proofs.Common.{◌≡◌, ◌∙◌, ap, sym, refl, subst, ℕ, zero, suc, ◌-◌, Bool, true, false, cond, not, List, [], ◌∷◌, ◌++◌, length, take, get_or, Option, None, Some, arith}
-use Rattle.std.specs.Prelude.{codes, All, IsTrue, ◌==◌, ◌||◌}
+use Rattle.std.specs.Prelude.{codes, All, IsTrue, ◌==◌}
 use Rattle.std.specs.List.{list_all, list_any}
 use Rattle.std.specs.Option.{option_map}
 use Rattle.std.specs.Str.{bytes_eq}
 use Rattle.std.proofs.lemmas.Bool.{lt-ltb, eqb-true}
 use Rattle.std.proofs.Math.Dec.{ltb}
 use Rattle.std.proofs.lemmas.Slice.Eq.{bytes_eq-Decides}
-use Rattle.lists.specs.laws.BoolLaws.{both_true as both, not_true}
+use Rattle.lists.specs.laws.BoolLaws.{both_true as both, not_true, neither}
 use Rattle.net_blif.specs.Connection.{is_connection}
 use Rattle.net_blif.specs.Statement.{Token, IsToken, spelled, bit_token, row_tokens, is_cell, is_dotted, is_latch_end, is_other, is_well, keywords}
 use Rattle.net_blif.specs.Spelling.{bit_of, model_of, cover_of, end_of, instance_of, latch_of, dotted_of, row_of, statement_of}
@@ -116,7 +116,7 @@ dotted_spells word rest s false false false false false false true b8 dot all e1
 dotted_spells word rest s false false false false false false false true dot all e1 e2 e3 e4 e5 e6 e7 e8 e = keyword_spells word (codes ".end") rest s e8 (end_spells rest s e)
 dotted_spells word rest s false false false false false false false false dot all e1 e2 e3 e4 e5 e6 e7 e8 e = by_same _ s (Other word rest) e (refl, rw (dot, e1, e2, e3, e4, e5, e6, e7, e8) refl)
 
-all_rest : (word : Token) (rest : List Token) → All IsToken (word ∷ rest) → All IsToken rest
+pub all_rest : (word : Token) (rest : List Token) → All IsToken (word ∷ rest) → All IsToken rest
 all_rest word rest all = λ k d less. all (suc k) d (omega arith)
 
 -- what is read is spelled so
@@ -155,10 +155,6 @@ cell_dot b cell = by (b == 46) refl
     by : (v : Bool) → (b == 46) ≡ v → v ≡ false
     by true e = let P : ℕ → Type 0 = λ b. is_cell b ≡ true in let no_cell : is_cell 46 ≡ true = subst P (eqb-true b 46 e) cell in absurd (cc)
     by false e = refl
-
-neither : (a b : Bool) → (a || b) ≡ false → (a ≡ false) × (b ≡ false)
-neither true b e = absurd (cc)
-neither false b e = (refl, e)
 
 other_read : (word : Token) (rest : List Token) → is_other word ≡ true → statement_of (word ∷ rest) ≡ Some (Other word rest)
 other_read word rest other =

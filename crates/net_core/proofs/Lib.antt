@@ -1,3 +1,4 @@
+pub mod SharedLemmas
 pub mod NetPath
 pub mod RightGates
 pub mod DriverLemmas

@@ -1,9 +1,10 @@
 -- A walk goes no deeper than the chains of instances.
-use Rattle.std.proofs.Common.{◌≡◌, ◌∙◌, ap, sym, refl, subst, ℕ, zero, suc, ◌+◌, Bool, true, false, cond, ◌||◌, List, [], ◌∷◌, ◌++◌, filter, Option, None, Some, Result, Ok, Err}
+use Rattle.std.proofs.Common.{◌≡◌, ◌∙◌, ap, sym, refl, subst, ℕ, zero, suc, ◌+◌, Bool, true, false, cond, List, [], ◌∷◌, ◌++◌, filter, Option, None, Some, Result, Ok, Err}
 use Rattle.std.specs.Prelude.{slice_get, unwrap_or}
 use Rattle.std.specs.List.{list_any}
 use Rattle.std.specs.Option.{option_map, option_map_or}
 use Rattle.std.proofs.lemmas.Option.{slice_get-map}
+use Rattle.lists.specs.laws.BoolLaws.{neither}
 use Rattle.graph_core.specs.Graph.{edges}
 use Rattle.net_blif.specs.Design.{ModelValue, items_of, model_named}
 use Rattle.net_blif.specs.Chains.{graph_of, leads_on, row_of, AreWithinDepth}
@@ -36,11 +37,6 @@ module _ (design : List ModelValue) where
   leads_nowhere : (model : ℕ) → leads 0 model ≡ true
   unfolding leads_on
   leads_nowhere model = refl
-
-  -- neither of two
-  neither : (a b : Bool) → (a || b) ≡ false → (a ≡ false) × (b ≡ false)
-  neither true b e = absurd (cc)
-  neither false b e = (refl, e)
 
   abbrev into : Option ℕ → List ℕ
   into found = option_map_or (λ model. model ∷ []) found []

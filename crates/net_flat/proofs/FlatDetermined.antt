@@ -1,6 +1,6 @@
 -- At most one net or fault comes of a model.
 use Rattle.std.proofs.Common.{sym, ℕ, List}
-use Rattle.outcome.proofs.DeterminedLemmas.{determined_returns}
+use Rattle.outcome.proofs.DeterminedLemmas.{determined_after, determined_returns, determined_within}
 use Rattle.outcome.specs.Outcome.{Returns, Within, Determined}
 use Rattle.net_core.specs.Finish.{Settles}
 use Rattle.net_core.proofs.SettleLemmas.{settles_determined}
@@ -9,7 +9,6 @@ use Rattle.net_flat.specs.Walk.{walk_of}
 use Rattle.net_flat.specs.Flat.{nothing, walked, net_list, Flattens}
 use Rattle.net_flat.specs.declared.flat_fault.FlatFault.TheVariants.{Net}
 use Rattle.net_flat.proofs.DriveLemmas.{walk_drives}
-pub use Rattle.outcome.proofs.DeterminedLemmas.{determined_after, determined_within}
 
 pub flattens_once : (design : List ModelValue) (model : ℕ) → Determined (Flattens design model)
 flattens_once design model =

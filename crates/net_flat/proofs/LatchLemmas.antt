@@ -2,7 +2,7 @@
 use Rattle.std.proofs.Common.{◌≡◌, ◌∙◌, ap, sym, refl, ℕ, suc, ◌+◌, ◌^◌, Bool, true, false, cond, List, [], ◌∷◌, ◌++◌, map, filter, flat_map, length, Option, None, Some, Ok, Err, arith}
 use Rattle.std.specs.Prelude.{nat_le, slice_get}
 use Rattle.std.specs.Option.{option_map_or}
-use Rattle.std.proofs.lemmas.List.{length-append}
+use Rattle.std.proofs.lemmas.List.{length-append, nil_from_length}
 use Rattle.net_core.specs.declared.fault.NetFault.TheVariants as faults
 use Rattle.net_blif.specs.Statement.{Token}
 use Rattle.net_blif.specs.Design.{ModelValue, items_of, model_named}
@@ -135,13 +135,9 @@ whole_plain design deep none each =
             ap latches_in (walk_lifted (1 + k) (connections_in item) 63 design top (inner top (1 + k) (connections_in item)) m (start_aligned (1 + k) (connections_in item)) ∙ ap (lifted (1 + k) (connections_in item)) (sym (shallow_instance design k m item deep got at top)))
             ∙ (latches_lifted (1 + k) (connections_in item) (walk_of design m) ∙ each k item got m at)
 
-no_elements : {A : Type 0} (xs : List A) → length xs ≡ 0 → xs ≡ []
-no_elements [] e = refl
-no_elements (x ∷ xs) e = absurd (omega (arith, e))
-
 -- so the whole has none, where no instance has one
 pub no_latches : (design : List ModelValue) (whole : Flat) → AreWithinDepth design (Ok tt) → gate_line design ≡ None → walked nothing (walk_of design 0) ≡ Ok whole
     → ((k model : ℕ) (item : Item) → slice_get (instances_of design) k ≡ Some item → model_named design (model_in item) ≡ Some model → (alone : Flat) × (walked nothing (walk_of design model) ≡ Ok alone) × (alone.latches ≡ []))
     → whole.latches ≡ []
 no_latches design whole deep none all each =
-    no_elements whole.latches (omega (arith, walk_latches (walk_of design 0) nothing whole all, whole_plain design deep none (λ k item got model at. let h = each k model item got at in omega (arith, walk_latches (walk_of design model) nothing h.0 h.1, ap length h.2))))
+    nil_from_length whole.latches (omega (arith, walk_latches (walk_of design 0) nothing whole all, whole_plain design deep none (λ k item got model at. let h = each k model item got at in omega (arith, walk_latches (walk_of design model) nothing h.0 h.1, ap length h.2))))

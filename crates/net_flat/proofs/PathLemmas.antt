@@ -5,6 +5,7 @@ use Rattle.std.specs.Fmt.{decimal}
 use Rattle.std.specs.Str.{bytes_eq}
 use Rattle.std.proofs.lemmas.List.{length-append}
 use Rattle.std.proofs.lemmas.Slice.Eq.{bytes_eq-Decides}
+use Rattle.lists.specs.laws.ListLaws.{append_same}
 use Rattle.net_core.specs.NetList.{number_from}
 use Rattle.net_blif.specs.Statement.{Token}
 use Rattle.net_flat.specs.Paths.{label_of, prefix_of, same_path, same_trail, At, Path}
@@ -98,16 +99,9 @@ prefix_push (k ∷ ks) n = ap (λ (p : List ℕ). decimal k ++ (codes "/" ++ p))
 pub no_longer : (t : List ℕ) (k : ℕ) (rest : List ℕ) → t ≡ t ++ k ∷ rest → ⊥
 no_longer t k rest same = omega (arith, ap length same, length-append t (k ∷ rest))
 
-front_same : (t : List ℕ) (xs ys : List ℕ) → t ++ xs ≡ t ++ ys → xs ≡ ys
-front_same [] xs ys same = same
-front_same (k ∷ ks) xs ys same = front_same ks xs ys (tail_same k k (ks ++ xs) (ks ++ ys) same)
-  where
-    tail_same : (a b : ℕ) (xs ys : List ℕ) → ◌≡◌ {A = List ℕ} (a ∷ xs) (b ∷ ys) → xs ≡ ys
-    tail_same a b xs ys e = cc
-
 head_same : (a b : ℕ) (xs ys : List ℕ) → ◌≡◌ {A = List ℕ} (a ∷ xs) (b ∷ ys) → a ≡ b
 head_same a b xs ys e = cc
 
 -- two ways on from a trail begin with one instance
 pub next_same : (t : List ℕ) (a b : ℕ) (xs ys : List ℕ) → t ++ a ∷ xs ≡ t ++ b ∷ ys → a ≡ b
-next_same t a b xs ys same = head_same a b xs ys (front_same t (a ∷ xs) (b ∷ ys) same)
+next_same t a b xs ys same = head_same a b xs ys (append_same t (a ∷ xs) (b ∷ ys) same)

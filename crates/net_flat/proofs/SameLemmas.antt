@@ -10,6 +10,7 @@ use Rattle.net_blif.specs.Statement.{Token}
 use Rattle.net_blif.specs.Connection.{actual_of, formal_of}
 use Rattle.net_blif.specs.Design.{ModelValue, items_of, model_named}
 use Rattle.net_blif.specs.declared.item.Item.{Item}
+use Rattle.net_flat.proofs.LiftLemmas.{walk_some, walk_nothing}
 use Rattle.net_blif.specs.declared.item.Item.TheVariants as items
 use Rattle.net_flat.specs.Paths.{connected, inner, path_among, path_in, same_path, top, At, Path, Scope}
 use Rattle.net_flat.specs.Steps.{actual_steps, along, steps_of, Step, Enter}
@@ -222,14 +223,6 @@ module _ (design : List ModelValue) (inside : Scope → ℕ → List (Step Path)
       (agree_after Anything Anything flat scope (next_number n item) (last_number (next_number n item) lines) (λ more. walked more rest) (λ more. local_lines goes design more (next_number n item) lines) _ _ (line_agrees flat local scope n item tied)
       (λ mid later is grows q. lines_agree lines mid later scope (next_number n item) is))
 
-walk_step : (depth : ℕ) (design : List ModelValue) (scope : Scope) (model : ℕ) → walk_within (suc depth) design scope model ≡ lines_in (walk_within depth design) design scope 1 (items_of design model)
-unfolding walk_within
-walk_step depth design scope model = refl
-
-walk_none : (design : List ModelValue) (scope : Scope) (model : ℕ) → walk_within 0 design scope model ≡ []
-unfolding walk_within
-walk_none design scope model = refl
-
 pub local_walk_step : (depth : ℕ) (design : List ModelValue) (state : State) (model : ℕ) → local_within (suc depth) design state model ≡ local_lines (local_within depth design) design state 1 (items_of design model)
 unfolding local_within
 local_walk_step depth design state model = refl
@@ -241,9 +234,9 @@ local_walk_none design state model = refl
 -- through any number of models
 bodies_agree : (depth : ℕ) (design : List ModelValue) → BodiesAgree design (walk_within depth design) (local_within depth design)
 bodies_agree zero design flat local scope model tied =
-    rw (walk_none design scope model, local_walk_none design (tie flat local) model) (refl, refl, grows_none scope.trail flat flat refl)
+    rw (walk_nothing design scope model, local_walk_none design (tie flat local) model) (refl, refl, grows_none scope.trail flat flat refl)
 bodies_agree (suc depth) design flat local scope model tied =
-    rw (walk_step depth design scope model, local_walk_step depth design (tie flat local) model)
+    rw (walk_some depth design scope model, local_walk_step depth design (tie flat local) model)
     (forget Anything flat scope (last_number 1 (items_of design model)) _ _ (lines_agree design (walk_within depth design) (local_within depth design) (bodies_agree depth design) (items_of design model) flat local scope 1 tied))
 
 -- before the first line

@@ -8,6 +8,7 @@ use Rattle.std.proofs.lemmas.Bool.Decides.{nat_tests}
 use Rattle.std.proofs.lemmas.Slice.Eq.{bytes_eq-Decides}
 use Rattle.std.proofs.lemmas.Slice.Zip.{AllZip-long}
 use Rattle.lists.specs.laws.BoolLaws.{second_true as both_true}
+use Rattle.lists.specs.laws.HasLaws.{any_has}
 use Rattle.outcome.specs.Steps.{with_value}
 use Rattle.net_words.specs.Feeds.{AreFeeds, IsSource}
 use Rattle.net_words.specs.Roles.{same_role}
@@ -17,7 +18,6 @@ use Rattle.net_words.specs.declared.feed.FeedText.{FeedText}
 use Rattle.net_words.specs.declared.word.Role.{Role}
 use Rattle.net_words.specs.declared.word.Role.TheVariants as role
 use Rattle.net_words.specs.declared.word.WordText.{WordText}
-use Rattle.net_words.proofs.MemberLemmas.{any_has}
 use Rattle.net_signature.specs.Lines.{Token, Line, end_from}
 use Rattle.net_signature.specs.Outcomes.{tower_comes}
 use Rattle.net_signature.specs.Statement.{SaysEntry, SaysElement, SaysSource, SaysTower}

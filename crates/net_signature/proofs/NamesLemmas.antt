@@ -5,13 +5,13 @@ use Rattle.std.specs.List.{list_any}
 use Rattle.std.specs.Str.{bytes_eq}
 use Rattle.std.proofs.lemmas.Bool.{true≢false}
 use Rattle.std.proofs.lemmas.Slice.Eq.{bytes_eq-Decides}
+use Rattle.lists.specs.laws.HasLaws.{any_has}
 use Rattle.outcome.specs.Steps.{with_value}
 use Rattle.text_core.specs.Names.{IsName}
 use Rattle.net_words.specs.Roles.{is_output, input_count}
 use Rattle.net_words.specs.declared.feed.Source.{Source}
 use Rattle.net_words.specs.declared.feed.FeedText.{FeedText}
 use Rattle.net_words.specs.declared.word.WordText.{WordText}
-use Rattle.net_words.proofs.MemberLemmas.{any_has}
 use Rattle.net_signature.specs.Lines.{Line}
 use Rattle.net_signature.specs.Statement.{SaysEntry}
 use Rattle.net_signature.specs.Body.{BlockValue, BodyValue, begun, blocks_of, blocks_whole, whole, with_word, body_with, block_with, with_feed, fed_with, source_of, block_begun, next, Reads}

@@ -1,8 +1,7 @@
 -- At most one outcome comes of a signature's text.
 use Rattle.std.proofs.Common.{◌≡◌, ◌∙◌, ap, sym, ℕ, ◌&&◌, List, [], ◌∷◌, Bool, true, false, Ok, Err}
-use Rattle.outcome.proofs.DeterminedLemmas.{determined_returns, determined_bind}
+use Rattle.outcome.proofs.DeterminedLemmas.{determined_returns, determined_bind, determined_exactly}
 use Rattle.outcome.specs.Outcome.{◌>>=◌, Exactly, Returns, Determined}
-use Rattle.net_words.proofs.BindDetermined.{determined_exactly}
 use Rattle.net_signature.specs.Lines.{Token, Line, lines_from, end_from}
 use Rattle.net_signature.specs.Statement.{SaysVersion, SaysField, SaysTower, SaysEntry}
 use Rattle.net_signature.specs.Outcomes.{OrSyntax, Says, first_of, Next, tower_comes}

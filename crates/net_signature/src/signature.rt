@@ -26,8 +26,8 @@ impl Model for Signature {
 }
 
 impl Signature {
-    // A signature of these parts.
-    pub(crate) fn of_parts(
+    /// A signature of these parts.
+    pub fn of_parts(
         modulus: u128,
         tower: Numbers<u64>,
         upper: Numbers<u64>,

@@ -67,7 +67,7 @@ leaf_there f g is same n has =
     depends : DependsOn f n → (Has g.leaves n → ⊥) → ⊥
     depends d gone = d.differ (same d.bits ∙ value_agree g d.bits d.other (λ m leaf. d.alike m (apart m gone leaf)) ∙ sym (same d.other))
 
-one_bit : (a b : ℕ) → a < 2 → b < 2 → (a == 1) ≡ (b == 1) → a ≡ b
+pub one_bit : (a b : ℕ) → a < 2 → b < 2 → (a == 1) ≡ (b == 1) → a ≡ b
 one_bit zero zero small small' same = refl
 one_bit (suc zero) (suc zero) small small' same = refl
 one_bit zero (suc zero) small small' same = absurd (cc)

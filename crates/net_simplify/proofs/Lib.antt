@@ -7,3 +7,17 @@ pub mod RewriteLemmas
 pub mod SoundLemmas
 pub mod OneLemmas
 pub mod CircuitLemmas
+pub mod BitLemmas
+pub mod HalfLemmas
+pub mod LeafLemmas
+pub mod TwinLemmas
+pub mod CatalogLemmas
+pub mod UnderwayLemmas
+pub mod StepLemmas
+pub mod BestLemmas
+pub mod SettleLemmas
+pub mod MarkLemmas
+pub mod MadeLemmas
+pub mod WordLemmas
+mod InverterExamples
+mod NandExamples

@@ -2,20 +2,21 @@
 use Rattle.std.proofs.Common.{◌≡◌, ◌≢◌, ◌⊎◌, ◌∙◌, ap, ap₂, sym, refl, inl, inr, subst, ℕ, zero, suc, ◌<◌, ◌≤◌, ◌+◌, ◌-◌, ◌*◌, ◌/◌, ◌%◌, Bool, true, false, not, cond, List, [], ◌∷◌, length, map, Some, arith}
 use Rattle.std.specs.Prelude.{slice_get, ◌==◌}
 use Rattle.std.specs.Int.{bit_at}
-use Rattle.lists.specs.Lists.{Has}
 use Rattle.lists.specs.laws.NumberLaws.{nat_eq_or}
-use Rattle.lists.specs.laws.ReadLaws.{from_map}
 use Rattle.net_core.specs.GateValue.{GateValue}
+use Rattle.lists.specs.Lists.{Has, times}
 use Rattle.net_core.specs.NetList.{NetList}
 use Rattle.net_core.specs.Sound.{sources}
 use Rattle.net_core.specs.Value.{bit_of, index_of, IsRight, IsConsistent}
+use Rattle.lists.specs.laws.ReadLaws.{from_map}
 use Rattle.net_simplify.specs.Form.{Form, value, IsForm, itself, complement, index_by, IsComposed}
 use Rattle.net_simplify.specs.Uses.{uses, is_single}
 use Rattle.net_simplify.specs.Choice.{Forms, taken, IsChosen}
 use Rattle.net_simplify.specs.Simplified.{AreForms, AreTwins, IsFirst, IsReduced, IsShared, IsUnitBy}
+use Rattle.net_simplify.specs.private.Underway.{AreFormsTo}
 use Rattle.net_simplify.proofs.ListLemmas.{has_none, has_cons, has_more}
 use Rattle.net_simplify.proofs.FormLemmas.{HasLeaf, complement_form, complement_value, composed_leaf, index_by_agree, itself_form, itself_value, no_complement}
-use Rattle.net_simplify.proofs.PlacedLemmas.{ArePlaced, IsEarlier}
+use Rattle.net_simplify.specs.private.Underway.{ArePlaced, IsEarlier}
 use Rattle.net_simplify.proofs.UseLemmas.{inputs_used}
 
 -- the form stands on used nets that come before place i
@@ -96,7 +97,7 @@ composed_stands net ends gates forms i opened g form known is = λ m leaf.
 -- ---- one gate after another
 
 -- a source that is used
-source_known : (net : NetList) (ends : List ℕ) (gates : List GateValue) (forms : Forms) (i n : ℕ) → AreForms net ends gates forms → Has (sources net) n → uses ends gates n ≢ 0 → IsKnown net ends gates forms i n
+source_known : {k : ℕ} (net : NetList) (ends : List ℕ) (gates : List GateValue) (forms : Forms) (i n : ℕ) → AreFormsTo net ends gates forms k → Has (sources net) n → uses ends gates n ≢ 0 → IsKnown net ends gates forms i n
 source_known net ends gates forms i n are source used =
     let unit = are.units n source in
     let body = are.bodies n source in
@@ -114,7 +115,7 @@ source_known net ends gates forms i n are source used =
 abbrev pub AreAllSettled : NetList → List ℕ → List GateValue → Forms → ℕ → Type 0
 AreAllSettled net ends gates forms i = (j : ℕ) (g : GateValue) → j < i → slice_get gates j ≡ Some g → uses ends gates g.out ≢ 0 → AreSettled net ends gates forms j g.out
 
-pub early_known : (net : NetList) (ends : List ℕ) (gates : List GateValue) (forms : Forms) (i n : ℕ) → AreForms net ends gates forms → AreAllSettled net ends gates forms i → uses ends gates n ≢ 0 → IsEarlier net gates i n → IsKnown net ends gates forms i n
+pub early_known : {k : ℕ} (net : NetList) (ends : List ℕ) (gates : List GateValue) (forms : Forms) (i n : ℕ) → AreFormsTo net ends gates forms k → AreAllSettled net ends gates forms i → uses ends gates n ≢ 0 → IsEarlier net gates i n → IsKnown net ends gates forms i n
 early_known net ends gates forms i n are all used (inl source) = source_known net ends gates forms i n are source used
 early_known net ends gates forms i n are all used (inr (j, g, less, got, out)) =
     let P : ℕ → Type 0 = λ m. uses ends gates m ≢ 0 in
@@ -132,7 +133,7 @@ mapped_values : (forms : Forms) (bits : List Bool) (ns : List ℕ) → ((n : ℕ
 mapped_values forms bits [] each = refl
 mapped_values forms bits (n ∷ ns) each = ap₂ (λ b i. cond b 1 0 + 2 * i) (each n (0, refl)) (mapped_values forms bits ns (λ m has. each m (has_more n ns m has)))
 
-reduced_settled : (net : NetList) (ends : List ℕ) (gates : List GateValue) (forms : Forms) (i n : ℕ) (form : Form) → AreForms net ends gates forms → AreAllSettled net ends gates forms i → IsForm form → Means net form n → StandsOn net ends gates i form → IsReduced forms form n → AreSettled net ends gates forms i n
+reduced_settled : {k : ℕ} (net : NetList) (ends : List ℕ) (gates : List GateValue) (forms : Forms) (i n : ℕ) (form : Form) → AreFormsTo net ends gates forms k → AreAllSettled net ends gates forms i → IsForm form → Means net form n → StandsOn net ends gates i form → IsReduced forms form n → AreSettled net ends gates forms i n
 reduced_settled net ends gates forms i n form are all is means stands reduced =
     let F : Form → Type 0 = IsForm in
     let M : Form → Type 0 = λ f. Means net f n in
@@ -186,7 +187,7 @@ first_place ends gates forms i g first form got used body is =
       | inr over ↦ absurd (is.least i g (omega (arith, over)) got used (inl body))
     ]
 
-shared_settled : (net : NetList) (ends : List ℕ) (gates : List GateValue) (forms : Forms) (i : ℕ) (g : GateValue) (form : Form) → AreForms net ends gates forms → AreAllSettled net ends gates forms i → slice_get gates i ≡ Some g → uses ends gates g.out ≢ 0 → IsForm form → Means net form g.out → StandsOn net ends gates i form → IsShared (uses ends gates) gates forms form g.out → AreSettled net ends gates forms i g.out
+shared_settled : {k : ℕ} (net : NetList) (ends : List ℕ) (gates : List GateValue) (forms : Forms) (i : ℕ) (g : GateValue) (form : Form) → AreFormsTo net ends gates forms k → AreAllSettled net ends gates forms i → slice_get gates i ≡ Some g → uses ends gates g.out ≢ 0 → IsForm form → Means net form g.out → StandsOn net ends gates i form → IsShared (uses ends gates) gates forms form g.out → AreSettled net ends gates forms i g.out
 shared_settled net ends gates forms i g form are all got used is means stands shared =
     let F : Form → Type 0 = IsForm in
     let M : Form → Type 0 = λ f. Means net f g.out in
@@ -215,9 +216,9 @@ shared_settled net ends gates forms i g form are all got used is means stands sh
           | inr apart ↦ (all shared.first.place shared.gate (omega (arith, place, apart)) shared.first.at shared.first.is_used).body_means
         ]
 
-gate_settled : (net : NetList) (ends : List ℕ) (gates : List GateValue) (forms : Forms) (i : ℕ) (g : GateValue) → ArePlaced net gates → AreForms net ends gates forms → AreAllSettled net ends gates forms i → slice_get gates i ≡ Some g → uses ends gates g.out ≢ 0 → AreSettled net ends gates forms i g.out
-gate_settled net ends gates forms i g placed are all got used =
-    let found = are.each g (i, got) used in
+gate_settled : {k : ℕ} (net : NetList) (ends : List ℕ) (gates : List GateValue) (forms : Forms) (i : ℕ) (g : GateValue) → ArePlaced net gates → AreFormsTo net ends gates forms k → i < k → AreAllSettled net ends gates forms i → slice_get gates i ≡ Some g → uses ends gates g.out ≢ 0 → AreSettled net ends gates forms i g.out
+gate_settled net ends gates forms i g placed are within all got used =
+    let found = are.each i g within got used in
     let form : Form = found.0 in
     let composed = found.1.given.2 in
     let means : Means net form g.out = composed_means net ends gates forms i found.1.opened g form (placed.only g (i, got)) known composed in
@@ -230,10 +231,17 @@ gate_settled net ends gates forms i g placed are all got used =
     known : (n : ℕ) → Has g.inputs n → IsKnown net ends gates forms i n
     known n input = early_known net ends gates forms i n are all (inputs_used net ends gates placed i g got used n input) (placed.inputs i g got n input)
 
+-- units and bodies of all gates are so of the first ones
+pub forms_to : (net : NetList) (ends : List ℕ) (gates : List GateValue) (forms : Forms) → AreForms net ends gates forms → (k : ℕ) → AreFormsTo net ends gates forms k
+forms_to net ends gates forms are k = record { units = are.units; bodies = are.bodies; each = λ j g less got used. are.each g (j, got) used }
+
+pub settled_to : {k : ℕ} (net : NetList) (ends : List ℕ) (gates : List GateValue) (forms : Forms) → ArePlaced net gates → AreFormsTo net ends gates forms k → (i : ℕ) → i ≤ k → AreAllSettled net ends gates forms i
+settled_to net ends gates forms placed are zero within j g less got used = absurd (omega arith)
+settled_to net ends gates forms placed are (suc i) within j g less got used =
+    gate_settled net ends gates forms j g placed are (omega (arith, less, within)) (λ n h low at is. settled_to net ends gates forms placed are i (omega (arith, within)) n h (omega (arith, low, less)) at is) got used
+
 pub all_settled : (net : NetList) (ends : List ℕ) (gates : List GateValue) (forms : Forms) → ArePlaced net gates → AreForms net ends gates forms → (i : ℕ) → AreAllSettled net ends gates forms i
-all_settled net ends gates forms placed are zero j g less got used = absurd (omega arith)
-all_settled net ends gates forms placed are (suc i) j g less got used =
-    gate_settled net ends gates forms j g placed are (λ k h low at is. all_settled net ends gates forms placed are i k h (omega (arith, low, less)) at is) got used
+all_settled net ends gates forms placed are i = settled_to net ends gates forms placed (forms_to net ends gates forms are i) i (omega arith)
 
 pub settled : (net : NetList) (ends : List ℕ) (gates : List GateValue) (forms : Forms) → ArePlaced net gates → AreForms net ends gates forms → (i : ℕ) (g : GateValue) → slice_get gates i ≡ Some g → uses ends gates g.out ≢ 0 → AreSettled net ends gates forms i g.out
 settled net ends gates forms placed are i g got used = all_settled net ends gates forms placed are (suc i) i g (omega arith) got used

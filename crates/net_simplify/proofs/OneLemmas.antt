@@ -1,9 +1,9 @@
 -- A net has one simplified net at most.
 use Rattle.std.proofs.Common.{◌≡◌, ◌≢◌, ◌⊎◌, ◌∙◌, ap, ap₂, sym, refl, inl, inr, subst, ℕ, zero, suc, ◌<◌, ◌≤◌, ◌+◌, ◌-◌, ◌/◌, ◌%◌, Bool, true, false, cond, List, [], ◌∷◌, length, map, Some, arith, eq-eqb}
 use Rattle.std.specs.Prelude.{slice_get, ◌==◌}
-use Rattle.lists.specs.Lists.{Has, times}
 use Rattle.lists.specs.laws.NumberLaws.{nat_eq_or}
 use Rattle.net_core.specs.GateValue.{GateValue}
+use Rattle.lists.specs.Lists.{Has, times}
 use Rattle.net_core.specs.NetList.{NetList}
 use Rattle.net_core.specs.Sound.{IsSound, sources}
 use Rattle.net_simplify.specs.Form.{Form, IsForm, IsComposed, complement, itself}
@@ -12,22 +12,23 @@ use Rattle.net_simplify.specs.Choice.{Forms, Gives, IsAdmitted, IsChosen, leaves
 use Rattle.net_simplify.specs.Simplified.{AreForms, AreTwins, IsFirst, IsReduced, IsShared, IsSimplified, IsUnitBy, formed, simple_gate, with_forms}
 use Rattle.net_simplify.proofs.ListLemmas.{has_more}
 use Rattle.net_simplify.proofs.FormLemmas.{composed_same, no_complement}
-use Rattle.net_simplify.proofs.MeaningLemmas.{IsKnown, StandsOn, all_settled, composed_stands, early_known, first_place}
-use Rattle.net_simplify.proofs.PlacedLemmas.{ArePlaced, IsEarlier, are_placed, in_order_only}
+use Rattle.net_simplify.proofs.MeaningLemmas.{IsKnown, StandsOn, all_settled, composed_stands, early_known, first_place, forms_to}
+use Rattle.net_simplify.specs.private.Underway.{ArePlaced, IsEarlier}
+use Rattle.net_simplify.proofs.PlacedLemmas.{are_placed, in_order_only}
 use Rattle.net_simplify.proofs.UseLemmas.{inputs_used}
 
 -- both have the same forms for the net
 abbrev pub Agree : Forms → Forms → ℕ → Type 0
 Agree forms others n = (forms.unit n ≡ others.unit n) × (forms.body n ≡ others.body n)
 
-taken_same : (forms others : Forms) (ns : List ℕ) (opened : ℕ) → ((n : ℕ) → Has ns n → Agree forms others n) → taken forms opened ns ≡ taken others opened ns
+pub taken_same : (forms others : Forms) (ns : List ℕ) (opened : ℕ) → ((n : ℕ) → Has ns n → Agree forms others n) → taken forms opened ns ≡ taken others opened ns
 taken_same forms others [] opened each = refl
 taken_same forms others (n ∷ ns) opened each =
     ap₂ (λ (f : Form) (fs : List Form). f ∷ fs) (ap₂ (λ (u b : Form). cond (opened % 2 == 1) b u) (each n (0, refl)).0 (each n (0, refl)).1) (taken_same forms others ns (opened / 2) (λ m has. each m (has_more n ns m has)))
 
 -- ---- the choice
 
-gives_moved : (forms others : Forms) (g : GateValue) (opened : ℕ) (form : Form) → taken forms opened g.inputs ≡ taken others opened g.inputs → Gives forms g opened form → Gives others g opened form
+pub gives_moved : (forms others : Forms) (g : GateValue) (opened : ℕ) (form : Form) → taken forms opened g.inputs ≡ taken others opened g.inputs → Gives forms g opened form → Gives others g opened form
 gives_moved forms others g opened form same (within, admitted, composed) =
     let P : List Form → Type 0 = λ fs. length (leaves_of fs) ≤ 4 in
     let Q : List Form → Type 0 = λ fs. IsComposed g.table fs form in
@@ -82,7 +83,7 @@ unit_same forms others form m u v is same (inr (body, unit)) (inl (body', unit')
 
 -- ---- one gate after another
 
-mapped_same : (forms others : Forms) (ns : List ℕ) → ((n : ℕ) → Has ns n → forms.body n ≡ others.body n) → map forms.body ns ≡ map others.body ns
+pub mapped_same : (forms others : Forms) (ns : List ℕ) → ((n : ℕ) → Has ns n → forms.body n ≡ others.body n) → map forms.body ns ≡ map others.body ns
 mapped_same forms others [] each = refl
 mapped_same forms others (n ∷ ns) each = ap₂ (λ (f : Form) (fs : List Form). f ∷ fs) (each n (0, refl)) (mapped_same forms others ns (λ m has. each m (has_more n ns m has)))
 
@@ -118,7 +119,7 @@ gate_agree net ends gates forms others i g placed are are' all got used =
     inputs n input = early_agree net ends gates forms others i n are are' all (inputs_used net ends gates placed i g got used n input) (placed.inputs i g got n input)
 
     known : (n : ℕ) → Has g.inputs n → IsKnown net ends gates forms i n
-    known n input = early_known net ends gates forms i n are (all_settled net ends gates forms placed are i) (inputs_used net ends gates placed i g got used n input) (placed.inputs i g got n input)
+    known n input = early_known net ends gates forms i n (forms_to net ends gates forms are i) (all_settled net ends gates forms placed are i) (inputs_used net ends gates placed i g got used n input) (placed.inputs i g got n input)
 
     cases : (form : Form) → IsChosen (is_single net ends gates) forms g form → IsReduced forms form g.out ⊎ IsShared (uses ends gates) gates forms form g.out → IsReduced others form g.out ⊎ IsShared (uses ends gates) gates others form g.out → Agree forms others g.out
     cases form chosen (inl r) (inl r') =

@@ -18,18 +18,7 @@ use Rattle.net_core.proofs.ExistLemmas.{sound_levels}
 use Rattle.net_core.proofs.LawLemmas.{levels_only, order_only}
 use Rattle.net_core.proofs.OrderLemmas.{before_all}
 use Rattle.net_simplify.specs.Uses.{AreInOrder}
-
--- a source, or driven by one of the first i gates
-abbrev pub IsEarlier : NetList → List GateValue → ℕ → ℕ → Type 0
-IsEarlier net gates i n = Has (sources net) n ⊎ ((j : ℕ) × (g : GateValue) × (j < i) × (slice_get gates j ≡ Some g) × (g.out ≡ n))
-
--- each gate once, after those that drive its inputs
-pub record ArePlaced (net : NetList) (gates : List GateValue) : Type 0 where
-  pub all : (g : GateValue) → Has net.gates g → Has gates g
-  pub only : (g : GateValue) → Has gates g → Has net.gates g
-  pub apart : (i j : ℕ) (g h : GateValue) → slice_get gates i ≡ Some g → slice_get gates j ≡ Some h → g.out ≡ h.out → i ≡ j
-  pub inputs : (i : ℕ) (g : GateValue) → slice_get gates i ≡ Some g → (n : ℕ) → Has g.inputs n → IsEarlier net gates i n
-  pub driven : (g : GateValue) → Has gates g → Has (sources net) g.out → ⊥
+use Rattle.net_simplify.specs.private.Underway.{ArePlaced, IsEarlier}
 
 -- the place in the order of a gate of the list, and of the list of a gate in the order
 place_of : (net : NetList) (gates : List GateValue) (placed : AreInOrder net gates) (levels : Levels) → IsOrder net levels placed.order → (p : ℕ) (g : GateValue) → slice_get net.gates p ≡ Some g → (i : ℕ) × (slice_get placed.order i ≡ Some p) × (slice_get gates i ≡ Some g)

@@ -19,7 +19,8 @@ use Rattle.net_simplify.specs.Uses.{uses}
 use Rattle.net_simplify.specs.Choice.{Forms}
 use Rattle.net_simplify.specs.Simplified.{AreForms, IsSimplified, formed, simple_gate, with_forms}
 use Rattle.net_simplify.proofs.MeaningLemmas.{Means, StandsOn, earlier_more, settled}
-use Rattle.net_simplify.proofs.PlacedLemmas.{ArePlaced, IsEarlier, are_placed}
+use Rattle.net_simplify.specs.private.Underway.{ArePlaced, IsEarlier}
+use Rattle.net_simplify.proofs.PlacedLemmas.{are_placed}
 use Rattle.net_simplify.proofs.RewriteLemmas.{IsRewriting, agrees_back, agrees_forth, rewritten, rewritten_sound}
 use Rattle.net_simplify.proofs.UseLemmas.{chain_used, uses_ends}
 

@@ -12,7 +12,7 @@ use Rattle.net_core.specs.Sound.{Needs}
 use Rattle.net_core.proofs.ExistLemmas.{chain_more}
 use Rattle.net_simplify.specs.Uses.{uses}
 use Rattle.net_simplify.proofs.ListLemmas.{has_more}
-use Rattle.net_simplify.proofs.PlacedLemmas.{ArePlaced, IsEarlier}
+use Rattle.net_simplify.specs.private.Underway.{ArePlaced, IsEarlier}
 
 -- what a gate adds that is used so often
 abbrev adds : ℕ → ℕ → ℕ
@@ -52,7 +52,7 @@ uses_skip ends (g ∷ gates) (suc i) n none =
         none_added : (used : ℕ) → adds used 0 ≡ 0
         none_added used = grind (arith, nat_tests)
 
-dropped : (gates : List GateValue) (i : ℕ) (g : GateValue) → slice_get gates i ≡ Some g → drop i gates ≡ g ∷ drop (suc i) gates
+pub dropped : (gates : List GateValue) (i : ℕ) (g : GateValue) → slice_get gates i ≡ Some g → drop i gates ≡ g ∷ drop (suc i) gates
 dropped [] i g got = absurd (cc)
 dropped (h ∷ gates) zero g got = let same : h ≡ g = cc in ap (λ x. x ∷ gates) same
 dropped (h ∷ gates) (suc i) g got = dropped gates i g got

@@ -1,6 +1,6 @@
 -- Which inputs of a gate are replaced by functions of other nets. Source: this project's own; in the manner of the merging of
 -- cuts, after Cong and Ding, FlowMap, IEEE TCAD 1994.
-use Rattle.std.specs.Prelude.{◌≡◌, ◌⊎◌, ℕ, ◌<◌, ◌≤◌, ◌+◌, ◌*◌, ◌/◌, ◌%◌, ◌^◌, ◌==◌, Bool, nat_lt, List, [], ◌∷◌, length, sum_by, if◌then◌else◌}
+use Rattle.std.specs.Prelude.{◌≡◌, ◌⊎◌, ℕ, ◌<◌, ◌≤◌, ◌+◌, ◌*◌, ◌/◌, ◌%◌, ◌^◌, ◌==◌, Bool, nat_lt, List, [], ◌∷◌, length, if◌then◌else◌}
 use Rattle.net_core.specs.GateValue.{GateValue}
 use Rattle.net_simplify.specs.Form.{Form, IsComposed}
 
@@ -39,7 +39,8 @@ IsAdmitted forms inputs opened = (opened ≡ 0) ⊎ (length (leaves_of (taken fo
 
 -- 1 for each leaf, and 8 more for one that is used once
 abbrev pub price : (ℕ → Bool) → List ℕ → ℕ
-price single leaves = sum_by (λ n. if single n then 9 else 1) leaves
+price single [] = 0
+price single (n ∷ ns) = (if single n then 9 else 1) + price single ns
 
 -- the table's function of the inputs where these are opened
 abbrev pub Gives : Forms → GateValue → ℕ → Form → Type 0

@@ -3,3 +3,4 @@ pub mod Uses
 pub mod Choice
 pub mod Simplified
 pub mod Circuit
+pub mod private

@@ -7,6 +7,8 @@ use Rattle.std.specs.Str.{bytes_eq}
 use Rattle.std.specs.Prelude.{decimal}
 use Rattle.std.specs.Map.{lookup}
 use Rattle.std.specs.Cmp.Lexicographic.{bytes_decides}
+use Rattle.lists.specs.laws.BoolLaws.{same_twice, apart_twice}
+use Rattle.lists.specs.laws.ListLaws.{some_after}
 use Rattle.indexmap.specs.IndexMap.{insert_entry}
 use Rattle.net_verilog.specs.Declarations.{Declarations, Range, bit_name, declared_as, put, range_of}
 use Rattle.net_verilog.specs.Targets.{HasNetNames}
@@ -27,15 +29,6 @@ inserted {Y} (e ∷ es) key d = by (string_eq key e.0) (inserted es key d)
     by : (b : Bool) → named_entries (insert_entry string_eq es key d) ≡ put (string_bytes key) d (named_entries es) → named_entries (if b then (e.0, d) ∷ es else e ∷ insert_entry string_eq es key d) ≡ (if b then (string_bytes e.0, d) ∷ named_entries es else (string_bytes e.0, e.1) ∷ put (string_bytes key) d (named_entries es))
     by true more = refl
     by false more = ap (λ rest. (string_bytes e.0, e.1) ∷ rest) more
-
-same_twice : {A : Type 0} (b : Bool) (x y z : A) → (if b then x else z) ≡ (if b then x else (if b then y else z))
-same_twice true x y z = refl
-same_twice false x y z = refl
-
-apart_twice : {A : Type 0} (a b : Bool) (x y z : A) → (a ≡ true → b ≡ true → ⊥) → (if a then x else (if b then y else z)) ≡ (if b then y else (if a then x else z))
-apart_twice true true x y z apart = absurd (apart refl refl)
-apart_twice true false x y z apart = refl
-apart_twice false b x y z apart = refl
 
 -- what names are declared as after a declaration
 pub put_at : (name q : List ℕ) (d : Declared) (declared : Declarations) → declared_as (put name d declared) q ≡ (if bytes_eq q name then Some d else declared_as declared q)
@@ -61,13 +54,8 @@ names_kept name d declared short names q low high i is above below = by (bytes_e
     by true same range = let name' = (bytes_decides q name).0 same in rw name' (short low high i (cc) above below)
     by false other range = names q low high i range above below
 
--- a bit's name is not empty
-some_name : (name : List ℕ) (rest : List ℕ) → 1 ≤ length rest → 1 ≤ length (name ++ rest)
-some_name [] rest some = some
-some_name (b ∷ bs) rest some = omega arith
-
 -- each bit of a declared vector has the name of a net
 pub bits_named : (declared : Declarations) (name : List ℕ) → HasNetNames declared → (range : Option Range) → range_of declared name ≡ range → HasBits name range
 bits_named declared name names None is = tt
 bits_named declared name names (Some None) is = tt
-bits_named declared name names (Some (Some (low, high))) is = λ i above below. (some_name (name ++ codes "[" ++ decimal i) (codes "]") (omega arith), names name low high i is above below)
+bits_named declared name names (Some (Some (low, high))) is = λ i above below. (some_after (name ++ codes "[" ++ decimal i) (codes "]") (omega arith), names name low high i is above below)

@@ -1,7 +1,7 @@
 -- At most one outcome comes of binding words.
 use Rattle.std.proofs.Common.{◌≡◌, ◌∙◌, ap, sym, refl, ⊎_elim, ℕ, ◌<◌, List, [], ◌∷◌, ◌++◌, length, true, false, Ok, Err, arith}
 use Rattle.std.proofs.lemmas.Bool.{cases_lt, true≢false}
-use Rattle.outcome.proofs.DeterminedLemmas.{determined_returns, determined_bind}
+use Rattle.outcome.proofs.DeterminedLemmas.{determined_returns, determined_bind, determined_exactly}
 use Rattle.outcome.specs.Outcome.{Outcome, ◌>>=◌, Exactly, Returns, Determined}
 use Rattle.net_core.specs.NetList.{NetList, nets, number_of}
 use Rattle.net_words.specs.Binding.{Binding}
@@ -14,11 +14,6 @@ use Rattle.net_words.specs.declared.feed.Feed.{Feed}
 use Rattle.net_words.specs.declared.feed.FeedText.{FeedText}
 use Rattle.net_words.specs.declared.word.Role.{Role}
 use Rattle.net_words.specs.declared.word.WordText.{WordText}
-
-pub determined_exactly : {F A : Type 0} (value : A) → Determined {F = F} (Exactly value)
-determined_exactly value (Ok x) (Ok y) h k = ap Ok (h ∙ sym k)
-determined_exactly value (Ok x) (Err e) h k = absurd k
-determined_exactly value (Err e) y h k = absurd h
 
 nets_determined : (net : NetList) (word : ℕ) (role : Role) (taken before : List ℕ) (names : List (List ℕ)) → Determined (NetsOf net word role taken before names)
 nets_determined net word role taken before [] = determined_exactly (before, taken)

@@ -3,7 +3,9 @@ use Rattle.std.proofs.Common.{◌≡◌, ◌∙◌, ◌⊎◌, ap, sym, refl, �
 use Rattle.std.proofs.lemmas.Bool.{true≢false}
 use Rattle.std.proofs.lemmas.Bool.Decides.{eqb_tells}
 use Rattle.lists.specs.Lists.{Has, times}
-use Rattle.lists.specs.laws.HasLaws.{Has_map, times_append, All_has}
+use Rattle.lists.specs.laws.BoolLaws.{not_false, or_right}
+use Rattle.lists.specs.laws.HasLaws.{Has_map, times_append, All_has, any_has, has_any}
+use Rattle.lists.specs.laws.OptionLaws.{same_ok, ok_no_fault}
 use Rattle.lists.specs.laws.TestLaws.{none_here}
 use Rattle.graph_core.specs.Walk.{IsChain}
 use Rattle.net_core.specs.GateValue.{GateValue}
@@ -30,7 +32,7 @@ use Rattle.net_words.specs.declared.word.Role.TheVariants.{Input, State, Fed, Ou
 use Rattle.net_words.specs.declared.word.WordText.{WordText}
 use Rattle.net_words.proofs.BindLemmas.{width_of}
 use Rattle.net_words.proofs.FeedLemmas.{feed_is, feeds_apart, fed_has}
-use Rattle.net_words.proofs.MemberLemmas.{any_has, has_any, stands_has, has_stands, stands_none, word_bits, output_word}
+use Rattle.net_words.proofs.MemberLemmas.{stands_has, has_stands, stands_none, word_bits, output_word}
 
 -- no number stands twice
 abbrev pub AreApart : List ℕ → Type 0
@@ -49,12 +51,6 @@ record IsPlaced (net : NetList) (role : Role) (taken : List ℕ) (n : ℕ) : Typ
   stands : StandsOn net role n
   apart : AreApart taken → AreApart (taken_with role n taken)
 
-same_ok : {F A : Type 0} (a b : A) → ◌≡◌ {A = Result A F} (Ok a) (Ok b) → a ≡ b
-same_ok a b e = cc
-
-ok_no_err : {F A : Type 0} (a : A) (e : F) → ◌≡◌ {A = Result A F} (Ok a) (Err e) → ⊥
-ok_no_err a e h = absurd (cc)
-
 latch_stands : (net : NetList) (n : ℕ) → is_latch net n ≡ true → Has (map (λ (l : LatchValue). l.out) net.latches) n
 latch_stands net n hit =
     let found = has_any (λ (l : LatchValue). l.out == n) net.latches hit in
@@ -64,10 +60,10 @@ latch_stands net n hit =
 
 -- the two tests of a place, which both let it through
 let_through : (n m : ℕ) (b c : Bool) (e f : BindFault) → ◌≡◌ {A = Result ℕ BindFault} (Ok n) (cond (not b) (Err e) (cond c (Err f) (Ok m))) → (b ≡ true) × (c ≡ false) × (n ≡ m)
-let_through n m true true e f h = absurd (ok_no_err n f h)
+let_through n m true true e f h = absurd (ok_no_fault n f h)
 let_through n m true false e f h = (refl, refl, same_ok n m h)
-let_through n m false true e f h = absurd (ok_no_err n e h)
-let_through n m false false e f h = absurd (ok_no_err n e h)
+let_through n m false true e f h = absurd (ok_no_fault n e h)
+let_through n m false false e f h = absurd (ok_no_fault n e h)
 
 role_placed : (net : NetList) (word place : ℕ) (taken : List ℕ) (role : Role) (m n : ℕ) → m < nets net → Ok n ≡ with_role net word place taken role m → IsPlaced net role taken n
 role_placed net word place taken Input m n below is =
@@ -80,7 +76,7 @@ role_placed net word place taken State m n below is =
     let same : n ≡ m = through.2 in
     let P : ℕ → Type 0 = λ k. IsPlaced net State taken k in
     subst P (sym same) (record { stands = latch_stands net m through.0; apart = apart_more taken m through.1 })
-role_placed net word place taken Fed m n below is = absurd (ok_no_err n (NotInput word place) is)
+role_placed net word place taken Fed m n below is = absurd (ok_no_fault n (NotInput word place) is)
 role_placed net word place taken Output m n below is =
     let same : n ≡ m = same_ok n m is in
     record { stands = omega arith; apart = λ apart. apart }
@@ -212,12 +208,8 @@ started_each words (latch ∷ latches) ok l has start =
     let P : LatchValue → Type 0 = λ l. l.start ≡ Unknown → in_word State words l.out ≡ true in
     elim (is_unknown latch.start && not (in_word State words latch.out)) as (λ b. (is_unknown latch.start && not (in_word State words latch.out)) ≡ b → Ok tt ≡ cond b (Err (UnknownStart latch.out)) (started words latches) → (l : LatchValue) → Has (latch ∷ latches) l → P l) [
       | true ↦ λ e h. absurd (cc)
-      | false ↦ λ e h. has_first P latch latches (λ unknown. stated (in_word State words latch.out) (sym (ap (λ s. is_unknown s && not (in_word State words latch.out)) unknown) ∙ e)) (started_each words latches h)
+      | false ↦ λ e h. has_first P latch latches (λ unknown. not_false (in_word State words latch.out) (sym (ap (λ s. is_unknown s && not (in_word State words latch.out)) unknown) ∙ e)) (started_each words latches h)
     ] refl ok l has start
-  where
-    stated : (b : Bool) → not b ≡ false → b ≡ true
-    stated true e = refl
-    stated false e = absurd (cc)
 
 -- the last net of a chain is drawn from
 last_draw : (R : ℕ → ℕ → Type 0) (m : ℕ) (over : List ℕ) (n : ℕ) → IsChain R m over n → (x : ℕ) × R x n
@@ -227,10 +219,6 @@ last_draw R m (c ∷ cs) n chain = last_draw R c cs n chain.1
 or_left : (a b : Bool) → a ≡ true → (a || b) ≡ true
 or_left true b e = refl
 or_left false b e = absurd (cc)
-
-or_right : (a b : Bool) → b ≡ true → (a || b) ≡ true
-or_right true b e = refl
-or_right false b e = e
 
 drawn_used : (net : NetList) (words : List BoundWord) (x n : ℕ) → Draws net x n → is_used net words n ≡ true
 drawn_used net words x n draws =

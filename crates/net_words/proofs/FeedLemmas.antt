@@ -7,7 +7,7 @@ use Rattle.std.proofs.lemmas.Bool.Decides.{eqb_tells}
 use Rattle.std.proofs.lemmas.Slice.Eq.{bytes_eq-Decides}
 use Rattle.lists.specs.Lists.{Has}
 use Rattle.lists.specs.laws.BoolLaws.{first_true as and_left, second_true as and_right, not_true}
-use Rattle.lists.specs.laws.HasLaws.{Has_map}
+use Rattle.lists.specs.laws.HasLaws.{Has_map, has_any}
 use Rattle.net_core.specs.NetList.{NetList, LabelValue, is_named, number_from, number_of}
 use Rattle.net_words.specs.Binding.{Binding}
 use Rattle.net_words.specs.BoundTo.{IsBoundFeed}
@@ -20,7 +20,7 @@ use Rattle.net_words.specs.declared.feed.Feed.{Feed}
 use Rattle.net_words.specs.declared.feed.FeedText.{FeedText}
 use Rattle.net_words.specs.declared.feed.Source.{Source}
 use Rattle.net_words.specs.declared.word.Role.TheVariants.{Input}
-use Rattle.net_words.proofs.MemberLemmas.{has_any, stands_has}
+use Rattle.net_words.proofs.MemberLemmas.{stands_has}
 
 -- a number that is found is one of those from n on
 number_past : (n : ℕ) (labels : List LabelValue) (name : List ℕ) (k : ℕ) → number_from n labels name ≡ Some k → n ≤ k

@@ -1,3 +1,4 @@
+pub mod SharedLemmas
 pub mod ZipLemmas
 pub mod BindLemmas
 pub mod VariableLemmas

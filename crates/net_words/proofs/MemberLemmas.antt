@@ -1,10 +1,9 @@
 -- What stands in lists and in the bits of words.
-use Rattle.std.proofs.Common.{◌≡◌, ◌∙◌, ap, sym, refl, inl, inr, length, ⊎_elim, ℕ, zero, suc, ◌+◌, ◌==◌, ◌&&◌, ◌||◌, List, [], ◌∷◌, Bool, true, false, cond, Some, arith}
-use Rattle.std.specs.List.{list_any}
+use Rattle.std.proofs.Common.{◌≡◌, ◌∙◌, ap, sym, refl, inl, inr, length, ⊎_elim, ℕ, suc, ◌+◌, ◌==◌, ◌&&◌, ◌||◌, List, [], ◌∷◌, Bool, true, false, cond, Some, arith}
 use Rattle.std.proofs.lemmas.Bool.{eqb-true}
 use Rattle.std.proofs.lemmas.Bool.Decides.{nat_tests}
 use Rattle.lists.specs.Lists.{Has, times}
-use Rattle.lists.specs.laws.HasLaws.{Has_left, Has_right, Has_cases}
+use Rattle.lists.specs.laws.HasLaws.{Has_left, Has_right, Has_cases, any_has, has_any}
 use Rattle.net_words.specs.Roles.{stands_in, same_role, in_word}
 use Rattle.net_words.specs.Binding.{HasWidth}
 use Rattle.net_words.specs.BoundTo.{output_bits, output_bits_with}
@@ -12,22 +11,6 @@ use Rattle.net_words.specs.Variables.{bits, bits_with}
 use Rattle.net_words.specs.declared.bound.BoundWord.{BoundWord}
 use Rattle.net_words.specs.declared.word.Role.{Role}
 use Rattle.net_words.specs.declared.word.Role.TheVariants.{Input, State, Fed, Output}
-
--- an element that passes the test settles it
-pub any_has : {X : Type 0} (p : X → Bool) (xs : List X) (x : X) → Has xs x → p x ≡ true → list_any p xs ≡ true
-any_has p [] x has hit = absurd (let got = has.1 in cc)
-any_has p (y ∷ ys) x (zero, got) hit = let same : y ≡ x = cc in ap (λ b. b || list_any p ys) (ap p same ∙ hit)
-any_has p (y ∷ ys) x (suc k, got) hit =
-    let rest : list_any p ys ≡ true = any_has p ys x (k, got) hit in
-    elim (p y) as (λ b. (b || list_any p ys) ≡ true) [ true ↦ refl | false ↦ rest ]
-
-pub has_any : {X : Type 0} (p : X → Bool) (xs : List X) → list_any p xs ≡ true → (x : X) × Has xs x × (p x ≡ true)
-has_any p [] hit = absurd (cc)
-has_any p (y ∷ ys) hit =
-    elim (p y) as (λ b. p y ≡ b → (b || list_any p ys) ≡ true → (x : _) × Has (y ∷ ys) x × (p x ≡ true)) [
-      | true ↦ λ e h. (y, (0, refl), e)
-      | false ↦ λ e h. (let rest = has_any p ys h in (rest.0, (suc rest.1.0, rest.1.1), rest.2))
-    ] refl hit
 
 pub stands_has : (list : List ℕ) (n : ℕ) → stands_in list n ≡ true → Has list n
 stands_has list n hit =

@@ -6,7 +6,7 @@ use Rattle.std.proofs.lemmas.Bool.{true≢false}
 use Rattle.std.proofs.lemmas.Bool.Decides.{eqb_tells}
 use Rattle.std.proofs.lemmas.Option.{slice_get-get_or}
 use Rattle.lists.specs.Lists.{Has, times}
-use Rattle.lists.specs.laws.HasLaws.{Has_cases, times_append, times_get, times_two, All_has}
+use Rattle.lists.specs.laws.HasLaws.{Has_cases, times_append, times_get, times_two, All_has, range_has}
 use Rattle.lists.specs.laws.TestLaws.{one_here, none_here}
 use Rattle.net_core.specs.Inside.{IsInside}
 use Rattle.net_core.specs.Sound.{IsSound}
@@ -16,11 +16,6 @@ use Rattle.net_words.specs.OneCycle.{IsOneCycle}
 use Rattle.net_words.specs.Roles.{stands_in}
 use Rattle.net_words.specs.Variables.{bits, others, variables, IsRanked}
 use Rattle.net_words.proofs.MemberLemmas.{stands_has, stands_none}
-
-below_range : (a c n : ℕ) → Has (range_with_len a c) n → (a ≤ n) × (n < a + c)
-below_range a zero n has = absurd (let got = has.1 in cc)
-below_range a (suc c) n (zero, got) = let same : a ≡ n = cc in (omega arith, omega arith)
-below_range a (suc c) n (suc k, got) = let rest = below_range (a + 1) c n (k, got) in (omega (arith, rest.0), omega (arith, rest.1))
 
 range_before : (n a c : ℕ) → n < a → times n (range_with_len a c) ≡ 0
 range_before n a zero less = refl
@@ -96,7 +91,7 @@ bits_below net binding n inside bound has = All_has (λ m. m < nets net) net.inp
 -- only nets are variables
 pub variables_within : (net : NetList) (binding : Binding) (n : ℕ) → IsInside net → IsOneCycle net binding → Has (variables (nets net) binding.words) n → n < nets net
 variables_within net binding n inside bound has =
-    ⊎_elim (λ bit. bits_below net binding n inside bound bit) (λ other. omega (arith, (below_range 0 (nets net) n (has_filter (λ m. not (stands_in (bits binding.words) m)) (range_with_len 0 (nets net)) n other)).1)) (Has_cases (bits binding.words) (others (nets net) (bits binding.words)) n has)
+    ⊎_elim (λ bit. bits_below net binding n inside bound bit) (λ other. omega (arith, (range_has 0 (nets net) n (has_filter (λ m. not (stands_in (bits binding.words) m)) (range_with_len 0 (nets net)) n other)).1)) (Has_cases (bits binding.words) (others (nets net) (bits binding.words)) n has)
 
 -- each net is a variable once
 pub variables_once : (net : NetList) (binding : Binding) (n : ℕ) → IsOneCycle net binding → n < nets net → times n (variables (nets net) binding.words) ≡ 1

@@ -4,7 +4,7 @@ use Rattle.std.proofs.lemmas.Bool.{eqb-true}
 use Rattle.std.proofs.lemmas.List.Elements.{filter-append}
 use Rattle.std.proofs.lemmas.List.FromFn.{length-range_with_len, get_or-range_with_len}
 use Rattle.std.specs.List.{range_with_len}
-use Rattle.lists.specs.laws.ListLaws.{range_more}
+use Rattle.lists.specs.laws.ListLaws.{range_more, filter_few}
 use Rattle.net_words.specs.Binding.{Binding, HasWidth, IsBinding}
 use Rattle.net_words.specs.Roles.{same_role, stands_in}
 use Rattle.net_words.specs.Variables.{bits, bits_with, others, variables, IsRanked}
@@ -93,12 +93,6 @@ few_bits State list = omega arith
 few_bits Fed list = omega arith
 few_bits Output list = omega arith
 
-few_filtered : (p : ℕ → Bool) (xs : List ℕ) → length (filter p xs) ≤ length xs
-few_filtered p [] = omega arith
-few_filtered p (x ∷ xs) =
-    let rest : length (filter p xs) ≤ length xs = few_filtered p xs in
-    elim (p x) as (λ b. length (cond b (x ∷ filter p xs) (filter p xs)) ≤ suc (length xs)) [ true ↦ omega arith | false ↦ omega arith ]
-
 -- a word has at most k nets
 width_most : (k : ℕ) (word : BoundWord) → HasWidth k word → length word.nets ≤ k
 width_most k word (inl same) = omega (arith, same)
@@ -127,4 +121,4 @@ pub variables_short : (count : ℕ) (binding : Binding) → count ≤ 2 ^ 20 →
 variables_short count binding few is =
     let words : List BoundWord = binding.words in
     let p : ℕ → Bool = λ n. not (stands_in (bits words) n) in
-    omega (arith, length-join (bits words) (others count (bits words)), few_filtered p (range_with_len 0 count), length-range_with_len 0 count, bits_short binding.k words is.most is.each, few, words_few binding is)
+    omega (arith, length-join (bits words) (others count (bits words)), filter_few p (range_with_len 0 count), length-range_with_len 0 count, bits_short binding.k words is.most is.each, few, words_few binding is)

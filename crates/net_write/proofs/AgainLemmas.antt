@@ -8,6 +8,7 @@ use Rattle.std.proofs.lemmas.Option.{slice_get-map}
 use Rattle.lists.specs.Lists.{Has, times}
 use Rattle.lists.specs.laws.HasLaws.{times_get, times_two}
 use Rattle.lists.specs.laws.NumberLaws.{even, nat_eq_or}
+use Rattle.lists.specs.laws.OptionLaws.{same_some}
 use Rattle.lists.specs.laws.ReadLaws.{from_map, get_below}
 use Rattle.lists.specs.laws.TestLaws.{none_here, one_here}
 use Rattle.graph_core.specs.Walk.{IsChain}
@@ -24,7 +25,7 @@ use Rattle.net_write.specs.SameByName.{IsSameByName, named_gate, named_latch}
 use Rattle.net_write.specs.Written.{names_of}
 use Rattle.net_write.proofs.MetLemmas.{GateAt, IsAt, LatchAt, Met, few, path_of, place_is}
 use Rattle.net_write.proofs.PlainLemmas.{text_at, within}
-use Rattle.net_write.proofs.ZipLemmas.{some_same, zip_append, zip_each, zip_has, zip_length, zip_map, zip_same}
+use Rattle.net_write.proofs.ZipLemmas.{zip_append, zip_each, zip_has, zip_length, zip_map, zip_same}
 
 module _ (net : NetList) (sound : IsSound net) (plain : HasPlainNames net) (order : List ℕ) (flat : Flat) (met : Met net order flat net) where
   abbrev pub again : NetList
@@ -133,7 +134,7 @@ module _ (net : NetList) (sound : IsSound net) (plain : HasPlainNames net) (orde
   times_same m n at [] (y ∷ ys) all = absurd all
   times_same m n at (x ∷ xs) [] all = absurd all
   times_same m n at (x ∷ xs) (y ∷ ys) all = elim (nat_eq_or x m) [
-    | inl same ↦ let other : y ≡ n = some_same y n (sym all.0 ∙ (ap (slice_get order) same ∙ at)) in omega (arith, one_here m x same, one_here n y other, times_same m n at xs ys all.1)
+    | inl same ↦ let other : y ≡ n = same_some y n (sym all.0 ∙ (ap (slice_get order) same ∙ at)) in omega (arith, one_here m x same, one_here n y other, times_same m n at xs ys all.1)
     | inr unlike ↦ let other : y ≢ n = λ e. unlike (apart x m n (all.0 ∙ ap Some e) at) in omega (arith, none_here m x unlike, none_here n y other, times_same m n at xs ys all.1)
   ]
 

@@ -1,5 +1,5 @@
 -- A written line, read back: where it ends, that nothing of it is a comment or trails, and its fields.
-use Rattle.std.proofs.Common.{◌≡◌, ◌∙◌, ap, sym, refl, ℕ, zero, suc, ◌+◌, ◌-◌, ◌<◌, ◌≤◌, ◌==◌, ◌&&◌, Bool, true, false, cond, not, List, [], ◌∷◌, ◌++◌, length, drop, get_or, arith, add-one, append_assoc}
+use Rattle.std.proofs.Common.{◌≡◌, ◌∙◌, ap, sym, refl, ℕ, zero, suc, ◌+◌, ◌-◌, ◌≤◌, ◌==◌, Bool, true, false, cond, not, List, [], ◌∷◌, ◌++◌, length, drop, get_or, arith, append_assoc}
 use Rattle.std.specs.Prelude.{◌≢◌, All, filter, nat_lt}
 use Rattle.std.specs.List.{AllByRecursion, join_with_byte, slice_split}
 use Rattle.std.specs.Str.Lines.{lines, strip_carriage_return}
@@ -7,6 +7,9 @@ use Rattle.std.proofs.lemmas.Bool.Decides.{nat_tests}
 use Rattle.std.proofs.lemmas.List.Sums.{take_while-cons}
 use Rattle.std.proofs.lemmas.List.Splits.{slice_split_at, slice_split_none}
 use Rattle.std.proofs.lemmas.Bool.{ne_eqb}
+use Rattle.std.proofs.Math.Bool.{and-false}
+use Rattle.lists.specs.laws.LineLaws.{front_byte, line_end, after_line_plus, line_within}
+use Rattle.lists.specs.laws.ListLaws.{some_after}
 use Rattle.lists.specs.laws.TakeLaws.{front_of}
 use Rattle.text_core.specs.Lines.{before_comment, is_blank, tokens_of}
 use Rattle.text_core.proofs.LineLemmas.{lines_at}
@@ -53,7 +56,7 @@ at (b ∷ bs) zero all = (all.0.2, (λ e. omega (arith, e, all.0.0)), (λ e. ome
 at (b ∷ bs) (suc k) all = at bs k all.1
 
 -- there is no comment
-uncommented : (bytes : List ℕ) → AllByRecursion IsLineByte bytes → before_comment bytes ≡ bytes
+pub uncommented : (bytes : List ℕ) → AllByRecursion IsLineByte bytes → before_comment bytes ≡ bytes
 uncommented [] all = refl
 uncommented (b ∷ bs) all =
     take_while-cons (λ c. not (c == 35)) b bs
@@ -76,17 +79,13 @@ plain_kept : (bytes : List ℕ) → ArePlain bytes → trim_end bytes ≡ bytes
 plain_kept [] plain = refl
 plain_kept (b ∷ bs) plain = ap (before_trimmed b) (plain_kept bs plain.1) ∙ stays b bs (not_trailing b plain.0.0)
 
-long_append : (xs ys : List ℕ) → 1 ≤ length ys → 1 ≤ length (xs ++ ys)
-long_append [] ys some = some
-long_append (x ∷ xs) ys some = omega arith
-
 front_kept : (xs ys : List ℕ) → 1 ≤ length ys → trim_end ys ≡ ys → trim_end (xs ++ ys) ≡ xs ++ ys
 front_kept [] ys some kept = kept
-front_kept (x ∷ xs) ys some kept = ap (before_trimmed x) (front_kept xs ys some kept) ∙ stays_before x (xs ++ ys) (long_append xs ys some)
+front_kept (x ∷ xs) ys some kept = ap (before_trimmed x) (front_kept xs ys some kept) ∙ stays_before x (xs ++ ys) (some_after xs ys some)
 
 join_long : (first : Token) (rest : List Token) → 1 ≤ length first → 1 ≤ length (join_with_byte 32 (first ∷ rest))
 join_long first [] some = some
-join_long first (second ∷ rest) some = long_append first _ (omega arith)
+join_long first (second ∷ rest) some = some_after first _ (omega arith)
 
 -- nothing trails
 kept : (first : Token) (rest : List Token) → AreFields (first ∷ rest) → trim_end (join_with_byte 32 (first ∷ rest)) ≡ join_with_byte 32 (first ∷ rest)
@@ -97,42 +96,18 @@ kept first (second ∷ rest) fields =
 
 -- no line goes on
 ends : (bytes : List ℕ) → AllByRecursion IsLineByte bytes → goes_on bytes ≡ false
-ends bytes all = rw (ne_eqb (get_or bytes (length bytes - 1) 0) 92 (at bytes (length bytes - 1) all).0) (no_more (nat_lt 0 (length bytes)))
-  where
-    no_more : (b : Bool) → (b && false) ≡ false
-    no_more true = refl
-    no_more false = refl
+ends bytes all = rw (ne_eqb (get_or bytes (length bytes - 1) 0) 92 (at bytes (length bytes - 1) all).0) (and-false (nat_lt 0 (length bytes)))
 
 no_return : (bytes : List ℕ) → AllByRecursion IsLineByte bytes → strip_carriage_return bytes ≡ bytes
 no_return bytes all = rw (ne_eqb (get_or bytes (length bytes - 1) 0) 13 (at bytes (length bytes - 1) all).1) refl
 
-get_front : (xs ys : List ℕ) (k : ℕ) → k < length xs → get_or (xs ++ ys) k 0 ≡ get_or xs k 0
-get_front [] ys k less = absurd (omega (arith, less))
-get_front (x ∷ xs) ys zero less = refl
-get_front (x ∷ xs) ys (suc k) less = get_front xs ys k (omega (arith, less))
-
-get_end : (xs ys : List ℕ) → get_or (xs ++ 10 ∷ ys) (length xs) 0 ≡ 10
-get_end [] ys = refl
-get_end (x ∷ xs) ys = get_end xs ys
-
-rest_of : (xs ys : List ℕ) → drop (suc (length xs)) (xs ++ 10 ∷ ys) ≡ ys
-rest_of [] ys = refl
-rest_of (x ∷ xs) ys = rest_of xs ys
-
-rest_after : (xs ys : List ℕ) → drop (length xs + 1) (xs ++ 10 ∷ ys) ≡ ys
-rest_after xs ys = rw add-one (rest_of xs ys)
-
-longer : (xs ys : List ℕ) → length xs < length (xs ++ 10 ∷ ys)
-longer [] ys = omega arith
-longer (x ∷ xs) ys = omega (arith, longer xs ys)
-
 -- the first line of a text
-first_line : (bytes rest : List ℕ) → AllByRecursion IsLineByte bytes → lines (bytes ++ 10 ∷ rest) ≡ bytes ∷ lines rest
+pub first_line : (bytes rest : List ℕ) → AllByRecursion IsLineByte bytes → lines (bytes ++ 10 ∷ rest) ≡ bytes ∷ lines rest
 first_line bytes rest all =
-    lines_at (bytes ++ 10 ∷ rest) (length bytes) (λ k less found. (at bytes k all).2 (sym (get_front bytes (10 ∷ rest) k less) ∙ found)) (longer bytes rest) (get_end bytes rest)
+    lines_at (bytes ++ 10 ∷ rest) (length bytes) (λ k less found. (at bytes k all).2 (sym (front_byte bytes (10 ∷ rest) k less) ∙ found)) (line_within bytes rest) (line_end bytes rest)
     ∙ ap (λ (l : List ℕ). strip_carriage_return l ∷ lines (drop (length bytes + 1) (bytes ++ 10 ∷ rest))) (front_of bytes (10 ∷ rest))
     ∙ ap (λ (l : List ℕ). l ∷ lines (drop (length bytes + 1) (bytes ++ 10 ∷ rest))) (no_return bytes all)
-    ∙ ap (λ (l : List ℕ). bytes ∷ lines l) (rest_after bytes rest)
+    ∙ ap (λ (l : List ℕ). bytes ∷ lines l) (after_line_plus bytes rest)
 
 -- no byte of a field is a blank
 no_blank : (token : Token) → ArePlain token → All (λ b. is_blank b ≡ false) token

@@ -8,6 +8,7 @@ use Rattle.std.proofs.lemmas.List.{length-map, length-append, map_push}
 use Rattle.std.proofs.lemmas.Slice.Eq.{bytes_eq-Decides}
 use Rattle.lists.specs.Lists.{Has, times}
 use Rattle.lists.specs.laws.HasLaws.{times_append, times_get}
+use Rattle.lists.specs.laws.OptionLaws.{same_some}
 use Rattle.lists.specs.laws.ReadLaws.{get_below, get_front, get_here, got_push}
 use Rattle.lists.specs.laws.TestLaws.{none_here, one_here}
 use Rattle.net_core.specs.GateValue.{GateValue}
@@ -19,7 +20,7 @@ use Rattle.net_flat.specs.Paths.{At, Path}
 use Rattle.net_flat.specs.Steps.{Mention, Step}
 use Rattle.net_write.specs.Plain.{HasPlainNames}
 use Rattle.net_write.proofs.PlainLemmas.{text_at}
-use Rattle.net_write.proofs.ZipLemmas.{some_same, zip_weaker}
+use Rattle.net_write.proofs.ZipLemmas.{zip_weaker}
 
 -- the net that was met as number m had number n
 abbrev pub IsAt : List ℕ → ℕ → ℕ → Type 0
@@ -109,7 +110,7 @@ module _ (net : NetList) (sound : IsSound net) (plain : HasPlainNames net) where
       rw (text_at net n label.0 label.1) (sound.inside.names n label.0 label.1 (plain n label.0 label.1).0).1
 
   pub names_apart : (n m : ℕ) → n < nets net → m < nets net → text_of net n ≡ text_of net m → n ≡ m
-  names_apart n m below under same = some_same n m (sym (finds n below) ∙ (ap (number_of net) same ∙ finds m under))
+  names_apart n m below under same = same_some n m (sym (finds n below) ∙ (ap (number_of net) same ∙ finds m under))
 
   -- where a net's path stands among those met, if it does
   pub place_is : (k : ℕ) (order : List ℕ) (n : ℕ) → n < nets net → ((m i : ℕ) → IsAt order m i → i < nets net)

@@ -4,9 +4,9 @@ use Rattle.std.specs.Prelude.{slice_get}
 use Rattle.std.specs.Str.{bytes_eq}
 use Rattle.lists.specs.laws.BoolLaws.{first_true}
 use Rattle.lists.specs.laws.NumberLaws.{nat_eq_or}
+use Rattle.lists.specs.laws.OptionLaws.{same_some}
 use Rattle.net_core.specs.NetList.{LabelValue, NetList, is_named, number_from, number_of, text_of}
 use Rattle.net_write.specs.Plain.{IsPlainName}
-use Rattle.net_write.proofs.ZipLemmas.{some_same}
 
 pub within : {A : Type 0} (xs : List A) (k : ℕ) (x : A) → slice_get xs k ≡ Some x → k < length xs
 within [] k x at = absurd (cc)
@@ -25,7 +25,7 @@ found n (label ∷ labels) name k e = by (is_named name label) refl e (λ e. fou
     here same is = (0, label, omega (arith, same), refl, is)
 
     by : (b : Bool) → is_named name label ≡ b → cond b (Some n) (number_from (n + 1) labels name) ≡ Some k → (number_from (n + 1) labels name ≡ Some k → (i : ℕ) × (other : LabelValue) × (k ≡ n + 1 + i) × (slice_get labels i ≡ Some other) × (is_named name other ≡ true)) → (i : ℕ) × (other : LabelValue) × (k ≡ n + i) × (slice_get (label ∷ labels) i ≡ Some other) × (is_named name other ≡ true)
-    by true is e more = here (some_same n k e) is
+    by true is e more = here (same_some n k e) is
     by false is e more = later (more e)
 
 -- a net that its name finds is named
@@ -34,7 +34,7 @@ named net n label at finds =
     let that = found 0 net.labels (text_of net n) n finds in
     let place : n ≡ that.0 = omega (arith, that.2) in
     let other : slice_get net.labels n ≡ Some that.1 = ap (slice_get net.labels) place ∙ that.3 in
-    ap (λ (l : LabelValue). l.named) (some_same label that.1 (sym at ∙ other)) ∙ first_true that.1.named (bytes_eq (text_of net n) that.1.text) that.4
+    ap (λ (l : LabelValue). l.named) (same_some label that.1 (sym at ∙ other)) ∙ first_true that.1.named (bytes_eq (text_of net n) that.1.text) that.4
 
 pub text_at : (net : NetList) (n : ℕ) (label : LabelValue) → slice_get net.labels n ≡ Some label → text_of net n ≡ label.text
 text_at net n label at = rw at refl

@@ -7,6 +7,7 @@ use Rattle.std.proofs.lemmas.Bool.Decides.{nat_tests}
 use Rattle.std.proofs.lemmas.List.{length-map}
 use Rattle.std.proofs.lemmas.Grind.{flat_map-append}
 use Rattle.std.proofs.lemmas.List.Folds.{list_all-append}
+use Rattle.lists.specs.laws.TestLaws.{equal_itself}
 use Rattle.text_core.specs.Lines.{tokens_of}
 use Rattle.net_core.specs.GateValue.{GateValue}
 use Rattle.net_core.specs.LatchValue.{LatchValue}
@@ -88,13 +89,10 @@ rows_read : (items : List Item) (indexes : List ℕ) (cover : CoverValue) (k : �
     → ((m : ℕ) → Ends (in_make items (Some (with_rows cover (map (pattern k) indexes)))) m rest steps) → (n : ℕ) → Ends (in_make items (Some cover)) n (map (λ index. Row (pattern k index) true) indexes ++ rest) steps
 rows_read items [] cover k rest steps is few agree goes n = goes n
 rows_read items (index ∷ indexes) cover k rest steps is few agree goes n =
-    let long : (length (pattern k index) == length cover.inputs) ≡ true = let same : length (pattern k index) ≡ length cover.inputs = pattern_length k index ∙ is in rw same (equal (length cover.inputs)) in
+    let long : (length (pattern k index) == length cover.inputs) ≡ true = let same : length (pattern k index) ≡ length cover.inputs = pattern_length k index ∙ is in rw same (equal_itself (length cover.inputs)) in
     one_more (in_make items (Some cover)) (in_make items (Some (with_row (pattern k index) true cover))) n (Row (pattern k index) true) (map (λ index. Row (pattern k index) true) indexes ++ rest) steps
     (said (in_make items (Some cover)) n (Row (pattern k index) true) (in_make items (Some (with_row (pattern k index) true cover))) (row_line k index few) (pattern_cells k index) (rw (long, agree) refl) refl)
     (rows_read items indexes (with_row (pattern k index) true cover) k rest steps is few refl goes (n + 1))
-  where
-    equal : (a : ℕ) → (a == a) ≡ true
-    equal a = grind (arith, nat_tests)
 
 start_read : (start : Start) → start_of (start_token start ∷ []) ≡ start
 start_read Zero = refl

@@ -1,11 +1,9 @@
 -- Two lists whose elements are in a relation, place by place.
-use Rattle.std.proofs.Common.{◌≡◌, ◌∙◌, ap, refl, subst, zero, suc, List, [], ◌∷◌, ◌++◌, length, map, Option, Some, arith}
+use Rattle.std.proofs.Common.{◌≡◌, ◌∙◌, ap, refl, subst, zero, suc, List, [], ◌∷◌, ◌++◌, length, map, arith}
 use Rattle.std.specs.Prelude.{All}
 use Rattle.std.specs.List.{AllZip}
 use Rattle.lists.specs.Lists.{Has}
-
-pub some_same : {A : Type 0} (a b : A) → ◌≡◌ {A = Option A} (Some a) (Some b) → a ≡ b
-some_same a b e = cc
+use Rattle.lists.specs.laws.OptionLaws.{same_some}
 
 pub zip_weaker : {A B : Type 0} (R S : A → B → Type 0) → ((a : A) (b : B) → R a b → S a b) → (xs : List A) (ys : List B) → AllZip R xs ys → AllZip S xs ys
 zip_weaker R S to [] [] all = tt
@@ -42,7 +40,7 @@ zip_length R (x ∷ xs) (y ∷ ys) all = ap suc (zip_length R xs ys all.1)
 pub zip_has : {A B : Type 0} (R : A → B → Type 0) (xs : List A) (ys : List B) → AllZip R xs ys → (x : A) → Has xs x → (y : B) × Has ys y × R x y
 zip_has R [] ys all x (k, at) = absurd (cc)
 zip_has R (a ∷ xs) [] all x has = absurd all
-zip_has {A} {B} R (a ∷ xs) (b ∷ ys) all x (zero, at) = let P : A → Type 0 = λ z. R z b in (b, (0, refl), subst P (some_same a x at) all.0)
+zip_has {A} {B} R (a ∷ xs) (b ∷ ys) all x (zero, at) = let P : A → Type 0 = λ z. R z b in (b, (0, refl), subst P (same_some a x at) all.0)
 zip_has R (a ∷ xs) (b ∷ ys) all x (suc k, at) = let more = zip_has R xs ys all.1 x (k, at) in (more.0, (suc more.1.0, more.1.1), more.2)
 
 pub zip_each : {A B : Type 0} (R : A → B → Type 0) (P : A → Type 0) (Q : B → Type 0) → ((a : A) (b : B) → R a b → Q b → P a) → (xs : List A) (ys : List B) → AllZip R xs ys → All Q ys → All P xs

@@ -24,7 +24,7 @@ named_gate net gate = record { out = text_of net gate.out; inputs = names_of net
 abbrev pub named_latch : NetList → LatchValue → NamedLatch
 named_latch net latch = record { next = text_of net latch.next; out = text_of net latch.out; start = latch.start }
 
--- the same inputs, outputs, latches and gates, by name and in the same order
+-- both have the same inputs, outputs, latches and gates, by name and in the same order
 pub record IsSameByName (net other : NetList) : Type 0 where
   pub inputs : names_of other other.inputs ≡ names_of net net.inputs
   pub outputs : names_of other other.outputs ≡ names_of net net.outputs

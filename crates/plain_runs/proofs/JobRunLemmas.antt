@@ -1,11 +1,12 @@
 -- The bits that the plain program finds cycle by cycle are a run of the job, and where the job is one it finds them.
-use Rattle.std.proofs.Common.{◌≡◌, ◌⊎◌, ◌∙◌, ap, sym, refl, subst, inl, inr, ℕ, zero, suc, ◌<◌, ◌+◌, ◌^◌, Bool, true, false, List, [], ◌∷◌, ◌++◌, length, map, Option, None, Some, IfSome, arith}
+use Rattle.std.proofs.Common.{◌≡◌, ◌⊎◌, ◌∙◌, ap, sym, refl, subst, inl, inr, ℕ, zero, suc, ◌<◌, ◌+◌, ◌^◌, Bool, true, false, List, [], ◌∷◌, ◌++◌, length, map, Some, arith}
 use Rattle.std.specs.Prelude.{slice_get, ◌==◌}
 use Rattle.std.specs.Int.{bit_at}
 use Rattle.std.proofs.lemmas.List.{length-map}
 use Rattle.lists.specs.Lists.{Has}
 use Rattle.lists.specs.laws.ListLaws.{length-push}
 use Rattle.lists.specs.laws.ReadLaws.{got_push, get_here, from_map}
+use Rattle.lists.specs.laws.TestLaws.{same_bit}
 use Rattle.net_core.specs.NetList.{NetList}
 use Rattle.net_core.specs.LatchValue.{LatchValue}
 use Rattle.net_core.specs.Value.{bit_of, IsConsistent}
@@ -28,13 +29,6 @@ use Rattle.plain_runs.specs.private.Cycle.{HaveInputs, HaveStarts, HaveNexts, Ha
 use Rattle.circuit_model.proofs.BitLemmas.{mapped, index_is}
 use Rattle.circuit_model.proofs.FeedLemmas.{same_source, source_none, source_of_fed}
 use Rattle.circuit_model.proofs.SourceLemmas.{latch_outs}
-
-pub if_some : (o : Option ℕ) (P Q : ℕ → Type 0) → ((e : ℕ) → P e → Q e) → IfSome o P → IfSome o Q
-if_some None P Q f some = tt
-if_some (Some x) P Q f some = f x some
-
-same_bit : (b v : Bool) (d e place : ℕ) → b ≡ v → v ≡ (bit_at d place == 1) → d ≡ e → b ≡ (bit_at e place == 1)
-same_bit b v d e place first then same = first ∙ (then ∙ ap (λ x. bit_at x place == 1) same)
 
 module _ (k : ℕ) (product : ℕ → ℕ → ℕ) (net : NetList) (words : List CircuitWord) (output : CircuitWord) (feeds : List CircuitFeed) (xs : List ℕ) where
   abbrev job : ℕ → Circuit

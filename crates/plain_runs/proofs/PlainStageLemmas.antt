@@ -1,5 +1,5 @@
 -- What the plain program makes of words are polynomials of their stages.
-use Rattle.std.proofs.Common.{◌≡◌, ◌∙◌, sym, refl, subst, ℕ, ◌<◌, ◌≤◌, ◌+◌, ◌-◌, List, length, map, Option, None, Some, IfSome, arith}
+use Rattle.std.proofs.Common.{◌≡◌, ◌∙◌, sym, refl, subst, ℕ, ◌<◌, ◌≤◌, ◌+◌, ◌-◌, List, length, map, Some, arith}
 use Rattle.std.specs.Prelude.{slice_get, slice_index}
 use Rattle.std.proofs.lemmas.Option.{slice_get-map, slice_get_within, get_or_from_slice_get}
 use Rattle.std.proofs.lemmas.List.{length-map}
@@ -50,10 +50,6 @@ module _ (k : ℕ) (mul : ℕ → ℕ → ℕ) (words : List CircuitWord) (w : �
         let read = some_read (circuit_of_parts k mul net words output) well w p at_p (inside net output) in
         record { terms = terms; before = before; d = read.0; read = read.1; element = sym (is.values p read.0 at_p (read_bits net output p read.0 read.1)) };
   }
-
-pub if_some : {T : Type 0} (o : Option T) (P Q : T → Type 0) → ((x : T) → P x → Q x) → IfSome o P → IfSome o Q
-if_some None P Q f is = is
-if_some (Some x) P Q f is = f x is
 
 -- a bit of a term stands in a word and in a term that exist
 pub has_places : (k count : ℕ) (terms : Terms) (w s j : ℕ) → HasBitAt k count terms w s j → (w < count) × (1 ≤ s) × (s ≤ length terms)

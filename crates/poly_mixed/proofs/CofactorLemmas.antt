@@ -1,6 +1,6 @@
 -- The values of cofactors and of what is left.
 use Rattle.std.proofs.Common.{◌≡◌, ℕ, ◌≢◌, Bool, true, false, cond, not, ◌&&◌, ◌||◌, List, [], ◌∷◌, bit_xor, nat_eq, refl, sym, ◌∙◌, ap}
-use lib.Bits.{xor_zero_l, xor_zero_r, xor_self, xor_assoc}
+use lib.Bits.{xor_zero_l, xor_zero_r, xor_self}
 use Rattle.std.proofs.lemmas.Bool.{or_parts}
 use Rattle.std.specs.declared.cmp.Ordering.TheVariants.{Less}
 use Rattle.std.specs.Ordering.{nat_cmp}
@@ -13,7 +13,7 @@ use Rattle.poly_mixed.specs.Monomial.{has_bit}
 use Rattle.poly_mixed.specs.Cofactor.{LacksBit, without_bit, lacking, cofactors, at_bit, IsSubstituted}
 use Rattle.poly_mixed.proofs.OneBitLemmas.{order_stays}
 use Rattle.std.specs.Map.{keys_of}
-use Rattle.lists.specs.laws.XorLaws.{xor_swap}
+use Rattle.lists.specs.laws.XorLaws.{xor_cross}
 use Rattle.poly_mixed.proofs.ProductLemmas.{value_element}
 
 -- ranks other than the bit
@@ -58,9 +58,6 @@ module _ (mul : ℕ → ℕ → ℕ) where
         | false ↦ λ e. λ i. bit_xor (cond (sym (same_without p bit false t.0.bits e) i) x 0) (value-lacking p bit ts i)
       ] refl
 
-  pair_up : (x y z w : ℕ) → bit_xor (bit_xor x y) (bit_xor z w) ≡ bit_xor (bit_xor x z) (bit_xor y w)
-  pair_up x y z w = xor_assoc x y (bit_xor z w) ∙ ap (bit_xor x) (xor_swap y z w) ∙ sym (xor_assoc x z (bit_xor y w))
-
   pub value-cofactors : (p : Point) (bit : ℕ) (ts : Terms) → value mul p (cofactors bit ts) ≡ bit_xor (value mul (at_bit p bit true) ts) (value mul (at_bit p bit false) ts)
   value-cofactors p bit [] = refl
   value-cofactors p bit (t ∷ ts) =
@@ -70,16 +67,16 @@ module _ (mul : ℕ → ℕ → ℕ) where
       elim (has_bit bit t.0) as (λ v. has_bit bit t.0 ≡ v → value mul p (cond v ((without_bit bit t.0, t.1) ∷ cofactors bit ts) (cofactors bit ts)) ≡ bit_xor (bit_xor (term_value mul (at_bit p bit true) t) one) (bit_xor (term_value mul (at_bit p bit false) t) none)) [
         | true ↦ λ e.
             (λ i. bit_xor (cond (sym (on p bit t.0.bits) i) x 0) (value-cofactors p bit ts i))
-            ∙ sym (pair_up (term_value mul (at_bit p bit true) t) one (term_value mul (at_bit p bit false) t) none
+            ∙ sym (xor_cross (term_value mul (at_bit p bit true) t) one (term_value mul (at_bit p bit false) t) none
             ∙ ap (λ n. bit_xor n (bit_xor one none)) (ap (λ v. bit_xor (term_value mul (at_bit p bit true) t) (cond v x 0)) (off p bit t.0.bits e) ∙ xor_zero_r (term_value mul (at_bit p bit true) t)))
         | false ↦ λ e.
             let same : term_value mul (at_bit p bit true) t ≡ term_value mul (at_bit p bit false) t = ap (λ v. cond v x 0) (same_without p bit true t.0.bits e ∙ sym (same_without p bit false t.0.bits e)) in
             value-cofactors p bit ts
-            ∙ sym (pair_up (term_value mul (at_bit p bit true) t) one (term_value mul (at_bit p bit false) t) none
+            ∙ sym (xor_cross (term_value mul (at_bit p bit true) t) one (term_value mul (at_bit p bit false) t) none
             ∙ ap (λ n. bit_xor n (bit_xor one none)) (ap (λ n. bit_xor n (term_value mul (at_bit p bit false) t)) same ∙ xor_self (term_value mul (at_bit p bit false) t)) ∙ xor_zero_l (bit_xor one none))
       ] refl
 
-cofactor_terms : (degree bit : ℕ) (ts : Terms) → AllByRecursion (IsTerm degree) ts → AllByRecursion (IsTerm degree) (cofactors bit ts)
+pub cofactor_terms : (degree bit : ℕ) (ts : Terms) → AllByRecursion (IsTerm degree) ts → AllByRecursion (IsTerm degree) (cofactors bit ts)
 cofactor_terms degree bit [] all = tt
 cofactor_terms degree bit (t ∷ ts) all =
     elim (has_bit bit t.0) as (λ v. AllByRecursion (IsTerm degree) (cond v ((without_bit bit t.0, t.1) ∷ cofactors bit ts) (cofactors bit ts))) [

@@ -6,6 +6,7 @@ use Rattle.std.proofs.lemmas.Nat.{div-mul-add, pow_pos, pow-add}
 use Rattle.std.proofs.Math.Nat.{pow-le-pow_right}
 use Rattle.std.proofs.lemmas.Nat.Bits.{bit_at_xor, bit_at_and, bit_at-lt, bit_at_cat_low, bit_at_cat_high}
 use native.Mathlib.Nat.{div-eq_of_lt, div-add-mod'}
+use Rattle.lists.specs.laws.NumberLaws.{self_plus_zero, one_more_times}
 use Rattle.poly_mixed.specs.Table.{index, table_bit, differ, subset_parity}
 
 -- whether a number is odd
@@ -45,11 +46,8 @@ shifted : (t s n : ℕ) → s ≤ n → n < 64 → bit_at (t * 2 ^ s % 2 ^ 64) n
 shifted t s n low less =
     let x = t * 2 ^ s in
     sym (bit_at_cat_low (x / 2 ^ 64) 64 (x % 2 ^ 64) n less)
-    ∙ ap (λ y. bit_at y n) (div-add-mod' x (2 ^ 64) ∙ sum_zero x)
+    ∙ ap (λ y. bit_at y n) (div-add-mod' x (2 ^ 64) ∙ self_plus_zero x)
     ∙ bit_at_cat_high t s 0 n (pow_pos s) low
-  where
-    sum_zero : (x : ℕ) → x ≡ x + 0
-    sum_zero x = omega arith
 
 below_even : (n s : ℕ) → n < s → is_odd (n / s) ≡ false
 below_even n s less = ap (λ d. d % 2 == 1) (div-eq_of_lt less)
@@ -208,10 +206,7 @@ power_small j few = let le : 2 ^ j ≤ 2 ^ 6 = pow-le-pow_right (omega arith) fe
 
 -- the first digit of an index
 first_digit : (base step : ℕ) (b : Bool) (rest : ℕ) → base + step * (cond b 1 0 + 2 * rest) ≡ cond b (base + step) base + 2 * step * rest
-first_digit base step true rest = ap (λ n. base + n) (one step rest) ∙ sym (add_assoc base step (2 * step * rest))
-  where
-    one : (s i : ℕ) → s * (1 + 2 * i) ≡ s + 2 * s * i
-    one s i = mul-add s 1 (2 * i) ∙ (λ j. mul-one s j + (sym (mul_assoc s 2 i) ∙ ap (λ n. n * i) (mul_comm s 2)) j)
+first_digit base step true rest = ap (λ n. base + n) (one_more_times step rest) ∙ sym (add_assoc base step (2 * step * rest))
 first_digit base step false rest = ap (λ n. base + n) (ap (λ n. step * n) (nothing rest) ∙ sym (mul_assoc step 2 rest) ∙ ap (λ n. n * rest) (mul_comm step 2))
   where
     nothing : (i : ℕ) → 0 + 2 * i ≡ 2 * i

@@ -1,6 +1,6 @@
 -- The token at the front of a text, by cases of the first byte, and what it leaves.
-use Rattle.std.proofs.Common.{◌≡◌, ℕ, suc, ◌≤◌, true, false, cond, ◌&&◌, List, [], ◌∷◌, length, drop, nat_lt, ◌==◌, Option, Some, None, inl, inr, refl, sym, ◌∙◌, arith}
-use Rattle.std.proofs.lemmas.Bool.{ne_eqb, cases_eq}
+use Rattle.std.proofs.Common.{◌≡◌, ℕ, suc, ◌≤◌, true, false, cond, ◌&&◌, List, [], ◌∷◌, length, drop, nat_lt, ◌==◌, Option, Some, None, refl, arith}
+use Rattle.std.proofs.lemmas.Bool.{eqb-true}
 use Rattle.std.proofs.lemmas.List.{length-drop}
 use Rattle.text_core.specs.Numbers.{value_of}
 use Rattle.text_core.specs.Scan.{run, after, name_of, closed_by, index_of, is_digit, is_hex_digit, is_letter, has_digits}
@@ -39,15 +39,12 @@ by_number P b bs hexes decimal =
 pub by_sign : (P : Front → Type 0) (b : ℕ) (bs : List ℕ) → (b ≡ 43 → P (Some (plus_sign, bs))) → (b ≡ 42 → P (Some (times_sign, bs))) → (b ≡ 94 → P (Some (power_sign, bs))) → P None → P (sign_front b bs)
 by_sign P b bs plus times power none =
     elim (b == 43) as (λ v. (b == 43) ≡ v → P (cond v (Some (plus_sign, bs)) (cond (b == 42) (Some (times_sign, bs)) (cond (b == 94) (Some (power_sign, bs)) None)))) [
-      | true ↦ λ e. plus (eqb-is b 43 e)
+      | true ↦ λ e. plus (eqb-true b 43 e)
       | false ↦ λ e. elim (b == 42) as (λ v. (b == 42) ≡ v → P (cond v (Some (times_sign, bs)) (cond (b == 94) (Some (power_sign, bs)) None))) [
-        | true ↦ λ f. times (eqb-is b 42 f)
-        | false ↦ λ f. elim (b == 94) as (λ v. (b == 94) ≡ v → P (cond v (Some (power_sign, bs)) None)) [ true ↦ λ g. power (eqb-is b 94 g) | false ↦ λ g. none ] refl
+        | true ↦ λ f. times (eqb-true b 42 f)
+        | false ↦ λ f. elim (b == 94) as (λ v. (b == 94) ≡ v → P (cond v (Some (power_sign, bs)) None)) [ true ↦ λ g. power (eqb-true b 94 g) | false ↦ λ g. none ] refl
       ] refl
     ] refl
-  where
-    eqb-is : (x y : ℕ) → (x == y) ≡ true → x ≡ y
-    eqb-is x y e = elim (cases_eq x y) [ inl is ↦ is | inr ne ↦ (let bad : false ≡ true = sym (ne_eqb x y ne) ∙ e in absurd (cc)) ]
 
 -- ---- what is left gets shorter
 

@@ -16,7 +16,7 @@ use Rattle.poly_mixed.proofs.ProductLemmas.{rising-with_rank}
 use Rattle.poly_mixed.proofs.RankLemmas.{Above, from_less}
 use Rattle.std.specs.Cmp.{nat_cmp_total, tied_itself}
 use Rattle.std.specs.Ordering.{eq_by_cmp, is_eq}
-use Rattle.lists.specs.laws.BoolLaws.{either}
+use Rattle.lists.specs.laws.BoolLaws.{either, or_swap}
 
 -- whether a slot is listed
 abbrev pub is_in : ℕ → List ℕ → Bool
@@ -30,19 +30,13 @@ is_in-with_rank (x ∷ xs) k s =
       | false ↦ elim (k == x) as (λ b. (k == x) ≡ b → is_in s (cond b (x ∷ xs) (x ∷ with_rank xs k)) ≡ (nat_eq k s || (nat_eq x s || is_in s xs))) [
         | true ↦ λ e. let P : ℕ → Type 0 = λ n. (nat_eq x s || is_in s xs) ≡ (nat_eq n s || (nat_eq x s || is_in s xs)) in
             subst P (sym (eqb-true k x e)) (twice (nat_eq x s) (is_in s xs))
-        | false ↦ λ e. ap (λ b. nat_eq x s || b) (is_in-with_rank xs k s) ∙ swapped (nat_eq x s) (nat_eq k s) (is_in s xs)
+        | false ↦ λ e. ap (λ b. nat_eq x s || b) (is_in-with_rank xs k s) ∙ or_swap (nat_eq x s) (nat_eq k s) (is_in s xs)
       ] refl
     ]
   where
     twice : (a b : Bool) → (a || b) ≡ (a || (a || b))
     twice true b = refl
     twice false b = refl
-
-    swapped : (a b c : Bool) → (a || (b || c)) ≡ (b || (a || c))
-    swapped true true c = refl
-    swapped true false c = refl
-    swapped false true c = refl
-    swapped false false c = refl
 
 pub is_in-without : (xs : List ℕ) (k s : ℕ) → is_in s (without_slot k xs) ≡ (not (nat_eq k s) && is_in s xs)
 is_in-without [] k s = elim (nat_eq k s) as (λ b. false ≡ (not b && false)) [ true ↦ refl | false ↦ refl ]

@@ -1,3 +1,5 @@
+pub mod SharedLemmas
+pub mod AroundLemmas
 pub mod FieldLaws
 pub mod MonomialLemmas
 pub mod RankLemmas

@@ -9,15 +9,17 @@ use Rattle.std.specs.List.{AllByRecursion, list_any, filter}
 use Rattle.std.specs.List.Sorted.{IsStrictlySortedBy}
 use Rattle.std.specs.Option.{unwrap_or}
 use Rattle.std.specs.Map.{lookup}
+use Rattle.std.proofs.Math.Bool.{or-true}
+use Rattle.lists.specs.laws.OrderingLaws.{cmp_less}
 use Rattle.poly_mixed.specs.Monomial.{Monomial, has_bit, ranks_cmp, text_cmp, text_cmp_total, exponents_cmp}
 use Rattle.poly_mixed.specs.Polynomial.{Terms, coefficient, IsMap}
 use Rattle.poly_mixed.specs.Product.{with_rank}
 use Rattle.poly_mixed.specs.Cofactor.{with_bit, without_bit, cofactors, IsCofactor}
 use Rattle.poly_mixed.proofs.MonomialLemmas.{text_cmp-same}
-use Rattle.poly_mixed.proofs.RankLemmas.{Above, from_less, is_less, above_trans}
+use Rattle.poly_mixed.proofs.RankLemmas.{Above, from_less, above_trans}
 
 is_greater : (x y : ℕ) → y < x → nat_cmp x y ≡ Greater
-is_greater x y h = nat_cmp_total.antisymm x y ∙ ap ordering_reverse (is_less y x h)
+is_greater x y h = nat_cmp_total.antisymm x y ∙ ap ordering_reverse (cmp_less y x h)
 
 abbrev drops : ℕ → List ℕ → List ℕ
 drops bit rs = filter (λ r. not (nat_eq r bit)) rs
@@ -54,13 +56,9 @@ with_rank_holds (x ∷ xs) bit =
       | true ↦ ap (λ b. b || holds bit (x ∷ xs)) (eq-eqb bit bit refl)
       | false ↦ elim (bit == x) as (λ b. (bit == x) ≡ b → holds bit (cond b (x ∷ xs) (x ∷ with_rank xs bit)) ≡ true) [
         | true ↦ λ e. ap (λ b. b || holds bit xs) (eq-eqb x bit (sym (eqb-true bit x e)))
-        | false ↦ λ e. ap (λ b. nat_eq x bit || b) (with_rank_holds xs bit) ∙ or_true (nat_eq x bit)
+        | false ↦ λ e. ap (λ b. nat_eq x bit || b) (with_rank_holds xs bit) ∙ or-true (nat_eq x bit)
       ] refl
     ]
-  where
-    or_true : (b : Bool) → (b || true) ≡ true
-    or_true true = refl
-    or_true false = refl
 
 drops_with_rank : (rs : List ℕ) (bit : ℕ) → holds bit rs ≡ false → drops bit (with_rank rs bit) ≡ rs
 drops_with_rank [] bit h = ap (λ b. cond (not b) (bit ∷ []) []) (eq-eqb bit bit refl)
@@ -139,17 +137,17 @@ ranks_stay bit (x ∷ xs) (y ∷ ys) s v h k l =
           ] refl h
       | inr o ↦ elim o [
         | inl lt ↦
-            let up : Above x ys = above_trans x y ys (is_less x y lt) v.0 in
+            let up : Above x ys = above_trans x y ys (cmp_less x y lt) v.0 in
             let here : nat_eq x bit ≡ false = ne_eqb x bit (λ e. absent x y ys bit lt up e k) in
             (λ i. ranks_cmp (cond (not (here i)) (x ∷ drops bit xs) (drops bit xs)) (drops bit (y ∷ ys)))
-            ∙ first_less x (drops bit xs) (drops bit (y ∷ ys)) (drops_above x bit (y ∷ ys) (is_less x y lt, up))
+            ∙ first_less x (drops bit xs) (drops bit (y ∷ ys)) (drops_above x bit (y ∷ ys) (cmp_less x y lt, up))
         | inr gt ↦ absurd (never (ranks_cmp xs ys) (nat_cmp x y) (is_greater x y gt) l)
       ]
     ]
   where
     absent : (x y : ℕ) (ys : List ℕ) (bit : ℕ) → x < y → Above x ys → x ≡ bit → holds bit (y ∷ ys) ≡ true → ⊥
     absent x y ys bit lt up e k =
-        let all : Above bit (y ∷ ys) = (let P : ℕ → Type 0 = λ n. Above n (y ∷ ys) in subst P e (is_less x y lt, up)) in
+        let all : Above bit (y ∷ ys) = (let P : ℕ → Type 0 = λ n. Above n (y ∷ ys) in subst P e (cmp_less x y lt, up)) in
         let bad : true ≡ false = sym k ∙ above_lacks bit (y ∷ ys) all in cc
 
     never : (r o : Ordering) → o ≡ Greater → ordering_then o r ≡ Less → ⊥

@@ -7,9 +7,10 @@ use Rattle.std.specs.Ordering.{nat_cmp, ordering_then, ordering_reverse}
 use Rattle.std.specs.List.{AllByRecursion, list_any}
 use Rattle.std.specs.List.Sorted.{IsStrictlySortedBy}
 use Rattle.std.proofs.lemmas.Bool.{eq-eqb, ne_eqb, cases_eq}
+use Rattle.lists.specs.laws.OrderingLaws.{cmp_less}
 use Rattle.poly_mixed.specs.Monomial.{Monomial, exponents_cmp, ranks_cmp, text_cmp}
 use Rattle.poly_mixed.specs.Order.{exponents_from, exponent_list, HasRanksBelow}
-use Rattle.poly_mixed.proofs.RankLemmas.{Above, from_less, is_less}
+use Rattle.poly_mixed.proofs.RankLemmas.{Above, from_less}
 
 not_in : (x i : ℕ) (rs : List ℕ) → i ≤ x → Above x rs → list_any (λ r. nat_eq r i) rs ≡ false
 not_in x i [] l up = refl
@@ -103,12 +104,12 @@ ranks_by_digits (suc n) i (x ∷ xs) (y ∷ ys) p q =
             ∙ (λ j. exponents_cmp (sym (skips x (i + 1) n xs lx) j) (sym (skips y (i + 1) n ys ly) j))
             ∙ (λ j. step (sym (present i n x xs p e) j) (sym (present i n y ys q d) j) r)
         | inr nd ↦
-            let l : nat_cmp x y ≡ Less = is_less x y (omega arith) in
+            let l : nat_cmp x y ≡ Less = cmp_less x y (omega arith) in
             ap (λ o. ordering_then o (ranks_cmp xs ys)) l ∙ (λ j. step (sym (present i n x xs p e) j) (sym (lacks i n y ys q nd) j) r)
       ]
       | inr ne ↦ elim (cases_eq y i) [
         | inl d ↦
-            let g : nat_cmp x y ≡ Greater = nat_cmp_total.antisymm x y ∙ ap ordering_reverse (is_less y x (omega arith)) in
+            let g : nat_cmp x y ≡ Greater = nat_cmp_total.antisymm x y ∙ ap ordering_reverse (cmp_less y x (omega arith)) in
             ap (λ o. ordering_then o (ranks_cmp xs ys)) g ∙ (λ j. step (sym (lacks i n x xs p ne) j) (sym (present i n y ys q d) j) r)
         | inr nd ↦
             ranks_by_digits n (i + 1) (x ∷ xs) (y ∷ ys) (whole_within i n x xs p ne) (whole_within i n y ys q nd)

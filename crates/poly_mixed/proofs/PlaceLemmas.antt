@@ -11,8 +11,9 @@ use Rattle.std.specs.Option.{option_map, unwrap_or}
 use Rattle.std.specs.Ordering.{match_ordering, eq_by_cmp, is_eq, ordering_reverse, nat_cmp}
 use Rattle.std.proofs.lemmas.Bool.{eqb-true, eqb-false, eq-eqb, ne_eqb}
 use Rattle.std.proofs.lemmas.Map.Made.{lookup-map_values}
+use Rattle.std.proofs.Math.Bool.{or-true}
 use Rattle.lists.specs.laws.BoolLaws.{either}
-use Rattle.lists.specs.laws.OptionLaws.{same_some as one_of}
+use Rattle.lists.specs.laws.OptionLaws.{same_some as one_of, none_is_some}
 use Rattle.lists.specs.laws.OrderingLaws.{is_equal as equal}
 use Rattle.poly_mixed.specs.Cofactor.{LacksBit}
 use Rattle.poly_mixed.specs.Monomial.{Monomial, has_bit, text_cmp, text_cmp_total}
@@ -93,9 +94,6 @@ is_same m q e = text_cmp-same m q (equal (text_cmp m q) e)
 same_itself : (m : Monomial) → same m m ≡ true
 same_itself m = ap is_eq (tied_itself text_cmp_total m)
 
-not_none : {A : Type 0} {P : Type 0} (x : A) → None ≡ Some x → P
-not_none x e = absurd (cc)
-
 pub removed_map : (m : Monomial) (ts : Terms) → IsMap ts → IsMap (remove_entry (same m) ts)
 removed_map m ts is = record {
   sorted = sorted_removed text_cmp text_cmp_total (same m) ts is.sorted;
@@ -107,7 +105,7 @@ pub looked : (entries : Entries) (m : Monomial) → lookup (same m) (terms_in en
 looked entries m = lookup-map_values (λ (p : Place). p.coefficient) (same m) entries
 
 some_of : {A B : Type 0} (f : A → B) (o : Option A) (y : B) → option_map f o ≡ Some y → (x : A) × ((o ≡ Some x) × (f x ≡ y))
-some_of f None y e = not_none y e
+some_of f None y e = none_is_some y e
 some_of f (Some x) y e = (x, (refl, one_of (f x) y e))
 
 -- the entry of a monomial that stands in a slot
@@ -128,7 +126,7 @@ module _ (es new : Entries) (old next : Slots) (m : Monomial) (p : Place) (is : 
         (λ n.
         let e : slot_of new q ≡ slot_of es q = ap (option_map (λ p. p.slot)) (found q ∙ ap (λ b. cond b (Some p) (lookup (same q) es)) n) in
         let was : slot_at old s ≡ Some q = is.there q s (sym e ∙ h) in
-        change.others s (λ at. not_none q (sym empty ∙ ap (slot_at old) (sym at) ∙ was)) ∙ was);
+        change.others s (λ at. none_is_some q (sym empty ∙ ap (slot_at old) (sym at) ∙ was)) ∙ was);
     back = λ s q h. either (nat_eq s p.slot)
         (λ y.
         let at : s ≡ p.slot = eqb-true s p.slot y in
@@ -142,7 +140,7 @@ module _ (es new : Entries) (old next : Slots) (m : Monomial) (p : Place) (is : 
         (λ y.
         let P : Monomial → Type 0 = λ q. slot_of es q ≡ Some s in
         let none : slot_of es m ≡ None = ap (option_map (λ p. p.slot)) absent in
-        not_none s (sym none ∙ subst P (sym (is_same m q y)) had))
+        none_is_some s (sym none ∙ subst P (sym (is_same m q y)) had))
         (λ n. ap (λ b. option_map (λ p. p.slot) (cond b (Some p) (lookup (same q) es))) n ∙ had));
   }
 
@@ -150,14 +148,14 @@ module _ (es new : Entries) (old next : Slots) (m : Monomial) (p : Place) (is : 
   indexed_take held change found = record {
     is_map = map_is;
     there = λ q s h. either (same m q)
-        (λ y. not_none s (sym (ap (option_map (λ p. p.slot)) (found q ∙ ap (λ b. cond b None (lookup (same q) es)) y)) ∙ h))
+        (λ y. none_is_some s (sym (ap (option_map (λ p. p.slot)) (found q ∙ ap (λ b. cond b None (lookup (same q) es)) y)) ∙ h))
         (λ n.
         let e : slot_of new q ≡ slot_of es q = ap (option_map (λ p. p.slot)) (found q ∙ ap (λ b. cond b None (lookup (same q) es)) n) in
         let was : slot_at old s ≡ Some q = is.there q s (sym e ∙ h) in
         let P : Monomial → Type 0 = λ q. same m q ≡ true in
         change.others s (λ at. absurd (let t : same m q ≡ true = subst P (one_of m q (sym held ∙ ap (slot_at old) (sym at) ∙ was)) (same_itself m) in cc)) ∙ was);
     back = λ s q h. either (nat_eq s p.slot)
-        (λ y. not_none q (sym change.changed ∙ ap (slot_at next) (sym (eqb-true s p.slot y)) ∙ h))
+        (λ y. none_is_some q (sym change.changed ∙ ap (slot_at next) (sym (eqb-true s p.slot y)) ∙ h))
         (λ n.
         let was : slot_at old s ≡ Some q = sym (change.others s (eqb-false s p.slot n)) ∙ h in
         let had = is.back s q was in
@@ -183,13 +181,9 @@ indexed_same es new slots m old p is map_is had at found =
 
 -- a found slot is listed
 pub listed_at : (xs : List ℕ) (i s : ℕ) → slice_get xs i ≡ Some s → is_in s xs ≡ true
-listed_at [] i s h = not_none s h
+listed_at [] i s h = none_is_some s h
 listed_at (x ∷ xs) zero s h = ap (λ b. b || is_in s xs) (eq-eqb x s (one_of x s h))
-listed_at (x ∷ xs) (suc i) s h = ap (λ b. nat_eq x s || b) (listed_at xs i s h) ∙ or_true (nat_eq x s)
-  where
-    or_true : (b : Bool) → (b || true) ≡ true
-    or_true true = refl
-    or_true false = refl
+listed_at (x ∷ xs) (suc i) s h = ap (λ b. nat_eq x s || b) (listed_at xs i s h) ∙ or-true (nat_eq x s)
 
 -- ---- what the lists say of the terms
 
@@ -208,14 +202,10 @@ module _ (entries : Entries) (slots : Slots) (is : IsIndexed entries slots) wher
   lacks_bit bit list l none = lacks bit list l none entries (own_values text_cmp text_cmp_total entries sorted_keys)
 
   any_found : (bit : ℕ) (m : Monomial) (p : Place) (fs : Entries) → lookup (same m) fs ≡ Some p → has_bit bit m ≡ true → list_any (λ t. has_bit bit t.0) (terms_in fs) ≡ true
-  any_found bit m p [] h has = not_none p h
+  any_found bit m p [] h has = none_is_some p h
   any_found bit m p (f ∷ fs) h has = either (same m f.0)
       (λ y. let P : Monomial → Type 0 = λ q. has_bit bit q ≡ true in ap (λ b. b || list_any (λ t. has_bit bit t.0) (terms_in fs)) (subst P (is_same m f.0 y) has))
-      (λ n. ap (λ b. has_bit bit f.0 || b) (any_found bit m p fs (sym (ap (λ b. cond b (Some f.1) (lookup (same m) fs)) n) ∙ h) has) ∙ or_true (has_bit bit f.0))
-    where
-      or_true : (b : Bool) → (b || true) ≡ true
-      or_true true = refl
-      or_true false = refl
+      (λ n. ap (λ b. has_bit bit f.0 || b) (any_found bit m p fs (sym (ap (λ b. cond b (Some f.1) (lookup (same m) fs)) n) ∙ h) has) ∙ or-true (has_bit bit f.0))
 
   none_any : (bit : ℕ) (ts : Terms) → LacksBit bit ts → list_any (λ t. has_bit bit t.0) ts ≡ false
   none_any bit [] all = refl
@@ -244,7 +234,7 @@ module _ (entries : Entries) (slots : Slots) (is : IsIndexed entries slots) wher
   coefficient_at m p h = ap (λ o. unwrap_or o 0) (looked entries m ∙ ap (option_map (λ p. p.coefficient)) h)
 
   nonzero_at : (m : Monomial) (c : ℕ) (ts : Terms) → AllByRecursion (λ t. t.1 ≢ 0) ts → lookup (same m) ts ≡ Some c → c ≢ 0
-  nonzero_at m c [] all h = not_none c h
+  nonzero_at m c [] all h = none_is_some c h
   nonzero_at m c (t ∷ ts) all h =
       elim (same m t.0) as (λ b. cond b (Some t.1) (lookup (same m) ts) ≡ Some c → c ≢ 0) [
         | true ↦ λ h. let P : ℕ → Type 0 = λ n. n ≢ 0 in subst P (one_of t.1 c h) all.0
@@ -272,7 +262,7 @@ module _ (entries : Entries) (slots : Slots) (is : IsIndexed entries slots) wher
 
   -- a monomial in a slot has a place
   pub has_place : {P : Type 0} (slot : ℕ) (m : Monomial) → Some m ≡ slot_at slots slot → None ≡ lookup (same m) entries → P
-  has_place slot m held none = let p = entry_at entries slots slot m is (sym held) in not_none p.0 (none ∙ p.1.0)
+  has_place slot m held none = let p = entry_at entries slots slot m is (sym held) in none_is_some p.0 (none ∙ p.1.0)
 
   -- a slot that is listed last is not empty
   pub last_has : (bit slot i : ℕ) (list : List ℕ) (m : Monomial) → IsListOf bit slots list → Some slot ≡ slice_get list i → Some m ≡ slot_at slots slot → has_bit bit m ≡ true
@@ -285,7 +275,7 @@ none_last (x ∷ xs) e = absurd (past (x ∷ xs) (length (x ∷ xs) - 1) (omega 
   where
     past : (zs : List ℕ) (i : ℕ) → i < length zs → slice_get zs i ≡ None → ⊥
     past [] i h e = absurd (omega (arith, h))
-    past (z ∷ zs) zero h e = not_none z (sym e)
+    past (z ∷ zs) zero h e = none_is_some z (sym e)
     past (z ∷ zs) (suc i) h e = past zs i (omega (arith, h)) e
 
 -- a term was taken out of its slot and of the map

@@ -6,6 +6,9 @@ use Rattle.std.specs.Ordering.{nat_cmp}
 use Rattle.std.specs.List.Sorted.{IsStrictlySortedBy}
 use Rattle.std.proofs.lemmas.Nat.{pow_pos}
 use Rattle.std.specs.List.{AllByRecursion, list_all}
+use Rattle.std.proofs.Math.Bool.{and_comm}
+use Rattle.lists.specs.laws.BoolLaws.{and_twice}
+use Rattle.lists.specs.laws.OrderingLaws.{cmp_less}
 use Rattle.poly_mixed.specs.Polynomial.{IsElement}
 use Rattle.poly_mixed.proofs.FieldLaws.{IsField}
 use Rattle.poly_mixed.specs.Monomial.{Monomial}
@@ -16,25 +19,15 @@ use Rattle.gf_field.specs.Power.{power}
 use Rattle.poly_mixed.specs.Sum.{plus_term}
 use Rattle.poly_mixed.specs.Product.{add_exponent, add_exponents, with_rank, union, times, AddsProduct}
 use Rattle.poly_mixed.proofs.ValueLemmas.{power_element, powers_element, one_element, product_zero, zero_element, value-plus, reduced_plus}
-use Rattle.poly_mixed.proofs.RankLemmas.{Above, above_trans, is_less}
+use Rattle.poly_mixed.proofs.RankLemmas.{Above, above_trans}
 
 -- ---- ranks
-
-and_twice : (a b : Bool) → ((a && b) && a) ≡ (a && b)
-and_twice true b = elim b as (λ v. (v && true) ≡ v) [ true ↦ refl | false ↦ refl ]
-and_twice false b = refl
 
 pub and_assoc : (a b c : Bool) → ((a && b) && c) ≡ (a && (b && c))
 and_assoc true b c = refl
 and_assoc false b c = refl
 
-and_comm : (a b : Bool) → (a && b) ≡ (b && a)
-and_comm true true = refl
-and_comm true false = refl
-and_comm false true = refl
-and_comm false false = refl
-
-all-with_rank : (p : ℕ → Bool) (xs : List ℕ) (r : ℕ) → list_all p (with_rank xs r) ≡ (list_all p xs && p r)
+pub all-with_rank : (p : ℕ → Bool) (xs : List ℕ) (r : ℕ) → list_all p (with_rank xs r) ≡ (list_all p xs && p r)
 all-with_rank p [] r = and_comm (p r) true
 all-with_rank p (x ∷ xs) r =
     elim (nat_lt r x) as (λ b. list_all p (cond b (r ∷ x ∷ xs) (cond (r == x) (x ∷ xs) (x ∷ with_rank xs r))) ≡ ((p x && list_all p xs) && p r)) [
@@ -129,14 +122,14 @@ unfolding IsStrictlySortedBy
 rising-with_rank [] r s = (tt, tt)
 rising-with_rank (x ∷ xs) r s =
     elim (nat_lt r x) as (λ b. nat_lt r x ≡ b → IsStrictlySortedBy nat_cmp (cond b (r ∷ x ∷ xs) (cond (r == x) (x ∷ xs) (x ∷ with_rank xs r)))) [
-      | true ↦ λ e. let l = is_less r x (ltb-true r x e) in ((l, above_trans r x xs l s.0), s)
+      | true ↦ λ e. let l = cmp_less r x (ltb-true r x e) in ((l, above_trans r x xs l s.0), s)
       | false ↦ λ e. elim (r == x) as (λ b. (r == x) ≡ b → IsStrictlySortedBy nat_cmp (cond b (x ∷ xs) (x ∷ with_rank xs r))) [
         | true ↦ λ q. s
         | false ↦ λ q.
             let ne = eqb-false r x q in
             let ge = ltb-false r x e in
             let l : x < r = (elim (cases_order x r) [ inl h ↦ absurd (ne (sym h)) | inr h ↦ elim h [ inl w ↦ w | inr w ↦ absurd (omega arith) ] ]) in
-            (above_by x xs r (is_less x r l) s.0, rising-with_rank xs r s.1)
+            (above_by x xs r (cmp_less x r l) s.0, rising-with_rank xs r s.1)
       ] refl
     ] refl
 
@@ -146,7 +139,7 @@ rising-union xs (r ∷ rs) s = rising-union (with_rank xs r) rs (rising-with_ran
 
 -- ---- products of terms are terms
 
-length-add_exponents : (k : ℕ) (es fs : List ℕ) → length es ≡ length fs → length (add_exponents k es fs) ≡ length es
+pub length-add_exponents : (k : ℕ) (es fs : List ℕ) → length es ≡ length fs → length (add_exponents k es fs) ≡ length es
 length-add_exponents k [] fs h = refl
 length-add_exponents k (e ∷ es) [] h = absurd (omega arith)
 length-add_exponents k (e ∷ es) (f ∷ fs) h = ap suc (length-add_exponents k es fs (omega arith))

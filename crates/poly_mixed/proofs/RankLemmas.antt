@@ -4,7 +4,6 @@ use Rattle.std.specs.declared.cmp.Ordering.TheVariants.{Less}
 use Rattle.std.specs.Cmp.{nat_cmp_total, ranked}
 use Rattle.std.specs.Ordering.{nat_cmp}
 use Rattle.std.specs.List.{AllByRecursion}
-use Rattle.std.proofs.lemmas.Bool.{lt-ltb}
 
 -- each rank of the list is above x
 abbrev pub Above : ℕ → List ℕ → Type 0
@@ -12,9 +11,6 @@ Above x rs = AllByRecursion (λ y. nat_cmp x y ≡ Less) rs
 
 pub from_less : (x y : ℕ) → nat_cmp x y ≡ Less → x < y
 from_less x y e = ranked x y Less (sym e)
-
-pub is_less : (x y : ℕ) → x < y → nat_cmp x y ≡ Less
-is_less x y h = rw (lt-ltb x y h)
 
 pub above_trans : (x y : ℕ) (rs : List ℕ) → nat_cmp x y ≡ Less → Above y rs → Above x rs
 above_trans x y [] l up = tt

@@ -1,7 +1,8 @@
 -- A variable and its exponent, read byte by byte, told by tokens.
-use Rattle.std.proofs.Common.{◌≡◌, ◌≢◌, ℕ, ◌^◌, Bool, true, false, cond, ◌&&◌, List, [], ◌∷◌, length, drop, nat_lt, ◌==◌, Option, Some, None, Ok, Err, inl, inr, refl, sym, ◌∙◌, ap, subst, arith}
-use Rattle.std.proofs.lemmas.Bool.{ne_eqb, cases_eq}
+use Rattle.std.proofs.Common.{◌≡◌, ◌≢◌, ℕ, ◌^◌, true, false, cond, ◌&&◌, List, [], ◌∷◌, length, drop, nat_lt, ◌==◌, Option, Some, None, Ok, Err, inl, inr, refl, sym, ◌∙◌, ap, subst, arith}
+use Rattle.std.proofs.lemmas.Bool.{ne_eqb, cases_eq, eqb-true}
 use Rattle.std.proofs.lemmas.Grind.{common_steps}
+use Rattle.lists.specs.laws.BoolLaws.{both_true}
 use Rattle.text_core.specs.Numbers.{value_of}
 use Rattle.poly_mixed.specs.Labels.{Labelling, word_of, bit_of}
 use Rattle.text_core.specs.Scan.{run, after, skip, name_of, index_of, is_digit, is_hex_digit, is_letter, has_digits}
@@ -97,20 +98,13 @@ zero_alone (b ∷ bs) e =
       | inr ne ↦ (let bad : false ≡ true = sym (ap (λ v. v && nat_lt 0 (length (run is_hex_digit bs))) (ne_eqb b 120 ne)) ∙ e in absurd (cc))
     ]
 
-both_true : (p q : Bool) → (p && q) ≡ true → (p ≡ true) × (q ≡ true)
-both_true true q e = (refl, e)
-both_true false q e = absurd (cc)
-
-eqb_is : (x y : ℕ) → (x == y) ≡ true → x ≡ y
-eqb_is x y e = elim (cases_eq x y) [ inl is ↦ is | inr ne ↦ (let bad : false ≡ true = sym (ne_eqb x y ne) ∙ e in absurd (cc)) ]
-
 number_there : (k b : ℕ) (bs : List ℕ) → number_at k (b ∷ bs) ≡ number_in k (number_front b bs)
 number_there k b bs =
     elim ((b == 48) && has_digits bs) as (λ v. ((b == 48) && has_digits bs) ≡ v → number_at k (b ∷ bs) ≡ number_in k (cond v (Some (hex (value_of 16 (run is_hex_digit (drop 1 bs))), after is_hex_digit (drop 1 bs))) (Some (figures (run is_digit (b ∷ bs)), after is_digit (b ∷ bs))))) [
       | true ↦ λ e.
           let parts = both_true (b == 48) (has_digits bs) e in
           let P : ℕ → Type 0 = λ x. value_of 10 (run is_digit (x ∷ bs)) ≡ 0 in
-          no_number k (run is_digit (b ∷ bs)) (after is_digit (b ∷ bs)) (subst P (sym (eqb_is b 48 parts.0)) (ap (value_of 10) (zero_alone bs parts.1)))
+          no_number k (run is_digit (b ∷ bs)) (after is_digit (b ∷ bs)) (subst P (sym (eqb-true b 48 parts.0)) (ap (value_of 10) (zero_alone bs parts.1)))
       | false ↦ λ e. refl
     ] refl
 
@@ -121,7 +115,7 @@ number_is k (b ∷ bs) =
     elim (b == 64) as (λ v. (b == 64) ≡ v → number_at k (b ∷ bs) ≡ number_in k (cond v (net_front bs) (cond (is_letter b) (name_front (b ∷ bs)) (cond (is_digit b) (number_front b bs) (sign_front b bs))))) [
       | true ↦ λ e.
           let P : ℕ → Type 0 = λ x. is_digit x ≡ false in
-          none (subst P (sym (eqb_is b 64 e)) refl)
+          none (subst P (sym (eqb-true b 64 e)) refl)
           ∙ elim (nat_lt 0 (length (run is_digit bs))) as (λ v. ◌≡◌ {A = Scanned ℕ} (Err Syntax) (number_in k (cond v (Some (variable (net (value_of 10 (run is_digit bs))), after is_digit bs)) None))) [ true ↦ refl | false ↦ refl ]
       | false ↦ λ e. elim (is_letter b) as (λ v. is_letter b ≡ v → number_at k (b ∷ bs) ≡ number_in k (cond v (name_front (b ∷ bs)) (cond (is_digit b) (number_front b bs) (sign_front b bs)))) [
         | true ↦ λ f.

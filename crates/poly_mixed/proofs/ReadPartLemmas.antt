@@ -40,7 +40,7 @@ term_more l sum (q ∷ ps) p = refl
 skipped : (bs : List ℕ) → length (skip bs) ≤ length bs
 skipped bs = omega (arith, length-drop (length (run is_blank bs)) bs)
 
-done_stays : (n : ℕ) (l : Labelling) (k : ℕ) (ts : Terms) → read_on n l k (Ok (done ts)) ≡ Ok ts
+pub done_stays : (n : ℕ) (l : Labelling) (k : ℕ) (ts : Terms) → read_on n l k (Ok (done ts)) ≡ Ok ts
 done_stays zero l k ts = refl
 done_stays (suc n) l k ts = done_stays n l k ts
 

@@ -1,10 +1,11 @@
 -- A polynomial that was read is reduced.
-use Rattle.std.proofs.Common.{◌≡◌, ◌≢◌, ℕ, zero, suc, ◌<◌, ◌≤◌, ◌^◌, true, false, cond, List, [], ◌∷◌, length, ◌==◌, Option, Some, None, slice_set, inl, inr, refl, sym, ◌∙◌, ap, subst, arith}
+use Rattle.std.proofs.Common.{◌≡◌, ◌≢◌, ℕ, zero, suc, ◌<◌, ◌≤◌, ◌^◌, true, false, cond, List, [], ◌∷◌, ◌==◌, Option, Some, None, slice_set, inl, inr, refl, sym, ◌∙◌, subst, arith}
 use lib.Bits.{xor_lt}
 use Rattle.std.specs.List.{AllByRecursion}
 use Rattle.std.specs.List.Sorted.{IsStrictlySortedBy}
-use Rattle.std.proofs.Math.Nat.{pow-le-pow_right}
 use Rattle.std.proofs.lemmas.Bool.{eqb-false}
+use Rattle.lists.specs.laws.ListLaws.{length-slice_set}
+use Rattle.lists.specs.laws.PowerLaws.{one_below_pow}
 use Rattle.poly_mixed.specs.Labels.{Labelling, word_of, bit_of}
 use Rattle.poly_mixed.specs.Monomial.{Monomial, text_cmp}
 use Rattle.poly_mixed.specs.Polynomial.{Terms, IsElement, IsMonomial, IsTerm, IsReduced}
@@ -24,11 +25,8 @@ abbrev IsLow : ℕ → Part → Type 0
 IsLow k (number c) = c < 2 ^ k
 IsLow k (factor v e) = e < 2 ^ k
 
-one_low : (k : ℕ) → 1 ≤ k → 1 < 2 ^ k
-one_low k some = let le : 2 ^ 1 ≤ 2 ^ k = pow-le-pow_right (omega arith) some in omega (arith, le)
-
 to_the_first : (k e : ℕ) → 1 ≤ k → e ≡ 1 → e < 2 ^ k
-to_the_first k e some is = let low = one_low k some in omega (arith, is, low)
+to_the_first k e some is = let low = one_below_pow k some in omega (arith, is, low)
 
 part_low : (k : ℕ) → 1 ≤ k → (ts : List Token) (p : Part) → IsPart k ts p → IsLow k p
 part_low k some ts (number c) is = is.1
@@ -46,11 +44,6 @@ term_low : (k : ℕ) → 1 ≤ k → (ts : List Token) (ps : List Part) → IsTe
 term_low k some ts [] is = tt
 term_low k some ts (p ∷ ps) is = all_joined _ (IsPart k) (IsLow k) (part_low k some) ts (p ∷ ps) is.0
 
-set_long : (es : List ℕ) (w e : ℕ) → length (slice_set es w e) ≡ length es
-set_long [] w e = refl
-set_long (x ∷ es) zero e = refl
-set_long (x ∷ es) (suc w) e = ap suc (set_long es w e)
-
 set_elements : (k : ℕ) (es : List ℕ) (w e : ℕ) → e < 2 ^ k → AllByRecursion (IsElement k) es → AllByRecursion (IsElement k) (slice_set es w e)
 set_elements k [] w e low all = tt
 set_elements k (x ∷ es) zero e low all = (low, all.1)
@@ -58,7 +51,7 @@ set_elements k (x ∷ es) (suc w) e low all = (all.0, set_elements k es w e low 
 
 power_good : (k : ℕ) (m : Monomial) (o : Option ℕ) (e : ℕ) → e < 2 ^ k → IsMonomial k m → IsMonomial k (with_power m o e)
 power_good k m None e low is = is
-power_good k m (Some w) e low is = record { words = set_long m.exponents w e ∙ is.words; exponents = set_elements k m.exponents w e low is.exponents; rising = is.rising }
+power_good k m (Some w) e low is = record { words = length-slice_set m.exponents w e ∙ is.words; exponents = set_elements k m.exponents w e low is.exponents; rising = is.rising }
 
 rank_good : (k : ℕ) (m : Monomial) (o : Option ℕ) → IsMonomial k m → IsMonomial k (with_bit_of m o)
 rank_good k m None is = is
@@ -75,12 +68,12 @@ monomial_good l k m [] low is = is
 monomial_good l k m (p ∷ ps) low is = monomial_good l k (with_part l m p) ps low.1 (part_good l k m p low.0 is)
 
 one_good : (k : ℕ) → 1 ≤ k → IsMonomial k one
-one_good k some = let z : 0 < 2 ^ k = (let low = one_low k some in omega (arith, low)) in record { words = refl; exponents = (z, (z, (z, (z, (z, (z, (z, (z, tt)))))))); rising = no_ranks_rise }
+one_good k some = let z : 0 < 2 ^ k = (let low = one_below_pow k some in omega (arith, low)) in record { words = refl; exponents = (z, (z, (z, (z, (z, (z, (z, (z, tt)))))))); rising = no_ranks_rise }
 
 coefficient_low : (k : ℕ) → 1 ≤ k → (ps : List Part) → AllByRecursion (IsLow k) ps → coefficient_of ps < 2 ^ k
-coefficient_low k some [] low = one_low k some
+coefficient_low k some [] low = one_below_pow k some
 coefficient_low k some (number c ∷ ps) low = low.0
-coefficient_low k some (factor v e ∷ ps) low = one_low k some
+coefficient_low k some (factor v e ∷ ps) low = one_below_pow k some
 
 one_reduced : (k : ℕ) (m : Monomial) (c : ℕ) → IsTerm k (m, c) → c ≢ 0 → IsReduced k ((m, c) ∷ [])
 unfolding IsStrictlySortedBy
@@ -109,7 +102,7 @@ terms_reduced : (l : Labelling) (k : ℕ) → 1 ≤ k → (sum : Terms) (ts : Li
 terms_reduced l k some sum [] r low = r
 terms_reduced l k some sum (t ∷ ts) r low = terms_reduced l k some (with_term l sum t) ts (term_reduced l k some sum t r low.0) low.1
 
-nothing_reduced : (k : ℕ) → IsReduced k []
+pub nothing_reduced : (k : ℕ) → IsReduced k []
 unfolding IsStrictlySortedBy
 nothing_reduced k = record { is_map = record { sorted = tt; rising = tt; nonzero = tt }; terms = tt }
 

@@ -5,6 +5,7 @@ use Rattle.std.proofs.lemmas.Bool.{ne_eqb, cases_eq}
 use Rattle.std.proofs.lemmas.Grind.{common_steps}
 use Rattle.std.proofs.lemmas.List.Sums.{take_while-cons}
 use Rattle.std.proofs.lemmas.Slice.Eq.{bytes_eq-Decides}
+use Rattle.lists.specs.laws.TestLaws.{other_bytes}
 use Rattle.text_core.specs.Lines.{is_blank}
 use Rattle.text_core.specs.Numbers.{value_of}
 use Rattle.poly_mixed.specs.Labels.{Labelling}
@@ -20,6 +21,7 @@ use Rattle.poly_mixed.specs.declared.variables.Variable.{Variable}
 use Rattle.text_core.proofs.RunLemmas.{skip_none, run_front, after_front}
 use Rattle.poly_mixed.proofs.FrontLemmas.{by_front, by_number, by_sign}
 use Rattle.poly_mixed.proofs.ReadFactorLemmas.{variable_in, variable_is}
+use Rattle.text_core.proofs.ByteLemmas.{digit_range}
 
 -- ---- what a token says where a term is to come, or the end
 
@@ -82,18 +84,12 @@ zero_next_is sum (b ∷ bs) =
 
 -- ---- a term
 
-digit_bounds : (b : ℕ) → is_digit b ≡ true → (48 ≤ b) × (b ≤ 57)
-digit_bounds b e = (grind (arith, common_steps), grind (arith, common_steps))
-
 other_digits : (b : ℕ) (xs : List ℕ) → b ≢ 48 → bytes_eq (b ∷ xs) (48 ∷ []) ≡ false
-other_digits b xs ne = unequal (b ∷ xs) (48 ∷ []) (λ e. ne (ap first e))
+other_digits b xs ne = other_bytes (b ∷ xs) (48 ∷ []) (λ e. ne (ap first e))
   where
     first : List ℕ → ℕ
     first [] = 0
     first (x ∷ xs) = x
-
-    unequal : (xs ys : List ℕ) → xs ≢ ys → bytes_eq xs ys ≡ false
-    unequal xs ys ne = elim (bytes_eq xs ys) as (λ b. bytes_eq xs ys ≡ b → b ≡ false) [ true ↦ λ e. absurd (ne ((bytes_eq-Decides xs ys).0 e)) | false ↦ λ e. refl ] refl
 
 longer_digits : (b : ℕ) (xs : List ℕ) → bytes_eq (48 ∷ b ∷ xs) (48 ∷ []) ≡ false
 longer_digits b xs = elim (bytes_eq (48 ∷ b ∷ xs) (48 ∷ [])) as (λ v. bytes_eq (48 ∷ b ∷ xs) (48 ∷ []) ≡ v → v ≡ false) [
@@ -111,7 +107,7 @@ after_term_zero : (sum : Terms) (b : ℕ) (bs : List ℕ) → after_zero sum (sk
 after_term_zero sum b bs =
     elim (is_digit b) as (λ v. is_digit b ≡ v → after_zero sum (skip (b ∷ bs)) ≡ cond (bytes_eq (run is_digit (48 ∷ b ∷ bs)) (48 ∷ [])) (after_zero sum (skip (after is_digit (48 ∷ b ∷ bs)))) (Err Syntax)) [
       | true ↦ λ e.
-          let bounds = digit_bounds b e in
+          let bounds = digit_range b e in
           ap (after_zero sum) (skip_none b bs (not_blank b bounds.0))
           ∙ ap (λ v. cond v (Ok (more true sum 1 one bs)) (Err Syntax)) (ne_eqb b 43 (λ f. omega (arith, f, bounds.0)))
           ∙ sym (ap (λ (xs : List ℕ). cond (bytes_eq xs (48 ∷ [])) (after_zero sum (skip (after is_digit (48 ∷ b ∷ bs)))) (Err Syntax)) (two_digits b bs e)

@@ -3,6 +3,7 @@ use Rattle.std.proofs.Common.{◌≡◌, ℕ, zero, suc, ◌<◌, ◌≤◌, ◌
 use lib.Bits.{xor_zero_l, xor_zero_r, xor_assoc, xor_lt}
 use Rattle.std.proofs.lemmas.Bool.{ne_eqb, eq-eqb, cases_eq}
 use Rattle.std.specs.List.{AllByRecursion}
+use Rattle.lists.specs.laws.TestLaws.{suc_not_zero}
 use Rattle.lists.specs.laws.XorLaws.{xor_swap}
 use Rattle.poly_mixed.specs.Polynomial.{IsElement}
 use Rattle.poly_mixed.proofs.FieldLaws.{IsField}
@@ -31,9 +32,6 @@ all_zero_at (c ∷ cs) (suc e) all = all_zero_at cs e all.1
 zero_apart : (q : ℕ) → (0 == suc q) ≡ false
 zero_apart q = ne_eqb 0 (suc q) (λ e. omega arith)
 
-suc_apart : (e : ℕ) → (suc e == 0) ≡ false
-suc_apart e = ne_eqb (suc e) 0 (λ h. omega arith)
-
 suc_same : (e q : ℕ) → (suc e == suc q) ≡ (e == q)
 suc_same e q =
     elim (cases_eq e q) [
@@ -49,9 +47,9 @@ at_add_at zero c zero [] = sym (xor_zero_r c)
 at_add_at zero c (suc q) [] = none_at (0 == suc q) c 0 (zero_apart q)
 at_add_at zero c zero (d ∷ cs) = refl
 at_add_at zero c (suc q) (d ∷ cs) = none_at (0 == suc q) c (get_or cs q 0) (zero_apart q)
-at_add_at (suc e) c zero [] = none_at (suc e == 0) c 0 (suc_apart e)
+at_add_at (suc e) c zero [] = none_at (suc e == 0) c 0 (suc_not_zero e)
 at_add_at (suc e) c (suc q) [] = at_add_at e c q [] ∙ ap (λ b. bit_xor (cond b c 0) 0) (sym (suc_same e q))
-at_add_at (suc e) c zero (d ∷ cs) = none_at (suc e == 0) c d (suc_apart e)
+at_add_at (suc e) c zero (d ∷ cs) = none_at (suc e == 0) c d (suc_not_zero e)
 at_add_at (suc e) c (suc q) (d ∷ cs) = at_add_at e c q cs ∙ ap (λ b. bit_xor (cond b c 0) (get_or cs q 0)) (sym (suc_same e q))
 
 at_dense : (ts : List (ℕ × ℕ)) (q : ℕ) → get_or (dense ts) q 0 ≡ xor_sum (λ (t : ℕ × ℕ). cond (t.0 == q) t.1 0) ts

@@ -5,6 +5,7 @@ use Rattle.std.proofs.lemmas.List.{append_assoc}
 use Rattle.std.proofs.lemmas.Grind.{common_steps}
 use Rattle.std.specs.Char.{IsAsciiAlphabetic}
 use Rattle.std.specs.Option.{option_and_then}
+use Rattle.std.proofs.Math.Seq.{drop-append_seam}
 use Rattle.text_core.specs.Lines.{is_blank}
 use Rattle.text_core.specs.Names.{IsName}
 use Rattle.text_core.specs.Numbers.{value_of}
@@ -15,7 +16,7 @@ use Rattle.poly_mixed.specs.private.Reading.{variable_at, named_at, name_at, net
 use Rattle.text_core.specs.Scan.{run, skip, name_of, index_of, closed_by, is_digit, is_hex_digit, is_letter, is_name_byte}
 use Rattle.poly_mixed.specs.declared.fault.PolyFault.TheVariants.{Syntax}
 use Rattle.poly_mixed.specs.declared.variables.Variable.TheVariants.{Word, Rank}
-use Rattle.text_core.proofs.RunLemmas.{Stops, Passes, run_front, drop_front, after_front, skip_none}
+use Rattle.text_core.proofs.RunLemmas.{Stops, Passes, run_front, after_front, skip_none}
 use Rattle.text_core.proofs.WrittenLemmas.{decimal_digits}
 use Rattle.poly_mixed.proofs.SpelledLemmas.{name_front, IsBitText, IsNetText}
 use Rattle.text_core.proofs.ByteLemmas.{letter}
@@ -36,7 +37,7 @@ name_scanned l [] t is s = absurd (let h = is.some in omega arith)
 name_scanned l (b ∷ bs) t is s =
     let x = b ∷ (bs ++ t) in
     let front : name_of x ≡ b ∷ bs = name_front (b ∷ bs) t is s in
-    let rest : drop (length (name_of x)) x ≡ t = ap (λ (n : List ℕ). drop (length n) x) front ∙ drop_front (b ∷ bs) t in
+    let rest : drop (length (name_of x)) x ≡ t = ap (λ (n : List ℕ). drop (length n) x) front ∙ drop-append_seam (b ∷ bs) t in
     ap (λ v. cond v (net_at l (bs ++ t)) (cond (is_letter b) (name_at l x (drop (length (name_of x)) x)) (Err Syntax))) (not_at b is.letter)
     ∙ ap (λ v. cond v (name_at l x (drop (length (name_of x)) x)) (Err Syntax)) (letter b is.letter)
     ∙ (λ i. named_at l (front i) (rest i) (index_of (rest i)))
@@ -83,7 +84,7 @@ power_text name e = cond (e == 1) name (name ++ codes "^" ++ decimal e)
 digit_not_blank : (b : ℕ) → is_digit b ≡ true → is_blank b ≡ false
 digit_not_blank b h = grind (arith, common_steps)
 
-skip_digits : (ds s : List ℕ) → 0 < length ds → Passes is_digit ds → skip (ds ++ s) ≡ ds ++ s
+pub skip_digits : (ds s : List ℕ) → 0 < length ds → Passes is_digit ds → skip (ds ++ s) ≡ ds ++ s
 skip_digits [] s h p = absurd (omega arith)
 skip_digits (d ∷ ds) s h p = skip_none d (ds ++ s) (digit_not_blank d p.0)
 

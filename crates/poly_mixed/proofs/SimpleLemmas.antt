@@ -1,5 +1,5 @@
 -- Polynomials of one term in bits, and the steps of a table.
-use Rattle.std.proofs.Common.{◌≡◌, ℕ, zero, suc, ◌+◌, ◌-◌, ◌*◌, ◌^◌, ◌<◌, ◌≤◌, mul_comm, mul_assoc, mul-one, mul-add, ap₂, ◌/◌, pow-suc, take, drop, get_or, length-take, length-drop, Bool, true, false, cond, ◌&&◌, ◌==◌, List, [], ◌∷◌, length, bit_xor, IfOk, Result, Ok, Err, refl, sym, ◌∙◌, ap, subst, arith}
+use Rattle.std.proofs.Common.{◌≡◌, ℕ, zero, suc, ◌+◌, ◌-◌, ◌*◌, ◌^◌, ◌≤◌, mul_comm, mul_assoc, ◌/◌, take, drop, get_or, Bool, true, false, cond, ◌&&◌, ◌==◌, List, [], ◌∷◌, length, bit_xor, IfOk, Result, Ok, Err, refl, sym, ◌∙◌, ap, subst, arith}
 use Rattle.std.proofs.lemmas.Nat.Bits.{shr_and_one, bit_at-lt}
 use Rattle.std.specs.Int.{bit_at}
 use Rattle.std.specs.Prelude.{bit_and}
@@ -9,6 +9,7 @@ use Rattle.std.specs.Ordering.{nat_cmp}
 use Rattle.std.specs.List.{list_all}
 use Rattle.std.specs.List.Sorted.{IsStrictlySortedBy}
 use Rattle.std.specs.Map.{keys_of}
+use Rattle.lists.specs.laws.NumberLaws.{bit_is_choice, one_more_times}
 use Rattle.poly_mixed.specs.Polynomial.{IsElement}
 use Rattle.poly_mixed.proofs.FieldLaws.{IsField}
 use Rattle.poly_mixed.specs.Monomial.{Monomial, text_cmp}
@@ -64,20 +65,6 @@ module _ {degree : ℕ} {mul : ℕ → ℕ → ℕ} (f : IsField degree mul) whe
 
 -- ---- the recursion over the ranks
 
--- what is left of a list after its first element, as a slice from 1 on
-pub rest_long : (rs : List ℕ) (n : ℕ) → n ≡ length rs → length (take (n - 1) (drop 1 rs)) ≡ length rs - 1
-rest_long rs n e = simp (length-take, length-drop) (omega arith)
-
-pub half_within : (s n : ℕ) → 1 ≤ n → s * 2 ^ n ≤ 64 → 2 * s * 2 ^ (n - 1) ≤ 64
-half_within s zero l h = absurd (omega arith)
-half_within s (suc n) l h =
-    let e : 2 * s * 2 ^ n ≡ s * 2 ^ suc n = mul_comm_3 s (2 ^ n) ∙ ap (λ m. s * m) (sym (pow-suc 2 n)) in
-    let same : suc n - 1 ≡ n = omega arith in
-    subst (λ (m : ℕ). 2 * s * 2 ^ m ≤ 64) (sym same) (omega arith)
-  where
-    mul_comm_3 : (s m : ℕ) → 2 * s * m ≡ s * (m * 2)
-    mul_comm_3 s m = ap (λ k. k * m) (mul_comm 2 s) ∙ mul_assoc s 2 m ∙ ap (λ k. s * k) (mul_comm 2 m)
-
 abbrev pub zeros8 : List ℕ
 zeros8 = 0 ∷ 0 ∷ 0 ∷ 0 ∷ 0 ∷ 0 ∷ 0 ∷ 0 ∷ []
 
@@ -104,12 +91,7 @@ module _ {degree : ℕ} {mul : ℕ → ℕ → ℕ} (f : IsField degree mul) whe
 
   -- the last bit of a number that was shifted down
   pub leaf : (table base : ℕ) → bit_and (table / 2 ^ base) 1 ≡ cond (table_bit table base) 1 0
-  leaf table base = shr_and_one table base ∙ zero_or_one (bit_at table base) (bit_at-lt table base)
-    where
-      zero_or_one : (n : ℕ) → n < 2 → n ≡ cond (n == 1) 1 0
-      zero_or_one zero l = refl
-      zero_or_one (suc zero) l = refl
-      zero_or_one (suc (suc n)) l = absurd (omega arith)
+  leaf table base = shr_and_one table base ∙ bit_is_choice (bit_at table base) (bit_at-lt table base)
 
   pub leaf_element : (table base : ℕ) → IsElement degree (bit_and (table / 2 ^ base) 1)
   leaf_element table base =
@@ -119,15 +101,12 @@ module _ {degree : ℕ} {mul : ℕ → ℕ → ℕ} (f : IsField degree mul) whe
   pub index_first : (base step : ℕ) (bit : ℕ → Bool) (r : ℕ) (rs : List ℕ) → base + step * index bit (r ∷ rs) ≡ cond (bit r) (base + step) base + 2 * step * index bit rs
   index_first base step bit r rs =
       elim (bit r) as (λ b. base + step * (cond b 1 0 + 2 * index bit rs) ≡ cond b (base + step) base + 2 * step * index bit rs) [
-        | true ↦ ap (λ n. base + n) (both step (index bit rs)) ∙ omega arith
+        | true ↦ ap (λ n. base + n) (one_more_times step (index bit rs)) ∙ omega arith
         | false ↦ ap (λ n. base + n) (zero_first step (index bit rs))
       ]
     where
       zero_first : (s i : ℕ) → s * (0 + 2 * i) ≡ 2 * s * i
       zero_first s i = ap (λ n. s * n) (omega arith) ∙ sym (mul_assoc s 2 i) ∙ ap (λ n. n * i) (mul_comm s 2)
-
-      both : (s i : ℕ) → s * (1 + 2 * i) ≡ s + 2 * s * i
-      both s i = mul-add s 1 (2 * i) ∙ ap₂ (λ m n. m + n) (mul-one s) (sym (mul_assoc s 2 i) ∙ ap (λ n. n * i) (mul_comm s 2))
 
   -- the product of a bit and a polynomial
   pub bit_product : (rank : ℕ) (bit change product : Terms) → IsPolynomialOf degree mul (λ p. cond (p.is_one rank) 1 0) bit → IsProduct degree mul product bit change → IsBitTimes degree mul rank change product

@@ -6,12 +6,10 @@ use Rattle.std.specs.Ordering.{nat_cmp}
 use Rattle.std.proofs.lemmas.Bool.{lt-ltb, ltb-true, ltb-false, ne_eqb, eq-eqb}
 use Rattle.std.proofs.lemmas.List.Sorted.{searched}
 use Rattle.std.proofs.lemmas.Map.Keys.{below_from_sorted}
+use Rattle.lists.specs.laws.TestLaws.{not_less}
 use Rattle.poly_mixed.specs.Product.{with_rank}
 use Rattle.poly_mixed.specs.private.Listed.{without_slot, IsGap, IsHit, IsFound}
 use Rattle.poly_mixed.proofs.RankLemmas.{Above, from_less}
-
-pub not_lt : (x y : ℕ) → y ≤ x → nat_lt x y ≡ false
-not_lt x y h = elim (nat_lt x y) as (λ b. nat_lt x y ≡ b → b ≡ false) [ true ↦ λ e. absurd (omega (arith, h, ltb-true x y e)) | false ↦ λ e. refl ] refl
 
 rest_gap : (y : ℕ) (ys : List ℕ) (i x : ℕ) → IsGap (y ∷ ys) (suc i) x → IsGap ys i x
 rest_gap y ys i x g = record { within = omega (arith, g.within); below = λ k b. g.below (suc k) (omega (arith, b)); above = λ k b c. g.above (suc k) (omega (arith, b)) (omega (arith, c)) }
@@ -26,7 +24,7 @@ with_rank-insert [] (suc i) x g = absurd (omega (arith, g.within))
 with_rank-insert (y ∷ ys) zero x g = rw (lt-ltb x y (g.above 0 (omega arith) (omega arith))) refl
 with_rank-insert (y ∷ ys) (suc i) x g =
     let l : y < x = g.below 0 (omega arith) in
-    let n : nat_lt x y ≡ false = not_lt x y (omega (arith, l)) in
+    let n : nat_lt x y ≡ false = not_less x y (omega (arith, l)) in
     let e : (x == y) ≡ false = ne_eqb x y (λ e. omega (arith, l, e)) in
     rw n (rw e (ap (λ zs. y ∷ zs) (with_rank-insert ys i x (rest_gap y ys i x g))))
 
@@ -56,14 +54,14 @@ pub with_rank-there : (xs : List ℕ) (i x : ℕ) → IsStrictlySortedBy nat_cmp
 unfolding IsStrictlySortedBy
 with_rank-there [] i x s h = absurd (omega (arith, h.within))
 with_rank-there (y ∷ ys) zero x s h =
-    let n : nat_lt x y ≡ false = not_lt x y (omega (arith, h.same)) in
+    let n : nat_lt x y ≡ false = not_less x y (omega (arith, h.same)) in
     let e : (x == y) ≡ true = eq-eqb x y (sym h.same) in
     rw n (rw e refl)
 with_rank-there (y ∷ ys) (suc i) x s h =
     let w : i < length ys = omega (arith, h.within) in
     let l : y < get_or ys i 0 = all_above ys y s.0 i w in
     let same : get_or ys i 0 ≡ x = h.same in
-    let n : nat_lt x y ≡ false = not_lt x y (omega (arith, l, same)) in
+    let n : nat_lt x y ≡ false = not_less x y (omega (arith, l, same)) in
     let e : (x == y) ≡ false = ne_eqb x y (λ e. omega (arith, l, e, same)) in
     rw n (rw e (ap (λ zs. y ∷ zs) (with_rank-there ys i x s.1 (record { within = w; same = same }))))
 

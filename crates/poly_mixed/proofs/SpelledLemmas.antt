@@ -1,17 +1,17 @@
 -- What a printed variable is read as.
-use Rattle.std.proofs.Common.{◌≡◌, ◌≢◌, ℕ, zero, suc, ◌+◌, ◌-◌, ◌^◌, ◌<◌, true, false, cond, List, [], ◌∷◌, ◌++◌, length, take, map, nat_lt, Some, None, bytes_eq, slice_index, get_or, inl, inr, ◌⊎◌, refl, ◌∙◌, ap, arith, add-one}
+use Rattle.std.proofs.Common.{◌≡◌, ◌≢◌, ℕ, zero, suc, ◌+◌, ◌-◌, ◌^◌, ◌<◌, true, cond, List, [], ◌∷◌, ◌++◌, length, take, map, nat_lt, Some, None, bytes_eq, slice_index, get_or, inl, inr, ◌⊎◌, refl, ◌∙◌, ap, arith, add-one}
 use Rattle.std.proofs.lemmas.Bool.{lt-ltb, le-ltb, cases_lt}
-use Rattle.std.proofs.lemmas.Grind.{common_steps}
 use Rattle.std.proofs.lemmas.List.{take_all}
 use Rattle.std.proofs.lemmas.Slice.Eq.{bytes_eq-Decides}
-use Rattle.std.specs.Char.{IsAsciiAlphabetic}
 use Rattle.std.specs.List.{AllByRecursion}
 use Rattle.std.specs.Option.{option_map}
+use Rattle.lists.specs.laws.TestLaws.{other_bytes}
 use Rattle.text_core.specs.Names.{IsName, IsNameByte}
 use Rattle.poly_mixed.specs.Labels.{Differs, AreDifferent, IsWord, bit_count, rank_text, bit_text, net_text, word_of, bit_of, net_of}
-use Rattle.text_core.specs.Scan.{name_of, is_letter, is_name_byte}
+use Rattle.text_core.specs.Scan.{name_of, is_name_byte}
 use Rattle.text_core.proofs.RunLemmas.{Passes, Stops, run_front}
 use Rattle.poly_mixed.proofs.ScanLemmas.{net_at_place}
+use Rattle.text_core.proofs.ByteLemmas.{is_name as name_byte}
 
 abbrev names : List (List ℕ × ℕ) → List (List ℕ)
 names ws = map (λ w. w.0) ws
@@ -19,16 +19,7 @@ names ws = map (λ w. w.0) ws
 same_bytes : (xs : List ℕ) → bytes_eq xs xs ≡ true
 same_bytes xs = (bytes_eq-Decides xs xs).1 refl
 
-other_bytes : (xs ys : List ℕ) → xs ≢ ys → bytes_eq xs ys ≡ false
-other_bytes xs ys ne = elim (bytes_eq xs ys) as (λ b. bytes_eq xs ys ≡ b → b ≡ false) [ true ↦ λ e. absurd (ne ((bytes_eq-Decides xs ys).0 e)) | false ↦ λ e. refl ] refl
-
 -- ---- names
-
-name_byte : (b : ℕ) → IsNameByte b → is_name_byte b ≡ true
-name_byte b h = grind (arith, common_steps)
-
-pub letter : (b : ℕ) → IsAsciiAlphabetic b → is_letter b ≡ true
-letter b h = grind (arith, common_steps)
 
 name_bytes : (xs : List ℕ) → ((i : ℕ) → i < length xs → IsNameByte (slice_index xs i)) → Passes is_name_byte xs
 name_bytes [] each = tt

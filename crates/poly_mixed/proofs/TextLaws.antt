@@ -1,18 +1,19 @@
 -- The law of texts.
-use Rattle.std.proofs.Common.{◌≡◌, ℕ, zero, suc, ◌+◌, List, [], ◌∷◌, ◌++◌, length, drop, map, codes, true, Ok, Err, Result, refl, sym, ◌∙◌, ap, subst, arith}
+use Rattle.std.proofs.Common.{◌≡◌, ℕ, ◌+◌, List, [], ◌∷◌, ◌++◌, length, drop, map, codes, true, Ok, Err, Result, refl, sym, ◌∙◌, ap, subst, arith}
 use Rattle.std.proofs.lemmas.List.{append_assoc, append-nil}
 use Rattle.std.specs.List.{AllByRecursion}
 use Rattle.poly_mixed.specs.Labels.{Labelling}
 use Rattle.poly_mixed.specs.Monomial.{Monomial}
 use Rattle.poly_mixed.specs.Polynomial.{Terms, IsTerm}
 use Rattle.poly_mixed.specs.Said.{one, added}
-use Rattle.poly_mixed.specs.private.Reading.{done, exponent_in, next_at, step_at, term_at, read_on, reading}
+use Rattle.poly_mixed.specs.private.Reading.{exponent_in, next_at, step_at, term_at, read_on, reading}
 use Rattle.text_core.specs.Scan.{skip}
 use Rattle.poly_mixed.specs.Text.{joined, term_text, text, HasNames}
 use Rattle.poly_mixed.specs.laws.TextLaw.{IsWritten, ReadsBack, OneText}
 use Rattle.poly_mixed.specs.declared.fault.PolyFault.{PolyFault}
 use Rattle.poly_mixed.proofs.ChainLemmas.{Leads, turn, term_lead}
 use Rattle.poly_mixed.proofs.ReadBackLemmas.{factors, factors_chain, term_written, total, total_is}
+use Rattle.poly_mixed.proofs.ReadPartLemmas.{done_stays}
 use Rattle.text_core.proofs.RunLemmas.{skip_none, skip_space}
 use Rattle.poly_mixed.proofs.ScannedLemmas.{IsEnd}
 use Rattle.poly_mixed.proofs.ReadPlaceLemmas.{MayCome}
@@ -34,10 +35,6 @@ rest_end : (l : Labelling) (ts : Terms) → IsEnd (rest_text l ts)
 rest_end l [] = record { name = tt; digit = tt; hex = tt; index = refl; caret = λ k. refl }
 rest_end l (t ∷ ts) = let y = 32 ∷ (term_text l t ++ rest_text l ts) in record { name = refl; digit = refl; hex = refl; index = refl; caret = λ k. ap (exponent_in k (32 ∷ 43 ∷ y)) (plus_front y) }
 
-done_on : (n : ℕ) (l : Labelling) (k : ℕ) (ts : Terms) → read_on n l k (Ok (done ts)) ≡ Ok ts
-done_on zero l k ts = refl
-done_on (suc n) l k ts = done_on n l k ts
-
 module _ (l : Labelling) (k : ℕ) (all : Terms) (is : IsWritten l k all) where
   -- what holds of each term
   abbrev AreWritten : Terms → Type 0
@@ -53,7 +50,7 @@ module _ (l : Labelling) (k : ℕ) (all : Terms) (is : IsWritten l k all) where
       subst P (sym (term_written l t)) (term_lead l k is.labels is.some is.small is.few (factors l t.0) sum t.1 t.0 (rest_text l ts) r chain w.0.0.element (rest_end l ts) h)
 
   later_terms : (ts : Terms) (sum : Terms) (c : ℕ) (m : Monomial) → AreWritten ts → Leads l k (length (rest_text l ts)) (next_at sum c m (skip (rest_text l ts))) (Ok (total (added sum c m) ts))
-  later_terms [] sum c m w n le = done_on n l k (added sum c m)
+  later_terms [] sum c m w n le = done_stays n l k (added sum c m)
   later_terms (t ∷ ts) sum c m w n le =
       let y = term_text l t ++ rest_text l ts in
       let first = first_term t ts (added sum c m) (Ok (total (added (added sum c m) t.1 t.0) ts)) w (later_terms ts (added sum c m) t.1 t.0 (w.0.1, w.1.1, w.2.1)) in

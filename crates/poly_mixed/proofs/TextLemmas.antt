@@ -1,6 +1,7 @@
 -- Parts joined by a separator, and lists that grow by one.
 use Rattle.std.proofs.Common.{◌≡◌, ◌≢◌, ℕ, zero, suc, get_or, drop, ◌+◌, Bool, true, false, cond, ◌&&◌, not, List, [], ◌∷◌, ◌++◌, length, ◌==◌, ◌<◌, ◌≤◌, ◌^◌, ◌*◌, map, refl, subst, arith, length-append, sym, ◌∙◌, ap, codes, append_assoc, append-nil}
 use Rattle.std.specs.List.{AllByRecursion}
+use Rattle.lists.specs.laws.ListLaws.{map_push}
 use Rattle.poly_mixed.specs.Labels.{Labelling, AreLabels, Differs, AreDifferent, IsWord, bit_count}
 use Rattle.poly_mixed.specs.Parts.{parts_after}
 use Rattle.poly_mixed.specs.Text.{joined, is_none, factor_texts, term_text, text}
@@ -43,10 +44,6 @@ pub different_more : {A : Type 0} (xs : List A) (x : A) → AreDifferent xs → 
 different_more [] x all d = (tt, tt)
 different_more (y ∷ ys) x all d = (all_more (λ z. y ≢ z) ys x all.0 (λ e. d.0 (sym e)), different_more ys x all.1 d.1)
 
-pub map_more : {A B : Type 0} (f : A → B) (xs : List A) (x : A) → map f (xs ++ x ∷ []) ≡ map f xs ++ f x ∷ []
-map_more f [] x = refl
-map_more f (y ∷ ys) x = ap (λ zs. f y ∷ zs) (map_more f ys x)
-
 pub labels_with_net : (l : Labelling) (n : ℕ) (nets : List ℕ) → AreLabels l → n < 2 ^ 32 → Differs n l.nets → nets ≡ l.nets ++ n ∷ [] → AreLabels (record { output = l.output; words = l.words; nets = nets })
 labels_with_net l n nets are small d e =
     let P : List ℕ → Type 0 = λ ns. AreLabels (record { output = l.output; words = l.words; nets = ns }) in
@@ -67,7 +64,7 @@ labels_with_word l w ws are is d few e =
       output = are.output;
       words = all_more IsWord l.words w are.words is;
       few = omega (arith, length-append l.words (w ∷ []));
-      names = subst N (sym (map_more (λ (w : List ℕ × ℕ). w.0) l.words w)) (different_more (map (λ w. w.0) l.words) w.0 are.names d);
+      names = subst N (sym (map_push (λ (w : List ℕ × ℕ). w.0) l.words w)) (different_more (map (λ w. w.0) l.words) w.0 are.names d);
       numbers = are.numbers;
       nets = are.nets;
     })

@@ -5,7 +5,9 @@ use Rattle.std.specs.Option.{option_map, option_and_then}
 use Rattle.std.proofs.lemmas.Bool.{ne_eqb, eq-eqb, lt-ltb, eqb-true, ltb-true}
 use Rattle.std.proofs.lemmas.List.{get_or-set_same, get_or-set_other}
 use Rattle.std.proofs.lemmas.Slice.Eq.{bytes_eq-Decides}
-use Rattle.lists.specs.laws.OptionLaws.{same_some as some_is}
+use Rattle.std.proofs.Math.Bool.{or-false, or-true}
+use Rattle.lists.specs.laws.ListLaws.{length-slice_set}
+use Rattle.lists.specs.laws.OptionLaws.{same_some as some_is, none_is_some}
 use Rattle.poly_mixed.specs.Labels.{Labelling, bit_count, word_of, bit_of, net_of}
 use Rattle.poly_mixed.specs.Monomial.{Monomial, has_bit}
 use Rattle.poly_mixed.specs.Product.{with_rank}
@@ -17,9 +19,6 @@ use Rattle.poly_mixed.proofs.MachineLemmas.{same_name, has, same_itself, is_same
 has_more : (x : Named) (vs : List Named) (v : Named) → has x (vs ++ v ∷ []) ≡ (has x vs || same_name x v)
 has_more x [] v = elim (same_name x v) as (λ b. (b || false) ≡ b) [ true ↦ refl | false ↦ refl ]
 has_more x (w ∷ ws) v = elim (same_name x w) as (λ b. (b || has x (ws ++ v ∷ [])) ≡ ((b || has x ws) || same_name x v)) [ true ↦ refl | false ↦ has_more x ws v ]
-
-none_is_some : {A P : Type 0} (x : A) → None ≡ Some x → P
-none_is_some x e = absurd (cc)
 
 -- ---- different names have different numbers and ranks
 
@@ -64,7 +63,7 @@ placed i n r f = (elim (nat_lt i n) as (λ b. nat_lt i n ≡ b → cond b (Some 
 ]) refl f
 
 -- the bits of words are below those that come after them
-bit_small : (ws : List (List ℕ × ℕ)) (a : List ℕ) (i r : ℕ) → bit_of ws a i ≡ Some r → r < bit_count ws
+pub bit_small : (ws : List (List ℕ × ℕ)) (a : List ℕ) (i r : ℕ) → bit_of ws a i ≡ Some r → r < bit_count ws
 bit_small [] a i r e = none_is_some r e
 bit_small (x ∷ xs) a i r e =
     (elim (bytes_eq x.0 a) as (λ b. cond b (cond (nat_lt i x.1) (Some i) None) (option_map (λ q. x.1 + q) (bit_of xs a i)) ≡ Some r → r < x.1 + bit_count xs) [
@@ -178,14 +177,6 @@ tracks_nothing l few = record {
 other_word : (l : Labelling) (a b : List ℕ) → same_name (word a) (word b) ≡ false → a ≢ b
 other_word l a b e same = let P : List ℕ → Type 0 = λ x. same_name (word a) (word x) ≡ true in let bad : true ≡ false = sym (subst P same (same_itself (word a))) ∙ e in absurd (cc)
 
-or_none : (b : Bool) → (b || false) ≡ b
-or_none true = refl
-or_none false = refl
-
-or_some : (b : Bool) → (b || true) ≡ true
-or_some true = refl
-or_some false = refl
-
 pub tracks_word : (l : Labelling) (vs : List Named) (m : Monomial) (n : List ℕ) (w e : ℕ) → length l.words ≤ 8 → Tracks l vs m → word_of l.words n ≡ Some w → 0 < e
     → Tracks l (vs ++ word n ∷ []) (record { exponents = slice_set m.exponents w e; bits = m.bits })
 tracks_word l vs m n w e few t is pos =
@@ -200,12 +191,12 @@ tracks_word l vs m n w e few t is pos =
                 let P : List ℕ → Type 0 = λ y. word_of l.words y ≡ Some w in
                 let name : n ≡ x = sym ((bytes_eq-Decides x n).0 same) in
                 let found : word_of l.words x ≡ Some w = subst P name is in
-                or_some (has (word x) vs)
+                or-true (has (word x) vs)
                 ∙ sym (ap (holds_word (record { exponents = set; bits = m.bits })) found
                 ∙ (λ i. not (lt-ltb w 8 small i && (get_or-set_same m.exponents w e 0 (omega (arith, small, t.long)) i == 0)))
                 ∙ ap not (ne_eqb e 0 (λ z. omega (arith, z, pos))))
             | false ↦ λ same.
-                or_none (has (word x) vs) ∙ t.words x
+                or-false (has (word x) vs) ∙ t.words x
                 ∙ (elim (word_of l.words x) as (λ (o : Option ℕ). word_of l.words x ≡ o → holds_word m o ≡ holds_word (record { exponents = set; bits = m.bits }) o) [
                   | None ↦ λ f. refl
                   | Some u ↦ λ f.
@@ -213,14 +204,9 @@ tracks_word l vs m n w e few t is pos =
                       sym (λ i. not (nat_lt u 8 && (get_or-set_other m.exponents w u e 0 apart i == 0)))
                 ]) refl
           ]) refl;
-      ranks = λ v r f. has_more v vs (word n) ∙ ap (λ b. has v vs || b) (other_name v (word n) (λ z. (let P : Named → Type 0 = λ y. rank_of l y ≡ Some r in none_is_some r (subst P z f)))) ∙ or_none (has v vs) ∙ t.ranks v r f;
-      unknown = λ v f ne. has_more v vs (word n) ∙ ap (λ b. has v vs || b) (other_name v (word n) (ne n)) ∙ or_none (has v vs) ∙ t.unknown v f ne;
+      ranks = λ v r f. has_more v vs (word n) ∙ ap (λ b. has v vs || b) (other_name v (word n) (λ z. (let P : Named → Type 0 = λ y. rank_of l y ≡ Some r in none_is_some r (subst P z f)))) ∙ or-false (has v vs) ∙ t.ranks v r f;
+      unknown = λ v f ne. has_more v vs (word n) ∙ ap (λ b. has v vs || b) (other_name v (word n) (ne n)) ∙ or-false (has v vs) ∙ t.unknown v f ne;
     }
-  where
-    length-slice_set : (xs : List ℕ) (i x : ℕ) → length (slice_set xs i x) ≡ length xs
-    length-slice_set [] i x = refl
-    length-slice_set (y ∷ ys) zero x = refl
-    length-slice_set (y ∷ ys) (suc i) x = ap suc (length-slice_set ys i x)
 
 pub tracks_rank : (l : Labelling) (vs : List Named) (m : Monomial) (v : Named) (r : ℕ) → Tracks l vs m → rank_of l v ≡ Some r
     → Tracks l (vs ++ v ∷ []) (record { exponents = m.exponents; bits = with_rank m.bits r })
@@ -228,19 +214,19 @@ tracks_rank l vs m v r t is =
     let new : Monomial = record { exponents = m.exponents; bits = with_rank m.bits r } in
     record {
       long = t.long;
-      words = λ x. has_more (word x) vs v ∙ ap (λ b. has (word x) vs || b) (other_name (word x) v (λ z. (let P : Named → Type 0 = λ y. rank_of l y ≡ Some r in none_is_some r (subst P (sym z) is)))) ∙ or_none (has (word x) vs) ∙ t.words x ∙ same_words (word_of l.words x);
+      words = λ x. has_more (word x) vs v ∙ ap (λ b. has (word x) vs || b) (other_name (word x) v (λ z. (let P : Named → Type 0 = λ y. rank_of l y ≡ Some r in none_is_some r (subst P (sym z) is)))) ∙ or-false (has (word x) vs) ∙ t.words x ∙ same_words (word_of l.words x);
       ranks = λ x q f.
           has_more x vs v
           ∙ (elim (same_name x v) as (λ b. same_name x v ≡ b → (has x vs || b) ≡ has_bit q new) [
             | true ↦ λ same.
                 let P : Named → Type 0 = λ y. rank_of l y ≡ Some q in
                 let rank : r ≡ q = some_is r q (sym is ∙ subst P (is_same x v same) f) in
-                or_some (has x vs) ∙ sym (is_in-with_rank m.bits r q ∙ ap (λ b. b || has_bit q m) (eq-eqb r q rank))
+                or-true (has x vs) ∙ sym (is_in-with_rank m.bits r q ∙ ap (λ b. b || has_bit q m) (eq-eqb r q rank))
             | false ↦ λ same.
                 let apart : r ≢ q = (λ z. (let Q : Named → Type 0 = λ y. same_name x y ≡ false in let bad : true ≡ false = sym (same_itself x) ∙ subst Q (sym (rank_once l x v r (f ∙ ap Some (sym z)) is)) same in absurd (cc))) in
-                or_none (has x vs) ∙ t.ranks x q f ∙ sym (is_in-with_rank m.bits r q ∙ ap (λ b. b || has_bit q m) (ne_eqb r q apart))
+                or-false (has x vs) ∙ t.ranks x q f ∙ sym (is_in-with_rank m.bits r q ∙ ap (λ b. b || has_bit q m) (ne_eqb r q apart))
           ]) refl;
-      unknown = λ x f ne. has_more x vs v ∙ ap (λ b. has x vs || b) (other_name x v (λ z. (let P : Named → Type 0 = λ y. rank_of l y ≡ None in none_is_some r (sym (subst P z f) ∙ is)))) ∙ or_none (has x vs) ∙ t.unknown x f ne;
+      unknown = λ x f ne. has_more x vs v ∙ ap (λ b. has x vs || b) (other_name x v (λ z. (let P : Named → Type 0 = λ y. rank_of l y ≡ None in none_is_some r (sym (subst P z f) ∙ is)))) ∙ or-false (has x vs) ∙ t.unknown x f ne;
     }
   where
     same_words : (o : Option ℕ) → holds_word m o ≡ holds_word (record { exponents = m.exponents; bits = with_rank m.bits r }) o

@@ -8,6 +8,7 @@ use Rattle.std.specs.List.{AllByRecursion}
 use Rattle.std.specs.List.Sorted.{IsStrictlySortedBy}
 use Rattle.std.specs.Map.{keys_of}
 use Rattle.std.proofs.lemmas.Bool.{eqb-true, eq-eqb}
+use Rattle.std.proofs.lemmas.List.{nil_from_length}
 use Rattle.poly_mixed.specs.Polynomial.{IsElement}
 use Rattle.poly_mixed.proofs.FieldLaws.{IsField}
 use Rattle.poly_mixed.proofs.Independent.{IsPower, power_value, IsIndependent}
@@ -107,15 +108,11 @@ module _ {degree : ℕ} {mul : ℕ → ℕ → ℕ} (f : IsField degree mul) whe
   in_first-value n w ws [] hw up all = refl
   in_first-value n w ws (t ∷ ts) hw up all = λ i. bit_xor (one_value n w ws t.0 t.1 hw up all.0.element all.0.words i) (in_first-value n w ws ts hw up all.1 i)
 
-  empty_key : (x : List ℕ) → length x ≡ 0 → x ≡ []
-  empty_key [] h = refl
-  empty_key (i ∷ xs) h = absurd (omega arith)
-
   alone : (t : List ℕ × ℕ) (ts : List (List ℕ × ℕ)) → AllByRecursion (IsWordTerm degree 0) (t ∷ ts) → AllByRecursion (λ y. exponents_cmp t.0 y ≡ Less) (keys_of ts) → ts ≡ []
   alone t [] all up = refl
   alone t (u ∷ ts) all up =
-      let x = empty_key t.0 all.0.words in
-      let y = empty_key u.0 all.1.0.words in
+      let x = nil_from_length t.0 all.0.words in
+      let y = nil_from_length u.0 all.1.0.words in
       let bad : exponents_cmp [] [] ≡ Less = (λ i. exponents_cmp (sym x i) (sym y i)) ∙ up.0 in cc
 
   module _ (ind : IsIndependent degree mul) where
@@ -124,7 +121,7 @@ module _ {degree : ℕ} {mul : ℕ → ℕ → ℕ} (f : IsField degree mul) whe
     no_word_terms n [] all s zeros = refl
     no_word_terms zero (t ∷ ts) all s zeros =
         let none : ts ≡ [] = alone t ts all s.0 in
-        let x : t.0 ≡ [] = empty_key t.0 all.0.words in
+        let x : t.0 ≡ [] = nil_from_length t.0 all.0.words in
         let sum : bit_xor (mul t.1 (powers mul t.0 [])) (xor_sum (word_value mul []) ts) ≡ 0 = zeros [] refl tt in
         let one : t.1 ≡ 0 =
         sym ((λ i. bit_xor (mul t.1 (powers mul (x i) [])) (xor_sum (word_value mul []) (none i)))

@@ -9,6 +9,7 @@ use Rattle.std.proofs.Math.Nat.{mul-suc, mul-le-mul_left}
 use Rattle.std.proofs.lemmas.Bool.{cases_lt}
 use Rattle.std.proofs.lemmas.List.{length-append}
 use Rattle.lists.specs.Lists.{Has}
+use Rattle.lists.specs.laws.HasLaws.{all_low}
 use Rattle.lists.specs.laws.XorLaws.{xor_same}
 use Rattle.poly_mixed.specs.Monomial.{Monomial, has_bit, text_cmp}
 use Rattle.poly_mixed.specs.Polynomial.{Terms, Point, IsPoint, IsReduced, IsTerm, coefficient, value}
@@ -129,12 +130,8 @@ module _ (c : Circuit) (well : IsWellFormed c) (ls rs sum : Terms) (left : IsInI
     pub differing : IsDifferingInput c (IsValueAt c ls) (IsValueAt c rs) (inputs_from c.k t.0.bits 0 c.words) (value c.product (at_ones t.0.bits) ls) (value c.product (at_ones t.0.bits) rs)
     differing = record { differ = differ; ones = t.0.bits; are = ones; least = least }
 
-    high : (n : ℕ) (rs : List ℕ) → ((r : ℕ) → Has rs r → r < n) → AllByRecursion (λ r. r < n) rs
-    high n [] all = tt
-    high n (r ∷ rs) all = (all r (0, refl), high n rs (λ x has. all x (suc has.0, has.1)))
-
     pub below_512 : AllByRecursion (λ r. r < 512) t.0.bits
-    below_512 = high 512 t.0.bits (λ r has. omega (arith, low r has, most c.k (length c.words) well.ring.small well.few))
+    below_512 = all_low 512 t.0.bits (λ r has. omega (arith, low r has, most c.k (length c.words) well.ring.small well.few))
 
     pub list_few : length (inputs_from c.k t.0.bits 0 c.words) ≤ 8
     list_few = omega (arith, inputs_long c.k t.0.bits 0 c.words, well.few)

@@ -1,5 +1,5 @@
 -- The input whose bits that are 1 have given ranks, and the one list of ranks of an input.
-use Rattle.std.proofs.Common.{◌≡◌, ◌∙◌, ap, sym, refl, subst, inl, inr, ℕ, zero, suc, ◌<◌, ◌+◌, ◌*◌, ◌/◌, ◌%◌, ◌^◌, Bool, true, false, cond, List, [], ◌∷◌, length, Some, arith}
+use Rattle.std.proofs.Common.{◌≡◌, ◌∙◌, ap, sym, refl, subst, inl, inr, ℕ, zero, suc, ◌<◌, ◌+◌, ◌*◌, ◌^◌, Bool, true, false, cond, List, [], ◌∷◌, length, Some, arith}
 use Rattle.std.specs.Prelude.{slice_get, nat_eq}
 use Rattle.std.specs.Int.{bit_at}
 use Rattle.std.specs.Ordering.{nat_cmp}
@@ -10,6 +10,7 @@ use Rattle.std.proofs.lemmas.Bool.{and_from, eq-eqb, or_left, or_right}
 use Rattle.std.proofs.lemmas.Nat.Bits.{bit_at_lowest, bit_at-suc}
 use Rattle.std.proofs.lemmas.Option.{slice_get_within}
 use Rattle.lists.specs.Lists.{Has}
+use Rattle.lists.specs.laws.NumberLaws.{lowest_of_choice, rest_of_choice}
 use Rattle.lists.specs.laws.ReadLaws.{get_below}
 use Rattle.irreducible.specs.Span.{combination}
 use Rattle.irreducible.specs.laws.SpanLaws.{combination_below}
@@ -21,6 +22,7 @@ use Rattle.circuit_model.specs.WellFormed.{IsWellFormed}
 use Rattle.circuit_model.proofs.OnesLemmas.{split, one_number}
 use Rattle.poly_mixed.proofs.SubsetLemmas.{is_in, subset}
 use Rattle.circuit_model.specs.Ones.{IsOne, AreOnes}
+use Rattle.spec_compare.proofs.StepLemmas.{inputs_long}
 use Rattle.spec_compare.specs.private.First.{number_at}
 use Rattle.spec_compare.specs.private.InputOf.{inputs_from}
 
@@ -60,19 +62,11 @@ number_bit : (ones : List ℕ) (first count j : ℕ) → j < count → bit_at (n
 number_bit ones first zero j less = absurd (omega arith)
 number_bit ones first (suc count) zero less =
     let e : first + 0 ≡ first = omega arith in
-    bit_at_lowest (number_at ones first (suc count)) ∙ low (is_in ones first) (number_at ones (first + 1) count) ∙ ap (λ n. cond (is_in ones n) 1 0) (sym e)
-  where
-    low : (b : Bool) (m : ℕ) → ◌≡◌ {A = ℕ} ((cond b 1 0 + 2 * m) % 2) (cond b 1 0)
-    low true m = omega arith
-    low false m = omega arith
+    bit_at_lowest (number_at ones first (suc count)) ∙ lowest_of_choice (is_in ones first) (number_at ones (first + 1) count) ∙ ap (λ n. cond (is_in ones n) 1 0) (sym e)
 number_bit ones first (suc count) (suc j) less =
     let e : first + 1 + j ≡ first + suc j = omega arith in
-    bit_at-suc (number_at ones first (suc count)) j ∙ ap (λ n. bit_at n j) (high (is_in ones first) (number_at ones (first + 1) count))
+    bit_at-suc (number_at ones first (suc count)) j ∙ ap (λ n. bit_at n j) (rest_of_choice (is_in ones first) (number_at ones (first + 1) count))
     ∙ number_bit ones (first + 1) count j (omega arith) ∙ ap (λ n. cond (is_in ones n) 1 0) e
-  where
-    high : (b : Bool) (m : ℕ) → ◌≡◌ {A = ℕ} ((cond b 1 0 + 2 * m) / 2) m
-    high true m = omega arith
-    high false m = omega arith
 
 -- ---- the input of given ranks
 
@@ -85,10 +79,6 @@ at_input k ones w (u ∷ us) zero word got =
 at_input k ones w (u ∷ us) (suc i) word got =
     let e : w + 1 + i ≡ w + suc i = omega arith in
     at_input k ones (w + 1) us i word got ∙ ap (λ n. Some (combination word.basis (number_at ones (k * n) k))) e
-
-inputs_long : (k : ℕ) (ones : List ℕ) (w : ℕ) (ws : List Word) → length (inputs_from k ones w ws) ≡ length ws
-inputs_long k ones w [] = refl
-inputs_long k ones w (u ∷ us) = ap suc (inputs_long k ones (w + 1) us)
 
 module _ (c : Circuit) (well : IsWellFormed c) where
   module _ (ones : List ℕ) where

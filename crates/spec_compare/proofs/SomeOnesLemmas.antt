@@ -12,6 +12,7 @@ use Rattle.std.proofs.lemmas.Bool.{cases_lt, eq-eqb, eqb-true}
 use Rattle.std.proofs.lemmas.Option.{slice_get_within}
 use Rattle.lists.specs.Lists.{Has}
 use Rattle.lists.specs.laws.HasLaws.{all_in as all_has}
+use Rattle.lists.specs.laws.OrderingLaws.{cmp_less}
 use Rattle.lists.specs.laws.ReadLaws.{get_below}
 use Rattle.net_core.specs.NetList.{nets}
 use Rattle.net_core.specs.Value.{bit_of}
@@ -26,7 +27,6 @@ use Rattle.circuit_model.proofs.OutLemmas.{one_out}
 use Rattle.circuit_model.proofs.SourceLemmas.{source_inside, stands_source}
 use Rattle.poly_mixed.specs.Polynomial.{Terms, IsPoint, value}
 use Rattle.poly_mixed.proofs.FieldLaws.{field_of}
-use Rattle.poly_mixed.proofs.RankLemmas.{is_less}
 use Rattle.poly_mixed.proofs.SubsetLemmas.{is_in}
 use Rattle.poly_mixed.proofs.ValueLemmas.{zero_element}
 use Rattle.stage_model.specs.OutputInBits.{IsOutputInBits}
@@ -74,7 +74,7 @@ unfolding collect IsStrictlySortedBy
 collect_rises b first zero = tt
 collect_rises b first (suc n) =
     elim (b first) as (λ t. IsStrictlySortedBy nat_cmp (cond t (first ∷ collect b (first + 1) n) (collect b (first + 1) n))) [
-      | true ↦ (collect_all (λ y. nat_cmp first y ≡ Less) b (first + 1) n (λ r low is. is_less first r (omega arith)), collect_rises b (first + 1) n)
+      | true ↦ (collect_all (λ y. nat_cmp first y ≡ Less) b (first + 1) n (λ r low is. cmp_less first r (omega arith)), collect_rises b (first + 1) n)
       | false ↦ collect_rises b (first + 1) n
     ]
 

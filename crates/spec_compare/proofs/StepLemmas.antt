@@ -8,6 +8,7 @@ use Rattle.std.proofs.Math.Nat.{pow-succ', mul-le-mul_left}
 use Rattle.std.proofs.lemmas.Bool.{cases_lt, cases_eq, ne_eqb}
 use Rattle.std.proofs.lemmas.List.{append_assoc, length-append}
 use Rattle.std.proofs.lemmas.Option.{slice_get_within}
+use Rattle.circuit_model.proofs.SharedLemmas.{from_word}
 use Rattle.net_words.specs.declared.bound.BoundWord.{BoundWord}
 use Rattle.net_words.specs.declared.word.Role.{Role}
 use Rattle.net_words.specs.declared.word.Role.TheVariants.{Input, State, Fed, Output}
@@ -115,16 +116,6 @@ first_of_all ts i best t whole at first = record { has = (best, at); first = λ 
 
 -- ---- the words of a circuit, one after another
 
-next_words : (words : List BoundWord) (bases : List (List ℕ)) (v : ℕ) (word : BoundWord) (basis : List ℕ) → slice_get words v ≡ Some word → slice_get bases v ≡ Some basis
-    → words_of (drop v words) (drop v bases) ≡ word_with word.role word.nets basis ++ words_of (drop (suc v) words) (drop (suc v) bases)
-next_words [] bases v word basis got at = absurd (cc)
-next_words (u ∷ us) [] v word basis got at = absurd (cc)
-next_words (u ∷ us) (b ∷ bs) zero word basis got at =
-    let p : u ≡ word = cc in
-    let q : b ≡ basis = cc in
-    λ i. word_with (p i).role (p i).nets (q i) ++ words_of us bs
-next_words (u ∷ us) (b ∷ bs) (suc v) word basis got at = next_words us bs v word basis got at
-
 inputs_after : (k : ℕ) (ones : List ℕ) (w : ℕ) (us vs : List Word) → inputs_from k ones w (us ++ vs) ≡ inputs_from k ones w us ++ inputs_from k ones (w + length us) vs
 inputs_after k ones w [] vs = let e : w ≡ w + 0 = omega arith in ap (λ n. inputs_from k ones n vs) e
 inputs_after k ones w (u ∷ us) vs =
@@ -146,7 +137,7 @@ module _ (k : ℕ) (ones : List ℕ) (words : List BoundWord) (bases : List (Lis
       ap (λ n. new ++ inputs_from k ones (length new) (words_of (drop n words) (drop n bases))) e
       ∙ (λ i. is i ++ inputs_from k ones (long i) rest)
       ∙ append_assoc list (inputs_from k ones (length list) here) (inputs_from k ones (length list + length here) rest)
-      ∙ ap (λ xs. list ++ xs) (sym (inputs_after k ones (length list) here rest) ∙ ap (inputs_from k ones (length list)) (sym (next_words words bases v word basis got at)))
+      ∙ ap (λ xs. list ++ xs) (sym (inputs_after k ones (length list) here rest) ∙ ap (inputs_from k ones (length list)) (sym (from_word words bases v word basis got at)))
       ∙ so_far
 
   role_long : (role : Role) (ms ns : List ℕ) → length (word_with role ms basis) ≡ length (word_with role ns basis)
@@ -162,5 +153,5 @@ module _ (k : ℕ) (ones : List ℕ) (words : List BoundWord) (bases : List (Lis
       let whole : length list + length (words_of (drop v words) (drop v bases)) ≡ length (words_of words bases) =
       ap (λ n. length list + n) (sym (inputs_long k ones (length list) (words_of (drop v words) (drop v bases))))
       ∙ sym (length-append list (inputs_from k ones (length list) (words_of (drop v words) (drop v bases)))) ∙ ap length so_far ∙ inputs_long k ones 0 (words_of words bases) in
-      let parts : length (words_of (drop v words) (drop v bases)) ≡ length here + length rest = ap length (next_words words bases v word basis got at) ∙ length-append here rest in
+      let parts : length (words_of (drop v words) (drop v bases)) ≡ length here + length rest = ap length (from_word words bases v word basis got at) ∙ length-append here rest in
       omega (arith, whole, parts, few, role_long word.role nets word.nets)

@@ -1,17 +1,4 @@
-pub mod ReadTokens
 pub mod Summed
-pub mod TokenLemmas
-pub mod TextTokenLemmas
-pub mod GrammarLemmas
-pub mod OneOutcomeLemmas
-pub mod FrontLemmas
-pub mod SomeTokenLemmas
-pub mod MoveLemmas
-pub mod WalkLemmas
-pub mod PrefixLemmas
-pub mod SaidLemmas
-pub mod GoodLemmas
-pub mod ReadLemmas
 pub mod BasisLemmas
 pub mod PowerLemmas
 pub mod SpecValueLemmas

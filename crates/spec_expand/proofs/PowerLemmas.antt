@@ -1,9 +1,9 @@
 -- A power of a word in its bits.
-use Rattle.std.proofs.Common.{◌≡◌, ◌∙◌, ap, sym, refl, subst, ℕ, zero, suc, ◌<◌, ◌+◌, ◌-◌, ◌*◌, ◌/◌, ◌%◌, ◌^◌, Bool, true, false, cond, List, [], ◌∷◌, length, take, get_or, bit_xor, Some, arith}
+use Rattle.std.proofs.Common.{◌≡◌, ◌∙◌, ap, sym, refl, subst, ℕ, zero, suc, ◌<◌, ◌+◌, ◌-◌, ◌*◌, ◌^◌, Bool, true, false, cond, List, [], ◌∷◌, length, take, get_or, bit_xor, Some, arith}
 use Rattle.std.specs.Prelude.{slice_get, slice_index}
 use lib.Bits.{xor_zero_l, xor_zero_r, xor_assoc}
-use Rattle.std.specs.List.Sorted.{IsStrictlySortedBy}
 use Rattle.std.proofs.lemmas.Option.{get_or_from_slice_get, slice_get_within}
+use Rattle.lists.specs.laws.NumberLaws.{lowest_times, rest_of_choice}
 use Rattle.lists.specs.laws.ReadLaws.{get_below}
 use Rattle.gf_field.specs.Ring.{IsRing}
 use Rattle.gf_field.specs.laws.RingLaws.{mul_zero}
@@ -20,48 +20,29 @@ use Rattle.circuit_model.specs.Word.{Word, HasElement}
 use Rattle.circuit_model.specs.Circuit.{Circuit, IsInput}
 use Rattle.circuit_model.specs.WellFormed.{IsWellFormed}
 use Rattle.circuit_model.proofs.SourceLemmas.{source_inside, stands_source}
+use Rattle.gf_basis.proofs.CodeLaws.{length-first_values, get_or-first_values}
+use Rattle.poly_mixed.proofs.ReadReducedLemmas.{nothing_reduced}
 use Rattle.stage_model.specs.Variables.{point_bits, variables_of}
 use Rattle.stage_model.specs.InputPoint.{IsAtInput}
 use Rattle.stage_model.proofs.PointLemmas.{point_bits_at}
 use Rattle.stage_model.proofs.PlaceLemmas.{place_rank}
 use Rattle.spec_expand.specs.private.Expanding.{IsOfInput}
 
-low : (b : Bool) (m r : ℕ) → (cond b 1 0 + 2 * m) % 2 * r ≡ cond b r 0
-low true m r = let one : (1 + 2 * m) % 2 ≡ 1 = omega arith in ap (λ c. c * r) one ∙ (let e : 1 * r ≡ r = omega arith in e)
-low false m r = let none : (0 + 2 * m) % 2 ≡ 0 = omega arith in ap (λ c. c * r) none ∙ (let e : 0 * r ≡ 0 = omega arith in e)
-
-half : (b : Bool) (m : ℕ) → (cond b 1 0 + 2 * m) / 2 ≡ m
-half true m = omega arith
-half false m = omega arith
-
 -- the sum of chosen elements, place by place
 sum_more : (f : ℕ → Bool) (basis ns : List ℕ) (i : ℕ) → i < length basis → i < length ns
     → combination (take (suc i) basis) (index f (take (suc i) ns)) ≡ bit_xor (combination (take i basis) (index f (take i ns))) (cond (f (get_or ns i 0)) (get_or basis i 0) 0)
 sum_more f [] ns i l m = absurd (omega arith)
 sum_more f (b ∷ bs) [] i l m = absurd (omega arith)
-sum_more f (b ∷ bs) (n ∷ ns) zero l m = ap (λ x. bit_xor x 0) (low (f n) 0 b) ∙ (xor_zero_r (cond (f n) b 0) ∙ sym (xor_zero_l (cond (f n) b 0)))
+sum_more f (b ∷ bs) (n ∷ ns) zero l m = ap (λ x. bit_xor x 0) (lowest_times (f n) 0 b) ∙ (xor_zero_r (cond (f n) b 0) ∙ sym (xor_zero_l (cond (f n) b 0)))
 sum_more f (b ∷ bs) (n ∷ ns) (suc i) l m =
     let more = index f (take (suc i) ns) in
     let less = index f (take i ns) in
-    (λ j. bit_xor (low (f n) more b j) (combination (take (suc i) bs) (half (f n) more j)))
+    (λ j. bit_xor (lowest_times (f n) more b j) (combination (take (suc i) bs) (rest_of_choice (f n) more j)))
     ∙ (ap (bit_xor (cond (f n) b 0)) (sum_more f bs ns i (omega arith) (omega arith))
     ∙ (sym (xor_assoc (cond (f n) b 0) (combination (take i bs) less) (cond (f (get_or ns i 0)) (get_or bs i 0) 0))
-    ∙ sym (λ j. bit_xor (bit_xor (low (f n) less b j) (combination (take i bs) (half (f n) less j))) (cond (f (get_or ns i 0)) (get_or bs i 0) 0))))
+    ∙ sym (λ j. bit_xor (bit_xor (lowest_times (f n) less b j) (combination (take i bs) (rest_of_choice (f n) less j))) (cond (f (get_or ns i 0)) (get_or bs i 0) 0))))
 
 -- ---- the ranks of a word
-
-pub word_ranks_long : (k : ℕ) (f : ℕ → ℕ) → length (first_values k f) ≡ k
-word_ranks_long zero f = refl
-word_ranks_long (suc k) f = ap suc (word_ranks_long k (λ i. f (suc i)))
-
-rank_at : (k : ℕ) (f : ℕ → ℕ) (i : ℕ) → i < k → get_or (first_values k f) i 0 ≡ f i
-rank_at zero f i less = absurd (omega (arith, less))
-rank_at (suc k) f zero less = refl
-rank_at (suc k) f (suc i) less = rank_at k (λ j. f (suc j)) i (omega (arith, less))
-
-reduced_none : (k : ℕ) → IsReduced k []
-unfolding IsStrictlySortedBy
-reduced_none k = record { is_map = record { sorted = tt; rising = tt; nonzero = tt }; terms = tt }
 
 abbrev pub ranks : ℕ → ℕ → List ℕ
 ranks k w = first_values k (λ i. k * w + i)
@@ -85,9 +66,9 @@ module _ (k : ℕ) (mul : ℕ → ℕ → ℕ) (ring : IsRing k mul) (elements :
   next_power m p less =
       let up : m + 1 ≡ suc m = omega arith in
       ap (λ n. first_power k mul elements j w n p) up
-      ∙ ap (frobenius mul j) (sum_more p.is_one elements (ranks k w) m (omega (arith, less, long)) (omega (arith, less, word_ranks_long k (λ i. k * w + i))))
+      ∙ ap (frobenius mul j) (sum_more p.is_one elements (ranks k w) m (omega (arith, less, long)) (omega (arith, less, length-first_values k (λ i. k * w + i))))
       ∙ frobenius-xor k mul ring j (combination (take m elements) (index p.is_one (take m (ranks k w)))) (cond (p.is_one (get_or (ranks k w) m 0)) (get_or elements m 0) 0)
-      ∙ ap (bit_xor (first_power k mul elements j w m p)) (chosen (p.is_one (get_or (ranks k w) m 0)) (get_or elements m 0) ∙ ap (λ r. cond (p.is_one r) (frobenius mul j (get_or elements m 0)) 0) (rank_at k (λ i. k * w + i) m less))
+      ∙ ap (bit_xor (first_power k mul elements j w m p)) (chosen (p.is_one (get_or (ranks k w) m 0)) (get_or elements m 0) ∙ ap (λ r. cond (p.is_one r) (frobenius mul j (get_or elements m 0)) 0) (get_or-first_values k (λ i. k * w + i) m less))
 
   pub no_power : (p : Point) → 0 ≡ first_power k mul elements j w 0 p
   no_power p = sym (frobenius_zero j)
@@ -99,13 +80,13 @@ module _ (k : ℕ) (mul : ℕ → ℕ → ℕ) (ring : IsRing k mul) (elements :
   whole (suc m) (x ∷ xs) e = ap (λ (ys : List ℕ). x ∷ ys) (whole m xs (omega (arith, e)))
 
   pub all_power : (p : Point) → first_power k mul elements j w k p ≡ frobenius mul j (combination elements (index p.is_one (ranks k w)))
-  all_power p = λ i. frobenius mul j (combination (whole k elements long i) (index p.is_one (whole k (ranks k w) (word_ranks_long k (λ i. k * w + i)) i)))
+  all_power p = λ i. frobenius mul j (combination (whole k elements long i) (index p.is_one (whole k (ranks k w) (length-first_values k (λ i. k * w + i)) i)))
 
   -- nothing is the power with no place
   pub first_sum : (ts : Terms) → ts ≡ [] → IsPolynomialOf k mul (first_power k mul elements j w 0) ts
   first_sum ts e =
       let P : Terms → Type 0 = λ us. IsPolynomialOf k mul (first_power k mul elements j w 0) us in
-      subst P (sym e) (record { reduced = reduced_none k; values = λ p at. no_power p })
+      subst P (sym e) (record { reduced = nothing_reduced k; values = λ p at. no_power p })
 
   -- the sum with one place more
   pub next_sum : (m : ℕ) (old part new : Terms) (scale rank : ℕ) → m < k → scale ≡ frobenius mul j (slice_index elements m) → rank ≡ k * w + m

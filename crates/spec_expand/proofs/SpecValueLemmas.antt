@@ -5,6 +5,7 @@ use Rattle.std.specs.List.{AllByRecursion}
 use Rattle.std.proofs.Math.Nat.{pow-succ', add-mul}
 use Rattle.std.proofs.lemmas.Bool.{eq-eqb}
 use Rattle.std.proofs.lemmas.Bool.Decides.{nat_tests}
+use Rattle.lists.specs.laws.TakeLaws.{taken_next}
 use Rattle.gf_field.specs.Ring.{IsRing}
 use Rattle.gf_field.specs.Power.{power}
 use Rattle.gf_field.specs.laws.PowerLaws.{power-add, one_below}
@@ -88,16 +89,11 @@ factor_at ps i w e m j got one =
     let first : slice_get (factors_of (take (i + 1) ps)) (length (factors_of (take i ps)) + m) ≡ Some (w, 2 ^ j) = subst P (sym (next_pair ps i w e got)) here in
     subst P (sym (rest_factors ps (i + 1))) (get_front (factors_of (take (i + 1) ps)) (factors_of (drop (i + 1) ps)) (length (factors_of (take i ps)) + m) (w, 2 ^ j) first)
 
-one_taken : {A : Type 0} (fs : List A) (n : ℕ) (f : A) → slice_get fs n ≡ Some f → take (suc n) fs ≡ take n fs ++ f ∷ []
-one_taken [] n f got = absurd (cc)
-one_taken (x ∷ fs) zero f got = let same : x ≡ f = cc in ap (λ y. y ∷ []) same
-one_taken (x ∷ fs) (suc n) f got = ap (λ ys. x ∷ ys) (one_taken fs n f got)
-
 pub taken_more : (fs : List (ℕ × ℕ)) (n : ℕ) (f : ℕ × ℕ) → slice_get fs n ≡ Some f → take (n + 1) fs ≡ take n fs ++ f ∷ []
-taken_more fs n f got = ap (λ m. take m fs) (add-one n) ∙ one_taken fs n f got
+taken_more fs n f got = ap (λ m. take m fs) (add-one n) ∙ taken_next fs n f got
 
 pub terms_taken : (ts : SpecTerms) (n : ℕ) (t : ℕ × List (ℕ × ℕ)) → slice_get ts n ≡ Some t → take (n + 1) ts ≡ take n ts ++ t ∷ []
-terms_taken ts n t got = ap (λ m. take m ts) (add-one n) ∙ one_taken ts n t got
+terms_taken ts n t got = ap (λ m. take m ts) (add-one n) ∙ taken_next ts n t got
 
 -- ---- values
 

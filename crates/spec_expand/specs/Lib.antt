@@ -1,7 +1,3 @@
-pub mod Token
-pub mod Tokens
-pub mod Grammar
-pub mod Fault
 pub mod Specification
 pub mod SpecValue
 pub mod SpecListing

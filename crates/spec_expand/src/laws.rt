@@ -1,19 +1,11 @@
-//! Laws of specifications. These functions do nothing: their contracts are proved of the definitions alone.
-ghost use Rattle.std.specs.Prelude.{◌≡◌, ◌<◌, ◌^◌, ℕ, List, Result};
-ghost use Rattle.poly_mixed.specs.Labels.{Labelling};
+//! Laws of the stages of a specification. These functions do nothing: their contracts are proved of the definitions alone.
+ghost use Rattle.std.specs.Prelude.{◌≡◌, ◌<◌, ◌^◌, ℕ};
 ghost use Rattle.poly_mixed.specs.Polynomial.{Point, IsPoint};
 ghost use Rattle.poly_mixed.specs.declared.stage.Stage.{Stage};
 ghost use Rattle.circuit_model.specs.Circuit.{Circuit};
 ghost use Rattle.circuit_model.specs.WellFormed.{IsWellFormed};
 ghost use Rattle.spec_expand.specs.SpecListing.{spec_listing};
 ghost use Rattle.spec_expand.specs.Specification.{SpecTerms};
-ghost use Rattle.spec_expand.specs.Fault.{SpecOutcome, IsOfText};
-ghost use Rattle.spec_expand.specs.declared.fault.SpecFault.{SpecFault};
-
-/// A text is one specification or has one fault.
-pub fn one_spec_or_fault()
-    ensures { (l : Labelling) (k : ℕ) (mul : ℕ → ℕ → ℕ) (bytes : List ℕ) (x y : Result SpecTerms SpecFault) → SpecOutcome l k mul bytes x → SpecOutcome l k mul bytes y → IsOfText x → IsOfText y → x ≡ y }
-{}
 
 /// A listed stage of a specification relates each point to exactly one element, which is one of the field.
 pub fn stages_have_values()

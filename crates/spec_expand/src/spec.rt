@@ -21,7 +21,8 @@ impl Model for SpecTerm {
 }
 
 impl SpecTerm {
-    pub(crate) fn new(coefficient: u64, powers: Vec<(u32, u64)>) -> SpecTerm
+    /// The term with this coefficient and these powers, fewer than 2^26.
+    pub fn new(coefficient: u64, powers: Vec<(u32, u64)>) -> SpecTerm
         requires { length powers.items < 2 ^ 26 }
         ensures { result ≡ (coefficient, powers.items) }
     {
@@ -65,7 +66,8 @@ impl Model for Spec {
 }
 
 impl Spec {
-    pub(crate) fn new(terms: Vec<SpecTerm>) -> Spec
+    /// The specification of these terms, fewer than 2^32.
+    pub fn new(terms: Vec<SpecTerm>) -> Spec
         requires { length terms.items < 2 ^ 32 }
         ensures { result ≡ terms.items }
     {

@@ -14,10 +14,10 @@ use Rattle.poly_mixed.specs.Polynomial.{Terms, Point, IsPoint, IsElement, value}
 use Rattle.poly_mixed.proofs.FieldLaws.{IsField, field_of}
 use Rattle.poly_mixed.proofs.ValueLemmas.{zero_element, product_zero}
 use Rattle.poly_mixed.proofs.ProductLemmas.{value_element}
+use Rattle.poly_mixed.proofs.SharedLemmas.{element_in}
 use Rattle.poly_mixed.proofs.SimpleLemmas.{zeros8, choose}
 use Rattle.stage_model.specs.Stage.{IsOfStage}
 use Rattle.stage_model.specs.First.{AgreeAtFirst}
-use Rattle.stage_model.proofs.WordBitLemmas.{element_in}
 use Rattle.stage_model.proofs.SomePolynomialLemmas.{HasPolynomial, delta, delta_here, delta_elsewhere, some_sum, some_product, some_constant, some_bit, some_delta}
 
 -- each point has an element, which depends on the first words and ranks alone
@@ -39,7 +39,7 @@ clip_small k a less = mod-eq_of_lt less
 abbrev pub at_word : Point → ℕ → ℕ → Point
 at_word p w a = record { words = set p.words w a; is_one = p.is_one }
 
-set_all : (k : ℕ) (ws : List ℕ) (w a : ℕ) → AllByRecursion (IsElement k) ws → a < 2 ^ k → AllByRecursion (IsElement k) (set ws w a)
+pub set_all : (k : ℕ) (ws : List ℕ) (w a : ℕ) → AllByRecursion (IsElement k) ws → a < 2 ^ k → AllByRecursion (IsElement k) (set ws w a)
 set_all k [] w a all less = tt
 set_all k (v ∷ ws) zero a all less = (less, all.1)
 set_all k (v ∷ ws) (suc w) a all less = (all.0, set_all k ws w a all.1 less)
@@ -61,7 +61,7 @@ got_index [] w less = absurd (omega arith)
 got_index (v ∷ ws) zero less = refl
 got_index (v ∷ ws) (suc w) less = got_index ws w (omega arith)
 
-is_bit_point : (k : ℕ) (p : Point) (r : ℕ) (b : Bool) → IsPoint k p → IsPoint k (at_bit p r b)
+pub is_bit_point : (k : ℕ) (p : Point) (r : ℕ) (b : Bool) → IsPoint k p → IsPoint k (at_bit p r b)
 is_bit_point k p r b at = record { words = at.words; elements = at.elements }
 
 is_word_point : (k : ℕ) (p : Point) (w a : ℕ) → IsPoint k p → a < 2 ^ k → IsPoint k (at_word p w a)

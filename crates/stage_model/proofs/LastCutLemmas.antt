@@ -9,7 +9,6 @@ use Rattle.std.proofs.lemmas.Option.{slice_get_within, get_or_from_slice_get}
 use Rattle.lists.specs.Lists.{Has}
 use Rattle.lists.specs.laws.ReadLaws.{got_at}
 use Rattle.net_core.specs.GateValue.{GateValue}
-use Rattle.net_core.specs.LatchValue.{LatchValue}
 use Rattle.net_core.specs.NetList.{NetList, nets}
 use Rattle.net_core.specs.Sound.{sources}
 use Rattle.net_core.specs.Order.{IsElimination}
@@ -24,6 +23,7 @@ use Rattle.circuit_model.specs.Run.{IsClockCycle, IsFirst, IsOpenRun}
 use Rattle.circuit_model.specs.Out.{Ends, IsOut}
 use Rattle.circuit_model.proofs.OutLemmas.{open_out}
 use Rattle.circuit_model.proofs.SourceLemmas.{source_inside, stands_source}
+use Rattle.net_core.proofs.SharedLemmas.{no_latch}
 use Rattle.poly_mixed.specs.Polynomial.{Point}
 use Rattle.stage_model.specs.Variables.{point_bits, variables_of}
 use Rattle.stage_model.specs.InputPoint.{IsAtInput}
@@ -54,9 +54,6 @@ all_there : (m t : ℕ) (x : List Bool) → t < m → slice_get (replicate m x) 
 all_there zero t x less = absurd (omega arith)
 all_there (suc m) zero x less = refl
 all_there (suc m) (suc t) x less = all_there m t x (omega arith)
-
-no_latch : (ls : List LatchValue) (l : LatchValue) → ls ≡ [] → Has ls l → ⊥
-no_latch ls l flat has = let got : slice_get ls has.0 ≡ Some l = has.1 in let got' = rw flat at got in absurd (cc)
 
 none_fed : (n : ℕ) → Has (fed_nets []) n → ⊥
 none_fed n has = let got = has.1 in absurd (cc)

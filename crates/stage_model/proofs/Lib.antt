@@ -1,6 +1,8 @@
+pub mod SharedLemmas
 pub mod NoneOver
 pub mod SortLemmas
 pub mod EliminationLemmas
+pub mod GateStepLemmas
 pub mod SettleLemmas
 pub mod PointLemmas
 pub mod CutLemmas

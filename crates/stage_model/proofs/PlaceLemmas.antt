@@ -1,5 +1,5 @@
 -- The ranks of the nets of words: rank k * w + i is the net of place i of word w.
-use Rattle.std.proofs.Common.{◌≡◌, ◌≢◌, ◌∙◌, ap, sym, refl, subst, inl, inr, ℕ, zero, suc, ◌<◌, ◌≤◌, ◌+◌, ◌*◌, true, false, ◌&&◌, List, [], ◌∷◌, ◌++◌, length, Some, arith}
+use Rattle.std.proofs.Common.{◌≡◌, ◌≢◌, ◌∙◌, ap, refl, subst, inl, inr, ℕ, suc, ◌<◌, ◌≤◌, ◌+◌, ◌*◌, true, false, ◌&&◌, List, ◌++◌, length, Some, arith}
 use Rattle.std.specs.Prelude.{slice_get, ◌==◌, nat_le, nat_lt}
 use Rattle.std.proofs.Math.Nat.{mul-suc, mul-le-mul_left}
 use Rattle.std.proofs.lemmas.Bool.{eq-eqb, ne_eqb, cases_order}
@@ -7,9 +7,10 @@ use Rattle.std.proofs.lemmas.Bool.Decides.{nat_tests}
 use Rattle.std.proofs.lemmas.List.{length-append}
 use Rattle.std.proofs.lemmas.List.Sums.{position_or_len_is}
 use Rattle.std.proofs.lemmas.Option.{slice_get_within, get_or_from_slice_get}
-use Rattle.lists.specs.Lists.{Has, times}
+use Rattle.lists.specs.Lists.{times}
 use Rattle.lists.specs.laws.HasLaws.{times_two}
 use Rattle.lists.specs.laws.ReadLaws.{get_below, get_front}
+use Rattle.circuit_model.proofs.SharedLemmas.{place_in}
 use Rattle.net_core.specs.NetList.{nets}
 use Rattle.net_words.specs.Variables.{others}
 use Rattle.circuit_model.specs.Word.{Word, word_nets}
@@ -17,27 +18,6 @@ use Rattle.circuit_model.specs.WellFormed.{IsWellFormed}
 use Rattle.circuit_model.specs.Circuit.{Circuit}
 use Rattle.stage_model.specs.Variables.{rank_in, variables_of}
 use Rattle.stage_model.specs.WordStage.{is_of_word}
-
-get_back : (xs ys : List ℕ) (m n : ℕ) → slice_get ys m ≡ Some n → slice_get (xs ++ ys) (length xs + m) ≡ Some n
-get_back [] ys m n got = let e : 0 + m ≡ m = omega arith in let P : ℕ → Type 0 = λ i. slice_get ys i ≡ Some n in subst P (sym e) got
-get_back (x ∷ xs) ys m n got =
-    let e : suc (length xs) + m ≡ suc (length xs + m) = omega arith in
-    let P : ℕ → Type 0 = λ i. slice_get (x ∷ (xs ++ ys)) i ≡ Some n in
-    subst P (sym e) (get_back xs ys m n got)
-
-place_in : (k : ℕ) (words : List Word) → ((u : Word) → Has words u → length u.nets ≡ k) → (w i n : ℕ) (word : Word) → slice_get words w ≡ Some word → slice_get word.nets i ≡ Some n → slice_get (word_nets words) (k * w + i) ≡ Some n
-place_in k [] are w i n word at got = absurd (cc)
-place_in k (u ∷ us) are zero i n word at got =
-    let same : word ≡ u = cc in
-    let e : i ≡ k * 0 + i = omega arith in
-    let P : Word → Type 0 = λ v. slice_get v.nets i ≡ Some n in
-    let Q : ℕ → Type 0 = λ j. slice_get (u.nets ++ word_nets us) j ≡ Some n in
-    subst Q e (get_front u.nets (word_nets us) i n (subst P same got))
-place_in k (u ∷ us) are (suc w) i n word at got =
-    let rest = place_in k us (λ v has. are v (suc has.0, has.1)) w i n word at got in
-    let e : length u.nets + (k * w + i) ≡ k * suc w + i = omega (arith, mul-suc k w, are u (0, refl)) in
-    let Q : ℕ → Type 0 = λ j. slice_get (u.nets ++ word_nets us) j ≡ Some n in
-    subst Q e (get_back u.nets (word_nets us) (k * w + i) n rest)
 
 -- the rank of what stands once, in front
 once_rank : (xs ys : List ℕ) (j n : ℕ) → times n xs ≤ 1 → slice_get xs j ≡ Some n → rank_in (xs ++ ys) n ≡ j

@@ -15,7 +15,7 @@ use Rattle.poly_mixed.proofs.ValueLemmas.{one_element, zero_element, power_eleme
 use Rattle.poly_mixed.proofs.ProductLemmas.{term-times, term_value-times, product_nonzero, term_value_element, value_element, one_term}
 use Rattle.poly_mixed.proofs.SimpleLemmas.{zeros8, no_ranks_rise, one_rank_rises, reduced_nothing, bits_polynomial, single}
 use Rattle.poly_mixed.proofs.PowerLemmas.{power_polynomial}
-use Rattle.stage_model.proofs.WordBitLemmas.{element_in}
+use Rattle.poly_mixed.proofs.SharedLemmas.{element_in}
 
 -- the function has a polynomial
 abbrev pub HasPolynomial : ℕ → (ℕ → ℕ → ℕ) → (Point → ℕ) → Type 0

@@ -78,7 +78,7 @@ module _ (c : Circuit) (well : IsWellFormed c) where
   pub cut_polynomial : (t : ℕ) → (ts : Terms) × IsOfStage c.k c.product (CutOf c t) ts
   cut_polynomial t = of_first c.k c.product well.ring well.no_zero_divisors 0 count (CutOf c t) (omega arith) (cut_looks t)
 
-  word_net : (i n : ℕ) (w : Word) → slice_get c.words i ≡ Some w → Has w.nets n → n < nets c.net
+  pub word_net : (i n : ℕ) (w : Word) → slice_get c.words i ≡ Some w → Has w.nets n → n < nets c.net
   word_net i n w at has = source_inside c.net well.sound n (stands_source c.net w.role n (well.inner w (i, at)) (well.places w n (i, at) has))
 
   mix_alone : (w : ℕ) (p q : Point) (e : ℕ) → AgreeAtFirst w count p q → IsMix c w p e → IsMix c w q e

@@ -35,7 +35,7 @@ same_steps (x ∷ xs) (y ∷ ys) long same =
     let tail : xs ≡ ys = same_steps xs ys (omega arith) (λ i a b first second. same (suc i) a b first second) in
     λ i. head i ∷ tail i
 
-lacks_or : (rank : ℕ) (ts : Terms) → LacksBit rank ts ⊎ (LacksBit rank ts → ⊥)
+pub lacks_or : (rank : ℕ) (ts : Terms) → LacksBit rank ts ⊎ (LacksBit rank ts → ⊥)
 lacks_or rank [] = inl tt
 lacks_or rank (t ∷ ts) =
     elim (has_bit rank t.0) as (λ b. has_bit rank t.0 ≡ b → LacksBit rank (t ∷ ts) ⊎ (LacksBit rank (t ∷ ts) → ⊥)) [

@@ -1,12 +1,11 @@
 -- The order of variables, built net by net.
-use Rattle.std.proofs.Common.{◌≡◌, ◌∙◌, ap, sym, refl, subst, inl, inr, ℕ, zero, suc, ◌<◌, ◌≤◌, ◌+◌, Bool, true, false, cond, not, List, [], ◌∷◌, ◌++◌, length, Some, arith}
+use Rattle.std.proofs.Common.{◌≡◌, ◌∙◌, ap, sym, refl, subst, ℕ, zero, suc, ◌<◌, ◌+◌, Bool, true, false, cond, not, List, [], ◌∷◌, ◌++◌, length, arith}
 use Rattle.std.specs.Prelude.{filter}
 use Rattle.std.specs.List.{range_with_len}
-use Rattle.std.proofs.lemmas.Bool.{cases_eq}
 use Rattle.std.proofs.lemmas.List.{append-nil, append_assoc}
 use Rattle.std.proofs.lemmas.List.Elements.{filter-append}
 use Rattle.lists.specs.Lists.{Has}
-use Rattle.lists.specs.laws.HasLaws.{Has_left, Has_right}
+use Rattle.lists.specs.laws.HasLaws.{Has_left, Has_right, has_range}
 use Rattle.lists.specs.laws.ListLaws.{range_more}
 use Rattle.net_core.specs.NetList.{NetList, nets}
 use Rattle.net_words.specs.Roles.{stands_in}
@@ -30,14 +29,6 @@ others_step front start order new n old more =
   where
     join : (xs ys zs : List ℕ) → (xs ++ ys) ++ zs ≡ xs ++ (ys ++ zs)
     join xs ys zs = append_assoc xs ys zs
-
-has_range : (a count n : ℕ) → a ≤ n → n < a + count → Has (range_with_len a count) n
-has_range a zero n low less = absurd (omega arith)
-has_range a (suc count) n low less =
-    elim (cases_eq a n) [
-      | inl same ↦ (0, ap Some same)
-      | inr other ↦ let rest = has_range (a + 1) count n (omega arith) (omega arith) in (suc rest.0, rest.1)
-    ]
 
 has_filter : (q : ℕ → Bool) (xs : List ℕ) (x : ℕ) → Has xs x → q x ≡ true → Has (filter q xs) x
 has_filter q [] x has is = let got = has.1 in absurd (cc)

@@ -12,6 +12,7 @@ use Rattle.std.proofs.lemmas.Nat.Bits.{bit_at-lt}
 use Rattle.std.proofs.lemmas.Option.{slice_get_within, get_or_from_slice_get}
 use lib.Bits.{xor_zero_r, xor_zero_l, xor_assoc}
 use Rattle.std.proofs.Math.Seq.{take-length}
+use Rattle.lists.specs.laws.NumberLaws.{bit_is_choice}
 use Rattle.lists.specs.laws.ReadLaws.{got_at}
 use Rattle.poly_mixed.specs.Monomial.{Monomial}
 use Rattle.poly_mixed.specs.Polynomial.{Terms, Point, IsPoint, IsElement, IsTerm, IsReduced, powers, term_value, value}
@@ -69,9 +70,6 @@ module _ (k w d : ℕ) (p : Point) where
       swap true false false = refl
       swap false b c = refl
 
-low_bit : (x : ℕ) → x < 2 → ◌≡◌ {A = ℕ} x (cond (x == 1) 1 0)
-low_bit x less = grind (arith, nat_tests)
-
 module _ {k : ℕ} {mul : ℕ → ℕ → ℕ} (f : IsField k mul) (elements : List ℕ) (w : ℕ) (t : Monomial × ℕ) (is : IsTerm k t) where
   -- the term without its bits of the word
   pub product_first : (m : Monomial) (ts : Terms) → m ≡ record { exponents = t.0.exponents; bits = filter (λ r. not (is_of_word k w r)) t.0.bits } → ts ≡ with_coefficient m t.1 [] → IsProductOf k mul elements w t 0 ts
@@ -112,7 +110,7 @@ module _ {k : ℕ} {mul : ℕ → ℕ → ℕ} (f : IsField k mul) (elements : L
         let one : q.is_one u ≡ (bit_at d (u - k * w) == 1) = ap (λ b. cond b (bit_at d (u - k * w) == 1) (p.is_one u)) own in
         let in_field : IsElement k whole = f.closed t.1 (powers mul t.0.exponents p.words) is.element (powers_element f t.0.exponents p.words at.elements) in
         product p at
-        ∙ ((λ j. mul (before.values p d at bits j) ((bit.values p d at bits ∙ low_bit (bit_at d (u - k * w)) (bit_at-lt d (u - k * w))) j))
+        ∙ ((λ j. mul (before.values p d at bits j) ((bit.values p d at bits ∙ bit_is_choice (bit_at d (u - k * w)) (bit_at-lt d (u - k * w))) j))
         ∙ (times whole in_field (list_all q.is_one (take i (word_bits k w t) ++ rest)) (bit_at d (u - k * w) == 1)
         ∙ ap (λ b. cond b whole 0) (ap (λ b. list_all q.is_one (take i (word_bits k w t) ++ rest) && b) (sym one) ∙ sym (more_all k w d p (word_bits k w t) rest i u got))));
   }

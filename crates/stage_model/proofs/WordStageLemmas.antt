@@ -3,7 +3,7 @@ use Rattle.std.proofs.Common.{◌≡◌, ◌∙◌, sym, refl, subst, ℕ, zero,
 use Rattle.std.specs.Prelude.{slice_get}
 use Rattle.std.specs.List.{AllByRecursion}
 use Rattle.lists.specs.laws.HasLaws.{all_in}
-use Rattle.lists.specs.laws.ReadLaws.{get_below}
+use Rattle.lists.specs.laws.ReadLaws.{get_below, all_at}
 use Rattle.gf_basis.specs.Basis.{AreBits}
 use Rattle.circuit_model.specs.Word.{Word}
 use Rattle.circuit_model.specs.WellFormed.{IsWellFormed}
@@ -17,11 +17,6 @@ use Rattle.stage_model.specs.Stage.{IsOfStage}
 use Rattle.stage_model.specs.WordStage.{first_bits, with_word, IsRead, IsTermOf, IsTermProduct, IsTermSum}
 use Rattle.stage_model.proofs.MixLemmas.{one_mix}
 use Rattle.stage_model.proofs.SizeLemmas.{same_terms}
-
-pub term_in : (P : Monomial × ℕ → Type 0) (ts : Terms) (i : ℕ) (t : Monomial × ℕ) → AllByRecursion P ts → slice_get ts i ≡ Some t → P t
-term_in P [] i t all got = absurd (cc)
-term_in P (u ∷ ts) zero t all got = let same : u ≡ t = cc in subst P same all.0
-term_in P (u ∷ ts) (suc i) t all got = term_in P ts i t all.1 got
 
 all_taken : (P : Monomial × ℕ → Type 0) (n : ℕ) (ts : Terms) → AllByRecursion P ts → AllByRecursion P (take n ts)
 all_taken P zero ts all = tt
@@ -76,7 +71,7 @@ module _ (c : Circuit) (well : IsWellFormed c) where
   pub some_product : (w s j : ℕ) (p : Point) → IsPoint c.k p → w < length c.words → (t : Monomial × ℕ) → IsTermOf c w s t → (e : ℕ) × IsTermProduct c w s j p e × (e < 2 ^ c.k)
   some_product w s j p at less t is =
       let read = some_read w p at less in
-      let element : IsElement c.k t.1 = (term_in (IsTerm c.k) is.terms is.place t is.before.reduced.terms is.at).element in (
+      let element : IsElement c.k t.1 = (all_at (IsTerm c.k) is.terms is.place t is.before.reduced.terms is.at).element in (
         term_value c.product (with_word c.k w read.0 p) (first_bits c.k w j t),
         record { term = t; is_term = is; d = read.0; read = read.1; element = refl },
         term_value_element field (with_word c.k w read.0 p) (with_point c.k c.k w read.0 p at) (first_bits c.k w j t) element,

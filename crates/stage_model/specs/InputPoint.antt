@@ -1,8 +1,8 @@
 -- Points that stand for inputs. Source: this project's own.
-use Rattle.std.specs.Prelude.{ℕ, List, length, take}
+use Rattle.std.specs.Prelude.{ℕ, List}
 use Rattle.net_core.specs.NetList.{nets}
 use Rattle.poly_mixed.specs.Polynomial.{Point}
-use Rattle.circuit_model.specs.Circuit.{Circuit}
+use Rattle.circuit_model.specs.Circuit.{Circuit, input_in}
 use Rattle.circuit_model.specs.Run.{HaveElements, IsAnyWord}
 use Rattle.stage_model.specs.Variables.{point_bits, variables_of}
 
@@ -12,4 +12,4 @@ IsAtInput circuit xs p = HaveElements circuit IsAnyWord xs (point_bits (nets cir
 
 -- the input that has the point's elements
 abbrev pub input_of : Circuit → Point → List ℕ
-input_of circuit p = take (length circuit.words) p.words
+input_of circuit p = input_in circuit p.words

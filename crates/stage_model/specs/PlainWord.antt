@@ -48,6 +48,6 @@ pub record HasBitAt (k count : ℕ) (terms : Terms) (word s j : ℕ) : Type 0 wh
 abbrev pub IsProductStage : ℕ → (ℕ → ℕ → ℕ) → List CircuitWord → Terms → ℕ → ℕ → ℕ → Terms → Type 0
 IsProductStage k mul words terms w s j ts = (net : NetList) (output : CircuitWord) → IsWellFormed (circuit_of_parts k mul net words output) → IsOfStage k mul (IsMix (circuit_of_parts k mul net words output) w) terms → IsOfStage k mul (IsTermProduct (circuit_of_parts k mul net words output) w s j) ts
 
--- the same for the sum stage
+-- a polynomial of the sum stage of each well-formed circuit with these words whose mix of the words before has these terms
 abbrev pub IsSumStage : ℕ → (ℕ → ℕ → ℕ) → List CircuitWord → Terms → ℕ → ℕ → Terms → Type 0
 IsSumStage k mul words terms w s ts = (net : NetList) (output : CircuitWord) → IsWellFormed (circuit_of_parts k mul net words output) → IsOfStage k mul (IsMix (circuit_of_parts k mul net words output) w) terms → IsOfStage k mul (IsTermSum (circuit_of_parts k mul net words output) w s) ts

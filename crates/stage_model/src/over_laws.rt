@@ -21,13 +21,13 @@ pub fn one_first_cut_over()
     ensures not_all { (k : ℕ) (mul : ℕ → ℕ → ℕ) (net : NetList) (variables : List ℕ) (output : Word) (count bound : ℕ) (name : Stage) (n : ℕ) → IsRing k mul → HasNoZeroDivisors k mul → IsSound net → IsOver k mul (cut_listing count (IsCut net variables output)) bound name n → AreAllWithin k mul (cut_listing count (IsCut net variables output)) bound → ⊥ }
 {}
 
-/// The same for the stages of words.
+/// Of the stages of words one at most is the first over a bound, with one size, and then not all are within it.
 pub fn one_first_word_stage_over()
     ensures only { (circuit : Circuit) (bound : ℕ) (name other : Stage) (m n : ℕ) → IsWellFormed circuit → IsOver circuit.k circuit.product (word_listing circuit) bound name m → IsOver circuit.k circuit.product (word_listing circuit) bound other n → (name ≡ other) × (m ≡ n) }
     ensures not_all { (circuit : Circuit) (bound : ℕ) (name : Stage) (n : ℕ) → IsWellFormed circuit → IsOver circuit.k circuit.product (word_listing circuit) bound name n → AreAllWithin circuit.k circuit.product (word_listing circuit) bound → ⊥ }
 {}
 
-/// The same for all stages of a circuit.
+/// Of all stages of a circuit one at most is the first over a bound, with one size, and then not all are within it.
 pub fn one_first_over()
     ensures only { (circuit : Circuit) (bound : ℕ) (name other : Joined Stage Stage) (m n : ℕ) → IsWellFormed circuit → IsOver circuit.k circuit.product (circuit_stages circuit) bound name m → IsOver circuit.k circuit.product (circuit_stages circuit) bound other n → (name ≡ other) × (m ≡ n) }
     ensures not_all { (circuit : Circuit) (bound : ℕ) (name : Joined Stage Stage) (n : ℕ) → IsWellFormed circuit → IsOver circuit.k circuit.product (circuit_stages circuit) bound name n → AreAllWithin circuit.k circuit.product (circuit_stages circuit) bound → ⊥ }

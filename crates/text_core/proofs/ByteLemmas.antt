@@ -25,7 +25,7 @@ lower_value b p q = grind (arith, nat_tests)
 digit_low : (b : ℕ) → b < 48 → is_digit b ≡ true → ⊥
 digit_low b h e = grind (arith, common_steps)
 
-digit_high : (b : ℕ) → 58 ≤ b → is_digit b ≡ true → ⊥
+pub digit_high : (b : ℕ) → 58 ≤ b → is_digit b ≡ true → ⊥
 digit_high b h e = grind (arith, common_steps)
 
 pub digit_range : (b : ℕ) → is_digit b ≡ true → (48 ≤ b) × (b ≤ 57)

@@ -3,6 +3,7 @@ use Rattle.std.proofs.Common.{◌≡◌, ◌∙◌, ap, sym, refl, subst, ℕ, z
 use Rattle.std.specs.Prelude.{slice_index, EachIndex}
 use Rattle.std.specs.List.{AllByRecursion}
 use Rattle.std.proofs.lemmas.List.Sums.{take_while-cons}
+use Rattle.std.proofs.Math.Seq.{drop-append_seam}
 use Rattle.text_core.specs.Lines.{is_blank}
 use Rattle.text_core.specs.Scan.{run, after, skip}
 
@@ -18,12 +19,8 @@ run_front q [] [] all s = refl
 run_front q [] (b ∷ bs) all s = take_while-cons q b bs ∙ ap (λ v. cond v (b ∷ run q bs) []) s
 run_front q (x ∷ xs) rest all s = take_while-cons q x (xs ++ rest) ∙ ap (λ v. cond v (x ∷ run q (xs ++ rest)) []) all.0 ∙ ap (λ ys. x ∷ ys) (run_front q xs rest all.1 s)
 
-pub drop_front : (xs rest : List ℕ) → drop (length xs) (xs ++ rest) ≡ rest
-drop_front [] rest = refl
-drop_front (x ∷ xs) rest = drop_front xs rest
-
 pub after_front : (q : ℕ → Bool) (xs rest : List ℕ) → Passes q xs → Stops q rest → after q (xs ++ rest) ≡ rest
-after_front q xs rest all s = ap (λ (ys : List ℕ). drop (length ys) (xs ++ rest)) (run_front q xs rest all s) ∙ drop_front xs rest
+after_front q xs rest all s = ap (λ (ys : List ℕ). drop (length ys) (xs ++ rest)) (run_front q xs rest all s) ∙ drop-append_seam xs rest
 
 pub skip_none : (b : ℕ) (bs : List ℕ) → is_blank b ≡ false → skip (b ∷ bs) ≡ b ∷ bs
 skip_none b bs e = after_front is_blank [] (b ∷ bs) tt e

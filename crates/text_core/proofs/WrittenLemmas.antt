@@ -1,5 +1,5 @@
 -- The digits of written numbers, read back.
-use Rattle.std.proofs.Common.{◌≡◌, ℕ, zero, suc, ◌+◌, ◌*◌, ◌/◌, ◌%◌, ◌^◌, ◌<◌, ◌≤◌, Bool, true, false, cond, List, [], ◌∷◌, ◌++◌, length, get_or, inl, inr, refl, sym, ◌∙◌, ap, subst, arith, decimal, length-append, zero-mul, mul_comm, mul_assoc, add-one, not, ◌&&◌, nat_lt, ◌-◌, ◌==◌}
+use Rattle.std.proofs.Common.{◌≡◌, ℕ, zero, suc, ◌+◌, ◌*◌, ◌/◌, ◌%◌, ◌^◌, ◌<◌, ◌≤◌, Bool, true, false, cond, List, [], ◌∷◌, ◌++◌, length, get_or, inl, inr, refl, sym, ◌∙◌, ap, arith, decimal, length-append, zero-mul, mul_assoc, add-one, not, ◌&&◌, nat_lt, ◌-◌, ◌==◌}
 use Rattle.std.proofs.lemmas.Bool.{lt-ltb, le-ltb}
 use Rattle.std.proofs.Math.Nat.{pow-succ', pow-zero, add-mul}
 use Rattle.std.proofs.lemmas.Fmt.{decimal_by_steps, digits_is_IsNumeral}
@@ -7,6 +7,7 @@ use Rattle.std.proofs.lemmas.Grind.{common_steps}
 use Rattle.std.specs.Char.{digit_value as std_digit_value}
 use Rattle.std.specs.Fmt.{digits, digits_onto, digit_glyph}
 use Rattle.std.specs.Str.Parse.{AllDigits, digits_value_after}
+use Rattle.lists.specs.laws.NumberLaws.{times_one_is, grouped_times}
 use Rattle.text_core.specs.Numbers.{value_of, digit_value, hex_text, IsHex, IsDecimal, IsDigit}
 use Rattle.text_core.specs.Scan.{is_from, is_digit, is_hex_digit}
 use Rattle.text_core.proofs.RunLemmas.{Passes, passes_each}
@@ -17,18 +18,12 @@ passes_more : (q : ℕ → Bool) (xs : List ℕ) (x : ℕ) → Passes q xs → q
 passes_more q [] x all h = (h, tt)
 passes_more q (y ∷ ys) x all h = (all.0, passes_more q ys x all.1 h)
 
-value_more : (base : ℕ) (ds : List ℕ) (c : ℕ) → value_of base (ds ++ c ∷ []) ≡ value_of base ds * base + digit_value c
-value_more base [] c = one (digit_value c) (base ^ 0) base (pow-zero base)
-  where
-    one : (d p b : ℕ) → p ≡ 1 → d * p + 0 ≡ 0 * b + d
-    one d p b e = let P : ℕ → Type 0 = λ q. d * q + 0 ≡ 0 * b + d in subst P (sym e) (omega (arith, zero-mul b))
+pub value_more : (base : ℕ) (ds : List ℕ) (c : ℕ) → value_of base (ds ++ c ∷ []) ≡ value_of base ds * base + digit_value c
+value_more base [] c = times_one_is (digit_value c) (base ^ 0) base (pow-zero base)
 value_more base (d ∷ ds) c =
     (λ i. digit_value d * base ^ (length-append ds (c ∷ []) i) + value_more base ds c i)
     ∙ ap (λ q. digit_value d * q + (value_of base ds * base + digit_value c)) (ap (λ n. base ^ n) (add-one (length ds)) ∙ pow-succ' base (length ds))
-    ∙ grouped (digit_value d) base (base ^ length ds) (value_of base ds) (digit_value c)
-  where
-    grouped : (x b p v c : ℕ) → x * (b * p) + (v * b + c) ≡ (x * p + v) * b + c
-    grouped x b p v c = let e : x * (b * p) ≡ x * p * b = ap (λ q. x * q) (mul_comm b p) ∙ sym (mul_assoc x p b) in omega (arith, e, add-mul (x * p) v b)
+    ∙ grouped_times (digit_value d) base (base ^ length ds) (value_of base ds) (digit_value c)
 
 from_true : (first last b : ℕ) → first ≤ b → b ≤ last → is_from first last b ≡ true
 from_true first last b h k = λ i. not (le-ltb b first h i) && not (le-ltb last b k i)
@@ -38,7 +33,7 @@ pub record IsDigits (q : ℕ → Bool) (base n : ℕ) (ds : List ℕ) : Type 0 w
   pub pass : Passes q ds
   pub value : value_of base ds ≡ n
 
-digit_of : (d : ℕ) → d < 10 → digit_value (48 + d) ≡ d
+pub digit_of : (d : ℕ) → d < 10 → digit_value (48 + d) ≡ d
 digit_of d h = (λ i. cond (lt-ltb (48 + d) 58 (omega arith) i) (48 + d - 48) (cond (nat_lt (48 + d) 71) (48 + d - 55) (48 + d - 87))) ∙ omega arith
 
 pub decimal_digits : (n : ℕ) → n < 2 ^ 64 → IsDigits is_digit 10 n (decimal n)
@@ -117,7 +112,7 @@ hex_bytes n less (suc (suc i)) within = between (get_or (digits 16 false n) i 0)
       | inr more ↦ elim more [ inl upper ↦ (omega (arith, upper.0), omega (arith, upper.1)) | inr lower ↦ (omega (arith, lower.0), omega (arith, lower.1)) ]
     ]
 
-digits_short : (k n : ℕ) (rest : List ℕ) → length (digits_onto k 16 false n rest) ≤ k + length rest
+pub digits_short : (k n : ℕ) (rest : List ℕ) → length (digits_onto k 16 false n rest) ≤ k + length rest
 digits_short zero n rest = omega arith
 digits_short (suc k) n rest =
     let last : List ℕ = digit_glyph false (n % 16) ∷ rest in

@@ -1,11 +1,12 @@
 -- What reaches the output word of the unrolled net.
-use Rattle.std.proofs.Common.{◌≡◌, ◌⊎◌, ◌∙◌, ap, sym, refl, subst, inl, inr, ℕ, zero, suc, ◌<◌, ◌≤◌, ◌+◌, Bool, true, false, not, List, [], ◌∷◌, ◌++◌, map, arith}
+use Rattle.std.proofs.Common.{◌≡◌, ◌⊎◌, ◌∙◌, ap, sym, refl, subst, inl, inr, ℕ, ◌<◌, ◌≤◌, ◌+◌, true, false, not, List, [], ◌∷◌, ◌++◌, map, arith}
 use Rattle.std.specs.Prelude.{◌==◌}
 use Rattle.std.proofs.Common.{eq-eqb}
 use Rattle.std.specs.List.{filter, range_with_len}
 use Rattle.std.proofs.lemmas.List.{map-append}
 use Rattle.lists.specs.Lists.{Has}
-use Rattle.lists.specs.laws.HasLaws.{All_has, Has_cases}
+use Rattle.lists.specs.laws.BoolLaws.{not_true}
+use Rattle.lists.specs.laws.HasLaws.{All_has, Has_cases, any_has, range_has}
 use Rattle.lists.specs.laws.ReadLaws.{from_map}
 use Rattle.graph_core.specs.Walk.{IsChain}
 use Rattle.net_core.specs.GateValue.{GateValue}
@@ -27,7 +28,7 @@ use Rattle.net_words.specs.declared.feed.Source.{Source}
 use Rattle.net_words.specs.declared.feed.Source.TheVariants.{Zero, One, Bit}
 use Rattle.net_words.specs.declared.word.Role.{Role}
 use Rattle.net_words.specs.declared.word.Role.TheVariants.{Input, State, Fed, Output}
-use Rattle.net_words.proofs.MemberLemmas.{any_has, output_bits_word, word_bits}
+use Rattle.net_words.proofs.MemberLemmas.{output_bits_word, word_bits}
 use Rattle.unroll.specs.Gates.{bit_net, is_held, source_gate}
 use Rattle.unroll.specs.Nets.{all_cycles, unrolled_inputs}
 use Rattle.unroll.specs.Places.{net_at, cycle_nets, fed_bits, fed_count}
@@ -35,7 +36,8 @@ use Rattle.unroll.specs.Sources.{source_at}
 use Rattle.unroll.specs.Unrolled.{nets_with, unrolled_nets}
 use Rattle.unroll.proofs.PlaceLemmas.{at_below, bit_high, first_at, one_net}
 use Rattle.unroll.proofs.LaidLemmas.{IsLaid, has_filter, laid, of_feed, of_gate, of_input, of_latch, of_start}
-use Rattle.unroll.proofs.DrivenLemmas.{has_shift, range_has}
+use Rattle.unroll.proofs.DrivenLemmas.{has_shift}
+use Rattle.unroll.proofs.SoundLemmas.{one_of}
 use Rattle.unroll.proofs.WordLemmas.{bits_fed, bits_up, fed_bare, moved, rebound_is}
 
 -- one net is the other, or it is drawn from it over a chain of gates and latches
@@ -59,10 +61,6 @@ pub record IsStep (net : NetList) (c x y : ℕ) : Type 0 where
   pub low : a < nets net
   pub at : net_at (nets net) t a ≡ x
   pub from : (cycle_nets (nets net) c ≤ y) ⊎ ((s : ℕ) × (b : ℕ) × (s ≤ c) × (b < nets net) × (net_at (nets net) s b ≡ y) × IsDrawn net a b)
-
-one_of : (x y : ℕ) → Has (y ∷ []) x → y ≡ x
-one_of x y (zero, got) = cc
-one_of x y (suc i, got) = absurd (cc)
 
 source_step : (net : NetList) (b : Binding) (c s n y : ℕ) (source : Source) → s ≤ c → n < nets net → Has (source_gate net b c (net_at (nets net) s n) source).inputs y → IsStep net c (source_gate net b c (net_at (nets net) s n) source).out y
 source_step net b c s n y Zero within low has = let got = has.1 in absurd (cc)
@@ -177,10 +175,6 @@ free_from net b c n bound has none =
         | inr bit ↦ let is = range_has base (fed_count b.k b.words) n bit in absurd (none (bits_fed v c b.k base n b.words is.0 is.1))
       ]
     ]
-  where
-    not_true : (r : Bool) → not r ≡ true → r ≡ false
-    not_true true is = absurd (cc)
-    not_true false is = refl
 
 -- no primary input in no word reaches the output word
 pub closed : (net : NetList) (b : Binding) (c : ℕ) → IsSound net → IsBoundTo net b → IsClosed (all_cycles net b c) (rebound b.k b.words (unrolled_nets net b c))

@@ -1,13 +1,14 @@
 -- Steps of loops.
-use Rattle.std.proofs.Common.{◌≡◌, ◌∙◌, ap, sym, refl, ℕ, zero, suc, ◌<◌, ◌≤◌, ◌+◌, ◌-◌, ◌*◌, ◌^◌, Bool, false, not, List, [], ◌∷◌, ◌++◌, length, length-append, map, take, drop, Some, get_or, cond, arith, add-one, mul-le-mul_left}
+use Rattle.std.proofs.Common.{◌≡◌, ◌∙◌, ap, sym, refl, ℕ, zero, suc, ◌<◌, ◌≤◌, ◌+◌, ◌-◌, ◌*◌, ◌^◌, Bool, false, List, [], ◌∷◌, ◌++◌, length, length-append, map, take, drop, Some, get_or, cond, arith, add-one, mul-le-mul_left}
 use Rattle.std.proofs.Math.Nat.{mul-le-mul_right}
 use Rattle.std.specs.Prelude.{slice_get, codes, Option}
 use Rattle.std.specs.Option.{option_map_or}
 use Rattle.std.specs.Fmt.{decimal}
 use Rattle.std.specs.List.{filter, range_with_len}
-use Rattle.std.proofs.lemmas.List.Filters.{length-filter_both, length-filter_more}
+use Rattle.std.proofs.lemmas.List.Filters.{length-filter_more}
 use Rattle.std.proofs.lemmas.List.FromFn.{length-map-range_with_len, map-range_with_len_more}
 use Rattle.std.proofs.lemmas.Option.{slice_get-get_or}
+use Rattle.lists.specs.laws.ListLaws.{range_more, filter_few}
 use Rattle.lists.specs.laws.ReadLaws.{get_below}
 use Rattle.net_core.specs.NetList.{NetList, LabelValue, nets, text_of}
 use Rattle.net_words.specs.declared.bound.BoundWord.{BoundWord}
@@ -118,17 +119,10 @@ bits_step m now new base n high was made =
     ∙ (puts_inputs m (range_with_len base (n - base)) (n ∷ [])
     ∙ ap (with_inputs m) (one (n - base) at ∙ ap (range_with_len base) (sym more))))
   where
-    grown : (a k : ℕ) → range_with_len a (suc k) ≡ range_with_len a k ++ (a + k) ∷ []
-    grown a zero = let same : a ≡ a + 0 = omega arith in ap (λ x. x ∷ []) same
-    grown a (suc k) = let same : a + 1 + k ≡ a + suc k = omega arith in ap (λ xs. a ∷ xs) (grown (a + 1) k ∙ ap (λ x. range_with_len (a + 1) k ++ x ∷ []) same)
-
     one : (d : ℕ) → base + d ≡ n → range_with_len base d ++ n ∷ [] ≡ range_with_len base (d + 1)
-    one d at = ap (λ x. range_with_len base d ++ x ∷ []) (sym at) ∙ rw add-one (sym (grown base d))
+    one d at = ap (λ x. range_with_len base d ++ x ∷ []) (sym at) ∙ rw add-one (sym (range_more base d))
 
 -- ---- counts
-
-pub filter_few : {X : Type 0} (p : X → Bool) (xs : List X) → length (filter p xs) ≤ length xs
-filter_few p xs = omega (arith, length-filter_both p (λ x. not (p x)) (λ x. refl) xs)
 
 pub taken_few : {X : Type 0} (p : X → Bool) (xs : List X) (i : ℕ) → length (filter p (take i xs)) ≤ length xs
 taken_few {X} p xs i = omega (arith, filter_few p (take i xs), few xs i)

@@ -5,7 +5,7 @@ use Rattle.std.specs.List.{filter, range_with_len}
 use Rattle.std.proofs.lemmas.Bool.{cases_lt}
 use Rattle.std.proofs.lemmas.List.{map-append}
 use Rattle.lists.specs.Lists.{Has, times}
-use Rattle.lists.specs.laws.HasLaws.{All_has, Has_cases, times_append, times_some}
+use Rattle.lists.specs.laws.HasLaws.{All_has, Has_cases, times_append, times_none, range_has, range_once}
 use Rattle.lists.specs.laws.ListLaws.{length_map as map-long}
 use Rattle.lists.specs.laws.NumberLaws.{nat_eq_or}
 use Rattle.lists.specs.laws.ReadLaws.{from_map}
@@ -24,11 +24,6 @@ use Rattle.unroll.specs.Nets.{unrolled_inputs}
 use Rattle.unroll.specs.Places.{net_at, cycle_nets, fed_count}
 use Rattle.unroll.specs.Sources.{source_at}
 use Rattle.unroll.proofs.PlaceLemmas.{first_at, at_below, one_cycle}
-
-pub absent : (n : ℕ) (xs : List ℕ) → (Has xs n → ⊥) → times n xs ≡ 0
-absent n xs none =
-    let few : 1 ≤ times n xs → ⊥ = λ some. none (times_some n xs some) in
-    omega (arith, few)
 
 -- ---- the outputs of the gates
 
@@ -116,11 +111,11 @@ has_shift v t xs m has = let from = from_map (net_at v t) xs has.0 m has.1 in (f
 
 -- another cycle has not this net
 pub other_cycle : (v t s n : ℕ) (xs : List ℕ) → n < v → ((x : ℕ) → Has xs x → x < v) → t ≢ s → times (net_at v t n) (map (net_at v s) xs) ≡ 0
-other_cycle v t s n xs less low apart = absent (net_at v t n) (map (net_at v s) xs) (λ has. let from = has_shift v s xs (net_at v t n) has in apart (one_cycle v t s n from.0 less (low from.0 from.1) (sym from.2)))
+other_cycle v t s n xs less low apart = times_none (net_at v t n) (map (net_at v s) xs) (λ has. let from = has_shift v s xs (net_at v t n) has in apart (one_cycle v t s n from.0 less (low from.0 from.1) (sym from.2)))
 
 -- a net after those of the cycles is in none
 pub after_cycles : (v c s m : ℕ) (xs : List ℕ) → s ≤ c → cycle_nets v c ≤ m → ((x : ℕ) → Has xs x → x < v) → times m (map (net_at v s) xs) ≡ 0
-after_cycles v c s m xs within high low = absent m (map (net_at v s) xs) (λ has. let from = has_shift v s xs m has in omega (arith, at_below v c s from.0 within (low from.0 from.1), from.2, high))
+after_cycles v c s m xs within high low = times_none m (map (net_at v s) xs) (λ has. let from = has_shift v s xs m has in omega (arith, at_below v c s from.0 within (low from.0 from.1), from.2, high))
 
 pub times_both : (p : ℕ → Bool) (n : ℕ) (xs : List ℕ) → times n (filter (λ x. not (p x)) xs) + times n (filter p xs) ≡ times n xs
 times_both p n [] = refl
@@ -133,19 +128,6 @@ mapped_both f p n [] = refl
 mapped_both f p n (x ∷ xs) =
     let rest : times n (map f (filter p xs)) + times n (map f (filter (λ y. not (p y)) xs)) ≡ times n (map f xs) = mapped_both f p n xs in
     elim (p x) as (λ b. times n (map f (cond b (x ∷ filter p xs) (filter p xs))) + times n (map f (cond (not b) (x ∷ filter (λ y. not (p y)) xs) (filter (λ y. not (p y)) xs))) ≡ times n (map f (x ∷ xs))) [ true ↦ omega (arith, rest) | false ↦ omega (arith, rest) ]
-
-pub range_has : (a k n : ℕ) → Has (range_with_len a k) n → (a ≤ n) × (n < a + k)
-range_has a zero n has = let got = has.1 in absurd (cc)
-range_has a (suc k) n (zero, got) = let same : a ≡ n = cc in (omega (arith, same), omega (arith, same))
-range_has a (suc k) n (suc i, got) = let rest = range_has (a + 1) k n (i, got) in (omega (arith, rest.0), omega (arith, rest.1))
-
-pub range_once : (a k n : ℕ) → a ≤ n → n < a + k → times n (range_with_len a k) ≡ 1
-range_once a zero n low high = absurd (omega arith)
-range_once a (suc k) n low high =
-    elim (nat_eq_or a n) [
-      | inl same ↦ omega (arith, one_here n a same, absent n (range_with_len (a + 1) k) (λ has. omega (arith, (range_has (a + 1) k n has).0, same)))
-      | inr other ↦ omega (arith, none_here n a other, range_once (a + 1) k n (omega (arith, low, other)) (omega (arith, high)))
-    ]
 
 -- ---- the nets of all cycles
 
@@ -165,7 +147,7 @@ driven_low net sound x has =
 none_high : (net : NetList) (b : Binding) (c m : ℕ) → IsSound net → nets net ≤ m → (times m (outs (first_gates net b c)) ≡ 0) × ((times m net.inputs ≡ 0) × (times m (map (λ l. l.out) net.latches) ≡ 0))
 none_high net b c m sound high =
     let ls : List ℕ = map (λ l. l.out) net.latches in
-    let none : times m (driven net) ≡ 0 = absent m (driven net) (λ has. omega (arith, driven_low net sound m has, high)) in
+    let none : times m (driven net) ≡ 0 = times_none m (driven net) (λ has. omega (arith, driven_low net sound m has, high)) in
     let all : times m (driven net) ≡ times m net.inputs + times m ls + times m (outs net.gates) = times_append m (sources net) (outs net.gates) ∙ ap (λ k. k + times m (outs net.gates)) (times_append m net.inputs ls) in (
       omega (arith, none, all, first_outs net b c m, times_both (is_fed b.feeds) m net.inputs, mapped_both (λ (l : LatchValue). l.out) (is_held b) m net.latches),
       (omega (arith, none, all), omega (arith, none, all)),
@@ -216,7 +198,7 @@ inputs_times net b c m =
     ∙ ap (λ k. times m (filter (λ n. not (is_fed b.feeds n)) net.inputs) + k) (times_append m (map (λ l. l.out) (filter (is_held b) net.latches)) (range_with_len (cycle_nets (nets net) c) (fed_count b.k b.words)))
 
 no_bit : (net : NetList) (b : Binding) (c m : ℕ) → m < cycle_nets (nets net) c → times m (range_with_len (cycle_nets (nets net) c) (fed_count b.k b.words)) ≡ 0
-no_bit net b c m low = absent m (range_with_len (cycle_nets (nets net) c) (fed_count b.k b.words)) (λ has. omega (arith, low, (range_has (cycle_nets (nets net) c) (fed_count b.k b.words) m has).0))
+no_bit net b c m low = times_none m (range_with_len (cycle_nets (nets net) c) (fed_count b.k b.words)) (λ has. omega (arith, low, (range_has (cycle_nets (nets net) c) (fed_count b.k b.words) m has).0))
 
 -- each net of all cycles, and each bit of a fed word, has one driver
 pub one_driver_low : (net : NetList) (b : Binding) (c s n : ℕ) → IsSound net → s ≤ c → n < nets net → times (net_at (nets net) s n) (unrolled_inputs net b c) + times (net_at (nets net) s n) (outs (gates_to net b c c)) ≡ 1

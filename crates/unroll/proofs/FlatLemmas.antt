@@ -4,7 +4,7 @@ use Rattle.std.specs.Prelude.{if◌then◌else◌}
 use Rattle.std.specs.List.{list_any}
 use Rattle.lists.specs.Lists.{Has}
 use Rattle.lists.specs.laws.BoolLaws.{both_true as both, not_true}
-use Rattle.lists.specs.laws.HasLaws.{all_from, All_has}
+use Rattle.lists.specs.laws.HasLaws.{all_from, All_has, any_has, has_any}
 use Rattle.net_core.specs.LatchValue.{LatchValue}
 use Rattle.net_core.specs.NetList.{NetList}
 use Rattle.net_words.specs.Binding.{Binding, HasWidth}
@@ -15,7 +15,6 @@ use Rattle.net_words.specs.declared.bound.BoundWord.{BoundWord}
 use Rattle.net_words.specs.declared.feed.Feed.{Feed}
 use Rattle.net_words.specs.declared.word.Role.{Role}
 use Rattle.net_words.specs.declared.word.Role.TheVariants.{Input, State, Fed, Output}
-use Rattle.net_words.proofs.MemberLemmas.{any_has, has_any}
 use Rattle.unroll.specs.Unrolled.{in_one_cycle, is_empty, is_flat, unrolled}
 use Rattle.unroll.proofs.WordLemmas.{fed_bare}
 

@@ -4,7 +4,7 @@ use Rattle.std.specs.Prelude.{slice_get, ◌==◌}
 use Rattle.std.proofs.lemmas.Option.{slice_get-get_or}
 use Rattle.std.proofs.lemmas.Option.{slice_get_within}
 use Rattle.lists.specs.Lists.{Has}
-use Rattle.lists.specs.laws.HasLaws.{Has_map}
+use Rattle.lists.specs.laws.HasLaws.{Has_map, any_has}
 use Rattle.lists.specs.laws.ReadLaws.{from_map}
 use Rattle.net_core.specs.LatchValue.{LatchValue}
 use Rattle.net_core.specs.NetList.{NetList}
@@ -23,7 +23,7 @@ use Rattle.net_words.specs.declared.feed.Source.{Source}
 use Rattle.net_words.specs.declared.feed.Source.TheVariants.{Zero, One, Bit}
 use Rattle.net_words.specs.declared.word.Role.TheVariants.{Input, State, Output}
 use Rattle.net_words.proofs.FeedLemmas.{fed_has}
-use Rattle.net_words.proofs.MemberLemmas.{any_has, bits_word}
+use Rattle.net_words.proofs.MemberLemmas.{bits_word}
 use Rattle.circuit_model.specs.declared.circuit_feed.FeedSource.{FeedSource}
 use Rattle.circuit_model.specs.Circuit.{Circuit, IsFree, IsInNoWord}
 use Rattle.circuit_model.specs.Feeds.{fed_nets, source_at as job_source_at}

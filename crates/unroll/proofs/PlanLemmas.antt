@@ -1,11 +1,12 @@
 -- What is known while the cycles of a net are laid out.
-use Rattle.std.proofs.Common.{◌≡◌, ◌≢◌, ◌⊎◌, ◌∙◌, ap, sym, refl, subst, inl, inr, ℕ, zero, suc, ◌<◌, ◌≤◌, ◌+◌, ◌-◌, ◌^◌, ◌&&◌, ◌||◌, Bool, true, false, List, [], ◌∷◌, ◌++◌, length, length-append, map, take, drop, Some, get_or, cond, arith, add-one, append_assoc, drop-cons, eq-eqb, get_or-set_other, get_or-set_same}
+use Rattle.std.proofs.Common.{◌≡◌, ◌≢◌, ◌⊎◌, ◌∙◌, ap, sym, refl, subst, inl, inr, ℕ, zero, suc, ◌<◌, ◌≤◌, ◌+◌, ◌-◌, ◌^◌, ◌&&◌, ◌||◌, Bool, true, false, List, [], ◌∷◌, ◌++◌, length, length-append, map, take, drop, Some, get_or, cond, arith, add-one, append_assoc, drop-cons, get_or-set_other, get_or-set_same}
 use Rattle.std.specs.Prelude.{slice_get, ◌==◌, ◌↔◌, Result, Err, IfErr, IsTrue}
 use Rattle.std.proofs.Math.ListN.{set}
-use Rattle.std.proofs.lemmas.Bool.{cases_lt}
+use Rattle.std.proofs.lemmas.Bool.{cases_lt, eq-eqb as both_true}
 use Rattle.std.proofs.lemmas.Bool.Decides.{eqb_tells}
 use Rattle.std.proofs.lemmas.Option.{slice_get_within, slice_get-get_or}
 use Rattle.std.proofs.lemmas.List.FromFn.{get_or-range_with_len}
+use Rattle.std.proofs.Math.Bool.{or-false}
 use Rattle.lists.specs.Lists.{Has}
 use Rattle.lists.specs.laws.HasLaws.{All_has}
 use Rattle.lists.specs.laws.ReadLaws.{get_below, from_map}
@@ -107,9 +108,6 @@ words_step v c k base words w list new whole less made was =
     ∙ (ap (λ (ws : List BoundWord). list ++ nets_of_words v c k (first_bit k base words w) ws) (sym (word_drop words w word got.1)) ∙ was)))
 
 -- ---- sources
-
-both_true : (m n : ℕ) → m ≡ n → (m == n) ≡ true
-both_true m n same = eq-eqb m n same
 
 pub feeds_back : (feeds : List Feed) (i : ℕ) (d : Feed) → 0 < i → i ≤ length feeds → drop (i - 1) feeds ≡ get_or feeds (i - 1) d ∷ drop i feeds
 feeds_back feeds i d some within =
@@ -248,13 +246,9 @@ held_step words w n old was new word got before made =
     join true y z = refl
     join false y z = refl
 
-    off : (x : Bool) → (x || false) ≡ x
-    off true = refl
-    off false = refl
-
     more : (us : List BoundWord) (i : ℕ) → slice_get us i ≡ Some word → in_word State (take (suc i) us) n ≡ (in_word State (take i us) n || (same_role word.role State && stands_in word.nets n))
     more [] i at = absurd (cc)
-    more (u ∷ us) zero at = let same : u ≡ word = cc in ap (λ (v : BoundWord). (same_role v.role State && stands_in v.nets n) || false) same ∙ off (same_role word.role State && stands_in word.nets n)
+    more (u ∷ us) zero at = let same : u ≡ word = cc in ap (λ (v : BoundWord). (same_role v.role State && stands_in v.nets n) || false) same ∙ or-false (same_role word.role State && stands_in word.nets n)
     more (u ∷ us) (suc i) at = ap (λ r. (same_role u.role State && stands_in u.nets n) || r) (more us i at) ∙ sym (join (same_role u.role State && stands_in u.nets n) (in_word State (take i us) n) (same_role word.role State && stands_in word.nets n))
 
 -- ---- faults

@@ -12,7 +12,6 @@ use Rattle.net_core.specs.NetList.{NetList, nets}
 use Rattle.net_core.specs.Sound.{IsSound}
 use Rattle.net_core.specs.Value.{bit_of, index_of, IsConsistent, IsRight}
 use Rattle.net_core.proofs.DriverLemmas.{gate_inside}
-use Rattle.net_core.specs.declared.latch.Start.{Start}
 use Rattle.net_core.specs.declared.latch.Start.TheVariants as starts
 use Rattle.net_words.specs.Binding.{Binding}
 use Rattle.net_words.specs.BoundTo.{IsBoundTo}
@@ -31,7 +30,7 @@ use Rattle.unroll.specs.private.Plan.{net_count}
 use Rattle.unroll.proofs.PlaceLemmas.{at_below, at_cycle, at_net, below, below_high, below_low, bit_high, first_at}
 use Rattle.unroll.proofs.LaidLemmas.{IsLaid, laid, of_feed, of_gate, of_input, of_latch, of_start}
 use Rattle.unroll.proofs.CountLemmas.{nets_long}
-use Rattle.unroll.proofs.SoundLemmas.{at_count, bound_source, source_bit}
+use Rattle.unroll.proofs.SoundLemmas.{at_count, bound_source, source_bit, start_small}
 use Rattle.unroll.proofs.FedBitLemmas.{fed_at, fed_list}
 
 -- the bits of cycle t
@@ -132,17 +131,12 @@ module _ (net : NetList) (b : Binding) (c : ℕ) (run : List (List Bool)) (ds : 
       buffer_right (all_bits net b c run ds) (net_at (nets net) (s + 1) l.out) (net_at (nets net) s l.next) (bit_in_cycle net b c run ds (s + 1) l.out up is.1 ∙ (rows.next s l less has ∙ sym (bit_in_cycle net b c run ds s l.next here is.0)))
   laid_right g (of_start l has free) =
       let is = All_has (LatchIsInside (nets net)) net.latches l sound.inside.latches has in
-      constant_right (all_bits net b c run ds) l.out (start_bit l.start) (bit_of_first net b c run ds l.out is.1 ∙ (rows.started l has free ∙ table (start_bit l.start) (small l.start)))
+      constant_right (all_bits net b c run ds) l.out (start_bit l.start) (bit_of_first net b c run ds l.out is.1 ∙ (rows.started l has free ∙ table (start_bit l.start) (start_small l.start)))
     where
       table : (bit : ℕ) → bit < 2 → (bit == 1) ≡ (bit_at bit 0 == 1)
       table zero less = refl
       table (suc zero) less = refl
       table (suc (suc bit)) less = absurd (omega arith)
-
-      small : (start : Start) → start_bit start < 2
-      small starts.Zero = omega arith
-      small starts.One = omega arith
-      small starts.Unknown = omega arith
   laid_right g (of_gate s h within has) =
       let is = gate_inside net h sound.inside has in
       let low : (n : ℕ) → Has h.inputs n → n < nets net = λ n in_h. All_has (λ m. m < nets net) h.inputs n is.1 in_h in

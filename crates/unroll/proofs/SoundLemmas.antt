@@ -4,10 +4,10 @@ use Rattle.std.specs.Prelude.{◌==◌, ◌&&◌, if◌then◌else◌}
 use Rattle.std.specs.List.{filter, range_with_len}
 use Rattle.std.proofs.lemmas.Bool.{cases_lt}
 use Rattle.lists.specs.Lists.{Has, times}
-use Rattle.lists.specs.laws.HasLaws.{all_from, All_has, Has_cases, times_append}
+use Rattle.lists.specs.laws.HasLaws.{all_from, All_has, Has_cases, times_append, range_has}
 use Rattle.lists.specs.laws.ListLaws.{length_map as map-long}
 use Rattle.lists.specs.laws.ReadLaws.{from_map}
-use Rattle.graph_core.specs.Walk.{IsChain, IsCycleBy}
+use Rattle.graph_core.proofs.SharedLemmas.{no_cycle_by}
 use Rattle.net_core.specs.GateValue.{GateValue}
 use Rattle.net_core.specs.LatchValue.{LatchValue}
 use Rattle.net_core.specs.Inside.{GateIsInside, IsInside, LatchIsInside}
@@ -38,7 +38,7 @@ use Rattle.unroll.specs.private.Plan.{net_count}
 use Rattle.unroll.proofs.PlaceLemmas.{at_below, at_cycle, at_net, below, below_high, below_low, bit_high, bit_within, first_at, placed}
 use Rattle.unroll.proofs.LaidLemmas.{IsLaid, has_filter, laid, of_feed, of_gate, of_input, of_latch, of_start}
 use Rattle.unroll.proofs.CountLemmas.{all_unnamed, nets_long}
-use Rattle.unroll.proofs.DrivenLemmas.{has_shift, one_driver_high, one_driver_low, outs, range_has}
+use Rattle.unroll.proofs.DrivenLemmas.{has_shift, one_driver_high, one_driver_low, outs}
 
 -- ---- sources
 
@@ -64,7 +64,7 @@ bound_source net b n t bound = source_is b.k (map (λ word. word.role) b.words) 
 
 -- ---- all stands on nets that exist
 
-start_small : (start : Start) → start_bit start < 2
+pub start_small : (start : Start) → start_bit start < 2
 start_small starts.Zero = omega arith
 start_small starts.One = omega arith
 start_small starts.Unknown = omega arith
@@ -188,7 +188,7 @@ rank_here v c levels t n within less =
 rank_bit : (v c : ℕ) (levels : Levels) (m : ℕ) → cycle_nets v c ≤ m → rank v c levels m ≡ 0
 rank_bit v c levels m high = below_high m (cycle_nets v c) (m / v * (total levels + 1) + rank_at levels (m % v) + 1) 0 high
 
-one_of : (x y : ℕ) → Has (y ∷ []) x → y ≡ x
+pub one_of : (x y : ℕ) → Has (y ∷ []) x → y ≡ x
 one_of x y (zero, got) = cc
 one_of x y (suc i, got) = absurd (cc)
 
@@ -225,14 +225,6 @@ falls net b c levels g x sound all (of_gate s h within has) input =
     let from = has_shift (nets net) s h.inputs x input in
     let low : from.0 < nets net = All_has (λ n. n < nets net) h.inputs from.0 is.1 from.1 in
     omega (arith, ap (rank (nets net) c levels) from.2, rank_here (nets net) c levels s from.0 within low, rank_here (nets net) c levels s h.out within is.0, inputs_below net levels all h has from.0 from.1)
-
-chain_falls : (R : ℕ → ℕ → Type 0) (f : ℕ → ℕ) → ((a b : ℕ) → R a b → f b < f a) → (a : ℕ) (over : List ℕ) (b : ℕ) → IsChain R a over b → f b < f a
-chain_falls R f each a [] b chain = each a b chain
-chain_falls R f each a (m ∷ over) b chain = omega (arith, each a m chain.0, chain_falls R f each m over b chain.1)
-
-no_cycle_by : (R : ℕ → ℕ → Type 0) (f : ℕ → ℕ) → ((a b : ℕ) → R a b → f b < f a) → (cycle : List ℕ) → IsCycleBy R cycle → ⊥
-no_cycle_by R f each [] cycle = cycle
-no_cycle_by R f each (a ∷ rest) cycle = omega (arith, chain_falls R f each a rest a cycle)
 
 pub no_cycle : (net : NetList) (b : Binding) (c : ℕ) → IsSound net → HasCycle (all_cycles net b c) → ⊥
 no_cycle net b c sound cycle =

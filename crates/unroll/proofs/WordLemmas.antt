@@ -1,12 +1,12 @@
 -- The words of the unrolled net.
-use Rattle.std.proofs.Common.{◌≡◌, ◌⊎◌, ◌∙◌, ap, sym, refl, subst, inl, inr, ℕ, zero, suc, ◌<◌, ◌≤◌, ◌+◌, ◌*◌, Bool, true, false, not, List, [], ◌∷◌, ◌++◌, length, length-append, map, take, drop, Some, arith, All, mul-suc}
-use Rattle.std.specs.Prelude.{◌&&◌}
+use Rattle.std.proofs.Common.{◌≡◌, ◌⊎◌, ◌∙◌, ap, sym, refl, subst, inl, inr, ℕ, suc, ◌<◌, ◌≤◌, ◌+◌, ◌*◌, Bool, true, false, not, List, [], ◌∷◌, ◌++◌, length, length-append, map, take, drop, arith, All, mul-suc}
 use Rattle.std.specs.List.{filter, range_with_len}
 use Rattle.std.proofs.Math.Seq.{take-append_seam, drop-append_seam}
 use Rattle.std.proofs.lemmas.Bool.{cases_lt}
 use Rattle.std.proofs.lemmas.List.FromFn.{length-range_with_len}
 use Rattle.lists.specs.Lists.{Has, times}
-use Rattle.lists.specs.laws.HasLaws.{all_from, All_has, Has_cases, Has_left, Has_map, Has_right, times_append}
+use Rattle.lists.specs.laws.BoolLaws.{and_made}
+use Rattle.lists.specs.laws.HasLaws.{all_from, All_has, Has_cases, Has_left, Has_map, Has_right, times_append, any_has, has_range, times_none, range_has, range_once}
 use Rattle.lists.specs.laws.ListLaws.{length_map as map-long}
 use Rattle.lists.specs.laws.ReadLaws.{from_map}
 use Rattle.net_core.specs.Inside.{LatchIsInside}
@@ -24,14 +24,15 @@ use Rattle.net_words.specs.declared.feed.Feed.{Feed}
 use Rattle.net_words.specs.declared.word.Role.{Role}
 use Rattle.net_words.specs.declared.word.Role.TheVariants.{Input, State, Fed, Output}
 use Rattle.net_words.proofs.FeedLemmas.{fed_has}
-use Rattle.net_words.proofs.MemberLemmas.{any_has, bits_word, has_stands}
+use Rattle.net_words.proofs.MemberLemmas.{bits_word, has_stands}
+use Rattle.net_words.proofs.SharedLemmas.{same_self}
 use Rattle.unroll.specs.Gates.{is_held}
 use Rattle.unroll.specs.Nets.{all_cycles, unrolled_inputs}
 use Rattle.unroll.specs.Places.{net_at, cycle_nets, fed_bits, fed_count}
 use Rattle.unroll.specs.Unrolled.{nets_of_words, nets_with, unrolled_nets}
 use Rattle.unroll.specs.private.Plan.{net_count}
 use Rattle.unroll.proofs.CountLemmas.{nets_long}
-use Rattle.unroll.proofs.DrivenLemmas.{absent, has_shift, range_has, range_once}
+use Rattle.unroll.proofs.DrivenLemmas.{has_shift}
 use Rattle.unroll.proofs.LaidLemmas.{filter_has}
 use Rattle.unroll.proofs.SoundLemmas.{at_count, low_count}
 
@@ -93,14 +94,6 @@ bits_up v c k base n (word ∷ words) none has =
     own Fed is has = let P : List ℕ → Type 0 = λ ns. Has ns n in let got = (subst P (none word (0, refl) is) has).1 in absurd (cc)
     own Output is has = has
 
-range_in : (a k n : ℕ) → a ≤ n → n < a + k → Has (range_with_len a k) n
-range_in a zero n low high = absurd (omega arith)
-range_in a (suc k) n low high =
-    elim (cases_lt a n) [
-      | inl less ↦ let rest = range_in (a + 1) k n (omega (arith, less)) (omega (arith, high)) in (suc rest.0, rest.1)
-      | inr more ↦ let same : a ≡ n = omega (arith, low, more) in (0, ap Some same)
-    ]
-
 -- each bit of a fed word is one
 pub bits_fed : (v c k base n : ℕ) (words : List BoundWord) → base ≤ n → n < base + fed_count k words → Has (bits (moved v c k base words)) n
 bits_fed v c k base n [] low high = absurd (omega arith)
@@ -112,7 +105,7 @@ bits_fed v c k base n (word ∷ words) low high = by word.role (bits_fed v c k (
     by Output rest high = rest (omega (arith, low)) (omega (arith, high))
     by Fed rest high =
         elim (cases_lt n (base + k)) [
-          | inl less ↦ Has_left (range_with_len base k) (bits (moved v c k (base + k) words)) n (range_in base k n low less)
+          | inl less ↦ Has_left (range_with_len base k) (bits (moved v c k (base + k) words)) n (has_range base k n low less)
           | inr more ↦ Has_right (range_with_len base k) (bits (moved v c k (base + k) words)) n (rest more (omega (arith, high)))
         ]
 
@@ -145,7 +138,7 @@ low_times v c k base n (word ∷ words) low none =
     own Input is = refl
     own State is = refl
     own Output is = refl
-    own Fed is = omega (arith, absent n (range_with_len base k) (λ has. omega (arith, low, (range_has base k n has).0)), ap (times n) (none word (0, refl) is))
+    own Fed is = omega (arith, times_none n (range_with_len base k) (λ has. omega (arith, low, (range_has base k n has).0)), ap (times n) (none word (0, refl) is))
 
 -- a net that no word has stands once at most
 high_times : (v c k base n : ℕ) (words : List BoundWord) → times n (bits words) ≡ 0 → ((word : BoundWord) → Has words word → word.role ≡ Fed → word.nets ≡ []) → times n (bits (moved v c k base words)) ≤ 1
@@ -161,16 +154,16 @@ high_times v c k base n (word ∷ words) free none =
     by Fed rest low own later =
         elim (cases_lt n (base + k)) [
           | inl less ↦ omega (arith, times_append n (range_with_len base k) (bits (moved v c k (base + k) words)), low less, later, range_most n)
-          | inr more ↦ omega (arith, times_append n (range_with_len base k) (bits (moved v c k (base + k) words)), rest, absent n (range_with_len base k) (λ has. omega (arith, more, (range_has base k n has).1)))
+          | inr more ↦ omega (arith, times_append n (range_with_len base k) (bits (moved v c k (base + k) words)), rest, times_none n (range_with_len base k) (λ has. omega (arith, more, (range_has base k n has).1)))
         ]
       where
         range_most : (m : ℕ) → times m (range_with_len base k) ≤ 1
         range_most m =
             elim (cases_lt m base) [
-              | inl under ↦ omega (arith, absent m (range_with_len base k) (λ has. omega (arith, under, (range_has base k m has).0)))
+              | inl under ↦ omega (arith, times_none m (range_with_len base k) (λ has. omega (arith, under, (range_has base k m has).0)))
               | inr over ↦ elim (cases_lt m (base + k)) [
                 | inl inside ↦ omega (arith, range_once base k m over inside)
-                | inr past ↦ omega (arith, absent m (range_with_len base k) (λ has. omega (arith, past, (range_has base k m has).1)))
+                | inr past ↦ omega (arith, times_none m (range_with_len base k) (λ has. omega (arith, past, (range_has base k m has).1)))
               ]
             ]
 
@@ -188,16 +181,7 @@ pub stood : (net : NetList) (b : Binding) (word : BoundWord) (n : ℕ) (r : Role
 stood net b word n r bound has in_w is = let P : Role → Type 0 = λ q. StandsOn net q n in subst P is (bound.places word n has in_w)
 
 pub in_some : (words : List BoundWord) (word : BoundWord) (n : ℕ) (r : Role) → Has words word → Has word.nets n → word.role ≡ r → in_word r words n ≡ true
-in_some words word n r has in_w is = any_has _ words word has (both (same_role word.role r) _ (ap (λ q. same_role q r) is ∙ same r) (has_stands word.nets n in_w))
-  where
-    both : (x y : Bool) → x ≡ true → y ≡ true → (x && y) ≡ true
-    both x y one two = ap (λ z. z && y) one ∙ two
-
-    same : (q : Role) → same_role q q ≡ true
-    same Input = refl
-    same State = refl
-    same Fed = refl
-    same Output = refl
+in_some words word n r has in_w is = any_has _ words word has (and_made (same_role word.role r) _ (ap (λ q. same_role q r) is ∙ same_self r) (has_stands word.nets n in_w))
 
 bit_low : (net : NetList) (b : Binding) (n : ℕ) → IsSound net → IsBoundTo net b → Has (bits b.words) n → n < nets net
 bit_low net b n sound bound has =
@@ -215,7 +199,7 @@ bits_once : (net : NetList) (b : Binding) (c n : ℕ) → IsSound net → IsBoun
 bits_once net b c n sound bound =
     elim (cases_lt n (cycle_nets (nets net) c)) [
       | inl low ↦ omega (arith, low_times (nets net) c b.k (cycle_nets (nets net) c) n b.words low (fed_bare net b bound), bound.once n)
-      | inr high ↦ high_times (nets net) c b.k (cycle_nets (nets net) c) n b.words (absent n (bits b.words) (λ has. omega (arith, high, bit_low net b n sound bound has))) (fed_bare net b bound)
+      | inr high ↦ high_times (nets net) c b.k (cycle_nets (nets net) c) n b.words (times_none n (bits b.words) (λ has. omega (arith, high, bit_low net b n sound bound has))) (fed_bare net b bound)
     ]
 
 -- an input word's net is not fed
@@ -248,7 +232,7 @@ bits_inputs net b c n bound has =
             let P : ℕ → Type 0 = λ m. Has states m in
             Has_right free (states ++ range) n (Has_left states range n (subst P from.2 (Has_map (λ (l : LatchValue). l.out) (filter (is_held b) net.latches) from.0 (filter_has (is_held b) net.latches from.0 (stands.0, from.1) held))))
       ]
-      | inr within ↦ Has_right free (states ++ range) n (Has_right states range n (range_in (cycle_nets (nets net) c) (fed_count b.k b.words) n within.0 within.1))
+      | inr within ↦ Has_right free (states ++ range) n (Has_right states range n (has_range (cycle_nets (nets net) c) (fed_count b.k b.words) n within.0 within.1))
     ]
 
 -- each net of a word exists

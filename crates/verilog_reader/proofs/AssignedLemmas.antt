@@ -8,7 +8,7 @@ use Rattle.net_core.specs.declared.fault.NetFault.{NetFault}
 use Rattle.net_verilog.specs.Tokens.{TokenValue, is_end, tokens_of}
 use Rattle.net_verilog.specs.Words.{next_of, wrong}
 use Rattle.net_verilog.specs.Targets.{target_of}
-use Rattle.net_verilog.specs.Tree.{Tree, Net, Literal, Group, Not, Binary, IsWell, Spells, level, nesting}
+use Rattle.net_verilog.specs.Tree.{Tree, Net, IsWell, Spells, nesting}
 use Rattle.net_verilog.specs.Made.{driven, made, mentioned}
 use Rattle.net_verilog.specs.Value.{Agrees, Covers}
 use Rattle.net_verilog.specs.Expression.{Expression, Read, binding, binding_at, continues, goes_on}
@@ -25,6 +25,7 @@ use Rattle.net_verilog.specs.declared.fault.VerilogFault.{VerilogFault}
 use Rattle.net_verilog.specs.declared.fault.VerilogFault.TheVariants as faults
 use Rattle.net_verilog.proofs.ExpressionDetermined.{expression_determined}
 use Rattle.net_verilog.proofs.KeepLemmas.{covers_more, driven_covers, mention_covers}
+use Rattle.net_verilog.proofs.StandLemmas.{level_few}
 use Rattle.net_verilog.proofs.StatementDetermined.{assigns_determined}
 use Rattle.net_verilog.proofs.TreeLemmas.{made_covers, target_value}
 use Rattle.verilog_reader.specs.Items.{Item, Items, ItemsOf, ReadsAssignments, ReadsItem, State}
@@ -50,16 +51,6 @@ same_answer {A} {F} r a b h k = value (h ∙ k)
     value : ◌≡◌ {A = Result A F} (Ok a) (Ok b) → a ≡ b
     value e = cc
 
-level_small : (tree : Tree) → level tree ≤ 3
-level_small (Net name) = omega arith
-level_small (Literal line bit) = omega arith
-level_small (Group inner) = omega arith
-level_small (Not line inner) = omega arith
-level_small (Binary line operators.And left right) = omega arith
-level_small (Binary line operators.Xor left right) = omega arith
-level_small (Binary line operators.Xnor left right) = omega arith
-level_small (Binary line operators.Or left right) = omega arith
-
 ends_loose : (tokens : List TokenValue) → continues tokens ≡ false → 3 ≤ binding_at tokens
 ends_loose [] ends = omega arith
 ends_loose (t ∷ ts) ends = by (next_of t) ends
@@ -79,7 +70,7 @@ module _ (declared : Declarations) (net : NetList) (tokens : List TokenValue) (r
           let same : read ≡ record { net = p.0; driver = p.1; rest = rest } = same_ok (Expression declared net tokens) (expression_determined declared net tokens) read (record { net = p.0; driver = p.1; rest = rest }) reads (tree, spells, well, flat, ends, is) in
           ap Ok (λ i. ((sym same i).net, (sym same i).driver))
       by (Err refusal) is =
-          let refuses : Expression declared net tokens (Err (faults.Net refusal)) = inr (inr (refusal, inr ([], tree, tokens, rest, (net, []), refl, tt, spells, well, level_small tree, omega (arith, level_small tree, ends_loose rest ends), omega (arith, flat), refl, is), refl)) in
+          let refuses : Expression declared net tokens (Err (faults.Net refusal)) = inr (inr (refusal, inr ([], tree, tokens, rest, (net, []), refl, tt, spells, well, level_few tree, omega (arith, level_few tree, ends_loose rest ends), omega (arith, flat), refl, is), refl)) in
           let wrong = expression_determined declared net tokens (Ok read) (Err (faults.Net refusal)) reads refuses in
           absurd (cc)
 

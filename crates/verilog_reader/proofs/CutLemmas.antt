@@ -4,9 +4,9 @@ use Rattle.std.proofs.lemmas.List.{length-take-le as taken_length}
 use Rattle.lists.specs.laws.TakeLaws.{front_of as front}
 use Rattle.text_core.specs.Numbers.{IsDecimal, value_of}
 use Rattle.net_verilog.specs.Declarations.{Declarations, bit_name, range_of}
+use Rattle.text_core.proofs.WrittenLemmas.{decimal_back}
 use Rattle.verilog_reader.specs.Declares.{HasShortNames, Meets}
 use Rattle.verilog_reader.specs.private.Meets.{AreShort, Decides, HasScalar, IsBit, IsFound, IsMet}
-use Rattle.verilog_reader.proofs.NumeralLemmas.{printed_value}
 use Rattle.verilog_reader.proofs.NameLemmas.{longer, name_split, same_vector}
 
 behind_one : (xs ys : List ℕ) (b : ℕ) → drop (suc (length xs)) (xs ++ b ∷ ys) ≡ ys
@@ -23,12 +23,12 @@ middle name before cut i same at =
     (λ j. take (long j) (rest j)) ∙ front (decimal i) (93 ∷ [])
 
 pub index_found : (name before : List ℕ) (cut i index : ℕ) → i ≤ 4294967295 → length before ≡ cut → name ≡ bit_name before i → IsDecimal (take (length name - 1 - (cut + 1)) (drop (cut + 1) name)) index → ◌≡◌ {A = Option ℕ} (Some index) (Some i)
-index_found name before cut i index few at same found = ap Some (found.1 ∙ ap (value_of 10) (middle name before cut i same at) ∙ sym (printed_value i (omega (arith, few))).1)
+index_found name before cut i index few at same found = ap Some (found.1 ∙ ap (value_of 10) (middle name before cut i same at) ∙ sym (decimal_back i (omega (arith, few))).1)
 
 pub index_none : (name before : List ℕ) (cut i : ℕ) → i ≤ 4294967295 → length before ≡ cut → name ≡ bit_name before i → ((n : ℕ) → IsDecimal (take (length name - 1 - (cut + 1)) (drop (cut + 1) name)) n → n ≤ 4294967295 → ⊥) → ⊥
 index_none name before cut i few at same none =
     let P : List ℕ → Type 0 = λ s. IsDecimal s i in
-    none i (subst P (sym (middle name before cut i same at)) (printed_value i (omega (arith, few)))) few
+    none i (subst P (sym (middle name before cut i same at)) (decimal_back i (omega (arith, few)))) few
 
 module _ (declared : Declarations) (name : List ℕ) where
   bit_meets : IsBit declared name → Meets declared None name

@@ -6,12 +6,12 @@ use Rattle.std.proofs.lemmas.List.Elements.{All-append, All-weaker}
 use Rattle.lists.specs.laws.HasLaws.{Has_left}
 use Rattle.outcome.specs.Steps.{on_value}
 use Rattle.text_core.specs.Lines.{IsPrinting}
-use Rattle.net_core.specs.NetList.{LabelValue, NetList, nets, number_from, number_of, is_named, with_gate, with_label, with_name}
+use Rattle.net_core.specs.NetList.{LabelValue, NetList, nets, number_of, with_gate, with_label, with_name}
 use Rattle.net_core.specs.GateValue.{GateValue}
 use Rattle.net_core.specs.declared.fault.NetFault.{NetFault}
 use Rattle.net_core.specs.declared.fault.NetFault.TheVariants as nets_faults
 use Rattle.net_core.proofs.DriverLemmas.{DriveNets}
-use Rattle.net_core.proofs.NameLemmas.{fresh_after}
+use Rattle.net_core.proofs.NameLemmas.{fresh_after, number_below}
 use Rattle.net_verilog.specs.Value.{Covers}
 use Rattle.net_verilog.specs.Made.{driven, fresh_driven, inputs_of, made, mentioned, opened, settled, table_of, with_gate_of}
 use Rattle.net_verilog.specs.Tree.{Tree, Net, Literal, Group, Not, Binary, Cut, InGroup, InNot, InRight}
@@ -72,14 +72,6 @@ module _ (net : NetList) (text : List ℕ) (named : Bool) where
       by : (list : List LabelValue) → AllByRecursion (λ (l : LabelValue). IsPrinting l.text) list → AllByRecursion (λ (l : LabelValue). IsPrinting l.text) (list ++ record { text = text; named = named } ∷ [])
       by [] all = (shown, tt)
       by (l ∷ list) all = (all.0, by list all.1)
-
-number_below : (n : ℕ) (labels : List LabelValue) (name : List ℕ) (k : ℕ) → number_from n labels name ≡ Some k → k < n + length labels
-number_below n [] name k is = absurd (cc)
-number_below n (l ∷ labels) name k is = by (is_named name l) (λ e. number_below (n + 1) labels name k e) is
-  where
-    by : (b : Bool) → (number_from (n + 1) labels name ≡ Some k → k < n + 1 + length labels) → cond b (Some n) (number_from (n + 1) labels name) ≡ Some k → k < n + suc (length labels)
-    by true later e = let same : n ≡ k = cc in omega (arith, same)
-    by false later e = omega (arith, later e)
 
 -- a net that is made or found, and its number
 abbrev pub GrowsTo : NetList → NetList × ℕ → Type 0

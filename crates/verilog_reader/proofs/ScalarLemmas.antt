@@ -5,6 +5,7 @@ use Rattle.std.specs.Str.{bytes_eq}
 use Rattle.std.specs.Map.{lookup}
 use Rattle.std.specs.Cmp.Lexicographic.{bytes_decides}
 use Rattle.lists.specs.Lists.{Has}
+use Rattle.lists.specs.laws.BoolLaws.{same_twice, apart_twice}
 use Rattle.indexmap.specs.IndexMap.{insert_entry}
 use Rattle.verilog_reader.specs.private.Listed.{IsKept, Lists, items_or, list_at, named_lists, put_list}
 
@@ -25,15 +26,6 @@ list_inserted {X} {Y} (e ∷ es) key list = by (string_eq key e.0) (list_inserte
     by : (b : Bool) → named_lists (insert_entry string_eq es key list) ≡ put_list (string_bytes key) list.items (named_lists es) → named_lists (if b then (e.0, list) ∷ es else e ∷ insert_entry string_eq es key list) ≡ (if b then (string_bytes e.0, list.items) ∷ named_lists es else (string_bytes e.0, e.1.items) ∷ put_list (string_bytes key) list.items (named_lists es))
     by true more = refl
     by false more = ap (λ rest. (string_bytes e.0, e.1.items) ∷ rest) more
-
-same_twice : {A : Type 0} (b : Bool) (x y z : A) → (if b then x else z) ≡ (if b then x else (if b then y else z))
-same_twice true x y z = refl
-same_twice false x y z = refl
-
-apart_twice : {A : Type 0} (a b : Bool) (x y z : A) → (a ≡ true → b ≡ true → ⊥) → (if a then x else (if b then y else z)) ≡ (if b then y else (if a then x else z))
-apart_twice true true x y z apart = absurd (apart refl refl)
-apart_twice true false x y z apart = refl
-apart_twice false b x y z apart = refl
 
 -- the list of a name after one was put
 pub list_put_at : (name q xs : List ℕ) (lists : Lists) → list_at (put_list name xs lists) q ≡ (if bytes_eq q name then xs else list_at lists q)

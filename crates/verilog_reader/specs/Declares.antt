@@ -19,7 +19,7 @@ use Rattle.net_verilog.specs.declared.fault.VerilogFault.TheVariants.{Syntax, Re
 abbrev pub HasShortNames : List ℕ → Range → Type 0
 HasShortNames name range = (net : List ℕ) → IsNetOf name range net → length net ≤ 255
 
--- the same range; a scalar has none
+-- both are the same range; a scalar has none
 abbrev pub is_same_range : Range → Range → Bool
 is_same_range None None = true
 is_same_range (Some (a, b)) (Some (c, d)) = (a == c) && (b == d)

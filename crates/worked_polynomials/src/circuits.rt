@@ -36,7 +36,7 @@ fn net_of(alloc: Global, text: &[u8]) -> Option<Net> {
     }
 }
 
-// The same of a text that has one.
+// The net of a model in BLIF that has one.
 pub(crate) fn net(rt: &impl Abort, alloc: Global, text: &[u8]) -> Net {
     net_of(alloc, text).expect(rt, "a net")
 }

@@ -92,7 +92,7 @@ fn of_last_cut<F: Field>(
     }
 }
 
-// The same of the conjunction.
+// Whether the stages of the last cut of the conjunction have these sizes.
 fn of_conjunction<F: Field>(alloc: Global, field: &F, net: &Net) -> Result<bool, AllocError> {
     if field.k() != 2 {
         return Ok(false);

@@ -6,6 +6,7 @@ ghost use Rattle.poly_mixed.specs.Polynomial.{IsReduced};
 ghost use Rattle.circuit_model.specs.Flat.{AreOver};
 ghost use Rattle.job_input.specs.Setting.{AreBasesOver};
 
+use abstraction::{bits_poly, words_poly};
 use circuit_model::{CircuitWord, output, output_basis};
 use gf_basis::Basis;
 use gf_field::{Field, first_outside, is_element};
@@ -15,7 +16,6 @@ use poly_mixed::{NoSteps, Poly, ReduceFault, Stage, Term, constant, scaled_bit, 
 use rato_reduce::reduce_bits;
 use std::alloc::{AllocError, Global};
 use std::process::Abort;
-use word_subst::to_words;
 
 /// The polynomial of the output in the bits of the words.
 pub fn in_bits<F: Field>(
@@ -47,15 +47,14 @@ fn in_words<F: Field>(
     requires long { length bases.now ≡ length circuit.now.binding.words }
     ensures { IfOk result (λ q. IsReduced (F.degree field.now) q.terms) }
 {
-    let basis = output_basis(circuit.binding(), bases);
-    let bits = match reduce_bits(alloc, field, circuit, basis, u32::MAX, &mut NoSteps) {
+    let bits = match bits_poly(alloc, field, circuit, bases, u32::MAX, &mut NoSteps) {
         Ok(bits) => bits,
         Err(fault) => return Err(fault),
     };
-    to_words(alloc, field, circuit, bases, bits, bound, &mut NoSteps)
+    words_poly(alloc, field, circuit, bases, bits, bound, &mut NoSteps)
 }
 
-/// The same, where the words are checked to fit.
+/// The polynomial in words of a circuit, where the words are checked to fit.
 pub fn poly_in_words<F: Field>(
     rt: &impl Abort,
     alloc: Global,
@@ -112,7 +111,7 @@ fn term_anew<F: Field>(
     Ok(product)
 }
 
-// The same polynomial, made anew out of its terms.
+// A copy of a polynomial, made anew out of its terms.
 fn anew<F: Field>(
     rt: &impl Abort,
     alloc: Global,

@@ -21,7 +21,7 @@ use std::alloc::{AllocError, Global};
 use std::process::Abort;
 use std::test::Fail;
 
-// The same basis, made anew out of its elements.
+// A copy of a basis, made anew out of its elements.
 fn anew<F: Field>(
     rt: &impl Abort,
     alloc: Global,
@@ -163,7 +163,7 @@ fn check_over<F: Field>(
     )
 }
 
-// The same of the texts of a signature and a netlist.
+// Compares the stages of the texts of a signature and a netlist.
 fn check(
     rt: &impl Abort,
     alloc: Global,

@@ -10,7 +10,7 @@ use Rattle.gf_field.specs.laws.RingLaws.{distrib_left}
 use mathlib.Core.Path.{fun_ext}
 
 -- a sum of the first values, the first taken apart
-sum_of_first_open : (m : ℕ) (f : ℕ → ℕ) → sum_of_first (suc m) f ≡ bit_xor (f 0) (sum_of_first m (rest f))
+pub sum_of_first_open : (m : ℕ) (f : ℕ → ℕ) → sum_of_first (suc m) f ≡ bit_xor (f 0) (sum_of_first m (rest f))
 sum_of_first_open zero f = xor_comm 0 (f 0)
 sum_of_first_open (suc m) f = ap (λ x. bit_xor x (f (suc m))) (sum_of_first_open m f) ∙ xor_assoc (f 0) (sum_of_first m (rest f)) (f (suc m))
 

@@ -2,7 +2,8 @@
 use Rattle.std.proofs.Common.{◌≡◌, ℕ, zero, suc, refl, sym, ◌∙◌, ap, ap₂, ◌+◌, inl, inr, arith, pow_pos, eq-or-lt_of_le, zero-add}
 use Rattle.std.specs.Prelude.{bit_xor}
 use Rattle.std.specs.Int.Bits.{xor_self, xor_lt, xor_zero_l, xor_zero_r}
-use Rattle.lists.specs.laws.XorLaws.{xor_cross}
+use Rattle.std.proofs.Math.Nat.{suc-add}
+use Rattle.lists.specs.laws.XorLaws.{xor_drop_pair}
 use mathlib.Core.Path.{fun_ext}
 use Rattle.gf_field.specs.Ring.{IsRing}
 use Rattle.gf_field.specs.laws.FieldLaws.{HasInverse}
@@ -33,13 +34,10 @@ module _ (n : ℕ) (mul : ℕ → ℕ → ℕ) (ring : IsRing n mul) where
       at zero = xor_zero_r (mul (f 0) (g 0))
       at (suc x) = xor_zero_r (mul (f 0) (g (suc x)))
   convolution_top (suc i) j f g ef eg =
-      ap (convolution mul f g) (moved i j)
+      ap (convolution mul f g) (suc-add i j)
       ∙ ap (λ x. bit_xor x (convolution mul (rest f) g (i + j))) (ap (mul (f 0)) (eg (suc (i + j)) (omega arith)) ∙ mul_zero n mul ring (f 0))
       ∙ xor_zero_l (convolution mul (rest f) g (i + j))
       ∙ convolution_top i j (rest f) g (λ x h. ef (suc x) (omega arith)) eg
-    where
-      moved : (i j : ℕ) → suc i + j ≡ suc (i + j)
-      moved i j = omega arith
 
   pub convolution_ends : (i j : ℕ) (f g : ℕ → ℕ) → EndsAt i f → EndsAt (suc j) g → EndsAt (i + j) (convolution mul f g)
   convolution_ends zero j f g ef eg x h = ap (λ p. convolution mul p g x) (fun_ext (λ i. ef i (omega arith))) ∙ convolution_none n mul ring g x
@@ -116,9 +114,6 @@ module _ (n : ℕ) (mul : ℕ → ℕ → ℕ) (ring : IsRing n mul) where
               | inr less ↦ ap₂ bit_xor (ap (mul c) (eu (suc i) less) ∙ mul_zero n mul ring c) (d.remainder_ends i (omega arith)) ∙ xor_self 0
             ]
 
-            drop_pair : (a b e : ℕ) → bit_xor (bit_xor a b) (bit_xor a e) ≡ bit_xor b e
-            drop_pair a b e = xor_cross a b a e ∙ ap (λ x. bit_xor x (bit_xor b e)) (xor_self a) ∙ xor_zero_l (bit_xor b e)
-
             whole : (i : ℕ) → plus (plus (times mul c u) (shift (convolution mul d.factor u))) left i ≡ f i
-            whole zero = drop_pair (mul c (u 0)) 0 (bit_xor 0 (f 0)) ∙ xor_zero_l (bit_xor 0 (f 0)) ∙ xor_zero_l (f 0)
-            whole (suc i) = drop_pair (mul c (u (suc i))) (convolution mul d.factor u i) (bit_xor (d.remainder i) 0) ∙ ap (bit_xor (convolution mul d.factor u i)) (xor_zero_r (d.remainder i)) ∙ sym (ap (λ g. g i) d.is)
+            whole zero = xor_drop_pair (mul c (u 0)) 0 (bit_xor 0 (f 0)) ∙ xor_zero_l (bit_xor 0 (f 0)) ∙ xor_zero_l (f 0)
+            whole (suc i) = xor_drop_pair (mul c (u (suc i))) (convolution mul d.factor u i) (bit_xor (d.remainder i) 0) ∙ ap (bit_xor (convolution mul d.factor u i)) (xor_zero_r (d.remainder i)) ∙ sym (ap (λ g. g i) d.is)

@@ -3,6 +3,7 @@ use Rattle.std.proofs.Common.{◌≡◌, ◌≢◌, ℕ, zero, suc, pred, refl, 
 use Rattle.std.specs.Prelude.{bit_xor}
 use Rattle.std.specs.Int.Bits.{xor_self, xor_lt}
 use Rattle.std.proofs.lemmas.Bool.{cases_eq}
+use Rattle.lists.specs.laws.NumberLaws.{below_differs}
 use Rattle.lists.specs.laws.XorLaws.{xor_same}
 use mathlib.Core.Path.{fun_ext}
 use Rattle.gf_field.specs.Ring.{IsRing}
@@ -64,10 +65,7 @@ stays p m s other = elim (cases_eq (p m) m) [ inl is ↦ is | inr ne ↦ absurd 
     ]
 
     clash : p m ≢ m → Meets p m → ⊥
-    clash ne w = different w.first w.second w.ordered (s.apart w.first w.second (omega (arith, w.ordered, w.within)) (omega (arith, w.within)) w.same)
-      where
-        different : (i j : ℕ) → i < j → i ≡ j → ⊥
-        different i j h e = omega arith
+    clash ne w = below_differs w.first w.second w.ordered (s.apart w.first w.second (omega (arith, w.ordered, w.within)) (omega (arith, w.within)) w.same)
 
 -- with the place that goes to the last one sent elsewhere
 shuffle_moved : (p : ℕ → ℕ) (m j : ℕ) → IsShuffle p (suc m) → j < m → p j ≡ m → IsShuffle (replaced j (p m) p) m

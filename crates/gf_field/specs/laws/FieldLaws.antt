@@ -1,8 +1,10 @@
 -- A finite ring whose squares and idempotents are those of a field is one.
-use Rattle.std.proofs.Common.{◌≡◌, ◌≢◌, ℕ, zero, suc, sym, ◌∙◌, ap, ap₂, ◌<◌, ◌≤◌, ◌^◌, ◌+◌, ◌*◌, ◌-◌, ◌⊎◌, inl, inr, arith, mul-suc, pow-suc}
+use Rattle.std.proofs.Common.{◌≡◌, ◌≢◌, ℕ, zero, suc, sym, ◌∙◌, ap, ap₂, ◌<◌, ◌≤◌, ◌^◌, ◌+◌, ◌*◌, ◌-◌, ◌⊎◌, inl, inr, arith, mul-suc}
 use Rattle.std.specs.Prelude.{bit_xor}
 use Rattle.std.proofs.lemmas.Bool.{cases_eq}
 use Rattle.std.specs.Int.Bits.{xor_self, xor_lt}
+use Rattle.lists.specs.laws.NumberLaws.{less_and_back}
+use Rattle.lists.specs.laws.PowerLaws.{pow_twice}
 use Rattle.lists.specs.laws.XorLaws.{xor_same}
 use Rattle.gf_field.specs.Ring.{IsRing}
 use Rattle.gf_field.specs.Field.{HasNoZeroDivisors}
@@ -50,10 +52,7 @@ module _ (k : ℕ) (mul : ℕ → ℕ → ℕ) (ring : IsRing k mul) where
     square_power : (a : ℕ) → a < 2 ^ k → a ≢ 0 → (j : ℕ) → power mul a (2 ^ j) ≢ 0
     square_power a h ne zero e = ne (sym (power-one k mul ring a h) ∙ e)
     square_power a h ne (suc j) e =
-        square_power a h ne j (field.squares (power mul a (2 ^ j)) (power_below k mul ring a (2 ^ j)) (sym (power-add k mul ring a (2 ^ j) (2 ^ j)) ∙ ap (power mul a) (twice j) ∙ e))
-      where
-        twice : (j : ℕ) → 2 ^ j + 2 ^ j ≡ 2 ^ suc j
-        twice j = omega (arith, pow-suc 2 j)
+        square_power a h ne j (field.squares (power mul a (2 ^ j)) (power_below k mul ring a (2 ^ j)) (sym (power-add k mul ring a (2 ^ j) (2 ^ j)) ∙ ap (power mul a) (pow_twice j) ∙ e))
 
     pub power_nonzero : (a : ℕ) → a < 2 ^ k → a ≢ 0 → (m : ℕ) → power mul a m ≢ 0
     power_nonzero a h ne m e =
@@ -84,9 +83,6 @@ module _ (k : ℕ) (mul : ℕ → ℕ → ℕ) (ring : IsRing k mul) where
         back : (i j : ℕ) → i < j → i + (j - i) ≡ j
         back i j h = omega arith
 
-        joined : (i q : ℕ) → i ≤ q → i + (q - i) ≡ q
-        joined i q h = omega arith
-
         large : (i p : ℕ) → 0 < p → suc i ≤ p * suc i
         large i p h = le-mul_of_pos_left_of (suc i) p h
           where
@@ -105,9 +101,9 @@ module _ (k : ℕ) (mul : ℕ → ℕ → ℕ) (ring : IsRing k mul) where
         at : (p i : ℕ) → 0 < p → power mul a (i + p) ≡ power mul a i → HasInverse k mul a
         at p i hp e = inverse_by a h ne (p * suc i - 1)
             (ap (λ x. power mul a (x + x)) (before (p * suc i) (over i (p * suc i) (large i p hp)))
-            ∙ ap (λ x. power mul a (x + p * suc i)) (sym (joined i (p * suc i) (below_of i (p * suc i) (large i p hp))))
+            ∙ ap (λ x. power mul a (x + p * suc i)) (sym (less_and_back i (p * suc i) (below_of i (p * suc i) (large i p hp))))
             ∙ power_often a i p e (p * suc i - i) (suc i)
-            ∙ ap (power mul a) (joined i (p * suc i) (below_of i (p * suc i) (large i p hp)) ∙ sym (before (p * suc i) (over i (p * suc i) (large i p hp)))))
+            ∙ ap (power mul a) (less_and_back i (p * suc i) (below_of i (p * suc i) (large i p hp)) ∙ sym (before (p * suc i) (over i (p * suc i) (large i p hp)))))
 
     pub inverse_of : (a : ℕ) → a < 2 ^ k → a ≢ 0 → HasInverse k mul a
     inverse_of a h ne = found a h ne (pigeonhole (2 ^ k) (power mul a) (λ i le. power_below k mul ring a i))

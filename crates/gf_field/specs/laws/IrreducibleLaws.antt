@@ -3,6 +3,7 @@ use Rattle.std.proofs.Common.{◌≡◌, ◌≢◌, ℕ, zero, suc, sym, ◌∙�
 use Rattle.std.specs.Prelude.{bit_xor}
 use Rattle.std.specs.Int.Bits.{xor_self, xor_lt, xor_zero_r, xor_comm}
 use Rattle.std.proofs.lemmas.Bool.{cases_eq, cases_lt}
+use Rattle.lists.specs.laws.NumberLaws.{at_most_once}
 use Rattle.lists.specs.laws.XorLaws.{xor_cancel}
 use mathlib.Core.Path.{fun_ext}
 use Rattle.gf_field.specs.Ring.{IsRing}
@@ -148,10 +149,7 @@ module _ (n : ℕ) (mul : ℕ → ℕ → ℕ) (ring : IsRing n mul) (field : Ha
           (fun_ext (λ i. sym (xor_zero_r (convolution mul (coefficient n u) (coefficient n v) i)) ∙ ap (bit_xor (convolution mul (coefficient n u) (coefficient n v) i)) (sym (ap (λ x. coefficient n x i) z ∙ coefficient_none n i)) ∙ p.multiple i))
         where
           small : (q : ℕ) → q < 2 ^ (n * q)
-          small q = lt_of_lt_of_le (self_below q) (pow_mono (le_trans (one q) (mul-le-mul_right q ring.some)))
-            where
-              one : (q : ℕ) → q ≤ 1 * q
-              one q = omega arith
+          small q = lt_of_lt_of_le (self_below q) (pow_mono (le_trans (at_most_once q) (mul-le-mul_right q ring.some)))
 
   convolution_unit : (f : ℕ → ℕ) → AllBelow n f → convolution mul unit f ≡ f
   convolution_unit f b = convolution_open mul unit f ∙ ap (λ h. plus (times mul 1 f) (shift h)) (fun_ext (convolution_none n mul ring f)) ∙ fun_ext at

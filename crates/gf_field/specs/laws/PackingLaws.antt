@@ -2,9 +2,11 @@
 use Rattle.std.proofs.Common.{◌≡◌, ℕ, zero, suc, sym, ◌∙◌, ap, ap₂, ◌<◌, ◌≤◌, ◌^◌, ◌+◌, ◌*◌, ◌/◌, ◌%◌, arith, mul-zero, mul-suc, pow_pos, pow-add, shr-shr, add_comm, shr_lt, mod-lt, zero-mul, zero-add, add-zero, add-suc, le_trans, lt_of_lt_of_le, pow_mono, mul-le-mul_right, pow-suc, refl}
 use Rattle.std.specs.Prelude.{bit_xor}
 use Rattle.std.specs.Int.Bits.{xor_shr, xor_mod, xor_self, xor_block}
-use Rattle.std.proofs.lemmas.Nat.{shr_split, shr_high, mod_low, pow_below}
+use Rattle.std.proofs.lemmas.Nat.{shr_split, shr_high, mod_low}
 use Rattle.std.proofs.Math.Arith.{digits_lt}
 use native.Mathlib.Nat.{div-one, mod-eq_of_lt, zero-div, zero-mod, div-eq_of_lt}
+use Rattle.lists.specs.laws.NumberLaws.{at_most_once}
+use Rattle.lists.specs.laws.PowerLaws.{one_below_pow}
 use mathlib.Core.Path.{fun_ext}
 use Rattle.gf_field.specs.Polynomial.{coefficient}
 use Rattle.gf_field.specs.Quotient.{none, unit, plus, rest, packed}
@@ -64,12 +66,9 @@ packed_xor n (suc d) f h bf bh =
 pub coefficient_one : (n : ℕ) → 1 ≤ n → coefficient n 1 ≡ unit
 coefficient_one n h = fun_ext (at n h)
   where
-    less : (n : ℕ) → 1 ≤ n → 1 < 2 ^ n
-    less n h = pow_below 0 n h
-
     at : (n : ℕ) → 1 ≤ n → (i : ℕ) → coefficient n 1 i ≡ unit i
-    at n h zero = coefficient_zero n 1 ∙ mod-eq_of_lt (less n h)
-    at n h (suc i) = coefficient_suc n 1 i ∙ ap (λ x. coefficient n x i) (div-eq_of_lt (less n h)) ∙ coefficient_none n i
+    at n h zero = coefficient_zero n 1 ∙ mod-eq_of_lt (one_below_pow n h)
+    at n h (suc i) = coefficient_suc n 1 i ∙ ap (λ x. coefficient n x i) (div-eq_of_lt (one_below_pow n h)) ∙ coefficient_none n i
 
 pub packed_extra : (n d : ℕ) (f : ℕ → ℕ) → EndsAt d f → packed n (suc d) f ≡ packed n d f
 packed_extra n zero f ends = zero-add_of (2 ^ n) (f 0) (ends 0 (omega arith))
@@ -96,7 +95,4 @@ below_from_ends n m a some h =
     rw (sym (packed-coefficient n (m + a) a wide) ∙ packed_longer n m a (coefficient n a) h) (packed_below n m (coefficient n a) (coefficient_below n a))
   where
     wide : a < 2 ^ (n * (m + a))
-    wide = lt_of_lt_of_le (self_below a) (pow_mono (le_trans (le_trans (omega arith) (one_times (m + a))) (mul-le-mul_right (m + a) some)))
-      where
-        one_times : (x : ℕ) → x ≤ 1 * x
-        one_times x = omega arith
+    wide = lt_of_lt_of_le (self_below a) (pow_mono (le_trans (le_trans (omega arith) (at_most_once (m + a))) (mul-le-mul_right (m + a) some)))

@@ -1,6 +1,7 @@
 -- Laws of powers in a ring.
 use Rattle.std.proofs.Common.{◌≡◌, ℕ, zero, suc, refl, sym, ◌∙◌, ap, ◌<◌, ◌^◌, ◌+◌, ◌*◌, ◌/◌, ◌%◌, arith}
 use Rattle.std.proofs.lemmas.Nat.{pow_below}
+use Rattle.std.proofs.Math.Nat.{zero-add, suc-add}
 use Rattle.gf_field.specs.Ring.{IsRing}
 use Rattle.gf_field.specs.Power.{power}
 
@@ -15,14 +16,8 @@ module _ (k : ℕ) (mul : ℕ → ℕ → ℕ) (ring : IsRing k mul) where
 
   pub power-add : (a e f : ℕ) → power mul a (e + f) ≡ mul (power mul a e) (power mul a f)
   unfolding power
-  power-add a zero f = ap (power mul a) (plain f) ∙ sym (ring.one (power mul a f) (power_below a f))
-    where
-      plain : (f : ℕ) → 0 + f ≡ f
-      plain f = omega arith
-  power-add a (suc e) f = ap (power mul a) (moved e f) ∙ ap (mul a) (power-add a e f) ∙ sym (ring.assoc a (power mul a e) (power mul a f))
-    where
-      moved : (x f : ℕ) → suc x + f ≡ suc (x + f)
-      moved x f = omega arith
+  power-add a zero f = ap (power mul a) (zero-add f) ∙ sym (ring.one (power mul a f) (power_below a f))
+  power-add a (suc e) f = ap (power mul a) (suc-add e f) ∙ ap (mul a) (power-add a e f) ∙ sym (ring.assoc a (power mul a e) (power mul a f))
 
   pub power-one : (a : ℕ) → a < 2 ^ k → power mul a 1 ≡ a
   unfolding power

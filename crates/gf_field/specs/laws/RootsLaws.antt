@@ -1,13 +1,13 @@
 -- A polynomial has no more roots than its degree.
 use Rattle.std.proofs.Common.{◌≡◌, ◌≢◌, ℕ, suc, refl, sym, ◌∙◌, ap, ap₂, ◌<◌, ◌≤◌, ◌^◌, arith, pow_pos, List, [], ◌∷◌, ◌++◌, length, length-append, inl, inr, zero}
 use Rattle.std.specs.Prelude.{bit_xor}
-use Rattle.std.specs.Int.Bits.{xor_self, xor_zero_l, xor_zero_r, xor_lt, xor_comm}
+use Rattle.std.specs.Int.Bits.{xor_self, xor_zero_r, xor_lt}
 use Rattle.std.proofs.lemmas.Bool.{cases_eq, cases_lt}
 use Rattle.gf_field.specs.Ring.{IsRing}
 use Rattle.gf_field.specs.Field.{HasNoZeroDivisors}
 use Rattle.gf_field.specs.laws.RingLaws.{mul_zero, distrib_left, mul_left_comm}
 use Rattle.std.specs.List.{AllByRecursion}
-use Rattle.lists.specs.laws.XorLaws.{xor_cross, xor_same}
+use Rattle.lists.specs.laws.XorLaws.{xor_same, xor_drop_outer, xor_drop_pair}
 use Rattle.gf_field.specs.Roots.{value, AllZero, AllElements, AreRoots, HasRootsUpToDegree, HasFewRoots}
 
 -- the quotient of c ∷ cs by x + r, whatever c is
@@ -35,21 +35,15 @@ AllZero-last [] ys h = h
 AllZero-last (x ∷ xs) ys h = AllZero-last xs ys h.1
 
 module _ (k : ℕ) (mul : ℕ → ℕ → ℕ) (ring : IsRing k mul) where
-  cross : (p q s : ℕ) → bit_xor (bit_xor p q) (bit_xor s p) ≡ bit_xor s q
-  cross p q s = ap (bit_xor (bit_xor p q)) (xor_comm s p) ∙ xor_cross p q p s ∙ ap (λ y. bit_xor y (bit_xor q s)) (xor_self p) ∙ xor_zero_l (bit_xor q s) ∙ xor_comm q s
-
   split : (x r a b : ℕ) → bit_xor (mul x a) (mul r b) ≡ bit_xor (mul (bit_xor x r) b) (mul x (bit_xor a b))
-  split x r a b = sym (ap₂ bit_xor (distrib_left k mul ring x r b) (ring.distrib x a b) ∙ cross (mul x b) (mul r b) (mul x a))
-
-  plain : (c p q : ℕ) → bit_xor (bit_xor c p) (bit_xor c q) ≡ bit_xor p q
-  plain c p q = xor_cross c p c q ∙ ap (λ y. bit_xor y (bit_xor p q)) (xor_self c) ∙ xor_zero_l (bit_xor p q)
+  split x r a b = sym (ap₂ bit_xor (distrib_left k mul ring x r b) (ring.distrib x a b) ∙ xor_drop_outer (mul x b) (mul r b) (mul x a))
 
   -- p (x) + p (r) is (x + r) q (x)
   divided_lem : (r c : ℕ) (cs : List ℕ) (x : ℕ) → bit_xor (value mul (c ∷ cs) x) (value mul (c ∷ cs) r) ≡ mul (bit_xor x r) (value mul (divided mul r cs) x)
   unfolding divided
-  divided_lem r c [] x = plain c (mul x 0) (mul r 0) ∙ ap₂ bit_xor (mul_zero k mul ring x) (mul_zero k mul ring r) ∙ xor_self 0 ∙ sym (mul_zero k mul ring (bit_xor x r))
+  divided_lem r c [] x = xor_drop_pair c (mul x 0) (mul r 0) ∙ ap₂ bit_xor (mul_zero k mul ring x) (mul_zero k mul ring r) ∙ xor_self 0 ∙ sym (mul_zero k mul ring (bit_xor x r))
   divided_lem r c (d ∷ ds) x =
-      plain c (mul x (value mul (d ∷ ds) x)) (mul r (value mul (d ∷ ds) r))
+      xor_drop_pair c (mul x (value mul (d ∷ ds) x)) (mul r (value mul (d ∷ ds) r))
       ∙ split x r (value mul (d ∷ ds) x) (value mul (d ∷ ds) r)
       ∙ ap (bit_xor (mul (bit_xor x r) (value mul (d ∷ ds) r))) (ap (mul x) (divided_lem r d ds x) ∙ mul_left_comm k mul ring x (bit_xor x r) (value mul (divided mul r ds) x))
       ∙ sym (ring.distrib (bit_xor x r) (value mul (d ∷ ds) r) (mul x (value mul (divided mul r ds) x)))

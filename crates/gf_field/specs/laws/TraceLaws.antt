@@ -2,8 +2,10 @@
 use Rattle.std.proofs.Common.{◌≡◌, ℕ, zero, suc, refl, sym, ◌∙◌, ap, ap₂, ◌<◌, ◌≤◌, ◌^◌, ◌+◌, ◌-◌, add-one, ◌⊎◌, inl, inr, arith, pow_pos, pow-suc, List, [], ◌∷◌, ◌++◌, length, replicate, length-append}
 use Rattle.std.proofs.Math.ListN.{length-replicate}
 use Rattle.std.specs.Prelude.{bit_xor}
-use Rattle.std.specs.Int.Bits.{xor_self, xor_lt, xor_zero_l, xor_zero_r, xor_assoc, xor_comm}
-use Rattle.lists.specs.laws.XorLaws.{xor_cross}
+use Rattle.std.specs.Int.Bits.{xor_self, xor_lt, xor_zero_l, xor_zero_r, xor_assoc}
+use Rattle.lists.specs.laws.NumberLaws.{less_and_back}
+use Rattle.lists.specs.laws.PowerLaws.{pow_twice}
+use Rattle.lists.specs.laws.XorLaws.{xor_cross, xor_turn}
 use Rattle.gf_field.specs.Polynomial.{sum_of_first}
 use Rattle.gf_field.specs.Ring.{IsRing}
 use Rattle.gf_field.specs.Field.{HasNoZeroDivisors}
@@ -72,10 +74,7 @@ module _ (k : ℕ) (mul : ℕ → ℕ → ℕ) (ring : IsRing k mul) where
   pub frobenius-power : (j a : ℕ) → a < 2 ^ k → frobenius mul j a ≡ power mul a (2 ^ j)
   unfolding frobenius
   frobenius-power zero a h = sym (power-one k mul ring a h)
-  frobenius-power (suc j) a h = ap (λ x. mul x x) (frobenius-power j a h) ∙ sym (power-add k mul ring a (2 ^ j) (2 ^ j)) ∙ ap (power mul a) (twice j)
-    where
-      twice : (j : ℕ) → 2 ^ j + 2 ^ j ≡ 2 ^ suc j
-      twice j = omega (arith, pow-suc 2 j)
+  frobenius-power (suc j) a h = ap (λ x. mul x x) (frobenius-power j a h) ∙ sym (power-add k mul ring a (2 ^ j) (2 ^ j)) ∙ ap (power mul a) (pow_twice j)
 
   frobenius_below : (j a : ℕ) → a < 2 ^ k → frobenius mul j a < 2 ^ k
   unfolding frobenius
@@ -92,10 +91,7 @@ module _ (k : ℕ) (mul : ℕ → ℕ → ℕ) (ring : IsRing k mul) where
   square-trace zero a = mul_zero k mul ring 0 ∙ sym (ap (λ x. bit_xor x a) (xor_zero_l a) ∙ xor_self a)
   square-trace (suc j) a =
       square-xor k mul ring (trace mul j a) (frobenius mul j a)
-      ∙ ap (λ x. bit_xor x (mul (frobenius mul j a) (frobenius mul j a))) (square-trace j a ∙ turn (trace mul j a) a (frobenius mul j a))
-    where
-      turn : (p q s : ℕ) → bit_xor (bit_xor p q) s ≡ bit_xor (bit_xor p s) q
-      turn p q s = xor_assoc p q s ∙ ap (bit_xor p) (xor_comm q s) ∙ sym (xor_assoc p s q)
+      ∙ ap (λ x. bit_xor x (mul (frobenius mul j a) (frobenius mul j a))) (square-trace j a ∙ xor_turn (trace mul j a) a (frobenius mul j a))
 
   value-append : (xs ys : List ℕ) (x : ℕ) → value mul ys x < 2 ^ k → value mul (xs ++ ys) x ≡ bit_xor (value mul xs x) (mul (power mul x (length xs)) (value mul ys x))
   unfolding power
@@ -118,11 +114,8 @@ module _ (k : ℕ) (mul : ℕ → ℕ → ℕ) (ring : IsRing k mul) where
       ∙ ap₂ bit_xor (value-coefficients j x h)
       (ap (mul (power mul x (length (coefficients j)))) (value-gap (2 ^ j - length (coefficients j)) x)
       ∙ sym (power-add k mul ring x (length (coefficients j)) (2 ^ j - length (coefficients j)))
-      ∙ ap (power mul x) (whole (length (coefficients j)) (2 ^ j) (coefficients_length j))
+      ∙ ap (power mul x) (less_and_back (length (coefficients j)) (2 ^ j) (coefficients_length j))
       ∙ sym (frobenius-power j x h))
-    where
-      whole : (l n : ℕ) → l ≤ n → l + (n - l) ≡ n
-      whole l n h = omega arith
 
   coefficients_elements : (j : ℕ) → AllElements k (coefficients j)
   unfolding coefficients

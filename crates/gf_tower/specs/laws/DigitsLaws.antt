@@ -5,6 +5,7 @@ use Rattle.std.specs.Int.Bits.{xor_lt}
 use Rattle.std.proofs.lemmas.Nat.{shr_high, mod_low, pow_below, mod-pow-add, field_of, shr_below}
 use Rattle.std.proofs.Math.Pow.{mod-mod-pow}
 use native.Mathlib.Nat.{mod-eq_of_lt, div-one}
+use Rattle.std.proofs.Math.Nat.{mod-one}
 use mathlib.Core.Path.{fun_ext}
 use Rattle.gf_field.specs.Ring.{IsRing}
 use Rattle.gf_field.specs.Polynomial.{coefficient}
@@ -21,10 +22,7 @@ packed_same n zero f h e = refl
 packed_same n (suc d) f h e = ap₂ (λ x y. x * 2 ^ n + y) (packed_same n d (rest f) (rest h) (λ i l. e (suc i) (omega arith))) (e 0 (omega arith))
 
 packed_short : (n d : ℕ) (f : ℕ → ℕ) → AllBelow n f → packed n d f ≡ packed n (suc d) f % 2 ^ (n * d)
-packed_short n zero f b = sym (ap (λ x. packed n 1 f % 2 ^ x) (mul-zero n) ∙ mod_one (packed n 1 f))
-  where
-    mod_one : (x : ℕ) → x % 1 ≡ 0
-    mod_one x = omega arith
+packed_short n zero f b = sym (ap (λ x. packed n 1 f % 2 ^ x) (mul-zero n) ∙ mod-one (packed n 1 f))
 packed_short n (suc d) f b =
     ap (λ x. x * 2 ^ n + f 0) (packed_short n d (rest f) (λ i. b (suc i)) ∙ ap (λ x. x % 2 ^ (n * d)) (sym (shr_high (packed n (suc d) (rest f)) n (f 0) (b 0))))
     ∙ ap (λ x. packed n (suc (suc d)) f / 2 ^ n % 2 ^ (n * d) * 2 ^ n + x) (sym (mod_low (packed n (suc d) (rest f)) n (f 0) (b 0)))

@@ -5,21 +5,11 @@ use Rattle.std.specs.Int.Bits.{xor_self, xor_lt, xor_shr, xor_mod, xor_zero_l, x
 use Rattle.std.proofs.lemmas.Bool.{cases_eq, cases_lt}
 use Rattle.std.proofs.lemmas.Nat.{pow_below, field_of}
 use Rattle.std.proofs.Math.Pow.{mod-mod-pow}
-use Rattle.lists.specs.laws.NumberLaws.{bit_cases}
-use Rattle.lists.specs.laws.XorLaws.{xor_same, xor_cross}
+use Rattle.lists.specs.laws.NumberLaws.{bit_cases, below_differs}
+use Rattle.lists.specs.laws.XorLaws.{xor_same, xor_cross, bit_times}
 use Rattle.gf_field.specs.laws.PigeonholeLaws.{Meets, pigeonhole, FoundAt, find}
 use Rattle.gf_field.specs.laws.FermatLaws.{replaced, replaced_same, replaced_other}
 use Rattle.irreducible.specs.Span.{combination, InSpan, IsIndependent, IsRank}
-
--- a bit times a row
-bit_times : (a b r : ℕ) → a < 2 → b < 2 → bit_xor a b * r ≡ bit_xor (a * r) (b * r)
-bit_times a b r ha hb = elim (bit_cases a ha) [
-  | inl z ↦ rw (z, zero-mul) (ap (λ x. x * r) (xor_zero_l b) ∙ sym (xor_zero_l (b * r)))
-  | inr o ↦ elim (bit_cases b hb) [
-    | inl z ↦ rw (z, o) (sym (ap (bit_xor (1 * r)) (zero-mul r) ∙ xor_zero_r (1 * r)))
-    | inr p ↦ rw (p, o) (zero-mul r ∙ sym (xor_self (1 * r)))
-  ]
-]
 
 pub combination-xor : (rows : List ℕ) (c d : ℕ) → combination rows (bit_xor c d) ≡ bit_xor (combination rows c) (combination rows d)
 combination-xor [] c d = sym (xor_self 0)
@@ -147,15 +137,12 @@ independent-le a b free inside = elim (cases_lt (length b) (length a)) [
     at_place i = combination-short b (inside i).choice ∙ (inside i).is
 
     clash : length b < length a → Meets place (2 ^ length b) → ⊥
-    clash h m = different m.first m.second m.ordered (xor_same m.first m.second (free.only_zero (bit_xor m.first m.second)
+    clash h m = below_differs m.first m.second m.ordered (xor_same m.first m.second (free.only_zero (bit_xor m.first m.second)
         (xor_lt (length a) m.first m.second (wide m.first (omega (arith, m.ordered, m.within))) (wide m.second m.within))
         (combination-xor a m.first m.second ∙ ap₂ bit_xor (sym (at_place m.first) ∙ ap (combination b) m.same ∙ at_place m.second) refl ∙ xor_self (combination a m.second))))
       where
         wide : (i : ℕ) → i ≤ 2 ^ length b → i < 2 ^ length a
         wide i le = lt_of_le_of_lt le (pow_below (length b) (length a) h)
-
-        different : (i j : ℕ) → i < j → i ≡ j → ⊥
-        different i j l e = omega arith
 
 -- a map of the numbers below n to themselves that keeps them apart reaches each
 pub reaches : (n : ℕ) (f : ℕ → ℕ) → ((i : ℕ) → i < n → f i < n) → ((i j : ℕ) → i < n → j < n → f i ≡ f j → i ≡ j) → (v : ℕ) → v < n → FoundAt f n v
@@ -176,13 +163,10 @@ reaches n f below apart v hv = elim (find f n v) [
         differ : (i : ℕ) → i ≡ n → i < n → ⊥
         differ i e h = omega arith
 
-    different : (i j : ℕ) → i < j → i ≡ j → ⊥
-    different i j l e = omega arith
-
     clash : ((i : ℕ) → i < n → f i ≢ v) → Meets (replaced n v f) n → ⊥
     clash none m = elim (cases_eq m.second n) [
       | inl e ↦ none m.first (omega (arith, m.ordered, m.within)) (sym (less m.first (omega (arith, m.ordered, m.within))) ∙ m.same ∙ ap (replaced n v f) e ∙ replaced_same n v f)
-      | inr ne ↦ different m.first m.second m.ordered (apart m.first m.second (omega (arith, m.ordered, m.within)) (omega (arith, m.within)) (sym (less m.first (omega (arith, m.ordered, m.within))) ∙ m.same ∙ less m.second (omega (arith, m.within))))
+      | inr ne ↦ below_differs m.first m.second m.ordered (apart m.first m.second (omega (arith, m.ordered, m.within)) (omega (arith, m.within)) (sym (less m.first (omega (arith, m.ordered, m.within))) ∙ m.same ∙ less m.second (omega (arith, m.within))))
     ]
 
 -- rows are independent exactly where their number is the rank

@@ -1,10 +1,16 @@
 -- Laws of texts with a line feed, which is the byte 10.
-use Rattle.std.proofs.Common.{◌≡◌, refl, ℕ, suc, ◌<◌, ◌+◌, List, [], ◌∷◌, ◌++◌, length, drop, get_or, arith, add-one}
+use Rattle.std.proofs.Common.{◌≡◌, refl, ℕ, zero, suc, ◌<◌, ◌+◌, List, [], ◌∷◌, ◌++◌, length, drop, get_or, arith, add-one}
 use Rattle.std.specs.Str.Lines.{lines}
 
 pub no_lines : (bs : List ℕ) → length bs ≡ 0 → lines bs ≡ []
 no_lines [] e = refl
 no_lines (b ∷ bs) e = absurd (omega arith)
+
+-- a byte of what stands in front
+pub front_byte : (xs ys : List ℕ) (k : ℕ) → k < length xs → get_or (xs ++ ys) k 0 ≡ get_or xs k 0
+front_byte [] ys k less = absurd (omega (arith, less))
+front_byte (x ∷ xs) ys zero less = refl
+front_byte (x ∷ xs) ys (suc k) less = front_byte xs ys k (omega (arith, less))
 
 -- the byte at the end of the first line
 pub line_end : (xs ys : List ℕ) → get_or (xs ++ 10 ∷ ys) (length xs) 0 ≡ 10

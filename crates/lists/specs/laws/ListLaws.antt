@@ -4,6 +4,14 @@ use Rattle.std.specs.Prelude.{slice_get, slice_set, ◌==◌}
 use Rattle.std.specs.List.{range_with_len, AllByRecursion, list_any}
 use Rattle.std.proofs.lemmas.Bool.{eq-eqb}
 
+-- what stands behind the same front is the same
+pub append_same : {A : Type 0} (p xs ys : List A) → p ++ xs ≡ p ++ ys → xs ≡ ys
+append_same [] xs ys same = same
+append_same {A} (b ∷ p) xs ys same = append_same p xs ys (tails same)
+  where
+    tails : {v w : List A} → b ∷ v ≡ b ∷ w → v ≡ w
+    tails e = cc
+
 -- ---- how long
 
 -- a list of images is as long
@@ -17,6 +25,10 @@ length-push (x ∷ xs) y = omega (arith, length-push xs y)
 
 pub length_more : {A : Type 0} (xs : List A) (y : A) → length (xs ++ y ∷ []) ≡ suc (length xs)
 length_more xs y = omega (arith, length-push xs y)
+
+pub some_after : {A : Type 0} (xs ys : List A) → 1 ≤ length ys → 1 ≤ length (xs ++ ys)
+some_after [] ys some = some
+some_after (x ∷ xs) ys some = omega arith
 
 pub length-slice_set : (xs : List ℕ) (i x : ℕ) → length (slice_set xs i x) ≡ length xs
 length-slice_set [] i x = refl

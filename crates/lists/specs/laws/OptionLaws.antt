@@ -6,6 +6,9 @@ use Rattle.std.specs.Prelude.{IfNone, IfSome}
 pub same_some : {A : Type 0} (a b : A) → ◌≡◌ {A = Option A} (Some a) (Some b) → a ≡ b
 same_some a b same = cc
 
+pub none_is_some : {A P : Type 0} (a : A) → None ≡ Some a → P
+none_is_some a same = absurd (cc)
+
 -- what comes is one
 pub same_ok : {F A : Type 0} (a b : A) → ◌≡◌ {A = Result A F} (Ok a) (Ok b) → a ≡ b
 same_ok a b e = cc

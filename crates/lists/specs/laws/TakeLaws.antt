@@ -17,6 +17,10 @@ pub take_none : {A : Type 0} (xs : List A) → take 0 xs ≡ []
 take_none [] = refl
 take_none (x ∷ xs) = refl
 
+pub drop_none : {A : Type 0} (xs : List A) → drop 0 xs ≡ xs
+drop_none [] = refl
+drop_none (x ∷ xs) = refl
+
 module _ {A : Type 0} where
   -- one element more
   pub taken_next : (xs : List A) (n : ℕ) (x : A) → slice_get xs n ≡ Some x → take (suc n) xs ≡ take n xs ++ x ∷ []
@@ -38,7 +42,7 @@ module _ {A : Type 0} where
   dropped_at (x ∷ xs) zero u at = let same : x ≡ u = cc in ap (λ y. y ∷ xs) same
   dropped_at (x ∷ xs) (suc j) u at = dropped_at xs j u at
 
-  drop_read_suc : (xs : List A) (i : ℕ) (x : A) → i < length xs → x ≡ get_or xs i x → drop i xs ≡ x ∷ drop (suc i) xs
+  pub drop_read_suc : (xs : List A) (i : ℕ) (x : A) → i < length xs → x ≡ get_or xs i x → drop i xs ≡ x ∷ drop (suc i) xs
   drop_read_suc [] i x less is = absurd (omega arith)
   drop_read_suc (y ∷ xs) zero x less is = ap (λ z. z ∷ xs) (sym is)
   drop_read_suc (y ∷ xs) (suc i) x less is = drop_read_suc xs i x (omega arith) is

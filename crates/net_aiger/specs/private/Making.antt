@@ -22,6 +22,6 @@ pub record Awaits (reading : Reading) (port : ℕ) (left : List ℕ) (net : NetL
   pub apart_from : apart reading port before left ≡ Ok tt
   pub only : HasOnly before net
 
--- the same of the reading's own ports
+-- the names of the reading's own ports, from a number on, are apart from each other and from those of the nets
 abbrev pub AwaitsPort : Reading → ℕ → NetList → Type 0
 AwaitsPort reading port net = Awaits reading port (drop port reading.ports) net

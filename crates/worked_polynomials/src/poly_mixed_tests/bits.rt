@@ -16,7 +16,7 @@ fn replace<F: Field>(alloc: Global, field: &F, poly: &mut Poly) -> Result<(), Al
     poly.substitute_bit(field, 1, &by)
 }
 
-// the same in bit 0 times bit 1
+// bit 0 times bit 1, with the exclusive or of bits 2 and 3 in place of bit 1
 fn replaced<F: Field>(alloc: Global, field: &F) -> Result<Poly, AllocError> {
     let mut poly = table_poly(alloc, field, &[0, 1], 0b1000)?;
     replace(alloc, field, &mut poly)?;
@@ -65,7 +65,7 @@ fn leaves(
     }
 }
 
-// the same of twice bit 1, and 2
+// whether of twice bit 1 and 2 the terms with the bit and those without it are these
 fn takes(rt: &impl Abort, alloc: Global, bit: u32, taken: &[u8], left: &[u8]) -> bool {
     match read(rt, alloc, &field(rt), b"0x2*A[1] + 0x2") {
         Some(mut poly) => leaves(rt, alloc, &mut poly, bit, taken, left),

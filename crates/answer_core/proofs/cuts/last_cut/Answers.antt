@@ -1,110 +1,124 @@
-use Rattle.std.proofs.Common.{◌≡◌, ◌∙◌, ap, sym, subst, List, ℕ, length}
-use Rattle.lists.specs.Lists.{Has}
-use Rattle.net_words.specs.Binding.{Binding}
+use Rattle.std.proofs.Common.{refl, subst, List, ℕ, length, map}
 use Rattle.gf_basis.specs.BasisParts.{elements_of}
 use Rattle.gf_basis.specs.declared.bases.Basis.{Basis}
+use Rattle.circuit_model.specs.Bases.{circuit_in}
 use Rattle.circuit_model.specs.OfBinding.{output_basis}
-use Rattle.stage_model.specs.CircuitListing.{bound_cuts}
-use Rattle.stage_model.specs.Cut.{BoundCut}
+use Rattle.circuit_model.specs.WellFormed.{IsWellFormed}
 use Rattle.stage_model.specs.Listing.{AreAllWithin, IsRefusal}
+use Rattle.stage_model.specs.Mix.{IsMix}
+use Rattle.stage_model.specs.OutputInBits.{IsOutputInBits}
 use Rattle.stage_model.specs.Stage.{IsOfStage}
-use Rattle.job_input.specs.Setting.{elements_of_each}
-use Rattle.answer_core.proofs.StageLemmas.{IsJob, well, few, no_words, output_of_last}
+use Rattle.rato_reduce.specs.Recorded.{IsRecorded}
+use Rattle.abstraction.specs.Stages.{cut_stages, IsLastCut}
+use Rattle.answer_core.proofs.BoundBasesLemmas.{bases_are}
+use Rattle.answer_core.proofs.NamedLemmas.{named}
+use Rattle.answer_core.proofs.StageLemmas.{IsJob}
+use Rattle.answer_core.proofs.WordNamesLemmas.{cut_words_named}
 use Rattle.answer_core.proofs.cuts.last_cut.Goals as goal
 
-pub output_basis-basis-requires-clause-long : goal.output_basis-basis-requires-clause-long
-output_basis-basis-requires-clause-long g c = ap length c.as_slice.ensures.value ∙ c.requires.taken.long ∙ sym (ap (λ (b : Binding). length b.words) c.binding.ensures.binding)
+pub bits_poly-requires-clause-bits : goal.bits_poly-requires-clause-bits
+bits_poly-requires-clause-bits g c = c.requires.taken.bits
 
-pub reduce_bits-requires-clause-basis : goal.reduce_bits-requires-clause-basis
-reduce_bits-requires-clause-basis g c =
-    let P : List Basis → Type 0 = λ bases. Has bases c.output_basis-basis.result.now in
-    c.requires.ready.over c.output_basis-basis.result.now (subst P c.as_slice.ensures.value c.output_basis-basis.ensures.among)
+pub bits_poly-requires-clause-bases : goal.bits_poly-requires-clause-bases
+bits_poly-requires-clause-bases g c =
+    bases_are (g.F.Ring.degree c.args.field.now) (g.F.Ring.product c.args.field.now) c.args.setting.now c.requires.ready c.args.circuit.now c.requires.taken c.as_slice-bases.result.now c.as_slice-bases.ensures.value
 
 pub returns-in-Ok-clause-sound : goal.returns-in-Ok-clause-sound
-returns-in-Ok-clause-sound g c = c.binding.ensures.sound
+returns-in-Ok-clause-sound g c = c.bits_poly.ensures.sound
 
 pub returns-in-Ok-clause-is_bound : goal.returns-in-Ok-clause-is_bound
-returns-in-Ok-clause-is_bound g c = c.binding.ensures.is_bound
-
-pub returns-in-Err-clause-sound : goal.returns-in-Err-clause-sound
-returns-in-Err-clause-sound g c = c.binding.ensures.sound
-
-pub returns-in-Err-clause-is_bound : goal.returns-in-Err-clause-is_bound
-returns-in-Err-clause-is_bound g c = c.binding.ensures.is_bound
+returns-in-Ok-clause-is_bound g c = c.bits_poly.ensures.is_bound
 
 pub returns-in-Ok-clause-well : goal.returns-in-Ok-clause-well
 returns-in-Ok-clause-well g c =
-    let degree = g.F.Ring.degree c.args.field.now in
-    let mul = g.F.Ring.product c.args.field.now in
+    let k : ℕ = g.F.Ring.degree c.args.field.now in
+    let mul : ℕ → ℕ → ℕ = g.F.Ring.product c.args.field.now in
     let circuit = c.args.circuit.now in
-    let bases = c.args.setting.now.bases.items in
-    let job : IsJob degree mul circuit bases = record { ring = g.met.F.Ring.laws c.args.field.now; nozero = g.met.F.Field.no_zero_divisors c.args.field.now; sound = c.binding.ensures.sound; bound = c.binding.ensures.is_bound; flat = c.binding.ensures.flat; same = c.requires.taken.bits; over = c.requires.ready.over; long = c.requires.taken.long } in
-    well degree mul circuit bases job
+    let P : List Basis → Type 0 = λ bases. IsWellFormed (circuit_in k mul circuit bases) in
+    subst P c.as_slice-bases.ensures.value c.bits_poly.ensures.well
+
+pub returns-in-Err-clause-sound : goal.returns-in-Err-clause-sound
+returns-in-Err-clause-sound g c = c.bits_poly.ensures.sound
+
+pub returns-in-Err-clause-is_bound : goal.returns-in-Err-clause-is_bound
+returns-in-Err-clause-is_bound g c = c.bits_poly.ensures.is_bound
 
 pub returns-in-Err-clause-well : goal.returns-in-Err-clause-well
 returns-in-Err-clause-well g c =
-    let degree = g.F.Ring.degree c.args.field.now in
-    let mul = g.F.Ring.product c.args.field.now in
+    let k : ℕ = g.F.Ring.degree c.args.field.now in
+    let mul : ℕ → ℕ → ℕ = g.F.Ring.product c.args.field.now in
+    let circuit = c.args.circuit.now in
+    let P : List Basis → Type 0 = λ bases. IsWellFormed (circuit_in k mul circuit bases) in
+    subst P c.as_slice-bases.ensures.value c.bits_poly.ensures.well
+
+pub returns-in-Ok-clause-last : goal.returns-in-Ok-clause-last
+returns-in-Ok-clause-last g c =
+    let k : ℕ = g.F.Ring.degree c.args.field.now in
+    let mul : ℕ → ℕ → ℕ = g.F.Ring.product c.args.field.now in
+    let circuit = c.args.circuit.now in
+    let L : List Basis → Type 0 = λ bases. IsLastCut k mul circuit (map elements_of bases) c.in-Ok.poly.terms in
+    let last = subst L c.as_slice-bases.ensures.value c.in-Ok.ensures.last in
+    last
+
+pub returns-in-Ok-clause-named : goal.returns-in-Ok-clause-named
+returns-in-Ok-clause-named g c =
+    let k : ℕ = g.F.Ring.degree c.args.field.now in
+    let mul : ℕ → ℕ → ℕ = g.F.Ring.product c.args.field.now in
     let circuit = c.args.circuit.now in
     let bases = c.args.setting.now.bases.items in
-    let job : IsJob degree mul circuit bases = record { ring = g.met.F.Ring.laws c.args.field.now; nozero = g.met.F.Field.no_zero_divisors c.args.field.now; sound = c.binding.ensures.sound; bound = c.binding.ensures.is_bound; flat = c.binding.ensures.flat; same = c.requires.taken.bits; over = c.requires.ready.over; long = c.requires.taken.long } in
-    well degree mul circuit bases job
+    let job : IsJob k mul circuit bases = record { ring = g.met.F.Ring.laws c.args.field.now; nozero = g.met.F.Field.no_zero_divisors c.args.field.now; sound = c.bits_poly.ensures.sound; bound = c.bits_poly.ensures.is_bound; flat = c.bits_poly.ensures.is_bound.flat.latches; same = c.requires.taken.bits; over = c.requires.ready.over; long = c.requires.taken.long } in
+    let L : List Basis → Type 0 = λ bases. IsLastCut k mul circuit (map elements_of bases) c.in-Ok.poly.terms in
+    let last = subst L c.as_slice-bases.ensures.value c.in-Ok.ensures.last in
+    named k mul circuit bases c.args.setting.now.signature.words (output_basis circuit.binding.words (map elements_of bases)) c.in-Ok.poly.terms
+    job.ring job.nozero job.sound job.bound job.flat job.same job.over job.long c.requires.taken.roles refl last
+
+pub returns-in-Ok-clause-words_named : goal.returns-in-Ok-clause-words_named
+returns-in-Ok-clause-words_named g c =
+    let k : ℕ = g.F.Ring.degree c.args.field.now in
+    let mul : ℕ → ℕ → ℕ = g.F.Ring.product c.args.field.now in
+    let circuit = c.args.circuit.now in
+    let bases = c.args.setting.now.bases.items in
+    let job : IsJob k mul circuit bases = record { ring = g.met.F.Ring.laws c.args.field.now; nozero = g.met.F.Field.no_zero_divisors c.args.field.now; sound = c.bits_poly.ensures.sound; bound = c.bits_poly.ensures.is_bound; flat = c.bits_poly.ensures.is_bound.flat.latches; same = c.requires.taken.bits; over = c.requires.ready.over; long = c.requires.taken.long } in
+    let L : List Basis → Type 0 = λ bases. IsLastCut k mul circuit (map elements_of bases) c.in-Ok.poly.terms in
+    let last = subst L c.as_slice-bases.ensures.value c.in-Ok.ensures.last in
+    cut_words_named k mul circuit bases job c.args.setting.now.signature.words c.in-Ok.poly.terms last
 
 pub returns-in-Ok-clause-output : goal.returns-in-Ok-clause-output
 returns-in-Ok-clause-output g c =
-    let degree = g.F.Ring.degree c.args.field.now in
-    let mul = g.F.Ring.product c.args.field.now in
+    let k : ℕ = g.F.Ring.degree c.args.field.now in
+    let mul : ℕ → ℕ → ℕ = g.F.Ring.product c.args.field.now in
     let circuit = c.args.circuit.now in
-    let bases = c.args.setting.now.bases.items in
-    let job : IsJob degree mul circuit bases = record { ring = g.met.F.Ring.laws c.args.field.now; nozero = g.met.F.Field.no_zero_divisors c.args.field.now; sound = c.binding.ensures.sound; bound = c.binding.ensures.is_bound; flat = c.binding.ensures.flat; same = c.requires.taken.bits; over = c.requires.ready.over; long = c.requires.taken.long } in
-    let basis : elements_of c.output_basis-basis.result.now ≡ output_basis circuit.binding.words (elements_of_each bases) =
-    c.output_basis-basis.ensures.basis ∙ (λ i. output_basis (c.binding.ensures.binding i).words (elements_of_each (c.as_slice.ensures.value i))) in
-    let L : List ℕ → Type 0 = λ e. IsOfStage degree mul (BoundCut circuit e (length circuit.net.gates)) c.in-Ok.poly.terms in
-    output_of_last degree mul circuit bases job c.in-Ok.poly.terms (subst L basis c.in-Ok.ensures.last)
+    let P : List Basis → Type 0 = λ bases. IsOutputInBits (circuit_in k mul circuit bases) c.in-Ok.poly.terms in
+    subst P c.as_slice-bases.ensures.value c.in-Ok.ensures.output
 
 pub returns-in-Ok-clause-mix : goal.returns-in-Ok-clause-mix
 returns-in-Ok-clause-mix g c =
-    let degree = g.F.Ring.degree c.args.field.now in
-    let mul = g.F.Ring.product c.args.field.now in
+    let k : ℕ = g.F.Ring.degree c.args.field.now in
+    let mul : ℕ → ℕ → ℕ = g.F.Ring.product c.args.field.now in
     let circuit = c.args.circuit.now in
-    let bases = c.args.setting.now.bases.items in
-    let job : IsJob degree mul circuit bases = record { ring = g.met.F.Ring.laws c.args.field.now; nozero = g.met.F.Field.no_zero_divisors c.args.field.now; sound = c.binding.ensures.sound; bound = c.binding.ensures.is_bound; flat = c.binding.ensures.flat; same = c.requires.taken.bits; over = c.requires.ready.over; long = c.requires.taken.long } in
-    let basis : elements_of c.output_basis-basis.result.now ≡ output_basis circuit.binding.words (elements_of_each bases) =
-    c.output_basis-basis.ensures.basis ∙ (λ i. output_basis (c.binding.ensures.binding i).words (elements_of_each (c.as_slice.ensures.value i))) in
-    let L : List ℕ → Type 0 = λ e. IsOfStage degree mul (BoundCut circuit e (length circuit.net.gates)) c.in-Ok.poly.terms in
-    no_words degree mul circuit bases job c.in-Ok.poly.terms (subst L basis c.in-Ok.ensures.last)
-
-pub returns-in-Ok-clause-few : goal.returns-in-Ok-clause-few
-returns-in-Ok-clause-few g c =
-    let degree = g.F.Ring.degree c.args.field.now in
-    let mul = g.F.Ring.product c.args.field.now in
-    let circuit = c.args.circuit.now in
-    let bases = c.args.setting.now.bases.items in
-    let job : IsJob degree mul circuit bases = record { ring = g.met.F.Ring.laws c.args.field.now; nozero = g.met.F.Field.no_zero_divisors c.args.field.now; sound = c.binding.ensures.sound; bound = c.binding.ensures.is_bound; flat = c.binding.ensures.flat; same = c.requires.taken.bits; over = c.requires.ready.over; long = c.requires.taken.long } in
-    let basis : elements_of c.output_basis-basis.result.now ≡ output_basis circuit.binding.words (elements_of_each bases) =
-    c.output_basis-basis.ensures.basis ∙ (λ i. output_basis (c.binding.ensures.binding i).words (elements_of_each (c.as_slice.ensures.value i))) in
-    let L : List ℕ → Type 0 = λ e. IsOfStage degree mul (BoundCut circuit e (length circuit.net.gates)) c.in-Ok.poly.terms in
-    let W : List ℕ → Type 0 = λ e. AreAllWithin degree mul (bound_cuts circuit e) c.args.bound in
-    few degree mul circuit bases job c.args.bound c.in-Ok.poly.terms (subst L basis c.in-Ok.ensures.last) (subst W basis c.in-Ok.ensures.within)
+    let P : List Basis → Type 0 = λ bases. IsOfStage k mul (IsMix (circuit_in k mul circuit bases) 0) c.in-Ok.poly.terms in
+    subst P c.as_slice-bases.ensures.value c.in-Ok.ensures.mix
 
 pub returns-in-Ok-clause-within : goal.returns-in-Ok-clause-within
 returns-in-Ok-clause-within g c =
-    let degree = g.F.Ring.degree c.args.field.now in
-    let mul = g.F.Ring.product c.args.field.now in
+    let k : ℕ = g.F.Ring.degree c.args.field.now in
+    let mul : ℕ → ℕ → ℕ = g.F.Ring.product c.args.field.now in
     let circuit = c.args.circuit.now in
-    let bases = c.args.setting.now.bases.items in
-    let basis : elements_of c.output_basis-basis.result.now ≡ output_basis circuit.binding.words (elements_of_each bases) =
-    c.output_basis-basis.ensures.basis ∙ (λ i. output_basis (c.binding.ensures.binding i).words (elements_of_each (c.as_slice.ensures.value i))) in
-    let W : List ℕ → Type 0 = λ e. AreAllWithin degree mul (bound_cuts circuit e) c.args.bound in
-    subst W basis c.in-Ok.ensures.within
+    let P : List Basis → Type 0 = λ bases. AreAllWithin k mul (cut_stages circuit (map elements_of bases)) c.args.bound in
+    subst P c.as_slice-bases.ensures.value c.in-Ok.ensures.within
+
+pub returns-in-Ok-clause-steps : goal.returns-in-Ok-clause-steps
+returns-in-Ok-clause-steps g c =
+    let k : ℕ = g.F.Ring.degree c.args.field.now in
+    let mul : ℕ → ℕ → ℕ = g.F.Ring.product c.args.field.now in
+    let circuit = c.args.circuit.now in
+    let P : List Basis → Type 0 = λ bases. IsRecorded k mul circuit (output_basis circuit.binding.words (map elements_of bases)) (length circuit.net.gates) (g.T.Steps.steps c.args.steps.now) (g.T.Steps.steps c.bits_poly.new.steps) in
+    subst P c.as_slice-bases.ensures.value c.in-Ok.ensures.steps
 
 pub returns-in-Err-clause-fault : goal.returns-in-Err-clause-fault
 returns-in-Err-clause-fault g c =
-    let degree = g.F.Ring.degree c.args.field.now in
-    let mul = g.F.Ring.product c.args.field.now in
+    let k : ℕ = g.F.Ring.degree c.args.field.now in
+    let mul : ℕ → ℕ → ℕ = g.F.Ring.product c.args.field.now in
     let circuit = c.args.circuit.now in
-    let bases = c.args.setting.now.bases.items in
-    let basis : elements_of c.output_basis-basis.result.now ≡ output_basis circuit.binding.words (elements_of_each bases) =
-    c.output_basis-basis.ensures.basis ∙ (λ i. output_basis (c.binding.ensures.binding i).words (elements_of_each (c.as_slice.ensures.value i))) in
-    let R : List ℕ → Type 0 = λ e. IsRefusal degree mul (bound_cuts circuit e) c.args.bound c.in-Err.fault in
-    subst R basis c.in-Err.ensures.fault
+    let P : List Basis → Type 0 = λ bases. IsRefusal k mul (cut_stages circuit (map elements_of bases)) c.args.bound c.in-Err.fault in
+    subst P c.as_slice-bases.ensures.value c.in-Err.ensures.fault

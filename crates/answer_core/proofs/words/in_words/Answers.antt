@@ -10,15 +10,15 @@ use Rattle.answer_core.proofs.StageLemmas.{IsJob, terms_named}
 use Rattle.answer_core.proofs.WordNamesLemmas.{mix_words_named}
 use Rattle.answer_core.proofs.words.in_words.Goals as goal
 
-pub to_words-requires-clause-k : goal.to_words-requires-clause-k
-to_words-requires-clause-k g c = c.requires.taken.bits
+pub words_poly-requires-clause-k : goal.words_poly-requires-clause-k
+words_poly-requires-clause-k g c = c.requires.taken.bits
 
-pub to_words-requires-clause-bases : goal.to_words-requires-clause-bases
-to_words-requires-clause-bases g c =
+pub words_poly-requires-clause-bases : goal.words_poly-requires-clause-bases
+words_poly-requires-clause-bases g c =
     bases_are (g.F.Ring.degree c.args.field.now) (g.F.Ring.product c.args.field.now) c.args.setting.now c.requires.ready c.args.circuit.now c.requires.taken c.as_slice-bases.result.now c.as_slice-bases.ensures.value
 
-pub to_words-requires-clause-bits : goal.to_words-requires-clause-bits
-to_words-requires-clause-bits g c =
+pub words_poly-requires-clause-bits : goal.words_poly-requires-clause-bits
+words_poly-requires-clause-bits g c =
     let degree = g.F.Ring.degree c.args.field.now in
     let mul = g.F.Ring.product c.args.field.now in
     let P : List Basis → Type 0 = λ bases. IsOfStage degree mul (IsMix (circuit_in degree mul c.args.circuit.now bases) 0) c.args.bits.terms in

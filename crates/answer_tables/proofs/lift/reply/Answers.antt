@@ -2,13 +2,13 @@ use Rattle.std.proofs.Common.{◌∙◌, ap, subst, ℕ, ◌+◌, List, ◌++◌
 use Rattle.poly_mixed.specs.Labels.{Labelling, bit_count}
 use Rattle.poly_mixed.specs.Text.{text}
 use Rattle.lift_table.specs.TablePolynomial.{IsPolynomialOfTable}
-use Rattle.answer_core.proofs.PrintedLemmas.{all_named}
+use Rattle.stage_model.proofs.SharedLemmas.{no_names}
 use Rattle.answer_tables.proofs.lift.reply.Goals as goal
 
 pub polynomial_line-requires-clause-named : goal.polynomial_line-requires-clause-named
 polynomial_line-requires-clause-named g c =
     let labels = c.args.labels.now in
-    all_named (bit_count labels.words + length labels.nets) c.in_ok-poly.poly.terms (rw c.words.ensures.value at c.in_ok-poly.ensures).no_bits
+    no_names (bit_count labels.words + length labels.nets) c.in_ok-poly.poly.terms (rw c.words.ensures.value at c.in_ok-poly.ensures).no_bits
 
 pub polynomial_line-requires-clause-words_named : goal.polynomial_line-requires-clause-words_named
 polynomial_line-requires-clause-words_named g c = (rw c.words.ensures.value at c.in_ok-poly.ensures).words_alone

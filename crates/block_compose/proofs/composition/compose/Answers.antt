@@ -11,7 +11,8 @@ use Rattle.compose_polys.specs.LevelOrder.{IsLevelOrder}
 use Rattle.compose_wiring.specs.Answer.{AreWired}
 use Rattle.compose_wiring.specs.Instanced.{hierarchy, IsInstanced}
 use Rattle.compose_wiring.specs.Refusal.{IsWiringFault}
-use Rattle.block_compose.specs.Composed.{hierarchy_of, HasNoCycle, MayFault, StagesOf}
+use Rattle.block_compose.specs.Composed.{hierarchy_of, Composes, HasNoCycle, MayFault, StagesOf}
+use Rattle.block_compose.specs.declared.fault.ComposeFault.{ComposeFault}
 use Rattle.block_compose.proofs.ComposeLemmas.{composed, hierarchy_is, no_cycle, plan_refused, cycle_refused, rows_few, rows_inside, stage_refused, wiring_refused}
 use Rattle.block_compose.proofs.ReadyLemmas.{instanced}
 use Rattle.block_compose.proofs.composition.compose.Goals as goal
@@ -23,7 +24,8 @@ returns-in-Err-clause-refusal g c =
     let design : List ModelValue = c.args.design.now in
     let signature : SignatureValue = c.args.signature.now in
     let bases : List (List Basis) = c.args.bases.now in
-    plan_refused k mul design signature bases c.args.bound c.in-Err.fault c.in-Err.ensures.fault
+    let P : ComposeFault → Type 0 = MayFault (Composes k mul design signature bases c.args.bound) in
+    subst P (sym c.of_plan.ensures) (plan_refused k mul design signature bases c.args.bound c.in-Err.fault c.in-Err.ensures.fault)
 
 pub wiring_of-requires : goal.wiring_of-requires
 wiring_of-requires g c =
@@ -51,7 +53,8 @@ returns-in-Err-wiring_of-clause-refusal g c =
     let h : Hierarchy = hierarchy_of design signature bases in
     let same : hierarchy design c.words.result.now c.blocks-2.result.now c.lists-lists.result.now ≡ h = hierarchy_is design signature c.words.result.now c.blocks-2.result.now c.lists-lists.result.now bases c.words.ensures c.blocks-2.ensures c.lists-lists.ensures in
     let P : Hierarchy → Type 0 = λ top. IsWiringFault top c.in-Err-wiring_of.fault in
-    wiring_refused k mul design signature bases c.args.bound c.in-Ok.ensures.planned.uses c.in-Ok.ensures.planned.are c.in-Err-wiring_of.fault (subst P same c.in-Err-wiring_of.ensures.refused)
+    let M : ComposeFault → Type 0 = MayFault (Composes k mul design signature bases c.args.bound) in
+    subst M (sym c.of_wiring.ensures) (wiring_refused k mul design signature bases c.args.bound c.in-Ok.ensures.planned.uses c.in-Ok.ensures.planned.are c.in-Err-wiring_of.fault (subst P same c.in-Err-wiring_of.ensures.refused))
 
 pub wired_order-requires-clause-few : goal.wired_order-requires-clause-few
 wired_order-requires-clause-few g c =

@@ -2,10 +2,11 @@ use Rattle.std.proofs.Common.{◌≡◌, ◌∙◌, ℕ, ◌≤◌, ◌*◌, ◌
 use Rattle.std.proofs.lemmas.Bool.{eqb-false}
 use Rattle.std.specs.List.Sorted.{IsStrictlySortedBy}
 use Rattle.std.specs.Ordering.{nat_cmp}
+use Rattle.lists.specs.laws.PowerLaws.{rest_long, half_within}
 use Rattle.poly_mixed.specs.Polynomial.{value}
 use Rattle.poly_mixed.specs.Table.{table_bit}
 use Rattle.poly_mixed.proofs.ProductLemmas.{rising-with_rank}
-use Rattle.poly_mixed.proofs.SimpleLemmas.{rest_long, half_within, first_and_rest}
+use Rattle.poly_mixed.proofs.SimpleLemmas.{first_and_rest}
 use Rattle.cert_check.proofs.SubsetLemmas.{both_halves}
 use Rattle.cert_check.proofs.subsets.+add_sets.Goals as goal
 

@@ -3,8 +3,8 @@ use Rattle.std.specs.Prelude.{slice_get}
 use Rattle.std.proofs.lemmas.Option.{slice_get_read}
 use Rattle.lists.specs.laws.ReadLaws.{get_below as some_at}
 use Rattle.net_words.specs.declared.word.Role.TheVariants.{Output}
-use Rattle.circuit_model.proofs.OutputBasisLemmas.{is_role, not_role}
 use Rattle.cert_check.proofs.WordsLemmas.{words_from, at_input, past_input, past_output, past_all}
+use Rattle.net_words.proofs.SharedLemmas.{is_role, not_role}
 use Rattle.cert_check.proofs.words.input_basis.Goals as goal
 
 pub returns-in-None-clause-among : goal.returns-in-None-clause-among

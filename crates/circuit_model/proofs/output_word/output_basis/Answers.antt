@@ -2,7 +2,8 @@ use Rattle.std.proofs.Common.{◌≡◌, ◌≢◌, sym, refl, length, ◌∙◌
 use Rattle.net_words.specs.declared.word.Role.TheVariants.{Output}
 use Rattle.std.proofs.lemmas.Option.{slice_get_read}
 use Rattle.lists.specs.laws.ReadLaws.{get_below as some_at}
-use Rattle.circuit_model.proofs.OutputBasisLemmas.{at_output, past_other, past_count, is_role, not_role}
+use Rattle.circuit_model.proofs.OutputBasisLemmas.{at_output, past_other, past_count}
+use Rattle.net_words.proofs.SharedLemmas.{is_role, not_role}
 use Rattle.circuit_model.proofs.output_word.output_basis.Goals as goal
 
 pub returns-then-is_output-clause-among : goal.returns-then-is_output-clause-among

@@ -1,11 +1,12 @@
 use Rattle.std.proofs.Common.{subst, sym, ◌∙◌, List, Bool, ℕ}
 use Rattle.std.proofs.lemmas.Bool.{false≢true}
+use Rattle.lists.specs.laws.OptionLaws.{if_some}
 use Rattle.net_core.specs.Value.{HasValues}
 use Rattle.circuit_model.specs.Word.{HasElement}
 use Rattle.circuit_model.specs.Out.{IsOut}
 use Rattle.circuit_model.specs.Flat.{circuit_of_parts, word_of}
 use Rattle.circuit_model.specs.private.Found.{HaveAll}
-use Rattle.circuit_model.proofs.PlainLemmas.{plain_all, plain_out, if_some}
+use Rattle.circuit_model.proofs.PlainLemmas.{plain_all, plain_out}
 use Rattle.circuit_model.proofs.plain.output.Goals as goal
 
 pub returns-then-have_elements-clause-output : goal.returns-then-have_elements-clause-output

@@ -1,7 +1,7 @@
 use Rattle.std.proofs.Common.{◌∙◌, ap, length, map}
-use Rattle.lists.specs.laws.ReadLaws.{got_read}
+use Rattle.lists.specs.laws.ReadLaws.{got_read, mapped_at}
 use Rattle.compose_model.specs.Wiring.{instances_among}
-use Rattle.compose_polys.proofs.WiredLemmas.{graph_more, mapped_at}
+use Rattle.compose_polys.proofs.WiredLemmas.{graph_more}
 use Rattle.compose_polys.proofs.graph.feeding_graph.Goals as goal
 
 pub loop-i-preserved : goal.loop-i-preserved

@@ -1,6 +1,6 @@
 use Rattle.std.proofs.Common.{rules, ◌≡◌, ◌∙◌, ◌<◌, ◌≤◌, ◌+◌, sym, ap, subst, ℕ, List, Some, length, map, arith}
 use Rattle.std.specs.Prelude.{slice_get}
-use Rattle.lists.specs.laws.ReadLaws.{got_read}
+use Rattle.lists.specs.laws.ReadLaws.{got_read, all_at}
 use Rattle.poly_mixed.specs.Monomial.{Monomial}
 use Rattle.poly_mixed.specs.Polynomial.{Point, Terms}
 use Rattle.poly_mixed.specs.declared.stage.ReduceFault.{ReduceFault}
@@ -9,7 +9,6 @@ use Rattle.poly_mixed.specs.declared.stage.Stage.TheVariants.{InstanceSum}
 use Rattle.stage_model.specs.Listing.{IsRefusal}
 use Rattle.compose_polys.specs.Instance.{block_term, block_terms, feed_values}
 use Rattle.compose_polys.specs.InstanceListing.{instance_listing}
-use Rattle.compose_polys.proofs.SquareLemmas.{term_of_all}
 use Rattle.compose_polys.proofs.StageLemmas.{all_polynomial, all_within, mapped_long, mapped_term, small_exponents, sum_refused, summed_more, term_refused}
 use Rattle.compose_polys.proofs.instance.instance_poly.Goals as goal
 
@@ -46,7 +45,7 @@ returns-in_err-check_size-clause-fault g c =
     let said = c.in_err-check_size.ensures.over.0 ∙ ap (TooManyTerms (InstanceSum c.args.instance (s + 1))) c.len.ensures in
     let Q : ReduceFault → Type 0 = λ f. IsRefusal k mul (instance_listing mul feeds c.args.instance (block_terms ts)) c.args.bound f in
     let fault : IsRefusal k mul (instance_listing mul feeds c.args.instance (block_terms ts)) c.args.bound c.in_err-check_size.field-0.0 =
-    subst Q (sym said) (sum_refused k mul feeds ring free (block_terms ts) c.args.bound s (block_term t) (mapped_term ts s t at) (small_exponents k t ring (term_of_all _ ts s t c.requires.block.terms at)) c.loop-s.sum.terms c.in_ok-product.product.terms new c.loop-s.invariant c.in_ok-product.ensures.reached c.in_ok-add_into.ensures.reduced c.in_ok-add_into.ensures.values c.args.instance over) in
+    subst Q (sym said) (sum_refused k mul feeds ring free (block_terms ts) c.args.bound s (block_term t) (mapped_term ts s t at) (small_exponents k t ring (all_at _ ts s t c.requires.block.terms at)) c.loop-s.sum.terms c.in_ok-product.product.terms new c.loop-s.invariant c.in_ok-product.ensures.reached c.in_ok-add_into.ensures.reduced c.in_ok-add_into.ensures.values c.args.instance over) in
     search rules
 
 pub loop-s-preserved : goal.loop-s-preserved
@@ -63,7 +62,7 @@ loop-s-preserved g c =
     let at : slice_get ts s ≡ Some t = subst P c.in_ok-terms.ensures (got_read c.in_ok-terms.terms.items s t (omega (arith, c.loop-s-test.true, c.len-s-end.ensures)) c.index.ensures) in
     let new : Terms = c.add_into.new.self.terms in
     let low : length new ≤ c.args.bound = omega (arith, c.in_ok-check_size.ensures.within, c.len.ensures) in
-    summed_more k mul feeds ring free (block_terms ts) c.args.bound s (block_term t) (mapped_term ts s t at) (small_exponents k t ring (term_of_all _ ts s t c.requires.block.terms at)) c.loop-s.sum.terms c.in_ok-product.product.terms new c.loop-s.invariant c.in_ok-product.ensures.reached c.in_ok-add_into.ensures.reduced c.in_ok-add_into.ensures.values low
+    summed_more k mul feeds ring free (block_terms ts) c.args.bound s (block_term t) (mapped_term ts s t at) (small_exponents k t ring (all_at _ ts s t c.requires.block.terms at)) c.loop-s.sum.terms c.in_ok-product.product.terms new c.loop-s.invariant c.in_ok-product.ensures.reached c.in_ok-add_into.ensures.reduced c.in_ok-add_into.ensures.values low
 
 pub returns-clause-polynomial : goal.returns-clause-polynomial
 returns-clause-polynomial g c =

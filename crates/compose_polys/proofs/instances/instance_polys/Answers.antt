@@ -3,7 +3,7 @@ use Rattle.std.specs.Prelude.{slice_get, slice_index}
 use Rattle.std.proofs.lemmas.List.{map-set}
 use Rattle.std.proofs.lemmas.Option.{slice_get-get_or}
 use Rattle.lists.specs.laws.ListLaws.{length_map as mapped_long}
-use Rattle.lists.specs.laws.ReadLaws.{got_read}
+use Rattle.lists.specs.laws.ReadLaws.{got_read, mapped_at}
 use Rattle.poly_mixed.specs.Polynomial.{value, IsPolynomialOf, Terms}
 use Rattle.poly_mixed.specs.declared.poly.Poly.{Poly}
 use Rattle.stage_model.specs.Listing.{AreAllWithin, IsRefusal}
@@ -12,7 +12,6 @@ use Rattle.compose_polys.specs.InstanceListing.{instance_listing}
 use Rattle.compose_model.specs.declared.feeder.Feeder.{Feeder}
 use Rattle.compose_polys.specs.Words.{values_of, IsBlockFor, IsFeedAmong}
 use Rattle.compose_polys.specs.Instances.{IsReady, IsRefused}
-use Rattle.compose_polys.proofs.FeedLemmas.{mapped_at}
 use Rattle.compose_polys.proofs.OrderLemmas.{none_done, one_done, refused}
 use Rattle.compose_polys.proofs.instances.instance_polys.Goals as goal
 

@@ -1,9 +1,8 @@
 use Rattle.std.proofs.Common.{◌≡◌, ◌∙◌, sym, List, ℕ, true, false, map, arith, Bor}
 use Rattle.std.specs.Str.{bytes_eq}
-use Rattle.lists.specs.laws.BoolLaws.{not_true as was_false}
+use Rattle.lists.specs.laws.BoolLaws.{not_true as was_false, not_false}
 use Rattle.lists.specs.laws.ListLaws.{length_map as mapped_long}
 use Rattle.compose_wiring.specs.private.Names.{same_names}
-use Rattle.compose_wiring.proofs.ListLemmas.{was_true}
 use Rattle.compose_wiring.proofs.StepLemmas.{long_other, same_here, same_not}
 use Rattle.compose_wiring.proofs.nets.are_same.Goals as goal
 
@@ -25,5 +24,5 @@ loop-place-preserved c =
     let f : Bor (List ℕ) → List ℕ = λ name. name.now in
     let xs : List (List ℕ) = map f c.args.a.now in
     let ys : List (List ℕ) = map f c.args.b.now in
-    let same : bytes_eq c.name_at.result.now c.name_at-in-loop-place.result.now ≡ true = was_true (bytes_eq c.name_at.result.now c.name_at-in-loop-place.result.now) (sym c.ne.ensures ∙ c.if-ne.false) in
+    let same : bytes_eq c.name_at.result.now c.name_at-in-loop-place.result.now ≡ true = not_false (bytes_eq c.name_at.result.now c.name_at-in-loop-place.result.now) (sym c.ne.ensures ∙ c.if-ne.false) in
     same_here xs ys c.loop-place.place c.name_at.result.now c.name_at-in-loop-place.result.now (same_names xs ys) c.name_at.ensures c.name_at-in-loop-place.ensures c.loop-place.invariant same

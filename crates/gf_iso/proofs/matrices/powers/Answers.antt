@@ -3,8 +3,8 @@ use Rattle.std.proofs.Math.ListN.{length-replicate}
 use Rattle.gf_field.specs.Power.{power}
 use Rattle.gf_field.specs.laws.PowerLaws.{one_below}
 use Rattle.gf_field.proofs.CopyLemmas.{zeros, set_rest}
+use Rattle.gf_field.proofs.SharedLemmas.{power_next}
 use Rattle.irreducible.proofs.MatrixLaws.{set_more}
-use Rattle.gf_iso.proofs.CodeLaws.{power_next}
 use Rattle.gf_iso.proofs.matrices.powers.Goals as goal
 
 pub loop-i-init : goal.loop-i-init

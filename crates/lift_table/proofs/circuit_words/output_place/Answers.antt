@@ -3,8 +3,8 @@ use Rattle.std.specs.Prelude.{slice_get}
 use Rattle.std.proofs.lemmas.Bool.{cases_eq}
 use Rattle.std.proofs.lemmas.Option.{slice_get_within}
 use Rattle.net_words.specs.Binding.{Binding}
-use Rattle.circuit_model.proofs.OutputBasisLemmas.{is_role, not_role}
 use Rattle.lift_table.proofs.CircuitWordLemmas.{outputs, none_counted}
+use Rattle.net_words.proofs.SharedLemmas.{is_role, not_role}
 use Rattle.lift_table.proofs.circuit_words.output_place.Goals as goal
 
 pub returns-then-is_output-clause-output : goal.returns-then-is_output-clause-output

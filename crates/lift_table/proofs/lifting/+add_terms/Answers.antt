@@ -1,7 +1,7 @@
 use Rattle.std.proofs.Common.{◌≡◌, ◌<◌, ◌≤◌, ◌+◌, ◌-◌, ◌*◌, ◌^◌, suc, ap, sym, subst, ◌∙◌, List, set, drop, get_or, ℕ, arith}
 use Rattle.std.specs.List.{AllByRecursion}
 use Rattle.poly_mixed.specs.laws.Uniqueness.{IsZeros}
-use Rattle.lift_table.specs.OneWord.{AreColumns}
+use Rattle.lift_table.specs.private.Columns.{AreColumns}
 use Rattle.lift_table.specs.private.Lifting.{AddsTable, IsOfWords}
 use Rattle.lift_table.proofs.LiftingLemmas.{HasColumns, no_columns, one_column, all_columns}
 use Rattle.lift_table.proofs.RowLemmas.{rows_split}

@@ -1,5 +1,5 @@
 use Rattle.std.proofs.Common.{◌+◌, ap, subst, ◌∙◌, List, ◌++◌, ℕ, arith}
-use Rattle.lift_table.specs.OneWord.{AreCoefficients}
+use Rattle.lift_table.specs.private.Columns.{AreCoefficients}
 use Rattle.lift_table.proofs.OneWordLemmas.{one_column}
 use Rattle.lift_table.proofs.one_word.columns.Goals as goal
 

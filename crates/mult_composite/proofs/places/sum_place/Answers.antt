@@ -1,6 +1,6 @@
 use Rattle.std.proofs.Common.{arith}
+use Rattle.lists.specs.laws.NumberLaws.{mul_few}
 use Rattle.mult_composite.proofs.PlaceLemmas.{sum_place}
-use Rattle.mult_composite.proofs.RoomLemmas.{mul_few}
 use Rattle.mult_composite.proofs.places.sum_place.Goals as goal
 
 pub overflow_mul-start : goal.overflow_mul-start

@@ -1,8 +1,9 @@
 use Rattle.std.proofs.Common.{◌≡◌, ℕ, ◌<◌, ◌∙◌, arith, length-set, length}
 use Rattle.std.proofs.Math.ListN.{length-replicate}
+use Rattle.gf_field.proofs.SharedLemmas.{power_next}
 use Rattle.gf_field.specs.Power.{power}
 use Rattle.irreducible.proofs.MatrixLaws.{set_more}
-use Rattle.mult_digit.proofs.PowerLemmas.{one_below, power_next}
+use Rattle.mult_digit.proofs.PowerLemmas.{one_below}
 use Rattle.mult_digit.proofs.powers.powers_of.Goals as goal
 
 pub loop-i-init : goal.loop-i-init

@@ -4,7 +4,7 @@ use Rattle.std.specs.Prelude.{◌==◌}
 use Rattle.std.specs.Int.{bit_at}
 use Rattle.gf_field.specs.Power.{power}
 use Rattle.make_nets.specs.Plan.{gathered, where_so}
-use Rattle.mult_digit.specs.DigitPlan.{product_net}
+use Rattle.mult_digit.specs.private.ProductNets.{product_net}
 use Rattle.mult_digit.proofs.summands.add_products.Given as goal
 
 abbrev pub invariant-loop-e : goal.invariant-loop-e

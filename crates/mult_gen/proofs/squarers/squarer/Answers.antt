@@ -9,16 +9,24 @@ use Rattle.net_write.specs.Plain.{HasPlainNames}
 use Rattle.make_nets.specs.Plan.{Plan}
 use Rattle.make_nets.specs.Computes.{ComputesOfOne}
 use Rattle.make_nets.specs.Made.{made_of, IsPlanFor}
-use Rattle.make_nets.proofs.MadeLemmas.{made_plain}
+use Rattle.make_nets.proofs.MadeLemmas.{made_plain, made_sound}
 use Rattle.mult_gen.specs.Form.{made_squarer, outputs_in}
 use Rattle.mult_gen.proofs.FormLemmas.{wide_of}
 use Rattle.mult_gen.proofs.ComputeLemmas.{squarer_computes, squarer_fits}
+use Rattle.net_core.specs.Sound.{IsSound}
 use Rattle.mult_gen.proofs.squarers.squarer.Goals as goal
 
 pub net_of-requires-clause-fits : goal.net_of-requires-clause-fits
 net_of-requires-clause-fits c =
     let P : Plan → Type 0 = λ plan. IsPlanFor c.args.signature.now.words [] [] (outputs_in c.args.signature.now.words) plan in
     (outputs_in c.args.signature.now.words, subst P (sym c.in_ok-plan.ensures) (squarer_fits (degree_of (ring_of c.args.ring.now)) (modulus_of (ring_of c.args.ring.now)) c.args.ring.now.ring.fits.small c.args.signature.now.words c.in-Ok.ensures.form.ports.words (wide_of (degree_of (ring_of c.args.ring.now)) 1 c.args.signature.now.words c.in-Ok.ensures.form.ports.words c.requires.wide)))
+
+pub returns-clause-sound : goal.returns-clause-sound
+returns-clause-sound c =
+    let P : NetList → Type 0 = λ net. IsSound net in
+    let Q : Plan → Type 0 = λ plan. IsPlanFor c.args.signature.now.words [] [] (outputs_in c.args.signature.now.words) plan in
+    let fits = subst Q (sym c.in_ok-plan.ensures) (squarer_fits (degree_of (ring_of c.args.ring.now)) (modulus_of (ring_of c.args.ring.now)) c.args.ring.now.ring.fits.small c.args.signature.now.words c.in-Ok.ensures.form.ports.words (wide_of (degree_of (ring_of c.args.ring.now)) 1 c.args.signature.now.words c.in-Ok.ensures.form.ports.words c.requires.wide)) in
+    subst P (sym c.in_ok-net.ensures) (made_sound c.args.signature.now.words [] [] (outputs_in c.args.signature.now.words) c.in_ok-plan.plan c.in-Ok.ensures.form.ports.names fits)
 
 pub returns-clause-plain : goal.returns-clause-plain
 returns-clause-plain c =

@@ -1,6 +1,6 @@
 use Rattle.std.proofs.Common.{arith, ap, length, ◌*◌}
+use Rattle.lists.specs.laws.NumberLaws.{mul_few}
 use Rattle.make_nets.specs.Plan.{Plan}
-use Rattle.mult_gen.proofs.BoundLemmas.{mul_few}
 use Rattle.mult_montgomery.proofs.multiplier.gates.Goals as goal
 
 pub rounds-requires-clause-room : goal.rounds-requires-clause-room

@@ -1,4 +1,5 @@
 use Rattle.std.proofs.Common.{◌∙◌, ap, sym, length, []}
+use Rattle.gf_basis.specs.BasisParts.{elements_of}
 use Rattle.mult_normal.specs.Coordinates.{counts_in}
 use Rattle.mult_normal.proofs.PlanForLemmas.{made_at, plan_for_at}
 use Rattle.mult_normal.proofs.WordLemmas.{count_low, first_long, outputs_long, second_long}
@@ -26,7 +27,7 @@ latches-requires-clause-z_long g c =
 pub make-requires-clause-fits : goal.make-requires-clause-fits
 make-requires-clause-fits g c = (
   [],
-  plan_for_at (g.F.Ring.degree c.args.field.now) (counts_in (g.F.Ring.degree c.args.field.now) (g.F.Ring.product c.args.field.now) c.args.basis.now) c.args.words.now c.requires.form c.requires.bits (g.met.F.Ring.laws c.args.field.now).small
+  plan_for_at (g.F.Ring.degree c.args.field.now) (counts_in (g.F.Ring.degree c.args.field.now) (g.F.Ring.product c.args.field.now) (elements_of c.args.basis.now)) c.args.words.now c.requires.form c.requires.bits (g.met.F.Ring.laws c.args.field.now).small
       c.count_of.result c.in_ok-plan.last c.args.a.now c.args.b.now c.args.z.now c.in_ok-plan.plan c.deref.result.now
       c.count_of.ensures c.requires.a c.requires.b c.requires.z c.in_ok-plan.ensures.plan c.in_ok-plan.ensures.net (c.deref.ensures.value ∙ c.in_ok-list.ensures),
 )
@@ -34,6 +35,6 @@ make-requires-clause-fits g c = (
 pub returns : goal.returns
 returns g c =
     c.in_ok-net.ensures
-    ∙ made_at (g.F.Ring.degree c.args.field.now) (counts_in (g.F.Ring.degree c.args.field.now) (g.F.Ring.product c.args.field.now) c.args.basis.now) c.args.words.now c.requires.form c.requires.bits (g.met.F.Ring.laws c.args.field.now).small
+    ∙ made_at (g.F.Ring.degree c.args.field.now) (counts_in (g.F.Ring.degree c.args.field.now) (g.F.Ring.product c.args.field.now) (elements_of c.args.basis.now)) c.args.words.now c.requires.form c.requires.bits (g.met.F.Ring.laws c.args.field.now).small
     c.count_of.result c.in_ok-plan.last c.args.a.now c.args.b.now c.args.z.now c.in_ok-plan.plan c.deref.result.now
     c.count_of.ensures c.requires.a c.requires.b c.requires.z c.in_ok-plan.ensures.plan c.in_ok-plan.ensures.net (c.deref.ensures.value ∙ c.in_ok-list.ensures)

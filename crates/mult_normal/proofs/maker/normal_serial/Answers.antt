@@ -24,8 +24,8 @@ returns-clause-plain g c =
     let signature = c.args.signature.now in
     let form : HasNormalForm signature = c.in-Ok.ensures.form in
     let P : NetList → Type 0 = λ net. HasPlainNames net in
-    subst P (sym (c.in_ok-net.ensures ∙ ap (normal_net k mul c.args.basis.now) c.words.ensures))
-    (plain k mul (g.met.F.Ring.laws c.args.field.now) (g.met.F.Field.no_zero_divisors c.args.field.now) c.args.basis.now c.requires.over signature form (states_wide k 2 signature.words form.words c.requires.wide))
+    subst P (sym (c.in_ok-net.ensures ∙ ap (normal_net k mul (elements_of c.args.basis.now)) c.words.ensures))
+    (plain k mul (g.met.F.Ring.laws c.args.field.now) (g.met.F.Field.no_zero_divisors c.args.field.now) (elements_of c.args.basis.now) c.requires.over.elements signature form (states_wide k 2 signature.words form.words c.requires.wide))
 
 pub returns-clause-computes : goal.returns-clause-computes
 returns-clause-computes g c =
@@ -34,5 +34,5 @@ returns-clause-computes g c =
     let signature = c.args.signature.now in
     let form : HasNormalForm signature = c.in-Ok.ensures.form in
     let P : NetList → Type 0 = λ net. ComputesOfTwo k mul net signature.words (elements_of c.args.basis.now) k mul in
-    subst P (sym (c.in_ok-net.ensures ∙ ap (normal_net k mul c.args.basis.now) c.words.ensures))
-    (computes_form k mul (g.met.F.Ring.laws c.args.field.now) (g.met.F.Field.no_zero_divisors c.args.field.now) c.args.basis.now c.requires.over signature form (states_wide k 2 signature.words form.words c.requires.wide) (c.requires.basis form))
+    subst P (sym (c.in_ok-net.ensures ∙ ap (normal_net k mul (elements_of c.args.basis.now)) c.words.ensures))
+    (computes_form k mul (g.met.F.Ring.laws c.args.field.now) (g.met.F.Field.no_zero_divisors c.args.field.now) (elements_of c.args.basis.now) c.requires.over.elements signature form (states_wide k 2 signature.words form.words c.requires.wide) (c.requires.basis form))

@@ -1,6 +1,8 @@
 use Rattle.std.proofs.Common.{◌≡◌, ◌∙◌, ap, sym, subst, ℕ, ◌<◌, ◌^◌, arith}
 use Rattle.std.specs.Prelude.{slice_index}
-use Rattle.stage_model.proofs.WordBitLemmas.{part_value, frobenius_in, exponent_in, whole_value, element_in}
+use Rattle.lists.specs.laws.PowerLaws.{one_at_below}
+use Rattle.poly_mixed.proofs.SharedLemmas.{frobenius_in, element_in}
+use Rattle.stage_model.proofs.WordBitLemmas.{part_value, whole_value}
 use Rattle.plain_runs.proofs.bit_form.bit_poly.Goals as goal
 
 pub scaled_power-requires-clause-element : goal.scaled_power-requires-clause-element
@@ -15,7 +17,7 @@ scaled_power-requires-clause-element g c =
 pub scaled_power-requires-clause-exponent : goal.scaled_power-requires-clause-exponent
 scaled_power-requires-clause-exponent g c =
     let less : c.loop-j.j < g.F.Ring.degree c.args.field.now = omega (arith, c.loop-j-test.true, c.k-j-end.ensures) in
-    exponent_in c.loop-j.j (g.F.Ring.degree c.args.field.now) less (g.met.F.Ring.laws c.args.field.now).small
+    one_at_below c.loop-j.j (g.F.Ring.degree c.args.field.now) less (g.met.F.Ring.laws c.args.field.now).small
 
 pub returns : goal.returns
 returns g c =

@@ -1,8 +1,9 @@
+use Rattle.lists.specs.laws.OptionLaws.{if_some}
 use Rattle.circuit_model.specs.Word.{HasElement}
 use Rattle.circuit_model.specs.Out.{IsOut}
 use Rattle.circuit_model.specs.Flat.{word_of}
 use Rattle.plain_runs.specs.JobOfParts.{job_of_parts}
-use Rattle.plain_runs.proofs.JobRunLemmas.{if_some, reached_out}
+use Rattle.plain_runs.proofs.JobRunLemmas.{reached_out}
 use Rattle.plain_runs.proofs.plain.last_element.Goals as goal
 
 pub returns-clause-output : goal.returns-clause-output

@@ -3,7 +3,8 @@ use Rattle.std.specs.Prelude.{slice_get}
 use Rattle.std.proofs.lemmas.Option.{slice_get_within}
 use Rattle.lists.specs.laws.ReadLaws.{got_at}
 use Rattle.net_core.proofs.EvalLemmas.{right_step, all_right}
-use Rattle.plain_runs.proofs.SettledLemmas.{with_levels, sources_step}
+use Rattle.plain_runs.proofs.EvaluationLemmas.{with_levels}
+use Rattle.plain_runs.proofs.SettledLemmas.{sources_step}
 use Rattle.plain_runs.proofs.settle.set_gates.Goals as goal
 
 pub set_gate-requires-clause-inside : goal.set_gate-requires-clause-inside

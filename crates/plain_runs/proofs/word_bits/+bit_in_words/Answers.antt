@@ -2,8 +2,8 @@ use Rattle.std.proofs.Common.{rules, arith, ◌≡◌, ◌≤◌, ◌∙◌, sub
 use Rattle.std.specs.Prelude.{slice_get, ◌==◌}
 use Rattle.std.specs.Int.{bit_at}
 use Rattle.lists.specs.Lists.{Has, times}
-use Rattle.plain_runs.proofs.PlainLemmas.{first_at, named_first, named_rest}
 use Rattle.circuit_model.proofs.BitLemmas.{bit_in_all}
+use Rattle.circuit_model.proofs.PlainLemmas.{first_at, named_first, named_rest}
 use Rattle.circuit_model.proofs.SliceLemmas.{rest_has, rest_long, first_get}
 use Rattle.plain_runs.proofs.word_bits.+bit_in_words.Goals as goal
 

@@ -1,7 +1,8 @@
 use Rattle.std.proofs.Common.{rules, arith, ◌∙◌, sym, get_or}
 use Rattle.std.proofs.lemmas.Bool.{false≢true}
+use Rattle.circuit_model.proofs.PlainLemmas.{first_at}
 use Rattle.circuit_model.proofs.SliceLemmas.{rest_has, rest_long, first_get}
-use Rattle.plain_runs.proofs.PlainLemmas.{first_at, have_asked, asked_rest}
+use Rattle.plain_runs.proofs.PlainLemmas.{have_asked, asked_rest}
 use Rattle.plain_runs.proofs.word_bits.+have_elements.Goals as goal
 
 pub have_elements-requires : goal.have_elements-requires

@@ -1,10 +1,11 @@
 use Rattle.std.proofs.Common.{◌≡◌, ap, subst, ℕ, ◌-◌, ◌<◌, Some, length, arith}
 use Rattle.std.specs.Prelude.{slice_get}
+use Rattle.lists.specs.laws.OptionLaws.{if_some}
 use Rattle.lists.specs.laws.ReadLaws.{got_read}
 use Rattle.gf_basis.specs.BasisParts.{elements_of}
 use Rattle.poly_mixed.specs.Polynomial.{Terms}
 use Rattle.stage_model.specs.PlainWord.{IsProductOf, IsProductStage}
-use Rattle.plain_runs.proofs.PlainStageLemmas.{product_is, if_some, has_places, term_place}
+use Rattle.plain_runs.proofs.PlainStageLemmas.{product_is, has_places, term_place}
 use Rattle.plain_runs.proofs.word_stage.word_product.Goals as goal
 use Rattle.plain_runs.proofs.word_stage.word_product.Goals.{else-word-words-via-then-word-words+then-term-ge1+else-term-len, else-word-words-via-then-word-words+else-term-ge1, else-word-words-via-else-word-words}
 

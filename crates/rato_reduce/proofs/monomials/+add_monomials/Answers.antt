@@ -1,6 +1,6 @@
 use Rattle.std.proofs.Common.{◌≡◌, ℕ, ◌-◌, ◌*◌, ◌^◌, ◌≤◌, List, length, take, drop, subst, sym, arith, rules, false, ◌==◌}
 use Rattle.std.proofs.lemmas.Bool.{eqb-false}
-use Rattle.poly_mixed.proofs.SimpleLemmas.{rest_long, half_within}
+use Rattle.lists.specs.laws.PowerLaws.{rest_long, half_within}
 use Rattle.rato_reduce.proofs.monomials.+add_monomials.Goals as goal
 
 halved : (rs : List ℕ) (step : ℕ) → 1 ≤ length rs → step * 2 ^ length rs ≤ 64 → 2 * step * 2 ^ length (take (length rs - 1) (drop 1 rs)) ≤ 64

@@ -1,6 +1,7 @@
 use Rattle.std.proofs.Common.{◌≡◌, ◌∙◌, ap, sym, refl, subst, ℕ, ◌<◌, ◌^◌, arith}
 use Rattle.poly_mixed.proofs.FieldLaws.{field_of}
-use Rattle.stage_model.proofs.WordBitLemmas.{part_value, frobenius_in, exponent_is, whole_value}
+use Rattle.poly_mixed.proofs.SharedLemmas.{frobenius_in}
+use Rattle.stage_model.proofs.WordBitLemmas.{part_value, exponent_is, whole_value}
 use Rattle.word_subst.proofs.FormListLemmas.{IsPartForm, no_power, next_power}
 use Rattle.word_subst.proofs.forms.form.Goals as goal
 

@@ -1,4 +1,5 @@
 use Rattle.std.proofs.Common.{rules, ◌≡◌, subst, ap, ◌∙◌, refl, inl, inr, ◌<◌, length}
+use Rattle.std.proofs.lemmas.List.{nil_from_length}
 use Rattle.gf_field.specs.Bit.{bit_mul}
 use Rattle.gf_field.specs.Quotient.{product}
 use Rattle.gf_field.specs.Ring2k.{degree_of, modulus_of}
@@ -6,7 +7,7 @@ use Rattle.irreducible.specs.Proved.{ring_of}
 use Rattle.gf_tower.specs.TowerParts.{base_of, coefficients_of, size_of}
 use Rattle.gf_tower.specs.FieldName.{IsFieldOver}
 use Rattle.gf_tower.specs.private.OverFault.{IsOverFault}
-use Rattle.gf_tower.proofs.FieldNameLaws.{fault_clash, no_items, same_tower}
+use Rattle.gf_tower.proofs.FieldNameLaws.{fault_clash, same_tower}
 use Rattle.gf_tower.proofs.any_field.AnyField.new.Goals as goal
 
 pub returns-in-Err-clause-fault : goal.returns-in-Err-clause-fault
@@ -35,7 +36,7 @@ returns-then-is_empty-2-clause-accepted c =
         degree = d;
         base = c.in-Ok.ensures.field;
         tower = inr (subst (λ g. IsFieldOver d (product 1 d bit_mul g) c.args.tower.now) c.in-Ok.ensures.modulus c.in-Ok-proved_over.ensures.field);
-        upper = inl (let none : length c.args.upper.now ≡ 0 = search rules in no_items c.args.upper.now none);
+        upper = inl (let none : length c.args.upper.now ≡ 0 = search rules in nil_from_length c.args.upper.now none);
       },
       λ name. refl,
     )

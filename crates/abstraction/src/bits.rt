@@ -1,0 +1,53 @@
+//! The polynomial of a circuit's output in the bits of its words.
+ghost use Rattle.std.specs.Prelude.{◌≡◌, ◌≤◌, length, map, IfErr, IfOk, OnOk};
+ghost use Rattle.net_core.specs.Sound.{IsSound};
+ghost use Rattle.net_words.specs.OneCycle.{IsOneCycle};
+ghost use Rattle.gf_basis.specs.BasisParts.{elements_of};
+ghost use Rattle.circuit_model.specs.Bases.{circuit_in, AreBases};
+ghost use Rattle.circuit_model.specs.OfBinding.{output_basis as basis_of_output};
+ghost use Rattle.circuit_model.specs.WellFormed.{IsWellFormed};
+ghost use Rattle.stage_model.specs.Listing.{AreAllWithin, IsRefusal};
+ghost use Rattle.stage_model.specs.Mix.{IsMix};
+ghost use Rattle.stage_model.specs.OutputInBits.{IsOutputInBits};
+ghost use Rattle.stage_model.specs.Stage.{IsOfStage};
+ghost use Rattle.rato_reduce.specs.Recorded.{IsRecorded};
+ghost use Rattle.abstraction.specs.Stages.{cut_stages, IsLastCut};
+
+use circuit_model::output_basis;
+use gf_basis::Basis;
+use gf_field::Field;
+use net_words::Combinational;
+use poly_mixed::{Poly, ReduceFault, Steps};
+use rato_reduce::reduce_bits;
+use std::alloc::Global;
+
+/// The polynomial of a circuit's output in the bits of its words, or the first cut of more than `bound` terms. There is one
+/// basis of this field for each word of the binding, and each word has k bits. The recorder gets the steps of the
+/// elimination.
+pub fn bits_poly<F: Field, T: Steps>(
+    alloc: Global,
+    field: &F,
+    circuit: &Combinational,
+    bases: &[Basis],
+    bound: u32,
+    steps: &mut T,
+) -> Result<Poly, ReduceFault>
+    requires bits { circuit.now.binding.k ≡ F.degree field.now }
+    requires bases { AreBases (F.degree field.now) (F.product field.now) circuit.now bases.now }
+    ensures sound { IsSound circuit.now.net }
+    ensures is_bound { IsOneCycle circuit.now.net circuit.now.binding }
+    ensures well { IsWellFormed (circuit_in (F.degree field.now) (F.product field.now) circuit.now bases.now) }
+    ensures last { IfOk result (λ q. IsLastCut (F.degree field.now) (F.product field.now) circuit.now (map elements_of bases.now) q.terms) }
+    ensures output { IfOk result (λ q. IsOutputInBits (circuit_in (F.degree field.now) (F.product field.now) circuit.now bases.now) q.terms) }
+    ensures mix { IfOk result (λ q. IsOfStage (F.degree field.now) (F.product field.now) (IsMix (circuit_in (F.degree field.now) (F.product field.now) circuit.now bases.now) 0) q.terms) }
+    ensures few { IfOk result (λ q. length q.terms ≤ bound) }
+    ensures within { OnOk result (AreAllWithin (F.degree field.now) (F.product field.now) (cut_stages circuit.now (map elements_of bases.now)) bound) }
+    ensures steps { OnOk result (IsRecorded (F.degree field.now) (F.product field.now) circuit.now (basis_of_output circuit.now.binding.words (map elements_of bases.now)) (length circuit.now.net.gates) (T.steps steps.old) (T.steps steps.new)) }
+    ensures fault { IfErr result (IsRefusal (F.degree field.now) (F.product field.now) (cut_stages circuit.now (map elements_of bases.now)) bound) }
+{
+    let basis = output_basis(circuit.binding(), bases);
+    match reduce_bits(alloc, field, circuit, basis, bound, steps) {
+        Ok(poly) => Ok(poly),
+        Err(fault) => Err(fault),
+    }
+}

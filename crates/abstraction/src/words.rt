@@ -1,0 +1,45 @@
+//! The polynomial of a circuit's output in its words.
+ghost use Rattle.std.specs.Prelude.{◌≡◌, ◌<◌, ◌^◌, length, IfErr, IfOk, OnOk};
+ghost use Rattle.circuit_model.specs.Bases.{circuit_in, AreBases};
+ghost use Rattle.stage_model.specs.Listing.{AreAllWithin, IsRefusal};
+ghost use Rattle.stage_model.specs.Mix.{IsMix};
+ghost use Rattle.stage_model.specs.OutputInWords.{IsOutputInWords};
+ghost use Rattle.stage_model.specs.Stage.{IsOfStage};
+ghost use Rattle.stage_model.specs.WordListing.{word_listing};
+ghost use Rattle.word_subst.specs.Recorded.{IsRecorded};
+
+use gf_basis::Basis;
+use gf_field::Field;
+use net_words::Combinational;
+use poly_mixed::{Poly, ReduceFault, Steps};
+use std::alloc::Global;
+use word_subst::to_words;
+
+/// The polynomial of a circuit's output in its words, out of that in their bits, or the first stage of words of more than
+/// `bound` terms. There is one basis of this field for each word of the binding, and each word has k bits. The recorder gets
+/// the steps of the replacement.
+pub fn words_poly<F: Field, T: Steps>(
+    alloc: Global,
+    field: &F,
+    circuit: &Combinational,
+    bases: &[Basis],
+    bits: Poly,
+    bound: u32,
+    steps: &mut T,
+) -> Result<Poly, ReduceFault>
+    requires k { circuit.now.binding.k ≡ F.degree field.now }
+    requires bases { AreBases (F.degree field.now) (F.product field.now) circuit.now bases.now }
+    requires bits { IsOfStage (F.degree field.now) (F.product field.now) (IsMix (circuit_in (F.degree field.now) (F.product field.now) circuit.now bases.now) 0) bits.terms }
+    requires few { length bits.terms < 2 ^ 32 }
+    ensures words { IfOk result (λ q. IsOfStage (F.degree field.now) (F.product field.now) (IsMix (circuit_in (F.degree field.now) (F.product field.now) circuit.now bases.now) (length (circuit_in (F.degree field.now) (F.product field.now) circuit.now bases.now).words)) q.terms) }
+    ensures output { IfOk result (λ q. IsOutputInWords (circuit_in (F.degree field.now) (F.product field.now) circuit.now bases.now) q.terms) }
+    ensures within { OnOk result (AreAllWithin (F.degree field.now) (F.product field.now) (word_listing (circuit_in (F.degree field.now) (F.product field.now) circuit.now bases.now)) bound) }
+    ensures steps { OnOk result (IsRecorded (circuit_in (F.degree field.now) (F.product field.now) circuit.now bases.now) (T.steps steps.old) (T.steps steps.new)) }
+    ensures fault { IfErr result (IsRefusal (F.degree field.now) (F.product field.now) (word_listing (circuit_in (F.degree field.now) (F.product field.now) circuit.now bases.now)) bound) }
+{
+    let _netlist = circuit.binding();
+    match to_words(alloc, field, circuit, bases, bits, bound, steps) {
+        Ok(poly) => Ok(poly),
+        Err(fault) => Err(fault),
+    }
+}

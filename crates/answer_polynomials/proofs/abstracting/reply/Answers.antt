@@ -1,0 +1,91 @@
+use Rattle.std.proofs.Common.{◌≤◌, ◌∙◌, ◌++◌, List, ℕ, ap, sym, subst, codes, length, arith}
+use Rattle.outcome.specs.Outcome.{Exactly, Within}
+use Rattle.poly_mixed.specs.Labels.{Labelling}
+use Rattle.poly_mixed.specs.Polynomial.{Terms}
+use Rattle.poly_mixed.specs.Text.{text, HasNames, HasWordNames}
+use Rattle.circuit_model.specs.OfBinding.{output_basis}
+use Rattle.stage_model.specs.WordListing.{word_listing}
+use Rattle.stage_model.proofs.ListingLemmas.{both_within}
+use Rattle.job_words.specs.declared.fault.Fault.TheVariants as faults
+use Rattle.job_words.proofs.StepLemmas.{stops}
+use Rattle.job_input.specs.Labelling.{labels_of}
+use Rattle.job_input.specs.Setting.{setting_value}
+use Rattle.job_input.specs.SettingValue.{SettingValue}
+use Rattle.answer_core.specs.Reply.{reply_of, prints}
+use Rattle.answer_core.specs.Abstraction.{bits_stages, taken_circuit, IsInWords, AbstractOf}
+use Rattle.answer_core.specs.StageStop.{IsStageStop}
+use Rattle.answer_core.proofs.BoundBasesLemmas.{count}
+use Rattle.answer_core.proofs.RefusalLemmas.{earlier_refused, later_refused, cuts_named, words_named}
+use Rattle.answer_polynomials.proofs.abstracting.reply.Goals as goal
+
+pub stage_stop-requires : goal.stage_stop-requires
+stage_stop-requires g c =
+    let degree = g.F.Ring.degree c.args.field.now in
+    let mul = g.F.Ring.product c.args.field.now in
+    let setting : SettingValue = setting_value degree mul c.args.setting.now in
+    cuts_named degree mul c.args.circuit.now (output_basis c.args.circuit.now.binding.words setting.bases) (length c.in_ok-labels.labels.words) c.args.bound c.in-Err.fault c.in-Err.ensures.fault
+
+pub returns-in-Err : goal.returns-in-Err
+returns-in-Err g c =
+    let degree = g.F.Ring.degree c.args.field.now in
+    let mul = g.F.Ring.product c.args.field.now in
+    let setting : SettingValue = setting_value degree mul c.args.setting.now in
+    let circuit = c.args.circuit.now in
+    let S : Labelling → Type 0 = λ l. IsStageStop l c.in-Err.fault c.args.bound c.stage_stop.result in
+    let view : Terms → Terms = λ ts. ts in
+    stops view reply_of c.stage_stop.result (Within faults.Stage (AbstractOf setting circuit c.args.bound)) (λ ts. Exactly (prints setting ts)) ⊥ ⊥ ⊥ ⊥ (λ m. m) (λ f. f)
+    (earlier_refused degree mul view c.args.bound (IsInWords setting circuit) (bits_stages setting circuit) (word_listing (taken_circuit setting circuit)) (labels_of degree c.args.setting.now.signature.words) c.in-Err.fault c.stage_stop.result c.in-Err.ensures.fault
+    (subst S c.in_ok-labels.ensures c.stage_stop.ensures))
+
+pub in_words-requires-clause-sound : goal.in_words-requires-clause-sound
+in_words-requires-clause-sound g c = c.last_cut.ensures.sound
+
+pub in_words-requires-clause-is_bound : goal.in_words-requires-clause-is_bound
+in_words-requires-clause-is_bound g c = c.last_cut.ensures.is_bound
+
+pub in_words-requires-clause-few : goal.in_words-requires-clause-few
+in_words-requires-clause-few g c =
+    let small : length c.in-Ok.bits.terms ≤ c.args.bound = c.in-Ok.ensures.few in
+    omega (arith, small, c.ranges.bound.fits)
+
+pub stage_stop-requires-in-Err-in_words : goal.stage_stop-requires-in-Err-in_words
+stage_stop-requires-in-Err-in_words g c =
+    let degree = g.F.Ring.degree c.args.field.now in
+    let mul = g.F.Ring.product c.args.field.now in
+    let whole = taken_circuit (setting_value degree mul c.args.setting.now) c.args.circuit.now in
+    let long = count degree mul c.args.setting.now c.requires.ready c.args.circuit.now c.requires.taken ∙ sym (ap (λ (l : Labelling). length l.words) c.in_ok-labels.ensures) in
+    words_named degree mul whole (length c.in_ok-labels.labels.words) c.args.bound c.in-Err-in_words.fault long c.in-Err-in_words.ensures.fault
+
+pub returns-in-Err-in_words : goal.returns-in-Err-in_words
+returns-in-Err-in_words g c =
+    let degree = g.F.Ring.degree c.args.field.now in
+    let mul = g.F.Ring.product c.args.field.now in
+    let setting : SettingValue = setting_value degree mul c.args.setting.now in
+    let circuit = c.args.circuit.now in
+    let S : Labelling → Type 0 = λ l. IsStageStop l c.in-Err-in_words.fault c.args.bound c.stage_stop-in-Err-in_words.result in
+    let view : Terms → Terms = λ ts. ts in
+    stops view reply_of c.stage_stop-in-Err-in_words.result (Within faults.Stage (AbstractOf setting circuit c.args.bound)) (λ ts. Exactly (prints setting ts)) ⊥ ⊥ ⊥ ⊥ (λ m. m) (λ f. f)
+    (later_refused degree mul view c.args.bound (IsInWords setting circuit) (bits_stages setting circuit) (word_listing (taken_circuit setting circuit)) (labels_of degree c.args.setting.now.signature.words) c.in-Err-in_words.fault c.stage_stop-in-Err-in_words.result c.in-Ok.ensures.within c.in-Err-in_words.ensures.fault
+    (subst S c.in_ok-labels.ensures c.stage_stop-in-Err-in_words.ensures))
+
+pub polynomial_line-requires-clause-named : goal.polynomial_line-requires-clause-named
+polynomial_line-requires-clause-named g c =
+    let P : Labelling → Type 0 = λ l. HasNames l c.in-Ok-in_words.poly.terms in
+    subst P (sym c.in_ok-labels.ensures) c.in-Ok-in_words.ensures.named
+
+pub polynomial_line-requires-clause-words_named : goal.polynomial_line-requires-clause-words_named
+polynomial_line-requires-clause-words_named g c =
+    let P : Labelling → Type 0 = λ l. HasWordNames l c.in-Ok-in_words.poly.terms in
+    subst P (sym c.in_ok-labels.ensures) c.in-Ok-in_words.ensures.words_named
+
+pub returns : goal.returns
+returns g c =
+    let degree = g.F.Ring.degree c.args.field.now in
+    let mul = g.F.Ring.product c.args.field.now in
+    let setting : SettingValue = setting_value degree mul c.args.setting.now in
+    let circuit = c.args.circuit.now in
+    let ts = c.in-Ok-in_words.poly.terms in (
+      ts,
+      (c.in-Ok-in_words.ensures.words, both_within degree mul (bits_stages setting circuit) (word_listing (taken_circuit setting circuit)) c.args.bound c.in-Ok.ensures.within c.in-Ok-in_words.ensures.within),
+      ap (λ (t : List ℕ). record { status = 0; text = t }) (c.in_ok-text.ensures ∙ ap (λ (l : Labelling). l.output ++ (codes " = " ++ (text l ts ++ codes "\n"))) c.in_ok-labels.ensures),
+    )

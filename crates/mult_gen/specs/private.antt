@@ -1,2 +1,0 @@
--- Words that only clauses of private functions cite.
-pub mod Powers

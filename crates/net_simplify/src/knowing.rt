@@ -1,0 +1,56 @@
+//! What the nets of a net list are.
+ghost use Rattle.std.specs.Prelude.{◌≡◌, ◌<◌, ◌+◌, ℕ, List, Some, length, slice_get, IfOk, OnOk};
+ghost use Rattle.net_core.specs.GateValue.{GateValue};
+ghost use Rattle.net_core.specs.NetList.{NetList};
+ghost use Rattle.net_core.specs.Order.{IsLevelOrder};
+ghost use Rattle.net_core.specs.Sound.{IsSound};
+ghost use Rattle.net_simplify.specs.Simplified.{AreForms};
+ghost use Rattle.net_simplify.specs.private.Lists.{forms_of};
+ghost use Rattle.net_simplify.specs.private.Marks.{gates_by};
+ghost use Rattle.net_simplify.specs.private.Underway.{AreMarks, ArePlaced, IsUnderway};
+
+use crate::catalog::Catalog;
+use crate::known::Known;
+use crate::marking::mark_at;
+use crate::settling::settle;
+use net_core::{Gate, Net};
+use std::alloc::{AllocError, Global};
+
+// The unit and the body of the net of a gate, if it is used.
+fn know_gate(
+    alloc: Global,
+    gate: &Gate,
+    marks: &[u8],
+    known: &mut Known,
+    catalog: &mut Catalog,
+) -> Result<(), AllocError>
+    requires { gate.now.out < length known.old.units }
+    ensures long { OnOk result (length known.new.units ≡ length known.old.units) }
+    ensures step { OnOk result ((net : NetList) (ends : List ℕ) (gates : List GateValue) (i : ℕ) → ArePlaced net gates → slice_get gates i ≡ Some gate.now → AreMarks net ends gates marks.now → IsUnderway net ends gates i known.old catalog.old → IsUnderway net ends gates (i + 1) known.new catalog.new) }
+{
+    if mark_at(marks, gate.out()) == 0 {
+        return Ok(());
+    }
+    settle(alloc, gate, marks, known, catalog)
+}
+
+/// What the nets are, gate by gate in the order, where the marks tell how often nets are used.
+pub fn know(alloc: Global, net: &Net, order: &[u32], marks: &[u8]) -> Result<Known, AllocError>
+    requires { IsLevelOrder net.now order.now }
+    ensures sound { IsSound net.now }
+    ensures forms { IfOk result (λ known. (ends : List ℕ) → AreMarks net.now ends (gates_by net.now.gates order.now) marks.now → AreForms net.now ends (gates_by net.now.gates order.now) (forms_of known)) }
+{
+    let gates = net.gates();
+    let mut known = Known::new(alloc, net.nets())?;
+    let mut catalog = Catalog::new(alloc);
+    for position in order {
+        know_gate(
+            alloc,
+            &gates[*position as usize],
+            marks,
+            &mut known,
+            &mut catalog,
+        )?;
+    }
+    Ok(known)
+}
