@@ -57,6 +57,7 @@ class Halves:
         self.number += [n for n in range(len(self.flat.net.labels)) if n not in self.bits]
         self.gates = {gate.out: gate_polynomial(gate) for gate in self.flat.net.gates}
         self.outputs = self.flat.nets[self.output.name]
+        self.duals = {}
 
     def net_lines(self):
         """For each net with a line, what its generator is multiplied by in all, in bits."""
@@ -101,7 +102,9 @@ class Halves:
 
     def form(self, w, place):
         """What reads a bit from its word: the coefficients of the word's powers to 2^0, 2^1, .., by the dual basis."""
-        powers = [dual_of(self.field, self.words[w].elements)[place]]
+        if w not in self.duals:
+            self.duals[w] = dual_of(self.field, self.words[w].elements)
+        powers = [self.duals[w][place]]
         while len(powers) < self.field.k:
             powers.append(self.field.mul(powers[-1], powers[-1]))
         return powers
