@@ -1,7 +1,8 @@
 -- The net list of what was read. Source: Armin Biere, The AIGER And-Inverter Graph (AIG) Format, Johannes Kepler University,
 -- Linz, 2007; nets and tables are those of net_core.
-use Rattle.std.specs.Prelude.{ℕ, ◌+◌, ◌^◌, ◌%◌, ◌==◌, ◌&&◌, nat_lt, nat_le, true, false, Bool, List, [], ◌∷◌, ◌++◌, Option, None, Some, drop, length, Result, Ok, Err, if◌then◌else◌}
+use Rattle.std.specs.Prelude.{ℕ, ◌+◌, ◌%◌, ◌==◌, ◌&&◌, nat_lt, nat_le, true, false, Bool, List, [], ◌∷◌, ◌++◌, Option, None, Some, drop, length, Result, Ok, Err, if◌then◌else◌}
 use Rattle.std.specs.Fmt.{decimal}
+use Rattle.lists.specs.Limits.{most_nets}
 use Rattle.net_core.specs.GateValue.{GateValue}
 use Rattle.net_core.specs.LatchValue.{LatchValue}
 use Rattle.net_core.specs.NetList.{NetList, empty, nets, with_gate, with_label, with_latch}
@@ -16,13 +17,13 @@ use Rattle.net_aiger.specs.declared.reading.LatchLine.{LatchLine}
 -- ---- one more net, gate or latch, of which there are at most 1,048,576 nets and as many gates and latches
 
 abbrev pub labelled : Name → Bool → NetList → Result NetList NetFault
-labelled text named net = if nat_le (2 ^ 20) (nets net) then Err TooManyNets else Ok (with_label net text named)
+labelled text named net = if nat_le most_nets (nets net) then Err TooManyNets else Ok (with_label net text named)
 
 abbrev pub gated : GateValue → NetList → Result NetList NetFault
-gated gate net = if nat_le (2 ^ 20) (length net.gates + length net.latches) then Err TooManyGates else Ok (with_gate net gate)
+gated gate net = if nat_le most_nets (length net.gates + length net.latches) then Err TooManyGates else Ok (with_gate net gate)
 
 abbrev pub latched : LatchValue → NetList → Result NetList NetFault
-latched latch net = if nat_le (2 ^ 20) (length net.gates + length net.latches) then Err TooManyGates else Ok (with_latch net latch)
+latched latch net = if nat_le most_nets (length net.gates + length net.latches) then Err TooManyGates else Ok (with_latch net latch)
 
 -- ---- the nets of inputs, latches and ANDs
 

@@ -1,5 +1,6 @@
 -- The net of a model: what its walk meets, in order. Source: the Berkeley Logic Interchange Format (BLIF), University of California, Berkeley.
-use Rattle.std.specs.Prelude.{ℕ, ◌+◌, ◌^◌, nat_le, Bool, List, [], ◌∷◌, ◌++◌, map, length, Option, None, Some, is_some, unwrap_or, Result, Ok, Err, if◌then◌else◌}
+use Rattle.std.specs.Prelude.{ℕ, ◌+◌, nat_le, Bool, List, [], ◌∷◌, ◌++◌, map, length, Option, None, Some, is_some, unwrap_or, Result, Ok, Err, if◌then◌else◌}
+use Rattle.lists.specs.Limits.{most_nets}
 use Rattle.outcome.specs.Outcome.{Outcome, ◌>>=◌, Within, Returns}
 use Rattle.outcome.specs.Steps.{on_value}
 use Rattle.net_core.specs.NetList.{NetList}
@@ -50,18 +51,18 @@ latch_on flat next out start = record { next = number flat next; out = number fl
 abbrev pub after_step : Flat → Step Path → Result Flat FlatFault
 after_step flat (Mention path) =
     if was_mentioned flat path then Ok flat
-    else (if nat_le (2 ^ 20) (length flat.paths) then Err (Net nets.TooManyNets)
+    else (if nat_le most_nets (length flat.paths) then Err (Net nets.TooManyNets)
     else Ok (record flat { paths = flat.paths ++ path ∷ [] }))
 after_step flat (Input path) = Ok (record flat { inputs = flat.inputs ++ number flat path ∷ [] })
 after_step flat (Output path) = Ok (record flat { outputs = flat.outputs ++ number flat path ∷ [] })
 after_step flat (Gate inputs out table) =
-    if nat_le (2 ^ 20) (length flat.gates + length flat.latches) then Err (Net nets.TooManyGates)
+    if nat_le most_nets (length flat.gates + length flat.latches) then Err (Net nets.TooManyGates)
     else Ok (record flat { gates = flat.gates ++ gate_on flat inputs out table ∷ [] })
 after_step flat (Latch next out start) =
-    if nat_le (2 ^ 20) (length flat.gates + length flat.latches) then Err (Net nets.TooManyGates)
+    if nat_le most_nets (length flat.gates + length flat.latches) then Err (Net nets.TooManyGates)
     else Ok (record flat { latches = flat.latches ++ latch_on flat next out start ∷ [] })
 after_step flat Enter =
-    if nat_le (2 ^ 20) flat.instances then Err TooManyInstances
+    if nat_le most_nets flat.instances then Err TooManyInstances
     else Ok (record flat { instances = flat.instances + 1 })
 
 -- one step after another

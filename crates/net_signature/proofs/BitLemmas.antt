@@ -1,6 +1,6 @@
 -- The parts of a token `NAME[DEC]`.
-use Rattle.std.proofs.Common.{◌≡◌, ◌≢◌, ◌∙◌, ap, sym, refl, inl, inr, ℕ, suc, ◌<◌, List, [], ◌∷◌, ◌++◌, length, drop, ◌+◌, ◌-◌, ◌≤◌, Option, None, Some, subst, get_or, arith, codes}
-use Rattle.std.specs.Prelude.{slice_index, IfNone}
+use Rattle.std.proofs.Common.{◌≡◌, ◌≢◌, ◌∙◌, ap, sym, refl, inl, inr, ℕ, suc, ◌<◌, List, [], ◌∷◌, ◌++◌, length, drop, ◌+◌, ◌-◌, ◌≤◌, subst, get_or, arith, codes}
+use Rattle.std.specs.Prelude.{slice_index}
 use Rattle.std.proofs.lemmas.List.{append_cancel_right, append_assoc, length-append}
 use Rattle.text_core.specs.Names.{IsName, IsNameByte}
 use Rattle.text_core.specs.Numbers.{IsDecimal}
@@ -65,7 +65,3 @@ no_bit token front word digits ends parts free none name place says =
     let P : Token → Type 0 = λ t. IsName t in
     let Q : Token → Type 0 = λ t. IsDecimal t place in
     none place (subst P (sym are.0) says.is_name) (subst Q (sym are.1) says.is_place) says.within
-
-pub if_none : {X P Q : Type 0} (r : Option X) → (P → Q) → IfNone r P → IfNone r Q
-if_none (Some x) f h = h
-if_none None f h = f h

@@ -7,9 +7,9 @@ use Rattle.std.proofs.lemmas.Bool.{eqb-true, true≢false}
 use Rattle.std.proofs.lemmas.Bool.Decides.{nat_tests}
 use Rattle.std.proofs.lemmas.Slice.Eq.{bytes_eq-Decides}
 use Rattle.std.proofs.lemmas.Slice.Zip.{AllZip-long}
-use Rattle.lists.specs.laws.BoolLaws.{second_true as both_true}
+use Rattle.lists.specs.laws.BoolLaws.{second_true as both_true, first_true}
 use Rattle.lists.specs.laws.HasLaws.{any_has}
-use Rattle.outcome.specs.Steps.{with_value}
+use Rattle.outcome.proofs.StepLemmas.{with_value_ok}
 use Rattle.net_words.specs.Feeds.{AreFeeds, IsSource}
 use Rattle.net_words.specs.Roles.{same_role}
 use Rattle.net_words.specs.declared.feed.Source.{Source}
@@ -40,10 +40,6 @@ AreBody words feeds = AreFeeds 64 (roles words) feeds
 
 abbrev AreOf : BodyValue → Type 0
 AreOf body = AreBody body.words body.feeds
-
-value_of : {F A B : Type 0} (f : A → B) (r : Result A F) (b : B) → ◌≡◌ {A = Result B F} (Ok b) (with_value f r) → (a : A) × (◌≡◌ {A = Result A F} (Ok a) r) × (b ≡ f a)
-value_of f (Ok a) b ok = (a, refl, cc)
-value_of f (Err e) b ok = absurd (cc)
 
 -- ---- a source is a fed word
 
@@ -133,24 +129,20 @@ no_feeds words = record { sources = λ f has. let got = has.1 in absurd (cc); ap
 
 -- a word of the top may stand before the first feed alone
 none_yet : (body : BodyValue) (word : WordText) → IsTrue (word_may_stand body None word) → body.feeds ≡ []
-none_yet body word stands = by body.feeds (eqb-true (length body.feeds) 0 (left (length body.feeds == 0) (not (is_fed word) || has_feeds body.version) stands))
+none_yet body word stands = by body.feeds (eqb-true (length body.feeds) 0 (first_true (length body.feeds == 0) (not (is_fed word) || has_feeds body.version) stands))
   where
-    left : (a b : Bool) → (a && b) ≡ true → a ≡ true
-    left true b e = refl
-    left false b e = absurd (cc)
-
     by : (feeds : List FeedText) → length feeds ≡ 0 → feeds ≡ []
     by [] none = refl
     by (f ∷ fs) none = absurd (omega (arith, none))
 
 word_step : (body : BodyValue) (current : Option BlockValue) (word : WordText) (more : BodyValue) → IsTrue (word_may_stand body current word) → Ok more ≡ body_with body current word → AreOf body → AreOf more
 word_step body None word more stands ok are =
-    let got = value_of (λ (words : List WordText). record body { words = words }) (with_word body.words word) more ok in
+    let got = with_value_ok (λ (words : List WordText). record body { words = words }) (with_word body.words word) more ok in
     let P : List FeedText → Type 0 = λ feeds. AreBody got.0 feeds in
     let Q : BodyValue → Type 0 = λ b. AreOf b in
     subst Q (sym got.2) (subst P (sym (none_yet body word stands)) (no_feeds got.0))
 word_step body (Some block) word more stands ok are =
-    let got = value_of (λ (b : BlockValue). record body { block = Some b }) (block_with block word) more ok in
+    let got = with_value_ok (λ (b : BlockValue). record body { block = Some b }) (block_with block word) more ok in
     let Q : BodyValue → Type 0 = λ b. AreOf b in
     subst Q (sym got.2) are
 
@@ -158,7 +150,7 @@ feed_step : (body : BodyValue) (line : ℕ) (feed : FeedLine) (from : Result Sou
 feed_step body line feed (Err e) more sourced ok are = absurd (cc)
 feed_step body line feed (Ok from) more sourced ok are =
     let text : FeedText = record { line = line; net = feed.net; cycle = feed.cycle; source = from } in
-    let got = value_of (λ (feeds : List FeedText). record body { feeds = feeds }) (with_feed body.feeds text) more ok in
+    let got = with_value_ok (λ (feeds : List FeedText). record body { feeds = feeds }) (with_feed body.feeds text) more ok in
     let Q : BodyValue → Type 0 = λ b. AreOf b in
     subst Q (sym got.2) (feeds_more body.words body.feeds text got.0 (sourced from refl) got.1 are)
 

@@ -3,6 +3,7 @@ use Rattle.std.proofs.Common.{◌≡◌, inl, inr, sym, refl, subst, ℕ, ◌&&�
 use Rattle.std.specs.Prelude.{nat_le, if◌then◌else◌}
 use Rattle.std.specs.List.{AllByRecursion, list_any}
 use Rattle.std.specs.Str.{bytes_eq}
+use Rattle.outcome.proofs.StepLemmas.{with_value_ok}
 use Rattle.outcome.specs.Steps.{with_value}
 use Rattle.net_words.specs.Roles.{input_count, is_output}
 use Rattle.net_words.specs.declared.feed.Source.{Source}
@@ -42,10 +43,6 @@ joined blocks (Some block) all last = by blocks all
     by [] each = (last, tt)
     by (b ∷ list) each = (each.0, by list each.1)
 
-ok_of : {F A B : Type 0} (f : A → B) (r : Result A F) (b : B) → ◌≡◌ {A = Result B F} (Ok b) (with_value f r) → (a : A) × (◌≡◌ {A = Result A F} (Ok a) r) × (b ≡ f a)
-ok_of f (Ok a) b ok = (a, refl, cc)
-ok_of f (Err e) b ok = absurd (cc)
-
 -- a body whose blocks are those of another
 same_blocks : (body more other : BodyValue) → more ≡ other → other.blocks ≡ body.blocks → other.block ≡ body.block → HaveTokens body → HaveTokens more
 same_blocks body more other same blocks block have =
@@ -55,11 +52,11 @@ same_blocks body more other same blocks block have =
 
 word_step : (body : BodyValue) (current : Option BlockValue) (word : WordText) (more : BodyValue) → HasTokenIf current → Ok more ≡ body_with body current word → HaveTokens body → HaveTokens more
 word_step body None word more now ok have =
-    let got = ok_of (λ (words : List WordText). record body { words = words }) (with_word body.words word) more ok in
+    let got = with_value_ok (λ (words : List WordText). record body { words = words }) (with_word body.words word) more ok in
     same_blocks body more (record body { words = got.0 }) got.2 refl refl have
 word_step body (Some block) word more now ok have =
-    let got = ok_of (λ (b : BlockValue). record body { block = Some b }) (block_with block word) more ok in
-    let inside = ok_of (λ (words : List WordText). record block { words = words }) (with_word block.words word) got.0 got.1 in
+    let got = with_value_ok (λ (b : BlockValue). record body { block = Some b }) (block_with block word) more ok in
+    let inside = with_value_ok (λ (words : List WordText). record block { words = words }) (with_word block.words word) got.0 got.1 in
     let P : BlockValue → Type 0 = HasToken in
     let kept : HasToken got.0 = subst P (sym inside.2) now in
     subst HaveTokens (sym got.2) (record { ended = have.ended; last = kept })
@@ -67,7 +64,7 @@ word_step body (Some block) word more now ok have =
 feed_step : (body : BodyValue) (line : ℕ) (feed : FeedLine) (from : Result Source SigFault) (more : BodyValue) → Ok more ≡ fed_with body line feed from → HaveTokens body → HaveTokens more
 feed_step body line feed (Err e) more ok have = absurd (cc)
 feed_step body line feed (Ok from) more ok have =
-    let got = ok_of (λ (feeds : List FeedText). record body { feeds = feeds }) (with_feed body.feeds (record { line = line; net = feed.net; cycle = feed.cycle; source = from })) more ok in
+    let got = with_value_ok (λ (feeds : List FeedText). record body { feeds = feeds }) (with_feed body.feeds (record { line = line; net = feed.net; cycle = feed.cycle; source = from })) more ok in
     same_blocks body more (record body { feeds = got.0 }) got.2 refl refl have
 
 block_step : (body : BodyValue) (line : ℕ) (model : List ℕ) (more : BodyValue) → IsNetToken model → Ok more ≡ block_begun body line model → HaveTokens body → HaveTokens more

@@ -6,7 +6,7 @@ use Rattle.std.specs.Str.{bytes_eq}
 use Rattle.std.proofs.lemmas.Bool.{true≢false}
 use Rattle.std.proofs.lemmas.Slice.Eq.{bytes_eq-Decides}
 use Rattle.lists.specs.laws.HasLaws.{any_has}
-use Rattle.outcome.specs.Steps.{with_value}
+use Rattle.outcome.proofs.StepLemmas.{with_value_ok}
 use Rattle.text_core.specs.Names.{IsName}
 use Rattle.net_words.specs.Roles.{is_output, input_count}
 use Rattle.net_words.specs.declared.feed.Source.{Source}
@@ -29,7 +29,7 @@ abbrev same_name : WordText → WordText → Bool
 same_name word other = bytes_eq other.name word.name
 
 -- the words and one more whose name is new
-one_more : (words : List WordText) (word : WordText) → HaveNames words → IsName word.name → list_any (same_name word) words ≡ false → HaveNames (words ++ word ∷ [])
+pub one_more : (words : List WordText) (word : WordText) → HaveNames words → IsName word.name → list_any (same_name word) words ≡ false → HaveNames (words ++ word ∷ [])
 one_more words word before name new = record {
   names = λ w has. by_place w (among w has.0 has.1);
   apart = λ i j u v at_i at_j same. both i j u v (among u i at_i) (among v j at_j) same;
@@ -71,26 +71,22 @@ well_more words word more name ok well =
     let new = word_taken words word more ok in
     record { names = subst HaveNames (sym new.0) (one_more words word well.names name new.1); few = few_more words word more ok well.few }
 
-on_value_ok : {F A B : Type 0} (f : A → B) (r : Result A F) (b : B) → ◌≡◌ {A = Result B F} (Ok b) (with_value f r) → (a : A) × (◌≡◌ {A = Result A F} (Ok a) r) × (b ≡ f a)
-on_value_ok f (Ok a) b ok = (a, refl, cc)
-on_value_ok f (Err e) b ok = absurd (cc)
-
 -- the words of the top after one more line
 abbrev words_of : BodyValue → List WordText
 words_of body = body.words
 
 word_step : (body : BodyValue) (current : Option BlockValue) (word : WordText) (more : BodyValue) → IsName word.name → Ok more ≡ body_with body current word → AreWell body.words → AreWell more.words
 word_step body None word more name ok well =
-    let got = on_value_ok (λ (words : List WordText). record body { words = words }) (with_word body.words word) more ok in
+    let got = with_value_ok (λ (words : List WordText). record body { words = words }) (with_word body.words word) more ok in
     subst AreWell (sym (ap words_of got.2)) (well_more body.words word got.0 name got.1 well)
 word_step body (Some block) word more name ok well =
-    let got = on_value_ok (λ (b : BlockValue). record body { block = Some b }) (block_with block word) more ok in
+    let got = with_value_ok (λ (b : BlockValue). record body { block = Some b }) (block_with block word) more ok in
     subst AreWell (sym (ap words_of got.2)) well
 
 feed_step : (body : BodyValue) (line : ℕ) (feed : FeedLine) (from : Result Source SigFault) (more : BodyValue) → Ok more ≡ fed_with body line feed from → AreWell body.words → AreWell more.words
 feed_step body line feed (Err e) more ok well = absurd (cc)
 feed_step body line feed (Ok from) more ok well =
-    let got = on_value_ok (λ (feeds : List FeedText). record body { feeds = feeds }) (with_feed body.feeds (record { line = line; net = feed.net; cycle = feed.cycle; source = from })) more ok in
+    let got = with_value_ok (λ (feeds : List FeedText). record body { feeds = feeds }) (with_feed body.feeds (record { line = line; net = feed.net; cycle = feed.cycle; source = from })) more ok in
     subst AreWell (sym (ap words_of got.2)) well
 
 block_step : (body : BodyValue) (line : ℕ) (model : List ℕ) (more : BodyValue) → Ok more ≡ block_begun body line model → AreWell body.words → AreWell more.words

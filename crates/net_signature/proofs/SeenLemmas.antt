@@ -4,6 +4,7 @@ use Rattle.std.specs.Prelude.{is_some}
 use Rattle.std.specs.List.{list_any}
 use Rattle.std.specs.Str.{bytes_eq}
 use Rattle.std.proofs.lemmas.Bool.{eqb-true, eq-eqb}
+use Rattle.lists.specs.laws.BoolLaws.{or_swap}
 use Rattle.net_words.specs.declared.feed.FeedText.{FeedText}
 use Rattle.net_signature.specs.Body.{is_feed_of}
 use Rattle.net_signature.specs.private.Seen.{feed_key, has_key}
@@ -12,14 +13,9 @@ pub some_cond : {X : Type 0} (b : Bool) (x : X) (o : Option X) → is_some (cond
 some_cond true x o = refl
 some_cond false x o = refl
 
-swap : (a b c : Bool) → (a || (b || c)) ≡ (b || (a || c))
-swap true true c = refl
-swap true false c = refl
-swap false b c = refl
-
 any_push : {X : Type 0} (p : X → Bool) (xs : List X) (x : X) → list_any p (xs ++ x ∷ []) ≡ (p x || list_any p xs)
 any_push p [] x = refl
-any_push p (y ∷ ys) x = ap (λ b. p y || b) (any_push p ys x) ∙ swap (p y) (p x) (list_any p ys)
+any_push p (y ∷ ys) x = ap (λ b. p y || b) (any_push p ys x) ∙ or_swap (p y) (p x) (list_any p ys)
 
 -- a list with one more element passes a test where the element does or the list did
 pub seen_more : {X : Type 0} (p : X → Bool) (xs new : List X) (x : X) (here before after : Bool) → new ≡ xs ++ x ∷ [] → here ≡ p x → before ≡ list_any p xs → after ≡ (here || before) → after ≡ list_any p new

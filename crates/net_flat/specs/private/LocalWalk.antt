@@ -1,7 +1,8 @@
 -- The walk over what a table of names knows in each instance: for proofs. Source: this project's own.
-use Rattle.std.specs.Prelude.{◌≡◌, ◌⊎◌, ℕ, zero, suc, ◌+◌, ◌<◌, ◌^◌, nat_le, Bool, true, false, List, [], ◌∷◌, ◌++◌, map, length, codes, Option, Some, is_some, unwrap_or, All, Result, Ok, Err, if◌then◌else◌}
+use Rattle.std.specs.Prelude.{◌≡◌, ◌⊎◌, ℕ, zero, suc, ◌+◌, ◌<◌, nat_le, Bool, true, false, List, [], ◌∷◌, ◌++◌, map, length, codes, Option, Some, is_some, unwrap_or, All, Result, Ok, Err, if◌then◌else◌}
 use Rattle.std.specs.Fmt.{decimal}
 use Rattle.std.specs.Option.{option_map_or}
+use Rattle.lists.specs.Limits.{most_nets}
 use Rattle.outcome.specs.Steps.{on_value}
 use Rattle.net_core.specs.NetList.{NetList, nets, number_of, with_gate, with_label, with_latch}
 use Rattle.net_core.specs.GateValue.{GateValue}
@@ -79,18 +80,18 @@ local_latch state next out start = record { next = number_in state next; out = n
 abbrev pub local_step : State → Step Token → Result State FlatFault
 local_step state (Mention name) =
     if is_some (found state name) then Ok state
-    else (if nat_le (2 ^ 20) (nets state.net) then Err (Net faults.TooManyNets)
+    else (if nat_le most_nets (nets state.net) then Err (Net faults.TooManyNets)
     else Ok (with_new state name))
 local_step state (Input name) = Ok (on_net state (record state.net { inputs = state.net.inputs ++ number_in state name ∷ [] }))
 local_step state (Output name) = Ok (on_net state (record state.net { outputs = state.net.outputs ++ number_in state name ∷ [] }))
 local_step state (Gate inputs out table) =
-    if nat_le (2 ^ 20) (length state.net.gates + length state.net.latches) then Err (Net faults.TooManyGates)
+    if nat_le most_nets (length state.net.gates + length state.net.latches) then Err (Net faults.TooManyGates)
     else Ok (on_net state (with_gate state.net (local_gate state inputs out table)))
 local_step state (Latch next out start) =
-    if nat_le (2 ^ 20) (length state.net.gates + length state.net.latches) then Err (Net faults.TooManyGates)
+    if nat_le most_nets (length state.net.gates + length state.net.latches) then Err (Net faults.TooManyGates)
     else Ok (on_net state (with_latch state.net (local_latch state next out start)))
 local_step state Enter =
-    if nat_le (2 ^ 20) state.instances then Err TooManyInstances
+    if nat_le most_nets state.instances then Err TooManyInstances
     else Ok (record { net = state.net; instances = state.instances + 1; local = state.local })
 
 abbrev pub local_walked : State → List (Step Token) → Result State FlatFault

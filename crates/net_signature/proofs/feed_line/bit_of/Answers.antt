@@ -1,4 +1,5 @@
-use Rattle.net_signature.proofs.BitLemmas.{no_bit, if_none}
+use Rattle.lists.specs.laws.OptionLaws.{if_none}
+use Rattle.net_signature.proofs.BitLemmas.{no_bit}
 use Rattle.net_signature.proofs.feed_line.bit_of.Goals as goal
 
 pub returns-clause-none : goal.returns-clause-none
