@@ -1,6 +1,7 @@
 -- What comes of a top that only wires instances of blocks: the polynomial of its output in words, or the first refusal.
 -- Source: Pruss, Kalla, Enescu, DAC 2014; the refusals and their order are this project's own.
-use Rattle.std.specs.Prelude.{◌≡◌, ℕ, ◌+◌, List, Option, None, Some, Ok, Err, length, map, slice_get}
+use Rattle.std.specs.Global.{Global}
+use Rattle.std.specs.Prelude.{◌≡◌, ℕ, ◌+◌, List, Option, None, Some, Ok, Err, Vec, length, map, slice_get}
 use Rattle.lists.specs.Lists.{Has}
 use Rattle.outcome.specs.Outcome.{MayRefuse, Outcome, ◌>>=◌, Within}
 use Rattle.graph_core.specs.Cycle.{IsCycleOf}
@@ -11,8 +12,11 @@ use Rattle.net_words.specs.declared.word.WordText.{WordText}
 use Rattle.net_signature.specs.Body.{BlockValue}
 use Rattle.net_signature.specs.Signature.{SignatureValue}
 use Rattle.net_blif.specs.Design.{ModelValue}
+use Rattle.net_blif.specs.Models.{AreRight}
 use Rattle.net_blif.specs.Statement.{Token}
 use Rattle.net_flat.specs.Flat.{Flattens}
+use Rattle.gf_field.specs.Field.{HasNoZeroDivisors}
+use Rattle.gf_field.specs.Ring.{IsRing}
 use Rattle.gf_basis.specs.BasisParts.{elements_of, IsBasisOver}
 use Rattle.gf_basis.specs.declared.bases.Basis.{Basis}
 use Rattle.poly_mixed.specs.Polynomial.{Terms}
@@ -24,7 +28,7 @@ use Rattle.abstraction.specs.Stages.{joined}
 use Rattle.compose_polys.specs.LevelOrder.{first_numbers}
 use Rattle.compose_model.specs.Hierarchy.{Hierarchy}
 use Rattle.compose_model.specs.Values.{IsTop}
-use Rattle.compose_model.specs.Wiring.{feeding_graph, IsWithoutCycle}
+use Rattle.compose_model.specs.Wiring.{feeding_graph, rows_in, IsWithoutCycle}
 use Rattle.compose_model.specs.declared.feeder.Feeder.{Feeder}
 use Rattle.compose_blocks.specs.Plan.{UsesOf}
 use Rattle.compose_blocks.specs.Planned.{CanAllBind}
@@ -41,6 +45,10 @@ use Rattle.block_compose.specs.declared.fault.ComposeFault.TheVariants.{FedInTop
 -- a design with the words and blocks of a signature, and with lists of bases by their elements
 abbrev pub hierarchy_of : List ModelValue → SignatureValue → List (List Basis) → Hierarchy
 hierarchy_of design signature bases = record { design = design; words = signature.words; blocks = signature.blocks; bases = map (map elements_of) bases }
+
+-- lists of bases
+abbrev pub bases_in : List (Vec Basis Global) → List (List Basis)
+bases_in lists = map (λ list. list.items) lists
 
 -- ---- what is given
 
@@ -146,3 +154,26 @@ refusal fault = Some fault
 -- the fault is one that may come, or out of memory
 abbrev pub MayFault : {A : Type 0} → Outcome ComposeFault A → ComposeFault → Type 0
 MayFault outcome fault = MayRefuse outcome (refusal fault)
+
+-- what comes of the stages of a top, where bases and rows of feeds are as the program has them
+abbrev pub StagesFor : ℕ → (ℕ → ℕ → ℕ) → List ModelValue → SignatureValue → List (Vec Basis Global) → List (Vec Feeder Global) → ℕ → Outcome ComposeFault Terms
+StagesFor k mul design signature bases rows bound = StagesOf k mul (hierarchy_of design signature (bases_in bases)) (rows_in rows) bound
+
+-- models with the words and blocks of a signature, and bases, over the field of 2 to the k elements with this product
+pub record Composition : Type 0 where
+  pub k : ℕ
+  pub product : ℕ → ℕ → ℕ
+  pub design : List ModelValue
+  pub signature : SignatureValue
+  pub bases : List (List Basis)
+
+-- over a field, what can be composed, of a design that is right
+pub record CanCompose (given : Composition) : Type 0 where
+  pub ring : IsRing given.k given.product
+  pub no_zero_divisors : HasNoZeroDivisors given.k given.product
+  pub right : AreRight given.design (Ok tt)
+  pub composable : IsComposable given.k given.product given.design given.signature given.bases
+
+-- what comes of it
+abbrev pub Comes : Composition → ℕ → Outcome ComposeFault Terms
+Comes given bound = Composes given.k given.product given.design given.signature given.bases bound

@@ -1,9 +1,8 @@
 //! The polynomials of the blocks that instances use.
-ghost use Rattle.std.specs.Prelude.{◌≡◌, ◌⊎◌, ◌<◌, ◌++◌, ◌∷◌, [], ℕ, List, None, Some, length, map, replicate, slice_get, slice_set, IfErr, IfOk, OnOk};
-ghost use Rattle.net_words.specs.Binding.{BoundNet};
-ghost use Rattle.gf_basis.specs.declared.bases.Basis.{Basis as BasisValue};
+ghost use Rattle.std.specs.Prelude.{◌≡◌, ◌⊎◌, ◌<◌, ◌++◌, ◌∷◌, [], ℕ, None, Some, length, map, replicate, slice_get, slice_set, IfErr, IfOk, OnOk};
 ghost use Rattle.compose_blocks.specs.private.Found.{HasCircuit};
-ghost use Rattle.block_compose.specs.private.Blocks.{block_fault_of, AreKeptBlocks, ArePolys, AreTaken, HasPoly, IsBlockPoly, IsFirstBlockOver, IsKeptBlock, IsRefusedBlock, KeepsPolys};
+ghost use Rattle.block_compose.specs.private.Blocks.{block_fault_of, AreKeptBlocks, ArePolys, AreTaken, HasPoly, IsBlockPoly, IsRefusedBlock, KeepsPolys, IsKept, IsFirstRefused};
+ghost use Rattle.block_compose.specs.Composed.{bases_in};
 
 use crate::ComposeFault;
 use abstraction::circuit_poly;
@@ -64,9 +63,9 @@ fn block_poly<F: Field>(
     number: u32,
     bound: u32,
 ) -> Result<Poly, ComposeFault>
-    requires kept { (circuit : BoundNet) × (list : List BasisValue) × IsKeptBlock (F.degree field.now) (F.product field.now) blocks.now circuits.now (map (λ list. list.items) bases.now) number circuit list }
-    ensures poly { IfOk result (λ poly. IsBlockPoly (F.degree field.now) (F.product field.now) blocks.now circuits.now (map (λ list. list.items) bases.now) bound number poly.terms) }
-    ensures fault { IfErr result (IsRefusedBlock (F.degree field.now) (F.product field.now) blocks.now circuits.now (map (λ list. list.items) bases.now) bound number) }
+    requires kept { IsKept (F.degree field.now) (F.product field.now) blocks.now circuits.now (bases_in bases.now) number }
+    ensures poly { IfOk result (λ poly. IsBlockPoly (F.degree field.now) (F.product field.now) blocks.now circuits.now (bases_in bases.now) bound number poly.terms) }
+    ensures fault { IfErr result (IsRefusedBlock (F.degree field.now) (F.product field.now) blocks.now circuits.now (bases_in bases.now) bound number) }
 {
     let place = number as usize;
     let circuit = circuit_at(circuits, place);
@@ -100,13 +99,13 @@ fn add_poly<F: Field>(
     bound: u32,
     polys: &mut Vec<Option<Poly>>,
 ) -> Result<(), ComposeFault>
-    requires kept { (circuit : BoundNet) × (list : List BasisValue) × IsKeptBlock (F.degree field.now) (F.product field.now) blocks.now circuits.now (map (λ list. list.items) bases.now) number circuit list }
-    requires polys { ArePolys (F.degree field.now) (F.product field.now) blocks.now circuits.now (map (λ list. list.items) bases.now) bound polys.old.items }
-    ensures polys { OnOk result (ArePolys (F.degree field.now) (F.product field.now) blocks.now circuits.now (map (λ list. list.items) bases.now) bound polys.new.items) }
+    requires kept { IsKept (F.degree field.now) (F.product field.now) blocks.now circuits.now (bases_in bases.now) number }
+    requires polys { ArePolys (F.degree field.now) (F.product field.now) blocks.now circuits.now (bases_in bases.now) bound polys.old.items }
+    ensures polys { OnOk result (ArePolys (F.degree field.now) (F.product field.now) blocks.now circuits.now (bases_in bases.now) bound polys.new.items) }
     ensures keeps { OnOk result (KeepsPolys polys.old.items polys.new.items) }
     ensures has { OnOk result (HasPoly polys.new.items number) }
     ensures new { IfErr result (λ fault. slice_get polys.old.items number ≡ Some None) }
-    ensures fault { IfErr result (IsRefusedBlock (F.degree field.now) (F.product field.now) blocks.now circuits.now (map (λ list. list.items) bases.now) bound number) }
+    ensures fault { IfErr result (IsRefusedBlock (F.degree field.now) (F.product field.now) blocks.now circuits.now (bases_in bases.now) bound number) }
 {
     let place = number as usize;
     if polys[place].is_some() {
@@ -131,10 +130,10 @@ pub(crate) fn block_polys<F: Field>(
     numbers: &[u32],
     bound: u32,
 ) -> Result<Vec<Option<Poly>>, ComposeFault>
-    requires { AreKeptBlocks (F.degree field.now) (F.product field.now) blocks.now circuits.now (map (λ list. list.items) bases.now) numbers.now }
-    ensures polys { IfOk result (λ polys. ArePolys (F.degree field.now) (F.product field.now) blocks.now circuits.now (map (λ list. list.items) bases.now) bound polys.items) }
+    requires { AreKeptBlocks (F.degree field.now) (F.product field.now) blocks.now circuits.now (bases_in bases.now) numbers.now }
+    ensures polys { IfOk result (λ polys. ArePolys (F.degree field.now) (F.product field.now) blocks.now circuits.now (bases_in bases.now) bound polys.items) }
     ensures all { IfOk result (λ polys. (i number : ℕ) → slice_get numbers.now i ≡ Some number → HasPoly polys.items number) }
-    ensures fault { IfErr result (λ fault. (fault ≡ ComposeFault.OutOfMemory) ⊎ IsFirstBlockOver (F.degree field.now) (F.product field.now) blocks.now circuits.now (map (λ list. list.items) bases.now) bound numbers.now fault) }
+    ensures fault { IfErr result (IsFirstRefused (F.degree field.now) (F.product field.now) blocks.now circuits.now (bases_in bases.now) bound numbers.now) }
 {
     let mut polys = no_polys(alloc, blocks.len())?;
     for i in 0..numbers.len() {

@@ -1,12 +1,12 @@
 //! The stages of a composition.
-ghost use Rattle.std.specs.Prelude.{◌<◌, ◌^◌, length, map, Ok, IfErr, IfOk};
+ghost use Rattle.std.specs.Prelude.{◌<◌, ◌^◌, length, Ok, IfErr, IfOk};
 ghost use Rattle.net_blif.specs.Models.{AreRight};
 ghost use Rattle.net_blif.specs.Top.{instances_of};
-ghost use Rattle.compose_model.specs.Wiring.{feeding_graph};
+ghost use Rattle.compose_model.specs.Wiring.{feeding_graph, rows_in};
 ghost use Rattle.compose_blocks.specs.Planned.{IsPlanned};
 ghost use Rattle.compose_wiring.specs.Answer.{AreWired};
 ghost use Rattle.compose_polys.specs.LevelOrder.{IsLevelOrder};
-ghost use Rattle.block_compose.specs.Composed.{hierarchy_of, IsComposable, MayFault, StagesOf};
+ghost use Rattle.block_compose.specs.Composed.{hierarchy_of, IsComposable, MayFault, StagesFor, bases_in};
 
 use crate::ComposeFault;
 use crate::blocks::{block_polys, polys_of};
@@ -33,14 +33,14 @@ pub(crate) fn compose_stages<F: Field>(
     order: &[u32],
     bound: u32,
 ) -> Result<Poly, ComposeFault>
-    requires given { IsComposable (F.degree field.now) (F.product field.now) _design.now signature.now (map (λ list. list.items) bases.now) }
+    requires given { IsComposable (F.degree field.now) (F.product field.now) _design.now signature.now (bases_in bases.now) }
     requires right { AreRight _design.now (Ok tt) }
     requires few { length (instances_of _design.now) < 2 ^ 32 }
     requires planned { IsPlanned _design.now signature.now plan.now.numbers.items plan.now.circuits.items }
-    requires wired { AreWired (hierarchy_of _design.now signature.now (map (λ list. list.items) bases.now)) (map (λ row. row.items) wiring.now.rows.items) wiring.now.output }
-    requires order { IsLevelOrder (feeding_graph (map (λ row. row.items) wiring.now.rows.items)) order.now }
-    ensures poly { IfOk result (λ poly. StagesOf (F.degree field.now) (F.product field.now) (hierarchy_of _design.now signature.now (map (λ list. list.items) bases.now)) (map (λ row. row.items) wiring.now.rows.items) bound (Ok poly.terms)) }
-    ensures fault { IfErr result (MayFault (StagesOf (F.degree field.now) (F.product field.now) (hierarchy_of _design.now signature.now (map (λ list. list.items) bases.now)) (map (λ row. row.items) wiring.now.rows.items) bound)) }
+    requires wired { AreWired (hierarchy_of _design.now signature.now (bases_in bases.now)) (rows_in wiring.now.rows.items) wiring.now.output }
+    requires order { IsLevelOrder (feeding_graph (rows_in wiring.now.rows.items)) order.now }
+    ensures poly { IfOk result (λ poly. StagesFor (F.degree field.now) (F.product field.now) _design.now signature.now bases.now wiring.now.rows.items bound (Ok poly.terms)) }
+    ensures fault { IfErr result (MayFault (StagesFor (F.degree field.now) (F.product field.now) _design.now signature.now bases.now wiring.now.rows.items bound)) }
 {
     let polys = match block_polys(
         alloc,

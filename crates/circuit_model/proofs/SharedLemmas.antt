@@ -9,7 +9,6 @@ use Rattle.circuit_model.specs.OfBinding.{word_with, words_of}
 use Rattle.circuit_model.specs.Word.{Word, word_nets}
 use Rattle.circuit_model.specs.declared.circuit_word.CircuitWord.{CircuitWord}
 use Rattle.gf_basis.specs.BasisParts.{IsBasisOver}
-use Rattle.net_core.specs.NetList.{nets}
 use Rattle.net_words.specs.declared.bound.BoundWord.{BoundWord}
 
 pub from_word : (words : List BoundWord) (bases : List (List ℕ)) (w : ℕ) (word : BoundWord) (basis : List ℕ) → slice_get words w ≡ Some word → slice_get bases w ≡ Some basis

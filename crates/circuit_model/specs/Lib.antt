@@ -1,3 +1,5 @@
+pub mod AtMostOne
+pub mod FieldLaws
 pub mod Word
 pub mod Feeds
 pub mod Circuit
@@ -9,6 +11,7 @@ pub mod Flat
 pub mod OfBinding
 pub mod Places
 pub mod JobOfBinding
+pub mod BasedNet
 pub mod Bases
 pub mod Alike
 pub mod Ones

@@ -1,9 +1,10 @@
 -- The circuit of a net list in one cycle and of the words that are bound to it: all its words are on primary inputs, and so
 -- input words of the circuit. Source: this project's own.
-use Rattle.std.specs.Prelude.{◌≡◌, ℕ, List, [], ◌∷◌, ◌++◌, length}
+use Rattle.std.specs.Prelude.{◌≡◌, ℕ, not, List, [], ◌∷◌, ◌++◌, length, filter}
 use Rattle.lists.specs.Lists.{Has}
 use Rattle.net_words.specs.Binding.{BoundNet}
 use Rattle.net_words.specs.BoundTo.{output_bits}
+use Rattle.net_words.specs.Roles.{same_role}
 use Rattle.net_words.specs.declared.bound.BoundWord.{BoundWord}
 use Rattle.net_words.specs.declared.word.Role.{Role}
 use Rattle.net_words.specs.declared.word.Role.TheVariants.{Input, State, Fed, Output}
@@ -23,6 +24,10 @@ abbrev pub words_of : List BoundWord → List (List ℕ) → List Word
 words_of [] bases = []
 words_of (word ∷ words) [] = []
 words_of (word ∷ words) (basis ∷ bases) = word_with word.role word.nets basis ++ words_of words bases
+
+-- how many of the words are input, state and fed words
+abbrev pub inner_count : List BoundWord → ℕ
+inner_count words = length (filter (λ word. not (same_role word.role Output)) words)
 
 -- this basis for the output word, and the other for another
 abbrev pub output_basis_with : Role → List ℕ → List ℕ → List ℕ

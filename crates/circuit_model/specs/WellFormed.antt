@@ -36,3 +36,8 @@ pub record IsWellFormed (circuit : Circuit) : Type 0 where
   pub output_nets : (n : ℕ) → Has circuit.output.nets n → IsNet circuit n
   pub starts : (l : LatchValue) → Has circuit.net.latches l → IsInNoWord circuit l.out → l.start ≢ Unknown
   pub covered : (n : ℕ) → Has circuit.net.inputs n → IsInNoWord circuit n → Reaches circuit.net n circuit.output.nets → ⊥
+
+-- it is well-formed and combinational: nothing is held in latches
+pub record IsCombinational (circuit : Circuit) : Type 0 where
+  pub well_formed : IsWellFormed circuit
+  pub latches : circuit.net.latches ≡ []

@@ -10,6 +10,8 @@ use Rattle.net_blif.specs.Chains.{AreWithinDepth}
 use Rattle.net_blif.specs.Statement.{Token}
 use Rattle.net_blif.specs.Top.{instances_of}
 use Rattle.net_blif.specs.declared.item.Item.{Item}
+use Rattle.gf_field.specs.Field.{HasNoZeroDivisors}
+use Rattle.gf_field.specs.Ring.{IsRing}
 use Rattle.gf_basis.specs.Basis.{IsBasis}
 use Rattle.compose_model.specs.Hierarchy.{bases_at, Hierarchy}
 use Rattle.compose_model.specs.Feeds.{IsOutputOf}
@@ -28,3 +30,9 @@ pub record IsGiven (k : ℕ) (h : Hierarchy) : Type 0 where
   pub top : HaveBasesOf k h.words (bases_at h 0)
   pub blocks : (number : ℕ) (block : BlockValue) → slice_get h.blocks number ≡ Some block → HaveBasesOf k block.words (bases_at h (number + 1))
   pub outputs : (i : ℕ) (item : Item) → slice_get (instances_of h.design) i ≡ Some item → (nets : List Token) × (basis : List ℕ) × IsOutputOf h i nets basis
+
+-- that is known of the top, over a field
+pub record IsGivenOver (k : ℕ) (mul : ℕ → ℕ → ℕ) (h : Hierarchy) : Type 0 where
+  pub ring : IsRing k mul
+  pub no_zero_divisors : HasNoZeroDivisors k mul
+  pub given : IsGiven k h

@@ -4,3 +4,4 @@ pub mod Feeds
 pub mod Values
 pub mod Given
 pub mod Wiring
+pub mod WiredTop

@@ -1,5 +1,6 @@
 -- What feeds all instances of a top, and which instances feed each other. Source: Pruss, Kalla, Enescu, DAC 2014.
-use Rattle.std.specs.Prelude.{◌≡◌, ℕ, ◌<◌, List, [], ◌∷◌, Some, length, map, slice_get}
+use Rattle.std.specs.Global.{Global}
+use Rattle.std.specs.Prelude.{◌≡◌, ℕ, ◌<◌, List, [], ◌∷◌, Some, Vec, length, map, slice_get}
 use Rattle.graph_core.specs.Cycle.{IsGrounded}
 use Rattle.graph_core.specs.Graph.{Graph}
 use Rattle.net_blif.specs.Top.{instances_of}
@@ -33,3 +34,7 @@ HaveBlocks k mul h = (i : ℕ) (item : Item) → slice_get (instances_of h.desig
 -- no instances feed each other in a cycle
 abbrev pub IsWithoutCycle : List (List Feeder) → Type 0
 IsWithoutCycle rows = (i : ℕ) → i < length rows → IsGrounded (feeding_graph rows) i
+
+-- the rows of feeds
+abbrev pub rows_in : List (Vec Feeder Global) → List (List Feeder)
+rows_in rows = map (λ row. row.items) rows

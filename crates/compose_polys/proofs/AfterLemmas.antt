@@ -40,7 +40,7 @@ module _ (levels order : List ℕ) (is : IsOrderBy levels order) where
       let P : ℕ → Type 0 = λ n. slice_get order n ≡ Some b in
       next_before (slice_index levels a) a (slice_index levels mid.0) mid.0 (slice_index levels b) b (before_by d j a mid.0 first mid.1) (is.rises (j + suc d) mid.0 b mid.1 (subst P next last))
 
-  before : (i j a b : ℕ) → i < j → slice_get order i ≡ Some a → slice_get order j ≡ Some b → IsBefore (slice_index levels a) a (slice_index levels b) b
+  pub before : (i j a b : ℕ) → i < j → slice_get order i ≡ Some a → slice_get order j ≡ Some b → IsBefore (slice_index levels a) a (slice_index levels b) b
   before i j a b less first last =
       let sum : j ≡ i + suc (j - suc i) = omega (arith, less) in
       let P : ℕ → Type 0 = λ n. slice_get order n ≡ Some b in

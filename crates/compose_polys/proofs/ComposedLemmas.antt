@@ -43,11 +43,6 @@ use Rattle.compose_model.proofs.OutputLemmas.{output_value, same_words}
 use Rattle.compose_polys.specs.InstancePolys.{feed_at, poly_at, AreInstancePolys}
 use Rattle.compose_polys.proofs.PointLemmas.{is_point_of, mapped_elements, mapped_same, taken_elements, value_at, word_element}
 
-pub reduced_at : (k : ℕ) (polys : List Terms) (i : ℕ) (poly : Terms) → AreReduced k polys → slice_get polys i ≡ Some poly → IsReduced k poly
-reduced_at k [] i poly all got = absurd (cc)
-reduced_at k (ts ∷ polys) zero poly all got = let same : ts ≡ poly = cc in let P : Terms → Type 0 = IsReduced k in subst P same all.0
-reduced_at k (ts ∷ polys) (suc i) poly all got = reduced_at k polys i poly all.1 got
-
 module _ (k : ℕ) (mul : ℕ → ℕ → ℕ) (ring : IsRing k mul) (field : HasNoZeroDivisors k mul) (h : Hierarchy) (given : IsGiven k h) (rows : List (List Feeder)) (all : AreAllFeeds h rows) (polys : List Terms) (made : AreInstancePolys k mul h rows polys) (top : Circuit) (is_top : IsTop k mul h top) (p : Point) (at : IsPoint k p) where
   abbrev xs : List ℕ
   xs = take (length top.words) p.words

@@ -23,13 +23,14 @@ use Rattle.compose_model.specs.declared.feeder.Feeder.TheVariants.{InputWord, Ou
 use Rattle.compose_polys.specs.Instances.{AreDone, IsReady}
 use Rattle.compose_polys.specs.Words.{feed_terms, values_of, AreWordPolys, IsFeedAmong}
 use Rattle.compose_polys.specs.InstancePolys.{feed_at, AreInstancePolys, HaveBlockPolys}
-use Rattle.compose_polys.proofs.ComposedLemmas.{composed_output, reduced_at}
+use Rattle.compose_polys.proofs.ComposedLemmas.{composed_output}
+use Rattle.compose_polys.proofs.PowerLemmas.{feed_reduced}
 
 mapped_twice : {A : Type 0} (f : A → Terms) (g : Terms → ℕ) (h : A → ℕ) (xs : List A) → ((j : ℕ) (x : A) → slice_get xs j ≡ Some x → g (f x) ≡ h x) → map g (map f xs) ≡ map h xs
 mapped_twice f g h [] same = refl
 mapped_twice f g h (x ∷ xs) same = (λ i. same 0 x refl i ∷ mapped_twice f g h xs (λ j y got. same (suc j) y got) i)
 
-read_terms : (words : List Terms) (w : ℕ) (ts : Terms) → slice_get words w ≡ Some ts → unwrap_or (slice_get words w) [] ≡ ts
+pub read_terms : (words : List Terms) (w : ℕ) (ts : Terms) → slice_get words w ≡ Some ts → unwrap_or (slice_get words w) [] ≡ ts
 read_terms words w ts got = ap (λ found. unwrap_or found []) got
 
 module _ (k : ℕ) (mul : ℕ → ℕ → ℕ) (h : Hierarchy) (rows : List (List Feeder)) (words blocks polys : List Terms) (bound : ℕ) (order : List ℕ) (all : AreAllFeeds h rows) (made : HaveBlockPolys k mul h blocks) (words_are : AreWordPolys k mul words) (ready : IsReady k words blocks rows order) (stand : (i : ℕ) → i < length rows → Has order i) (done : AreDone k mul words blocks rows bound order (length order) polys) where
@@ -74,7 +75,7 @@ module _ (k : ℕ) (mul : ℕ → ℕ → ℕ) (h : Hierarchy) (rows : List (Lis
   feed_made count (OutputOf i) nets basis is =
       let poly = get_below polys i (omega (arith, done.long, all.long, slice_get_within (instances_of h.design) i is.item is.instance.at)) in
       let P : Terms → Type 0 = IsReduced k in
-      record { reduced = subst P (sym (read_terms polys i poly.0 poly.1)) (reduced_at k polys i poly.0 done.reduced poly.1); values = λ p at. refl }
+      record { reduced = subst P (sym (read_terms polys i poly.0 poly.1)) (feed_reduced k polys i poly.0 done.reduced poly.1); values = λ p at. refl }
 
   pub output_made : IsRing k mul → HasNoZeroDivisors k mul → IsGiven k h → HaveBlocks k mul h → IsWithoutCycle rows → (top : Circuit) (feed : Feeder) → IsTop k mul h top → FeedsOutput h feed → length words ≡ length (inputs_among (top_words h)) → IsOutputInWords top (feed_terms words polys feed)
   output_made ring field given bind free top feed is_top fed count =

@@ -6,6 +6,7 @@ use Rattle.std.proofs.lemmas.Bool.{cases_order}
 use Rattle.std.proofs.Math.Pow.{pow_mono}
 use Rattle.std.proofs.lemmas.Nat.{pow_pos}
 use Rattle.std.proofs.lemmas.Option.{slice_get_within}
+use Rattle.std.proofs.lemmas.List.{take_all}
 use lib.Bits.{xor_assoc, xor_comm, xor_lt}
 use Rattle.gf_field.specs.Ring.{IsRing}
 use Rattle.gf_field.specs.Field.{HasNoZeroDivisors}
@@ -230,15 +231,8 @@ module _ (k : ℕ) (mul : ℕ → ℕ → ℕ) (feeds : Point → List ℕ) wher
       term_refused instance s t old (TooManyTerms (SpecProduct r i) n) got summed is = absurd is
       term_refused instance s t old (TooManyTerms (SpecSum r) n) got summed is = absurd is
 
-      -- all terms are summed
-      whole : (m : ℕ) (ts : SpecTerms) → length ts ≤ m → take m ts ≡ ts
-      whole zero [] low = refl
-      whole zero (t ∷ ts) low = absurd (omega (arith, low))
-      whole (suc m) [] low = refl
-      whole (suc m) (t ∷ ts) low = ap (λ us. t ∷ us) (whole m ts (omega (arith, low)))
-
       pub all_summed : (s : ℕ) (ts : Terms) → length block ≤ s → IsSummed k mul feeds block bound s ts → IsPolynomialOf k mul (λ p. spec_at mul (feeds p) block) ts
-      all_summed s ts last summed = let P : SpecTerms → Type 0 = λ us. IsPolynomialOf k mul (λ p. spec_at mul (feeds p) us) ts in subst P (whole s block last) summed.is
+      all_summed s ts last summed = let P : SpecTerms → Type 0 = λ us. IsPolynomialOf k mul (λ p. spec_at mul (feeds p) us) ts in subst P (take_all s block last) summed.is
 
       pub all_within : (instance s : ℕ) (ts : Terms) → length block ≤ s → IsSummed k mul feeds block bound s ts → AreAllWithin k mul (instance_listing mul feeds instance block) bound
       all_within instance s ts last summed (InstanceProduct m r j) listed = product_within r j listed.1 (summed.terms_within.products listed.1.place listed.1.term (omega (arith, last, slice_get_within block listed.1.place listed.1.term listed.1.at)) listed.1.at j listed.1.some listed.1.most)

@@ -2,7 +2,7 @@
 use Rattle.std.specs.Prelude.{ℕ, ◌+◌, ◌-◌, List, [], ◌∷◌, ◌++◌, length, map, replicate}
 use Rattle.std.specs.List.{AllByRecursion}
 use Rattle.poly_mixed.specs.Monomial.{Monomial}
-use Rattle.poly_mixed.specs.Polynomial.{point, value, IsReduced, Point, Terms}
+use Rattle.poly_mixed.specs.Polynomial.{point, value, IsPolynomialOf, IsReduced, Point, Terms}
 use Rattle.spec_expand.specs.Specification.{SpecTerms}
 
 -- each word with its exponent, words being numbered from n
@@ -29,3 +29,11 @@ AreReduced k feeds = AllByRecursion (IsReduced k) feeds
 -- the point of a block's words: these elements, 0 for the words that the block does not have, and no bit
 abbrev pub point_of : List ℕ → Point
 point_of xs = point (xs ++ replicate (8 - length xs) 0) []
+
+-- a polynomial of the values that another one has
+abbrev pub HasValuesOf : ℕ → (ℕ → ℕ → ℕ) → Terms → Terms → Type 0
+HasValuesOf k mul other ts = IsPolynomialOf k mul (λ p. value mul p other) ts
+
+-- the polynomial of a block's at these feeds
+abbrev pub IsInstancePoly : ℕ → (ℕ → ℕ → ℕ) → List Terms → Terms → Terms → Type 0
+IsInstancePoly k mul feeds block ts = IsPolynomialOf k mul (λ p. value mul (point_of (feed_values mul feeds p)) block) ts

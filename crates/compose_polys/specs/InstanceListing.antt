@@ -1,13 +1,15 @@
 -- The stages of an instance as a listing: the products of its block's terms with their first factors, and the sums of these terms,
 -- at what feeds the instance. Source: this project's own.
-use Rattle.std.specs.Prelude.{◌≡◌, ◌⊎◌, ℕ, ◌+◌, ◌<◌, ◌≤◌, List, Some, length, take, slice_get}
-use Rattle.poly_mixed.specs.Polynomial.{Point}
+use Rattle.std.specs.Prelude.{◌≡◌, ◌⊎◌, ℕ, ◌+◌, ◌<◌, ◌≤◌, ◌^◌, List, Some, length, take, slice_get}
+use Rattle.poly_mixed.specs.Polynomial.{Point, Terms}
+use Rattle.poly_mixed.specs.declared.stage.ReduceFault.{ReduceFault}
 use Rattle.poly_mixed.specs.declared.stage.Stage.{Stage}
 use Rattle.poly_mixed.specs.declared.stage.Stage.TheVariants.{Cut, WordProduct, WordSum, SpecProduct, SpecSum, InstanceProduct, InstanceSum}
-use Rattle.stage_model.specs.Listing.{Listing, Nothing}
+use Rattle.stage_model.specs.Listing.{Listing, Nothing, AreAllWithin, IsRefusal}
 use Rattle.spec_expand.specs.Specification.{SpecTerms}
 use Rattle.spec_expand.specs.SpecValue.{spec_at, product_at}
 use Rattle.spec_expand.specs.SpecListing.{HasFactor}
+use Rattle.compose_polys.specs.Instance.{block_terms, feed_values}
 
 -- a function of what feeds the instance as a stage: the point is related to its value at the feeds' values there
 abbrev pub IsAtFeeds : (Point → List ℕ) → (List ℕ → ℕ) → Point → ℕ → Type 0
@@ -52,3 +54,15 @@ is_earlier_instance_stage name other = ⊥
 -- the stages of instance i of a block with these terms
 abbrev pub instance_listing : (ℕ → ℕ → ℕ) → (Point → List ℕ) → ℕ → SpecTerms → Listing Stage
 instance_listing mul feeds i block = record { is_listed = is_instance_stage i block; stage_of = instance_stage_of mul feeds block; comes_before = is_earlier_instance_stage }
+
+-- each listed stage relates each point, whatever its elements, to an element of the field of 2 to the k elements
+abbrev pub HaveValuesEverywhere : ℕ → Listing Stage → Type 0
+HaveValuesEverywhere k listing = (name : Stage) (p : Point) → listing.is_listed name → (e : ℕ) × listing.stage_of name p e × (e < 2 ^ k)
+
+-- no stage of instance i of the block is over the bound, at these feeds
+abbrev pub IsInstanceWithin : ℕ → (ℕ → ℕ → ℕ) → List Terms → ℕ → Terms → ℕ → Type 0
+IsInstanceWithin k mul feeds i block bound = AreAllWithin k mul (instance_listing mul (feed_values mul feeds) i (block_terms block)) bound
+
+-- of the stages of instance i of the block, at these feeds, the first over the bound, with its size; out of memory is free
+abbrev pub IsInstanceRefusal : ℕ → (ℕ → ℕ → ℕ) → List Terms → ℕ → Terms → ℕ → ReduceFault → Type 0
+IsInstanceRefusal k mul feeds i block bound fault = IsRefusal k mul (instance_listing mul (feed_values mul feeds) i (block_terms block)) bound fault

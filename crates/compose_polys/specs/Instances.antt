@@ -1,16 +1,18 @@
 -- The polynomials of instances in an order, and the first of their stages over a bound. Source: Pruss, Kalla, Enescu, DAC 2014.
-use Rattle.std.specs.Prelude.{◌≡◌, ℕ, ◌+◌, ◌<◌, ◌^◌, List, Some, length, slice_get}
+use denote.Ref.{Bor}
+use Rattle.std.specs.Global.{Global}
+use Rattle.std.specs.Prelude.{◌≡◌, ℕ, ◌+◌, ◌<◌, ◌^◌, List, Some, Vec, length, slice_get}
 use Rattle.lists.specs.Lists.{Has}
-use Rattle.poly_mixed.specs.Polynomial.{value, IsPolynomialOf, Terms}
+use Rattle.poly_mixed.specs.Polynomial.{value, IsPolynomialOf, Polynomial, Terms}
 use Rattle.poly_mixed.specs.declared.stage.ReduceFault.{ReduceFault}
 use Rattle.poly_mixed.specs.declared.stage.ReduceFault.TheVariants.{TooManyTerms, OutOfMemory}
 use Rattle.poly_mixed.specs.declared.stage.Stage.{Stage}
 use Rattle.stage_model.specs.Listing.{AreAllWithin, IsOver}
 use Rattle.compose_polys.specs.Instance.{block_terms, point_of, AreReduced}
 use Rattle.compose_polys.specs.InstanceListing.{instance_listing}
-use Rattle.compose_model.specs.Wiring.{instances_among}
+use Rattle.compose_model.specs.Wiring.{instances_among, rows_in}
 use Rattle.compose_model.specs.declared.feeder.Feeder.{Feeder}
-use Rattle.compose_polys.specs.Words.{values_of, IsBlockFor, IsFeedAmong}
+use Rattle.compose_polys.specs.Words.{borrowed_terms, terms_of, values_of, IsBlockFor, IsFeedAmong}
 
 -- The words have polynomials over the field, and each instance a block and feeds among words and instances; in the order
 -- each instance stands once at most, and after those that feed it.
@@ -59,3 +61,7 @@ module _ (k : ℕ) (mul : ℕ → ℕ → ℕ) (words blocks : List Terms) (rows
   abbrev pub IsRefused : List ℕ → ReduceFault → Type 0
   IsRefused order (TooManyTerms stage size) = IsFirstOver order stage size
   IsRefused order OutOfMemory = Unit {0}
+
+-- all instances of the order have got their polynomials, where words, blocks and rows are as the program has them
+abbrev pub AreAllDone : ℕ → (ℕ → ℕ → ℕ) → List Polynomial → List (Bor Polynomial) → List (Vec Feeder Global) → ℕ → List ℕ → List Polynomial → Type 0
+AreAllDone k mul words blocks rows bound order polys = AreDone k mul (terms_of words) (borrowed_terms blocks) (rows_in rows) bound order (length order) (terms_of polys)

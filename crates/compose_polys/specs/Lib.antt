@@ -5,4 +5,5 @@ pub mod Instances
 pub mod LevelOrder
 pub mod Wired
 pub mod InstancePolys
+pub mod Walk
 pub mod private

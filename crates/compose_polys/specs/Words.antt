@@ -1,12 +1,21 @@
 -- The polynomials of feeds. Source: Pruss, Kalla, Enescu, DAC 2014.
+use denote.Ref.{Bor}
 use Rattle.std.specs.Prelude.{◌≡◌, ℕ, ◌<◌, ◌^◌, List, [], Some, length, map, slice_get, slice_index}
 use Rattle.std.specs.Option.{unwrap_or}
-use Rattle.poly_mixed.specs.Polynomial.{IsPolynomialOf, IsReduced, Point, Terms}
+use Rattle.poly_mixed.specs.Polynomial.{IsPolynomialOf, IsReduced, Point, Polynomial, Terms}
 use Rattle.poly_mixed.specs.laws.Uniqueness.{InFirstWords}
 use Rattle.stage_model.specs.First.{InFirstRanks}
 use Rattle.compose_polys.specs.Instance.{feed_values}
 use Rattle.compose_model.specs.declared.feeder.Feeder.{Feeder}
 use Rattle.compose_model.specs.declared.feeder.Feeder.TheVariants.{InputWord, OutputOf}
+
+-- the terms of polynomials
+abbrev pub terms_of : List Polynomial → List Terms
+terms_of polys = map (λ q. q.terms) polys
+
+-- the terms of polynomials that are borrowed
+abbrev pub borrowed_terms : List (Bor Polynomial) → List Terms
+borrowed_terms polys = map (λ f. f.now.terms) polys
 
 -- each polynomial is that of the word of its number
 abbrev pub AreWordPolys : ℕ → (ℕ → ℕ → ℕ) → List Terms → Type 0
@@ -16,6 +25,10 @@ AreWordPolys k mul words = (w : ℕ) (ts : Terms) → slice_get words w ≡ Some
 abbrev pub feed_terms : List Terms → List Terms → Feeder → Terms
 feed_terms words polys (InputWord w) = unwrap_or (slice_get words w) []
 feed_terms words polys (OutputOf i) = unwrap_or (slice_get polys i) []
+
+-- the polynomials of feeds, where words and instances have these polynomials
+abbrev pub feed_polys : List Polynomial → List Polynomial → List Feeder → List Terms
+feed_polys words polys feeds = map (feed_terms (terms_of words) (terms_of polys)) feeds
 
 -- the values of feeds at a point
 abbrev pub values_of : (ℕ → ℕ → ℕ) → List Terms → List Terms → List Feeder → Point → List ℕ

@@ -1,10 +1,12 @@
 //! The product of a block's term with its factors at the polynomials of what feeds an instance.
-ghost use Rattle.std.specs.Prelude.{◌≡◌, ◌≢◌, ◌<◌, ◌+◌, ◌/◌, ◌^◌, drop, length, map, slice_get, slice_index, Some, IfErr, IfOk, OnOk};
+ghost use Rattle.std.specs.Prelude.{◌≡◌, ◌≢◌, ◌<◌, ◌+◌, ◌/◌, ◌^◌, drop, length, slice_get, slice_index, Some, IfErr, IfOk, OnOk};
 ghost use Rattle.poly_mixed.specs.Polynomial.{IsTerm};
 ghost use Rattle.poly_mixed.specs.laws.Uniqueness.{IsZeros};
 ghost use Rattle.spec_expand.specs.SpecValue.{factors_of};
-ghost use Rattle.compose_polys.specs.Instance.{block_term, feed_values, AreReduced};
-ghost use Rattle.compose_polys.specs.private.Reached.{digits_left, words_left, IsFeedPower, IsReached, IsTermRefusal};
+ghost use Rattle.compose_polys.specs.Instance.{block_term, AreReduced};
+ghost use Rattle.compose_polys.specs.private.Reached.{digits_left, words_left};
+ghost use Rattle.compose_polys.specs.private.AtFeeds.{IsAllReachedAt, IsPowerAt, IsReachedAt, IsRefusalAt};
+ghost use Rattle.compose_polys.specs.Words.{borrowed_terms};
 
 use crate::copied::copied;
 use crate::square::squared;
@@ -35,11 +37,11 @@ fn one_factor<F: Field>(
 ) -> Result<(), ReduceFault>
     requires factor { slice_get (factors_of (block_term _term.now).1) reached.old.factors ≡ Some (_word, 2 ^ _j) }
     requires few { length (factors_of (block_term _term.now).1) < 2 ^ 32 }
-    requires power { IsFeedPower (F.degree field.now) (F.product field.now) (feed_values (F.product field.now) (map (λ f. f.now.terms) _feeds.now)) _word _j power.now.terms }
-    requires reached { IsReached (F.degree field.now) (F.product field.now) (feed_values (F.product field.now) (map (λ f. f.now.terms) _feeds.now)) (block_term _term.now) bound reached.old.factors reached.old.poly.terms }
+    requires power { IsPowerAt (F.degree field.now) (F.product field.now) (borrowed_terms _feeds.now) _word _j power.now.terms }
+    requires reached { IsReachedAt (F.degree field.now) (F.product field.now) (borrowed_terms _feeds.now) _term.now bound reached.old }
     ensures factors { OnOk result (reached.new.factors ≡ reached.old.factors + 1) }
-    ensures reached { OnOk result (IsReached (F.degree field.now) (F.product field.now) (feed_values (F.product field.now) (map (λ f. f.now.terms) _feeds.now)) (block_term _term.now) bound reached.new.factors reached.new.poly.terms) }
-    ensures fault { IfErr result (IsTermRefusal (F.degree field.now) (F.product field.now) (feed_values (F.product field.now) (map (λ f. f.now.terms) _feeds.now)) (block_term _term.now) instance number bound) }
+    ensures reached { OnOk result (IsReachedAt (F.degree field.now) (F.product field.now) (borrowed_terms _feeds.now) _term.now bound reached.new) }
+    ensures fault { IfErr result (IsRefusalAt (F.degree field.now) (F.product field.now) (borrowed_terms _feeds.now) _term.now instance number bound) }
 {
     let product = reached.poly.mul(alloc, field, power)?;
     let factor = reached.factors + 1;
@@ -71,12 +73,12 @@ fn one_digit<F: Field>(
 ) -> Result<(), ReduceFault>
     requires j { j < 64 }
     requires few { length (factors_of (block_term term.now).1) < 2 ^ 32 }
-    requires power { left ≢ 0 → IsFeedPower (F.degree field.now) (F.product field.now) (feed_values (F.product field.now) (map (λ f. f.now.terms) feeds.now)) word j power.now.terms }
+    requires power { left ≢ 0 → IsPowerAt (F.degree field.now) (F.product field.now) (borrowed_terms feeds.now) word j power.now.terms }
     requires rest { drop reached.old.factors (factors_of (block_term term.now).1) ≡ digits_left word j left term.now.0.exponents }
-    requires reached { IsReached (F.degree field.now) (F.product field.now) (feed_values (F.product field.now) (map (λ f. f.now.terms) feeds.now)) (block_term term.now) bound reached.old.factors reached.old.poly.terms }
+    requires reached { IsReachedAt (F.degree field.now) (F.product field.now) (borrowed_terms feeds.now) term.now bound reached.old }
     ensures rest { OnOk result (drop reached.new.factors (factors_of (block_term term.now).1) ≡ digits_left word (j + 1) (left / 2) term.now.0.exponents) }
-    ensures reached { OnOk result (IsReached (F.degree field.now) (F.product field.now) (feed_values (F.product field.now) (map (λ f. f.now.terms) feeds.now)) (block_term term.now) bound reached.new.factors reached.new.poly.terms) }
-    ensures fault { IfErr result (IsTermRefusal (F.degree field.now) (F.product field.now) (feed_values (F.product field.now) (map (λ f. f.now.terms) feeds.now)) (block_term term.now) instance number bound) }
+    ensures reached { OnOk result (IsReachedAt (F.degree field.now) (F.product field.now) (borrowed_terms feeds.now) term.now bound reached.new) }
+    ensures fault { IfErr result (IsRefusalAt (F.degree field.now) (F.product field.now) (borrowed_terms feeds.now) term.now instance number bound) }
 {
     if left % 2 == 1 {
         one_factor(
@@ -96,8 +98,8 @@ fn next_power<F: Field>(
     power: Poly,
     left: u64,
 ) -> Result<Poly, AllocError>
-    requires power { left ≢ 0 → IsFeedPower (F.degree field.now) (F.product field.now) (feed_values (F.product field.now) (map (λ f. f.now.terms) _feeds.now)) _word _j power.terms }
-    ensures { IfOk result (λ q. left ≢ 0 → IsFeedPower (F.degree field.now) (F.product field.now) (feed_values (F.product field.now) (map (λ f. f.now.terms) _feeds.now)) _word (_j + 1) q.terms) }
+    requires power { left ≢ 0 → IsPowerAt (F.degree field.now) (F.product field.now) (borrowed_terms _feeds.now) _word _j power.terms }
+    ensures { IfOk result (λ q. left ≢ 0 → IsPowerAt (F.degree field.now) (F.product field.now) (borrowed_terms _feeds.now) _word (_j + 1) q.terms) }
 {
     if left == 0 {
         return Ok(power);
@@ -122,8 +124,8 @@ fn first_power<F: Field>(
     word: usize,
 ) -> Result<Poly, AllocError>
     requires word { word < length feeds.now }
-    requires feeds { AreReduced (F.degree field.now) (map (λ f. f.now.terms) feeds.now) }
-    ensures { IfOk result (λ q. IsFeedPower (F.degree field.now) (F.product field.now) (feed_values (F.product field.now) (map (λ f. f.now.terms) feeds.now)) word 0 q.terms) }
+    requires feeds { AreReduced (F.degree field.now) (borrowed_terms feeds.now) }
+    ensures { IfOk result (λ q. IsPowerAt (F.degree field.now) (F.product field.now) (borrowed_terms feeds.now) word 0 q.terms) }
 {
     let feed = feeds[word];
     let power = copied(alloc, field, feed)?;
@@ -142,16 +144,16 @@ fn one_word<F: Field>(
     bound: u32,
     reached: &mut Reached,
 ) -> Result<(), ReduceFault>
-    requires feeds { AreReduced (F.degree field.now) (map (λ f. f.now.terms) feeds.now) }
+    requires feeds { AreReduced (F.degree field.now) (borrowed_terms feeds.now) }
     requires term { IsTerm (F.degree field.now) term.now }
     requires fed { IsZeros (drop (length feeds.now) term.now.0.exponents) }
     requires word { word < 8 }
     requires few { length (factors_of (block_term term.now).1) < 2 ^ 32 }
     requires rest { drop reached.old.factors (factors_of (block_term term.now).1) ≡ words_left word term.now.0.exponents }
-    requires reached { IsReached (F.degree field.now) (F.product field.now) (feed_values (F.product field.now) (map (λ f. f.now.terms) feeds.now)) (block_term term.now) bound reached.old.factors reached.old.poly.terms }
+    requires reached { IsReachedAt (F.degree field.now) (F.product field.now) (borrowed_terms feeds.now) term.now bound reached.old }
     ensures rest { OnOk result (drop reached.new.factors (factors_of (block_term term.now).1) ≡ words_left (word + 1) term.now.0.exponents) }
-    ensures reached { OnOk result (IsReached (F.degree field.now) (F.product field.now) (feed_values (F.product field.now) (map (λ f. f.now.terms) feeds.now)) (block_term term.now) bound reached.new.factors reached.new.poly.terms) }
-    ensures fault { IfErr result (IsTermRefusal (F.degree field.now) (F.product field.now) (feed_values (F.product field.now) (map (λ f. f.now.terms) feeds.now)) (block_term term.now) instance number bound) }
+    ensures reached { OnOk result (IsReachedAt (F.degree field.now) (F.product field.now) (borrowed_terms feeds.now) term.now bound reached.new) }
+    ensures fault { IfErr result (IsRefusalAt (F.degree field.now) (F.product field.now) (borrowed_terms feeds.now) term.now instance number bound) }
 {
     let exponent = exponent_of(term, word);
     if exponent == 0 {
@@ -179,11 +181,11 @@ pub(crate) fn one_term<F: Field>(
     number: u32,
     bound: u32,
 ) -> Result<Poly, ReduceFault>
-    requires feeds { AreReduced (F.degree field.now) (map (λ f. f.now.terms) feeds.now) }
+    requires feeds { AreReduced (F.degree field.now) (borrowed_terms feeds.now) }
     requires term { IsTerm (F.degree field.now) term.now }
     requires fed { IsZeros (drop (length feeds.now) term.now.0.exponents) }
-    ensures reached { IfOk result (λ q. IsReached (F.degree field.now) (F.product field.now) (feed_values (F.product field.now) (map (λ f. f.now.terms) feeds.now)) (block_term term.now) bound (length (factors_of (block_term term.now).1)) q.terms) }
-    ensures fault { IfErr result (IsTermRefusal (F.degree field.now) (F.product field.now) (feed_values (F.product field.now) (map (λ f. f.now.terms) feeds.now)) (block_term term.now) instance number bound) }
+    ensures reached { IfOk result (λ q. IsAllReachedAt (F.degree field.now) (F.product field.now) (borrowed_terms feeds.now) term.now bound q.terms) }
+    ensures fault { IfErr result (IsRefusalAt (F.degree field.now) (F.product field.now) (borrowed_terms feeds.now) term.now instance number bound) }
 {
     let poly = constant(alloc, field, term.coefficient())?;
     let mut reached = Reached { poly, factors: 0 };

@@ -1,11 +1,11 @@
 //! The polynomial of an instance.
-ghost use Rattle.std.specs.Prelude.{◌<◌, ◌^◌, length, map, IfErr, IfOk, OnOk};
-ghost use Rattle.poly_mixed.specs.Polynomial.{IsPolynomialOf, IsReduced, value};
+ghost use Rattle.std.specs.Prelude.{◌<◌, ◌^◌, length, IfErr, IfOk, OnOk};
+ghost use Rattle.poly_mixed.specs.Polynomial.{IsReduced};
 ghost use Rattle.poly_mixed.specs.laws.Uniqueness.{InFirstWords};
 ghost use Rattle.stage_model.specs.First.{InFirstRanks};
-ghost use Rattle.stage_model.specs.Listing.{AreAllWithin, IsRefusal};
-ghost use Rattle.compose_polys.specs.Instance.{block_terms, feed_values, point_of, AreReduced};
-ghost use Rattle.compose_polys.specs.InstanceListing.{instance_listing};
+ghost use Rattle.compose_polys.specs.Instance.{AreReduced, IsInstancePoly};
+ghost use Rattle.compose_polys.specs.InstanceListing.{IsInstanceRefusal, IsInstanceWithin};
+ghost use Rattle.compose_polys.specs.Words.{borrowed_terms};
 
 use crate::factors::one_term;
 use gf_field::Field;
@@ -31,10 +31,10 @@ pub fn instance_poly<F: Field>(
     requires words { InFirstWords (length feeds.now) block.now.terms }
     requires no_bits { InFirstRanks 0 block.now.terms }
     requires few { length block.now.terms < 2 ^ 32 }
-    requires feeds { AreReduced (F.degree field.now) (map (λ f. f.now.terms) feeds.now) }
-    ensures polynomial { IfOk result (λ q. IsPolynomialOf (F.degree field.now) (F.product field.now) (λ p. value (F.product field.now) (point_of (feed_values (F.product field.now) (map (λ f. f.now.terms) feeds.now) p)) block.now.terms) q.terms) }
-    ensures within { OnOk result (AreAllWithin (F.degree field.now) (F.product field.now) (instance_listing (F.product field.now) (feed_values (F.product field.now) (map (λ f. f.now.terms) feeds.now)) instance (block_terms block.now.terms)) bound) }
-    ensures fault { IfErr result (IsRefusal (F.degree field.now) (F.product field.now) (instance_listing (F.product field.now) (feed_values (F.product field.now) (map (λ f. f.now.terms) feeds.now)) instance (block_terms block.now.terms)) bound) }
+    requires feeds { AreReduced (F.degree field.now) (borrowed_terms feeds.now) }
+    ensures polynomial { IfOk result (λ q. IsInstancePoly (F.degree field.now) (F.product field.now) (borrowed_terms feeds.now) block.now.terms q.terms) }
+    ensures within { OnOk result (IsInstanceWithin (F.degree field.now) (F.product field.now) (borrowed_terms feeds.now) instance block.now.terms bound) }
+    ensures fault { IfErr result (IsInstanceRefusal (F.degree field.now) (F.product field.now) (borrowed_terms feeds.now) instance block.now.terms bound) }
 {
     let terms = block.terms(alloc)?;
     let mut sum = Poly::zero(alloc);

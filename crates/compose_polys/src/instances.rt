@@ -1,12 +1,11 @@
 //! The polynomials of instances.
 ghost use Rattle.std.specs.Prelude.{◌≡◌, ◌<◌, ◌+◌, ℕ, [], length, map, replicate, slice_get, Some, IfErr, IfOk, OnOk};
-ghost use Rattle.poly_mixed.specs.Polynomial.{IsPolynomialOf, value};
-ghost use Rattle.stage_model.specs.Listing.{AreAllWithin, IsRefusal};
-ghost use Rattle.compose_polys.specs.Instance.{block_terms, point_of, AreReduced};
-ghost use Rattle.compose_polys.specs.InstanceListing.{instance_listing};
+ghost use Rattle.compose_polys.specs.Instance.{AreReduced, IsInstancePoly};
 ghost use Rattle.compose_model.specs.declared.feeder.Feeder.{Feeder as FeederValue};
-ghost use Rattle.compose_polys.specs.Words.{values_of, IsBlockFor, IsFeedAmong};
-ghost use Rattle.compose_polys.specs.Instances.{AreDone, IsReady, IsRefused};
+ghost use Rattle.compose_model.specs.Wiring.{rows_in};
+ghost use Rattle.compose_polys.specs.Words.{IsBlockFor, IsFeedAmong, borrowed_terms, feed_polys, terms_of};
+ghost use Rattle.compose_polys.specs.Instances.{IsReady, IsRefused, AreAllDone};
+ghost use Rattle.compose_polys.specs.InstanceListing.{IsInstanceRefusal, IsInstanceWithin};
 
 use crate::feeds::polys_of;
 use crate::instance::instance_poly;
@@ -37,13 +36,13 @@ fn one_instance<F: Field>(
     instance: u32,
     bound: u32,
 ) -> Result<Poly, ReduceFault>
-    requires words { AreReduced (F.degree field.now) (map (λ q. q.terms) words.now) }
-    requires polys { AreReduced (F.degree field.now) (map (λ q. q.terms) polys.now) }
+    requires words { AreReduced (F.degree field.now) (terms_of words.now) }
+    requires polys { AreReduced (F.degree field.now) (terms_of polys.now) }
     requires feeds { (j : ℕ) (feed : FeederValue) → slice_get feeds.now j ≡ Some feed → IsFeedAmong (length words.now) (length polys.now) feed }
     requires block { IsBlockFor (F.degree field.now) feeds.now block.now.terms }
-    ensures polynomial { IfOk result (λ q. IsPolynomialOf (F.degree field.now) (F.product field.now) (λ p. value (F.product field.now) (point_of (values_of (F.product field.now) (map (λ w. w.terms) words.now) (map (λ w. w.terms) polys.now) feeds.now p)) block.now.terms) q.terms) }
-    ensures within { OnOk result (AreAllWithin (F.degree field.now) (F.product field.now) (instance_listing (F.product field.now) (values_of (F.product field.now) (map (λ q. q.terms) words.now) (map (λ q. q.terms) polys.now) feeds.now) instance (block_terms block.now.terms)) bound) }
-    ensures fault { IfErr result (IsRefusal (F.degree field.now) (F.product field.now) (instance_listing (F.product field.now) (values_of (F.product field.now) (map (λ q. q.terms) words.now) (map (λ q. q.terms) polys.now) feeds.now) instance (block_terms block.now.terms)) bound) }
+    ensures polynomial { IfOk result (λ q. IsInstancePoly (F.degree field.now) (F.product field.now) (feed_polys words.now polys.now feeds.now) block.now.terms q.terms) }
+    ensures within { OnOk result (IsInstanceWithin (F.degree field.now) (F.product field.now) (feed_polys words.now polys.now feeds.now) instance block.now.terms bound) }
+    ensures fault { IfErr result (IsInstanceRefusal (F.degree field.now) (F.product field.now) (feed_polys words.now polys.now feeds.now) instance block.now.terms bound) }
 {
     let list = polys_of(alloc, words, polys, feeds)?;
     let poly = instance_poly(alloc, field, instance, block, &list, bound)?;
@@ -65,9 +64,9 @@ pub fn instance_polys<F: Field>(
     order: &[u32],
     bound: u32,
 ) -> Result<Vec<Poly>, ReduceFault>
-    requires { IsReady (F.degree field.now) (map (λ q. q.terms) words.now) (map (λ f. f.now.terms) blocks.now) (map (λ row. row.items) rows.now) order.now }
-    ensures polynomials { IfOk result (λ polys. AreDone (F.degree field.now) (F.product field.now) (map (λ q. q.terms) words.now) (map (λ f. f.now.terms) blocks.now) (map (λ row. row.items) rows.now) bound order.now (length order.now) (map (λ q. q.terms) polys.items)) }
-    ensures fault { IfErr result (IsRefused (F.degree field.now) (F.product field.now) (map (λ q. q.terms) words.now) (map (λ f. f.now.terms) blocks.now) (map (λ row. row.items) rows.now) bound order.now) }
+    requires { IsReady (F.degree field.now) (terms_of words.now) (borrowed_terms blocks.now) (rows_in rows.now) order.now }
+    ensures polynomials { IfOk result (λ polys. AreAllDone (F.degree field.now) (F.product field.now) words.now blocks.now rows.now bound order.now polys.items) }
+    ensures fault { IfErr result (IsRefused (F.degree field.now) (F.product field.now) (terms_of words.now) (borrowed_terms blocks.now) (rows_in rows.now) bound order.now) }
 {
     let mut polys = zeros(alloc, rows.len())?;
     for m in 0..order.len() {

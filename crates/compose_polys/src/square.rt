@@ -1,7 +1,7 @@
 //! The square of a polynomial. In a field of 2^k elements the square of a sum is the sum of the squares.
 ghost use Rattle.std.specs.Prelude.{IfOk};
-ghost use Rattle.poly_mixed.specs.Polynomial.{IsPolynomialOf, IsReduced, IsTerm, term_value, value};
-ghost use Rattle.compose_polys.specs.private.Square.{square_of};
+ghost use Rattle.poly_mixed.specs.Polynomial.{IsReduced, IsTerm, term_value, value};
+ghost use Rattle.compose_polys.specs.private.Square.{IsSquareOf};
 
 use gf_field::Field;
 use poly_mixed::{Mono, Poly, Term};
@@ -10,7 +10,7 @@ use std::alloc::{AllocError, Global};
 // The square of one term.
 fn square_of_term<F: Field>(alloc: Global, field: &F, term: &Term) -> Result<Poly, AllocError>
     requires { IsTerm (F.degree field.now) term.now }
-    ensures { IfOk result (λ q. IsPolynomialOf (F.degree field.now) (F.product field.now) (λ p. square_of (F.product field.now) (term_value (F.product field.now) p term.now)) q.terms) }
+    ensures { IfOk result (λ q. IsSquareOf (F.degree field.now) (F.product field.now) (λ p. term_value (F.product field.now) p term.now) q.terms) }
 {
     let mono = term.mono();
     let copy = Mono::new(alloc, mono.bits(), mono.exponents())?;
@@ -22,7 +22,7 @@ fn square_of_term<F: Field>(alloc: Global, field: &F, term: &Term) -> Result<Pol
 /// The square of a polynomial, which has the squares of its terms.
 pub(crate) fn squared<F: Field>(alloc: Global, field: &F, poly: &Poly) -> Result<Poly, AllocError>
     requires { IsReduced (F.degree field.now) poly.now.terms }
-    ensures { IfOk result (λ q. IsPolynomialOf (F.degree field.now) (F.product field.now) (λ p. square_of (F.product field.now) (value (F.product field.now) p poly.now.terms)) q.terms) }
+    ensures { IfOk result (λ q. IsSquareOf (F.degree field.now) (F.product field.now) (λ p. value (F.product field.now) p poly.now.terms) q.terms) }
 {
     let terms = poly.terms(alloc)?;
     let mut sum = Poly::zero(alloc);

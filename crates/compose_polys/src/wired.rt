@@ -1,10 +1,9 @@
 //! The polynomial of a wired top.
-ghost use Rattle.std.specs.Prelude.{◌<◌, IfErr, IfOk, length, map};
-ghost use Rattle.poly_mixed.specs.Polynomial.{value, IsPolynomialOf};
-ghost use Rattle.compose_polys.specs.Instance.{AreReduced};
-ghost use Rattle.compose_model.specs.Wiring.{feeding_graph as graph_of};
+ghost use Rattle.std.specs.Prelude.{◌<◌, IfErr, IfOk, length};
+ghost use Rattle.compose_polys.specs.Instance.{AreReduced, HasValuesOf};
+ghost use Rattle.compose_model.specs.Wiring.{feeding_graph as graph_of, rows_in};
 ghost use Rattle.compose_polys.specs.LevelOrder.{IsLevelOrder};
-ghost use Rattle.compose_polys.specs.Words.{feed_terms, IsFeedAmong};
+ghost use Rattle.compose_polys.specs.Words.{feed_terms, IsFeedAmong, borrowed_terms, terms_of};
 ghost use Rattle.compose_polys.specs.Wired.{IsStageFault, IsWired, IsWiredPoly};
 
 use crate::feeds::poly_of;
@@ -24,9 +23,9 @@ fn copied<F: Field>(
     feed: Feeder,
 ) -> Result<Poly, AllocError>
     requires among { IsFeedAmong (length words.now) (length polys.now) feed }
-    requires words { AreReduced (F.degree field.now) (map (λ q. q.terms) words.now) }
-    requires polys { AreReduced (F.degree field.now) (map (λ q. q.terms) polys.now) }
-    ensures { IfOk result (λ q. IsPolynomialOf (F.degree field.now) (F.product field.now) (λ p. value (F.product field.now) p (feed_terms (map (λ w. w.terms) words.now) (map (λ w. w.terms) polys.now) feed)) q.terms) }
+    requires words { AreReduced (F.degree field.now) (terms_of words.now) }
+    requires polys { AreReduced (F.degree field.now) (terms_of polys.now) }
+    ensures { IfOk result (λ q. HasValuesOf (F.degree field.now) (F.product field.now) (feed_terms (terms_of words.now) (terms_of polys.now) feed) q.terms) }
 {
     let poly = poly_of(words, polys, feed);
     let mut copy = Poly::zero(alloc);
@@ -49,10 +48,10 @@ pub fn wired_poly<F: Field>(
     output: Feeder,
     bound: u32,
 ) -> Result<Poly, ReduceFault>
-    requires wired { IsWired (F.degree field.now) count (map (λ f. f.now.terms) blocks.now) (map (λ row. row.items) rows.now) output }
-    requires order { IsLevelOrder (graph_of (map (λ row. row.items) rows.now)) order.now }
-    ensures poly { IfOk result (λ q. IsWiredPoly (F.degree field.now) (F.product field.now) count (map (λ f. f.now.terms) blocks.now) (map (λ row. row.items) rows.now) bound output q.terms) }
-    ensures fault { IfErr result (IsStageFault (F.degree field.now) (F.product field.now) count (map (λ f. f.now.terms) blocks.now) (map (λ row. row.items) rows.now) bound) }
+    requires wired { IsWired (F.degree field.now) count (borrowed_terms blocks.now) (rows_in rows.now) output }
+    requires order { IsLevelOrder (graph_of (rows_in rows.now)) order.now }
+    ensures poly { IfOk result (λ q. IsWiredPoly (F.degree field.now) (F.product field.now) count (borrowed_terms blocks.now) (rows_in rows.now) bound output q.terms) }
+    ensures fault { IfErr result (IsStageFault (F.degree field.now) (F.product field.now) count (borrowed_terms blocks.now) (rows_in rows.now) bound) }
 {
     let words = word_polys(alloc, field, count)?;
     let polys = match instance_polys(alloc, field, &words, blocks, rows, order, bound) {

@@ -1,5 +1,5 @@
 -- The order of instances by level and number.
-use Rattle.std.proofs.Common.{◌≡◌, ◌∙◌, ap, sym, refl, subst, inl, inr, ℕ, zero, suc, ◌<◌, ◌+◌, ◌-◌, max, List, [], ◌∷◌, length, Some, arith}
+use Rattle.std.proofs.Common.{◌≡◌, ◌∙◌, ap, sym, refl, subst, inl, inr, ℕ, zero, suc, ◌<◌, ◌+◌, max, List, [], ◌∷◌, length, Some, arith}
 use Rattle.std.specs.Prelude.{slice_get, slice_index}
 use Rattle.std.proofs.lemmas.Bool.{cases_lt, cases_order}
 use Rattle.std.proofs.lemmas.List.{get_or_past}
@@ -18,7 +18,7 @@ use Rattle.compose_model.specs.Wiring.{feeding_graph, instances_among, AreAllFee
 use Rattle.compose_model.specs.declared.feeder.Feeder.{Feeder}
 use Rattle.compose_model.specs.declared.feeder.Feeder.TheVariants.{InputWord, OutputOf}
 use Rattle.compose_polys.specs.LevelOrder.{first_numbers, level_from, AreLevels, IsLevelOrder, IsOrderBy}
-use Rattle.compose_polys.proofs.AfterLemmas.{all_stand, level_arranged, next_before}
+use Rattle.compose_polys.proofs.AfterLemmas.{all_stand, level_arranged, before as before_at}
 use Rattle.compose_polys.proofs.WiredLemmas.{edges_of}
 
 -- ---- rows
@@ -83,24 +83,6 @@ not_both l p m q (inr a) (inl b) = absurd (omega (arith, a.0, b))
 not_both l p m q (inr a) (inr b) = absurd (omega (arith, a.1, b.1))
 
 module _ (levels order : List ℕ) (is : IsOrderBy levels order) where
-  before_by : (d j a b : ℕ) → slice_get order j ≡ Some a → slice_get order (j + suc d) ≡ Some b → IsBefore (slice_index levels a) a (slice_index levels b) b
-  before_by zero j a b first last =
-      let next : j + suc zero ≡ j + 1 = omega arith in
-      let P : ℕ → Type 0 = λ n. slice_get order n ≡ Some b in
-      is.rises j a b first (subst P next last)
-  before_by (suc d) j a b first last =
-      let less : j + suc (suc d) < length order = slice_get_within order (j + suc (suc d)) b last in
-      let mid = get_below order (j + suc d) (omega (arith, less)) in
-      let next : j + suc (suc d) ≡ (j + suc d) + 1 = omega arith in
-      let P : ℕ → Type 0 = λ n. slice_get order n ≡ Some b in
-      next_before (slice_index levels a) a (slice_index levels mid.0) mid.0 (slice_index levels b) b (before_by d j a mid.0 first mid.1) (is.rises (j + suc d) mid.0 b mid.1 (subst P next last))
-
-  before_at : (i j a b : ℕ) → i < j → slice_get order i ≡ Some a → slice_get order j ≡ Some b → IsBefore (slice_index levels a) a (slice_index levels b) b
-  before_at i j a b less first last =
-      let sum : j ≡ i + suc (j - suc i) = omega (arith, less) in
-      let P : ℕ → Type 0 = λ n. slice_get order n ≡ Some b in
-      before_by (j - suc i) i a b first (subst P sum last)
-
   -- what comes before stands before
   pub stands_before : (m n a b : ℕ) → slice_get order m ≡ Some a → slice_get order n ≡ Some b → IsBefore (slice_index levels a) a (slice_index levels b) b → m < n
   stands_before m n a b at_a at_b before =
@@ -115,6 +97,6 @@ module _ (levels order : List ℕ) (is : IsOrderBy levels order) where
             absurd (not_both (slice_index levels a) a (slice_index levels a) a own own)
         | inr apart ↦ elim apart [
           | inl low ↦ low
-          | inr high ↦ absurd (not_both (slice_index levels a) a (slice_index levels b) b before (before_at n m b a high at_b at_a))
+          | inr high ↦ absurd (not_both (slice_index levels a) a (slice_index levels b) b before (before_at levels order is n m b a high at_b at_a))
         ]
       ]

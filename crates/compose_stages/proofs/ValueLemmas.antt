@@ -2,7 +2,6 @@
 -- polynomials.
 use Rattle.std.proofs.Common.{◌≡◌, ◌∙◌, ap, ap₂, sym, refl, ℕ, zero, suc, ◌<◌, ◌≤◌, List, [], ◌∷◌, length, map, Some, arith}
 use Rattle.std.specs.Prelude.{slice_get, slice_index}
-use Rattle.std.specs.Option.{unwrap_or}
 use Rattle.std.proofs.lemmas.List.{get_or-take}
 use Rattle.std.proofs.lemmas.Option.{get_or_from_slice_get, slice_get_within}
 use Rattle.lists.specs.laws.ReadLaws.{get_below}
@@ -20,14 +19,12 @@ use Rattle.compose_model.specs.Wiring.{AreAllFeeds, HaveBlocks}
 use Rattle.compose_model.specs.declared.feeder.Feeder.{Feeder}
 use Rattle.compose_model.specs.declared.feeder.Feeder.TheVariants.{InputWord, OutputOf}
 use Rattle.compose_polys.proofs.FeedLemmas.{among}
+use Rattle.compose_polys.proofs.OrderedLemmas.{read_terms}
 use Rattle.compose_polys.specs.Instances.{AreDone, IsReady}
 use Rattle.compose_polys.specs.Words.{feed_terms, values_of, AreWordPolys}
 use Rattle.compose_polys.specs.InstancePolys.{poly_at, HaveBlockPolys}
 use Rattle.compose_stages.specs.InstanceStages.{top_elements}
 use Rattle.compose_stages.proofs.BlockLemmas.{block_value}
-
-read_at : (polys : List Terms) (i : ℕ) (ts : Terms) → slice_get polys i ≡ Some ts → unwrap_or (slice_get polys i) [] ≡ ts
-read_at polys i ts got = ap (λ found. unwrap_or found []) got
 
 mapped_twice : (f : Feeder → Terms) (g : Terms → ℕ) (h : Feeder → ℕ) (fs : List Feeder) → ((j : ℕ) (x : Feeder) → slice_get fs j ≡ Some x → h x ≡ g (f x)) → map h fs ≡ map g (map f fs)
 mapped_twice f g h [] same = refl
@@ -40,7 +37,7 @@ module _ (k : ℕ) (mul : ℕ → ℕ → ℕ) (ring : IsRing k mul) (field : Ha
   word_same : (w : ℕ) → w < length words → slice_index xs w ≡ value mul p (feed_terms words polys (InputWord w))
   word_same w less =
       let word = get_below words w less in
-      get_or-take (length (inputs_among (top_words h))) p.words w 0 (omega (arith, less, count)) ∙ sym (ap (value mul p) (read_at words w word.0 word.1) ∙ (words_are w word.0 word.1).values p at)
+      get_or-take (length (inputs_among (top_words h))) p.words w 0 (omega (arith, less, count)) ∙ sym (ap (value mul p) (read_terms words w word.0 word.1) ∙ (words_are w word.0 word.1).values p at)
 
   -- what feeds an instance has the values of its polynomials where the instances before it have
   feeds_same : (m i : ℕ) (feeds : List Feeder) → slice_get order m ≡ Some i → slice_get rows i ≡ Some feeds → ((l j : ℕ) → l < m → slice_get order l ≡ Some j → slice_index es j ≡ value mul p (poly_at polys j)) → map (feed_value k mul h xs es) feeds ≡ values_of mul words polys feeds p
@@ -65,7 +62,7 @@ module _ (k : ℕ) (mul : ℕ → ℕ → ℕ) (ring : IsRing k mul) (field : Ha
       ∙ block_value k mul ring field h given item.0 block.0 was.block ys e.0 block.1 output out
       ∙ ap (λ zs. value mul (point_of zs) was.block) same
       ∙ sym (was.is.values p at)
-      ∙ ap (value mul p) (sym (read_at polys i was.poly was.at))
+      ∙ ap (value mul p) (sym (read_terms polys i was.poly was.at))
 
   values_to : (d m i : ℕ) → m < d → m < n → slice_get order m ≡ Some i → slice_index es i ≡ value mul p (poly_at polys i)
   values_to zero m i less low at_m = absurd (omega (arith, less))

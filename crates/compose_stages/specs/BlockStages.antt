@@ -55,6 +55,14 @@ module _ (k : ℕ) (mul : ℕ → ℕ → ℕ) (h : Hierarchy) where
   abbrev pub AreBlocksWithin : ℕ → Type 0
   AreBlocksWithin bound = AreAllWithin k mul block_stages bound
 
+  -- no stage of the circuit of a used block is over the bound
+  abbrev pub AreUsedWithin : ℕ → Type 0
+  AreUsedWithin bound = (b : ℕ) (circuit : Circuit) → IsUsedBlock b circuit → AreAllWithin k mul (circuit_stages circuit) bound
+
   -- no stage of a block that is first used before instance i, from 0, is over the bound
   abbrev pub AreEarlierWithin : ℕ → ℕ → Type 0
   AreEarlierWithin bound i = (b : ℕ) (circuit : Circuit) → (used : IsUsedBlock b circuit) → used.place < i → AreAllWithin k mul (circuit_stages circuit) bound
+
+  -- of the stages of its block's circuit the first over the bound, where no stage of a block of earlier first use is
+  abbrev pub IsFirstOfUsed : ℕ → BlockStage → ℕ → Type 0
+  IsFirstOfUsed bound name n = (circuit : Circuit) × (used : IsUsedBlock name.0 circuit) × AreEarlierWithin bound used.place × IsOver k mul (circuit_stages circuit) bound name.1 n

@@ -1,7 +1,7 @@
 -- The stages of all instances of a top as functions of the top's words: at a point these have elements, and with them all instances have
 -- values, and so has what feeds an instance; the stages of the instance are the products of its block's terms with their first factors and
 -- the sums of these terms, at those values. Source: Pruss, Kalla, Enescu, DAC 2014; the stages and their order are this project's own.
-use Rattle.std.specs.Prelude.{◌≡◌, ◌⊎◌, ℕ, ◌+◌, ◌-◌, List, Some, length, map, take, slice_get, slice_index}
+use Rattle.std.specs.Prelude.{◌≡◌, ◌⊎◌, ℕ, ◌+◌, ◌-◌, ◌<◌, List, Some, length, map, take, slice_get, slice_index}
 use Rattle.net_core.specs.Order.{IsBefore}
 use Rattle.net_blif.specs.Top.{instances_of}
 use Rattle.net_blif.specs.declared.item.Item.{Item}
@@ -30,6 +30,10 @@ instance_in (WordSum w s) = 0
 instance_in (SpecProduct s j) = 0
 instance_in (SpecSum s) = 0
 
+-- the top has an instance i, from 0
+abbrev pub HasInstance : Hierarchy → ℕ → Type 0
+HasInstance h i = i < length (instances_of h.design)
+
 -- the elements that a point has for the input words of the top
 abbrev pub top_elements : Hierarchy → Point → List ℕ
 top_elements h p = take (length (inputs_among (top_words h))) p.words
@@ -54,6 +58,10 @@ module _ (k : ℕ) (mul : ℕ → ℕ → ℕ) (h : Hierarchy) where
     pub circuit : Circuit
     pub block_is : IsBlockOf k mul h item circuit
     pub output : IsOutputInWords circuit block
+
+  -- it has one
+  abbrev pub HasBlockPoly : ℕ → Type 0
+  HasBlockPoly n = (block : Terms) × IsBlockPoly n block
 
   -- the name is that of a stage of an instance: of a term of the instance's block, or of a sum of such terms
   pub record IsStageName (name : Stage) : Type 0 where

@@ -1,3 +1,4 @@
 pub mod InstanceStages
 pub mod BlockStages
 pub mod CompositionStages
+pub mod TopStages

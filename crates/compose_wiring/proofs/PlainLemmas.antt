@@ -1,10 +1,10 @@
 -- Instances by their connections and words alone are the instances of a top.
-use Rattle.std.proofs.Common.{◌≡◌, ◌∙◌, ap, sym, refl, subst, ℕ, zero, suc, ◌<◌, ◌+◌, ◌⊎◌, inl, inr, not, List, [], ◌∷◌, ◌++◌, length, Option, None, Some, arith}
+use Rattle.std.proofs.Common.{◌≡◌, ◌∙◌, ap, sym, refl, subst, ℕ, zero, suc, ◌<◌, ◌+◌, ◌⊎◌, inl, inr, not, List, [], ◌∷◌, length, Option, None, Some, arith}
 use Rattle.std.specs.Prelude.{slice_get}
 use Rattle.std.specs.Option.{option_and_then, option_map, option_map_or}
 use Rattle.std.proofs.lemmas.Option.{slice_get_within}
 use Rattle.lists.specs.Lists.{Has}
-use Rattle.lists.specs.laws.HasLaws.{Has_right, Has_cases}
+use Rattle.lists.specs.laws.HasLaws.{Has_right, Has_cases, Has_left}
 use Rattle.lists.specs.laws.ReadLaws.{get_below}
 use Rattle.compose_model.proofs.OutputLemmas.{same_words}
 use Rattle.net_blif.specs.Statement.{Token}
@@ -32,11 +32,6 @@ actuals_same item (f ∷ fs) = ap (λ rest. option_and_then (λ (actual : Token)
 -- ---- an instance has one block
 
 -- ---- lists of candidates
-
-has_front : {A : Type 0} (xs ys : List A) (x : A) → Has xs x → Has (xs ++ ys) x
-has_front [] ys x has = let got = has.1 in absurd (cc)
-has_front (y ∷ xs) ys x (zero, got) = (0, got)
-has_front (y ∷ xs) ys x (suc k, got) = let more = has_front xs ys x (k, got) in (suc more.0, more.1)
 
 -- an input word among candidates
 word_of : (n : ℕ) (words : List NamedWord) (c : CandidateValue) → Has (word_candidates n words) c → (j : ℕ) × (word : NamedWord) × (slice_get words j ≡ Some word) × (c ≡ record { feed = InputWord (n + j); nets = word.nets; basis = word.basis })
@@ -116,7 +111,7 @@ among_output n (x ∷ placed) zero instance c got has =
     let place : n + 0 ≡ n = omega arith in
     let P : PlacedValue → Type 0 = λ p. Has (output_by n p.connections (outputs_among p.words)) c in
     let Q : ℕ → Type 0 = λ m. Has (output_by m instance.connections (outputs_among instance.words)) c in
-    has_front (output_by n x.connections (outputs_among x.words)) (output_candidates (n + 1) placed) c (subst P (sym same) (subst Q place has))
+    Has_left (output_by n x.connections (outputs_among x.words)) (output_candidates (n + 1) placed) c (subst P (sym same) (subst Q place has))
 among_output n (x ∷ placed) (suc j) instance c got has =
     let place : n + suc j ≡ (n + 1) + j = omega arith in
     let P : ℕ → Type 0 = λ m. Has (output_by m instance.connections (outputs_among instance.words)) c in
@@ -195,7 +190,7 @@ module _ (h : Hierarchy) (top : List NamedWord) (placed : List PlacedValue) (are
       let has = subst R place (of_word 0 (inputs_among top) w is.word (subst P (sym are.top_is) is.at)) in
       let same : ◌≡◌ {A = CandidateValue} (record { feed = InputWord w; nets = is.word.nets; basis = is.word.basis }) (record { feed = InputWord w; nets = nets; basis = basis }) = λ j. record { feed = InputWord w; nets = is.nets_are j; basis = is.basis_is j } in
       let Q : CandidateValue → Type 0 = λ c. Has (candidates_of top placed) c in
-      subst Q same (has_front (word_candidates 0 (inputs_among top)) (output_candidates 0 placed) (record { feed = InputWord w; nets = is.word.nets; basis = is.word.basis }) has)
+      subst Q same (Has_left (word_candidates 0 (inputs_among top)) (output_candidates 0 placed) (record { feed = InputWord w; nets = is.word.nets; basis = is.word.basis }) has)
   stood (OutputOf i) nets basis is =
       let found = placed_at i is.item is.words is.instance in
       let one : outputs_among (found.0).words ≡ is.word ∷ [] = ap outputs_among found.2 ∙ is.output in

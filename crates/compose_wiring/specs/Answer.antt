@@ -1,20 +1,16 @@
 -- A wired top. Source: Pruss, Kalla, Enescu, DAC 2014.
-use Rattle.std.specs.Global.{Global}
-use Rattle.std.specs.Prelude.{◌≡◌, ℕ, ◌<◌, List, Some, Vec, length, map, slice_get}
+use Rattle.std.specs.Prelude.{◌≡◌, ℕ, ◌<◌, List, Some, length, slice_get}
 use Rattle.net_blif.specs.Statement.{Token}
 use Rattle.net_blif.specs.Top.{instances_of}
 use Rattle.net_blif.specs.declared.item.Item.{Item}
 use Rattle.compose_model.specs.Feeds.{FitsWord, FeedsOutput, IsOutputOf}
 use Rattle.compose_model.specs.Hierarchy.{top_words, Hierarchy, IsInstance}
 use Rattle.compose_model.specs.NamedWord.{inputs_among, NamedWord}
+pub use Rattle.compose_model.specs.Wiring.{rows_in}
 use Rattle.compose_model.specs.Wiring.{AreAllFeeds}
 use Rattle.compose_model.specs.declared.feeder.Feeder.{Feeder}
 use Rattle.compose_model.specs.declared.feeder.Feeder.TheVariants.{InputWord, OutputOf}
 use Rattle.compose_wiring.specs.Refusal.{AreAllFed}
-
--- the rows of feeds
-abbrev pub rows_in : List (Vec Feeder Global) → List (List Feeder)
-rows_in rows = map (λ row. row.items) rows
 
 -- the feed is one of the input words of the top or of its instances
 abbrev pub IsFeedIn : Hierarchy → Feeder → Type 0

@@ -1,11 +1,10 @@
 //! Words with their bases.
 ghost use Rattle.std.specs.Prelude.{◌≡◌, ◌<◌, IfOk, Some, length, map, slice_get};
 ghost use Rattle.gf_basis.specs.BasisParts.{elements_of};
-ghost use Rattle.gf_basis.specs.declared.bases.Basis.{Basis as BasisValue};
 ghost use Rattle.net_words.specs.Roles.{same_role};
-ghost use Rattle.net_words.specs.declared.word.WordText.{WordText as WordValue};
 ghost use Rattle.net_words.specs.declared.word.Role.TheVariants.{Output};
 ghost use Rattle.compose_model.specs.NamedWord.{named_words};
+ghost use Rattle.compose_wiring.specs.private.Words.{IsNamedAt};
 
 use gf_basis::Basis;
 use net_core::Name;
@@ -66,7 +65,7 @@ impl<'a> Named<'a> {
 fn named_at<'a>(words: &'a [WordText], bases: &'a [Basis], place: usize) -> Named<'a>
     requires word { place < length words.now }
     requires basis { place < length bases.now }
-    ensures { (word : WordValue) (basis : BasisValue) → slice_get words.now place ≡ Some word → slice_get bases.now place ≡ Some basis → result ≡ record { role = word.role; nets = word.nets; basis = elements_of basis } }
+    ensures { IsNamedAt words.now bases.now place result }
 {
     Named::new(&words[place], &bases[place])
 }

@@ -1,8 +1,7 @@
 //! What feeds the words of an instance.
 ghost use Rattle.std.specs.Prelude.{◌≡◌, ◌<◌, ◌+◌, ◌^◌, ℕ, [], ◌∷◌, false, true, IfErr, IfNone, IfOk, IfSome, length, map, slice_get, Some};
 ghost use Rattle.compose_model.specs.NamedWord.{outputs_among, NamedWord};
-ghost use Rattle.compose_model.specs.declared.feeder.Feeder.{Feeder as FeederValue};
-ghost use Rattle.compose_wiring.specs.private.Plain.{AreRows, AreSized, ComesOf, HaveSize, IsBadOutput, IsFirstFor, IsFoundFor, IsRefusedFirst, IsRow, IsRowFault};
+ghost use Rattle.compose_wiring.specs.private.Plain.{AreRows, AreSized, ComesOf, HaveSize, IsBadOutput, IsFirstFor, IsRefusedFirst, IsRow, IsRowFault, IsUnfedAt};
 ghost use Rattle.compose_wiring.specs.private.Words.{AreOf};
 
 use crate::candidates::Candidates;
@@ -21,7 +20,7 @@ fn feed_of(
     requires word { word < length placed.now.words }
     requires sized { (k : ℕ) × AreOf k placed.now.words × HaveSize k candidates.now }
     ensures some { IfOk result (λ r. IfSome r (λ feed. (at : NamedWord) → slice_get placed.now.words word ≡ Some at → IsFirstFor candidates.now placed.now at feed)) }
-    ensures none { IfOk result (λ r. IfNone r ((at : NamedWord) (feed : FeederValue) → slice_get placed.now.words word ≡ Some at → IsFoundFor candidates.now placed.now at feed → ⊥)) }
+    ensures none { IfOk result (λ r. IfNone r (IsUnfedAt candidates.now placed.now word)) }
 {
     match placed.nets(word) {
         Some(nets) => {

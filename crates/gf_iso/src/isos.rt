@@ -1,12 +1,10 @@
 //! Isomorphisms from a tower to a field of polynomials over 0 and 1.
 
 ghost use Rattle.std.specs.Prelude.{◌≡◌, ℕ, ◌<◌, ◌+◌, ◌*◌, ◌^◌, ◌↔◌, [], ◌∷◌, length, slice_index, IsOk, IfOk};
-ghost use Rattle.gf_field.specs.Bit.{bit_mul};
-ghost use Rattle.gf_field.specs.Quotient.{product as quotient_product};
-ghost use Rattle.gf_field.specs.Ring2k.{degree_of, modulus_of};
 ghost use Rattle.irreducible.specs.BitMatrix.{rows_of};
 ghost use Rattle.irreducible.specs.Proved.{ring_of};
 ghost use Rattle.gf_tower.specs.TowerParts.{base_of, coefficients_of, size_of as tower_size_of};
+ghost use Rattle.gf_iso.specs.FieldParts.{degree_in, modulus_in, product_in};
 ghost use Rattle.gf_iso.specs.Fits.{Fits};
 ghost use Rattle.gf_iso.specs.Isomorphism.{IsIsoOf};
 ghost use Rattle.gf_iso.specs.private.Fields.{IsTowerField};
@@ -57,7 +55,7 @@ fn images<F: Field>(field: &F, powers: &[u64], t: u64) -> [u64; 64]
 }
 
 impl Iso {
-    ghost use Rattle.gf_iso.specs.IsoParts.{size_of, there_of, back_of};
+    ghost use Rattle.gf_iso.specs.IsoParts.{IsIso, size_of, there_of, back_of};
 
     /// The isomorphism between these fields in which the base's x goes to the least root of the base's modulus, and Y to
     /// the least root of the tower's polynomial with its coefficients carried over. `Unfit` exactly where the tower's
@@ -66,9 +64,9 @@ impl Iso {
         big: &Proved<Ring2k>,
         tower: &Proved<Tower<Proved<Ring2k>>>,
     ) -> Result<Iso, IsoFault>
-        ensures accepted { IsOk result ↔ Fits (degree_of (ring_of big.now)) (degree_of (ring_of (base_of (ring_of tower.now)))) (tower_size_of (ring_of tower.now)) }
-        ensures iso { IfOk result (λ iso. IsIsoOf (degree_of (ring_of (base_of (ring_of tower.now)))) (modulus_of (ring_of (base_of (ring_of tower.now)))) (coefficients_of (ring_of tower.now)) (quotient_product 1 (degree_of (ring_of big.now)) bit_mul (modulus_of (ring_of big.now))) (there_of iso) (back_of iso)) }
-        ensures size { IfOk result (λ iso. size_of iso ≡ degree_of (ring_of big.now)) }
+        ensures accepted { IsOk result ↔ Fits (degree_in big.now) (degree_in (base_of (ring_of tower.now))) (tower_size_of (ring_of tower.now)) }
+        ensures iso { IfOk result (IsIso (degree_in (base_of (ring_of tower.now))) (modulus_in (base_of (ring_of tower.now))) (coefficients_of (ring_of tower.now)) (product_in big.now)) }
+        ensures size { IfOk result (λ iso. size_of iso ≡ degree_in big.now) }
     {
         let base = tower.ring().base();
         let n = base.k();

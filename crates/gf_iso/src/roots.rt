@@ -1,11 +1,10 @@
 //! The least roots, in a field, of polynomials over smaller fields.
 
-ghost use Rattle.std.specs.Prelude.{◌≡◌, ℕ, suc, ◌<◌, ◌≤◌, ◌*◌, ◌^◌, [], ◌∷◌, length, slice_index};
+ghost use Rattle.std.specs.Prelude.{◌≡◌, ℕ, suc, ◌<◌, ◌≤◌, ◌*◌, ◌^◌, [], length, slice_index};
 ghost use Rattle.gf_field.specs.Polynomial.{coefficient};
 ghost use Rattle.gf_field.specs.Power.{power as power_of};
-ghost use Rattle.gf_tower.specs.Tower.{tower_polynomial};
 ghost use Rattle.gf_iso.specs.Root.{value_at, IsLeastRoot};
-ghost use Rattle.gf_iso.specs.private.Fields.{IsBaseField, IsTowerField, base_image};
+ghost use Rattle.gf_iso.specs.private.Fields.{IsBaseField, IsTowerField, carried_over};
 ghost use Rattle.gf_iso.specs.private.Search.{IsLeastOf, IsLesserOf};
 
 use super::matrices::{fixed_matrix, powers, quadratic_matrix};
@@ -92,7 +91,7 @@ pub fn tower_root<F: Field>(
     requires double { F.degree field.now ≡ length powers.now * 2 }
     requires root { IsLeastRoot (F.degree field.now) (F.product field.now) (suc (length powers.now)) (coefficient 1 modulus) s }
     requires powers { (j : ℕ) → j < length powers.now → slice_index powers.now j ≡ power_of (F.product field.now) s j }
-    ensures { IsLeastRoot (F.degree field.now) (F.product field.now) 3 (λ i. base_image (F.product field.now) (length powers.now) s (coefficient (length powers.now) (tower_polynomial (length powers.now) (c0 ∷ c1 ∷ [])) i)) result }
+    ensures { IsLeastRoot (F.degree field.now) (F.product field.now) 3 (carried_over (F.product field.now) (length powers.now) s c0 c1) result }
 {
     let constant = combined(powers, c0);
     quadratic_matrix(field, combined(powers, c1))

@@ -1,2 +1,4 @@
 pub mod JobOfParts
+pub mod Found
+pub mod CutParts
 pub mod private

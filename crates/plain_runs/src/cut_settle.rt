@@ -1,12 +1,11 @@
 //! The bits of nets where the gates at the end of an order are evaluated, and all other nets have given bits.
-ghost use Rattle.std.specs.Prelude.{◌≡◌, ◌≤◌, ◌<◌, ◌==◌, ℕ, Some, List, length, slice_get, slice_set, IfOk};
+ghost use Rattle.std.specs.Prelude.{◌≡◌, ◌≤◌, ◌<◌, ℕ, List, length, IfOk};
 ghost use Rattle.net_core.specs.NetList.{nets};
-ghost use Rattle.net_core.specs.Sound.{IsSound};
-ghost use Rattle.net_core.specs.Order.{IsLevelOrder, IsElimination};
+ghost use Rattle.net_core.specs.Order.{IsLevelOrder};
 ghost use Rattle.poly_mixed.specs.Polynomial.{Point};
 ghost use Rattle.stage_model.specs.Variables.{point_bits};
-ghost use Rattle.stage_model.specs.Cut.{IsSettled};
 ghost use Rattle.stage_model.specs.private.Plain.{AreSettledFrom};
+ghost use Rattle.plain_runs.specs.CutParts.{AreSettledAt};
 
 use crate::settle::set_gate;
 use net_core::{Net, order};
@@ -28,7 +27,7 @@ fn settle(net: &Net, order: &[u32], from: usize, bits: &mut Vec<bool>)
 pub fn settled(alloc: Global, net: &Net, cut: u32, bits: Vec<bool>) -> Result<Vec<bool>, AllocError>
     requires cut { cut ≤ length net.now.gates }
     requires long { length bits.items ≡ nets net.now }
-    ensures { IfOk result (λ v. (variables : List ℕ) (p : Point) → bits.items ≡ point_bits (nets net.now) variables p → (order : List ℕ) × IsElimination net.now order × IsSettled net.now variables order cut p v.items) }
+    ensures { IfOk result (λ v. (variables : List ℕ) (p : Point) → bits.items ≡ point_bits (nets net.now) variables p → AreSettledAt net.now variables cut p v.items) }
 {
     let order = order(alloc, net)?;
     let mut bits = bits;

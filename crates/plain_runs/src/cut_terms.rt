@@ -1,12 +1,12 @@
 //! The polynomial and the size of a cut out of its values at all bits.
-ghost use Rattle.std.specs.Prelude.{◌≡◌, ◌≤◌, ◌<◌, ◌↔◌, ◌∷◌, ◌++◌, [], length, IfOk, IfSome, IsSome};
+ghost use Rattle.std.specs.Prelude.{◌≡◌, ◌≤◌, ◌<◌, ◌↔◌, ◌∷◌, ◌++◌, [], length, IfOk, IsSome};
 ghost use Rattle.gf_basis.specs.BasisParts.{IsBasisOver};
 ghost use Rattle.circuit_model.specs.Flat.{circuit_of_parts, word_of};
 ghost use Rattle.poly_mixed.specs.Polynomial.{IsReduced};
 ghost use Rattle.stage_model.specs.Variables.{variables_of};
-ghost use Rattle.stage_model.specs.Cut.{CutOf};
-ghost use Rattle.stage_model.specs.Stage.{IsOfStage, HasSize};
 ghost use Rattle.stage_model.specs.private.Plain.{HasEachNet, IsChoice, IsCutAfter};
+ghost use Rattle.plain_runs.specs.CutParts.{HasCutSize, IsOfCut};
+ghost use Rattle.plain_runs.specs.Found.{IfFound};
 
 use crate::cut_value::cut_value;
 use crate::ranks::variables;
@@ -93,7 +93,7 @@ pub fn cut_poly<F: Field>(
     requires over { IsBasisOver (F.degree field.now) (F.product field.now) output.now.basis }
     requires nets { length output.now.nets.items ≡ F.degree field.now }
     ensures tiny { IfOk result (λ found. IsSome found ↔ (length (variables_of (circuit_of_parts (F.degree field.now) (F.product field.now) net.now words.now output.now)) ≤ 20)) }
-    ensures cut { IfOk result (λ found. IfSome found (λ q. IsOfStage (F.degree field.now) (F.product field.now) (CutOf (circuit_of_parts (F.degree field.now) (F.product field.now) net.now words.now output.now) cut) q.terms)) }
+    ensures cut { IfFound result (λ q. IsOfCut (circuit_of_parts (F.degree field.now) (F.product field.now) net.now words.now output.now) cut q.terms) }
 {
     let variables = variables(alloc, net, words)?;
     if variables.len() <= 20 {
@@ -118,7 +118,7 @@ pub fn cut_size<F: Field>(
     requires over { IsBasisOver (F.degree field.now) (F.product field.now) output.now.basis }
     requires nets { length output.now.nets.items ≡ F.degree field.now }
     ensures tiny { IfOk result (λ found. IsSome found ↔ (length (variables_of (circuit_of_parts (F.degree field.now) (F.product field.now) net.now words.now output.now)) ≤ 20)) }
-    ensures size { IfOk result (λ found. IfSome found (λ n. HasSize (F.degree field.now) (F.product field.now) (CutOf (circuit_of_parts (F.degree field.now) (F.product field.now) net.now words.now output.now) cut) n)) }
+    ensures size { IfFound result (λ n. HasCutSize (circuit_of_parts (F.degree field.now) (F.product field.now) net.now words.now output.now) cut n) }
 {
     match cut_poly(alloc, field, net, words, output, cut)? {
         Some(poly) => Ok(Some(poly.len())),

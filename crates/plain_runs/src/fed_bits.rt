@@ -1,14 +1,12 @@
 //! The bits that are fed to nets.
-ghost use Rattle.std.specs.Prelude.{◌≡◌, ◌==◌, ◌&&◌, ◌<◌, ◌^◌, ℕ, Some, length, map, IsTrue, slice_get};
+ghost use Rattle.std.specs.Prelude.{◌≡◌, ◌==◌, ◌&&◌, ◌<◌, ◌^◌, ℕ, Some, length, map, IsTrue};
 ghost use Rattle.std.specs.Int.{bit_at};
 ghost use Rattle.lists.specs.Lists.{Has};
 ghost use Rattle.net_core.specs.Value.{bit_of};
-ghost use Rattle.gf_basis.specs.Basis.{AreBits};
-ghost use Rattle.gf_basis.specs.BasisParts.{elements_of};
 ghost use Rattle.circuit_model.specs.Feeds.{source_at as source_in};
 ghost use Rattle.circuit_model.specs.Run.{HasSource};
 ghost use Rattle.circuit_model.specs.Flat.{AreOver, word_of};
-ghost use Rattle.plain_runs.specs.private.Cycle.{AreFed, AreOnlyFed, HasItsSource};
+ghost use Rattle.plain_runs.specs.private.Cycle.{AreFed, AreOnlyFed, HasItsSource, IsWordBit};
 
 use circuit_model::{CircuitFeed, CircuitWord, FeedSource};
 use gf_field::Field;
@@ -29,7 +27,7 @@ fn word_bit<F: Field>(field: &F, words: &[CircuitWord], xs: &[u64], word: u32, p
     requires over { AreOver (F.degree field.now) (F.product field.now) words.now }
     requires long { length xs.now ≡ length words.now }
     requires elements { (x : ℕ) → Has xs.now x → x < 2 ^ F.degree field.now }
-    ensures { (w : CircuitWord) (x d : ℕ) → slice_get words.now word ≡ Some w → slice_get xs.now word ≡ Some x → AreBits (elements_of w.basis) x d → result ≡ (bit_at d place == 1) }
+    ensures { IsWordBit words.now xs.now word place result }
 {
     let at = word as usize;
     if at < words.len() {

@@ -7,6 +7,7 @@ ghost use Rattle.circuit_model.specs.Out.{IsOut};
 ghost use Rattle.circuit_model.specs.Flat.{AreOver};
 ghost use Rattle.plain_runs.specs.JobOfParts.{job_of_parts};
 ghost use Rattle.plain_runs.specs.private.Cycle.{AreFed, AreOnlyFed, HaveAsked, IsReached};
+ghost use Rattle.plain_runs.specs.Found.{IfFound};
 
 use crate::cycle_bits::{first_bits, next_bits};
 use crate::fed_bits::are_fed;
@@ -75,7 +76,7 @@ fn first_cycle<F: Field>(
     requires over { AreOver (F.degree field.now) (F.product field.now) words.now }
     requires long { length xs.now ≡ length words.now }
     requires elements { (x : ℕ) → Has xs.now x → x < 2 ^ F.degree field.now }
-    ensures reached { IfOk result (λ found. IfSome found (λ v. IsReached (job_of_parts (F.degree field.now) (F.product field.now) net.now words.now _output.now feeds.now) xs.now 0 v.items)) }
+    ensures reached { IfFound result (λ v. IsReached (job_of_parts (F.degree field.now) (F.product field.now) net.now words.now _output.now feeds.now) xs.now 0 v.items) }
     ensures complete { IfOk result (λ found. IsJob (job_of_parts (F.degree field.now) (F.product field.now) net.now words.now _output.now feeds.now 0) → IsSome found) }
 {
     let bits = first_bits(alloc, field, net, words, xs, feeds)?;
@@ -103,7 +104,7 @@ fn next_cycle<F: Field>(
     requires elements { (x : ℕ) → Has xs.now x → x < 2 ^ F.degree field.now }
     requires few { t < 4294967295 }
     requires reached { IsReached (job_of_parts (F.degree field.now) (F.product field.now) net.now words.now _output.now feeds.now) xs.now t before.now }
-    ensures reached { IfOk result (λ found. IfSome found (λ v. IsReached (job_of_parts (F.degree field.now) (F.product field.now) net.now words.now _output.now feeds.now) xs.now (t + 1) v.items)) }
+    ensures reached { IfFound result (λ v. IsReached (job_of_parts (F.degree field.now) (F.product field.now) net.now words.now _output.now feeds.now) xs.now (t + 1) v.items) }
     ensures complete { IfOk result (λ found. IsJob (job_of_parts (F.degree field.now) (F.product field.now) net.now words.now _output.now feeds.now 0) → IsSome found) }
 {
     let bits = next_bits(alloc, field, net, words, xs, feeds, t + 1, before)?;
@@ -128,7 +129,7 @@ fn last_cycle<F: Field>(
     requires over { AreOver (F.degree field.now) (F.product field.now) words.now }
     requires long { length xs.now ≡ length words.now }
     requires elements { (x : ℕ) → Has xs.now x → x < 2 ^ F.degree field.now }
-    ensures reached { IfOk result (λ found. IfSome found (λ v. IsReached (job_of_parts (F.degree field.now) (F.product field.now) net.now words.now output.now feeds.now) xs.now cycles v.items)) }
+    ensures reached { IfFound result (λ v. IsReached (job_of_parts (F.degree field.now) (F.product field.now) net.now words.now output.now feeds.now) xs.now cycles v.items) }
     ensures complete { IfOk result (λ found. IsJob (job_of_parts (F.degree field.now) (F.product field.now) net.now words.now output.now feeds.now 0) → IsSome found) }
 {
     let mut bits = match first_cycle(alloc, field, net, words, output, feeds, xs)? {
@@ -180,7 +181,7 @@ pub fn job_output<F: Field>(
     requires over_output { IsBasisOver (F.degree field.now) (F.product field.now) output.now.basis }
     requires long { length xs.now ≡ length words.now }
     requires elements { (x : ℕ) → Has xs.now x → x < 2 ^ F.degree field.now }
-    ensures output { IfOk result (λ found. IfSome found (λ e. IsOut (job_of_parts (F.degree field.now) (F.product field.now) net.now words.now output.now feeds.now cycles) xs.now e)) }
+    ensures output { IfFound result (λ e. IsOut (job_of_parts (F.degree field.now) (F.product field.now) net.now words.now output.now feeds.now cycles) xs.now e) }
     ensures complete { IfOk result (λ found. IsJob (job_of_parts (F.degree field.now) (F.product field.now) net.now words.now output.now feeds.now cycles) → IsSome found) }
 {
     match last_cycle(alloc, field, net, words, output, feeds, xs, cycles)? {

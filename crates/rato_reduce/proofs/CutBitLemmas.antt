@@ -12,7 +12,7 @@ use Rattle.std.specs.Option.{option_map_or}
 use Rattle.std.proofs.lemmas.List.{map-append}
 use Rattle.std.proofs.lemmas.Bool.{eqb-true, leb-false, ltb-true, ltb-false}
 use Rattle.poly_mixed.specs.Monomial.{Monomial, has_bit, text_cmp, text_cmp_total}
-use Rattle.poly_mixed.specs.Polynomial.{Terms, IsMap, IsTerm, coefficient}
+use Rattle.poly_mixed.specs.Polynomial.{Terms, IsMap, coefficient}
 use Rattle.poly_mixed.specs.Cofactor.{LacksBit, lacking, cofactors, with_bit, without_bit}
 use Rattle.poly_mixed.specs.Sum.{xor_sum, plus}
 use Rattle.poly_mixed.proofs.CofactorLemmas.{rising-filter, lacking_map, cofactors_map}
@@ -83,13 +83,6 @@ cofactor_terms bit [] all = tt
 cofactor_terms bit (t ∷ ts) all = elim (has_bit bit t.0) as (λ b. AllByRecursion IsBitTerm (cond b ((without_bit bit t.0, t.1) ∷ cofactors bit ts) (cofactors bit ts))) [
   | true ↦ (record { no_words = ap (without_bit bit) all.0.no_words; rising = rising-filter (λ r. not (nat_eq r bit)) t.0.bits all.0.rising; some = all.0.some }, cofactor_terms bit ts all.1)
   | false ↦ cofactor_terms bit ts all.1
-]
-
-pub cofactors_over : (k bit : ℕ) (ts : Terms) → AllByRecursion (IsTerm k) ts → AllByRecursion (IsTerm k) (cofactors bit ts)
-cofactors_over k bit [] all = tt
-cofactors_over k bit (t ∷ ts) all = elim (has_bit bit t.0) as (λ v. AllByRecursion (IsTerm k) (cond v ((without_bit bit t.0, t.1) ∷ cofactors bit ts) (cofactors bit ts))) [
-  | true ↦ (record { monomial = record { words = all.0.monomial.words; exponents = all.0.monomial.exponents; rising = rising-filter (λ r. not (nat_eq r bit)) t.0.bits all.0.monomial.rising }; element = all.0.element }, cofactors_over k bit ts all.1)
-  | false ↦ cofactors_over k bit ts all.1
 ]
 
 pub cofactors_of_sum : (bit : ℕ) (us : Terms) → AllByRecursion IsBitTerm us → cofactors bit (plus text_cmp [] us) ≡ plus text_cmp [] (cofactors bit us)

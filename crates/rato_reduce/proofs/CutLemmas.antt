@@ -1,13 +1,13 @@
 -- The terms of a cut, in the order of their keys and in that of a text.
 use Rattle.std.proofs.Common.{◌≡◌, ◌≢◌, ℕ, List, [], ◌∷◌, map, bit_xor, refl, sym, ◌∙◌, ap}
 use lib.Bits.{xor_zero_l}
-use Rattle.std.specs.declared.cmp.Ordering.{Ordering}
-use Rattle.std.specs.declared.cmp.Ordering.TheVariants.{Less, Equal, Greater}
+use Rattle.std.specs.declared.cmp.Ordering.TheVariants.{Equal}
 use Rattle.std.specs.Cmp.Lexicographic.{slice_cmp}
 use Rattle.std.specs.FinMap.{nat_cmp-IsAntisymmetric, slice_cmp-IsAntisymmetric}
 use Rattle.std.specs.List.{AllByRecursion}
 use Rattle.std.specs.List.Sorted.{IsStrictlySortedBy}
 use Rattle.std.specs.Ordering.{nat_cmp, ordering_then}
+use Rattle.lists.specs.laws.OrderingLaws.{both_equal}
 use Rattle.poly_mixed.specs.Monomial.{Monomial, text_cmp, text_cmp_total}
 use Rattle.poly_mixed.specs.Polynomial.{Terms, IsMap, coefficient}
 use Rattle.poly_mixed.specs.Sum.{xor_sum, plus_term, plus}
@@ -19,11 +19,6 @@ use Rattle.rato_reduce.specs.private.CutKey.{CutKey, key_cmp, key_cmp_total}
 use Rattle.rato_reduce.specs.private.CutTerms.{of_bits, IsBitTerm, term_of, cut_polynomial, IsEntry, AreEntries}
 
 -- ---- keys
-
-both_equal : (r s : Ordering) → ordering_then r s ≡ Equal → (r ≡ Equal) × (s ≡ Equal)
-both_equal Less s e = cc
-both_equal Equal s e = (refl, e)
-both_equal Greater s e = cc
 
 -- keys that the order does not tell apart are one
 pub key_cmp-same : (x y : CutKey) → key_cmp x y ≡ Equal → x ≡ y

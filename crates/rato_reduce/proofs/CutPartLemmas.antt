@@ -1,14 +1,15 @@
 -- What loops take from a cut, and what they add to it.
-use Rattle.std.proofs.Common.{◌≡◌, ℕ, zero, suc, ◌+◌, ◌<◌, length, drop, get_or, reverse, Bool, true, false, cond, not, List, [], ◌∷◌, ◌++◌, map, bit_xor, refl, sym, ◌∙◌, ap, subst, arith, append-nil}
+use Rattle.std.proofs.Common.{◌≡◌, ℕ, ◌+◌, reverse, Bool, true, false, cond, not, List, [], ◌∷◌, ◌++◌, map, bit_xor, refl, sym, ◌∙◌, ap, subst, append-nil}
 use lib.Bits.{xor_zero_r, xor_comm}
 use Rattle.std.specs.List.{AllByRecursion}
 use Rattle.std.proofs.lemmas.List.{append_assoc, map-append, reverse-append}
+use Rattle.lists.specs.laws.ListLaws.{all_append}
 use mathlib.Core.List.{reverse-cons}
 use Rattle.poly_mixed.specs.Monomial.{Monomial, has_bit, text_cmp, text_cmp_total}
 use Rattle.poly_mixed.specs.Polynomial.{Terms, IsTerm}
 use Rattle.poly_mixed.specs.Cofactor.{LacksBit, lacking, cofactors, without_bit}
 use Rattle.poly_mixed.specs.Sum.{xor_sum, plus}
-use Rattle.poly_mixed.proofs.CofactorLemmas.{lacking_all, lacking_map, none_of_absent, absent_of_none, all_lacking}
+use Rattle.poly_mixed.proofs.CofactorLemmas.{lacking_all, lacking_map, none_of_absent, absent_of_none, all_lacking, cofactor_terms}
 use Rattle.poly_mixed.proofs.MonomialLemmas.{text_cmp-same}
 use Rattle.poly_mixed.proofs.SumLemmas.{at, at_additive, found_is_sum, xor_sum-plus}
 use Rattle.poly_mixed.proofs.ValueLemmas.{same_map}
@@ -18,8 +19,9 @@ use Rattle.poly_mixed.specs.Product.{union, with_rank}
 use Rattle.poly_mixed.specs.Table.{table_bit}
 use Rattle.rato_reduce.specs.Monomials.{monomials}
 use Rattle.rato_reduce.proofs.CutLemmas.{coefficient_sum, sum_map_is, nothing_map, all_unit}
-use Rattle.rato_reduce.proofs.ProductLemmas.{plus_append, sum_append}
-use Rattle.rato_reduce.proofs.CutBitLemmas.{cofactors_over, cofactors_of_sum, lacking_of_sum}
+use Rattle.rato_reduce.proofs.ProductLemmas.{sum_append}
+use Rattle.rato_reduce.proofs.CutBitLemmas.{cofactors_of_sum, lacking_of_sum}
+use Rattle.stage_model.proofs.SharedLemmas.{plus_append}
 
 -- ---- the end of the entries was taken, its terms without the bit were put back
 
@@ -58,11 +60,7 @@ all_reversed P (t ∷ ts) all =
 
 -- what was taken from the end, the last first, before the rest: the same terms
 pub all_taken : (P : Monomial × ℕ → Type 0) (taken rest : Terms) → AllByRecursion P (rest ++ reverse taken) → AllByRecursion P (taken ++ rest)
-all_taken P taken rest all = all_both P taken rest (all_reversed P taken (all_end P rest (reverse taken) all)) (all_front P rest (reverse taken) all)
-  where
-    all_both : (P : Monomial × ℕ → Type 0) (ts us : Terms) → AllByRecursion P ts → AllByRecursion P us → AllByRecursion P (ts ++ us)
-    all_both P [] us all more = more
-    all_both P (t ∷ ts) us all more = (all.0, all_both P ts us all.1 more)
+all_taken P taken rest all = all_append P taken rest (all_reversed P taken (all_end P rest (reverse taken) all)) (all_front P rest (reverse taken) all)
 
 pub sum_taken : (taken rest : Terms) → AllByRecursion IsBitTerm (rest ++ reverse taken) → plus text_cmp [] (taken ++ rest) ≡ plus text_cmp [] (rest ++ reverse taken)
 sum_taken taken rest each =
@@ -107,7 +105,7 @@ module _ (bit : ℕ) (whole front rest : Terms) (are : whole ≡ front ++ rest) 
       ∙ sym (cofactors_of_sum bit whole each)
 
   pub part_over : (k : ℕ) → AllByRecursion (IsTerm k) whole → AllByRecursion (IsTerm k) (cofactors bit front)
-  part_over k over = (let P : Terms → Type 0 = AllByRecursion (IsTerm k) in cofactors_over k bit front (all_front (IsTerm k) front rest (subst P are over)))
+  part_over k over = (let P : Terms → Type 0 = AllByRecursion (IsTerm k) in cofactor_terms k bit front (all_front (IsTerm k) front rest (subst P are over)))
 
   pub none_without : LacksBit bit whole → cofactors bit front ≡ []
   none_without none = (let P : Terms → Type 0 = LacksBit bit in none_of_absent bit front (all_front (λ t. has_bit bit t.0 ≡ false) front rest (subst P are none)))
@@ -116,12 +114,6 @@ module _ (bit : ℕ) (whole front rest : Terms) (are : whole ≡ front ++ rest) 
   without_none none = absent_of_none bit (plus text_cmp [] whole) (sym part_is ∙ ap (plus text_cmp []) none)
 
 -- ---- turns of loops
-
--- what is read at an index stands in front of what is left
-pub drop_read : {A : Type 0} (xs : List A) (i : ℕ) (x : A) → i < length xs → x ≡ get_or xs i x → drop i xs ≡ x ∷ drop (i + 1) xs
-drop_read [] i x less is = absurd (omega arith)
-drop_read (y ∷ ys) zero x less is = ap (λ z. z ∷ ys) (sym is)
-drop_read (y ∷ ys) (suc i) x less is = let up : suc i + 1 ≡ suc (i + 1) = omega arith in drop_read ys i x (omega arith) is ∙ ap (λ n. x ∷ drop n (y ∷ ys)) (sym up)
 
 -- one entry more was taken
 pub take_step : (rank : ℕ) (whole before after : List (CutKey × ℕ)) (part others new_part new_others : Terms) (e : CutKey × ℕ) → IsTaken rank whole before part others → before ≡ after ++ e ∷ []

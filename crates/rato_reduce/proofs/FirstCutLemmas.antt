@@ -1,6 +1,7 @@
 -- The first cut: all nets are free.
-use Rattle.std.proofs.Common.{◌≡◌, ℕ, zero, suc, ◌<◌, ◌+◌, ◌*◌, ◌/◌, ◌%◌, ◌^◌, Bool, true, false, cond, List, [], ◌∷◌, length, get_or, take, bit_xor, sym, ap, subst, ◌∙◌, arith}
+use Rattle.std.proofs.Common.{◌≡◌, ℕ, zero, suc, ◌<◌, ◌^◌, Bool, cond, List, [], ◌∷◌, length, get_or, take, bit_xor, sym, ap, subst, ◌∙◌, arith}
 use Rattle.lists.specs.Lists.{Has}
+use Rattle.lists.specs.laws.NumberLaws.{lowest_times, rest_of_choice}
 use lib.Bits.{xor_zero_l, xor_zero_r, xor_assoc}
 use Rattle.irreducible.specs.Span.{combination}
 use Rattle.net_core.specs.NetList.{NetList, nets}
@@ -12,29 +13,22 @@ use Rattle.circuit_model.proofs.GivenLemmas.{bits_by, bits_long, bits_at}
 use Rattle.circuit_model.proofs.WordLemmas.{index_small}
 use Rattle.stage_model.specs.Variables.{point_bit}
 use Rattle.stage_model.specs.Stage.{IsOfStage}
-use Rattle.rato_reduce.proofs.EliminationLemmas.{Settled, index_same}
-
-low : (b : Bool) (m r : ℕ) → (cond b 1 0 + 2 * m) % 2 * r ≡ cond b r 0
-low true m r = let one : (1 + 2 * m) % 2 ≡ 1 = omega arith in ap (λ c. c * r) one ∙ (let e : 1 * r ≡ r = omega arith in e)
-low false m r = let none : (0 + 2 * m) % 2 ≡ 0 = omega arith in ap (λ c. c * r) none ∙ (let e : 0 * r ≡ 0 = omega arith in e)
-
-half : (b : Bool) (m : ℕ) → (cond b 1 0 + 2 * m) / 2 ≡ m
-half true m = omega arith
-half false m = omega arith
+use Rattle.rato_reduce.proofs.EliminationLemmas.{Settled}
+use Rattle.stage_model.proofs.SharedLemmas.{index_same}
 
 -- the sum of chosen elements, place by place
 pub sum_more : (f : ℕ → Bool) (basis ns : List ℕ) (i : ℕ) → i < length basis → i < length ns
     → combination (take (suc i) basis) (index f (take (suc i) ns)) ≡ bit_xor (combination (take i basis) (index f (take i ns))) (cond (f (get_or ns i 0)) (get_or basis i 0) 0)
 sum_more f [] ns i l m = absurd (omega arith)
 sum_more f (b ∷ bs) [] i l m = absurd (omega arith)
-sum_more f (b ∷ bs) (n ∷ ns) zero l m = ap (λ x. bit_xor x 0) (low (f n) 0 b) ∙ (xor_zero_r (cond (f n) b 0) ∙ sym (xor_zero_l (cond (f n) b 0)))
+sum_more f (b ∷ bs) (n ∷ ns) zero l m = ap (λ x. bit_xor x 0) (lowest_times (f n) 0 b) ∙ (xor_zero_r (cond (f n) b 0) ∙ sym (xor_zero_l (cond (f n) b 0)))
 sum_more f (b ∷ bs) (n ∷ ns) (suc i) l m =
     let more = index f (take (suc i) ns) in
     let less = index f (take i ns) in
-    (λ j. bit_xor (low (f n) more b j) (combination (take (suc i) bs) (half (f n) more j)))
+    (λ j. bit_xor (lowest_times (f n) more b j) (combination (take (suc i) bs) (rest_of_choice (f n) more j)))
     ∙ (ap (bit_xor (cond (f n) b 0)) (sum_more f bs ns i (omega arith) (omega arith))
     ∙ (sym (xor_assoc (cond (f n) b 0) (combination (take i bs) less) (cond (f (get_or ns i 0)) (get_or bs i 0) 0))
-    ∙ sym (λ j. bit_xor (bit_xor (low (f n) less b j) (combination (take i bs) (half (f n) less j))) (cond (f (get_or ns i 0)) (get_or bs i 0) 0))))
+    ∙ sym (λ j. bit_xor (bit_xor (lowest_times (f n) less b j) (combination (take i bs) (rest_of_choice (f n) less j))) (cond (f (get_or ns i 0)) (get_or bs i 0) 0))))
 
 module _ (net : NetList) (variables : List ℕ) (output : Word) (order : List ℕ) (k : ℕ) (mul : ℕ → ℕ → ℕ) where
   -- terms whose value is the sum of the basis elements at the point's bits of the word are of the first cut

@@ -1,5 +1,5 @@
 -- The products of a term and of sets of bits.
-use Rattle.std.proofs.Common.{◌≡◌, ◌≢◌, ℕ, Bool, true, false, cond, ◌&&◌, ◌+◌, ◌*◌, ◌==◌, nat_lt, List, [], ◌∷◌, ◌++◌, map, bit_xor, refl, sym, ◌∙◌, ap, subst}
+use Rattle.std.proofs.Common.{◌≡◌, ◌≢◌, ℕ, Bool, true, false, cond, ◌&&◌, ◌+◌, ◌*◌, List, [], ◌∷◌, ◌++◌, map, bit_xor, refl, sym, ◌∙◌, ap, subst}
 use lib.Bits.{xor_zero_l, xor_zero_r, xor_self, xor_assoc}
 use Rattle.std.specs.List.{AllByRecursion, list_all}
 use Rattle.poly_mixed.specs.Monomial.{Monomial, text_cmp}
@@ -9,8 +9,11 @@ use Rattle.poly_mixed.specs.Table.{differ, index, subset_parity, table_bit}
 use Rattle.poly_mixed.specs.laws.Uniqueness.{IsZeros}
 use Rattle.poly_mixed.specs.Sum.{with_coefficient, xor_sum, plus_term, plus}
 use Rattle.poly_mixed.proofs.FieldLaws.{IsField}
-use Rattle.poly_mixed.proofs.ProductLemmas.{rising-union, and_assoc, value_element}
-use Rattle.std.proofs.lemmas.Bool.{eqb-true, ne_eqb}
+use Rattle.poly_mixed.proofs.ProductLemmas.{rising-union, value_element, all-with_rank, all-union}
+use Rattle.std.proofs.lemmas.Bool.{ne_eqb}
+use Rattle.lists.specs.laws.BoolLaws.{cond_and}
+use Rattle.lists.specs.laws.ListLaws.{all_append}
+use Rattle.poly_mixed.proofs.SharedLemmas.{index_map}
 use Rattle.poly_mixed.proofs.SumLemmas.{all_plus}
 use Rattle.poly_mixed.proofs.ValueLemmas.{value-plus, reduced_plus, product_zero}
 use Rattle.poly_mixed.proofs.SimpleLemmas.{one_rank_rises, one_simple, bits_monomial, single}
@@ -18,21 +21,11 @@ use lib.Bits.{xor_lt}
 use Rattle.rato_reduce.specs.private.CutTerms.{of_bits, IsBitTerm, products, all_products}
 use Rattle.rato_reduce.specs.Monomials.{monomials}
 use Rattle.rato_reduce.proofs.CutLemmas.{sum_map_is}
-use Rattle.rato_reduce.proofs.PutInLemmas.{index_map}
-
--- the sum of terms, one list after the other
-pub plus_append : (old ts us : Terms) → plus text_cmp old (ts ++ us) ≡ plus text_cmp (plus text_cmp old ts) us
-plus_append old [] us = refl
-plus_append old (t ∷ ts) us = plus_append (plus_term text_cmp old t) ts us
 
 -- whether an odd number of these sets is 1 at the point
 abbrev pub parity : (ℕ → Bool) → List (List ℕ) → Bool
 parity f [] = false
 parity f (n ∷ ns) = differ (list_all f n) (parity f ns)
-
-all_append : (P : Monomial × ℕ → Type 0) (ts us : Terms) → AllByRecursion P ts → AllByRecursion P us → AllByRecursion P (ts ++ us)
-all_append P [] us all more = more
-all_append P (t ∷ ts) us all more = (all.0, all_append P ts us all.1 more)
 
 product_terms : (t : Monomial × ℕ) (ns : List (List ℕ)) → IsBitTerm t → AllByRecursion IsBitTerm (products t ns)
 product_terms t [] is = tt
@@ -69,43 +62,14 @@ add_chosen true false x = xor_zero_r x
 add_chosen false true x = xor_zero_l x
 add_chosen false false x = refl
 
-and_both : (a b : Bool) (x : ℕ) → cond (a && b) x 0 ≡ cond b (cond a x 0) 0
-and_both true b x = refl
-and_both false b x = elim b as (λ v. ◌≡◌ {A = ℕ} 0 (cond v 0 0)) [ true ↦ refl | false ↦ refl ]
-
 -- ---- the values of products
-
-and_comm : (a b : Bool) → (a && b) ≡ (b && a)
-and_comm true true = refl
-and_comm true false = refl
-and_comm false true = refl
-and_comm false false = refl
-
-and_twice : (a b : Bool) → ((a && b) && a) ≡ (a && b)
-and_twice true b = elim b as (λ v. (v && true) ≡ v) [ true ↦ refl | false ↦ refl ]
-and_twice false b = refl
-
-all-with_rank : (p : ℕ → Bool) (xs : List ℕ) (r : ℕ) → list_all p (with_rank xs r) ≡ (list_all p xs && p r)
-all-with_rank p [] r = and_comm (p r) true
-all-with_rank p (x ∷ xs) r =
-    elim (nat_lt r x) as (λ b. list_all p (cond b (r ∷ x ∷ xs) (cond (r == x) (x ∷ xs) (x ∷ with_rank xs r))) ≡ ((p x && list_all p xs) && p r)) [
-      | true ↦ and_comm (p r) (p x && list_all p xs)
-      | false ↦ elim (r == x) as (λ b. (r == x) ≡ b → list_all p (cond b (x ∷ xs) (x ∷ with_rank xs r)) ≡ ((p x && list_all p xs) && p r)) [
-        | true ↦ λ e. sym (and_twice (p x) (list_all p xs)) ∙ ap (λ (n : ℕ). (p x && list_all p xs) && p n) (sym (eqb-true r x e))
-        | false ↦ λ e. ap (λ b. p x && b) (all-with_rank p xs r) ∙ sym (and_assoc (p x) (list_all p xs) (p r))
-      ] refl
-    ]
-
-all-union : (p : ℕ → Bool) (xs rs : List ℕ) → list_all p (union xs rs) ≡ (list_all p xs && list_all p rs)
-all-union p xs [] = and_comm true (list_all p xs)
-all-union p xs (r ∷ rs) = all-union p (with_rank xs r) rs ∙ ap (λ b. b && list_all p rs) (all-with_rank p xs r) ∙ and_assoc (list_all p xs) (p r) (list_all p rs)
 
 module _ (mul : ℕ → ℕ → ℕ) (p : Point) where
   product_value : (t : Monomial × ℕ) (n : List ℕ) → IsBitTerm t → term_value mul p (of_bits (union t.0.bits n), t.1) ≡ cond (list_all p.is_one n) (term_value mul p t) 0
   product_value t n is =
       let x = mul t.1 (powers mul (of_bits t.0.bits).exponents p.words) in
       let here : term_value mul p (of_bits t.0.bits, t.1) ≡ term_value mul p t = ap (λ (m : Monomial). term_value mul p (m, t.1)) (sym is.no_words) in
-      ap (λ b. cond b x 0) (all-union p.is_one t.0.bits n) ∙ and_both (list_all p.is_one t.0.bits) (list_all p.is_one n) x ∙ ap (λ v. cond (list_all p.is_one n) v 0) here
+      ap (λ b. cond b x 0) (all-union p.is_one t.0.bits n) ∙ cond_and (list_all p.is_one t.0.bits) (list_all p.is_one n) x ∙ ap (λ v. cond (list_all p.is_one n) v 0) here
 
   products_value : (t : Monomial × ℕ) (ns : List (List ℕ)) → IsBitTerm t → value mul p (products t ns) ≡ cond (parity p.is_one ns) (term_value mul p t) 0
   products_value t [] is = refl

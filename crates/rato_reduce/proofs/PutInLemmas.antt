@@ -1,9 +1,8 @@
 -- What is left of a polynomial, with the product of its cofactor and a table in place of a bit.
-use Rattle.std.proofs.Common.{◌≡◌, ℕ, ◌*◌, ◌+◌, Bool, true, false, cond, List, [], ◌∷◌, map, bit_xor, refl, sym, ◌∙◌, ap}
+use Rattle.std.proofs.Common.{◌≡◌, ℕ, Bool, true, false, cond, [], bit_xor, refl, sym, ◌∙◌, ap}
 use lib.Bits.{xor_zero_l, xor_zero_r, xor_assoc, xor_self, xor_comm, xor_lt}
 use Rattle.poly_mixed.specs.Polynomial.{Terms, Point, IsPoint, IsReduced, IsElement, value}
 use Rattle.poly_mixed.specs.Cofactor.{at_bit, lacking, HasCofactorValues}
-use Rattle.poly_mixed.specs.Table.{index}
 use Rattle.poly_mixed.proofs.FieldLaws.{IsField}
 use Rattle.poly_mixed.proofs.CofactorLemmas.{value-lacking}
 use Rattle.poly_mixed.proofs.ProductLemmas.{value_element}
@@ -40,8 +39,3 @@ put_nothing mul bit old part b p empty cofactor =
       | true ↦ same
       | false ↦ refl
     ]
-
--- the index of ranks is that of the nets whose ranks they are
-pub index_map : (bit : ℕ → Bool) (rank : ℕ → ℕ) (ns : List ℕ) → index bit (map rank ns) ≡ index (λ n. bit (rank n)) ns
-index_map bit rank [] = refl
-index_map bit rank (n ∷ ns) = ap (λ i. cond (bit (rank n)) 1 0 + 2 * i) (index_map bit rank ns)

@@ -1,7 +1,7 @@
 -- One turn of the elimination, for a net list with bound words.
-use Rattle.std.proofs.Common.{◌≡◌, ℕ, suc, ◌<◌, ◌+◌, ◌-◌, List, Some, length, get_or, refl, subst, ◌∙◌, arith}
+use Rattle.std.proofs.Common.{◌≡◌, ℕ, suc, ◌<◌, ◌+◌, ◌-◌, List, Some, length, subst, ◌∙◌, arith}
 use Rattle.std.specs.Prelude.{slice_get}
-use Rattle.std.proofs.lemmas.Option.{slice_get_within, slice_get_read}
+use Rattle.std.proofs.lemmas.Option.{slice_get_within}
 use Rattle.net_core.specs.GateValue.{GateValue}
 use Rattle.net_core.specs.NetList.{NetList, nets}
 use Rattle.net_core.specs.Sound.{IsSound}
@@ -17,7 +17,7 @@ use Rattle.stage_model.specs.Stage.{IsOfStage}
 use Rattle.rato_reduce.specs.GatePoint.{HasGatePutIn}
 use Rattle.rato_reduce.specs.Recorded.{IsRecorded}
 use Rattle.poly_mixed.specs.Steps.{Step}
-use Rattle.rato_reduce.proofs.EliminationLemmas.{Settled, next_cut, to_cut, reversed}
+use Rattle.rato_reduce.proofs.EliminationLemmas.{Settled, next_cut, to_cut}
 use Rattle.rato_reduce.proofs.FirstCutLemmas.{is_first}
 use Rattle.circuit_model.proofs.OutputNetsLemmas.{output_long}
 use Rattle.irreducible.specs.Span.{combination}
@@ -32,16 +32,13 @@ use Rattle.rato_reduce.proofs.RecordedLemmas.{IsRecordedBy, one_recorded}
 use Rattle.std.proofs.Common.{Option}
 use Rattle.lists.specs.Lists.{Has, times}
 use Rattle.lists.specs.laws.HasLaws.{times_some}
+use Rattle.lists.specs.laws.ReadLaws.{got_reversed}
 
 -- a position in the order is that of a gate
 pub position_inside : (net : NetList) (order : List ℕ) (t position : ℕ) → IsElimination net order → slice_get order t ≡ Some position → position < length net.gates
 position_inside net order t position is at =
-    let got = is.2.within position (length order - 1 - t, reversed order t position at) in
+    let got = is.2.within position (length order - 1 - t, got_reversed order t position at) in
     slice_get_within net.gates position got.0 got.1
-
--- what the code reads at an index inside a list
-pub read_at : {A : Type 0} (xs : List A) (i : ℕ) (x : A) → i < length xs → x ≡ get_or xs i x → slice_get xs i ≡ Some x
-read_at xs i x less is = slice_get_read xs (length xs) i x refl less is
 
 module _ (k : ℕ) (mul : ℕ → ℕ → ℕ) (b : BoundNet) (basis order : List ℕ) (is : IsElimination b.net order) where
   abbrev pub Now : ℕ → Terms → Type 0

@@ -1,3 +1,4 @@
+pub mod BoundVariables
 pub mod GatePoint
 pub mod Recorded
 pub mod Monomials

@@ -1,20 +1,18 @@
 //! One gate put in place of its output.
-ghost use Rattle.std.specs.Prelude.{◌≡◌, ◌<◌, List, [], ◌∷◌, map, IfOk, OnOk};
+ghost use Rattle.std.specs.Prelude.{◌≡◌, [], ◌∷◌, IfOk, OnOk};
 ghost use Rattle.std.specs.List.{AllByRecursion};
 ghost use Rattle.lists.specs.Lists.{Has};
-ghost use Rattle.net_core.specs.NetList.{nets};
 ghost use Rattle.net_core.specs.Sound.{IsSound};
-ghost use Rattle.net_words.specs.Variables.{variables};
 ghost use Rattle.poly_mixed.specs.Monomial.{text_cmp};
 ghost use Rattle.poly_mixed.specs.Polynomial.{IsReduced, IsTerm};
-ghost use Rattle.poly_mixed.specs.Steps.{Step, Tells};
+ghost use Rattle.poly_mixed.specs.Steps.{Tells};
 ghost use Rattle.poly_mixed.specs.Sum.{plus};
 ghost use Rattle.poly_mixed.specs.declared.steps.Generator.TheVariants.{Net};
-ghost use Rattle.stage_model.specs.Variables.{rank_in};
-ghost use Rattle.stage_model.specs.CutSteps.{AreStepsAt};
+ghost use Rattle.rato_reduce.specs.BoundVariables.{bound_variables, ranks_of_inputs};
 ghost use Rattle.rato_reduce.specs.private.CutTerms.{all_products, IsBitTerm};
 ghost use Rattle.rato_reduce.specs.GatePoint.{HasGatePutIn, AddsWhereGate};
 ghost use Rattle.rato_reduce.specs.Monomials.{monomials};
+ghost use Rattle.rato_reduce.specs.Recorded.{IsGateRecorded};
 
 use crate::bit_term::{BitTerm, poly_of};
 use crate::cut::Cut;
@@ -31,7 +29,7 @@ use std::alloc::{AllocError, Global};
 fn input_ranks(alloc: Global, circuit: &Combinational, gate: &Gate) -> Result<Vec<u32>, AllocError>
     requires sound { IsSound circuit.now.net }
     requires gate { Has circuit.now.net.gates gate.now }
-    ensures { IfOk result (λ list. list.items ≡ map (rank_in (variables (nets circuit.now.net) circuit.now.binding.words)) gate.now.inputs) }
+    ensures { IfOk result (λ list. list.items ≡ ranks_of_inputs circuit.now gate.now) }
 {
     let mut list = Vec::with_capacity(alloc, gate.inputs().len())?;
     for input in gate.inputs() {
@@ -84,7 +82,7 @@ fn add_form(
     requires sound { IsSound circuit.now.net }
     requires gate { Has circuit.now.net.gates gate.now }
     requires part { AllByRecursion IsBitTerm part.now }
-    ensures { OnOk result (cut.new.terms ≡ plus text_cmp cut.old.terms (all_products part.now (monomials form [] (map (rank_in (variables (nets circuit.now.net) circuit.now.binding.words)) gate.now.inputs) 0 1))) }
+    ensures { OnOk result (cut.new.terms ≡ plus text_cmp cut.old.terms (all_products part.now (monomials form [] (ranks_of_inputs circuit.now gate.now) 0 1))) }
 {
     let inputs = gate.inputs();
     if inputs.len() == 1 {
@@ -115,7 +113,7 @@ fn add_table<F: Field>(
     requires part { AllByRecursion IsBitTerm part.now × AllByRecursion (IsTerm (F.degree _field.now)) part.now }
     requires cut { IsReduced (F.degree _field.now) cut.old.terms }
     ensures reduced { OnOk result (IsReduced (F.degree _field.now) cut.new.terms) }
-    ensures values { OnOk result (AddsWhereGate (F.degree _field.now) (F.product _field.now) (variables (nets circuit.now.net) circuit.now.binding.words) gate.now part.now cut.old.terms cut.new.terms) }
+    ensures values { OnOk result (AddsWhereGate (F.degree _field.now) (F.product _field.now) (bound_variables circuit.now) gate.now part.now cut.old.terms cut.new.terms) }
 {
     let form = exclusive_form(gate.table());
     add_form(alloc, circuit, gate, form, part, cut)
@@ -164,8 +162,8 @@ pub fn eliminate<F: Field, T: Steps>(
     requires gate { Has circuit.now.net.gates gate.now }
     requires cut { IsReduced (F.degree field.now) cut.old.terms }
     ensures reduced { OnOk result (IsReduced (F.degree field.now) cut.new.terms) }
-    ensures values { OnOk result (HasGatePutIn (F.degree field.now) (F.product field.now) (variables (nets circuit.now.net) circuit.now.binding.words) gate.now cut.old.terms cut.new.terms) }
-    ensures steps { OnOk result ((made : List Step) × AreStepsAt (F.degree field.now) (rank_in (variables (nets circuit.now.net) circuit.now.binding.words) gate.now.out) gate.now.out cut.old.terms made × Tells (T.steps steps.old) (T.steps steps.new) made) }
+    ensures values { OnOk result (HasGatePutIn (F.degree field.now) (F.product field.now) (bound_variables circuit.now) gate.now cut.old.terms cut.new.terms) }
+    ensures steps { OnOk result (IsGateRecorded (F.degree field.now) (bound_variables circuit.now) gate.now cut.old.terms (T.steps steps.old) (T.steps steps.new)) }
 {
     let rank = rank(circuit, gate.out());
     cut.take_with(rank, part)?;

@@ -1,14 +1,12 @@
 //! The output word as a polynomial in the bits of its nets.
-ghost use Rattle.std.specs.Prelude.{◌≡◌, ◌<◌, ℕ, cond, bit_xor, length, IfOk, OnOk};
+ghost use Rattle.std.specs.Prelude.{◌≡◌, ◌<◌, ℕ, length, IfOk, OnOk};
 ghost use Rattle.lists.specs.Lists.{Has};
-ghost use Rattle.irreducible.specs.Span.{combination};
 ghost use Rattle.gf_basis.specs.BasisParts.{elements_of, IsBasisOver};
 ghost use Rattle.net_core.specs.NetList.{nets};
 ghost use Rattle.net_core.specs.Order.{IsElimination};
-ghost use Rattle.net_words.specs.Variables.{variables};
-ghost use Rattle.poly_mixed.specs.Polynomial.{IsElement, IsPoint, IsPolynomialOf, IsReduced, Point, value};
-ghost use Rattle.poly_mixed.specs.Table.{index};
-ghost use Rattle.stage_model.specs.Variables.{rank_in, point_bit};
+ghost use Rattle.poly_mixed.specs.Polynomial.{IsElement, IsPolynomialOf, IsReduced};
+ghost use Rattle.stage_model.specs.Variables.{rank_in};
+ghost use Rattle.rato_reduce.specs.BoundVariables.{bound_variables, sum_of_ones, AddsWhereBit};
 
 use crate::cut::Cut;
 use crate::ranks::Ranks;
@@ -20,7 +18,7 @@ use std::alloc::{AllocError, Global};
 /// The place of a net among the variables.
 pub fn rank(circuit: &Combinational, net: u32) -> u32
     requires { net < nets circuit.now.net }
-    ensures { result ≡ rank_in (variables (nets circuit.now.net) circuit.now.binding.words) net }
+    ensures { result ≡ rank_in (bound_variables circuit.now) net }
 {
     circuit.rank_of(net)
 }
@@ -52,7 +50,7 @@ fn add_bit<F: Field>(
     requires element { IsElement (F.degree _field.now) element }
     requires cut { IsReduced (F.degree _field.now) cut.old.terms }
     ensures reduced { OnOk result (IsReduced (F.degree _field.now) cut.new.terms) }
-    ensures values { OnOk result ((p : Point) → IsPoint (F.degree _field.now) p → value (F.product _field.now) p cut.new.terms ≡ bit_xor (value (F.product _field.now) p cut.old.terms) (cond (p.is_one rank) element 0)) }
+    ensures values { OnOk result (AddsWhereBit (F.degree _field.now) (F.product _field.now) rank element cut.old.terms cut.new.terms) }
 {
     if element == 0 {
         return Ok(());
@@ -74,7 +72,7 @@ pub fn first_cut<F: Field>(
     requires basis { IsBasisOver (F.degree field.now) (F.product field.now) basis.now }
     requires long { length list.now ≡ F.degree field.now }
     requires inside { (n : ℕ) → Has list.now n → n < nets circuit.now.net }
-    ensures { IfOk result (λ q. IsPolynomialOf (F.degree field.now) (F.product field.now) (λ p. combination (elements_of basis.now) (index (point_bit (variables (nets circuit.now.net) circuit.now.binding.words) p) list.now)) q.terms) }
+    ensures { IfOk result (λ q. IsPolynomialOf (F.degree field.now) (F.product field.now) (sum_of_ones circuit.now (elements_of basis.now) list.now) q.terms) }
 {
     let mut sum = Cut::zero(alloc, places);
     for place in 0..list.len() {

@@ -1,11 +1,12 @@
 //! The elimination of all gates.
-ghost use Rattle.std.specs.Prelude.{◌≡◌, ◌+◌, ◌<◌, ◌≤◌, length, IfOk, IfErr, OnOk};
+ghost use Rattle.std.specs.Prelude.{◌≡◌, ◌<◌, ◌≤◌, length, IfOk, IfErr, OnOk};
 ghost use Rattle.gf_basis.specs.BasisParts.{elements_of, IsBasisOver};
 ghost use Rattle.net_core.specs.Order.{IsElimination};
 ghost use Rattle.stage_model.specs.Cut.{BoundCut};
-ghost use Rattle.stage_model.specs.Listing.{AreAllWithin, IsRefusal, cut_listing};
+ghost use Rattle.stage_model.specs.CircuitListing.{bound_cuts};
+ghost use Rattle.stage_model.specs.Listing.{AreAllWithin, IsRefusal};
 ghost use Rattle.stage_model.specs.Stage.{IsOfStage};
-ghost use Rattle.rato_reduce.specs.Recorded.{IsRecorded};
+ghost use Rattle.rato_reduce.specs.Recorded.{AreAllRecorded};
 
 use crate::cut::Cut;
 use crate::eliminate::eliminate;
@@ -60,9 +61,9 @@ pub fn reduce_bits<F: Field, T: Steps>(
     requires bits { circuit.now.binding.k ≡ F.degree field.now }
     requires basis { IsBasisOver (F.degree field.now) (F.product field.now) output.now }
     ensures last { IfOk result (λ q. IsOfStage (F.degree field.now) (F.product field.now) (BoundCut circuit.now (elements_of output.now) (length circuit.now.net.gates)) q.terms) }
-    ensures within { OnOk result (AreAllWithin (F.degree field.now) (F.product field.now) (cut_listing (length circuit.now.net.gates + 1) (BoundCut circuit.now (elements_of output.now))) bound) }
-    ensures fault { IfErr result (IsRefusal (F.degree field.now) (F.product field.now) (cut_listing (length circuit.now.net.gates + 1) (BoundCut circuit.now (elements_of output.now))) bound) }
-    ensures steps { OnOk result (IsRecorded (F.degree field.now) (F.product field.now) circuit.now (elements_of output.now) (length circuit.now.net.gates) (T.steps steps.old) (T.steps steps.new)) }
+    ensures within { OnOk result (AreAllWithin (F.degree field.now) (F.product field.now) (bound_cuts circuit.now (elements_of output.now)) bound) }
+    ensures fault { IfErr result (IsRefusal (F.degree field.now) (F.product field.now) (bound_cuts circuit.now (elements_of output.now)) bound) }
+    ensures steps { OnOk result (AreAllRecorded (F.degree field.now) (F.product field.now) circuit.now (elements_of output.now) (T.steps steps.old) (T.steps steps.new)) }
 {
     let net = circuit.net();
     let order = elimination(alloc, net)?;

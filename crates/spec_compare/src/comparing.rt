@@ -1,5 +1,5 @@
 //! The comparison of two polynomials in input, state and fed bits.
-ghost use Rattle.std.specs.Prelude.{◌≡◌, ◌≤◌, ◌<◌, ◌+◌, ◌++◌, ℕ, List, length, take, drop, IfOk, OnOk};
+ghost use Rattle.std.specs.Prelude.{◌≡◌, ◌≤◌, ◌<◌, ◌+◌, ℕ, List, length, take, drop, IfOk, OnOk};
 ghost use Rattle.std.specs.List.{AllByRecursion};
 ghost use Rattle.gf_basis.specs.BasisParts.{elements_of, IsBasisOver};
 ghost use Rattle.net_words.specs.OneCycle.{IsOneCycle};
@@ -8,9 +8,9 @@ ghost use Rattle.poly_mixed.specs.laws.Uniqueness.{IsZeros};
 ghost use Rattle.circuit_model.specs.OfBinding.{word_with};
 ghost use Rattle.circuit_model.specs.Bases.{AreBases, circuit_in};
 ghost use Rattle.spec_compare.specs.private.First.{IsSumOf};
-ghost use Rattle.spec_compare.specs.private.InputOf.{inputs_from};
 ghost use Rattle.spec_compare.specs.ValueAt.{at_ones, IsInInputBits};
 ghost use Rattle.spec_compare.specs.Verdict.{IsVerdict};
+ghost use Rattle.spec_compare.specs.private.InputOf.{AddsElement, input_of_ones};
 
 use crate::Verdict;
 use crate::first::{bits_at, first_term, number};
@@ -30,7 +30,7 @@ fn add_element<F: Field>(
 ) -> Result<(), AllocError>
     requires over { IsBasisOver (F.degree field.now) (F.product field.now) basis.now }
     requires few { (nets : List ℕ) → length list.old.items + length (word_with role nets (elements_of basis.now)) ≤ 8 }
-    ensures { OnOk result ((nets : List ℕ) → list.new.items ≡ list.old.items ++ inputs_from (F.degree field.now) ones.now (length list.old.items) (word_with role nets (elements_of basis.now))) }
+    ensures { OnOk result (AddsElement (F.degree field.now) ones.now role (elements_of basis.now) list.old.items list.new.items) }
 {
     match role {
         Role::Input | Role::State | Role::Fed => {
@@ -55,7 +55,7 @@ fn elements<F: Field>(
     requires binding { binding.now ≡ _circuit.now.binding }
     requires is_bound { IsOneCycle _circuit.now.net _circuit.now.binding }
     requires bases { AreBases (F.degree field.now) (F.product field.now) _circuit.now bases.now }
-    ensures { IfOk result (λ list. list.items ≡ inputs_from (F.degree field.now) ones.now 0 (circuit_in (F.degree field.now) (F.product field.now) _circuit.now bases.now).words) }
+    ensures { IfOk result (λ list. list.items ≡ input_of_ones (circuit_in (F.degree field.now) (F.product field.now) _circuit.now bases.now) ones.now) }
 {
     let mut list = Vec::new(alloc);
     for v in 0..binding.words() {

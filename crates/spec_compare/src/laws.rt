@@ -1,14 +1,13 @@
 //! Laws of comparisons. These functions do nothing: their contracts are proved of the definitions alone.
-ghost use Rattle.std.specs.Prelude.{◌≡◌, ◌↔◌, List, length, ℕ};
+ghost use Rattle.std.specs.Prelude.{◌≡◌, ◌↔◌, List, ℕ};
 ghost use Rattle.poly_mixed.specs.Polynomial.{Terms};
 ghost use Rattle.circuit_model.specs.Alike.{AreAlike};
 ghost use Rattle.circuit_model.specs.Circuit.{Circuit, IsInput};
 ghost use Rattle.circuit_model.specs.WellFormed.{IsWellFormed};
 ghost use Rattle.circuit_model.specs.Out.{IsOut};
 ghost use Rattle.stage_model.specs.OutputInBits.{IsOutputInBits};
-ghost use Rattle.circuit_model.specs.Differing.{IsComparison};
 ghost use Rattle.spec_compare.specs.ValueAt.{IsValueAt, IsInInputBits};
-ghost use Rattle.spec_compare.specs.Verdict.{IsVerdict, comparison_of};
+ghost use Rattle.spec_compare.specs.Verdict.{IsVerdict, AreComparable, IsOutputComparison, IsOutputVerdict};
 ghost use Rattle.spec_compare.specs.declared.verdict.Verdict.{Verdict};
 
 /// Two polynomials have one verdict at most.
@@ -36,5 +35,5 @@ pub fn output_in_input_bits()
 
 /// The verdict on the polynomials of the outputs of two circuits over the same words is the comparison of the outputs.
 pub fn verdict_compares_outputs()
-    ensures { (circuit other : Circuit) (ls rs : Terms) (verdict : Verdict) → IsWellFormed circuit → IsWellFormed other → AreAlike circuit other → IsOutputInBits circuit ls → IsOutputInBits other rs → IsVerdict circuit ls rs verdict → IsComparison circuit (IsOut circuit) (IsOut other) (comparison_of (length circuit.words) verdict) }
+    ensures { (circuit other : Circuit) (verdict : Verdict) → AreComparable circuit other → IsOutputVerdict circuit other verdict → IsOutputComparison circuit other verdict }
 {}

@@ -1,11 +1,12 @@
 -- The stages of a specification over input, state and fed bits as a listing. Source: this project's own.
 use Rattle.std.specs.Prelude.{◌≡◌, ◌⊎◌, ℕ, ◌+◌, ◌<◌, ◌≤◌, List, Some, length, take, slice_get}
 use Rattle.poly_mixed.specs.Polynomial.{Point}
+use Rattle.poly_mixed.specs.declared.stage.ReduceFault.{ReduceFault}
 use Rattle.poly_mixed.specs.declared.stage.Stage.{Stage}
 use Rattle.poly_mixed.specs.declared.stage.Stage.TheVariants.{Cut, WordProduct, WordSum, SpecProduct, SpecSum, InstanceProduct, InstanceSum}
 use Rattle.circuit_model.specs.Circuit.{Circuit, IsInput}
 use Rattle.stage_model.specs.InputPoint.{IsAtInput}
-use Rattle.stage_model.specs.Listing.{Listing, Nothing}
+use Rattle.stage_model.specs.Listing.{Listing, Nothing, AreAllWithin, IsRefusal}
 use Rattle.spec_expand.specs.Specification.{SpecTerms}
 use Rattle.spec_expand.specs.SpecValue.{spec_at, factors_of, product_at}
 
@@ -64,3 +65,11 @@ is_earlier_spec_stage name other = ⊥
 -- the stages of a specification over the bits of a circuit's input, state and fed words
 abbrev pub spec_listing : Circuit → SpecTerms → Listing Stage
 spec_listing circuit spec = record { is_listed = is_spec_stage spec; stage_of = spec_stage_of circuit spec; comes_before = is_earlier_spec_stage }
+
+-- no stage of the specification is over the bound
+abbrev pub IsSpecWithin : Circuit → SpecTerms → ℕ → Type 0
+IsSpecWithin circuit spec bound = AreAllWithin circuit.k circuit.product (spec_listing circuit spec) bound
+
+-- of the stages of the specification the first over the bound, with its size; out of memory is free
+abbrev pub IsSpecRefusal : Circuit → SpecTerms → ℕ → ReduceFault → Type 0
+IsSpecRefusal circuit spec bound fault = IsRefusal circuit.k circuit.product (spec_listing circuit spec) bound fault

@@ -1,14 +1,12 @@
 //! A specification as a polynomial in the bits of input, state and fed words.
 ghost use Rattle.std.specs.Prelude.{◌≡◌, ◌<◌, ◌+◌, ◌^◌, length, take, slice_get, Some, IfOk, IfErr, OnOk};
 ghost use Rattle.gf_basis.specs.BasisParts.{elements_of, IsBasisOver};
-ghost use Rattle.circuit_model.specs.Word.{Word};
-ghost use Rattle.stage_model.specs.Listing.{AreAllWithin, IsRefusal};
 ghost use Rattle.circuit_model.specs.Bases.{AreBases, circuit_in};
 ghost use Rattle.spec_expand.specs.Specification.{IsTermOver, IsOverWords};
-ghost use Rattle.spec_expand.specs.SpecValue.{spec_at, factors_of};
-ghost use Rattle.spec_expand.specs.SpecListing.{spec_listing};
-ghost use Rattle.spec_expand.specs.Expanded.{IsExpansion};
-ghost use Rattle.spec_expand.specs.private.Expanding.{IsSetting, IsReached, IsTermRefusal};
+ghost use Rattle.spec_expand.specs.SpecValue.{factors_of};
+ghost use Rattle.spec_expand.specs.private.Expanding.{IsSetting, IsReached, IsTermRefusal, HasBasisAt, IsAllReached};
+ghost use Rattle.spec_expand.specs.Expanded.{IsSpecExpansion};
+ghost use Rattle.spec_expand.specs.SpecListing.{IsSpecRefusal, IsSpecWithin};
 
 use crate::ones::ones;
 use crate::power::power_of_word;
@@ -45,7 +43,7 @@ fn basis_of<'a, F: Field>(
 ) -> &'a Basis
     requires setting { IsSetting (F.degree _field.now) (F.product _field.now) _circuit.now bases.now places.now }
     requires word { word < length (circuit_in (F.degree _field.now) (F.product _field.now) _circuit.now bases.now).words }
-    ensures own { (w : Word) × (slice_get (circuit_in (F.degree _field.now) (F.product _field.now) _circuit.now bases.now).words word ≡ Some w) × (w.basis ≡ elements_of result.now) }
+    ensures own { HasBasisAt (circuit_in (F.degree _field.now) (F.product _field.now) _circuit.now bases.now) word (elements_of result.now) }
     ensures over { IsBasisOver (F.degree _field.now) (F.product _field.now) result.now }
 {
     let place = place_at(places, word);
@@ -144,7 +142,7 @@ fn one_term<F: Field>(
 ) -> Result<Poly, ReduceFault>
     requires setting { IsSetting (F.degree field.now) (F.product field.now) circuit.now bases.now places.now }
     requires over { IsTermOver (F.degree field.now) (length (circuit_in (F.degree field.now) (F.product field.now) circuit.now bases.now).words) term.now }
-    ensures reached { IfOk result (λ q. IsReached (circuit_in (F.degree field.now) (F.product field.now) circuit.now bases.now) term.now bound (length (factors_of term.now.1)) q.terms) }
+    ensures reached { IfOk result (λ q. IsAllReached (circuit_in (F.degree field.now) (F.product field.now) circuit.now bases.now) term.now bound q.terms) }
     ensures fault { IfErr result (IsTermRefusal (circuit_in (F.degree field.now) (F.product field.now) circuit.now bases.now) term.now number bound) }
 {
     let powers = term.powers();
@@ -186,9 +184,9 @@ pub fn expand<F: Field>(
     requires k { circuit.now.binding.k ≡ F.degree field.now }
     requires bases { AreBases (F.degree field.now) (F.product field.now) circuit.now bases.now }
     requires spec { IsOverWords (F.degree field.now) (length (circuit_in (F.degree field.now) (F.product field.now) circuit.now bases.now).words) spec.now }
-    ensures polynomial { IfOk result (λ q. IsExpansion (circuit_in (F.degree field.now) (F.product field.now) circuit.now bases.now) (λ xs. spec_at (F.product field.now) xs spec.now) q.terms) }
-    ensures within { OnOk result (AreAllWithin (F.degree field.now) (F.product field.now) (spec_listing (circuit_in (F.degree field.now) (F.product field.now) circuit.now bases.now) spec.now) bound) }
-    ensures fault { IfErr result (IsRefusal (F.degree field.now) (F.product field.now) (spec_listing (circuit_in (F.degree field.now) (F.product field.now) circuit.now bases.now) spec.now) bound) }
+    ensures polynomial { IfOk result (λ q. IsSpecExpansion (circuit_in (F.degree field.now) (F.product field.now) circuit.now bases.now) spec.now q.terms) }
+    ensures within { OnOk result (IsSpecWithin (circuit_in (F.degree field.now) (F.product field.now) circuit.now bases.now) spec.now bound) }
+    ensures fault { IfErr result (IsSpecRefusal (circuit_in (F.degree field.now) (F.product field.now) circuit.now bases.now) spec.now bound) }
 {
     let places = word_places(alloc, circuit.binding())?;
     let terms = spec.terms();

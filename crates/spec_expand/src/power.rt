@@ -1,11 +1,7 @@
 //! A power of a word in its bits.
 ghost use Rattle.std.specs.Prelude.{◌<◌, ◌+◌, ◌*◌, IfOk};
-ghost use Rattle.irreducible.specs.Span.{combination};
-ghost use Rattle.gf_field.specs.Trace.{frobenius as frobenius_of};
-ghost use Rattle.gf_basis.specs.Basis.{first_values};
 ghost use Rattle.gf_basis.specs.BasisParts.{elements_of, IsBasisOver};
-ghost use Rattle.poly_mixed.specs.Polynomial.{IsPolynomialOf};
-ghost use Rattle.poly_mixed.specs.Table.{index};
+ghost use Rattle.spec_expand.specs.private.Expanding.{IsPowerInBits};
 
 use gf_basis::Basis;
 use gf_field::{Field, frobenius};
@@ -22,7 +18,7 @@ pub(crate) fn power_of_word<F: Field>(
 ) -> Result<Poly, AllocError>
     requires over { IsBasisOver (F.degree field.now) (F.product field.now) basis.now }
     requires word { word < 8 }
-    ensures { IfOk result (λ q. IsPolynomialOf (F.degree field.now) (F.product field.now) (λ p. frobenius_of (F.product field.now) j (combination (elements_of basis.now) (index p.is_one (first_values (F.degree field.now) (λ i. F.degree field.now * word + i))))) q.terms) }
+    ensures { IfOk result (λ q. IsPowerInBits (F.degree field.now) (F.product field.now) (elements_of basis.now) word j q.terms) }
 {
     let k = field.k();
     let mut sum = Poly::zero(alloc);

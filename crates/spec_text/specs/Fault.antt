@@ -1,6 +1,6 @@
 -- What may come of reading a specification: its terms, or the fault of the first token that has one.
 -- Source: this project's own.
-use Rattle.std.specs.Prelude.{◌≡◌, ◌⊎◌, ℕ, ◌^◌, Bool, true, false, cond, not, List, [], ◌∷◌, ◌++◌, nat_lt, nat_le, bytes_eq, Option, None, Some, Result, Ok, Err}
+use Rattle.std.specs.Prelude.{◌≡◌, ◌⊎◌, ℕ, ◌^◌, Bool, true, false, cond, List, [], ◌∷◌, ◌++◌, nat_lt, nat_le, bytes_eq, Option, None, Some, Result, Ok, Err}
 use Rattle.outcome.specs.Outcome.{Outcome}
 use Rattle.poly_mixed.specs.Labels.{Labelling, word_of}
 use Rattle.spec_text.specs.declared.fault.SpecFault.{SpecFault}
@@ -99,3 +99,7 @@ abbrev pub IsOfText : Result SpecTerms SpecFault → Type 0
 IsOfText (Ok said) = Unit {0}
 IsOfText (Err OutOfMemory) = ⊥
 IsOfText (Err fault) = Unit {0}
+
+-- what may come of a text but out of memory: its specification, or its first fault
+abbrev pub ComesOfText : Labelling → ℕ → (ℕ → ℕ → ℕ) → List ℕ → Outcome SpecFault SpecTerms
+ComesOfText l k mul bytes result = SpecOutcome l k mul bytes result × IsOfText result

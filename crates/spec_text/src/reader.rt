@@ -7,7 +7,7 @@ ghost use Rattle.spec_text.specs.declared.reader.Next.{Next};
 ghost use Rattle.spec_text.specs.Fault.{SpecOutcome};
 ghost use Rattle.spec_expand.specs.Specification.{IsOverWords};
 ghost use Rattle.spec_text.specs.private.Scanning.{IsSeen};
-ghost use Rattle.spec_text.specs.private.Progress.{progress, closed, name_read, number_read, exponent_read, fitting, hex_read, decimal_read, times_read, plus_read, token_read, end_read, IsStep, IsEnd};
+ghost use Rattle.spec_text.specs.private.Progress.{closed, name_read, number_read, exponent_read, fitting, hex_read, decimal_read, times_read, plus_read, token_read, end_read, IsEnd, StepsTo, so_far};
 
 use crate::fault::SpecFault;
 use crate::scan::{Scanned, token};
@@ -55,7 +55,7 @@ impl Reading {
 
     // A name: the output word's on the left, and else an input, state or fed word's.
     fn name(&self, labels: &Labels, next: Next, name: &[u8], place: u32) -> Result<Next, SpecFault>
-        ensures { IsStep (name_read labels.now next (progress next self.now.terms.items self.now.coefficient self.now.powers.items) name.now place) self.now.terms.items self.now.coefficient self.now.powers.items result }
+        ensures { StepsTo (name_read labels.now next (so_far self.now next) name.now place) self.now result }
     {
         match next {
             Next::Output => {
@@ -82,7 +82,7 @@ impl Reading {
     ) -> Result<Next, SpecFault>
         requires element { self.old.coefficient < 2 ^ F.degree field.now }
         requires fits { IfSome value (λ n. n < 2 ^ F.degree field.now) }
-        ensures { (next : Next) (said : Option ℕ) → value ≡ said → IsStep (number_read (F.product field.now) said (progress next self.old.terms.items self.old.coefficient self.old.powers.items) place) self.new.terms.items self.new.coefficient self.new.powers.items result }
+        ensures { (next : Next) (said : Option ℕ) → value ≡ said → StepsTo (number_read (F.product field.now) said (so_far self.old next) place) self.new result }
     {
         match value {
             Some(n) => {
@@ -95,7 +95,7 @@ impl Reading {
 
     // An exponent of a word, where it fits.
     fn exponent(&mut self, word: u32, value: Option<u64>, place: u32) -> Result<Next, SpecFault>
-        ensures { (next : Next) (n : ℕ) → IsValue value n → IsStep (exponent_read word (fitting (nat_lt n (2 ^ 64)) n) (progress next self.old.terms.items self.old.coefficient self.old.powers.items) place) self.new.terms.items self.new.coefficient self.new.powers.items result }
+        ensures { (next : Next) (n : ℕ) → IsValue value n → StepsTo (exponent_read word (fitting (nat_lt n (2 ^ 64)) n) (so_far self.old next) place) self.new result }
     {
         match value {
             Some(n) => {
@@ -115,7 +115,7 @@ impl Reading {
         place: u32,
     ) -> Result<Next, SpecFault>
         requires { self.old.coefficient < 2 ^ F.degree field.now }
-        ensures { (n : ℕ) → IsValue value n → IsStep (hex_read (F.degree field.now) (F.product field.now) next (progress next self.old.terms.items self.old.coefficient self.old.powers.items) n place) self.new.terms.items self.new.coefficient self.new.powers.items result }
+        ensures { (n : ℕ) → IsValue value n → StepsTo (hex_read (F.degree field.now) (F.product field.now) next (so_far self.old next) n place) self.new result }
     {
         match next {
             Next::Factor => self.number(field, element_in(field, value), place),
@@ -132,7 +132,7 @@ impl Reading {
         place: u32,
     ) -> Result<Next, SpecFault>
         requires { self.old.coefficient < 2 ^ F.degree field.now }
-        ensures { (n : ℕ) → IsValue value n → IsStep (decimal_read (F.product field.now) next (progress next self.old.terms.items self.old.coefficient self.old.powers.items) n place) self.new.terms.items self.new.coefficient self.new.powers.items result }
+        ensures { (n : ℕ) → IsValue value n → StepsTo (decimal_read (F.product field.now) next (so_far self.old next) n place) self.new result }
     {
         match next {
             Next::Factor => self.number(field, bit_in(field, value), place),
@@ -143,7 +143,7 @@ impl Reading {
 
     // `*` after a factor.
     fn times(&mut self, next: Next, place: u32) -> Result<Next, SpecFault>
-        ensures { IsStep (times_read next (progress next self.old.terms.items self.old.coefficient self.old.powers.items) place) self.new.terms.items self.new.coefficient self.new.powers.items result }
+        ensures { StepsTo (times_read next (so_far self.old next) place) self.new result }
     {
         match next {
             Next::AfterNumber => Ok(Next::Factor),
@@ -158,7 +158,7 @@ impl Reading {
     // `+` after a term.
     fn plus(&mut self, next: Next, place: u32) -> Result<Next, SpecFault>
         requires few { length self.old.powers.items + 1 < 2 ^ 26 }
-        ensures { IsStep (plus_read next (progress next self.old.terms.items self.old.coefficient self.old.powers.items) place) self.new.terms.items self.new.coefficient self.new.powers.items result }
+        ensures { StepsTo (plus_read next (so_far self.old next) place) self.new result }
     {
         match next {
             Next::AfterNumber => {
@@ -185,7 +185,7 @@ impl Reading {
     ) -> Result<Next, SpecFault>
         requires few { length self.old.powers.items + 1 < 2 ^ 26 }
         requires element { self.old.coefficient < 2 ^ F.degree field.now }
-        ensures { (t : Token) → IsSeen scanned.entry t → IsStep (token_read labels.now (F.degree field.now) (F.product field.now) (progress next self.old.terms.items self.old.coefficient self.old.powers.items) t place) self.new.terms.items self.new.coefficient self.new.powers.items result }
+        ensures { (t : Token) → IsSeen scanned.entry t → StepsTo (token_read labels.now (F.degree field.now) (F.product field.now) (so_far self.old next) t place) self.new result }
     {
         match scanned {
             Scanned::Named(name) => self.name(labels, next, name, place),
@@ -207,7 +207,7 @@ impl Reading {
     // The end of the text.
     fn end(&mut self, next: Next, place: u32) -> Result<(), SpecFault>
         requires few { length self.old.powers.items + 1 < 2 ^ 26 }
-        ensures { IsEnd (end_read next (progress next self.old.terms.items self.old.coefficient self.old.powers.items) place) self.new.terms.items result }
+        ensures { IsEnd (end_read next (so_far self.old next) place) self.new.terms.items result }
     {
         match next {
             Next::AfterNumber => {

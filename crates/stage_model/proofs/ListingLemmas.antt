@@ -1,11 +1,8 @@
 -- Listings of stages in general: one first over a bound at most, one listing after another, and the search for the first one.
 use Rattle.std.proofs.Common.{◌≡◌, ◌⊎◌, ◌↔◌, ap, sym, subst, inl, inr, ℕ, ◌<◌, arith}
 use Rattle.stage_model.specs.Stage.{HasSize, IsWithin}
+pub use Rattle.stage_model.specs.Listing.{IsOrdered}
 use Rattle.stage_model.specs.Listing.{Listing, Joined, Earlier, Later, followed_by, is_in_either, stage_of_either, AreAllWithin, IsOver}
-
--- of two listed names one comes before the other, or they are one
-abbrev pub IsOrdered : {N : Type 0} → Listing N → Type 0
-IsOrdered {N = N} listing = (a b : N) → listing.is_listed a → listing.is_listed b → (a ≡ b) ⊎ (listing.comes_before a b ⊎ listing.comes_before b a)
 
 module _ (k : ℕ) (mul : ℕ → ℕ → ℕ) where
   -- a listed stage has one size at most

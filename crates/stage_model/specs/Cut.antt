@@ -2,16 +2,20 @@
 -- Source: Lv, Kalla, Enescu, IEEE TCAD 2013, for elimination in reverse topological order; the exact order is this project's own.
 use Rattle.std.specs.Prelude.{◌≡◌, ◌≢◌, ℕ, ◌<◌, Bool, List, Some, length, slice_get}
 use Rattle.net_core.specs.NetList.{NetList, nets}
+use Rattle.net_core.specs.Sound.{IsSound}
 use Rattle.net_core.specs.GateValue.{GateValue}
 use Rattle.net_core.specs.Order.{IsElimination}
 use Rattle.net_core.specs.Value.{bit_of, IsRight}
 use Rattle.net_words.specs.Binding.{BoundNet}
 use Rattle.net_words.specs.Variables.{variables}
-use Rattle.poly_mixed.specs.Polynomial.{Point}
+use Rattle.poly_mixed.specs.Polynomial.{Point, Terms}
+use Rattle.circuit_model.specs.FieldLaws.{FieldLaws}
 use Rattle.circuit_model.specs.Word.{Word, HasElement}
 use Rattle.circuit_model.specs.Circuit.{Circuit}
 use Rattle.circuit_model.specs.OfBinding.{output_word}
+use Rattle.circuit_model.specs.BasedNet.{BasedNet, based_output_basis}
 use Rattle.stage_model.specs.Variables.{point_bit, variables_of}
+use Rattle.stage_model.specs.Stage.{IsOfStage}
 
 -- the gate is among the first t of the order
 abbrev pub IsAmongFirst : NetList → List ℕ → ℕ → GateValue → Type 0
@@ -35,6 +39,26 @@ pub record IsCut (net : NetList) (variables : List ℕ) (output : Word) (t : ℕ
 abbrev pub CutOf : Circuit → ℕ → Point → ℕ → Type 0
 CutOf circuit = IsCut circuit.net (variables_of circuit) circuit.output
 
+-- the last cut of a circuit, where all gates are eliminated
+abbrev pub LastCutOf : Circuit → Point → ℕ → Type 0
+LastCutOf circuit = CutOf circuit (length circuit.net.gates)
+
 -- the cuts of a net list with bound words, where the output word has this basis
 abbrev pub BoundCut : BoundNet → List ℕ → ℕ → Point → ℕ → Type 0
 BoundCut circuit basis = IsCut circuit.net (variables (nets circuit.net) circuit.binding.words) (output_word circuit.binding.words basis)
+
+-- the cuts of a net list in bases, where its circuit is not made
+abbrev pub BasedCut : BasedNet → ℕ → Point → ℕ → Type 0
+BasedCut based = BoundCut based.netlist (based_output_basis based)
+
+-- a polynomial of the last cut of a circuit, where all gates are eliminated
+abbrev pub IsOfLastCut : Circuit → Terms → Type 0
+IsOfLastCut circuit ts = IsOfStage circuit.k circuit.product (LastCutOf circuit) ts
+
+-- a polynomial of the last cut of a net list in bases
+abbrev pub IsOfLastBasedCut : BasedNet → Terms → Type 0
+IsOfLastBasedCut based ts = IsOfStage based.k based.product (BasedCut based (length based.netlist.net.gates)) ts
+
+-- what is said of each sound net list over each field, with its variables and an output word
+abbrev pub OfSoundNets : ((k : ℕ) → (ℕ → ℕ → ℕ) → NetList → List ℕ → Word → Type 0) → Type 0
+OfSoundNets P = (field : FieldLaws) (net : NetList) (variables : List ℕ) (output : Word) → IsSound net → P field.k field.product net variables output

@@ -1,18 +1,26 @@
 -- Listings of stages: names, which of them are listed, the stage of a name, and which name comes before which; and the first
 -- stage of a listing over a bound. Source: this project's own.
-use Rattle.std.specs.Prelude.{ℕ, ◌<◌}
+use Rattle.std.specs.Prelude.{◌≡◌, ◌⊎◌, ◌↔◌, ℕ, ◌<◌}
 use Rattle.poly_mixed.specs.Polynomial.{Point}
 use Rattle.poly_mixed.specs.declared.stage.ReduceFault.{ReduceFault}
 use Rattle.poly_mixed.specs.declared.stage.ReduceFault.TheVariants.{TooManyTerms, OutOfMemory}
 use Rattle.poly_mixed.specs.declared.stage.Stage.{Stage}
 use Rattle.poly_mixed.specs.declared.stage.Stage.TheVariants.{Cut, WordProduct, WordSum, SpecProduct, SpecSum, InstanceProduct, InstanceSum}
-use Rattle.stage_model.specs.Stage.{HasSize, IsWithin}
+use Rattle.stage_model.specs.Stage.{HasSize, IsWithin, RelatesEachPoint}
 
 -- names of stages, those that are listed, what each relates, and their order
 pub record Listing (N : Type 0) : Type 1 where
   pub is_listed : N → Type 0
   pub stage_of : N → Point → ℕ → Type 0
   pub comes_before : N → N → Type 0
+
+-- of two listed names one comes before the other, or they are one
+abbrev pub IsOrdered : {N : Type 0} → Listing N → Type 0
+IsOrdered {N = N} listing = (a b : N) → listing.is_listed a → listing.is_listed b → (a ≡ b) ⊎ (listing.comes_before a b ⊎ listing.comes_before b a)
+
+-- each listed stage relates each point of elements to an element, of the field of 2 to the k elements
+abbrev pub HaveValues : ℕ → {N : Type 0} → Listing N → Type 0
+HaveValues k {N = N} listing = (name : N) → listing.is_listed name → RelatesEachPoint k (listing.stage_of name)
 
 -- a name of the first listing, or one of the second
 pub data Joined (A B : Type 0) : Type 0 where
@@ -53,6 +61,23 @@ module _ (k : ℕ) (mul : ℕ → ℕ → ℕ) {N : Type 0} (listing : Listing N
     pub over : bound < n
     pub before : (other : N) → listing.is_listed other → listing.comes_before other name → IsWithin k mul (listing.stage_of other) bound
 
+  -- all are within the bound, or one is the first over it
+  abbrev pub AreWithinOrOver : Type 0
+  AreWithinOrOver = AreAllWithin ⊎ ((name : N) × (n : ℕ) × IsOver name n)
+
+  -- one at most is the first over the bound, with one size
+  abbrev pub HasOneOver : Type 0
+  HasOneOver = (name other : N) (m n : ℕ) → IsOver name m → IsOver other n → (name ≡ other) × (m ≡ n)
+
+  -- where one is the first over the bound, not all are within it
+  abbrev pub OverIsNotAllWithin : Type 0
+  OverIsNotAllWithin = (name : N) (n : ℕ) → IsOver name n → AreAllWithin → ⊥
+
+module _ (k : ℕ) (mul : ℕ → ℕ → ℕ) {N : Type 0} (listing other : Listing N) (bound : ℕ) where
+  -- in both listings the same stage is the first over the bound, with the same size
+  abbrev pub HaveSameOver : Type 0
+  HaveSameOver = (name : N) (n : ℕ) → IsOver k mul listing bound name n ↔ IsOver k mul other bound name n
+
 module _ (k : ℕ) (mul : ℕ → ℕ → ℕ) (listing : Listing Stage) (bound : ℕ) where
   -- the first stage over the bound, with its size; out of memory is free
   abbrev pub IsRefusal : ReduceFault → Type 0
@@ -92,3 +117,7 @@ module _ (count : ℕ) (cuts : ℕ → Point → ℕ → Type 0) where
   -- so many cuts, by rising number
   abbrev pub cut_listing : Listing Stage
   cut_listing = record { is_listed = is_first_cut; stage_of = cut_of; comes_before = is_earlier_cut }
+
+-- the name of a stage of a circuit: that of a cut, or of a word's stage
+abbrev pub CircuitStage : Type 0
+CircuitStage = Joined Stage Stage

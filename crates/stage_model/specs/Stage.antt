@@ -1,5 +1,5 @@
 -- Stages as relations between points and elements: their polynomials and their sizes. Source: this project's own.
-use Rattle.std.specs.Prelude.{◌≡◌, ℕ, ◌≤◌, length}
+use Rattle.std.specs.Prelude.{◌≡◌, ◌↔◌, ℕ, ◌<◌, ◌≤◌, ◌^◌, length}
 use Rattle.poly_mixed.specs.Polynomial.{Terms, Point, IsPoint, IsReduced, value}
 
 module _ (k : ℕ) (mul : ℕ → ℕ → ℕ) where
@@ -19,3 +19,15 @@ module _ (k : ℕ) (mul : ℕ → ℕ → ℕ) where
     pub size : ℕ
     pub has : HasSize stage size
     pub within : size ≤ bound
+
+  -- the stage has a polynomial
+  abbrev pub HasPolynomial : (Point → ℕ → Type 0) → Type 0
+  HasPolynomial stage = (ts : Terms) × IsOfStage stage ts
+
+-- the stage relates each point of elements to an element, of the field of 2 to the k elements
+abbrev pub RelatesEachPoint : ℕ → (Point → ℕ → Type 0) → Type 0
+RelatesEachPoint k stage = (p : Point) → IsPoint k p → (e : ℕ) × stage p e × (e < 2 ^ k)
+
+-- two stages relate each point of elements to the same
+abbrev pub AreSameStage : ℕ → (Point → ℕ → Type 0) → (Point → ℕ → Type 0) → Type 0
+AreSameStage k stage other = (p : Point) (e : ℕ) → IsPoint k p → stage p e ↔ other p e

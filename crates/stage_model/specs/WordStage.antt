@@ -1,5 +1,5 @@
 -- The replacement of the bits of one word after another by the word. Source: this project's own.
-use Rattle.std.specs.Prelude.{◌≡◌, ℕ, ◌+◌, ◌-◌, ◌*◌, Bool, ◌==◌, ◌&&◌, not, cond, List, ◌++◌, take, Some, slice_get, nat_lt, nat_le}
+use Rattle.std.specs.Prelude.{◌≡◌, ℕ, ◌+◌, ◌-◌, ◌*◌, Bool, ◌==◌, ◌&&◌, not, cond, List, ◌++◌, take, Some, length, slice_get, nat_lt, nat_le}
 use Rattle.std.specs.Int.{bit_at}
 use Rattle.std.specs.List.{filter}
 use Rattle.poly_mixed.specs.Monomial.{Monomial}
@@ -8,7 +8,7 @@ use Rattle.gf_basis.specs.Basis.{AreBits}
 use Rattle.circuit_model.specs.Word.{Word}
 use Rattle.circuit_model.specs.Circuit.{Circuit}
 use Rattle.stage_model.specs.Mix.{IsMix}
-use Rattle.stage_model.specs.Stage.{IsOfStage}
+use Rattle.stage_model.specs.Stage.{IsOfStage, AreSameStage}
 
 -- the rank is one of word w, whose place i has the rank k * w + i
 abbrev pub is_of_word : ℕ → ℕ → ℕ → Bool
@@ -58,3 +58,11 @@ pub record IsTermSum (circuit : Circuit) (w s : ℕ) (p : Point) (e : ℕ) : Typ
   pub d : ℕ
   pub read : IsRead circuit w p d
   pub element : value circuit.product (with_word circuit.k w d p) (take s terms) ≡ e
+
+-- the sum stage of the last of these terms of the polynomial in which word w is replaced
+abbrev pub SumOfAll : Circuit → ℕ → Terms → Point → ℕ → Type 0
+SumOfAll circuit w ts = IsTermSum circuit w (length ts)
+
+-- the stage is the mix of one word more
+abbrev pub IsNextMix : Circuit → ℕ → (Point → ℕ → Type 0) → Type 0
+IsNextMix circuit w stage = AreSameStage circuit.k stage (IsMix circuit (w + 1))

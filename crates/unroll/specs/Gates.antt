@@ -62,10 +62,18 @@ start_gate latch = constant latch.out (start_bit latch.start)
 abbrev pub is_held : Binding → LatchValue → Bool
 is_held binding latch = in_word State binding.words latch.out
 
+-- the feeding gates in the first cycle of those of these primary inputs that are fed
+abbrev pub feeding_gates : NetList → Binding → ℕ → List ℕ → List GateValue
+feeding_gates net binding c inputs = map (feeding_gate net binding c 0) (filter (is_fed binding.feeds) inputs)
+
+-- the starts of those of these latches that are in no state word
+abbrev pub start_gates : Binding → List LatchValue → List GateValue
+start_gates binding latches = map start_gate (filter (λ latch. not (is_held binding latch)) latches)
+
 -- The gates of the first cycle: feeding gates of the fed nets in the order of the primary inputs, a start for each latch in
 -- no state word, and the gates.
 abbrev pub first_gates : NetList → Binding → ℕ → List GateValue
-first_gates net binding c = map (feeding_gate net binding c 0) (filter (is_fed binding.feeds) net.inputs) ++ (map start_gate (filter (λ latch. not (is_held binding latch)) net.latches) ++ map (gate_at (nets net) 0) net.gates)
+first_gates net binding c = feeding_gates net binding c net.inputs ++ (start_gates binding net.latches ++ map (gate_at (nets net) 0) net.gates)
 
 -- the gates of cycle t + 1: one for each primary input, one for each latch, and the gates
 abbrev pub next_gates : NetList → Binding → ℕ → ℕ → List GateValue

@@ -3,4 +3,5 @@ pub mod Sources
 pub mod Gates
 pub mod Nets
 pub mod Unrolled
+pub mod Counts
 pub mod private

@@ -22,15 +22,23 @@ labels_to labels (suc t) = labels_to labels t ++ map unnamed labels
 abbrev pub bit_label : List ℕ → ℕ → LabelValue
 bit_label name i = record { text = name ++ (codes "[" ++ (decimal i ++ codes "]")); named = false }
 
+-- the labels of so many bits of the word
+abbrev pub bit_labels : BoundWord → ℕ → List LabelValue
+bit_labels word count = map (bit_label word.name) (range_with_len 0 count)
+
 -- the labels of the bits of the fed words
 abbrev pub fed_labels : ℕ → List BoundWord → List LabelValue
 fed_labels k [] = []
-fed_labels k (word ∷ words) = map (bit_label word.name) (range_with_len 0 (fed_bits k word.role)) ++ fed_labels k words
+fed_labels k (word ∷ words) = bit_labels word (fed_bits k word.role) ++ fed_labels k words
+
+-- the nets of the bits of the fed words
+abbrev pub fed_bit_nets : NetList → Binding → ℕ → List ℕ
+fed_bit_nets net binding c = range_with_len (cycle_nets (nets net) c) (fed_count binding.k binding.words)
 
 -- The primary inputs that are not fed, the outputs of latches in state words in the order of the latches, and the bits of
 -- the fed words.
 abbrev pub unrolled_inputs : NetList → Binding → ℕ → List ℕ
-unrolled_inputs net binding c = filter (λ n. not (is_fed binding.feeds n)) net.inputs ++ (map (λ latch. latch.out) (filter (is_held binding) net.latches) ++ range_with_len (cycle_nets (nets net) c) (fed_count binding.k binding.words))
+unrolled_inputs net binding c = filter (λ n. not (is_fed binding.feeds n)) net.inputs ++ (map (λ latch. latch.out) (filter (is_held binding) net.latches) ++ fed_bit_nets net binding c)
 
 -- the net list of c cycles after the first, and of the first; it has no latches
 abbrev pub all_cycles : NetList → Binding → ℕ → NetList

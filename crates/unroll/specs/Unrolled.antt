@@ -8,7 +8,7 @@ use Rattle.net_words.specs.Roles.{same_role}
 use Rattle.net_words.specs.declared.bound.BoundWord.{BoundWord}
 use Rattle.net_words.specs.declared.word.Role.{Role}
 use Rattle.net_words.specs.declared.word.Role.TheVariants.{Input, State, Fed, Output}
-use Rattle.unroll.specs.Places.{net_at, cycle_nets, fed_bits}
+use Rattle.unroll.specs.Places.{net_at, cycle_nets, fed_bits, first_bit}
 use Rattle.unroll.specs.Nets.{all_cycles}
 
 -- The nets of a word in the unrolled net list: an input or state word has its nets of the first cycle, a fed word its own
@@ -23,6 +23,10 @@ nets_with v c k base Output list = map (net_at v c) list
 abbrev pub nets_of_words : (v c k base : ℕ) → List BoundWord → List ℕ
 nets_of_words v c k base [] = []
 nets_of_words v c k base (word ∷ words) = nets_with v c k base word.role word.nets ++ nets_of_words v c k (base + fed_bits k word.role) words
+
+-- the nets of word w of the binding
+abbrev pub nets_of_word : NetList → Binding → ℕ → ℕ → BoundWord → List ℕ
+nets_of_word net binding c w word = nets_with (nets net) c binding.k (first_bit binding.k (cycle_nets (nets net) c) binding.words w) word.role word.nets
 
 -- the nets of all words of the binding
 abbrev pub unrolled_nets : NetList → Binding → ℕ → List ℕ

@@ -1,10 +1,9 @@
 //! The gates of all cycles, cycle by cycle.
-ghost use Rattle.std.specs.Prelude.{◌≡◌, ◌<◌, ◌≤◌, ◌+◌, not, length, map, filter, OnOk};
+ghost use Rattle.std.specs.Prelude.{◌≡◌, ◌<◌, ◌≤◌, ◌+◌, length, map, OnOk};
 ghost use Rattle.net_core.specs.NetList.{nets};
 ghost use Rattle.net_words.specs.BoundTo.{IsBoundTo};
-ghost use Rattle.net_words.specs.Feeds.{is_fed};
-ghost use Rattle.unroll.specs.Gates.{feeding_gate, first_gates, gate_at, gates_to, input_gate, is_held, latch_gate, next_gates, start_gate};
-ghost use Rattle.unroll.specs.private.Plan.{HasRoom, net_count, with_gates};
+ghost use Rattle.unroll.specs.Gates.{first_gates, gate_at, gates_to, input_gate, latch_gate, next_gates, feeding_gates, start_gates};
+ghost use Rattle.unroll.specs.private.Plan.{HasRoom, net_count, with_gates, HasRoomFor};
 
 use crate::plan::Plan;
 use net_core::NetMaker;
@@ -14,8 +13,8 @@ impl Plan {
     // Adds the feeding gates of the fed nets in the first cycle.
     fn add_first_inputs(&self, maker: &mut NetMaker) -> Result<(), AllocError>
         requires binding { IsBoundTo self.now.net self.now.binding }
-        requires room { HasRoom (net_count self.now.net self.now.binding self.now.cycles) (length (map (feeding_gate self.now.net self.now.binding self.now.cycles 0) (filter (is_fed self.now.binding.feeds) self.now.net.inputs))) maker.old }
-        ensures { OnOk result (maker.new ≡ with_gates maker.old (map (feeding_gate self.now.net self.now.binding self.now.cycles 0) (filter (is_fed self.now.binding.feeds) self.now.net.inputs))) }
+        requires room { HasRoomFor self.now.net self.now.binding self.now.cycles (feeding_gates self.now.net self.now.binding self.now.cycles self.now.net.inputs) maker.old }
+        ensures { OnOk result (maker.new ≡ with_gates maker.old (feeding_gates self.now.net self.now.binding self.now.cycles self.now.net.inputs)) }
     {
         for n in self.net.inputs() {
             self.add_first_input(maker, *n)?;
@@ -25,8 +24,8 @@ impl Plan {
 
     // Adds a start for each latch in no state word.
     fn add_first_latches(&self, maker: &mut NetMaker) -> Result<(), AllocError>
-        requires { HasRoom (net_count self.now.net self.now.binding self.now.cycles) (length (map start_gate (filter (λ latch. not (is_held self.now.binding latch)) self.now.net.latches))) maker.old }
-        ensures { OnOk result (maker.new ≡ with_gates maker.old (map start_gate (filter (λ latch. not (is_held self.now.binding latch)) self.now.net.latches))) }
+        requires { HasRoomFor self.now.net self.now.binding self.now.cycles (start_gates self.now.binding self.now.net.latches) maker.old }
+        ensures { OnOk result (maker.new ≡ with_gates maker.old (start_gates self.now.binding self.now.net.latches)) }
     {
         for latch in self.net.latches() {
             self.add_first_latch(maker, *latch)?;

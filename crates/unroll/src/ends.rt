@@ -1,11 +1,10 @@
 //! The primary inputs and the outputs of the unrolled net.
 ghost use Rattle.std.specs.Prelude.{◌≡◌, ◌<◌, ◌+◌, [], ◌∷◌, not, map, filter, OnOk};
-ghost use Rattle.std.specs.List.{range_with_len};
 ghost use Rattle.net_core.specs.NetList.{nets};
 ghost use Rattle.net_words.specs.Feeds.{is_fed};
 ghost use Rattle.unroll.specs.Gates.{is_held};
-ghost use Rattle.unroll.specs.Nets.{unrolled_inputs};
-ghost use Rattle.unroll.specs.Places.{cycle_nets, fed_count, net_at};
+ghost use Rattle.unroll.specs.Nets.{unrolled_inputs, fed_bit_nets};
+ghost use Rattle.unroll.specs.Places.{net_at};
 ghost use Rattle.unroll.specs.private.Plan.{net_count, with_inputs, with_outputs};
 
 use crate::plan::Plan;
@@ -65,7 +64,7 @@ impl Plan {
     fn add_bits(&self, maker: &mut NetMaker, end: u32) -> Result<(), AllocError>
         requires count { nets maker.old ≡ net_count self.now.net self.now.binding self.now.cycles }
         requires end { end ≡ net_count self.now.net self.now.binding self.now.cycles }
-        ensures { OnOk result (maker.new ≡ with_inputs maker.old (range_with_len (cycle_nets (nets self.now.net) self.now.cycles) (fed_count self.now.binding.k self.now.binding.words))) }
+        ensures { OnOk result (maker.new ≡ with_inputs maker.old (fed_bit_nets self.now.net self.now.binding self.now.cycles)) }
     {
         for n in (self.cycles + 1) * self.net.nets()..end {
             maker.input(n)?;

@@ -1,13 +1,13 @@
 //! The gates of all cycles.
-ghost use Rattle.std.specs.Prelude.{◌≡◌, ◌<◌, ◌≤◌, ◌+◌, [], ◌∷◌, not, length, map, filter, All, OnOk, take};
+ghost use Rattle.std.specs.Prelude.{◌≡◌, ◌<◌, ◌≤◌, ◌+◌, [], ◌∷◌, length, map, All, OnOk, take};
 ghost use Rattle.net_core.specs.Inside.{GateIsInside};
 ghost use Rattle.net_core.specs.NetList.{nets};
 ghost use Rattle.net_core.specs.declared.fault.NetFault.TheVariants as faults;
 ghost use Rattle.net_words.specs.BoundTo.{IsBoundTo};
 ghost use Rattle.net_words.specs.Feeds.{IsSource, is_fed};
-ghost use Rattle.unroll.specs.Gates.{buffer, constant, feeding_gate, gate_at, input_gate, is_held, latch_gate, source_gate, start_bit as start_bit_of, start_gate};
+ghost use Rattle.unroll.specs.Gates.{buffer, constant, feeding_gate, gate_at, input_gate, is_held, latch_gate, source_gate, start_bit as start_bit_of, feeding_gates, start_gates};
 ghost use Rattle.unroll.specs.Places.{net_at};
-ghost use Rattle.unroll.specs.private.Plan.{HasRoom, net_count, with_gates};
+ghost use Rattle.unroll.specs.private.Plan.{HasRoom, net_count, with_gates, HasRoomFor};
 
 use crate::plan::Plan;
 use net_core::{Gate, Latch, NetFault, NetMaker, Start};
@@ -94,9 +94,9 @@ impl Plan {
     // Adds the feeding gate of a primary input in the first cycle, if it is fed.
     pub fn add_first_input(&self, maker: &mut NetMaker, n: u32) -> Result<(), AllocError>
         requires binding { IsBoundTo self.now.net self.now.binding }
-        requires room { HasRoom (net_count self.now.net self.now.binding self.now.cycles) (length (map (feeding_gate self.now.net self.now.binding self.now.cycles 0) (filter (is_fed self.now.binding.feeds) (n ∷ [])))) maker.old }
+        requires room { HasRoomFor self.now.net self.now.binding self.now.cycles (feeding_gates self.now.net self.now.binding self.now.cycles (n ∷ [])) maker.old }
         requires net { n < nets self.now.net }
-        ensures { OnOk result (maker.new ≡ with_gates maker.old (map (feeding_gate self.now.net self.now.binding self.now.cycles 0) (filter (is_fed self.now.binding.feeds) (n ∷ [])))) }
+        ensures { OnOk result (maker.new ≡ with_gates maker.old (feeding_gates self.now.net self.now.binding self.now.cycles (n ∷ []))) }
     {
         if self.is_fed(n) {
             self.add_feeding(maker, 0, n)
@@ -107,9 +107,9 @@ impl Plan {
 
     // Adds a gate with a latch's start in the first cycle, unless it is in a state word.
     pub fn add_first_latch(&self, maker: &mut NetMaker, latch: Latch) -> Result<(), AllocError>
-        requires room { HasRoom (net_count self.now.net self.now.binding self.now.cycles) (length (map start_gate (filter (λ l. not (is_held self.now.binding l)) (latch ∷ [])))) maker.old }
+        requires room { HasRoomFor self.now.net self.now.binding self.now.cycles (start_gates self.now.binding (latch ∷ [])) maker.old }
         requires net { latch.out < nets self.now.net }
-        ensures { OnOk result (maker.new ≡ with_gates maker.old (map start_gate (filter (λ l. not (is_held self.now.binding l)) (latch ∷ [])))) }
+        ensures { OnOk result (maker.new ≡ with_gates maker.old (start_gates self.now.binding (latch ∷ []))) }
     {
         if self.is_held(latch.out) {
             Ok(())

@@ -1,11 +1,11 @@
 //! The nets of all cycles, with their labels.
-ghost use Rattle.std.specs.Prelude.{◌≡◌, ◌<◌, ◌≤◌, ◌+◌, ◌^◌, [], ◌∷◌, ◌++◌, Some, codes, false, length, map, slice_get, string_bytes, IfOk, OnOk};
-ghost use Rattle.std.specs.List.{range_with_len};
+ghost use Rattle.std.specs.Prelude.{◌≡◌, ◌<◌, ◌≤◌, ◌+◌, [], ◌∷◌, ◌++◌, Some, codes, false, length, map, slice_get, string_bytes, IfOk, OnOk};
 ghost use Rattle.std.specs.Fmt.{decimal};
+ghost use Rattle.lists.specs.Limits.{most_nets};
 ghost use Rattle.net_core.specs.NetList.{nets};
-ghost use Rattle.unroll.specs.Nets.{bit_label as bit_label_of, fed_labels, labels_to, unnamed};
+ghost use Rattle.unroll.specs.Nets.{fed_labels, labels_to, unnamed, bit_labels};
 ghost use Rattle.unroll.specs.Places.{fed_bits};
-ghost use Rattle.unroll.specs.private.Plan.{with_labels};
+ghost use Rattle.unroll.specs.private.Plan.{with_labels, OfWord};
 
 use crate::gates::memory;
 use crate::plan::Plan;
@@ -15,7 +15,7 @@ use std::alloc::{AllocError, Global};
 
 // Adds a net that no name finds.
 fn add_label(maker: &mut NetMaker, label: &str) -> Result<(), AllocError>
-    requires { nets maker.old < 2 ^ 20 }
+    requires { nets maker.old < most_nets }
     ensures { OnOk result (maker.new ≡ with_labels maker.old (record { text = label.now; named = false } ∷ [])) }
 {
     match maker.fresh(label) {
@@ -34,7 +34,7 @@ fn bit_label(alloc: Global, name: &str, i: u32) -> Result<String, AllocError>
 impl Plan {
     // Adds the nets of one cycle.
     fn add_cycle_labels(&self, maker: &mut NetMaker) -> Result<(), AllocError>
-        requires { nets maker.old + nets self.now.net ≤ 2 ^ 20 }
+        requires { nets maker.old + nets self.now.net ≤ most_nets }
         ensures { OnOk result (maker.new ≡ with_labels maker.old (map unnamed self.now.net.labels)) }
     {
         for n in 0..self.net.nets() {
@@ -45,7 +45,7 @@ impl Plan {
 
     // Adds the nets of all cycles.
     fn add_labels(&self, maker: &mut NetMaker) -> Result<(), AllocError>
-        requires { nets maker.old + length (labels_to self.now.net.labels self.now.cycles) ≤ 2 ^ 20 }
+        requires { nets maker.old + length (labels_to self.now.net.labels self.now.cycles) ≤ most_nets }
         ensures { OnOk result (maker.new ≡ with_labels maker.old (labels_to self.now.net.labels self.now.cycles)) }
     {
         self.add_cycle_labels(maker)?;
@@ -58,8 +58,8 @@ impl Plan {
     // Adds a net for each bit of word w, below the number of words.
     fn add_bit_labels(&self, alloc: Global, maker: &mut NetMaker, w: u32) -> Result<(), AllocError>
         requires word { w < length self.now.binding.words }
-        requires room { nets maker.old + self.now.binding.k ≤ 2 ^ 20 }
-        ensures { OnOk result ((word : _) → slice_get self.now.binding.words w ≡ Some word → maker.new ≡ with_labels maker.old (map (bit_label_of word.name) (range_with_len 0 self.now.binding.k))) }
+        requires room { nets maker.old + self.now.binding.k ≤ most_nets }
+        ensures { OnOk result (OfWord self.now.binding w (λ word. maker.new ≡ with_labels maker.old (bit_labels word self.now.binding.k))) }
     {
         for i in 0..self.binding.k() {
             let label = bit_label(alloc, self.binding.name(w), i)?;
@@ -71,8 +71,8 @@ impl Plan {
     // Adds the nets that word w, below the number of words, has after those of the cycles.
     fn add_word_labels(&self, alloc: Global, maker: &mut NetMaker, w: u32) -> Result<(), AllocError>
         requires word { w < length self.now.binding.words }
-        requires room { (word : _) → slice_get self.now.binding.words w ≡ Some word → nets maker.old + fed_bits self.now.binding.k word.role ≤ 2 ^ 20 }
-        ensures { OnOk result ((word : _) → slice_get self.now.binding.words w ≡ Some word → maker.new ≡ with_labels maker.old (map (bit_label_of word.name) (range_with_len 0 (fed_bits self.now.binding.k word.role)))) }
+        requires room { (word : _) → slice_get self.now.binding.words w ≡ Some word → nets maker.old + fed_bits self.now.binding.k word.role ≤ most_nets }
+        ensures { OnOk result (OfWord self.now.binding w (λ word. maker.new ≡ with_labels maker.old (bit_labels word (fed_bits self.now.binding.k word.role)))) }
     {
         match self.binding.role(w) {
             Role::Fed => self.add_bit_labels(alloc, maker, w),
@@ -82,7 +82,7 @@ impl Plan {
 
     // Adds the nets of the bits of the fed words.
     fn add_fed_labels(&self, alloc: Global, maker: &mut NetMaker) -> Result<(), AllocError>
-        requires { nets maker.old + length (fed_labels self.now.binding.k self.now.binding.words) ≤ 2 ^ 20 }
+        requires { nets maker.old + length (fed_labels self.now.binding.k self.now.binding.words) ≤ most_nets }
         ensures { OnOk result (maker.new ≡ with_labels maker.old (fed_labels self.now.binding.k self.now.binding.words)) }
     {
         for w in 0..self.binding.words() {

@@ -1,5 +1,6 @@
 //! The net of all cycles.
-ghost use Rattle.std.specs.Prelude.{◌≡◌, ◌≤◌, ◌<◌, ◌+◌, ◌^◌, not, length, filter, IfOk};
+ghost use Rattle.std.specs.Prelude.{◌≡◌, ◌≤◌, ◌<◌, ◌+◌, not, length, filter, IfOk};
+ghost use Rattle.lists.specs.Limits.{most_nets};
 ghost use Rattle.net_core.specs.NetList.{nets};
 ghost use Rattle.net_core.specs.Sound.{IsSound};
 ghost use Rattle.net_words.specs.BoundTo.{IsBoundTo};
@@ -74,7 +75,7 @@ impl Plan {
     // The net list of all cycles.
     fn laid_out(&self, alloc: Global) -> Result<NetMaker, AllocError>
         requires binding { IsBoundTo self.now.net self.now.binding }
-        requires room { length (gates_to self.now.net self.now.binding self.now.cycles self.now.cycles) ≤ 2 ^ 20 }
+        requires room { length (gates_to self.now.net self.now.binding self.now.cycles self.now.cycles) ≤ most_nets }
         ensures { IfOk result (λ maker. maker ≡ all_cycles self.now.net self.now.binding self.now.cycles) }
     {
         let mut maker = NetMaker::new(alloc);
@@ -89,7 +90,7 @@ impl Plan {
     /// The net of all cycles, where it has no more gates than a net may have.
     pub fn net(&self, alloc: Global) -> Result<Net, AllocError>
         requires binding { IsBoundTo self.now.net self.now.binding }
-        requires room { length (gates_to self.now.net self.now.binding self.now.cycles self.now.cycles) ≤ 2 ^ 20 }
+        requires room { length (gates_to self.now.net self.now.binding self.now.cycles self.now.cycles) ≤ most_nets }
         ensures { IfOk result (λ net. net ≡ all_cycles self.now.net self.now.binding self.now.cycles) }
     {
         let maker = self.laid_out(alloc)?;

@@ -5,7 +5,7 @@ ghost use Rattle.net_words.specs.Binding.{IsBinding};
 ghost use Rattle.net_words.specs.Feeds.{is_fed};
 ghost use Rattle.net_words.specs.Roles.{in_word, stands_in};
 ghost use Rattle.net_words.specs.declared.word.Role.TheVariants.{State};
-ghost use Rattle.unroll.specs.private.Plan.{AreMarks, mark_at, marks_with};
+ghost use Rattle.unroll.specs.private.Plan.{AreMarks, mark_at, marks_with, AreMarkedToo};
 
 use crate::words::nets_of;
 use net_core::Net;
@@ -53,7 +53,7 @@ pub fn fed_marks(alloc: Global, net: &Net, binding: &Bound) -> Result<Vec<bool>,
 fn mark_held(alloc: Global, marks: &mut [bool], binding: &Bound, w: u32) -> Result<(), AllocError>
     requires binding { IsBinding binding.now }
     requires word { w < length binding.now.words }
-    ensures { OnOk result ((word : _) → slice_get binding.now.words w ≡ Some word → (n : ℕ) → n < length marks.new → mark_at marks.new n ≡ (mark_at marks.old n || marks_with word n)) }
+    ensures { OnOk result ((word : _) → slice_get binding.now.words w ≡ Some word → AreMarkedToo (marks_with word) marks.old marks.new) }
 {
     if binding.role(w) != Role::State {
         return Ok(());

@@ -1,5 +1,6 @@
 //! Where the bits of fed words begin.
-ghost use Rattle.std.specs.Prelude.{◌≡◌, ◌<◌, ◌+◌, ◌*◌, ◌≤◌, ◌^◌, IfOk};
+ghost use Rattle.std.specs.Prelude.{◌≡◌, ◌<◌, ◌+◌, ◌*◌, ◌≤◌, IfOk};
+ghost use Rattle.lists.specs.Limits.{most_nets};
 ghost use Rattle.net_core.specs.NetList.{nets};
 ghost use Rattle.unroll.specs.Places.{fed_bits as fed_bits_of, fed_count as fed_count_of};
 ghost use Rattle.unroll.specs.private.Plan.{AreFirstBits, net_count as net_count_of};
@@ -47,7 +48,7 @@ pub fn first_bits(
     cycles: u32,
 ) -> Result<Vec<u32>, AllocError>
     requires cycles { cycles ≤ 4096 }
-    requires few { net_count_of net.now binding.now cycles ≤ 2 ^ 20 }
+    requires few { net_count_of net.now binding.now cycles ≤ most_nets }
     ensures { IfOk result (λ firsts. AreFirstBits net.now binding.now cycles firsts.items) }
 {
     let mut firsts = Vec::new(alloc);

@@ -1,5 +1,6 @@
 //! What the cycles of a net are laid out by.
-ghost use Rattle.std.specs.Prelude.{◌≡◌, ◌<◌, ◌≤◌, ◌+◌, ◌^◌};
+ghost use Rattle.std.specs.Prelude.{◌≡◌, ◌<◌, ◌≤◌, ◌+◌};
+ghost use Rattle.lists.specs.Limits.{most_nets};
 ghost use Rattle.net_core.specs.NetList.{nets};
 ghost use Rattle.net_core.specs.Sound.{IsSound};
 ghost use Rattle.net_words.specs.Feeds.{is_fed as is_fed_net};
@@ -26,7 +27,7 @@ pub struct Plan {
     pub firsts: Vec<u32>,
     ghost sound: { IsSound net },
     ghost short: { cycles ≤ 4096 },
-    ghost few: { net_count net binding cycles ≤ 2 ^ 20 },
+    ghost few: { net_count net binding cycles ≤ most_nets },
     ghost are_fed: { AreMarks (nets net) (is_fed_net binding.feeds) fed.items },
     ghost are_held: { AreMarks (nets net) (in_word State binding.words) held.items },
     ghost are_sources: { AreSources net binding cycles sources.items },

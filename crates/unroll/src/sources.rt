@@ -1,5 +1,6 @@
 //! What fed nets hold, cycle by cycle.
-ghost use Rattle.std.specs.Prelude.{◌≡◌, ◌<◌, ◌≤◌, ◌+◌, ◌*◌, ◌^◌, ℕ, length, slice_index_or, slice_set, IfOk};
+ghost use Rattle.std.specs.Prelude.{◌≡◌, ◌<◌, ◌≤◌, ◌+◌, ◌*◌, ℕ, length, slice_index_or, slice_set, IfOk};
+ghost use Rattle.lists.specs.Limits.{most_nets};
 ghost use Rattle.lists.specs.Lists.{Has};
 ghost use Rattle.net_core.specs.NetList.{nets};
 ghost use Rattle.net_words.specs.BoundTo.{IsBoundTo};
@@ -16,7 +17,7 @@ use std::alloc::{AllocError, Global};
 fn put_source(sources: &mut [Source], nets: u32, cycles: u32, feed: &Feed)
     requires net { feed.now.net < nets }
     requires long { length sources.old ≡ cycle_nets nets cycles }
-    requires few { cycle_nets nets cycles ≤ 2 ^ 20 }
+    requires few { cycle_nets nets cycles ≤ most_nets }
     ensures put { feed.now.cycle ≤ cycles → sources.new ≡ slice_set sources.old (net_at nets feed.now.cycle feed.now.net) feed.now.source }
     ensures kept { cycles < feed.now.cycle → sources.new ≡ sources.old }
 {
@@ -29,7 +30,7 @@ fn put_source(sources: &mut [Source], nets: u32, cycles: u32, feed: &Feed)
 fn put_sources(sources: &mut [Source], nets: u32, cycles: u32, feeds: &[Feed])
     requires nets { (feed : _) → Has feeds.now feed → feed.net < nets }
     requires long { length sources.old ≡ cycle_nets nets cycles }
-    requires few { cycle_nets nets cycles ≤ 2 ^ 20 }
+    requires few { cycle_nets nets cycles ≤ most_nets }
     requires zeros { (i : ℕ) → i < length sources.old → slice_index_or sources.old i Zero ≡ Zero }
     ensures { (t n : ℕ) → t ≤ cycles → n < nets → slice_index_or sources.new (net_at nets t n) Zero ≡ source_at feeds.now n t }
 {
@@ -47,7 +48,7 @@ pub fn sources(
 ) -> Result<Vec<Source>, AllocError>
     requires binding { IsBoundTo net.now binding.now }
     requires cycles { cycles ≤ 4096 }
-    requires few { cycle_nets (nets net.now) cycles ≤ 2 ^ 20 }
+    requires few { cycle_nets (nets net.now) cycles ≤ most_nets }
     ensures { IfOk result (λ sources. AreSources net.now binding.now cycles sources.items) }
 {
     let nets = net.nets();

@@ -1,5 +1,6 @@
 //! Nets with words, unrolled into one cycle.
-ghost use Rattle.std.specs.Prelude.{◌≡◌, ◌≢◌, ◌≤◌, ◌<◌, ◌^◌, ◌↔◌, Err, length, IfOk, IfErr, IsErrOf, OnOk};
+ghost use Rattle.std.specs.Prelude.{◌≡◌, ◌≢◌, ◌≤◌, ◌<◌, ◌↔◌, Err, length, IfOk, IfErr, IsErrOf, OnOk};
+ghost use Rattle.lists.specs.Limits.{most_nets};
 ghost use Rattle.net_core.specs.NetList.{nets};
 ghost use Rattle.net_words.specs.BoundTo.{IsBoundTo};
 ghost use Rattle.unroll.specs.Gates.{gates_to};
@@ -22,7 +23,7 @@ const MOST: u64 = 1 << 20;
 fn plan(alloc: Global, net: Net, binding: Bound, cycles: u32) -> Result<Plan, AllocError>
     requires binding { IsBoundTo net binding }
     requires cycles { cycles ≤ 4096 }
-    requires few { net_count_of net binding cycles ≤ 2 ^ 20 }
+    requires few { net_count_of net binding cycles ≤ most_nets }
     ensures net { IfOk result (λ plan. plan.net ≡ net) }
     ensures binding { IfOk result (λ plan. plan.binding ≡ binding) }
     ensures cycles { IfOk result (λ plan. plan.cycles ≡ cycles) }
@@ -46,7 +47,7 @@ impl Plan {
     // The net of all cycles with its words, where it has no more gates than a net may have.
     fn circuit(&self, alloc: Global) -> Result<Combinational, AllocError>
         requires binding { IsBoundTo self.now.net self.now.binding }
-        requires room { length (gates_to self.now.net self.now.binding self.now.cycles self.now.cycles) ≤ 2 ^ 20 }
+        requires room { length (gates_to self.now.net self.now.binding self.now.cycles self.now.cycles) ≤ most_nets }
         ensures { IfOk result (λ circuit. circuit ≡ in_one_cycle self.now.net self.now.binding self.now.cycles) }
     {
         let net = self.net(alloc)?;
@@ -64,7 +65,7 @@ fn within_gates(alloc: Global, plan: Plan) -> Result<Combinational, UnrollFault>
     requires { IsBoundTo plan.net plan.binding }
     ensures made { IfOk result (λ circuit. circuit ≡ in_one_cycle plan.net plan.binding plan.cycles) }
     ensures other { IfErr result (λ fault. fault ≢ UnrollFault.TooManyNets) }
-    ensures gates { IsErrOf result UnrollFault.TooManyGates → 2 ^ 20 < length (in_one_cycle plan.net plan.binding plan.cycles).net.gates }
+    ensures gates { IsErrOf result UnrollFault.TooManyGates → most_nets < length (in_one_cycle plan.net plan.binding plan.cycles).net.gates }
 {
     if plan.gate_count() > MOST {
         return Err(UnrollFault::TooManyGates);
@@ -85,8 +86,8 @@ fn all_cycles(
     requires binding { IsBoundTo net binding }
     requires cycles { cycles ≤ 4096 }
     ensures made { IfOk result (λ circuit. circuit ≡ in_one_cycle net binding cycles) }
-    ensures nets { (result ≡ Err UnrollFault.TooManyNets) ↔ (2 ^ 20 < nets (in_one_cycle net binding cycles).net) }
-    ensures gates { IsErrOf result UnrollFault.TooManyGates → 2 ^ 20 < length (in_one_cycle net binding cycles).net.gates }
+    ensures nets { (result ≡ Err UnrollFault.TooManyNets) ↔ (most_nets < nets (in_one_cycle net binding cycles).net) }
+    ensures gates { IsErrOf result UnrollFault.TooManyGates → most_nets < length (in_one_cycle net binding cycles).net.gates }
 {
     if net_count(&net, &binding, cycles) > MOST {
         return Err(UnrollFault::TooManyNets);
@@ -113,9 +114,9 @@ pub fn unroll(
     requires binding { IsBoundTo net binding }
     requires cycles { cycles ≤ 4096 }
     ensures made { IfOk result (λ circuit. circuit ≡ unrolled net binding cycles) }
-    ensures nets { (result ≡ Err UnrollFault.TooManyNets) ↔ (2 ^ 20 < nets (unrolled net binding cycles).net) }
-    ensures gates { IsErrOf result UnrollFault.TooManyGates → 2 ^ 20 < length (unrolled net binding cycles).net.gates }
-    ensures room { OnOk result (length (unrolled net binding cycles).net.gates ≤ 2 ^ 20) }
+    ensures nets { (result ≡ Err UnrollFault.TooManyNets) ↔ (most_nets < nets (unrolled net binding cycles).net) }
+    ensures gates { IsErrOf result UnrollFault.TooManyGates → most_nets < length (unrolled net binding cycles).net.gates }
+    ensures room { OnOk result (length (unrolled net binding cycles).net.gates ≤ most_nets) }
 {
     match Combinational::new(net, binding) {
         Ok(circuit) => Ok(circuit),

@@ -3,8 +3,8 @@ ghost use Rattle.std.specs.Prelude.{◌≡◌, ◌<◌, ◌++◌, Some, length, 
 ghost use Rattle.net_core.specs.NetList.{nets};
 ghost use Rattle.net_words.specs.Binding.{IsBinding};
 ghost use Rattle.net_words.specs.BoundTo.{IsBoundTo};
-ghost use Rattle.unroll.specs.Places.{cycle_nets, first_bit};
-ghost use Rattle.unroll.specs.Unrolled.{nets_with, unrolled_nets};
+ghost use Rattle.unroll.specs.Unrolled.{unrolled_nets, nets_of_word};
+ghost use Rattle.unroll.specs.private.Plan.{OfWord};
 
 use crate::plan::Plan;
 use net_words::{Bound, Role};
@@ -32,7 +32,7 @@ impl Plan {
         requires binding { IsBoundTo self.now.net self.now.binding }
         requires word { w < length self.now.binding.words }
         requires place { place < self.now.binding.k }
-        ensures { (word : _) → slice_get self.now.binding.words w ≡ Some word → result ≡ slice_index (nets_with (nets self.now.net) self.now.cycles self.now.binding.k (first_bit self.now.binding.k (cycle_nets (nets self.now.net) self.now.cycles) self.now.binding.words w) word.role word.nets) place }
+        ensures { (word : _) → slice_get self.now.binding.words w ≡ Some word → result ≡ slice_index (nets_of_word self.now.net self.now.binding self.now.cycles w word) place }
     {
         match self.binding.role(w) {
             Role::Fed => self.bit_net(w, place),
@@ -45,7 +45,7 @@ impl Plan {
     fn add_word_nets(&self, list: &mut Vec<u32>, w: u32) -> Result<(), AllocError>
         requires binding { IsBoundTo self.now.net self.now.binding }
         requires word { w < length self.now.binding.words }
-        ensures { OnOk result ((word : _) → slice_get self.now.binding.words w ≡ Some word → list.new.items ≡ list.old.items ++ nets_with (nets self.now.net) self.now.cycles self.now.binding.k (first_bit self.now.binding.k (cycle_nets (nets self.now.net) self.now.cycles) self.now.binding.words w) word.role word.nets) }
+        ensures { OnOk result (OfWord self.now.binding w (λ word. list.new.items ≡ list.old.items ++ nets_of_word self.now.net self.now.binding self.now.cycles w word)) }
     {
         for place in 0..self.binding.k() {
             list.push(self.place_net(w, place))?;

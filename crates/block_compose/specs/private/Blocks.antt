@@ -47,9 +47,13 @@ module _ (k : ℕ) (mul : ℕ → ℕ → ℕ) (blocks : List BlockValue) (circu
     pub bits : circuit.binding.k ≡ k
     pub bases_are : AreBases k mul circuit list
 
-  -- the block of each of these numbers has a circuit and bases
+  -- the block has a circuit and bases
+  abbrev pub IsKept : ℕ → Type 0
+  IsKept number = (circuit : BoundNet) × (list : List Basis) × IsKeptBlock number circuit list
+
+  -- so has the block of each of these numbers
   abbrev pub AreKeptBlocks : List ℕ → Type 0
-  AreKeptBlocks numbers = (i number : ℕ) → slice_get numbers i ≡ Some number → (circuit : BoundNet) × (list : List Basis) × IsKeptBlock number circuit list
+  AreKeptBlocks numbers = (i number : ℕ) → slice_get numbers i ≡ Some number → IsKept number
 
   module _ (bound : ℕ) where
     -- the terms of a block's output in words, where none of its stages is over the bound
@@ -86,3 +90,7 @@ module _ (k : ℕ) (mul : ℕ → ℕ → ℕ) (blocks : List BlockValue) (circu
       pub at : slice_get numbers place ≡ Some number
       pub refused : IsStageRefused number fault
       pub before : (j m : ℕ) → j < place → slice_get numbers j ≡ Some m → (m ≢ number) × ((ts : Terms) × IsBlockPoly m ts)
+
+    -- so it is, or there is no memory
+    abbrev pub IsFirstRefused : List ℕ → ComposeFault → Type 0
+    IsFirstRefused numbers fault = (fault ≡ OutOfMemory) ⊎ IsFirstBlockOver numbers fault

@@ -57,6 +57,10 @@ pub record IsFoundFor (candidates : List CandidateValue) (placed : PlacedValue) 
   pub actuals : actuals_by placed.connections word.nets ≡ Some nets
   pub has : Has candidates (record { feed = feed; nets = nets; basis = word.basis })
 
+-- nothing is found for the word of this place
+abbrev pub IsUnfedAt : List CandidateValue → PlacedValue → ℕ → Type 0
+IsUnfedAt candidates placed place = (word : NamedWord) (feed : Feeder) → slice_get placed.words place ≡ Some word → IsFoundFor candidates placed word feed → ⊥
+
 -- the feed is that of the first candidate on these nets and with this basis
 pub record IsFirstOn (candidates : List CandidateValue) (nets : List Token) (basis : List ℕ) (feed : Feeder) : Type 0 where
   pub place : ℕ

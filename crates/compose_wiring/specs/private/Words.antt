@@ -1,7 +1,10 @@
 -- Words of blocks, step by step. Source: this project's own.
-use Rattle.std.specs.Prelude.{◌≡◌, ℕ, ◌≤◌, Bool, List, length, is_some}
+use Rattle.std.specs.Prelude.{◌≡◌, ℕ, ◌≤◌, Bool, List, Some, length, slice_get, is_some}
 use Rattle.std.specs.List.{list_any}
 use Rattle.lists.specs.Lists.{Has}
+use Rattle.gf_basis.specs.BasisParts.{elements_of}
+use Rattle.gf_basis.specs.declared.bases.Basis.{Basis}
+use Rattle.net_words.specs.declared.word.WordText.{WordText}
 use Rattle.net_blif.specs.Instances.{is_among}
 use Rattle.net_blif.specs.Statement.{Token}
 use Rattle.net_blif.specs.Table.{Numbers}
@@ -30,3 +33,7 @@ pub record AreOf (k : ℕ) (words : List NamedWord) : Type 0 where
   pub few : length words ≤ 9
   pub nets : (word : NamedWord) → Has words word → length word.nets ≡ k
   pub bases : (word : NamedWord) → Has words word → length word.basis ≡ k
+
+-- a word with the elements of a basis is the word and the basis of this place, with the elements of the basis
+abbrev pub IsNamedAt : List WordText → List Basis → ℕ → NamedWord → Type 0
+IsNamedAt words bases place named = (word : WordText) (basis : Basis) → slice_get words place ≡ Some word → slice_get bases place ≡ Some basis → named ≡ record { role = word.role; nets = word.nets; basis = elements_of basis }

@@ -7,6 +7,7 @@ use Rattle.gf_field.specs.Polynomial.{coefficient}
 use Rattle.gf_field.specs.Quotient.{product}
 use Rattle.gf_field.specs.Trace.{frobenius}
 use Rattle.gf_tower.specs.FieldName.{tower_product}
+use Rattle.gf_tower.specs.Tower.{tower_polynomial}
 use Rattle.gf_iso.specs.Root.{value_at}
 
 -- g of degree n makes a field of numbers of at most 16 bits
@@ -25,6 +26,10 @@ pub record IsTowerField (n g c0 c1 : ℕ) : Type 0 where
 -- the value at s of the polynomial whose n coefficients are the bits of u
 unfoldable pub base_image : (ℕ → ℕ → ℕ) → (n s u : ℕ) → ℕ
 base_image big n s u = value_at big n (coefficient 1 u) s
+
+-- the coefficients of Y^2 + c1 * Y + c0, each the value at s of the polynomial whose n coefficients are its bits
+abbrev pub carried_over : (ℕ → ℕ → ℕ) → (n s c0 c1 : ℕ) → ℕ → ℕ
+carried_over big n s c0 c1 i = base_image big n s (coefficient n (tower_polynomial n (c0 ∷ c1 ∷ [])) i)
 
 -- y squared n times, plus y
 abbrev pub fixed : (ℕ → ℕ → ℕ) → (n y : ℕ) → ℕ

@@ -1,10 +1,13 @@
 -- The bits of cycles that the plain program finds, for the clauses of private functions. Source: this project's own.
-use Rattle.std.specs.Prelude.{◌≡◌, ℕ, Bool, true, false, List, Some, map, slice_get}
+use Rattle.std.specs.Prelude.{◌≡◌, ◌==◌, ℕ, Bool, true, false, List, Some, map, slice_get}
+use Rattle.std.specs.Int.{bit_at}
 use Rattle.lists.specs.Lists.{Has}
 use Rattle.net_core.specs.LatchValue.{LatchValue}
 use Rattle.net_core.specs.Value.{bit_of}
 use Rattle.net_words.specs.declared.word.Role.{Role}
 use Rattle.net_words.specs.declared.word.Role.TheVariants.{Input, State}
+use Rattle.gf_basis.specs.Basis.{AreBits}
+use Rattle.gf_basis.specs.BasisParts.{elements_of}
 use Rattle.circuit_model.specs.declared.circuit_feed.CircuitFeed.{CircuitFeed}
 use Rattle.circuit_model.specs.declared.circuit_word.CircuitWord.{CircuitWord}
 use Rattle.circuit_model.specs.Word.{HasElement}
@@ -66,3 +69,7 @@ pub record IsReached (job : ℕ → Circuit) (xs : List ℕ) (t : ℕ) (bits : L
   pub run : List (List Bool)
   pub is_run : IsRun (job t) xs run
   pub at : slice_get run t ≡ Some bits
+
+-- where word i has element i, the bit is that of word w's element at this place
+abbrev pub IsWordBit : List CircuitWord → List ℕ → ℕ → ℕ → Bool → Type 0
+IsWordBit words xs w place b = (word : CircuitWord) (x d : ℕ) → slice_get words w ≡ Some word → slice_get xs w ≡ Some x → AreBits (elements_of word.basis) x d → b ≡ (bit_at d place == 1)

@@ -1,15 +1,20 @@
 -- What the expansion keeps: polynomials of functions of the input, and the stages that are within the bound.
 -- Source: this project's own.
-use Rattle.std.specs.Prelude.{◌≡◌, ℕ, ◌<◌, ◌≤◌, List, length}
+use Rattle.std.specs.Prelude.{◌≡◌, ℕ, ◌+◌, ◌*◌, ◌<◌, ◌≤◌, List, Some, length, slice_get}
+use Rattle.gf_field.specs.Trace.{frobenius}
+use Rattle.irreducible.specs.Span.{combination}
+use Rattle.gf_basis.specs.Basis.{first_values}
 use Rattle.net_core.specs.Sound.{IsSound}
 use Rattle.net_words.specs.Binding.{BoundNet}
 use Rattle.net_words.specs.OneCycle.{IsOneCycle}
 use Rattle.gf_basis.specs.declared.bases.Basis.{Basis}
-use Rattle.poly_mixed.specs.Polynomial.{Terms, Point, IsPoint, IsReduced, value}
+use Rattle.poly_mixed.specs.Polynomial.{Terms, Point, IsPoint, IsReduced, IsPolynomialOf, value}
+use Rattle.poly_mixed.specs.Table.{index}
 use Rattle.poly_mixed.specs.declared.stage.ReduceFault.{ReduceFault}
 use Rattle.poly_mixed.specs.declared.stage.ReduceFault.TheVariants.{TooManyTerms, OutOfMemory}
 use Rattle.poly_mixed.specs.declared.stage.Stage.{Stage}
 use Rattle.poly_mixed.specs.declared.stage.Stage.TheVariants.{Cut, WordProduct, WordSum, SpecProduct, SpecSum, InstanceProduct, InstanceSum}
+use Rattle.circuit_model.specs.Word.{Word}
 use Rattle.circuit_model.specs.Circuit.{Circuit, IsInput}
 use Rattle.stage_model.specs.InputPoint.{IsAtInput}
 use Rattle.stage_model.specs.Stage.{HasSize, IsWithin}
@@ -25,6 +30,18 @@ pub record IsSetting (k : ℕ) (mul : ℕ → ℕ → ℕ) (netlist : BoundNet) 
   pub bits : netlist.binding.k ≡ k
   pub bases_are : AreBases k mul netlist bases
   pub places_are : places ≡ places_from 0 netlist.binding.words
+
+-- the word of this number among the input, state and fed words has this basis
+abbrev pub HasBasisAt : Circuit → ℕ → List ℕ → Type 0
+HasBasisAt circuit w basis = (word : Word) × (slice_get circuit.words w ≡ Some word) × (word.basis ≡ basis)
+
+-- the element of these basis elements whose bits the point has at the places of word w
+abbrev pub element_in_bits : ℕ → List ℕ → ℕ → Point → ℕ
+element_in_bits k elements w p = combination elements (index p.is_one (first_values k (λ i. k * w + i)))
+
+-- the polynomial of that element to the power 2^j
+abbrev pub IsPowerInBits : ℕ → (ℕ → ℕ → ℕ) → List ℕ → ℕ → ℕ → Terms → Type 0
+IsPowerInBits k mul elements w j ts = IsPolynomialOf k mul (λ p. frobenius mul j (element_in_bits k elements w p)) ts
 
 module _ (circuit : Circuit) where
   -- a reduced polynomial that has the function's value at each point with the bits of an input
@@ -44,6 +61,10 @@ module _ (circuit : Circuit) where
   pub record IsReached (t : ℕ × List (ℕ × ℕ)) (bound n : ℕ) (ts : Terms) : Type 0 where
     pub is : IsOfInput (λ xs. product_at circuit.product xs t n) ts
     pub within : AreProductsWithin t n bound
+
+  -- the product of a term with all its factors was reached
+  abbrev pub IsAllReached : ℕ × List (ℕ × ℕ) → ℕ → Terms → Type 0
+  IsAllReached t bound ts = IsReached t bound (length (factors_of t.1)) ts
 
   -- of the products of a term the one with j factors is the first over the bound, and has n terms
   pub record IsProductOver (t : ℕ × List (ℕ × ℕ)) (bound j n : ℕ) : Type 0 where

@@ -6,6 +6,7 @@ use Rattle.spec_text.specs.Token.{Token, name, hex, decimal, equals, plus, times
 use Rattle.spec_expand.specs.Specification.{SpecTerms}
 use Rattle.spec_text.specs.declared.fault.SpecFault.{SpecFault}
 use Rattle.spec_text.specs.declared.fault.SpecFault.TheVariants.{Syntax, UnknownWord, BadNumber, OutOfMemory}
+use Rattle.spec_text.specs.declared.reader.Reading.{Reading}
 use Rattle.spec_text.specs.declared.reader.Next.{Next}
 use Rattle.spec_text.specs.declared.reader.Next.TheVariants.{Output, Assign, Factor, AfterNumber, AfterName, Exponent}
 
@@ -151,3 +152,11 @@ IsStep said ts c ps (Err e) = IsSaid said e
 abbrev pub IsEnd : Result SpecTerms SpecFault → SpecTerms → Result (Unit {0}) SpecFault → Type 0
 IsEnd said ts (Ok u) = said ≡ Ok ts
 IsEnd said ts (Err e) = IsSaid said e
+
+-- what was read so far, where this may come next
+abbrev pub so_far : Reading → Next → Progress
+so_far reading next = progress next reading.terms.items reading.coefficient reading.powers.items
+
+-- what a step gives, and what was read after it, is what was said
+abbrev pub StepsTo : Read → Reading → Result Next SpecFault → Type 0
+StepsTo said reading result = IsStep said reading.terms.items reading.coefficient reading.powers.items result

@@ -1,5 +1,6 @@
 -- What is known while the cycles of a net are laid out. Source: this project's own.
-use Rattle.std.specs.Prelude.{◌≡◌, ℕ, ◌<◌, ◌≤◌, ◌+◌, ◌^◌, ◌&&◌, Bool, false, List, [], ◌++◌, Some, length, slice_get, slice_index_or}
+use Rattle.std.specs.Prelude.{◌≡◌, ℕ, ◌<◌, ◌≤◌, ◌+◌, ◌&&◌, ◌||◌, Bool, false, List, [], ◌++◌, Some, length, slice_get, slice_index_or}
+use Rattle.lists.specs.Limits.{most_nets}
 use Rattle.net_core.specs.GateValue.{GateValue}
 use Rattle.net_core.specs.NetList.{NetList, LabelValue, nets}
 use Rattle.net_words.specs.Binding.{Binding}
@@ -50,7 +51,7 @@ with_labels net labels = record net { labels = net.labels ++ labels }
 pub record HasRoom (count : ℕ) (more : ℕ) (net : NetList) : Type 0 where
   pub nets_are : nets net ≡ count
   pub flat : net.latches ≡ []
-  pub room : length net.gates + more ≤ 2 ^ 20
+  pub room : length net.gates + more ≤ most_nets
 
 -- with more primary inputs
 abbrev pub with_inputs : NetList → List ℕ → NetList
@@ -63,3 +64,15 @@ with_outputs net list = record net { outputs = net.outputs ++ list }
 -- the word is fed, and the place is one of its bits
 abbrev pub IsBit : Binding → ℕ → ℕ → Type 0
 IsBit binding w place = (place < binding.k) × ((word : BoundWord) × (slice_get binding.words w ≡ Some word) × (word.role ≡ Fed))
+
+-- the net list has the nets of all cycles and no latch, and room for these gates
+abbrev pub HasRoomFor : NetList → Binding → ℕ → List GateValue → NetList → Type 0
+HasRoomFor net binding c gates made = HasRoom (net_count net binding c) (length gates) made
+
+-- the nets of the test are marked, too
+abbrev pub AreMarkedToo : (ℕ → Bool) → List Bool → List Bool → Type 0
+AreMarkedToo test before after = (n : ℕ) → n < length after → mark_at after n ≡ (mark_at before n || test n)
+
+-- what is said of word w of the binding
+abbrev pub OfWord : Binding → ℕ → (BoundWord → Type 0) → Type 0
+OfWord binding w P = (word : BoundWord) → slice_get binding.words w ≡ Some word → P word

@@ -2,4 +2,4 @@ use Rattle.compose_model.proofs.OutputLemmas.{output_value}
 use Rattle.compose_model.proofs.laws.output_is_the_value_of_its_feed.Goals as goal
 
 pub returns : goal.returns
-returns c = λ k mul h rows top feed xs e ring field given all is fed out. output_value k mul ring field h given rows all top feed xs e is fed out
+returns c = λ top flat feed xs e fed is out. output_value top.k top.product fed.over.ring fed.over.no_zero_divisors top.hierarchy fed.over.given top.rows fed.feeds flat feed xs e is.circuit is.output out

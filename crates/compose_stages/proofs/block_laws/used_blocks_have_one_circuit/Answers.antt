@@ -9,4 +9,4 @@ pub returns-clause-number : goal.returns-clause-number
 returns-clause-number c = λ h b d i x y. one_number h b d i i x y refl
 
 pub returns-clause-circuit : goal.returns-clause-circuit
-returns-clause-circuit c = λ k mul h b circuit other x y. one_used k mul h b circuit other x y
+returns-clause-circuit c = one_used

@@ -1,9 +1,10 @@
 use Rattle.std.proofs.Common.{◌+◌, drop, subst, [], ◌∷◌}
 use Rattle.std.specs.List.{AllByRecursion}
+use Rattle.lists.specs.laws.TakeLaws.{drop_read}
 use Rattle.poly_mixed.specs.Polynomial.{Terms}
 use Rattle.rato_reduce.specs.private.CutTerms.{IsBitTerm}
 use Rattle.rato_reduce.specs.Monomials.{monomials}
-use Rattle.rato_reduce.proofs.CutPartLemmas.{drop_read, step_products}
+use Rattle.rato_reduce.proofs.CutPartLemmas.{step_products}
 use Rattle.rato_reduce.proofs.eliminate.add_all_lines.Goals as goal
 
 pub loop-term-preserved : goal.loop-term-preserved

@@ -1,9 +1,10 @@
 use Rattle.poly_mixed.proofs.FieldLaws.{field_of, IsField}
-use Rattle.std.proofs.Common.{◌≡◌, ◌<◌, ℕ, true, false, List, [], ◌∷◌, length, cond, bit_xor, ◌==◌, sym, ap, subst, ◌∙◌, refl, arith}
+use Rattle.std.proofs.Common.{◌≡◌, ◌<◌, ℕ, true, false, [], ◌∷◌, length, cond, bit_xor, ◌==◌, sym, ap, subst, ◌∙◌, refl, arith}
 use lib.Bits.{xor_zero_l}
 use Rattle.std.specs.List.{AllByRecursion}
 use Rattle.std.proofs.lemmas.Bool.{eqb-true}
 use Rattle.std.proofs.lemmas.Result.{on_ok_weaker}
+use Rattle.std.proofs.lemmas.List.{nil_from_length}
 use Rattle.net_core.specs.NetList.{nets}
 use Rattle.net_words.specs.Variables.{variables}
 use Rattle.poly_mixed.specs.Monomial.{text_cmp}
@@ -23,10 +24,6 @@ use Rattle.rato_reduce.specs.GatePoint.{gate_bit_at}
 use Rattle.rato_reduce.proofs.InsideLemmas.{out_below}
 use Rattle.rato_reduce.proofs.PutInLemmas.{put_in, put_nothing}
 use Rattle.rato_reduce.proofs.eliminate.eliminate.Goals as goal
-
-none : {A : Type 0} (xs : List A) → length xs ≡ 0 → xs ≡ []
-none [] e = refl
-none (x ∷ xs) e = absurd (omega arith)
 
 zero_length : (n : ℕ) → true ≡ (n == 0) → n ≡ 0
 zero_length n e = eqb-true n 0 (sym e)
@@ -52,7 +49,7 @@ returns-then-is_empty-clause-values g c p at =
     let order = variables (nets c.args.circuit.now.net) c.args.circuit.now.binding.words in
     let gate = c.args.gate.now in
     let old = c.args.cut.now.terms in
-    let empty : c.take_with.new.part.items ≡ [] = none c.take_with.new.part.items (let z = zero_length c.take_with.new.part.len c.if-is_empty.ensures in omega arith) in
+    let empty : c.take_with.new.part.items ≡ [] = nil_from_length c.take_with.new.part.items (let z = zero_length c.take_with.new.part.len c.if-is_empty.ensures in omega arith) in
     let nothing : cofactors c.rank-rank.result old ≡ [] = none_of_absent c.rank-rank.result old (c.in_ok-take_with.ensures.stands.1 empty) in
     let rank : c.rank-rank.result ≡ rank_in order gate.out = c.rank-rank.ensures ∙ ap (rank_in order) c.out.ensures in
     ap (λ (ts : Terms). value mul p ts) c.in_ok-take_with.ensures.left
@@ -64,7 +61,7 @@ returns-then-is_empty-clause-steps g c =
     let order = variables (nets c.args.circuit.now.net) c.args.circuit.now.binding.words in
     let gate = c.args.gate.now in
     let old = c.args.cut.now.terms in
-    let empty : c.take_with.new.part.items ≡ [] = none c.take_with.new.part.items (let z = zero_length c.take_with.new.part.len c.if-is_empty.ensures in omega arith) in
+    let empty : c.take_with.new.part.items ≡ [] = nil_from_length c.take_with.new.part.items (let z = zero_length c.take_with.new.part.len c.if-is_empty.ensures in omega arith) in
     let rank : c.rank-rank.result ≡ rank_in order gate.out = c.rank-rank.ensures ∙ ap (rank_in order) c.out.ensures in
     let P : ℕ → Type 0 = λ r. LacksBit r old in
     let lacks : LacksBit (rank_in order gate.out) old = subst P rank (c.in_ok-take_with.ensures.stands.1 empty) in

@@ -1,11 +1,12 @@
 use Rattle.std.proofs.Common.{◌≡◌, ◌<◌, ℕ, List, Some, length, get_or, sym, ◌∙◌, ap, subst}
 use Rattle.std.specs.Prelude.{slice_get}
 use Rattle.std.proofs.lemmas.Option.{slice_get-get_or}
+use Rattle.lists.specs.laws.ReadLaws.{got_read}
 use Rattle.net_core.specs.GateValue.{GateValue}
 use Rattle.net_core.specs.NetList.{NetList, nets}
 use Rattle.net_core.specs.Sound.{IsSound}
 use Rattle.rato_reduce.proofs.InsideLemmas.{out_below}
-use Rattle.rato_reduce.proofs.TurnLemmas.{position_inside, read_at}
+use Rattle.rato_reduce.proofs.TurnLemmas.{position_inside}
 use Rattle.rato_reduce.proofs.first_cut.places.Goals as goal
 
 pub bounds-gates-order : goal.bounds-gates-order
@@ -31,4 +32,4 @@ rank-rank-requires c =
     let N : NetList → Type 0 = λ n. IsSound n in
     let P : ℕ → Type 0 = λ n. n < nets net in
     let sound = subst N c.net-net.ensures.net c.gates-gates.ensures.sound in
-    subst P (sym c.out.ensures) (out_below net gate sound (position, subst S gates (read_at c.gates-gates.result.now position gate (subst L (sym gates) inside) c.index-gates-order.is)))
+    subst P (sym c.out.ensures) (out_below net gate sound (position, subst S gates (got_read c.gates-gates.result.now position gate (subst L (sym gates) inside) c.index-gates-order.is)))

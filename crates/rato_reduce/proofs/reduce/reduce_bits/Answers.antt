@@ -6,11 +6,12 @@ use Rattle.stage_model.specs.Cut.{BoundCut}
 use Rattle.stage_model.specs.Listing.{IsRefusal, cut_listing}
 use Rattle.rato_reduce.proofs.BoundLemmas.{none_before, one_more, just, all_within}
 use Rattle.rato_reduce.proofs.RecordedLemmas.{nothing_recorded}
-use Rattle.rato_reduce.proofs.TurnLemmas.{position_inside, read_at, first_now, turn, told_more, is_cut, is_recorded}
+use Rattle.rato_reduce.proofs.TurnLemmas.{position_inside, first_now, turn, told_more, is_cut, is_recorded}
 use Rattle.std.specs.Prelude.{slice_get}
 use Rattle.poly_mixed.specs.Polynomial.{Terms}
 use Rattle.std.proofs.Common.{Some}
 use Rattle.lists.specs.Lists.{Has}
+use Rattle.lists.specs.laws.ReadLaws.{got_read}
 use Rattle.net_core.specs.GateValue.{GateValue}
 use Rattle.net_core.specs.NetList.{NetList, nets}
 use Rattle.net_core.specs.Sound.{IsSound}
@@ -81,7 +82,7 @@ bounds-gates-index g c =
     let E : NetList → Type 0 = λ n. IsElimination n order in
     let is = subst E c.net-net.ensures.net c.in_ok-order.ensures in
     let gates : c.gates.result.now ≡ net.gates = c.gates.ensures.gates ∙ ap (λ (n : NetList). n.gates) c.net-net.ensures.net in
-    let inside = position_inside net order c.loop-t.t c.index.result.now is (read_at order c.loop-t.t c.index.result.now (omega arith) c.index.ensures) in
+    let inside = position_inside net order c.loop-t.t c.index.result.now is (got_read order c.loop-t.t c.index.result.now (omega arith) c.index.ensures) in
     let L : List GateValue → Type 0 = λ gs. c.index.result.now < length gs in
     subst L (sym gates) inside
 
@@ -92,10 +93,10 @@ eliminate-requires-clause-gate g c =
     let E : NetList → Type 0 = λ n. IsElimination n order in
     let is = subst E c.net-net.ensures.net c.in_ok-order.ensures in
     let gates : c.gates.result.now ≡ net.gates = c.gates.ensures.gates ∙ ap (λ (n : NetList). n.gates) c.net-net.ensures.net in
-    let inside = position_inside net order c.loop-t.t c.index.result.now is (read_at order c.loop-t.t c.index.result.now (omega arith) c.index.ensures) in
+    let inside = position_inside net order c.loop-t.t c.index.result.now is (got_read order c.loop-t.t c.index.result.now (omega arith) c.index.ensures) in
     let L : List GateValue → Type 0 = λ gs. c.index.result.now < length gs in
     let S : List GateValue → Type 0 = λ gs. slice_get gs c.index.result.now ≡ Some c.index-gates-index.result in
-    (c.index.result.now, subst S gates (read_at c.gates.result.now c.index.result.now c.index-gates-index.result (subst L (sym gates) inside) c.index-gates-index.is))
+    (c.index.result.now, subst S gates (got_read c.gates.result.now c.index.result.now c.index-gates-index.result (subst L (sym gates) inside) c.index-gates-index.is))
 
 pub returns-in_err-check_size-2-clause-fault : goal.returns-in_err-check_size-2-clause-fault
 returns-in_err-check_size-2-clause-fault g c =
@@ -109,10 +110,10 @@ returns-in_err-check_size-2-clause-fault g c =
     let gates : c.gates.result.now ≡ circuit.net.gates = c.gates.ensures.gates ∙ ap (λ (n : NetList). n.gates) c.net-net.ensures.net in
     let N : NetList → Type 0 = λ n. IsSound n in
     let sound = subst N c.net-net.ensures.net c.gates.ensures.sound in
-    let at = read_at order c.loop-t.t c.index.result.now (omega arith) c.index.ensures in
+    let at = got_read order c.loop-t.t c.index.result.now (omega arith) c.index.ensures in
     let L : List GateValue → Type 0 = λ gs. c.index.result.now < length gs in
     let S : List GateValue → Type 0 = λ gs. slice_get gs c.index.result.now ≡ Some c.index-gates-index.result in
-    let at_net = subst S gates (read_at c.gates.result.now c.index.result.now c.index-gates-index.result (subst L (sym gates) (position_inside circuit.net order c.loop-t.t c.index.result.now is at)) c.index-gates-index.is) in
+    let at_net = subst S gates (got_read c.gates.result.now c.index.result.now c.index-gates-index.result (subst L (sym gates) (position_inside circuit.net order c.loop-t.t c.index.result.now is at)) c.index-gates-index.is) in
     let next = turn degree mul circuit basis order is c.loop-t.t c.index.result.now c.index-gates-index.result c.loop-t.cut.terms c.eliminate.new.cut.terms sound c.net-net.ensures.is_bound at at_net c.loop-t.invariant.is c.in_ok-eliminate.ensures.reduced c.in_ok-eliminate.ensures.values in
     let long : length order ≡ length circuit.net.gates = elimination_long circuit.net order is in
     let fault : IsRefusal degree mul (cut_listing (length circuit.net.gates + 1) (BoundCut circuit basis)) c.args.bound c.in_err-check_size-2.field-0.0 =
@@ -132,10 +133,10 @@ loop-t-preserved g c =
     let gates : c.gates.result.now ≡ circuit.net.gates = c.gates.ensures.gates ∙ ap (λ (n : NetList). n.gates) c.net-net.ensures.net in
     let N : NetList → Type 0 = λ n. IsSound n in
     let sound = subst N c.net-net.ensures.net c.gates.ensures.sound in
-    let at = read_at order c.loop-t.t c.index.result.now (omega arith) c.index.ensures in
+    let at = got_read order c.loop-t.t c.index.result.now (omega arith) c.index.ensures in
     let L : List GateValue → Type 0 = λ gs. c.index.result.now < length gs in
     let S : List GateValue → Type 0 = λ gs. slice_get gs c.index.result.now ≡ Some c.index-gates-index.result in
-    let at_net = subst S gates (read_at c.gates.result.now c.index.result.now c.index-gates-index.result (subst L (sym gates) (position_inside circuit.net order c.loop-t.t c.index.result.now is at)) c.index-gates-index.is) in
+    let at_net = subst S gates (got_read c.gates.result.now c.index.result.now c.index-gates-index.result (subst L (sym gates) (position_inside circuit.net order c.loop-t.t c.index.result.now is at)) c.index-gates-index.is) in
     let next = turn degree mul circuit basis order is c.loop-t.t c.index.result.now c.index-gates-index.result c.loop-t.cut.terms c.eliminate.new.cut.terms sound c.net-net.ensures.is_bound at at_net c.loop-t.invariant.is c.in_ok-eliminate.ensures.reduced c.in_ok-eliminate.ensures.values in
     let made = c.in_ok-eliminate.ensures.steps in
     record {

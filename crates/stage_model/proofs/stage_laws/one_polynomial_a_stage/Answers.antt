@@ -4,4 +4,4 @@ use Rattle.stage_model.proofs.CircuitListingLemmas.{one_stage}
 use Rattle.stage_model.proofs.stage_laws.one_polynomial_a_stage.Goals as goal
 
 pub returns : goal.returns
-returns c = λ circuit name ts us well a b. same_terms circuit.k circuit.product well.ring well.no_zero_divisors ((circuit_stages circuit).stage_of name) (one_stage circuit well name) ts us a b
+returns c = λ circuit name well ts us a b. same_terms circuit.k circuit.product well.ring well.no_zero_divisors ((circuit_stages circuit).stage_of name) (one_stage circuit well name) ts us a b

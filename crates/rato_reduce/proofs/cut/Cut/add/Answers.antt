@@ -1,16 +1,13 @@
-use Rattle.std.proofs.Common.{◌≡◌, List, ℕ, [], ◌∷◌, length, refl, sym, ◌∙◌, ap, subst, arith}
+use Rattle.std.proofs.Common.{◌≡◌, List, ℕ, [], length, refl, sym, ◌∙◌, ap, subst}
 use Rattle.std.proofs.lemmas.Bool.{eqb-true, eqb-false}
 use Rattle.std.specs.declared.cmp.Ordering.TheVariants.{Less}
+use Rattle.std.proofs.lemmas.List.{nil_from_length}
 use Rattle.poly_mixed.specs.Monomial.{text_cmp}
 use Rattle.poly_mixed.specs.Sum.{plus_term}
 use Rattle.rato_reduce.specs.private.CutKey.{CutKey, key_of, no_bits, key_cmp}
 use Rattle.rato_reduce.specs.private.CutTerms.{CutPolynomial, IsEntry, AreBitEntries, cut_polynomial, with_constant, of_bits}
 use Rattle.rato_reduce.proofs.ConstantLemmas.{before_bits, bit_entries_more, bit_terms_more, kept_entries}
 use Rattle.rato_reduce.proofs.cut.Cut.add.Goals as goal
-
-none : (xs : List ℕ) → length xs ≡ 0 → xs ≡ []
-none [] e = refl
-none (x ∷ xs) e = absurd (omega arith)
 
 -- the new entry
 entry : (c : goal.In_ok-add) → IsEntry c.self.inside.places.items (c.new-key.result, c.args.c)
@@ -31,7 +28,7 @@ invariant_of-self-2 c = let P : List (CutKey × ℕ) → Type 0 = AreBitEntries 
 
 pub returns-then-is_empty : goal.returns-then-is_empty
 returns-then-is_empty c =
-    let nothing : c.args.bits ≡ [] = none c.args.bits (eqb-true (length c.args.bits) 0 (sym c.is_empty.ensures ∙ c.if-is_empty.true)) in
+    let nothing : c.args.bits ≡ [] = nil_from_length c.args.bits (eqb-true (length c.args.bits) 0 (sym c.is_empty.ensures ∙ c.if-is_empty.true)) in
     c.add_constant.ensures ∙ ap (λ bs. plus_term text_cmp c.args.self.now.terms (of_bits bs, c.args.c)) (sym nothing)
 
 pub returns : goal.returns

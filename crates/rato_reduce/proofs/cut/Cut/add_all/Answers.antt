@@ -1,10 +1,11 @@
 use Rattle.std.proofs.Common.{◌+◌, drop, subst, [], ◌∷◌, ap, sym, ◌∙◌}
 use Rattle.std.specs.List.{AllByRecursion}
+use Rattle.lists.specs.laws.TakeLaws.{drop_read}
 use Rattle.poly_mixed.specs.Monomial.{Monomial, text_cmp}
 use Rattle.poly_mixed.specs.Polynomial.{Terms}
 use Rattle.poly_mixed.specs.Sum.{plus}
 use Rattle.rato_reduce.specs.private.CutTerms.{IsBitTerm}
-use Rattle.rato_reduce.proofs.CutPartLemmas.{drop_read, step_terms}
+use Rattle.rato_reduce.proofs.CutPartLemmas.{step_terms}
 use Rattle.rato_reduce.proofs.cut.Cut.add_all.Goals as goal
 
 pub loop-term-preserved : goal.loop-term-preserved
