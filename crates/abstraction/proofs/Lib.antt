@@ -1,2 +1,1 @@
 pub mod StageLemmas
-mod WellLemmas

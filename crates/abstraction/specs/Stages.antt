@@ -1,9 +1,10 @@
 -- All stages of a circuit with bound words: its cuts, and then those of its words. Source: this project's own.
-use Rattle.std.specs.Prelude.{ℕ, List, map, length}
+use Rattle.std.specs.Prelude.{ℕ, List, Option, map, length}
 use Rattle.net_words.specs.Binding.{BoundNet}
 use Rattle.gf_basis.specs.BasisParts.{elements_of}
 use Rattle.gf_basis.specs.declared.bases.Basis.{Basis}
 use Rattle.poly_mixed.specs.Polynomial.{Terms}
+use Rattle.poly_mixed.specs.Steps.{Step}
 use Rattle.poly_mixed.specs.declared.stage.ReduceFault.{ReduceFault}
 use Rattle.poly_mixed.specs.declared.stage.ReduceFault.TheVariants.{TooManyTerms, OutOfMemory}
 use Rattle.poly_mixed.specs.declared.stage.Stage.{Stage}
@@ -14,6 +15,7 @@ use Rattle.stage_model.specs.Cut.{BoundCut}
 use Rattle.stage_model.specs.Listing.{followed_by, IsOver, Joined, Earlier, Later, Listing}
 use Rattle.stage_model.specs.Stage.{IsOfStage}
 use Rattle.stage_model.specs.WordListing.{word_listing}
+use Rattle.rato_reduce.specs.Recorded.{IsRecorded}
 
 -- the cuts, where these are the elements of each word's basis
 abbrev pub cut_stages : BoundNet → List (List ℕ) → Listing Stage
@@ -22,6 +24,10 @@ cut_stages netlist bases = bound_cuts netlist (output_basis netlist.binding.word
 -- these are the terms of the last cut
 abbrev pub IsLastCut : ℕ → (ℕ → ℕ → ℕ) → BoundNet → List (List ℕ) → Terms → Type 0
 IsLastCut k mul netlist bases ts = IsOfStage k mul (BoundCut netlist (output_basis netlist.binding.words bases) (length netlist.net.gates)) ts
+
+-- where the recorder tells its pairs, it holds what it held and then those of all gates
+abbrev pub HasCutPairs : ℕ → (ℕ → ℕ → ℕ) → BoundNet → List (List ℕ) → Option (List Step) → Option (List Step) → Type 0
+HasCutPairs k mul netlist bases old new = IsRecorded k mul netlist (output_basis netlist.binding.words bases) (length netlist.net.gates) old new
 
 -- the cuts, and then the stages of words
 abbrev pub all_stages : ℕ → (ℕ → ℕ → ℕ) → BoundNet → List (List ℕ) → Listing (Joined Stage Stage)

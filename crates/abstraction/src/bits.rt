@@ -4,14 +4,11 @@ ghost use Rattle.net_core.specs.Sound.{IsSound};
 ghost use Rattle.net_words.specs.OneCycle.{IsOneCycle};
 ghost use Rattle.gf_basis.specs.BasisParts.{elements_of};
 ghost use Rattle.circuit_model.specs.Bases.{circuit_in, AreBases};
-ghost use Rattle.circuit_model.specs.OfBinding.{output_basis as basis_of_output};
 ghost use Rattle.circuit_model.specs.WellFormed.{IsWellFormed};
 ghost use Rattle.stage_model.specs.Listing.{AreAllWithin, IsRefusal};
-ghost use Rattle.stage_model.specs.Mix.{IsMix};
 ghost use Rattle.stage_model.specs.OutputInBits.{IsOutputInBits};
-ghost use Rattle.stage_model.specs.Stage.{IsOfStage};
-ghost use Rattle.rato_reduce.specs.Recorded.{IsRecorded};
-ghost use Rattle.abstraction.specs.Stages.{cut_stages, IsLastCut};
+ghost use Rattle.word_subst.specs.WordStages.{IsOfNoWords};
+ghost use Rattle.abstraction.specs.Stages.{cut_stages, HasCutPairs, IsLastCut};
 
 use circuit_model::output_basis;
 use gf_basis::Basis;
@@ -39,10 +36,10 @@ pub fn bits_poly<F: Field, T: Steps>(
     ensures well { IsWellFormed (circuit_in (F.degree field.now) (F.product field.now) circuit.now bases.now) }
     ensures last { IfOk result (λ q. IsLastCut (F.degree field.now) (F.product field.now) circuit.now (map elements_of bases.now) q.terms) }
     ensures output { IfOk result (λ q. IsOutputInBits (circuit_in (F.degree field.now) (F.product field.now) circuit.now bases.now) q.terms) }
-    ensures mix { IfOk result (λ q. IsOfStage (F.degree field.now) (F.product field.now) (IsMix (circuit_in (F.degree field.now) (F.product field.now) circuit.now bases.now) 0) q.terms) }
+    ensures mix { IfOk result (λ q. IsOfNoWords (circuit_in (F.degree field.now) (F.product field.now) circuit.now bases.now) q.terms) }
     ensures few { IfOk result (λ q. length q.terms ≤ bound) }
     ensures within { OnOk result (AreAllWithin (F.degree field.now) (F.product field.now) (cut_stages circuit.now (map elements_of bases.now)) bound) }
-    ensures steps { OnOk result (IsRecorded (F.degree field.now) (F.product field.now) circuit.now (basis_of_output circuit.now.binding.words (map elements_of bases.now)) (length circuit.now.net.gates) (T.steps steps.old) (T.steps steps.new)) }
+    ensures steps { OnOk result (HasCutPairs (F.degree field.now) (F.product field.now) circuit.now (map elements_of bases.now) (T.steps steps.old) (T.steps steps.new)) }
     ensures fault { IfErr result (IsRefusal (F.degree field.now) (F.product field.now) (cut_stages circuit.now (map elements_of bases.now)) bound) }
 {
     let basis = output_basis(circuit.binding(), bases);

@@ -1,12 +1,9 @@
 //! The polynomial of a circuit's output in its words.
 ghost use Rattle.std.specs.Prelude.{◌≡◌, ◌<◌, ◌^◌, length, IfErr, IfOk, OnOk};
 ghost use Rattle.circuit_model.specs.Bases.{circuit_in, AreBases};
-ghost use Rattle.stage_model.specs.Listing.{AreAllWithin, IsRefusal};
-ghost use Rattle.stage_model.specs.Mix.{IsMix};
 ghost use Rattle.stage_model.specs.OutputInWords.{IsOutputInWords};
-ghost use Rattle.stage_model.specs.Stage.{IsOfStage};
-ghost use Rattle.stage_model.specs.WordListing.{word_listing};
 ghost use Rattle.word_subst.specs.Recorded.{IsRecorded};
+ghost use Rattle.word_subst.specs.WordStages.{IsOfNoWords, IsOfAllWords, AreWordStagesWithin, IsWordStageRefusal};
 
 use gf_basis::Basis;
 use gf_field::Field;
@@ -29,13 +26,13 @@ pub fn words_poly<F: Field, T: Steps>(
 ) -> Result<Poly, ReduceFault>
     requires k { circuit.now.binding.k ≡ F.degree field.now }
     requires bases { AreBases (F.degree field.now) (F.product field.now) circuit.now bases.now }
-    requires bits { IsOfStage (F.degree field.now) (F.product field.now) (IsMix (circuit_in (F.degree field.now) (F.product field.now) circuit.now bases.now) 0) bits.terms }
+    requires bits { IsOfNoWords (circuit_in (F.degree field.now) (F.product field.now) circuit.now bases.now) bits.terms }
     requires few { length bits.terms < 2 ^ 32 }
-    ensures words { IfOk result (λ q. IsOfStage (F.degree field.now) (F.product field.now) (IsMix (circuit_in (F.degree field.now) (F.product field.now) circuit.now bases.now) (length (circuit_in (F.degree field.now) (F.product field.now) circuit.now bases.now).words)) q.terms) }
+    ensures words { IfOk result (λ q. IsOfAllWords (circuit_in (F.degree field.now) (F.product field.now) circuit.now bases.now) q.terms) }
     ensures output { IfOk result (λ q. IsOutputInWords (circuit_in (F.degree field.now) (F.product field.now) circuit.now bases.now) q.terms) }
-    ensures within { OnOk result (AreAllWithin (F.degree field.now) (F.product field.now) (word_listing (circuit_in (F.degree field.now) (F.product field.now) circuit.now bases.now)) bound) }
+    ensures within { OnOk result (AreWordStagesWithin (circuit_in (F.degree field.now) (F.product field.now) circuit.now bases.now) bound) }
     ensures steps { OnOk result (IsRecorded (circuit_in (F.degree field.now) (F.product field.now) circuit.now bases.now) (T.steps steps.old) (T.steps steps.new)) }
-    ensures fault { IfErr result (IsRefusal (F.degree field.now) (F.product field.now) (word_listing (circuit_in (F.degree field.now) (F.product field.now) circuit.now bases.now)) bound) }
+    ensures fault { IfErr result (IsWordStageRefusal (circuit_in (F.degree field.now) (F.product field.now) circuit.now bases.now) bound) }
 {
     let _netlist = circuit.binding();
     match to_words(alloc, field, circuit, bases, bits, bound, steps) {

@@ -1,5 +1,5 @@
 -- Word by word: the stages of words so far, the first over the bound, and the pairs so far.
-use Rattle.std.proofs.Common.{◌≡◌, ◌⊎◌, sym, refl, subst, inl, inr, ℕ, suc, ◌<◌, ◌≤◌, ◌+◌, List, ◌++◌, length, Option, Some, arith}
+use Rattle.std.proofs.Common.{◌≡◌, ◌⊎◌, sym, refl, subst, inl, inr, ℕ, suc, ◌<◌, ◌≤◌, ◌+◌, List, [], ◌++◌, length, Option, Some, arith}
 use Rattle.std.specs.Prelude.{slice_get}
 use Rattle.std.proofs.lemmas.Option.{slice_get_within}
 use Rattle.std.proofs.lemmas.Bool.{cases_order}
@@ -24,7 +24,8 @@ use Rattle.word_subst.specs.Read.{product_at, sum_at, HasWithin, HasOver, IsTerm
 use Rattle.word_subst.specs.ReadSteps.{TellsTerms}
 use Rattle.word_subst.specs.ReadRefusal.{IsReached, IsProductOver, IsWordRefusal}
 use Rattle.word_subst.specs.Recorded.{IsRecorded}
-use Rattle.poly_mixed.proofs.RecorderLemmas.{tells_more}
+use Rattle.word_subst.specs.WordStages.{IsOfNoWords, IsWordStageRefusal, IsStageFault}
+use Rattle.poly_mixed.proofs.RecorderLemmas.{tells_none, tells_more}
 use Rattle.word_subst.proofs.LiftedLemmas.{lift_product, lift_sum, word_steps, size_of, product_within, products_to, sums_to, number_within}
 
 -- the stages of the first w words are within the bound
@@ -45,6 +46,12 @@ earlier v r w s same (inr (word, inl less)) = inl (inr (word, less))
 earlier v r w s same (inr (word, inr (term, holds))) = inr (word, term, holds)
 
 module _ (c : Circuit) where
+  pub nothing_within : (bound : ℕ) → AreWithinTo c 0 bound
+  nothing_within bound = record { products = λ v s j less has. absurd (omega arith); sums = λ v s less has. absurd (omega arith) }
+
+  pub nothing_recorded : (old : Option (List Step)) → IsRecordedTo c 0 old old
+  nothing_recorded old = record { steps = []; are = refl; told = tells_none old }
+
   pub all_recorded : (w : ℕ) (old new : Option (List Step)) → w ≡ length c.words → IsRecordedTo c w old new → IsRecorded c old new
   all_recorded w old new same told =
       let P : ℕ → Type 0 = λ n. AreWordStepsTo c n told.steps in
@@ -187,3 +194,13 @@ module _ (c : Circuit) (well : IsWellFormed c) (w : ℕ) (word : Word) (at_word 
     refused (TooManyTerms (InstanceProduct i s j) n) is = absurd is
     refused (TooManyTerms (InstanceSum i s) n) is = absurd is
     refused OutOfMemory is = tt
+
+-- ---- where the polynomial in bits is that of the mix of no words
+
+pub stage_fault : (c : Circuit) (bits : Terms) (bound : ℕ) (fault : ReduceFault) → (IsOfNoWords c bits → IsWordStageRefusal c bound fault) → IsStageFault c bits bound fault
+stage_fault c bits bound OutOfMemory is = tt
+stage_fault c bits bound (TooManyTerms stage n) is = record { is = is }
+
+pub stage_refused : (c : Circuit) (bits : Terms) (bound : ℕ) (fault : ReduceFault) → IsOfNoWords c bits → IsStageFault c bits bound fault → IsWordStageRefusal c bound fault
+stage_refused c bits bound OutOfMemory none is = tt
+stage_refused c bits bound (TooManyTerms stage n) none is = is.is none

@@ -5,7 +5,7 @@ use Rattle.std.specs.Int.Bits.{xor_zero_r}
 use Rattle.std.proofs.lemmas.Bool.{eqb-true, eqb-false}
 use Rattle.std.proofs.lemmas.Nat.{pow_below}
 use Rattle.std.specs.List.{AllByRecursion}
-use Rattle.lists.specs.laws.ListLaws.{length-push}
+use Rattle.lists.specs.laws.ListLaws.{length-push, all_append}
 use Rattle.lists.specs.laws.ReadLaws.{got_push}
 use Rattle.gf_field.specs.Power.{power}
 use Rattle.poly_mixed.specs.Polynomial.{IsElement}
@@ -16,7 +16,7 @@ use Rattle.stage_model.proofs.WordBitLemmas.{part_value, next_part}
 use Rattle.word_subst.specs.Univariate.{Powers, IsPower, IsUnivariate, value_of, power_value}
 use Rattle.word_subst.specs.Merge.{IsBefore}
 use Rattle.word_subst.specs.Forms.{IsForm, IsLinear}
-use Rattle.word_subst.proofs.UnivariateLemmas.{all_append, xor_sum-append, univariate_append, one_power, no_powers}
+use Rattle.word_subst.proofs.UnivariateLemmas.{xor_sum-append, univariate_append, one_power, no_powers}
 
 -- ---- one form
 

@@ -19,10 +19,11 @@ use Rattle.poly_mixed.proofs.SumLemmas.{IsAdditive, sorted-plus, all_plus, xor_s
 use Rattle.poly_mixed.proofs.ValueLemmas.{power_element, product_zero, product_by_zero}
 use Rattle.word_subst.specs.Univariate.{Powers, IsPower, IsBelow, IsRising, IsUnivariate, power_value, value_of, IsProductOfTwo}
 use Rattle.word_subst.specs.Multiple.{multiplied}
-use Rattle.word_subst.proofs.UnivariateLemmas.{all_append, xor_sum-append, power_value_element, value_of_element}
+use Rattle.word_subst.proofs.UnivariateLemmas.{xor_sum-append, power_value_element, value_of_element}
 use Rattle.word_subst.proofs.MultipleLemmas.{value_multiplied, low_is, high_is}
 use Rattle.std.proofs.lemmas.Bool.{cases_lt}
 use Rattle.std.proofs.Common.{inl, inr}
+use Rattle.lists.specs.laws.ListLaws.{all_append}
 
 below_of : (e : ℕ) (us : Powers) → AllByRecursion (λ y. nat_cmp e y ≡ Less) (keys_of us) → IsBelow e us
 below_of e [] all = tt

@@ -1,5 +1,5 @@
 -- A polynomial in one word that is added to the polynomial of its monomial.
-use Rattle.std.proofs.Common.{◌≡◌, ◌≢◌, ◌∙◌, ap, sym, refl, subst, ℕ, ◌<◌, ◌≤◌, ◌+◌, Bool, true, false, cond, [], ◌∷◌, ◌++◌, length, bit_xor, slice_index, Some, arith}
+use Rattle.std.proofs.Common.{◌≡◌, ◌≢◌, ◌∙◌, ap, sym, refl, subst, ℕ, ◌<◌, ◌≤◌, ◌+◌, cond, [], ◌∷◌, ◌++◌, length, bit_xor, slice_index, Some, arith}
 use Rattle.std.specs.Int.Bits.{xor_zero_l, xor_zero_r, xor_assoc, xor_comm}
 use Rattle.std.specs.declared.cmp.Ordering.TheVariants.{Less, Equal, Greater}
 use Rattle.std.specs.Ordering.{match_ordering, eq_by_cmp, is_eq}
@@ -12,15 +12,17 @@ use Rattle.std.proofs.lemmas.Map.{lookup-none}
 use Rattle.std.proofs.lemmas.Map.Entries.{none_below_head}
 use Rattle.std.proofs.lemmas.Map.Keys.{sorted_tail}
 use Rattle.poly_mixed.specs.Monomial.{Monomial, text_cmp, text_cmp_total}
-use Rattle.poly_mixed.specs.Polynomial.{Terms, Point, IsElement, powers, term_value, value}
-use Rattle.poly_mixed.specs.Sum.{plus_term, plus}
+use Rattle.poly_mixed.specs.Polynomial.{Terms, Point, powers, term_value, value}
+use Rattle.poly_mixed.specs.Sum.{plus}
 use Rattle.poly_mixed.proofs.FieldLaws.{IsField}
 use Rattle.poly_mixed.proofs.MonomialLemmas.{text_cmp-same}
 use Rattle.poly_mixed.proofs.ValueLemmas.{powers_element}
+use Rattle.stage_model.proofs.SharedLemmas.{plus_append}
 use Rattle.word_subst.specs.Univariate.{Powers, IsUnivariate, value_of}
 use Rattle.word_subst.specs.Spread.{Groups, total, found, spread, all_terms, IsRest, IsGroup, IsAdded, AddsGroup}
 use Rattle.word_subst.proofs.UnivariateLemmas.{xor_sum-append, no_powers, value_of_element}
 use Rattle.word_subst.proofs.SpreadLemmas.{spread_value, word_element}
+use Rattle.word_subst.proofs.ChoiceLemmas.{sum_where}
 
 nothing_below : (m : Monomial) (g : Monomial × Powers) (gs : Groups) → IsStrictlySortedBy text_cmp (keys_of (g ∷ gs)) → text_cmp m g.0 ≡ Less → found m (g ∷ gs) ≡ []
 nothing_below m g gs up less = ap (λ o. unwrap_or o []) (lookup-none (eq_by_cmp text_cmp m) (g ∷ gs) (none_below_head text_cmp_total m g gs up less))
@@ -134,19 +136,11 @@ module _ {k : ℕ} {mul : ℕ → ℕ → ℕ} (f : IsField k mul) (w : ℕ) (in
       let both : value mul p (spread w m added.sum) ≡ bit_xor (value mul p (spread w m (found m old))) (value mul p (spread w m part)) =
       spread_value f w inside p m added.sum at rest added.is.univariate.powers
       ∙ (ap (λ n. cond (list_all p.is_one m.bits) (mul n q) 0) (added.is.values x hx)
-      ∙ (split (list_all p.is_one m.bits) a b q (value_of_element f x (found m old) hx u.powers) (value_of_element f x part hx is.powers) hq
+      ∙ (sum_where f (list_all p.is_one m.bits) a b q (value_of_element f x (found m old) hx u.powers) (value_of_element f x part hx is.powers) hq
       ∙ (λ i. bit_xor (sym (spread_value f w inside p m (found m old) at rest u.powers) i) (sym (spread_value f w inside p m part at rest is.powers) i)))) in
       ap (λ gs. value mul p (all_terms w gs)) added.put ∙ inserted_value m added.sum mul w p part old up both
-    where
-      split : (b : Bool) (x y z : ℕ) → IsElement k x → IsElement k y → IsElement k z → cond b (mul (bit_xor x y) z) 0 ≡ bit_xor (cond b (mul x z) 0) (cond b (mul y z) 0)
-      split true x y z hx hy hz = f.distrib x y z hx hy hz
-      split false x y z hx hy hz = refl
 
 -- ---- the groups as one polynomial
-
-plus_append : (ts us vs : Terms) → plus text_cmp ts (us ++ vs) ≡ plus text_cmp (plus text_cmp ts us) vs
-plus_append ts [] vs = refl
-plus_append ts (u ∷ us) vs = plus_append (plus_term text_cmp ts u) us vs
 
 pub groups_turn : (w : ℕ) (m : Monomial) (us : Powers) (rest next : Groups) (old new whole : Terms) → rest ≡ (m, us) ∷ next → new ≡ plus text_cmp old (spread w m us) → AllByRecursion (λ g. AllByRecursion (λ t. t.1 ≢ 0) g.1) rest
     → plus text_cmp old (all_terms w rest) ≡ whole → AllByRecursion (λ g. AllByRecursion (λ t. t.1 ≢ 0) g.1) next × (plus text_cmp new (all_terms w next) ≡ whole)

@@ -1,5 +1,6 @@
 pub mod Telling
 mod RisingLemmas
+mod ChoiceLemmas
 mod UnivariateLemmas
 mod MultipleLemmas
 mod PrefixLemmas
@@ -7,14 +8,15 @@ mod SpreadLemmas
 mod GroupLemmas
 mod TermPartLemmas
 mod FormListLemmas
-mod AroundLemmas
+mod FormsExistLemmas
 mod MultiplierLemmas
 mod OneTermLemmas
 mod ToldLemmas
 mod OneWordLemmas
 mod LiftedLemmas
-mod AllWordLemmas
-mod TurnLemmas
+pub mod AllWordLemmas
+pub mod TurnLemmas
+pub mod ReplacedLemmas
 mod CallerLemmas
 mod GatheredPowersLemmas
 mod SomeProductsLemmas

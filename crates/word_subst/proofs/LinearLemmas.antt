@@ -4,6 +4,7 @@ use Rattle.std.specs.List.{AllByRecursion}
 use Rattle.std.specs.Ordering.{nat_cmp}
 use Rattle.std.proofs.Math.Nat.{pow-le-pow_right}
 use Rattle.std.proofs.lemmas.Bool.{cases_lt}
+use Rattle.lists.specs.laws.ListLaws.{all_append}
 use Rattle.gf_field.specs.Power.{power}
 use Rattle.poly_mixed.specs.Polynomial.{IsElement}
 use Rattle.poly_mixed.specs.Product.{add_exponent}
@@ -16,7 +17,7 @@ use Rattle.word_subst.specs.Forms.{IsLinear}
 use Rattle.word_subst.specs.Multiple.{multiplied}
 use Rattle.word_subst.proofs.GatheredPowersLemmas.{gathered_powers, gathered_at}
 use Rattle.word_subst.proofs.MultipleLemmas.{scaled_is, low_is}
-use Rattle.word_subst.proofs.UnivariateLemmas.{all_append, xor_sum-append}
+use Rattle.word_subst.proofs.UnivariateLemmas.{xor_sum-append}
 
 -- ---- how many powers they have
 

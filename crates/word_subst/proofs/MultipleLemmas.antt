@@ -6,6 +6,7 @@ use Rattle.std.proofs.lemmas.Nat.{pow_pos}
 use Rattle.std.proofs.lemmas.List.{drop_more, take_more, length-map}
 use Rattle.std.proofs.Math.ListN.{drop_of_length-le}
 use Rattle.std.specs.List.{AllByRecursion}
+use Rattle.lists.specs.laws.ListLaws.{all_append}
 use Rattle.gf_field.specs.Power.{power}
 use Rattle.poly_mixed.specs.Polynomial.{IsElement}
 use Rattle.poly_mixed.specs.Product.{add_exponent}
@@ -15,7 +16,7 @@ use Rattle.poly_mixed.proofs.ProductLemmas.{power-add_exponent, cross, distrib_r
 use Rattle.word_subst.specs.Univariate.{Powers, IsPower, IsBelow, IsRising, IsUnivariate, power_value, value_of, IsSum, IsMultiple, IsProductOfTwo}
 use Rattle.word_subst.specs.Multiple.{multiplied}
 use Rattle.word_subst.proofs.RisingLemmas.{rest_is}
-use Rattle.word_subst.proofs.UnivariateLemmas.{all_append, xor_sum-append, power_value_element, value_of_element}
+use Rattle.word_subst.proofs.UnivariateLemmas.{xor_sum-append, power_value_element, value_of_element}
 
 -- ---- parts of a polynomial in one word
 

@@ -1,15 +1,15 @@
 -- The product so far with a term's later bits of the word is the multiplier of the bit.
-use Rattle.std.proofs.Common.{◌≡◌, ◌∙◌, ap, sym, refl, ℕ, suc, ◌<◌, ◌-◌, ◌*◌, Bool, true, false, cond, not, ◌&&◌, ◌==◌, List, ◌++◌, take, drop, Some, arith}
+use Rattle.std.proofs.Common.{◌≡◌, ◌∙◌, ap, sym, ℕ, suc, ◌<◌, ◌-◌, ◌*◌, Bool, true, false, cond, not, ◌&&◌, ◌==◌, List, ◌++◌, take, drop, Some, arith}
 use Rattle.std.specs.Prelude.{slice_get, nat_lt}
 use Rattle.std.specs.Int.{bit_at}
 use Rattle.std.specs.List.{filter, list_all}
 use Rattle.std.proofs.lemmas.Bool.{lt-ltb, le-ltb}
 use Rattle.std.proofs.lemmas.List.Folds.{list_all-append}
+use Rattle.poly_mixed.proofs.AroundLemmas.{all_around}
 use Rattle.poly_mixed.specs.Monomial.{Monomial}
 use Rattle.poly_mixed.specs.Polynomial.{Terms, Point, IsPoint, IsElement, IsTerm, IsReduced, powers, value}
 use Rattle.poly_mixed.specs.Product.{IsProduct}
 use Rattle.poly_mixed.proofs.FieldLaws.{IsField}
-use Rattle.poly_mixed.proofs.ValueLemmas.{one_element, zero_element, product_zero}
 use Rattle.poly_mixed.proofs.ProductLemmas.{value_element}
 use Rattle.stage_model.specs.WordStage.{is_of_word, word_bits, with_word}
 use Rattle.stage_model.specs.WordSteps.{with_word_below}
@@ -17,13 +17,8 @@ use Rattle.stage_model.specs.PlainWord.{IsReading, IsProductOf}
 use Rattle.stage_model.proofs.WordPolyLemmas.{filter_passes}
 use Rattle.word_subst.specs.Multiplier.{IsWithBits}
 use Rattle.word_subst.specs.Read.{multiplier_at}
-use Rattle.word_subst.proofs.AroundLemmas.{all_around}
-
-both : (a b : Bool) (x : ℕ) → cond b (cond a x 0) 0 ≡ cond (a && b) x 0
-both true true x = refl
-both true false x = refl
-both false true x = refl
-both false false x = refl
+use Rattle.word_subst.proofs.ChoiceLemmas.{times_bit}
+use Rattle.lists.specs.laws.BoolLaws.{cond_and}
 
 module _ (k : ℕ) (mul : ℕ → ℕ → ℕ) (elements : List ℕ) (w : ℕ) (t : Monomial × ℕ) (is : IsTerm k t) where
   pub multiplier_is : (j r : ℕ) (product ts : Terms) → slice_get (word_bits k w t) j ≡ Some r → IsProductOf k mul elements w t j product → IsWithBits k mul product (drop (suc j) (word_bits k w t)) ts
@@ -38,7 +33,7 @@ module _ (k : ℕ) (mul : ℕ → ℕ → ℕ) (elements : List ℕ) (w : ℕ) (
         let own : is_of_word k w r ≡ true = filter_passes (is_of_word k w) t.0.bits j r got in
         with_bits.values p at
         ∙ (ap (λ x. cond (list_all p.is_one (drop (suc j) (word_bits k w t))) x 0) (so_far.values p d at bits)
-        ∙ (both (list_all low (take j (word_bits k w t) ++ rest)) (list_all p.is_one (drop (suc j) (word_bits k w t))) whole
+        ∙ (sym (cond_and (list_all low (take j (word_bits k w t) ++ rest)) (list_all p.is_one (drop (suc j) (word_bits k w t))) whole)
         ∙ ap (λ b. cond b whole 0)
         (ap (λ b. b && list_all p.is_one (drop (suc j) (word_bits k w t))) (list_all-append low (take j (word_bits k w t)) rest)
         ∙ sym (all_around (is_of_word k w) q low p.is_one r own (low_same d p) (high_same d p) (other_same d p) t.0.bits j is.monomial.rising got))));
@@ -65,9 +60,5 @@ chosen {k} {mul} f product bits ones ts over reduced is one = record {
   values = λ p at.
       let x : ℕ = value mul p product in
       let less : IsElement k x = value_element f p at product over.terms in
-      is p at ∙ (ap (mul x) (one p at) ∙ by x less (list_all p.is_one bits));
+      is p at ∙ (ap (mul x) (one p at) ∙ times_bit f x less (list_all p.is_one bits));
 }
-  where
-    by : (x : ℕ) → IsElement k x → (b : Bool) → mul x (cond b 1 0) ≡ cond b x 0
-    by x less true = f.comm x 1 less (one_element f) ∙ f.neutral x less
-    by x less false = f.comm x 0 less (zero_element f) ∙ product_zero f x less

@@ -1,5 +1,5 @@
 -- One word, term by term.
-use Rattle.std.proofs.Common.{◌≡◌, ◌∙◌, ap, sym, refl, subst, inl, inr, ℕ, ◌<◌, ◌≤◌, ◌+◌, List, [], ◌∷◌, ◌++◌, length, take, get_or, Option, Some, arith, append-nil, bit_xor}
+use Rattle.std.proofs.Common.{◌≡◌, ◌∙◌, ap, sym, refl, subst, inl, inr, ℕ, ◌<◌, ◌≤◌, ◌+◌, List, [], ◌∷◌, ◌++◌, length, take, Option, Some, arith, append-nil, bit_xor}
 use Rattle.std.specs.Prelude.{slice_get}
 use Rattle.std.proofs.lemmas.Bool.{cases_eq}
 use Rattle.std.proofs.lemmas.List.{append_assoc, take_more}
@@ -10,7 +10,6 @@ use Rattle.poly_mixed.proofs.FieldLaws.{IsField}
 use Rattle.std.specs.List.{AllByRecursion}
 use Rattle.std.specs.List.Sorted.{IsStrictlySortedBy}
 use Rattle.std.specs.Map.{keys_of}
-use Rattle.lists.specs.laws.ReadLaws.{got_read}
 use Rattle.poly_mixed.specs.Polynomial.{Terms, IsReduced, value}
 use Rattle.poly_mixed.specs.Steps.{Step}
 use Rattle.poly_mixed.specs.declared.stage.ReduceFault.{ReduceFault}
@@ -26,10 +25,6 @@ use Rattle.stage_model.proofs.WordPolyLemmas.{sum_next}
 use Rattle.word_subst.specs.Spread.{Groups, total, IsGroup, all_terms}
 use Rattle.word_subst.specs.Rest.{AddsTerm}
 use Rattle.word_subst.proofs.SpreadLemmas.{nothing_sorted, gathered_reduced, gathered_value, groups_terms, groups_nonzero}
-
--- the term at an index that the code reads
-pub term_read : (items terms : Terms) (s : ℕ) (t : Monomial × ℕ) → items ≡ terms → s < length items → t ≡ get_or items s t → slice_get terms s ≡ Some t
-term_read items terms s t same less read = let P : Terms → Type 0 = λ ts. slice_get ts s ≡ Some t in subst P same (got_read items s t less read)
 
 module _ (k : ℕ) (mul : ℕ → ℕ → ℕ) (elements : List ℕ) (w : ℕ) (terms : Terms) (bound : ℕ) where
   pub no_terms_within : AreTermsWithin k mul elements w terms 0 bound

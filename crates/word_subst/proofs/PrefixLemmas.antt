@@ -10,6 +10,7 @@ use Rattle.std.proofs.lemmas.Nat.Bits.{bit_at-lt}
 use Rattle.std.proofs.lemmas.Option.{slice_get_within}
 use Rattle.std.proofs.Math.Seq.{take-length}
 use Rattle.lists.specs.laws.ListLaws.{length-push}
+use Rattle.lists.specs.laws.NumberLaws.{bit_is_choice}
 use Rattle.lists.specs.laws.ReadLaws.{got_push, got_read}
 use Rattle.gf_field.specs.Power.{power}
 use Rattle.poly_mixed.specs.Polynomial.{IsElement}
@@ -48,11 +49,6 @@ got_taken (suc n) (suc j) (y ∷ xs) x got = let rest = got_taken n j xs x got i
 -- ---- one bit more
 
 module _ {k : ℕ} {mul : ℕ → ℕ → ℕ} (f : IsField k mul) (elements : List ℕ) (word : ℕ) where
-  low_bit : (n : ℕ) → n < 2 → ◌≡◌ {A = ℕ} n (cond (n == 1) 1 0)
-  low_bit zero less = refl
-  low_bit (suc zero) less = refl
-  low_bit (suc (suc n)) less = absurd (omega arith)
-
   both : (x : ℕ) → IsElement k x → (a b : Bool) → mul (cond a x 0) (cond b 1 0) ≡ cond (a && (b && true)) x 0
   both x at true true = f.comm x 1 at (one_element f) ∙ f.neutral x at
   both x at true false = product_by_zero f x at
@@ -65,7 +61,7 @@ module _ {k : ℕ} {mul : ℕ → ℕ → ℕ} (f : IsField k mul) (elements : L
     values = λ x d at bits.
         let q : ℕ → Bool = λ r. bit_at d (r - k * word) == 1 in
         product.values x at
-        ∙ ((λ i. mul (is.values x d at bits i) ((bit.values x d at bits ∙ low_bit (bit_at d (rank - k * word)) (bit_at-lt d (rank - k * word))) i))
+        ∙ ((λ i. mul (is.values x d at bits i) ((bit.values x d at bits ∙ bit_is_choice (bit_at d (rank - k * word)) (bit_at-lt d (rank - k * word))) i))
         ∙ (both (power mul x start) (power_element f x start at) (list_all q ranks) (q rank)
         ∙ ap (λ b. cond b (power mul x start) 0) (sym (list_all-append q ranks (rank ∷ [])))));
   }

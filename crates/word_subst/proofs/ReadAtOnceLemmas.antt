@@ -2,10 +2,10 @@
 use Rattle.std.proofs.Common.{◌≡◌, ◌≢◌, ◌∙◌, ap, sym, refl, subst, ℕ, zero, suc, ◌<◌, ◌≤◌, ◌+◌, ◌-◌, ◌*◌, ◌^◌, ◌==◌, ◌&&◌, Bool, true, false, cond, nat_le, nat_lt, List, [], ◌∷◌, ◌++◌, length, take, slice_index, bit_xor, Some, arith}
 use Rattle.std.specs.Prelude.{slice_get}
 use Rattle.std.specs.Int.{bit_at}
-use Rattle.std.specs.Int.Bits.{xor_zero_l}
 use Rattle.std.specs.List.{AllByRecursion, filter, list_all}
 use Rattle.std.specs.Ordering.{nat_cmp}
 use Rattle.std.proofs.Math.Seq.{take-length}
+use Rattle.lists.specs.laws.ListLaws.{all_append}
 use Rattle.gf_basis.specs.Basis.{AreBits}
 use Rattle.gf_field.specs.Power.{power}
 use Rattle.poly_mixed.specs.Monomial.{Monomial, text_cmp}
@@ -30,7 +30,8 @@ use Rattle.word_subst.proofs.SomeProductsLemmas.{some_products, some_within, ter
 use Rattle.word_subst.proofs.SpreadLemmas.{spread_value, spread_terms, spread_nonzero, spread_length, gathered_reduced, gathered_value, word_element}
 use Rattle.word_subst.proofs.TermPartLemmas.{is_rest, product_is, whole_product}
 use Rattle.word_subst.proofs.ToldLemmas.{bit_product, has_product}
-use Rattle.word_subst.proofs.UnivariateLemmas.{all_append, xor_sum-append, value_of_element}
+use Rattle.word_subst.proofs.UnivariateLemmas.{xor_sum-append, value_of_element}
+use Rattle.word_subst.proofs.ChoiceLemmas.{sum_where}
 
 module _ {k : ℕ} {mul : ℕ → ℕ → ℕ} (f : IsField k mul) (elements : List ℕ) (w : ℕ) (forms : List Powers) (are_forms : AreForms k mul elements forms) (bound : ℕ) (wide : 2 ^ k ≤ bound) (inside : w < 8) where
   -- a polynomial in the word with the value of one term
@@ -110,10 +111,6 @@ module _ {k : ℕ} {mul : ℕ → ℕ → ℕ} (f : IsField k mul) (elements : L
         ap (times_rest p) (sym (one.1.values x d (word_element f p w at inside) bits))
         ∙ (sym (spread_is one.0 one.1.multiple.univariate p at) ∙ read.values p d at bits)
 
-    joined : (b : Bool) (x y z : ℕ) → IsElement k x → IsElement k y → IsElement k z → cond b (mul (bit_xor x y) z) 0 ≡ bit_xor (cond b (mul x z) 0) (cond b (mul y z) 0)
-    joined true x y z hx hy hz = f.distrib x y z hx hy hz
-    joined false x y z hx hy hz = sym (xor_zero_l 0)
-
     nothing_at : (b : Bool) (z : ℕ) → IsElement k z → cond b (mul 0 z) 0 ≡ 0
     nothing_at true z hz = product_zero f z hz
     nothing_at false z hz = refl
@@ -129,7 +126,7 @@ module _ {k : ℕ} {mul : ℕ → ℕ → ℕ} (f : IsField k mul) (elements : L
         let g = value_from k mul elements w 0 d x in
         let h1 = subst (IsElement k) (one.1.values x d hx bits) (value_of_element f x one.0 hx one.1.multiple.univariate.powers) in
         let h2 = subst (IsElement k) (more.1.values x d hx bits) (value_of_element f x more.0 hx more.1.univariate.powers) in
-        joined (list_all p.is_one m.bits) (g t) (xor_sum g ts) (powers mul m.exponents p.words) h1 h2 (powers_element f m.exponents p.words at.elements)
+        sum_where f (list_all p.is_one m.bits) (g t) (xor_sum g ts) (powers mul m.exponents p.words) h1 h2 (powers_element f m.exponents p.words at.elements)
         ∙ (λ i. bit_xor (term_at t all.0 some.0 same.0 p d at bits i) (all_at ts all.1 some.1 same.1 p d at bits i))
 
     reading : (ts : Terms) (us : Powers) → AllByRecursion (IsTerm k) ts → AllByRecursion (λ t. t.1 ≢ 0) ts → AllByRecursion (λ t. rest_of k w t.0 ≡ m) ts → IsReadFrom k mul elements w 0 ts us

@@ -3,27 +3,24 @@ use Rattle.std.proofs.Common.{◌≡◌, ◌≢◌, ◌∙◌, ap, sym, refl, su
 use Rattle.std.specs.Int.{bit_at}
 use Rattle.std.specs.Int.Bits.{xor_zero_l, xor_assoc}
 use Rattle.std.specs.List.{AllByRecursion, filter, list_all, list_any}
-use Rattle.std.proofs.lemmas.Bool.{cases_lt, cases_order, eqb-false, false≢true, lt-ltb, le-ltb, le-leb, lt-leb, eq-eqb, ne_eqb}
+use Rattle.std.proofs.lemmas.Bool.{cases_lt, cases_order, lt-ltb, le-ltb, le-leb, lt-leb, eq-eqb, ne_eqb}
 use Rattle.std.proofs.lemmas.Nat.Bits.{bit_at-lt}
 use Rattle.std.proofs.lemmas.List.{take_more}
 use Rattle.gf_field.specs.Power.{power}
-use Rattle.std.specs.declared.cmp.Ordering.{Ordering}
-use Rattle.std.specs.declared.cmp.Ordering.TheVariants.{Less, Equal, Greater}
-use Rattle.std.specs.Ordering.{eq_by_cmp, is_eq}
-use Rattle.lists.specs.laws.ListLaws.{map_push}
+use Rattle.lists.specs.laws.ListLaws.{map_push, all_append}
+use Rattle.lists.specs.laws.NumberLaws.{bit_is_choice}
 use Rattle.lists.specs.laws.ReadLaws.{got_read}
 use Rattle.lists.specs.laws.XorLaws.{xor_swap}
-use Rattle.poly_mixed.specs.Monomial.{Monomial, has_bit, text_cmp}
-use Rattle.poly_mixed.proofs.MonomialLemmas.{text_cmp-same}
-use Rattle.poly_mixed.specs.Polynomial.{Terms, IsTerm, IsElement}
+use Rattle.poly_mixed.specs.Monomial.{Monomial, has_bit}
+use Rattle.poly_mixed.specs.Polynomial.{Terms, IsTerm}
 use Rattle.poly_mixed.specs.Sum.{xor_sum}
 use Rattle.poly_mixed.proofs.FieldLaws.{IsField}
-use Rattle.poly_mixed.proofs.ValueLemmas.{one_element, product_by_zero}
 use Rattle.word_subst.specs.Univariate.{Powers, value_of, IsSum, IsProductOfTwo}
 use Rattle.word_subst.specs.Forms.{IsForm, AreForms}
 use Rattle.word_subst.specs.AtOnce.{value_from, IsReadFrom, IsSumOfPowers, IsPlusProduct, power_of}
 use Rattle.word_subst.proofs.SpreadLemmas.{element_at}
-use Rattle.word_subst.proofs.UnivariateLemmas.{all_append, value_of_element, one_power, xor_sum-append}
+use Rattle.word_subst.proofs.UnivariateLemmas.{value_of_element, one_power, xor_sum-append}
+use Rattle.word_subst.proofs.ChoiceLemmas.{times_bit}
 
 -- ---- ranks
 
@@ -147,17 +144,6 @@ one_item_more xs i t P less read all here =
 pub all_taken : {X : Type 0} (xs : List X) (n : ℕ) (P : X → Type 0) → length xs ≤ n → AllByRecursion P (take n xs) → AllByRecursion P xs
 all_taken xs n P most all = subst (AllByRecursion P) (take_all n xs most) all
 
-pub some_items : (n : ℕ) → false ≡ (n == 0) → 1 ≤ n
-some_items n e = let other : n ≡ 0 → ⊥ = eqb-false n 0 (sym e) in omega arith
-
-is_equal : (o : Ordering) → is_eq o ≡ true → o ≡ Equal
-is_equal Less e = absurd (false≢true e)
-is_equal Equal e = refl
-is_equal Greater e = absurd (false≢true e)
-
-pub same_monomial : (m n : Monomial) → eq_by_cmp text_cmp m n ≡ true → m ≡ n
-same_monomial m n e = text_cmp-same m n (is_equal (text_cmp m n) e)
-
 -- ---- the values of terms
 
 module _ {k : ℕ} {mul : ℕ → ℕ → ℕ} (f : IsField k mul) (elements : List ℕ) (w : ℕ) where
@@ -197,19 +183,6 @@ module _ {k : ℕ} {mul : ℕ → ℕ → ℕ} (f : IsField k mul) (elements : L
       let P : ℕ → Type 0 = λ n. IsReadFrom k mul elements w n ts us in
       subst P (sym same) (record { univariate = is.univariate; values = λ x d at bits. is.values x at ∙ sym (same_sums (value_from k mul elements w k d x) (power_of k mul elements w x) (last_place d x) ts) })
 
-  low_bit : (n : ℕ) → n < 2 → ◌≡◌ {A = ℕ} n (cond (n == 1) 1 0)
-  low_bit n less = elim (cases_lt n 1) [ inl none ↦ zero_bit n (omega (arith, none)) | inr some ↦ one_bit n (omega (arith, some, less)) ]
-    where
-      zero_bit : (m : ℕ) → m ≡ 0 → ◌≡◌ {A = ℕ} m (cond (m == 1) 1 0)
-      zero_bit m same = let P : ℕ → Type 0 = λ j. ◌≡◌ {A = ℕ} j (cond (j == 1) 1 0) in subst P (sym same) refl
-
-      one_bit : (m : ℕ) → m ≡ 1 → ◌≡◌ {A = ℕ} m (cond (m == 1) 1 0)
-      one_bit m same = let P : ℕ → Type 0 = λ j. ◌≡◌ {A = ℕ} j (cond (j == 1) 1 0) in subst P (sym same) refl
-
-  times_bit : (v : ℕ) → IsElement k v → (b : Bool) → mul v (cond b 1 0) ≡ cond b v 0
-  times_bit v at true = f.comm v 1 at (one_element f) ∙ f.neutral v at
-  times_bit v at false = product_by_zero f v at
-
   -- the terms without a bit, and those with it times the form of the bit
   pub next_read : (place rank : ℕ) (ts without with_it : Terms) (low high form new : Powers) → place < k → rank ≡ k * w + place → without ≡ filter (λ t. not (has_bit rank t.0)) ts → with_it ≡ filter (λ t. has_bit rank t.0) ts
       → IsReadFrom k mul elements w (place + 1) without low → IsReadFrom k mul elements w (place + 1) with_it high → IsForm k mul elements place form → IsPlusProduct k mul low high form new → IsReadFrom k mul elements w place ts new
@@ -223,7 +196,7 @@ module _ {k : ℕ} {mul : ℕ → ℕ → ℕ} (f : IsField k mul) (elements : L
         let hh = value_of_element f x high at right.univariate.powers in
         sum.values x at
         ∙ ((λ i. bit_xor ((left.values x d at bits ∙ ap (xor_sum g) (without_is ∙ ap (λ r. filter (λ t. not (has r t)) ts) rank_is)) i)
-        ((ap (mul h) (is.values x d at bits ∙ low_bit (bit_at d place) (bit_at-lt d place)) ∙ (times_bit h hh b ∙ ap (λ n. cond b n 0) (right.values x d at bits ∙ ap (xor_sum g) (with_is ∙ ap (λ r. filter (has r) ts) rank_is)))) i))
+        ((ap (mul h) (is.values x d at bits ∙ bit_is_choice (bit_at d place) (bit_at-lt d place)) ∙ (times_bit f h hh b ∙ ap (λ n. cond b n 0) (right.values x d at bits ∙ ap (xor_sum g) (with_is ∙ ap (λ r. filter (has r) ts) rank_is)))) i))
         ∙ sym (split_sum (value_from k mul elements w place d x) g (has (k * w + place)) b (λ t. one_place place d x t less) ts));
   }
 

@@ -10,6 +10,7 @@ use Rattle.std.specs.Cmp.{tied_itself}
 use Rattle.std.specs.List.{AllByRecursion, list_all}
 use Rattle.std.specs.List.Sorted.{IsStrictlySortedBy}
 use Rattle.std.specs.Map.{keys_of}
+use Rattle.lists.specs.laws.ListLaws.{all_append}
 use Rattle.gf_field.specs.Power.{power}
 use Rattle.poly_mixed.specs.Monomial.{Monomial, text_cmp, text_cmp_total}
 use Rattle.poly_mixed.specs.Polynomial.{Terms, Point, IsPoint, IsElement, IsTerm, IsReduced, powers, value}
@@ -21,7 +22,7 @@ use Rattle.poly_mixed.proofs.TermLemmas.{all_plus_term}
 use Rattle.poly_mixed.proofs.ValueLemmas.{value-plus, power_element, powers_element, product_zero}
 use Rattle.word_subst.specs.Univariate.{Powers, IsPower, IsBelow, IsRising, IsUnivariate, value_of}
 use Rattle.word_subst.specs.Spread.{Groups, total, with_exponent, spread, all_terms, IsRest, IsGroup}
-use Rattle.word_subst.proofs.UnivariateLemmas.{all_append, value_of_element}
+use Rattle.word_subst.proofs.UnivariateLemmas.{value_of_element}
 
 -- ---- lists of terms of different keys
 

@@ -5,7 +5,7 @@ use Rattle.std.specs.Int.{bit_at}
 use Rattle.std.specs.List.{AllByRecursion, filter, list_all}
 use Rattle.std.proofs.lemmas.List.Folds.{list_all-append}
 use Rattle.std.proofs.Math.Seq.{take-length}
-use Rattle.lists.specs.laws.BoolLaws.{not_true}
+use Rattle.lists.specs.laws.BoolLaws.{not_true, cond_and}
 use Rattle.gf_field.specs.Power.{power}
 use Rattle.poly_mixed.specs.Monomial.{Monomial, text_cmp}
 use Rattle.poly_mixed.specs.Polynomial.{Point, IsElement, IsTerm, powers, value}
@@ -179,12 +179,6 @@ module _ {k : ℕ} {mul : ℕ → ℕ → ℕ} (f : IsField k mul) (elements : L
 
   -- ---- a multiplier that nobody asks for
 
-  together : (a b : Bool) (x : ℕ) → cond (a && b) x 0 ≡ cond b (cond a x 0) 0
-  together true true x = refl
-  together true false x = refl
-  together false true x = refl
-  together false false x = refl
-
   -- the product with more bits
   pub bits_more : (us : Powers) (bits : List ℕ) → IsUnivariate k us → IsWithBits k mul (plus text_cmp [] (spread w (rest_of k w t.0) us)) bits (plus text_cmp [] (spread w (record { exponents = set t.0.exponents w 0; bits = union others bits }) us))
   bits_more us bits one =
@@ -197,6 +191,6 @@ module _ {k : ℕ} {mul : ℕ → ℕ → ℕ} (f : IsField k mul) (elements : L
             gathered_value f p at (spread w wide us) (spread_terms w k inside wide us wide_rest one.powers)
             ∙ (spread_value f w inside p wide us at wide_rest one.powers
             ∙ (ap (λ b. cond b v 0) (all-union p.is_one others bits)
-            ∙ (together (list_all p.is_one others) (list_all p.is_one bits) v
+            ∙ (cond_and (list_all p.is_one others) (list_all p.is_one bits) v
             ∙ ap (λ n. cond (list_all p.is_one bits) n 0) (sym (gathered_value f p at (spread w (rest_of k w t.0) us) (spread_terms w k inside (rest_of k w t.0) us is_rest one.powers) ∙ spread_value f w inside p (rest_of k w t.0) us at is_rest one.powers)))));
       }

@@ -1,8 +1,9 @@
 -- What is known of a word when its turn comes.
-use Rattle.std.proofs.Common.{◌≡◌, ◌∙◌, ap, refl, subst, ℕ, ◌<◌, ◌+◌, List, length, map, get_or, Some, arith}
+use Rattle.std.proofs.Common.{◌≡◌, ◌∙◌, ap, refl, subst, ℕ, ◌<◌, List, length, map, get_or, Some, arith}
 use Rattle.std.specs.Prelude.{slice_get}
 use Rattle.std.proofs.lemmas.Option.{slice_get-map}
 use Rattle.std.proofs.lemmas.List.{length-map}
+use Rattle.std.proofs.Math.Nat.{zero-add}
 use Rattle.lists.specs.laws.ReadLaws.{got_read, from_map}
 use Rattle.net_core.specs.Sound.{IsSound}
 use Rattle.net_words.specs.Binding.{Binding, BoundNet}
@@ -55,12 +56,9 @@ module _ (k : ℕ) (mul : ℕ → ℕ → ℕ) (b : BoundNet) (bases : List Basi
         let at = word_at 0 b.binding.words (map elements_of bases) w v all_long at_place in
         let in_bases : slice_get bases v ≡ Some basis = got_read bases v basis inside got in
         let in_map : slice_get (map elements_of bases) v ≡ Some (elements_of basis) = slice_get-map elements_of bases v ∙ rw in_bases refl in
-        let same : v ≡ at.index = at.number ∙ none at.index in
+        let same : v ≡ at.index = at.number ∙ zero-add at.index in
         let P : ℕ → Type 0 = λ i. slice_get (map elements_of bases) i ≡ Some (elements_of basis) in
         at.word (elements_of basis) (subst P same in_map)
-      where
-        none : (i : ℕ) → 0 + i ≡ i
-        none i = omega arith
 
     pub is_over : (basis : Basis) → basis ≡ get_or bases v basis → IsBasisOver k mul basis
     is_over basis got = are.each basis (v, got_read bases v basis inside got)

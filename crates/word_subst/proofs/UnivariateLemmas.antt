@@ -8,8 +8,8 @@ use Rattle.std.specs.declared.cmp.Ordering.TheVariants.{Less, Equal, Greater}
 use Rattle.std.specs.Cmp.{ranked}
 use Rattle.std.specs.Ordering.{nat_cmp}
 use Rattle.std.specs.List.{AllByRecursion}
-use Rattle.lists.specs.laws.ListLaws.{length-push}
-use Rattle.lists.specs.laws.XorLaws.{xor_swap, xor_same}
+use Rattle.lists.specs.laws.ListLaws.{length-push, all_append}
+use Rattle.lists.specs.laws.XorLaws.{xor_swap, xor_same, xor_cross}
 use Rattle.gf_field.specs.Power.{power}
 use Rattle.poly_mixed.specs.Polynomial.{IsElement}
 use Rattle.poly_mixed.specs.Sum.{xor_sum}
@@ -20,17 +20,9 @@ use Rattle.poly_mixed.proofs.RankLemmas.{from_less}
 use Rattle.word_subst.proofs.RisingLemmas.{rest_is}
 use Rattle.word_subst.specs.Merge.{IsBefore, IsMergeOf, IsMerging, IsMergedTo}
 
-pub all_append : {X : Type 0} (P : X → Type 0) (xs ys : List X) → AllByRecursion P xs → AllByRecursion P ys → AllByRecursion P (xs ++ ys)
-all_append P [] ys all more = more
-all_append P (x ∷ xs) ys all more = (all.0, all_append P xs ys all.1 more)
-
 pub xor_sum-append : {K : Type 0} (f : K × ℕ → ℕ) (ts us : List (K × ℕ)) → xor_sum f (ts ++ us) ≡ bit_xor (xor_sum f ts) (xor_sum f us)
 xor_sum-append f [] us = sym (xor_zero_l (xor_sum f us))
 xor_sum-append f (t ∷ ts) us = ap (bit_xor (f t)) (xor_sum-append f ts us) ∙ sym (xor_assoc (f t) (xor_sum f ts) (xor_sum f us))
-
--- the sum of two sums, by places
-pub four : (a b c d : ℕ) → bit_xor (bit_xor a b) (bit_xor c d) ≡ bit_xor (bit_xor a c) (bit_xor b d)
-four a b c d = xor_assoc a b (bit_xor c d) ∙ (ap (bit_xor a) (xor_swap b c d) ∙ sym (xor_assoc a c (bit_xor b d)))
 
 -- ---- order
 
@@ -134,7 +126,7 @@ module _ {k : ℕ} {mul : ℕ → ℕ → ℕ} (f : IsField k mul) where
               ap (λ n. bit_xor n (bit_xor a b)) (value_push x sum (e, bit_xor c d))
               ∙ (xor_assoc o (power_value mul x (e, bit_xor c d)) (bit_xor a b)
               ∙ (ap (λ n. bit_xor o (bit_xor n (bit_xor a b))) (f.distrib c d (power mul x e) hc hd (power_element f x e at))
-              ∙ (ap (bit_xor o) (four p q a b) ∙ is.values x at)));
+              ∙ (ap (bit_xor o) (xor_cross p q a b) ∙ is.values x at)));
         }
 
     -- the two powers are equal
@@ -154,7 +146,7 @@ module _ {k : ℕ} {mul : ℕ → ℕ → ℕ} (f : IsField k mul) where
           let b = value_of mul x right in
           let equal : p ≡ q = ap (λ n. mul n (power mul x e)) same in
           let gone : bit_xor p q ≡ 0 = ap (λ n. bit_xor n q) equal ∙ xor_self q in
-          ap (bit_xor o) (sym (xor_zero_l (bit_xor a b)) ∙ (ap (λ n. bit_xor n (bit_xor a b)) (sym gone) ∙ four p q a b)) ∙ is.values x at;
+          ap (bit_xor o) (sym (xor_zero_l (bit_xor a b)) ∙ (ap (λ n. bit_xor n (bit_xor a b)) (sym gone) ∙ xor_cross p q a b)) ∙ is.values x at;
     }
 
     pub merge_end_left : (left sum : Powers) → IsMergeOf k mul us vs left [] sum → IsSum k mul us vs (sum ++ left)

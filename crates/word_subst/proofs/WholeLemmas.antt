@@ -6,6 +6,7 @@ use Rattle.std.specs.List.{AllByRecursion, list_all}
 use Rattle.std.proofs.lemmas.Bool.{cases_lt}
 use Rattle.std.proofs.lemmas.List.{take-map, length-map, append_assoc}
 use Rattle.std.proofs.lemmas.Nat.Bits.{bit_at-lt, bit_at-suc}
+use Rattle.lists.specs.laws.ListLaws.{all_append}
 use Rattle.lists.specs.laws.ReadLaws.{get_below}
 use Rattle.gf_basis.specs.Basis.{AreBits}
 use Rattle.irreducible.specs.Span.{combination}
@@ -23,7 +24,7 @@ use Rattle.word_subst.specs.Whole.{with_first, times_bits, IsPart}
 use Rattle.word_subst.proofs.LinearLemmas.{linear_few, scaled, scaled_at, next_sum, next_univariate, next_linear, next_at}
 use Rattle.word_subst.proofs.PrefixLemmas.{take_append}
 use Rattle.word_subst.proofs.SpreadLemmas.{spread_value, word_element}
-use Rattle.word_subst.proofs.UnivariateLemmas.{all_append, xor_sum-append, value_of_element}
+use Rattle.word_subst.proofs.UnivariateLemmas.{xor_sum-append, value_of_element}
 
 -- ---- lists
 
@@ -55,6 +56,24 @@ room_split k (suc n) (t ∷ ts) = omega (arith, room_split k n ts)
 -- each term times a polynomial in the word
 abbrev pub times_poly : ℕ → (ℕ → ℕ → ℕ) → Powers → Terms → Groups
 times_poly k mul us ts = map (λ t. (t.0, multiplied k mul (0, t.1) us)) ts
+
+-- a place of the word's ranks is the rank less those before the word
+pub place_of : (k w i : ℕ) → k * w + i - k * w ≡ i
+place_of k w i = by (k * w)
+  where
+    by : (b : ℕ) → b + i - b ≡ i
+    by b = omega arith
+
+pub next_rank : (k w i : ℕ) → k * w + i + 1 ≡ k * w + suc i
+next_rank k w i = by (k * w)
+  where
+    by : (b : ℕ) → b + i + 1 ≡ b + suc i
+    by b = omega arith
+
+-- a factor in front of a choice
+pub moved : {k : ℕ} {mul : ℕ → ℕ → ℕ} → IsField k mul → (b : Bool) (c v q : ℕ) → IsElement k c → IsElement k v → IsElement k q → cond b (mul (mul c v) q) 0 ≡ mul v (cond b (mul c q) 0)
+moved {mul = mul} f true c v q hc hv hq = ap (λ n. mul n q) (f.comm c v hc hv) ∙ f.assoc v c q hv hc hq
+moved f false c v q hc hv hq = sym (product_by_zero f v hv)
 
 module _ {k : ℕ} {mul : ℕ → ℕ → ℕ} (f : IsField k mul) (w : ℕ) (inside : w < 8) where
   -- ---- parts
@@ -92,10 +111,6 @@ module _ {k : ℕ} {mul : ℕ → ℕ → ℕ} (f : IsField k mul) (w : ℕ) (in
   poly_few us [] is linear all = omega arith
   poly_few us (t ∷ ts) is linear all = omega (arith, (scaled f t.1 us all.0.element all.0.some is).1, linear_few k us is linear, poly_few us ts is linear all.1)
 
-  moved : (b : Bool) (c v q : ℕ) → IsElement k c → IsElement k v → IsElement k q → cond b (mul (mul c v) q) 0 ≡ mul v (cond b (mul c q) 0)
-  moved true c v q hc hv hq = ap (λ n. mul n q) (f.comm c v hc hv) ∙ f.assoc v c q hv hc hq
-  moved false c v q hc hv hq = sym (product_by_zero f v hv)
-
   poly_value : (us : Powers) (ts : Terms) → IsUnivariate k us → AllByRecursion (IsPart w k) ts → (p : Point) → IsPoint k p → value mul p (all_terms w (times_poly k mul us ts)) ≡ mul (value_of mul (slice_index p.words w) us) (value mul p ts)
   poly_value us [] is all p at = sym (product_by_zero f (value_of mul (slice_index p.words w) us) (value_of_element f (slice_index p.words w) us (word_element f p w at inside) is.powers))
   poly_value us (t ∷ ts) is all p at =
@@ -112,7 +127,7 @@ module _ {k : ℕ} {mul : ℕ → ℕ → ℕ} (f : IsField k mul) (w : ℕ) (in
       ∙ ((λ i. bit_xor
       ((spread_value f w inside p t.0 (multiplied k mul (0, t.1) us) at all.0.rest own.0.univariate.powers
       ∙ (ap (λ n. cond (list_all p.is_one t.0.bits) (mul n q) 0) (scaled_at f t.1 x us all.0.element all.0.some is hx)
-      ∙ moved (list_all p.is_one t.0.bits) t.1 v q all.0.element hv hq)) i)
+      ∙ moved f (list_all p.is_one t.0.bits) t.1 v q all.0.element hv hq)) i)
       (poly_value us ts is all.1 p at i))
       ∙ sym (distrib_right f v one (value mul p ts) hv (chosen (list_all p.is_one t.0.bits)) (part_value p at ts all.1)))
 
@@ -171,18 +186,6 @@ module _ {k : ℕ} {mul : ℕ → ℕ → ℕ} (f : IsField k mul) (w : ℕ) (in
   combination_element [] c all = zero_element f
   combination_element (b ∷ bs) c all = xor_lt k (c % 2 * b) (combination bs (c / 2)) (low_product (c % 2) (omega arith) b all.0.0) (combination_element bs (c / 2) all.1)
 
-  place_of : (i : ℕ) → k * w + i - k * w ≡ i
-  place_of i = by (k * w)
-    where
-      by : (b : ℕ) → b + i - b ≡ i
-      by b = omega arith
-
-  next_rank : (i : ℕ) → k * w + i + 1 ≡ k * w + suc i
-  next_rank i = by (k * w)
-    where
-      by : (b : ℕ) → b + i + 1 ≡ b + suc i
-      by b = omega arith
-
   -- the terms times all these bits, which are those of the number e and stand from place i on in d
   pub bits_value : (i : ℕ) (bs : List ℕ) (ts : Terms) (e : ℕ) → i + length bs ≤ k → AllByRecursion (λ b. IsElement k b × (b ≢ 0)) bs → AllByRecursion (IsPart w k) ts → (p : Point) (d : ℕ) → IsPoint k p → ((j : ℕ) → bit_at d (i + j) ≡ bit_at e j)
       → value mul (with_word k w d p) (times_bits mul (k * w + i) bs ts) ≡ mul (combination bs e) (value mul p ts)
@@ -198,10 +201,10 @@ module _ {k : ℕ} {mul : ℕ → ℕ → ℕ} (f : IsField k mul) (w : ℕ) (in
       xor_sum-append (term_value mul (with_word k w d p)) (map (with_first mul (k * w + i) b) ts) (times_bits mul (k * w + i + 1) bs ts)
       ∙ ((λ j. bit_xor
       ((first_value (k * w + i) b ts (is_own k w i (omega (arith, most))) hb all p d at
-      ∙ ((λ h. cond (bit_at d (place_of i h) == 1) (mul b v) 0)
+      ∙ ((λ h. cond (bit_at d (place_of k w i h) == 1) (mul b v) 0)
       ∙ (ap (λ n. cond (n == 1) (mul b v) 0) low
       ∙ sym (bit_cases (e % 2) bit b v hb hv)))) j)
-      ((ap (λ r. value mul (with_word k w d p) (times_bits mul r bs ts)) (next_rank i) ∙ rest) j))
+      ((ap (λ r. value mul (with_word k w d p) (times_bits mul r bs ts)) (next_rank k w i) ∙ rest) j))
       ∙ sym (f.distrib (e % 2 * b) (combination bs (e / 2)) v (low_product (e % 2) bit b hb) (combination_element bs (e / 2) elements.1) hv))
 
   -- ---- the first terms
@@ -269,7 +272,7 @@ module _ {k : ℕ} {mul : ℕ → ℕ → ℕ} (f : IsField k mul) (w : ℕ) (in
                 let hy = part_value p at back back_are in
                 let c = cond (bit_at d i == 1) (mul b v) 0 in
                 let told : value mul (with_word k w d p) (map (with_first mul (k * w + i) b) front) ≡ c =
-                first_value (k * w + i) b front (is_own k w i less) hb front_are p d at ∙ (λ h. cond (bit_at d (place_of i h) == 1) (mul b v) 0) in
+                first_value (k * w + i) b front (is_own k w i less) hb front_are p d at ∙ (λ h. cond (bit_at d (place_of k w i h) == 1) (mul b v) 0) in
                 ap (value mul p) (terms_append gs hs)
                 ∙ (xor_sum-append (term_value mul p) (all_terms w gs) (all_terms w hs)
                 ∙ ((λ j. bit_xor ((poly_value (next_sum f b us form) front new_is front_are p at ∙ new_times x d v hx bits hv) j) (poly_value us back is back_are p at j))
@@ -294,7 +297,7 @@ module _ {k : ℕ} {mul : ℕ → ℕ → ℕ} (f : IsField k mul) (w : ℕ) (in
             let c = cond (bit_at d i == 1) (mul b v) 0 in
             let r = value mul (with_word k w d p) ts in
             let told : value mul (with_word k w d p) (map (with_first mul (k * w + i) b) parts) ≡ c =
-            first_value (k * w + i) b parts (is_own k w i less) hb all p d at ∙ (λ h. cond (bit_at d (place_of i h) == 1) (mul b v) 0) in
+            first_value (k * w + i) b parts (is_own k w i less) hb all p d at ∙ (λ h. cond (bit_at d (place_of k w i h) == 1) (mul b v) 0) in
             has.values p d at bits
             ∙ (ap (λ n. bit_xor n r) (new_times x d v hx bits hv)
             ∙ (xor_assoc (mul u v) c r
@@ -318,5 +321,5 @@ module _ {k : ℕ} {mul : ℕ → ℕ → ℕ} (f : IsField k mul) (w : ℕ) (in
               let new_linear = next_linear f b us form.0 each.0.0 each.0.1 is form_is.univariate linear form_is.linear in
               let next = first_groups (suc i) bs (next_sum f b us form.0) (s - length block) (omega (arith, most)) each.1 new_is new_linear in
               let Q : ℕ → Type 0 = λ r. HasGroups elements parts (next_sum f b us form.0) (take (s - length block) (times_bits mul r bs parts)) in
-              subst P (sym (take_past s block rest high)) (all_more i less b each.0.0 each.0.1 us form.0 is linear form_is (take (s - length block) rest) (subst Q (sym (next_rank i)) next))
+              subst P (sym (take_past s block rest high)) (all_more i less b each.0.0 each.0.1 us form.0 is linear form_is (take (s - length block) rest) (subst Q (sym (next_rank k w i)) next))
         ]

@@ -1,25 +1,24 @@
 -- A polynomial times the bits of a word, each times its basis element, read from the word: its sum, and that no stage is over
 -- the bound where it has no more terms than that.
-use Rattle.std.proofs.Common.{◌≡◌, ◌≢◌, ◌∙◌, ap, sym, refl, subst, ℕ, zero, suc, ◌<◌, ◌≤◌, ◌+◌, ◌-◌, ◌*◌, ◌^◌, ◌==◌, ◌&&◌, Bool, true, false, cond, List, [], ◌∷◌, ◌++◌, map, length, take, drop, slice_index, bit_xor, Some, suc-mul, arith}
-use Rattle.std.specs.Prelude.{slice_get}
+use Rattle.std.proofs.Common.{◌≡◌, ◌≢◌, ◌∙◌, ap, sym, refl, subst, ℕ, zero, suc, ◌<◌, ◌≤◌, ◌+◌, ◌-◌, ◌*◌, ◌^◌, ◌==◌, ◌&&◌, Bool, true, false, cond, List, [], ◌∷◌, ◌++◌, map, length, take, drop, slice_index, bit_xor, suc-mul, arith}
 use Rattle.std.specs.Int.{bit_at}
 use Rattle.std.specs.Int.Bits.{xor_zero_l, xor_zero_r}
 use Rattle.std.specs.List.{AllByRecursion, filter, list_all}
-use Rattle.std.specs.declared.cmp.Ordering.TheVariants.{Less, Equal, Greater}
-use Rattle.std.specs.Ordering.{match_ordering}
-use Rattle.std.proofs.Math.Nat.{mul_comm}
+use Rattle.std.proofs.Math.Nat.{mul_comm, add-zero}
 use Rattle.std.proofs.Math.Seq.{take-length}
 use Rattle.std.proofs.lemmas.List.{length-append, length-map, take-append-drop, drop_more}
 use Rattle.std.proofs.lemmas.Nat.Bits.{bit_at-lt}
-use Rattle.lists.specs.laws.ReadLaws.{get_below}
+use Rattle.lists.specs.laws.ListLaws.{all_append}
+use Rattle.lists.specs.laws.ReadLaws.{get_below, all_at}
 use Rattle.gf_basis.specs.Basis.{AreBits}
 use Rattle.gf_field.specs.Element.{AreElements}
 use Rattle.gf_field.specs.Power.{power}
 use Rattle.poly_mixed.specs.Monomial.{Monomial, text_cmp}
 use Rattle.poly_mixed.specs.Polynomial.{Terms, Point, IsPoint, IsTerm, IsElement, IsReduced, powers, term_value, value}
-use Rattle.poly_mixed.specs.Sum.{with_coefficient, plus_term, plus}
+use Rattle.poly_mixed.specs.Sum.{plus}
 use Rattle.poly_mixed.proofs.FieldLaws.{IsField}
 use Rattle.poly_mixed.proofs.ProductLemmas.{distrib_right}
+use Rattle.poly_mixed.proofs.SharedLemmas.{plus_few}
 use Rattle.poly_mixed.proofs.ValueLemmas.{one_element, zero_element, powers_element, product_zero, product_by_zero}
 use Rattle.stage_model.specs.WordStage.{is_of_word, word_bits, with_word}
 use Rattle.stage_model.proofs.PlaceLemmas.{is_own}
@@ -37,8 +36,8 @@ use Rattle.word_subst.proofs.LinearLemmas.{linear_few, scaled}
 use Rattle.word_subst.proofs.SomeProductsLemmas.{terms_quiet}
 use Rattle.word_subst.proofs.SpreadLemmas.{spread_value, spread_length, word_element, gathered_reduced, gathered_value, groups_terms, groups_nonzero, total_length}
 use Rattle.word_subst.proofs.TermPartLemmas.{product_is, is_rest}
-use Rattle.word_subst.proofs.UnivariateLemmas.{all_append, xor_sum-append, no_powers, one_power}
-use Rattle.word_subst.proofs.WholeLemmas.{room, part_value, bits_value, first_groups, HasGroups}
+use Rattle.word_subst.proofs.UnivariateLemmas.{xor_sum-append, no_powers, one_power}
+use Rattle.word_subst.proofs.WholeLemmas.{room, part_value, bits_value, first_groups, HasGroups, place_of, next_rank, moved}
 
 -- ---- lists
 
@@ -49,28 +48,6 @@ all_front P (x ∷ xs) ys all = (all.0, all_front P xs ys all.1)
 all_end : {X : Type 0} (P : X → Type 0) (xs ys : List X) → AllByRecursion P (xs ++ ys) → AllByRecursion P ys
 all_end P [] ys all = all
 all_end P (x ∷ xs) ys all = all_end P xs ys all.1
-
-at_index : {X : Type 0} (P : X → Type 0) (xs : List X) (i : ℕ) (x : X) → AllByRecursion P xs → slice_get xs i ≡ Some x → P x
-at_index P [] i x all got = absurd (cc)
-at_index P (y ∷ xs) zero x all got = let here : y ≡ x = cc in subst P here all.0
-at_index P (y ∷ xs) (suc i) x all got = at_index P xs i x all.1 got
-
-plus_term_few : (ts : Terms) (u : Monomial × ℕ) → length (plus_term text_cmp ts u) ≤ suc (length ts)
-plus_term_few [] u = omega arith
-plus_term_few (t ∷ ts) u =
-    elim (text_cmp u.0 t.0) as (λ r. length (match_ordering r (u ∷ t ∷ ts) (with_coefficient t.0 (bit_xor t.1 u.1) ts) (t ∷ plus_term text_cmp ts u)) ≤ suc (suc (length ts))) [
-      | Less ↦ omega arith
-      | Equal ↦ elim (bit_xor t.1 u.1 == 0) as (λ b. length (cond b ts ((t.0, bit_xor t.1 u.1) ∷ ts)) ≤ suc (suc (length ts))) [ true ↦ omega arith | false ↦ omega arith ]
-      | Greater ↦ omega (arith, plus_term_few ts u)
-    ]
-
-plus_few : (ts us : Terms) → length (plus text_cmp ts us) ≤ length ts + length us
-plus_few ts [] = omega arith
-plus_few ts (u ∷ us) = omega (arith, plus_few (plus_term text_cmp ts u) us, plus_term_few ts u)
-
-pub no_items : {X : Type 0} (xs : List X) → length xs ≡ 0 → xs ≡ []
-no_items [] none = refl
-no_items (x ∷ xs) none = absurd (omega arith)
 
 -- where nothing passes, nothing holds
 pub none_passes : (p : ℕ → Bool) (xs : List ℕ) → filter p xs ≡ [] → AllByRecursion (λ x. p x ≡ false) xs
@@ -133,12 +110,6 @@ module _ {k : ℕ} {mul : ℕ → ℕ → ℕ} (f : IsField k mul) (elements : L
   low_bit (suc zero) less = refl
   low_bit (suc (suc n)) less = absurd (omega arith)
 
-  place_of : (i : ℕ) → k * w + i - k * w ≡ i
-  place_of i = by (k * w)
-    where
-      by : (b : ℕ) → b + i - b ≡ i
-      by b = omega arith
-
   -- the product of one bit is its linear form
   one_product : (i start : ℕ) (form : Powers) → IsForm k mul elements i form → start ≡ 0 → IsBitProduct k mul elements w start ((k * w + i) ∷ []) form
   unfolding power
@@ -146,7 +117,7 @@ module _ {k : ℕ} {mul : ℕ → ℕ → ℕ} (f : IsField k mul) (elements : L
       let P : ℕ → Type 0 = λ s. IsBitProduct k mul elements w s ((k * w + i) ∷ []) form in
       subst P (sym none) (record {
         univariate = is.univariate;
-        values = λ x d at bits. is.values x d at bits ∙ low_bit (bit_at d i) (bit_at-lt d i) ∙ sym (λ h. cond ((bit_at d (place_of i h) == 1) && true) 1 0);
+        values = λ x d at bits. is.values x d at bits ∙ low_bit (bit_at d i) (bit_at-lt d i) ∙ sym (λ h. cond ((bit_at d (place_of k w i h) == 1) && true) 1 0);
       })
 
   term_within : (i b : ℕ) (q : Monomial × ℕ) → i < k → k ≤ bound → IsPart w k q → IsTerm k (with_first mul (k * w + i) b q) → mul b q.1 ≢ 0 → IsTermWithin k mul elements w (with_first mul (k * w + i) b q) bound
@@ -172,12 +143,6 @@ module _ {k : ℕ} {mul : ℕ → ℕ → ℕ} (f : IsField k mul) (elements : L
   block_within i b [] less wide parts terms some = tt
   block_within i b (q ∷ qs) less wide parts terms some = (term_within i b q less wide parts.0 terms.0 some.0, block_within i b qs less wide parts.1 terms.1 some.1)
 
-  next_rank : (i : ℕ) → k * w + i + 1 ≡ k * w + suc i
-  next_rank i = by (k * w)
-    where
-      by : (b : ℕ) → b + i + 1 ≡ b + suc i
-      by b = omega arith
-
   all_within : (i : ℕ) (bs : List ℕ) (qs : Terms) → i + length bs ≤ k → k ≤ bound → AllByRecursion (IsPart w k) qs → AllByRecursion (IsTerm k) (times_bits mul (k * w + i) bs qs) → AllByRecursion (λ t. t.1 ≢ 0) (times_bits mul (k * w + i) bs qs)
       → AllByRecursion (λ t. IsTermWithin k mul elements w t bound) (times_bits mul (k * w + i) bs qs)
   all_within i [] qs most wide parts terms some = tt
@@ -188,8 +153,8 @@ module _ {k : ℕ} {mul : ℕ → ℕ → ℕ} (f : IsField k mul) (elements : L
       let N : ℕ → Type 0 = λ r. AllByRecursion (λ t. t.1 ≢ 0) (times_bits mul r bs qs) in
       let W : ℕ → Type 0 = λ r. AllByRecursion (λ t. IsTermWithin k mul elements w t bound) (times_bits mul r bs qs) in
       let first = block_within i b qs (omega (arith, most)) wide parts (all_front (IsTerm k) block rest terms) (all_front (λ t. t.1 ≢ 0) block rest some) in
-      let more = all_within (suc i) bs qs (omega (arith, most)) wide parts (subst T (next_rank i) (all_end (IsTerm k) block rest terms)) (subst N (next_rank i) (all_end (λ t. t.1 ≢ 0) block rest some)) in
-      all_append (λ t. IsTermWithin k mul elements w t bound) block rest first (subst W (sym (next_rank i)) more)
+      let more = all_within (suc i) bs qs (omega (arith, most)) wide parts (subst T (next_rank k w i) (all_end (IsTerm k) block rest terms)) (subst N (next_rank k w i) (all_end (λ t. t.1 ≢ 0) block rest some)) in
+      all_append (λ t. IsTermWithin k mul elements w t bound) block rest first (subst W (sym (next_rank k w i)) more)
 
 -- ---- all terms
 
@@ -212,10 +177,6 @@ module _ {k : ℕ} {mul : ℕ → ℕ → ℕ} (f : IsField k mul) where
     word_total [] = refl
     word_total (q ∷ qs) = omega (arith, word_total qs)
 
-    moved : (b : Bool) (c x r : ℕ) → IsElement k c → IsElement k x → IsElement k r → cond b (mul (mul c x) r) 0 ≡ mul x (cond b (mul c r) 0)
-    moved true c x r hc hx hr = ap (λ n. mul n r) (f.comm c x hc hx) ∙ f.assoc x c r hx hc hr
-    moved false c x r hc hx hr = sym (product_by_zero f x hx)
-
     one_value : (c x : ℕ) → IsElement k c → IsElement k x → value_of mul x ((1, c) ∷ []) ≡ mul c x
     unfolding power
     one_value c x hc hx = xor_zero_r (mul c (mul x 1)) ∙ ap (mul c) (f.comm x 1 hx (one_element f) ∙ f.neutral x hx)
@@ -232,16 +193,13 @@ module _ {k : ℕ} {mul : ℕ → ℕ → ℕ} (f : IsField k mul) where
         ∙ ((λ i. bit_xor
         ((spread_value f w inside p q.0 ((1, q.1) ∷ []) at all.0.rest (one_power_is q.1 all.0.element all.0.some).powers
         ∙ (ap (λ n. cond (list_all p.is_one q.0.bits) (mul n r) 0) (one_value q.1 x all.0.element hx)
-        ∙ moved (list_all p.is_one q.0.bits) q.1 x r all.0.element hx hr)) i)
+        ∙ moved f (list_all p.is_one q.0.bits) q.1 x r all.0.element hx hr)) i)
         (word_value qs all.1 p at i))
         ∙ sym (distrib_right f x (term_value mul p q) (value mul p qs) hx (chosen (list_all p.is_one q.0.bits)) (part_value f w inside p at qs all.1)))
 
     module _ (elements : List ℕ) (size : length elements ≡ k) (in_field : AllByRecursion (IsElement k) elements) (forms : List Powers) (are_forms : AreForms k mul elements forms) (bound : ℕ) (parts : Terms) (all : AllByRecursion (IsPart w k) parts) where
       first_rank : k * w + 0 ≡ k * w
-      first_rank = by (k * w)
-        where
-          by : (b : ℕ) → b + 0 ≡ b
-          by b = omega arith
+      first_rank = add-zero (k * w)
 
       -- the terms are the parts times the bits of the word
       pub read_blocks : (ts : Terms) → AllByRecursion (λ b. IsElement k b × (b ≢ 0)) elements → IsReduced k (times_bits mul (k * w + 0) elements parts) → 1 ≤ length (times_bits mul (k * w + 0) elements parts) → length (times_bits mul (k * w + 0) elements parts) ≤ bound
@@ -265,7 +223,7 @@ module _ {k : ℕ} {mul : ℕ → ℕ → ℕ} (f : IsField k mul) where
             };
             small = omega (arith, plus_few [] (all_terms w (times_word parts)), total_length w k inside (times_word parts), word_total parts, few);
             within = record {
-              products = λ i t less got. at_index (λ u. IsTermWithin k mul elements w u bound) terms i t (all_within f elements w inside forms are_forms bound 0 elements parts (omega (arith, size)) wide all reduced.terms reduced.is_map.nonzero) got;
+              products = λ i t less got. all_at (λ u. IsTermWithin k mul elements w u bound) terms i t (all_within f elements w inside forms are_forms bound 0 elements parts (omega (arith, size)) wide all reduced.terms reduced.is_map.nonzero) got;
               sums = λ s first last. sum_within s some (omega (arith, rooms, most));
             };
             quiet = terms_quiet f elements w forms are_forms (2 ^ k) (omega arith) inside terms reduced.terms reduced.is_map.nonzero;

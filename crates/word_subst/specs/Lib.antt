@@ -1,4 +1,7 @@
 pub mod Recorded
+pub mod InWords
+pub mod WordStages
+pub mod Laws
 pub mod AtOnce
 pub mod Whole
 pub mod Forms

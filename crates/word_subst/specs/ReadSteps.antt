@@ -33,6 +33,10 @@ module _ (k : ℕ) (mul : ℕ → ℕ → ℕ) (elements : List ℕ) (w : ℕ) w
     pub are : AreFirstSteps term n steps
     pub told : Tells old new steps
 
+  -- so it does for all its bits of the word
+  abbrev pub TellsTerm : Monomial × ℕ → Option (List Step) → Option (List Step) → Type 0
+  TellsTerm term old new = TellsFirst term (length (word_bits k w term)) old new
+
   -- where the recorder tells its pairs, it holds what it held and then those of these terms
   pub record TellsTerms (terms : Terms) (old new : Option (List Step)) : Type 0 where
     pub steps : List Step

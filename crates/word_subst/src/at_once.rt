@@ -166,7 +166,7 @@ fn all<'a>(alloc: Global, terms: &'a [Term]) -> Result<Vec<&'a Term>, AllocError
 }
 
 // Whether a term has this monomial beside the word and its bits.
-#[tactic(auto, using(crate::proofs::ReadFromLemmas::same_monomial))]
+#[tactic(auto, using(poly_mixed::proofs::SharedLemmas::same_monomial))]
 fn same_rest(
     alloc: Global,
     term: &Term,
@@ -254,21 +254,20 @@ pub fn at_once<F: Field>(
     field: &F,
     basis: &Basis,
     word: u32,
-    bits: &Poly,
+    terms: &[Term],
     bound: u32,
 ) -> Result<Option<Poly>, AllocError>
     requires over { IsBasisOver (F.degree field.now) (F.product field.now) basis.now }
     requires word { word < 8 }
-    requires bits { IsReduced (F.degree field.now) bits.now.terms }
-    ensures { IfOk result (λ o. IfSome o (λ q. IsReadAtOnce (F.degree field.now) (F.product field.now) (elements_of basis.now) word bits.now.terms bound q.terms)) }
+    requires terms { IsReduced (F.degree field.now) terms.now }
+    ensures { IfOk result (λ o. IfSome o (λ q. IsReadAtOnce (F.degree field.now) (F.product field.now) (elements_of basis.now) word terms.now bound q.terms)) }
 {
     if !is_wide(field.k(), bound) {
         return Ok(None);
     }
-    let terms = bits.terms(alloc)?;
-    match one_rest(alloc, &terms, field.k(), word)? {
+    match one_rest(alloc, terms, field.k(), word)? {
         Some(rest) => {
-            let poly = read_all(alloc, field, basis, word, &terms, &rest, bound)?;
+            let poly = read_all(alloc, field, basis, word, terms, &rest, bound)?;
             Ok(Some(poly))
         }
         None => Ok(None),

@@ -1,10 +1,10 @@
 //! The pairs of a term's bits of the word.
-ghost use Rattle.std.specs.Prelude.{◌≡◌, ◌≢◌, ◌<◌, length, slice_index, OnOk};
+ghost use Rattle.std.specs.Prelude.{◌≡◌, ◌≢◌, ◌<◌, slice_index, OnOk};
 ghost use Rattle.gf_basis.specs.BasisParts.{elements_of};
 ghost use Rattle.poly_mixed.specs.Polynomial.{IsTerm};
 ghost use Rattle.stage_model.specs.WordStage.{word_bits};
 ghost use Rattle.word_subst.specs.Prefix.{AreProducts};
-ghost use Rattle.word_subst.specs.ReadSteps.{TellsFirst};
+ghost use Rattle.word_subst.specs.ReadSteps.{TellsTerm};
 
 use crate::multiple::scaled;
 use crate::product::with_bits;
@@ -36,7 +36,7 @@ pub fn tell<F: Field, T: Steps>(
     requires products { AreProducts (F.degree field.now) (F.product field.now) (elements_of _basis.now) word _bound products.now }
     requires ranks { products.now.ranks ≡ own.now }
     requires start { products.now.start ≡ slice_index term.now.0.exponents word }
-    ensures { OnOk result (TellsFirst (F.degree field.now) (F.product field.now) (elements_of _basis.now) word term.now (length (word_bits (F.degree field.now) word term.now)) (T.steps steps.old) (T.steps steps.new)) }
+    ensures { OnOk result (TellsTerm (F.degree field.now) (F.product field.now) (elements_of _basis.now) word term.now (T.steps steps.old) (T.steps steps.new)) }
 {
     if !steps.tells() {
         return Ok(());

@@ -11,7 +11,6 @@ ghost use Rattle.word_subst.specs.AtOnce.{IsReadAtOnce};
 ghost use Rattle.word_subst.specs.Spread.{all_terms};
 ghost use Rattle.word_subst.specs.Whole.{IsPart, times_bits, times_word as word_times, with_first};
 
-use crate::forms::forms;
 use crate::multiple::product_by;
 use crate::rest::own_ranks;
 use crate::sums::add_spread;
@@ -248,24 +247,22 @@ pub fn whole<F: Field>(
     field: &F,
     basis: &Basis,
     word: u32,
-    bits: &Poly,
+    terms: &[Term],
     bound: u32,
 ) -> Result<Option<Poly>, AllocError>
     requires over { IsBasisOver (F.degree field.now) (F.product field.now) basis.now }
     requires word { word < 8 }
-    requires bits { IsReduced (F.degree field.now) bits.now.terms }
-    ensures { IfOk result (λ o. IfSome o (λ q. IsReadAtOnce (F.degree field.now) (F.product field.now) (elements_of basis.now) word bits.now.terms bound q.terms)) }
+    requires terms { IsReduced (F.degree field.now) terms.now }
+    ensures { IfOk result (λ o. IfSome o (λ q. IsReadAtOnce (F.degree field.now) (F.product field.now) (elements_of basis.now) word terms.now bound q.terms)) }
 {
-    if bits.len() as u64 > u64::from(bound)
-        || bits.len() == 0
-        || bits.len() % field.k() as usize != 0
+    if terms.len() as u64 > u64::from(bound)
+        || terms.is_empty()
+        || terms.len() % field.k() as usize != 0
     {
         return Ok(None);
     }
-    let terms = bits.terms(alloc)?;
-    match parts_of_all(alloc, field, basis, word, &terms)? {
+    match parts_of_all(alloc, field, basis, word, terms)? {
         Some(parts) => {
-            let _forms = forms(alloc, field, basis)?;
             let poly = sum_of(alloc, word, &parts)?;
             Ok(Some(poly))
         }

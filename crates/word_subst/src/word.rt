@@ -6,14 +6,13 @@ ghost use Rattle.std.specs.Map.{keys_of};
 ghost use Rattle.gf_basis.specs.BasisParts.{IsBasisOver, elements_of};
 ghost use Rattle.poly_mixed.specs.Monomial.{text_cmp};
 ghost use Rattle.poly_mixed.specs.Polynomial.{IsReduced, IsTerm};
-ghost use Rattle.stage_model.specs.WordStage.{word_bits};
 ghost use Rattle.stage_model.specs.PlainWord.{IsSumOf};
 ghost use Rattle.word_subst.specs.Forms.{AreForms};
 ghost use Rattle.word_subst.specs.Prefix.{AreProducts};
 ghost use Rattle.word_subst.specs.Spread.{total, IsGroup};
 ghost use Rattle.word_subst.specs.Rest.{AddsTerm};
 ghost use Rattle.word_subst.specs.Read.{IsTermWithin, AreTermsWithin};
-ghost use Rattle.word_subst.specs.ReadSteps.{TellsFirst, TellsTerms};
+ghost use Rattle.word_subst.specs.ReadSteps.{TellsTerm, TellsTerms};
 ghost use Rattle.word_subst.specs.ReadRefusal.{IsTermRefusal, IsWordRefusal};
 
 use crate::at_once::at_once;
@@ -57,7 +56,7 @@ fn next_term<F: Field, T: Steps>(
     ensures groups { OnOk result (AllByRecursion (IsGroup word (F.degree field.now)) sums.new) }
     ensures ordered { OnOk result (IsStrictlySortedBy text_cmp (keys_of sums.new)) }
     ensures values { OnOk result (AddsTerm (F.degree field.now) (F.product field.now) (elements_of basis.now) word term.now sums.old sums.new) }
-    ensures steps { OnOk result (TellsFirst (F.degree field.now) (F.product field.now) (elements_of basis.now) word term.now (length (word_bits (F.degree field.now) word term.now)) (T.steps steps.old) (T.steps steps.new)) }
+    ensures steps { OnOk result (TellsTerm (F.degree field.now) (F.product field.now) (elements_of basis.now) word term.now (T.steps steps.old) (T.steps steps.new)) }
 {
     let own = own_ranks(alloc, term.mono().bits(), field.k(), word)?;
     follow_term(
@@ -76,22 +75,21 @@ fn term_by_term<F: Field, T: Steps>(
     field: &F,
     basis: &Basis,
     word: u32,
-    bits: &Poly,
+    terms: &[Term],
     bound: u32,
     steps: &mut T,
 ) -> Result<Poly, ReduceFault>
     requires over { IsBasisOver (F.degree field.now) (F.product field.now) basis.now }
     requires word { word < 8 }
-    requires bits { IsReduced (F.degree field.now) bits.now.terms }
-    requires few { length bits.now.terms < 2 ^ 32 }
-    ensures sum { IfOk result (λ q. IsSumOf (F.degree field.now) (F.product field.now) (elements_of basis.now) word bits.now.terms (length bits.now.terms) q.terms) }
+    requires terms { IsReduced (F.degree field.now) terms.now }
+    requires few { length terms.now < 2 ^ 32 }
+    ensures sum { IfOk result (λ q. IsSumOf (F.degree field.now) (F.product field.now) (elements_of basis.now) word terms.now (length terms.now) q.terms) }
     ensures small { IfOk result (λ q. length q.terms ≤ bound) }
-    ensures within { OnOk result (AreTermsWithin (F.degree field.now) (F.product field.now) (elements_of basis.now) word bits.now.terms (length bits.now.terms) bound) }
-    ensures fault { IfErr result (IsWordRefusal (F.degree field.now) (F.product field.now) (elements_of basis.now) word bits.now.terms bound) }
-    ensures steps { OnOk result (TellsTerms (F.degree field.now) (F.product field.now) (elements_of basis.now) word bits.now.terms (T.steps steps.old) (T.steps steps.new)) }
+    ensures within { OnOk result (AreTermsWithin (F.degree field.now) (F.product field.now) (elements_of basis.now) word terms.now (length terms.now) bound) }
+    ensures fault { IfErr result (IsWordRefusal (F.degree field.now) (F.product field.now) (elements_of basis.now) word terms.now bound) }
+    ensures steps { OnOk result (TellsTerms (F.degree field.now) (F.product field.now) (elements_of basis.now) word terms.now (T.steps steps.old) (T.steps steps.new)) }
 {
     let forms = forms(alloc, field, basis)?;
-    let terms = bits.terms(alloc)?;
     let mut products = BitProducts::new(alloc, field, word, 0, bound)?;
     let mut sums = Sums::zero(alloc);
     for s in 0..terms.len() {
@@ -139,14 +137,15 @@ pub fn one_word<F: Field, T: Steps>(
     ensures fault { IfErr result (IsWordRefusal (F.degree field.now) (F.product field.now) (elements_of basis.now) word bits.now.terms bound) }
     ensures steps { OnOk result (TellsTerms (F.degree field.now) (F.product field.now) (elements_of basis.now) word bits.now.terms (T.steps steps.old) (T.steps steps.new)) }
 {
+    let terms = bits.terms(alloc)?;
     if !steps.tells() {
-        if let Some(poly) = at_once(alloc, field, basis, word, bits, bound)? {
+        if let Some(poly) = at_once(alloc, field, basis, word, &terms, bound)? {
             return Ok(poly);
         }
-        if let Some(poly) = whole(alloc, field, basis, word, bits, bound)? {
+        if let Some(poly) = whole(alloc, field, basis, word, &terms, bound)? {
             return Ok(poly);
         }
     }
-    let poly = term_by_term(alloc, field, basis, word, bits, bound, steps)?;
+    let poly = term_by_term(alloc, field, basis, word, &terms, bound, steps)?;
     Ok(poly)
 }

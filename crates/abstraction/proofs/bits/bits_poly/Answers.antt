@@ -9,7 +9,7 @@ use Rattle.stage_model.specs.Listing.{AreAllWithin, IsRefusal}
 use Rattle.stage_model.specs.Stage.{IsOfStage}
 use Rattle.rato_reduce.specs.Recorded.{IsRecorded}
 use Rattle.abstraction.proofs.StageLemmas.{few, no_words, output_of_last}
-use Rattle.abstraction.proofs.WellLemmas.{is_well_formed}
+use Rattle.word_subst.proofs.TurnLemmas.{is_well_formed}
 use Rattle.abstraction.proofs.bits.bits_poly.Goals as goal
 
 pub output_basis-basis-requires-clause-long : goal.output_basis-basis-requires-clause-long

@@ -1,6 +1,6 @@
 use Rattle.std.proofs.Common.{length}
-use Rattle.word_subst.proofs.ReadFromLemmas.{some_items}
+use Rattle.lists.specs.laws.TestLaws.{some_if_not_zero}
 use Rattle.word_subst.proofs.at_once.one_rest.Goals as goal
 
 pub returns-clause-some : goal.returns-clause-some
-returns-clause-some c = some_items (length c.args.terms.now) c.if-is_empty.ensures
+returns-clause-some c = some_if_not_zero (length c.args.terms.now) c.if-is_empty.ensures

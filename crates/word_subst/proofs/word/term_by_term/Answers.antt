@@ -1,5 +1,6 @@
 use Rattle.std.proofs.Common.{rules, ◌≡◌, ◌≤◌, ◌<◌, ◌+◌, ◌∙◌, ap, sym, [], ℕ, List, length, arith}
 use Rattle.gf_basis.specs.BasisParts.{elements_of}
+use Rattle.lists.specs.laws.ReadLaws.{got_read}
 use Rattle.poly_mixed.specs.Monomial.{Monomial, text_cmp}
 use Rattle.poly_mixed.specs.Polynomial.{Terms}
 use Rattle.poly_mixed.specs.Sum.{plus}
@@ -10,7 +11,7 @@ use Rattle.word_subst.specs.Spread.{Groups, total, all_terms}
 use Rattle.word_subst.specs.ReadRefusal.{IsWordRefusal}
 use Rattle.word_subst.proofs.GroupLemmas.{some_of_groups}
 use Rattle.word_subst.proofs.SpreadLemmas.{groups_length}
-use Rattle.word_subst.proofs.OneWordLemmas.{term_read, no_terms_within, one_more_within, product_first, sum_first, nothing_told, more_told, nothing_summed, sum_added}
+use Rattle.word_subst.proofs.OneWordLemmas.{no_terms_within, one_more_within, product_first, sum_first, nothing_told, more_told, nothing_summed, sum_added}
 use Rattle.word_subst.proofs.word.term_by_term.Goals as goal
 
 pub loop-s-init : goal.loop-s-init
@@ -19,7 +20,7 @@ loop-s-init g c =
     let mul : ℕ → ℕ → ℕ = g.F.Ring.product c.args.field.now in
     let els : List ℕ = elements_of c.args.basis.now in
     let w : ℕ = c.args.word in
-    let terms : Terms = c.args.bits.now.terms in
+    let terms : Terms = c.args.terms.now in
     let f = field_of k mul (g.met.F.Ring.laws c.args.field.now) (g.met.F.Field.no_zero_divisors c.args.field.now) in
     let none = nothing_summed f els w c.requires.word terms c.args.bound c.zero-sums.result c.zero-sums.ensures in
     record {
@@ -39,9 +40,9 @@ returns-in_err-next_term-clause-fault g c =
     let els : List ℕ = elements_of c.args.basis.now in
     let w : ℕ = c.args.word in
     let s : ℕ = c.loop-s.s in
-    let terms : Terms = c.args.bits.now.terms in
-    let t : Monomial × ℕ = c.index-term.result.now in
-    let at = term_read c.in_ok-terms.terms.items terms s t c.in_ok-terms.ensures (omega (arith, c.loop-s-test.true, c.len-s-end.ensures)) c.index-term.ensures in
+    let terms : Terms = c.args.terms.now in
+    let t : Monomial × ℕ = c.index-terms-s.result in
+    let at = got_read terms s t c.loop-s-test.true c.index-terms-s.is in
     let fault : IsWordRefusal k mul els w terms c.args.bound c.in_err-next_term.field-0.0 =
     product_first k mul els w terms c.args.bound s t c.in_err-next_term.field-0.0 at c.loop-s.invariant.within c.in_err-next_term.ensures.fault in
     search rules
@@ -53,10 +54,10 @@ returns-in_err-check_size-clause-fault g c =
     let els : List ℕ = elements_of c.args.basis.now in
     let w : ℕ = c.args.word in
     let s : ℕ = c.loop-s.s in
-    let terms : Terms = c.args.bits.now.terms in
-    let t : Monomial × ℕ = c.index-term.result.now in
+    let terms : Terms = c.args.terms.now in
+    let t : Monomial × ℕ = c.index-terms-s.result in
     let f = field_of k mul (g.met.F.Ring.laws c.args.field.now) (g.met.F.Field.no_zero_divisors c.args.field.now) in
-    let at = term_read c.in_ok-terms.terms.items terms s t c.in_ok-terms.ensures (omega (arith, c.loop-s-test.true, c.len-s-end.ensures)) c.index-term.ensures in
+    let at = got_read terms s t c.loop-s-test.true c.index-terms-s.is in
     let sums : Groups = c.next_term.new.sums in
     let sum : Terms = plus text_cmp [] (all_terms w sums) in
     let next = sum_added f els w c.requires.word terms s t c.loop-s.sums sums at c.loop-s.invariant.groups c.in_ok-next_term.ensures.groups c.loop-s.invariant.sum c.in_ok-next_term.ensures.values in
@@ -74,10 +75,10 @@ loop-s-preserved g c =
     let els : List ℕ = elements_of c.args.basis.now in
     let w : ℕ = c.args.word in
     let s : ℕ = c.loop-s.s in
-    let terms : Terms = c.args.bits.now.terms in
-    let t : Monomial × ℕ = c.index-term.result.now in
+    let terms : Terms = c.args.terms.now in
+    let t : Monomial × ℕ = c.index-terms-s.result in
     let f = field_of k mul (g.met.F.Ring.laws c.args.field.now) (g.met.F.Field.no_zero_divisors c.args.field.now) in
-    let at = term_read c.in_ok-terms.terms.items terms s t c.in_ok-terms.ensures (omega (arith, c.loop-s-test.true, c.len-s-end.ensures)) c.index-term.ensures in
+    let at = got_read terms s t c.loop-s-test.true c.index-terms-s.is in
     let sums : Groups = c.next_term.new.sums in
     let sum : Terms = plus text_cmp [] (all_terms w sums) in
     let next = sum_added f els w c.requires.word terms s t c.loop-s.sums sums at c.loop-s.invariant.groups c.in_ok-next_term.ensures.groups c.loop-s.invariant.sum c.in_ok-next_term.ensures.values in

@@ -18,8 +18,8 @@ invariant-loop-s g l =
       products : AreProducts (g.F.Ring.degree l.field) (g.F.Ring.product l.field) (elements_of l.basis) l.word l.bound l.products;
       groups : AllByRecursion (IsGroup l.word (g.F.Ring.degree l.field)) l.sums;
       ordered : IsStrictlySortedBy text_cmp (keys_of l.sums);
-      sum : IsSumOf (g.F.Ring.degree l.field) (g.F.Ring.product l.field) (elements_of l.basis) l.word l.bits.terms l.s (plus text_cmp [] (all_terms l.word l.sums));
+      sum : IsSumOf (g.F.Ring.degree l.field) (g.F.Ring.product l.field) (elements_of l.basis) l.word l.terms l.s (plus text_cmp [] (all_terms l.word l.sums));
       small : total l.sums ≤ l.bound;
-      within : AreTermsWithin (g.F.Ring.degree l.field) (g.F.Ring.product l.field) (elements_of l.basis) l.word l.bits.terms l.s l.bound;
-      told : TellsTerms (g.F.Ring.degree l.field) (g.F.Ring.product l.field) (elements_of l.basis) l.word (take l.s l.bits.terms) (g.T.Steps.steps l.fn.steps) (g.T.Steps.steps l.steps);
+      within : AreTermsWithin (g.F.Ring.degree l.field) (g.F.Ring.product l.field) (elements_of l.basis) l.word l.terms l.s l.bound;
+      told : TellsTerms (g.F.Ring.degree l.field) (g.F.Ring.product l.field) (elements_of l.basis) l.word (take l.s l.terms) (g.T.Steps.steps l.fn.steps) (g.T.Steps.steps l.steps);
     }

@@ -1,4 +1,4 @@
-use Rattle.std.proofs.Common.{rules, ◌≡◌, ◌<◌, ◌≤◌, length, ℕ, suc, ◌+◌, List, subst, arith}
+use Rattle.std.proofs.Common.{rules, refl, ◌≡◌, ◌<◌, ◌≤◌, length, ℕ, suc, ◌+◌, List, subst, arith}
 use Rattle.net_words.specs.Binding.{BoundNet}
 use Rattle.gf_basis.specs.BasisParts.{elements_of}
 use Rattle.gf_basis.specs.declared.bases.Basis.{Basis}
@@ -6,11 +6,12 @@ use Rattle.circuit_model.specs.Circuit.{Circuit}
 use Rattle.stage_model.specs.Mix.{IsMix}
 use Rattle.stage_model.specs.Stage.{IsOfStage}
 use Rattle.circuit_model.specs.Bases.{circuit_in}
-use Rattle.stage_model.specs.Listing.{IsRefusal}
-use Rattle.stage_model.specs.WordListing.{word_listing}
+use Rattle.word_subst.specs.InWords.{IsReplaceRefusal, AreReplacedTo, HoldsPairsTo}
+use Rattle.word_subst.specs.WordStages.{IsStageFault}
 use Rattle.word_subst.proofs.TurnLemmas.{is_well_formed, places_are, as_many, inside, own_word, is_over}
 use Rattle.word_subst.proofs.LiftedLemmas.{next_mix}
-use Rattle.word_subst.proofs.AllWordLemmas.{all_recorded, all_within, one_word_within, one_word_recorded, refused}
+use Rattle.word_subst.proofs.ReplacedLemmas.{has_values, in_words, replaced_more, refused_here, no_pairs, more_pairs}
+use Rattle.word_subst.proofs.AllWordLemmas.{nothing_within, nothing_recorded, all_recorded, all_within, one_word_within, one_word_recorded, refused, stage_fault}
 use Rattle.word_subst.proofs.words.to_words.Goals as goal
 
 pub bounds-bases-index : goal.bounds-bases-index
@@ -84,8 +85,28 @@ returns-in_err-poly-clause-fault g c =
     let basis : Basis = c.index-bases-index.result in
     let word = own_word k mul b bases c.requires.bases places places_is w v less c.index.ensures basis c.index-bases-index.is in
     let circuit : Circuit = circuit_in k mul b bases in
-    let fault : IsRefusal k mul (word_listing circuit) c.args.bound c.in_err-poly.field-0.0 =
-    refused circuit well w word.0 word.1 (elements_of basis) word.2 c.loop-w.poly.terms c.loop-w.invariant.mix c.args.bound c.loop-w.invariant.within c.in_err-poly.field-0.0 c.in_err-poly.ensures.fault in
+    let fault : IsStageFault circuit c.args.bits.terms c.args.bound c.in_err-poly.field-0.0 =
+    stage_fault circuit c.args.bits.terms c.args.bound c.in_err-poly.field-0.0
+    (λ none. refused circuit well w word.0 word.1 (elements_of basis) word.2 c.loop-w.poly.terms (c.loop-w.invariant.mix none) c.args.bound (c.loop-w.invariant.within none) c.in_err-poly.field-0.0 c.in_err-poly.ensures.fault) in
+    search rules
+
+pub returns-in_err-poly-clause-first : goal.returns-in_err-poly-clause-first
+returns-in_err-poly-clause-first g c =
+    let k : ℕ = g.F.Ring.degree c.args.field.now in
+    let mul : ℕ → ℕ → ℕ = g.F.Ring.product c.args.field.now in
+    let b : BoundNet = c.args.circuit.now in
+    let bases : List Basis = c.args.bases.now in
+    let places : List ℕ = c.in_ok-places.places.items in
+    let places_is = places_are k mul b bases c.requires.bases places c.binding.result.now c.in_ok-places.ensures c.binding.ensures.binding in
+    let well = is_well_formed k mul b bases c.requires.bases (g.met.F.Ring.laws c.args.field.now) (g.met.F.Field.no_zero_divisors c.args.field.now) c.binding.ensures.sound c.binding.ensures.is_bound c.requires.k in
+    let w : ℕ = c.loop-w.w in
+    let v : ℕ = c.index.result.now in
+    let less : w < length places = omega (arith, c.loop-w-test.true, c.len-w-end.ensures) in
+    let basis : Basis = c.index-bases-index.result in
+    let word = own_word k mul b bases c.requires.bases places places_is w v less c.index.ensures basis c.index-bases-index.is in
+    let circuit : Circuit = circuit_in k mul b bases in
+    let first : IsReplaceRefusal circuit c.args.bits.terms c.args.bound c.in_err-poly.field-0.0 =
+    refused_here circuit well c.args.bits.terms c.args.bound w word.0 word.1 (elements_of basis) word.2 c.loop-w.poly.terms c.loop-w.invariant.replaced c.in_err-poly.field-0.0 c.in_err-poly.ensures.fault in
     search rules
 
 pub loop-w-preserved : goal.loop-w-preserved
@@ -106,10 +127,31 @@ loop-w-preserved g c =
     let up : suc w ≡ w + 1 = omega arith in
     let P : ℕ → Type 0 = λ n. IsOfStage k mul (IsMix circuit n) c.in_ok-poly.poly.terms in
     record {
-      mix = subst P up (next_mix circuit well w word.0 word.1 (elements_of basis) word.2 c.loop-w.poly.terms c.loop-w.invariant.mix c.in_ok-poly.poly.terms c.in_ok-poly.ensures.sum);
+      reduced = c.in_ok-poly.ensures.sum.reduced;
       few = omega (arith, c.in_ok-poly.ensures.small, c.ranges.bound.fits);
-      within = one_word_within circuit well w word.0 word.1 (elements_of basis) word.2 c.loop-w.poly.terms c.loop-w.invariant.mix c.args.bound c.loop-w.invariant.within c.in_ok-poly.ensures.within;
-      recorded = one_word_recorded circuit well w word.0 word.1 (elements_of basis) word.2 c.loop-w.poly.terms c.loop-w.invariant.mix c.args.bound (g.T.Steps.steps c.args.steps.now) (g.T.Steps.steps c.loop-w.steps) (g.T.Steps.steps c.one_word.new.steps) c.loop-w.invariant.recorded c.in_ok-poly.ensures.steps;
+      replaced = replaced_more circuit well c.args.bits.terms c.args.bound w word.0 word.1 (elements_of basis) word.2 c.loop-w.poly.terms c.in_ok-poly.poly.terms c.loop-w.invariant.replaced c.in_ok-poly.ensures.sum c.in_ok-poly.ensures.within;
+      told = more_pairs circuit well c.args.bits.terms c.args.bound w word.0 word.1 (elements_of basis) word.2 c.loop-w.poly.terms c.loop-w.invariant.replaced (g.T.Steps.steps c.args.steps.now) (g.T.Steps.steps c.loop-w.steps) (g.T.Steps.steps c.one_word.new.steps) c.loop-w.invariant.told c.in_ok-poly.ensures.steps;
+      mix = λ none. subst P up (next_mix circuit well w word.0 word.1 (elements_of basis) word.2 c.loop-w.poly.terms (c.loop-w.invariant.mix none) c.in_ok-poly.poly.terms c.in_ok-poly.ensures.sum);
+      within = λ none. one_word_within circuit well w word.0 word.1 (elements_of basis) word.2 c.loop-w.poly.terms (c.loop-w.invariant.mix none) c.args.bound (c.loop-w.invariant.within none) c.in_ok-poly.ensures.within;
+      recorded = λ none. one_word_recorded circuit well w word.0 word.1 (elements_of basis) word.2 c.loop-w.poly.terms (c.loop-w.invariant.mix none) c.args.bound (g.T.Steps.steps c.args.steps.now) (g.T.Steps.steps c.loop-w.steps) (g.T.Steps.steps c.one_word.new.steps) (c.loop-w.invariant.recorded none) c.in_ok-poly.ensures.steps;
+    }
+
+pub loop-w-init : goal.loop-w-init
+loop-w-init g c =
+    let k : ℕ = g.F.Ring.degree c.args.field.now in
+    let mul : ℕ → ℕ → ℕ = g.F.Ring.product c.args.field.now in
+    let b : BoundNet = c.args.circuit.now in
+    let bases : List Basis = c.args.bases.now in
+    let well = is_well_formed k mul b bases c.requires.bases (g.met.F.Ring.laws c.args.field.now) (g.met.F.Field.no_zero_divisors c.args.field.now) c.binding.ensures.sound c.binding.ensures.is_bound c.requires.k in
+    let circuit : Circuit = circuit_in k mul b bases in
+    record {
+      reduced = c.requires.bits.reduced;
+      few = c.requires.few;
+      replaced = refl;
+      told = no_pairs circuit well c.args.bits.terms c.args.bound (g.T.Steps.steps c.args.steps.now);
+      mix = λ none. none;
+      within = λ none. nothing_within circuit c.args.bound;
+      recorded = λ none. nothing_recorded circuit (g.T.Steps.steps c.args.steps.now);
     }
 
 pub returns-clause-words : goal.returns-clause-words
@@ -123,7 +165,7 @@ returns-clause-words g c =
     let circuit : Circuit = circuit_in k mul b bases in
     let last : c.loop-w.w ≡ length circuit.words = omega (arith, c.loop-w-test.false, c.loop-w.auto.w-end, c.len-w-end.ensures, as_many k mul b bases c.requires.bases places places_is) in
     let P : ℕ → Type 0 = λ n. IsOfStage k mul (IsMix circuit n) c.loop-w.poly.terms in
-    subst P last c.loop-w.invariant.mix
+    record { is = λ none. subst P last (c.loop-w.invariant.mix none) }
 
 pub returns-clause-within : goal.returns-clause-within
 returns-clause-within g c =
@@ -135,7 +177,7 @@ returns-clause-within g c =
     let places_is = places_are k mul b bases c.requires.bases places c.binding.result.now c.in_ok-places.ensures c.binding.ensures.binding in
     let circuit : Circuit = circuit_in k mul b bases in
     let last : c.loop-w.w ≡ length circuit.words = omega (arith, c.loop-w-test.false, c.loop-w.auto.w-end, c.len-w-end.ensures, as_many k mul b bases c.requires.bases places places_is) in
-    all_within circuit c.loop-w.w c.args.bound last c.loop-w.invariant.within
+    record { are = λ none. all_within circuit c.loop-w.w c.args.bound last (c.loop-w.invariant.within none) }
 
 pub returns-clause-steps : goal.returns-clause-steps
 returns-clause-steps g c =
@@ -147,4 +189,58 @@ returns-clause-steps g c =
     let places_is = places_are k mul b bases c.requires.bases places c.binding.result.now c.in_ok-places.ensures c.binding.ensures.binding in
     let circuit : Circuit = circuit_in k mul b bases in
     let last : c.loop-w.w ≡ length circuit.words = omega (arith, c.loop-w-test.false, c.loop-w.auto.w-end, c.len-w-end.ensures, as_many k mul b bases c.requires.bases places places_is) in
-    all_recorded circuit c.loop-w.w (g.T.Steps.steps c.args.steps.now) (g.T.Steps.steps c.loop-w.steps) last c.loop-w.invariant.recorded
+    record { are = λ none. all_recorded circuit c.loop-w.w (g.T.Steps.steps c.args.steps.now) (g.T.Steps.steps c.loop-w.steps) last (c.loop-w.invariant.recorded none) }
+
+pub returns-clause-replaced : goal.returns-clause-replaced
+returns-clause-replaced g c =
+    let k : ℕ = g.F.Ring.degree c.args.field.now in
+    let mul : ℕ → ℕ → ℕ = g.F.Ring.product c.args.field.now in
+    let b : BoundNet = c.args.circuit.now in
+    let bases : List Basis = c.args.bases.now in
+    let places : List ℕ = c.in_ok-places.places.items in
+    let places_is = places_are k mul b bases c.requires.bases places c.binding.result.now c.in_ok-places.ensures c.binding.ensures.binding in
+    let circuit : Circuit = circuit_in k mul b bases in
+    let last : c.loop-w.w ≡ length circuit.words = omega (arith, c.loop-w-test.false, c.loop-w.auto.w-end, c.len-w-end.ensures, as_many k mul b bases c.requires.bases places places_is) in
+    let P : ℕ → Type 0 = λ n. AreReplacedTo circuit c.args.bits.terms c.args.bound n c.loop-w.poly.terms in
+    subst P last c.loop-w.invariant.replaced
+
+pub returns-clause-values : goal.returns-clause-values
+returns-clause-values g c =
+    let k : ℕ = g.F.Ring.degree c.args.field.now in
+    let mul : ℕ → ℕ → ℕ = g.F.Ring.product c.args.field.now in
+    let b : BoundNet = c.args.circuit.now in
+    let bases : List Basis = c.args.bases.now in
+    let places : List ℕ = c.in_ok-places.places.items in
+    let places_is = places_are k mul b bases c.requires.bases places c.binding.result.now c.in_ok-places.ensures c.binding.ensures.binding in
+    let well = is_well_formed k mul b bases c.requires.bases (g.met.F.Ring.laws c.args.field.now) (g.met.F.Field.no_zero_divisors c.args.field.now) c.binding.ensures.sound c.binding.ensures.is_bound c.requires.k in
+    let circuit : Circuit = circuit_in k mul b bases in
+    let last : c.loop-w.w ≡ length circuit.words = omega (arith, c.loop-w-test.false, c.loop-w.auto.w-end, c.len-w-end.ensures, as_many k mul b bases c.requires.bases places places_is) in
+    let P : ℕ → Type 0 = λ n. AreReplacedTo circuit c.args.bits.terms c.args.bound n c.loop-w.poly.terms in
+    has_values circuit well c.args.bits.terms c.args.bound c.loop-w.poly.terms (subst P last c.loop-w.invariant.replaced)
+
+pub returns-clause-alone : goal.returns-clause-alone
+returns-clause-alone g c =
+    let k : ℕ = g.F.Ring.degree c.args.field.now in
+    let mul : ℕ → ℕ → ℕ = g.F.Ring.product c.args.field.now in
+    let b : BoundNet = c.args.circuit.now in
+    let bases : List Basis = c.args.bases.now in
+    let places : List ℕ = c.in_ok-places.places.items in
+    let places_is = places_are k mul b bases c.requires.bases places c.binding.result.now c.in_ok-places.ensures c.binding.ensures.binding in
+    let well = is_well_formed k mul b bases c.requires.bases (g.met.F.Ring.laws c.args.field.now) (g.met.F.Field.no_zero_divisors c.args.field.now) c.binding.ensures.sound c.binding.ensures.is_bound c.requires.k in
+    let circuit : Circuit = circuit_in k mul b bases in
+    let last : c.loop-w.w ≡ length circuit.words = omega (arith, c.loop-w-test.false, c.loop-w.auto.w-end, c.len-w-end.ensures, as_many k mul b bases c.requires.bases places places_is) in
+    let P : ℕ → Type 0 = λ n. AreReplacedTo circuit c.args.bits.terms c.args.bound n c.loop-w.poly.terms in
+    in_words circuit well c.args.bits.terms c.args.bound c.loop-w.poly.terms (subst P last c.loop-w.invariant.replaced) c.requires.bits
+
+pub returns-clause-told : goal.returns-clause-told
+returns-clause-told g c =
+    let k : ℕ = g.F.Ring.degree c.args.field.now in
+    let mul : ℕ → ℕ → ℕ = g.F.Ring.product c.args.field.now in
+    let b : BoundNet = c.args.circuit.now in
+    let bases : List Basis = c.args.bases.now in
+    let places : List ℕ = c.in_ok-places.places.items in
+    let places_is = places_are k mul b bases c.requires.bases places c.binding.result.now c.in_ok-places.ensures c.binding.ensures.binding in
+    let circuit : Circuit = circuit_in k mul b bases in
+    let last : c.loop-w.w ≡ length circuit.words = omega (arith, c.loop-w-test.false, c.loop-w.auto.w-end, c.len-w-end.ensures, as_many k mul b bases c.requires.bases places places_is) in
+    let P : ℕ → Type 0 = λ n. HoldsPairsTo circuit c.args.bits.terms c.args.bound n (g.T.Steps.steps c.args.steps.now) (g.T.Steps.steps c.loop-w.steps) in
+    subst P last c.loop-w.invariant.told
