@@ -99,7 +99,7 @@ pub numbered : (k count : ℕ) (m : Multiplier) → IsMultiplier k count m → I
 numbered k count (Own p) is = tt
 numbered k count (Shared n) is = is
 
-bits_of : (k : ℕ) (ws : List (List ℕ × ℕ)) (w : ℕ) → AllByRecursion (λ (x : List ℕ × ℕ). x.1 ≡ k) ws → w < length ws → (word_at ws w).1 ≡ k
+pub bits_of : (k : ℕ) (ws : List (List ℕ × ℕ)) (w : ℕ) → AllByRecursion (λ (x : List ℕ × ℕ). x.1 ≡ k) ws → w < length ws → (word_at ws w).1 ≡ k
 bits_of k [] w all less = absurd (omega arith)
 bits_of k (x ∷ xs) zero all less = all.0
 bits_of k (x ∷ xs) (suc w) all less = bits_of k xs w all.1 (omega arith)

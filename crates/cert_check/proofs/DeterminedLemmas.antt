@@ -2,7 +2,7 @@
 use Rattle.std.proofs.Common.{◌≡◌, ◌∙◌, ap, sym, refl, ℕ, ◌+◌, ◌<◌, ◌≤◌, List, [], ◌∷◌, length, drop, Result, Ok, Err, arith}
 use Rattle.std.specs.Prelude.{Option, Some, None}
 use Rattle.std.specs.Str.Lines.{lines}
-use Rattle.outcome.proofs.DeterminedLemmas.{determined_returns, determined_bind}
+use Rattle.outcome.proofs.DeterminedLemmas.{determined_returns, determined_bind, determined_exactly}
 use Rattle.outcome.specs.Outcome.{Outcome, ◌>>=◌, Exactly, Within, Returns, Determined}
 use Rattle.gf_field.specs.Ring.{IsRing}
 use Rattle.gf_field.specs.Field.{HasNoZeroDivisors}
@@ -26,11 +26,6 @@ use Rattle.cert_check.specs.declared.fault.LineFault.{LineFault}
 use Rattle.cert_check.specs.declared.fault.LineFault.TheVariants.{Syntax}
 use Rattle.cert_check.specs.declared.fault.CertFault.{CertFault}
 use Rattle.cert_check.specs.declared.fault.CertFault.TheVariants.{TooManyTerms}
-
-exactly_one : {F A : Type 0} (value : A) → Determined {F = F} (Exactly value)
-exactly_one value (Ok x) (Ok y) h k = ap Ok (h ∙ sym k)
-exactly_one value (Ok x) (Err e) h k = absurd k
-exactly_one value (Err d) y h k = absurd h
 
 refused_one : {F A : Type 0} (fault : F) → Determined {A = A} (Refused fault)
 refused_one fault (Ok x) y h k = absurd h
@@ -71,19 +66,19 @@ module _ (k : ℕ) (labels : Labelling) where
   head_one text =
       determined_bind (FirstLine 1 (λ line. Returns (version_of line)) text) (λ version. FirstLine 2 (ClaimOf k labels) (drop 1 text) >>= (λ claim. Exactly (version, claim)))
       (first_one 1 (λ line. Returns (version_of line)) (λ line. determined_returns (version_of line)) text)
-      (λ version. determined_bind (FirstLine 2 (ClaimOf k labels) (drop 1 text)) (λ claim. Exactly (version, claim)) (first_one 2 (ClaimOf k labels) claim_one (drop 1 text)) (λ claim. exactly_one (version, claim)))
+      (λ version. determined_bind (FirstLine 2 (ClaimOf k labels) (drop 1 text)) (λ claim. Exactly (version, claim)) (first_one 2 (ClaimOf k labels) claim_one (drop 1 text)) (λ claim. determined_exactly (version, claim)))
 
 module _ (k : ℕ) (net : NetList) (labels : Labelling) where
   said_one : (version : ℕ) (shared : List Terms) (frame : Frame) → Determined (SaidBy k net labels version shared frame)
-  said_one version shared (pair_of g text) = determined_bind (MultiplierOf k labels version shared text) (λ m. Exactly (pairs g m)) (multiplier_one k labels version shared text) (λ m. exactly_one (pairs g m))
-  said_one version shared (share_of text) = determined_bind (PolynomialOf k labels text) (λ m. Exactly (shares m)) (polynomial_one k labels text) (λ m. exactly_one (shares m))
-  said_one version shared end_of = exactly_one ends
+  said_one version shared (pair_of g text) = determined_bind (MultiplierOf k labels version shared text) (λ m. Exactly (pairs g m)) (multiplier_one k labels version shared text) (λ m. determined_exactly (pairs g m))
+  said_one version shared (share_of text) = determined_bind (PolynomialOf k labels text) (λ m. Exactly (shares m)) (polynomial_one k labels text) (λ m. determined_exactly (shares m))
+  said_one version shared end_of = determined_exactly ends
 
   line_one : (version : ℕ) (shared : List Terms) (line : List ℕ) → Determined (LineOf k net labels version shared line)
   line_one version shared line = determined_bind (Returns (frame_of net labels version (length shared) line)) (SaidBy k net labels version shared) (determined_returns (frame_of net labels version (length shared) line)) (said_one version shared)
 
   none_one : (n : ℕ) (more : List (List ℕ)) (c : Certificate) → Determined (NoLine n more c)
-  none_one n [] c = exactly_one c
+  none_one n [] c = determined_exactly c
   none_one n (line ∷ more) c = refused_one (fault_at n Syntax)
 
   module _ (Asks : ℕ → Certificate → Outcome CertFault (Unit {0})) (asks_one : (n : ℕ) (c : Certificate) → Determined (Asks n c)) where
@@ -107,10 +102,10 @@ module _ (k : ℕ) (net : NetList) (labels : Labelling) where
 
   -- a text says one certificate or has one fault
   pub one_certificate : (bytes : List ℕ) → Determined (CertificateOf k net labels bytes)
-  one_certificate bytes = certificate_one (AsksNothing k net labels) (λ n c. exactly_one tt) bytes
+  one_certificate bytes = certificate_one (AsksNothing k net labels) (λ n c. determined_exactly tt) bytes
 
 module _ (k : ℕ) (mul : ℕ → ℕ → ℕ) (ring : IsRing k mul) (field : HasNoZeroDivisors k mul) (bound : BoundNet) (bases : List Basis) where
-  one_sum : (c : Certificate) (ts us : Terms) → IsRunningSum k mul bound bases c ts → IsRunningSum k mul bound bases c us → ts ≡ us
+  pub one_sum : (c : Certificate) (ts us : Terms) → IsRunningSum k mul bound bases c ts → IsRunningSum k mul bound bases c us → ts ≡ us
   one_sum c ts us a b =
       let f = field_of k mul ring field in
       unique f (independent f (HasFewRoots-from_field k mul ring field)) ts us a.reduced b.reduced (λ p at. a.values p at ∙ sym (b.values p at))

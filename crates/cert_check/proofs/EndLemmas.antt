@@ -1,5 +1,6 @@
 -- The verdict after the last line.
-use Rattle.std.proofs.Common.{◌≡◌, ◌≢◌, ◌∙◌, ap, sym, refl, subst, ℕ, List, [], ◌∷◌, length, Ok, arith}
+use Rattle.std.proofs.Common.{◌≡◌, ◌≢◌, ◌∙◌, ap, sym, refl, subst, ℕ, List, [], length, Ok}
+use Rattle.std.proofs.lemmas.List.{nil_from_length}
 use Rattle.gf_basis.specs.declared.bases.Basis.{Basis}
 use Rattle.net_words.specs.Binding.{BoundNet}
 use Rattle.poly_mixed.specs.Polynomial.{Terms}
@@ -10,12 +11,8 @@ use Rattle.cert_check.specs.private.Held.{with_rows, whole}
 use Rattle.cert_check.specs.private.Kept.{IsKept}
 
 -- the size where the rows were added to the polynomial
-pub flushed_size : (k n : ℕ) (old new : RunningSum) → new.rows.items ≡ [] → new.poly.terms ≡ whole k old → n ≡ length (whole k new) → n ≡ length (whole k old)
-flushed_size k n old new none all size = size ∙ (λ i. length (with_rows k (none i) (all i)))
-
-no_terms : (ts : Terms) → length ts ≡ 0 → ts ≡ []
-no_terms [] e = refl
-no_terms (t ∷ ts) e = absurd (omega arith)
+pub flushed_size : (k : ℕ) (mul : ℕ → ℕ → ℕ) (dual : ℕ → ℕ → ℕ) (n : ℕ) (old new : RunningSum) → new.rows.items ≡ [] → new.poly.terms ≡ whole k mul dual old → n ≡ length (whole k mul dual new) → n ≡ length (whole k mul dual old)
+flushed_size k mul dual n old new none all size = size ∙ (λ i. length (with_rows k mul dual (none i) (all i)))
 
 module _ (k : ℕ) (mul : ℕ → ℕ → ℕ) (bound : BoundNet) (bases : List Basis) (most number : ℕ) (c : Certificate) (claim : Terms) (shared : List Terms) (sum : Terms) (rest : List (List ℕ)) (none : rest ≡ []) (kept : IsKept k mul bound bases most c claim shared sum) where
   -- the claim is proved where no term is left
@@ -23,7 +20,7 @@ module _ (k : ℕ) (mul : ℕ → ℕ → ℕ) (bound : BoundNet) (bases : List 
   at_end_valid size =
       let P : List (List ℕ) → Type 0 = λ ls. VerdictAtEnd k mul bound bases number ls c (Ok (valid claim)) in
       let S : Terms → Type 0 = IsRunningSum k mul bound bases c in
-      subst P (sym none) (c, refl, (kept.claim_is, subst S (no_terms sum size) kept.sum_is))
+      subst P (sym none) (c, refl, (kept.claim_is, subst S (nil_from_length sum size) kept.sum_is))
 
   -- and it is not where some are left
   pub at_end_invalid : (n : ℕ) → n ≡ length sum → n ≢ 0 → VerdictAtEnd k mul bound bases number rest c (Ok (invalid n))

@@ -1,6 +1,6 @@
 -- The generators that lines name are there.
-use Rattle.std.proofs.Common.{◌≡◌, sym, refl, subst, ℕ, suc, ◌<◌, ◌+◌, true, false, cond, ◌==◌, List, [], ◌∷◌, length, nat_lt, Some, None, codes, Result, Ok, Err, arith}
-use Rattle.std.specs.Prelude.{Option, bytes_eq}
+use Rattle.std.proofs.Common.{◌≡◌, sym, refl, subst, ℕ, suc, ◌<◌, ◌+◌, true, false, cond, ◌==◌, List, length, nat_lt, Some, None, codes, Result, Ok, Err, arith}
+use Rattle.std.specs.Prelude.{Option}
 use Rattle.std.specs.Option.{option_map}
 use Rattle.std.proofs.lemmas.Bool.{ltb-true}
 use Rattle.text_core.specs.Numbers.{value_of}
@@ -15,18 +15,11 @@ use Rattle.cert_check.specs.declared.fault.LineFault.{LineFault}
 use Rattle.cert_check.specs.declared.fault.LineFault.TheVariants.{Syntax, NoSuchNet, NoSuchBit, NotDriven}
 use Rattle.cert_check.specs.private.Reading.{IsGenerator}
 use Rattle.cert_check.proofs.FrameGenerator.{HasGenerator}
+use Rattle.poly_mixed.proofs.TrackLemmas.{word_small}
 
 later : (n w : ℕ) (o : Option ℕ) → ((v : ℕ) → o ≡ Some v → v < n) → option_map (λ i. i + 1) o ≡ Some w → w < suc n
 later n w None below e = absurd (cc)
 later n w (Some v) below e = (let same : v + 1 ≡ w = cc in omega (arith, same, below v refl))
-
-word_below : (ws : List (List ℕ × ℕ)) (name : List ℕ) (w : ℕ) → word_of ws name ≡ Some w → w < length ws
-word_below [] name w e = absurd (cc)
-word_below (x ∷ xs) name w e =
-    (elim (bytes_eq x.0 name) as (λ v. cond v (Some 0) (option_map (λ i. i + 1) (word_of xs name)) ≡ Some w → w < length (x ∷ xs)) [
-      | true ↦ λ f. (let same : 0 ≡ w = cc in omega (arith, same))
-      | false ↦ λ f. later (length xs) w (word_of xs name) (λ v at. word_below xs name v at) f
-    ]) e
 
 module _ (net : NetList) (labels : Labelling) where
   IsGood : Result Frame LineFault → Type 0
@@ -63,7 +56,7 @@ module _ (net : NetList) (labels : Labelling) where
   bit_good : (o : Option (List ℕ × List ℕ × List ℕ)) → IsGood (paired (bit_named labels o))
   unfolding IsGood
   bit_good None = tt
-  bit_good (Some found) = place_good (value_of 10 found.1) found.2 (word_of labels.words found.0) (λ w e. word_below labels.words found.0 w e)
+  bit_good (Some found) = place_good (value_of 10 found.1) found.2 (word_of labels.words found.0) (λ w e. word_small labels.words found.0 w e)
 
   share_good : (r : Result (List ℕ) LineFault) → IsGood (shared r)
   unfolding IsGood

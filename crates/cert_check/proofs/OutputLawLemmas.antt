@@ -1,8 +1,9 @@
 -- A valid claim is the output.
-use Rattle.std.proofs.Common.{◌≡◌, ◌∙◌, ap, sym, refl, subst, ℕ, zero, suc, ◌<◌, List, [], ◌∷◌, length, map, take, bit_xor, arith}
+use Rattle.std.proofs.Common.{◌≡◌, ◌∙◌, ap, sym, refl, subst, ℕ, List, [], ◌∷◌, length, map, take, bit_xor, arith}
 use Rattle.std.proofs.lemmas.List.{length-map}
 use Rattle.std.specs.List.{AllByRecursion}
 use Rattle.lists.specs.laws.XorLaws.{xor_same}
+use Rattle.cert_check.proofs.CheckLemmas.{bits_of}
 use lib.Bits.{xor_zero_r}
 use Rattle.gf_field.specs.Ring.{IsRing}
 use Rattle.gf_field.specs.Field.{HasNoZeroDivisors}
@@ -11,7 +12,7 @@ use Rattle.gf_basis.specs.declared.bases.Basis.{Basis}
 use Rattle.net_core.specs.Sound.{IsSound}
 use Rattle.net_words.specs.Binding.{BoundNet}
 use Rattle.net_words.specs.OneCycle.{IsOneCycle}
-use Rattle.poly_mixed.specs.Labels.{Labelling, word_at}
+use Rattle.poly_mixed.specs.Labels.{Labelling}
 use Rattle.poly_mixed.specs.Polynomial.{Terms, Point, IsPoint, value}
 use Rattle.poly_mixed.specs.Steps.{Step}
 use Rattle.poly_mixed.specs.declared.steps.Generator.{Generator}
@@ -36,17 +37,12 @@ use Rattle.poly_mixed.specs.laws.Uniqueness.{InFirstWords}
 use Rattle.cert_check.proofs.SoundLemmas.{well, q, IsThere, products_zero, output_is}
 use Rattle.cert_check.proofs.WordsAloneLemmas.{blind_value}
 
-bits_at : (k : ℕ) (ws : List (List ℕ × ℕ)) (w : ℕ) → AllByRecursion (λ (x : List ℕ × ℕ). x.1 ≡ k) ws → w < length ws → (word_at ws w).1 ≡ k
-bits_at k [] w all less = absurd (omega arith)
-bits_at k (x ∷ xs) zero all less = all.0
-bits_at k (x ∷ xs) (suc w) all less = bits_at k xs w all.1 (omega arith)
-
 module _ (k : ℕ) (mul : ℕ → ℕ → ℕ) (bound : BoundNet) (bases : List Basis) (ring : IsRing k mul) (field : HasNoZeroDivisors k mul) (sound : IsSound bound.net) (one : IsOneCycle bound.net bound.binding) (same : bound.binding.k ≡ k) (are : AreBases k mul bound bases) (labels : Labelling) (names : NameWords bound.binding labels) where
   there : (g : Generator) (p : Point) (at : IsPoint k p) → IsGenerator bound.net labels g → IsThere k mul bound bases ring field sound one same are p at g
   there (Net n) p at is = is
   there (Bit w i) p at is =
       let count : length (dual_words bound bases) ≡ length labels.words = count_of bound.binding.words (map duals_of bases) (length-map bases duals_of ∙ are.long) ∙ sym names.count in
-      (omega (arith, is.0, count), omega (arith, is.1, bits_at bound.binding.k labels.words w names.bits is.0, same))
+      (omega (arith, is.0, count), omega (arith, is.1, bits_of bound.binding.k labels.words w names.bits is.0, same))
 
   all_there : (steps : List Step) (p : Point) (at : IsPoint k p) → AllByRecursion (λ s. IsGenerator bound.net labels s.0) steps → AllByRecursion (λ s. IsThere k mul bound bases ring field sound one same are p at s.0) steps
   all_there [] p at all = tt

@@ -1,12 +1,8 @@
 -- Lists in which one entry is changed, and terms that are added one by one.
-use Rattle.std.proofs.Common.{◌≡◌, ◌∙◌, ap, sym, subst, ℕ, zero, suc, ◌<◌, ◌≤◌, ◌+◌, ◌^◌, true, ◌*◌, ◌%◌, List, [], ◌∷◌, ◌++◌, length, take, drop, take_all, append-nil, drop_of_length-le, bit_xor, arith}
+use Rattle.std.proofs.Common.{◌≡◌, ◌∙◌, ap, ℕ, zero, suc, ◌<◌, ◌≤◌, ◌+◌, ◌^◌, List, [], ◌∷◌, ◌++◌, length, take, drop, take_all, append-nil, drop_of_length-le, bit_xor, arith}
 use Rattle.std.specs.Prelude.{slice_index, slice_set, replicate}
 use Rattle.std.specs.List.{AllByRecursion}
-use Rattle.std.proofs.lemmas.Nat.{one_shl, pow_below, pow_pos}
-use Rattle.std.specs.Ordering.{eq_by_cmp}
-use Rattle.lists.specs.laws.OrderingLaws.{is_equal}
-use Rattle.poly_mixed.specs.Monomial.{Monomial, text_cmp}
-use Rattle.poly_mixed.proofs.MonomialLemmas.{text_cmp-same}
+use Rattle.std.proofs.lemmas.Nat.{pow_pos}
 use Rattle.cert_check.specs.private.Held.{power_of}
 
 all_put : (k : ℕ) (xs : List ℕ) (i x : ℕ) → AllByRecursion (λ e. e < 2 ^ k) xs → x < 2 ^ k → AllByRecursion (λ e. e < 2 ^ k) (slice_set xs i x)
@@ -22,20 +18,11 @@ all_none k (suc n) = (pow_pos k, all_none k n)
 pub power_exponents : (k word e : ℕ) → e < 2 ^ k → AllByRecursion (λ x. x < 2 ^ k) (power_of word e).exponents
 power_exponents k word e less = all_put k (replicate 8 0) word e (all_none k 8) less
 
-pub exponent_in : (j k : ℕ) → j < k → k ≤ 64 → (1 * 2 ^ j) % 2 ^ 64 < 2 ^ k
-exponent_in j k less small =
-    let P : ℕ → Type 0 = λ x. x < 2 ^ k in
-    let is : (1 * 2 ^ j) % 2 ^ 64 ≡ 2 ^ j = one_shl j 64 (omega arith) in
-    subst P (sym is) (pow_below j k less)
-
 -- a list that is written whole
 pub refilled : (old new : List ℕ) (n : ℕ) → length new ≡ length old → n ≡ length old → take n (new ++ drop (length new) old) ≡ new
 refilled old new n same long =
     let past : drop (length new) old ≡ [] = drop_of_length-le old {i = length new} (omega (arith, same)) in
     ap (λ (xs : List ℕ). take n (new ++ xs)) past ∙ (ap (take n) (append-nil new) ∙ take_all n new (omega (arith, same, long)))
-
-pub same_monomial : (m n : Monomial) → eq_by_cmp text_cmp m n ≡ true → m ≡ n
-same_monomial m n e = text_cmp-same m n (is_equal (text_cmp m n) e)
 
 -- where the sums of the entries before place j are made
 pub record AreSums (mul : ℕ → ℕ → ℕ) (c : ℕ) (old from : List ℕ) (j : ℕ) (new : List ℕ) : Type 0 where

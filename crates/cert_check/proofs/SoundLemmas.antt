@@ -4,7 +4,6 @@ use Rattle.std.specs.Prelude.{slice_get, Option, is_some}
 use Rattle.std.specs.Int.{bit_at}
 use Rattle.std.specs.List.{AllByRecursion, range_with_len, position_from}
 use Rattle.std.specs.Option.{option_and_then}
-use Rattle.std.proofs.Math.Nat.{mul-suc}
 use Rattle.std.proofs.lemmas.Bool.{eqb-true}
 use Rattle.std.proofs.lemmas.List.{length-map, length-take, get_or-take}
 use Rattle.std.proofs.lemmas.List.FromFn.{get_or-map-range_with_len}
@@ -12,10 +11,12 @@ use Rattle.std.proofs.lemmas.Nat.Bits.{bit_at_lowest, bit_at-suc}
 use Rattle.std.proofs.lemmas.Option.{slice_get_within, get_or_from_slice_get}
 use Rattle.lists.specs.Lists.{Has, times}
 use Rattle.lists.specs.laws.HasLaws.{all_in, times_some}
+use Rattle.lists.specs.laws.NumberLaws.{lowest_of_choice, rest_of_choice}
 use Rattle.lists.specs.laws.ReadLaws.{get_below, get_front, from_map}
 use lib.Bits.{xor_self}
 use Rattle.gf_field.specs.Ring.{IsRing}
 use Rattle.gf_field.specs.Field.{HasNoZeroDivisors}
+use Rattle.gf_field.specs.laws.RingLaws.{zero_mul}
 use Rattle.gf_field.specs.Trace.{frobenius}
 use Rattle.irreducible.specs.Span.{combination}
 use Rattle.gf_basis.specs.Basis.{IsBasis, AreBits}
@@ -52,10 +53,10 @@ use Rattle.poly_mixed.specs.declared.steps.Generator.{Generator}
 use Rattle.poly_mixed.specs.declared.steps.Generator.TheVariants.{Net, Bit}
 use Rattle.cert_check.specs.Driver.{driver, driver_position, is_driven}
 use Rattle.cert_check.specs.Running.{net_bit, rank_among, dual_form, dual_words, dual_at, driven_value, generator_value, products, output_value}
-use Rattle.cert_check.proofs.FormLemmas.{same_sum}
-use Rattle.cert_check.proofs.InsideLemmas.{input_below}
 use Rattle.cert_check.proofs.RankLemmas.{at_rank}
-use Rattle.cert_check.proofs.SumLemmas.{half}
+use Rattle.circuit_model.proofs.SharedLemmas.{place_in}
+use Rattle.gf_field.proofs.SharedLemmas.{same_sum}
+use Rattle.net_core.proofs.SharedLemmas.{input_below}
 
 -- ---- lists
 
@@ -65,41 +66,16 @@ taken_has (suc n) [] x has = let got = has.1 in absurd (cc)
 taken_has (suc n) (y ∷ ys) x (zero, got) = (0, got)
 taken_has (suc n) (y ∷ ys) x (suc i, got) = let rest = taken_has n ys x (i, got) in (suc rest.0, rest.1)
 
-get_back : (xs ys : List ℕ) (m n : ℕ) → slice_get ys m ≡ Some n → slice_get (xs ++ ys) (length xs + m) ≡ Some n
-get_back [] ys m n got = let e : 0 + m ≡ m = omega arith in let P : ℕ → Type 0 = λ i. slice_get ys i ≡ Some n in subst P (sym e) got
-get_back (x ∷ xs) ys m n got =
-    let e : suc (length xs) + m ≡ suc (length xs + m) = omega arith in
-    let P : ℕ → Type 0 = λ i. slice_get (x ∷ (xs ++ ys)) i ≡ Some n in
-    subst P (sym e) (get_back xs ys m n got)
-
-place_in : (k : ℕ) (words : List Word) → ((u : Word) → Has words u → length u.nets ≡ k) → (w i n : ℕ) (word : Word) → slice_get words w ≡ Some word → slice_get word.nets i ≡ Some n → slice_get (word_nets words) (k * w + i) ≡ Some n
-place_in k [] are w i n word at got = absurd (cc)
-place_in k (u ∷ us) are zero i n word at got =
-    let same : word ≡ u = cc in
-    let e : i ≡ k * 0 + i = omega arith in
-    let P : Word → Type 0 = λ v. slice_get v.nets i ≡ Some n in
-    let Q : ℕ → Type 0 = λ j. slice_get (u.nets ++ word_nets us) j ≡ Some n in
-    subst Q e (get_front u.nets (word_nets us) i n (subst P same got))
-place_in k (u ∷ us) are (suc w) i n word at got =
-    let rest = place_in k us (λ v has. are v (suc has.0, has.1)) w i n word at got in
-    let e : length u.nets + (k * w + i) ≡ k * suc w + i = omega (arith, mul-suc k w, are u (0, refl)) in
-    let Q : ℕ → Type 0 = λ j. slice_get (u.nets ++ word_nets us) j ≡ Some n in
-    subst Q e (get_back u.nets (word_nets us) (k * w + i) n rest)
-
 -- ---- bits of an index
-
-low : (b : Bool) (m : ℕ) → ◌≡◌ {A = ℕ} ((cond b 1 0 + 2 * m) % 2) (cond b 1 0)
-low true m = omega arith
-low false m = omega arith
 
 pub index_bit : (v : List Bool) (ns : List ℕ) (i n : ℕ) → slice_get ns i ≡ Some n → ◌≡◌ {A = ℕ} (bit_at (index_of v ns) i) (cond (bit_of v n) 1 0)
 index_bit v [] i n got = absurd (cc)
 index_bit v (m ∷ ms) zero n got =
     let same : m ≡ n = cc in
-    bit_at_lowest (cond (bit_of v m) 1 0 + 2 * index_of v ms) ∙ (low (bit_of v m) (index_of v ms) ∙ ap (λ x. cond (bit_of v x) 1 0) same)
+    bit_at_lowest (cond (bit_of v m) 1 0 + 2 * index_of v ms) ∙ (lowest_of_choice (bit_of v m) (index_of v ms) ∙ ap (λ x. cond (bit_of v x) 1 0) same)
 index_bit v (m ∷ ms) (suc i) n got =
     bit_at-suc (cond (bit_of v m) 1 0 + 2 * index_of v ms) i
-    ∙ (ap (λ x. bit_at x i) (half (bit_of v m) (index_of v ms)) ∙ index_bit v ms i n got)
+    ∙ (ap (λ x. bit_at x i) (rest_of_choice (bit_of v m) (index_of v ms)) ∙ index_bit v ms i n got)
 
 pub index_same : (v : List Bool) (f : ℕ → Bool) (ns : List ℕ) → ((n : ℕ) → Has ns n → f n ≡ bit_of v n) → index f ns ≡ index_of v ns
 index_same v f [] same = refl
@@ -197,11 +173,6 @@ module _ (k : ℕ) (mul : ℕ → ℕ → ℕ) (bound : BoundNet) (bases : List 
   pub well : IsWellFormed (circuit_in k mul bound bases)
   well = bound_well k mul bound (map elements_of bases) one same have_bases ring field sound
 
-  nothing : (x : ℕ) → mul 0 x ≡ 0
-  nothing x =
-      let twice : mul x 0 ≡ bit_xor (mul x 0) (mul x 0) = ap (mul x) (sym (xor_self 0)) ∙ ring.distrib x 0 0 in
-      ring.comm 0 x ∙ (twice ∙ xor_self (mul x 0))
-
   module _ (p : Point) (at : IsPoint k p) where
     abbrev pub xs : List ℕ
     xs = take (length (circuit_in k mul bound bases).words) p.words
@@ -290,7 +261,7 @@ module _ (k : ℕ) (mul : ℕ → ℕ → ℕ) (bound : BoundNet) (bases : List 
     pub products_zero : (steps : List Step) → AllByRecursion (λ s. IsThere s.0) steps → products k mul bound bases steps q ≡ 0
     products_zero [] all = refl
     products_zero (s ∷ steps) all =
-        (λ j. bit_xor ((ap (λ x. mul x (value mul q s.1)) (generator_zero s.0 all.0) ∙ nothing (value mul q s.1)) j) (products_zero steps all.1 j))
+        (λ j. bit_xor ((ap (λ x. mul x (value mul q s.1)) (generator_zero s.0 all.0) ∙ zero_mul k mul ring (value mul q s.1)) j) (products_zero steps all.1 j))
 
     pub output_is : IsOut (circuit_in k mul bound bases) xs (output_value k mul bound bases q)
     output_is =

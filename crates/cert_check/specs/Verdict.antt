@@ -1,7 +1,7 @@
 -- The verdict on a certificate: whether its last running sum is the polynomial without terms.
 -- Source: this project's own.
 use Rattle.std.specs.Prelude.{◌≡◌, ◌≢◌, ℕ, ◌<◌, ◌≤◌, List, [], length, Ok, Err}
-use Rattle.outcome.specs.Outcome.{Outcome, ◌>>=◌}
+use Rattle.outcome.specs.Outcome.{Outcome, Determined, ◌>>=◌}
 use Rattle.gf_basis.specs.declared.bases.Basis.{Basis}
 use Rattle.net_words.specs.Binding.{BoundNet}
 use Rattle.poly_mixed.specs.Labels.{Labelling}
@@ -38,6 +38,10 @@ module _ (k : ℕ) (mul : ℕ → ℕ → ℕ) (netlist : BoundNet) (bases : Lis
   Check labels most bytes = do
     certificate ← CertificateBy k netlist.net labels (AsksAtMost most) bytes
     VerdictOn certificate
+
+  -- whatever the labels, the bound and the text are, one verdict or one fault comes of them
+  abbrev pub OneVerdict : Type 0
+  OneVerdict = (labels : Labelling) (most : ℕ) (bytes : List ℕ) → Determined (Check labels most bytes)
 
   -- the verdict of these lines after the claim, of which the first has the number n
   abbrev pub VerdictFrom : Labelling → ℕ → ℕ → List (List ℕ) → ℕ → Certificate → Outcome CertFault Verdict

@@ -1,25 +1,26 @@
 //! The verdict on a certificate.
-ghost use Rattle.std.specs.Prelude.{◌≡◌, ◌<◌, ◌≤◌, ◌+◌, List, length, IfOk, IfErr, IfSome, OnOk};
+ghost use Rattle.std.specs.Prelude.{◌≡◌, ◌≤◌, ◌+◌, ℕ, length, IfOk, IfErr, IfSome, OnOk};
 ghost use Rattle.std.specs.Str.Lines.{lines};
 ghost use Rattle.outcome.specs.Outcome.{Fits};
 ghost use Rattle.circuit_model.specs.Bases.{AreBases};
-ghost use Rattle.cert_check.specs.Fault.{line_refusal, refusal};
-ghost use Rattle.poly_mixed.specs.Polynomial.{Terms};
+ghost use Rattle.cert_check.specs.Fault.{refusal};
 ghost use Rattle.cert_check.specs.Labels.{NameWords};
-ghost use Rattle.cert_check.specs.Certificate.{Certificate, begun, with_pair, LineOf};
-ghost use Rattle.cert_check.specs.Verdict.{IsRunningSum, AsksAtMost, VerdictAtEnd, VerdictFrom, Check, verdict_of};
-ghost use Rattle.cert_check.specs.declared.fault.CertFault.TheVariants.{TooManyTerms};
-ghost use Rattle.cert_check.specs.private.Reading.{AreDrivers, IsLine, IsMultiplier, multiplier_in, said_in};
+ghost use Rattle.cert_check.specs.Certificate.{Certificate, begun};
+ghost use Rattle.cert_check.specs.Verdict.{IsRunningSum, Check, verdict_of};
+ghost use Rattle.cert_check.specs.declared.line.Line.TheVariants.{Pair};
+ghost use Rattle.cert_check.specs.private.Reading.{AreDrivers, IsLine, IsMultiplier};
 ghost use Rattle.cert_check.specs.private.Held.{whole, IsHeld, IsLast, IsSettled};
-ghost use Rattle.cert_check.specs.private.Kept.{terms_of, with_line, IsGeneratorOf, IsLineOf, IsKept, LineAsks};
+ghost use Rattle.cert_check.specs.private.Kept.{AsksLine, EndsWith, IsGeneratorOf, IsLineOf, IsOver, IsVerdictAfter, Keeps, KeepsLine, SaysLine};
 
 use crate::drivers::drivers;
 use crate::fault::{CertFault, LineFault, at_line};
 use crate::head::read_head;
 use crate::last::LastGenerator;
 use crate::line::{Line, Multiplier, read_line};
-use crate::running::{add_product, first_sum};
+use crate::running::{add_multiplier, first_sum};
 use crate::running_sum::RunningSum;
+use crate::term_list::TermList;
+use crate::term_map::TermMap;
 use gf_basis::Basis;
 use gf_field::Field;
 use net_words::Combinational;
@@ -40,15 +41,15 @@ pub enum CertVerdict {
 #[derive(Drop)]
 struct Checking {
     claim: Poly,
-    shared: Vec<Poly>,
+    shared: Vec<TermList>,
     sum: RunningSum,
     last: LastGenerator,
 }
 
 // Refuses a sum of more terms than the bound after the line of this number.
-fn check_size(sum: &Poly, line: u32, bound: u32) -> Result<(), CertFault>
+fn check_size(sum: &TermMap, line: u32, bound: u32) -> Result<(), CertFault>
     ensures within { OnOk result (length sum.now.terms ≤ bound) }
-    ensures over { IfErr result (λ fault. (fault ≡ TooManyTerms line (length sum.now.terms)) × (bound < length sum.now.terms)) }
+    ensures over { IfErr result (IsOver line bound (length sum.now.terms)) }
 {
     let terms = sum.len() as u64;
     if terms > u64::from(bound) {
@@ -60,8 +61,8 @@ fn check_size(sum: &Poly, line: u32, bound: u32) -> Result<(), CertFault>
 // The same of a running sum that is settled.
 fn check_sum(sum: &RunningSum, k: u32, line: u32, bound: u32) -> Result<(), CertFault>
     requires { IsSettled k bound sum.now }
-    ensures within { OnOk result (length (whole k sum.now) ≤ bound) }
-    ensures over { IfErr result (λ fault. (fault ≡ TooManyTerms line (length (whole k sum.now))) × (bound < length (whole k sum.now))) }
+    ensures within { (mul : ℕ → ℕ → ℕ) (dual : ℕ → ℕ → ℕ) → OnOk result (length (whole k mul dual sum.now) ≤ bound) }
+    ensures over { (mul : ℕ → ℕ → ℕ) (dual : ℕ → ℕ → ℕ) → IfErr result (IsOver line bound (length (whole k mul dual sum.now))) }
 {
     match sum.over(k, bound) {
         Some(terms) => Err(CertFault::TooManyTerms {
@@ -88,30 +89,30 @@ impl Checking {
     ) -> Result<(), CertFault>
         requires bases { AreBases (F.degree field.now) (F.product field.now) circuit.now bases.now }
         requires drivers { AreDrivers circuit.now.net drivers.now }
-        requires kept { (c : Certificate) × IsKept (F.degree field.now) (F.product field.now) circuit.now bases.now bound c self.old.claim.terms (terms_of self.old.shared.items) (whole (F.degree field.now) self.old.sum) }
-        requires held { IsHeld (F.degree field.now) self.old.sum }
+        requires kept { (c : Certificate) × Keeps (F.degree field.now) (F.product field.now) circuit.now bases.now bound self.old c }
+        requires held { IsHeld circuit.now bases.now (F.degree field.now) self.old.sum }
         requires last { IsLast (F.degree field.now) (F.product field.now) circuit.now bases.now self.old.last }
         requires generator { IsGeneratorOf (F.degree field.now) circuit.now bases.now generator }
         requires multiplier { IsMultiplier (F.degree field.now) (length self.old.shared.items) multiplier.now }
-        ensures asks { (c : Certificate) → IsKept (F.degree field.now) (F.product field.now) circuit.now bases.now bound c self.old.claim.terms (terms_of self.old.shared.items) (whole (F.degree field.now) self.old.sum) → Fits refusal (λ u. tt) result (AsksAtMost (F.degree field.now) (F.product field.now) circuit.now bases.now bound number (with_pair c generator (multiplier_in c.shared multiplier.now))) }
-        ensures kept { (c : Certificate) → IsKept (F.degree field.now) (F.product field.now) circuit.now bases.now bound c self.old.claim.terms (terms_of self.old.shared.items) (whole (F.degree field.now) self.old.sum) → OnOk result (IsKept (F.degree field.now) (F.product field.now) circuit.now bases.now bound (with_pair c generator (multiplier_in c.shared multiplier.now)) self.new.claim.terms (terms_of self.new.shared.items) (whole (F.degree field.now) self.new.sum)) }
+        ensures asks { AsksLine (F.degree field.now) (F.product field.now) circuit.now bases.now bound number result self.old (Pair generator multiplier.now) }
+        ensures kept { KeepsLine (F.degree field.now) (F.product field.now) circuit.now bases.now bound result self.old self.new (Pair generator multiplier.now) }
         ensures few { OnOk result (length self.new.shared.items ≤ length self.old.shared.items) }
-        ensures held { OnOk result (IsHeld (F.degree field.now) self.new.sum) }
+        ensures held { OnOk result (IsHeld circuit.now bases.now (F.degree field.now) self.new.sum) }
         ensures last { OnOk result (IsLast (F.degree field.now) (F.product field.now) circuit.now bases.now self.new.last) }
     {
-        let factor = multiplier.among(self.shared.as_slice());
-        add_product(
+        add_multiplier(
             alloc,
             field,
             circuit,
             bases,
             drivers,
             generator,
-            factor,
+            multiplier,
+            self.shared.as_slice(),
             &mut self.last,
             &mut self.sum,
         )?;
-        self.sum.settle(alloc, field, bound)?;
+        self.sum.settle(alloc, field, circuit, bases, bound)?;
         check_sum(&self.sum, field.k(), number, bound)
     }
 
@@ -129,14 +130,14 @@ impl Checking {
     ) -> Result<(), CertFault>
         requires bases { AreBases (F.degree field.now) (F.product field.now) circuit.now bases.now }
         requires drivers { AreDrivers circuit.now.net drivers.now }
-        requires kept { (c : Certificate) × IsKept (F.degree field.now) (F.product field.now) circuit.now bases.now bound c self.old.claim.terms (terms_of self.old.shared.items) (whole (F.degree field.now) self.old.sum) }
-        requires held { IsHeld (F.degree field.now) self.old.sum }
+        requires kept { (c : Certificate) × Keeps (F.degree field.now) (F.product field.now) circuit.now bases.now bound self.old c }
+        requires held { IsHeld circuit.now bases.now (F.degree field.now) self.old.sum }
         requires last { IsLast (F.degree field.now) (F.product field.now) circuit.now bases.now self.old.last }
         requires line { IsLineOf (F.degree field.now) circuit.now bases.now (length self.old.shared.items) line }
-        ensures asks { (c : Certificate) → IsKept (F.degree field.now) (F.product field.now) circuit.now bases.now bound c self.old.claim.terms (terms_of self.old.shared.items) (whole (F.degree field.now) self.old.sum) → Fits refusal (λ u. tt) result (LineAsks (F.degree field.now) (F.product field.now) circuit.now bases.now bound number c line) }
-        ensures kept { (c : Certificate) → IsKept (F.degree field.now) (F.product field.now) circuit.now bases.now bound c self.old.claim.terms (terms_of self.old.shared.items) (whole (F.degree field.now) self.old.sum) → OnOk result (IsKept (F.degree field.now) (F.product field.now) circuit.now bases.now bound (with_line c line) self.new.claim.terms (terms_of self.new.shared.items) (whole (F.degree field.now) self.new.sum)) }
+        ensures asks { AsksLine (F.degree field.now) (F.product field.now) circuit.now bases.now bound number result self.old line }
+        ensures kept { KeepsLine (F.degree field.now) (F.product field.now) circuit.now bases.now bound result self.old self.new line }
         ensures few { OnOk result (length self.new.shared.items ≤ length self.old.shared.items + 1) }
-        ensures held { OnOk result (IsHeld (F.degree field.now) self.new.sum) }
+        ensures held { OnOk result (IsHeld circuit.now bases.now (F.degree field.now) self.new.sum) }
         ensures last { OnOk result (IsLast (F.degree field.now) (F.product field.now) circuit.now bases.now self.new.last) }
     {
         match line {
@@ -152,26 +153,29 @@ impl Checking {
                 &multiplier,
             ),
             Line::Share(poly) => {
-                self.shared.push(poly)?;
+                let list = TermList::of(alloc, &poly)?;
+                self.shared.push(list)?;
                 Ok(())
             }
         }
     }
 
     // The verdict, where nothing follows; the next line would have this number.
-    fn ended(
+    fn ended<F: Field>(
         mut self,
         alloc: Global,
-        k: u32,
+        field: &F,
+        circuit: &Combinational,
+        bases: &[Basis],
         number: u32,
         rest: &[u8],
     ) -> Result<CertVerdict, CertFault>
-        requires k_in { (1 ≤ k) × (k ≤ 64) }
-        requires held { IsHeld k self.sum }
-        ensures { (mul : _) (bound : _) (bases : _) (most : _) (c : Certificate) → IsKept k mul bound bases most c self.claim.terms (terms_of self.shared.items) (whole k self.sum) → Fits refusal verdict_of result (VerdictAtEnd k mul bound bases number (lines rest.now) c) }
+        requires bases { AreBases (F.degree field.now) (F.product field.now) circuit.now bases.now }
+        requires held { IsHeld circuit.now bases.now (F.degree field.now) self.sum }
+        ensures { EndsWith (F.degree field.now) (F.product field.now) circuit.now bases.now self number (lines rest.now) result }
     {
         if rest.is_empty() {
-            self.sum.flush(alloc, k)?;
+            self.sum.flush(alloc, field, circuit, bases)?;
             let remaining = self.sum.len() as u64;
             if remaining == 0 {
                 Ok(CertVerdict::Valid(self.claim))
@@ -196,7 +200,7 @@ fn line_said<F: Field>(
     line: &[u8],
 ) -> Result<Option<Line>, LineFault>
     requires { AreDrivers circuit.now.net drivers.now }
-    ensures value { (shared : List Terms) → length shared ≡ count → Fits line_refusal (said_in shared) result (LineOf (F.degree field.now) circuit.now.net labels.now version shared line.now) }
+    ensures value { SaysLine (F.degree field.now) circuit.now.net labels.now version count line.now result }
     ensures is { IfOk result (λ said. IfSome said (IsLine (F.degree field.now) circuit.now.net labels.now count)) }
 {
     let k = field.k();
@@ -215,7 +219,7 @@ fn verdict_from<F: Field>(
     bound: u32,
     version: u32,
     claim: Poly,
-    sum: Poly,
+    sum: TermMap,
     bytes: &[u8],
 ) -> Result<CertVerdict, CertFault>
     requires k { circuit.now.binding.k ≡ F.degree field.now }
@@ -226,7 +230,7 @@ fn verdict_from<F: Field>(
     requires size { length bytes.now ≤ 67108864 }
     requires sum { IsRunningSum (F.degree field.now) (F.product field.now) circuit.now bases.now (begun claim.terms) sum.terms }
     requires within { length sum.terms ≤ bound }
-    ensures { Fits refusal verdict_of result (VerdictFrom (F.degree field.now) (F.product field.now) circuit.now bases.now labels.now bound version (lines bytes.now) 3 (begun claim.terms)) }
+    ensures { IsVerdictAfter (F.degree field.now) (F.product field.now) circuit.now bases.now labels.now bound version (lines bytes.now) claim.terms result }
 {
     let held = RunningSum::new(alloc, sum);
     let mut checking = Checking {
@@ -246,7 +250,7 @@ fn verdict_from<F: Field>(
         };
         let line = match said {
             Some(line) => line,
-            None => return checking.ended(alloc, field.k(), number + 1, more),
+            None => return checking.ended(alloc, field, circuit, bases, number + 1, more),
         };
         match checking.add(alloc, field, circuit, bases, drivers, number, bound, line) {
             Ok(()) => {}

@@ -1,33 +1,31 @@
-//! Generators as polynomials.
-ghost use Rattle.std.specs.Prelude.{◌≡◌, ◌<◌, ◌+◌, ◌*◌, bit_xor, map, option_map, slice_index, IfOk, IfSome, OnOk};
+//! Generators as sums of monomials and a form.
+ghost use Rattle.std.specs.Prelude.{◌≡◌, ◌<◌, length, map, option_map, IfOk, IfSome, OnOk};
 ghost use Rattle.lists.specs.Lists.{Has};
-ghost use Rattle.gf_basis.specs.BasisParts.{duals_of, IsBasisOver};
 ghost use Rattle.net_core.specs.NetList.{nets};
 ghost use Rattle.net_core.specs.Sound.{IsSound};
-ghost use Rattle.net_words.specs.Variables.{variables};
-ghost use Rattle.poly_mixed.specs.Polynomial.{IsPoint, IsPolynomialOf, IsReduced, Point, value};
-ghost use Rattle.poly_mixed.specs.Table.{table_value};
+ghost use Rattle.poly_mixed.specs.declared.steps.Generator.TheVariants.{Net as OfNet, Bit as OfBit};
 ghost use Rattle.circuit_model.specs.Bases.{AreBases};
 ghost use Rattle.cert_check.specs.Driver.{driver as driver_of};
-ghost use Rattle.cert_check.specs.Running.{rank_among, net_bit, bit_value, driven_value, dual_form, generator_value};
+ghost use Rattle.cert_check.specs.Running.{rank_among, bit_value, dual_words};
 ghost use Rattle.cert_check.specs.private.Reading.{AreDrivers};
-ghost use Rattle.cert_check.specs.private.Held.{IsSplit};
+ghost use Rattle.cert_check.specs.private.Units.{AddsValue, AreTerms, IsSumOf};
+ghost use Rattle.cert_check.specs.private.Generators.{driver_value, gate_value, net_value, ranked, IsSplitOf};
 ghost use Rattle.cert_check.specs.private.Kept.{IsGeneratorOf};
 
-use crate::form::{Form, form_of};
+use crate::form::Form;
+use crate::mono_sum::MonoSum;
 use crate::subsets::add_table;
-use crate::words::input_basis;
 use gf_basis::Basis;
 use gf_field::Field;
 use net_core::{Gate, Net};
 use net_words::Combinational;
-use poly_mixed::{Generator, Poly, scaled_bit};
+use poly_mixed::{Generator, Mono};
 use std::alloc::{AllocError, Global};
 
 /// The place of a net among the variables.
 pub(crate) fn rank(circuit: &Combinational, net: u32) -> u32
     requires { net < nets circuit.now.net }
-    ensures { result ≡ rank_among (variables (nets circuit.now.net) circuit.now.binding.words) net }
+    ensures { result ≡ rank_among (ranked circuit.now) net }
 {
     circuit.rank_of(net)
 }
@@ -36,7 +34,7 @@ pub(crate) fn rank(circuit: &Combinational, net: u32) -> u32
 fn input_ranks(alloc: Global, circuit: &Combinational, gate: &Gate) -> Result<Vec<u32>, AllocError>
     requires sound { IsSound circuit.now.net }
     requires gate { Has circuit.now.net.gates gate.now }
-    ensures { IfOk result (λ list. list.items ≡ map (rank_among (variables (nets circuit.now.net) circuit.now.binding.words)) gate.now.inputs) }
+    ensures { IfOk result (λ list. list.items ≡ map (rank_among (ranked circuit.now)) gate.now.inputs) }
 {
     let mut list = Vec::with_capacity(alloc, gate.inputs().len())?;
     for input in gate.inputs() {
@@ -45,19 +43,19 @@ fn input_ranks(alloc: Global, circuit: &Combinational, gate: &Gate) -> Result<Ve
     Ok(list)
 }
 
-// Adds the polynomial of a gate's table over its inputs.
+// Adds the monomials of a gate's table over its inputs.
 fn add_gate<F: Field>(
     alloc: Global,
     field: &F,
     circuit: &Combinational,
     gate: &Gate,
-    sum: &mut Poly,
+    sum: &mut MonoSum,
 ) -> Result<(), AllocError>
     requires sound { IsSound circuit.now.net }
     requires gate { Has circuit.now.net.gates gate.now }
-    requires sum { IsReduced (F.degree field.now) sum.old.terms }
-    ensures reduced { OnOk result (IsReduced (F.degree field.now) sum.new.terms) }
-    ensures values { OnOk result ((p : Point) → IsPoint (F.degree field.now) p → value (F.product field.now) p sum.new.terms ≡ bit_xor (value (F.product field.now) p sum.old.terms) (table_value gate.now.table gate.now.inputs (net_bit (variables (nets circuit.now.net) circuit.now.binding.words) p))) }
+    requires sum { AreTerms (F.degree field.now) sum.old.terms }
+    ensures terms { OnOk result (AreTerms (F.degree field.now) sum.new.terms) }
+    ensures values { OnOk result (AddsValue (F.degree field.now) (F.product field.now) (gate_value circuit.now gate.now) sum.old.terms sum.new.terms) }
 {
     let ranks = input_ranks(alloc, circuit, gate)?;
     add_table(alloc, field, &ranks, gate.table(), sum)?;
@@ -84,13 +82,13 @@ fn add_driven<F: Field>(
     circuit: &Combinational,
     drivers: &[Option<u32>],
     n: u32,
-    sum: &mut Poly,
+    sum: &mut MonoSum,
 ) -> Result<(), AllocError>
     requires net { n < nets circuit.now.net }
     requires drivers { AreDrivers circuit.now.net drivers.now }
-    requires sum { IsReduced (F.degree field.now) sum.old.terms }
-    ensures reduced { OnOk result (IsReduced (F.degree field.now) sum.new.terms) }
-    ensures values { OnOk result ((p : Point) → IsPoint (F.degree field.now) p → value (F.product field.now) p sum.new.terms ≡ bit_xor (value (F.product field.now) p sum.old.terms) (driven_value (variables (nets circuit.now.net) circuit.now.binding.words) p (driver_of circuit.now.net n))) }
+    requires sum { AreTerms (F.degree field.now) sum.old.terms }
+    ensures terms { OnOk result (AreTerms (F.degree field.now) sum.new.terms) }
+    ensures values { OnOk result (AddsValue (F.degree field.now) (F.product field.now) (driver_value circuit.now n) sum.old.terms sum.new.terms) }
 {
     match driver(circuit.net(), drivers, n) {
         Some(gate) => add_gate(alloc, field, circuit, gate, sum),
@@ -98,27 +96,37 @@ fn add_driven<F: Field>(
     }
 }
 
+// The bit of a rank.
+fn bit_sum<F: Field>(alloc: Global, _field: &F, rank: u32) -> Result<MonoSum, AllocError>
+    ensures { IfOk result (λ s. IsSumOf (F.degree _field.now) (F.product _field.now) (λ p. bit_value (p.is_one rank)) s.terms) }
+{
+    let mono = Mono::new(alloc, &[rank], &[0; 8])?;
+    let mut sum = MonoSum::zero(alloc);
+    sum.push(mono)?;
+    Ok(sum)
+}
+
 // A net plus what its gate makes of its inputs.
-fn net_poly<F: Field>(
+fn net_sum<F: Field>(
     alloc: Global,
     field: &F,
     circuit: &Combinational,
     drivers: &[Option<u32>],
     n: u32,
-) -> Result<Poly, AllocError>
+) -> Result<MonoSum, AllocError>
     requires net { n < nets circuit.now.net }
     requires drivers { AreDrivers circuit.now.net drivers.now }
-    ensures { IfOk result (λ q. IsPolynomialOf (F.degree field.now) (F.product field.now) (λ p. bit_xor (bit_value (net_bit (variables (nets circuit.now.net) circuit.now.binding.words) p n)) (driven_value (variables (nets circuit.now.net) circuit.now.binding.words) p (driver_of circuit.now.net n))) q.terms) }
+    ensures { IfOk result (λ s. IsSumOf (F.degree field.now) (F.product field.now) (net_value circuit.now n) s.terms) }
 {
-    let mut sum = scaled_bit(alloc, field, 1, rank(circuit, n))?;
+    let mut sum = bit_sum(alloc, field, rank(circuit, n))?;
     add_driven(alloc, field, circuit, drivers, n, &mut sum)?;
     Ok(sum)
 }
 
-/// A polynomial and a form, whose sum is a generator.
+/// Monomials and a form, whose sum is a generator.
 #[derive(Drop)]
 pub(crate) struct Split {
-    pub(crate) near: Poly,
+    pub(crate) near: MonoSum,
     pub(crate) form: Option<Form>,
 }
 
@@ -126,20 +134,20 @@ pub(crate) struct Split {
 fn bit_split<F: Field>(
     alloc: Global,
     field: &F,
-    basis: &Basis,
+    _circuit: &Combinational,
+    _bases: &[Basis],
     word: u32,
     place: u32,
 ) -> Result<Split, AllocError>
-    requires over { IsBasisOver (F.degree field.now) (F.product field.now) basis.now }
     requires word { word < 8 }
+    requires known { word < length (dual_words _circuit.now _bases.now) }
     requires place { place < F.degree field.now }
-    ensures { IfOk result (λ s. IsSplit (F.degree field.now) (F.product field.now) (λ p. bit_xor (bit_value (p.is_one (F.degree field.now * word + place))) (dual_form (F.degree field.now) (F.product field.now) (slice_index (duals_of basis.now) place) (slice_index p.words word))) s.near.terms s.form) }
+    ensures { IfOk result (IsSplitOf (F.degree field.now) (F.product field.now) _circuit.now _bases.now (OfBit word place)) }
 {
-    let near = scaled_bit(alloc, field, 1, field.k() * word + place)?;
-    let form = form_of(field, basis, word, place);
+    let near = bit_sum(alloc, field, field.k() * word + place)?;
     Ok(Split {
         near,
-        form: Some(form),
+        form: Some(Form { word, place }),
     })
 }
 
@@ -148,14 +156,15 @@ fn net_split<F: Field>(
     alloc: Global,
     field: &F,
     circuit: &Combinational,
+    bases: &[Basis],
     drivers: &[Option<u32>],
     n: u32,
 ) -> Result<Split, AllocError>
     requires net { n < nets circuit.now.net }
     requires drivers { AreDrivers circuit.now.net drivers.now }
-    ensures { IfOk result (λ s. IsSplit (F.degree field.now) (F.product field.now) (λ p. bit_xor (bit_value (net_bit (variables (nets circuit.now.net) circuit.now.binding.words) p n)) (driven_value (variables (nets circuit.now.net) circuit.now.binding.words) p (driver_of circuit.now.net n))) s.near.terms s.form) }
+    ensures { IfOk result (IsSplitOf (F.degree field.now) (F.product field.now) circuit.now bases.now (OfNet n)) }
 {
-    let near = net_poly(alloc, field, circuit, drivers, n)?;
+    let near = net_sum(alloc, field, circuit, drivers, n)?;
     Ok(Split { near, form: None })
 }
 
@@ -171,13 +180,10 @@ pub(crate) fn generator_split<F: Field>(
     requires bases { AreBases (F.degree field.now) (F.product field.now) circuit.now bases.now }
     requires drivers { AreDrivers circuit.now.net drivers.now }
     requires generator { IsGeneratorOf (F.degree field.now) circuit.now bases.now generator }
-    ensures { IfOk result (λ s. IsSplit (F.degree field.now) (F.product field.now) (generator_value (F.degree field.now) (F.product field.now) circuit.now bases.now generator) s.near.terms s.form) }
+    ensures { IfOk result (IsSplitOf (F.degree field.now) (F.product field.now) circuit.now bases.now generator) }
 {
     match generator {
-        Generator::Net(n) => net_split(alloc, field, circuit, drivers, n),
-        Generator::Bit { word, place } => {
-            let basis = input_basis(circuit.binding(), bases, word);
-            bit_split(alloc, field, basis, word, place)
-        }
+        Generator::Net(n) => net_split(alloc, field, circuit, bases, drivers, n),
+        Generator::Bit { word, place } => { bit_split(alloc, field, circuit, bases, word, place) }
     }
 }

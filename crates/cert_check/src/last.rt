@@ -1,23 +1,25 @@
-//! The last generator, as a polynomial and a form: lines with the same generator mostly follow each other.
+//! The last generator, as a sum of monomials and a form: lines with the same generator mostly follow each other.
 ghost use Rattle.std.specs.Prelude.{◌≡◌, IsTrue, None, OnOk, Some};
 ghost use Rattle.circuit_model.specs.Bases.{AreBases};
 ghost use Rattle.cert_check.specs.private.Reading.{AreDrivers};
+ghost use Rattle.cert_check.specs.private.Units.{units};
 ghost use Rattle.cert_check.specs.private.Held.{IsLast};
 ghost use Rattle.cert_check.specs.private.Kept.{IsGeneratorOf};
 
 use crate::form::Form;
 use crate::generator::generator_split;
+use crate::mono_sum::MonoSum;
 use gf_basis::Basis;
 use gf_field::Field;
 use net_words::Combinational;
-use poly_mixed::{Generator, Term};
+use poly_mixed::{Generator, Mono};
 use std::alloc::{AllocError, Global};
 
-// A generator with its polynomial and its form, once they were made.
+// A generator with its monomials and its form, once they were made.
 #[derive(Drop)]
 pub(crate) struct LastGenerator {
     generator: Option<Generator>,
-    terms: Vec<Term>,
+    near: MonoSum,
     form: Option<Form>,
 }
 
@@ -44,7 +46,7 @@ impl LastGenerator {
     {
         LastGenerator {
             generator: None,
-            terms: Vec::new(alloc),
+            near: MonoSum::zero(alloc),
             form: None,
         }
     }
@@ -59,11 +61,11 @@ impl LastGenerator {
         }
     }
 
-    // The terms of its polynomial.
-    pub(crate) fn terms(&self) -> &[Term]
-        ensures { result.now ≡ self.now.terms.items }
+    // Its monomials.
+    pub(crate) fn near(&self) -> &[Mono]
+        ensures { units result.now ≡ self.now.near.terms }
     {
-        self.terms.as_slice()
+        self.near.monos()
     }
 
     // Its form.
@@ -73,7 +75,7 @@ impl LastGenerator {
         &self.form
     }
 
-    // Puts a generator in its place, whose polynomial and form are made unless it is the same one.
+    // Puts a generator in its place, whose monomials and form are made unless it is the same one.
     pub(crate) fn make<F: Field>(
         &mut self,
         alloc: Global,
@@ -94,7 +96,7 @@ impl LastGenerator {
             return Ok(());
         }
         let split = generator_split(alloc, field, circuit, bases, drivers, generator)?;
-        self.terms = split.near.terms(alloc)?;
+        self.near = split.near;
         self.form = split.form;
         self.generator = Some(generator);
         Ok(())

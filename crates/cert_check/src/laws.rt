@@ -7,7 +7,7 @@ ghost use Rattle.net_words.specs.Binding.{BoundNet};
 ghost use Rattle.poly_mixed.specs.Labels.{Labelling};
 ghost use Rattle.cert_check.specs.Certificate.{CertificateOf};
 ghost use Rattle.cert_check.specs.Output.{ProvesOutput};
-ghost use Rattle.cert_check.specs.Verdict.{Check};
+ghost use Rattle.cert_check.specs.Verdict.{OneVerdict};
 
 use gf_field::Field;
 
@@ -25,5 +25,5 @@ pub fn one_certificate_or_fault()
 
 /// One verdict or one fault comes of a text.
 pub fn one_verdict_or_fault<F: Field>(_field: &F)
-    ensures { (netlist : BoundNet) (bases : List Basis) (labels : Labelling) (most : ℕ) (bytes : List ℕ) → Determined (Check (F.degree _field.now) (F.product _field.now) netlist bases labels most bytes) }
+    ensures { (netlist : BoundNet) (bases : List Basis) → OneVerdict (F.degree _field.now) (F.product _field.now) netlist bases }
 {}

@@ -13,6 +13,7 @@ mod head;
 mod last;
 mod laws;
 mod line;
+mod mono_sum;
 mod monomial;
 mod multiple;
 mod reading;
@@ -20,7 +21,10 @@ mod row;
 mod running;
 mod running_sum;
 mod scan;
+mod squares;
 mod subsets;
+mod term_list;
+mod term_map;
 mod words;
 
 pub use cert_pairs::CertPairs;

@@ -1,11 +1,13 @@
 //! Sums with products, term by term.
-ghost use Rattle.std.specs.Prelude.{◌≡◌, ◌≢◌, ◌<◌, ◌^◌, bit_xor, OnOk};
-ghost use Rattle.poly_mixed.specs.Polynomial.{IsElement, IsPoint, IsReduced, IsTerm, Point, value};
+ghost use Rattle.std.specs.Prelude.{◌≡◌, ◌≢◌, ◌<◌, ◌^◌, OnOk};
+ghost use Rattle.poly_mixed.specs.Polynomial.{IsElement, IsReduced, IsTerm};
 ghost use Rattle.poly_mixed.specs.Product.{AddsProduct};
+ghost use Rattle.cert_check.specs.private.Units.{units, AddsProducts, AreTerms};
 
 use crate::monomial::product;
+use crate::term_map::TermMap;
 use gf_field::Field;
-use poly_mixed::{Poly, Term};
+use poly_mixed::{Mono, Term};
 use std::alloc::{AllocError, Global};
 
 /// The product of the element that a table is of and another element.
@@ -19,45 +21,43 @@ pub(crate) fn product_by<F: Field>(field: &F, _c: u64, table: &F::Times, d: u64)
     field.by(table, d)
 }
 
-// Adds the product of a term and a polynomial's terms.
+// Adds the product of a term and a sum of monomials.
 fn add_multiple<F: Field>(
     alloc: Global,
     field: &F,
     by: &Term,
-    terms: &[Term],
-    sum: &mut Poly,
+    monos: &[Mono],
+    sum: &mut TermMap,
 ) -> Result<(), AllocError>
     requires by { IsTerm (F.degree field.now) by.now × (by.now.1 ≢ 0) }
-    requires terms { IsReduced (F.degree field.now) terms.now }
+    requires monos { AreTerms (F.degree field.now) (units monos.now) }
     requires sum { IsReduced (F.degree field.now) sum.old.terms }
     ensures reduced { OnOk result (IsReduced (F.degree field.now) sum.new.terms) }
-    ensures values { OnOk result (AddsProduct (F.degree field.now) (F.product field.now) by.now terms.now sum.old.terms sum.new.terms) }
+    ensures values { OnOk result (AddsProduct (F.degree field.now) (F.product field.now) by.now (units monos.now) sum.old.terms sum.new.terms) }
 {
     let k = field.k();
     let c = by.coefficient();
-    let table = field.times(c);
     let mut bits = Vec::new(alloc);
-    for term in terms {
-        let mono = product(alloc, k, by.mono(), term.mono(), &mut bits)?;
-        let coefficient = product_by(field, c, &table, term.coefficient());
-        sum.add_term(mono, coefficient)?;
+    for other in monos {
+        let mono = product(alloc, k, by.mono(), other, &mut bits)?;
+        sum.add_term(mono, c)?;
     }
     Ok(())
 }
 
-/// Adds the product of two polynomials, each the list of its terms.
+/// Adds the product of a polynomial, the list of its terms, and a sum of monomials.
 pub(crate) fn add_products<F: Field>(
     alloc: Global,
     field: &F,
     left: &[Term],
-    right: &[Term],
-    sum: &mut Poly,
+    right: &[Mono],
+    sum: &mut TermMap,
 ) -> Result<(), AllocError>
     requires left { IsReduced (F.degree field.now) left.now }
-    requires right { IsReduced (F.degree field.now) right.now }
+    requires right { AreTerms (F.degree field.now) (units right.now) }
     requires sum { IsReduced (F.degree field.now) sum.old.terms }
     ensures reduced { OnOk result (IsReduced (F.degree field.now) sum.new.terms) }
-    ensures values { OnOk result ((p : Point) → IsPoint (F.degree field.now) p → value (F.product field.now) p sum.new.terms ≡ bit_xor (value (F.product field.now) p sum.old.terms) (F.product field.now (value (F.product field.now) p left.now) (value (F.product field.now) p right.now))) }
+    ensures values { OnOk result (AddsProducts (F.degree field.now) (F.product field.now) left.now (units right.now) sum.old.terms sum.new.terms) }
 {
     for term in left {
         add_multiple(alloc, field, term, right, sum)?;

@@ -1,28 +1,28 @@
 //! The running sum of a certificate.
-ghost use Rattle.std.specs.Prelude.{◌≡◌, ◌<◌, ℕ, bit_xor, length, IfOk, OnOk};
+ghost use Rattle.std.specs.Prelude.{◌≡◌, ◌<◌, ℕ, length, IfOk, OnOk};
 ghost use Rattle.lists.specs.Lists.{Has};
 ghost use Rattle.gf_basis.specs.BasisParts.{elements_of, IsBasisOver};
-ghost use Rattle.irreducible.specs.Span.{combination};
 ghost use Rattle.net_core.specs.NetList.{nets};
-ghost use Rattle.net_words.specs.Variables.{variables};
-ghost use Rattle.poly_mixed.specs.Polynomial.{IsPoint, IsPolynomialOf, IsReduced, Point, value};
-ghost use Rattle.poly_mixed.specs.Table.{index};
+ghost use Rattle.poly_mixed.specs.Polynomial.{IsPolynomialOf, IsReduced};
 ghost use Rattle.circuit_model.specs.Bases.{AreBases};
 ghost use Rattle.cert_check.specs.Certificate.{begun};
-ghost use Rattle.cert_check.specs.Running.{net_bit, generator_value, output_value};
 ghost use Rattle.cert_check.specs.Verdict.{IsRunningSum};
-ghost use Rattle.cert_check.specs.private.Reading.{AreDrivers};
-ghost use Rattle.cert_check.specs.private.Held.{whole, IsHeld, IsLast};
-ghost use Rattle.cert_check.specs.private.Kept.{IsGeneratorOf};
+ghost use Rattle.cert_check.specs.private.Reading.{AreDrivers, multiplier_in};
+ghost use Rattle.cert_check.specs.private.Generators.{word_value, IsOutputSum};
+ghost use Rattle.cert_check.specs.private.Held.{dual_of, whole, AddsEntry, AddsPair, IsHeld, IsLast};
+ghost use Rattle.cert_check.specs.private.Kept.{terms_of, IsGeneratorOf, IsNumbered};
 
 use crate::generator::rank;
 use crate::last::LastGenerator;
+use crate::line::Multiplier;
 use crate::running_sum::RunningSum;
+use crate::term_list::{TermList, shared_terms};
+use crate::term_map::TermMap;
 use circuit_model::{output_basis, output_nets};
 use gf_basis::Basis;
 use gf_field::Field;
 use net_words::Combinational;
-use poly_mixed::{Generator, Poly, scaled_bit};
+use poly_mixed::{Generator, Poly, Term, scaled_bit};
 use std::alloc::{AllocError, Global};
 
 // The sum of the basis elements of the bits of these nets.
@@ -36,7 +36,7 @@ fn word_poly<F: Field>(
     requires basis { IsBasisOver (F.degree field.now) (F.product field.now) basis.now }
     requires long { length list.now ≡ F.degree field.now }
     requires inside { (n : ℕ) → Has list.now n → n < nets circuit.now.net }
-    ensures { IfOk result (λ q. IsPolynomialOf (F.degree field.now) (F.product field.now) (λ p. combination (elements_of basis.now) (index (net_bit (variables (nets circuit.now.net) circuit.now.binding.words) p) list.now)) q.terms) }
+    ensures { IfOk result (λ q. IsPolynomialOf (F.degree field.now) (F.product field.now) (word_value circuit.now (elements_of basis.now) list.now) q.terms) }
 {
     let mut sum = Poly::zero(alloc);
     for place in 0..list.len() {
@@ -56,7 +56,7 @@ fn output_poly<F: Field>(
 ) -> Result<Poly, AllocError>
     requires k { circuit.now.binding.k ≡ F.degree field.now }
     requires bases { AreBases (F.degree field.now) (F.product field.now) circuit.now bases.now }
-    ensures { IfOk result (λ q. IsPolynomialOf (F.degree field.now) (F.product field.now) (output_value (F.degree field.now) (F.product field.now) circuit.now bases.now) q.terms) }
+    ensures { IfOk result (λ q. IsOutputSum (F.degree field.now) (F.product field.now) circuit.now bases.now q.terms) }
 {
     let basis = output_basis(circuit.binding(), bases);
     let list = output_nets(alloc, circuit.binding())?;
@@ -70,7 +70,7 @@ pub(crate) fn first_sum<F: Field>(
     circuit: &Combinational,
     bases: &[Basis],
     claim: &Poly,
-) -> Result<Poly, AllocError>
+) -> Result<TermMap, AllocError>
     requires k { circuit.now.binding.k ≡ F.degree field.now }
     requires bases { AreBases (F.degree field.now) (F.product field.now) circuit.now bases.now }
     requires claim { IsReduced (F.degree field.now) claim.now.terms }
@@ -78,33 +78,82 @@ pub(crate) fn first_sum<F: Field>(
 {
     let mut sum = output_poly(alloc, field, circuit, bases)?;
     sum.add_into(field, claim)?;
-    Ok(sum)
+    let map = TermMap::of(alloc, &sum)?;
+    Ok(map)
 }
 
-/// Adds the product of a generator and a multiplier.
-pub(crate) fn add_product<F: Field>(
+// Adds the product of a generator and the terms of a multiplier.
+fn add_product<F: Field>(
     alloc: Global,
     field: &F,
     circuit: &Combinational,
     bases: &[Basis],
     drivers: &[Option<u32>],
     generator: Generator,
-    multiplier: &Poly,
+    multiplier: &[Term],
     last: &mut LastGenerator,
     sum: &mut RunningSum,
 ) -> Result<(), AllocError>
     requires bases { AreBases (F.degree field.now) (F.product field.now) circuit.now bases.now }
     requires drivers { AreDrivers circuit.now.net drivers.now }
     requires generator { IsGeneratorOf (F.degree field.now) circuit.now bases.now generator }
-    requires multiplier { IsReduced (F.degree field.now) multiplier.now.terms }
+    requires multiplier { IsReduced (F.degree field.now) multiplier.now }
     requires last { IsLast (F.degree field.now) (F.product field.now) circuit.now bases.now last.old }
-    requires held { IsHeld (F.degree field.now) sum.old }
+    requires held { IsHeld circuit.now bases.now (F.degree field.now) sum.old }
     ensures last { OnOk result (IsLast (F.degree field.now) (F.product field.now) circuit.now bases.now last.new) }
-    ensures held { OnOk result (IsHeld (F.degree field.now) sum.new) }
-    ensures reduced { OnOk result (IsReduced (F.degree field.now) (whole (F.degree field.now) sum.new)) }
-    ensures values { OnOk result ((p : Point) → IsPoint (F.degree field.now) p → value (F.product field.now) p (whole (F.degree field.now) sum.new) ≡ bit_xor (value (F.product field.now) p (whole (F.degree field.now) sum.old)) (F.product field.now (generator_value (F.degree field.now) (F.product field.now) circuit.now bases.now generator p) (value (F.product field.now) p multiplier.now.terms))) }
+    ensures held { OnOk result (IsHeld circuit.now bases.now (F.degree field.now) sum.new) }
+    ensures reduced { OnOk result (IsReduced (F.degree field.now) (whole (F.degree field.now) (F.product field.now) (dual_of circuit.now bases.now) sum.new)) }
+    ensures values { OnOk result (AddsPair (F.degree field.now) (F.product field.now) circuit.now bases.now sum.old sum.new generator multiplier.now) }
 {
     last.make(alloc, field, circuit, bases, drivers, generator)?;
-    let factor = multiplier.terms(alloc)?;
-    sum.add_product(alloc, field, &factor, last.terms(), last.form())
+    sum.add_product(
+        alloc,
+        field,
+        circuit,
+        bases,
+        multiplier,
+        last.near(),
+        last.form(),
+    )
+}
+
+/// Adds the product of a generator and a multiplier, where these are shared.
+pub(crate) fn add_multiplier<F: Field>(
+    alloc: Global,
+    field: &F,
+    circuit: &Combinational,
+    bases: &[Basis],
+    drivers: &[Option<u32>],
+    generator: Generator,
+    multiplier: &Multiplier,
+    shared: &[TermList],
+    last: &mut LastGenerator,
+    sum: &mut RunningSum,
+) -> Result<(), AllocError>
+    requires bases { AreBases (F.degree field.now) (F.product field.now) circuit.now bases.now }
+    requires drivers { AreDrivers circuit.now.net drivers.now }
+    requires generator { IsGeneratorOf (F.degree field.now) circuit.now bases.now generator }
+    requires number { IsNumbered (length shared.now) multiplier.now }
+    requires multiplier { IsReduced (F.degree field.now) (multiplier_in (terms_of shared.now) multiplier.now) }
+    requires last { IsLast (F.degree field.now) (F.product field.now) circuit.now bases.now last.old }
+    requires held { IsHeld circuit.now bases.now (F.degree field.now) sum.old }
+    ensures last { OnOk result (IsLast (F.degree field.now) (F.product field.now) circuit.now bases.now last.new) }
+    ensures held { OnOk result (IsHeld circuit.now bases.now (F.degree field.now) sum.new) }
+    ensures reduced { OnOk result (IsReduced (F.degree field.now) (whole (F.degree field.now) (F.product field.now) (dual_of circuit.now bases.now) sum.new)) }
+    ensures values { OnOk result (AddsEntry (F.degree field.now) (F.product field.now) circuit.now bases.now sum.old sum.new (terms_of shared.now) generator multiplier.now) }
+{
+    match multiplier {
+        Multiplier::Own(poly) => {
+            let terms = poly.terms(alloc)?;
+            add_product(
+                alloc, field, circuit, bases, drivers, generator, &terms, last, sum,
+            )
+        }
+        Multiplier::Shared(n) => {
+            let terms = shared_terms(shared, *n);
+            add_product(
+                alloc, field, circuit, bases, drivers, generator, terms, last, sum,
+            )
+        }
+    }
 }

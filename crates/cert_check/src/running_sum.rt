@@ -1,14 +1,20 @@
 //! The running sum of a certificate. Products with forms of words are kept in rows by their monomials, and are added to the
 //! polynomial only where its size is asked: lines that name bits of one word have the same squares of it.
-ghost use Rattle.std.specs.Prelude.{◌≡◌, ◌↔◌, ◌+◌, ◌*◌, ◌<◌, ◌≤◌, ℕ, [], bit_xor, length, IfNone, IfOk, IfSome, IsTrue, OnOk, Some};
-ghost use Rattle.poly_mixed.specs.Polynomial.{IsPoint, IsReduced, IsTerm, Point, term_value, value};
-ghost use Rattle.cert_check.specs.private.Held.{form_value, held_value, row_value, rows_value, whole, with_rows, AreRows, IsForm, IsFormOrNone, IsHeld, IsRow, IsRowAt, IsSettled};
+ghost use Rattle.std.specs.Prelude.{◌≡◌, ◌↔◌, ◌+◌, ◌*◌, ◌<◌, ◌≤◌, ℕ, [], length, IfNone, IfOk, IfSome, IsTrue, OnOk};
+ghost use Rattle.poly_mixed.specs.Polynomial.{IsReduced, IsTerm};
+ghost use Rattle.cert_check.specs.private.Units.{units, AreTerms};
+ghost use Rattle.circuit_model.specs.Bases.{AreBases};
+ghost use Rattle.cert_check.specs.private.Held.{dual_of, whole, AddsSplit, AreRows, HoldsTheSame, IsForm, IsFormOrNone, IsHeld, IsRow, IsRowAt, IsRowOf, IsSettled, KeepsTerm, KeepsTerms};
 
 use crate::form::Form;
 use crate::multiple::add_products;
 use crate::row::Row;
+use crate::squares::add_rows;
+use crate::term_map::TermMap;
+use gf_basis::Basis;
 use gf_field::Field;
-use poly_mixed::{Mono, Poly, Term};
+use net_words::Combinational;
+use poly_mixed::{Mono, Term};
 use std::alloc::{AllocError, Global};
 use std::collections::BTreeMap;
 
@@ -16,7 +22,7 @@ use std::collections::BTreeMap;
 /// time is lost.
 #[derive(Drop)]
 pub(crate) struct RunningSum {
-    poly: Poly,
+    poly: TermMap,
     rows: Vec<Row>,
     places: BTreeMap<Mono, usize>,
 }
@@ -32,47 +38,50 @@ fn is_within(terms: usize, rows: usize, k: u32, bound: u32) -> bool
     }
 }
 
-// Adds rows to a polynomial.
-fn add_rows(alloc: Global, k: u32, rows: &[Row], poly: &mut Poly) -> Result<(), AllocError>
-    requires k_in { (1 ≤ k) × (k ≤ 64) }
-    requires rows { AreRows k rows.now }
-    ensures { OnOk result (poly.new.terms ≡ with_rows k rows.now poly.old.terms) }
-{
-    for row in rows {
-        row.add_to(alloc, k, poly)?;
-    }
-    Ok(())
-}
-
 // Adds the multiple of a form to the row at a place, which is of the term's monomial and the form's word.
-fn add_at<F: Field>(field: &F, rows: &mut [Row], i: usize, term: &Term, form: &Form)
-    requires rows { AreRows (F.degree field.now) rows.old }
+fn add_at<F: Field>(
+    field: &F,
+    circuit: &Combinational,
+    bases: &[Basis],
+    rows: &mut [Row],
+    i: usize,
+    term: &Term,
+    form: &Form,
+)
+    requires rows { AreRows circuit.now bases.now (F.degree field.now) rows.old }
     requires place { IsRowAt rows.old i term.now.0 form.now.word }
     requires term { IsTerm (F.degree field.now) term.now }
-    requires form { IsForm (F.degree field.now) form.now }
-    ensures rows { AreRows (F.degree field.now) rows.new }
-    ensures values { (p : Point) → IsPoint (F.degree field.now) p → rows_value (F.degree field.now) (F.product field.now) p rows.new ≡ bit_xor (rows_value (F.degree field.now) (F.product field.now) p rows.old) (F.product field.now (term_value (F.product field.now) p term.now) (form_value (F.degree field.now) (F.product field.now) p (Some form.now))) }
+    requires form { IsForm circuit.now bases.now (F.degree field.now) form.now }
+    ensures rows { AreRows circuit.now bases.now (F.degree field.now) rows.new }
+    ensures values { KeepsTerm (F.degree field.now) (F.product field.now) (dual_of circuit.now bases.now) rows.old rows.new term.now form.now }
 {
-    rows[i].add(field, term.coefficient(), form);
+    rows[i].add(field, circuit, bases, form.place, term.coefficient());
 }
 
 // A row of a term's multiple of a form.
-fn row_of<F: Field>(alloc: Global, field: &F, term: &Term, form: &Form) -> Result<Row, AllocError>
+fn row_of<F: Field>(
+    alloc: Global,
+    field: &F,
+    circuit: &Combinational,
+    bases: &[Basis],
+    term: &Term,
+    form: &Form,
+) -> Result<Row, AllocError>
     requires term { IsTerm (F.degree field.now) term.now }
-    requires form { IsForm (F.degree field.now) form.now }
-    ensures row { IfOk result (IsRow (F.degree field.now)) }
-    ensures value { IfOk result (λ row. (p : Point) → IsPoint (F.degree field.now) p → row_value (F.degree field.now) (F.product field.now) p row ≡ F.product field.now (term_value (F.product field.now) p term.now) (form_value (F.degree field.now) (F.product field.now) p (Some form.now))) }
+    requires form { IsForm circuit.now bases.now (F.degree field.now) form.now }
+    ensures row { IfOk result (IsRow circuit.now bases.now (F.degree field.now)) }
+    ensures value { IfOk result (IsRowOf (F.degree field.now) (F.product field.now) (dual_of circuit.now bases.now) term.now form.now) }
 {
     let mut row = Row::new(alloc, field.k(), term.mono(), form.word)?;
-    row.add(field, term.coefficient(), form);
+    row.add(field, circuit, bases, form.place, term.coefficient());
     Ok(row)
 }
 
 impl RunningSum {
     /// A polynomial, and no rows.
-    pub(crate) fn new(alloc: Global, poly: Poly) -> RunningSum
-        ensures whole { (k : ℕ) → whole k result ≡ poly.terms }
-        ensures held { (k : ℕ) → IsReduced k poly.terms → IsHeld k result }
+    pub(crate) fn new(alloc: Global, poly: TermMap) -> RunningSum
+        ensures whole { (k : ℕ) (mul : ℕ → ℕ → ℕ) (dual : ℕ → ℕ → ℕ) → whole k mul dual result ≡ poly.terms }
+        ensures held { (bound : _) (bases : _) (k : ℕ) → IsReduced k poly.terms → IsHeld bound bases k result }
     {
         RunningSum {
             poly,
@@ -99,17 +108,19 @@ impl RunningSum {
         &mut self,
         alloc: Global,
         field: &F,
+        circuit: &Combinational,
+        bases: &[Basis],
         term: &Term,
         form: &Form,
     ) -> Result<(), AllocError>
-        requires rows { AreRows (F.degree field.now) self.old.rows.items }
+        requires rows { AreRows circuit.now bases.now (F.degree field.now) self.old.rows.items }
         requires term { IsTerm (F.degree field.now) term.now }
-        requires form { IsForm (F.degree field.now) form.now }
+        requires form { IsForm circuit.now bases.now (F.degree field.now) form.now }
         ensures poly { OnOk result (self.new.poly.terms ≡ self.old.poly.terms) }
-        ensures rows { OnOk result (AreRows (F.degree field.now) self.new.rows.items) }
-        ensures values { OnOk result ((p : Point) → IsPoint (F.degree field.now) p → rows_value (F.degree field.now) (F.product field.now) p self.new.rows.items ≡ bit_xor (rows_value (F.degree field.now) (F.product field.now) p self.old.rows.items) (F.product field.now (term_value (F.product field.now) p term.now) (form_value (F.degree field.now) (F.product field.now) p (Some form.now)))) }
+        ensures rows { OnOk result (AreRows circuit.now bases.now (F.degree field.now) self.new.rows.items) }
+        ensures values { OnOk result (KeepsTerm (F.degree field.now) (F.product field.now) (dual_of circuit.now bases.now) self.old.rows.items self.new.rows.items term.now form.now) }
     {
-        let row = row_of(alloc, field, term, form)?;
+        let row = row_of(alloc, field, circuit, bases, term, form)?;
         let mono = Mono::new(alloc, term.mono().bits(), term.mono().exponents())?;
         self.places.insert(mono, self.rows.len())?;
         self.rows.push(row)?;
@@ -121,22 +132,32 @@ impl RunningSum {
         &mut self,
         alloc: Global,
         field: &F,
+        circuit: &Combinational,
+        bases: &[Basis],
         term: &Term,
         form: &Form,
     ) -> Result<(), AllocError>
-        requires rows { AreRows (F.degree field.now) self.old.rows.items }
+        requires rows { AreRows circuit.now bases.now (F.degree field.now) self.old.rows.items }
         requires term { IsTerm (F.degree field.now) term.now }
-        requires form { IsForm (F.degree field.now) form.now }
+        requires form { IsForm circuit.now bases.now (F.degree field.now) form.now }
         ensures poly { OnOk result (self.new.poly.terms ≡ self.old.poly.terms) }
-        ensures rows { OnOk result (AreRows (F.degree field.now) self.new.rows.items) }
-        ensures values { OnOk result ((p : Point) → IsPoint (F.degree field.now) p → rows_value (F.degree field.now) (F.product field.now) p self.new.rows.items ≡ bit_xor (rows_value (F.degree field.now) (F.product field.now) p self.old.rows.items) (F.product field.now (term_value (F.product field.now) p term.now) (form_value (F.degree field.now) (F.product field.now) p (Some form.now)))) }
+        ensures rows { OnOk result (AreRows circuit.now bases.now (F.degree field.now) self.new.rows.items) }
+        ensures values { OnOk result (KeepsTerm (F.degree field.now) (F.product field.now) (dual_of circuit.now bases.now) self.old.rows.items self.new.rows.items term.now form.now) }
     {
         match self.place_of(term.mono(), form.word) {
             Some(i) => {
-                add_at(field, self.rows.as_mut_slice(), i, term, form);
+                add_at(
+                    field,
+                    circuit,
+                    bases,
+                    self.rows.as_mut_slice(),
+                    i,
+                    term,
+                    form,
+                );
                 Ok(())
             }
-            None => self.begin(alloc, field, term, form),
+            None => self.begin(alloc, field, circuit, bases, term, form),
         }
     }
 
@@ -145,53 +166,70 @@ impl RunningSum {
         &mut self,
         alloc: Global,
         field: &F,
+        circuit: &Combinational,
+        bases: &[Basis],
         terms: &[Term],
         form: &Form,
     ) -> Result<(), AllocError>
-        requires rows { AreRows (F.degree field.now) self.old.rows.items }
+        requires rows { AreRows circuit.now bases.now (F.degree field.now) self.old.rows.items }
         requires terms { IsReduced (F.degree field.now) terms.now }
-        requires form { IsForm (F.degree field.now) form.now }
+        requires form { IsForm circuit.now bases.now (F.degree field.now) form.now }
         ensures poly { OnOk result (self.new.poly.terms ≡ self.old.poly.terms) }
-        ensures rows { OnOk result (AreRows (F.degree field.now) self.new.rows.items) }
-        ensures values { OnOk result ((p : Point) → IsPoint (F.degree field.now) p → rows_value (F.degree field.now) (F.product field.now) p self.new.rows.items ≡ bit_xor (rows_value (F.degree field.now) (F.product field.now) p self.old.rows.items) (F.product field.now (value (F.product field.now) p terms.now) (form_value (F.degree field.now) (F.product field.now) p (Some form.now)))) }
+        ensures rows { OnOk result (AreRows circuit.now bases.now (F.degree field.now) self.new.rows.items) }
+        ensures values { OnOk result (KeepsTerms (F.degree field.now) (F.product field.now) (dual_of circuit.now bases.now) self.old.rows.items self.new.rows.items terms.now form.now) }
     {
         for term in terms {
-            self.keep(alloc, field, term, form)?;
+            self.keep(alloc, field, circuit, bases, term, form)?;
         }
         Ok(())
     }
 
-    /// Adds the product of a polynomial's terms with the sum of a polynomial and a form.
+    /// Adds the product of a polynomial's terms with the sum of monomials and a form.
     pub(crate) fn add_product<F: Field>(
         &mut self,
         alloc: Global,
         field: &F,
+        circuit: &Combinational,
+        bases: &[Basis],
         factor: &[Term],
-        near: &[Term],
+        near: &[Mono],
         form: &Option<Form>,
     ) -> Result<(), AllocError>
-        requires held { IsHeld (F.degree field.now) self.old }
+        requires held { IsHeld circuit.now bases.now (F.degree field.now) self.old }
         requires factor { IsReduced (F.degree field.now) factor.now }
-        requires near { IsReduced (F.degree field.now) near.now }
-        requires form { IsFormOrNone (F.degree field.now) form.now }
-        ensures held { OnOk result (IsHeld (F.degree field.now) self.new) }
-        ensures values { OnOk result ((p : Point) → IsPoint (F.degree field.now) p → held_value (F.degree field.now) (F.product field.now) p self.new ≡ bit_xor (held_value (F.degree field.now) (F.product field.now) p self.old) (F.product field.now (value (F.product field.now) p factor.now) (bit_xor (value (F.product field.now) p near.now) (form_value (F.degree field.now) (F.product field.now) p form.now)))) }
+        requires near { AreTerms (F.degree field.now) (units near.now) }
+        requires form { IsFormOrNone circuit.now bases.now (F.degree field.now) form.now }
+        ensures held { OnOk result (IsHeld circuit.now bases.now (F.degree field.now) self.new) }
+        ensures values { OnOk result (AddsSplit (F.degree field.now) (F.product field.now) (dual_of circuit.now bases.now) self.old self.new factor.now (units near.now) form.now) }
     {
         add_products(alloc, field, factor, near, &mut self.poly)?;
         match form {
-            Some(form) => self.keep_all(alloc, field, factor, form),
+            Some(form) => self.keep_all(alloc, field, circuit, bases, factor, form),
             None => Ok(()),
         }
     }
 
     /// Adds the rows to the polynomial.
-    pub(crate) fn flush(&mut self, alloc: Global, k: u32) -> Result<(), AllocError>
-        requires k_in { (1 ≤ k) × (k ≤ 64) }
-        requires held { IsHeld k self.old }
+    pub(crate) fn flush<F: Field>(
+        &mut self,
+        alloc: Global,
+        field: &F,
+        circuit: &Combinational,
+        bases: &[Basis],
+    ) -> Result<(), AllocError>
+        requires bases { AreBases (F.degree field.now) (F.product field.now) circuit.now bases.now }
+        requires held { IsHeld circuit.now bases.now (F.degree field.now) self.old }
         ensures rows { OnOk result (self.new.rows.items ≡ []) }
-        ensures poly { OnOk result (self.new.poly.terms ≡ whole k self.old) }
+        ensures poly { OnOk result (self.new.poly.terms ≡ whole (F.degree field.now) (F.product field.now) (dual_of circuit.now bases.now) self.old) }
     {
-        add_rows(alloc, k, self.rows.as_slice(), &mut self.poly)?;
+        add_rows(
+            alloc,
+            field,
+            circuit,
+            bases,
+            self.rows.as_slice(),
+            &mut self.poly,
+        )?;
         self.rows.clear();
         self.places = BTreeMap::new(alloc);
         Ok(())
@@ -202,25 +240,27 @@ impl RunningSum {
         &mut self,
         alloc: Global,
         field: &F,
+        circuit: &Combinational,
+        bases: &[Basis],
         bound: u32,
     ) -> Result<(), AllocError>
-        requires held { IsHeld (F.degree field.now) self.old }
-        ensures same { OnOk result (whole (F.degree field.now) self.new ≡ whole (F.degree field.now) self.old) }
-        ensures held { OnOk result (IsHeld (F.degree field.now) self.new) }
+        requires bases { AreBases (F.degree field.now) (F.product field.now) circuit.now bases.now }
+        requires held { IsHeld circuit.now bases.now (F.degree field.now) self.old }
+        ensures same { OnOk result (HoldsTheSame (F.degree field.now) (F.product field.now) (dual_of circuit.now bases.now) self.old self.new) }
+        ensures held { OnOk result (IsHeld circuit.now bases.now (F.degree field.now) self.new) }
         ensures settled { OnOk result (IsSettled (F.degree field.now) bound self.new) }
     {
-        let k = field.k();
-        if is_within(self.poly.len(), self.rows.len(), k, bound) {
+        if is_within(self.poly.len(), self.rows.len(), field.k(), bound) {
             return Ok(());
         }
-        self.flush(alloc, k)
+        self.flush(alloc, field, circuit, bases)
     }
 
     /// The size, if it is over the bound.
     pub(crate) fn over(&self, k: u32, bound: u32) -> Option<usize>
         requires { IsSettled k bound self.now }
-        ensures within { IfNone result (length (whole k self.now) ≤ bound) }
-        ensures over { IfSome result (λ n. (n ≡ length (whole k self.now)) × (bound < n)) }
+        ensures within { (mul : ℕ → ℕ → ℕ) (dual : ℕ → ℕ → ℕ) → IfNone result (length (whole k mul dual self.now) ≤ bound) }
+        ensures over { (mul : ℕ → ℕ → ℕ) (dual : ℕ → ℕ → ℕ) → IfSome result (λ n. (n ≡ length (whole k mul dual self.now)) × (bound < n)) }
     {
         if is_within(self.poly.len(), self.rows.len(), k, bound) {
             return None;
@@ -231,7 +271,7 @@ impl RunningSum {
     /// The size, where there are no rows.
     pub(crate) fn len(&self) -> usize
         requires { self.now.rows.items ≡ [] }
-        ensures { (k : ℕ) → result ≡ length (whole k self.now) }
+        ensures { (k : ℕ) (mul : ℕ → ℕ → ℕ) (dual : ℕ → ℕ → ℕ) → result ≡ length (whole k mul dual self.now) }
     {
         self.poly.len()
     }

@@ -1,15 +1,15 @@
-//! The polynomial of a gate's table, from its exclusive-or form.
-ghost use Rattle.std.specs.Prelude.{◌≡◌, ◌+◌, ◌*◌, ◌^◌, ◌<◌, ◌≤◌, ◌&&◌, bit_xor, cond, length, IfOk, OnOk};
-ghost use Rattle.std.specs.List.{list_all};
+//! The monomials of a gate's table, from its exclusive-or form.
+ghost use Rattle.std.specs.Prelude.{◌≡◌, ◌*◌, ◌^◌, ◌<◌, ◌≤◌, length, IfOk, OnOk};
 ghost use Rattle.std.specs.List.Sorted.{IsStrictlySortedBy};
 ghost use Rattle.std.specs.Ordering.{nat_cmp};
-ghost use Rattle.poly_mixed.specs.Polynomial.{IsPoint, IsReduced, Point, value};
 ghost use Rattle.poly_mixed.specs.Product.{with_rank};
-ghost use Rattle.poly_mixed.specs.Table.{subset_parity, table_bit, table_value};
+ghost use Rattle.poly_mixed.specs.Table.{table_bit, table_value};
+ghost use Rattle.cert_check.specs.private.Units.{set_value, sets_value, AddsValue, AreTerms};
 
+use crate::mono_sum::MonoSum;
 use crate::monomial::add_rank;
 use gf_field::Field;
-use poly_mixed::{Mono, Poly, exclusive_form};
+use poly_mixed::{Mono, exclusive_form};
 use std::alloc::{AllocError, Global};
 
 // Whether the form of a table has a place.
@@ -27,17 +27,17 @@ fn add_set<F: Field>(
     form: u64,
     place: u32,
     set: &[u32],
-    sum: &mut Poly,
+    sum: &mut MonoSum,
 ) -> Result<(), AllocError>
     requires place { place < 64 }
     requires set { IsStrictlySortedBy nat_cmp set.now }
-    requires sum { IsReduced (F.degree _field.now) sum.old.terms }
-    ensures reduced { OnOk result (IsReduced (F.degree _field.now) sum.new.terms) }
-    ensures values { OnOk result ((p : Point) → IsPoint (F.degree _field.now) p → value (F.product _field.now) p sum.new.terms ≡ bit_xor (value (F.product _field.now) p sum.old.terms) (cond (list_all p.is_one set.now && table_bit form place) 1 0)) }
+    requires sum { AreTerms (F.degree _field.now) sum.old.terms }
+    ensures terms { OnOk result (AreTerms (F.degree _field.now) sum.new.terms) }
+    ensures values { OnOk result (AddsValue (F.degree _field.now) (F.product _field.now) (set_value set.now form place) sum.old.terms sum.new.terms) }
 {
     if has_place(form, place) {
         let mono = Mono::new(alloc, set, &[0; 8])?;
-        sum.add_term(mono, 1)?;
+        sum.push(mono)?;
         return Ok(());
     }
     Ok(())
@@ -62,14 +62,14 @@ fn add_sets<F: Field>(
     base: u32,
     step: u32,
     set: &[u32],
-    sum: &mut Poly,
+    sum: &mut MonoSum,
 ) -> Result<(), AllocError>
     requires base { base < step }
     requires within { step * 2 ^ length ranks.now ≤ 64 }
     requires set { IsStrictlySortedBy nat_cmp set.now }
-    requires sum { IsReduced (F.degree field.now) sum.old.terms }
-    ensures reduced { OnOk result (IsReduced (F.degree field.now) sum.new.terms) }
-    ensures values { OnOk result ((p : Point) → IsPoint (F.degree field.now) p → value (F.product field.now) p sum.new.terms ≡ bit_xor (value (F.product field.now) p sum.old.terms) (cond (list_all p.is_one set.now && subset_parity (table_bit form) p.is_one ranks.now base step) 1 0)) }
+    requires sum { AreTerms (F.degree field.now) sum.old.terms }
+    ensures terms { OnOk result (AreTerms (F.degree field.now) sum.new.terms) }
+    ensures values { OnOk result (AddsValue (F.degree field.now) (F.product field.now) (sets_value set.now form ranks.now base step) sum.old.terms sum.new.terms) }
 {
     if ranks.is_empty() {
         add_set(alloc, field, form, base, set, sum)?;
@@ -82,18 +82,18 @@ fn add_sets<F: Field>(
     Ok(())
 }
 
-/// Adds the polynomial of a table over at most 6 ranks, in any order, of which one may come more than once.
+/// Adds the monomials of a table over at most 6 ranks, in any order, of which one may come more than once.
 pub(crate) fn add_table<F: Field>(
     alloc: Global,
     field: &F,
     ranks: &[u32],
     table: u64,
-    sum: &mut Poly,
+    sum: &mut MonoSum,
 ) -> Result<(), AllocError>
     requires few { length ranks.now ≤ 6 }
-    requires sum { IsReduced (F.degree field.now) sum.old.terms }
-    ensures reduced { OnOk result (IsReduced (F.degree field.now) sum.new.terms) }
-    ensures values { OnOk result ((p : Point) → IsPoint (F.degree field.now) p → value (F.product field.now) p sum.new.terms ≡ bit_xor (value (F.product field.now) p sum.old.terms) (table_value table ranks.now p.is_one)) }
+    requires sum { AreTerms (F.degree field.now) sum.old.terms }
+    ensures terms { OnOk result (AreTerms (F.degree field.now) sum.new.terms) }
+    ensures values { OnOk result (AddsValue (F.degree field.now) (F.product field.now) (λ p. table_value table ranks.now p.is_one) sum.old.terms sum.new.terms) }
 {
     let form = exclusive_form(table);
     add_sets(alloc, field, form, ranks, 0, 1, &[], sum)?;

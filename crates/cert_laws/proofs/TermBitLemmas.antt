@@ -28,8 +28,8 @@ use Rattle.stage_model.specs.WordStage.{is_of_word, word_bits, first_bits, with_
 use Rattle.stage_model.specs.WordSteps.{with_word_below}
 use Rattle.stage_model.proofs.WordPolyLemmas.{filter_passes}
 use Rattle.cert_check.specs.Running.{dual_form, dual_at, dual_words}
-use Rattle.cert_check.proofs.FormLemmas.{same_sum}
 use Rattle.cert_check.proofs.SoundLemmas.{both}
+use Rattle.gf_field.proofs.SharedLemmas.{same_sum}
 use Rattle.poly_mixed.proofs.AroundLemmas.{all_around}
 
 -- ---- lists of bits

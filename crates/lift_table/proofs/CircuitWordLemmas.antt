@@ -2,6 +2,7 @@
 use Rattle.std.proofs.Common.{◌≡◌, ◌≢◌, ◌∙◌, ap, sym, refl, subst, inl, inr, ◌⊎◌, ℕ, zero, suc, ◌+◌, cond, List, [], ◌∷◌, ◌++◌, length, drop, filter, Some, arith, append-nil}
 use Rattle.std.specs.Prelude.{slice_get}
 use Rattle.std.proofs.lemmas.List.{append_assoc}
+use Rattle.circuit_model.proofs.SharedLemmas.{from_word, appended_over}
 use Rattle.net_words.specs.BoundTo.{output_bits, output_bits_with}
 use Rattle.net_words.specs.Roles.{same_role}
 use Rattle.net_words.specs.declared.bound.BoundWord.{BoundWord}
@@ -12,17 +13,6 @@ use Rattle.circuit_model.specs.Flat.{AreOver}
 use Rattle.circuit_model.specs.Word.{Word}
 use Rattle.circuit_model.specs.declared.circuit_word.CircuitWord.{CircuitWord}
 use Rattle.circuit_model.specs.OfBinding.{word_with, words_of, output_basis, output_basis_with}
-
--- the words from w on
-from_word : (words : List BoundWord) (bases : List (List ℕ)) (w : ℕ) (word : BoundWord) (basis : List ℕ) → slice_get words w ≡ Some word → slice_get bases w ≡ Some basis
-    → words_of (drop w words) (drop w bases) ≡ word_with word.role word.nets basis ++ words_of (drop (suc w) words) (drop (suc w) bases)
-from_word [] bases w word basis got at = absurd (cc)
-from_word (u ∷ us) [] w word basis got at = absurd (cc)
-from_word (u ∷ us) (b ∷ bs) zero word basis got at =
-    let same : u ≡ word = cc in
-    let same' : b ≡ basis = cc in
-    λ i. word_with (same i).role (same i).nets (same' i) ++ words_of us bs
-from_word (u ∷ us) (b ∷ bs) (suc w) word basis got at = from_word us bs w word basis got at
 
 pub one_word : (words : List BoundWord) (bases : List (List ℕ)) (w : ℕ) (word : BoundWord) (basis : List ℕ) (before after : List Word) → slice_get words w ≡ Some word → slice_get bases w ≡ Some basis
     → after ≡ before ++ word_with word.role word.nets basis → before ++ words_of (drop w words) (drop w bases) ≡ words_of words bases → after ++ words_of (drop (w + 1) words) (drop (w + 1) bases) ≡ words_of words bases
@@ -129,12 +119,6 @@ added_word r word nets basis is same are =
       | inr other ↦ elim other [ inl e ↦ sym (ap (λ q. word_with q nets basis) e) | inr e ↦ sym (ap (λ q. word_with q nets basis) e) ]
     ] in
     here ∙ (λ i. word_with (same i) (are i) basis)
-
-appended_over : (k : ℕ) (mul : ℕ → ℕ → ℕ) (word : CircuitWord) → IsBasisOver k mul word.basis → (ws : List CircuitWord) → AreOver k mul ws → AreOver k mul (ws ++ word ∷ [])
-appended_over k mul word here [] each w (zero, got) = let same : word ≡ w = cc got in (let Q : CircuitWord → Type 0 = λ v. IsBasisOver k mul v.basis in subst Q same here)
-appended_over k mul word here [] each w (suc i, got) = absurd (cc got)
-appended_over k mul word here (v ∷ ws) each w (zero, got) = each w (0, got)
-appended_over k mul word here (v ∷ ws) each w (suc i, got) = appended_over k mul word here ws (λ u has. each u (suc has.0, has.1)) w (i, got)
 
 -- one word more over the field
 pub pushed_over : (k : ℕ) (mul : ℕ → ℕ → ℕ) (before after : List CircuitWord) (word : CircuitWord) → after ≡ before ++ word ∷ [] → AreOver k mul before → IsBasisOver k mul word.basis → AreOver k mul after

@@ -1,11 +1,12 @@
 -- The coefficients of a function of one word have its values.
-use Rattle.std.proofs.Common.{◌≡◌, ◌≢◌, ℕ, zero, suc, ◌<◌, ◌≤◌, ◌+◌, ◌*◌, ◌-◌, ◌^◌, sym, refl, ◌∙◌, ap, subst, inl, inr, arith}
+use Rattle.std.proofs.Common.{◌≡◌, ◌≢◌, ℕ, zero, suc, ◌<◌, ◌≤◌, ◌*◌, ◌-◌, ◌^◌, sym, refl, ◌∙◌, ap, subst, inl, inr, arith}
 use Rattle.std.specs.Prelude.{bit_xor}
 use Rattle.std.proofs.Math.Nat.{pow-suc}
 use Rattle.std.proofs.lemmas.Nat.{pow_pos}
 use Rattle.std.proofs.lemmas.Bool.{cases_eq}
-use Rattle.std.specs.Int.Bits.{xor_assoc, xor_comm, xor_self, xor_zero_l, xor_zero_r, xor_lt}
-use Rattle.lists.specs.laws.XorLaws.{xor_cancel, xor_same}
+use Rattle.std.specs.Int.Bits.{xor_self, xor_zero_l, xor_zero_r, xor_lt}
+use Rattle.lists.specs.laws.XorLaws.{xor_cancel, xor_same, xor_drop_outer}
+use Rattle.gf_field.proofs.SharedLemmas.{same_sum, sum_zero, sum_open}
 use Rattle.gf_field.specs.Ring.{IsRing}
 use Rattle.gf_field.specs.Field.{HasNoZeroDivisors}
 use Rattle.gf_field.specs.laws.FermatLaws.{power_same}
@@ -14,7 +15,7 @@ use Rattle.gf_field.specs.laws.PowerLaws.{one_below, power_below}
 use Rattle.gf_field.specs.Polynomial.{sum_of_first}
 use Rattle.gf_field.specs.laws.RingLaws.{distrib_left, mul_zero, zero_mul, mul_one, mul_left_comm}
 use Rattle.lift_table.specs.OneWord.{coefficient_of}
-use Rattle.lift_table.proofs.SumLemmas.{sum_same, sum_zero, sum_open, sum_swap, sum_scale, sum_scale_right}
+use Rattle.lift_table.proofs.SumLemmas.{sum_swap, sum_scale, sum_scale_right}
 
 module _ (k : ℕ) (mul : ℕ → ℕ → ℕ) (ring : IsRing k mul) (field : HasNoZeroDivisors k mul) where
   -- the sum of y^(m - 1 - e) * x^e for e below m
@@ -26,11 +27,6 @@ module _ (k : ℕ) (mul : ℕ → ℕ → ℕ) (ring : IsRing k mul) (field : Ha
   between_below x y zero = let one = one_below k mul ring in omega arith
   between_below x y (suc m) = xor_lt k (power mul y m) (mul x (between x y m)) (power_below k mul ring y m) (ring.closed x (between x y m))
 
-  -- (a + b) + (c + a) is c + b
-  shuffled : (a b c : ℕ) → bit_xor (bit_xor a b) (bit_xor c a) ≡ bit_xor c b
-  shuffled a b c =
-      ap (λ n. bit_xor n (bit_xor c a)) (xor_comm a b) ∙ (xor_assoc b a (bit_xor c a) ∙ (ap (bit_xor b) (ap (bit_xor a) (xor_comm c a) ∙ xor_cancel a c) ∙ xor_comm b c))
-
   telescoped : (x y m : ℕ) → mul (bit_xor x y) (between x y m) ≡ bit_xor (power mul x m) (power mul y m)
   unfolding power
   telescoped x y zero = mul_zero k mul ring (bit_xor x y) ∙ sym (xor_self 1)
@@ -41,7 +37,7 @@ module _ (k : ℕ) (mul : ℕ → ℕ → ℕ) (ring : IsRing k mul) (field : Ha
       let g = between x y m in
       ring.distrib d p (mul x g)
       ∙ ((λ i. bit_xor (distrib_left k mul ring x y p i) ((mul_left_comm k mul ring d x g ∙ (ap (mul x) (telescoped x y m) ∙ ring.distrib x q p)) i))
-      ∙ shuffled (mul x p) (mul y p) (mul x q))
+      ∙ xor_drop_outer (mul x p) (mul y p) (mul x q))
 
   -- the sum as a sum
   is_between : (x y m : ℕ) → sum_of_first m (λ e. mul (power mul y (m - suc e)) (power mul x e)) ≡ between x y m
@@ -65,7 +61,7 @@ module _ (k : ℕ) (mul : ℕ → ℕ → ℕ) (ring : IsRing k mul) (field : Ha
 
       later : sum_of_first m (λ e. mul (power mul y (m - suc e)) (power mul x e)) ≡ between x y m → sum_of_first m (λ e. mul (power mul y (suc m - suc (suc e))) (mul x (power mul x e))) ≡ mul x (between x y m)
       later before =
-          sum_same m (λ e. mul (power mul y (suc m - suc (suc e))) (mul x (power mul x e))) (λ e. mul x (mul (power mul y (m - suc e)) (power mul x e))) (λ e less. one e)
+          same_sum m (λ e. mul (power mul y (suc m - suc (suc e))) (mul x (power mul x e))) (λ e. mul x (mul (power mul y (m - suc e)) (power mul x e))) (λ e less. one e)
           ∙ (sum_scale k mul ring x m (λ e. mul (power mul y (m - suc e)) (power mul x e)) ∙ ap (mul x) before)
 
   -- where the two are the same, only an odd number of summands does not cancel
@@ -161,8 +157,8 @@ module _ (k : ℕ) (mul : ℕ → ℕ → ℕ) (ring : IsRing k mul) (field : Ha
       rest_is : (x : ℕ) → sum_of_first m (λ e. at x (suc e)) ≡ sum_of_first (2 ^ k) (λ y. mul (v y) (share x y))
       unfolding power
       rest_is x =
-          sum_same m (λ e. at x (suc e)) (λ e. sum_of_first (2 ^ k) (λ y. part e y)) (λ e less. spread e)
-          ∙ (sum_swap m (2 ^ k) part ∙ sum_same (2 ^ k) (λ y. sum_of_first m (λ e. part e y)) (λ y. mul (v y) (share x y)) (λ y less. gathered y))
+          same_sum m (λ e. at x (suc e)) (λ e. sum_of_first (2 ^ k) (λ y. part e y)) (λ e less. spread e)
+          ∙ (sum_swap m (2 ^ k) part ∙ same_sum (2 ^ k) (λ y. sum_of_first m (λ e. part e y)) (λ y. mul (v y) (share x y)) (λ y less. gathered y))
         where
           part : ℕ → ℕ → ℕ
           part e y = mul (mul (v y) (power mul y (m - suc e))) (power mul x (suc e))
@@ -180,7 +176,7 @@ module _ (k : ℕ) (mul : ℕ → ℕ → ℕ) (ring : IsRing k mul) (field : Ha
 
           gathered : (y : ℕ) → sum_of_first m (λ e. part e y) ≡ mul (v y) (share x y)
           gathered y =
-              sum_same m (λ e. part e y) (λ e. mul (v y) (mul x (mul (power mul y (m - suc e)) (power mul x e)))) (λ e less. moved e y)
+              same_sum m (λ e. part e y) (λ e. mul (v y) (mul x (mul (power mul y (m - suc e)) (power mul x e)))) (λ e less. moved e y)
               ∙ (sum_scale k mul ring (v y) m (λ e. mul x (mul (power mul y (m - suc e)) (power mul x e)))
               ∙ ap (mul (v y)) (sum_scale k mul ring x m (λ e. mul (power mul y (m - suc e)) (power mul x e)) ∙ ap (mul x) (is_between x y m)))
 

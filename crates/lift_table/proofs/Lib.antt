@@ -2,6 +2,7 @@ pub mod SumLemmas
 pub mod GatherLemmas
 pub mod InterpolationLemmas
 pub mod OneWordLemmas
+pub mod ProductsLemmas
 pub mod RowLemmas
 pub mod ReadingLemmas
 pub mod OneOutcomeLemmas

@@ -2,9 +2,10 @@
 use Rattle.std.proofs.Common.{◌≡◌, ◌≢◌, ◌∙◌, ap, sym, refl, subst, ℕ, zero, suc, ◌+◌, ◌*◌, ◌-◌, ◌<◌, ◌≤◌, ◌^◌, List, [], ◌∷◌, length, get_or, set, take, drop, replicate, mul_comm, arith, Some}
 use Rattle.std.specs.Prelude.{bit_xor}
 use Rattle.std.specs.List.{AllByRecursion}
-use Rattle.std.proofs.lemmas.List.{drop-set-lt}
+use Rattle.std.proofs.lemmas.List.{drop-set-lt, length-take-le}
 use Rattle.std.proofs.lemmas.Option.{get_or_from_slice_get, slice_get-get_or}
 use Rattle.std.specs.Int.Bits.{xor_assoc, xor_zero_l, xor_zero_r}
+use Rattle.gf_field.proofs.SharedLemmas.{same_sum}
 use Rattle.gf_field.specs.Element.{AreElements}
 use Rattle.gf_field.specs.Polynomial.{sum_of_first}
 use Rattle.gf_field.specs.Power.{power}
@@ -30,7 +31,6 @@ use Rattle.lift_table.specs.private.Lifting.{AddsTable, IsOfWords}
 use Rattle.lift_table.proofs.GatherLemmas.{inside}
 use Rattle.lift_table.proofs.InterpolationLemmas.{interpolated}
 use Rattle.lift_table.proofs.RowLemmas.{row_next, row_below}
-use Rattle.lift_table.proofs.SumLemmas.{sum_same}
 
 -- the monomial of these exponents
 abbrev pub of_words : List ℕ → Monomial
@@ -116,14 +116,9 @@ module _ (k : ℕ) (mul : ℕ → ℕ → ℕ) (ring : IsRing k mul) (field : Ha
   -- the rows of the first words
   row_within : (w : ℕ) (p : Point) → IsPoint k p → w ≤ 8 → row_of k (take w p.words) < 2 ^ (k * w)
   row_within w p at few =
-      let long = taken_long w p.words (omega (arith, at.words, few)) in
+      let long = length-take-le w p.words (omega (arith, at.words, few)) in
       subst (λ (n : ℕ). row_of k (take w p.words) < 2 ^ (k * n)) long (row_below k (take w p.words) (taken_elements w p.words at.elements))
     where
-      taken_long : (w : ℕ) (xs : List ℕ) → w ≤ length xs → length (take w xs) ≡ w
-      taken_long zero xs within = refl
-      taken_long (suc w) [] within = absurd (omega arith)
-      taken_long (suc w) (x ∷ xs) within = ap suc (taken_long w xs (omega arith))
-
       taken_elements : (w : ℕ) (xs : List ℕ) → AllByRecursion (IsElement k) xs → AllByRecursion (λ x. x < 2 ^ k) (take w xs)
       taken_elements zero xs elements = tt
       taken_elements (suc w) [] elements = tt
@@ -190,7 +185,7 @@ module _ (k : ℕ) (mul : ℕ → ℕ → ℕ) (ring : IsRing k mul) (field : Ha
       column_sum n row x table columns long elements are below small =
           let v : ℕ → ℕ = λ y. get_or table (y * n + row) 0 in
           let room : 2 ^ k * n ≤ length table = omega (arith, long, mul_comm n (2 ^ k)) in
-          sum_same (2 ^ k) (λ e. mul (get_or columns (row * 2 ^ k + e) 0) (power mul x e)) (λ e. mul (coefficient_of k mul v e) (power mul x e)) (λ e less. ap (λ c. mul c (power mul x e)) (are.at row e below less))
+          same_sum (2 ^ k) (λ e. mul (get_or columns (row * 2 ^ k + e) 0) (power mul x e)) (λ e. mul (coefficient_of k mul v e) (power mul x e)) (λ e less. ap (λ c. mul c (power mul x e)) (are.at row e below less))
           ∙ interpolated k mul ring field v (λ y less. elements (y * n + row) (inside y n row (2 ^ k) (length table) less below room)) x small
 
   -- what is added to nothing, with no powers, is the polynomial of the table

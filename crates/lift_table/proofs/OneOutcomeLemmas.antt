@@ -1,19 +1,13 @@
 -- Of a table's lines there is one outcome at most.
-use Rattle.std.proofs.Common.{◌≡◌, ◌≢◌, ◌∙◌, ap, sym, refl, subst, inl, inr, ℕ, zero, suc, ◌+◌, ◌-◌, ◌<◌, ◌≤◌, ◌^◌, List, [], ◌∷◌, length, arith, Option, Some, None, Ok, Err}
+use Rattle.std.proofs.Common.{◌≡◌, ◌≢◌, ◌∙◌, ap, sym, refl, subst, inl, inr, ℕ, zero, suc, ◌+◌, ◌-◌, ◌<◌, ◌≤◌, ◌^◌, List, [], ◌∷◌, arith, Option, Some, None, Ok, Err}
 use Rattle.std.specs.Prelude.{slice_get}
 use Rattle.std.proofs.lemmas.Bool.{cases_eq, cases_lt}
+use Rattle.lists.specs.laws.ReadLaws.{same_lists}
 use Rattle.outcome.specs.Outcome.{Determined}
 use Rattle.lift_table.specs.declared.fault.TableFault.{TableFault}
 use Rattle.lift_table.specs.declared.fault.TableFault.TheVariants.{Syntax, TooLarge, OutOfMemory}
 use Rattle.lift_table.specs.TableText.{IsNumber, IsFormed, IsNumberAt, IsRightTo, IsTable, IsSyntaxFault, IsTooLarge, LinesOutcome}
 use Rattle.lift_table.proofs.ReadingLemmas.{one_value}
-
--- lists of one length whose elements are the same
-pub same_lists : (xs ys : List ℕ) → length xs ≡ length ys → ((i x y : ℕ) → slice_get xs i ≡ Some x → slice_get ys i ≡ Some y → x ≡ y) → xs ≡ ys
-same_lists [] [] long same = refl
-same_lists [] (y ∷ ys) long same = absurd (omega arith)
-same_lists (x ∷ xs) [] long same = absurd (omega arith)
-same_lists (x ∷ xs) (y ∷ ys) long same = λ i. same 0 x y refl refl i ∷ same_lists xs ys (omega arith) (λ j a b got there. same (suc j) a b got there) i
 
 -- a place past the end has no line
 past_end : (every : List (List ℕ)) (place : ℕ) → slice_get every place ≡ None → (later : ℕ) → place ≤ later → slice_get every later ≡ None

@@ -6,6 +6,8 @@ use Rattle.std.proofs.Math.Nat.{add-mul}
 use Rattle.std.proofs.lemmas.List.{get_or-append-add}
 use Rattle.std.proofs.lemmas.Bool.{cases_eq, cases_lt}
 use Rattle.std.proofs.lemmas.Nat.{pow_pos}
+use Rattle.lists.specs.laws.NumberLaws.{suc_is_plus_one}
+use Rattle.gf_field.proofs.SharedLemmas.{same_sum}
 use Rattle.gf_field.specs.Element.{AreElements}
 use Rattle.gf_field.specs.Polynomial.{sum_of_first}
 use Rattle.gf_field.specs.Power.{power}
@@ -13,7 +15,6 @@ use Rattle.gf_field.specs.Ring.{IsRing}
 use Rattle.gf_field.specs.laws.RingLaws.{mul_one}
 use Rattle.lift_table.specs.OneWord.{coefficient_of}
 use Rattle.lift_table.specs.private.Columns.{AreCoefficients}
-use Rattle.lift_table.proofs.SumLemmas.{sum_same}
 use Rattle.lift_table.proofs.GatherLemmas.{inside}
 
 pub sum_more : (xs : List ℕ) (i s : ℕ) → s ≡ sum_of_first i (λ y. get_or xs y 0) → bit_xor s (get_or xs i 0) ≡ sum_of_first (i + 1) (λ y. get_or xs y 0)
@@ -82,19 +83,16 @@ module _ (k : ℕ) (mul : ℕ → ℕ → ℕ) (ring : IsRing k mul) where
         long_left = long ∙ so.long_left;
         first = let other : 0 ≢ place = omega arith in rw get_or-set_other so.first;
         found = found;
-        raised = λ x less. raised x (omega (arith, so.long_left)) ∙ (ap (λ n. mul n x) (so.raised x less) ∙ (raised_more (get_or values x 0) x steps ∙ ap (λ n. mul (get_or values x 0) (power mul x n)) (next steps)));
+        raised = λ x less. raised x (omega (arith, so.long_left)) ∙ (ap (λ n. mul n x) (so.raised x less) ∙ (raised_more (get_or values x 0) x steps ∙ ap (λ n. mul (get_or values x 0) (power mul x n)) (suc_is_plus_one steps)));
         elements_list = set_elements (2 ^ k) list place sum so.elements_list sum_small;
         elements_left = elements;
       }
     where
-      next : (n : ℕ) → suc n ≡ n + 1
-      next n = omega arith
-
       shown : (e : ℕ) → 1 ≤ e → steps ≡ 2 ^ k - 1 - e → sum ≡ coefficient_of k mul (λ x. get_or values x 0) e
       shown zero some same = absurd (omega arith)
       shown (suc e) some same =
           sum_is ∙ (ap (λ n. sum_of_first n (λ y. get_or left y 0)) so.long_left
-          ∙ (sum_same (2 ^ k) (λ y. get_or left y 0) (λ x. mul (get_or values x 0) (power mul x steps)) so.raised
+          ∙ (same_sum (2 ^ k) (λ y. get_or left y 0) (λ x. mul (get_or values x 0) (power mul x steps)) so.raised
           ∙ ap (λ n. sum_of_first (2 ^ k) (λ x. mul (get_or values x 0) (power mul x n))) same))
 
       found : (e : ℕ) → 2 ^ k ≤ e + (steps + 1) → 1 ≤ e → e < 2 ^ k → get_or (set list place sum) e 0 ≡ coefficient_of k mul (λ x. get_or values x 0) e
@@ -116,7 +114,7 @@ module _ (k : ℕ) (mul : ℕ → ℕ → ℕ) (ring : IsRing k mul) where
   pub same_coefficient : (v w : ℕ → ℕ) (e : ℕ) → ((x : ℕ) → x < 2 ^ k → v x ≡ w x) → coefficient_of k mul v e ≡ coefficient_of k mul w e
   same_coefficient v w zero same = same 0 (pow_pos k)
   same_coefficient v w (suc e) same =
-      sum_same (2 ^ k) (λ x. mul (v x) (power mul x (2 ^ k - 1 - suc e))) (λ x. mul (w x) (power mul x (2 ^ k - 1 - suc e))) (λ x less. ap (λ n. mul n (power mul x (2 ^ k - 1 - suc e))) (same x less))
+      same_sum (2 ^ k) (λ x. mul (v x) (power mul x (2 ^ k - 1 - suc e))) (λ x. mul (w x) (power mul x (2 ^ k - 1 - suc e))) (λ x less. ap (λ n. mul n (power mul x (2 ^ k - 1 - suc e))) (same x less))
 
   pub one_column : (n row : ℕ) (table list after values column : List ℕ) → after ≡ list ++ column → AreColumnsTo k mul n row table list
       → AreCoefficients k mul values column → ((x : ℕ) → x < 2 ^ k → get_or values x 0 ≡ get_or table (x * n + row) 0) → AreColumnsTo k mul n (row + 1) table after

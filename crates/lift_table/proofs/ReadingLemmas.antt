@@ -1,7 +1,6 @@
 -- The lines of a table, one after another.
 use Rattle.std.proofs.Common.{◌≡◌, ◌⊎◌, ◌↔◌, ◌∙◌, ap, sym, refl, subst, inl, inr, ℕ, zero, suc, ◌+◌, ◌-◌, ◌<◌, ◌≤◌, ◌^◌, List, [], ◌∷◌, ◌++◌, length, drop, arith, Option, Some, None, Result, Ok, Err, Bor, map, get_or}
 use Rattle.std.specs.Prelude.{slice_get}
-use Rattle.std.specs.Str.Lines.{lines}
 use Rattle.std.proofs.lemmas.Bool.{cases_eq}
 use Rattle.lists.specs.laws.OptionLaws.{same_some as one_line}
 use Rattle.text_core.specs.Lines.{tokens_of}
@@ -232,7 +231,3 @@ row_fault k line every text rest tokens is are (TooLarge place) h =
     let found = h.1 in
     (h.0, (text, rest, found.1, is, record { token = found.0; alone = sym are ∙ found.2; hex = found.3 }, found.4))
 row_fault k line every text rest tokens is are OutOfMemory h = absurd h
-
-pub empty_lines : (text : List ℕ) → length text ≡ 0 → lines text ≡ []
-empty_lines [] none = refl
-empty_lines (b ∷ bs) none = absurd (omega arith)

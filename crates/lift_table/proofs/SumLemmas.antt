@@ -1,24 +1,12 @@
 -- Sums of values of functions over a ring.
-use Rattle.std.proofs.Common.{◌≡◌, ℕ, zero, suc, ◌<◌, sym, refl, ◌∙◌, ap, arith}
+use Rattle.std.proofs.Common.{◌≡◌, ℕ, zero, suc, sym, refl, ◌∙◌, ap}
 use Rattle.std.specs.Prelude.{bit_xor}
-use Rattle.std.specs.Int.Bits.{xor_assoc, xor_comm, xor_zero_l}
+use Rattle.std.specs.Int.Bits.{xor_zero_l}
 use Rattle.lists.specs.laws.XorLaws.{xor_cross}
+use Rattle.gf_field.proofs.SharedLemmas.{same_sum, sum_zero}
 use Rattle.gf_field.specs.Ring.{IsRing}
 use Rattle.gf_field.specs.laws.RingLaws.{mul_zero}
 use Rattle.gf_field.specs.Polynomial.{sum_of_first}
-
-pub sum_same : (m : ℕ) (f g : ℕ → ℕ) → ((i : ℕ) → i < m → f i ≡ g i) → sum_of_first m f ≡ sum_of_first m g
-sum_same zero f g same = refl
-sum_same (suc m) f g same = λ i. bit_xor (sum_same m f g (λ j less. same j (omega arith)) i) (same m (omega arith) i)
-
-pub sum_zero : (m : ℕ) (f : ℕ → ℕ) → ((i : ℕ) → i < m → f i ≡ 0) → sum_of_first m f ≡ 0
-sum_zero zero f none = refl
-sum_zero (suc m) f none = (λ i. bit_xor (sum_zero m f (λ j less. none j (omega arith)) i) (none m (omega arith) i)) ∙ xor_zero_l 0
-
--- the first taken apart
-pub sum_open : (m : ℕ) (f : ℕ → ℕ) → sum_of_first (suc m) f ≡ bit_xor (f 0) (sum_of_first m (λ i. f (suc i)))
-sum_open zero f = xor_comm 0 (f 0)
-sum_open (suc m) f = ap (λ x. bit_xor x (f (suc m))) (sum_open m f) ∙ xor_assoc (f 0) (sum_of_first m (λ i. f (suc i))) (f (suc m))
 
 pub sum_xor : (m : ℕ) (f g : ℕ → ℕ) → sum_of_first m (λ i. bit_xor (f i) (g i)) ≡ bit_xor (sum_of_first m f) (sum_of_first m g)
 sum_xor zero f g = sym (xor_zero_l 0)
@@ -37,4 +25,4 @@ module _ (k : ℕ) (mul : ℕ → ℕ → ℕ) (ring : IsRing k mul) where
   sum_scale a (suc m) f = ap (λ x. bit_xor x (mul a (f m))) (sum_scale a m f) ∙ sym (ring.distrib a (sum_of_first m f) (f m))
 
   pub sum_scale_right : (a m : ℕ) (f : ℕ → ℕ) → sum_of_first m (λ i. mul (f i) a) ≡ mul (sum_of_first m f) a
-  sum_scale_right a m f = sum_same m (λ i. mul (f i) a) (λ i. mul a (f i)) (λ i less. ring.comm (f i) a) ∙ (sum_scale a m f ∙ ring.comm a (sum_of_first m f))
+  sum_scale_right a m f = same_sum m (λ i. mul (f i) a) (λ i. mul a (f i)) (λ i less. ring.comm (f i) a) ∙ (sum_scale a m f ∙ ring.comm a (sum_of_first m f))

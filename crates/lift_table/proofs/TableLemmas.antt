@@ -5,7 +5,8 @@ use Rattle.std.specs.List.{AllByRecursion}
 use Rattle.std.proofs.lemmas.List.{append_assoc, length-map}
 use Rattle.std.proofs.lemmas.Option.{get_or_from_slice_get, slice_get_within, slice_get-get_or}
 use Rattle.lists.specs.Lists.{Has}
-use Rattle.lists.specs.laws.ReadLaws.{from_map}
+use Rattle.lists.specs.laws.HasLaws.{all_low}
+use Rattle.lists.specs.laws.ReadLaws.{from_map, same_lists}
 use Rattle.net_core.specs.Sound.{IsSound}
 use Rattle.net_words.specs.Binding.{BoundNet}
 use Rattle.net_words.specs.OneCycle.{IsOneCycle}
@@ -27,7 +28,6 @@ use Rattle.circuit_model.specs.declared.circuit_word.CircuitWord.{CircuitWord}
 use Rattle.lift_table.specs.CircuitTable.{IsTableOf}
 use Rattle.lift_table.specs.Table.{row_of}
 use Rattle.lift_table.specs.private.Digits.{digits_of}
-use Rattle.lift_table.proofs.OneOutcomeLemmas.{same_lists}
 use Rattle.lift_table.proofs.RowLemmas.{row_below, one_input, digits_long, digits_below, row_of_digits}
 
 -- one digit more
@@ -49,10 +49,6 @@ has_below : (bound : ℕ) (xs : List ℕ) → AllByRecursion (λ x. x < bound) x
 has_below bound [] each x (i, got) = absurd (cc got)
 has_below bound (y ∷ ys) each x (zero, got) = let same : y ≡ x = cc got in subst (λ (m : ℕ). m < bound) same each.0
 has_below bound (y ∷ ys) each x (suc i, got) = has_below bound ys each.1 x (i, got)
-
-from_has : (bound : ℕ) (xs : List ℕ) → ((x : ℕ) → Has xs x → x < bound) → AllByRecursion (λ x. x < bound) xs
-from_has bound [] each = tt
-from_has bound (y ∷ ys) each = (each y (0, refl), from_has bound ys (λ x has. each x (suc has.0, has.1)))
 
 pub digits_elements : (k count row : ℕ) (list : List ℕ) → list ≡ digits_of k count row → (x : ℕ) → Has list x → x < 2 ^ k
 digits_elements k count row list is x has =
@@ -81,7 +77,7 @@ table_of circuit table count words long outputs = record {
   values = λ xs e input got.
       let k = circuit.k in
       let row = row_of k xs in
-      let elements = from_has (2 ^ k) xs input.elements in
+      let elements = all_low (2 ^ k) xs input.elements in
       let size : length xs ≡ count = input.long ∙ sym words in
       let below : row < 2 ^ (k * count) = subst (λ (n : ℕ). row < 2 ^ (k * n)) size (row_below k xs elements) in
       let same : digits_of k count row ≡ xs = one_input k (digits_of k count row) xs (digits_long k count row ∙ sym size) (digits_below k count row) elements (row_of_digits k count row below) in

@@ -11,3 +11,7 @@ pub record IsPolynomialOfTable (k : ℕ) (mul : ℕ → ℕ → ℕ) (words : �
   pub words_alone : InFirstWords words ts
   pub no_bits : AllByRecursion (λ t. t.0.bits ≡ []) ts
   pub values : (p : Point) → IsPoint k p → IsTableValue k table (take words p.words) (value mul p ts)
+
+-- at most one list of terms is the polynomial of the table
+abbrev pub HasOnePolynomial : ℕ → (ℕ → ℕ → ℕ) → ℕ → List ℕ → Type 0
+HasOnePolynomial k mul words table = (ts us : Terms) → IsPolynomialOfTable k mul words table ts → IsPolynomialOfTable k mul words table us → ts ≡ us

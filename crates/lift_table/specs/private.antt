@@ -2,3 +2,5 @@ pub mod Columns
 pub mod Reading
 pub mod Lifting
 pub mod Digits
+pub mod Products
+pub mod Circuits

@@ -1,11 +1,11 @@
 //! The words of a circuit of one cycle with their bases, for the plain program that evaluates it.
-ghost use Rattle.std.specs.Prelude.{◌≡◌, ◌<◌, ◌++◌, length, map, slice_get, Some, IfOk, OnOk};
+ghost use Rattle.std.specs.Prelude.{◌≡◌, ◌<◌, length, map, slice_get, Some, IfOk, OnOk};
 ghost use Rattle.gf_basis.specs.BasisParts.{elements_of, IsBasisOver};
 ghost use Rattle.net_words.specs.OneCycle.{IsOneCycle};
 ghost use Rattle.net_words.specs.declared.word.Role.TheVariants.{Output};
 ghost use Rattle.circuit_model.specs.Bases.{AreBases, circuit_in};
 ghost use Rattle.circuit_model.specs.Flat.{AreOver, word_of};
-ghost use Rattle.circuit_model.specs.OfBinding.{word_with};
+ghost use Rattle.lift_table.specs.private.Circuits.{AddsWord};
 
 use circuit_model::{CircuitWord, is_output};
 use gf_basis::Basis;
@@ -79,7 +79,7 @@ fn add_word<F: Field>(
 ) -> Result<(), AllocError>
     requires word { w < length circuit.now.binding.words }
     requires basis { IsBasisOver (F.degree field.now) (F.product field.now) basis.now }
-    ensures added { OnOk result ((word : _) → slice_get circuit.now.binding.words w ≡ Some word → map word_of list.new.items ≡ map word_of list.old.items ++ word_with word.role word.nets (elements_of basis.now)) }
+    ensures added { OnOk result ((word : _) → slice_get circuit.now.binding.words w ≡ Some word → AddsWord word basis.now list.old.items list.new.items) }
     ensures over { OnOk result (AreOver (F.degree field.now) (F.product field.now) list.old.items → AreOver (F.degree field.now) (F.product field.now) list.new.items) }
 {
     match circuit.binding().role(w) {

@@ -1,18 +1,15 @@
 //! Laws of tables. These functions do nothing: their contracts are proved of the definitions alone.
-ghost use Rattle.std.specs.Prelude.{◌≡◌, ◌<◌, ◌*◌, ◌/◌, ◌%◌, ◌^◌, ℕ, List, Some, length, slice_get, take};
+ghost use Rattle.std.specs.Prelude.{◌≡◌, ◌<◌, ◌*◌, ◌/◌, ◌%◌, ◌^◌, ℕ, List, Some, length, slice_get};
 ghost use Rattle.std.specs.List.{AllByRecursion};
 ghost use Rattle.outcome.specs.Outcome.{Determined};
 ghost use Rattle.gf_field.specs.Element.{AreElements};
-ghost use Rattle.gf_field.specs.Polynomial.{sum_of_first};
-ghost use Rattle.gf_field.specs.Power.{power};
-ghost use Rattle.poly_mixed.specs.Polynomial.{IsElement, IsPoint, Point, Terms, value};
+ghost use Rattle.poly_mixed.specs.Polynomial.{IsElement, Terms};
 ghost use Rattle.circuit_model.specs.Circuit.{Circuit};
-ghost use Rattle.circuit_model.specs.Out.{IsOut};
 ghost use Rattle.circuit_model.specs.WellFormed.{IsWellFormed};
-ghost use Rattle.lift_table.specs.CircuitTable.{IsTableOf};
-ghost use Rattle.lift_table.specs.OneWord.{coefficient_of};
+ghost use Rattle.lift_table.specs.CircuitTable.{HasOutputs, IsItsPolynomial, IsTableOf};
+ghost use Rattle.lift_table.specs.OneWord.{value_of, IsFunction};
 ghost use Rattle.lift_table.specs.Table.{row_of};
-ghost use Rattle.lift_table.specs.TablePolynomial.{IsPolynomialOfTable};
+ghost use Rattle.lift_table.specs.TablePolynomial.{HasOnePolynomial};
 ghost use Rattle.lift_table.specs.TableText.{TableOutcome};
 
 use gf_field::Field;
@@ -32,12 +29,12 @@ pub fn one_table_or_fault()
 
 /// In one word the polynomial with the coefficients of a function has the function's values.
 pub fn coefficients_have_the_values<F: Field>(_field: &F)
-    ensures { (v : ℕ → ℕ) (x : ℕ) → ((y : ℕ) → y < 2 ^ F.degree _field.now → v y < 2 ^ F.degree _field.now) → x < 2 ^ F.degree _field.now → sum_of_first (2 ^ F.degree _field.now) (λ e. F.product _field.now (coefficient_of (F.degree _field.now) (F.product _field.now) v e) (power (F.product _field.now) x e)) ≡ v x }
+    ensures { (v : ℕ → ℕ) (x : ℕ) → IsFunction (F.degree _field.now) v → IsElement (F.degree _field.now) x → value_of (F.degree _field.now) (F.product _field.now) v x ≡ v x }
 {}
 
 /// A table has at most one polynomial.
 pub fn one_table_polynomial<F: Field>(_field: &F)
-    ensures { (words : ℕ) (table : List ℕ) (ts us : Terms) → IsPolynomialOfTable (F.degree _field.now) (F.product _field.now) words table ts → IsPolynomialOfTable (F.degree _field.now) (F.product _field.now) words table us → ts ≡ us }
+    ensures { (words : ℕ) (table : List ℕ) → HasOnePolynomial (F.degree _field.now) (F.product _field.now) words table }
 {}
 
 /// A well-formed circuit has at most one table, and its values are elements of the field.
@@ -48,5 +45,5 @@ pub fn one_circuit_table()
 
 /// The polynomial of a circuit's table has at each input the circuit's output.
 pub fn table_polynomials_are_outputs()
-    ensures { (circuit : Circuit) (table : List ℕ) (ts : Terms) → IsWellFormed circuit → IsTableOf circuit table → IsPolynomialOfTable circuit.k circuit.product (length circuit.words) table ts → (p : Point) → IsPoint circuit.k p → IsOut circuit (take (length circuit.words) p.words) (value circuit.product p ts) }
+    ensures { (circuit : Circuit) (table : List ℕ) (ts : Terms) → IsWellFormed circuit → IsTableOf circuit table → IsItsPolynomial circuit table ts → HasOutputs circuit ts }
 {}

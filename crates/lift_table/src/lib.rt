@@ -8,6 +8,7 @@ mod gather;
 mod laws;
 mod lifting;
 mod one_word;
+mod products;
 mod reading;
 mod small;
 mod tabulating;

@@ -1,15 +1,17 @@
 //! The polynomial of a table.
-ghost use Rattle.std.specs.Prelude.{◌≡◌, ◌*◌, ◌<◌, ◌≤◌, ◌^◌, ℕ, length, drop, slice_index, slice_set, bit_xor, IfOk, OnOk};
+ghost use Rattle.std.specs.Prelude.{◌≡◌, ◌*◌, ◌<◌, ◌≤◌, ◌^◌, ℕ, length, drop, slice_index, slice_set, IfOk, OnOk};
 ghost use Rattle.std.specs.List.{AllByRecursion};
 ghost use Rattle.gf_field.specs.Element.{AreElements};
-ghost use Rattle.poly_mixed.specs.Polynomial.{IsElement, IsPoint, IsReduced, Point, powers, value};
+ghost use Rattle.poly_mixed.specs.Polynomial.{IsElement, IsReduced};
 ghost use Rattle.poly_mixed.specs.laws.Uniqueness.{IsZeros};
 ghost use Rattle.lift_table.specs.Small.{IsSmall};
 ghost use Rattle.lift_table.specs.TablePolynomial.{IsPolynomialOfTable};
-ghost use Rattle.lift_table.specs.private.Lifting.{AddsTable, IsOfWords};
+ghost use Rattle.lift_table.specs.private.Lifting.{AddsPowers, AddsTable, AreOfWords};
+ghost use Rattle.lift_table.specs.private.Products.{AreProducts};
 
 use crate::gather::gather;
 use crate::one_word::columns;
+use crate::products::products;
 use crate::small::{elements_of, rows_of};
 use gf_field::Field;
 use poly_mixed::{Mono, Poly};
@@ -29,8 +31,9 @@ pub fn lift<F: Field>(
     requires elements { AreElements (F.degree field.now) table.now }
     ensures { IfOk result (λ poly. IsPolynomialOfTable (F.degree field.now) (F.product field.now) words table.now poly.terms) }
 {
+    let products = products(alloc, field)?;
     let mut poly = Poly::zero(alloc);
-    add_terms(alloc, field, words, &[0; 8], table, &mut poly)?;
+    add_terms(alloc, field, &products, words, &[0; 8], table, &mut poly)?;
     Ok(poly)
 }
 
@@ -38,11 +41,13 @@ pub fn lift<F: Field>(
 fn add_terms<F: Field>(
     alloc: Global,
     field: &F,
+    products: &[u64],
     words: u32,
     exponents: &[u64; 8],
     table: &[u64],
     sum: &mut Poly,
 ) -> Result<(), AllocError>
+    requires products { AreProducts (F.degree field.now) (F.product field.now) products.now }
     requires small { IsSmall (F.degree field.now) words }
     requires few { words ≤ 8 }
     requires long { length table.now ≡ 2 ^ (F.degree field.now * words) }
@@ -52,18 +57,18 @@ fn add_terms<F: Field>(
     requires sum { IsReduced (F.degree field.now) sum.old.terms }
     ensures reduced { OnOk result (IsReduced (F.degree field.now) sum.new.terms) }
     ensures values { OnOk result (AddsTable (F.degree field.now) (F.product field.now) words exponents.now table.now sum.old.terms sum.new.terms) }
-    ensures words { OnOk result ((all : ℕ) → words ≤ all → IsZeros (drop all exponents.now) → AllByRecursion (IsOfWords all) sum.old.terms → AllByRecursion (IsOfWords all) sum.new.terms) }
+    ensures words { OnOk result ((all : ℕ) → words ≤ all → IsZeros (drop all exponents.now) → AreOfWords all sum.old.terms → AreOfWords all sum.new.terms) }
 {
     if words == 0 {
         return add_term(alloc, field, exponents, table[0], sum);
     }
     let n = rows_of(field, words - 1);
     let count = elements_of(field);
-    let columns = columns(alloc, field, table, n)?;
+    let columns = columns(alloc, field, products, table, n)?;
     for e in 0..count {
         let part = gather(alloc, &columns, count, e, n)?;
         let with = with_exponent(exponents, words - 1, e as u64);
-        add_terms(alloc, field, words - 1, &with, &part, sum)?;
+        add_terms(alloc, field, products, words - 1, &with, &part, sum)?;
     }
     Ok(())
 }
@@ -90,8 +95,8 @@ fn add_term<F: Field>(
     requires exponents { AllByRecursion (IsElement (F.degree _field.now)) exponents.now }
     requires sum { IsReduced (F.degree _field.now) sum.old.terms }
     ensures reduced { OnOk result (IsReduced (F.degree _field.now) sum.new.terms) }
-    ensures values { OnOk result ((p : Point) → IsPoint (F.degree _field.now) p → value (F.product _field.now) p sum.new.terms ≡ bit_xor (value (F.product _field.now) p sum.old.terms) (F.product _field.now coefficient (powers (F.product _field.now) exponents.now p.words))) }
-    ensures words { OnOk result ((all : ℕ) → IsZeros (drop all exponents.now) → AllByRecursion (IsOfWords all) sum.old.terms → AllByRecursion (IsOfWords all) sum.new.terms) }
+    ensures values { OnOk result (AddsPowers (F.degree _field.now) (F.product _field.now) coefficient exponents.now sum.old.terms sum.new.terms) }
+    ensures words { OnOk result ((all : ℕ) → IsZeros (drop all exponents.now) → AreOfWords all sum.old.terms → AreOfWords all sum.new.terms) }
 {
     if coefficient == 0 {
         return Ok(());

@@ -3,8 +3,10 @@ ghost use Rattle.std.specs.Prelude.{◌≡◌, ◌*◌, ◌<◌, ◌≤◌, ◌^
 ghost use Rattle.gf_field.specs.Element.{AreElements};
 ghost use Rattle.gf_field.specs.Polynomial.{sum_of_first};
 ghost use Rattle.lift_table.specs.private.Columns.{AreCoefficients, AreColumns};
+ghost use Rattle.lift_table.specs.private.Products.{AreProducts};
 
 use crate::gather::gather;
+use crate::products::product_of;
 use crate::small::elements_of;
 use gf_field::Field;
 use std::alloc::{AllocError, Global};
@@ -23,7 +25,9 @@ fn sum_of<F: Field>(_field: &F, values: &[u64]) -> u64
 }
 
 // Multiplies the value of each element with the element.
-fn raise<F: Field>(field: &F, values: &mut Vec<u64>)
+fn raise<F: Field>(field: &F, products: &[u64], values: &mut Vec<u64>)
+    requires small { F.degree field.now ≤ 8 }
+    requires products { AreProducts (F.degree field.now) (F.product field.now) products.now }
     requires long { length values.old.items ≤ 2 ^ F.degree field.now }
     requires elements { AreElements (F.degree field.now) values.old.items }
     ensures long { length values.new.items ≡ length values.old.items }
@@ -31,7 +35,7 @@ fn raise<F: Field>(field: &F, values: &mut Vec<u64>)
     ensures elements { AreElements (F.degree field.now) values.new.items }
 {
     for x in 0..values.len() {
-        values[x] = field.mul(values[x], x as u64);
+        values[x] = product_of(field, products, values[x], x);
     }
 }
 
@@ -39,9 +43,11 @@ fn raise<F: Field>(field: &F, values: &mut Vec<u64>)
 pub(crate) fn coefficients<F: Field>(
     alloc: Global,
     field: &F,
+    products: &[u64],
     values: &[u64],
 ) -> Result<Vec<u64>, AllocError>
     requires small { F.degree field.now ≤ 8 }
+    requires products { AreProducts (F.degree field.now) (F.product field.now) products.now }
     requires long { length values.now ≡ 2 ^ F.degree field.now }
     requires elements { AreElements (F.degree field.now) values.now }
     ensures { IfOk result (λ list. AreCoefficients (F.degree field.now) (F.product field.now) values.now list.items) }
@@ -50,7 +56,7 @@ pub(crate) fn coefficients<F: Field>(
     let mut left = Vec::from_slice(alloc, values)?;
     for step in 0..values.len() - 1 {
         list[values.len() - 1 - step] = sum_of(field, &left);
-        raise(field, &mut left);
+        raise(field, products, &mut left);
     }
     Ok(list)
 }
@@ -59,10 +65,12 @@ pub(crate) fn coefficients<F: Field>(
 pub(crate) fn columns<F: Field>(
     alloc: Global,
     field: &F,
+    products: &[u64],
     table: &[u64],
     n: usize,
 ) -> Result<Vec<u64>, AllocError>
     requires small { F.degree field.now ≤ 8 }
+    requires products { AreProducts (F.degree field.now) (F.product field.now) products.now }
     requires long { length table.now ≡ n * 2 ^ F.degree field.now }
     requires elements { AreElements (F.degree field.now) table.now }
     ensures { IfOk result (λ list. AreColumns (F.degree field.now) (F.product field.now) n table.now list.items) }
@@ -71,7 +79,7 @@ pub(crate) fn columns<F: Field>(
     let mut list = Vec::new(alloc);
     for row in 0..n {
         let values = gather(alloc, table, n, row, count)?;
-        let column = coefficients(alloc, field, &values)?;
+        let column = coefficients(alloc, field, products, &values)?;
         list.extend_from_slice(&column)?;
     }
     Ok(list)

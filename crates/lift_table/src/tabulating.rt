@@ -8,6 +8,7 @@ ghost use Rattle.circuit_model.specs.Out.{IsOut};
 ghost use Rattle.circuit_model.specs.WellFormed.{IsWellFormed};
 ghost use Rattle.lift_table.specs.CircuitTable.{IsTableOf};
 ghost use Rattle.lift_table.specs.Small.{IsSmall};
+ghost use Rattle.lift_table.specs.private.Circuits.{IsOutAtRow};
 ghost use Rattle.lift_table.specs.private.Digits.{digits_of};
 
 use crate::circuit_words::{circuit_words, output_word};
@@ -83,7 +84,7 @@ fn value_at<F: Field>(
     requires over { AreOver (F.degree field.now) (F.product field.now) words.now }
     requires over_output { IsBasisOver (F.degree field.now) (F.product field.now) to.now.basis }
     requires well { IsWellFormed (circuit_of_parts (F.degree field.now) (F.product field.now) net.now words.now to.now) }
-    ensures { IfOk result (λ e. IsOut (circuit_of_parts (F.degree field.now) (F.product field.now) net.now words.now to.now) (digits_of (F.degree field.now) (length words.now) row) e) }
+    ensures { IfOk result (IsOutAtRow (F.degree field.now) (F.product field.now) net.now words.now to.now row) }
 {
     let xs = digits(alloc, field, words.len(), row)?;
     match output(alloc, field, net, words, to, &xs)? {

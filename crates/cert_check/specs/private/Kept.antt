@@ -1,24 +1,31 @@
 -- What the code keeps of a certificate. Source: this project's own.
-use Rattle.std.specs.Prelude.{◌≡◌, ℕ, ◌<◌, ◌≤◌, ◌+◌, ◌^◌, List, length, map}
+use Rattle.std.specs.Prelude.{◌≡◌, ℕ, ◌<◌, ◌≤◌, ◌+◌, ◌^◌, List, length, map, Option, Result, OnOk}
 use Rattle.std.specs.List.{AllByRecursion}
-use Rattle.outcome.specs.Outcome.{Outcome, Exactly}
+use Rattle.outcome.specs.Outcome.{Outcome, Exactly, Fits}
 use Rattle.gf_basis.specs.declared.bases.Basis.{Basis}
 use Rattle.net_words.specs.Binding.{BoundNet}
 use Rattle.poly_mixed.specs.Polynomial.{Polynomial, Terms, IsReduced}
 use Rattle.poly_mixed.specs.Steps.{Step}
 use Rattle.poly_mixed.specs.declared.steps.Generator.{Generator}
-use Rattle.cert_check.specs.Certificate.{Certificate, with_shared, with_pair}
+use Rattle.cert_check.specs.Certificate.{Certificate, LineOf, begun, with_shared, with_pair}
+use Rattle.cert_check.specs.Fault.{line_refusal, refusal}
 use Rattle.cert_check.specs.declared.cert_pairs.Entry.{Entry}
 use Rattle.cert_check.specs.Running.{dual_words}
-use Rattle.cert_check.specs.Verdict.{IsRunningSum, AsksAtMost}
+use Rattle.cert_check.specs.Verdict.{IsRunningSum, AsksAtMost, VerdictAtEnd, VerdictFrom, verdict_of}
+use Rattle.cert_check.specs.declared.checking.CertVerdict.{CertVerdict}
+use Rattle.cert_check.specs.declared.checking.Checking.{Checking}
 use Rattle.cert_check.specs.declared.fault.CertFault.{CertFault}
+use Rattle.cert_check.specs.declared.fault.CertFault.TheVariants.{TooManyTerms}
+use Rattle.cert_check.specs.declared.fault.LineFault.{LineFault}
 use Rattle.cert_check.specs.declared.line.Multiplier.{Multiplier}
 use Rattle.cert_check.specs.declared.line.Multiplier.TheVariants as multiplier
-use Rattle.net_core.specs.NetList.{nets}
+use Rattle.net_core.specs.NetList.{NetList, nets}
+use Rattle.poly_mixed.specs.Labels.{Labelling}
 use Rattle.poly_mixed.specs.declared.steps.Generator.TheVariants.{Net, Bit}
 use Rattle.cert_check.specs.declared.line.Line.{Line}
 use Rattle.cert_check.specs.declared.line.Line.TheVariants as line
-use Rattle.cert_check.specs.private.Reading.{multiplier_in, IsMultiplier}
+use Rattle.cert_check.specs.private.Held.{dual_of, whole}
+use Rattle.cert_check.specs.private.Reading.{multiplier_in, said_in, IsMultiplier}
 
 -- the terms of each polynomial
 abbrev pub terms_of : List Polynomial → List Terms
@@ -78,3 +85,32 @@ pub record IsKept (k : ℕ) (mul : ℕ → ℕ → ℕ) (netlist : BoundNet) (ba
 abbrev pub LineAsks : ℕ → (ℕ → ℕ → ℕ) → BoundNet → List Basis → ℕ → ℕ → Certificate → Line → Outcome CertFault (Unit {0})
 LineAsks k mul netlist bases most n c (line.Pair g m) = AsksAtMost k mul netlist bases most n (with_pair c g (multiplier_in c.shared m))
 LineAsks k mul netlist bases most n c (line.Share p) = Exactly tt
+
+-- the fault of a sum of too many terms after the line of this number
+abbrev pub IsOver : ℕ → ℕ → ℕ → CertFault → Type 0
+IsOver n most size fault = (fault ≡ TooManyTerms n size) × (most < size)
+
+-- what a line says, where so many multipliers are shared before it
+abbrev pub SaysLine : ℕ → NetList → Labelling → ℕ → ℕ → List ℕ → Result (Option Line) LineFault → Type 0
+SaysLine k net labels version count line result = (shared : List Terms) → length shared ≡ count → Fits line_refusal (said_in shared) result (LineOf k net labels version shared line)
+
+module _ (k : ℕ) (mul : ℕ → ℕ → ℕ) (netlist : BoundNet) (bases : List Basis) where
+  -- the state is that of a certificate, whose running sum is within the bound
+  abbrev pub Keeps : ℕ → Checking → Certificate → Type 0
+  Keeps most state c = IsKept k mul netlist bases most c state.claim.terms (terms_of state.shared.items) (whole k mul (dual_of netlist bases) state.sum)
+
+  -- of whatever certificate the old state is, the line asks this
+  abbrev pub AsksLine : ℕ → ℕ → Result (Unit {0}) CertFault → Checking → Line → Type 0
+  AsksLine most n result old said = (c : Certificate) → Keeps most old c → Fits refusal (λ u. tt) result (LineAsks k mul netlist bases most n c said)
+
+  -- of whatever certificate the old state is, the new one is of that with the line
+  abbrev pub KeepsLine : ℕ → Result (Unit {0}) CertFault → Checking → Checking → Line → Type 0
+  KeepsLine most result old new said = (c : Certificate) → Keeps most old c → OnOk result (Keeps most new (with_line c said))
+
+  -- the verdict after `end`, of whatever certificate the state is
+  abbrev pub EndsWith : Checking → ℕ → List (List ℕ) → Result CertVerdict CertFault → Type 0
+  EndsWith state n left result = (most : ℕ) (c : Certificate) → Keeps most state c → Fits refusal verdict_of result (VerdictAtEnd k mul netlist bases n left c)
+
+  -- the verdict of the lines after a claim
+  abbrev pub IsVerdictAfter : Labelling → ℕ → ℕ → List (List ℕ) → Terms → Result CertVerdict CertFault → Type 0
+  IsVerdictAfter labels most version left claim result = Fits refusal verdict_of result (VerdictFrom k mul netlist bases labels most version left 3 (begun claim))

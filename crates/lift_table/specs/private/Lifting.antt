@@ -1,5 +1,6 @@
 -- Terms of tables, for the clauses of private functions. Source: this project's own.
 use Rattle.std.specs.Prelude.{◌≡◌, ℕ, List, [], bit_xor, drop, take}
+use Rattle.std.specs.List.{AllByRecursion}
 use Rattle.poly_mixed.specs.Monomial.{Monomial}
 use Rattle.poly_mixed.specs.Polynomial.{Terms, Point, IsPoint, powers, value}
 use Rattle.poly_mixed.specs.laws.Uniqueness.{IsZeros}
@@ -12,3 +13,10 @@ AddsTable k mul words exponents table old new = (p : Point) (e : ℕ) → IsPoin
 -- no word from this one on stands in the term, and no bit
 abbrev pub IsOfWords : ℕ → Monomial × ℕ → Type 0
 IsOfWords words t = IsZeros (drop words t.0.exponents) × (t.0.bits ≡ [])
+
+abbrev pub AreOfWords : ℕ → Terms → Type 0
+AreOfWords words ts = AllByRecursion (IsOfWords words) ts
+
+-- new has at each point the value of old and the product of the coefficient with these powers
+abbrev pub AddsPowers : ℕ → (ℕ → ℕ → ℕ) → ℕ → List ℕ → Terms → Terms → Type 0
+AddsPowers k mul coefficient exponents old new = (p : Point) → IsPoint k p → value mul p new ≡ bit_xor (value mul p old) (mul coefficient (powers mul exponents p.words))

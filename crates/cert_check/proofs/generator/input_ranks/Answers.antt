@@ -1,7 +1,7 @@
 use Rattle.std.proofs.Common.{◌≡◌, Some, ap, sym, ◌∙◌, get_or}
 use Rattle.std.specs.Prelude.{slice_get}
 use Rattle.std.proofs.lemmas.Option.{slice_get-get_or}
-use Rattle.cert_check.proofs.InsideLemmas.{input_below}
+use Rattle.net_core.proofs.SharedLemmas.{input_below}
 use Rattle.cert_check.proofs.generator.input_ranks.Goals as goal
 
 pub rank-requires : goal.rank-requires

@@ -1,15 +1,16 @@
-use Rattle.std.proofs.Common.{◌∙◌, sym, subst, ℕ}
+use Rattle.std.proofs.Common.{sym, subst, ℕ}
 use Rattle.std.specs.Prelude.{Option}
 use Rattle.poly_mixed.specs.Polynomial.{Terms, Point}
 use Rattle.cert_check.specs.Running.{generator_value}
 use Rattle.cert_check.specs.declared.form.Form.{Form}
 use Rattle.cert_check.specs.declared.last.LastGenerator.{LastGenerator}
-use Rattle.cert_check.specs.private.Held.{IsSplit}
+use Rattle.cert_check.specs.private.Units.{units}
+use Rattle.cert_check.specs.private.Held.{dual_of, IsSplit}
 use Rattle.cert_check.proofs.HeldLemmas.{split_added, reduced_after}
 use Rattle.cert_check.proofs.running.add_product.Goals as goal
 
 pub returns-clause-reduced : goal.returns-clause-reduced
-returns-clause-reduced g c = reduced_after (g.met.F.Ring.laws c.args.field.now) (g.met.F.Field.no_zero_divisors c.args.field.now) c.add_product.result c.add_product.new.self c.add_product.ensures.held
+returns-clause-reduced g c = reduced_after (g.met.F.Ring.laws c.args.field.now) (g.met.F.Field.no_zero_divisors c.args.field.now) c.args.circuit.now c.args.bases.now (dual_of c.args.circuit.now c.args.bases.now) c.add_product.result c.add_product.new.self c.add_product.ensures.held
 
 pub returns-clause-values : goal.returns-clause-values
 returns-clause-values g c =
@@ -17,8 +18,9 @@ returns-clause-values g c =
     let mul : ℕ → ℕ → ℕ = g.F.Ring.product c.args.field.now in
     let last : LastGenerator = c.make.new.self in
     let h : Point → ℕ = generator_value k mul c.args.circuit.now c.args.bases.now c.args.generator in
-    let N : Terms → Type 0 = λ ts. IsSplit k mul h ts last.form in
-    let F : Option Form → Type 0 = λ o. IsSplit k mul h c.terms-2.result.now o in
-    let split : IsSplit k mul h c.terms-2.result.now c.form.result.now = subst F (sym c.form.ensures) (subst N (sym c.terms-2.ensures) (c.in_ok-make.ensures.last c.args.generator c.in_ok-make.ensures.generator)) in
-    split_added (g.met.F.Ring.laws c.args.field.now) (g.met.F.Field.no_zero_divisors c.args.field.now) c.add_product.result c.args.sum.now c.add_product.new.self c.deref.result.now c.args.multiplier.now.terms c.terms-2.result.now c.form.result.now h c.requires.held split
-    (c.deref.ensures.value ∙ c.in_ok-factor.ensures) c.add_product.ensures.held c.add_product.ensures.values
+    let near : Terms = units c.near.result.now in
+    let N : Terms → Type 0 = λ ts. IsSplit k mul c.args.circuit.now c.args.bases.now h ts last.form in
+    let F : Option Form → Type 0 = λ o. IsSplit k mul c.args.circuit.now c.args.bases.now h near o in
+    let split : IsSplit k mul c.args.circuit.now c.args.bases.now h near c.form.result.now = subst F (sym c.form.ensures) (subst N (sym c.near.ensures) (c.in_ok-make.ensures.last c.args.generator c.in_ok-make.ensures.generator)) in
+    split_added (g.met.F.Ring.laws c.args.field.now) (g.met.F.Field.no_zero_divisors c.args.field.now) c.args.circuit.now c.args.bases.now c.add_product.result c.args.sum.now c.add_product.new.self c.args.multiplier.now near c.form.result.now h c.requires.held split
+    c.add_product.ensures.held c.add_product.ensures.values

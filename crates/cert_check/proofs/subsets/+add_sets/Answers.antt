@@ -1,8 +1,8 @@
-use Rattle.std.proofs.Common.{◌≡◌, ◌∙◌, ℕ, ◌≤◌, ◌*◌, ◌^◌, ◌-◌, ◌==◌, false, List, length, take, drop, get_or, sym, subst, arith, rules}
-use Rattle.std.proofs.lemmas.Bool.{eqb-false}
+use Rattle.std.proofs.Common.{◌∙◌, ℕ, ◌-◌, List, length, take, drop, get_or, sym, subst, arith, rules}
 use Rattle.std.specs.List.Sorted.{IsStrictlySortedBy}
 use Rattle.std.specs.Ordering.{nat_cmp}
-use Rattle.lists.specs.laws.PowerLaws.{rest_long, half_within}
+use Rattle.lists.specs.laws.PowerLaws.{halved_subsets}
+use Rattle.lists.specs.laws.TestLaws.{some_if_not_zero}
 use Rattle.poly_mixed.specs.Polynomial.{value}
 use Rattle.poly_mixed.specs.Table.{table_bit}
 use Rattle.poly_mixed.proofs.ProductLemmas.{rising-with_rank}
@@ -10,31 +10,23 @@ use Rattle.poly_mixed.proofs.SimpleLemmas.{first_and_rest}
 use Rattle.cert_check.proofs.SubsetLemmas.{both_halves}
 use Rattle.cert_check.proofs.subsets.+add_sets.Goals as goal
 
-halved : (rs : List ℕ) (step : ℕ) → 1 ≤ length rs → step * 2 ^ length rs ≤ 64 → 2 * step * 2 ^ length (take (length rs - 1) (drop 1 rs)) ≤ 64
-halved rs step l h =
-    let P : ℕ → Type 0 = λ n. 2 * step * 2 ^ n ≤ 64 in
-    subst P (sym (rest_long rs (length rs) (λ i. length rs))) (half_within step (length rs) l h)
-
-some : (n : ℕ) → false ≡ (n == 0) → 1 ≤ n
-some n e = let other : n ≡ 0 → ⊥ = eqb-false n 0 (sym e) in omega arith
-
 pub add_sets-requires : goal.add_sets-requires
 add_sets-requires g t c κs within =
-    let more = some (length c.args.ranks.now) c.if-is_empty.ensures in
-    (search rules, (search rules, (search rules, (omega arith, (halved c.args.ranks.now c.args.step more c.requires.within, (c.requires.set, c.requires.sum))))))
+    let more = some_if_not_zero (length c.args.ranks.now) c.if-is_empty.ensures in
+    (search rules, (search rules, (search rules, (omega arith, (halved_subsets c.args.ranks.now c.args.step more c.requires.within, (c.requires.set, c.requires.sum))))))
 
 pub add_sets-requires-2 : goal.add_sets-requires-2
 add_sets-requires-2 g t c κs within =
-    let more = some (length c.args.ranks.now) c.if-is_empty.ensures in
+    let more = some_if_not_zero (length c.args.ranks.now) c.if-is_empty.ensures in
     let P : List ℕ → Type 0 = IsStrictlySortedBy nat_cmp in
     let set = subst P (sym (c.deref.ensures.value ∙ c.in_ok-more.ensures)) (rising-with_rank c.args.set.now (get_or c.args.ranks.now 0 0) c.requires.set) in
-    (search rules, (search rules, (search rules, (omega arith, (halved c.args.ranks.now c.args.step more c.requires.within, (set, c.in_ok-add_sets.ensures.reduced))))))
+    (search rules, (search rules, (search rules, (omega arith, (halved_subsets c.args.ranks.now c.args.step more c.requires.within, (set, c.in_ok-add_sets.ensures.terms))))))
 
 pub returns-clause-values : goal.returns-clause-values
 returns-clause-values g t c p at =
     let mul = g.F.Ring.product c.args.field.now in
     let ranks : List ℕ = c.args.ranks.now in
-    let more = some (length ranks) c.if-is_empty.ensures in
+    let more = some_if_not_zero (length ranks) c.if-is_empty.ensures in
     both_halves p.is_one (table_bit c.args.form) c.args.set.now c.deref.result.now (take (length ranks - 1) (drop 1 ranks)) ranks (get_or ranks 0 0) c.args.base c.args.step
     (value mul p c.args.sum.now.terms) (value mul p c.add_sets.new.sum.terms) (value mul p c.add_sets-2.new.sum.terms)
     (c.deref.ensures.value ∙ c.in_ok-more.ensures) (first_and_rest ranks more) (c.in_ok-add_sets.ensures.values p at) (c.in_ok-add_sets-2.ensures.values p at)

@@ -1,7 +1,8 @@
 use Rattle.std.proofs.Common.{◌≡◌, ◌<◌, ◌+◌, ◌*◌, ◌^◌, ◌∙◌, ◌∷◌, [], length, ap, refl, sym, subst, inl, inr, List, ℕ, arith}
 use Rattle.std.specs.Str.Lines.{lines}
 use Rattle.std.proofs.lemmas.Bool.{eqb-true}
-use Rattle.lift_table.proofs.ReadingLemmas.{IsReadTo, after_head, no_head, one_row, no_row, at_end, too_many, empty_lines}
+use Rattle.lists.specs.laws.LineLaws.{no_lines}
+use Rattle.lift_table.proofs.ReadingLemmas.{IsReadTo, after_head, no_head, one_row, no_row, at_end, too_many}
 use Rattle.lift_table.proofs.reading.read_table.Goals as goal
 
 pub returns-in-Err-clause-fault : goal.returns-in-Err-clause-fault
@@ -33,7 +34,7 @@ pub returns-then-is_empty-clause-table : goal.returns-then-is_empty-clause-table
 returns-then-is_empty-clause-table c =
     let n = 2 ^ (c.args.k * c.args.words) in
     let rows : c.loop-row.row ≡ n = omega (arith, c.loop-row-test.false, c.loop-row.auto.row-end, c.two_to-rows.ensures) in
-    let none : lines c.loop-row.rest.now ≡ [] = empty_lines c.loop-row.rest.now (eqb-true (length c.loop-row.rest.now) 0 (sym c.if-is_empty.ensures)) in
+    let none : lines c.loop-row.rest.now ≡ [] = no_lines c.loop-row.rest.now (eqb-true (length c.loop-row.rest.now) 0 (sym c.if-is_empty.ensures)) in
     let P : ℕ → Type 0 = λ m. IsReadTo c.args.k n (lines c.args.bytes.now) m (lines c.loop-row.rest.now) c.loop-row.table.items in
     at_end c.args.k n (lines c.args.bytes.now) (lines c.loop-row.rest.now) c.loop-row.table.items none (subst P rows c.loop-row.invariant)
 

@@ -4,27 +4,26 @@ use Rattle.std.proofs.lemmas.List.{length-map}
 use Rattle.poly_mixed.specs.Polynomial.{Polynomial, Terms, IsReduced}
 use Rattle.cert_check.specs.Certificate.{with_pair}
 use Rattle.cert_check.specs.declared.fault.CertFault.TheVariants.{TooManyTerms}
-use Rattle.cert_check.specs.private.Held.{whole}
+use Rattle.cert_check.specs.private.Held.{dual_of, whole}
 use Rattle.cert_check.specs.private.Kept.{terms_of, IsKept, IsNumbered}
 use Rattle.cert_check.specs.private.Reading.{multiplier_in, IsMultiplier}
 use Rattle.cert_check.proofs.CheckLemmas.{pair_asks, pair_kept, multiplier_reduced, numbered}
 use Rattle.cert_check.proofs.checking.Checking.add_pair.Goals as goal
 
-pub among-factor-requires : goal.among-factor-requires
-among-factor-requires g c =
+pub add_multiplier-requires-clause-number : goal.add_multiplier-requires-clause-number
+add_multiplier-requires-clause-number g c =
     let P : List Polynomial → Type 0 = λ xs. IsNumbered (length xs) c.args.multiplier.now in
     subst P (sym c.as_slice.ensures.value) (numbered (g.F.Ring.degree c.args.field.now) (length c.args.self.now.shared.items) c.args.multiplier.now c.requires.multiplier)
 
-pub add_product-requires-clause-multiplier : goal.add_product-requires-clause-multiplier
-add_product-requires-clause-multiplier g c =
+pub add_multiplier-requires-clause-multiplier : goal.add_multiplier-requires-clause-multiplier
+add_multiplier-requires-clause-multiplier g c =
     let k = g.F.Ring.degree c.args.field.now in
     let shared = c.args.self.now.shared.items in
     let m = c.args.multiplier.now in
-    let terms : c.among-factor.result.now.terms ≡ multiplier_in (terms_of shared) m = c.among-factor.ensures ∙ ap (λ (xs : List Polynomial). multiplier_in (terms_of xs) m) c.as_slice.ensures.value in
     let count : length shared ≡ length (terms_of shared) = sym (length-map shared (λ (p : Polynomial). p.terms)) in
     let Q : ℕ → Type 0 = λ n. IsMultiplier k n m in
-    let P : Terms → Type 0 = IsReduced k in
-    subst P (sym terms) (multiplier_reduced k (terms_of shared) m c.requires.kept.1.reduced (subst Q count c.requires.multiplier))
+    let P : List Polynomial → Type 0 = λ xs. IsReduced k (multiplier_in (terms_of xs) m) in
+    subst P (sym c.as_slice.ensures.value) (multiplier_reduced k (terms_of shared) m c.requires.kept.1.reduced (subst Q count c.requires.multiplier))
 
 pub returns-clause-asks : goal.returns-clause-asks
 returns-clause-asks g c d kept =
@@ -33,26 +32,29 @@ returns-clause-asks g c d kept =
     let m = c.args.multiplier.now in
     let most : ℕ = c.args.bound in
     let n : ℕ = c.args.number in
-    let new : Terms = whole k c.add_product.new.sum in
-    let terms : c.among-factor.result.now.terms ≡ multiplier_in (terms_of shared) m = c.among-factor.ensures ∙ ap (λ (xs : List Polynomial). multiplier_in (terms_of xs) m) c.as_slice.ensures.value in
-    let same : whole c.k.result c.settle.new.self ≡ new = ap (λ j. whole j c.settle.new.self) c.k.ensures ∙ c.in_ok-settle.ensures.same in
+    let mul : ℕ → ℕ → ℕ = g.F.Ring.product c.args.field.now in
+    let dual : ℕ → ℕ → ℕ = dual_of c.args.circuit.now c.args.bases.now in
+    let new : Terms = whole k mul dual c.add_multiplier.new.sum in
+    let terms : multiplier_in (terms_of c.as_slice.result.now) m ≡ multiplier_in (terms_of shared) m = ap (λ (xs : List Polynomial). multiplier_in (terms_of xs) m) c.as_slice.ensures.value in
+    let same : whole c.k.result mul dual c.settle.new.self ≡ new = ap (λ j. whole j mul dual c.settle.new.self) c.k.ensures ∙ c.in_ok-settle.ensures.same in
     let W : Terms → Type 0 = λ ts. OnOk c.check_sum.result (length ts ≤ most) in
     let O : Terms → Type 0 = λ ts. IfErr c.check_sum.result (λ fault. (fault ≡ TooManyTerms n (length ts)) × (most < length ts)) in
-    pair_asks k (g.F.Ring.product c.args.field.now) c.args.circuit.now c.args.bases.now n most d c.args.generator m c.among-factor.result.now.terms c.args.self.now.claim.terms (terms_of shared) (whole k c.args.self.now.sum) new c.check_sum.result kept terms
-    c.in_ok-add_product.ensures.reduced c.in_ok-add_product.ensures.values (subst W same c.check_sum.ensures.within) (subst O same c.check_sum.ensures.over)
+    pair_asks k mul c.args.circuit.now c.args.bases.now n most d c.args.generator m (multiplier_in (terms_of c.as_slice.result.now) m) c.args.self.now.claim.terms (terms_of shared) (whole k mul dual c.args.self.now.sum) new c.check_sum.result kept terms
+    c.in_ok-add_multiplier.ensures.reduced c.in_ok-add_multiplier.ensures.values (subst W same (c.check_sum.ensures.within mul dual)) (subst O same (c.check_sum.ensures.over mul dual))
 
 pub returns-clause-kept : goal.returns-clause-kept
 returns-clause-kept g c d kept =
     let k : ℕ = g.F.Ring.degree c.args.field.now in
-    let mul : ℕ → ℕ → ℕ = g.F.Ring.product c.args.field.now in
     let shared = c.args.self.now.shared.items in
     let m = c.args.multiplier.now in
     let most : ℕ = c.args.bound in
-    let new : Terms = whole k c.add_product.new.sum in
-    let terms : c.among-factor.result.now.terms ≡ multiplier_in (terms_of shared) m = c.among-factor.ensures ∙ ap (λ (xs : List Polynomial). multiplier_in (terms_of xs) m) c.as_slice.ensures.value in
-    let same : whole c.k.result c.settle.new.self ≡ new = ap (λ j. whole j c.settle.new.self) c.k.ensures ∙ c.in_ok-settle.ensures.same in
+    let mul : ℕ → ℕ → ℕ = g.F.Ring.product c.args.field.now in
+    let dual : ℕ → ℕ → ℕ = dual_of c.args.circuit.now c.args.bases.now in
+    let new : Terms = whole k mul dual c.add_multiplier.new.sum in
+    let terms : multiplier_in (terms_of c.as_slice.result.now) m ≡ multiplier_in (terms_of shared) m = ap (λ (xs : List Polynomial). multiplier_in (terms_of xs) m) c.as_slice.ensures.value in
+    let same : whole c.k.result mul dual c.settle.new.self ≡ new = ap (λ j. whole j mul dual c.settle.new.self) c.k.ensures ∙ c.in_ok-settle.ensures.same in
     let W : Terms → Type 0 = λ ts. OnOk c.check_sum.result (length ts ≤ most) in
     let K : Terms → Type 0 = λ ts. OnOk c.check_sum.result (IsKept k mul c.args.circuit.now c.args.bases.now most (with_pair d c.args.generator (multiplier_in d.shared m)) c.args.self.now.claim.terms (terms_of shared) ts) in
     subst K (sym c.in_ok-settle.ensures.same)
-    (pair_kept k mul c.args.circuit.now c.args.bases.now most d c.args.generator m c.among-factor.result.now.terms c.args.self.now.claim.terms (terms_of shared) (whole k c.args.self.now.sum) new c.check_sum.result kept terms
-    c.in_ok-add_product.ensures.reduced c.in_ok-add_product.ensures.values (subst W same c.check_sum.ensures.within))
+    (pair_kept k mul c.args.circuit.now c.args.bases.now most d c.args.generator m (multiplier_in (terms_of c.as_slice.result.now) m) c.args.self.now.claim.terms (terms_of shared) (whole k mul dual c.args.self.now.sum) new c.check_sum.result kept terms
+    c.in_ok-add_multiplier.ensures.reduced c.in_ok-add_multiplier.ensures.values (subst W same (c.check_sum.ensures.within mul dual)))

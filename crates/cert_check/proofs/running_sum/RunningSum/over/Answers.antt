@@ -4,6 +4,6 @@ use Rattle.cert_check.proofs.HeldLemmas.{whole_within}
 use Rattle.cert_check.proofs.running_sum.RunningSum.over.Goals as goal
 
 pub returns-then-is_within-clause-within : goal.returns-then-is_within-clause-within
-returns-then-is_within-clause-within c =
+returns-then-is_within-clause-within c mul dual =
     let rows : c.len-2.result ≡ length c.args.self.now.rows.items = first_of (search rules, grind (arith, common_steps)) in
-    whole_within c.args.k c.args.bound c.args.self.now c.len.result c.len-2.result c.len.ensures rows (c.is_within.ensures.0 c.if-is_within.true)
+    whole_within c.args.k mul dual c.args.bound c.args.self.now c.len.result c.len-2.result c.len.ensures rows (c.is_within.ensures.0 c.if-is_within.true)

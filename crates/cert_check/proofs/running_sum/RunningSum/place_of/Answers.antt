@@ -2,7 +2,7 @@ use Rattle.std.proofs.Common.{◌≡◌, ◌∙◌, ap, sym, ℕ, List, Some}
 use Rattle.std.specs.Prelude.{slice_get}
 use Rattle.lists.specs.laws.ReadLaws.{got_read}
 use Rattle.cert_check.specs.declared.row.Row.{Row}
-use Rattle.cert_check.proofs.PlaceLemmas.{same_monomial}
+use Rattle.poly_mixed.proofs.SharedLemmas.{same_monomial}
 use Rattle.cert_check.proofs.running_sum.RunningSum.place_of.Goals as goal
 
 pub returns-then-eq : goal.returns-then-eq
