@@ -25,7 +25,7 @@ both_equal Greater s e = absurd (cc)
 number_same : (x y : ℕ) → nat_cmp x y ≡ Equal → x ≡ y
 number_same x y e = search rules
 
-both_ways : (s t : Bool) → (s ≡ true → t ≡ true) → (t ≡ true → s ≡ true) → s ≡ t
+pub both_ways : (s t : Bool) → (s ≡ true → t ≡ true) → (t ≡ true → s ≡ true) → s ≡ t
 both_ways true t f g = sym (f refl)
 both_ways false true f g = g refl
 both_ways false false f g = refl

@@ -21,6 +21,7 @@ use Rattle.net_simplify.specs.Simplified.{IsSimplified, IsSimplifiedTwice, simpl
 use Rattle.net_simplify.specs.Circuit.{IsSimplifiedCircuit}
 use Rattle.net_simplify.proofs.OneLemmas.{one_simple}
 use Rattle.net_simplify.proofs.PlacedLemmas.{are_placed}
+use Rattle.net_simplify.proofs.SomeLemmas.{HaveOrders, simplified_some}
 use Rattle.net_simplify.proofs.SoundLemmas.{leads_used, simplified_consistent, simplified_sound}
 use Rattle.net_simplify.proofs.UseLemmas.{used_leads}
 
@@ -113,3 +114,12 @@ circuit_one circuit simple other sound is is' =
     let net : simple.net ≡ other.net = one_simple ends is.net.between simple.net other.net (simplified_sound ends circuit.net is.net.between sound is.net.first) is.net.second (subst P (sym middle) is'.net.second) in
     let binding : simple.binding ≡ other.binding = is.binding ∙ sym is'.binding in
     ap (λ (n : NetList). record { net = n; binding = simple.binding }) net ∙ ap (λ (b : Binding). record { net = other.net; binding = b }) binding
+
+-- ---- there is one
+
+pub circuit_some : HaveOrders → (circuit : BoundNet) → IsSound circuit.net → (simple : BoundNet) × IsSimplifiedCircuit circuit simple
+circuit_some orders circuit sound =
+    let ends : List ℕ = output_bits circuit.binding.words in
+    let first = simplified_some orders ends circuit.net sound in
+    let second = simplified_some orders ends first.0 (simplified_sound ends circuit.net first.0 sound first.1) in
+    (record { net = second.0; binding = circuit.binding }, record { net = record { between = first.0; first = first.1; second = second.1 }; binding = refl })

@@ -6,12 +6,11 @@ use Rattle.std.specs.Int.{bit_at}
 use Rattle.lists.specs.Lists.{Has}
 use Rattle.net_core.specs.Value.{bit_of, index_of}
 use Rattle.net_simplify.specs.Form.{Form, value, IsForm, IsRising, DependsOn}
-use Rattle.net_simplify.specs.private.Lists.{IsLeft, Reduces, bit_number, with_place, without_leaf}
-use Rattle.net_simplify.proofs.BitLemmas.{differ_at}
+use Rattle.net_simplify.specs.private.Lists.{IsLeft, IsTold, Reduces, bit_number, with_place, without_leaf}
 use Rattle.net_simplify.proofs.FormLemmas.{bit_small, one_bit}
 use Rattle.net_simplify.proofs.ListLemmas.{has_cons, has_more, has_none, index_lt, index_put, index_some, put, put_other, put_same}
 
-number_small : (bits : List Bool) (n : ℕ) → bit_number bits n < 2
+pub number_small : (bits : List Bool) (n : ℕ) → bit_number bits n < 2
 number_small bits n = by (bit_of bits n)
   where
     by : (b : Bool) → ◌<◌ (cond b 1 0) 2
@@ -55,7 +54,7 @@ remove_gone (m ∷ ns) (suc place) n up got has = elim (has_cons m (remove ns pl
   | inr rest ↦ remove_gone ns place n up.1 got rest
 ]
 
-remove_length : (ns : List ℕ) (place n : ℕ) → slice_get ns place ≡ Some n → length (remove ns place) + 1 ≡ length ns
+pub remove_length : (ns : List ℕ) (place n : ℕ) → slice_get ns place ≡ Some n → length (remove ns place) + 1 ≡ length ns
 remove_length [] place n got = absurd (cc)
 remove_length (m ∷ ns) zero n got = omega arith
 remove_length (m ∷ ns) (suc place) n got = omega (arith, remove_length ns place n got)
@@ -99,18 +98,15 @@ idle_reduces form place n k low high up got long within first second same = reco
     either bits true = let P : ℕ → Type 0 = IsHalf form.table k place 1 in subst P (sym same) second
     either bits false = first
 
--- where they are not, the value depends on it
-pub kept_reduces : (form : Form) (place n k low high : ℕ) → IsRising form.leaves → slice_get form.leaves place ≡ Some n → k + 1 ≡ length form.leaves → place ≤ k → low < 2 ^ (2 ^ k) → high < 2 ^ (2 ^ k) → IsHalf form.table k place 0 low → IsHalf form.table k place 1 high → low ≢ high → Reduces form place form
-kept_reduces form place n k low high up got long within fits fits' first second apart = record {
+-- where some bits of them differ, the value depends on it
+pub kept_reduces : (form : Form) (place n k : ℕ) → IsRising form.leaves → slice_get form.leaves place ≡ Some n → k + 1 ≡ length form.leaves → place ≤ k → IsTold form.table k place → Reduces form place form
+kept_reduces form place n k up got long within at = record {
   same = λ bits. refl;
   rises = up;
   long = omega (arith, long, within);
   after = λ m has. let P : List ℕ → Type 0 = λ xs. Has xs m in cases m (has_cons n (drop (suc place) form.leaves) m (subst P (drop_here form.leaves place n got) has));
 }
   where
-    at : (i : ℕ) × (i < 2 ^ k) × (bit_at low i ≢ bit_at high i)
-    at = differ_at (2 ^ k) low high fits fits' apart
-
     bits : (bits : List Bool) × (index_of bits (remove form.leaves place) ≡ at.0)
     bits =
         let same : length (remove form.leaves place) ≡ k = omega (arith, remove_length form.leaves place n got, long) in
@@ -123,13 +119,11 @@ kept_reduces form place n k low high up got long within fits fits' first second 
     number : (v : Bool) → bit_number (put n v bits.0) n ≡ cond v 1 0
     number v = ap (λ (b : Bool). cond b 1 0) (put_same n v bits.0)
 
-    bit : (v : Bool) (half : ℕ) → IsHalf form.table k place (cond v 1 0) half → bit_at form.table (index_of (put n v bits.0) form.leaves) ≡ bit_at half at.0
-    bit v half is =
-        let P : ℕ → Type 0 = λ b. IsHalf form.table k place b half in
-        sym (half_value (put n v bits.0) form place n k half got long (subst P (sym (number v)) is)) ∙ ap (bit_at half) (index v)
+    bit : (v : Bool) → bit_at form.table (index_of (put n v bits.0) form.leaves) ≡ bit_at form.table (with_place place (cond v 1 0) at.0)
+    bit v = ap (bit_at form.table) (index_with_place (put n v bits.0) form.leaves place n got ∙ ap₂ (with_place place) (number v) (index v))
 
     differ : value (put n false bits.0) form ≡ value (put n true bits.0) form → ⊥
-    differ same = at.2 (sym (bit false low first) ∙ one_bit (bit_at form.table (index_of (put n false bits.0) form.leaves)) (bit_at form.table (index_of (put n true bits.0) form.leaves)) (bit_small form.table _) (bit_small form.table _) same ∙ bit true high second)
+    differ same = at.2 (sym (bit false) ∙ one_bit (bit_at form.table (index_of (put n false bits.0) form.leaves)) (bit_at form.table (index_of (put n true bits.0) form.leaves)) (bit_small form.table _) (bit_small form.table _) same ∙ bit true)
 
     cases : (m : ℕ) → (n ≡ m) ⊎ Has (drop (suc place) form.leaves) m → Has (drop (suc place) form.leaves) m ⊎ DependsOn form m
     cases m (inr rest) = inl rest
@@ -166,11 +160,13 @@ left_start form k long up = record { same = λ bits. refl; rises = up; long = om
 pub left_form : (start form : Form) → length form.leaves ≤ 6 → form.table < 2 ^ (2 ^ length form.leaves) → IsLeft start form 0 → IsForm form
 left_form start form few fits is = record { rises = is.rises; few = few; fits = fits; depends = λ n has. depends_moved start form n (λ bits. sym (is.same bits)) (is.depends n has) }
 
-pub idle_at : (form : Form) (place k low high : ℕ) → IsRising form.leaves → place < length form.leaves → k ≡ length form.leaves - 1 → IsHalf form.table k place 0 low → IsHalf form.table k place 1 high → low ≡ high → Reduces form place (without_leaf form place low)
-idle_at form place k low high up less long first second same = let at = get_below form.leaves place less in idle_reduces form place at.0 k low high up at.1 (omega (arith, less, long)) (omega (arith, less, long)) first second same
+pub idle_at : (form : Form) (place k low : ℕ) → IsRising form.leaves → place < length form.leaves → k ≡ length form.leaves - 1 → IsHalf form.table k place 0 low → ((i : ℕ) → i < 2 ^ k → bit_at form.table (with_place place 0 i) ≡ bit_at form.table (with_place place 1 i)) → Reduces form place (without_leaf form place low)
+idle_at form place k low up less long half alike =
+    let at = get_below form.leaves place less in
+    idle_reduces form place at.0 k low low up at.1 (omega (arith, less, long)) (omega (arith, less, long)) half (λ i within. half i within ∙ alike i within) refl
 
-pub kept_at : (form : Form) (place k low high : ℕ) → IsRising form.leaves → place < length form.leaves → k ≡ length form.leaves - 1 → low < 2 ^ (2 ^ k) → high < 2 ^ (2 ^ k) → IsHalf form.table k place 0 low → IsHalf form.table k place 1 high → low ≢ high → Reduces form place form
-kept_at form place k low high up less long fits fits' first second apart = let at = get_below form.leaves place less in kept_reduces form place at.0 k low high up at.1 (omega (arith, less, long)) (omega (arith, less, long)) fits fits' first second apart
+pub kept_at : (form : Form) (place k : ℕ) → IsRising form.leaves → place < length form.leaves → k ≡ length form.leaves - 1 → IsTold form.table k place → Reduces form place form
+kept_at form place k up less long told = let at = get_below form.leaves place less in kept_reduces form place at.0 k up at.1 (omega (arith, less, long)) (omega (arith, less, long)) told
 
 pub left_more : (start form left : Form) (place below : ℕ) → below ≡ place - 1 → place ≢ 0 → IsLeft start form place → Reduces form below left → IsLeft start left below
 left_more start form left place below same some is r =
@@ -179,18 +175,15 @@ left_more start form left place below same some is r =
 
 -- ---- what the functions do
 
-pub idle_by : (form left : Form) (place p t u low high : ℕ) → IsRising form.leaves → place < length form.leaves → p ≡ length form.leaves → t ≡ form.table → u ≡ form.table → IsHalf t (p - 1) place 0 low → IsHalf u (p - 1) place 1 high → low ≡ high → left ≡ without_leaf form place low → Reduces form place left
-idle_by form left place p t u low high up less long is is' first second same made =
+pub idle_by : (form left : Form) (place p t u low : ℕ) → IsRising form.leaves → place < length form.leaves → p ≡ length form.leaves → t ≡ form.table → u ≡ form.table → IsHalf t (p - 1) place 0 low → ((i : ℕ) → i < 2 ^ (p - 1) → bit_at u (with_place place 0 i) ≡ bit_at u (with_place place 1 i)) → left ≡ without_leaf form place low → Reduces form place left
+idle_by form left place p t u low up less long is is' half alike made =
     let P : Form → Type 0 = Reduces form place in
     let F : ℕ → Type 0 = λ x. IsHalf x (p - 1) place 0 low in
-    let S : ℕ → Type 0 = λ x. IsHalf x (p - 1) place 1 high in
-    subst P (sym made) (idle_at form place (p - 1) low high up less (omega (arith, long)) (subst F is first) (subst S is' second) same)
+    let A : ℕ → Type 0 = λ x. (i : ℕ) → i < 2 ^ (p - 1) → bit_at x (with_place place 0 i) ≡ bit_at x (with_place place 1 i) in
+    subst P (sym made) (idle_at form place (p - 1) low up less (omega (arith, long)) (subst F is half) (subst A is' alike))
 
-pub kept_by : (form : Form) (place p t u low high : ℕ) → IsRising form.leaves → place < length form.leaves → p ≡ length form.leaves → t ≡ form.table → u ≡ form.table → low < 2 ^ (2 ^ (p - 1)) → high < 2 ^ (2 ^ (p - 1)) → IsHalf t (p - 1) place 0 low → IsHalf u (p - 1) place 1 high → low ≢ high → Reduces form place form
-kept_by form place p t u low high up less long is is' fits fits' first second apart =
-    let F : ℕ → Type 0 = λ x. IsHalf x (p - 1) place 0 low in
-    let S : ℕ → Type 0 = λ x. IsHalf x (p - 1) place 1 high in
-    kept_at form place (p - 1) low high up less (omega (arith, long)) fits fits' (subst F is first) (subst S is' second) apart
+pub kept_by : (form : Form) (place p t : ℕ) → IsRising form.leaves → place < length form.leaves → p ≡ length form.leaves → t ≡ form.table → IsTold t (p - 1) place → Reduces form place form
+kept_by form place p t up less long is told = let T : ℕ → Type 0 = λ x. IsTold x (p - 1) place in kept_at form place (p - 1) up less (omega (arith, long)) (subst T is told)
 
 pub left_by : (start form : Form) (p : ℕ) → form ≡ start → p ≡ length form.leaves → IsRising start.leaves → IsLeft start form p
 left_by start form p same long up =

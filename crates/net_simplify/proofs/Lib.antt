@@ -14,10 +14,15 @@ pub mod TwinLemmas
 pub mod CatalogLemmas
 pub mod UnderwayLemmas
 pub mod StepLemmas
+pub mod TableWordLemmas
+pub mod HalfWordLemmas
+pub mod IdleLemmas
 pub mod BestLemmas
 pub mod SettleLemmas
 pub mod MarkLemmas
 pub mod MadeLemmas
+pub mod SomeFormLemmas
+pub mod SomeLemmas
 pub mod WordLemmas
 mod InverterExamples
 mod NandExamples

@@ -37,7 +37,7 @@ form_other (x ∷ xs) zero f (suc n) apart = refl
 form_other (x ∷ xs) (suc i) f zero apart = refl
 form_other (x ∷ xs) (suc i) f (suc n) apart = form_other xs i f n (λ e. apart (ap suc e))
 
-form_long : (xs : List Form) (i : ℕ) (f : Form) → length (slice_set xs i f) ≡ length xs
+pub form_long : (xs : List Form) (i : ℕ) (f : Form) → length (slice_set xs i f) ≡ length xs
 form_long [] zero f = refl
 form_long [] (suc i) f = refl
 form_long (x ∷ xs) zero f = refl
@@ -53,14 +53,14 @@ pub record IsSet (lists new : FormLists) (out : ℕ) (unit body : Form) : Type 0
 pub set_long : (lists new : FormLists) (out : ℕ) (unit body : Form) → IsSet lists new out unit body → length new.units ≡ length lists.units
 set_long lists new out unit body is = ap (λ (fs : List Form). length fs) is.units ∙ form_long lists.units out unit
 
-set_keeps : (lists new : FormLists) (out : ℕ) (unit body : Form) → IsSet lists new out unit body → Keeps lists new out
+pub set_keeps : (lists new : FormLists) (out : ℕ) (unit body : Form) → IsSet lists new out unit body → Keeps lists new out
 set_keeps lists new out unit body is = record {
   long = set_long lists new out unit body is;
   unit = λ n apart. ap (λ (fs : List Form). form_at fs n) is.units ∙ form_other lists.units out unit n apart;
   body = λ n apart. ap (λ (fs : List Form). form_at fs n) is.bodies ∙ form_other lists.bodies out body n apart;
 }
 
-set_unit : (lists new : FormLists) (out : ℕ) (unit body : Form) → IsSet lists new out unit body → form_at new.units out ≡ unit
+pub set_unit : (lists new : FormLists) (out : ℕ) (unit body : Form) → IsSet lists new out unit body → form_at new.units out ≡ unit
 set_unit lists new out unit body is = ap (λ (fs : List Form). form_at fs out) is.units ∙ form_same lists.units out unit is.within
 
 set_body : (lists new : FormLists) (out : ℕ) (unit body : Form) → IsSet lists new out unit body → form_at new.bodies out ≡ body

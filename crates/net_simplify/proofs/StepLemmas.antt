@@ -39,30 +39,6 @@ leaf_added x p ys new b place test none made =
 pub leaf_kept : (x p : ℕ) (ys : List ℕ) (b : Bool) → p ≡ leaf_place x ys → b ≡ is_at_place ys p x → b ≡ true → ys ≡ with_leaf x ys
 leaf_kept x p ys b place test some = sym (leaf_there x ys (sym (ap (λ q. is_at_place ys q x) place) ∙ sym test ∙ some))
 
--- one more leaf of an index
-pub index_cons : (leaves some rest : List ℕ) (first index b r : ℕ) → some ≡ first ∷ rest
-    → ((bits : List Bool) → index_of bits leaves ≡ index → Has leaves first → b ≡ bit_number bits first)
-    → ((bits : List Bool) → index_of bits leaves ≡ index → ((n : ℕ) → Has rest n → Has leaves n) → r ≡ index_of bits rest)
-    → (bits : List Bool) → index_of bits leaves ≡ index → ((n : ℕ) → Has some n → Has leaves n) → b + 2 * r ≡ index_of bits some
-index_cons leaves some rest first index b r same head tail bits at within =
-    let P : List ℕ → Type 0 = λ xs. (n : ℕ) → Has xs n → Has leaves n in
-    let all : (n : ℕ) → Has (first ∷ rest) n → Has leaves n = subst P same within in
-    ap₂ (λ x y. x + 2 * y) (head bits at (all first (0, refl))) (tail bits at (λ n has. all n (has_more first rest n has)))
-    ∙ ap (index_of bits) (sym same)
-
--- one more form of an index
-pub taken_cons : (leaves ns rest : List ℕ) (forms : Forms) (first opened index b r : ℕ) (form : Form) → ns ≡ first ∷ rest → form ≡ cond (opened % 2 == 1) (forms.body first) (forms.unit first)
-    → ((bits : List Bool) → index_of bits leaves ≡ index → ((n : ℕ) → Has form.leaves n → Has leaves n) → b ≡ value_number bits form)
-    → ((bits : List Bool) → index_of bits leaves ≡ index → HoldLeaves leaves (taken forms (opened / 2) rest) → r ≡ index_by bits (taken forms (opened / 2) rest))
-    → (bits : List Bool) → index_of bits leaves ≡ index → HoldLeaves leaves (taken forms opened ns) → b + 2 * r ≡ index_by bits (taken forms opened ns)
-taken_cons leaves ns rest forms first opened index b r form same is head tail bits at hold =
-    let P : List ℕ → Type 0 = λ xs. HoldLeaves leaves (taken forms opened xs) in
-    let all = subst P same hold in
-    let Q : Form → Type 0 = λ f. (n : ℕ) → Has f.leaves n → Has leaves n in
-    let here : (n : ℕ) → Has form.leaves n → Has leaves n = subst Q (sym is) (all (cond (opened % 2 == 1) (forms.body first) (forms.unit first)) (0, refl)) in
-    ap₂ (λ x y. x + 2 * y) (head bits at here ∙ ap (value_number bits) is) (tail bits at (λ f has. all f (has_more (cond (opened % 2 == 1) (forms.body first) (forms.unit first)) (taken forms (opened / 2) rest) f has)))
-    ∙ ap (λ xs. index_by bits (taken forms opened xs)) (sym same)
-
 -- ---- joining
 
 pub joined_over : (limit x : ℕ) (more rest old new : List ℕ) → more ≡ x ∷ rest → new ≡ with_leaf x old → limit < length new → IsJoined limit (with_leaves more old) new false
@@ -102,27 +78,7 @@ rule_step rule found new index value before keeps here is i less =
       | inr apart ↦ keeps i (omega (arith, less, apart)) ∙ before i (omega (arith, less, apart))
     ]
 
--- one more bit of the table of a function of bits
-pub values_step : (leaves : List ℕ) (rule : List Bool → ℕ) (found new index value : ℕ) → ((bits : List Bool) → index_of bits leaves < index → bit_at found (index_of bits leaves) ≡ rule bits) → ((i : ℕ) → i < index → bit_at new i ≡ bit_at found i) → bit_at new index ≡ value → ((bits : List Bool) → index_of bits leaves ≡ index → value ≡ rule bits) → (bits : List Bool) → index_of bits leaves < index + 1 → bit_at new (index_of bits leaves) ≡ rule bits
-values_step leaves rule found new index value before keeps here is bits less =
-    elim (nat_eq_or (index_of bits leaves) index) [
-      | inl same ↦ ap (bit_at new) same ∙ here ∙ is bits same
-      | inr apart ↦ keeps (index_of bits leaves) (omega (arith, less, apart)) ∙ before bits (omega (arith, less, apart))
-    ]
-
 -- ---- over slices
-
-pub index_first : (leaves some : List ℕ) (index b r : ℕ) → 1 ≤ length some
-    → ((bits : List Bool) → index_of bits leaves ≡ index → Has leaves (first some) → b ≡ bit_number bits (first some))
-    → ((bits : List Bool) → index_of bits leaves ≡ index → ((n : ℕ) → Has (rest some) n → Has leaves n) → r ≡ index_of bits (rest some))
-    → (bits : List Bool) → index_of bits leaves ≡ index → ((n : ℕ) → Has some n → Has leaves n) → b + 2 * r ≡ index_of bits some
-index_first leaves some index b r long head tail = index_cons leaves some (rest some) (first some) index b r (parted some long) head tail
-
-pub taken_first : (leaves ns : List ℕ) (forms : Forms) (opened index b r : ℕ) (form : Form) → 1 ≤ length ns → form ≡ cond (opened % 2 == 1) (forms.body (first ns)) (forms.unit (first ns))
-    → ((bits : List Bool) → index_of bits leaves ≡ index → ((n : ℕ) → Has form.leaves n → Has leaves n) → b ≡ value_number bits form)
-    → ((bits : List Bool) → index_of bits leaves ≡ index → HoldLeaves leaves (taken forms (opened / 2) (rest ns)) → r ≡ index_by bits (taken forms (opened / 2) (rest ns)))
-    → (bits : List Bool) → index_of bits leaves ≡ index → HoldLeaves leaves (taken forms opened ns) → b + 2 * r ≡ index_by bits (taken forms opened ns)
-taken_first leaves ns forms opened index b r form long is head tail = taken_cons leaves ns (rest ns) forms (first ns) opened index b r form (parted ns long) is head tail
 
 pub joined_all : (limit : ℕ) (all list : List ℕ) (b : Bool) → b ≡ true → IsJoined limit all list b → (list ≡ all) × (length all ≤ limit)
 joined_all limit all list true some is = is
@@ -168,12 +124,3 @@ composed_over leaves table found forms form is same made = record { is_form = is
 -- units alone never have more leaves than six
 pub never_over : (lists : FormLists) (table : ℕ) (inputs : List ℕ) → ((n : ℕ) → length (form_at lists.units n).leaves ≤ 1) → length inputs ≤ 6 → IsComposedWithin 6 table (taken (forms_of lists) 0 inputs) None → ⊥
 never_over lists table inputs few small over = omega (arith, units_few (forms_of lists) inputs few small, over)
-
--- the bit of a function of functions, where the bits of the leaves make this index
-pub over_value : (leaves ins inputs : List ℕ) (forms : Forms) (opened index t table inner v w : ℕ) → ins ≡ inputs → t ≡ table → HoldLeaves leaves (taken forms opened inputs)
-    → ((bits : List Bool) → index_of bits leaves ≡ index → HoldLeaves leaves (taken forms opened ins) → inner ≡ index_by bits (taken forms opened ins))
-    → v ≡ bit_at t inner → w ≡ v → (bits : List Bool) → index_of bits leaves ≡ index → w ≡ bit_at table (index_by bits (taken forms opened inputs))
-over_value leaves ins inputs forms opened index t table inner v w same same_table hold inner_is value wide bits at =
-    let P : List ℕ → Type 0 = λ ns. HoldLeaves leaves (taken forms opened ns) in
-    let found : inner ≡ index_by bits (taken forms opened inputs) = inner_is bits at (subst P (sym same) hold) ∙ ap (λ (ns : List ℕ). index_by bits (taken forms opened ns)) same in
-    wide ∙ value ∙ ap (λ x. bit_at x inner) same_table ∙ ap (bit_at table) found

@@ -7,12 +7,11 @@ ghost use Rattle.net_simplify.specs.Choice.{leaves_of, taken};
 ghost use Rattle.net_simplify.specs.Form.{IsComposed, index_by};
 ghost use Rattle.net_simplify.specs.private.Lists.{HoldLeaves, IsComposedWithin, forms_of};
 
-use crate::halves::with_value;
-use crate::joining::{index_of_taken, join};
+use crate::joining::join;
 use crate::known::Known;
 use crate::reducing::reduced;
-use crate::table_form::TableForm;
-use crate::tables::{rows, table_bit};
+use crate::table_form::{TableForm, full};
+use crate::words::word_of_taken;
 use net_core::Gate;
 use smallvec::SmallVec;
 use std::alloc::{AllocError, Global};
@@ -24,13 +23,8 @@ fn table_over(known: &Known, gate: &Gate, opened: u32, leaves: &[u32]) -> u64
     ensures fits { result < 2 ^ (2 ^ length leaves.now) }
     ensures same { (bits : List Bool) → bit_at result (index_of bits leaves.now) ≡ bit_at gate.now.table (index_by bits (taken (forms_of known.now) opened gate.now.inputs)) }
 {
-    let mut found: u64 = 0;
-    for index in 0..rows(leaves.len() as u32) {
-        let inner = index_of_taken(known, gate.inputs(), opened, leaves, index);
-        let value = table_bit(gate.table(), inner);
-        found = with_value(found, index, u64::from(value));
-    }
-    found
+    let word = word_of_taken(known, gate.inputs(), opened, leaves, gate.table());
+    word & full(leaves.len() as u32)
 }
 
 // The gate's function of its inputs where these are opened, and have these leaves.

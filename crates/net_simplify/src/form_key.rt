@@ -5,6 +5,7 @@ ghost use Rattle.std.specs.Ordering.{eq_by_cmp, as_partial_cmp};
 ghost use Rattle.net_simplify.specs.private.Catalog.{even, numbers_cmp, numbers_cmp_total, twin_key};
 
 use crate::table_form::TableForm;
+use smallvec::SmallVec;
 use std::alloc::{AllocError, Global};
 use std::cmp::Ordering;
 use std::marker::Model;
@@ -15,7 +16,7 @@ const HALF: u64 = 1 << 32;
 /// The table and the leaves of a form or of its complement, whichever has the value 0 where all leaves are 0.
 #[derive(Drop)]
 pub(crate) struct FormKey {
-    numbers: Vec<u32>,
+    numbers: SmallVec<u32, 8>,
 }
 
 impl Model for FormKey {
@@ -43,7 +44,7 @@ impl FormKey {
         ensures { IfOk result (λ k. k ≡ twin_key form.now) }
     {
         let table = even_table(form);
-        let mut numbers = Vec::with_capacity(alloc, 8)?;
+        let mut numbers = SmallVec::new(alloc);
         numbers.push((table % HALF) as u32)?;
         numbers.push((table / HALF) as u32)?;
         numbers.extend_from_slice(form.leaves())?;

@@ -7,7 +7,6 @@ ghost use Rattle.net_simplify.specs.Form.{index_by};
 ghost use Rattle.net_simplify.specs.private.Lists.{HoldLeaves, IsJoined, forms_of, is_at_place, leaf_place};
 
 use crate::known::Known;
-use crate::tables::form_bit;
 use smallvec::SmallVec;
 use std::alloc::AllocError;
 
@@ -90,22 +89,6 @@ pub fn join(
                 return Ok(false);
             }
             join(known, rest, opened / 2, limit, leaves)
-        }
-    }
-}
-
-// The index of the values of the forms of nets where these are opened, where the bits of all leaves make another.
-pub fn index_of_taken(known: &Known, nets: &[u32], opened: u32, leaves: &[u32], index: u32) -> u32
-    requires few { length nets.now ≤ 6 }
-    ensures index { (bits : List Bool) → index_of bits leaves.now ≡ index → HoldLeaves leaves.now (taken (forms_of known.now) opened nets.now) → result ≡ index_by bits (taken (forms_of known.now) opened nets.now) }
-    ensures small { result < 2 ^ length nets.now }
-{
-    match nets {
-        [] => 0,
-        [first, rest @ ..] => {
-            let form = known.taken(*first, opened % 2 == 1);
-            form_bit(leaves, index, form)
-                + 2 * index_of_taken(known, rest, opened / 2, leaves, index)
         }
     }
 }

@@ -1,6 +1,7 @@
 //! Laws of simplified nets. These functions do nothing: their contracts are proved of the definitions alone.
 ghost use Rattle.std.specs.Prelude.{◌≡◌, ◌↔◌, ℕ, Bool, List};
 ghost use Rattle.net_core.specs.NetList.{NetList};
+ghost use Rattle.net_core.specs.Order.{IsLevelOrder};
 ghost use Rattle.net_core.specs.Sound.{IsSound};
 ghost use Rattle.net_core.specs.Value.{IsConsistent};
 ghost use Rattle.net_words.specs.Binding.{BoundNet};
@@ -24,6 +25,12 @@ pub fn simplified_nets_agree()
 /// A circuit with a sound net list has one simplified circuit at most.
 pub fn one_simplified_circuit()
     ensures { (circuit simple other : BoundNet) → IsSound circuit.net → IsSimplifiedCircuit circuit simple → IsSimplifiedCircuit circuit other → simple ≡ other }
+{}
+
+/// Where the gates of each sound net list have an order, which its levels give, a circuit with a sound net list has a
+/// simplified circuit.
+pub fn some_simplified_circuit()
+    ensures { ((net : NetList) → IsSound net → (order : List ℕ) × IsLevelOrder net order) → (circuit : BoundNet) → IsSound circuit.net → (simple : BoundNet) × IsSimplifiedCircuit circuit simple }
 {}
 
 /// The simplified circuit is sound, its words are bound to it in one cycle, and at each input it has the output that the

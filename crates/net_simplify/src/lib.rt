@@ -18,10 +18,11 @@ mod rounds;
 mod settling;
 mod table_form;
 mod tables;
+mod words;
 
 pub use circuit::simplify;
 pub use laws::{
     one_simplified_circuit, one_simplified_net, simplified_circuits_compute_the_same,
-    simplified_nets_agree,
+    simplified_nets_agree, some_simplified_circuit,
 };
 pub use rounds::simplified;

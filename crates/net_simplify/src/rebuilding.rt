@@ -157,16 +157,25 @@ fn add_outputs(maker: &mut NetMaker, net: &Net) -> Result<(), AllocError>
     Ok(())
 }
 
-/// The net with the gates that the forms give.
-pub fn rebuilt(alloc: Global, net: &Net, known: &Known, marks: &[u8]) -> Result<Net, AllocError>
-    requires gates { (g : GateValue) → Has net.now.gates g → GateIsInside (nets net.now) (simple_gate (count_at marks.now) (forms_of known.now) g) }
-    requires flat { net.now.latches ≡ [] }
-    ensures { IfOk result (λ made. made ≡ record net.now { gates = map (simple_gate (count_at marks.now) (forms_of known.now)) net.now.gates }) }
+// The net list with the gates that the forms give, which are not used again.
+fn with_forms(alloc: Global, net: &Net, known: Known, marks: &[u8]) -> Result<NetMaker, AllocError>
+    requires gates { (g : GateValue) → Has net.now.gates g → GateIsInside (nets net.now) (simple_gate (count_at marks.now) (forms_of known) g) }
+    ensures { IfOk result (λ maker. maker ≡ record empty { labels = net.now.labels; inputs = net.now.inputs; outputs = net.now.outputs; gates = map (simple_gate (count_at marks.now) (forms_of known)) net.now.gates }) }
 {
     let mut maker = with_labels(alloc, net)?;
     add_inputs(&mut maker, net)?;
     add_outputs(&mut maker, net)?;
-    add_gates(&mut maker, net, known, marks)?;
+    add_gates(&mut maker, net, &known, marks)?;
+    Ok(maker)
+}
+
+/// The net with the gates that the forms give. The forms are given back before the net is finished.
+pub fn rebuilt(alloc: Global, net: &Net, known: Known, marks: &[u8]) -> Result<Net, AllocError>
+    requires gates { (g : GateValue) → Has net.now.gates g → GateIsInside (nets net.now) (simple_gate (count_at marks.now) (forms_of known) g) }
+    requires flat { net.now.latches ≡ [] }
+    ensures { IfOk result (λ made. made ≡ record net.now { gates = map (simple_gate (count_at marks.now) (forms_of known)) net.now.gates }) }
+{
+    let maker = with_forms(alloc, net, known, marks)?;
     match maker.finish() {
         Ok(made) => Ok(made),
         Err(_) => Err(AllocError),

@@ -3,7 +3,7 @@ ghost use Rattle.std.specs.Prelude.{◌≡◌, ◌<◌, ◌≤◌, ◌^◌, Bool
 ghost use Rattle.net_simplify.specs.Form.{Form, IsForm, IsRising, value};
 ghost use Rattle.net_simplify.specs.private.Lists.{IsLeft, Reduces};
 
-use crate::halves::half;
+use crate::halves::{half, is_idle};
 use crate::table_form::TableForm;
 use smallvec::SmallVec;
 
@@ -42,9 +42,8 @@ fn without_idle(form: TableForm, place: u32) -> TableForm
     ensures reduces { Reduces form place result }
 {
     let places = form.places() - 1;
-    let low = half(form.table(), places, place, 0);
-    let high = half(form.table(), places, place, 1);
-    if low == high {
+    if is_idle(form.table(), places, place) {
+        let low = half(form.table(), places, place, 0);
         form.without(place as usize, low)
     } else {
         form

@@ -110,8 +110,8 @@ impl TableForm {
     }
 }
 
-// All bits of a table of so many places.
-fn full(places: u32) -> u64
+/// All bits of a table of so many places.
+pub(crate) fn full(places: u32) -> u64
     requires { places ≤ 6 }
     ensures { result ≡ 2 ^ (2 ^ places) - 1 }
 {

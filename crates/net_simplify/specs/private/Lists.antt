@@ -1,10 +1,10 @@
 -- Units and bodies as lists, and indices of tables. Source: this project's own.
-use Rattle.std.specs.Prelude.{◌≡◌, ◌⊎◌, ℕ, zero, suc, drop, remove, ◌<◌, ◌≤◌, ◌+◌, ◌*◌, ◌/◌, ◌%◌, ◌^◌, Bool, true, false, ◌==◌, nat_lt, List, [], ◌∷◌, Option, Some, None, length, slice_get, unwrap_or, if◌then◌else◌}
+use Rattle.std.specs.Prelude.{◌≡◌, ◌≢◌, ◌⊎◌, ℕ, zero, suc, drop, remove, ◌<◌, ◌≤◌, ◌+◌, ◌*◌, ◌/◌, ◌%◌, ◌^◌, Bool, true, false, ◌==◌, nat_lt, List, [], ◌∷◌, Option, Some, None, length, slice_get, unwrap_or, if◌then◌else◌}
 use Rattle.std.specs.Int.{bit_at}
 use Rattle.std.specs.Option.{option_map_or}
 use Rattle.lists.specs.Lists.{Has}
 use Rattle.net_core.specs.Value.{bit_of, index_of}
-use Rattle.net_simplify.specs.Form.{Form, value, IsForm, IsRising, DependsOn, IsComposed}
+use Rattle.net_simplify.specs.Form.{Form, value, IsForm, IsRising, DependsOn, IsComposed, index_by}
 use Rattle.net_simplify.specs.Choice.{Forms, leaves_of}
 
 -- the units and the bodies by net
@@ -80,3 +80,15 @@ HoldLeaves leaves forms = (form : Form) → Has forms form → (n : ℕ) → Has
 abbrev pub IsComposedWithin : ℕ → ℕ → List Form → Option Form → Type 0
 IsComposedWithin limit table forms (Some form) = IsComposed table forms form × (length (leaves_of forms) ≤ limit)
 IsComposedWithin limit table forms None = limit < length (leaves_of forms)
+
+-- bit i of the word is the value of the function where the bits of the leaves make the index i
+abbrev pub IsWordOf : List ℕ → (List Bool → ℕ) → ℕ → Type 0
+IsWordOf leaves function word = (bits : List Bool) → bit_at word (index_of bits leaves) ≡ function bits
+
+-- the word of the table's function of the forms, where the leaves of each stand in the list
+abbrev pub IsWordOver : List ℕ → ℕ → List Form → ℕ → Type 0
+IsWordOver leaves table forms word = HoldLeaves leaves forms → IsWordOf leaves (λ bits. bit_at table (index_by bits forms)) word
+
+-- the bit of the table at some index is another one where the bit at this place is
+abbrev pub IsTold : ℕ → ℕ → ℕ → Type 0
+IsTold table places place = (i : ℕ) × (i < 2 ^ places) × (bit_at table (with_place place 0 i) ≢ bit_at table (with_place place 1 i))
