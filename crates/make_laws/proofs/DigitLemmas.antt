@@ -13,7 +13,7 @@ use Rattle.gf_field.specs.laws.RingLaws.{distrib_left, zero_mul}
 use Rattle.gf_field.specs.laws.PowerLaws.{power-add}
 use Rattle.irreducible.specs.laws.AdditiveLaws.{IsAdditive}
 use Rattle.make_laws.specs.Chosen.{chosen, sum_of_chosen}
-use Rattle.make_laws.specs.DigitRegisters.{HasUnitPowers, HoldDigitProducts, power_element}
+use Rattle.make_laws.specs.DigitRegisters.{HasUnitPowers, HoldDigitProducts, HoldDigitSums, power_element}
 use Rattle.make_laws.proofs.BitNumber.{number_of_bits}
 use Rattle.make_laws.proofs.RingSumLemmas.{sum_split}
 use Rattle.make_laws.proofs.ChosenLemmas.{chosen_one, chosen_same, chosen_sum_additive, product_of_sums, number_again, number_same, number_powers}
@@ -131,6 +131,11 @@ module _ (k : ℕ) (mul : ℕ → ℕ → ℕ) (ring : IsRing k mul) (x : ℕ) (
 
         pub digit_product : poly_sum (z count) ≡ mul (poly_sum a) (poly_sum b)
         digit_product = after count (omega arith) ∙ ap (λ v. mul v (poly_sum b)) highest_all
+
+pub digit_sums : (k : ℕ) (mul : ℕ → ℕ → ℕ) → IsRing k mul → HoldDigitSums k mul
+unfolding poly_sum highest
+digit_sums k mul ring x width count t a b z d units whole early registers =
+    after k mul ring x units width count whole a b z d registers.starts registers.fed registers.steps t early
 
 pub digit_products : (k : ℕ) (mul : ℕ → ℕ → ℕ) → IsRing k mul → HoldDigitProducts k mul
 unfolding poly_sum

@@ -1,5 +1,5 @@
 -- Runs of nets that multiply digit by digit.
-use Rattle.std.proofs.Common.{◌≡◌, ◌∙◌, ap, ap₂, sym, refl, subst, ℕ, zero, suc, ◌<◌, ◌≤◌, ◌^◌, ◌+◌, ◌-◌, ◌*◌, Bool, false, List, [], ◌∷◌, length, Some, arith}
+use Rattle.std.proofs.Common.{◌≡◌, ◌∙◌, ap, ap₂, sym, refl, subst, ℕ, zero, suc, ◌<◌, ◌≤◌, ◌^◌, ◌+◌, ◌-◌, ◌*◌, Bool, false, List, [], ◌∷◌, length, get_or, Some, arith}
 use Rattle.std.specs.Prelude.{slice_get, ◌==◌, ◌&&◌, bit_xor}
 use Rattle.std.specs.Int.{bit_at}
 use Rattle.lists.specs.Lists.{Has}
@@ -22,13 +22,13 @@ use Rattle.circuit_model.proofs.WordLemmas.{same_bits}
 use Rattle.gf_basis.proofs.CodeLaws.{length-first_values}
 use Rattle.gf_field.proofs.SharedLemmas.{same_sum}
 use Rattle.make_laws.specs.Chosen.{chosen}
-use Rattle.make_laws.specs.DigitRegisters.{AreDigitRegisters, HasUnitPowers, digit_step_sum, power_element}
+use Rattle.make_laws.specs.DigitRegisters.{AreDigitRegisters, HasUnitPowers, digit_step_sum, highest_digits, power_element}
 use Rattle.make_laws.proofs.ChosenLemmas.{number_again}
-use Rattle.make_laws.proofs.DigitLemmas.{digit_products}
+use Rattle.make_laws.proofs.DigitLemmas.{digit_products, digit_sums}
 use Rattle.make_laws.specs.Held.{bit_at_place, net_at, Multiplies}
-use Rattle.make_laws.specs.DigitNets.{DigitNets, AreDigitNets, unit_basis}
+use Rattle.make_laws.specs.DigitNets.{DigitNets, AreDigitNets, HoldSumsSoFar, unit_basis}
 use Rattle.make_laws.proofs.NetBitLemmas.{power_of_bits, power_of_nets}
-use Rattle.make_laws.proofs.RunLemmas.{row, cycle_at, first_row, held, last_row, two_elements}
+use Rattle.make_laws.proofs.RunLemmas.{row, row_is, cycle_at, first_row, held, last_row, two_elements}
 
 -- the sums are the same for the same bits of b
 same_step : (k : ℕ) (mul : ℕ → ℕ → ℕ) (x width : ℕ) (z d b other : ℕ → Bool) (l : ℕ) → ((j : ℕ) → j < k → b j ≡ other j) → digit_step_sum k mul x width z d b l ≡ digit_step_sum k mul x width z d other l
@@ -138,12 +138,24 @@ module _ (c : Circuit) (x width : ℕ) (nets : DigitNets) (well : IsJob c) (unit
         steps = step;
       }
 
+      -- what was fed so far, times b
+      sum_is : (t : ℕ) → t ≤ c.cycles → combination (unit_basis c.k) (index_of (get_or run t []) nets.z) ≡ c.product (highest_digits c.k c.product x width (λ i. bit_at d i == 1) t) b
+      unfolding at fed_bits
+      sum_is t early =
+          ap (λ bits. combination (unit_basis c.k) (index_of bits nets.z)) (sym (row_is run t))
+          ∙ power_of_nets c.k c.product well.ring x units (row run t) nets.z z_long
+          ∙ digit_sums c.k c.product well.ring x width c.cycles t fed_bits (at nets.b 0) (at nets.z) (at nets.d) units are.cycles early registers
+          ∙ ap (c.product (highest_digits c.k c.product x width fed_bits t)) b_starts
+
       output_is : (e : ℕ) (last : List Bool) → last ≡ row run c.cycles → HasElement last c.output e → e ≡ c.product a b
       unfolding at
       output_is e last same element =
           sym (z_ends e last same element)
           ∙ digit_products c.k c.product well.ring x width c.cycles fed_bits (at nets.b 0) (at nets.z) (at nets.d) units are.cycles registers
           ∙ ap₂ c.product a_is b_starts
+
+  pub digit_nets_hold : HoldSumsSoFar c x width nets.z
+  digit_nets_hold a b bits t run is bits_are early = sum_is a b run is bits bits_are t early
 
   pub digit_nets_multiply : Multiplies c
   unfolding fed_word

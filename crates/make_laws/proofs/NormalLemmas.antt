@@ -22,7 +22,7 @@ use Rattle.gf_basis.specs.Basis.{IsBasis, AreBits, HasOnlyBits}
 use Rattle.gf_basis.specs.BasisFault.{conjugates_of}
 use Rattle.gf_field.proofs.SharedLemmas.{same_sum, sum_open}
 use Rattle.make_laws.specs.Chosen.{chosen, sum_of_chosen}
-use Rattle.make_laws.specs.NormalRegisters.{turned, normal_element, HoldNormalProducts}
+use Rattle.make_laws.specs.NormalRegisters.{turned, normal_element, HoldNormalPlaces, HoldNormalProducts}
 use Rattle.make_laws.proofs.BitNumber.{number_of_bits}
 use Rattle.make_laws.proofs.ChosenLemmas.{chosen_one, chosen_same, chosen_sum_additive, product_of_sums, number_below, number_bit, number_again, combination-chosen}
 
@@ -182,6 +182,14 @@ module _ (k : ℕ) (mul : ℕ → ℕ → ℕ) (ring : IsRing k mul) (field : Ha
             next : (t i : ℕ) → t - suc i ≡ suc t - suc (suc i)
             next t i = omega arith
 
+        -- after t cycles the first t places of z are the last t coordinates of the product
+        pub place_after : (t i : ℕ) → t ≤ k → i < t → z t i ≡ (bit_at (bits (mul (normal_sum (a 0)) (normal_sum (b 0)))) (k - t + i) == 1)
+        unfolding coordinate the_product
+        place_after t i h less = z_at t i less h ∙ f_at (t - suc i) (omega arith) ∙ ap (coordinate the_product) (back k t i h less)
+          where
+            back : (k t i : ℕ) → t ≤ k → i < t → k - suc (t - suc i) ≡ k - t + i
+            back k t i h less = omega arith
+
         -- after k cycles z is the product of what a and b were
         pub normal_product : normal_sum (z k) ≡ mul (normal_sum (a 0)) (normal_sum (b 0))
         unfolding normal_sum the_product
@@ -192,6 +200,11 @@ module _ (k : ℕ) (mul : ℕ → ℕ → ℕ) (ring : IsRing k mul) (field : Ha
           where
             back : (k i : ℕ) → i < k → k - suc (k - suc i) ≡ i
             back k i h = omega arith
+
+pub normal_places : (k : ℕ) (mul : ℕ → ℕ → ℕ) → IsRing k mul → HasNoZeroDivisors k mul → HoldNormalPlaces k mul
+unfolding normal_sum
+normal_places k mul ring field gamma coordinates a b z f t i inside basis are registers early less =
+    place_after k mul ring field gamma inside coordinates basis are a b z f registers.a_turns registers.b_turns registers.z_takes registers.z_moves registers.f_sums t i early less
 
 pub normal_products : (k : ℕ) (mul : ℕ → ℕ → ℕ) → IsRing k mul → HasNoZeroDivisors k mul → HoldNormalProducts k mul
 unfolding normal_sum

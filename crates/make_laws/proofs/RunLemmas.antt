@@ -12,6 +12,10 @@ use Rattle.make_laws.specs.Held.{IsHeld}
 pub row : List (List Bool) → ℕ → List Bool
 row run t = get_or run t []
 
+pub row_is : (run : List (List Bool)) (t : ℕ) → row run t ≡ get_or run t []
+unfolding row
+row_is run t = refl
+
 row_here : (run : List (List Bool)) (t : ℕ) → t < length run → slice_get run t ≡ Some (row run t)
 unfolding row
 row_here [] t h = absurd (omega arith)

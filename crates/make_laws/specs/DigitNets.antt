@@ -1,15 +1,19 @@
 -- Nets that multiply digit by digit, the highest digit first. Source: L. Song and K. K. Parhi, Low-energy digit-serial/parallel
 -- finite field multipliers, Journal of VLSI Signal Processing 19 (1998).
-use Rattle.std.specs.Prelude.{◌≡◌, ℕ, suc, ◌+◌, ◌-◌, ◌*◌, ◌<◌, ◌^◌, Bool, List, [], ◌∷◌}
-use Rattle.net_core.specs.Value.{IsConsistent}
+use Rattle.std.specs.Prelude.{◌≡◌, ℕ, suc, ◌+◌, ◌-◌, ◌*◌, ◌<◌, ◌≤◌, ◌^◌, ◌==◌, Bool, List, [], ◌∷◌, get_or}
+use Rattle.std.specs.Int.{bit_at}
+use Rattle.net_core.specs.Value.{IsConsistent, index_of}
 use Rattle.net_words.specs.declared.word.Role.TheVariants.{Fed, Input}
-use Rattle.gf_basis.specs.Basis.{first_values}
+use Rattle.gf_basis.specs.Basis.{AreBits, first_values}
+use Rattle.irreducible.specs.Span.{combination}
 use Rattle.circuit_model.specs.declared.circuit_feed.FeedSource.TheVariants.{Bit}
 use Rattle.circuit_model.specs.Circuit.{Circuit, IsFed, IsInNoWord}
 use Rattle.circuit_model.specs.Feeds.{source_at}
+use Rattle.circuit_model.specs.Job.{IsJob}
+use Rattle.circuit_model.specs.Run.{IsRun}
 use Rattle.make_laws.specs.Chosen.{chosen}
-use Rattle.make_laws.specs.DigitRegisters.{digit_step_sum}
-use Rattle.make_laws.specs.Held.{bit_at_place, net_at, IsHeldFromZero}
+use Rattle.make_laws.specs.DigitRegisters.{HasUnitPowers, digit_step_sum, highest_digits}
+use Rattle.make_laws.specs.Held.{bit_at_place, net_at, IsHeldFromZero, Multiplies}
 
 -- the nets of a digit, of a factor and of the product, by place, and those of the sums that the product takes
 pub record DigitNets : Type 0 where
@@ -35,3 +39,17 @@ pub record AreDigitNets (circuit : Circuit) (x width : ℕ) (nets : DigitNets) :
   pub unnamed : (l : ℕ) → l < circuit.k → IsInNoWord circuit (net_at nets.z l)
   pub z_takes : (l : ℕ) → l < circuit.k → IsHeldFromZero circuit.net (net_at nets.sums l) (net_at nets.z l)
   pub sums : (bits : List Bool) → IsConsistent circuit.net bits → (l : ℕ) → l < circuit.k → chosen (bit_at_place bits nets.sums l) 1 ≡ digit_step_sum circuit.k circuit.product x width (bit_at_place bits nets.z) (bit_at_place bits nets.d) (bit_at_place bits nets.b) l
+
+-- a job over such nets has the product at its end
+abbrev pub MultipliesFed : Circuit → (x width : ℕ) → DigitNets → Type 0
+MultipliesFed circuit x width nets = IsJob circuit → HasUnitPowers circuit.k circuit.product x → AreDigitNets circuit x width nets → Multiplies circuit
+
+-- In each run at a and b: after t cycles the nets z have the element of what was fed so far, the t highest digits of a, times b.
+abbrev pub HoldSumsSoFar : Circuit → (x width : ℕ) → (z : List ℕ) → Type 0
+HoldSumsSoFar circuit x width z =
+    (a b bits t : ℕ) (run : List (List Bool)) → IsRun circuit (a ∷ b ∷ []) run → AreBits (unit_basis circuit.k) a bits → t ≤ circuit.cycles
+    → combination (unit_basis circuit.k) (index_of (get_or run t []) z) ≡ circuit.product (highest_digits circuit.k circuit.product x width (λ i. bit_at bits i == 1) t) b
+
+-- so it is with the nets of the product in a job over such nets
+abbrev pub HoldFedSums : Circuit → (x width : ℕ) → DigitNets → Type 0
+HoldFedSums circuit x width nets = IsJob circuit → HasUnitPowers circuit.k circuit.product x → AreDigitNets circuit x width nets → HoldSumsSoFar circuit x width nets.z

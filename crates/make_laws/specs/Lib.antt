@@ -10,3 +10,4 @@ pub mod NormalNets
 pub mod DigitNets
 pub mod Renumbering
 pub mod SameJob
+pub mod TowerParts

@@ -1,13 +1,15 @@
 -- Nets that multiply bit by bit in a normal basis. Source: J. L. Massey and J. K. Omura, Computational method and apparatus for
 -- finite field arithmetic, US patent 4,587,627 (1986).
-use Rattle.std.specs.Prelude.{◌≡◌, ℕ, zero, suc, ◌-◌, ◌<◌, Bool, List, [], ◌∷◌}
+use Rattle.std.specs.Prelude.{◌≡◌, ℕ, zero, suc, ◌-◌, ◌<◌, ◌^◌, Bool, List, [], ◌∷◌}
 use Rattle.net_core.specs.Value.{bit_of, IsConsistent}
 use Rattle.net_words.specs.declared.word.Role.TheVariants.{State}
+use Rattle.gf_basis.specs.Basis.{IsBasis}
 use Rattle.gf_basis.specs.BasisFault.{conjugates_of}
 use Rattle.circuit_model.specs.Circuit.{Circuit}
+use Rattle.circuit_model.specs.Job.{IsJob}
 use Rattle.make_laws.specs.Chosen.{chosen}
-use Rattle.make_laws.specs.NormalRegisters.{last_coordinate_sum}
-use Rattle.make_laws.specs.Held.{bit_at_place, net_at, IsHeld}
+use Rattle.make_laws.specs.NormalRegisters.{HasNormalCoordinates, last_coordinate_sum}
+use Rattle.make_laws.specs.Held.{bit_at_place, net_at, IsHeld, Multiplies}
 
 -- the nets of two factors and of their product, by place, and the net of the last coordinate
 pub record NormalNets : Type 0 where
@@ -34,3 +36,9 @@ pub record AreNormalNets (circuit : Circuit) (gamma : ℕ) (coordinates : ℕ �
   pub z_takes : IsHeld circuit.net nets.last (net_at nets.z 0)
   pub z_moves : (i : ℕ) → suc i < circuit.k → IsHeld circuit.net (net_at nets.z i) (net_at nets.z (suc i))
   pub sums : (bits : List Bool) → IsConsistent circuit.net bits → chosen (bit_of bits nets.last) 1 ≡ last_coordinate_sum circuit.k circuit.product gamma coordinates (bit_at_place bits nets.a) (bit_at_place bits nets.b)
+
+-- a job over such nets has the product at its end, where the conjugates of gamma are a basis, and elements have these coordinates in it
+abbrev pub MultipliesTurned : Circuit → (gamma : ℕ) → (ℕ → ℕ) → NormalNets → Type 0
+MultipliesTurned circuit gamma coordinates nets =
+    IsJob circuit → gamma < 2 ^ circuit.k → IsBasis circuit.k (conjugates_of circuit.k circuit.product gamma) → HasNormalCoordinates circuit.k circuit.product gamma coordinates
+    → AreNormalNets circuit gamma coordinates nets → Multiplies circuit

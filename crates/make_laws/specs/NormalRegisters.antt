@@ -1,6 +1,6 @@
 -- Registers that multiply bit by bit in a normal basis. Source: J. L. Massey and J. K. Omura, Computational method and
 -- apparatus for finite field arithmetic, US patent 4,587,627 (1986).
-use Rattle.std.specs.Prelude.{◌≡◌, ℕ, zero, suc, ◌-◌, ◌<◌, ◌^◌, ◌&&◌, Bool}
+use Rattle.std.specs.Prelude.{◌≡◌, ℕ, zero, suc, ◌+◌, ◌-◌, ◌<◌, ◌≤◌, ◌^◌, ◌&&◌, ◌==◌, Bool}
 use Rattle.std.specs.Int.{bit_at}
 use Rattle.gf_field.specs.Polynomial.{sum_of_first}
 use Rattle.gf_field.specs.Trace.{frobenius}
@@ -44,3 +44,11 @@ HoldNormalProducts k mul =
     → gamma < 2 ^ k → IsBasis k (conjugates_of k mul gamma) → HasNormalCoordinates k mul gamma coordinates
     → AreNormalRegisters k mul gamma coordinates a b z f
     → normal_element k mul gamma (z k) ≡ mul (normal_element k mul gamma (a 0)) (normal_element k mul gamma (b 0))
+
+-- after t cycles the first t places of z are the last t coordinates of the product of what a and b were
+abbrev pub HoldNormalPlaces : ℕ → (ℕ → ℕ → ℕ) → Type 0
+HoldNormalPlaces k mul =
+    (gamma : ℕ) (coordinates : ℕ → ℕ) (a b z : ℕ → ℕ → Bool) (f : ℕ → Bool) (t i : ℕ)
+    → gamma < 2 ^ k → IsBasis k (conjugates_of k mul gamma) → HasNormalCoordinates k mul gamma coordinates
+    → AreNormalRegisters k mul gamma coordinates a b z f → t ≤ k → i < t
+    → z t i ≡ (bit_at (coordinates (mul (normal_element k mul gamma (a 0)) (normal_element k mul gamma (b 0)))) (k - t + i) == 1)

@@ -4,12 +4,12 @@ ghost use Rattle.gf_field.specs.Bit.{bit_mul};
 ghost use Rattle.gf_field.specs.Polynomial.{IsProductModulo};
 ghost use Rattle.gf_field.specs.Ring2k.{degree_of, modulus_of};
 ghost use Rattle.irreducible.specs.Proved.{ring_of};
-ghost use Rattle.gf_tower.specs.Tower.{tower_polynomial};
-ghost use Rattle.gf_tower.specs.TowerParts.{base_of, coefficients_of, size_of};
+ghost use Rattle.gf_tower.specs.TowerParts.{base_of, size_of};
 ghost use Rattle.make_laws.specs.Indeterminate.{x_of};
 ghost use Rattle.make_laws.specs.InversePower.{HasOneInversePower};
 ghost use Rattle.make_laws.specs.ProductBits.{HasProductBits, HasSquareBits};
-ghost use Rattle.make_laws.specs.TowerProduct.{HasTowerBits, HasTowerCoefficients};
+ghost use Rattle.make_laws.specs.TowerParts.{HasCoefficientSums, base_degree, base_modulus, polynomial_in};
+ghost use Rattle.make_laws.specs.TowerProduct.{HasTowerBits};
 
 use gf_field::{Field, Ring2k};
 use gf_tower::Tower;
@@ -38,10 +38,10 @@ pub fn one_inverse_power(_ring: &Proved<Ring2k>)
 
 /// A coefficient of a product in a tower is a sum over the coefficients of the factors and of the powers of Y.
 pub fn tower_coefficients<F: Field>(_tower: &Tower<F>)
-    ensures { HasTowerCoefficients (F.degree (base_of _tower.now)) (size_of _tower.now) (F.product (base_of _tower.now)) (tower_polynomial (F.degree (base_of _tower.now)) (coefficients_of _tower.now)) }
+    ensures { HasCoefficientSums (F.degree (base_of _tower.now)) (F.product (base_of _tower.now)) _tower.now }
 {}
 
 /// A bit of a coefficient of such a product, over polynomials over 0 and 1, is a sum of bits of products of coefficients.
 pub fn tower_bits(_tower: &Tower<Proved<Ring2k>>)
-    ensures { HasTowerBits (degree_of (ring_of (base_of _tower.now))) (modulus_of (ring_of (base_of _tower.now))) (size_of _tower.now) (tower_polynomial (degree_of (ring_of (base_of _tower.now))) (coefficients_of _tower.now)) }
+    ensures { HasTowerBits (base_degree _tower.now) (base_modulus _tower.now) (size_of _tower.now) (polynomial_in (base_degree _tower.now) _tower.now) }
 {}

@@ -1,7 +1,7 @@
 //! Laws of registers that multiply. These functions do nothing: their contracts are proved of the definitions alone.
 
-ghost use Rattle.make_laws.specs.NormalRegisters.{HoldNormalProducts};
-ghost use Rattle.make_laws.specs.DigitRegisters.{HoldDigitProducts};
+ghost use Rattle.make_laws.specs.NormalRegisters.{HoldNormalPlaces, HoldNormalProducts};
+ghost use Rattle.make_laws.specs.DigitRegisters.{HoldDigitProducts, HoldDigitSums};
 
 use gf_field::{Field, Ring};
 
@@ -15,4 +15,14 @@ pub fn turning_registers_hold_the_product<F: Field>(_field: &F)
 /// the product of a and b after k / D cycles.
 pub fn fed_registers_hold_the_product<R: Ring>(_ring: &R)
     ensures { HoldDigitProducts (R.degree _ring.now) (R.product _ring.now) }
+{}
+
+/// After t cycles the first t places of that third register are the last t coordinates of the product.
+pub fn turning_registers_hold_the_places<F: Field>(_field: &F)
+    ensures { HoldNormalPlaces (F.degree _field.now) (F.product _field.now) }
+{}
+
+/// After t cycles the register that is fed holds the sum of the digits of a that were fed so far, the t highest, times b.
+pub fn fed_registers_hold_the_sums<R: Ring>(_ring: &R)
+    ensures { HoldDigitSums (R.degree _ring.now) (R.product _ring.now) }
 {}

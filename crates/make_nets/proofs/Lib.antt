@@ -22,3 +22,6 @@ pub mod MadeLemmas
 pub mod RunLemmas
 pub mod PolyLemmas
 pub mod PortExamples
+pub mod TwoLemmas
+pub mod TextLemmas
+pub mod ShortLemmas

@@ -40,11 +40,14 @@ most_low (x ∷ names) each = omega (arith, leading_low x, (each x (0, refl)).mo
 pub most_few : (names : List (List ℕ)) → AreMakerNames names → most_leading names ≤ 128
 most_few names are = most_low names are.each
 
+pub prefix_long : (names : List (List ℕ)) → AreMakerNames names → length (prefix_of names) ≤ 129
+prefix_long names are = omega (arith, repeat_long (suc (most_leading names)), most_few names are)
+
 -- no name begins with the prefix
 pub prefix_fits : (names : List (List ℕ)) → AreMakerNames names → IsPrefix names (prefix_of names)
 prefix_fits names are = record {
   some = omega (arith, repeat_long (suc (most_leading names)));
-  short = omega (arith, repeat_long (suc (most_leading names)), most_few names are);
+  short = omega (arith, prefix_long names are);
   fresh = λ name rest has is. omega (arith, ap leading is, leading_of (suc (most_leading names)) rest, most_has names name has);
 }
 

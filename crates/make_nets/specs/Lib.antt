@@ -10,4 +10,5 @@ pub mod MakerNames
 pub mod Made
 pub mod BindingOfMade
 pub mod Form
+pub mod ShortPlan
 pub mod Computes

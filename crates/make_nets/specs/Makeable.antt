@@ -1,8 +1,11 @@
 -- What a plan needs to be a net. Source: this project's own.
-use Rattle.std.specs.Prelude.{◌≡◌, ℕ, ◌<◌, ◌≤◌, ◌+◌, ◌^◌, List, ◌++◌, length, map, Some, slice_get}
+use Rattle.std.specs.Prelude.{◌≡◌, ℕ, ◌<◌, ◌≤◌, ◌+◌, List, ◌++◌, length, map, Some, slice_get}
+use Rattle.lists.specs.Limits.{most_nets}
 use Rattle.lists.specs.Lists.{Has, times}
 use Rattle.net_core.specs.Inside.{IsNetName}
 use Rattle.net_core.specs.LatchValue.{LatchValue}
+use Rattle.net_core.specs.Sound.{IsSound}
+use Rattle.make_nets.specs.MadeNet.{made_net}
 use Rattle.make_nets.specs.Plan.{Plan}
 use Rattle.make_nets.specs.PlanShape.{IsWellMade}
 
@@ -30,4 +33,9 @@ pub record IsMakeable (names : List (List ℕ)) (prefix : List ℕ) (inputs outp
   pub driven_low : (n : ℕ) → Has (driven_outside inputs latches) n → n < length names
   pub outputs_low : (n : ℕ) → Has outputs n → n < plan.next
   pub nexts_low : (l : LatchValue) → Has latches l → l.next < plan.next
-  pub few : plan.next + length targets + length latches ≤ 2 ^ 20
+  pub few : plan.next + length targets + length latches ≤ most_nets
+
+-- the net list of a plan that is makeable is sound
+abbrev pub IsSoundIfMakeable : (names : List (List ℕ)) (prefix : List ℕ) → Plan → Type 0
+IsSoundIfMakeable names prefix plan =
+    (inputs outputs : List ℕ) (latches : List LatchValue) (targets : List ℕ) → IsMakeable names prefix inputs outputs latches targets plan → IsSound (made_net names prefix inputs outputs latches plan)

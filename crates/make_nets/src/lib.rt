@@ -20,7 +20,7 @@ mod rows;
 pub use chosen::push_where;
 pub use finishing::finish;
 pub use forms::{all_alike, all_poly, has_words};
-pub use made_laws::{made_nets_bind, prefixes_are_new};
+pub use made_laws::{made_nets_bind, prefixes_are_new, short_texts_fit};
 pub use making::make;
 pub use names::add_name;
 pub use outer::outer_nets;

@@ -1,5 +1,6 @@
 //! The names of nets.
-ghost use Rattle.std.specs.Prelude.{◌≡◌, ◌<◌, ◌≤◌, ◌+◌, ◌^◌, None, true, OnOk};
+ghost use Rattle.std.specs.Prelude.{◌≡◌, ◌<◌, ◌≤◌, ◌+◌, None, true, OnOk};
+ghost use Rattle.lists.specs.Limits.{most_nets};
 ghost use Rattle.net_core.specs.Inside.{IsNetName};
 ghost use Rattle.net_core.specs.NetList.{nets, number_of, with_label};
 ghost use Rattle.make_nets.specs.MadeNet.{names_in, outer_net, with_inner};
@@ -12,7 +13,7 @@ use std::alloc::{AllocError, Global};
 pub fn add_name(maker: &mut NetMaker, name: &str) -> Result<(), AllocError>
     requires name { IsNetName name.now }
     requires is_new { number_of maker.old name.now ≡ None }
-    requires room { nets maker.old < 2 ^ 20 }
+    requires room { nets maker.old < most_nets }
     ensures { OnOk result (maker.new ≡ with_label maker.old name.now true) }
 {
     match maker.net(name) {
@@ -32,7 +33,7 @@ pub(crate) fn add_inner_names(
     requires outer { maker.old ≡ outer_net (names_in maker.old) }
     requires names { AreNames (names_in maker.old) }
     requires prefix { IsPrefix (names_in maker.old) prefix.now }
-    requires room { nets maker.old + count ≤ 2 ^ 20 }
+    requires room { nets maker.old + count ≤ most_nets }
     ensures { OnOk result (maker.new ≡ with_inner maker.old prefix.now count) }
 {
     for i in 0..count {

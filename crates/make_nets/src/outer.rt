@@ -1,5 +1,6 @@
 //! The nets of a signature's words, by name.
-ghost use Rattle.std.specs.Prelude.{◌≡◌, ◌<◌, ◌≤◌, ◌+◌, ◌^◌, ◌++◌, [], ◌∷◌, ◌↔◌, true, IfOk, IfSome, IsSome, OnOk, IsTrue, List, Some, ℕ, length, map};
+ghost use Rattle.std.specs.Prelude.{◌≡◌, ◌<◌, ◌≤◌, ◌+◌, ◌++◌, [], ◌∷◌, ◌↔◌, true, IfOk, IfSome, IsSome, OnOk, IsTrue, List, Some, ℕ, length, map};
+ghost use Rattle.lists.specs.Limits.{most_nets};
 ghost use Rattle.net_core.specs.Inside.{IsNetName};
 ghost use Rattle.net_core.specs.NetList.{empty, nets, number_of, with_name};
 ghost use Rattle.net_write.specs.Plain.{IsPlainByte, IsPlainName};
@@ -37,7 +38,7 @@ fn is_maker_name(name: &str) -> bool
 // The number of the net of this name, which is made if there is none.
 fn named(maker: &mut NetMaker, name: &str) -> Result<u32, AllocError>
     requires name { IsNetName name.now }
-    requires room { nets maker.old < 2 ^ 20 }
+    requires room { nets maker.old < most_nets }
     ensures number { IfOk result (λ n. number_of maker.new name.now ≡ Some n) }
     ensures made { OnOk result (maker.new ≡ with_name maker.old name.now) }
 {
@@ -51,7 +52,7 @@ fn named(maker: &mut NetMaker, name: &str) -> Result<u32, AllocError>
 // Makes a net of this name after so many others, if it is a name that it may have and no other net has.
 fn add_name(maker: &mut NetMaker, count: u32, name: &str) -> Result<bool, AllocError>
     requires before { (names : List (List ℕ)) × AreMade names maker.old true × (length names ≡ count) }
-    requires room { count < 2 ^ 20 }
+    requires room { count < most_nets }
     ensures { IfOk result (λ all. (names : List (List ℕ)) → AreMade names maker.old true → AreMade (names ++ name.now ∷ []) maker.new all) }
 {
     if !is_maker_name(name) {
@@ -64,7 +65,7 @@ fn add_name(maker: &mut NetMaker, count: u32, name: &str) -> Result<bool, AllocE
 // Makes nets of these names after so many others.
 fn add_names(maker: &mut NetMaker, count: u32, list: &[Name]) -> Result<bool, AllocError>
     requires before { (names : List (List ℕ)) × AreMade names maker.old true × (length names ≡ count) }
-    requires room { count + length list.now ≤ 2 ^ 20 }
+    requires room { count + length list.now ≤ most_nets }
     ensures { IfOk result (λ all. (names : List (List ℕ)) → AreMade names maker.old true → AreMade (names ++ list.now) maker.new all) }
 {
     let mut count = count;
@@ -80,7 +81,7 @@ fn add_names(maker: &mut NetMaker, count: u32, list: &[Name]) -> Result<bool, Al
 // Makes nets of the names of words, after so many others.
 fn add_word_names(maker: &mut NetMaker, words: &[WordText]) -> Result<bool, AllocError>
     requires before { maker.old ≡ empty }
-    requires room { length (word_names words.now) ≤ 2 ^ 20 }
+    requires room { length (word_names words.now) ≤ most_nets }
     ensures { IfOk result (λ all. AreMade (word_names words.now) maker.new all) }
 {
     let mut count = 0;
@@ -96,7 +97,7 @@ fn add_word_names(maker: &mut NetMaker, words: &[WordText]) -> Result<bool, Allo
 // Makes nets of the names of fed nets, after so many others.
 fn add_fed_names(maker: &mut NetMaker, count: u32, feeds: &[FeedText]) -> Result<bool, AllocError>
     requires before { (names : List (List ℕ)) × AreMade names maker.old true × (length names ≡ count) }
-    requires room { count + length feeds.now ≤ 2 ^ 20 }
+    requires room { count + length feeds.now ≤ most_nets }
     ensures { IfOk result (λ all. (names : List (List ℕ)) → AreMade names maker.old true → AreMade (names ++ map (λ feed. feed.net) feeds.now) maker.new all) }
 {
     let mut count = count;
@@ -116,7 +117,7 @@ pub fn outer_nets(
     words: &[WordText],
     feeds: &[FeedText],
 ) -> Result<Option<NetMaker>, AllocError>
-    requires { length (outer_names words.now (map (λ feed. feed.net) feeds.now)) ≤ 2 ^ 20 }
+    requires { length (outer_names words.now (map (λ feed. feed.net) feeds.now)) ≤ most_nets }
     ensures made { IfOk result (λ found. IfSome found (λ maker. maker ≡ outer_net (outer_names words.now (map (λ feed. feed.net) feeds.now)))) }
     ensures names { IfOk result (λ found. IsSome found ↔ AreMakerNames (outer_names words.now (map (λ feed. feed.net) feeds.now))) }
 {

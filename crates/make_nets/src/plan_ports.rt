@@ -1,5 +1,6 @@
 //! What stands on the nets.
-ghost use Rattle.std.specs.Prelude.{◌≡◌, ◌<◌, ◌≤◌, ◌+◌, ◌^◌, ◌++◌, All, OnOk, length};
+ghost use Rattle.std.specs.Prelude.{◌≡◌, ◌<◌, ◌≤◌, ◌+◌, ◌++◌, All, OnOk, length};
+ghost use Rattle.lists.specs.Limits.{most_nets};
 ghost use Rattle.net_core.specs.Inside.{GateIsInside, LatchIsInside};
 ghost use Rattle.net_core.specs.NetList.{nets, with_gate, with_latch};
 
@@ -32,7 +33,7 @@ pub(crate) fn add_outputs(maker: &mut NetMaker, outputs: &[u32]) -> Result<(), A
 // Adds a gate.
 fn add_gate(maker: &mut NetMaker, gate: &PlannedGate) -> Result<(), AllocError>
     requires inside { GateIsInside (nets maker.old) gate.now }
-    requires room { length maker.old.gates + length maker.old.latches < 2 ^ 20 }
+    requires room { length maker.old.gates + length maker.old.latches < most_nets }
     ensures { OnOk result (maker.new ≡ with_gate maker.old gate.now) }
 {
     match maker.gate(gate.out(), gate.inputs(), gate.table()) {
@@ -45,7 +46,7 @@ fn add_gate(maker: &mut NetMaker, gate: &PlannedGate) -> Result<(), AllocError>
 // Adds the gates of a plan.
 pub(crate) fn add_gates(maker: &mut NetMaker, gates: &[PlannedGate]) -> Result<(), AllocError>
     requires inside { All (GateIsInside (nets maker.old)) gates.now }
-    requires room { length maker.old.gates + length maker.old.latches + length gates.now ≤ 2 ^ 20 }
+    requires room { length maker.old.gates + length maker.old.latches + length gates.now ≤ most_nets }
     ensures { OnOk result (maker.new ≡ record maker.old { gates = maker.old.gates ++ gates.now }) }
 {
     for gate in gates {
@@ -57,7 +58,7 @@ pub(crate) fn add_gates(maker: &mut NetMaker, gates: &[PlannedGate]) -> Result<(
 // Adds a latch.
 fn add_latch(maker: &mut NetMaker, latch: &Latch) -> Result<(), AllocError>
     requires inside { LatchIsInside (nets maker.old) latch.now }
-    requires room { length maker.old.gates + length maker.old.latches < 2 ^ 20 }
+    requires room { length maker.old.gates + length maker.old.latches < most_nets }
     ensures { OnOk result (maker.new ≡ with_latch maker.old latch.now) }
 {
     match maker.latch(latch.next, latch.out, latch.start) {
@@ -70,7 +71,7 @@ fn add_latch(maker: &mut NetMaker, latch: &Latch) -> Result<(), AllocError>
 // Adds latches.
 pub(crate) fn add_latches(maker: &mut NetMaker, latches: &[Latch]) -> Result<(), AllocError>
     requires inside { All (LatchIsInside (nets maker.old)) latches.now }
-    requires room { length maker.old.gates + length maker.old.latches + length latches.now ≤ 2 ^ 20 }
+    requires room { length maker.old.gates + length maker.old.latches + length latches.now ≤ most_nets }
     ensures { OnOk result (maker.new ≡ record maker.old { latches = maker.old.latches ++ latches.now }) }
 {
     for latch in latches {
